@@ -1,0 +1,11 @@
+//! Netlists as plain data, and what they mean.
+//!
+//! A `Builder` takes the parts of a netlist in file order, nets by their names. `Builder::finish` answers a
+//! `Netlist`, which is well formed and numbers its nets in net order, or the first fault of what was built.
+//!
+//! The modules, in the order in which data flows through them:
+//!
+//! - `ranks`: how deep each logic cell lies under the registers and inputs, and which ones lie on a cycle.
+#![tactic(auto)]
+
+mod ranks;

@@ -1,0 +1,1 @@
+//! How deep each logic cell lies: its rank.

@@ -1,0 +1,16 @@
+//! What the cells of a netlist compute, and the library that they come from.
+//!
+//! In goes what a reader has found in a text: names, expressions, the rows of a cover, the pins of a
+//! cell. Out come values that every later step asks: the bit of an expression or of a cover, the
+//! kind and the pins of a cell, the first cell of a library that fits a need.
+//!
+//! In the order in which data flows through them:
+//!
+//! - [`name`]: the names of nets, cells and pins;
+//! - [`limit`]: the limits that a text or a circuit may pass;
+//! - [`cover`]: a function as rows of given bits.
+#![tactic(auto)]
+
+pub mod cover;
+pub mod limit;
+pub mod name;

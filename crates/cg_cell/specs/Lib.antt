@@ -1,2 +1,6 @@
+pub mod Bits
+pub mod BitsLaws
+pub mod Build
 pub mod Cover
+pub mod Domain
 pub mod Name

@@ -1,0 +1,4 @@
+pub mod Circuit
+pub mod History
+pub mod Moment
+pub mod WellFormed

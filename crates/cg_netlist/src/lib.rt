@@ -5,7 +5,9 @@
 //!
 //! The modules, in the order in which data flows through them:
 //!
+//! - `parts`: nets, logic cells, gating cells and registers, and their numbers.
 //! - `ranks`: how deep each logic cell lies under the registers and inputs, and which ones lie on a cycle.
 #![tactic(auto)]
 
+pub mod parts;
 mod ranks;

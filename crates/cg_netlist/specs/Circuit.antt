@@ -1,0 +1,87 @@
+-- Netlists as plain data. A net is its number, which is its place in the list of names; cells, gating cells and
+-- registers are their places in their lists.
+use Rattle.std.specs.Prelude.{ℕ, Bool, not, List, ◌++◌, map, Option, nat_eq}
+use Rattle.std.specs.List.{list_any, filter, flat_map}
+use Rattle.std.specs.Option.{option_to_list}
+use Rattle.cg_netlist.specs.declared.parts.LogicFunction.{LogicFunction}
+use Rattle.cg_netlist.specs.declared.parts.RegisterKind.{RegisterKind}
+
+-- a logic cell: its output net is a function of its input nets at the same moment
+pub record LogicCell : Type 0 where
+  pub inputs : List ℕ
+  pub output : ℕ
+  pub function : LogicFunction
+
+-- a gating cell: a latch that follows the enable net while the clock net is low, and an output net that is
+-- the clock net wherever the latch is 1
+pub record GatingCell : Type 0 where
+  pub clock : ℕ
+  pub enable : ℕ
+  pub output : ℕ
+
+-- a register: it takes a function of its input nets and its own bit where its clock net rises. Each output net
+-- shows its bit, or the inverse where the truth value beside it is true; `pins` has for each output the place of
+-- its pin among the pins of the library cell, and 0 for a plain register. `init` is 0 or 1, 2 for a bit that
+-- does not matter, or 3 for one that is not known.
+pub record RegisterCell : Type 0 where
+  pub inputs : List ℕ
+  pub outputs : List (ℕ × Bool)
+  pub pins : List ℕ
+  pub clock : ℕ
+  pub kind : RegisterKind
+  pub init : ℕ
+
+-- a netlist: its model's name, the names of its nets, its input and output nets, at most one clock net, its parts
+pub record Circuit : Type 0 where
+  pub model : List ℕ
+  pub names : List (List ℕ)
+  pub inputs : List ℕ
+  pub clock : Option ℕ
+  pub outputs : List ℕ
+  pub cells : List LogicCell
+  pub gaters : List GatingCell
+  pub registers : List RegisterCell
+
+-- whether a net is among these
+abbrev pub is_in : List ℕ → ℕ → Bool
+is_in nets net = list_any (nat_eq net) nets
+
+-- the inputs without the clock
+abbrev pub data_inputs : Circuit → List ℕ
+data_inputs c = filter (λ net. not (is_in (option_to_list c.clock) net)) c.inputs
+
+-- the output nets of the logic cells, of the gating cells, of a register, of all registers
+abbrev pub cell_nets : Circuit → List ℕ
+cell_nets c = map (λ cell. cell.output) c.cells
+
+abbrev pub gate_nets : Circuit → List ℕ
+gate_nets c = map (λ gater. gater.output) c.gaters
+
+abbrev pub shown_nets : RegisterCell → List ℕ
+shown_nets register = map (λ output. output.0) register.outputs
+
+abbrev pub register_nets : Circuit → List ℕ
+register_nets c = flat_map shown_nets c.registers
+
+-- the nets whose bits at a moment do not follow from other nets of that moment by a logic cell: the data inputs,
+-- the clock, the outputs of gating cells and of registers
+abbrev pub given_nets : Circuit → List ℕ
+given_nets c = data_inputs c ++ option_to_list c.clock ++ gate_nets c ++ register_nets c
+
+-- what drives nets: the given nets and the outputs of logic cells
+abbrev pub drivers : Circuit → List ℕ
+drivers c = given_nets c ++ cell_nets c
+
+-- the nets that carry the clock: the clock, and the outputs of gating cells
+abbrev pub clock_nets : Circuit → List ℕ
+clock_nets c = option_to_list c.clock ++ gate_nets c
+
+-- the nets that are used for their bits, elsewhere than at a clock pin: at inputs of logic cells, at enables, at
+-- inputs of registers, and as outputs of the netlist
+abbrev pub used_nets : Circuit → List ℕ
+used_nets c = flat_map (λ cell. cell.inputs) c.cells ++ map (λ gater. gater.enable) c.gaters ++ flat_map (λ register. register.inputs) c.registers ++ c.outputs
+
+-- the nets in net order: the inputs, the clock where it is no input, and then the outputs of the logic cells, of
+-- the gating cells and of the registers, each kind in its own order
+abbrev pub net_order : Circuit → List ℕ
+net_order c = c.inputs ++ filter (λ net. not (is_in c.inputs net)) (option_to_list c.clock) ++ cell_nets c ++ gate_nets c ++ register_nets c

@@ -1,0 +1,49 @@
+-- The bits of a netlist's nets at one moment.
+use Rattle.std.specs.Prelude.{◌≡◌, ℕ, Bool, false, not, if◌then◌else◌, List, [], ◌∷◌, ◌++◌, map, length, slice_get, slice_index_or, Some}
+use Rattle.std.specs.List.{filter_map}
+use Rattle.cg_cell.specs.Cover.{cover_value}
+use Rattle.cg_netlist.specs.declared.parts.LogicFunction.{LogicFunction}
+use Rattle.cg_netlist.specs.declared.parts.LogicFunction.TheVariants.{Cover}
+use Rattle.cg_netlist.specs.Circuit.{Circuit, LogicCell, RegisterCell, data_inputs, gate_nets, register_nets}
+
+-- what is kept for each of these nets, in their order, in a list with a place for each net
+abbrev pub values_at : {T : Type 0} → List T → List ℕ → List T
+values_at values nets = filter_map (slice_get values) nets
+
+-- the bit of a net
+abbrev pub bit : List Bool → ℕ → Bool
+bit nets net = slice_index_or nets net false
+
+-- what f makes of the items of two lists, place by place
+abbrev pub zip_with : {A B C : Type 0} → (A → B → C) → List A → List B → List C
+zip_with f [] bs = []
+zip_with f (a ∷ as') [] = []
+zip_with f (a ∷ as') (b ∷ bs) = f a b ∷ zip_with f as' bs
+
+-- the value of a logic cell's function at bits of its inputs
+abbrev pub function_value : LogicFunction → List Bool → Bool
+function_value (Cover cover) bits = cover_value cover bits
+
+-- what a register with this bit shows at its output nets: the bit, or its inverse
+abbrev pub shown_bits : RegisterCell → Bool → List Bool
+shown_bits r stored = map (λ output. if output.1 then not stored else stored) r.outputs
+
+-- what registers with these bits show at their output nets, one register after another
+abbrev pub register_bits : List RegisterCell → List Bool → List Bool
+register_bits [] state = []
+register_bits (r ∷ rs) [] = []
+register_bits (r ∷ rs) (stored ∷ state) = shown_bits r stored ++ register_bits rs state
+
+-- each logic cell's output is its function of its inputs
+abbrev pub CellsHold : List LogicCell → List Bool → Type 0
+CellsHold cells nets = (k : ℕ) (cell : LogicCell) → slice_get cells k ≡ Some cell → slice_get nets cell.output ≡ Some (function_value cell.function (values_at nets cell.inputs))
+
+-- `nets` has a bit for each net: those of the clock, the data inputs, the registers and the outputs of gating
+-- cells are the given ones, and the logic cells hold
+pub record Settles (c : Circuit) (clock : Bool) (inputs state gates nets : List Bool) : Type 0 where
+  pub long : length nets ≡ length c.names
+  pub shows_clock : (net : ℕ) → c.clock ≡ Some net → slice_get nets net ≡ Some clock
+  pub shows_inputs : values_at nets (data_inputs c) ≡ inputs
+  pub shows_gates : values_at nets (gate_nets c) ≡ gates
+  pub shows_state : values_at nets (register_nets c) ≡ register_bits c.registers state
+  pub holds : CellsHold c.cells nets

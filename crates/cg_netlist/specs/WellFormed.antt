@@ -1,0 +1,67 @@
+-- When a netlist is well formed.
+use Rattle.std.specs.Prelude.{◌≡◌, ◌≢◌, ℕ, ◌<◌, ◌≤◌, true, false, ◌⊎◌, IsTrue, List, map, length, slice_get, slice_index, Some, nat_eq, [], ◌∷◌}
+use Rattle.std.specs.List.{All, AllPairs, IsDistinct, range_with_len}
+use Rattle.cg_cell.specs.Name.{is_name}
+use Rattle.cg_cell.specs.Cover.{Fits}
+use Rattle.cg_netlist.specs.declared.parts.LogicFunction.{LogicFunction}
+use Rattle.cg_netlist.specs.declared.parts.LogicFunction.TheVariants.{Cover}
+use Rattle.cg_netlist.specs.declared.parts.RegisterKind.{RegisterKind}
+use Rattle.cg_netlist.specs.declared.parts.RegisterKind.TheVariants.{Plain}
+use Rattle.cg_netlist.specs.Circuit.{Circuit, LogicCell, GatingCell, RegisterCell, is_in, drivers, clock_nets, used_nets, net_order}
+
+-- a function is one of this many inputs
+abbrev pub IsOver : ℕ → LogicFunction → Type 0
+IsOver inputs (Cover cover) = Fits inputs cover
+
+-- a plain register has one input and one output, which shows its bit and not the inverse
+abbrev pub FitsKind : RegisterKind → RegisterCell → Type 0
+FitsKind Plain r = (length r.inputs ≡ 1) × (map (λ output. output.1) r.outputs ≡ false ∷ []) × (r.pins ≡ 0 ∷ [])
+
+-- a register has the inputs and outputs of its kind, a pin for each output, and an init from 0 to 3
+pub record RegisterFits (r : RegisterCell) : Type 0 where
+  pub kind : FitsKind r.kind r
+  pub pins : length r.pins ≡ length r.outputs
+  pub init : r.init ≤ 3
+
+-- every net has exactly one driver
+pub record IsDriven (c : Circuit) : Type 0 where
+  pub driven : (net : ℕ) → net < length c.names → is_in (drivers c) net ≡ true
+  pub once : IsDistinct nat_eq (drivers c)
+  pub nets : All (λ net. net < length c.names) (drivers c)
+
+-- each logic cell's rank is above those of the logic cells that drive its inputs, so that no cell waits for itself
+pub record AreRanks (cells : List LogicCell) (ranks : List ℕ) : Type 0 where
+  pub count : length ranks ≡ length cells
+  pub rising : (j k : ℕ) (driver cell : LogicCell) → slice_get cells j ≡ Some driver → slice_get cells k ≡ Some cell → is_in cell.inputs driver.output ≡ true → slice_index ranks j < slice_index ranks k
+
+-- the clock pin of each gating cell is on the clock, or on the output of a gating cell with a lower number
+pub record AreChained (c : Circuit) (numbers : List ℕ) : Type 0 where
+  pub count : length numbers ≡ length c.gaters
+  pub chained : (k : ℕ) (gater : GatingCell) → slice_get c.gaters k ≡ Some gater
+      → (c.clock ≡ Some gater.clock) ⊎ ((j : ℕ) × (before : GatingCell) × (slice_get c.gaters j ≡ Some before) × (before.output ≡ gater.clock) × (slice_index numbers j < slice_index numbers k))
+
+-- Well formed, as a netlist of synchronous logic on one clock is. "There is a list of numbers" is a field.
+pub record IsWellFormed (c : Circuit) : Type 0 where
+  -- the model and the nets have names, and no two nets have one name
+  pub model : IsTrue (is_name c.model)
+  pub names : All (λ name. IsTrue (is_name name)) c.names
+  pub different : AllPairs (λ name other. name ≢ other) c.names
+  -- each part has as many inputs and outputs as it is made for, and each net that is used is there
+  pub functions : All (λ cell. IsOver (length cell.inputs) cell.function) c.cells
+  pub fitting : All RegisterFits c.registers
+  pub used : All (λ net. net < length c.names) (used_nets c)
+  -- every net has exactly one driver
+  pub driven : IsDriven c
+  -- no cycle of logic cells
+  pub ranks : List ℕ
+  pub ranked : AreRanks c.cells ranks
+  -- each clock pin is reached from the clock through gating cells alone
+  pub numbers : List ℕ
+  pub chained : AreChained c numbers
+  pub clocked : All (λ r. is_in (clock_nets c) r.clock ≡ true) c.registers
+  -- the clock and the outputs of gating cells are used at clock pins and nowhere else
+  pub apart : (net : ℕ) → is_in (clock_nets c) net ≡ true → is_in (used_nets c) net ≡ false
+
+-- the nets are numbered in net order
+abbrev pub IsInNetOrder : Circuit → Type 0
+IsInNetOrder c = net_order c ≡ range_with_len 0 (length c.names)

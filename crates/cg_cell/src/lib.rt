@@ -9,10 +9,12 @@
 //! - [`name`]: the names of nets, cells and pins;
 //! - [`limit`]: the limits that a text or a circuit may pass;
 //! - [`cover`]: a function as rows of given bits;
+//! - [`expr`]: a function as an expression over numbered variables;
 //! - [`domain`]: values that stand for bits, and what may be done with them.
 #![tactic(auto)]
 
 pub mod cover;
 pub mod domain;
+pub mod expr;
 pub mod limit;
 pub mod name;

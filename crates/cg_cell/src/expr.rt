@@ -1,0 +1,142 @@
+//! Expressions: functions as Liberty writes them, over numbered variables.
+
+ghost use Rattle.std.specs.Prelude.{◌≡◌, List, Bool, IsTrue, length, Option, Some, None};
+ghost use Rattle.cg_cell.specs.Expr.{all_over, any_names, expr_value, is_over, names_variable, only_variable, values_of};
+ghost use Rattle.cg_cell.specs.Gates.{all_of, any_of, differ, inverted, odd_of};
+
+/// An expression over numbered variables.
+///
+/// The operands of one level of operators stand in one list, and a run of signs of inversion in one
+/// node with its length, so an expression is at most as deep as its brackets and `!` are nested,
+/// times a constant. Calls that go down an expression recurse no deeper than that.
+#[derive(Debug, Drop)]
+pub enum Expr {
+    /// The constant 0 or 1.
+    Constant(bool),
+
+    /// The bit of a variable, by its number.
+    Variable(u32),
+
+    /// The operand, inverted as many times as the number says.
+    Not(u64, Box<Expr>),
+
+    /// 1 where every operand is 1.
+    And(Vec<Expr>),
+
+    /// 1 where some operand is 1.
+    Or(Vec<Expr>),
+
+    /// 1 where an odd number of operands is 1.
+    Xor(Vec<Expr>),
+}
+
+impl Expr {
+    /// The bit of the expression, where `bits` has the bit of each of its variables.
+    #[cycle(value)]
+    pub fn value(&self, bits: &[bool]) -> bool
+        requires { IsTrue (is_over (length bits.now) self.now) }
+        ensures { result ≡ expr_value bits.now self.now }
+    {
+        match self {
+            Expr::Constant(bit) => *bit,
+            Expr::Variable(k) => bits[*k as usize],
+            Expr::Not(signs, operand) => invert(*signs, operand.value(bits)),
+            Expr::And(operands) => all_one(operands, bits),
+            Expr::Or(operands) => any_one(operands, bits),
+            Expr::Xor(operands) => odd_one(operands, bits),
+        }
+    }
+
+    /// Whether variable `k` stands in the expression.
+    #[cycle(names)]
+    pub fn names(&self, k: u32) -> bool
+        ensures { result ≡ names_variable k self.now }
+    {
+        match self {
+            Expr::Constant(_) => false,
+            Expr::Variable(variable) => *variable == k,
+            Expr::Not(_, operand) => operand.names(k),
+            Expr::And(operands) => any_operand_names(operands, k),
+            Expr::Or(operands) => any_operand_names(operands, k),
+            Expr::Xor(operands) => any_operand_names(operands, k),
+        }
+    }
+
+    /// The variable, where the expression is one variable and nothing else.
+    pub fn only(&self) -> Option<u32>
+        ensures { result ≡ only_variable self.now }
+    {
+        match self {
+            Expr::Variable(variable) => Some(*variable),
+            _ => None,
+        }
+    }
+}
+
+/// The bit, inverted once for each sign.
+fn invert(signs: u64, bit: bool) -> bool
+    ensures { result ≡ inverted signs bit }
+{
+    if signs % 2 == 0 { bit } else { !bit }
+}
+
+/// Exclusive or of two bits.
+fn differ(a: bool, b: bool) -> bool
+    ensures { result ≡ differ a b }
+{
+    if a { !b } else { b }
+}
+
+/// Whether every operand is 1.
+#[cycle(value)]
+fn all_one(operands: &[Expr], bits: &[bool]) -> bool
+    requires { IsTrue (all_over (length bits.now) operands.now) }
+    ensures { result ≡ all_of (values_of bits.now operands.now) }
+{
+    'operands: for operand in operands {
+        if !operand.value(bits) {
+            return false;
+        }
+    }
+    true
+}
+
+/// Whether some operand is 1.
+#[cycle(value)]
+fn any_one(operands: &[Expr], bits: &[bool]) -> bool
+    requires { IsTrue (all_over (length bits.now) operands.now) }
+    ensures { result ≡ any_of (values_of bits.now operands.now) }
+{
+    'operands: for operand in operands {
+        if operand.value(bits) {
+            return true;
+        }
+    }
+    false
+}
+
+/// Whether an odd number of operands is 1.
+#[cycle(value)]
+fn odd_one(operands: &[Expr], bits: &[bool]) -> bool
+    requires { IsTrue (all_over (length bits.now) operands.now) }
+    ensures { result ≡ odd_of (values_of bits.now operands.now) }
+{
+    let mut odd = false;
+    'operands: for operand in operands {
+        odd = differ(odd, operand.value(bits));
+    }
+    odd
+}
+
+/// Whether variable `k` stands in some operand.
+#[cycle(names)]
+fn any_operand_names(operands: &[Expr], k: u32) -> bool
+    ensures { result ≡ any_names k operands.now }
+{
+    'operands: for operand in operands {
+        if operand.names(k) {
+            return true;
+        }
+    }
+    false
+}

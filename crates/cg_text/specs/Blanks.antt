@@ -1,0 +1,20 @@
+-- Which bytes stand between words, and which end a line.
+use Rattle.std.specs.Prelude.{ℕ, Bool, ◌==◌, ◌||◌, ◌&&◌, nat_le}
+use Rattle.cg_text.specs.declared.blanks.Blanks.{Blanks}
+use Rattle.cg_text.specs.declared.blanks.Blanks.TheVariants.{Whitespace, Controls}
+use Rattle.cg_text.specs.declared.blanks.Separator.{Separator}
+use Rattle.cg_text.specs.declared.blanks.Separator.TheVariants.{LineFeed, Blank}
+
+-- the byte is a blank: white space is the space and the bytes from tab (9) to carriage return (13), controls are all bytes up to the space (32)
+abbrev pub is_blank : Blanks → ℕ → Bool
+is_blank Whitespace b = b == 32 || (nat_le 9 b && nat_le b 13)
+is_blank Controls b = nat_le b 32
+
+-- the byte ends a line
+abbrev pub is_line_feed : ℕ → Bool
+is_line_feed b = b == 10
+
+-- the byte ends a piece of text
+abbrev pub separates : Separator → ℕ → Bool
+separates LineFeed b = is_line_feed b
+separates (Blank blanks) b = is_blank blanks b

@@ -1,0 +1,164 @@
+//! The trusted edge: real files, standard output and standard error.
+
+ghost use Rattle.std.specs.Prelude.{◌≡◌, ◌≤◌, ◌++◌, [], None, false, length, vec_len, OnOk, OnErr};
+ghost use Rattle.cg_shelf.specs.Shelf.{load_faults, call_faults, one_fault};
+ghost use Rattle.cg_shelf.specs.declared.faults.Call.TheVariants.{Store, Say, Complain};
+
+use crate::calls::Shelf;
+use crate::faults::{Call, Fault, FileName, LoadFault, StoreFault};
+use std::alloc::{AllocError, Global};
+use std::fs::OpenOptions;
+use std::io::{Read, Write};
+use std::rt::Runtime;
+use std::{fs, io};
+
+// How many bytes one read asks for.
+const CHUNK: usize = 65536;
+
+/// A shelf over the files of the system, standard output and standard error.
+///
+/// It tells nothing of content, since nothing can be proved of what the system holds. It keeps the list of
+/// its failed calls. Every error of the system fails the call, an interrupted read or write among them.
+#[derive(Drop)]
+pub struct DirShelf<R: Runtime> {
+    rt: R,
+    alloc: Global,
+    faults: Vec<Fault>,
+}
+
+impl<R: Runtime> DirShelf<R> {
+    /// A shelf over this runtime, which has failed in nothing yet.
+    pub fn new(rt: R, alloc: Global) -> DirShelf<R>
+        ensures { result.faults.items ≡ [] }
+    {
+        DirShelf {
+            rt,
+            alloc,
+            faults: Vec::new(alloc),
+        }
+    }
+
+    /// Reads a file to its end. It ends after at most `limit` + 2 reads, since each but the last gives a byte.
+    fn read_file(&self, name: &str, limit: u64, into: &mut Vec<u8>) -> Result<(), LoadFault>
+        requires { into.old.items ≡ [] }
+        ensures { OnOk result (length into.new.items ≤ limit) }
+    {
+        let Ok(mut file) = fs::open(&self.rt, name) else {
+            return Err(LoadFault::Failed);
+        };
+        let mut chunk = [0u8; CHUNK];
+        'reads: loop {
+            let Ok(count) = file.read(&mut chunk) else {
+                return Err(LoadFault::Failed);
+            };
+            if count == 0 {
+                return Ok(());
+            }
+            if count as u64 > limit - into.len() as u64 {
+                return Err(LoadFault::TooLong);
+            }
+            into.extend_from_slice(&chunk[..count])?;
+        }
+    }
+
+    fn write_file(&self, name: &str, bytes: &[u8]) -> Result<(), StoreFault> {
+        match fs::create(&self.rt, name) {
+            Ok(mut file) => write_whole(&mut file, bytes),
+            Err(_) => Err(StoreFault::Failed),
+        }
+    }
+
+    /// Writes to standard error, opened as a file: a complaint holds names, which need be no text.
+    fn write_errors(&self, bytes: &[u8]) -> Result<(), StoreFault> {
+        let mut options = OpenOptions::new();
+        options.append(true);
+        match options.open(&self.rt, "/dev/stderr") {
+            Ok(mut file) => write_whole(&mut file, bytes),
+            Err(_) => Err(StoreFault::Failed),
+        }
+    }
+
+    /// Records a load that failed.
+    fn note_load(&mut self, name: &str, fault: LoadFault) -> Result<(), LoadFault>
+        ensures failed { self.new.faults.items ≡ self.old.faults.items ++ load_faults name.now result }
+        ensures refused { OnOk result ⊥ }
+    {
+        if fault == LoadFault::Failed {
+            self.note(Call::Load, name.as_bytes())?;
+        }
+        Err(fault)
+    }
+
+    /// Records a call that failed, and hands its answer on.
+    fn note_store(
+        &mut self,
+        call: Call,
+        name: &[u8],
+        answer: Result<(), StoreFault>,
+    ) -> Result<(), StoreFault>
+        ensures failed { self.new.faults.items ≡ self.old.faults.items ++ call_faults call name.now result }
+    {
+        if answer == Err(StoreFault::Failed) {
+            self.note(call, name)?;
+        }
+        answer
+    }
+
+    fn note(&mut self, call: Call, name: &[u8]) -> Result<(), AllocError>
+        ensures noted { OnOk result (self.new.faults.items ≡ self.old.faults.items ++ one_fault call name.now) }
+        ensures refused { OnErr result (self.new.faults.items ≡ self.old.faults.items) }
+    {
+        let name = FileName::new(self.alloc, name)?;
+        self.faults.push(Fault { call, name })?;
+        Ok(())
+    }
+}
+
+/// Writes all of the bytes, in at most one turn for each byte. A write that takes nothing of a piece that
+/// is not empty is a fault.
+fn write_whole<W: Write>(to: &mut W, bytes: &[u8]) -> Result<(), StoreFault> {
+    let mut rest = bytes;
+    'writes: while !rest.is_empty() {
+        match to.write(rest) {
+            Ok(0) | Err(_) => return Err(StoreFault::Failed),
+            Ok(count) => rest = &rest[count..],
+        }
+    }
+    Ok(())
+}
+
+impl<R: Runtime> Shelf for DirShelf<R> {
+    ghost world = { λ shelf. record {
+      tells = false;
+      held = λ _. None;
+      said = [];
+      complained = [];
+      faults = shelf.faults.items;
+    } };
+
+    fn load(&mut self, name: &str, limit: u64, into: &mut Vec<u8>) -> Result<(), LoadFault> {
+        into.clear();
+        match self.read_file(name, limit, into) {
+            Ok(()) => Ok(()),
+            Err(fault) => {
+                into.clear();
+                self.note_load(name, fault)
+            }
+        }
+    }
+
+    fn store(&mut self, name: &str, bytes: &[u8]) -> Result<(), StoreFault> {
+        let answer = self.write_file(name, bytes);
+        self.note_store(Call::Store, name.as_bytes(), answer)
+    }
+
+    fn say(&mut self, bytes: &[u8]) -> Result<(), StoreFault> {
+        let answer = write_whole(&mut io::writer(&self.rt), bytes);
+        self.note_store(Call::Say, b"", answer)
+    }
+
+    fn complain(&mut self, bytes: &[u8]) -> Result<(), StoreFault> {
+        let answer = self.write_errors(bytes);
+        self.note_store(Call::Complain, b"", answer)
+    }
+}

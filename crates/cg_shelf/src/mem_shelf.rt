@@ -1,0 +1,219 @@
+//! A shelf in memory, which fails where it is told to.
+
+ghost use Rattle.std.specs.Prelude.{◌≡◌, ◌≢◌, ◌-◌, ◌+◌, ◌^◌, ◌≤◌, ◌++◌, ◌||◌, [], Some, None, length, min, is_none, IfOk, OnOk, OnErr, option_copied};
+ghost use Rattle.cg_shelf.specs.MemShelf.{held_by, world_of, calls_of, failing_of, next_fails, LoadFailsWhere, FailsWhere};
+ghost use Rattle.cg_shelf.specs.Shelf.{LoadAnswers, Appends, SameBut, load_faults, call_faults, one_fault};
+ghost use Rattle.cg_shelf.specs.declared.faults.Call.TheVariants.{Store, Say, Complain};
+
+use crate::calls::Shelf;
+use crate::faults::{Call, Fault, FileName, LoadFault, StoreFault};
+use std::alloc::{AllocError, Global};
+use std::collections::BTreeMap;
+
+/// A shelf in memory. It tells everything, and a call of it fails exactly where its number is among those
+/// that [`MemShelf::new`] was given, or where it loads a name that is not held. A refused call leaves what
+/// is held, said and complained as it was.
+#[derive(Drop)]
+pub struct MemShelf {
+    alloc: Global,
+    files: BTreeMap<String, Vec<u8>>,
+    said: Vec<u8>,
+    complained: Vec<u8>,
+    faults: Vec<Fault>,
+    // The numbers of the calls that are to fail, and how many calls were made.
+    failing: Vec<u64>,
+    calls: u64,
+}
+
+impl MemShelf {
+    // Making and filling.
+
+    /// An empty shelf whose calls with these numbers fail, counted from 0 over all four calls.
+    pub fn new(alloc: Global, failing: &[u64]) -> Result<MemShelf, AllocError>
+        ensures empty { IfOk result (λ shelf. held_by shelf ≡ (λ _. None)) }
+        ensures said { IfOk result (λ shelf. (world_of shelf).said ≡ []) }
+        ensures complained { IfOk result (λ shelf. (world_of shelf).complained ≡ []) }
+        ensures faults { IfOk result (λ shelf. (world_of shelf).faults ≡ []) }
+        ensures failing { IfOk result (λ shelf. failing_of shelf ≡ failing.now) }
+        ensures calls { IfOk result (λ shelf. calls_of shelf ≡ 0) }
+    {
+        Ok(MemShelf {
+            alloc,
+            files: BTreeMap::new(alloc),
+            said: Vec::new(alloc),
+            complained: Vec::new(alloc),
+            faults: Vec::new(alloc),
+            failing: Vec::from_slice(alloc, failing)?,
+            calls: 0,
+        })
+    }
+
+    /// Puts the bytes under `name` without counting as a call.
+    pub fn put(&mut self, name: &str, bytes: &[u8]) -> Result<(), AllocError>
+        ensures put { OnOk result (held_by self.new name.now ≡ Some bytes.now) }
+        ensures others { SameBut name.now (held_by self.old) (held_by self.new) }
+        ensures refused { OnErr result (held_by self.new ≡ held_by self.old) }
+        ensures same_said { (world_of self.new).said ≡ (world_of self.old).said }
+        ensures same_complained { (world_of self.new).complained ≡ (world_of self.old).complained }
+        ensures same_faults { (world_of self.new).faults ≡ (world_of self.old).faults }
+        ensures same_failing { failing_of self.new ≡ failing_of self.old }
+        ensures same_calls { calls_of self.new ≡ calls_of self.old }
+    {
+        let key = String::from_str(self.alloc, name)?;
+        let bytes = Vec::from_slice(self.alloc, bytes)?;
+        self.files.insert(key, bytes)?;
+        Ok(())
+    }
+
+    // Reading.
+
+    /// The bytes under `name`, or `None` where there are none.
+    pub fn held(&self, name: &str) -> Option<&[u8]>
+        ensures { option_copied result ≡ held_by self.now name.now }
+    {
+        match self.files.get(name) {
+            None => None,
+            Some(bytes) => Some(bytes.as_slice()),
+        }
+    }
+
+    /// What was said so far.
+    pub fn said(&self) -> &[u8]
+        ensures { result.now ≡ (world_of self.now).said }
+    {
+        self.said.as_slice()
+    }
+
+    /// What was complained so far.
+    pub fn complained(&self) -> &[u8]
+        ensures { result.now ≡ (world_of self.now).complained }
+    {
+        self.complained.as_slice()
+    }
+
+    /// The calls that failed, in order.
+    pub fn faults(&self) -> &[Fault]
+        ensures { result.now ≡ (world_of self.now).faults }
+    {
+        self.faults.as_slice()
+    }
+
+    /// Counts a call, and tells whether it is to fail. The count stands still at its type's end.
+    fn counts(&mut self) -> bool
+        ensures fails { result ≡ next_fails self.old }
+        ensures count { calls_of self.new ≡ min (calls_of self.old + 1) (2 ^ 64 - 1) }
+        ensures same_failing { failing_of self.new ≡ failing_of self.old }
+        ensures same_files { self.new.files ≡ self.old.files }
+        ensures same_said { self.new.said ≡ self.old.said }
+        ensures same_complained { self.new.complained ≡ self.old.complained }
+        ensures same_faults { self.new.faults ≡ self.old.faults }
+    {
+        let number = self.calls;
+        self.calls = self.calls.saturating_add(1);
+        self.failing.iter().any(|failing| *failing == number)
+    }
+}
+
+impl MemShelf {
+    /// Records a call that failed.
+    fn note(&mut self, call: Call, name: &[u8]) -> Result<(), AllocError>
+        ensures noted { OnOk result ((world_of self.new).faults ≡ (world_of self.old).faults ++ one_fault call name.now) }
+        ensures refused { OnErr result ((world_of self.new).faults ≡ (world_of self.old).faults) }
+        ensures same_files { self.new.files ≡ self.old.files }
+        ensures same_said { (world_of self.new).said ≡ (world_of self.old).said }
+        ensures same_complained { (world_of self.new).complained ≡ (world_of self.old).complained }
+        ensures same_failing { failing_of self.new ≡ failing_of self.old }
+        ensures same_calls { calls_of self.new ≡ calls_of self.old }
+    {
+        let name = FileName::new(self.alloc, name)?;
+        self.faults.push(Fault { call, name })?;
+        Ok(())
+    }
+}
+
+impl Shelf for MemShelf {
+    ghost world = { world_of };
+
+    fn load(&mut self, name: &str, limit: u64, into: &mut Vec<u8>) -> Result<(), LoadFault>
+        ensures fails { LoadFailsWhere (next_fails self.old || is_none (held_by self.old name.now)) result }
+        ensures answer { LoadAnswers (held_by self.old name.now) limit into.new.items result }
+        ensures within { OnOk result (length into.new.items ≤ limit) }
+        ensures refused { OnErr result (into.new.items ≡ []) }
+        ensures same_held { held_by self.new ≡ held_by self.old }
+        ensures same_said { (world_of self.new).said ≡ (world_of self.old).said }
+        ensures same_complained { (world_of self.new).complained ≡ (world_of self.old).complained }
+        ensures failed { (world_of self.new).faults ≡ (world_of self.old).faults ++ load_faults name.now result }
+        ensures same_failing { failing_of self.new ≡ failing_of self.old }
+        ensures count { calls_of self.new ≡ min (calls_of self.old + 1) (2 ^ 64 - 1) }
+    {
+        into.clear();
+        if self.counts() {
+            self.note(Call::Load, name.as_bytes())?;
+            return Err(LoadFault::Failed);
+        }
+        let Some(bytes) = self.files.get(name) else {
+            self.note(Call::Load, name.as_bytes())?;
+            return Err(LoadFault::Failed);
+        };
+        if bytes.len() as u64 > limit {
+            return Err(LoadFault::TooLong);
+        }
+        into.extend_from_slice(bytes)?;
+        Ok(())
+    }
+
+    fn store(&mut self, name: &str, bytes: &[u8]) -> Result<(), StoreFault>
+        ensures fails { FailsWhere (next_fails self.old) result }
+        ensures stored { OnOk result (held_by self.new name.now ≡ Some bytes.now) }
+        ensures refused { OnErr result (held_by self.new ≡ held_by self.old) }
+        ensures others { SameBut name.now (held_by self.old) (held_by self.new) }
+        ensures same_said { (world_of self.new).said ≡ (world_of self.old).said }
+        ensures same_complained { (world_of self.new).complained ≡ (world_of self.old).complained }
+        ensures failed { (world_of self.new).faults ≡ (world_of self.old).faults ++ call_faults Store name.now result }
+        ensures same_failing { failing_of self.new ≡ failing_of self.old }
+        ensures count { calls_of self.new ≡ min (calls_of self.old + 1) (2 ^ 64 - 1) }
+    {
+        if self.counts() {
+            self.note(Call::Store, name.as_bytes())?;
+            return Err(StoreFault::Failed);
+        }
+        self.put(name, bytes)?;
+        Ok(())
+    }
+
+    fn say(&mut self, bytes: &[u8]) -> Result<(), StoreFault>
+        ensures fails { FailsWhere (next_fails self.old) result }
+        ensures said { Appends (world_of self.old).said (world_of self.new).said bytes.now result }
+        ensures refused { OnErr result ((world_of self.new).said ≡ (world_of self.old).said) }
+        ensures same_held { held_by self.new ≡ held_by self.old }
+        ensures same_complained { (world_of self.new).complained ≡ (world_of self.old).complained }
+        ensures failed { (world_of self.new).faults ≡ (world_of self.old).faults ++ call_faults Say [] result }
+        ensures same_failing { failing_of self.new ≡ failing_of self.old }
+        ensures count { calls_of self.new ≡ min (calls_of self.old + 1) (2 ^ 64 - 1) }
+    {
+        if self.counts() {
+            self.note(Call::Say, b"")?;
+            return Err(StoreFault::Failed);
+        }
+        self.said.extend_from_slice(bytes)?;
+        Ok(())
+    }
+
+    fn complain(&mut self, bytes: &[u8]) -> Result<(), StoreFault>
+        ensures fails { FailsWhere (next_fails self.old) result }
+        ensures complained { Appends (world_of self.old).complained (world_of self.new).complained bytes.now result }
+        ensures refused { OnErr result ((world_of self.new).complained ≡ (world_of self.old).complained) }
+        ensures same_held { held_by self.new ≡ held_by self.old }
+        ensures same_said { (world_of self.new).said ≡ (world_of self.old).said }
+        ensures failed { (world_of self.new).faults ≡ (world_of self.old).faults ++ call_faults Complain [] result }
+        ensures same_failing { failing_of self.new ≡ failing_of self.old }
+        ensures count { calls_of self.new ≡ min (calls_of self.old + 1) (2 ^ 64 - 1) }
+    {
+        if self.counts() {
+            self.note(Call::Complain, b"")?;
+            return Err(StoreFault::Failed);
+        }
+        self.complained.extend_from_slice(bytes)?;
+        Ok(())
+    }
+}

@@ -1,8 +1,10 @@
 pub mod Bits
 pub mod BitsLaws
 pub mod Build
+pub mod Cell
 pub mod Cover
 pub mod Domain
 pub mod Expr
 pub mod Gates
 pub mod Name
+pub mod Pins

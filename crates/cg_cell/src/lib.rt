@@ -10,9 +10,11 @@
 //! - [`limit`]: the limits that a text or a circuit may pass;
 //! - [`cover`]: a function as rows of given bits;
 //! - [`expr`]: a function as an expression over numbered variables;
+//! - [`cell`]: cells of a library, with their kind, their pins and their function;
 //! - [`domain`]: values that stand for bits, and what may be done with them.
 #![tactic(auto)]
 
+pub mod cell;
 pub mod cover;
 pub mod domain;
 pub mod expr;

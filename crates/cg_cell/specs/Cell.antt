@@ -1,0 +1,59 @@
+-- Cells of a library, and what is true of each.
+use Rattle.std.specs.Prelude.{◌≡◌, ℕ, ◌+◌, ◌≤◌, List, [], length, map, count_by, Bool, ◌||◌, IsTrue, Option, None, Some}
+use Rattle.std.specs.List.{AllByRecursion}
+use Rattle.cg_cell.specs.Expr.{is_over}
+use Rattle.cg_cell.specs.Name.{are_distinct, has_no_equals}
+use Rattle.cg_cell.specs.Pins.{PinData, is_data, is_clock, is_enable, is_test, is_output, is_state}
+use Rattle.cg_cell.specs.declared.cell.CellKind.{CellKind}
+use Rattle.cg_cell.specs.declared.cell.CellKind.TheVariants.{Logic, Flop, Gater, Unusable}
+use Rattle.cg_cell.specs.declared.expr.Expr.{Expr}
+
+-- a cell: its name, what it is used as, its pins in order, and its function where it has one
+pub record CellData : Type 0 where
+  pub name : List ℕ
+  pub kind : CellKind
+  pub pins : List PinData
+  pub function : Option Expr
+
+-- the pins of a logic cell: inputs of the function, and one output
+pub record HasLogicPins (pins : List PinData) : Type 0 where
+  pub output : count_by is_output pins ≡ 1
+  pub only : AllByRecursion (λ pin. IsTrue (is_data pin || is_output pin)) pins
+
+-- the pins of a register: inputs of the function, one clock, and one or more outputs with its bit or the inverse
+pub record HasFlopPins (pins : List PinData) : Type 0 where
+  pub clock : count_by is_clock pins ≡ 1
+  pub state : 1 ≤ count_by is_state pins
+  pub only : AllByRecursion (λ pin. IsTrue (is_data pin || is_clock pin || is_state pin)) pins
+
+-- the pins of a gating cell: one clock, one enable, one output and at most one test input
+pub record HasGaterPins (pins : List PinData) : Type 0 where
+  pub clock : count_by is_clock pins ≡ 1
+  pub enable : count_by is_enable pins ≡ 1
+  pub output : count_by is_output pins ≡ 1
+  pub test : count_by is_test pins ≤ 1
+  pub only : AllByRecursion (λ pin. IsTrue (is_clock pin || is_enable pin || is_output pin || is_test pin)) pins
+
+-- the pins are those of a cell of the kind
+abbrev pub HasPins : CellKind → List PinData → Type 0
+HasPins Logic pins = HasLogicPins pins
+HasPins Flop pins = HasFlopPins pins
+HasPins Gater pins = HasGaterPins pins
+HasPins Unusable pins = pins ≡ []
+
+-- a logic cell has a function over its data pins, a register one over its data pins and its own bit behind
+-- them, and the other kinds have none
+abbrev pub HasFunction : CellKind → ℕ → Option Expr → Type 0
+HasFunction Logic inputs (Some function) = IsTrue (is_over inputs function)
+HasFunction Flop inputs (Some function) = IsTrue (is_over (inputs + 1) function)
+HasFunction Gater inputs None = Unit {0}
+HasFunction Unusable inputs None = Unit {0}
+HasFunction _ inputs _ = ⊥
+
+-- what is true of every cell
+pub record IsCell (cell : CellData) : Type 0 where
+  pub few : length cell.pins ≤ 16
+  pub distinct : IsTrue (are_distinct (map (λ pin. pin.name) cell.pins))
+  pub unsplit : AllByRecursion (λ pin. IsTrue (has_no_equals pin.name)) cell.pins
+  pub roles : HasPins cell.kind cell.pins
+  pub computes : HasFunction cell.kind (count_by is_data cell.pins) cell.function

@@ -1,0 +1,162 @@
+//! Cells of a library: their kinds, their pins and what they compute.
+
+ghost use Rattle.std.specs.Prelude.{◌≡◌};
+ghost use Rattle.std.specs.Option.{option_copied};
+ghost use Rattle.cg_cell.specs.Cell.{IsCell};
+
+use crate::expr::Expr;
+use crate::name::Name;
+use std::marker::Model;
+
+/// What a cell is used as.
+#[derive(Clone, Copy, Debug, PartialEq, Eq)]
+pub enum CellKind {
+    /// One output that is a function of the inputs.
+    Logic,
+
+    /// A register with one rising clock.
+    Flop,
+
+    /// A latch that is transparent while the clock is low, and an AND of the latch with the clock.
+    Gater,
+
+    /// Known by name alone. A netlist cannot place it.
+    Unusable,
+}
+
+/// What a pin of a cell is for.
+#[derive(Clone, Copy, Debug, PartialEq, Eq)]
+pub enum Role {
+    /// An input of the function.
+    Data,
+
+    /// The clock input.
+    Clock,
+
+    /// The enable of a gating cell.
+    Enable,
+
+    /// The test input of a gating cell.
+    Test,
+
+    /// The output of a logic or a gating cell.
+    Output,
+
+    /// An output with the bit of the register.
+    State,
+
+    /// An output with the inverse of the register's bit.
+    StateBar,
+}
+
+/// A pin of a cell. Clauses see it as its name and its role.
+#[derive(Debug, Drop)]
+pub struct Pin {
+    name: Name,
+    role: Role,
+}
+
+impl Model for Pin {
+    ghost use Rattle.cg_cell.specs.Pins.{PinData};
+
+    ghost Value = { PinData };
+
+    ghost view = { λ pin. record { name = pin.name; role = pin.role } };
+}
+
+impl Pin {
+    /// A pin of the name, with the role.
+    pub fn new(name: Name, role: Role) -> Pin
+        ensures { result ≡ record { name = name; role = role } }
+    {
+        Pin { name, role }
+    }
+
+    /// The name of the pin.
+    pub fn name(&self) -> &Name
+        ensures { result.now ≡ self.now.name }
+    {
+        &self.name
+    }
+
+    /// What the pin is for.
+    pub fn role(&self) -> Role
+        ensures { result ≡ self.now.role }
+    {
+        self.role
+    }
+}
+
+/// A cell of a library.
+///
+/// Clauses see a cell as its name, its kind, its pins and its function. A Logic cell has Data pins and
+/// one Output; a Flop has Data pins, one Clock and at least one State or StateBar; a Gater has one
+/// Clock, one Enable, one Output and at most one Test; an Unusable cell has no pins. There are at most
+/// 16 pins, of different names without the byte `=`.
+#[derive(Debug, Drop)]
+pub struct CellType {
+    name: Name,
+    kind: CellKind,
+    pins: Vec<Pin>,
+    function: Option<Expr>,
+}
+
+impl Model for CellType {
+    ghost use Rattle.std.specs.Coded.{codes};
+    ghost use Rattle.cg_cell.specs.contracts.expr.Expr as e;
+    ghost use Rattle.cg_cell.specs.Cell.{CellData, IsCell};
+
+    ghost Value = { CellData };
+
+    ghost coded = { Prim.hlevel (codes, e.the_row.coded) };
+
+    ghost view = { λ c. record { name = c.name; kind = c.kind; pins = c.pins.items; function = c.function } };
+
+    ghost invariant = { λ c. IsCell (record { name = c.name; kind = c.kind; pins = c.pins.items; function = c.function }) };
+}
+
+impl CellType {
+    /// A cell of these parts, which meet the conditions of its kind.
+    pub fn new(name: Name, kind: CellKind, pins: Vec<Pin>, function: Option<Expr>) -> CellType
+        requires { IsCell (record { name = name; kind = kind; pins = pins.items; function = function }) }
+        ensures { result ≡ record { name = name; kind = kind; pins = pins.items; function = function } }
+    {
+        CellType {
+            name,
+            kind,
+            pins,
+            function,
+        }
+    }
+
+    /// The name of the cell.
+    pub fn name(&self) -> &Name
+        ensures { result.now ≡ self.now.name }
+    {
+        &self.name
+    }
+
+    /// What the cell is used as.
+    pub fn kind(&self) -> CellKind
+        ensures { result ≡ self.now.kind }
+    {
+        self.kind
+    }
+
+    /// The pins in the order of the library's text.
+    pub fn pins(&self) -> &[Pin]
+        ensures pins { result.now ≡ self.now.pins }
+        ensures cell { IsCell self.now }
+    {
+        &self.pins
+    }
+
+    /// The function of a Logic cell over its Data pins in pin order, that of a Flop over its Data pins
+    /// followed by its own bit, and None for the other kinds.
+    pub fn function(&self) -> Option<&Expr>
+        ensures function { option_copied result ≡ self.now.function }
+        ensures cell { IsCell self.now }
+    {
+        self.function.as_ref()
+    }
+}

@@ -1,0 +1,3 @@
+pub mod Lits
+pub mod Bounds
+pub mod Satisfiable

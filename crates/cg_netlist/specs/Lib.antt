@@ -1,4 +1,10 @@
+pub mod BlifText
+pub mod Canonical
 pub mod Circuit
 pub mod History
+pub mod LogicalLines
 pub mod Moment
+pub mod PlainText
+pub mod Says
+pub mod Statements
 pub mod WellFormed

@@ -1,0 +1,34 @@
+-- The BLIF texts of one plain form: no comment and no join, and each line in its canonical spelling and in one order.
+use Rattle.std.specs.Prelude.{◌≡◌, ◌≢◌, ℕ, ◌≤◌, Bool, not, ◌==◌, ◌&&◌, IsTrue, List, [], ◌∷◌, ◌++◌, map, length, codes, None, Some}
+use Rattle.std.specs.List.{AllByRecursion, filter, flat_map, list_all}
+use Rattle.cg_text.specs.Words.{lines, words}
+use Rattle.cg_text.specs.declared.blanks.Blanks.TheVariants.{Controls}
+use Rattle.cg_cell.specs.Cover.{Fits, IsCover}
+use Rattle.cg_netlist.specs.Circuit.{Circuit}
+use Rattle.cg_netlist.specs.Statements.{Word, Statement, Model, Inputs, Outputs, Names, Latch, End, statement_lines}
+use Rattle.cg_netlist.specs.Says.{Says}
+
+-- a byte that begins no comment and joins no line: neither `#` nor `\`
+abbrev pub is_bare : ℕ → Bool
+is_bare byte = not (byte == 35) && not (byte == 92)
+
+-- the lines of a text that have words, as their words
+abbrev pub word_lines : List ℕ → List (List Word)
+word_lines text = filter (λ line. not (length line == 0)) (map (words Controls) (lines text))
+
+-- the parts are `.names` lines with their rows and `.latch` lines that name a clock and an init
+abbrev pub IsPlainPart : Statement → Type 0
+IsPlainPart (Names inputs output cover) = (length inputs ≤ 256) × IsCover cover × Fits (length inputs) cover
+IsPlainPart (Latch input output (Some clock) init) = (init ≤ 3) × (clock ≢ codes "NIL")
+IsPlainPart statement = ⊥
+
+-- the text is in the plain form, one `.model`, one `.inputs` and one `.outputs` line, the parts, and one `.end` line, and says the netlist
+pub record PlainText (text : List ℕ) (c : Circuit) : Type 0 where
+  pub model : Word
+  pub inputs : List Word
+  pub outputs : List Word
+  pub parts : List Statement
+  pub bare : IsTrue (list_all is_bare text)
+  pub spelled : word_lines text ≡ flat_map statement_lines (Model model ∷ Inputs inputs ∷ Outputs outputs ∷ (parts ++ End ∷ []))
+  pub fit : AllByRecursion IsPlainPart parts
+  pub says : Says None model (Inputs inputs ∷ Outputs outputs ∷ parts) c

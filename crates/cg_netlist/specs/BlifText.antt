@@ -9,7 +9,7 @@ use Rattle.cg_cell.specs.Name.{is_name}
 use Rattle.cg_cell.specs.Cover.{Fits, IsCover}
 use Rattle.cg_netlist.specs.Circuit.{Circuit}
 use Rattle.cg_netlist.specs.Statements.{Word, Statement, Model, Inputs, Outputs, Clocks, Names, Latch, Gate, Skipped, End, statement_lines, init_word, pin_word}
-use Rattle.cg_netlist.specs.LogicalLines.{text_lines}
+use Rattle.cg_netlist.specs.LogicalLines.{word_lines}
 use Rattle.cg_netlist.specs.Says.{Says}
 
 -- the words that may stand behind the output of a `.latch` line: the type and the clock, or neither where that is
@@ -63,7 +63,7 @@ pub record BlifText (text : List ℕ) (clock : Option Word) (c : Circuit) : Type
   pub heads : Heads model heading
   pub ends : Ends ending
   -- each word is a name, and the lines spell the statements
-  pub named : AllByRecursion (AllByRecursion (λ word. IsTrue (is_name word))) (text_lines text)
-  pub spelled : SpellsAll (heading ++ parts ++ ending) (text_lines text)
+  pub named : AllByRecursion (AllByRecursion (λ word. IsTrue (is_name word))) (word_lines text)
+  pub spelled : SpellsAll (heading ++ parts ++ ending) (word_lines text)
   pub fit : AllByRecursion IsPart parts
   pub says : Says clock model parts c

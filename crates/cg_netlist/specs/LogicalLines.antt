@@ -34,5 +34,5 @@ logical_lines [] = []
 logical_lines (line ∷ later) = put_line (bared line) (logical_lines later)
 
 -- the logical lines of a text that have words, as their words; every byte up to the space stands between words
-abbrev pub text_lines : List ℕ → List (List Word)
-text_lines text = filter (λ line. not (length line == 0)) (map (words Controls) (logical_lines (lines text)))
+abbrev pub word_lines : List ℕ → List (List Word)
+word_lines text = filter (λ line. not (length line == 0)) (map (words Controls) (logical_lines (lines text)))

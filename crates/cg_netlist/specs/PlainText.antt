@@ -1,8 +1,10 @@
 -- The BLIF texts of one plain form: no comment and no join, and each line in its canonical spelling and in one order.
 use Rattle.std.specs.Prelude.{◌≡◌, ◌≢◌, ℕ, ◌≤◌, Bool, not, ◌==◌, ◌&&◌, IsTrue, List, [], ◌∷◌, ◌++◌, map, length, codes, None, Some}
-use Rattle.std.specs.List.{AllByRecursion, filter, flat_map, list_all}
-use Rattle.cg_text.specs.Words.{lines, words}
+use Rattle.std.specs.List.{AllByRecursion, flat_map, list_all}
 use Rattle.cg_text.specs.declared.blanks.Blanks.TheVariants.{Controls}
+use Rattle.cg_text.specs.declared.lines.Comments.TheVariants.{Never}
+use Rattle.cg_text.specs.declared.lines.Layout.{Layout}
+use Rattle.cg_text.specs.Lines.{text_lines}
 use Rattle.cg_cell.specs.Cover.{Fits, IsCover}
 use Rattle.cg_netlist.specs.Circuit.{Circuit}
 use Rattle.cg_netlist.specs.Statements.{Word, Statement, Model, Inputs, Outputs, Names, Latch, End, statement_lines}
@@ -12,9 +14,13 @@ use Rattle.cg_netlist.specs.Says.{Says}
 abbrev pub is_bare : ℕ → Bool
 is_bare byte = not (byte == 35) && not (byte == 92)
 
+-- every byte up to the space stands between words, and no line is left out
+abbrev pub plain_layout : Layout
+plain_layout = record { blanks = Controls; comments = Never }
+
 -- the lines of a text that have words, as their words
-abbrev pub word_lines : List ℕ → List (List Word)
-word_lines text = filter (λ line. not (length line == 0)) (map (words Controls) (lines text))
+abbrev pub plain_lines : List ℕ → List (List Word)
+plain_lines text = map (λ line. line.words) (text_lines plain_layout text)
 
 -- the parts are `.names` lines with their rows and `.latch` lines that name a clock and an init
 abbrev pub IsPlainPart : Statement → Type 0
@@ -29,6 +35,6 @@ pub record PlainText (text : List ℕ) (c : Circuit) : Type 0 where
   pub outputs : List Word
   pub parts : List Statement
   pub bare : IsTrue (list_all is_bare text)
-  pub spelled : word_lines text ≡ flat_map statement_lines (Model model ∷ Inputs inputs ∷ Outputs outputs ∷ (parts ++ End ∷ []))
+  pub spelled : plain_lines text ≡ flat_map statement_lines (Model model ∷ Inputs inputs ∷ Outputs outputs ∷ (parts ++ End ∷ []))
   pub fit : AllByRecursion IsPlainPart parts
   pub says : Says None model (Inputs inputs ∷ Outputs outputs ∷ parts) c

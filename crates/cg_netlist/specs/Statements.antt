@@ -1,8 +1,9 @@
 -- What the lines of a BLIF text say, by the names of the nets, and how each of them is written.
 -- Source: Berkeley Logic Interchange Format, University of California, Berkeley, 1992.
 use Rattle.std.specs.Prelude.{ℕ, ◌+◌, Bool, true, false, List, [], ◌∷◌, ◌++◌, map, codes, unwrap_or, Option, None, Some}
-use Rattle.std.specs.List.{flat_map, join_with_byte}
+use Rattle.std.specs.List.{flat_map}
 use Rattle.cg_cell.specs.Cover.{CoverData}
+use Rattle.cg_text.specs.Written.{text_of}
 
 -- a word of a line, as its bytes; the names of nets are words
 abbrev pub Word : Type 0
@@ -63,10 +64,6 @@ statement_lines (Gate cell pins) = (codes ".gate" ∷ cell ∷ map pin_word pins
 statement_lines (Skipped command words) = (command ∷ words) ∷ []
 statement_lines End = (codes ".end" ∷ []) ∷ []
 
--- a line of words: one space between words, and a line feed at the end
-abbrev pub line_text : List Word → List ℕ
-line_text words = join_with_byte 32 words ++ 10 ∷ []
-
--- statements as a text, in the canonical spelling
+-- statements as a text in the canonical spelling: one space between words, and a line feed at the end of each line
 abbrev pub statements_text : List Statement → List ℕ
-statements_text statements = flat_map line_text (flat_map statement_lines statements)
+statements_text statements = text_of (flat_map statement_lines statements)

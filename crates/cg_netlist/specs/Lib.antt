@@ -4,6 +4,7 @@ pub mod Circuit
 pub mod History
 pub mod LogicalLines
 pub mod Moment
+pub mod Names
 pub mod PlainText
 pub mod Says
 pub mod Statements

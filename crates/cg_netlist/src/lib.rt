@@ -5,9 +5,13 @@
 //!
 //! The modules, in the order in which data flows through them:
 //!
-//! - `parts`: nets, logic cells, gating cells and registers, and their numbers.
+//! - `id`: the numbers of nets, logic cells, registers and gating cells.
+//! - `names`: the names of nets in their order.
+//! - `parts`: logic cells, gating cells and registers as a netlist keeps them.
 //! - `ranks`: how deep each logic cell lies under the registers and inputs, and which ones lie on a cycle.
 #![tactic(auto)]
 
+pub mod id;
+mod names;
 pub mod parts;
 mod ranks;

@@ -1,53 +1,96 @@
-//! The parts of a netlist as it keeps them, and the numbers that name them.
+//! The parts of a netlist as it keeps them: plain data, of which nothing is asked yet.
 
-ghost use Rattle.std.specs.Prelude.{◌≡◌, ◌<◌, ◌^◌};
+ghost use Rattle.std.specs.Prelude.{◌≡◌};
 
+use crate::id::NetId;
+use crate::names::NetNames;
 use cg_cell::cover::Cover;
+use cg_cell::name::Name;
 use std::marker::Model;
-
-/// The number of a net: its place in net order.
-#[derive(Clone, Copy, Debug, PartialEq, Eq)]
-pub struct NetId {
-    number: u32,
-}
-
-impl Model for NetId {
-    ghost use Rattle.std.specs.Prelude.{ℕ};
-
-    ghost Value = { ℕ };
-
-    ghost view = { λ id. id.number };
-
-    ghost inverse = { λ n. record { number = n } };
-}
-
-impl NetId {
-    /// The net of this number.
-    pub fn new(number: u32) -> NetId
-        ensures { result ≡ number }
-    {
-        NetId { number }
-    }
-
-    /// The number of the net.
-    pub fn number(self) -> u32
-        ensures number { result ≡ self }
-        ensures small { result < 2 ^ 32 }
-    {
-        self.number
-    }
-}
 
 /// The function of a logic cell, over its inputs in their order.
 #[derive(Debug, Drop)]
 pub enum LogicFunction {
-    /// Rows of a `.names` line.
+    /// The rows of a `.names` line.
     Cover(Cover),
 }
 
 /// What a register is made of.
 #[derive(Debug, Drop)]
 pub enum RegisterKind {
-    /// A `.latch` line: the next bit is the one input.
+    /// A `.latch` line: the next bit is the bit of the one input.
     Plain,
+}
+
+/// A logic cell.
+#[derive(Debug, Drop)]
+pub(crate) struct Logic {
+    pub(crate) inputs: Vec<NetId>,
+    pub(crate) output: NetId,
+    pub(crate) function: LogicFunction,
+}
+
+impl Model for Logic {
+    ghost use Rattle.cg_netlist.specs.Circuit.{LogicCell};
+
+    ghost Value = { LogicCell };
+
+    ghost view = { λ c. record { inputs = c.inputs.items; output = c.output; function = c.function } };
+}
+
+/// A gating cell: a latch that follows the enable while the clock is low, and the AND of latch and clock.
+#[derive(Debug, Drop)]
+pub(crate) struct Gater {
+    pub(crate) clock: NetId,
+    pub(crate) enable: NetId,
+    pub(crate) output: NetId,
+}
+
+impl Model for Gater {
+    ghost use Rattle.cg_netlist.specs.Circuit.{GatingCell};
+
+    ghost Value = { GatingCell };
+
+    ghost view = { λ g. record { clock = g.clock; enable = g.enable; output = g.output } };
+}
+
+/// A register. An output is a net and whether it shows the inverse of the register's bit; `pins` has for each
+/// output the place of its pin among the library cell's pins, and 0 for a plain register.
+#[derive(Debug, Drop)]
+pub(crate) struct Register {
+    pub(crate) inputs: Vec<NetId>,
+    pub(crate) outputs: Vec<(NetId, bool)>,
+    pub(crate) pins: Vec<u32>,
+    pub(crate) clock: NetId,
+    pub(crate) kind: RegisterKind,
+    pub(crate) init: u8,
+}
+
+impl Model for Register {
+    ghost use Rattle.cg_netlist.specs.Circuit.{RegisterCell};
+
+    ghost Value = { RegisterCell };
+
+    ghost view = { λ r. record { inputs = r.inputs.items; outputs = r.outputs.items; pins = r.pins.items; clock = r.clock; kind = r.kind; init = r.init } };
+}
+
+/// All parts of a netlist. Nets are numbered by the table of names.
+#[derive(Drop)]
+pub(crate) struct Parts {
+    pub(crate) model: Name,
+    pub(crate) names: NetNames,
+    pub(crate) inputs: Vec<NetId>,
+    pub(crate) clock: Option<NetId>,
+    pub(crate) outputs: Vec<NetId>,
+    pub(crate) cells: Vec<Logic>,
+    pub(crate) gaters: Vec<Gater>,
+    pub(crate) registers: Vec<Register>,
+}
+
+impl Model for Parts {
+    ghost use Rattle.cg_netlist.specs.Circuit.{Circuit};
+
+    ghost Value = { Circuit };
+
+    ghost view = { λ p. record { model = p.model; names = p.names; inputs = p.inputs.items; clock = p.clock; outputs = p.outputs.items; cells = p.cells.items; gaters = p.gaters.items; registers = p.registers.items } };
 }

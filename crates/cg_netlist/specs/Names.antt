@@ -1,0 +1,17 @@
+-- Tables of names.
+use Rattle.std.specs.Prelude.{ℕ, Bool, List, [], ◌∷◌, ◌++◌, map, if◌then◌else◌, nat_eq}
+use Rattle.std.specs.List.{list_any}
+use Rattle.std.specs.declared.vec.Vec.{Vec}
+use lib.Pointwise.{pointwise}
+
+-- the names, as lists of bytes
+abbrev pub bytes_of : {A : Type 0} → List (Vec ℕ A) → List (List ℕ)
+bytes_of names = map (λ name. name.items) names
+
+-- whether a name is among these
+abbrev pub is_known : List (List ℕ) → List ℕ → Bool
+is_known names name = list_any (pointwise nat_eq name) names
+
+-- the names with this one behind them, if it is not among them
+abbrev pub with_name : List (List ℕ) → List ℕ → List (List ℕ)
+with_name names name = if is_known names name then names else names ++ name ∷ []

@@ -2,7 +2,9 @@
 
 ghost use Rattle.std.specs.Prelude.{◌≡◌, [], ◌∷◌, MatchResult};
 
+use crate::blanks::Blanks;
 use crate::lines::{Line, Lines};
+use crate::words::Words;
 use std::marker::Model;
 
 /// A word with the number of its line.
@@ -32,15 +34,18 @@ impl<'a> Model for Tokens<'a> {
 }
 
 impl<'a> Tokens<'a> {
-    ghost use Rattle.std.specs.Prelude.{◌++◌};
-    ghost use Rattle.cg_text.specs.Spots.{spot_of, line_spots, spots_of};
+    ghost use Rattle.cg_text.specs.Spots.{spot_of, spots_of};
 
-    /// The words of a line and of the lines behind it.
-    pub fn new(line: Line<'a>, later: Lines<'a>) -> Self
-        ensures all { result.left ≡ line_spots line.entry ++ spots_of later.entry.left }
-        ensures end { result.end ≡ later.entry.end }
+    /// The words of these lines.
+    pub fn new(lines: Lines<'a>) -> Self
+        ensures all { result.left ≡ spots_of lines.entry.left }
+        ensures end { result.end ≡ lines.entry.end }
     {
-        Tokens { line, later }
+        let line = Line {
+            number: 0,
+            words: Words::new(&[], Blanks::Whitespace),
+        };
+        Tokens { line, later: lines }
     }
 
     /// The next word, or the number behind that of the last line.

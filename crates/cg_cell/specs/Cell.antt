@@ -1,19 +1,18 @@
 -- Cells of a library, and what is true of each.
-use Rattle.std.specs.Prelude.{◌≡◌, ℕ, ◌+◌, ◌≤◌, List, [], length, map, count_by, Bool, ◌||◌, IsTrue, Option, None, Some}
+use Rattle.std.specs.Prelude.{◌≡◌, ℕ, ◌+◌, ◌≤◌, List, [], length, map, count_by, ◌||◌, IsTrue, Option, None, Some}
 use Rattle.std.specs.List.{AllByRecursion}
-use Rattle.cg_cell.specs.Expr.{is_over}
 use Rattle.cg_cell.specs.Name.{are_distinct, has_no_equals}
+use Rattle.cg_cell.specs.Term.{Term, is_within}
 use Rattle.cg_cell.specs.Pins.{PinData, is_data, is_clock, is_enable, is_test, is_output, is_state}
 use Rattle.cg_cell.specs.declared.cell.CellKind.{CellKind}
 use Rattle.cg_cell.specs.declared.cell.CellKind.TheVariants.{Logic, Flop, Gater, Unusable}
-use Rattle.cg_cell.specs.declared.expr.Expr.{Expr}
 
 -- a cell: its name, what it is used as, its pins in order, and its function where it has one
 pub record CellData : Type 0 where
   pub name : List ℕ
   pub kind : CellKind
   pub pins : List PinData
-  pub function : Option Expr
+  pub function : Option Term
 
 -- the pins of a logic cell: inputs of the function, and one output
 pub record HasLogicPins (pins : List PinData) : Type 0 where
@@ -43,9 +42,9 @@ HasPins Unusable pins = pins ≡ []
 
 -- a logic cell has a function over its data pins, a register one over its data pins and its own bit behind
 -- them, and the other kinds have none
-abbrev pub HasFunction : CellKind → ℕ → Option Expr → Type 0
-HasFunction Logic inputs (Some function) = IsTrue (is_over inputs function)
-HasFunction Flop inputs (Some function) = IsTrue (is_over (inputs + 1) function)
+abbrev pub HasFunction : CellKind → ℕ → Option Term → Type 0
+HasFunction Logic inputs (Some function) = IsTrue (is_within inputs function)
+HasFunction Flop inputs (Some function) = IsTrue (is_within (inputs + 1) function)
 HasFunction Gater inputs None = Unit {0}
 HasFunction Unusable inputs None = Unit {0}
 HasFunction _ inputs _ = ⊥

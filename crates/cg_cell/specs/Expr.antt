@@ -1,7 +1,7 @@
 -- Expressions over numbered variables, as Liberty writes functions.
-use Rattle.std.specs.Prelude.{ℕ, Bool, true, false, ◌&&◌, ◌||◌, ◌==◌, nat_lt, List, [], ◌∷◌, map, slice_index_or, Option, Some, None}
-use Rattle.std.specs.List.{list_all, list_any}
+use Rattle.std.specs.Prelude.{ℕ, Bool, true, false, ◌==◌, nat_lt, List, map, slice_index_or, Option, Some, None}
 use Rattle.cg_cell.specs.Gates.{all_of, any_of, inverted, odd_of}
+use Rattle.cg_cell.specs.Term.{Term, Bit, Input, Both, Either, Differ, inverse_times, join_all}
 use Rattle.cg_cell.specs.declared.expr.Expr.{Expr, out-Expr}
 use Rattle.cg_cell.specs.declared.expr.Expr.TheOpen.{Expr-F, Constant, Variable, Not, And, Or, Xor}
 use Rattle.cg_cell.specs.declared.expr.Expr.TheFolds.{fold-Expr}
@@ -61,3 +61,19 @@ only_step _ = None
 
 abbrev pub only_variable : Expr → Option ℕ
 only_variable expr = only_step (out-Expr expr)
+
+-- a node as a term, from the terms of its operands: operands of one level join from the left
+abbrev pub term_step : Expr-F Term → Term
+term_step (Constant bit) = Bit bit
+term_step (Variable k) = Input k
+term_step (Not signs operand) = inverse_times signs operand.value
+term_step (And operands) = join_all Both (Bit true) operands.items
+term_step (Or operands) = join_all Either (Bit false) operands.items
+term_step (Xor operands) = join_all Differ (Bit false) operands.items
+
+-- an expression as plain data
+abbrev pub term_of : Expr → Term
+term_of = fold-Expr Term term_step
+
+abbrev pub terms_of : List Expr → List Term
+terms_of operands = map term_of operands

@@ -8,3 +8,5 @@ pub mod Expr
 pub mod Gates
 pub mod Name
 pub mod Pins
+pub mod Term
+pub mod TermCode

@@ -1,11 +1,13 @@
 //! Cells of a library: their kinds, their pins and what they compute.
 
-ghost use Rattle.std.specs.Prelude.{◌≡◌};
-ghost use Rattle.std.specs.Option.{option_copied};
+ghost use Rattle.std.specs.Prelude.{◌≡◌, IfOk};
+ghost use Rattle.std.specs.Option.{option_copied, option_map};
+ghost use Rattle.cg_cell.specs.Expr.{term_of};
 ghost use Rattle.cg_cell.specs.Cell.{IsCell};
 
 use crate::expr::Expr;
 use crate::name::Name;
+use std::alloc::{AllocError, Global};
 use std::marker::Model;
 
 /// What a cell is used as.
@@ -64,6 +66,18 @@ impl Model for Pin {
     ghost view = { λ pin. record { name = pin.name; role = pin.role } };
 }
 
+impl Clone for Pin {
+    ghost is_clone = { λ x y. y ≡ x };
+
+    fn clone(&self) -> Result<Pin, AllocError> {
+        let name = self.name.clone()?;
+        Ok(Pin {
+            name,
+            role: self.role,
+        })
+    }
+}
+
 impl Pin {
     /// A pin of the name, with the role.
     pub fn new(name: Name, role: Role) -> Pin
@@ -103,23 +117,63 @@ pub struct CellType {
 
 impl Model for CellType {
     ghost use Rattle.std.specs.Coded.{codes};
-    ghost use Rattle.cg_cell.specs.contracts.expr.Expr as e;
+    ghost use Rattle.std.specs.Option.{option_map};
     ghost use Rattle.cg_cell.specs.Cell.{CellData, IsCell};
+    ghost use Rattle.cg_cell.specs.Expr.{term_of};
+    ghost use Rattle.cg_cell.specs.TermCode.{term_code};
 
     ghost Value = { CellData };
 
-    ghost coded = { Prim.hlevel (codes, e.the_row.coded) };
+    ghost coded = { Prim.hlevel (codes, term_code) };
 
-    ghost view = { λ c. record { name = c.name; kind = c.kind; pins = c.pins.items; function = c.function } };
+    ghost view = { λ c. record { name = c.name; kind = c.kind; pins = c.pins.items; function = option_map term_of c.function } };
 
-    ghost invariant = { λ c. IsCell (record { name = c.name; kind = c.kind; pins = c.pins.items; function = c.function }) };
+    ghost invariant = { λ c. IsCell (record { name = c.name; kind = c.kind; pins = c.pins.items; function = option_map term_of c.function }) };
+}
+
+impl Clone for CellType {
+    ghost is_clone = { λ x y. y ≡ x };
+
+    fn clone(&self) -> Result<CellType, AllocError> {
+        let name = self.name.clone()?;
+        let pins = clone_pins(&self.pins, *self.pins.allocator())?;
+        let function = clone_function(&self.function)?;
+        Ok(CellType {
+            name,
+            kind: self.kind,
+            pins,
+            function,
+        })
+    }
+}
+
+/// Clones of the pins, in their order.
+fn clone_pins(pins: &[Pin], alloc: Global) -> Result<Vec<Pin>, AllocError>
+    ensures { IfOk result (λ copies. copies.items ≡ pins.now) }
+{
+    let mut copies = Vec::with_capacity(alloc, pins.len())?;
+    'pins: for pin in pins {
+        let copy = pin.clone()?;
+        copies.push(copy)?;
+    }
+    Ok(copies)
+}
+
+/// A clone of the function, where there is one.
+fn clone_function(function: &Option<Expr>) -> Result<Option<Expr>, AllocError>
+    ensures { IfOk result (λ copy. option_map term_of copy ≡ option_map term_of function.now) }
+{
+    match function {
+        None => Ok(None),
+        Some(function) => Ok(Some(function.clone()?)),
+    }
 }
 
 impl CellType {
     /// A cell of these parts, which meet the conditions of its kind.
     pub fn new(name: Name, kind: CellKind, pins: Vec<Pin>, function: Option<Expr>) -> CellType
-        requires { IsCell (record { name = name; kind = kind; pins = pins.items; function = function }) }
-        ensures { result ≡ record { name = name; kind = kind; pins = pins.items; function = function } }
+        requires { IsCell (record { name = name; kind = kind; pins = pins.items; function = option_map term_of function }) }
+        ensures { result ≡ record { name = name; kind = kind; pins = pins.items; function = option_map term_of function } }
     {
         CellType {
             name,
@@ -154,7 +208,7 @@ impl CellType {
     /// The function of a Logic cell over its Data pins in pin order, that of a Flop over its Data pins
     /// followed by its own bit, and None for the other kinds.
     pub fn function(&self) -> Option<&Expr>
-        ensures function { option_copied result ≡ self.now.function }
+        ensures function { option_map term_of (option_copied result) ≡ self.now.function }
         ensures cell { IsCell self.now }
     {
         self.function.as_ref()

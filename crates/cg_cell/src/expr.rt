@@ -1,8 +1,10 @@
 //! Expressions: functions as Liberty writes them, over numbered variables.
 
-ghost use Rattle.std.specs.Prelude.{◌≡◌, List, Bool, IsTrue, length, Option, Some, None};
-ghost use Rattle.cg_cell.specs.Expr.{all_over, any_names, expr_value, is_over, names_variable, only_variable, values_of};
+ghost use Rattle.std.specs.Prelude.{◌≡◌, List, Bool, IsTrue, length, Option, Some, None, IfOk};
+ghost use Rattle.cg_cell.specs.Expr.{all_over, any_names, expr_value, is_over, names_variable, only_variable, term_of, terms_of, values_of};
 ghost use Rattle.cg_cell.specs.Gates.{all_of, any_of, differ, inverted, odd_of};
+
+use std::alloc::{AllocError, Global};
 
 /// An expression over numbered variables.
 ///
@@ -28,6 +30,39 @@ pub enum Expr {
 
     /// 1 where an odd number of operands is 1.
     Xor(Vec<Expr>),
+}
+
+impl Clone for Expr {
+    ghost is_clone = { λ x y. term_of y ≡ term_of x };
+
+    #[cycle(clone)]
+    fn clone(&self) -> Result<Expr, AllocError> {
+        match self {
+            Expr::Constant(bit) => Ok(Expr::Constant(*bit)),
+            Expr::Variable(variable) => Ok(Expr::Variable(*variable)),
+            Expr::Not(signs, operand) => {
+                let copy = (**operand).clone()?;
+                let boxed = Box::new(*Box::allocator(operand), copy)?;
+                Ok(Expr::Not(*signs, boxed))
+            }
+            Expr::And(operands) => Ok(Expr::And(clone_all(operands, *operands.allocator())?)),
+            Expr::Or(operands) => Ok(Expr::Or(clone_all(operands, *operands.allocator())?)),
+            Expr::Xor(operands) => Ok(Expr::Xor(clone_all(operands, *operands.allocator())?)),
+        }
+    }
+}
+
+/// Clones of the operands, in their order.
+#[cycle(clone)]
+fn clone_all(operands: &[Expr], alloc: Global) -> Result<Vec<Expr>, AllocError>
+    ensures { IfOk result (λ copies. terms_of copies.items ≡ terms_of operands.now) }
+{
+    let mut copies = Vec::with_capacity(alloc, operands.len())?;
+    'operands: for operand in operands {
+        let copy = operand.clone()?;
+        copies.push(copy)?;
+    }
+    Ok(copies)
 }
 
 impl Expr {

@@ -24,6 +24,15 @@ impl Model for Name {
     ghost invariant = { λ n. IsTrue (is_name n.bytes.items) };
 }
 
+impl Clone for Name {
+    ghost is_clone = { λ x y. y ≡ x };
+
+    fn clone(&self) -> Result<Name, AllocError> {
+        let bytes = self.bytes.clone()?;
+        Ok(Name { bytes })
+    }
+}
+
 impl Name {
     /// Whether the bytes are a name.
     pub fn is_name(bytes: &[u8]) -> bool

@@ -1,4 +1,4 @@
-use Rattle.std.proofs.Common.{◌≡◌, ◌%◌, sym, arith}
+use Rattle.std.proofs.Common.{sym, arith}
 use Rattle.cg_cell.proofs.Exprs.{parity}
 use Rattle.cg_cell.proofs.expr.invert.Goals as goal
 

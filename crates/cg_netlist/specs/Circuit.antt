@@ -3,6 +3,7 @@
 use Rattle.std.specs.Prelude.{ℕ, Bool, not, List, ◌++◌, map, Option, nat_eq}
 use Rattle.std.specs.List.{list_any, filter, flat_map}
 use Rattle.std.specs.Option.{option_to_list}
+use Rattle.cg_cell.specs.Cell.{CellData}
 use Rattle.cg_netlist.specs.declared.parts.LogicFunction.{LogicFunction}
 use Rattle.cg_netlist.specs.declared.parts.RegisterKind.{RegisterKind}
 
@@ -13,11 +14,12 @@ pub record LogicCell : Type 0 where
   pub function : LogicFunction
 
 -- a gating cell: a latch that follows the enable net while the clock net is low, and an output net that is
--- the clock net wherever the latch is 1
+-- the clock net wherever the latch is 1. It is a placed cell of a library.
 pub record GatingCell : Type 0 where
   pub clock : ℕ
   pub enable : ℕ
   pub output : ℕ
+  pub cell : CellData
 
 -- a register: it takes a function of its input nets and its own bit where its clock net rises. Each output net
 -- shows its bit, or the inverse where the truth value beside it is true; `pins` has for each output the place of

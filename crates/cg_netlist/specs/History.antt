@@ -1,11 +1,11 @@
 -- What a netlist does over time: waveforms, and the histories that are lawful over them. Delays are zero: within a
 -- moment everything settles, and a rising clock net is the only thing that moves a register.
-use Rattle.std.specs.Prelude.{◌≡◌, ℕ, ◌+◌, Bool, false, not, ◌&&◌, if◌then◌else◌, List, [], ◌∷◌, map, length, slice_index_or, replicate, Option, None, Some}
+use Rattle.std.specs.Prelude.{◌≡◌, ℕ, ◌+◌, Bool, false, not, ◌&&◌, if◌then◌else◌, List, [], ◌∷◌, ◌++◌, map, length, slice_index_or, replicate, Option, None, Some}
 use Rattle.std.specs.List.{count_by}
 use Rattle.cg_netlist.specs.declared.parts.RegisterKind.{RegisterKind}
-use Rattle.cg_netlist.specs.declared.parts.RegisterKind.TheVariants.{Plain}
+use Rattle.cg_netlist.specs.declared.parts.RegisterKind.TheVariants.{Plain, Flop}
 use Rattle.cg_netlist.specs.Circuit.{Circuit, GatingCell, RegisterCell, data_inputs}
-use Rattle.cg_netlist.specs.Moment.{Settles, bit, values_at, zip_with}
+use Rattle.cg_netlist.specs.Moment.{Settles, bit, cell_value, values_at, zip_with}
 
 -- one moment of a waveform: the clock's bit, and a bit for each data input
 pub record Tick : Type 0 where
@@ -40,9 +40,11 @@ pub record Moment : Type 0 where
 abbrev pub rises : List Bool → List Bool → RegisterCell → Bool
 rises before now r = not (bit before r.clock) && bit now r.clock
 
--- the function of a register, at bits of its inputs and its own bit. Of a plain register it is the input.
+-- the function of a register, at bits of its inputs and its own bit: of a plain register the input, of a
+-- library's register the cell's function, whose variables are the inputs and then the own bit
 abbrev pub next_value : RegisterKind → List Bool → Bool → Bool
 next_value Plain bits own = slice_index_or bits 0 false
+next_value (Flop cell) bits own = cell_value cell (bits ++ own ∷ [])
 
 -- a register's bit after a moment with these nets, where it had this bit: its function where it rises, and else what it had
 abbrev pub next_bit : List Bool → List Bool → RegisterCell → Bool → Bool

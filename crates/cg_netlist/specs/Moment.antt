@@ -1,9 +1,12 @@
 -- The bits of a netlist's nets at one moment.
 use Rattle.std.specs.Prelude.{◌≡◌, ℕ, Bool, false, not, if◌then◌else◌, List, [], ◌∷◌, ◌++◌, map, length, slice_get, slice_index_or, Some}
 use Rattle.std.specs.List.{filter_map}
+use Rattle.std.specs.Option.{option_map_or}
+use Rattle.cg_cell.specs.Cell.{CellData}
 use Rattle.cg_cell.specs.Cover.{cover_value}
+use Rattle.cg_cell.specs.Expr.{expr_value}
 use Rattle.cg_netlist.specs.declared.parts.LogicFunction.{LogicFunction}
-use Rattle.cg_netlist.specs.declared.parts.LogicFunction.TheVariants.{Cover}
+use Rattle.cg_netlist.specs.declared.parts.LogicFunction.TheVariants.{Cover, Cell}
 use Rattle.cg_netlist.specs.Circuit.{Circuit, LogicCell, RegisterCell, data_inputs, gate_nets, register_nets}
 
 -- what is kept for each of these nets, in their order, in a list with a place for each net
@@ -20,9 +23,14 @@ zip_with f [] bs = []
 zip_with f (a ∷ as') [] = []
 zip_with f (a ∷ as') (b ∷ bs) = f a b ∷ zip_with f as' bs
 
+-- the value of a placed cell's function, which a cell with pins for it has, at bits of its variables
+abbrev pub cell_value : CellData → List Bool → Bool
+cell_value cell bits = option_map_or (expr_value bits) cell.function false
+
 -- the value of a logic cell's function at bits of its inputs
 abbrev pub function_value : LogicFunction → List Bool → Bool
 function_value (Cover cover) bits = cover_value cover bits
+function_value (Cell cell) bits = cell_value cell bits
 
 -- what a register with this bit shows at its output nets: the bit, or its inverse
 abbrev pub shown_bits : RegisterCell → Bool → List Bool

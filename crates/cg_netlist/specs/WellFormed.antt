@@ -1,21 +1,33 @@
 -- When a netlist is well formed.
-use Rattle.std.specs.Prelude.{◌≡◌, ◌≢◌, ℕ, ◌<◌, ◌≤◌, true, false, ◌⊎◌, IsTrue, List, map, length, slice_get, slice_index, Some, nat_eq, [], ◌∷◌}
-use Rattle.std.specs.List.{All, AllPairs, IsDistinct, range_with_len}
+use Rattle.std.specs.Prelude.{◌≡◌, ◌≢◌, ℕ, ◌<◌, ◌≤◌, Bool, if◌then◌else◌, true, false, ◌⊎◌, IsTrue, List, map, length, slice_get, slice_index, Some, nat_eq, [], ◌∷◌}
+use Rattle.std.specs.List.{All, AllPairs, AllZip, IsDistinct, count_by, range_with_len}
+use Rattle.std.specs.List.Sorted.{IsStrictlyIncreasing}
 use Rattle.cg_cell.specs.Name.{is_name}
-use Rattle.cg_cell.specs.Cover.{Fits}
+use Rattle.cg_cell.specs.Cell.{IsCell}
+use Rattle.cg_cell.specs.Cover.{Fits, IsCover}
+use Rattle.cg_cell.specs.Pins.{PinData, is_data}
+use Rattle.cg_cell.specs.declared.cell.CellKind.TheVariants.{Logic, Flop as FlopKind, Gater as GaterKind}
+use Rattle.cg_cell.specs.declared.cell.Role.TheVariants.{State, StateBar}
 use Rattle.cg_netlist.specs.declared.parts.LogicFunction.{LogicFunction}
-use Rattle.cg_netlist.specs.declared.parts.LogicFunction.TheVariants.{Cover}
+use Rattle.cg_netlist.specs.declared.parts.LogicFunction.TheVariants.{Cover, Cell}
 use Rattle.cg_netlist.specs.declared.parts.RegisterKind.{RegisterKind}
-use Rattle.cg_netlist.specs.declared.parts.RegisterKind.TheVariants.{Plain}
+use Rattle.cg_netlist.specs.declared.parts.RegisterKind.TheVariants.{Plain, Flop}
 use Rattle.cg_netlist.specs.Circuit.{Circuit, LogicCell, GatingCell, RegisterCell, is_in, drivers, clock_nets, used_nets, net_order}
 
--- a function is one of this many inputs
+-- a function is one of this many inputs: a row of a cover has a place for each, a logic cell a data pin
 abbrev pub IsOver : ℕ → LogicFunction → Type 0
-IsOver inputs (Cover cover) = Fits inputs cover
+IsOver inputs (Cover cover) = IsCover cover × Fits inputs cover
+IsOver inputs (Cell cell) = IsCell cell × (cell.kind ≡ Logic) × (count_by is_data cell.pins ≡ inputs)
 
--- a plain register has one input and one output, which shows its bit and not the inverse
+-- an output shows the inverse of a register's bit exactly where its pin is an output of the inverse
+abbrev pub ShowsAsPin : List PinData → ℕ × Bool → ℕ → Type 0
+ShowsAsPin pins (net, inverted) place = (pin : PinData) × (slice_get pins place ≡ Some pin) × (pin.role ≡ (if inverted then StateBar else State))
+
+-- a plain register has one input and one output, which shows its bit and not the inverse; a register of a library
+-- has an input for each data pin, and outputs at one or more of its output pins, in pin order
 abbrev pub FitsKind : RegisterKind → RegisterCell → Type 0
 FitsKind Plain r = (length r.inputs ≡ 1) × (map (λ output. output.1) r.outputs ≡ false ∷ []) × (r.pins ≡ 0 ∷ [])
+FitsKind (Flop cell) r = IsCell cell × (cell.kind ≡ FlopKind) × (count_by is_data cell.pins ≡ length r.inputs) × (1 ≤ length r.outputs) × AllZip (ShowsAsPin cell.pins) r.outputs r.pins × IsStrictlyIncreasing r.pins
 
 -- a register has the inputs and outputs of its kind, a pin for each output, and an init from 0 to 3
 pub record RegisterFits (r : RegisterCell) : Type 0 where
@@ -49,6 +61,7 @@ pub record IsWellFormed (c : Circuit) : Type 0 where
   -- each part has as many inputs and outputs as it is made for, and each net that is used is there
   pub functions : All (λ cell. IsOver (length cell.inputs) cell.function) c.cells
   pub fitting : All RegisterFits c.registers
+  pub gating : All (λ gater. IsCell gater.cell × (gater.cell.kind ≡ GaterKind)) c.gaters
   pub used : All (λ net. net < length c.names) (used_nets c)
   -- every net has exactly one driver
   pub driven : IsDriven c

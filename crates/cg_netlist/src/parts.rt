@@ -4,6 +4,7 @@ ghost use Rattle.std.specs.Prelude.{◌≡◌};
 
 use crate::id::NetId;
 use crate::names::NetNames;
+use cg_cell::cell::CellType;
 use cg_cell::cover::Cover;
 use cg_cell::name::Name;
 use std::marker::Model;
@@ -13,6 +14,9 @@ use std::marker::Model;
 pub enum LogicFunction {
     /// The rows of a `.names` line.
     Cover(Cover),
+
+    /// A placed cell of a library, of kind Logic: its inputs are those of its Data pins in pin order.
+    Cell(CellType),
 }
 
 /// What a register is made of.
@@ -20,6 +24,9 @@ pub enum LogicFunction {
 pub enum RegisterKind {
     /// A `.latch` line: the next bit is the bit of the one input.
     Plain,
+
+    /// A placed cell of a library, of kind Flop: its inputs are those of its Data pins in pin order.
+    Flop(CellType),
 }
 
 /// A logic cell.
@@ -31,9 +38,13 @@ pub(crate) struct Logic {
 }
 
 impl Model for Logic {
+    ghost use Rattle.std.specs.Coded.{codes};
+    ghost use Rattle.cg_cell.specs.contracts.expr.Expr as e;
     ghost use Rattle.cg_netlist.specs.Circuit.{LogicCell};
 
     ghost Value = { LogicCell };
+
+    ghost coded = { Prim.hlevel (codes, e.the_row.coded) };
 
     ghost view = { λ c. record { inputs = c.inputs.items; output = c.output; function = c.function } };
 }
@@ -44,14 +55,19 @@ pub(crate) struct Gater {
     pub(crate) clock: NetId,
     pub(crate) enable: NetId,
     pub(crate) output: NetId,
+    pub(crate) cell: CellType,
 }
 
 impl Model for Gater {
+    ghost use Rattle.std.specs.Coded.{codes};
+    ghost use Rattle.cg_cell.specs.contracts.expr.Expr as e;
     ghost use Rattle.cg_netlist.specs.Circuit.{GatingCell};
 
     ghost Value = { GatingCell };
 
-    ghost view = { λ g. record { clock = g.clock; enable = g.enable; output = g.output } };
+    ghost coded = { Prim.hlevel (codes, e.the_row.coded) };
+
+    ghost view = { λ g. record { clock = g.clock; enable = g.enable; output = g.output; cell = g.cell } };
 }
 
 /// A register. An output is a net and whether it shows the inverse of the register's bit; `pins` has for each
@@ -67,9 +83,13 @@ pub(crate) struct Register {
 }
 
 impl Model for Register {
+    ghost use Rattle.std.specs.Coded.{codes};
+    ghost use Rattle.cg_cell.specs.contracts.expr.Expr as e;
     ghost use Rattle.cg_netlist.specs.Circuit.{RegisterCell};
 
     ghost Value = { RegisterCell };
+
+    ghost coded = { Prim.hlevel (codes, e.the_row.coded) };
 
     ghost view = { λ r. record { inputs = r.inputs.items; outputs = r.outputs.items; pins = r.pins.items; clock = r.clock; kind = r.kind; init = r.init } };
 }
@@ -88,9 +108,13 @@ pub(crate) struct Parts {
 }
 
 impl Model for Parts {
+    ghost use Rattle.std.specs.Coded.{codes};
+    ghost use Rattle.cg_cell.specs.contracts.expr.Expr as e;
     ghost use Rattle.cg_netlist.specs.Circuit.{Circuit};
 
     ghost Value = { Circuit };
+
+    ghost coded = { Prim.hlevel (codes, e.the_row.coded) };
 
     ghost view = { λ p. record { model = p.model; names = p.names; inputs = p.inputs.items; clock = p.clock; outputs = p.outputs.items; cells = p.cells.items; gaters = p.gaters.items; registers = p.registers.items } };
 }

@@ -1,3 +1,4 @@
 pub mod Building
 pub mod Covers
 pub mod Exprs
+pub mod Operations

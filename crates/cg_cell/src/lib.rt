@@ -11,9 +11,11 @@
 //! - [`cover`]: a function as rows of given bits;
 //! - [`expr`]: a function as an expression over numbered variables;
 //! - [`cell`]: cells of a library, with their kind, their pins and their function;
-//! - [`domain`]: values that stand for bits, and what may be done with them.
+//! - [`domain`]: values that stand for bits, and what may be done with them;
+//! - [`build`]: what is built from them, as the exclusive or, in a fixed order.
 #![tactic(auto)]
 
+pub mod build;
 pub mod cell;
 pub mod cover;
 pub mod domain;

@@ -1,6 +1,6 @@
 -- How a domain's operations are built from one another, step by step and in order: a run lists the
 -- calls of `and`, with the domain and the operands at each, and ends in an answer and a domain.
-use Rattle.std.specs.Prelude.{if◌then◌else◌, not, ◌≡◌, ◌⊎◌, ℕ, List, [], ◌∷◌, ◌++◌, Bool}
+use Rattle.std.specs.Prelude.{◌≡◌, ◌⊎◌, ℕ, List, [], ◌∷◌, ◌++◌, Bool}
 use Rattle.cg_cell.specs.Domain.{Made, Ops, Seen, Stands, after}
 
 -- A call of `and`: the domain before it, and its operands.
@@ -43,10 +43,6 @@ build_or o a b s =
     chain (build_not o a s) (λ na t.
     chain (build_not o b t) (λ nb u.
     chain (build_and o na nb u) (build_not o)))
-
--- The bit of an exclusive or.
-abbrev pub exclusive_or : Bool → Bool → Bool
-exclusive_or a b = if a then not b else b
 
 -- a exclusive-or b: or (and a (not b)) (and (not a) b), the left side first
 abbrev pub build_xor : Ops → ℕ → ℕ → Seen → Run

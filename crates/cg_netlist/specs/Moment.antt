@@ -4,7 +4,7 @@ use Rattle.std.specs.List.{filter_map}
 use Rattle.std.specs.Option.{option_map_or}
 use Rattle.cg_cell.specs.Cell.{CellData}
 use Rattle.cg_cell.specs.Cover.{cover_value}
-use Rattle.cg_cell.specs.Expr.{expr_value}
+use Rattle.cg_cell.specs.Term.{term_value}
 use Rattle.cg_netlist.specs.declared.parts.LogicFunction.{LogicFunction}
 use Rattle.cg_netlist.specs.declared.parts.LogicFunction.TheVariants.{Cover, Cell}
 use Rattle.cg_netlist.specs.Circuit.{Circuit, LogicCell, RegisterCell, data_inputs, gate_nets, register_nets}
@@ -25,7 +25,7 @@ zip_with f (a ∷ as') (b ∷ bs) = f a b ∷ zip_with f as' bs
 
 -- the value of a placed cell's function, which a cell with pins for it has, at bits of its variables
 abbrev pub cell_value : CellData → List Bool → Bool
-cell_value cell bits = option_map_or (expr_value bits) cell.function false
+cell_value cell bits = option_map_or (term_value bits) cell.function false
 
 -- the value of a logic cell's function at bits of its inputs
 abbrev pub function_value : LogicFunction → List Bool → Bool

@@ -39,12 +39,12 @@ pub(crate) struct Logic {
 
 impl Model for Logic {
     ghost use Rattle.std.specs.Coded.{codes};
-    ghost use Rattle.cg_cell.specs.contracts.expr.Expr as e;
+    ghost use Rattle.cg_cell.specs.TermCode.{term_code};
     ghost use Rattle.cg_netlist.specs.Circuit.{LogicCell};
 
     ghost Value = { LogicCell };
 
-    ghost coded = { Prim.hlevel (codes, e.the_row.coded) };
+    ghost coded = { Prim.hlevel (codes, term_code) };
 
     ghost view = { λ c. record { inputs = c.inputs.items; output = c.output; function = c.function } };
 }
@@ -60,12 +60,12 @@ pub(crate) struct Gater {
 
 impl Model for Gater {
     ghost use Rattle.std.specs.Coded.{codes};
-    ghost use Rattle.cg_cell.specs.contracts.expr.Expr as e;
+    ghost use Rattle.cg_cell.specs.TermCode.{term_code};
     ghost use Rattle.cg_netlist.specs.Circuit.{GatingCell};
 
     ghost Value = { GatingCell };
 
-    ghost coded = { Prim.hlevel (codes, e.the_row.coded) };
+    ghost coded = { Prim.hlevel (codes, term_code) };
 
     ghost view = { λ g. record { clock = g.clock; enable = g.enable; output = g.output; cell = g.cell } };
 }
@@ -84,12 +84,12 @@ pub(crate) struct Register {
 
 impl Model for Register {
     ghost use Rattle.std.specs.Coded.{codes};
-    ghost use Rattle.cg_cell.specs.contracts.expr.Expr as e;
+    ghost use Rattle.cg_cell.specs.TermCode.{term_code};
     ghost use Rattle.cg_netlist.specs.Circuit.{RegisterCell};
 
     ghost Value = { RegisterCell };
 
-    ghost coded = { Prim.hlevel (codes, e.the_row.coded) };
+    ghost coded = { Prim.hlevel (codes, term_code) };
 
     ghost view = { λ r. record { inputs = r.inputs.items; outputs = r.outputs.items; pins = r.pins.items; clock = r.clock; kind = r.kind; init = r.init } };
 }
@@ -109,12 +109,12 @@ pub(crate) struct Parts {
 
 impl Model for Parts {
     ghost use Rattle.std.specs.Coded.{codes};
-    ghost use Rattle.cg_cell.specs.contracts.expr.Expr as e;
+    ghost use Rattle.cg_cell.specs.TermCode.{term_code};
     ghost use Rattle.cg_netlist.specs.Circuit.{Circuit};
 
     ghost Value = { Circuit };
 
-    ghost coded = { Prim.hlevel (codes, e.the_row.coded) };
+    ghost coded = { Prim.hlevel (codes, term_code) };
 
     ghost view = { λ p. record { model = p.model; names = p.names; inputs = p.inputs.items; clock = p.clock; outputs = p.outputs.items; cells = p.cells.items; gaters = p.gaters.items; registers = p.registers.items } };
 }

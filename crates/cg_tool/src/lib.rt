@@ -1,0 +1,22 @@
+//! The top call of `clockgate`.
+//!
+//! Words of a command line and a shelf go in. A status comes out, and what the words ask for was loaded from
+//! the shelf, stored there and said, or one line of complaint tells why not.
+//!
+//! The modules, in the order in which data flows through them:
+//!
+//! - [`job`]: the words, read as what is to be done and the files that it is done with;
+//! - [`loading`]: a file's bytes from the shelf;
+//! - [`writing`]: what a job puts out, written to the shelf;
+//! - [`refusal`]: why a job was not done, and its line of complaint;
+//! - [`status`]: how a run ends.
+#![tactic(auto)]
+
+pub mod job;
+mod loading;
+mod output;
+pub mod refusal;
+pub mod status;
+mod writing;
+
+pub use status::Status;

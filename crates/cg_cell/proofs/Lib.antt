@@ -2,3 +2,4 @@ pub mod Building
 pub mod Covers
 pub mod Exprs
 pub mod Operations
+pub mod Terms

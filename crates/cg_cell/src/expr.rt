@@ -2,6 +2,7 @@
 
 ghost use Rattle.std.specs.Prelude.{◌≡◌, List, Bool, IsTrue, length, Option, Some, None, IfOk};
 ghost use Rattle.cg_cell.specs.Expr.{all_over, any_names, expr_value, is_over, names_variable, only_variable, term_of, terms_of, values_of};
+ghost use Rattle.cg_cell.specs.Term.{has_input, lone_input, term_value};
 ghost use Rattle.cg_cell.specs.Gates.{all_of, any_of, differ, inverted, odd_of};
 
 use std::alloc::{AllocError, Global};
@@ -67,15 +68,24 @@ fn clone_all(operands: &[Expr], alloc: Global) -> Result<Vec<Expr>, AllocError>
 
 impl Expr {
     /// The bit of the expression, where `bits` has the bit of each of its variables.
-    #[cycle(value)]
     pub fn value(&self, bits: &[bool]) -> bool
+        requires { IsTrue (is_over (length bits.now) self.now) }
+        ensures value { result ≡ expr_value bits.now self.now }
+        ensures term { result ≡ term_value bits.now (term_of self.now) }
+    {
+        self.bit(bits)
+    }
+
+    /// The bit of a node, from the bits of its operands.
+    #[cycle(value)]
+    fn bit(&self, bits: &[bool]) -> bool
         requires { IsTrue (is_over (length bits.now) self.now) }
         ensures { result ≡ expr_value bits.now self.now }
     {
         match self {
             Expr::Constant(bit) => *bit,
             Expr::Variable(k) => bits[*k as usize],
-            Expr::Not(signs, operand) => invert(*signs, operand.value(bits)),
+            Expr::Not(signs, operand) => invert(*signs, operand.bit(bits)),
             Expr::And(operands) => all_one(operands, bits),
             Expr::Or(operands) => any_one(operands, bits),
             Expr::Xor(operands) => odd_one(operands, bits),
@@ -83,14 +93,22 @@ impl Expr {
     }
 
     /// Whether variable `k` stands in the expression.
-    #[cycle(names)]
     pub fn names(&self, k: u32) -> bool
+        ensures names { result ≡ names_variable k self.now }
+        ensures term { result ≡ has_input k (term_of self.now) }
+    {
+        self.holds(k)
+    }
+
+    /// Whether the variable stands in a node, or in one of its operands.
+    #[cycle(names)]
+    fn holds(&self, k: u32) -> bool
         ensures { result ≡ names_variable k self.now }
     {
         match self {
             Expr::Constant(_) => false,
             Expr::Variable(variable) => *variable == k,
-            Expr::Not(_, operand) => operand.names(k),
+            Expr::Not(_, operand) => operand.holds(k),
             Expr::And(operands) => any_operand_names(operands, k),
             Expr::Or(operands) => any_operand_names(operands, k),
             Expr::Xor(operands) => any_operand_names(operands, k),
@@ -129,7 +147,7 @@ fn all_one(operands: &[Expr], bits: &[bool]) -> bool
     ensures { result ≡ all_of (values_of bits.now operands.now) }
 {
     'operands: for operand in operands {
-        if !operand.value(bits) {
+        if !operand.bit(bits) {
             return false;
         }
     }
@@ -143,7 +161,7 @@ fn any_one(operands: &[Expr], bits: &[bool]) -> bool
     ensures { result ≡ any_of (values_of bits.now operands.now) }
 {
     'operands: for operand in operands {
-        if operand.value(bits) {
+        if operand.bit(bits) {
             return true;
         }
     }
@@ -158,7 +176,7 @@ fn odd_one(operands: &[Expr], bits: &[bool]) -> bool
 {
     let mut odd = false;
     'operands: for operand in operands {
-        odd = differ(odd, operand.value(bits));
+        odd = differ(odd, operand.bit(bits));
     }
     odd
 }
@@ -169,7 +187,7 @@ fn any_operand_names(operands: &[Expr], k: u32) -> bool
     ensures { result ≡ any_names k operands.now }
 {
     'operands: for operand in operands {
-        if operand.names(k) {
+        if operand.holds(k) {
             return true;
         }
     }

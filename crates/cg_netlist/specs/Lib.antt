@@ -5,7 +5,9 @@ pub mod History
 pub mod LogicalLines
 pub mod Moment
 pub mod Names
+pub mod Netlist
 pub mod PlainText
 pub mod Says
 pub mod Statements
+pub mod View
 pub mod WellFormed

@@ -8,10 +8,14 @@
 //! - `id`: the numbers of nets, logic cells, registers and gating cells.
 //! - `names`: the names of nets in their order.
 //! - `parts`: logic cells, gating cells and registers as a netlist keeps them.
+//! - `view`: what a netlist shows of one of its parts.
+//! - `netlist`: well-formed netlists, and what they answer.
 //! - `ranks`: how deep each logic cell lies under the registers and inputs, and which ones lie on a cycle.
 #![tactic(auto)]
 
 pub mod id;
 mod names;
+pub mod netlist;
 pub mod parts;
 mod ranks;
+pub mod view;

@@ -1,0 +1,6 @@
+use Rattle.std.proofs.Common.{arith}
+use Rattle.cg_netlist.proofs.OrderLemmas.{gaters_within}
+use Rattle.cg_netlist.proofs.netlist.Netlist.gaters.Goals as goal
+
+pub overflow_cast-result : goal.overflow_cast-result
+overflow_cast-result c = grind (arith, gaters_within c.self.inside.parts c.self.invariant.netlist.in_order, c.self.invariant.netlist.nets)

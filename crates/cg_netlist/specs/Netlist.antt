@@ -1,0 +1,24 @@
+-- What is true of every netlist that the program holds.
+use Rattle.std.specs.Prelude.{◌≡◌, ℕ, ◌<◌, ◌≤◌, ◌^◌, max, List, [], ◌∷◌, length}
+use Rattle.std.specs.List.{All}
+use Rattle.cg_netlist.specs.Circuit.{Circuit, LogicCell, data_inputs}
+use Rattle.cg_netlist.specs.WellFormed.{IsWellFormed, IsInNetOrder}
+
+-- the greatest number of inputs of a logic cell
+abbrev pub widest_of : List LogicCell → ℕ
+widest_of [] = 0
+widest_of (cell ∷ cells) = max (length cell.inputs) (widest_of cells)
+
+-- well formed, in net order, and within the limits on nets, on registers and on the inputs of a logic cell
+pub record IsNetlist (c : Circuit) : Type 0 where
+  pub well_formed : IsWellFormed c
+  pub in_order : IsInNetOrder c
+  pub nets : length c.names ≤ 1048576
+  pub registers : length c.registers ≤ 65536
+  pub inputs : All (λ cell. length cell.inputs < 2 ^ 32) c.cells
+
+-- a netlist, and what is kept beside it: the data inputs and the greatest number of inputs
+pub record IsKept (c : Circuit) (kept : List ℕ) (greatest : ℕ) : Type 0 where
+  pub netlist : IsNetlist c
+  pub inputs : kept ≡ data_inputs c
+  pub widest : greatest ≡ widest_of c.cells

@@ -1,11 +1,10 @@
 -- An expression and its term say the same.
-use Rattle.std.proofs.Common.{◌≡◌, ℕ, zero, suc, Bool, true, false, not, ◌&&◌, ◌||◌, List, [], ◌∷◌, map, refl, ap, sym, ◌∙◌, subst, IsTrue}
+use Rattle.std.proofs.Common.{◌≡◌, ℕ, zero, suc, Bool, true, false, not, ◌&&◌, ◌||◌, List, [], ◌∷◌, map, refl, ap, sym, ◌∙◌, subst}
 use Rattle.cg_cell.specs.Gates.{all_of, any_of, differ, inverted, odd_of}
-use Rattle.cg_cell.specs.Term.{Term, Bit, Input, Inverse, Both, Either, Differ, has_input, inverse_times, is_within, join_all, join_left, term_value}
+use Rattle.cg_cell.specs.Term.{Term, Bit, Both, Either, Differ, has_input, inverse_times, is_within, join_all, join_left, term_value}
 use Rattle.cg_cell.specs.Expr.{expr_value, is_over, names_step, names_variable, over_step, term_of, term_step, value_step}
 use Rattle.cg_cell.specs.declared.expr.Expr.{Expr}
 use Rattle.cg_cell.specs.declared.expr.Expr.TheOpen.{Expr-F, Constant, Variable, Not, And, Or, Xor}
-use Rattle.cg_cell.specs.declared.expr.Expr.TheViews.{roll-Expr}
 use Rattle.cg_cell.specs.declared.expr.Expr.TheFolds.{fold-roll-Expr, ind-Expr, map-Expr}
 
 abbrev from_left : (Bool → Bool → Bool) → Bool → List Bool → Bool
@@ -14,7 +13,7 @@ from_left f a (b ∷ bs) = from_left f (f a b) bs
 
 -- a test that goes down both operands of an operator goes down those of a level
 join_left-test : (test : Term → Bool) (operator : Term → Term → Term) (f : Bool → Bool → Bool) → ((s t : Term) → test (operator s t) ≡ f (test s) (test t))
-  → (t : Term) (ts : List Term) → test (join_left operator t ts) ≡ from_left f (test t) (map test ts)
+    → (t : Term) (ts : List Term) → test (join_left operator t ts) ≡ from_left f (test t) (map test ts)
 join_left-test test operator f down t [] = refl
 join_left-test test operator f down t (u ∷ us) = join_left-test test operator f down (operator t u) us ∙ ap (λ a. from_left f a (map test us)) (down t u)
 
@@ -60,17 +59,17 @@ from_left-odd a [] = sym (differ_false a)
 from_left-odd a (b ∷ bs) = from_left-odd (differ a b) bs ∙ differ_assoc a b (odd_of bs)
 
 join-all : (test : Term → Bool) (operator : Term → Term → Term) (none : Term) → test none ≡ true → ((s t : Term) → test (operator s t) ≡ (test s && test t))
-  → (ts : List Term) → test (join_all operator none ts) ≡ all_of (map test ts)
+    → (ts : List Term) → test (join_all operator none ts) ≡ all_of (map test ts)
 join-all test operator none e down [] = e
 join-all test operator none e down (t ∷ ts) = join_left-test test operator (λ x y. x && y) down t ts ∙ from_left-all (test t) (map test ts)
 
 join-any : (test : Term → Bool) (operator : Term → Term → Term) (none : Term) → test none ≡ false → ((s t : Term) → test (operator s t) ≡ (test s || test t))
-  → (ts : List Term) → test (join_all operator none ts) ≡ any_of (map test ts)
+    → (ts : List Term) → test (join_all operator none ts) ≡ any_of (map test ts)
 join-any test operator none e down [] = e
 join-any test operator none e down (t ∷ ts) = join_left-test test operator (λ x y. x || y) down t ts ∙ from_left-any (test t) (map test ts)
 
 join-odd : (test : Term → Bool) (operator : Term → Term → Term) (none : Term) → test none ≡ false → ((s t : Term) → test (operator s t) ≡ differ (test s) (test t))
-  → (ts : List Term) → test (join_all operator none ts) ≡ odd_of (map test ts)
+    → (ts : List Term) → test (join_all operator none ts) ≡ odd_of (map test ts)
 join-odd test operator none e down [] = e
 join-odd test operator none e down (t ∷ ts) = join_left-test test operator differ down t ts ∙ from_left-odd (test t) (map test ts)
 
@@ -122,27 +121,27 @@ steps_agree (Variable k) = record { value = λ bits. refl; over = λ n. refl; na
 steps_agree (Not signs e) = record {
   value = λ bits. ap (inverted signs) (e.value.1.value bits) ∙ sym (times-value bits signs (term_of e.value.0));
   over = λ n. e.value.1.over n ∙ sym (times-within n signs (term_of e.value.0));
-  names = λ k. e.value.1.names k ∙ sym (times-has k signs (term_of e.value.0))
+  names = λ k. e.value.1.names k ∙ sym (times-has k signs (term_of e.value.0));
 }
 steps_agree (And es) = record {
   value = λ bits. ap all_of (told-values bits es.items) ∙ sym (join-all (term_value bits) Both (Bit true) refl (λ s t. refl) (map term_of (plain es.items)));
   over = λ n. ap all_of (told-over n es.items) ∙ sym (join-all (is_within n) Both (Bit true) refl (λ s t. refl) (map term_of (plain es.items)));
-  names = λ k. ap any_of (told-names k es.items) ∙ sym (join-any (has_input k) Both (Bit true) refl (λ s t. refl) (map term_of (plain es.items)))
+  names = λ k. ap any_of (told-names k es.items) ∙ sym (join-any (has_input k) Both (Bit true) refl (λ s t. refl) (map term_of (plain es.items)));
 }
 steps_agree (Or es) = record {
   value = λ bits. ap any_of (told-values bits es.items) ∙ sym (join-any (term_value bits) Either (Bit false) refl (λ s t. refl) (map term_of (plain es.items)));
   over = λ n. ap all_of (told-over n es.items) ∙ sym (join-all (is_within n) Either (Bit false) refl (λ s t. refl) (map term_of (plain es.items)));
-  names = λ k. ap any_of (told-names k es.items) ∙ sym (join-any (has_input k) Either (Bit false) refl (λ s t. refl) (map term_of (plain es.items)))
+  names = λ k. ap any_of (told-names k es.items) ∙ sym (join-any (has_input k) Either (Bit false) refl (λ s t. refl) (map term_of (plain es.items)));
 }
 steps_agree (Xor es) = record {
   value = λ bits. ap odd_of (told-values bits es.items) ∙ sym (join-odd (term_value bits) Differ (Bit false) refl (λ s t. refl) (map term_of (plain es.items)));
   over = λ n. ap all_of (told-over n es.items) ∙ sym (join-all (is_within n) Differ (Bit false) refl (λ s t. refl) (map term_of (plain es.items)));
-  names = λ k. ap any_of (told-names k es.items) ∙ sym (join-any (has_input k) Differ (Bit false) refl (λ s t. refl) (map term_of (plain es.items)))
+  names = λ k. ap any_of (told-names k es.items) ∙ sym (join-any (has_input k) Differ (Bit false) refl (λ s t. refl) (map term_of (plain es.items)));
 }
 
 pub says_term : (e : Expr) → SaysTerm e
 says_term = ind-Expr SaysTerm (λ x y is. let agree = subst StepsAgree is (steps_agree y) in record {
   value = λ bits. fold-roll-Expr Bool (value_step bits) x ∙ agree.value bits ∙ ap (term_value bits) (sym (fold-roll-Expr Term term_step x));
   over = λ n. fold-roll-Expr Bool (over_step n) x ∙ agree.over n ∙ ap (is_within n) (sym (fold-roll-Expr Term term_step x));
-  names = λ k. fold-roll-Expr Bool (names_step k) x ∙ agree.names k ∙ ap (has_input k) (sym (fold-roll-Expr Term term_step x))
+  names = λ k. fold-roll-Expr Bool (names_step k) x ∙ agree.names k ∙ ap (has_input k) (sym (fold-roll-Expr Term term_step x));
 })

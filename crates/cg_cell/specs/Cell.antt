@@ -40,14 +40,21 @@ HasPins Flop pins = HasFlopPins pins
 HasPins Gater pins = HasGaterPins pins
 HasPins Unusable pins = pins ≡ []
 
--- a logic cell has a function over its data pins, a register one over its data pins and its own bit behind
--- them, and the other kinds have none
+abbrev pub own_bits : CellKind → ℕ
+own_bits Flop = 1
+own_bits _ = 0
+
+-- the number of variables of a cell's function: its data pins, and for a register its own bit behind them
+abbrev pub variables_of : CellData → ℕ
+variables_of cell = count_by is_data cell.pins + own_bits cell.kind
+
+-- logic cells and registers have a function, over so many variables, and the other kinds have none
 abbrev pub HasFunction : CellKind → ℕ → Option Term → Type 0
-HasFunction Logic inputs (Some function) = IsTrue (is_within inputs function)
-HasFunction Flop inputs (Some function) = IsTrue (is_within (inputs + 1) function)
-HasFunction Gater inputs None = Unit {0}
-HasFunction Unusable inputs None = Unit {0}
-HasFunction _ inputs _ = ⊥
+HasFunction Logic variables (Some function) = IsTrue (is_within variables function)
+HasFunction Flop variables (Some function) = IsTrue (is_within variables function)
+HasFunction Gater variables None = Unit {0}
+HasFunction Unusable variables None = Unit {0}
+HasFunction _ variables _ = ⊥
 
 -- what is true of every cell
 pub record IsCell (cell : CellData) : Type 0 where
@@ -55,4 +62,4 @@ pub record IsCell (cell : CellData) : Type 0 where
   pub distinct : IsTrue (are_distinct (map (λ pin. pin.name) cell.pins))
   pub unsplit : AllByRecursion (λ pin. IsTrue (has_no_equals pin.name)) cell.pins
   pub roles : HasPins cell.kind cell.pins
-  pub computes : HasFunction cell.kind (count_by is_data cell.pins) cell.function
+  pub computes : HasFunction cell.kind (variables_of cell) cell.function

@@ -5,6 +5,7 @@ pub mod Cell
 pub mod Cover
 pub mod Domain
 pub mod Expr
+pub mod Fit
 pub mod Gates
 pub mod Name
 pub mod Pins

@@ -1,9 +1,10 @@
 //! Cells of a library: their kinds, their pins and what they compute.
 
-ghost use Rattle.std.specs.Prelude.{◌≡◌, IfOk};
+ghost use Rattle.std.specs.Prelude.{◌≡◌, IfOk, IfSome, IsTrue, count_by};
 ghost use Rattle.std.specs.Option.{option_copied, option_map};
-ghost use Rattle.cg_cell.specs.Expr.{term_of};
-ghost use Rattle.cg_cell.specs.Cell.{IsCell};
+ghost use Rattle.cg_cell.specs.Expr.{is_over, term_of};
+ghost use Rattle.cg_cell.specs.Cell.{IsCell, variables_of};
+ghost use Rattle.cg_cell.specs.Pins.{is_data};
 
 use crate::expr::Expr;
 use crate::name::Name;
@@ -91,6 +92,13 @@ impl Pin {
         ensures { result.now ≡ self.now.name }
     {
         &self.name
+    }
+
+    /// Whether the pin is an input of the function.
+    pub fn is_data(&self) -> bool
+        ensures { result ≡ is_data self.now }
+    {
+        matches!(self.role, Role::Data)
     }
 
     /// What the pin is for.
@@ -205,10 +213,18 @@ impl CellType {
         &self.pins
     }
 
+    /// The number of Data pins: the inputs of the function.
+    pub fn inputs(&self) -> usize
+        ensures { result ≡ count_by is_data self.now.pins }
+    {
+        self.pins.iter().filter(|pin| pin.is_data()).count()
+    }
+
     /// The function of a Logic cell over its Data pins in pin order, that of a Flop over its Data pins
     /// followed by its own bit, and None for the other kinds.
     pub fn function(&self) -> Option<&Expr>
         ensures function { option_map term_of (option_copied result) ≡ self.now.function }
+        ensures over { IfSome result (λ function. IsTrue (is_over (variables_of self.now) function.now)) }
         ensures cell { IsCell self.now }
     {
         self.function.as_ref()

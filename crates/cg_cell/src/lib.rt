@@ -11,6 +11,7 @@
 //! - [`cover`]: a function as rows of given bits;
 //! - [`expr`]: a function as an expression over numbered variables;
 //! - [`cell`]: cells of a library, with their kind, their pins and their function;
+//! - [`fit`]: which cells clock gating can use, and as what;
 //! - [`domain`]: values that stand for bits, and what may be done with them;
 //! - [`build`]: what is built from them, as the exclusive or, in a fixed order.
 #![tactic(auto)]
@@ -20,5 +21,6 @@ pub mod cell;
 pub mod cover;
 pub mod domain;
 pub mod expr;
+pub mod fit;
 pub mod limit;
 pub mod name;

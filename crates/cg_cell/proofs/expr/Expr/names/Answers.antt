@@ -1,4 +1,4 @@
-use Rattle.std.proofs.Common.{◌≡◌, ◌∙◌}
+use Rattle.std.proofs.Common.{◌∙◌}
 use Rattle.cg_cell.proofs.Terms.{says_term}
 use Rattle.cg_cell.proofs.expr.Expr.names.Goals as goal
 

@@ -1,2 +1,3 @@
 pub mod Texts
 pub mod TokensLeft
+pub mod Phases

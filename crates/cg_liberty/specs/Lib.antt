@@ -1,3 +1,5 @@
 pub mod Lexeme
 pub mod Text
 pub mod Token
+pub mod Argument
+pub mod Statement

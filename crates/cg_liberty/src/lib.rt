@@ -1,7 +1,11 @@
 //! A standard-cell library read from its Liberty text.
 #![tactic(auto)]
 
+pub mod argument;
+pub mod fault;
 pub mod lexeme;
+pub mod statement;
+pub mod statements;
 pub mod text;
 pub mod token;
 pub mod tokens;

@@ -1,3 +1,5 @@
+pub mod Driven
+pub mod Members
 pub mod NameLemmas
 pub mod OrderLemmas
 pub mod WidthLemmas

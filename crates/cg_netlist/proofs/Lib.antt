@@ -2,4 +2,5 @@ pub mod Driven
 pub mod Members
 pub mod NameLemmas
 pub mod OrderLemmas
+pub mod Values
 pub mod WidthLemmas

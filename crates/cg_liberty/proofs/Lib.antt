@@ -1,3 +1,4 @@
 pub mod Texts
 pub mod TokensLeft
 pub mod Phases
+pub mod Inside

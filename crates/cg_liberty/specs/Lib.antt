@@ -3,3 +3,5 @@ pub mod Text
 pub mod Token
 pub mod Argument
 pub mod Statement
+pub mod Group
+pub mod Cell

@@ -3,6 +3,8 @@
 
 pub mod argument;
 pub mod fault;
+pub mod group;
+pub mod groups;
 pub mod lexeme;
 pub mod statement;
 pub mod statements;

@@ -51,7 +51,7 @@ impl<'a> Statements<'a> {
 
     /// Takes the next statement, or nothing behind the last one.
     pub fn next(&mut self) -> Result<Option<Statement<'a>>, TextFault>
-        ensures { MatchResult result (λ next. MatchOption next ((self.old.0 ≡ []) × (self.old.1 ≡ None)) (λ statement. self.old ≡ put statement self.new)) (λ fault. self.old.1 ≡ Some fault) }
+        ensures { MatchResult result (λ next. MatchOption next ((self.old ≡ ([], None)) × (self.new ≡ ([], None))) (λ statement. self.old ≡ put statement self.new)) (λ fault. self.old.1 ≡ Some fault) }
     {
         if self.done {
             return match self.tokens.next() {

@@ -1,0 +1,16 @@
+use Rattle.std.proofs.Common.{◌≡◌, ◌≤◌, length}
+use Rattle.cg_liberty.specs.Group.{behind}
+use Rattle.cg_liberty.proofs.groups.+pass_group.Given as goal
+
+abbrev pub invariant-statements : goal.invariant-statements
+invariant-statements l = record {
+  left : behind 0 l.fn.statements.0 ≡ behind 0 l.statements.0;
+  fault : l.fn.statements.1 ≡ l.statements.1;
+  shorter : length l.statements.0 ≤ length l.fn.statements.0;
+}
+
+abbrev pub decreases-statements : goal.decreases-statements
+decreases-statements l = length l.statements.0
+
+abbrev pub decreases-pass_group : goal.decreases-pass_group
+decreases-pass_group l = length l.statements.now.0

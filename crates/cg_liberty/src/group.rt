@@ -1,0 +1,225 @@
+//! What is looked at of a cell, and of the groups that stand in it.
+
+ghost use Rattle.std.specs.Prelude.{◌≡◌, [], ◌∷◌, ◌++◌};
+ghost use Rattle.cg_liberty.specs.Cell.{cell_with, cell_with_other, is_bank, is_bus, new_cell};
+ghost use Rattle.cg_liberty.specs.Group.{flop_with, new_flop, new_pin, pin_with, stated};
+
+use crate::argument::Arguments;
+use crate::text::Text;
+use cg_list::Seq;
+use std::alloc::Global;
+
+/// What a group states by an attribute.
+#[derive(Debug, Drop)]
+pub enum Stated<'a> {
+    /// The attribute is not there.
+    Missing,
+
+    /// It is there, and its value is neither one word nor one string.
+    Bare,
+
+    /// It is there with this text.
+    Text(Text<'a>),
+}
+
+impl<'a> Stated<'a> {
+    /// What an attribute with this value states.
+    pub fn new(text: Option<Text<'a>>) -> Stated<'a>
+        ensures { result ≡ stated text.entry }
+    {
+        match text {
+            Some(text) => Stated::Text(text),
+            None => Stated::Bare,
+        }
+    }
+}
+
+/// What is looked at of a `pin` group.
+#[derive(Debug, Drop)]
+pub struct PinGroup<'a> {
+    /// The pins that it describes.
+    pub names: Arguments<'a>,
+
+    /// `direction`
+    pub direction: Stated<'a>,
+
+    /// `function`
+    pub function: Stated<'a>,
+
+    /// `three_state`
+    pub three_state: Stated<'a>,
+
+    /// `clock_gate_clock_pin`
+    pub clock_pin: Stated<'a>,
+
+    /// `clock_gate_enable_pin`
+    pub enable_pin: Stated<'a>,
+
+    /// `clock_gate_out_pin`
+    pub out_pin: Stated<'a>,
+}
+
+impl<'a> PinGroup<'a> {
+    /// A group of which nothing is stated yet.
+    pub fn new(names: Arguments<'a>) -> PinGroup<'a>
+        ensures { result ≡ new_pin names.entry }
+    {
+        PinGroup {
+            names,
+            direction: Stated::Missing,
+            function: Stated::Missing,
+            three_state: Stated::Missing,
+            clock_pin: Stated::Missing,
+            enable_pin: Stated::Missing,
+            out_pin: Stated::Missing,
+        }
+    }
+
+    /// Takes note of an attribute; of two with one name the later one counts.
+    pub fn note(&mut self, word: &Text<'_>, text: Option<Text<'a>>)
+        ensures { self.new ≡ pin_with self.old word.now text.entry }
+    {
+        let stated = Stated::new(text);
+        if word.is(b"direction") {
+            self.direction = stated;
+        } else if word.is(b"function") {
+            self.function = stated;
+        } else if word.is(b"three_state") {
+            self.three_state = stated;
+        } else if word.is(b"clock_gate_clock_pin") {
+            self.clock_pin = stated;
+        } else if word.is(b"clock_gate_enable_pin") {
+            self.enable_pin = stated;
+        } else if word.is(b"clock_gate_out_pin") {
+            self.out_pin = stated;
+        }
+    }
+}
+
+/// What is looked at of an `ff` group.
+#[derive(Debug, Drop)]
+pub struct FlopGroup<'a> {
+    /// The names of the state and of its inverse.
+    pub names: Arguments<'a>,
+
+    /// `next_state`
+    pub next_state: Stated<'a>,
+
+    /// `clocked_on`
+    pub clocked_on: Stated<'a>,
+
+    /// `clear`
+    pub clear: Stated<'a>,
+
+    /// `preset`
+    pub preset: Stated<'a>,
+
+    /// `clocked_on_also`
+    pub clocked_on_also: Stated<'a>,
+}
+
+impl<'a> FlopGroup<'a> {
+    /// A group of which nothing is stated yet.
+    pub fn new(names: Arguments<'a>) -> FlopGroup<'a>
+        ensures { result ≡ new_flop names.entry }
+    {
+        FlopGroup {
+            names,
+            next_state: Stated::Missing,
+            clocked_on: Stated::Missing,
+            clear: Stated::Missing,
+            preset: Stated::Missing,
+            clocked_on_also: Stated::Missing,
+        }
+    }
+
+    /// Takes note of an attribute; of two with one name the later one counts.
+    pub fn note(&mut self, word: &Text<'_>, text: Option<Text<'a>>)
+        ensures { self.new ≡ flop_with self.old word.now text.entry }
+    {
+        let stated = Stated::new(text);
+        if word.is(b"next_state") {
+            self.next_state = stated;
+        } else if word.is(b"clocked_on") {
+            self.clocked_on = stated;
+        } else if word.is(b"clear") {
+            self.clear = stated;
+        } else if word.is(b"preset") {
+            self.preset = stated;
+        } else if word.is(b"clocked_on_also") {
+            self.clocked_on_also = stated;
+        }
+    }
+}
+
+/// What is looked at of a `cell` group.
+#[derive(Debug, Drop)]
+pub struct CellGroup<'a> {
+    /// The cell's name.
+    pub name: Text<'a>,
+
+    /// `clock_gating_integrated_cell`
+    pub gating: Stated<'a>,
+
+    /// Whether a `bus` or `bundle` group stands in it.
+    pub has_bus: bool,
+
+    /// Whether a `latch`, `statetable`, `ff_bank` or `latch_bank` group stands in it.
+    pub has_bank: bool,
+
+    /// Its `pin` groups, in order.
+    pub pins: Seq<PinGroup<'a>>,
+
+    /// Its `ff` groups, in order.
+    pub flops: Seq<FlopGroup<'a>>,
+}
+
+impl<'a> CellGroup<'a> {
+    /// A cell of which nothing is stated yet.
+    pub fn new(alloc: Global, name: Text<'a>) -> CellGroup<'a>
+        ensures { result ≡ new_cell name.entry }
+    {
+        CellGroup {
+            name,
+            gating: Stated::Missing,
+            has_bus: false,
+            has_bank: false,
+            pins: Seq::new(alloc),
+            flops: Seq::new(alloc),
+        }
+    }
+
+    /// Takes note of an attribute; of two with one name the later one counts.
+    pub fn note(&mut self, word: &Text<'_>, text: Option<Text<'a>>)
+        ensures { self.new ≡ cell_with self.old word.now text.entry }
+    {
+        if word.is(b"clock_gating_integrated_cell") {
+            self.gating = Stated::new(text);
+        }
+    }
+
+    /// Takes note of a group that is neither a `pin` nor an `ff` group.
+    pub fn note_group(&mut self, word: &Text<'_>)
+        ensures { self.new ≡ cell_with_other self.old word.now }
+    {
+        if is_bus_word(word) {
+            self.has_bus = true;
+        } else if is_bank_word(word) {
+            self.has_bank = true;
+        }
+    }
+}
+
+/// Whether groups of this name describe pins that are no single nets.
+fn is_bus_word(word: &Text<'_>) -> bool
+    ensures { result ≡ is_bus word.now }
+{
+    word.is(b"bus") || word.is(b"bundle")
+}
+
+/// Whether groups of this name describe states other than one flip-flop.
+fn is_bank_word(word: &Text<'_>) -> bool
+    ensures { result ≡ is_bank word.now }
+{
+    word.is(b"latch") || word.is(b"statetable") || word.is(b"ff_bank") || word.is(b"latch_bank")
+}

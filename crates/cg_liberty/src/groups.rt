@@ -1,0 +1,116 @@
+//! The groups of a cell, read statement by statement.
+
+ghost use Rattle.std.specs.Prelude.{◌≡◌, ◌≤◌, length, Some, MatchResult, OnOk};
+ghost use Rattle.cg_liberty.specs.Cell.{GivesUp, cell_from, cell_with_group, new_cell};
+ghost use Rattle.cg_liberty.specs.Group.{IsLeft, flop_from, new_flop, new_pin, pin_from};
+
+use crate::argument::Arguments;
+use crate::fault::{ReadFault, TextFault};
+use crate::group::{CellGroup, FlopGroup, PinGroup};
+use crate::statement::Statement;
+use crate::statements::Statements;
+use crate::text::Text;
+use std::alloc::Global;
+
+/// Passes over the rest of a group, with its `}`. It calls itself no deeper than groups nest.
+#[tactic(auto, using(crate::proofs::Inside::behind_inside))]
+pub fn pass_group(statements: &mut Statements<'_>) -> Result<(), TextFault>
+    ensures left { MatchResult result (λ _. IsLeft statements.old statements.new) (λ fault. statements.old.1 ≡ Some fault) }
+    ensures shorter { OnOk result (length statements.new.0 ≤ length statements.old.0) }
+{
+    'statements: while let Some(statement) = statements.next()? {
+        match statement {
+            Statement::Open(_, _) => pass_group(statements)?,
+            Statement::Close => return Ok(()),
+            Statement::Attribute(_, _) => {}
+        }
+    }
+    Ok(())
+}
+
+/// Reads the rest of a `pin` group that describes these pins.
+#[tactic(auto, using(crate::proofs::Inside::behind_inside, crate::proofs::Inside::pin_inside))]
+fn read_pin<'a>(
+    statements: &mut Statements<'a>,
+    names: Arguments<'a>,
+) -> Result<PinGroup<'a>, TextFault>
+    ensures pin { MatchResult result (λ pin. (pin ≡ pin_from 0 (new_pin names.entry) statements.old.0) × IsLeft statements.old statements.new) (λ fault. statements.old.1 ≡ Some fault) }
+    ensures shorter { OnOk result (length statements.new.0 ≤ length statements.old.0) }
+{
+    let mut pin = PinGroup::new(names);
+    'statements: while let Some(statement) = statements.next()? {
+        match statement {
+            Statement::Open(_, _) => pass_group(statements)?,
+            Statement::Close => return Ok(pin),
+            Statement::Attribute(word, text) => pin.note(&word, text),
+        }
+    }
+    Ok(pin)
+}
+
+/// Reads the rest of an `ff` group with these arguments.
+#[tactic(auto, using(crate::proofs::Inside::behind_inside, crate::proofs::Inside::flop_inside))]
+fn read_flop<'a>(
+    statements: &mut Statements<'a>,
+    names: Arguments<'a>,
+) -> Result<FlopGroup<'a>, TextFault>
+    ensures flop { MatchResult result (λ flop. (flop ≡ flop_from 0 (new_flop names.entry) statements.old.0) × IsLeft statements.old statements.new) (λ fault. statements.old.1 ≡ Some fault) }
+    ensures shorter { OnOk result (length statements.new.0 ≤ length statements.old.0) }
+{
+    let mut flop = FlopGroup::new(names);
+    'statements: while let Some(statement) = statements.next()? {
+        match statement {
+            Statement::Open(_, _) => pass_group(statements)?,
+            Statement::Close => return Ok(flop),
+            Statement::Attribute(word, text) => flop.note(&word, text),
+        }
+    }
+    Ok(flop)
+}
+
+/// Reads the rest of a group that stands in a cell, and takes note of it.
+#[tactic(auto, using(crate::proofs::Inside::behind_inside))]
+fn read_group<'a>(
+    statements: &mut Statements<'a>,
+    cell: &mut CellGroup<'a>,
+    word: &Text<'_>,
+    arguments: Arguments<'a>,
+) -> Result<(), ReadFault>
+    ensures cell { MatchResult result (λ _. (cell.new ≡ cell_with_group cell.old word.now arguments.entry statements.old.0) × IsLeft statements.old statements.new) (GivesUp statements.old) }
+    ensures shorter { OnOk result (length statements.new.0 ≤ length statements.old.0) }
+{
+    if word.is(b"pin") {
+        let pin = read_pin(statements, arguments)?;
+        cell.pins.push(pin)?;
+    } else if word.is(b"ff") {
+        let flop = read_flop(statements, arguments)?;
+        cell.flops.push(flop)?;
+    } else {
+        cell.note_group(word);
+        pass_group(statements)?;
+    }
+    Ok(())
+}
+
+/// Reads the rest of a `cell` group.
+#[tactic(auto, using(crate::proofs::Inside::behind_inside, crate::proofs::Inside::cell_inside))]
+pub fn read_cell<'a>(
+    alloc: Global,
+    statements: &mut Statements<'a>,
+    name: Text<'a>,
+) -> Result<CellGroup<'a>, ReadFault>
+    ensures cell { MatchResult result (λ cell. (cell ≡ cell_from 0 (new_cell name.entry) statements.old.0) × IsLeft statements.old statements.new) (GivesUp statements.old) }
+    ensures shorter { OnOk result (length statements.new.0 ≤ length statements.old.0) }
+{
+    let mut cell = CellGroup::new(alloc, name);
+    'statements: while let Some(statement) = statements.next()? {
+        match statement {
+            Statement::Open(word, arguments) => read_group(
+                statements, &mut cell, &word, arguments,
+            )?,
+            Statement::Close => return Ok(cell),
+            Statement::Attribute(word, text) => cell.note(&word, text),
+        }
+    }
+    Ok(cell)
+}

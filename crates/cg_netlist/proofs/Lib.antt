@@ -2,5 +2,10 @@ pub mod Driven
 pub mod Members
 pub mod NameLemmas
 pub mod OrderLemmas
+pub mod RankLemmas
+pub mod RankingLemmas
+pub mod SearchLemmas
+pub mod SettleSteps
+pub mod TableLemmas
 pub mod Values
 pub mod WidthLemmas

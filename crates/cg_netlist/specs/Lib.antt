@@ -7,6 +7,8 @@ pub mod Moment
 pub mod Names
 pub mod Netlist
 pub mod PlainText
+pub mod Ranking
+pub mod Ranks
 pub mod Says
 pub mod Statements
 pub mod View

@@ -1,0 +1,49 @@
+-- Lemmas on tables: lists that are read and written at a place.
+use Rattle.std.proofs.Common.{ℕ, zero, suc, ◌<◌, ◌≡◌, ◌≢◌, ◌⊎◌, inl, inr, List, [], ◌∷◌, Option, Some, None, length, set, get_or, refl, sym, ap, arith}
+use Rattle.std.specs.List.{slice_get}
+use Rattle.std.specs.Option.{option_flatten}
+use Rattle.std.proofs.lemmas.Option.{same_Some, slice_get_within}
+use Rattle.std.proofs.lemmas.Bool.Decides.{eqb_tells}
+use Rattle.cg_netlist.specs.Ranking.{entry}
+
+pub slice_get-set_same : {X : Type 0} (xs : List X) (i : ℕ) (y : X) → i < length xs → slice_get (set xs i y) i ≡ Some y
+slice_get-set_same [] i y lt = absurd (omega arith)
+slice_get-set_same (x ∷ xs) zero y lt = refl
+slice_get-set_same (x ∷ xs) (suc i) y lt = slice_get-set_same xs i y (omega arith)
+
+pub slice_get-set_other : {X : Type 0} (xs : List X) (i j : ℕ) (y : X) → j ≢ i → slice_get (set xs i y) j ≡ slice_get xs j
+slice_get-set_other [] i j y other = refl
+slice_get-set_other (x ∷ xs) zero zero y other = absurd (other refl)
+slice_get-set_other (x ∷ xs) zero (suc j) y other = refl
+slice_get-set_other (x ∷ xs) (suc i) zero y other = refl
+slice_get-set_other (x ∷ xs) (suc i) (suc j) y other = slice_get-set_other xs i j y (λ e. other (ap suc e))
+
+-- what stands at a place after a write: what was written, or what stood there before
+pub set_cases : {X : Type 0} (xs : List X) (i j : ℕ) (y z : X) → slice_get (set xs i y) j ≡ Some z → ((j ≡ i) × (z ≡ y)) ⊎ ((j ≢ i) × (slice_get xs j ≡ Some z))
+set_cases [] i j y z is = absurd (cc)
+set_cases (x ∷ xs) zero zero y z is = inl (refl, sym (same_Some y z is))
+set_cases (x ∷ xs) zero (suc j) y z is = inr (omega arith, is)
+set_cases (x ∷ xs) (suc i) zero y z is = inr (omega arith, is)
+set_cases (x ∷ xs) (suc i) (suc j) y z is = elim (set_cases xs i j y z is) [ inl e ↦ inl (ap suc e.0, e.1) | inr e ↦ inr (omega (arith, e.0), e.1) ]
+
+entry_get : (table : List (Option ℕ)) (k r : ℕ) → entry table k ≡ Some r → slice_get table k ≡ Some (Some r)
+entry_get [] k r is = absurd (cc)
+entry_get (o ∷ table) zero r is = ap Some is
+entry_get (o ∷ table) (suc k) r is = entry_get table k r is
+
+pub entry_or : (table : List (Option ℕ)) (k : ℕ) → get_or table k None ≡ entry table k
+entry_or [] k = refl
+entry_or (o ∷ table) zero = refl
+entry_or (o ∷ table) (suc k) = entry_or table k
+
+pub entry_within : (table : List (Option ℕ)) (k r : ℕ) → entry table k ≡ Some r → k < length table
+entry_within table k r is = slice_get_within table k (Some r) (entry_get table k r is)
+
+pub entry-set_same : (table : List (Option ℕ)) (k : ℕ) (o : Option ℕ) → k < length table → entry (set table k o) k ≡ o
+entry-set_same table k o lt = ap option_flatten (slice_get-set_same table k o lt)
+
+pub entry-set_other : (table : List (Option ℕ)) (k j : ℕ) (o : Option ℕ) → j ≢ k → entry (set table k o) j ≡ entry table j
+entry-set_other table k j o other = ap option_flatten (slice_get-set_other table k j o other)
+
+pub same_or_not : (j k : ℕ) → (j ≡ k) ⊎ (j ≢ k)
+same_or_not j k = elim (eqb_tells j k) [ inl e ↦ inl e.1 | inr e ↦ inr e.1 ]

@@ -2,5 +2,6 @@ pub mod Building
 pub mod Covers
 pub mod Exprs
 pub mod Functions
+pub mod Libraries
 pub mod Operations
 pub mod Terms

@@ -1,3 +1,4 @@
+pub mod Added
 pub mod Bits
 pub mod BitsLaws
 pub mod Build
@@ -7,6 +8,7 @@ pub mod Domain
 pub mod Expr
 pub mod Fit
 pub mod Gates
+pub mod Library
 pub mod Name
 pub mod Pins
 pub mod Term

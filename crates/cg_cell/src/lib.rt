@@ -12,6 +12,7 @@
 //! - [`expr`]: a function as an expression over numbered variables;
 //! - [`cell`]: cells of a library, with their kind, their pins and their function;
 //! - [`fit`]: which cells clock gating can use, and as what;
+//! - [`library`]: the cells of a library, by number, by name and by need;
 //! - [`domain`]: values that stand for bits, and what may be done with them;
 //! - [`build`]: what is built from them, as the exclusive or, in a fixed order.
 #![tactic(auto)]
@@ -22,5 +23,6 @@ pub mod cover;
 pub mod domain;
 pub mod expr;
 pub mod fit;
+pub mod library;
 pub mod limit;
 pub mod name;

@@ -1,0 +1,34 @@
+-- Libraries: lists of cells, and the first cell of a name or of a kind.
+use Rattle.std.specs.Prelude.{◌≡◌, ℕ, ◌≤◌, List, [], ◌∷◌, length, position, Bool, if◌then◌else◌, Option, None, Some}
+use Rattle.std.specs.Str.{bytes_eq}
+use Rattle.cg_cell.specs.Cell.{CellData}
+use Rattle.cg_cell.specs.Fit.{is_fit}
+use Rattle.cg_cell.specs.declared.fit.FitKind.{FitKind}
+use Rattle.cg_cell.specs.declared.fit.FitKind.TheVariants.{Gater, Inv, And2, Or2}
+
+-- the number of the cell of a name
+abbrev pub find_cell : List ℕ → List CellData → Option ℕ
+find_cell name cells = position (λ cell. bytes_eq name cell.name) cells
+
+-- the number of the first cell of a kind
+abbrev pub first_fit : FitKind → List CellData → Option ℕ
+first_fit kind cells = position (is_fit kind) cells
+
+-- the first that was found, after one more is looked at
+abbrev pub noted : Option ℕ → ℕ → Bool → Option ℕ
+noted (Some first) number fits = Some first
+noted None number fits = if fits then Some number else None
+
+-- each cell stands under its name; a key has its bytes
+abbrev pub AreNamed : {K : Type 0} → (K → List ℕ) → List (K × CellData) → Type 0
+AreNamed bytes [] = Unit {0}
+AreNamed bytes (e ∷ es) = (bytes e.0 ≡ e.1.name) × AreNamed bytes es
+
+-- what a library keeps: each cell under its name, at most 4,096 of them, and the first of each kind
+pub record IsLibrary {K : Type 0} (bytes : K → List ℕ) (entries : List (K × CellData)) (cells : List CellData) (gater inv and2 or2 : Option ℕ) : Type 0 where
+  pub names : AreNamed bytes entries
+  pub few : length cells ≤ 4096
+  pub gaters : gater ≡ first_fit Gater cells
+  pub inverters : inv ≡ first_fit Inv cells
+  pub ands : and2 ≡ first_fit And2 cells
+  pub ors : or2 ≡ first_fit Or2 cells

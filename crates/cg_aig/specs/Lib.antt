@@ -1,0 +1,4 @@
+pub mod Aig
+pub mod AigLaws
+pub mod Limits
+pub mod Values

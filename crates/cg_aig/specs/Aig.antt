@@ -1,7 +1,7 @@
 -- And-inverter lists. Node 0 is the constant 0, the nodes after it are the leaves, and the and-nodes
 -- follow, each with the pair of its operands. A list is seen as its number of leaves and its pairs.
 -- A literal is a number, as in the AIGER format: twice its node, plus 1 where it is inverted.
-use Rattle.std.specs.Prelude.{◌≡◌, ◌≤◌, ◌==◌, ℕ, zero, suc, ◌+◌, ◌-◌, ◌*◌, ◌/◌, ◌%◌, Bool, true, false, not, ◌&&◌, ◌||◌, nat_lt, if◌then◌else◌, List, [], ◌∷◌, ◌++◌, length, slice_index_or, position, Option, Some, None, IsTrue}
+use Rattle.std.specs.Prelude.{◌≤◌, ◌==◌, ℕ, zero, suc, ◌+◌, ◌-◌, ◌*◌, ◌/◌, ◌%◌, Bool, true, false, not, ◌&&◌, ◌||◌, nat_lt, if◌then◌else◌, List, [], ◌∷◌, ◌++◌, length, slice_index_or, position, Option, Some, None, IsTrue}
 use Rattle.cg_cell.specs.Domain.{Made, Ops, Seen}
 
 -- The inverse of a literal.
@@ -47,10 +47,10 @@ is_sound s = are_pairs (1 + s.number) s.pairs
 -- operand where one is 1, and the operand where both are equal.
 abbrev pub simple : ℕ → ℕ → Option ℕ
 simple a b =
-  if a == 0 || (b == 0 || a == inverse b) then Some 0 else
-  if a == 1 then Some b else
-  if b == 1 then Some a else
-  if a == b then Some a else None
+    if a == 0 || (b == 0 || a == inverse b) then Some 0 else
+    if a == 1 then Some b else
+    if b == 1 then Some a else
+    if a == b then Some a else None
 
 -- Two literals in the order of their numbers.
 abbrev pub in_order : ℕ → ℕ → ℕ × ℕ

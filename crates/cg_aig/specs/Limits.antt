@@ -1,5 +1,5 @@
 -- When an operation of an and-inverter list may be refused.
-use Rattle.std.specs.Prelude.{◌≡◌, ◌≤◌, ◌<◌, ℕ, ◌+◌, List, length, position, Option, None}
+use Rattle.std.specs.Prelude.{◌≡◌, ◌≤◌, ◌<◌, ℕ, ◌+◌, length, position, None}
 use Rattle.cg_cell.specs.Domain.{Seen}
 use Rattle.cg_cell.specs.declared.limit.Limit.TheVariants.{ClaimNodes}
 use Rattle.cg_aig.specs.declared.fault.AigFault.{AigFault}

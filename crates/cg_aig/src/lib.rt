@@ -10,12 +10,14 @@
 //!
 //! - [`lit`]: literals;
 //! - [`fault`]: why a call is refused;
-//! - [`list`]: the list of nodes.
+//! - [`list`]: the list of nodes;
+//! - `values`: the values of nodes, where the leaves have given bits.
 #![tactic(auto)]
 
 pub mod fault;
 pub mod list;
 pub mod lit;
+mod values;
 
 pub use fault::AigFault;
 pub use list::Aig;

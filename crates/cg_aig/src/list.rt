@@ -9,6 +9,7 @@ ghost use Rattle.cg_aig.specs.Limits.{AndRefuses, IsPastLimit, NoRoom, Refuses};
 
 use crate::fault::AigFault;
 use crate::lit::AigLit;
+use crate::values;
 use cg_cell::build;
 use cg_cell::domain::Domain;
 use cg_cell::limit::Limit;
@@ -109,6 +110,19 @@ impl Aig {
     {
         let _ = self.leaves();
         AigLit::of(2 * (k + 1))
+    }
+
+    /// The bit of a literal where the leaves have these bits. The buffer has a place for each node; what it
+    /// held is written over.
+    pub fn value(&self, lit: AigLit, bits: &[bool], buffer: &mut [bool]) -> bool
+        requires lit { IsTrue (aig_ops.is_valid self.now lit) }
+        requires bits { length bits.now ≡ self.now.number }
+        requires buffer { nodes self.now ≤ length buffer.old }
+        ensures { result ≡ aig_ops.bit self.now bits.now lit }
+    {
+        let _ = self.leaves();
+        values::fill(bits, self.pairs.as_slice(), buffer);
+        values::bit(buffer, lit.number())
     }
 
     /// The literal of a constant bit.
@@ -252,7 +266,11 @@ fn ordered(a: u32, b: u32) -> (u32, u32)
 }
 
 /// The literal of the node that has this pair of operands, found or added.
-fn put_pair(leaves: u32, pairs: &mut IndexSet<(u32, u32)>, pair: (u32, u32)) -> Result<AigLit, AigFault>
+fn put_pair(
+    leaves: u32,
+    pairs: &mut IndexSet<(u32, u32)>,
+    pair: (u32, u32),
+) -> Result<AigLit, AigFault>
     requires { leaves + length pairs.old.keys ≤ 65536 }
     ensures made { IfOk result (λ v. Makes (record { number = leaves; pairs = pairs.old.keys })
         (put (record { number = leaves; pairs = pairs.old.keys }) pair)

@@ -5,5 +5,5 @@ use Rattle.cg_aig.proofs.list.Aig.leaf.Goals as goal
 
 pub returns-clause-bit : goal.returns-clause-bit
 returns-clause-bit c = λ bits.
-  subst (λ (a : ℕ). lit_bit (node_values c.args.self.now bits) a ≡ slice_index_or bits c.args.k false)
+    subst (λ (a : ℕ). lit_bit (node_values c.args.self.now bits) a ≡ slice_index_or bits c.args.k false)
     (sym c.of.ensures) (leaf_bit c.args.self.now c.args.k bits c.requires)

@@ -5,3 +5,4 @@ pub mod Argument
 pub mod Statement
 pub mod Group
 pub mod Cell
+pub mod Port

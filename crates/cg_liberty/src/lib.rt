@@ -6,6 +6,7 @@ pub mod fault;
 pub mod group;
 pub mod groups;
 pub mod lexeme;
+pub mod port;
 pub mod statement;
 pub mod statements;
 pub mod text;

@@ -1,3 +1,5 @@
 pub mod Pieces
 pub mod Blank
 pub mod Numbers
+pub mod Spelling
+pub mod Written

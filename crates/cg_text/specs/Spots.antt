@@ -22,3 +22,6 @@ spots_of ls = flat_map line_spots ls
 pub record SpotsLeft : Type 0 where
   pub left : List Spot
   pub end : ℕ
+
+abbrev pub texts_of : List Spot → List (List ℕ)
+texts_of spots = map (λ spot. spot.text) spots

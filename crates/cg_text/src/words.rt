@@ -45,6 +45,16 @@ impl<'a> Words<'a> {
         None
     }
 
+    /// Another reader of the same words, to look ahead with.
+    pub fn ahead(&self) -> Words<'a>
+        ensures same { result ≡ self.now }
+    {
+        Words {
+            rest: self.rest,
+            blanks: self.blanks,
+        }
+    }
+
     /// Whether no word is left.
     pub fn is_empty(&self) -> bool
         ensures none { result ≡ (length self.now == 0) }

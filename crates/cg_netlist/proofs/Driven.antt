@@ -1,12 +1,11 @@
 -- Where nets are numbered in net order, every net has exactly one driver.
 use Rattle.std.proofs.Common.{◌≡◌, ℕ, zero, suc, ◌+◌, ◌<◌, ◌≤◌, Bool, true, false, ◌||◌, ◌&&◌, not, cond, List, [], ◌∷◌, ◌++◌, length, Option, None, Some, nat_eq, refl, ap, sym, ◌∙◌, subst, inl, inr, arith}
-use Rattle.std.specs.List.{All, IsDistinct, filter, range_with_len}
+use Rattle.std.specs.List.{IsDistinct, filter, range_with_len}
 use Rattle.std.specs.Option.{option_to_list}
 use Rattle.std.proofs.lemmas.Bool.{eqb-true, eq-eqb, or_cases, or_left, or_right, and_parts, both_ways, cases_eq, cases_Bool, false_from_ne_true, not-true}
-use Rattle.std.proofs.lemmas.List.Elements.{All-nil, All-cons}
 use Rattle.cg_netlist.specs.Circuit.{Circuit, is_in, data_inputs, cell_nets, gate_nets, register_nets, drivers, net_order}
 use Rattle.cg_netlist.specs.WellFormed.{IsDriven, IsInNetOrder}
-use Rattle.cg_netlist.proofs.Members.{is_in-append, is_in_left, is_in_right, is_in_cases, distinct_cons, distinct_head, distinct_tail, distinct_left, distinct_right, distinct_apart, distinct_append}
+use Rattle.cg_netlist.proofs.Members.{All-from_members, is_in-append, is_in_left, is_in_right, is_in_cases, distinct_cons, distinct_head, distinct_tail, distinct_left, distinct_right, distinct_apart, distinct_append}
 
 -- the numbers from a on
 is_in-range : (n a x : ℕ) → a ≤ x → x < a + n → is_in (range_with_len a n) x ≡ true
@@ -58,11 +57,6 @@ distinct_option : (o : Option ℕ) → IsDistinct nat_eq (option_to_list o)
 unfolding IsDistinct
 distinct_option None = tt
 distinct_option (Some x) = (tt, tt)
-
--- what is true of each that is in a list is true of all
-All-from_members : (P : ℕ → Type 0) (xs : List ℕ) → ((x : ℕ) → is_in xs x ≡ true → P x) → All P xs
-All-from_members P [] each = All-nil P
-All-from_members P (y ∷ ys) each = All-cons P y ys (each y (or_left (nat_eq y y) (is_in ys y) (eq-eqb y y refl))) (All-from_members P ys (λ x among. each x (or_right (nat_eq x y) (is_in ys x) among)))
 
 same_front : (a k : Bool) → ((not k && a) || k) ≡ (a || (not a && k))
 same_front true true = refl

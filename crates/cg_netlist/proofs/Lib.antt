@@ -1,3 +1,4 @@
+pub mod Clocks
 pub mod Driven
 pub mod Members
 pub mod NameLemmas
@@ -5,7 +6,9 @@ pub mod OrderLemmas
 pub mod RankLemmas
 pub mod RankingLemmas
 pub mod SearchLemmas
+pub mod Settle
 pub mod SettleSteps
+pub mod Solve
 pub mod TableLemmas
 pub mod Values
 pub mod WidthLemmas

@@ -3,7 +3,7 @@ use Rattle.std.proofs.Common.{◌≡◌, ℕ, zero, suc, true, false, ◌||◌, 
 use Rattle.std.specs.List.{All, IsDistinct, AllByRecursion}
 use Rattle.std.proofs.lemmas.Bool.{eqb-true, eq-eqb, or_cases, or_left, or_right, or_parts, both_ways, false_from_ne_true, cases_Bool}
 use Rattle.std.proofs.lemmas.List.Folds.{list_any-append}
-use Rattle.std.proofs.lemmas.List.Elements.{All-head, All-tail}
+use Rattle.std.proofs.lemmas.List.Elements.{All-head, All-tail, All-nil, All-cons}
 use Rattle.cg_netlist.specs.Circuit.{is_in}
 
 -- a net is in two lists together where it is in one of them
@@ -41,6 +41,11 @@ All-member P (y ∷ ys) x all among =
       | inl here ↦ subst P (sym (eqb-true x y here)) (All-head P y ys all)
       | inr later ↦ All-member P ys x (All-tail P y ys all) later
     ]
+
+-- what is true of each that is in a list is true of all
+pub All-from_members : (P : ℕ → Type 0) (xs : List ℕ) → ((x : ℕ) → is_in xs x ≡ true → P x) → All P xs
+All-from_members P [] each = All-nil P
+All-from_members P (y ∷ ys) each = All-cons P y ys (each y (or_left (nat_eq y y) (is_in ys y) (eq-eqb y y refl))) (All-from_members P ys (λ x among. each x (or_right (nat_eq x y) (is_in ys x) among)))
 
 -- a net that differs from each of a list is not in it
 apart_from : (x y : ℕ) (ys : List ℕ) → AllByRecursion (λ z. nat_eq x z ≡ false) ys → is_in ys y ≡ true → x ≡ y → ⊥

@@ -1,0 +1,272 @@
+-- Given the bits of the clock, the data inputs, the registers and the gating cells' outputs, there are bits of all
+-- nets that settle, and no others.
+use Rattle.std.proofs.Common.{◌≡◌, ℕ, zero, suc, ◌+◌, ◌<◌, Bool, true, false, not, if◌then◌else◌, List, [], ◌∷◌, ◌++◌, map, length, slice_get, slice_index, Option, None, Some, nat_eq, refl, ap, sym, ◌∙◌, subst, inl, inr, arith}
+use Rattle.std.specs.List.{All, IsDistinct, flat_map, range_with_len}
+use Rattle.std.specs.Option.{option_map, option_map_or, option_to_list}
+use Rattle.std.proofs.lemmas.Bool.{eqb-true, or_cases, or_left, eq-eqb, both_ways}
+use Rattle.std.proofs.lemmas.List.{length-map, length-append, map-append}
+use Rattle.std.proofs.lemmas.Option.{slice_get-map, slice_get_within}
+use Rattle.cg_netlist.specs.Circuit.{Circuit, LogicCell, RegisterCell, is_in, data_inputs, cell_nets, gate_nets, register_nets, given_nets, drivers, used_nets, shown_nets}
+use Rattle.cg_netlist.specs.WellFormed.{IsDriven, AreRanks}
+use Rattle.cg_netlist.specs.Moment.{Settles, CellsHold, values_at, function_value, register_bits, shown_bits}
+use Rattle.cg_netlist.proofs.Members.{All-from_members, is_in_left, is_in_right, is_in_cases, place_of_member, member_at, All-member, distinct_left, distinct_right, distinct_apart}
+use Rattle.cg_netlist.proofs.OrderLemmas.{length-range_with_len}
+use Rattle.cg_netlist.proofs.Solve.{bit_beside, bits_beside, place_of, place_of-None, place_of-Some, place_of-at, solved, fixed, greatest, greatest_bounds}
+use Rattle.cg_netlist.proofs.Values.{element_at, same_places, split_lists, map_same, same_values, values_by, agree, by_place}
+
+-- a cell's inputs are among the nets that are used
+inputs_used : (cells : List LogicCell) (k x : ℕ) (cell : LogicCell) → slice_get cells k ≡ Some cell → is_in cell.inputs x ≡ true → is_in (flat_map (λ cell. cell.inputs) cells) x ≡ true
+inputs_used [] k x cell at among = absurd (cc)
+inputs_used (first ∷ cells) zero x cell at among =
+    let same : first ≡ cell = cc in
+    is_in_left first.inputs (flat_map (λ cell. cell.inputs) cells) x (subst (λ f. is_in f.inputs x ≡ true) (sym same) among)
+inputs_used (first ∷ cells) (suc k) x cell at among = is_in_right first.inputs (flat_map (λ cell. cell.inputs) cells) x (inputs_used cells k x cell at among)
+
+-- what the registers show is as long as the list of their nets
+length-register_bits : (registers : List RegisterCell) (state : List Bool) → length state ≡ length registers → length (register_bits registers state) ≡ length (flat_map shown_nets registers)
+length-register_bits [] state long = refl
+length-register_bits (r ∷ rs) [] long = absurd (omega arith)
+length-register_bits (r ∷ rs) (b ∷ bs) long =
+    omega (arith, length-append (shown_bits r b) (register_bits rs bs), length-append (shown_nets r) (flat_map shown_nets rs), length-map r.outputs (λ output. output.0), length-map r.outputs (λ output. if output.1 then not b else b), length-register_bits rs bs (omega arith))
+
+-- the rank of a net: 0 of a given net, and above the cell's rank of the output of a cell
+abbrev rank_at : List ℕ → Option ℕ → ℕ
+rank_at ranks None = 0
+rank_at ranks (Some k) = suc (slice_index ranks k)
+
+net_rank : Circuit → List ℕ → ℕ → ℕ
+net_rank c ranks x = rank_at ranks (place_of (cell_nets c) x)
+
+-- the net of the one that may be there
+pub in_option : (o : Option ℕ) (x : ℕ) → is_in (option_to_list o) x ≡ true → o ≡ Some x
+in_option None x among = absurd (both_ways false refl among)
+in_option (Some y) x among = elim (or_cases (nat_eq x y) false among) [ inl same ↦ ap (λ n. Some n) (sym (eqb-true x y same)) | inr none ↦ absurd (both_ways false refl none) ]
+
+pub from_option : (o : Option ℕ) (x : ℕ) → o ≡ Some x → is_in (option_to_list o) x ≡ true
+from_option None x is = absurd (cc)
+from_option (Some y) x is = let same : y ≡ x = cc in or_left (nat_eq x y) false (eq-eqb x y (sym same))
+
+-- a function's values on four lists, one after another
+four : (f : ℕ → Bool) (as' bs cs ds : List ℕ) (ws xs ys zs : List Bool) → length as' ≡ length ws → length bs ≡ length xs → length cs ≡ length ys → map f (as' ++ bs ++ cs ++ ds) ≡ ws ++ xs ++ ys ++ zs → (map f as' ≡ ws) × (map f bs ≡ xs) × (map f cs ≡ ys) × (map f ds ≡ zs)
+four f as' bs cs ds ws xs ys zs a b c same =
+    let whole : map f (as' ++ bs ++ cs) ++ map f ds ≡ (ws ++ xs ++ ys) ++ zs = sym (map-append f (as' ++ bs ++ cs) ds) ∙ same in
+    let third : (map f (as' ++ bs ++ cs) ≡ ws ++ xs ++ ys) × (map f ds ≡ zs) = split_lists (map f (as' ++ bs ++ cs)) (ws ++ xs ++ ys) (map f ds) zs
+    (omega (arith, a, b, c, length-map (as' ++ bs ++ cs) f, length-append (as' ++ bs) cs, length-append as' bs, length-append (ws ++ xs) ys, length-append ws xs)) whole in
+    let second : (map f (as' ++ bs) ≡ ws ++ xs) × (map f cs ≡ ys) = split_lists (map f (as' ++ bs)) (ws ++ xs) (map f cs) ys
+    (omega (arith, a, b, length-map (as' ++ bs) f, length-append as' bs, length-append ws xs)) (sym (map-append f (as' ++ bs) cs) ∙ third.0) in
+    let first : (map f as' ≡ ws) × (map f bs ≡ xs) = split_lists (map f as') ws (map f bs) xs (length-map as' f ∙ a) (sym (map-append f as' bs) ∙ second.0) in
+    (first.0, first.1, second.1, third.1)
+
+module _ (c : Circuit) (driven : IsDriven c) (used : All (λ net. net < length c.names) (used_nets c)) (ranks : List ℕ) (ranked : AreRanks c.cells ranks) where
+  cell_output : (k : ℕ) (cell : LogicCell) → slice_get c.cells k ≡ Some cell → slice_get (cell_nets c) k ≡ Some cell.output
+  cell_output k cell at = slice_get-map (λ cell. cell.output) c.cells k ∙ ap (λ o. option_map (λ cell. cell.output) o) at
+
+  -- the cell that drives a net
+  cell_of : (k x : ℕ) → slice_get (cell_nets c) k ≡ Some x → (cell : LogicCell) × (slice_get c.cells k ≡ Some cell) × (cell.output ≡ x)
+  cell_of k x at =
+      let e : (cell : LogicCell) × (slice_get c.cells k ≡ Some cell) = element_at c.cells k (omega (arith, slice_get_within (cell_nets c) k x at, length-map c.cells (λ cell. cell.output))) in
+      let output : Some e.0.output ≡ Some x = sym (cell_output k e.0 e.1) ∙ at in
+      (e.0, e.1, cc)
+
+  input_within : (k x : ℕ) (cell : LogicCell) → slice_get c.cells k ≡ Some cell → is_in cell.inputs x ≡ true → x < length c.names
+  input_within k x cell at among =
+      let inputs : List ℕ = flat_map (λ cell. cell.inputs) c.cells in
+      let enables : List ℕ = map (λ gater. gater.enable) c.gaters in
+      let taken : List ℕ = flat_map (λ register. register.inputs) c.registers in
+      All-member (λ net. net < length c.names) (used_nets c) x used (is_in_left (inputs ++ enables ++ taken) c.outputs x (is_in_left (inputs ++ enables) taken x (is_in_left inputs enables x (inputs_used c.cells k x cell at among))))
+
+  distinct_cells : IsDistinct nat_eq (cell_nets c)
+  distinct_cells = distinct_right (given_nets c) (cell_nets c) driven.once
+
+  net_rank-output : (k : ℕ) (cell : LogicCell) → slice_get c.cells k ≡ Some cell → net_rank c ranks cell.output ≡ suc (slice_index ranks k)
+  unfolding net_rank
+  net_rank-output k cell at = ap (rank_at ranks) (place_of-at (cell_nets c) k cell.output distinct_cells (cell_output k cell at))
+
+  -- an input of a cell has a lower rank than its output
+  input_lower : (k x : ℕ) (cell : LogicCell) → slice_get c.cells k ≡ Some cell → is_in cell.inputs x ≡ true → net_rank c ranks x < net_rank c ranks cell.output
+  unfolding net_rank
+  input_lower k x cell at among = go (place_of (cell_nets c) x) refl
+    where
+      go : (o : Option ℕ) → place_of (cell_nets c) x ≡ o → net_rank c ranks x < net_rank c ranks cell.output
+      go None is = let low : net_rank c ranks x ≡ 0 = ap (rank_at ranks) is in omega (arith, net_rank-output k cell at)
+      go (Some j) is =
+          let driver : (d : LogicCell) × (slice_get c.cells j ≡ Some d) × (d.output ≡ x) = cell_of j x (place_of-Some (cell_nets c) j x is) in
+          let low : net_rank c ranks x ≡ suc (slice_index ranks j) = ap (rank_at ranks) is in
+          omega (arith, net_rank-output k cell at, ranked.rising j k driver.0 cell driver.1 at (subst (λ y. is_in cell.inputs y ≡ true) (sym driver.2) among))
+
+  -- drivers are nets
+  drivers_within : (n : ℕ) (nets : List ℕ) → n ≡ length c.names → ((x : ℕ) → is_in nets x ≡ true → is_in (drivers c) x ≡ true) → All (λ x. x < n) nets
+  drivers_within n nets is among = All-from_members (λ x. x < n) nets (λ x inside. let below : x < length c.names = All-member (λ net. net < length c.names) (drivers c) x driven.nets (among x inside) in omega arith)
+
+  -- the given nets, one kind after another
+  data_given : (x : ℕ) → is_in (data_inputs c) x ≡ true → is_in (given_nets c) x ≡ true
+  data_given x among = is_in_left (data_inputs c ++ option_to_list c.clock ++ gate_nets c) (register_nets c) x (is_in_left (data_inputs c ++ option_to_list c.clock) (gate_nets c) x (is_in_left (data_inputs c) (option_to_list c.clock) x among))
+
+  clock_given : (x : ℕ) → is_in (option_to_list c.clock) x ≡ true → is_in (given_nets c) x ≡ true
+  clock_given x among = is_in_left (data_inputs c ++ option_to_list c.clock ++ gate_nets c) (register_nets c) x (is_in_left (data_inputs c ++ option_to_list c.clock) (gate_nets c) x (is_in_right (data_inputs c) (option_to_list c.clock) x among))
+
+  gate_given : (x : ℕ) → is_in (gate_nets c) x ≡ true → is_in (given_nets c) x ≡ true
+  gate_given x among = is_in_left (data_inputs c ++ option_to_list c.clock ++ gate_nets c) (register_nets c) x (is_in_right (data_inputs c ++ option_to_list c.clock) (gate_nets c) x among)
+
+  register_given : (x : ℕ) → is_in (register_nets c) x ≡ true → is_in (given_nets c) x ≡ true
+  register_given x among = is_in_right (data_inputs c ++ option_to_list c.clock ++ gate_nets c) (register_nets c) x among
+
+  given_driver : (x : ℕ) → is_in (given_nets c) x ≡ true → is_in (drivers c) x ≡ true
+  given_driver x among = is_in_left (given_nets c) (cell_nets c) x among
+
+  module _ (vs ws : List Bool) (clock : Bool) (inputs state gates : List Bool) (here : Settles c clock inputs state gates vs) (there : Settles c clock inputs state gates ws) where
+    -- nets of one kind that have the same bits
+    same_kind : (nets : List ℕ) → ((x : ℕ) → is_in nets x ≡ true → is_in (given_nets c) x ≡ true) → values_at vs nets ≡ values_at ws nets → (x : ℕ) → is_in nets x ≡ true → slice_get vs x ≡ slice_get ws x
+    same_kind nets given same x among =
+        let place : (k : ℕ) × (slice_get nets k ≡ Some x) = place_of_member nets x among in
+        agree vs ws nets place.0 x (drivers_within (length vs) nets here.long (λ y inside. given_driver y (given y inside))) (drivers_within (length ws) nets there.long (λ y inside. given_driver y (given y inside))) same place.1
+
+    same_given : (x : ℕ) → is_in (given_nets c) x ≡ true → slice_get vs x ≡ slice_get ws x
+    same_given x among = elim (is_in_cases (data_inputs c ++ option_to_list c.clock ++ gate_nets c) (register_nets c) x among) [
+      | inl front ↦ elim (is_in_cases (data_inputs c ++ option_to_list c.clock) (gate_nets c) x front) [
+        | inl source ↦ elim (is_in_cases (data_inputs c) (option_to_list c.clock) x source) [
+          | inl input ↦ same_kind (data_inputs c) data_given (here.shows_inputs ∙ sym there.shows_inputs) x input
+          | inr clk ↦ let is : c.clock ≡ Some x = in_option c.clock x clk in here.shows_clock x is ∙ sym (there.shows_clock x is)
+        ]
+        | inr gate ↦ same_kind (gate_nets c) gate_given (here.shows_gates ∙ sym there.shows_gates) x gate
+      ]
+      | inr register ↦ same_kind (register_nets c) register_given (here.shows_state ∙ sym there.shows_state) x register
+    ]
+
+    -- the nets of ranks below n have the same bits
+    same_below : (n x : ℕ) → net_rank c ranks x < n → x < length c.names → slice_get vs x ≡ slice_get ws x
+    same_below zero x low within = absurd (omega arith)
+    same_below (suc n) x low within = elim (is_in_cases (given_nets c) (cell_nets c) x (driven.driven x within)) [
+      | inl given ↦ same_given x given
+      | inr output ↦
+          let place : (k : ℕ) × (slice_get (cell_nets c) k ≡ Some x) = place_of_member (cell_nets c) x output in
+          let cell : (d : LogicCell) × (slice_get c.cells place.0 ≡ Some d) × (d.output ≡ x) = cell_of place.0 x place.1 in
+          let same : values_at vs cell.0.inputs ≡ values_at ws cell.0.inputs = same_values vs ws cell.0.inputs (λ y among.
+          let lower : net_rank c ranks y < net_rank c ranks x = subst (λ z. net_rank c ranks y < net_rank c ranks z) cell.2 (input_lower place.0 y cell.0 cell.1 among) in
+          same_below n y (omega arith) (input_within place.0 y cell.0 cell.1 among)) in
+          subst (λ z. slice_get vs z ≡ slice_get ws z) cell.2 (here.holds place.0 cell.0 cell.1 ∙ (ap (λ bits. Some (function_value cell.0.function bits)) same ∙ sym (there.holds place.0 cell.0 cell.1)))
+    ]
+
+    pub settles_once : vs ≡ ws
+    settles_once = same_places vs ws (here.long ∙ sym there.long) (λ k below. same_below (suc (net_rank c ranks k)) k (omega arith) (omega (arith, here.long)))
+
+  module _ (clock : Bool) (inputs state gates : List Bool) (inputs_long : length inputs ≡ length (data_inputs c)) (state_long : length state ≡ length c.registers) (gates_long : length gates ≡ length c.gaters) where
+    given_bits : List Bool
+    given_bits = inputs ++ map (λ _. clock) (option_to_list c.clock) ++ gates ++ register_bits c.registers state
+
+    abbrev given : ℕ → Bool
+    given = bit_beside (given_nets c) given_bits
+
+    -- one step: a given net has its given bit, and the output of a cell its function of the inputs
+    step_at : Option ℕ → (ℕ → Bool) → ℕ → Bool
+    step_at None f x = given x
+    step_at (Some k) f x = option_map_or (λ cell. function_value cell.function (map f cell.inputs)) (slice_get c.cells k) (given x)
+
+    step : (ℕ → Bool) → ℕ → Bool
+    step f x = step_at (place_of (cell_nets c) x) f x
+
+    step_at-cell : (k : ℕ) (cell : LogicCell) (f : ℕ → Bool) (x : ℕ) → slice_get c.cells k ≡ Some cell → step_at (Some k) f x ≡ function_value cell.function (map f cell.inputs)
+    unfolding step_at
+    step_at-cell k cell f x at = ap (λ o. option_map_or (λ cell. function_value cell.function (map f cell.inputs)) o (given x)) at
+
+    asks : (f g : ℕ → Bool) (x : ℕ) → ((y : ℕ) → net_rank c ranks y < net_rank c ranks x → f y ≡ g y) → step f x ≡ step g x
+    unfolding step step_at
+    asks f g x lower = go (place_of (cell_nets c) x) refl
+      where
+        go : (o : Option ℕ) → place_of (cell_nets c) x ≡ o → step_at o f x ≡ step_at o g x
+        go None is = refl
+        go (Some k) is =
+            let cell : (d : LogicCell) × (slice_get c.cells k ≡ Some d) × (d.output ≡ x) = cell_of k x (place_of-Some (cell_nets c) k x is) in
+            step_at-cell k cell.0 f x cell.1
+            ∙ (ap (function_value cell.0.function) (map_same f g cell.0.inputs (λ y among. lower y (subst (λ z. net_rank c ranks y < net_rank c ranks z) cell.2 (input_lower k y cell.0 cell.1 among))))
+            ∙ sym (step_at-cell k cell.0 g x cell.1))
+
+    fuel : ℕ
+    fuel = suc (suc (greatest ranks))
+
+    rank_below : (x : ℕ) → net_rank c ranks x < fuel
+    unfolding fuel net_rank
+    rank_below x = go (place_of (cell_nets c) x)
+      where
+        go : (o : Option ℕ) → rank_at ranks o < suc (suc (greatest ranks))
+        go None = omega arith
+        go (Some k) = omega (arith, greatest_bounds ranks k)
+
+    bits : ℕ → Bool
+    bits = solved step fuel
+
+    bits_step : (x : ℕ) → bits x ≡ step bits x
+    unfolding bits
+    bits_step x = fixed step (net_rank c ranks) asks fuel x (rank_below x)
+
+    all_bits : List Bool
+    all_bits = map bits (range_with_len 0 (length c.names))
+
+    bits_shown : (x : ℕ) → x < length c.names → slice_get all_bits x ≡ Some (bits x)
+    unfolding all_bits
+    bits_shown x within = by_place bits (length c.names) 0 x within ∙ ap (λ n. Some (bits n)) (let same : 0 + x ≡ x = omega arith in same)
+
+    bits_given : (x : ℕ) → is_in (given_nets c) x ≡ true → bits x ≡ given x
+    unfolding step step_at
+    bits_given x among = bits_step x ∙ ap (λ o. step_at o bits x) (place_of-None (cell_nets c) x (distinct_apart (given_nets c) (cell_nets c) driven.once x among))
+
+    given_shown : (x : ℕ) → is_in (given_nets c) x ≡ true → slice_get all_bits x ≡ Some (given x)
+    given_shown x among = bits_shown x (All-member (λ net. net < length c.names) (drivers c) x driven.nets (given_driver x among)) ∙ ap (λ b. Some b) (bits_given x among)
+
+    given_long : length given_bits ≡ length (given_nets c)
+    unfolding given_bits
+    given_long = omega (
+      arith,
+      inputs_long,
+      gates_long,
+      length-register_bits c.registers state state_long,
+      length-append (inputs ++ map (λ _. clock) (option_to_list c.clock) ++ gates) (register_bits c.registers state),
+      length-append (inputs ++ map (λ _. clock) (option_to_list c.clock)) gates,
+      length-append inputs (map (λ _. clock) (option_to_list c.clock)),
+      length-append (data_inputs c ++ option_to_list c.clock ++ gate_nets c) (register_nets c),
+      length-append (data_inputs c ++ option_to_list c.clock) (gate_nets c),
+      length-append (data_inputs c) (option_to_list c.clock),
+      length-map (option_to_list c.clock) (λ _. clock),
+      length-map c.gaters (λ gater. gater.output),
+    )
+
+    given_parts : (map given (data_inputs c) ≡ inputs) × (map given (option_to_list c.clock) ≡ map (λ _. clock) (option_to_list c.clock)) × (map given (gate_nets c) ≡ gates) × (map given (register_nets c) ≡ register_bits c.registers state)
+    unfolding given_bits
+    given_parts = four given (data_inputs c) (option_to_list c.clock) (gate_nets c) (register_nets c) inputs (map (λ _. clock) (option_to_list c.clock)) gates (register_bits c.registers state)
+        (sym inputs_long) (sym (length-map (option_to_list c.clock) (λ _. clock))) (length-map c.gaters (λ gater. gater.output) ∙ sym gates_long)
+        (bits_beside (given_nets c) given_bits (distinct_left (given_nets c) (cell_nets c) driven.once) given_long)
+
+    kind_shown : (nets : List ℕ) → ((x : ℕ) → is_in nets x ≡ true → is_in (given_nets c) x ≡ true) → values_at all_bits nets ≡ map given nets
+    kind_shown nets among = values_by given all_bits nets (λ x inside. given_shown x (among x inside))
+
+    all_long : length all_bits ≡ length c.names
+    unfolding all_bits
+    all_long = length-map (range_with_len 0 (length c.names)) bits ∙ length-range_with_len (length c.names) 0
+
+    clock_bit : (net : ℕ) → c.clock ≡ Some net → given net ≡ clock
+    clock_bit net is =
+        let one : map given (option_to_list (Some net)) ≡ map (λ _. clock) (option_to_list (Some net)) = subst (λ o. map given (option_to_list o) ≡ map (λ _. clock) (option_to_list o)) is given_parts.1 in
+        cc
+
+    cells_hold : CellsHold c.cells all_bits
+    unfolding step
+    cells_hold k cell at =
+        let output : is_in (drivers c) cell.output ≡ true = is_in_right (given_nets c) (cell_nets c) cell.output (member_at (cell_nets c) k cell.output (cell_output k cell at)) in
+        bits_shown cell.output (All-member (λ net. net < length c.names) (drivers c) cell.output driven.nets output)
+        ∙ ap (λ b. Some b) (bits_step cell.output
+        ∙ (ap (λ o. step_at o bits cell.output) (place_of-at (cell_nets c) k cell.output distinct_cells (cell_output k cell at))
+        ∙ (step_at-cell k cell bits cell.output at
+        ∙ ap (function_value cell.function) (sym (values_by bits all_bits cell.inputs (λ x among. bits_shown x (input_within k x cell at among)))))))
+
+    pub settles_some : (nets : List Bool) × Settles c clock inputs state gates nets
+    settles_some = (
+      all_bits,
+      record {
+        long = all_long;
+        shows_clock = λ net is. given_shown net (clock_given net (from_option c.clock net is)) ∙ ap (λ b. Some b) (clock_bit net is);
+        shows_inputs = kind_shown (data_inputs c) data_given ∙ given_parts.0;
+        shows_gates = kind_shown (gate_nets c) gate_given ∙ given_parts.2;
+        shows_state = kind_shown (register_nets c) register_given ∙ given_parts.3;
+        holds = cells_hold;
+      },
+    )

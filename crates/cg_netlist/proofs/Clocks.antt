@@ -1,12 +1,12 @@
 -- The clock nets at a moment: their bits follow from the clock and from the latches a moment ago, whatever the enables are.
-use Rattle.std.proofs.Common.{◌≡◌, ℕ, zero, suc, ◌+◌, ◌<◌, ◌≤◌, Bool, true, false, ◌&&◌, if◌then◌else◌, List, [], ◌∷◌, map, length, slice_get, slice_index, slice_index_or, Option, None, Some, nat_eq, ◌++◌, refl, ap, sym, ◌∙◌, subst, inl, inr, ◌⊎◌, arith}
+use Rattle.std.proofs.Common.{◌≡◌, ℕ, zero, suc, ◌<◌, Bool, true, false, ◌&&◌, if◌then◌else◌, List, [], ◌∷◌, map, length, slice_get, slice_index, slice_index_or, Option, None, Some, nat_eq, ◌++◌, refl, ap, sym, ◌∙◌, subst, inl, inr, arith}
 use Rattle.std.specs.List.{All, IsDistinct}
 use Rattle.std.specs.Option.{option_map, option_map_or, option_to_list}
 use Rattle.std.proofs.lemmas.List.{length-map}
 use Rattle.std.proofs.lemmas.Option.{slice_get-map, slice_get_within, get_or_from_slice_get}
 use Rattle.cg_netlist.specs.Circuit.{Circuit, GatingCell, is_in, data_inputs, cell_nets, gate_nets, register_nets, given_nets, clock_nets, drivers}
 use Rattle.cg_netlist.specs.WellFormed.{IsWellFormed}
-use Rattle.cg_netlist.specs.Moment.{Settles, bit, values_at, zip_with}
+use Rattle.cg_netlist.specs.Moment.{Settles, bit, zip_with}
 use Rattle.cg_netlist.specs.History.{next_latch, gate_bit}
 use Rattle.cg_netlist.proofs.Members.{All-member, All-from_members, is_in_left, is_in_right, is_in_cases, place_of_member, member_at, distinct_left, distinct_right, distinct_apart}
 use Rattle.cg_netlist.proofs.Settle.{in_option, from_option}
@@ -54,15 +54,15 @@ module _ (c : Circuit) (good : IsWellFormed c) where
 
   gates_within : (n : ℕ) → n ≡ length c.names → All (λ x. x < n) (gate_nets c)
   gates_within n is = All-from_members (λ x. x < n) (gate_nets c) (λ x among.
-    let below : x < length c.names = All-member (λ net. net < length c.names) (drivers c) x good.driven.nets (is_in_left (given_nets c) (cell_nets c) x (is_in_left (data_inputs c ++ option_to_list c.clock ++ gate_nets c) (register_nets c) x (is_in_right (data_inputs c ++ option_to_list c.clock) (gate_nets c) x among))) in
-    omega arith)
+      let below : x < length c.names = All-member (λ net. net < length c.names) (drivers c) x good.driven.nets (is_in_left (given_nets c) (cell_nets c) x (is_in_left (data_inputs c ++ option_to_list c.clock ++ gate_nets c) (register_nets c) x (is_in_right (data_inputs c ++ option_to_list c.clock) (gate_nets c) x among))) in
+      omega arith)
 
   -- nets that settle with these gates are so
   pub clocked_from : (clock : Bool) (inputs state before nets : List Bool) → Settles c clock inputs state (zip_with (gate_bit nets) c.gaters before) nets → Clocked c clock before nets
   clocked_from clock inputs state before nets settles = record {
     on_clock = λ net is. bit_shown nets net clock (settles.shows_clock net is);
     on_gates = λ k a b at was. bit_shown nets a.output (b && bit nets a.clock)
-      (sym (value_at nets (gate_nets c) k a.output (gates_within (length nets) settles.long) (gate_at k a at)) ∙ (ap (λ bits. slice_get bits k) settles.shows_gates ∙ zip_with_at (gate_bit nets) c.gaters before k a b at was));
+        (sym (value_at nets (gate_nets c) k a.output (gates_within (length nets) settles.long) (gate_at k a at)) ∙ (ap (λ bits. slice_get bits k) settles.shows_gates ∙ zip_with_at (gate_bit nets) c.gaters before k a b at was));
   }
 
   module _ (clock : Bool) (before vs ws : List Bool) (long : length before ≡ length c.gaters) (here : Clocked c clock before vs) (there : Clocked c clock before ws) where
@@ -180,11 +180,11 @@ module _ (c : Circuit) (good : IsWellFormed c) where
       pub pins_are_gates : map pins (gate_nets c) ≡ zip_with (gate_bit nets) c.gaters before
       pins_are_gates =
           same_places (map pins (gate_nets c)) (zip_with (gate_bit nets) c.gaters before)
-            (length-map (gate_nets c) pins ∙ (length-map c.gaters (λ gater. gater.output) ∙ sym (length-zip_with (gate_bit nets) c.gaters before (sym long))))
-            (λ k below.
-              let count : k < length c.gaters = omega (arith, length-map (gate_nets c) pins, length-map c.gaters (λ gater. gater.output)) in
-              let a : (a : GatingCell) × (slice_get c.gaters k ≡ Some a) = element_at c.gaters k count in
-              let b : (b : Bool) × (slice_get before k ≡ Some b) = element_at before k (omega (arith, long)) in
-              (slice_get-map pins (gate_nets c) k ∙ ap (λ o. option_map pins o) (gate_at k a.0 a.1))
-              ∙ (ap (λ p. Some p) (pins_gate k a.0 b.0 a.1 b.1 ∙ ap (λ p. b.0 && p) (sym (pins_shown a.0.clock (pin_clocked k a.0 a.1))))
-              ∙ sym (zip_with_at (gate_bit nets) c.gaters before k a.0 b.0 a.1 b.1)))
+          (length-map (gate_nets c) pins ∙ (length-map c.gaters (λ gater. gater.output) ∙ sym (length-zip_with (gate_bit nets) c.gaters before (sym long))))
+          (λ k below.
+          let count : k < length c.gaters = omega (arith, length-map (gate_nets c) pins, length-map c.gaters (λ gater. gater.output)) in
+          let a : (a : GatingCell) × (slice_get c.gaters k ≡ Some a) = element_at c.gaters k count in
+          let b : (b : Bool) × (slice_get before k ≡ Some b) = element_at before k (omega (arith, long)) in
+          (slice_get-map pins (gate_nets c) k ∙ ap (λ o. option_map pins o) (gate_at k a.0 a.1))
+          ∙ (ap (λ p. Some p) (pins_gate k a.0 b.0 a.1 b.1 ∙ ap (λ p. b.0 && p) (sym (pins_shown a.0.clock (pin_clocked k a.0 a.1))))
+          ∙ sym (zip_with_at (gate_bit nets) c.gaters before k a.0 b.0 a.1 b.1)))

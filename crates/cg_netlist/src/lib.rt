@@ -10,9 +10,11 @@
 //! - `parts`: logic cells, gating cells and registers as a netlist keeps them.
 //! - `view`: what a netlist shows of one of its parts.
 //! - `netlist`: well-formed netlists, and what they answer.
+//! - `history`: that a netlist has one history for each start and waveform.
 //! - `ranks`: how deep each logic cell lies under the registers and inputs, and which ones lie on a cycle.
 #![tactic(auto)]
 
+pub mod history;
 pub mod id;
 mod names;
 pub mod netlist;

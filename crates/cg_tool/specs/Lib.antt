@@ -5,3 +5,4 @@ pub mod Latches
 pub mod OpenCover
 pub mod Rows
 pub mod Words
+pub mod Writing

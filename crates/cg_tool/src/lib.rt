@@ -8,12 +8,14 @@
 //! - [`job`]: the words, read as what is to be done and the files that it is done with;
 //! - [`loading`]: a file's bytes from the shelf;
 //! - [`cg_blif`]: the text of a netlist, read as the netlist or its first fault;
+//! - [`cg_blif_out`]: a netlist, written as its canonical text;
 //! - [`writing`]: what a job puts out, written to the shelf;
 //! - [`refusal`]: why a job was not done, and its line of complaint;
 //! - [`status`]: how a run ends.
 #![tactic(auto)]
 
 pub mod cg_blif;
+pub mod cg_blif_out;
 pub mod job;
 mod loading;
 mod output;

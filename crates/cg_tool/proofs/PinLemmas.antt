@@ -64,9 +64,13 @@ pub gater_pins-drop : (clock enable output : Word) (pins : List PinData) (k : â„
 gater_pins-drop clock enable output pins k d below = rw (add-one, drop-cons pins k d) refl
 
 pub ruleset gates = (gate_text, append_assoc)
+
 pub ruleset turns = (gater_pins-drop, pins_text-append, append_assoc, add-one, drop-cons)
+
 pub ruleset logic = (logic_pins-output, logic_pins-input, logic_pins-none, append_assoc)
+
 pub ruleset flop = (flop_pins-input, flop_pins-other, flop_pins-none, pins_text-append, append_assoc)
+
 pub ruleset outputs = (output_at-drop, output_at-past)
 
 -- behind an output whose pin does not stand at the place

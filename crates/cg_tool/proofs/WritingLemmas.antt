@@ -6,16 +6,19 @@ use Rattle.std.proofs.lemmas.List.{take_more}
 use Rattle.std.proofs.lemmas.Option.{get_or_from_slice_get, slice_get_within}
 use Rattle.std.proofs.lemmas.List.Folds.{flat_map-map}
 use Rattle.cg_cell.specs.Cover.{CoverData}
-use Rattle.cg_text.specs.Written.{text_of, line_text}
+use Rattle.cg_text.specs.Written.{text_of, joined, line_text}
 use Rattle.cg_netlist.specs.Circuit.{Circuit}
 use Rattle.cg_netlist.specs.Canonical.{blif, cell_statement, clock_statements, gater_statement, net_name, net_names, register_statement, statements}
 use Rattle.cg_netlist.specs.Statements.{Word, Statement, Model, Inputs, Outputs, Names, End, place_byte, row_words, statement_lines, statements_text}
 use Rattle.cg_tool.specs.Writing.{header_text, parts_text, rows_text, spaced, statement_text}
 
 -- a line is its first word, the others each behind a space, and a line feed
+joined-spaced : (word : Word) (words : List Word) → joined (word ∷ words) ≡ word ++ spaced words
+joined-spaced word [] = sym (append-nil word)
+joined-spaced word (next ∷ words) = ap (λ later. word ++ (32 ∷ later)) (joined-spaced next words)
+
 pub line_text-spaced : (word : Word) (words : List Word) → line_text (word ∷ words) ≡ word ++ (spaced words ++ 10 ∷ [])
-line_text-spaced word [] = refl
-line_text-spaced word (next ∷ words) = ap (λ later. word ++ (32 ∷ later)) (line_text-spaced next words ∙ sym (append_assoc next (spaced words) (10 ∷ [])))
+line_text-spaced word words = ap (λ line. line ++ 10 ∷ []) (joined-spaced word words) ∙ append_assoc word (spaced words) (10 ∷ [])
 
 -- statements are written one after another
 pub statements_text-append : (ss ts : List Statement) → statements_text (ss ++ ts) ≡ statements_text ss ++ statements_text ts
@@ -61,10 +64,10 @@ slice_get-not_none (x ∷ xs) (suc k) below none = slice_get-not_none xs k (omeg
 pub parts_text-next : {Part : Type 0} (said : Part → Statement) (parts : List Part) (k id : ℕ) (start out new : List ℕ) → k < length parts → id ≡ k → out ≡ start ++ parts_text said (take k parts) → ((part : Part) → slice_get parts id ≡ Some part → new ≡ out ++ statement_text (said part)) → new ≡ start ++ parts_text said (take (k + 1) parts)
 parts_text-next {Part = Part} said parts k id start out new below same is adds = next (slice_get parts k) refl
   where
-  next : (o : Option Part) → slice_get parts k ≡ o → new ≡ start ++ parts_text said (take (k + 1) parts)
-  next None none = absurd (slice_get-not_none parts k below none)
-  next (Some part) at =
-      adds part (ap (slice_get parts) same ∙ at) ∙ ap (λ front. front ++ statement_text (said part)) is ∙ append_assoc start (parts_text said (take k parts)) (statement_text (said part)) ∙ ap (λ later. start ++ later) (sym (flat_map-take_next (λ p. statement_text (said p)) parts k part at))
+    next : (o : Option Part) → slice_get parts k ≡ o → new ≡ start ++ parts_text said (take (k + 1) parts)
+    next None none = absurd (slice_get-not_none parts k below none)
+    next (Some part) at =
+        adds part (ap (slice_get parts) same ∙ at) ∙ ap (λ front. front ++ statement_text (said part)) is ∙ append_assoc start (parts_text said (take k parts)) (statement_text (said part)) ∙ ap (λ later. start ++ later) (sym (flat_map-take_next (λ p. statement_text (said p)) parts k part at))
 
 -- the canonical text: the lines before the parts, the parts of each kind, and the end
 pub blif_text : (c : Circuit) → blif c ≡ header_text c ++ (parts_text (cell_statement c.names) c.cells ++ (parts_text (gater_statement c.names) c.gaters ++ (parts_text (register_statement c.names) c.registers ++ line_text (codes ".end" ∷ []))))
@@ -76,17 +79,24 @@ blif_text c =
     let last : List Statement = End ∷ [] in
     let apart : statements c ≡ heading ++ (cells ++ (gaters ++ (registers ++ last))) = simp append_assoc in
     let said : statements_text (heading ++ (cells ++ (gaters ++ (registers ++ last)))) ≡ statements_text heading ++ (statements_text cells ++ (statements_text gaters ++ (statements_text registers ++ statements_text last))) =
-        statements_text-append heading (cells ++ (gaters ++ (registers ++ last))) ∙ ap (λ t. statements_text heading ++ t) (statements_text-append cells (gaters ++ (registers ++ last)) ∙ ap (λ t. statements_text cells ++ t) (statements_text-append gaters (registers ++ last) ∙ ap (λ t. statements_text gaters ++ t) (statements_text-append registers last))) in
+    statements_text-append heading (cells ++ (gaters ++ (registers ++ last))) ∙ ap (λ t. statements_text heading ++ t) (statements_text-append cells (gaters ++ (registers ++ last)) ∙ ap (λ t. statements_text cells ++ t) (statements_text-append gaters (registers ++ last) ∙ ap (λ t. statements_text gaters ++ t) (statements_text-append registers last))) in
     ap statements_text apart ∙ said ∙ ap (λ t. statements_text heading ++ t) (same (line_text (codes ".end" ∷ [])) (statements_text-map (cell_statement c.names) c.cells) (statements_text-map (gater_statement c.names) c.gaters) (statements_text-map (register_statement c.names) c.registers))
   where
-  same : {a a' b b' d d' : List ℕ} (e : List ℕ) → a ≡ a' → b ≡ b' → d ≡ d' → a ++ (b ++ (d ++ e)) ≡ a' ++ (b' ++ (d' ++ e))
-  same e p q r = cc
+    same : {a a' b b' d d' : List ℕ} (e : List ℕ) → a ≡ a' → b ≡ b' → d ≡ d' → a ++ (b ++ (d ++ e)) ≡ a' ++ (b' ++ (d' ++ e))
+    same e p q r = cc
 
 pub ruleset turns = (flat_map-take_next, rows_text-drop, places-drop, append_assoc)
+
 pub ruleset names = (spaced-drop, append_assoc)
+
 pub ruleset lines = (line_text-spaced, append_assoc)
+
 pub ruleset rows = (append_assoc)
+
 pub ruleset latches = (append_assoc)
+
 pub ruleset names_lines = (names_line-spaced, append_assoc)
+
 pub ruleset covers = (cover_text, append_assoc)
+
 pub ruleset whole = (append_assoc)

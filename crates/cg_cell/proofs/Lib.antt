@@ -1,5 +1,6 @@
 pub mod Building
 pub mod Covers
+pub mod Evals
 pub mod Exprs
 pub mod Functions
 pub mod Libraries

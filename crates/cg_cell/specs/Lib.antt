@@ -5,6 +5,7 @@ pub mod Build
 pub mod Cell
 pub mod Cover
 pub mod Domain
+pub mod Eval
 pub mod Expr
 pub mod Fit
 pub mod Gates

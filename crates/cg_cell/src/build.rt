@@ -6,9 +6,23 @@
 ghost use Rattle.std.specs.Prelude.{not, ◌&&◌, ◌||◌, if◌then◌else◌, IsTrue, IfOk, IfErr, OnErr};
 ghost use Rattle.cg_cell.specs.Domain.{Keeps};
 ghost use Rattle.cg_cell.specs.Gates.{differ};
-ghost use Rattle.cg_cell.specs.Build.{build_or, build_xor, build_mux, Evaluates, Stops};
+ghost use Rattle.cg_cell.specs.Build.{build_and, build_or, build_xor, build_mux, Evaluates, Stops};
 
 use crate::domain::Domain;
+
+/// The value that is 1 where both are: the domain's own operation, told as the others are.
+pub fn and<D: Domain>(domain: &mut D, a: D::Value, b: D::Value) -> Result<D::Value, D::Fault>
+    requires left { IsTrue (D.ops.is_valid (D.seen domain.old) (D.number a)) }
+    requires right { IsTrue (D.ops.is_valid (D.seen domain.old) (D.number b)) }
+    ensures built { IfOk result (λ v. Evaluates D.ops (D.seen domain.old) (D.seen domain.new) (D.number v)
+        (build_and D.ops (D.number a) (D.number b) (D.seen domain.old))
+        (λ bits. D.ops.bit (D.seen domain.old) bits (D.number a) && D.ops.bit (D.seen domain.old) bits (D.number b))) }
+    ensures stopped { IfErr result (λ fault. Stops D.refuses
+        (build_and D.ops (D.number a) (D.number b) (D.seen domain.old)) fault (D.seen domain.new)) }
+    ensures kept { OnErr result (Keeps D.ops (D.seen domain.old) (D.seen domain.new)) }
+{
+    domain.and(a, b)
+}
 
 /// The value that is 1 where `a` or `b` is, built as `not and(not a, not b)`.
 ///

@@ -14,13 +14,15 @@
 //! - [`fit`]: which cells clock gating can use, and as what;
 //! - [`library`]: the cells of a library, by number, by name and by need;
 //! - [`domain`]: values that stand for bits, and what may be done with them;
-//! - [`build`]: what is built from them, as the exclusive or, in a fixed order.
+//! - [`build`]: what is built from them, as the exclusive or, in a fixed order;
+//! - [`eval`]: expressions over any domain.
 #![tactic(auto)]
 
 pub mod build;
 pub mod cell;
 pub mod cover;
 pub mod domain;
+pub mod eval;
 pub mod expr;
 pub mod fit;
 pub mod library;

@@ -1,3 +1,15 @@
 pub mod Lits
 pub mod Bounds
 pub mod Satisfiable
+pub mod Items
+pub mod DimacsReading
+pub mod LratReading
+pub mod Truth
+pub mod Open
+pub mod Accepted
+pub mod Live
+pub mod Progress
+pub mod Hints
+pub mod AcceptedLog
+pub mod DimacsText
+pub mod LratText

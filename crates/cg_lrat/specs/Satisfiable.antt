@@ -1,5 +1,5 @@
 -- When a formula is satisfiable (as in DIMACS CNF: a conjunction of clauses, each a disjunction of literals).
-use Rattle.std.specs.Prelude.{◌≡◌, ℕ, ◌-◌, Bool, true, false, not, List, length, if◌then◌else◌}
+use Rattle.std.specs.Prelude.{◌≡◌, ◌-◌, Bool, true, false, not, List, length, if◌then◌else◌}
 use Rattle.std.specs.List.{list_any, list_all, slice_index_or}
 use Rattle.cg_lrat.specs.declared.formula.Lit.{Lit}
 use Rattle.cg_lrat.specs.declared.formula.Clause.{Clause}

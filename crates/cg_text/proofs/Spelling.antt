@@ -55,6 +55,18 @@ spelled word n e = pick (is_number word) refl (nat_lt (digits_after 0 word) (2 ^
   pick true f false g = let no : Large ≡ Small n = rw (f, g) at e in absurd (cc)
   pick false f small g = let no : Misspelled ≡ Small n = rw f at e in absurd (cc)
 
+-- and the number is small
+pub number_small : (word : List ℕ) (n : ℕ) → number_of word ≡ Small n → n < 2 ^ 64
+number_small word n e = pick (is_number word) refl (nat_lt (digits_after 0 word) (2 ^ 64)) refl where
+  pick : (b : Bool) → is_number word ≡ b → (small : Bool) → nat_lt (digits_after 0 word) (2 ^ 64) ≡ small → n < 2 ^ 64
+  pick true f true g =
+      let small : Small (digits_after 0 word) ≡ Small n = rw (f, g) at e in
+      let value : digits_after 0 word ≡ n = cc in
+      let below : digits_after 0 word < 2 ^ 64 = ltb-true (digits_after 0 word) (2 ^ 64) g in
+      omega (arith, value, below)
+  pick true f false g = let no : Large ≡ Small n = rw (f, g) at e in absurd (cc)
+  pick false f small g = let no : Misspelled ≡ Small n = rw f at e in absurd (cc)
+
 leading : (n : ℕ) → n < 2 ^ 64 → (not (slice_index (decimal n) 0 == 48) || length (decimal n) == 1) ≡ true
 leading zero small = rw (decimal_digit 0 (omega arith)) refl
 leading (suc n) small =

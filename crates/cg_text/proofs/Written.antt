@@ -120,3 +120,16 @@ joined-last f (x ∷ []) last = simp append_assoc
 joined-last f (x ∷ y ∷ ys) last = ap (λ later. f x ++ 32 ∷ later) (joined-last f (y ∷ ys) last) ∙ regrouped (f x) (flat_map (λ x. f x ++ 32 ∷ []) (y ∷ ys)) last where
   regrouped : (a b c : List ℕ) → a ++ 32 ∷ (b ++ c) ≡ ((a ++ 32 ∷ []) ++ b) ++ c
   regrouped a b c = simp append_assoc
+
+-- words behind others
+pub joined-append : (ws vs : List (List ℕ)) → 0 < length ws → 0 < length vs → joined (ws ++ vs) ≡ joined ws ++ 32 ∷ joined vs
+joined-append [] vs some more = absurd (omega arith)
+joined-append (w ∷ []) [] some more = absurd (omega arith)
+joined-append (w ∷ []) (v ∷ vs) some more = refl
+joined-append (w ∷ u ∷ us) vs some more =
+    ap (λ later. w ++ 32 ∷ later) (joined-append (u ∷ us) vs (omega arith) more) ∙ sym (append_assoc w (32 ∷ joined (u ∷ us)) (32 ∷ joined vs))
+
+-- the text of more lines
+pub text_of-map : {X : Type 0} (f : X → List (List ℕ)) (xs : List X) → text_of (map f xs) ≡ flat_map (λ x. line_text (f x)) xs
+text_of-map f [] = refl
+text_of-map f (x ∷ xs) = ap (λ later. line_text (f x) ++ later) (text_of-map f xs)

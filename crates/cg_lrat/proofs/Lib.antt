@@ -1,0 +1,12 @@
+pub mod Before
+pub mod LogBefore
+pub mod Open
+pub mod Hints
+pub mod Tests
+pub mod Sound
+pub mod Deserved
+pub mod Words
+pub mod DimacsLaws
+pub mod LratLaws
+pub mod Pushed
+pub mod WrittenLaws

@@ -1,0 +1,127 @@
+-- What is written is in the grammars of DIMACS and LRAT.
+use Rattle.std.proofs.Common.{◌≡◌, ℕ, ◌+◌, ◌-◌, ◌^◌, ◌<◌, Bool, true, false, List, [], ◌∷◌, ◌++◌, length, map, get_or, codes, inr, lit<, refl, ap, ◌∙◌, arith}
+use Rattle.std.specs.Fmt.{decimal}
+use Rattle.std.specs.List.{AllByRecursion}
+use Rattle.cg_text.specs.declared.blanks.Blanks.TheVariants.{Whitespace}
+use Rattle.cg_text.specs.Written.{IsWord, IsLine, numbered}
+use Rattle.cg_text.proofs.Spelling.{decimal_word}
+use Rattle.cg_text.proofs.Written.{text_lines-text, not_comment, texts_of-numbered}
+use Rattle.cg_lrat.specs.declared.formula.Lit.{Lit}
+use Rattle.cg_lrat.specs.declared.formula.Clause.{Clause}
+use Rattle.cg_lrat.specs.declared.formula.Formula.{Formula}
+use Rattle.cg_lrat.specs.declared.log.Body.{Body}
+use Rattle.cg_lrat.specs.declared.log.Body.TheVariants.{Add, Delete}
+use Rattle.cg_lrat.specs.declared.log.Step.{Step}
+use Rattle.cg_lrat.specs.declared.log.Log.{Log}
+use Rattle.cg_lrat.specs.Bounds.{IsLit, IsClause, IsFormula, IsId, IsBody, IsStep, IsLog}
+use Rattle.cg_lrat.specs.DimacsReading.{layout}
+use Rattle.cg_lrat.specs.DimacsText.{lit_word, clause_words, header_words, DimacsText, dimacs_text}
+use Rattle.cg_lrat.specs.LratText.{id_words, body_words, step_words, step_line, LratText, lrat_text, counted_from, counted}
+use Rattle.cg_lrat.proofs.Words.{first_digit}
+
+-- words
+
+zero_is_word : IsWord Whitespace (codes "0")
+zero_is_word = record { full = lit< tt; whole = (refl, tt) }
+
+words_append : (ws vs : List (List ℕ)) → AllByRecursion (IsWord Whitespace) ws → AllByRecursion (IsWord Whitespace) vs → AllByRecursion (IsWord Whitespace) (ws ++ vs)
+words_append [] vs a b = b
+words_append (w ∷ ws) vs a b = (a.0, words_append ws vs a.1 b)
+
+-- a word, and no first byte of a comment
+record IsFirst (word : List ℕ) : Type 0 where
+  pub is_word : IsWord Whitespace word
+  pub other : get_or word 0 0 ≡ 99 → ⊥
+
+decimal_first : (n : ℕ) → n < 2 ^ 64 → IsFirst (decimal n)
+decimal_first n small = record { is_word = decimal_word Whitespace n small; other = first_digit 99 (inr (lit< tt)) n small }
+
+lit_first : (greatest : ℕ) → greatest < 2 ^ 32 → (lit : Lit) → IsLit greatest lit → IsFirst (lit_word lit)
+lit_first greatest few lit bounds = pick lit.inverted refl where
+  small : lit.variable < 2 ^ 64
+  small = omega (arith, few, bounds.within)
+
+  minus : (digits : List ℕ) → IsWord Whitespace digits → IsFirst (45 ∷ digits)
+  minus digits w = record { is_word = record { full = omega arith; whole = (refl, w.whole) }; other = λ e. omega (arith, e) }
+
+  pick : (b : Bool) → lit.inverted ≡ b → IsFirst (lit_word lit)
+  pick true f = rw f (minus (decimal lit.variable) (decimal_word Whitespace lit.variable small))
+  pick false f = rw f (decimal_first lit.variable small)
+
+lits_are_words : (greatest : ℕ) → greatest < 2 ^ 32 → (lits : List Lit) → AllByRecursion (IsLit greatest) lits → AllByRecursion (IsWord Whitespace) (map lit_word lits)
+lits_are_words greatest few [] bounds = tt
+lits_are_words greatest few (lit ∷ lits) bounds = ((lit_first greatest few lit bounds.0).is_word, lits_are_words greatest few lits bounds.1)
+
+ids_are_words : (list : List ℕ) → AllByRecursion IsId list → AllByRecursion (IsWord Whitespace) (map decimal list)
+ids_are_words [] bounds = tt
+ids_are_words (id ∷ later) bounds = (decimal_word Whitespace id (omega (arith, (bounds.0).within)), ids_are_words later bounds.1)
+
+clause_are_words : (greatest : ℕ) → greatest < 2 ^ 32 → (clause : Clause) → IsClause greatest clause → AllByRecursion (IsWord Whitespace) (clause_words clause)
+clause_are_words greatest few clause bounds = words_append (map lit_word clause.lits) (codes "0" ∷ []) (lits_are_words greatest few clause.lits bounds) (zero_is_word, tt)
+
+id_are_words : (list : List ℕ) → AllByRecursion IsId list → AllByRecursion (IsWord Whitespace) (id_words list)
+id_are_words list bounds = words_append (map decimal list) (codes "0" ∷ []) (ids_are_words list bounds) (zero_is_word, tt)
+
+-- a line whose first word begins no comment is read
+line_of : (w : List ℕ) (ws : List (List ℕ)) → IsFirst w → AllByRecursion (IsWord Whitespace) ws → IsLine layout (w ∷ ws)
+line_of w ws first later = record { some = omega arith; words = (first.is_word, later); read = not_comment w ws (first.is_word).full first.other }
+
+-- DIMACS
+
+header_line : (variables clauses : ℕ) → variables < 2 ^ 64 → clauses < 2 ^ 64 → IsLine layout (header_words variables clauses)
+header_line variables clauses few countable =
+    line_of (codes "p") (codes "cnf" ∷ decimal variables ∷ decimal clauses ∷ [])
+    (record { is_word = record { full = lit< tt; whole = (refl, tt) }; other = λ e. omega (arith, e) })
+    (record { full = lit< tt; whole = (refl, (refl, (refl, tt))) }, (decimal_word Whitespace variables few, (decimal_word Whitespace clauses countable, tt)))
+
+zero_first : IsFirst (codes "0")
+zero_first = record { is_word = zero_is_word; other = λ e. omega (arith, e) }
+
+clause_line : (greatest : ℕ) → greatest < 2 ^ 32 → (lits : List Lit) → AllByRecursion (IsLit greatest) lits → IsLine layout (map lit_word lits ++ codes "0" ∷ [])
+clause_line greatest few [] bounds = line_of (codes "0") [] zero_first tt
+clause_line greatest few (lit ∷ lits) bounds =
+    line_of (lit_word lit) (map lit_word lits ++ codes "0" ∷ []) (lit_first greatest few lit bounds.0)
+    (words_append (map lit_word lits) (codes "0" ∷ []) (lits_are_words greatest few lits bounds.1) (zero_is_word, tt))
+
+clause_lines : (greatest : ℕ) → greatest < 2 ^ 32 → (clauses : List Clause) → AllByRecursion (IsClause greatest) clauses → AllByRecursion (IsLine layout) (map clause_words clauses)
+clause_lines greatest few [] bounds = tt
+clause_lines greatest few (c ∷ cs) bounds = (clause_line greatest few c.lits bounds.0, clause_lines greatest few cs bounds.1)
+
+pub dimacs_written : (formula : Formula) → IsFormula formula → length formula.clauses < 2 ^ 64 → DimacsText (dimacs_text formula) formula
+dimacs_written formula bounds countable =
+    let few : formula.variables < 2 ^ 32 = omega (arith, bounds.few) in
+    let header = header_line formula.variables (length formula.clauses) (omega (arith, bounds.few)) countable in
+    record {
+      later = numbered 2 (map clause_words formula.clauses);
+      number = 1;
+      lines = text_lines-text layout (header_words formula.variables (length formula.clauses) ∷ map clause_words formula.clauses) (header, clause_lines formula.variables few formula.clauses bounds.clauses);
+      body = texts_of-numbered clause_words 2 formula.clauses;
+      bounds = bounds;
+      countable = countable;
+    }
+
+-- LRAT
+
+step_are_words : (body : Body) → IsBody body → AllByRecursion (IsWord Whitespace) (body_words body)
+step_are_words (Add clause hints) bounds =
+    words_append (clause_words clause) (id_words hints) (clause_are_words (2 ^ 31 - 1) (lit< tt) clause bounds.0) (id_are_words hints bounds.1)
+step_are_words (Delete list) bounds = (record { full = lit< tt; whole = (refl, tt) }, id_are_words list bounds)
+
+step_lines : (steps : List Step) → AllByRecursion IsStep steps → AllByRecursion (IsLine layout) (map step_words steps)
+step_lines [] bounds = tt
+step_lines (step ∷ later) bounds =
+    (line_of (decimal step.id) (body_words step.body) (decimal_first step.id (omega (arith, ((bounds.0).id).within))) (step_are_words step.body (bounds.0).body), step_lines later bounds.1)
+
+counted_lines : (number : ℕ) (steps : List Step) → numbered number (map step_words steps) ≡ map step_line (counted_from number steps)
+counted_lines number [] = refl
+counted_lines number (step ∷ later) = ap (λ ls. record { number = number; words = step_words step } ∷ ls) (counted_lines (number + 1) later)
+
+counted_bounds : (number : ℕ) (steps : List Step) → AllByRecursion IsStep steps → AllByRecursion IsStep (counted_from number steps)
+counted_bounds number [] bounds = tt
+counted_bounds number (step ∷ later) bounds = (record { id = (bounds.0).id; body = (bounds.0).body }, counted_bounds (number + 1) later bounds.1)
+
+pub lrat_written : (log : Log) → IsLog log → LratText (lrat_text log) (counted log)
+lrat_written log bounds = record {
+  lines = text_lines-text layout (map step_words log.steps) (step_lines log.steps bounds) ∙ counted_lines 1 log.steps;
+  bounds = counted_bounds 1 log.steps bounds;
+}

@@ -1,0 +1,8 @@
+use Rattle.std.proofs.Common.{◌≡◌, take}
+use Rattle.std.specs.List.{flat_map}
+use Rattle.cg_text.specs.Written.{line_text}
+use Rattle.cg_lrat.specs.LratText.{step_words}
+use Rattle.cg_lrat.proofs.lrat.write_lrat.Given as goal
+
+abbrev pub invariant-loop-step : goal.invariant-loop-step
+invariant-loop-step l = l.text.items ≡ flat_map (λ step. line_text (step_words step)) (take l.step-index l.log.steps)

@@ -1,0 +1,6 @@
+use Rattle.std.proofs.Common.{◌≡◌, map, take}
+use Rattle.cg_lrat.specs.Lits.{inverse}
+use Rattle.cg_lrat.proofs.progress.take_as_false.Given as goal
+
+abbrev pub invariant-loop-lit : goal.invariant-loop-lit
+invariant-loop-lit l = l.truth ≡ map inverse (take l.lit-index l.clause)

@@ -1,0 +1,14 @@
+use Rattle.std.proofs.Common.{◌≡◌, true, [], length}
+use Rattle.cg_lrat.specs.declared.formula.Lit.{Lit}
+use Rattle.cg_lrat.specs.Lits.{is_in}
+use Rattle.cg_lrat.specs.Truth.{is_marked}
+use Rattle.cg_lrat.proofs.truth.Truth.clear.Given as goal
+
+abbrev pub invariant-trail : goal.invariant-trail
+invariant-trail l = let inside = l.self-inside in record {
+  far : inside.far.keys ≡ [];
+  marks : (lit : Lit) → is_marked inside.near.items [] lit ≡ true → is_in lit inside.trail.items ≡ true;
+}
+
+abbrev pub decreases-trail : goal.decreases-trail
+decreases-trail l = length l.self-inside.trail.items

@@ -1,0 +1,47 @@
+//! The check of a log against a formula.
+
+ghost use Rattle.std.specs.Prelude.{◌≡◌, Ok, IfOk};
+ghost use Rattle.cg_lrat.specs.declared.verdict.Verdict.{Verdict};
+ghost use Rattle.cg_lrat.specs.Accepted.{verdict};
+ghost use Rattle.cg_lrat.specs.AcceptedLog.{Deserves};
+ghost use Rattle.cg_lrat.specs.Satisfiable.{IsUnsatisfiable};
+
+use crate::formula::Formula;
+use crate::log::Log;
+use crate::progress::{Next, Progress};
+use crate::verdict::{Verdict, Why};
+use std::alloc::{AllocError, Global};
+
+/// The check of logs. It knows nothing of how a log was found: it takes the steps in order, and looks at each
+/// addition along its own hints alone.
+pub struct Checker;
+
+// The verdict.
+fn run<'a>(alloc: Global, formula: &'a Formula, log: &'a Log) -> Result<Verdict, AllocError>
+    ensures { IfOk result (λ found. found ≡ verdict formula.entry.now log.entry.now) }
+{
+    let mut progress = Progress::start(alloc, formula)?;
+    for step in log.steps.as_slice() {
+        match progress.take(step)? {
+            Next::Refused(why) => return Ok(Verdict::Rejected(step.line, why)),
+            Next::Accepted => return Ok(Verdict::Accepted),
+            Next::Later => {}
+        }
+    }
+    Ok(Verdict::Rejected(0, Why::NoEmpty))
+}
+
+impl Checker {
+    /// Checks a log against a formula.
+    ///
+    /// `Accepted` is an answer that can be relied on: no assignment satisfies the formula. `Rejected` says nothing
+    /// of the formula.
+    pub fn check(alloc: Global, formula: &Formula, log: &Log) -> Result<Verdict, AllocError>
+        ensures deserved { IfOk result (λ found. Deserves formula.now log.now found) }
+        ensures only { (v : Verdict) → Deserves formula.now log.now v → IfOk result (λ found. found ≡ v) }
+        ensures exact { IfOk result (λ found. found ≡ verdict formula.now log.now) }
+        ensures sound { result ≡ Ok Verdict.Accepted → IsUnsatisfiable formula.now }
+    {
+        run(alloc, formula, log)
+    }
+}

@@ -1,0 +1,148 @@
+//! The state of a check between two steps of a log.
+
+ghost use Rattle.std.specs.Prelude.{◌≡◌, ◌==◌, Ok, Some, IfOk, OnOk, IsNone, List, length, map, nat_eq};
+ghost use Rattle.std.specs.List.{list_any};
+ghost use Rattle.std.specs.Map.{update};
+ghost use Rattle.cg_lrat.specs.Accepted.{with_clauses, clause_fault, addition_fault, deletion_fault, without};
+ghost use Rattle.cg_lrat.specs.Lits.{inverse, is_in};
+ghost use Rattle.cg_lrat.specs.Live.{live_in};
+
+use crate::formula::{Clause, Formula, Lit};
+use crate::hint::hints_fault;
+use crate::live::LiveClauses;
+use crate::log::{Body, Step};
+use crate::truth::Truth;
+use crate::verdict::Why;
+use std::alloc::{AllocError, Global};
+
+/// What a step leads to.
+#[derive(Clone, Copy)]
+pub enum Next {
+    /// The step is refused.
+    Refused(Why),
+    /// The step adds the empty clause.
+    Accepted,
+    /// The next step is to be taken.
+    Later,
+}
+
+/// The live clauses, and the greatest id so far.
+///
+/// The table of true literals means nothing between two steps. It is made once, because it has a place for each
+/// variable, and cleared by what a step made true.
+#[derive(Drop)]
+pub struct Progress<'a> {
+    live: LiveClauses<'a>,
+    greatest: u64,
+    truth: Truth,
+}
+
+impl<'a> Progress<'a> {
+    ghost use Rattle.cg_lrat.specs.Accepted.{first_state, state_after};
+    ghost use Rattle.cg_lrat.specs.Progress.{state_of, next_by, next_of};
+
+    /// The clauses of the formula are live.
+    pub fn start(alloc: Global, formula: &'a Formula) -> Result<Self, AllocError>
+        ensures { IfOk result (λ progress. state_of progress ≡ first_state formula.entry.now) }
+    {
+        let truth = Truth::new(alloc, formula.variables)?;
+        let mut live = LiveClauses::new(alloc);
+        let clauses = formula.clauses.as_slice();
+        put_clauses(&mut live, clauses)?;
+        Ok(Progress {
+            live,
+            greatest: clauses.len() as u64,
+            truth,
+        })
+    }
+
+    /// Takes a step.
+    pub fn take(&mut self, step: &'a Step) -> Result<Next, AllocError>
+        ensures next { IfOk result (λ next. next ≡ next_of (state_of self.old) step.entry.now) }
+        ensures later { result ≡ Ok Next.Later → state_of self.new ≡ state_after (state_of self.old) step.entry.now.body step.entry.now.id }
+    {
+        match &step.body {
+            Body::Add(clause, hints) => self.add(step.id, clause.lits.as_slice(), hints.as_slice()),
+            Body::Delete(ids) => match delete(&mut self.live, ids.as_slice()) {
+                Some(why) => Ok(Next::Refused(why)),
+                None => Ok(Next::Later),
+            },
+        }
+    }
+
+    // Takes an addition.
+    fn add(&mut self, id: u64, clause: &'a [Lit], hints: &[u64]) -> Result<Next, AllocError>
+        ensures next { IfOk result (λ next. next ≡ next_by (addition_fault (state_of self.old) id clause.entry.now hints.now) (length clause.entry.now == 0)) }
+        ensures later { result ≡ Ok Next.Later → state_of self.new ≡ record { live = update nat_eq (live_in self.old.live) id (Some clause.entry.now); greatest = id } }
+    {
+        if id <= self.greatest {
+            return Ok(Next::Refused(Why::UsedId(id)));
+        }
+        if let Some(why) = clause_fault(&self.live, &mut self.truth, clause, hints)? {
+            return Ok(Next::Refused(why));
+        }
+        if clause.is_empty() {
+            return Ok(Next::Accepted);
+        }
+        self.live.put(id, clause)?;
+        self.greatest = id;
+        Ok(Next::Later)
+    }
+}
+
+// The clauses are live, under the ids from 1 on.
+fn put_clauses<'a>(live: &mut LiveClauses<'a>, clauses: &'a [Clause]) -> Result<(), AllocError>
+    ensures { OnOk result (live_in live.new ≡ with_clauses 1 clauses.entry.now (live_in live.old)) }
+{
+    for (at, clause) in clauses.iter().enumerate() {
+        live.put(at as u64 + 1, clause.lits.as_slice())?;
+    }
+    Ok(())
+}
+
+// The fault of an addition whose id is new: a tautology, then its hints.
+fn clause_fault(
+    live: &LiveClauses<'_>,
+    truth: &mut Truth,
+    clause: &[Lit],
+    hints: &[u64],
+) -> Result<Option<Why>, AllocError>
+    ensures { IfOk result (λ fault. fault ≡ clause_fault (live_in live.now) clause.now hints.now) }
+{
+    take_as_false(truth, clause)?;
+    if has_true(truth, clause) {
+        return Ok(Some(Why::Tautology));
+    }
+    hints_fault(live, truth, hints)
+}
+
+// Makes each literal of the clause false, and no other.
+fn take_as_false(truth: &mut Truth, clause: &[Lit]) -> Result<(), AllocError>
+    ensures { OnOk result (truth.new ≡ map inverse clause.now) }
+{
+    truth.clear();
+    for lit in clause {
+        truth.make_true(lit.inverse())?;
+    }
+    Ok(())
+}
+
+// Whether a literal of the clause is true.
+fn has_true(truth: &Truth, clause: &[Lit]) -> bool
+    ensures { result ≡ list_any (λ lit. is_in lit truth.now) clause.now }
+{
+    clause.iter().any(|lit| truth.has(*lit))
+}
+
+// Takes clauses away, up to the first id that no live clause has.
+fn delete(live: &mut LiveClauses<'_>, ids: &[u64]) -> Option<Why>
+    ensures fault { result ≡ deletion_fault (live_in live.old) ids.now }
+    ensures gone { IsNone result → live_in live.new ≡ without (live_in live.old) ids.now }
+{
+    for id in ids {
+        if !live.remove(*id) {
+            return Some(Why::UnknownId(*id));
+        }
+    }
+    None
+}

@@ -1,17 +1,17 @@
 -- The clock nets at a moment: their bits follow from the clock and from the latches a moment ago, whatever the enables are.
-use Rattle.std.proofs.Common.{◌≡◌, ℕ, zero, suc, ◌<◌, Bool, true, false, ◌&&◌, if◌then◌else◌, List, [], ◌∷◌, map, length, slice_get, slice_index, slice_index_or, Option, None, Some, nat_eq, ◌++◌, refl, ap, sym, ◌∙◌, subst, inl, inr, arith}
-use Rattle.std.specs.List.{All, IsDistinct}
+use Rattle.std.proofs.Common.{◌≡◌, ℕ, zero, suc, ◌<◌, Bool, true, false, ◌&&◌, if◌then◌else◌, List, [], ◌∷◌, map, length, slice_get, slice_index, slice_index_or, Option, None, Some, refl, ap, sym, ◌∙◌, subst, inl, inr, arith}
+use Rattle.std.specs.List.{All}
 use Rattle.std.specs.Option.{option_map, option_map_or, option_to_list}
 use Rattle.std.proofs.lemmas.List.{length-map}
 use Rattle.std.proofs.lemmas.Option.{slice_get-map, slice_get_within, get_or_from_slice_get}
-use Rattle.cg_netlist.specs.Circuit.{Circuit, GatingCell, is_in, data_inputs, cell_nets, gate_nets, register_nets, given_nets, clock_nets, drivers}
+use Rattle.cg_netlist.specs.Circuit.{Circuit, GatingCell, is_in, gate_nets, clock_nets}
 use Rattle.cg_netlist.specs.WellFormed.{IsWellFormed}
 use Rattle.cg_netlist.specs.Moment.{Settles, bit, zip_with}
 use Rattle.cg_netlist.specs.History.{next_latch, gate_bit}
-use Rattle.cg_netlist.proofs.Members.{All-member, All-from_members, is_in_left, is_in_right, is_in_cases, place_of_member, member_at, distinct_left, distinct_right, distinct_apart}
-use Rattle.cg_netlist.proofs.Settle.{in_option, from_option}
+use Rattle.cg_netlist.proofs.Members.{is_in_left, is_in_right, is_in_cases, place_of_member, member_at}
+use Rattle.cg_netlist.proofs.Given.{in_option, from_option, gate_given, given_within, distinct_gates, clock_no_gate}
 use Rattle.cg_netlist.proofs.Solve.{place_of, place_of-None, place_of-Some, place_of-at, solved, fixed, greatest, greatest_bounds}
-use Rattle.cg_netlist.proofs.Values.{element_at, same_places, value_at, bit_shown, length-zip_with, zip_with_at}
+use Rattle.cg_netlist.proofs.Values.{at_map, under_map, element_at, same_places, value_at, bit_shown, length-zip_with, zip_with_at}
 
 held : (p b e : Bool) → ((if p then b else e) && p) ≡ (b && p)
 held true b e = refl
@@ -35,15 +35,12 @@ pub record Clocked (c : Circuit) (clock : Bool) (before nets : List Bool) : Type
   pub on_gates : (k : ℕ) (a : GatingCell) (b : Bool) → slice_get c.gaters k ≡ Some a → slice_get before k ≡ Some b → bit nets a.output ≡ (b && bit nets a.clock)
 
 module _ (c : Circuit) (good : IsWellFormed c) where
-  gate_at : (k : ℕ) (a : GatingCell) → slice_get c.gaters k ≡ Some a → slice_get (gate_nets c) k ≡ Some a.output
-  gate_at k a at = slice_get-map (λ gater. gater.output) c.gaters k ∙ ap (λ o. option_map (λ gater. gater.output) o) at
+  abbrev gate_at : (k : ℕ) (a : GatingCell) → slice_get c.gaters k ≡ Some a → slice_get (gate_nets c) k ≡ Some a.output
+  gate_at k a at = at_map (λ gater. gater.output) c.gaters k a at
 
   -- the gating cell that drives a net
-  gater_of : (k x : ℕ) → slice_get (gate_nets c) k ≡ Some x → (a : GatingCell) × (slice_get c.gaters k ≡ Some a) × (a.output ≡ x)
-  gater_of k x at =
-      let e : (a : GatingCell) × (slice_get c.gaters k ≡ Some a) = element_at c.gaters k (omega (arith, slice_get_within (gate_nets c) k x at, length-map c.gaters (λ gater. gater.output))) in
-      let output : Some e.0.output ≡ Some x = sym (gate_at k e.0 e.1) ∙ at in
-      (e.0, e.1, cc)
+  abbrev gater_of : (k x : ℕ) → slice_get (gate_nets c) k ≡ Some x → (a : GatingCell) × (slice_get c.gaters k ≡ Some a) × (a.output ≡ x)
+  gater_of k x at = under_map (λ gater. gater.output) c.gaters k x at
 
   -- the clock pin of a gating cell is on a clock net
   pub pin_clocked : (k : ℕ) (a : GatingCell) → slice_get c.gaters k ≡ Some a → is_in (clock_nets c) a.clock ≡ true
@@ -52,10 +49,8 @@ module _ (c : Circuit) (good : IsWellFormed c) where
     | inr before ↦ subst (λ x. is_in (clock_nets c) x ≡ true) before.3 (is_in_right (option_to_list c.clock) (gate_nets c) before.1.output (member_at (gate_nets c) before.0 before.1.output (gate_at before.0 before.1 before.2)))
   ]
 
-  gates_within : (n : ℕ) → n ≡ length c.names → All (λ x. x < n) (gate_nets c)
-  gates_within n is = All-from_members (λ x. x < n) (gate_nets c) (λ x among.
-      let below : x < length c.names = All-member (λ net. net < length c.names) (drivers c) x good.driven.nets (is_in_left (given_nets c) (cell_nets c) x (is_in_left (data_inputs c ++ option_to_list c.clock ++ gate_nets c) (register_nets c) x (is_in_right (data_inputs c ++ option_to_list c.clock) (gate_nets c) x among))) in
-      omega arith)
+  abbrev gates_within : (n : ℕ) → n ≡ length c.names → All (λ x. x < n) (gate_nets c)
+  gates_within n is = given_within c good.driven n (gate_nets c) is (gate_given c)
 
   -- nets that settle with these gates are so
   pub clocked_from : (clock : Bool) (inputs state before nets : List Bool) → Settles c clock inputs state (zip_with (gate_bit nets) c.gaters before) nets → Clocked c clock before nets
@@ -107,19 +102,16 @@ module _ (c : Circuit) (good : IsWellFormed c) where
     unfolding pin_at
     pin_at-gater k a f at = ap (λ o. option_map_or (λ gater. slice_index_or before k false && f gater.clock) o clock) at
 
-    distinct_gates : IsDistinct nat_eq (gate_nets c)
-    distinct_gates = distinct_right (data_inputs c ++ option_to_list c.clock) (gate_nets c) (distinct_left (data_inputs c ++ option_to_list c.clock ++ gate_nets c) (register_nets c) (distinct_left (given_nets c) (cell_nets c) good.driven.once))
-
     -- the clock is no output of a gating cell
     clock_place : (x : ℕ) → c.clock ≡ Some x → place_of (gate_nets c) x ≡ None
-    clock_place x is = place_of-None (gate_nets c) x (distinct_apart (data_inputs c ++ option_to_list c.clock) (gate_nets c) (distinct_left (data_inputs c ++ option_to_list c.clock ++ gate_nets c) (register_nets c) (distinct_left (given_nets c) (cell_nets c) good.driven.once)) x (is_in_right (data_inputs c) (option_to_list c.clock) x (from_option c.clock x is)))
+    clock_place x is = place_of-None (gate_nets c) x (clock_no_gate c good.driven x is)
 
     pin_lower : (k : ℕ) (a : GatingCell) → slice_get c.gaters k ≡ Some a → rank a.clock < suc (slice_index good.numbers k)
     unfolding rank pin_rank
     pin_lower k a at = elim (good.chained.chained k a at) [
       | inl clk ↦ let low : pin_rank (place_of (gate_nets c) a.clock) ≡ 0 = ap pin_rank (clock_place a.clock clk) in omega arith
       | inr lower ↦
-          let low : pin_rank (place_of (gate_nets c) a.clock) ≡ suc (slice_index good.numbers lower.0) = ap (λ x. pin_rank (place_of (gate_nets c) x)) (sym lower.3) ∙ ap pin_rank (place_of-at (gate_nets c) lower.0 lower.1.output distinct_gates (gate_at lower.0 lower.1 lower.2)) in
+          let low : pin_rank (place_of (gate_nets c) a.clock) ≡ suc (slice_index good.numbers lower.0) = ap (λ x. pin_rank (place_of (gate_nets c) x)) (sym lower.3) ∙ ap pin_rank (place_of-at (gate_nets c) lower.0 lower.1.output (distinct_gates c good.driven) (gate_at lower.0 lower.1 lower.2)) in
           let below : slice_index good.numbers lower.0 < slice_index good.numbers k = lower.4 in
           omega arith
     ]
@@ -162,7 +154,7 @@ module _ (c : Circuit) (good : IsWellFormed c) where
     unfolding step
     pins_gate k a b at was =
         pins_step a.output
-        ∙ (ap (λ o. pin_at o pins) (place_of-at (gate_nets c) k a.output distinct_gates (gate_at k a at))
+        ∙ (ap (λ o. pin_at o pins) (place_of-at (gate_nets c) k a.output (distinct_gates c good.driven) (gate_at k a at))
         ∙ (pin_at-gater k a pins at
         ∙ ap (λ l. l && pins a.clock) (get_or_from_slice_get before k b false was)))
 
@@ -176,15 +168,19 @@ module _ (c : Circuit) (good : IsWellFormed c) where
             bit_shown nets x (pins x) (sym (value_at nets (gate_nets c) place.0 x (gates_within (length nets) settles.long) place.1) ∙ (ap (λ bits. slice_get bits place.0) settles.shows_gates ∙ (slice_get-map pins (gate_nets c) place.0 ∙ ap (λ o. option_map pins o) place.1)))
       ]
 
-      -- and then the gating cells' outputs are the latches before and the pins
+      -- and then a gating cell's output is the latch before and the pin
+      gate_shown : (k : ℕ) → k < length c.gaters → slice_get (map pins (gate_nets c)) k ≡ slice_get (zip_with (gate_bit nets) c.gaters before) k
+      gate_shown k within =
+          let a : (a : GatingCell) × (slice_get c.gaters k ≡ Some a) = element_at c.gaters k within in
+          let b : (b : Bool) × (slice_get before k ≡ Some b) = element_at before k (omega (arith, long)) in
+          let left : slice_get (map pins (gate_nets c)) k ≡ Some (pins a.0.output) = slice_get-map pins (gate_nets c) k ∙ ap (option_map pins) (gate_at k a.0 a.1) in
+          let right : slice_get (zip_with (gate_bit nets) c.gaters before) k ≡ Some (b.0 && bit nets a.0.clock) = zip_with_at (gate_bit nets) c.gaters before k a.0 b.0 a.1 b.1 in
+          let same : pins a.0.output ≡ (b.0 && bit nets a.0.clock) = pins_gate k a.0 b.0 a.1 b.1 ∙ ap (λ p. b.0 && p) (sym (pins_shown a.0.clock (pin_clocked k a.0 a.1))) in
+          left ∙ (ap (λ p. Some p) same ∙ sym right)
+
       pub pins_are_gates : map pins (gate_nets c) ≡ zip_with (gate_bit nets) c.gaters before
       pins_are_gates =
+          let count : length (map pins (gate_nets c)) ≡ length c.gaters = length-map (gate_nets c) pins ∙ length-map c.gaters (λ gater. gater.output) in
           same_places (map pins (gate_nets c)) (zip_with (gate_bit nets) c.gaters before)
-          (length-map (gate_nets c) pins ∙ (length-map c.gaters (λ gater. gater.output) ∙ sym (length-zip_with (gate_bit nets) c.gaters before (sym long))))
-          (λ k below.
-          let count : k < length c.gaters = omega (arith, length-map (gate_nets c) pins, length-map c.gaters (λ gater. gater.output)) in
-          let a : (a : GatingCell) × (slice_get c.gaters k ≡ Some a) = element_at c.gaters k count in
-          let b : (b : Bool) × (slice_get before k ≡ Some b) = element_at before k (omega (arith, long)) in
-          (slice_get-map pins (gate_nets c) k ∙ ap (λ o. option_map pins o) (gate_at k a.0 a.1))
-          ∙ (ap (λ p. Some p) (pins_gate k a.0 b.0 a.1 b.1 ∙ ap (λ p. b.0 && p) (sym (pins_shown a.0.clock (pin_clocked k a.0 a.1))))
-          ∙ sym (zip_with_at (gate_bit nets) c.gaters before k a.0 b.0 a.1 b.1)))
+          (count ∙ sym (length-zip_with (gate_bit nets) c.gaters before (sym long)))
+          (λ k below. gate_shown k (omega (arith, count)))

@@ -1,18 +1,17 @@
 -- Given the bits of the clock, the data inputs, the registers and the gating cells' outputs, there are bits of all
 -- nets that settle, and no others.
-use Rattle.std.proofs.Common.{◌≡◌, ℕ, zero, suc, ◌+◌, ◌<◌, Bool, true, false, not, if◌then◌else◌, List, [], ◌∷◌, ◌++◌, map, length, slice_get, slice_index, Option, None, Some, nat_eq, refl, ap, sym, ◌∙◌, subst, inl, inr, arith}
-use Rattle.std.specs.List.{All, IsDistinct, flat_map, range_with_len}
-use Rattle.std.specs.Option.{option_map, option_map_or, option_to_list}
-use Rattle.std.proofs.lemmas.Bool.{eqb-true, or_cases, or_left, eq-eqb, both_ways}
+use Rattle.std.proofs.Common.{◌≡◌, ℕ, zero, suc, ◌+◌, ◌<◌, Bool, true, not, if◌then◌else◌, List, [], ◌∷◌, ◌++◌, map, length, slice_get, slice_index, Option, None, Some, refl, ap, sym, ◌∙◌, subst, inl, inr, arith}
+use Rattle.std.specs.List.{All, flat_map, range_with_len}
+use Rattle.std.specs.Option.{option_map_or, option_to_list}
 use Rattle.std.proofs.lemmas.List.{length-map, length-append, map-append}
-use Rattle.std.proofs.lemmas.Option.{slice_get-map, slice_get_within}
 use Rattle.cg_netlist.specs.Circuit.{Circuit, LogicCell, RegisterCell, is_in, data_inputs, cell_nets, gate_nets, register_nets, given_nets, drivers, used_nets, shown_nets}
 use Rattle.cg_netlist.specs.WellFormed.{IsDriven, AreRanks}
 use Rattle.cg_netlist.specs.Moment.{Settles, CellsHold, values_at, function_value, register_bits, shown_bits}
-use Rattle.cg_netlist.proofs.Members.{All-from_members, is_in_left, is_in_right, is_in_cases, place_of_member, member_at, All-member, distinct_left, distinct_right, distinct_apart}
+use Rattle.cg_netlist.proofs.Given.{Data, Clock, Gate, Shown, kind_of, data_given, clock_given, gate_given, register_given, given_driver, distinct_given, distinct_cells, given_no_cell, driver_within, given_within}
+use Rattle.cg_netlist.proofs.Members.{is_in_left, is_in_right, is_in_cases, place_of_member, member_at, All-member}
 use Rattle.cg_netlist.proofs.OrderLemmas.{length-range_with_len}
 use Rattle.cg_netlist.proofs.Solve.{bit_beside, bits_beside, place_of, place_of-None, place_of-Some, place_of-at, solved, fixed, greatest, greatest_bounds}
-use Rattle.cg_netlist.proofs.Values.{element_at, same_places, split_lists, map_same, same_values, values_by, agree, by_place}
+use Rattle.cg_netlist.proofs.Values.{at_map, under_map, same_places, split_lists, map_same, same_values, values_by, agree, by_place}
 
 -- a cell's inputs are among the nets that are used
 inputs_used : (cells : List LogicCell) (k x : ℕ) (cell : LogicCell) → slice_get cells k ≡ Some cell → is_in cell.inputs x ≡ true → is_in (flat_map (λ cell. cell.inputs) cells) x ≡ true
@@ -37,15 +36,6 @@ rank_at ranks (Some k) = suc (slice_index ranks k)
 net_rank : Circuit → List ℕ → ℕ → ℕ
 net_rank c ranks x = rank_at ranks (place_of (cell_nets c) x)
 
--- the net of the one that may be there
-pub in_option : (o : Option ℕ) (x : ℕ) → is_in (option_to_list o) x ≡ true → o ≡ Some x
-in_option None x among = absurd (both_ways false refl among)
-in_option (Some y) x among = elim (or_cases (nat_eq x y) false among) [ inl same ↦ ap (λ n. Some n) (sym (eqb-true x y same)) | inr none ↦ absurd (both_ways false refl none) ]
-
-pub from_option : (o : Option ℕ) (x : ℕ) → o ≡ Some x → is_in (option_to_list o) x ≡ true
-from_option None x is = absurd (cc)
-from_option (Some y) x is = let same : y ≡ x = cc in or_left (nat_eq x y) false (eq-eqb x y (sym same))
-
 -- a function's values on four lists, one after another
 four : (f : ℕ → Bool) (as' bs cs ds : List ℕ) (ws xs ys zs : List Bool) → length as' ≡ length ws → length bs ≡ length xs → length cs ≡ length ys → map f (as' ++ bs ++ cs ++ ds) ≡ ws ++ xs ++ ys ++ zs → (map f as' ≡ ws) × (map f bs ≡ xs) × (map f cs ≡ ys) × (map f ds ≡ zs)
 four f as' bs cs ds ws xs ys zs a b c same =
@@ -58,15 +48,12 @@ four f as' bs cs ds ws xs ys zs a b c same =
     (first.0, first.1, second.1, third.1)
 
 module _ (c : Circuit) (driven : IsDriven c) (used : All (λ net. net < length c.names) (used_nets c)) (ranks : List ℕ) (ranked : AreRanks c.cells ranks) where
-  cell_output : (k : ℕ) (cell : LogicCell) → slice_get c.cells k ≡ Some cell → slice_get (cell_nets c) k ≡ Some cell.output
-  cell_output k cell at = slice_get-map (λ cell. cell.output) c.cells k ∙ ap (λ o. option_map (λ cell. cell.output) o) at
+  abbrev output_at : (k : ℕ) (cell : LogicCell) → slice_get c.cells k ≡ Some cell → slice_get (cell_nets c) k ≡ Some cell.output
+  output_at k cell at = at_map (λ cell. cell.output) c.cells k cell at
 
   -- the cell that drives a net
-  cell_of : (k x : ℕ) → slice_get (cell_nets c) k ≡ Some x → (cell : LogicCell) × (slice_get c.cells k ≡ Some cell) × (cell.output ≡ x)
-  cell_of k x at =
-      let e : (cell : LogicCell) × (slice_get c.cells k ≡ Some cell) = element_at c.cells k (omega (arith, slice_get_within (cell_nets c) k x at, length-map c.cells (λ cell. cell.output))) in
-      let output : Some e.0.output ≡ Some x = sym (cell_output k e.0 e.1) ∙ at in
-      (e.0, e.1, cc)
+  abbrev cell_of : (k x : ℕ) → slice_get (cell_nets c) k ≡ Some x → (cell : LogicCell) × (slice_get c.cells k ≡ Some cell) × (cell.output ≡ x)
+  cell_of k x at = under_map (λ cell. cell.output) c.cells k x at
 
   input_within : (k x : ℕ) (cell : LogicCell) → slice_get c.cells k ≡ Some cell → is_in cell.inputs x ≡ true → x < length c.names
   input_within k x cell at among =
@@ -75,12 +62,9 @@ module _ (c : Circuit) (driven : IsDriven c) (used : All (λ net. net < length c
       let taken : List ℕ = flat_map (λ register. register.inputs) c.registers in
       All-member (λ net. net < length c.names) (used_nets c) x used (is_in_left (inputs ++ enables ++ taken) c.outputs x (is_in_left (inputs ++ enables) taken x (is_in_left inputs enables x (inputs_used c.cells k x cell at among))))
 
-  distinct_cells : IsDistinct nat_eq (cell_nets c)
-  distinct_cells = distinct_right (given_nets c) (cell_nets c) driven.once
-
   net_rank-output : (k : ℕ) (cell : LogicCell) → slice_get c.cells k ≡ Some cell → net_rank c ranks cell.output ≡ suc (slice_index ranks k)
   unfolding net_rank
-  net_rank-output k cell at = ap (rank_at ranks) (place_of-at (cell_nets c) k cell.output distinct_cells (cell_output k cell at))
+  net_rank-output k cell at = ap (rank_at ranks) (place_of-at (cell_nets c) k cell.output (distinct_cells c driven) (output_at k cell at))
 
   -- an input of a cell has a lower rank than its output
   input_lower : (k x : ℕ) (cell : LogicCell) → slice_get c.cells k ≡ Some cell → is_in cell.inputs x ≡ true → net_rank c ranks x < net_rank c ranks cell.output
@@ -94,43 +78,19 @@ module _ (c : Circuit) (driven : IsDriven c) (used : All (λ net. net < length c
           let low : net_rank c ranks x ≡ suc (slice_index ranks j) = ap (rank_at ranks) is in
           omega (arith, net_rank-output k cell at, ranked.rising j k driver.0 cell driver.1 at (subst (λ y. is_in cell.inputs y ≡ true) (sym driver.2) among))
 
-  -- drivers are nets
-  drivers_within : (n : ℕ) (nets : List ℕ) → n ≡ length c.names → ((x : ℕ) → is_in nets x ≡ true → is_in (drivers c) x ≡ true) → All (λ x. x < n) nets
-  drivers_within n nets is among = All-from_members (λ x. x < n) nets (λ x inside. let below : x < length c.names = All-member (λ net. net < length c.names) (drivers c) x driven.nets (among x inside) in omega arith)
-
-  -- the given nets, one kind after another
-  data_given : (x : ℕ) → is_in (data_inputs c) x ≡ true → is_in (given_nets c) x ≡ true
-  data_given x among = is_in_left (data_inputs c ++ option_to_list c.clock ++ gate_nets c) (register_nets c) x (is_in_left (data_inputs c ++ option_to_list c.clock) (gate_nets c) x (is_in_left (data_inputs c) (option_to_list c.clock) x among))
-
-  clock_given : (x : ℕ) → is_in (option_to_list c.clock) x ≡ true → is_in (given_nets c) x ≡ true
-  clock_given x among = is_in_left (data_inputs c ++ option_to_list c.clock ++ gate_nets c) (register_nets c) x (is_in_left (data_inputs c ++ option_to_list c.clock) (gate_nets c) x (is_in_right (data_inputs c) (option_to_list c.clock) x among))
-
-  gate_given : (x : ℕ) → is_in (gate_nets c) x ≡ true → is_in (given_nets c) x ≡ true
-  gate_given x among = is_in_left (data_inputs c ++ option_to_list c.clock ++ gate_nets c) (register_nets c) x (is_in_right (data_inputs c ++ option_to_list c.clock) (gate_nets c) x among)
-
-  register_given : (x : ℕ) → is_in (register_nets c) x ≡ true → is_in (given_nets c) x ≡ true
-  register_given x among = is_in_right (data_inputs c ++ option_to_list c.clock ++ gate_nets c) (register_nets c) x among
-
-  given_driver : (x : ℕ) → is_in (given_nets c) x ≡ true → is_in (drivers c) x ≡ true
-  given_driver x among = is_in_left (given_nets c) (cell_nets c) x among
-
   module _ (vs ws : List Bool) (clock : Bool) (inputs state gates : List Bool) (here : Settles c clock inputs state gates vs) (there : Settles c clock inputs state gates ws) where
     -- nets of one kind that have the same bits
     same_kind : (nets : List ℕ) → ((x : ℕ) → is_in nets x ≡ true → is_in (given_nets c) x ≡ true) → values_at vs nets ≡ values_at ws nets → (x : ℕ) → is_in nets x ≡ true → slice_get vs x ≡ slice_get ws x
     same_kind nets given same x among =
         let place : (k : ℕ) × (slice_get nets k ≡ Some x) = place_of_member nets x among in
-        agree vs ws nets place.0 x (drivers_within (length vs) nets here.long (λ y inside. given_driver y (given y inside))) (drivers_within (length ws) nets there.long (λ y inside. given_driver y (given y inside))) same place.1
+        agree vs ws nets place.0 x (given_within c driven (length vs) nets here.long given) (given_within c driven (length ws) nets there.long given) same place.1
 
     same_given : (x : ℕ) → is_in (given_nets c) x ≡ true → slice_get vs x ≡ slice_get ws x
-    same_given x among = elim (is_in_cases (data_inputs c ++ option_to_list c.clock ++ gate_nets c) (register_nets c) x among) [
-      | inl front ↦ elim (is_in_cases (data_inputs c ++ option_to_list c.clock) (gate_nets c) x front) [
-        | inl source ↦ elim (is_in_cases (data_inputs c) (option_to_list c.clock) x source) [
-          | inl input ↦ same_kind (data_inputs c) data_given (here.shows_inputs ∙ sym there.shows_inputs) x input
-          | inr clk ↦ let is : c.clock ≡ Some x = in_option c.clock x clk in here.shows_clock x is ∙ sym (there.shows_clock x is)
-        ]
-        | inr gate ↦ same_kind (gate_nets c) gate_given (here.shows_gates ∙ sym there.shows_gates) x gate
-      ]
-      | inr register ↦ same_kind (register_nets c) register_given (here.shows_state ∙ sym there.shows_state) x register
+    same_given x among = elim (kind_of c x among) [
+      | Data input ↦ same_kind (data_inputs c) (data_given c) (here.shows_inputs ∙ sym there.shows_inputs) x input
+      | Clock is ↦ here.shows_clock x is ∙ sym (there.shows_clock x is)
+      | Gate gate ↦ same_kind (gate_nets c) (gate_given c) (here.shows_gates ∙ sym there.shows_gates) x gate
+      | Shown register ↦ same_kind (register_nets c) (register_given c) (here.shows_state ∙ sym there.shows_state) x register
     ]
 
     -- the nets of ranks below n have the same bits
@@ -208,10 +168,10 @@ module _ (c : Circuit) (driven : IsDriven c) (used : All (λ net. net < length c
 
     bits_given : (x : ℕ) → is_in (given_nets c) x ≡ true → bits x ≡ given x
     unfolding step step_at
-    bits_given x among = bits_step x ∙ ap (λ o. step_at o bits x) (place_of-None (cell_nets c) x (distinct_apart (given_nets c) (cell_nets c) driven.once x among))
+    bits_given x among = bits_step x ∙ ap (λ o. step_at o bits x) (place_of-None (cell_nets c) x (given_no_cell c driven x among))
 
     given_shown : (x : ℕ) → is_in (given_nets c) x ≡ true → slice_get all_bits x ≡ Some (given x)
-    given_shown x among = bits_shown x (All-member (λ net. net < length c.names) (drivers c) x driven.nets (given_driver x among)) ∙ ap (λ b. Some b) (bits_given x among)
+    given_shown x among = bits_shown x (driver_within c driven x (given_driver c x among)) ∙ ap (λ b. Some b) (bits_given x among)
 
     given_long : length given_bits ≡ length (given_nets c)
     unfolding given_bits
@@ -234,7 +194,7 @@ module _ (c : Circuit) (driven : IsDriven c) (used : All (λ net. net < length c
     unfolding given_bits
     given_parts = four given (data_inputs c) (option_to_list c.clock) (gate_nets c) (register_nets c) inputs (map (λ _. clock) (option_to_list c.clock)) gates (register_bits c.registers state)
         (sym inputs_long) (sym (length-map (option_to_list c.clock) (λ _. clock))) (length-map c.gaters (λ gater. gater.output) ∙ sym gates_long)
-        (bits_beside (given_nets c) given_bits (distinct_left (given_nets c) (cell_nets c) driven.once) given_long)
+        (bits_beside (given_nets c) given_bits (distinct_given c driven) given_long)
 
     kind_shown : (nets : List ℕ) → ((x : ℕ) → is_in nets x ≡ true → is_in (given_nets c) x ≡ true) → values_at all_bits nets ≡ map given nets
     kind_shown nets among = values_by given all_bits nets (λ x inside. given_shown x (among x inside))
@@ -251,10 +211,10 @@ module _ (c : Circuit) (driven : IsDriven c) (used : All (λ net. net < length c
     cells_hold : CellsHold c.cells all_bits
     unfolding step
     cells_hold k cell at =
-        let output : is_in (drivers c) cell.output ≡ true = is_in_right (given_nets c) (cell_nets c) cell.output (member_at (cell_nets c) k cell.output (cell_output k cell at)) in
-        bits_shown cell.output (All-member (λ net. net < length c.names) (drivers c) cell.output driven.nets output)
+        let output : is_in (drivers c) cell.output ≡ true = is_in_right (given_nets c) (cell_nets c) cell.output (member_at (cell_nets c) k cell.output (output_at k cell at)) in
+        bits_shown cell.output (driver_within c driven cell.output output)
         ∙ ap (λ b. Some b) (bits_step cell.output
-        ∙ (ap (λ o. step_at o bits cell.output) (place_of-at (cell_nets c) k cell.output distinct_cells (cell_output k cell at))
+        ∙ (ap (λ o. step_at o bits cell.output) (place_of-at (cell_nets c) k cell.output (distinct_cells c driven) (output_at k cell at))
         ∙ (step_at-cell k cell bits cell.output at
         ∙ ap (function_value cell.function) (sym (values_by bits all_bits cell.inputs (λ x among. bits_shown x (input_within k x cell at among)))))))
 
@@ -263,10 +223,10 @@ module _ (c : Circuit) (driven : IsDriven c) (used : All (λ net. net < length c
       all_bits,
       record {
         long = all_long;
-        shows_clock = λ net is. given_shown net (clock_given net (from_option c.clock net is)) ∙ ap (λ b. Some b) (clock_bit net is);
-        shows_inputs = kind_shown (data_inputs c) data_given ∙ given_parts.0;
-        shows_gates = kind_shown (gate_nets c) gate_given ∙ given_parts.2;
-        shows_state = kind_shown (register_nets c) register_given ∙ given_parts.3;
+        shows_clock = λ net is. given_shown net (clock_given c net is) ∙ ap (λ b. Some b) (clock_bit net is);
+        shows_inputs = kind_shown (data_inputs c) (data_given c) ∙ given_parts.0;
+        shows_gates = kind_shown (gate_nets c) (gate_given c) ∙ given_parts.2;
+        shows_state = kind_shown (register_nets c) (register_given c) ∙ given_parts.3;
         holds = cells_hold;
       },
     )

@@ -1,9 +1,10 @@
 -- The values at nets, and lists made place by place of two others.
 use Rattle.std.proofs.Common.{◌≡◌, ℕ, zero, suc, ◌+◌, ◌<◌, Bool, true, false, List, [], ◌∷◌, ◌++◌, map, length, slice_get, Some, nat_eq, refl, ap, sym, ◌∙◌, arith}
 use Rattle.std.specs.List.{All, cons_option, range_with_len}
+use Rattle.std.specs.Option.{option_map}
 use Rattle.std.proofs.lemmas.Bool.{eq-eqb, or_left, or_right}
 use Rattle.std.proofs.lemmas.List.Elements.{All-head, All-tail, filter_map-append}
-use Rattle.std.proofs.lemmas.Option.{get_or_from_slice_get}
+use Rattle.std.proofs.lemmas.Option.{slice_get-map, get_or_from_slice_get}
 use Rattle.cg_netlist.specs.Circuit.{is_in}
 use Rattle.cg_netlist.specs.Moment.{values_at, bit, zip_with}
 
@@ -12,6 +13,15 @@ pub element_at : {X : Type 0} (xs : List X) (k : ℕ) → k < length xs → (x :
 element_at [] k within = absurd (omega arith)
 element_at (x ∷ xs) zero within = (x, refl)
 element_at (x ∷ xs) (suc k) within = element_at xs k (omega arith)
+
+-- the places of a list and of what is made of its elements
+pub at_map : {X : Type 0} (f : X → ℕ) (xs : List X) (k : ℕ) (x : X) → slice_get xs k ≡ Some x → slice_get (map f xs) k ≡ Some (f x)
+at_map f xs k x at = slice_get-map f xs k ∙ ap (option_map f) at
+
+pub under_map : {X : Type 0} (f : X → ℕ) (xs : List X) (k n : ℕ) → slice_get (map f xs) k ≡ Some n → (x : X) × (slice_get xs k ≡ Some x) × (f x ≡ n)
+under_map f [] k n at = absurd (cc)
+under_map f (x ∷ xs) zero n at = (x, refl, cc)
+under_map f (x ∷ xs) (suc k) n at = under_map f xs k n at
 
 -- lists that are equal place by place are equal
 pub same_places : {X : Type 0} (xs ys : List X) → length xs ≡ length ys → ((k : ℕ) → k < length xs → slice_get xs k ≡ slice_get ys k) → xs ≡ ys

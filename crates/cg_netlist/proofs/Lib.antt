@@ -1,5 +1,6 @@
 pub mod Clocks
 pub mod Driven
+pub mod GatedRegister
 pub mod Given
 pub mod Histories
 pub mod Members

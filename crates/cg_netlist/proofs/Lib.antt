@@ -1,10 +1,13 @@
 pub mod Clocks
+pub mod DraftLemmas
 pub mod Driven
 pub mod GatedRegister
 pub mod Given
 pub mod Histories
 pub mod Members
+pub mod Mentions
 pub mod NameLemmas
+pub mod NetSetLemmas
 pub mod OrderLemmas
 pub mod RankLemmas
 pub mod RankingLemmas

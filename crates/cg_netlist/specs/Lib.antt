@@ -1,10 +1,12 @@
 pub mod BlifText
 pub mod Canonical
 pub mod Circuit
+pub mod Draft
 pub mod History
 pub mod LogicalLines
 pub mod Moment
 pub mod Names
+pub mod NetSet
 pub mod Netlist
 pub mod PlainText
 pub mod Ranking

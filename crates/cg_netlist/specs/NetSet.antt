@@ -1,0 +1,11 @@
+-- Marks of nets.
+use Rattle.std.specs.Prelude.{◌≡◌, ℕ, Bool, false, List, slice_get, unwrap_or}
+use Rattle.cg_netlist.specs.Circuit.{is_in}
+
+-- whether a net has a mark; one past the end of the marks has none
+abbrev pub is_marked : List Bool → ℕ → Bool
+is_marked marks net = unwrap_or (slice_get marks net) false
+
+-- the marks are those of these nets
+abbrev pub AreMarked : List Bool → List ℕ → Type 0
+AreMarked marks nets = (net : ℕ) → is_marked marks net ≡ is_in nets net

@@ -1,8 +1,11 @@
 pub mod Building
 pub mod Covers
 pub mod Evals
+pub mod ExprWords
 pub mod Exprs
 pub mod Functions
+pub mod Joins
 pub mod Libraries
 pub mod Operations
+pub mod Readings
 pub mod Terms

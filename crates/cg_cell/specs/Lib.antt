@@ -7,10 +7,15 @@ pub mod Cover
 pub mod Domain
 pub mod Eval
 pub mod Expr
+pub mod ExprReading
+pub mod ExprSorts
+pub mod ExprTokens
 pub mod Fit
 pub mod Gates
 pub mod Library
 pub mod Name
+pub mod PendingSeen
 pub mod Pins
+pub mod Reads
 pub mod Term
 pub mod TermCode

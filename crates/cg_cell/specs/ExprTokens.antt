@@ -1,0 +1,59 @@
+-- The words and signs of the text of an expression.
+use Rattle.std.specs.Prelude.{ℕ, ◌+◌, Bool, true, false, ◌&&◌, ◌||◌, ◌==◌, nat_le, if◌then◌else◌, List, [], ◌∷◌}
+use Rattle.std.specs.List.{take_while}
+
+-- what a token is
+pub data Sort : Type 0 where
+  Word : List ℕ → Sort
+  OrSign : Sort
+  AndSign : Sort
+  XorSign : Sort
+  NotSign : Sort
+  PrimeSign : Sort
+  OpenBracket : Sort
+  CloseBracket : Sort
+  Other : Sort
+
+-- a token, and the place of its first byte
+pub record Token : Type 0 where
+  pub at : ℕ
+  pub sort : Sort
+
+-- space, tab, line feed, vertical tab, form feed and carriage return
+abbrev pub is_blank : ℕ → Bool
+is_blank byte = byte == 32 || (nat_le 9 byte && nat_le byte 13)
+
+abbrev pub is_digit : ℕ → Bool
+is_digit byte = nat_le 48 byte && nat_le byte 57
+
+-- a letter or `_`
+abbrev pub is_letter : ℕ → Bool
+is_letter byte = (nat_le 65 byte && nat_le byte 90) || (nat_le 97 byte && nat_le byte 122) || byte == 95
+
+-- a byte of a word: a letter, a digit, `_`, `[`, `]` or `.`
+abbrev pub is_word_byte : ℕ → Bool
+is_word_byte byte = is_letter byte || is_digit byte || byte == 91 || byte == 93 || byte == 46
+
+-- the sign that a byte is: `+` and `|`, `*` and `&`, `^`, `!`, `'`, `(` and `)`
+abbrev pub sign_of : ℕ → Sort
+sign_of byte =
+    if byte == 43 || byte == 124 then OrSign
+    else (if byte == 42 || byte == 38 then AndSign
+    else (if byte == 94 then XorSign
+    else (if byte == 33 then NotSign
+    else (if byte == 39 then PrimeSign
+    else (if byte == 40 then OpenBracket
+    else (if byte == 41 then CloseBracket
+    else Other))))))
+
+-- the tokens of a text, whose first byte is at the place: a word is the longest run of its bytes, and begins
+-- behind no other of them; blanks separate; every other byte is a token
+abbrev pub tokens_from : Bool → ℕ → List ℕ → List Token
+tokens_from inside at [] = []
+tokens_from inside at (byte ∷ bytes) =
+    if is_word_byte byte then (
+    if inside then tokens_from true (at + 1) bytes
+    else record { at = at; sort = Word (byte ∷ take_while is_word_byte bytes) } ∷ tokens_from true (at + 1) bytes)
+    else (
+    if is_blank byte then tokens_from false (at + 1) bytes
+    else record { at = at; sort = sign_of byte } ∷ tokens_from false (at + 1) bytes)

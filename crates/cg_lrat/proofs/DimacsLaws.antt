@@ -23,7 +23,7 @@ use Rattle.cg_lrat.specs.Bounds.{IsLit, IsClause}
 use Rattle.cg_lrat.specs.Items.{item_of}
 use Rattle.cg_lrat.specs.DimacsReading.{layout, Gives, ◌>>=◌, counts_of, header_of, clause_at, clauses_at, formula_at, dimacs}
 use Rattle.cg_lrat.specs.DimacsText.{lit_word, clause_words, header_words, DimacsText}
-use Rattle.cg_lrat.proofs.Tests.{and_true}
+use Rattle.cg_lrat.proofs.Connectives.{and_true}
 use Rattle.cg_lrat.proofs.Words.{literal_spelled, end_spelled, item_of-lit, item_of-zero}
 
 bind_ok : {A B : Type 0} (r : Result A DimacsFault) (f : A → Result B DimacsFault) (y : B) → ◌>>=◌ {B = B} r f ≡ Ok y → (x : A) × (r ≡ Ok x) × (f x ≡ Ok y)

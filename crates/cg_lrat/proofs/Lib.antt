@@ -2,7 +2,7 @@ pub mod Before
 pub mod LogBefore
 pub mod Open
 pub mod Hints
-pub mod Tests
+pub mod Connectives
 pub mod Sound
 pub mod Deserved
 pub mod Words

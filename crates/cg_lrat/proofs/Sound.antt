@@ -18,7 +18,7 @@ use Rattle.cg_lrat.specs.declared.hint.Open.TheVariants as opens
 use Rattle.cg_lrat.specs.Lits.{inverse, same_sign, same_lit, is_in}
 use Rattle.cg_lrat.specs.Satisfiable.{lit_bit, clause_bit, IsUnsatisfiable}
 use Rattle.cg_lrat.specs.Accepted.{Live, State, with_clauses, first_state, open_lits, open_of, unit_then, false_at, known_then, hints_fault, is_tautology, clause_fault, addition_fault, fault_of, without, state_after, adds_empty, step_verdict, verdict_from, verdict}
-use Rattle.cg_lrat.proofs.Tests.{and_true, or_true, or_right, not_true}
+use Rattle.cg_lrat.proofs.Connectives.{and_true, or_true, or_right, not_true}
 
 -- literals
 

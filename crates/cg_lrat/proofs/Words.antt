@@ -15,7 +15,7 @@ use Rattle.cg_lrat.specs.declared.item.IdItem.TheVariants as ids
 use Rattle.cg_lrat.specs.Bounds.{IsLit, IsId}
 use Rattle.cg_lrat.specs.Items.{literal_of, plain_item, item_of, numbered_id, id_of}
 use Rattle.cg_lrat.specs.DimacsText.{lit_word}
-use Rattle.cg_lrat.proofs.Tests.{and_true}
+use Rattle.cg_lrat.proofs.Connectives.{and_true}
 
 -- read as a literal
 

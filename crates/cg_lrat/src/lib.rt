@@ -25,5 +25,7 @@ mod live;
 pub mod log;
 pub mod lrat;
 mod progress;
+#[cfg(test)]
+mod tests;
 mod truth;
 pub mod verdict;

@@ -1,4 +1,4 @@
--- What tests that were true or false say of their parts.
+-- What "and", "or" and "not" that came out true or false say of their parts.
 use Rattle.std.proofs.Common.{◌≡◌, Bool, true, false, not, ◌&&◌, ◌||◌, ◌⊎◌, inl, inr, refl}
 
 pub and_true : (a b : Bool) → (a && b) ≡ true → (a ≡ true) × (b ≡ true)

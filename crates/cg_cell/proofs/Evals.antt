@@ -58,7 +58,7 @@ pub record Going (o : Ops) (inputs : List ℕ) (operator : Operator) (terms : Li
   pub keeps : Keeps o s t
   pub stands : StandsSoFar o inputs operator terms s t answer
 
-join_left-more : (f : Term → Term → Term) (x : Term) (ys : List Term) (z : Term) → join_left f x (ys ++ z ∷ []) ≡ f (join_left f x ys) z
+pub join_left-more : (f : Term → Term → Term) (x : Term) (ys : List Term) (z : Term) → join_left f x (ys ++ z ∷ []) ≡ f (join_left f x ys) z
 join_left-more f x [] z = refl
 join_left-more f x (y ∷ ys) z = join_left-more f (f x y) ys z
 
@@ -68,7 +68,7 @@ join_all-more f none [] z h = absurd (omega arith)
 join_all-more f none (x ∷ xs) z h = join_left-more f x xs z
 
 -- an operator's building: its operands, the left one first, and then the operator
-operator_built : (o : Ops) (inputs : List ℕ) (operator : Operator) (x y : Term) (s : Seen) →
+pub operator_built : (o : Ops) (inputs : List ℕ) (operator : Operator) (x y : Term) (s : Seen) →
     build_term o inputs (operator_term operator x y) s
     ≡ chain (build_term o inputs x s) (λ a t. chain (build_term o inputs y t) (λ b u. build_operator o operator a b u))
 operator_built o inputs And x y s = refl
@@ -81,7 +81,7 @@ operator_value bits And x y = refl
 operator_value bits Or x y = refl
 operator_value bits Xor x y = refl
 
-join_left-append : (f : Term → Term → Term) (x : Term) (xs ys : List Term) → join_left f x (xs ++ ys) ≡ join_left f (join_left f x xs) ys
+pub join_left-append : (f : Term → Term → Term) (x : Term) (xs ys : List Term) → join_left f x (xs ++ ys) ≡ join_left f (join_left f x xs) ys
 join_left-append f x [] ys = refl
 join_left-append f x (z ∷ xs) ys = join_left-append f (f x z) xs ys
 
@@ -110,7 +110,7 @@ first_operand o inputs x s t u v b r e p q =
     })
 
 -- a further operand
-next_operand : (o : Ops) (inputs : List ℕ) (operator : Operator) (before x : Term) (s t u v : Seen) (a b r : ℕ) →
+pub next_operand : (o : Ops) (inputs : List ℕ) (operator : Operator) (before x : Term) (s t u v : Seen) (a b r : ℕ) →
     AreValid o s inputs →
     Evaluates o s t a (build_term o inputs before s) (λ bits. term_value (bits_at o s inputs bits) before) →
     Evaluates o t u b (build_term o inputs x t) (λ bits. term_value (bits_at o t inputs bits) x) →
@@ -156,7 +156,7 @@ going_more number o inputs operator terms x s t u v (Some a) b r valid g p q =
     }
 
 -- a run that stops in the operands so far stops the whole
-join_left-stops : {F : Type 0} (refuses : Seen → ℕ → ℕ → F → Type 0) (o : Ops) (inputs : List ℕ) (operator : Operator) (x : Term) (ys : List Term)
+pub join_left-stops : {F : Type 0} (refuses : Seen → ℕ → ℕ → F → Type 0) (o : Ops) (inputs : List ℕ) (operator : Operator) (x : Term) (ys : List Term)
     (s v : Seen) (f : F) → Stops refuses (build_term o inputs x s) f v →
     Stops refuses (build_term o inputs (join_left (operator_term operator) x ys) s) f v
 join_left-stops refuses o inputs operator x [] s v f h = h

@@ -1,5 +1,7 @@
+pub mod BitsEvals
 pub mod Building
 pub mod Covers
+pub mod EvalCovers
 pub mod Evals
 pub mod ExprWords
 pub mod Exprs

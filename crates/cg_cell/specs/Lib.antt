@@ -6,6 +6,7 @@ pub mod Cell
 pub mod Cover
 pub mod Domain
 pub mod Eval
+pub mod EvalCover
 pub mod Expr
 pub mod ExprReading
 pub mod ExprSorts

@@ -15,7 +15,8 @@
 //! - [`library`]: the cells of a library, by number, by name and by need;
 //! - [`domain`]: values that stand for bits, and what may be done with them;
 //! - [`build`]: what is built from them, as the exclusive or, in a fixed order;
-//! - [`eval`]: expressions over any domain.
+//! - [`eval`]: expressions over any domain;
+//! - [`eval_cover`]: covers over any domain.
 #![tactic(auto)]
 
 pub mod build;
@@ -23,6 +24,7 @@ pub mod cell;
 pub mod cover;
 pub mod domain;
 pub mod eval;
+pub mod eval_cover;
 pub mod expr;
 pub mod fault;
 pub mod fit;

@@ -11,3 +11,4 @@ pub mod Libraries
 pub mod Operations
 pub mod Readings
 pub mod Terms
+pub mod Within

@@ -1,5 +1,5 @@
 -- Cells under their names, in the order of a library.
-use Rattle.std.proofs.Common.{◌≡◌, ℕ, suc, ◌+◌, Bool, true, false, not, cond, List, [], ◌∷◌, ◌++◌, length, map, position, Option, None, Some, refl, ap, sym, ◌∙◌, nat_lt, is_some, ◌≤◌, eqb, length-append, arith}
+use Rattle.std.proofs.Common.{◌≡◌, ℕ, suc, subst, ◌+◌, Bool, true, false, not, cond, List, [], ◌∷◌, ◌++◌, length, map, position, Option, None, Some, refl, ap, sym, ◌∙◌, nat_lt, is_some, ◌<◌, ◌≤◌, IfSome, eqb, length-append, arith}
 use Rattle.std.specs.List.{position_or_len}
 use Rattle.std.specs.Str.{bytes_eq}
 use Rattle.std.specs.Map.{lookup}
@@ -59,3 +59,14 @@ pub noted_fit : (kind : FitKind) (cells : List CellData) (cell : CellData) (new 
     → first ≡ first_fit kind cells → number ≡ length cells → fits ≡ is_fit kind cell → new ≡ cells ++ cell ∷ [] → result ≡ noted first number fits → result ≡ first_fit kind new
 noted_fit kind cells cell new first number fits result e f g h k = k ∙ ap (λ o. noted o number fits) e ∙ ap (λ n. noted (first_fit kind cells) n fits) f ∙ ap (noted (first_fit kind cells) (length cells)) g
     ∙ sym (position-push (is_fit kind) cells cell) ∙ ap (first_fit kind) (sym h)
+
+-- the place of an element is within the list
+pub position-within : {X : Type 0} (test : X → Bool) (xs : List X) (place : Option ℕ) → place ≡ position test xs → IfSome place (λ k. k < length xs)
+position-within test xs place e = subst (λ (o : Option ℕ). IfSome o (λ k. k < length xs)) (sym e) (below (position_or_len test xs) (length xs))
+  where
+    below : (n m : ℕ) → IfSome (cond (nat_lt n m) (Some n) None) (λ k. k < m)
+    below n m = pick (nat_lt n m) refl
+      where
+        pick : (b : Bool) → nat_lt n m ≡ b → IfSome (cond b (Some n) None) (λ k. k < m)
+        pick true e = grind (arith, nat_tests)
+        pick false e = tt

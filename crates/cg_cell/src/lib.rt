@@ -34,4 +34,6 @@ pub mod limit;
 pub mod name;
 mod pending;
 pub mod reading;
+#[cfg(test)]
+mod tests;
 mod tokens;

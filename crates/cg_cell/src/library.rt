@@ -1,6 +1,6 @@
 //! Libraries: cells in the order of the library's text.
 
-ghost use Rattle.std.specs.Prelude.{◌≡◌, ◌++◌, ◌∷◌, [], ◌<◌, length, position, IfOk, OnOk, OnErr, None, Some, slice_get, Bool, Option, ℕ};
+ghost use Rattle.std.specs.Prelude.{◌≡◌, ◌++◌, ◌∷◌, [], ◌<◌, length, position, IfOk, IfSome, OnOk, OnErr, None, Some, slice_get, Bool, Option, ℕ};
 ghost use Rattle.cg_cell.specs.Fit.{is_fit};
 ghost use Rattle.cg_cell.specs.Added.{Answers, add_fault};
 ghost use Rattle.cg_cell.specs.Library.{AreNamed, find_cell, first_fit, noted};
@@ -134,6 +134,14 @@ impl Library {
 
     /// The cell of that name, and None exactly where no cell has it.
     pub fn find(&self, name: &[u8]) -> Option<LibId>
+        ensures found { result ≡ find_cell name.now self.now }
+        ensures within { IfSome result (λ id. id < length self.now) }
+    {
+        self.numbered(name)
+    }
+
+    /// The cell that stands under the name.
+    fn numbered(&self, name: &[u8]) -> Option<LibId>
         ensures { result ≡ find_cell name.now self.now }
     {
         match self.cells.get_index_of(name) {
@@ -144,6 +152,14 @@ impl Library {
 
     /// The first cell of that kind, and None exactly where there is none.
     pub fn fit(&self, kind: FitKind) -> Option<LibId>
+        ensures first { result ≡ first_fit kind self.now }
+        ensures within { IfSome result (λ id. id < length self.now) }
+    {
+        self.first(kind)
+    }
+
+    /// The first cell of that kind, as it was noted.
+    fn first(&self, kind: FitKind) -> Option<LibId>
         ensures { result ≡ first_fit kind self.now }
     {
         match kind {

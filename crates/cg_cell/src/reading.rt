@@ -1,9 +1,10 @@
 //! Reading the text of an expression, token by token.
 
-ghost use Rattle.std.specs.Prelude.{◌≡◌, ◌<◌, ◌^◌, length, slice_index};
+ghost use Rattle.std.specs.Prelude.{◌≡◌, ◌<◌, ◌^◌, IfOk, IsTrue, length, slice_index};
 ghost use Rattle.std.specs.List.{position_from};
 ghost use Rattle.std.specs.Str.{bytes_eq};
-ghost use Rattle.cg_cell.specs.Expr.{term_of};
+ghost use Rattle.cg_cell.specs.Expr.{is_over, term_of};
+ghost use Rattle.cg_cell.specs.Term.{is_within};
 ghost use Rattle.cg_cell.specs.ExprReading.{begin, closed, constant, finish, go_on, complete, leaf, opened, or_end, read_text, step, variable, Bracket, Inversion};
 ghost use Rattle.cg_cell.specs.ExprSorts.{token_of};
 ghost use Rattle.cg_cell.specs.Reads.{Gives, mode_of};
@@ -32,10 +33,20 @@ struct Reading {
 /// The first fault from the left is answered: `BadExpr` with the place at which no reading can go on, which
 /// is the length where the text ends too early; `UnknownPin` with the place of a name that is no pin;
 /// `TooDeep` with the place of the bracket or `!` that would be the 65th open one.
-#[tactic(auto, using(crate::proofs::Readings::faults))]
 pub fn read_expr(alloc: Global, text: &[u8], pins: &[Name]) -> Result<Expr, ExprFault>
     requires { length pins.now < 2 ^ 32 }
     ensures exact { Gives term_of result (read_text pins.now text.now) }
+    ensures over { IfOk result (λ e. IsTrue (is_over (length pins.now) e)) }
+    ensures within { IfOk result (λ e. IsTrue (is_within (length pins.now) (term_of e))) }
+{
+    read(alloc, text, pins)
+}
+
+/// Reads an expression token by token.
+#[tactic(auto, using(crate::proofs::Readings::faults))]
+fn read(alloc: Global, text: &[u8], pins: &[Name]) -> Result<Expr, ExprFault>
+    requires { length pins.now < 2 ^ 32 }
+    ensures { Gives term_of result (read_text pins.now text.now) }
 {
     let mut tokens = Tokens::new(text);
     let mut reading = Reading {

@@ -1,7 +1,7 @@
 use Rattle.std.proofs.Common.{◌≡◌, length, Ok}
 use Rattle.cg_cell.specs.ExprReading.{read_on, read_text}
 use Rattle.cg_cell.specs.Reads.{mode_of}
-use Rattle.cg_cell.proofs.reading.read_expr.Given as goal
+use Rattle.cg_cell.proofs.reading.read.Given as goal
 
 abbrev pub invariant-tokens : goal.invariant-tokens
 invariant-tokens l = read_on l.pins (length l.text) (Ok (mode_of l.reading.operand l.reading.stack)) l.tokens ≡ read_text l.pins l.text

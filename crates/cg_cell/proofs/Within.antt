@@ -1,11 +1,11 @@
 -- What is read over some pins names no other input.
-use Rattle.std.proofs.Common.{◌≡◌, ℕ, ◌+◌, ◌<◌, ◌≤◌, Bool, true, false, ◌&&◌, cond, nat_lt, slice_index, List, [], ◌∷◌, length, Option, None, Some, IfSome, IfOk, Result, Ok, Err, IsTrue, refl, sym, ◌∙◌, subst, arith}
+use Rattle.std.proofs.Common.{◌≡◌, ℕ, ◌+◌, ◌<◌, Bool, true, false, ◌&&◌, cond, nat_lt, slice_index, List, [], ◌∷◌, length, Option, None, Some, IfSome, IfOk, Result, Ok, Err, IsTrue, refl, ◌∙◌, subst, arith}
 use Rattle.std.proofs.lemmas.Bool.Decides.{nat_tests}
 use Rattle.std.specs.List.{position_from}
 use Rattle.std.specs.Str.{bytes_eq}
-use Rattle.cg_cell.specs.ExprReading.{Pending, OrLeft, AndLeft, XorLeft, Inversion, Bracket, Ended, Mode, Expects, Has, after, and_end, at_end, begin, closed, complete, constant, finish, go_on, has_leaf, inv_end, join_and, join_or, join_xor, leaf, nesting, opened, or_end, read_on, read_text, step, variable, xor_end}
+use Rattle.cg_cell.specs.ExprReading.{Pending, OrLeft, AndLeft, XorLeft, Inversion, Bracket, Ended, Mode, Expects, Has, after, and_end, begin, closed, complete, constant, finish, go_on, has_leaf, inv_end, join_and, join_or, join_xor, leaf, nesting, or_end, read_on, read_text, variable, xor_end}
 use Rattle.cg_cell.specs.ExprTokens.{Sort, Token, Word, OrSign, AndSign, XorSign, NotSign, PrimeSign, OpenBracket, CloseBracket, Other, is_digit, is_letter, tokens_from}
-use Rattle.cg_cell.specs.Term.{Term, Bit, Input, Inverse, Both, Either, Differ, is_within}
+use Rattle.cg_cell.specs.Term.{Term, Bit, Inverse, is_within}
 use Rattle.cg_cell.specs.Expr.{is_over, term_of}
 use Rattle.cg_cell.specs.Reads.{Gives}
 use Rattle.cg_cell.specs.declared.expr.Expr.{Expr}
@@ -124,6 +124,7 @@ position_from-within test i (x ∷ xs) = pick (test x) (position_from-within tes
     weaker : (o : Option ℕ) → IfSome o (λ k. k < i + 1 + length xs) → IfSome o (λ k. k < i + length (x ∷ xs))
     weaker None h = tt
     weaker (Some k) h = omega arith
+
     pick : (b : Bool) → IfSome (position_from test (i + 1) xs) (λ k. k < i + 1 + length xs) → IfSome (cond b (Some i) (position_from test (i + 1) xs)) (λ k. k < i + length (x ∷ xs))
     pick true h = omega arith
     pick false h = weaker (position_from test (i + 1) xs) h
@@ -138,10 +139,10 @@ module _ (pins : List (List ℕ)) where
   leaf-within : (at : ℕ) (word : List ℕ) → ReadsWithin many (Within many) (leaf pins at word)
   leaf-within at word =
       let zero_or_one = cond_reads many (Within many) (bytes_eq word (48 ∷ [])) (Ok (Bit false)) (cond (bytes_eq word (49 ∷ [])) (Ok (Bit true)) (Err (BadExpr at))) refl (
-          cond_reads many (Within many) (bytes_eq word (49 ∷ [])) (Ok (Bit true)) (Err (BadExpr at)) refl tt) in
+      cond_reads many (Within many) (bytes_eq word (49 ∷ [])) (Ok (Bit true)) (Err (BadExpr at)) refl tt) in
       let pin = variable-within many at (position_from (bytes_eq word) 0 pins) (place-within (bytes_eq word) pins) in
       cond_reads many (Within many) (is_digit (slice_index word 0)) (constant at word) (cond (is_letter (slice_index word 0)) (variable at (position_from (bytes_eq word) 0 pins)) (Err (BadExpr at))) zero_or_one (
-          cond_reads many (Within many) (is_letter (slice_index word 0)) (variable at (position_from (bytes_eq word) 0 pins)) (Err (BadExpr at)) pin tt)
+      cond_reads many (Within many) (is_letter (slice_index word 0)) (variable at (position_from (bytes_eq word) 0 pins)) (Err (BadExpr at)) pin tt)
 
   begin-within : (pending : List Pending) (at : ℕ) (sort : Sort) → AllWithin many pending → ReadsWithin many (ModeWithin many) (begin pins pending (record { at = at; sort = sort }))
   begin-within pending at (Word word) h = has_leaf-within many (leaf pins at word) pending (leaf-within at word) h

@@ -32,7 +32,10 @@ fn expressions(rt: HostRuntime) -> Result<(), Fail> {
         (b"A''' | 0".as_slice(), Bits([1, 1, 1, 1, 0, 0, 0, 0])),
         (b"A(B)!C & 1".as_slice(), Bits([0, 0, 0, 0, 0, 0, 1, 0])),
         (b"A^B^C".as_slice(), Bits([0, 1, 1, 0, 1, 0, 0, 1])),
-        (b"\tA\n\r\x0b\x0c+B ".as_slice(), Bits([0, 0, 1, 1, 1, 1, 1, 1])),
+        (
+            b"\tA\n\r\x0b\x0c+B ".as_slice(),
+            Bits([0, 0, 1, 1, 1, 1, 1, 1]),
+        ),
         (b"A D".as_slice(), Unknown(2)),
         (b"A[0]".as_slice(), Unknown(0)),
         (b"A +".as_slice(), Bad(3)),
@@ -62,7 +65,11 @@ fn expressions(rt: HostRuntime) -> Result<(), Fail> {
             }
             Err(fault) => match (fault, outcome) {
                 (ExprFault::BadExpr(at), Bad(expected)) => assert_eq!(rt; at, expected, "{shown}"),
-                (ExprFault::UnknownPin(at), Unknown(expected)) => assert_eq!(rt; at, expected, "{shown}"),
+                (ExprFault::UnknownPin(at), Unknown(expected)) => assert_eq!(rt;
+                    at,
+                    expected,
+                    "{shown}"
+                ),
                 (ExprFault::TooDeep(at), Deep(expected)) => assert_eq!(rt; at, expected, "{shown}"),
                 _ => assert!(rt; false, "{shown} has another fault"),
             },

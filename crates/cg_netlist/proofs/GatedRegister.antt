@@ -1,14 +1,26 @@
 -- The definitions at work: a register behind a gating cell, from a library, over four moments. It takes its data where
--- the gated clock rises, and the latch of the gating cell does not see the enable while the clock is high.
-use Rattle.std.proofs.Common.{◌≡◌, ℕ, Bool, true, false, not, List, [], ◌∷◌, slice_get, None, Some, codes, refl, subst}
-use Rattle.cg_cell.specs.Cell.{CellData}
+-- the gated clock rises, and the latch of the gating cell does not see the enable while the clock is high. The netlist
+-- is well formed, so that this history is the only one that is lawful over this waveform.
+use Rattle.std.proofs.Common.{◌≡◌, ◌≢◌, ◌⊎◌, ℕ, zero, suc, ◌<◌, Bool, true, false, not, ◌||◌, IsTrue, List, [], ◌∷◌, length, slice_get, slice_index, None, Some, nat_eq, codes, refl, ap, subst, inl, inr, arith}
+use Rattle.std.specs.List.{AllPairs, IsDistinct}
+use Rattle.std.specs.List.Sorted.{IsStrictlyIncreasing}
+use Rattle.std.specs.Option.{option_map}
+use Rattle.std.proofs.Math.Dec.{lit≤, lit<}
+use Rattle.std.proofs.lemmas.Bool.{eqb-true, or_cases, both_ways}
+use Rattle.std.proofs.lemmas.List.Elements.{All-from_recursion, All-nil}
+use Rattle.std.proofs.lemmas.Map.Made.{AllPairs-from_IsDistinct}
+use Rattle.std.proofs.lemmas.Slice.Eq.{bytes_eq-Decides}
+use Rattle.cg_cell.specs.Name.{is_name}
+use Rattle.cg_cell.specs.Cell.{CellData, IsCell}
 use Rattle.cg_cell.specs.Term.{Input}
 use Rattle.cg_cell.specs.declared.cell.CellKind.TheVariants.{Flop as FlopKind, Gater as GaterKind}
 use Rattle.cg_cell.specs.declared.cell.Role.TheVariants.{Data, Clock, Enable, Output, State, StateBar}
 use Rattle.cg_netlist.specs.declared.parts.RegisterKind.TheVariants.{Flop}
-use Rattle.cg_netlist.specs.Circuit.{Circuit}
-use Rattle.cg_netlist.specs.WellFormed.{IsInNetOrder}
+use Rattle.cg_netlist.specs.Circuit.{Circuit, GatingCell, is_in, clock_nets, used_nets}
+use Rattle.cg_netlist.specs.WellFormed.{IsInNetOrder, IsWellFormed, IsOver, RegisterFits}
 use Rattle.cg_netlist.specs.Moment.{Settles}
+use Rattle.cg_netlist.proofs.Driven.{driven_in_order}
+use Rattle.cg_netlist.proofs.Histories.{has_one_history}
 use Rattle.cg_netlist.specs.History.{Tick, Moment, IsLawful, IsWaveform, outputs_of, edges}
 
 abbrev flop : CellData
@@ -33,6 +45,69 @@ gated = record {
 in_order : IsInNetOrder gated
 in_order = refl
 
+-- the cells are cells, and the netlist is well formed
+flop_is : IsCell flop
+flop_is = record {
+  few = lit≤ tt;
+  distinct = refl;
+  unsplit = (refl, (refl, (refl, (refl, tt))));
+  roles = record { clock = refl; state = lit≤ tt; only = (refl, (refl, (refl, (refl, tt)))) };
+  computes = refl;
+}
+
+icg_is : IsCell icg
+icg_is = record {
+  few = lit≤ tt;
+  distinct = refl;
+  unsplit = (refl, (refl, (refl, tt)));
+  roles = record { clock = refl; enable = refl; output = refl; test = lit≤ tt; only = (refl, (refl, (refl, tt))) };
+  computes = tt;
+}
+
+different : AllPairs (λ name other. name ≢ other) gated.names
+unfolding IsDistinct
+different = AllPairs-from_IsDistinct bytes_eq-Decides gated.names ((refl, (refl, (refl, (refl, (refl, tt))))), ((refl, (refl, (refl, (refl, tt)))), ((refl, (refl, (refl, tt))), ((refl, (refl, tt)), ((refl, tt), (tt, tt))))))
+
+-- the pins of the register show its bit and the inverse
+rising_pins : IsStrictlyIncreasing (2 ∷ 3 ∷ [])
+rising_pins zero below = lit< tt
+rising_pins (suc k) below = absurd (omega arith)
+
+fitting : RegisterFits (record { inputs = 0 ∷ []; outputs = (4, false) ∷ (5, true) ∷ []; pins = 2 ∷ 3 ∷ []; clock = 3; kind = Flop flop; init = 3 })
+fitting = record {
+  kind = (flop_is, refl, refl, lit≤ tt, ((record { name = codes "Q"; role = State }, refl, refl), ((record { name = codes "QN"; role = StateBar }, refl, refl), tt)), rising_pins);
+  pins = refl;
+  init = lit≤ tt;
+}
+
+chained : (k : ℕ) (gater : GatingCell) → slice_get gated.gaters k ≡ Some gater → (Some 2 ≡ Some gater.clock) ⊎ ((j : ℕ) × (before : GatingCell) × (slice_get gated.gaters j ≡ Some before) × (before.output ≡ gater.clock) × (slice_index (0 ∷ []) j < slice_index (0 ∷ []) k))
+chained zero gater at = inl (ap (option_map (λ g. g.clock)) at)
+chained (suc k) gater at = absurd (cc)
+
+apart : (net : ℕ) → is_in (clock_nets gated) net ≡ true → is_in (used_nets gated) net ≡ false
+apart net among = elim (or_cases (nat_eq net 2) (nat_eq net 3 || false) among) [
+  | inl clk ↦ ap (is_in (used_nets gated)) (eqb-true net 2 clk)
+  | inr later ↦ elim (or_cases (nat_eq net 3) false later) [ inl gck ↦ ap (is_in (used_nets gated)) (eqb-true net 3 gck) | inr none ↦ absurd (both_ways false refl none) ]
+]
+
+well_formed : IsWellFormed gated
+well_formed = record {
+  model = refl;
+  names = All-from_recursion (λ name. IsTrue (is_name name)) gated.names (refl, (refl, (refl, (refl, (refl, (refl, tt))))));
+  different = different;
+  functions = All-nil (λ cell. IsOver (length cell.inputs) cell.function);
+  fitting = All-from_recursion RegisterFits gated.registers (fitting, tt);
+  gating = All-from_recursion (λ gater. IsCell gater.cell × (gater.cell.kind ≡ GaterKind)) gated.gaters ((icg_is, refl), tt);
+  used = All-from_recursion (λ net. net < 6) (used_nets gated) (lit< tt, (lit< tt, (lit< tt, (lit< tt, tt))));
+  driven = driven_in_order gated in_order;
+  ranks = [];
+  ranked = record { count = refl; rising = λ j k driver cell here there among. absurd (cc) };
+  numbers = 0 ∷ [];
+  chained = record { count = refl; chained = chained };
+  clocked = All-from_recursion (λ r. is_in (clock_nets gated) r.clock ≡ true) gated.registers (refl, tt);
+  apart = apart;
+}
+
 -- the clock, and then d and en
 abbrev wave : List Tick
 wave = record { clock = false; inputs = true ∷ true ∷ [] } ∷ record { clock = true; inputs = true ∷ false ∷ [] } ∷ record { clock = false; inputs = false ∷ false ∷ [] } ∷ record { clock = true; inputs = false ∷ true ∷ [] } ∷ []
@@ -56,7 +131,7 @@ on_clock nets clock shown net is = let same : 2 ≡ net = cc in subst (λ n. sli
 settled : (clock d en g q : Bool) → Settles gated clock (d ∷ en ∷ []) (q ∷ []) (g ∷ []) (d ∷ en ∷ clock ∷ g ∷ q ∷ not q ∷ [])
 settled clock d en g q = record { long = refl; shows_clock = on_clock (d ∷ en ∷ clock ∷ g ∷ q ∷ not q ∷ []) clock refl; shows_inputs = refl; shows_gates = refl; shows_state = refl; holds = λ k cell at. absurd (cc) }
 
-lawful : IsLawful gated (false ∷ []) wave history
+pub lawful : IsLawful gated (false ∷ []) wave history
 lawful = (
   record { state = refl; latches = refl; nets = settled false true true false false },
   (
@@ -74,3 +149,6 @@ shown = refl
 
 one_edge : edges gated history ≡ 1
 one_edge = refl
+
+only : (other : List Moment) → IsLawful gated (false ∷ []) wave other → other ≡ history
+only other there = has_one_history gated well_formed (false ∷ []) wave refl is_waveform other history there lawful

@@ -13,5 +13,7 @@ pub mod blanks;
 pub mod lines;
 pub mod number;
 mod piece;
+#[cfg(test)]
+mod tests;
 pub mod tokens;
 pub mod words;

@@ -6,6 +6,7 @@ pub mod Evals
 pub mod ExprWords
 pub mod Exprs
 pub mod Functions
+pub mod Grammar
 pub mod Joins
 pub mod Libraries
 pub mod Operations

@@ -8,6 +8,7 @@ pub mod Domain
 pub mod Eval
 pub mod EvalCover
 pub mod Expr
+pub mod ExprGrammar
 pub mod ExprReading
 pub mod ExprSorts
 pub mod ExprTokens

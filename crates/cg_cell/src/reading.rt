@@ -4,7 +4,8 @@ ghost use Rattle.std.specs.Prelude.{◌≡◌, ◌<◌, ◌^◌, IfOk, IsTrue, l
 ghost use Rattle.std.specs.List.{position_from};
 ghost use Rattle.std.specs.Str.{bytes_eq};
 ghost use Rattle.cg_cell.specs.Expr.{is_over, term_of};
-ghost use Rattle.cg_cell.specs.Term.{is_within};
+ghost use Rattle.cg_cell.specs.Term.{Term, is_within};
+ghost use Rattle.cg_cell.specs.ExprGrammar.{ExprText};
 ghost use Rattle.cg_cell.specs.ExprReading.{begin, closed, constant, finish, go_on, complete, leaf, opened, or_end, read_text, step, variable, Bracket, Inversion};
 ghost use Rattle.cg_cell.specs.ExprSorts.{token_of};
 ghost use Rattle.cg_cell.specs.Reads.{Gives, mode_of};
@@ -36,6 +37,7 @@ struct Reading {
 pub fn read_expr(alloc: Global, text: &[u8], pins: &[Name]) -> Result<Expr, ExprFault>
     requires { length pins.now < 2 ^ 32 }
     ensures exact { Gives term_of result (read_text pins.now text.now) }
+    ensures grammar { (t : Term) → ExprText pins.now text.now t → Gives term_of result (Ok t) }
     ensures over { IfOk result (λ e. IsTrue (is_over (length pins.now) e)) }
     ensures within { IfOk result (λ e. IsTrue (is_within (length pins.now) (term_of e))) }
 {

@@ -1,7 +1,7 @@
 -- What the grammar has is read, and as the term that it stands for.
-use Rattle.std.proofs.Common.{◌≡◌, ℕ, ◌+◌, ◌<◌, Bool, true, false, cond, nat_lt, List, [], ◌∷◌, ◌++◌, Result, Ok, Err, refl, length, ap, sym, ◌∙◌, subst, append_assoc, append-nil, arith}
+use Rattle.std.proofs.Common.{◌≡◌, ℕ, ◌+◌, ◌<◌, Bool, true, false, cond, nat_lt, List, [], ◌∷◌, ◌++◌, Result, Ok, Err, refl, length, ap, sym, ◌∙◌, append_assoc, append-nil, arith}
 use Rattle.std.proofs.lemmas.Bool.Decides.{nat_tests}
-use Rattle.cg_cell.specs.ExprReading.{Pending, OrLeft, AndLeft, XorLeft, Inversion, Bracket, Ended, Mode, Expects, Has, after, and_end, begin, closed, finish, go_on, has_leaf, inv_end, leaf, nesting, opened, or_end, read_on, read_text, step, xor_end, complete, join_and, join_or}
+use Rattle.cg_cell.specs.ExprReading.{Pending, OrLeft, AndLeft, XorLeft, Inversion, Bracket, Ended, Mode, Expects, Has, and_end, begin, closed, has_leaf, nesting, opened, or_end, read_on, read_text, xor_end, complete, join_and, join_or}
 use Rattle.cg_cell.specs.ExprTokens.{Sort, Token, Word, OrSign, AndSign, XorSign, NotSign, PrimeSign, OpenBracket, CloseBracket, Other, tokens_from}
 use Rattle.cg_cell.specs.ExprGrammar.{ExprText, Level, AtomLevel, PrimeLevel, NotLevel, XorLevel, AndLevel, OrLevel, Stands, word, brackets, unprimed, primed, upright, inverted, one_of, xor, factor, and, neighbours, summand, or}
 use Rattle.cg_cell.specs.Term.{Term, Inverse, Both, Either, Differ}
@@ -233,7 +233,7 @@ module _ (pins : List (List ℕ)) (end : ℕ) where
   as_xor s t ps qs (token ∷ rest) e h = as_xor-at s t ps qs token.at token.sort rest e h
 
   neighbour-at : (t : Term) (ps : List Pending) (at : ℕ) (sort : Sort) (rest : List Token) → begins sort
-    → read (Has t ps) (record { at = at; sort = sort } ∷ rest) ≡ read (Expects (AndLeft (and_end t ps).term ∷ (and_end t ps).pending)) (record { at = at; sort = sort } ∷ rest)
+      → read (Has t ps) (record { at = at; sort = sort } ∷ rest) ≡ read (Expects (AndLeft (and_end t ps).term ∷ (and_end t ps).pending)) (record { at = at; sort = sort } ∷ rest)
   neighbour-at t ps at (Word bytes) rest h = refl
   neighbour-at t ps at OrSign rest h = absurd h
   neighbour-at t ps at AndSign rest h = absurd h
@@ -253,7 +253,7 @@ module _ (pins : List (List ℕ)) (end : ℕ) where
 
   -- a part of a level is read as an operand with its term
   reads : (level : Level) (d : ℕ) (ts : List Token) (t : Term) → Stands pins level d ts t → (ps : List Pending) (rest : List Token)
-    → waits level ps → nesting ps ≡ d → Follows (follower level) rest → read (Expects ps) (ts ++ rest) ≡ read (Has t ps) rest
+      → waits level ps → nesting ps ≡ d → Follows (follower level) rest → read (Expects ps) (ts ++ rest) ≡ read (Has t ps) rest
   reads level d ts t (word o at bytes u e) ps rest w n h = ap (λ (r : Result Term ExprFault). read_on pins end (has_leaf r ps) rest) e
   reads level d ts t (brackets o at close us u h s) ps rest w n f =
       open_up at Bracket ps o ((us ++ record { at = close; sort = CloseBracket } ∷ []) ++ rest) n h

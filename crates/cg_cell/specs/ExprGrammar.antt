@@ -17,23 +17,23 @@ pub data Level : Type 0 where
 pub data Stands (pins : List (List ℕ)) : Level → ℕ → List Token → Term → Type 0 where
   word : (open_before at : ℕ) (bytes : List ℕ) (t : Term) → leaf pins at bytes ≡ Ok t → Stands pins AtomLevel open_before (record { at = at; sort = Word bytes } ∷ []) t
   brackets : (open_before at end : ℕ) (ts : List Token) (t : Term) → open_before < 64 → Stands pins OrLevel (open_before + 1) ts t
-    → Stands pins AtomLevel open_before (record { at = at; sort = OpenBracket } ∷ (ts ++ record { at = end; sort = CloseBracket } ∷ [])) t
+      → Stands pins AtomLevel open_before (record { at = at; sort = OpenBracket } ∷ (ts ++ record { at = end; sort = CloseBracket } ∷ [])) t
   unprimed : (open_before : ℕ) (ts : List Token) (t : Term) → Stands pins AtomLevel open_before ts t → Stands pins PrimeLevel open_before ts t
   primed : (open_before at : ℕ) (ts : List Token) (t : Term) → Stands pins PrimeLevel open_before ts t → Stands pins PrimeLevel open_before (ts ++ record { at = at; sort = PrimeSign } ∷ []) (Inverse t)
   upright : (open_before : ℕ) (ts : List Token) (t : Term) → Stands pins PrimeLevel open_before ts t → Stands pins NotLevel open_before ts t
   inverted : (open_before at : ℕ) (ts : List Token) (t : Term) → open_before < 64 → Stands pins NotLevel (open_before + 1) ts t
-    → Stands pins NotLevel open_before (record { at = at; sort = NotSign } ∷ ts) (Inverse t)
+      → Stands pins NotLevel open_before (record { at = at; sort = NotSign } ∷ ts) (Inverse t)
   one_of : (open_before : ℕ) (ts : List Token) (t : Term) → Stands pins NotLevel open_before ts t → Stands pins XorLevel open_before ts t
   xor : (open_before at : ℕ) (ts us : List Token) (s t : Term) → Stands pins XorLevel open_before ts s → Stands pins NotLevel open_before us t
-    → Stands pins XorLevel open_before (ts ++ record { at = at; sort = XorSign } ∷ us) (Differ s t)
+      → Stands pins XorLevel open_before (ts ++ record { at = at; sort = XorSign } ∷ us) (Differ s t)
   factor : (open_before : ℕ) (ts : List Token) (t : Term) → Stands pins XorLevel open_before ts t → Stands pins AndLevel open_before ts t
   and : (open_before at : ℕ) (ts us : List Token) (s t : Term) → Stands pins AndLevel open_before ts s → Stands pins XorLevel open_before us t
-    → Stands pins AndLevel open_before (ts ++ record { at = at; sort = AndSign } ∷ us) (Both s t)
+      → Stands pins AndLevel open_before (ts ++ record { at = at; sort = AndSign } ∷ us) (Both s t)
   neighbours : (open_before : ℕ) (ts us : List Token) (s t : Term) → Stands pins AndLevel open_before ts s → Stands pins XorLevel open_before us t
-    → Stands pins AndLevel open_before (ts ++ us) (Both s t)
+      → Stands pins AndLevel open_before (ts ++ us) (Both s t)
   summand : (open_before : ℕ) (ts : List Token) (t : Term) → Stands pins AndLevel open_before ts t → Stands pins OrLevel open_before ts t
   or : (open_before at : ℕ) (ts us : List Token) (s t : Term) → Stands pins OrLevel open_before ts s → Stands pins AndLevel open_before us t
-    → Stands pins OrLevel open_before (ts ++ record { at = at; sort = OrSign } ∷ us) (Either s t)
+      → Stands pins OrLevel open_before (ts ++ record { at = at; sort = OrSign } ∷ us) (Either s t)
 
 -- a text is an expression over the pins, and stands for the term
 abbrev pub ExprText : List (List ℕ) → List ℕ → Term → Type 0

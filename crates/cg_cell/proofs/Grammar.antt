@@ -37,18 +37,18 @@ follower AndLevel sort = ends_and sort
 follower OrLevel sort = ends_or sort
 
 -- what may wait before a level, so that nothing there takes a part of it
-abbrev before_xor : List Pending → Type 0
+abbrev pub before_xor : List Pending → Type 0
 before_xor (XorLeft t ∷ pending) = ⊥
 before_xor (Inversion ∷ pending) = ⊥
 before_xor _ = Unit {0}
 
-abbrev before_and : List Pending → Type 0
+abbrev pub before_and : List Pending → Type 0
 before_and (XorLeft t ∷ pending) = ⊥
 before_and (Inversion ∷ pending) = ⊥
 before_and (AndLeft t ∷ pending) = ⊥
 before_and _ = Unit {0}
 
-abbrev before_or : List Pending → Type 0
+abbrev pub before_or : List Pending → Type 0
 before_or [] = Unit {0}
 before_or (Bracket ∷ pending) = Unit {0}
 before_or _ = ⊥

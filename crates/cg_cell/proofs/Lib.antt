@@ -11,5 +11,6 @@ pub mod Joins
 pub mod Libraries
 pub mod Operations
 pub mod Readings
+pub mod Sound
 pub mod Terms
 pub mod Within

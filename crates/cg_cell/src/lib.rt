@@ -10,13 +10,15 @@
 //! - [`limit`]: the limits that a text or a circuit may pass;
 //! - [`cover`]: a function as rows of given bits;
 //! - [`expr`]: a function as an expression over numbered variables;
+//! - `tokens`, `pending`, `join`: the words and signs of an expression's text, what waits for an operand
+//!   that comes, and operators on expressions;
+//! - [`fault`], [`reading`]: reading that text, and its first fault from the left;
 //! - [`cell`]: cells of a library, with their kind, their pins and their function;
 //! - [`fit`]: which cells clock gating can use, and as what;
 //! - [`library`]: the cells of a library, by number, by name and by need;
 //! - [`domain`]: values that stand for bits, and what may be done with them;
 //! - [`build`]: what is built from them, as the exclusive or, in a fixed order;
-//! - [`eval`]: expressions over any domain;
-//! - [`eval_cover`]: covers over any domain.
+//! - [`eval`]: expressions and covers over any domain.
 #![tactic(auto)]
 
 pub mod build;

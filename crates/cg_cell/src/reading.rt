@@ -37,6 +37,7 @@ struct Reading {
 pub fn read_expr(alloc: Global, text: &[u8], pins: &[Name]) -> Result<Expr, ExprFault>
     requires { length pins.now < 2 ^ 32 }
     ensures exact { Gives term_of result (read_text pins.now text.now) }
+    ensures found { IfOk result (λ e. ExprText pins.now text.now (term_of e)) }
     ensures grammar { (t : Term) → ExprText pins.now text.now t → Gives term_of result (Ok t) }
     ensures over { IfOk result (λ e. IsTrue (is_over (length pins.now) e)) }
     ensures within { IfOk result (λ e. IsTrue (is_within (length pins.now) (term_of e))) }

@@ -1,8 +1,12 @@
 //! Expressions as Liberty writes them: what they are at each row of bits, and where they are refused.
 
+use crate::cell::{CellKind, CellType};
 use crate::fault::ExprFault;
+use crate::fit::FitKind;
+use crate::library::{Library, LibraryFault};
 use crate::name::Name;
 use crate::reading::read_expr;
+use std::alloc::{AllocError, Global};
 use std::test::Fail;
 
 /// What a text is: the bits at 000, 001, .. 111 of the pins A, B and C, or a fault and its place.
@@ -11,10 +15,9 @@ enum Outcome {
     Bits([u8; 8]),
     Bad(u64),
     Unknown(u64),
-    Deep(u64),
 }
 
-use Outcome::{Bad, Bits, Deep, Unknown};
+use Outcome::{Bad, Bits, Unknown};
 
 #[test]
 fn expressions(rt: HostRuntime) -> Result<(), Fail> {
@@ -70,10 +73,60 @@ fn expressions(rt: HostRuntime) -> Result<(), Fail> {
                     expected,
                     "{shown}"
                 ),
-                (ExprFault::TooDeep(at), Deep(expected)) => assert_eq!(rt; at, expected, "{shown}"),
                 _ => assert!(rt; false, "{shown} has another fault"),
             },
         }
     }
+    Ok(())
+}
+
+/// A text with so many brackets and signs `!` open, by turns, around A.
+fn nested(alloc: Global, depth: usize) -> Result<Vec<u8>, AllocError> {
+    let mut text = Vec::new(alloc);
+    for i in 0..depth {
+        text.push(if i % 3 == 1 { b'!' } else { b'(' })?;
+    }
+    text.push(b'A')?;
+    for i in 0..depth {
+        text.push(if i % 3 == 1 { b' ' } else { b')' })?;
+    }
+    Ok(text)
+}
+
+#[test]
+fn nesting(rt: HostRuntime) -> Result<(), Fail> {
+    let mut pins = Vec::new(rt.alloc());
+    pins.push(Name::new(rt.alloc(), b"A")?)?;
+    for (depth, refused) in [(63, None), (64, None), (65, Some(64)), (200, Some(64))] {
+        let text = nested(rt.alloc(), depth)?;
+        let answer = match read_expr(rt.alloc(), &text, &pins) {
+            Ok(_) => None,
+            Err(ExprFault::TooDeep(at)) => Some(at),
+            Err(_) => Some(u64::MAX),
+        };
+        assert_eq!(rt; answer, refused, "at {depth}");
+    }
+    Ok(())
+}
+
+#[test]
+fn libraries(rt: HostRuntime) -> Result<(), Fail> {
+    let mut library = Library::new(rt.alloc());
+    for (number, name) in [(0, b"LATCH".as_slice()), (1, b"ADDER".as_slice())] {
+        assert!(rt; Name::is_name(name));
+        let cell = CellType::new(
+            Name::new(rt.alloc(), name)?,
+            CellKind::Unusable,
+            Vec::new(rt.alloc()),
+            None,
+        );
+        let again = cell.clone()?;
+        assert_eq!(rt; library.len(), number);
+        assert!(rt; library.add(cell).is_ok());
+        assert!(rt; matches!(library.add(again), Err(LibraryFault::TwoCells)));
+        assert!(rt; library.find(name).is_some());
+    }
+    assert!(rt; library.find(b"FLOP").is_none());
+    assert!(rt; library.fit(FitKind::Gater).is_none());
     Ok(())
 }

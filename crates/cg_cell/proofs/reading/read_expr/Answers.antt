@@ -1,4 +1,9 @@
-use Rattle.std.proofs.Common.{length, subst}
+use Rattle.std.proofs.Common.{ℕ, List, Result, Ok, Err, IfOk, length, subst}
+use Rattle.cg_cell.specs.ExprGrammar.{ExprText}
+use Rattle.cg_cell.specs.ExprReading.{read_text}
+use Rattle.cg_cell.specs.declared.expr.Expr.{Expr}
+use Rattle.cg_cell.specs.declared.fault.ExprFault.{ExprFault}
+use Rattle.cg_cell.proofs.Sound.{read_stands}
 use Rattle.cg_cell.specs.Expr.{term_of}
 use Rattle.cg_cell.specs.Reads.{Gives}
 use Rattle.cg_cell.proofs.Grammar.{reads_text}
@@ -13,3 +18,10 @@ returns-clause-over c = within_over (length c.args.pins.now) c.read.result (read
 
 pub returns-clause-grammar : goal.returns-clause-grammar
 returns-clause-grammar c t stands = subst (Gives term_of c.read.result) (reads_text c.args.pins.now c.args.text.now t stands) c.read.ensures
+
+found : (pins : List (List ℕ)) (text : List ℕ) (r : Result Expr ExprFault) → Gives term_of r (read_text pins text) → IfOk r (λ e. ExprText pins text (term_of e))
+found pins text (Ok e) g = read_stands pins text (term_of e) g
+found pins text (Err fault) g = tt
+
+pub returns-clause-found : goal.returns-clause-found
+returns-clause-found c = found c.args.pins.now c.args.text.now c.read.result c.read.ensures

@@ -1,3 +1,4 @@
+pub mod Parts
 pub mod RowLemmas
 pub mod WritingLemmas
 pub mod PinLemmas

@@ -6,3 +6,8 @@ pub mod OpenCover
 pub mod Rows
 pub mod Words
 pub mod Writing
+pub mod Gate
+pub mod Lrat
+pub mod Verdict
+pub mod Worlds
+pub mod Run

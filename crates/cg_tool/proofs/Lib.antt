@@ -1,4 +1,7 @@
 pub mod Parts
+pub mod ReadingHalf
+pub mod Attempting
+pub mod Ending
 pub mod RowLemmas
 pub mod WritingLemmas
 pub mod PinLemmas

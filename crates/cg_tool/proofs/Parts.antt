@@ -39,7 +39,7 @@ part_refused parse place job before after refusal told refused untouched tells f
   cause = load_cause parse place (loaded_of (before.held (name_at job place))) refusal refused;
   untouched = untouched;
   tells = tells;
-  failed = failed
+  failed = failed;
 }
 
 -- what a text comes to is the cause of what reading it answers
@@ -58,7 +58,7 @@ text_cause place v (Err (refusals.NoMemory Storing)) gives = gives
 text_cause place v (Err (refusals.NoMemory Saying)) gives = gives
 
 -- reading a text makes no call of the shelf
-text_faults : {T : Type 0} (job : JobWords) (v answer : Result T Refusal) → Gives v answer → outcome_faults job answer ≡ []
+pub text_faults : {T : Type 0} (job : JobWords) (v answer : Result T Refusal) → Gives v answer → outcome_faults job answer ≡ []
 text_faults job v (Ok found) gives = refl
 text_faults job v (Err refusals.Netlist) gives = refl
 text_faults job v (Err refusals.BadHeader) gives = refl
@@ -82,5 +82,5 @@ part_read parse place job before after bytes answer told untouched tells failed 
   cause = text_cause place (parse bytes) answer gives;
   untouched = untouched;
   tells = tells;
-  failed = rw (text_faults job (parse bytes) answer gives) failed
+  failed = rw (text_faults job (parse bytes) answer gives) failed;
 }

@@ -47,4 +47,4 @@ abbrev pub ◌>>=◌ : {A B : Type 0} → Result A Refusal → (A → Result B R
 -- before the next is loaded, and says whether the proof is accepted.
 abbrev pub verdict : Mode → Contents → Result Output Refusal
 verdict Gate files = given First files.first >>= gate_output
-verdict Lrat files = given First files.first >>= λ cnf. formula_of cnf >>= λ formula. given Second files.second >>= λ proof. log_of proof >>= λ log. Ok (lrat_output formula log)
+verdict Lrat files = (given First files.first >>= formula_of) >>= λ formula. (given Second files.second >>= log_of) >>= λ log. Ok (lrat_output formula log)

@@ -1,5 +1,5 @@
 -- What the parts of a run do to the shelf.
-use Rattle.std.specs.Prelude.{◌≡◌, ℕ, IsTrue, Bool, if◌then◌else◌, List, [], ◌++◌, Option, None, Some, Result, Ok, Err, IsOk, IsOkAnd, ⊤}
+use Rattle.std.specs.Prelude.{◌≡◌, ℕ, IsTrue, Bool, if◌then◌else◌, List, [], ◌++◌, Option, None, Some, Result, Ok, Err, IsOk, IsOkAnd, IsSome, ⊤}
 use Rattle.cg_cell.specs.declared.limit.Limit.TheVariants as limits
 use Rattle.cg_shelf.specs.World.{World}
 use Rattle.cg_shelf.specs.Shelf.{Appends, AppendsFront, SameBut, call_faults}
@@ -56,13 +56,13 @@ IsSayRefusal refusals.SayFault = ⊤
 IsSayRefusal (refusals.NoMemory step) = step ≡ Saying
 IsSayRefusal refusal = ⊥
 
-abbrev pub IsWriteRefusal : Refusal → Type 0
-IsWriteRefusal refusals.StoreFault = ⊤
-IsWriteRefusal refusals.SayFault = ⊤
-IsWriteRefusal (refusals.NoMemory Reading) = ⊥
-IsWriteRefusal (refusals.NoMemory Storing) = ⊤
-IsWriteRefusal (refusals.NoMemory Saying) = ⊤
-IsWriteRefusal refusal = ⊥
+abbrev pub IsWriteRefusal : Output → Refusal → Type 0
+IsWriteRefusal output refusals.StoreFault = IsSome output.stored
+IsWriteRefusal output refusals.SayFault = ⊤
+IsWriteRefusal output (refusals.NoMemory Reading) = ⊥
+IsWriteRefusal output (refusals.NoMemory Storing) = IsSome output.stored
+IsWriteRefusal output (refusals.NoMemory Saying) = ⊤
+IsWriteRefusal output refusal = ⊥
 
 -- the bytes stand under the name, and all else stays
 pub record Stands (name bytes : List ℕ) (before after : World) : Type 0 where

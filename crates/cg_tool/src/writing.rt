@@ -14,7 +14,7 @@ use cg_shelf::{Shelf, StoreFault};
 pub fn write<S: Shelf>(shelf: &mut S, job: &Job<'_>, output: &Output) -> Result<(), Refusal>
     ensures wrote { IsTrue (S.world shelf.old).tells
         → Writes (job_words job.now) output.now (S.world shelf.old) (S.world shelf.new) result }
-    ensures refused { IfErr result IsWriteRefusal }
+    ensures refused { IfErr result (IsWriteRefusal output.now) }
     ensures tells { (S.world shelf.new).tells ≡ (S.world shelf.old).tells }
     ensures failed { (S.world shelf.new).faults ≡ (S.world shelf.old).faults ++ outcome_faults (job_words job.now) result }
 {

@@ -9,6 +9,8 @@ use Rattle.cg_tool.specs.declared.output.Output.{Output}
 use Rattle.cg_tool.specs.declared.refusal.Refusal.{Refusal}
 use Rattle.cg_tool.specs.declared.refusal.Refusal.TheVariants as refusals
 use Rattle.cg_tool.specs.declared.refusal.Step.TheVariants.{Reading, Storing, Saying}
+use Rattle.cg_tool.specs.declared.output.Finish.{Finish}
+use Rattle.cg_tool.specs.Status.{finish_status}
 use Rattle.cg_tool.specs.declared.status.Status.{Status}
 use Rattle.cg_tool.specs.CommandLine.{JobWords}
 use Rattle.cg_tool.specs.Refusal.{faults_of}
@@ -92,11 +94,11 @@ part_written_since job output before middle after same written = record {
 -- a job whose writes were made
 pub attempt_written : (job : JobWords) (before middle after : World) (output : Output) → Reads job.mode job before middle (Ok output)
     → (IsTrue middle.tells → Written job output middle after) → after.tells ≡ middle.tells → after.faults ≡ middle.faults ++ []
-    → Attempts job before after (Ok output.status)
+    → Attempts job before after (Ok output.finish)
 attempt_written job before middle after output reads wrote tells failed = record {
   files = reads.files;
   told = reads.told;
-  cause = let P : Result Output Refusal → Type 0 = λ v. IsOkAnd v (λ found. found.status ≡ output.status) in subst P (sym reads.cause) refl;
+  cause = let P : Result Output Refusal → Type 0 = λ v. IsOkAnd v (λ found. found.finish ≡ output.finish) in subst P (sym reads.cause) refl;
   leaves = λ told. let P : Result Output Refusal → Type 0 = λ v. IsOkAnd v (λ found. Written job found before after) in subst P (sym reads.cause) (written_since job output before middle after (reads.untouched told) (wrote (tells_on before.tells middle.tells reads.tells told)));
   tells = tells ∙ reads.tells;
   failed = faults_join before.faults middle.faults after.faults [] reads.failed failed;

@@ -4,6 +4,8 @@ use Rattle.cg_shelf.specs.World.{World}
 use Rattle.cg_tool.specs.declared.refusal.Refusal.{Refusal}
 use Rattle.cg_tool.specs.declared.refusal.Refusal.TheVariants as refusals
 use Rattle.cg_tool.specs.declared.refusal.Step.TheVariants.{Reading}
+use Rattle.cg_tool.specs.declared.output.Finish.{Finish}
+use Rattle.cg_tool.specs.Status.{finish_status}
 use Rattle.cg_tool.specs.declared.status.Status.{Status}
 use Rattle.cg_tool.specs.declared.status.Status.TheVariants as statuses
 use Rattle.cg_tool.specs.CommandLine.{JobWords}
@@ -29,9 +31,9 @@ refuses_without_memory job refusal before after result complains = record {
 }
 
 -- a job that was done, or a proof that was rejected, ends the run
-pub runs_ended : (job : JobWords) (before after : World) (status : Status) → Attempts job before after (Ok status) → RunsJob job before after status
-runs_ended job before after status attempts = record {
-  outcome = Ok status;
+pub runs_ended : (job : JobWords) (before after : World) (finish : Finish) → Attempts job before after (Ok finish) → RunsJob job before after (finish_status finish)
+runs_ended job before after finish attempts = record {
+  outcome = Ok finish;
   between = after;
   attempts = attempts;
   ends = (refl, refl);

@@ -1,5 +1,6 @@
 -- The reading of one file of a job: a load, and what is made of its bytes.
 use Rattle.std.proofs.Common.{◌≡◌, ℕ, IsTrue, List, [], ◌++◌, Option, None, Some, Result, Ok, Err, refl, sym, ◌∙◌, ap}
+use Rattle.std.specs.Prelude.{IfOk}
 use Rattle.cg_cell.specs.declared.limit.Limit.TheVariants as limits
 use Rattle.cg_shelf.specs.World.{World}
 use Rattle.cg_shelf.specs.declared.faults.LoadFault.{LoadFault}
@@ -28,15 +29,16 @@ load_cause parse place loaded (refusals.NoMemory Storing) refused = cc
 load_cause parse place loaded (refusals.NoMemory Saying) refused = cc
 
 -- a file whose load was refused
-pub part_refused : {T : Type 0} (parse : List ℕ → Result T Refusal) (place : Place) (job : JobWords) (before after : World) (refusal : Refusal)
+pub part_refused : {T : Type 0} (parse : List ℕ → Result T Refusal) (fact : List ℕ → T → Type 0) (place : Place) (job : JobWords) (before after : World) (refusal : Refusal)
     → (IsTrue before.tells → gave (loaded_of (before.held (name_at job place))) (Err refusal) ≡ loaded_of (before.held (name_at job place)))
     → IsLoadRefusal place refusal
     → (IsTrue before.tells → Untouched before after) → after.tells ≡ before.tells → after.faults ≡ before.faults ++ faults_of job refusal
-    → ReadsPart parse place job before after (Err refusal)
-part_refused parse place job before after refusal told refused untouched tells failed = record {
+    → ReadsPart parse fact place job before after (Err refusal)
+part_refused parse fact place job before after refusal told refused untouched tells failed = record {
   file = gave (loaded_of (before.held (name_at job place))) (Err refusal);
   told = told;
   cause = load_cause parse place (loaded_of (before.held (name_at job place))) refusal refused;
+    known = tt;
   untouched = untouched;
   tells = tells;
   failed = failed;
@@ -71,15 +73,16 @@ text_faults job v (Err (refusals.Limit limit)) gives = refl
 text_faults job v (Err (refusals.NoMemory step)) gives = refl
 
 -- a file that was loaded, and read
-pub part_read : {T : Type 0} (parse : List ℕ → Result T Refusal) (place : Place) (job : JobWords) (before after : World) (bytes : List ℕ) (answer : Result T Refusal)
+pub part_read : {T : Type 0} (parse : List ℕ → Result T Refusal) (fact : List ℕ → T → Type 0) (place : Place) (job : JobWords) (before after : World) (bytes : List ℕ) (answer : Result T Refusal)
     → (IsTrue before.tells → gave (loaded_of (before.held (name_at job place))) (Ok bytes) ≡ loaded_of (before.held (name_at job place)))
     → (IsTrue before.tells → Untouched before after) → after.tells ≡ before.tells → after.faults ≡ before.faults ++ []
-    → Gives (parse bytes) answer
-    → ReadsPart parse place job before after answer
-part_read parse place job before after bytes answer told untouched tells failed gives = record {
+    → Gives (parse bytes) answer → IfOk answer (fact bytes)
+    → ReadsPart parse fact place job before after answer
+part_read parse fact place job before after bytes answer told untouched tells failed gives known = record {
   file = Ok bytes;
   told = told;
   cause = text_cause place (parse bytes) answer gives;
+    known = known;
   untouched = untouched;
   tells = tells;
   failed = rw (text_faults job (parse bytes) answer gives) failed;

@@ -11,3 +11,4 @@ pub mod Lrat
 pub mod Verdict
 pub mod Worlds
 pub mod Run
+pub mod Ends

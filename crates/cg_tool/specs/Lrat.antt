@@ -9,8 +9,8 @@ use Rattle.cg_lrat.specs.declared.verdict.Why.TheVariants.{UsedId, UnknownId, Ta
 use Rattle.cg_tool.specs.declared.output.Output.{Output}
 use Rattle.cg_tool.specs.declared.refusal.Refusal.{Refusal}
 use Rattle.cg_tool.specs.declared.refusal.Refusal.TheVariants as refusals
-use Rattle.cg_tool.specs.declared.status.Status.{Status}
-use Rattle.cg_tool.specs.declared.status.Status.TheVariants as statuses
+use Rattle.cg_tool.specs.declared.output.Finish.{Finish}
+use Rattle.cg_tool.specs.declared.output.Finish.TheVariants as finishes
 
 -- what is said of the cause why a proof is rejected
 abbrev pub cause_text : Why → List ℕ
@@ -27,14 +27,14 @@ abbrev pub check_text : Verdict → List ℕ
 check_text Accepted = codes "accepted" ++ 10 ∷ []
 check_text (Rejected line why) = codes "rejected line " ++ decimal line ++ 32 ∷ [] ++ cause_text why ++ 10 ∷ []
 
--- how a run ends that checked
-abbrev pub check_status : Verdict → Status
-check_status Accepted = statuses.Done
-check_status (Rejected line why) = statuses.Rejected
+-- how a job ends that checked
+abbrev pub check_finish : Verdict → Finish
+check_finish Accepted = finishes.Done
+check_finish (Rejected line why) = finishes.Rejected
 
 -- what a check puts out: it stores nothing, and says what came out
 abbrev pub check_output : Verdict → Output
-check_output v = record { stored = None; said = check_text v; status = check_status v }
+check_output v = record { stored = None; said = check_text v; finish = check_finish v }
 
 abbrev pub formula_of : List ℕ → Result Formula Refusal
 formula_of text = Err refusals.BadHeader

@@ -1,5 +1,5 @@
 -- What a run does, part by part and by how each part ended.
-use Rattle.std.specs.Prelude.{◌≡◌, ℕ, IsTrue, Bool, if◌then◌else◌, List, [], ◌++◌, codes, Option, None, Some, Result, Ok, Err, IsOk, IsOkAnd, IsSome, ⊤}
+use Rattle.std.specs.Prelude.{◌≡◌, ℕ, IsTrue, Bool, if◌then◌else◌, List, [], ◌++◌, codes, Option, None, Some, Result, Ok, Err, IfOk, IsOk, IsOkAnd, IsSome, ⊤}
 use Rattle.cg_shelf.specs.World.{World}
 use Rattle.cg_shelf.specs.Shelf.{Appends, call_faults}
 use Rattle.cg_shelf.specs.declared.faults.Call.TheVariants.{Complain}
@@ -13,10 +13,14 @@ use Rattle.cg_tool.specs.declared.output.Output.{Output}
 use Rattle.cg_tool.specs.declared.refusal.Refusal.{Refusal}
 use Rattle.cg_tool.specs.declared.refusal.Refusal.TheVariants as refusals
 use Rattle.cg_tool.specs.declared.refusal.Step.TheVariants.{Reading, Storing, Saying}
+use Rattle.cg_tool.specs.declared.output.Finish.{Finish}
+use Rattle.cg_tool.specs.Status.{finish_status}
 use Rattle.cg_tool.specs.declared.status.Status.{Status}
 use Rattle.cg_tool.specs.declared.status.Status.TheVariants as statuses
 use Rattle.cg_tool.specs.CommandLine.{JobWords, name_at}
 use Rattle.cg_tool.specs.Refusal.{status_of, complaint_text, complaint_line}
+use Rattle.cg_tool.specs.Gate.{Gates}
+use Rattle.cg_tool.specs.Lrat.{Checks}
 use Rattle.cg_tool.specs.Verdict.{Contents, contents, verdict, given, loaded_of, ◌>>=◌}
 use Rattle.cg_shelf.specs.declared.faults.LoadFault.{LoadFault}
 use Rattle.cg_tool.specs.Worlds.{Untouched, Written, WrittenOpen, WrittenInPart, outcome_faults}
@@ -42,12 +46,17 @@ PartCause place v (Err (refusals.NoMemory Reading)) = ⊤
 PartCause place v (Err (refusals.NoMemory Storing)) = ⊥
 PartCause place v (Err (refusals.NoMemory Saying)) = ⊥
 
+-- what is known of the value that a text was read as
+abbrev pub GivesFact : {T : Type 0} → (List ℕ → T → Type 0) → Result (List ℕ) LoadFault → Result T Refusal → Type 0
+GivesFact fact file answer = IfOk answer (λ found. IsOkAnd file (λ text. fact text found))
+
 -- The loading and reading of one file of a job. `file` is what its load gave; where the shelf tells, that is what it
 -- held. Nothing is stored, said or complained.
-pub record ReadsPart {T : Type 0} (parse : List ℕ → Result T Refusal) (place : Place) (job : JobWords) (before after : World) (answer : Result T Refusal) : Type 0 where
+pub record ReadsPart {T : Type 0} (parse : List ℕ → Result T Refusal) (fact : List ℕ → T → Type 0) (place : Place) (job : JobWords) (before after : World) (answer : Result T Refusal) : Type 0 where
   pub file : Result (List ℕ) LoadFault
   pub told : IsTrue before.tells → file ≡ loaded_of (before.held (name_at job place))
   pub cause : PartCause place (given place file >>= parse) answer
+  pub known : GivesFact fact file answer
   pub untouched : IsTrue before.tells → Untouched before after
   pub tells : after.tells ≡ before.tells
   pub failed : after.faults ≡ before.faults ++ outcome_faults job answer
@@ -67,19 +76,25 @@ ReadCause mode v (Err (refusals.NoMemory Reading)) = ⊤
 ReadCause mode v (Err (refusals.NoMemory Storing)) = ⊥
 ReadCause mode v (Err (refusals.NoMemory Saying)) = ⊥
 
+-- what is known of what a job puts out, beside what its files come to
+abbrev pub IsKnown : Mode → Contents → Output → Type 0
+IsKnown Gate files output = IsOkAnd files.first (λ text. Gates text output)
+IsKnown Lrat files output = IsOkAnd files.first (λ cnf. IsOkAnd files.second (λ proof. Checks cnf proof output))
+
 -- The reading half of a job. `files` is what its loads gave; where the shelf tells, that is what it held. Nothing is
 -- stored, said or complained.
 pub record Reads (mode : Mode) (job : JobWords) (before after : World) (answer : Result Output Refusal) : Type 0 where
   pub files : Contents
   pub told : IsTrue before.tells → files ≡ contents job before
   pub cause : ReadCause mode (verdict mode files) answer
+  pub known : IfOk answer (IsKnown mode files)
   pub untouched : IsTrue before.tells → Untouched before after
   pub tells : after.tells ≡ before.tells
   pub failed : after.faults ≡ before.faults ++ outcome_faults job answer
 
 -- why a job ended so, where its files come to this verdict
-abbrev pub Cause : Mode → Result Output Refusal → Result Status Refusal → Type 0
-Cause mode v (Ok status) = IsOkAnd v (λ output. output.status ≡ status)
+abbrev pub Cause : Mode → Result Output Refusal → Result Finish Refusal → Type 0
+Cause mode v (Ok finish) = IsOkAnd v (λ output. output.finish ≡ finish)
 Cause mode v (Err refusals.Netlist) = v ≡ Err refusals.Netlist
 Cause mode v (Err refusals.BadHeader) = v ≡ Err refusals.BadHeader
 Cause mode v (Err (refusals.BadClause line)) = v ≡ Err (refusals.BadClause line)
@@ -93,8 +108,8 @@ Cause mode v (Err (refusals.NoMemory Storing)) = IsOkAnd v (λ output. IsSome ou
 Cause mode v (Err (refusals.NoMemory Saying)) = IsOk v
 
 -- what a job leaves behind, by how it ended
-abbrev pub Leaves : JobWords → Result Output Refusal → World → World → Result Status Refusal → Type 0
-Leaves job v before after (Ok status) = IsOkAnd v (λ output. Written job output before after)
+abbrev pub Leaves : JobWords → Result Output Refusal → World → World → Result Finish Refusal → Type 0
+Leaves job v before after (Ok finish) = IsOkAnd v (λ output. Written job output before after)
 Leaves job v before after (Err refusals.Netlist) = Untouched before after
 Leaves job v before after (Err refusals.BadHeader) = Untouched before after
 Leaves job v before after (Err (refusals.BadClause line)) = Untouched before after
@@ -109,10 +124,11 @@ Leaves job v before after (Err (refusals.NoMemory Saying)) = IsOkAnd v (λ outpu
 
 -- A job, up to its complaint. The cause of its end holds over any shelf, of what its loads gave; what it leaves behind
 -- is said of a shelf that tells.
-pub record Attempts (job : JobWords) (before after : World) (outcome : Result Status Refusal) : Type 0 where
+pub record Attempts (job : JobWords) (before after : World) (outcome : Result Finish Refusal) : Type 0 where
   pub files : Contents
   pub told : IsTrue before.tells → files ≡ contents job before
   pub cause : Cause job.mode (verdict job.mode files) outcome
+  pub known : IfOk outcome (λ _. IsOkAnd (verdict job.mode files) (IsKnown job.mode files))
   pub leaves : IsTrue before.tells → Leaves job (verdict job.mode files) before after outcome
   pub tells : after.tells ≡ before.tells
   pub failed : after.faults ≡ before.faults ++ outcome_faults job outcome
@@ -141,13 +157,13 @@ pub record Refuses (job : JobWords) (refusal : Refusal) (before after : World) (
   pub complains : Complains (complaint_text job shown) (status_of shown) before after result
 
 -- how a run ends after its job
-abbrev pub EndsAfter : JobWords → Result Status Refusal → World → World → Status → Type 0
-EndsAfter job (Ok status) before after result = (result ≡ status) × (after ≡ before)
+abbrev pub EndsAfter : JobWords → Result Finish Refusal → World → World → Status → Type 0
+EndsAfter job (Ok finish) before after result = (result ≡ finish_status finish) × (after ≡ before)
 EndsAfter job (Err refusal) before after result = Refuses job refusal before after result
 
 -- a run of a job: the job, and its end
 pub record RunsJob (job : JobWords) (before after : World) (result : Status) : Type 0 where
-  pub outcome : Result Status Refusal
+  pub outcome : Result Finish Refusal
   pub between : World
   pub attempts : Attempts job before between outcome
   pub ends : EndsAfter job outcome between after result

@@ -1,5 +1,7 @@
 -- How a run ends, as a number.
 use Rattle.std.specs.Prelude.{ℕ}
+use Rattle.cg_tool.specs.declared.output.Finish.{Finish}
+use Rattle.cg_tool.specs.declared.output.Finish.TheVariants as finishes
 use Rattle.cg_tool.specs.declared.status.Status.{Status}
 use Rattle.cg_tool.specs.declared.status.Status.TheVariants as statuses
 
@@ -15,3 +17,8 @@ status_number statuses.ReadFault = 6
 status_number statuses.WriteFault = 7
 status_number statuses.Limit = 8
 status_number statuses.NoMemory = 9
+
+-- how a run ends whose job ended so
+abbrev pub finish_status : Finish → Status
+finish_status finishes.Done = statuses.Done
+finish_status finishes.Rejected = statuses.Rejected

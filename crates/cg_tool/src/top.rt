@@ -3,10 +3,11 @@
 ghost use Rattle.std.specs.Prelude.{◌≡◌, map};
 ghost use Rattle.std.specs.String.{string_bytes};
 ghost use Rattle.cg_tool.specs.CommandLine.{job_of, job_words};
+ghost use Rattle.cg_tool.specs.Ends.{Ends};
 ghost use Rattle.cg_tool.specs.Run.{Reads, Attempts, Complains, Refuses, RunsJob, Runs};
 
 use crate::job::{Job, Mode, read_words};
-use crate::output::Output;
+use crate::output::{Finish, Output};
 use crate::refusal::Refusal;
 use crate::status::Status;
 use crate::writing::write;
@@ -16,6 +17,12 @@ use std::alloc::Global;
 
 /// Does what the words of a command line ask for, over the shelf, and answers how that ended.
 pub fn run<S: Shelf>(alloc: Global, words: &[String], shelf: &mut S) -> Status
+    ensures ends { Ends (job_of (map string_bytes words.now)) (S.world shelf.old) (S.world shelf.new) result }
+{
+    run_words(alloc, words, shelf)
+}
+
+fn run_words<S: Shelf>(alloc: Global, words: &[String], shelf: &mut S) -> Status
     ensures { Runs (job_of (map string_bytes words.now)) (S.world shelf.old) (S.world shelf.new) result }
 {
     match read_words(words) {
@@ -28,18 +35,18 @@ fn run_job<S: Shelf>(alloc: Global, shelf: &mut S, job: &Job<'_>) -> Status
     ensures { RunsJob (job_words job.now) (S.world shelf.old) (S.world shelf.new) result }
 {
     match attempt(alloc, shelf, job) {
-        Ok(status) => status,
+        Ok(finish) => finish.status(),
         Err(refusal) => refuse(alloc, shelf, job, refusal),
     }
 }
 
 /// Does the job up to its complaint.
-fn attempt<S: Shelf>(alloc: Global, shelf: &mut S, job: &Job<'_>) -> Result<Status, Refusal>
+fn attempt<S: Shelf>(alloc: Global, shelf: &mut S, job: &Job<'_>) -> Result<Finish, Refusal>
     ensures { Attempts (job_words job.now) (S.world shelf.old) (S.world shelf.new) result }
 {
     let output = read(alloc, shelf, job)?;
     write(shelf, job, &output)?;
-    Ok(output.status)
+    Ok(output.finish)
 }
 
 /// Loads and reads the job's files.

@@ -14,7 +14,7 @@ use Rattle.cg_tool.specs.Status.{finish_status}
 use Rattle.cg_tool.specs.declared.status.Status.{Status}
 use Rattle.cg_tool.specs.CommandLine.{JobWords}
 use Rattle.cg_tool.specs.Refusal.{faults_of}
-use Rattle.cg_tool.specs.Run.{Attempts, Cause, Leaves, ReadCause, Reads}
+use Rattle.cg_tool.specs.Run.{Attempts, Cause, IsKnown, Leaves, ReadCause, Reads}
 use Rattle.cg_tool.specs.Verdict.{verdict}
 use Rattle.cg_tool.specs.Worlds.{Holds, HoldsOpen, IsWriteRefusal, Untouched, Writes, Written, WrittenInPart, WrittenOpen}
 use Rattle.cg_tool.proofs.ReadingHalf.{faults_join, tells_on}
@@ -53,6 +53,7 @@ attempt_unread job before after refusal reads = record {
   files = reads.files;
   told = reads.told;
   cause = unread_cause job.mode (verdict job.mode reads.files) refusal reads.cause;
+  known = tt;
   leaves = λ tells. unread_leaves job (verdict job.mode reads.files) before after refusal reads.cause (reads.untouched tells);
   tells = reads.tells;
   failed = reads.failed;
@@ -99,6 +100,7 @@ attempt_written job before middle after output reads wrote tells failed = record
   files = reads.files;
   told = reads.told;
   cause = let P : Result Output Refusal → Type 0 = λ v. IsOkAnd v (λ found. found.finish ≡ output.finish) in subst P (sym reads.cause) refl;
+  known = let P : Result Output Refusal → Type 0 = λ v. IsOkAnd v (IsKnown job.mode reads.files) in subst P (sym reads.cause) reads.known;
   leaves = λ told. let P : Result Output Refusal → Type 0 = λ v. IsOkAnd v (λ found. Written job found before after) in subst P (sym reads.cause) (written_since job output before middle after (reads.untouched told) (wrote (tells_on before.tells middle.tells reads.tells told)));
   tells = tells ∙ reads.tells;
   failed = faults_join before.faults middle.faults after.faults [] reads.failed failed;
@@ -140,6 +142,7 @@ attempt_unwritten job before middle after output refusal reads wrote refused tel
   files = reads.files;
   told = reads.told;
   cause = unwritten_cause job.mode (verdict job.mode reads.files) output refusal reads.cause refused;
+  known = tt;
   leaves = λ told. unwritten_leaves job (verdict job.mode reads.files) before middle after output refusal reads.cause (reads.untouched told) (wrote (tells_on before.tells middle.tells reads.tells told));
   tells = tells ∙ reads.tells;
   failed = faults_join before.faults middle.faults after.faults (faults_of job refusal) reads.failed failed;

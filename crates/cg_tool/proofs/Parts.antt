@@ -38,7 +38,7 @@ part_refused parse fact place job before after refusal told refused untouched te
   file = gave (loaded_of (before.held (name_at job place))) (Err refusal);
   told = told;
   cause = load_cause parse place (loaded_of (before.held (name_at job place))) refusal refused;
-    known = tt;
+  known = tt;
   untouched = untouched;
   tells = tells;
   failed = failed;
@@ -82,7 +82,7 @@ part_read parse fact place job before after bytes answer told untouched tells fa
   file = Ok bytes;
   told = told;
   cause = text_cause place (parse bytes) answer gives;
-    known = known;
+  known = known;
   untouched = untouched;
   tells = tells;
   failed = rw (text_faults job (parse bytes) answer gives) failed;

@@ -15,8 +15,13 @@ use Rattle.cg_tool.specs.declared.refusal.Refusal.{Refusal}
 use Rattle.cg_tool.specs.declared.refusal.Refusal.TheVariants as refusals
 use Rattle.cg_tool.specs.declared.refusal.Step.TheVariants.{Reading, Storing, Saying}
 use Rattle.cg_tool.specs.CommandLine.{JobWords, name_at}
-use Rattle.cg_tool.specs.Gate.{gate_output}
-use Rattle.cg_tool.specs.Lrat.{formula_of, log_of, lrat_output}
+use Rattle.cg_lrat.specs.DimacsText.{DimacsText}
+use Rattle.cg_lrat.specs.LratText.{LratText}
+use Rattle.cg_lrat.specs.Satisfiable.{IsUnsatisfiable}
+use Rattle.std.specs.Prelude.{IfOk, IsOkAnd}
+use Rattle.cg_tool.specs.declared.output.Finish.TheVariants as finishes
+use Rattle.cg_tool.specs.Gate.{gate_output, Gates}
+use Rattle.cg_tool.specs.Lrat.{Checks, formula_of, log_of, lrat_output}
 use Rattle.cg_tool.specs.Refusal.{faults_of}
 use Rattle.cg_tool.specs.Run.{PartCause, ReadCause, ReadsPart, Reads, IsLoaded}
 use Rattle.cg_tool.specs.Verdict.{Contents, contents, given, loaded_of, verdict, ◌>>=◌}
@@ -58,11 +63,12 @@ gate_cause v (Err (refusals.NoMemory Storing)) cause = cause
 gate_cause v (Err (refusals.NoMemory Saying)) cause = cause
 
 -- `gate` reads its first file
-pub reads_gate : (job : JobWords) (before after : World) (answer : Result Output Refusal) → ReadsPart gate_output First job before after answer → Reads Gate job before after answer
+pub reads_gate : (job : JobWords) (before after : World) (answer : Result Output Refusal) → ReadsPart gate_output Gates First job before after answer → Reads Gate job before after answer
 reads_gate job before after answer part = record {
   files = record { first = part.file; second = loaded_of (before.held job.second) };
   told = λ tells. let build : Result (List ℕ) LoadFault → Contents = λ file. record { first = file; second = loaded_of (before.held job.second) } in ap build (part.told tells);
   cause = gate_cause (given First part.file >>= gate_output) answer part.cause;
+  known = part.known;
   untouched = part.untouched;
   tells = part.tells;
   failed = part.failed;
@@ -98,11 +104,12 @@ gives_cause v (Err (refusals.NoMemory Storing)) gives = gives
 gives_cause v (Err (refusals.NoMemory Saying)) gives = gives
 
 -- `lrat`, where the formula is refused
-pub reads_formula_refused : (job : JobWords) (before after : World) (refusal : Refusal) → ReadsPart formula_of First job before after (Err refusal) → Reads Lrat job before after (Err refusal)
+pub reads_formula_refused : (job : JobWords) (before after : World) (refusal : Refusal) → ReadsPart formula_of DimacsText First job before after (Err refusal) → Reads Lrat job before after (Err refusal)
 reads_formula_refused job before after refusal part = record {
   files = record { first = part.file; second = loaded_of (before.held job.second) };
   told = λ tells. let build : Result (List ℕ) LoadFault → Contents = λ file. record { first = file; second = loaded_of (before.held job.second) } in ap build (part.told tells);
   cause = refused_cause First (given First part.file >>= formula_of) (λ formula. (given Second (loaded_of (before.held job.second)) >>= log_of) >>= λ log. Ok (lrat_output formula log)) refusal part.cause;
+  known = tt;
   untouched = part.untouched;
   tells = part.tells;
   failed = part.failed;
@@ -116,7 +123,7 @@ both_told job before middle first second one same two =
     let pair : record { first = first; second = second } ≡ contents job before = cc in pair
 
 -- `lrat`, where the formula is read and the proof is refused
-pub reads_log_refused : (job : JobWords) (before middle after : World) (formula : Formula) (refusal : Refusal) → ReadsPart formula_of First job before middle (Ok formula) → ReadsPart log_of Second job middle after (Err refusal) → Reads Lrat job before after (Err refusal)
+pub reads_log_refused : (job : JobWords) (before middle after : World) (formula : Formula) (refusal : Refusal) → ReadsPart formula_of DimacsText First job before middle (Ok formula) → ReadsPart log_of LratText Second job middle after (Err refusal) → Reads Lrat job before after (Err refusal)
 reads_log_refused job before middle after formula refusal one two =
     let next : Formula → Result Output Refusal = λ formula. (given Second two.file >>= log_of) >>= λ log. Ok (lrat_output formula log) in
     let found : (given First one.file >>= formula_of) >>= next ≡ next formula = ap (λ v. v >>= next) one.cause in
@@ -124,14 +131,25 @@ reads_log_refused job before middle after formula refusal one two =
       files = record { first = one.file; second = two.file };
       told = λ tells. both_told job before middle one.file two.file (one.told tells) (one.untouched tells) (two.told (tells_on before.tells middle.tells one.tells tells));
       cause = let P : Result Output Refusal → Type 0 = λ v. ReadCause Lrat v (Err refusal) in subst P (sym found) (refused_cause Second (given Second two.file >>= log_of) (λ log. Ok (lrat_output formula log)) refusal two.cause);
+      known = tt;
       untouched = λ tells. untouched_twice before middle after (one.untouched tells) (two.untouched (tells_on before.tells middle.tells one.tells tells));
       tells = two.tells ∙ one.tells;
       failed = faults_join before.faults middle.faults after.faults (faults_of job refusal) one.failed two.failed;
     }
 
+-- what is known of what a check puts out
+checks_file : (one two : Result (List ℕ) LoadFault) (formula : Formula) (log : Log) (output : Output) → IsOkAnd one (λ cnf. DimacsText cnf formula) → IsOkAnd two (λ proof. LratText proof log) → output ≡ lrat_output formula log → (output.finish ≡ finishes.Done → IsUnsatisfiable formula) → IsOkAnd one (λ cnf. IsOkAnd two (λ proof. Checks cnf proof output))
+checks_file (Ok cnf) (Ok proof) formula log output says proves is sound = record { formula = formula; log = log; says = says; proves = proves; is = is; sound = sound }
+checks_file (Ok cnf) (Err fault) formula log output says proves is sound = absurd proves
+checks_file (Err fault) two formula log output says proves is sound = absurd says
+
+known_checked : (one two : Result (List ℕ) LoadFault) (formula : Formula) (log : Log) (answer : Result Output Refusal) → IsOkAnd one (λ cnf. DimacsText cnf formula) → IsOkAnd two (λ proof. LratText proof log) → Gives (Ok (lrat_output formula log)) answer → IfOk answer (λ output. output.finish ≡ finishes.Done → IsUnsatisfiable formula) → IfOk answer (λ output. IsOkAnd one (λ cnf. IsOkAnd two (λ proof. Checks cnf proof output)))
+known_checked one two formula log (Ok output) says proves gives sound = checks_file one two formula log output says proves (cc) sound
+known_checked one two formula log (Err refusal) says proves gives sound = tt
+
 -- `lrat`, where both are read, and checked
-pub reads_checked : (job : JobWords) (before middle after : World) (formula : Formula) (log : Log) (answer : Result Output Refusal) → ReadsPart formula_of First job before middle (Ok formula) → ReadsPart log_of Second job middle after (Ok log) → Gives (Ok (lrat_output formula log)) answer → Reads Lrat job before after answer
-reads_checked job before middle after formula log answer one two gives =
+pub reads_checked : (job : JobWords) (before middle after : World) (formula : Formula) (log : Log) (answer : Result Output Refusal) → ReadsPart formula_of DimacsText First job before middle (Ok formula) → ReadsPart log_of LratText Second job middle after (Ok log) → Gives (Ok (lrat_output formula log)) answer → IfOk answer (λ output. output.finish ≡ finishes.Done → IsUnsatisfiable formula) → Reads Lrat job before after answer
+reads_checked job before middle after formula log answer one two gives sound =
     let next : Formula → Result Output Refusal = λ formula. (given Second two.file >>= log_of) >>= λ log. Ok (lrat_output formula log) in
     let found : (given First one.file >>= formula_of) >>= next ≡ next formula = ap (λ v. v >>= next) one.cause in
     let checked : next formula ≡ Ok (lrat_output formula log) = ap (λ v. v >>= λ log. Ok (lrat_output formula log)) two.cause in
@@ -139,6 +157,7 @@ reads_checked job before middle after formula log answer one two gives =
       files = record { first = one.file; second = two.file };
       told = λ tells. both_told job before middle one.file two.file (one.told tells) (one.untouched tells) (two.told (tells_on before.tells middle.tells one.tells tells));
       cause = let P : Result Output Refusal → Type 0 = λ v. ReadCause Lrat v answer in subst P (sym (found ∙ checked)) (gives_cause (Ok (lrat_output formula log)) answer gives);
+      known = known_checked one.file two.file formula log answer one.known two.known gives sound;
       untouched = λ tells. untouched_twice before middle after (one.untouched tells) (two.untouched (tells_on before.tells middle.tells one.tells tells));
       tells = two.tells ∙ one.tells;
       failed = let none : outcome_faults job answer ≡ [] = text_faults job (Ok (lrat_output formula log)) answer gives in rw none (faults_join before.faults middle.faults after.faults [] one.failed two.failed);

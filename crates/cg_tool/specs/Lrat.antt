@@ -1,5 +1,5 @@
 -- What `lrat` says.
-use Rattle.std.specs.Prelude.{ℕ, List, [], ◌∷◌, ◌++◌, codes, decimal, None, Result, Err}
+use Rattle.std.specs.Prelude.{◌≡◌, ℕ, List, [], ◌∷◌, ◌++◌, codes, decimal, Option, None, Some, Result, Ok, Err}
 use Rattle.cg_lrat.specs.declared.formula.Formula.{Formula}
 use Rattle.cg_lrat.specs.declared.log.Log.{Log}
 use Rattle.cg_lrat.specs.declared.verdict.Verdict.{Verdict}
@@ -9,6 +9,17 @@ use Rattle.cg_lrat.specs.declared.verdict.Why.TheVariants.{UsedId, UnknownId, Ta
 use Rattle.cg_tool.specs.declared.output.Output.{Output}
 use Rattle.cg_tool.specs.declared.refusal.Refusal.{Refusal}
 use Rattle.cg_tool.specs.declared.refusal.Refusal.TheVariants as refusals
+use Rattle.cg_lrat.specs.Accepted.{verdict}
+use Rattle.cg_lrat.specs.DimacsReading.{dimacs}
+use Rattle.cg_lrat.specs.DimacsText.{DimacsText}
+use Rattle.cg_lrat.specs.LratReading.{lrat}
+use Rattle.cg_lrat.specs.LratText.{LratText}
+use Rattle.cg_lrat.specs.Satisfiable.{IsUnsatisfiable}
+use Rattle.cg_lrat.specs.declared.dimacs.DimacsFault.{DimacsFault}
+use Rattle.cg_lrat.specs.declared.dimacs.DimacsFault.TheVariants as dimacs_faults
+use Rattle.cg_lrat.specs.declared.lrat.LratFault.{LratFault}
+use Rattle.cg_lrat.specs.declared.lrat.LratFault.TheVariants as lrat_faults
+use Rattle.cg_tool.specs.declared.refusal.Step.TheVariants.{Reading}
 use Rattle.cg_tool.specs.declared.output.Finish.{Finish}
 use Rattle.cg_tool.specs.declared.output.Finish.TheVariants as finishes
 
@@ -36,11 +47,40 @@ check_finish (Rejected line why) = finishes.Rejected
 abbrev pub check_output : Verdict → Output
 check_output v = record { stored = None; said = check_text v; finish = check_finish v }
 
+-- why a formula's text is refused
+abbrev pub formula_refusal : DimacsFault → Refusal
+formula_refusal dimacs_faults.BadHeader = refusals.BadHeader
+formula_refusal (dimacs_faults.BadClause line) = refusals.BadClause line
+formula_refusal (dimacs_faults.Limit limit) = refusals.Limit limit
+formula_refusal dimacs_faults.NoMemory = refusals.NoMemory Reading
+
+-- why a proof's text is refused
+abbrev pub log_refusal : LratFault → Refusal
+log_refusal (lrat_faults.BadLine line) = refusals.BadLine line
+log_refusal lrat_faults.NoMemory = refusals.NoMemory Reading
+
+-- a fault of a text, as the refusal that it is
+abbrev pub refused_as : {T E : Type 0} → (E → Refusal) → Result T E → Result T Refusal
+refused_as refusal (Ok found) = Ok found
+refused_as refusal (Err fault) = Err (refusal fault)
+
+-- the formula of a text in DIMACS CNF, and the proof of a text in LRAT
 abbrev pub formula_of : List ℕ → Result Formula Refusal
-formula_of text = Err refusals.BadHeader
+formula_of text = refused_as formula_refusal (dimacs text)
 
 abbrev pub log_of : List ℕ → Result Log Refusal
-log_of text = Err (refusals.BadLine 1)
+log_of text = refused_as log_refusal (lrat text)
 
+-- what `lrat` puts out of a formula and a proof
 abbrev pub lrat_output : Formula → Log → Output
-lrat_output formula log = check_output Accepted
+lrat_output formula log = check_output (verdict formula log)
+
+-- What `lrat` puts out of two texts: they say a formula and a proof of these grammars, and where the proof is
+-- accepted, no assignment satisfies the formula.
+pub record Checks (cnf proof : List ℕ) (output : Output) : Type 0 where
+  pub formula : Formula
+  pub log : Log
+  pub says : DimacsText cnf formula
+  pub proves : LratText proof log
+  pub is : output ≡ lrat_output formula log
+  pub sound : output.finish ≡ finishes.Done → IsUnsatisfiable formula

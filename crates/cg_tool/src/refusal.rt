@@ -44,6 +44,18 @@ pub enum Refusal {
     NoMemory(Step),
 }
 
+impl From<AllocError> for Refusal {
+    ghost use Rattle.cg_tool.specs.declared.refusal.Refusal.TheVariants as refusals;
+    ghost use Rattle.cg_tool.specs.declared.refusal.Step.TheVariants.{Reading};
+
+    /// Only the reading half of a job asks for memory by itself.
+    ghost from_gives = { λ _ e. e ≡ refusals.NoMemory Reading };
+
+    fn from(_cause: AllocError) -> Refusal {
+        Refusal::NoMemory(Step::Reading)
+    }
+}
+
 impl Refusal {
     /// How a run ends that is refused so.
     pub fn status(self) -> Status
@@ -86,7 +98,8 @@ impl Refusal {
     }
 }
 
-fn push_numbered(line: &mut Vec<u8>, text: &[u8], number: u64) -> Result<(), AllocError>
+/// Puts a text and a number behind a line.
+pub(crate) fn push_numbered(line: &mut Vec<u8>, text: &[u8], number: u64) -> Result<(), AllocError>
     ensures { OnOk result (line.new.items ≡ line.old.items ++ (text.now ++ decimal number)) }
 {
     line.extend_from_slice(text)?;

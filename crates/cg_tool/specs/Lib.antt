@@ -12,3 +12,4 @@ pub mod Verdict
 pub mod Worlds
 pub mod Run
 pub mod Ends
+pub mod Headline

@@ -1,9 +1,11 @@
 //! The top call.
 
-ghost use Rattle.std.specs.Prelude.{◌≡◌, map};
+ghost use Rattle.std.specs.Prelude.{◌≡◌, map, None, IsTrue, IfSome};
 ghost use Rattle.std.specs.String.{string_bytes};
 ghost use Rattle.cg_tool.specs.CommandLine.{job_of, job_words};
-ghost use Rattle.cg_tool.specs.Ends.{Ends};
+ghost use Rattle.cg_tool.specs.Ends.{Ends, IsOrFails, IsOrNoMemory, KeepsOthers, ends_as};
+ghost use Rattle.cg_tool.specs.Headline.{IsChecked, OnFinish};
+ghost use Rattle.cg_tool.specs.Verdict.{contents, verdict};
 ghost use Rattle.cg_tool.specs.Run.{Reads, Attempts, Complains, Refuses, RunsJob, Runs};
 
 use crate::job::{Job, Mode, read_words};
@@ -17,7 +19,24 @@ use std::alloc::Global;
 
 /// Does what the words of a command line ask for, over the shelf, and answers how that ended.
 pub fn run<S: Shelf>(alloc: Global, words: &[String], shelf: &mut S) -> Status
+    // Each status with its cause, the calls that failed, what stands and what was complained.
     ensures ends { Ends (job_of (map string_bytes words.now)) (S.world shelf.old) (S.world shelf.new) result }
+
+    // Usage comes exactly of words that are no job.
+    ensures usage { result ≡ Status.Usage → job_of (map string_bytes words.now) ≡ None }
+    ensures usage_only { job_of (map string_bytes words.now) ≡ None → IsOrNoMemory Status.Usage result }
+
+    // Where no call of the shelf fails, a job ends as its files come to.
+    ensures comes { IsTrue (S.world shelf.old).tells → IfSome (job_of (map string_bytes words.now))
+        (λ job. IsOrFails (ends_as (verdict job.mode (contents job (S.world shelf.old)))) result) }
+
+    // Every name but that of the stored file holds what it held.
+    ensures others { IsTrue (S.world shelf.old).tells
+        → KeepsOthers (job_of (map string_bytes words.now)) (S.world shelf.old) (S.world shelf.new) }
+
+    // `lrat` checks the proof that it was given, and what it accepts has no satisfying assignment.
+    ensures checked { IsTrue (S.world shelf.old).tells → IfSome (job_of (map string_bytes words.now))
+        (λ job. job.mode ≡ Mode.Lrat → OnFinish result (IsChecked job (S.world shelf.old) (S.world shelf.new) result)) }
 {
     run_words(alloc, words, shelf)
 }

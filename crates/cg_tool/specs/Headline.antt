@@ -1,0 +1,33 @@
+-- What a finished run means to the one who asked for it.
+use Rattle.std.specs.Prelude.{◌≡◌, ℕ, List, [], ◌++◌, codes, Some, IsSomeAnd, ⊤}
+use Rattle.cg_lrat.specs.Accepted.{verdict}
+use Rattle.cg_lrat.specs.DimacsText.{DimacsText}
+use Rattle.cg_lrat.specs.LratText.{LratText}
+use Rattle.cg_lrat.specs.Satisfiable.{IsUnsatisfiable}
+use Rattle.cg_lrat.specs.declared.formula.Formula.{Formula}
+use Rattle.cg_lrat.specs.declared.log.Log.{Log}
+use Rattle.cg_shelf.specs.World.{World}
+use Rattle.cg_tool.specs.declared.status.Status.{Status}
+use Rattle.cg_tool.specs.declared.status.Status.TheVariants as statuses
+use Rattle.cg_tool.specs.CommandLine.{JobWords}
+use Rattle.cg_tool.specs.Lrat.{check_finish, check_text}
+use Rattle.cg_tool.specs.Status.{finish_status}
+
+-- a fact of the runs that end with Done or Rejected
+abbrev pub OnFinish : Status → Type 0 → Type 0
+OnFinish statuses.Done fact = fact
+OnFinish statuses.Rejected fact = fact
+OnFinish other fact = ⊤
+
+-- A proof was checked: the bytes under the two names say a formula and a proof, what is said is what the check of the
+-- proof comes to, and the run ends with Done exactly where the proof is accepted. Then no assignment satisfies the
+-- formula. Nothing is stored.
+pub record IsChecked (job : JobWords) (before after : World) (result : Status) : Type 0 where
+  pub formula : Formula
+  pub log : Log
+  pub says : IsSomeAnd (before.held job.first) (λ cnf. DimacsText cnf formula)
+  pub proves : IsSomeAnd (before.held job.second) (λ proof. LratText proof log)
+  pub said : after.said ≡ before.said ++ check_text (verdict formula log)
+  pub held : after.held ≡ before.held
+  pub ends : result ≡ finish_status (check_finish (verdict formula log))
+  pub sound : result ≡ statuses.Done → IsUnsatisfiable formula

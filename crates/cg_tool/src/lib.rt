@@ -31,3 +31,6 @@ mod writing;
 
 pub use status::Status;
 pub use top::run;
+
+#[cfg(test)]
+mod tests;

@@ -3,3 +3,13 @@ pub mod TokensLeft
 pub mod Phases
 pub mod Inside
 pub mod SoundPorts
+pub mod PortFacts
+pub mod LogicCells
+pub mod Counts
+pub mod Readings
+pub mod GaterCells
+pub mod Restated
+pub mod FlopCells
+pub mod LoneInputs
+pub mod Adding
+pub mod ReadWithin

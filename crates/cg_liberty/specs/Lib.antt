@@ -6,3 +6,6 @@ pub mod Statement
 pub mod Group
 pub mod Cell
 pub mod Port
+pub mod Reading
+pub mod Kinds
+pub mod Library

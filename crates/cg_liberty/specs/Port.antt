@@ -1,6 +1,6 @@
 -- The pins of a cell, from its `pin` groups.
-use Rattle.std.specs.Prelude.{ℕ, Bool, true, false, cond, not, ◌&&◌, ◌||◌, nat_le, List, [], ◌∷◌, ◌++◌, map, length, codes, Option, None, Some, option_map}
-use Rattle.std.specs.List.{list_all}
+use Rattle.std.specs.Prelude.{ℕ, ◌≤◌, IsTrue, Bool, true, false, cond, not, ◌&&◌, ◌||◌, nat_le, List, [], ◌∷◌, ◌++◌, map, length, codes, Option, None, Some, option_map}
+use Rattle.std.specs.List.{AllByRecursion}
 use Rattle.std.specs.Str.{bytes_eq}
 use Rattle.cg_cell.specs.Name.{are_distinct, has_no_equals, is_name}
 use Rattle.cg_liberty.specs.declared.group.CellGroup.{CellGroup}
@@ -76,3 +76,9 @@ ports_of cell = cond (cell.has_bus || not (has_no_equals cell.name)) None (ports
 -- ports before others, where these are sound
 abbrev pub prepended : List Port → Option (List Port) → Option (List Port)
 prepended ports later = option_map (λ others. ports ++ others) later
+
+-- what is true of the pins of a cell whose kind is to be looked for further
+pub record ArePorts (ports : List Port) : Type 0 where
+  pub few : length ports ≤ 16
+  pub distinct : IsTrue (are_distinct (map (λ port. port.name) ports))
+  pub unsplit : AllByRecursion (λ port. IsTrue (has_no_equals port.name)) ports

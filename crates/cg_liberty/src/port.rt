@@ -4,7 +4,7 @@ ghost use Rattle.std.specs.Prelude.{◌≡◌, ◌&&◌, ◌++◌, [], IfOk, OnO
 ghost use Rattle.std.specs.List.{list_any};
 ghost use Rattle.std.specs.Str.{bytes_eq};
 ghost use Rattle.cg_cell.specs.Name.{are_distinct, has_no_equals};
-ghost use Rattle.cg_liberty.specs.Port.{fit_together, group_pins, is_pin_name, is_sound, is_there, marks_of, pin_texts, ports_of, sound_ports, states, text_of};
+ghost use Rattle.cg_liberty.specs.Port.{ArePorts, fit_together, group_pins, is_pin_name, is_sound, is_there, marks_of, pin_texts, ports_of, sound_ports, states, text_of};
 ghost use Rattle.cg_liberty.specs.declared.port.PinText.{PinText};
 
 use crate::group::{CellGroup, PinGroup, Stated};
@@ -214,10 +214,20 @@ fn are_together(ports: &[Port<'_>]) -> bool
 
 /// The pins of a cell whose kind is to be looked for further; none where the cell is unusable by its
 /// name, its pins or its buses.
+#[tactic(auto, using(crate::proofs::PortFacts::found_facts))]
 pub fn ports_of_cell<'a>(
     alloc: Global,
     cell: &CellGroup<'a>,
 ) -> Result<Option<Seq<Port<'a>>>, AllocError>
+    ensures ports { IfOk result (λ ports. ports ≡ ports_of cell.now) }
+    ensures facts { IfOk result (λ ports. IfSome ports ArePorts) }
+{
+    let ports = find_ports(alloc, cell)?;
+    Ok(ports)
+}
+
+/// The pins that one cell may have.
+fn find_ports<'a>(alloc: Global, cell: &CellGroup<'a>) -> Result<Option<Seq<Port<'a>>>, AllocError>
     ensures { IfOk result (λ ports. ports ≡ ports_of cell.now) }
 {
     let name = cell.name.bytes(alloc)?;

@@ -1,0 +1,60 @@
+-- Logic cells meet the conditions of cells.
+use Rattle.std.proofs.Common.{◌≡◌, ◌≤◌, ◌+◌, ℕ, suc, Bool, true, false, cond, not, ◌&&◌, ◌||◌, IsTrue, List, [], ◌∷◌, ◌++◌, length, map, Option, None, Some, refl, sym, ap, ◌∙◌, subst, count_by, arith}
+use Rattle.std.specs.List.{AllByRecursion}
+use Rattle.cg_cell.specs.Cell.{CellData, HasLogicPins, IsCell}
+use Rattle.cg_cell.specs.Name.{are_distinct, has_no_equals}
+use Rattle.cg_cell.specs.Pins.{PinData, is_data, is_output}
+use Rattle.cg_cell.specs.Term.{Term, is_within}
+use Rattle.cg_cell.specs.declared.cell.CellKind.TheVariants as kinds
+use Rattle.cg_cell.specs.declared.cell.Role.{Role}
+use Rattle.cg_cell.specs.declared.cell.Role.TheVariants as roles
+use Rattle.cg_liberty.specs.Kinds.{input_names, logic_pins, logic_role, output_texts, own_input, own_output}
+use Rattle.cg_liberty.specs.Port.{ArePorts}
+use Rattle.cg_liberty.specs.declared.port.Port.{Port}
+use Rattle.cg_liberty.proofs.Counts.{count_by-cons}
+
+pub logic_names : (ports : List Port) → map (λ pin. pin.name) (logic_pins ports) ≡ map (λ port. port.name) ports
+logic_names [] = refl
+logic_names (port ∷ ports) = ap (λ (names : List (List ℕ)). port.name ∷ names) (logic_names ports)
+
+logic_length : (ports : List Port) → length (logic_pins ports) ≡ length ports
+logic_length [] = refl
+logic_length (port ∷ ports) = ap suc (logic_length ports)
+
+logic_unsplit : (ports : List Port) → AllByRecursion (λ port. IsTrue (has_no_equals port.name)) ports → AllByRecursion (λ pin. IsTrue (has_no_equals pin.name)) (logic_pins ports)
+logic_unsplit [] h = tt
+logic_unsplit (port ∷ ports) h = (h.0, logic_unsplit ports h.1)
+
+own_only : (name : List ℕ) (output : Bool) → IsTrue (is_data (record { name = name; role = cond output roles.Output roles.Data }) || is_output (record { name = name; role = cond output roles.Output roles.Data }))
+own_only name true = refl
+own_only name false = refl
+
+logic_only : (ports : List Port) → AllByRecursion (λ pin. IsTrue (is_data pin || is_output pin)) (logic_pins ports)
+logic_only [] = tt
+logic_only (port ∷ ports) = (own_only port.name port.marks.is_output, logic_only ports)
+
+count_outputs : (name : List ℕ) (function : Option (List ℕ)) (pins : List PinData) (texts : List (Option (List ℕ))) (output : Bool) → count_by is_output pins ≡ length texts → count_by is_output (record { name = name; role = cond output roles.Output roles.Data } ∷ pins) ≡ length (cond output (function ∷ []) [] ++ texts)
+count_outputs name function pins texts true h = count_by-cons is_output (record { name = name; role = roles.Output }) pins ∙ let e : 1 + count_by is_output pins ≡ suc (length texts) = omega arith in e
+count_outputs name function pins texts false h = count_by-cons is_output (record { name = name; role = roles.Data }) pins ∙ h
+
+logic_outputs : (ports : List Port) → count_by is_output (logic_pins ports) ≡ length (output_texts ports)
+logic_outputs [] = refl
+logic_outputs (port ∷ ports) = count_outputs port.name port.marks.function (logic_pins ports) (output_texts ports) port.marks.is_output (logic_outputs ports)
+
+count_inputs : (name : List ℕ) (pins : List PinData) (names : List (List ℕ)) (output : Bool) → count_by is_data pins ≡ length names → count_by is_data (record { name = name; role = cond output roles.Output roles.Data } ∷ pins) ≡ length (cond output [] (name ∷ []) ++ names)
+count_inputs name pins names true h = count_by-cons is_data (record { name = name; role = roles.Output }) pins ∙ h
+count_inputs name pins names false h = count_by-cons is_data (record { name = name; role = roles.Data }) pins ∙ let e : 1 + count_by is_data pins ≡ suc (length names) = omega arith in e
+
+logic_inputs : (ports : List Port) → count_by is_data (logic_pins ports) ≡ length (input_names ports)
+logic_inputs [] = refl
+logic_inputs (port ∷ ports) = count_inputs port.name (logic_pins ports) (input_names ports) port.marks.is_output (logic_inputs ports)
+
+-- one output with a function of the inputs makes a logic cell
+pub logic_is_cell : (name : List ℕ) (ports : List Port) (function : Term) → ArePorts ports → length (output_texts ports) ≡ 1 → IsTrue (is_within (length (input_names ports)) function) → IsCell (record { name = name; kind = kinds.Logic; pins = logic_pins ports; function = Some function })
+logic_is_cell name ports function are one within = record {
+  few = rw (logic_length ports) are.few;
+  distinct = rw (logic_names ports) are.distinct;
+  unsplit = logic_unsplit ports are.unsplit;
+  roles = record { output = logic_outputs ports ∙ one; only = logic_only ports };
+  computes = let n : length (input_names ports) ≡ count_by is_data (logic_pins ports) + 0 = omega (arith, logic_inputs ports) in subst (λ (k : ℕ). IsTrue (is_within k function)) n within;
+}

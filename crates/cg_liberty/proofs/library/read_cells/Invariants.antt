@@ -1,0 +1,13 @@
+use Rattle.std.proofs.Common.{◌≡◌, [], length}
+use Rattle.cg_liberty.specs.Cell.{cells_from}
+use Rattle.cg_liberty.specs.Library.{Remains, all_added}
+use Rattle.cg_liberty.proofs.library.read_cells.Given as goal
+
+abbrev pub invariant-statements : goal.invariant-statements
+invariant-statements l = record {
+  cells : Remains l.library (cells_from 0 l.statements.0) (all_added [] (cells_from 0 l.fn.statements.0));
+  fault : l.fn.statements.1 ≡ l.statements.1;
+}
+
+abbrev pub decreases-statements : goal.decreases-statements
+decreases-statements l = length l.statements.0

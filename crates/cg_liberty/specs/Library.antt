@@ -1,0 +1,93 @@
+-- The library that a text stands for, or its first fault.
+use Rattle.std.specs.Prelude.{◌≡◌, ℕ, nat_le, cond, not, List, [], ◌∷◌, ◌++◌, length, Option, None, Some, Result, Ok, Err}
+use Rattle.std.specs.Option.{is_some}
+use Rattle.cg_cell.specs.Cell.{CellData}
+use Rattle.cg_cell.specs.Library.{find_cell}
+use Rattle.cg_cell.specs.Name.{is_name}
+use Rattle.cg_cell.specs.declared.limit.Limit.TheVariants as limits
+use Rattle.cg_cell.specs.declared.library.Library.{Library}
+use Rattle.cg_liberty.specs.Cell.{cells_from}
+use Rattle.cg_liberty.specs.Kinds.{cell_of}
+use Rattle.cg_liberty.specs.Statement.{Read, statements}
+use Rattle.cg_liberty.specs.Statement.Phase.{Start}
+use Rattle.cg_liberty.specs.Token.{tokens}
+use Rattle.cg_liberty.specs.declared.fault.CellFault.{CellFault}
+use Rattle.cg_liberty.specs.declared.fault.CellFault.TheVariants as cells
+use Rattle.cg_liberty.specs.declared.fault.TextFault.{TextFault}
+use Rattle.cg_liberty.specs.declared.fault.TextFault.TheVariants as texts
+use Rattle.cg_liberty.specs.declared.group.CellGroup.{CellGroup}
+use Rattle.cg_liberty.specs.declared.fault.LibertyFault.{LibertyFault}
+use Rattle.cg_liberty.specs.declared.fault.LibertyFault.TheVariants as faults
+use Rattle.cg_liberty.specs.declared.statement.Statement.{Statement}
+use Rattle.cg_liberty.specs.declared.statement.Statement.TheVariants.{Open, Close, Attribute}
+
+-- the refusal for a fault of the text, and for one of a cell's expressions
+abbrev pub text_refusal : TextFault → LibertyFault
+text_refusal (texts.BadToken at) = faults.BadToken at
+text_refusal (texts.BadGroup at) = faults.BadGroup at
+text_refusal texts.Nesting = faults.Limit limits.Nesting
+
+abbrev pub cell_refusal : List ℕ → CellFault → LibertyFault
+cell_refusal name (cells.BadExpr at) = faults.BadExpr name at
+cell_refusal name cells.Nesting = faults.Limit limits.Nesting
+cell_refusal name cells.NoMemory = faults.NoMemory
+
+-- the library with one more cell
+abbrev pub with_cell : List CellData → List ℕ → Result CellData CellFault → Result (List CellData) LibertyFault
+with_cell library name (Ok cell) = Ok (library ++ cell ∷ [])
+with_cell library name (Err fault) = Err (cell_refusal name fault)
+
+-- the library with the cell of one more group: one whose argument is no name is skipped, there are at most 4,096, no two have one name, and the expressions are looked at last
+abbrev pub added : List CellData → CellGroup → Result (List CellData) LibertyFault
+added library group =
+    cond (not (is_name group.name)) (Ok library)
+    (cond (nat_le 4096 (length library)) (Err (faults.Limit limits.LibraryCells))
+    (cond (is_some (find_cell group.name library)) (Err (faults.TwoCells group.name))
+    (with_cell library group.name (cell_of group))))
+
+-- what is made of a library that was not refused
+abbrev pub then_add : Result (List CellData) LibertyFault → (List CellData → Result (List CellData) LibertyFault) → Result (List CellData) LibertyFault
+then_add (Ok library) later = later library
+then_add (Err fault) later = Err fault
+
+-- a library to which the cells of the groups are added in order, up to the first refusal
+abbrev pub all_added : List CellData → List CellGroup → Result (List CellData) LibertyFault
+all_added library [] = Ok library
+all_added library (group ∷ groups) = then_add (added library group) (λ next. all_added next groups)
+
+-- the cells that stand directly in the library's group
+abbrev pub cell_groups : List Statement → List CellGroup
+cell_groups [] = []
+cell_groups (Open word arguments ∷ after) = cells_from 0 after
+cell_groups (Close ∷ after) = []
+cell_groups (Attribute word text ∷ after) = []
+
+-- faults of the text come before those of its cells
+abbrev pub by_fault : Option TextFault → List Statement → Result (List CellData) LibertyFault
+by_fault (Some fault) read = Err (text_refusal fault)
+by_fault None read = all_added [] (cell_groups read)
+
+-- the library that a text stands for, or its first fault
+abbrev pub library_of : List ℕ → Result (List CellData) LibertyFault
+library_of text = let read = statements (length text) 0 Start (tokens text) in by_fault read.1 read.0
+
+-- an answer stands for what a definition gives, unless memory was wanting
+abbrev pub Stands : Result Library LibertyFault → Result (List CellData) LibertyFault → Type 0
+Stands (Ok library) read = read ≡ Ok library
+Stands (Err (faults.BadToken at)) read = read ≡ Err (faults.BadToken at)
+Stands (Err (faults.BadGroup at)) read = read ≡ Err (faults.BadGroup at)
+Stands (Err (faults.BadExpr name at)) read = read ≡ Err (faults.BadExpr name at)
+Stands (Err (faults.TwoCells name)) read = read ≡ Err (faults.TwoCells name)
+Stands (Err (faults.Limit which)) read = read ≡ Err (faults.Limit which)
+Stands (Err faults.NoMemory) read = Unit {0}
+
+-- a refusal stays, and memory may be wanting; else the cells of the groups are still to be added
+abbrev pub Remains : Result Library LibertyFault → List CellGroup → Result (List CellData) LibertyFault → Type 0
+Remains (Ok library) groups whole = whole ≡ all_added library groups
+Remains (Err faults.NoMemory) groups whole = Unit {0}
+Remains (Err fault) groups whole = whole ≡ Err fault
+
+-- a library that was not refused yet takes the cell of one more group; a refusal stays
+abbrev pub Adds : Result Library LibertyFault → Result Library LibertyFault → CellGroup → Type 0
+Adds (Ok library) after group = Stands after (added library group)
+Adds (Err fault) after group = after ≡ Err fault

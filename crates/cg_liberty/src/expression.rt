@@ -1,0 +1,67 @@
+//! The expressions of a cell.
+
+ghost use Rattle.std.specs.Prelude.{◌≡◌, ◌<◌, ◌^◌, IfOk, IfSome, IsTrue, Ok, length, option_map};
+ghost use Rattle.cg_cell.specs.Expr.{is_over, term_of};
+ghost use Rattle.cg_cell.specs.ExprReading.{read_text};
+ghost use Rattle.cg_cell.specs.Reads.{Gives as Exactly};
+ghost use Rattle.cg_cell.specs.Term.{is_within};
+ghost use Rattle.cg_liberty.specs.Reading.{Gives, reading, taken};
+
+use crate::fault::CellFault;
+use crate::text::Text;
+use cg_cell::expr::Expr;
+use cg_cell::fault::ExprFault;
+use cg_cell::name::Name;
+use cg_cell::reading::read_expr;
+use std::alloc::Global;
+
+/// Reads an expression over these names, and says that it is over no others.
+#[tactic(auto, using(crate::proofs::ReadWithin::read_range, crate::proofs::ReadWithin::read_over))]
+fn read_in_range(alloc: Global, bytes: &[u8], names: &[Name]) -> Result<Expr, ExprFault>
+    requires { length names.now < 2 ^ 32 }
+    ensures read { Exactly term_of result (read_text names.now bytes.now) }
+    ensures within { IfOk result (λ e. IsTrue (is_within (length names.now) (term_of e))) }
+    ensures over { IfOk result (λ e. IsTrue (is_over (length names.now) e)) }
+{
+    match read_expr(alloc, bytes, names) {
+        Ok(expr) => Ok(expr),
+        Err(fault) => Err(fault),
+    }
+}
+
+/// Reads an expression over these names; none where it has another name.
+fn read_bytes(alloc: Global, bytes: &[u8], names: &[Name]) -> Result<Option<Expr>, CellFault>
+    ensures read { Gives (λ e. option_map term_of e) result (taken (read_text names.now bytes.now)) }
+    ensures within { IfOk result (λ e. IfSome e (λ e. IsTrue (is_within (length names.now) (term_of e)))) }
+    ensures over { IfOk result (λ e. IfSome e (λ e. IsTrue (is_over (length names.now) e))) }
+{
+    // So many names are more than memory holds.
+    if names.len() > u32::MAX as usize {
+        return Err(CellFault::NoMemory);
+    }
+    match read_in_range(alloc, bytes, names) {
+        Ok(expr) => Ok(Some(expr)),
+        Err(ExprFault::UnknownPin(_)) => Ok(None),
+        Err(ExprFault::BadExpr(at)) => Err(CellFault::BadExpr(at)),
+        Err(ExprFault::TooDeep(_)) => Err(CellFault::Nesting),
+        Err(ExprFault::NoMemory) => Err(CellFault::NoMemory),
+    }
+}
+
+/// Reads the expression over these names that an attribute has, where it has a text; none where it
+/// has no text or where the text has another name.
+pub fn read_stated(
+    alloc: Global,
+    text: &Option<Text<'_>>,
+    names: &[Name],
+) -> Result<Option<Expr>, CellFault>
+    ensures read { Gives (λ e. option_map term_of e) result (reading names.now text.now) }
+    ensures within { IfOk result (λ e. IfSome e (λ e. IsTrue (is_within (length names.now) (term_of e)))) }
+    ensures over { IfOk result (λ e. IfSome e (λ e. IsTrue (is_over (length names.now) e))) }
+{
+    let Some(text) = text else {
+        return Ok(None);
+    };
+    let bytes = text.bytes(alloc)?;
+    read_bytes(alloc, &bytes, names)
+}

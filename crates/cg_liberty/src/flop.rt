@@ -1,0 +1,354 @@
+//! Registers: an `ff` group with a next state, a clock and outputs that give the state or its inverse.
+
+ghost use Rattle.std.specs.Prelude.{◌≡◌, ◌+◌, ◌≤◌, ◌<◌, ◌++◌, ◌==◌, ◌||◌, ℕ, List, IfOk, IfSome, IsTrue, OnOk, Some, count_by, length, option_map, true};
+ghost use Rattle.std.specs.List.{list_any};
+ghost use Rattle.std.specs.Str.{bytes_eq};
+ghost use Rattle.cg_cell.specs.Expr.{is_over, term_of};
+ghost use Rattle.cg_cell.specs.Name.{are_distinct};
+ghost use Rattle.cg_cell.specs.Pins.{is_state};
+ghost use Rattle.cg_cell.specs.Term.{is_within};
+ghost use Rattle.cg_liberty.specs.Kinds.{all_known, are_flop_pins, flop_cell, flop_of, flop_pins, flop_with_parts, input_names, inverse_by, inverses_read, is_inverse, is_plain_flop, output_role, output_texts, rest_of, restated, state_names};
+ghost use Rattle.cg_liberty.specs.Port.{ArePorts, is_there, text_of};
+ghost use Rattle.cg_liberty.specs.Reading.{Gives, reading, readings};
+
+use crate::argument::Arguments;
+use crate::expression::read_stated;
+use crate::fault::CellFault;
+use crate::gater::clocks_among;
+use crate::group::FlopGroup;
+use crate::logic::{input_names_of, unusable_cell};
+use crate::lone::lone_variable;
+use crate::port::Port;
+use crate::restate::{Numbering, restate};
+use cg_cell::cell::{CellKind, CellType, Pin, Role};
+use cg_cell::expr::Expr;
+use cg_cell::name::Name;
+use cg_list::Seq;
+use std::alloc::{AllocError, Global};
+
+/// Puts the arguments that are names behind the other names.
+fn push_states(
+    alloc: Global,
+    names: &mut Seq<Name>,
+    texts: &Arguments<'_>,
+) -> Result<(), AllocError>
+    ensures { OnOk result (names.new ≡ names.old ++ state_names texts.now) }
+{
+    let mut left = texts.again();
+    'texts: while let Some(text) = left.next() {
+        let bytes = text.bytes(alloc)?;
+        if !Name::is_name(&bytes) {
+            continue;
+        }
+        let name = Name::new(alloc, &bytes)?;
+        names.push(name)?;
+    }
+    Ok(())
+}
+
+/// Whether an output function of a state and its inverse gives the inverse.
+fn inverse_of(function: Option<Expr>, states: usize) -> Option<bool>
+    requires { IfSome function (λ e. IsTrue (is_over states e)) }
+    ensures { result ≡ is_inverse states (option_map term_of function) }
+{
+    let function = function?;
+    if states != 2 {
+        return None;
+    }
+    inverse_from(
+        function.value(&[true, false]),
+        function.value(&[false, true]),
+    )
+}
+
+/// Whether a function gives the inverse, by its values where the state is 1 and where it is 0.
+fn inverse_from(set: bool, clear: bool) -> Option<bool>
+    ensures { result ≡ inverse_by set clear }
+{
+    if set == clear { None } else { Some(clear) }
+}
+
+/// What an output is for, by whether it gives the inverse of the state.
+fn role_of_output(inverses: &[bool]) -> Role
+    ensures { result ≡ output_role inverses.now }
+{
+    match inverses {
+        [] => Role::State,
+        [inverse, ..] => {
+            if *inverse {
+                Role::StateBar
+            } else {
+                Role::State
+            }
+        }
+    }
+}
+
+/// The outputs behind the first.
+fn behind_first(inverses: &[bool]) -> &[bool]
+    ensures { result.now ≡ rest_of inverses.entry.now }
+{
+    match inverses {
+        [] => inverses,
+        [_, rest @ ..] => rest,
+    }
+}
+
+/// The pins of a register whose clock is that input.
+fn flop_pins_of(
+    alloc: Global,
+    ports: &[Port<'_>],
+    clock: usize,
+    inverses: &[bool],
+) -> Result<Vec<Pin>, AllocError>
+    ensures { IfOk result (λ pins. pins.items ≡ flop_pins clock 0 inverses.now ports.now) }
+{
+    let mut pins = Vec::new(alloc);
+    let mut k: usize = 0;
+    let mut left = inverses;
+    'ports: for port in ports {
+        let name = port.name.clone()?;
+        if port.marks.is_output {
+            pins.push(Pin::new(name, role_of_output(left)))?;
+            left = behind_first(left);
+            continue;
+        }
+        let role = if k == clock { Role::Clock } else { Role::Data };
+        pins.push(Pin::new(name, role))?;
+        k += 1;
+    }
+    Ok(pins)
+}
+
+/// Reads the functions of the output pins over the states' names; answers for each whether it gives
+/// the inverse of the state.
+fn read_inverses(
+    alloc: Global,
+    ports: &[Port<'_>],
+    states: &[Name],
+) -> Result<Seq<Option<bool>>, CellFault>
+    ensures { Gives (λ inverses. inverses) result (inverses_read states.now (output_texts ports.now)) }
+{
+    let mut inverses = Seq::new(alloc);
+    'ports: for port in ports {
+        if !port.marks.is_output {
+            continue;
+        }
+        let function = read_stated(alloc, &port.marks.function, states)?;
+        inverses.push(inverse_of(function, states.len()))?;
+    }
+    Ok(inverses)
+}
+
+/// Each output with whether it gives the inverse, where each gives the state or the inverse.
+fn all_known_of(alloc: Global, outputs: &[Option<bool>]) -> Result<Option<Vec<bool>>, AllocError>
+    ensures { IfOk result (λ known. option_map (λ known. known.items) known ≡ all_known outputs.now) }
+{
+    let mut known = Vec::new(alloc);
+    'outputs: for output in outputs {
+        match output {
+            Some(inverse) => known.push(*inverse)?,
+            None => return Ok(None),
+        }
+    }
+    Ok(Some(known))
+}
+
+/// Whether some of the names is this one.
+fn is_name_taken(names: &[Name], name: &Name) -> bool
+    ensures { result ≡ list_any (bytes_eq name.now) names.now }
+{
+    'names: for other in names {
+        if name.bytes() == other.bytes() {
+            return true;
+        }
+    }
+    false
+}
+
+/// Whether no two of the names are equal.
+fn are_names_apart(names: &[Name]) -> bool
+    ensures { result ≡ are_distinct names.now }
+{
+    'names: for (i, name) in names.iter().enumerate() {
+        if is_name_taken(&names[i + 1..], name) {
+            return false;
+        }
+    }
+    true
+}
+
+/// Whether there are exactly two arguments.
+fn are_two(texts: &Arguments<'_>) -> bool
+    ensures { result ≡ (length texts.now == 2) }
+{
+    let mut left = texts.again();
+    left.next().is_some() && left.next().is_some() && left.next().is_none()
+}
+
+/// Whether a register can be set in another way than by its clock.
+fn has_other_sets(flop: &FlopGroup<'_>) -> bool
+    ensures { result ≡ (is_there flop.now.clear || (is_there flop.now.preset || is_there flop.now.clocked_on_also)) }
+{
+    flop.clear.is_there() || flop.preset.is_there() || flop.clocked_on_also.is_there()
+}
+
+/// Whether a register has two states of names of their own, and no other way to be set than by its
+/// clock; `names` are those of the inputs and behind them those of the states.
+fn is_plain(flop: &FlopGroup<'_>, states: &[Name], names: &[Name]) -> bool
+    requires { states.now ≡ state_names flop.now.names }
+    ensures plain { (inputs : List (List ℕ)) → names.now ≡ inputs ++ states.now → result ≡ is_plain_flop inputs flop.now }
+    ensures two { result ≡ true → length states.now ≡ 2 }
+{
+    are_two(&flop.names) && states.len() == 2 && are_names_apart(names) && !has_other_sets(flop)
+}
+
+/// How many of the pins give the state or its inverse.
+fn states_among(pins: &[Pin]) -> usize
+    ensures { result ≡ count_by is_state pins.now }
+{
+    pins.iter().filter(|pin| is_state_pin(pin)).count()
+}
+
+/// Whether a pin gives the state or its inverse.
+fn is_state_pin(pin: &Pin) -> bool
+    ensures { result ≡ is_state pin.now }
+{
+    matches!(pin.role(), Role::State | Role::StateBar)
+}
+
+/// Whether these can be the pins of a register.
+fn are_pins_of_flop(pins: &[Pin]) -> bool
+    ensures { result ≡ are_flop_pins pins.now }
+{
+    clocks_among(pins) == 1 && 1 <= states_among(pins)
+}
+
+/// The register of these pins, with its function.
+fn make_flop(
+    name: Name,
+    ports: &[Port<'_>],
+    numbering: Numbering,
+    inverses: &[bool],
+    pins: Vec<Pin>,
+    next: &Expr,
+    function: Expr,
+) -> CellType
+    requires ports { ArePorts ports.now }
+    requires pins { pins.items ≡ flop_pins numbering.clock 0 inverses.now ports.now }
+    requires fit { are_flop_pins pins.items ≡ true }
+    requires inputs { numbering.inputs ≡ length (input_names ports.now) }
+    requires clock { numbering.clock < numbering.inputs }
+    requires within { IsTrue (is_within (numbering.inputs + 2) (term_of next.now)) }
+    requires function { term_of function ≡ restated numbering.inputs numbering.clock (term_of next.now) }
+    ensures { result ≡ record { name = name; kind = CellKind.Flop; pins = pins.items; function = Some (term_of function) } }
+{
+    CellType::new(name, CellKind::Flop, pins, Some(function))
+}
+
+/// The register with a next state, a clock and outputs that were all read, or an unusable cell.
+fn flop_with(
+    alloc: Global,
+    name: Name,
+    ports: &[Port<'_>],
+    numbering: Numbering,
+    inverses: &[bool],
+    next: &Expr,
+) -> Result<CellType, AllocError>
+    requires ports { ArePorts ports.now }
+    requires inputs { numbering.inputs ≡ length (input_names ports.now) }
+    requires few { numbering.inputs ≤ 16 }
+    requires clock { numbering.clock < numbering.inputs }
+    requires within { IsTrue (is_within (numbering.inputs + 2) (term_of next.now)) }
+    ensures { IfOk result (λ cell. cell ≡ flop_with_parts name ports.now (term_of next.now) numbering.clock inverses.now) }
+{
+    if next.names(numbering.clock) {
+        return Ok(unusable_cell(alloc, name));
+    }
+    let pins = flop_pins_of(alloc, ports, numbering.clock as usize, inverses)?;
+    if !are_pins_of_flop(&pins) {
+        return Ok(unusable_cell(alloc, name));
+    }
+    let function = restate(alloc, next, numbering)?;
+    Ok(make_flop(name, ports, numbering, inverses, pins, next, function))
+}
+
+/// The register of these parts where all of them are there, or an unusable cell.
+#[tactic(auto, using(crate::proofs::FlopCells::lone_below))]
+fn flop_of_parts(
+    alloc: Global,
+    name: Name,
+    ports: &[Port<'_>],
+    plain: bool,
+    next: Option<Expr>,
+    clocked: Option<Expr>,
+    known: Option<Vec<bool>>,
+    inputs: u32,
+    names: usize,
+) -> Result<CellType, AllocError>
+    requires ports { ArePorts ports.now }
+    requires inputs { inputs ≡ length (input_names ports.now) }
+    requires few { inputs ≤ 16 }
+    requires two { plain ≡ true → names ≡ inputs + 2 }
+    requires next { IfSome next (λ e. IsTrue (is_within names (term_of e))) }
+    requires clocked { IfSome clocked (λ e. IsTrue (is_within inputs (term_of e))) }
+    ensures { IfOk result (λ cell. cell ≡ flop_of name ports.now plain (option_map term_of next) (option_map term_of clocked) (option_map (λ known. known.items) known)) }
+{
+    let Some(next) = next else {
+        return Ok(unusable_cell(alloc, name));
+    };
+    let Some(clocked) = clocked else {
+        return Ok(unusable_cell(alloc, name));
+    };
+    let Some(known) = known else {
+        return Ok(unusable_cell(alloc, name));
+    };
+    if !plain {
+        return Ok(unusable_cell(alloc, name));
+    }
+    let Some(clock) = lone_variable(&clocked) else {
+        return Ok(unusable_cell(alloc, name));
+    };
+    flop_with(
+        alloc,
+        name,
+        ports,
+        Numbering { inputs, clock },
+        &known,
+        &next,
+    )
+}
+
+/// The register of these pins, or an unusable cell.
+#[tactic(auto, using(crate::proofs::FlopCells::few_inputs))]
+pub fn flop_cell_of(
+    alloc: Global,
+    name: Name,
+    ports: &[Port<'_>],
+    flop: &FlopGroup<'_>,
+) -> Result<CellType, CellFault>
+    requires { ArePorts ports.now }
+    ensures { Gives (λ cell. cell) result (flop_cell name ports.now flop.now) }
+{
+    let inputs = input_names_of(alloc, ports)?;
+    let mut states = Seq::new(alloc);
+    push_states(alloc, &mut states, &flop.names)?;
+    let mut names = input_names_of(alloc, ports)?;
+    push_states(alloc, &mut names, &flop.names)?;
+    let next = read_stated(alloc, &flop.next_state.text(), names.as_slice())?;
+    let clocked = read_stated(alloc, &flop.clocked_on.text(), inputs.as_slice())?;
+    let outputs = read_inverses(alloc, ports, states.as_slice())?;
+    let plain = is_plain(flop, states.as_slice(), names.as_slice());
+    let known = all_known_of(alloc, outputs.as_slice())?;
+    Ok(flop_of_parts(
+        alloc,
+        name,
+        ports,
+        plain,
+        next,
+        clocked,
+        known,
+        inputs.len() as u32,
+        names.len(),
+    )?)
+}

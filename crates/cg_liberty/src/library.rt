@@ -1,0 +1,185 @@
+//! A library from its text.
+
+ghost use Rattle.std.specs.Prelude.{◌≡◌, ◌≤◌, [], length, None, OnOk, Some, MatchResult};
+ghost use Rattle.cg_liberty.specs.Cell.{GivesUp, cell_from, cells_from, first_text, new_cell};
+ghost use Rattle.cg_liberty.specs.Group.{IsLeft};
+ghost use Rattle.cg_liberty.specs.Library.{Adds, Stands, added, all_added, cell_groups, cell_refusal, library_of, text_refusal};
+
+use crate::argument::Arguments;
+use crate::fault::{CellFault, LibertyFault, ReadFault, TextFault};
+use crate::group::CellGroup;
+use crate::groups::{pass_group, read_cell};
+use crate::kind::cell_of_group;
+use crate::statement::Statement;
+use crate::statements::Statements;
+use crate::text::Text;
+use cg_cell::library::{Library, LibraryFault};
+use cg_cell::limit::Limit;
+use cg_cell::name::Name;
+use std::alloc::Global;
+
+/// The refusal for a fault of the text.
+fn refusal_of_text(fault: TextFault) -> LibertyFault
+    ensures { result ≡ text_refusal fault }
+{
+    match fault {
+        TextFault::BadToken(at) => LibertyFault::BadToken(at as u64),
+        TextFault::BadGroup(at) => LibertyFault::BadGroup(at as u64),
+        TextFault::Nesting => LibertyFault::Limit(Limit::Nesting),
+    }
+}
+
+/// The refusal for the fault of an expression of a cell.
+fn refusal_of_cell(name: Name, fault: CellFault) -> LibertyFault
+    ensures { result ≡ cell_refusal name fault }
+{
+    match fault {
+        CellFault::BadExpr(at) => LibertyFault::BadExpr(name, at),
+        CellFault::Nesting => LibertyFault::Limit(Limit::Nesting),
+        CellFault::NoMemory => LibertyFault::NoMemory,
+    }
+}
+
+/// Adds the cell that a group describes to a library.
+fn add_group(
+    alloc: Global,
+    mut library: Library,
+    group: &CellGroup<'_>,
+) -> Result<Library, LibertyFault>
+    ensures { Stands result (added library group.now) }
+{
+    let bytes = group.name.bytes(alloc)?;
+    if !Name::is_name(&bytes) {
+        return Ok(library);
+    }
+    if 4096 <= library.len() {
+        return Err(LibertyFault::Limit(Limit::LibraryCells));
+    }
+    let name = Name::new(alloc, &bytes)?;
+    if library.find(&bytes).is_some() {
+        return Err(LibertyFault::TwoCells(name));
+    }
+    let own = name.clone()?;
+    match cell_of_group(alloc, own, group) {
+        Err(fault) => Err(refusal_of_cell(name, fault)),
+        Ok(cell) => match library.add(cell) {
+            Ok(_) => Ok(library),
+            Err(_) => Err(LibertyFault::NoMemory),
+        },
+    }
+}
+
+/// Adds the cell that a group describes to a library that was not refused yet.
+fn add_to<'a>(
+    alloc: Global,
+    library: Result<Library, LibertyFault>,
+    group: &CellGroup<'a>,
+) -> Result<Library, LibertyFault>
+    ensures { Adds library result group.now }
+{
+    match library {
+        Ok(library) => add_group(alloc, library, group),
+        Err(fault) => Err(fault),
+    }
+}
+
+/// The first of some arguments, or nothing.
+fn first_argument(mut arguments: Arguments<'_>) -> Text<'_>
+    ensures { result ≡ first_text arguments.entry }
+{
+    match arguments.next() {
+        Some(text) => text,
+        None => Text::word(&[]),
+    }
+}
+
+/// Reads the rest of a `cell` group and adds its cell.
+fn take_cell<'a>(
+    alloc: Global,
+    statements: &mut Statements<'a>,
+    library: Result<Library, LibertyFault>,
+    arguments: Arguments<'a>,
+) -> Result<Result<Library, LibertyFault>, ReadFault>
+    ensures taken { MatchResult result (λ after. Adds library after (cell_from 0 (new_cell (first_text arguments.entry)) statements.old.0) × IsLeft statements.old statements.new) (GivesUp statements.old) }
+    ensures shorter { OnOk result (length statements.new.0 ≤ length statements.old.0) }
+{
+    let group = read_cell(alloc, statements, first_argument(arguments))?;
+    Ok(add_to(alloc, library, &group))
+}
+
+/// Reads what is left of a text, of which nothing counts but a fault.
+fn pass_rest(statements: &mut Statements<'_>) -> Result<(), TextFault>
+    ensures { MatchResult result (λ _. statements.old.1 ≡ None) (λ fault. statements.old.1 ≡ Some fault) }
+{
+    'statements: while let Some(_) = statements.next()? {}
+    Ok(())
+}
+
+/// Reads the cells of a library behind its `{`. A refusal of a cell waits for the end of the text,
+/// whose own faults come before it.
+#[tactic(auto, using(crate::proofs::Inside::cells_inside, crate::proofs::Adding::remains_more))]
+fn read_cells(
+    alloc: Global,
+    statements: &mut Statements<'_>,
+) -> Result<Result<Library, LibertyFault>, ReadFault>
+    ensures { MatchResult result (λ library. (statements.old.1 ≡ None) × Stands library (all_added [] (cells_from 0 statements.old.0))) (GivesUp statements.old) }
+{
+    let mut library = Ok(Library::new(alloc));
+    'statements: while let Some(statement) = statements.next()? {
+        match statement {
+            Statement::Open(word, arguments) => {
+                if !word.is(b"cell") {
+                    pass_group(statements)?;
+                    continue;
+                }
+                library = take_cell(alloc, statements, library, arguments)?;
+            }
+            Statement::Close => {
+                pass_rest(statements)?;
+                return Ok(library);
+            }
+            Statement::Attribute(_, _) => {}
+        }
+    }
+    Ok(library)
+}
+
+/// Reads the cells of a text.
+fn read_text(
+    alloc: Global,
+    statements: &mut Statements<'_>,
+) -> Result<Result<Library, LibertyFault>, ReadFault>
+    ensures { MatchResult result (λ library. (statements.old.1 ≡ None) × Stands library (all_added [] (cell_groups statements.old.0))) (GivesUp statements.old) }
+{
+    match statements.next()? {
+        Some(Statement::Open(_, _)) => read_cells(alloc, statements),
+        Some(Statement::Close) => {
+            pass_rest(statements)?;
+            Ok(Ok(Library::new(alloc)))
+        }
+        Some(Statement::Attribute(_, _)) => {
+            pass_rest(statements)?;
+            Ok(Ok(Library::new(alloc)))
+        }
+        None => Ok(Ok(Library::new(alloc))),
+    }
+}
+
+/// Reads the text of a library.
+///
+/// Refused by the first fault. Faults of the text come first, by their place: `BadToken` at a byte that
+/// begins no token, or where a string or comment begins that is not closed; `BadGroup` at a token that
+/// may not stand there, or at the text's length where it ends too early; `Limit(Nesting)` where groups
+/// nest deeper than 64. Then the cells are taken in order, and for each: `Limit(LibraryCells)` where
+/// 4,096 are there; `TwoCells` where its name is taken; `BadExpr`, or `Limit(Nesting)`, for its first
+/// expression that is none, or that nests deeper than 64.
+pub fn read_library(alloc: Global, bytes: &[u8]) -> Result<Library, LibertyFault>
+    ensures { Stands result (library_of bytes.now) }
+{
+    let mut statements = Statements::new(bytes);
+    match read_text(alloc, &mut statements) {
+        Ok(library) => library,
+        Err(ReadFault::Text(fault)) => Err(refusal_of_text(fault)),
+        Err(ReadFault::NoMemory) => Err(LibertyFault::NoMemory),
+    }
+}

@@ -26,6 +26,7 @@ fn expressions(rt: HostRuntime) -> Result<(), Fail> {
         assert!(rt; Name::is_name(name));
         pins.push(Name::new(rt.alloc(), name)?)?;
     }
+    assert!(rt; pins.len() == 3);
     let table = [
         (b"A B + C".as_slice(), Bits([0, 1, 0, 1, 0, 1, 1, 1])),
         (b"A ^ B * C".as_slice(), Bits([0, 0, 0, 1, 0, 1, 0, 0])),
@@ -96,6 +97,7 @@ fn nested(alloc: Global, depth: usize) -> Result<Vec<u8>, AllocError> {
 #[test]
 fn nesting(rt: HostRuntime) -> Result<(), Fail> {
     let mut pins = Vec::new(rt.alloc());
+    assert!(rt; Name::is_name(b"A"));
     pins.push(Name::new(rt.alloc(), b"A")?)?;
     for (depth, refused) in [(63, None), (64, None), (65, Some(64)), (200, Some(64))] {
         let text = nested(rt.alloc(), depth)?;

@@ -1,2 +1,3 @@
 pub mod Ands
 pub mod Fills
+pub mod Members

@@ -17,6 +17,8 @@
 pub mod fault;
 pub mod list;
 pub mod lit;
+#[cfg(test)]
+mod tests;
 mod values;
 
 pub use fault::AigFault;

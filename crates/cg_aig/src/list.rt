@@ -101,6 +101,13 @@ impl Aig {
         (AigLit::of(a), AigLit::of(b))
     }
 
+    /// Whether the literal is one of a node of this list.
+    pub fn contains(&self, lit: AigLit) -> bool
+        ensures { result ≡ aig_ops.is_valid self.now lit }
+    {
+        lit.number() / 2 <= self.leaves() + self.ands()
+    }
+
     /// The literal of leaf `k`, counted from 0. Its bit is the leaf's.
     pub fn leaf(&self, k: u32) -> AigLit
         requires { k < self.now.number }

@@ -7,5 +7,7 @@
 #![tactic(auto)]
 
 pub mod goal;
+#[cfg(test)]
+mod tests;
 
 pub use goal::formula;

@@ -18,9 +18,3 @@ pub mod Solve
 pub mod TableLemmas
 pub mod Values
 pub mod WidthLemmas
-pub mod Numbering
-pub mod Counting
-pub mod Faultless
-pub mod Renumbered
-pub mod RankedCells
-pub mod FinishedNetlist

@@ -7,3 +7,5 @@ pub mod Clauses
 pub mod RowLemmas
 pub mod WritingLemmas
 pub mod PinLemmas
+pub mod SplitLemmas
+pub mod TakingLemmas

@@ -1,3 +1,7 @@
+pub mod Drafting
+pub mod Faults
+pub mod Reading
+pub mod Taking
 pub mod Status
 pub mod CommandLine
 pub mod Refusal

@@ -113,7 +113,7 @@ command_refused old command awaited cover number first rest fault apart close on
 pub row_refused : (old new : Building) (awaited : Awaited) (cover more : CoverSoFar) (number : ℕ) (row : Option CoverSoFar) (result : Result State BlifFault) → row ≡ None → more ≡ cover → Takes old new (λ onward. closed (Some more) (Refused (BadCover number))) result → Takes old new (put_row awaited cover number row) result
 row_refused old new awaited cover more number row result none same takes =
     Takes-same old new (λ onward. closed (Some more) (Refused (BadCover number))) (put_row awaited cover number row) result
-      (λ onward. ap (λ o. put_row awaited cover number o onward) none ∙ ap (λ m. closed (Some m) (Refused (BadCover number))) (sym same)) takes
+    (λ onward. ap (λ o. put_row awaited cover number o onward) none ∙ ap (λ m. closed (Some m) (Refused (BadCover number))) (sym same)) takes
 
 -- lines without words, with a word that is not plain, and of plain words
 pub empty_refused : (old new : Building) (awaited : Awaited) (cover : Option CoverSoFar) (number : ℕ) (words : List Word) (result : Result State BlifFault) → words ≡ [] → Takes old new (λ onward. closed cover (Refused (BadLine number))) result → Takes old new (take_words awaited cover number words) result
@@ -123,7 +123,7 @@ empty_refused old new awaited cover number words result none takes =
 pub words_refused : (old new : Building) (awaited : Awaited) (cover : Option CoverSoFar) (number : ℕ) (words : List Word) (first : Word) (rest : List Word) (result : Result State BlifFault) → words ≡ first ∷ rest → list_all is_plain (first ∷ rest) ≡ false → Takes old new (λ onward. closed cover (Refused (BadLine number))) result → Takes old new (take_words awaited cover number words) result
 words_refused old new awaited cover number words first rest result are plain takes =
     Takes-same old new (λ onward. closed cover (Refused (BadLine number))) (take_words awaited cover number words) result
-      (λ onward. ap (λ ws. take_words awaited cover number ws onward) are ∙ ap (λ b. if b then take_plain (command_of first) awaited cover number first rest onward else closed cover (Refused (BadLine number))) plain) takes
+    (λ onward. ap (λ ws. take_words awaited cover number ws onward) are ∙ ap (λ b. if b then take_plain (command_of first) awaited cover number first rest onward else closed cover (Refused (BadLine number))) plain) takes
 
 and_false : (b : Bool) → (b && false) ≡ false
 and_false true = refl
@@ -138,7 +138,7 @@ first_not_plain first rest plain = ap (λ b. b && list_all is_plain rest) plain
 pub words_taken : (old new : Building) (awaited : Awaited) (cover : Option CoverSoFar) (number : ℕ) (words : List Word) (first : Word) (rest : List Word) (result : Result State BlifFault) → words ≡ first ∷ rest → list_all is_plain (first ∷ rest) ≡ true → Takes old new (take_plain (command_of first) awaited cover number first rest) result → Takes old new (take_words awaited cover number words) result
 words_taken old new awaited cover number words first rest result are plain takes =
     Takes-same old new (take_plain (command_of first) awaited cover number first rest) (take_words awaited cover number words) result
-      (λ onward. ap (λ ws. take_words awaited cover number ws onward) are ∙ ap (λ b. if b then take_plain (command_of first) awaited cover number first rest onward else closed cover (Refused (BadLine number))) plain) takes
+    (λ onward. ap (λ ws. take_words awaited cover number ws onward) are ∙ ap (λ b. if b then take_plain (command_of first) awaited cover number first rest onward else closed cover (Refused (BadLine number))) plain) takes
 
 -- a fault of the next line is a fault of the text
 pub line_fault : (end : ℕ) (left later : List Line) (line : Line) (awaited : Awaited) (cover : Option CoverSoFar) (draft : Circuit) (whole : Result Circuit BlifFault) (fault : BlifFault) → left ≡ line ∷ later → built (read_lines end left awaited cover) draft ≡ whole → ((onward : Onward) → IsFaultOf (built (take_words awaited cover line.number line.words onward) draft) fault) → IsFaultOf whole fault
@@ -146,8 +146,13 @@ line_fault end left later line awaited cover draft whole fault are read faults =
     subst (λ made. IsFaultOf made fault) (ap (λ ls. built (read_lines end ls awaited cover) draft) (sym are) ∙ read) (faults (read_lines end later))
 
 pub ruleset made = (made_ok, made_err)
+
 pub ruleset turns = (with_inputs-drop, with_outputs-drop, go_on-made, fault_on)
+
 pub ruleset latches = (made_ok, made_err, first_word)
+
 pub ruleset said = (go_on-made, fault_on)
+
 pub ruleset taken = (go_on-made, fault_on)
+
 pub ruleset lines = (go_on-made, fault_on)

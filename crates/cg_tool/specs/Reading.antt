@@ -53,8 +53,8 @@ split_last (word ∷ words) = Some (put_first word (split_last words))
 abbrev pub names_line : ℕ → Option (List Word × Word) → Onward → Reading
 names_line number None onward = Refused (BadLine number)
 names_line number (Some (inputs, output)) onward =
-  if nat_lt 256 (length inputs) then Refused (Limit CoverInputs)
-  else onward awaiteds.Parts (Some (record { inputs = inputs; output = output; rows = []; on = None }))
+    if nat_lt 256 (length inputs) then Refused (Limit CoverInputs)
+    else onward awaiteds.Parts (Some (record { inputs = inputs; output = output; rows = []; on = None }))
 
 -- a `.latch` line
 abbrev pub latch_line : ℕ → Option Statement → Onward → Reading
@@ -90,8 +90,8 @@ take_plain command awaited cover number first rest onward = closed cover (take_c
 abbrev pub take_words : Awaited → Option CoverSoFar → ℕ → List Word → Onward → Reading
 take_words awaited cover number [] onward = closed cover (Refused (BadLine number))
 take_words awaited cover number (first ∷ rest) onward =
-  if list_all is_plain (first ∷ rest) then take_plain (command_of first) awaited cover number first rest onward
-  else closed cover (Refused (BadLine number))
+    if list_all is_plain (first ∷ rest) then take_plain (command_of first) awaited cover number first rest onward
+    else closed cover (Refused (BadLine number))
 
 -- the end of the text, where the `.end` line must have been read
 abbrev pub at_end : ℕ → Awaited → Reading

@@ -109,7 +109,15 @@ fn take_line(
     if !is_plain(first) {
         return refuse(builder, state.cover, BlifFault::BadLine(number));
     }
-    take_plain(alloc, builder, state, command_of(first), number, first, rest)
+    take_plain(
+        alloc,
+        builder,
+        state,
+        command_of(first),
+        number,
+        first,
+        rest,
+    )
 }
 
 // Refuses a line, behind the open cover if there is one.

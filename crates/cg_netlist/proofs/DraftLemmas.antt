@@ -30,7 +30,7 @@ unknown_differs [] name unknown k d lt same = absurd (omega arith)
 unknown_differs (n ∷ names) name unknown zero d lt same = other_text name n (sym (or_parts (pointwise nat_eq name n) (is_known names name) unknown).0) (sym same)
 unknown_differs (n ∷ names) name unknown (suc k) d lt same = unknown_differs names name (or_parts (pointwise nat_eq name n) (is_known names name) unknown).1 k d (omega arith) same
 
-known_at : (names : List (List ℕ)) (name : List ℕ) → is_known names name ≡ true → (i : ℕ) × (slice_get names i ≡ Some name)
+pub known_at : (names : List (List ℕ)) (name : List ℕ) → is_known names name ≡ true → (i : ℕ) × (slice_get names i ≡ Some name)
 known_at [] name known = absurd (both_ways false refl known)
 known_at (n ∷ names) name known = elim (or_cases (pointwise nat_eq name n) (is_known names name) known) [
   | inl here ↦ (0, ap (λ m. Some m) (sym (same_text name n (sym here))))

@@ -43,7 +43,7 @@ some_kept (Some r) p keeps is = ap is_some (keeps r refl)
 further : (old new : Search) (turn : ℕ) → Grows old new → turn ≤ length old.found → turn ≤ length new.found
 further old new turn grows within = omega (arith, ap length grows.found, length-append old.found grows.more)
 
-only : (k j : ℕ) → is_in (k ∷ []) j ≡ true → j ≡ k
+pub only : (k j : ℕ) → is_in (k ∷ []) j ≡ true → j ≡ k
 only k j in' = elim (or_cases (nat_eq j k) false in') [ inl e ↦ eqb-true j k e | inr f ↦ absurd (cc) ]
 
 not_first : (k j : ℕ) (xs : List ℕ) → j ≢ k → is_in (k ∷ xs) j ≡ true → is_in xs j ≡ true

@@ -48,6 +48,10 @@ fault_of d =
     (option_or (first_fault d Cycle (is_behind_cycle d))
     (first_fault d ClockFault (is_bad_clock d))))
 
+-- looking for one kind of fault answers the first of that kind, or none where there is none, or want of memory
+abbrev pub IsChecked : Circuit → (List ℕ → NetFault) → (ℕ → Bool) → Result (Unit {0}) NetFault → Type 0
+IsChecked d fault test result = MatchResult result (λ _. first_fault d fault test ≡ None) (λ found. (found ≡ NoMemory) ⊎ (first_fault d fault test ≡ Some found))
+
 -- the number of a net in net order
 abbrev pub place_of : Circuit → ℕ → ℕ
 place_of d net = position_or_len (nat_eq net) (driving_nets d)

@@ -5,10 +5,11 @@ pub mod Draft
 pub mod Finish
 pub mod History
 pub mod LogicalLines
+pub mod Marks
 pub mod Moment
 pub mod Names
-pub mod NetSet
 pub mod Netlist
+pub mod Places
 pub mod PlainText
 pub mod Ranking
 pub mod Ranks

@@ -1,7 +1,7 @@
 -- How deep the logic cells of a netlist lie, in the words of levelised simulation: the rank of a cell is the length
 -- of the longest way up from it through logic cells.
 use Rattle.std.specs.Prelude.{ℕ, zero, suc, ◌+◌, ◌==◌, max, List, [], ◌∷◌, map, length, slice_get, Option, Some, None}
-use Rattle.std.specs.List.{position, filter_map, range_with_len}
+use Rattle.std.specs.List.{position_from, filter_map, range_with_len}
 use Rattle.std.specs.Option.{option_map, option_map_or}
 use Rattle.cg_netlist.specs.Circuit.{LogicCell}
 
@@ -16,9 +16,9 @@ abbrev pub rank_within : (ℕ → List ℕ) → ℕ → ℕ → Option ℕ
 rank_within above zero k = None
 rank_within above (suc n) k = next_rank (map (rank_within above n) (above k))
 
--- the logic cell that drives a net, if one does
+-- the first logic cell that drives a net, if one does
 abbrev pub driving_cell : List LogicCell → ℕ → Option ℕ
-driving_cell cells net = position (λ cell. cell.output == net) cells
+driving_cell cells net = position_from (λ cell. cell.output == net) 0 cells
 
 -- the logic cells that drive the inputs of cell k
 abbrev pub driving_cells : List LogicCell → ℕ → List ℕ

@@ -5,14 +5,17 @@ ghost use Rattle.std.specs.List.{All, AllPairs};
 ghost use Rattle.cg_cell.specs.Cover.{Fits};
 ghost use Rattle.cg_cell.specs.Name.{is_name};
 ghost use Rattle.cg_netlist.specs.Draft.{Adds, IsMentioned, IsMentionFault, IsPlain, IsRegisterFault, cell_of, empty_draft, number_of, with_cover, with_input, with_names, with_net, with_output, register_of, register_words, with_register};
+ghost use Rattle.cg_netlist.specs.Finish.{IsFinished};
 ghost use Rattle.cg_netlist.specs.Names.{with_name};
 ghost use Rattle.cg_netlist.specs.declared.parts.RegisterKind.TheVariants.{Plain};
 
-use crate::fault::AddFault;
+use crate::fault::{AddFault, NetFault};
+use crate::finish::finished;
 use crate::id::NetId;
 use crate::names::NetNames;
 use crate::net_set::NetSet;
-use crate::parts::{Logic, LogicFunction, Register, RegisterKind};
+use crate::netlist::Netlist;
+use crate::parts::{Logic, LogicFunction, Parts, Register, RegisterKind};
 use cg_cell::cover::Cover;
 use cg_cell::limit::Limit;
 use cg_cell::name::Name;
@@ -170,6 +173,34 @@ impl Builder {
                 Err(fault)
             }
         }
+    }
+
+    /// The netlist of the parts, or the first fault of them. No call of this builder was refused.
+    pub fn finish(self) -> Result<Netlist, NetFault>
+        requires { self.refused ≡ None }
+        ensures { IsFinished self.draft result }
+    {
+        let Builder {
+            alloc,
+            model,
+            names,
+            inputs,
+            outputs,
+            cells,
+            registers,
+            refused: _,
+        } = self;
+        let draft = Parts {
+            model,
+            names,
+            inputs: inputs.into_vec(),
+            clock: None,
+            outputs: outputs.into_vec(),
+            cells,
+            gaters: Vec::new(alloc),
+            registers,
+        };
+        finished(alloc, draft)
     }
 }
 

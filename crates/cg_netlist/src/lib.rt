@@ -8,10 +8,14 @@
 //! - `id`: the numbers of nets, logic cells, registers and gating cells.
 //! - `fault`: why a part is not taken, and why parts make no netlist.
 //! - `names`: the names of nets in their order.
+//! - `marks`: marks on nets, and the first net that has one.
 //! - `net_set`: nets that are taken once.
 //! - `parts`: logic cells, gating cells and registers as a netlist keeps them.
 //! - `builder`: building netlists, part by part.
 //! - `ranks`: how deep each logic cell lies under the registers and inputs, and which ones lie on a cycle.
+//! - `draft_nets`: the nets of a draft, listed by what they are to it.
+//! - `renumber`: the parts of a draft with their nets numbered in net order.
+//! - `finish`: the faults of a draft, in order, and else its netlist.
 //! - `view`: what a netlist shows of one of its parts.
 //! - `netlist`: well-formed netlists, and what they answer.
 //! - `history`: that a netlist has one history for each start and waveform.
@@ -21,9 +25,13 @@ pub mod builder;
 pub mod fault;
 pub mod history;
 pub mod id;
+mod draft_nets;
+mod finish;
+mod marks;
 mod names;
 mod net_set;
 pub mod netlist;
 pub mod parts;
 mod ranks;
+mod renumber;
 pub mod view;

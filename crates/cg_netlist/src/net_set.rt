@@ -2,7 +2,7 @@
 
 ghost use Rattle.std.specs.Prelude.{◌≡◌, ◌<◌, ◌^◌, ℕ, [], OnOk, length};
 ghost use Rattle.cg_netlist.specs.Draft.{with_net};
-ghost use Rattle.cg_netlist.specs.NetSet.{is_marked};
+ghost use Rattle.cg_netlist.specs.Marks.{is_marked};
 
 use crate::id::NetId;
 use std::alloc::{AllocError, Global};
@@ -19,7 +19,7 @@ pub(crate) struct NetSet {
 
 impl Model for NetSet {
     ghost use Rattle.std.specs.Prelude.{List, ℕ};
-    ghost use Rattle.cg_netlist.specs.NetSet.{AreMarked};
+    ghost use Rattle.cg_netlist.specs.Marks.{AreMarked};
 
     ghost Value = { List ℕ };
 

@@ -281,7 +281,7 @@ fn look_on(
 }
 
 /// The entry of a table at a place.
-fn entry(table: &[Option<usize>], place: usize) -> Option<usize>
+pub(crate) fn entry(table: &[Option<usize>], place: usize) -> Option<usize>
     requires { place < length table.now }
     ensures { result ≡ entry table.now place }
 {

@@ -1,5 +1,5 @@
 use Rattle.std.proofs.Common.{ℕ, ◌≡◌, vec_len}
-use Rattle.cg_netlist.specs.NetSet.{is_marked}
+use Rattle.cg_netlist.specs.Marks.{is_marked}
 use Rattle.cg_netlist.proofs.net_set.reach.Given as goal
 
 abbrev pub invariant-loop : goal.invariant-loop

@@ -28,7 +28,7 @@ pub uses_first : (d : Circuit) (used driven shown : List Bool) (count : ℕ) (or
     → IsFirst (length used) (λ net. is_marked used net && not (is_marked shown net)) first → first_net d (is_undriven d) ≡ first
 uses_first d used driven shown count order first shown_is count_is order_is used_table driven_table found =
     let there : IsFirst (length d.names) (λ net. is_marked used net && not (is_marked driven net)) first =
-      subst (λ n. IsFirst n (λ net. is_marked used net && not (is_marked driven net)) first) used_table.fits (subst (λ ms. IsFirst (length used) (λ net. is_marked used net && not (is_marked ms net)) first) shown_is found) in
+    subst (λ n. IsFirst n (λ net. is_marked used net && not (is_marked driven net)) first) used_table.fits (subst (λ ms. IsFirst (length used) (λ net. is_marked used net && not (is_marked ms net)) first) shown_is found) in
     first_found (is_undriven d) (length d.names) first
     (same_first (λ net. is_marked used net && not (is_marked driven net)) (is_undriven d) (length d.names) first
     (λ net lt. ap (λ b. b && not (is_marked driven net)) (used_table.tells net lt) ∙ ap (λ b. is_in (used_nets d) net && not b) (driven_table.tells net (omega (arith, count_is)) ∙ ap (λ nets. is_in nets net) order_is)) there)
@@ -46,9 +46,9 @@ pub is_graph : (d : Circuit) (drivers : List (Option ℕ)) (cells : List LogicCe
 is_graph d drivers cells draft cells_are fits tells = record {
   driving = λ net k is. omega (arith, first_within _ 0 cells k (sym (tells net (omega (arith, fits, entry_within drivers net k is))) ∙ is));
   nets = λ k cell at.
-    let there : slice_get d.cells k ≡ Some cell = ap (λ ks. slice_get ks k) (sym cells_are) ∙ at in
-    let within : CellWithin (length d.names) cell = subst (CellWithin (length d.names)) (get_or_from_slice_get d.cells k cell cell there) (All-get_or (CellWithin (length d.names)) d.cells k cell (slice_get_within d.cells k cell there) draft.cells) in
-    All-weaker (λ net. net < length d.names) (λ net. net < length drivers) (λ net lt. omega (arith, lt, fits)) cell.inputs within.inputs
+      let there : slice_get d.cells k ≡ Some cell = ap (λ ks. slice_get ks k) (sym cells_are) ∙ at in
+      let within : CellWithin (length d.names) cell = subst (CellWithin (length d.names)) (get_or_from_slice_get d.cells k cell cell there) (All-get_or (CellWithin (length d.names)) d.cells k cell (slice_get_within d.cells k cell there) draft.cells) in
+      All-weaker (λ net. net < length d.names) (λ net. net < length drivers) (λ net lt. omega (arith, lt, fits)) cell.inputs within.inputs;
 }
 
 entry_ranks : (cells : List LogicCell) (k : ℕ) → k < length cells → entry (ranks_of cells) k ≡ rank_of cells k
@@ -63,13 +63,13 @@ cycles_first d drivers ranks cells first cells_are fits tells ranks_are found =
     first_found (is_behind_cycle d) (length d.names) first
     (same_first (λ net. option_map_or (λ k. is_none (entry ranks k)) (entry drivers net) false) (is_behind_cycle d) (length d.names) first
     (λ net lt.
-      ap (λ o. option_map_or (λ k. is_none (entry ranks k)) o false) (tells net lt)
-      ∙ (at (driving_cell cells net) (first_within (λ c. nat_eq c.output net) 0 cells) ∙ ap (λ ks. option_map_or (λ k. is_none (rank_of ks k)) (driving_cell ks net) false) cells_are))
+    ap (λ o. option_map_or (λ k. is_none (entry ranks k)) o false) (tells net lt)
+    ∙ (at (driving_cell cells net) (first_within (λ c. nat_eq c.output net) 0 cells) ∙ ap (λ ks. option_map_or (λ k. is_none (rank_of ks k)) (driving_cell ks net) false) cells_are))
     (subst (λ n. IsFirst n (λ net. option_map_or (λ k. is_none (entry ranks k)) (entry drivers net) false) first) fits found))
-    where
-      at : (o : Option ℕ) → ((k : ℕ) → o ≡ Some k → k < 0 + length cells) → option_map_or (λ k. is_none (entry ranks k)) o false ≡ option_map_or (λ k. is_none (rank_of cells k)) o false
-      at None within = refl
-      at (Some k) within = ap is_none (ap (λ rs. entry rs k) ranks_are ∙ entry_ranks cells k (omega (arith, within k refl)))
+  where
+    at : (o : Option ℕ) → ((k : ℕ) → o ≡ Some k → k < 0 + length cells) → option_map_or (λ k. is_none (entry ranks k)) o false ≡ option_map_or (λ k. is_none (rank_of cells k)) o false
+    at None within = refl
+    at (Some k) within = ap is_none (ap (λ rs. entry rs k) ranks_are ∙ entry_ranks cells k (omega (arith, within k refl)))
 
 -- two tests that tell the same are one
 same_truth : (a b : Bool) → (a ≡ true → b ≡ true) → (b ≡ true → a ≡ true) → a ≡ b
@@ -80,9 +80,9 @@ same_truth false false there back = refl
 any_in_range : (test : ℕ → Bool) (n a y : ℕ) → a ≤ y → y < a + n → test y ≡ true → list_any test (range_with_len a n) ≡ true
 any_in_range test zero a y low high is = absurd (omega arith)
 any_in_range test (suc n) a y low high is = elim (cases_Bool (nat_eq a y)) [
-    inl same ↦ or_left (test a) (list_any test (range_with_len (a + 1) n)) (ap test (eqb-true a y same) ∙ is)
+  | inl same ↦ or_left (test a) (list_any test (range_with_len (a + 1) n)) (ap test (eqb-true a y same) ∙ is)
   | inr other ↦ or_right (test a) (list_any test (range_with_len (a + 1) n)) (any_in_range test n (a + 1) y (omega (arith, apart a y other)) (omega arith) is)
-  ]
+]
   where
     apart : (a b : ℕ) → nat_eq a b ≡ false → a ≢ b
     apart a b no' same = both_ways (nat_eq a b) no' (ap (nat_eq a) (sym same) ∙ eq-eqb a a refl)
@@ -90,16 +90,16 @@ any_in_range test (suc n) a y low high is = elim (cases_Bool (nat_eq a y)) [
 range_has : (test : ℕ → Bool) (n a : ℕ) → list_any test (range_with_len a n) ≡ true → (y : ℕ) × (y < a + n) × (test y ≡ true)
 range_has test zero a is = absurd (both_ways false refl is)
 range_has test (suc n) a is = elim (or_cases (test a) (list_any test (range_with_len (a + 1) n)) is) [
-    inl here ↦ (a, omega arith, here)
+  | inl here ↦ (a, omega arith, here)
   | inr later ↦ let more = range_has test n (a + 1) later in (more.0, omega (arith, more.1), more.2)
-  ]
+]
 
 pins_before : (pins : List ℕ) (net : ℕ) → list_any (λ other. nat_lt other net) pins ≡ true → (y : ℕ) × (y < net) × (is_in pins y ≡ true)
 pins_before [] net is = absurd (both_ways false refl is)
 pins_before (pin ∷ pins) net is = elim (or_cases (nat_lt pin net) (list_any (λ other. nat_lt other net) pins) is) [
-    inl here ↦ (pin, ltb-true pin net here, or_left (nat_eq pin pin) (is_in pins pin) (eq-eqb pin pin refl))
+  | inl here ↦ (pin, ltb-true pin net here, or_left (nat_eq pin pin) (is_in pins pin) (eq-eqb pin pin refl))
   | inr later ↦ let more = pins_before pins net later in (more.0, more.1, or_right (nat_eq more.0 pin) (is_in pins more.0) more.2)
-  ]
+]
 
 before_is : (clocks : List Bool) (pins : List ℕ) (n net : ℕ) → IsTable clocks n (is_in pins) → net ≤ n → marked_before clocks net ≡ list_any (λ other. nat_lt other net) pins
 before_is clocks pins n net table le = same_truth (marked_before clocks net) (list_any (λ other. nat_lt other net) pins)
@@ -116,14 +116,14 @@ clocks_first d clocks inputs used shown_clocks shown_inputs pins given count oth
     first_found (is_bad_clock d) (length d.names) first
     (same_first (Test clocks inputs) (is_bad_clock d) (length d.names) first
     (λ net lt.
-      let c : is_marked clocks net ≡ is_in (clock_pins d) net = clock_table.tells net (omega (arith, count_is)) ∙ ap (λ ps. is_in ps net) pins_are in
-      let i : is_marked inputs net ≡ is_in d.inputs net = input_table.tells net (omega (arith, other_is)) ∙ ap (λ ps. is_in ps net) given_are in
-      let b : marked_before clocks net ≡ list_any (λ o. nat_lt o net) (clock_pins d) = before_is clocks pins count net clock_table (omega (arith, count_is)) ∙ ap (list_any (λ o. nat_lt o net)) pins_are in
-      let u : is_marked used net ≡ is_in (used_nets d) net = used_table.tells net lt in
-      ap (λ x. x && ((not (is_marked inputs net) || marked_before clocks net) || is_marked used net)) c
-      ∙ (ap (λ x. is_in (clock_pins d) net && ((not x || marked_before clocks net) || is_marked used net)) i
-      ∙ (ap (λ x. is_in (clock_pins d) net && ((not (is_in d.inputs net) || x) || is_marked used net)) b
-      ∙ ap (λ x. is_in (clock_pins d) net && ((not (is_in d.inputs net) || list_any (λ o. nat_lt o net) (clock_pins d)) || x)) u)))
+    let c : is_marked clocks net ≡ is_in (clock_pins d) net = clock_table.tells net (omega (arith, count_is)) ∙ ap (λ ps. is_in ps net) pins_are in
+    let i : is_marked inputs net ≡ is_in d.inputs net = input_table.tells net (omega (arith, other_is)) ∙ ap (λ ps. is_in ps net) given_are in
+    let b : marked_before clocks net ≡ list_any (λ o. nat_lt o net) (clock_pins d) = before_is clocks pins count net clock_table (omega (arith, count_is)) ∙ ap (list_any (λ o. nat_lt o net)) pins_are in
+    let u : is_marked used net ≡ is_in (used_nets d) net = used_table.tells net lt in
+    ap (λ x. x && ((not (is_marked inputs net) || marked_before clocks net) || is_marked used net)) c
+    ∙ (ap (λ x. is_in (clock_pins d) net && ((not x || marked_before clocks net) || is_marked used net)) i
+    ∙ (ap (λ x. is_in (clock_pins d) net && ((not (is_in d.inputs net) || x) || is_marked used net)) b
+    ∙ ap (λ x. is_in (clock_pins d) net && ((not (is_in d.inputs net) || list_any (λ o. nat_lt o net) (clock_pins d)) || x)) u)))
     (subst (λ n. IsFirst n (Test clocks inputs) first) (clock_table.fits ∙ count_is) there))
 
 pub tells_as : (drivers shown : List (Option ℕ)) (cells other : List LogicCell) (count n : ℕ) → shown ≡ drivers → cells ≡ other → count ≡ n

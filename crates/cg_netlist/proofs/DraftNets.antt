@@ -46,15 +46,15 @@ module _ (d : Circuit) (draft : IsDraft d) where
 pub cell_place : (cells : List LogicCell) (x : ℕ) → list_any (cell_mentions x) cells ≡ true → (is_in (flat_map (λ cell. cell.inputs) cells) x ≡ true) ⊎ (is_in (map (λ cell. cell.output) cells) x ≡ true)
 cell_place [] x is = absurd (both_ways false refl is)
 cell_place (cell ∷ cells) x is = elim (or_cases (cell_mentions x cell) (list_any (cell_mentions x) cells) is) [
-    inl here ↦ elim (or_cases (is_in cell.inputs x) (nat_eq x cell.output) here) [
-      inl i ↦ inl (is_in_left cell.inputs (flat_map (λ c. c.inputs) cells) x i)
+  | inl here ↦ elim (or_cases (is_in cell.inputs x) (nat_eq x cell.output) here) [
+    | inl i ↦ inl (is_in_left cell.inputs (flat_map (λ c. c.inputs) cells) x i)
     | inr o ↦ inr (or_left (nat_eq x cell.output) (is_in (map (λ c. c.output) cells) x) o)
-    ]
-  | inr later ↦ elim (cell_place cells x later) [
-      inl i ↦ inl (is_in_right cell.inputs (flat_map (λ c. c.inputs) cells) x i)
-    | inr o ↦ inr (or_right (nat_eq x cell.output) (is_in (map (λ c. c.output) cells) x) o)
-    ]
   ]
+  | inr later ↦ elim (cell_place cells x later) [
+    | inl i ↦ inl (is_in_right cell.inputs (flat_map (λ c. c.inputs) cells) x i)
+    | inr o ↦ inr (or_right (nat_eq x cell.output) (is_in (map (λ c. c.output) cells) x) o)
+  ]
+]
 
 pub data RegisterPlace (registers : List RegisterCell) (x : ℕ) : Type 0 where
   AtData : is_in (flat_map (λ r. r.inputs) registers) x ≡ true → RegisterPlace registers x
@@ -64,19 +64,19 @@ pub data RegisterPlace (registers : List RegisterCell) (x : ℕ) : Type 0 where
 pub register_place : (registers : List RegisterCell) (x : ℕ) → list_any (register_mentions x) registers ≡ true → RegisterPlace registers x
 register_place [] x is = absurd (both_ways false refl is)
 register_place (r ∷ rs) x is = elim (or_cases (register_mentions x r) (list_any (register_mentions x) rs) is) [
-    inl here ↦ elim (or_cases (is_in r.inputs x || is_in (shown_nets r) x) (nat_eq x r.clock) here) [
-      inl front ↦ elim (or_cases (is_in r.inputs x) (is_in (shown_nets r) x) front) [
-        inl i ↦ AtData (is_in_left r.inputs (flat_map (λ s. s.inputs) rs) x i)
+  | inl here ↦ elim (or_cases (is_in r.inputs x || is_in (shown_nets r) x) (nat_eq x r.clock) here) [
+    | inl front ↦ elim (or_cases (is_in r.inputs x) (is_in (shown_nets r) x) front) [
+      | inl i ↦ AtData (is_in_left r.inputs (flat_map (λ s. s.inputs) rs) x i)
       | inr o ↦ AtShown (is_in_left (shown_nets r) (flat_map shown_nets rs) x o)
-      ]
-    | inr c ↦ AtPin (or_left (nat_eq x r.clock) (is_in (map (λ s. s.clock) rs) x) c)
     ]
+    | inr c ↦ AtPin (or_left (nat_eq x r.clock) (is_in (map (λ s. s.clock) rs) x) c)
+  ]
   | inr later ↦ elim (register_place rs x later) [
-      AtData i ↦ AtData (is_in_right r.inputs (flat_map (λ s. s.inputs) rs) x i)
+    | AtData i ↦ AtData (is_in_right r.inputs (flat_map (λ s. s.inputs) rs) x i)
     | AtShown o ↦ AtShown (is_in_right (shown_nets r) (flat_map shown_nets rs) x o)
     | AtPin c ↦ AtPin (or_right (nat_eq x r.clock) (is_in (map (λ s. s.clock) rs) x) c)
-    ]
   ]
+]
 
 -- the first cell that drives a net, with one more cell
 first_push : (test : LogicCell → Bool) (a : ℕ) (cells : List LogicCell) (cell : LogicCell) → position_from test a (cells ++ cell ∷ []) ≡ option_or (position_from test a cells) (cond (test cell) (Some (a + length cells)) None)
@@ -100,21 +100,24 @@ pub driver_more : (drivers : List (Option ℕ)) (n : ℕ) (cells : List LogicCel
     → ((net : ℕ) → net < n → entry drivers net ≡ driving_cell (take i cells) net) → length (take i cells) ≡ i → cell.output < n → take (i + 1) cells ≡ take i cells ++ cell ∷ []
     → now ≡ Some (unwrap_or (entry drivers cell.output) i)
     → (length (set drivers cell.output now) ≡ n) × ((net : ℕ) → net < n → entry (set drivers cell.output now) net ≡ driving_cell (take (i + 1) cells) net)
-driver_more drivers n cells i cell now fits le tells long within next is = (length-set drivers cell.output now ∙ fits, λ net lt.
-    let pushed : driving_cell (take (i + 1) cells) net ≡ option_or (driving_cell (take i cells) net) (cond (cell.output == net) (Some (0 + length (take i cells))) None) =
+driver_more drivers n cells i cell now fits le tells long within next is = (
+  length-set drivers cell.output now ∙ fits,
+  λ net lt.
+      let pushed : driving_cell (take (i + 1) cells) net ≡ option_or (driving_cell (take i cells) net) (cond (cell.output == net) (Some (0 + length (take i cells))) None) =
       ap (λ ks. driving_cell ks net) next ∙ first_push (λ k. k.output == net) 0 (take i cells) cell in
-    elim (eqb_tells net cell.output) [
-      inl e ↦
-        let P : ℕ → Type 0 = λ x. entry (set drivers cell.output now) x ≡ driving_cell (take (i + 1) cells) x in
-        let number : 0 + length (take i cells) ≡ i = omega (arith, long) in
-        let here : driving_cell (take (i + 1) cells) cell.output ≡ option_or (driving_cell (take i cells) cell.output) (Some i) =
-          ap (λ ks. driving_cell ks cell.output) next ∙ (first_push (λ k. k.output == cell.output) 0 (take i cells) cell
-          ∙ (ap (λ b. option_or (driving_cell (take i cells) cell.output) (cond b (Some (0 + length (take i cells))) None)) (eq-eqb cell.output cell.output refl) ∙ ap (λ m. option_or (driving_cell (take i cells) cell.output) (Some m)) number)) in
-        subst P (sym e.1) (entry-set_same drivers cell.output now (omega (arith, fits)) ∙ (is ∙ (or_now (entry drivers cell.output) i ∙ (ap (λ o. option_or o (Some i)) (tells cell.output within) ∙ sym here))))
-    | inr e ↦
-        let other : (cell.output == net) ≡ false = elim (cases_Bool (cell.output == net)) [ inl same ↦ absurd (e.1 (sym (eqb-true cell.output net same))) | inr no' ↦ no' ] in
-        entry-set_other drivers cell.output net now e.1 ∙ (tells net lt ∙ sym (pushed ∙ (ap (λ b. option_or (driving_cell (take i cells) net) (cond b (Some (0 + length (take i cells))) None)) other ∙ or_none (driving_cell (take i cells) net))))
-    ])
+      elim (eqb_tells net cell.output) [
+        | inl e ↦
+            let P : ℕ → Type 0 = λ x. entry (set drivers cell.output now) x ≡ driving_cell (take (i + 1) cells) x in
+            let number : 0 + length (take i cells) ≡ i = omega (arith, long) in
+            let here : driving_cell (take (i + 1) cells) cell.output ≡ option_or (driving_cell (take i cells) cell.output) (Some i) =
+            ap (λ ks. driving_cell ks cell.output) next ∙ (first_push (λ k. k.output == cell.output) 0 (take i cells) cell
+            ∙ (ap (λ b. option_or (driving_cell (take i cells) cell.output) (cond b (Some (0 + length (take i cells))) None)) (eq-eqb cell.output cell.output refl) ∙ ap (λ m. option_or (driving_cell (take i cells) cell.output) (Some m)) number)) in
+            subst P (sym e.1) (entry-set_same drivers cell.output now (omega (arith, fits)) ∙ (is ∙ (or_now (entry drivers cell.output) i ∙ (ap (λ o. option_or o (Some i)) (tells cell.output within) ∙ sym here))))
+        | inr e ↦
+            let other : (cell.output == net) ≡ false = elim (cases_Bool (cell.output == net)) [ inl same ↦ absurd (e.1 (sym (eqb-true cell.output net same))) | inr no' ↦ no' ] in
+            entry-set_other drivers cell.output net now e.1 ∙ (tells net lt ∙ sym (pushed ∙ (ap (λ b. option_or (driving_cell (take i cells) net) (cond b (Some (0 + length (take i cells))) None)) other ∙ or_none (driving_cell (take i cells) net))))
+      ],
+)
 
 pub output_in : (cells : List LogicCell) (k : ℕ) (cell : LogicCell) → slice_get cells k ≡ Some cell → is_in (map (λ c. c.output) cells) cell.output ≡ true
 output_in [] k cell at = absurd (cc)
@@ -130,8 +133,8 @@ drives_output (c ∷ cells) a zero cell once at =
     ap (λ b. cond b (Some a) (position_from (λ x. x.output == cell.output) (a + 1) cells)) (eq-eqb c.output cell.output (ap (λ x. x.output) same)) ∙ ap (λ n. Some n) e
 drives_output (c ∷ cells) a (suc k) cell once at =
     let other : (c.output == cell.output) ≡ false = elim (cases_Bool (c.output == cell.output)) [
-      inl same ↦ absurd (both_ways (is_in (map (λ x. x.output) cells) c.output) (distinct_head c.output (map (λ x. x.output) cells) once) (ap (is_in (map (λ x. x.output) cells)) (eqb-true c.output cell.output same) ∙ output_in cells k cell at))
-    | inr no' ↦ no'
+      | inl same ↦ absurd (both_ways (is_in (map (λ x. x.output) cells) c.output) (distinct_head c.output (map (λ x. x.output) cells) once) (ap (is_in (map (λ x. x.output) cells)) (eqb-true c.output cell.output same) ∙ output_in cells k cell at))
+      | inr no' ↦ no'
     ] in
     let e : a + 1 + k ≡ a + suc k = omega arith in
     ap (λ b. cond b (Some a) (position_from (λ x. x.output == cell.output) (a + 1) cells)) other ∙ (drives_output cells (a + 1) k cell (distinct_tail c.output (map (λ x. x.output) cells) once) at ∙ ap (λ n. Some n) e)

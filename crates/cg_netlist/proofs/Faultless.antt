@@ -39,24 +39,24 @@ at_most_once [] n within once = tt
 at_most_once (net ∷ nets) n within once =
     distinct_cons net nets
     (false_from_ne_true (is_in nets net) (λ again.
-      let count : count_by (nat_eq net) (net ∷ nets) ≡ 1 + count_by (nat_eq net) nets = sum_by-cons (λ y. cond (nat_eq net y) 1 0) net nets ∙ ap (λ b. cond b 1 0 + count_by (nat_eq net) nets) (eq-eqb net net refl) in
-      let some : nat_lt 0 (count_by (nat_eq net) nets) ≡ true = sym (in_counts nets net) ∙ again in
-      let positive : 0 < count_by (nat_eq net) nets = ltb-true 0 (count_by (nat_eq net) nets) some in
-      both_ways (nat_lt 1 (count_by (nat_eq net) (net ∷ nets))) (once net (All-head (λ x. x < n) net nets within)) (lt-ltb 1 (count_by (nat_eq net) (net ∷ nets)) (omega (arith, count, positive)))))
+    let count : count_by (nat_eq net) (net ∷ nets) ≡ 1 + count_by (nat_eq net) nets = sum_by-cons (λ y. cond (nat_eq net y) 1 0) net nets ∙ ap (λ b. cond b 1 0 + count_by (nat_eq net) nets) (eq-eqb net net refl) in
+    let some : nat_lt 0 (count_by (nat_eq net) nets) ≡ true = sym (in_counts nets net) ∙ again in
+    let positive : 0 < count_by (nat_eq net) nets = ltb-true 0 (count_by (nat_eq net) nets) some in
+    both_ways (nat_lt 1 (count_by (nat_eq net) (net ∷ nets))) (once net (All-head (λ x. x < n) net nets within)) (lt-ltb 1 (count_by (nat_eq net) (net ∷ nets)) (omega (arith, count, positive)))))
     (at_most_once nets n (All-tail (λ x. x < n) net nets within) (λ x lt.
-      let count : count_by (nat_eq x) (net ∷ nets) ≡ cond (nat_eq x net) 1 0 + count_by (nat_eq x) nets = sum_by-cons (λ y. cond (nat_eq x y) 1 0) net nets in
-      elim (cases_lt 1 (count_by (nat_eq x) nets)) [
-        inl more ↦ absurd (both_ways (nat_lt 1 (count_by (nat_eq x) (net ∷ nets))) (once x lt) (lt-ltb 1 (count_by (nat_eq x) (net ∷ nets)) (omega (arith, count, more))))
+    let count : count_by (nat_eq x) (net ∷ nets) ≡ cond (nat_eq x net) 1 0 + count_by (nat_eq x) nets = sum_by-cons (λ y. cond (nat_eq x y) 1 0) net nets in
+    elim (cases_lt 1 (count_by (nat_eq x) nets)) [
+      | inl more ↦ absurd (both_ways (nat_lt 1 (count_by (nat_eq x) (net ∷ nets))) (once x lt) (lt-ltb 1 (count_by (nat_eq x) (net ∷ nets)) (omega (arith, count, more))))
       | inr le ↦ le-ltb 1 (count_by (nat_eq x) nets) le
-      ]))
+    ]))
 
 -- a net at a clock pin comes after none that is before it
 pub any_before : (pins : List ℕ) (a b : ℕ) → is_in pins a ≡ true → a < b → list_any (λ other. nat_lt other b) pins ≡ true
 any_before [] a b in' lt = absurd (both_ways false refl in')
 any_before (pin ∷ pins) a b in' lt = elim (or_cases (nat_eq a pin) (is_in pins a) in') [
-    inl here ↦ or_left (nat_lt pin b) (list_any (λ other. nat_lt other b) pins) (ap (λ x. nat_lt x b) (sym (eqb-true a pin here)) ∙ lt-ltb a b lt)
+  | inl here ↦ or_left (nat_lt pin b) (list_any (λ other. nat_lt other b) pins) (ap (λ x. nat_lt x b) (sym (eqb-true a pin here)) ∙ lt-ltb a b lt)
   | inr later ↦ or_right (nat_lt pin b) (list_any (λ other. nat_lt other b) pins) (any_before pins a b later lt)
-  ]
+]
 
 -- a proper clock is an input, the first of its kind, and used for nothing else
 pub record IsProper (d : Circuit) (net : ℕ) : Type 0 where
@@ -114,35 +114,35 @@ module _ (d : Circuit) (draft : IsDraft d) (gaters : d.gaters ≡ []) (fine : fa
   proper x pin =
       let lt : x < length d.names = All-member (λ net. net < length d.names) (clock_pins d) x (pins_within d draft) pin in
       let parts = proper_from (is_in d.inputs x) (list_any (λ other. nat_lt other x) (clock_pins d)) (is_in (used_nets d) x)
-        (ap (λ b. b && ((not (is_in d.inputs x) || list_any (λ other. nat_lt other x) (clock_pins d)) || is_in (used_nets d) x)) (sym pin) ∙ no_bad x lt) in
+      (ap (λ b. b && ((not (is_in d.inputs x) || list_any (λ other. nat_lt other x) (clock_pins d)) || is_in (used_nets d) x)) (sym pin) ∙ no_bad x lt) in
       record { input = parts.0; first = parts.1; unused = parts.2 }
 
   pub one_clock : (a b : ℕ) → is_in (clock_pins d) a ≡ true → is_in (clock_pins d) b ≡ true → a ≡ b
   one_clock a b a_pin b_pin = elim (cases_lt a b) [
-      inl lt ↦ absurd (both_ways (list_any (λ other. nat_lt other b) (clock_pins d)) (proper b b_pin).first (any_before (clock_pins d) a b a_pin lt))
+    | inl lt ↦ absurd (both_ways (list_any (λ other. nat_lt other b) (clock_pins d)) (proper b b_pin).first (any_before (clock_pins d) a b a_pin lt))
     | inr le ↦ elim (cases_lt b a) [
-        inl lt ↦ absurd (both_ways (list_any (λ other. nat_lt other a) (clock_pins d)) (proper a a_pin).first (any_before (clock_pins d) b a b_pin lt))
+      | inl lt ↦ absurd (both_ways (list_any (λ other. nat_lt other a) (clock_pins d)) (proper a a_pin).first (any_before (clock_pins d) b a b_pin lt))
       | inr ge ↦ omega arith
-      ]
     ]
+  ]
 
   input_driven : (x : ℕ) → is_in d.inputs x ≡ true → is_in (driving_nets d) x ≡ true
   input_driven x i = is_in_left (d.inputs ++ cell_nets d) (register_nets d) x (is_in_left d.inputs (cell_nets d) x i)
 
   pub all_driven : (x : ℕ) → x < length d.names → is_in (driving_nets d) x ≡ true
   all_driven x lt = elim (place_of_mention d x (draft.mentioned x lt)) [
-      AtInput i ↦ input_driven x i
+    | AtInput i ↦ input_driven x i
     | AtOutput o ↦ used_is_driven x (is_in_right (flat_map (λ cell. cell.inputs) d.cells ++ map (λ gater. gater.enable) d.gaters ++ flat_map (λ r. r.inputs) d.registers) d.outputs x o)
     | AtCell c ↦ elim (cell_place d.cells x c) [
-        inl i ↦ used_is_driven x (front (is_in_left (flat_map (λ cell. cell.inputs) d.cells ++ map (λ gater. gater.enable) d.gaters) (flat_map (λ r. r.inputs) d.registers) x (is_in_left (flat_map (λ cell. cell.inputs) d.cells) (map (λ gater. gater.enable) d.gaters) x i)))
+      | inl i ↦ used_is_driven x (front (is_in_left (flat_map (λ cell. cell.inputs) d.cells ++ map (λ gater. gater.enable) d.gaters) (flat_map (λ r. r.inputs) d.registers) x (is_in_left (flat_map (λ cell. cell.inputs) d.cells) (map (λ gater. gater.enable) d.gaters) x i)))
       | inr o ↦ is_in_left (d.inputs ++ cell_nets d) (register_nets d) x (is_in_right d.inputs (cell_nets d) x o)
-      ]
+    ]
     | AtRegister r ↦ elim (register_place d.registers x r) [
-        AtData i ↦ used_is_driven x (front (is_in_right (flat_map (λ cell. cell.inputs) d.cells ++ map (λ gater. gater.enable) d.gaters) (flat_map (λ s. s.inputs) d.registers) x i))
+      | AtData i ↦ used_is_driven x (front (is_in_right (flat_map (λ cell. cell.inputs) d.cells ++ map (λ gater. gater.enable) d.gaters) (flat_map (λ s. s.inputs) d.registers) x i))
       | AtShown o ↦ is_in_right (d.inputs ++ cell_nets d) (register_nets d) x o
       | AtPin c ↦ input_driven x (proper x c).input
-      ]
     ]
+  ]
     where
       front : is_in (flat_map (λ cell. cell.inputs) d.cells ++ map (λ gater. gater.enable) d.gaters ++ flat_map (λ r. r.inputs) d.registers) x ≡ true → is_in (used_nets d) x ≡ true
       front is = is_in_left (flat_map (λ cell. cell.inputs) d.cells ++ map (λ gater. gater.enable) d.gaters ++ flat_map (λ r. r.inputs) d.registers) d.outputs x is

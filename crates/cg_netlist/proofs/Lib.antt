@@ -4,6 +4,7 @@ pub mod DraftLemmas
 pub mod DraftNets
 pub mod Driven
 pub mod Faultless
+pub mod Finished
 pub mod GatedRegister
 pub mod Given
 pub mod Histories
@@ -12,11 +13,13 @@ pub mod MarkLemmas
 pub mod Members
 pub mod Mentions
 pub mod NameLemmas
+pub mod NetOrder
 pub mod NetSetLemmas
 pub mod OrderLemmas
 pub mod PlaceLemmas
 pub mod RankLemmas
 pub mod RankingLemmas
+pub mod Renumbered
 pub mod SearchLemmas
 pub mod Settle
 pub mod SettleSteps

@@ -26,9 +26,9 @@ pub record HasCounted (once twice : List Bool) (n : ℕ) (nets : List ℕ) : Typ
 found_at : (test : ℕ → Bool) (n a x : ℕ) → a ≤ x → x < a + n → test x ≡ true → ((y : ℕ) → a ≤ y → y < x → test y ≡ false) → find test (range_with_len a n) ≡ Some x
 found_at test zero a x low high here before = absurd (omega arith)
 found_at test (suc n) a x low high here before = elim (eqb_tells a x) [
-    inl e ↦ rw (ap test e.1 ∙ here) (ap (λ m. Some m) e.1)
+  | inl e ↦ rw (ap test e.1 ∙ here) (ap (λ m. Some m) e.1)
   | inr e ↦ rw (before a (omega arith) (omega (arith, e.1))) (found_at test n (a + 1) x (omega (arith, e.1)) (omega arith) here (λ y le lt. before y (omega arith) lt))
-  ]
+]
 
 found_none : (test : ℕ → Bool) (n a : ℕ) → ((y : ℕ) → a ≤ y → y < a + n → test y ≡ false) → find test (range_with_len a n) ≡ None
 found_none test zero a none = refl
@@ -52,13 +52,13 @@ no_mark (suc n) (suc x) = no_mark n x
 pub in_counts : (nets : List ℕ) (net : ℕ) → is_in nets net ≡ nat_lt 0 (count_by (nat_eq net) nets)
 in_counts [] net = refl
 in_counts (x ∷ nets) net = elim (cases_Bool (nat_eq net x)) [
-    inl same ↦
+  | inl same ↦
       let count : count_by (nat_eq net) (x ∷ nets) ≡ 1 + count_by (nat_eq net) nets = sum_by-cons (λ y. cond (nat_eq net y) 1 0) x nets ∙ ap (λ b. cond b 1 0 + count_by (nat_eq net) nets) same in
       or_left (nat_eq net x) (is_in nets net) same ∙ sym (lt-ltb 0 (count_by (nat_eq net) (x ∷ nets)) (omega (arith, count)))
   | inr other ↦
       let count : count_by (nat_eq net) (x ∷ nets) ≡ count_by (nat_eq net) nets = sum_by-cons (λ y. cond (nat_eq net y) 1 0) x nets ∙ (ap (λ b. cond b 1 0 + count_by (nat_eq net) nets) other ∙ omega arith) in
       ap (λ b. b || is_in nets net) other ∙ (in_counts nets net ∙ ap (nat_lt 0) (sym count))
-  ]
+]
 
 count_same : (nets : List ℕ) (net : ℕ) → count_by (nat_eq net) (nets ++ net ∷ []) ≡ count_by (nat_eq net) nets + 1
 count_same nets net = sum_by_push (λ y. cond (nat_eq net y) 1 0) nets net ∙ ap (λ b. count_by (nat_eq net) nets + cond b 1 0) (eq-eqb net net refl)
@@ -68,9 +68,9 @@ count_other nets net x other = sum_by_push (λ y. cond (nat_eq x y) 1 0) nets ne
 
 one_more : (c : ℕ) → (nat_lt 1 c || nat_lt 0 c) ≡ nat_lt 1 (c + 1)
 one_more c = elim (cases_lt 0 c) [
-    inl lt ↦ or_right (nat_lt 1 c) (nat_lt 0 c) (lt-ltb 0 c lt) ∙ sym (lt-ltb 1 (c + 1) (omega arith))
+  | inl lt ↦ or_right (nat_lt 1 c) (nat_lt 0 c) (lt-ltb 0 c lt) ∙ sym (lt-ltb 1 (c + 1) (omega arith))
   | inr le ↦ rw (le-ltb 1 c (omega arith), le-ltb 0 c le) (sym (le-ltb 1 (c + 1) (omega arith)))
-  ]
+]
 
 pub counted_none : (n : ℕ) → HasCounted (replicate n false) (replicate n false) n []
 counted_none n = record { once_fits = length-replicate n false; twice_fits = length-replicate n false; once_are = no_mark n; twice_are = no_mark n }
@@ -81,14 +81,14 @@ counted_more once twice n nets net counted lt = record {
   twice_fits = length-set twice net (is_marked twice net || is_marked once net) ∙ counted.twice_fits;
   once_are = marked_more once once nets net counted.once_are (λ x. refl) (omega (arith, counted.once_fits));
   twice_are = λ x. elim (eqb_tells x net) [
-      inl e ↦
+    | inl e ↦
         let mark : is_marked (set twice net (is_marked twice net || is_marked once net)) net ≡ (is_marked twice net || is_marked once net) = ap (λ o. unwrap_or o false) (slice_get-set_same twice net (is_marked twice net || is_marked once net) (omega (arith, counted.twice_fits))) in
         let both : (is_marked twice net || is_marked once net) ≡ nat_lt 1 (count_by (nat_eq net) (nets ++ net ∷ [])) =
-          ap (λ b. b || is_marked once net) (counted.twice_are net) ∙ (ap (λ b. nat_lt 1 (count_by (nat_eq net) nets) || b) (counted.once_are net ∙ in_counts nets net) ∙ (one_more (count_by (nat_eq net) nets) ∙ ap (nat_lt 1) (sym (count_same nets net)))) in
+        ap (λ b. b || is_marked once net) (counted.twice_are net) ∙ (ap (λ b. nat_lt 1 (count_by (nat_eq net) nets) || b) (counted.once_are net ∙ in_counts nets net) ∙ (one_more (count_by (nat_eq net) nets) ∙ ap (nat_lt 1) (sym (count_same nets net)))) in
         let P : ℕ → Type 0 = λ y. is_marked (set twice net (is_marked twice net || is_marked once net)) y ≡ nat_lt 1 (count_by (nat_eq y) (nets ++ net ∷ [])) in
         subst P (sym e.1) (mark ∙ both)
     | inr e ↦ ap (λ o. unwrap_or o false) (slice_get-set_other twice net x (is_marked twice net || is_marked once net) e.1) ∙ (counted.twice_are x ∙ ap (nat_lt 1) (sym (count_other nets net x e.0)))
-    ]
+  ];
 }
 
 range_push : (n a : ℕ) → range_with_len a (n + 1) ≡ range_with_len a n ++ (a + n) ∷ []
@@ -111,11 +111,11 @@ pub good_more : (clocks inputs used : List Bool) (net : ℕ) (before : Bool) →
     → ((n : ℕ) → n < net → is_marked clocks n && ((not (is_marked inputs n) || marked_before clocks n) || is_marked used n) ≡ false)
     → (n : ℕ) → n < net + 1 → is_marked clocks n && ((not (is_marked inputs n) || marked_before clocks n) || is_marked used n) ≡ false
 good_more clocks inputs used net before is good earlier n lt = elim (eqb_tells n net) [
-    inl e ↦
+  | inl e ↦
       let P : ℕ → Type 0 = λ m. is_marked clocks m && ((not (is_marked inputs m) || marked_before clocks m) || is_marked used m) ≡ false in
       subst P (sym e.1) (rw (marked_or clocks net, marked_or inputs net, marked_or used net, ← is) good)
   | inr e ↦ earlier n (omega (arith, e.1))
-  ]
+]
 
 pub All-at : (nets : List ℕ) (n i net : ℕ) → slice_get nets i ≡ Some net → All (λ x. x < n) nets → net < n
 All-at nets n i net at all = let here : get_or nets i 0 < n = All-get_or (λ x. x < n) nets i 0 (slice_get_within nets i net at) all in omega (arith, here, get_or_from_slice_get nets i net 0 at)

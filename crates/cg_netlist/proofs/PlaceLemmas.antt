@@ -25,8 +25,8 @@ place_is [] i net once at = absurd (cc)
 place_is (x ∷ order) zero net once at = let same : x ≡ net = same_Some x net at in ap (λ b. cond (not b) (1 + position_or_len (nat_eq net) order) 0) (eq-eqb net x (sym same))
 place_is (x ∷ order) (suc i) net once at =
     let other : nat_eq net x ≡ false = elim (cases_Bool (nat_eq net x)) [
-      inl same ↦ absurd (both_ways (is_in order x) (distinct_head x order once) (ap (is_in order) (sym (eqb-true net x same)) ∙ member_at order i net at))
-    | inr no' ↦ no'
+      | inl same ↦ absurd (both_ways (is_in order x) (distinct_head x order once) (ap (is_in order) (sym (eqb-true net x same)) ∙ member_at order i net at))
+      | inr no' ↦ no'
     ] in
     ap (λ b. cond (not b) (1 + position_or_len (nat_eq net) order) 0) other ∙ (ap (λ m. 1 + m) (place_is order i net (distinct_tail x order once) at) ∙ omega arith)
 
@@ -34,25 +34,28 @@ pub placed_more : (places : List ℕ) (n : ℕ) (order : List ℕ) (i net place 
     → ((x : ℕ) → is_in (take i order) x ≡ true → number_in places x ≡ position_or_len (nat_eq x) order)
     → All (λ x. x < n) order → IsDistinct nat_eq order → slice_get order i ≡ Some net → place ≡ i
     → (length (set places net place) ≡ n) × ((x : ℕ) → is_in (take (i + 1) order) x ≡ true → number_in (set places net place) x ≡ position_or_len (nat_eq x) order)
-placed_more places n order i net place fits tells within once at is = (length-set places net place ∙ fits, λ x in'. elim (eqb_tells x net) [
-    inl e ↦
-      let P : ℕ → Type 0 = λ y. number_in (set places net place) y ≡ position_or_len (nat_eq y) order in
-      subst P (sym e.1) (ap (λ o. unwrap_or o 0) (slice_get-set_same places net place (omega (arith, fits, All-at order n i net at within))) ∙ (is ∙ sym (place_is order i net once at)))
-  | inr e ↦ ap (λ o. unwrap_or o 0) (slice_get-set_other places net x place e.1) ∙ tells x (elim (in_cases (take i order) (net ∷ []) x (subst (λ xs. is_in xs x ≡ true) (take_next order i net at) in')) [
-      inl early ↦ early
-    | inr here ↦ absurd (e.1 (only net x here))
+placed_more places n order i net place fits tells within once at is = (
+  length-set places net place ∙ fits,
+  λ x in'. elim (eqb_tells x net) [
+    | inl e ↦
+        let P : ℕ → Type 0 = λ y. number_in (set places net place) y ≡ position_or_len (nat_eq y) order in
+        subst P (sym e.1) (ap (λ o. unwrap_or o 0) (slice_get-set_same places net place (omega (arith, fits, All-at order n i net at within))) ∙ (is ∙ sym (place_is order i net once at)))
+    | inr e ↦ ap (λ o. unwrap_or o 0) (slice_get-set_other places net x place e.1) ∙ tells x (elim (in_cases (take i order) (net ∷ []) x (subst (λ xs. is_in xs x ≡ true) (take_next order i net at) in')) [
+      | inl early ↦ early
+      | inr here ↦ absurd (e.1 (only net x here))
     ])
-  ])
+  ],
+)
 
 -- different nets have different names
 pub same_net : (names : List (List ℕ)) (a b : ℕ) → AllPairs (λ name other. name ≢ other) names → a < length names → b < length names → net_name names a ≡ net_name names b → a ≡ b
 same_net names a b different a_in b_in same =
     let names_are : get_or names a [] ≡ get_or names b [] = sym (unwrap_or-slice_get names a []) ∙ (same ∙ unwrap_or-slice_get names b []) in
     elim (cases_lt a b) [
-      inl lt ↦ absurd (different a b [] lt b_in names_are)
-    | inr le ↦ elim (cases_lt b a) [
-        inl lt ↦ absurd (different b a [] lt a_in (sym names_are))
-      | inr ge ↦ omega arith
+      | inl lt ↦ absurd (different a b [] lt b_in names_are)
+      | inr le ↦ elim (cases_lt b a) [
+        | inl lt ↦ absurd (different b a [] lt a_in (sym names_are))
+        | inr ge ↦ omega arith
       ]
     ]
 
@@ -69,7 +72,7 @@ mapped_at f (Some x) y is = (x, refl, same_Some (f x) y is)
 fresh_name : (names : List (List ℕ)) (order : List ℕ) (i net : ℕ) → AllPairs (λ name other. name ≢ other) names → All (λ x. x < length names) order → IsDistinct nat_eq order → slice_get order i ≡ Some net
     → is_known (net_names names (take i order)) (net_name names net) ≡ false
 fresh_name names order i net different within once at = elim (cases_Bool (is_known (net_names names (take i order)) (net_name names net))) [
-    inl known ↦
+  | inl known ↦
       let found = known_at (net_names names (take i order)) (net_name names net) known in
       let m = mapped_at (net_name names) (slice_get (take i order) found.0) (net_name names net) (sym (slice_get-map (net_name names) (take i order) found.0) ∙ found.1) in
       let there = take_get order i found.0 m.0 m.1 in
@@ -77,7 +80,7 @@ fresh_name names order i net different within once at = elim (cases_Bool (is_kno
       let place : found.0 ≡ i = one_place order found.0 i net once (there.1 ∙ ap (λ x. Some x) same) at in
       absurd (let none : ⊥ = omega (arith, there.0, place) in none)
   | inr unknown ↦ unknown
-  ]
+]
 
 pub named_more : (names : List (List ℕ)) (order : List ℕ) (i net : ℕ) (name : List ℕ) (ordered next : List (List ℕ)) → AllPairs (λ n other. n ≢ other) names → All (λ x. x < length names) order → IsDistinct nat_eq order → slice_get order i ≡ Some net
     → slice_get names net ≡ Some name → ordered ≡ net_names names (take i order) → next ≡ with_name ordered name → next ≡ net_names names (take (i + 1) order)

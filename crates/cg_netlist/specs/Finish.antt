@@ -64,18 +64,22 @@ abbrev pub renumbered_register : (ℕ → ℕ) → RegisterCell → RegisterCell
 renumbered_register number register =
     record register { inputs = map number register.inputs; outputs = map (λ output. (number output.0, output.1)) register.outputs; clock = number register.clock }
 
--- The netlist of a draft without a fault: its parts in their order, its nets in net order, and the one net at clock pins as its clock.
-abbrev pub netlist_of : Circuit → Circuit
-netlist_of d = record {
+-- a draft with its nets renumbered, and these names for them; the one net at clock pins, if there is one, is the clock
+abbrev pub renumbered : (ℕ → ℕ) → List (List ℕ) → Circuit → Circuit
+renumbered number names d = record {
   model = d.model;
-  names = net_names d.names (driving_nets d);
-  inputs = map (place_of d) d.inputs;
-  clock = option_map (place_of d) (slice_get (clock_pins d) 0);
-  outputs = map (place_of d) d.outputs;
-  cells = map (renumbered_cell (place_of d)) d.cells;
+  names = names;
+  inputs = map number d.inputs;
+  clock = option_map number (slice_get (clock_pins d) 0);
+  outputs = map number d.outputs;
+  cells = map (renumbered_cell number) d.cells;
   gaters = [];
-  registers = map (renumbered_register (place_of d)) d.registers
+  registers = map (renumbered_register number) d.registers;
 }
+
+-- the netlist of a draft without a fault: its parts in their order, its nets in net order
+abbrev pub netlist_of : Circuit → Circuit
+netlist_of d = renumbered (place_of d) (net_names d.names (driving_nets d)) d
 
 -- finishing answers the netlist of a draft without a fault, or its first fault, or want of memory
 abbrev pub IsFinished : Circuit → Result Circuit NetFault → Type 0

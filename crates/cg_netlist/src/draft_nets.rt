@@ -47,7 +47,10 @@ fn nets_used(alloc: Global, draft: &Parts) -> Result<Vec<NetId>, AllocError>
 }
 
 /// The nets at the clock pins of registers.
-pub(crate) fn nets_at_clock_pins(alloc: Global, registers: &[Register]) -> Result<Vec<NetId>, AllocError>
+pub(crate) fn nets_at_clock_pins(
+    alloc: Global,
+    registers: &[Register],
+) -> Result<Vec<NetId>, AllocError>
     ensures { IfOk result (λ nets. nets.items ≡ map (λ register. register.clock) registers.now) }
 {
     let mut nets = Vec::new(alloc);

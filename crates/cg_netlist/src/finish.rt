@@ -7,7 +7,7 @@ ghost use Rattle.std.specs.List.{All, IsDistinct, flat_map};
 ghost use Rattle.cg_netlist.specs.Canonical.{net_name};
 ghost use Rattle.cg_netlist.specs.Circuit.{is_in, shown_nets, used_nets};
 ghost use Rattle.cg_netlist.specs.Draft.{IsDraft};
-ghost use Rattle.cg_netlist.specs.Finish.{IsChecked, IsFinished, clock_pins, driving_nets, fault_of, is_bad_clock, is_behind_cycle, is_driven_twice, is_undriven, netlist_of};
+ghost use Rattle.cg_netlist.specs.Finish.{IsChecked, IsFinished, clock_pins, driving_nets, fault_of, is_bad_clock, is_behind_cycle, is_driven_twice, is_undriven, netlist_of, renumbered};
 ghost use Rattle.cg_netlist.specs.Marks.{IsTable};
 ghost use Rattle.cg_netlist.specs.Ranking.{entry};
 ghost use Rattle.cg_netlist.specs.Ranks.{driving_cell};
@@ -16,11 +16,16 @@ ghost use Rattle.cg_netlist.specs.declared.fault.NetFault.TheVariants.{ClockFaul
 use crate::draft_nets::{driving_cells, nets_at_clock_pins, nets_in_order, used_marks};
 use crate::fault::NetFault;
 use crate::id::NetId;
-use crate::marks::{first_bad_clock, first_marked, first_undriven, first_unranked, marks, repeated};
+use crate::marks::{
+    first_bad_clock, first_marked, first_undriven, first_unranked, marks, repeated,
+};
+use crate::names::NetNames;
 use crate::netlist::Netlist;
 use crate::parts::{Logic, Parts, Register};
 use crate::ranks::ranks;
-use crate::renumber::{names_in_order, number, places, renumber, renumber_cells, renumber_registers};
+use crate::renumber::{
+    names_in_order, number, places, renumber, renumber_cells, renumber_registers,
+};
 use cg_cell::name::Name;
 use std::alloc::{AllocError, Global};
 
@@ -39,7 +44,7 @@ pub(crate) fn finished(alloc: Global, draft: Parts) -> Result<Netlist, NetFault>
         Ok(()) => (),
         Err(fault) => return Err(fault),
     }
-    let parts = match renumbered(alloc, draft, &order) {
+    let parts = match in_net_order(alloc, draft, &order) {
         Ok(parts) => parts,
         Err(_) => return Err(NetFault::NoMemory),
     };
@@ -173,14 +178,24 @@ fn name_of(alloc: Global, draft: &Parts, net: usize) -> Result<Name, AllocError>
 }
 
 /// The parts of a draft without a fault, with their nets in net order.
-fn renumbered(alloc: Global, draft: Parts, order: &[NetId]) -> Result<Parts, AllocError>
+fn in_net_order(alloc: Global, draft: Parts, order: &[NetId]) -> Result<Parts, AllocError>
     requires draft { IsDraft draft }
+    requires gaters { draft.gaters ≡ [] }
     requires order { order.now ≡ driving_nets draft }
     requires fault { fault_of draft ≡ None }
     ensures { IfOk result (λ parts. parts ≡ netlist_of draft) }
 {
     let places = places(alloc, draft.names.len(), order)?;
     let names = names_in_order(alloc, &draft.names, order)?;
+    Ok(with_numbers(alloc, draft, names, &places))
+}
+
+/// The parts of a draft with other numbers and names for their nets.
+fn with_numbers(alloc: Global, draft: Parts, names: NetNames, places: &[NetId]) -> Parts
+    requires draft { IsDraft draft }
+    requires places { length places.now ≡ length draft.names }
+    ensures { result ≡ renumbered (number_in places.now) names draft }
+{
     let Parts {
         model,
         names: _,
@@ -191,12 +206,12 @@ fn renumbered(alloc: Global, draft: Parts, order: &[NetId]) -> Result<Parts, All
         gaters: _,
         mut registers,
     } = draft;
-    let clock = first_clock(&places, &registers);
-    renumber(&places, &mut inputs);
-    renumber(&places, &mut outputs);
-    renumber_cells(&places, &mut cells);
-    renumber_registers(&places, &mut registers);
-    Ok(Parts {
+    let clock = first_clock(places, &registers);
+    renumber(places, &mut inputs);
+    renumber(places, &mut outputs);
+    renumber_cells(places, &mut cells);
+    renumber_registers(places, &mut registers);
+    Parts {
         model,
         names,
         inputs,
@@ -205,7 +220,7 @@ fn renumbered(alloc: Global, draft: Parts, order: &[NetId]) -> Result<Parts, All
         cells,
         gaters: Vec::new(alloc),
         registers,
-    })
+    }
 }
 
 /// The number of the net at the first clock pin, if there is one.

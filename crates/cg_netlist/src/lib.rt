@@ -22,11 +22,11 @@
 #![tactic(auto)]
 
 pub mod builder;
+mod draft_nets;
 pub mod fault;
+mod finish;
 pub mod history;
 pub mod id;
-mod draft_nets;
-mod finish;
 mod marks;
 mod names;
 mod net_set;

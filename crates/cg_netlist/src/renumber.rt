@@ -28,7 +28,11 @@ pub(crate) fn places(alloc: Global, count: usize, order: &[NetId]) -> Result<Vec
 }
 
 /// The names of the nets of an order, in which each stands once at most.
-pub(crate) fn names_in_order(alloc: Global, names: &NetNames, order: &[NetId]) -> Result<NetNames, AllocError>
+pub(crate) fn names_in_order(
+    alloc: Global,
+    names: &NetNames,
+    order: &[NetId],
+) -> Result<NetNames, AllocError>
     requires nets { All (λ net. net < length names.now) order.now }
     requires once { IsDistinct nat_eq order.now }
     requires different { AllPairs (λ name other. name ≢ other) names.now }

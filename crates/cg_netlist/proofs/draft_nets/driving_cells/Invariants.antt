@@ -6,5 +6,5 @@ use Rattle.cg_netlist.proofs.draft_nets.driving_cells.Given as goal
 abbrev pub invariant-loop-i : goal.invariant-loop-i
 invariant-loop-i l = record {
   fits : length l.drivers.items ≡ l.count;
-  tells : (net : ℕ) → net < l.count → entry l.drivers.items net ≡ driving_cell (take l.i l.cells) net
+  tells : (net : ℕ) → net < l.count → entry l.drivers.items net ≡ driving_cell (take l.i l.cells) net;
 }

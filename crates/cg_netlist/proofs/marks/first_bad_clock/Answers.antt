@@ -9,5 +9,5 @@ loop-net-preserved c =
     let net = c.loop-net.net in
     record {
       before = ap (λ b. b || get_or clocks net false) c.loop-net.invariant.before ∙ (ap (λ b. marked_before clocks net || b) (sym (marked_or clocks net)) ∙ sym (before_more clocks net));
-      good = good_more clocks c.args.inputs.now c.args.used.now net c.loop-net.before c.loop-net.invariant.before (sym c.is_bad.ensures ∙ c.if-is_bad.false) c.loop-net.invariant.good
+      good = good_more clocks c.args.inputs.now c.args.used.now net c.loop-net.before c.loop-net.invariant.before (sym c.is_bad.ensures ∙ c.if-is_bad.false) c.loop-net.invariant.good;
     }

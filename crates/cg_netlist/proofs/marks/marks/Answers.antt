@@ -15,6 +15,7 @@ loop-net-preserved c =
     let marks = c.loop-net.marks.items in
     let net = c.number.result in
     let at : slice_get nets i ≡ Some net = slice_get_read nets _ i c.net-item.result refl c.loop-net-test.true c.net-item.is ∙ ap (λ n. Some n) (sym c.number.ensures.number) in
-    let within : net < c.args.count = All-at nets c.args.count i net at c.requires in
-    (length-set marks net true ∙ c.loop-net.invariant.0,
-      subst (AreMarked (slice_set marks net true)) (sym (take_next nets i net at)) (marked_more marks marks (take i nets) net c.loop-net.invariant.1 (λ n. refl) (omega (arith, c.loop-net.invariant.0, within))))
+    let within : net < c.args.count = All-at nets c.args.count i net at c.requires in (
+      length-set marks net true ∙ c.loop-net.invariant.0,
+      subst (AreMarked (slice_set marks net true)) (sym (take_next nets i net at)) (marked_more marks marks (take i nets) net c.loop-net.invariant.1 (λ n. refl) (omega (arith, c.loop-net.invariant.0, within))),
+    )

@@ -1,9 +1,9 @@
 -- Registers meet the conditions of cells.
-use Rattle.std.proofs.Common.{◌≡◌, ◌≤◌, ◌<◌, ◌+◌, ◌-◌, ◌==◌, ℕ, suc, nat_le, nat_lt, Bool, true, false, cond, not, ◌&&◌, ◌||◌, IsTrue, List, [], ◌∷◌, ◌++◌, length, map, Option, None, Some, refl, sym, ap, ◌∙◌, subst, count_by, arith}
+use Rattle.std.proofs.Common.{◌≡◌, ◌≤◌, ◌<◌, ◌+◌, ◌==◌, ℕ, suc, nat_le, nat_lt, Bool, true, false, cond, ◌&&◌, ◌||◌, IsTrue, List, [], ◌∷◌, ◌++◌, length, map, Some, refl, ap, ◌∙◌, subst, count_by, arith}
 use Rattle.std.specs.List.{AllByRecursion}
 use Rattle.std.proofs.lemmas.Bool.Decides.{nat_tests}
-use Rattle.cg_cell.specs.Cell.{CellData, HasFlopPins, IsCell}
-use Rattle.cg_cell.specs.Name.{are_distinct, has_no_equals}
+use Rattle.cg_cell.specs.Cell.{IsCell}
+use Rattle.cg_cell.specs.Name.{has_no_equals}
 use Rattle.cg_cell.specs.Pins.{PinData, is_clock, is_data, is_state}
 use Rattle.cg_cell.specs.Term.{Term, Bit, Input, Inverse, Both, Either, Differ, is_within, lone_input}
 use Rattle.cg_cell.specs.declared.cell.CellKind.TheVariants as kinds

@@ -1,10 +1,10 @@
 -- Gating cells meet the conditions of cells.
-use Rattle.std.proofs.Common.{◌≡◌, ◌≤◌, ◌+◌, ℕ, suc, Bool, true, false, cond, not, ◌&&◌, ◌||◌, ◌==◌, IsTrue, List, [], ◌∷◌, ◌++◌, length, map, Option, None, Some, refl, sym, ap, ◌∙◌, subst, count_by, append_assoc, arith}
+use Rattle.std.proofs.Common.{◌≡◌, ℕ, suc, Bool, true, false, cond, ◌&&◌, ◌||◌, ◌==◌, IsTrue, List, [], ◌∷◌, ◌++◌, length, map, Option, None, Some, refl, sym, ap, ◌∙◌, subst, count_by, append_assoc, arith}
 use Rattle.std.specs.List.{AllByRecursion}
 use Rattle.std.specs.Option.{option_map}
 use Rattle.std.proofs.lemmas.Bool.Decides.{nat_tests}
-use Rattle.cg_cell.specs.Cell.{CellData, HasGaterPins, IsCell}
-use Rattle.cg_cell.specs.Name.{are_distinct, has_no_equals}
+use Rattle.cg_cell.specs.Cell.{IsCell}
+use Rattle.cg_cell.specs.Name.{has_no_equals}
 use Rattle.cg_cell.specs.Pins.{PinData, is_clock, is_enable, is_output, is_test}
 use Rattle.cg_cell.specs.declared.cell.CellKind.TheVariants as kinds
 use Rattle.cg_cell.specs.declared.cell.Role.{Role}

@@ -1,14 +1,13 @@
 -- Logic cells meet the conditions of cells.
-use Rattle.std.proofs.Common.{◌≡◌, ◌≤◌, ◌+◌, ℕ, suc, Bool, true, false, cond, not, ◌&&◌, ◌||◌, IsTrue, List, [], ◌∷◌, ◌++◌, length, map, Option, None, Some, refl, sym, ap, ◌∙◌, subst, count_by, arith}
+use Rattle.std.proofs.Common.{◌≡◌, ◌+◌, ℕ, suc, Bool, true, false, cond, ◌||◌, IsTrue, List, [], ◌∷◌, ◌++◌, length, map, Option, Some, refl, ap, ◌∙◌, subst, count_by, arith}
 use Rattle.std.specs.List.{AllByRecursion}
-use Rattle.cg_cell.specs.Cell.{CellData, HasLogicPins, IsCell}
-use Rattle.cg_cell.specs.Name.{are_distinct, has_no_equals}
+use Rattle.cg_cell.specs.Cell.{IsCell}
+use Rattle.cg_cell.specs.Name.{has_no_equals}
 use Rattle.cg_cell.specs.Pins.{PinData, is_data, is_output}
 use Rattle.cg_cell.specs.Term.{Term, is_within}
 use Rattle.cg_cell.specs.declared.cell.CellKind.TheVariants as kinds
-use Rattle.cg_cell.specs.declared.cell.Role.{Role}
 use Rattle.cg_cell.specs.declared.cell.Role.TheVariants as roles
-use Rattle.cg_liberty.specs.Kinds.{input_names, logic_pins, logic_role, output_texts, own_input, own_output}
+use Rattle.cg_liberty.specs.Kinds.{input_names, logic_pins, output_texts}
 use Rattle.cg_liberty.specs.Port.{ArePorts}
 use Rattle.cg_liberty.specs.declared.port.Port.{Port}
 use Rattle.cg_liberty.proofs.Counts.{count_by-cons}

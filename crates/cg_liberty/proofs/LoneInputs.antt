@@ -1,6 +1,6 @@
 -- Levels of operators that are one input and nothing else.
-use Rattle.std.proofs.Common.{◌≡◌, ℕ, zero, suc, true, false, List, [], ◌∷◌, Option, None, Some, refl}
-use Rattle.cg_cell.specs.Term.{Term, Bit, Input, Inverse, Both, Either, Differ, inverse_times, join_all, join_left, lone_input}
+use Rattle.std.proofs.Common.{◌≡◌, ℕ, zero, suc, true, false, List, [], ◌∷◌, None, refl}
+use Rattle.cg_cell.specs.Term.{Term, Bit, Both, Either, Differ, inverse_times, join_all, join_left, lone_input}
 use Rattle.cg_liberty.specs.Kinds.{lone_among}
 
 both_none : (s t : Term) (ts : List Term) → lone_input (join_left Both (Both s t) ts) ≡ None

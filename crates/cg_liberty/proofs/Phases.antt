@@ -1,11 +1,10 @@
 -- Arguments and values are read up to where they end.
-use Rattle.std.proofs.Common.{◌≡◌, ℕ, Bool, true, false, cond, not, ◌&&◌, List, [], ◌∷◌, refl, Result, Ok, Err, ◌∙◌, ap}
+use Rattle.std.proofs.Common.{◌≡◌, ℕ, Bool, true, false, cond, not, ◌&&◌, List, [], ◌∷◌, refl, Result, Ok, Err}
 use Rattle.cg_liberty.specs.Argument.{behind_arguments, behind_value, ends_value, is_close_paren, is_in_value, is_semicolon, may_follow, unexpected}
-use Rattle.cg_liberty.specs.Statement.{Phase, Read, begun, faulty, statements}
+use Rattle.cg_liberty.specs.Statement.{Read, begun, faulty, statements}
 use Rattle.cg_liberty.specs.Statement.Phase.{Listed, Listing, Start, Valued}
 use Rattle.cg_liberty.specs.declared.fault.TextFault.{TextFault}
 use Rattle.cg_liberty.specs.declared.lexeme.Kind.{Kind}
-use Rattle.cg_liberty.specs.declared.statement.Statement.{Statement}
 use Rattle.cg_liberty.specs.declared.token.Token.{Token}
 
 -- the statements of the tokens that are left, where there are any

@@ -4,7 +4,7 @@ use Rattle.std.specs.List.{AllByRecursion}
 use Rattle.std.specs.Option.{option_map}
 use Rattle.std.proofs.lemmas.Bool.Decides.{nat_tests}
 use Rattle.cg_cell.specs.Name.{are_distinct, has_no_equals, is_name}
-use Rattle.cg_liberty.specs.Port.{ArePorts, fit_together, is_pin_name, is_sound, pin_texts, ports_of, ports_that_fit, sound_ports}
+use Rattle.cg_liberty.specs.Port.{ArePorts, fit_together, is_sound, pin_texts, ports_of, ports_that_fit, sound_ports}
 use Rattle.cg_liberty.specs.declared.group.CellGroup.{CellGroup}
 use Rattle.cg_liberty.specs.declared.port.PinText.{PinText}
 use Rattle.cg_liberty.specs.declared.port.Port.{Port}

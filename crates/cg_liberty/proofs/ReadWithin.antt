@@ -3,12 +3,12 @@ use Rattle.std.proofs.Common.{◌≡◌, ℕ, suc, ◌<◌, ◌+◌, nat_lt, Boo
 use Rattle.std.specs.List.{position_from}
 use Rattle.std.specs.Str.{bytes_eq}
 use Rattle.std.proofs.lemmas.Bool.Decides.{nat_tests}
-use Rattle.cg_cell.specs.ExprReading.{Pending, OrLeft, AndLeft, XorLeft, Inversion, Bracket, Ended, inv_end, join_xor, join_and, join_or, xor_end, and_end, or_end, Mode, Expects, Has, leaf, constant, variable, has_leaf, opened, begin, closed, go_on, step, complete, finish, nesting, after, at_end, read_on, read_text}
+use Rattle.cg_cell.specs.ExprReading.{Pending, OrLeft, AndLeft, XorLeft, Inversion, Bracket, Ended, inv_end, join_xor, join_and, join_or, xor_end, and_end, or_end, Mode, Expects, Has, leaf, constant, variable, has_leaf, begin, closed, go_on, step, complete, nesting, after, at_end, read_on, read_text}
 use Rattle.cg_cell.specs.ExprTokens.{Sort, Token, Word, OrSign, AndSign, XorSign, NotSign, PrimeSign, OpenBracket, CloseBracket, Other, is_digit, is_letter, tokens_from}
 use Rattle.cg_cell.specs.Expr.{is_over, term_of}
 use Rattle.cg_cell.specs.declared.expr.Expr.{Expr}
 use Rattle.cg_cell.proofs.Terms.{says_term}
-use Rattle.cg_cell.specs.Term.{Term, Bit, Input, Inverse, Both, Either, Differ, is_within}
+use Rattle.cg_cell.specs.Term.{Term, Bit, Inverse, is_within}
 use Rattle.cg_cell.specs.declared.fault.ExprFault.{ExprFault}
 use Rattle.cg_cell.specs.declared.fault.ExprFault.TheVariants.{BadExpr, TooDeep}
 

@@ -1,5 +1,5 @@
 -- Expressions that are read one by one.
-use Rattle.std.proofs.Common.{◌≡◌, ℕ, Bool, List, [], ◌∷◌, ◌++◌, map, Option, Result, Ok, Err, refl, sym, ap, ◌∙◌, append_assoc}
+use Rattle.std.proofs.Common.{◌≡◌, ℕ, Bool, List, [], ◌∷◌, ◌++◌, Option, Result, Ok, Err, refl, append_assoc}
 use Rattle.std.specs.Option.{option_map}
 use Rattle.cg_cell.specs.Term.{Term}
 use Rattle.cg_liberty.specs.Reading.{reading, readings, then_read}

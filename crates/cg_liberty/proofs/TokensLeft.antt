@@ -1,10 +1,9 @@
 -- Tokens from a place on.
-use Rattle.std.proofs.Common.{◌≡◌, ℕ, zero, suc, ◌+◌, Bool, true, false, List, [], ◌∷◌, drop, refl, ap, ◌∙◌, arith}
+use Rattle.std.proofs.Common.{◌≡◌, ℕ, zero, suc, ◌+◌, Bool, true, false, List, [], ◌∷◌, drop, refl, ap, arith}
 use Rattle.cg_liberty.specs.Lexeme.{lexeme}
 use Rattle.cg_liberty.specs.Token.{token_text, tokens_from}
 use Rattle.cg_liberty.specs.declared.lexeme.Kind.{Kind}
 use Rattle.cg_liberty.specs.declared.lexeme.Kind.TheVariants as kinds
-use Rattle.cg_liberty.specs.declared.lexeme.Lexeme.{Lexeme}
 use Rattle.cg_liberty.specs.declared.lexeme.Lexeme.TheVariants as lexemes
 use Rattle.cg_liberty.specs.declared.token.Token.{Token}
 

@@ -1,7 +1,7 @@
 -- The cells of a library text.
-use Rattle.std.specs.Prelude.{◌≡◌, ℕ, zero, suc, Bool, true, false, cond, ◌||◌, List, [], ◌∷◌, ◌++◌, codes, Option, None, Some}
+use Rattle.std.specs.Prelude.{◌≡◌, ℕ, zero, suc, Bool, true, false, cond, ◌||◌, List, [], ◌∷◌, ◌++◌, codes, Option, Some}
 use Rattle.std.specs.Str.{bytes_eq}
-use Rattle.cg_liberty.specs.Group.{behind, flop_from, new_flop, new_pin, pin_from, stated}
+use Rattle.cg_liberty.specs.Group.{flop_from, new_flop, new_pin, pin_from, stated}
 use Rattle.cg_liberty.specs.Statement.{Read}
 use Rattle.cg_liberty.specs.declared.fault.ReadFault.{ReadFault}
 use Rattle.cg_liberty.specs.declared.fault.ReadFault.TheVariants as reads

@@ -1,5 +1,5 @@
 -- Groups of a library text, from the statements behind their `{`.
-use Rattle.std.specs.Prelude.{◌≡◌, ℕ, zero, suc, Bool, true, false, cond, List, [], ◌∷◌, ◌++◌, codes, Option, None, Some}
+use Rattle.std.specs.Prelude.{◌≡◌, ℕ, zero, suc, cond, List, [], ◌∷◌, codes, Option, None, Some}
 use Rattle.std.specs.Str.{bytes_eq}
 use Rattle.cg_liberty.specs.Statement.{Read}
 use Rattle.cg_liberty.specs.declared.group.FlopGroup.{FlopGroup}

@@ -1,7 +1,5 @@
 -- The kind of a cell, and with it its pins and its function.
-use Rattle.std.specs.Prelude.{ℕ, ◌+◌, ◌-◌, ◌==◌, nat_lt, nat_le, Bool, true, false, cond, not, ◌&&◌, ◌||◌, List, [], ◌∷◌, ◌++◌, map, length, count_by, codes, Option, None, Some, option_map, Result, Ok, Err}
-use Rattle.std.specs.List.{list_all, list_any}
-use Rattle.std.specs.Option.{is_some}
+use Rattle.std.specs.Prelude.{ℕ, ◌+◌, ◌-◌, ◌==◌, nat_lt, nat_le, Bool, true, false, cond, not, ◌&&◌, ◌||◌, List, [], ◌∷◌, ◌++◌, map, length, count_by, codes, Option, None, Some, option_map, Result, Ok}
 use Rattle.cg_cell.specs.Cell.{CellData}
 use Rattle.cg_cell.specs.Name.{are_distinct, is_name}
 use Rattle.cg_cell.specs.Pins.{PinData, is_clock, is_enable, is_output, is_state}

@@ -1,5 +1,5 @@
 -- What begins at a byte of a Liberty text, and how long it is.
-use Rattle.std.specs.Prelude.{ℕ, ◌+◌, ◌==◌, nat_le, Bool, true, false, cond, not, ◌&&◌, ◌||◌, List, [], ◌∷◌, slice_index, length, ◌≤◌, Option, None, Some, option_map}
+use Rattle.std.specs.Prelude.{ℕ, ◌+◌, ◌==◌, nat_le, Bool, false, cond, not, ◌&&◌, ◌||◌, List, [], ◌∷◌, slice_index, ◌≤◌, Option, None, Some, option_map}
 use Rattle.cg_liberty.specs.declared.lexeme.Kind.{Kind}
 use Rattle.cg_liberty.specs.declared.lexeme.Kind.TheVariants.{OpenBrace, CloseBrace, OpenParen, CloseParen, Colon, Semicolon, Comma, Quoted, Word}
 use Rattle.cg_liberty.specs.declared.lexeme.Lexeme.{Lexeme}

@@ -8,7 +8,7 @@ use Rattle.cg_cell.specs.declared.limit.Limit.TheVariants as limits
 use Rattle.cg_cell.specs.declared.library.Library.{Library}
 use Rattle.cg_liberty.specs.Cell.{cells_from}
 use Rattle.cg_liberty.specs.Kinds.{cell_of}
-use Rattle.cg_liberty.specs.Statement.{Read, statements}
+use Rattle.cg_liberty.specs.Statement.{statements}
 use Rattle.cg_liberty.specs.Statement.Phase.{Start}
 use Rattle.cg_liberty.specs.Token.{tokens}
 use Rattle.cg_liberty.specs.declared.fault.CellFault.{CellFault}

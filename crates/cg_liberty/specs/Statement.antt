@@ -1,5 +1,5 @@
 -- The statements of a Liberty text, from its tokens.
-use Rattle.std.specs.Prelude.{◌≡◌, ℕ, ◌+◌, ◌-◌, ◌==◌, ◌<◌, nat_lt, Bool, true, false, cond, not, ◌&&◌, ◌||◌, List, [], ◌∷◌, length, codes, Option, None, Some}
+use Rattle.std.specs.Prelude.{◌≡◌, ℕ, ◌+◌, ◌-◌, ◌==◌, ◌<◌, nat_lt, cond, not, ◌&&◌, ◌||◌, List, [], ◌∷◌, length, codes, Option, None, Some}
 use Rattle.std.specs.Str.{bytes_eq}
 use Rattle.cg_liberty.specs.Argument.{argument_texts, ends_value, is_close_brace, is_close_paren, is_colon, is_in_value, is_open_brace, is_open_paren, is_semicolon, is_word, may_follow, unexpected, value_text}
 use Rattle.cg_liberty.specs.declared.fault.TextFault.{TextFault}

@@ -1,5 +1,5 @@
 -- The bytes that a word or a string stands for.
-use Rattle.std.specs.Prelude.{ℕ, zero, suc, ◌+◌, ◌==◌, Bool, true, false, cond, List, [], ◌∷◌, ◌++◌, take, Option, None, Some}
+use Rattle.std.specs.Prelude.{ℕ, zero, suc, ◌==◌, Bool, true, false, cond, List, [], ◌∷◌, ◌++◌, take}
 use Rattle.std.specs.Option.{option_map_or}
 use Rattle.cg_liberty.specs.Lexeme.{join_length}
 

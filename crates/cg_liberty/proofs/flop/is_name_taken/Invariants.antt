@@ -1,9 +1,6 @@
 use Rattle.std.proofs.Common.{◌≡◌, drop}
 use Rattle.std.specs.List.{list_any}
 use Rattle.std.specs.Str.{bytes_eq}
-use Rattle.cg_cell.specs.Name.{are_distinct}
-use Rattle.cg_liberty.specs.Kinds.{all_known, inverses_read, output_texts}
-use Rattle.cg_liberty.proofs.Readings.{behind, known_behind}
 use Rattle.cg_liberty.proofs.flop.is_name_taken.Given as goal
 
 abbrev pub invariant-names : goal.invariant-names

@@ -1,7 +1,4 @@
-use Rattle.std.proofs.Common.{◌≡◌, ◌<◌, ◌+◌, length, IsTrue, subst, true, ap, sym, ◌∙◌, Bool}
 use Rattle.cg_cell.specs.Expr.{term_of}
-use Rattle.cg_cell.specs.Term.{is_within}
-use Rattle.cg_liberty.specs.Kinds.{are_flop_pins, flop_pins, input_names}
 use Rattle.cg_liberty.proofs.FlopCells.{flop_is_made}
 use Rattle.cg_liberty.proofs.flop.make_flop.Goals as goal
 

@@ -1,4 +1,4 @@
-use Rattle.std.proofs.Common.{◌≡◌, ◌+◌, ◌-◌, ◌*◌, false, drop}
+use Rattle.std.proofs.Common.{◌≡◌, drop}
 use Rattle.cg_liberty.specs.Lexeme.{longer, join_length}
 use Rattle.cg_liberty.proofs.lexeme.join_bytes.Given as goal
 

@@ -1,4 +1,4 @@
-use Rattle.std.proofs.Common.{◌≡◌, ◌+◌, ◌-◌, ◌*◌, false, drop}
+use Rattle.std.proofs.Common.{◌≡◌, false, drop}
 use Rattle.cg_liberty.specs.Lexeme.{longer, quoted_length}
 use Rattle.cg_liberty.proofs.lexeme.quoted_bytes.Given as goal
 

@@ -1,4 +1,4 @@
-use Rattle.std.proofs.Common.{◌≡◌, ◌++◌, ◌+◌, drop, length, map, All, IfSome, IsTrue, vec_len}
+use Rattle.std.proofs.Common.{◌≡◌, ◌+◌, drop, length, map, All, IfSome, IsTrue, vec_len}
 use Rattle.std.specs.Option.{option_map}
 use Rattle.cg_cell.specs.Expr.{term_of}
 use Rattle.cg_cell.specs.Term.{is_within}

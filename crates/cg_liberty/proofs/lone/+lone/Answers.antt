@@ -1,4 +1,4 @@
-use Rattle.std.proofs.Common.{rules, ◌≡◌, ℕ, List, true, false, ap, sym, ◌∙◌}
+use Rattle.std.proofs.Common.{◌≡◌, List, true, false, ap, sym, ◌∙◌}
 use Rattle.cg_cell.specs.Expr.{term_of, term_step, terms_of}
 use Rattle.cg_cell.specs.Term.{Term, Bit, Both, Either, Differ, inverse_times, join_all, lone_input}
 use Rattle.cg_cell.specs.declared.expr.Expr.{Expr}

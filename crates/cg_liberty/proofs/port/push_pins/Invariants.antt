@@ -1,6 +1,5 @@
 use Rattle.std.proofs.Common.{◌≡◌, ◌++◌, length, map}
 use Rattle.cg_liberty.specs.Port.{marks_of}
-use Rattle.cg_liberty.specs.declared.port.PinText.{PinText}
 use Rattle.cg_liberty.proofs.port.push_pins.Given as goal
 
 abbrev pub invariant-names : goal.invariant-names

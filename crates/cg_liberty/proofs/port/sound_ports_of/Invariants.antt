@@ -1,8 +1,5 @@
-use Rattle.std.proofs.Common.{◌≡◌, drop, map}
-use Rattle.std.specs.List.{list_any}
-use Rattle.std.specs.Str.{bytes_eq}
+use Rattle.std.proofs.Common.{◌≡◌}
 use Rattle.std.specs.Vec.Iter.{into_iter_items}
-use Rattle.cg_cell.specs.Name.{are_distinct}
 use Rattle.cg_liberty.specs.Port.{prepended, sound_ports}
 use Rattle.cg_liberty.proofs.port.sound_ports_of.Given as goal
 

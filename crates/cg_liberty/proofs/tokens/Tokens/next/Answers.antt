@@ -1,4 +1,4 @@
-use Rattle.std.proofs.Common.{◌≡◌, ◌+◌, ◌∷◌, ◌∙◌, sym, ap, arith, length, drop}
+use Rattle.std.proofs.Common.{◌∙◌, sym, ap, arith, length}
 use Rattle.std.proofs.lemmas.List.{length-drop}
 use Rattle.cg_liberty.proofs.TokensLeft.{blank_step, token_step}
 use Rattle.cg_liberty.proofs.tokens.Tokens.next.Goals as goal

@@ -34,4 +34,6 @@ pub mod netlist;
 pub mod parts;
 mod ranks;
 mod renumber;
+#[cfg(test)]
+mod tests;
 pub mod view;

@@ -1,0 +1,214 @@
+//! What drafts make, over a table of small ones.
+
+ghost use Rattle.std.specs.Prelude.{◌≡◌, None, OnOk};
+
+use crate::builder::Builder;
+use crate::fault::NetFault;
+use crate::id::NetId;
+use crate::netlist::Netlist;
+use cg_cell::cover::Cover;
+use cg_cell::name::Name;
+use std::alloc::{AllocError, Global};
+use std::test::Fail;
+
+/// A draft by the names of its nets: covers by their one input and their output, registers by input, output and clock.
+struct Draft {
+    inputs: &'static [&'static str],
+    outputs: &'static [&'static str],
+    covers: &'static [(&'static str, &'static str)],
+    registers: &'static [(&'static str, &'static str, &'static str)],
+}
+
+/// Drafts, and the nets of their netlists in net order or their first faults.
+static DRAFTS: [(Draft, &str); 9] = [
+    (
+        Draft {
+            inputs: &["a", "clk", "a"],
+            outputs: &["q", "q"],
+            covers: &[("a", "d")],
+            registers: &[("d", "q", "clk")],
+        },
+        " a clk d q",
+    ),
+    (
+        Draft {
+            inputs: &[],
+            outputs: &["a"],
+            covers: &[("b", "a"), ("a", "b")],
+            registers: &[],
+        },
+        "cycle a",
+    ),
+    (
+        Draft {
+            inputs: &["x", "z"],
+            outputs: &["y"],
+            covers: &[("x", "y"), ("z", "y")],
+            registers: &[],
+        },
+        "two drivers y",
+    ),
+    (
+        Draft {
+            inputs: &[],
+            outputs: &["y"],
+            covers: &[],
+            registers: &[],
+        },
+        "no driver y",
+    ),
+    (
+        Draft {
+            inputs: &["x", "z"],
+            outputs: &["w", "a", "y"],
+            covers: &[("b", "a"), ("a", "b"), ("x", "y"), ("z", "y")],
+            registers: &[],
+        },
+        "two drivers y",
+    ),
+    (
+        Draft {
+            inputs: &["d"],
+            outputs: &["q"],
+            covers: &[],
+            registers: &[("d", "q", "clk")],
+        },
+        "clock clk",
+    ),
+    (
+        Draft {
+            inputs: &["d", "one", "two"],
+            outputs: &["q"],
+            covers: &[],
+            registers: &[("d", "q", "two"), ("d", "p", "one")],
+        },
+        "clock two",
+    ),
+    (
+        Draft {
+            inputs: &["d", "clk"],
+            outputs: &["q", "clk"],
+            covers: &[],
+            registers: &[("d", "q", "clk")],
+        },
+        "clock clk",
+    ),
+    (
+        Draft {
+            inputs: &["d"],
+            outputs: &["b"],
+            covers: &[("d", "d")],
+            registers: &[],
+        },
+        "two drivers d",
+    ),
+];
+
+/// A name of the text.
+fn name(alloc: Global, text: &str) -> Result<Name, Fail> {
+    let bytes = text.as_bytes();
+    if Name::is_name(bytes) {
+        Ok(Name::new(alloc, bytes)?)
+    } else {
+        Err(Fail::new("no name"))
+    }
+}
+
+fn add_inputs(alloc: Global, builder: &mut Builder, nets: &[&str]) -> Result<(), Fail>
+    requires { builder.old.refused ≡ None }
+    ensures { OnOk result (builder.new.refused ≡ None) }
+{
+    for net in nets {
+        let net = name(alloc, net)?;
+        builder.input(net.bytes())?;
+    }
+    Ok(())
+}
+
+fn add_outputs(alloc: Global, builder: &mut Builder, nets: &[&str]) -> Result<(), Fail>
+    requires { builder.old.refused ≡ None }
+    ensures { OnOk result (builder.new.refused ≡ None) }
+{
+    for net in nets {
+        let net = name(alloc, net)?;
+        builder.output(net.bytes())?;
+    }
+    Ok(())
+}
+
+fn add_covers(alloc: Global, builder: &mut Builder, covers: &[(&str, &str)]) -> Result<(), Fail>
+    requires { builder.old.refused ≡ None }
+    ensures { OnOk result (builder.new.refused ≡ None) }
+{
+    for (input, output) in covers {
+        let inputs = [name(alloc, input)?];
+        let output = name(alloc, output)?;
+        builder.cover(&inputs, output.bytes(), Cover::new(Vec::new(alloc), true))?;
+    }
+    Ok(())
+}
+
+fn add_registers(
+    alloc: Global,
+    builder: &mut Builder,
+    registers: &[(&str, &str, &str)],
+) -> Result<(), Fail>
+    requires { builder.old.refused ≡ None }
+    ensures { OnOk result (builder.new.refused ≡ None) }
+{
+    for (input, output, clock) in registers {
+        let inputs = [name(alloc, input)?];
+        let outputs = [Some(name(alloc, output)?)];
+        let clock = name(alloc, clock)?;
+        builder.register(&inputs, &outputs, Some(clock.bytes()), 2)?;
+    }
+    Ok(())
+}
+
+fn finished(alloc: Global, draft: &Draft) -> Result<Result<Netlist, NetFault>, Fail> {
+    let model = name(alloc, "m")?;
+    let mut builder = Builder::new(alloc, model.bytes())?;
+    add_inputs(alloc, &mut builder, draft.inputs)?;
+    add_outputs(alloc, &mut builder, draft.outputs)?;
+    add_covers(alloc, &mut builder, draft.covers)?;
+    add_registers(alloc, &mut builder, draft.registers)?;
+    Ok(builder.finish())
+}
+
+/// A word and a name.
+fn told(alloc: Global, word: &str, name: &Name) -> Result<Vec<u8>, AllocError> {
+    let mut text = Vec::from_slice(alloc, word.as_bytes())?;
+    text.extend_from_slice(name.bytes())?;
+    Ok(text)
+}
+
+/// The nets of a netlist in net order, each behind a blank.
+fn nets_of(alloc: Global, netlist: &Netlist) -> Result<Vec<u8>, AllocError> {
+    let mut text = Vec::new(alloc);
+    for net in 0..netlist.nets() {
+        text.push(b' ')?;
+        text.extend_from_slice(netlist.name(NetId::new(net)))?;
+    }
+    Ok(text)
+}
+
+fn said(alloc: Global, made: Result<Netlist, NetFault>) -> Result<Vec<u8>, AllocError> {
+    match made {
+        Ok(netlist) => nets_of(alloc, &netlist),
+        Err(NetFault::TwoDrivers(name)) => told(alloc, "two drivers ", &name),
+        Err(NetFault::NoDriver(name)) => told(alloc, "no driver ", &name),
+        Err(NetFault::Cycle(name)) => told(alloc, "cycle ", &name),
+        Err(NetFault::ClockFault(name)) => told(alloc, "clock ", &name),
+        Err(NetFault::NoClock) => Vec::from_slice(alloc, b"no clock"),
+        Err(NetFault::NoMemory) => Vec::from_slice(alloc, b"no memory"),
+    }
+}
+
+#[test]
+fn drafts_make_netlists_or_name_their_first_fault(rt: HostRuntime) -> Result<(), Fail> {
+    for (draft, want) in &DRAFTS {
+        let said = said(rt.alloc(), finished(rt.alloc(), draft)?)?;
+        assert_eq!(rt; said.as_slice(), want.as_bytes());
+    }
+    Ok(())
+}

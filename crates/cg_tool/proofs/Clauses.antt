@@ -22,7 +22,10 @@ use Rattle.cg_tool.specs.declared.status.Status.{Status}
 use Rattle.cg_tool.specs.declared.status.Status.TheVariants as statuses
 use Rattle.cg_tool.specs.CommandLine.{JobWords}
 use Rattle.cg_tool.specs.Ends.{Ends, EndsJob, Finished, IsOrFails, IsOrNoMemory, KeepsOthers, RanOut, Refused, SaidInPart, Silent, StandsRefused, StoredOpen, ends_as}
-use Rattle.cg_tool.specs.Headline.{IsChecked, OnFinish}
+use Rattle.cg_netlist.specs.Canonical.{blif}
+use Rattle.cg_netlist.specs.PlainText.{PlainText}
+use Rattle.cg_tool.specs.Gate.{Gates, gated}
+use Rattle.cg_tool.specs.Headline.{IsChecked, IsGated, OnFinish}
 use Rattle.cg_tool.specs.Lrat.{Checks, check_finish, check_text, lrat_output}
 use Rattle.cg_tool.specs.Refusal.{status_of}
 use Rattle.cg_tool.specs.Run.{Cause, Complains, IsKnown, status_after}
@@ -216,3 +219,56 @@ job_checked job before after statuses.NoMemory tells ends mode = tt
 pub checked : (job : Option JobWords) (before after : World) (result : Status) → Ends job before after result → IsTrue before.tells → IfSome job (λ job. job.mode ≡ Lrat → OnFinish result (IsChecked job before after result))
 checked None before after result ends tells = tt
 checked (Some job) before after result ends tells = λ mode. job_checked job before after result tells ends mode
+
+-- a netlist that was gated, from what its run put out
+text_of : (P : List ℕ → Type 0) (loaded : Result (List ℕ) LoadFault) → IsOkAnd loaded P → (text : List ℕ) × (loaded ≡ Ok text) × P text
+text_of P (Ok text) known = (text, refl, known)
+text_of P (Err fault) known = absurd known
+
+stored_gated : (name : List ℕ) (stored : Option (List ℕ)) (bytes : List ℕ) (before after : World) → stored ≡ Some bytes → Holds name stored before after → after.held name ≡ Some bytes
+stored_gated name stored bytes before after is holds = let P : Option (List ℕ) → Type 0 = λ s. Holds name s before after in let held : Holds name (Some bytes) before after = subst P is holds in held.0
+
+gated_output : (job : JobWords) (before after : World) (output : Output) → IsOkAnd (loaded_of (before.held job.first)) (λ text. Gates text output) → Written job output before after → IsGated job before after (finish_status output.finish)
+gated_output job before after output known written =
+    let found : (text : List ℕ) × (loaded_of (before.held job.first) ≡ Ok text) × Gates text output = text_of (λ text. Gates text output) (loaded_of (before.held job.first)) known in
+    let gates : Gates found.0 output = found.2 in
+    let says_loaded : IsOkAnd (loaded_of (before.held job.first)) (λ text. PlainText text gates.read) = let P : Result (List ℕ) LoadFault → Type 0 = λ loaded. IsOkAnd loaded (λ text. PlainText text gates.read) in subst P (sym found.1) gates.says in
+    record {
+      read = gates.read;
+      written = gates.written;
+      says = held_as (λ text. PlainText text gates.read) (before.held job.first) says_loaded;
+      well_formed = gates.well_formed;
+      stored = stored_gated job.second output.stored (blif gates.written) before after (ap (λ (o : Output). o.stored) gates.is) written.held;
+      said = written.said ∙ ap (λ text. before.said ++ text) (ap (λ (o : Output). o.said) gates.is);
+      same = gates.same;
+      ends = ap finish_status (ap (λ (o : Output). o.finish) gates.is);
+    }
+
+gated_verdict : (job : JobWords) (v : Result Output Refusal) (finish : Finish) (before after : World) → IsOkAnd v (λ output. output.finish ≡ finish) → IsOkAnd v (IsKnown Gate (contents job before)) → IsOkAnd v (λ output. Written job output before after) → IsGated job before after (finish_status finish)
+gated_verdict job (Ok output) finish before after is known written = let P : Finish → Type 0 = λ f. IsGated job before after (finish_status f) in subst P is (gated_output job before after output known written)
+gated_verdict job (Err refusal) finish before after is known written = absurd is
+
+gated_finish : (job : JobWords) (finish : Finish) (before after : World) → job.mode ≡ Gate → IsTrue before.tells → Finished job finish before after → IsGated job before after (finish_status finish)
+gated_finish job finish before after mode tells finished =
+    let C : Contents → Type 0 = λ files. IsOkAnd (verdict job.mode files) (λ output. output.finish ≡ finish) in
+    let K : Contents → Type 0 = λ files. IsOkAnd (verdict job.mode files) (IsKnown job.mode files) in
+    let M : Mode → Type 0 = λ m. IsOkAnd (verdict job.mode (contents job before)) (IsKnown m (contents job before)) in
+    let W : Contents → Type 0 = λ files. IsOkAnd (verdict job.mode files) (λ output. Written job output before after) in
+    gated_verdict job (verdict job.mode (contents job before)) finish before after (subst C (finished.told tells) finished.cause) (subst M mode (subst K (finished.told tells) finished.known)) (subst W (finished.told tells) (finished.written tells))
+
+job_gated : (job : JobWords) (before after : World) (result : Status) → IsTrue before.tells → EndsJob job before after result → job.mode ≡ Gate → OnFinish result (IsGated job before after result)
+job_gated job before after statuses.Done tells ends mode = gated_finish job finishes.Done before after mode tells ends
+job_gated job before after statuses.Rejected tells ends mode = gated_finish job finishes.Rejected before after mode tells ends
+job_gated job before after statuses.Usage tells ends mode = tt
+job_gated job before after statuses.Netlist tells ends mode = tt
+job_gated job before after statuses.Library tells ends mode = tt
+job_gated job before after statuses.Stimulus tells ends mode = tt
+job_gated job before after statuses.ReadFault tells ends mode = tt
+job_gated job before after statuses.WriteFault tells ends mode = tt
+job_gated job before after statuses.Limit tells ends mode = tt
+job_gated job before after statuses.NoMemory tells ends mode = tt
+
+-- a finished run of `gate` gated
+pub gates : (job : Option JobWords) (before after : World) (result : Status) → Ends job before after result → IsTrue before.tells → IfSome job (λ job. job.mode ≡ Gate → OnFinish result (IsGated job before after result))
+gates None before after result ends tells = tt
+gates (Some job) before after result ends tells = λ mode. job_gated job before after result tells ends mode

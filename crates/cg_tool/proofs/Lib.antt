@@ -3,6 +3,7 @@ pub mod ReadingHalf
 pub mod Attempting
 pub mod Ending
 pub mod Promises
+pub mod Gating
 pub mod Clauses
 pub mod RowLemmas
 pub mod WritingLemmas

@@ -11,7 +11,8 @@ use Rattle.cg_tool.specs.declared.refusal.Step.TheVariants.{Reading, Storing, Sa
 use Rattle.cg_tool.specs.CommandLine.{JobWords, name_at}
 use Rattle.cg_tool.specs.Refusal.{faults_of}
 use Rattle.cg_tool.specs.Run.{PartCause, ReadsPart}
-use Rattle.cg_tool.specs.Verdict.{given, loaded_of, ◌>>=◌}
+use Rattle.cg_tool.specs.Verdict.{given, loaded_of}
+use Rattle.cg_tool.specs.Refusal.{◌>>=◌}
 use Rattle.cg_tool.specs.Worlds.{Gives, IsLoadRefusal, Untouched, gave, outcome_faults}
 
 -- a load that was refused is the cause of the refusal

@@ -24,7 +24,8 @@ use Rattle.cg_tool.specs.Gate.{gate_output, Gates}
 use Rattle.cg_tool.specs.Lrat.{Checks, formula_of, log_of, lrat_output}
 use Rattle.cg_tool.specs.Refusal.{faults_of}
 use Rattle.cg_tool.specs.Run.{PartCause, ReadCause, ReadsPart, Reads, IsLoaded}
-use Rattle.cg_tool.specs.Verdict.{Contents, contents, given, loaded_of, verdict, ◌>>=◌}
+use Rattle.cg_tool.specs.Verdict.{Contents, contents, given, loaded_of, verdict}
+use Rattle.cg_tool.specs.Refusal.{◌>>=◌}
 use Rattle.cg_tool.specs.Worlds.{Gives, Untouched, outcome_faults}
 use Rattle.cg_tool.proofs.Parts.{text_faults}
 

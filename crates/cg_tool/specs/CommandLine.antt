@@ -25,7 +25,7 @@ name_at job Second = job.second
 
 -- the mode that a word names
 abbrev pub mode_of : List ℕ → Option Mode
-mode_of word = if bytes_eq word (codes "lrat") then Some Lrat else None
+mode_of word = if bytes_eq word (codes "gate") then Some Gate else if bytes_eq word (codes "lrat") then Some Lrat else None
 
 -- a word names a file unless it begins with `-`
 abbrev pub is_file : List ℕ → Bool

@@ -10,6 +10,11 @@ use Rattle.cg_shelf.specs.World.{World}
 use Rattle.cg_tool.specs.declared.status.Status.{Status}
 use Rattle.cg_tool.specs.declared.status.Status.TheVariants as statuses
 use Rattle.cg_tool.specs.CommandLine.{JobWords}
+use Rattle.cg_netlist.specs.Canonical.{blif}
+use Rattle.cg_netlist.specs.Circuit.{Circuit}
+use Rattle.cg_netlist.specs.PlainText.{PlainText}
+use Rattle.cg_netlist.specs.WellFormed.{IsWellFormed}
+use Rattle.cg_tool.specs.Gate.{SameOutputs, stages_text}
 use Rattle.cg_tool.specs.Lrat.{check_finish, check_text}
 use Rattle.cg_tool.specs.Status.{finish_status}
 
@@ -31,3 +36,16 @@ pub record IsChecked (job : JobWords) (before after : World) (result : Status) :
   pub held : after.held ≡ before.held
   pub ends : result ≡ finish_status (check_finish (verdict formula log))
   pub sound : result ≡ statuses.Done → IsUnsatisfiable formula
+
+-- A netlist was gated: the bytes under the first name say a well-formed netlist in the plain form, the second name holds
+-- the canonical text of a netlist, and from every start of the registers and over every waveform that begins with the
+-- clock low, the outputs of the two are equal at every moment.
+pub record IsGated (job : JobWords) (before after : World) (result : Status) : Type 0 where
+  pub read : Circuit
+  pub written : Circuit
+  pub says : IsSomeAnd (before.held job.first) (λ text. PlainText text read)
+  pub well_formed : IsWellFormed read
+  pub stored : after.held job.second ≡ Some (blif written)
+  pub said : after.said ≡ before.said ++ stages_text
+  pub same : SameOutputs read written
+  pub ends : result ≡ statuses.Done

@@ -20,6 +20,7 @@ use Rattle.cg_lrat.specs.declared.dimacs.DimacsFault.TheVariants as dimacs_fault
 use Rattle.cg_lrat.specs.declared.lrat.LratFault.{LratFault}
 use Rattle.cg_lrat.specs.declared.lrat.LratFault.TheVariants as lrat_faults
 use Rattle.cg_tool.specs.declared.refusal.Step.TheVariants.{Reading}
+use Rattle.cg_tool.specs.Refusal.{refused_as}
 use Rattle.cg_tool.specs.declared.output.Finish.{Finish}
 use Rattle.cg_tool.specs.declared.output.Finish.TheVariants as finishes
 
@@ -58,11 +59,6 @@ formula_refusal dimacs_faults.NoMemory = refusals.NoMemory Reading
 abbrev pub log_refusal : LratFault → Refusal
 log_refusal (lrat_faults.BadLine line) = refusals.BadLine line
 log_refusal lrat_faults.NoMemory = refusals.NoMemory Reading
-
--- a fault of a text, as the refusal that it is
-abbrev pub refused_as : {T E : Type 0} → (E → Refusal) → Result T E → Result T Refusal
-refused_as refusal (Ok found) = Ok found
-refused_as refusal (Err fault) = Err (refusal fault)
 
 -- the formula of a text in DIMACS CNF, and the proof of a text in LRAT
 abbrev pub formula_of : List ℕ → Result Formula Refusal

@@ -1,5 +1,5 @@
 -- What a refusal of a job means: how the run ends, its line of complaint, and the failed call that it comes from.
-use Rattle.std.specs.Prelude.{ℕ, List, [], ◌∷◌, ◌++◌, codes, decimal}
+use Rattle.std.specs.Prelude.{ℕ, List, [], ◌∷◌, ◌++◌, codes, decimal, Result, Ok, Err}
 use Rattle.cg_cell.specs.declared.limit.Limit.{Limit}
 use Rattle.cg_cell.specs.declared.limit.Limit.TheVariants as limits
 use Rattle.cg_shelf.specs.declared.faults.Call.TheVariants.{Load, Store, Say}
@@ -54,6 +54,17 @@ complaint_line reason = codes "clockgate: " ++ reason ++ 10 ∷ []
 -- the line of complaint of a refusal of the job
 abbrev pub complaint_text : JobWords → Refusal → List ℕ
 complaint_text job refusal = complaint_line (reason_text job refusal)
+
+-- a fault of a text, as the refusal that it is
+abbrev pub refused_as : {T E : Type 0} → (E → Refusal) → Result T E → Result T Refusal
+refused_as refusal (Ok found) = Ok found
+refused_as refusal (Err fault) = Err (refusal fault)
+
+-- the rest of a job goes on with what was found so far, or the refusal stands
+infixl 10 ◌>>=◌
+abbrev pub ◌>>=◌ : {A B : Type 0} → Result A Refusal → (A → Result B Refusal) → Result B Refusal
+◌>>=◌ (Ok found) next = next found
+◌>>=◌ (Err refusal) next = Err refusal
 
 -- the failed calls that a refusal of the job comes from
 abbrev pub faults_of : JobWords → Refusal → List Fault

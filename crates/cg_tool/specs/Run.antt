@@ -21,7 +21,8 @@ use Rattle.cg_tool.specs.CommandLine.{JobWords, name_at}
 use Rattle.cg_tool.specs.Refusal.{status_of, complaint_text, complaint_line}
 use Rattle.cg_tool.specs.Gate.{Gates}
 use Rattle.cg_tool.specs.Lrat.{Checks}
-use Rattle.cg_tool.specs.Verdict.{Contents, contents, verdict, given, loaded_of, ◌>>=◌}
+use Rattle.cg_tool.specs.Verdict.{Contents, contents, verdict, given, loaded_of}
+use Rattle.cg_tool.specs.Refusal.{◌>>=◌}
 use Rattle.cg_shelf.specs.declared.faults.LoadFault.{LoadFault}
 use Rattle.cg_tool.specs.Worlds.{Untouched, Written, WrittenOpen, WrittenInPart, outcome_faults}
 

@@ -14,6 +14,7 @@ use Rattle.cg_tool.specs.declared.refusal.Refusal.TheVariants as refusals
 use Rattle.cg_tool.specs.declared.refusal.Step.TheVariants.{Reading}
 use Rattle.cg_tool.specs.CommandLine.{JobWords}
 use Rattle.cg_tool.specs.Gate.{gate_output}
+use Rattle.cg_tool.specs.Refusal.{◌>>=◌}
 use Rattle.cg_tool.specs.Lrat.{formula_of, log_of, lrat_output}
 
 -- what a load gives of the bytes that are held under a name: a file has at most 67,108,864 bytes
@@ -36,12 +37,6 @@ given place (Ok bytes) = Ok bytes
 given place (Err loads.Failed) = Err (refusals.ReadFault place)
 given place (Err loads.TooLong) = Err (refusals.Limit limits.File)
 given place (Err loads.NoMemory) = Err (refusals.NoMemory Reading)
-
--- the rest of a job goes on with what was found so far, or the refusal stands
-infixl 10 ◌>>=◌
-abbrev pub ◌>>=◌ : {A B : Type 0} → Result A Refusal → (A → Result B Refusal) → Result B Refusal
-◌>>=◌ (Ok found) next = next found
-◌>>=◌ (Err refusal) next = Err refusal
 
 -- What a job comes to. `gate` reads a netlist and puts out its gated form. `lrat` reads a formula, then a proof, each
 -- before the next is loaded, and says whether the proof is accepted.

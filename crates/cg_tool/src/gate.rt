@@ -1,19 +1,25 @@
 //! The mode `gate`: a netlist is read, and written with the same behaviour.
 
 ghost use Rattle.std.specs.Prelude.{◌≡◌, IfOk};
+ghost use Rattle.cg_netlist.specs.PlainText.{PlainText};
 ghost use Rattle.cg_tool.specs.CommandLine.{job_words};
-ghost use Rattle.cg_tool.specs.Gate.{gate_output, Gates};
+ghost use Rattle.cg_tool.specs.Gate.{gate_output, gated, netlist_of_text, Gates, SameOutputs};
 ghost use Rattle.cg_tool.specs.Run.{ReadsPart};
 ghost use Rattle.cg_tool.specs.Worlds.{Gives};
 ghost use Rattle.cg_tool.specs.declared.job.Place.TheVariants.{First};
 
+use crate::cg_blif::fault::BlifFault;
+use crate::cg_blif::reader::read_blif;
+use crate::cg_blif_out::write_blif;
 use crate::job::{Job, Place};
 use crate::loading::load;
-use crate::output::Output;
-use crate::refusal::Refusal;
+use crate::output::{Finish, Output};
+use crate::refusal::{Refusal, Step};
 use cg_list::Seq;
+use cg_netlist::history::one_lawful_history;
+use cg_netlist::netlist::Netlist;
 use cg_shelf::Shelf;
-use std::alloc::Global;
+use std::alloc::{AllocError, Global};
 
 /// Reads the netlist of the job, and answers what is to be put out.
 pub fn read<S: Shelf>(alloc: Global, shelf: &mut S, job: &Job<'_>) -> Result<Output, Refusal>
@@ -24,9 +30,42 @@ pub fn read<S: Shelf>(alloc: Global, shelf: &mut S, job: &Job<'_>) -> Result<Out
 }
 
 /// What the text of a netlist asks for.
-fn gate_text(_alloc: Global, _text: &Seq<u8>) -> Result<Output, Refusal>
-    ensures gives { Gives (gate_output _text.now) result }
-    ensures known { IfOk result (Gates _text.now) }
+fn gate_text(alloc: Global, text: &Seq<u8>) -> Result<Output, Refusal>
+    ensures gives { Gives (gate_output text.now) result }
+    ensures known { IfOk result (Gates text.now) }
 {
-    Err(Refusal::Netlist)
+    let netlist = read_netlist(alloc, text)?;
+    let output = gate_netlist(alloc, &netlist)?;
+    Ok(output)
+}
+
+fn read_netlist(alloc: Global, text: &Seq<u8>) -> Result<Netlist, Refusal>
+    ensures gives { Gives (netlist_of_text text.now) result }
+    ensures says { IfOk result (PlainText text.now) }
+{
+    match read_blif(alloc, text.as_slice()) {
+        Ok(netlist) => Ok(netlist),
+        Err(BlifFault::BadLine(_)) => Err(Refusal::Netlist),
+        Err(BlifFault::BadCover(_)) => Err(Refusal::Netlist),
+        Err(BlifFault::BadLatch(_)) => Err(Refusal::Netlist),
+        Err(BlifFault::SecondModel(_)) => Err(Refusal::Netlist),
+        Err(BlifFault::Net(_)) => Err(Refusal::Netlist),
+        Err(BlifFault::Limit(limit)) => Err(Refusal::Limit(limit)),
+        Err(BlifFault::NoMemory) => Err(Refusal::NoMemory(Step::Reading)),
+    }
+}
+
+/// What is put out of a netlist.
+fn gate_netlist(alloc: Global, netlist: &Netlist) -> Result<Output, AllocError>
+    ensures gated { IfOk result (λ output. output ≡ gated netlist.now) }
+    ensures same { SameOutputs netlist.now netlist.now }
+{
+    one_lawful_history(netlist);
+    let stored = Seq::from_vec(write_blif(alloc, netlist)?);
+    let said = Seq::from_vec(Vec::from_slice(alloc, b"stages 0 inserted 0\n")?);
+    Ok(Output {
+        stored: Some(stored),
+        said,
+        finish: Finish::Done,
+    })
 }

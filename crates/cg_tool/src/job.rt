@@ -67,6 +67,7 @@ fn read_mode(word: &str) -> Option<Mode>
     ensures { result ≡ mode_of word.now }
 {
     match word {
+        "gate" => Some(Mode::Gate),
         "lrat" => Some(Mode::Lrat),
         _ => None,
     }

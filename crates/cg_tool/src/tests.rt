@@ -203,6 +203,87 @@ fn formulas_and_failing_calls(rt: HostRuntime) -> Result<(), Fail> {
     Ok(())
 }
 
+const COMB: &str = ".model comb\n.inputs a b\n.outputs y\n.names a b y\n11 1\n.end\n";
+
+const HOLD: &str =
+    ".model hold1\n.inputs clk en d\n.outputs q\n.names en d q n\n11- 1\n0-1 1\n.latch n q re clk 0\n.end\n";
+
+const HELD: &str =
+    ".model hold1\n.inputs clk en d\n.outputs q\n.clock clk\n.names en d q n\n11- 1\n0-1 1\n.latch n q re clk 0\n.end\n";
+
+/// A netlist that is gated over a file of the text `old`, with calls that fail.
+fn gate<'a>(
+    netlist: &'a str,
+    failing: &'a [u64],
+    status: Status,
+    said: &'a str,
+    complained: &'a str,
+    stored: &'a str,
+) -> Case<'a> {
+    Case {
+        words: "gate A B",
+        first: netlist,
+        second: "old",
+        failing,
+        status,
+        said,
+        complained,
+        stored,
+    }
+}
+
+/// A text that is no netlist.
+fn faulty(netlist: &str) -> Case<'_> {
+    gate(
+        netlist,
+        &[],
+        Status::Netlist,
+        "",
+        "clockgate: netlist\n",
+        "old",
+    )
+}
+
+#[test]
+fn netlists(rt: HostRuntime) -> Result<(), Fail> {
+    let stages = "stages 0 inserted 0\n";
+    let cases = [
+        gate(COMB, &[], Status::Done, stages, "", COMB),
+        gate(HOLD, &[], Status::Done, stages, "", HELD),
+        faulty(".model cycle\n.inputs\n.outputs a\n.names b a\n1 1\n.names a b\n1 1\n.end\n"),
+        faulty(".model two\n.inputs x z\n.outputs y\n.names x y\n1 1\n.names z y\n1 1\n.end\n"),
+        faulty(".model none\n.inputs\n.outputs y\n.end\n"),
+        faulty(HELD),
+        faulty(""),
+        gate(
+            COMB,
+            &[0],
+            Status::ReadFault,
+            "",
+            "clockgate: read fault A\n",
+            "old",
+        ),
+        gate(
+            COMB,
+            &[1],
+            Status::WriteFault,
+            "",
+            "clockgate: write fault B\n",
+            "old",
+        ),
+        gate(
+            COMB,
+            &[2],
+            Status::WriteFault,
+            "",
+            "clockgate: write fault -\n",
+            COMB,
+        ),
+    ];
+    try_cases(&rt, rt.alloc(), &cases)?;
+    Ok(())
+}
+
 /// Words that the program does not take.
 fn refused(words: &str) -> Case<'_> {
     Case {
@@ -228,6 +309,7 @@ fn words(rt: HostRuntime) -> Result<(), Fail> {
         refused("lrat - B"),
         refused("lrat A -B"),
         refused("check A B"),
+        refused("gate B B"),
         refused("A B lrat"),
         Case {
             words: "lrat A missing",

@@ -4,7 +4,7 @@ ghost use Rattle.std.specs.Prelude.{◌≡◌, map, None, IsTrue, IfSome};
 ghost use Rattle.std.specs.String.{string_bytes};
 ghost use Rattle.cg_tool.specs.CommandLine.{job_of, job_words};
 ghost use Rattle.cg_tool.specs.Ends.{Ends, IsOrFails, IsOrNoMemory, KeepsOthers, ends_as};
-ghost use Rattle.cg_tool.specs.Headline.{IsChecked, OnFinish};
+ghost use Rattle.cg_tool.specs.Headline.{IsChecked, IsGated, OnFinish};
 ghost use Rattle.cg_tool.specs.Verdict.{contents, verdict};
 ghost use Rattle.cg_tool.specs.Run.{Reads, Attempts, Complains, Refuses, RunsJob, Runs};
 
@@ -33,6 +33,10 @@ pub fn run<S: Shelf>(alloc: Global, words: &[String], shelf: &mut S) -> Status
     // Every name but that of the stored file holds what it held.
     ensures others { IsTrue (S.world shelf.old).tells
         → KeepsOthers (job_of (map string_bytes words.now)) (S.world shelf.old) (S.world shelf.new) }
+
+    // `gate` writes a netlist whose outputs equal those of the one that it read, at every moment.
+    ensures gated { IsTrue (S.world shelf.old).tells → IfSome (job_of (map string_bytes words.now))
+        (λ job. job.mode ≡ Mode.Gate → OnFinish result (IsGated job (S.world shelf.old) (S.world shelf.new) result)) }
 
     // `lrat` checks the proof that it was given, and what it accepts has no satisfying assignment.
     ensures checked { IsTrue (S.world shelf.old).tells → IfSome (job_of (map string_bytes words.now))

@@ -2,7 +2,7 @@ use Rattle.std.proofs.Common.{◌≡◌, map, IsTrue}
 use Rattle.std.specs.String.{string_bytes}
 use Rattle.cg_tool.specs.CommandLine.{job_of}
 use Rattle.cg_tool.specs.Ends.{Ends}
-use Rattle.cg_tool.proofs.Clauses.{checked, comes, others, usage, usage_only}
+use Rattle.cg_tool.proofs.Clauses.{checked, comes, gates, others, usage, usage_only}
 use Rattle.cg_tool.proofs.Promises.{ends_of_run}
 use Rattle.cg_tool.proofs.top.run.Goals as goal
 
@@ -18,5 +18,6 @@ returns g c =
       usage_only = usage_only job before after c.run_words.result ends;
       comes = comes job before after c.run_words.result ends;
       others = others job before after c.run_words.result ends;
+      gated = gates job before after c.run_words.result ends;
       checked = checked job before after c.run_words.result ends;
     }

@@ -1,0 +1,37 @@
+-- What `gate` puts out, from the netlist that it read.
+use Rattle.std.proofs.Common.{◌≡◌, ℕ, List, Result, Ok, Err, refl, sym, ◌∙◌, ap, subst}
+use Rattle.cg_netlist.specs.Circuit.{Circuit}
+use Rattle.cg_netlist.specs.History.{HasOneHistory, IsLawful, IsStart, IsWaveform, Moment, Tick, outputs_of}
+use Rattle.cg_netlist.specs.PlainText.{PlainText}
+use Rattle.cg_tool.specs.declared.output.Output.{Output}
+use Rattle.cg_tool.specs.declared.refusal.Refusal.{Refusal}
+use Rattle.cg_tool.specs.declared.refusal.Refusal.TheVariants as refusals
+use Rattle.cg_tool.specs.declared.refusal.Step.TheVariants.{Reading, Storing, Saying}
+use Rattle.cg_tool.specs.Gate.{Gates, SameOutputs, gate_output, gated, netlist_of_text}
+use Rattle.cg_tool.specs.Refusal.{◌>>=◌}
+use Rattle.cg_tool.specs.Worlds.{Gives}
+
+-- a netlist behaves as itself, since it has one lawful history
+pub same_outputs : (c : Circuit) → HasOneHistory c → SameOutputs c c
+same_outputs c one = λ start wave is_start is_wave history gated lawful lawful_gated. ap (outputs_of c) (one start wave is_start is_wave history gated lawful lawful_gated)
+
+-- a text that is refused is refused so by what comes of it
+pub gives_refused : {T X : Type 0} (v : Result T Refusal) (next : T → Result X Refusal) (refusal : Refusal) → Gives v (Err refusal) → Gives (v >>= next) (Err refusal)
+gives_refused v next refusals.Netlist gives = ap (λ found. found >>= next) gives
+gives_refused v next refusals.BadHeader gives = ap (λ found. found >>= next) gives
+gives_refused v next (refusals.BadClause line) gives = ap (λ found. found >>= next) gives
+gives_refused v next (refusals.BadLine line) gives = ap (λ found. found >>= next) gives
+gives_refused v next (refusals.ReadFault place) gives = gives
+gives_refused v next refusals.StoreFault gives = gives
+gives_refused v next refusals.SayFault gives = gives
+gives_refused v next (refusals.Limit limit) gives = ap (λ found. found >>= next) gives
+gives_refused v next (refusals.NoMemory Reading) gives = gives
+gives_refused v next (refusals.NoMemory Storing) gives = gives
+gives_refused v next (refusals.NoMemory Saying) gives = gives
+
+-- what is put out of a netlist that was read
+pub gives_gated : (text : List ℕ) (c : Circuit) (output : Output) → netlist_of_text text ≡ Ok c → output ≡ gated c → gate_output text ≡ Ok output
+gives_gated text c output read is = let next : Circuit → Result Output Refusal = λ netlist. Ok (gated netlist) in ap (λ found. found >>= next) read ∙ ap (λ (o : Output). let found : Result Output Refusal = Ok o in found) (sym is)
+
+pub gates_text : (text : List ℕ) (c : Circuit) (output : Output) → PlainText text c → output ≡ gated c → SameOutputs c c → Gates text output
+gates_text text c output says is same = record { read = c; written = c; says = says; well_formed = says.says.formed; is = is; same = same }

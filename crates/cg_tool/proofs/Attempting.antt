@@ -1,17 +1,13 @@
 -- A job up to its complaint, from its reading half and its writes.
-use Rattle.std.proofs.Common.{◌≡◌, ◌≢◌, ℕ, Bool, IsTrue, List, [], ◌++◌, Option, None, Some, Result, Ok, Err, refl, sym, ◌∙◌, ap, subst}
+use Rattle.std.proofs.Common.{◌≡◌, ℕ, IsTrue, List, [], ◌++◌, Option, None, Some, Result, Ok, Err, refl, sym, ◌∙◌, ap, subst}
 use Rattle.std.specs.Prelude.{IsOk, IsOkAnd, IsSome}
 use Rattle.cg_shelf.specs.World.{World}
 use Rattle.cg_shelf.specs.Shelf.{SameBut, AppendsFront}
-use Rattle.cg_shelf.specs.declared.faults.Fault.{Fault}
 use Rattle.cg_tool.specs.declared.job.Mode.{Mode}
 use Rattle.cg_tool.specs.declared.output.Output.{Output}
 use Rattle.cg_tool.specs.declared.refusal.Refusal.{Refusal}
 use Rattle.cg_tool.specs.declared.refusal.Refusal.TheVariants as refusals
 use Rattle.cg_tool.specs.declared.refusal.Step.TheVariants.{Reading, Storing, Saying}
-use Rattle.cg_tool.specs.declared.output.Finish.{Finish}
-use Rattle.cg_tool.specs.Status.{finish_status}
-use Rattle.cg_tool.specs.declared.status.Status.{Status}
 use Rattle.cg_tool.specs.CommandLine.{JobWords}
 use Rattle.cg_tool.specs.Refusal.{faults_of}
 use Rattle.cg_tool.specs.Run.{Attempts, Cause, IsKnown, Leaves, ReadCause, Reads}

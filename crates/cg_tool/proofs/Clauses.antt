@@ -1,10 +1,9 @@
 -- What follows from how a run ends, clause by clause.
-use Rattle.std.proofs.Common.{◌≡◌, ◌≢◌, ℕ, Bool, true, false, IsTrue, List, [], ◌++◌, Option, None, Some, Result, Ok, Err, refl, sym, ◌∙◌, ap, subst, if◌then◌else◌, codes, nat_lt, length}
+use Rattle.std.proofs.Common.{◌≡◌, ◌≢◌, ℕ, Bool, true, false, IsTrue, List, ◌++◌, Option, None, Some, Result, Ok, Err, refl, sym, ◌∙◌, ap, subst, if◌then◌else◌, nat_lt, length}
 use Rattle.std.specs.Prelude.{IfSome, IsOkAnd, IsSomeAnd}
 use Rattle.cg_lrat.specs.Accepted.{verdict as check_verdict}
 use Rattle.cg_lrat.specs.DimacsText.{DimacsText}
 use Rattle.cg_lrat.specs.LratText.{LratText}
-use Rattle.cg_lrat.specs.Satisfiable.{IsUnsatisfiable}
 use Rattle.cg_shelf.specs.World.{World}
 use Rattle.cg_shelf.specs.declared.faults.LoadFault.{LoadFault}
 use Rattle.cg_shelf.specs.declared.faults.LoadFault.TheVariants as loads
@@ -21,14 +20,14 @@ use Rattle.cg_tool.specs.declared.refusal.Step.TheVariants.{Reading, Storing, Sa
 use Rattle.cg_tool.specs.declared.status.Status.{Status}
 use Rattle.cg_tool.specs.declared.status.Status.TheVariants as statuses
 use Rattle.cg_tool.specs.CommandLine.{JobWords}
-use Rattle.cg_tool.specs.Ends.{Ends, EndsJob, Finished, IsOrFails, IsOrNoMemory, KeepsOthers, RanOut, Refused, SaidInPart, Silent, StandsRefused, StoredOpen, ends_as}
+use Rattle.cg_tool.specs.Ends.{Ends, EndsJob, Finished, IsOrFails, IsOrNoMemory, KeepsOthers, Refused, SaidInPart, Silent, StandsRefused, StoredOpen, ends_as}
 use Rattle.cg_netlist.specs.Canonical.{blif}
-use Rattle.cg_netlist.specs.PlainText.{PlainText}
-use Rattle.cg_tool.specs.Gate.{Gates, gated}
+use Rattle.cg_tool.specs.Drafting.{netlist_said}
+use Rattle.cg_tool.specs.Gate.{Gates}
 use Rattle.cg_tool.specs.Headline.{IsChecked, IsGated, OnFinish}
-use Rattle.cg_tool.specs.Lrat.{Checks, check_finish, check_text, lrat_output}
+use Rattle.cg_tool.specs.Lrat.{Checks, check_finish, check_text}
 use Rattle.cg_tool.specs.Refusal.{status_of}
-use Rattle.cg_tool.specs.Run.{Cause, Complains, IsKnown, status_after}
+use Rattle.cg_tool.specs.Run.{Cause, IsKnown, status_after}
 use Rattle.cg_tool.specs.Status.{finish_status}
 use Rattle.cg_tool.specs.Verdict.{Contents, contents, loaded_of, verdict}
 use Rattle.cg_tool.specs.Worlds.{Holds, HoldsOpen, Written}
@@ -232,12 +231,13 @@ gated_output : (job : JobWords) (before after : World) (output : Output) → IsO
 gated_output job before after output known written =
     let found : (text : List ℕ) × (loaded_of (before.held job.first) ≡ Ok text) × Gates text output = text_of (λ text. Gates text output) (loaded_of (before.held job.first)) known in
     let gates : Gates found.0 output = found.2 in
-    let says_loaded : IsOkAnd (loaded_of (before.held job.first)) (λ text. PlainText text gates.read) = let P : Result (List ℕ) LoadFault → Type 0 = λ loaded. IsOkAnd loaded (λ text. PlainText text gates.read) in subst P (sym found.1) gates.says in
+    let says_loaded : IsOkAnd (loaded_of (before.held job.first)) (λ text. netlist_said text ≡ Ok gates.read) = let P : Result (List ℕ) LoadFault → Type 0 = λ loaded. IsOkAnd loaded (λ text. netlist_said text ≡ Ok gates.read) in subst P (sym found.1) gates.says in
     record {
       read = gates.read;
       written = gates.written;
-      says = held_as (λ text. PlainText text gates.read) (before.held job.first) says_loaded;
-      well_formed = gates.well_formed;
+      says = held_as (λ text. netlist_said text ≡ Ok gates.read) (before.held job.first) says_loaded;
+      some = gates.some;
+      one = gates.one;
       stored = stored_gated job.second output.stored (blif gates.written) before after (ap (λ (o : Output). o.stored) gates.is) written.held;
       said = written.said ∙ ap (λ text. before.said ++ text) (ap (λ (o : Output). o.said) gates.is);
       same = gates.same;

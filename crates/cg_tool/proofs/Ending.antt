@@ -1,5 +1,5 @@
 -- The end of a run, from its job and its complaint.
-use Rattle.std.proofs.Common.{◌≡◌, ℕ, Bool, true, false, List, Option, None, Some, Result, Ok, Err, refl, sym, ap, subst}
+use Rattle.std.proofs.Common.{◌≡◌, ℕ, true, false, List, Ok, Err, refl, subst}
 use Rattle.cg_shelf.specs.World.{World}
 use Rattle.cg_tool.specs.declared.refusal.Refusal.{Refusal}
 use Rattle.cg_tool.specs.declared.refusal.Refusal.TheVariants as refusals
@@ -10,7 +10,7 @@ use Rattle.cg_tool.specs.declared.status.Status.{Status}
 use Rattle.cg_tool.specs.declared.status.Status.TheVariants as statuses
 use Rattle.cg_tool.specs.CommandLine.{JobWords}
 use Rattle.cg_tool.specs.Refusal.{complaint_text, status_of}
-use Rattle.cg_tool.specs.Run.{Attempts, Complains, EndsAfter, Refuses, Runs, RunsJob}
+use Rattle.cg_tool.specs.Run.{Attempts, Complains, Refuses, RunsJob}
 
 -- a refusal's own line was complained
 pub refuses_so : (job : JobWords) (refusal : Refusal) (line : List ℕ) (status : Status) (before after : World) (result : Status) → line ≡ complaint_text job refusal → status ≡ status_of refusal → Complains line status before after result → Refuses job refusal before after result

@@ -1,14 +1,15 @@
 -- What `gate` puts out, from the netlist that it read.
-use Rattle.std.proofs.Common.{◌≡◌, ℕ, List, Result, Ok, Err, refl, sym, ◌∙◌, ap, subst}
+use Rattle.std.proofs.Common.{◌≡◌, ℕ, List, Result, Ok, Err, sym, ◌∙◌, ap, subst}
 use Rattle.cg_netlist.specs.Circuit.{Circuit}
-use Rattle.cg_netlist.specs.History.{HasOneHistory, IsLawful, IsStart, IsWaveform, Moment, Tick, outputs_of}
-use Rattle.cg_netlist.specs.PlainText.{PlainText}
+use Rattle.cg_netlist.specs.History.{HasHistory, HasOneHistory, outputs_of}
 use Rattle.cg_tool.specs.declared.output.Output.{Output}
 use Rattle.cg_tool.specs.declared.refusal.Refusal.{Refusal}
 use Rattle.cg_tool.specs.declared.refusal.Refusal.TheVariants as refusals
 use Rattle.cg_tool.specs.declared.refusal.Step.TheVariants.{Reading, Storing, Saying}
-use Rattle.cg_tool.specs.Gate.{Gates, SameOutputs, gate_output, gated, netlist_of_text}
-use Rattle.cg_tool.specs.Refusal.{◌>>=◌}
+use Rattle.cg_tool.specs.Gate.{Gates, SameOutputs, gate_output, gated, netlist_of_text, netlist_refusal}
+use Rattle.cg_tool.specs.Drafting.{draft_of, finished, go_on, netlist_said}
+use Rattle.cg_tool.specs.declared.cg_blif.fault.BlifFault.{BlifFault}
+use Rattle.cg_tool.specs.Refusal.{refused_as, ◌>>=◌}
 use Rattle.cg_tool.specs.Worlds.{Gives}
 
 -- a netlist behaves as itself, since it has one lawful history
@@ -29,9 +30,18 @@ gives_refused v next (refusals.NoMemory Reading) gives = gives
 gives_refused v next (refusals.NoMemory Storing) gives = gives
 gives_refused v next (refusals.NoMemory Saying) gives = gives
 
+-- a text that is read as a netlist says it
+said_by : (v : Result Circuit BlifFault) (c : Circuit) → refused_as netlist_refusal v ≡ Ok c → v ≡ Ok c
+said_by (Ok found) c read = cc
+said_by (Err fault) c read = cc
+
+-- reading goes on with the netlist of the draft
+pub gives_finished : (text : List ℕ) (draft : Circuit) (answer : Result Circuit Refusal) → draft_of text ≡ Ok draft → Gives (refused_as netlist_refusal (finished draft)) answer → Gives (netlist_of_text text) answer
+gives_finished text draft answer drafted gives = let P : Result Circuit BlifFault → Type 0 = λ v. Gives (refused_as netlist_refusal (go_on v finished)) answer in subst P (sym drafted) gives
+
 -- what is put out of a netlist that was read
 pub gives_gated : (text : List ℕ) (c : Circuit) (output : Output) → netlist_of_text text ≡ Ok c → output ≡ gated c → gate_output text ≡ Ok output
 gives_gated text c output read is = let next : Circuit → Result Output Refusal = λ netlist. Ok (gated netlist) in ap (λ found. found >>= next) read ∙ ap (λ (o : Output). let found : Result Output Refusal = Ok o in found) (sym is)
 
-pub gates_text : (text : List ℕ) (c : Circuit) (output : Output) → PlainText text c → output ≡ gated c → SameOutputs c c → Gates text output
-gates_text text c output says is same = record { read = c; written = c; says = says; well_formed = says.says.formed; is = is; same = same }
+pub gates_text : (text : List ℕ) (c : Circuit) (output : Output) → netlist_of_text text ≡ Ok c → output ≡ gated c → HasHistory c → HasOneHistory c → Gates text output
+gates_text text c output read is some one = record { read = c; written = c; says = said_by (netlist_said text) c read; some = some; one = one; is = is; same = same_outputs c one }

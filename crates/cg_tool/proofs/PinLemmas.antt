@@ -1,14 +1,13 @@
 -- Pins of placed cells, written one after another.
 use Rattle.std.proofs.Common.{◌≡◌, ℕ, Bool, true, false, ◌+◌, ◌<◌, ◌≤◌, List, [], ◌∷◌, ◌++◌, length, drop, get_or, map, codes, Option, None, Some, refl, sym, ap, ◌∙◌, ◌≢◌, add-one, drop-cons, append_assoc, append-nil, arith, nat_eq, if◌then◌else◌}
-use Rattle.std.specs.List.{flat_map}
 use Rattle.std.proofs.lemmas.Grind.{common_steps, flat_map-append}
 use Rattle.std.proofs.lemmas.List.Folds.{flat_map-map}
 use Rattle.std.proofs.lemmas.Bool.Decides.{nat_tests}
 use Rattle.cg_cell.specs.Pins.{PinData, is_data, is_output}
 use Rattle.cg_netlist.specs.Circuit.{RegisterCell}
 use Rattle.cg_netlist.specs.Canonical.{flop_pin, flop_pins, gater_pin, gater_pins, logic_pins, net_name, net_names, output_at}
-use Rattle.cg_netlist.specs.Statements.{Word, Statement, Gate, pin_word}
-use Rattle.cg_tool.specs.Writing.{pins_text, spaced, statement_text}
+use Rattle.cg_netlist.specs.Statements.{Word, Gate, pin_word}
+use Rattle.cg_tool.specs.Writing.{pins_text, statement_text}
 use Rattle.cg_tool.proofs.WritingLemmas.{line_text-spaced}
 
 -- a placed cell is one line: the command, the cell, and its pins

@@ -1,11 +1,10 @@
 -- How a run ends, status by status, from its job and its complaint.
-use Rattle.std.proofs.Common.{◌≡◌, ◌≢◌, ℕ, Bool, true, false, IsTrue, List, [], ◌++◌, Option, None, Some, Result, Ok, Err, refl, sym, ◌∙◌, ap, subst, if◌then◌else◌, codes}
+use Rattle.std.proofs.Common.{◌≡◌, ℕ, Bool, true, false, IsTrue, List, [], ◌++◌, Option, None, Some, Result, Ok, Err, refl, sym, ◌∙◌, ap, subst, if◌then◌else◌}
 use Rattle.std.specs.Prelude.{IsOkAnd}
 use Rattle.std.proofs.lemmas.List.{append-nil}
 use Rattle.cg_shelf.specs.World.{World}
 use Rattle.cg_shelf.specs.Shelf.{Appends, AppendsFront, SameBut, call_faults}
 use Rattle.cg_shelf.specs.declared.faults.Call.TheVariants.{Complain}
-use Rattle.cg_shelf.specs.declared.faults.Fault.{Fault}
 use Rattle.cg_shelf.specs.declared.faults.StoreFault.{StoreFault}
 use Rattle.cg_shelf.specs.declared.faults.StoreFault.TheVariants as stores
 use Rattle.cg_tool.specs.declared.output.Finish.{Finish}
@@ -18,11 +17,11 @@ use Rattle.cg_tool.specs.declared.status.Status.{Status}
 use Rattle.cg_tool.specs.declared.status.Status.TheVariants as statuses
 use Rattle.cg_tool.specs.CommandLine.{JobWords}
 use Rattle.cg_tool.specs.Ends.{Ends, EndsJob, Finished, RanOut, Refused, SaidInPart, Silent, StandsRefused, StoredOpen}
-use Rattle.cg_tool.specs.Refusal.{complaint_line, complaint_text, faults_of, status_of}
-use Rattle.cg_tool.specs.Run.{Attempts, Cause, Complains, EndsAfter, Leaves, Refuses, Runs, RunsJob, status_after}
+use Rattle.cg_tool.specs.Refusal.{complaint_text, status_of}
+use Rattle.cg_tool.specs.Run.{Attempts, Complains, EndsAfter, Leaves, Runs, status_after}
 use Rattle.cg_tool.specs.Status.{finish_status}
-use Rattle.cg_tool.specs.Verdict.{Contents, contents, verdict}
-use Rattle.cg_tool.specs.Worlds.{Holds, HoldsOpen, Untouched, Written, WrittenInPart, WrittenOpen}
+use Rattle.cg_tool.specs.Verdict.{verdict}
+use Rattle.cg_tool.specs.Worlds.{Holds, HoldsOpen, Untouched, WrittenInPart, WrittenOpen}
 
 -- what a complaint leaves alone stays as it stood
 holds_until : (name : List ℕ) (stored : Option (List ℕ)) (before between after : World) → after.held ≡ between.held → Holds name stored before between → Holds name stored before after

@@ -1,12 +1,11 @@
 -- The reading half of a job, from the reading of its files.
-use Rattle.std.proofs.Common.{◌≡◌, ℕ, Bool, IsTrue, List, [], ◌++◌, Option, None, Some, Result, Ok, Err, refl, sym, ◌∙◌, ap, subst}
+use Rattle.std.proofs.Common.{◌≡◌, ℕ, Bool, IsTrue, List, [], ◌++◌, Option, Result, Ok, Err, sym, ◌∙◌, ap, subst}
 use Rattle.std.proofs.lemmas.List.{append-nil}
 use Rattle.cg_lrat.specs.declared.formula.Formula.{Formula}
 use Rattle.cg_lrat.specs.declared.log.Log.{Log}
 use Rattle.cg_shelf.specs.World.{World}
 use Rattle.cg_shelf.specs.declared.faults.Fault.{Fault}
 use Rattle.cg_shelf.specs.declared.faults.LoadFault.{LoadFault}
-use Rattle.cg_tool.specs.declared.job.Mode.{Mode}
 use Rattle.cg_tool.specs.declared.job.Mode.TheVariants.{Gate, Lrat}
 use Rattle.cg_tool.specs.declared.job.Place.{Place}
 use Rattle.cg_tool.specs.declared.job.Place.TheVariants.{First, Second}
@@ -14,7 +13,7 @@ use Rattle.cg_tool.specs.declared.output.Output.{Output}
 use Rattle.cg_tool.specs.declared.refusal.Refusal.{Refusal}
 use Rattle.cg_tool.specs.declared.refusal.Refusal.TheVariants as refusals
 use Rattle.cg_tool.specs.declared.refusal.Step.TheVariants.{Reading, Storing, Saying}
-use Rattle.cg_tool.specs.CommandLine.{JobWords, name_at}
+use Rattle.cg_tool.specs.CommandLine.{JobWords}
 use Rattle.cg_lrat.specs.DimacsText.{DimacsText}
 use Rattle.cg_lrat.specs.LratText.{LratText}
 use Rattle.cg_lrat.specs.Satisfiable.{IsUnsatisfiable}
@@ -24,7 +23,7 @@ use Rattle.cg_tool.specs.Gate.{gate_output, Gates}
 use Rattle.cg_tool.specs.Lrat.{Checks, formula_of, log_of, lrat_output}
 use Rattle.cg_tool.specs.Refusal.{faults_of}
 use Rattle.cg_tool.specs.Run.{PartCause, ReadCause, ReadsPart, Reads, IsLoaded}
-use Rattle.cg_tool.specs.Verdict.{Contents, contents, given, loaded_of, verdict}
+use Rattle.cg_tool.specs.Verdict.{Contents, contents, given, loaded_of}
 use Rattle.cg_tool.specs.Refusal.{◌>>=◌}
 use Rattle.cg_tool.specs.Worlds.{Gives, Untouched, outcome_faults}
 use Rattle.cg_tool.proofs.Parts.{text_faults}

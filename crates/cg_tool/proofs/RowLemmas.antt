@@ -1,5 +1,5 @@
 -- Rows of a cover, read place by place.
-use Rattle.std.proofs.Common.{◌≡◌, ℕ, Bool, ◌+◌, ◌<◌, List, [], ◌∷◌, ◌++◌, length, drop, get_or, Option, None, Some, refl, ap, add-one, drop-cons, append_assoc}
+use Rattle.std.proofs.Common.{◌≡◌, ℕ, Bool, ◌+◌, ◌<◌, List, [], ◌∷◌, ◌++◌, length, drop, get_or, Option, None, Some, refl, add-one, drop-cons, append_assoc}
 use Rattle.std.specs.Option.{option_map, option_and_then}
 use Rattle.cg_tool.specs.Rows.{place_of, places_of}
 

@@ -1,5 +1,5 @@
 -- The last word of a list.
-use Rattle.std.proofs.Common.{◌≡◌, List, [], ◌∷◌, ◌++◌, Option, Some, refl, ap}
+use Rattle.std.proofs.Common.{◌≡◌, List, [], ◌∷◌, ◌++◌, Some, refl, ap}
 use Rattle.cg_netlist.specs.Statements.{Word}
 use Rattle.cg_tool.specs.Reading.{put_first, split_last}
 

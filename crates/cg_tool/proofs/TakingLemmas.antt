@@ -1,26 +1,24 @@
 -- Statements that are given to a builder, one after another.
-use Rattle.std.proofs.Common.{◌≡◌, ◌≢◌, ℕ, ◌+◌, ◌<◌, Bool, inl, inr, true, false, ◌&&◌, if◌then◌else◌, List, [], ◌∷◌, length, take, drop, get_or, Option, None, Some, Result, Ok, Err, refl, sym, ap, subst, ◌∙◌, add-one, drop-cons, arith}
+use Rattle.std.proofs.Common.{◌≡◌, ◌≢◌, ℕ, ◌+◌, ◌<◌, Bool, inl, inr, true, false, ◌&&◌, if◌then◌else◌, List, [], ◌∷◌, length, take, drop, get_or, Option, None, Some, Result, Ok, Err, refl, sym, ap, subst, ◌∙◌, add-one, drop-cons}
 use Rattle.cg_cell.specs.declared.limit.Limit.{Limit as ALimit}
 use Rattle.cg_netlist.specs.Circuit.{Circuit}
 use Rattle.cg_netlist.specs.Draft.{Adds, Building, IsAnswer, limit_passed, with_input, with_output}
 use Rattle.cg_netlist.specs.declared.fault.AddFault.{AddFault}
 use Rattle.cg_netlist.specs.declared.fault.AddFault.TheVariants as adds
-use Rattle.cg_netlist.specs.Statements.{Word, Statement}
+use Rattle.cg_netlist.specs.Statements.{Word}
 use Rattle.cg_tool.specs.declared.cg_blif.fault.BlifFault.{BlifFault}
 use Rattle.cg_tool.specs.declared.cg_blif.fault.BlifFault.TheVariants.{BadLine, BadCover, BadLatch, SecondModel, Net, Limit, NoMemory}
-use Rattle.cg_tool.specs.Drafting.{built, checked, go_on, within, with_inputs, with_outputs, with_statement}
+use Rattle.cg_tool.specs.Drafting.{built, checked, go_on, within, with_inputs, with_outputs}
 use Rattle.cg_tool.specs.Faults.{IsFaultOf, refused_by}
 use Rattle.cg_tool.specs.Latches.{word_at}
 use Rattle.cg_text.specs.declared.lines.Line.{Line}
 use Rattle.std.specs.List.{list_all}
 use Rattle.cg_tool.specs.declared.cg_blif.awaited.Awaited.{Awaited}
-use Rattle.cg_tool.specs.declared.cg_blif.awaited.Awaited.TheVariants as awaiteds
 use Rattle.cg_tool.specs.declared.cg_blif.command.Command.{Command}
 use Rattle.cg_tool.specs.declared.cg_blif.command.Command.TheVariants as commands
 use Rattle.cg_tool.specs.declared.cg_blif.lines.State.{State}
 use Rattle.cg_tool.specs.OpenCover.{CoverSoFar}
-use Rattle.cg_tool.specs.Reading.{Onward, Reading, Next, Refused, closed, put_row, read_lines, take_command, take_plain, take_row, take_words}
-use Rattle.cg_tool.specs.Rows.{with_row}
+use Rattle.cg_tool.specs.Reading.{Onward, Reading, Refused, closed, put_row, read_lines, take_command, take_plain, take_words}
 use Rattle.cg_tool.specs.Taking.{Makes, Takes}
 use Rattle.cg_tool.specs.Words.{command_of, is_plain}
 

@@ -9,7 +9,7 @@ use Rattle.cg_netlist.specs.Draft.{empty_draft, limit_passed, with_cover, with_i
 use Rattle.cg_netlist.specs.Finish.{fault_of, netlist_of}
 use Rattle.cg_netlist.specs.declared.fault.NetFault.{NetFault}
 use Rattle.cg_netlist.specs.PlainText.{plain_layout}
-use Rattle.cg_netlist.specs.Statements.{Word, Statement, Model, Inputs, Outputs, Clocks, Names, Latch, Gate, Skipped, End}
+use Rattle.cg_netlist.specs.Statements.{Word, Statement, Inputs, Outputs, Names, Latch}
 use Rattle.cg_tool.specs.declared.cg_blif.awaited.Awaited.TheVariants as awaiteds
 use Rattle.cg_tool.specs.declared.cg_blif.fault.BlifFault.{BlifFault}
 use Rattle.cg_tool.specs.declared.cg_blif.fault.BlifFault.TheVariants.{BadLine, Limit, Net}

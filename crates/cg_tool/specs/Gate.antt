@@ -1,10 +1,8 @@
 -- What `gate` puts out.
-use Rattle.std.specs.Prelude.{◌≡◌, ℕ, Bool, List, [], ◌∷◌, ◌++◌, codes, Option, None, Some, Result, Ok, Err}
+use Rattle.std.specs.Prelude.{◌≡◌, ℕ, Bool, List, [], ◌∷◌, ◌++◌, codes, Some, Result, Ok}
 use Rattle.cg_netlist.specs.Canonical.{blif}
 use Rattle.cg_netlist.specs.Circuit.{Circuit}
-use Rattle.cg_netlist.specs.History.{IsLawful, IsStart, IsWaveform, Moment, Tick, outputs_of}
-use Rattle.cg_netlist.specs.PlainText.{PlainText}
-use Rattle.cg_netlist.specs.WellFormed.{IsWellFormed}
+use Rattle.cg_netlist.specs.History.{HasHistory, HasOneHistory, IsLawful, IsStart, IsWaveform, Moment, Tick, outputs_of}
 use Rattle.cg_tool.specs.Drafting.{netlist_said}
 use Rattle.cg_tool.specs.Refusal.{refused_as, ◌>>=◌}
 use Rattle.cg_tool.specs.declared.cg_blif.fault.BlifFault.{BlifFault}
@@ -47,12 +45,13 @@ abbrev pub SameOutputs : Circuit → Circuit → Type 0
 SameOutputs read written = (start : List Bool) (wave : List Tick) → IsStart read start → IsWaveform read wave
     → (history gated : List Moment) → IsLawful read start wave history → IsLawful written start wave gated → outputs_of read history ≡ outputs_of written gated
 
--- What `gate` puts out of a text: the text says a netlist in the plain form, and that netlist is well formed. What is
--- stored is the canonical text of a netlist that behaves as the one that was read.
+-- What `gate` puts out of a text: the text says a netlist, which has exactly one lawful history for each start and
+-- waveform. What is stored is the canonical text of a netlist that behaves as the one that was read.
 pub record Gates (text : List ℕ) (output : Output) : Type 0 where
   pub read : Circuit
   pub written : Circuit
-  pub says : PlainText text read
-  pub well_formed : IsWellFormed read
+  pub says : netlist_said text ≡ Ok read
+  pub some : HasHistory read
+  pub one : HasOneHistory read
   pub is : output ≡ gated written
   pub same : SameOutputs read written

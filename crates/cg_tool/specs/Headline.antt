@@ -1,5 +1,5 @@
 -- What a finished run means to the one who asked for it.
-use Rattle.std.specs.Prelude.{◌≡◌, ℕ, List, [], ◌++◌, codes, Some, IsSomeAnd, ⊤}
+use Rattle.std.specs.Prelude.{◌≡◌, ◌++◌, Some, Ok, IsSomeAnd, ⊤}
 use Rattle.cg_lrat.specs.Accepted.{verdict}
 use Rattle.cg_lrat.specs.DimacsText.{DimacsText}
 use Rattle.cg_lrat.specs.LratText.{LratText}
@@ -12,8 +12,8 @@ use Rattle.cg_tool.specs.declared.status.Status.TheVariants as statuses
 use Rattle.cg_tool.specs.CommandLine.{JobWords}
 use Rattle.cg_netlist.specs.Canonical.{blif}
 use Rattle.cg_netlist.specs.Circuit.{Circuit}
-use Rattle.cg_netlist.specs.PlainText.{PlainText}
-use Rattle.cg_netlist.specs.WellFormed.{IsWellFormed}
+use Rattle.cg_netlist.specs.History.{HasHistory, HasOneHistory}
+use Rattle.cg_tool.specs.Drafting.{netlist_said}
 use Rattle.cg_tool.specs.Gate.{SameOutputs, stages_text}
 use Rattle.cg_tool.specs.Lrat.{check_finish, check_text}
 use Rattle.cg_tool.specs.Status.{finish_status}
@@ -37,14 +37,15 @@ pub record IsChecked (job : JobWords) (before after : World) (result : Status) :
   pub ends : result ≡ finish_status (check_finish (verdict formula log))
   pub sound : result ≡ statuses.Done → IsUnsatisfiable formula
 
--- A netlist was gated: the bytes under the first name say a well-formed netlist in the plain form, the second name holds
--- the canonical text of a netlist, and from every start of the registers and over every waveform that begins with the
--- clock low, the outputs of the two are equal at every moment.
+-- A netlist was gated: the bytes under the first name say a netlist, which has exactly one lawful history for each start
+-- and waveform; the second name holds the canonical text of a netlist; and from every start of the registers and over
+-- every waveform that begins with the clock low, the outputs of the two are equal at every moment.
 pub record IsGated (job : JobWords) (before after : World) (result : Status) : Type 0 where
   pub read : Circuit
   pub written : Circuit
-  pub says : IsSomeAnd (before.held job.first) (λ text. PlainText text read)
-  pub well_formed : IsWellFormed read
+  pub says : IsSomeAnd (before.held job.first) (λ text. netlist_said text ≡ Ok read)
+  pub some : HasHistory read
+  pub one : HasOneHistory read
   pub stored : after.held job.second ≡ Some (blif written)
   pub said : after.said ≡ before.said ++ stages_text
   pub same : SameOutputs read written

@@ -1,5 +1,5 @@
 -- A `.names` line with the rows behind it, as far as they were read.
-use Rattle.std.specs.Prelude.{◌≡◌, ℕ, ◌≤◌, Bool, true, List, [], ◌∷◌, length, unwrap_or, Option, None, Some}
+use Rattle.std.specs.Prelude.{◌≡◌, ◌≤◌, Bool, true, List, [], length, unwrap_or, Option, None}
 use Rattle.std.specs.List.{AllByRecursion}
 use Rattle.cg_cell.specs.Cover.{CoverData}
 use Rattle.cg_netlist.specs.Statements.{Word, Statement, Names}

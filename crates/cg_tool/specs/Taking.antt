@@ -1,5 +1,5 @@
 -- What taking parts and lines does to a builder.
-use Rattle.std.specs.Prelude.{◌≡◌, Option, None, Result, Ok, Err}
+use Rattle.std.specs.Prelude.{◌≡◌, None, Result, Ok, Err}
 use Rattle.cg_netlist.specs.Circuit.{Circuit}
 use Rattle.cg_netlist.specs.Draft.{Building}
 use Rattle.cg_tool.specs.declared.cg_blif.fault.BlifFault.{BlifFault}

@@ -1,5 +1,5 @@
 -- What a line is by its first word, and which words may stand in a line of the plain form.
-use Rattle.std.specs.Prelude.{ℕ, Bool, ◌==◌, ◌&&◌, if◌then◌else◌, List, slice_index, codes}
+use Rattle.std.specs.Prelude.{Bool, ◌==◌, ◌&&◌, if◌then◌else◌, slice_index, codes}
 use Rattle.std.specs.List.{list_all}
 use Rattle.std.specs.Str.{bytes_eq}
 use Rattle.cg_cell.specs.Name.{is_name}

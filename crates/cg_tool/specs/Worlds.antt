@@ -1,25 +1,18 @@
 -- What the parts of a run do to the shelf.
-use Rattle.std.specs.Prelude.{◌≡◌, ℕ, IsTrue, Bool, if◌then◌else◌, List, [], ◌++◌, Option, None, Some, Result, Ok, Err, IsOk, IsOkAnd, IsSome, ⊤}
+use Rattle.std.specs.Prelude.{◌≡◌, ℕ, List, [], ◌++◌, Option, None, Some, Result, Ok, Err, IsSome, ⊤}
 use Rattle.cg_cell.specs.declared.limit.Limit.TheVariants as limits
 use Rattle.cg_shelf.specs.World.{World}
-use Rattle.cg_shelf.specs.Shelf.{Appends, AppendsFront, SameBut, call_faults}
-use Rattle.cg_shelf.specs.declared.faults.Call.TheVariants.{Complain}
+use Rattle.cg_shelf.specs.Shelf.{AppendsFront, SameBut}
 use Rattle.cg_shelf.specs.declared.faults.Fault.{Fault}
 use Rattle.cg_shelf.specs.declared.faults.LoadFault.{LoadFault}
 use Rattle.cg_shelf.specs.declared.faults.LoadFault.TheVariants as loads
-use Rattle.cg_shelf.specs.declared.faults.StoreFault.{StoreFault}
-use Rattle.cg_shelf.specs.declared.faults.StoreFault.TheVariants as stores
-use Rattle.cg_tool.specs.declared.job.Mode.{Mode}
 use Rattle.cg_tool.specs.declared.job.Place.{Place}
 use Rattle.cg_tool.specs.declared.output.Output.{Output}
 use Rattle.cg_tool.specs.declared.refusal.Refusal.{Refusal}
 use Rattle.cg_tool.specs.declared.refusal.Refusal.TheVariants as refusals
 use Rattle.cg_tool.specs.declared.refusal.Step.TheVariants.{Reading, Storing, Saying}
-use Rattle.cg_tool.specs.declared.status.Status.{Status}
-use Rattle.cg_tool.specs.declared.status.Status.TheVariants as statuses
 use Rattle.cg_tool.specs.CommandLine.{JobWords}
-use Rattle.cg_tool.specs.Refusal.{faults_of, status_of, complaint_text, complaint_line}
-use Rattle.cg_tool.specs.Verdict.{Contents, contents, loaded_of, verdict}
+use Rattle.cg_tool.specs.Refusal.{faults_of}
 
 -- nothing was stored, said or complained
 pub record Untouched (before after : World) : Type 0 where

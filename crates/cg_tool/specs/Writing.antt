@@ -1,5 +1,5 @@
 -- The parts of the canonical text, as they are written one after another.
-use Rattle.std.specs.Prelude.{ℕ, Bool, List, [], ◌∷◌, ◌++◌, Option}
+use Rattle.std.specs.Prelude.{ℕ, Bool, List, ◌∷◌, Option}
 use Rattle.std.specs.List.{flat_map}
 use Rattle.cg_text.specs.Written.{text_of, line_text}
 use Rattle.cg_netlist.specs.Circuit.{Circuit}

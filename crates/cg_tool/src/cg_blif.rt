@@ -22,4 +22,4 @@ pub mod latch;
 mod lines;
 pub mod open_cover;
 mod parts;
-mod reader;
+pub mod reader;

@@ -1,21 +1,25 @@
 //! The mode `gate`: a netlist is read, and written with the same behaviour.
 
-ghost use Rattle.std.specs.Prelude.{◌≡◌, IfOk};
-ghost use Rattle.cg_netlist.specs.PlainText.{PlainText};
+ghost use Rattle.std.specs.Prelude.{◌≡◌, None, IfOk};
+ghost use Rattle.cg_netlist.specs.History.{HasHistory, HasOneHistory};
 ghost use Rattle.cg_tool.specs.CommandLine.{job_words};
-ghost use Rattle.cg_tool.specs.Gate.{gate_output, gated, netlist_of_text, Gates, SameOutputs};
+ghost use Rattle.cg_tool.specs.Gate.{gate_output, gated, netlist_of_text, netlist_refusal, Gates};
+ghost use Rattle.cg_tool.specs.Drafting.{finished};
+ghost use Rattle.cg_tool.specs.Refusal.{refused_as};
 ghost use Rattle.cg_tool.specs.Run.{ReadsPart};
 ghost use Rattle.cg_tool.specs.Worlds.{Gives};
 ghost use Rattle.cg_tool.specs.declared.job.Place.TheVariants.{First};
 
 use crate::cg_blif::fault::BlifFault;
-use crate::cg_blif::reader::read_blif;
+use crate::cg_blif::reader::draft;
 use crate::cg_blif_out::write_blif;
 use crate::job::{Job, Place};
 use crate::loading::load;
 use crate::output::{Finish, Output};
 use crate::refusal::{Refusal, Step};
 use cg_list::Seq;
+use cg_netlist::builder::Builder;
+use cg_netlist::fault::NetFault;
 use cg_netlist::history::one_lawful_history;
 use cg_netlist::netlist::Netlist;
 use cg_shelf::Shelf;
@@ -39,12 +43,12 @@ fn gate_text(alloc: Global, text: &Seq<u8>) -> Result<Output, Refusal>
     Ok(output)
 }
 
+/// Reads a netlist from its text.
 fn read_netlist(alloc: Global, text: &Seq<u8>) -> Result<Netlist, Refusal>
-    ensures gives { Gives (netlist_of_text text.now) result }
-    ensures says { IfOk result (PlainText text.now) }
+    ensures { Gives (netlist_of_text text.now) result }
 {
-    match read_blif(alloc, text.as_slice()) {
-        Ok(netlist) => Ok(netlist),
+    match draft(alloc, text.as_slice()) {
+        Ok(builder) => finish(builder),
         Err(BlifFault::BadLine(_)) => Err(Refusal::Netlist),
         Err(BlifFault::BadCover(_)) => Err(Refusal::Netlist),
         Err(BlifFault::BadLatch(_)) => Err(Refusal::Netlist),
@@ -55,10 +59,27 @@ fn read_netlist(alloc: Global, text: &Seq<u8>) -> Result<Netlist, Refusal>
     }
 }
 
+/// The netlist of the parts that a text said.
+fn finish(builder: Builder) -> Result<Netlist, Refusal>
+    requires { builder.refused ≡ None }
+    ensures { Gives (refused_as netlist_refusal (finished builder.draft)) result }
+{
+    match builder.finish() {
+        Ok(netlist) => Ok(netlist),
+        Err(NetFault::TwoDrivers(_)) => Err(Refusal::Netlist),
+        Err(NetFault::NoDriver(_)) => Err(Refusal::Netlist),
+        Err(NetFault::Cycle(_)) => Err(Refusal::Netlist),
+        Err(NetFault::ClockFault(_)) => Err(Refusal::Netlist),
+        Err(NetFault::NoClock) => Err(Refusal::Netlist),
+        Err(NetFault::NoMemory) => Err(Refusal::NoMemory(Step::Reading)),
+    }
+}
+
 /// What is put out of a netlist.
 fn gate_netlist(alloc: Global, netlist: &Netlist) -> Result<Output, AllocError>
     ensures gated { IfOk result (λ output. output ≡ gated netlist.now) }
-    ensures same { SameOutputs netlist.now netlist.now }
+    ensures some { HasHistory netlist.now }
+    ensures one { HasOneHistory netlist.now }
 {
     one_lawful_history(netlist);
     let stored = Seq::from_vec(write_blif(alloc, netlist)?);

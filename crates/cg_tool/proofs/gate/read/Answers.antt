@@ -1,4 +1,3 @@
-use Rattle.std.proofs.Common.{rules}
 use Rattle.std.proofs.lemmas.Result.{err_from_is_err_and}
 use Rattle.cg_tool.specs.CommandLine.{job_words}
 use Rattle.cg_tool.specs.Gate.{gate_output, Gates}

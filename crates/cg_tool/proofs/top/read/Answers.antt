@@ -1,4 +1,4 @@
-use Rattle.std.proofs.Common.{◌≡◌, sym, subst}
+use Rattle.std.proofs.Common.{sym, subst}
 use Rattle.cg_tool.specs.CommandLine.{job_words}
 use Rattle.cg_tool.specs.Run.{Reads}
 use Rattle.cg_tool.specs.declared.job.Mode.{Mode}

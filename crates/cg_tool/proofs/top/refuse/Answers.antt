@@ -1,4 +1,4 @@
-use Rattle.std.proofs.Common.{rules, refl}
+use Rattle.std.proofs.Common.{rules}
 use Rattle.cg_tool.specs.CommandLine.{job_words}
 use Rattle.cg_tool.proofs.Ending.{refuses_so}
 use Rattle.cg_tool.proofs.top.refuse.Goals as goal

@@ -1,4 +1,4 @@
-use Rattle.std.proofs.Common.{◌≡◌, map, IsTrue}
+use Rattle.std.proofs.Common.{map}
 use Rattle.std.specs.String.{string_bytes}
 use Rattle.cg_tool.specs.CommandLine.{job_of}
 use Rattle.cg_tool.specs.Ends.{Ends}

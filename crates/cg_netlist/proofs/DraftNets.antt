@@ -1,10 +1,10 @@
 -- Which nets a draft mentions where, and what drives them.
-use Rattle.std.proofs.Common.{ℕ, zero, suc, ◌+◌, ◌<◌, ◌≤◌, ◌≡◌, ◌≢◌, ◌⊎◌, inl, inr, Bool, true, false, not, ◌&&◌, ◌||◌, cond, ◌==◌, List, [], ◌∷◌, ◌++◌, Option, Some, None, map, length, take, set, get_or, replicate, unwrap_or, refl, sym, ap, ◌∙◌, subst, arith, nat_eq, append_assoc}
-use Rattle.std.specs.List.{slice_get, All, IsDistinct, filter_map, cons_option, flat_map, list_any, position_from}
+use Rattle.std.proofs.Common.{ℕ, zero, suc, ◌+◌, ◌<◌, ◌≤◌, ◌≡◌, ◌⊎◌, inl, inr, Bool, true, false, ◌||◌, cond, ◌==◌, List, [], ◌∷◌, ◌++◌, Option, Some, None, map, length, take, set, unwrap_or, refl, sym, ap, ◌∙◌, subst, arith, nat_eq}
+use Rattle.std.specs.List.{slice_get, All, IsDistinct, flat_map, list_any, position_from}
 use Rattle.std.specs.Option.{option_or}
 use Rattle.std.proofs.lemmas.Bool.{cases_Bool, eqb-true, eq-eqb, both_ways, or_cases, or_left, or_right}
 use Rattle.std.proofs.lemmas.Bool.Decides.{eqb_tells}
-use Rattle.std.proofs.lemmas.List.{length-set, append-nil, map-append, length-replicate}
+use Rattle.std.proofs.lemmas.List.{length-set}
 use Rattle.std.proofs.lemmas.List.Elements.{All-nil, All-append, All-map, All-weaker, All-head, All-tail}
 use Rattle.std.proofs.lemmas.Option.{same_Some}
 use Rattle.cg_netlist.specs.Circuit.{Circuit, LogicCell, RegisterCell, GatingCell, is_in, cell_nets, register_nets, shown_nets, used_nets}
@@ -12,8 +12,7 @@ use Rattle.cg_netlist.specs.Draft.{CellWithin, IsDraft, RegisterWithin, cell_men
 use Rattle.cg_netlist.specs.Finish.{clock_pins, driving_nets}
 use Rattle.cg_netlist.specs.Ranking.{entry}
 use Rattle.cg_netlist.specs.Ranks.{driving_cell}
-use Rattle.cg_netlist.proofs.Members.{distinct_head, distinct_tail, is_in_left, is_in_right, member_at}
-use Rattle.cg_netlist.proofs.RankingLemmas.{take_next}
+use Rattle.cg_netlist.proofs.Members.{distinct_head, distinct_tail, is_in_left, is_in_right}
 use Rattle.cg_netlist.proofs.TableLemmas.{entry-set_same, entry-set_other}
 
 -- what holds of each element of each list holds of each element of all

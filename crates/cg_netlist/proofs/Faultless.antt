@@ -1,17 +1,17 @@
 -- What a draft without a fault is: each net is driven exactly once, no cell lies behind a cycle, and there is one clock at most.
-use Rattle.std.proofs.Common.{ℕ, zero, suc, ◌+◌, ◌<◌, ◌≤◌, ◌≡◌, ◌≢◌, ◌⊎◌, inl, inr, Bool, true, false, not, ◌&&◌, ◌||◌, cond, List, [], ◌∷◌, ◌++◌, Option, Some, None, map, length, get_or, refl, sym, ap, ◌∙◌, subst, arith, nat_eq, nat_lt, is_none}
-use Rattle.std.specs.List.{slice_get, All, IsDistinct, count_by, find, flat_map, list_any, range_with_len}
-use Rattle.std.specs.Option.{option_map, option_map_or, option_or}
-use Rattle.std.proofs.lemmas.Bool.{cases_Bool, eqb-true, eq-eqb, both_ways, or_cases, or_left, or_right, or_parts, and_cases, cases_lt, ltb-true, lt-ltb, le-ltb, false_from_ne_true, not-true}
+use Rattle.std.proofs.Common.{ℕ, zero, suc, ◌+◌, ◌<◌, ◌≤◌, ◌≡◌, ◌≢◌, inl, inr, Bool, true, false, not, ◌&&◌, ◌||◌, cond, List, [], ◌∷◌, ◌++◌, Option, Some, None, map, length, refl, sym, ap, ◌∙◌, arith, nat_eq, nat_lt}
+use Rattle.std.specs.List.{All, IsDistinct, count_by, find, flat_map, list_any, range_with_len}
+use Rattle.std.specs.Option.{option_map, option_or}
+use Rattle.std.proofs.lemmas.Bool.{eqb-true, eq-eqb, both_ways, or_cases, or_left, or_right, cases_lt, ltb-true, lt-ltb, le-ltb, false_from_ne_true}
 use Rattle.std.proofs.lemmas.Bool.Decides.{eqb_tells}
 use Rattle.std.proofs.lemmas.List.Sums.{sum_by-cons}
 use Rattle.std.proofs.lemmas.List.Elements.{All-head, All-tail}
 use Rattle.cg_netlist.specs.declared.fault.NetFault.{NetFault}
 use Rattle.cg_netlist.specs.declared.fault.NetFault.TheVariants.{TwoDrivers, NoDriver, Cycle, ClockFault}
-use Rattle.cg_netlist.specs.Circuit.{Circuit, is_in, cell_nets, register_nets, used_nets, shown_nets}
+use Rattle.cg_netlist.specs.Circuit.{Circuit, is_in, cell_nets, register_nets, used_nets}
 use Rattle.cg_netlist.specs.Draft.{IsDraft}
 use Rattle.cg_netlist.specs.Finish.{clock_pins, driving_nets, fault_of, first_fault, first_net, is_bad_clock, is_behind_cycle, is_driven_twice, is_undriven}
-use Rattle.cg_netlist.proofs.DraftLemmas.{Place, AtInput, AtOutput, AtCell, AtRegister, place_of_mention}
+use Rattle.cg_netlist.proofs.DraftLemmas.{AtInput, AtOutput, AtCell, AtRegister, place_of_mention}
 use Rattle.cg_netlist.proofs.DraftNets.{AtData, AtShown, AtPin, cell_place, driving_within, pins_within, register_place, used_within}
 use Rattle.cg_netlist.proofs.MarkLemmas.{in_counts}
 use Rattle.cg_netlist.proofs.Members.{All-member, distinct_cons, is_in_left, is_in_right}

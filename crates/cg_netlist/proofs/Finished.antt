@@ -1,28 +1,28 @@
 -- The netlist of a draft without a fault is well formed.
-use Rattle.std.proofs.Common.{ℕ, zero, suc, ◌+◌, ◌<◌, ◌≤◌, ◌^◌, ◌≡◌, ◌≢◌, ◌⊎◌, inl, inr, Bool, true, false, not, cond, IsTrue, List, [], ◌∷◌, ◌++◌, Option, Some, None, map, length, get_or, unwrap_or, refl, sym, ap, ◌∙◌, subst, arith, nat_eq, is_none}
+use Rattle.std.proofs.Common.{ℕ, zero, suc, ◌+◌, ◌<◌, ◌≤◌, ◌^◌, ◌≡◌, ◌≢◌, inl, inr, Bool, true, false, IsTrue, List, [], ◌∷◌, ◌++◌, Option, Some, None, map, length, get_or, unwrap_or, refl, sym, ap, ◌∙◌, subst, arith, nat_eq, is_none}
 use Rattle.std.specs.List.{slice_get, slice_index, All, AllByRecursion, AllPairs, AllZip, IsDistinct, filter_map, cons_option, flat_map, range_with_len}
 use Rattle.std.specs.Option.{option_map, option_map_or, option_to_list}
-use Rattle.std.proofs.lemmas.Bool.{cases_Bool, both_ways, or_cases, or_left, or_right, eqb-true, eq-eqb, cases_lt, false_from_ne_true}
-use Rattle.std.proofs.lemmas.List.{append-nil, length-map, length-map}
-use Rattle.std.proofs.lemmas.List.Elements.{All-nil, All-cons, All-head, All-tail, All-map, All-weaker, All-get_or}
+use Rattle.std.proofs.lemmas.Bool.{both_ways, or_cases, or_left, or_right, eqb-true, eq-eqb, false_from_ne_true}
+use Rattle.std.proofs.lemmas.List.{length-map, length-map}
+use Rattle.std.proofs.lemmas.List.Elements.{All-nil, All-cons, All-map, All-weaker, All-get_or}
 use Rattle.std.proofs.lemmas.List.FromFn.{get_or-map-range_with_len, length-map-range_with_len}
 use Rattle.std.proofs.lemmas.Option.{slice_get_within, get_or_from_slice_get, slice_get-map, slice_get-get_or, same_Some, none-some, unwrap_or-slice_get}
 use Rattle.cg_cell.specs.Name.{is_name}
 use Rattle.cg_cell.specs.Pins.{PinData}
 use Rattle.cg_netlist.specs.Canonical.{net_name, net_names}
-use Rattle.cg_netlist.specs.Circuit.{Circuit, LogicCell, GatingCell, RegisterCell, is_in, cell_nets, register_nets, shown_nets, used_nets, clock_nets}
+use Rattle.cg_netlist.specs.Circuit.{Circuit, LogicCell, RegisterCell, is_in, cell_nets, register_nets, used_nets, clock_nets}
 use Rattle.cg_netlist.specs.Draft.{IsDraft}
 use Rattle.cg_netlist.specs.Finish.{clock_pins, driving_nets, fault_of, netlist_of, place_of, renumbered_cell, renumbered_register}
 use Rattle.cg_netlist.specs.Netlist.{IsNetlist}
-use Rattle.cg_netlist.specs.Ranks.{driving_cell, driving_cells, next_rank, rank_of, rank_within}
-use Rattle.cg_netlist.specs.WellFormed.{AreChained, AreRanks, FitsKind, IsOver, IsWellFormed, RegisterFits, ShowsAsPin}
+use Rattle.cg_netlist.specs.Ranks.{driving_cell, driving_cells, rank_of, rank_within}
+use Rattle.cg_netlist.specs.WellFormed.{FitsKind, IsOver, IsWellFormed, RegisterFits, ShowsAsPin}
 use Rattle.cg_netlist.specs.declared.parts.RegisterKind.{RegisterKind}
 use Rattle.cg_netlist.specs.declared.parts.RegisterKind.TheVariants.{Plain, Flop}
 use Rattle.cg_netlist.proofs.DraftNets.{drives_output, driving_within, output_in}
 use Rattle.cg_netlist.proofs.Driven.{driven_in_order}
-use Rattle.cg_netlist.proofs.Faultless.{all_driven, no_cycle, once, one_clock, proper, used_is_driven}
+use Rattle.cg_netlist.proofs.Faultless.{no_cycle, once, one_clock, proper, used_is_driven}
 use Rattle.cg_netlist.proofs.Members.{All-member, distinct_left, distinct_right, is_in_left, is_in_right, member_at, one_place}
-use Rattle.cg_netlist.proofs.NetOrder.{few_driving, from_mapped, in_mapped, in_order, place_within, same_place, used_renumbered}
+use Rattle.cg_netlist.proofs.NetOrder.{few_driving, from_mapped, in_order, place_within, same_place, used_renumbered}
 use Rattle.cg_netlist.proofs.PlaceLemmas.{same_net}
 use Rattle.cg_netlist.proofs.RankLemmas.{next_rank-below, next_rank-more}
 use Rattle.cg_netlist.proofs.SearchLemmas.{only}

@@ -1,20 +1,19 @@
 -- The nets of a draft without a fault, numbered in net order.
-use Rattle.std.proofs.Common.{ℕ, zero, suc, ◌+◌, ◌<◌, ◌≤◌, ◌≡◌, ◌≢◌, ◌⊎◌, inl, inr, Bool, true, false, not, cond, List, [], ◌∷◌, ◌++◌, Option, Some, None, map, length, get_or, unwrap_or, refl, sym, ap, ◌∙◌, subst, arith, nat_eq}
-use Rattle.std.specs.List.{slice_get, All, IsDistinct, filter, flat_map, position_or_len, range_with_len}
+use Rattle.std.proofs.Common.{ℕ, ◌<◌, ◌≤◌, ◌≡◌, inl, inr, Bool, true, false, not, cond, List, [], ◌∷◌, ◌++◌, Option, Some, None, map, length, get_or, refl, sym, ap, ◌∙◌, nat_eq}
+use Rattle.std.specs.List.{slice_get, IsDistinct, filter, flat_map, position_or_len, range_with_len}
 use Rattle.std.specs.Option.{option_map, option_to_list}
 use Rattle.std.proofs.lemmas.Bool.{both_ways, or_cases, or_left, or_right, eqb-true, eq-eqb}
 use Rattle.std.proofs.lemmas.List.{append-nil, map-append, map-id, length-map}
-use Rattle.std.proofs.lemmas.List.Elements.{All-nil, All-cons, All-head, All-tail}
 use Rattle.std.proofs.lemmas.List.FromFn.{fill_by_all}
 use Rattle.std.proofs.lemmas.Map.Steps.{length-le_from_distinct_below}
 use Rattle.std.proofs.lemmas.Option.{slice_get_within, get_or_from_slice_get, slice_get-map, slice_get-get_or, same_Some}
-use Rattle.cg_netlist.specs.Circuit.{Circuit, LogicCell, RegisterCell, is_in, cell_nets, register_nets, shown_nets, used_nets, net_order}
+use Rattle.cg_netlist.specs.Circuit.{Circuit, LogicCell, RegisterCell, is_in, cell_nets, register_nets, shown_nets}
 use Rattle.cg_netlist.specs.Draft.{IsDraft}
 use Rattle.cg_netlist.specs.Finish.{clock_pins, driving_nets, fault_of, netlist_of, place_of, renumbered_cell, renumbered_register}
 use Rattle.cg_netlist.specs.WellFormed.{IsInNetOrder}
 use Rattle.cg_netlist.proofs.DraftNets.{driving_within}
-use Rattle.cg_netlist.proofs.Faultless.{all_driven, once, proper}
-use Rattle.cg_netlist.proofs.Members.{All-member, is_in_left, member_at, place_of_member}
+use Rattle.cg_netlist.proofs.Faultless.{once, proper}
+use Rattle.cg_netlist.proofs.Members.{All-member, member_at, place_of_member}
 use Rattle.cg_netlist.proofs.PlaceLemmas.{place_is}
 
 -- a net that is in a list stands in the mapped list under its number

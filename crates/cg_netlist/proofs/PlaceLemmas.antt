@@ -1,17 +1,16 @@
 -- Lemmas on the places of nets in an order.
-use Rattle.std.proofs.Common.{ℕ, zero, suc, ◌+◌, ◌<◌, ◌≤◌, ◌≡◌, ◌≢◌, ◌⊎◌, inl, inr, Bool, true, false, not, cond, List, [], ◌∷◌, ◌++◌, Option, Some, None, map, length, take, drop, set, get_or, unwrap_or, refl, sym, ap, ◌∙◌, subst, arith, nat_eq}
-use Rattle.std.specs.List.{slice_get, All, AllPairs, IsDistinct, position_or_len, range_with_len}
+use Rattle.std.proofs.Common.{ℕ, zero, suc, ◌+◌, ◌<◌, ◌≡◌, ◌≢◌, inl, inr, true, false, not, cond, List, [], ◌∷◌, Option, Some, None, length, take, set, get_or, unwrap_or, refl, sym, ap, ◌∙◌, subst, arith, nat_eq}
+use Rattle.std.specs.List.{slice_get, All, AllPairs, IsDistinct, position_or_len}
 use Rattle.std.specs.Option.{option_map}
 use Rattle.std.proofs.lemmas.Bool.{cases_Bool, eqb-true, eq-eqb, both_ways, cases_lt}
 use Rattle.std.proofs.lemmas.Bool.Decides.{eqb_tells}
-use Rattle.std.proofs.lemmas.List.{length-set, length-take, map-append}
-use Rattle.std.proofs.lemmas.List.Elements.{All-get_or}
-use Rattle.std.proofs.lemmas.Option.{slice_get_within, get_or_from_slice_get, slice_get-map, unwrap_or-slice_get, same_Some}
+use Rattle.std.proofs.lemmas.List.{length-set, map-append}
+use Rattle.std.proofs.lemmas.Option.{slice_get-map, unwrap_or-slice_get, same_Some}
 use Rattle.cg_netlist.specs.Canonical.{net_name, net_names}
 use Rattle.cg_netlist.specs.Circuit.{is_in}
 use Rattle.cg_netlist.specs.Names.{is_known, with_name}
 use Rattle.cg_netlist.specs.Places.{number_in}
-use Rattle.cg_netlist.proofs.Members.{distinct_head, distinct_tail, member_at, one_place, place_of_member}
+use Rattle.cg_netlist.proofs.Members.{distinct_head, distinct_tail, member_at, one_place}
 use Rattle.cg_netlist.proofs.DraftLemmas.{known_at}
 use Rattle.cg_netlist.proofs.MarkLemmas.{All-at}
 use Rattle.cg_netlist.proofs.NameLemmas.{with_name-unknown}

@@ -1,9 +1,9 @@
 -- A table that has for each driven net its place numbers the nets of a draft in net order.
-use Rattle.std.proofs.Common.{ℕ, zero, suc, ◌≡◌, ◌<◌, Bool, true, List, [], ◌∷◌, ◌++◌, Option, Some, None, map, length, refl, sym, ap, ◌∙◌, subst, nat_eq}
+use Rattle.std.proofs.Common.{ℕ, ◌≡◌, Bool, true, List, [], ◌∷◌, ◌++◌, Option, Some, None, map, refl, sym, ap, ◌∙◌, subst, nat_eq}
 use Rattle.std.specs.List.{slice_get, All, flat_map}
 use Rattle.std.specs.Option.{option_map}
 use Rattle.std.proofs.lemmas.Bool.{or_left, or_right, eq-eqb}
-use Rattle.cg_netlist.specs.Circuit.{Circuit, LogicCell, RegisterCell, is_in, cell_nets, register_nets, shown_nets, used_nets}
+use Rattle.cg_netlist.specs.Circuit.{Circuit, LogicCell, RegisterCell, is_in, cell_nets, register_nets, shown_nets}
 use Rattle.cg_netlist.specs.Draft.{CellWithin, IsDraft}
 use Rattle.cg_netlist.specs.Finish.{clock_pins, driving_nets, fault_of, place_of, renumbered, renumbered_cell, renumbered_register}
 use Rattle.cg_netlist.proofs.Faultless.{proper, used_is_driven}

@@ -1,5 +1,5 @@
 -- What a draft makes: the first of its faults, or the netlist that it is a draft of.
-use Rattle.std.specs.Prelude.{◌≡◌, ◌⊎◌, ℕ, nat_lt, nat_eq, Bool, true, false, not, ◌&&◌, ◌||◌, List, [], ◌∷◌, ◌++◌, map, length, slice_get, Option, None, Some, is_none, Result, MatchResult}
+use Rattle.std.specs.Prelude.{◌≡◌, ◌⊎◌, ℕ, nat_lt, nat_eq, Bool, false, not, ◌&&◌, ◌||◌, List, [], ◌++◌, map, length, slice_get, Option, None, Some, is_none, Result, MatchResult}
 use Rattle.std.specs.List.{count_by, find, list_any, position_or_len, range_with_len}
 use Rattle.std.specs.Option.{option_map, option_map_or, option_or}
 use Rattle.cg_netlist.specs.declared.fault.NetFault.{NetFault}

@@ -1,5 +1,5 @@
 -- The numbers that nets get in an order.
-use Rattle.std.specs.Prelude.{◌≡◌, ℕ, ◌<◌, true, List, length, slice_get, unwrap_or, nat_eq}
+use Rattle.std.specs.Prelude.{◌≡◌, ℕ, true, List, length, slice_get, unwrap_or, nat_eq}
 use Rattle.std.specs.List.{position_or_len}
 use Rattle.cg_netlist.specs.Circuit.{is_in}
 

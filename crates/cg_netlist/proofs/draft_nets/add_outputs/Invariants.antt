@@ -1,4 +1,4 @@
-use Rattle.std.proofs.Common.{◌≡◌, ◌++◌, map, take, length}
+use Rattle.std.proofs.Common.{◌≡◌, ◌++◌, map, take}
 use Rattle.cg_netlist.proofs.draft_nets.add_outputs.Given as goal
 
 abbrev pub invariant-loop-output : goal.invariant-loop-output

@@ -1,4 +1,4 @@
-use Rattle.std.proofs.Common.{◌≡◌, ◌++◌, map, take, length}
+use Rattle.std.proofs.Common.{◌≡◌, map, take}
 use Rattle.cg_netlist.proofs.draft_nets.nets_at_clock_pins.Given as goal
 
 abbrev pub invariant-loop-register : goal.invariant-loop-register

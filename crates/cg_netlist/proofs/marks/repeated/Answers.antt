@@ -1,4 +1,4 @@
-use Rattle.std.proofs.Common.{◌≡◌, ◌||◌, ◌<◌, ◌+◌, Some, true, refl, sym, ◌∙◌, ap, subst, take, length, arith}
+use Rattle.std.proofs.Common.{◌≡◌, ◌||◌, ◌<◌, ◌+◌, Some, true, refl, sym, ◌∙◌, ap, subst, take, arith}
 use Rattle.std.specs.List.{slice_get, slice_set}
 use Rattle.std.proofs.lemmas.Option.{slice_get_read}
 use Rattle.cg_netlist.specs.Marks.{is_marked}

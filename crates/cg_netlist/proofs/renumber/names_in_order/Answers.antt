@@ -1,7 +1,6 @@
-use Rattle.std.proofs.Common.{◌≡◌, Some, refl, sym, ◌∙◌, ap, take}
+use Rattle.std.proofs.Common.{◌≡◌, Some, refl, sym, ◌∙◌, ap}
 use Rattle.std.specs.List.{slice_get}
 use Rattle.std.proofs.lemmas.Option.{slice_get_read}
-use Rattle.cg_netlist.specs.Names.{with_name}
 use Rattle.cg_netlist.proofs.PlaceLemmas.{named_more}
 use Rattle.cg_netlist.proofs.renumber.names_in_order.Goals as goal
 

@@ -10,3 +10,4 @@ pub mod WritingLemmas
 pub mod PinLemmas
 pub mod SplitLemmas
 pub mod TakingLemmas
+pub mod ReadingLemmas

@@ -23,3 +23,25 @@ mod lines;
 pub mod open_cover;
 mod parts;
 pub mod reader;
+#[cfg(test)]
+mod tests;
+
+ghost use Rattle.std.specs.Prelude.{◌≡◌, Ok, MatchResult};
+ghost use Rattle.cg_tool.specs.Drafting.{netlist_said};
+ghost use Rattle.cg_tool.specs.Faults.{IsFaultOf};
+
+use cg_netlist::netlist::Netlist;
+use fault::BlifFault;
+use reader::{draft, finish};
+use std::alloc::Global;
+
+/// Reads the text of a netlist, in time linear in its length. An `Err` names the first line at fault, or what the whole
+/// netlist has wrong, or the limit that is passed, or says that there was no memory.
+pub fn read_blif(alloc: Global, bytes: &[u8]) -> Result<Netlist, BlifFault>
+    ensures { MatchResult result (λ netlist. netlist_said bytes.now ≡ Ok netlist) (λ fault. IsFaultOf (netlist_said bytes.now) fault) }
+{
+    match draft(alloc, bytes) {
+        Ok(builder) => finish(builder),
+        Err(fault) => Err(fault),
+    }
+}

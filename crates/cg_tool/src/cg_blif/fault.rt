@@ -1,7 +1,7 @@
 //! Why a text is no netlist.
 
 ghost use Rattle.std.specs.Prelude.{◌≡◌};
-ghost use Rattle.cg_tool.specs.Faults.{refused_by};
+ghost use Rattle.cg_tool.specs.Faults.{refused_by, unfinished_by};
 
 use cg_cell::limit::Limit;
 use cg_netlist::fault::{AddFault, NetFault};
@@ -39,5 +39,19 @@ pub fn refused_by(fault: AddFault) -> BlifFault
     match fault {
         AddFault::Limit(limit) => BlifFault::Limit(limit),
         AddFault::NoMemory => BlifFault::NoMemory,
+    }
+}
+
+/// The fault of a text whose parts make no netlist for this reason.
+pub fn unfinished_by(fault: NetFault) -> BlifFault
+    ensures { result ≡ unfinished_by fault }
+{
+    match fault {
+        NetFault::TwoDrivers(net) => BlifFault::Net(NetFault::TwoDrivers(net)),
+        NetFault::NoDriver(net) => BlifFault::Net(NetFault::NoDriver(net)),
+        NetFault::Cycle(net) => BlifFault::Net(NetFault::Cycle(net)),
+        NetFault::ClockFault(net) => BlifFault::Net(NetFault::ClockFault(net)),
+        NetFault::NoClock => BlifFault::Net(NetFault::NoClock),
+        NetFault::NoMemory => BlifFault::NoMemory,
     }
 }

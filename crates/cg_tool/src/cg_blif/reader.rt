@@ -4,14 +4,15 @@ ghost use Rattle.std.specs.Prelude.{◌≡◌, None, Some, Ok, Err, IsTrue, Matc
 ghost use Rattle.cg_cell.specs.Name.{is_name};
 ghost use Rattle.cg_text.specs.Words.{words};
 ghost use Rattle.cg_netlist.specs.PlainText.{plain_layout};
-ghost use Rattle.cg_tool.specs.Drafting.{draft_of, model_of};
+ghost use Rattle.cg_tool.specs.Drafting.{draft_of, finished, model_of};
 ghost use Rattle.cg_tool.specs.Faults.{IsFaultOf};
 ghost use Rattle.cg_tool.specs.Words.{is_plain};
 
 use crate::cg_blif::command::is_plain;
-use crate::cg_blif::fault::BlifFault;
+use crate::cg_blif::fault::{BlifFault, unfinished_by};
 use crate::cg_blif::lines::take_lines;
 use cg_netlist::builder::Builder;
+use cg_netlist::netlist::Netlist;
 use cg_text::blanks::Blanks;
 use cg_text::lines::{Comments, Layout, Lines};
 use cg_text::words::Words;
@@ -42,6 +43,18 @@ pub fn draft(alloc: Global, bytes: &[u8]) -> Result<Builder, BlifFault>
     match take_lines(alloc, &mut builder, &mut lines) {
         Ok(()) => Ok(builder),
         Err(fault) => Err(fault),
+    }
+}
+
+/// The netlist of what a builder was given, or the fault that it has.
+#[tactic(auto, using(crate::proofs::ReadingLemmas::finishes))]
+pub fn finish(builder: Builder) -> Result<Netlist, BlifFault>
+    requires { builder.refused ≡ None }
+    ensures { MatchResult result (λ netlist. finished builder.draft ≡ Ok netlist) (λ fault. IsFaultOf (finished builder.draft) fault) }
+{
+    match builder.finish() {
+        Ok(netlist) => Ok(netlist),
+        Err(fault) => Err(unfinished_by(fault)),
     }
 }
 

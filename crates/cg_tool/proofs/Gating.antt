@@ -2,6 +2,7 @@
 use Rattle.std.proofs.Common.{◌≡◌, ℕ, List, Result, Ok, Err, sym, ◌∙◌, ap, subst}
 use Rattle.cg_netlist.specs.Circuit.{Circuit}
 use Rattle.cg_netlist.specs.History.{HasHistory, HasOneHistory, outputs_of}
+use Rattle.cg_netlist.specs.WellFormed.{IsWellFormed}
 use Rattle.cg_tool.specs.declared.output.Output.{Output}
 use Rattle.cg_tool.specs.declared.refusal.Refusal.{Refusal}
 use Rattle.cg_tool.specs.declared.refusal.Refusal.TheVariants as refusals
@@ -43,5 +44,5 @@ gives_finished text draft answer drafted gives = let P : Result Circuit BlifFaul
 pub gives_gated : (text : List ℕ) (c : Circuit) (output : Output) → netlist_of_text text ≡ Ok c → output ≡ gated c → gate_output text ≡ Ok output
 gives_gated text c output read is = let next : Circuit → Result Output Refusal = λ netlist. Ok (gated netlist) in ap (λ found. found >>= next) read ∙ ap (λ (o : Output). let found : Result Output Refusal = Ok o in found) (sym is)
 
-pub gates_text : (text : List ℕ) (c : Circuit) (output : Output) → netlist_of_text text ≡ Ok c → output ≡ gated c → HasHistory c → HasOneHistory c → Gates text output
-gates_text text c output read is some one = record { read = c; written = c; says = said_by (netlist_said text) c read; some = some; one = one; is = is; same = same_outputs c one }
+pub gates_text : (text : List ℕ) (c : Circuit) (output : Output) → netlist_of_text text ≡ Ok c → output ≡ gated c → IsWellFormed c → HasHistory c → HasOneHistory c → Gates text output
+gates_text text c output read is formed some one = record { read = c; written = c; says = said_by (netlist_said text) c read; read_well_formed = formed; written_well_formed = formed; some = some; one = one; is = is; same = same_outputs c one }

@@ -2,6 +2,7 @@
 
 ghost use Rattle.std.specs.Prelude.{◌≡◌, None, IfOk};
 ghost use Rattle.cg_netlist.specs.History.{HasHistory, HasOneHistory};
+ghost use Rattle.cg_netlist.specs.WellFormed.{IsWellFormed};
 ghost use Rattle.cg_tool.specs.CommandLine.{job_words};
 ghost use Rattle.cg_tool.specs.Gate.{gate_output, gated, netlist_of_text, netlist_refusal, Gates};
 ghost use Rattle.cg_tool.specs.Drafting.{finished};
@@ -78,9 +79,12 @@ fn finish(builder: Builder) -> Result<Netlist, Refusal>
 /// What is put out of a netlist.
 fn gate_netlist(alloc: Global, netlist: &Netlist) -> Result<Output, AllocError>
     ensures gated { IfOk result (λ output. output ≡ gated netlist.now) }
+    ensures formed { IsWellFormed netlist.now }
     ensures some { HasHistory netlist.now }
     ensures one { HasOneHistory netlist.now }
 {
+    // What is known of every netlist: it is well formed, and has one lawful history.
+    let _ = netlist.nets();
     one_lawful_history(netlist);
     let stored = Seq::from_vec(write_blif(alloc, netlist)?);
     let said = Seq::from_vec(Vec::from_slice(alloc, b"stages 0 inserted 0\n")?);

@@ -14,4 +14,4 @@ pub returns-clause-gives : goal.returns-clause-gives
 returns-clause-gives c = gives_gated c.args.text.now c.in_ok-netlist.netlist c.in_ok-output.output c.in_ok-netlist.ensures c.in_ok-output.ensures.gated
 
 pub returns-clause-known : goal.returns-clause-known
-returns-clause-known c = gates_text c.args.text.now c.in_ok-netlist.netlist c.in_ok-output.output c.in_ok-netlist.ensures c.in_ok-output.ensures.gated c.in_ok-output.ensures.some c.in_ok-output.ensures.one
+returns-clause-known c = gates_text c.args.text.now c.in_ok-netlist.netlist c.in_ok-output.output c.in_ok-netlist.ensures c.in_ok-output.ensures.gated c.in_ok-output.ensures.formed c.in_ok-output.ensures.some c.in_ok-output.ensures.one

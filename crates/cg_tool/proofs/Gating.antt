@@ -8,7 +8,7 @@ use Rattle.cg_tool.specs.declared.refusal.Refusal.{Refusal}
 use Rattle.cg_tool.specs.declared.refusal.Refusal.TheVariants as refusals
 use Rattle.cg_tool.specs.declared.refusal.Step.TheVariants.{Reading, Storing, Saying}
 use Rattle.cg_tool.specs.Gate.{Gates, SameOutputs, gate_output, gated, netlist_of_text, netlist_refusal}
-use Rattle.cg_tool.specs.Drafting.{draft_of, finished, go_on, netlist_said}
+use Rattle.cg_tool.specs.Drafting.{netlist_said}
 use Rattle.cg_tool.specs.declared.cg_blif.fault.BlifFault.{BlifFault}
 use Rattle.cg_tool.specs.Refusal.{refused_as, ◌>>=◌}
 use Rattle.cg_tool.specs.Worlds.{Gives}
@@ -36,9 +36,9 @@ said_by : (v : Result Circuit BlifFault) (c : Circuit) → refused_as netlist_re
 said_by (Ok found) c read = cc
 said_by (Err fault) c read = cc
 
--- reading goes on with the netlist of the draft
-pub gives_finished : (text : List ℕ) (draft : Circuit) (answer : Result Circuit Refusal) → draft_of text ≡ Ok draft → Gives (refused_as netlist_refusal (finished draft)) answer → Gives (netlist_of_text text) answer
-gives_finished text draft answer drafted gives = let P : Result Circuit BlifFault → Type 0 = λ v. Gives (refused_as netlist_refusal (go_on v finished)) answer in subst P (sym drafted) gives
+-- a text that is read as a netlist says it to `gate` too
+pub gives_said : (text read : List ℕ) (c : Circuit) → read ≡ text → netlist_said read ≡ Ok c → netlist_of_text text ≡ Ok c
+gives_said text read c same said = ap (λ t. refused_as netlist_refusal (netlist_said t)) (sym same) ∙ ap (refused_as netlist_refusal) said
 
 -- what is put out of a netlist that was read
 pub gives_gated : (text : List ℕ) (c : Circuit) (output : Output) → netlist_of_text text ≡ Ok c → output ≡ gated c → gate_output text ≡ Ok output

@@ -22,7 +22,7 @@ pub mod latch;
 mod lines;
 pub mod open_cover;
 mod parts;
-pub mod reader;
+mod reader;
 #[cfg(test)]
 mod tests;
 

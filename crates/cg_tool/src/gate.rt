@@ -1,26 +1,22 @@
 //! The mode `gate`: a netlist is read, and written with the same behaviour.
 
-ghost use Rattle.std.specs.Prelude.{◌≡◌, None, IfOk};
+ghost use Rattle.std.specs.Prelude.{◌≡◌, IfOk};
 ghost use Rattle.cg_netlist.specs.History.{HasHistory, HasOneHistory};
 ghost use Rattle.cg_netlist.specs.WellFormed.{IsWellFormed};
 ghost use Rattle.cg_tool.specs.CommandLine.{job_words};
-ghost use Rattle.cg_tool.specs.Gate.{gate_output, gated, netlist_of_text, netlist_refusal, Gates};
-ghost use Rattle.cg_tool.specs.Drafting.{finished};
-ghost use Rattle.cg_tool.specs.Refusal.{refused_as};
+ghost use Rattle.cg_tool.specs.Gate.{gate_output, gated, netlist_of_text, Gates};
 ghost use Rattle.cg_tool.specs.Run.{ReadsPart};
 ghost use Rattle.cg_tool.specs.Worlds.{Gives};
 ghost use Rattle.cg_tool.specs.declared.job.Place.TheVariants.{First};
 
 use crate::cg_blif::fault::BlifFault;
-use crate::cg_blif::reader::draft;
+use crate::cg_blif::read_blif;
 use crate::cg_blif_out::write_blif;
 use crate::job::{Job, Place};
 use crate::loading::load;
 use crate::output::{Finish, Output};
 use crate::refusal::{Refusal, Step};
 use cg_list::Seq;
-use cg_netlist::builder::Builder;
-use cg_netlist::fault::NetFault;
 use cg_netlist::history::one_lawful_history;
 use cg_netlist::netlist::Netlist;
 use cg_shelf::Shelf;
@@ -48,8 +44,8 @@ fn gate_text(alloc: Global, text: &Seq<u8>) -> Result<Output, Refusal>
 fn read_netlist(alloc: Global, text: &Seq<u8>) -> Result<Netlist, Refusal>
     ensures { Gives (netlist_of_text text.now) result }
 {
-    match draft(alloc, text.as_slice()) {
-        Ok(builder) => finish(builder),
+    match read_blif(alloc, text.as_slice()) {
+        Ok(netlist) => Ok(netlist),
         Err(BlifFault::BadLine(_)) => Err(Refusal::Netlist),
         Err(BlifFault::BadCover(_)) => Err(Refusal::Netlist),
         Err(BlifFault::BadLatch(_)) => Err(Refusal::Netlist),
@@ -57,22 +53,6 @@ fn read_netlist(alloc: Global, text: &Seq<u8>) -> Result<Netlist, Refusal>
         Err(BlifFault::Net(_)) => Err(Refusal::Netlist),
         Err(BlifFault::Limit(limit)) => Err(Refusal::Limit(limit)),
         Err(BlifFault::NoMemory) => Err(Refusal::NoMemory(Step::Reading)),
-    }
-}
-
-/// The netlist of the parts that a text said.
-fn finish(builder: Builder) -> Result<Netlist, Refusal>
-    requires { builder.refused ≡ None }
-    ensures { Gives (refused_as netlist_refusal (finished builder.draft)) result }
-{
-    match builder.finish() {
-        Ok(netlist) => Ok(netlist),
-        Err(NetFault::TwoDrivers(_)) => Err(Refusal::Netlist),
-        Err(NetFault::NoDriver(_)) => Err(Refusal::Netlist),
-        Err(NetFault::Cycle(_)) => Err(Refusal::Netlist),
-        Err(NetFault::ClockFault(_)) => Err(Refusal::Netlist),
-        Err(NetFault::NoClock) => Err(Refusal::Netlist),
-        Err(NetFault::NoMemory) => Err(Refusal::NoMemory(Step::Reading)),
     }
 }
 

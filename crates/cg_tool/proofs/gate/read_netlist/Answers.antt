@@ -1,5 +1,5 @@
-use Rattle.cg_tool.proofs.Gating.{gives_finished}
+use Rattle.cg_tool.proofs.Gating.{gives_said}
 use Rattle.cg_tool.proofs.gate.read_netlist.Goals as goal
 
 pub returns-in-Ok : goal.returns-in-Ok
-returns-in-Ok c = let drafted = rw c.as_slice.ensures.parts at c.in-Ok.ensures.1 in gives_finished c.args.text.now c.in-Ok.builder.draft c.finish.result drafted c.finish.ensures
+returns-in-Ok c = gives_said c.args.text.now c.as_slice.result.now c.in-Ok.netlist c.as_slice.ensures.parts c.in-Ok.ensures

@@ -58,8 +58,8 @@ fn memory(rt: HostRuntime) -> Result<(), Fail> {
 #[test]
 fn real_files(rt: HostRuntime) -> Result<(), Fail> {
     let id = process::id(rt.process());
-    let name = format!(in rt.alloc(); "/tmp/cg_shelf_{id}")?;
-    let missing = format!(in rt.alloc(); "/tmp/cg_shelf_{id}/none")?;
+    let name = format!(in rt.alloc(); "cg_shelf_{id}")?;
+    let missing = format!(in rt.alloc(); "cg_shelf_{id}/none")?;
     let mut shelf = DirShelf::new(rt.clone()?, rt.alloc());
     exercise(&rt, rt.alloc(), &mut shelf, name.as_str(), missing.as_str());
     assert_eq!(rt;

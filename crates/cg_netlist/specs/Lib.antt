@@ -2,6 +2,7 @@ pub mod BlifText
 pub mod Canonical
 pub mod Circuit
 pub mod Draft
+pub mod Drafted
 pub mod Finish
 pub mod History
 pub mod LogicalLines

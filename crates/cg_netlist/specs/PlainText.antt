@@ -6,6 +6,7 @@ use Rattle.cg_text.specs.declared.lines.Comments.TheVariants.{Never}
 use Rattle.cg_text.specs.declared.lines.Layout.{Layout}
 use Rattle.cg_text.specs.Lines.{text_lines}
 use Rattle.cg_cell.specs.Cover.{Fits, IsCover}
+use Rattle.cg_cell.specs.Name.{is_name}
 use Rattle.cg_netlist.specs.Circuit.{Circuit}
 use Rattle.cg_netlist.specs.Statements.{Word, Statement, Model, Inputs, Outputs, Names, Latch, End, statement_lines}
 use Rattle.cg_netlist.specs.Says.{Says}
@@ -28,13 +29,23 @@ IsPlainPart (Names inputs output cover) = (length inputs ≤ 256) × IsCover cov
 IsPlainPart (Latch input output (Some clock) init) = (init ≤ 3) × (clock ≢ codes "NIL")
 IsPlainPart statement = ⊥
 
--- the text is in the plain form, one `.model`, one `.inputs` and one `.outputs` line, the parts, and one `.end` line, and says the netlist
+-- the statements of a text behind its `.model` line and before its `.end` line: inputs, outputs and parts
+abbrev pub plain_statements : List Word → List Word → List Statement → List Statement
+plain_statements inputs outputs parts = Inputs inputs ∷ Outputs outputs ∷ parts
+
+-- the text is in the plain form and spells these: one `.model`, one `.inputs` and one `.outputs` line, the parts, and one `.end` line
+pub record SpellsPlain (text : List ℕ) (model : Word) (inputs outputs : List Word) (parts : List Statement) : Type 0 where
+  pub bare : IsTrue (list_all is_bare text)
+  -- each word is a name, and the lines are those of the statements
+  pub named : AllByRecursion (AllByRecursion (λ word. IsTrue (is_name word))) (plain_lines text)
+  pub spelled : plain_lines text ≡ flat_map statement_lines (Model model ∷ (plain_statements inputs outputs parts ++ End ∷ []))
+  pub fit : AllByRecursion IsPlainPart parts
+
+-- the text is in the plain form and says the netlist
 pub record PlainText (text : List ℕ) (c : Circuit) : Type 0 where
   pub model : Word
   pub inputs : List Word
   pub outputs : List Word
   pub parts : List Statement
-  pub bare : IsTrue (list_all is_bare text)
-  pub spelled : plain_lines text ≡ flat_map statement_lines (Model model ∷ Inputs inputs ∷ Outputs outputs ∷ (parts ++ End ∷ []))
-  pub fit : AllByRecursion IsPlainPart parts
-  pub says : Says None model (Inputs inputs ∷ Outputs outputs ∷ parts) c
+  pub spells : SpellsPlain text model inputs outputs parts
+  pub says : Says [] None model (plain_statements inputs outputs parts) c

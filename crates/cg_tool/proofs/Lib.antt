@@ -11,3 +11,4 @@ pub mod PinLemmas
 pub mod SplitLemmas
 pub mod TakingLemmas
 pub mod ReadingLemmas
+pub mod Saying

@@ -9,7 +9,7 @@ use Rattle.cg_tool.specs.Reading.{Reading, Done, Next}
 use Rattle.cg_tool.specs.declared.cg_blif.fault.BlifFault.{BlifFault}
 
 -- statements in a row, as a reading
-pub all_said : List Statement → Reading
+abbrev pub all_said : List Statement → Reading
 all_said [] = Done
 all_said (statement ∷ later) = Next statement (all_said later)
 

@@ -57,7 +57,7 @@ rank_above (c ∷ cells) j k r cell at in' is =
     let below = each_member _ (driving_cells (c ∷ cells) k) j (next_rank-below (rank_within (driving_cells (c ∷ cells)) (length cells)) (driving_cells (c ∷ cells) k) r is) in' in
     (below.0, rank_more (driving_cells (c ∷ cells)) (length cells) j below.0 below.1, below.2)
 
-mapped_at : {X Y : Type 0} (f : X → Y) (o : Option X) (y : Y) → option_map f o ≡ Some y → (x : X) × (o ≡ Some x) × (f x ≡ y)
+pub mapped_at : {X Y : Type 0} (f : X → Y) (o : Option X) (y : Y) → option_map f o ≡ Some y → (x : X) × (o ≡ Some x) × (f x ≡ y)
 mapped_at f None y is = absurd (cc)
 mapped_at f (Some x) y is = (x, refl, same_Some (f x) y is)
 

@@ -15,6 +15,7 @@ pub mod Mentions
 pub mod NameLemmas
 pub mod NetOrder
 pub mod NetSetLemmas
+pub mod OfDraft
 pub mod OrderLemmas
 pub mod PlaceLemmas
 pub mod RankLemmas

@@ -53,10 +53,10 @@ registers_agree f p (r ∷ rs) inputs outputs clocks =
     ∙ ap (λ ss. renumbered_register p r ∷ ss) (registers_agree f p rs (λ x in'. inputs x (is_in_right r.inputs (flat_map (λ s. s.inputs) rs) x in')) (λ x in'. outputs x (is_in_right (shown_nets r) (flat_map shown_nets rs) x in')) (λ x in'. clocks x (later r.clock x (map (λ s. s.clock) rs) in')))))
 
 module _ (d : Circuit) (draft : IsDraft d) (no_gaters : d.gaters ≡ []) (fine : fault_of d ≡ None) where
-  input_driven : (x : ℕ) → is_in d.inputs x ≡ true → is_in (driving_nets d) x ≡ true
+  pub input_driven : (x : ℕ) → is_in d.inputs x ≡ true → is_in (driving_nets d) x ≡ true
   input_driven x i = is_in_left (d.inputs ++ cell_nets d) (register_nets d) x (is_in_left d.inputs (cell_nets d) x i)
 
-  front : (x : ℕ) → is_in (flat_map (λ cell. cell.inputs) d.cells ++ map (λ gater. gater.enable) d.gaters ++ flat_map (λ r. r.inputs) d.registers) x ≡ true → is_in (driving_nets d) x ≡ true
+  pub front : (x : ℕ) → is_in (flat_map (λ cell. cell.inputs) d.cells ++ map (λ gater. gater.enable) d.gaters ++ flat_map (λ r. r.inputs) d.registers) x ≡ true → is_in (driving_nets d) x ≡ true
   front x in' = used_is_driven d draft no_gaters fine x (is_in_left (flat_map (λ cell. cell.inputs) d.cells ++ map (λ gater. gater.enable) d.gaters ++ flat_map (λ r. r.inputs) d.registers) d.outputs x in')
 
   pub in_order_as : (f : ℕ → ℕ) (names given : List (List ℕ)) → given ≡ names → ((x : ℕ) → is_in (driving_nets d) x ≡ true → f x ≡ place_of d x) → renumbered f given d ≡ renumbered (place_of d) names d

@@ -10,7 +10,7 @@ use Rattle.cg_netlist.specs.declared.parts.LogicFunction.{LogicFunction}
 use Rattle.cg_netlist.specs.declared.parts.LogicFunction.TheVariants.{Cover, Cell}
 use Rattle.cg_netlist.specs.declared.parts.RegisterKind.{RegisterKind}
 use Rattle.cg_netlist.specs.declared.parts.RegisterKind.TheVariants.{Plain, Flop}
-use Rattle.cg_netlist.specs.Circuit.{Circuit, RegisterCell, is_in}
+use Rattle.cg_netlist.specs.Circuit.{Circuit, is_in}
 use Rattle.cg_netlist.specs.WellFormed.{IsWellFormed, IsInNetOrder}
 use Rattle.cg_netlist.specs.Statements.{Word, Statement, Inputs, Outputs, Clocks, Names, Latch, Gate}
 use Rattle.cg_netlist.specs.Canonical.{net_name, net_names, cell_statement, gater_statement, register_statement}

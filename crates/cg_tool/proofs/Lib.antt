@@ -12,3 +12,6 @@ pub mod SplitLemmas
 pub mod TakingLemmas
 pub mod ReadingLemmas
 pub mod Saying
+pub mod LineEnds
+pub mod PlainIsBlif
+pub mod DraftKept

@@ -94,7 +94,7 @@ range_has test (suc n) a is = elim (or_cases (test a) (list_any test (range_with
   | inr later ↦ let more = range_has test n (a + 1) later in (more.0, omega (arith, more.1), more.2)
 ]
 
-pins_before : (pins : List ℕ) (net : ℕ) → list_any (λ other. nat_lt other net) pins ≡ true → (y : ℕ) × (y < net) × (is_in pins y ≡ true)
+pub pins_before : (pins : List ℕ) (net : ℕ) → list_any (λ other. nat_lt other net) pins ≡ true → (y : ℕ) × (y < net) × (is_in pins y ≡ true)
 pins_before [] net is = absurd (both_ways false refl is)
 pins_before (pin ∷ pins) net is = elim (or_cases (nat_lt pin net) (list_any (λ other. nat_lt other net) pins) is) [
   | inl here ↦ (pin, ltb-true pin net here, or_left (nat_eq pin pin) (is_in pins pin) (eq-eqb pin pin refl))

@@ -8,7 +8,7 @@ use Rattle.cg_netlist.specs.WellFormed.{IsDriven, IsInNetOrder}
 use Rattle.cg_netlist.proofs.Members.{All-from_members, is_in-append, is_in_left, is_in_right, is_in_cases, distinct_cons, distinct_head, distinct_tail, distinct_left, distinct_right, distinct_apart, distinct_append}
 
 -- the numbers from a on
-is_in-range : (n a x : ℕ) → a ≤ x → x < a + n → is_in (range_with_len a n) x ≡ true
+pub is_in-range : (n a x : ℕ) → a ≤ x → x < a + n → is_in (range_with_len a n) x ≡ true
 is_in-range zero a x low high = absurd (omega arith)
 is_in-range (suc n) a x low high =
     elim (cases_eq x a) [
@@ -16,7 +16,7 @@ is_in-range (suc n) a x low high =
       | inr other ↦ or_right (nat_eq x a) (is_in (range_with_len (a + 1) n) x) (is_in-range n (a + 1) x (omega arith) (omega arith))
     ]
 
-in_range : (n a x : ℕ) → is_in (range_with_len a n) x ≡ true → (a ≤ x) × (x < a + n)
+pub in_range : (n a x : ℕ) → is_in (range_with_len a n) x ≡ true → (a ≤ x) × (x < a + n)
 in_range zero a x among = absurd (both_ways false refl among)
 in_range (suc n) a x among =
     elim (or_cases (nat_eq x a) (is_in (range_with_len (a + 1) n) x) among) [
@@ -24,7 +24,7 @@ in_range (suc n) a x among =
       | inr later ↦ let found : (a + 1 ≤ x) × (x < a + 1 + n) = in_range n (a + 1) x later in (omega arith, omega arith)
     ]
 
-distinct_range : (n a : ℕ) → IsDistinct nat_eq (range_with_len a n)
+pub distinct_range : (n a : ℕ) → IsDistinct nat_eq (range_with_len a n)
 unfolding IsDistinct
 distinct_range zero a = tt
 distinct_range (suc n) a =

@@ -5,7 +5,7 @@ ghost use Rattle.std.specs.List.{All, AllPairs};
 ghost use Rattle.cg_cell.specs.Cover.{Fits};
 ghost use Rattle.cg_cell.specs.Name.{is_name};
 ghost use Rattle.cg_netlist.specs.Draft.{Adds, IsMentioned, IsMentionFault, IsPlain, IsRegisterFault, cell_of, empty_draft, number_of, with_cover, with_input, with_names, with_net, with_output, register_of, register_words, with_register};
-ghost use Rattle.cg_netlist.specs.Drafted.{IsNetlistOf};
+ghost use Rattle.cg_netlist.specs.Drafted.{GivesOnly, IsNetlistOf};
 ghost use Rattle.cg_netlist.specs.Finish.{IsFinished};
 ghost use Rattle.cg_netlist.specs.Names.{with_name};
 ghost use Rattle.cg_netlist.specs.declared.parts.RegisterKind.TheVariants.{Plain};
@@ -181,6 +181,7 @@ impl Builder {
         requires { self.refused ≡ None }
         ensures exact { IsFinished self.draft result }
         ensures found { IfOk result (λ netlist. IsNetlistOf self.draft netlist) }
+        ensures only { GivesOnly self.draft result }
     {
         let Builder {
             alloc,

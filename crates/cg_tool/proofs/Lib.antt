@@ -15,3 +15,10 @@ pub mod Saying
 pub mod LineEnds
 pub mod PlainIsBlif
 pub mod DraftKept
+pub mod BareText
+pub mod SpelledRows
+pub mod SpelledLines
+pub mod ReadLines
+pub mod SpelledParts
+pub mod ReadParts
+pub mod SpelledText

@@ -22,3 +22,8 @@ pub mod ReadLines
 pub mod SpelledParts
 pub mod ReadParts
 pub mod SpelledText
+pub mod DraftNames
+pub mod SaidParts
+pub mod DraftSaid
+pub mod DraftMade
+pub mod SaysDraft

@@ -1,5 +1,5 @@
 -- What each call keeps of a draft.
-use Rattle.std.proofs.Common.{ℕ, zero, suc, ◌+◌, ◌<◌, ◌≤◌, ◌^◌, ◌≡◌, ◌≢◌, ◌⊎◌, inl, inr, Bool, true, false, ◌||◌, IsTrue, List, [], ◌∷◌, ◌++◌, Option, Some, map, length, get_or, refl, sym, ap, ◌∙◌, subst, arith, nat_eq, if◌then◌else◌}
+use Rattle.std.proofs.Common.{ℕ, zero, suc, ◌+◌, ◌<◌, ◌≤◌, ◌^◌, ◌≡◌, ◌≢◌, ◌⊎◌, inl, inr, Bool, true, false, ◌||◌, IsTrue, List, [], ◌∷◌, ◌++◌, Option, None, Some, Result, Ok, Err, MatchResult, map, length, get_or, refl, sym, ap, ◌∙◌, subst, arith, nat_eq, if◌then◌else◌}
 use Rattle.std.specs.List.{slice_get, All, AllPairs, AllByRecursion, list_any}
 use Rattle.std.specs.Cmp.Lexicographic.{same_text, other_text}
 use Rattle.std.proofs.lemmas.Bool.{cases_Bool, or_left, or_right, or_cases, or_parts, eqb-true, eq-eqb, both_ways}
@@ -7,7 +7,7 @@ use Rattle.std.proofs.lemmas.List.{length-append, length-map, length_push, map-a
 use Rattle.std.proofs.lemmas.List.Elements.{All-push, All-weaker, All-nil, All-cons, All-head, All-tail, recursion_from_All}
 use Rattle.std.proofs.lemmas.List.Folds.{list_any-append}
 use Rattle.std.proofs.lemmas.List.Quantifiers.{all_pairs_push}
-use Rattle.std.proofs.lemmas.Option.{slice_get_within}
+use Rattle.std.proofs.lemmas.Option.{none-some, slice_get_within}
 use lib.Pointwise.{pointwise}
 use Rattle.cg_cell.specs.Cover.{CoverData, Fits, IsCover}
 use Rattle.cg_cell.specs.Name.{is_name}
@@ -369,3 +369,8 @@ register_added d (input ∷ []) (Some output ∷ []) (Some clock) init names reg
     (plain_keeps d input output clock init draft recursion.0 recursion.1.0 recursion.1.1.0 small (omega (arith, few, ap length names_are))
     (omega (arith, few_registers, ap length registers_are, length_push d.registers (register_of names (input ∷ []) (Some output ∷ []) (Some clock) init)))))
 register_added d inputs outputs clock init names registers draft plain small named names_are few registers_are few_registers = absurd plain
+
+-- a call after which no refusal is noted was taken, and none was noted before it
+pub taken : {A F : Type 0} (P : A → Type 0) (Q : F → Type 0) (old new : Option F) (answer : Result A F) → MatchResult answer (λ _. new ≡ old) (λ fault. new ≡ Some fault) → MatchResult answer P Q → new ≡ None → (x : A) × (old ≡ None) × P x
+taken P Q old new (Ok x) notes holds none = (x, sym notes ∙ none, holds)
+taken P Q old new (Err fault) notes holds none = absurd (none-some fault (sym none ∙ notes))

@@ -91,13 +91,8 @@ impl Builder {
         if let Some(fault) = self.refused {
             return Err(fault);
         }
-        match add_net(self.alloc, &mut self.names, &mut self.inputs, net) {
-            Ok(()) => Ok(()),
-            Err(fault) => {
-                self.refused = Some(fault);
-                Err(fault)
-            }
-        }
+        let added = add_net(self.alloc, &mut self.names, &mut self.inputs, net);
+        noted(&mut self.refused, added)
     }
 
     /// Makes a net an output, if it is none yet.
@@ -108,13 +103,8 @@ impl Builder {
         if let Some(fault) = self.refused {
             return Err(fault);
         }
-        match add_net(self.alloc, &mut self.names, &mut self.outputs, net) {
-            Ok(()) => Ok(()),
-            Err(fault) => {
-                self.refused = Some(fault);
-                Err(fault)
-            }
-        }
+        let added = add_net(self.alloc, &mut self.names, &mut self.outputs, net);
+        noted(&mut self.refused, added)
     }
 
     /// Adds a logic cell whose function is a cover.
@@ -127,20 +117,15 @@ impl Builder {
         if let Some(fault) = self.refused {
             return Err(fault);
         }
-        match add_cover(
+        let added = add_cover(
             self.alloc,
             &mut self.names,
             &mut self.cells,
             inputs,
             output,
             cover,
-        ) {
-            Ok(()) => Ok(()),
-            Err(fault) => {
-                self.refused = Some(fault);
-                Err(fault)
-            }
-        }
+        );
+        noted(&mut self.refused, added)
     }
 
     /// Adds a plain register, of one input and one output; its clock is given. `init` is 0 or 1, 2 for a bit that does
@@ -159,7 +144,7 @@ impl Builder {
         if let Some(fault) = self.refused {
             return Err(fault);
         }
-        match add_register(
+        let added = add_register(
             self.alloc,
             &mut self.names,
             &mut self.registers,
@@ -167,13 +152,8 @@ impl Builder {
             outputs,
             clock,
             init,
-        ) {
-            Ok(()) => Ok(()),
-            Err(fault) => {
-                self.refused = Some(fault);
-                Err(fault)
-            }
-        }
+        );
+        noted(&mut self.refused, added)
     }
 
     /// The netlist of the parts, or the first fault of them. No call of this builder was refused.
@@ -205,6 +185,17 @@ impl Builder {
         };
         finished(alloc, draft)
     }
+}
+
+/// Answers what a call did, and notes the refusal if it was refused.
+fn noted(refused: &mut Option<AddFault>, added: Result<(), AddFault>) -> Result<(), AddFault>
+    ensures answers { result ≡ added }
+    ensures notes { MatchResult added (λ _. refused.new ≡ refused.old) (λ fault. refused.new ≡ Some fault) }
+{
+    if let Err(fault) = added {
+        *refused = Some(fault);
+    }
+    added
 }
 
 /// Mentions a net and puts it into a set.

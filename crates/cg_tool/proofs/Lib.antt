@@ -27,3 +27,4 @@ pub mod SaidParts
 pub mod DraftSaid
 pub mod DraftMade
 pub mod SaysDraft
+pub mod SaidDraft

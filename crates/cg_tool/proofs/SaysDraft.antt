@@ -41,7 +41,7 @@ record HasParts (c : Circuit) (ss : List Statement) : Type 0 where
   gaters_are : c.gaters ≡ []
   registers_are : map (named_register c.names) c.registers ≡ flat_map registers_said ss
 
-no_declared : (ss : List Statement) → AllByRecursion IsDrawn ss → declared_clocks ss None ≡ []
+pub no_declared : (ss : List Statement) → AllByRecursion IsDrawn ss → declared_clocks ss None ≡ []
 no_declared ss drawn = ap (λ words. words ++ []) (no_clocks ss drawn)
 
 nothing_placed : (c : Circuit) (ss : List Statement) → AllByRecursion IsDrawn ss → HasParts c ss → placed_cells c ≡ []

@@ -13,3 +13,7 @@ pub mod FlopCells
 pub mod LoneInputs
 pub mod Adding
 pub mod ReadWithin
+pub mod NamedCells
+pub mod DistinctCells
+pub mod AddedCells
+pub mod LibTexts

@@ -9,3 +9,4 @@ pub mod Port
 pub mod Reading
 pub mod Kinds
 pub mod Library
+pub mod LibText

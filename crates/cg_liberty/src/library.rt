@@ -1,9 +1,12 @@
 //! A library from its text.
 
-ghost use Rattle.std.specs.Prelude.{◌≡◌, ◌≤◌, [], length, None, OnOk, Some, MatchResult};
+ghost use Rattle.std.specs.Prelude.{◌≡◌, ◌≤◌, List, [], length, None, IfOk, OnOk, Some, MatchResult};
+ghost use Rattle.cg_cell.specs.Cell.{CellData};
 ghost use Rattle.cg_liberty.specs.Cell.{GivesUp, cell_from, cells_from, first_text, new_cell};
 ghost use Rattle.cg_liberty.specs.Group.{IsLeft};
+ghost use Rattle.cg_liberty.specs.LibText.{LibText};
 ghost use Rattle.cg_liberty.specs.Library.{Adds, Stands, added, all_added, cell_groups, cell_refusal, library_of, text_refusal};
+ghost use Rattle.cg_liberty.specs.declared.fault.LibertyFault.TheVariants.{NoMemory};
 
 use crate::argument::Arguments;
 use crate::fault::{CellFault, LibertyFault, ReadFault, TextFault};
@@ -165,6 +168,18 @@ fn read_text(
     }
 }
 
+/// The library that a text stands for, or its first fault.
+fn library_of_bytes(alloc: Global, bytes: &[u8]) -> Result<Library, LibertyFault>
+    ensures { Stands result (library_of bytes.now) }
+{
+    let mut statements = Statements::new(bytes);
+    match read_text(alloc, &mut statements) {
+        Ok(library) => library,
+        Err(ReadFault::Text(fault)) => Err(refusal_of_text(fault)),
+        Err(ReadFault::NoMemory) => Err(LibertyFault::NoMemory),
+    }
+}
+
 /// Reads the text of a library.
 ///
 /// Refused by the first fault. Faults of the text come first, by their place: `BadToken` at a byte that
@@ -174,12 +189,9 @@ fn read_text(
 /// 4,096 are there; `TwoCells` where its name is taken; `BadExpr`, or `Limit(Nesting)`, for its first
 /// expression that is none, or that nests deeper than 64.
 pub fn read_library(alloc: Global, bytes: &[u8]) -> Result<Library, LibertyFault>
-    ensures { Stands result (library_of bytes.now) }
+    ensures exact { Stands result (library_of bytes.now) }
+    ensures found { IfOk result (λ library. LibText bytes.now library) }
+    ensures only { (cells : List CellData) → LibText bytes.now cells → MatchResult result (λ library. library ≡ cells) (λ fault. fault ≡ NoMemory) }
 {
-    let mut statements = Statements::new(bytes);
-    match read_text(alloc, &mut statements) {
-        Ok(library) => library,
-        Err(ReadFault::Text(fault)) => Err(refusal_of_text(fault)),
-        Err(ReadFault::NoMemory) => Err(LibertyFault::NoMemory),
-    }
+    library_of_bytes(alloc, bytes)
 }

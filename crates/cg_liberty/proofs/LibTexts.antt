@@ -1,0 +1,50 @@
+-- The texts that stand for a library are those that are read as it.
+use Rattle.std.proofs.Common.{◌≡◌, ℕ, List, [], ◌∷◌, length, Option, None, Some, Result, Ok, Err, IfOk, MatchResult, refl, sym, ap, ◌∙◌, arith}
+use Rattle.cg_cell.specs.Cell.{CellData}
+use Rattle.cg_cell.specs.declared.library.Library.{Library}
+use Rattle.cg_liberty.specs.LibText.{LibText}
+use Rattle.cg_liberty.specs.Library.{Stands, all_added, by_fault, cell_groups, library_of}
+use Rattle.cg_liberty.specs.Statement.{Read, statements}
+use Rattle.cg_liberty.specs.Statement.Phase.{Start}
+use Rattle.cg_liberty.specs.Token.{tokens}
+use Rattle.cg_liberty.specs.declared.fault.LibertyFault.{LibertyFault}
+use Rattle.cg_liberty.specs.declared.fault.LibertyFault.TheVariants as faults
+use Rattle.cg_liberty.specs.declared.fault.TextFault.{TextFault}
+use Rattle.cg_liberty.specs.declared.statement.Statement.{Statement}
+use Rattle.cg_liberty.proofs.AddedCells.{Extends, adds, extends}
+
+from_read : (text : List ℕ) (cells : List CellData) (read : List Statement) (fault : Option TextFault) → statements (length text) 0 Start (tokens text) ≡ (read, fault) → by_fault fault read ≡ Ok cells → LibText text cells
+from_read text cells read (Some fault) is h = absurd (cc)
+from_read text cells read None is h =
+    let found : Extends [] cells (cell_groups read) = extends (cell_groups read) [] cells (record { few = omega arith; distinct = refl }) h in
+    record {
+      read = read;
+      spelled = is;
+      described = rw found.is found.described;
+      few = found.fit.few;
+      distinct = found.fit.distinct;
+    }
+
+-- what is read stands in the text
+pub text_of_library : (text : List ℕ) (cells : List CellData) → library_of text ≡ Ok cells → LibText text cells
+text_of_library text cells h = let read = statements (length text) 0 Start (tokens text) in from_read text cells read.0 read.1 refl h
+
+-- what stands in the text is read
+pub library_of_text : (text : List ℕ) (cells : List CellData) → LibText text cells → library_of text ≡ Ok cells
+library_of_text text cells t =
+    let read : library_of text ≡ all_added [] (cell_groups t.read) = ap (λ (r : Read). by_fault r.1 r.0) t.spelled in
+    read ∙ adds (cell_groups t.read) [] cells t.described (record { few = t.few; distinct = t.distinct })
+
+-- an answer that stands for what is read, by the texts of libraries
+pub answer_found : (text : List ℕ) (answer : Result Library LibertyFault) → Stands answer (library_of text) → IfOk answer (λ library. LibText text library)
+answer_found text (Ok library) stands = text_of_library text library stands
+answer_found text (Err fault) stands = tt
+
+pub answer_only : (text : List ℕ) (answer : Result Library LibertyFault) (cells : List CellData) → Stands answer (library_of text) → LibText text cells → MatchResult answer (λ library. library ≡ cells) (λ fault. fault ≡ faults.NoMemory)
+answer_only text (Ok library) cells stands t = let is = library_of_text text cells t in cc
+answer_only text (Err (faults.BadToken at)) cells stands t = let is = library_of_text text cells t in cc
+answer_only text (Err (faults.BadGroup at)) cells stands t = let is = library_of_text text cells t in cc
+answer_only text (Err (faults.BadExpr name at)) cells stands t = let is = library_of_text text cells t in cc
+answer_only text (Err (faults.TwoCells name)) cells stands t = let is = library_of_text text cells t in cc
+answer_only text (Err (faults.Limit which)) cells stands t = let is = library_of_text text cells t in cc
+answer_only text (Err faults.NoMemory) cells stands t = refl

@@ -1,6 +1,6 @@
 -- What follows from how a run ends, clause by clause.
 use Rattle.std.proofs.Common.{◌≡◌, ◌≢◌, ℕ, Bool, true, false, IsTrue, List, ◌++◌, Option, None, Some, Result, Ok, Err, refl, sym, ◌∙◌, ap, subst, if◌then◌else◌, nat_lt, length}
-use Rattle.std.specs.Prelude.{IfSome, IsOkAnd, IsSomeAnd}
+use Rattle.std.specs.Prelude.{IfOk, IfSome, IsOkAnd, IsSomeAnd}
 use Rattle.cg_lrat.specs.Accepted.{verdict as check_verdict}
 use Rattle.cg_lrat.specs.DimacsText.{DimacsText}
 use Rattle.cg_lrat.specs.LratText.{LratText}
@@ -11,6 +11,7 @@ use Rattle.cg_shelf.specs.declared.faults.StoreFault.{StoreFault}
 use Rattle.cg_shelf.specs.declared.faults.StoreFault.TheVariants as stores
 use Rattle.cg_tool.specs.declared.job.Mode.{Mode}
 use Rattle.cg_tool.specs.declared.job.Mode.TheVariants.{Gate, Lrat}
+use Rattle.cg_tool.specs.declared.job.Place.TheVariants.{First, Second}
 use Rattle.cg_tool.specs.declared.output.Finish.{Finish}
 use Rattle.cg_tool.specs.declared.output.Finish.TheVariants as finishes
 use Rattle.cg_tool.specs.declared.output.Output.{Output}
@@ -23,13 +24,13 @@ use Rattle.cg_tool.specs.CommandLine.{JobWords}
 use Rattle.cg_tool.specs.Ends.{Ends, EndsJob, Finished, IsOrFails, IsOrNoMemory, KeepsOthers, Refused, SaidInPart, Silent, StandsRefused, StoredOpen, ends_as}
 use Rattle.cg_netlist.specs.Canonical.{blif}
 use Rattle.cg_tool.specs.Drafting.{netlist_said}
-use Rattle.cg_tool.specs.Gate.{Gates}
+use Rattle.cg_tool.specs.Gate.{Gates, gate_output, gated, netlist_of_text}
 use Rattle.cg_tool.specs.Headline.{IsChecked, IsGated, OnFinish}
-use Rattle.cg_tool.specs.Lrat.{Checks, check_finish, check_text}
-use Rattle.cg_tool.specs.Refusal.{status_of}
+use Rattle.cg_tool.specs.Lrat.{Checks, check_finish, check_text, formula_of, log_of, lrat_output}
+use Rattle.cg_tool.specs.Refusal.{◌>>=◌, status_of}
 use Rattle.cg_tool.specs.Run.{Cause, IsKnown, status_after}
 use Rattle.cg_tool.specs.Status.{finish_status}
-use Rattle.cg_tool.specs.Verdict.{Contents, contents, loaded_of, verdict}
+use Rattle.cg_tool.specs.Verdict.{Contents, contents, given, loaded_of, verdict}
 use Rattle.cg_tool.specs.Worlds.{Holds, HoldsOpen, Written}
 
 -- words that are no job end with Usage, or want of memory
@@ -94,59 +95,82 @@ pub comes : (job : Option JobWords) (before after : World) (result : Status) →
 comes None before after result ends tells = tt
 comes (Some job) before after result ends tells = job_comes job before after result tells ends
 
--- names other than that of the stored file
-holds_others : (name : List ℕ) (stored : Option (List ℕ)) (before after : World) → Holds name stored before after → (other : List ℕ) → other ≢ name → after.held other ≡ before.held other
+-- Names other than that of the stored file
+
+-- a name is apart from the stored file, if there is one
+abbrev Apart : Option (List ℕ) → List ℕ → List ℕ → Type 0
+Apart None name other = Unit {0}
+Apart (Some bytes) name other = other ≢ name
+
+abbrev IsApart : JobWords → Result Output Refusal → List ℕ → Type 0
+IsApart job v other = IfOk v (λ output. Apart output.stored job.second other)
+
+holds_others : (name : List ℕ) (stored : Option (List ℕ)) (before after : World) → Holds name stored before after → (other : List ℕ) → Apart stored name other → after.held other ≡ before.held other
 holds_others name None before after holds other apart = ap (λ (held : List ℕ → Option (List ℕ)). held other) holds
 holds_others name (Some bytes) before after holds other apart = holds.1 other apart
 
-open_others : (name : List ℕ) (stored : Option (List ℕ)) (before after : World) → HoldsOpen name stored before after → (other : List ℕ) → other ≢ name → after.held other ≡ before.held other
+open_others : (name : List ℕ) (stored : Option (List ℕ)) (before after : World) → HoldsOpen name stored before after → (other : List ℕ) → Apart stored name other → after.held other ≡ before.held other
 open_others name None before after holds other apart = absurd holds
 open_others name (Some bytes) before after holds other apart = holds other apart
 
-written_others : (job : JobWords) (v : Result Output Refusal) (before after : World) → IsOkAnd v (λ output. Written job output before after) → (other : List ℕ) → other ≢ job.second → after.held other ≡ before.held other
-written_others job (Ok output) before after written = holds_others job.second output.stored before after written.held
-written_others job (Err refusal) before after written = absurd written
+written_others : (job : JobWords) (v : Result Output Refusal) (before after : World) → IsOkAnd v (λ output. Written job output before after) → (other : List ℕ) → IsApart job v other → after.held other ≡ before.held other
+written_others job (Ok output) before after written other apart = holds_others job.second output.stored before after written.held other apart
+written_others job (Err refusal) before after written other apart = absurd written
 
-stored_others : (job : JobWords) (v : Result Output Refusal) (before after : World) → IsOkAnd v (λ output. StoredOpen job output before after) → (other : List ℕ) → other ≢ job.second → after.held other ≡ before.held other
-stored_others job (Ok output) before after stands = open_others job.second output.stored before after stands.held
-stored_others job (Err refusal) before after stands = absurd stands
+stored_others : (job : JobWords) (v : Result Output Refusal) (before after : World) → IsOkAnd v (λ output. StoredOpen job output before after) → (other : List ℕ) → IsApart job v other → after.held other ≡ before.held other
+stored_others job (Ok output) before after stands other apart = open_others job.second output.stored before after stands.held other apart
+stored_others job (Err refusal) before after stands other apart = absurd stands
 
-said_others : (job : JobWords) (v : Result Output Refusal) (before after : World) → IsOkAnd v (λ output. SaidInPart job output before after) → (other : List ℕ) → other ≢ job.second → after.held other ≡ before.held other
-said_others job (Ok output) before after stands = holds_others job.second output.stored before after stands.held
-said_others job (Err refusal) before after stands = absurd stands
+said_others : (job : JobWords) (v : Result Output Refusal) (before after : World) → IsOkAnd v (λ output. SaidInPart job output before after) → (other : List ℕ) → IsApart job v other → after.held other ≡ before.held other
+said_others job (Ok output) before after stands other apart = holds_others job.second output.stored before after stands.held other apart
+said_others job (Err refusal) before after stands other apart = absurd stands
 
-silent_others : (name : List ℕ) (before after : World) → Silent before after → (other : List ℕ) → other ≢ name → after.held other ≡ before.held other
-silent_others name before after silent other apart = ap (λ (held : List ℕ → Option (List ℕ)). held other) silent.held
+silent_others : (before after : World) → Silent before after → (other : List ℕ) → after.held other ≡ before.held other
+silent_others before after silent other = ap (λ (held : List ℕ → Option (List ℕ)). held other) silent.held
 
-refused_others : (job : JobWords) (v : Result Output Refusal) (before after : World) (refusal : Refusal) → StandsRefused job v before after refusal → (other : List ℕ) → other ≢ job.second → after.held other ≡ before.held other
-refused_others job v before after refusals.Netlist stands = silent_others job.second before after stands
-refused_others job v before after refusals.BadHeader stands = silent_others job.second before after stands
-refused_others job v before after (refusals.BadClause line) stands = silent_others job.second before after stands
-refused_others job v before after (refusals.BadLine line) stands = silent_others job.second before after stands
-refused_others job v before after (refusals.ReadFault place) stands = silent_others job.second before after stands
-refused_others job v before after refusals.StoreFault stands = stored_others job v before after stands
-refused_others job v before after refusals.SayFault stands = said_others job v before after stands
-refused_others job v before after (refusals.Limit limit) stands = silent_others job.second before after stands
-refused_others job v before after (refusals.NoMemory Reading) stands = silent_others job.second before after stands
-refused_others job v before after (refusals.NoMemory Storing) stands = stored_others job v before after stands
-refused_others job v before after (refusals.NoMemory Saying) stands = said_others job v before after stands
+refused_others : (job : JobWords) (v : Result Output Refusal) (before after : World) (refusal : Refusal) → StandsRefused job v before after refusal → (other : List ℕ) → IsApart job v other → after.held other ≡ before.held other
+refused_others job v before after refusals.Netlist stands other apart = silent_others before after stands other
+refused_others job v before after refusals.BadHeader stands other apart = silent_others before after stands other
+refused_others job v before after (refusals.BadClause line) stands other apart = silent_others before after stands other
+refused_others job v before after (refusals.BadLine line) stands other apart = silent_others before after stands other
+refused_others job v before after (refusals.ReadFault place) stands other apart = silent_others before after stands other
+refused_others job v before after refusals.StoreFault stands other apart = stored_others job v before after stands other apart
+refused_others job v before after refusals.SayFault stands other apart = said_others job v before after stands other apart
+refused_others job v before after (refusals.Limit limit) stands other apart = silent_others before after stands other
+refused_others job v before after (refusals.NoMemory Reading) stands other apart = silent_others before after stands other
+refused_others job v before after (refusals.NoMemory Storing) stands other apart = stored_others job v before after stands other apart
+refused_others job v before after (refusals.NoMemory Saying) stands other apart = said_others job v before after stands other apart
 
-job_others : (job : JobWords) (before after : World) (result : Status) → IsTrue before.tells → EndsJob job before after result → (other : List ℕ) → other ≢ job.second → after.held other ≡ before.held other
-job_others job before after statuses.Done tells ends = written_others job (verdict job.mode ends.files) before after (ends.written tells)
-job_others job before after statuses.Rejected tells ends = written_others job (verdict job.mode ends.files) before after (ends.written tells)
-job_others job before after statuses.Usage tells ends = absurd ends
-job_others job before after statuses.Netlist tells ends = refused_others job (verdict job.mode ends.files) before after ends.refusal (ends.stands tells)
-job_others job before after statuses.Library tells ends = absurd ends
-job_others job before after statuses.Stimulus tells ends = refused_others job (verdict job.mode ends.files) before after ends.refusal (ends.stands tells)
-job_others job before after statuses.ReadFault tells ends = refused_others job (verdict job.mode ends.files) before after ends.refusal (ends.stands tells)
-job_others job before after statuses.WriteFault tells ends = refused_others job (verdict job.mode ends.files) before after ends.refusal (ends.stands tells)
-job_others job before after statuses.Limit tells ends = refused_others job (verdict job.mode ends.files) before after ends.refusal (ends.stands tells)
-job_others job before after statuses.NoMemory tells ends = refused_others job (verdict job.mode ends.files) before after ends.refusal (ends.stands tells)
+job_others : (job : JobWords) (before after : World) (result : Status) → IsTrue before.tells → EndsJob job before after result → (other : List ℕ) → ((files : Contents) → IsApart job (verdict job.mode files) other) → after.held other ≡ before.held other
+job_others job before after statuses.Done tells ends other apart = written_others job (verdict job.mode ends.files) before after (ends.written tells) other (apart ends.files)
+job_others job before after statuses.Rejected tells ends other apart = written_others job (verdict job.mode ends.files) before after (ends.written tells) other (apart ends.files)
+job_others job before after statuses.Usage tells ends other apart = absurd ends
+job_others job before after statuses.Netlist tells ends other apart = refused_others job (verdict job.mode ends.files) before after ends.refusal (ends.stands tells) other (apart ends.files)
+job_others job before after statuses.Library tells ends other apart = absurd ends
+job_others job before after statuses.Stimulus tells ends other apart = refused_others job (verdict job.mode ends.files) before after ends.refusal (ends.stands tells) other (apart ends.files)
+job_others job before after statuses.ReadFault tells ends other apart = refused_others job (verdict job.mode ends.files) before after ends.refusal (ends.stands tells) other (apart ends.files)
+job_others job before after statuses.WriteFault tells ends other apart = refused_others job (verdict job.mode ends.files) before after ends.refusal (ends.stands tells) other (apart ends.files)
+job_others job before after statuses.Limit tells ends other apart = refused_others job (verdict job.mode ends.files) before after ends.refusal (ends.stands tells) other (apart ends.files)
+job_others job before after statuses.NoMemory tells ends other apart = refused_others job (verdict job.mode ends.files) before after ends.refusal (ends.stands tells) other (apart ends.files)
+
+-- what is said of each thing that a step may go on with
+each_next : {A : Type 0} (r : Result A Refusal) (next : A → Result Output Refusal) (P : Output → Type 0) → ((x : A) → IfOk (next x) P) → IfOk (r >>= next) P
+each_next (Ok x) next P each = each x
+each_next (Err refusal) next P each = tt
+
+-- `gate` stores its second file, and `lrat` none
+apart_by : (mode : Mode) (second other : List ℕ) (files : Contents) → elim mode [ Gate ↦ Some second | Lrat ↦ None ] ≢ Some other → IfOk (verdict mode files) (λ output. Apart output.stored second other)
+apart_by Gate second other files apart =
+    each_next (given First files.first) gate_output (λ output. Apart output.stored second other) (λ text.
+    each_next (netlist_of_text text) (λ netlist. Ok (gated netlist)) (λ output. Apart output.stored second other) (λ netlist same. apart (ap (λ name. Some name) (sym same))))
+apart_by Lrat second other files apart =
+    each_next (given First files.first >>= formula_of) (λ formula. (given Second files.second >>= log_of) >>= λ log. Ok (lrat_output formula log)) (λ output. Apart output.stored second other) (λ formula.
+    each_next (given Second files.second >>= log_of) (λ log. Ok (lrat_output formula log)) (λ output. Apart output.stored second other) (λ log. tt))
 
 -- every other name holds what it held
 pub others : (job : Option JobWords) (before after : World) (result : Status) → Ends job before after result → IsTrue before.tells → KeepsOthers job before after
 others None before after result ends tells = ends.same_held tells
-others (Some job) before after result ends tells = job_others job before after result tells ends
+others (Some job) before after result ends tells = λ other apart. job_others job before after result tells ends other (λ files. apart_by job.mode job.second other files apart)
 
 -- a file that was loaded is what was held
 loaded_test : (P : List ℕ → Type 0) (long : Bool) (bytes : List ℕ) → (let loaded : Result (List ℕ) LoadFault = (if long then Err loads.TooLong else Ok bytes) in IsOkAnd loaded P) → P bytes

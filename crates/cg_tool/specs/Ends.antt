@@ -12,6 +12,7 @@ use Rattle.cg_tool.specs.declared.refusal.Refusal.TheVariants as refusals
 use Rattle.cg_tool.specs.declared.refusal.Step.TheVariants.{Reading, Storing, Saying}
 use Rattle.cg_tool.specs.declared.status.Status.{Status}
 use Rattle.cg_tool.specs.declared.status.Status.TheVariants as statuses
+use Rattle.cg_tool.specs.declared.job.Mode.TheVariants.{Gate, Lrat}
 use Rattle.cg_tool.specs.CommandLine.{JobWords}
 use Rattle.cg_tool.specs.Refusal.{complaint_line, complaint_text, faults_of, status_of}
 use Rattle.cg_tool.specs.Run.{Cause, Complains, IsKnown}
@@ -119,7 +120,11 @@ abbrev pub ends_as : Result Output Refusal → Status
 ends_as (Ok output) = finish_status output.finish
 ends_as (Err refusal) = status_of refusal
 
+-- the name of the file that a job stores, if it stores one
+abbrev pub stored_name : JobWords → Option (List ℕ)
+stored_name job = elim job.mode [ Gate ↦ Some job.second | Lrat ↦ None ]
+
 -- where the words ask for a job, every name but that of the file that it stores holds what it held
 abbrev pub KeepsOthers : Option JobWords → World → World → Type 0
 KeepsOthers None before after = after.held ≡ before.held
-KeepsOthers (Some job) before after = (name : List ℕ) → name ≢ job.second → after.held name ≡ before.held name
+KeepsOthers (Some job) before after = (name : List ℕ) → stored_name job ≢ Some name → after.held name ≡ before.held name

@@ -1,25 +1,23 @@
--- Over truth values nothing is ever refused, and an evaluation is the function's bit.
-use Rattle.std.proofs.Common.{◌≡◌, inl, inr, Bool, true, false, List, [], ◌∷◌, refl, sym, ◌∙◌, ap, map}
+-- Over truth values an evaluation is the function's bit.
+use Rattle.std.proofs.Common.{◌≡◌, Bool, true, false, List, [], ◌∷◌, refl, sym, ◌∙◌, ap, map}
 use Rattle.std.specs.Prelude.{◌==◌}
-use Rattle.cg_cell.specs.Domain.{Seen}
+use Rattle.cg_cell.specs.Domain.{AreValid, Seen}
 use Rattle.cg_cell.specs.Bits.{bits_ops, no_pairs, one_if}
-use Rattle.cg_cell.specs.Build.{AndCall, Evaluates, RefusesAt, Run, Somewhere, Stops}
+use Rattle.cg_cell.specs.Build.{Evaluates}
 use Rattle.cg_cell.specs.Cover.{CoverData, cover_value}
 use Rattle.cg_cell.specs.Term.{Term, term_value}
 use Rattle.cg_cell.specs.Eval.{bits_at, build_term}
 use Rattle.cg_cell.specs.EvalCover.{cover_term}
 
-nowhere : {F : Type 0} (fault : F) (t : Seen) (calls : List AndCall) → Somewhere (RefusesAt (λ s a b f. ⊥) fault t) calls → ⊥
-nowhere fault t [] h = h
-nowhere fault t (call ∷ calls) h = elim h [ inl p ↦ p.allowed | inr q ↦ nowhere fault t calls q ]
-
--- no run stops
-pub bits_never_stop : {F : Type 0} (run : Run) (fault : F) (t : Seen) → Stops (λ s a b f. ⊥) run fault t → ⊥
-bits_never_stop run fault t h = nowhere fault t run.calls h.at
-
 bit_of : (b : Bool) → (one_if b == 1) ≡ b
 bit_of true = refl
 bit_of false = refl
+
+-- truth values are valid
+pub bits_valid : (bits : List Bool) → AreValid bits_ops no_pairs (map one_if bits)
+bits_valid [] = tt
+bits_valid (true ∷ bits) = (refl, bits_valid bits)
+bits_valid (false ∷ bits) = (refl, bits_valid bits)
 
 -- bits stand for themselves
 bits_are : (bits assignment : List Bool) → bits_at bits_ops no_pairs (map one_if bits) assignment ≡ bits

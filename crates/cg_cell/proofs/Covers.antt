@@ -1,7 +1,7 @@
 -- Rows and covers, place by place and row by row.
-use Rattle.std.proofs.Common.{◌≡◌, ℕ, Bool, true, false, ◌+◌, ◌<◌, List, ◌∷◌, length, get_or, drop, Option, ◌&&◌, refl, add-one, drop-cons, subst, sym}
+use Rattle.std.proofs.Common.{◌≡◌, ℕ, Bool, true, false, ◌+◌, ◌<◌, List, [], ◌∷◌, length, get_or, drop, Option, ◌&&◌, refl, add-one, drop-cons, subst, sym}
 use Rattle.std.specs.List.{AllByRecursion, list_any}
-use Rattle.cg_cell.specs.Cover.{agrees, row_matches}
+use Rattle.cg_cell.specs.Cover.{HaveOneLength, agrees, row_matches}
 
 -- what is left of a row from one place on
 pub row_matches-drop : (row : List (Option Bool)) (bits : List Bool) (i : ℕ) (given : Option Bool) (bit : Bool) → i < length row → i < length bits
@@ -29,5 +29,13 @@ next_row-matches bits rows i row h leaves e = let leaves-2 = next_row bits rows 
 pub next_row-leaves : (bits : List Bool) (rows : List (List (Option Bool))) (i : ℕ) (row : List (Option Bool)) → i < length rows → Leaves bits rows (drop i rows)
     → row_matches (get_or rows i row) bits ≡ false → Leaves bits rows (drop (i + 1) rows)
 next_row-leaves bits rows i row h leaves e = let leaves-2 = next_row bits rows i row h leaves in let any = leaves-2.any in record { any = rw e at any; fits = leaves-2.fits.1 }
+
+all_of_one_length : (m n : ℕ) (rows : List (List (Option Bool))) → m ≡ n → AllByRecursion (λ r. length r ≡ n) rows → AllByRecursion (λ r. length r ≡ m) rows
+all_of_one_length m n rows e h = subst (λ k. AllByRecursion (λ r. length r ≡ k) rows) (sym e) h
+
+-- rows of one given length have one length
+pub have_one_length : (n : ℕ) (rows : List (List (Option Bool))) → AllByRecursion (λ r. length r ≡ n) rows → HaveOneLength rows
+have_one_length n [] h = tt
+have_one_length n (row ∷ rows) h = all_of_one_length (length row) n rows h.0 h.1
 
 pub ruleset steps = (row_matches-drop)

@@ -18,7 +18,8 @@
 //! - [`library`]: the cells of a library, by number, by name and by need;
 //! - [`domain`]: values that stand for bits, and what may be done with them;
 //! - [`build`]: what is built from them, as the exclusive or, in a fixed order;
-//! - [`eval`]: expressions and covers over any domain.
+//! - [`eval`], [`eval_cover`]: expressions and covers over any domain;
+//! - [`eval_bits`]: and over truth values.
 #![tactic(auto)]
 
 pub mod build;
@@ -26,6 +27,7 @@ pub mod cell;
 pub mod cover;
 pub mod domain;
 pub mod eval;
+pub mod eval_bits;
 pub mod eval_cover;
 pub mod expr;
 pub mod fault;

@@ -1,5 +1,5 @@
 -- The cells of groups that are added one by one.
-use Rattle.std.proofs.Common.{◌≡◌, ◌<◌, ◌≤◌, ◌+◌, ℕ, zero, suc, nat_le, Bool, true, false, cond, not, IsTrue, List, [], ◌∷◌, ◌++◌, length, map, Option, Some, None, Result, Ok, Err, is_some, refl, sym, ap, ◌∙◌, subst, append_assoc, append-nil, length-append, arith}
+use Rattle.std.proofs.Common.{◌≡◌, ◌<◌, ◌≤◌, ◌+◌, ℕ, suc, nat_le, Bool, true, false, cond, not, IsTrue, List, [], ◌∷◌, ◌++◌, length, Result, Ok, Err, is_some, refl, sym, ap, ◌∙◌, subst, append_assoc, append-nil, length-append, arith}
 use Rattle.std.specs.List.{list_any}
 use Rattle.std.specs.Str.{bytes_eq}
 use Rattle.std.proofs.lemmas.List.{map-append}
@@ -10,7 +10,7 @@ use Rattle.cg_cell.specs.Name.{are_distinct, is_name}
 use Rattle.cg_cell.specs.declared.limit.Limit.TheVariants as limits
 use Rattle.cg_liberty.specs.Kinds.{cell_of}
 use Rattle.cg_liberty.specs.LibText.{Describe, named_groups, names_of}
-use Rattle.cg_liberty.specs.Library.{added, all_added, cell_refusal, then_add, with_cell}
+use Rattle.cg_liberty.specs.Library.{all_added, then_add, with_cell}
 use Rattle.cg_liberty.specs.declared.fault.CellFault.{CellFault}
 use Rattle.cg_liberty.specs.declared.fault.LibertyFault.{LibertyFault}
 use Rattle.cg_liberty.specs.declared.fault.LibertyFault.TheVariants as faults

@@ -16,4 +16,9 @@ pub mod ReadWithin
 pub mod NamedCells
 pub mod DistinctCells
 pub mod AddedCells
+pub mod ArgumentLists
+pub mod AttributeValues
+pub mod SpelledIsRead
+pub mod ReadIsSpelled
+pub mod LibrarySpelled
 pub mod LibTexts

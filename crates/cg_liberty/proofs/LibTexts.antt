@@ -1,5 +1,5 @@
 -- The texts that stand for a library are those that are read as it.
-use Rattle.std.proofs.Common.{◌≡◌, ℕ, List, [], ◌∷◌, length, Option, None, Some, Result, Ok, Err, IfOk, MatchResult, refl, sym, ap, ◌∙◌, arith}
+use Rattle.std.proofs.Common.{◌≡◌, ℕ, List, [], length, Option, None, Some, Result, Ok, Err, IfOk, MatchResult, refl, ap, ◌∙◌, arith}
 use Rattle.cg_cell.specs.Cell.{CellData}
 use Rattle.cg_cell.specs.declared.library.Library.{Library}
 use Rattle.cg_liberty.specs.LibText.{LibText}
@@ -11,6 +11,7 @@ use Rattle.cg_liberty.specs.declared.fault.LibertyFault.{LibertyFault}
 use Rattle.cg_liberty.specs.declared.fault.LibertyFault.TheVariants as faults
 use Rattle.cg_liberty.specs.declared.fault.TextFault.{TextFault}
 use Rattle.cg_liberty.specs.declared.statement.Statement.{Statement}
+use Rattle.cg_liberty.proofs.LibrarySpelled.{library_read, library_spelled}
 use Rattle.cg_liberty.proofs.AddedCells.{Extends, adds, extends}
 
 from_read : (text : List ℕ) (cells : List CellData) (read : List Statement) (fault : Option TextFault) → statements (length text) 0 Start (tokens text) ≡ (read, fault) → by_fault fault read ≡ Ok cells → LibText text cells
@@ -19,7 +20,7 @@ from_read text cells read None is h =
     let found : Extends [] cells (cell_groups read) = extends (cell_groups read) [] cells (record { few = omega arith; distinct = refl }) h in
     record {
       read = read;
-      spelled = is;
+      spelled = library_spelled (length text) (tokens text) read is;
       described = rw found.is found.described;
       few = found.fit.few;
       distinct = found.fit.distinct;
@@ -32,7 +33,7 @@ text_of_library text cells h = let read = statements (length text) 0 Start (toke
 -- what stands in the text is read
 pub library_of_text : (text : List ℕ) (cells : List CellData) → LibText text cells → library_of text ≡ Ok cells
 library_of_text text cells t =
-    let read : library_of text ≡ all_added [] (cell_groups t.read) = ap (λ (r : Read). by_fault r.1 r.0) t.spelled in
+    let read : library_of text ≡ all_added [] (cell_groups t.read) = ap (λ (r : Read). by_fault r.1 r.0) (library_read (length text) (tokens text) t.read t.spelled) in
     read ∙ adds (cell_groups t.read) [] cells t.described (record { few = t.few; distinct = t.distinct })
 
 -- an answer that stands for what is read, by the texts of libraries

@@ -9,4 +9,5 @@ pub mod Port
 pub mod Reading
 pub mod Kinds
 pub mod Library
+pub mod Grammar
 pub mod LibText

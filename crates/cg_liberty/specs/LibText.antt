@@ -1,12 +1,11 @@
 -- The texts that stand for a library.
-use Rattle.std.specs.Prelude.{◌≡◌, ℕ, ◌≤◌, IsTrue, List, length, map, None, Ok}
+use Rattle.std.specs.Prelude.{◌≡◌, ℕ, ◌≤◌, IsTrue, List, length, map, Ok}
 use Rattle.std.specs.List.{AllZip, filter}
 use Rattle.cg_cell.specs.Cell.{CellData}
 use Rattle.cg_cell.specs.Name.{are_distinct, is_name}
+use Rattle.cg_liberty.specs.Grammar.{SpellsLibrary}
 use Rattle.cg_liberty.specs.Kinds.{cell_of}
 use Rattle.cg_liberty.specs.Library.{cell_groups}
-use Rattle.cg_liberty.specs.Statement.{statements}
-use Rattle.cg_liberty.specs.Statement.Phase.{Start}
 use Rattle.cg_liberty.specs.Token.{tokens}
 use Rattle.cg_liberty.specs.declared.group.CellGroup.{CellGroup}
 use Rattle.cg_liberty.specs.declared.statement.Statement.{Statement}
@@ -23,10 +22,10 @@ Describe groups cells = AllZip (λ group cell. cell_of group ≡ Ok cell) groups
 abbrev pub names_of : List CellData → List (List ℕ)
 names_of cells = map (λ cell. cell.name) cells
 
--- the text stands for the library of these cells: it spells statements, the `cell` groups directly in the library whose argument is a name describe the cells in order, and these are at most 4,096, no two of one name
+-- the text stands for the library of these cells: its tokens are one group `library`, the `cell` groups directly in it whose argument is a name describe the cells in order, and these are at most 4,096, no two of one name
 pub record LibText (text : List ℕ) (cells : List CellData) : Type 0 where
   pub read : List Statement
-  pub spelled : statements (length text) 0 Start (tokens text) ≡ (read, None)
+  pub spelled : SpellsLibrary (tokens text) read
   pub described : Describe (named_groups (cell_groups read)) cells
   pub few : length cells ≤ 4096
   pub distinct : IsTrue (are_distinct (names_of cells))

@@ -28,3 +28,4 @@ pub mod DraftSaid
 pub mod DraftMade
 pub mod SaysDraft
 pub mod SaidDraft
+pub mod PlainReading

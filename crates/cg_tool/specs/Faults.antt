@@ -1,5 +1,5 @@
 -- Faults of a text.
-use Rattle.std.specs.Prelude.{◌≡◌, Result, Err}
+use Rattle.std.specs.Prelude.{◌≡◌, Result, Err, MatchResult}
 use Rattle.cg_netlist.specs.Circuit.{Circuit}
 use Rattle.cg_netlist.specs.declared.fault.AddFault.{AddFault}
 use Rattle.cg_netlist.specs.declared.fault.AddFault.TheVariants as adds
@@ -31,3 +31,7 @@ IsFaultOf read (SecondModel number) = read ≡ Err (SecondModel number)
 IsFaultOf read (Net fault) = read ≡ Err (Net fault)
 IsFaultOf read (Limit limit) = read ≡ Err (Limit limit)
 IsFaultOf read NoMemory = Unit {0}
+
+-- a netlist of which this is true is the one that reading answers, unless memory is wanting
+abbrev pub GivesOneOf : (Circuit → Type 0) → Result Circuit BlifFault → Type 0
+GivesOneOf is result = (netlist : Circuit) → is netlist → MatchResult result (λ found. found ≡ netlist) (λ fault. fault ≡ NoMemory)

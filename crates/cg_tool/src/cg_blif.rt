@@ -26,7 +26,8 @@ mod reader;
 #[cfg(test)]
 mod tests;
 
-ghost use Rattle.std.specs.Prelude.{◌≡◌, Ok, MatchResult};
+ghost use Rattle.std.specs.Prelude.{◌≡◌, Ok, IfOk, MatchResult};
+ghost use Rattle.cg_netlist.specs.PlainText.{PlainText};
 ghost use Rattle.cg_tool.specs.Drafting.{netlist_said};
 ghost use Rattle.cg_tool.specs.Faults.{IsFaultOf};
 
@@ -38,7 +39,11 @@ use std::alloc::Global;
 /// Reads the text of a netlist, in time linear in its length. An `Err` names the first line at fault, or what the whole
 /// netlist has wrong, or the limit that is passed, or says that there was no memory.
 pub fn read_blif(alloc: Global, bytes: &[u8]) -> Result<Netlist, BlifFault>
-    ensures { MatchResult result (λ netlist. netlist_said bytes.now ≡ Ok netlist) (λ fault. IsFaultOf (netlist_said bytes.now) fault) }
+    // What the text says when it is read line by line: a netlist, or its first fault.
+    ensures gives { MatchResult result (λ netlist. netlist_said bytes.now ≡ Ok netlist) (λ fault. IsFaultOf (netlist_said bytes.now) fault) }
+
+    // The text is in the plain form, and says the netlist that is found.
+    ensures found { IfOk result (λ netlist. PlainText bytes.now netlist) }
 {
     match draft(alloc, bytes) {
         Ok(builder) => finish(builder),

@@ -1,11 +1,13 @@
 //! Reading a whole text.
 
-ghost use Rattle.std.specs.Prelude.{◌≡◌, None, Some, Ok, Err, IsTrue, MatchResult, MatchOption};
+ghost use Rattle.std.specs.Prelude.{◌≡◌, None, Some, Ok, Err, IsTrue, MatchResult, MatchOption, IfOk};
 ghost use Rattle.cg_cell.specs.Name.{is_name};
 ghost use Rattle.cg_text.specs.Words.{words};
+ghost use Rattle.cg_netlist.specs.Drafted.{IsNetlistOf};
+ghost use Rattle.cg_netlist.specs.Netlist.{IsNetlist};
 ghost use Rattle.cg_netlist.specs.PlainText.{plain_layout};
 ghost use Rattle.cg_tool.specs.Drafting.{draft_of, finished, model_of};
-ghost use Rattle.cg_tool.specs.Faults.{IsFaultOf};
+ghost use Rattle.cg_tool.specs.Faults.{GivesOneOf, IsFaultOf};
 ghost use Rattle.cg_tool.specs.Words.{is_plain};
 
 use crate::cg_blif::command::is_plain;
@@ -50,10 +52,17 @@ pub fn draft(alloc: Global, bytes: &[u8]) -> Result<Builder, BlifFault>
 #[tactic(auto, using(crate::proofs::ReadingLemmas::finishes))]
 pub fn finish(builder: Builder) -> Result<Netlist, BlifFault>
     requires { builder.refused ≡ None }
-    ensures { MatchResult result (λ netlist. finished builder.draft ≡ Ok netlist) (λ fault. IsFaultOf (finished builder.draft) fault) }
+    ensures gives { MatchResult result (λ netlist. finished builder.draft ≡ Ok netlist) (λ fault. IsFaultOf (finished builder.draft) fault) }
+    ensures found { IfOk result (λ netlist. IsNetlistOf builder.draft netlist) }
+    ensures kept { IfOk result IsNetlist }
+    ensures only { GivesOneOf (λ netlist. IsNetlistOf builder.draft netlist) result }
 {
     match builder.finish() {
-        Ok(netlist) => Ok(netlist),
+        Ok(netlist) => {
+            // What is known of every netlist: it is within the limits.
+            let _ = netlist.nets();
+            Ok(netlist)
+        }
         Err(fault) => Err(unfinished_by(fault)),
     }
 }

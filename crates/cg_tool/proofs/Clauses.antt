@@ -23,7 +23,7 @@ use Rattle.cg_tool.specs.declared.status.Status.TheVariants as statuses
 use Rattle.cg_tool.specs.CommandLine.{JobWords}
 use Rattle.cg_tool.specs.Ends.{Ends, EndsJob, Finished, IsOrFails, IsOrNoMemory, KeepsOthers, Refused, SaidInPart, Silent, StandsRefused, StoredOpen, ends_as}
 use Rattle.cg_netlist.specs.Canonical.{blif}
-use Rattle.cg_tool.specs.Drafting.{netlist_said}
+use Rattle.cg_netlist.specs.PlainText.{PlainText}
 use Rattle.cg_tool.specs.Gate.{Gates, gate_output, gated, netlist_of_text}
 use Rattle.cg_tool.specs.Headline.{IsChecked, IsGated, OnFinish}
 use Rattle.cg_tool.specs.Lrat.{Checks, check_finish, check_text, formula_of, log_of, lrat_output}
@@ -255,11 +255,11 @@ gated_output : (job : JobWords) (before after : World) (output : Output) → IsO
 gated_output job before after output known written =
     let found : (text : List ℕ) × (loaded_of (before.held job.first) ≡ Ok text) × Gates text output = text_of (λ text. Gates text output) (loaded_of (before.held job.first)) known in
     let gates : Gates found.0 output = found.2 in
-    let says_loaded : IsOkAnd (loaded_of (before.held job.first)) (λ text. netlist_said text ≡ Ok gates.read) = let P : Result (List ℕ) LoadFault → Type 0 = λ loaded. IsOkAnd loaded (λ text. netlist_said text ≡ Ok gates.read) in subst P (sym found.1) gates.says in
+    let says_loaded : IsOkAnd (loaded_of (before.held job.first)) (λ text. PlainText text gates.read) = let P : Result (List ℕ) LoadFault → Type 0 = λ loaded. IsOkAnd loaded (λ text. PlainText text gates.read) in subst P (sym found.1) gates.says in
     record {
       read = gates.read;
       written = gates.written;
-      says = held_as (λ text. netlist_said text ≡ Ok gates.read) (before.held job.first) says_loaded;
+      says = held_as (λ text. PlainText text gates.read) (before.held job.first) says_loaded;
       read_well_formed = gates.read_well_formed;
       written_well_formed = gates.written_well_formed;
       some = gates.some;

@@ -1,7 +1,8 @@
 -- What `gate` puts out, from the netlist that it read.
-use Rattle.std.proofs.Common.{◌≡◌, ℕ, List, Result, Ok, Err, sym, ◌∙◌, ap, subst}
+use Rattle.std.proofs.Common.{◌≡◌, ℕ, List, Result, Ok, Err, sym, ◌∙◌, ap}
 use Rattle.cg_netlist.specs.Circuit.{Circuit}
 use Rattle.cg_netlist.specs.History.{HasHistory, HasOneHistory, outputs_of}
+use Rattle.cg_netlist.specs.PlainText.{PlainText}
 use Rattle.cg_netlist.specs.WellFormed.{IsWellFormed}
 use Rattle.cg_tool.specs.declared.output.Output.{Output}
 use Rattle.cg_tool.specs.declared.refusal.Refusal.{Refusal}
@@ -9,7 +10,6 @@ use Rattle.cg_tool.specs.declared.refusal.Refusal.TheVariants as refusals
 use Rattle.cg_tool.specs.declared.refusal.Step.TheVariants.{Reading, Storing, Saying}
 use Rattle.cg_tool.specs.Gate.{Gates, SameOutputs, gate_output, gated, netlist_of_text, netlist_refusal}
 use Rattle.cg_tool.specs.Drafting.{netlist_said}
-use Rattle.cg_tool.specs.declared.cg_blif.fault.BlifFault.{BlifFault}
 use Rattle.cg_tool.specs.Refusal.{refused_as, ◌>>=◌}
 use Rattle.cg_tool.specs.Worlds.{Gives}
 
@@ -31,12 +31,7 @@ gives_refused v next (refusals.NoMemory Reading) gives = gives
 gives_refused v next (refusals.NoMemory Storing) gives = gives
 gives_refused v next (refusals.NoMemory Saying) gives = gives
 
--- a text that is read as a netlist says it
-said_by : (v : Result Circuit BlifFault) (c : Circuit) → refused_as netlist_refusal v ≡ Ok c → v ≡ Ok c
-said_by (Ok found) c read = cc
-said_by (Err fault) c read = cc
-
--- a text that is read as a netlist says it to `gate` too
+-- a text that is read as a netlist is read so for `gate` too
 pub gives_said : (text read : List ℕ) (c : Circuit) → read ≡ text → netlist_said read ≡ Ok c → netlist_of_text text ≡ Ok c
 gives_said text read c same said = ap (λ t. refused_as netlist_refusal (netlist_said t)) (sym same) ∙ ap (refused_as netlist_refusal) said
 
@@ -44,5 +39,5 @@ gives_said text read c same said = ap (λ t. refused_as netlist_refusal (netlist
 pub gives_gated : (text : List ℕ) (c : Circuit) (output : Output) → netlist_of_text text ≡ Ok c → output ≡ gated c → gate_output text ≡ Ok output
 gives_gated text c output read is = let next : Circuit → Result Output Refusal = λ netlist. Ok (gated netlist) in ap (λ found. found >>= next) read ∙ ap (λ (o : Output). let found : Result Output Refusal = Ok o in found) (sym is)
 
-pub gates_text : (text : List ℕ) (c : Circuit) (output : Output) → netlist_of_text text ≡ Ok c → output ≡ gated c → IsWellFormed c → HasHistory c → HasOneHistory c → Gates text output
-gates_text text c output read is formed some one = record { read = c; written = c; says = said_by (netlist_said text) c read; read_well_formed = formed; written_well_formed = formed; some = some; one = one; is = is; same = same_outputs c one }
+pub gates_text : (text : List ℕ) (c : Circuit) (output : Output) → PlainText text c → output ≡ gated c → IsWellFormed c → HasHistory c → HasOneHistory c → Gates text output
+gates_text text c output says is formed some one = record { read = c; written = c; says = says; read_well_formed = formed; written_well_formed = formed; some = some; one = one; is = is; same = same_outputs c one }

@@ -1,5 +1,5 @@
 -- From the draft of a text to its netlist.
-use Rattle.std.proofs.Common.{◌≡◌, ◌⊎◌, inl, inr, Option, None, Some, Result, Ok, Err, MatchResult, refl, sym, ap, subst, ◌∙◌}
+use Rattle.std.proofs.Common.{◌≡◌, ◌⊎◌, inl, inr, None, Some, Result, Ok, Err, MatchResult, sym, ap, subst, ◌∙◌}
 use Rattle.cg_netlist.specs.Circuit.{Circuit}
 use Rattle.cg_netlist.specs.Finish.{fault_of, netlist_of}
 use Rattle.cg_netlist.specs.declared.fault.NetFault.{NetFault}

@@ -32,6 +32,6 @@ IsFaultOf read (Net fault) = read ≡ Err (Net fault)
 IsFaultOf read (Limit limit) = read ≡ Err (Limit limit)
 IsFaultOf read NoMemory = Unit {0}
 
--- a netlist of which this is true is the one that reading answers, unless memory is wanting
-abbrev pub GivesOneOf : (Circuit → Type 0) → Result Circuit BlifFault → Type 0
-GivesOneOf is result = (netlist : Circuit) → is netlist → MatchResult result (λ found. found ≡ netlist) (λ fault. fault ≡ NoMemory)
+-- each netlist of which this is true is the one that is answered, unless memory is wanting
+abbrev pub IsOnlyAnswer : (Circuit → Type 0) → Result Circuit BlifFault → Type 0
+IsOnlyAnswer is result = (netlist : Circuit) → is netlist → MatchResult result (λ found. found ≡ netlist) (λ fault. fault ≡ NoMemory)

@@ -3,6 +3,7 @@ use Rattle.std.specs.Prelude.{◌≡◌, ℕ, Bool, List, [], ◌∷◌, ◌++�
 use Rattle.cg_netlist.specs.Canonical.{blif}
 use Rattle.cg_netlist.specs.Circuit.{Circuit}
 use Rattle.cg_netlist.specs.History.{HasHistory, HasOneHistory, IsLawful, IsStart, IsWaveform, Moment, Tick, outputs_of}
+use Rattle.cg_netlist.specs.PlainText.{PlainText}
 use Rattle.cg_netlist.specs.WellFormed.{IsWellFormed}
 use Rattle.cg_tool.specs.Drafting.{netlist_said}
 use Rattle.cg_tool.specs.Refusal.{refused_as, ◌>>=◌}
@@ -32,7 +33,7 @@ stages_text = codes "stages 0 inserted 0" ++ 10 ∷ []
 abbrev pub gated : Circuit → Output
 gated netlist = record { stored = Some (blif netlist); said = stages_text; finish = finishes.Done }
 
--- the netlist that a text says, or why the text is refused
+-- the netlist that a text is read as, or why the text is refused
 abbrev pub netlist_of_text : List ℕ → Result Circuit Refusal
 netlist_of_text text = refused_as netlist_refusal (netlist_said text)
 
@@ -46,12 +47,12 @@ abbrev pub SameOutputs : Circuit → Circuit → Type 0
 SameOutputs read written = (start : List Bool) (wave : List Tick) → IsStart read start → IsWaveform read wave
     → (history gated : List Moment) → IsLawful read start wave history → IsLawful written start wave gated → outputs_of read history ≡ outputs_of written gated
 
--- What `gate` puts out of a text: the text says a well-formed netlist, which has exactly one lawful history for each
--- start and waveform. What is stored is the canonical text of a well-formed netlist that behaves as the one that was read.
+-- What `gate` puts out of a text: the text is in the plain form and says a well-formed netlist, which has exactly one
+-- lawful history for each start and waveform. What is stored is the canonical text of a well-formed netlist that behaves as the one that was read.
 pub record Gates (text : List ℕ) (output : Output) : Type 0 where
   pub read : Circuit
   pub written : Circuit
-  pub says : netlist_said text ≡ Ok read
+  pub says : PlainText text read
   pub read_well_formed : IsWellFormed read
   pub written_well_formed : IsWellFormed written
   pub some : HasHistory read

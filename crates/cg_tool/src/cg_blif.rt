@@ -29,7 +29,7 @@ mod tests;
 ghost use Rattle.std.specs.Prelude.{◌≡◌, Ok, IfOk, MatchResult};
 ghost use Rattle.cg_netlist.specs.PlainText.{PlainText};
 ghost use Rattle.cg_tool.specs.Drafting.{netlist_said};
-ghost use Rattle.cg_tool.specs.Faults.{IsFaultOf};
+ghost use Rattle.cg_tool.specs.Faults.{IsFaultOf, IsOnlyAnswer};
 
 use cg_netlist::netlist::Netlist;
 use fault::BlifFault;
@@ -44,6 +44,9 @@ pub fn read_blif(alloc: Global, bytes: &[u8]) -> Result<Netlist, BlifFault>
 
     // The text is in the plain form, and says the netlist that is found.
     ensures found { IfOk result (λ netlist. PlainText bytes.now netlist) }
+
+    // A text in the plain form that says a netlist is read as that one, unless memory is wanting.
+    ensures only { IsOnlyAnswer (PlainText bytes.now) result }
 {
     match draft(alloc, bytes) {
         Ok(builder) => finish(builder),

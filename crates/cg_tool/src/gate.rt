@@ -2,6 +2,7 @@
 
 ghost use Rattle.std.specs.Prelude.{◌≡◌, IfOk};
 ghost use Rattle.cg_netlist.specs.History.{HasHistory, HasOneHistory};
+ghost use Rattle.cg_netlist.specs.PlainText.{PlainText};
 ghost use Rattle.cg_netlist.specs.WellFormed.{IsWellFormed};
 ghost use Rattle.cg_tool.specs.CommandLine.{job_words};
 ghost use Rattle.cg_tool.specs.Gate.{gate_output, gated, netlist_of_text, Gates};
@@ -42,7 +43,8 @@ fn gate_text(alloc: Global, text: &Seq<u8>) -> Result<Output, Refusal>
 
 /// Reads a netlist from its text.
 fn read_netlist(alloc: Global, text: &Seq<u8>) -> Result<Netlist, Refusal>
-    ensures { Gives (netlist_of_text text.now) result }
+    ensures gives { Gives (netlist_of_text text.now) result }
+    ensures says { IfOk result (λ netlist. PlainText text.now netlist) }
 {
     match read_blif(alloc, text.as_slice()) {
         Ok(netlist) => Ok(netlist),

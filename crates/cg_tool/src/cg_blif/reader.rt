@@ -7,7 +7,7 @@ ghost use Rattle.cg_netlist.specs.Drafted.{IsNetlistOf};
 ghost use Rattle.cg_netlist.specs.Netlist.{IsNetlist};
 ghost use Rattle.cg_netlist.specs.PlainText.{plain_layout};
 ghost use Rattle.cg_tool.specs.Drafting.{draft_of, finished, model_of};
-ghost use Rattle.cg_tool.specs.Faults.{GivesOneOf, IsFaultOf};
+ghost use Rattle.cg_tool.specs.Faults.{IsOnlyAnswer, IsFaultOf};
 ghost use Rattle.cg_tool.specs.Words.{is_plain};
 
 use crate::cg_blif::command::is_plain;
@@ -55,7 +55,7 @@ pub fn finish(builder: Builder) -> Result<Netlist, BlifFault>
     ensures gives { MatchResult result (λ netlist. finished builder.draft ≡ Ok netlist) (λ fault. IsFaultOf (finished builder.draft) fault) }
     ensures found { IfOk result (λ netlist. IsNetlistOf builder.draft netlist) }
     ensures kept { IfOk result IsNetlist }
-    ensures only { GivesOneOf (λ netlist. IsNetlistOf builder.draft netlist) result }
+    ensures only { IsOnlyAnswer (λ netlist. IsNetlistOf builder.draft netlist) result }
 {
     match builder.finish() {
         Ok(netlist) => {

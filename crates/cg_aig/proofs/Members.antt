@@ -1,10 +1,10 @@
 -- Which literals are of a node of a list.
-use Rattle.std.proofs.Common.{◌≡◌, ◌<◌, ◌≤◌, ℕ, ◌+◌, ◌*◌, ◌/◌, Bool, true, false, ◌&&◌, sym, ◌∙◌, ap, arith, length, IsTrue}
+use Rattle.std.proofs.Common.{◌≡◌, ℕ, ◌+◌, ◌*◌, ◌/◌, ◌&&◌, sym, ◌∙◌, ap, arith, length}
 use Rattle.std.specs.Prelude.{nat_le, nat_lt}
 use Rattle.std.proofs.Math.Bool.{and-true}
 use Rattle.std.proofs.lemmas.Bool.Decides.{nat_tests}
 use Rattle.cg_cell.specs.Domain.{Seen}
-use Rattle.cg_aig.specs.Aig.{IsAig, aig_ops, is_sound, nodes}
+use Rattle.cg_aig.specs.Aig.{IsAig, aig_ops, nodes}
 
 same_test : (a n : ℕ) → nat_le (a / 2) n ≡ nat_lt a (2 * (1 + n))
 same_test a n = grind (arith, nat_tests)

@@ -1,5 +1,7 @@
 //! Literals, limits and values against answers that were worked out by hand.
 
+mod functions;
+
 use crate::list::Aig;
 use crate::lit::AigLit;
 

@@ -1,4 +1,4 @@
-use Rattle.std.proofs.Common.{ℕ, ◌+◌, ◌/◌, ◌∙◌, ap, length}
+use Rattle.std.proofs.Common.{ℕ, ◌+◌, ◌/◌, ◌∙◌, ap}
 use Rattle.std.specs.Prelude.{nat_le}
 use Rattle.cg_aig.proofs.Members.{contains_is}
 use Rattle.cg_aig.proofs.list.Aig.contains.Goals as goal

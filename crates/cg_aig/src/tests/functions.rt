@@ -1,0 +1,171 @@
+//! Expressions and covers over bits and over lists, against truth tables.
+//!
+//! The tables were computed from the definition of the operators by a script in Python.
+
+ghost use Rattle.std.specs.Prelude.{◌≡◌, IfOk, IfSome, IsTrue, length};
+ghost use Rattle.cg_cell.specs.Cover.{Fits};
+ghost use Rattle.cg_cell.specs.Domain.{AreValid};
+ghost use Rattle.cg_cell.specs.Expr.{is_over};
+ghost use Rattle.cg_aig.specs.Aig.{aig_ops};
+
+use super::bit_at;
+use crate::list::Aig;
+use crate::lit::AigLit;
+use cg_cell::cover::{Cover, CoverRow};
+use cg_cell::expr::Expr;
+use cg_cell::name::Name;
+use cg_cell::reading::read_expr;
+use std::alloc::{AllocError, Global};
+use std::test::Fail;
+
+/// The literals of the leaves of a list of three.
+fn leaves(aig: &Aig) -> Option<[AigLit; 3]>
+    ensures { IfSome result (λ lits. AreValid aig_ops aig.now lits) }
+{
+    if aig.leaves() != 3 {
+        return None;
+    }
+    Some([aig.leaf(0), aig.leaf(1), aig.leaf(2)])
+}
+
+/// The literal of an expression over three leaves.
+fn of_expr(aig: &mut Aig, expr: &Expr) -> Option<AigLit>
+    requires { IsTrue (is_over 3 expr.now) }
+{
+    let inputs = leaves(aig)?;
+    expr.eval(aig, &inputs).ok()
+}
+
+/// The literal of a cover over three leaves.
+fn of_cover(aig: &mut Aig, cover: &Cover) -> Option<AigLit>
+    requires { Fits 3 cover.now }
+{
+    let inputs = leaves(aig)?;
+    cover.eval(aig, &inputs).ok()
+}
+
+/// The bits at 000, 001, .. 111, by the number of the row.
+fn row(k: usize) -> [bool; 3] {
+    [k / 4 % 2 == 1, k / 2 % 2 == 1, k % 2 == 1]
+}
+
+/// Texts of expressions over A, B and C, and their bits at 000, 001, .. 111.
+const TEXTS: [(&str, [u8; 8]); 11] = [
+    ("A*B", [0, 0, 0, 0, 0, 0, 1, 1]),
+    ("A+B'", [1, 1, 0, 0, 1, 1, 1, 1]),
+    ("!(A^B)*C", [0, 1, 0, 0, 0, 0, 0, 1]),
+    ("(A+B)(A'+C)", [0, 0, 1, 1, 0, 1, 0, 1]),
+    ("A B' C + !A", [1, 1, 1, 1, 0, 1, 0, 0]),
+    ("(A^B^C)'", [1, 0, 0, 1, 0, 1, 1, 0]),
+    ("A ^ B & C | C'", [1, 0, 1, 1, 1, 1, 1, 0]),
+    ("(!A + B C)' ^ (C B')", [0, 1, 0, 0, 1, 0, 1, 0]),
+    ("1", [1, 1, 1, 1, 1, 1, 1, 1]),
+    ("0*A", [0, 0, 0, 0, 0, 0, 0, 0]),
+    ("A''", [0, 0, 0, 0, 1, 1, 1, 1]),
+];
+
+/// The pins A, B and C.
+fn pins(alloc: Global) -> Result<Vec<Name>, AllocError>
+    ensures { IfOk result (λ pins. length pins.items ≡ 3) }
+{
+    let mut pins = Vec::new(alloc);
+    pins.push(Name::new(alloc, b"A")?)?;
+    pins.push(Name::new(alloc, b"B")?)?;
+    pins.push(Name::new(alloc, b"C")?)?;
+    Ok(pins)
+}
+
+#[test]
+fn expressions(rt: HostRuntime) -> Result<(), Fail> {
+    let pins = pins(rt.alloc())?;
+    for (text, table) in TEXTS {
+        let expr = read_expr(rt.alloc(), text.as_bytes(), &pins)?;
+        let mut aig = Aig::new(rt.alloc(), 3).expect(&rt, "3 leaves");
+        let lit = of_expr(&mut aig, &expr).expect(&rt, "room for the nodes");
+        for (k, bit) in table.iter().enumerate() {
+            let wanted = *bit == 1;
+            assert_eq!(rt; expr.value(&row(k)), wanted, "{text} at {k}");
+            assert_eq!(rt; expr.eval_bits(&row(k)), wanted, "{text} over bits at {k}");
+            assert_eq!(rt;
+                bit_at(&aig, lit, &row(k)),
+                Some(wanted),
+                "{text} over a list at {k}"
+            );
+        }
+    }
+    Ok(())
+}
+
+/// Rows over three inputs, their value, and the bits at 000, 001, .. 111.
+const ROWS: [(&[[Option<bool>; 3]], bool, [u8; 8]); 6] = [
+    (
+        &[[Some(true), None, Some(false)]],
+        true,
+        [0, 0, 0, 0, 1, 0, 1, 0],
+    ),
+    (
+        &[
+            [Some(true), None, Some(false)],
+            [Some(false), Some(true), None],
+        ],
+        true,
+        [0, 0, 1, 1, 1, 0, 1, 0],
+    ),
+    (
+        &[
+            [Some(true), None, Some(false)],
+            [Some(false), Some(true), None],
+        ],
+        false,
+        [1, 1, 0, 0, 0, 1, 0, 1],
+    ),
+    (&[[None, None, None]], true, [1, 1, 1, 1, 1, 1, 1, 1]),
+    (
+        &[
+            [Some(true), Some(true), Some(true)],
+            [Some(false), Some(false), Some(false)],
+        ],
+        false,
+        [0, 1, 1, 1, 1, 1, 1, 0],
+    ),
+    (&[], true, [0, 0, 0, 0, 0, 0, 0, 0]),
+];
+
+/// A cover of these rows; None where there are none and `on` is false.
+fn cover(alloc: Global, rows: &[[Option<bool>; 3]], on: bool) -> Result<Option<Cover>, AllocError>
+    ensures { IfOk result (λ made. IfSome made (λ cover. Fits 3 cover)) }
+{
+    let mut made = Vec::new(alloc);
+    'rows: for row in rows {
+        let bits = Vec::from_slice(alloc, row)?;
+        made.push(CoverRow { bits })?;
+    }
+    if made.is_empty() && !on {
+        return Ok(None);
+    }
+    Ok(Some(Cover::new(made, on)))
+}
+
+#[test]
+fn covers(rt: HostRuntime) -> Result<(), Fail> {
+    for (rows, on, table) in ROWS {
+        let cover = cover(rt.alloc(), rows, on)?.expect(&rt, "a value that the rows can have");
+        let mut aig = Aig::new(rt.alloc(), 3).expect(&rt, "3 leaves");
+        let lit = of_cover(&mut aig, &cover).expect(&rt, "room for the nodes");
+        for (k, bit) in table.iter().enumerate() {
+            let wanted = *bit == 1;
+            assert_eq!(rt; cover.value(&row(k)), wanted, "{rows:?} at {k}");
+            assert_eq!(rt;
+                cover.eval_bits(&row(k)),
+                wanted,
+                "{rows:?} over bits at {k}"
+            );
+            assert_eq!(rt;
+                bit_at(&aig, lit, &row(k)),
+                Some(wanted),
+                "{rows:?} over a list at {k}"
+            );
+        }
+    }
+    Ok(())
+}

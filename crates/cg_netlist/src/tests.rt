@@ -3,11 +3,13 @@
 ghost use Rattle.std.specs.Prelude.{◌≡◌, None, OnOk};
 
 use crate::builder::Builder;
-use crate::fault::NetFault;
+use crate::fault::{AddFault, NetFault};
 use crate::id::NetId;
 use crate::netlist::Netlist;
 use cg_cell::cover::Cover;
+use cg_cell::limit::Limit;
 use cg_cell::name::Name;
+use cg_text::number::push_number;
 use std::alloc::{AllocError, Global};
 use std::test::Fail;
 
@@ -210,5 +212,61 @@ fn drafts_make_netlists_or_name_their_first_fault(rt: HostRuntime) -> Result<(),
         let said = said(rt.alloc(), finished(rt.alloc(), draft)?)?;
         assert_eq!(rt; said.as_slice(), want.as_bytes());
     }
+    Ok(())
+}
+
+/// Makes inputs of so many nets, which are named by their numbers.
+fn fill_with_inputs(alloc: Global, builder: &mut Builder, nets: u32) -> Result<(), Fail> {
+    let mut digits = Vec::new(alloc);
+    for net in 0..nets {
+        digits.clear();
+        push_number(&mut digits, u64::from(net))?;
+        if Name::is_name(&digits) {
+            builder.input(&digits)?;
+        }
+    }
+    Ok(())
+}
+
+/// Adds so many registers, all on the same nets.
+fn fill_with_registers(alloc: Global, builder: &mut Builder, registers: u32) -> Result<(), Fail> {
+    let inputs = [name(alloc, "d")?];
+    let outputs = [Some(name(alloc, "q")?)];
+    let clock = name(alloc, "clk")?;
+    for _register in 0..registers {
+        builder.register(&inputs, &outputs, Some(clock.bytes()), 2)?;
+    }
+    Ok(())
+}
+
+fn is_limit(added: Result<(), AddFault>, limit: Limit) -> bool {
+    matches!(added, Err(AddFault::Limit(passed)) if passed == limit)
+}
+
+#[test]
+fn one_net_more_than_1048576_is_refused(rt: HostRuntime) -> Result<(), Fail> {
+    let one_more = name(rt.alloc(), "one_more")?;
+    let mut builder = Builder::new(rt.alloc(), one_more.bytes())?;
+    fill_with_inputs(rt.alloc(), &mut builder, 1_048_576)?;
+    assert!(rt; is_limit(builder.output(one_more.bytes()), Limit::Nets));
+    let known = name(rt.alloc(), "7")?;
+    assert!(rt; is_limit(builder.output(known.bytes()), Limit::Nets));
+    Ok(())
+}
+
+#[test]
+fn one_register_more_than_65536_is_refused(rt: HostRuntime) -> Result<(), Fail> {
+    let model = name(rt.alloc(), "m")?;
+    let mut builder = Builder::new(rt.alloc(), model.bytes())?;
+    fill_with_registers(rt.alloc(), &mut builder, 65_536)?;
+    let inputs = [name(rt.alloc(), "d")?];
+    let outputs = [Some(name(rt.alloc(), "p")?)];
+    let clock = name(rt.alloc(), "clk")?;
+    assert!(rt;
+        is_limit(
+            builder.register(&inputs, &outputs, Some(clock.bytes()), 2),
+            Limit::Registers
+        )
+    );
     Ok(())
 }

@@ -1,5 +1,5 @@
 -- What follows from how a run ends, clause by clause.
-use Rattle.std.proofs.Common.{◌≡◌, ◌≢◌, ℕ, Bool, true, false, IsTrue, List, ◌++◌, Option, None, Some, Result, Ok, Err, refl, sym, ◌∙◌, ap, subst, if◌then◌else◌, nat_lt, length}
+use Rattle.std.proofs.Common.{◌≡◌, ◌≢◌, ℕ, Bool, true, false, IsTrue, List, [], ◌++◌, Option, None, Some, Result, Ok, Err, refl, sym, ◌∙◌, ap, subst, if◌then◌else◌, nat_lt, length}
 use Rattle.std.specs.Prelude.{IfOk, IfSome, IsOkAnd, IsSomeAnd}
 use Rattle.cg_lrat.specs.Accepted.{verdict as check_verdict}
 use Rattle.cg_lrat.specs.DimacsText.{DimacsText}
@@ -22,6 +22,7 @@ use Rattle.cg_tool.specs.declared.status.Status.{Status}
 use Rattle.cg_tool.specs.declared.status.Status.TheVariants as statuses
 use Rattle.cg_tool.specs.CommandLine.{JobWords}
 use Rattle.cg_tool.specs.Ends.{Ends, EndsJob, Finished, IsOrFails, IsOrNoMemory, KeepsOthers, Refused, SaidInPart, Silent, StandsRefused, StoredOpen, ends_as}
+use Rattle.cg_netlist.specs.BlifText.{BlifText}
 use Rattle.cg_netlist.specs.Canonical.{blif}
 use Rattle.cg_netlist.specs.PlainText.{PlainText}
 use Rattle.cg_tool.specs.Gate.{Gates, gate_output, gated, netlist_of_text}
@@ -32,6 +33,7 @@ use Rattle.cg_tool.specs.Run.{Cause, IsKnown, status_after}
 use Rattle.cg_tool.specs.Status.{finish_status}
 use Rattle.cg_tool.specs.Verdict.{Contents, contents, given, loaded_of, verdict}
 use Rattle.cg_tool.specs.Worlds.{Holds, HoldsOpen, Written}
+use Rattle.cg_tool.proofs.PlainIsBlif.{plain_is_blif}
 
 -- words that are no job end with Usage, or want of memory
 usage_answered : (answer : Result (Unit {0}) StoreFault) → IsOrNoMemory statuses.Usage (status_after statuses.Usage answer)
@@ -243,6 +245,10 @@ pub checked : (job : Option JobWords) (before after : World) (result : Status) �
 checked None before after result ends tells = tt
 checked (Some job) before after result ends tells = λ mode. job_checked job before after result tells ends mode
 
+some_weaker : (held : Option (List ℕ)) (P Q : List ℕ → Type 0) → ((text : List ℕ) → P text → Q text) → IsSomeAnd held P → IsSomeAnd held Q
+some_weaker None P Q weaker is = absurd is
+some_weaker (Some text) P Q weaker is = weaker text is
+
 -- a netlist that was gated, from what its run put out
 text_of : (P : List ℕ → Type 0) (loaded : Result (List ℕ) LoadFault) → IsOkAnd loaded P → (text : List ℕ) × (loaded ≡ Ok text) × P text
 text_of P (Ok text) known = (text, refl, known)
@@ -255,11 +261,13 @@ gated_output : (job : JobWords) (before after : World) (output : Output) → IsO
 gated_output job before after output known written =
     let found : (text : List ℕ) × (loaded_of (before.held job.first) ≡ Ok text) × Gates text output = text_of (λ text. Gates text output) (loaded_of (before.held job.first)) known in
     let gates : Gates found.0 output = found.2 in
-    let says_loaded : IsOkAnd (loaded_of (before.held job.first)) (λ text. PlainText text gates.read) = let P : Result (List ℕ) LoadFault → Type 0 = λ loaded. IsOkAnd loaded (λ text. PlainText text gates.read) in subst P (sym found.1) gates.says in
+    let plain_loaded : IsOkAnd (loaded_of (before.held job.first)) (λ text. PlainText text gates.read) = let P : Result (List ℕ) LoadFault → Type 0 = λ loaded. IsOkAnd loaded (λ text. PlainText text gates.read) in subst P (sym found.1) gates.says in
+    let plain_held : IsSomeAnd (before.held job.first) (λ text. PlainText text gates.read) = held_as (λ text. PlainText text gates.read) (before.held job.first) plain_loaded in
     record {
       read = gates.read;
       written = gates.written;
-      says = held_as (λ text. PlainText text gates.read) (before.held job.first) says_loaded;
+      says = some_weaker (before.held job.first) (λ text. PlainText text gates.read) (λ text. BlifText text [] None gates.read) (λ text plain. plain_is_blif text gates.read plain) plain_held;
+      plain = plain_held;
       read_well_formed = gates.read_well_formed;
       written_well_formed = gates.written_well_formed;
       some = gates.some;

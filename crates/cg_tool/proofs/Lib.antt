@@ -29,3 +29,5 @@ pub mod DraftMade
 pub mod SaysDraft
 pub mod SaidDraft
 pub mod PlainReading
+pub mod PlainSaid
+pub mod Taken

@@ -1,6 +1,6 @@
 -- A text in the plain form is a BLIF text, and says the same netlist as one.
 use Rattle.std.proofs.Common.{◌≡◌, ◌≢◌, ℕ, zero, suc, ◌+◌, ◌-◌, ◌≤◌, Bool, true, false, not, ◌&&◌, ◌||◌, ◌==◌, cond, List, [], ◌∷◌, ◌++◌, map, length, Option, None, Some, refl, sym, ap, ◌∙◌, inl, inr, subst, reverse, take, arith, IsTrue}
-use Rattle.std.specs.Prelude.{codes}
+use Rattle.std.specs.Prelude.{Result, Ok, Err, IfOk, codes}
 use Rattle.std.specs.List.{AllByRecursion, before_first, filter, flat_map, list_all, onto_first, position_or_len, slice_get}
 use Rattle.std.specs.Option.{option_map_or}
 use Rattle.std.specs.Str.{bytes_eq}
@@ -20,6 +20,7 @@ use Rattle.cg_netlist.specs.Circuit.{Circuit}
 use Rattle.cg_netlist.specs.LogicalLines.{bared, is_joined, joined, logical_lines, without_front, word_lines}
 use Rattle.cg_netlist.specs.PlainText.{IsPlainPart, PlainText, is_bare, plain_layout, plain_lines, plain_statements}
 use Rattle.cg_netlist.specs.Statements.{Word, Statement, Model, Inputs, Outputs, Clocks, Names, Latch, Gate, Skipped, End, statement_lines, init_word}
+use Rattle.cg_tool.specs.declared.cg_blif.fault.BlifFault.{BlifFault}
 use Rattle.cg_tool.proofs.LineEnds.{words_without_end}
 
 -- Bare lines
@@ -189,3 +190,8 @@ plain_is_blif text c plain =
       fit = (tt, (tt, fits_each plain.parts spells.fit));
       says = plain.says;
     }
+
+-- what is found of a text in the plain form is found of a BLIF text
+pub plain_blif : (text : List ℕ) (result : Result Circuit BlifFault) → IfOk result (λ c. PlainText text c) → IfOk result (λ c. BlifText text [] None c)
+plain_blif text (Ok c) plain = plain_is_blif text c plain
+plain_blif text (Err fault) plain = tt

@@ -26,7 +26,8 @@ mod reader;
 #[cfg(test)]
 mod tests;
 
-ghost use Rattle.std.specs.Prelude.{◌≡◌, Ok, IfOk, MatchResult};
+ghost use Rattle.std.specs.Prelude.{◌≡◌, [], None, Ok, IfOk, MatchResult};
+ghost use Rattle.cg_netlist.specs.BlifText.{BlifText};
 ghost use Rattle.cg_netlist.specs.PlainText.{PlainText};
 ghost use Rattle.cg_tool.specs.Drafting.{netlist_said};
 ghost use Rattle.cg_tool.specs.Faults.{IsFaultOf, IsOnlyAnswer};
@@ -44,6 +45,9 @@ pub fn read_blif(alloc: Global, bytes: &[u8]) -> Result<Netlist, BlifFault>
 
     // The text is in the plain form, and says the netlist that is found.
     ensures found { IfOk result (λ netlist. PlainText bytes.now netlist) }
+
+    // It is a BLIF text, with no library, and says that netlist.
+    ensures blif { IfOk result (λ netlist. BlifText bytes.now [] None netlist) }
 
     // A text in the plain form that says a netlist is read as that one, unless memory is wanting.
     ensures only { IsOnlyAnswer (PlainText bytes.now) result }

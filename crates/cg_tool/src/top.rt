@@ -4,7 +4,7 @@ ghost use Rattle.std.specs.Prelude.{◌≡◌, map, None, IsTrue, IfSome};
 ghost use Rattle.std.specs.String.{string_bytes};
 ghost use Rattle.cg_tool.specs.CommandLine.{job_of, job_words};
 ghost use Rattle.cg_tool.specs.Ends.{Ends, IsOrFails, IsOrNoMemory, KeepsOthers, ends_as};
-ghost use Rattle.cg_tool.specs.Headline.{IsChecked, IsGated, OnFinish};
+ghost use Rattle.cg_tool.specs.Headline.{IsChecked, IsGated, OnFinish, TakesPlain};
 ghost use Rattle.cg_tool.specs.Verdict.{contents, verdict};
 ghost use Rattle.cg_tool.specs.Run.{Reads, Attempts, Complains, Refuses, RunsJob, Runs};
 
@@ -37,6 +37,10 @@ pub fn run<S: Shelf>(alloc: Global, words: &[String], shelf: &mut S) -> Status
     // `gate` writes a netlist whose outputs equal those of the one that it read, at every moment.
     ensures gated { IsTrue (S.world shelf.old).tells → IfSome (job_of (map string_bytes words.now))
         (λ job. job.mode ≡ Mode.Gate → OnFinish result (IsGated job (S.world shelf.old) (S.world shelf.new) result)) }
+
+    // `gate` refuses no text in the plain form that says a netlist.
+    ensures taken { IsTrue (S.world shelf.old).tells → IfSome (job_of (map string_bytes words.now))
+        (λ job. job.mode ≡ Mode.Gate → TakesPlain job (S.world shelf.old) result) }
 
     // `lrat` checks the proof that it was given, and what it accepts has no satisfying assignment.
     ensures checked { IsTrue (S.world shelf.old).tells → IfSome (job_of (map string_bytes words.now))

@@ -4,6 +4,7 @@ use Rattle.cg_tool.specs.CommandLine.{job_of}
 use Rattle.cg_tool.specs.Ends.{Ends}
 use Rattle.cg_tool.proofs.Clauses.{checked, comes, gates, others, usage, usage_only}
 use Rattle.cg_tool.proofs.Promises.{ends_of_run}
+use Rattle.cg_tool.proofs.Taken.{taken}
 use Rattle.cg_tool.proofs.top.run.Goals as goal
 
 pub returns : goal.returns
@@ -19,5 +20,6 @@ returns g c =
       comes = comes job before after c.run_words.result ends;
       others = others job before after c.run_words.result ends;
       gated = gates job before after c.run_words.result ends;
+      taken = taken job before after c.run_words.result ends;
       checked = checked job before after c.run_words.result ends;
     }

@@ -18,6 +18,11 @@ use cg_cell::reading::read_expr;
 use std::alloc::{AllocError, Global};
 use std::test::Fail;
 
+/// The bits of three variables in the row of that number, from 000, 001 to 111.
+fn row(k: usize) -> [bool; 3] {
+    [k / 4 % 2 == 1, k / 2 % 2 == 1, k % 2 == 1]
+}
+
 /// The literals of the leaves of a list of three.
 fn leaves(aig: &Aig) -> Option<[AigLit; 3]>
     ensures { IfSome result (λ lits. AreValid aig_ops aig.now lits) }
@@ -28,28 +33,80 @@ fn leaves(aig: &Aig) -> Option<[AigLit; 3]>
     Some([aig.leaf(0), aig.leaf(1), aig.leaf(2)])
 }
 
-/// The literal of an expression over three leaves.
-fn of_expr(aig: &mut Aig, expr: &Expr) -> Option<AigLit>
+/// The bits of a literal of a list of three leaves, row by row.
+fn bits_of(aig: &Aig, lit: AigLit) -> Option<[u8; 8]> {
+    let mut bits = [0; 8];
+    for k in 0..8 {
+        bits[k] = bit_at(aig, lit, &row(k))? as u8;
+    }
+    Some(bits)
+}
+
+/// The values of an expression, row by row.
+fn expr_values(expr: &Expr) -> [u8; 8]
     requires { IsTrue (is_over 3 expr.now) }
 {
-    let inputs = leaves(aig)?;
-    expr.eval(aig, &inputs).ok()
+    let mut bits = [0; 8];
+    for k in 0..8 {
+        bits[k] = expr.value(&row(k)) as u8;
+    }
+    bits
 }
 
-/// The literal of a cover over three leaves.
-fn of_cover(aig: &mut Aig, cover: &Cover) -> Option<AigLit>
+/// The bits of an expression over truth values, row by row.
+fn expr_bits(expr: &Expr) -> [u8; 8]
+    requires { IsTrue (is_over 3 expr.now) }
+{
+    let mut bits = [0; 8];
+    for k in 0..8 {
+        bits[k] = expr.eval_bits(&row(k)) as u8;
+    }
+    bits
+}
+
+/// The bits of an expression over a list, row by row.
+fn expr_list(alloc: Global, expr: &Expr) -> Option<[u8; 8]>
+    requires { IsTrue (is_over 3 expr.now) }
+{
+    let mut aig = Aig::new(alloc, 3).ok()?;
+    let inputs = leaves(&aig)?;
+    let lit = expr.eval(&mut aig, &inputs).ok()?;
+    bits_of(&aig, lit)
+}
+
+/// The values of a cover, row by row.
+fn cover_values(cover: &Cover) -> [u8; 8]
     requires { Fits 3 cover.now }
 {
-    let inputs = leaves(aig)?;
-    cover.eval(aig, &inputs).ok()
+    let mut bits = [0; 8];
+    for k in 0..8 {
+        bits[k] = cover.value(&row(k)) as u8;
+    }
+    bits
 }
 
-/// The bits at 000, 001, .. 111, by the number of the row.
-fn row(k: usize) -> [bool; 3] {
-    [k / 4 % 2 == 1, k / 2 % 2 == 1, k % 2 == 1]
+/// The bits of a cover over truth values, row by row.
+fn cover_bits(cover: &Cover) -> [u8; 8]
+    requires { Fits 3 cover.now }
+{
+    let mut bits = [0; 8];
+    for k in 0..8 {
+        bits[k] = cover.eval_bits(&row(k)) as u8;
+    }
+    bits
 }
 
-/// Texts of expressions over A, B and C, and their bits at 000, 001, .. 111.
+/// The bits of a cover over a list, row by row.
+fn cover_list(alloc: Global, cover: &Cover) -> Option<[u8; 8]>
+    requires { Fits 3 cover.now }
+{
+    let mut aig = Aig::new(alloc, 3).ok()?;
+    let inputs = leaves(&aig)?;
+    let lit = cover.eval(&mut aig, &inputs).ok()?;
+    bits_of(&aig, lit)
+}
+
+/// Texts of expressions over A, B and C, and their bits row by row.
 const TEXTS: [(&str, [u8; 8]); 11] = [
     ("A*B", [0, 0, 0, 0, 0, 0, 1, 1]),
     ("A+B'", [1, 1, 0, 0, 1, 1, 1, 1]),
@@ -80,23 +137,18 @@ fn expressions(rt: HostRuntime) -> Result<(), Fail> {
     let pins = pins(rt.alloc())?;
     for (text, table) in TEXTS {
         let expr = read_expr(rt.alloc(), text.as_bytes(), &pins)?;
-        let mut aig = Aig::new(rt.alloc(), 3).expect(&rt, "3 leaves");
-        let lit = of_expr(&mut aig, &expr).expect(&rt, "room for the nodes");
-        for (k, bit) in table.iter().enumerate() {
-            let wanted = *bit == 1;
-            assert_eq!(rt; expr.value(&row(k)), wanted, "{text} at {k}");
-            assert_eq!(rt; expr.eval_bits(&row(k)), wanted, "{text} over bits at {k}");
-            assert_eq!(rt;
-                bit_at(&aig, lit, &row(k)),
-                Some(wanted),
-                "{text} over a list at {k}"
-            );
-        }
+        assert_eq!(rt; expr_values(&expr), table, "{text}");
+        assert_eq!(rt; expr_bits(&expr), table, "{text} over bits");
+        assert_eq!(rt;
+            expr_list(rt.alloc(), &expr),
+            Some(table),
+            "{text} over a list"
+        );
     }
     Ok(())
 }
 
-/// Rows over three inputs, their value, and the bits at 000, 001, .. 111.
+/// Rows over three inputs, their value, and the bits row by row.
 const ROWS: [(&[[Option<bool>; 3]], bool, [u8; 8]); 6] = [
     (
         &[[Some(true), None, Some(false)]],
@@ -150,22 +202,13 @@ fn cover(alloc: Global, rows: &[[Option<bool>; 3]], on: bool) -> Result<Option<C
 fn covers(rt: HostRuntime) -> Result<(), Fail> {
     for (rows, on, table) in ROWS {
         let cover = cover(rt.alloc(), rows, on)?.expect(&rt, "a value that the rows can have");
-        let mut aig = Aig::new(rt.alloc(), 3).expect(&rt, "3 leaves");
-        let lit = of_cover(&mut aig, &cover).expect(&rt, "room for the nodes");
-        for (k, bit) in table.iter().enumerate() {
-            let wanted = *bit == 1;
-            assert_eq!(rt; cover.value(&row(k)), wanted, "{rows:?} at {k}");
-            assert_eq!(rt;
-                cover.eval_bits(&row(k)),
-                wanted,
-                "{rows:?} over bits at {k}"
-            );
-            assert_eq!(rt;
-                bit_at(&aig, lit, &row(k)),
-                Some(wanted),
-                "{rows:?} over a list at {k}"
-            );
-        }
+        assert_eq!(rt; cover_values(&cover), table, "{rows:?}");
+        assert_eq!(rt; cover_bits(&cover), table, "{rows:?} over bits");
+        assert_eq!(rt;
+            cover_list(rt.alloc(), &cover),
+            Some(table),
+            "{rows:?} over a list"
+        );
     }
     Ok(())
 }

@@ -1,14 +1,14 @@
 -- Statements of the plain form whose words are names make a draft that no refusal has spoilt.
-use Rattle.std.proofs.Common.{◌≡◌, ℕ, ◌<◌, ◌≤◌, ◌^◌, Bool, true, false, cond, IsTrue, List, [], ◌∷◌, ◌++◌, map, length, Option, None, Some, Result, Ok, Err, refl, sym, ap, ◌∙◌, subst, inl, inr, arith, nat_lt}
-use Rattle.std.specs.List.{All, AllByRecursion, flat_map}
-use Rattle.std.proofs.lemmas.Bool.{both_ways, cases_lt, lt-ltb}
+use Rattle.std.proofs.Common.{◌≡◌, ◌≤◌, Bool, true, false, cond, IsTrue, List, [], ◌∷◌, ◌++◌, length, None, Some, Result, Ok, Err, refl, sym, ap, ◌∙◌, subst, inl, inr, arith, nat_lt}
+use Rattle.std.specs.List.{AllByRecursion, flat_map}
+use Rattle.std.proofs.lemmas.Bool.{cases_lt, lt-ltb}
 use Rattle.std.proofs.lemmas.List.Elements.{All-from_recursion}
 use Rattle.cg_cell.specs.Name.{is_name}
 use Rattle.cg_cell.specs.declared.limit.Limit.TheVariants.{Nets, Registers}
 use Rattle.cg_netlist.specs.Circuit.{Circuit}
-use Rattle.cg_netlist.specs.Draft.{IsDraft, empty_draft, limit_passed, with_cover, with_input, with_output, with_register, register_of, with_names}
+use Rattle.cg_netlist.specs.Draft.{IsDraft, empty_draft, with_cover, with_input, with_output, with_register, register_of, with_names}
 use Rattle.cg_netlist.specs.PlainText.{IsPlainPart, plain_statements}
-use Rattle.cg_netlist.specs.Statements.{Word, Statement, Model, Inputs, Outputs, Clocks, Names, Latch, Gate, Skipped, End, statement_lines, row_words}
+use Rattle.cg_netlist.specs.Statements.{Word, Statement, Model, Inputs, Outputs, Clocks, Names, Latch, Gate, Skipped, End, statement_lines}
 use Rattle.cg_netlist.proofs.DraftLemmas.{cover_keeps, empty_keeps, input_keeps, output_keeps, register_added}
 use Rattle.cg_tool.specs.Drafting.{built, checked, go_on, with_inputs, with_outputs, with_statement, within}
 use Rattle.cg_tool.specs.declared.cg_blif.fault.BlifFault.{BlifFault}

@@ -1,5 +1,5 @@
 -- A text in the plain form is a BLIF text, and says the same netlist as one.
-use Rattle.std.proofs.Common.{◌≡◌, ◌≢◌, ℕ, zero, suc, ◌+◌, ◌-◌, ◌≤◌, Bool, true, false, not, ◌&&◌, ◌||◌, ◌==◌, cond, List, [], ◌∷◌, ◌++◌, map, length, Option, None, Some, refl, sym, ap, ◌∙◌, inl, inr, subst, reverse, take, arith, IsTrue}
+use Rattle.std.proofs.Common.{◌≡◌, ◌≢◌, ℕ, zero, suc, ◌+◌, ◌-◌, Bool, true, false, not, ◌&&◌, ◌||◌, ◌==◌, cond, List, [], ◌∷◌, ◌++◌, map, length, None, Some, refl, sym, ap, ◌∙◌, inl, inr, subst, reverse, take, arith, IsTrue}
 use Rattle.std.specs.Prelude.{Result, Ok, Err, IfOk, codes}
 use Rattle.std.specs.List.{AllByRecursion, before_first, filter, flat_map, list_all, onto_first, position_or_len, slice_get}
 use Rattle.std.specs.Option.{option_map_or}
@@ -11,11 +11,10 @@ use Rattle.std.proofs.lemmas.List.Folds.{list_all-append}
 use Rattle.std.proofs.lemmas.Slice.Eq.{bytes_eq-Decides}
 use Rattle.cg_cell.specs.Name.{is_name}
 use Rattle.cg_text.specs.declared.blanks.Blanks.TheVariants.{Controls}
-use Rattle.cg_text.specs.declared.lines.Line.{Line}
 use Rattle.cg_text.specs.Blanks.{is_line_feed}
 use Rattle.cg_text.specs.Lines.{kept_lines}
 use Rattle.cg_text.specs.Words.{lines, pieces, words}
-use Rattle.cg_netlist.specs.BlifText.{BlifText, EndsLatch, IsPart, Spells, SpellsAll}
+use Rattle.cg_netlist.specs.BlifText.{BlifText, IsPart, Spells, SpellsAll}
 use Rattle.cg_netlist.specs.Circuit.{Circuit}
 use Rattle.cg_netlist.specs.LogicalLines.{bared, is_joined, joined, logical_lines, without_front, word_lines}
 use Rattle.cg_netlist.specs.PlainText.{IsPlainPart, PlainText, is_bare, plain_layout, plain_lines, plain_statements}

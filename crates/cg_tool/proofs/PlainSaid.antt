@@ -4,10 +4,9 @@ use Rattle.std.specs.List.{AllByRecursion}
 use Rattle.cg_netlist.proofs.OnlyNetlist.{faultless, netlist_is}
 use Rattle.cg_netlist.specs.Circuit.{Circuit}
 use Rattle.cg_netlist.specs.Draft.{empty_draft, with_cover, with_input, with_output, with_register}
-use Rattle.cg_netlist.specs.Finish.{netlist_of}
 use Rattle.cg_netlist.specs.PlainText.{IsPlainPart, PlainText, plain_statements}
 use Rattle.cg_netlist.specs.Statements.{Word, Statement, Model, Inputs, Outputs, Clocks, Names, Latch, Gate, Skipped, End}
-use Rattle.cg_tool.specs.Drafting.{built, checked, draft_of, finished, go_on, netlist_or, netlist_said, with_inputs, with_outputs, with_statement}
+use Rattle.cg_tool.specs.Drafting.{built, checked, finished, go_on, netlist_or, netlist_said, with_inputs, with_outputs, with_statement}
 use Rattle.cg_tool.specs.declared.cg_blif.fault.BlifFault.{BlifFault}
 use Rattle.cg_tool.proofs.DraftKept.{NamedLines, draft_kept, same_draft, was_within, went_on}
 use Rattle.cg_tool.proofs.SaidDraft.{draft_from}

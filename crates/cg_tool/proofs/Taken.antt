@@ -1,5 +1,5 @@
 -- `gate` takes each text in the plain form that says a netlist.
-use Rattle.std.proofs.Common.{◌≡◌, ◌≤◌, ℕ, Bool, IsTrue, List, Option, None, Some, Result, Ok, Err, ◌∙◌, ap, subst, if◌then◌else◌, length}
+use Rattle.std.proofs.Common.{◌≡◌, ◌≤◌, ℕ, IsTrue, List, Option, None, Some, Result, Ok, Err, ◌∙◌, ap, subst, if◌then◌else◌, length}
 use Rattle.std.proofs.lemmas.Bool.{le-ltb}
 use Rattle.std.specs.Prelude.{IfSome}
 use Rattle.cg_shelf.specs.World.{World}

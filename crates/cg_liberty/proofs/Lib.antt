@@ -12,7 +12,6 @@ pub mod Restated
 pub mod FlopCells
 pub mod LoneInputs
 pub mod Adding
-pub mod ReadWithin
 pub mod NamedCells
 pub mod DistinctCells
 pub mod AddedCells

@@ -1,9 +1,8 @@
 //! The expressions of a cell.
 
-ghost use Rattle.std.specs.Prelude.{◌≡◌, ◌<◌, ◌^◌, IfOk, IfSome, IsTrue, Ok, length, option_map};
+ghost use Rattle.std.specs.Prelude.{IfOk, IfSome, IsTrue, length, option_map};
 ghost use Rattle.cg_cell.specs.Expr.{is_over, term_of};
 ghost use Rattle.cg_cell.specs.ExprReading.{read_text};
-ghost use Rattle.cg_cell.specs.Reads.{Gives as Exactly};
 ghost use Rattle.cg_cell.specs.Term.{is_within};
 ghost use Rattle.cg_liberty.specs.Reading.{Gives, reading, taken};
 
@@ -15,20 +14,6 @@ use cg_cell::name::Name;
 use cg_cell::reading::read_expr;
 use std::alloc::Global;
 
-/// Reads an expression over these names, and says that it is over no others.
-#[tactic(auto, using(crate::proofs::ReadWithin::read_range, crate::proofs::ReadWithin::read_over))]
-fn read_in_range(alloc: Global, bytes: &[u8], names: &[Name]) -> Result<Expr, ExprFault>
-    requires { length names.now < 2 ^ 32 }
-    ensures read { Exactly term_of result (read_text names.now bytes.now) }
-    ensures within { IfOk result (λ e. IsTrue (is_within (length names.now) (term_of e))) }
-    ensures over { IfOk result (λ e. IsTrue (is_over (length names.now) e)) }
-{
-    match read_expr(alloc, bytes, names) {
-        Ok(expr) => Ok(expr),
-        Err(fault) => Err(fault),
-    }
-}
-
 /// Reads an expression over these names; none where it has another name.
 fn read_bytes(alloc: Global, bytes: &[u8], names: &[Name]) -> Result<Option<Expr>, CellFault>
     ensures read { Gives (λ e. option_map term_of e) result (taken (read_text names.now bytes.now)) }
@@ -39,7 +24,7 @@ fn read_bytes(alloc: Global, bytes: &[u8], names: &[Name]) -> Result<Option<Expr
     if names.len() > u32::MAX as usize {
         return Err(CellFault::NoMemory);
     }
-    match read_in_range(alloc, bytes, names) {
+    match read_expr(alloc, bytes, names) {
         Ok(expr) => Ok(Some(expr)),
         Err(ExprFault::UnknownPin(_)) => Ok(None),
         Err(ExprFault::BadExpr(at)) => Err(CellFault::BadExpr(at)),

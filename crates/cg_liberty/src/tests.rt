@@ -114,6 +114,20 @@ fn with_cell(alloc: Global, statements: &str) -> Result<String, AllocError> {
     format!(in alloc; "library (l) {{ cell (C) {{ {statements} }} }}")
 }
 
+/// A library with one cell `C` that has an `ff` group of these names and attributes, the inputs `D` and `CK`,
+/// and these other statements.
+fn with_flop(
+    alloc: Global,
+    names: &str,
+    attributes: &str,
+    others: &str,
+) -> Result<String, AllocError> {
+    let statements = format!(in alloc;
+        "ff ({names}) {{ {attributes} }} pin (D, CK) {{ direction : input; }} {others}"
+    )?;
+    with_cell(alloc, statements.as_str())
+}
+
 /// A text, `count` times.
 fn repeated(alloc: Global, text: &str, count: u32) -> Result<String, AllocError> {
     let mut out = String::new(alloc);
@@ -225,6 +239,14 @@ fn the_kinds_of_cells(rt: HostRuntime) -> Result<(), Fail> {
             "C logic Y:output;",
         ),
         (
+            "pin (A, B, C, D, E, F, G, H, I, J, K, L, M, N, O) { direction : input; } pin (Y) { direction : output; function : O; }",
+            "C logic A:data B:data C:data D:data E:data F:data G:data H:data I:data J:data K:data L:data M:data N:data O:data Y:output;",
+        ),
+        (
+            "pin (A, B, C, D, E, F, G, H, I, J, K, L, M, N, O, P) { direction : input; } pin (Y) { direction : output; function : O; }",
+            "C unusable;",
+        ),
+        (
             "bundle (B) { } pin (Y) { direction : output; function : \"1\"; }",
             "C unusable;",
         ),
@@ -279,6 +301,69 @@ fn the_kinds_of_cells(rt: HostRuntime) -> Result<(), Fail> {
             described(alloc, text.as_bytes(), &["C"])?.as_str(),
             wanted,
             "{statements}"
+        );
+    }
+    Ok(())
+}
+
+#[test]
+fn registers_that_are_no_plain_flop(rt: HostRuntime) -> Result<(), Fail> {
+    let alloc = rt.alloc();
+    let plain = "next_state : D; clocked_on : CK;";
+    let first = "pin (Q) { direction : output; function : I; }";
+    let second = "pin (Q) { direction : output; function : N; }";
+    let flop = with_flop(alloc, "I, N", plain, first)?;
+    assert_eq!(rt;
+        described(alloc, flop.as_bytes(), &["C"])?.as_str(),
+        "C flop D:data CK:clock Q:state;"
+    );
+    let cases = [
+        ("I, I", plain, first),
+        ("D, N", plain, second),
+        ("I#, N", plain, second),
+        ("I, N", "clocked_on : CK;", first),
+        ("I, N", "next_state : D;", first),
+        ("I, N", "next_state : D; clocked_on : CK; clear : D;", first),
+        (
+            "I, N",
+            "next_state : D; clocked_on : CK; preset : D;",
+            first,
+        ),
+        (
+            "I, N",
+            "next_state : D; clocked_on : CK; clocked_on_also : D;",
+            first,
+        ),
+        ("I, N", "next_state : D; clocked_on : \"CK * D\";", first),
+        ("I, N", "next_state : CK; clocked_on : CK;", first),
+        ("I, N", plain, "pin (Q) { direction : output; }"),
+        (
+            "I, N",
+            plain,
+            "pin (Q) { direction : output; function : \"I + N\"; }",
+        ),
+        (
+            "I, N",
+            plain,
+            "ff (J, M) { } pin (Q) { direction : output; function : I; }",
+        ),
+        (
+            "I, N",
+            plain,
+            "ff_bank (J, M, 2) { } pin (Q) { direction : output; function : I; }",
+        ),
+        (
+            "I, N",
+            plain,
+            "latch_bank (J, M, 2) { } pin (Q) { direction : output; function : I; }",
+        ),
+    ];
+    for (names, attributes, others) in cases {
+        let text = with_flop(alloc, names, attributes, others)?;
+        assert_eq!(rt;
+            described(alloc, text.as_bytes(), &["C"])?.as_str(),
+            "C unusable;",
+            "{names} {attributes} {others}"
         );
     }
     Ok(())

@@ -18,3 +18,4 @@ pub mod Says
 pub mod Statements
 pub mod View
 pub mod WellFormed
+pub mod Writable

@@ -32,3 +32,4 @@ pub mod Solve
 pub mod TableLemmas
 pub mod Values
 pub mod WidthLemmas
+pub mod WrittenLines

@@ -3,9 +3,11 @@ use Rattle.std.specs.Prelude.{◌≡◌, ℕ, zero, suc, ◌-◌, ◌<◌, ◌�
 use Rattle.std.proofs.Common.{refl, ap, ◌∙◌, arith}
 use Rattle.std.specs.List.{AllByRecursion, flat_map, list_all}
 use Rattle.std.proofs.lemmas.Bool.{and_from, and_parts, both_ways}
+use Rattle.std.proofs.lemmas.List.{length-map}
 use Rattle.std.proofs.lemmas.List.Folds.{list_all-append}
 use Rattle.cg_cell.specs.Name.{ends_name, is_name, is_name_byte}
 use Rattle.cg_netlist.specs.Statements.{Word, Statement, Model, Inputs, Outputs, Clocks, Names, Latch, Gate, Skipped, End, bit_byte, clock_word, init_word, pin_word, place_byte, row_words, statement_lines}
+use Rattle.cg_netlist.proofs.PartByPart.{each_together}
 
 abbrev pub AreNames : List Word → Type 0
 AreNames words = AllByRecursion (λ word. IsTrue (is_name word)) words
@@ -17,6 +19,13 @@ IsNamedLine words = (1 ≤ length words) × AllByRecursion (λ word. IsTrue (is_
 abbrev pub AreNamedLines : List (List Word) → Type 0
 AreNamedLines said = AllByRecursion IsNamedLine said
 
+-- a pin and its net have names
+abbrev pub IsNamedPin : Word × Word → Type 0
+IsNamedPin pin = IsTrue (is_name pin.0) × IsTrue (is_name pin.1)
+
+abbrev pub AreNamedPins : List (Word × Word) → Type 0
+AreNamedPins pins = AllByRecursion IsNamedPin pins
+
 -- the names that a statement takes into its lines
 abbrev pub HasNames : Statement → Type 0
 HasNames (Model name) = IsTrue (is_name name)
@@ -25,7 +34,7 @@ HasNames (Outputs nets) = AreNames nets
 HasNames (Clocks nets) = AreNames nets
 HasNames (Names inputs output cover) = AreNames inputs × IsTrue (is_name output)
 HasNames (Latch input output clock init) = IsTrue (is_name input) × IsTrue (is_name output) × IsTrue (is_name (clock_word clock)) × (init ≤ 3)
-HasNames (Gate cell pins) = IsTrue (is_name cell) × AllByRecursion (λ pin. IsTrue (is_name pin.0) × IsTrue (is_name pin.1)) pins
+HasNames (Gate cell pins) = IsTrue (is_name cell) × AreNamedPins pins
 HasNames (Skipped command words) = IsTrue (is_name command) × AreNames words
 HasNames End = Unit {0}
 
@@ -47,13 +56,9 @@ row_ends (Some true ∷ row) zero lt = refl
 row_ends (Some false ∷ row) zero lt = refl
 row_ends (place ∷ row) (suc i) lt = row_ends row i (omega arith)
 
-same_length : {X Y : Type 0} (f : X → Y) (xs : List X) → length (map f xs) ≡ length xs
-same_length f [] = refl
-same_length f (x ∷ xs) = let rest = same_length f xs in omega arith
-
 row_named : (place : Option Bool) (row : List (Option Bool)) → is_name (map place_byte (place ∷ row)) ≡ true
 row_named place row =
-    let count : length (map place_byte (place ∷ row)) ≡ length (place ∷ row) = same_length place_byte (place ∷ row) in
+    let count : length (map place_byte (place ∷ row)) ≡ length (place ∷ row) = length-map (place ∷ row) place_byte in
     and_from (ends_name (slice_get (map place_byte (place ∷ row)) (length (map place_byte (place ∷ row)) - 1))) (list_all is_name_byte (map place_byte (place ∷ row)))
     (row_ends (place ∷ row) (length (map place_byte (place ∷ row)) - 1) (omega arith))
     (row_bytes (place ∷ row))
@@ -107,35 +112,27 @@ pin_named pin net pin_is net_is =
     (ends_behind pin (61 ∷ net) (omega arith) (ap ends_name (ends_later 61 net some) ∙ back.0))
     (list_all-append is_name_byte pin (61 ∷ net) ∙ and_from (list_all is_name_byte pin) (list_all is_name_byte net) front.1 back.1)
 
-pins_named : (pins : List (Word × Word)) → AllByRecursion (λ (pin : Word × Word). IsTrue (is_name pin.0) × IsTrue (is_name pin.1)) pins → AreNames (map pin_word pins)
+pins_named : (pins : List (Word × Word)) → AreNamedPins pins → AreNames (map pin_word pins)
 pins_named [] named = tt
 pins_named (pin ∷ pins) named = (pin_named pin.0 pin.1 named.0.0 named.0.1, pins_named pins named.1)
 
 -- a statement's words
-
-with_last : (xs : List Word) (y : Word) → AreNames xs → IsTrue (is_name y) → AreNames (xs ++ y ∷ [])
-with_last [] y xs_are y_is = (y_is, tt)
-with_last (x ∷ xs) y xs_are y_is = (xs_are.0, with_last xs y xs_are.1 y_is)
 
 words_named : (s : Statement) → HasNames s → AreNamedLines (statement_lines s)
 words_named (Model name) has = ((omega arith, (refl, (has, tt))), tt)
 words_named (Inputs nets) has = ((omega arith, (refl, has)), tt)
 words_named (Outputs nets) has = ((omega arith, (refl, has)), tt)
 words_named (Clocks nets) has = ((omega arith, (refl, has)), tt)
-words_named (Names inputs output cover) has = ((omega arith, (refl, with_last inputs output has.0 has.1)), row_lines cover.on cover.rows)
+words_named (Names inputs output cover) has = ((omega arith, (refl, each_together (λ word. IsTrue (is_name word)) inputs (output ∷ []) has.0 (has.1, tt))), row_lines cover.on cover.rows)
 words_named (Latch input output clock init) has = ((omega arith, (refl, (has.0, (has.1, (refl, (has.2, (init_named init has.3, tt))))))), tt)
 words_named (Gate cell pins) has = ((omega arith, (refl, (has.0, pins_named pins has.1))), tt)
 words_named (Skipped command words) has = ((omega arith, (has.0, has.1)), tt)
 words_named End has = ((omega arith, (refl, tt)), tt)
 
-lines_together : (xs ys : List (List Word)) → AreNamedLines xs → AreNamedLines ys → AreNamedLines (xs ++ ys)
-lines_together [] ys front back = back
-lines_together (x ∷ xs) ys front back = (front.0, lines_together xs ys front.1 back)
-
 -- the lines of statements whose names are names have words, which are names
 pub lines_named : (ss : List Statement) → AllByRecursion HasNames ss → AreNamedLines (flat_map statement_lines ss)
 lines_named [] has = tt
-lines_named (s ∷ ss) has = lines_together (statement_lines s) (flat_map statement_lines ss) (words_named s has.0) (lines_named ss has.1)
+lines_named (s ∷ ss) has = each_together IsNamedLine (statement_lines s) (flat_map statement_lines ss) (words_named s has.0) (lines_named ss has.1)
 
 -- of such lines the words alone
 pub names_alone : (said : List (List Word)) → AreNamedLines said → AllByRecursion (AllByRecursion (λ word. IsTrue (is_name word))) said

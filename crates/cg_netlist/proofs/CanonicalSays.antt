@@ -1,22 +1,22 @@
 -- The canonical text of a netlist that a text can hold says that netlist.
-use Rattle.std.specs.Prelude.{◌≡◌, ℕ, Bool, true, false, IsTrue, List, [], ◌∷◌, ◌++◌, map, Option, None, Some}
+use Rattle.std.specs.Prelude.{◌≡◌, ℕ, IsTrue, List, [], ◌∷◌, ◌++◌, map, Option, None, Some}
 use Rattle.std.proofs.Common.{refl, sym, subst, inl}
 use Rattle.std.specs.List.{AllByRecursion, flat_map}
 use Rattle.std.specs.Option.{option_to_list}
 use Rattle.cg_cell.specs.Cell.{CellData}
 use Rattle.cg_cell.specs.Name.{is_name}
 use Rattle.cg_netlist.specs.BlifText.{BlifText, IsPart, SpellsAll}
-use Rattle.cg_netlist.specs.Canonical.{blif, cell_statement, clock_statements, gater_statement, net_names, part_statements, register_statement, statements}
+use Rattle.cg_netlist.specs.Canonical.{blif, clock_statements, net_names, part_statements, statements}
 use Rattle.cg_netlist.specs.Circuit.{Circuit}
 use Rattle.cg_netlist.specs.LogicalLines.{word_lines}
-use Rattle.cg_netlist.specs.Statements.{Word, Statement, Model, End, statement_lines}
+use Rattle.cg_netlist.specs.Statements.{Word, Model, End, statement_lines}
 use Rattle.cg_netlist.specs.Writable.{IsWritable}
 use Rattle.cg_netlist.proofs.CanonicalNames.{AreNamedLines, AreNames, HasNames, lines_named, names_alone}
-use Rattle.cg_netlist.proofs.PartByPart.{each_mapped, each_together, each_weaker}
-use Rattle.cg_netlist.proofs.PlacedStatements.{IsPlacedAs, nets_named}
+use Rattle.cg_netlist.proofs.PartByPart.{each_mapped, each_together}
+use Rattle.cg_netlist.proofs.PlacedStatements.{nets_named}
 use Rattle.cg_netlist.proofs.SaysCanonical.{canonical_said}
 use Rattle.cg_netlist.proofs.SpellsCanonical.{as_read, canonical_spelled, inner_statements}
-use Rattle.cg_netlist.proofs.StatedParts.{cells_placed, gaters_placed, registers_placed}
+use Rattle.cg_netlist.proofs.StatedParts.{each_part}
 use Rattle.cg_netlist.proofs.WritableParts.{clock_within, inputs_within, outputs_within}
 use Rattle.cg_netlist.proofs.WrittenLines.{written_lines}
 
@@ -30,18 +30,6 @@ clock_fits library names None = tt
 clock_fits library names (Some net) = (tt, tt)
 
 module _ (library : List CellData) (c : Circuit) (writable : IsWritable library c) where
-  -- what holds of the statement of each part
-  of_parts : (P : Statement → Type 0) → ((logic gating register : Bool) (s : Statement) → IsPlacedAs library logic gating register s → P s) → AllByRecursion P (part_statements c)
-  of_parts P holds =
-      let cells : List Statement = map (cell_statement c.names) c.cells in
-      let gaters : List Statement = map (gater_statement c.names) c.gaters in
-      let registers : List Statement = map (register_statement c.names) c.registers in
-      each_together P (cells ++ gaters) registers
-      (each_together P cells gaters
-      (each_weaker (IsPlacedAs library true false false) P (holds true false false) cells (cells_placed library c writable))
-      (each_weaker (IsPlacedAs library false true false) P (holds false true false) gaters (gaters_placed library c writable)))
-      (each_weaker (IsPlacedAs library false false true) P (holds false false true) registers (registers_placed library c writable))
-
   pub canonical_named : AllByRecursion HasNames (statements c)
   canonical_named = (
     writable.formed.model,
@@ -52,7 +40,7 @@ module _ (library : List CellData) (c : Circuit) (writable : IsWritable library 
         each_together HasNames (clock_statements c.names c.clock ++ part_statements c) (End ∷ [])
             (each_together HasNames (clock_statements c.names c.clock) (part_statements c)
             (clock_named c.names c.clock (nets_named c.names (option_to_list c.clock) writable.formed.names (clock_within library c writable)))
-            (of_parts HasNames (λ logic gating register s is. is.names)))
+            (each_part library c writable HasNames (λ logic gating register s is. is.names)))
             (tt, tt),
       ),
     ),
@@ -66,7 +54,7 @@ module _ (library : List CellData) (c : Circuit) (writable : IsWritable library 
       each_mapped (IsPart library) as_read (clock_statements c.names c.clock ++ part_statements c)
           (each_together (λ s. IsPart library (as_read s)) (clock_statements c.names c.clock) (part_statements c)
           (clock_fits library c.names c.clock)
-          (of_parts (λ s. IsPart library (as_read s)) (λ logic gating register s is. is.part))),
+          (each_part library c writable (λ s. IsPart library (as_read s)) (λ logic gating register s is. is.part))),
     ),
   )
 

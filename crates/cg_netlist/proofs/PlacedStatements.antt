@@ -23,7 +23,7 @@ use Rattle.cg_netlist.specs.Says.{cell_named, clocks_said, function_cells, input
 use Rattle.cg_netlist.specs.Statements.{Word, Statement, Latch, Gate}
 use Rattle.cg_netlist.specs.WellFormed.{FitsKind, IsOver}
 use Rattle.cg_netlist.specs.Writable.{IsNamed, IsNarrow}
-use Rattle.cg_netlist.proofs.CanonicalNames.{AreNames, HasNames}
+use Rattle.cg_netlist.proofs.CanonicalNames.{AreNamedPins, AreNames, HasNames, IsNamedPin}
 use Rattle.cg_netlist.proofs.PartByPart.{each_together}
 use Rattle.cg_netlist.proofs.SpellsCanonical.{as_read}
 
@@ -52,12 +52,6 @@ nets_named names (net ∷ nets) named within = (net_named names net named within
 
 -- The pins of placed cells
 
-abbrev IsNamedPin : Word × Word → Type 0
-IsNamedPin pin = IsTrue (is_name pin.0) × IsTrue (is_name pin.1)
-
-abbrev AreNamedPins : List (Word × Word) → Type 0
-AreNamedPins pins = AllByRecursion (λ pin. IsTrue (is_name pin.0) × IsTrue (is_name pin.1)) pins
-
 abbrev HaveNames : List PinData → Type 0
 HaveNames pins = AllByRecursion (λ pin. IsTrue (is_name pin.name)) pins
 
@@ -85,7 +79,7 @@ gater_pin_named clock enable output pin has clock_is enable_is output_is =
 pub gater_pins_named : (clock enable output : Word) (pins : List PinData) → HaveNames pins → IsTrue (is_name clock) → IsTrue (is_name enable) → IsTrue (is_name output) → AreNamedPins (gater_pins clock enable output pins)
 gater_pins_named clock enable output [] have clock_is enable_is output_is = tt
 gater_pins_named clock enable output (pin ∷ pins) have clock_is enable_is output_is =
-    each_together (λ (p : Word × Word). IsTrue (is_name p.0) × IsTrue (is_name p.1)) (gater_pin clock enable output pin) (gater_pins clock enable output pins)
+    each_together IsNamedPin (gater_pin clock enable output pin) (gater_pins clock enable output pins)
     (gater_pin_named clock enable output pin have.0 clock_is enable_is output_is)
     (gater_pins_named clock enable output pins have.1 clock_is enable_is output_is)
 
@@ -109,12 +103,12 @@ module _ (names : List Word) (named : All (λ name. IsTrue (is_name name)) names
   flop_pins_named : (at : ℕ) (inputs : List ℕ) (pins : List PinData) → HaveNames pins → AreWithin (length names) inputs → AreWithin (length names) (shown_nets r) → AreNamedPins (flop_pins names r at inputs pins)
   flop_pins_named at inputs [] have within shown = tt
   flop_pins_named at [] (pin ∷ pins) have within shown =
-      each_together (λ (p : Word × Word). IsTrue (is_name p.0) × IsTrue (is_name p.1)) (flop_pin names r at pin) (flop_pins names r (at + 1) [] pins)
+      each_together IsNamedPin (flop_pin names r at pin) (flop_pins names r (at + 1) [] pins)
       (flop_pin_named at pin have.0 shown) (flop_pins_named (at + 1) [] pins have.1 within shown)
   flop_pins_named at (input ∷ inputs) (pin ∷ pins) have within shown =
       either (is_data pin) ((pin.name, net_name names input) ∷ flop_pins names r (at + 1) inputs pins) (flop_pin names r at pin ++ flop_pins names r (at + 1) (input ∷ inputs) pins)
       ((have.0, net_named names input named within.0), flop_pins_named (at + 1) inputs pins have.1 within.1 shown)
-      (each_together (λ (p : Word × Word). IsTrue (is_name p.0) × IsTrue (is_name p.1)) (flop_pin names r at pin) (flop_pins names r (at + 1) (input ∷ inputs) pins)
+      (each_together IsNamedPin (flop_pin names r at pin) (flop_pins names r (at + 1) (input ∷ inputs) pins)
       (flop_pin_named at pin have.0 shown) (flop_pins_named (at + 1) (input ∷ inputs) pins have.1 within shown))
 
 -- Placed cells

@@ -16,11 +16,11 @@ use Rattle.cg_netlist.specs.Statements.{Word, Statement, Clocks}
 use Rattle.cg_netlist.specs.Writable.{IsWritable}
 use Rattle.cg_netlist.proofs.Driven.{distinct_range}
 use Rattle.cg_netlist.proofs.Members.{distinct_head, distinct_left, distinct_tail, is_in_right, member_at}
-use Rattle.cg_netlist.proofs.PartByPart.{each_together, each_weaker}
+use Rattle.cg_netlist.proofs.PartByPart.{each_weaker}
 use Rattle.cg_netlist.proofs.PlaceLemmas.{same_net}
 use Rattle.cg_netlist.proofs.PlacedStatements.{AreWithin, IsPlacedAs}
 use Rattle.cg_netlist.proofs.SpellsCanonical.{as_read, inner_statements}
-use Rattle.cg_netlist.proofs.StatedParts.{cells_placed, cells_as_read, gaters_placed, gaters_as_read, registers_placed, registers_with_clock}
+use Rattle.cg_netlist.proofs.StatedParts.{cells_placed, cells_as_read, each_part, gaters_placed, gaters_as_read, registers_placed, registers_with_clock}
 use Rattle.cg_netlist.proofs.WritableParts.{inputs_within, outputs_within}
 
 -- Names that stand once
@@ -113,23 +113,15 @@ module _ (library : List CellData) (c : Circuit) (writable : IsWritable library 
   registers = map (register_statement c.names) c.registers
 
   -- what none of the parts says
-  of_parts : (P : Statement → Type 0) → ((s : Statement) → IsPlacedAs library true false false s → P s) → ((s : Statement) → IsPlacedAs library false true false s → P s) → ((s : Statement) → IsPlacedAs library false false true s → P s)
-      → AllByRecursion P (part_statements c)
-  of_parts P logic gating register =
-      each_together P (cells ++ gaters) registers
-      (each_together P cells gaters
-      (each_weaker (IsPlacedAs library true false false) P logic cells (cells_placed library c writable))
-      (each_weaker (IsPlacedAs library false true false) P gating gaters (gaters_placed library c writable)))
-      (each_weaker (IsPlacedAs library false false true) P register registers (registers_placed library c writable))
 
   no_inputs : AllByRecursion (λ s. inputs_said (as_read s) ≡ []) (part_statements c)
-  no_inputs = of_parts (λ s. inputs_said (as_read s) ≡ []) (λ s is. is.no_inputs) (λ s is. is.no_inputs) (λ s is. is.no_inputs)
+  no_inputs = each_part library c writable (λ s. inputs_said (as_read s) ≡ []) (λ logic gating register s is. is.no_inputs)
 
   no_outputs : AllByRecursion (λ s. outputs_said (as_read s) ≡ []) (part_statements c)
-  no_outputs = of_parts (λ s. outputs_said (as_read s) ≡ []) (λ s is. is.no_outputs) (λ s is. is.no_outputs) (λ s is. is.no_outputs)
+  no_outputs = each_part library c writable (λ s. outputs_said (as_read s) ≡ []) (λ logic gating register s is. is.no_outputs)
 
   no_clocks : AllByRecursion (λ s. clocks_said (as_read s) ≡ []) (part_statements c)
-  no_clocks = of_parts (λ s. clocks_said (as_read s) ≡ []) (λ s is. is.no_clocks) (λ s is. is.no_clocks) (λ s is. is.no_clocks)
+  no_clocks = each_part library c writable (λ s. clocks_said (as_read s) ≡ []) (λ logic gating register s is. is.no_clocks)
 
   abbrev read : List Statement
   read = map as_read (inner_statements c)

@@ -1,25 +1,22 @@
 -- The statements of the parts of a netlist that its canonical text says.
-use Rattle.std.specs.Prelude.{◌≡◌, ℕ, true, false, List, [], ◌∷◌, map, length, codes, unwrap_or}
-use Rattle.std.proofs.Common.{refl, ap, ◌∙◌, inl, inr, arith}
+use Rattle.std.specs.Prelude.{◌≡◌, Bool, true, false, List, [], ◌∷◌, ◌++◌, map, length, codes, unwrap_or}
+use Rattle.std.proofs.Common.{refl, ap, ◌∙◌, inl, inr}
 use Rattle.std.specs.List.{AllByRecursion}
 use Rattle.std.specs.Option.{option_map, option_to_list}
+use Rattle.std.proofs.lemmas.List.{length-map}
 use Rattle.cg_cell.specs.Cell.{CellData}
 use Rattle.cg_cell.specs.declared.cell.CellKind.TheVariants.{Gater}
 use Rattle.cg_netlist.specs.declared.parts.RegisterKind.TheVariants.{Plain}
-use Rattle.cg_netlist.specs.Canonical.{cell_statement, gater_pins, gater_statement, net_name, net_names, register_statement}
+use Rattle.cg_netlist.specs.Canonical.{cell_statement, gater_pins, gater_statement, net_name, net_names, part_statements, register_statement}
 use Rattle.cg_netlist.specs.Circuit.{Circuit, GatingCell, LogicCell, RegisterCell, gate_nets}
 use Rattle.cg_netlist.specs.Says.{clock_name, with_clock}
-use Rattle.cg_netlist.specs.Statements.{Word}
+use Rattle.cg_netlist.specs.Statements.{Word, Statement}
 use Rattle.cg_netlist.specs.Writable.{IsWritable}
 use Rattle.cg_netlist.proofs.Members.{is_in_cases}
-use Rattle.cg_netlist.proofs.PartByPart.{each_mapped, each_weaker}
+use Rattle.cg_netlist.proofs.PartByPart.{each_mapped, each_together, each_weaker}
 use Rattle.cg_netlist.proofs.PlacedStatements.{IsPlacedAs, function_as_read, function_placed, gate_placed, gater_pins_named, kind_placed, kind_with_clock, net_named, nets_named}
 use Rattle.cg_netlist.proofs.SpellsCanonical.{as_read}
 use Rattle.cg_netlist.proofs.WritableParts.{IsWritableCell, IsWritableGater, IsWritableRegister, cells_writable, gaters_writable, registers_writable, the_option}
-
-same_count : (names : List Word) (nets : List ℕ) → length (net_names names nets) ≡ length nets
-same_count names [] = refl
-same_count names (net ∷ nets) = let rest = same_count names nets in omega arith
 
 pub cells_as_read : (c : Circuit) → map as_read (map (cell_statement c.names) c.cells) ≡ map (cell_statement c.names) c.cells
 cells_as_read c = go c.names c.cells
@@ -38,7 +35,7 @@ gaters_as_read c = go c.names c.gaters
 module _ (library : List CellData) (c : Circuit) (writable : IsWritable library c) where
   cell_placed : (k : LogicCell) → IsWritableCell library (length c.names) k → IsPlacedAs library true false false (cell_statement c.names k)
   cell_placed k is =
-      function_placed library (net_names c.names k.inputs) (net_name c.names k.output) (length k.inputs) k.function (same_count c.names k.inputs)
+      function_placed library (net_names c.names k.inputs) (net_name c.names k.output) (length k.inputs) k.function (length-map k.inputs (net_name c.names))
       (nets_named c.names k.inputs writable.formed.names is.inputs) (net_named c.names k.output writable.formed.names is.output) is.over is.narrow is.placed is.named
 
   gater_placed : (g : GatingCell) → IsWritableGater library (length c.names) g → IsPlacedAs library false true false (gater_statement c.names g)
@@ -65,6 +62,16 @@ module _ (library : List CellData) (c : Circuit) (writable : IsWritable library 
   registers_placed =
       each_mapped (IsPlacedAs library false false true) (register_statement c.names) c.registers
       (each_weaker (IsWritableRegister library c) (λ (r : RegisterCell). IsPlacedAs library false false true (register_statement c.names r)) register_placed c.registers (registers_writable library c writable))
+
+  -- what holds of the statement of each part
+  pub each_part : (P : Statement → Type 0) → ((logic gating register : Bool) (s : Statement) → IsPlacedAs library logic gating register s → P s) → AllByRecursion P (part_statements c)
+  each_part P holds =
+      let cells : List Statement = map (cell_statement c.names) c.cells in
+      let gaters : List Statement = map (gater_statement c.names) c.gaters in
+      let registers : List Statement = map (register_statement c.names) c.registers in
+      each_together P (cells ++ gaters) registers
+      (each_together P cells gaters (each_weaker (IsPlacedAs library true false false) P (holds true false false) cells cells_placed) (each_weaker (IsPlacedAs library false true false) P (holds false true false) gaters gaters_placed))
+      (each_weaker (IsPlacedAs library false false true) P (holds false false true) registers registers_placed)
 
   -- a plain register on a net `NIL` is clocked by the clock
   named_nil : (r : RegisterCell) → IsWritableRegister library c r → r.kind ≡ Plain → net_name c.names r.clock ≡ codes "NIL" → clock_name c ≡ net_name c.names r.clock

@@ -273,6 +273,7 @@ gated_output job before after output known written =
       some = gates.some;
       one = gates.one;
       stored = stored_gated job.second output.stored (blif gates.written) before after (ap (λ (o : Output). o.stored) gates.is) written.held;
+      writes = gates.writes;
       said = written.said ∙ ap (λ text. before.said ++ text) (ap (λ (o : Output). o.said) gates.is);
       same = gates.same;
       ends = ap finish_status (ap (λ (o : Output). o.finish) gates.is);

@@ -12,7 +12,7 @@ use Rattle.cg_netlist.specs.Statements.{Word, Statement, Model, Inputs, Outputs,
 use Rattle.cg_netlist.proofs.DraftLemmas.{cover_keeps, empty_keeps, input_keeps, output_keeps, register_added}
 use Rattle.cg_tool.specs.Drafting.{built, checked, go_on, with_inputs, with_outputs, with_statement, within}
 use Rattle.cg_tool.specs.declared.cg_blif.fault.BlifFault.{BlifFault}
-use Rattle.cg_tool.proofs.Saying.{all_said, draft_by}
+use Rattle.cg_tool.proofs.Saying.{all_said, draft_by, same_draft, went_on}
 
 abbrev pub Named : List Word → Type 0
 Named words = AllByRecursion (λ word. IsTrue (is_name word)) words
@@ -24,14 +24,6 @@ NamedNets (Outputs nets) = Named nets
 NamedNets (Names inputs output cover) = Named inputs × IsTrue (is_name output)
 NamedNets (Latch input output (Some clock) init) = IsTrue (is_name input) × IsTrue (is_name output) × IsTrue (is_name clock)
 NamedNets statement = Unit {0}
-
-pub same_draft : (d e : Circuit) → ◌≡◌ {A = Result Circuit BlifFault} (Ok d) (Ok e) → d ≡ e
-same_draft d e is = cc
-
--- what went on had a draft before
-pub went_on : (r : Result Circuit BlifFault) (next : Circuit → Result Circuit BlifFault) (e : Circuit) → go_on r next ≡ Ok e → (d : Circuit) × (r ≡ Ok d) × (next d ≡ Ok e)
-went_on (Ok d) next e is = (d, refl, is)
-went_on (Err fault) next e is = absurd (cc)
 
 -- a draft that was checked is within the limits
 pub record IsWithin (d e : Circuit) : Type 0 where

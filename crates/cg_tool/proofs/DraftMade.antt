@@ -19,7 +19,7 @@ use Rattle.cg_tool.specs.declared.cg_blif.fault.BlifFault.{BlifFault}
 use Rattle.cg_tool.proofs.DraftNames.{AreKnown, among, each_append, each_left, each_right, with_names_among}
 use Rattle.cg_tool.proofs.DraftSaid.{IsMore, IsNamed, SaysAlso, cover_said, empty_named, input_said, more_and_more, no_more, output_said, plain_register, register_said}
 use Rattle.cg_tool.proofs.SaidParts.{IsDrawn, cells_said, registers_said}
-use Rattle.cg_tool.proofs.Saying.{all_said, draft_by}
+use Rattle.cg_tool.proofs.Saying.{all_said, draft_by, same_draft, went_on}
 
 -- what is said of no statement, and of one statement behind others
 nothing_said : (d : Circuit) → IsNamed d → SaysAlso d d [] [] [] []
@@ -29,23 +29,16 @@ said_behind : (d e f : Circuit) (is js os ps : List Word) (as' bs : List NamedCe
 said_behind d e f is js os ps as' bs rs ss first later = record { named = later.named; more = more_and_more d e f is js os ps as' bs rs ss first later.more }
 
 -- a draft that goes on was made, and passes no limit
-went_on : (d e : Circuit) (limit : Option Limit) (next : Circuit → Result Circuit BlifFault) → go_on (within d limit) next ≡ Ok e → next d ≡ Ok e
-went_on d e None next is = is
-went_on d e (Some limit) next is = absurd (cc)
-
-was_made : (made : Result Circuit BlifFault) (e : Circuit) (next : Circuit → Result Circuit BlifFault) → go_on made next ≡ Ok e → (m : Circuit) × (made ≡ Ok m) × (next m ≡ Ok e)
-was_made (Ok m) e next is = (m, refl, is)
-was_made (Err fault) e next is = absurd (cc)
-
-same_draft : (d e : Circuit) → ◌≡◌ {A = Result Circuit BlifFault} (Ok d) (Ok e) → d ≡ e
-same_draft d e is = cc
+within_limit : (d e : Circuit) (limit : Option Limit) (next : Circuit → Result Circuit BlifFault) → go_on (within d limit) next ≡ Ok e → next d ≡ Ok e
+within_limit d e None next is = is
+within_limit d e (Some limit) next is = absurd (cc)
 
 inputs_made : (nets : List Word) (d e : Circuit) → IsNamed d → with_inputs nets d ≡ Ok e → SaysAlso d e nets [] [] []
 inputs_made [] d e named is = subst (λ f. SaysAlso d f [] [] [] []) (same_draft d e is) (nothing_said d named)
 inputs_made (net ∷ nets) d e named is =
     let next = with_input d net in
     let first = input_said d net named in
-    let later = inputs_made nets next e first.named (went_on next e (limit_passed next) (with_inputs nets) is) in
+    let later = inputs_made nets next e first.named (within_limit next e (limit_passed next) (with_inputs nets) is) in
     said_behind d next e (net ∷ []) nets [] [] [] [] [] [] first.more later
 
 outputs_made : (nets : List Word) (d e : Circuit) → IsNamed d → with_outputs nets d ≡ Ok e → SaysAlso d e [] nets [] []
@@ -53,7 +46,7 @@ outputs_made [] d e named is = subst (λ f. SaysAlso d f [] [] [] []) (same_draf
 outputs_made (net ∷ nets) d e named is =
     let next = with_output d net in
     let first = output_said d net named in
-    let later = outputs_made nets next e first.named (went_on next e (limit_passed next) (with_outputs nets) is) in
+    let later = outputs_made nets next e first.named (within_limit next e (limit_passed next) (with_outputs nets) is) in
     said_behind d next e [] [] (net ∷ []) nets [] [] [] [] first.more later
 
 -- the draft that statements make says their inputs, outputs, logic cells and registers
@@ -61,23 +54,23 @@ pub statements_made : (ss : List Statement) (d e : Circuit) → AllByRecursion I
     → SaysAlso d e (flat_map inputs_said ss) (flat_map outputs_said ss) (flat_map cells_said ss) (flat_map registers_said ss)
 statements_made [] d e drawn named is = subst (λ f. SaysAlso d f [] [] [] []) (same_draft d e is) (nothing_said d named)
 statements_made (Inputs nets ∷ ss) d e drawn named is =
-    let way = was_made (with_inputs nets d) e (built (all_said ss)) is in
+    let way = went_on (with_inputs nets d) (built (all_said ss)) e is in
     let first = inputs_made nets d way.0 named way.1 in
     said_behind d way.0 e nets (flat_map inputs_said ss) [] (flat_map outputs_said ss) [] (flat_map cells_said ss) [] (flat_map registers_said ss) first.more (statements_made ss way.0 e drawn.1 first.named way.2)
 statements_made (Outputs nets ∷ ss) d e drawn named is =
-    let way = was_made (with_outputs nets d) e (built (all_said ss)) is in
+    let way = went_on (with_outputs nets d) (built (all_said ss)) e is in
     let first = outputs_made nets d way.0 named way.1 in
     said_behind d way.0 e [] (flat_map inputs_said ss) nets (flat_map outputs_said ss) [] (flat_map cells_said ss) [] (flat_map registers_said ss) first.more (statements_made ss way.0 e drawn.1 first.named way.2)
 statements_made (Names inputs output cover ∷ ss) d e drawn named is =
     let next = with_cover d inputs output cover in
     let first = cover_said d inputs output cover named in
     said_behind d next e [] (flat_map inputs_said ss) [] (flat_map outputs_said ss) (cells_said (Names inputs output cover)) (flat_map cells_said ss) [] (flat_map registers_said ss) first.more
-    (statements_made ss next e drawn.1 first.named (went_on next e (limit_passed next) (built (all_said ss)) is))
+    (statements_made ss next e drawn.1 first.named (within_limit next e (limit_passed next) (built (all_said ss)) is))
 statements_made (Latch input output (Some clock) init ∷ ss) d e drawn named is =
     let next = with_register d (input ∷ []) (Some output ∷ []) (Some clock) init in
     let first = register_said d input output clock init named in
     said_behind d next e [] (flat_map inputs_said ss) [] (flat_map outputs_said ss) [] (flat_map cells_said ss) (registers_said (Latch input output (Some clock) init)) (flat_map registers_said ss) first.more
-    (statements_made ss next e drawn.1 first.named (went_on next e (limit_passed next) (built (all_said ss)) is))
+    (statements_made ss next e drawn.1 first.named (within_limit next e (limit_passed next) (built (all_said ss)) is))
 statements_made (s ∷ ss) d e drawn named is = absurd drawn.0
 
 -- the words of parts are among these

@@ -1,5 +1,5 @@
 -- What `gate` puts out, from the netlist that it read.
-use Rattle.std.proofs.Common.{◌≡◌, ℕ, List, Result, Ok, Err, sym, ◌∙◌, ap}
+use Rattle.std.proofs.Common.{◌≡◌, ℕ, List, [], Result, Ok, Err, sym, ◌∙◌, ap}
 use Rattle.cg_netlist.specs.Circuit.{Circuit}
 use Rattle.cg_netlist.specs.History.{HasHistory, HasOneHistory, outputs_of}
 use Rattle.cg_netlist.specs.PlainText.{PlainText}
@@ -12,6 +12,8 @@ use Rattle.cg_tool.specs.Gate.{Gates, SameOutputs, gate_output, gated, netlist_o
 use Rattle.cg_tool.specs.Drafting.{netlist_said}
 use Rattle.cg_tool.specs.Refusal.{refused_as, ◌>>=◌}
 use Rattle.cg_tool.specs.Worlds.{Gives}
+use Rattle.cg_netlist.proofs.CanonicalSays.{canonical_says}
+use Rattle.cg_tool.proofs.PlainWritable.{plain_writable}
 
 -- a netlist behaves as itself, since it has one lawful history
 pub same_outputs : (c : Circuit) → HasOneHistory c → SameOutputs c c
@@ -40,4 +42,15 @@ pub gives_gated : (text : List ℕ) (c : Circuit) (output : Output) → netlist_
 gives_gated text c output read is = let next : Circuit → Result Output Refusal = λ netlist. Ok (gated netlist) in ap (λ found. found >>= next) read ∙ ap (λ (o : Output). let found : Result Output Refusal = Ok o in found) (sym is)
 
 pub gates_text : (text : List ℕ) (c : Circuit) (output : Output) → PlainText text c → output ≡ gated c → IsWellFormed c → HasHistory c → HasOneHistory c → Gates text output
-gates_text text c output says is formed some one = record { read = c; written = c; says = says; read_well_formed = formed; written_well_formed = formed; some = some; one = one; is = is; same = same_outputs c one }
+gates_text text c output says is formed some one = record {
+  read = c;
+  written = c;
+  says = says;
+  read_well_formed = formed;
+  written_well_formed = formed;
+  some = some;
+  one = one;
+  is = is;
+  writes = canonical_says [] c (plain_writable text c says);
+  same = same_outputs c one;
+}

@@ -31,3 +31,5 @@ pub mod SaidDraft
 pub mod PlainReading
 pub mod PlainSaid
 pub mod Taken
+pub mod PlainWritable
+pub mod WrittenText

@@ -8,9 +8,9 @@ use Rattle.cg_tool.specs.declared.cg_blif.fault.BlifFault.{BlifFault}
 use Rattle.cg_tool.specs.declared.cg_blif.fault.BlifFault.TheVariants.{BadLine, BadCover, BadLatch, SecondModel, Net, Limit, NoMemory}
 use Rattle.cg_tool.specs.Drafting.{draft_of}
 use Rattle.cg_tool.specs.Faults.{IsFaultOf, IsOnlyAnswer}
-use Rattle.cg_tool.proofs.DraftKept.{same_draft}
 use Rattle.cg_tool.proofs.SaidDraft.{draft_from}
 use Rattle.cg_tool.proofs.SaysDraft.{says_from}
+use Rattle.cg_tool.proofs.Saying.{same_draft}
 use Rattle.cg_tool.proofs.SpelledText.{read_from, spelled_from}
 
 -- the netlist of the draft of a text is one that the text says

@@ -8,9 +8,9 @@ use Rattle.cg_netlist.specs.PlainText.{IsPlainPart, PlainText, plain_statements}
 use Rattle.cg_netlist.specs.Statements.{Word, Statement, Model, Inputs, Outputs, Clocks, Names, Latch, Gate, Skipped, End}
 use Rattle.cg_tool.specs.Drafting.{built, checked, finished, go_on, netlist_or, netlist_said, with_inputs, with_outputs, with_statement}
 use Rattle.cg_tool.specs.declared.cg_blif.fault.BlifFault.{BlifFault}
-use Rattle.cg_tool.proofs.DraftKept.{NamedLines, draft_kept, same_draft, was_within, went_on}
+use Rattle.cg_tool.proofs.DraftKept.{NamedLines, draft_kept, was_within}
 use Rattle.cg_tool.proofs.SaidDraft.{draft_from}
-use Rattle.cg_tool.proofs.Saying.{all_said, draft_by}
+use Rattle.cg_tool.proofs.Saying.{all_said, draft_by, same_draft, went_on}
 use Rattle.cg_tool.proofs.SpelledText.{read_from}
 
 -- No statement of the plain form makes a gating cell

@@ -103,7 +103,7 @@ has_names c formed ordered =
     }
 
 -- a netlist that plain statements say has no gating cell, and its clock is an input at a clock pin
-no_gating_cell : (names : List Word) (gaters : List GatingCell) → map (gater_statement names) gaters ≡ [] → gaters ≡ []
+pub no_gating_cell : (names : List Word) (gaters : List GatingCell) → map (gater_statement names) gaters ≡ [] → gaters ≡ []
 no_gating_cell names [] none = refl
 no_gating_cell names (gater ∷ gaters) none = absurd (cc)
 

@@ -1,5 +1,6 @@
 -- What `gate` puts out.
-use Rattle.std.specs.Prelude.{◌≡◌, ℕ, Bool, List, [], ◌∷◌, ◌++◌, codes, Some, Result, Ok}
+use Rattle.std.specs.Prelude.{◌≡◌, ℕ, Bool, List, [], ◌∷◌, ◌++◌, codes, None, Some, Result, Ok}
+use Rattle.cg_netlist.specs.BlifText.{BlifText}
 use Rattle.cg_netlist.specs.Canonical.{blif}
 use Rattle.cg_netlist.specs.Circuit.{Circuit}
 use Rattle.cg_netlist.specs.History.{HasHistory, HasOneHistory, IsLawful, IsStart, IsWaveform, Moment, Tick, outputs_of}
@@ -48,7 +49,8 @@ SameOutputs read written = (start : List Bool) (wave : List Tick) → IsStart re
     → (history gated : List Moment) → IsLawful read start wave history → IsLawful written start wave gated → outputs_of read history ≡ outputs_of written gated
 
 -- What `gate` puts out of a text: the text is in the plain form and says a well-formed netlist, which has exactly one
--- lawful history for each start and waveform. What is stored is the canonical text of a well-formed netlist that behaves as the one that was read.
+-- lawful history for each start and waveform. What is stored is the canonical text of a well-formed netlist, is a BLIF text
+-- that says it, and this netlist behaves as the one that was read.
 pub record Gates (text : List ℕ) (output : Output) : Type 0 where
   pub read : Circuit
   pub written : Circuit
@@ -58,4 +60,5 @@ pub record Gates (text : List ℕ) (output : Output) : Type 0 where
   pub some : HasHistory read
   pub one : HasOneHistory read
   pub is : output ≡ gated written
+  pub writes : BlifText (blif written) [] None written
   pub same : SameOutputs read written

@@ -42,8 +42,8 @@ pub record IsChecked (job : JobWords) (before after : World) (result : Status) :
 
 -- A netlist was gated: the bytes under the first name are a BLIF text, in the plain form, and say a well-formed netlist,
 -- which has exactly one lawful history for each start and waveform; the second name holds the canonical text of a
--- well-formed netlist; and from every start of the registers and over every waveform that begins with the clock low, the
--- outputs of the two are equal at every moment.
+-- well-formed netlist, which is a BLIF text that says it; and from every start of the registers and over every waveform
+-- that begins with the clock low, the outputs of the two are equal at every moment.
 pub record IsGated (job : JobWords) (before after : World) (result : Status) : Type 0 where
   pub read : Circuit
   pub written : Circuit
@@ -54,6 +54,7 @@ pub record IsGated (job : JobWords) (before after : World) (result : Status) : T
   pub some : HasHistory read
   pub one : HasOneHistory read
   pub stored : after.held job.second ≡ Some (blif written)
+  pub writes : BlifText (blif written) [] None written
   pub said : after.said ≡ before.said ++ stages_text
   pub same : SameOutputs read written
   pub ends : result ≡ statuses.Done

@@ -14,10 +14,13 @@ mod gate_lines;
 mod nets;
 mod part_lines;
 
-ghost use Rattle.std.specs.Prelude.{◌≡◌, ◌++◌, IfOk, OnOk};
+ghost use Rattle.std.specs.Prelude.{◌≡◌, ◌++◌, List, None, IfOk, OnOk};
 ghost use Rattle.std.specs.List.{flat_map};
+ghost use Rattle.cg_cell.specs.Cell.{CellData};
+ghost use Rattle.cg_netlist.specs.BlifText.{BlifText};
 ghost use Rattle.cg_netlist.specs.Canonical.{blif, cell_statement, clock_statements, gater_statement, register_statement};
 ghost use Rattle.cg_netlist.specs.Statements.{statements_text};
+ghost use Rattle.cg_netlist.specs.Writable.{IsWritable};
 ghost use Rattle.cg_tool.specs.Writing.{header_text, parts_text, statement_text};
 
 use cg_netlist::id::{CellId, GateClockId, RegId};
@@ -28,8 +31,18 @@ use std::alloc::{AllocError, Global};
 
 /// The canonical BLIF text of a netlist: the model, the inputs, the outputs, the clock where there is one, the logic
 /// cells, the gating cells, the registers, and the end. Takes one pass, and time and memory as the text is long.
-#[tactic(auto, using(crate::proofs::WritingLemmas::whole))]
 pub fn write_blif(alloc: Global, netlist: &Netlist) -> Result<Vec<u8>, AllocError>
+    ensures text { IfOk result (λ text. text.items ≡ blif netlist.now) }
+
+    // It is a BLIF text that says the netlist, with each library whose cells are those that are placed.
+    ensures says { IfOk result (λ text. (library : List CellData) → IsWritable library netlist.now → BlifText text.items library None netlist.now) }
+{
+    canonical(alloc, netlist)
+}
+
+// The canonical text.
+#[tactic(auto, using(crate::proofs::WritingLemmas::whole))]
+fn canonical(alloc: Global, netlist: &Netlist) -> Result<Vec<u8>, AllocError>
     ensures { IfOk result (λ text. text.items ≡ blif netlist.now) }
 {
     let mut out = Vec::new(alloc);

@@ -1,6 +1,5 @@
-use Rattle.std.proofs.Common.{arith, append_assoc}
-use Rattle.cg_tool.proofs.WritingLemmas.{blif_text}
+use Rattle.cg_tool.proofs.WrittenText.{text_says}
 use Rattle.cg_tool.proofs.cg_blif_out.write_blif.Goals as goal
 
-pub returns : goal.returns
-returns c = grind (arith, append_assoc, blif_text c.args.netlist.now)
+pub returns-clause-says : goal.returns-clause-says
+returns-clause-says c = text_says c.args.netlist.now c.canonical.result c.canonical.ensures

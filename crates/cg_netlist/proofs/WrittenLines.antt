@@ -1,15 +1,14 @@
 -- Lines of names that are written are read as these lines: they hold no comment, and none is joined with the next.
-use Rattle.std.proofs.Common.{◌≡◌, ◌≢◌, ℕ, zero, suc, ◌+◌, ◌-◌, ◌<◌, ◌≤◌, Bool, true, false, not, ◌&&◌, ◌||◌, ◌==◌, cond, IsTrue, List, [], ◌∷◌, ◌++◌, map, length, Some, refl, sym, ap, ◌∙◌, subst, append_assoc, reverse, take, arith, nat_lt, nat_le}
+use Rattle.std.proofs.Common.{◌≡◌, ℕ, ◌+◌, ◌-◌, ◌<◌, ◌≤◌, Bool, true, false, not, ◌||◌, ◌==◌, cond, IsTrue, List, [], ◌∷◌, ◌++◌, map, length, Some, refl, sym, ap, ◌∙◌, append_assoc, reverse, take, arith, nat_lt, nat_le}
 use Rattle.std.specs.List.{AllByRecursion, before_first, filter, list_all, onto_first, position_or_len, slice_get}
 use Rattle.std.specs.Option.{option_map_or}
 use Rattle.std.proofs.lemmas.Bool.{and_parts, both_ways, eqb-true, false_from_ne_true, leb-true, ltb-true}
-use Rattle.std.proofs.lemmas.Grind.{reverse_onto}
 use Rattle.std.proofs.lemmas.List.{length-append, reverse-append, reverse-reverse, take_all}
 use Rattle.std.proofs.Math.Dec.{eqb-suc-zero}
 use Rattle.cg_cell.specs.Name.{ends_name, is_name, is_name_byte}
 use Rattle.cg_text.specs.declared.blanks.Blanks.TheVariants.{Controls}
-use Rattle.cg_text.specs.Blanks.{is_blank, is_line_feed}
-use Rattle.cg_text.specs.Words.{lines, pieces, words}
+use Rattle.cg_text.specs.Blanks.{is_blank}
+use Rattle.cg_text.specs.Words.{lines, words}
 use Rattle.cg_text.specs.Written.{IsWord, joined, text_of}
 use Rattle.cg_text.proofs.Written.{words-joined}
 use Rattle.cg_netlist.specs.LogicalLines.{bared, is_joined, logical_lines, without_front, word_lines}

@@ -1,5 +1,5 @@
 -- Statements of the plain form whose words are names make a draft that no refusal has spoilt.
-use Rattle.std.proofs.Common.{◌≡◌, ◌≤◌, Bool, true, false, cond, IsTrue, List, [], ◌∷◌, ◌++◌, length, None, Some, Result, Ok, Err, refl, sym, ap, ◌∙◌, subst, inl, inr, arith, nat_lt}
+use Rattle.std.proofs.Common.{◌≡◌, ◌≤◌, Bool, true, false, cond, IsTrue, List, [], ◌∷◌, ◌++◌, length, None, Some, Ok, refl, sym, ap, ◌∙◌, subst, inl, inr, arith, nat_lt}
 use Rattle.std.specs.List.{AllByRecursion, flat_map}
 use Rattle.std.proofs.lemmas.Bool.{cases_lt, lt-ltb}
 use Rattle.std.proofs.lemmas.List.Elements.{All-from_recursion}
@@ -10,8 +10,7 @@ use Rattle.cg_netlist.specs.Draft.{IsDraft, empty_draft, with_cover, with_input,
 use Rattle.cg_netlist.specs.PlainText.{IsPlainPart, plain_statements}
 use Rattle.cg_netlist.specs.Statements.{Word, Statement, Model, Inputs, Outputs, Clocks, Names, Latch, Gate, Skipped, End, statement_lines}
 use Rattle.cg_netlist.proofs.DraftLemmas.{cover_keeps, empty_keeps, input_keeps, output_keeps, register_added}
-use Rattle.cg_tool.specs.Drafting.{built, checked, go_on, with_inputs, with_outputs, with_statement, within}
-use Rattle.cg_tool.specs.declared.cg_blif.fault.BlifFault.{BlifFault}
+use Rattle.cg_tool.specs.Drafting.{built, checked, with_inputs, with_outputs, with_statement, within}
 use Rattle.cg_tool.proofs.Saying.{all_said, draft_by, same_draft, went_on}
 
 abbrev pub Named : List Word → Type 0

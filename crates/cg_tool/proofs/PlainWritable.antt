@@ -1,6 +1,6 @@
 -- A netlist that a text in the plain form says is one whose canonical text says it.
-use Rattle.std.proofs.Common.{◌≡◌, ◌≢◌, ℕ, ◌≤◌, Bool, true, false, List, [], ◌∷◌, ◌++◌, map, length, Option, None, Some, refl, sym, ap, ◌∙◌, subst, nat_eq, cond}
-use Rattle.std.specs.List.{All, AllByRecursion, IsDistinct, filter, flat_map}
+use Rattle.std.proofs.Common.{◌≡◌, ◌≢◌, ℕ, ◌≤◌, Bool, true, false, List, [], ◌∷◌, map, length, Some, refl, sym, ap, ◌∙◌, subst, nat_eq, cond}
+use Rattle.std.specs.List.{AllByRecursion, IsDistinct, filter, flat_map}
 use Rattle.std.specs.Prelude.{codes}
 use Rattle.std.specs.Str.{bytes_eq}
 use Rattle.std.proofs.lemmas.Bool.{both_ways, eqb-true, false_from_ne_true}
@@ -30,9 +30,10 @@ none_distinct = tt
 module _ (names : List Word) where
   apart : (x : ℕ) (xs : List ℕ) → AllByRecursion (λ n. bytes_eq (net_name names x) n ≡ false) (net_names names xs) → AllByRecursion (λ y. nat_eq x y ≡ false) xs
   apart x [] each = tt
-  apart x (y ∷ ys) each =
-      (false_from_ne_true (nat_eq x y) (λ same. both_ways (bytes_eq (net_name names x) (net_name names y)) each.0 (word_itself (net_name names x) (net_name names y) (ap (net_name names) (eqb-true x y same)))),
-      apart x ys each.1)
+  apart x (y ∷ ys) each = (
+    false_from_ne_true (nat_eq x y) (λ same. both_ways (bytes_eq (net_name names x) (net_name names y)) each.0 (word_itself (net_name names x) (net_name names y) (ap (net_name names) (eqb-true x y same)))),
+    apart x ys each.1,
+  )
 
   -- nets of different names are different
   nets_distinct : (xs : List ℕ) → IsDistinct bytes_eq (net_names names xs) → IsDistinct nat_eq xs

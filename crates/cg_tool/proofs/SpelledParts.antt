@@ -5,7 +5,7 @@ use Rattle.std.specs.List.{AllByRecursion, flat_map, list_all}
 use Rattle.cg_cell.specs.Cover.{CoverData, HaveOneLength, IsCover}
 use Rattle.cg_text.specs.declared.lines.Line.{Line}
 use Rattle.cg_netlist.specs.PlainText.{IsPlainPart}
-use Rattle.cg_netlist.specs.Statements.{Word, Statement, row_words, init_word, statement_lines}
+use Rattle.cg_netlist.specs.Statements.{Word, Statement, row_words, statement_lines}
 use Rattle.cg_netlist.specs.Statements as said
 use Rattle.cg_tool.specs.declared.cg_blif.awaited.Awaited.TheVariants as awaiteds
 use Rattle.cg_tool.specs.OpenCover.{CoverSoFar}

@@ -66,10 +66,7 @@ latch_line_read cover input output clock init number onward few other plain =
     plain_taken awaiteds.Parts cover number (codes ".latch") (input ∷ output ∷ codes "re" ∷ clock ∷ init_word init ∷ []) onward plain
     ∙ ap (λ latch. closed cover (latch_line number latch onward)) (latch_read input output clock init few other)
 
--- the `.end` line, the `.inputs` line and the `.outputs` line
-pub end_line_read : (cover : Option CoverSoFar) (number : ℕ) (onward : Onward) → take_words awaiteds.Parts cover number (codes ".end" ∷ []) onward ≡ closed cover (onward awaiteds.Nothing None)
-end_line_read cover number onward = refl
-
+-- the `.inputs` line and the `.outputs` line
 pub inputs_line_read : (nets : List Word) (number : ℕ) (onward : Onward) → list_all is_plain (codes ".inputs" ∷ nets) ≡ true → take_words awaiteds.Inputs None number (codes ".inputs" ∷ nets) onward ≡ Next (said.Inputs nets) (onward awaiteds.Outputs None)
 inputs_line_read nets number onward plain = plain_taken awaiteds.Inputs None number (codes ".inputs") nets onward plain
 

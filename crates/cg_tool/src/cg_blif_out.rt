@@ -34,7 +34,7 @@ use std::alloc::{AllocError, Global};
 pub fn write_blif(alloc: Global, netlist: &Netlist) -> Result<Vec<u8>, AllocError>
     ensures text { IfOk result (λ text. text.items ≡ blif netlist.now) }
 
-    // It is a BLIF text that says the netlist, with each library whose cells are those that are placed.
+    // Where the netlist is writable with a library, it is a BLIF text that says the netlist with the cells of that library.
     ensures says { IfOk result (λ text. (library : List CellData) → IsWritable library netlist.now → BlifText text.items library None netlist.now) }
 {
     canonical(alloc, netlist)

@@ -1,0 +1,62 @@
+//! The limits of what is read and built, each with its number, and what every refusal has in common.
+//!
+//! A text or a circuit at a limit is taken; one past it is refused with the [`Limit`] that it passes.
+#![tactic(auto)]
+
+/// A quantity that has a limit. A refusal that names it says that the limit would be passed.
+#[derive(Clone, Copy, Debug, PartialEq, Eq)]
+pub enum Limit {
+    /// Bytes of one file: [`MOST_FILE_BYTES`].
+    File,
+
+    /// Nets of one netlist: [`MOST_NETS`].
+    Nets,
+
+    /// Registers of one netlist, those that delay an enable included: [`MOST_REGISTERS`].
+    Registers,
+
+    /// Inputs of one cover: [`MOST_COVER_INPUTS`].
+    CoverInputs,
+
+    /// Cells of one library: [`MOST_LIBRARY_CELLS`].
+    LibraryCells,
+
+    /// Nesting of Liberty groups, and of an expression: [`MOST_NESTING`].
+    Nesting,
+
+    /// Leaves and and-nodes of one claim: [`MOST_CLAIM_NODES`].
+    ClaimNodes,
+
+    /// Rows of a stimulus: [`MOST_ROWS`].
+    Rows,
+
+    /// Variables of a DIMACS file: [`MOST_VARIABLES`].
+    Variables,
+}
+
+/// The bytes that one file may have.
+pub const MOST_FILE_BYTES: u64 = 67_108_864;
+
+/// The nets that one netlist may have.
+pub const MOST_NETS: usize = 1_048_576;
+
+/// The registers that one netlist may have, those that delay an enable included.
+pub const MOST_REGISTERS: usize = 65_536;
+
+/// The inputs that one cover may have.
+pub const MOST_COVER_INPUTS: usize = 256;
+
+/// The cells that one library may have.
+pub const MOST_LIBRARY_CELLS: usize = 4_096;
+
+/// The groups of a Liberty text, or the operators and brackets of an expression, that may stand in one another.
+pub const MOST_NESTING: usize = 64;
+
+/// The leaves and and-nodes that one claim may have.
+pub const MOST_CLAIM_NODES: u32 = 65_536;
+
+/// The rows that a stimulus may have.
+pub const MOST_ROWS: usize = 1_048_576;
+
+/// The variables that a DIMACS file may have.
+pub const MOST_VARIABLES: u32 = 16_777_216;

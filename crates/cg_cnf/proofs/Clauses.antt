@@ -7,10 +7,10 @@ use Rattle.cg_aig.specs.Aig as aig
 use Rattle.cg_aig.specs.Aig.{are_pairs, is_pair, values_from}
 use Rattle.cg_aig.specs.Values.{IsPair, and_left, and_right, node_is, pair_is, parity}
 use Rattle.cg_aig.proofs.Fills.{bit_of_first}
-use Rattle.cg_lrat.specs.declared.formula.Clause.{Clause}
-use Rattle.cg_lrat.specs.declared.formula.Lit.{Lit}
-use Rattle.cg_lrat.specs.Lits.{inverse}
-use Rattle.cg_lrat.specs.Satisfiable.{clause_bit, lit_bit}
+use Rattle.cg_formula.specs.declared.formula.Clause.{Clause}
+use Rattle.cg_formula.specs.declared.formula.Lit.{Lit}
+use Rattle.cg_formula.specs.Lits.{inverse}
+use Rattle.cg_formula.specs.Satisfiable.{clause_bit, lit_bit}
 use Rattle.cg_cnf.specs.Clauses.{clauses_from, lit_of, node_lit}
 
 pub lit_same : (model : List Bool) (a : ℕ) → 1 < a → lit_bit model (lit_of a) ≡ aig.lit_bit (false ∷ model) a

@@ -10,10 +10,10 @@ use Rattle.cg_aig.specs.Aig as aig
 use Rattle.cg_aig.specs.Aig.{IsAig, aig_ops, are_pairs, is_pair, leaf_bits, node_values, nodes, values_from}
 use Rattle.cg_aig.specs.AigLaws.{bit_of_zero, lit_is}
 use Rattle.cg_aig.specs.Values.{and_left, and_right, leaf_bits_all, length-leaf_bits, length-node_values, pair_is}
-use Rattle.cg_lrat.specs.declared.formula.Clause.{Clause}
-use Rattle.cg_lrat.specs.Bounds.{IsClause, IsFormula}
-use Rattle.cg_lrat.specs.Bounds as bounds
-use Rattle.cg_lrat.specs.Satisfiable.{IsSatisfiable, Satisfies, clause_bit, lit_bit}
+use Rattle.cg_formula.specs.declared.formula.Clause.{Clause}
+use Rattle.cg_formula.specs.Bounds.{IsClause, IsFormula}
+use Rattle.cg_formula.specs.Bounds as bounds
+use Rattle.cg_formula.specs.Satisfiable.{IsSatisfiable, Satisfies, clause_bit, lit_bit}
 use Rattle.cg_cnf.specs.Clauses.{IsOneAt, clause_of, clauses_from, formula_of, goal_clauses, lit_of, node_clauses}
 use Rattle.cg_cnf.proofs.Clauses.{AreAnds, clauses_hold, clauses_mean, lit_same, values_are, values_unique}
 

@@ -2,10 +2,10 @@
 use Rattle.std.specs.Prelude.{◌≡◌, ◌==◌, ℕ, ◌+◌, ◌/◌, ◌%◌, Bool, true, false, not, if◌then◌else◌, List, [], ◌∷◌, ◌++◌, length}
 use Rattle.cg_cell.specs.Domain.{Seen}
 use Rattle.cg_aig.specs.Aig.{aig_ops}
-use Rattle.cg_lrat.specs.declared.formula.Lit.{Lit}
-use Rattle.cg_lrat.specs.declared.formula.Clause.{Clause}
-use Rattle.cg_lrat.specs.declared.formula.Formula.{Formula}
-use Rattle.cg_lrat.specs.Lits.{inverse}
+use Rattle.cg_formula.specs.declared.formula.Lit.{Lit}
+use Rattle.cg_formula.specs.declared.formula.Clause.{Clause}
+use Rattle.cg_formula.specs.declared.formula.Formula.{Formula}
+use Rattle.cg_formula.specs.Lits.{inverse}
 
 -- The variable of a node is its number.
 abbrev pub node_lit : ℕ → Lit

@@ -2,13 +2,13 @@
 
 ghost use Rattle.std.specs.Prelude.{◌≡◌, ◌++◌, ◌∷◌, [], List, Bool, IsTrue, IfOk, OnOk, take};
 ghost use Rattle.cg_aig.specs.Aig.{aig_ops};
-ghost use Rattle.cg_lrat.specs.Bounds.{IsFormula};
-ghost use Rattle.cg_lrat.specs.Satisfiable.{IsSatisfiable, Satisfies};
+ghost use Rattle.cg_formula.specs.Bounds.{IsFormula};
+ghost use Rattle.cg_formula.specs.Satisfiable.{IsSatisfiable, Satisfies};
 ghost use Rattle.cg_cnf.specs.Clauses.{IsOneAt, clause_of, formula_of, goal_clauses, lit_of, node_clauses};
 
 use cg_aig::{Aig, AigLit};
+use cg_formula::{Clause, Formula, Lit};
 use cg_list::Seq;
-use cg_lrat::formula::{Clause, Formula, Lit};
 use std::alloc::{AllocError, Global};
 
 /// The formula of a goal, which is a literal of the list.

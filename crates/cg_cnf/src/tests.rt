@@ -2,7 +2,7 @@
 
 use crate::goal::formula;
 use cg_aig::{Aig, AigLit};
-use cg_lrat::dimacs::write_dimacs;
+use cg_formula::write_dimacs;
 use std::alloc::Global;
 
 /// The literal of two literals together, where they are literals of the list.

@@ -1,6 +1,6 @@
 -- The verdict that steps taken in order give is the one that the log deserves, and no other.
 use Rattle.std.proofs.Common.{◌≡◌, ℕ, Bool, true, false, List, [], ◌∷◌, ◌++◌, Option, Some, None, ◌⊎◌, inl, inr, refl, sym, ap, ◌∙◌}
-use Rattle.cg_lrat.specs.declared.formula.Formula.{Formula}
+use Rattle.cg_formula.specs.declared.formula.Formula.{Formula}
 use Rattle.cg_lrat.specs.declared.log.Step.{Step}
 use Rattle.cg_lrat.specs.declared.log.Log.{Log}
 use Rattle.cg_lrat.specs.declared.verdict.Verdict.{Verdict}

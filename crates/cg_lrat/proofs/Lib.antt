@@ -1,12 +1,8 @@
-pub mod Before
 pub mod LogBefore
 pub mod Open
 pub mod Hints
-pub mod Connectives
 pub mod Sound
 pub mod Deserved
-pub mod Words
-pub mod DimacsLaws
-pub mod LratLaws
-pub mod Pushed
-pub mod WrittenLaws
+pub mod IdSpelling
+pub mod LratExact
+pub mod LratWritten

@@ -1,7 +1,7 @@
 -- What was read before the rest of a log, put before what the rest gives.
 use Rattle.std.proofs.Common.{◌≡◌, ℕ, List, [], ◌∷◌, ◌++◌, Result, Ok, Err, refl, sym, ap, ◌∙◌, append_assoc}
 use Rattle.cg_text.specs.declared.lines.Line.{Line}
-use Rattle.cg_lrat.specs.declared.formula.Lit.{Lit}
+use Rattle.cg_formula.specs.declared.formula.Lit.{Lit}
 use Rattle.cg_lrat.specs.declared.log.Step.{Step}
 use Rattle.cg_lrat.specs.declared.lrat.LratFault.{LratFault}
 use Rattle.cg_lrat.specs.LratReading.{◌>>=◌, step_of, steps_of}

@@ -2,10 +2,10 @@
 use Rattle.std.proofs.Common.{◌≡◌, ℕ, ◌≤◌, Bool, true, false, List, [], ◌∷◌, length, drop, refl, sym, ap, ◌∙◌, if◌then◌else◌}
 use Rattle.std.proofs.Math.ListN.{drop_of_length-le}
 use Rattle.std.specs.List.{list_all}
-use Rattle.cg_lrat.specs.declared.formula.Lit.{Lit}
+use Rattle.cg_formula.specs.declared.formula.Lit.{Lit}
 use Rattle.cg_lrat.specs.declared.hint.Open.{Open}
 use Rattle.cg_lrat.specs.declared.hint.Open.TheVariants.{Nothing, One, Many}
-use Rattle.cg_lrat.specs.Lits.{same_lit}
+use Rattle.cg_formula.specs.Lits.{same_lit}
 use Rattle.cg_lrat.specs.Open.{with_lit}
 use Rattle.cg_lrat.specs.Accepted.{open_of, open_lits}
 

@@ -1,11 +1,11 @@
 -- An accepted log proves its formula unsatisfiable: bits that satisfy the formula satisfy each live clause.
-use Rattle.std.proofs.Common.{◌≡◌, ℕ, ◌+◌, ◌-◌, suc, Bool, true, false, not, ◌||◌, ◌==◌, List, [], ◌∷◌, ◌++◌, length, map, Option, Some, None, inl, inr, refl, sym, ap, ◌∙◌, if◌then◌else◌, nat_eq, nat_le}
+use Rattle.std.proofs.Common.{◌≡◌, ℕ, ◌+◌, suc, Bool, true, false, ◌||◌, ◌==◌, List, [], ◌∷◌, ◌++◌, length, map, Option, Some, None, inl, inr, refl, sym, ap, ◌∙◌, if◌then◌else◌, nat_eq, nat_le}
 use Rattle.std.proofs.lemmas.Bool.{eqb-true}
-use Rattle.std.specs.List.{list_any, list_all, slice_index_or}
+use Rattle.std.specs.List.{list_any, list_all}
 use Rattle.std.specs.Map.{update}
-use Rattle.cg_lrat.specs.declared.formula.Lit.{Lit}
-use Rattle.cg_lrat.specs.declared.formula.Clause.{Clause}
-use Rattle.cg_lrat.specs.declared.formula.Formula.{Formula}
+use Rattle.cg_formula.specs.declared.formula.Lit.{Lit}
+use Rattle.cg_formula.specs.declared.formula.Clause.{Clause}
+use Rattle.cg_formula.specs.declared.formula.Formula.{Formula}
 use Rattle.cg_lrat.specs.declared.log.Body.{Body}
 use Rattle.cg_lrat.specs.declared.log.Body.TheVariants.{Add, Delete}
 use Rattle.cg_lrat.specs.declared.log.Step.{Step}
@@ -15,46 +15,12 @@ use Rattle.cg_lrat.specs.declared.verdict.Why.{Why}
 use Rattle.cg_lrat.specs.declared.verdict.Why.TheVariants as whys
 use Rattle.cg_lrat.specs.declared.hint.Open.{Open}
 use Rattle.cg_lrat.specs.declared.hint.Open.TheVariants as opens
-use Rattle.cg_lrat.specs.Lits.{inverse, same_sign, same_lit, is_in}
-use Rattle.cg_lrat.specs.Satisfiable.{lit_bit, clause_bit, IsUnsatisfiable}
+use Rattle.cg_formula.specs.Lits.{inverse, same_lit, is_in}
+use Rattle.cg_formula.specs.Satisfiable.{lit_bit, clause_bit, IsUnsatisfiable}
 use Rattle.cg_lrat.specs.Accepted.{Live, State, with_clauses, first_state, open_lits, open_of, unit_then, false_at, known_then, hints_fault, is_tautology, clause_fault, addition_fault, fault_of, without, state_after, adds_empty, step_verdict, verdict_from, verdict}
-use Rattle.cg_lrat.proofs.Connectives.{and_true, or_true, or_right, not_true}
-
--- literals
-
-same_sign_equal : (a b : Bool) → same_sign a b ≡ true → a ≡ b
-same_sign_equal true true e = refl
-same_sign_equal true false e = absurd (cc)
-same_sign_equal false true e = absurd (cc)
-same_sign_equal false false e = refl
-
-abbrev make : ℕ → Bool → Lit
-make variable inverted = record { variable = variable; inverted = inverted }
-
-pub same_lit_equal : (a b : Lit) → same_lit a b ≡ true → a ≡ b
-same_lit_equal a b e =
-    let both = and_true (a.variable == b.variable) (same_sign a.inverted b.inverted) e in
-    let variable : a.variable ≡ b.variable = eqb-true a.variable b.variable both.0 in
-    let sign : a.inverted ≡ b.inverted = same_sign_equal a.inverted b.inverted both.1 in
-    let first : make a.variable a.inverted ≡ make b.variable a.inverted = ap (λ v. make v a.inverted) variable in
-    let second : make b.variable a.inverted ≡ make b.variable b.inverted = ap (λ i. make b.variable i) sign in
-    first ∙ second
-
-flipped : (bit inverted : Bool) → (if not inverted then not bit else bit) ≡ not (if inverted then not bit else bit)
-flipped true true = refl
-flipped true false = refl
-flipped false true = refl
-flipped false false = refl
-
-pub lit_bit-inverse : (bits : List Bool) (lit : Lit) → lit_bit bits (inverse lit) ≡ not (lit_bit bits lit)
-lit_bit-inverse bits lit = flipped (slice_index_or bits (lit.variable - 1) false) lit.inverted
-
--- a literal among true ones is true
-found_true : (bits : List Bool) (lit : Lit) (trues : List Lit) → is_in lit trues ≡ true → list_all (lit_bit bits) trues ≡ true → lit_bit bits lit ≡ true
-found_true bits lit [] e all = absurd (cc)
-found_true bits lit (t ∷ ts) e all =
-    let parts = and_true (lit_bit bits t) (list_all (lit_bit bits) ts) all in
-    elim (or_true (same_lit lit t) (is_in lit ts) e) [ inl same ↦ ap (lit_bit bits) (same_lit_equal lit t same) ∙ parts.0 | inr later ↦ found_true bits lit ts later parts.1 ]
+use Rattle.cg_formula.proofs.Connectives.{and_true, or_true, or_right, not_true}
+use Rattle.cg_formula.proofs.Members.{same_lit_equal}
+use Rattle.cg_formula.proofs.TrueLiterals.{lit_bit-inverse, found_true, all_false, all_more}
 
 -- clauses where some literals are true
 
@@ -123,12 +89,6 @@ known_found (Some lits) hint later e = (lits, refl, e)
 abbrev LiveHolds : List Bool → Live → Type 0
 LiveHolds bits live = (id : ℕ) (lits : List Lit) → live id ≡ Some lits → list_any (lit_bit bits) lits ≡ true
 
-all_more : (bits : List Bool) (trues : List Lit) (lit : Lit) → list_all (lit_bit bits) trues ≡ true → lit_bit bits lit ≡ true → list_all (lit_bit bits) (trues ++ lit ∷ []) ≡ true
-all_more bits [] lit all e = rw e refl
-all_more bits (t ∷ ts) lit all e =
-    let parts = and_true (lit_bit bits t) (list_all (lit_bit bits) ts) all in
-    rw (parts.0, all_more bits ts lit parts.1 e) refl
-
 -- no hints without a fault, where all of these literals are true
 refuted : (bits : List Bool) (live : Live) → LiveHolds bits live → (trues : List Lit) (hints : List ℕ) → list_all (lit_bit bits) trues ≡ true
     → hints_fault live trues hints ≡ None → ⊥
@@ -143,16 +103,6 @@ refuted bits live holds trues (hint ∷ next ∷ later) all e =
     refuted bits live holds (trues ++ unit.0 ∷ []) (next ∷ later) (all_more bits trues unit.0 all true_lit) unit.2
 
 -- steps
-
-all_false : (bits : List Bool) (lits : List Lit) → list_any (lit_bit bits) lits ≡ false → list_all (lit_bit bits) (map inverse lits) ≡ true
-all_false bits [] e = refl
-all_false bits (l ∷ ls) e = pick (lit_bit bits l) refl (all_false bits ls) where
-  pick : (b : Bool) → lit_bit bits l ≡ b → (list_any (lit_bit bits) ls ≡ false → list_all (lit_bit bits) (map inverse ls) ≡ true)
-      → list_all (lit_bit bits) (map inverse (l ∷ ls)) ≡ true
-  pick true f later = let no : true ≡ false = rw f at e in absurd (cc)
-  pick false f later =
-      let here : lit_bit bits (inverse l) ≡ true = lit_bit-inverse bits l ∙ rw f refl in
-      rw here (later (rw f at e))
 
 clause_holds : (bits : List Bool) (live : Live) → LiveHolds bits live → (lits : List Lit) (hints : List ℕ) → clause_fault live lits hints ≡ None → list_any (lit_bit bits) lits ≡ true
 clause_holds bits live holds lits hints e = pick (list_any (lit_bit bits) lits) refl where

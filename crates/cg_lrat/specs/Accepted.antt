@@ -2,9 +2,9 @@
 use Rattle.std.specs.Prelude.{ℕ, ◌+◌, Bool, false, not, List, [], ◌∷◌, ◌++◌, ◌==◌, length, map, Option, Some, None, if◌then◌else◌, nat_le, nat_eq}
 use Rattle.std.specs.List.{list_any, list_all, filter}
 use Rattle.std.specs.Map.{update}
-use Rattle.cg_lrat.specs.declared.formula.Lit.{Lit}
-use Rattle.cg_lrat.specs.declared.formula.Clause.{Clause}
-use Rattle.cg_lrat.specs.declared.formula.Formula.{Formula}
+use Rattle.cg_formula.specs.declared.formula.Lit.{Lit}
+use Rattle.cg_formula.specs.declared.formula.Clause.{Clause}
+use Rattle.cg_formula.specs.declared.formula.Formula.{Formula}
 use Rattle.cg_lrat.specs.declared.log.Body.{Body}
 use Rattle.cg_lrat.specs.declared.log.Body.TheVariants.{Add, Delete}
 use Rattle.cg_lrat.specs.declared.log.Step.{Step}
@@ -15,7 +15,7 @@ use Rattle.cg_lrat.specs.declared.verdict.Why.{Why}
 use Rattle.cg_lrat.specs.declared.verdict.Why.TheVariants.{UsedId, UnknownId, Tautology, NotUnit, NotFalse, NoHint, NoEmpty}
 use Rattle.cg_lrat.specs.declared.hint.Open.{Open}
 use Rattle.cg_lrat.specs.declared.hint.Open.TheVariants as opens
-use Rattle.cg_lrat.specs.Lits.{inverse, same_lit, is_in}
+use Rattle.cg_formula.specs.Lits.{inverse, same_lit, is_in}
 
 -- the live clauses, by id
 abbrev pub Live : Type 0

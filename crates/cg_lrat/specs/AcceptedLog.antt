@@ -1,6 +1,6 @@
 -- When a log is accepted or rejected, said of its steps.
 use Rattle.std.specs.Prelude.{◌≡◌, ℕ, true, false, List, [], ◌∷◌, ◌++◌, Some, None, ◌⊎◌}
-use Rattle.cg_lrat.specs.declared.formula.Formula.{Formula}
+use Rattle.cg_formula.specs.declared.formula.Formula.{Formula}
 use Rattle.cg_lrat.specs.declared.log.Step.{Step}
 use Rattle.cg_lrat.specs.declared.log.Log.{Log}
 use Rattle.cg_lrat.specs.declared.verdict.Verdict.{Verdict}

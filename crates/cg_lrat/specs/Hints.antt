@@ -1,6 +1,6 @@
 -- One hint before the last, whatever comes behind it.
 use Rattle.std.specs.Prelude.{ℕ, List, [], ◌∷◌, ◌++◌, Option, Some, None}
-use Rattle.cg_lrat.specs.declared.formula.Lit.{Lit}
+use Rattle.cg_formula.specs.declared.formula.Lit.{Lit}
 use Rattle.cg_lrat.specs.declared.verdict.Why.{Why}
 use Rattle.cg_lrat.specs.Accepted.{Live, open_of, open_lits, unit_then, false_at, known_then}
 

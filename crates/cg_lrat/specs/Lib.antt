@@ -1,8 +1,5 @@
-pub mod Lits
 pub mod Bounds
-pub mod Satisfiable
-pub mod Items
-pub mod DimacsReading
+pub mod Ids
 pub mod LratReading
 pub mod Truth
 pub mod Open
@@ -11,5 +8,4 @@ pub mod Live
 pub mod Progress
 pub mod Hints
 pub mod AcceptedLog
-pub mod DimacsText
 pub mod LratText

@@ -2,7 +2,7 @@
 use Rattle.std.specs.Prelude.{ℕ, List, Option, nat_eq}
 use Rattle.std.specs.Option.{option_map}
 use Rattle.std.specs.HashMap.{get}
-use Rattle.cg_lrat.specs.declared.formula.Lit.{Lit}
+use Rattle.cg_formula.specs.declared.formula.Lit.{Lit}
 use Rattle.cg_lrat.specs.declared.live.LiveClauses.{LiveClauses}
 
 abbrev pub live_in : LiveClauses → ℕ → Option (List Lit)

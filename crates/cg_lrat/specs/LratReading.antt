@@ -3,19 +3,20 @@ use Rattle.std.specs.Prelude.{◌≡◌, ℕ, List, [], ◌∷◌, Result, Ok, E
 use Rattle.std.specs.Str.{bytes_eq}
 use Rattle.cg_text.specs.declared.lines.Line.{Line}
 use Rattle.cg_text.specs.Lines.{text_lines}
-use Rattle.cg_lrat.specs.declared.formula.Lit.{Lit}
-use Rattle.cg_lrat.specs.declared.item.Item.{Item}
-use Rattle.cg_lrat.specs.declared.item.Item.TheVariants as items
-use Rattle.cg_lrat.specs.declared.item.IdItem.{IdItem}
-use Rattle.cg_lrat.specs.declared.item.IdItem.TheVariants as ids
+use Rattle.cg_formula.specs.declared.formula.Lit.{Lit}
+use Rattle.cg_formula.specs.declared.token.ClauseToken.{ClauseToken}
+use Rattle.cg_formula.specs.declared.token.ClauseToken.TheVariants as tokens
+use Rattle.cg_lrat.specs.declared.id.IdToken.{IdToken}
+use Rattle.cg_lrat.specs.declared.id.IdToken.TheVariants as ids
 use Rattle.cg_lrat.specs.declared.log.Body.{Body}
 use Rattle.cg_lrat.specs.declared.log.Body.TheVariants.{Add, Delete}
 use Rattle.cg_lrat.specs.declared.log.Step.{Step}
 use Rattle.cg_lrat.specs.declared.log.Log.{Log}
 use Rattle.cg_lrat.specs.declared.lrat.LratFault.{LratFault}
 use Rattle.cg_lrat.specs.declared.lrat.LratFault.TheVariants.{BadLine, NoMemory}
-use Rattle.cg_lrat.specs.Items.{item_of, id_of}
-use Rattle.cg_lrat.specs.DimacsReading.{layout}
+use Rattle.cg_formula.specs.Tokens.{clause_token}
+use Rattle.cg_lrat.specs.Ids.{id_token}
+use Rattle.cg_formula.specs.DimacsReading.{layout}
 
 -- what reading goes on with, or the first fault
 infixl 10 ◌>>=◌
@@ -30,18 +31,18 @@ Gives view (Err NoMemory) read = Unit {0}
 Gives view (Err (BadLine line)) read = read ≡ Err (BadLine line)
 
 -- a word of a clause, before the rest of the clause and the words behind it
-abbrev pub put_item : ℕ → Item → List (List ℕ) → Result (List Lit × List (List ℕ)) LratFault → Result (List Lit × List (List ℕ)) LratFault
-put_item line (items.Literal lit) after later = later >>= λ r. Ok (lit ∷ r.0, r.1)
-put_item line items.End after later = Ok ([], after)
-put_item line items.Other after later = Err (BadLine line)
+abbrev pub put_token : ℕ → ClauseToken → List (List ℕ) → Result (List Lit × List (List ℕ)) LratFault → Result (List Lit × List (List ℕ)) LratFault
+put_token line (tokens.Literal lit) after later = later >>= λ r. Ok (lit ∷ r.0, r.1)
+put_token line tokens.End after later = Ok ([], after)
+put_token line tokens.Other after later = Err (BadLine line)
 
 -- the literals up to a zero, and the words behind it
 abbrev pub lits_at : ℕ → List (List ℕ) → Result (List Lit × List (List ℕ)) LratFault
 lits_at line [] = Err (BadLine line)
-lits_at line (w ∷ ws) = put_item line (item_of 2147483647 w) ws (lits_at line ws)
+lits_at line (w ∷ ws) = put_token line (clause_token 2147483647 w) ws (lits_at line ws)
 
 -- a word among ids, before the ids behind it; with the zero the line ends
-abbrev pub put_id : ℕ → IdItem → List (List ℕ) → Result (List ℕ) LratFault → Result (List ℕ) LratFault
+abbrev pub put_id : ℕ → IdToken → List (List ℕ) → Result (List ℕ) LratFault → Result (List ℕ) LratFault
 put_id line (ids.Id id) after later = later >>= λ r. Ok (id ∷ r)
 put_id line ids.End [] later = Ok []
 put_id line ids.End (w ∷ ws) later = Err (BadLine line)
@@ -50,7 +51,7 @@ put_id line ids.Other after later = Err (BadLine line)
 -- the ids up to the zero that ends the line
 abbrev pub ids_at : ℕ → List (List ℕ) → Result (List ℕ) LratFault
 ids_at line [] = Err (BadLine line)
-ids_at line (w ∷ ws) = put_id line (id_of w) ws (ids_at line ws)
+ids_at line (w ∷ ws) = put_id line (id_token w) ws (ids_at line ws)
 
 -- what an addition adds: literals, a zero, hints, a zero
 abbrev pub addition_of : ℕ → List (List ℕ) → Result Body LratFault
@@ -66,14 +67,14 @@ body_of line (Some deleted) ws = ids_at line deleted >>= λ ids. Ok (Delete ids)
 body_of line None ws = addition_of line ws
 
 -- a step with the id that its line begins with
-abbrev pub step_at : ℕ → IdItem → List (List ℕ) → Result Step LratFault
+abbrev pub step_at : ℕ → IdToken → List (List ℕ) → Result Step LratFault
 step_at line (ids.Id id) ws = body_of line (deletion_of ws) ws >>= λ body. Ok (record { line = line; id = id; body = body })
 step_at line ids.End ws = Err (BadLine line)
 step_at line ids.Other ws = Err (BadLine line)
 
 abbrev pub words_step : ℕ → List (List ℕ) → Result Step LratFault
 words_step line [] = Err (BadLine line)
-words_step line (w ∷ ws) = step_at line (id_of w) ws
+words_step line (w ∷ ws) = step_at line (id_token w) ws
 
 -- what a line says
 abbrev pub step_of : Line → Result Step LratFault

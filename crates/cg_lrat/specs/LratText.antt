@@ -9,8 +9,8 @@ use Rattle.cg_lrat.specs.declared.log.Body.TheVariants.{Add, Delete}
 use Rattle.cg_lrat.specs.declared.log.Step.{Step}
 use Rattle.cg_lrat.specs.declared.log.Log.{Log}
 use Rattle.cg_lrat.specs.Bounds.{IsLog}
-use Rattle.cg_lrat.specs.DimacsReading.{layout}
-use Rattle.cg_lrat.specs.DimacsText.{clause_words}
+use Rattle.cg_formula.specs.DimacsReading.{layout}
+use Rattle.cg_formula.specs.DimacsText.{clause_words}
 
 -- ids and a zero
 abbrev pub id_words : List ℕ → List (List ℕ)

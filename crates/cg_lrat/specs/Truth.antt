@@ -1,8 +1,8 @@
 -- The table of true literals that a step of the check keeps.
 use Rattle.std.specs.Prelude.{◌≡◌, ℕ, ◌+◌, ◌*◌, Bool, false, List, length, if◌then◌else◌, nat_lt, nat_eq}
 use Rattle.std.specs.List.{slice_index_or, list_any}
-use Rattle.cg_lrat.specs.declared.formula.Lit.{Lit}
-use Rattle.cg_lrat.specs.Lits.{is_in}
+use Rattle.cg_formula.specs.declared.formula.Lit.{Lit}
+use Rattle.cg_formula.specs.Lits.{is_in}
 
 -- the place of a literal: each variable has two
 abbrev pub place : Lit → ℕ

@@ -4,12 +4,12 @@ ghost use Rattle.std.specs.Prelude.{◌≡◌, Ok, IfOk};
 ghost use Rattle.cg_lrat.specs.declared.verdict.Verdict.{Verdict};
 ghost use Rattle.cg_lrat.specs.Accepted.{verdict};
 ghost use Rattle.cg_lrat.specs.AcceptedLog.{Deserves};
-ghost use Rattle.cg_lrat.specs.Satisfiable.{IsUnsatisfiable};
+ghost use Rattle.cg_formula.specs.Satisfiable.{IsUnsatisfiable};
 
-use crate::formula::Formula;
 use crate::log::Log;
 use crate::progress::{Next, Progress};
 use crate::verdict::{Verdict, Why};
+use cg_formula::Formula;
 use std::alloc::{AllocError, Global};
 
 /// The check of logs. It knows nothing of how a log was found: it takes the steps in order, and looks at each

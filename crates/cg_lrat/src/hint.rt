@@ -1,16 +1,16 @@
 //! What a hint is worth while a step is checked.
 
 ghost use Rattle.std.specs.Prelude.{◌≡◌, List, Option, IfOk};
-ghost use Rattle.cg_lrat.specs.declared.formula.Lit.{Lit};
+ghost use Rattle.cg_formula.specs.declared.formula.Lit.{Lit};
 ghost use Rattle.cg_lrat.specs.declared.verdict.Why.{Why};
 ghost use Rattle.cg_lrat.specs.Accepted.{open_of, open_lits, hints_fault};
 ghost use Rattle.cg_lrat.specs.Hints.{hint_then, last_fault, fault_or};
 ghost use Rattle.cg_lrat.specs.Live.{live_in};
 
-use crate::formula::Lit;
 use crate::live::LiveClauses;
 use crate::truth::Truth;
 use crate::verdict::Why;
+use cg_formula::Lit;
 use std::alloc::AllocError;
 
 /// The literals of a clause that are not false.

@@ -1,14 +1,18 @@
-//! Formulas in conjunctive form, and logs that prove them unsatisfiable.
+//! Logs that prove a formula unsatisfiable, and the checker that decides whether they do.
 //!
-//! Text goes in: a formula in DIMACS CNF, a log in LRAT. Out comes a verdict: the log is accepted, and then no
-//! assignment satisfies the formula; or it is rejected at its first refused step, with the cause. The other way,
-//! formulas and logs are written as text.
+//! What the checker does not take: it knows reverse unit propagation along hints alone, and no resolution asymmetric
+//! tautologies (a negative hint is refused). Deletions are strict: an id that no live clause has is refused. Ids only
+//! grow. Nothing behind the first step that adds the empty clause is looked at. It shares no code with a solver.
+//!
+//! Text goes in: a log in LRAT; and a formula. Out comes a verdict: the log is accepted, and then no assignment
+//! satisfies the formula; or it is rejected at its first refused step, with the cause. The other way, logs are written
+//! as text.
 //!
 //! Modules, as data flows through them:
 //!
-//! - [`formula`] and [`log`]: what is read, checked and written;
-//! - `item`: the words of clauses and hints;
-//! - [`dimacs`] and [`lrat`]: the two texts, read and written;
+//! - [`log`]: what is read, checked and written;
+//! - `id`: the words of hints;
+//! - [`lrat`]: the text, read and written;
 //! - `truth` and `live`: the literals that are true within a step, and the clauses that are live between steps;
 //! - `hint`: what a hint is worth;
 //! - `progress`: one step of a log;
@@ -17,10 +21,8 @@
 #![tactic(auto)]
 
 pub mod checker;
-pub mod dimacs;
-pub mod formula;
 mod hint;
-mod item;
+mod id;
 mod live;
 pub mod log;
 pub mod lrat;

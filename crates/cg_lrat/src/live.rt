@@ -4,7 +4,7 @@ ghost use Rattle.std.specs.Prelude.{◌≡◌, OnOk, IsSome, MatchOption, nat_eq
 ghost use Rattle.std.specs.Bool.{MatchBool};
 ghost use Rattle.std.specs.Map.{update};
 
-use crate::formula::Lit;
+use cg_formula::Lit;
 use std::alloc::{AllocError, Global};
 use std::collections::HashMap;
 

@@ -1,6 +1,6 @@
 //! Logs that prove a formula unsatisfiable, step by step, as in LRAT.
 
-use crate::formula::Clause;
+use cg_formula::Clause;
 use cg_list::Seq;
 
 /// What a step of a log does.

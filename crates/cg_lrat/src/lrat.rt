@@ -5,13 +5,12 @@ ghost use Rattle.cg_text.specs.Written.{joined, line_text};
 ghost use Rattle.cg_lrat.specs.declared.log.Log.{Log};
 ghost use Rattle.cg_lrat.specs.Bounds.{IsLog};
 ghost use Rattle.cg_lrat.specs.LratText.{LratText, id_words, body_words, step_words, lrat_text, counted};
-ghost use Rattle.cg_lrat.specs.DimacsText.{clause_words};
+ghost use Rattle.cg_formula.specs.DimacsText.{clause_words};
 ghost use Rattle.cg_lrat.specs.LratReading.{Gives, lits_at, ids_at, addition_of, deletion_of, step_of, lrat};
 
-use crate::dimacs::LAYOUT;
-use crate::formula::Clause;
-use crate::item::{IdItem, Item, push_clause, push_ids, read_id, read_item};
+use crate::id::{IdToken, push_ids, read_id_token};
 use crate::log::{Body, Log, Step};
+use cg_formula::{Clause, ClauseToken, LAYOUT, push_clause, read_clause_token};
 use cg_list::Seq;
 use cg_text::lines::{Line, Lines};
 use cg_text::number::push_number;
@@ -64,10 +63,10 @@ fn read_lits(alloc: Global, words: &mut Words<'_>, line: u64) -> Result<Clause, 
         let Some(word) = words.next_word() else {
             return Err(LratFault::BadLine(line));
         };
-        match read_item(word, GREATEST_VARIABLE) {
-            Item::Literal(lit) => lits.push(lit)?,
-            Item::End => break,
-            Item::Other => return Err(LratFault::BadLine(line)),
+        match read_clause_token(word, GREATEST_VARIABLE) {
+            ClauseToken::Literal(lit) => lits.push(lit)?,
+            ClauseToken::End => break,
+            ClauseToken::Other => return Err(LratFault::BadLine(line)),
         }
     }
     Ok(Clause {
@@ -85,10 +84,10 @@ fn read_ids(alloc: Global, words: Words<'_>, line: u64) -> Result<Seq<u64>, Lrat
         let Some(word) = words.next_word() else {
             return Err(LratFault::BadLine(line));
         };
-        match read_id(word) {
-            IdItem::Id(id) => ids.push(id)?,
-            IdItem::End => break,
-            IdItem::Other => return Err(LratFault::BadLine(line)),
+        match read_id_token(word) {
+            IdToken::Id(id) => ids.push(id)?,
+            IdToken::End => break,
+            IdToken::Other => return Err(LratFault::BadLine(line)),
         }
     }
     if words.is_empty() {
@@ -128,7 +127,7 @@ fn read_step(alloc: Global, line: Line<'_>) -> Result<Step, LratFault>
     let Some(first) = words.next_word() else {
         return Err(LratFault::BadLine(number));
     };
-    let IdItem::Id(id) = read_id(first) else {
+    let IdToken::Id(id) = read_id_token(first) else {
         return Err(LratFault::BadLine(number));
     };
     let body = match deleted(&words) {

@@ -4,15 +4,15 @@ ghost use Rattle.std.specs.Prelude.{◌≡◌, ◌==◌, Ok, Some, IfOk, OnOk, I
 ghost use Rattle.std.specs.List.{list_any};
 ghost use Rattle.std.specs.Map.{update};
 ghost use Rattle.cg_lrat.specs.Accepted.{with_clauses, clause_fault, addition_fault, deletion_fault, without};
-ghost use Rattle.cg_lrat.specs.Lits.{inverse, is_in};
+ghost use Rattle.cg_formula.specs.Lits.{inverse, is_in};
 ghost use Rattle.cg_lrat.specs.Live.{live_in};
 
-use crate::formula::{Clause, Formula, Lit};
 use crate::hint::hints_fault;
 use crate::live::LiveClauses;
 use crate::log::{Body, Step};
 use crate::truth::Truth;
 use crate::verdict::Why;
+use cg_formula::{Clause, Formula, Lit};
 use std::alloc::{AllocError, Global};
 
 /// What a step leads to.

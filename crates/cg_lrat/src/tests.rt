@@ -3,10 +3,9 @@
 //! The answers were found by the rules of the formats, by hand and by a program in another language.
 
 use crate::checker::Checker;
-use crate::dimacs::{DimacsFault, read_dimacs, write_dimacs};
 use crate::lrat::{LratFault, read_lrat, write_lrat};
 use crate::verdict::{Verdict, Why};
-use cg_cell::limit::Limit;
+use cg_formula::{DimacsFault, read_dimacs};
 use std::alloc::Global;
 use std::test::Fail;
 
@@ -62,7 +61,7 @@ const HOLD: &str = "p cnf 10 22\n\
 // A variable and its inverse.
 const SMALL: &str = "p cnf 1 2\n1 0\n-1 0\n";
 
-const CASES: [(&str, &str, Answer); 53] = [
+const CASES: [(&str, &str, Answer); 37] = [
     (
         HOLD,
         "23 -3 0 22 19 20 6 8 10 14 18 0\n24 0 22 19 20 23 5 1 9 13 11 18 0\n",
@@ -191,50 +190,6 @@ const CASES: [(&str, &str, Answer); 53] = [
         "3 2147483647 0 1 2 0\n3 0 1 2 0",
         Answer::Verdict(Verdict::Rejected(2, Why::UsedId(3))),
     ),
-    ("p cnf 1", "", Answer::Cnf(DimacsFault::BadHeader)),
-    ("p cnf 1 1\n2 0", "", Answer::Cnf(DimacsFault::BadClause(2))),
-    (
-        "p cnf 16777217 0",
-        "",
-        Answer::Cnf(DimacsFault::Limit(Limit::Variables)),
-    ),
-    ("p cnf 1 1\n1", "", Answer::Cnf(DimacsFault::BadClause(3))),
-    ("", "", Answer::Cnf(DimacsFault::BadHeader)),
-    ("c\n\n", "", Answer::Cnf(DimacsFault::BadHeader)),
-    (
-        "p cnf 1 18446744073709551616",
-        "",
-        Answer::Cnf(DimacsFault::BadHeader),
-    ),
-    (
-        "p cnf 16777217 18446744073709551616",
-        "",
-        Answer::Cnf(DimacsFault::BadHeader),
-    ),
-    (
-        "p cnf 99999999999999999999 1",
-        "",
-        Answer::Cnf(DimacsFault::Limit(Limit::Variables)),
-    ),
-    ("p cnf 01 0", "", Answer::Cnf(DimacsFault::BadHeader)),
-    (" c\np cnf 1 0", "", Answer::Cnf(DimacsFault::BadHeader)),
-    ("p cnf 1 0 0", "", Answer::Cnf(DimacsFault::BadHeader)),
-    (
-        "p cnf 1 1\n1 0\n1 0\n",
-        "",
-        Answer::Cnf(DimacsFault::BadClause(3)),
-    ),
-    (
-        "p cnf 1 1\n-0\n",
-        "",
-        Answer::Cnf(DimacsFault::BadClause(2)),
-    ),
-    (
-        "p cnf 1 1\n\n+1 0",
-        "",
-        Answer::Cnf(DimacsFault::BadClause(3)),
-    ),
-    ("p cnf 2 2\n1 0", "", Answer::Cnf(DimacsFault::BadClause(3))),
     (
         SMALL,
         "9223372036854775808 1 0 1 0",
@@ -271,14 +226,6 @@ fn each_pair_of_texts_gets_its_answer(rt: HostRuntime) {
             "{cnf:?} {proof:?}"
         );
     }
-}
-
-#[test]
-fn a_formula_is_written_a_clause_a_line(rt: HostRuntime) -> Result<(), Fail> {
-    let formula = read_dimacs(rt.alloc(), b"c a\np cnf 3 3\n1 -2\n0 0 3\n0")?;
-    let text = write_dimacs(rt.alloc(), &formula)?;
-    assert_eq!(rt; text.as_slice(), b"p cnf 3 3\n1 -2 0\n0\n3 0\n".as_slice());
-    Ok(())
 }
 
 #[test]

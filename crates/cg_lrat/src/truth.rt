@@ -3,7 +3,7 @@
 ghost use Rattle.std.specs.Prelude.{◌≡◌, ◌+◌, ◌*◌, [], ◌∷◌, ◌++◌, OnOk, OnErr, IfOk, replicate, false};
 ghost use Rattle.cg_lrat.specs.Truth.{place};
 
-use crate::formula::Lit;
+use cg_formula::Lit;
 use std::alloc::{AllocError, Global};
 use std::collections::HashSet;
 use std::marker::Model;
@@ -22,7 +22,7 @@ pub struct Truth {
 
 impl Model for Truth {
     ghost use Rattle.std.specs.Prelude.{List};
-    ghost use Rattle.cg_lrat.specs.declared.formula.Lit.{Lit};
+    ghost use Rattle.cg_formula.specs.declared.formula.Lit.{Lit};
     ghost use Rattle.cg_lrat.specs.Truth.{Marks};
 
     ghost Value = { List Lit };
@@ -33,7 +33,7 @@ impl Model for Truth {
 }
 
 impl Truth {
-    ghost use Rattle.cg_lrat.specs.Lits.{is_in};
+    ghost use Rattle.cg_formula.specs.Lits.{is_in};
 
     /// No literal is true. The table is made for these variables.
     pub fn new(alloc: Global, variables: u32) -> Result<Self, AllocError>

@@ -2,7 +2,7 @@
 use Rattle.std.proofs.Common.{◌≡◌, ◌≢◌, ℕ, Bool, true, false, IsTrue, List, [], ◌++◌, Option, None, Some, Result, Ok, Err, refl, sym, ◌∙◌, ap, subst, if◌then◌else◌, nat_lt, length}
 use Rattle.std.specs.Prelude.{IfOk, IfSome, IsOkAnd, IsSomeAnd}
 use Rattle.cg_lrat.specs.Accepted.{verdict as check_verdict}
-use Rattle.cg_lrat.specs.DimacsText.{DimacsText}
+use Rattle.cg_formula.specs.DimacsText.{DimacsText}
 use Rattle.cg_lrat.specs.LratText.{LratText}
 use Rattle.cg_shelf.specs.World.{World}
 use Rattle.cg_shelf.specs.declared.faults.LoadFault.{LoadFault}

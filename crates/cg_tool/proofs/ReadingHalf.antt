@@ -1,7 +1,7 @@
 -- The reading half of a job, from the reading of its files.
 use Rattle.std.proofs.Common.{◌≡◌, ℕ, Bool, IsTrue, List, [], ◌++◌, Option, Result, Ok, Err, sym, ◌∙◌, ap, subst}
 use Rattle.std.proofs.lemmas.List.{append-nil}
-use Rattle.cg_lrat.specs.declared.formula.Formula.{Formula}
+use Rattle.cg_formula.specs.declared.formula.Formula.{Formula}
 use Rattle.cg_lrat.specs.declared.log.Log.{Log}
 use Rattle.cg_shelf.specs.World.{World}
 use Rattle.cg_shelf.specs.declared.faults.Fault.{Fault}
@@ -14,9 +14,9 @@ use Rattle.cg_tool.specs.declared.refusal.Refusal.{Refusal}
 use Rattle.cg_tool.specs.declared.refusal.Refusal.TheVariants as refusals
 use Rattle.cg_tool.specs.declared.refusal.Step.TheVariants.{Reading, Storing, Saying}
 use Rattle.cg_tool.specs.CommandLine.{JobWords}
-use Rattle.cg_lrat.specs.DimacsText.{DimacsText}
+use Rattle.cg_formula.specs.DimacsText.{DimacsText}
 use Rattle.cg_lrat.specs.LratText.{LratText}
-use Rattle.cg_lrat.specs.Satisfiable.{IsUnsatisfiable}
+use Rattle.cg_formula.specs.Satisfiable.{IsUnsatisfiable}
 use Rattle.std.specs.Prelude.{IfOk, IsOkAnd}
 use Rattle.cg_tool.specs.declared.output.Finish.TheVariants as finishes
 use Rattle.cg_tool.specs.Gate.{gate_output, Gates}

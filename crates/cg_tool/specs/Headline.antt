@@ -1,10 +1,10 @@
 -- What a finished run means to the one who asked for it.
 use Rattle.std.specs.Prelude.{◌≡◌, ◌≤◌, ℕ, List, [], ◌++◌, length, None, Some, IsSomeAnd, ⊤}
 use Rattle.cg_lrat.specs.Accepted.{verdict}
-use Rattle.cg_lrat.specs.DimacsText.{DimacsText}
+use Rattle.cg_formula.specs.DimacsText.{DimacsText}
 use Rattle.cg_lrat.specs.LratText.{LratText}
-use Rattle.cg_lrat.specs.Satisfiable.{IsUnsatisfiable}
-use Rattle.cg_lrat.specs.declared.formula.Formula.{Formula}
+use Rattle.cg_formula.specs.Satisfiable.{IsUnsatisfiable}
+use Rattle.cg_formula.specs.declared.formula.Formula.{Formula}
 use Rattle.cg_lrat.specs.declared.log.Log.{Log}
 use Rattle.cg_shelf.specs.World.{World}
 use Rattle.cg_tool.specs.declared.status.Status.{Status}

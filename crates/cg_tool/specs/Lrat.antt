@@ -1,6 +1,6 @@
 -- What `lrat` says.
 use Rattle.std.specs.Prelude.{◌≡◌, ℕ, List, [], ◌∷◌, ◌++◌, codes, decimal, None, Result}
-use Rattle.cg_lrat.specs.declared.formula.Formula.{Formula}
+use Rattle.cg_formula.specs.declared.formula.Formula.{Formula}
 use Rattle.cg_lrat.specs.declared.log.Log.{Log}
 use Rattle.cg_lrat.specs.declared.verdict.Verdict.{Verdict}
 use Rattle.cg_lrat.specs.declared.verdict.Verdict.TheVariants.{Accepted, Rejected}
@@ -10,13 +10,13 @@ use Rattle.cg_tool.specs.declared.output.Output.{Output}
 use Rattle.cg_tool.specs.declared.refusal.Refusal.{Refusal}
 use Rattle.cg_tool.specs.declared.refusal.Refusal.TheVariants as refusals
 use Rattle.cg_lrat.specs.Accepted.{verdict}
-use Rattle.cg_lrat.specs.DimacsReading.{dimacs}
-use Rattle.cg_lrat.specs.DimacsText.{DimacsText}
+use Rattle.cg_formula.specs.DimacsReading.{dimacs}
+use Rattle.cg_formula.specs.DimacsText.{DimacsText}
 use Rattle.cg_lrat.specs.LratReading.{lrat}
 use Rattle.cg_lrat.specs.LratText.{LratText}
-use Rattle.cg_lrat.specs.Satisfiable.{IsUnsatisfiable}
-use Rattle.cg_lrat.specs.declared.dimacs.DimacsFault.{DimacsFault}
-use Rattle.cg_lrat.specs.declared.dimacs.DimacsFault.TheVariants as dimacs_faults
+use Rattle.cg_formula.specs.Satisfiable.{IsUnsatisfiable}
+use Rattle.cg_formula.specs.declared.dimacs.DimacsFault.{DimacsFault}
+use Rattle.cg_formula.specs.declared.dimacs.DimacsFault.TheVariants as dimacs_faults
 use Rattle.cg_lrat.specs.declared.lrat.LratFault.{LratFault}
 use Rattle.cg_lrat.specs.declared.lrat.LratFault.TheVariants as lrat_faults
 use Rattle.cg_tool.specs.declared.refusal.Step.TheVariants.{Reading}

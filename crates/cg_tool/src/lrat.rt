@@ -1,9 +1,9 @@
 //! The mode `lrat`: a proof is checked against a formula.
 
 ghost use Rattle.std.specs.Prelude.{◌≡◌, ◌++◌, Ok, IfOk, OnOk};
-ghost use Rattle.cg_lrat.specs.DimacsText.{DimacsText};
+ghost use Rattle.cg_formula.specs.DimacsText.{DimacsText};
 ghost use Rattle.cg_lrat.specs.LratText.{LratText};
-ghost use Rattle.cg_lrat.specs.Satisfiable.{IsUnsatisfiable};
+ghost use Rattle.cg_formula.specs.Satisfiable.{IsUnsatisfiable};
 ghost use Rattle.cg_tool.specs.CommandLine.{job_words};
 ghost use Rattle.cg_tool.specs.Lrat.{formula_of, log_of, lrat_output, check_text, check_finish, cause_text};
 ghost use Rattle.cg_tool.specs.Run.{Reads, ReadsPart};
@@ -15,10 +15,9 @@ use crate::job::{Job, Place};
 use crate::loading::load;
 use crate::output::{Finish, Output};
 use crate::refusal::{Refusal, Step, push_numbered};
+use cg_formula::{DimacsFault, Formula, read_dimacs};
 use cg_list::Seq;
 use cg_lrat::checker::Checker;
-use cg_lrat::dimacs::{DimacsFault, read_dimacs};
-use cg_lrat::formula::Formula;
 use cg_lrat::log::Log;
 use cg_lrat::lrat::{LratFault, read_lrat};
 use cg_lrat::verdict::{Verdict, Why};

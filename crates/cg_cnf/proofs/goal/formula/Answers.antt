@@ -1,8 +1,8 @@
 use Rattle.std.proofs.Common.{◌+◌, arith, rules, ap, subst, sym}
 use Rattle.std.proofs.lemmas.Grind.{common_steps}
-use Rattle.cg_lrat.specs.declared.formula.Formula.{Formula}
-use Rattle.cg_lrat.specs.Bounds.{IsFormula}
-use Rattle.cg_lrat.specs.Satisfiable.{IsSatisfiable, Satisfies}
+use Rattle.cg_formula.specs.declared.formula.Formula.{Formula}
+use Rattle.cg_formula.specs.Bounds.{IsFormula}
+use Rattle.cg_formula.specs.Satisfiable.{IsSatisfiable, Satisfies}
 use Rattle.cg_cnf.proofs.Satisfying.{formula_bounds, model_from_one, nodes_more, one_from_model}
 use Rattle.cg_cnf.proofs.goal.formula.Goals as goal
 

@@ -1,8 +1,8 @@
 use Rattle.std.proofs.Common.{map, codes}
 use Rattle.std.specs.Fmt.{decimal}
-use Rattle.cg_lrat.specs.DimacsText.{lit_word, clause_words}
+use Rattle.cg_formula.specs.DimacsText.{lit_word, clause_words}
 use Rattle.cg_lrat.specs.LratText.{id_words}
-use Rattle.cg_lrat.proofs.Pushed.{more_pushed, some_words}
+use Rattle.cg_formula.proofs.Pushed.{more_pushed, some_words}
 use Rattle.cg_lrat.proofs.lrat.push_addition.Goals as goal
 
 pub returns : goal.returns

@@ -1,7 +1,8 @@
 use Rattle.std.proofs.Common.{[], ◌∷◌, lit<}
 use Rattle.std.specs.Fmt.{decimal}
 use Rattle.cg_lrat.specs.LratText.{body_words, step_words}
-use Rattle.cg_lrat.proofs.Pushed.{more_pushed, line_pushed, some_body}
+use Rattle.cg_formula.proofs.Pushed.{more_pushed, line_pushed}
+use Rattle.cg_lrat.proofs.LratWritten.{some_body}
 use Rattle.cg_lrat.proofs.lrat.push_step.Goals as goal
 
 pub returns : goal.returns

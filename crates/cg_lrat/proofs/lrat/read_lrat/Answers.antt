@@ -2,7 +2,7 @@ use Rattle.std.proofs.Common.{Result, subst}
 use Rattle.cg_lrat.specs.declared.log.Log.{Log}
 use Rattle.cg_lrat.specs.declared.lrat.LratFault.{LratFault}
 use Rattle.cg_lrat.specs.LratReading.{Gives}
-use Rattle.cg_lrat.proofs.LratLaws.{given_is_text, text_is_read}
+use Rattle.cg_lrat.proofs.LratExact.{given_is_text, text_is_read}
 use Rattle.cg_lrat.proofs.lrat.read_lrat.Goals as goal
 
 pub returns-clause-found : goal.returns-clause-found

@@ -1,6 +1,6 @@
 use Rattle.std.proofs.Common.{◌≡◌, length}
 use Rattle.cg_text.specs.Lines.{text_lines}
-use Rattle.cg_lrat.specs.DimacsReading.{layout}
+use Rattle.cg_formula.specs.DimacsReading.{layout}
 use Rattle.cg_lrat.specs.LratReading.{steps_of}
 use Rattle.cg_lrat.proofs.LogBefore.{steps_before}
 use Rattle.cg_lrat.proofs.lrat.read_text.Given as goal

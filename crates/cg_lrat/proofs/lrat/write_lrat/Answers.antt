@@ -1,7 +1,7 @@
 use Rattle.std.proofs.Common.{length, ap, ◌≡◌, [], subst, sym, arith}
 use Rattle.cg_lrat.specs.LratText.{LratText, lrat_text, step_words, counted}
-use Rattle.cg_lrat.proofs.Pushed.{lines_pushed}
-use Rattle.cg_lrat.proofs.WrittenLaws.{lrat_written}
+use Rattle.cg_formula.proofs.Pushed.{lines_pushed}
+use Rattle.cg_lrat.proofs.LratWritten.{lrat_written}
 use Rattle.cg_lrat.proofs.lrat.write_lrat.Goals as goal
 
 pub returns-clause-written : goal.returns-clause-written

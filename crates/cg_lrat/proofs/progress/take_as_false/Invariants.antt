@@ -1,5 +1,5 @@
 use Rattle.std.proofs.Common.{◌≡◌, map, take}
-use Rattle.cg_lrat.specs.Lits.{inverse}
+use Rattle.cg_formula.specs.Lits.{inverse}
 use Rattle.cg_lrat.proofs.progress.take_as_false.Given as goal
 
 abbrev pub invariant-loop-lit : goal.invariant-loop-lit

@@ -1,4 +1,4 @@
-use Rattle.cg_lrat.specs.DimacsText.{DimacsText}
+use Rattle.cg_formula.specs.DimacsText.{DimacsText}
 use Rattle.std.proofs.lemmas.Result.{err_from_is_err_and}
 use Rattle.cg_tool.specs.CommandLine.{job_words}
 use Rattle.cg_tool.specs.Lrat.{formula_of}

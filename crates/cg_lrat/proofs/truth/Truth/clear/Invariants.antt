@@ -1,6 +1,6 @@
 use Rattle.std.proofs.Common.{◌≡◌, true, [], length}
-use Rattle.cg_lrat.specs.declared.formula.Lit.{Lit}
-use Rattle.cg_lrat.specs.Lits.{is_in}
+use Rattle.cg_formula.specs.declared.formula.Lit.{Lit}
+use Rattle.cg_formula.specs.Lits.{is_in}
 use Rattle.cg_lrat.specs.Truth.{is_marked}
 use Rattle.cg_lrat.proofs.truth.Truth.clear.Given as goal
 

@@ -1,0 +1,6 @@
+pub mod Lits
+pub mod Satisfiable
+pub mod Bounds
+pub mod Tokens
+pub mod DimacsReading
+pub mod DimacsText

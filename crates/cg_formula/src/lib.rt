@@ -1,0 +1,19 @@
+//! Formulas in conjunctive form: literals, clauses, when a formula is satisfiable, and the DIMACS CNF text.
+//!
+//! Who makes formulas, who looks for an assignment or a proof, and who checks a proof stand on this crate, and none
+//! of them on another: what they share is what a formula means, and no code that reasons about one.
+//!
+//! - `formula`: [`Lit`], [`Clause`] and [`Formula`];
+//! - `token`: the words of a clause, read and written, for every text that has clauses;
+//! - `dimacs`: the DIMACS CNF text of a formula, read and written.
+#![tactic(auto)]
+
+mod dimacs;
+mod formula;
+#[cfg(test)]
+mod tests;
+mod token;
+
+pub use dimacs::{DimacsFault, LAYOUT, MOST_VARIABLES, read_dimacs, write_dimacs};
+pub use formula::{Clause, Formula, Lit};
+pub use token::{ClauseToken, push_clause, read_clause_token};

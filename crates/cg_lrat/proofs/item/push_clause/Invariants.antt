@@ -1,7 +1,0 @@
-use Rattle.std.proofs.Common.{◌≡◌, ◌++◌, ◌∷◌, [], take}
-use Rattle.std.specs.List.{flat_map}
-use Rattle.cg_lrat.specs.DimacsText.{lit_word}
-use Rattle.cg_lrat.proofs.item.push_clause.Given as goal
-
-abbrev pub invariant-loop-lit : goal.invariant-loop-lit
-invariant-loop-lit l = l.text.items ≡ l.fn.text.items ++ flat_map (λ lit. lit_word lit ++ 32 ∷ []) (take l.lit-index l.clause.lits)

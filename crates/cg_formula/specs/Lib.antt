@@ -1,5 +1,6 @@
 pub mod Lits
 pub mod Satisfiable
+pub mod Assignments
 pub mod Bounds
 pub mod Tokens
 pub mod DimacsReading

@@ -6,3 +6,7 @@ pub mod Deserved
 pub mod IdSpelling
 pub mod LratExact
 pub mod LratWritten
+pub mod HintIds
+pub mod GrownLog
+pub mod UnitHints
+pub mod HintsByTruth

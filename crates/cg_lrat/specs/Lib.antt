@@ -8,4 +8,5 @@ pub mod Live
 pub mod Progress
 pub mod Hints
 pub mod AcceptedLog
+pub mod GrownLog
 pub mod LratText

@@ -34,7 +34,7 @@ uses_first d used driven shown count order first shown_is count_is order_is used
     (λ net lt. ap (λ b. b && not (is_marked driven net)) (used_table.tells net lt) ∙ ap (λ b. is_in (used_nets d) net && not b) (driven_table.tells net (omega (arith, count_is)) ∙ ap (λ nets. is_in nets net) order_is)) there)
 
 -- the number of a driving cell is that of a cell
-first_within : (test : LogicCell → Bool) (a : ℕ) (cells : List LogicCell) (k : ℕ) → position_from test a cells ≡ Some k → k < a + length cells
+first_within : (test : LogicCell ℕ → Bool) (a : ℕ) (cells : List (LogicCell ℕ)) (k : ℕ) → position_from test a cells ≡ Some k → k < a + length cells
 first_within test a [] k is = absurd (cc)
 first_within test a (cell ∷ cells) k is = go (test cell) is (first_within test (a + 1) cells k)
   where
@@ -42,7 +42,7 @@ first_within test a (cell ∷ cells) k is = go (test cell) is (first_within test
     go true is later = let same : a ≡ k = same_Some a k is in omega (arith, same)
     go false is later = omega (arith, later is)
 
-pub is_graph : (d : Circuit) (drivers : List (Option ℕ)) (cells : List LogicCell) → IsDraft d → cells ≡ d.cells → length drivers ≡ length d.names → ((net : ℕ) → net < length d.names → entry drivers net ≡ driving_cell cells net) → IsGraph drivers cells
+pub is_graph : (d : Circuit) (drivers : List (Option ℕ)) (cells : List (LogicCell ℕ)) → IsDraft d → cells ≡ d.cells → length drivers ≡ length d.names → ((net : ℕ) → net < length d.names → entry drivers net ≡ driving_cell cells net) → IsGraph drivers cells
 is_graph d drivers cells draft cells_are fits tells = record {
   driving = λ net k is. omega (arith, first_within _ 0 cells k (sym (tells net (omega (arith, fits, entry_within drivers net k is))) ∙ is));
   nets = λ k cell at.
@@ -51,13 +51,13 @@ is_graph d drivers cells draft cells_are fits tells = record {
       All-weaker (λ net. net < length d.names) (λ net. net < length drivers) (λ net lt. omega (arith, lt, fits)) cell.inputs within.inputs;
 }
 
-entry_ranks : (cells : List LogicCell) (k : ℕ) → k < length cells → entry (ranks_of cells) k ≡ rank_of cells k
+entry_ranks : (cells : List (LogicCell ℕ)) (k : ℕ) → k < length cells → entry (ranks_of cells) k ≡ rank_of cells k
 entry_ranks cells k lt = sym (entry_or (ranks_of cells) k) ∙ get_or-map-range_with_len (rank_of cells) 0 (length cells) k k None lt (omega arith)
 
-pub ranked_within : (drivers ranks : List (Option ℕ)) (cells : List LogicCell) → IsGraph drivers cells → ranks ≡ ranks_of cells → (net k : ℕ) → entry drivers net ≡ Some k → k < length ranks
+pub ranked_within : (drivers ranks : List (Option ℕ)) (cells : List (LogicCell ℕ)) → IsGraph drivers cells → ranks ≡ ranks_of cells → (net k : ℕ) → entry drivers net ≡ Some k → k < length ranks
 ranked_within drivers ranks cells graph ranks_are net k is = omega (arith, graph.driving net k is, ap length ranks_are, length-map-range_with_len (rank_of cells) 0 (length cells))
 
-pub cycles_first : (d : Circuit) (drivers ranks : List (Option ℕ)) (cells : List LogicCell) (first : Option ℕ) → cells ≡ d.cells → length drivers ≡ length d.names → ((net : ℕ) → net < length d.names → entry drivers net ≡ driving_cell cells net) → ranks ≡ ranks_of cells
+pub cycles_first : (d : Circuit) (drivers ranks : List (Option ℕ)) (cells : List (LogicCell ℕ)) (first : Option ℕ) → cells ≡ d.cells → length drivers ≡ length d.names → ((net : ℕ) → net < length d.names → entry drivers net ≡ driving_cell cells net) → ranks ≡ ranks_of cells
     → IsFirst (length drivers) (λ net. option_map_or (λ k. is_none (entry ranks k)) (entry drivers net) false) first → first_net d (is_behind_cycle d) ≡ first
 cycles_first d drivers ranks cells first cells_are fits tells ranks_are found =
     first_found (is_behind_cycle d) (length d.names) first
@@ -126,6 +126,6 @@ clocks_first d clocks inputs used shown_clocks shown_inputs pins given count oth
     ∙ ap (λ x. is_in (clock_pins d) net && ((not (is_in d.inputs net) || list_any (λ o. nat_lt o net) (clock_pins d)) || x)) u)))
     (subst (λ n. IsFirst n (Test clocks inputs) first) (clock_table.fits ∙ count_is) there))
 
-pub tells_as : (drivers shown : List (Option ℕ)) (cells other : List LogicCell) (count n : ℕ) → shown ≡ drivers → cells ≡ other → count ≡ n
+pub tells_as : (drivers shown : List (Option ℕ)) (cells other : List (LogicCell ℕ)) (count n : ℕ) → shown ≡ drivers → cells ≡ other → count ≡ n
     → ((net : ℕ) → net < count → entry drivers net ≡ driving_cell cells net) → (net : ℕ) → net < n → entry shown net ≡ driving_cell other net
 tells_as drivers shown cells other count n shown_is cells_are count_is tells net lt = ap (λ ds. entry ds net) shown_is ∙ (tells net (omega (arith, count_is)) ∙ ap (λ ks. driving_cell ks net) cells_are)

@@ -1,10 +1,10 @@
 -- The clock nets at a moment: their bits follow from the clock and from the latches a moment ago, whatever the enables are.
 use Rattle.std.proofs.Common.{◌≡◌, ℕ, zero, suc, ◌<◌, Bool, true, false, ◌&&◌, if◌then◌else◌, List, [], ◌∷◌, map, length, slice_get, slice_index, slice_index_or, Option, None, Some, refl, ap, sym, ◌∙◌, subst, inl, inr, arith}
-use Rattle.std.specs.List.{All}
+use Rattle.std.specs.List.{All, list_any}
 use Rattle.std.specs.Option.{option_map, option_map_or, option_to_list}
 use Rattle.std.proofs.lemmas.List.{length-map}
 use Rattle.std.proofs.lemmas.Option.{slice_get-map, slice_get_within, get_or_from_slice_get}
-use Rattle.cg_netlist.specs.Circuit.{Circuit, GatingCell, is_in, gate_nets, clock_nets}
+use Rattle.cg_netlist.specs.Circuit.{Circuit, GatingCell, asked_nets, is_in, gate_nets, clock_nets}
 use Rattle.cg_netlist.specs.WellFormed.{IsWellFormed}
 use Rattle.cg_netlist.specs.Moment.{Settles, bit, zip_with}
 use Rattle.cg_netlist.specs.History.{next_latch, gate_bit}
@@ -21,29 +21,29 @@ held false false true = refl
 held false false false = refl
 
 -- a gating cell's output is the latch of a moment ago and the clock pin
-pub held_gates : (nets : List Bool) (gaters : List GatingCell) (before : List Bool) → zip_with (gate_bit nets) gaters (zip_with (next_latch nets) gaters before) ≡ zip_with (gate_bit nets) gaters before
+pub held_gates : (nets : List Bool) (gaters : List (GatingCell ℕ)) (before : List Bool) → zip_with (gate_bit nets) gaters (zip_with (next_latch nets) gaters before) ≡ zip_with (gate_bit nets) gaters before
 held_gates nets [] before = refl
 held_gates nets (a ∷ gaters) [] = refl
 held_gates nets (a ∷ gaters) (b ∷ before) =
-    let first : ((if bit nets a.clock then b else bit nets a.enable) && bit nets a.clock) ≡ (b && bit nets a.clock) = held (bit nets a.clock) b (bit nets a.enable) in
+    let first : ((if bit nets a.clock then b else list_any (bit nets) (asked_nets a)) && bit nets a.clock) ≡ (b && bit nets a.clock) = held (bit nets a.clock) b (list_any (bit nets) (asked_nets a)) in
     let rest : zip_with (gate_bit nets) gaters (zip_with (next_latch nets) gaters before) ≡ zip_with (gate_bit nets) gaters before = held_gates nets gaters before in
     ap (λ g. g ∷ zip_with (gate_bit nets) gaters (zip_with (next_latch nets) gaters before)) first ∙ ap (λ gs. (b && bit nets a.clock) ∷ gs) rest
 
 -- the clock nets have bits that follow from the clock's and from the latches' bits before
 pub record Clocked (c : Circuit) (clock : Bool) (before nets : List Bool) : Type 0 where
   pub on_clock : (net : ℕ) → c.clock ≡ Some net → bit nets net ≡ clock
-  pub on_gates : (k : ℕ) (a : GatingCell) (b : Bool) → slice_get c.gaters k ≡ Some a → slice_get before k ≡ Some b → bit nets a.output ≡ (b && bit nets a.clock)
+  pub on_gates : (k : ℕ) (a : GatingCell ℕ) (b : Bool) → slice_get c.gaters k ≡ Some a → slice_get before k ≡ Some b → bit nets a.output ≡ (b && bit nets a.clock)
 
 module _ (c : Circuit) (good : IsWellFormed c) where
-  abbrev gate_at : (k : ℕ) (a : GatingCell) → slice_get c.gaters k ≡ Some a → slice_get (gate_nets c) k ≡ Some a.output
+  abbrev gate_at : (k : ℕ) (a : GatingCell ℕ) → slice_get c.gaters k ≡ Some a → slice_get (gate_nets c) k ≡ Some a.output
   gate_at k a at = at_map (λ gater. gater.output) c.gaters k a at
 
   -- the gating cell that drives a net
-  abbrev gater_of : (k x : ℕ) → slice_get (gate_nets c) k ≡ Some x → (a : GatingCell) × (slice_get c.gaters k ≡ Some a) × (a.output ≡ x)
+  abbrev gater_of : (k x : ℕ) → slice_get (gate_nets c) k ≡ Some x → (a : GatingCell ℕ) × (slice_get c.gaters k ≡ Some a) × (a.output ≡ x)
   gater_of k x at = under_map (λ gater. gater.output) c.gaters k x at
 
   -- the clock pin of a gating cell is on a clock net
-  pub pin_clocked : (k : ℕ) (a : GatingCell) → slice_get c.gaters k ≡ Some a → is_in (clock_nets c) a.clock ≡ true
+  pub pin_clocked : (k : ℕ) (a : GatingCell ℕ) → slice_get c.gaters k ≡ Some a → is_in (clock_nets c) a.clock ≡ true
   pin_clocked k a at = elim (good.chained.chained k a at) [
     | inl clk ↦ is_in_left (option_to_list c.clock) (gate_nets c) a.clock (from_option c.clock a.clock clk)
     | inr before ↦ subst (λ x. is_in (clock_nets c) x ≡ true) before.3 (is_in_right (option_to_list c.clock) (gate_nets c) before.1.output (member_at (gate_nets c) before.0 before.1.output (gate_at before.0 before.1 before.2)))
@@ -62,7 +62,7 @@ module _ (c : Circuit) (good : IsWellFormed c) where
 
   module _ (clock : Bool) (before vs ws : List Bool) (long : length before ≡ length c.gaters) (here : Clocked c clock before vs) (there : Clocked c clock before ws) where
     -- outputs of gating cells of numbers below n
-    same_gate : (n k : ℕ) (a : GatingCell) → slice_index good.numbers k < n → slice_get c.gaters k ≡ Some a → bit vs a.output ≡ bit ws a.output
+    same_gate : (n k : ℕ) (a : GatingCell ℕ) → slice_index good.numbers k < n → slice_get c.gaters k ≡ Some a → bit vs a.output ≡ bit ws a.output
     same_gate zero k a low at = absurd (omega arith)
     same_gate (suc n) k a low at =
         let b : (b : Bool) × (slice_get before k ≡ Some b) = element_at before k (omega (arith, slice_get_within c.gaters k a at)) in
@@ -78,7 +78,7 @@ module _ (c : Circuit) (good : IsWellFormed c) where
       | inl clk ↦ let is : c.clock ≡ Some x = in_option c.clock x clk in here.on_clock x is ∙ sym (there.on_clock x is)
       | inr gate ↦
           let place : (k : ℕ) × (slice_get (gate_nets c) k ≡ Some x) = place_of_member (gate_nets c) x gate in
-          let gater : (a : GatingCell) × (slice_get c.gaters place.0 ≡ Some a) × (a.output ≡ x) = gater_of place.0 x place.1 in
+          let gater : (a : GatingCell ℕ) × (slice_get c.gaters place.0 ≡ Some a) × (a.output ≡ x) = gater_of place.0 x place.1 in
           subst (λ y. bit vs y ≡ bit ws y) gater.2 (same_gate (suc (slice_index good.numbers place.0)) place.0 gater.0 (omega arith) gater.1)
     ]
 
@@ -98,7 +98,7 @@ module _ (c : Circuit) (good : IsWellFormed c) where
     rank : ℕ → ℕ
     rank x = pin_rank (place_of (gate_nets c) x)
 
-    pin_at-gater : (k : ℕ) (a : GatingCell) (f : ℕ → Bool) → slice_get c.gaters k ≡ Some a → pin_at (Some k) f ≡ (slice_index_or before k false && f a.clock)
+    pin_at-gater : (k : ℕ) (a : GatingCell ℕ) (f : ℕ → Bool) → slice_get c.gaters k ≡ Some a → pin_at (Some k) f ≡ (slice_index_or before k false && f a.clock)
     unfolding pin_at
     pin_at-gater k a f at = ap (λ o. option_map_or (λ gater. slice_index_or before k false && f gater.clock) o clock) at
 
@@ -106,7 +106,7 @@ module _ (c : Circuit) (good : IsWellFormed c) where
     clock_place : (x : ℕ) → c.clock ≡ Some x → place_of (gate_nets c) x ≡ None
     clock_place x is = place_of-None (gate_nets c) x (clock_no_gate c good.driven x is)
 
-    pin_lower : (k : ℕ) (a : GatingCell) → slice_get c.gaters k ≡ Some a → rank a.clock < suc (slice_index good.numbers k)
+    pin_lower : (k : ℕ) (a : GatingCell ℕ) → slice_get c.gaters k ≡ Some a → rank a.clock < suc (slice_index good.numbers k)
     unfolding rank pin_rank
     pin_lower k a at = elim (good.chained.chained k a at) [
       | inl clk ↦ let low : pin_rank (place_of (gate_nets c) a.clock) ≡ 0 = ap pin_rank (clock_place a.clock clk) in omega arith
@@ -123,7 +123,7 @@ module _ (c : Circuit) (good : IsWellFormed c) where
         go : (o : Option ℕ) → place_of (gate_nets c) x ≡ o → pin_at o f ≡ pin_at o g
         go None is = refl
         go (Some k) is =
-            let a : (a : GatingCell) × (slice_get c.gaters k ≡ Some a) × (a.output ≡ x) = gater_of k x (place_of-Some (gate_nets c) k x is) in
+            let a : (a : GatingCell ℕ) × (slice_get c.gaters k ≡ Some a) × (a.output ≡ x) = gater_of k x (place_of-Some (gate_nets c) k x is) in
             let below : rank a.0.clock < rank x = subst (λ n. rank a.0.clock < n) (sym (ap pin_rank is)) (pin_lower k a.0 a.1) in
             pin_at-gater k a.0 f a.1 ∙ (ap (λ p. slice_index_or before k false && p) (lower a.0.clock below) ∙ sym (pin_at-gater k a.0 g a.1))
 
@@ -150,7 +150,7 @@ module _ (c : Circuit) (good : IsWellFormed c) where
     unfolding step pin_at
     pins_clock x is = pins_step x ∙ ap (λ o. pin_at o pins) (clock_place x is)
 
-    pub pins_gate : (k : ℕ) (a : GatingCell) (b : Bool) → slice_get c.gaters k ≡ Some a → slice_get before k ≡ Some b → pins a.output ≡ (b && pins a.clock)
+    pub pins_gate : (k : ℕ) (a : GatingCell ℕ) (b : Bool) → slice_get c.gaters k ≡ Some a → slice_get before k ≡ Some b → pins a.output ≡ (b && pins a.clock)
     unfolding step
     pins_gate k a b at was =
         pins_step a.output
@@ -171,7 +171,7 @@ module _ (c : Circuit) (good : IsWellFormed c) where
       -- and then a gating cell's output is the latch before and the pin
       gate_shown : (k : ℕ) → k < length c.gaters → slice_get (map pins (gate_nets c)) k ≡ slice_get (zip_with (gate_bit nets) c.gaters before) k
       gate_shown k within =
-          let a : (a : GatingCell) × (slice_get c.gaters k ≡ Some a) = element_at c.gaters k within in
+          let a : (a : GatingCell ℕ) × (slice_get c.gaters k ≡ Some a) = element_at c.gaters k within in
           let b : (b : Bool) × (slice_get before k ≡ Some b) = element_at before k (omega (arith, long)) in
           let left : slice_get (map pins (gate_nets c)) k ≡ Some (pins a.0.output) = slice_get-map pins (gate_nets c) k ∙ ap (option_map pins) (gate_at k a.0 a.1) in
           let right : slice_get (zip_with (gate_bit nets) c.gaters before) k ≡ Some (b.0 && bit nets a.0.clock) = zip_with_at (gate_bit nets) c.gaters before k a.0 b.0 a.1 b.1 in

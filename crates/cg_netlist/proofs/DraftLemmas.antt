@@ -149,10 +149,10 @@ mention_at d x place = at (is_in d.inputs x) (is_in d.outputs x) (list_any (cell
     at i o c r (inl (inr is)) = or_left ((i || o) || c) r (or_right (i || o) c is)
     at i o c r (inr is) = or_right ((i || o) || c) r is
 
-wider_cell : (n m : ℕ) → n ≤ m → (cell : LogicCell) → CellWithin n cell → CellWithin m cell
+wider_cell : (n m : ℕ) → n ≤ m → (cell : LogicCell ℕ) → CellWithin n cell → CellWithin m cell
 wider_cell n m le cell within = record { inputs = All-weaker (λ x. x < n) (λ x. x < m) (λ x lt. omega arith) cell.inputs within.inputs; output = omega (arith, within.output) }
 
-wider_register : (n m : ℕ) → n ≤ m → (register : RegisterCell) → RegisterWithin n register → RegisterWithin m register
+wider_register : (n m : ℕ) → n ≤ m → (register : RegisterCell ℕ ℕ) → RegisterWithin n register → RegisterWithin m register
 wider_register n m le register within = record {
   inputs = All-weaker (λ x. x < n) (λ x. x < m) (λ x lt. omega arith) register.inputs within.inputs;
   outputs = All-weaker (λ x. x < n) (λ x. x < m) (λ x lt. omega arith) (shown_nets register) within.outputs;
@@ -174,7 +174,7 @@ All-last : (P : ℕ → Type 0) (xs : List ℕ) (y : ℕ) → All P (xs ++ y ∷
 All-last P [] y all = All-head P y [] all
 All-last P (x ∷ xs) y all = All-last P xs y (All-tail P x (xs ++ y ∷ []) all)
 
-cell_mentioned : (cell : LogicCell) (x : ℕ) → is_in (cell.inputs ++ cell.output ∷ []) x ≡ true → cell_mentions x cell ≡ true
+cell_mentioned : (cell : LogicCell ℕ) (x : ℕ) → is_in (cell.inputs ++ cell.output ∷ []) x ≡ true → cell_mentions x cell ≡ true
 cell_mentioned cell x in' = elim (is_in_cases cell.inputs (cell.output ∷ []) x in') [
   | inl i ↦ or_left (is_in cell.inputs x) (nat_eq x cell.output) i
   | inr o ↦ or_right (is_in cell.inputs x) (nat_eq x cell.output) (eq-eqb x cell.output (only_one x cell.output o))
@@ -310,10 +310,10 @@ cover_keeps d inputs output cover draft inputs_named output_named width formed f
       few_registers = draft.few_registers;
     }
 
-pub cover_added : (d : Circuit) (inputs : List (List ℕ)) (output : List ℕ) (cover : CoverData) (names : List (List ℕ)) (cells : List LogicCell) → IsDraft d → AllByRecursion (λ name. IsTrue (is_name name)) inputs → IsTrue (is_name output) → length inputs < 2 ^ 32 → IsCover cover → Fits (length inputs) cover
+pub cover_added : (d : Circuit) (inputs : List (List ℕ)) (output : List ℕ) (cover : CoverData) (names : List (List ℕ)) (cells : List (LogicCell ℕ)) → IsDraft d → AllByRecursion (λ name. IsTrue (is_name name)) inputs → IsTrue (is_name output) → length inputs < 2 ^ 32 → IsCover cover → Fits (length inputs) cover
     → names ≡ with_names d.names (inputs ++ output ∷ []) → length names ≤ 1048576 → cells ≡ d.cells ++ cell_of names inputs output cover ∷ [] → IsDraft (record d { names = names; cells = cells })
 cover_added d inputs output cover names cells draft inputs_named output_named width formed fits names_are few cells_are =
-    let P : List (List ℕ) → List LogicCell → Type 0 = λ ns ks. IsDraft (record d { names = ns; cells = ks }) in
+    let P : List (List ℕ) → List (LogicCell ℕ) → Type 0 = λ ns ks. IsDraft (record d { names = ns; cells = ks }) in
     subst (P names) (sym cells_are) (subst (λ ns. P ns (d.cells ++ cell_of ns inputs output cover ∷ [])) (sym names_are) (cover_keeps d inputs output cover draft inputs_named output_named width formed fits (omega (arith, few, ap length names_are))))
 
 plain_keeps : (d : Circuit) (input output clock : List ℕ) (init : ℕ) → IsDraft d → IsTrue (is_name input) → IsTrue (is_name output) → IsTrue (is_name clock) → init ≤ 3
@@ -359,11 +359,11 @@ plain_keeps d input output clock init draft input_named output_named clock_named
       few_registers = omega (arith, length_push d.registers register);
     }
 
-pub register_added : (d : Circuit) (inputs : List (List ℕ)) (outputs : List (Option (List ℕ))) (clock : Option (List ℕ)) (init : ℕ) (names : List (List ℕ)) (registers : List RegisterCell) → IsDraft d → IsPlain inputs outputs clock → init ≤ 3
+pub register_added : (d : Circuit) (inputs : List (List ℕ)) (outputs : List (Option (List ℕ))) (clock : Option (List ℕ)) (init : ℕ) (names : List (List ℕ)) (registers : List (RegisterCell ℕ ℕ)) → IsDraft d → IsPlain inputs outputs clock → init ≤ 3
     → All (λ name. IsTrue (is_name name)) (register_words inputs outputs clock) → names ≡ with_names d.names (register_words inputs outputs clock) → length names ≤ 1048576
     → registers ≡ d.registers ++ register_of names inputs outputs clock init ∷ [] → length registers ≤ 65536 → IsDraft (record d { names = names; registers = registers })
 register_added d (input ∷ []) (Some output ∷ []) (Some clock) init names registers draft plain small named names_are few registers_are few_registers =
-    let P : List (List ℕ) → List RegisterCell → Type 0 = λ ns rs. IsDraft (record d { names = ns; registers = rs }) in
+    let P : List (List ℕ) → List (RegisterCell ℕ ℕ) → Type 0 = λ ns rs. IsDraft (record d { names = ns; registers = rs }) in
     let recursion = recursion_from_All (λ name. IsTrue (is_name name)) (input ∷ output ∷ clock ∷ []) named in
     subst (P names) (sym registers_are) (subst (λ ns. P ns (d.registers ++ register_of ns (input ∷ []) (Some output ∷ []) (Some clock) init ∷ [])) (sym names_are)
     (plain_keeps d input output clock init draft recursion.0 recursion.1.0 recursion.1.1.0 small (omega (arith, few, ap length names_are))

@@ -7,7 +7,7 @@ use Rattle.std.proofs.lemmas.Bool.Decides.{eqb_tells}
 use Rattle.std.proofs.lemmas.List.{length-set}
 use Rattle.std.proofs.lemmas.List.Elements.{All-nil, All-append, All-map, All-weaker, All-head, All-tail}
 use Rattle.std.proofs.lemmas.Option.{same_Some}
-use Rattle.cg_netlist.specs.Circuit.{Circuit, LogicCell, RegisterCell, GatingCell, is_in, cell_nets, register_nets, shown_nets, used_nets}
+use Rattle.cg_netlist.specs.Circuit.{Circuit, LogicCell, RegisterCell, GatingCell, is_in, cell_nets, register_nets, shown_nets, used_nets, asked_nets}
 use Rattle.cg_netlist.specs.Draft.{CellWithin, IsDraft, RegisterWithin, cell_mentions, register_mentions}
 use Rattle.cg_netlist.specs.Finish.{clock_pins, driving_nets}
 use Rattle.cg_netlist.specs.Ranking.{entry}
@@ -33,16 +33,16 @@ module _ (d : Circuit) (draft : IsDraft d) where
 
   pub used_within : d.gaters ≡ [] → All (λ net. net < length d.names) (used_nets d)
   used_within none =
-      All-append (λ net. net < length d.names) (flat_map (λ cell. cell.inputs) d.cells ++ map (λ gater. gater.enable) d.gaters ++ flat_map (λ r. r.inputs) d.registers) d.outputs
-      (All-append (λ net. net < length d.names) (flat_map (λ cell. cell.inputs) d.cells ++ map (λ gater. gater.enable) d.gaters) (flat_map (λ r. r.inputs) d.registers)
-      (All-append (λ net. net < length d.names) (flat_map (λ cell. cell.inputs) d.cells) (map (λ gater. gater.enable) d.gaters)
+      All-append (λ net. net < length d.names) (flat_map (λ cell. cell.inputs) d.cells ++ flat_map asked_nets d.gaters ++ flat_map (λ r. r.inputs) d.registers) d.outputs
+      (All-append (λ net. net < length d.names) (flat_map (λ cell. cell.inputs) d.cells ++ flat_map asked_nets d.gaters) (flat_map (λ r. r.inputs) d.registers)
+      (All-append (λ net. net < length d.names) (flat_map (λ cell. cell.inputs) d.cells) (flat_map asked_nets d.gaters)
       (All-flat (λ net. net < length d.names) (λ cell. cell.inputs) d.cells (All-weaker (CellWithin (length d.names)) (λ cell. All (λ net. net < length d.names) cell.inputs) (λ cell within. within.inputs) d.cells draft.cells))
-      (let P : List GatingCell → Type 0 = λ gs. All (λ net. net < length d.names) (map (λ gater. gater.enable) gs) in subst P (sym none) (All-nil (λ net. net < length d.names))))
+      (let P : List (GatingCell ℕ) → Type 0 = λ gs. All (λ net. net < length d.names) (flat_map asked_nets gs) in subst P (sym none) (All-nil (λ net. net < length d.names))))
       (All-flat (λ net. net < length d.names) (λ r. r.inputs) d.registers (All-weaker (RegisterWithin (length d.names)) (λ r. All (λ net. net < length d.names) r.inputs) (λ r within. within.inputs) d.registers draft.registers)))
       draft.outputs
 
 -- where a cell or a register mentions a net
-pub cell_place : (cells : List LogicCell) (x : ℕ) → list_any (cell_mentions x) cells ≡ true → (is_in (flat_map (λ cell. cell.inputs) cells) x ≡ true) ⊎ (is_in (map (λ cell. cell.output) cells) x ≡ true)
+pub cell_place : (cells : List (LogicCell ℕ)) (x : ℕ) → list_any (cell_mentions x) cells ≡ true → (is_in (flat_map (λ cell. cell.inputs) cells) x ≡ true) ⊎ (is_in (map (λ cell. cell.output) cells) x ≡ true)
 cell_place [] x is = absurd (both_ways false refl is)
 cell_place (cell ∷ cells) x is = elim (or_cases (cell_mentions x cell) (list_any (cell_mentions x) cells) is) [
   | inl here ↦ elim (or_cases (is_in cell.inputs x) (nat_eq x cell.output) here) [
@@ -55,12 +55,12 @@ cell_place (cell ∷ cells) x is = elim (or_cases (cell_mentions x cell) (list_a
   ]
 ]
 
-pub data RegisterPlace (registers : List RegisterCell) (x : ℕ) : Type 0 where
+pub data RegisterPlace (registers : List (RegisterCell ℕ ℕ)) (x : ℕ) : Type 0 where
   AtData : is_in (flat_map (λ r. r.inputs) registers) x ≡ true → RegisterPlace registers x
   AtShown : is_in (flat_map shown_nets registers) x ≡ true → RegisterPlace registers x
   AtPin : is_in (map (λ r. r.clock) registers) x ≡ true → RegisterPlace registers x
 
-pub register_place : (registers : List RegisterCell) (x : ℕ) → list_any (register_mentions x) registers ≡ true → RegisterPlace registers x
+pub register_place : (registers : List (RegisterCell ℕ ℕ)) (x : ℕ) → list_any (register_mentions x) registers ≡ true → RegisterPlace registers x
 register_place [] x is = absurd (both_ways false refl is)
 register_place (r ∷ rs) x is = elim (or_cases (register_mentions x r) (list_any (register_mentions x) rs) is) [
   | inl here ↦ elim (or_cases (is_in r.inputs x || is_in (shown_nets r) x) (nat_eq x r.clock) here) [
@@ -78,7 +78,7 @@ register_place (r ∷ rs) x is = elim (or_cases (register_mentions x r) (list_an
 ]
 
 -- the first cell that drives a net, with one more cell
-first_push : (test : LogicCell → Bool) (a : ℕ) (cells : List LogicCell) (cell : LogicCell) → position_from test a (cells ++ cell ∷ []) ≡ option_or (position_from test a cells) (cond (test cell) (Some (a + length cells)) None)
+first_push : (test : LogicCell ℕ → Bool) (a : ℕ) (cells : List (LogicCell ℕ)) (cell : LogicCell ℕ) → position_from test a (cells ++ cell ∷ []) ≡ option_or (position_from test a cells) (cond (test cell) (Some (a + length cells)) None)
 first_push test a [] cell = let e : a ≡ a + 0 = omega arith in ap (λ n. cond (test cell) (Some n) None) e
 first_push test a (c ∷ cells) cell = go (test c) (first_push test (a + 1) cells cell)
   where
@@ -95,7 +95,7 @@ or_none : (o : Option ℕ) → option_or o None ≡ o
 or_none None = refl
 or_none (Some m) = refl
 
-pub driver_more : (drivers : List (Option ℕ)) (n : ℕ) (cells : List LogicCell) (i : ℕ) (cell : LogicCell) (now : Option ℕ) → length drivers ≡ n → i ≤ length cells
+pub driver_more : (drivers : List (Option ℕ)) (n : ℕ) (cells : List (LogicCell ℕ)) (i : ℕ) (cell : LogicCell ℕ) (now : Option ℕ) → length drivers ≡ n → i ≤ length cells
     → ((net : ℕ) → net < n → entry drivers net ≡ driving_cell (take i cells) net) → length (take i cells) ≡ i → cell.output < n → take (i + 1) cells ≡ take i cells ++ cell ∷ []
     → now ≡ Some (unwrap_or (entry drivers cell.output) i)
     → (length (set drivers cell.output now) ≡ n) × ((net : ℕ) → net < n → entry (set drivers cell.output now) net ≡ driving_cell (take (i + 1) cells) net)
@@ -118,13 +118,13 @@ driver_more drivers n cells i cell now fits le tells long within next is = (
       ],
 )
 
-pub output_in : (cells : List LogicCell) (k : ℕ) (cell : LogicCell) → slice_get cells k ≡ Some cell → is_in (map (λ c. c.output) cells) cell.output ≡ true
+pub output_in : (cells : List (LogicCell ℕ)) (k : ℕ) (cell : LogicCell ℕ) → slice_get cells k ≡ Some cell → is_in (map (λ c. c.output) cells) cell.output ≡ true
 output_in [] k cell at = absurd (cc)
 output_in (c ∷ cells) zero cell at = or_left (nat_eq cell.output c.output) (is_in (map (λ x. x.output) cells) cell.output) (eq-eqb cell.output c.output (ap (λ x. x.output) (sym (same_Some c cell at))))
 output_in (c ∷ cells) (suc k) cell at = or_right (nat_eq cell.output c.output) (is_in (map (λ x. x.output) cells) cell.output) (output_in cells k cell at)
 
 -- the cell that drives its output, where no other does
-pub drives_output : (cells : List LogicCell) (a k : ℕ) (cell : LogicCell) → IsDistinct nat_eq (map (λ c. c.output) cells) → slice_get cells k ≡ Some cell → position_from (λ c. c.output == cell.output) a cells ≡ Some (a + k)
+pub drives_output : (cells : List (LogicCell ℕ)) (a k : ℕ) (cell : LogicCell ℕ) → IsDistinct nat_eq (map (λ c. c.output) cells) → slice_get cells k ≡ Some cell → position_from (λ c. c.output == cell.output) a cells ≡ Some (a + k)
 drives_output [] a k cell once at = absurd (cc)
 drives_output (c ∷ cells) a zero cell once at =
     let same : c ≡ cell = same_Some c cell at in

@@ -8,7 +8,7 @@ use Rattle.std.proofs.lemmas.List.Sums.{sum_by-cons}
 use Rattle.std.proofs.lemmas.List.Elements.{All-head, All-tail}
 use Rattle.cg_netlist.specs.declared.fault.NetFault.{NetFault}
 use Rattle.cg_netlist.specs.declared.fault.NetFault.TheVariants.{TwoDrivers, NoDriver, Cycle, ClockFault}
-use Rattle.cg_netlist.specs.Circuit.{Circuit, is_in, cell_nets, register_nets, used_nets}
+use Rattle.cg_netlist.specs.Circuit.{Circuit, is_in, cell_nets, register_nets, used_nets, asked_nets}
 use Rattle.cg_netlist.specs.Draft.{IsDraft}
 use Rattle.cg_netlist.specs.Finish.{clock_pins, driving_nets, fault_of, first_fault, first_net, is_bad_clock, is_behind_cycle, is_driven_twice, is_undriven}
 use Rattle.cg_netlist.proofs.DraftLemmas.{AtInput, AtOutput, AtCell, AtRegister, place_of_mention}
@@ -132,17 +132,17 @@ module _ (d : Circuit) (draft : IsDraft d) (gaters : d.gaters ≡ []) (fine : fa
   pub all_driven : (x : ℕ) → x < length d.names → is_in (driving_nets d) x ≡ true
   all_driven x lt = elim (place_of_mention d x (draft.mentioned x lt)) [
     | AtInput i ↦ input_driven x i
-    | AtOutput o ↦ used_is_driven x (is_in_right (flat_map (λ cell. cell.inputs) d.cells ++ map (λ gater. gater.enable) d.gaters ++ flat_map (λ r. r.inputs) d.registers) d.outputs x o)
+    | AtOutput o ↦ used_is_driven x (is_in_right (flat_map (λ cell. cell.inputs) d.cells ++ flat_map asked_nets d.gaters ++ flat_map (λ r. r.inputs) d.registers) d.outputs x o)
     | AtCell c ↦ elim (cell_place d.cells x c) [
-      | inl i ↦ used_is_driven x (front (is_in_left (flat_map (λ cell. cell.inputs) d.cells ++ map (λ gater. gater.enable) d.gaters) (flat_map (λ r. r.inputs) d.registers) x (is_in_left (flat_map (λ cell. cell.inputs) d.cells) (map (λ gater. gater.enable) d.gaters) x i)))
+      | inl i ↦ used_is_driven x (front (is_in_left (flat_map (λ cell. cell.inputs) d.cells ++ flat_map asked_nets d.gaters) (flat_map (λ r. r.inputs) d.registers) x (is_in_left (flat_map (λ cell. cell.inputs) d.cells) (flat_map asked_nets d.gaters) x i)))
       | inr o ↦ is_in_left (d.inputs ++ cell_nets d) (register_nets d) x (is_in_right d.inputs (cell_nets d) x o)
     ]
     | AtRegister r ↦ elim (register_place d.registers x r) [
-      | AtData i ↦ used_is_driven x (front (is_in_right (flat_map (λ cell. cell.inputs) d.cells ++ map (λ gater. gater.enable) d.gaters) (flat_map (λ s. s.inputs) d.registers) x i))
+      | AtData i ↦ used_is_driven x (front (is_in_right (flat_map (λ cell. cell.inputs) d.cells ++ flat_map asked_nets d.gaters) (flat_map (λ s. s.inputs) d.registers) x i))
       | AtShown o ↦ is_in_right (d.inputs ++ cell_nets d) (register_nets d) x o
       | AtPin c ↦ input_driven x (proper x c).input
     ]
   ]
     where
-      front : is_in (flat_map (λ cell. cell.inputs) d.cells ++ map (λ gater. gater.enable) d.gaters ++ flat_map (λ r. r.inputs) d.registers) x ≡ true → is_in (used_nets d) x ≡ true
-      front is = is_in_left (flat_map (λ cell. cell.inputs) d.cells ++ map (λ gater. gater.enable) d.gaters ++ flat_map (λ r. r.inputs) d.registers) d.outputs x is
+      front : is_in (flat_map (λ cell. cell.inputs) d.cells ++ flat_map asked_nets d.gaters ++ flat_map (λ r. r.inputs) d.registers) x ≡ true → is_in (used_nets d) x ≡ true
+      front is = is_in_left (flat_map (λ cell. cell.inputs) d.cells ++ flat_map asked_nets d.gaters ++ flat_map (λ r. r.inputs) d.registers) d.outputs x is

@@ -10,7 +10,7 @@ use Rattle.std.proofs.lemmas.Option.{slice_get_within, get_or_from_slice_get, sl
 use Rattle.cg_cell.specs.Name.{is_name}
 use Rattle.cg_cell.specs.Pins.{PinData}
 use Rattle.cg_netlist.specs.Canonical.{net_name, net_names}
-use Rattle.cg_netlist.specs.Circuit.{Circuit, LogicCell, RegisterCell, is_in, cell_nets, register_nets, used_nets, clock_nets}
+use Rattle.cg_netlist.specs.Circuit.{Circuit, LogicCell, RegisterCell, is_in, cell_nets, register_nets, used_nets, clock_nets, asked_nets}
 use Rattle.cg_netlist.specs.Draft.{IsDraft}
 use Rattle.cg_netlist.specs.Finish.{clock_pins, driving_nets, fault_of, netlist_of, place_of, renumbered_cell, renumbered_register}
 use Rattle.cg_netlist.specs.Netlist.{IsNetlist}
@@ -51,7 +51,7 @@ in_driving f (x ∷ nets) net k in' is = elim (or_cases (nat_eq net x) (is_in ne
 ]
 
 -- a cell whose inputs a cell drives has a rank above that cell's
-rank_above : (cells : List LogicCell) (j k r : ℕ) (cell : LogicCell) → slice_get cells k ≡ Some cell → is_in (driving_cells cells k) j ≡ true → rank_of cells k ≡ Some r → (q : ℕ) × (rank_of cells j ≡ Some q) × (q < r)
+rank_above : (cells : List (LogicCell ℕ)) (j k r : ℕ) (cell : LogicCell ℕ) → slice_get cells k ≡ Some cell → is_in (driving_cells cells k) j ≡ true → rank_of cells k ≡ Some r → (q : ℕ) × (rank_of cells j ≡ Some q) × (q < r)
 rank_above [] j k r cell at in' is = absurd (cc)
 rank_above (c ∷ cells) j k r cell at in' is =
     let below = each_member _ (driving_cells (c ∷ cells) k) j (next_rank-below (rank_within (driving_cells (c ∷ cells)) (length cells)) (driving_cells (c ∷ cells) k) r is) in' in
@@ -80,15 +80,15 @@ pins_long : (f : ℕ → ℕ) (outputs : List (ℕ × Bool)) → length outputs 
 pins_long f [] = refl
 pins_long f (output ∷ outputs) = ap suc (pins_long f outputs)
 
-kind_kept : (f : ℕ → ℕ) (r : RegisterCell) (kind : RegisterKind) → FitsKind kind r → FitsKind kind (renumbered_register f r)
+kind_kept : (f : ℕ → ℕ) (r : RegisterCell ℕ ℕ) (kind : RegisterKind) → FitsKind kind r → FitsKind kind (renumbered_register f r)
 kind_kept f r Plain fits = (length-map r.inputs f ∙ fits.0, inverted_kept f r.outputs ∙ fits.1, fits.2)
 kind_kept f r (Flop cell) fits =
     (fits.0, fits.1, fits.2 ∙ sym (length-map r.inputs f), outputs_kept f r.outputs fits.3, pins_kept f cell.pins r.outputs r.pins fits.4, fits.5)
 
-register_kept : (f : ℕ → ℕ) (r : RegisterCell) → RegisterFits r → RegisterFits (renumbered_register f r)
+pub register_kept : (f : ℕ → ℕ) (r : RegisterCell ℕ ℕ) → RegisterFits r → RegisterFits (renumbered_register f r)
 register_kept f r fits = record { kind = kind_kept f r r.kind fits.kind; pins = fits.pins ∙ pins_long f r.outputs; init = fits.init }
 
-own_clocks : (registers : List RegisterCell) → All (λ r. is_in (map (λ s. s.clock) registers) r.clock ≡ true) registers
+own_clocks : (registers : List (RegisterCell ℕ ℕ)) → All (λ r. is_in (map (λ s. s.clock) registers) r.clock ≡ true) registers
 own_clocks [] = All-nil (λ r. is_in [] r.clock ≡ true)
 own_clocks (r ∷ rs) =
     All-cons (λ s. is_in (r.clock ∷ map (λ t. t.clock) rs) s.clock ≡ true) r rs (or_left (nat_eq r.clock r.clock) (is_in (map (λ t. t.clock) rs) r.clock) (eq-eqb r.clock r.clock refl))
@@ -124,7 +124,7 @@ module _ (d : Circuit) (draft : IsDraft d) (no_gaters : d.gaters ≡ []) (fine :
   used_is : used_nets (netlist_of d) ≡ map (place_of d) (used_nets d)
   used_is =
       used_renumbered (place_of d) d.cells d.registers d.outputs
-      ∙ ap (λ gs. map (place_of d) (flat_map (λ cell. cell.inputs) d.cells ++ map (λ gater. gater.enable) gs ++ flat_map (λ r. r.inputs) d.registers ++ d.outputs)) (sym no_gaters)
+      ∙ ap (λ gs. map (place_of d) (flat_map (λ cell. cell.inputs) d.cells ++ flat_map asked_nets gs ++ flat_map (λ r. r.inputs) d.registers ++ d.outputs)) (sym no_gaters)
 
   long : length (net_names d.names (driving_nets d)) ≡ length (driving_nets d)
   long = length-map (driving_nets d) (net_name d.names)
@@ -145,13 +145,13 @@ module _ (d : Circuit) (draft : IsDraft d) (no_gaters : d.gaters ≡ []) (fine :
   outputs_once : IsDistinct nat_eq (cell_nets d)
   outputs_once = distinct_right d.inputs (cell_nets d) (distinct_left (d.inputs ++ cell_nets d) (register_nets d) (once d draft no_gaters fine))
 
-  output_driven : (k : ℕ) (cell : LogicCell) → slice_get d.cells k ≡ Some cell → is_in (driving_nets d) cell.output ≡ true
+  output_driven : (k : ℕ) (cell : LogicCell ℕ) → slice_get d.cells k ≡ Some cell → is_in (driving_nets d) cell.output ≡ true
   output_driven k cell at = is_in_left (d.inputs ++ cell_nets d) (register_nets d) cell.output (is_in_right d.inputs (cell_nets d) cell.output (output_in d.cells k cell at))
 
-  driving_is : (k : ℕ) (cell : LogicCell) → slice_get d.cells k ≡ Some cell → driving_cell d.cells cell.output ≡ Some k
+  driving_is : (k : ℕ) (cell : LogicCell ℕ) → slice_get d.cells k ≡ Some cell → driving_cell d.cells cell.output ≡ Some k
   driving_is k cell at = let e : 0 + k ≡ k = omega arith in drives_output d.cells 0 k cell outputs_once at ∙ ap (λ m. Some m) e
 
-  has_rank : (k : ℕ) (cell : LogicCell) → slice_get d.cells k ≡ Some cell → (r : ℕ) × (rank_of d.cells k ≡ Some r)
+  has_rank : (k : ℕ) (cell : LogicCell ℕ) → slice_get d.cells k ≡ Some cell → (r : ℕ) × (rank_of d.cells k ≡ Some r)
   has_rank k cell at =
       let lt : cell.output < n = All-member (λ x. x < n) (driving_nets d) cell.output (driving_within d draft) (output_driven k cell at) in
       let ranked : is_none (rank_of d.cells k) ≡ false = ap (λ o. option_map_or (λ i. is_none (rank_of d.cells i)) o false) (sym (driving_is k cell at)) ∙ no_cycle d draft no_gaters fine cell.output lt in
@@ -164,16 +164,16 @@ module _ (d : Circuit) (draft : IsDraft d) (no_gaters : d.gaters ≡ []) (fine :
   rank_number : (k r : ℕ) → k < length d.cells → rank_of d.cells k ≡ Some r → slice_index numbers_of_ranks k ≡ r
   rank_number k r lt is = get_or-map-range_with_len (λ i. unwrap_or (rank_of d.cells i) 0) 0 (length d.cells) k k 0 lt (omega arith) ∙ ap (λ o. unwrap_or o 0) is
 
-  rising : (j k : ℕ) (driver cell : LogicCell) → slice_get (map (renumbered_cell (place_of d)) d.cells) j ≡ Some driver → slice_get (map (renumbered_cell (place_of d)) d.cells) k ≡ Some cell → is_in cell.inputs driver.output ≡ true → slice_index numbers_of_ranks j < slice_index numbers_of_ranks k
+  rising : (j k : ℕ) (driver cell : LogicCell ℕ) → slice_get (map (renumbered_cell (place_of d)) d.cells) j ≡ Some driver → slice_get (map (renumbered_cell (place_of d)) d.cells) k ≡ Some cell → is_in cell.inputs driver.output ≡ true → slice_index numbers_of_ranks j < slice_index numbers_of_ranks k
   rising j k driver cell j_at k_at in' =
       let old_j = mapped_at (renumbered_cell (place_of d)) (slice_get d.cells j) driver (sym (slice_get-map (renumbered_cell (place_of d)) d.cells j) ∙ j_at) in
       let old_k = mapped_at (renumbered_cell (place_of d)) (slice_get d.cells k) cell (sym (slice_get-map (renumbered_cell (place_of d)) d.cells k) ∙ k_at) in
       let in_old : is_in (map (place_of d) old_k.0.inputs) (place_of d old_j.0.output) ≡ true =
       ap (λ c. is_in c.inputs (place_of d old_j.0.output)) old_k.2 ∙ (ap (λ c. is_in cell.inputs c.output) old_j.2 ∙ in') in
       let found = from_mapped (place_of d) old_k.0.inputs (place_of d old_j.0.output) in_old in
-      let used : is_in (used_nets d) found.0 ≡ true = is_in_left (flat_map (λ c. c.inputs) d.cells ++ map (λ g. g.enable) d.gaters ++ flat_map (λ r. r.inputs) d.registers) d.outputs found.0
-      (is_in_left (flat_map (λ c. c.inputs) d.cells ++ map (λ g. g.enable) d.gaters) (flat_map (λ r. r.inputs) d.registers) found.0
-      (is_in_left (flat_map (λ c. c.inputs) d.cells) (map (λ g. g.enable) d.gaters) found.0 (in_flat d.cells k old_k.0 found.0 old_k.1 found.1))) in
+      let used : is_in (used_nets d) found.0 ≡ true = is_in_left (flat_map (λ c. c.inputs) d.cells ++ flat_map asked_nets d.gaters ++ flat_map (λ r. r.inputs) d.registers) d.outputs found.0
+      (is_in_left (flat_map (λ c. c.inputs) d.cells ++ flat_map asked_nets d.gaters) (flat_map (λ r. r.inputs) d.registers) found.0
+      (is_in_left (flat_map (λ c. c.inputs) d.cells) (flat_map asked_nets d.gaters) found.0 (in_flat d.cells k old_k.0 found.0 old_k.1 found.1))) in
       let same : found.0 ≡ old_j.0.output = same_place d draft no_gaters fine found.0 old_j.0.output (used_is_driven d draft no_gaters fine found.0 used) (output_driven j old_j.0 old_j.1) found.2 in
       let above : is_in (driving_cells d.cells k) j ≡ true =
       ap (λ o. is_in (option_map_or (λ c. filter_map (driving_cell d.cells) c.inputs) o []) j) old_k.1
@@ -182,7 +182,7 @@ module _ (d : Circuit) (draft : IsDraft d) (no_gaters : d.gaters ≡ []) (fine :
       let lower = rank_above d.cells j k rank.0 old_k.0 old_k.1 above rank.1 in
       omega (arith, lower.2, rank_number j lower.0 (slice_get_within d.cells j old_j.0 old_j.1) lower.1, rank_number k rank.0 (slice_get_within d.cells k old_k.0 old_k.1) rank.1)
     where
-      in_flat : (cells : List LogicCell) (i : ℕ) (c : LogicCell) (x : ℕ) → slice_get cells i ≡ Some c → is_in c.inputs x ≡ true → is_in (flat_map (λ y. y.inputs) cells) x ≡ true
+      in_flat : (cells : List (LogicCell ℕ)) (i : ℕ) (c : LogicCell ℕ) (x : ℕ) → slice_get cells i ≡ Some c → is_in c.inputs x ≡ true → is_in (flat_map (λ y. y.inputs) cells) x ≡ true
       in_flat [] i c x at among = absurd (cc)
       in_flat (y ∷ ys) zero c x at among = is_in_left y.inputs (flat_map (λ z. z.inputs) ys) x (ap (λ z. is_in z.inputs x) (same_Some y c at) ∙ among)
       in_flat (y ∷ ys) (suc i) c x at among = is_in_right y.inputs (flat_map (λ z. z.inputs) ys) x (in_flat ys i c x at among)

@@ -2,9 +2,9 @@
 -- the gated clock rises, and the latch of the gating cell does not see the enable while the clock is high. The netlist
 -- is well formed, so that this history is the only one that is lawful over this waveform.
 use Rattle.std.proofs.Common.{◌≡◌, ◌≢◌, ◌⊎◌, ℕ, zero, suc, ◌<◌, Bool, true, false, not, ◌||◌, IsTrue, List, [], ◌∷◌, length, slice_get, slice_index, None, Some, nat_eq, codes, refl, ap, subst, inl, inr, arith}
-use Rattle.std.specs.List.{AllPairs, IsDistinct}
+use Rattle.std.specs.List.{AllPairs, IsDistinct, count_by}
 use Rattle.std.specs.List.Sorted.{IsStrictlyIncreasing}
-use Rattle.std.specs.Option.{option_map}
+use Rattle.std.specs.Option.{option_map, option_to_list}
 use Rattle.std.proofs.Math.Dec.{lit≤, lit<}
 use Rattle.std.proofs.lemmas.Bool.{eqb-true, or_cases, both_ways}
 use Rattle.std.proofs.lemmas.List.Elements.{All-from_recursion, All-nil}
@@ -12,6 +12,7 @@ use Rattle.std.proofs.lemmas.Map.Made.{AllPairs-from_IsDistinct}
 use Rattle.std.proofs.lemmas.Slice.Eq.{bytes_eq-Decides}
 use Rattle.cg_cell.specs.Name.{is_name}
 use Rattle.cg_cell.specs.Cell.{CellData, IsCell}
+use Rattle.cg_cell.specs.Pins.{is_test}
 use Rattle.cg_cell.specs.Term.{Input}
 use Rattle.cg_cell.specs.declared.cell.CellKind.TheVariants.{Flop as FlopKind, Gater as GaterKind}
 use Rattle.cg_cell.specs.declared.cell.Role.TheVariants.{Data, Clock, Enable, Output, State, StateBar}
@@ -38,7 +39,7 @@ gated = record {
   clock = Some 2;
   outputs = 4 ∷ 5 ∷ [];
   cells = [];
-  gaters = record { clock = 2; enable = 1; output = 3; cell = icg } ∷ [];
+  gaters = record { clock = 2; enable = 1; test = None; output = 3; cell = icg } ∷ [];
   registers = record { inputs = 0 ∷ []; outputs = (4, false) ∷ (5, true) ∷ []; pins = 2 ∷ 3 ∷ []; clock = 3; kind = Flop flop; init = 3 } ∷ [];
 }
 
@@ -73,14 +74,14 @@ rising_pins : IsStrictlyIncreasing (2 ∷ 3 ∷ [])
 rising_pins zero below = lit< tt
 rising_pins (suc k) below = absurd (omega arith)
 
-fitting : RegisterFits (record { inputs = 0 ∷ []; outputs = (4, false) ∷ (5, true) ∷ []; pins = 2 ∷ 3 ∷ []; clock = 3; kind = Flop flop; init = 3 })
+fitting : RegisterFits {N = ℕ} {K = ℕ} (record { inputs = 0 ∷ []; outputs = (4, false) ∷ (5, true) ∷ []; pins = 2 ∷ 3 ∷ []; clock = 3; kind = Flop flop; init = 3 })
 fitting = record {
   kind = (flop_is, refl, refl, lit≤ tt, ((record { name = codes "Q"; role = State }, refl, refl), ((record { name = codes "QN"; role = StateBar }, refl, refl), tt)), rising_pins);
   pins = refl;
   init = lit≤ tt;
 }
 
-chained : (k : ℕ) (gater : GatingCell) → slice_get gated.gaters k ≡ Some gater → (Some 2 ≡ Some gater.clock) ⊎ ((j : ℕ) × (before : GatingCell) × (slice_get gated.gaters j ≡ Some before) × (before.output ≡ gater.clock) × (slice_index (0 ∷ []) j < slice_index (0 ∷ []) k))
+chained : (k : ℕ) (gater : GatingCell ℕ) → slice_get gated.gaters k ≡ Some gater → (Some 2 ≡ Some gater.clock) ⊎ ((j : ℕ) × (before : GatingCell ℕ) × (slice_get gated.gaters j ≡ Some before) × (before.output ≡ gater.clock) × (slice_index (0 ∷ []) j < slice_index (0 ∷ []) k))
 chained zero gater at = inl (ap (option_map (λ g. g.clock)) at)
 chained (suc k) gater at = absurd (cc)
 
@@ -97,7 +98,7 @@ well_formed = record {
   different = different;
   functions = All-nil (λ cell. IsOver (length cell.inputs) cell.function);
   fitting = All-from_recursion RegisterFits gated.registers (fitting, tt);
-  gating = All-from_recursion (λ gater. IsCell gater.cell × (gater.cell.kind ≡ GaterKind)) gated.gaters ((icg_is, refl), tt);
+  gating = All-from_recursion (λ gater. IsCell gater.cell × (gater.cell.kind ≡ GaterKind) × (count_by is_test gater.cell.pins ≡ length (option_to_list gater.test))) gated.gaters ((icg_is, refl, refl), tt);
   used = All-from_recursion (λ net. net < 6) (used_nets gated) (lit< tt, (lit< tt, (lit< tt, (lit< tt, tt))));
   driven = driven_in_order gated in_order;
   ranks = [];

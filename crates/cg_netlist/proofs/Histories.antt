@@ -29,7 +29,7 @@ module _ (c : Circuit) (good : IsWellFormed c) (start : List Bool) (started : Is
   state_long (Some m) nets long = length-zip_with (next_bit m.nets nets) c.registers m.state (sym long.0)
 
   -- a register's clock net is a clock net
-  register_clocked : (k : ℕ) (r : RegisterCell) → slice_get c.registers k ≡ Some r → is_in (clock_nets c) r.clock ≡ true
+  register_clocked : (k : ℕ) (r : RegisterCell ℕ ℕ) → slice_get c.registers k ≡ Some r → is_in (clock_nets c) r.clock ≡ true
   register_clocked k r at = subst (λ s. is_in (clock_nets c) s.clock ≡ true) (get_or_from_slice_get c.registers k r r at) (good.clocked k r (slice_get_within c.registers k r at))
 
   -- of the present nets, the registers ask for their clock nets alone

@@ -10,7 +10,7 @@ use Rattle.std.proofs.lemmas.List.FromFn.{fill_by_all, get_or-range_with_len, le
 use Rattle.std.proofs.lemmas.List.Sums.{sum_by-cons}
 use Rattle.std.proofs.lemmas.Option.{slice_get_within, slice_get-map, slice_get-get_or, same_Some, unwrap_or-slice_get}
 use Rattle.cg_netlist.specs.Canonical.{net_name, net_names}
-use Rattle.cg_netlist.specs.Circuit.{Circuit, is_in, cell_nets, gate_nets, register_nets, shown_nets, used_nets, clock_nets}
+use Rattle.cg_netlist.specs.Circuit.{Circuit, is_in, cell_nets, gate_nets, register_nets, shown_nets, used_nets, clock_nets, asked_nets}
 use Rattle.cg_netlist.specs.Draft.{IsDraft}
 use Rattle.cg_netlist.specs.Drafted.{IsNetlistOf}
 use Rattle.cg_netlist.specs.Finish.{clock_pins, driving_nets, renumbered_cell, renumbered_register}
@@ -75,7 +75,7 @@ numbered_by_place f order m numbers once x among =
     number ∙ sym (place_is order k x once found.1)
 
 -- the names of all nets in their order are the names
-all_names : (names : List (List ℕ)) → names ≡ net_names names (range_with_len 0 (length names))
+pub all_names : (names : List (List ℕ)) → names ≡ net_names names (range_with_len 0 (length names))
 all_names names = fill_by_all (net_name names) names (length names) [] refl (λ k lt. sym (unwrap_or-slice_get names k []))
 
 module _ (d c : Circuit) (draft : IsDraft d) (no_gaters : d.gaters ≡ []) (of : IsNetlistOf d c) where
@@ -106,8 +106,8 @@ module _ (d c : Circuit) (draft : IsDraft d) (no_gaters : d.gaters ≡ []) (of :
   used_numbered : (x : ℕ) → is_in (used_nets c) x ≡ true → x < length c.names
   used_numbered x among = All-member (λ net. net < length c.names) (used_nets c) x of.formed.used among
 
-  front_numbered : (x : ℕ) → is_in (flat_map (λ cell. cell.inputs) c.cells ++ map (λ gater. gater.enable) c.gaters ++ flat_map (λ r. r.inputs) c.registers) x ≡ true → x < length c.names
-  front_numbered x among = used_numbered x (is_in_left (flat_map (λ cell. cell.inputs) c.cells ++ map (λ gater. gater.enable) c.gaters ++ flat_map (λ r. r.inputs) c.registers) c.outputs x among)
+  front_numbered : (x : ℕ) → is_in (flat_map (λ cell. cell.inputs) c.cells ++ flat_map asked_nets c.gaters ++ flat_map (λ r. r.inputs) c.registers) x ≡ true → x < length c.names
+  front_numbered x among = used_numbered x (is_in_left (flat_map (λ cell. cell.inputs) c.cells ++ flat_map asked_nets c.gaters ++ flat_map (λ r. r.inputs) c.registers) c.outputs x among)
 
   -- each clock pin is on the clock
   pub pin_on_clock_nets : (x : ℕ) → is_in (clock_pins c) x ≡ true → is_in (clock_nets c) x ≡ true
@@ -124,21 +124,21 @@ module _ (d c : Circuit) (draft : IsDraft d) (no_gaters : d.gaters ≡ []) (of :
   pub outputs_renamed : c.outputs ≡ map number d.outputs
   outputs_renamed =
       nets_renamed d.names c.names of.formed.different c.outputs d.outputs
-      (λ x among. used_numbered x (is_in_right (flat_map (λ cell. cell.inputs) c.cells ++ map (λ gater. gater.enable) c.gaters ++ flat_map (λ r. r.inputs) c.registers) c.outputs x among))
+      (λ x among. used_numbered x (is_in_right (flat_map (λ cell. cell.inputs) c.cells ++ flat_map asked_nets c.gaters ++ flat_map (λ r. r.inputs) c.registers) c.outputs x among))
       of.outputs_are
 
   pub cells_are_renamed : c.cells ≡ map (renumbered_cell number) d.cells
   cells_are_renamed =
       cells_renamed d.names c.names of.formed.different c.cells d.cells
-      (λ x among. front_numbered x (is_in_left (flat_map (λ cell. cell.inputs) c.cells ++ map (λ gater. gater.enable) c.gaters) (flat_map (λ r. r.inputs) c.registers) x
-      (is_in_left (flat_map (λ cell. cell.inputs) c.cells) (map (λ gater. gater.enable) c.gaters) x among)))
+      (λ x among. front_numbered x (is_in_left (flat_map (λ cell. cell.inputs) c.cells ++ flat_map asked_nets c.gaters) (flat_map (λ r. r.inputs) c.registers) x
+      (is_in_left (flat_map (λ cell. cell.inputs) c.cells) (flat_map asked_nets c.gaters) x among)))
       (λ x among. numbered x (is_in_left (c.inputs ++ cell_nets c) (register_nets c) x (is_in_right c.inputs (cell_nets c) x among)))
       of.cells_are
 
   pub registers_are_renamed : c.registers ≡ map (renumbered_register number) d.registers
   registers_are_renamed =
       registers_renamed d.names c.names of.formed.different c.registers d.registers
-      (λ x among. front_numbered x (is_in_right (flat_map (λ cell. cell.inputs) c.cells ++ map (λ gater. gater.enable) c.gaters) (flat_map (λ r. r.inputs) c.registers) x among))
+      (λ x among. front_numbered x (is_in_right (flat_map (λ cell. cell.inputs) c.cells ++ flat_map asked_nets c.gaters) (flat_map (λ r. r.inputs) c.registers) x among))
       (λ x among. numbered x (is_in_right (c.inputs ++ cell_nets c) (register_nets c) x among))
       (λ x among. input_numbered x (clock_given x (pin_is_clock x among)))
       of.registers_are
@@ -148,12 +148,12 @@ module _ (d c : Circuit) (draft : IsDraft d) (no_gaters : d.gaters ≡ []) (of :
 
   pub used_renamed : used_nets c ≡ map number (used_nets d)
   used_renamed =
-      ap (λ ks. flat_map (λ cell. cell.inputs) ks ++ map (λ gater. gater.enable) c.gaters ++ flat_map (λ r. r.inputs) c.registers ++ c.outputs) cells_are_renamed
-      ∙ (ap (λ gs. flat_map (λ cell. cell.inputs) (map (renumbered_cell number) d.cells) ++ map (λ gater. gater.enable) gs ++ flat_map (λ r. r.inputs) c.registers ++ c.outputs) of.gaters_are
+      ap (λ ks. flat_map (λ cell. cell.inputs) ks ++ flat_map asked_nets c.gaters ++ flat_map (λ r. r.inputs) c.registers ++ c.outputs) cells_are_renamed
+      ∙ (ap (λ gs. flat_map (λ cell. cell.inputs) (map (renumbered_cell number) d.cells) ++ flat_map asked_nets gs ++ flat_map (λ r. r.inputs) c.registers ++ c.outputs) of.gaters_are
       ∙ (ap (λ rs. flat_map (λ cell. cell.inputs) (map (renumbered_cell number) d.cells) ++ [] ++ flat_map (λ r. r.inputs) rs ++ c.outputs) registers_are_renamed
       ∙ (ap (λ os. flat_map (λ cell. cell.inputs) (map (renumbered_cell number) d.cells) ++ [] ++ flat_map (λ r. r.inputs) (map (renumbered_register number) d.registers) ++ os) outputs_renamed
       ∙ (used_renumbered number d.cells d.registers d.outputs
-      ∙ ap (λ gs. map number (flat_map (λ cell. cell.inputs) d.cells ++ map (λ gater. gater.enable) gs ++ flat_map (λ r. r.inputs) d.registers ++ d.outputs)) (sym no_gaters)))))
+      ∙ ap (λ gs. map number (flat_map (λ cell. cell.inputs) d.cells ++ flat_map asked_nets gs ++ flat_map (λ r. r.inputs) d.registers ++ d.outputs)) (sym no_gaters)))))
 
   pub driving_renamed : map number (driving_nets d) ≡ range_with_len 0 (length c.names)
   driving_renamed =
@@ -176,20 +176,20 @@ module _ (d c : Circuit) (draft : IsDraft d) (no_gaters : d.gaters ≡ []) (of :
   there : (x : ℕ) → x < length d.names → number x < length c.names
   there x lt = elim (place_of_mention d x (draft.mentioned x lt)) [
     | AtInput i ↦ driving_there x (is_in_left (d.inputs ++ cell_nets d) (register_nets d) x (is_in_left d.inputs (cell_nets d) x i))
-    | AtOutput o ↦ used_there x (is_in_right (flat_map (λ cell. cell.inputs) d.cells ++ map (λ gater. gater.enable) d.gaters ++ flat_map (λ r. r.inputs) d.registers) d.outputs x o)
+    | AtOutput o ↦ used_there x (is_in_right (flat_map (λ cell. cell.inputs) d.cells ++ flat_map asked_nets d.gaters ++ flat_map (λ r. r.inputs) d.registers) d.outputs x o)
     | AtCell k ↦ elim (cell_place d.cells x k) [
-      | inl i ↦ used_there x (front (is_in_left (flat_map (λ cell. cell.inputs) d.cells ++ map (λ gater. gater.enable) d.gaters) (flat_map (λ r. r.inputs) d.registers) x (is_in_left (flat_map (λ cell. cell.inputs) d.cells) (map (λ gater. gater.enable) d.gaters) x i)))
+      | inl i ↦ used_there x (front (is_in_left (flat_map (λ cell. cell.inputs) d.cells ++ flat_map asked_nets d.gaters) (flat_map (λ r. r.inputs) d.registers) x (is_in_left (flat_map (λ cell. cell.inputs) d.cells) (flat_map asked_nets d.gaters) x i)))
       | inr o ↦ driving_there x (is_in_left (d.inputs ++ cell_nets d) (register_nets d) x (is_in_right d.inputs (cell_nets d) x o))
     ]
     | AtRegister r ↦ elim (register_place d.registers x r) [
-      | AtData i ↦ used_there x (front (is_in_right (flat_map (λ cell. cell.inputs) d.cells ++ map (λ gater. gater.enable) d.gaters) (flat_map (λ s. s.inputs) d.registers) x i))
+      | AtData i ↦ used_there x (front (is_in_right (flat_map (λ cell. cell.inputs) d.cells ++ flat_map asked_nets d.gaters) (flat_map (λ s. s.inputs) d.registers) x i))
       | AtShown o ↦ driving_there x (is_in_right (d.inputs ++ cell_nets d) (register_nets d) x o)
       | AtPin p ↦ input_numbered (number x) (clock_given (number x) (pin_is_clock (number x) (pin_there x p)))
     ]
   ]
     where
-      front : is_in (flat_map (λ cell. cell.inputs) d.cells ++ map (λ gater. gater.enable) d.gaters ++ flat_map (λ r. r.inputs) d.registers) x ≡ true → is_in (used_nets d) x ≡ true
-      front is = is_in_left (flat_map (λ cell. cell.inputs) d.cells ++ map (λ gater. gater.enable) d.gaters ++ flat_map (λ r. r.inputs) d.registers) d.outputs x is
+      front : is_in (flat_map (λ cell. cell.inputs) d.cells ++ flat_map asked_nets d.gaters ++ flat_map (λ r. r.inputs) d.registers) x ≡ true → is_in (used_nets d) x ≡ true
+      front is = is_in_left (flat_map (λ cell. cell.inputs) d.cells ++ flat_map asked_nets d.gaters ++ flat_map (λ r. r.inputs) d.registers) d.outputs x is
 
   name_kept : (x : ℕ) → x < length d.names → net_name c.names (number x) ≡ net_name d.names x
   name_kept x lt = number_named c.names (net_name d.names x) (there x lt)

@@ -32,11 +32,11 @@ from_mapped f (x ∷ xs) y in' = elim (or_cases (nat_eq y (f x)) (is_in (map f x
 ]
 
 -- the parts of a renumbered draft
-pub outputs_renumbered : (f : ℕ → ℕ) (cells : List LogicCell) → map (λ cell. cell.output) (map (renumbered_cell f) cells) ≡ map f (map (λ cell. cell.output) cells)
+pub outputs_renumbered : (f : ℕ → ℕ) (cells : List (LogicCell ℕ)) → map (λ cell. cell.output) (map (renumbered_cell f) cells) ≡ map f (map (λ cell. cell.output) cells)
 outputs_renumbered f [] = refl
 outputs_renumbered f (cell ∷ cells) = ap (λ xs. f cell.output ∷ xs) (outputs_renumbered f cells)
 
-pub inputs_renumbered : (f : ℕ → ℕ) (cells : List LogicCell) → flat_map (λ cell. cell.inputs) (map (renumbered_cell f) cells) ≡ map f (flat_map (λ cell. cell.inputs) cells)
+pub inputs_renumbered : (f : ℕ → ℕ) (cells : List (LogicCell ℕ)) → flat_map (λ cell. cell.inputs) (map (renumbered_cell f) cells) ≡ map f (flat_map (λ cell. cell.inputs) cells)
 inputs_renumbered f [] = refl
 inputs_renumbered f (cell ∷ cells) = ap (λ xs. map f cell.inputs ++ xs) (inputs_renumbered f cells) ∙ sym (map-append f cell.inputs (flat_map (λ c. c.inputs) cells))
 
@@ -44,15 +44,15 @@ shown_renumbered : (f : ℕ → ℕ) (outputs : List (ℕ × Bool)) → map {A =
 shown_renumbered f [] = refl
 shown_renumbered f (output ∷ outputs) = ap (λ xs. f output.0 ∷ xs) (shown_renumbered f outputs)
 
-pub registers_renumbered : (f : ℕ → ℕ) (registers : List RegisterCell) → flat_map shown_nets (map (renumbered_register f) registers) ≡ map f (flat_map shown_nets registers)
+pub registers_renumbered : (f : ℕ → ℕ) (registers : List (RegisterCell ℕ ℕ)) → flat_map shown_nets (map (renumbered_register f) registers) ≡ map f (flat_map shown_nets registers)
 registers_renumbered f [] = refl
 registers_renumbered f (r ∷ rs) = ap (λ xs. xs ++ flat_map shown_nets (map (renumbered_register f) rs)) (shown_renumbered f r.outputs) ∙ (ap (λ xs. map f (shown_nets r) ++ xs) (registers_renumbered f rs) ∙ sym (map-append f (shown_nets r) (flat_map shown_nets rs)))
 
-pub data_renumbered : (f : ℕ → ℕ) (registers : List RegisterCell) → flat_map (λ r. r.inputs) (map (renumbered_register f) registers) ≡ map f (flat_map (λ r. r.inputs) registers)
+pub data_renumbered : (f : ℕ → ℕ) (registers : List (RegisterCell ℕ ℕ)) → flat_map (λ r. r.inputs) (map (renumbered_register f) registers) ≡ map f (flat_map (λ r. r.inputs) registers)
 data_renumbered f [] = refl
 data_renumbered f (r ∷ rs) = ap (λ xs. map f r.inputs ++ xs) (data_renumbered f rs) ∙ sym (map-append f r.inputs (flat_map (λ s. s.inputs) rs))
 
-pub used_renumbered : (f : ℕ → ℕ) (cells : List LogicCell) (registers : List RegisterCell) (outputs : List ℕ)
+pub used_renumbered : (f : ℕ → ℕ) (cells : List (LogicCell ℕ)) (registers : List (RegisterCell ℕ ℕ)) (outputs : List ℕ)
     → flat_map (λ cell. cell.inputs) (map (renumbered_cell f) cells) ++ [] ++ flat_map (λ r. r.inputs) (map (renumbered_register f) registers) ++ map f outputs
     ≡ map f (flat_map (λ cell. cell.inputs) cells ++ [] ++ flat_map (λ r. r.inputs) registers ++ outputs)
 used_renumbered f cells registers outputs =
@@ -63,7 +63,7 @@ used_renumbered f cells registers outputs =
     ∙ sym (map-append f (a ++ [] ++ b) outputs ∙ ap (λ xs. xs ++ map f outputs) (map-append f (a ++ []) b ∙ ap (λ xs. xs ++ map f b) (map-append f a []))))
 
 -- in an order in which no net stands twice, the places of its nets are 0, 1, and so on
-places_in_order : (order : List ℕ) → IsDistinct nat_eq order → map (λ net. position_or_len (nat_eq net) order) order ≡ range_with_len 0 (length order)
+pub places_in_order : (order : List ℕ) → IsDistinct nat_eq order → map (λ net. position_or_len (nat_eq net) order) order ≡ range_with_len 0 (length order)
 places_in_order order distinct =
     fill_by_all (λ k. k) (map (λ net. position_or_len (nat_eq net) order) order) (length order) 0 (length-map order (λ net. position_or_len (nat_eq net) order)) (λ k lt.
     let at : slice_get order k ≡ Some (get_or order k 0) = slice_get-get_or order k 0 lt in

@@ -6,7 +6,7 @@ use Rattle.std.proofs.lemmas.Bool.{or_left, or_right, eq-eqb}
 use Rattle.std.proofs.lemmas.Option.{slice_get-map}
 use Rattle.cg_netlist.specs.declared.fault.NetFault.{NetFault}
 use Rattle.cg_netlist.specs.Canonical.{net_name, net_names}
-use Rattle.cg_netlist.specs.Circuit.{Circuit, LogicCell, RegisterCell, is_in, cell_nets, register_nets, shown_nets}
+use Rattle.cg_netlist.specs.Circuit.{Circuit, LogicCell, RegisterCell, is_in, cell_nets, register_nets, shown_nets, asked_nets}
 use Rattle.cg_netlist.specs.Draft.{IsDraft}
 use Rattle.cg_netlist.specs.Drafted.{IsNetlistOf, named_cell, named_register}
 use Rattle.cg_netlist.specs.Finish.{IsFinished, clock_pins, driving_nets, fault_of, netlist_of, place_of, renumbered_cell, renumbered_register}
@@ -23,7 +23,7 @@ later : (y x : ℕ) (xs : List ℕ) → is_in xs x ≡ true → is_in (y ∷ xs)
 later y x xs among = or_right (nat_eq x y) (is_in xs x) among
 
 -- the nets at clock pins of renumbered registers
-pub pins_renumbered : (f : ℕ → ℕ) (registers : List RegisterCell) → map (λ r. r.clock) (map (renumbered_register f) registers) ≡ map f (map (λ r. r.clock) registers)
+pub pins_renumbered : (f : ℕ → ℕ) (registers : List (RegisterCell ℕ ℕ)) → map (λ r. r.clock) (map (renumbered_register f) registers) ≡ map f (map (λ r. r.clock) registers)
 pins_renumbered f [] = refl
 pins_renumbered f (r ∷ rs) = ap (λ xs. f r.clock ∷ xs) (pins_renumbered f rs)
 
@@ -33,7 +33,7 @@ module _ (old new : List (List ℕ)) (f : ℕ → ℕ) where
   names_kept [] kept = refl
   names_kept (x ∷ xs) kept = ap (λ name. name ∷ net_names new (map f xs)) (kept x (first x xs)) ∙ ap (λ names. net_name old x ∷ names) (names_kept xs (λ y among. kept y (later x y xs among)))
 
-  pub cells_kept : (cells : List LogicCell) → ((x : ℕ) → is_in (flat_map (λ cell. cell.inputs) cells) x ≡ true → net_name new (f x) ≡ net_name old x) → ((x : ℕ) → is_in (map (λ cell. cell.output) cells) x ≡ true → net_name new (f x) ≡ net_name old x)
+  pub cells_kept : (cells : List (LogicCell ℕ)) → ((x : ℕ) → is_in (flat_map (λ cell. cell.inputs) cells) x ≡ true → net_name new (f x) ≡ net_name old x) → ((x : ℕ) → is_in (map (λ cell. cell.output) cells) x ≡ true → net_name new (f x) ≡ net_name old x)
       → map (named_cell new) (map (renumbered_cell f) cells) ≡ map (named_cell old) cells
   cells_kept [] inputs outputs = refl
   cells_kept (cell ∷ cells) inputs outputs =
@@ -50,7 +50,7 @@ module _ (old new : List (List ℕ)) (f : ℕ → ℕ) where
       ap (λ y. shown y ∷ map {A = ℕ × Bool} {B = List ℕ × Bool} (λ o. (net_name new o.0, o.1)) (map {A = ℕ × Bool} {B = ℕ × Bool} (λ o. (f o.0, o.1)) outputs)) (kept output.0 (first output.0 (map {A = ℕ × Bool} (λ o. o.0) outputs)))
       ∙ ap (λ ys. shown (net_name old output.0) ∷ ys) (shown_kept outputs (λ x among. kept x (later output.0 x (map {A = ℕ × Bool} (λ o. o.0) outputs) among)))
 
-  pub registers_kept : (registers : List RegisterCell) → ((x : ℕ) → is_in (flat_map (λ r. r.inputs) registers) x ≡ true → net_name new (f x) ≡ net_name old x) → ((x : ℕ) → is_in (flat_map shown_nets registers) x ≡ true → net_name new (f x) ≡ net_name old x)
+  pub registers_kept : (registers : List (RegisterCell ℕ ℕ)) → ((x : ℕ) → is_in (flat_map (λ r. r.inputs) registers) x ≡ true → net_name new (f x) ≡ net_name old x) → ((x : ℕ) → is_in (flat_map shown_nets registers) x ≡ true → net_name new (f x) ≡ net_name old x)
       → ((x : ℕ) → is_in (map (λ r. r.clock) registers) x ≡ true → net_name new (f x) ≡ net_name old x) → map (named_register new) (map (renumbered_register f) registers) ≡ map (named_register old) registers
   registers_kept [] inputs outputs clocks = refl
   registers_kept (r ∷ rs) inputs outputs clocks =
@@ -72,14 +72,14 @@ module _ (d : Circuit) (draft : IsDraft d) (no_gaters : d.gaters ≡ []) (fine :
 
   cell_inputs_kept : (x : ℕ) → is_in (flat_map (λ cell. cell.inputs) d.cells) x ≡ true → net_name names (place_of d x) ≡ net_name d.names x
   cell_inputs_kept x among =
-      name_kept x (front d draft no_gaters fine x (is_in_left (flat_map (λ cell. cell.inputs) d.cells ++ map (λ gater. gater.enable) d.gaters) (flat_map (λ r. r.inputs) d.registers) x
-      (is_in_left (flat_map (λ cell. cell.inputs) d.cells) (map (λ gater. gater.enable) d.gaters) x among)))
+      name_kept x (front d draft no_gaters fine x (is_in_left (flat_map (λ cell. cell.inputs) d.cells ++ flat_map asked_nets d.gaters) (flat_map (λ r. r.inputs) d.registers) x
+      (is_in_left (flat_map (λ cell. cell.inputs) d.cells) (flat_map asked_nets d.gaters) x among)))
 
   data_kept : (x : ℕ) → is_in (flat_map (λ r. r.inputs) d.registers) x ≡ true → net_name names (place_of d x) ≡ net_name d.names x
-  data_kept x among = name_kept x (front d draft no_gaters fine x (is_in_right (flat_map (λ cell. cell.inputs) d.cells ++ map (λ gater. gater.enable) d.gaters) (flat_map (λ r. r.inputs) d.registers) x among))
+  data_kept x among = name_kept x (front d draft no_gaters fine x (is_in_right (flat_map (λ cell. cell.inputs) d.cells ++ flat_map asked_nets d.gaters) (flat_map (λ r. r.inputs) d.registers) x among))
 
   outputs_kept : (x : ℕ) → is_in d.outputs x ≡ true → net_name names (place_of d x) ≡ net_name d.names x
-  outputs_kept x among = name_kept x (used_is_driven d draft no_gaters fine x (is_in_right (flat_map (λ cell. cell.inputs) d.cells ++ map (λ gater. gater.enable) d.gaters ++ flat_map (λ r. r.inputs) d.registers) d.outputs x among))
+  outputs_kept x among = name_kept x (used_is_driven d draft no_gaters fine x (is_in_right (flat_map (λ cell. cell.inputs) d.cells ++ flat_map asked_nets d.gaters ++ flat_map (λ r. r.inputs) d.registers) d.outputs x among))
 
   clock_is : (net : ℕ) → option_map (place_of d) (slice_get (clock_pins d) 0) ≡ Some net → (is_in (map (place_of d) d.inputs) net ≡ true) × (is_in (clock_pins (netlist_of d)) net ≡ true)
   clock_is net is =

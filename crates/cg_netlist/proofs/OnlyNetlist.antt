@@ -54,7 +54,7 @@ module _ (d c : Circuit) (draft : IsDraft d) (no_gaters : d.gaters ≡ []) (of :
     rising = λ j k driver cell j_at k_at among. of.formed.ranked.rising j k (renumbered_cell numbered driver) (renumbered_cell numbered cell) (at j driver j_at) (at k cell k_at) (in_mapped numbered cell.inputs driver.output among);
   }
     where
-      at : (k : ℕ) (cell : LogicCell) → slice_get d.cells k ≡ Some cell → slice_get c.cells k ≡ Some (renumbered_cell numbered cell)
+      at : (k : ℕ) (cell : LogicCell ℕ) → slice_get d.cells k ≡ Some cell → slice_get c.cells k ≡ Some (renumbered_cell numbered cell)
       at k cell k_at = ap (λ cs. slice_get cs k) (cells_are_renamed d c draft no_gaters of) ∙ (slice_get-map (renumbered_cell numbered) d.cells k ∙ ap (option_map (renumbered_cell numbered)) k_at)
 
   -- a net at a clock pin is the clock

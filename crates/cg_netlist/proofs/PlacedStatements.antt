@@ -1,15 +1,15 @@
 -- The statements of logic cells, of gating cells and of registers: their names, and what they are read as.
-use Rattle.std.specs.Prelude.{◌≡◌, ◌≢◌, ℕ, ◌+◌, ◌<◌, ◌≤◌, Bool, true, false, cond, IsTrue, nat_eq, List, [], ◌∷◌, ◌++◌, map, length, codes, None, Some, slice_index, slice_index_or}
+use Rattle.std.specs.Prelude.{◌≡◌, ◌≢◌, ℕ, ◌+◌, ◌<◌, ◌≤◌, Bool, true, false, cond, IsTrue, nat_eq, List, [], ◌∷◌, ◌++◌, map, length, codes, Option, None, Some, slice_index, slice_index_or}
 use Rattle.std.proofs.Common.{refl, sym, ap, ◌∙◌, subst, arith}
 use Rattle.std.specs.List.{All, AllByRecursion}
-use Rattle.std.specs.Option.{option_map_or, option_to_list}
+use Rattle.std.specs.Option.{option_map, option_map_or, option_to_list}
 use Rattle.std.specs.Str.{bytes_eq}
 use Rattle.std.proofs.lemmas.List.Elements.{All-get_or}
 use Rattle.std.proofs.lemmas.Option.{unwrap_or-slice_get}
 use Rattle.std.proofs.lemmas.Slice.Eq.{bytes_eq-Decides}
 use Rattle.cg_cell.specs.Cell.{CellData}
 use Rattle.cg_cell.specs.Name.{is_name}
-use Rattle.cg_cell.specs.Pins.{PinData, is_clock, is_data, is_enable, is_output}
+use Rattle.cg_cell.specs.Pins.{PinData, is_clock, is_data, is_enable, is_output, is_test}
 use Rattle.cg_cell.specs.declared.cell.CellKind.{CellKind}
 use Rattle.cg_cell.specs.declared.cell.CellKind.TheVariants.{Logic, Flop as FlopKind, Gater, Unusable}
 use Rattle.cg_netlist.specs.declared.parts.LogicFunction.{LogicFunction}
@@ -69,21 +69,33 @@ logic_pins_named (pin ∷ pins) (input ∷ inputs) output have inputs_are output
     ((have.0, output_is), logic_pins_named pins (input ∷ inputs) output have.1 inputs_are output_is)
     ((have.0, inputs_are.0), logic_pins_named pins inputs output have.1 inputs_are.1 output_is)
 
-gater_pin_named : (clock enable output : Word) (pin : PinData) → IsTrue (is_name pin.name) → IsTrue (is_name clock) → IsTrue (is_name enable) → IsTrue (is_name output) → AreNamedPins (gater_pin clock enable output pin)
-gater_pin_named clock enable output pin has clock_is enable_is output_is =
-    let last : List (Word × Word) = cond (is_output pin) ((pin.name, output) ∷ []) [] in
+test_pin_named : (test : Option Word) (pin : PinData) → IsTrue (is_name pin.name) → AreNames (option_to_list test) → AreNamedPins (map (λ net. (pin.name, net)) (option_to_list test))
+test_pin_named None pin has test_is = tt
+test_pin_named (Some net) pin has test_is = ((has, test_is.0), tt)
+
+gater_pin_named : (clock enable : Word) (test : Option Word) (output : Word) (pin : PinData) → IsTrue (is_name pin.name) → IsTrue (is_name clock) → IsTrue (is_name enable) → AreNames (option_to_list test) → IsTrue (is_name output) → AreNamedPins (gater_pin clock enable test output pin)
+gater_pin_named clock enable test output pin has clock_is enable_is test_is output_is =
+    let tested : List (Word × Word) = map (λ net. (pin.name, net)) (option_to_list test) in
+    let at_test : List (Word × Word) = cond (is_test pin) tested [] in
+    let last : List (Word × Word) = cond (is_output pin) ((pin.name, output) ∷ []) at_test in
     let later : List (Word × Word) = cond (is_enable pin) ((pin.name, enable) ∷ []) last in
     either (is_clock pin) ((pin.name, clock) ∷ []) later ((has, clock_is), tt)
-    (either (is_enable pin) ((pin.name, enable) ∷ []) last ((has, enable_is), tt) (either (is_output pin) ((pin.name, output) ∷ []) [] ((has, output_is), tt) tt))
+    (either (is_enable pin) ((pin.name, enable) ∷ []) last ((has, enable_is), tt) (either (is_output pin) ((pin.name, output) ∷ []) at_test ((has, output_is), tt)
+    (either (is_test pin) tested [] (test_pin_named test pin has test_is) tt)))
 
-pub gater_pins_named : (clock enable output : Word) (pins : List PinData) → HaveNames pins → IsTrue (is_name clock) → IsTrue (is_name enable) → IsTrue (is_name output) → AreNamedPins (gater_pins clock enable output pins)
-gater_pins_named clock enable output [] have clock_is enable_is output_is = tt
-gater_pins_named clock enable output (pin ∷ pins) have clock_is enable_is output_is =
-    each_together IsNamedPin (gater_pin clock enable output pin) (gater_pins clock enable output pins)
-    (gater_pin_named clock enable output pin have.0 clock_is enable_is output_is)
-    (gater_pins_named clock enable output pins have.1 clock_is enable_is output_is)
+pub gater_pins_named : (clock enable : Word) (test : Option Word) (output : Word) (pins : List PinData) → HaveNames pins → IsTrue (is_name clock) → IsTrue (is_name enable) → AreNames (option_to_list test) → IsTrue (is_name output) → AreNamedPins (gater_pins clock enable test output pins)
+gater_pins_named clock enable test output [] have clock_is enable_is test_is output_is = tt
+gater_pins_named clock enable test output (pin ∷ pins) have clock_is enable_is test_is output_is =
+    each_together IsNamedPin (gater_pin clock enable test output pin) (gater_pins clock enable test output pins)
+    (gater_pin_named clock enable test output pin have.0 clock_is enable_is test_is output_is)
+    (gater_pins_named clock enable test output pins have.1 clock_is enable_is test_is output_is)
 
-module _ (names : List Word) (named : All (λ name. IsTrue (is_name name)) names) (r : RegisterCell) (clock_in : r.clock < length names) where
+-- the name of a net that may be there
+pub option_named : (names : List Word) (net : Option ℕ) → All (λ name. IsTrue (is_name name)) names → AreWithin (length names) (option_to_list net) → AreNames (option_to_list (option_map (net_name names) net))
+option_named names None named within = tt
+option_named names (Some net) named within = (net_named names net named within.0, tt)
+
+module _ (names : List Word) (named : All (λ name. IsTrue (is_name name)) names) (r : RegisterCell ℕ ℕ) (clock_in : r.clock < length names) where
   shown_pin : (outputs : List (ℕ × Bool)) (places : List ℕ) (place : ℕ) (pin : PinData) → IsTrue (is_name pin.name) → AreWithin (length names) (map (λ output. output.0) outputs)
       → AreNamedPins (map (λ net. (pin.name, net_name names net)) (option_to_list (output_at outputs places place)))
   shown_pin [] places place pin has within = tt
@@ -171,7 +183,7 @@ first_shown : (n : ℕ) (outputs : List (ℕ × Bool)) → map (λ (output : ℕ
 first_shown n [] one within = absurd (cc)
 first_shown n (output ∷ outputs) one within = within.0
 
-pub kind_placed : (library : List CellData) (names : List Word) (r : RegisterCell) (kind : RegisterKind) → All (λ name. IsTrue (is_name name)) names → AreWithin (length names) r.inputs → AreWithin (length names) (shown_nets r) → r.clock < length names
+pub kind_placed : (library : List CellData) (names : List Word) (r : RegisterCell ℕ ℕ) (kind : RegisterKind) → All (λ name. IsTrue (is_name name)) names → AreWithin (length names) r.inputs → AreWithin (length names) (shown_nets r) → r.clock < length names
     → FitsKind kind r → r.init ≤ 3 → ArePlaced library (kind_cells kind) → AllByRecursion IsNamed (kind_cells kind) → IsPlacedAs library false false true (kind_statement names r kind)
 kind_placed library names r Plain named inputs shown clock fits init placed cells = record {
   names = (
@@ -192,7 +204,7 @@ kind_placed library names r (Flop cell) named inputs shown clock fits init place
     gate_placed library cell (flop_pins names r 0 r.inputs cell.pins) FlopKind placed.0 cells.0.name (flop_pins_named names named r clock 0 r.inputs cell.pins cells.0.pins inputs shown) fits.1 (λ same. cc)
 
 -- a register that is read with the clock's name is the register that was written
-pub kind_with_clock : (names : List Word) (r : RegisterCell) (kind : RegisterKind) (clock : Word) → (kind ≡ Plain → net_name names r.clock ≡ codes "NIL" → clock ≡ net_name names r.clock)
+pub kind_with_clock : (names : List Word) (r : RegisterCell ℕ ℕ) (kind : RegisterKind) (clock : Word) → (kind ≡ Plain → net_name names r.clock ≡ codes "NIL" → clock ≡ net_name names r.clock)
     → with_clock clock (as_read (kind_statement names r kind)) ≡ kind_statement names r kind
 kind_with_clock names r (Flop cell) clock own = refl
 kind_with_clock names r Plain clock own = go (bytes_eq (net_name names r.clock) (codes "NIL")) refl

@@ -85,7 +85,7 @@ drives drivers (x ∷ nets) zero net k is driven =
     subst (λ o. is_in (cons_option o (drivers_at drivers nets)) k ≡ true) (sym e) (in_head k (drivers_at drivers nets))
 drives drivers (x ∷ nets) (suc i) net k is driven = in_cons (entry drivers x) (drivers_at drivers nets) k (drives drivers nets i net k is driven)
 
-pub looks_as : (drivers ranks : List (Option ℕ)) (cells : List LogicCell) (inputs : List ℕ) (old new : Search) (k : ℕ) (p : Progress) (above : Option ℕ)
+pub looks_as : (drivers ranks : List (Option ℕ)) (cells : List (LogicCell ℕ)) (inputs : List ℕ) (old new : Search) (k : ℕ) (p : Progress) (above : Option ℕ)
     → ranks ≡ old.ranks → inputs ≡ inputs_of cells k → new ≡ record old { progress = slice_set old.progress k p } → HasLooked drivers ranks inputs p
     → MatchOption above (p.place ≡ length inputs) (λ j. (is_in (drivers_at drivers inputs) j ≡ true) × (entry ranks j ≡ None)) → Looks drivers cells old new k above
 looks_as drivers ranks cells inputs old new k p above same_ranks same_inputs set looked stops =

@@ -46,13 +46,13 @@ module _ (old new : List (List ℕ)) (different : AllPairs (λ name other. name 
       let rest : net_names new ys ≡ net_names old xs = cc in
       ap (λ z. z ∷ ys) (net_renamed y x (within y (member_at (y ∷ ys) 0 y refl)) here) ∙ ap (λ zs. renamed old new x ∷ zs) (nets_renamed ys xs (λ z among. within z (is_in_right (y ∷ []) ys z among)) rest)
 
-  cell_renamed : (k cell : LogicCell) → ((y : ℕ) → is_in k.inputs y ≡ true → y < length new) → k.output < length new → named_cell new k ≡ named_cell old cell → k ≡ renumbered_cell (renamed old new) cell
+  cell_renamed : (k cell : LogicCell ℕ) → ((y : ℕ) → is_in k.inputs y ≡ true → y < length new) → k.output < length new → named_cell new k ≡ named_cell old cell → k ≡ renumbered_cell (renamed old new) cell
   cell_renamed k cell inputs output is =
       ap (λ xs. record { inputs = xs; output = k.output; function = k.function }) (nets_renamed k.inputs cell.inputs inputs (ap (λ c. c.inputs) is))
       ∙ (ap (λ y. record { inputs = map (renamed old new) cell.inputs; output = y; function = k.function }) (net_renamed k.output cell.output output (ap (λ c. c.output) is))
       ∙ ap (λ f. record { inputs = map (renamed old new) cell.inputs; output = renamed old new cell.output; function = f }) (ap (λ c. c.function) is))
 
-  pub cells_renamed : (ks cells : List LogicCell) → ((y : ℕ) → is_in (flat_map (λ k. k.inputs) ks) y ≡ true → y < length new) → ((y : ℕ) → is_in (map (λ k. k.output) ks) y ≡ true → y < length new) → map (named_cell new) ks ≡ map (named_cell old) cells
+  pub cells_renamed : (ks cells : List (LogicCell ℕ)) → ((y : ℕ) → is_in (flat_map (λ k. k.inputs) ks) y ≡ true → y < length new) → ((y : ℕ) → is_in (map (λ k. k.output) ks) y ≡ true → y < length new) → map (named_cell new) ks ≡ map (named_cell old) cells
       → ks ≡ map (renumbered_cell (renamed old new)) cells
   cells_renamed [] [] inputs outputs are = refl
   cells_renamed [] (cell ∷ cells) inputs outputs are = absurd (cc)
@@ -79,7 +79,7 @@ module _ (old new : List (List ℕ)) (different : AllPairs (λ name other. name 
       let later : os ≡ map {A = ℕ × Bool} {B = ℕ × Bool} (λ p. (renamed old new p.0, p.1)) outputs = shown_renamed os outputs (λ y among. within y (is_in_right (o.0 ∷ []) (map {A = ℕ × Bool} (λ p. p.0) os) y among)) rest in
       ap (λ x. pair x o.1 ∷ os) net ∙ (ap (λ b. pair (renamed old new output.0) b ∷ os) (ap (λ p. p.1) here) ∙ ap (λ ps. pair (renamed old new output.0) output.1 ∷ ps) later)
 
-  register_renamed : (s r : RegisterCell) → ((y : ℕ) → is_in s.inputs y ≡ true → y < length new) → ((y : ℕ) → is_in (shown_nets s) y ≡ true → y < length new) → s.clock < length new → named_register new s ≡ named_register old r → s ≡ renumbered_register (renamed old new) r
+  register_renamed : (s r : RegisterCell ℕ ℕ) → ((y : ℕ) → is_in s.inputs y ≡ true → y < length new) → ((y : ℕ) → is_in (shown_nets s) y ≡ true → y < length new) → s.clock < length new → named_register new s ≡ named_register old r → s ≡ renumbered_register (renamed old new) r
   register_renamed s r inputs outputs clock is =
       let f : ℕ → ℕ = renamed old new in
       let shown : List (ℕ × Bool) = map {A = ℕ × Bool} {B = ℕ × Bool} (λ output. (f output.0, output.1)) r.outputs in
@@ -90,7 +90,7 @@ module _ (old new : List (List ℕ)) (different : AllPairs (λ name other. name 
       ∙ (ap (λ k. record { inputs = map f r.inputs; outputs = shown; pins = r.pins; clock = f r.clock; kind = k; init = s.init }) (ap (λ x. x.kind) is)
       ∙ ap (λ i. record { inputs = map f r.inputs; outputs = shown; pins = r.pins; clock = f r.clock; kind = r.kind; init = i }) (ap (λ x. x.init) is)))))
 
-  pub registers_renamed : (ss rs : List RegisterCell) → ((y : ℕ) → is_in (flat_map (λ s. s.inputs) ss) y ≡ true → y < length new) → ((y : ℕ) → is_in (flat_map shown_nets ss) y ≡ true → y < length new) → ((y : ℕ) → is_in (map (λ s. s.clock) ss) y ≡ true → y < length new)
+  pub registers_renamed : (ss rs : List (RegisterCell ℕ ℕ)) → ((y : ℕ) → is_in (flat_map (λ s. s.inputs) ss) y ≡ true → y < length new) → ((y : ℕ) → is_in (flat_map shown_nets ss) y ≡ true → y < length new) → ((y : ℕ) → is_in (map (λ s. s.clock) ss) y ≡ true → y < length new)
       → map (named_register new) ss ≡ map (named_register old) rs → ss ≡ map (renumbered_register (renamed old new)) rs
   registers_renamed [] [] inputs outputs clocks are = refl
   registers_renamed [] (r ∷ rs) inputs outputs clocks are = absurd (cc)

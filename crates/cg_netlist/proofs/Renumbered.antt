@@ -3,13 +3,13 @@ use Rattle.std.proofs.Common.{ℕ, ◌≡◌, Bool, true, List, [], ◌∷◌, �
 use Rattle.std.specs.List.{slice_get, All, flat_map}
 use Rattle.std.specs.Option.{option_map}
 use Rattle.std.proofs.lemmas.Bool.{or_left, or_right, eq-eqb}
-use Rattle.cg_netlist.specs.Circuit.{Circuit, LogicCell, RegisterCell, is_in, cell_nets, register_nets, shown_nets}
+use Rattle.cg_netlist.specs.Circuit.{Circuit, LogicCell, RegisterCell, is_in, cell_nets, register_nets, shown_nets, asked_nets}
 use Rattle.cg_netlist.specs.Draft.{CellWithin, IsDraft}
 use Rattle.cg_netlist.specs.Finish.{clock_pins, driving_nets, fault_of, place_of, renumbered, renumbered_cell, renumbered_register}
 use Rattle.cg_netlist.proofs.Faultless.{proper, used_is_driven}
 use Rattle.cg_netlist.proofs.Members.{is_in_left, is_in_right, member_at}
 
-pub cells_as : (n m : ℕ) (xs ys : List LogicCell) → m ≡ n → ys ≡ xs → All (CellWithin n) xs → All (CellWithin m) ys
+pub cells_as : (n m : ℕ) (xs ys : List (LogicCell ℕ)) → m ≡ n → ys ≡ xs → All (CellWithin n) xs → All (CellWithin m) ys
 cells_as n m xs ys numbers lists all = subst (λ k. All (CellWithin k) ys) (sym numbers) (subst (All (CellWithin n)) (sym lists) all)
 
 here : (x : ℕ) (xs : List ℕ) → is_in (x ∷ xs) x ≡ true
@@ -26,7 +26,7 @@ clock_agrees : (f p : ℕ → ℕ) (o : Option ℕ) → ((x : ℕ) → o ≡ Som
 clock_agrees f p None agree = refl
 clock_agrees f p (Some x) agree = ap (λ y. Some y) (agree x refl)
 
-cells_agree : (f p : ℕ → ℕ) (cells : List LogicCell) → ((x : ℕ) → is_in (flat_map (λ cell. cell.inputs) cells) x ≡ true → f x ≡ p x) → ((x : ℕ) → is_in (map (λ cell. cell.output) cells) x ≡ true → f x ≡ p x) → map (renumbered_cell f) cells ≡ map (renumbered_cell p) cells
+cells_agree : (f p : ℕ → ℕ) (cells : List (LogicCell ℕ)) → ((x : ℕ) → is_in (flat_map (λ cell. cell.inputs) cells) x ≡ true → f x ≡ p x) → ((x : ℕ) → is_in (map (λ cell. cell.output) cells) x ≡ true → f x ≡ p x) → map (renumbered_cell f) cells ≡ map (renumbered_cell p) cells
 cells_agree f p [] inputs outputs = refl
 cells_agree f p (cell ∷ cells) inputs outputs =
     ap (λ xs. record cell { inputs = xs; output = f cell.output } ∷ map (renumbered_cell f) cells) (nets_agree f p cell.inputs (λ x in'. inputs x (is_in_left cell.inputs (flat_map (λ c. c.inputs) cells) x in')))
@@ -40,7 +40,7 @@ shown_agree f p (output ∷ outputs) agree =
     ap (λ y. shown y ∷ map {A = ℕ × Bool} {B = ℕ × Bool} (λ o. (f o.0, o.1)) outputs) (agree output.0 (here output.0 (map {A = ℕ × Bool} (λ o. o.0) outputs)))
     ∙ ap (λ ys. shown (p output.0) ∷ ys) (shown_agree f p outputs (λ x in'. agree x (later output.0 x (map {A = ℕ × Bool} (λ o. o.0) outputs) in')))
 
-registers_agree : (f p : ℕ → ℕ) (registers : List RegisterCell) → ((x : ℕ) → is_in (flat_map (λ r. r.inputs) registers) x ≡ true → f x ≡ p x) → ((x : ℕ) → is_in (flat_map shown_nets registers) x ≡ true → f x ≡ p x) → ((x : ℕ) → is_in (map (λ r. r.clock) registers) x ≡ true → f x ≡ p x)
+registers_agree : (f p : ℕ → ℕ) (registers : List (RegisterCell ℕ ℕ)) → ((x : ℕ) → is_in (flat_map (λ r. r.inputs) registers) x ≡ true → f x ≡ p x) → ((x : ℕ) → is_in (flat_map shown_nets registers) x ≡ true → f x ≡ p x) → ((x : ℕ) → is_in (map (λ r. r.clock) registers) x ≡ true → f x ≡ p x)
     → map (renumbered_register f) registers ≡ map (renumbered_register p) registers
 registers_agree f p [] inputs outputs clocks = refl
 registers_agree f p (r ∷ rs) inputs outputs clocks =
@@ -56,20 +56,20 @@ module _ (d : Circuit) (draft : IsDraft d) (no_gaters : d.gaters ≡ []) (fine :
   pub input_driven : (x : ℕ) → is_in d.inputs x ≡ true → is_in (driving_nets d) x ≡ true
   input_driven x i = is_in_left (d.inputs ++ cell_nets d) (register_nets d) x (is_in_left d.inputs (cell_nets d) x i)
 
-  pub front : (x : ℕ) → is_in (flat_map (λ cell. cell.inputs) d.cells ++ map (λ gater. gater.enable) d.gaters ++ flat_map (λ r. r.inputs) d.registers) x ≡ true → is_in (driving_nets d) x ≡ true
-  front x in' = used_is_driven d draft no_gaters fine x (is_in_left (flat_map (λ cell. cell.inputs) d.cells ++ map (λ gater. gater.enable) d.gaters ++ flat_map (λ r. r.inputs) d.registers) d.outputs x in')
+  pub front : (x : ℕ) → is_in (flat_map (λ cell. cell.inputs) d.cells ++ flat_map asked_nets d.gaters ++ flat_map (λ r. r.inputs) d.registers) x ≡ true → is_in (driving_nets d) x ≡ true
+  front x in' = used_is_driven d draft no_gaters fine x (is_in_left (flat_map (λ cell. cell.inputs) d.cells ++ flat_map asked_nets d.gaters ++ flat_map (λ r. r.inputs) d.registers) d.outputs x in')
 
   pub in_order_as : (f : ℕ → ℕ) (names given : List (List ℕ)) → given ≡ names → ((x : ℕ) → is_in (driving_nets d) x ≡ true → f x ≡ place_of d x) → renumbered f given d ≡ renumbered (place_of d) names d
   in_order_as f names given names_are agree =
       let p = place_of d in
       let i = nets_agree f p d.inputs (λ x in'. agree x (input_driven x in')) in
       let k = clock_agrees f p (slice_get (clock_pins d) 0) (λ x at. agree x (input_driven x (proper d draft no_gaters fine x (member_at (clock_pins d) 0 x at)).input)) in
-      let o = nets_agree f p d.outputs (λ x in'. agree x (used_is_driven d draft no_gaters fine x (is_in_right (flat_map (λ cell. cell.inputs) d.cells ++ map (λ gater. gater.enable) d.gaters ++ flat_map (λ r. r.inputs) d.registers) d.outputs x in'))) in
+      let o = nets_agree f p d.outputs (λ x in'. agree x (used_is_driven d draft no_gaters fine x (is_in_right (flat_map (λ cell. cell.inputs) d.cells ++ flat_map asked_nets d.gaters ++ flat_map (λ r. r.inputs) d.registers) d.outputs x in'))) in
       let cells = cells_agree f p d.cells
-      (λ x in'. agree x (front x (is_in_left (flat_map (λ cell. cell.inputs) d.cells ++ map (λ gater. gater.enable) d.gaters) (flat_map (λ r. r.inputs) d.registers) x (is_in_left (flat_map (λ cell. cell.inputs) d.cells) (map (λ gater. gater.enable) d.gaters) x in'))))
+      (λ x in'. agree x (front x (is_in_left (flat_map (λ cell. cell.inputs) d.cells ++ flat_map asked_nets d.gaters) (flat_map (λ r. r.inputs) d.registers) x (is_in_left (flat_map (λ cell. cell.inputs) d.cells) (flat_map asked_nets d.gaters) x in'))))
       (λ x in'. agree x (is_in_left (d.inputs ++ cell_nets d) (register_nets d) x (is_in_right d.inputs (cell_nets d) x in'))) in
       let registers = registers_agree f p d.registers
-      (λ x in'. agree x (front x (is_in_right (flat_map (λ cell. cell.inputs) d.cells ++ map (λ gater. gater.enable) d.gaters) (flat_map (λ r. r.inputs) d.registers) x in')))
+      (λ x in'. agree x (front x (is_in_right (flat_map (λ cell. cell.inputs) d.cells ++ flat_map asked_nets d.gaters) (flat_map (λ r. r.inputs) d.registers) x in')))
       (λ x in'. agree x (is_in_right (d.inputs ++ cell_nets d) (register_nets d) x in'))
       (λ x in'. agree x (input_driven x (proper d draft no_gaters fine x in').input)) in
       ap (λ ns. renumbered f ns d) names_are

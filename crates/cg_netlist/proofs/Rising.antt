@@ -64,17 +64,17 @@ in_made f (x ∷ nets) k among = go (f x) refl among (in_made f nets k)
     ]
 
 -- the first cell that passes a test
-first_passes : (test : LogicCell → Bool) (a : ℕ) (cells : List LogicCell) (k : ℕ) → position_from test a cells ≡ Some k → (i : ℕ) × (cell : LogicCell) × (k ≡ a + i) × (slice_get cells i ≡ Some cell) × (test cell ≡ true)
+first_passes : (test : LogicCell ℕ → Bool) (a : ℕ) (cells : List (LogicCell ℕ)) (k : ℕ) → position_from test a cells ≡ Some k → (i : ℕ) × (cell : LogicCell ℕ) × (k ≡ a + i) × (slice_get cells i ≡ Some cell) × (test cell ≡ true)
 first_passes test a [] k is = absurd (cc)
 first_passes test a (cell ∷ cells) k is = go (test cell) refl is (first_passes test (a + 1) cells k)
   where
     go : (b : Bool) → test cell ≡ b → cond b (Some a) (position_from test (a + 1) cells) ≡ Some k
-        → (position_from test (a + 1) cells ≡ Some k → (i : ℕ) × (c : LogicCell) × (k ≡ a + 1 + i) × (slice_get cells i ≡ Some c) × (test c ≡ true))
-        → (i : ℕ) × (c : LogicCell) × (k ≡ a + i) × (slice_get (cell ∷ cells) i ≡ Some c) × (test c ≡ true)
+        → (position_from test (a + 1) cells ≡ Some k → (i : ℕ) × (c : LogicCell ℕ) × (k ≡ a + 1 + i) × (slice_get cells i ≡ Some c) × (test c ≡ true))
+        → (i : ℕ) × (c : LogicCell ℕ) × (k ≡ a + i) × (slice_get (cell ∷ cells) i ≡ Some c) × (test c ≡ true)
     go true passes here later = let same : a ≡ k = same_Some a k here in (0, cell, omega (arith, same), refl, passes)
     go false fails rest later = let more = later rest in (suc more.0, more.1, omega (arith, more.2), more.3, more.4)
 
-module _ (cells : List LogicCell) (ranks : List ℕ) (ranked : AreRanks cells ranks) where
+module _ (cells : List (LogicCell ℕ)) (ranks : List ℕ) (ranked : AreRanks cells ranks) where
   -- how many ranks are below that of a cell
   abbrev height : ℕ → ℕ
   height k = count_by (λ r. nat_lt r (slice_index ranks k)) ranks
@@ -100,7 +100,7 @@ module _ (cells : List LogicCell) (ranks : List ℕ) (ranked : AreRanks cells ra
   falls : (j k : ℕ) → is_in (driving_cells cells k) j ≡ true → height j < height k
   falls j k = go (slice_get cells k) refl
     where
-      go : (o : Option LogicCell) → slice_get cells k ≡ o → is_in (option_map_or (λ cell. filter_map (driving_cell cells) cell.inputs) o []) j ≡ true → height j < height k
+      go : (o : Option (LogicCell ℕ)) → slice_get cells k ≡ o → is_in (option_map_or (λ cell. filter_map (driving_cell cells) cell.inputs) o []) j ≡ true → height j < height k
       go None is among = absurd (both_ways false refl among)
       go (Some cell) is among =
           let net = in_made (driving_cell cells) cell.inputs j among in

@@ -79,7 +79,7 @@ none_among f (i ∷ js) j in' none = elim (or_cases (nat_eq j i) (is_in js j) in
   | inr later ↦ under_none (f i) (map f js) (none_among f js j later none)
 ]
 
-module _ (drivers : List (Option ℕ)) (cells : List LogicCell) where
+module _ (drivers : List (Option ℕ)) (cells : List (LogicCell ℕ)) where
   -- a settled cell stays settled as the search goes on
   pub settled_on : (old new : Search) (turn k : ℕ) → turn ≤ length old.found → Grows old new → IsSettled drivers cells old turn k → IsSettled drivers cells new turn k
   settled_on old new turn k within grows (inl ranked) = inl (some_kept (entry old.ranks k) (entry new.ranks k) (grows.ranks k) ranked)
@@ -193,7 +193,7 @@ module _ (drivers : List (Option ℕ)) (cells : List LogicCell) where
   above_is : (k : ℕ) → IsGraph drivers cells → ((net : ℕ) → net < length drivers → entry drivers net ≡ driving_cell cells net) → drivers_at drivers (inputs_of cells k) ≡ driving_cells cells k
   above_is k graph table = at (slice_get cells k) (λ cell e. graph.nets k cell e)
     where
-      at : (o : Option LogicCell) → ((cell : LogicCell) → o ≡ Some cell → All (λ net. net < length drivers) cell.inputs) → drivers_at drivers (option_map_or (λ cell. cell.inputs) o []) ≡ option_map_or (λ cell. filter_map (driving_cell cells) cell.inputs) o []
+      at : (o : Option (LogicCell ℕ)) → ((cell : LogicCell ℕ) → o ≡ Some cell → All (λ net. net < length drivers) cell.inputs) → drivers_at drivers (option_map_or (λ cell. cell.inputs) o []) ≡ option_map_or (λ cell. filter_map (driving_cell cells) cell.inputs) o []
       at None nets = refl
       at (Some cell) nets = agree cell.inputs table (nets cell refl)
 

@@ -4,7 +4,7 @@ use Rattle.std.proofs.Common.{◌≡◌, ℕ, zero, suc, ◌+◌, ◌<◌, Bool,
 use Rattle.std.specs.List.{All, flat_map, range_with_len}
 use Rattle.std.specs.Option.{option_map_or, option_to_list}
 use Rattle.std.proofs.lemmas.List.{length-map, length-append, map-append}
-use Rattle.cg_netlist.specs.Circuit.{Circuit, LogicCell, RegisterCell, is_in, data_inputs, cell_nets, gate_nets, register_nets, given_nets, drivers, used_nets, shown_nets}
+use Rattle.cg_netlist.specs.Circuit.{Circuit, LogicCell, RegisterCell, is_in, data_inputs, cell_nets, gate_nets, register_nets, given_nets, drivers, used_nets, shown_nets, asked_nets}
 use Rattle.cg_netlist.specs.WellFormed.{IsDriven, AreRanks}
 use Rattle.cg_netlist.specs.Moment.{Settles, CellsHold, values_at, function_value, register_bits, shown_bits}
 use Rattle.cg_netlist.proofs.Given.{Data, Clock, Gate, Shown, kind_of, data_given, clock_given, gate_given, register_given, given_driver, distinct_given, distinct_cells, given_no_cell, driver_within, given_within}
@@ -14,7 +14,7 @@ use Rattle.cg_netlist.proofs.Solve.{bit_beside, bits_beside, place_of, place_of-
 use Rattle.cg_netlist.proofs.Values.{at_map, under_map, same_places, split_lists, map_same, same_values, values_by, agree, by_place}
 
 -- a cell's inputs are among the nets that are used
-inputs_used : (cells : List LogicCell) (k x : ℕ) (cell : LogicCell) → slice_get cells k ≡ Some cell → is_in cell.inputs x ≡ true → is_in (flat_map (λ cell. cell.inputs) cells) x ≡ true
+inputs_used : (cells : List (LogicCell ℕ)) (k x : ℕ) (cell : LogicCell ℕ) → slice_get cells k ≡ Some cell → is_in cell.inputs x ≡ true → is_in (flat_map (λ cell. cell.inputs) cells) x ≡ true
 inputs_used [] k x cell at among = absurd (cc)
 inputs_used (first ∷ cells) zero x cell at among =
     let same : first ≡ cell = cc in
@@ -22,7 +22,7 @@ inputs_used (first ∷ cells) zero x cell at among =
 inputs_used (first ∷ cells) (suc k) x cell at among = is_in_right first.inputs (flat_map (λ cell. cell.inputs) cells) x (inputs_used cells k x cell at among)
 
 -- what the registers show is as long as the list of their nets
-length-register_bits : (registers : List RegisterCell) (state : List Bool) → length state ≡ length registers → length (register_bits registers state) ≡ length (flat_map shown_nets registers)
+length-register_bits : (registers : List (RegisterCell ℕ ℕ)) (state : List Bool) → length state ≡ length registers → length (register_bits registers state) ≡ length (flat_map shown_nets registers)
 length-register_bits [] state long = refl
 length-register_bits (r ∷ rs) [] long = absurd (omega arith)
 length-register_bits (r ∷ rs) (b ∷ bs) long =
@@ -48,33 +48,33 @@ four f as' bs cs ds ws xs ys zs a b c same =
     (first.0, first.1, second.1, third.1)
 
 module _ (c : Circuit) (driven : IsDriven c) (used : All (λ net. net < length c.names) (used_nets c)) (ranks : List ℕ) (ranked : AreRanks c.cells ranks) where
-  abbrev output_at : (k : ℕ) (cell : LogicCell) → slice_get c.cells k ≡ Some cell → slice_get (cell_nets c) k ≡ Some cell.output
+  abbrev output_at : (k : ℕ) (cell : LogicCell ℕ) → slice_get c.cells k ≡ Some cell → slice_get (cell_nets c) k ≡ Some cell.output
   output_at k cell at = at_map (λ cell. cell.output) c.cells k cell at
 
   -- the cell that drives a net
-  abbrev cell_of : (k x : ℕ) → slice_get (cell_nets c) k ≡ Some x → (cell : LogicCell) × (slice_get c.cells k ≡ Some cell) × (cell.output ≡ x)
+  abbrev cell_of : (k x : ℕ) → slice_get (cell_nets c) k ≡ Some x → (cell : LogicCell ℕ) × (slice_get c.cells k ≡ Some cell) × (cell.output ≡ x)
   cell_of k x at = under_map (λ cell. cell.output) c.cells k x at
 
-  input_within : (k x : ℕ) (cell : LogicCell) → slice_get c.cells k ≡ Some cell → is_in cell.inputs x ≡ true → x < length c.names
+  input_within : (k x : ℕ) (cell : LogicCell ℕ) → slice_get c.cells k ≡ Some cell → is_in cell.inputs x ≡ true → x < length c.names
   input_within k x cell at among =
       let inputs : List ℕ = flat_map (λ cell. cell.inputs) c.cells in
-      let enables : List ℕ = map (λ gater. gater.enable) c.gaters in
+      let enables : List ℕ = flat_map asked_nets c.gaters in
       let taken : List ℕ = flat_map (λ register. register.inputs) c.registers in
       All-member (λ net. net < length c.names) (used_nets c) x used (is_in_left (inputs ++ enables ++ taken) c.outputs x (is_in_left (inputs ++ enables) taken x (is_in_left inputs enables x (inputs_used c.cells k x cell at among))))
 
-  net_rank-output : (k : ℕ) (cell : LogicCell) → slice_get c.cells k ≡ Some cell → net_rank c ranks cell.output ≡ suc (slice_index ranks k)
+  net_rank-output : (k : ℕ) (cell : LogicCell ℕ) → slice_get c.cells k ≡ Some cell → net_rank c ranks cell.output ≡ suc (slice_index ranks k)
   unfolding net_rank
   net_rank-output k cell at = ap (rank_at ranks) (place_of-at (cell_nets c) k cell.output (distinct_cells c driven) (output_at k cell at))
 
   -- an input of a cell has a lower rank than its output
-  input_lower : (k x : ℕ) (cell : LogicCell) → slice_get c.cells k ≡ Some cell → is_in cell.inputs x ≡ true → net_rank c ranks x < net_rank c ranks cell.output
+  input_lower : (k x : ℕ) (cell : LogicCell ℕ) → slice_get c.cells k ≡ Some cell → is_in cell.inputs x ≡ true → net_rank c ranks x < net_rank c ranks cell.output
   unfolding net_rank
   input_lower k x cell at among = go (place_of (cell_nets c) x) refl
     where
       go : (o : Option ℕ) → place_of (cell_nets c) x ≡ o → net_rank c ranks x < net_rank c ranks cell.output
       go None is = let low : net_rank c ranks x ≡ 0 = ap (rank_at ranks) is in omega (arith, net_rank-output k cell at)
       go (Some j) is =
-          let driver : (d : LogicCell) × (slice_get c.cells j ≡ Some d) × (d.output ≡ x) = cell_of j x (place_of-Some (cell_nets c) j x is) in
+          let driver : (d : LogicCell ℕ) × (slice_get c.cells j ≡ Some d) × (d.output ≡ x) = cell_of j x (place_of-Some (cell_nets c) j x is) in
           let low : net_rank c ranks x ≡ suc (slice_index ranks j) = ap (rank_at ranks) is in
           omega (arith, net_rank-output k cell at, ranked.rising j k driver.0 cell driver.1 at (subst (λ y. is_in cell.inputs y ≡ true) (sym driver.2) among))
 
@@ -100,7 +100,7 @@ module _ (c : Circuit) (driven : IsDriven c) (used : All (λ net. net < length c
       | inl given ↦ same_given x given
       | inr output ↦
           let place : (k : ℕ) × (slice_get (cell_nets c) k ≡ Some x) = place_of_member (cell_nets c) x output in
-          let cell : (d : LogicCell) × (slice_get c.cells place.0 ≡ Some d) × (d.output ≡ x) = cell_of place.0 x place.1 in
+          let cell : (d : LogicCell ℕ) × (slice_get c.cells place.0 ≡ Some d) × (d.output ≡ x) = cell_of place.0 x place.1 in
           let same : values_at vs cell.0.inputs ≡ values_at ws cell.0.inputs = same_values vs ws cell.0.inputs (λ y among.
           let lower : net_rank c ranks y < net_rank c ranks x = subst (λ z. net_rank c ranks y < net_rank c ranks z) cell.2 (input_lower place.0 y cell.0 cell.1 among) in
           same_below n y (omega arith) (input_within place.0 y cell.0 cell.1 among)) in
@@ -125,7 +125,7 @@ module _ (c : Circuit) (driven : IsDriven c) (used : All (λ net. net < length c
     step : (ℕ → Bool) → ℕ → Bool
     step f x = step_at (place_of (cell_nets c) x) f x
 
-    step_at-cell : (k : ℕ) (cell : LogicCell) (f : ℕ → Bool) (x : ℕ) → slice_get c.cells k ≡ Some cell → step_at (Some k) f x ≡ function_value cell.function (map f cell.inputs)
+    step_at-cell : (k : ℕ) (cell : LogicCell ℕ) (f : ℕ → Bool) (x : ℕ) → slice_get c.cells k ≡ Some cell → step_at (Some k) f x ≡ function_value cell.function (map f cell.inputs)
     unfolding step_at
     step_at-cell k cell f x at = ap (λ o. option_map_or (λ cell. function_value cell.function (map f cell.inputs)) o (given x)) at
 
@@ -136,7 +136,7 @@ module _ (c : Circuit) (driven : IsDriven c) (used : All (λ net. net < length c
         go : (o : Option ℕ) → place_of (cell_nets c) x ≡ o → step_at o f x ≡ step_at o g x
         go None is = refl
         go (Some k) is =
-            let cell : (d : LogicCell) × (slice_get c.cells k ≡ Some d) × (d.output ≡ x) = cell_of k x (place_of-Some (cell_nets c) k x is) in
+            let cell : (d : LogicCell ℕ) × (slice_get c.cells k ≡ Some d) × (d.output ≡ x) = cell_of k x (place_of-Some (cell_nets c) k x is) in
             step_at-cell k cell.0 f x cell.1
             ∙ (ap (function_value cell.0.function) (map_same f g cell.0.inputs (λ y among. lower y (subst (λ z. net_rank c ranks y < net_rank c ranks z) cell.2 (input_lower k y cell.0 cell.1 among))))
             ∙ sym (step_at-cell k cell.0 g x cell.1))

@@ -16,7 +16,7 @@ use Rattle.cg_netlist.proofs.TableLemmas.{slice_get-set_same, slice_get-set_othe
 take_whole : (xs : List ℕ) (n : ℕ) → n ≡ length xs → take n xs ≡ xs
 take_whole xs n all = take_all n xs (omega arith)
 
-module _ (drivers : List (Option ℕ)) (cells : List LogicCell) where
+module _ (drivers : List (Option ℕ)) (cells : List (LogicCell ℕ)) where
   -- looking on keeps the search sound
   looked_on : (s : Search) (k : ℕ) (p : Progress) → IsSound drivers cells s → HasLooked drivers s.ranks (inputs_of cells k) p → IsSound drivers cells (record s { progress = slice_set s.progress k p })
   looked_on s k p sound looked = record {

@@ -1,6 +1,6 @@
 -- Netlists as plain data. A net is its number, which is its place in the list of names; cells, gating cells and
 -- registers are their places in their lists.
-use Rattle.std.specs.Prelude.{ℕ, Bool, not, List, ◌++◌, map, Option, nat_eq}
+use Rattle.std.specs.Prelude.{ℕ, Bool, not, List, ◌∷◌, ◌++◌, map, Option, nat_eq}
 use Rattle.std.specs.List.{list_any, filter, flat_map}
 use Rattle.std.specs.Option.{option_to_list}
 use Rattle.cg_cell.specs.Cell.{CellData}
@@ -8,28 +8,29 @@ use Rattle.cg_netlist.specs.declared.parts.LogicFunction.{LogicFunction}
 use Rattle.cg_netlist.specs.declared.parts.RegisterKind.{RegisterKind}
 
 -- a logic cell: its output net is a function of its input nets at the same moment
-pub record LogicCell : Type 0 where
-  pub inputs : List ℕ
-  pub output : ℕ
+pub record LogicCell (N : Type 0) : Type 0 where
+  pub inputs : List N
+  pub output : N
   pub function : LogicFunction
 
--- a gating cell: a latch that follows the enable net while the clock net is low, and an output net that is
--- the clock net wherever the latch is 1. It is a placed cell of a library.
-pub record GatingCell : Type 0 where
-  pub clock : ℕ
-  pub enable : ℕ
-  pub output : ℕ
+-- a gating cell: a latch that follows the OR of the enable net and, where it has one, the test net while the clock net
+-- is low, and an output net that is the clock net wherever the latch is 1. It is a placed cell of a library.
+pub record GatingCell (N : Type 0) : Type 0 where
+  pub clock : N
+  pub enable : N
+  pub test : Option N
+  pub output : N
   pub cell : CellData
 
 -- a register: it takes a function of its input nets and its own bit where its clock net rises. Each output net
 -- shows its bit, or the inverse where the truth value beside it is true; `pins` has for each output the place of
 -- its pin among the pins of the library cell, and 0 for a plain register. `init` is 0 or 1, 2 for a bit that
 -- does not matter, or 3 for one that is not known.
-pub record RegisterCell : Type 0 where
-  pub inputs : List ℕ
-  pub outputs : List (ℕ × Bool)
+pub record RegisterCell (N K : Type 0) : Type 0 where
+  pub inputs : List N
+  pub outputs : List (N × Bool)
   pub pins : List ℕ
-  pub clock : ℕ
+  pub clock : K
   pub kind : RegisterKind
   pub init : ℕ
 
@@ -40,9 +41,9 @@ pub record Circuit : Type 0 where
   pub inputs : List ℕ
   pub clock : Option ℕ
   pub outputs : List ℕ
-  pub cells : List LogicCell
-  pub gaters : List GatingCell
-  pub registers : List RegisterCell
+  pub cells : List (LogicCell ℕ)
+  pub gaters : List (GatingCell ℕ)
+  pub registers : List (RegisterCell ℕ ℕ)
 
 -- whether a net is among these
 abbrev pub is_in : List ℕ → ℕ → Bool
@@ -59,7 +60,7 @@ cell_nets c = map (λ cell. cell.output) c.cells
 abbrev pub gate_nets : Circuit → List ℕ
 gate_nets c = map (λ gater. gater.output) c.gaters
 
-abbrev pub shown_nets : RegisterCell → List ℕ
+abbrev pub shown_nets : {N K : Type 0} → RegisterCell N K → List N
 shown_nets register = map (λ output. output.0) register.outputs
 
 abbrev pub register_nets : Circuit → List ℕ
@@ -78,10 +79,14 @@ drivers c = given_nets c ++ cell_nets c
 abbrev pub clock_nets : Circuit → List ℕ
 clock_nets c = option_to_list c.clock ++ gate_nets c
 
--- the nets that are used for their bits, elsewhere than at a clock pin: at inputs of logic cells, at enables, at
--- inputs of registers, and as outputs of the netlist
+-- the nets whose bits the latch of a gating cell follows: the enable, and the test net where it has one
+abbrev pub asked_nets : {N : Type 0} → GatingCell N → List N
+asked_nets gater = gater.enable ∷ option_to_list gater.test
+
+-- the nets that are used for their bits, elsewhere than at a clock pin: at inputs of logic cells, at enables and test
+-- pins, at inputs of registers, and as outputs of the netlist
 abbrev pub used_nets : Circuit → List ℕ
-used_nets c = flat_map (λ cell. cell.inputs) c.cells ++ map (λ gater. gater.enable) c.gaters ++ flat_map (λ register. register.inputs) c.registers ++ c.outputs
+used_nets c = flat_map (λ cell. cell.inputs) c.cells ++ flat_map asked_nets c.gaters ++ flat_map (λ register. register.inputs) c.registers ++ c.outputs
 
 -- the nets in net order: the inputs, the clock where it is no input, and then the outputs of the logic cells, of
 -- the gating cells and of the registers, each kind in its own order

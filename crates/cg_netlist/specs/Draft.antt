@@ -45,7 +45,7 @@ with_output d net =
     record d { names = names; outputs = with_net d.outputs (number_of names net) }
 
 -- a logic cell with a cover, by the numbers of its nets
-abbrev pub cell_of : List (List ℕ) → List (List ℕ) → List ℕ → CoverData → LogicCell
+abbrev pub cell_of : List (List ℕ) → List (List ℕ) → List ℕ → CoverData → LogicCell ℕ
 cell_of names inputs output cover = record { inputs = map (number_of names) inputs; output = number_of names output; function = Cover cover }
 
 -- the nets that a register mentions: its inputs, its outputs where they are given, and then its clock
@@ -56,7 +56,7 @@ abbrev pub register_words : List (List ℕ) → List (Option (List ℕ)) → Opt
 register_words inputs outputs clock = inputs ++ given_names outputs ++ option_to_list clock
 
 -- a plain register, by the numbers of its nets
-abbrev pub register_of : List (List ℕ) → List (List ℕ) → List (Option (List ℕ)) → Option (List ℕ) → ℕ → RegisterCell
+abbrev pub register_of : List (List ℕ) → List (List ℕ) → List (Option (List ℕ)) → Option (List ℕ) → ℕ → RegisterCell ℕ ℕ
 register_of names inputs outputs clock init = record {
   inputs = map (number_of names) inputs;
   outputs = map (λ output. (number_of names output, false)) (given_names outputs);
@@ -88,20 +88,20 @@ abbrev pub limit_passed : Circuit → Option Limit
 limit_passed d = if nat_lt 1048576 (length d.names) then Some Nets else if nat_lt 65536 (length d.registers) then Some Registers else None
 
 -- the nets of a part are among the first n
-pub record CellWithin (n : ℕ) (cell : LogicCell) : Type 0 where
+pub record CellWithin (n : ℕ) (cell : LogicCell ℕ) : Type 0 where
   pub inputs : All (λ net. net < n) cell.inputs
   pub output : cell.output < n
 
-pub record RegisterWithin (n : ℕ) (register : RegisterCell) : Type 0 where
+pub record RegisterWithin (n : ℕ) (register : RegisterCell ℕ ℕ) : Type 0 where
   pub inputs : All (λ net. net < n) register.inputs
   pub outputs : All (λ net. net < n) (shown_nets register)
   pub clock : register.clock < n
 
 -- whether a part mentions a net, and whether the draft does
-abbrev pub cell_mentions : ℕ → LogicCell → Bool
+abbrev pub cell_mentions : ℕ → LogicCell ℕ → Bool
 cell_mentions net cell = is_in cell.inputs net || nat_eq net cell.output
 
-abbrev pub register_mentions : ℕ → RegisterCell → Bool
+abbrev pub register_mentions : ℕ → RegisterCell ℕ ℕ → Bool
 register_mentions net register = (is_in register.inputs net || is_in (shown_nets register) net) || nat_eq net register.clock
 
 abbrev pub mentions : Circuit → ℕ → Bool
@@ -139,7 +139,7 @@ abbrev pub IsMentionFault : List (List ℕ) → AddFault → Type 0
 IsMentionFault names fault = (fault ≡ NoMemory) ⊎ ((fault ≡ Passes Nets) × (1048576 < length names))
 
 -- why a register is not added
-abbrev pub IsRegisterFault : List (List ℕ) → List RegisterCell → AddFault → Type 0
+abbrev pub IsRegisterFault : List (List ℕ) → List (RegisterCell ℕ ℕ) → AddFault → Type 0
 IsRegisterFault names registers fault = IsMentionFault names fault ⊎ ((fault ≡ Passes Registers) × (length names ≤ 1048576) × (length registers ≡ 65536))
 
 -- what is true of every builder

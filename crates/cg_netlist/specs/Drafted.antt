@@ -23,10 +23,10 @@ pub record NamedRegister : Type 0 where
   pub kind : RegisterKind
   pub init : ℕ
 
-abbrev pub named_cell : List (List ℕ) → LogicCell → NamedCell
+abbrev pub named_cell : List (List ℕ) → LogicCell ℕ → NamedCell
 named_cell names cell = record { inputs = net_names names cell.inputs; output = net_name names cell.output; function = cell.function }
 
-abbrev pub named_register : List (List ℕ) → RegisterCell → NamedRegister
+abbrev pub named_register : List (List ℕ) → RegisterCell ℕ ℕ → NamedRegister
 named_register names register = record {
   inputs = net_names names register.inputs;
   outputs = map (λ output. (net_name names output.0, output.1)) register.outputs;

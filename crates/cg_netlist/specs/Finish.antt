@@ -57,10 +57,10 @@ abbrev pub place_of : Circuit → ℕ → ℕ
 place_of d net = position_or_len (nat_eq net) (driving_nets d)
 
 -- parts with their nets renumbered
-abbrev pub renumbered_cell : (ℕ → ℕ) → LogicCell → LogicCell
+abbrev pub renumbered_cell : (ℕ → ℕ) → LogicCell ℕ → LogicCell ℕ
 renumbered_cell number cell = record cell { inputs = map number cell.inputs; output = number cell.output }
 
-abbrev pub renumbered_register : (ℕ → ℕ) → RegisterCell → RegisterCell
+abbrev pub renumbered_register : (ℕ → ℕ) → RegisterCell ℕ ℕ → RegisterCell ℕ ℕ
 renumbered_register number register =
     record register { inputs = map number register.inputs; outputs = map (λ output. (number output.0, output.1)) register.outputs; clock = number register.clock }
 

@@ -1,10 +1,10 @@
 -- What a netlist does over time: waveforms, and the histories that are lawful over them. Delays are zero: within a
 -- moment everything settles, and a rising clock net is the only thing that moves a register.
 use Rattle.std.specs.Prelude.{◌≡◌, ℕ, ◌+◌, Bool, false, not, ◌&&◌, if◌then◌else◌, List, [], ◌∷◌, ◌++◌, map, length, slice_index_or, replicate, Option, None, Some}
-use Rattle.std.specs.List.{count_by}
+use Rattle.std.specs.List.{count_by, list_any}
 use Rattle.cg_netlist.specs.declared.parts.RegisterKind.{RegisterKind}
 use Rattle.cg_netlist.specs.declared.parts.RegisterKind.TheVariants.{Plain, Flop}
-use Rattle.cg_netlist.specs.Circuit.{Circuit, GatingCell, RegisterCell, data_inputs}
+use Rattle.cg_netlist.specs.Circuit.{Circuit, GatingCell, RegisterCell, asked_nets, data_inputs}
 use Rattle.cg_netlist.specs.Moment.{Settles, bit, cell_value, values_at, zip_with}
 
 -- one moment of a waveform: the clock's bit, and a bit for each data input
@@ -37,7 +37,7 @@ pub record Moment : Type 0 where
   pub latches : List Bool
 
 -- a register rises where its clock net was 0 a moment before and is 1 now
-abbrev pub rises : List Bool → List Bool → RegisterCell → Bool
+abbrev pub rises : List Bool → List Bool → RegisterCell ℕ ℕ → Bool
 rises before now r = not (bit before r.clock) && bit now r.clock
 
 -- the function of a register, at bits of its inputs and its own bit: of a plain register the input, of a
@@ -47,7 +47,7 @@ next_value Plain bits own = slice_index_or bits 0 false
 next_value (Flop cell) bits own = cell_value cell (bits ++ own ∷ [])
 
 -- a register's bit after a moment with these nets, where it had this bit: its function where it rises, and else what it had
-abbrev pub next_bit : List Bool → List Bool → RegisterCell → Bool → Bool
+abbrev pub next_bit : List Bool → List Bool → RegisterCell ℕ ℕ → Bool → Bool
 next_bit before now r own = if rises before now r then next_value r.kind (values_at before r.inputs) own else own
 
 -- the registers' bits: at the first moment those of the start
@@ -55,9 +55,9 @@ abbrev pub state_now : Circuit → List Bool → Option Moment → List Bool →
 state_now c start None nets = start
 state_now c start (Some before) nets = zip_with (next_bit before.nets nets) c.registers before.state
 
--- a latch's bit: the enable where the clock pin is 0, and else what it had
-abbrev pub next_latch : List Bool → GatingCell → Bool → Bool
-next_latch nets gater own = if bit nets gater.clock then own else bit nets gater.enable
+-- a latch's bit: the OR of the enable and the test net where the clock pin is 0, and else what it had
+abbrev pub next_latch : List Bool → GatingCell ℕ → Bool → Bool
+next_latch nets gater own = if bit nets gater.clock then own else list_any (bit nets) (asked_nets gater)
 
 -- the latches' bits a moment ago. Before the first moment, where the clock is low and no latch is asked for what it had, they count as 0.
 abbrev pub latches_before : Circuit → Option Moment → List Bool
@@ -65,7 +65,7 @@ latches_before c None = replicate (length c.gaters) false
 latches_before c (Some before) = before.latches
 
 -- a gating cell's output: the latch and the clock pin
-abbrev pub gate_bit : List Bool → GatingCell → Bool → Bool
+abbrev pub gate_bit : List Bool → GatingCell ℕ → Bool → Bool
 gate_bit nets gater latch = latch && bit nets gater.clock
 
 -- one moment is as the waveform and the moment before have it

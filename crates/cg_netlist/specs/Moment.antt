@@ -33,18 +33,18 @@ function_value (Cover cover) bits = cover_value cover bits
 function_value (Cell cell) bits = cell_value cell bits
 
 -- what a register with this bit shows at its output nets: the bit, or its inverse
-abbrev pub shown_bits : RegisterCell → Bool → List Bool
+abbrev pub shown_bits : RegisterCell ℕ ℕ → Bool → List Bool
 shown_bits r stored = map (λ output. if output.1 then not stored else stored) r.outputs
 
 -- what registers with these bits show at their output nets, one register after another
-abbrev pub register_bits : List RegisterCell → List Bool → List Bool
+abbrev pub register_bits : List (RegisterCell ℕ ℕ) → List Bool → List Bool
 register_bits [] state = []
 register_bits (r ∷ rs) [] = []
 register_bits (r ∷ rs) (stored ∷ state) = shown_bits r stored ++ register_bits rs state
 
 -- each logic cell's output is its function of its inputs
-abbrev pub CellsHold : List LogicCell → List Bool → Type 0
-CellsHold cells nets = (k : ℕ) (cell : LogicCell) → slice_get cells k ≡ Some cell → slice_get nets cell.output ≡ Some (function_value cell.function (values_at nets cell.inputs))
+abbrev pub CellsHold : List (LogicCell ℕ) → List Bool → Type 0
+CellsHold cells nets = (k : ℕ) (cell : LogicCell ℕ) → slice_get cells k ≡ Some cell → slice_get nets cell.output ≡ Some (function_value cell.function (values_at nets cell.inputs))
 
 -- `nets` has a bit for each net: those of the clock, the data inputs, the registers and the outputs of gating
 -- cells are the given ones, and the logic cells hold

@@ -5,7 +5,7 @@ use Rattle.cg_netlist.specs.Circuit.{Circuit, LogicCell, data_inputs}
 use Rattle.cg_netlist.specs.WellFormed.{IsWellFormed, IsInNetOrder}
 
 -- the greatest number of inputs of a logic cell
-abbrev pub widest_of : List LogicCell → ℕ
+abbrev pub widest_of : List (LogicCell ℕ) → ℕ
 widest_of [] = 0
 widest_of (cell ∷ cells) = max (length cell.inputs) (widest_of cells)
 

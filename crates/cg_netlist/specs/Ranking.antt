@@ -7,7 +7,7 @@ use Rattle.cg_netlist.specs.Ranks.{next_rank}
 use Rattle.cg_netlist.specs.declared.ranks.Progress.{Progress}
 
 -- the nets at the inputs of cell k
-abbrev pub inputs_of : List LogicCell → ℕ → List ℕ
+abbrev pub inputs_of : List (LogicCell ℕ) → ℕ → List ℕ
 inputs_of cells k = option_map_or (λ cell. cell.inputs) (slice_get cells k) []
 
 -- an entry of a table of things that may not be there
@@ -40,7 +40,7 @@ abbrev pub unsearched : ℕ → Search
 unsearched n = record { ranks = replicate n None; progress = replicate n (record { place = 0; rank = 0 }); waiting = replicate n []; found = [] }
 
 -- the tables have a place for each cell, and name cells alone; the ranks are those that the cells above give
-pub record IsSound (drivers : List (Option ℕ)) (cells : List LogicCell) (s : Search) : Type 0 where
+pub record IsSound (drivers : List (Option ℕ)) (cells : List (LogicCell ℕ)) (s : Search) : Type 0 where
   pub ranks_fit : length s.ranks ≡ length cells
   pub progress_fits : length s.progress ≡ length cells
   pub waiting_fits : length s.waiting ≡ length cells
@@ -52,7 +52,7 @@ pub record IsSound (drivers : List (Option ℕ)) (cells : List LogicCell) (s : S
   pub ranked : (k rank : ℕ) → entry s.ranks k ≡ Some rank → rank_under drivers s.ranks (inputs_of cells k) ≡ Some rank
 
 -- the search has looked on at the inputs of cell k, to the answered cell above it without a rank, or to their end
-pub record Looks (drivers : List (Option ℕ)) (cells : List LogicCell) (old new : Search) (k : ℕ) (above : Option ℕ) : Type 0 where
+pub record Looks (drivers : List (Option ℕ)) (cells : List (LogicCell ℕ)) (old new : Search) (k : ℕ) (above : Option ℕ) : Type 0 where
   pub progress : Progress
   pub progress_set : new ≡ record old { progress = slice_set old.progress k progress }
   pub looked : HasLooked drivers old.ranks (inputs_of cells k) progress
@@ -68,7 +68,7 @@ abbrev pub with_rank : Search → ℕ → ℕ → Search
 with_rank s k rank = record s { ranks = slice_set s.ranks k (Some rank); found = s.found ++ k ∷ [] }
 
 -- cell k waits for a cell above it, which has no rank yet, or whose turn has not come: it is one of those found after `turn`
-pub record Waits (drivers : List (Option ℕ)) (cells : List LogicCell) (s : Search) (turn k : ℕ) : Type 0 where
+pub record Waits (drivers : List (Option ℕ)) (cells : List (LogicCell ℕ)) (s : Search) (turn k : ℕ) : Type 0 where
   pub for : ℕ
   pub waiters : List ℕ
   pub above : is_in (drivers_at drivers (inputs_of cells k)) for ≡ true
@@ -76,7 +76,7 @@ pub record Waits (drivers : List (Option ℕ)) (cells : List LogicCell) (s : Sea
   pub waits : is_in waiters k ≡ true
   pub pending : (entry s.ranks for ≡ None) ⊎ (is_in (drop turn s.found) for ≡ true)
 
-abbrev pub IsSettled : List (Option ℕ) → List LogicCell → Search → ℕ → ℕ → Type 0
+abbrev pub IsSettled : List (Option ℕ) → List (LogicCell ℕ) → Search → ℕ → ℕ → Type 0
 IsSettled drivers cells s turn k = IsSome (entry s.ranks k) ⊎ Waits drivers cells s turn k
 
 -- what a step of the search keeps: the ranks, who waits and what was found stay; a cell that gets a rank is found
@@ -89,24 +89,24 @@ pub record Grows (old new : Search) : Type 0 where
   pub new_ranks : (k : ℕ) → entry old.ranks k ≡ None → (entry new.ranks k ≡ None) ⊎ (is_in more k ≡ true)
 
 -- a step of the search on cell k, which has its rank or waits for one that it can wait for
-pub record Settles (drivers : List (Option ℕ)) (cells : List LogicCell) (old new : Search) (k : ℕ) : Type 0 where
+pub record Settles (drivers : List (Option ℕ)) (cells : List (LogicCell ℕ)) (old new : Search) (k : ℕ) : Type 0 where
   pub sound : IsSound drivers cells new
   pub grows : Grows old new
   pub settled : (turn : ℕ) → IsSettled drivers cells new turn k
 
 -- steps of the search on each of these cells
-pub record SettlesEach (drivers : List (Option ℕ)) (cells : List LogicCell) (old new : Search) (which : List ℕ) : Type 0 where
+pub record SettlesEach (drivers : List (Option ℕ)) (cells : List (LogicCell ℕ)) (old new : Search) (which : List ℕ) : Type 0 where
   pub sound : IsSound drivers cells new
   pub grows : Grows old new
   pub settled : (k turn : ℕ) → turn ≤ length old.found → is_in which k ≡ true → IsSettled drivers cells new turn k
 
 -- the search has given the cells found before `turn` their turn: each cell is settled as it is after these
-pub record HasReached (drivers : List (Option ℕ)) (cells : List LogicCell) (s : Search) (turn : ℕ) : Type 0 where
+pub record HasReached (drivers : List (Option ℕ)) (cells : List (LogicCell ℕ)) (s : Search) (turn : ℕ) : Type 0 where
   pub sound : IsSound drivers cells s
   pub within : turn ≤ length s.found
   pub settled : (k : ℕ) → k < length cells → IsSettled drivers cells s turn k
 
 -- the table of the cells that drive the nets names cells, and has a place for each net at an input
-pub record IsGraph (drivers : List (Option ℕ)) (cells : List LogicCell) : Type 0 where
+pub record IsGraph (drivers : List (Option ℕ)) (cells : List (LogicCell ℕ)) : Type 0 where
   pub driving : (net k : ℕ) → entry drivers net ≡ Some k → k < length cells
-  pub nets : (k : ℕ) (cell : LogicCell) → slice_get cells k ≡ Some cell → All (λ net. net < length drivers) cell.inputs
+  pub nets : (k : ℕ) (cell : LogicCell ℕ) → slice_get cells k ≡ Some cell → All (λ net. net < length drivers) cell.inputs

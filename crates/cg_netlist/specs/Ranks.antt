@@ -17,17 +17,17 @@ rank_within above zero k = None
 rank_within above (suc n) k = next_rank (map (rank_within above n) (above k))
 
 -- the first logic cell that drives a net, if one does
-abbrev pub driving_cell : List LogicCell → ℕ → Option ℕ
+abbrev pub driving_cell : List (LogicCell ℕ) → ℕ → Option ℕ
 driving_cell cells net = position_from (λ cell. cell.output == net) 0 cells
 
 -- the logic cells that drive the inputs of cell k
-abbrev pub driving_cells : List LogicCell → ℕ → List ℕ
+abbrev pub driving_cells : List (LogicCell ℕ) → ℕ → List ℕ
 driving_cells cells k = option_map_or (λ cell. filter_map (driving_cell cells) cell.inputs) (slice_get cells k) []
 
 -- The rank of a logic cell. None where its cone holds a cycle of logic cells: exactly then some way up from it passes more
 -- cells than there are, and comes back to one of its own.
-abbrev pub rank_of : List LogicCell → ℕ → Option ℕ
+abbrev pub rank_of : List (LogicCell ℕ) → ℕ → Option ℕ
 rank_of cells = rank_within (driving_cells cells) (length cells)
 
-abbrev pub ranks_of : List LogicCell → List (Option ℕ)
+abbrev pub ranks_of : List (LogicCell ℕ) → List (Option ℕ)
 ranks_of cells = map (rank_of cells) (range_with_len 0 (length cells))

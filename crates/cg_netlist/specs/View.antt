@@ -1,4 +1,5 @@
 -- The parts of a netlist as their views show them.
+use Rattle.std.specs.Prelude.{ℕ}
 use Rattle.cg_netlist.specs.declared.view.Function.{Function}
 use Rattle.cg_netlist.specs.declared.view.Function.TheVariants.{Cover as CoverView, Cell as PlacedView}
 use Rattle.cg_netlist.specs.declared.view.RegKind.{RegKind}
@@ -23,11 +24,11 @@ kind_seen PlainView = Plain
 kind_seen (FlopView cell) = Flop cell.now
 
 -- the logic cell, the register, the gating cell that a view shows
-abbrev pub cell_seen : CellView → LogicCell
+abbrev pub cell_seen : CellView → LogicCell ℕ
 cell_seen view = record { inputs = view.inputs.now; output = view.output; function = function_seen view.function }
 
-abbrev pub register_seen : RegView → RegisterCell
+abbrev pub register_seen : RegView → RegisterCell ℕ ℕ
 register_seen view = record { inputs = view.inputs.now; outputs = view.outputs.now; pins = view.pins.now; clock = view.clock; kind = kind_seen view.kind; init = view.init }
 
-abbrev pub gater_seen : GaterView → GatingCell
-gater_seen view = record { clock = view.clock; enable = view.enable; output = view.output; cell = view.cell.now }
+abbrev pub gater_seen : GaterView → GatingCell ℕ
+gater_seen view = record { clock = view.clock; enable = view.enable; test = view.test; output = view.output; cell = view.cell.now }

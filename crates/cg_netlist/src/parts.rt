@@ -38,11 +38,12 @@ pub(crate) struct Logic {
 }
 
 impl Model for Logic {
+    ghost use Rattle.std.specs.Prelude.{ℕ};
     ghost use Rattle.std.specs.Coded.{codes};
     ghost use Rattle.cg_cell.specs.TermCode.{term_code};
     ghost use Rattle.cg_netlist.specs.Circuit.{LogicCell};
 
-    ghost Value = { LogicCell };
+    ghost Value = { LogicCell ℕ };
 
     ghost coded = { Prim.hlevel (codes, term_code) };
 
@@ -54,20 +55,22 @@ impl Model for Logic {
 pub(crate) struct Gater {
     pub(crate) clock: NetId,
     pub(crate) enable: NetId,
+    pub(crate) test: Option<NetId>,
     pub(crate) output: NetId,
     pub(crate) cell: CellType,
 }
 
 impl Model for Gater {
+    ghost use Rattle.std.specs.Prelude.{ℕ};
     ghost use Rattle.std.specs.Coded.{codes};
     ghost use Rattle.cg_cell.specs.TermCode.{term_code};
     ghost use Rattle.cg_netlist.specs.Circuit.{GatingCell};
 
-    ghost Value = { GatingCell };
+    ghost Value = { GatingCell ℕ };
 
     ghost coded = { Prim.hlevel (codes, term_code) };
 
-    ghost view = { λ g. record { clock = g.clock; enable = g.enable; output = g.output; cell = g.cell } };
+    ghost view = { λ g. record { clock = g.clock; enable = g.enable; test = g.test; output = g.output; cell = g.cell } };
 }
 
 /// A register. An output is a net and whether it shows the inverse of the register's bit; `pins` has for each
@@ -83,11 +86,12 @@ pub(crate) struct Register {
 }
 
 impl Model for Register {
+    ghost use Rattle.std.specs.Prelude.{ℕ};
     ghost use Rattle.std.specs.Coded.{codes};
     ghost use Rattle.cg_cell.specs.TermCode.{term_code};
     ghost use Rattle.cg_netlist.specs.Circuit.{RegisterCell};
 
-    ghost Value = { RegisterCell };
+    ghost Value = { RegisterCell ℕ ℕ };
 
     ghost coded = { Prim.hlevel (codes, term_code) };
 

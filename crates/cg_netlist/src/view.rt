@@ -74,6 +74,9 @@ pub struct GaterView<'a> {
     /// The net at the enable pin.
     pub enable: NetId,
 
+    /// The net at the test pin, where the cell has one.
+    pub test: Option<NetId>,
+
     /// The output net, which carries the gated clock.
     pub output: NetId,
 
@@ -142,6 +145,7 @@ impl Gater {
         GaterView {
             clock: self.clock,
             enable: self.enable,
+            test: self.test,
             output: self.output,
             cell: &self.cell,
         }

@@ -14,11 +14,11 @@ use Rattle.cg_tool.proofs.DraftNames.{AreBelow, AreKnown, each_append, each_left
 use Rattle.cg_tool.proofs.SaidParts.{cover_cell, latch_register}
 
 -- the nets of a part are among the first n
-pub record CellBelow (n : ℕ) (cell : LogicCell) : Type 0 where
+pub record CellBelow (n : ℕ) (cell : LogicCell ℕ) : Type 0 where
   pub inputs : AreBelow n cell.inputs
   pub output : cell.output < n
 
-pub record RegisterBelow (n : ℕ) (r : RegisterCell) : Type 0 where
+pub record RegisterBelow (n : ℕ) (r : RegisterCell ℕ ℕ) : Type 0 where
   pub inputs : AreBelow n r.inputs
   pub outputs : AreBelow n (shown_nets r)
   pub clock : r.clock < n
@@ -52,14 +52,14 @@ more_and_more d e f is js os ps as' bs rs ss first later = record {
 }
 
 -- parts keep the names of their nets as more names come
-cell_stays : (names more : List Word) (cell : LogicCell) → CellBelow (length names) cell → named_cell (names ++ more) cell ≡ named_cell names cell
+cell_stays : (names more : List Word) (cell : LogicCell ℕ) → CellBelow (length names) cell → named_cell (names ++ more) cell ≡ named_cell names cell
 cell_stays names more cell below =
     let inputs : net_names (names ++ more) cell.inputs ≡ net_names names cell.inputs = names_stay names more cell.inputs below.inputs in
     let output : net_name (names ++ more) cell.output ≡ net_name names cell.output = name_stays names more cell.output below.output in
     ap (λ ns. record { inputs = ns; output = net_name (names ++ more) cell.output; function = cell.function }) inputs
     ∙ ap (λ n. record { inputs = net_names names cell.inputs; output = n; function = cell.function }) output
 
-cells_stay : (names more : List Word) (cells : List LogicCell) → AllByRecursion (CellBelow (length names)) cells → map (named_cell (names ++ more)) cells ≡ map (named_cell names) cells
+cells_stay : (names more : List Word) (cells : List (LogicCell ℕ)) → AllByRecursion (CellBelow (length names)) cells → map (named_cell (names ++ more)) cells ≡ map (named_cell names) cells
 cells_stay names more [] below = refl
 cells_stay names more (cell ∷ cells) below = ap (λ c. c ∷ map (named_cell (names ++ more)) cells) (cell_stays names more cell below.0) ∙ ap (λ cs. named_cell names cell ∷ cs) (cells_stay names more cells below.1)
 
@@ -70,14 +70,14 @@ shown_stay names more (output ∷ outputs) below =
     let first : ◌≡◌ {A = Word × Bool} (net_name (names ++ more) output.0, output.1) (net_name names output.0, output.1) = ap (λ n. (n, output.1)) (name_stays names more output.0 below.0) in
     cc (first, shown_stay names more outputs below.1)
 
-register_stays : (names more : List Word) (r : RegisterCell) → RegisterBelow (length names) r → named_register (names ++ more) r ≡ named_register names r
+register_stays : (names more : List Word) (r : RegisterCell ℕ ℕ) → RegisterBelow (length names) r → named_register (names ++ more) r ≡ named_register names r
 register_stays names more r below =
     let inputs : net_names (names ++ more) r.inputs ≡ net_names names r.inputs = names_stay names more r.inputs below.inputs in
     let outputs = shown_stay names more r.outputs below.outputs in
     let clock : net_name (names ++ more) r.clock ≡ net_name names r.clock = name_stays names more r.clock below.clock in
     cc
 
-registers_stay : (names more : List Word) (registers : List RegisterCell) → AllByRecursion (RegisterBelow (length names)) registers → map (named_register (names ++ more)) registers ≡ map (named_register names) registers
+registers_stay : (names more : List Word) (registers : List (RegisterCell ℕ ℕ)) → AllByRecursion (RegisterBelow (length names)) registers → map (named_register (names ++ more)) registers ≡ map (named_register names) registers
 registers_stay names more [] below = refl
 registers_stay names more (r ∷ registers) below = ap (λ n. n ∷ map (named_register (names ++ more)) registers) (register_stays names more r below.0) ∙ ap (λ ns. named_register names r ∷ ns) (registers_stay names more registers below.1)
 
@@ -85,10 +85,10 @@ registers_stay names more (r ∷ registers) below = ap (λ n. n ∷ map (named_r
 still_below : (n m : ℕ) → n ≤ m → (nets : List ℕ) → AreBelow n nets → AreBelow m nets
 still_below n m le nets below = each_weaker (λ net. net < n) (λ net. net < m) (λ net lt. omega arith) nets below
 
-cell_higher : (n m : ℕ) → n ≤ m → (cell : LogicCell) → CellBelow n cell → CellBelow m cell
+cell_higher : (n m : ℕ) → n ≤ m → (cell : LogicCell ℕ) → CellBelow n cell → CellBelow m cell
 cell_higher n m le cell below = record { inputs = still_below n m le cell.inputs below.inputs; output = omega arith }
 
-register_higher : (n m : ℕ) → n ≤ m → (r : RegisterCell) → RegisterBelow n r → RegisterBelow m r
+register_higher : (n m : ℕ) → n ≤ m → (r : RegisterCell ℕ ℕ) → RegisterBelow n r → RegisterBelow m r
 register_higher n m le r below = record { inputs = still_below n m le r.inputs below.inputs; outputs = still_below n m le (shown_nets r) below.outputs; clock = omega arith }
 
 -- a draft whose table has more names says what it said
@@ -192,7 +192,7 @@ put_cover_more d inputs output cover ins out = record {
   registers_are = sym (append-nil (map (named_register d.names) d.registers));
 }
 
-abbrev pub plain_register : List Word → Word → Word → Word → ℕ → RegisterCell
+abbrev pub plain_register : List Word → Word → Word → Word → ℕ → RegisterCell ℕ ℕ
 plain_register names input output clock init = register_of names (input ∷ []) (Some output ∷ []) (Some clock) init
 
 abbrev put_register : Circuit → Word → Word → Word → ℕ → Circuit

@@ -33,14 +33,14 @@ logic_pins-none names pin pins inputs k output is past =
     rw (none, is) refl
 
 -- an input of a register, and a pin that is none
-pub flop_pins-input : (names : List Word) (r : RegisterCell) (at : ℕ) (inputs : List ℕ) (k : ℕ) (pin : PinData) (pins : List PinData) → is_data pin ≡ true → k < length inputs → flop_pins names r at (drop k inputs) (pin ∷ pins) ≡ (pin.name, net_name names (get_or inputs k 0)) ∷ flop_pins names r (at + 1) (drop (k + 1) inputs) pins
+pub flop_pins-input : (names : List Word) (r : RegisterCell ℕ ℕ) (at : ℕ) (inputs : List ℕ) (k : ℕ) (pin : PinData) (pins : List PinData) → is_data pin ≡ true → k < length inputs → flop_pins names r at (drop k inputs) (pin ∷ pins) ≡ (pin.name, net_name names (get_or inputs k 0)) ∷ flop_pins names r (at + 1) (drop (k + 1) inputs) pins
 flop_pins-input names r at inputs k pin pins is below = rw (add-one k, drop-cons inputs k 0, is) refl
 
-pub flop_pins-other : (names : List Word) (r : RegisterCell) (at : ℕ) (inputs : List ℕ) (pin : PinData) (pins : List PinData) → is_data pin ≡ false → flop_pins names r at inputs (pin ∷ pins) ≡ flop_pin names r at pin ++ flop_pins names r (at + 1) inputs pins
+pub flop_pins-other : (names : List Word) (r : RegisterCell ℕ ℕ) (at : ℕ) (inputs : List ℕ) (pin : PinData) (pins : List PinData) → is_data pin ≡ false → flop_pins names r at inputs (pin ∷ pins) ≡ flop_pin names r at pin ++ flop_pins names r (at + 1) inputs pins
 flop_pins-other names r at [] pin pins is = refl
 flop_pins-other names r at (input ∷ inputs) pin pins is = rw is refl
 
-pub flop_pins-none : (names : List Word) (r : RegisterCell) (at : ℕ) (inputs : List ℕ) (k : ℕ) (pin : PinData) (pins : List PinData) → length inputs ≤ k → flop_pins names r at (drop k inputs) (pin ∷ pins) ≡ flop_pin names r at pin ++ flop_pins names r (at + 1) (drop k inputs) pins
+pub flop_pins-none : (names : List Word) (r : RegisterCell ℕ ℕ) (at : ℕ) (inputs : List ℕ) (k : ℕ) (pin : PinData) (pins : List PinData) → length inputs ≤ k → flop_pins names r at (drop k inputs) (pin ∷ pins) ≡ flop_pin names r at pin ++ flop_pins names r (at + 1) (drop k inputs) pins
 flop_pins-none names r at inputs k pin pins past =
     let none : drop k inputs ≡ [] = grind (arith, common_steps) in
     rw none refl
@@ -59,8 +59,8 @@ output_at-past outputs places k at past =
     rw none (no_places (drop k outputs) at)
 
 -- the pins of a gating cell, from the pin at k on
-pub gater_pins-drop : (clock enable output : Word) (pins : List PinData) (k : ℕ) (d : PinData) → k < length pins → gater_pins clock enable output (drop k pins) ≡ gater_pin clock enable output (get_or pins k d) ++ gater_pins clock enable output (drop (k + 1) pins)
-gater_pins-drop clock enable output pins k d below = rw (add-one, drop-cons pins k d) refl
+pub gater_pins-drop : (clock enable : Word) (test : Option Word) (output : Word) (pins : List PinData) (k : ℕ) (d : PinData) → k < length pins → gater_pins clock enable test output (drop k pins) ≡ gater_pin clock enable test output (get_or pins k d) ++ gater_pins clock enable test output (drop (k + 1) pins)
+gater_pins-drop clock enable test output pins k d below = rw (add-one, drop-cons pins k d) refl
 
 pub ruleset gates = (gate_text, append_assoc)
 

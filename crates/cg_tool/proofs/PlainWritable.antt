@@ -67,14 +67,14 @@ narrow_cells (part ∷ parts) fit = go (is_cell [] part) (narrow_cells parts fit
     go true later = (narrow_part part fit.0, later)
     go false later = later
 
-narrow_function : (names : List Word) (cell : LogicCell) (function : LogicFunction) → cell.function ≡ function → IsNarrowLine (cell_statement names cell) → IsNarrow (length cell.inputs) function
+narrow_function : (names : List Word) (cell : LogicCell ℕ) (function : LogicFunction) → cell.function ≡ function → IsNarrowLine (cell_statement names cell) → IsNarrow (length cell.inputs) function
 narrow_function names cell (Cover cover) is narrow =
     let line : IsNarrowLine (Names (net_names names cell.inputs) (net_name names cell.output) cover) =
     let P : LogicFunction → Type 0 = λ f. IsNarrowLine (cell_statement names (record cell { function = f })) in subst P is narrow in
     subst (λ n. n ≤ 256) (length-map cell.inputs (net_name names)) line
 narrow_function names cell (Cell placed) is narrow = tt
 
-narrow_each : (names : List Word) (cells : List LogicCell) → AllByRecursion IsNarrowLine (map (cell_statement names) cells) → AllByRecursion (λ cell. IsNarrow (length cell.inputs) cell.function) cells
+narrow_each : (names : List Word) (cells : List (LogicCell ℕ)) → AllByRecursion IsNarrowLine (map (cell_statement names) cells) → AllByRecursion (λ cell. IsNarrow (length cell.inputs) cell.function) cells
 narrow_each names [] narrow = tt
 narrow_each names (cell ∷ cells) narrow = (narrow_function names cell cell.function refl narrow.0, narrow_each names cells narrow.1)
 
@@ -84,7 +84,7 @@ none_named : (cells : List CellData) → AllByRecursion (λ cell. cell_named [] 
 none_named [] placed = tt
 none_named (cell ∷ cells) placed = absurd (cc)
 
-none_gated : (registers : List RegisterCell) (names : List Word) (nets : List ℕ) → nets ≡ [] → AllByRecursion (λ register. register.kind ≡ Plain → is_in nets register.clock ≡ true → net_name names register.clock ≢ codes "NIL") registers
+none_gated : (registers : List (RegisterCell ℕ ℕ)) (names : List Word) (nets : List ℕ) → nets ≡ [] → AllByRecursion (λ register. register.kind ≡ Plain → is_in nets register.clock ≡ true → net_name names register.clock ≢ codes "NIL") registers
 none_gated [] names nets none = tt
 none_gated (r ∷ rs) names nets none = ((λ kind among. absurd (both_ways false refl (ap (λ xs. is_in xs r.clock) (sym none) ∙ among))), none_gated rs names nets none)
 

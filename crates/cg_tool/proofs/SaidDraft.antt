@@ -7,7 +7,7 @@ use Rattle.std.proofs.lemmas.Bool.{both_ways, eqb-true, or_cases}
 use Rattle.std.proofs.lemmas.List.{length-map}
 use Rattle.std.proofs.lemmas.List.Elements.{recursion_from_All}
 use Rattle.cg_netlist.specs.Canonical.{gater_statement, net_name}
-use Rattle.cg_netlist.specs.Circuit.{Circuit, GatingCell, LogicCell, RegisterCell, cell_nets, clock_nets, data_inputs, drivers, gate_nets, given_nets, is_in, net_order, register_nets, shown_nets, used_nets}
+use Rattle.cg_netlist.specs.Circuit.{Circuit, asked_nets, GatingCell, LogicCell, RegisterCell, cell_nets, clock_nets, data_inputs, drivers, gate_nets, given_nets, is_in, net_order, register_nets, shown_nets, used_nets}
 use Rattle.cg_netlist.specs.Drafted.{IsNetlistOf, named_cell, named_register}
 use Rattle.cg_netlist.specs.Finish.{clock_pins}
 use Rattle.cg_netlist.specs.PlainText.{IsPlainPart, plain_statements}
@@ -21,11 +21,11 @@ use Rattle.cg_tool.proofs.SaysDraft.{SaysAll, draft_says, no_declared, plain_dra
 use Rattle.cg_tool.proofs.Saying.{draft_by}
 
 -- the words of parts whose nets have names are names
-cells_among : (names : List Word) (cells : List LogicCell) → AreBelow (length names) (flat_map (λ cell. cell.inputs) cells) → AreBelow (length names) (map (λ cell. cell.output) cells) → AllByRecursion (CellAmong names) (map (named_cell names) cells)
+cells_among : (names : List Word) (cells : List (LogicCell ℕ)) → AreBelow (length names) (flat_map (λ cell. cell.inputs) cells) → AreBelow (length names) (map (λ cell. cell.output) cells) → AllByRecursion (CellAmong names) (map (named_cell names) cells)
 cells_among names [] ins outs = tt
 cells_among names (cell ∷ cells) ins outs =
     let below = λ (net : ℕ). net < length names in
-    let later = flat_map (λ (k : LogicCell). k.inputs) cells in (
+    let later = flat_map (λ (k : LogicCell ℕ). k.inputs) cells in (
       record { inputs = net_names_known names cell.inputs (each_left below cell.inputs later ins); output = (net_name_known names cell.output outs.0, tt) },
       cells_among names cells (each_right below cell.inputs later ins) outs.1,
     )
@@ -34,12 +34,12 @@ shown_known : (names : List Word) (outputs : List (ℕ × Bool)) → AreBelow (l
 shown_known names [] below = tt
 shown_known names (output ∷ outputs) below = (net_name_known names output.0 below.0, shown_known names outputs below.1)
 
-registers_among : (names : List Word) (registers : List RegisterCell) → AreBelow (length names) (flat_map (λ r. r.inputs) registers) → AreBelow (length names) (flat_map shown_nets registers) → AllByRecursion (λ r. r.clock < length names) registers
+registers_among : (names : List Word) (registers : List (RegisterCell ℕ ℕ)) → AreBelow (length names) (flat_map (λ r. r.inputs) registers) → AreBelow (length names) (flat_map shown_nets registers) → AllByRecursion (λ r. r.clock < length names) registers
     → AllByRecursion (RegisterAmong names) (map (named_register names) registers)
 registers_among names [] ins outs clocks = tt
 registers_among names (r ∷ registers) ins outs clocks =
     let below = λ (net : ℕ). net < length names in
-    let later = flat_map (λ (s : RegisterCell). s.inputs) registers in
+    let later = flat_map (λ (s : RegisterCell ℕ ℕ). s.inputs) registers in
     let shown = flat_map shown_nets registers in (
       record {
         inputs = net_names_known names r.inputs (each_left below r.inputs later ins);
@@ -61,7 +61,7 @@ each_member P (net ∷ nets) x all at = elim (or_cases (nat_eq x net) (is_in net
   | inr later ↦ each_member P nets x all.1 later
 ]
 
-clocks_below : (n : ℕ) (clocks : List ℕ) (registers : List RegisterCell) → AreBelow n clocks → AllByRecursion (λ r. is_in clocks r.clock ≡ true) registers → AllByRecursion (λ r. r.clock < n) registers
+clocks_below : (n : ℕ) (clocks : List ℕ) (registers : List (RegisterCell ℕ ℕ)) → AreBelow n clocks → AllByRecursion (λ r. is_in clocks r.clock ≡ true) registers → AllByRecursion (λ r. r.clock < n) registers
 clocks_below n clocks [] below at = tt
 clocks_below n clocks (r ∷ registers) below at = (each_member (λ net. net < n) clocks r.clock below at.0, clocks_below n clocks registers below at.1)
 
@@ -83,9 +83,9 @@ has_names c formed ordered =
     let used : AreBelow n (used_nets c) = recursion_from_All below (used_nets c) formed.used in
     let clock = option_to_list c.clock in
     let free = filter (λ net. not (is_in c.inputs net)) clock in
-    let cell_inputs = flat_map (λ (cell : LogicCell). cell.inputs) c.cells in
-    let enables = map (λ (gater : GatingCell). gater.enable) c.gaters in
-    let register_inputs = flat_map (λ (r : RegisterCell). r.inputs) c.registers in
+    let cell_inputs = flat_map (λ (cell : LogicCell ℕ). cell.inputs) c.cells in
+    let enables = flat_map asked_nets c.gaters in
+    let register_inputs = flat_map (λ (r : RegisterCell ℕ ℕ). r.inputs) c.registers in
     let given : AreBelow n (given_nets c) = each_left below (given_nets c) (cell_nets c) driven in
     let clocks : AreBelow n (data_inputs c ++ clock ++ gate_nets c) = each_left below (data_inputs c ++ clock ++ gate_nets c) (register_nets c) given in
     let at_pins : AreBelow n (clock_nets c) =
@@ -99,18 +99,18 @@ has_names c formed ordered =
       cell_outputs = each_right below (given_nets c) (cell_nets c) driven;
       register_inputs = each_right below (cell_inputs ++ enables) register_inputs at_parts;
       register_outputs = each_right below (data_inputs c ++ clock ++ gate_nets c) (register_nets c) given;
-      clocks = clocks_below n (clock_nets c) c.registers at_pins (recursion_from_All (λ (r : RegisterCell). is_in (clock_nets c) r.clock ≡ true) c.registers formed.clocked);
+      clocks = clocks_below n (clock_nets c) c.registers at_pins (recursion_from_All (λ (r : RegisterCell ℕ ℕ). is_in (clock_nets c) r.clock ≡ true) c.registers formed.clocked);
     }
 
 -- a netlist that plain statements say has no gating cell, and its clock is an input at a clock pin
-pub no_gating_cell : (names : List Word) (gaters : List GatingCell) → map (gater_statement names) gaters ≡ [] → gaters ≡ []
+pub no_gating_cell : (names : List Word) (gaters : List (GatingCell ℕ)) → map (gater_statement names) gaters ≡ [] → gaters ≡ []
 no_gating_cell names [] none = refl
 no_gating_cell names (gater ∷ gaters) none = absurd (cc)
 
 clock_input : (c : Circuit) (ss : List Statement) (net : ℕ) → AllByRecursion IsDrawn ss → c.gaters ≡ [] → (list_any (bytes_eq (net_name c.names net)) (declared_clocks ss None) ≡ true) ⊎ ((is_in c.inputs net ≡ true) × (is_in (clock_pin_nets c) net ≡ true))
     → (is_in c.inputs net ≡ true) × (is_in (clock_pins c) net ≡ true)
 clock_input c ss net drawn none (inl declared) = absurd (both_ways false refl (sym (ap (list_any (bytes_eq (net_name c.names net))) (no_declared ss drawn)) ∙ declared))
-clock_input c ss net drawn none (inr at) = (at.0, sym (ap (λ (gaters : List GatingCell). is_in (map (λ gater. gater.clock) gaters ++ map (λ register. register.clock) c.registers) net) none) ∙ at.1)
+clock_input c ss net drawn none (inr at) = (at.0, sym (ap (λ (gaters : List (GatingCell ℕ)). is_in (map (λ gater. gater.clock) gaters ++ map (λ register. register.clock) c.registers) net) none) ∙ at.1)
 
 -- its parts are those that the statements say
 record HasSaid (c : Circuit) (ss : List Statement) : Type 0 where

@@ -83,7 +83,7 @@ cells_by (Names inputs output cover ∷ ss) drawn = ap (λ rest. Names inputs ou
 cells_by (Gate cell pins ∷ ss) drawn = absurd drawn.0
 cells_by (s ∷ ss) drawn = cells_by ss drawn.1
 
-pub cells_stated : (names : List Word) (cells : List LogicCell) (ss : List Statement) → AllByRecursion IsDrawn ss → map (named_cell names) cells ≡ flat_map cells_said ss → map (cell_statement names) cells ≡ filter (is_cell []) ss
+pub cells_stated : (names : List Word) (cells : List (LogicCell ℕ)) (ss : List Statement) → AllByRecursion IsDrawn ss → map (named_cell names) cells ≡ flat_map cells_said ss → map (cell_statement names) cells ≡ filter (is_cell []) ss
 cells_stated names cells ss drawn are = sym (map_twice cell_by (named_cell names) cells) ∙ (ap (map cell_by) are ∙ cells_by ss drawn)
 
 -- such logic cells are not placed
@@ -95,11 +95,11 @@ unplaced cells ss drawn are = ap (flat_map (λ cell. function_cells cell.functio
     go (Names inputs output cover ∷ ts) drawn = go ts drawn.1
     go (s ∷ ts) drawn = go ts drawn.1
 
-functions_named : (names : List Word) (cells : List LogicCell) → flat_map (λ (cell : LogicCell). function_cells cell.function) cells ≡ flat_map (λ (cell : NamedCell). function_cells cell.function) (map (named_cell names) cells)
+functions_named : (names : List Word) (cells : List (LogicCell ℕ)) → flat_map (λ (cell : LogicCell ℕ). function_cells cell.function) cells ≡ flat_map (λ (cell : NamedCell). function_cells cell.function) (map (named_cell names) cells)
 functions_named names [] = refl
 functions_named names (cell ∷ cells) = ap (λ rest. function_cells cell.function ++ rest) (functions_named names cells)
 
-pub cells_unplaced : (names : List Word) (cells : List LogicCell) (ss : List Statement) → AllByRecursion IsDrawn ss → map (named_cell names) cells ≡ flat_map cells_said ss → flat_map (λ (cell : LogicCell). function_cells cell.function) cells ≡ []
+pub cells_unplaced : (names : List Word) (cells : List (LogicCell ℕ)) (ss : List Statement) → AllByRecursion IsDrawn ss → map (named_cell names) cells ≡ flat_map cells_said ss → flat_map (λ (cell : LogicCell ℕ). function_cells cell.function) cells ≡ []
 cells_unplaced names cells ss drawn are = functions_named names cells ∙ unplaced (map (named_cell names) cells) ss drawn are
 
 -- a logic cell whose statement is said is said
@@ -111,7 +111,7 @@ one_cell inputs output (Cover own) xs x cover is =
     cc
 one_cell inputs output (Cell cell) xs x cover is = absurd (cc)
 
-pub cells_named : (names : List Word) (cells : List LogicCell) (ss : List Statement) → AllByRecursion IsDrawn ss → map (cell_statement names) cells ≡ filter (is_cell []) ss → map (named_cell names) cells ≡ flat_map cells_said ss
+pub cells_named : (names : List Word) (cells : List (LogicCell ℕ)) (ss : List Statement) → AllByRecursion IsDrawn ss → map (cell_statement names) cells ≡ filter (is_cell []) ss → map (named_cell names) cells ≡ flat_map cells_said ss
 cells_named names [] [] drawn are = refl
 cells_named names (cell ∷ cells) [] drawn are = absurd (cc)
 cells_named names [] (Names inputs output cover ∷ ss) drawn are = absurd (cc)
@@ -137,7 +137,7 @@ first_output names (o ∷ outputs) output is =
     let pair : ◌≡◌ {A = Word × Bool} (net_name names o.0, o.1) (output, false) = cc in
     ap (λ (p : Word × Bool). p.0) pair
 
-latch_stated : (names : List Word) (r : RegisterCell) (input output clock : Word) (init : ℕ) → named_register names r ≡ latch_register input output clock init → register_statement names r ≡ Latch input output (Some clock) init
+latch_stated : (names : List Word) (r : RegisterCell ℕ ℕ) (input output clock : Word) (init : ℕ) → named_register names r ≡ latch_register input output clock init → register_statement names r ≡ Latch input output (Some clock) init
 latch_stated names r input output clock init is =
     let kind : r.kind ≡ Plain = ap (λ (n : NamedRegister). n.kind) is in
     let first : net_name names (slice_index r.inputs 0) ≡ input = first_input names r.inputs input (ap (λ (n : NamedRegister). n.inputs) is) in
@@ -148,7 +148,7 @@ latch_stated names r input output clock init is =
     ∙ (ap (λ i. Latch i (net_name names (slice_index_or r.outputs 0 (0, false)).0) (Some (net_name names r.clock)) r.init) first
     ∙ (ap (λ o. Latch input o (Some (net_name names r.clock)) r.init) shown ∙ (ap (λ k. Latch input output (Some k) r.init) at ∙ ap (Latch input output (Some clock)) starts)))
 
-pub registers_stated : (names : List Word) (registers : List RegisterCell) (ss : List Statement) → AllByRecursion IsDrawn ss → map (named_register names) registers ≡ flat_map registers_said ss → map (register_statement names) registers ≡ filter (is_register []) ss
+pub registers_stated : (names : List Word) (registers : List (RegisterCell ℕ ℕ)) (ss : List Statement) → AllByRecursion IsDrawn ss → map (named_register names) registers ≡ flat_map registers_said ss → map (register_statement names) registers ≡ filter (is_register []) ss
 registers_stated names [] [] drawn are = refl
 registers_stated names (r ∷ registers) [] drawn are = absurd (cc)
 registers_stated names [] (Latch input output (Some clock) init ∷ ss) drawn are = absurd (cc)
@@ -170,7 +170,7 @@ clocks_given name (Gate cell pins ∷ ss) drawn = absurd drawn.0
 clocks_given name (s ∷ ss) drawn = clocks_given name ss drawn.1
 
 -- and is plain
-pub are_plain : (names : List Word) (registers : List RegisterCell) (ss : List Statement) → AllByRecursion IsDrawn ss → map (named_register names) registers ≡ flat_map registers_said ss → AllByRecursion (λ r. r.kind ≡ Plain) registers
+pub are_plain : (names : List Word) (registers : List (RegisterCell ℕ ℕ)) (ss : List Statement) → AllByRecursion IsDrawn ss → map (named_register names) registers ≡ flat_map registers_said ss → AllByRecursion (λ r. r.kind ≡ Plain) registers
 are_plain names [] ss drawn are = tt
 are_plain names (r ∷ registers) [] drawn are = absurd (cc)
 are_plain names (r ∷ registers) (Latch input output (Some clock) init ∷ ss) drawn are =
@@ -179,16 +179,16 @@ are_plain names (r ∷ registers) (Latch input output (Some clock) init ∷ ss) 
     (ap (λ (n : NamedRegister). n.kind) first, are_plain names registers ss drawn.1 rest)
 are_plain names (r ∷ registers) (s ∷ ss) drawn are = are_plain names (r ∷ registers) ss drawn.1 are
 
-pub plain_unplaced : (registers : List RegisterCell) → AllByRecursion (λ r. r.kind ≡ Plain) registers → flat_map (λ (r : RegisterCell). kind_cells r.kind) registers ≡ []
+pub plain_unplaced : (registers : List (RegisterCell ℕ ℕ)) → AllByRecursion (λ r. r.kind ≡ Plain) registers → flat_map (λ (r : RegisterCell ℕ ℕ). kind_cells r.kind) registers ≡ []
 plain_unplaced [] plain = refl
-plain_unplaced (r ∷ registers) plain = ap (λ kind. kind_cells kind ++ flat_map (λ (s : RegisterCell). kind_cells s.kind) registers) plain.0 ∙ plain_unplaced registers plain.1
+plain_unplaced (r ∷ registers) plain = ap (λ kind. kind_cells kind ++ flat_map (λ (s : RegisterCell ℕ ℕ). kind_cells s.kind) registers) plain.0 ∙ plain_unplaced registers plain.1
 
-plain_starts_each : (registers : List RegisterCell) → AllByRecursion (λ r. r.kind ≡ Plain) registers → AllByRecursion (λ r. StartsAsKind r.kind r.init) registers
+plain_starts_each : (registers : List (RegisterCell ℕ ℕ)) → AllByRecursion (λ r. r.kind ≡ Plain) registers → AllByRecursion (λ r. StartsAsKind r.kind r.init) registers
 plain_starts_each [] plain = tt
 plain_starts_each (r ∷ registers) plain = (subst (λ kind. StartsAsKind kind r.init) (sym plain.0) tt, plain_starts_each registers plain.1)
 
-pub plain_starts : (registers : List RegisterCell) → AllByRecursion (λ r. r.kind ≡ Plain) registers → All (λ r. StartsAsKind r.kind r.init) registers
-plain_starts registers plain = All-from_recursion (λ (r : RegisterCell). StartsAsKind r.kind r.init) registers (plain_starts_each registers plain)
+pub plain_starts : (registers : List (RegisterCell ℕ ℕ)) → AllByRecursion (λ r. r.kind ≡ Plain) registers → All (λ r. StartsAsKind r.kind r.init) registers
+plain_starts registers plain = All-from_recursion (λ (r : RegisterCell ℕ ℕ). StartsAsKind r.kind r.init) registers (plain_starts_each registers plain)
 
 -- a register whose statement is said is said
 one_input : (names : List Word) (nets : List ℕ) (input : Word) → length nets ≡ 1 → net_name names (slice_index nets 0) ≡ input → net_names names nets ≡ input ∷ []
@@ -203,11 +203,11 @@ one_output names (o ∷ []) output one is =
     cc
 one_output names (o ∷ more ∷ outputs) output one is = absurd (cc)
 
-plain_kind : (names : List Word) (r : RegisterCell) (kind : RegisterKind) (input output clock : Word) (init : ℕ) → kind_statement names r kind ≡ Latch input output (Some clock) init → kind ≡ Plain
+plain_kind : (names : List Word) (r : RegisterCell ℕ ℕ) (kind : RegisterKind) (input output clock : Word) (init : ℕ) → kind_statement names r kind ≡ Latch input output (Some clock) init → kind ≡ Plain
 plain_kind names r Plain input output clock init is = refl
 plain_kind names r (Flop cell) input output clock init is = absurd (cc)
 
-latch_named : (names : List Word) (r : RegisterCell) (input output clock : Word) (init : ℕ) → RegisterFits r → register_statement names r ≡ Latch input output (Some clock) init → named_register names r ≡ latch_register input output clock init
+latch_named : (names : List Word) (r : RegisterCell ℕ ℕ) (input output clock : Word) (init : ℕ) → RegisterFits r → register_statement names r ≡ Latch input output (Some clock) init → named_register names r ≡ latch_register input output clock init
 latch_named names r input output clock init fits is =
     let kind : r.kind ≡ Plain = plain_kind names r r.kind input output clock init is in
     let shape : FitsKind Plain r = subst (λ k. FitsKind k r) kind fits.kind in
@@ -221,7 +221,7 @@ latch_named names r input output clock init fits is =
     let pins : r.pins ≡ 0 ∷ [] = shape.2 in
     cc
 
-pub registers_named : (names : List Word) (registers : List RegisterCell) (ss : List Statement) → AllByRecursion IsDrawn ss → AllByRecursion RegisterFits registers → map (register_statement names) registers ≡ filter (is_register []) ss → map (named_register names) registers ≡ flat_map registers_said ss
+pub registers_named : (names : List Word) (registers : List (RegisterCell ℕ ℕ)) (ss : List Statement) → AllByRecursion IsDrawn ss → AllByRecursion RegisterFits registers → map (register_statement names) registers ≡ filter (is_register []) ss → map (named_register names) registers ≡ flat_map registers_said ss
 registers_named names [] [] drawn fit are = refl
 registers_named names (r ∷ registers) [] drawn fit are = absurd (cc)
 registers_named names [] (Latch input output (Some clock) init ∷ ss) drawn fit are = absurd (cc)

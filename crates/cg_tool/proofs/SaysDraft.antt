@@ -46,7 +46,7 @@ no_declared ss drawn = ap (λ words. words ++ []) (no_clocks ss drawn)
 
 nothing_placed : (c : Circuit) (ss : List Statement) → AllByRecursion IsDrawn ss → HasParts c ss → placed_cells c ≡ []
 nothing_placed c ss drawn has =
-    let registers = flat_map (λ (r : RegisterCell). kind_cells r.kind) c.registers in
+    let registers = flat_map (λ (r : RegisterCell ℕ ℕ). kind_cells r.kind) c.registers in
     ap (λ xs. xs ++ map (λ gater. gater.cell) c.gaters ++ registers) (cells_unplaced c.names c.cells ss drawn has.cells_are)
     ∙ (ap (λ gaters. [] ++ map (λ gater. gater.cell) gaters ++ registers) has.gaters_are ∙ plain_unplaced c.registers (are_plain c.names c.registers ss drawn has.registers_are))
 

@@ -3,6 +3,7 @@
 ghost use Rattle.std.specs.Prelude.{◌≡◌, ℕ, ◌+◌, ◌<◌, ◌^◌, ◌++◌, ◌∷◌, List, [], codes, drop, length, map, IfOk, OnOk};
 ghost use Rattle.std.specs.List.{flat_map};
 ghost use Rattle.cg_cell.specs.Pins.{PinData, is_clock, is_data, is_enable, is_output};
+ghost use Rattle.std.specs.Option.{option_map};
 ghost use Rattle.cg_netlist.specs.Canonical.{flop_pin, flop_pins, gater_pin, gater_pins, logic_pins, net_name, net_names, output_at};
 ghost use Rattle.cg_netlist.specs.Statements.{Gate, pin_word};
 ghost use Rattle.cg_netlist.specs.View.{register_seen};
@@ -53,7 +54,7 @@ pub fn push_gating_cell(
     netlist: &Netlist,
     gater: &GaterView<'_>,
 ) -> Result<(), AllocError>
-    ensures { OnOk result (out.new.items ≡ out.old.items ++ statement_text (Gate gater.now.cell.now.name (gater_pins (net_name netlist.now.names gater.now.clock) (net_name netlist.now.names gater.now.enable) (net_name netlist.now.names gater.now.output) gater.now.cell.now.pins))) }
+    ensures { OnOk result (out.new.items ≡ out.old.items ++ statement_text (Gate gater.now.cell.now.name (gater_pins (net_name netlist.now.names gater.now.clock) (net_name netlist.now.names gater.now.enable) (option_map (net_name netlist.now.names) gater.now.test) (net_name netlist.now.names gater.now.output) gater.now.cell.now.pins))) }
 {
     push_gate(out, gater.cell)?;
     push_gater_pins(out, netlist, gater.cell.pins(), gater)?;
@@ -204,7 +205,7 @@ fn push_gater_pins(
     pins: &[Pin],
     gater: &GaterView<'_>,
 ) -> Result<(), AllocError>
-    ensures { OnOk result (out.new.items ≡ out.old.items ++ pins_text (gater_pins (net_name netlist.now.names gater.now.clock) (net_name netlist.now.names gater.now.enable) (net_name netlist.now.names gater.now.output) pins.now)) }
+    ensures { OnOk result (out.new.items ≡ out.old.items ++ pins_text (gater_pins (net_name netlist.now.names gater.now.clock) (net_name netlist.now.names gater.now.enable) (option_map (net_name netlist.now.names) gater.now.test) (net_name netlist.now.names gater.now.output) pins.now)) }
 {
     'pins: for pin in pins {
         push_gater_pin(out, netlist, pin, gater)?;
@@ -219,12 +220,16 @@ fn push_gater_pin(
     pin: &Pin,
     gater: &GaterView<'_>,
 ) -> Result<(), AllocError>
-    ensures { OnOk result (out.new.items ≡ out.old.items ++ pins_text (gater_pin (net_name netlist.now.names gater.now.clock) (net_name netlist.now.names gater.now.enable) (net_name netlist.now.names gater.now.output) pin.now)) }
+    ensures { OnOk result (out.new.items ≡ out.old.items ++ pins_text (gater_pin (net_name netlist.now.names gater.now.clock) (net_name netlist.now.names gater.now.enable) (option_map (net_name netlist.now.names) gater.now.test) (net_name netlist.now.names gater.now.output) pin.now)) }
 {
     match pin.role() {
         Role::Clock => push_pin(out, netlist, pin, gater.clock),
         Role::Enable => push_pin(out, netlist, pin, gater.enable),
         Role::Output => push_pin(out, netlist, pin, gater.output),
-        Role::Data | Role::Test | Role::State | Role::StateBar => Ok(()),
+        Role::Test => match gater.test {
+            Some(net) => push_pin(out, netlist, pin, net),
+            None => Ok(()),
+        },
+        Role::Data | Role::State | Role::StateBar => Ok(()),
     }
 }

@@ -1,6 +1,6 @@
 //! The lines of logic cells, gating cells and registers.
 
-ghost use Rattle.std.specs.Prelude.{◌≡◌, ◌++◌, ◌+◌, ◌<◌, ◌≤◌, OnOk, length, slice_get, slice_index, slice_index_or, false, Some};
+ghost use Rattle.std.specs.Prelude.{◌≡◌, ◌++◌, ◌+◌, ◌<◌, ◌≤◌, ℕ, OnOk, length, slice_get, slice_index, slice_index_or, false, Some};
 ghost use Rattle.cg_netlist.specs.Canonical.{cell_statement, gater_statement, net_name, register_statement};
 ghost use Rattle.cg_netlist.specs.Circuit.{GatingCell, LogicCell, RegisterCell};
 ghost use Rattle.cg_netlist.specs.View.{cell_seen, gater_seen, register_seen};
@@ -18,7 +18,7 @@ use std::alloc::AllocError;
 /// Appends the lines of a logic cell, which must be one of the netlist's.
 pub fn push_cell(out: &mut Vec<u8>, netlist: &Netlist, id: CellId) -> Result<(), AllocError>
     requires { id < length netlist.now.cells }
-    ensures { OnOk result ((cell : LogicCell) → slice_get netlist.now.cells id ≡ Some cell → out.new.items ≡ out.old.items ++ statement_text (cell_statement netlist.now.names cell)) }
+    ensures { OnOk result ((cell : LogicCell ℕ) → slice_get netlist.now.cells id ≡ Some cell → out.new.items ≡ out.old.items ++ statement_text (cell_statement netlist.now.names cell)) }
 {
     let cell = netlist.cell(id);
     match cell.function {
@@ -30,7 +30,7 @@ pub fn push_cell(out: &mut Vec<u8>, netlist: &Netlist, id: CellId) -> Result<(),
 /// Appends the line of a gating cell, which must be one of the netlist's.
 pub fn push_gater(out: &mut Vec<u8>, netlist: &Netlist, id: GateClockId) -> Result<(), AllocError>
     requires { id < length netlist.now.gaters }
-    ensures { OnOk result ((gater : GatingCell) → slice_get netlist.now.gaters id ≡ Some gater → out.new.items ≡ out.old.items ++ statement_text (gater_statement netlist.now.names gater)) }
+    ensures { OnOk result ((gater : GatingCell ℕ) → slice_get netlist.now.gaters id ≡ Some gater → out.new.items ≡ out.old.items ++ statement_text (gater_statement netlist.now.names gater)) }
 {
     let gater = netlist.gater(id);
     push_gating_cell(out, netlist, &gater)
@@ -39,8 +39,8 @@ pub fn push_gater(out: &mut Vec<u8>, netlist: &Netlist, id: GateClockId) -> Resu
 /// Appends the line of a register, which must be one of the netlist's.
 pub fn push_register(out: &mut Vec<u8>, netlist: &Netlist, id: RegId) -> Result<(), AllocError>
     requires id { id < length netlist.now.registers }
-    requires init { (register : RegisterCell) → slice_get netlist.now.registers id ≡ Some register → register.init ≤ 3 }
-    ensures { OnOk result ((register : RegisterCell) → slice_get netlist.now.registers id ≡ Some register → out.new.items ≡ out.old.items ++ statement_text (register_statement netlist.now.names register)) }
+    requires init { (register : RegisterCell ℕ ℕ) → slice_get netlist.now.registers id ≡ Some register → register.init ≤ 3 }
+    ensures { OnOk result ((register : RegisterCell ℕ ℕ) → slice_get netlist.now.registers id ≡ Some register → out.new.items ≡ out.old.items ++ statement_text (register_statement netlist.now.names register)) }
 {
     let register = netlist.register(id);
     match register.kind {

@@ -41,3 +41,4 @@ pub mod Values
 pub mod WidthLemmas
 pub mod WritableParts
 pub mod WrittenLines
+pub mod said

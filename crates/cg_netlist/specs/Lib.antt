@@ -19,3 +19,4 @@ pub mod Statements
 pub mod View
 pub mod WellFormed
 pub mod Writable
+pub mod said

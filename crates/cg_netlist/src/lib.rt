@@ -18,6 +18,7 @@
 //! - `finish`: the faults of a draft, in order, and else its netlist.
 //! - `view`: what a netlist shows of one of its parts.
 //! - `netlist`: well-formed netlists, and what they answer.
+//! - `part_laws`: what is true of parts by name, of their faults, and of the netlists that they say.
 //! - `history`: that a netlist has one history for each start and waveform.
 #![tactic(auto)]
 
@@ -31,6 +32,7 @@ mod marks;
 mod names;
 mod net_set;
 pub mod netlist;
+pub mod part_laws;
 pub mod parts;
 mod ranks;
 mod renumber;

@@ -1,0 +1,8 @@
+pub mod Building
+pub mod Faults
+pub mod Laws
+pub mod Part
+pub mod Said
+pub mod Says
+pub mod Wiring
+pub mod Writable

@@ -1,0 +1,35 @@
+//! What is true of parts by name, of their faults, and of the netlists that they say.
+//!
+//! Each law is what a call ensures that does nothing: so it is proved as every contract is, and callers can use it.
+
+ghost use Rattle.cg_netlist.specs.said.Laws.{AtLeastOne, AtMostOne, FaultOrNone, NoFault, NoneBeside, OneFault, SaidByItsParts, SaidIsNetlist, SaidIsWritable, SaidMore};
+
+/// Parts that have no fault say one netlist, and parts that have one say none.
+pub fn one_netlist_said()
+    ensures most { AtMostOne }
+    ensures beside { NoneBeside }
+    ensures least { AtLeastOne }
+{}
+
+/// Parts have one first fault, or none.
+pub fn one_first_fault()
+    ensures some { FaultOrNone }
+    ensures one { OneFault }
+    ensures none { NoFault }
+{}
+
+/// A netlist is said by its own parts.
+pub fn said_by_own_parts()
+    ensures { SaidByItsParts }
+{}
+
+/// What parts say is a netlist, and is writable where each of the parts is one that a line can say.
+pub fn said_is_netlist()
+    ensures netlist { SaidIsNetlist }
+    ensures writable { SaidIsWritable }
+{}
+
+/// A part more says one thing more.
+pub fn said_part_by_part()
+    ensures { SaidMore }
+{}

@@ -1,5 +1,5 @@
 -- What a shelf in memory is seen as.
-use Rattle.std.specs.Prelude.{◌≡◌, ℕ, Bool, true, false, nat_eq, List, Option, Result, Ok, Err, ⊤}
+use Rattle.std.specs.Prelude.{◌≡◌, ℕ, Bool, true, false, nat_eq, List, Option, Some, Result, Ok, Err, ⊤}
 use Rattle.std.specs.Option.{option_map}
 use Rattle.std.specs.List.{list_any}
 use Rattle.std.specs.BTreeMap.{get_by_text}
@@ -21,19 +21,25 @@ world_of shelf = record {
   held = held_by shelf;
   said = shelf.said.items;
   complained = shelf.complained.items;
+  calls = shelf.made.items;
   faults = shelf.faults.items;
 }
 
+-- A load gives no bytes but those that are held.
+abbrev pub GivesHeld : Option (List ℕ) → Result (List ℕ) LoadFault → Type 0
+GivesHeld held (Ok bytes) = held ≡ Some bytes
+GivesHeld held (Err fault) = ⊤
+
 -- How many calls were made, and the numbers of the calls that are to fail.
-abbrev pub calls_of : MemShelf → ℕ
-calls_of shelf = shelf.calls
+abbrev pub count_of : MemShelf → ℕ
+count_of shelf = shelf.count
 
 abbrev pub failing_of : MemShelf → List ℕ
 failing_of shelf = shelf.failing.items
 
 -- The number of the next call is among those that are to fail.
 abbrev pub next_fails : MemShelf → Bool
-next_fails shelf = list_any (λ number. nat_eq number (calls_of shelf)) (failing_of shelf)
+next_fails shelf = list_any (λ number. nat_eq number (count_of shelf)) (failing_of shelf)
 
 -- A load answers Failed exactly where the test passes; want of memory may come at any time.
 abbrev pub LoadFailsWhere : {T : Type 0} → Bool → Result T LoadFault → Type 0

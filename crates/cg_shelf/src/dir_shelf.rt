@@ -133,8 +133,11 @@ impl<R: Runtime> Shelf for DirShelf<R> {
       held = λ _. None;
       said = [];
       complained = [];
+      calls = [];
       faults = shelf.faults.items;
     } };
+
+    ghost gives = { λ _ _ _. Unit {0} };
 
     fn load(&mut self, name: &str, limit: u64, into: &mut Vec<u8>) -> Result<(), LoadFault> {
         into.clear();

@@ -116,3 +116,11 @@ pub struct Fault {
     pub call: Call,
     pub name: FileName,
 }
+
+/// A call that was made, whatever it answered: which of the four it was, and the file that it was for. The name
+/// is empty for `say` and `complain`.
+#[derive(Debug, Drop)]
+pub struct CallMade {
+    pub call: Call,
+    pub name: FileName,
+}

@@ -1,12 +1,12 @@
 //! A shelf in memory, which fails where it is told to.
 
 ghost use Rattle.std.specs.Prelude.{◌≡◌, ◌≢◌, ◌-◌, ◌+◌, ◌^◌, ◌≤◌, ◌++◌, ◌||◌, [], Some, None, length, min, is_none, IfOk, OnOk, OnErr, option_copied};
-ghost use Rattle.cg_shelf.specs.MemShelf.{held_by, world_of, calls_of, failing_of, next_fails, LoadFailsWhere, FailsWhere};
-ghost use Rattle.cg_shelf.specs.Shelf.{LoadAnswers, Appends, SameBut, load_faults, call_faults, one_fault};
+ghost use Rattle.cg_shelf.specs.MemShelf.{held_by, world_of, count_of, failing_of, next_fails, GivesHeld, LoadFailsWhere, FailsWhere};
+ghost use Rattle.cg_shelf.specs.Shelf.{LoadAnswers, Appends, Lists, ListsLoad, SameBut, call_faults, load_faults, load_given, one_call, one_fault};
 ghost use Rattle.cg_shelf.specs.declared.faults.Call.TheVariants.{Store, Say, Complain};
 
 use crate::calls::Shelf;
-use crate::faults::{Call, Fault, FileName, LoadFault, StoreFault};
+use crate::faults::{Call, CallMade, Fault, FileName, LoadFault, StoreFault};
 use std::alloc::{AllocError, Global};
 use std::collections::BTreeMap;
 
@@ -19,10 +19,11 @@ pub struct MemShelf {
     files: BTreeMap<String, Vec<u8>>,
     said: Vec<u8>,
     complained: Vec<u8>,
+    made: Vec<CallMade>,
     faults: Vec<Fault>,
     // The numbers of the calls that are to fail, and how many calls were made.
     failing: Vec<u64>,
-    calls: u64,
+    count: u64,
 }
 
 impl MemShelf {
@@ -33,18 +34,20 @@ impl MemShelf {
         ensures empty { IfOk result (λ shelf. held_by shelf ≡ (λ _. None)) }
         ensures said { IfOk result (λ shelf. (world_of shelf).said ≡ []) }
         ensures complained { IfOk result (λ shelf. (world_of shelf).complained ≡ []) }
+        ensures calls { IfOk result (λ shelf. (world_of shelf).calls ≡ []) }
         ensures faults { IfOk result (λ shelf. (world_of shelf).faults ≡ []) }
         ensures failing { IfOk result (λ shelf. failing_of shelf ≡ failing.now) }
-        ensures calls { IfOk result (λ shelf. calls_of shelf ≡ 0) }
+        ensures count { IfOk result (λ shelf. count_of shelf ≡ 0) }
     {
         Ok(MemShelf {
             alloc,
             files: BTreeMap::new(alloc),
             said: Vec::new(alloc),
             complained: Vec::new(alloc),
+            made: Vec::new(alloc),
             faults: Vec::new(alloc),
             failing: Vec::from_slice(alloc, failing)?,
-            calls: 0,
+            count: 0,
         })
     }
 
@@ -55,9 +58,10 @@ impl MemShelf {
         ensures refused { OnErr result (held_by self.new ≡ held_by self.old) }
         ensures same_said { (world_of self.new).said ≡ (world_of self.old).said }
         ensures same_complained { (world_of self.new).complained ≡ (world_of self.old).complained }
+        ensures same_calls { (world_of self.new).calls ≡ (world_of self.old).calls }
         ensures same_faults { (world_of self.new).faults ≡ (world_of self.old).faults }
         ensures same_failing { failing_of self.new ≡ failing_of self.old }
-        ensures same_calls { calls_of self.new ≡ calls_of self.old }
+        ensures same_count { count_of self.new ≡ count_of self.old }
     {
         let key = String::from_str(self.alloc, name)?;
         let bytes = Vec::from_slice(self.alloc, bytes)?;
@@ -91,6 +95,13 @@ impl MemShelf {
         self.complained.as_slice()
     }
 
+    /// The calls that were made, in order.
+    pub fn calls(&self) -> &[CallMade]
+        ensures { result.now ≡ (world_of self.now).calls }
+    {
+        self.made.as_slice()
+    }
+
     /// The calls that failed, in order.
     pub fn faults(&self) -> &[Fault]
         ensures { result.now ≡ (world_of self.now).faults }
@@ -101,15 +112,16 @@ impl MemShelf {
     /// Counts a call, and tells whether it is to fail. The count stands still at its type's end.
     fn counts(&mut self) -> bool
         ensures fails { result ≡ next_fails self.old }
-        ensures count { calls_of self.new ≡ min (calls_of self.old + 1) (2 ^ 64 - 1) }
+        ensures count { count_of self.new ≡ min (count_of self.old + 1) (2 ^ 64 - 1) }
         ensures same_failing { failing_of self.new ≡ failing_of self.old }
         ensures same_files { self.new.files ≡ self.old.files }
         ensures same_said { self.new.said ≡ self.old.said }
         ensures same_complained { self.new.complained ≡ self.old.complained }
+        ensures same_made { self.new.made ≡ self.old.made }
         ensures same_faults { self.new.faults ≡ self.old.faults }
     {
-        let number = self.calls;
-        self.calls = self.calls.saturating_add(1);
+        let number = self.count;
+        self.count = self.count.saturating_add(1);
         self.failing.iter().any(|failing| *failing == number)
     }
 }
@@ -122,17 +134,38 @@ impl MemShelf {
         ensures same_files { self.new.files ≡ self.old.files }
         ensures same_said { (world_of self.new).said ≡ (world_of self.old).said }
         ensures same_complained { (world_of self.new).complained ≡ (world_of self.old).complained }
+        ensures same_calls { (world_of self.new).calls ≡ (world_of self.old).calls }
         ensures same_failing { failing_of self.new ≡ failing_of self.old }
-        ensures same_calls { calls_of self.new ≡ calls_of self.old }
+        ensures same_count { count_of self.new ≡ count_of self.old }
     {
         let name = FileName::new(self.alloc, name)?;
         self.faults.push(Fault { call, name })?;
         Ok(())
     }
+
+    /// Begins a call: counts it, lists it, and tells whether it is to fail.
+    fn begin(&mut self, call: Call, name: &[u8]) -> Result<bool, AllocError>
+        ensures fails { IfOk result (λ fails. fails ≡ next_fails self.old) }
+        ensures listed { OnOk result ((world_of self.new).calls ≡ (world_of self.old).calls ++ one_call call name.now) }
+        ensures refused { OnErr result ((world_of self.new).calls ≡ (world_of self.old).calls) }
+        ensures count { count_of self.new ≡ min (count_of self.old + 1) (2 ^ 64 - 1) }
+        ensures same_failing { failing_of self.new ≡ failing_of self.old }
+        ensures same_files { self.new.files ≡ self.old.files }
+        ensures same_said { (world_of self.new).said ≡ (world_of self.old).said }
+        ensures same_complained { (world_of self.new).complained ≡ (world_of self.old).complained }
+        ensures same_faults { (world_of self.new).faults ≡ (world_of self.old).faults }
+    {
+        let fails = self.counts();
+        let name = FileName::new(self.alloc, name)?;
+        self.made.push(CallMade { call, name })?;
+        Ok(fails)
+    }
 }
 
 impl Shelf for MemShelf {
     ghost world = { world_of };
+
+    ghost gives = { λ shelf name given. GivesHeld (held_by shelf name) given };
 
     fn load(&mut self, name: &str, limit: u64, into: &mut Vec<u8>) -> Result<(), LoadFault>
         ensures fails { LoadFailsWhere (next_fails self.old || is_none (held_by self.old name.now)) result }
@@ -142,12 +175,14 @@ impl Shelf for MemShelf {
         ensures same_held { held_by self.new ≡ held_by self.old }
         ensures same_said { (world_of self.new).said ≡ (world_of self.old).said }
         ensures same_complained { (world_of self.new).complained ≡ (world_of self.old).complained }
+        ensures given { GivesHeld (held_by self.old name.now) (load_given into.new.items result) }
+        ensures listed { ListsLoad name.now (world_of self.old) (world_of self.new) result }
         ensures failed { (world_of self.new).faults ≡ (world_of self.old).faults ++ load_faults name.now result }
         ensures same_failing { failing_of self.new ≡ failing_of self.old }
-        ensures count { calls_of self.new ≡ min (calls_of self.old + 1) (2 ^ 64 - 1) }
+        ensures count { count_of self.new ≡ min (count_of self.old + 1) (2 ^ 64 - 1) }
     {
         into.clear();
-        if self.counts() {
+        if self.begin(Call::Load, name.as_bytes())? {
             self.note(Call::Load, name.as_bytes())?;
             return Err(LoadFault::Failed);
         }
@@ -169,11 +204,12 @@ impl Shelf for MemShelf {
         ensures others { SameBut name.now (held_by self.old) (held_by self.new) }
         ensures same_said { (world_of self.new).said ≡ (world_of self.old).said }
         ensures same_complained { (world_of self.new).complained ≡ (world_of self.old).complained }
+        ensures listed { Lists Store name.now (world_of self.old) (world_of self.new) result }
         ensures failed { (world_of self.new).faults ≡ (world_of self.old).faults ++ call_faults Store name.now result }
         ensures same_failing { failing_of self.new ≡ failing_of self.old }
-        ensures count { calls_of self.new ≡ min (calls_of self.old + 1) (2 ^ 64 - 1) }
+        ensures count { count_of self.new ≡ min (count_of self.old + 1) (2 ^ 64 - 1) }
     {
-        if self.counts() {
+        if self.begin(Call::Store, name.as_bytes())? {
             self.note(Call::Store, name.as_bytes())?;
             return Err(StoreFault::Failed);
         }
@@ -187,11 +223,12 @@ impl Shelf for MemShelf {
         ensures refused { OnErr result ((world_of self.new).said ≡ (world_of self.old).said) }
         ensures same_held { held_by self.new ≡ held_by self.old }
         ensures same_complained { (world_of self.new).complained ≡ (world_of self.old).complained }
+        ensures listed { Lists Say [] (world_of self.old) (world_of self.new) result }
         ensures failed { (world_of self.new).faults ≡ (world_of self.old).faults ++ call_faults Say [] result }
         ensures same_failing { failing_of self.new ≡ failing_of self.old }
-        ensures count { calls_of self.new ≡ min (calls_of self.old + 1) (2 ^ 64 - 1) }
+        ensures count { count_of self.new ≡ min (count_of self.old + 1) (2 ^ 64 - 1) }
     {
-        if self.counts() {
+        if self.begin(Call::Say, b"")? {
             self.note(Call::Say, b"")?;
             return Err(StoreFault::Failed);
         }
@@ -205,11 +242,12 @@ impl Shelf for MemShelf {
         ensures refused { OnErr result ((world_of self.new).complained ≡ (world_of self.old).complained) }
         ensures same_held { held_by self.new ≡ held_by self.old }
         ensures same_said { (world_of self.new).said ≡ (world_of self.old).said }
+        ensures listed { Lists Complain [] (world_of self.old) (world_of self.new) result }
         ensures failed { (world_of self.new).faults ≡ (world_of self.old).faults ++ call_faults Complain [] result }
         ensures same_failing { failing_of self.new ≡ failing_of self.old }
-        ensures count { calls_of self.new ≡ min (calls_of self.old + 1) (2 ^ 64 - 1) }
+        ensures count { count_of self.new ≡ min (count_of self.old + 1) (2 ^ 64 - 1) }
     {
-        if self.counts() {
+        if self.begin(Call::Complain, b"")? {
             self.note(Call::Complain, b"")?;
             return Err(StoreFault::Failed);
         }

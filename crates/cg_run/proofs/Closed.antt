@@ -1,0 +1,210 @@
+-- What a run leaves once it was closed, whatever its mode.
+use Rattle.std.proofs.Common.{◌≡◌, ◌⊎◌, inl, inr, ℕ, Bool, true, false, IsTrue, List, [], ◌++◌, Result, Ok, Err, refl, sym, ◌∙◌, ap, subst, if◌then◌else◌}
+use Rattle.std.specs.Prelude.{IsOkAnd}
+use Rattle.std.proofs.lemmas.List.{append-nil}
+use Rattle.cg_shelf.specs.World.{World}
+use Rattle.cg_shelf.specs.Shelf.{AppendsFront, call_faults, one_fault}
+use Rattle.cg_shelf.specs.declared.faults.Call.TheVariants as calls
+use Rattle.cg_shelf.specs.declared.faults.Fault.{Fault}
+use Rattle.cg_shelf.specs.declared.faults.LoadFault.{LoadFault}
+use Rattle.cg_shelf.specs.declared.faults.StoreFault.{StoreFault}
+use Rattle.cg_shelf.specs.declared.faults.StoreFault.TheVariants as stores
+use Rattle.cg_run.specs.declared.output.Finish.{Finish}
+use Rattle.cg_run.specs.declared.output.Finish.TheVariants as finishes
+use Rattle.cg_run.specs.declared.output.Output.{Output}
+use Rattle.cg_run.specs.declared.refusal.Owner.{Owner}
+use Rattle.cg_run.specs.declared.refusal.Owner.TheVariants as owners
+use Rattle.cg_run.specs.declared.refusal.Refusal.{Refusal}
+use Rattle.cg_run.specs.declared.refusal.Refusal.TheVariants as refusals
+use Rattle.cg_run.specs.declared.refusal.Step.{Step}
+use Rattle.cg_run.specs.declared.refusal.Step.TheVariants as steps
+use Rattle.cg_run.specs.declared.role.Role.{Role}
+use Rattle.cg_run.specs.declared.status.Status.{Status}
+use Rattle.cg_run.specs.declared.status.Status.TheVariants as statuses
+use Rattle.cg_run.specs.Refusal.{faults_of, outcome_faults, owner_status, status_of, step_of}
+use Rattle.cg_run.specs.Status.{finish_status}
+use Rattle.cg_run.specs.Reads.{Untouched}
+use Rattle.cg_run.specs.Run.{Cause, CauseAt, Closes, Leaves, Runs, StandsAt, status_after}
+use Rattle.cg_run.specs.Writes.{HasStep, LeavesAt, Written}
+use Rattle.cg_run.specs.Promise.{Broken, CallBy, Gains, Stands, StandsBy}
+use Rattle.cg_run.specs.Roles.{is_among}
+use Rattle.cg_run.specs.Verdict.{Given, Task}
+use Rattle.cg_run.proofs.ReadHalf.{tells_on}
+
+-- how a run ends that came to this, if memory is there for its complaint
+abbrev pub outcome_status : Result Finish Refusal → Status
+outcome_status (Ok finish) = finish_status finish
+outcome_status (Err refusal) = status_of refusal
+
+abbrev pub EndsSo : Result Finish Refusal → Status → Type 0
+EndsSo (Ok finish) result = result ≡ finish_status finish
+EndsSo (Err refusal) result = (result ≡ status_of refusal) ⊎ (result ≡ statuses.NoMemory)
+
+pub record Closed (outcome : Result Finish Refusal) (between after : World) (result : Status) : Type 0 where
+  pub held : IsTrue between.tells → after.held ≡ between.held
+  pub said : IsTrue between.tells → after.said ≡ between.said
+  pub complaint : List Fault
+  pub failed : after.faults ≡ between.faults ++ complaint
+  pub voice : (complaint ≡ []) ⊎ (complaint ≡ one_fault calls.Complain [])
+  pub ends : EndsSo outcome result
+
+pub voice_of : (answer : Result (Unit {0}) StoreFault) → (call_faults calls.Complain [] answer ≡ []) ⊎ (call_faults calls.Complain [] answer ≡ one_fault calls.Complain [])
+voice_of (Ok x) = inl refl
+voice_of (Err stores.Failed) = inr refl
+voice_of (Err stores.NoMemory) = inl refl
+
+ends_refused : (refusal shown : Refusal) (has : Bool) (answer : Result (Unit {0}) StoreFault) (result : Status) → shown ≡ (if has then refusal else refusals.NoMemory (step_of refusal)) → result ≡ status_after (status_of shown) answer → (result ≡ status_of refusal) ⊎ (result ≡ statuses.NoMemory)
+ends_refused refusal shown true (Ok x) result is ends = inl (ends ∙ ap status_of is)
+ends_refused refusal shown true (Err stores.Failed) result is ends = inl (ends ∙ ap status_of is)
+ends_refused refusal shown true (Err stores.NoMemory) result is ends = inr ends
+ends_refused refusal shown false (Ok x) result is ends = inr (ends ∙ ap status_of is)
+ends_refused refusal shown false (Err stores.Failed) result is ends = inr (ends ∙ ap status_of is)
+ends_refused refusal shown false (Err stores.NoMemory) result is ends = inr ends
+
+pub closed : (names : Role → List ℕ) (outcome : Result Finish Refusal) (between after : World) (result : Status) → Closes names outcome between after result → Closed outcome between after result
+closed names (Ok finish) between after result closes = record {
+  held = λ t. ap (λ w. w.held) closes.1;
+  said = λ t. ap (λ w. w.said) closes.1;
+  complaint = [];
+  failed = ap (λ w. w.faults) closes.1 ∙ sym (append-nil between.faults);
+  voice = inl refl;
+  ends = closes.0;
+}
+closed names (Err refusal) between after result closes = record {
+  held = closes.complains.same_held;
+  said = closes.complains.same_said;
+  complaint = call_faults calls.Complain [] closes.complains.answer;
+  failed = closes.complains.failed;
+  voice = voice_of closes.complains.answer;
+  ends = ends_refused refusal closes.shown closes.has_memory closes.complains.answer result closes.is closes.complains.ends;
+}
+
+-- facts of what files come to
+pub ok_and : (v : Result Output Refusal) (P Q : Output → Type 0) → ((output : Output) → P output → Q output) → IsOkAnd v P → IsOkAnd v Q
+ok_and (Ok output) P Q step h = step output h
+ok_and (Err refusal) P Q step h = absurd h
+
+pub ok_both : (v : Result Output Refusal) (P Q R : Output → Type 0) → ((output : Output) → P output → Q output → R output) → IsOkAnd v P → IsOkAnd v Q → IsOkAnd v R
+ok_both (Ok output) P Q R step h k = step output h k
+ok_both (Err refusal) P Q R step h k = absurd h
+
+-- what stands is not changed by a complaint
+written_after : (names : Role → List ℕ) (output : Output) (before between after : World) → after.held ≡ between.held → after.said ≡ between.said → Written names output before between → Written names output before after
+written_after names output before between after held said w = record {
+  held = λ name. ap (λ h. h name) held ∙ w.held name;
+  said = said ∙ w.said;
+}
+
+leaves_after : (names : Role → List ℕ) (output : Output) (step : Step) (before between after : World) → after.held ≡ between.held → after.said ≡ between.said → LeavesAt names output step before between → LeavesAt names output step before after
+leaves_after names output steps.Reading before between after held said w = record { held = held ∙ w.held; said = said ∙ w.said }
+leaves_after names output (steps.Storing role) before between after held said w = record {
+  done = w.done;
+  here = w.here;
+  rest = w.rest;
+  parts = w.parts;
+  is = w.is;
+  held = λ name apart. ap (λ h. h name) held ∙ w.held name apart;
+  said = said ∙ w.said;
+}
+leaves_after names output steps.Saying before between after held said w = record {
+  held = λ name. ap (λ h. h name) held ∙ w.held name;
+  said = let P : List ℕ → Type 0 = λ s. AppendsFront before.said s output.said in subst P (sym said) w.said;
+}
+
+stands_after : (names : Role → List ℕ) (v : Result Output Refusal) (step : Step) (before between after : World) → after.held ≡ between.held → after.said ≡ between.said → StandsAt names v step before between → StandsAt names v step before after
+stands_after names v steps.Reading before between after held said w = record { held = held ∙ w.held; said = said ∙ w.said }
+stands_after names v (steps.Storing role) before between after held said w = ok_and v (λ o. LeavesAt names o (steps.Storing role) before between) (λ o. LeavesAt names o (steps.Storing role) before after) (λ o. leaves_after names o (steps.Storing role) before between after held said) w
+stands_after names v steps.Saying before between after held said w = ok_and v (λ o. LeavesAt names o steps.Saying before between) (λ o. LeavesAt names o steps.Saying before after) (λ o. leaves_after names o steps.Saying before between after held said) w
+
+pub stays : (names : Role → List ℕ) (v : Result Output Refusal) (outcome : Result Finish Refusal) (before between after : World) → after.held ≡ between.held → after.said ≡ between.said → Leaves names v before between outcome → Leaves names v before after outcome
+stays names v (Ok finish) before between after held said w = ok_and v (λ o. Written names o before between) (λ o. Written names o before after) (λ o. written_after names o before between after held said) w
+stays names v (Err refusal) before between after held said w = stands_after names v (step_of refusal) before between after held said w
+
+-- what stands, status by status
+broken : (names : Role → List ℕ) (v : Result Output Refusal) (step : Step) (before after : World) → IsOkAnd v (λ o. HasStep o step) → IsOkAnd v (λ o. LeavesAt names o step before after) → IsOkAnd v (λ o. Broken names o before after)
+broken names v step before after has leaves = ok_both v (λ o. HasStep o step) (λ o. LeavesAt names o step before after) (λ o. Broken names o before after) (λ o h l. record { step = step; writing = h; leaves = l }) has leaves
+
+owner_stands : (names : Role → List ℕ) (v : Result Output Refusal) (before after : World) (owner : Owner) → Untouched before after → StandsBy names v before after (owner_status owner)
+owner_stands names v before after owners.Netlist h = h
+owner_stands names v before after owners.Library h = h
+owner_stands names v before after owners.Stimulus h = h
+
+memory_stands : (names : Role → List ℕ) (v : Result Output Refusal) (refusal : Refusal) (step : Step) (before after : World) → CauseAt v refusal step → StandsAt names v step before after → StandsBy names v before after statuses.NoMemory
+memory_stands names v refusal steps.Reading before after cause stands = inl stands
+memory_stands names v refusal (steps.Storing role) before after cause stands = inr (broken names v (steps.Storing role) before after cause stands)
+memory_stands names v refusal steps.Saying before after cause stands = inr (broken names v steps.Saying before after cause stands)
+
+refusal_stands : (names : Role → List ℕ) (v : Result Output Refusal) (refusal : Refusal) (before after : World) → CauseAt v refusal (step_of refusal) → StandsAt names v (step_of refusal) before after → StandsBy names v before after (status_of refusal)
+refusal_stands names v (refusals.Content content) before after cause stands = owner_stands names v before after content.owner stands
+refusal_stands names v (refusals.Limit limit) before after cause stands = stands
+refusal_stands names v (refusals.Load role) before after cause stands = stands
+refusal_stands names v (refusals.Store role) before after cause stands = broken names v (steps.Storing role) before after cause stands
+refusal_stands names v refusals.Say before after cause stands = broken names v steps.Saying before after cause stands
+refusal_stands names v (refusals.NoMemory step) before after cause stands = memory_stands names v (refusals.NoMemory step) step before after cause stands
+
+finish_stands : (names : Role → List ℕ) (v : Result Output Refusal) (finish : Finish) (before after : World) → IsOkAnd v (λ o. Written names o before after) → StandsBy names v before after (finish_status finish)
+finish_stands names v finishes.Done before after h = h
+finish_stands names v finishes.Rejected before after h = h
+
+outcome_stands : (names : Role → List ℕ) (v : Result Output Refusal) (outcome : Result Finish Refusal) (before after : World) (result : Status) → Cause v outcome → Leaves names v before after outcome → EndsSo outcome result → StandsBy names v before after result
+outcome_stands names v (Ok finish) before after result cause leaves ends = let P : Status → Type 0 = λ s. StandsBy names v before after s in subst P (sym ends) (finish_stands names v finish before after leaves)
+outcome_stands names v (Err refusal) before after result cause leaves (inl ends) = let P : Status → Type 0 = λ s. StandsBy names v before after s in subst P (sym ends) (refusal_stands names v refusal before after cause leaves)
+outcome_stands names v (Err refusal) before after result cause leaves (inr ends) = let P : Status → Type 0 = λ s. StandsBy names v before after s in subst P (sym ends) (memory_stands names v refusal (step_of refusal) before after cause leaves)
+
+pub stands : (gave : List ℕ → Result (List ℕ) LoadFault → Type 0) (task : Task) (names : Role → List ℕ) (before after : World) (result : Status) → Runs gave task names before after result → IsTrue before.tells → Stands task names before after result
+stands gave task names before after result runs t =
+    let c = closed names runs.outcome runs.between after result runs.closes in
+    let u = tells_on before.tells runs.between.tells runs.attempts.tells t in
+    let a = runs.attempts in
+    record {
+      given = a.given;
+      told = a.told t;
+      stands = outcome_stands names (task.comes a.given) runs.outcome before after result a.cause (stays names (task.comes a.given) runs.outcome before runs.between after (c.held u) (c.said u) (a.leaves t)) c.ends;
+    }
+
+-- the failed calls, status by status
+owner_calls : (names : Role → List ℕ) (loads : List Role) (v : Result Output Refusal) (owner : Owner) → CallBy names loads v [] (owner_status owner)
+owner_calls names loads v owners.Netlist = refl
+owner_calls names loads v owners.Library = refl
+owner_calls names loads v owners.Stimulus = refl
+
+refusal_calls : (names : Role → List ℕ) (loads : List Role) (v : Result Output Refusal) (refusal : Refusal) → ((role : Role) → v ≡ Err (refusals.Load role) → IsTrue (is_among role loads)) → CauseAt v refusal (step_of refusal)
+    → CallBy names loads v (faults_of names refusal) (status_of refusal)
+refusal_calls names loads v (refusals.Content content) named cause = owner_calls names loads v content.owner
+refusal_calls names loads v (refusals.Limit limit) named cause = refl
+refusal_calls names loads v (refusals.Load role) named cause = (role, (named role cause, refl))
+refusal_calls names loads v (refusals.Store role) named cause = inl (role, (cause, refl))
+refusal_calls names loads v refusals.Say named cause = inr refl
+refusal_calls names loads v (refusals.NoMemory step) named cause = inl refl
+
+memory_calls : (names : Role → List ℕ) (loads : List Role) (v : Result Output Refusal) (refusal : Refusal) → CallBy names loads v (faults_of names refusal) statuses.NoMemory
+memory_calls names loads v (refusals.Content content) = inl refl
+memory_calls names loads v (refusals.Limit limit) = inl refl
+memory_calls names loads v (refusals.Load role) = inr (record { call = calls.Load; name = names role }, refl)
+memory_calls names loads v (refusals.Store role) = inr (record { call = calls.Store; name = names role }, refl)
+memory_calls names loads v refusals.Say = inr (record { call = calls.Say; name = [] }, refl)
+memory_calls names loads v (refusals.NoMemory step) = inl refl
+
+finish_calls : (names : Role → List ℕ) (loads : List Role) (v : Result Output Refusal) (finish : Finish) → CallBy names loads v [] (finish_status finish)
+finish_calls names loads v finishes.Done = refl
+finish_calls names loads v finishes.Rejected = refl
+
+outcome_calls : (names : Role → List ℕ) (loads : List Role) (v : Result Output Refusal) (outcome : Result Finish Refusal) (result : Status) → ((role : Role) → v ≡ Err (refusals.Load role) → IsTrue (is_among role loads)) → Cause v outcome → EndsSo outcome result
+    → CallBy names loads v (outcome_faults names outcome) result
+outcome_calls names loads v (Ok finish) result named cause ends = let P : Status → Type 0 = λ s. CallBy names loads v [] s in subst P (sym ends) (finish_calls names loads v finish)
+outcome_calls names loads v (Err refusal) result named cause (inl ends) = let P : Status → Type 0 = λ s. CallBy names loads v (faults_of names refusal) s in subst P (sym ends) (refusal_calls names loads v refusal named cause)
+outcome_calls names loads v (Err refusal) result named cause (inr ends) = let P : Status → Type 0 = λ s. CallBy names loads v (faults_of names refusal) s in subst P (sym ends) (memory_calls names loads v refusal)
+
+pub gains : (gave : List ℕ → Result (List ℕ) LoadFault → Type 0) (task : Task) (names : Role → List ℕ) (before after : World) (result : Status)
+    → ((given : Given) (role : Role) → task.comes given ≡ Err (refusals.Load role) → IsTrue (is_among role task.loads)) → Runs gave task names before after result → Gains task names before after result
+gains gave task names before after result named runs =
+    let c = closed names runs.outcome runs.between after result runs.closes in
+    let a = runs.attempts in
+    record {
+      given = a.given;
+      made = outcome_faults names runs.outcome;
+      complaint = c.complaint;
+      failed = c.failed ∙ ap (λ f. f ++ c.complaint) a.failed;
+      by = outcome_calls names task.loads (task.comes a.given) runs.outcome result (named a.given) a.cause c.ends;
+      voice = c.voice;
+    }

@@ -1,0 +1,10 @@
+pub mod RoleLaws
+pub mod ReadHalf
+pub mod WriteHalf
+pub mod Attempted
+pub mod Closing
+pub mod Closed
+pub mod Others
+pub mod Completes
+pub mod Voice
+pub mod Named

@@ -1,0 +1,259 @@
+-- The reading half of a run, from its loads and what the mode made of them.
+use Rattle.std.proofs.Common.{◌≡◌, ◌⊎◌, inl, inr, ℕ, Bool, not, IsTrue, List, [], ◌∷◌, ◌++◌, Option, None, Some, Result, Ok, Err, refl, sym, ◌∙◌, ap, subst, append_assoc, append-nil}
+use Rattle.std.specs.Prelude.{IfSome}
+use Rattle.cg_shelf.specs.World.{World}
+use Rattle.cg_shelf.specs.Shelf.{Listed, ListsLoad, load_faults, one_call}
+use Rattle.cg_shelf.specs.declared.faults.Call.TheVariants as calls
+use Rattle.cg_shelf.specs.declared.faults.CallMade.{CallMade}
+use Rattle.cg_shelf.specs.declared.faults.Fault.{Fault}
+use Rattle.cg_shelf.specs.declared.faults.LoadFault.{LoadFault}
+use Rattle.cg_shelf.specs.declared.faults.LoadFault.TheVariants as loads
+use Rattle.cg_run.specs.declared.output.Output.{Output}
+use Rattle.cg_run.specs.declared.refusal.Refusal.{Refusal}
+use Rattle.cg_run.specs.declared.refusal.Refusal.TheVariants as refusals
+use Rattle.cg_run.specs.declared.refusal.Trouble.{Trouble}
+use Rattle.cg_run.specs.declared.refusal.Trouble.TheVariants as troubles
+use Rattle.cg_run.specs.declared.role.Role.{Role}
+use Rattle.cg_run.specs.Reads.{Agrees, Loads, Reads, Untouched, load_calls, loaded_role}
+use Rattle.cg_run.specs.Refusal.{outcome_faults}
+use Rattle.cg_run.specs.Roles.{are_distinct, is_among}
+use Rattle.cg_run.specs.Verdict.{Answers, Comes, Given, Loaded, asked, asked_from, brought, onward, taken, troubled, verdict, ◌>>=◌}
+use Rattle.cg_run.proofs.RoleLaws.{and_parts, asked_none, asked_same, asked_with, bind_same, given_each, given_here, given_with, none_given, verdict_with}
+
+-- a shelf that told before tells on
+pub tells_on : (before after : Bool) → after ≡ before → IsTrue before → IsTrue after
+tells_on before after same tells = rw same tells
+
+pub untouched_twice : (before middle after : World) → Untouched before middle → Untouched middle after → Untouched before after
+untouched_twice before middle after first second = record {
+  held = second.held ∙ first.held;
+  said = second.said ∙ first.said;
+}
+
+pub faults_join : (before middle after faults : List Fault) → middle ≡ before ++ [] → after ≡ middle ++ faults → after ≡ before ++ faults
+faults_join before middle after faults first second = let same : middle ≡ before = first ∙ append-nil before in rw same at second
+
+-- a list that grew twice
+pub joined : {A : Type 0} (before middle after first second : List A) → middle ≡ before ++ first → after ≡ middle ++ second → after ≡ before ++ (first ++ second)
+joined before middle after first second one two = two ∙ ap (λ l. l ++ second) one ∙ append_assoc before first second
+
+-- what a load gave, as what it answers and adds to the failed calls
+given_faults : (names : Role → List ℕ) (role : Role) (gave : Result (List ℕ) LoadFault) → load_faults (names role) gave ≡ outcome_faults names (brought role (Some gave))
+given_faults names role (Ok bytes) = refl
+given_faults names role (Err loads.Failed) = refl
+given_faults names role (Err loads.TooLong) = refl
+given_faults names role (Err loads.NoMemory) = refl
+
+module _ (gave : List ℕ → Result (List ℕ) LoadFault → Type 0) (names : Role → List ℕ) (role : Role) (name : List ℕ) (same : name ≡ names role) (before after : World) where
+
+  -- one load that was made
+  loads_so : (given : Result (List ℕ) LoadFault) → gave name given
+      → (IsTrue before.tells → Agrees (before.held name) (Some given)) → Listed calls.Load name before after
+      → (IsTrue before.tells → after.held ≡ before.held) → (IsTrue before.tells → after.said ≡ before.said) → (IsTrue before.tells → after.complained ≡ before.complained)
+      → after.tells ≡ before.tells → after.faults ≡ before.faults ++ load_faults name given
+      → Loads gave names role before after (brought role (Some given))
+  loads_so given from told listed held said complained tells failed = record {
+    given = Some given;
+    from = subst (λ n. gave n given) same from;
+    told = λ t. let P : List ℕ → Type 0 = λ n. Agrees (before.held n) (Some given) in subst P same (told t);
+    is = refl;
+    listed = λ t. listed t ∙ ap (λ n. before.calls ++ one_call calls.Load n) same;
+    untouched = λ t. record { held = held t; said = said t };
+    quiet = complained;
+    tells = tells;
+    failed = failed ∙ ap (λ faults. before.faults ++ faults) (ap (λ n. load_faults n given) same ∙ given_faults names role given);
+  }
+
+  -- one load that found no memory before it began
+  loads_not : after ≡ before → Loads gave names role before after (brought role None)
+  loads_not still = record {
+    given = None;
+    from = tt;
+    told = λ t. tt;
+    is = refl;
+    listed = λ t. ap (λ w. w.calls) still ∙ sym (append-nil before.calls);
+    untouched = λ t. record { held = ap (λ w. w.held) still; said = ap (λ w. w.said) still };
+    quiet = λ t. ap (λ w. w.complained) still;
+    tells = ap (λ w. w.tells) still;
+    failed = ap (λ w. w.faults) still ∙ sym (append-nil before.faults);
+  }
+
+  pub loads_ok : (bytes : List ℕ) → gave name (Ok bytes)
+      → (IsTrue before.tells → Agrees (before.held name) (Some (Ok bytes))) → Listed calls.Load name before after
+      → (IsTrue before.tells → after.held ≡ before.held) → (IsTrue before.tells → after.said ≡ before.said) → (IsTrue before.tells → after.complained ≡ before.complained)
+      → after.tells ≡ before.tells → after.faults ≡ before.faults ++ load_faults name (Ok bytes)
+      → Loads gave names role before after (Ok bytes)
+  loads_ok bytes = loads_so (Ok bytes)
+
+  pub loads_err : (T : Type 0) (fault : LoadFault) → gave name (Err fault)
+      → (IsTrue before.tells → Agrees (before.held name) (Some (Err fault))) → ListsLoad {T = T} name before after (Err fault)
+      → (IsTrue before.tells → after.held ≡ before.held) → (IsTrue before.tells → after.said ≡ before.said) → (IsTrue before.tells → after.complained ≡ before.complained)
+      → after.tells ≡ before.tells → after.faults ≡ before.faults ++ load_faults {T = T} name (Err fault)
+      → Loads gave names role before after (brought role (Some (Err fault)))
+  loads_err T loads.Failed from told listed held said complained tells failed = loads_so (Err loads.Failed) from told listed held said complained tells failed
+  loads_err T loads.TooLong from told listed held said complained tells failed = loads_so (Err loads.TooLong) from told listed held said complained tells failed
+  loads_err T loads.NoMemory from told (inl listed) held said complained tells failed = loads_so (Err loads.NoMemory) from told listed held said complained tells failed
+  loads_err T loads.NoMemory from told (inr still) held said complained tells failed = loads_not still
+
+-- what code answers without a call is what the reading half answers, and it adds no failed call
+answers_come : {T : Type 0} (v answer : Result T Trouble) → Answers v answer → Comes (troubled v) (troubled answer)
+answers_come v (Ok found) h = ap troubled h
+answers_come v (Err (troubles.Content content)) h = ap troubled h
+answers_come v (Err (troubles.Limit limit)) h = ap troubled h
+answers_come v (Err troubles.NoMemory) h = refl
+
+trouble_faults : {T : Type 0} (names : Role → List ℕ) (answer : Result T Trouble) → outcome_faults names (troubled answer) ≡ []
+trouble_faults names (Ok found) = refl
+trouble_faults names (Err (troubles.Content content)) = refl
+trouble_faults names (Err (troubles.Limit limit)) = refl
+trouble_faults names (Err troubles.NoMemory) = refl
+
+-- a refusal in the middle carries over to what comes after
+comes_bind : {A B : Type 0} (v : Result A Refusal) (next : A → Result B Refusal) (refusal : Refusal) → Comes v (Err refusal) → Comes (v >>= next) (Err refusal)
+comes_bind v next (refusals.Content content) comes = rw comes refl
+comes_bind v next (refusals.Limit limit) comes = rw comes refl
+comes_bind v next (refusals.Load role) comes = rw comes refl
+comes_bind v next (refusals.Store role) comes = absurd comes
+comes_bind v next refusals.Say comes = absurd comes
+comes_bind v next (refusals.NoMemory step) comes = comes
+
+brought_comes : (role : Role) (given : Loaded) → Comes (brought role given) (brought role given)
+brought_comes role None = refl
+brought_comes role (Some (Ok bytes)) = refl
+brought_comes role (Some (Err loads.Failed)) = refl
+brought_comes role (Some (Err loads.TooLong)) = refl
+brought_comes role (Some (Err loads.NoMemory)) = refl
+
+pub brought_ok : (role : Role) (given : Loaded) (bytes : List ℕ) → brought role given ≡ Ok bytes → given ≡ Some (Ok bytes)
+brought_ok role None bytes h = cc
+brought_ok role (Some (Ok found)) bytes h = cc
+brought_ok role (Some (Err loads.Failed)) bytes h = cc
+brought_ok role (Some (Err loads.TooLong)) bytes h = cc
+brought_ok role (Some (Err loads.NoMemory)) bytes h = cc
+
+-- after a load that was refused nothing is asked for
+refused_asked : {M : Type 0} (takes : M → Role → List ℕ → Result M Trouble) (state : M) (role : Role) (given : Loaded) (refusal : Refusal) (more : M → List Role)
+    → brought role given ≡ Err refusal → asked_from role given (taken takes state role given) more ≡ loaded_role role given
+refused_asked takes state role None refusal more h = refl
+refused_asked takes state role (Some (Ok found)) refusal more h = cc
+refused_asked takes state role (Some (Err loads.Failed)) refusal more h = refl
+refused_asked takes state role (Some (Err loads.TooLong)) refusal more h = refl
+refused_asked takes state role (Some (Err loads.NoMemory)) refusal more h = refl
+
+onward_none : {M : Type 0} (v : Result M Refusal) (more : M → List Role) → ((next : M) → more next ≡ []) → onward v more ≡ []
+onward_none (Ok next) more each = each next
+onward_none (Err refusal) more each = refl
+
+module _ {M : Type 0} (gave : List ℕ → Result (List ℕ) LoadFault → Type 0) (takes : M → Role → List ℕ → Result M Trouble) (gives : M → Result Output Trouble) (names : Role → List ℕ) where
+
+  -- all files are taken
+  pub reads_end : (state : M) (world : World) (answer : Result Output Trouble) → Answers (gives state) answer → Reads gave takes gives names state [] world world (troubled answer)
+  reads_end state world answer answers = record {
+    given = none_given;
+    from = λ role. tt;
+    told = λ t role. tt;
+    cause = answers_come (gives state) answer answers;
+    listed = λ t. sym (append-nil world.calls);
+    untouched = λ t. record { held = refl; said = refl };
+    quiet = λ t. refl;
+    tells = refl;
+    failed = sym (ap (λ f. world.faults ++ f) (trouble_faults names answer) ∙ append-nil world.faults);
+  }
+
+  from_with : (role : Role) (here : Loaded) (given : Given) → IfSome here (gave (names role)) → ((other : Role) → IfSome (given other) (gave (names other))) → (other : Role) → IfSome (given_with role here given other) (gave (names other))
+  from_with role here given = given_each (λ r g. IfSome g (gave (names r))) role here given
+
+  told_with : (before middle : World) (role : Role) (here : Loaded) (given : Given)
+      → Agrees (before.held (names role)) here → middle.held ≡ before.held → ((other : Role) → Agrees (middle.held (names other)) (given other))
+      → (other : Role) → Agrees (before.held (names other)) (given_with role here given other)
+  told_with before middle role here given agrees same others =
+      let P : (List ℕ → Option (List ℕ)) → Type 0 = λ held. (other : Role) → Agrees (held (names other)) (given other) in
+      given_each (λ r g. Agrees (before.held (names r)) g) role here given agrees (subst P same others)
+
+  -- verdict and loads begin with the first file
+  verdict_first : (state : M) (role : Role) (rest : List Role) (here : Loaded) (given : Given) → IsTrue (not (is_among role rest))
+      → verdict takes gives state (role ∷ rest) (given_with role here given) ≡ (taken takes state role here >>= λ next. verdict takes gives next rest given)
+  verdict_first state role rest here given apart =
+      rw (given_here role here given)
+      (bind_same (taken takes state role here) (λ next. verdict takes gives next rest (given_with role here given)) (λ next. verdict takes gives next rest given)
+      (λ next. verdict_with takes gives next rest role here given apart))
+
+  asked_first : (state : M) (role : Role) (rest : List Role) (here : Loaded) (given : Given) → IsTrue (not (is_among role rest))
+      → asked takes state (role ∷ rest) (given_with role here given) ≡ asked_from role here (taken takes state role here) (λ next. asked takes next rest given)
+  asked_first state role rest here given apart =
+      rw (given_here role here given)
+      (asked_same role here (taken takes state role here) (λ next. asked takes next rest (given_with role here given)) (λ next. asked takes next rest given)
+      (λ next. asked_with takes next rest role here given apart))
+
+  -- the first load was refused
+  pub reads_unloaded : (state : M) (role : Role) (rest : List Role) (before after : World) (refusal : Refusal)
+      → IsTrue (are_distinct (role ∷ rest)) → Loads gave names role before after (Err refusal) → Reads gave takes gives names state (role ∷ rest) before after (Err refusal)
+  reads_unloaded state role rest before after refusal distinct load =
+      let apart = (and_parts (not (is_among role rest)) (are_distinct rest) distinct).0 in
+      let C : Result (List ℕ) Refusal → Type 0 = λ a. Comes (brought role load.given) a in
+      let come : Comes (brought role load.given) (Err refusal) = subst C (sym load.is) (brought_comes role load.given) in
+      let V : Result Output Refusal → Type 0 = λ v. Comes v (Err refusal) in
+      let more : M → List Role = λ next. asked takes next rest none_given in
+      record {
+        given = given_with role load.given none_given;
+        from = from_with role load.given none_given load.from (λ other. tt);
+        told = λ t. told_with before before role load.given none_given (load.told t) refl (λ other. tt);
+        cause = subst V (sym (verdict_first state role rest load.given none_given apart))
+            (comes_bind (taken takes state role load.given) (λ next. verdict takes gives next rest none_given) refusal (comes_bind (brought role load.given) (λ bytes. troubled (takes state role bytes)) refusal come));
+        listed = λ t. load.listed t ∙ ap (λ l. before.calls ++ load_calls names l) (sym (asked_first state role rest load.given none_given apart ∙ refused_asked takes state role load.given refusal more (sym load.is)));
+        untouched = load.untouched;
+        quiet = load.quiet;
+        tells = load.tells;
+        failed = load.failed;
+      }
+
+  -- the mode refused the first file, or found no memory for it
+  pub reads_untaken : (state : M) (role : Role) (rest : List Role) (before after : World) (bytes : List ℕ) (trouble : Trouble)
+      → IsTrue (are_distinct (role ∷ rest)) → Loads gave names role before after (Ok bytes) → Answers (takes state role bytes) (Err trouble) → Reads gave takes gives names state (role ∷ rest) before after (troubled (Err trouble))
+  reads_untaken state role rest before after bytes trouble distinct load took =
+      let apart = (and_parts (not (is_among role rest)) (are_distinct rest) distinct).0 in
+      let here : load.given ≡ Some (Ok bytes) = brought_ok role load.given bytes (sym load.is) in
+      let V : Result Output Refusal → Type 0 = λ v. Comes v (troubled (Err trouble)) in
+      let W : Loaded → Type 0 = λ g. Comes (taken takes state role g) (troubled {T = M} (Err trouble)) in
+      let more : M → List Role = λ next. asked takes next rest none_given in
+      let asks : asked_from role load.given (taken takes state role load.given) more ≡ loaded_role role load.given =
+          let Q : Loaded → Type 0 = λ g. asked_from role g (taken takes state role g) more ≡ loaded_role role g in
+          subst Q (sym here) (ap (λ l. role ∷ l) (onward_none (troubled (takes state role bytes)) more (λ next. asked_none takes next rest))) in
+      record {
+        given = given_with role load.given none_given;
+        from = from_with role load.given none_given load.from (λ other. tt);
+        told = λ t. told_with before before role load.given none_given (load.told t) refl (λ other. tt);
+        cause = subst V (sym (verdict_first state role rest load.given none_given apart))
+            (comes_bind (taken takes state role load.given) (λ next. verdict takes gives next rest none_given) _ (subst W (sym here) (answers_come (takes state role bytes) (Err trouble) took)));
+        listed = λ t. load.listed t ∙ ap (λ l. before.calls ++ load_calls names l) (sym (asked_first state role rest load.given none_given apart ∙ asks));
+        untouched = load.untouched;
+        quiet = load.quiet;
+        tells = load.tells;
+        failed = load.failed ∙ ap (λ faults. before.faults ++ faults) (sym (trouble_faults {T = M} names (Err trouble)));
+      }
+
+  -- the mode took the first file, and the rest followed
+  pub reads_on : (state next : M) (role : Role) (rest : List Role) (before middle after : World) (bytes : List ℕ) (answer : Result Output Refusal)
+      → IsTrue (are_distinct (role ∷ rest)) → Loads gave names role before middle (Ok bytes) → takes state role bytes ≡ Ok next → Reads gave takes gives names next rest middle after answer → Reads gave takes gives names state (role ∷ rest) before after answer
+  reads_on state next role rest before middle after bytes answer distinct load took reads =
+      let apart = (and_parts (not (is_among role rest)) (are_distinct rest) distinct).0 in
+      let here : load.given ≡ Some (Ok bytes) = brought_ok role load.given bytes (sym load.is) in
+      let V : Result Output Refusal → Type 0 = λ v. Comes v answer in
+      let first : taken takes state role load.given ≡ Ok next = ap (taken takes state role) here ∙ ap troubled took in
+      let whole = verdict_first state role rest load.given reads.given apart ∙ ap (λ v. v >>= λ n. verdict takes gives n rest reads.given) first in
+      let more : M → List Role = λ n. asked takes n rest reads.given in
+      let asks : asked_from role load.given (taken takes state role load.given) more ≡ role ∷ more next = ap (λ g. asked_from role g (taken takes state role load.given) more) here ∙ ap (λ v. role ∷ onward v more) first in
+      record {
+        given = given_with role load.given reads.given;
+        from = from_with role load.given reads.given load.from reads.from;
+        told = λ t. told_with before middle role load.given reads.given (load.told t) (load.untouched t).held (reads.told (tells_on before.tells middle.tells load.tells t));
+        cause = subst V (sym whole) reads.cause;
+        listed = λ t.
+            joined before.calls middle.calls after.calls (one_call calls.Load (names role)) (load_calls names (more next))
+            (load.listed t ∙ ap (λ g. before.calls ++ load_calls names (loaded_role role g)) here) (reads.listed (tells_on before.tells middle.tells load.tells t))
+            ∙ ap (λ l. before.calls ++ load_calls names l) (sym (asked_first state role rest load.given reads.given apart ∙ asks));
+        untouched = λ t. untouched_twice before middle after (load.untouched t) (reads.untouched (tells_on before.tells middle.tells load.tells t));
+        quiet = λ t. reads.quiet (tells_on before.tells middle.tells load.tells t) ∙ load.quiet t;
+        tells = reads.tells ∙ load.tells;
+        failed = faults_join before.faults middle.faults after.faults (outcome_faults names answer) load.failed reads.failed;
+      }

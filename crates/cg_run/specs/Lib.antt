@@ -1,0 +1,9 @@
+pub mod Status
+pub mod Names
+pub mod Roles
+pub mod Refusal
+pub mod Verdict
+pub mod Reads
+pub mod Writes
+pub mod Run
+pub mod Promise

@@ -1,0 +1,182 @@
+-- What the writes of a run do: the stores in order, then the say; the first that is refused ends them.
+use Rattle.std.specs.Prelude.{◌≡◌, ◌≢◌, ◌⊎◌, ℕ, Bool, IsTrue, if◌then◌else◌, List, [], ◌∷◌, ◌++◌, map, Option, Some, Result, Ok, Err, IfErr, ⊤}
+use Rattle.std.specs.Str.{bytes_eq}
+use Rattle.cg_shelf.specs.World.{World}
+use Rattle.cg_shelf.specs.Shelf.{AppendsFront, SameBut, one_call}
+use Rattle.cg_shelf.specs.declared.faults.Call.TheVariants as calls
+use Rattle.cg_shelf.specs.declared.faults.CallMade.{CallMade}
+use Rattle.cg_run.specs.declared.output.Output.{Output}
+use Rattle.cg_run.specs.declared.output.Text.{Text}
+use Rattle.cg_run.specs.declared.refusal.Refusal.{Refusal}
+use Rattle.cg_run.specs.declared.refusal.Step.{Step}
+use Rattle.cg_run.specs.declared.refusal.Step.TheVariants as steps
+use Rattle.cg_run.specs.declared.role.Role.{Role}
+use Rattle.cg_run.specs.Refusal.{outcome_faults, step_of}
+use Rattle.cg_run.specs.Roles.{is_among}
+use Rattle.cg_run.specs.Reads.{Untouched}
+
+-- what is held once bytes are put under a name, and once texts are put under their roles' names in order
+abbrev pub put : (List ℕ → Option (List ℕ)) → List ℕ → List ℕ → List ℕ → Option (List ℕ)
+put held name bytes other = if bytes_eq other name then Some bytes else held other
+
+abbrev pub puts : (Role → List ℕ) → List Text → (List ℕ → Option (List ℕ)) → List ℕ → Option (List ℕ)
+puts names [] held = held
+puts names (text ∷ rest) held = puts names rest (put held (names text.role) text.bytes)
+
+-- the calls that store these texts
+abbrev pub store_calls : (Role → List ℕ) → List Text → List CallMade
+store_calls names [] = []
+store_calls names (text ∷ rest) = one_call calls.Store (names text.role) ++ store_calls names rest
+
+-- a text of this role is among those to be stored
+abbrev pub is_stored : Role → List Text → Bool
+is_stored role texts = is_among role (map (λ text. text.role) texts)
+
+-- all is written
+pub record Written (names : Role → List ℕ) (output : Output) (before after : World) : Type 0 where
+  pub held : (name : List ℕ) → after.held name ≡ puts names output.stores before.held name
+  pub said : after.said ≡ before.said ++ output.said
+
+-- The store of this role was refused: the texts before it stand, what stands under its name is open, and every other
+-- name holds what it held. Nothing was said.
+pub record OpenAt (names : Role → List ℕ) (texts : List Text) (role : Role) (before after : World) : Type 0 where
+  pub done : List Text
+  pub here : Text
+  pub rest : List Text
+  pub parts : texts ≡ done ++ here ∷ rest
+  pub is : here.role ≡ role
+  pub held : (name : List ℕ) → name ≢ names role → after.held name ≡ puts names done before.held name
+  pub said : after.said ≡ before.said
+
+-- the say was refused: all texts stand, and a front part was said
+pub record SaidInPart (names : Role → List ℕ) (output : Output) (before after : World) : Type 0 where
+  pub held : (name : List ℕ) → after.held name ≡ puts names output.stores before.held name
+  pub said : AppendsFront before.said after.said output.said
+
+-- what stands after a refusal, by how far the run had come
+abbrev pub LeavesAt : (Role → List ℕ) → Output → Step → World → World → Type 0
+LeavesAt names output steps.Reading before after = Untouched before after
+LeavesAt names output (steps.Storing role) before after = OpenAt names output.stores role before after
+LeavesAt names output steps.Saying before after = SaidInPart names output before after
+
+-- these calls were made, and then at most this one
+abbrev pub IsUpTo : List CallMade → List CallMade → List CallMade → Type 0
+IsUpTo done last made = (made ≡ done ++ last) ⊎ (made ≡ done)
+
+-- the texts before that of this role were stored, each once and in order, and then this one at most once
+pub record StoresUpTo (names : Role → List ℕ) (texts : List Text) (role : Role) (made : List CallMade) : Type 0 where
+  pub done : List Text
+  pub here : Text
+  pub rest : List Text
+  pub parts : texts ≡ done ++ here ∷ rest
+  pub is : here.role ≡ role
+  pub up_to : IsUpTo (store_calls names done) (one_call calls.Store (names role)) made
+
+-- The calls of the writes of an output, by how far they came: the texts are stored in order, each once, and then the text
+-- is said once.
+abbrev pub CallsAt : (Role → List ℕ) → Output → Step → List CallMade → Type 0
+CallsAt names output steps.Reading made = made ≡ []
+CallsAt names output (steps.Storing role) made = StoresUpTo names output.stores role made
+CallsAt names output steps.Saying made = IsUpTo (store_calls names output.stores) (one_call calls.Say []) made
+
+abbrev pub WriteCalls : {T : Type 0} → (Role → List ℕ) → Output → Result T Refusal → List CallMade → Type 0
+WriteCalls names output (Ok x) made = made ≡ store_calls names output.stores ++ one_call calls.Say []
+WriteCalls names output (Err refusal) made = CallsAt names output (step_of refusal) made
+
+-- the writes of an output come to this step
+abbrev pub HasStep : Output → Step → Type 0
+HasStep output steps.Reading = ⊥
+HasStep output (steps.Storing role) = IsTrue (is_stored role output.stores)
+HasStep output steps.Saying = ⊤
+
+abbrev pub WriteLeaves : {T : Type 0} → (Role → List ℕ) → Output → World → World → Result T Refusal → Type 0
+WriteLeaves names output before after (Ok x) = Written names output before after
+WriteLeaves names output before after (Err refusal) = LeavesAt names output (step_of refusal) before after
+
+-- the writes of an output
+pub record Writes {T : Type 0} (names : Role → List ℕ) (output : Output) (before after : World) (answer : Result T Refusal) : Type 0 where
+  pub refused : IfErr answer (λ refusal. HasStep output (step_of refusal))
+  pub leaves : IsTrue before.tells → WriteLeaves names output before after answer
+  pub made : List CallMade
+  pub by : WriteCalls names output answer made
+  pub listed : IsTrue before.tells → after.calls ≡ before.calls ++ made
+  pub quiet : IsTrue before.tells → after.complained ≡ before.complained
+  pub tells : after.tells ≡ before.tells
+  pub failed : after.faults ≡ before.faults ++ outcome_faults names answer
+
+-- the bytes stand there where the store was not refused, and what was said grew by the text or by a front part of it
+abbrev pub Holds : {T : Type 0} → Option (List ℕ) → List ℕ → Result T Refusal → Type 0
+Holds held bytes (Ok x) = held ≡ Some bytes
+Holds held bytes (Err refusal) = ⊤
+
+abbrev pub SaidBy : {T : Type 0} → List ℕ → List ℕ → List ℕ → Result T Refusal → Type 0
+SaidBy text before after (Ok x) = after ≡ before ++ text
+SaidBy text before after (Err refusal) = AppendsFront before after text
+
+-- the call was made, or it was refused before it began
+abbrev pub OneCall : {T : Type 0} → List CallMade → Result T Refusal → List CallMade → Type 0
+OneCall call (Ok x) made = made ≡ call
+OneCall call (Err refusal) made = IsUpTo [] call made
+
+-- one store
+pub record StoresOne {T : Type 0} (names : Role → List ℕ) (text : Text) (before after : World) (answer : Result T Refusal) : Type 0 where
+  pub refused : IfErr answer (λ refusal. step_of refusal ≡ steps.Storing text.role)
+  pub made : List CallMade
+  pub by : OneCall (one_call calls.Store (names text.role)) answer made
+  pub listed : IsTrue before.tells → after.calls ≡ before.calls ++ made
+  pub stored : IsTrue before.tells → Holds (after.held (names text.role)) text.bytes answer
+  pub others : IsTrue before.tells → SameBut (names text.role) before.held after.held
+  pub said : IsTrue before.tells → after.said ≡ before.said
+  pub complained : IsTrue before.tells → after.complained ≡ before.complained
+  pub tells : after.tells ≡ before.tells
+  pub failed : after.faults ≡ before.faults ++ outcome_faults names answer
+
+-- all stores
+pub record StoredAll (names : Role → List ℕ) (texts : List Text) (before after : World) : Type 0 where
+  pub held : (name : List ℕ) → after.held name ≡ puts names texts before.held name
+  pub said : after.said ≡ before.said
+
+abbrev pub OpenStep : (Role → List ℕ) → List Text → Step → World → World → Type 0
+OpenStep names texts steps.Reading before after = ⊥
+OpenStep names texts (steps.Storing role) before after = OpenAt names texts role before after
+OpenStep names texts steps.Saying before after = ⊥
+
+abbrev pub StoresStep : List Text → Step → Type 0
+StoresStep texts steps.Reading = ⊥
+StoresStep texts (steps.Storing role) = IsTrue (is_stored role texts)
+StoresStep texts steps.Saying = ⊥
+
+abbrev pub StoreLeaves : {T : Type 0} → (Role → List ℕ) → List Text → World → World → Result T Refusal → Type 0
+StoreLeaves names texts before after (Ok x) = StoredAll names texts before after
+StoreLeaves names texts before after (Err refusal) = OpenStep names texts (step_of refusal) before after
+
+abbrev pub StoresAt : (Role → List ℕ) → List Text → Step → List CallMade → Type 0
+StoresAt names texts steps.Reading made = ⊥
+StoresAt names texts (steps.Storing role) made = StoresUpTo names texts role made
+StoresAt names texts steps.Saying made = ⊥
+
+abbrev pub StoreCalls : {T : Type 0} → (Role → List ℕ) → List Text → Result T Refusal → List CallMade → Type 0
+StoreCalls names texts (Ok x) made = made ≡ store_calls names texts
+StoreCalls names texts (Err refusal) made = StoresAt names texts (step_of refusal) made
+
+pub record StoresAll {T : Type 0} (names : Role → List ℕ) (texts : List Text) (before after : World) (answer : Result T Refusal) : Type 0 where
+  pub refused : IfErr answer (λ refusal. StoresStep texts (step_of refusal))
+  pub leaves : IsTrue before.tells → StoreLeaves names texts before after answer
+  pub made : List CallMade
+  pub by : StoreCalls names texts answer made
+  pub listed : IsTrue before.tells → after.calls ≡ before.calls ++ made
+  pub quiet : IsTrue before.tells → after.complained ≡ before.complained
+  pub tells : after.tells ≡ before.tells
+  pub failed : after.faults ≡ before.faults ++ outcome_faults names answer
+
+-- the say
+pub record SaysAll {T : Type 0} (names : Role → List ℕ) (text : List ℕ) (before after : World) (answer : Result T Refusal) : Type 0 where
+  pub refused : IfErr answer (λ refusal. step_of refusal ≡ steps.Saying)
+  pub made : List CallMade
+  pub by : OneCall (one_call calls.Say []) answer made
+  pub listed : IsTrue before.tells → after.calls ≡ before.calls ++ made
+  pub said : IsTrue before.tells → SaidBy text before.said after.said answer
+  pub held : IsTrue before.tells → after.held ≡ before.held
+  pub complained : IsTrue before.tells → after.complained ≡ before.complained
+  pub tells : after.tells ≡ before.tells
+  pub failed : after.faults ≡ before.faults ++ outcome_faults names answer

@@ -1,0 +1,39 @@
+//! A run of the program, whatever its mode.
+//!
+//! A mode is a list of files to load, each known by its role, a pure part that takes their bytes one after another and says
+//! what is to be put out, and nothing else: it never calls the shelf. [`drive`] loads the files, has the mode take them,
+//! stores the texts of its output and says the last one, and ends with a status; or it complains one line that tells why
+//! not. What such a run did is one relation over these lists, proved once for every mode.
+//!
+//! The modules, in the order in which data flows through them:
+//!
+//! - [`role`]: what a file is to a run, and [`names`]: which file that is;
+//! - [`refusal`]: why a run was not done, and its line of complaint;
+//! - [`status`]: how a run ends;
+//! - [`output`]: what a mode puts out;
+//! - [`mode`]: what a run asks of a mode;
+//! - `reading`, `writing`: the two halves of a run;
+//! - [`driver`]: the run.
+#![tactic(auto)]
+
+pub mod content;
+pub mod driver;
+pub mod mode;
+pub mod names;
+pub mod output;
+mod reading;
+pub mod refusal;
+pub mod role;
+pub mod status;
+mod writing;
+
+pub use driver::drive;
+pub use mode::Mode;
+pub use names::Names;
+pub use output::{Finish, Output, Text};
+pub use refusal::{Content, Owner, Refusal, Step, Trouble};
+pub use role::Role;
+pub use status::Status;
+
+#[cfg(test)]
+mod tests;

@@ -35,5 +35,3 @@ pub use refusal::{Content, Owner, Refusal, Step, Trouble};
 pub use role::Role;
 pub use status::Status;
 
-#[cfg(test)]
-mod tests;

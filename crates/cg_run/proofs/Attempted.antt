@@ -72,7 +72,6 @@ refused_reading v refusals.Say comes = absurd comes
 refused_reading v (refusals.NoMemory step) comes = comes
 
 module _ {M : Type 0} (gave : List ℕ → Result (List ℕ) LoadFault → Type 0) (takes : M → Role → List ℕ → Result M Trouble) (gives : M → Result Output Trouble) (names : Role → List ℕ) (state : M) (files : List Role) (before middle : World) where
-
   -- the files are refused
   pub attempts_unread : (refusal : Refusal) → Reads gave takes gives names state files before middle (Err refusal) → Attempts gave (task_of takes gives state files) names before middle (Err refusal)
   attempts_unread refusal reads =

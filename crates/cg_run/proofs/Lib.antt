@@ -8,3 +8,5 @@ pub mod Others
 pub mod Completes
 pub mod Voice
 pub mod Named
+pub mod Finished
+pub mod Steps

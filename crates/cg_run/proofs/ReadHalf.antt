@@ -45,7 +45,6 @@ given_faults names role (Err loads.TooLong) = refl
 given_faults names role (Err loads.NoMemory) = refl
 
 module _ (gave : List ℕ → Result (List ℕ) LoadFault → Type 0) (names : Role → List ℕ) (role : Role) (name : List ℕ) (same : name ≡ names role) (before after : World) where
-
   -- one load that was made
   loads_so : (given : Result (List ℕ) LoadFault) → gave name given
       → (IsTrue before.tells → Agrees (before.held name) (Some given)) → Listed calls.Load name before after
@@ -145,7 +144,6 @@ onward_none (Ok next) more each = each next
 onward_none (Err refusal) more each = refl
 
 module _ {M : Type 0} (gave : List ℕ → Result (List ℕ) LoadFault → Type 0) (takes : M → Role → List ℕ → Result M Trouble) (gives : M → Result Output Trouble) (names : Role → List ℕ) where
-
   -- all files are taken
   pub reads_end : (state : M) (world : World) (answer : Result Output Trouble) → Answers (gives state) answer → Reads gave takes gives names state [] world world (troubled answer)
   reads_end state world answer answers = record {
@@ -217,8 +215,8 @@ module _ {M : Type 0} (gave : List ℕ → Result (List ℕ) LoadFault → Type 
       let W : Loaded → Type 0 = λ g. Comes (taken takes state role g) (troubled {T = M} (Err trouble)) in
       let more : M → List Role = λ next. asked takes next rest none_given in
       let asks : asked_from role load.given (taken takes state role load.given) more ≡ loaded_role role load.given =
-          let Q : Loaded → Type 0 = λ g. asked_from role g (taken takes state role g) more ≡ loaded_role role g in
-          subst Q (sym here) (ap (λ l. role ∷ l) (onward_none (troubled (takes state role bytes)) more (λ next. asked_none takes next rest))) in
+      let Q : Loaded → Type 0 = λ g. asked_from role g (taken takes state role g) more ≡ loaded_role role g in
+      subst Q (sym here) (ap (λ l. role ∷ l) (onward_none (troubled (takes state role bytes)) more (λ next. asked_none takes next rest))) in
       record {
         given = given_with role load.given none_given;
         from = from_with role load.given none_given load.from (λ other. tt);

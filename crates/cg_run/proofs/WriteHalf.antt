@@ -343,4 +343,3 @@ writes_said names output before middle after x answer all say = record {
   tells = say.tells ∙ all.tells;
   failed = faults_join before.faults middle.faults after.faults (outcome_faults names answer) all.failed say.failed;
 }
-

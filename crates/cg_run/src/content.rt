@@ -17,7 +17,12 @@ impl Content {
     }
 
     /// A content that is refused for this, at a line or place.
-    pub fn numbered(alloc: Global, owner: Owner, text: &[u8], number: u64) -> Result<Content, AllocError>
+    pub fn numbered(
+        alloc: Global,
+        owner: Owner,
+        text: &[u8],
+        number: u64,
+    ) -> Result<Content, AllocError>
         ensures { IfOk result (λ content. content ≡ record { owner = owner; text = text.now ++ decimal number }) }
     {
         let mut line = Vec::from_slice(alloc, text)?;
@@ -27,7 +32,12 @@ impl Content {
     }
 
     /// A content that is refused for this, with the name that it is refused for.
-    pub fn named(alloc: Global, owner: Owner, text: &[u8], name: &[u8]) -> Result<Content, AllocError>
+    pub fn named(
+        alloc: Global,
+        owner: Owner,
+        text: &[u8],
+        name: &[u8],
+    ) -> Result<Content, AllocError>
         ensures { IfOk result (λ content. content ≡ record { owner = owner; text = text.now ++ name.now }) }
     {
         let mut line = Vec::from_slice(alloc, text)?;

@@ -34,4 +34,3 @@ pub use output::{Finish, Output, Text};
 pub use refusal::{Content, Owner, Refusal, Step, Trouble};
 pub use role::Role;
 pub use status::Status;
-

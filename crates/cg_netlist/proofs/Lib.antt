@@ -1,6 +1,7 @@
 pub mod CanonicalNames
 pub mod CanonicalSays
 pub mod CheckLemmas
+pub mod ClockFree
 pub mod Clocks
 pub mod DraftLemmas
 pub mod DraftNets
@@ -19,8 +20,11 @@ pub mod NamedNets
 pub mod NetOrder
 pub mod NetSetLemmas
 pub mod OfDraft
+pub mod NetsOf
 pub mod OnlyNetlist
 pub mod OrderLemmas
+pub mod OrderedForm
+pub mod OrderedHistories
 pub mod PartByPart
 pub mod PlaceLemmas
 pub mod PlacedStatements
@@ -37,7 +41,9 @@ pub mod Solve
 pub mod SpellsCanonical
 pub mod StatedParts
 pub mod TableLemmas
+pub mod Used
 pub mod Values
+pub mod WalkOrder
 pub mod WidthLemmas
 pub mod WritableParts
 pub mod WrittenLines

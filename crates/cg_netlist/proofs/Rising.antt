@@ -109,7 +109,7 @@ module _ (cells : List (LogicCell ℕ)) (ranks : List ℕ) (ranked : AreRanks ce
           let used : is_in cell.inputs driver.1.output ≡ true = ap (is_in cell.inputs) (eqb-true driver.1.output net.0 driver.4) ∙ net.1 in
           height_rises j k (slice_get_within cells j driver.1 at) (ranked.rising j k driver.1 cell at is used)
 
-  every_rank_found : (k : ℕ) → k < length cells → is_none (rank_of cells k) ≡ false
+  pub every_rank_found : (k : ℕ) → k < length cells → is_none (rank_of cells k) ≡ false
   every_rank_found k lt = found_within (driving_cells cells) height falls (length cells) k (height_within k lt)
 
   -- no net is the output of a cell without a rank

@@ -10,6 +10,8 @@ pub mod Marks
 pub mod Moment
 pub mod Names
 pub mod Netlist
+pub mod Nets
+pub mod Ordered
 pub mod Places
 pub mod PlainText
 pub mod Ranking

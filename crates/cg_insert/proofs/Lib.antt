@@ -1,0 +1,5 @@
+pub mod GatedForm
+pub mod GatedMoments
+pub mod GatedParts
+pub mod GatedRun
+pub mod Inserted

@@ -1,0 +1,15 @@
+pub mod AddedNames
+pub mod Bits
+pub mod Extended
+pub mod FewValues
+pub mod Found
+pub mod Fronts
+pub mod Gated
+pub mod Grown
+pub mod Lists
+pub mod Pushed
+pub mod RunsOfNetlists
+pub mod Settled
+pub mod Simulation
+pub mod Started
+pub mod There

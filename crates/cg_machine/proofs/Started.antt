@@ -1,0 +1,71 @@
+-- The machine of a netlist is a machine, and its run is the netlist's lawful history.
+use Rattle.std.proofs.Common.{◌≡◌, ℕ, zero, suc, ◌-◌, not, List, ◌++◌, length, slice_get, take, replicate, Option, None, Some, nat_eq, refl, sym, ◌∙◌, ap, subst, arith}
+use Rattle.std.specs.Fmt.{decimal}
+use Rattle.std.specs.List.{IsDistinct, filter, range_with_len}
+use Rattle.std.specs.Option.{option_flatten, option_to_list}
+use Rattle.std.proofs.lemmas.List.{append-nil, length-replicate, take_all}
+use Rattle.std.proofs.lemmas.List.Elements.{All-nil}
+use Rattle.std.proofs.lemmas.Option.{none-some, slice_get_within}
+use Rattle.cg_netlist.specs.Circuit.{Circuit, cell_nets, gate_nets, is_in, register_nets}
+use Rattle.cg_netlist.specs.Moment.{values_at}
+use Rattle.cg_netlist.specs.Nets.{IsWalk, walk_order}
+use Rattle.cg_netlist.specs.WellFormed.{IsInNetOrder}
+use Rattle.cg_netlist.proofs.Driven.{distinct_range}
+use Rattle.cg_netlist.proofs.Given.{distinct_cells}
+use Rattle.cg_netlist.proofs.Members.{distinct_left}
+use Rattle.cg_netlist.proofs.WalkOrder.{walk_is}
+use Rattle.cg_machine.specs.Laws.{NetlistIsRun, StartIsMachine}
+use Rattle.cg_machine.specs.Machine.{MachineData, enable_of, walk_of}
+use Rattle.cg_machine.specs.Start.{machine_of}
+use Rattle.cg_machine.proofs.RunsOfNetlists.{history_runs}
+
+abbrev nones : ℕ → List (Option ℕ)
+nones n = replicate n None
+
+pub none_anywhere : (n r : ℕ) → option_flatten (slice_get (nones n) r) ≡ None
+none_anywhere zero r = refl
+none_anywhere (suc n) zero = refl
+none_anywhere (suc n) (suc r) = none_anywhere n r
+
+-- in net order no input stands twice
+inputs_distinct : (c : Circuit) → IsInNetOrder c → IsDistinct nat_eq c.inputs
+inputs_distinct c ordered =
+    let clock : List ℕ = filter (λ net. not (is_in c.inputs net)) (option_to_list c.clock) in
+    distinct_left c.inputs clock
+    (distinct_left (c.inputs ++ clock) (cell_nets c)
+    (distinct_left (c.inputs ++ clock ++ cell_nets c) (gate_nets c)
+    (distinct_left (c.inputs ++ clock ++ cell_nets c ++ gate_nets c) (register_nets c)
+    (subst (IsDistinct nat_eq) (sym ordered) (distinct_range (length c.names) 0)))))
+
+pub start_is_machine : StartIsMachine
+start_is_machine c prefix can =
+    let m : MachineData = machine_of c prefix in
+    let formed = can.netlist.well_formed in
+    let walk_same : walk_of m ≡ values_at c.cells (walk_order c.cells) =
+    let none : length c.cells - length c.cells ≡ 0 = omega arith in
+    ap (λ n. values_at c.cells (walk_order (take (length c.cells) c.cells) ++ range_with_len (length c.cells) n)) none
+    ∙ (ap (values_at c.cells) (append-nil (walk_order (take (length c.cells) c.cells)))
+    ∙ ap (λ cells. values_at c.cells (walk_order cells)) (take_all (length c.cells) c.cells (omega arith))) in
+    let no : (r e : ℕ) → enable_of m r ≡ Some e → ⊥ = λ r e is. none-some e (sym (none_anywhere (length c.registers) r) ∙ is) in
+    record {
+      well_formed = formed;
+      no_gaters = can.no_gaters;
+      inputs_once = inputs_distinct c can.netlist.in_order;
+      small = can.netlist.nets;
+      few_registers = can.netlist.registers;
+      walk = subst (IsWalk c.cells) (sym walk_same) (walk_is c.cells formed.ranks formed.ranked (distinct_cells c formed.driven));
+      enables = length-replicate (length c.registers) None;
+      enabled = λ r e is. absurd (no r e is);
+      own_cells = omega arith;
+      gates = sym (append-nil (take (length c.cells) c.cells) ∙ take_all (length c.cells) c.cells (omega arith));
+      gates_fit = All-nil _;
+      own_registers = omega arith;
+      delays = λ r cell past at. let b = slice_get_within c.registers r cell at in absurd (omega (arith, b, past));
+      added_nets = omega arith;
+      prefix = can.named;
+      fresh = λ k past small i d below. can.new i d below (decimal k);
+    }
+
+pub netlist_is_run : NetlistIsRun
+netlist_is_run c prefix can start wave history started waves lawful =
+    history_runs (machine_of c prefix) (start_is_machine c prefix can) (none_anywhere (length c.registers)) start None None start (λ none. refl) started wave history lawful

@@ -1,0 +1,18 @@
+-- The machine of a netlist, to which nothing is added yet.
+use Rattle.std.specs.Prelude.{◌≡◌, ◌≢◌, IsTrue, ℕ, List, [], ◌++◌, length, replicate, None}
+use Rattle.std.specs.List.{All}
+use Rattle.cg_cell.specs.Name.{is_name}
+use Rattle.cg_netlist.specs.Circuit.{Circuit}
+use Rattle.cg_netlist.specs.Netlist.{IsNetlist}
+use Rattle.cg_machine.specs.Machine.{MachineData}
+
+-- no register has an enable, and nothing is added
+abbrev pub machine_of : Circuit → List ℕ → MachineData
+machine_of c prefix = record { circuit = c; enables = replicate (length c.registers) None; gates = []; own_cells = length c.cells; own_registers = length c.registers; prefix = prefix }
+
+-- what a netlist and a prefix need for a machine: there is no gating cell, and no net's name begins with the prefix
+pub record CanStart (c : Circuit) (prefix : List ℕ) : Type 0 where
+  pub netlist : IsNetlist c
+  pub no_gaters : c.gaters ≡ []
+  pub named : IsTrue (is_name prefix)
+  pub new : All (λ name. (rest : List ℕ) → name ≢ prefix ++ rest) c.names

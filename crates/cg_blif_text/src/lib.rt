@@ -1,0 +1,16 @@
+//! What a BLIF text is.
+//!
+//! The types that a reader and a writer of BLIF share, and, in `specs/`, the definitions that their contracts cite:
+//! the logical lines of a text, what a line says, which netlist a text says with the cells of a library, or the fault
+//! of its first line that has one, and the canonical text of a netlist. The laws about these definitions stand in
+//! `proofs/`. The format is the Berkeley Logic Interchange Format (University of California, Berkeley, 1992) in this
+//! project's own profile, which docs/FORMATS.md writes out.
+//!
+//! Modules, as data flows: [`word`] (a word of a line), [`command`] (what a line is by its first word), [`statement`] (what a
+//! line says), [`fault`] (why a line says nothing).
+#![tactic(auto)]
+
+pub mod command;
+pub mod fault;
+pub mod statement;
+pub mod word;

@@ -10,7 +10,7 @@ use Rattle.cg_text.specs.declared.blanks.Blanks.TheVariants.{Controls}
 use Rattle.cg_text.specs.declared.lines.Line.{Line}
 use Rattle.cg_text.specs.Blanks.{is_blank}
 use Rattle.cg_text.specs.Lines.{put_line}
-use Rattle.cg_text.specs.Words.{lines, words}
+use Rattle.cg_text.specs.Words.{lines}
 use Rattle.cg_text.specs.Written.{IsWord, joined, numbered, text_of}
 use Rattle.cg_text.proofs.Written.{words-joined}
 use Rattle.cg_blif_text.specs.LogicalLines.{bared, is_joined, logical_lines, put_bared, text_lines, without_front, word_lines}

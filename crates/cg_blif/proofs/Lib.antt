@@ -1,0 +1,3 @@
+pub mod Trimmed
+pub mod Begun
+pub mod PinNets

@@ -1,0 +1,2 @@
+pub mod Physical
+pub mod Joining

@@ -27,5 +27,5 @@ pub mod SaidIsWritable
 pub mod SaidMore
 pub mod TakenFromNetlist
 pub mod ToldByNames
-pub mod Undeclared
 pub mod WaysEnd
+pub mod WritableIsSaid

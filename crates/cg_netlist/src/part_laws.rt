@@ -2,7 +2,7 @@
 //!
 //! Each law is what a call ensures that does nothing: so it is proved as every contract is, and callers can use it.
 
-ghost use Rattle.cg_netlist.specs.said.Laws.{AtLeastOne, AtMostOne, FaultOrNone, NoFault, NoneBeside, OneFault, SaidByItsParts, SaidIsNetlist, SaidIsWritable, SaidMore};
+ghost use Rattle.cg_netlist.specs.said.Laws.{AtLeastOne, AtMostOne, FaultOrNone, NoFault, NoneBeside, OneFault, SaidByItsParts, SaidIsNetlist, SaidIsWritable, SaidMore, WritableIsSaid};
 
 /// Parts that have no fault say one netlist, and parts that have one say none.
 pub fn one_netlist_said()
@@ -23,9 +23,14 @@ pub fn said_by_own_parts()
     ensures { SaidByItsParts }
 {}
 
-/// What parts say is a netlist, and is writable where each of the parts is one that a line can say.
+/// What parts say is a netlist.
 pub fn said_is_netlist()
-    ensures netlist { SaidIsNetlist }
+    ensures { SaidIsNetlist }
+{}
+
+/// The writable netlists are those that parts say of which each is one that a line can say.
+pub fn writable_is_said_by_lines()
+    ensures said { WritableIsSaid }
     ensures writable { SaidIsWritable }
 {}
 

@@ -10,7 +10,7 @@ use Rattle.cg_netlist.specs.said.Part.{Part}
 use Rattle.cg_netlist.specs.said.Said.{said, with_part}
 use Rattle.cg_netlist.specs.said.Says.{AreTaken, Says, netlist_of, parts_from}
 use Rattle.cg_netlist.specs.said.Wiring.{NetName, named}
-use Rattle.cg_netlist.specs.said.Writable.{IsLine, IsWritable}
+use Rattle.cg_netlist.specs.said.Writable.{IsLine, IsWritable, line_parts}
 
 -- parts say at most one netlist
 abbrev pub AtMostOne : Type 0
@@ -48,6 +48,12 @@ SaidByItsParts =
 -- a netlist that taken parts say is writable, if each of the parts is one that a line can say
 abbrev pub SaidIsWritable : Type 0
 SaidIsWritable = (library : List CellData) (model : List ℕ) (parts : List Part) (c : Circuit) → AreTaken model parts → AllByRecursion (IsLine library) parts → Says model parts c → IsWritable library c
+
+-- and a writable netlist is said by parts that lines can say
+abbrev pub WritableIsSaid : Type 0
+WritableIsSaid =
+    (library : List CellData) (c : Circuit) → IsWritable library c
+    → AreTaken c.model (line_parts c) × AllByRecursion (IsLine library) (line_parts c) × Says c.model (line_parts c) c
 
 -- one more part says one thing more
 abbrev pub SaidMore : Type 0

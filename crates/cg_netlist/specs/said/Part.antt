@@ -104,11 +104,11 @@ is_gated parts net = is_known (driven_by_gaters (gaters parts)) net
 abbrev pub roots : List Part → List NetName
 roots parts = clocks parts ++ filter (λ net. not (is_gated parts net)) (clock_pins parts)
 
--- the clock, where there is one root
+-- the clock: the first of the places where it may come from, which is the only one in parts without a fault
 abbrev pub clock_of : List Part → Option NetName
 clock_of parts = slice_get (roots parts) 0
 
--- a register on this clock, where it names none itself; every net has a name that is not empty, so none is left out
+-- a register on this clock, where it names none itself; where there is no clock, on the empty name, which no net has
 abbrev pub on_clock : Option NetName → RegisterCell NetName (Option NetName) → RegisterCell NetName NetName
 on_clock clock r = record { inputs = r.inputs; outputs = r.outputs; pins = r.pins; clock = unwrap_or (option_or r.clock clock) []; kind = r.kind; init = r.init }
 

@@ -1,5 +1,5 @@
 -- Netlists that a text of lines can say, with the cells of a library.
-use Rattle.std.specs.Prelude.{◌≡◌, ◌≢◌, ◌≤◌, ℕ, true, List, length, nat_eq, codes, Option, Some}
+use Rattle.std.specs.Prelude.{◌≡◌, ◌≢◌, ◌≤◌, ◌&&◌, ℕ, Bool, true, false, List, length, nat_eq, codes, Option, Some}
 use Rattle.std.specs.List.{All, IsDistinct, find}
 use Rattle.std.specs.Str.{bytes_eq}
 use Rattle.cg_cell.specs.Cell.{CellData}
@@ -7,10 +7,11 @@ use Rattle.cg_netlist.specs.declared.parts.LogicFunction.{LogicFunction}
 use Rattle.cg_netlist.specs.declared.parts.LogicFunction.TheVariants.{Cover, Cell}
 use Rattle.cg_netlist.specs.declared.parts.RegisterKind.{RegisterKind}
 use Rattle.cg_netlist.specs.declared.parts.RegisterKind.TheVariants.{Plain, Flop}
-use Rattle.cg_netlist.specs.Circuit.{Circuit, gate_nets, is_in}
+use Rattle.cg_netlist.specs.Circuit.{Circuit, RegisterCell, gate_nets, is_in}
 use Rattle.cg_netlist.specs.Netlist.{IsNetlist}
 use Rattle.cg_netlist.specs.said.Part.{Part, Logic, Gate, Register}
-use Rattle.cg_netlist.specs.said.Wiring.{NetName, net_name}
+use Rattle.cg_netlist.specs.said.Says.{parts_from}
+use Rattle.cg_netlist.specs.said.Wiring.{NetName, named, net_name}
 
 -- the cell that a library has under a name, if it has one
 abbrev pub cell_named : List CellData → List ℕ → Option CellData
@@ -33,6 +34,18 @@ KindIsOf library init (Flop cell) = IsOf library cell × (init ≡ 3)
 -- at the clock pin of a plain register the word `NIL` stands for the clock of the netlist, and names no net
 abbrev pub NIL : NetName
 NIL = codes "NIL"
+
+-- whether a register is a plain one whose clock net has the name `NIL`: a line that says it names no clock net
+abbrev pub is_plain : RegisterKind → Bool
+is_plain Plain = true
+is_plain (Flop cell) = false
+
+abbrev pub is_on_nil : RegisterCell NetName NetName → Bool
+is_on_nil r = is_plain r.kind && bytes_eq r.clock NIL
+
+-- the parts that lines say of a netlist
+abbrev pub line_parts : Circuit → List Part
+line_parts c = parts_from is_on_nil (named c)
 
 -- a part that a line can say
 abbrev pub IsLine : List CellData → Part → Type 0

@@ -2,6 +2,7 @@ pub mod Agree
 pub mod AtLeastOne
 pub mod AtMostOne
 pub mod ByKind
+pub mod ByNumber
 pub mod ChainedParts
 pub mod ChainsEnd
 pub mod Counted
@@ -21,6 +22,7 @@ pub mod OneFault
 pub mod OrderMapped
 pub mod OrderedParts
 pub mod RankedParts
+pub mod RanksTell
 pub mod SaidByItsParts
 pub mod SaidIsNetlist
 pub mod SaidIsWritable

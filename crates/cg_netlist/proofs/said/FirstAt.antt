@@ -4,10 +4,11 @@ use Rattle.std.proofs.Common.{ap, ◌∙◌, sym, subst, arith, take}
 use Rattle.std.specs.List.{AllByRecursion, AllPairs, before_first}
 use Rattle.std.specs.Str.{bytes_eq}
 use Rattle.std.proofs.lemmas.Option.{slice_get-get_or}
+use Rattle.cg_netlist.proofs.OrderedForm.{names}
 use Rattle.cg_netlist.proofs.said.KnownNames.{word_at}
 use Rattle.cg_netlist.proofs.said.ToldByNames.{place_back}
 use Rattle.cg_netlist.specs.said.Faults.{IsFirstNot}
-use Rattle.cg_netlist.specs.said.Part.{Part, nets}
+use Rattle.cg_netlist.specs.said.Part.{Part, mentioned, nets}
 use Rattle.cg_netlist.specs.said.Wiring.{NetName, net_name}
 
 name_at : (names : List NetName) (x : ℕ) → x < length names → slice_get names x ≡ Some (net_name names x)

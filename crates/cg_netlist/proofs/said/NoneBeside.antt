@@ -7,22 +7,23 @@ use Rattle.std.specs.Str.{bytes_eq}
 use Rattle.std.proofs.lemmas.Bool.{both_ways, cases_Bool, false_from_ne_true, or_cases, or_left, or_right, eqb-true, eq-eqb}
 use Rattle.std.proofs.lemmas.List.{map-append}
 use Rattle.std.proofs.lemmas.Option.{slice_get-get_or, same_Some, none-some}
+use Rattle.cg_netlist.proofs.Faultless.{proper}
 use Rattle.cg_netlist.proofs.Members.{All-member, is_in_left, is_in_right}
 use Rattle.cg_netlist.proofs.said.Counted.{apart_counts}
 use Rattle.cg_netlist.proofs.said.Different.{apart_from}
 use Rattle.cg_netlist.proofs.said.Each.{by_recursion, each}
 use Rattle.cg_netlist.proofs.said.Kept.{CellNets}
 use Rattle.cg_netlist.proofs.said.KnownNames.{each_known, first_step, itself, known_cases, known_each, same_word, word_at}
-use Rattle.cg_netlist.proofs.said.NetLists.{carried_by, cell_inputs, gater_inputs, register_inputs, used_in}
-use Rattle.cg_netlist.proofs.said.OrderMapped.{cells_driven_mapped, gaters_driven_mapped}
+use Rattle.cg_netlist.proofs.said.NetLists.{carried_by, cell_inputs, gater_inputs, used_in}
+use Rattle.cg_netlist.proofs.said.OrderMapped.{cells_driven_mapped, gaters_driven_mapped, used_mapped}
 use Rattle.cg_netlist.proofs.said.ToldByNames.{cell_net_within, clock_net_within, each_in, known_as, names_are, told, wiring_within}
-use Rattle.cg_netlist.specs.Circuit.{Circuit, GatingCell, LogicCell, RegisterCell, asked_nets, is_in, shown_nets}
+use Rattle.cg_netlist.specs.Circuit.{Circuit, GatingCell, LogicCell, RegisterCell, is_in, shown_nets}
 use Rattle.cg_netlist.specs.Names.{is_known}
 use Rattle.cg_netlist.specs.WellFormed.{IsWellFormed}
 use Rattle.cg_netlist.specs.said.Faults.{HasClock, IsClockProper, IsDrivenIfUsed, IsDrivenOnce, IsEnding, IsFaultless, IsGateProper, IsRootProper, ends_within, reaches}
 use Rattle.cg_netlist.specs.said.Part.{Part, cells, clock_in, clock_of, clock_pins, clocks, drivers, each_once, gaters, inputs, nets, on_clock, outputs, registers, roots, uses, wired}
 use Rattle.cg_netlist.specs.said.Says.{IsClockOf, Says}
-use Rattle.cg_netlist.specs.said.Wiring.{NetName, Wiring, driven_by_cells, driven_by_gaters, driven_by_registers, map_cell, map_gater, map_register, map_wiring, net_name, order_of, wiring}
+use Rattle.cg_netlist.specs.said.Wiring.{NetName, Wiring, driven_by_cells, driven_by_gaters, driven_by_registers, map_cell, map_gater, map_register, net_name, order_of, wiring}
 
 -- registers on a clock show the nets, and use the nets, that they have without one
 pub shown_on : (k : Option NetName) (rs : List (RegisterCell NetName (Option NetName))) → driven_by_registers (map (on_clock k) rs) ≡ driven_by_registers rs
@@ -35,36 +36,6 @@ data_on k (r ∷ rs) = ap (λ xs. r.inputs ++ xs) (data_on k rs)
 
 pub uses_wired : (parts : List Part) → used_in (wired parts) ≡ uses parts
 uses_wired parts = ap (λ xs. cell_inputs (cells parts) ++ gater_inputs (gaters parts) ++ xs ++ outputs parts) (data_on (clock_of parts) (registers parts))
-
--- the nets that are used, under other nets
-module _ {N M : Type 0} (f : N → M) where
-  ins_mapped : (ks : List (LogicCell N)) → flat_map (λ k. k.inputs) (map (map_cell f) ks) ≡ map f (flat_map (λ k. k.inputs) ks)
-  ins_mapped [] = refl
-  ins_mapped (k ∷ ks) = ap (λ xs. map f k.inputs ++ xs) (ins_mapped ks) ∙ sym (map-append f k.inputs (flat_map (λ m. m.inputs) ks))
-
-  test_mapped : (o : Option N) → option_to_list (option_map f o) ≡ map f (option_to_list o)
-  test_mapped None = refl
-  test_mapped (Some x) = refl
-
-  asks_mapped : (gs : List (GatingCell N)) → gater_inputs (map (map_gater f) gs) ≡ map f (gater_inputs gs)
-  asks_mapped [] = refl
-  asks_mapped (g ∷ gs) = ap (λ xs. f g.enable ∷ (xs ++ gater_inputs (map (map_gater f) gs))) (test_mapped g.test) ∙ (ap (λ xs. map f (asked_nets g) ++ xs) (asks_mapped gs) ∙ sym (map-append f (asked_nets g) (gater_inputs gs)))
-
-  data_mapped : (rs : List (RegisterCell N N)) → flat_map (λ r. r.inputs) (map (map_register f) rs) ≡ map f (flat_map (λ r. r.inputs) rs)
-  data_mapped [] = refl
-  data_mapped (r ∷ rs) = ap (λ xs. map f r.inputs ++ xs) (data_mapped rs) ∙ sym (map-append f r.inputs (flat_map (λ s. s.inputs) rs))
-
-  pub used_mapped : (w : Wiring N) → used_in (map_wiring f w) ≡ map f (used_in w)
-  used_mapped w =
-      let a : List N = cell_inputs w.cells in
-      let e : List N = gater_inputs w.gaters in
-      let d : List N = register_inputs w.registers in
-      ap (λ xs. xs ++ gater_inputs (map (map_gater f) w.gaters) ++ register_inputs (map (map_register f) w.registers) ++ map f w.outputs) (ins_mapped w.cells)
-      ∙ (ap (λ xs. map f a ++ xs ++ register_inputs (map (map_register f) w.registers) ++ map f w.outputs) (asks_mapped w.gaters)
-      ∙ (ap (λ xs. map f a ++ map f e ++ xs ++ map f w.outputs) (data_mapped w.registers)
-      ∙ sym (map-append f (a ++ e ++ d) w.outputs
-      ∙ (ap (λ xs. xs ++ map f w.outputs) (map-append f (a ++ e) d)
-      ∙ ap (λ xs. xs ++ map f d ++ map f w.outputs) (map-append f a e)))))
 
 -- a word that is among mapped nets is that of one of them
 pub from_names : (f : ℕ → NetName) (xs : List ℕ) (word : NetName) → is_known (map f xs) word ≡ true → (x : ℕ) × (is_in xs x ≡ true) × (word ≡ f x)

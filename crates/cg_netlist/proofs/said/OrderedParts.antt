@@ -15,8 +15,8 @@ use Rattle.cg_netlist.proofs.said.KnownNames.{each_known, known_cases, known_eac
 use Rattle.cg_netlist.proofs.said.Mentioned.{driver_mentioned, root_mentioned, use_mentioned}
 use Rattle.cg_netlist.proofs.said.NamePlaces.{any_known, either_first, first_of_one, from_places, name_back, place_below, placed_as, places_are}
 use Rattle.cg_netlist.proofs.said.NetLists.{cell_inputs, gater_inputs, register_inputs, used_in}
-use Rattle.cg_netlist.proofs.said.NoneBeside.{one_declared, shown_on, used_mapped, uses_wired}
-use Rattle.cg_netlist.proofs.said.OrderMapped.{order_mapped}
+use Rattle.cg_netlist.proofs.said.NoneBeside.{one_declared, shown_on, uses_wired}
+use Rattle.cg_netlist.proofs.said.OrderMapped.{order_mapped, used_mapped}
 use Rattle.cg_netlist.proofs.said.ToldByNames.{nets_weaker}
 use Rattle.cg_netlist.specs.Circuit.{GatingCell, LogicCell, RegisterCell, asked_nets, is_in, shown_nets}
 use Rattle.cg_netlist.specs.Names.{is_known}

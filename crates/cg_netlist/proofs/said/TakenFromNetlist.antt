@@ -4,6 +4,8 @@ use Rattle.std.proofs.Common.{refl}
 use Rattle.std.specs.List.{AllByRecursion, IsDistinct, flat_map}
 use Rattle.std.specs.Option.{option_to_list}
 use Rattle.cg_cell.specs.Name.{is_name}
+use Rattle.cg_netlist.proofs.Clocks.{pins}
+use Rattle.cg_netlist.proofs.OrderedForm.{names}
 use Rattle.cg_netlist.proofs.said.Each.{by_recursion, each, each_back, each_front, each_together}
 use Rattle.cg_netlist.proofs.said.Fitting.{cell_fits, fits_alike, gater_fits, register_mapped}
 use Rattle.cg_netlist.proofs.said.KnownNames.{known_each}
@@ -12,7 +14,7 @@ use Rattle.cg_netlist.specs.Circuit.{Circuit, GatingCell, LogicCell, RegisterCel
 use Rattle.cg_netlist.specs.Names.{is_known}
 use Rattle.cg_netlist.specs.Netlist.{IsNetlist}
 use Rattle.cg_netlist.specs.WellFormed.{IsOver, RegisterFits}
-use Rattle.cg_netlist.specs.said.Part.{Clock, Gate, Input, Logic, Output, Part, mentioned}
+use Rattle.cg_netlist.specs.said.Part.{Clock, Gate, Input, Logic, Output, Part, inputs, mentioned, outputs}
 use Rattle.cg_netlist.specs.said.Says.{AreTaken, CellFits, GaterFits, IsPart, PartFits, parts_from, register_part}
 use Rattle.cg_netlist.specs.said.Wiring.{NetName, map_cell, map_gater, map_register, named, net_name}
 
@@ -31,8 +33,8 @@ module _ (c : Circuit) (leaves : RegisterCell NetName NetName → Bool) (is : Is
   fine_part p fine = record { named = fine.0; fits = fine.1 }
 
   names_each : (xs : List Part) → AllByRecursion Named (flat_map mentioned xs) → AllByRecursion PartFits xs → AllByRecursion IsPart xs
-  names_each [] names fits = tt
-  names_each (p ∷ ps) names fits = (record { named = each_front Named (mentioned p) (flat_map mentioned ps) names; fits = fits.0 }, names_each ps (each_back Named (mentioned p) (flat_map mentioned ps) names) fits.1)
+  names_each [] all fits = tt
+  names_each (p ∷ ps) all fits = (record { named = each_front Named (mentioned p) (flat_map mentioned ps) all; fits = fits.0 }, names_each ps (each_back Named (mentioned p) (flat_map mentioned ps) all) fits.1)
 
   all_named : AllByRecursion Named (flat_map mentioned (parts_from leaves (named c)))
   all_named = each (λ x. is_known c.names x ≡ true) Named (λ x i. known_each Named c.names x (by_recursion Named c.names is.well_formed.names) i) (flat_map mentioned (parts_from leaves (named c))) (all_mentioned c leaves is outputs_once left)

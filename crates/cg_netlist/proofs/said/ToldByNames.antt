@@ -10,6 +10,7 @@ use Rattle.std.proofs.lemmas.Option.{slice_get-get_or, unwrap_or-slice_get}
 use Rattle.std.specs.Cmp.Lexicographic.{same_text}
 use Rattle.cg_netlist.proofs.Driven.{in_range}
 use Rattle.cg_netlist.proofs.Members.{All-member, is_in_cases, is_in_left, is_in_right}
+use Rattle.cg_netlist.proofs.OrderedForm.{names}
 use Rattle.cg_netlist.proofs.said.Each.{by_recursion, each}
 use Rattle.cg_netlist.proofs.said.Kept.{CellNets, GaterNets, RegisterNets, WiringNets, wiring_kept}
 use Rattle.cg_netlist.proofs.said.KnownNames.{itself}
@@ -18,8 +19,9 @@ use Rattle.cg_netlist.proofs.said.NetLists.{carried_by, cell_inputs, gater_input
 use Rattle.cg_netlist.proofs.said.OrderMapped.{order_mapped}
 use Rattle.cg_netlist.specs.Circuit.{Circuit, GatingCell, LogicCell, RegisterCell, asked_nets, is_in, shown_nets}
 use Rattle.cg_netlist.specs.Names.{is_known}
+use Rattle.cg_netlist.specs.Ordered.{ordered}
 use Rattle.cg_netlist.specs.WellFormed.{IsInNetOrder, IsWellFormed}
-use Rattle.cg_netlist.specs.said.Part.{clocks, gaters}
+use Rattle.cg_netlist.specs.said.Part.{cells, clocks, gaters, inputs, outputs, registers}
 use Rattle.cg_netlist.specs.said.Wiring.{NetName, Wiring, among, circuit, driven_by_cells, driven_by_gaters, driven_by_registers, map_wiring, named, net_name, numbered, order_of, place_in, wiring}
 
 -- what holds of each net of a list holds of those of its elements

@@ -10,6 +10,7 @@ use Rattle.cg_netlist.proofs.said.KnownNames.{known_each}
 use Rattle.cg_netlist.specs.Circuit.{LogicCell}
 use Rattle.cg_netlist.specs.Names.{is_known}
 use Rattle.cg_netlist.specs.said.Faults.{ends_within}
+use Rattle.cg_netlist.specs.said.Part.{cells}
 use Rattle.cg_netlist.specs.said.Wiring.{NetName, driven_by_cells}
 
 -- of tests that do not all pass, one fails
@@ -29,7 +30,7 @@ or_more : (a b c : Bool) → (b ≡ true → c ≡ true) → (a || b) ≡ true �
 or_more true b c more is = refl
 or_more false b c more is = more is
 
-unknown_all : (q : LogicCell NetName → Bool) (ks : List (LogicCell NetName)) (x : NetName) → is_known (driven_by_cells ks) x ≡ false → list_all (λ (k : LogicCell NetName). not (bytes_eq x k.output) || q k) ks ≡ true
+pub unknown_all : (q : LogicCell NetName → Bool) (ks : List (LogicCell NetName)) (x : NetName) → is_known (driven_by_cells ks) x ≡ false → list_all (λ (k : LogicCell NetName). not (bytes_eq x k.output) || q k) ks ≡ true
 unknown_all q [] x none = refl
 unknown_all q (k ∷ ks) x none =
     let parts = or_parts (bytes_eq x k.output) (is_known (driven_by_cells ks) x) none in
@@ -42,6 +43,11 @@ not_true false is = refl
 not_false : (b : Bool) → not b ≡ false → b ≡ true
 not_false true is = refl
 not_false false is = absurd (both_ways true is refl)
+
+-- the ways up from a net that no logic cell drives end at once
+pub undriven_ends : (cells : List (LogicCell NetName)) (n : ℕ) (x : NetName) → is_known (driven_by_cells cells) x ≡ false → ends_within cells n x ≡ true
+undriven_ends cells zero x none = ap not none
+undriven_ends cells (suc n) x none = unknown_all (λ k. list_all (ends_within cells n) k.inputs) cells x none
 
 module _ (cells : List (LogicCell NetName)) where
   -- ways that end within some cells end within more

@@ -31,6 +31,10 @@ map_outputs f outputs = map (λ output. (f output.0, output.1)) outputs
 abbrev pub map_register : {N M : Type 0} → (N → M) → RegisterCell N N → RegisterCell M M
 map_register f r = record { inputs = map f r.inputs; outputs = map_outputs f r.outputs; pins = r.pins; clock = f r.clock; kind = r.kind; init = r.init }
 
+-- a register that may name no clock, with other nets in the places of its nets
+abbrev pub map_open : {N M : Type 0} → (N → M) → RegisterCell N (Option N) → RegisterCell M (Option M)
+map_open f r = record { inputs = map f r.inputs; outputs = map_outputs f r.outputs; pins = r.pins; clock = option_map f r.clock; kind = r.kind; init = r.init }
+
 -- the same wiring with other nets in the places of its nets
 abbrev pub map_wiring : {N M : Type 0} → (N → M) → Wiring N → Wiring M
 map_wiring f w = record {

@@ -11,6 +11,8 @@ pub mod Each
 pub mod FaultOrNone
 pub mod FirstAt
 pub mod Fitting
+pub mod GateRanksTell
+pub mod GatedNets
 pub mod Kept
 pub mod KnownNames
 pub mod Least

@@ -22,3 +22,4 @@ pub mod View
 pub mod WellFormed
 pub mod Writable
 pub mod said
+pub mod inner

@@ -17,17 +17,19 @@ use Rattle.cg_netlist.proofs.said.ByKind.{has_once, kind_each, picks_cell, picks
 use Rattle.cg_netlist.proofs.said.ChainedParts.{all_reach, chained, chains_long, chains_of, gate_is}
 use Rattle.cg_netlist.proofs.said.Each.{each, from_recursion}
 use Rattle.cg_netlist.proofs.said.Fitting.{cells_fit, gaters_fit, registers_fit}
+use Rattle.cg_netlist.proofs.said.GatedNets.{pin_cases}
 use Rattle.cg_netlist.proofs.said.KnownNames.{known_cases, known_each, known_head, known_tail, same_word}
 use Rattle.cg_netlist.proofs.said.NamePlaces.{from_places, same_place}
 use Rattle.cg_netlist.proofs.said.NetLists.{carried_by, used_in}
 use Rattle.cg_netlist.proofs.said.NoneBeside.{uses_wired}
 use Rattle.cg_netlist.proofs.said.OrderMapped.{gaters_driven_mapped, used_mapped}
-use Rattle.cg_netlist.proofs.said.OrderedParts.{clock_holds, clocks_there, different, gate_ordered, in_order, ordered_mentioned, pin_cases, root_clock, root_first, root_is, root_ordered, rooted, use_ordered, used_numbered, wired_back}
+use Rattle.cg_netlist.proofs.said.OrderedParts.{clock_holds, clocks_there, different, gate_ordered, in_order, ordered_mentioned, root_clock, root_first, root_is, root_ordered, rooted, use_ordered, used_numbered, wired_back}
 use Rattle.cg_netlist.proofs.said.RankedParts.{all_end, ranks_long, ranks_of, rising}
 use Rattle.cg_netlist.specs.Circuit.{RegisterCell, is_in}
 use Rattle.cg_netlist.specs.Names.{is_known}
 use Rattle.cg_netlist.specs.Ordered.{ordered}
 use Rattle.cg_netlist.specs.WellFormed.{IsWellFormed}
+use Rattle.cg_netlist.specs.inner.Numbers.{used}
 use Rattle.cg_netlist.specs.said.Faults.{IsFaultless}
 use Rattle.cg_netlist.specs.said.Part.{Gate, Logic, Part, Register, cell_in, cells, clock_of, clock_pins, gater_in, gaters, mentioned, on_clock, register_in, registers, roots, uses, wired}
 use Rattle.cg_netlist.specs.said.Says.{AreTaken, IsPart, PartFits, Says, netlist_of}
@@ -88,7 +90,7 @@ module _ (model : List ℕ) (parts : List Part) (taken : AreTaken model parts) (
   gate_carries x gate = is_in_right (option_to_list (option_map place (clock_of parts))) (driven_by_gaters (map (map_gater place) (gaters parts))) (place x) (ap (λ xs. is_in xs (place x)) (gaters_driven_mapped place (gaters parts)) ∙ known_placed (driven_by_gaters (gaters parts)) x gate)
 
   pin_carries : (x : NetName) → is_known (clock_pins parts) x ≡ true → Carries x
-  pin_carries x pin = elim ((pin_cases parts fine) x pin) [ inl root ↦ clock_carries x ((root_clock parts fine) x root) | inr gate ↦ gate_carries x gate ]
+  pin_carries x pin = elim ((pin_cases parts) x pin) [ inl root ↦ clock_carries x ((root_clock parts fine) x root) | inr gate ↦ gate_carries x gate ]
 
   clocked : (rs : List (RegisterCell NetName (Option NetName))) → AllByRecursion (λ (r : RegisterCell NetName (Option NetName)). AtPin r × (clock_of parts ≡ None → ⊥)) rs → AllByRecursion (λ (r : RegisterCell ℕ ℕ). is_in carriers r.clock ≡ true) (map (map_register place) (map (on_clock (clock_of parts)) rs))
   clocked [] at = tt

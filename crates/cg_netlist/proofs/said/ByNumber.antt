@@ -12,18 +12,9 @@ use Rattle.cg_netlist.proofs.said.OrderMapped.{asks_mapped, cells_driven_mapped,
 use Rattle.cg_netlist.proofs.said.ToldByNames.{known_as, told}
 use Rattle.cg_netlist.specs.Circuit.{GatingCell, LogicCell, RegisterCell, is_in, shown_nets}
 use Rattle.cg_netlist.specs.Names.{is_known}
+use Rattle.cg_netlist.specs.inner.Numbers.{drivers_by, pins_by, roots_by}
 use Rattle.cg_netlist.specs.said.Part.{cells, clocks, gaters, inputs, outputs, registers}
-use Rattle.cg_netlist.specs.said.Wiring.{NetName, among, driven_by_cells, driven_by_gaters, driven_by_registers, map_cell, map_gater, map_open, net_name, used_by}
-
--- what drives nets, what uses them, what stands at clock pins, and where the clock may come from, for nets of any type
-abbrev pub drivers_by : {N K : Type 0} → (N → N → Bool) → List N → List N → List (LogicCell N) → List (GatingCell N) → List (RegisterCell N K) → List N
-drivers_by same inputs clocks cells gaters registers = inputs ++ filter (λ net. not (among same inputs net)) clocks ++ driven_by_cells cells ++ driven_by_gaters gaters ++ driven_by_registers registers
-
-abbrev pub pins_by : {N : Type 0} → List (GatingCell N) → List (RegisterCell N (Option N)) → List N
-pins_by gaters registers = map (λ gater. gater.clock) gaters ++ flat_map (λ r. option_to_list r.clock) registers
-
-abbrev pub roots_by : {N : Type 0} → (N → N → Bool) → List N → List (GatingCell N) → List (RegisterCell N (Option N)) → List N
-roots_by same clocks gaters registers = clocks ++ filter (λ net. not (among same (driven_by_gaters gaters) net)) (pins_by gaters registers)
+use Rattle.cg_netlist.specs.said.Wiring.{NetName, driven_by_cells, driven_by_gaters, driven_by_registers, map_cell, map_gater, map_open, net_name, used_by}
 
 module _ {N M : Type 0} (f : N → M) where
   pub open_driven_mapped : (rs : List (RegisterCell N (Option N))) → driven_by_registers (map (map_open f) rs) ≡ map f (driven_by_registers rs)

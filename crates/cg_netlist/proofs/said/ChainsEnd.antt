@@ -100,13 +100,16 @@ module _ (parts : List Part) where
     | inr more ↦ or_left (reaches_within n x) (reaches parts (suc n) x) (reaches_before n k x more is)
   ]
 
-  -- a chain reaches if and only if it does within as many steps as there are gating cells
-  pub chains_bounded : (n : ℕ) (x : NetName) → reaches parts n x ≡ true → reaches_within (length (gaters parts)) x ≡ true
-  chains_bounded n x is =
+  -- a chain that reaches does so in no more steps than there are gating cells
+  pub short_chain : (n : ℕ) (x : NetName) → reaches parts n x ≡ true → (m : ℕ) × (m ≤ length (gaters parts)) × (reaches parts m x ≡ true)
+  short_chain n x is =
       let least_is : reaches parts (least (λ k. reaches parts k x) n) x ≡ true = least_passes (λ k. reaches parts k x) n is in
       let short : least (λ k. reaches parts k x) n ≤ length (gaters parts) = chain_short (least (λ k. reaches parts k x) n) (chain (least (λ k. reaches parts k x) n) x least_is
       (λ k lt. false_from_ne_true (reaches parts k x) (λ early. let le : least (λ j. reaches parts j x) n ≤ k = least_first (λ j. reaches parts j x) n k early in let none : ⊥ = omega (arith, le, lt) in none))) in
-      reaches_before (length (gaters parts)) (least (λ k. reaches parts k x) n) x short least_is
+      (least (λ k. reaches parts k x) n, short, least_is)
+
+  pub chains_bounded : (n : ℕ) (x : NetName) → reaches parts n x ≡ true → reaches_within (length (gaters parts)) x ≡ true
+  chains_bounded n x is = let b = short_chain n x is in reaches_before (length (gaters parts)) b.0 x b.1 b.2
 
   pub bounded_chains : (x : NetName) → reaches_within (length (gaters parts)) x ≡ true → (n : ℕ) × (reaches parts n x ≡ true)
   bounded_chains x is = within_reaches (length (gaters parts)) x is

@@ -10,6 +10,7 @@ use Rattle.cg_netlist.proofs.Members.{All-from_members}
 use Rattle.cg_netlist.proofs.said.ByKind.{filter_known}
 use Rattle.cg_netlist.proofs.said.Counted.{one_place}
 use Rattle.cg_netlist.proofs.said.Each.{each}
+use Rattle.cg_netlist.proofs.said.GatedNets.{before, pin_cases}
 use Rattle.cg_netlist.proofs.said.Kept.{CellNets, GaterNets, RegisterNets, WiringNets, wiring_kept}
 use Rattle.cg_netlist.proofs.said.KnownNames.{each_known, known_cases, known_each, known_head, known_left, known_right, known_tail, same_word, word_at}
 use Rattle.cg_netlist.proofs.said.Mentioned.{driver_mentioned, root_mentioned, use_mentioned}
@@ -20,6 +21,7 @@ use Rattle.cg_netlist.proofs.said.OrderMapped.{order_mapped, used_mapped}
 use Rattle.cg_netlist.proofs.said.ToldByNames.{nets_weaker}
 use Rattle.cg_netlist.specs.Circuit.{GatingCell, LogicCell, RegisterCell, asked_nets, is_in, shown_nets}
 use Rattle.cg_netlist.specs.Names.{is_known}
+use Rattle.cg_netlist.specs.inner.Numbers.{used}
 use Rattle.cg_netlist.specs.said.Faults.{IsClockProper, IsDrivenIfUsed, IsDrivenOnce, IsFaultless, IsRootProper}
 use Rattle.cg_netlist.specs.said.Part.{Part, cells, clock_in, clock_of, clock_pins, clocks, drivers, gaters, inputs, nets, on_clock, outputs, registers, roots, uses, wired}
 use Rattle.cg_netlist.specs.said.Says.{IsClockOf}
@@ -116,15 +118,8 @@ module _ (parts : List Part) (fine : IsFaultless parts) where
   pub root_first : (x : NetName) → clock_of parts ≡ Some x → is_known (roots parts) x ≡ true
   root_first x is = word_at (roots parts) 0 x is
 
-  -- a clock pin is a root, or a gating cell drives it
-  pub pin_cases : (x : NetName) → is_known (clock_pins parts) x ≡ true → (is_known (roots parts) x ≡ true) ⊎ (is_known (driven_by_gaters (gaters parts)) x ≡ true)
-  pin_cases x pin = elim (cases_Bool (is_known (driven_by_gaters (gaters parts)) x)) [
-    | inl gate ↦ inr gate
-    | inr none ↦ inl (known_right (clocks parts) (filter (λ net. not (is_known (driven_by_gaters (gaters parts)) net)) (clock_pins parts)) x (filter_known (λ net. not (is_known (driven_by_gaters (gaters parts)) net)) (clock_pins parts) x pin (ap not none)))
-  ]
-
   pub pin_ordered : (x : NetName) → is_known (clock_pins parts) x ≡ true → is_known order x ≡ true
-  pin_ordered x pin = elim (pin_cases x pin) [ inl root ↦ root_ordered x root | inr gate ↦ gate_ordered x gate ]
+  pin_ordered x pin = elim ((pin_cases parts) x pin) [ inl root ↦ root_ordered x root | inr gate ↦ gate_ordered x gate ]
 
   -- the wiring comes back from the numbers
   abbrev On : NetName → Type 0

@@ -5,9 +5,8 @@ use Rattle.std.specs.List.{All, AllByRecursion, IsDistinct, filter_map}
 use Rattle.std.proofs.lemmas.Bool.{both_ways, false_from_ne_true, or_cases, eqb-true}
 use Rattle.std.proofs.lemmas.List.{length-map}
 use Rattle.cg_netlist.proofs.DraftLemmas.{taken}
-use Rattle.cg_netlist.proofs.Finished.{well_formed}
 use Rattle.cg_netlist.proofs.Members.{distinct_cons}
-use Rattle.cg_netlist.proofs.NetOrder.{in_order}
+use Rattle.cg_netlist.proofs.OrderedForm.{in_order}
 use Rattle.cg_netlist.proofs.said.ByKind.{kind_each, picks_cell}
 use Rattle.cg_netlist.proofs.said.Different.{Apart, apart_from, apart_once, no_more}
 use Rattle.cg_netlist.proofs.said.Each.{each, from_recursion}

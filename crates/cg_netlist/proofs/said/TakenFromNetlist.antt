@@ -5,7 +5,6 @@ use Rattle.std.specs.List.{AllByRecursion, IsDistinct, flat_map}
 use Rattle.std.specs.Option.{option_to_list}
 use Rattle.cg_cell.specs.Name.{is_name}
 use Rattle.cg_netlist.proofs.Clocks.{pins}
-use Rattle.cg_netlist.proofs.OrderedForm.{names}
 use Rattle.cg_netlist.proofs.said.Each.{by_recursion, each, each_back, each_front, each_together}
 use Rattle.cg_netlist.proofs.said.Fitting.{cell_fits, fits_alike, gater_fits, register_mapped}
 use Rattle.cg_netlist.proofs.said.KnownNames.{known_each}

@@ -5,6 +5,7 @@ pub mod ByKind
 pub mod ByNumber
 pub mod ChainedParts
 pub mod ChainsEnd
+pub mod ChecksTell
 pub mod Counted
 pub mod Different
 pub mod Each
@@ -20,6 +21,7 @@ pub mod Mentioned
 pub mod NamePlaces
 pub mod NetLists
 pub mod NoneBeside
+pub mod NumbersMade
 pub mod OneFault
 pub mod OrderMapped
 pub mod OrderedParts

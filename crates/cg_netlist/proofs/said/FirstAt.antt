@@ -11,7 +11,7 @@ use Rattle.cg_netlist.specs.said.Faults.{IsFirstNot}
 use Rattle.cg_netlist.specs.said.Part.{Part, mentioned, nets}
 use Rattle.cg_netlist.specs.said.Wiring.{NetName, net_name}
 
-name_at : (names : List NetName) (x : ℕ) → x < length names → slice_get names x ≡ Some (net_name names x)
+pub name_at : (names : List NetName) (x : ℕ) → x < length names → slice_get names x ≡ Some (net_name names x)
 name_at names x lt = slice_get-get_or names x [] lt ∙ ap (λ o. Some (unwrap_or o [])) (sym (slice_get-get_or names x [] lt))
 
 taken : (P : NetName → Type 0) (names : List NetName) (x : ℕ) → ((y : ℕ) → y < x → y < length names → P (net_name names y)) → AllByRecursion P (take x names)

@@ -25,7 +25,7 @@ use Rattle.cg_netlist.specs.said.Part.{Part, gaters, is_gated, registers, roots}
 use Rattle.cg_netlist.specs.said.Wiring.{NetName, driven_by_gaters, map_gater, net_name}
 
 -- the gating cell that drives a net, if one does
-gated_none : (gs : List (GatingCell ℕ)) (a x : ℕ) → position_from (λ g. g.output == x) a gs ≡ None → is_in (driven_by_gaters gs) x ≡ false
+pub gated_none : (gs : List (GatingCell ℕ)) (a x : ℕ) → position_from (λ g. g.output == x) a gs ≡ None → is_in (driven_by_gaters gs) x ≡ false
 gated_none [] a x none = refl
 gated_none (g ∷ gs) a x none = go (g.output == x) refl none (λ rest. gated_none gs (a + 1) x rest)
   where
@@ -33,7 +33,7 @@ gated_none (g ∷ gs) a x none = go (g.output == x) refl none (λ rest. gated_no
     go true e none later = absurd (cc)
     go false e none later = ap (λ b. b || is_in (driven_by_gaters gs) x) (false_from_ne_true (nat_eq x g.output) (λ same. both_ways (g.output == x) e (eq-eqb g.output x (sym (eqb-true x g.output same))))) ∙ later none
 
-gated_some : (gs : List (GatingCell ℕ)) (a x j : ℕ) → position_from (λ g. g.output == x) a gs ≡ Some j → (i : ℕ) × (g : GatingCell ℕ) × (j ≡ a + i) × (slice_get gs i ≡ Some g) × (g.output ≡ x)
+pub gated_some : (gs : List (GatingCell ℕ)) (a x j : ℕ) → position_from (λ g. g.output == x) a gs ≡ Some j → (i : ℕ) × (g : GatingCell ℕ) × (j ≡ a + i) × (slice_get gs i ≡ Some g) × (g.output ≡ x)
 gated_some [] a x j is = absurd (cc)
 gated_some (g ∷ gs) a x j is = go (g.output == x) refl is (λ rest. gated_some gs (a + 1) x j rest)
   where

@@ -31,7 +31,7 @@ next_there (Some r ∷ rs) = mapped (next_rank rs) ∙ next_there rs
     mapped (Some n) = refl
 
 -- the cell that drives a net, if one does
-driven_by_none : (cells : List (LogicCell ℕ)) (a x : ℕ) → position_from (λ cell. cell.output == x) a cells ≡ None → is_in (driven_by_cells cells) x ≡ false
+pub driven_by_none : (cells : List (LogicCell ℕ)) (a x : ℕ) → position_from (λ cell. cell.output == x) a cells ≡ None → is_in (driven_by_cells cells) x ≡ false
 driven_by_none [] a x none = refl
 driven_by_none (k ∷ cells) a x none = go (k.output == x) refl none (λ rest. driven_by_none cells (a + 1) x rest)
   where
@@ -42,7 +42,7 @@ driven_by_none (k ∷ cells) a x none = go (k.output == x) refl none (λ rest. d
       | inr other ↦ ap (λ b. b || is_in (driven_by_cells cells) x) other ∙ later none
     ]
 
-driven_by_some : (cells : List (LogicCell ℕ)) (a x j : ℕ) → position_from (λ cell. cell.output == x) a cells ≡ Some j → (i : ℕ) × (cell : LogicCell ℕ) × (j ≡ a + i) × (slice_get cells i ≡ Some cell) × (cell.output ≡ x)
+pub driven_by_some : (cells : List (LogicCell ℕ)) (a x j : ℕ) → position_from (λ cell. cell.output == x) a cells ≡ Some j → (i : ℕ) × (cell : LogicCell ℕ) × (j ≡ a + i) × (slice_get cells i ≡ Some cell) × (cell.output ≡ x)
 driven_by_some [] a x j is = absurd (cc)
 driven_by_some (k ∷ cells) a x j is = go (k.output == x) refl is (λ rest. driven_by_some cells (a + 1) x j rest)
   where
@@ -73,7 +73,7 @@ module _ (names : List NetName) (different : AllPairs (λ name other. name ≢ o
   cell_in_names (x ∷ ks) all zero cell at = let same : x ≡ cell = cc in subst (CellNets Is) same all.0
   cell_in_names (x ∷ ks) all (suc k) cell at = cell_in_names ks all.1 k cell at
 
-  driven_as : (ks : List (LogicCell ℕ)) → AllByRecursion (CellNets Is) ks → (x : ℕ) → Is x → is_known (driven_by_cells (map (map_cell name) ks)) (name x) ≡ is_in (driven_by_cells ks) x
+  pub driven_as : (ks : List (LogicCell ℕ)) → AllByRecursion (CellNets Is) ks → (x : ℕ) → Is x → is_known (driven_by_cells (map (map_cell name) ks)) (name x) ≡ is_in (driven_by_cells ks) x
   driven_as ks all x lt = ap (λ xs. is_known xs (name x)) (cells_driven_mapped name ks) ∙ known_as names different (driven_by_cells ks) x (outputs_in ks all) lt
 
   and_true : (b : Bool) → (b && true) ≡ b

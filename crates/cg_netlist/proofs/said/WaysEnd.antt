@@ -40,7 +40,7 @@ not_true : (b : Bool) → not b ≡ true → b ≡ false
 not_true true is = absurd (both_ways false refl is)
 not_true false is = refl
 
-not_false : (b : Bool) → not b ≡ false → b ≡ true
+pub not_false : (b : Bool) → not b ≡ false → b ≡ true
 not_false true is = refl
 not_false false is = absurd (both_ways true is refl)
 

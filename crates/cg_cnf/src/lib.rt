@@ -3,10 +3,10 @@
 //! In go a list and a goal. Out comes a formula in conjunctive form: three clauses for each and-node, and one
 //! for the goal. So that a goal is never 1 is shown by a proof that its formula can't be satisfied.
 //!
-//! - [`goal`]: the formula of a goal.
+//! - `goal`: [`formula`], the formula of a goal.
 #![tactic(auto)]
 
-pub mod goal;
+mod goal;
 #[cfg(test)]
 mod tests;
 

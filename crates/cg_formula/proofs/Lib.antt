@@ -1,7 +1,7 @@
 pub mod Connectives
 pub mod Members
 pub mod TrueLiterals
-mod Before
+mod ReadingOn
 pub mod TokenSpelling
 mod DimacsExact
 pub mod Pushed

@@ -29,7 +29,7 @@ record RefusedFrom (state : State) (steps : List Step) (line : ℕ) (why : Why) 
   pub whole : steps ≡ before ++ step ∷ behind
   pub reached : LeadsTo state before end
   pub refused : fault_of end step.body step.id ≡ Some why
-  pub stands : step.line ≡ line
+  pub on_line : step.line ≡ line
 
 record WithoutEmptyFrom (state : State) (steps : List Step) (line : ℕ) (why : Why) : Type 0 where
   pub end : State
@@ -62,7 +62,7 @@ onwards state step later (Rejected line why) fine full (inl d) = inl (record {
   whole = ap (λ ss. step ∷ ss) d.whole;
   reached = (fine, full, d.reached);
   refused = d.refused;
-  stands = d.stands;
+  on_line = d.on_line;
 })
 onwards state step later (Rejected line why) fine full (inr d) = inr (record { end = d.end; reached = (fine, full, d.reached); nowhere = d.nowhere; cause = d.cause })
 
@@ -73,7 +73,7 @@ deserved_from state (step ∷ later) =
       pick : DeservesFrom (state_after state step.body step.id) later (verdict_from (state_after state step.body step.id) later)
           → (fault : Option Why) → fault_of state step.body step.id ≡ fault → (empty : Bool) → adds_empty step.body ≡ empty
           → DeservesFrom state (step ∷ later) (step_verdict fault empty step.line (verdict_from (state_after state step.body step.id) later))
-      pick rest (Some why) f empty g = inl (record { before = []; step = step; behind = later; end = state; whole = refl; reached = refl; refused = f; stands = refl })
+      pick rest (Some why) f empty g = inl (record { before = []; step = step; behind = later; end = state; whole = refl; reached = refl; refused = f; on_line = refl })
       pick rest None f true g = record { before = []; last = step; behind = later; end = state; whole = refl; reached = refl; taken = f; empty = g }
       pick rest None f false g = onwards state step later (verdict_from (state_after state step.body step.id) later) f g rest
 
@@ -81,7 +81,7 @@ pub deserved : (formula : Formula) (log : Log) → Deserves formula log (verdict
 deserved formula log = shown (verdict formula log) (deserved_from (first_state formula) log.steps) where
   shown : (v : Verdict) → DeservesFrom (first_state formula) log.steps v → Deserves formula log v
   shown Accepted d = record { before = d.before; last = d.last; behind = d.behind; state = d.end; whole = d.whole; reached = d.reached; taken = d.taken; empty = d.empty }
-  shown (Rejected line why) (inl d) = inl (record { before = d.before; step = d.step; behind = d.behind; state = d.end; whole = d.whole; reached = d.reached; refused = d.refused; stands = d.stands })
+  shown (Rejected line why) (inl d) = inl (record { before = d.before; step = d.step; behind = d.behind; state = d.end; whole = d.whole; reached = d.reached; refused = d.refused; on_line = d.on_line })
   shown (Rejected line why) (inr d) = inr (record { state = d.end; reached = d.reached; nowhere = d.nowhere; cause = d.cause })
 
 -- steps that lead on change nothing of the verdict
@@ -98,6 +98,6 @@ pub deserves_only : (formula : Formula) (log : Log) (v : Verdict) → Deserves f
 deserves_only formula log Accepted d =
     ap (verdict_from (first_state formula)) d.whole ∙ led (first_state formula) d.state d.before (d.last ∷ d.behind) d.reached ∙ rw (d.taken, d.empty) refl
 deserves_only formula log (Rejected line why) (inl d) =
-    ap (verdict_from (first_state formula)) d.whole ∙ led (first_state formula) d.state d.before (d.step ∷ d.behind) d.reached ∙ rw (d.refused, d.stands) refl
+    ap (verdict_from (first_state formula)) d.whole ∙ led (first_state formula) d.state d.before (d.step ∷ d.behind) d.reached ∙ rw (d.refused, d.on_line) refl
 deserves_only formula log (Rejected line why) (inr d) =
     ap (verdict_from (first_state formula)) (sym (nothing_behind log.steps)) ∙ led (first_state formula) d.state log.steps [] d.reached ∙ rw (d.nowhere, d.cause) refl

@@ -1,6 +1,6 @@
-pub mod LogBefore
-pub mod Open
-pub mod Hints
+pub mod ReadingOn
+pub mod NonFalseFound
+pub mod HintChain
 pub mod Sound
 pub mod Deserved
 pub mod IdSpelling

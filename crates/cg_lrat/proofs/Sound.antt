@@ -13,24 +13,24 @@ use Rattle.cg_lrat.specs.declared.log.Log.{Log}
 use Rattle.cg_lrat.specs.declared.verdict.Verdict.TheVariants.{Accepted}
 use Rattle.cg_lrat.specs.declared.verdict.Why.{Why}
 use Rattle.cg_lrat.specs.declared.verdict.Why.TheVariants as whys
-use Rattle.cg_lrat.specs.declared.hint.Open.{Open}
-use Rattle.cg_lrat.specs.declared.hint.Open.TheVariants as opens
+use Rattle.cg_lrat.specs.declared.hint.NonFalse.{NonFalse}
+use Rattle.cg_lrat.specs.declared.hint.NonFalse.TheVariants as left
 use Rattle.cg_formula.specs.Lits.{inverse, same_lit, is_in}
 use Rattle.cg_formula.specs.Satisfiable.{lit_bit, clause_bit, IsUnsatisfiable}
-use Rattle.cg_lrat.specs.Accepted.{Live, State, with_clauses, first_state, open_lits, open_of, unit_then, false_at, known_then, hints_fault, is_tautology, clause_fault, addition_fault, fault_of, without, state_after, adds_empty, step_verdict, verdict_from, verdict}
+use Rattle.cg_lrat.specs.Accepted.{Live, State, with_clauses, first_state, non_false_lits, non_false_of, unit_then, false_at, known_then, hints_fault, is_tautology, clause_fault, addition_fault, fault_of, without, state_after, adds_empty, step_verdict, verdict_from, verdict}
 use Rattle.cg_formula.proofs.Connectives.{and_true, or_true, or_right, not_true}
 use Rattle.cg_formula.proofs.Members.{same_lit_equal}
 use Rattle.cg_formula.proofs.TrueLiterals.{lit_bit-inverse, found_true, all_false, all_more}
 
 -- clauses where some literals are true
 
--- a true literal is open
-open_holds : (bits : List Bool) (trues lits : List Lit) → list_all (lit_bit bits) trues ≡ true → list_any (lit_bit bits) lits ≡ true
-    → list_any (lit_bit bits) (open_lits trues lits) ≡ true
-open_holds bits trues [] all e = absurd (cc)
-open_holds bits trues (l ∷ ls) all e = pick (open_holds bits trues ls all) (is_in (inverse l) trues) refl where
-  pick : (list_any (lit_bit bits) ls ≡ true → list_any (lit_bit bits) (open_lits trues ls) ≡ true)
-      → (b : Bool) → is_in (inverse l) trues ≡ b → list_any (lit_bit bits) (open_lits trues (l ∷ ls)) ≡ true
+-- a true literal is not false
+non_false_holds : (bits : List Bool) (trues lits : List Lit) → list_all (lit_bit bits) trues ≡ true → list_any (lit_bit bits) lits ≡ true
+    → list_any (lit_bit bits) (non_false_lits trues lits) ≡ true
+non_false_holds bits trues [] all e = absurd (cc)
+non_false_holds bits trues (l ∷ ls) all e = pick (non_false_holds bits trues ls all) (is_in (inverse l) trues) refl where
+  pick : (list_any (lit_bit bits) ls ≡ true → list_any (lit_bit bits) (non_false_lits trues ls) ≡ true)
+      → (b : Bool) → is_in (inverse l) trues ≡ b → list_any (lit_bit bits) (non_false_lits trues (l ∷ ls)) ≡ true
   pick later true f =
       let inverse_true : lit_bit bits (inverse l) ≡ true = found_true bits (inverse l) trues f all in
       let no : lit_bit bits l ≡ false = not_true (lit_bit bits l) (sym (lit_bit-inverse bits l) ∙ inverse_true) in
@@ -50,17 +50,17 @@ all_same bits l (m ∷ ms) same e =
       ]
     ]
 
-one_holds : (bits : List Bool) (lit : Lit) (ls : List Lit) → open_of ls ≡ opens.One lit → list_any (lit_bit bits) ls ≡ true → lit_bit bits lit ≡ true
+one_holds : (bits : List Bool) (lit : Lit) (ls : List Lit) → non_false_of ls ≡ left.One lit → list_any (lit_bit bits) ls ≡ true → lit_bit bits lit ≡ true
 one_holds bits lit [] e any = absurd (cc)
 one_holds bits lit (l ∷ ls) e any = pick (list_all (same_lit l) ls) refl where
   pick : (b : Bool) → list_all (same_lit l) ls ≡ b → lit_bit bits lit ≡ true
   pick true f =
-      let one : opens.One l ≡ opens.One lit = rw f at e in
+      let one : left.One l ≡ left.One lit = rw f at e in
       let same : l ≡ lit = cc in
       ap (lit_bit bits) (sym same) ∙ all_same bits l ls f any
-  pick false f = let many : opens.Many ≡ opens.One lit = rw f at e in absurd (cc)
+  pick false f = let many : left.Many ≡ left.One lit = rw f at e in absurd (cc)
 
-nothing_holds : (bits : List Bool) (hint : ℕ) (ls : List Lit) → false_at (open_of ls) hint ≡ None → list_any (lit_bit bits) ls ≡ true → ⊥
+nothing_holds : (bits : List Bool) (hint : ℕ) (ls : List Lit) → false_at (non_false_of ls) hint ≡ None → list_any (lit_bit bits) ls ≡ true → ⊥
 nothing_holds bits hint [] e any = cc
 nothing_holds bits hint (l ∷ ls) e any = pick (list_all (same_lit l) ls) refl where
   pick : (b : Bool) → list_all (same_lit l) ls ≡ b → ⊥
@@ -69,16 +69,16 @@ nothing_holds bits hint (l ∷ ls) e any = pick (list_all (same_lit l) ls) refl 
 
 -- hints
 
-unit_found : (trues : List Lit) (hint : ℕ) (ls : List Lit) (later : Lit → Option Why) → unit_then (open_of ls) trues hint later ≡ None
-    → (lit : Lit) × (open_of ls ≡ opens.One lit) × (later lit ≡ None)
-unit_found trues hint ls later e = pick (open_of ls) refl e where
-  pick : (o : Open) → open_of ls ≡ o → unit_then o trues hint later ≡ None → (lit : Lit) × (open_of ls ≡ opens.One lit) × (later lit ≡ None)
-  pick opens.Nothing f e = absurd (cc)
-  pick (opens.One lit) f e = elim (is_in lit trues) as (λ b. (if b then Some (whys.NotUnit hint) else later lit) ≡ None → (lit : Lit) × (open_of ls ≡ opens.One lit) × (later lit ≡ None)) [
+unit_found : (trues : List Lit) (hint : ℕ) (ls : List Lit) (later : Lit → Option Why) → unit_then (non_false_of ls) trues hint later ≡ None
+    → (lit : Lit) × (non_false_of ls ≡ left.One lit) × (later lit ≡ None)
+unit_found trues hint ls later e = pick (non_false_of ls) refl e where
+  pick : (o : NonFalse) → non_false_of ls ≡ o → unit_then o trues hint later ≡ None → (lit : Lit) × (non_false_of ls ≡ left.One lit) × (later lit ≡ None)
+  pick left.Nothing f e = absurd (cc)
+  pick (left.One lit) f e = elim (is_in lit trues) as (λ b. (if b then Some (whys.NotUnit hint) else later lit) ≡ None → (lit : Lit) × (non_false_of ls ≡ left.One lit) × (later lit ≡ None)) [
     | true ↦ λ g. absurd (cc)
     | false ↦ λ g. (lit, f, g)
   ] e
-  pick opens.Many f e = absurd (cc)
+  pick left.Many f e = absurd (cc)
 
 known_found : (o : Option (List Lit)) (hint : ℕ) (later : List Lit → Option Why) → known_then o hint later ≡ None
     → (lits : List Lit) × (o ≡ Some lits) × (later lits ≡ None)
@@ -94,12 +94,12 @@ refuted : (bits : List Bool) (live : Live) → LiveHolds bits live → (trues : 
     → hints_fault live trues hints ≡ None → ⊥
 refuted bits live holds trues [] all e = cc
 refuted bits live holds trues (hint ∷ []) all e =
-    let known = known_found (live hint) hint (λ lits. false_at (open_of (open_lits trues lits)) hint) e in
-    nothing_holds bits hint (open_lits trues known.0) known.2 (open_holds bits trues known.0 all (holds hint known.0 known.1))
+    let known = known_found (live hint) hint (λ lits. false_at (non_false_of (non_false_lits trues lits)) hint) e in
+    nothing_holds bits hint (non_false_lits trues known.0) known.2 (non_false_holds bits trues known.0 all (holds hint known.0 known.1))
 refuted bits live holds trues (hint ∷ next ∷ later) all e =
-    let known = known_found (live hint) hint (λ lits. unit_then (open_of (open_lits trues lits)) trues hint (λ lit. hints_fault live (trues ++ lit ∷ []) (next ∷ later))) e in
-    let unit = unit_found trues hint (open_lits trues known.0) (λ lit. hints_fault live (trues ++ lit ∷ []) (next ∷ later)) known.2 in
-    let true_lit : lit_bit bits unit.0 ≡ true = one_holds bits unit.0 (open_lits trues known.0) unit.1 (open_holds bits trues known.0 all (holds hint known.0 known.1)) in
+    let known = known_found (live hint) hint (λ lits. unit_then (non_false_of (non_false_lits trues lits)) trues hint (λ lit. hints_fault live (trues ++ lit ∷ []) (next ∷ later))) e in
+    let unit = unit_found trues hint (non_false_lits trues known.0) (λ lit. hints_fault live (trues ++ lit ∷ []) (next ∷ later)) known.2 in
+    let true_lit : lit_bit bits unit.0 ≡ true = one_holds bits unit.0 (non_false_lits trues known.0) unit.1 (non_false_holds bits trues known.0 all (holds hint known.0 known.1)) in
     refuted bits live holds (trues ++ unit.0 ∷ []) (next ∷ later) (all_more bits trues unit.0 all true_lit) unit.2
 
 -- steps

@@ -13,8 +13,8 @@ use Rattle.cg_lrat.specs.declared.verdict.Verdict.{Verdict}
 use Rattle.cg_lrat.specs.declared.verdict.Verdict.TheVariants.{Accepted, Rejected}
 use Rattle.cg_lrat.specs.declared.verdict.Why.{Why}
 use Rattle.cg_lrat.specs.declared.verdict.Why.TheVariants.{UsedId, UnknownId, Tautology, NotUnit, NotFalse, NoHint, NoEmpty}
-use Rattle.cg_lrat.specs.declared.hint.Open.{Open}
-use Rattle.cg_lrat.specs.declared.hint.Open.TheVariants as opens
+use Rattle.cg_lrat.specs.declared.hint.NonFalse.{NonFalse}
+use Rattle.cg_lrat.specs.declared.hint.NonFalse.TheVariants as left
 use Rattle.cg_formula.specs.Lits.{inverse, same_lit, is_in}
 
 -- the live clauses, by id
@@ -36,25 +36,25 @@ abbrev pub first_state : Formula → State
 first_state formula = record { live = with_clauses 1 formula.clauses (λ _. None); greatest = length formula.clauses }
 
 -- the literals that are not false, where these are true
-abbrev pub open_lits : List Lit → List Lit → List Lit
-open_lits trues lits = filter (λ lit. not (is_in (inverse lit) trues)) lits
+abbrev pub non_false_lits : List Lit → List Lit → List Lit
+non_false_lits trues lits = filter (λ lit. not (is_in (inverse lit) trues)) lits
 
 -- none, one literal however often, or several
-abbrev pub open_of : List Lit → Open
-open_of [] = opens.Nothing
-open_of (lit ∷ lits) = if list_all (same_lit lit) lits then opens.One lit else opens.Many
+abbrev pub non_false_of : List Lit → NonFalse
+non_false_of [] = left.Nothing
+non_false_of (lit ∷ lits) = if list_all (same_lit lit) lits then left.One lit else left.Many
 
 -- a hint before the last: all its literals but one are false, and that one is not true; it goes on with it
-abbrev pub unit_then : Open → List Lit → ℕ → (Lit → Option Why) → Option Why
-unit_then opens.Nothing trues hint later = Some (NotUnit hint)
-unit_then (opens.One lit) trues hint later = if is_in lit trues then Some (NotUnit hint) else later lit
-unit_then opens.Many trues hint later = Some (NotUnit hint)
+abbrev pub unit_then : NonFalse → List Lit → ℕ → (Lit → Option Why) → Option Why
+unit_then left.Nothing trues hint later = Some (NotUnit hint)
+unit_then (left.One lit) trues hint later = if is_in lit trues then Some (NotUnit hint) else later lit
+unit_then left.Many trues hint later = Some (NotUnit hint)
 
 -- the last hint: all its literals are false
-abbrev pub false_at : Open → ℕ → Option Why
-false_at opens.Nothing hint = None
-false_at (opens.One lit) hint = Some (NotFalse hint)
-false_at opens.Many hint = Some (NotFalse hint)
+abbrev pub false_at : NonFalse → ℕ → Option Why
+false_at left.Nothing hint = None
+false_at (left.One lit) hint = Some (NotFalse hint)
+false_at left.Many hint = Some (NotFalse hint)
 
 -- what is asked of the clause that a hint names
 abbrev pub known_then : Option (List Lit) → ℕ → (List Lit → Option Why) → Option Why
@@ -64,9 +64,9 @@ known_then (Some lits) id later = later lits
 -- the first fault of the hints, where these literals are true
 abbrev pub hints_fault : Live → List Lit → List ℕ → Option Why
 hints_fault live trues [] = Some NoHint
-hints_fault live trues (hint ∷ []) = known_then (live hint) hint (λ lits. false_at (open_of (open_lits trues lits)) hint)
+hints_fault live trues (hint ∷ []) = known_then (live hint) hint (λ lits. false_at (non_false_of (non_false_lits trues lits)) hint)
 hints_fault live trues (hint ∷ next ∷ later) =
-    known_then (live hint) hint (λ lits. unit_then (open_of (open_lits trues lits)) trues hint (λ lit. hints_fault live (trues ++ lit ∷ []) (next ∷ later)))
+    known_then (live hint) hint (λ lits. unit_then (non_false_of (non_false_lits trues lits)) trues hint (λ lit. hints_fault live (trues ++ lit ∷ []) (next ∷ later)))
 
 -- a literal stands there and its inverse too
 abbrev pub is_tautology : List Lit → Bool

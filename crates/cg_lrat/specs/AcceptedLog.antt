@@ -35,7 +35,7 @@ pub record IsRefusedAt (formula : Formula) (log : Log) (line : ℕ) (why : Why) 
   pub whole : log.steps ≡ before ++ step ∷ behind
   pub reached : LeadsTo (first_state formula) before state
   pub refused : fault_of state step.body step.id ≡ Some why
-  pub stands : step.line ≡ line
+  pub on_line : step.line ≡ line
 
 -- no step is refused, and none adds the empty clause
 pub record IsWithoutEmpty (formula : Formula) (log : Log) (line : ℕ) (why : Why) : Type 0 where

@@ -1,12 +1,8 @@
 pub mod Bounds
 pub mod Ids
 pub mod LratReading
-pub mod Truth
-pub mod Open
+pub mod LratText
 pub mod Accepted
-pub mod Live
-pub mod Progress
-pub mod Hints
 pub mod AcceptedLog
 pub mod GrownLog
-pub mod LratText
+pub mod inner

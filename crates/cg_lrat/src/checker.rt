@@ -16,7 +16,7 @@ use std::alloc::{AllocError, Global};
 /// addition along its own hints alone.
 pub struct Checker;
 
-// The verdict.
+/// The verdict.
 fn run<'a>(alloc: Global, formula: &'a Formula, log: &'a Log) -> Result<Verdict, AllocError>
     ensures { IfOk result (λ found. found ≡ verdict formula.entry.now log.entry.now) }
 {

@@ -10,16 +10,17 @@
 //!
 //! Modules, as data flows through them:
 //!
-//! - [`log`]: what is read, checked and written;
+//! - `log`: [`Log`], [`Step`] and [`Body`], which are read, checked and written;
 //! - `id`: the words of hints;
-//! - [`lrat`]: the text, read and written;
-//! - `truth` and `live`: the literals that are true within a step, and the clauses that are live between steps;
+//! - `lrat`: the text, read and written;
+//! - `assignment` and `live`: the literals that are true within a step, and the clauses that are live between steps;
 //! - `hint`: what a hint is worth;
 //! - `progress`: one step of a log;
-//! - [`checker`]: the check of a whole log;
-//! - [`verdict`]: its answer.
+//! - `checker`: [`Checker`], the check of a whole log;
+//! - `verdict`: [`Verdict`], its answer.
 #![tactic(auto)]
 
+mod assignment;
 pub mod checker;
 mod hint;
 mod id;
@@ -29,5 +30,9 @@ pub mod lrat;
 mod progress;
 #[cfg(test)]
 mod tests;
-mod truth;
 pub mod verdict;
+
+pub use checker::Checker;
+pub use log::{Body, Log, Step};
+pub use lrat::{GREATEST_VARIABLE, LratFault, read_lrat, write_lrat};
+pub use verdict::{Verdict, Why};

@@ -15,7 +15,7 @@ pub struct LiveClauses<'a> {
 }
 
 impl<'a> LiveClauses<'a> {
-    ghost use Rattle.cg_lrat.specs.Live.{live_in};
+    ghost use Rattle.cg_lrat.specs.inner.LiveTable.{live_in};
 
     /// No clause is live.
     pub fn new(alloc: Global) -> Self

@@ -54,15 +54,13 @@ impl<T: Drop> From<AllocFailed<T>> for LratFault {
     }
 }
 
-// The literals up to the zero that ends them. A fault is at this line.
+/// The literals up to the zero that ends them. A fault is at this line.
 fn read_lits(alloc: Global, words: &mut Words<'_>, line: u64) -> Result<Clause, LratFault>
     ensures { Gives (λ clause. (clause.lits, words.new)) result (lits_at line words.old) }
 {
     let mut lits = Vec::new(alloc);
     'literals: loop {
-        let Some(word) = words.next_word() else {
-            return Err(LratFault::BadLine(line));
-        };
+        let word = words.next_word().ok_or(LratFault::BadLine(line))?;
         match read_clause_token(word, GREATEST_VARIABLE) {
             ClauseToken::Literal(lit) => lits.push(lit)?,
             ClauseToken::End => break,
@@ -74,16 +72,14 @@ fn read_lits(alloc: Global, words: &mut Words<'_>, line: u64) -> Result<Clause, 
     })
 }
 
-// The ids up to the zero that ends the line.
+/// The ids up to the zero that ends the line.
 fn read_ids(alloc: Global, words: Words<'_>, line: u64) -> Result<Seq<u64>, LratFault>
     ensures { Gives (λ ids. ids) result (ids_at line words.entry) }
 {
     let mut words = words;
     let mut ids = Vec::new(alloc);
     'ids: loop {
-        let Some(word) = words.next_word() else {
-            return Err(LratFault::BadLine(line));
-        };
+        let word = words.next_word().ok_or(LratFault::BadLine(line))?;
         match read_id_token(word) {
             IdToken::Id(id) => ids.push(id)?,
             IdToken::End => break,
@@ -97,7 +93,7 @@ fn read_ids(alloc: Global, words: Words<'_>, line: u64) -> Result<Seq<u64>, Lrat
     }
 }
 
-// The clause and the hints of an addition.
+/// The clause and the hints of an addition.
 fn read_addition(alloc: Global, words: Words<'_>, line: u64) -> Result<Body, LratFault>
     ensures { Gives (λ body. body) result (addition_of line words.entry) }
 {
@@ -107,7 +103,7 @@ fn read_addition(alloc: Global, words: Words<'_>, line: u64) -> Result<Body, Lra
     Ok(Body::Add(clause, hints))
 }
 
-// Whether the line goes on with a `d`, and what is behind it.
+/// Whether the line goes on with a `d`, and what is behind it.
 fn deleted<'a>(words: &Words<'a>) -> Option<Words<'a>>
     ensures { MatchOption result (deletion_of words.now ≡ None) (λ ids. deletion_of words.now ≡ Some ids) }
 {
@@ -118,15 +114,13 @@ fn deleted<'a>(words: &Words<'a>) -> Option<Words<'a>>
     }
 }
 
-// What a line says.
+/// What a line says.
 fn read_step(alloc: Global, line: Line<'_>) -> Result<Step, LratFault>
     ensures { Gives (λ step. step) result (step_of line.entry) }
 {
     let number = line.number;
     let mut words = line.words;
-    let Some(first) = words.next_word() else {
-        return Err(LratFault::BadLine(number));
-    };
+    let first = words.next_word().ok_or(LratFault::BadLine(number))?;
     let IdToken::Id(id) = read_id_token(first) else {
         return Err(LratFault::BadLine(number));
     };
@@ -141,7 +135,7 @@ fn read_step(alloc: Global, line: Line<'_>) -> Result<Step, LratFault>
     })
 }
 
-// The log, or its first bad line.
+/// The log, or its first bad line.
 fn read_text(alloc: Global, text: &[u8]) -> Result<Log, LratFault>
     ensures { Gives (λ log. log) result (lrat text.now) }
 {
@@ -184,7 +178,7 @@ pub fn write_lrat(alloc: Global, log: &Log) -> Result<Vec<u8>, AllocError>
     Ok(text)
 }
 
-// Puts the line of a step behind the text.
+/// Puts the line of a step behind the text.
 fn push_step(text: &mut Vec<u8>, step: &Step) -> Result<(), AllocError>
     ensures { OnOk result (text.new.items ≡ text.old.items ++ line_text (step_words step.now)) }
 {
@@ -195,7 +189,7 @@ fn push_step(text: &mut Vec<u8>, step: &Step) -> Result<(), AllocError>
     Ok(())
 }
 
-// Puts what a step does behind the text.
+/// Puts what a step does behind the text.
 fn push_body(text: &mut Vec<u8>, body: &Body) -> Result<(), AllocError>
     ensures { OnOk result (text.new.items ≡ text.old.items ++ joined (body_words body.now)) }
 {
@@ -205,7 +199,7 @@ fn push_body(text: &mut Vec<u8>, body: &Body) -> Result<(), AllocError>
     }
 }
 
-// Puts a clause and its hints behind the text.
+/// Puts a clause and its hints behind the text.
 fn push_addition(text: &mut Vec<u8>, clause: &Clause, hints: &[u64]) -> Result<(), AllocError>
     ensures { OnOk result (text.new.items ≡ text.old.items ++ joined (clause_words clause.now ++ id_words hints.now)) }
 {
@@ -215,7 +209,7 @@ fn push_addition(text: &mut Vec<u8>, clause: &Clause, hints: &[u64]) -> Result<(
     Ok(())
 }
 
-// Puts a `d` and ids behind the text.
+/// Puts a `d` and ids behind the text.
 fn push_deletion(text: &mut Vec<u8>, ids: &[u64]) -> Result<(), AllocError>
     ensures { OnOk result (text.new.items ≡ text.old.items ++ joined (codes "d" ∷ id_words ids.now)) }
 {

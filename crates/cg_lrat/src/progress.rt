@@ -5,12 +5,12 @@ ghost use Rattle.std.specs.List.{list_any};
 ghost use Rattle.std.specs.Map.{update};
 ghost use Rattle.cg_lrat.specs.Accepted.{with_clauses, clause_fault, addition_fault, deletion_fault, without};
 ghost use Rattle.cg_formula.specs.Lits.{inverse, is_in};
-ghost use Rattle.cg_lrat.specs.Live.{live_in};
+ghost use Rattle.cg_lrat.specs.inner.LiveTable.{live_in};
 
+use crate::assignment::Assignment;
 use crate::hint::hints_fault;
 use crate::live::LiveClauses;
 use crate::log::{Body, Step};
-use crate::truth::Truth;
 use crate::verdict::Why;
 use cg_formula::{Clause, Formula, Lit};
 use std::alloc::{AllocError, Global};
@@ -28,31 +28,31 @@ pub enum Next {
 
 /// The live clauses, and the greatest id so far.
 ///
-/// The table of true literals means nothing between two steps. It is made once, because it has a place for each
-/// variable, and cleared by what a step made true.
+/// The assignment means nothing between two steps. It is made once, because its table has a place for each literal of
+/// the formula, and a step begins by clearing it.
 #[derive(Drop)]
 pub struct Progress<'a> {
     live: LiveClauses<'a>,
     greatest: u64,
-    truth: Truth,
+    assignment: Assignment,
 }
 
 impl<'a> Progress<'a> {
     ghost use Rattle.cg_lrat.specs.Accepted.{first_state, state_after};
-    ghost use Rattle.cg_lrat.specs.Progress.{state_of, next_by, next_of};
+    ghost use Rattle.cg_lrat.specs.inner.Progress.{state_of, next_by, next_of};
 
     /// The clauses of the formula are live.
     pub fn start(alloc: Global, formula: &'a Formula) -> Result<Self, AllocError>
         ensures { IfOk result (λ progress. state_of progress ≡ first_state formula.entry.now) }
     {
-        let truth = Truth::new(alloc, formula.variables)?;
+        let assignment = Assignment::new(alloc, formula.variables)?;
         let mut live = LiveClauses::new(alloc);
         let clauses = formula.clauses.as_slice();
         put_clauses(&mut live, clauses)?;
         Ok(Progress {
             live,
             greatest: clauses.len() as u64,
-            truth,
+            assignment,
         })
     }
 
@@ -70,7 +70,7 @@ impl<'a> Progress<'a> {
         }
     }
 
-    // Takes an addition.
+    /// Takes an addition.
     fn add(&mut self, id: u64, clause: &'a [Lit], hints: &[u64]) -> Result<Next, AllocError>
         ensures next { IfOk result (λ next. next ≡ next_by (addition_fault (state_of self.old) id clause.entry.now hints.now) (length clause.entry.now == 0)) }
         ensures later { result ≡ Ok Next.Later → state_of self.new ≡ record { live = update nat_eq (live_in self.old.live) id (Some clause.entry.now); greatest = id } }
@@ -78,7 +78,7 @@ impl<'a> Progress<'a> {
         if id <= self.greatest {
             return Ok(Next::Refused(Why::UsedId(id)));
         }
-        if let Some(why) = clause_fault(&self.live, &mut self.truth, clause, hints)? {
+        if let Some(why) = clause_fault(&self.live, &mut self.assignment, clause, hints)? {
             return Ok(Next::Refused(why));
         }
         if clause.is_empty() {
@@ -90,7 +90,7 @@ impl<'a> Progress<'a> {
     }
 }
 
-// The clauses are live, under the ids from 1 on.
+/// The clauses are live, under the ids from 1 on.
 fn put_clauses<'a>(live: &mut LiveClauses<'a>, clauses: &'a [Clause]) -> Result<(), AllocError>
     ensures { OnOk result (live_in live.new ≡ with_clauses 1 clauses.entry.now (live_in live.old)) }
 {
@@ -100,41 +100,41 @@ fn put_clauses<'a>(live: &mut LiveClauses<'a>, clauses: &'a [Clause]) -> Result<
     Ok(())
 }
 
-// The fault of an addition whose id is new: a tautology, then its hints.
+/// The fault of an addition whose id is new: a tautology, then its hints.
 fn clause_fault(
     live: &LiveClauses<'_>,
-    truth: &mut Truth,
+    assignment: &mut Assignment,
     clause: &[Lit],
     hints: &[u64],
 ) -> Result<Option<Why>, AllocError>
     ensures { IfOk result (λ fault. fault ≡ clause_fault (live_in live.now) clause.now hints.now) }
 {
-    take_as_false(truth, clause)?;
-    if has_true(truth, clause) {
+    take_as_false(assignment, clause)?;
+    if has_true(assignment, clause) {
         return Ok(Some(Why::Tautology));
     }
-    hints_fault(live, truth, hints)
+    hints_fault(live, assignment, hints)
 }
 
-// Makes each literal of the clause false, and no other.
-fn take_as_false(truth: &mut Truth, clause: &[Lit]) -> Result<(), AllocError>
-    ensures { OnOk result (truth.new ≡ map inverse clause.now) }
+/// Makes each literal of the clause false, and no other.
+fn take_as_false(assignment: &mut Assignment, clause: &[Lit]) -> Result<(), AllocError>
+    ensures { OnOk result (assignment.new ≡ map inverse clause.now) }
 {
-    truth.clear();
+    assignment.clear();
     for lit in clause {
-        truth.make_true(lit.inverse())?;
+        assignment.make_true(lit.inverse())?;
     }
     Ok(())
 }
 
-// Whether a literal of the clause is true.
-fn has_true(truth: &Truth, clause: &[Lit]) -> bool
-    ensures { result ≡ list_any (λ lit. is_in lit truth.now) clause.now }
+/// Whether a literal of the clause is true.
+fn has_true(assignment: &Assignment, clause: &[Lit]) -> bool
+    ensures { result ≡ list_any (λ lit. is_in lit assignment.now) clause.now }
 {
-    clause.iter().any(|lit| truth.has(*lit))
+    clause.iter().any(|lit| assignment.has(*lit))
 }
 
-// Takes clauses away, up to the first id that no live clause has.
+/// Takes clauses away, up to the first id that no live clause has.
 fn delete(live: &mut LiveClauses<'_>, ids: &[u64]) -> Option<Why>
     ensures fault { result ≡ deletion_fault (live_in live.old) ids.now }
     ensures gone { IsNone result → live_in live.new ≡ without (live_in live.old) ids.now }

@@ -1,6 +1,6 @@
 use Rattle.std.proofs.Common.{◌≡◌, length}
 use Rattle.cg_formula.specs.DimacsReading.{clause_at}
-use Rattle.cg_formula.proofs.Before.{lits_before}
+use Rattle.cg_formula.proofs.ReadingOn.{lits_before}
 use Rattle.cg_formula.proofs.dimacs.read_clause.Given as goal
 
 abbrev pub invariant-literals : goal.invariant-literals

@@ -1,7 +1,7 @@
 use Rattle.std.proofs.Common.{◌≡◌, ◌+◌, ◌-◌, suc, List, ◌∙◌, arith}
 use Rattle.std.proofs.lemmas.Result.{err_from_is_err_and}
 use Rattle.cg_formula.specs.declared.formula.Clause.{Clause}
-use Rattle.cg_formula.proofs.Before.{clauses_go, clauses_fault}
+use Rattle.cg_formula.proofs.ReadingOn.{clauses_go, clauses_fault}
 use Rattle.cg_formula.proofs.dimacs.read_clauses.Goals as goal
 
 pub returns-in_err-read_clause : goal.returns-in_err-read_clause

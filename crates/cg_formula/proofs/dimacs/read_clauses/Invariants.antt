@@ -1,6 +1,6 @@
 use Rattle.std.proofs.Common.{◌≡◌, ◌-◌}
 use Rattle.cg_formula.specs.DimacsReading.{clauses_at}
-use Rattle.cg_formula.proofs.Before.{clauses_before}
+use Rattle.cg_formula.proofs.ReadingOn.{clauses_before}
 use Rattle.cg_formula.proofs.dimacs.read_clauses.Given as goal
 
 abbrev pub invariant-loop-done : goal.invariant-loop-done

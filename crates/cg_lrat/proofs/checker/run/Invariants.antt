@@ -1,6 +1,6 @@
 use Rattle.std.proofs.Common.{◌≡◌, drop}
 use Rattle.cg_lrat.specs.Accepted.{verdict, verdict_from}
-use Rattle.cg_lrat.specs.Progress.{state_of}
+use Rattle.cg_lrat.specs.inner.Progress.{state_of}
 use Rattle.cg_lrat.proofs.checker.run.Given as goal
 
 abbrev pub invariant-loop-step : goal.invariant-loop-step

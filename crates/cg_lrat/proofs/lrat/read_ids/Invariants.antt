@@ -1,6 +1,6 @@
 use Rattle.std.proofs.Common.{◌≡◌, length}
 use Rattle.cg_lrat.specs.LratReading.{ids_at}
-use Rattle.cg_lrat.proofs.LogBefore.{ids_before}
+use Rattle.cg_lrat.proofs.ReadingOn.{ids_before}
 use Rattle.cg_lrat.proofs.lrat.read_ids.Given as goal
 
 abbrev pub invariant-ids : goal.invariant-ids

@@ -1,6 +1,6 @@
 use Rattle.std.proofs.Common.{◌≡◌, length}
 use Rattle.cg_lrat.specs.LratReading.{lits_at}
-use Rattle.cg_lrat.proofs.LogBefore.{lits_before}
+use Rattle.cg_lrat.proofs.ReadingOn.{lits_before}
 use Rattle.cg_lrat.proofs.lrat.read_lits.Given as goal
 
 abbrev pub invariant-literals : goal.invariant-literals

@@ -1,4 +1,4 @@
-use Rattle.cg_lrat.proofs.LogBefore.{steps_go}
+use Rattle.cg_lrat.proofs.ReadingOn.{steps_go}
 use Rattle.cg_lrat.proofs.lrat.read_text.Goals as goal
 
 pub lines-preserved : goal.lines-preserved

@@ -2,7 +2,7 @@ use Rattle.std.proofs.Common.{◌≡◌, length}
 use Rattle.cg_text.specs.Lines.{text_lines}
 use Rattle.cg_formula.specs.DimacsReading.{layout}
 use Rattle.cg_lrat.specs.LratReading.{steps_of}
-use Rattle.cg_lrat.proofs.LogBefore.{steps_before}
+use Rattle.cg_lrat.proofs.ReadingOn.{steps_before}
 use Rattle.cg_lrat.proofs.lrat.read_text.Given as goal
 
 abbrev pub invariant-lines : goal.invariant-lines

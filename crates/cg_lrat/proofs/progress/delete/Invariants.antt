@@ -1,6 +1,6 @@
 use Rattle.std.proofs.Common.{◌≡◌, drop}
 use Rattle.cg_lrat.specs.Accepted.{deletion_fault, without}
-use Rattle.cg_lrat.specs.Live.{live_in}
+use Rattle.cg_lrat.specs.inner.LiveTable.{live_in}
 use Rattle.cg_lrat.proofs.progress.delete.Given as goal
 
 abbrev pub invariant-loop-id : goal.invariant-loop-id

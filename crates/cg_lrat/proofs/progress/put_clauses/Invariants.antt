@@ -1,6 +1,6 @@
 use Rattle.std.proofs.Common.{◌≡◌, ◌+◌, drop}
 use Rattle.cg_lrat.specs.Accepted.{with_clauses}
-use Rattle.cg_lrat.specs.Live.{live_in}
+use Rattle.cg_lrat.specs.inner.LiveTable.{live_in}
 use Rattle.cg_lrat.proofs.progress.put_clauses.Given as goal
 
 abbrev pub invariant-loop-at : goal.invariant-loop-at

@@ -5,7 +5,7 @@ use Rattle.std.proofs.Math.Path.{fun_ext}
 use Rattle.cg_formula.specs.declared.formula.Lit.{Lit}
 use Rattle.cg_lrat.specs.declared.verdict.Why.{Why}
 use Rattle.cg_lrat.specs.Accepted.{Live, hints_fault}
-use Rattle.cg_lrat.specs.Hints.{hint_then, last_fault, fault_or}
+use Rattle.cg_lrat.specs.inner.Hints.{hint_then, last_fault, fault_or}
 
 abbrev pub chain_fault : Live → List Lit → List ℕ → ℕ → Option Why
 chain_fault live trues [] last = last_fault live trues last

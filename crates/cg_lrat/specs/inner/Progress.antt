@@ -6,7 +6,7 @@ use Rattle.cg_lrat.specs.declared.progress.Next.{Next}
 use Rattle.cg_lrat.specs.declared.progress.Next.TheVariants.{Refused, Accepted, Later}
 use Rattle.cg_lrat.specs.declared.progress.Progress.{Progress}
 use Rattle.cg_lrat.specs.Accepted.{State, fault_of, adds_empty}
-use Rattle.cg_lrat.specs.Live.{live_in}
+use Rattle.cg_lrat.specs.inner.LiveTable.{live_in}
 
 abbrev pub state_of : Progress → State
 state_of progress = record { live = live_in progress.live; greatest = progress.greatest }

@@ -1,7 +1,6 @@
 //! The literals that are true while a step of a log is checked.
 
-ghost use Rattle.std.specs.Prelude.{◌≡◌, ◌+◌, ◌*◌, [], ◌∷◌, ◌++◌, OnOk, OnErr, IfOk, replicate, false};
-ghost use Rattle.cg_lrat.specs.Truth.{place};
+ghost use Rattle.std.specs.Prelude.{◌≡◌, [], ◌∷◌, ◌++◌, OnOk, OnErr, IfOk, replicate, false};
 
 use cg_formula::Lit;
 use std::alloc::{AllocError, Global};
@@ -11,19 +10,20 @@ use std::marker::Model;
 /// The literals that were made true, in that order. Contracts see their list.
 ///
 /// A look-up is a step into a table, with two places for each variable of the formula. A log may name variables
-/// beyond them, up to 2^31 - 1: those are kept as a set of places, so that they cost memory only where they are
-/// used. Clearing undoes the marks of the literals that were made true, and touches no others.
+/// beyond them, up to 2^31 - 1: their literals are kept as a set of numbers, so that they cost memory only where they
+/// are used. Clearing goes back along the trail and undoes mark by mark, so that it costs what was made true since,
+/// however large the table and the set once were.
 #[derive(Drop)]
-pub struct Truth {
+pub struct Assignment {
     trail: Vec<Lit>,
     near: Vec<bool>,
-    far: HashSet<u64>,
+    far: HashSet<usize>,
 }
 
-impl Model for Truth {
+impl Model for Assignment {
     ghost use Rattle.std.specs.Prelude.{List};
     ghost use Rattle.cg_formula.specs.declared.formula.Lit.{Lit};
-    ghost use Rattle.cg_lrat.specs.Truth.{Marks};
+    ghost use Rattle.cg_lrat.specs.inner.Assignment.{Marks};
 
     ghost Value = { List Lit };
 
@@ -32,15 +32,15 @@ impl Model for Truth {
     ghost invariant = { λ s. Marks s.near.items s.far.keys s.trail.items };
 }
 
-impl Truth {
+impl Assignment {
     ghost use Rattle.cg_formula.specs.Lits.{is_in};
 
     /// No literal is true. The table is made for these variables.
     pub fn new(alloc: Global, variables: u32) -> Result<Self, AllocError>
-        ensures none { IfOk result (λ truth. truth ≡ []) }
+        ensures none { IfOk result (λ assignment. assignment ≡ []) }
     {
         let near = unmarked(alloc, 2 * (variables as usize + 1))?;
-        Ok(Truth {
+        Ok(Assignment {
             trail: Vec::new(alloc),
             near,
             far: HashSet::new(alloc),
@@ -51,10 +51,10 @@ impl Truth {
     pub fn has(&self, lit: Lit) -> bool
         ensures { result ≡ is_in lit self.now }
     {
-        let place = place(lit);
-        match self.near.get(place as usize) {
+        let number = lit.number();
+        match self.near.get(number) {
             Some(mark) => *mark,
-            None => self.far.contains(&place),
+            None => self.far.contains(&number),
         }
     }
 
@@ -64,12 +64,12 @@ impl Truth {
         ensures same { OnErr result (self.new ≡ self.old) }
     {
         self.trail.push(lit)?;
-        let place = place(lit);
-        if (place as usize) < self.near.len() {
-            self.near[place as usize] = true;
+        let number = lit.number();
+        if number < self.near.len() {
+            self.near[number] = true;
             return Ok(());
         }
-        match self.far.insert(place) {
+        match self.far.insert(number) {
             Ok(_) => Ok(()),
             Err(_) => {
                 let _ = self.trail.pop();
@@ -82,24 +82,18 @@ impl Truth {
     pub fn clear(&mut self)
         ensures none { self.new ≡ [] }
     {
-        self.far.clear();
         'trail: while let Some(lit) = self.trail.pop() {
-            let place = place(lit) as usize;
-            if place < self.near.len() {
-                self.near[place] = false;
+            let number = lit.number();
+            if number < self.near.len() {
+                self.near[number] = false;
+            } else {
+                self.far.remove(&number);
             }
         }
     }
 }
 
-// The place of a literal in the table.
-fn place(lit: Lit) -> u64
-    ensures { result ≡ place lit }
-{
-    2 * u64::from(lit.variable) + u64::from(lit.inverted)
-}
-
-// A table without a mark.
+/// A table without a mark.
 fn unmarked(alloc: Global, places: usize) -> Result<Vec<bool>, AllocError>
     ensures { IfOk result (λ marks. marks.items ≡ replicate places false) }
 {

@@ -1,0 +1,5 @@
+pub mod Assignment
+pub mod NonFalse
+pub mod LiveTable
+pub mod Progress
+pub mod Hints

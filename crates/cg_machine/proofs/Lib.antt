@@ -2,10 +2,13 @@ pub mod AddedNames
 pub mod Bits
 pub mod Extended
 pub mod FewValues
+pub mod Filed
 pub mod Found
 pub mod Fronts
 pub mod Gated
 pub mod Grown
+pub mod Keeping
+pub mod KeptMachines
 pub mod Lists
 pub mod Pushed
 pub mod RunsOfNetlists

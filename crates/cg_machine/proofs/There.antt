@@ -1,5 +1,5 @@
 -- A gate or a delay register that is added is there, found again or appended.
-use Rattle.std.proofs.Common.{◌≡◌, ℕ, ◌<◌, Bool, true, false, if◌then◌else◌, List, [], ◌∷◌, ◌++◌, length, slice_get, slice_index_or, Option, None, Some, unwrap_or, nat_eq, nat_lt, refl, sym, ◌∙◌, ap, subst, arith}
+use Rattle.std.proofs.Common.{◌≡◌, ℕ, ◌<◌, Bool, true, false, if◌then◌else◌, List, [], ◌∷◌, ◌++◌, length, slice_get, slice_index_or, IsSome, Option, None, Some, unwrap_or, nat_eq, nat_lt, refl, sym, ◌∙◌, ap, subst, arith}
 use Rattle.std.specs.List.{All}
 use Rattle.std.specs.Option.{option_or, option_to_list}
 use Rattle.std.proofs.lemmas.Bool.{both_ways, eq-eqb, ltb-true, or_left}
@@ -226,3 +226,28 @@ delay_there m net clock good is_net is room = go (find_delay m net) refl room
       where
         head_same : (a b : ℕ) → a ∷ [] ≡ b ∷ [] → a ≡ b
         head_same a b h = cc
+
+-- the same, as a call finds it
+pub gate_found : (m : MachineData) (kind : FitKind) (inputs : List ℕ) → IsMachine m → GateFits m kind inputs → (net : ℕ) → find_gate m kind inputs ≡ Some net → HasGate m kind inputs (record { machine = m; net = net })
+gate_found m kind inputs good fits net is =
+    subst (HasGate m kind inputs) (ap (or_push m (push_gate m kind inputs)) is) (gate_there m kind inputs good fits (ap (λ o. unless_found o (nets_limit m)) is))
+
+pub gate_new : (m : MachineData) (kind : FitKind) (inputs : List ℕ) → IsMachine m → GateFits m kind inputs → find_gate m kind inputs ≡ None → nets_limit m ≡ None → (n : MachineData) (net : ℕ) → n ≡ push_gate m kind inputs → net ≡ length m.circuit.names → HasGate m kind inputs (record { machine = n; net = net })
+gate_new m kind inputs good fits none room n net is number =
+    let added : add_gate m kind inputs ≡ record { machine = n; net = net } = ap (or_push m (push_gate m kind inputs)) none ∙ (λ i. record { machine = sym is i; net = sym number i }) in
+    subst (HasGate m kind inputs) added (gate_there m kind inputs good fits (ap (λ o. unless_found o (nets_limit m)) none ∙ room))
+
+some_clock : (o : Option ℕ) → IsSome o → (x : ℕ) × (o ≡ Some x)
+some_clock None some = absurd (both_ways false refl some)
+some_clock (Some x) some = (x, refl)
+
+pub delay_found : (m : MachineData) (net : ℕ) → IsMachine m → IsNet m net → IsSome m.circuit.clock → (output : ℕ) → find_delay m net ≡ Some output → HasDelay m net (record { machine = m; net = output })
+delay_found m net good is_net clock output is =
+    let some = some_clock m.circuit.clock clock in
+    subst (HasDelay m net) (ap (or_push m (push_delay m net)) is) (delay_there m net some.0 good is_net some.1 (ap (λ o. unless_found o (option_or (nets_limit m) (registers_limit m))) is))
+
+pub delay_new : (m : MachineData) (net : ℕ) → IsMachine m → IsNet m net → IsSome m.circuit.clock → find_delay m net ≡ None → nets_limit m ≡ None → registers_limit m ≡ None → (n : MachineData) (output : ℕ) → n ≡ push_delay m net → output ≡ length m.circuit.names → HasDelay m net (record { machine = n; net = output })
+delay_new m net good is_net clock none room space n output is number =
+    let some = some_clock m.circuit.clock clock in
+    let added : add_delay m net ≡ record { machine = n; net = output } = ap (or_push m (push_delay m net)) none ∙ (λ i. record { machine = sym is i; net = sym number i }) in
+    subst (HasDelay m net) added (delay_there m net some.0 good is_net some.1 (ap (λ o. unless_found o (option_or (nets_limit m) (registers_limit m))) none ∙ (ap (λ o. option_or o (registers_limit m)) room ∙ space)))

@@ -5,7 +5,15 @@
 //!
 //! The modules:
 //!
+//! - `delays`: the delay registers that were added, found by the net that they delay.
+//! - `gates`: the gates that were added, found by what they compute.
+//! - `machine`: machines, and what is added to them.
+//! - `view`: what a machine shows of an added gate.
 //! - `laws`: what is proved of machines.
 #![tactic(auto)]
 
+mod delays;
+mod gates;
 pub mod laws;
+pub mod machine;
+pub mod view;

@@ -1,0 +1,80 @@
+-- What a machine keeps: its netlist, and beside it what was added.
+use Rattle.std.specs.Prelude.{◌≡◌, ℕ, ◌+◌, ◌++◌, ◌-◌, List, length, map, replicate, slice_index, take, unwrap_or, nat_lt, if◌then◌else◌, Option, None, Some, Result, Ok, Err}
+use Rattle.std.specs.List.{AllByRecursion, range_with_len}
+use Rattle.std.specs.Fmt.{decimal}
+use Rattle.cg_cell.specs.declared.fit.FitKind.{FitKind}
+use Rattle.cg_cell.specs.declared.fit.FitKind.TheVariants.{Inv, And2}
+use Rattle.cg_netlist.specs.Circuit.{Circuit, RegisterCell}
+use Rattle.cg_netlist.specs.Netlist.{IsNetlist}
+use Rattle.cg_cell.specs.declared.limit.Limit.{Limit}
+use Rattle.cg_netlist.specs.declared.fault.AddFault.{AddFault}
+use Rattle.cg_netlist.specs.declared.fault.AddFault.TheVariants.{Limit as LimitFault}
+use Rattle.cg_machine.specs.Added.{Added, add_delay, add_gate, delay_limit, gate_limit}
+use Rattle.cg_machine.specs.Gates.{AddedGate, HasInputs, gate_cell}
+use Rattle.cg_machine.specs.Machine.{IsMachine, MachineData, additions, delay_cell}
+use Rattle.cg_machine.specs.declared.gates.GateKey.{GateKey}
+use Rattle.cg_machine.specs.declared.gates.GateKey.TheVariants.{Inverter, And, Or}
+
+-- the delay register of a net with its output
+abbrev pub delay_of : Circuit → ℕ × ℕ → RegisterCell ℕ ℕ
+delay_of c delay = delay_cell (unwrap_or c.clock 0) delay.0 delay.1
+
+-- a netlist with these gates and delay registers
+abbrev pub grown : Circuit → List ℕ → List AddedGate → List (ℕ × ℕ) → Circuit
+grown c prefix gates delays = record c {
+  names = c.names ++ map (λ k. prefix ++ decimal k) (range_with_len 0 (length gates + length delays));
+  cells = c.cells ++ map gate_cell gates;
+  registers = c.registers ++ map (delay_of c) delays;
+}
+
+-- the machine of all that is kept: `enables` are those of the netlist's own registers, and delay registers have none
+abbrev pub kept : Circuit → List ℕ → List (Option ℕ) → List AddedGate → List (ℕ × ℕ) → MachineData
+kept c prefix enables gates delays = record {
+  circuit = grown c prefix gates delays;
+  enables = enables ++ replicate (length delays) None;
+  gates = gates;
+  own_cells = length c.cells;
+  own_registers = length c.registers;
+  prefix = prefix;
+}
+
+-- what is kept makes a machine
+pub record IsKept (c : Circuit) (name : List ℕ) (enables : List (Option ℕ)) (gates : List AddedGate) (delays : List (ℕ × ℕ)) : Type 0 where
+  pub netlist : IsNetlist c
+  pub enables_long : length enables ≡ length c.registers
+  pub machine : IsMachine (kept c name enables gates delays)
+
+-- the key by which a gate is found
+abbrev pub key_of : FitKind → List ℕ → GateKey
+key_of Inv inputs = Inverter (slice_index inputs 0)
+key_of And2 inputs = And (slice_index inputs 0) (slice_index inputs 1)
+key_of _ inputs = Or (slice_index inputs 0) (slice_index inputs 1)
+
+-- each gate has as many inputs as its kind has, and stands under its key
+abbrev pub IsFiled : GateKey × AddedGate → Type 0
+IsFiled entry = HasInputs entry.1.kind (length entry.1.inputs) × (entry.0 ≡ key_of entry.1.kind entry.1.inputs)
+
+abbrev pub AreFiled : List (GateKey × AddedGate) → Type 0
+AreFiled entries = AllByRecursion IsFiled entries
+
+-- how many nets are the netlist's own; the netlist as it was before anything was added
+abbrev pub own_nets : MachineData → ℕ
+own_nets m = length m.circuit.names - additions m
+
+abbrev pub own_netlist : MachineData → Circuit
+own_netlist m = record m.circuit { names = take (own_nets m) m.circuit.names; cells = take m.own_cells m.circuit.cells; registers = take m.own_registers m.circuit.registers }
+
+-- the place of an added net in the order of addition
+abbrev pub place_of : MachineData → ℕ → Option ℕ
+place_of m net = if nat_lt net (own_nets m) then None else Some (net - own_nets m)
+
+-- what adding a gate or a delay register answers: the machine with it and its net, or the limit that is passed
+abbrev pub or_limit : Option Limit → Added → Result Added AddFault
+or_limit None added = Ok added
+or_limit (Some limit) added = Err (LimitFault limit)
+
+abbrev pub gate_answer : MachineData → FitKind → List ℕ → Result Added AddFault
+gate_answer m kind inputs = or_limit (gate_limit m kind inputs) (add_gate m kind inputs)
+
+abbrev pub delay_answer : MachineData → ℕ → Result Added AddFault
+delay_answer m net = or_limit (delay_limit m net) (add_delay m net)

@@ -1,0 +1,137 @@
+//! The gates that were added to a machine, found by what they compute.
+
+ghost use Rattle.std.specs.Prelude.{◌≡◌, ◌<◌, ◌++◌, ◌∷◌, [], None, OnErr, OnOk, Some, length, slice_get};
+ghost use Rattle.std.specs.List.{find};
+ghost use Rattle.std.specs.Option.{option_map};
+ghost use Rattle.cg_machine.specs.Added.{is_gate};
+ghost use Rattle.cg_machine.specs.Gates.{HasInputs};
+ghost use Rattle.cg_machine.specs.Kept.{key_of};
+ghost use Rattle.cg_machine.specs.View.{gate_seen};
+
+use crate::view::GateView;
+use cg_cell::fit::FitKind;
+use cg_netlist::id::NetId;
+use indexmap::IndexMap;
+use std::alloc::{AllocError, Global};
+use std::marker::Model;
+
+/// An added gate: what it computes, its input nets in the order of its pins, and its output net.
+#[derive(Debug, Drop)]
+pub(crate) struct Gate {
+    pub(crate) kind: FitKind,
+    pub(crate) inputs: Vec<NetId>,
+    pub(crate) output: NetId,
+}
+
+impl Model for Gate {
+    ghost use Rattle.cg_machine.specs.Gates.{AddedGate};
+
+    ghost Value = { AddedGate };
+
+    ghost view = { λ g. record { kind = g.kind; inputs = g.inputs.items; output = g.output } };
+}
+
+impl Gate {
+    /// The gate, to be read.
+    pub(crate) fn view(&self) -> GateView<'_>
+        ensures { gate_seen result ≡ self.now }
+    {
+        GateView {
+            kind: self.kind,
+            inputs: &self.inputs,
+            output: self.output,
+        }
+    }
+}
+
+/// What a gate computes of which nets, by their numbers.
+#[derive(Clone, Copy, Debug, PartialEq, Eq, Hash)]
+pub(crate) enum GateKey {
+    /// The inverse of a net.
+    Inverter(u32),
+
+    /// The and of two nets, the net of the first pin first.
+    And(u32, u32),
+
+    /// The or of two nets, the net of the first pin first.
+    Or(u32, u32),
+}
+
+/// Gates in order of addition, each of which is there once.
+#[derive(Drop)]
+pub(crate) struct Gates {
+    by_key: IndexMap<GateKey, Gate>,
+}
+
+impl Model for Gates {
+    ghost use Rattle.std.specs.Prelude.{List, map};
+    ghost use Rattle.cg_machine.specs.Gates.{AddedGate};
+    ghost use Rattle.cg_machine.specs.Kept.{AreFiled};
+
+    ghost Value = { List AddedGate };
+
+    ghost view = { λ g. map (λ entry. entry.1) g.by_key.entries };
+
+    ghost invariant = { λ g. AreFiled g.by_key.entries };
+}
+
+impl Gates {
+    /// No gates yet.
+    pub(crate) fn new(alloc: Global) -> Gates
+        ensures { result ≡ [] }
+    {
+        Gates {
+            by_key: IndexMap::new(alloc),
+        }
+    }
+
+    /// How many gates there are.
+    pub(crate) fn len(&self) -> usize
+        ensures { result ≡ length self.now }
+    {
+        self.by_key.len()
+    }
+
+    /// The gate of this number.
+    pub(crate) fn gate(&self, number: usize) -> &Gate
+        requires { number < length self.now }
+        ensures { slice_get self.now number ≡ Some result.now }
+    {
+        &self.by_key[number]
+    }
+
+    /// The output of the gate of this kind with these inputs, if it is there.
+    pub(crate) fn find(&self, kind: FitKind, inputs: &[NetId]) -> Option<NetId>
+        requires { HasInputs kind (length inputs.now) }
+        ensures { result ≡ option_map (λ gate. gate.output) (find (is_gate kind inputs.now) self.now) }
+    {
+        match self.by_key.get(&key_of(kind, inputs)) {
+            Some(gate) => Some(gate.output),
+            None => None,
+        }
+    }
+
+    /// Puts a gate that is not there behind the others.
+    pub(crate) fn push(&mut self, gate: Gate) -> Result<(), AllocError>
+        requires inputs { HasInputs gate.kind (length gate.inputs) }
+        requires absent { find (is_gate gate.kind gate.inputs) self.old ≡ None }
+        ensures pushed { OnOk result (self.new ≡ self.old ++ gate ∷ []) }
+        ensures unchanged { OnErr result (self.new ≡ self.old) }
+    {
+        let key = key_of(gate.kind, &gate.inputs);
+        self.by_key.insert(key, gate)?;
+        Ok(())
+    }
+}
+
+/// The key of a gate of this kind with these inputs. Cells that gate a clock are no gates.
+fn key_of(kind: FitKind, inputs: &[NetId]) -> GateKey
+    requires { HasInputs kind (length inputs.now) }
+    ensures { result ≡ key_of kind inputs.now }
+{
+    match kind {
+        FitKind::Inv => GateKey::Inverter(inputs[0].number()),
+        FitKind::And2 => GateKey::And(inputs[0].number(), inputs[1].number()),
+        _ => GateKey::Or(inputs[0].number(), inputs[1].number()),
+    }
+}

@@ -1,6 +1,6 @@
 -- Lists: one more element behind all others, and fronts of lists.
-use Rattle.std.proofs.Common.{◌≡◌, ℕ, zero, suc, ◌+◌, ◌-◌, ◌<◌, ◌≤◌, ◌⊎◌, true, false, List, [], ◌∷◌, ◌++◌, length, slice_get, take, drop, Some, nat_eq, refl, sym, ◌∙◌, ap, subst, inl, inr, arith, get_or}
-use Rattle.std.specs.List.{All, AllPairs, range_with_len}
+use Rattle.std.proofs.Common.{◌≡◌, ℕ, zero, suc, ◌+◌, ◌-◌, ◌<◌, ◌≤◌, ◌⊎◌, Bool, true, false, cond, List, [], ◌∷◌, ◌++◌, length, slice_get, take, drop, None, Some, nat_eq, refl, sym, ◌∙◌, ap, subst, inl, inr, arith, get_or}
+use Rattle.std.specs.List.{All, AllPairs, position_from, range_with_len}
 use Rattle.std.proofs.lemmas.Bool.{both_ways, cases_lt, eqb-true, or_cases}
 use Rattle.std.proofs.lemmas.List.{get_or_append_left, get_or-append_right, length-append}
 use Rattle.std.proofs.lemmas.List.Elements.{All-get_or}
@@ -75,3 +75,20 @@ below_range (suc n) a x among = elim (or_cases (nat_eq x a) (is_in (range_with_l
 -- what is true of all is true of the one at a place
 pub all_at : {X : Type 0} (P : X → Type 0) (xs : List X) (k : ℕ) (x : X) → All P xs → slice_get xs k ≡ Some x → P x
 all_at P xs k x all at = subst P (get_or_from_slice_get xs k x x at) (All-get_or P xs k x (slice_get_within xs k x at) all)
+
+-- a search goes on from place to place
+pub search_here : {X : Type 0} (p : X → Bool) (a : ℕ) (xs : List X) (n : ℕ) (x : X) → slice_get xs n ≡ Some x → p x ≡ true → position_from p a (drop n xs) ≡ Some a
+search_here p a [] n x at is = absurd (none-some x at)
+search_here p a (y ∷ xs) zero x at is = ap (λ b. cond b (Some a) (position_from p (a + 1) xs)) (ap p (same_Some y x at) ∙ is)
+search_here p a (y ∷ xs) (suc n) x at is = search_here p a xs n x at is
+
+pub search_on : {X : Type 0} (p : X → Bool) (a : ℕ) (xs : List X) (n : ℕ) (x : X) → slice_get xs n ≡ Some x → p x ≡ false → position_from p a (drop n xs) ≡ position_from p (a + 1) (drop (suc n) xs)
+search_on p a [] n x at is = absurd (none-some x at)
+search_on p a (y ∷ xs) zero x at is = ap (λ b. cond b (Some a) (position_from p (a + 1) xs)) (ap p (same_Some y x at) ∙ is)
+search_on p a (y ∷ xs) (suc n) x at is = search_on p a xs n x at is
+
+pub search_none : {X : Type 0} (p : X → Bool) (a : ℕ) (xs : List X) (n : ℕ) → length xs ≤ n → position_from p a (drop n xs) ≡ None
+search_none p a [] zero past = refl
+search_none p a [] (suc n) past = refl
+search_none p a (x ∷ xs) zero past = absurd (omega (arith, past))
+search_none p a (x ∷ xs) (suc n) past = search_none p a xs n (omega (arith, past))

@@ -1,10 +1,13 @@
 -- The machine of a netlist is a machine, and its run is the netlist's lawful history.
-use Rattle.std.proofs.Common.{◌≡◌, ℕ, zero, suc, ◌-◌, not, List, ◌++◌, length, slice_get, take, replicate, Option, None, Some, nat_eq, refl, sym, ◌∙◌, ap, subst, arith}
+use Rattle.std.proofs.Common.{◌≡◌, ◌≢◌, ℕ, zero, suc, ◌+◌, ◌-◌, Bool, true, false, not, ◌&&◌, cond, List, [], ◌∷◌, ◌++◌, length, slice_get, take, replicate, Option, None, Some, nat_eq, refl, sym, ◌∙◌, ap, subst, arith}
 use Rattle.std.specs.Fmt.{decimal}
-use Rattle.std.specs.List.{IsDistinct, filter, range_with_len}
+use Rattle.std.specs.List.{All, IsDistinct, filter, position_from, range_with_len}
+use lib.Pointwise.{pointwise}
 use Rattle.std.specs.Option.{option_flatten, option_to_list}
+use Rattle.std.proofs.lemmas.Bool.{both_ways, eq-eqb}
+use Rattle.std.proofs.Math.Seq.{take-append_seam}
 use Rattle.std.proofs.lemmas.List.{append-nil, length-replicate, take_all}
-use Rattle.std.proofs.lemmas.List.Elements.{All-nil}
+use Rattle.std.proofs.lemmas.List.Elements.{All-cons, All-nil}
 use Rattle.std.proofs.lemmas.Option.{none-some, slice_get_within}
 use Rattle.cg_netlist.specs.Circuit.{Circuit, cell_nets, gate_nets, is_in, register_nets}
 use Rattle.cg_netlist.specs.Moment.{values_at}
@@ -16,7 +19,7 @@ use Rattle.cg_netlist.proofs.Members.{distinct_left}
 use Rattle.cg_netlist.proofs.WalkOrder.{walk_is}
 use Rattle.cg_machine.specs.Laws.{NetlistIsRun, StartIsMachine}
 use Rattle.cg_machine.specs.Machine.{MachineData, enable_of, walk_of}
-use Rattle.cg_machine.specs.Start.{machine_of}
+use Rattle.cg_machine.specs.Start.{begins, machine_of}
 use Rattle.cg_machine.proofs.RunsOfNetlists.{history_runs}
 
 abbrev nones : ℕ → List (Option ℕ)
@@ -36,6 +39,22 @@ inputs_distinct c ordered =
     (distinct_left (c.inputs ++ clock ++ cell_nets c) (gate_nets c)
     (distinct_left (c.inputs ++ clock ++ cell_nets c ++ gate_nets c) (register_nets c)
     (subst (IsDistinct nat_eq) (sym ordered) (distinct_range (length c.names) 0)))))
+
+-- no name that begins with the prefix is one of these
+all_same : (xs : List ℕ) → pointwise nat_eq xs xs ≡ true
+all_same [] = refl
+all_same (x ∷ xs) = ap (λ b. b && pointwise nat_eq xs xs) (eq-eqb x x refl) ∙ all_same xs
+
+begun : (prefix rest : List ℕ) → begins prefix (prefix ++ rest) ≡ true
+begun prefix rest = ap (λ front. pointwise nat_eq prefix front) (take-append_seam prefix rest) ∙ all_same prefix
+
+none_begins : (prefix : List ℕ) (names : List (List ℕ)) (a : ℕ) → position_from (begins prefix) a names ≡ None → (rest : List ℕ) → All (λ name. name ≢ prefix ++ rest) names
+none_begins prefix [] a none rest = All-nil (λ name. name ≢ prefix ++ rest)
+none_begins prefix (name ∷ names) a none rest = go (begins prefix name) refl none (λ later. none_begins prefix names (a + 1) later rest)
+  where
+    go : (b : Bool) → begins prefix name ≡ b → cond b (Some a) (position_from (begins prefix) (a + 1) names) ≡ None → (position_from (begins prefix) (a + 1) names ≡ None → All (λ other. other ≢ prefix ++ rest) names) → All (λ other. other ≢ prefix ++ rest) (name ∷ names)
+    go true is h later = absurd (cc)
+    go false is h later = All-cons (λ other. other ≢ prefix ++ rest) name names (λ same. both_ways (begins prefix name) is (ap (begins prefix) same ∙ begun prefix rest)) (later h)
 
 pub start_is_machine : StartIsMachine
 start_is_machine c prefix can =
@@ -63,7 +82,7 @@ start_is_machine c prefix can =
       delays = λ r cell past at. let b = slice_get_within c.registers r cell at in absurd (omega (arith, b, past));
       added_nets = omega arith;
       prefix = can.named;
-      fresh = λ k past small i d below. can.new i d below (decimal k);
+      fresh = λ k past small. none_begins prefix c.names 0 can.new (decimal k);
     }
 
 pub netlist_is_run : NetlistIsRun

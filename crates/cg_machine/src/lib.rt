@@ -7,6 +7,7 @@
 //!
 //! - `delays`: the delay registers that were added, found by the net that they delay.
 //! - `gates`: the gates that were added, found by what they compute.
+//! - `prefix`: names that are taken before anything is added.
 //! - `machine`: machines, and what is added to them.
 //! - `view`: what a machine shows of an added gate.
 //! - `laws`: what is proved of machines.
@@ -16,4 +17,5 @@ mod delays;
 mod gates;
 pub mod laws;
 pub mod machine;
+pub mod prefix;
 pub mod view;

@@ -9,7 +9,7 @@ use Rattle.cg_machine.specs.contracts.gates.GateKeyPartialEq.TheImpl as key_eq
 use Rattle.cg_machine.specs.declared.gates.GateKey.{GateKey}
 use Rattle.cg_machine.specs.Added.{is_gate}
 use Rattle.cg_machine.specs.Gates.{AddedGate, HasInputs, is_same_kind}
-use Rattle.cg_machine.specs.Kept.{AreFiled, IsFiled, key_of}
+use Rattle.cg_machine.specs.inner.Kept.{AreFiled, IsFiled, key_of}
 
 abbrev pub same : GateKey → GateKey → Bool
 same = (key_eq.ghosts).eq

@@ -10,7 +10,8 @@ use Rattle.cg_cell.specs.declared.fit.FitKind.{FitKind}
 use Rattle.cg_netlist.specs.Circuit.{Circuit, RegisterCell}
 use Rattle.cg_machine.specs.Added.{find_delay, first_output, next_gate, next_name, next_net, push_delay, push_gate, set_enable}
 use Rattle.cg_machine.specs.Gates.{AddedGate, gate_cell}
-use Rattle.cg_machine.specs.Kept.{delay_of, kept, own_netlist, own_nets, place_of}
+use Rattle.cg_machine.specs.inner.Kept.{delay_of, kept}
+use Rattle.cg_machine.specs.Added.{own_netlist, own_nets, place_of}
 use Rattle.cg_machine.specs.Machine.{MachineData, additions}
 use Rattle.cg_machine.specs.Run.{with_enables}
 use Rattle.cg_machine.specs.Start.{machine_of}

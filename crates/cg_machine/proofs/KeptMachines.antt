@@ -9,7 +9,7 @@ use Rattle.cg_netlist.specs.Circuit.{Circuit}
 use Rattle.cg_machine.specs.Added.{find_delay, next_gate, push_delay, push_gate, set_enable}
 use Rattle.cg_machine.specs.Extends.{GateFits}
 use Rattle.cg_machine.specs.Gates.{AddedGate}
-use Rattle.cg_machine.specs.Kept.{IsKept, kept}
+use Rattle.cg_machine.specs.inner.Kept.{IsKept, kept}
 use Rattle.cg_machine.specs.Machine.{IsMachine, IsNet, MachineData}
 use Rattle.cg_machine.specs.Start.{CanStart, machine_of}
 use Rattle.cg_machine.proofs.Grown.{delay_pushed, enable_set, gate_pushed}

@@ -1,12 +1,14 @@
 -- Gates, delay registers and enables that a machine gets, as functions of the machine. What was added before is found
 -- again; else it is appended, with a net of its own.
-use Rattle.std.specs.Prelude.{ℕ, Bool, ◌&&◌, if◌then◌else◌, List, [], ◌∷◌, ◌++◌, length, slice_set, drop, nat_lt, Option, Some, None, unwrap_or, bytes_eq}
+use Rattle.std.specs.Prelude.{ℕ, ◌-◌, Bool, ◌&&◌, if◌then◌else◌, List, [], ◌∷◌, ◌++◌, length, slice_set, take, drop, nat_lt, Option, Some, None, Result, Ok, Err, unwrap_or, bytes_eq}
 use Rattle.std.specs.List.{find}
 use Rattle.std.specs.Option.{option_and_then, option_map, option_or}
 use Rattle.cg_cell.specs.declared.fit.FitKind.{FitKind}
 use Rattle.cg_cell.specs.declared.limit.Limit.{Limit}
 use Rattle.cg_cell.specs.declared.limit.Limit.TheVariants.{Nets, Registers}
 use Rattle.cg_netlist.specs.Circuit.{Circuit, LogicCell, RegisterCell}
+use Rattle.cg_netlist.specs.declared.fault.AddFault.{AddFault}
+use Rattle.cg_netlist.specs.declared.fault.AddFault.TheVariants.{Limit as LimitFault}
 use Rattle.cg_machine.specs.Gates.{AddedGate, gate_cell, is_same_kind}
 use Rattle.cg_machine.specs.Machine.{MachineData, added_name, additions, delay_cell}
 use Rattle.cg_machine.specs.Run.{with_enables}
@@ -102,3 +104,25 @@ set_enable m r net = with_enables m (slice_set m.enables r (Some net))
 abbrev pub give : List (Option ℕ) → List ℕ → ℕ → List (Option ℕ)
 give enables [] net = enables
 give enables (r ∷ regs) net = give (slice_set enables r (Some net)) regs net
+
+-- what adding a gate or a delay register answers: the machine with it and its net, or the limit that is passed
+abbrev pub or_limit : Option Limit → Added → Result Added AddFault
+or_limit None added = Ok added
+or_limit (Some limit) added = Err (LimitFault limit)
+
+abbrev pub gate_answer : MachineData → FitKind → List ℕ → Result Added AddFault
+gate_answer m kind inputs = or_limit (gate_limit m kind inputs) (add_gate m kind inputs)
+
+abbrev pub delay_answer : MachineData → ℕ → Result Added AddFault
+delay_answer m net = or_limit (delay_limit m net) (add_delay m net)
+
+-- how many nets are the netlist's own; the netlist as it was before anything was added
+abbrev pub own_nets : MachineData → ℕ
+own_nets m = length m.circuit.names - additions m
+
+abbrev pub own_netlist : MachineData → Circuit
+own_netlist m = record m.circuit { names = take (own_nets m) m.circuit.names; cells = take m.own_cells m.circuit.cells; registers = take m.own_registers m.circuit.registers }
+
+-- the place of an added net in the order of addition
+abbrev pub place_of : MachineData → ℕ → Option ℕ
+place_of m net = if nat_lt net (own_nets m) then None else Some (net - own_nets m)

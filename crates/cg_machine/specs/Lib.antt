@@ -2,9 +2,9 @@ pub mod Added
 pub mod Claims
 pub mod Extends
 pub mod Gates
-pub mod Kept
 pub mod Laws
 pub mod Machine
 pub mod Run
 pub mod Start
 pub mod View
+pub mod inner

@@ -5,7 +5,7 @@ ghost use Rattle.std.specs.List.{find};
 ghost use Rattle.std.specs.Option.{option_map};
 ghost use Rattle.cg_machine.specs.Added.{is_gate};
 ghost use Rattle.cg_machine.specs.Gates.{HasInputs};
-ghost use Rattle.cg_machine.specs.Kept.{key_of};
+ghost use Rattle.cg_machine.specs.inner.Kept.{key_of};
 ghost use Rattle.cg_machine.specs.View.{gate_seen};
 
 use crate::view::GateView;
@@ -66,7 +66,7 @@ pub(crate) struct Gates {
 impl Model for Gates {
     ghost use Rattle.std.specs.Prelude.{List, map};
     ghost use Rattle.cg_machine.specs.Gates.{AddedGate};
-    ghost use Rattle.cg_machine.specs.Kept.{AreFiled};
+    ghost use Rattle.cg_machine.specs.inner.Kept.{AreFiled};
 
     ghost Value = { List AddedGate };
 

@@ -6,10 +6,9 @@ ghost use Rattle.cg_limit.specs.Answers.{OrNoMemory};
 ghost use Rattle.cg_netlist.specs.declared.fault.AddFault.{AddFault};
 ghost use Rattle.cg_netlist.specs.declared.fault.AddFault.TheVariants.{Limit as LimitFault, NoMemory};
 ghost use Rattle.cg_cell.specs.declared.limit.Limit.TheVariants.{Nets, Registers};
-ghost use Rattle.cg_machine.specs.Added.{Added, find_delay, find_gate, nets_limit, push_delay, push_gate, registers_limit, set_enable};
+ghost use Rattle.cg_machine.specs.Added.{Added, delay_answer, find_delay, find_gate, gate_answer, nets_limit, own_netlist, place_of, push_delay, push_gate, registers_limit, set_enable};
 ghost use Rattle.cg_machine.specs.Extends.{GateFits, HasDelay, HasGate};
 ghost use Rattle.cg_machine.specs.Gates.{HasInputs};
-ghost use Rattle.cg_machine.specs.Kept.{delay_answer, gate_answer, own_netlist, place_of};
 ghost use Rattle.cg_machine.specs.Machine.{IsMachine, IsNet, delay_cell, enable_of};
 ghost use Rattle.cg_machine.specs.Start.{CanStart, machine_of};
 ghost use Rattle.cg_machine.specs.declared.view.GateView.{GateView};
@@ -53,7 +52,7 @@ pub struct Machine {
 impl Model for Machine {
     ghost use Rattle.std.specs.Coded.{codes};
     ghost use Rattle.cg_cell.specs.TermCode.{term_code};
-    ghost use Rattle.cg_machine.specs.Kept.{IsKept, kept};
+    ghost use Rattle.cg_machine.specs.inner.Kept.{IsKept, kept};
     ghost use Rattle.cg_machine.specs.Machine.{MachineData};
 
     ghost Value = { MachineData };

@@ -5,7 +5,7 @@ use Rattle.std.proofs.lemmas.List.{map-append}
 use Rattle.indexmap.proofs.CallerLemmas.{insert_entry-new}
 use Rattle.cg_machine.specs.Added.{is_gate}
 use Rattle.cg_machine.specs.Gates.{AddedGate}
-use Rattle.cg_machine.specs.Kept.{AreFiled, key_of}
+use Rattle.cg_machine.specs.inner.Kept.{AreFiled, key_of}
 use Rattle.cg_machine.specs.declared.gates.GateKey.{GateKey}
 use Rattle.cg_machine.proofs.Filed.{filed_push, found_by_key, same}
 use Rattle.cg_machine.proofs.gates.Gates.push.Goals as goal

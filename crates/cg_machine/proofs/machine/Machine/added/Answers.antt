@@ -1,5 +1,5 @@
 use Rattle.std.proofs.Common.{ap, sym, ◌∙◌, arith}
-use Rattle.cg_machine.specs.Kept.{own_nets}
+use Rattle.cg_machine.specs.Added.{own_nets}
 use Rattle.cg_machine.proofs.Keeping.{kept_own_nets, place_behind, place_before}
 use Rattle.cg_machine.proofs.machine.Machine.added.Goals as goal
 

@@ -1,5 +1,5 @@
 use Rattle.std.proofs.Common.{ap, sym, ◌∙◌}
-use Rattle.cg_machine.specs.Kept.{own_netlist}
+use Rattle.cg_machine.specs.Added.{own_netlist}
 use Rattle.cg_machine.proofs.Keeping.{kept_own}
 use Rattle.cg_machine.proofs.machine.Machine.netlist.Goals as goal
 

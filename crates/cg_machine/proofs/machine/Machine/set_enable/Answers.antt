@@ -1,5 +1,5 @@
 use Rattle.std.proofs.Common.{Some, slice_set, ap, sym, ◌∙◌, subst}
-use Rattle.cg_machine.specs.Kept.{IsKept, kept}
+use Rattle.cg_machine.specs.inner.Kept.{IsKept, kept}
 use Rattle.cg_machine.proofs.KeptMachines.{enable_kept, enable_view}
 use Rattle.cg_machine.proofs.machine.Machine.set_enable.Goals as goal
 

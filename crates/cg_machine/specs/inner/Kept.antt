@@ -1,17 +1,13 @@
 -- What a machine keeps: its netlist, and beside it what was added.
-use Rattle.std.specs.Prelude.{◌≡◌, ℕ, ◌+◌, ◌++◌, ◌-◌, List, length, map, replicate, slice_index, take, unwrap_or, nat_lt, if◌then◌else◌, Option, None, Some, Result, Ok, Err}
+use Rattle.std.specs.Prelude.{◌≡◌, ℕ, ◌+◌, ◌++◌, List, length, map, replicate, slice_index, unwrap_or, Option, None}
 use Rattle.std.specs.List.{AllByRecursion, range_with_len}
 use Rattle.std.specs.Fmt.{decimal}
 use Rattle.cg_cell.specs.declared.fit.FitKind.{FitKind}
 use Rattle.cg_cell.specs.declared.fit.FitKind.TheVariants.{Inv, And2}
 use Rattle.cg_netlist.specs.Circuit.{Circuit, RegisterCell}
 use Rattle.cg_netlist.specs.Netlist.{IsNetlist}
-use Rattle.cg_cell.specs.declared.limit.Limit.{Limit}
-use Rattle.cg_netlist.specs.declared.fault.AddFault.{AddFault}
-use Rattle.cg_netlist.specs.declared.fault.AddFault.TheVariants.{Limit as LimitFault}
-use Rattle.cg_machine.specs.Added.{Added, add_delay, add_gate, delay_limit, gate_limit}
 use Rattle.cg_machine.specs.Gates.{AddedGate, HasInputs, gate_cell}
-use Rattle.cg_machine.specs.Machine.{IsMachine, MachineData, additions, delay_cell}
+use Rattle.cg_machine.specs.Machine.{IsMachine, MachineData, delay_cell}
 use Rattle.cg_machine.specs.declared.gates.GateKey.{GateKey}
 use Rattle.cg_machine.specs.declared.gates.GateKey.TheVariants.{Inverter, And, Or}
 
@@ -56,25 +52,3 @@ IsFiled entry = HasInputs entry.1.kind (length entry.1.inputs) × (entry.0 ≡ k
 
 abbrev pub AreFiled : List (GateKey × AddedGate) → Type 0
 AreFiled entries = AllByRecursion IsFiled entries
-
--- how many nets are the netlist's own; the netlist as it was before anything was added
-abbrev pub own_nets : MachineData → ℕ
-own_nets m = length m.circuit.names - additions m
-
-abbrev pub own_netlist : MachineData → Circuit
-own_netlist m = record m.circuit { names = take (own_nets m) m.circuit.names; cells = take m.own_cells m.circuit.cells; registers = take m.own_registers m.circuit.registers }
-
--- the place of an added net in the order of addition
-abbrev pub place_of : MachineData → ℕ → Option ℕ
-place_of m net = if nat_lt net (own_nets m) then None else Some (net - own_nets m)
-
--- what adding a gate or a delay register answers: the machine with it and its net, or the limit that is passed
-abbrev pub or_limit : Option Limit → Added → Result Added AddFault
-or_limit None added = Ok added
-or_limit (Some limit) added = Err (LimitFault limit)
-
-abbrev pub gate_answer : MachineData → FitKind → List ℕ → Result Added AddFault
-gate_answer m kind inputs = or_limit (gate_limit m kind inputs) (add_gate m kind inputs)
-
-abbrev pub delay_answer : MachineData → ℕ → Result Added AddFault
-delay_answer m net = or_limit (delay_limit m net) (add_delay m net)

@@ -112,7 +112,7 @@ with_net_has nets net = elim (cases_Bool (is_in nets net)) [
   | inr new ↦ ap (λ ns. is_in ns net) (with_net-new nets net new) ∙ is_in_right nets (net ∷ []) net (in_alone net)
 ]
 
-with_net_all : (P : ℕ → Type 0) (nets : List ℕ) (net : ℕ) → All P nets → P net → All P (with_net nets net)
+pub with_net_all : (P : ℕ → Type 0) (nets : List ℕ) (net : ℕ) → All P nets → P net → All P (with_net nets net)
 with_net_all P nets net all here = elim (cases_Bool (is_in nets net)) [
   | inl old ↦ subst (All P) (sym (ap (λ b. if b then nets else nets ++ net ∷ []) old)) all
   | inr new ↦ subst (All P) (sym (with_net-new nets net new)) (All-push P nets net all here)

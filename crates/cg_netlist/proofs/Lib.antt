@@ -1,3 +1,4 @@
+pub mod AddedParts
 pub mod CanonicalNames
 pub mod CanonicalSays
 pub mod CheckLemmas
@@ -10,6 +11,7 @@ pub mod Faultless
 pub mod Finished
 pub mod GatedRegister
 pub mod Given
+pub mod Hearing
 pub mod Histories
 pub mod InPlace
 pub mod MarkLemmas
@@ -19,8 +21,9 @@ pub mod NameLemmas
 pub mod NamedNets
 pub mod NetOrder
 pub mod NetSetLemmas
-pub mod OfDraft
 pub mod NetsOf
+pub mod Numbering
+pub mod OfDraft
 pub mod OnlyNetlist
 pub mod OrderLemmas
 pub mod OrderedForm
@@ -41,6 +44,7 @@ pub mod Solve
 pub mod SpellsCanonical
 pub mod StatedParts
 pub mod TableLemmas
+pub mod Telling
 pub mod Used
 pub mod Values
 pub mod WalkOrder

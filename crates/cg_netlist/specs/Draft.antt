@@ -15,23 +15,16 @@ use Rattle.cg_netlist.specs.WellFormed.{IsOver, RegisterFits}
 use Rattle.cg_cell.specs.Name.{is_name}
 use Rattle.cg_netlist.specs.Names.{with_name}
 use lib.Pointwise.{pointwise}
+pub use Rattle.cg_netlist.specs.inner.Mentioned.{IsMentioned, IsMentionFault, with_net}
+pub use Rattle.cg_netlist.specs.said.Said.{with_names}
 
 -- an empty draft of this model
 abbrev pub empty_draft : List ℕ → Circuit
 empty_draft model = record { model = model; names = []; inputs = []; clock = None; outputs = []; cells = []; gaters = []; registers = [] }
 
--- the names with these mentioned one after another
-abbrev pub with_names : List (List ℕ) → List (List ℕ) → List (List ℕ)
-with_names names [] = names
-with_names names (name ∷ later) = with_names (with_name names name) later
-
 -- the number of a net that was mentioned: the place of its name
 abbrev pub number_of : List (List ℕ) → List ℕ → ℕ
 number_of names name = position_or_len (pointwise nat_eq name) names
-
--- the nets with this one behind them, if it is not among them
-abbrev pub with_net : List ℕ → ℕ → List ℕ
-with_net nets net = if is_in nets net then nets else nets ++ net ∷ []
 
 -- a net is made an input, or an output; again for one that it is already, this changes nothing
 abbrev pub with_input : Circuit → List ℕ → Circuit
@@ -127,16 +120,6 @@ pub record IsDraft (d : Circuit) : Type 0 where
 pub record Building : Type 0 where
   pub draft : Circuit
   pub refused : Option AddFault
-
--- the nets were mentioned, and have these numbers
-pub record IsMentioned (old new : List (List ℕ)) (words : List (List ℕ)) (nets : List ℕ) : Type 0 where
-  pub names : new ≡ with_names old words
-  pub few : length new ≤ 1048576
-  pub numbered : map (slice_get new) nets ≡ map (λ word. Some word) words
-
--- why nets are not mentioned that would leave these names: for want of memory, or for the limit of nets
-abbrev pub IsMentionFault : List (List ℕ) → AddFault → Type 0
-IsMentionFault names fault = (fault ≡ NoMemory) ⊎ ((fault ≡ Passes Nets) × (1048576 < length names))
 
 -- why a register is not added
 abbrev pub IsRegisterFault : List (List ℕ) → List (RegisterCell ℕ ℕ) → AddFault → Type 0

@@ -1,4 +1,5 @@
 pub mod BlifText
+pub mod Calls
 pub mod Canonical
 pub mod Circuit
 pub mod Draft
@@ -21,5 +22,5 @@ pub mod Statements
 pub mod View
 pub mod WellFormed
 pub mod Writable
-pub mod said
 pub mod inner
+pub mod said

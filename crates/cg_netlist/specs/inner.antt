@@ -1,1 +1,4 @@
+pub mod Heard
+pub mod Mentioned
+pub mod Numbered
 pub mod Numbers

@@ -1,42 +1,37 @@
 //! Building netlists, part by part, nets by their names.
 
-ghost use Rattle.std.specs.Prelude.{◌≡◌, ◌≢◌, ◌<◌, ◌≤◌, ◌^◌, ◌∷◌, [], ◌++◌, None, Some, IfOk, IsTrue, MatchResult, false, option_copied, OnOk, length};
-ghost use Rattle.std.specs.List.{All, AllPairs};
+ghost use Rattle.std.specs.Prelude.{◌≡◌, ◌≤◌, ◌<◌, ◌^◌, ◌⊎◌, ◌∷◌, ◌++◌, [], None, IfErr, IfOk, IsTrue, List, MatchResult, count_by, length, map};
+ghost use Rattle.std.specs.List.{AllByRecursion};
+ghost use Rattle.std.specs.Option.{option_copied, option_to_list};
 ghost use Rattle.cg_cell.specs.Cover.{Fits};
 ghost use Rattle.cg_cell.specs.Name.{is_name};
-ghost use Rattle.cg_netlist.specs.Draft.{Adds, IsMentioned, IsMentionFault, IsPlain, IsRegisterFault, cell_of, empty_draft, number_of, with_cover, with_input, with_names, with_net, with_output, register_of, register_words, with_register};
-ghost use Rattle.cg_netlist.specs.Drafted.{GivesOnly, IsNetlistOf};
-ghost use Rattle.cg_netlist.specs.Finish.{IsFinished};
-ghost use Rattle.cg_netlist.specs.Names.{with_name};
-ghost use Rattle.cg_netlist.specs.declared.parts.RegisterKind.TheVariants.{Plain};
+ghost use Rattle.cg_cell.specs.Pins.{is_data, is_test};
+ghost use Rattle.cg_cell.specs.declared.cell.CellKind.TheVariants.{Gater as GaterKind, Logic as LogicKind};
+ghost use Rattle.cg_netlist.specs.Calls.{cell_of, gater_of, register_of};
+ghost use Rattle.cg_netlist.specs.WellFormed.{RegisterFits};
+ghost use Rattle.cg_netlist.specs.declared.parts.LogicFunction.TheVariants.{Cell as PlacedCell, Cover as CoverRows};
+ghost use Rattle.cg_netlist.specs.said.Building.{Takes, fresh};
+ghost use Rattle.cg_netlist.specs.said.Part.{Clock, Gate, Input, Logic as LogicPart, Output, Register as RegisterPart, mentioned};
 
-use crate::fault::{AddFault, NetFault};
-use crate::finish::finished;
-use crate::id::NetId;
+use crate::adding::{add_gater, add_logic, add_net, add_placed, add_register};
+use crate::fault::AddFault;
 use crate::names::NetNames;
 use crate::net_set::NetSet;
-use crate::netlist::Netlist;
-use crate::parts::{Logic, LogicFunction, Parts, Register, RegisterKind};
+use crate::parts::{Gater, Logic, LogicFunction, OpenRegister};
+use cg_cell::cell::CellType;
 use cg_cell::cover::Cover;
-use cg_cell::limit::Limit;
 use cg_cell::name::Name;
 use std::alloc::{AllocError, Global};
 use std::marker::Model;
 
-/// The greatest number of nets.
-const MOST_NETS: usize = 1_048_576;
-
-/// The greatest number of registers.
-const MOST_REGISTERS: usize = 65_536;
-
 /// Takes the parts of a netlist in file order.
 ///
 /// Nets are given by name, and come into being where they are first mentioned. A call that mentions several mentions
-/// them in the order of its parameters. The first call that is refused spoils the builder: every later one of these
-/// calls answers the same refusal.
+/// them in the order of its parameters. A call is refused with a limit exactly where its part would pass it: that of
+/// 1,048,576 nets, and then that of 65,536 registers. The first call that is refused spoils the builder: every later
+/// one of these calls answers the same refusal.
 ///
-/// Clauses see the draft, a plain record of the parts with the nets numbered as they were first mentioned, and the
-/// refusal if there was one.
+/// Clauses see what the parts have said so far, by the names of their nets, and the refusal if there was one.
 #[derive(Drop)]
 pub struct Builder {
     alloc: Global,
@@ -44,31 +39,33 @@ pub struct Builder {
     names: NetNames,
     inputs: NetSet,
     outputs: NetSet,
+    clocks: NetSet,
     cells: Vec<Logic>,
-    registers: Vec<Register>,
+    gaters: Vec<Gater>,
+    registers: Vec<OpenRegister>,
     refused: Option<AddFault>,
 }
 
 impl Model for Builder {
-    ghost use Rattle.std.specs.Prelude.{[], None};
     ghost use Rattle.std.specs.Coded.{codes};
     ghost use Rattle.cg_cell.specs.TermCode.{term_code};
-    ghost use Rattle.cg_netlist.specs.Draft.{Building, IsBuilding};
+    ghost use Rattle.cg_netlist.specs.inner.Heard.{IsBuilder, built};
+    ghost use Rattle.cg_netlist.specs.said.Building.{Building};
 
     ghost Value = { Building };
 
     ghost coded = { Prim.hlevel (codes, term_code) };
 
-    ghost view = { λ b. record { draft = record { model = b.model; names = b.names; inputs = b.inputs; clock = None; outputs = b.outputs; cells = b.cells.items; gaters = []; registers = b.registers.items }; refused = b.refused } };
+    ghost view = { λ b. built b.model (record { names = b.names; inputs = b.inputs; outputs = b.outputs; clocks = b.clocks; cells = b.cells.items; gaters = b.gaters.items; registers = b.registers.items }) b.refused };
 
-    ghost invariant = { λ b. IsBuilding (record { draft = record { model = b.model; names = b.names; inputs = b.inputs; clock = None; outputs = b.outputs; cells = b.cells.items; gaters = []; registers = b.registers.items }; refused = b.refused }) };
+    ghost invariant = { λ b. IsBuilder b.model (record { names = b.names; inputs = b.inputs; outputs = b.outputs; clocks = b.clocks; cells = b.cells.items; gaters = b.gaters.items; registers = b.registers.items }) b.refused };
 }
 
 impl Builder {
     /// A builder of a netlist whose model has this name, with no parts yet.
     pub fn new(alloc: Global, model: &[u8]) -> Result<Builder, AllocError>
         requires { IsTrue (is_name model.now) }
-        ensures { IfOk result (λ builder. builder ≡ record { draft = empty_draft model.now; refused = None }) }
+        ensures { IfOk result (λ builder. builder ≡ fresh model.now) }
     {
         let model = Name::new(alloc, model)?;
         Ok(Builder {
@@ -77,7 +74,9 @@ impl Builder {
             names: NetNames::new(alloc),
             inputs: NetSet::new(alloc),
             outputs: NetSet::new(alloc),
+            clocks: NetSet::new(alloc),
             cells: Vec::new(alloc),
+            gaters: Vec::new(alloc),
             registers: Vec::new(alloc),
             refused: None,
         })
@@ -86,7 +85,7 @@ impl Builder {
     /// Makes a net an input, if it is none yet.
     pub fn input(&mut self, net: &[u8]) -> Result<(), AddFault>
         requires { IsTrue (is_name net.now) }
-        ensures { Adds self.old self.new (with_input self.old.draft net.now) result }
+        ensures { Takes self.old (Input net.now) self.new result }
     {
         if let Some(fault) = self.refused {
             return Err(fault);
@@ -98,7 +97,7 @@ impl Builder {
     /// Makes a net an output, if it is none yet.
     pub fn output(&mut self, net: &[u8]) -> Result<(), AddFault>
         requires { IsTrue (is_name net.now) }
-        ensures { Adds self.old self.new (with_output self.old.draft net.now) result }
+        ensures { Takes self.old (Output net.now) self.new result }
     {
         if let Some(fault) = self.refused {
             return Err(fault);
@@ -107,39 +106,114 @@ impl Builder {
         noted(&mut self.refused, added)
     }
 
-    /// Adds a logic cell whose function is a cover.
-    pub fn cover(&mut self, inputs: &[Name], output: &[u8], cover: Cover) -> Result<(), AddFault>
-        requires output { IsTrue (is_name output.now) }
-        requires inputs { length inputs.now < 2 ^ 32 }
-        requires fits { Fits (length inputs.now) cover }
-        ensures { Adds self.old self.new (with_cover self.old.draft inputs.now output.now cover) result }
+    /// Declares a net to be the clock, if it was not declared yet.
+    pub fn clock(&mut self, net: &[u8]) -> Result<(), AddFault>
+        requires { IsTrue (is_name net.now) }
+        ensures { Takes self.old (Clock net.now) self.new result }
     {
         if let Some(fault) = self.refused {
             return Err(fault);
         }
-        let added = add_cover(
+        let added = add_net(self.alloc, &mut self.names, &mut self.clocks, net);
+        noted(&mut self.refused, added)
+    }
+
+    /// Adds a logic cell whose function is a cover.
+    pub fn cover(&mut self, inputs: &[&[u8]], output: &[u8], cover: Cover) -> Result<(), AddFault>
+        requires inputs { AllByRecursion (λ name. IsTrue (is_name name)) (map (λ name. name.now) inputs.now) }
+        requires output { IsTrue (is_name output.now) }
+        requires few { length inputs.now < 2 ^ 32 }
+        requires fits { Fits (length inputs.now) cover }
+        ensures { Takes self.old (LogicPart (cell_of (map (λ name. name.now) inputs.now) output.now (CoverRows cover))) self.new result }
+    {
+        if let Some(fault) = self.refused {
+            return Err(fault);
+        }
+        let added = add_logic(
             self.alloc,
             &mut self.names,
             &mut self.cells,
             inputs,
             output,
-            cover,
+            LogicFunction::Cover(cover),
         );
         noted(&mut self.refused, added)
     }
 
-    /// Adds a plain register, of one input and one output; its clock is given. `init` is 0 or 1, 2 for a bit that does
-    /// not matter, or 3 for one that is not known.
+    /// Adds a placed cell of a library, of kind Logic, with these nets at its Data pins in pin order.
+    pub fn logic(
+        &mut self,
+        cell: &CellType,
+        inputs: &[&[u8]],
+        output: &[u8],
+    ) -> Result<(), AddFault>
+        requires kind { cell.now.kind ≡ LogicKind }
+        requires count { count_by is_data cell.now.pins ≡ length inputs.now }
+        requires inputs { AllByRecursion (λ name. IsTrue (is_name name)) (map (λ name. name.now) inputs.now) }
+        requires output { IsTrue (is_name output.now) }
+        ensures { Takes self.old (LogicPart (cell_of (map (λ name. name.now) inputs.now) output.now (PlacedCell cell.now))) self.new result }
+    {
+        if let Some(fault) = self.refused {
+            return Err(fault);
+        }
+        let added = add_placed(
+            self.alloc,
+            &mut self.names,
+            &mut self.cells,
+            cell,
+            inputs,
+            output,
+        );
+        noted(&mut self.refused, added)
+    }
+
+    /// Adds a gating cell: a placed cell of a library, of kind Gater. A test net is given exactly where the cell has a
+    /// test pin.
+    pub fn gater(
+        &mut self,
+        cell: &CellType,
+        clock: &[u8],
+        enable: &[u8],
+        test: Option<&[u8]>,
+        output: &[u8],
+    ) -> Result<(), AddFault>
+        requires kind { cell.now.kind ≡ GaterKind }
+        requires test { count_by is_test cell.now.pins ≡ length (option_to_list (option_copied test)) }
+        requires nets { AllByRecursion (λ name. IsTrue (is_name name)) (mentioned (Gate (gater_of cell.now clock.now enable.now (option_copied test) output.now))) }
+        ensures { Takes self.old (Gate (gater_of cell.now clock.now enable.now (option_copied test.entry) output.now)) self.new result }
+    {
+        if let Some(fault) = self.refused {
+            return Err(fault);
+        }
+        let added = add_gater(
+            self.alloc,
+            &mut self.names,
+            &mut self.gaters,
+            cell,
+            clock,
+            enable,
+            test,
+            output,
+        );
+        noted(&mut self.refused, added)
+    }
+
+    /// Adds a register: a placed cell of a library, of kind Flop, with these nets at its Data pins in pin order, or a
+    /// plain register of one input and one output. An output is a net and the place of its pin among the pins of the
+    /// cell, counted from 0, or 0 for a plain register; outputs come in pin order, and one at least is given. A register
+    /// with no clock of its own is on the one clock of the netlist. `init` is 0 or 1, 2 for a bit that does not
+    /// matter, or 3 for one that is not known.
     pub fn register(
         &mut self,
-        inputs: &[Name],
-        outputs: &[Option<Name>],
+        cell: Option<&CellType>,
+        inputs: &[&[u8]],
+        outputs: &[(&[u8], u32)],
         clock: Option<&[u8]>,
         init: u8,
     ) -> Result<(), AddFault>
-        requires plain { IsPlain inputs.now outputs.now (option_copied clock) }
-        requires init { init ≤ 3 }
-        ensures { Adds self.old self.new (with_register self.old.draft inputs.now outputs.now (option_copied clock.entry) init) result }
+        requires fits { RegisterFits (register_of (option_copied cell) (map (λ name. name.now) inputs.now) (map (λ output. (output.0.now, output.1)) outputs.now) (option_copied clock) init) }
+        requires nets { AllByRecursion (λ name. IsTrue (is_name name)) (mentioned (RegisterPart (register_of (option_copied cell) (map (λ name. name.now) inputs.now) (map (λ output. (output.0.now, output.1)) outputs.now) (option_copied clock) init))) }
+        ensures { Takes self.old (RegisterPart (register_of (option_copied cell.entry) (map (λ name. name.now) inputs.now) (map (λ output. (output.0.now, output.1)) outputs.now) (option_copied clock.entry) init)) self.new result }
     {
         if let Some(fault) = self.refused {
             return Err(fault);
@@ -148,42 +222,13 @@ impl Builder {
             self.alloc,
             &mut self.names,
             &mut self.registers,
+            cell,
             inputs,
             outputs,
             clock,
             init,
         );
         noted(&mut self.refused, added)
-    }
-
-    /// The netlist of the parts, or the first fault of them. No call of this builder was refused.
-    pub fn finish(self) -> Result<Netlist, NetFault>
-        requires { self.refused ≡ None }
-        ensures exact { IsFinished self.draft result }
-        ensures found { IfOk result (λ netlist. IsNetlistOf self.draft netlist) }
-        ensures only { GivesOnly self.draft result }
-    {
-        let Builder {
-            alloc,
-            model,
-            names,
-            inputs,
-            outputs,
-            cells,
-            registers,
-            refused: _,
-        } = self;
-        let draft = Parts {
-            model,
-            names,
-            inputs: inputs.into_vec(),
-            clock: None,
-            outputs: outputs.into_vec(),
-            cells,
-            gaters: Vec::new(alloc),
-            registers,
-        };
-        finished(alloc, draft)
     }
 }
 
@@ -196,212 +241,4 @@ fn noted(refused: &mut Option<AddFault>, added: Result<(), AddFault>) -> Result<
         *refused = Some(fault);
     }
     added
-}
-
-/// Mentions a net and puts it into a set.
-fn add_net(
-    alloc: Global,
-    names: &mut NetNames,
-    nets: &mut NetSet,
-    name: &[u8],
-) -> Result<(), AddFault>
-    requires { length names.old ≤ MOST_NETS }
-    ensures { MatchResult result
-        (λ _. (names.new ≡ with_name names.old name.now) × (length names.new ≤ MOST_NETS) × (nets.new ≡ with_net nets.old (number_of names.new name.now)))
-        (λ fault. IsMentionFault (with_name names.old name.now) fault) }
-{
-    let net = match mention(alloc, names, name) {
-        Ok(net) => net,
-        Err(fault) => return Err(fault),
-    };
-    match nets.insert(net) {
-        Ok(()) => Ok(()),
-        Err(_) => Err(AddFault::NoMemory),
-    }
-}
-
-/// Mentions the nets of a cell, and adds the cell.
-fn add_cover(
-    alloc: Global,
-    names: &mut NetNames,
-    cells: &mut Vec<Logic>,
-    inputs: &[Name],
-    output: &[u8],
-    cover: Cover,
-) -> Result<(), AddFault>
-    requires { length names.old ≤ MOST_NETS }
-    ensures { MatchResult result
-        (λ _. (names.new ≡ with_names names.old (inputs.now ++ output.now ∷ [])) × (length names.new ≤ MOST_NETS)
-        × (cells.new.items ≡ cells.old.items ++ cell_of names.new inputs.now output.now cover ∷ [])
-        × All (λ name. IsTrue (is_name name)) inputs.now)
-        (λ fault. IsMentionFault (with_names names.old (inputs.now ++ output.now ∷ [])) fault) }
-{
-    let inputs = match mention_each(alloc, names, inputs) {
-        Ok(inputs) => inputs,
-        Err(fault) => return Err(fault),
-    };
-    let output = match mention(alloc, names, output) {
-        Ok(output) => output,
-        Err(fault) => return Err(fault),
-    };
-    let function = LogicFunction::Cover(cover);
-    put(
-        cells,
-        Logic {
-            inputs,
-            output,
-            function,
-        },
-    )
-}
-
-/// Mentions the nets of a plain register, and adds the register.
-fn add_register(
-    alloc: Global,
-    names: &mut NetNames,
-    registers: &mut Vec<Register>,
-    inputs: &[Name],
-    outputs: &[Option<Name>],
-    clock: Option<&[u8]>,
-    init: u8,
-) -> Result<(), AddFault>
-    requires nets { length names.old ≤ MOST_NETS }
-    requires registers { length registers.old.items ≤ MOST_REGISTERS }
-    requires plain { IsPlain inputs.now outputs.now (option_copied clock) }
-    ensures { MatchResult result
-        (λ _. (names.new ≡ with_names names.old (register_words inputs.now outputs.now (option_copied clock.entry))) × (length names.new ≤ MOST_NETS)
-        × (registers.new.items ≡ registers.old.items ++ register_of names.new inputs.now outputs.now (option_copied clock.entry) init ∷ [])
-        × (length registers.new.items ≤ MOST_REGISTERS)
-        × All (λ name. IsTrue (is_name name)) (register_words inputs.now outputs.now (option_copied clock.entry)))
-        (IsRegisterFault (with_names names.old (register_words inputs.now outputs.now (option_copied clock.entry))) registers.old.items) }
-{
-    match (inputs, outputs, clock) {
-        ([input], [Some(output)], Some(clock)) => {
-            add_plain(
-                alloc,
-                names,
-                registers,
-                input.bytes(),
-                output.bytes(),
-                clock,
-                init,
-            )
-        }
-        _ => unreachable!(),
-    }
-}
-
-/// Mentions the input, the output and the clock of a plain register, and adds the register.
-fn add_plain(
-    alloc: Global,
-    names: &mut NetNames,
-    registers: &mut Vec<Register>,
-    input: &[u8],
-    output: &[u8],
-    clock: &[u8],
-    init: u8,
-) -> Result<(), AddFault>
-    requires nets { length names.old ≤ MOST_NETS }
-    requires registers { length registers.old.items ≤ MOST_REGISTERS }
-    ensures { MatchResult result
-        (λ _. (names.new ≡ with_names names.old (input.now ∷ output.now ∷ clock.now ∷ [])) × (length names.new ≤ MOST_NETS)
-        × (registers.new.items ≡ registers.old.items ++ register_of names.new (input.now ∷ []) (Some output.now ∷ []) (Some clock.now) init ∷ [])
-        × (length registers.new.items ≤ MOST_REGISTERS))
-        (IsRegisterFault (with_names names.old (input.now ∷ output.now ∷ clock.now ∷ [])) registers.old.items) }
-{
-    let input = match mention(alloc, names, input) {
-        Ok(net) => net,
-        Err(fault) => return Err(fault),
-    };
-    let output = match mention(alloc, names, output) {
-        Ok(net) => net,
-        Err(fault) => return Err(fault),
-    };
-    let clock = match mention(alloc, names, clock) {
-        Ok(net) => net,
-        Err(fault) => return Err(fault),
-    };
-    if registers.len() == MOST_REGISTERS {
-        return Err(AddFault::Limit(Limit::Registers));
-    }
-    match plain_register(alloc, input, output, clock, init) {
-        Ok(register) => put(registers, register),
-        Err(_) => Err(AddFault::NoMemory),
-    }
-}
-
-/// A plain register of these nets.
-fn plain_register(
-    alloc: Global,
-    input: NetId,
-    output: NetId,
-    clock: NetId,
-    init: u8,
-) -> Result<Register, AllocError>
-    ensures { IfOk result (λ register. register ≡ record { inputs = input ∷ []; outputs = (output, false) ∷ []; pins = 0 ∷ []; clock = clock; kind = Plain; init = init }) }
-{
-    Ok(Register {
-        inputs: vec![in alloc; input]?,
-        outputs: vec![in alloc; (output, false)]?,
-        pins: vec![in alloc; 0]?,
-        clock,
-        kind: RegisterKind::Plain,
-        init,
-    })
-}
-
-/// Puts a part behind the others.
-fn put<T: Drop>(parts: &mut Vec<T>, part: T) -> Result<(), AddFault>
-    ensures { MatchResult result (λ _. parts.new.items ≡ parts.old.items ++ part ∷ []) (λ fault. fault ≡ AddFault.NoMemory) }
-{
-    match parts.push(part) {
-        Ok(()) => Ok(()),
-        Err(_) => Err(AddFault::NoMemory),
-    }
-}
-
-/// The number of a net, which is mentioned here, perhaps for the first time.
-fn mention(alloc: Global, names: &mut NetNames, name: &[u8]) -> Result<NetId, AddFault>
-    requires { length names.old ≤ MOST_NETS }
-    ensures different { OnOk result (AllPairs (λ name other. name ≢ other) names.new) }
-    ensures mentions { MatchResult result
-        (λ net. IsMentioned names.old names.new (name.now ∷ []) (net ∷ []))
-        (λ fault. IsMentionFault (with_name names.old name.now) fault) }
-{
-    let number = match names.intern(alloc, name) {
-        Ok(number) => number,
-        Err(_) => return Err(AddFault::NoMemory),
-    };
-    if names.len() > MOST_NETS {
-        return Err(AddFault::Limit(Limit::Nets));
-    }
-    Ok(NetId::new(number as u32))
-}
-
-/// The numbers of nets, which are mentioned here one after another.
-fn mention_each(
-    alloc: Global,
-    names: &mut NetNames,
-    mentioned: &[Name],
-) -> Result<Vec<NetId>, AddFault>
-    requires { length names.old ≤ MOST_NETS }
-    ensures named { OnOk result (All (λ name. IsTrue (is_name name)) mentioned.now) }
-    ensures mentions { MatchResult result
-        (λ nets. IsMentioned names.old names.new mentioned.now nets.items)
-        (λ fault. IsMentionFault (with_names names.old mentioned.now) fault) }
-{
-    let mut nets = match Vec::with_capacity(alloc, mentioned.len()) {
-        Ok(nets) => nets,
-        Err(_) => return Err(AddFault::NoMemory),
-    };
-    for name in mentioned {
-        match mention(alloc, names, name.bytes()) {
-            Ok(net) => match put(&mut nets, net) {
-                Ok(()) => (),
-                Err(fault) => return Err(fault),
-            },
-            Err(fault) => return Err(fault),
-        }
-    }
-    Ok(nets)
 }

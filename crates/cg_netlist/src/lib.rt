@@ -11,7 +11,10 @@
 //! - `marks`: marks on nets, and the first net that has one.
 //! - `net_set`: nets that are taken once.
 //! - `parts`: logic cells, gating cells and registers as a netlist keeps them.
+//! - `mention`: mentioning nets by their names.
+//! - `adding`: adding one part.
 //! - `builder`: building netlists, part by part.
+//! - `draft_builder`, `draft_finish`: the builder of before, by numbers, until the reader takes the new one.
 //! - `ranks`: how deep each logic cell lies under the registers and inputs, and which ones lie on a cycle.
 //! - `draft_nets`: the nets of a draft, listed by what they are to it.
 //! - `renumber`: the parts of a draft with their nets numbered in net order.
@@ -22,13 +25,16 @@
 //! - `history`: that a netlist has one history for each start and waveform.
 #![tactic(auto)]
 
+mod adding;
 pub mod builder;
+pub mod draft_builder;
+mod draft_finish;
 mod draft_nets;
 pub mod fault;
-mod finish;
 pub mod history;
 pub mod id;
 mod marks;
+mod mention;
 mod names;
 mod net_set;
 pub mod netlist;

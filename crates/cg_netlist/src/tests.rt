@@ -2,7 +2,7 @@
 
 ghost use Rattle.std.specs.Prelude.{◌≡◌, None, OnOk};
 
-use crate::builder::Builder;
+use crate::draft_builder::Builder;
 use crate::fault::{AddFault, NetFault};
 use crate::id::NetId;
 use crate::netlist::Netlist;

@@ -19,7 +19,7 @@ use crate::cg_blif::open_cover::OpenCover;
 use crate::cg_blif::parts::{add_inputs, add_latch, add_outputs, close};
 use cg_cell::limit::Limit;
 use cg_cell::name::Name;
-use cg_netlist::builder::Builder;
+use cg_netlist::draft_builder::Builder;
 use cg_text::lines::{Line, Lines};
 use std::alloc::Global;
 

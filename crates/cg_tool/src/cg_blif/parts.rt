@@ -13,7 +13,7 @@ ghost use Rattle.cg_tool.specs.Taking.{Makes, Says};
 use crate::cg_blif::fault::{BlifFault, refused_by};
 use crate::cg_blif::open_cover::OpenCover;
 use cg_cell::name::Name;
-use cg_netlist::builder::Builder;
+use cg_netlist::draft_builder::Builder;
 
 // Makes a net an input.
 #[tactic(auto, using(crate::proofs::TakingLemmas::made))]

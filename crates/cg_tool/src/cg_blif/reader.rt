@@ -13,7 +13,7 @@ ghost use Rattle.cg_tool.specs.Words.{is_plain};
 use crate::cg_blif::command::is_plain;
 use crate::cg_blif::fault::{BlifFault, unfinished_by};
 use crate::cg_blif::lines::take_lines;
-use cg_netlist::builder::Builder;
+use cg_netlist::draft_builder::Builder;
 use cg_netlist::netlist::Netlist;
 use cg_text::blanks::Blanks;
 use cg_text::lines::{Comments, Layout, Lines};

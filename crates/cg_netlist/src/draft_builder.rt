@@ -10,8 +10,8 @@ ghost use Rattle.cg_netlist.specs.Finish.{IsFinished};
 ghost use Rattle.cg_netlist.specs.Names.{with_name};
 ghost use Rattle.cg_netlist.specs.declared.parts.RegisterKind.TheVariants.{Plain};
 
-use crate::fault::{AddFault, NetFault};
 use crate::draft_finish::finished;
+use crate::fault::{AddFault, NetFault};
 use crate::id::NetId;
 use crate::names::NetNames;
 use crate::net_set::NetSet;

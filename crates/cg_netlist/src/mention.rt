@@ -16,11 +16,7 @@ use std::alloc::Global;
 pub(crate) const MOST_NETS: usize = 1_048_576;
 
 /// The number of a net, which is mentioned here, perhaps for the first time.
-pub(crate) fn mention(
-    alloc: Global,
-    names: &mut NetNames,
-    name: &[u8],
-) -> Result<NetId, AddFault>
+pub(crate) fn mention(alloc: Global, names: &mut NetNames, name: &[u8]) -> Result<NetId, AddFault>
     requires { length names.old ≤ MOST_NETS }
     ensures different { OnOk result (AllPairs (λ name other. name ≢ other) names.new) }
     ensures mentions { MatchResult result

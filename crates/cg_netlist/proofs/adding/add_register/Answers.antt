@@ -64,7 +64,7 @@ returns c =
     let cell = option_copied c.args.cell in
     let clock = option_copied c.args.clock in
     let second : IsMentioned c.mention_each.new.names c.mention_outputs.new.names (map (λ (o : NetName × ℕ). o.0) outputs) (map (λ (o : ℕ × Bool). o.0) c.in-Ok-mention_outputs.nets.items) =
-        subst (λ ws. IsMentioned c.mention_each.new.names c.mention_outputs.new.names ws (map (λ (o : ℕ × Bool). o.0) c.in-Ok-mention_outputs.nets.items)) (lent_words c.args.outputs.now) c.in-Ok-mention_outputs.ensures.mentions in
+    subst (λ ws. IsMentioned c.mention_each.new.names c.mention_outputs.new.names ws (map (λ (o : ℕ × Bool). o.0) c.in-Ok-mention_outputs.nets.items)) (lent_words c.args.outputs.now) c.in-Ok-mention_outputs.ensures.mentions in
     let few : length c.args.registers.now.items < 65536 = search rules in
     MatchResult-weaker c.put.result c.put.ensures
     (λ x e. puts_register cell inputs outputs clock c.args.init old c.mention_each.new.names c.mention_outputs.new.names c.mention_given.new.names c.in-Ok.nets.items c.in-Ok-mention_outputs.nets.items c.in-Ok-mention_given.net c.in-Ok-places.pins.items c.in-Ok-kind.kind c.args.registers.now.items c.put.new.parts.items

@@ -1,3 +1,4 @@
 pub mod World
 pub mod Shelf
 pub mod MemShelf
+pub mod Transfer

@@ -6,19 +6,17 @@ ghost use Rattle.cg_shelf.specs.declared.faults.Call.TheVariants.{Store, Say, Co
 
 use crate::calls::Shelf;
 use crate::faults::{Call, Fault, FileName, LoadFault, StoreFault};
+use crate::transfer::{read_whole, write_whole};
 use std::alloc::{AllocError, Global};
 use std::fs::OpenOptions;
-use std::io::{Read, Write};
 use std::rt::Runtime;
 use std::{fs, io};
-
-// How many bytes one read asks for.
-const CHUNK: usize = 65536;
 
 /// A shelf over the files of the system, standard output and standard error.
 ///
 /// It tells nothing of content, since nothing can be proved of what the system holds. It keeps the list of
-/// its failed calls. Every error of the system fails the call, an interrupted read or write among them.
+/// its failed calls. Every error of the system fails the call, an interrupted read or write among them. That it
+/// reads and writes whole files is proved of its loops over any reader and writer.
 #[derive(Drop)]
 pub struct DirShelf<R: Runtime> {
     rt: R,
@@ -38,7 +36,7 @@ impl<R: Runtime> DirShelf<R> {
         }
     }
 
-    /// Reads a file to its end. It ends after at most `limit` + 2 reads, since each but the last gives a byte.
+    /// Reads a file to its end.
     fn read_file(&self, name: &str, limit: u64, into: &mut Vec<u8>) -> Result<(), LoadFault>
         requires { into.old.items ≡ [] }
         ensures { OnOk result (length into.new.items ≤ limit) }
@@ -46,19 +44,7 @@ impl<R: Runtime> DirShelf<R> {
         let Ok(mut file) = fs::open(&self.rt, name) else {
             return Err(LoadFault::Failed);
         };
-        let mut chunk = [0u8; CHUNK];
-        'reads: loop {
-            let Ok(count) = file.read(&mut chunk) else {
-                return Err(LoadFault::Failed);
-            };
-            if count == 0 {
-                return Ok(());
-            }
-            if count as u64 > limit - into.len() as u64 {
-                return Err(LoadFault::TooLong);
-            }
-            into.extend_from_slice(&chunk[..count])?;
-        }
+        read_whole(&mut file, limit, into)
     }
 
     fn write_file(&self, name: &str, bytes: &[u8]) -> Result<(), StoreFault> {
@@ -112,19 +98,6 @@ impl<R: Runtime> DirShelf<R> {
         self.faults.push(Fault { call, name })?;
         Ok(())
     }
-}
-
-/// Writes all of the bytes, in at most one turn for each byte. A write that takes nothing of a piece that
-/// is not empty is a fault.
-fn write_whole<W: Write>(to: &mut W, bytes: &[u8]) -> Result<(), StoreFault> {
-    let mut rest = bytes;
-    'writes: while !rest.is_empty() {
-        match to.write(rest) {
-            Ok(0) | Err(_) => return Err(StoreFault::Failed),
-            Ok(count) => rest = &rest[count..],
-        }
-    }
-    Ok(())
 }
 
 impl<R: Runtime> Shelf for DirShelf<R> {

@@ -1,10 +1,36 @@
 //! Both shelves, called through their bound as the rest of the program calls them.
 
+use crate::transfer::write_whole;
 use crate::{Call, DirShelf, LoadFault, MemShelf, Shelf, StoreFault};
 use std::alloc::Global;
+use std::io::Write;
 use std::process::Abort;
 use std::test::Fail;
-use std::{fs, process};
+use std::{fs, io, process};
+
+/// A writer that takes at most three bytes at a time, and no more than it has room for.
+#[derive(Drop)]
+struct ShortWriter {
+    taken: Vec<u8>,
+    room: usize,
+}
+
+impl Write for ShortWriter {
+    ghost use Rattle.std.specs.Prelude.{Some};
+
+    ghost contents = { λ writer. Some writer.taken.items };
+
+    fn write(&mut self, buf: &[u8]) -> io::Result<usize> {
+        let left = self.room.saturating_sub(self.taken.len());
+        let count = buf.len().min(left).min(3);
+        self.taken.extend_from_slice(&buf[..count])?;
+        Ok(count)
+    }
+
+    fn flush(&mut self) -> io::Result<()> {
+        Ok(())
+    }
+}
 
 /// Stores and loads a text, loads it under too low a limit, and loads a name that is not there.
 fn exercise<S: Shelf>(rt: &impl Abort, alloc: Global, shelf: &mut S, name: &str, missing: &str) {
@@ -68,6 +94,35 @@ fn real_files(rt: HostRuntime) -> Result<(), Fail> {
     );
     assert_eq!(rt; shelf.say(b""), Ok(()));
     assert_eq!(rt; shelf.complain(b""), Ok(()));
+    let mut long = Vec::new(rt.alloc());
+    for k in 0..200_001u32 {
+        long.push((k % 251) as u8)?;
+    }
+    let mut into = Vec::new(rt.alloc());
+    assert_eq!(rt; shelf.store(name.as_str(), &long), Ok(()));
+    assert_eq!(rt; shelf.load(name.as_str(), 200_001, &mut into), Ok(()));
+    assert!(rt; into.as_slice() == long.as_slice());
+    assert_eq!(rt;
+        shelf.load(name.as_str(), 200_000, &mut into),
+        Err(LoadFault::TooLong)
+    );
     fs::remove_file(&rt, name.as_str())?;
     Ok(())
+}
+
+#[test]
+fn a_writer_that_takes_little_gets_all_it_has_room_for(rt: HostRuntime) {
+    let cases: [(usize, Result<(), StoreFault>, &[u8]); 3] = [
+        (11, Ok(()), b"all of this"),
+        (10, Err(StoreFault::Failed), b"all of thi"),
+        (0, Err(StoreFault::Failed), b""),
+    ];
+    for (room, answer, taken) in cases {
+        let mut writer = ShortWriter {
+            taken: Vec::new(rt.alloc()),
+            room,
+        };
+        assert_eq!(rt; write_whole(&mut writer, b"all of this"), answer);
+        assert_eq!(rt; writer.taken.as_slice(), taken);
+    }
 }

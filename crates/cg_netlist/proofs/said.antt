@@ -10,6 +10,7 @@ pub mod Counted
 pub mod Different
 pub mod Each
 pub mod FaultOrNone
+pub mod FinishTells
 pub mod FirstAt
 pub mod Fitting
 pub mod GateRanksTell

@@ -1,10 +1,15 @@
 -- A builder of a netlist, and how its calls answer.
-use Rattle.std.specs.Prelude.{◌≡◌, ◌⊎◌, List, ℕ, Option, None, Some, Result, Ok, Err, IfErr, OnOk}
+use Rattle.std.specs.Prelude.{◌≡◌, ◌⊎◌, List, ℕ, Option, None, Some, Result, Ok, Err, IfErr, MatchResult, OnOk}
 use Rattle.cg_cell.specs.declared.limit.Limit.{Limit}
 use Rattle.cg_netlist.specs.declared.fault.AddFault.{AddFault}
-use Rattle.cg_netlist.specs.declared.fault.AddFault.TheVariants.{Limit as Passes, NoMemory}
+use Rattle.cg_netlist.specs.declared.fault.AddFault.TheVariants.{Limit as Passes, NoMemory as NoRoom}
+use Rattle.cg_netlist.specs.declared.fault.NetFault.{NetFault}
+use Rattle.cg_netlist.specs.declared.fault.NetFault.TheVariants.{NoMemory}
+use Rattle.cg_netlist.specs.Circuit.{Circuit}
+use Rattle.cg_netlist.specs.said.Faults.{IsFault}
 use Rattle.cg_netlist.specs.said.Part.{Part}
-use Rattle.cg_netlist.specs.said.Said.{Said, limit_of, nothing_said, with_part}
+use Rattle.cg_netlist.specs.said.Said.{Said, limit_of, nothing_said, said, with_part}
+use Rattle.cg_netlist.specs.said.Says.{Says}
 
 -- a builder: the name of its model, what it was told, and the refusal of the first call that it refused
 pub record Building : Type 0 where
@@ -19,8 +24,13 @@ fresh model = record { model = model; said = nothing_said; refused = None }
 -- how a call answers: after a refusal with that refusal; and else with Ok exactly where no limit is passed, or for want of memory
 abbrev pub IsAnswer : Option AddFault → Option Limit → Result (Unit {0}) AddFault → Type 0
 IsAnswer (Some fault) passed result = result ≡ Err fault
-IsAnswer None None result = (result ≡ Ok tt) ⊎ (result ≡ Err NoMemory)
-IsAnswer None (Some limit) result = (result ≡ Err (Passes limit)) ⊎ (result ≡ Err NoMemory)
+IsAnswer None None result = (result ≡ Ok tt) ⊎ (result ≡ Err NoRoom)
+IsAnswer None (Some limit) result = (result ≡ Err (Passes limit)) ⊎ (result ≡ Err NoRoom)
+
+-- how finishing answers a builder that was told this: with the netlist that parts say which have said it, with their first fault,
+-- or for want of memory
+abbrev pub Finishes : Building → Result Circuit NetFault → Type 0
+Finishes b result = (parts : List Part) → said parts ≡ b.said → MatchResult result (λ c. Says b.model parts c) (λ fault. (fault ≡ NoMemory) ⊎ IsFault parts fault)
 
 -- a call that says a part: a builder that takes it was told one part more, and one that refuses it refuses every later one alike
 pub record Takes (old : Building) (part : Part) (new : Building) (result : Result (Unit {0}) AddFault) : Type 0 where

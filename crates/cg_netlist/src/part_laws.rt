@@ -2,7 +2,7 @@
 //!
 //! Each law is what a call ensures that does nothing: so it is proved as every contract is, and callers can use it.
 
-ghost use Rattle.cg_netlist.specs.said.Laws.{AtLeastOne, AtMostOne, FaultOrNone, NoFault, NoneBeside, OneFault, SaidByItsParts, SaidIsNetlist, SaidIsWritable, SaidMore, WritableIsSaid};
+ghost use Rattle.cg_netlist.specs.said.Laws.{AtLeastOne, AtMostOne, FaultOrNone, NoFault, NoneBeside, OneFault, OwnParts, SaidByItsParts, SaidIsNetlist, SaidIsWritable, SaidMore, WritableIsSaid};
 
 /// Parts that have no fault say one netlist, and parts that have one say none.
 pub fn one_netlist_said()
@@ -18,9 +18,10 @@ pub fn one_first_fault()
     ensures none { NoFault }
 {}
 
-/// A netlist is said by its own parts.
+/// A netlist is said by its own parts, also where registers on its clock do not name it.
 pub fn said_by_own_parts()
-    ensures { SaidByItsParts }
+    ensures own { OwnParts }
+    ensures left_out { SaidByItsParts }
 {}
 
 /// What parts say is a netlist.

@@ -7,7 +7,7 @@ use Rattle.cg_netlist.proofs.OrderedForm.{names}
 use Rattle.cg_netlist.proofs.said.Each.{each}
 use Rattle.cg_netlist.proofs.said.Kept.{CellNets, GaterNets}
 use Rattle.cg_netlist.specs.Circuit.{GatingCell, LogicCell}
-use Rattle.cg_netlist.specs.said.Part.{cells, inputs}
+use Rattle.cg_netlist.specs.said.Part.{cells}
 use Rattle.cg_netlist.specs.said.Wiring.{NetName, map_cell, map_gater, net_name}
 
 module _ {N M : Type 0} (f g : N → M) where

@@ -8,11 +8,8 @@ use Rattle.std.proofs.lemmas.Bool.{both_ways, false_from_ne_true, or_cases, or_l
 use Rattle.std.proofs.lemmas.List.{length-map}
 use Rattle.std.proofs.lemmas.List.Elements.{All-nil, All-cons}
 use Rattle.cg_cell.specs.Name.{is_name}
-use Rattle.cg_netlist.proofs.DraftLemmas.{taken}
 use Rattle.cg_netlist.proofs.Driven.{driven_in_order}
 use Rattle.cg_netlist.proofs.Members.{is_in_cases, is_in_left, is_in_right}
-use Rattle.cg_netlist.proofs.OrderedForm.{names}
-use Rattle.cg_netlist.proofs.RankLemmas.{ranked}
 use Rattle.cg_netlist.proofs.said.ByKind.{has_once, kind_each, picks_cell, picks_gater, picks_register}
 use Rattle.cg_netlist.proofs.said.ChainedParts.{all_reach, chained, chains_long, chains_of, gate_is}
 use Rattle.cg_netlist.proofs.said.Each.{each, from_recursion}
@@ -27,9 +24,7 @@ use Rattle.cg_netlist.proofs.said.OrderedParts.{clock_holds, clocks_there, diffe
 use Rattle.cg_netlist.proofs.said.RankedParts.{all_end, ranks_long, ranks_of, rising}
 use Rattle.cg_netlist.specs.Circuit.{RegisterCell, is_in}
 use Rattle.cg_netlist.specs.Names.{is_known}
-use Rattle.cg_netlist.specs.Ordered.{ordered}
 use Rattle.cg_netlist.specs.WellFormed.{IsWellFormed}
-use Rattle.cg_netlist.specs.inner.Numbers.{used}
 use Rattle.cg_netlist.specs.said.Faults.{IsFaultless}
 use Rattle.cg_netlist.specs.said.Part.{Gate, Logic, Part, Register, cell_in, cells, clock_of, clock_pins, gater_in, gaters, mentioned, on_clock, register_in, registers, roots, uses, wired}
 use Rattle.cg_netlist.specs.said.Says.{AreTaken, IsPart, PartFits, Says, netlist_of}

@@ -4,7 +4,6 @@ use Rattle.std.proofs.Common.{refl, ap, ◌∙◌}
 use Rattle.std.specs.List.{All, AllByRecursion, list_any}
 use Rattle.std.proofs.lemmas.List.Elements.{All-nil, All-cons, All-head, All-tail}
 use Rattle.cg_netlist.proofs.Renumbered.{front}
-use Rattle.cg_netlist.specs.said.Wiring.{among}
 
 pub map_kept : {N M : Type 0} (f : N → M) (g : M → N) (xs : List N) → AllByRecursion (λ x. g (f x) ≡ x) xs → map g (map f xs) ≡ xs
 map_kept f g [] all = refl

@@ -12,7 +12,7 @@ use Rattle.cg_netlist.proofs.said.KnownNames.{first_step, itself, known_head, kn
 use Rattle.cg_netlist.proofs.said.WaysEnd.{ends_bounded}
 use Rattle.cg_netlist.specs.Names.{is_known}
 use Rattle.cg_netlist.specs.said.Faults.{HasClock, IsClockProper, IsDrivenIfUsed, IsDrivenOnce, IsEnding, IsFault, IsFaultless, IsFirstNot, IsGateProper, IsRootProper, ends_within}
-use Rattle.cg_netlist.specs.said.Part.{Part, cells, clocks, drivers, gaters, inputs, is_gated, mentioned, nets, registers, roots, uses}
+use Rattle.cg_netlist.specs.said.Part.{Part, cells, clocks, drivers, gaters, inputs, is_gated, nets, registers, roots, uses}
 use Rattle.cg_netlist.specs.said.Wiring.{NetName}
 
 -- a fact holds, or does not

@@ -8,7 +8,7 @@ use Rattle.cg_netlist.proofs.OrderedForm.{names}
 use Rattle.cg_netlist.proofs.said.KnownNames.{word_at}
 use Rattle.cg_netlist.proofs.said.ToldByNames.{place_back}
 use Rattle.cg_netlist.specs.said.Faults.{IsFirstNot}
-use Rattle.cg_netlist.specs.said.Part.{Part, mentioned, nets}
+use Rattle.cg_netlist.specs.said.Part.{Part, nets}
 use Rattle.cg_netlist.specs.said.Wiring.{NetName, net_name}
 
 pub name_at : (names : List NetName) (x : ℕ) → x < length names → slice_get names x ≡ Some (net_name names x)

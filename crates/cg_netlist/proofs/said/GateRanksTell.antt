@@ -1,19 +1,16 @@
 -- The ranks of gating cells tell which chains of clock pins reach where the clock may come from.
-use Rattle.std.specs.Prelude.{◌≡◌, ◌≢◌, ℕ, zero, suc, ◌+◌, ◌-◌, ◌<◌, ◌≤◌, ◌==◌, Bool, true, false, ◌||◌, max, List, [], ◌∷◌, map, length, slice_get, Option, None, Some, nat_eq, is_some}
+use Rattle.std.specs.Prelude.{◌≡◌, ◌≢◌, ℕ, zero, suc, ◌+◌, ◌-◌, ◌<◌, ◌==◌, Bool, true, false, ◌||◌, List, [], ◌∷◌, map, length, slice_get, Option, None, Some, nat_eq, is_some}
 use Rattle.std.proofs.Common.{refl, ap, ◌∙◌, sym, subst, inl, inr, arith, cond}
 use Rattle.std.specs.List.{AllByRecursion, AllPairs, flat_map, position_from}
 use Rattle.std.specs.Option.{option_map, option_map_or, option_to_list}
-use Rattle.std.proofs.lemmas.Bool.{both_ways, cases_Bool, cases_lt, eqb-true, eq-eqb, false_from_ne_true, or_left, or_right}
+use Rattle.std.proofs.lemmas.Bool.{both_ways, eqb-true, eq-eqb, false_from_ne_true, or_left, or_right}
 use Rattle.std.proofs.lemmas.List.{length-map}
-use Rattle.std.proofs.lemmas.Option.{slice_get-map, same_Some}
-use Rattle.cg_netlist.proofs.Faultless.{once}
-use Rattle.cg_netlist.proofs.OrderedForm.{names}
+use Rattle.std.proofs.lemmas.Option.{slice_get-map}
 use Rattle.cg_netlist.proofs.RankLemmas.{ranked}
 use Rattle.cg_netlist.proofs.said.ChainsEnd.{at_step, short_chain, step_at}
 use Rattle.cg_netlist.proofs.said.GatedNets.{not_root, one_gate, pin_cases}
 use Rattle.cg_netlist.proofs.said.KnownNames.{known_head, known_left, known_tail}
 use Rattle.cg_netlist.proofs.said.NamePlaces.{mapped_at}
-use Rattle.cg_netlist.proofs.said.NoneBeside.{gaters_are}
 use Rattle.cg_netlist.proofs.said.OrderMapped.{gaters_driven_mapped}
 use Rattle.cg_netlist.proofs.said.ToldByNames.{known_as}
 use Rattle.cg_netlist.specs.Circuit.{GatingCell, RegisterCell, is_in}

@@ -1,13 +1,11 @@
 -- Where each net is driven once at most, the output of a gating cell is driven by that cell alone, and is no place where the
 -- clock may come from.
-use Rattle.std.specs.Prelude.{◌≡◌, ◌⊎◌, ℕ, zero, suc, ◌+◌, ◌<◌, ◌≤◌, Bool, true, false, not, ◌&&◌, List, [], ◌∷◌, ◌++◌, map, length, slice_get, slice_index, Some}
-use Rattle.std.proofs.Common.{refl, ap, ◌∙◌, sym, subst, inl, inr, arith}
-use Rattle.std.specs.List.{AllByRecursion, filter, list_any}
+use Rattle.std.specs.Prelude.{◌≡◌, ◌⊎◌, ℕ, zero, suc, ◌+◌, ◌<◌, true, not, List, [], ◌∷◌, ◌++◌, length, slice_get, Some}
+use Rattle.std.proofs.Common.{ap, ◌∙◌, sym, inl, inr, arith}
+use Rattle.std.specs.List.{filter}
 use Rattle.std.specs.Option.{option_map}
-use Rattle.std.specs.Str.{bytes_eq}
-use Rattle.std.proofs.lemmas.Bool.{both_ways, cases_Bool, and_parts, or_cases}
+use Rattle.std.proofs.lemmas.Bool.{both_ways, cases_Bool}
 use Rattle.std.proofs.lemmas.Option.{slice_get-map, slice_get_within, same_Some}
-use Rattle.cg_netlist.proofs.Faultless.{once}
 use Rattle.cg_netlist.proofs.said.ByKind.{filter_has, filter_known}
 use Rattle.cg_netlist.proofs.said.Counted.{one_place}
 use Rattle.cg_netlist.proofs.said.KnownNames.{known_cases, known_each, known_left, known_right, word_at}

@@ -3,7 +3,6 @@ use Rattle.std.specs.Prelude.{◌≡◌, Bool, List, [], ◌∷◌, map, Option,
 use Rattle.std.proofs.Common.{refl, ap, ◌∙◌}
 use Rattle.std.specs.List.{AllByRecursion}
 use Rattle.std.specs.Option.{option_map, option_to_list}
-use Rattle.cg_netlist.proofs.Clocks.{pins}
 use Rattle.cg_netlist.proofs.said.Each.{map_kept}
 use Rattle.cg_netlist.specs.Circuit.{GatingCell, LogicCell, RegisterCell, asked_nets, shown_nets}
 use Rattle.cg_netlist.specs.said.Wiring.{Wiring, map_cell, map_gater, map_outputs, map_register, map_wiring}

@@ -5,9 +5,7 @@ use Rattle.std.specs.List.{AllByRecursion, before_first, count_by, filter, filte
 use Rattle.std.specs.Option.{option_map, option_to_list}
 use Rattle.std.specs.Str.{bytes_eq}
 use Rattle.std.proofs.lemmas.Bool.{both_ways, cases_Bool, false_from_ne_true, or_cases, or_left, or_right, eqb-true, eq-eqb}
-use Rattle.std.proofs.lemmas.List.{map-append}
 use Rattle.std.proofs.lemmas.Option.{slice_get-get_or, same_Some, none-some}
-use Rattle.cg_netlist.proofs.Faultless.{proper}
 use Rattle.cg_netlist.proofs.Members.{All-member, is_in_left, is_in_right}
 use Rattle.cg_netlist.proofs.said.Counted.{apart_counts}
 use Rattle.cg_netlist.proofs.said.Different.{apart_from}

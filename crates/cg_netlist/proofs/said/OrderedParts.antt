@@ -1,5 +1,5 @@
 -- Parts without a fault: each net that they speak of is driven once, and has a place in net order.
-use Rattle.std.specs.Prelude.{◌≡◌, ◌≢◌, ◌⊎◌, ℕ, ◌<◌, true, not, List, [], ◌∷◌, ◌++◌, map, length, slice_get, unwrap_or, Option, None, Some, nat_eq}
+use Rattle.std.specs.Prelude.{◌≡◌, ◌≢◌, ℕ, ◌<◌, true, not, List, [], ◌∷◌, ◌++◌, map, length, slice_get, unwrap_or, Option, None, Some, nat_eq}
 use Rattle.std.proofs.Common.{refl, ap, ◌∙◌, sym, subst, inl, inr, arith, get_or}
 use Rattle.std.specs.List.{All, AllByRecursion, AllPairs, before_first, filter, filter_map, flat_map, list_any, range_with_len}
 use Rattle.std.specs.Option.{option_or, option_to_list}

@@ -178,6 +178,14 @@ module _ (leaves : RegisterCell NetName NetName → Bool) (w : Wiring NetName) w
       let r : map (on_clock (clock_of (parts_from leaves w))) (registers (parts_from leaves w)) ≡ w.registers = ap (map (on_clock (clock_of (parts_from leaves w)))) registers_from ∙ named_clocks (clock_of (parts_from leaves w)) clock w.registers left in
       same_wiring (wired (parts_from leaves w)) w i clock o k g r
 
+-- where each register names its clock, none leaves it out
+pub none_left : (w : Wiring NetName) → AllByRecursion (λ (r : RegisterCell NetName NetName). false ≡ true → w.clock ≡ Some r.clock) w.registers
+none_left w = go w.registers
+  where
+    go : (rs : List (RegisterCell NetName NetName)) → AllByRecursion (λ (r : RegisterCell NetName NetName). false ≡ true → w.clock ≡ Some r.clock) rs
+    go [] = tt
+    go (r ∷ rs) = (λ is. absurd (both_ways false refl is), go rs)
+
 module _ (c : Circuit) (leaves : RegisterCell NetName NetName → Bool) (is : IsNetlist c) (outputs_once : IsDistinct nat_eq c.outputs) (left : AllByRecursion (λ r. leaves r ≡ true → (named c).clock ≡ Some r.clock) (named c).registers) where
   formed : IsWellFormed c
   formed = is.well_formed

@@ -4,9 +4,7 @@ use Rattle.std.proofs.Common.{refl, ap, ◌∙◌, sym, subst, inl, inr, arith}
 use Rattle.std.specs.List.{All, AllByRecursion, IsDistinct, filter_map}
 use Rattle.std.proofs.lemmas.Bool.{both_ways, false_from_ne_true, or_cases, eqb-true}
 use Rattle.std.proofs.lemmas.List.{length-map}
-use Rattle.cg_netlist.proofs.DraftLemmas.{taken}
 use Rattle.cg_netlist.proofs.Members.{distinct_cons}
-use Rattle.cg_netlist.proofs.OrderedForm.{in_order}
 use Rattle.cg_netlist.proofs.said.ByKind.{kind_each, picks_cell}
 use Rattle.cg_netlist.proofs.said.Different.{Apart, apart_from, apart_once, no_more}
 use Rattle.cg_netlist.proofs.said.Each.{each, from_recursion}
@@ -16,7 +14,7 @@ use Rattle.cg_netlist.proofs.said.NoneBeside.{cells_are, drivers_are}
 use Rattle.cg_netlist.specs.Circuit.{Circuit, LogicCell, is_in}
 use Rattle.cg_netlist.specs.Names.{is_known}
 use Rattle.cg_netlist.specs.Netlist.{IsNetlist}
-use Rattle.cg_netlist.specs.said.Part.{Logic, Part, cell_in, clock_of, inputs, nets, on_clock, output_in, registers}
+use Rattle.cg_netlist.specs.said.Part.{Logic, Part, cell_in, clock_of, nets, on_clock, output_in, registers}
 use Rattle.cg_netlist.specs.said.Says.{AreTaken, CellFits, IsPart, PartFits, Says}
 use Rattle.cg_netlist.specs.said.Wiring.{NetName, map_cell, map_register, net_name}
 

@@ -7,7 +7,6 @@ use Rattle.std.proofs.lemmas.Bool.{both_ways, or_left, eq-eqb}
 use Rattle.std.proofs.lemmas.List.{length-map}
 use Rattle.cg_cell.specs.Cell.{CellData}
 use Rattle.cg_netlist.specs.declared.parts.RegisterKind.TheVariants.{Plain}
-use Rattle.cg_netlist.proofs.DraftLemmas.{taken}
 use Rattle.cg_netlist.proofs.Given.{clock_no_gate}
 use Rattle.cg_netlist.proofs.Members.{is_in_left, is_in_right}
 use Rattle.cg_netlist.proofs.said.ByKind.{kind_each, picks_cell, picks_gater, picks_register}
@@ -18,9 +17,9 @@ use Rattle.cg_netlist.proofs.said.SaidIsNetlist.{each_under, said_is_netlist, sa
 use Rattle.cg_netlist.proofs.said.ToldByNames.{clock_net_within}
 use Rattle.cg_netlist.specs.Circuit.{Circuit, GatingCell, LogicCell, RegisterCell, gate_nets, is_in}
 use Rattle.cg_netlist.specs.inner.Numbers.{gated}
-use Rattle.cg_netlist.specs.said.Part.{Gate, Logic, Part, Register, cell_in, clock_of, clocks, gater_in, on_clock, register_in, registers}
+use Rattle.cg_netlist.specs.said.Part.{Gate, Logic, Part, Register, cell_in, clock_of, gater_in, on_clock, register_in, registers}
 use Rattle.cg_netlist.specs.said.Says.{AreTaken, Says}
-use Rattle.cg_netlist.specs.said.Wiring.{NetName, map_cell, map_gater, map_register, named, net_name}
+use Rattle.cg_netlist.specs.said.Wiring.{NetName, map_cell, map_gater, map_register, net_name}
 use Rattle.cg_netlist.specs.said.Writable.{FunctionIsOf, IsLine, IsOf, IsWritable, KindIsOf, NIL}
 
 module _ (library : List CellData) (model : List ℕ) (parts : List Part) (c : Circuit) (taken : AreTaken model parts) (lines : AllByRecursion (IsLine library) parts) (says : Says model parts c) where

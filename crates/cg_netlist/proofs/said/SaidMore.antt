@@ -9,7 +9,7 @@ use Rattle.std.proofs.lemmas.List.{append-nil, append_assoc}
 use Rattle.std.proofs.lemmas.List.Elements.{filter_map-append}
 use Rattle.cg_netlist.proofs.said.ByKind.{has_once, once_has}
 use Rattle.cg_netlist.specs.Names.{is_known, with_name}
-use Rattle.cg_netlist.specs.said.Part.{Clock, Gate, Input, Logic, Output, Part, Register, cell_in, cells, clock_in, clocks, each_once, gater_in, gaters, input_in, inputs, mentioned, nets, output_in, outputs, register_in, registers}
+use Rattle.cg_netlist.specs.said.Part.{Clock, Gate, Input, Logic, Output, Part, Register, cell_in, clock_in, each_once, gater_in, input_in, mentioned, nets, output_in, register_in}
 use Rattle.cg_netlist.specs.said.Said.{Said, said, with_names, with_part}
 use Rattle.cg_netlist.specs.said.Wiring.{NetName}
 

@@ -4,7 +4,6 @@ use Rattle.std.proofs.Common.{refl}
 use Rattle.std.specs.List.{AllByRecursion, IsDistinct, flat_map}
 use Rattle.std.specs.Option.{option_to_list}
 use Rattle.cg_cell.specs.Name.{is_name}
-use Rattle.cg_netlist.proofs.Clocks.{pins}
 use Rattle.cg_netlist.proofs.said.Each.{by_recursion, each, each_back, each_front, each_together}
 use Rattle.cg_netlist.proofs.said.Fitting.{cell_fits, fits_alike, gater_fits, register_mapped}
 use Rattle.cg_netlist.proofs.said.KnownNames.{known_each}
@@ -13,7 +12,7 @@ use Rattle.cg_netlist.specs.Circuit.{Circuit, GatingCell, LogicCell, RegisterCel
 use Rattle.cg_netlist.specs.Names.{is_known}
 use Rattle.cg_netlist.specs.Netlist.{IsNetlist}
 use Rattle.cg_netlist.specs.WellFormed.{IsOver, RegisterFits}
-use Rattle.cg_netlist.specs.said.Part.{Clock, Gate, Input, Logic, Output, Part, inputs, mentioned, outputs}
+use Rattle.cg_netlist.specs.said.Part.{Clock, Gate, Input, Logic, Output, Part, mentioned}
 use Rattle.cg_netlist.specs.said.Says.{AreTaken, CellFits, GaterFits, IsPart, PartFits, parts_from, register_part}
 use Rattle.cg_netlist.specs.said.Wiring.{NetName, map_cell, map_gater, map_register, named, net_name}
 

@@ -21,7 +21,7 @@ use Rattle.cg_netlist.specs.Circuit.{Circuit, GatingCell, LogicCell, RegisterCel
 use Rattle.cg_netlist.specs.Names.{is_known}
 use Rattle.cg_netlist.specs.Ordered.{ordered}
 use Rattle.cg_netlist.specs.WellFormed.{IsInNetOrder, IsWellFormed}
-use Rattle.cg_netlist.specs.said.Part.{cells, clocks, gaters, inputs, outputs, registers}
+use Rattle.cg_netlist.specs.said.Part.{clocks, gaters}
 use Rattle.cg_netlist.specs.said.Wiring.{NetName, Wiring, among, circuit, driven_by_cells, driven_by_gaters, driven_by_registers, map_wiring, named, net_name, numbered, order_of, place_in, wiring}
 
 -- what holds of each net of a list holds of those of its elements

@@ -1,8 +1,8 @@
 -- What a builder keeps: what parts have said, by the numbers of their nets. The number of a net is its place in the order of
 -- first mention. These definitions tie code to what is said by name; no contract of a public call cites them.
-use Rattle.std.specs.Prelude.{◌≡◌, ◌≢◌, ℕ, ◌+◌, ◌<◌, ◌==◌, nat_lt, nat_eq, Bool, false, not, ◌&&◌, ◌||◌, List, [], ◌∷◌, ◌++◌, map, length, slice_get, unwrap_or, Option, is_none}
+use Rattle.std.specs.Prelude.{◌≢◌, ℕ, ◌<◌, ◌==◌, nat_lt, nat_eq, Bool, false, not, ◌&&◌, ◌||◌, List, [], ◌++◌, map, length, slice_get, unwrap_or, Option, is_none}
 use Rattle.std.specs.List.{AllByRecursion, AllPairs, count_by, filter, flat_map, list_any, position_from, position_or_len}
-use Rattle.std.specs.Option.{option_map, option_map_or, option_or, option_to_list}
+use Rattle.std.specs.Option.{option_map_or, option_or, option_to_list}
 use Rattle.cg_netlist.specs.Circuit.{Circuit, LogicCell, GatingCell, RegisterCell, asked_nets, is_in, shown_nets}
 use Rattle.cg_netlist.specs.Ranks.{driving_cell, rank_of, rank_within}
 use Rattle.cg_netlist.specs.said.Said.{Said}

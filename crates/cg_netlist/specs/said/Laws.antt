@@ -8,7 +8,7 @@ use Rattle.cg_netlist.specs.Netlist.{IsNetlist}
 use Rattle.cg_netlist.specs.said.Faults.{IsFault, IsFaultless}
 use Rattle.cg_netlist.specs.said.Part.{Part}
 use Rattle.cg_netlist.specs.said.Said.{said, with_part}
-use Rattle.cg_netlist.specs.said.Says.{AreTaken, Says, netlist_of, parts_from}
+use Rattle.cg_netlist.specs.said.Says.{AreTaken, Says, netlist_of, parts_from, parts_of}
 use Rattle.cg_netlist.specs.said.Wiring.{NetName, named}
 use Rattle.cg_netlist.specs.said.Writable.{IsLine, IsWritable, line_parts}
 
@@ -39,7 +39,11 @@ NoFault = (parts : List Part) (fault : NetFault) → IsFaultless parts → IsFau
 abbrev pub SaidIsNetlist : Type 0
 SaidIsNetlist = (model : List ℕ) (parts : List Part) (c : Circuit) → AreTaken model parts → Says model parts c → IsNetlist c × IsDistinct nat_eq c.outputs
 
--- a netlist is said by its own parts, also where registers that are on its clock leave that out
+-- a netlist is said by its own parts, which are such as a builder takes
+abbrev pub OwnParts : Type 0
+OwnParts = (c : Circuit) → IsNetlist c → IsDistinct nat_eq c.outputs → AreTaken c.model (parts_of c) × Says c.model (parts_of c) c
+
+-- and also where registers that are on its clock leave that out
 abbrev pub SaidByItsParts : Type 0
 SaidByItsParts =
     (c : Circuit) (leaves : RegisterCell NetName NetName → Bool) → IsNetlist c → IsDistinct nat_eq c.outputs → AllByRecursion (λ r. leaves r ≡ true → (named c).clock ≡ Some r.clock) (named c).registers

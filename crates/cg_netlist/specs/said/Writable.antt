@@ -35,19 +35,21 @@ KindIsOf library init (Flop cell) = IsOf library cell × (init ≡ 3)
 abbrev pub NIL : NetName
 NIL = codes "NIL"
 
--- whether a register is a plain one whose clock net has the name `NIL`: a line that says it names no clock net
+-- whether a register is plain
 abbrev pub is_plain : RegisterKind → Bool
 is_plain Plain = true
 is_plain (Flop cell) = false
 
+-- whether a register is a plain one whose clock net has the name `NIL`: a line that says it names no clock net
 abbrev pub is_on_nil : RegisterCell NetName NetName → Bool
 is_on_nil r = is_plain r.kind && bytes_eq r.clock NIL
 
--- the parts that lines say of a netlist
+-- the parts that lines say of a netlist: its own, but that a plain register on a net called `NIL` leaves its clock out
 abbrev pub line_parts : Circuit → List Part
 line_parts c = parts_from is_on_nil (named c)
 
--- a part that a line can say
+-- a part that a line can say: each input, output and clock; a logic cell that is a cover of at most 256 inputs or a cell of the
+-- library; a gating cell of the library; a register of the library with the init 3, or a plain one whose clock is not called `NIL`
 abbrev pub IsLine : List CellData → Part → Type 0
 IsLine library (Logic cell) = FunctionIsOf library (length cell.inputs) cell.function
 IsLine library (Gate gater) = IsOf library gater.cell

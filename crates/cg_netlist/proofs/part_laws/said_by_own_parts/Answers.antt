@@ -1,6 +1,12 @@
+use Rattle.std.specs.Prelude.{false}
+use Rattle.cg_netlist.specs.said.Wiring.{named}
 use Rattle.cg_netlist.proofs.part_laws.said_by_own_parts.Goals as goal
-use Rattle.cg_netlist.proofs.said.SaidByItsParts.{says_own}
+use Rattle.cg_netlist.proofs.said.SaidByItsParts.{none_left, says_own}
 use Rattle.cg_netlist.proofs.said.TakenFromNetlist.{taken_own}
 
-pub returns : goal.returns
-returns c = λ netlist leaves is outputs_once left. (taken_own netlist leaves is outputs_once left, says_own netlist leaves is outputs_once left)
+pub returns-clause-own : goal.returns-clause-own
+returns-clause-own c = λ netlist is outputs_once.
+    (taken_own netlist (λ r. false) is outputs_once (none_left (named netlist)), says_own netlist (λ r. false) is outputs_once (none_left (named netlist)))
+
+pub returns-clause-left_out : goal.returns-clause-left_out
+returns-clause-left_out c = λ netlist leaves is outputs_once left. (taken_own netlist leaves is outputs_once left, says_own netlist leaves is outputs_once left)

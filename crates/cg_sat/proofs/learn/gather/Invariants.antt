@@ -1,0 +1,13 @@
+use Rattle.std.proofs.Common.{◌≡◌, ◌≤◌, Bool, false, take, length}
+use Rattle.cg_sat.specs.inner.Trail.{lits_of}
+use Rattle.cg_sat.specs.inner.Learn.{Derives, Gathered}
+use Rattle.cg_sat.proofs.learn.gather.Given as goal
+
+abbrev pub invariant-loop-at : goal.invariant-loop-at
+invariant-loop-at l = record {
+  derives : Derives l.clauses (lits_of (take l.at l.trail)) l.work.marks.items l.work.kept.items l.work.hints.items;
+  long : length l.work.marks.items ≡ length l.fn.work.marks.items;
+  low : l.at ≤ l.cut;
+  none : l.settled ≡ false → l.work.kept.items ≡ l.fn.work.kept.items;
+  gathered : Gathered l.trail l.from l.cut l.fn.work.kept.items l.work.kept.items;
+}

@@ -1,0 +1,5 @@
+use Rattle.cg_sat.specs.inner.Learn.{AreClear}
+use Rattle.cg_sat.proofs.learn.is_clear.Given as goal
+
+abbrev pub invariant-loop-at : goal.invariant-loop-at
+invariant-loop-at l = AreClear l.marks l.trail l.at l.to

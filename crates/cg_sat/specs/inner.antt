@@ -1,0 +1,9 @@
+pub mod Store
+pub mod Arena
+pub mod Trail
+pub mod Derive
+pub mod Worth
+pub mod Learn
+pub mod Scan
+pub mod Search
+pub mod End

@@ -1,0 +1,85 @@
+//! Learnt clauses that are of no more use are deleted.
+
+ghost use Rattle.std.specs.Prelude.{◌≡◌, ◌<◌, ℕ, true, false, Some, length, slice_index_or, OnOk, IfOk};
+ghost use Rattle.std.specs.List.{slice_get};
+ghost use Rattle.cg_sat.specs.declared.trail.Entry.{Entry};
+ghost use Rattle.cg_sat.specs.inner.Search.{IsSearch, HasPrefix, MarksReasons};
+
+use crate::draft::LogDraft;
+use crate::guide::Guide;
+use crate::trail::Entry;
+use cg_formula::Formula;
+use std::alloc::{AllocError, Global};
+
+// Marks the places of the clauses that are reasons.
+fn reasons(alloc: Global, trail: &[Entry], places: usize) -> Result<Vec<bool>, AllocError>
+    ensures long { IfOk result (λ used. length used.items ≡ places) }
+    ensures marked { IfOk result (λ used. MarksReasons trail.now used.items) }
+{
+    let mut used = vec![in alloc; false; places]?;
+    for entry in trail {
+        if let Some(reason) = entry.reason {
+            if reason < used.len() {
+                used[reason] = true;
+            }
+        }
+    }
+    Ok(used)
+}
+
+// Deletes the clause at a place, but none of the formula's and no reason.
+fn delete_learnt(
+    formula: &Formula,
+    draft: &mut LogDraft<'_>,
+    trail: &[Entry],
+    used: &[bool],
+    place: usize,
+    count: usize,
+) -> Result<(), AllocError>
+    requires marked { MarksReasons trail.now used.now }
+    requires search { IsSearch count draft.old.clauses trail.now }
+    requires prefix { HasPrefix formula.now draft.old.clauses }
+    ensures formula { draft.new.formula ≡ draft.old.formula }
+    ensures prefix { OnOk result (HasPrefix formula.now draft.new.clauses) }
+    ensures search { OnOk result (IsSearch count draft.new.clauses trail.now) }
+{
+    let _ = trail;
+    let _ = count;
+    let first = formula.clauses.len();
+    if place < first {
+        return Ok(());
+    }
+    if place >= used.len() {
+        return Ok(());
+    }
+    if used[place] {
+        return Ok(());
+    }
+    draft.delete(place)?;
+    Ok(())
+}
+
+/// Deletes half of the learnt clauses, but those that are reasons.
+pub fn forget(
+    alloc: Global,
+    formula: &Formula,
+    draft: &mut LogDraft<'_>,
+    guide: &Guide,
+    trail: &[Entry],
+    count: usize,
+) -> Result<(), AllocError>
+    requires search { IsSearch count draft.old.clauses trail.now }
+    requires prefix { HasPrefix formula.now draft.old.clauses }
+    ensures formula { draft.new.formula ≡ draft.old.formula }
+    ensures prefix { OnOk result (HasPrefix formula.now draft.new.clauses) }
+    ensures search { OnOk result (IsSearch count draft.new.clauses trail.now) }
+{
+    let used = reasons(alloc, trail, draft.clauses().len())?;
+    let found = guide
+        .merits
+        .lower_half(draft.clauses(), formula.clauses.len())?;
+    'found: for (_, place) in found.as_slice() {
+        delete_learnt(formula, draft, trail, used.as_slice(), *place, count)?;
+    }
+    Ok(())
+}

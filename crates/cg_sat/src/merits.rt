@@ -1,0 +1,100 @@
+//! Which learnt clauses are of use.
+//!
+//! Nothing of an answer rests on it: a clause may be deleted at any time.
+
+use crate::clauses::Clauses;
+use std::alloc::{AllocError, Global};
+
+// What a use of a clause adds to its merit, at first and at most.
+const FIRST: u64 = 1 << 10;
+
+const MOST: u64 = 1 << 40;
+
+// How many conflicts there are until clauses are deleted the first time, and how many more each time.
+const PERIOD: u64 = 2000;
+
+const LONGER: u64 = 300;
+
+/// The merits of clauses: each use adds to one, and later uses add more.
+#[derive(Drop)]
+pub struct Merits {
+    alloc: Global,
+    merits: Vec<u64>,
+    step: u64,
+    // How many conflicts are left until clauses are deleted, and how many there are between two deletions.
+    left: u64,
+    period: u64,
+}
+
+impl Merits {
+    /// No clause.
+    pub fn new(alloc: Global) -> Self {
+        Merits {
+            alloc,
+            merits: Vec::new(alloc),
+            step: FIRST,
+            left: PERIOD,
+            period: PERIOD,
+        }
+    }
+
+    /// No clause any more.
+    pub fn reset(&mut self) {
+        self.merits.clear();
+        self.step = FIRST;
+        self.left = PERIOD;
+        self.period = PERIOD;
+    }
+
+    /// One more clause.
+    pub fn push(&mut self) -> Result<(), AllocError> {
+        self.merits.push(self.step)?;
+        Ok(())
+    }
+
+    /// The clause at a place took part in a conflict.
+    pub fn bump(&mut self, place: usize) {
+        if place < self.merits.len() {
+            self.merits[place] = self.merits[place].saturating_add(self.step);
+        }
+    }
+
+    /// A conflict is over. Later uses add more.
+    pub fn decay(&mut self) {
+        self.left = self.left.saturating_sub(1);
+        self.step = self.step.saturating_add(self.step / 1000);
+        if self.step > MOST {
+            self.step = FIRST;
+            for merit in &mut self.merits {
+                *merit /= MOST / FIRST;
+            }
+        }
+    }
+
+    /// Whether it is time to delete clauses. If it is, the time until the next deletion begins.
+    pub fn is_due(&mut self) -> bool {
+        if self.left > 0 {
+            return false;
+        }
+        self.period = self.period.saturating_add(LONGER);
+        self.left = self.period;
+        true
+    }
+
+    /// The half of the clauses from a place on that has the lower merits. Clauses of two literals are not among them.
+    pub fn lower_half(
+        &self,
+        clauses: &Clauses,
+        from: usize,
+    ) -> Result<Vec<(u64, usize)>, AllocError> {
+        let mut found = Vec::new(self.alloc);
+        for (place, merit) in self.merits.iter().enumerate() {
+            if place >= from && clauses.get(place).is_some_and(|lits| lits.len() > 2) {
+                found.push((*merit, place))?;
+            }
+        }
+        found.sort()?;
+        found.truncate(found.len() / 2);
+        Ok(found)
+    }
+}

@@ -69,17 +69,22 @@ node_bits model c p rest h pair =
     let nx = inverse_bit model (lit_of p.0) ∙ ap not x in
     let ny = inverse_bit model (lit_of p.1) ∙ ap not y in
     let W = false ∷ model in
-    ap (λ b. (b || (lit_bit model (lit_of p.0) || false)) && ((b || (lit_bit model (lit_of p.1) || false)) && ((lit_bit model (node_lit c) || (lit_bit model (inverse (lit_of p.0)) || (lit_bit model (inverse (lit_of p.1)) || false))) && rest))) nm
+    ap
+    (λ b. (b || (lit_bit model (lit_of p.0) || false)) && ((b || (lit_bit model (lit_of p.1) || false)) && ((lit_bit model (node_lit c) || (lit_bit model (inverse (lit_of p.0)) || (lit_bit model (inverse (lit_of p.1)) || false))) && rest)))
+    nm
     ∙ (ap (λ b. (not (slice_index_or W c false) || (b || false)) && ((not (slice_index_or W c false) || (lit_bit model (lit_of p.1) || false)) && ((lit_bit model (node_lit c) || (lit_bit model (inverse (lit_of p.0)) || (lit_bit model (inverse (lit_of p.1)) || false))) && rest))) x
     ∙ (ap (λ b. (not (slice_index_or W c false) || (aig.lit_bit W p.0 || false)) && ((not (slice_index_or W c false) || (b || false)) && ((lit_bit model (node_lit c) || (lit_bit model (inverse (lit_of p.0)) || (lit_bit model (inverse (lit_of p.1)) || false))) && rest))) y
     ∙ (ap (λ b. (not (slice_index_or W c false) || (aig.lit_bit W p.0 || false)) && ((not (slice_index_or W c false) || (aig.lit_bit W p.1 || false)) && ((b || (lit_bit model (inverse (lit_of p.0)) || (lit_bit model (inverse (lit_of p.1)) || false))) && rest))) m
     ∙ (ap (λ b. (not (slice_index_or W c false) || (aig.lit_bit W p.0 || false)) && ((not (slice_index_or W c false) || (aig.lit_bit W p.1 || false)) && ((slice_index_or W c false || (b || (lit_bit model (inverse (lit_of p.1)) || false))) && rest))) nx
-    ∙ ap (λ b. (not (slice_index_or W c false) || (aig.lit_bit W p.0 || false)) && ((not (slice_index_or W c false) || (aig.lit_bit W p.1 || false)) && ((slice_index_or W c false || (not (aig.lit_bit W p.0) || (b || false))) && rest))) ny))))
+    ∙ ap
+    (λ b. (not (slice_index_or W c false) || (aig.lit_bit W p.0 || false)) && ((not (slice_index_or W c false) || (aig.lit_bit W p.1 || false)) && ((slice_index_or W c false || (not (aig.lit_bit W p.0) || (b || false))) && rest)))
+    ny))))
 
 -- The values of and-nodes, from this one on, are the ands of their operands.
 abbrev pub AreAnds : List Bool → ℕ → List (ℕ × ℕ) → Type 0
 AreAnds values c [] = Unit {0}
-AreAnds values c (p ∷ pairs) = (slice_index_or values c false ≡ (aig.lit_bit values p.0 && aig.lit_bit values p.1)) × AreAnds values (c + 1) pairs
+AreAnds values c (p ∷ pairs) =
+    (slice_index_or values c false ≡ (aig.lit_bit values p.0 && aig.lit_bit values p.1)) × AreAnds values (c + 1) pairs
 
 pub record ClausesMean (model : List Bool) (c : ℕ) (pairs : List (ℕ × ℕ)) (rest : Bool) : Type 0 where
   pub ands : AreAnds (false ∷ model) c pairs
@@ -93,7 +98,8 @@ clauses_mean model c (p ∷ pairs) rest h s t =
     let later = list_all (clause_bit model) (clauses_from (c + 1) pairs ++ rest) in
     let W = false ∷ model in
     let pair = pair_is c p (and_left (is_pair c p) _ s) in
-    let first = gate_means (slice_index_or W c false) (aig.lit_bit W p.0) (aig.lit_bit W p.1) later (sym (node_bits model c p later h pair) ∙ t) in
+    let first =
+    gate_means (slice_index_or W c false) (aig.lit_bit W p.0) (aig.lit_bit W p.1) later (sym (node_bits model c p later h pair) ∙ t) in
     let more = clauses_mean model (c + 1) pairs rest (omega arith) (and_right (is_pair c p) _ s) first.later in
     record { ands = (first.is, more.ands); later = more.later }
 
@@ -119,13 +125,15 @@ values_are values (p ∷ pairs) s =
     let e = length-append values (v ∷ []) in
     let longer : length (values ++ v ∷ []) ≡ length values + 1 = omega arith in
     let at : length values + 0 ≡ length values = omega arith in (
-      subst (λ i. slice_index_or whole i false ≡ (aig.lit_bit whole p.0 && aig.lit_bit whole p.1)) at (node_is values (p ∷ pairs) 0 p s refl),
+      subst (λ i. slice_index_or whole i false ≡ (aig.lit_bit whole p.0 && aig.lit_bit whole p.1)) at
+          (node_is values (p ∷ pairs) 0 p s refl),
       subst (λ n. AreAnds whole n pairs) longer
           (values_are (values ++ v ∷ []) pairs (subst (λ n. IsTrue (are_pairs n pairs)) (sym longer) (and_right (is_pair (length values) p) _ s))),
     )
 
 -- and no others are, where the first ones agree
-pub values_unique : (W values : List Bool) (pairs : List (ℕ × ℕ)) → IsTrue (are_pairs (length values) pairs) → AreAnds W (length values) pairs →
+pub values_unique : (W values : List Bool) (pairs : List (ℕ × ℕ)) → IsTrue (are_pairs (length values) pairs)
+    → AreAnds W (length values) pairs →
     take (length values) W ≡ values → length W ≡ length values + length pairs → values_from values pairs ≡ W
 values_unique W values [] s a e n = sym e ∙ take_all (length values) W (omega arith)
 values_unique W values (p ∷ pairs) s a e n =
@@ -134,7 +142,8 @@ values_unique W values (p ∷ pairs) s a e n =
     let f = length-append values (v ∷ []) in
     let longer : length (values ++ v ∷ []) ≡ length values + 1 = omega arith in
     let left : aig.lit_bit W p.0 ≡ aig.lit_bit values p.0 =
-    sym (bit_of_first (length values) W p.0 (let o = pair.ordered in let i = pair.earlier in omega arith)) ∙ ap (λ l. aig.lit_bit l p.0) e in
+    sym (bit_of_first (length values) W p.0 (let o = pair.ordered in let i = pair.earlier in omega arith))
+    ∙ ap (λ l. aig.lit_bit l p.0) e in
     let right : aig.lit_bit W p.1 ≡ aig.lit_bit values p.1 =
     sym (bit_of_first (length values) W p.1 pair.earlier) ∙ ap (λ l. aig.lit_bit l p.1) e in
     let value : slice_index_or W (length values) false ≡ v =

@@ -33,7 +33,8 @@ goal_means : (model : List Bool) (g : ℕ) → list_all (clause_bit model) (goal
 goal_means model zero h = absurd cc
 goal_means model (suc zero) h = refl
 goal_means model (suc (suc g)) h =
-    sym (lit_same model (suc (suc g)) (omega arith)) ∙ (sym (both_false (lit_bit model (lit_of (suc (suc g))))) ∙ (sym (ap (list_all (clause_bit model)) (goal_alone g)) ∙ h))
+    sym (lit_same model (suc (suc g)) (omega arith))
+    ∙ (sym (both_false (lit_bit model (lit_of (suc (suc g))))) ∙ (sym (ap (list_all (clause_bit model)) (goal_alone g)) ∙ h))
 
 goal_holds : (model : List Bool) (g : ℕ) → aig.lit_bit (false ∷ model) g ≡ true → list_all (clause_bit model) (goal_clauses g) ≡ true
 goal_holds model zero h = h
@@ -61,14 +62,16 @@ one_from_model s g model valid h =
     let start = false ∷ leaf_bits s.number bits in
     let count : length start ≡ 1 + s.number = let e = length-leaf_bits s.number bits in omega arith in
     let mean = clauses_mean model (1 + s.number) s.pairs (goal_clauses g) (omega arith) sound h.each_clause in
-    let first : take (length start) (false ∷ model) ≡ start = ap (λ k. take k (false ∷ model)) count ∙ (take_first s.number model ∙ ap (λ l. false ∷ l) (sym leaves)) in
+    let first : take (length start) (false ∷ model) ≡ start =
+    ap (λ k. take k (false ∷ model)) count ∙ (take_first s.number model ∙ ap (λ l. false ∷ l) (sym leaves)) in
     let same : node_values s bits ≡ false ∷ model =
     values_unique (false ∷ model) start s.pairs (subst (λ k. IsTrue (are_pairs k s.pairs)) (sym count) sound)
     (subst (λ k. AreAnds (false ∷ model) k s.pairs) (sym count) mean.ands) first (omega arith) in
     record { each_leaf = n; one = ap (λ l. aig.lit_bit l g) same ∙ goal_means model g mean.later }
 
 -- the values of nodes are a model
-pub model_from_one : (s : Seen) (g : ℕ) (bits : List Bool) → IsTrue (aig_ops.is_valid s g) → IsOneAt s g bits → IsSatisfiable (formula_of s g)
+pub model_from_one : (s : Seen) (g : ℕ) (bits : List Bool) → IsTrue (aig_ops.is_valid s g) → IsOneAt s g bits
+    → IsSatisfiable (formula_of s g)
 model_from_one s g bits valid h =
     let sound = (lit_is s g valid).sound in
     let start = false ∷ leaf_bits s.number bits in
@@ -77,7 +80,8 @@ model_from_one s g bits valid h =
     let count : length start ≡ 1 + s.number = let e = length-leaf_bits s.number bits in omega arith in
     let long = length-node_values s bits in
     let whole : false ∷ model ≡ values = headed values (omega arith) (bit_of_zero s bits) in
-    let ands = subst (λ k. AreAnds values k s.pairs) count (values_are start s.pairs (subst (λ k. IsTrue (are_pairs k s.pairs)) (sym count) sound)) in (
+    let ands =
+    subst (λ k. AreAnds values k s.pairs) count (values_are start s.pairs (subst (λ k. IsTrue (are_pairs k s.pairs)) (sym count) sound)) in (
       model,
       record {
         each_variable = let e = length-drop 1 values in omega arith;
@@ -91,7 +95,8 @@ model_from_one s g bits valid h =
 lit_within : (n a : ℕ) → 1 < a → a < 2 * (n + 1) → bounds.IsLit n (lit_of a)
 lit_within n a h k = record { from_one = omega arith; within = omega arith }
 
-both_within : (n : ℕ) (xs ys : List Clause) → AllByRecursion (IsClause n) xs → AllByRecursion (IsClause n) ys → AllByRecursion (IsClause n) (xs ++ ys)
+both_within : (n : ℕ) (xs ys : List Clause) → AllByRecursion (IsClause n) xs → AllByRecursion (IsClause n) ys
+    → AllByRecursion (IsClause n) (xs ++ ys)
 both_within n [] ys h k = k
 both_within n (x ∷ xs) ys h k = (h.0, both_within n xs ys h.1 k)
 

@@ -26,7 +26,8 @@ use Rattle.cg_formula.specs.DimacsText.{lit_word, clause_words, header_words, Di
 use Rattle.cg_formula.proofs.Connectives.{and_true}
 use Rattle.cg_formula.proofs.TokenSpelling.{literal_spelled, end_spelled, clause_token-lit, clause_token-zero}
 
-bind_ok : {A B : Type 0} (r : Result A DimacsFault) (f : A → Result B DimacsFault) (y : B) → ◌>>=◌ {B = B} r f ≡ Ok y → (x : A) × (r ≡ Ok x) × (f x ≡ Ok y)
+bind_ok : {A B : Type 0} (r : Result A DimacsFault) (f : A → Result B DimacsFault) (y : B) → ◌>>=◌ {B = B} r f ≡ Ok y
+    → (x : A) × (r ≡ Ok x) × (f x ≡ Ok y)
 bind_ok (Ok x) f y e = (x, refl, e)
 bind_ok (Err d) f y e = absurd (cc)
 
@@ -52,7 +53,8 @@ counts_found (Small n) (Small m) header e = pick (nat_le n 16777216) refl where
       let made : Ok (record { variables = n; clauses = m }) ≡ Ok header = rw f at e in
       let same : (let h : Header = record { variables = n; clauses = m } in h) ≡ header = cc in
       let variables : n ≡ header.variables = ap (λ (h : Header). h.variables) same in
-      record { variables = ap Small variables; clauses = ap (λ (h : Header). Small h.clauses) same; few = omega (arith, variables, leb-true n 16777216 f) }
+      record
+      { variables = ap Small variables; clauses = ap (λ (h : Header). Small h.clauses) same; few = omega (arith, variables, leb-true n 16777216 f) }
   pick false f = let no = rw f at e in absurd (cc)
 counts_found Large Misspelled header e = absurd (cc)
 counts_found Large Large header e = absurd (cc)
@@ -81,7 +83,9 @@ header_spelled (p ∷ cnf ∷ v ∷ c ∷ w ∷ ws) header e = absurd (cc)
 header_again : (formula : Formula) → formula.variables ≤ 16777216 → length formula.clauses < 2 ^ 64
     → header_of (header_words formula.variables (length formula.clauses)) ≡ Ok (record { variables = formula.variables; clauses = length formula.clauses })
 header_again formula few countable =
-    rw (number_of-decimal formula.variables (omega arith), number_of-decimal (length formula.clauses) countable, le-leb formula.variables 16777216 few) refl
+    rw
+    (number_of-decimal formula.variables (omega arith), number_of-decimal (length formula.clauses) countable, le-leb formula.variables 16777216 few)
+    refl
 
 -- a clause
 
@@ -89,7 +93,8 @@ record SpellsClause (variables : ℕ) (ws : List Spot) (lits : List Lit) (after 
   pub words : texts_of ws ≡ map lit_word lits ++ codes "0" ∷ texts_of after
   pub bounds : AllByRecursion (IsLit variables) lits
 
-clause_spelled : (variables end : ℕ) (ws : List Spot) (lits : List Lit) (after : List Spot) → clause_at variables end ws ≡ Ok (lits, after) → SpellsClause variables ws lits after
+clause_spelled : (variables end : ℕ) (ws : List Spot) (lits : List Lit) (after : List Spot) → clause_at variables end ws ≡ Ok (lits, after)
+    → SpellsClause variables ws lits after
 clause_spelled variables end [] lits after e = absurd (cc)
 clause_spelled variables end (w ∷ ws) lits after e = pick (clause_token variables w.text) refl (clause_spelled variables end ws) where
   pick : (token : ClauseToken) → clause_token variables w.text ≡ token
@@ -119,7 +124,8 @@ record ReadsClause (variables end : ℕ) (ws : List Spot) (lits : List Lit) (mor
   pub read : clause_at variables end ws ≡ Ok (lits, after)
   pub rest : texts_of after ≡ more
 
-clause_again : (variables end : ℕ) → variables < 2 ^ 32 → (lits : List Lit) → AllByRecursion (IsLit variables) lits → (ws : List Spot) (more : List (List ℕ))
+clause_again : (variables end : ℕ) → variables < 2 ^ 32 → (lits : List Lit) → AllByRecursion (IsLit variables) lits
+    → (ws : List Spot) (more : List (List ℕ))
     → texts_of ws ≡ map lit_word lits ++ codes "0" ∷ more → ReadsClause variables end ws lits more
 clause_again variables end few [] bounds [] more e = absurd (cc)
 clause_again variables end few [] bounds (w ∷ ws) more e =
@@ -132,7 +138,8 @@ clause_again variables end few (lit ∷ lits) bounds (w ∷ ws) more e =
     let word : w.text ≡ lit_word lit = cc in
     let rest : texts_of ws ≡ map lit_word lits ++ codes "0" ∷ more = cc in
     let later = clause_again variables end few lits bounds.1 ws more rest in
-    let item : clause_token variables w.text ≡ tokens.Literal lit = ap (clause_token variables) word ∙ clause_token-lit variables lit few bounds.0 in
+    let item : clause_token variables w.text ≡ tokens.Literal lit =
+    ap (clause_token variables) word ∙ clause_token-lit variables lit few bounds.0 in
     record { after = later.after; read = rw (item, later.read) refl; rest = later.rest }
 
 -- all clauses
@@ -142,13 +149,15 @@ record SpellsClauses (variables count : ℕ) (ws : List Spot) (clauses : List Cl
   pub counted : length clauses ≡ count
   pub bounds : AllByRecursion (IsClause variables) clauses
 
-clauses_spelled : (variables end count : ℕ) (ws : List Spot) (clauses : List Clause) → clauses_at variables end count ws ≡ Ok clauses → SpellsClauses variables count ws clauses
+clauses_spelled : (variables end count : ℕ) (ws : List Spot) (clauses : List Clause) → clauses_at variables end count ws ≡ Ok clauses
+    → SpellsClauses variables count ws clauses
 clauses_spelled variables end zero [] clauses e =
     let none : [] ≡ clauses = cc in
     rw (← none) (record { words = refl; counted = refl; bounds = tt })
 clauses_spelled variables end zero (w ∷ ws) clauses e = absurd (cc)
 clauses_spelled variables end (suc count) ws clauses e =
-    let read = bind_ok (clause_at variables end ws) (λ c. clauses_at variables end count c.1 >>= λ cs. Ok (record { lits = c.0 } ∷ cs)) clauses e in
+    let read =
+    bind_ok (clause_at variables end ws) (λ c. clauses_at variables end count c.1 >>= λ cs. Ok (record { lits = c.0 } ∷ cs)) clauses e in
     let rest = bind_ok (clauses_at variables end count (read.0).1) (λ cs. Ok (record { lits = (read.0).0 } ∷ cs)) clauses read.2 in
     let later = clauses_spelled variables end count (read.0).1 rest.0 rest.1 in
     let one = clause_spelled variables end ws (read.0).0 (read.0).1 read.1 in
@@ -159,12 +168,15 @@ clauses_spelled variables end (suc count) ws clauses e =
       bounds = (one.bounds, later.bounds);
     })
 
-clauses_again : (variables end : ℕ) → variables < 2 ^ 32 → (clauses : List Clause) → AllByRecursion (IsClause variables) clauses → (ws : List Spot)
+clauses_again : (variables end : ℕ) → variables < 2 ^ 32 → (clauses : List Clause) → AllByRecursion (IsClause variables) clauses
+    → (ws : List Spot)
     → texts_of ws ≡ flat_map clause_words clauses → clauses_at variables end (length clauses) ws ≡ Ok clauses
 clauses_again variables end few [] bounds [] e = refl
 clauses_again variables end few [] bounds (w ∷ ws) e = absurd (cc)
 clauses_again variables end few (c ∷ cs) bounds ws e =
-    let one = clause_again variables end few c.lits bounds.0 ws (flat_map clause_words cs) (e ∙ append_assoc (map lit_word c.lits) (codes "0" ∷ []) (flat_map clause_words cs)) in
+    let one =
+    clause_again variables end few c.lits bounds.0 ws (flat_map clause_words cs)
+    (e ∙ append_assoc (map lit_word c.lits) (codes "0" ∷ []) (flat_map clause_words cs)) in
     let later = clauses_again variables end few cs bounds.1 one.after one.rest in
     rw (one.read, later) refl
 
@@ -175,15 +187,23 @@ read_is_text text formula e = pick (text_lines layout text) refl e where
   pick : (ls : List Line) → text_lines layout text ≡ ls → formula_at (end_line text) ls ≡ Ok formula → DimacsText text formula
   pick [] f g = absurd (cc)
   pick (first ∷ later) f g =
-      let header = bind_ok (header_of first.words) (λ h. clauses_at h.variables (end_line text) h.clauses (spots_of later) >>= λ cs. Ok (record { variables = h.variables; clauses = cs })) formula g in
-      let clauses = bind_ok (clauses_at (header.0).variables (end_line text) (header.0).clauses (spots_of later)) (λ cs. Ok (record { variables = (header.0).variables; clauses = cs })) formula header.2 in
+      let header =
+      bind_ok (header_of first.words)
+      (λ h. clauses_at h.variables (end_line text) h.clauses (spots_of later) >>= λ cs. Ok (record { variables = h.variables; clauses = cs }))
+      formula g in
+      let clauses =
+      bind_ok (clauses_at (header.0).variables (end_line text) (header.0).clauses (spots_of later))
+      (λ cs. Ok (record { variables = (header.0).variables; clauses = cs })) formula header.2 in
       let same : (let f : Formula = record { variables = (header.0).variables; clauses = clauses.0 } in f) ≡ formula = cc in
       let head = header_spelled first.words header.0 header.1 in
       let body = clauses_spelled (header.0).variables (end_line text) (header.0).clauses (spots_of later) clauses.0 clauses.1 in
       subst (DimacsText text) same (record {
         later = later;
         number = first.number;
-        lines = f ∙ ap (λ ws. record { number = first.number; words = ws } ∷ later) (head.words ∙ ap (header_words (header.0).variables) (sym body.counted));
+        lines =
+            f
+            ∙ ap (λ ws. record { number = first.number; words = ws } ∷ later)
+            (head.words ∙ ap (header_words (header.0).variables) (sym body.counted));
         body = body.words;
         bounds = record { few = head.few; clauses = body.bounds };
         countable = omega (arith, body.counted, head.countable);
@@ -192,7 +212,9 @@ read_is_text text formula e = pick (text_lines layout text) refl e where
 pub text_is_read : (text : List ℕ) (formula : Formula) → DimacsText text formula → dimacs text ≡ Ok formula
 text_is_read text formula t =
     ap (formula_at (end_line text)) t.lines
-    ∙ rw (header_again formula t.bounds.few t.countable, clauses_again formula.variables (end_line text) (omega (arith, t.bounds.few)) formula.clauses t.bounds.clauses (spots_of t.later) t.body) refl
+    ∙ rw
+    (header_again formula t.bounds.few t.countable, clauses_again formula.variables (end_line text) (omega (arith, t.bounds.few)) formula.clauses t.bounds.clauses (spots_of t.later) t.body)
+    refl
 
 pub given_is_text : (text : List ℕ) (r : Result Formula DimacsFault) → Gives (λ (f : Formula). f) r (dimacs text) → IfOk r (DimacsText text)
 given_is_text text (Ok formula) e = read_is_text text formula e

@@ -19,7 +19,8 @@ use Rattle.cg_formula.proofs.TokenSpelling.{first_digit}
 pub zero_is_word : IsWord Whitespace (codes "0")
 zero_is_word = record { full = lit< tt; whole = (refl, tt) }
 
-pub words_append : (ws vs : List (List ℕ)) → AllByRecursion (IsWord Whitespace) ws → AllByRecursion (IsWord Whitespace) vs → AllByRecursion (IsWord Whitespace) (ws ++ vs)
+pub words_append : (ws vs : List (List ℕ)) → AllByRecursion (IsWord Whitespace) ws → AllByRecursion (IsWord Whitespace) vs
+    → AllByRecursion (IsWord Whitespace) (ws ++ vs)
 words_append [] vs a b = b
 words_append (w ∷ ws) vs a b = (a.0, words_append ws vs a.1 b)
 
@@ -43,16 +44,20 @@ lit_first greatest few lit bounds = pick lit.inverted refl where
   pick true f = rw f (minus (decimal lit.variable) (decimal_word Whitespace lit.variable small))
   pick false f = rw f (decimal_first lit.variable small)
 
-lits_are_words : (greatest : ℕ) → greatest < 2 ^ 32 → (lits : List Lit) → AllByRecursion (IsLit greatest) lits → AllByRecursion (IsWord Whitespace) (map lit_word lits)
+lits_are_words : (greatest : ℕ) → greatest < 2 ^ 32 → (lits : List Lit) → AllByRecursion (IsLit greatest) lits
+    → AllByRecursion (IsWord Whitespace) (map lit_word lits)
 lits_are_words greatest few [] bounds = tt
 lits_are_words greatest few (lit ∷ lits) bounds = ((lit_first greatest few lit bounds.0).is_word, lits_are_words greatest few lits bounds.1)
 
-pub clause_are_words : (greatest : ℕ) → greatest < 2 ^ 32 → (clause : Clause) → IsClause greatest clause → AllByRecursion (IsWord Whitespace) (clause_words clause)
-clause_are_words greatest few clause bounds = words_append (map lit_word clause.lits) (codes "0" ∷ []) (lits_are_words greatest few clause.lits bounds) (zero_is_word, tt)
+pub clause_are_words : (greatest : ℕ) → greatest < 2 ^ 32 → (clause : Clause) → IsClause greatest clause
+    → AllByRecursion (IsWord Whitespace) (clause_words clause)
+clause_are_words greatest few clause bounds =
+    words_append (map lit_word clause.lits) (codes "0" ∷ []) (lits_are_words greatest few clause.lits bounds) (zero_is_word, tt)
 
 -- a line whose first word begins no comment is read
 pub line_of : (w : List ℕ) (ws : List (List ℕ)) → IsFirst w → AllByRecursion (IsWord Whitespace) ws → IsLine layout (w ∷ ws)
-line_of w ws first later = record { some = omega arith; words = (first.is_word, later); read = not_comment w ws (first.is_word).full first.other }
+line_of w ws first later =
+    record { some = omega arith; words = (first.is_word, later); read = not_comment w ws (first.is_word).full first.other }
 
 -- DIMACS
 
@@ -65,13 +70,15 @@ header_line variables clauses few countable =
 zero_first : IsFirst (codes "0")
 zero_first = record { is_word = zero_is_word; other = λ e. omega (arith, e) }
 
-clause_line : (greatest : ℕ) → greatest < 2 ^ 32 → (lits : List Lit) → AllByRecursion (IsLit greatest) lits → IsLine layout (map lit_word lits ++ codes "0" ∷ [])
+clause_line : (greatest : ℕ) → greatest < 2 ^ 32 → (lits : List Lit) → AllByRecursion (IsLit greatest) lits
+    → IsLine layout (map lit_word lits ++ codes "0" ∷ [])
 clause_line greatest few [] bounds = line_of (codes "0") [] zero_first tt
 clause_line greatest few (lit ∷ lits) bounds =
     line_of (lit_word lit) (map lit_word lits ++ codes "0" ∷ []) (lit_first greatest few lit bounds.0)
     (words_append (map lit_word lits) (codes "0" ∷ []) (lits_are_words greatest few lits bounds.1) (zero_is_word, tt))
 
-clause_lines : (greatest : ℕ) → greatest < 2 ^ 32 → (clauses : List Clause) → AllByRecursion (IsClause greatest) clauses → AllByRecursion (IsLine layout) (map clause_words clauses)
+clause_lines : (greatest : ℕ) → greatest < 2 ^ 32 → (clauses : List Clause) → AllByRecursion (IsClause greatest) clauses
+    → AllByRecursion (IsLine layout) (map clause_words clauses)
 clause_lines greatest few [] bounds = tt
 clause_lines greatest few (c ∷ cs) bounds = (clause_line greatest few c.lits bounds.0, clause_lines greatest few cs bounds.1)
 
@@ -82,7 +89,9 @@ dimacs_written formula bounds countable =
     record {
       later = numbered 2 (map clause_words formula.clauses);
       number = 1;
-      lines = text_lines-text layout (header_words formula.variables (length formula.clauses) ∷ map clause_words formula.clauses) (header, clause_lines formula.variables few formula.clauses bounds.clauses);
+      lines =
+          text_lines-text layout (header_words formula.variables (length formula.clauses) ∷ map clause_words formula.clauses)
+          (header, clause_lines formula.variables few formula.clauses bounds.clauses);
       body = texts_of-numbered clause_words 2 formula.clauses;
       bounds = bounds;
       countable = countable;

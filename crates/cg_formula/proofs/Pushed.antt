@@ -37,4 +37,5 @@ some_words (v ∷ vs) w = omega arith
 pub lines_pushed : {X : Type 0} (f : X → List (List ℕ)) (front now : List ℕ) (xs : List X) (i : ℕ) → length xs ≤ i
     → now ≡ front ++ flat_map (λ x. line_text (f x)) (take i xs) → now ≡ front ++ text_of (map f xs)
 lines_pushed f front now xs i done so_far =
-    so_far ∙ ap (λ xs. front ++ flat_map (λ x. line_text (f x)) xs) (take_all i xs done) ∙ ap (λ text. front ++ text) (sym (text_of-map f xs))
+    so_far ∙ ap (λ xs. front ++ flat_map (λ x. line_text (f x)) xs) (take_all i xs done)
+    ∙ ap (λ text. front ++ text) (sym (text_of-map f xs))

@@ -48,7 +48,8 @@ literal_of_found (Small n) greatest inverted lit e = pick (nat_lt 0 n && nat_le 
 literal_of_found Large greatest inverted lit e = absurd (cc)
 literal_of_found Misspelled greatest inverted lit e = absurd (cc)
 
-plain_found : (number : Number) (greatest : ℕ) (lit : Lit) → plain_token greatest number ≡ tokens.Literal lit → literal_of number greatest false ≡ tokens.Literal lit
+plain_found : (number : Number) (greatest : ℕ) (lit : Lit) → plain_token greatest number ≡ tokens.Literal lit
+    → literal_of number greatest false ≡ tokens.Literal lit
 plain_found (Small n) greatest lit e = pick (n == 0) refl where
   pick : (b : Bool) → (n == 0) ≡ b → literal_of (Small n) greatest false ≡ tokens.Literal lit
   pick true f = let no : tokens.End ≡ tokens.Literal lit = rw f at e in absurd (cc)
@@ -56,7 +57,8 @@ plain_found (Small n) greatest lit e = pick (n == 0) refl where
 plain_found Large greatest lit e = absurd (cc)
 plain_found Misspelled greatest lit e = absurd (cc)
 
-pub literal_spelled : (greatest : ℕ) (word : List ℕ) (lit : Lit) → clause_token greatest word ≡ tokens.Literal lit → SpellsLit greatest word lit
+pub literal_spelled : (greatest : ℕ) (word : List ℕ) (lit : Lit) → clause_token greatest word ≡ tokens.Literal lit
+    → SpellsLit greatest word lit
 literal_spelled greatest [] lit e = absurd (cc)
 literal_spelled greatest (x ∷ xs) lit e = pick (x == 45) refl where
   pick : (b : Bool) → (x == 45) ≡ b → SpellsLit greatest (x ∷ xs) lit
@@ -102,7 +104,8 @@ end_spelled greatest (x ∷ xs) e = pick (x == 45) refl where
 
 -- read again
 
-clause_token-plain : (greatest : ℕ) (word : List ℕ) → 0 < length word → (get_or word 0 0 ≡ 45 → ⊥) → clause_token greatest word ≡ plain_token greatest (number_of word)
+clause_token-plain : (greatest : ℕ) (word : List ℕ) → 0 < length word → (get_or word 0 0 ≡ 45 → ⊥)
+    → clause_token greatest word ≡ plain_token greatest (number_of word)
 clause_token-plain greatest [] full other = absurd (omega arith)
 clause_token-plain greatest (x ∷ xs) full other = rw (ne_eqb x 45 other) refl
 
@@ -118,18 +121,21 @@ digit_apart c (inr over) b low high e = omega arith
 -- a number's first byte is a digit
 pub first_digit : (c : ℕ) → (c < 48) ⊎ (57 < c) → (n : ℕ) → n < 2 ^ 64 → get_or (decimal n) 0 0 ≡ c → ⊥
 first_digit c apart n small =
-    first_byte (λ b. b ≡ c → ⊥) (decimal n) (decimal_bytes (λ b. b ≡ c → ⊥) (digit_apart c apart) n small) (decimal_word Whitespace n small).full
+    first_byte (λ b. b ≡ c → ⊥) (decimal n) (decimal_bytes (λ b. b ≡ c → ⊥) (digit_apart c apart) n small)
+    (decimal_word Whitespace n small).full
 
 literal_made : (greatest : ℕ) (lit : Lit) → IsLit greatest lit → literal_of (Small lit.variable) greatest lit.inverted ≡ tokens.Literal lit
 literal_made greatest lit bounds =
     let positive : 0 < lit.variable = omega (arith, bounds.from_one) in
-    let tested : (nat_lt 0 lit.variable && nat_le lit.variable greatest) ≡ true = rw (lt-ltb 0 lit.variable positive, le-leb lit.variable greatest bounds.within) refl in
+    let tested : (nat_lt 0 lit.variable && nat_le lit.variable greatest) ≡ true =
+    rw (lt-ltb 0 lit.variable positive, le-leb lit.variable greatest bounds.within) refl in
     rw tested refl
 
 plain_made : (greatest n : ℕ) → 0 < n → plain_token greatest (Small n) ≡ literal_of (Small n) greatest false
 plain_made greatest n positive = rw (ne_eqb n 0 (λ e. omega (arith, e, positive))) refl
 
-pub clause_token-lit : (greatest : ℕ) (lit : Lit) → greatest < 2 ^ 32 → IsLit greatest lit → clause_token greatest (lit_word lit) ≡ tokens.Literal lit
+pub clause_token-lit : (greatest : ℕ) (lit : Lit) → greatest < 2 ^ 32 → IsLit greatest lit
+    → clause_token greatest (lit_word lit) ≡ tokens.Literal lit
 clause_token-lit greatest lit few bounds = pick lit.inverted refl where
   small : lit.variable < 2 ^ 64
   small = omega (arith, few, bounds.within)
@@ -144,7 +150,8 @@ clause_token-lit greatest lit few bounds = pick lit.inverted refl where
   pick false f =
       let word : lit_word lit ≡ decimal lit.variable = rw f refl in
       ap (clause_token greatest) word
-      ∙ clause_token-plain greatest (decimal lit.variable) (decimal_word Whitespace lit.variable small).full (first_digit 45 (inl (lit< tt)) lit.variable small)
+      ∙ clause_token-plain greatest (decimal lit.variable) (decimal_word Whitespace lit.variable small).full
+      (first_digit 45 (inl (lit< tt)) lit.variable small)
       ∙ ap (plain_token greatest) (number_of-decimal lit.variable small)
       ∙ plain_made greatest lit.variable (omega (arith, bounds.from_one))
       ∙ ap (literal_of (Small lit.variable) greatest) (sym f)

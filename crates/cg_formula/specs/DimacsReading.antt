@@ -55,7 +55,8 @@ header_of [] = Err BadHeader
 header_of (p ∷ []) = Err BadHeader
 header_of (p ∷ cnf ∷ []) = Err BadHeader
 header_of (p ∷ cnf ∷ v ∷ []) = Err BadHeader
-header_of (p ∷ cnf ∷ v ∷ c ∷ []) = if bytes_eq p (codes "p") && bytes_eq cnf (codes "cnf") then counts_of (number_of v) (number_of c) else Err BadHeader
+header_of (p ∷ cnf ∷ v ∷ c ∷ []) =
+    if bytes_eq p (codes "p") && bytes_eq cnf (codes "cnf") then counts_of (number_of v) (number_of c) else Err BadHeader
 header_of (p ∷ cnf ∷ v ∷ c ∷ w ∷ ws) = Err BadHeader
 
 -- a word of a clause, before the rest of the clause and the words behind it

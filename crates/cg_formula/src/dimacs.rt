@@ -68,14 +68,14 @@ impl<T: Drop> From<AllocFailed<T>> for DimacsFault {
     }
 }
 
-// The numbers of a header.
+/// The numbers of a header.
 #[derive(Clone, Copy)]
 struct Header {
     variables: u32,
     clauses: u64,
 }
 
-// The numbers of the first line.
+/// The numbers of the first line.
 fn read_header(line: Words<'_>) -> Result<Header, DimacsFault>
     ensures { Gives (λ header. header) result (header_of line.entry) }
 {
@@ -90,7 +90,7 @@ fn read_header(line: Words<'_>) -> Result<Header, DimacsFault>
     read_counts(read_number(variables), read_number(clauses))
 }
 
-// The numbers of variables and clauses.
+/// The numbers of variables and clauses.
 fn read_counts(variables: Number, clauses: Number) -> Result<Header, DimacsFault>
     ensures { Gives (λ header. header) result (counts_of variables clauses) }
 {
@@ -107,7 +107,7 @@ fn read_counts(variables: Number, clauses: Number) -> Result<Header, DimacsFault
     }
 }
 
-// The literals up to the zero that ends the clause.
+/// The literals up to the zero that ends the clause.
 fn read_clause(
     alloc: Global,
     tokens: &mut Tokens<'_>,
@@ -133,7 +133,7 @@ fn read_clause(
     })
 }
 
-// The clauses that the header promises, and nothing behind them.
+/// The clauses that the header promises, and nothing behind them.
 fn read_clauses(
     alloc: Global,
     tokens: &mut Tokens<'_>,
@@ -151,7 +151,7 @@ fn read_clauses(
     }
 }
 
-// The formula, or the first fault.
+/// The formula, or the first fault.
 fn read_text(alloc: Global, text: &[u8]) -> Result<Formula, DimacsFault>
     ensures { Gives (λ formula. formula) result (dimacs text.now) }
 {
@@ -200,7 +200,7 @@ pub fn write_dimacs(alloc: Global, formula: &Formula) -> Result<Vec<u8>, AllocEr
     Ok(text)
 }
 
-// Puts the header line behind the text.
+/// Puts the header line behind the text.
 fn push_header(text: &mut Vec<u8>, variables: u32, clauses: usize) -> Result<(), AllocError>
     ensures { OnOk result (text.new.items ≡ text.old.items ++ line_text (header_words variables clauses)) }
 {

@@ -42,7 +42,8 @@ DeservesFrom state steps Accepted = AcceptedFrom state steps
 DeservesFrom state steps (Rejected line why) = RefusedFrom state steps line why ⊎ WithoutEmptyFrom state steps line why
 
 -- a step that is taken and leads on puts itself before
-onwards : (state : State) (step : Step) (later : List Step) (v : Verdict) → fault_of state step.body step.id ≡ None → adds_empty step.body ≡ false
+onwards : (state : State) (step : Step) (later : List Step) (v : Verdict) → fault_of state step.body step.id ≡ None
+    → adds_empty step.body ≡ false
     → DeservesFrom (state_after state step.body step.id) later v → DeservesFrom state (step ∷ later) v
 onwards state step later Accepted fine full d = record {
   before = step ∷ d.before;
@@ -64,7 +65,8 @@ onwards state step later (Rejected line why) fine full (inl d) = inl (record {
   refused = d.refused;
   on_line = d.on_line;
 })
-onwards state step later (Rejected line why) fine full (inr d) = inr (record { end = d.end; reached = (fine, full, d.reached); nowhere = d.nowhere; cause = d.cause })
+onwards state step later (Rejected line why) fine full (inr d) =
+    inr (record { end = d.end; reached = (fine, full, d.reached); nowhere = d.nowhere; cause = d.cause })
 
 deserved_from : (state : State) (steps : List Step) → DeservesFrom state steps (verdict_from state steps)
 deserved_from state [] = inr (record { end = state; reached = refl; nowhere = refl; cause = refl })
@@ -73,15 +75,21 @@ deserved_from state (step ∷ later) =
       pick : DeservesFrom (state_after state step.body step.id) later (verdict_from (state_after state step.body step.id) later)
           → (fault : Option Why) → fault_of state step.body step.id ≡ fault → (empty : Bool) → adds_empty step.body ≡ empty
           → DeservesFrom state (step ∷ later) (step_verdict fault empty step.line (verdict_from (state_after state step.body step.id) later))
-      pick rest (Some why) f empty g = inl (record { before = []; step = step; behind = later; end = state; whole = refl; reached = refl; refused = f; on_line = refl })
-      pick rest None f true g = record { before = []; last = step; behind = later; end = state; whole = refl; reached = refl; taken = f; empty = g }
+      pick rest (Some why) f empty g =
+          inl (record { before = []; step = step; behind = later; end = state; whole = refl; reached = refl; refused = f; on_line = refl })
+      pick rest None f true g =
+          record { before = []; last = step; behind = later; end = state; whole = refl; reached = refl; taken = f; empty = g }
       pick rest None f false g = onwards state step later (verdict_from (state_after state step.body step.id) later) f g rest
 
 pub deserved : (formula : Formula) (log : Log) → Deserves formula log (verdict formula log)
 deserved formula log = shown (verdict formula log) (deserved_from (first_state formula) log.steps) where
   shown : (v : Verdict) → DeservesFrom (first_state formula) log.steps v → Deserves formula log v
-  shown Accepted d = record { before = d.before; last = d.last; behind = d.behind; state = d.end; whole = d.whole; reached = d.reached; taken = d.taken; empty = d.empty }
-  shown (Rejected line why) (inl d) = inl (record { before = d.before; step = d.step; behind = d.behind; state = d.end; whole = d.whole; reached = d.reached; refused = d.refused; on_line = d.on_line })
+  shown Accepted d =
+      record
+      { before = d.before; last = d.last; behind = d.behind; state = d.end; whole = d.whole; reached = d.reached; taken = d.taken; empty = d.empty }
+  shown (Rejected line why) (inl d) =
+      inl
+      (record { before = d.before; step = d.step; behind = d.behind; state = d.end; whole = d.whole; reached = d.reached; refused = d.refused; on_line = d.on_line })
   shown (Rejected line why) (inr d) = inr (record { state = d.end; reached = d.reached; nowhere = d.nowhere; cause = d.cause })
 
 -- steps that lead on change nothing of the verdict
@@ -96,8 +104,11 @@ nothing_behind (step ∷ later) = ap (λ ss. step ∷ ss) (nothing_behind later)
 
 pub deserves_only : (formula : Formula) (log : Log) (v : Verdict) → Deserves formula log v → verdict formula log ≡ v
 deserves_only formula log Accepted d =
-    ap (verdict_from (first_state formula)) d.whole ∙ led (first_state formula) d.state d.before (d.last ∷ d.behind) d.reached ∙ rw (d.taken, d.empty) refl
+    ap (verdict_from (first_state formula)) d.whole ∙ led (first_state formula) d.state d.before (d.last ∷ d.behind) d.reached
+    ∙ rw (d.taken, d.empty) refl
 deserves_only formula log (Rejected line why) (inl d) =
-    ap (verdict_from (first_state formula)) d.whole ∙ led (first_state formula) d.state d.before (d.step ∷ d.behind) d.reached ∙ rw (d.refused, d.on_line) refl
+    ap (verdict_from (first_state formula)) d.whole ∙ led (first_state formula) d.state d.before (d.step ∷ d.behind) d.reached
+    ∙ rw (d.refused, d.on_line) refl
 deserves_only formula log (Rejected line why) (inr d) =
-    ap (verdict_from (first_state formula)) (sym (nothing_behind log.steps)) ∙ led (first_state formula) d.state log.steps [] d.reached ∙ rw (d.nowhere, d.cause) refl
+    ap (verdict_from (first_state formula)) (sym (nothing_behind log.steps)) ∙ led (first_state formula) d.state log.steps [] d.reached
+    ∙ rw (d.nowhere, d.cause) refl

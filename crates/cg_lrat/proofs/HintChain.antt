@@ -11,7 +11,8 @@ abbrev pub chain_fault : Live → List Lit → List ℕ → ℕ → Option Why
 chain_fault live trues [] last = last_fault live trues last
 chain_fault live trues (hint ∷ later) last = hint_then live trues hint (λ now. chain_fault live now later last)
 
-pub chain_fault-hints : (live : Live) (trues : List Lit) (others : List ℕ) (last : ℕ) → hints_fault live trues (others ++ last ∷ []) ≡ chain_fault live trues others last
+pub chain_fault-hints : (live : Live) (trues : List Lit) (others : List ℕ) (last : ℕ)
+    → hints_fault live trues (others ++ last ∷ []) ≡ chain_fault live trues others last
 chain_fault-hints live trues [] last = refl
 chain_fault-hints live trues (hint ∷ []) last = refl
 chain_fault-hints live trues (hint ∷ next ∷ later) last =
@@ -23,7 +24,8 @@ pub fault_at_last : (live : Live) (start now : List Lit) (hints others : List �
     → found ≡ last_fault live now last → found ≡ hints_fault live start hints
 fault_at_last live start now hints others i last found split done so_far e =
     let none : drop i others ≡ [] = drop_of_length-le others done in
-    e ∙ ap (λ left. chain_fault live now left last) (sym none) ∙ so_far ∙ sym (chain_fault-hints live start others last) ∙ ap (hints_fault live start) (sym split)
+    e ∙ ap (λ left. chain_fault live now left last) (sym none) ∙ so_far ∙ sym (chain_fault-hints live start others last)
+    ∙ ap (hints_fault live start) (sym split)
 
 -- a hint before it is refused
 pub fault_before_last : (live : Live) (start now new : List Lit) (hints others : List ℕ) (i last hint : ℕ) (why : Why) (fault : Option Why)
@@ -32,5 +34,7 @@ pub fault_before_last : (live : Live) (start now new : List Lit) (hints others :
     → chain_fault live now (drop i others) last ≡ chain_fault live start others last → Some why ≡ hints_fault live start hints
 fault_before_last live start now new hints others i last hint why fault split inside here then_by refused so_far =
     let next : drop i others ≡ hint ∷ drop (i + 1) others = rw (here, add-one, drop-cons others i 0) refl in
-    let step : hint_then live now hint (λ trues. chain_fault live trues (drop (i + 1) others) last) ≡ Some why = then_by (λ trues. chain_fault live trues (drop (i + 1) others) last) ∙ rw refused refl in
-    sym step ∙ ap (λ left. chain_fault live now left last) (sym next) ∙ so_far ∙ sym (chain_fault-hints live start others last) ∙ ap (hints_fault live start) (sym split)
+    let step : hint_then live now hint (λ trues. chain_fault live trues (drop (i + 1) others) last) ≡ Some why =
+    then_by (λ trues. chain_fault live trues (drop (i + 1) others) last) ∙ rw refused refl in
+    sym step ∙ ap (λ left. chain_fault live now left last) (sym next) ∙ so_far ∙ sym (chain_fault-hints live start others last)
+    ∙ ap (hints_fault live start) (sym split)

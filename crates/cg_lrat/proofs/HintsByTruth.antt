@@ -18,7 +18,8 @@ same_non_false a b (lit ∷ lits) same = rw (same (inverse lit), same_non_false 
 
 same_more : (a b : List Lit) (one : Lit) → SameTrues a b → SameTrues (a ++ one ∷ []) (b ++ one ∷ [])
 same_more a b one same lit =
-    list_any-append (same_lit lit) a (one ∷ []) ∙ ap (λ front. front || is_in lit (one ∷ [])) (same lit) ∙ sym (list_any-append (same_lit lit) b (one ∷ []))
+    list_any-append (same_lit lit) a (one ∷ []) ∙ ap (λ front. front || is_in lit (one ∷ [])) (same lit)
+    ∙ sym (list_any-append (same_lit lit) b (one ∷ []))
 
 same_unit : (a b : List Lit) (found : NonFalse) (hint : ℕ) (f g : Lit → Option Why) → SameTrues a b → ((lit : Lit) → f lit ≡ g lit)
     → unit_then found a hint f ≡ unit_then found b hint g
@@ -34,14 +35,16 @@ same_known (Some lits) hint f g later = later lits
 pub hints_by_truth : (live : Live) (a b : List Lit) (hints : List ℕ) → SameTrues a b → hints_fault live a hints ≡ hints_fault live b hints
 hints_by_truth live a b [] same = refl
 hints_by_truth live a b (hint ∷ []) same =
-    same_known (live hint) hint (λ lits. false_at (non_false_of (non_false_lits a lits)) hint) (λ lits. false_at (non_false_of (non_false_lits b lits)) hint)
+    same_known (live hint) hint (λ lits. false_at (non_false_of (non_false_lits a lits)) hint)
+    (λ lits. false_at (non_false_of (non_false_lits b lits)) hint)
     (λ lits. ap (λ left. false_at (non_false_of left) hint) (same_non_false a b lits same))
 hints_by_truth live a b (hint ∷ next ∷ later) same =
     same_known (live hint) hint
     (λ lits. unit_then (non_false_of (non_false_lits a lits)) a hint (λ lit. hints_fault live (a ++ lit ∷ []) (next ∷ later)))
     (λ lits. unit_then (non_false_of (non_false_lits b lits)) b hint (λ lit. hints_fault live (b ++ lit ∷ []) (next ∷ later)))
     (λ lits.
-    ap (λ left. unit_then (non_false_of left) a hint (λ lit. hints_fault live (a ++ lit ∷ []) (next ∷ later))) (same_non_false a b lits same)
+    ap (λ left. unit_then (non_false_of left) a hint (λ lit. hints_fault live (a ++ lit ∷ []) (next ∷ later)))
+    (same_non_false a b lits same)
     ∙ same_unit a b (non_false_of (non_false_lits b lits)) hint
     (λ lit. hints_fault live (a ++ lit ∷ []) (next ∷ later)) (λ lit. hints_fault live (b ++ lit ∷ []) (next ∷ later)) same
     (λ lit. hints_by_truth live (a ++ lit ∷ []) (b ++ lit ∷ []) (next ∷ later) (same_more a b lit same)))

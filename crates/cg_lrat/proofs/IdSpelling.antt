@@ -24,7 +24,8 @@ numbered_found word (Small n) id e f = pick (n == 0) refl (nat_lt n (2 ^ 63)) re
       let same : n ≡ id = cc in
       let some : n ≡ 0 → ⊥ = eqb-false n 0 g in
       let below : n < 2 ^ 63 = ltb-true n (2 ^ 63) h in
-      record { spelled = spelled word n e ∙ ap decimal same; bounds = record { from_one = omega (arith, same); within = omega (arith, same, below) } }
+      record
+      { spelled = spelled word n e ∙ ap decimal same; bounds = record { from_one = omega (arith, same); within = omega (arith, same, below) } }
   pick false g false h = let no : tokens.Other ≡ tokens.Id id = rw (g, h) at f in absurd (cc)
 numbered_found word Large id e f = absurd (cc)
 numbered_found word Misspelled id e f = absurd (cc)

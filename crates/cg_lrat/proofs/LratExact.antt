@@ -29,7 +29,8 @@ use Rattle.cg_lrat.specs.LratText.{id_words, body_words, step_line, LratText}
 use Rattle.cg_formula.proofs.TokenSpelling.{literal_spelled, end_spelled, clause_token-lit, first_digit}
 use Rattle.cg_lrat.proofs.IdSpelling.{id_spelled, id_end_spelled, id_token-decimal}
 
-bind_ok : {A B : Type 0} (r : Result A LratFault) (f : A → Result B LratFault) (y : B) → ◌>>=◌ {B = B} r f ≡ Ok y → (x : A) × (r ≡ Ok x) × (f x ≡ Ok y)
+bind_ok : {A B : Type 0} (r : Result A LratFault) (f : A → Result B LratFault) (y : B) → ◌>>=◌ {B = B} r f ≡ Ok y
+    → (x : A) × (r ≡ Ok x) × (f x ≡ Ok y)
 bind_ok (Ok x) f y e = (x, refl, e)
 bind_ok (Err d) f y e = absurd (cc)
 
@@ -39,11 +40,13 @@ record SpellsLits (ws : List (List ℕ)) (lits : List Lit) (after : List (List �
   pub words : ws ≡ map lit_word lits ++ codes "0" ∷ after
   pub bounds : AllByRecursion (IsLit (2 ^ 31 - 1)) lits
 
-lits_spelled : (line : ℕ) (ws : List (List ℕ)) (lits : List Lit) (after : List (List ℕ)) → lits_at line ws ≡ Ok (lits, after) → SpellsLits ws lits after
+lits_spelled : (line : ℕ) (ws : List (List ℕ)) (lits : List Lit) (after : List (List ℕ)) → lits_at line ws ≡ Ok (lits, after)
+    → SpellsLits ws lits after
 lits_spelled line [] lits after e = absurd (cc)
 lits_spelled line (w ∷ ws) lits after e = pick (clause_token 2147483647 w) refl (lits_spelled line ws) where
   pick : (token : ClauseToken) → clause_token 2147483647 w ≡ token
-      → ((lits : List Lit) (after : List (List ℕ)) → lits_at line ws ≡ Ok (lits, after) → SpellsLits ws lits after) → SpellsLits (w ∷ ws) lits after
+      → ((lits : List Lit) (after : List (List ℕ)) → lits_at line ws ≡ Ok (lits, after) → SpellsLits ws lits after)
+      → SpellsLits (w ∷ ws) lits after
   pick (tokens.Literal lit) f later =
       let read = bind_ok (lits_at line ws) (λ r. Ok (lit ∷ r.0, r.1)) (lits, after) (rw f at e) in
       let rest = later (read.0).0 (read.0).1 read.1 in
@@ -65,7 +68,8 @@ lits_spelled line (w ∷ ws) lits after e = pick (clause_token 2147483647 w) ref
 lits_again : (line : ℕ) (lits : List Lit) (after : List (List ℕ)) → AllByRecursion (IsLit (2 ^ 31 - 1)) lits
     → lits_at line (map lit_word lits ++ codes "0" ∷ after) ≡ Ok (lits, after)
 lits_again line [] after bounds = refl
-lits_again line (lit ∷ lits) after bounds = rw (clause_token-lit 2147483647 lit (lit< tt) bounds.0, lits_again line lits after bounds.1) refl
+lits_again line (lit ∷ lits) after bounds =
+    rw (clause_token-lit 2147483647 lit (lit< tt) bounds.0, lits_again line lits after bounds.1) refl
 
 -- ids
 
@@ -92,7 +96,8 @@ ids_spelled line (w ∷ ws) list e = pick (id_token w) refl (ids_spelled line ws
       })
   pick ids.End f later =
       let none = closed ws (rw f at e) in
-      subst (SpellsIds (w ∷ ws)) none.1 (record { words = ap (λ text. text ∷ ws) (id_end_spelled w f) ∙ ap (λ words. codes "0" ∷ words) none.0; bounds = tt })
+      subst (SpellsIds (w ∷ ws)) none.1
+      (record { words = ap (λ text. text ∷ ws) (id_end_spelled w f) ∙ ap (λ words. codes "0" ∷ words) none.0; bounds = tt })
   pick ids.Other f later = let no : Err (BadLine line) ≡ Ok list = rw f at e in absurd (cc)
 
 ids_again : (line : ℕ) (list : List ℕ) → AllByRecursion IsId list → ids_at line (id_words list) ≡ Ok list
@@ -113,7 +118,9 @@ addition_spelled line ws body e =
     let second = ids_spelled line (clause.0).1 hints.0 hints.1 in
     let made : Add (record { lits = (clause.0).0 }) hints.0 ≡ body = cc in
     subst (SpellsBody ws) made (record {
-      words = first.words ∙ ap (λ words. map lit_word (clause.0).0 ++ codes "0" ∷ words) second.words ∙ sym (append_assoc (map lit_word (clause.0).0) (codes "0" ∷ []) (id_words hints.0));
+      words =
+          first.words ∙ ap (λ words. map lit_word (clause.0).0 ++ codes "0" ∷ words) second.words
+          ∙ sym (append_assoc (map lit_word (clause.0).0) (codes "0" ∷ []) (id_words hints.0));
       bounds = (first.bounds, second.bounds);
     })
 
@@ -153,17 +160,22 @@ lit_apart : (lit : Lit) → IsLit (2 ^ 31 - 1) lit → bytes_eq (lit_word lit) (
 lit_apart lit bounds = other_byte (lit_word lit) (pick lit.inverted refl) where
   pick : (b : Bool) → lit.inverted ≡ b → get_or (lit_word lit) 0 0 ≡ 100 → ⊥
   pick true f e = let minus : get_or (45 ∷ decimal lit.variable) 0 0 ≡ 100 = rw f at e in omega (arith, minus)
-  pick false f e = let digit : get_or (decimal lit.variable) 0 0 ≡ 100 = rw f at e in first_digit 100 (inr (lit< tt)) lit.variable (omega (arith, bounds.within)) digit
+  pick false f e =
+      let digit : get_or (decimal lit.variable) 0 0 ≡ 100 = rw f at e in first_digit 100 (inr (lit< tt)) lit.variable (omega (arith, bounds.within)) digit
 
-no_deletion : (lits : List Lit) (after : List (List ℕ)) → AllByRecursion (IsLit (2 ^ 31 - 1)) lits → deletion_of (map lit_word lits ++ codes "0" ∷ after) ≡ None
+no_deletion : (lits : List Lit) (after : List (List ℕ)) → AllByRecursion (IsLit (2 ^ 31 - 1)) lits
+    → deletion_of (map lit_word lits ++ codes "0" ∷ after) ≡ None
 no_deletion [] after bounds = refl
 no_deletion (lit ∷ lits) after bounds = rw (lit_apart lit bounds.0) refl
 
 body_again : (line : ℕ) (body : Body) → IsBody body → body_of line (deletion_of (body_words body)) (body_words body) ≡ Ok body
 body_again line (Add clause hints) bounds =
-    let words : body_words (Add clause hints) ≡ map lit_word clause.lits ++ codes "0" ∷ id_words hints = append_assoc (map lit_word clause.lits) (codes "0" ∷ []) (id_words hints) in
+    let words : body_words (Add clause hints) ≡ map lit_word clause.lits ++ codes "0" ∷ id_words hints =
+    append_assoc (map lit_word clause.lits) (codes "0" ∷ []) (id_words hints) in
     ap (λ ws. body_of line (deletion_of ws) ws) words
-    ∙ rw (no_deletion clause.lits (id_words hints) bounds.0, lits_again line clause.lits (id_words hints) bounds.0, ids_again line hints bounds.1) refl
+    ∙ rw
+    (no_deletion clause.lits (id_words hints) bounds.0, lits_again line clause.lits (id_words hints) bounds.0, ids_again line hints bounds.1)
+    refl
 body_again line (Delete list) bounds = rw (ids_again line list bounds) refl
 
 -- steps
@@ -172,17 +184,21 @@ record SpellsStep (line : Line) (step : Step) : Type 0 where
   pub whole : line ≡ step_line step
   pub bounds : IsStep step
 
-step_spelled : (number : ℕ) (ws : List (List ℕ)) (step : Step) → words_step number ws ≡ Ok step → SpellsStep (record { number = number; words = ws }) step
+step_spelled : (number : ℕ) (ws : List (List ℕ)) (step : Step) → words_step number ws ≡ Ok step
+    → SpellsStep (record { number = number; words = ws }) step
 step_spelled number [] step e = absurd (cc)
 step_spelled number (w ∷ ws) step e = pick (id_token w) refl where
   pick : (item : IdToken) → id_token w ≡ item → SpellsStep (record { number = number; words = w ∷ ws }) step
   pick (ids.Id id) f =
-      let body = bind_ok (body_of number (deletion_of ws) ws) (λ body. Ok (record { line = number; id = id; body = body })) step (rw f at e) in
+      let body =
+      bind_ok (body_of number (deletion_of ws) ws) (λ body. Ok (record { line = number; id = id; body = body })) step (rw f at e) in
       let first = id_spelled w id f in
       let rest = body_spelled number ws body.0 body.1 in
       let made : (let s : Step = record { line = number; id = id; body = body.0 } in s) ≡ step = cc in
       subst (SpellsStep (record { number = number; words = w ∷ ws })) made (record {
-        whole = ap (λ words. record { number = number; words = words }) (ap (λ text. text ∷ ws) first.spelled ∙ ap (λ words. decimal id ∷ words) rest.words);
+        whole =
+            ap (λ words. record { number = number; words = words })
+            (ap (λ text. text ∷ ws) first.spelled ∙ ap (λ words. decimal id ∷ words) rest.words);
         bounds = record { id = first.bounds; body = rest.bounds };
       })
   pick ids.End f = let no : Err (BadLine number) ≡ Ok step = rw f at e in absurd (cc)

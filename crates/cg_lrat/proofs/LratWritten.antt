@@ -26,7 +26,8 @@ id_are_words list bounds = words_append (map decimal list) (codes "0" ∷ []) (i
 
 step_are_words : (body : Body) → IsBody body → AllByRecursion (IsWord Whitespace) (body_words body)
 step_are_words (Add clause hints) bounds =
-    words_append (clause_words clause) (id_words hints) (clause_are_words (2 ^ 31 - 1) (lit< tt) clause bounds.0) (id_are_words hints bounds.1)
+    words_append (clause_words clause) (id_words hints) (clause_are_words (2 ^ 31 - 1) (lit< tt) clause bounds.0)
+    (id_are_words hints bounds.1)
 step_are_words (Delete list) bounds = (record { full = lit< tt; whole = (refl, tt) }, id_are_words list bounds)
 
 step_lines : (steps : List Step) → AllByRecursion IsStep steps → AllByRecursion (IsLine layout) (map step_words steps)
@@ -40,7 +41,8 @@ counted_lines number (step ∷ later) = ap (λ ls. record { number = number; wor
 
 counted_bounds : (number : ℕ) (steps : List Step) → AllByRecursion IsStep steps → AllByRecursion IsStep (counted_from number steps)
 counted_bounds number [] bounds = tt
-counted_bounds number (step ∷ later) bounds = (record { id = (bounds.0).id; body = (bounds.0).body }, counted_bounds (number + 1) later bounds.1)
+counted_bounds number (step ∷ later) bounds =
+    (record { id = (bounds.0).id; body = (bounds.0).body }, counted_bounds (number + 1) later bounds.1)
 
 pub lrat_written : (log : Log) → IsLog log → LratText (lrat_text log) (counted log)
 lrat_written log bounds = record {

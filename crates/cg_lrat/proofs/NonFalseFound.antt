@@ -21,7 +21,8 @@ one_stays : (one : Lit) (lits : List Lit) → non_false_on (One one) lits ≡ (i
 one_stays one [] = refl
 one_stays one (lit ∷ lits) = pick (one_stays one lits) (same_lit one lit) refl where
   pick : non_false_on (One one) lits ≡ (if list_all (same_lit one) lits then One one else Many)
-      → (b : Bool) → same_lit one lit ≡ b → non_false_on (One one) (lit ∷ lits) ≡ (if list_all (same_lit one) (lit ∷ lits) then One one else Many)
+      → (b : Bool) → same_lit one lit ≡ b
+      → non_false_on (One one) (lit ∷ lits) ≡ (if list_all (same_lit one) (lit ∷ lits) then One one else Many)
   pick later true e = rw e later
   pick later false e = rw e (many_stay lits)
 
@@ -31,7 +32,8 @@ non_false_on_nothing (lit ∷ lits) = one_stays lit lits
 
 -- where all literals are looked at, what was found is what is not false
 pub non_false_found : (found : NonFalse) (trues clause : List Lit) (i : ℕ) → length clause ≤ i
-    → non_false_on found (non_false_lits trues (drop i clause)) ≡ non_false_on Nothing (non_false_lits trues clause) → found ≡ non_false_of (non_false_lits trues clause)
+    → non_false_on found (non_false_lits trues (drop i clause)) ≡ non_false_on Nothing (non_false_lits trues clause)
+    → found ≡ non_false_of (non_false_lits trues clause)
 non_false_found found trues clause i done so_far =
     let none : drop i clause ≡ [] = drop_of_length-le clause done in
     sym (ap (λ left. non_false_on found (non_false_lits trues left)) none) ∙ so_far ∙ non_false_on_nothing (non_false_lits trues clause)

@@ -36,9 +36,11 @@ non_false_holds bits trues (l ∷ ls) all e = pick (non_false_holds bits trues l
       let no : lit_bit bits l ≡ false = not_true (lit_bit bits l) (sym (lit_bit-inverse bits l) ∙ inverse_true) in
       elim (or_true (lit_bit bits l) (list_any (lit_bit bits) ls) e) [ inl held ↦ absurd (cc) | inr rest ↦ rw f (later rest) ]
   pick later false f =
-      elim (or_true (lit_bit bits l) (list_any (lit_bit bits) ls) e) [ inl here ↦ rw (f, here) refl | inr rest ↦ rw f (or_right (lit_bit bits l) (later rest)) ]
+      elim (or_true (lit_bit bits l) (list_any (lit_bit bits) ls) e)
+      [ inl here ↦ rw (f, here) refl | inr rest ↦ rw f (or_right (lit_bit bits l) (later rest)) ]
 
-all_same : (bits : List Bool) (l : Lit) (ls : List Lit) → list_all (same_lit l) ls ≡ true → list_any (lit_bit bits) (l ∷ ls) ≡ true → lit_bit bits l ≡ true
+all_same : (bits : List Bool) (l : Lit) (ls : List Lit) → list_all (same_lit l) ls ≡ true → list_any (lit_bit bits) (l ∷ ls) ≡ true
+    → lit_bit bits l ≡ true
 all_same bits l [] same e = elim (or_true (lit_bit bits l) false e) [ inl here ↦ here | inr none ↦ absurd (cc) ]
 all_same bits l (m ∷ ms) same e =
     let parts = and_true (same_lit l m) (list_all (same_lit l) ms) same in
@@ -50,7 +52,8 @@ all_same bits l (m ∷ ms) same e =
       ]
     ]
 
-one_holds : (bits : List Bool) (lit : Lit) (ls : List Lit) → non_false_of ls ≡ left.One lit → list_any (lit_bit bits) ls ≡ true → lit_bit bits lit ≡ true
+one_holds : (bits : List Bool) (lit : Lit) (ls : List Lit) → non_false_of ls ≡ left.One lit → list_any (lit_bit bits) ls ≡ true
+    → lit_bit bits lit ≡ true
 one_holds bits lit [] e any = absurd (cc)
 one_holds bits lit (l ∷ ls) e any = pick (list_all (same_lit l) ls) refl where
   pick : (b : Bool) → list_all (same_lit l) ls ≡ b → lit_bit bits lit ≡ true
@@ -60,7 +63,8 @@ one_holds bits lit (l ∷ ls) e any = pick (list_all (same_lit l) ls) refl where
       ap (lit_bit bits) (sym same) ∙ all_same bits l ls f any
   pick false f = let many : left.Many ≡ left.One lit = rw f at e in absurd (cc)
 
-nothing_holds : (bits : List Bool) (hint : ℕ) (ls : List Lit) → false_at (non_false_of ls) hint ≡ None → list_any (lit_bit bits) ls ≡ true → ⊥
+nothing_holds : (bits : List Bool) (hint : ℕ) (ls : List Lit) → false_at (non_false_of ls) hint ≡ None → list_any (lit_bit bits) ls ≡ true
+    → ⊥
 nothing_holds bits hint [] e any = cc
 nothing_holds bits hint (l ∷ ls) e any = pick (list_all (same_lit l) ls) refl where
   pick : (b : Bool) → list_all (same_lit l) ls ≡ b → ⊥
@@ -72,12 +76,15 @@ nothing_holds bits hint (l ∷ ls) e any = pick (list_all (same_lit l) ls) refl 
 unit_found : (trues : List Lit) (hint : ℕ) (ls : List Lit) (later : Lit → Option Why) → unit_then (non_false_of ls) trues hint later ≡ None
     → (lit : Lit) × (non_false_of ls ≡ left.One lit) × (later lit ≡ None)
 unit_found trues hint ls later e = pick (non_false_of ls) refl e where
-  pick : (o : NonFalse) → non_false_of ls ≡ o → unit_then o trues hint later ≡ None → (lit : Lit) × (non_false_of ls ≡ left.One lit) × (later lit ≡ None)
+  pick : (o : NonFalse) → non_false_of ls ≡ o → unit_then o trues hint later ≡ None
+      → (lit : Lit) × (non_false_of ls ≡ left.One lit) × (later lit ≡ None)
   pick left.Nothing f e = absurd (cc)
-  pick (left.One lit) f e = elim (is_in lit trues) as (λ b. (if b then Some (whys.NotUnit hint) else later lit) ≡ None → (lit : Lit) × (non_false_of ls ≡ left.One lit) × (later lit ≡ None)) [
-    | true ↦ λ g. absurd (cc)
-    | false ↦ λ g. (lit, f, g)
-  ] e
+  pick (left.One lit) f e =
+      elim (is_in lit trues) as
+      (λ b. (if b then Some (whys.NotUnit hint) else later lit) ≡ None → (lit : Lit) × (non_false_of ls ≡ left.One lit) × (later lit ≡ None)) [
+        | true ↦ λ g. absurd (cc)
+        | false ↦ λ g. (lit, f, g)
+      ] e
   pick left.Many f e = absurd (cc)
 
 known_found : (o : Option (List Lit)) (hint : ℕ) (later : List Lit → Option Why) → known_then o hint later ≡ None
@@ -90,23 +97,30 @@ abbrev LiveHolds : List Bool → Live → Type 0
 LiveHolds bits live = (id : ℕ) (lits : List Lit) → live id ≡ Some lits → list_any (lit_bit bits) lits ≡ true
 
 -- no hints without a fault, where all of these literals are true
-refuted : (bits : List Bool) (live : Live) → LiveHolds bits live → (trues : List Lit) (hints : List ℕ) → list_all (lit_bit bits) trues ≡ true
+refuted : (bits : List Bool) (live : Live) → LiveHolds bits live → (trues : List Lit) (hints : List ℕ)
+    → list_all (lit_bit bits) trues ≡ true
     → hints_fault live trues hints ≡ None → ⊥
 refuted bits live holds trues [] all e = cc
 refuted bits live holds trues (hint ∷ []) all e =
     let known = known_found (live hint) hint (λ lits. false_at (non_false_of (non_false_lits trues lits)) hint) e in
     nothing_holds bits hint (non_false_lits trues known.0) known.2 (non_false_holds bits trues known.0 all (holds hint known.0 known.1))
 refuted bits live holds trues (hint ∷ next ∷ later) all e =
-    let known = known_found (live hint) hint (λ lits. unit_then (non_false_of (non_false_lits trues lits)) trues hint (λ lit. hints_fault live (trues ++ lit ∷ []) (next ∷ later))) e in
+    let known =
+    known_found (live hint) hint
+    (λ lits. unit_then (non_false_of (non_false_lits trues lits)) trues hint (λ lit. hints_fault live (trues ++ lit ∷ []) (next ∷ later)))
+    e in
     let unit = unit_found trues hint (non_false_lits trues known.0) (λ lit. hints_fault live (trues ++ lit ∷ []) (next ∷ later)) known.2 in
-    let true_lit : lit_bit bits unit.0 ≡ true = one_holds bits unit.0 (non_false_lits trues known.0) unit.1 (non_false_holds bits trues known.0 all (holds hint known.0 known.1)) in
+    let true_lit : lit_bit bits unit.0 ≡ true =
+    one_holds bits unit.0 (non_false_lits trues known.0) unit.1 (non_false_holds bits trues known.0 all (holds hint known.0 known.1)) in
     refuted bits live holds (trues ++ unit.0 ∷ []) (next ∷ later) (all_more bits trues unit.0 all true_lit) unit.2
 
 -- steps
 
-clause_holds : (bits : List Bool) (live : Live) → LiveHolds bits live → (lits : List Lit) (hints : List ℕ) → clause_fault live lits hints ≡ None → list_any (lit_bit bits) lits ≡ true
+clause_holds : (bits : List Bool) (live : Live) → LiveHolds bits live → (lits : List Lit) (hints : List ℕ)
+    → clause_fault live lits hints ≡ None → list_any (lit_bit bits) lits ≡ true
 clause_holds bits live holds lits hints e = pick (list_any (lit_bit bits) lits) refl where
-  none : (b : Bool) → (if b then Some whys.Tautology else hints_fault live (map inverse lits) hints) ≡ None → hints_fault live (map inverse lits) hints ≡ None
+  none : (b : Bool) → (if b then Some whys.Tautology else hints_fault live (map inverse lits) hints) ≡ None
+      → hints_fault live (map inverse lits) hints ≡ None
   none true f = absurd (cc)
   none false f = f
 
@@ -114,13 +128,15 @@ clause_holds bits live holds lits hints e = pick (list_any (lit_bit bits) lits) 
   pick true f = f
   pick false f = absurd (refuted bits live holds (map inverse lits) hints (all_false bits lits f) (none (is_tautology lits) e))
 
-addition_holds : (bits : List Bool) (state : State) → LiveHolds bits state.live → (id : ℕ) (lits : List Lit) (hints : List ℕ) → addition_fault state id lits hints ≡ None → list_any (lit_bit bits) lits ≡ true
+addition_holds : (bits : List Bool) (state : State) → LiveHolds bits state.live → (id : ℕ) (lits : List Lit) (hints : List ℕ)
+    → addition_fault state id lits hints ≡ None → list_any (lit_bit bits) lits ≡ true
 addition_holds bits state holds id lits hints e = pick (nat_le id state.greatest) e where
   pick : (b : Bool) → (if b then Some (whys.UsedId id) else clause_fault state.live lits hints) ≡ None → list_any (lit_bit bits) lits ≡ true
   pick true f = absurd (cc)
   pick false f = clause_holds bits state.live holds lits hints f
 
-put_holds : (bits : List Bool) (live : Live) → LiveHolds bits live → (id : ℕ) (lits : List Lit) → list_any (lit_bit bits) lits ≡ true → LiveHolds bits (update nat_eq live id (Some lits))
+put_holds : (bits : List Bool) (live : Live) → LiveHolds bits live → (id : ℕ) (lits : List Lit) → list_any (lit_bit bits) lits ≡ true
+    → LiveHolds bits (update nat_eq live id (Some lits))
 put_holds bits live holds id lits any q found = pick (nat_eq id q) where
   pick : (b : Bool) → (if b then Some lits else live q) ≡ Some found → list_any (lit_bit bits) found ≡ true
   pick true e = let same : lits ≡ found = cc in ap (list_any (lit_bit bits)) (sym same) ∙ any
@@ -135,22 +151,28 @@ without_holds bits live holds (id ∷ later) = without_holds bits (update nat_eq
     pick true e = absurd (cc)
     pick false e = holds q found e
 
-step_holds : (bits : List Bool) (state : State) → LiveHolds bits state.live → (body : Body) (id : ℕ) → fault_of state body id ≡ None → LiveHolds bits (state_after state body id).live
-step_holds bits state holds (Add clause hints) id e = put_holds bits state.live holds id clause.lits (addition_holds bits state holds id clause.lits hints e)
+step_holds : (bits : List Bool) (state : State) → LiveHolds bits state.live → (body : Body) (id : ℕ) → fault_of state body id ≡ None
+    → LiveHolds bits (state_after state body id).live
+step_holds bits state holds (Add clause hints) id e =
+    put_holds bits state.live holds id clause.lits (addition_holds bits state holds id clause.lits hints e)
 step_holds bits state holds (Delete ids) id e = without_holds bits state.live holds ids
 
 no_empty : (bits : List Bool) (lits : List Lit) → (length lits == 0) ≡ true → list_any (lit_bit bits) lits ≡ true → ⊥
 no_empty bits [] e any = cc
 no_empty bits (l ∷ ls) e any = let no : suc (length ls) ≡ 0 = eqb-true (suc (length ls)) 0 e in cc
 
-empty_refused : (bits : List Bool) (state : State) → LiveHolds bits state.live → (body : Body) (id : ℕ) → fault_of state body id ≡ None → adds_empty body ≡ true → ⊥
-empty_refused bits state holds (Add clause hints) id e empty = no_empty bits clause.lits empty (addition_holds bits state holds id clause.lits hints e)
+empty_refused : (bits : List Bool) (state : State) → LiveHolds bits state.live → (body : Body) (id : ℕ) → fault_of state body id ≡ None
+    → adds_empty body ≡ true → ⊥
+empty_refused bits state holds (Add clause hints) id e empty =
+    no_empty bits clause.lits empty (addition_holds bits state holds id clause.lits hints e)
 empty_refused bits state holds (Delete ids) id e empty = cc
 
-pub accepted_holds : (bits : List Bool) (state : State) → LiveHolds bits state.live → (steps : List Step) → verdict_from state steps ≡ Accepted → ⊥
+pub accepted_holds : (bits : List Bool) (state : State) → LiveHolds bits state.live → (steps : List Step)
+    → verdict_from state steps ≡ Accepted → ⊥
 accepted_holds bits state holds [] e = cc
 accepted_holds bits state holds (step ∷ later) e =
-    pick (fault_of state step.body step.id) refl (adds_empty step.body) refl e (λ none. accepted_holds bits (state_after state step.body step.id) (step_holds bits state holds step.body step.id none) later) where
+    pick (fault_of state step.body step.id) refl (adds_empty step.body) refl e
+    (λ none. accepted_holds bits (state_after state step.body step.id) (step_holds bits state holds step.body step.id none) later) where
       pick : (fault : Option Why) → fault_of state step.body step.id ≡ fault → (empty : Bool) → adds_empty step.body ≡ empty
           → step_verdict fault empty step.line (verdict_from (state_after state step.body step.id) later) ≡ Accepted
           → (fault_of state step.body step.id ≡ None → verdict_from (state_after state step.body step.id) later ≡ Accepted → ⊥) → ⊥
@@ -160,7 +182,8 @@ accepted_holds bits state holds (step ∷ later) e =
 
 -- the formula
 
-first_holds : (bits : List Bool) (id : ℕ) (clauses : List Clause) (live : Live) → LiveHolds bits live → list_all (clause_bit bits) clauses ≡ true → LiveHolds bits (with_clauses id clauses live)
+first_holds : (bits : List Bool) (id : ℕ) (clauses : List Clause) (live : Live) → LiveHolds bits live
+    → list_all (clause_bit bits) clauses ≡ true → LiveHolds bits (with_clauses id clauses live)
 first_holds bits id [] live holds all = holds
 first_holds bits id (c ∷ cs) live holds all =
     let parts = and_true (clause_bit bits c) (list_all (clause_bit bits) cs) all in
@@ -172,4 +195,5 @@ nothing_live bits id lits e = absurd (cc)
 -- an accepted log proves that no bits satisfy the formula
 pub accepted_unsatisfiable : (formula : Formula) (log : Log) → verdict formula log ≡ Accepted → IsUnsatisfiable formula
 accepted_unsatisfiable formula log e bits satisfies =
-    accepted_holds bits (first_state formula) (first_holds bits 1 formula.clauses (λ _. None) (nothing_live bits) satisfies.each_clause) log.steps e
+    accepted_holds bits (first_state formula) (first_holds bits 1 formula.clauses (λ _. None) (nothing_live bits) satisfies.each_clause)
+    log.steps e

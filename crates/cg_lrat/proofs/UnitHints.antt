@@ -11,7 +11,8 @@ use Rattle.cg_lrat.specs.Accepted.{Live, non_false_lits, non_false_of, hints_fau
 
 -- what of a clause is not false
 
-nothing_non_false : (trues clause : List Lit) → ((lit : Lit) → is_in lit clause ≡ true → is_in (inverse lit) trues ≡ true) → non_false_lits trues clause ≡ []
+nothing_non_false : (trues clause : List Lit) → ((lit : Lit) → is_in lit clause ≡ true → is_in (inverse lit) trues ≡ true)
+    → non_false_lits trues clause ≡ []
 nothing_non_false trues [] all = refl
 nothing_non_false trues (lit ∷ lits) all =
     rw (all lit (here lit lits)) (nothing_non_false trues lits (λ other e. all other (or_right (same_lit other lit) e)))
@@ -20,25 +21,30 @@ all_one : (trues clause : List Lit) (one : Lit) → ((lit : Lit) → is_in lit c
     → list_all (same_lit one) (non_false_lits trues clause) ≡ true
 all_one trues [] one others = refl
 all_one trues (lit ∷ lits) one others =
-    pick (all_one trues lits one (λ other e. others other (or_right (same_lit other lit) e))) (others lit (here lit lits)) (is_in (inverse lit) trues) refl where
+    pick (all_one trues lits one (λ other e. others other (or_right (same_lit other lit) e))) (others lit (here lit lits))
+    (is_in (inverse lit) trues) refl where
       pick : list_all (same_lit one) (non_false_lits trues lits) ≡ true → (lit ≡ one) ⊎ (is_in (inverse lit) trues ≡ true)
           → (b : Bool) → is_in (inverse lit) trues ≡ b → list_all (same_lit one) (non_false_lits trues (lit ∷ lits)) ≡ true
       pick later same true f = rw f later
-      pick later (inl same) false f = let self : same_lit one lit ≡ true = subst (λ l. same_lit one l ≡ true) (sym same) (same_lit_self one) in rw (f, self) later
+      pick later (inl same) false f =
+          let self : same_lit one lit ≡ true = subst (λ l. same_lit one l ≡ true) (sym same) (same_lit_self one) in rw (f, self) later
       pick later (inr off) false f = absurd (cc)
 
-one_stays : (trues clause : List Lit) (one : Lit) → is_in one clause ≡ true → is_in (inverse one) trues ≡ false → is_in one (non_false_lits trues clause) ≡ true
+one_stays : (trues clause : List Lit) (one : Lit) → is_in one clause ≡ true → is_in (inverse one) trues ≡ false
+    → is_in one (non_false_lits trues clause) ≡ true
 one_stays trues [] one among off = absurd (cc)
 one_stays trues (lit ∷ lits) one among off =
     pick (one_stays trues lits one) (or_true (same_lit one lit) (is_in one lits) among) (is_in (inverse lit) trues) refl where
-      pick : (is_in one lits ≡ true → is_in (inverse one) trues ≡ false → is_in one (non_false_lits trues lits) ≡ true) → (same_lit one lit ≡ true) ⊎ (is_in one lits ≡ true)
+      pick : (is_in one lits ≡ true → is_in (inverse one) trues ≡ false → is_in one (non_false_lits trues lits) ≡ true)
+          → (same_lit one lit ≡ true) ⊎ (is_in one lits ≡ true)
           → (b : Bool) → is_in (inverse lit) trues ≡ b → is_in one (non_false_lits trues (lit ∷ lits)) ≡ true
       pick later (inl same) true f = let e : one ≡ lit = same_lit_equal one lit same in absurd (cc)
       pick later (inl same) false f = rw (f, same) refl
       pick later (inr rest) true f = rw f (later rest off)
       pick later (inr rest) false f = rw f (or_right (same_lit one lit) (later rest off))
 
-non_false_of_one : (lits : List Lit) (one : Lit) → is_in one lits ≡ true → list_all (same_lit one) lits ≡ true → non_false_of lits ≡ left.One one
+non_false_of_one : (lits : List Lit) (one : Lit) → is_in one lits ≡ true → list_all (same_lit one) lits ≡ true
+    → non_false_of lits ≡ left.One one
 non_false_of_one [] one among all = absurd (cc)
 non_false_of_one (lit ∷ lits) one among all =
     let parts = and_true (same_lit one lit) (list_all (same_lit one) lits) all in
@@ -46,17 +52,21 @@ non_false_of_one (lit ∷ lits) one among all =
     let rest : list_all (same_lit lit) lits ≡ true = subst (λ l. list_all (same_lit l) lits ≡ true) e parts.1 in
     rw rest (ap left.One (sym e))
 
-pub unit_non_false : (trues clause : List Lit) (one : Lit) → IsUnit trues clause one → is_in (inverse one) trues ≡ false → non_false_of (non_false_lits trues clause) ≡ left.One one
+pub unit_non_false : (trues clause : List Lit) (one : Lit) → IsUnit trues clause one → is_in (inverse one) trues ≡ false
+    → non_false_of (non_false_lits trues clause) ≡ left.One one
 unit_non_false trues clause one unit off =
     non_false_of_one (non_false_lits trues clause) one (one_stays trues clause one unit.among off) (all_one trues clause one unit.others)
 
 -- hints
 
-pub unit_hint : (live : Live) (trues : List Lit) (id next : ℕ) (later : List ℕ) (clause : List Lit) (one : Lit) → live id ≡ Some clause → IsUnit trues clause one → IsUnassigned trues one
+pub unit_hint : (live : Live) (trues : List Lit) (id next : ℕ) (later : List ℕ) (clause : List Lit) (one : Lit) → live id ≡ Some clause
+    → IsUnit trues clause one → IsUnassigned trues one
     → hints_fault live trues (id ∷ next ∷ later) ≡ hints_fault live (trues ++ one ∷ []) (next ∷ later)
-unit_hint live trues id next later clause one is unit free = rw (is, unit_non_false trues clause one unit free.not_false, free.not_true) refl
+unit_hint live trues id next later clause one is unit free =
+    rw (is, unit_non_false trues clause one unit free.not_false, free.not_true) refl
 
-pub last_hint : (live : Live) (trues : List Lit) (id : ℕ) (clause : List Lit) → live id ≡ Some clause → IsFalsified trues clause → hints_fault live trues (id ∷ []) ≡ None
+pub last_hint : (live : Live) (trues : List Lit) (id : ℕ) (clause : List Lit) → live id ≡ Some clause → IsFalsified trues clause
+    → hints_fault live trues (id ∷ []) ≡ None
 last_hint live trues id clause is falsified = rw (is, nothing_non_false trues clause falsified.all) refl
 
 -- a hint whose clause is this one

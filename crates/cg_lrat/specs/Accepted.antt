@@ -66,7 +66,8 @@ abbrev pub hints_fault : Live → List Lit → List ℕ → Option Why
 hints_fault live trues [] = Some NoHint
 hints_fault live trues (hint ∷ []) = known_then (live hint) hint (λ lits. false_at (non_false_of (non_false_lits trues lits)) hint)
 hints_fault live trues (hint ∷ next ∷ later) =
-    known_then (live hint) hint (λ lits. unit_then (non_false_of (non_false_lits trues lits)) trues hint (λ lit. hints_fault live (trues ++ lit ∷ []) (next ∷ later)))
+    known_then (live hint) hint
+    (λ lits. unit_then (non_false_of (non_false_lits trues lits)) trues hint (λ lit. hints_fault live (trues ++ lit ∷ []) (next ∷ later)))
 
 -- a literal stands there and its inverse too
 abbrev pub is_tautology : List Lit → Bool
@@ -113,7 +114,8 @@ step_verdict None empty line later = if empty then Accepted else later
 abbrev pub verdict_from : State → List Step → Verdict
 verdict_from state [] = Rejected 0 NoEmpty
 verdict_from state (step ∷ later) =
-    step_verdict (fault_of state step.body step.id) (adds_empty step.body) step.line (verdict_from (state_after state step.body step.id) later)
+    step_verdict (fault_of state step.body step.id) (adds_empty step.body) step.line
+    (verdict_from (state_after state step.body step.id) later)
 
 abbrev pub verdict : Formula → Log → Verdict
 verdict formula log = verdict_from (first_state formula) log.steps

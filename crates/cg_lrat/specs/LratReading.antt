@@ -31,7 +31,8 @@ Gives view (Err NoMemory) read = Unit {0}
 Gives view (Err (BadLine line)) read = read ≡ Err (BadLine line)
 
 -- a word of a clause, before the rest of the clause and the words behind it
-abbrev pub put_token : ℕ → ClauseToken → List (List ℕ) → Result (List Lit × List (List ℕ)) LratFault → Result (List Lit × List (List ℕ)) LratFault
+abbrev pub put_token : ℕ → ClauseToken → List (List ℕ) → Result (List Lit × List (List ℕ)) LratFault
+    → Result (List Lit × List (List ℕ)) LratFault
 put_token line (tokens.Literal lit) after later = later >>= λ r. Ok (lit ∷ r.0, r.1)
 put_token line tokens.End after later = Ok ([], after)
 put_token line tokens.Other after later = Err (BadLine line)

@@ -5,7 +5,8 @@ use Rattle.cg_lrat.specs.declared.verdict.Why.{Why}
 use Rattle.cg_lrat.specs.Accepted.{Live, non_false_of, non_false_lits, unit_then, false_at, known_then}
 
 abbrev pub hint_then : Live → List Lit → ℕ → (List Lit → Option Why) → Option Why
-hint_then live trues hint later = known_then (live hint) hint (λ lits. unit_then (non_false_of (non_false_lits trues lits)) trues hint (λ lit. later (trues ++ lit ∷ [])))
+hint_then live trues hint later =
+    known_then (live hint) hint (λ lits. unit_then (non_false_of (non_false_lits trues lits)) trues hint (λ lit. later (trues ++ lit ∷ [])))
 
 abbrev pub last_fault : Live → List Lit → ℕ → Option Why
 last_fault live trues hint = known_then (live hint) hint (λ lits. false_at (non_false_of (non_false_lits trues lits)) hint)

@@ -8,7 +8,8 @@ use Rattle.cg_cnf.proofs.goal.formula.Goals as goal
 
 pub nodes-preserved : goal.nodes-preserved
 nodes-preserved c =
-    nodes_more c.args.aig.now.number c.nodes.k (1 + c.leaves-first.result) c.args.aig.now.pairs (c.pair-a.result.0, c.pair-a.result.1) c.nodes.clauses c.push_node.new.clauses
+    nodes_more c.args.aig.now.number c.nodes.k (1 + c.leaves-first.result) c.args.aig.now.pairs (c.pair-a.result.0, c.pair-a.result.1)
+    c.nodes.clauses c.push_node.new.clauses
     (ap (λ n. 1 + n) c.leaves-first.ensures.leaves) c.nodes.invariant c.pair-a.ensures c.in_ok-push_node.ensures
 
 pub returns-clause-clauses : goal.returns-clause-clauses
@@ -16,7 +17,8 @@ returns-clause-clauses c = first_of (search rules, grind (arith, common_steps))
 
 pub returns-clause-bounds : goal.returns-clause-bounds
 returns-clause-bounds c =
-    subst (λ (f : Formula). IsFormula f) (sym (returns-clause-clauses c)) (formula_bounds c.args.aig.now c.args.goal c.leaves.ensures.well_formed c.requires)
+    subst (λ (f : Formula). IsFormula f) (sym (returns-clause-clauses c))
+    (formula_bounds c.args.aig.now c.args.goal c.leaves.ensures.well_formed c.requires)
 
 pub returns-clause-if_one : goal.returns-clause-if_one
 returns-clause-if_one c = λ bits h.

@@ -10,4 +10,5 @@ returns-clause-found c = given_is_text c.args.text.now c.read_text.result c.read
 
 pub returns-clause-only : goal.returns-clause-only
 returns-clause-only c formula t =
-    subst (λ (read : Result Formula DimacsFault). Gives (λ (f : Formula). f) c.read_text.result read) (text_is_read c.args.text.now formula t) c.read_text.ensures
+    subst (λ (read : Result Formula DimacsFault). Gives (λ (f : Formula). f) c.read_text.result read)
+    (text_is_read c.args.text.now formula t) c.read_text.ensures

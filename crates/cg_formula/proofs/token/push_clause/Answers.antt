@@ -5,5 +5,6 @@ use Rattle.cg_formula.proofs.token.push_clause.Goals as goal
 
 pub returns : goal.returns
 returns c =
-    words_pushed lit_word c.args.text.now.items c.loop-lit.text.items c.push.new.self.items c.args.clause.now.lits c.loop-lit.lit-index (omega (arith, ap length c.as_slice-lit-items.ensures.parts))
+    words_pushed lit_word c.args.text.now.items c.loop-lit.text.items c.push.new.self.items c.args.clause.now.lits c.loop-lit.lit-index
+    (omega (arith, ap length c.as_slice-lit-items.ensures.parts))
     c.loop-lit.invariant c.in_ok-push.ensures.items

@@ -10,4 +10,5 @@ returns-clause-found c = given_is_text c.args.text.now c.read_text.result c.read
 
 pub returns-clause-only : goal.returns-clause-only
 returns-clause-only c log t =
-    subst (λ (read : Result Log LratFault). Gives (λ (l : Log). l) c.read_text.result read) (text_is_read c.args.text.now log t) c.read_text.ensures
+    subst (λ (read : Result Log LratFault). Gives (λ (l : Log). l) c.read_text.result read) (text_is_read c.args.text.now log t)
+    c.read_text.ensures

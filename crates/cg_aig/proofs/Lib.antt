@@ -1,3 +1,6 @@
 pub mod Ands
 pub mod Fills
+pub mod GateRuns
+pub mod Inputs
 pub mod Members
+pub mod RunsFit

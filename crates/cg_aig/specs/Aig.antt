@@ -2,6 +2,7 @@
 -- follow, each with the pair of its operands. A list is seen as its number of leaves and its pairs.
 -- A literal is a number, as in the AIGER format: twice its node, plus 1 where it is inverted.
 use Rattle.std.specs.Prelude.{◌≤◌, ◌==◌, ℕ, zero, suc, ◌+◌, ◌-◌, ◌*◌, ◌/◌, ◌%◌, Bool, true, false, not, ◌&&◌, ◌||◌, nat_lt, if◌then◌else◌, List, [], ◌∷◌, ◌++◌, length, slice_index_or, position, Option, Some, None, IsTrue}
+use Rattle.cg_limit.specs.declared.TheConstants.{MOST_CLAIM_NODES}
 use Rattle.cg_cell.specs.Domain.{Made, Ops, Seen}
 
 -- The inverse of a literal.
@@ -95,4 +96,4 @@ aig_ops = record {
 -- together are at most 65,536.
 pub record IsAig (s : Seen) : Type 0 where
   pub sound : IsTrue (is_sound s)
-  pub small : s.number + length s.pairs ≤ 65536
+  pub small : s.number + length s.pairs ≤ MOST_CLAIM_NODES

@@ -1,6 +1,6 @@
 //! Why an and-inverter list may refuse a call.
 
-use cg_cell::limit::Limit;
+use cg_limit::Limit;
 
 /// Why a call on an and-inverter list was refused.
 #[derive(Clone, Copy, Debug, PartialEq, Eq)]

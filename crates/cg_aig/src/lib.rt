@@ -11,10 +11,12 @@
 //! - [`lit`]: literals;
 //! - [`fault`]: why a call is refused;
 //! - [`list`]: the list of nodes;
+//! - [`function`]: expressions and covers, built into a list;
 //! - `values`: the values of nodes, where the leaves have given bits.
 #![tactic(auto)]
 
 pub mod fault;
+pub mod function;
 pub mod list;
 pub mod lit;
 #[cfg(test)]

@@ -12,13 +12,10 @@ use crate::lit::AigLit;
 use crate::values;
 use cg_cell::build;
 use cg_cell::domain::Domain;
-use cg_cell::limit::Limit;
+use cg_limit::{Limit, MOST_CLAIM_NODES};
 use indexmap::IndexSet;
 use std::alloc::Global;
 use std::marker::Model;
-
-/// The most leaves and and-nodes of one list.
-const MOST: u32 = 65_536;
 
 /// An and-inverter list.
 ///
@@ -51,7 +48,7 @@ impl Aig {
         ensures made { IfOk result (λ aig. aig ≡ record { number = leaves; pairs = [] }) }
         ensures refused { IfErr result (λ fault. IsPastLimit leaves fault) }
     {
-        if leaves > MOST {
+        if leaves > MOST_CLAIM_NODES {
             return Err(AigFault::Limit(Limit::ClaimNodes));
         }
         Ok(Aig {
@@ -60,17 +57,18 @@ impl Aig {
         })
     }
 
-    /// Begins again with that many leaves and no and-nodes, in the memory that is there. It is refused
-    /// exactly where these leaves are too many, and the list then stays as it is.
+    /// Begins again with that many leaves and no and-nodes, in the memory that is there, at the cost of the
+    /// and-nodes that are there. It is refused exactly where these leaves are too many, and the list then
+    /// stays as it is.
     pub fn clear(&mut self, leaves: u32) -> Result<(), AigFault>
         ensures cleared { OnOk result (self.new ≡ record { number = leaves; pairs = [] }) }
         ensures refused { IfErr result (λ fault. IsPastLimit leaves fault) }
         ensures unchanged { OnErr result (self.new ≡ self.old) }
     {
-        if leaves > MOST {
+        if leaves > MOST_CLAIM_NODES {
             return Err(AigFault::Limit(Limit::ClaimNodes));
         }
-        self.pairs.clear();
+        take_all(&mut self.pairs);
         self.leaves = leaves;
         Ok(())
     }
@@ -272,24 +270,32 @@ fn ordered(a: u32, b: u32) -> (u32, u32)
     if a < b { (a, b) } else { (b, a) }
 }
 
+/// Takes all pairs away, one by one: to clear the table of hashes would cost as much as the largest list
+/// that it ever held.
+fn take_all(pairs: &mut IndexSet<(u32, u32)>)
+    ensures { pairs.new.keys ≡ [] }
+{
+    'pairs: while let Some(_) = pairs.pop() {}
+}
+
 /// The literal of the node that has this pair of operands, found or added.
 fn put_pair(
     leaves: u32,
     pairs: &mut IndexSet<(u32, u32)>,
     pair: (u32, u32),
 ) -> Result<AigLit, AigFault>
-    requires { leaves + length pairs.old.keys ≤ 65536 }
+    requires { leaves + length pairs.old.keys ≤ MOST_CLAIM_NODES }
     ensures made { IfOk result (λ v. Makes (record { number = leaves; pairs = pairs.old.keys })
         (put (record { number = leaves; pairs = pairs.old.keys }) pair)
         (record { number = leaves; pairs = pairs.new.keys }) v) }
     ensures refused { IfErr result (λ fault. Refuses (NoRoom (record { number = leaves; pairs = pairs.old.keys }) pair) fault) }
     ensures unchanged { OnErr result (pairs.new.keys ≡ pairs.old.keys) }
-    ensures small { leaves + length pairs.new.keys ≤ 65536 }
+    ensures small { leaves + length pairs.new.keys ≤ MOST_CLAIM_NODES }
 {
     if let Some(k) = pairs.get_index_of(&pair) {
         return Ok(AigLit::of(2 * (1 + leaves + k as u32)));
     }
-    if leaves as usize + pairs.len() >= MOST as usize {
+    if leaves as usize + pairs.len() >= MOST_CLAIM_NODES as usize {
         return Err(AigFault::Limit(Limit::ClaimNodes));
     }
     match pairs.insert_full(pair) {

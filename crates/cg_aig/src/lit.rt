@@ -1,7 +1,8 @@
 //! Literals of and-inverter lists.
 
-ghost use Rattle.std.specs.Prelude.{◌≡◌, ℕ, Bool, List, not};
-ghost use Rattle.cg_aig.specs.Aig.{inverse, lit_bit};
+ghost use Rattle.std.specs.Prelude.{◌≡◌, ℕ, Bool, List, IsTrue, not};
+ghost use Rattle.cg_cell.specs.Domain.{Seen};
+ghost use Rattle.cg_aig.specs.Aig.{aig_ops, inverse, lit_bit};
 
 use std::marker::Model;
 
@@ -37,9 +38,11 @@ impl AigLit {
         self.number
     }
 
-    /// The inverse literal. Whatever the values of the nodes are, its bit is the other one.
+    /// The inverse literal. Whatever the values of the nodes are, its bit is the other one. It is of the same node,
+    /// and so valid in every list in which the literal is.
     pub fn not(self) -> AigLit
         ensures number { result ≡ inverse self }
+        ensures valid { (list : Seen) → IsTrue (aig_ops.is_valid list self) → IsTrue (aig_ops.is_valid list result) }
         ensures bit { (values : List Bool) → lit_bit values result ≡ not (lit_bit values self) }
     {
         AigLit {

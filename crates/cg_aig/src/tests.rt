@@ -74,6 +74,24 @@ fn finds_each_pair_again_in_1000_rounds(rt: HostRuntime) {
     assert_eq!(rt; aig.ands(), 32_640);
 }
 
+/// Whether a list of two leaves and one and-node is made, so many times after one another in the memory of another.
+fn small_lists(aig: &mut Aig, times: u32) -> bool {
+    for _ in 0..times {
+        if aig.clear(2).is_err() || leaf_pair(aig, 0, 1) != Some(6) {
+            return false;
+        }
+    }
+    true
+}
+
+#[test]
+fn makes_a_million_small_lists_after_a_large_one(rt: HostRuntime) {
+    let mut aig = Aig::new(rt.alloc(), 256).expect(&rt, "256 leaves");
+    assert!(rt; all_pairs_in_order(&mut aig));
+    assert!(rt; small_lists(&mut aig, 1_000_000));
+    assert_eq!(rt; aig.ands(), 1);
+}
+
 #[test]
 fn refuses_a_node_beyond_the_limit(rt: HostRuntime) {
     assert!(rt; Aig::new(rt.alloc(), 65_537).is_err());

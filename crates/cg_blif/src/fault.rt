@@ -3,7 +3,7 @@
 ghost use Rattle.std.specs.Prelude.{◌≡◌};
 ghost use Rattle.cg_blif.specs.declared.fault.BlifFault.TheVariants.{NoMemory};
 
-use cg_cell::limit::Limit;
+use cg_limit::Limit;
 use cg_netlist::fault::NetFault;
 use std::alloc::{AllocError, AllocFailed};
 use thiserror::Error;

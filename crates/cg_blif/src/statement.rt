@@ -13,7 +13,7 @@ use cg_blif_text::command::Command;
 use cg_blif_text::fault::LineFault;
 use cg_blif_text::statement::Statement;
 use cg_blif_text::word::Word;
-use cg_cell::limit::Limit;
+use cg_limit::Limit;
 use cg_list::Seq;
 use std::alloc::{AllocError, Global};
 

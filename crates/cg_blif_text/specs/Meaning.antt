@@ -2,7 +2,7 @@
 use Rattle.std.specs.Prelude.{ℕ, ◌-◌, ◌==◌, if◌then◌else◌, List, [], ◌∷◌, length, map, nat_lt, take, slice_index_or, Result, Ok, Err}
 use Rattle.std.specs.List.{list_all}
 use Rattle.cg_cell.specs.Name.{is_name}
-use Rattle.cg_cell.specs.declared.limit.Limit.TheVariants.{CoverInputs}
+use Rattle.cg_limit.specs.declared.Limit.TheVariants.{CoverInputs}
 use Rattle.cg_blif_text.specs.declared.command.Command.{Command}
 use Rattle.cg_blif_text.specs.declared.command.Command.TheVariants as commands
 use Rattle.cg_blif_text.specs.declared.fault.LineFault.{LineFault}

@@ -1,6 +1,6 @@
 //! Why a line says nothing.
 
-use cg_cell::limit::Limit;
+use cg_limit::Limit;
 
 /// What a line has wrong, in the order in which the causes are looked for at one line.
 #[derive(Clone, Copy, Debug, PartialEq, Eq)]

@@ -3,7 +3,8 @@ use Rattle.std.proofs.Common.{◌≡◌, ℕ, suc, ◌+◌, ◌-◌, ◌<◌, Bo
 use Rattle.std.proofs.lemmas.Bool.Decides.{nat_tests}
 use Rattle.std.proofs.lemmas.List.{drop-drop}
 use Rattle.std.specs.List.{prefix_len, take_while}
-use Rattle.cg_cell.specs.ExprTokens.{Word, is_blank, is_word_byte, tokens_from}
+use Rattle.cg_text.specs.Blanks.{is_white_space}
+use Rattle.cg_cell.specs.ExprTokens.{Word, is_word_byte, tokens_from}
 
 -- a blank is below every byte of a word
 below_words : (byte : ℕ) → byte < 46 → is_word_byte byte ≡ false
@@ -17,17 +18,17 @@ below_words byte h =
     let g : nat_eq byte 46 ≡ false = grind (arith, nat_tests) in
     rw (a, b, c, d, e, f, g) refl
 
-blank_below : (byte : ℕ) → is_blank byte ≡ true → byte < 46
+blank_below : (byte : ℕ) → is_white_space byte ≡ true → byte < 46
 blank_below byte h = grind (arith, nat_tests)
 
-pub blank_no_word : (byte : ℕ) → is_blank byte ≡ true → is_word_byte byte ≡ false
+pub blank_no_word : (byte : ℕ) → is_white_space byte ≡ true → is_word_byte byte ≡ false
 blank_no_word byte h = below_words byte (blank_below byte h)
 
 -- a blank is no token
-blank-first : (at byte : ℕ) (bytes : List ℕ) → is_blank byte ≡ true → tokens_from false at (byte ∷ bytes) ≡ tokens_from false (at + 1) bytes
+blank-first : (at byte : ℕ) (bytes : List ℕ) → is_white_space byte ≡ true → tokens_from false at (byte ∷ bytes) ≡ tokens_from false (at + 1) bytes
 blank-first at byte bytes h = let w = blank_no_word byte h in rw (w, h) refl
 
-pub blank-step : (text : List ℕ) (at : ℕ) → at < length text → is_blank (slice_index text at) ≡ true → tokens_from false at (drop at text) ≡ tokens_from false (at + 1) (drop (at + 1) text)
+pub blank-step : (text : List ℕ) (at : ℕ) → at < length text → is_white_space (slice_index text at) ≡ true → tokens_from false at (drop at text) ≡ tokens_from false (at + 1) (drop (at + 1) text)
 blank-step text at h blank = ap (tokens_from false at) (drop-cons text at 0 h) ∙ ap (λ n. tokens_from false at (slice_index text at ∷ drop n text)) (sym (add-one at)) ∙ blank-first at (slice_index text at) (drop (at + 1) text) blank
 
 inside : (at byte : ℕ) (bytes : List ℕ) → is_word_byte byte ≡ true → tokens_from true at (byte ∷ bytes) ≡ tokens_from true (at + 1) bytes

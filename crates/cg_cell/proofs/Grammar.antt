@@ -1,6 +1,7 @@
 -- What the grammar has is read, and as the term that it stands for.
 use Rattle.std.proofs.Common.{◌≡◌, ℕ, ◌+◌, ◌<◌, Bool, true, false, cond, nat_lt, List, [], ◌∷◌, ◌++◌, Result, Ok, Err, refl, length, ap, sym, ◌∙◌, append_assoc, append-nil, arith}
 use Rattle.std.proofs.lemmas.Bool.Decides.{nat_tests}
+use Rattle.cg_limit.specs.declared.TheConstants.{MOST_NESTING}
 use Rattle.cg_cell.specs.ExprReading.{Pending, OrLeft, AndLeft, XorLeft, Inversion, Bracket, Ended, Mode, Expects, Has, and_end, begin, closed, has_leaf, nesting, opened, or_end, read_on, read_text, xor_end, complete, join_and, join_or}
 use Rattle.cg_cell.specs.ExprTokens.{Sort, Token, Word, OrSign, AndSign, XorSign, NotSign, PrimeSign, OpenBracket, CloseBracket, Other, tokens_from}
 use Rattle.cg_cell.specs.ExprGrammar.{ExprText, Level, AtomLevel, PrimeLevel, NotLevel, XorLevel, AndLevel, OrLevel, Stands, word, brackets, unprimed, primed, upright, inverted, one_of, xor, factor, and, neighbours, summand, or}
@@ -53,7 +54,7 @@ before_or [] = Unit {0}
 before_or (Bracket ∷ pending) = Unit {0}
 before_or _ = ⊥
 
-abbrev waits : Level → List Pending → Type 0
+abbrev pub waits : Level → List Pending → Type 0
 waits AtomLevel pending = Unit {0}
 waits PrimeLevel pending = Unit {0}
 waits NotLevel pending = Unit {0}
@@ -161,7 +162,7 @@ behind_and : (ts rest : List Token) → Begins ts → Follows ends_and (ts ++ re
 behind_and [] rest h = absurd h
 behind_and (token ∷ ts) rest h = begins_and token.sort h
 
-room : (d n : ℕ) → n ≡ d → d < 64 → nat_lt n 64 ≡ true
+room : (d n : ℕ) → n ≡ d → d < MOST_NESTING → nat_lt n MOST_NESTING ≡ true
 room d n e h = grind (arith, nat_tests)
 
 stands_begin : (pins : List (List ℕ)) (level : Level) (d : ℕ) (ts : List Token) (t : Term) → Stands pins level d ts t → Begins ts
@@ -248,7 +249,7 @@ module _ (pins : List (List ℕ)) (end : ℕ) where
   neighbour t ps [] rest h = absurd h
   neighbour t ps (token ∷ us) rest h = neighbour-at t ps token.at token.sort (us ++ rest) h
 
-  open_up : (at : ℕ) (opening : Pending) (ps : List Pending) (d : ℕ) (tokens : List Token) → nesting ps ≡ d → d < 64 → read_on pins end (opened at opening ps) tokens ≡ read (Expects (opening ∷ ps)) tokens
+  open_up : (at : ℕ) (opening : Pending) (ps : List Pending) (d : ℕ) (tokens : List Token) → nesting ps ≡ d → d < MOST_NESTING → read_on pins end (opened at opening ps) tokens ≡ read (Expects (opening ∷ ps)) tokens
   open_up at opening ps d tokens n h = ap (λ (b : Bool). read_on pins end (cond b (Ok (Expects (opening ∷ ps))) (Err (TooDeep at))) tokens) (room d (nesting ps) n h)
 
   -- a part of a level is read as an operand with its term
@@ -294,6 +295,10 @@ module _ (pins : List (List ℕ)) (end : ℕ) where
       ∙ reads AndLevel o vs v r (OrLeft u ∷ ps) rest tt n (weaker ends_or ends_and rest or_and_sort h)
       ∙ as_or v (Either u v) (OrLeft u ∷ ps) ps rest (sym (or_alone (Either u v) ps w)) h
 
+-- tokens that stand for a term are read as it
+pub reads_tokens : (pins : List (List ℕ)) (end : ℕ) (tokens : List Token) (t : Term) → Stands pins OrLevel 0 tokens t → read_on pins end (Ok (Expects [])) tokens ≡ Ok t
+reads_tokens pins end tokens t stands = ap (read_on pins end (Ok (Expects []))) (sym (append-nil tokens)) ∙ reads pins end OrLevel 0 tokens t stands [] [] tt refl tt
+
 -- an expression is read, as the term that it stands for
 pub reads_text : (pins : List (List ℕ)) (text : List ℕ) (t : Term) → ExprText pins text t → read_text pins text ≡ Ok t
-reads_text pins text t stands = ap (read_on pins (length text) (Ok (Expects []))) (sym (append-nil (tokens_from false 0 text))) ∙ reads pins (length text) OrLevel 0 (tokens_from false 0 text) t stands [] [] tt refl tt
+reads_text pins text t stands = reads_tokens pins (length text) (tokens_from false 0 text) t stands

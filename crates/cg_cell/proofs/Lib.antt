@@ -5,12 +5,16 @@ pub mod EvalCovers
 pub mod Evals
 pub mod ExprWords
 pub mod Exprs
+pub mod FirstFault
 pub mod Functions
 pub mod Grammar
 pub mod Joins
 pub mod Libraries
+pub mod LoneInputs
 pub mod Operations
 pub mod Readings
+pub mod Runs
+pub mod RunsGrow
 pub mod Sound
 pub mod Terms
 pub mod Within

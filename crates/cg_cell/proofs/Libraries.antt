@@ -1,13 +1,13 @@
 -- Cells under their names, in the order of a library.
 use Rattle.std.proofs.Common.{◌≡◌, ℕ, suc, subst, ◌+◌, Bool, true, false, not, cond, List, [], ◌∷◌, ◌++◌, length, map, position, Option, None, Some, refl, ap, sym, ◌∙◌, nat_lt, is_some, ◌<◌, ◌≤◌, IfSome, eqb, length-append, arith}
-use Rattle.std.specs.List.{position_or_len}
+use Rattle.std.specs.List.{AllByRecursion, position_or_len}
 use Rattle.std.specs.Str.{bytes_eq}
 use Rattle.std.specs.Map.{lookup}
 use Rattle.std.proofs.lemmas.List.Folds.{position_or_len_push}
 use Rattle.std.proofs.lemmas.List.Sums.{prefix_len-le-length}
 use Rattle.std.proofs.lemmas.Bool.Decides.{nat_tests}
 use Rattle.indexmap.proofs.MapLemmas.{some_index}
-use Rattle.cg_cell.specs.Cell.{CellData}
+use Rattle.cg_cell.specs.Cell.{CellData, IsCell}
 use Rattle.cg_cell.specs.Fit.{is_fit}
 use Rattle.cg_cell.specs.declared.fit.FitKind.{FitKind}
 use Rattle.cg_cell.specs.Library.{AreNamed, find_cell, first_fit, noted}
@@ -53,6 +53,14 @@ none_there bytes name es named none = absent (lookup (λ k. bytes_eq name (bytes
     absent : (o : Option CellData) → is_some o ≡ false → o ≡ None
     absent None e = refl
     absent (Some cell) e = cc
+
+all_push : (cells : List CellData) (cell : CellData) → AllByRecursion IsCell cells → IsCell cell → AllByRecursion IsCell (cells ++ cell ∷ [])
+all_push [] cell all is = (is, tt)
+all_push (first ∷ cells) cell all is = (all.0, all_push cells cell all.1 is)
+
+-- one more cell among cells
+pub cells_push : (cells : List CellData) (cell : CellData) (new : List CellData) → AllByRecursion IsCell cells → IsCell cell → new ≡ cells ++ cell ∷ [] → AllByRecursion IsCell new
+cells_push cells cell new all is added = subst (AllByRecursion IsCell) (sym added) (all_push cells cell all is)
 
 -- the first of a kind, after one more cell is looked at
 pub noted_fit : (kind : FitKind) (cells : List CellData) (cell : CellData) (new : List CellData) (first : Option ℕ) (number : ℕ) (fits : Bool) (result : Option ℕ)

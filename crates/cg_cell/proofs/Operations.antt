@@ -10,17 +10,17 @@ pub on_err : {T E : Type 0} (P : Type 0) (r : Result T E) → P → OnErr r P
 on_err P (Ok x) h = tt
 on_err P (Err e) h = h
 
-or_bits : (a b : Bool) → not (not a && not b) ≡ (a || b)
+pub or_bits : (a b : Bool) → not (not a && not b) ≡ (a || b)
 or_bits true b = refl
 or_bits false true = refl
 or_bits false false = refl
 
-xor_bits : (a b : Bool) → ((a && not b) || (not a && b)) ≡ differ a b
+pub xor_bits : (a b : Bool) → ((a && not b) || (not a && b)) ≡ differ a b
 xor_bits true true = refl
 xor_bits true false = refl
 xor_bits false b = refl
 
-mux_bits : (c a b : Bool) → ((c && a) || (not c && b)) ≡ (if c then a else b)
+pub mux_bits : (c a b : Bool) → ((c && a) || (not c && b)) ≡ (if c then a else b)
 mux_bits true true b = refl
 mux_bits true false b = refl
 mux_bits false a b = refl

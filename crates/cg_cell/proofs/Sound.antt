@@ -1,6 +1,7 @@
 -- What is read is in the grammar, and stands for the term that it is read as.
 use Rattle.std.proofs.Common.{◌≡◌, ℕ, ◌+◌, ◌<◌, Bool, true, false, cond, nat_lt, List, [], ◌∷◌, ◌++◌, Result, Ok, Err, refl, ap, sym, ◌∙◌, subst, length, append_assoc, append-nil, arith}
 use Rattle.std.proofs.lemmas.Bool.Decides.{nat_tests}
+use Rattle.cg_limit.specs.declared.TheConstants.{MOST_NESTING}
 use Rattle.cg_cell.specs.ExprReading.{Pending, OrLeft, AndLeft, XorLeft, Inversion, Bracket, Ended, Mode, Expects, Has, after, and_end, begin, closed, complete, go_on, has_leaf, inv_end, join_and, join_or, join_xor, leaf, nesting, or_end, read_on, read_text, xor_end}
 use Rattle.cg_cell.specs.ExprTokens.{Sort, Token, Word, OrSign, AndSign, XorSign, NotSign, PrimeSign, OpenBracket, CloseBracket, Other, tokens_from}
 use Rattle.cg_cell.specs.ExprGrammar.{ExprText, Level, PrimeLevel, NotLevel, XorLevel, AndLevel, OrLevel, Stands, word, brackets, unprimed, primed, upright, inverted, one_of, xor, factor, and, neighbours, summand, or}
@@ -9,27 +10,27 @@ use Rattle.cg_cell.specs.declared.fault.ExprFault.{ExprFault}
 use Rattle.cg_cell.specs.declared.fault.ExprFault.TheVariants.{TooDeep}
 use Rattle.cg_cell.proofs.Grammar.{before_and, before_or, before_xor}
 
-abbrev sign : ℕ → Sort → Token
+abbrev pub sign : ℕ → Sort → Token
 sign at sort = record { at = at; sort = sort }
 
 -- what waits, and the tokens that it was read from
-data Waited (pins : List (List ℕ)) : List Pending → List Token → Type 0 where
+pub data Waited (pins : List (List ℕ)) : List Pending → List Token → Type 0 where
   nothing : Waited pins [] []
   left_or : (ps : List Pending) (before ts : List Token) (at : ℕ) (s : Term) → Waited pins ps before → before_or ps → Stands pins OrLevel (nesting ps) ts s → Waited pins (OrLeft s ∷ ps) (before ++ (ts ++ record { at = at; sort = OrSign } ∷ []))
   left_and : (ps : List Pending) (before ts : List Token) (at : ℕ) (s : Term) → Waited pins ps before → before_and ps → Stands pins AndLevel (nesting ps) ts s → Waited pins (AndLeft s ∷ ps) (before ++ (ts ++ record { at = at; sort = AndSign } ∷ []))
   left_next : (ps : List Pending) (before ts : List Token) (s : Term) → Waited pins ps before → before_and ps → Stands pins AndLevel (nesting ps) ts s → Waited pins (AndLeft s ∷ ps) (before ++ ts)
   left_xor : (ps : List Pending) (before ts : List Token) (at : ℕ) (s : Term) → Waited pins ps before → before_xor ps → Stands pins XorLevel (nesting ps) ts s → Waited pins (XorLeft s ∷ ps) (before ++ (ts ++ record { at = at; sort = XorSign } ∷ []))
-  not_open : (ps : List Pending) (before : List Token) (at : ℕ) → Waited pins ps before → nesting ps < 64 → Waited pins (Inversion ∷ ps) (before ++ record { at = at; sort = NotSign } ∷ [])
-  bracket_open : (ps : List Pending) (before : List Token) (at : ℕ) → Waited pins ps before → nesting ps < 64 → Waited pins (Bracket ∷ ps) (before ++ record { at = at; sort = OpenBracket } ∷ [])
+  not_open : (ps : List Pending) (before : List Token) (at : ℕ) → Waited pins ps before → nesting ps < MOST_NESTING → Waited pins (Inversion ∷ ps) (before ++ record { at = at; sort = NotSign } ∷ [])
+  bracket_open : (ps : List Pending) (before : List Token) (at : ℕ) → Waited pins ps before → nesting ps < MOST_NESTING → Waited pins (Bracket ∷ ps) (before ++ record { at = at; sort = OpenBracket } ∷ [])
 
 abbrev no_not : List Pending → Type 0
 no_not (Inversion ∷ ps) = ⊥
 no_not _ = Unit {0}
 
-regroup : (a b c : List Token) (x : Token) → (a ++ (b ++ x ∷ [])) ++ c ≡ a ++ (b ++ x ∷ c)
+pub regroup : (a b c : List Token) (x : Token) → (a ++ (b ++ x ∷ [])) ++ c ≡ a ++ (b ++ x ∷ c)
 regroup a b c x = append_assoc a (b ++ x ∷ []) c ∙ ap (λ l. a ++ l) (append_assoc b (x ∷ []) c)
 
-grown : (all a b : List Token) (x : Token) → all ≡ a ++ b → all ++ x ∷ [] ≡ a ++ (b ++ x ∷ [])
+pub grown : (all a b : List Token) (x : Token) → all ≡ a ++ b → all ++ x ∷ [] ≡ a ++ (b ++ x ∷ [])
 grown all a b x e = ap (λ l. l ++ x ∷ []) e ∙ append_assoc a b (x ∷ [])
 
 module _ (pins : List (List ℕ)) where
@@ -79,12 +80,12 @@ module _ (pins : List (List ℕ)) where
   join_or-ends t ps before ts all (bracket_open qs b at w lt) n h e = record { before = _; ts = ts; waited = bracket_open qs b at w lt; stands = summand (nesting qs + 1) ts t h; split = e; is_free = tt }
 
   -- an operand, behind what waits
-  record Has_read (t : Term) (ps : List Pending) (all : List Token) : Type 0 where
-    before : List Token
-    ts : List Token
-    waited : Waited pins ps before
-    stands : Stands pins PrimeLevel (nesting ps) ts t
-    split : all ≡ before ++ ts
+  pub record Has_read (t : Term) (ps : List Pending) (all : List Token) : Type 0 where
+    pub before : List Token
+    pub ts : List Token
+    pub waited : Waited pins ps before
+    pub stands : Stands pins PrimeLevel (nesting ps) ts t
+    pub split : all ≡ before ++ ts
 
   xor_end-ends : (t : Term) (ps : List Pending) (all : List Token) → Has_read t ps all → Ends XorLevel before_xor (xor_end t ps) all
   xor_end-ends t ps all h =
@@ -97,15 +98,15 @@ module _ (pins : List (List ℕ)) where
   or_end-ends : (t : Term) (ps : List Pending) (all : List Token) → Has_read t ps all → Ends OrLevel before_or (or_end t ps) all
   or_end-ends t ps all h = let e = and_end-ends t ps all h in join_or-ends (and_end t ps).term (and_end t ps).pending e.before e.ts all e.waited e.is_free e.stands e.split
 
-  abbrev ModeReads : Mode → List Token → Type 0
+  abbrev pub ModeReads : Mode → List Token → Type 0
   ModeReads (Expects ps) all = Waited pins ps all
   ModeReads (Has t ps) all = Has_read t ps all
 
-  abbrev Leads : Result Mode ExprFault → List Token → Type 0
+  abbrev pub Leads : Result Mode ExprFault → List Token → Type 0
   Leads (Ok mode) all = ModeReads mode all
   Leads (Err fault) all = Unit {0}
 
-  below_64 : (n : ℕ) → nat_lt n 64 ≡ true → n < 64
+  below_64 : (n : ℕ) → nat_lt n MOST_NESTING ≡ true → n < MOST_NESTING
   below_64 n e = grind (arith, nat_tests)
 
   begin-leads : (ps : List Pending) (at : ℕ) (sort : Sort) (all : List Token) → Waited pins ps all → Leads (begin pins ps (record { at = at; sort = sort })) (all ++ record { at = at; sort = sort } ∷ [])
@@ -117,15 +118,15 @@ module _ (pins : List (List ℕ)) where
   begin-leads ps at OrSign all w = tt
   begin-leads ps at AndSign all w = tt
   begin-leads ps at XorSign all w = tt
-  begin-leads ps at NotSign all w = pick (nat_lt (nesting ps) 64) refl
+  begin-leads ps at NotSign all w = pick (nat_lt (nesting ps) MOST_NESTING) refl
     where
-      pick : (b : Bool) → nat_lt (nesting ps) 64 ≡ b → Leads (cond b (Ok (Expects (Inversion ∷ ps))) (Err (TooDeep at))) (all ++ record { at = at; sort = NotSign } ∷ [])
+      pick : (b : Bool) → nat_lt (nesting ps) MOST_NESTING ≡ b → Leads (cond b (Ok (Expects (Inversion ∷ ps))) (Err (TooDeep at))) (all ++ record { at = at; sort = NotSign } ∷ [])
       pick true e = not_open ps all at w (below_64 (nesting ps) e)
       pick false e = tt
   begin-leads ps at PrimeSign all w = tt
-  begin-leads ps at OpenBracket all w = pick (nat_lt (nesting ps) 64) refl
+  begin-leads ps at OpenBracket all w = pick (nat_lt (nesting ps) MOST_NESTING) refl
     where
-      pick : (b : Bool) → nat_lt (nesting ps) 64 ≡ b → Leads (cond b (Ok (Expects (Bracket ∷ ps))) (Err (TooDeep at))) (all ++ record { at = at; sort = OpenBracket } ∷ [])
+      pick : (b : Bool) → nat_lt (nesting ps) MOST_NESTING ≡ b → Leads (cond b (Ok (Expects (Bracket ∷ ps))) (Err (TooDeep at))) (all ++ record { at = at; sort = OpenBracket } ∷ [])
       pick true e = bracket_open ps all at w (below_64 (nesting ps) e)
       pick false e = tt
   begin-leads ps at CloseBracket all w = tt
@@ -162,7 +163,7 @@ module _ (pins : List (List ℕ)) where
   go_on-leads t ps at CloseBracket all h = let e = or_end-ends t ps all h in closed-leads (or_end t ps).term (or_end t ps).pending at e.before e.ts all e.waited e.stands e.split
   go_on-leads t ps at Other all h = tt
 
-  after-leads : (reading : Result Mode ExprFault) (token : Token) (all : List Token) → Leads reading all → Leads (after pins reading token) (all ++ token ∷ [])
+  pub after-leads : (reading : Result Mode ExprFault) (token : Token) (all : List Token) → Leads reading all → Leads (after pins reading token) (all ++ token ∷ [])
   after-leads (Ok (Expects ps)) token all h = begin-leads ps token.at token.sort all h
   after-leads (Ok (Has t ps)) token all h = go_on-leads t ps token.at token.sort all h
   after-leads (Err fault) token all h = tt

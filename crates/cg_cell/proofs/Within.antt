@@ -3,6 +3,7 @@ use Rattle.std.proofs.Common.{◌≡◌, ℕ, ◌+◌, ◌<◌, Bool, true, fals
 use Rattle.std.proofs.lemmas.Bool.Decides.{nat_tests}
 use Rattle.std.specs.List.{position_from}
 use Rattle.std.specs.Str.{bytes_eq}
+use Rattle.cg_limit.specs.declared.TheConstants.{MOST_NESTING}
 use Rattle.cg_cell.specs.ExprReading.{Pending, OrLeft, AndLeft, XorLeft, Inversion, Bracket, Ended, Mode, Expects, Has, after, and_end, begin, closed, complete, constant, finish, go_on, has_leaf, inv_end, join_and, join_or, join_xor, leaf, nesting, or_end, read_on, read_text, variable, xor_end}
 use Rattle.cg_cell.specs.ExprTokens.{Sort, Token, Word, OrSign, AndSign, XorSign, NotSign, PrimeSign, OpenBracket, CloseBracket, Other, is_digit, is_letter, tokens_from}
 use Rattle.cg_cell.specs.Term.{Term, Bit, Inverse, is_within}
@@ -93,8 +94,8 @@ module _ (n : ℕ) where
       below : (k n : ℕ) → k < n → IsTrue (nat_lt k n)
       below k n h = grind (arith, nat_tests)
 
-  opened-within : (at : ℕ) (pending : List Pending) (mode : Mode) → ModeWithin mode → ReadsWithin ModeWithin (cond (nat_lt (nesting pending) 64) (Ok mode) (Err (TooDeep at)))
-  opened-within at pending mode h = cond_reads ModeWithin (nat_lt (nesting pending) 64) (Ok mode) (Err (TooDeep at)) h tt
+  opened-within : (at : ℕ) (pending : List Pending) (mode : Mode) → ModeWithin mode → ReadsWithin ModeWithin (cond (nat_lt (nesting pending) MOST_NESTING) (Ok mode) (Err (TooDeep at)))
+  opened-within at pending mode h = cond_reads ModeWithin (nat_lt (nesting pending) MOST_NESTING) (Ok mode) (Err (TooDeep at)) h tt
 
   closed-within : (at : ℕ) (t : Term) (pending : List Pending) → Within t → AllWithin pending → ReadsWithin ModeWithin (closed at (record { term = t; pending = pending }))
   closed-within at t [] h k = tt

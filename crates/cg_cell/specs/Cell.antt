@@ -1,7 +1,7 @@
 -- Cells of a library, and what is true of each.
-use Rattle.std.specs.Prelude.{◌≡◌, ℕ, ◌+◌, ◌≤◌, List, [], length, map, count_by, ◌||◌, IsTrue, Option, None, Some}
-use Rattle.std.specs.List.{AllByRecursion}
-use Rattle.cg_cell.specs.Name.{are_distinct, has_no_equals}
+use Rattle.std.specs.Prelude.{◌≡◌, ℕ, ◌+◌, ◌≤◌, List, [], length, map, count_by, ◌||◌, Bool, IsTrue, Option, None, Some}
+use Rattle.std.specs.List.{AllByRecursion, list_any}
+use Rattle.cg_cell.specs.Name.{are_distinct, has_no_equals, is_name}
 use Rattle.cg_cell.specs.Term.{Term, is_within}
 use Rattle.cg_cell.specs.Pins.{PinData, is_data, is_clock, is_enable, is_test, is_output, is_state}
 use Rattle.cg_cell.specs.declared.cell.CellKind.{CellKind}
@@ -56,8 +56,14 @@ HasFunction Gater variables None = Unit {0}
 HasFunction Unusable variables None = Unit {0}
 HasFunction _ variables _ = ⊥
 
--- what is true of every cell
+-- whether the cell has a test input
+abbrev pub has_test : CellData → Bool
+has_test cell = list_any is_test cell.pins
+
+-- what is true of every cell: it has a name, its pins have different names that a word `pin=net` can give, and pins and function are those of its kind
 pub record IsCell (cell : CellData) : Type 0 where
+  pub named : IsTrue (is_name cell.name)
+  pub pins_named : AllByRecursion (λ pin. IsTrue (is_name pin.name)) cell.pins
   pub few : length cell.pins ≤ 16
   pub distinct : IsTrue (are_distinct (map (λ pin. pin.name) cell.pins))
   pub unsplit : AllByRecursion (λ pin. IsTrue (has_no_equals pin.name)) cell.pins

@@ -1,8 +1,8 @@
 -- Expressions over numbered variables, as Liberty writes functions.
-use Rattle.std.specs.Prelude.{ℕ, Bool, true, false, ◌==◌, nat_lt, List, map, slice_index_or, Option, Some, None}
+use Rattle.std.specs.Prelude.{ℕ, Bool, true, false, ◌==◌, nat_lt, List, map, slice_index_or}
 use Rattle.cg_cell.specs.Gates.{all_of, any_of, inverted, odd_of}
 use Rattle.cg_cell.specs.Term.{Term, Bit, Input, Both, Either, Differ, inverse_times, join_all}
-use Rattle.cg_cell.specs.declared.expr.Expr.{Expr, out-Expr}
+use Rattle.cg_cell.specs.declared.expr.Expr.{Expr}
 use Rattle.cg_cell.specs.declared.expr.Expr.TheOpen.{Expr-F, Constant, Variable, Not, And, Or, Xor}
 use Rattle.cg_cell.specs.declared.expr.Expr.TheFolds.{fold-Expr}
 
@@ -53,14 +53,6 @@ names_variable k = fold-Expr Bool (names_step k)
 
 abbrev pub any_names : ℕ → List Expr → Bool
 any_names k operands = any_of (map (names_variable k) operands)
-
--- the variable of an expression that is one variable and nothing else
-abbrev pub only_step : Expr-F Expr → Option ℕ
-only_step (Variable k) = Some k
-only_step _ = None
-
-abbrev pub only_variable : Expr → Option ℕ
-only_variable expr = only_step (out-Expr expr)
 
 -- a node as a term, from the terms of its operands: operands of one level join from the left
 abbrev pub term_step : Expr-F Term → Term

@@ -1,6 +1,7 @@
 -- The grammar of expressions, level by level: from the strongest, words and brackets, signs `'`, signs `!`,
 -- exclusive or, and, or. Operators of one level join from the left.
 use Rattle.std.specs.Prelude.{◌≡◌, ℕ, ◌+◌, ◌<◌, false, List, [], ◌∷◌, ◌++◌, Ok}
+use Rattle.cg_limit.specs.declared.TheConstants.{MOST_NESTING}
 use Rattle.cg_cell.specs.ExprReading.{leaf}
 use Rattle.cg_cell.specs.ExprTokens.{Token, Word, OrSign, AndSign, XorSign, NotSign, PrimeSign, OpenBracket, CloseBracket, tokens_from}
 use Rattle.cg_cell.specs.Term.{Term, Inverse, Both, Either, Differ}
@@ -16,12 +17,12 @@ pub data Level : Type 0 where
 -- the tokens are of the level and stand for the term, where so many brackets and signs `!` are open before them
 pub data Stands (pins : List (List ℕ)) : Level → ℕ → List Token → Term → Type 0 where
   word : (open_before at : ℕ) (bytes : List ℕ) (t : Term) → leaf pins at bytes ≡ Ok t → Stands pins AtomLevel open_before (record { at = at; sort = Word bytes } ∷ []) t
-  brackets : (open_before at end : ℕ) (ts : List Token) (t : Term) → open_before < 64 → Stands pins OrLevel (open_before + 1) ts t
+  brackets : (open_before at end : ℕ) (ts : List Token) (t : Term) → open_before < MOST_NESTING → Stands pins OrLevel (open_before + 1) ts t
       → Stands pins AtomLevel open_before (record { at = at; sort = OpenBracket } ∷ (ts ++ record { at = end; sort = CloseBracket } ∷ [])) t
   unprimed : (open_before : ℕ) (ts : List Token) (t : Term) → Stands pins AtomLevel open_before ts t → Stands pins PrimeLevel open_before ts t
   primed : (open_before at : ℕ) (ts : List Token) (t : Term) → Stands pins PrimeLevel open_before ts t → Stands pins PrimeLevel open_before (ts ++ record { at = at; sort = PrimeSign } ∷ []) (Inverse t)
   upright : (open_before : ℕ) (ts : List Token) (t : Term) → Stands pins PrimeLevel open_before ts t → Stands pins NotLevel open_before ts t
-  inverted : (open_before at : ℕ) (ts : List Token) (t : Term) → open_before < 64 → Stands pins NotLevel (open_before + 1) ts t
+  inverted : (open_before at : ℕ) (ts : List Token) (t : Term) → open_before < MOST_NESTING → Stands pins NotLevel (open_before + 1) ts t
       → Stands pins NotLevel open_before (record { at = at; sort = NotSign } ∷ ts) (Inverse t)
   one_of : (open_before : ℕ) (ts : List Token) (t : Term) → Stands pins NotLevel open_before ts t → Stands pins XorLevel open_before ts t
   xor : (open_before at : ℕ) (ts us : List Token) (s t : Term) → Stands pins XorLevel open_before ts s → Stands pins NotLevel open_before us t

@@ -3,6 +3,7 @@
 use Rattle.std.specs.Prelude.{ℕ, ◌+◌, true, false, nat_lt, if◌then◌else◌, List, [], ◌∷◌, length, slice_index, Option, None, Some, Result, Ok, Err}
 use Rattle.std.specs.List.{position_from}
 use Rattle.std.specs.Str.{bytes_eq}
+use Rattle.cg_limit.specs.declared.TheConstants.{MOST_NESTING}
 use Rattle.cg_cell.specs.ExprTokens.{Token, Word, OrSign, AndSign, XorSign, NotSign, PrimeSign, OpenBracket, CloseBracket, Other, is_digit, is_letter, tokens_from}
 use Rattle.cg_cell.specs.Term.{Term, Bit, Input, Inverse, Both, Either, Differ}
 use Rattle.cg_cell.specs.declared.fault.ExprFault.{ExprFault}
@@ -76,7 +77,7 @@ has_leaf (Err fault) pending = Err fault
 
 -- a bracket or a sign `!` opens, and at most 64 of them are open
 abbrev pub opened : ℕ → Pending → List Pending → Result Mode ExprFault
-opened at opening pending = if nat_lt (nesting pending) 64 then Ok (Expects (opening ∷ pending)) else Err (TooDeep at)
+opened at opening pending = if nat_lt (nesting pending) MOST_NESTING then Ok (Expects (opening ∷ pending)) else Err (TooDeep at)
 
 -- a token where an operand begins
 abbrev pub begin : List (List ℕ) → List Pending → Token → Result Mode ExprFault

@@ -1,6 +1,7 @@
 -- The words and signs of the text of an expression.
 use Rattle.std.specs.Prelude.{ℕ, ◌+◌, Bool, true, false, ◌&&◌, ◌||◌, ◌==◌, nat_le, if◌then◌else◌, List, [], ◌∷◌}
 use Rattle.std.specs.List.{take_while}
+use Rattle.cg_text.specs.Blanks.{is_white_space}
 
 -- what a token is
 pub data Sort : Type 0 where
@@ -18,10 +19,6 @@ pub data Sort : Type 0 where
 pub record Token : Type 0 where
   pub at : ℕ
   pub sort : Sort
-
--- space, tab, line feed, vertical tab, form feed and carriage return
-abbrev pub is_blank : ℕ → Bool
-is_blank byte = byte == 32 || (nat_le 9 byte && nat_le byte 13)
 
 abbrev pub is_digit : ℕ → Bool
 is_digit byte = nat_le 48 byte && nat_le byte 57
@@ -47,7 +44,7 @@ sign_of byte =
     else Other))))))
 
 -- the tokens of a text, whose first byte is at the place: a word is the longest run of its bytes, and begins
--- behind no other of them; blanks separate; every other byte is a token
+-- behind no other of them; white space separates; every other byte is a token
 abbrev pub tokens_from : Bool → ℕ → List ℕ → List Token
 tokens_from inside at [] = []
 tokens_from inside at (byte ∷ bytes) =
@@ -55,5 +52,5 @@ tokens_from inside at (byte ∷ bytes) =
     if inside then tokens_from true (at + 1) bytes
     else record { at = at; sort = Word (byte ∷ take_while is_word_byte bytes) } ∷ tokens_from true (at + 1) bytes)
     else (
-    if is_blank byte then tokens_from false (at + 1) bytes
+    if is_white_space byte then tokens_from false (at + 1) bytes
     else record { at = at; sort = sign_of byte } ∷ tokens_from false (at + 1) bytes)

@@ -1,12 +1,12 @@
 -- Which cells fit a need of clock gating, by their truth tables.
 use Rattle.std.specs.Prelude.{ℕ, Bool, true, false, not, ◌&&◌, ◌==◌, List, [], ◌∷◌, Option, None, Some, count_by}
-use Rattle.cg_cell.specs.Cell.{CellData}
+use Rattle.cg_cell.specs.Cell.{CellData, has_test}
 use Rattle.cg_cell.specs.Pins.{is_data}
 use Rattle.cg_cell.specs.Term.{Term, term_value}
 use Rattle.cg_cell.specs.declared.cell.CellKind.{CellKind}
 use Rattle.cg_cell.specs.declared.cell.CellKind.TheVariants.{Logic, Gater as GaterCell}
 use Rattle.cg_cell.specs.declared.fit.FitKind.{FitKind}
-use Rattle.cg_cell.specs.declared.fit.FitKind.TheVariants.{Gater, Inv, And2, Or2}
+use Rattle.cg_cell.specs.declared.fit.FitKind.TheVariants.{Gater, TestGater, Inv, And2, Or2}
 
 abbrev pub is_logic : CellKind → Bool
 is_logic Logic = true
@@ -39,7 +39,8 @@ is_disjunction f = not (f (false ∷ false ∷ [])) && f (false ∷ true ∷ [])
 
 -- whether a cell is of the kind that is needed
 abbrev pub is_fit : FitKind → CellData → Bool
-is_fit Gater cell = is_gater cell.kind
+is_fit Gater cell = is_gater cell.kind && not (has_test cell)
+is_fit TestGater cell = is_gater cell.kind && has_test cell
 is_fit Inv cell = is_gate 1 cell && is_inversion (is_one cell.function)
 is_fit And2 cell = is_gate 2 cell && is_conjunction (is_one cell.function)
 is_fit Or2 cell = is_gate 2 cell && is_disjunction (is_one cell.function)

@@ -8,11 +8,13 @@ pub mod Domain
 pub mod Eval
 pub mod EvalCover
 pub mod Expr
+pub mod ExprFaults
 pub mod ExprGrammar
 pub mod ExprReading
 pub mod ExprSorts
 pub mod ExprTokens
 pub mod Fit
+pub mod GateCovers
 pub mod Gates
 pub mod Library
 pub mod Name

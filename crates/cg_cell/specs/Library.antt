@@ -1,10 +1,12 @@
 -- Libraries: lists of cells, and the first cell of a name or of a kind.
 use Rattle.std.specs.Prelude.{◌≡◌, ℕ, ◌≤◌, List, [], ◌∷◌, length, position, Bool, if◌then◌else◌, Option, None, Some}
+use Rattle.std.specs.List.{AllByRecursion}
 use Rattle.std.specs.Str.{bytes_eq}
-use Rattle.cg_cell.specs.Cell.{CellData}
+use Rattle.cg_limit.specs.declared.TheConstants.{MOST_LIBRARY_CELLS}
+use Rattle.cg_cell.specs.Cell.{CellData, IsCell}
 use Rattle.cg_cell.specs.Fit.{is_fit}
 use Rattle.cg_cell.specs.declared.fit.FitKind.{FitKind}
-use Rattle.cg_cell.specs.declared.fit.FitKind.TheVariants.{Gater, Inv, And2, Or2}
+use Rattle.cg_cell.specs.declared.fit.FitKind.TheVariants.{Gater, TestGater, Inv, And2, Or2}
 
 -- the number of the cell of a name
 abbrev pub find_cell : List ℕ → List CellData → Option ℕ
@@ -24,11 +26,13 @@ abbrev pub AreNamed : {K : Type 0} → (K → List ℕ) → List (K × CellData)
 AreNamed bytes [] = Unit {0}
 AreNamed bytes (e ∷ es) = (bytes e.0 ≡ e.1.name) × AreNamed bytes es
 
--- what a library keeps: each cell under its name, at most 4,096 of them, and the first of each kind
-pub record IsLibrary {K : Type 0} (bytes : K → List ℕ) (entries : List (K × CellData)) (cells : List CellData) (gater inv and2 or2 : Option ℕ) : Type 0 where
+-- what a library keeps: each cell under its name, at most so many of them, and the first of each kind
+pub record IsLibrary {K : Type 0} (bytes : K → List ℕ) (entries : List (K × CellData)) (cells : List CellData) (gater test_gater inv and2 or2 : Option ℕ) : Type 0 where
   pub names : AreNamed bytes entries
-  pub few : length cells ≤ 4096
+  pub few : length cells ≤ MOST_LIBRARY_CELLS
+  pub are_cells : AllByRecursion IsCell cells
   pub gaters : gater ≡ first_fit Gater cells
+  pub test_gaters : test_gater ≡ first_fit TestGater cells
   pub inverters : inv ≡ first_fit Inv cells
   pub ands : and2 ≡ first_fit And2 cells
   pub ors : or2 ≡ first_fit Or2 cells

@@ -43,6 +43,11 @@ abbrev pub lone_input : Term → Option ℕ
 lone_input (Input k) = Some k
 lone_input _ = None
 
+-- the input of operands that are one input and nothing else
+abbrev pub lone_among : List Term → Option ℕ
+lone_among (t ∷ []) = lone_input t
+lone_among _ = None
+
 -- a term, inverted as many times as the number says
 abbrev pub inverse_times : ℕ → Term → Term
 inverse_times zero t = t

@@ -3,8 +3,8 @@
 ghost use Rattle.std.specs.Prelude.{◌≡◌, IfOk, IfSome, IsTrue, count_by};
 ghost use Rattle.std.specs.Option.{option_copied, option_map};
 ghost use Rattle.cg_cell.specs.Expr.{is_over, term_of};
-ghost use Rattle.cg_cell.specs.Cell.{IsCell, variables_of};
-ghost use Rattle.cg_cell.specs.Pins.{is_data};
+ghost use Rattle.cg_cell.specs.Cell.{IsCell, has_test, variables_of};
+ghost use Rattle.cg_cell.specs.Pins.{is_clock, is_data, is_enable, is_output, is_state, is_test};
 
 use crate::expr::Expr;
 use crate::name::Name;
@@ -101,6 +101,41 @@ impl Pin {
         matches!(self.role, Role::Data)
     }
 
+    /// Whether the pin is the clock.
+    pub fn is_clock(&self) -> bool
+        ensures { result ≡ is_clock self.now }
+    {
+        matches!(self.role, Role::Clock)
+    }
+
+    /// Whether the pin is the enable of a gating cell.
+    pub fn is_enable(&self) -> bool
+        ensures { result ≡ is_enable self.now }
+    {
+        matches!(self.role, Role::Enable)
+    }
+
+    /// Whether the pin is the test input of a gating cell.
+    pub fn is_test(&self) -> bool
+        ensures { result ≡ is_test self.now }
+    {
+        matches!(self.role, Role::Test)
+    }
+
+    /// Whether the pin is the output of a logic or a gating cell.
+    pub fn is_output(&self) -> bool
+        ensures { result ≡ is_output self.now }
+    {
+        matches!(self.role, Role::Output)
+    }
+
+    /// Whether the pin is an output of a register, which has its bit or the inverse.
+    pub fn is_state(&self) -> bool
+        ensures { result ≡ is_state self.now }
+    {
+        matches!(self.role, Role::State | Role::StateBar)
+    }
+
     /// What the pin is for.
     pub fn role(&self) -> Role
         ensures { result ≡ self.now.role }
@@ -193,7 +228,8 @@ impl CellType {
 
     /// The name of the cell.
     pub fn name(&self) -> &Name
-        ensures { result.now ≡ self.now.name }
+        ensures name { result.now ≡ self.now.name }
+        ensures cell { IsCell self.now }
     {
         &self.name
     }
@@ -211,6 +247,13 @@ impl CellType {
         ensures cell { IsCell self.now }
     {
         &self.pins
+    }
+
+    /// Whether the cell has a test input.
+    pub fn has_test(&self) -> bool
+        ensures { result ≡ has_test self.now }
+    {
+        self.pins.iter().any(|pin| pin.is_test())
     }
 
     /// The number of Data pins: the inputs of the function.

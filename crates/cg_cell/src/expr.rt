@@ -1,8 +1,8 @@
 //! Expressions: functions as Liberty writes them, over numbered variables.
 
-ghost use Rattle.std.specs.Prelude.{◌≡◌, List, Bool, IsTrue, length, Option, Some, None, IfOk, IfSome};
-ghost use Rattle.cg_cell.specs.Expr.{all_over, any_names, expr_value, is_over, names_variable, only_variable, term_of, terms_of, values_of};
-ghost use Rattle.cg_cell.specs.Term.{Input, has_input, term_value};
+ghost use Rattle.std.specs.Prelude.{◌≡◌, List, Bool, IsTrue, length, IfOk};
+ghost use Rattle.cg_cell.specs.Expr.{all_over, any_names, expr_value, is_over, names_variable, term_of, terms_of, values_of};
+ghost use Rattle.cg_cell.specs.Term.{has_input, term_value};
 ghost use Rattle.cg_cell.specs.Gates.{all_of, any_of, differ, inverted, odd_of};
 
 use std::alloc::{AllocError, Global};
@@ -112,17 +112,6 @@ impl Expr {
             Expr::And(operands) => any_operand_names(operands, k),
             Expr::Or(operands) => any_operand_names(operands, k),
             Expr::Xor(operands) => any_operand_names(operands, k),
-        }
-    }
-
-    /// The variable, where the expression is one variable and nothing else.
-    pub fn only(&self) -> Option<u32>
-        ensures only { result ≡ only_variable self.now }
-        ensures term { IfSome result (λ k. term_of self.now ≡ Input k) }
-    {
-        match self {
-            Expr::Variable(variable) => Some(*variable),
-            _ => None,
         }
     }
 }

@@ -4,25 +4,20 @@ ghost use Rattle.std.specs.Prelude.{◌≡◌};
 ghost use Rattle.cg_cell.specs.declared.fault.ExprFault.TheVariants.{NoMemory};
 
 use std::alloc::{AllocError, AllocFailed};
-use thiserror::Error;
 
 /// The first fault of the text of an expression, from the left. A place counts bytes from 0.
-#[derive(Debug, Drop, Error)]
+#[derive(Debug, Drop)]
 pub enum ExprFault {
     /// At this byte no reading can go on.
-    #[error("no expression from byte {0} on")]
     BadExpr(u64),
 
     /// The name that begins at this byte is none of the pins.
-    #[error("an unknown pin at byte {0}")]
     UnknownPin(u64),
 
-    /// At this byte the nesting of brackets and signs `!` passes 64.
-    #[error("nested too deep at byte {0}")]
+    /// At this byte the nesting of brackets and signs `!` passes the most that it may be.
     TooDeep(u64),
 
     /// No memory was left.
-    #[error("no memory")]
     NoMemory,
 }
 

@@ -2,7 +2,7 @@
 
 ghost use Rattle.std.specs.Prelude.{◌≡◌, true, false, IsTrue, IfSome, MatchOption};
 ghost use Rattle.cg_cell.specs.Expr.{is_over, term_of};
-ghost use Rattle.cg_cell.specs.Fit.{is_fit, is_gate};
+ghost use Rattle.cg_cell.specs.Fit.{is_fit, is_gate, is_gater};
 
 use crate::cell::{CellKind, CellType};
 use crate::expr::Expr;
@@ -10,8 +10,11 @@ use crate::expr::Expr;
 /// A kind of cell that clock gating needs.
 #[derive(Clone, Copy, Debug, PartialEq, Eq)]
 pub enum FitKind {
-    /// A gating cell.
+    /// A gating cell without a test input.
     Gater,
+
+    /// A gating cell with a test input.
+    TestGater,
 
     /// A Logic cell of one input whose truth table is inversion.
     Inv,
@@ -28,7 +31,8 @@ pub fn fits(cell: &CellType, kind: FitKind) -> bool
     ensures { result ≡ is_fit kind cell.now }
 {
     match kind {
-        FitKind::Gater => is_gater(cell),
+        FitKind::Gater => is_gater(cell) && !cell.has_test(),
+        FitKind::TestGater => is_gater(cell) && cell.has_test(),
         FitKind::Inv => is_inverter(cell),
         FitKind::And2 => is_and(cell),
         FitKind::Or2 => is_or(cell),
@@ -37,7 +41,7 @@ pub fn fits(cell: &CellType, kind: FitKind) -> bool
 
 /// Whether the cell is a gating cell.
 fn is_gater(cell: &CellType) -> bool
-    ensures { result ≡ is_fit FitKind.Gater cell.now }
+    ensures { result ≡ is_gater cell.now.kind }
 {
     match cell.kind() {
         CellKind::Gater => true,

@@ -7,9 +7,9 @@
 //! In the order in which data flows through them:
 //!
 //! - [`name`]: the names of nets, cells and pins;
-//! - [`limit`]: the limits that a text or a circuit may pass;
 //! - [`cover`]: a function as rows of given bits;
 //! - [`expr`]: a function as an expression over numbered variables;
+//! - [`lone`]: expressions that are one variable;
 //! - `tokens`, `pending`, `join`: the words and signs of an expression's text, what waits for an operand
 //!   that comes, and operators on expressions;
 //! - [`fault`], [`reading`]: reading that text, and its first fault from the left;
@@ -34,7 +34,7 @@ pub mod fault;
 pub mod fit;
 mod join;
 pub mod library;
-pub mod limit;
+pub mod lone;
 pub mod name;
 mod pending;
 pub mod reading;

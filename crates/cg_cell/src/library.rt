@@ -1,6 +1,8 @@
 //! Libraries: cells in the order of the library's text.
 
-ghost use Rattle.std.specs.Prelude.{◌≡◌, ◌++◌, ◌∷◌, [], ◌<◌, length, position, IfOk, IfSome, OnOk, OnErr, None, Some, slice_get, Bool, Option, ℕ};
+ghost use Rattle.std.specs.Prelude.{◌≡◌, ◌++◌, ◌∷◌, [], ◌<◌, ◌≤◌, length, position, IfOk, IfSome, OnOk, OnErr, None, Some, slice_get, Bool, Option, ℕ};
+ghost use Rattle.std.specs.List.{AllByRecursion};
+ghost use Rattle.cg_cell.specs.Cell.{IsCell};
 ghost use Rattle.cg_cell.specs.Fit.{is_fit};
 ghost use Rattle.cg_cell.specs.Added.{Answers, add_fault};
 ghost use Rattle.cg_cell.specs.Library.{AreNamed, find_cell, first_fit, noted};
@@ -8,13 +10,10 @@ ghost use Rattle.indexmap.specs.IndexMap.{values};
 
 use crate::cell::CellType;
 use crate::fit::{FitKind, fits};
-use crate::limit::Limit;
+use cg_limit::{Limit, MOST_LIBRARY_CELLS};
 use indexmap::IndexMap;
 use std::alloc::{AllocError, Global};
 use std::marker::Model;
-
-/// The most cells that a library has.
-const MOST_CELLS: usize = 4096;
 
 /// A cell of a library, by its number in the order of the text. It stays the number of that cell for
 /// as long as the library lives, and means nothing to another library.
@@ -49,6 +48,7 @@ pub enum LibraryFault {
 pub struct Library {
     cells: IndexMap<Vec<u8>, CellType>,
     gater: Option<LibId>,
+    test_gater: Option<LibId>,
     inv: Option<LibId>,
     and2: Option<LibId>,
     or2: Option<LibId>,
@@ -67,7 +67,7 @@ impl Model for Library {
 
     ghost view = { λ l. map (λ e. e.1) l.cells.entries };
 
-    ghost invariant = { λ l. IsLibrary (λ k. k.items) l.cells.entries (map (λ e. e.1) l.cells.entries) l.gater l.inv l.and2 l.or2 };
+    ghost invariant = { λ l. IsLibrary (λ k. k.items) l.cells.entries (map (λ e. e.1) l.cells.entries) l.gater l.test_gater l.inv l.and2 l.or2 };
 }
 
 impl Library {
@@ -78,6 +78,7 @@ impl Library {
         Library {
             cells: IndexMap::new(alloc),
             gater: None,
+            test_gater: None,
             inv: None,
             and2: None,
             or2: None,
@@ -94,7 +95,7 @@ impl Library {
         ensures cause { Answers result (add_fault self.old cell.name) }
         ensures unchanged { OnErr result (self.new ≡ self.old) }
     {
-        if self.cells.len() >= MOST_CELLS {
+        if self.cells.len() >= MOST_LIBRARY_CELLS {
             return Err(LibraryFault::Limit(Limit::LibraryCells));
         }
         if self.find(cell.name().bytes()).is_some() {
@@ -102,12 +103,14 @@ impl Library {
         }
         let id = LibId(self.cells.len() as u32);
         let gater = note(self.gater, id, fits(&cell, FitKind::Gater));
+        let test_gater = note(self.test_gater, id, fits(&cell, FitKind::TestGater));
         let inv = note(self.inv, id, fits(&cell, FitKind::Inv));
         let and2 = note(self.and2, id, fits(&cell, FitKind::And2));
         let or2 = note(self.or2, id, fits(&cell, FitKind::Or2));
         match push(&mut self.cells, cell) {
             Ok(()) => {
                 self.gater = gater;
+                self.test_gater = test_gater;
                 self.inv = inv;
                 self.and2 = and2;
                 self.or2 = or2;
@@ -119,7 +122,9 @@ impl Library {
 
     /// The number of cells.
     pub fn len(&self) -> u32
-        ensures { result ≡ length self.now }
+        ensures len { result ≡ length self.now }
+        ensures few { result ≤ MOST_LIBRARY_CELLS }
+        ensures cells { AllByRecursion IsCell self.now }
     {
         self.cells.len() as u32
     }
@@ -164,6 +169,7 @@ impl Library {
     {
         match kind {
             FitKind::Gater => self.gater,
+            FitKind::TestGater => self.test_gater,
             FitKind::Inv => self.inv,
             FitKind::And2 => self.and2,
             FitKind::Or2 => self.or2,

@@ -7,11 +7,12 @@ ghost use Rattle.cg_cell.specs.PendingSeen.{ends_in_bracket, ends_in_inversion, 
 
 use crate::expr::Expr;
 use crate::join::{both, either, inverse, one_of};
+use cg_limit::MOST_NESTING;
 use std::alloc::{AllocError, Global};
 use std::marker::Model;
 
 /// A part of the text that waits for the operand that comes.
-#[derive(Debug, Drop)]
+#[derive(Drop)]
 enum Pending {
     /// The left operand of an or.
     OrLeft(Expr),
@@ -30,7 +31,7 @@ enum Pending {
 }
 
 /// What waits, and how many brackets and signs `!` are among it. Clauses see it as a list, the last first.
-#[derive(Debug, Drop)]
+#[derive(Drop)]
 pub struct Stack {
     /// What waits last, where anything waits.
     top: Option<Pending>,
@@ -136,7 +137,7 @@ impl Stack {
 
     /// A sign `!` opens.
     pub fn open_inversion(self) -> Result<Stack, AllocError>
-        requires { nesting self < 64 }
+        requires { nesting self < MOST_NESTING }
         ensures { IfOk result (λ s. s ≡ InversionWaits ∷ self) }
     {
         let below = sunk(self.top, self.below)?;
@@ -149,7 +150,7 @@ impl Stack {
 
     /// A bracket opens.
     pub fn open_bracket(self) -> Result<Stack, AllocError>
-        requires { nesting self < 64 }
+        requires { nesting self < MOST_NESTING }
         ensures { IfOk result (λ s. s ≡ BracketWaits ∷ self) }
     {
         let below = sunk(self.top, self.below)?;
@@ -199,7 +200,7 @@ fn raised(below: Vec<Pending>, depth: usize) -> Stack
 }
 
 /// A level that has ended, and what waits behind it.
-#[derive(Debug, Drop)]
+#[derive(Drop)]
 pub struct Ended {
     pub operand: Expr,
     pub stack: Stack,

@@ -1,10 +1,11 @@
 //! Reading the text of an expression, token by token.
 
-ghost use Rattle.std.specs.Prelude.{◌≡◌, ◌<◌, ◌^◌, IfOk, IsTrue, length, slice_index};
+ghost use Rattle.std.specs.Prelude.{◌≡◌, ◌<◌, ◌^◌, IfErr, IfOk, IsTrue, length, slice_index};
 ghost use Rattle.std.specs.List.{position_from};
 ghost use Rattle.std.specs.Str.{bytes_eq};
 ghost use Rattle.cg_cell.specs.Expr.{is_over, term_of};
 ghost use Rattle.cg_cell.specs.Term.{Term, is_within};
+ghost use Rattle.cg_cell.specs.ExprFaults.{IsFirstFault};
 ghost use Rattle.cg_cell.specs.ExprGrammar.{ExprText};
 ghost use Rattle.cg_cell.specs.ExprReading.{begin, closed, constant, finish, go_on, complete, leaf, opened, or_end, read_text, step, variable, Bracket, Inversion};
 ghost use Rattle.cg_cell.specs.ExprSorts.{token_of};
@@ -16,10 +17,11 @@ use crate::join::inverse;
 use crate::name::Name;
 use crate::pending::{Ended, Stack, end_and, end_or, end_xor};
 use crate::tokens::{Sort, Token, Tokens, is_digit, is_letter};
+use cg_limit::MOST_NESTING;
 use std::alloc::Global;
 
 /// Where a reading stands: the operand that may be complete, where there is one, and what waits before it.
-#[derive(Debug, Drop)]
+#[derive(Drop)]
 struct Reading {
     operand: Option<Expr>,
     stack: Stack,
@@ -38,6 +40,7 @@ pub fn read_expr(alloc: Global, text: &[u8], pins: &[Name]) -> Result<Expr, Expr
     requires { length pins.now < 2 ^ 32 }
     ensures exact { Gives term_of result (read_text pins.now text.now) }
     ensures found { IfOk result (λ e. ExprText pins.now text.now (term_of e)) }
+    ensures fault { IfErr result (IsFirstFault pins.now text.now) }
     ensures grammar { (t : Term) → ExprText pins.now text.now t → Gives term_of result (Ok t) }
     ensures over { IfOk result (λ e. IsTrue (is_over (length pins.now) e)) }
     ensures within { IfOk result (λ e. IsTrue (is_within (length pins.now) (term_of e))) }
@@ -105,7 +108,7 @@ fn first(pins: &[Name], stack: Stack, token: Token<'_>) -> Result<Reading, ExprF
 fn inversion(stack: Stack, at: usize) -> Result<Reading, ExprFault>
     ensures { Gives (λ r. mode_of r.operand r.stack) result (opened at Inversion stack) }
 {
-    if stack.nesting() < 64 {
+    if stack.nesting() < MOST_NESTING {
         let stack = stack.open_inversion()?;
         Ok(Reading {
             operand: None,
@@ -120,7 +123,7 @@ fn inversion(stack: Stack, at: usize) -> Result<Reading, ExprFault>
 fn bracket(stack: Stack, at: usize) -> Result<Reading, ExprFault>
     ensures { Gives (λ r. mode_of r.operand r.stack) result (opened at Bracket stack) }
 {
-    if stack.nesting() < 64 {
+    if stack.nesting() < MOST_NESTING {
         let stack = stack.open_bracket()?;
         Ok(Reading {
             operand: None,

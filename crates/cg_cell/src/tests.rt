@@ -11,7 +11,7 @@ use crate::expr::Expr;
 use crate::fault::ExprFault;
 use crate::fit::FitKind;
 use crate::library::{Library, LibraryFault};
-use crate::limit::Limit;
+use cg_limit::Limit;
 use crate::name::Name;
 use crate::reading::read_expr;
 use std::alloc::{AllocError, Global};
@@ -85,6 +85,34 @@ fn expressions(rt: HostRuntime) -> Result<(), Fail> {
                 _ => assert!(rt; false, "{shown} has another fault"),
             },
         }
+    }
+    Ok(())
+}
+
+#[test]
+fn variables_alone(rt: HostRuntime) -> Result<(), Fail> {
+    let mut pins = Vec::new(rt.alloc());
+    for name in [b"A", b"B"] {
+        assert!(rt; Name::is_name(name));
+        pins.push(Name::new(rt.alloc(), name)?)?;
+    }
+    assert!(rt; pins.len() == 2);
+    let table = [
+        (b"B".as_slice(), Some(1)),
+        (b" ((A)) ".as_slice(), Some(0)),
+        (b"A'".as_slice(), None),
+        (b"A''".as_slice(), None),
+        (b"A * A".as_slice(), None),
+        (b"A + 0".as_slice(), None),
+        (b"1".as_slice(), None),
+    ];
+    for (text, alone) in table {
+        let shown = std::str::from_utf8(text)?;
+        let only = match read_expr(rt.alloc(), text, &pins) {
+            Ok(expr) => expr.only(),
+            Err(_) => Some(u32::MAX),
+        };
+        assert_eq!(rt; only, alone, "{shown}");
     }
     Ok(())
 }

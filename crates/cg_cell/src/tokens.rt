@@ -2,13 +2,15 @@
 
 ghost use Rattle.std.specs.Prelude.{◌≡◌, ◌∷◌, [], ◌+◌, ◌≤◌, ◌<◌, false, true, drop, length, MatchOption, slice_index, IsTrue, not};
 ghost use Rattle.std.specs.List.{prefix_len};
-ghost use Rattle.cg_cell.specs.ExprTokens.{is_blank, is_digit, is_letter, is_word_byte, sign_of, tokens_from};
+ghost use Rattle.cg_text.specs.Blanks.{is_white_space};
+ghost use Rattle.cg_cell.specs.ExprTokens.{is_digit, is_letter, is_word_byte, sign_of, tokens_from};
 ghost use Rattle.cg_cell.specs.ExprSorts.{sort_of, token_of};
 
+use cg_text::blanks::is_white_space;
 use std::marker::Model;
 
 /// What a token is.
-#[derive(Clone, Copy, Debug)]
+#[derive(Clone, Copy)]
 pub enum Sort<'a> {
     /// The longest run of letters, digits, `_`, `[`, `]` and `.`.
     Word(&'a [u8]),
@@ -39,14 +41,14 @@ pub enum Sort<'a> {
 }
 
 /// A token, and the place of its first byte.
-#[derive(Clone, Copy, Debug)]
+#[derive(Clone, Copy)]
 pub struct Token<'a> {
     pub at: usize,
     pub sort: Sort<'a>,
 }
 
 /// The tokens that are left of a text. Clauses see them as a list.
-#[derive(Debug, Drop)]
+#[derive(Drop)]
 pub struct Tokens<'a> {
     text: &'a [u8],
     at: usize,
@@ -101,10 +103,10 @@ fn after_blanks(text: &[u8], at: usize) -> usize
     requires { at ≤ length text.now }
     ensures within { result ≤ length text.now }
     ensures same { tokens_from false result (drop result text.now) ≡ tokens_from false at (drop at text.now) }
-    ensures full { result < length text.now → is_blank (slice_index text.now result) ≡ false }
+    ensures full { result < length text.now → is_white_space (slice_index text.now result) ≡ false }
 {
     let mut place = at;
-    'blanks: while place < text.len() && is_blank(text[place]) {
+    'blanks: while place < text.len() && is_white_space(text[place]) {
         place += 1;
     }
     place
@@ -121,13 +123,6 @@ fn word_end(text: &[u8], at: usize) -> usize
         end += 1;
     }
     end
-}
-
-/// Whether a byte is a blank.
-fn is_blank(byte: u8) -> bool
-    ensures { result ≡ is_blank byte }
-{
-    byte == b' ' || (byte >= 9 && byte <= 13)
 }
 
 /// Whether a byte is a letter or `_`.

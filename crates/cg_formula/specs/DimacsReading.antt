@@ -1,7 +1,7 @@
 -- Reading a DIMACS text: the formula, or the first fault.
 use Rattle.std.specs.Prelude.{◌≡◌, ℕ, ◌&&◌, List, [], ◌∷◌, Result, Ok, Err, codes, if◌then◌else◌, nat_le, zero, suc}
 use Rattle.std.specs.Str.{bytes_eq}
-use Rattle.cg_cell.specs.declared.limit.Limit.TheVariants.{Variables}
+use Rattle.cg_limit.specs.declared.Limit.TheVariants.{Variables}
 use Rattle.cg_text.specs.declared.blanks.Blanks.TheVariants.{Whitespace}
 use Rattle.cg_text.specs.declared.lines.Comments.TheVariants.{LeadingC}
 use Rattle.cg_text.specs.declared.lines.Layout.{Layout}

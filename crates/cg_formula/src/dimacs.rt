@@ -9,7 +9,7 @@ ghost use Rattle.cg_formula.specs.DimacsReading.{Gives, counts_of, header_of, cl
 
 use crate::formula::{Clause, Formula};
 use crate::token::{ClauseToken, push_clause, read_clause_token};
-use cg_cell::limit::Limit;
+use cg_limit::Limit;
 use cg_list::Seq;
 use cg_text::blanks::Blanks;
 use cg_text::lines::{Comments, Layout, Lines};

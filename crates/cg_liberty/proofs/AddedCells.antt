@@ -4,10 +4,11 @@ use Rattle.std.specs.List.{list_any}
 use Rattle.std.specs.Str.{bytes_eq}
 use Rattle.std.proofs.lemmas.List.{map-append}
 use Rattle.std.proofs.lemmas.Bool.Decides.{nat_tests}
+use Rattle.cg_limit.specs.declared.TheConstants.{MOST_LIBRARY_CELLS}
 use Rattle.cg_cell.specs.Cell.{CellData}
 use Rattle.cg_cell.specs.Library.{find_cell}
 use Rattle.cg_cell.specs.Name.{are_distinct, is_name}
-use Rattle.cg_cell.specs.declared.limit.Limit.TheVariants as limits
+use Rattle.cg_limit.specs.declared.Limit.TheVariants as limits
 use Rattle.cg_liberty.specs.Kinds.{cell_of}
 use Rattle.cg_liberty.specs.LibText.{Describe, named_groups, names_of}
 use Rattle.cg_liberty.specs.Library.{all_added, then_add, with_cell}
@@ -20,7 +21,7 @@ use Rattle.cg_liberty.proofs.NamedCells.{cell_name}
 
 -- what is true of cells that a library may have
 pub record Fit (cells : List CellData) : Type 0 where
-  pub few : length cells ≤ 4096
+  pub few : length cells ≤ MOST_LIBRARY_CELLS
   pub distinct : IsTrue (are_distinct (names_of cells))
 
 -- the cells of the groups, behind those that were there
@@ -37,15 +38,15 @@ added_by named full taken made front name = cond (not named) (Ok front) (cond fu
 names_push : (front : List CellData) (cell : CellData) → names_of (front ++ cell ∷ []) ≡ names_of front ++ cell.name ∷ []
 names_push front cell = map-append (λ (cell : CellData). cell.name) front (cell ∷ [])
 
-below_full : (n : ℕ) → nat_le 4096 n ≡ false → n < 4096
+below_full : (n : ℕ) → nat_le MOST_LIBRARY_CELLS n ≡ false → n < MOST_LIBRARY_CELLS
 below_full n h = grind (arith, nat_tests)
 
-fit_push : (front : List CellData) (group : CellGroup) (cell : CellData) → Fit front → nat_le 4096 (length front) ≡ false → is_some (find_cell group.name front) ≡ false → cell_of group ≡ Ok cell → Fit (front ++ cell ∷ [])
+fit_push : (front : List CellData) (group : CellGroup) (cell : CellData) → Fit front → nat_le MOST_LIBRARY_CELLS (length front) ≡ false → is_some (find_cell group.name front) ≡ false → cell_of group ≡ Ok cell → Fit (front ++ cell ∷ [])
 fit_push front group cell fit room free made =
     let name : cell.name ≡ group.name = cell_name group cell made in
     let none : list_any (bytes_eq cell.name) (names_of front) ≡ false = rw name (sym (find_some group.name front) ∙ free) in
     record {
-      few = let below : length front < 4096 = below_full (length front) room in omega (arith, length-append front (cell ∷ []));
+      few = let below : length front < MOST_LIBRARY_CELLS = below_full (length front) room in omega (arith, length-append front (cell ∷ []));
       distinct = rw (names_push front cell) (distinct_push (names_of front) cell.name fit.distinct none);
     }
 
@@ -65,7 +66,7 @@ passed_over front cells group groups named later = record {
   fit = later.fit;
 }
 
-extends_step : (front cells : List CellData) (group : CellGroup) (groups : List CellGroup) (named full taken : Bool) (made : Result CellData CellFault) → Fit front → is_name group.name ≡ named → nat_le 4096 (length front) ≡ full → is_some (find_cell group.name front) ≡ taken → cell_of group ≡ made → ((next : List CellData) → Fit next → all_added next groups ≡ Ok cells → Extends next cells groups) → then_add (added_by named full taken made front group.name) (λ next. all_added next groups) ≡ Ok cells → Extends front cells (group ∷ groups)
+extends_step : (front cells : List CellData) (group : CellGroup) (groups : List CellGroup) (named full taken : Bool) (made : Result CellData CellFault) → Fit front → is_name group.name ≡ named → nat_le MOST_LIBRARY_CELLS (length front) ≡ full → is_some (find_cell group.name front) ≡ taken → cell_of group ≡ made → ((next : List CellData) → Fit next → all_added next groups ≡ Ok cells → Extends next cells groups) → then_add (added_by named full taken made front group.name) (λ next. all_added next groups) ≡ Ok cells → Extends front cells (group ∷ groups)
 extends_step front cells group groups false full taken made fit n f t m later h = passed_over front cells group groups n (later front fit h)
 extends_step front cells group groups true true taken made fit n f t m later h = absurd (cc)
 extends_step front cells group groups true false true made fit n f t m later h = absurd (cc)
@@ -78,9 +79,9 @@ extends [] front cells fit h =
     let is : front ≡ cells = cc in
     record { more = []; is = sym is ∙ sym (append-nil front); described = tt; fit = subst Fit is fit }
 extends (group ∷ groups) front cells fit h =
-    extends_step front cells group groups (is_name group.name) (nat_le 4096 (length front)) (is_some (find_cell group.name front)) (cell_of group) fit refl refl refl refl (λ next fits is. extends groups next cells fits is) h
+    extends_step front cells group groups (is_name group.name) (nat_le MOST_LIBRARY_CELLS (length front)) (is_some (find_cell group.name front)) (cell_of group) fit refl refl refl refl (λ next fits is. extends groups next cells fits is) h
 
-room_left : (n m : ℕ) → n + suc m ≤ 4096 → nat_le 4096 n ≡ false
+room_left : (n m : ℕ) → n + suc m ≤ MOST_LIBRARY_CELLS → nat_le MOST_LIBRARY_CELLS n ≡ false
 room_left n m h = grind (arith, nat_tests)
 
 adds_step : (front more : List CellData) (group : CellGroup) (groups : List CellGroup) (named : Bool) → is_name group.name ≡ named → ((front more : List CellData) → Describe (named_groups groups) more → Fit (front ++ more) → all_added front groups ≡ Ok (front ++ more)) → Describe (cond named (group ∷ named_groups groups) (named_groups groups)) more → Fit (front ++ more) → all_added front (group ∷ groups) ≡ Ok (front ++ more)
@@ -91,7 +92,7 @@ adds_step front (cell ∷ more) group groups true named later described fit =
     let names : names_of (front ++ cell ∷ more) ≡ names_of front ++ cell.name ∷ names_of more = map-append (λ (cell : CellData). cell.name) front (cell ∷ more) in
     let none : list_any (bytes_eq cell.name) (names_of front) ≡ false = distinct_before (names_of front) (names_of more) cell.name (sym (ap are_distinct names) ∙ fit.distinct) in
     let free : is_some (find_cell group.name front) ≡ false = find_some group.name front ∙ subst (λ (n : List ℕ). list_any (bytes_eq n) (names_of front) ≡ false) name none in
-    let room : nat_le 4096 (length front) ≡ false = room_left (length front) (length more) (let e = length-append front (cell ∷ more) in let few = fit.few in omega arith) in
+    let room : nat_le MOST_LIBRARY_CELLS (length front) ≡ false = room_left (length front) (length more) (let e = length-append front (cell ∷ more) in let few = fit.few in omega arith) in
     let same : (front ++ cell ∷ []) ++ more ≡ front ++ cell ∷ more = append_assoc front (cell ∷ []) more in
     let rest : all_added (front ++ cell ∷ []) groups ≡ Ok ((front ++ cell ∷ []) ++ more) = later (front ++ cell ∷ []) more described.1 (subst Fit (sym same) fit) in
     rw (named, room, free, described.0) (rest ∙ ap Ok same)

@@ -3,7 +3,7 @@ use Rattle.std.proofs.Common.{◌≡◌, ◌≤◌, ◌<◌, ◌+◌, ◌==◌, 
 use Rattle.std.specs.List.{AllByRecursion}
 use Rattle.std.proofs.lemmas.Bool.Decides.{nat_tests}
 use Rattle.cg_cell.specs.Cell.{IsCell}
-use Rattle.cg_cell.specs.Name.{has_no_equals}
+use Rattle.cg_cell.specs.Name.{has_no_equals, is_name}
 use Rattle.cg_cell.specs.Pins.{PinData, is_clock, is_data, is_state}
 use Rattle.cg_cell.specs.Term.{Term, Bit, Input, Inverse, Both, Either, Differ, is_within, lone_input}
 use Rattle.cg_cell.specs.declared.cell.CellKind.TheVariants as kinds
@@ -24,6 +24,7 @@ record Made (ports : List Port) (pins : List PinData) : Type 0 where
   long : length pins ≡ length ports
   only : AllByRecursion (λ pin. IsTrue (is_data pin || is_clock pin || is_state pin)) pins
   inputs : count_by is_data pins + count_by is_clock pins ≡ length (input_names ports)
+  named : AllByRecursion (λ port. IsTrue (is_name port.name)) ports → AllByRecursion (λ pin. IsTrue (is_name pin.name)) pins
   unsplit : AllByRecursion (λ port. IsTrue (has_no_equals port.name)) ports → AllByRecursion (λ pin. IsTrue (has_no_equals pin.name)) pins
 
 made_input : (port : Port) (ports : List Port) (clock : Bool) (pins : List PinData) (output : Bool) → output ≡ false → port.marks.is_output ≡ output → Made ports pins → Made (port ∷ ports) (pin port.name (cond clock roles.Clock roles.Data) ∷ pins)
@@ -32,6 +33,7 @@ made_input port ports true pins output is own made = record {
   long = ap suc made.long;
   only = (refl, made.only);
   inputs = rw (own ∙ is) (let d = count_by-cons is_data (pin port.name roles.Clock) pins in let k = count_by-cons is_clock (pin port.name roles.Clock) pins in omega (arith, made.inputs));
+  named = λ h. (h.0, made.named h.1);
   unsplit = λ h. (h.0, made.unsplit h.1);
 }
 made_input port ports false pins output is own made = record {
@@ -39,6 +41,7 @@ made_input port ports false pins output is own made = record {
   long = ap suc made.long;
   only = (refl, made.only);
   inputs = rw (own ∙ is) (let d = count_by-cons is_data (pin port.name roles.Data) pins in let k = count_by-cons is_clock (pin port.name roles.Data) pins in omega (arith, made.inputs));
+  named = λ h. (h.0, made.named h.1);
   unsplit = λ h. (h.0, made.unsplit h.1);
 }
 
@@ -48,6 +51,7 @@ made_output port ports [] pins own made = record {
   long = ap suc made.long;
   only = (refl, made.only);
   inputs = rw own (let d = count_by-cons is_data (pin port.name roles.State) pins in let k = count_by-cons is_clock (pin port.name roles.State) pins in omega (arith, made.inputs));
+  named = λ h. (h.0, made.named h.1);
   unsplit = λ h. (h.0, made.unsplit h.1);
 }
 made_output port ports (false ∷ later) pins own made = record {
@@ -55,6 +59,7 @@ made_output port ports (false ∷ later) pins own made = record {
   long = ap suc made.long;
   only = (refl, made.only);
   inputs = rw own (let d = count_by-cons is_data (pin port.name roles.State) pins in let k = count_by-cons is_clock (pin port.name roles.State) pins in omega (arith, made.inputs));
+  named = λ h. (h.0, made.named h.1);
   unsplit = λ h. (h.0, made.unsplit h.1);
 }
 made_output port ports (true ∷ later) pins own made = record {
@@ -62,6 +67,7 @@ made_output port ports (true ∷ later) pins own made = record {
   long = ap suc made.long;
   only = (refl, made.only);
   inputs = rw own (let d = count_by-cons is_data (pin port.name roles.StateBar) pins in let k = count_by-cons is_clock (pin port.name roles.StateBar) pins in omega (arith, made.inputs));
+  named = λ h. (h.0, made.named h.1);
   unsplit = λ h. (h.0, made.unsplit h.1);
 }
 
@@ -70,19 +76,21 @@ made_one port ports clock inverses as_output as_input true own out into = made_o
 made_one port ports clock inverses as_output as_input false own out into = made_input port ports clock as_input false refl own into
 
 made_all : (clock k : ℕ) (inverses : List Bool) (ports : List Port) → Made ports (flop_pins clock k inverses ports)
-made_all clock k inverses [] = record { names = refl; long = refl; only = tt; inputs = refl; unsplit = λ h. h }
+made_all clock k inverses [] = record { names = refl; long = refl; only = tt; inputs = refl; named = λ h. h; unsplit = λ h. h }
 made_all clock k inverses (port ∷ ports) = made_one port ports (k == clock) inverses (flop_pins clock k (rest_of inverses) ports) (flop_pins clock (k + 1) inverses ports) port.marks.is_output refl (made_all clock k (rest_of inverses) ports) (made_all clock (k + 1) inverses ports)
 
 parts : (a b : ℕ) → (a == 1 && nat_le 1 b) ≡ true → (a ≡ 1) × (1 ≤ b)
 parts a b h = grind (arith, nat_tests)
 
 -- one clock among the inputs, and outputs that give the state or the inverse, make a register
-pub flop_is_cell : (name : List ℕ) (ports : List Port) (next : Term) (clock : ℕ) (inverses : List Bool) → ArePorts ports → are_flop_pins (flop_pins clock 0 inverses ports) ≡ true → clock < length (input_names ports) → IsTrue (is_within (length (input_names ports) + 2) next) → IsCell (record { name = name; kind = kinds.Flop; pins = flop_pins clock 0 inverses ports; function = Some (restated (length (input_names ports)) clock next) })
-flop_is_cell name ports next clock inverses are fits inside within =
+pub flop_is_cell : (name : List ℕ) (ports : List Port) (next : Term) (clock : ℕ) (inverses : List Bool) → IsTrue (is_name name) → ArePorts ports → are_flop_pins (flop_pins clock 0 inverses ports) ≡ true → clock < length (input_names ports) → IsTrue (is_within (length (input_names ports) + 2) next) → IsCell (record { name = name; kind = kinds.Flop; pins = flop_pins clock 0 inverses ports; function = Some (restated (length (input_names ports)) clock next) })
+flop_is_cell name ports next clock inverses is_named are fits inside within =
     let made : Made ports (flop_pins clock 0 inverses ports) = made_all clock 0 inverses ports in
     let counts = parts (count_by is_clock (flop_pins clock 0 inverses ports)) (count_by is_state (flop_pins clock 0 inverses ports)) fits in
     let variables : length (input_names ports) ≡ count_by is_data (flop_pins clock 0 inverses ports) + 1 = omega (arith, made.inputs, counts.0) in
     record {
+      named = is_named;
+      pins_named = made.named are.named;
       few = rw made.long are.few;
       distinct = rw made.names are.distinct;
       unsplit = made.unsplit are.unsplit;
@@ -90,12 +98,12 @@ flop_is_cell name ports next clock inverses are fits inside within =
       computes = subst (λ (n : ℕ). IsTrue (is_within n (restated (length (input_names ports)) clock next))) variables (restated_within (length (input_names ports)) clock next inside within);
     }
 
-pub flop_is_made : (name : List ℕ) (ports : List Port) (next function : Term) (inputs clock : ℕ) (inverses : List Bool) (pins : List PinData) → ArePorts ports → pins ≡ flop_pins clock 0 inverses ports → are_flop_pins pins ≡ true → inputs ≡ length (input_names ports) → clock < inputs → IsTrue (is_within (inputs + 2) next) → function ≡ restated inputs clock next → IsCell (record { name = name; kind = kinds.Flop; pins = pins; function = Some function })
-flop_is_made name ports next function inputs clock inverses pins are is fits counted inside within restates =
+pub flop_is_made : (name : List ℕ) (ports : List Port) (next function : Term) (inputs clock : ℕ) (inverses : List Bool) (pins : List PinData) → IsTrue (is_name name) → ArePorts ports → pins ≡ flop_pins clock 0 inverses ports → are_flop_pins pins ≡ true → inputs ≡ length (input_names ports) → clock < inputs → IsTrue (is_within (inputs + 2) next) → function ≡ restated inputs clock next → IsCell (record { name = name; kind = kinds.Flop; pins = pins; function = Some function })
+flop_is_made name ports next function inputs clock inverses pins is_named are is fits counted inside within restates =
     let fits' : are_flop_pins (flop_pins clock 0 inverses ports) ≡ true = subst (λ (ps : List PinData). are_flop_pins ps ≡ true) is fits in
     let inside' : clock < length (input_names ports) = omega arith in
     let within' : IsTrue (is_within (length (input_names ports) + 2) next) = subst (λ (n : ℕ). IsTrue (is_within (n + 2) next)) counted within in
-    rw (is, restates, counted) (flop_is_cell name ports next clock inverses are fits' inside' within')
+    rw (is, restates, counted) (flop_is_cell name ports next clock inverses is_named are fits' inside' within')
 
 -- a lone input is in range
 pub lone_below : (n : ℕ) (t : Term) (k : ℕ) → Some k ≡ lone_input t → IsTrue (is_within n t) → k < n

@@ -5,8 +5,8 @@ use Rattle.cg_liberty.specs.Group.{behind, flop_from, pin_from}
 use Rattle.cg_liberty.specs.declared.group.CellGroup.{CellGroup}
 use Rattle.cg_liberty.specs.declared.group.FlopGroup.{FlopGroup}
 use Rattle.cg_liberty.specs.declared.group.PinGroup.{PinGroup}
-use Rattle.cg_liberty.specs.declared.statement.Statement.{Statement}
-use Rattle.cg_liberty.specs.declared.statement.Statement.TheVariants.{Open, Close, Attribute}
+use Rattle.cg_liberty_text.specs.declared.statement.Statement.{Statement}
+use Rattle.cg_liberty_text.specs.declared.statement.Statement.TheVariants.{Open, Close, Attribute}
 
 pub behind_inside : (inside : ℕ) (statements : List Statement) → behind (suc inside) statements ≡ behind 0 (behind inside statements)
 behind_inside inside [] = refl

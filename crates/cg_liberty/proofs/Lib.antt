@@ -1,6 +1,4 @@
-pub mod Texts
-pub mod TokensLeft
-pub mod Phases
+pub mod FewPins
 pub mod Inside
 pub mod SoundPorts
 pub mod PortFacts
@@ -10,14 +8,9 @@ pub mod Readings
 pub mod GaterCells
 pub mod Restated
 pub mod FlopCells
-pub mod LoneInputs
 pub mod Adding
 pub mod NamedCells
 pub mod DistinctCells
 pub mod AddedCells
-pub mod ArgumentLists
-pub mod AttributeValues
-pub mod SpelledIsRead
-pub mod ReadIsSpelled
 pub mod LibrarySpelled
 pub mod LibTexts

@@ -4,13 +4,13 @@ use Rattle.cg_cell.specs.Cell.{CellData}
 use Rattle.cg_cell.specs.declared.library.Library.{Library}
 use Rattle.cg_liberty.specs.LibText.{LibText}
 use Rattle.cg_liberty.specs.Library.{Stands, all_added, by_fault, cell_groups, library_of}
-use Rattle.cg_liberty.specs.Statement.{Read, statements}
-use Rattle.cg_liberty.specs.Statement.Phase.{Start}
-use Rattle.cg_liberty.specs.Token.{tokens}
+use Rattle.cg_liberty_text.specs.Statement.{Read, statements}
+use Rattle.cg_liberty_text.specs.Statement.Phase.{Start}
+use Rattle.cg_liberty_text.specs.Token.{tokens}
 use Rattle.cg_liberty.specs.declared.fault.LibertyFault.{LibertyFault}
 use Rattle.cg_liberty.specs.declared.fault.LibertyFault.TheVariants as faults
-use Rattle.cg_liberty.specs.declared.fault.TextFault.{TextFault}
-use Rattle.cg_liberty.specs.declared.statement.Statement.{Statement}
+use Rattle.cg_liberty_text.specs.declared.fault.TextFault.{TextFault}
+use Rattle.cg_liberty_text.specs.declared.statement.Statement.{Statement}
 use Rattle.cg_liberty.proofs.LibrarySpelled.{library_read, library_spelled}
 use Rattle.cg_liberty.proofs.AddedCells.{Extends, adds, extends}
 

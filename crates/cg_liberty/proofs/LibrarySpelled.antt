@@ -2,21 +2,22 @@
 use Rattle.std.proofs.Common.{◌≡◌, ◌≤◌, ℕ, Bool, true, false, cond, List, [], ◌∷◌, ◌++◌, length, codes, None, Result, Ok, Err, refl, sym, ap, ◌∙◌, subst, append_assoc, append-nil, arith}
 use Rattle.std.specs.Str.{bytes_eq}
 use Rattle.std.proofs.lemmas.Slice.Eq.{bytes_eq-Decides}
-use Rattle.cg_liberty.specs.Argument.{argument_texts, behind_arguments, unexpected}
-use Rattle.cg_liberty.specs.Grammar.{IsHead, Piece, Spells, SpellsAll, SpellsLibrary, statements_of, tokens_of}
-use Rattle.cg_liberty.specs.Statement.{Read, faulty, put, statements}
-use Rattle.cg_liberty.specs.Statement.Phase.{Done, Listed, Named, Start}
-use Rattle.cg_liberty.specs.declared.fault.TextFault.{TextFault}
-use Rattle.cg_liberty.specs.declared.fault.TextFault.TheVariants.{BadGroup}
-use Rattle.cg_liberty.specs.declared.lexeme.Kind.{Kind}
-use Rattle.cg_liberty.specs.declared.lexeme.Kind.TheVariants as kinds
-use Rattle.cg_liberty.specs.declared.statement.Statement.{Statement}
-use Rattle.cg_liberty.specs.declared.statement.Statement.TheVariants.{Open, Close}
-use Rattle.cg_liberty.specs.declared.token.Token.{Token}
-use Rattle.cg_liberty.proofs.ArgumentLists.{arguments_of, token_of}
-use Rattle.cg_liberty.proofs.Phases.{go_on}
-use Rattle.cg_liberty.proofs.SpelledIsRead.{brace_closed, group_opened, library_named, onto, paren_listing, row_read, spelled_read, whole}
-use Rattle.cg_liberty.proofs.ReadIsSpelled.{Closed, Fine, closed_within, faulted, fine_by}
+use Rattle.cg_limit.specs.declared.TheConstants.{MOST_NESTING}
+use Rattle.cg_liberty_text.specs.Argument.{argument_texts, behind_arguments, unexpected}
+use Rattle.cg_liberty_text.specs.Grammar.{IsHead, Piece, Spells, SpellsAll, SpellsLibrary, statements_of, tokens_of}
+use Rattle.cg_liberty_text.specs.Statement.{Read, faulty, put, statements}
+use Rattle.cg_liberty_text.specs.Statement.Phase.{Done, Listed, Named, Start}
+use Rattle.cg_liberty_text.specs.declared.fault.TextFault.{TextFault}
+use Rattle.cg_liberty_text.specs.declared.fault.TextFault.TheVariants.{BadGroup}
+use Rattle.cg_liberty_text.specs.declared.lexeme.Kind.{Kind}
+use Rattle.cg_liberty_text.specs.declared.lexeme.Kind.TheVariants as kinds
+use Rattle.cg_liberty_text.specs.declared.statement.Statement.{Statement}
+use Rattle.cg_liberty_text.specs.declared.statement.Statement.TheVariants.{Open, Close}
+use Rattle.cg_liberty_text.specs.declared.token.Token.{Token}
+use Rattle.cg_liberty_text.proofs.ArgumentLists.{arguments_of, token_of}
+use Rattle.cg_liberty_text.proofs.Phases.{go_on}
+use Rattle.cg_liberty_text.proofs.SpelledIsRead.{brace_closed, group_opened, library_named, onto, paren_listing, row_read, spelled_read, whole}
+use Rattle.cg_liberty_text.proofs.ReadIsSpelled.{Closed, Fine, closed_within, faulted, fine_by}
 
 as_read : List Statement → Read
 as_read read = (read, None)
@@ -30,7 +31,7 @@ library_read end tokens read library =
     let deep : 1 ≤ 1 = omega arith in
     let row : statements end 1 Start (tokens_of group.pieces ++ group.last ∷ []) ≡ onto (statements_of group.pieces) (statements end 1 Start (group.last ∷ [])) = row_read end 1 (Spells 63) (λ piece rest spelled. spelled_read end 63 1 refl deep piece rest spelled) group.pieces (group.last ∷ []) group.inside in
     ap (statements end 0 Start) (sym (append-nil tokens))
-    ∙ group_opened end 0 64 (SpellsAll 63) piece [] group (λ after. library_named end group.word after group.head.named library.named) refl refl row
+    ∙ group_opened end 0 MOST_NESTING (SpellsAll 63) piece [] group (λ after. library_named end group.word after group.head.named library.named) refl refl row
     ∙ ap (λ (r : Read). put (Open group.word.text group.texts) (onto (statements_of group.pieces) r)) (brace_closed end 1 group.last [] deep group.closes)
     ∙ whole group.word.text group.texts (statements_of group.pieces) (as_read [])
     ∙ ap as_read (append-nil (Open group.word.text group.texts ∷ statements_of group.pieces ++ Close ∷ []) ∙ sym group.stands)

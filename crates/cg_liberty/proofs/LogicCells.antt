@@ -2,7 +2,7 @@
 use Rattle.std.proofs.Common.{◌≡◌, ◌+◌, ℕ, suc, Bool, true, false, cond, ◌||◌, IsTrue, List, [], ◌∷◌, ◌++◌, length, map, Option, Some, refl, ap, ◌∙◌, subst, count_by, arith}
 use Rattle.std.specs.List.{AllByRecursion}
 use Rattle.cg_cell.specs.Cell.{IsCell}
-use Rattle.cg_cell.specs.Name.{has_no_equals}
+use Rattle.cg_cell.specs.Name.{has_no_equals, is_name}
 use Rattle.cg_cell.specs.Pins.{PinData, is_data, is_output}
 use Rattle.cg_cell.specs.Term.{Term, is_within}
 use Rattle.cg_cell.specs.declared.cell.CellKind.TheVariants as kinds
@@ -23,6 +23,10 @@ logic_length (port ∷ ports) = ap suc (logic_length ports)
 logic_unsplit : (ports : List Port) → AllByRecursion (λ port. IsTrue (has_no_equals port.name)) ports → AllByRecursion (λ pin. IsTrue (has_no_equals pin.name)) (logic_pins ports)
 logic_unsplit [] h = tt
 logic_unsplit (port ∷ ports) h = (h.0, logic_unsplit ports h.1)
+
+logic_named : (ports : List Port) → AllByRecursion (λ port. IsTrue (is_name port.name)) ports → AllByRecursion (λ pin. IsTrue (is_name pin.name)) (logic_pins ports)
+logic_named [] h = tt
+logic_named (port ∷ ports) h = (h.0, logic_named ports h.1)
 
 own_only : (name : List ℕ) (output : Bool) → IsTrue (is_data (record { name = name; role = cond output roles.Output roles.Data }) || is_output (record { name = name; role = cond output roles.Output roles.Data }))
 own_only name true = refl
@@ -49,8 +53,10 @@ logic_inputs [] = refl
 logic_inputs (port ∷ ports) = count_inputs port.name (logic_pins ports) (input_names ports) port.marks.is_output (logic_inputs ports)
 
 -- one output with a function of the inputs makes a logic cell
-pub logic_is_cell : (name : List ℕ) (ports : List Port) (function : Term) → ArePorts ports → length (output_texts ports) ≡ 1 → IsTrue (is_within (length (input_names ports)) function) → IsCell (record { name = name; kind = kinds.Logic; pins = logic_pins ports; function = Some function })
-logic_is_cell name ports function are one within = record {
+pub logic_is_cell : (name : List ℕ) (ports : List Port) (function : Term) → IsTrue (is_name name) → ArePorts ports → length (output_texts ports) ≡ 1 → IsTrue (is_within (length (input_names ports)) function) → IsCell (record { name = name; kind = kinds.Logic; pins = logic_pins ports; function = Some function })
+logic_is_cell name ports function is_named are one within = record {
+  named = is_named;
+  pins_named = logic_named ports are.named;
   few = rw (logic_length ports) are.few;
   distinct = rw (logic_names ports) are.distinct;
   unsplit = logic_unsplit ports are.unsplit;

@@ -1,14 +1,20 @@
 -- The cells of a library text.
-use Rattle.std.specs.Prelude.{◌≡◌, ℕ, zero, suc, Bool, true, false, cond, ◌||◌, List, [], ◌∷◌, ◌++◌, codes, Option, Some}
+use Rattle.std.specs.Prelude.{◌≡◌, ℕ, zero, suc, Bool, true, false, cond, ◌||◌, nat_le, List, [], ◌∷◌, ◌++◌, length, codes, Option, None, Some}
 use Rattle.std.specs.Str.{bytes_eq}
 use Rattle.cg_liberty.specs.Group.{flop_from, new_flop, new_pin, pin_from, stated}
-use Rattle.cg_liberty.specs.Statement.{Read}
+use Rattle.cg_liberty.specs.Port.{few_pins, group_pins}
+use Rattle.cg_liberty_text.specs.Statement.{Read}
 use Rattle.cg_liberty.specs.declared.fault.ReadFault.{ReadFault}
 use Rattle.cg_liberty.specs.declared.fault.ReadFault.TheVariants as reads
 use Rattle.cg_liberty.specs.declared.group.CellGroup.{CellGroup}
+use Rattle.cg_liberty.specs.declared.group.FlopGroup.{FlopGroup}
+use Rattle.cg_liberty.specs.declared.group.Flops.{Flops}
+use Rattle.cg_liberty.specs.declared.group.Flops.TheVariants.{Absent, One, Several}
+use Rattle.cg_liberty.specs.declared.group.PinGroup.{PinGroup}
 use Rattle.cg_liberty.specs.declared.group.Stated.TheVariants.{Missing}
-use Rattle.cg_liberty.specs.declared.statement.Statement.{Statement}
-use Rattle.cg_liberty.specs.declared.statement.Statement.TheVariants.{Open, Close, Attribute}
+use Rattle.cg_liberty.specs.declared.port.PinText.{PinText}
+use Rattle.cg_liberty_text.specs.declared.statement.Statement.{Statement}
+use Rattle.cg_liberty_text.specs.declared.statement.Statement.TheVariants.{Open, Close, Attribute}
 
 -- groups of pins that are no single nets
 abbrev pub is_bus : List ℕ → Bool
@@ -20,7 +26,7 @@ is_bank word = bytes_eq word (codes "latch") || (bytes_eq word (codes "statetabl
 
 -- a cell of which nothing is stated yet
 abbrev pub new_cell : List ℕ → CellGroup
-new_cell name = record { name = name; gating = Missing; has_bus = false; has_bank = false; pins = []; flops = [] }
+new_cell name = record { name = name; gating = Missing; has_bus = false; has_bank = false; pins = Some []; flops = Absent }
 
 -- a cell behind one more attribute
 abbrev pub cell_with : CellGroup → List ℕ → Option (List ℕ) → CellGroup
@@ -30,11 +36,28 @@ cell_with cell word text = cond (bytes_eq word (codes "clock_gating_integrated_c
 abbrev pub cell_with_other : CellGroup → List ℕ → CellGroup
 cell_with_other cell word = cond (is_bus word) (record cell { has_bus = true }) (cond (is_bank word) (record cell { has_bank = true }) cell)
 
+-- pins with those of one more `pin` group, unless there are more than a usable cell has
+abbrev pub with_pins : Option (List PinText) → List PinText → Option (List PinText)
+with_pins None more = None
+with_pins (Some pins) more = few_pins (pins ++ more)
+
+-- the `ff` groups with one more
+abbrev pub with_flop : Flops → FlopGroup → Flops
+with_flop Absent flop = One flop
+with_flop _ flop = Several
+
+-- a cell with one more `pin` group, or one more `ff` group
+abbrev pub cell_with_pin : CellGroup → PinGroup → CellGroup
+cell_with_pin cell pin = record cell { pins = with_pins cell.pins (group_pins pin) }
+
+abbrev pub cell_with_flop : CellGroup → FlopGroup → CellGroup
+cell_with_flop cell flop = record cell { flops = with_flop cell.flops flop }
+
 -- a cell with one more group, whose statements begin with `after`
 abbrev pub cell_with_group : CellGroup → List ℕ → List (List ℕ) → List Statement → CellGroup
 cell_with_group cell word texts after =
-    cond (bytes_eq word (codes "pin")) (record cell { pins = cell.pins ++ pin_from 0 (new_pin texts) after ∷ [] })
-    (cond (bytes_eq word (codes "ff")) (record cell { flops = cell.flops ++ flop_from 0 (new_flop texts) after ∷ [] })
+    cond (bytes_eq word (codes "pin")) (cell_with_pin cell (pin_from 0 (new_pin texts) after))
+    (cond (bytes_eq word (codes "ff")) (cell_with_flop cell (flop_from 0 (new_flop texts) after))
     (cell_with_other cell word))
 
 -- a cell whose statements go on here inside so many further groups

@@ -1,13 +1,13 @@
 -- Groups of a library text, from the statements behind their `{`.
 use Rattle.std.specs.Prelude.{◌≡◌, ℕ, zero, suc, cond, List, [], ◌∷◌, codes, Option, None, Some}
 use Rattle.std.specs.Str.{bytes_eq}
-use Rattle.cg_liberty.specs.Statement.{Read}
+use Rattle.cg_liberty_text.specs.Statement.{Read}
 use Rattle.cg_liberty.specs.declared.group.FlopGroup.{FlopGroup}
 use Rattle.cg_liberty.specs.declared.group.PinGroup.{PinGroup}
 use Rattle.cg_liberty.specs.declared.group.Stated.{Stated}
 use Rattle.cg_liberty.specs.declared.group.Stated.TheVariants.{Missing, Bare, Text}
-use Rattle.cg_liberty.specs.declared.statement.Statement.{Statement}
-use Rattle.cg_liberty.specs.declared.statement.Statement.TheVariants.{Open, Close, Attribute}
+use Rattle.cg_liberty_text.specs.declared.statement.Statement.{Statement}
+use Rattle.cg_liberty_text.specs.declared.statement.Statement.TheVariants.{Open, Close, Attribute}
 
 -- what an attribute states
 abbrev pub stated : Option (List ℕ) → Stated
@@ -28,7 +28,7 @@ IsLeft old new = (behind 0 old.0 ≡ new.0) × (old.1 ≡ new.1)
 
 -- a `pin` group of which nothing is stated yet
 abbrev pub new_pin : List (List ℕ) → PinGroup
-new_pin names = record { names = names; direction = Missing; function = Missing; three_state = Missing; clock_pin = Missing; enable_pin = Missing; out_pin = Missing }
+new_pin names = record { names = names; direction = Missing; function = Missing; three_state = Missing; clock_pin = Missing; enable_pin = Missing; test_pin = Missing; out_pin = Missing }
 
 -- a `pin` group behind one more attribute, which takes the place of an earlier one of its name
 abbrev pub pin_with : PinGroup → List ℕ → Option (List ℕ) → PinGroup
@@ -38,8 +38,9 @@ pin_with pin word text =
     (cond (bytes_eq word (codes "three_state")) (record pin { three_state = stated text })
     (cond (bytes_eq word (codes "clock_gate_clock_pin")) (record pin { clock_pin = stated text })
     (cond (bytes_eq word (codes "clock_gate_enable_pin")) (record pin { enable_pin = stated text })
+    (cond (bytes_eq word (codes "clock_gate_test_pin")) (record pin { test_pin = stated text })
     (cond (bytes_eq word (codes "clock_gate_out_pin")) (record pin { out_pin = stated text })
-    pin)))))
+    pin))))))
 
 -- a `pin` group whose statements go on here inside so many further groups, of which the attributes do not count
 abbrev pub pin_from : ℕ → PinGroup → List Statement → PinGroup

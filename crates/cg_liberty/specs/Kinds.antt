@@ -2,7 +2,7 @@
 use Rattle.std.specs.Prelude.{ℕ, ◌+◌, ◌-◌, ◌==◌, nat_lt, nat_le, Bool, true, false, cond, not, ◌&&◌, ◌||◌, List, [], ◌∷◌, ◌++◌, map, length, count_by, codes, Option, None, Some, option_map, Result, Ok}
 use Rattle.cg_cell.specs.Cell.{CellData}
 use Rattle.cg_cell.specs.Name.{are_distinct, is_name}
-use Rattle.cg_cell.specs.Pins.{PinData, is_clock, is_enable, is_output, is_state}
+use Rattle.cg_cell.specs.Pins.{PinData, is_clock, is_enable, is_output, is_state, is_test}
 use Rattle.cg_cell.specs.Term.{Term, Bit, Input, Inverse, Both, Either, Differ, has_input, lone_input, term_value}
 use Rattle.cg_cell.specs.declared.cell.CellKind.TheVariants as kinds
 use Rattle.cg_cell.specs.declared.cell.Role.{Role}
@@ -12,6 +12,8 @@ use Rattle.cg_liberty.specs.Reading.{reading, readings, then_read}
 use Rattle.cg_liberty.specs.declared.fault.CellFault.{CellFault}
 use Rattle.cg_liberty.specs.declared.group.CellGroup.{CellGroup}
 use Rattle.cg_liberty.specs.declared.group.FlopGroup.{FlopGroup}
+use Rattle.cg_liberty.specs.declared.group.Flops.{Flops}
+use Rattle.cg_liberty.specs.declared.group.Flops.TheVariants.{Absent, One, Several}
 use Rattle.cg_liberty.specs.declared.port.Port.{Port}
 
 -- a cell that is known by name alone
@@ -36,28 +38,45 @@ output_texts (port ∷ ports) = own_output port ++ output_texts ports
 
 -- Gating cells
 
--- what a pin of a gating cell is for: an input has one of the two flags, and an output has its own
-abbrev pub gater_role : Port → Option Role
-gater_role port =
+-- what an input of a gating cell is for: it has exactly one of the flags of clock, enable and test
+abbrev pub input_role : Bool → Bool → Bool → Option Role
+input_role true false false = Some roles.Clock
+input_role false true false = Some roles.Enable
+input_role false false true = Some roles.Test
+input_role _ _ _ = None
+
+-- what a pin of a gating cell is for: an output has its own flag, and that of a test input counts where the cell has one
+abbrev pub gater_role : Bool → Port → Option Role
+gater_role tested port =
     cond port.marks.is_output (cond port.marks.is_out (Some roles.Output) None)
-    (cond port.marks.is_clock (cond port.marks.is_enable None (Some roles.Clock))
-    (cond port.marks.is_enable (Some roles.Enable) None))
+    (input_role port.marks.is_clock port.marks.is_enable (tested && port.marks.is_test))
 
 abbrev pub with_role : Port → Option Role → Option (List PinData) → Option (List PinData)
 with_role port (Some role) (Some pins) = Some (record { name = port.name; role = role } ∷ pins)
 with_role port _ _ = None
 
-abbrev pub gater_pins : List Port → Option (List PinData)
-gater_pins [] = Some []
-gater_pins (port ∷ ports) = with_role port (gater_role port) (gater_pins ports)
+abbrev pub gater_pins : Bool → List Port → Option (List PinData)
+gater_pins tested [] = Some []
+gater_pins tested (port ∷ ports) = with_role port (gater_role tested port) (gater_pins tested ports)
 
--- exactly one clock, one enable and one output
-abbrev pub are_gater_pins : List PinData → Bool
-are_gater_pins pins = count_by is_clock pins == 1 && (count_by is_enable pins == 1 && count_by is_output pins == 1)
+-- exactly one clock, one enable and one output, and one test input where the cell has one
+abbrev pub are_gater_pins : Bool → List PinData → Bool
+are_gater_pins tested pins = count_by is_clock pins == 1 && (count_by is_enable pins == 1 && (count_by is_output pins == 1 && count_by is_test pins == cond tested 1 0))
 
-abbrev pub gater_of : List ℕ → Option (List PinData) → CellData
-gater_of name None = unusable name
-gater_of name (Some pins) = cond (are_gater_pins pins) (record { name = name; kind = kinds.Gater; pins = pins; function = None }) (unusable name)
+abbrev pub gater_with : List ℕ → Bool → Option (List PinData) → CellData
+gater_with name tested None = unusable name
+gater_with name tested (Some pins) = cond (are_gater_pins tested pins) (record { name = name; kind = kinds.Gater; pins = pins; function = None }) (unusable name)
+
+-- the gating cell of these pins, with a test input or without, or an unusable cell
+abbrev pub gater_of : List ℕ → Bool → List Port → CellData
+gater_of name tested ports = gater_with name tested (gater_pins tested ports)
+
+-- the cell of an attribute that says which gating cell it is: a latch that is transparent while the clock is low, in front of an and, without a test input or with one before the latch; others are unusable
+abbrev pub gating_cell : CellGroup → List Port → CellData
+gating_cell cell ports =
+    cond (states cell.gating (codes "latch_posedge")) (gater_of cell.name false ports)
+    (cond (states cell.gating (codes "latch_posedge_precontrol")) (gater_of cell.name true ports)
+    (unusable cell.name))
 
 -- Logic cells
 
@@ -170,23 +189,18 @@ flop_cell name ports flop =
 
 -- All kinds, the first rule that applies
 
-abbrev pub cell_by_flops : CellGroup → List Port → List FlopGroup → Result CellData CellFault
-cell_by_flops cell ports [] = logic_cell cell.name ports
-cell_by_flops cell ports (flop ∷ []) = flop_cell cell.name ports flop
-cell_by_flops cell ports _ = Ok (unusable cell.name)
+abbrev pub cell_by_flops : CellGroup → List Port → Flops → Result CellData CellFault
+cell_by_flops cell ports Absent = logic_cell cell.name ports
+cell_by_flops cell ports (One flop) = flop_cell cell.name ports flop
+cell_by_flops cell ports Several = Ok (unusable cell.name)
 
 abbrev pub cell_with_ports : CellGroup → Option (List Port) → Result CellData CellFault
 cell_with_ports cell None = Ok (unusable cell.name)
 cell_with_ports cell (Some ports) =
-    cond (is_there cell.gating) (Ok (cond (states cell.gating (codes "latch_posedge")) (gater_of cell.name (gater_pins ports)) (unusable cell.name)))
+    cond (is_there cell.gating) (Ok (gating_cell cell ports))
     (cond cell.has_bank (Ok (unusable cell.name))
     (cell_by_flops cell ports cell.flops))
 
 -- the cell that a group describes, or the fault of its first bad expression
 abbrev pub cell_of : CellGroup → Result CellData CellFault
 cell_of cell = cell_with_ports cell (ports_of cell)
-
--- the input of a level of operators that is one input and nothing else
-abbrev pub lone_among : List Term → Option ℕ
-lone_among (t ∷ []) = lone_input t
-lone_among _ = None

@@ -1,13 +1,7 @@
-pub mod Lexeme
-pub mod Text
-pub mod Token
-pub mod Argument
-pub mod Statement
 pub mod Group
 pub mod Cell
 pub mod Port
 pub mod Reading
 pub mod Kinds
 pub mod Library
-pub mod Grammar
 pub mod LibText

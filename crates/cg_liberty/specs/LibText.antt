@@ -1,14 +1,15 @@
 -- The texts that stand for a library.
 use Rattle.std.specs.Prelude.{◌≡◌, ℕ, ◌≤◌, IsTrue, List, length, map, Ok}
 use Rattle.std.specs.List.{AllZip, filter}
+use Rattle.cg_limit.specs.declared.TheConstants.{MOST_LIBRARY_CELLS}
 use Rattle.cg_cell.specs.Cell.{CellData}
 use Rattle.cg_cell.specs.Name.{are_distinct, is_name}
-use Rattle.cg_liberty.specs.Grammar.{SpellsLibrary}
+use Rattle.cg_liberty_text.specs.Grammar.{SpellsLibrary}
 use Rattle.cg_liberty.specs.Kinds.{cell_of}
 use Rattle.cg_liberty.specs.Library.{cell_groups}
-use Rattle.cg_liberty.specs.Token.{tokens}
+use Rattle.cg_liberty_text.specs.Token.{tokens}
 use Rattle.cg_liberty.specs.declared.group.CellGroup.{CellGroup}
-use Rattle.cg_liberty.specs.declared.statement.Statement.{Statement}
+use Rattle.cg_liberty_text.specs.declared.statement.Statement.{Statement}
 
 -- the groups whose argument is a name
 abbrev pub named_groups : List CellGroup → List CellGroup
@@ -27,5 +28,5 @@ pub record LibText (text : List ℕ) (cells : List CellData) : Type 0 where
   pub read : List Statement
   pub spelled : SpellsLibrary (tokens text) read
   pub described : Describe (named_groups (cell_groups read)) cells
-  pub few : length cells ≤ 4096
+  pub few : length cells ≤ MOST_LIBRARY_CELLS
   pub distinct : IsTrue (are_distinct (names_of cells))

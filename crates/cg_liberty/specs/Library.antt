@@ -1,25 +1,26 @@
 -- The library that a text stands for, or its first fault.
 use Rattle.std.specs.Prelude.{◌≡◌, ℕ, nat_le, cond, not, List, [], ◌∷◌, ◌++◌, length, Option, None, Some, Result, Ok, Err}
 use Rattle.std.specs.Option.{is_some}
+use Rattle.cg_limit.specs.declared.TheConstants.{MOST_LIBRARY_CELLS}
 use Rattle.cg_cell.specs.Cell.{CellData}
 use Rattle.cg_cell.specs.Library.{find_cell}
 use Rattle.cg_cell.specs.Name.{is_name}
-use Rattle.cg_cell.specs.declared.limit.Limit.TheVariants as limits
+use Rattle.cg_limit.specs.declared.Limit.TheVariants as limits
 use Rattle.cg_cell.specs.declared.library.Library.{Library}
 use Rattle.cg_liberty.specs.Cell.{cells_from}
 use Rattle.cg_liberty.specs.Kinds.{cell_of}
-use Rattle.cg_liberty.specs.Statement.{statements}
-use Rattle.cg_liberty.specs.Statement.Phase.{Start}
-use Rattle.cg_liberty.specs.Token.{tokens}
+use Rattle.cg_liberty_text.specs.Statement.{statements}
+use Rattle.cg_liberty_text.specs.Statement.Phase.{Start}
+use Rattle.cg_liberty_text.specs.Token.{tokens}
 use Rattle.cg_liberty.specs.declared.fault.CellFault.{CellFault}
 use Rattle.cg_liberty.specs.declared.fault.CellFault.TheVariants as cells
-use Rattle.cg_liberty.specs.declared.fault.TextFault.{TextFault}
-use Rattle.cg_liberty.specs.declared.fault.TextFault.TheVariants as texts
+use Rattle.cg_liberty_text.specs.declared.fault.TextFault.{TextFault}
+use Rattle.cg_liberty_text.specs.declared.fault.TextFault.TheVariants as texts
 use Rattle.cg_liberty.specs.declared.group.CellGroup.{CellGroup}
 use Rattle.cg_liberty.specs.declared.fault.LibertyFault.{LibertyFault}
 use Rattle.cg_liberty.specs.declared.fault.LibertyFault.TheVariants as faults
-use Rattle.cg_liberty.specs.declared.statement.Statement.{Statement}
-use Rattle.cg_liberty.specs.declared.statement.Statement.TheVariants.{Open, Close, Attribute}
+use Rattle.cg_liberty_text.specs.declared.statement.Statement.{Statement}
+use Rattle.cg_liberty_text.specs.declared.statement.Statement.TheVariants.{Open, Close, Attribute}
 
 -- the refusal for a fault of the text, and for one of a cell's expressions
 abbrev pub text_refusal : TextFault → LibertyFault
@@ -41,7 +42,7 @@ with_cell library name (Err fault) = Err (cell_refusal name fault)
 abbrev pub added : List CellData → CellGroup → Result (List CellData) LibertyFault
 added library group =
     cond (not (is_name group.name)) (Ok library)
-    (cond (nat_le 4096 (length library)) (Err (faults.Limit limits.LibraryCells))
+    (cond (nat_le MOST_LIBRARY_CELLS (length library)) (Err (faults.Limit limits.LibraryCells))
     (cond (is_some (find_cell group.name library)) (Err (faults.TwoCells group.name))
     (with_cell library group.name (cell_of group))))
 

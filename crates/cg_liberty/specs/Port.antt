@@ -35,6 +35,7 @@ marks_of group = record {
   is_three_state = is_there group.three_state;
   is_clock = states group.clock_pin (codes "true");
   is_enable = states group.enable_pin (codes "true");
+  is_test = states group.test_pin (codes "true");
   is_out = states group.out_pin (codes "true");
   function = text_of group.function;
 }
@@ -43,10 +44,9 @@ marks_of group = record {
 abbrev pub group_pins : PinGroup → List PinText
 group_pins group = cond (states group.direction (codes "internal")) [] (map (λ name. record { name = name; marks = marks_of group }) group.names)
 
--- the pins of the groups, in order
-abbrev pub pin_texts : List PinGroup → List PinText
-pin_texts [] = []
-pin_texts (group ∷ groups) = group_pins group ++ pin_texts groups
+-- pins, unless there are more than a usable cell has
+abbrev pub few_pins : List PinText → Option (List PinText)
+few_pins pins = cond (nat_le (length pins) 16) (Some pins) None
 
 -- a name that a word `pin=net` can give
 abbrev pub is_pin_name : List ℕ → Bool
@@ -69,9 +69,13 @@ abbrev pub ports_that_fit : Option (List Port) → Option (List Port)
 ports_that_fit None = None
 ports_that_fit (Some ports) = cond (fit_together ports) (Some ports) None
 
+abbrev pub ports_among : Option (List PinText) → Option (List Port)
+ports_among None = None
+ports_among (Some pins) = ports_that_fit (sound_ports pins)
+
 -- the pins of a cell whose kind is to be looked for further
 abbrev pub ports_of : CellGroup → Option (List Port)
-ports_of cell = cond (cell.has_bus || not (has_no_equals cell.name)) None (ports_that_fit (sound_ports (pin_texts cell.pins)))
+ports_of cell = cond (cell.has_bus || not (has_no_equals cell.name)) None (ports_among cell.pins)
 
 -- ports before others, where these are sound
 abbrev pub prepended : List Port → Option (List Port) → Option (List Port)
@@ -81,4 +85,5 @@ prepended ports later = option_map (λ others. ports ++ others) later
 pub record ArePorts (ports : List Port) : Type 0 where
   pub few : length ports ≤ 16
   pub distinct : IsTrue (are_distinct (map (λ port. port.name) ports))
+  pub named : AllByRecursion (λ port. IsTrue (is_name port.name)) ports
   pub unsplit : AllByRecursion (λ port. IsTrue (has_no_equals port.name)) ports

@@ -7,7 +7,7 @@ ghost use Rattle.cg_cell.specs.Term.{is_within};
 ghost use Rattle.cg_liberty.specs.Reading.{Gives, reading, taken};
 
 use crate::fault::CellFault;
-use crate::text::Text;
+use cg_liberty_text::text::Text;
 use cg_cell::expr::Expr;
 use cg_cell::fault::ExprFault;
 use cg_cell::name::Name;

@@ -1,21 +1,9 @@
 //! What a text may be refused for.
 
-use cg_cell::limit::Limit;
 use cg_cell::name::Name;
+use cg_liberty_text::fault::TextFault;
+use cg_limit::Limit;
 use std::alloc::{AllocError, AllocFailed};
-
-/// The first fault of a text that is no group `library`.
-#[derive(Clone, Copy, Debug, PartialEq, Eq)]
-pub enum TextFault {
-    /// At this place no token begins, or a string or comment begins that is not closed.
-    BadToken(usize),
-
-    /// At this place stands a token that may not stand there, or the text ends too early.
-    BadGroup(usize),
-
-    /// Groups nest deeper than 64.
-    Nesting,
-}
 
 /// Why the reading of a group was given up.
 #[derive(Clone, Copy, Debug, PartialEq, Eq)]

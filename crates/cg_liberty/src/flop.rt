@@ -4,20 +4,19 @@ ghost use Rattle.std.specs.Prelude.{◌≡◌, ◌+◌, ◌≤◌, ◌<◌, ◌+
 ghost use Rattle.std.specs.List.{list_any};
 ghost use Rattle.std.specs.Str.{bytes_eq};
 ghost use Rattle.cg_cell.specs.Expr.{is_over, term_of};
-ghost use Rattle.cg_cell.specs.Name.{are_distinct};
+ghost use Rattle.cg_cell.specs.Name.{are_distinct, is_name};
 ghost use Rattle.cg_cell.specs.Pins.{is_state};
 ghost use Rattle.cg_cell.specs.Term.{is_within};
 ghost use Rattle.cg_liberty.specs.Kinds.{all_known, are_flop_pins, flop_cell, flop_of, flop_pins, flop_with_parts, input_names, inverse_by, inverses_read, is_inverse, is_plain_flop, output_role, output_texts, rest_of, restated, state_names};
 ghost use Rattle.cg_liberty.specs.Port.{ArePorts, is_there, text_of};
 ghost use Rattle.cg_liberty.specs.Reading.{Gives, reading, readings};
 
-use crate::argument::Arguments;
+use cg_liberty_text::argument::Arguments;
 use crate::expression::read_stated;
 use crate::fault::CellFault;
 use crate::gater::clocks_among;
 use crate::group::FlopGroup;
 use crate::logic::{input_names_of, unusable_cell};
-use crate::lone::lone_variable;
 use crate::port::Port;
 use crate::restate::{Numbering, restate};
 use cg_cell::cell::{CellKind, CellType, Pin, Role};
@@ -207,14 +206,7 @@ fn is_plain(flop: &FlopGroup<'_>, states: &[Name], names: &[Name]) -> bool
 fn states_among(pins: &[Pin]) -> usize
     ensures { result ≡ count_by is_state pins.now }
 {
-    pins.iter().filter(|pin| is_state_pin(pin)).count()
-}
-
-/// Whether a pin gives the state or its inverse.
-fn is_state_pin(pin: &Pin) -> bool
-    ensures { result ≡ is_state pin.now }
-{
-    matches!(pin.role(), Role::State | Role::StateBar)
+    pins.iter().filter(|pin| pin.is_state()).count()
 }
 
 /// Whether these can be the pins of a register.
@@ -234,6 +226,7 @@ fn make_flop(
     next: &Expr,
     function: Expr,
 ) -> CellType
+    requires named { IsTrue (is_name name) }
     requires ports { ArePorts ports.now }
     requires pins { pins.items ≡ flop_pins numbering.clock 0 inverses.now ports.now }
     requires fit { are_flop_pins pins.items ≡ true }
@@ -255,6 +248,7 @@ fn flop_with(
     inverses: &[bool],
     next: &Expr,
 ) -> Result<CellType, AllocError>
+    requires named { IsTrue (is_name name) }
     requires ports { ArePorts ports.now }
     requires inputs { numbering.inputs ≡ length (input_names ports.now) }
     requires few { numbering.inputs ≤ 16 }
@@ -286,6 +280,7 @@ fn flop_of_parts(
     inputs: u32,
     names: usize,
 ) -> Result<CellType, AllocError>
+    requires named { IsTrue (is_name name) }
     requires ports { ArePorts ports.now }
     requires inputs { inputs ≡ length (input_names ports.now) }
     requires few { inputs ≤ 16 }
@@ -306,7 +301,7 @@ fn flop_of_parts(
     if !plain {
         return Ok(unusable_cell(alloc, name));
     }
-    let Some(clock) = lone_variable(&clocked) else {
+    let Some(clock) = clocked.only() else {
         return Ok(unusable_cell(alloc, name));
     };
     flop_with(
@@ -327,7 +322,8 @@ pub fn flop_cell_of(
     ports: &[Port<'_>],
     flop: &FlopGroup<'_>,
 ) -> Result<CellType, CellFault>
-    requires { ArePorts ports.now }
+    requires named { IsTrue (is_name name) }
+    requires ports { ArePorts ports.now }
     ensures { Gives (λ cell. cell) result (flop_cell name ports.now flop.now) }
 {
     let inputs = input_names_of(alloc, ports)?;

@@ -1,8 +1,9 @@
-//! Gating cells: a clock, an enable and an output.
+//! Gating cells: a clock, an enable, an output, and a test input where the cell has one.
 
-ghost use Rattle.std.specs.Prelude.{◌≡◌, ◌==◌, IfOk, IfSome, cond, count_by, None, Some, option_map, true};
-ghost use Rattle.cg_cell.specs.Pins.{is_clock, is_enable, is_output};
-ghost use Rattle.cg_liberty.specs.Kinds.{are_gater_pins, gater_of, gater_pins, gater_role};
+ghost use Rattle.std.specs.Prelude.{◌≡◌, ◌==◌, ◌&&◌, IfOk, IfSome, IsTrue, cond, count_by, None, Some, option_map, true};
+ghost use Rattle.cg_cell.specs.Name.{is_name};
+ghost use Rattle.cg_cell.specs.Pins.{is_clock, is_enable, is_output, is_test};
+ghost use Rattle.cg_liberty.specs.Kinds.{are_gater_pins, gater_of, gater_pins, gater_role, input_role};
 ghost use Rattle.cg_liberty.specs.Port.{ArePorts};
 
 use crate::logic::unusable_cell;
@@ -11,9 +12,21 @@ use cg_cell::cell::{CellKind, CellType, Pin, Role};
 use cg_cell::name::Name;
 use std::alloc::{AllocError, Global};
 
-/// What a pin of a gating cell is for, where it can be one.
-fn role_in_gater(port: &Port<'_>) -> Option<Role>
-    ensures { result ≡ gater_role port.now }
+/// What an input of a gating cell is for, where it has exactly one of the flags.
+fn role_of_input(clock: bool, enable: bool, test: bool) -> Option<Role>
+    ensures { result ≡ input_role clock enable test }
+{
+    match (clock, enable, test) {
+        (true, false, false) => Some(Role::Clock),
+        (false, true, false) => Some(Role::Enable),
+        (false, false, true) => Some(Role::Test),
+        _ => None,
+    }
+}
+
+/// What a pin of a gating cell is for, where it can be one; `tested` cells have a test input.
+fn role_in_gater(port: &Port<'_>, tested: bool) -> Option<Role>
+    ensures { result ≡ gater_role tested port.now }
 {
     if port.marks.is_output {
         if port.marks.is_out {
@@ -21,27 +34,27 @@ fn role_in_gater(port: &Port<'_>) -> Option<Role>
         } else {
             None
         }
-    } else if port.marks.is_clock {
-        if port.marks.is_enable {
-            None
-        } else {
-            Some(Role::Clock)
-        }
-    } else if port.marks.is_enable {
-        Some(Role::Enable)
     } else {
-        None
+        role_of_input(
+            port.marks.is_clock,
+            port.marks.is_enable,
+            tested && port.marks.is_test,
+        )
     }
 }
 
 /// The pins of a gating cell, where each can be one.
 #[tactic(auto, using(crate::proofs::GaterCells::gater_step))]
-fn gater_pins_of(alloc: Global, ports: &[Port<'_>]) -> Result<Option<Vec<Pin>>, AllocError>
-    ensures { IfOk result (λ pins. option_map (λ pins. pins.items) pins ≡ gater_pins ports.now) }
+fn gater_pins_of(
+    alloc: Global,
+    ports: &[Port<'_>],
+    tested: bool,
+) -> Result<Option<Vec<Pin>>, AllocError>
+    ensures { IfOk result (λ pins. option_map (λ pins. pins.items) pins ≡ gater_pins tested ports.now) }
 {
     let mut pins = Vec::new(alloc);
     'ports: for port in ports {
-        let Some(role) = role_in_gater(port) else {
+        let Some(role) = role_in_gater(port, tested) else {
             return Ok(None);
         };
         let name = port.name.clone()?;
@@ -50,75 +63,72 @@ fn gater_pins_of(alloc: Global, ports: &[Port<'_>]) -> Result<Option<Vec<Pin>>, 
     Ok(Some(pins))
 }
 
-/// Whether a pin is the clock.
-fn is_clock_pin(pin: &Pin) -> bool
-    ensures { result ≡ is_clock pin.now }
-{
-    matches!(pin.role(), Role::Clock)
-}
-
-/// Whether a pin is the enable.
-fn is_enable_pin(pin: &Pin) -> bool
-    ensures { result ≡ is_enable pin.now }
-{
-    matches!(pin.role(), Role::Enable)
-}
-
-/// Whether a pin is the output.
-fn is_output_pin(pin: &Pin) -> bool
-    ensures { result ≡ is_output pin.now }
-{
-    matches!(pin.role(), Role::Output)
-}
-
 /// How many of the pins are clocks.
 pub fn clocks_among(pins: &[Pin]) -> usize
     ensures { result ≡ count_by is_clock pins.now }
 {
-    pins.iter().filter(|pin| is_clock_pin(pin)).count()
+    pins.iter().filter(|pin| pin.is_clock()).count()
 }
 
 /// How many of the pins are enables.
 fn enables_among(pins: &[Pin]) -> usize
     ensures { result ≡ count_by is_enable pins.now }
 {
-    pins.iter().filter(|pin| is_enable_pin(pin)).count()
+    pins.iter().filter(|pin| pin.is_enable()).count()
+}
+
+/// How many of the pins are test inputs.
+fn tests_among(pins: &[Pin]) -> usize
+    ensures { result ≡ count_by is_test pins.now }
+{
+    pins.iter().filter(|pin| pin.is_test()).count()
 }
 
 /// How many of the pins are outputs.
 fn outputs_among(pins: &[Pin]) -> usize
     ensures { result ≡ count_by is_output pins.now }
 {
-    pins.iter().filter(|pin| is_output_pin(pin)).count()
+    pins.iter().filter(|pin| pin.is_output()).count()
 }
 
-/// Whether there is exactly one clock, one enable and one output.
-fn are_pins_of_gater(pins: &[Pin]) -> bool
-    ensures { result ≡ are_gater_pins pins.now }
+/// Whether there is exactly one clock, one enable and one output, and one test input where the cell has one.
+fn are_pins_of_gater(pins: &[Pin], tested: bool) -> bool
+    ensures { result ≡ are_gater_pins tested pins.now }
 {
-    clocks_among(pins) == 1 && enables_among(pins) == 1 && outputs_among(pins) == 1
+    let tests = if tested { 1 } else { 0 };
+    clocks_among(pins) == 1
+        && enables_among(pins) == 1
+        && outputs_among(pins) == 1
+        && tests_among(pins) == tests
 }
 
 /// The gating cell of these pins.
-fn make_gater(name: Name, ports: &[Port<'_>], pins: Vec<Pin>) -> CellType
+fn make_gater(name: Name, ports: &[Port<'_>], tested: bool, pins: Vec<Pin>) -> CellType
+    requires named { IsTrue (is_name name) }
     requires ports { ArePorts ports.now }
-    requires found { Some pins.items ≡ gater_pins ports.now }
-    requires fit { are_gater_pins pins.items ≡ true }
+    requires found { Some pins.items ≡ gater_pins tested ports.now }
+    requires fit { are_gater_pins tested pins.items ≡ true }
     ensures { result ≡ record { name = name; kind = CellKind.Gater; pins = pins.items; function = None } }
 {
     CellType::new(name, CellKind::Gater, pins, None)
 }
 
-/// The gating cell of these pins, or an unusable cell.
-pub fn gater_cell_of(alloc: Global, name: Name, ports: &[Port<'_>]) -> Result<CellType, AllocError>
-    requires { ArePorts ports.now }
-    ensures { IfOk result (λ cell. cell ≡ gater_of name (gater_pins ports.now)) }
+/// The gating cell of these pins, with a test input or without, or an unusable cell.
+pub fn gater_cell_of(
+    alloc: Global,
+    name: Name,
+    ports: &[Port<'_>],
+    tested: bool,
+) -> Result<CellType, AllocError>
+    requires named { IsTrue (is_name name) }
+    requires ports { ArePorts ports.now }
+    ensures { IfOk result (λ cell. cell ≡ gater_of name tested ports.now) }
 {
-    match gater_pins_of(alloc, ports)? {
+    match gater_pins_of(alloc, ports, tested)? {
         None => Ok(unusable_cell(alloc, name)),
         Some(pins) => {
-            if are_pins_of_gater(&pins) {
-                Ok(make_gater(name, ports, pins))
+            if are_pins_of_gater(&pins, tested) {
+                Ok(make_gater(name, ports, tested, pins))
             } else {
                 Ok(unusable_cell(alloc, name))
             }

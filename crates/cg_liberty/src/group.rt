@@ -1,16 +1,17 @@
 //! What is looked at of a cell, and of the groups that stand in it.
 
-ghost use Rattle.std.specs.Prelude.{◌≡◌, [], ◌∷◌, ◌++◌};
-ghost use Rattle.cg_liberty.specs.Cell.{cell_with, cell_with_other, is_bank, is_bus, new_cell};
+ghost use Rattle.std.specs.Prelude.{◌≡◌, [], ◌∷◌, ◌++◌, OnOk};
+ghost use Rattle.cg_liberty.specs.Cell.{cell_with, cell_with_flop, cell_with_other, cell_with_pin, is_bank, is_bus, new_cell, with_flop};
 ghost use Rattle.cg_liberty.specs.Group.{flop_with, new_flop, new_pin, pin_with, stated};
 
-use crate::argument::Arguments;
-use crate::text::Text;
+use cg_liberty_text::argument::Arguments;
+use crate::port::{PinText, add_pins};
+use cg_liberty_text::text::Text;
 use cg_list::Seq;
-use std::alloc::Global;
+use std::alloc::{AllocError, Global};
 
 /// What a group states by an attribute.
-#[derive(Debug, Drop)]
+#[derive(Drop)]
 pub enum Stated<'a> {
     /// The attribute is not there.
     Missing,
@@ -35,7 +36,7 @@ impl<'a> Stated<'a> {
 }
 
 /// What is looked at of a `pin` group.
-#[derive(Debug, Drop)]
+#[derive(Drop)]
 pub struct PinGroup<'a> {
     /// The pins that it describes.
     pub names: Arguments<'a>,
@@ -55,6 +56,9 @@ pub struct PinGroup<'a> {
     /// `clock_gate_enable_pin`
     pub enable_pin: Stated<'a>,
 
+    /// `clock_gate_test_pin`
+    pub test_pin: Stated<'a>,
+
     /// `clock_gate_out_pin`
     pub out_pin: Stated<'a>,
 }
@@ -71,6 +75,7 @@ impl<'a> PinGroup<'a> {
             three_state: Stated::Missing,
             clock_pin: Stated::Missing,
             enable_pin: Stated::Missing,
+            test_pin: Stated::Missing,
             out_pin: Stated::Missing,
         }
     }
@@ -90,6 +95,8 @@ impl<'a> PinGroup<'a> {
             self.clock_pin = stated;
         } else if word.is(b"clock_gate_enable_pin") {
             self.enable_pin = stated;
+        } else if word.is(b"clock_gate_test_pin") {
+            self.test_pin = stated;
         } else if word.is(b"clock_gate_out_pin") {
             self.out_pin = stated;
         }
@@ -97,7 +104,7 @@ impl<'a> PinGroup<'a> {
 }
 
 /// What is looked at of an `ff` group.
-#[derive(Debug, Drop)]
+#[derive(Drop)]
 pub struct FlopGroup<'a> {
     /// The names of the state and of its inverse.
     pub names: Arguments<'a>,
@@ -152,8 +159,34 @@ impl<'a> FlopGroup<'a> {
     }
 }
 
+/// The `ff` groups of a cell. A cell with several is unusable, so none of them is kept then.
+#[derive(Drop)]
+pub enum Flops<'a> {
+    /// There is none.
+    Absent,
+
+    /// There is one.
+    One(FlopGroup<'a>),
+
+    /// There are two or more.
+    Several,
+}
+
+impl<'a> Flops<'a> {
+    /// The groups with one more.
+    fn with(self, flop: FlopGroup<'a>) -> Flops<'a>
+        ensures { result ≡ with_flop self.entry flop.entry }
+    {
+        match self {
+            Flops::Absent => Flops::One(flop),
+            Flops::One(_) => Flops::Several,
+            Flops::Several => Flops::Several,
+        }
+    }
+}
+
 /// What is looked at of a `cell` group.
-#[derive(Debug, Drop)]
+#[derive(Drop)]
 pub struct CellGroup<'a> {
     /// The cell's name.
     pub name: Text<'a>,
@@ -167,11 +200,11 @@ pub struct CellGroup<'a> {
     /// Whether a `latch`, `statetable`, `ff_bank` or `latch_bank` group stands in it.
     pub has_bank: bool,
 
-    /// Its `pin` groups, in order.
-    pub pins: Seq<PinGroup<'a>>,
+    /// The pins that its `pin` groups describe, in order; None where there are more than a usable cell has.
+    pub pins: Option<Seq<PinText<'a>>>,
 
-    /// Its `ff` groups, in order.
-    pub flops: Seq<FlopGroup<'a>>,
+    /// Its `ff` groups.
+    pub flops: Flops<'a>,
 }
 
 impl<'a> CellGroup<'a> {
@@ -184,8 +217,8 @@ impl<'a> CellGroup<'a> {
             gating: Stated::Missing,
             has_bus: false,
             has_bank: false,
-            pins: Seq::new(alloc),
-            flops: Seq::new(alloc),
+            pins: Some(Seq::new(alloc)),
+            flops: Flops::Absent,
         }
     }
 
@@ -196,6 +229,26 @@ impl<'a> CellGroup<'a> {
         if word.is(b"clock_gating_integrated_cell") {
             self.gating = Stated::new(text);
         }
+    }
+
+    /// Takes note of the pins that a `pin` group describes.
+    pub fn note_pin(&mut self, pin: &PinGroup<'a>) -> Result<(), AllocError>
+        ensures { OnOk result (self.new ≡ cell_with_pin self.old pin.now) }
+    {
+        let pins = self.pins.take();
+        self.pins = match pins {
+            Some(pins) => add_pins(pins, pin)?,
+            None => None,
+        };
+        Ok(())
+    }
+
+    /// Takes note of an `ff` group.
+    pub fn note_flop(&mut self, flop: FlopGroup<'a>)
+        ensures { self.new ≡ cell_with_flop self.old flop.entry }
+    {
+        let flops = std::mem::replace(&mut self.flops, Flops::Several);
+        self.flops = flops.with(flop);
     }
 
     /// Takes note of a group that is neither a `pin` nor an `ff` group.

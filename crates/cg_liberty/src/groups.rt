@@ -4,12 +4,13 @@ ghost use Rattle.std.specs.Prelude.{◌≡◌, ◌≤◌, length, Some, MatchRes
 ghost use Rattle.cg_liberty.specs.Cell.{GivesUp, cell_from, cell_with_group, new_cell};
 ghost use Rattle.cg_liberty.specs.Group.{IsLeft, flop_from, new_flop, new_pin, pin_from};
 
-use crate::argument::Arguments;
-use crate::fault::{ReadFault, TextFault};
+use cg_liberty_text::argument::Arguments;
+use crate::fault::ReadFault;
+use cg_liberty_text::fault::TextFault;
 use crate::group::{CellGroup, FlopGroup, PinGroup};
-use crate::statement::Statement;
-use crate::statements::Statements;
-use crate::text::Text;
+use cg_liberty_text::statement::Statement;
+use cg_liberty_text::statements::Statements;
+use cg_liberty_text::text::Text;
 use std::alloc::Global;
 
 /// Passes over the rest of a group, with its `}`. It calls itself no deeper than groups nest.
@@ -81,10 +82,10 @@ fn read_group<'a>(
 {
     if word.is(b"pin") {
         let pin = read_pin(statements, arguments)?;
-        cell.pins.push(pin)?;
+        cell.note_pin(&pin)?;
     } else if word.is(b"ff") {
         let flop = read_flop(statements, arguments)?;
-        cell.flops.push(flop)?;
+        cell.note_flop(flop);
     } else {
         cell.note_group(word);
         pass_group(statements)?;

@@ -1,23 +1,25 @@
 //! A library from its text.
 
 ghost use Rattle.std.specs.Prelude.{◌≡◌, ◌≤◌, List, [], length, None, IfOk, OnOk, Some, MatchResult};
-ghost use Rattle.cg_cell.specs.Cell.{CellData};
+ghost use Rattle.std.specs.List.{AllByRecursion};
+ghost use Rattle.cg_cell.specs.Cell.{CellData, IsCell};
 ghost use Rattle.cg_liberty.specs.Cell.{GivesUp, cell_from, cells_from, first_text, new_cell};
 ghost use Rattle.cg_liberty.specs.Group.{IsLeft};
 ghost use Rattle.cg_liberty.specs.LibText.{LibText};
 ghost use Rattle.cg_liberty.specs.Library.{Adds, Stands, added, all_added, cell_groups, cell_refusal, library_of, text_refusal};
 ghost use Rattle.cg_liberty.specs.declared.fault.LibertyFault.TheVariants.{NoMemory};
 
-use crate::argument::Arguments;
-use crate::fault::{CellFault, LibertyFault, ReadFault, TextFault};
+use cg_liberty_text::argument::Arguments;
+use crate::fault::{CellFault, LibertyFault, ReadFault};
+use cg_liberty_text::fault::TextFault;
 use crate::group::CellGroup;
 use crate::groups::{pass_group, read_cell};
 use crate::kind::cell_of_group;
-use crate::statement::Statement;
-use crate::statements::Statements;
-use crate::text::Text;
+use cg_liberty_text::statement::Statement;
+use cg_liberty_text::statements::Statements;
+use cg_liberty_text::text::Text;
 use cg_cell::library::{Library, LibraryFault};
-use cg_cell::limit::Limit;
+use cg_limit::{Limit, MOST_LIBRARY_CELLS};
 use cg_cell::name::Name;
 use std::alloc::Global;
 
@@ -55,7 +57,7 @@ fn add_group(
     if !Name::is_name(&bytes) {
         return Ok(library);
     }
-    if 4096 <= library.len() {
+    if library.len() as usize >= MOST_LIBRARY_CELLS {
         return Err(LibertyFault::Limit(Limit::LibraryCells));
     }
     let name = Name::new(alloc, &bytes)?;
@@ -170,11 +172,17 @@ fn read_text(
 
 /// The library that a text stands for, or its first fault.
 fn library_of_bytes(alloc: Global, bytes: &[u8]) -> Result<Library, LibertyFault>
-    ensures { Stands result (library_of bytes.now) }
+    ensures stands { Stands result (library_of bytes.now) }
+    ensures cells { IfOk result (λ library. AllByRecursion IsCell library) }
 {
     let mut statements = Statements::new(bytes);
     match read_text(alloc, &mut statements) {
-        Ok(library) => library,
+        Ok(Ok(library)) => {
+            // What a library keeps is known of each.
+            prove!(library.len() as usize <= MOST_LIBRARY_CELLS);
+            Ok(library)
+        }
+        Ok(Err(fault)) => Err(fault),
         Err(ReadFault::Text(fault)) => Err(refusal_of_text(fault)),
         Err(ReadFault::NoMemory) => Err(LibertyFault::NoMemory),
     }
@@ -191,6 +199,7 @@ fn library_of_bytes(alloc: Global, bytes: &[u8]) -> Result<Library, LibertyFault
 pub fn read_library(alloc: Global, bytes: &[u8]) -> Result<Library, LibertyFault>
     ensures exact { Stands result (library_of bytes.now) }
     ensures found { IfOk result (λ library. LibText bytes.now library) }
+    ensures cells { IfOk result (λ library. AllByRecursion IsCell library) }
     ensures only { (cells : List CellData) → LibText bytes.now cells → MatchResult result (λ library. library ≡ cells) (λ fault. fault ≡ NoMemory) }
 {
     library_of_bytes(alloc, bytes)

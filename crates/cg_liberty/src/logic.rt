@@ -2,6 +2,7 @@
 
 ghost use Rattle.std.specs.Prelude.{◌≡◌, All, Some, IfOk, IfSome, IsTrue, length, map, option_map, vec_len};
 ghost use Rattle.cg_cell.specs.Expr.{term_of};
+ghost use Rattle.cg_cell.specs.Name.{is_name};
 ghost use Rattle.cg_cell.specs.Term.{is_within};
 ghost use Rattle.cg_liberty.specs.Kinds.{input_names, logic_cell, logic_of, logic_pins, logic_role, output_texts, unusable};
 ghost use Rattle.cg_liberty.specs.Port.{ArePorts};
@@ -18,6 +19,7 @@ use std::alloc::{AllocError, Global};
 
 /// A cell that is known by name alone.
 pub fn unusable_cell(alloc: Global, name: Name) -> CellType
+    requires { IsTrue (is_name name) }
     ensures { result ≡ unusable name }
 {
     CellType::new(name, CellKind::Unusable, Vec::new(alloc), None)
@@ -63,6 +65,7 @@ fn logic_pins_of(alloc: Global, ports: &[Port<'_>]) -> Result<Vec<Pin>, AllocErr
 
 /// The logic cell of these pins and this function of its inputs.
 fn make_logic(name: Name, ports: &[Port<'_>], pins: Vec<Pin>, function: Expr) -> CellType
+    requires named { IsTrue (is_name name) }
     requires ports { ArePorts ports.now }
     requires pins { pins.items ≡ logic_pins ports.now }
     requires one { length (output_texts ports.now) ≡ 1 }
@@ -79,6 +82,7 @@ fn logic_with(
     ports: &[Port<'_>],
     mut functions: Vec<Option<Expr>>,
 ) -> Result<CellType, AllocError>
+    requires named { IsTrue (is_name name) }
     requires ports { ArePorts ports.now }
     requires counted { vec_len functions ≡ length (output_texts ports.now) }
     requires within { All (λ function. IfSome function (λ e. IsTrue (is_within (length (input_names ports.now)) (term_of e)))) functions.items }
@@ -119,7 +123,8 @@ fn read_functions(
 
 /// The logic cell of these pins, or an unusable cell.
 pub fn logic_cell_of(alloc: Global, name: Name, ports: &[Port<'_>]) -> Result<CellType, CellFault>
-    requires { ArePorts ports.now }
+    requires named { IsTrue (is_name name) }
+    requires ports { ArePorts ports.now }
     ensures { Gives (λ cell. cell) result (logic_cell name ports.now) }
 {
     let names = input_names_of(alloc, ports)?;

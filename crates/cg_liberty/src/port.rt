@@ -1,20 +1,20 @@
 //! The pins of a cell, from its `pin` groups.
 
-ghost use Rattle.std.specs.Prelude.{◌≡◌, ◌&&◌, ◌++◌, [], IfOk, OnOk, IfSome, IsTrue, cond, map, not, None, Some};
+ghost use Rattle.std.specs.Prelude.{◌≡◌, ◌&&◌, ◌++◌, [], IfOk, IfSome, IsTrue, cond, map, not, None, Some};
 ghost use Rattle.std.specs.List.{list_any};
 ghost use Rattle.std.specs.Str.{bytes_eq};
 ghost use Rattle.cg_cell.specs.Name.{are_distinct, has_no_equals};
-ghost use Rattle.cg_liberty.specs.Port.{ArePorts, fit_together, group_pins, is_pin_name, is_sound, is_there, marks_of, pin_texts, ports_of, sound_ports, states, text_of};
+ghost use Rattle.cg_liberty.specs.Port.{ArePorts, few_pins, fit_together, group_pins, is_pin_name, is_sound, is_there, marks_of, ports_of, sound_ports, states, text_of};
 ghost use Rattle.cg_liberty.specs.declared.port.PinText.{PinText};
 
 use crate::group::{CellGroup, PinGroup, Stated};
-use crate::text::Text;
+use cg_liberty_text::text::Text;
 use cg_cell::name::Name;
 use cg_list::Seq;
 use std::alloc::{AllocError, Global};
 
 /// What a `pin` group says of each of its pins.
-#[derive(Debug, Drop)]
+#[derive(Drop)]
 pub struct Marks<'a> {
     /// Its direction is `input`.
     pub is_input: bool,
@@ -31,6 +31,9 @@ pub struct Marks<'a> {
     /// It is the enable pin of a gating cell.
     pub is_enable: bool,
 
+    /// It is the test pin of a gating cell.
+    pub is_test: bool,
+
     /// It is the output pin of a gating cell.
     pub is_out: bool,
 
@@ -39,7 +42,7 @@ pub struct Marks<'a> {
 }
 
 /// A pin as the text has it.
-#[derive(Debug, Drop)]
+#[derive(Drop)]
 pub struct PinText<'a> {
     /// What stands for its name.
     pub name: Text<'a>,
@@ -49,7 +52,7 @@ pub struct PinText<'a> {
 }
 
 /// A pin of a cell.
-#[derive(Debug, Drop)]
+#[derive(Drop)]
 pub struct Port<'a> {
     /// Its name.
     pub name: Name,
@@ -96,6 +99,28 @@ impl<'a> Stated<'a> {
     }
 }
 
+impl<'a> Marks<'a> {
+    /// The same marks once more.
+    fn again(&self) -> Marks<'a>
+        ensures { result ≡ self.now }
+    {
+        let function = match &self.function {
+            Some(text) => Some(text.again()),
+            None => None,
+        };
+        Marks {
+            is_input: self.is_input,
+            is_output: self.is_output,
+            is_three_state: self.is_three_state,
+            is_clock: self.is_clock,
+            is_enable: self.is_enable,
+            is_test: self.is_test,
+            is_out: self.is_out,
+            function,
+        }
+    }
+}
+
 impl<'a> PinGroup<'a> {
     /// What the group says of each of its pins.
     fn marks(&self) -> Marks<'a>
@@ -107,36 +132,45 @@ impl<'a> PinGroup<'a> {
             is_three_state: self.three_state.is_there(),
             is_clock: self.clock_pin.states(b"true"),
             is_enable: self.enable_pin.states(b"true"),
+            is_test: self.test_pin.states(b"true"),
             is_out: self.out_pin.states(b"true"),
             function: self.function.text(),
         }
     }
 }
 
-/// Puts the pins of a group behind the others; those of an internal group are left out.
-fn push_pins<'a>(pins: &mut Seq<PinText<'a>>, group: &PinGroup<'a>) -> Result<(), AllocError>
-    ensures { OnOk result (pins.new ≡ pins.old ++ group_pins group.now) }
+/// The pins, unless there are more than a usable cell has.
+fn unless_many<'a>(pins: Seq<PinText<'a>>) -> Option<Seq<PinText<'a>>>
+    ensures { result ≡ few_pins pins.entry }
+{
+    if pins.len() <= MOST_PINS {
+        Some(pins)
+    } else {
+        None
+    }
+}
+
+/// The pins with those of a group behind them, unless there are more than a usable cell has; those of an
+/// internal group are left out. No more are kept than that, however many the group names.
+#[tactic(auto, using(crate::proofs::FewPins::one_too_many))]
+pub fn add_pins<'a>(
+    mut pins: Seq<PinText<'a>>,
+    group: &PinGroup<'a>,
+) -> Result<Option<Seq<PinText<'a>>>, AllocError>
+    ensures { IfOk result (λ kept. kept ≡ few_pins (pins.entry ++ group_pins group.now)) }
 {
     if group.direction.states(b"internal") {
-        return Ok(());
+        return Ok(unless_many(pins));
     }
     let mut names = group.names.again();
     'names: while let Some(name) = names.next() {
+        if pins.len() >= MOST_PINS {
+            return Ok(None);
+        }
         let marks = group.marks();
         pins.push(PinText { name, marks })?;
     }
-    Ok(())
-}
-
-/// The pins of the groups, in order.
-fn pins_of<'a>(alloc: Global, groups: &[PinGroup<'a>]) -> Result<Seq<PinText<'a>>, AllocError>
-    ensures { IfOk result (λ pins. pins ≡ pin_texts groups.now) }
-{
-    let mut pins = Seq::new(alloc);
-    'groups: for group in groups {
-        push_pins(&mut pins, group)?;
-    }
-    Ok(pins)
+    Ok(unless_many(pins))
 }
 
 /// Whether the byte `=` is not among the bytes.
@@ -147,11 +181,11 @@ fn lacks_equals(bytes: &[u8]) -> bool
 }
 
 /// The pin with its name, where a usable cell may have it.
-fn sound_port<'a>(alloc: Global, pin: PinText<'a>) -> Result<Option<Port<'a>>, AllocError>
-    ensures { IfOk result (λ port. port ≡ cond (is_sound pin.entry) (Some (record { name = pin.entry.name; marks = pin.entry.marks })) None) }
+fn sound_port<'a>(alloc: Global, pin: &PinText<'a>) -> Result<Option<Port<'a>>, AllocError>
+    ensures { IfOk result (λ port. port ≡ cond (is_sound pin.now) (Some (record { name = pin.now.name; marks = pin.now.marks })) None) }
 {
     let bytes = pin.name.bytes(alloc)?;
-    let marks = pin.marks;
+    let marks = pin.marks.again();
     if !Name::is_name(&bytes)
         || !lacks_equals(&bytes)
         || !(marks.is_input || marks.is_output)
@@ -167,12 +201,12 @@ fn sound_port<'a>(alloc: Global, pin: PinText<'a>) -> Result<Option<Port<'a>>, A
 #[tactic(auto, using(crate::proofs::SoundPorts::sound_step))]
 fn sound_ports_of<'a>(
     alloc: Global,
-    pins: Seq<PinText<'a>>,
+    pins: &[PinText<'a>],
 ) -> Result<Option<Seq<Port<'a>>>, AllocError>
-    ensures { IfOk result (λ ports. ports ≡ sound_ports pins.entry) }
+    ensures { IfOk result (λ ports. ports ≡ sound_ports pins.now) }
 {
     let mut ports = Seq::new(alloc);
-    'pins: for pin in pins.into_vec() {
+    'pins: for pin in pins {
         match sound_port(alloc, pin)? {
             Some(port) => ports.push(port)?,
             None => return Ok(None),
@@ -234,8 +268,10 @@ fn find_ports<'a>(alloc: Global, cell: &CellGroup<'a>) -> Result<Option<Seq<Port
     if cell.has_bus || !lacks_equals(&name) {
         return Ok(None);
     }
-    let pins = pins_of(alloc, cell.pins.as_slice())?;
-    match sound_ports_of(alloc, pins)? {
+    let Some(pins) = &cell.pins else {
+        return Ok(None);
+    };
+    match sound_ports_of(alloc, pins.as_slice())? {
         None => Ok(None),
         Some(ports) => {
             if are_together(ports.as_slice()) {

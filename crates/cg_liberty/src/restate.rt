@@ -9,7 +9,7 @@ use std::alloc::{AllocError, Global};
 
 /// How the inputs of a `next_state` are numbered: the input pins, among them the clock, then the state,
 /// then its inverse.
-#[derive(Clone, Copy, Debug)]
+#[derive(Clone, Copy)]
 pub struct Numbering {
     /// How many input pins there are.
     pub inputs: u32,

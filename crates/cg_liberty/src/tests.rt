@@ -3,8 +3,9 @@
 use crate::fault::LibertyFault;
 use crate::library::read_library;
 use cg_cell::cell::{CellKind, CellType, Role};
-use cg_cell::library::{LibId, Library};
-use cg_cell::limit::Limit;
+use cg_cell::fit::FitKind;
+use cg_cell::library::Library;
+use cg_limit::Limit;
 use cg_cell::name::Name;
 use std::alloc::{AllocError, Global};
 use std::test::Fail;
@@ -31,8 +32,19 @@ const ROWS: &str = "library (rows) {
     pin (CK) { direction : input; clock_gate_clock_pin : true; }
     pin (E) { direction : input; clock_gate_enable_pin : true; }
     pin (GCK) { direction : output; clock_gate_out_pin : true; } }
+  cell (ICGT) { clock_gating_integrated_cell : \"latch_posedge_precontrol\";
+    pin (CK) { direction : input; clock_gate_clock_pin : true; }
+    pin (E) { direction : input; clock_gate_enable_pin : true; }
+    pin (SE) { direction : input; clock_gate_test_pin : true; }
+    pin (GCK) { direction : output; clock_gate_out_pin : true; } }
+  cell (INV2) { pin (A) { direction : input; }
+    pin (Y) { direction : output; function : \"!A\"; } }
 }
 ";
+
+/// Pins of a gating cell, and the beginning and the end of one.
+const GATED: &str = "pin (CK) { direction : input; clock_gate_clock_pin : true; } pin (E) { direction : input; clock_gate_enable_pin : true; } pin (GCK) { direction : output; clock_gate_out_pin : true; }";
+
 
 /// The name as text.
 fn text_of(name: &Name) -> &str {
@@ -197,6 +209,10 @@ fn the_kinds_of_cells(rt: HostRuntime) -> Result<(), Fail> {
         ("DFF", "DFF flop D:data CK:clock Q:state;"),
         ("DFFR", "DFFR unusable;"),
         ("ICG", "ICG gater CK:clock E:enable GCK:output;"),
+        (
+            "ICGT",
+            "ICGT gater CK:clock E:enable SE:test GCK:output;",
+        ),
         ("NAND2", "none;"),
     ];
     for (name, wanted) in rows {
@@ -267,6 +283,14 @@ fn the_kinds_of_cells(rt: HostRuntime) -> Result<(), Fail> {
             "C unusable;",
         ),
         (
+            "pin (A) { direction : input; } pin (Y) { direction : output; function : \"B +\"; }",
+            "C unusable;",
+        ),
+        (
+            "pin (A) { direction : input; } pin (Y) { direction : output; function : \"B\"; } pin (Z) { direction : output; function : \"A +\"; }",
+            "bad expression C 3",
+        ),
+        (
             "clock_gating_integrated_cell : latch_negedge; pin (Y) { direction : output; function : \"1\"; }",
             "C unusable;",
         ),
@@ -302,6 +326,58 @@ fn the_kinds_of_cells(rt: HostRuntime) -> Result<(), Fail> {
             wanted,
             "{statements}"
         );
+    }
+    Ok(())
+}
+
+#[test]
+fn gating_cells_that_are_unusable(rt: HostRuntime) -> Result<(), Fail> {
+    let alloc = rt.alloc();
+    let plain = "clock_gating_integrated_cell : latch_posedge;";
+    let tested = "clock_gating_integrated_cell : latch_posedge_precontrol;";
+    let two_flags = "pin (CK) { direction : input; clock_gate_clock_pin : true; clock_gate_enable_pin : true; } pin (E) { direction : input; clock_gate_enable_pin : true; } pin (GCK) { direction : output; clock_gate_out_pin : true; }";
+    let no_out = "pin (CK) { direction : input; clock_gate_clock_pin : true; } pin (E) { direction : input; clock_gate_enable_pin : true; } pin (GCK) { direction : output; }";
+    let cases = [
+        (plain, two_flags, ""),
+        (plain, no_out, ""),
+        (plain, GATED, "pin (X) { direction : input; }"),
+        (plain, GATED, "pin (SE) { direction : input; clock_gate_test_pin : true; }"),
+        (tested, GATED, ""),
+        (tested, GATED, "pin (S, T) { direction : input; clock_gate_test_pin : true; }"),
+    ];
+    for (attribute, pins, more) in cases {
+        let statements = format!(in alloc; "{attribute} {pins} {more}")?;
+        let text = with_cell(alloc, statements.as_str())?;
+        assert_eq!(rt;
+            described(alloc, text.as_bytes(), &["C"])?.as_str(),
+            "C unusable;",
+            "{statements}"
+        );
+    }
+    Ok(())
+}
+
+/// The name of the first cell that fits a need, where one does.
+fn fitting(library: &Library, kind: FitKind) -> Option<&str> {
+    let id = library.fit(kind)?;
+    Some(text_of(library.cell(id).name()))
+}
+
+#[test]
+fn the_first_cell_that_fits(rt: HostRuntime) -> Result<(), Fail> {
+    let library = match read_library(rt.alloc(), ROWS.as_bytes()) {
+        Ok(library) => library,
+        Err(_) => return Err(Fail::new("refused")),
+    };
+    let needs = [
+        (FitKind::Gater, "ICG"),
+        (FitKind::TestGater, "ICGT"),
+        (FitKind::Inv, "INV"),
+        (FitKind::And2, "AND2"),
+        (FitKind::Or2, "OR2"),
+    ];
+    for (kind, name) in needs {
+        assert_eq!(rt; fitting(&library, kind).unwrap_or("none"), name);
     }
     Ok(())
 }
@@ -404,6 +480,10 @@ fn limits(rt: HostRuntime) -> Result<(), Fail> {
         let text = format!(in alloc; "library (l) {{ {open}{close}}}")?;
         assert_eq!(rt; described(alloc, text.as_bytes(), &[])?.as_str(), wanted);
     }
+    let deep = repeated(alloc, "(", 65)?;
+    let statements = format!(in alloc; "pin (Y) {{ direction : output; function : \"{deep}\"; }}")?;
+    let text = with_cell(alloc, statements.as_str())?;
+    assert_eq!(rt; described(alloc, text.as_bytes(), &[])?.as_str(), "limit nesting");
     let mut text = String::from_str(alloc, "library (l) {")?;
     for k in 0..4096u32 {
         let cell = format!(in alloc; " cell (C{k}) {{ }}")?;

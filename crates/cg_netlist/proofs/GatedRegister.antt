@@ -49,6 +49,8 @@ in_order = refl
 -- the cells are cells, and the netlist is well formed
 flop_is : IsCell flop
 flop_is = record {
+  named = refl;
+  pins_named = (refl, (refl, (refl, (refl, tt))));
   few = lit≤ tt;
   distinct = refl;
   unsplit = (refl, (refl, (refl, (refl, tt))));
@@ -58,6 +60,8 @@ flop_is = record {
 
 icg_is : IsCell icg
 icg_is = record {
+  named = refl;
+  pins_named = (refl, (refl, (refl, tt)));
   few = lit≤ tt;
   distinct = refl;
   unsplit = (refl, (refl, (refl, tt)));

@@ -3,8 +3,8 @@ use Rattle.std.proofs.Common.{◌≡◌, ◌⊎◌, ℕ, ◌+◌, ◌<◌, ◌�
 use Rattle.std.proofs.lemmas.Bool.{le-ltb, lt-ltb}
 use Rattle.std.proofs.lemmas.List.{length-map, length_push}
 use Rattle.std.proofs.lemmas.Option.{none-some}
-use Rattle.cg_cell.specs.declared.limit.Limit.{Limit}
-use Rattle.cg_cell.specs.declared.limit.Limit.TheVariants.{Nets, Registers}
+use Rattle.cg_limit.specs.declared.Limit.{Limit}
+use Rattle.cg_limit.specs.declared.Limit.TheVariants.{Nets, Registers}
 use Rattle.cg_netlist.specs.declared.fault.AddFault.{AddFault}
 use Rattle.cg_netlist.specs.declared.fault.AddFault.TheVariants.{Limit as Passes, NoMemory}
 use Rattle.cg_netlist.specs.inner.Heard.{IsHeard, built}

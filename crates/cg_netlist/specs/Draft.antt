@@ -4,8 +4,8 @@ use Rattle.std.specs.Prelude.{◌≡◌, ◌≢◌, ◌⊎◌, ◌||◌, ◌^◌
 use Rattle.std.specs.List.{All, AllPairs, filter_map, list_any, position_or_len}
 use Rattle.std.specs.Option.{option_to_list}
 use Rattle.cg_cell.specs.Cover.{CoverData}
-use Rattle.cg_cell.specs.declared.limit.Limit.{Limit}
-use Rattle.cg_cell.specs.declared.limit.Limit.TheVariants.{Nets, Registers}
+use Rattle.cg_limit.specs.declared.Limit.{Limit}
+use Rattle.cg_limit.specs.declared.Limit.TheVariants.{Nets, Registers}
 use Rattle.cg_netlist.specs.declared.fault.AddFault.{AddFault}
 use Rattle.cg_netlist.specs.declared.fault.AddFault.TheVariants.{Limit as Passes, NoMemory}
 use Rattle.cg_netlist.specs.declared.parts.LogicFunction.TheVariants.{Cover}

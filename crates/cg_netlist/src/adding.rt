@@ -16,7 +16,7 @@ use crate::names::NetNames;
 use crate::net_set::NetSet;
 use crate::parts::{Gater, Logic, LogicFunction, OpenRegister, RegisterKind};
 use cg_cell::cell::{CellType, Role};
-use cg_cell::limit::Limit;
+use cg_limit::Limit;
 use std::alloc::{AllocError, Global};
 
 /// The greatest number of registers.

@@ -18,7 +18,7 @@ use crate::net_set::NetSet;
 use crate::netlist::Netlist;
 use crate::parts::{Logic, LogicFunction, Parts, Register, RegisterKind};
 use cg_cell::cover::Cover;
-use cg_cell::limit::Limit;
+use cg_limit::Limit;
 use cg_cell::name::Name;
 use std::alloc::{AllocError, Global};
 use std::marker::Model;

@@ -1,6 +1,6 @@
 //! Why a part is not taken, and why parts make no netlist.
 
-use cg_cell::limit::Limit;
+use cg_limit::Limit;
 use cg_cell::name::Name;
 use thiserror::Error;
 

@@ -9,7 +9,7 @@ ghost use Rattle.cg_netlist.specs.said.Said.{with_names};
 use crate::fault::AddFault;
 use crate::id::NetId;
 use crate::names::NetNames;
-use cg_cell::limit::Limit;
+use cg_limit::Limit;
 use std::alloc::Global;
 
 /// The greatest number of nets.

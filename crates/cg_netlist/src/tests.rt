@@ -7,7 +7,7 @@ use crate::fault::{AddFault, NetFault};
 use crate::id::NetId;
 use crate::netlist::Netlist;
 use cg_cell::cover::Cover;
-use cg_cell::limit::Limit;
+use cg_limit::Limit;
 use cg_cell::name::Name;
 use cg_text::number::push_number;
 use std::alloc::{AllocError, Global};

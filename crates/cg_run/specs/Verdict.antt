@@ -1,6 +1,6 @@
 -- What a mode comes to, found by reading alone, from what its loads gave.
 use Rattle.std.specs.Prelude.{◌≡◌, ℕ, List, [], ◌∷◌, Option, None, Some, Result, Ok, Err, ⊤}
-use Rattle.cg_cell.specs.declared.limit.Limit.TheVariants as limits
+use Rattle.cg_limit.specs.declared.Limit.TheVariants as limits
 use Rattle.cg_shelf.specs.declared.faults.LoadFault.{LoadFault}
 use Rattle.cg_shelf.specs.declared.faults.LoadFault.TheVariants as loads
 use Rattle.cg_run.specs.declared.output.Output.{Output}

@@ -10,7 +10,7 @@ use crate::names::Names;
 use crate::output::Output;
 use crate::refusal::{Refusal, Step};
 use crate::role::Role;
-use cg_cell::limit::Limit;
+use cg_limit::Limit;
 use cg_list::Seq;
 use cg_shelf::{LoadFault, Shelf};
 use std::alloc::Global;

@@ -7,7 +7,7 @@ ghost use Rattle.cg_run.specs.Refusal.{status_of, owner_status, limit_text, reas
 use crate::names::Names;
 use crate::role::Role;
 use crate::status::Status;
-use cg_cell::limit::Limit;
+use cg_limit::Limit;
 use cg_list::Seq;
 use std::alloc::AllocError;
 

@@ -5,9 +5,13 @@ use Rattle.cg_text.specs.declared.blanks.Blanks.TheVariants.{Whitespace, Control
 use Rattle.cg_text.specs.declared.blanks.Separator.{Separator}
 use Rattle.cg_text.specs.declared.blanks.Separator.TheVariants.{LineFeed, Blank}
 
--- the byte is a blank: white space is the space and the bytes from tab (9) to carriage return (13), controls are all bytes up to the space (32)
+-- space, tab, line feed, vertical tab, form feed and carriage return
+abbrev pub is_white_space : ℕ → Bool
+is_white_space b = b == 32 || (nat_le 9 b && nat_le b 13)
+
+-- the byte is a blank: white space, or a control, which is any byte up to the space (32)
 abbrev pub is_blank : Blanks → ℕ → Bool
-is_blank Whitespace b = b == 32 || (nat_le 9 b && nat_le b 13)
+is_blank Whitespace b = is_white_space b
 is_blank Controls b = nat_le b 32
 
 -- the byte ends a line

@@ -1,7 +1,14 @@
 //! Which bytes separate the words and lines of a format.
 
 ghost use Rattle.std.specs.Prelude.{◌≡◌};
-ghost use Rattle.cg_text.specs.Blanks.{is_blank, separates};
+ghost use Rattle.cg_text.specs.Blanks.{is_blank, is_white_space, separates};
+
+/// Whether a byte is white space: a space, a tab, a line feed, a vertical tab, a form feed or a carriage return.
+pub fn is_white_space(byte: u8) -> bool
+    ensures { result ≡ is_white_space byte }
+{
+    byte == b' ' || (9 <= byte && byte <= 13)
+}
 
 /// The bytes that stand between words.
 #[derive(Clone, Copy, Debug)]
@@ -18,7 +25,7 @@ impl Blanks {
         ensures { result ≡ is_blank self byte }
     {
         match self {
-            Blanks::Whitespace => byte == b' ' || (9 <= byte && byte <= 13),
+            Blanks::Whitespace => is_white_space(byte),
             Blanks::Controls => byte <= b' ',
         }
     }

@@ -6,8 +6,8 @@ use Rattle.std.specs.Cmp.Lexicographic.{nat_list_eq_equiv}
 use Rattle.std.proofs.lemmas.Bool.{le-ltb}
 use Rattle.std.proofs.lemmas.List.{length-append}
 use Rattle.std.proofs.lemmas.Map.Made.{length-le_from_is_member}
-use Rattle.cg_cell.specs.declared.limit.Limit.{Limit}
-use Rattle.cg_cell.specs.declared.limit.Limit.TheVariants.{Nets, Registers}
+use Rattle.cg_limit.specs.declared.Limit.{Limit}
+use Rattle.cg_limit.specs.declared.Limit.TheVariants.{Nets, Registers}
 use Rattle.cg_netlist.specs.Circuit.{Circuit}
 use Rattle.cg_netlist.specs.Draft.{empty_draft, limit_passed, with_cover, with_input, with_output, with_register}
 use Rattle.cg_netlist.specs.Drafted.{NamedCell, NamedRegister}

@@ -9,7 +9,7 @@ use Rattle.cg_tool.specs.declared.cg_blif.awaited.Awaited.{Awaited}
 use Rattle.cg_tool.specs.declared.cg_blif.awaited.Awaited.TheVariants as awaiteds
 use Rattle.cg_tool.specs.declared.cg_blif.command.Command.TheVariants as commands
 use Rattle.cg_tool.specs.declared.cg_blif.fault.BlifFault.TheVariants.{BadLine, Limit}
-use Rattle.cg_cell.specs.declared.limit.Limit.TheVariants.{CoverInputs}
+use Rattle.cg_limit.specs.declared.Limit.TheVariants.{CoverInputs}
 use Rattle.cg_tool.specs.Latches.{init_of, latch_of}
 use Rattle.cg_tool.specs.OpenCover.{CoverSoFar}
 use Rattle.cg_tool.specs.Reading.{Onward, Refused, Next, closed, put_row, names_line, latch_line, take_plain, take_words}

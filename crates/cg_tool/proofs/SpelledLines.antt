@@ -11,7 +11,7 @@ use Rattle.cg_tool.specs.declared.cg_blif.awaited.Awaited.TheVariants as awaited
 use Rattle.cg_tool.specs.declared.cg_blif.command.Command.{Command}
 use Rattle.cg_tool.specs.declared.cg_blif.command.Command.TheVariants as commands
 use Rattle.cg_tool.specs.declared.cg_blif.fault.BlifFault.TheVariants.{BadLine, Limit}
-use Rattle.cg_cell.specs.declared.limit.Limit.TheVariants.{CoverInputs}
+use Rattle.cg_limit.specs.declared.Limit.TheVariants.{CoverInputs}
 use Rattle.cg_tool.specs.Latches.{word_at, init_of, latch_of, latch_statement}
 use Rattle.cg_tool.specs.OpenCover.{CoverSoFar}
 use Rattle.cg_tool.specs.Reading.{Onward, Reading, Done, Refused, Next, closed, put_first, put_row, split_last, names_line, latch_line, end_line, model_line, take_plain, take_words}

@@ -1,6 +1,6 @@
 -- Statements that are given to a builder, one after another.
 use Rattle.std.proofs.Common.{◌≡◌, ◌≢◌, ℕ, ◌+◌, ◌<◌, Bool, inl, inr, true, false, ◌&&◌, if◌then◌else◌, List, [], ◌∷◌, length, take, drop, get_or, Option, None, Some, Result, Ok, Err, refl, sym, ap, subst, ◌∙◌, add-one, drop-cons}
-use Rattle.cg_cell.specs.declared.limit.Limit.{Limit as ALimit}
+use Rattle.cg_limit.specs.declared.Limit.{Limit as ALimit}
 use Rattle.cg_netlist.specs.Circuit.{Circuit}
 use Rattle.cg_netlist.specs.Draft.{Adds, Building, IsAnswer, limit_passed, with_input, with_output}
 use Rattle.cg_netlist.specs.declared.fault.AddFault.{AddFault}

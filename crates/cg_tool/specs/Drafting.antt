@@ -1,7 +1,7 @@
 -- The draft that the statements of a text make.
 use Rattle.std.specs.Prelude.{ℕ, List, [], ◌∷◌, ◌&&◌, if◌then◌else◌, codes, Option, None, Some, Result, Ok, Err}
 use Rattle.std.specs.Str.{bytes_eq}
-use Rattle.cg_cell.specs.declared.limit.Limit.{Limit as ALimit}
+use Rattle.cg_limit.specs.declared.Limit.{Limit as ALimit}
 use Rattle.cg_text.specs.declared.lines.Line.{Line}
 use Rattle.cg_text.specs.Lines.{text_lines, end_line}
 use Rattle.cg_netlist.specs.Circuit.{Circuit}

@@ -1,7 +1,7 @@
 -- The lines of a BLIF text of the plain form, taken in turn: what they say, up to the end or the first line that is refused.
 use Rattle.std.specs.Prelude.{ℕ, nat_lt, if◌then◌else◌, List, [], ◌∷◌, length, Option, None, Some}
 use Rattle.std.specs.List.{list_all}
-use Rattle.cg_cell.specs.declared.limit.Limit.TheVariants.{CoverInputs}
+use Rattle.cg_limit.specs.declared.Limit.TheVariants.{CoverInputs}
 use Rattle.cg_text.specs.declared.lines.Line.{Line}
 use Rattle.cg_netlist.specs.Statements.{Word, Statement}
 use Rattle.cg_netlist.specs.Statements as said

@@ -1,6 +1,6 @@
 -- What the two files of a job ask for, found by reading alone: what is to be put out, or the first refusal.
 use Rattle.std.specs.Prelude.{ℕ, List, length, nat_lt, if◌then◌else◌, Option, None, Some, Result, Ok, Err}
-use Rattle.cg_cell.specs.declared.limit.Limit.TheVariants as limits
+use Rattle.cg_limit.specs.declared.Limit.TheVariants as limits
 use Rattle.cg_shelf.specs.World.{World}
 use Rattle.cg_shelf.specs.declared.faults.LoadFault.{LoadFault}
 use Rattle.cg_shelf.specs.declared.faults.LoadFault.TheVariants as loads

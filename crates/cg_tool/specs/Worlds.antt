@@ -1,6 +1,6 @@
 -- What the parts of a run do to the shelf.
 use Rattle.std.specs.Prelude.{◌≡◌, ℕ, List, [], ◌++◌, Option, None, Some, Result, Ok, Err, IsSome, ⊤}
-use Rattle.cg_cell.specs.declared.limit.Limit.TheVariants as limits
+use Rattle.cg_limit.specs.declared.Limit.TheVariants as limits
 use Rattle.cg_shelf.specs.World.{World}
 use Rattle.cg_shelf.specs.Shelf.{AppendsFront, SameBut}
 use Rattle.cg_shelf.specs.declared.faults.Fault.{Fault}

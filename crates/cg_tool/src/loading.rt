@@ -7,7 +7,7 @@ ghost use Rattle.cg_tool.specs.Worlds.{Untouched, outcome_faults, gave, IsLoadRe
 
 use crate::job::{Job, Place};
 use crate::refusal::{Refusal, Step};
-use cg_cell::limit::Limit;
+use cg_limit::Limit;
 use cg_list::Seq;
 use cg_shelf::{LoadFault, Shelf};
 use std::alloc::Global;

@@ -6,7 +6,7 @@ ghost use Rattle.cg_tool.specs.CommandLine.{name_at, job_words};
 
 use crate::job::{Job, Place};
 use crate::status::Status;
-use cg_cell::limit::Limit;
+use cg_limit::Limit;
 use cg_text::number::push_number;
 use std::alloc::{AllocError, Global};
 

@@ -70,7 +70,7 @@ fn expr_list(alloc: Global, expr: &Expr) -> Option<[u8; 8]>
 {
     let mut aig = Aig::new(alloc, 3).ok()?;
     let inputs = leaves(&aig)?;
-    let lit = expr.eval(&mut aig, &inputs).ok()?;
+    let lit = aig.expression(expr, &inputs).ok()?;
     bits_of(&aig, lit)
 }
 
@@ -102,7 +102,7 @@ fn cover_list(alloc: Global, cover: &Cover) -> Option<[u8; 8]>
 {
     let mut aig = Aig::new(alloc, 3).ok()?;
     let inputs = leaves(&aig)?;
-    let lit = cover.eval(&mut aig, &inputs).ok()?;
+    let lit = aig.cover(cover, &inputs).ok()?;
     bits_of(&aig, lit)
 }
 

@@ -2,7 +2,7 @@
 use Rattle.std.specs.Prelude.{◌≡◌, ◌≤◌, ℕ, nat_lt, false, true, IsTrue, if◌then◌else◌, List, [], ◌∷◌, ◌++◌, length, Option, None, Some}
 use Rattle.std.proofs.Common.{refl, ap, ◌∙◌, sym, subst, inl, inr, arith}
 use Rattle.std.proofs.lemmas.Bool.{both_ways, cases_lt, le-ltb, lt-ltb}
-use Rattle.cg_cell.specs.declared.limit.Limit.TheVariants.{Nets, Registers}
+use Rattle.cg_limit.specs.declared.Limit.TheVariants.{Nets, Registers}
 use Rattle.std.specs.List.{AllByRecursion, cons_option, filter_map, flat_map}
 use Rattle.cg_cell.specs.Name.{is_name}
 use Rattle.cg_netlist.proofs.DraftLemmas.{taken}

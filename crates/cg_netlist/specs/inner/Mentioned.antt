@@ -1,6 +1,6 @@
 -- Nets that are mentioned by their names, and the numbers that they get.
 use Rattle.std.specs.Prelude.{◌≡◌, ◌⊎◌, ℕ, ◌<◌, ◌≤◌, List, [], ◌∷◌, ◌++◌, map, length, slice_get, Option, Some, if◌then◌else◌}
-use Rattle.cg_cell.specs.declared.limit.Limit.TheVariants.{Nets, Registers}
+use Rattle.cg_limit.specs.declared.Limit.TheVariants.{Nets, Registers}
 use Rattle.cg_netlist.specs.declared.fault.AddFault.{AddFault}
 use Rattle.cg_netlist.specs.declared.fault.AddFault.TheVariants.{Limit as Passes, NoMemory}
 use Rattle.cg_netlist.specs.Circuit.{GatingCell, LogicCell, RegisterCell, is_in}

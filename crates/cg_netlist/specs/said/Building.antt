@@ -1,6 +1,6 @@
 -- A builder of a netlist, and how its calls answer.
 use Rattle.std.specs.Prelude.{◌≡◌, ◌⊎◌, List, ℕ, Option, None, Some, Result, Ok, Err, IfErr, MatchResult, OnOk}
-use Rattle.cg_cell.specs.declared.limit.Limit.{Limit}
+use Rattle.cg_limit.specs.declared.Limit.{Limit}
 use Rattle.cg_netlist.specs.declared.fault.AddFault.{AddFault}
 use Rattle.cg_netlist.specs.declared.fault.AddFault.TheVariants.{Limit as Passes, NoMemory as NoRoom}
 use Rattle.cg_netlist.specs.declared.fault.NetFault.{NetFault}

@@ -1,8 +1,8 @@
 -- What parts have said so far, kind by kind: all that is asked of a list of parts. Of the order of parts of different kinds
 -- it keeps the order of first mention alone.
 use Rattle.std.specs.Prelude.{nat_lt, if◌then◌else◌, List, [], ◌∷◌, ◌++◌, length, Option, None, Some}
-use Rattle.cg_cell.specs.declared.limit.Limit.{Limit}
-use Rattle.cg_cell.specs.declared.limit.Limit.TheVariants.{Nets, Registers}
+use Rattle.cg_limit.specs.declared.Limit.{Limit}
+use Rattle.cg_limit.specs.declared.Limit.TheVariants.{Nets, Registers}
 use Rattle.cg_netlist.specs.Names.{with_name}
 use Rattle.cg_netlist.specs.Circuit.{LogicCell, GatingCell, RegisterCell}
 use Rattle.cg_netlist.specs.said.Part.{Part, Input, Output, Clock, Logic, Gate, Register, cells, clocks, gaters, inputs, mentioned, nets, outputs, registers}

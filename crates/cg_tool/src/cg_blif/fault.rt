@@ -3,7 +3,7 @@
 ghost use Rattle.std.specs.Prelude.{◌≡◌};
 ghost use Rattle.cg_tool.specs.Faults.{refused_by, unfinished_by};
 
-use cg_cell::limit::Limit;
+use cg_limit::Limit;
 use cg_netlist::fault::{AddFault, NetFault};
 
 /// Why a text is no netlist: what the first line at fault has wrong, where lines are counted from 1; or else what the

@@ -17,7 +17,7 @@ use crate::cg_blif::fault::BlifFault;
 use crate::cg_blif::latch::latch_init;
 use crate::cg_blif::open_cover::OpenCover;
 use crate::cg_blif::parts::{add_inputs, add_latch, add_outputs, close};
-use cg_cell::limit::Limit;
+use cg_limit::Limit;
 use cg_cell::name::Name;
 use cg_netlist::draft_builder::Builder;
 use cg_text::lines::{Line, Lines};

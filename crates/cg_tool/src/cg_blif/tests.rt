@@ -3,7 +3,7 @@
 use crate::cg_blif::fault::BlifFault;
 use crate::cg_blif::read_blif;
 use crate::cg_blif_out::write_blif;
-use cg_cell::limit::Limit;
+use cg_limit::Limit;
 use cg_netlist::fault::NetFault;
 use std::alloc::Global;
 

@@ -9,7 +9,7 @@ use Rattle.cg_cell.proofs.library.push.Goals as goal
 
 -- the key has the bytes of the cell's name
 key : (c : goal.Joined-branch-3) → c.in_ok-key.key.items ≡ c.args.cell.name
-key c = c.in_ok-key.ensures.items ∙ c.bytes.ensures.bytes ∙ c.name.ensures
+key c = c.in_ok-key.ensures.items ∙ c.bytes.ensures.bytes ∙ c.name.ensures.name
 
 -- the entries after the call
 entries : (c : goal.Joined-branch-3) → c.insert.new.self.entries ≡ c.args.cells.now.entries ++ (c.in_ok-key.key, c.args.cell) ∷ []

@@ -6,6 +6,7 @@ use Rattle.cg_cell.specs.declared.fault.ExprFault.{ExprFault}
 use Rattle.cg_cell.proofs.Sound.{read_stands}
 use Rattle.cg_cell.specs.Expr.{term_of}
 use Rattle.cg_cell.specs.Reads.{Gives}
+use Rattle.cg_cell.proofs.FirstFault.{answered_faults}
 use Rattle.cg_cell.proofs.Grammar.{reads_text}
 use Rattle.cg_cell.proofs.Within.{read_within, within_over}
 use Rattle.cg_cell.proofs.reading.read_expr.Goals as goal
@@ -25,3 +26,6 @@ found pins text (Err fault) g = tt
 
 pub returns-clause-found : goal.returns-clause-found
 returns-clause-found c = found c.args.pins.now c.args.text.now c.read.result c.read.ensures
+
+pub returns-clause-fault : goal.returns-clause-fault
+returns-clause-fault c = answered_faults c.args.pins.now c.args.text.now c.read.result c.read.ensures

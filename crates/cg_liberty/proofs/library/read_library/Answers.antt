@@ -2,7 +2,7 @@ use Rattle.cg_liberty.proofs.LibTexts.{answer_found, answer_only}
 use Rattle.cg_liberty.proofs.library.read_library.Goals as goal
 
 pub returns-clause-found : goal.returns-clause-found
-returns-clause-found c = answer_found c.args.bytes.now c.library_of_bytes.result c.library_of_bytes.ensures
+returns-clause-found c = answer_found c.args.bytes.now c.library_of_bytes.result c.library_of_bytes.ensures.stands
 
 pub returns-clause-only : goal.returns-clause-only
-returns-clause-only c = λ cells text. answer_only c.args.bytes.now c.library_of_bytes.result cells c.library_of_bytes.ensures text
+returns-clause-only c = λ cells text. answer_only c.args.bytes.now c.library_of_bytes.result cells c.library_of_bytes.ensures.stands text

@@ -1,8 +1,8 @@
 use Rattle.std.proofs.Common.{◌≡◌, ◌+◌, ◌++◌, ◌∷◌, [], ◌∙◌, ap, sym, length, arith, length-append}
 use Rattle.std.proofs.lemmas.List.{length-map}
 use Rattle.std.specs.Map.{values_of}
-use Rattle.cg_cell.specs.declared.fit.FitKind.TheVariants.{Gater, Inv, And2, Or2}
-use Rattle.cg_cell.proofs.Libraries.{noted_fit}
+use Rattle.cg_cell.specs.declared.fit.FitKind.TheVariants.{Gater, TestGater, Inv, And2, Or2}
+use Rattle.cg_cell.proofs.Libraries.{cells_push, noted_fit}
 use Rattle.cg_cell.proofs.library.Library.add.Goals as goal
 
 pub invariant_of-self : goal.invariant_of-self
@@ -15,8 +15,10 @@ invariant_of-self c =
     record {
       names = c.push.ensures.named;
       few = let grown : length after ≡ length before + 1 = ap length added ∙ length-append before (c.args.cell ∷ []) in omega (arith, grown, counted);
+      are_cells = cells_push before c.args.cell after c.self.invariant.are_cells c.name.ensures.cell added;
       gaters = noted_fit Gater before c.args.cell after c.self.inside.gater c.len-2.result c.fits.result c.note-gater.result c.self.invariant.gaters number c.fits.ensures added c.note-gater.ensures;
-      inverters = noted_fit Inv before c.args.cell after c.self.inside.inv c.len-2.result c.fits-2.result c.note-inv.result c.self.invariant.inverters number c.fits-2.ensures added c.note-inv.ensures;
-      ands = noted_fit And2 before c.args.cell after c.self.inside.and2 c.len-2.result c.fits-3.result c.note-and2.result c.self.invariant.ands number c.fits-3.ensures added c.note-and2.ensures;
-      ors = noted_fit Or2 before c.args.cell after c.self.inside.or2 c.len-2.result c.fits-4.result c.note-or2.result c.self.invariant.ors number c.fits-4.ensures added c.note-or2.ensures;
+      test_gaters = noted_fit TestGater before c.args.cell after c.self.inside.test_gater c.len-2.result c.fits-2.result c.note-test_gater.result c.self.invariant.test_gaters number c.fits-2.ensures added c.note-test_gater.ensures;
+      inverters = noted_fit Inv before c.args.cell after c.self.inside.inv c.len-2.result c.fits-3.result c.note-inv.result c.self.invariant.inverters number c.fits-3.ensures added c.note-inv.ensures;
+      ands = noted_fit And2 before c.args.cell after c.self.inside.and2 c.len-2.result c.fits-4.result c.note-and2.result c.self.invariant.ands number c.fits-4.ensures added c.note-and2.ensures;
+      ors = noted_fit Or2 before c.args.cell after c.self.inside.or2 c.len-2.result c.fits-5.result c.note-or2.result c.self.invariant.ors number c.fits-5.ensures added c.note-or2.ensures;
     }

@@ -1,6 +1,0 @@
-use Rattle.std.proofs.Common.{◌≡◌, ◌+◌, drop}
-use Rattle.cg_liberty.specs.Lexeme.{line_length}
-use Rattle.cg_liberty.proofs.lexeme.line_bytes.Given as goal
-
-abbrev pub invariant-bytes : goal.invariant-bytes
-invariant-bytes l = line_length l.after ≡ l.i + line_length (drop l.i l.after)

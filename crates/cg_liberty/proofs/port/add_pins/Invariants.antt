@@ -1,0 +1,9 @@
+use Rattle.std.proofs.Common.{◌≡◌, ◌++◌, length, map}
+use Rattle.cg_liberty.specs.Port.{few_pins, marks_of}
+use Rattle.cg_liberty.proofs.port.add_pins.Given as goal
+
+abbrev pub invariant-names : goal.invariant-names
+invariant-names l = few_pins (l.pins ++ map (λ name. record { name = name; marks = marks_of l.group }) l.names) ≡ few_pins (l.fn.pins ++ map (λ name. record { name = name; marks = marks_of l.group }) l.group.names)
+
+abbrev pub decreases-names : goal.decreases-names
+decreases-names l = length l.names

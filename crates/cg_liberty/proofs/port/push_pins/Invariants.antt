@@ -1,9 +1,0 @@
-use Rattle.std.proofs.Common.{◌≡◌, ◌++◌, length, map}
-use Rattle.cg_liberty.specs.Port.{marks_of}
-use Rattle.cg_liberty.proofs.port.push_pins.Given as goal
-
-abbrev pub invariant-names : goal.invariant-names
-invariant-names l = l.pins ++ map (λ name. record { name = name; marks = marks_of l.group }) l.names ≡ l.fn.pins ++ map (λ name. record { name = name; marks = marks_of l.group }) l.group.names
-
-abbrev pub decreases-names : goal.decreases-names
-decreases-names l = length l.names

@@ -1,0 +1,6 @@
+pub mod Argument
+pub mod Grammar
+pub mod Lexeme
+pub mod Statement
+pub mod Text
+pub mod Token

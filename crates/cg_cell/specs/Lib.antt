@@ -11,15 +11,14 @@ pub mod Expr
 pub mod ExprFaults
 pub mod ExprGrammar
 pub mod ExprReading
-pub mod ExprSorts
 pub mod ExprTokens
 pub mod Fit
 pub mod GateCovers
 pub mod Gates
 pub mod Library
 pub mod Name
-pub mod PendingSeen
 pub mod Pins
 pub mod Reads
 pub mod Term
 pub mod TermCode
+pub mod inner

@@ -3,7 +3,7 @@
 ghost use Rattle.std.specs.Prelude.{◌≡◌, ◌∷◌, [], ◌<◌, IfOk, true, map, reverse};
 ghost use Rattle.cg_cell.specs.ExprReading.{AndLeft as AndWaits, Bracket as BracketWaits, Inversion as InversionWaits, OrLeft as OrWaits, XorLeft as XorWaits, and_end, inv_end, nesting, or_end, xor_end};
 ghost use Rattle.cg_cell.specs.Expr.{term_of};
-ghost use Rattle.cg_cell.specs.PendingSeen.{ends_in_bracket, ends_in_inversion, is_bottom, pending_of, seen};
+ghost use Rattle.cg_cell.specs.inner.PendingSeen.{ends_in_bracket, ends_in_inversion, is_bottom, pending_of, seen};
 
 use crate::expr::Expr;
 use crate::join::{both, either, inverse, one_of};
@@ -47,7 +47,7 @@ impl Model for Stack {
     ghost use Rattle.std.specs.Coded.{codes};
     ghost use Rattle.std.specs.Prelude.{List};
     ghost use Rattle.cg_cell.specs.ExprReading.{Pending as SeenPending};
-    ghost use Rattle.cg_cell.specs.PendingSeen.{IsStack, seen};
+    ghost use Rattle.cg_cell.specs.inner.PendingSeen.{IsStack, seen};
     ghost use Rattle.cg_cell.specs.TermCode.{term_code};
 
     ghost Value = { List SeenPending };

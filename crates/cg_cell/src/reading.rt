@@ -8,7 +8,7 @@ ghost use Rattle.cg_cell.specs.Term.{Term, is_within};
 ghost use Rattle.cg_cell.specs.ExprFaults.{IsFirstFault};
 ghost use Rattle.cg_cell.specs.ExprGrammar.{ExprText};
 ghost use Rattle.cg_cell.specs.ExprReading.{begin, closed, constant, finish, go_on, complete, leaf, opened, or_end, read_text, step, variable, Bracket, Inversion};
-ghost use Rattle.cg_cell.specs.ExprSorts.{token_of};
+ghost use Rattle.cg_cell.specs.inner.ExprSorts.{token_of};
 ghost use Rattle.cg_cell.specs.Reads.{Gives, mode_of};
 
 use crate::expr::Expr;

@@ -4,7 +4,7 @@ ghost use Rattle.std.specs.Prelude.{◌≡◌, ◌∷◌, [], ◌+◌, ◌≤◌
 ghost use Rattle.std.specs.List.{prefix_len};
 ghost use Rattle.cg_text.specs.Blanks.{is_white_space};
 ghost use Rattle.cg_cell.specs.ExprTokens.{is_digit, is_letter, is_word_byte, sign_of, tokens_from};
-ghost use Rattle.cg_cell.specs.ExprSorts.{sort_of, token_of};
+ghost use Rattle.cg_cell.specs.inner.ExprSorts.{sort_of, token_of};
 
 use cg_text::blanks::is_white_space;
 use std::marker::Model;

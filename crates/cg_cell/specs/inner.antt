@@ -1,0 +1,2 @@
+pub mod ExprSorts
+pub mod PendingSeen

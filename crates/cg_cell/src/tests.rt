@@ -11,9 +11,9 @@ use crate::expr::Expr;
 use crate::fault::ExprFault;
 use crate::fit::FitKind;
 use crate::library::{Library, LibraryFault};
-use cg_limit::Limit;
 use crate::name::Name;
 use crate::reading::read_expr;
+use cg_limit::Limit;
 use std::alloc::{AllocError, Global};
 use std::test::Fail;
 

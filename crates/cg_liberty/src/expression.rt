@@ -7,11 +7,11 @@ ghost use Rattle.cg_cell.specs.Term.{is_within};
 ghost use Rattle.cg_liberty.specs.Reading.{Gives, reading, taken};
 
 use crate::fault::CellFault;
-use cg_liberty_text::text::Text;
 use cg_cell::expr::Expr;
 use cg_cell::fault::ExprFault;
 use cg_cell::name::Name;
 use cg_cell::reading::read_expr;
+use cg_liberty_text::text::Text;
 use std::alloc::Global;
 
 /// Reads an expression over these names; none where it has another name.

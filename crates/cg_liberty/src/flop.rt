@@ -11,7 +11,6 @@ ghost use Rattle.cg_liberty.specs.Kinds.{all_known, are_flop_pins, flop_cell, fl
 ghost use Rattle.cg_liberty.specs.Port.{ArePorts, is_there, text_of};
 ghost use Rattle.cg_liberty.specs.Reading.{Gives, reading, readings};
 
-use cg_liberty_text::argument::Arguments;
 use crate::expression::read_stated;
 use crate::fault::CellFault;
 use crate::gater::clocks_among;
@@ -22,6 +21,7 @@ use crate::restate::{Numbering, restate};
 use cg_cell::cell::{CellKind, CellType, Pin, Role};
 use cg_cell::expr::Expr;
 use cg_cell::name::Name;
+use cg_liberty_text::argument::Arguments;
 use cg_list::Seq;
 use std::alloc::{AllocError, Global};
 

@@ -4,8 +4,8 @@ ghost use Rattle.std.specs.Prelude.{◌≡◌, [], ◌∷◌, ◌++◌, OnOk};
 ghost use Rattle.cg_liberty.specs.Cell.{cell_with, cell_with_flop, cell_with_other, cell_with_pin, is_bank, is_bus, new_cell, with_flop};
 ghost use Rattle.cg_liberty.specs.Group.{flop_with, new_flop, new_pin, pin_with, stated};
 
-use cg_liberty_text::argument::Arguments;
 use crate::port::{PinText, add_pins};
+use cg_liberty_text::argument::Arguments;
 use cg_liberty_text::text::Text;
 use cg_list::Seq;
 use std::alloc::{AllocError, Global};

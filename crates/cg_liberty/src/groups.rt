@@ -4,10 +4,10 @@ ghost use Rattle.std.specs.Prelude.{◌≡◌, ◌≤◌, length, Some, MatchRes
 ghost use Rattle.cg_liberty.specs.Cell.{GivesUp, cell_from, cell_with_group, new_cell};
 ghost use Rattle.cg_liberty.specs.Group.{IsLeft, flop_from, new_flop, new_pin, pin_from};
 
-use cg_liberty_text::argument::Arguments;
 use crate::fault::ReadFault;
-use cg_liberty_text::fault::TextFault;
 use crate::group::{CellGroup, FlopGroup, PinGroup};
+use cg_liberty_text::argument::Arguments;
+use cg_liberty_text::fault::TextFault;
 use cg_liberty_text::statement::Statement;
 use cg_liberty_text::statements::Statements;
 use cg_liberty_text::text::Text;

@@ -9,18 +9,18 @@ ghost use Rattle.cg_liberty.specs.LibText.{LibText};
 ghost use Rattle.cg_liberty.specs.Library.{Adds, Stands, added, all_added, cell_groups, cell_refusal, library_of, text_refusal};
 ghost use Rattle.cg_liberty.specs.declared.fault.LibertyFault.TheVariants.{NoMemory};
 
-use cg_liberty_text::argument::Arguments;
 use crate::fault::{CellFault, LibertyFault, ReadFault};
-use cg_liberty_text::fault::TextFault;
 use crate::group::CellGroup;
 use crate::groups::{pass_group, read_cell};
 use crate::kind::cell_of_group;
+use cg_cell::library::{Library, LibraryFault};
+use cg_cell::name::Name;
+use cg_liberty_text::argument::Arguments;
+use cg_liberty_text::fault::TextFault;
 use cg_liberty_text::statement::Statement;
 use cg_liberty_text::statements::Statements;
 use cg_liberty_text::text::Text;
-use cg_cell::library::{Library, LibraryFault};
 use cg_limit::{Limit, MOST_LIBRARY_CELLS};
-use cg_cell::name::Name;
 use std::alloc::Global;
 
 /// The refusal for a fault of the text.

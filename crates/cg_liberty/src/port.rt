@@ -8,8 +8,8 @@ ghost use Rattle.cg_liberty.specs.Port.{ArePorts, few_pins, fit_together, group_
 ghost use Rattle.cg_liberty.specs.declared.port.PinText.{PinText};
 
 use crate::group::{CellGroup, PinGroup, Stated};
-use cg_liberty_text::text::Text;
 use cg_cell::name::Name;
+use cg_liberty_text::text::Text;
 use cg_list::Seq;
 use std::alloc::{AllocError, Global};
 

@@ -5,8 +5,8 @@ use crate::library::read_library;
 use cg_cell::cell::{CellKind, CellType, Role};
 use cg_cell::fit::FitKind;
 use cg_cell::library::Library;
-use cg_limit::Limit;
 use cg_cell::name::Name;
+use cg_limit::Limit;
 use std::alloc::{AllocError, Global};
 use std::test::Fail;
 
@@ -43,8 +43,8 @@ const ROWS: &str = "library (rows) {
 ";
 
 /// Pins of a gating cell, and the beginning and the end of one.
-const GATED: &str = "pin (CK) { direction : input; clock_gate_clock_pin : true; } pin (E) { direction : input; clock_gate_enable_pin : true; } pin (GCK) { direction : output; clock_gate_out_pin : true; }";
-
+const GATED: &str =
+    "pin (CK) { direction : input; clock_gate_clock_pin : true; } pin (E) { direction : input; clock_gate_enable_pin : true; } pin (GCK) { direction : output; clock_gate_out_pin : true; }";
 
 /// The name as text.
 fn text_of(name: &Name) -> &str {
@@ -209,10 +209,7 @@ fn the_kinds_of_cells(rt: HostRuntime) -> Result<(), Fail> {
         ("DFF", "DFF flop D:data CK:clock Q:state;"),
         ("DFFR", "DFFR unusable;"),
         ("ICG", "ICG gater CK:clock E:enable GCK:output;"),
-        (
-            "ICGT",
-            "ICGT gater CK:clock E:enable SE:test GCK:output;",
-        ),
+        ("ICGT", "ICGT gater CK:clock E:enable SE:test GCK:output;"),
         ("NAND2", "none;"),
     ];
     for (name, wanted) in rows {
@@ -335,15 +332,25 @@ fn gating_cells_that_are_unusable(rt: HostRuntime) -> Result<(), Fail> {
     let alloc = rt.alloc();
     let plain = "clock_gating_integrated_cell : latch_posedge;";
     let tested = "clock_gating_integrated_cell : latch_posedge_precontrol;";
-    let two_flags = "pin (CK) { direction : input; clock_gate_clock_pin : true; clock_gate_enable_pin : true; } pin (E) { direction : input; clock_gate_enable_pin : true; } pin (GCK) { direction : output; clock_gate_out_pin : true; }";
-    let no_out = "pin (CK) { direction : input; clock_gate_clock_pin : true; } pin (E) { direction : input; clock_gate_enable_pin : true; } pin (GCK) { direction : output; }";
+    let two_flags =
+        "pin (CK) { direction : input; clock_gate_clock_pin : true; clock_gate_enable_pin : true; } pin (E) { direction : input; clock_gate_enable_pin : true; } pin (GCK) { direction : output; clock_gate_out_pin : true; }";
+    let no_out =
+        "pin (CK) { direction : input; clock_gate_clock_pin : true; } pin (E) { direction : input; clock_gate_enable_pin : true; } pin (GCK) { direction : output; }";
     let cases = [
         (plain, two_flags, ""),
         (plain, no_out, ""),
         (plain, GATED, "pin (X) { direction : input; }"),
-        (plain, GATED, "pin (SE) { direction : input; clock_gate_test_pin : true; }"),
+        (
+            plain,
+            GATED,
+            "pin (SE) { direction : input; clock_gate_test_pin : true; }",
+        ),
         (tested, GATED, ""),
-        (tested, GATED, "pin (S, T) { direction : input; clock_gate_test_pin : true; }"),
+        (
+            tested,
+            GATED,
+            "pin (S, T) { direction : input; clock_gate_test_pin : true; }",
+        ),
     ];
     for (attribute, pins, more) in cases {
         let statements = format!(in alloc; "{attribute} {pins} {more}")?;
@@ -483,7 +490,10 @@ fn limits(rt: HostRuntime) -> Result<(), Fail> {
     let deep = repeated(alloc, "(", 65)?;
     let statements = format!(in alloc; "pin (Y) {{ direction : output; function : \"{deep}\"; }}")?;
     let text = with_cell(alloc, statements.as_str())?;
-    assert_eq!(rt; described(alloc, text.as_bytes(), &[])?.as_str(), "limit nesting");
+    assert_eq!(rt;
+        described(alloc, text.as_bytes(), &[])?.as_str(),
+        "limit nesting"
+    );
     let mut text = String::from_str(alloc, "library (l) {")?;
     for k in 0..4096u32 {
         let cell = format!(in alloc; " cell (C{k}) {{ }}")?;

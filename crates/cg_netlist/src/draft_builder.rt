@@ -18,8 +18,8 @@ use crate::net_set::NetSet;
 use crate::netlist::Netlist;
 use crate::parts::{Logic, LogicFunction, Parts, Register, RegisterKind};
 use cg_cell::cover::Cover;
-use cg_limit::Limit;
 use cg_cell::name::Name;
+use cg_limit::Limit;
 use std::alloc::{AllocError, Global};
 use std::marker::Model;
 

@@ -1,7 +1,7 @@
 //! Why a part is not taken, and why parts make no netlist.
 
-use cg_limit::Limit;
 use cg_cell::name::Name;
+use cg_limit::Limit;
 use thiserror::Error;
 
 /// Why a [`Builder`](crate::builder::Builder) does not take a part.

@@ -1,4 +1,5 @@
 pub mod AddedParts
+pub mod ByRank
 pub mod CanonicalNames
 pub mod CanonicalSays
 pub mod CheckLemmas
@@ -48,6 +49,7 @@ pub mod Telling
 pub mod Used
 pub mod Values
 pub mod WalkOrder
+pub mod Walked
 pub mod WidthLemmas
 pub mod WritableParts
 pub mod WrittenLines

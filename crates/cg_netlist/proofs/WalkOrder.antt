@@ -54,7 +54,7 @@ rank_more : (above : ℕ → List ℕ) (m k r : ℕ) → rank_within above m k �
 rank_more above zero k r is = absurd (cc)
 rank_more above (suc m) k r is = next_rank-more (rank_within above m) (rank_within above (suc m)) (above k) r (λ j q at. rank_more above m j q at) is
 
-rank_small : (above : ℕ → List ℕ) (n k r : ℕ) → rank_within above n k ≡ Some r → r < n
+pub rank_small : (above : ℕ → List ℕ) (n k r : ℕ) → rank_within above n k ≡ Some r → r < n
 rank_small above zero k r is = absurd (cc)
 rank_small above (suc n) k r is = let b = next_rank-bound (rank_within above n) (above k) r n (λ j q at. rank_small above n j q at) is in omega (arith, b)
 

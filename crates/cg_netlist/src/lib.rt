@@ -22,6 +22,7 @@
 //! - `view`: what a netlist shows of one of its parts.
 //! - `netlist`: well-formed netlists, and what they answer.
 //! - `part_laws`: what is true of parts by name, of their faults, and of the netlists that they say.
+//! - `walk`: the logic cells in an order in which each stands behind those that drive its inputs.
 //! - `history`: that a netlist has one history for each start and waveform.
 #![tactic(auto)]
 
@@ -45,3 +46,4 @@ mod renumber;
 #[cfg(test)]
 mod tests;
 pub mod view;
+pub mod walk;

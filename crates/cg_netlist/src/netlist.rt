@@ -184,6 +184,14 @@ impl Netlist {
         let parts = &self.parts;
         parts.gaters[id.number() as usize].view()
     }
+
+    /// The logic cells, as they are kept.
+    pub(crate) fn logic(&self) -> &[Logic]
+        ensures { result.now ≡ self.now.cells }
+    {
+        let parts = &self.parts;
+        &parts.cells
+    }
 }
 
 /// Whether a net is the clock.

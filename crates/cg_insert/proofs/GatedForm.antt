@@ -1,5 +1,5 @@
 -- The gated netlist is well formed.
-use Rattle.std.proofs.Common.{◌≡◌, ◌≢◌, ◌⊎◌, ℕ, zero, suc, ◌+◌, ◌-◌, ◌<◌, ◌≤◌, Bool, true, false, not, cond, ◌||◌, IsTrue, List, [], ◌∷◌, ◌++◌, map, length, slice_get, get_or, take, Option, None, Some, nat_eq, refl, ap, sym, ◌∙◌, subst, inl, inr, arith}
+use Rattle.std.proofs.Common.{◌≡◌, ◌≢◌, ◌⊎◌, ℕ, zero, suc, ◌+◌, ◌-◌, ◌<◌, ◌≤◌, Bool, true, false, not, cond, IsTrue, List, [], ◌∷◌, ◌++◌, map, length, slice_get, get_or, take, Option, None, Some, nat_eq, refl, ap, sym, ◌∙◌, subst, inl, inr, arith}
 use Rattle.std.specs.List.{All, AllPairs, IsDistinct, count_by, find, flat_map, list_any, range_with_len, slice_index}
 use Rattle.std.specs.Option.{option_flatten, option_map, option_map_or, option_to_list}
 use Rattle.std.proofs.lemmas.Bool.{both_ways, cases_Bool, cases_lt, false_from_ne_true, eqb-true, eq-eqb, or_cases, or_left, or_right}
@@ -7,22 +7,16 @@ use Rattle.std.proofs.lemmas.Fmt.{decimal_injective}
 use Rattle.std.proofs.lemmas.List.{append_cancel_left, get_or-append_right, get_or_append_left, length-append, length-map}
 use Rattle.std.proofs.lemmas.List.Elements.{All-append, All-cons, All-head, All-map, All-nil, All-tail}
 use Rattle.std.proofs.lemmas.List.FromFn.{get_or-map-range_with_len}
-use Rattle.std.proofs.lemmas.List.Sums.{sum_by-cons}
 use Rattle.std.proofs.lemmas.Option.{same_Some, slice_get_within}
 use Rattle.cg_cell.specs.Cell.{CellData, HasPins, IsCell}
-use Rattle.cg_cell.specs.Fit.{is_fit, is_gate, is_gater, is_logic}
+use Rattle.cg_cell.specs.Fit.{is_fit, is_gater}
 use Rattle.cg_cell.specs.Name.{is_name}
-use Rattle.cg_cell.specs.Pins.{is_data, is_test}
-use Rattle.cg_cell.specs.declared.cell.CellKind.{CellKind}
-use Rattle.cg_cell.specs.declared.cell.CellKind.TheVariants.{Logic, Flop as FlopKind, Gater as GaterKind, Unusable}
-use Rattle.cg_cell.specs.declared.fit.FitKind.{FitKind}
-use Rattle.cg_cell.specs.declared.fit.FitKind.TheVariants.{Inv, And2, Or2}
+use Rattle.cg_cell.specs.Pins.{is_test}
+use Rattle.cg_cell.specs.declared.cell.CellKind.TheVariants.{Gater as GaterKind}
 use Rattle.cg_netlist.specs.Circuit.{Circuit, GatingCell, LogicCell, RegisterCell, asked_nets, is_in, cell_nets, clock_nets, data_inputs, drivers, gate_nets, given_nets, register_nets, used_nets}
 use Rattle.cg_netlist.specs.Moment.{zip_with}
-use Rattle.cg_netlist.specs.WellFormed.{AreRanks, FitsKind, IsDriven, IsOver, IsWellFormed, RegisterFits}
+use Rattle.cg_netlist.specs.WellFormed.{AreRanks, IsDriven, IsOver, IsWellFormed, RegisterFits}
 use Rattle.cg_netlist.specs.declared.parts.LogicFunction.TheVariants.{Cell}
-use Rattle.cg_netlist.specs.declared.parts.RegisterKind.{RegisterKind}
-use Rattle.cg_netlist.specs.declared.parts.RegisterKind.TheVariants.{Plain, Flop}
 use Rattle.cg_netlist.proofs.Driven.{distinct_range, in_range, is_in-range}
 use Rattle.cg_netlist.proofs.Given.{clock_given, data_given, distinct_cells, distinct_given, driver_within, from_option, given_driver, given_no_cell, in_option, kind_of, register_given, Data, Clock, Gate, Shown}
 use Rattle.cg_netlist.proofs.Members.{All-from_members, distinct_append, distinct_apart, distinct_left, distinct_right, is_in_cases, is_in_left, is_in_right}
@@ -35,84 +29,8 @@ use Rattle.cg_machine.proofs.AddedNames.{name_added}
 use Rattle.cg_machine.specs.Gates.{AddedGate, HasInputs, gate_cell}
 use Rattle.cg_machine.specs.Machine.{IsMachine, MachineData, added_name, additions}
 use Rattle.cg_netlist.specs.Ordered.{place_in}
-
--- pairs of two lists
-pub pairs_append : {X : Type 0} (R : X → X → Type 0) (xs ys : List X) → AllPairs R xs → AllPairs R ys → ((x y : ℕ) (d : X) → x < length xs → y < length ys → R (get_or xs x d) (get_or ys y d)) → AllPairs R (xs ++ ys)
-pairs_append R xs ys front back cross i j d before within = elim (cases_lt j (length xs)) [
-  | inl j_in ↦ subst (λ a. R a (get_or (xs ++ ys) j d)) (sym (get_or_append_left xs ys d i (omega (arith, before, j_in)))) (subst (λ b. R (get_or xs i d) b) (sym (get_or_append_left xs ys d j j_in)) (front i j d before j_in))
-  | inr j_past ↦ elim (cases_lt i (length xs)) [
-    | inl i_in ↦ subst (λ a. R a (get_or (xs ++ ys) j d)) (sym (get_or_append_left xs ys d i i_in)) (subst (λ b. R (get_or xs i d) b) (sym (get_or-append_right xs ys (length xs) j d refl j_past)) (cross i (j - length xs) d i_in (omega (arith, within, length-append xs ys, j_past))))
-    | inr i_past ↦ subst (λ a. R a (get_or (xs ++ ys) j d)) (sym (get_or-append_right xs ys (length xs) i d refl i_past)) (subst (λ b. R (get_or ys (i - length xs) d) b) (sym (get_or-append_right xs ys (length xs) j d refl j_past)) (back (i - length xs) (j - length xs) d (omega (arith, before, i_past)) (omega (arith, within, length-append xs ys, j_past))))
-  ]
-]
-
--- an option has no two
-pairs_option : {X : Type 0} (R : X → X → Type 0) (o : Option X) → AllPairs R (option_to_list o)
-pairs_option R None i j d before within = absurd (omega (arith, within))
-pairs_option R (Some x) i j d before within = absurd (omega (arith, within, before))
-
-some_pass : {X : Type 0} (p : X → Bool) (ys : List X) → list_any p ys ≡ true → 1 ≤ count_by p ys
-some_pass p [] is = absurd (both_ways false refl is)
-some_pass p (y ∷ ys) is = elim (or_cases (p y) (list_any p ys) is) [
-  | inl here ↦ let one : ◌≡◌ {A = ℕ} (cond (p y) 1 0) 1 = ap {B = ℕ} (λ b. cond b 1 0) here in omega (arith, sum_by-cons (λ z. cond (p z) 1 0) y ys, one)
-  | inr later ↦ let rest = some_pass p ys later in omega (arith, sum_by-cons (λ z. cond (p z) 1 0) y ys, rest)
-]
-
--- the count of those that pass a test which passes at most once
-counts : {X : Type 0} (p : X → Bool) (xs : List X) → (b : Bool) → count_by p xs ≤ 1 → cond b (list_any p xs) (not (list_any p xs)) ≡ true → count_by p xs ≡ cond b 1 0
-counts p [] true few is = absurd (both_ways false refl is)
-counts p [] false few is = refl
-counts p (x ∷ xs) b few is = go (p x) refl b is (counts p xs false)
-  where
-    count : count_by p (x ∷ xs) ≡ cond (p x) 1 0 + count_by p xs
-    count = sum_by-cons (λ y. cond (p y) 1 0) x xs
-
-    go : (t : Bool) → p x ≡ t → (b : Bool) → cond b (t || list_any p xs) (not (t || list_any p xs)) ≡ true → (count_by p xs ≤ 1 → cond false (list_any p xs) (not (list_any p xs)) ≡ true → count_by p xs ≡ cond false 1 0) → count_by p (x ∷ xs) ≡ cond b 1 0
-    go true at true is rest = let one : ◌≡◌ {A = ℕ} (cond (p x) 1 0) 1 = ap {B = ℕ} (λ b. cond b 1 0) at in omega (arith, count, one, few)
-    go true at false is rest = absurd (both_ways false refl is)
-    go false at false is rest = let none : ◌≡◌ {A = ℕ} (cond (p x) 1 0) 0 = ap {B = ℕ} (λ b. cond b 1 0) at in omega (arith, count, none, rest (omega (arith, count, few)) is)
-    go false at true is rest =
-        let none : ◌≡◌ {A = ℕ} (cond (p x) 1 0) 0 = ap {B = ℕ} (λ b. cond b 1 0) at in
-        let more : 1 ≤ count_by p xs = some_pass p xs is in
-        omega (arith, count, none, few, more)
-
-pub found_All : {X : Type 0} (P : X → Type 0) (test : X → Bool) (xs : List X) (x : X) → All P xs → find test xs ≡ Some x → P x
-found_All P test [] x all is = absurd (cc)
-found_All P test (y ∷ ys) x all is = go (test y) is (found_All P test ys x (All-tail P y ys all))
-  where
-    go : (b : Bool) → cond b (Some y) (find test ys) ≡ Some x → (find test ys ≡ Some x → P x) → P x
-    go true here rest = subst P (same_Some y x here) (All-head P y ys all)
-    go false later rest = rest later
-
--- a cell that fits is a logic cell of so many inputs
-fit_over : (kind : FitKind) (cell : CellData) (k : ℕ) → HasInputs kind k → is_fit kind cell ≡ true → (cell.kind ≡ Logic) × (count_by is_data cell.pins ≡ k)
-fit_over kind cell k has fits = go kind has fits
-  where
-    logic : (kind : CellKind) → is_logic kind ≡ true → kind ≡ Logic
-    logic Logic h = refl
-    logic FlopKind h = absurd (both_ways false refl h)
-    logic GaterKind h = absurd (both_ways false refl h)
-    logic Unusable h = absurd (both_ways false refl h)
-
-    gate : (n : ℕ) → k ≡ n → is_gate n cell ≡ true → (cell.kind ≡ Logic) × (count_by is_data cell.pins ≡ k)
-    gate n is h = let both = is_true (is_logic cell.kind) (Rattle.std.specs.Prelude.nat_eq (count_by is_data cell.pins) n) h in (logic cell.kind both.0, eqb-true (count_by is_data cell.pins) n both.1 ∙ sym is)
-
-    go : (kind : FitKind) → HasInputs kind k → is_fit kind cell ≡ true → (cell.kind ≡ Logic) × (count_by is_data cell.pins ≡ k)
-    go Inv has fits = gate 1 has (is_true (is_gate 1 cell) (Rattle.cg_cell.specs.Fit.is_inversion (Rattle.cg_cell.specs.Fit.is_one cell.function)) fits).0
-    go And2 has fits = gate 2 has (is_true (is_gate 2 cell) (Rattle.cg_cell.specs.Fit.is_conjunction (Rattle.cg_cell.specs.Fit.is_one cell.function)) fits).0
-    go Or2 has fits = gate 2 has (is_true (is_gate 2 cell) (Rattle.cg_cell.specs.Fit.is_disjunction (Rattle.cg_cell.specs.Fit.is_one cell.function)) fits).0
-    go _ has fits = absurd has
-
-gater_kind : (kind : CellKind) → is_gater kind ≡ true → kind ≡ GaterKind
-gater_kind GaterKind h = refl
-gater_kind FlopKind h = absurd (both_ways false refl h)
-gater_kind Logic h = absurd (both_ways false refl h)
-gater_kind Unusable h = absurd (both_ways false refl h)
-
--- a reclocked register fits
-kind_kept : (r : RegisterCell ℕ ℕ) (k : ℕ) (kind : RegisterKind) → FitsKind kind r → FitsKind kind (record r { clock = k })
-kind_kept r k Plain fits = fits
-kind_kept r k (Flop cell) fits = fits
+use Rattle.cg_machine.proofs.Lists.{pairs_append}
+use Rattle.cg_insert.proofs.GatedCells.{counts, fit_over, found_All, gater_kind, kind_kept, pairs_option}
 
 module _ (library : List CellData) (test : Option (List ℕ)) (m : MachineData) where
   -- lists made of registers and enables

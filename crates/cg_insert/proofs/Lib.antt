@@ -1,3 +1,4 @@
+pub mod GatedCells
 pub mod GatedForm
 pub mod GatedMoments
 pub mod GatedParts

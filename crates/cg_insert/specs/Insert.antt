@@ -1,5 +1,5 @@
 -- The netlist that a machine's enables make: a gating cell for each, whose output is the clock of its registers.
-use Rattle.std.specs.Prelude.{◌≡◌, ◌≢◌, ℕ, ◌+◌, Bool, false, true, not, ◌&&◌, if◌then◌else◌, List, [], ◌∷◌, ◌++◌, map, length, take, slice_index_or, unwrap_or, IsTrue, Option, Some, None}
+use Rattle.std.specs.Prelude.{◌≡◌, ◌≢◌, ℕ, ◌+◌, Bool, false, true, not, ◌&&◌, if◌then◌else◌, List, [], ◌∷◌, ◌++◌, map, length, nat_le, take, slice_index_or, unwrap_or, IsTrue, Option, Some, None}
 use Rattle.std.specs.List.{All, filter_map, find, list_any, range_with_len}
 use Rattle.std.specs.Option.{option_map, option_to_list, option_map_or}
 use Rattle.cg_cell.specs.Cell.{CellData, IsCell}
@@ -8,6 +8,8 @@ use Rattle.cg_cell.specs.Fit.{is_fit, is_gater}
 use Rattle.cg_cell.specs.Pins.{is_test}
 use Rattle.cg_cell.specs.declared.cell.CellKind.TheVariants.{Unusable}
 use Rattle.cg_cell.specs.declared.fit.FitKind.{FitKind}
+use Rattle.cg_cell.specs.declared.limit.Limit.{Limit}
+use Rattle.cg_cell.specs.declared.limit.Limit.TheVariants.{Nets}
 use Rattle.cg_netlist.specs.declared.parts.LogicFunction.TheVariants.{Cell}
 use Rattle.cg_netlist.specs.Circuit.{Circuit, GatingCell, LogicCell, RegisterCell, data_inputs, is_in}
 use Rattle.cg_machine.specs.Gates.{AddedGate}
@@ -85,6 +87,10 @@ gated library test m = record {
 
 abbrev pub inserted : List CellData → Option (List ℕ) → MachineData → Circuit
 inserted library test m = ordered (gated library test m)
+
+-- the limit that insertion passes, if it passes one: that on nets
+abbrev pub insertion_limit : Option (List ℕ) → MachineData → Option Limit
+insertion_limit test m = if nat_le (first_gate m test + length (enables_of m)) 1048576 then None else Some Nets
 
 -- the condition: the library has a cell for each added gate, and one for gating where there is an enable; the test input
 -- is a new name

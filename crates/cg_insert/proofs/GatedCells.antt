@@ -1,5 +1,5 @@
 -- Lists of parts, and cells that fit a kind of gate or gate a clock.
-use Rattle.std.proofs.Common.{◌≡◌, ℕ, ◌+◌, ◌≤◌, Bool, true, false, not, cond, ◌||◌, List, [], ◌∷◌, Option, None, Some, nat_eq, refl, ap, sym, ◌∙◌, subst, inl, inr, arith}
+use Rattle.std.proofs.Common.{◌≡◌, ℕ, ◌+◌, ◌≤◌, Bool, true, false, not, cond, ◌||◌, ◌&&◌, List, [], ◌∷◌, Option, None, Some, nat_eq, refl, ap, sym, ◌∙◌, subst, inl, inr, arith}
 use Rattle.std.specs.List.{All, AllPairs, IsDistinct, count_by, find, flat_map, list_any, range_with_len, slice_index}
 use Rattle.std.specs.Option.{option_flatten, option_map, option_map_or, option_to_list}
 use Rattle.std.proofs.lemmas.Bool.{both_ways, eqb-true, or_cases}
@@ -8,7 +8,8 @@ use Rattle.std.proofs.lemmas.List.Sums.{sum_by-cons}
 use Rattle.std.proofs.lemmas.Option.{same_Some}
 use Rattle.cg_cell.specs.Cell.{CellData}
 use Rattle.cg_cell.specs.Fit.{is_fit, is_gate, is_gater, is_logic}
-use Rattle.cg_cell.specs.Pins.{is_data}
+use Rattle.cg_cell.specs.Pins.{is_data, is_test}
+use Rattle.cg_insert.specs.Insert.{gating_kind}
 use Rattle.cg_cell.specs.declared.cell.CellKind.{CellKind}
 use Rattle.cg_cell.specs.declared.cell.CellKind.TheVariants.{Logic, Flop as FlopKind, Gater as GaterKind, Unusable}
 use Rattle.cg_cell.specs.declared.fit.FitKind.{FitKind}
@@ -87,3 +88,8 @@ gater_kind Unusable h = absurd (both_ways false refl h)
 pub kind_kept : (r : RegisterCell ℕ ℕ) (k : ℕ) (kind : RegisterKind) → FitsKind kind r → FitsKind kind (record r { clock = k })
 kind_kept r k Plain fits = fits
 kind_kept r k (Flop cell) fits = fits
+
+-- the cell that gates a clock has a test pin exactly where there is a test input
+pub gates_by : (test : Option (List ℕ)) (cell : CellData) → is_fit (gating_kind test) cell ≡ (is_gater cell.kind && cond (option_map_or (λ _. true) test false) (list_any is_test cell.pins) (not (list_any is_test cell.pins)))
+gates_by None cell = refl
+gates_by (Some name) cell = refl

@@ -24,13 +24,13 @@ use Rattle.cg_netlist.proofs.OrderLemmas.{length-range_with_len}
 use Rattle.cg_netlist.proofs.Values.{element_at}
 use Rattle.cg_insert.proofs.GatedMoments.{clock_is, data_is, names_count, register_clock, used_below}
 use Rattle.cg_insert.proofs.GatedParts.{few_names, at_All, cell_stands, enable_from, enable_placed, found_passes, gater_at, gaters_count, gates_are, is_true, shown_is}
-use Rattle.cg_insert.specs.Insert.{CanInsert, clock_under, enables_of, first_gate, fitting, gate_names, gate_outputs, gated, gater_cell, gates_clocks, gating_cell, no_cell, placed_gate, reclocked, test_net}
+use Rattle.cg_insert.specs.Insert.{CanInsert, clock_under, enables_of, first_gate, fitting, gate_names, gate_outputs, gated, gater_cell, gating_cell, gating_kind, no_cell, placed_gate, reclocked, test_net}
 use Rattle.cg_machine.proofs.AddedNames.{name_added}
 use Rattle.cg_machine.specs.Gates.{AddedGate, HasInputs, gate_cell}
 use Rattle.cg_machine.specs.Machine.{IsMachine, MachineData, added_name, additions}
 use Rattle.cg_netlist.specs.Ordered.{place_in}
 use Rattle.cg_machine.proofs.Lists.{pairs_append}
-use Rattle.cg_insert.proofs.GatedCells.{counts, fit_over, found_All, gater_kind, kind_kept, pairs_option}
+use Rattle.cg_insert.proofs.GatedCells.{gates_by, counts, fit_over, found_All, gater_kind, kind_kept, pairs_option}
 
 module _ (library : List CellData) (test : Option (List ℕ)) (m : MachineData) where
   -- lists made of registers and enables
@@ -415,9 +415,9 @@ module _ (library : List CellData) (test : Option (List ℕ)) (m : MachineData) 
         fits some =
             let found = can.gater some in
             let is : gater_cell library test ≡ found.0 = ap (λ o. Rattle.std.specs.Prelude.unwrap_or o no_cell) found.1 in
-            let passes = found_passes (gates_clocks (option_map_or (λ _. true) test false)) library found.0 found.1 in
+            let passes = sym (gates_by test found.0) ∙ found_passes (is_fit (gating_kind test)) library found.0 found.1 in
             let both = is_true (is_gater found.0.kind) (cond (option_map_or (λ _. true) test false) (list_any is_test found.0.pins) (not (list_any is_test found.0.pins))) passes in
-            let cell : IsCell found.0 = found_All IsCell (gates_clocks (option_map_or (λ _. true) test false)) library found.0 can.cells found.1 in
+            let cell : IsCell found.0 = found_All IsCell (is_fit (gating_kind test)) library found.0 can.cells found.1 in
             let kind : found.0.kind ≡ GaterKind = gater_kind found.0.kind both.0 in
             subst (λ x. IsCell x × (x.kind ≡ GaterKind) × (count_by is_test x.pins ≡ length (option_to_list (test_net m test)))) (sym is)
             (cell, kind, counts is_test found.0.pins (option_map_or (λ _. true) test false) (few_tests found.0 cell kind) both.1 ∙ one test)

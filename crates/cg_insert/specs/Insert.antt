@@ -1,15 +1,15 @@
 -- The netlist that a machine's enables make: a gating cell for each, whose output is the clock of its registers.
-use Rattle.std.specs.Prelude.{◌≡◌, ◌≢◌, ℕ, ◌+◌, Bool, false, true, not, ◌&&◌, if◌then◌else◌, List, [], ◌∷◌, ◌++◌, map, length, nat_le, take, slice_index_or, unwrap_or, IsTrue, Option, Some, None}
-use Rattle.std.specs.List.{All, filter_map, find, list_any, range_with_len}
-use Rattle.std.specs.Option.{option_map, option_to_list, option_map_or}
+use Rattle.std.specs.Prelude.{◌≡◌, ◌≢◌, ℕ, ◌+◌, Bool, false, if◌then◌else◌, List, [], ◌∷◌, ◌++◌, map, length, nat_le, take, slice_index_or, unwrap_or, IsTrue, Option, Some, None}
+use Rattle.std.specs.List.{All, filter_map, find, range_with_len}
+use Rattle.std.specs.Option.{option_map, option_to_list}
 use Rattle.cg_cell.specs.Cell.{CellData, IsCell}
 use Rattle.cg_cell.specs.Name.{is_name}
-use Rattle.cg_cell.specs.Fit.{is_fit, is_gater}
-use Rattle.cg_cell.specs.Pins.{is_test}
+use Rattle.cg_cell.specs.Fit.{is_fit}
 use Rattle.cg_cell.specs.declared.cell.CellKind.TheVariants.{Unusable}
 use Rattle.cg_cell.specs.declared.fit.FitKind.{FitKind}
-use Rattle.cg_cell.specs.declared.limit.Limit.{Limit}
-use Rattle.cg_cell.specs.declared.limit.Limit.TheVariants.{Nets}
+use Rattle.cg_cell.specs.declared.fit.FitKind.TheVariants.{Gater, TestGater}
+use Rattle.cg_limit.specs.declared.Limit.{Limit}
+use Rattle.cg_limit.specs.declared.Limit.TheVariants.{Nets}
 use Rattle.cg_netlist.specs.declared.parts.LogicFunction.TheVariants.{Cell}
 use Rattle.cg_netlist.specs.Circuit.{Circuit, GatingCell, LogicCell, RegisterCell, data_inputs, is_in}
 use Rattle.cg_machine.specs.Gates.{AddedGate}
@@ -31,18 +31,21 @@ collect seen (net ∷ nets) = collect (with_net seen net) nets
 abbrev pub enables_of : MachineData → List ℕ
 enables_of m = collect [] (filter_map (λ enable. enable) m.enables)
 
--- the cell that a library has for an added gate, and for a gating cell without or with a test pin
+-- what stands for a cell that a library does not have
 abbrev pub no_cell : CellData
 no_cell = record { name = []; kind = Unusable; pins = []; function = None }
 
+-- the first cell of a library that fits a kind
 abbrev pub fitting : List CellData → FitKind → CellData
 fitting library kind = unwrap_or (find (is_fit kind) library) no_cell
 
-abbrev pub gates_clocks : Bool → CellData → Bool
-gates_clocks test cell = is_gater cell.kind && (if test then list_any is_test cell.pins else not (list_any is_test cell.pins))
+-- the kind of gating cell that is needed, which has a test pin where there is a test input; and the cell
+abbrev pub gating_kind : Option (List ℕ) → FitKind
+gating_kind None = Gater
+gating_kind (Some name) = TestGater
 
 abbrev pub gater_cell : List CellData → Option (List ℕ) → CellData
-gater_cell library test = unwrap_or (find (gates_clocks (option_map_or (λ _. true) test false)) library) no_cell
+gater_cell library test = fitting library (gating_kind test)
 
 -- the numbers, in the machine's own order: the machine's nets, the test input, the outputs of the gating cells
 abbrev pub test_net : MachineData → Option (List ℕ) → Option ℕ
@@ -97,7 +100,7 @@ insertion_limit test m = if nat_le (first_gate m test + length (enables_of m)) 1
 pub record CanInsert (library : List CellData) (test : Option (List ℕ)) (m : MachineData) : Type 0 where
   pub cells : All IsCell library
   pub gates : All (λ gate. (cell : CellData) × (find (is_fit gate.kind) library ≡ Some cell)) m.gates
-  pub gater : enables_of m ≢ [] → (cell : CellData) × (find (gates_clocks (option_map_or (λ _. true) test false)) library ≡ Some cell)
+  pub gater : enables_of m ≢ [] → (cell : CellData) × (find (is_fit (gating_kind test)) library ≡ Some cell)
   pub test_named : All (λ name. IsTrue (is_name name)) (option_to_list test)
   pub test_new : (name : List ℕ) → test ≡ Some name → All (λ other. other ≢ name) (m.circuit.names ++ gate_names m)
 

@@ -1,0 +1,17 @@
+//! Whether a literal of an and-inverter list is ever 1.
+//!
+//! In go a list and a literal of it, the goal. Out come leaf bits under which it is 1, or the formula that says that
+//! it is, with a log that proves that nothing satisfies that formula.
+//!
+//! In the order in which data flows through them:
+//!
+//! - `patterns`: random leaf bits, many at a time, since most goals that are ever 1 are so under some of them;
+//! - `decision`: [`Decider`] and [`decide`], the decision.
+#![tactic(auto)]
+
+mod decision;
+mod patterns;
+#[cfg(test)]
+mod tests;
+
+pub use decision::{Decider, Decision, decide};

@@ -1,9 +1,7 @@
 -- Parts whose nets are mentioned one after another.
 use Rattle.std.proofs.Common.{◌≡◌, ◌⊎◌, ℕ, zero, suc, ◌+◌, ◌<◌, ◌≤◌, Bool, List, [], ◌∷◌, ◌++◌, Option, Some, None, Bor, map, take, length, slice_get, refl, sym, ap, ◌∙◌, subst, arith, inl, inr, append_assoc}
-use Rattle.std.specs.List.{All, AllByRecursion}
 use Rattle.std.specs.Option.{option_map, option_to_list}
 use Rattle.std.proofs.lemmas.List.{length_push, map-append}
-use Rattle.std.proofs.lemmas.List.Elements.{All-cons, recursion_from_All, All-from_recursion}
 use Rattle.std.proofs.lemmas.Option.{slice_get-map}
 use Rattle.cg_cell.specs.Cell.{CellData}
 use Rattle.cg_netlist.specs.declared.fault.AddFault.{AddFault}
@@ -85,7 +83,7 @@ puts_gater old a b c new cell clock enable test output k e t o gaters more first
       named = λ i. record { clock = net_named new k clock at_k i; enable = net_named new e enable at_e i; test = given_named new t test at_t i; output = net_named new o output fourth.numbered i; cell = cell };
       within = record {
         clock = net_within new k clock at_k;
-        asked = All-cons (λ net. net < length new) e (option_to_list t) (net_within new e enable at_e) (nets_within new (option_to_list t) (option_to_list test) at_t);
+        asked = (net_within new e enable at_e, nets_within new (option_to_list t) (option_to_list test) at_t);
         output = net_within new o output fourth.numbered;
       };
       put = put;

@@ -34,7 +34,7 @@ uses_first d used driven shown count order first shown_is count_is order_is used
     (λ net lt. ap (λ b. b && not (is_marked driven net)) (used_table.tells net lt) ∙ ap (λ b. is_in (used_nets d) net && not b) (driven_table.tells net (omega (arith, count_is)) ∙ ap (λ nets. is_in nets net) order_is)) there)
 
 -- the number of a driving cell is that of a cell
-first_within : (test : LogicCell ℕ → Bool) (a : ℕ) (cells : List (LogicCell ℕ)) (k : ℕ) → position_from test a cells ≡ Some k → k < a + length cells
+pub first_within : (test : LogicCell ℕ → Bool) (a : ℕ) (cells : List (LogicCell ℕ)) (k : ℕ) → position_from test a cells ≡ Some k → k < a + length cells
 first_within test a [] k is = absurd (cc)
 first_within test a (cell ∷ cells) k is = go (test cell) is (first_within test (a + 1) cells k)
   where
@@ -101,7 +101,7 @@ pins_before (pin ∷ pins) net is = elim (or_cases (nat_lt pin net) (list_any (�
   | inr later ↦ let more = pins_before pins net later in (more.0, more.1, or_right (nat_eq more.0 pin) (is_in pins more.0) more.2)
 ]
 
-before_is : (clocks : List Bool) (pins : List ℕ) (n net : ℕ) → IsTable clocks n (is_in pins) → net ≤ n → marked_before clocks net ≡ list_any (λ other. nat_lt other net) pins
+pub before_is : (clocks : List Bool) (pins : List ℕ) (n net : ℕ) → IsTable clocks n (is_in pins) → net ≤ n → marked_before clocks net ≡ list_any (λ other. nat_lt other net) pins
 before_is clocks pins n net table le = same_truth (marked_before clocks net) (list_any (λ other. nat_lt other net) pins)
     (λ is. let y = range_has (is_marked clocks) net 0 is in any_before pins y.0 net (sym (table.tells y.0 (omega (arith, y.1))) ∙ y.2) (omega (arith, y.1)))
     (λ is. let y = pins_before pins net is in any_in_range (is_marked clocks) net 0 y.0 (omega arith) (omega (arith, y.1)) (table.tells y.0 (omega (arith, y.1)) ∙ y.2))

@@ -3,6 +3,7 @@ pub mod ByRank
 pub mod CanonicalNames
 pub mod CanonicalSays
 pub mod CheckLemmas
+pub mod Checks
 pub mod ClockFree
 pub mod Clocks
 pub mod DraftLemmas
@@ -10,6 +11,7 @@ pub mod DraftNets
 pub mod Driven
 pub mod Faultless
 pub mod Finished
+pub mod FirstFaults
 pub mod GatedRegister
 pub mod Given
 pub mod Hearing
@@ -27,6 +29,7 @@ pub mod Numbering
 pub mod OfDraft
 pub mod OnlyNetlist
 pub mod OrderLemmas
+pub mod OrderPlaces
 pub mod OrderedForm
 pub mod OrderedHistories
 pub mod PartByPart
@@ -34,6 +37,7 @@ pub mod PlaceLemmas
 pub mod PlacedStatements
 pub mod RankLemmas
 pub mod RankingLemmas
+pub mod ReadyNumbers
 pub mod Renamed
 pub mod Renumbered
 pub mod Rising
@@ -46,6 +50,7 @@ pub mod SpellsCanonical
 pub mod StatedParts
 pub mod TableLemmas
 pub mod Telling
+pub mod ToldNets
 pub mod Used
 pub mod Values
 pub mod WalkOrder

@@ -1,13 +1,12 @@
 -- Numbers of nets that were mentioned, and what the parts with these numbers are by name.
 use Rattle.std.proofs.Common.{◌≡◌, ◌≢◌, ℕ, zero, suc, ◌+◌, ◌<◌, ◌≤◌, Bool, List, [], ◌∷◌, ◌++◌, Option, Some, None, map, length, slice_get, unwrap_or, refl, sym, ap, ◌∙◌, subst, arith, append_assoc}
-use Rattle.std.specs.List.{All, AllByRecursion}
+use Rattle.std.specs.List.{AllByRecursion}
 use Rattle.std.specs.Option.{option_map, option_to_list}
 use Rattle.std.proofs.lemmas.List.{length-append, map-append, append-nil}
-use Rattle.std.proofs.lemmas.List.Elements.{All-cons, All-from_recursion, All-nil, recursion_from_All}
 use Rattle.std.proofs.lemmas.Option.{slice_get_within}
 use Rattle.cg_netlist.specs.Circuit.{GatingCell, LogicCell, RegisterCell, asked_nets, shown_nets}
 use Rattle.cg_netlist.specs.inner.Mentioned.{IsMentioned}
-use Rattle.cg_netlist.specs.inner.Numbered.{CellWithin, GaterWithin, OpenWithin}
+use Rattle.cg_netlist.specs.inner.Numbers.{CellWithin, GaterWithin, OpenWithin}
 use Rattle.cg_netlist.specs.said.Said.{with_names}
 use Rattle.cg_netlist.specs.said.Wiring.{NetName, map_cell, map_gater, map_outputs, net_name, map_open}
 use Rattle.cg_netlist.proofs.Mentions.{still_numbered}
@@ -22,16 +21,13 @@ nets_named names (net ∷ nets) (word ∷ words) is =
     let later : map (slice_get names) nets ≡ map (λ w. Some w) words = cc in
     ap (λ o. unwrap_or o [] ∷ map (net_name names) nets) here ∙ ap (λ ws. word ∷ ws) (nets_named names nets words later)
 
-nets_below : (names : List NetName) (nets : List ℕ) (words : List NetName) → map (slice_get names) nets ≡ map (λ word. Some word) words → AllByRecursion (λ net. net < length names) nets
-nets_below names [] words is = tt
-nets_below names (net ∷ nets) [] is = absurd (cc)
-nets_below names (net ∷ nets) (word ∷ words) is =
+pub nets_within : (names : List NetName) (nets : List ℕ) (words : List NetName) → map (slice_get names) nets ≡ map (λ word. Some word) words → AllByRecursion (λ net. net < length names) nets
+nets_within names [] words is = tt
+nets_within names (net ∷ nets) [] is = absurd (cc)
+nets_within names (net ∷ nets) (word ∷ words) is =
     let here : slice_get names net ≡ Some word = cc in
     let later : map (slice_get names) nets ≡ map (λ w. Some w) words = cc in
-    (slice_get_within names net word here, nets_below names nets words later)
-
-pub nets_within : (names : List NetName) (nets : List ℕ) (words : List NetName) → map (slice_get names) nets ≡ map (λ word. Some word) words → All (λ net. net < length names) nets
-nets_within names nets words is = All-from_recursion (λ net. net < length names) nets (nets_below names nets words is)
+    (slice_get_within names net word here, nets_within names nets words later)
 
 pub net_named : (names : List NetName) (net : ℕ) (word : NetName) → map (slice_get names) (net ∷ []) ≡ map (λ w. Some w) (word ∷ []) → net_name names net ≡ word
 net_named names net word is = let here : slice_get names net ≡ Some word = cc in ap (λ o. unwrap_or o []) here

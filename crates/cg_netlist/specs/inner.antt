@@ -1,5 +1,5 @@
+pub mod Finishing
 pub mod Heard
 pub mod Mentioned
-pub mod Numbered
 pub mod Numbers
 pub mod Walking

@@ -10,14 +10,17 @@ ghost use Rattle.cg_cell.specs.declared.cell.CellKind.TheVariants.{Gater as Gate
 ghost use Rattle.cg_netlist.specs.Calls.{cell_of, gater_of, register_of};
 ghost use Rattle.cg_netlist.specs.WellFormed.{RegisterFits};
 ghost use Rattle.cg_netlist.specs.declared.parts.LogicFunction.TheVariants.{Cell as PlacedCell, Cover as CoverRows};
-ghost use Rattle.cg_netlist.specs.said.Building.{Takes, fresh};
+ghost use Rattle.cg_netlist.specs.said.Building.{Finishes, Takes, fresh};
 ghost use Rattle.cg_netlist.specs.said.Part.{Clock, Gate, Input, Logic as LogicPart, Output, Register as RegisterPart, mentioned};
 
 use crate::adding::{add_gater, add_logic, add_net, add_placed, add_register};
-use crate::fault::AddFault;
+use crate::fault::{AddFault, NetFault};
+use crate::finish::finished;
 use crate::names::NetNames;
 use crate::net_set::NetSet;
+use crate::netlist::Netlist;
 use crate::parts::{Gater, Logic, LogicFunction, OpenRegister};
+use crate::told::Told;
 use cg_cell::cell::CellType;
 use cg_cell::cover::Cover;
 use cg_cell::name::Name;
@@ -229,6 +232,35 @@ impl Builder {
             init,
         );
         noted(&mut self.refused, added)
+    }
+
+    /// The netlist that the parts say, or the first fault of them. No call of this builder was refused.
+    pub fn finish(self) -> Result<Netlist, NetFault>
+        requires { self.refused ≡ None }
+        ensures { Finishes self result }
+    {
+        let Builder {
+            alloc,
+            model,
+            names,
+            inputs,
+            outputs,
+            clocks,
+            cells,
+            gaters,
+            registers,
+            refused: _,
+        } = self;
+        let told = Told {
+            names,
+            inputs: inputs.into_vec(),
+            outputs: outputs.into_vec(),
+            clocks: clocks.into_vec(),
+            cells,
+            gaters,
+            registers,
+        };
+        finished(alloc, model, told)
     }
 }
 

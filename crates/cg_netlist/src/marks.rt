@@ -1,6 +1,6 @@
 //! Marks on nets, and the first net that has one.
 
-ghost use Rattle.std.specs.Prelude.{◌≡◌, ◌<◌, ◌&&◌, ◌||◌, ℕ, not, nat_eq, nat_lt, false, length, IfOk, is_none};
+ghost use Rattle.std.specs.Prelude.{◌≡◌, ◌<◌, ◌&&◌, ◌||◌, ℕ, Bool, Some, not, nat_eq, nat_lt, false, length, IfOk, is_none};
 ghost use Rattle.std.specs.List.{All, count_by};
 ghost use Rattle.std.specs.Option.{option_map_or};
 ghost use Rattle.cg_netlist.specs.Circuit.{is_in};
@@ -76,6 +76,22 @@ pub(crate) fn first_unranked(drivers: &[Option<usize>], ranks: &[Option<usize>])
     None
 }
 
+/// Marks on the nets that are driven by cells without a rank.
+pub(crate) fn unranked(
+    alloc: Global,
+    drivers: &[Option<usize>],
+    ranks: &[Option<usize>],
+) -> Result<Vec<bool>, AllocError>
+    requires { (net k : ℕ) → entry drivers.now net ≡ Some k → k < length ranks.now }
+    ensures { IfOk result (λ marks. IsTable marks.items (length drivers.now) (λ net. option_map_or (λ k. is_none (entry ranks.now k)) (entry drivers.now net) false)) }
+{
+    let mut marks = Vec::with_capacity(alloc, drivers.len())?;
+    for net in 0..drivers.len() {
+        marks.push(is_unranked(entry(drivers, net), ranks))?;
+    }
+    Ok(marks)
+}
+
 /// Whether a net's driver is a cell without a rank.
 fn is_unranked(driver: Option<usize>, ranks: &[Option<usize>]) -> bool
     requires { (k : ℕ) → driver ≡ Some k → k < length ranks.now }
@@ -109,4 +125,29 @@ fn is_bad(clock: bool, input: bool, before: bool, used: bool) -> bool
     ensures { result ≡ (clock && ((not input || before) || used)) }
 {
     clock && (!input || before || used)
+}
+
+/// The first net that a gating cell drives, and that is used as well, or that no clock reaches.
+pub(crate) fn first_bad_gate(gated: &[bool], used: &[bool], unreached: &[bool]) -> Option<usize>
+    requires used { length used.now ≡ length gated.now }
+    requires unreached { length unreached.now ≡ length gated.now }
+    ensures { IsFirst (length gated.now) (λ net. is_marked gated.now net && (is_marked used.now net || is_marked unreached.now net)) result }
+{
+    for net in 0..gated.len() {
+        if gated[net] && (used[net] || unreached[net]) {
+            return Some(net);
+        }
+    }
+    None
+}
+
+/// The earlier of two nets, where one is there.
+pub(crate) fn earlier(one: Option<usize>, other: Option<usize>) -> Option<usize>
+    ensures { (n : ℕ) (test more : ℕ → Bool) → IsFirst n test one → IsFirst n more other → IsFirst n (λ net. test net || more net) result }
+{
+    match (one, other) {
+        (Some(net), Some(later)) if later < net => Some(later),
+        (Some(net), _) => Some(net),
+        (None, later) => later,
+    }
 }

@@ -8,7 +8,7 @@ use Rattle.cg_netlist.specs.Names.{with_name}
 use Rattle.cg_netlist.specs.said.Part.{Part, Logic, Gate, Register, mentioned}
 use Rattle.cg_netlist.specs.said.Said.{with_names}
 use Rattle.cg_netlist.specs.said.Wiring.{NetName, map_cell, map_gater, net_name, map_open}
-use Rattle.cg_netlist.specs.inner.Numbered.{CellWithin, GaterWithin, OpenWithin}
+use Rattle.cg_netlist.specs.inner.Numbers.{CellWithin, GaterWithin, OpenWithin}
 
 -- the nets of these names were mentioned one after another, and have these numbers
 pub record IsMentioned (old new words : List NetName) (nets : List ℕ) : Type 0 where

@@ -9,7 +9,7 @@ use Rattle.cg_cell.specs.Name.{is_name}
 use Rattle.cg_netlist.specs.declared.parts.LogicFunction.TheVariants.{Cell, Cover}
 use Rattle.cg_netlist.specs.Calls.{cell_of, gater_of, register_of}
 use Rattle.cg_netlist.specs.inner.Heard.{built}
-use Rattle.cg_netlist.specs.inner.Numbered.{Numbered}
+use Rattle.cg_netlist.specs.inner.Numbers.{Numbers}
 use Rattle.cg_netlist.specs.said.Building.{Takes}
 use Rattle.cg_netlist.specs.said.Part.{Part, Gate, Logic, Register}
 use Rattle.cg_netlist.specs.said.Says.{IsPart}
@@ -18,7 +18,7 @@ use Rattle.cg_netlist.proofs.Hearing.{few_heard, hears_cell, hears_gater, hears_
 use Rattle.cg_netlist.proofs.Telling.{Told, mention_fails, register_fails, telling}
 use Rattle.cg_netlist.proofs.builder.Builder.gater.Goals as goal
 
-abbrev numbers : goal.After-noted → Numbered
+abbrev numbers : goal.After-noted → Numbers
 numbers c = record { names = c.self.inside.names; inputs = c.self.inside.inputs; outputs = c.self.inside.outputs; clocks = c.self.inside.clocks; cells = c.self.inside.cells.items; gaters = c.self.inside.gaters.items; registers = c.self.inside.registers.items }
 
 abbrev part : goal.After-noted → Part
@@ -33,7 +33,7 @@ told c =
     let is : IsPart (part c) = record { named = c.requires.nets; fits = (call.ensures.cell, c.requires.kind, c.requires.test) } in
     telling c.self.inside.model n (record n { names = call.new.names; gaters = call.new.gaters.items }) c.self.inside.refused c.noted.new.refused (part c) call.result c.noted.result c.self.invariant
     is c.in_default.is c.noted.ensures.answers c.noted.ensures.notes
-    (MatchResult-weaker call.result call.ensures.puts (λ x puts. hears_gater n call.new.names call.new.gaters.items g heard.numbered (few_heard c.self.inside.model n heard) puts) (λ f e. mention_fails n (part c) f (λ s. refl) e))
+    (MatchResult-weaker call.result call.ensures.puts (λ x puts. hears_gater n call.new.names call.new.gaters.items g heard.numbers (few_heard c.self.inside.model n heard) puts) (λ f e. mention_fails n (part c) f (λ s. refl) e))
 
 pub invariant_of-self : goal.invariant_of-self
 invariant_of-self c = (told c).keeps

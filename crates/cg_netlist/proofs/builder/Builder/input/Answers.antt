@@ -1,14 +1,14 @@
 use Rattle.std.proofs.Common.{◌≡◌, [], ◌∷◌, Option, None, Some, subst, refl}
 use Rattle.std.proofs.lemmas.Result.{MatchResult-weaker}
 use Rattle.cg_netlist.specs.inner.Heard.{built}
-use Rattle.cg_netlist.specs.inner.Numbered.{Numbered}
+use Rattle.cg_netlist.specs.inner.Numbers.{Numbers}
 use Rattle.cg_netlist.specs.said.Building.{Takes}
 use Rattle.cg_netlist.specs.said.Part.{Input}
 use Rattle.cg_netlist.proofs.Hearing.{hears_input, few_heard}
 use Rattle.cg_netlist.proofs.Telling.{Told, mention_fails, telling}
 use Rattle.cg_netlist.proofs.builder.Builder.input.Goals as goal
 
-abbrev numbers : goal.After-noted → Numbered
+abbrev numbers : goal.After-noted → Numbers
 numbers c = record { names = c.self.inside.names; inputs = c.self.inside.inputs; outputs = c.self.inside.outputs; clocks = c.self.inside.clocks; cells = c.self.inside.cells.items; gaters = c.self.inside.gaters.items; registers = c.self.inside.registers.items }
 
 told : (c : goal.After-noted) → Told c.self.inside.model (numbers c) (record (numbers c) { names = c.add_net-added.new.names; inputs = c.add_net-added.new.nets }) c.self.inside.refused c.noted.new.refused (Input c.args.net.now) c.noted.result
@@ -19,7 +19,7 @@ told c =
     let heard = c.self.invariant c.in_default.is in
     telling c.self.inside.model n (record n { names = call.new.names; inputs = call.new.nets }) c.self.inside.refused c.noted.new.refused (Input net) call.result c.noted.result c.self.invariant
     (record { named = (c.requires, tt); fits = tt }) c.in_default.is c.noted.ensures.answers c.noted.ensures.notes
-    (MatchResult-weaker call.result call.ensures (λ x puts. hears_input n net call.new.names puts.mentioned.few heard.numbered (few_heard c.self.inside.model n heard) call.new.nets puts) (λ f e. mention_fails n (Input net) f (λ s. refl) e))
+    (MatchResult-weaker call.result call.ensures (λ x puts. hears_input n net call.new.names puts.mentioned.few heard.numbers (few_heard c.self.inside.model n heard) call.new.nets puts) (λ f e. mention_fails n (Input net) f (λ s. refl) e))
 
 pub invariant_of-self : goal.invariant_of-self
 invariant_of-self c = (told c).keeps

@@ -9,7 +9,7 @@ use Rattle.cg_cell.specs.Name.{is_name}
 use Rattle.cg_netlist.specs.declared.parts.LogicFunction.TheVariants.{Cell, Cover}
 use Rattle.cg_netlist.specs.Calls.{cell_of, gater_of, register_of}
 use Rattle.cg_netlist.specs.inner.Heard.{built}
-use Rattle.cg_netlist.specs.inner.Numbered.{Numbered}
+use Rattle.cg_netlist.specs.inner.Numbers.{Numbers}
 use Rattle.cg_netlist.specs.said.Building.{Takes}
 use Rattle.cg_netlist.specs.said.Part.{Part, Gate, Logic, Register}
 use Rattle.cg_netlist.specs.said.Says.{IsPart}
@@ -18,7 +18,7 @@ use Rattle.cg_netlist.proofs.Hearing.{few_heard, hears_cell, hears_gater, hears_
 use Rattle.cg_netlist.proofs.Telling.{Told, mention_fails, register_fails, telling}
 use Rattle.cg_netlist.proofs.builder.Builder.register.Goals as goal
 
-abbrev numbers : goal.After-noted → Numbered
+abbrev numbers : goal.After-noted → Numbers
 numbers c = record { names = c.self.inside.names; inputs = c.self.inside.inputs; outputs = c.self.inside.outputs; clocks = c.self.inside.clocks; cells = c.self.inside.cells.items; gaters = c.self.inside.gaters.items; registers = c.self.inside.registers.items }
 
 abbrev part : goal.After-noted → Part
@@ -32,7 +32,7 @@ told c =
     let heard = c.self.invariant c.in_default.is in
     telling c.self.inside.model n (record n { names = call.new.names; registers = call.new.registers.items }) c.self.inside.refused c.noted.new.refused (part c) call.result c.noted.result c.self.invariant
     (record { named = c.requires.nets; fits = c.requires.fits }) c.in_default.is c.noted.ensures.answers c.noted.ensures.notes
-    (MatchResult-weaker call.result call.ensures (λ x puts. hears_register n call.new.names call.new.registers.items r heard.numbered puts) (λ f e. register_fails n r f e))
+    (MatchResult-weaker call.result call.ensures (λ x puts. hears_register n call.new.names call.new.registers.items r heard.numbers puts) (λ f e. register_fails n r f e))
 
 pub invariant_of-self : goal.invariant_of-self
 invariant_of-self c = (told c).keeps

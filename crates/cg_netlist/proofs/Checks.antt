@@ -1,0 +1,130 @@
+-- What each check finds is the first net that fails it.
+use Rattle.std.proofs.Common.{◌≡◌, ◌≢◌, ℕ, zero, suc, ◌+◌, ◌<◌, ◌≤◌, Bool, true, false, not, ◌&&◌, ◌||◌, nat_eq, nat_lt, List, [], ◌∷◌, ◌++◌, Option, Some, None, is_none, length, map, min, refl, sym, ap, ◌∙◌, subst, arith, inl, inr, IfOk, Result, Ok, Err}
+use Rattle.std.specs.List.{All, AllByRecursion, list_any, range_with_len, slice_get}
+use Rattle.std.specs.Option.{option_map_or}
+use Rattle.std.proofs.lemmas.Bool.{and_from, and_parts, both_ways, cases_Bool, cases_lt, or_cases, or_left, or_parts, or_right, eqb-true, eq-eqb, ltb-true, lt-ltb}
+use Rattle.std.proofs.lemmas.List.FromFn.{get_or-map-range_with_len, length-map-range_with_len}
+use Rattle.std.proofs.lemmas.List.{length-append}
+use Rattle.std.proofs.lemmas.Option.{same_Some}
+use Rattle.cg_netlist.specs.Circuit.{GatingCell, LogicCell, is_in}
+use Rattle.cg_netlist.specs.Marks.{IsFirst, IsTable, is_marked, marked_before}
+use Rattle.cg_netlist.specs.Ranking.{IsGraph, entry}
+use Rattle.cg_netlist.specs.Ranks.{driving_cell, rank_of, ranks_of}
+use Rattle.cg_netlist.specs.inner.Finishing.{chain, is_unranked}
+use Rattle.cg_netlist.specs.inner.Numbers.{CellWithin, GaterWithin}
+use Rattle.cg_netlist.proofs.CheckLemmas.{before_is, first_within}
+use Rattle.cg_netlist.proofs.MarkLemmas.{same_first}
+use Rattle.cg_netlist.proofs.TableLemmas.{entry_or, entry_within}
+use Rattle.cg_netlist.proofs.said.Each.{from_recursion}
+
+-- marks that are shown tell the first net
+pub marked_first : (marks shown : List Bool) (count n : ℕ) (test : ℕ → Bool) (first : Option ℕ) → shown ≡ marks → count ≡ n → IsTable marks count test → IsFirst (length shown) (is_marked shown) first → IsFirst n test first
+marked_first marks shown count n test first shown_is count_is table found =
+    let there : IsFirst n (is_marked marks) first = subst (λ m. IsFirst m (is_marked marks) first) (table.fits ∙ count_is) (subst (λ ms. IsFirst (length ms) (is_marked ms) first) shown_is found) in
+    same_first (is_marked marks) test n first (λ net lt. table.tells net (omega (arith, lt, count_is))) there
+
+pub undriven_found : (used driven shown : List Bool) (n count : ℕ) (us ds : List ℕ) (first : Option ℕ) → shown ≡ driven → count ≡ n → IsTable used n (is_in us) → IsTable driven count (is_in ds)
+    → IsFirst (length used) (λ net. is_marked used net && not (is_marked shown net)) first → IsFirst n (λ net. is_in us net && not (is_in ds net)) first
+undriven_found used driven shown n count us ds first shown_is count_is used_table driven_table found =
+    let there : IsFirst n (λ net. is_marked used net && not (is_marked driven net)) first = subst (λ m. IsFirst m (λ net. is_marked used net && not (is_marked driven net)) first) used_table.fits (subst (λ ms. IsFirst (length used) (λ net. is_marked used net && not (is_marked ms net)) first) shown_is found) in
+    same_first (λ net. is_marked used net && not (is_marked driven net)) (λ net. is_in us net && not (is_in ds net)) n first
+    (λ net lt. ap (λ b. b && not (is_marked driven net)) (used_table.tells net lt) ∙ ap (λ b. is_in us net && not b) (driven_table.tells net (omega (arith, lt, count_is)))) there
+
+pub roots_found : (rooted sources used shown given : List Bool) (n count : ℕ) (rs ss us : List ℕ) (first : Option ℕ) → shown ≡ rooted → given ≡ sources → count ≡ n → IsTable rooted count (is_in rs) → IsTable sources count (is_in ss) → IsTable used n (is_in us)
+    → IsFirst (length shown) (λ net. is_marked shown net && ((not (is_marked given net) || marked_before shown net) || is_marked used net)) first
+    → IsFirst n (λ net. is_in rs net && ((not (is_in ss net) || list_any (λ other. nat_lt other net) rs) || is_in us net)) first
+roots_found rooted sources used shown given n count rs ss us first shown_is given_is count_is root_table source_table used_table found =
+    let Test : List Bool → List Bool → ℕ → Bool = λ cs is net. is_marked cs net && ((not (is_marked is net) || marked_before cs net) || is_marked used net) in
+    let there : IsFirst n (Test rooted sources) first = subst (λ m. IsFirst m (Test rooted sources) first) (root_table.fits ∙ count_is) (subst (λ is. IsFirst (length rooted) (Test rooted is) first) given_is (subst (λ cs. IsFirst (length cs) (Test cs given) first) shown_is found)) in
+    same_first (Test rooted sources) (λ net. is_in rs net && ((not (is_in ss net) || list_any (λ other. nat_lt other net) rs) || is_in us net)) n first (λ net lt.
+    ap (λ x. x && ((not (is_marked sources net) || marked_before rooted net) || is_marked used net)) (root_table.tells net (omega (arith, lt, count_is)))
+    ∙ (ap (λ x. is_in rs net && ((not x || marked_before rooted net) || is_marked used net)) (source_table.tells net (omega (arith, lt, count_is)))
+    ∙ (ap (λ x. is_in rs net && ((not (is_in ss net) || x) || is_marked used net)) (before_is rooted rs count net root_table (omega (arith, lt, count_is)))
+    ∙ ap (λ x. is_in rs net && ((not (is_in ss net) || list_any (λ other. nat_lt other net) rs) || x)) (used_table.tells net lt)))) there
+
+pub gates_found : (gated used unreached shown lost : List Bool) (n count : ℕ) (gs us : List ℕ) (test : ℕ → Bool) (first : Option ℕ) → shown ≡ gated → lost ≡ unreached → count ≡ n → IsTable gated n (is_in gs) → IsTable used n (is_in us) → IsTable unreached count test
+    → IsFirst (length shown) (λ net. is_marked shown net && (is_marked used net || is_marked lost net)) first → IsFirst n (λ net. is_in gs net && (is_in us net || test net)) first
+gates_found gated used unreached shown lost n count gs us test first shown_is lost_is count_is gate_table used_table lost_table found =
+    let Test : List Bool → List Bool → ℕ → Bool = λ cs ls net. is_marked cs net && (is_marked used net || is_marked ls net) in
+    let there : IsFirst n (Test gated unreached) first = subst (λ m. IsFirst m (Test gated unreached) first) gate_table.fits (subst (λ ls. IsFirst (length gated) (Test gated ls) first) lost_is (subst (λ cs. IsFirst (length cs) (Test cs lost) first) shown_is found)) in
+    same_first (Test gated unreached) (λ net. is_in gs net && (is_in us net || test net)) n first (λ net lt.
+    ap (λ x. x && (is_marked used net || is_marked unreached net)) (gate_table.tells net lt)
+    ∙ (ap (λ x. is_in gs net && (x || is_marked unreached net)) (used_table.tells net lt) ∙ ap (λ x. is_in gs net && (is_in us net || x)) (lost_table.tells net (omega (arith, lt, count_is))))) there
+
+-- one more mark behind others
+pub table_more : (marks more : List Bool) (n : ℕ) (test : ℕ → Bool) (b : Bool) → IsTable marks n test → b ≡ test n → more ≡ marks ++ b ∷ [] → IsTable more (n + 1) test
+table_more marks more n test b table is more_is =
+    subst (λ ms. IsTable ms (n + 1) test) (sym more_is) (record {
+      fits = length-append marks (b ∷ []) ∙ ap (λ m. m + 1) table.fits;
+      tells = λ net lt. elim (cases_lt net n) [
+        | inl below ↦ front marks net (omega (arith, below, table.fits)) ∙ table.tells net below
+        | inr above ↦ let here : net ≡ n = omega (arith, lt, above) in
+            let last : net ≡ length marks = omega (arith, here, table.fits) in
+            ap (is_marked (marks ++ b ∷ [])) last ∙ (end marks ∙ (is ∙ ap test (sym here)))
+      ];
+    })
+  where
+    front : (ms : List Bool) (net : ℕ) → net < length ms → is_marked (ms ++ b ∷ []) net ≡ is_marked ms net
+    front [] net lt = absurd (omega (arith, lt))
+    front (m ∷ ms) zero lt = refl
+    front (m ∷ ms) (suc net) lt = front ms net (omega (arith, lt))
+
+    end : (ms : List Bool) → is_marked (ms ++ b ∷ []) (length ms) ≡ b
+    end [] = refl
+    end (m ∷ ms) = end ms
+
+-- the tables of drivers and ranks, as marks
+pub is_graph_of : (n : ℕ) (drivers : List (Option ℕ)) (cells : List (LogicCell ℕ)) → AllByRecursion (CellWithin n) cells → length drivers ≡ n → ((net : ℕ) → net < n → entry drivers net ≡ driving_cell cells net) → IsGraph drivers cells
+is_graph_of n drivers cells within fits tells = record {
+  driving = λ net k is. omega (arith, first_within _ 0 cells k (sym (tells net (omega (arith, fits, entry_within drivers net k is))) ∙ is));
+  nets = λ k cell at. subst (λ m. All (λ net. net < m) cell.inputs) (sym fits) (from_recursion (λ net. net < n) cell.inputs (cell_at cells k cell within at).inputs);
+}
+  where
+    cell_at : (ks : List (LogicCell ℕ)) (k : ℕ) (cell : LogicCell ℕ) → AllByRecursion (CellWithin n) ks → slice_get ks k ≡ Some cell → CellWithin n cell
+    cell_at [] k cell all at = absurd (cc)
+    cell_at (c ∷ ks) zero cell all at = subst (CellWithin n) (same_Some c cell at) all.0
+    cell_at (c ∷ ks) (suc k) cell all at = cell_at ks k cell all.1 at
+
+entry_ranks : (cells : List (LogicCell ℕ)) (k : ℕ) → k < length cells → entry (ranks_of cells) k ≡ rank_of cells k
+entry_ranks cells k lt = sym (entry_or (ranks_of cells) k) ∙ get_or-map-range_with_len (rank_of cells) 0 (length cells) k k None lt (omega arith)
+
+pub ranked_under : (drivers ranks : List (Option ℕ)) (cells : List (LogicCell ℕ)) → IsGraph drivers cells → ranks ≡ ranks_of cells → (net k : ℕ) → entry drivers net ≡ Some k → k < length ranks
+ranked_under drivers ranks cells graph ranks_are net k is = omega (arith, graph.driving net k is, ap length ranks_are, length-map-range_with_len (rank_of cells) 0 (length cells))
+
+pub unranked_table : (n : ℕ) (marks : List Bool) (drivers ranks : List (Option ℕ)) (cells : List (LogicCell ℕ)) → IsGraph drivers cells → length drivers ≡ n → ((net : ℕ) → net < n → entry drivers net ≡ driving_cell cells net) → ranks ≡ ranks_of cells
+    → IsTable marks (length drivers) (λ net. option_map_or (λ k. is_none (entry ranks k)) (entry drivers net) false) → IsTable marks n (is_unranked cells)
+unranked_table n marks drivers ranks cells graph fits tells ranks_are table = record {
+  fits = table.fits ∙ fits;
+  tells = λ net lt. table.tells net (omega (arith, lt, fits)) ∙ (ap (λ rs. option_map_or (λ k. is_none (entry rs k)) (entry drivers net) false) ranks_are
+      ∙ (go net (entry drivers net) refl ∙ ap (λ o. option_map_or (λ k. is_none (rank_of cells k)) o false) (tells net lt)));
+}
+  where
+    go : (net : ℕ) (o : Option ℕ) → entry drivers net ≡ o → option_map_or (λ k. is_none (entry (ranks_of cells) k)) o false ≡ option_map_or (λ k. is_none (rank_of cells k)) o false
+    go net None is = refl
+    go net (Some k) is = ap (λ r. is_none r) (entry_ranks cells k (graph.driving net k is))
+
+-- the earlier of two first nets
+pub earlier_none : (n : ℕ) (test more : ℕ → Bool) → IsFirst n test None → IsFirst n more None → IsFirst n (λ net. test net || more net) None
+earlier_none n test more one other net lt = ap (λ b. b || more net) (one net lt) ∙ other net lt
+
+pub earlier_first : (n : ℕ) (test more : ℕ → Bool) (a : ℕ) (o : Option ℕ) → IsFirst n test (Some a) → IsFirst n more o → ((b : ℕ) → o ≡ Some b → a ≤ b) → IsFirst n (λ net. test net || more net) (Some a)
+earlier_first n test more a o one other first = (one.0, or_left (test a) (more a) one.1, λ net lt. ap (λ b. b || more net) (one.2 net lt) ∙ quiet o other first net lt)
+  where
+    quiet : (o : Option ℕ) → IsFirst n more o → ((b : ℕ) → o ≡ Some b → a ≤ b) → (net : ℕ) → net < a → more net ≡ false
+    quiet None other first net lt = other net (omega (arith, lt, one.0))
+    quiet (Some b) other first net lt = other.2 net (omega (arith, lt, first b refl))
+
+pub later_first : (n : ℕ) (test more : ℕ → Bool) (o : Option ℕ) (b : ℕ) → IsFirst n test o → IsFirst n more (Some b) → ((a : ℕ) → o ≡ Some a → b ≤ a) → IsFirst n (λ net. test net || more net) (Some b)
+later_first n test more o b one other first = (other.0, or_right (test b) (more b) other.1, λ net lt. ap (λ c. c || more net) (quiet o one first net lt) ∙ other.2 net lt)
+  where
+    quiet : (o : Option ℕ) → IsFirst n test o → ((a : ℕ) → o ≡ Some a → b ≤ a) → (net : ℕ) → net < b → test net ≡ false
+    quiet None one first net lt = one net (omega (arith, lt, other.0))
+    quiet (Some a) one first net lt = one.2 net (omega (arith, lt, first a refl))
+
+pub if_ok : {A E : Type 0} (r : Result A E) (P Q : A → Type 0) → ((x : A) → P x → Q x) → IfOk r P → IfOk r Q
+if_ok (Ok x) P Q f holds = f x holds
+if_ok (Err e) P Q f holds = tt
+
+pub chain_within : (n : ℕ) (gs : List (GatingCell ℕ)) → AllByRecursion (GaterWithin n) gs → AllByRecursion (CellWithin n) (chain gs)
+chain_within n [] all = tt
+chain_within n (g ∷ gs) all = (record { inputs = (all.0.clock, tt); output = all.0.output }, chain_within n gs all.1)

@@ -1,0 +1,30 @@
+-- What looking for faults finds, by the numbers of nets.
+use Rattle.std.specs.Prelude.{◌≡◌, ◌⊎◌, ℕ, nat_eq, nat_lt, Bool, false, ◌&&◌, ◌||◌, List, [], ◌∷◌, map, length, Option, None, Some, is_none, Result, MatchResult}
+use Rattle.std.specs.Option.{option_map_or}
+use Rattle.cg_netlist.specs.declared.fault.NetFault.{NetFault}
+use Rattle.cg_netlist.specs.declared.fault.NetFault.TheVariants.{NoMemory}
+use Rattle.cg_netlist.specs.declared.parts.LogicFunction.TheVariants.{Cell}
+use Rattle.cg_netlist.specs.Circuit.{GatingCell, LogicCell}
+use Rattle.cg_netlist.specs.Marks.{IsFirst}
+use Rattle.cg_netlist.specs.Ranks.{driving_cell, rank_of}
+use Rattle.cg_netlist.specs.inner.Numbers.{Numbers, rooted}
+use Rattle.cg_netlist.specs.said.Wiring.{NetName, net_name}
+
+-- a gating cell as a cell over its clock pin alone
+abbrev pub chain_cell : GatingCell ℕ → LogicCell ℕ
+chain_cell gater = record { inputs = gater.clock ∷ []; output = gater.output; function = Cell gater.cell }
+
+abbrev pub chain : List (GatingCell ℕ) → List (LogicCell ℕ)
+chain gaters = map chain_cell gaters
+
+-- a net is the output of a cell without a rank
+abbrev pub is_unranked : List (LogicCell ℕ) → ℕ → Bool
+is_unranked cells net = option_map_or (λ k. is_none (rank_of cells k)) (driving_cell cells net) false
+
+-- there is a register or a gating cell, and no place where the clock may come from
+abbrev pub has_no_clock : Numbers → Bool
+has_no_clock n = nat_eq (length (rooted n)) 0 && (nat_lt 0 (length n.registers) || nat_lt 0 (length n.gaters))
+
+-- of the nets that fail a test the first is answered with its fault, or none where none fails, or want of memory
+abbrev pub IsChecked : Numbers → (NetName → NetFault) → (ℕ → Bool) → Result (Unit {0}) NetFault → Type 0
+IsChecked n fault test result = MatchResult result (λ _. IsFirst (length n.names) test None) (λ found. (found ≡ NoMemory) ⊎ ((net : ℕ) × (found ≡ fault (net_name n.names net)) × IsFirst (length n.names) test (Some net)))

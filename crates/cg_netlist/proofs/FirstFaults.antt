@@ -63,11 +63,16 @@ module _ (parts : List Part) (n : Numbers) (ok : AreNumbers n) (same : said part
 
     pub no_clock_fault : IsFirst (length n.names) (is_bad_clock n) None → has_no_clock n ≡ true → IsFault parts NoClock
     no_clock_fault d lacks =
-        let both = and_parts (nat_eq (length (rooted n)) 0) (nat_lt 0 (length n.registers) || nat_lt 0 (length n.gaters)) lacks in
-        (once a, driven a b, ending, proper d, clockless_if parts n ok same (no_places (rooted n) both.0) (λ none. elim (or_cases (nat_lt 0 (length n.registers)) (nat_lt 0 (length n.gaters)) both.1) [
-          | inl register ↦ (let some : 0 < length n.registers = ltb-true 0 (length n.registers) register in let bad : ⊥ = omega (arith, some, ap length none.0) in bad)
-          | inr gater ↦ (let some : 0 < length n.gaters = ltb-true 0 (length n.gaters) gater in let bad : ⊥ = omega (arith, some, ap length none.1) in bad)
-        ]))
+        let both = and_parts (nat_eq (length (rooted n)) 0) (nat_lt 0 (length n.registers) || nat_lt 0 (length n.gaters)) lacks in (
+          once a,
+          driven a b,
+          ending,
+          proper d,
+          clockless_if parts n ok same (no_places (rooted n) both.0) (λ none. elim (or_cases (nat_lt 0 (length n.registers)) (nat_lt 0 (length n.gaters)) both.1) [
+            | inl register ↦ (let some : 0 < length n.registers = ltb-true 0 (length n.registers) register in let bad : ⊥ = omega (arith, some, ap length none.0) in bad)
+            | inr gater ↦ (let some : 0 < length n.gaters = ltb-true 0 (length n.gaters) gater in let bad : ⊥ = omega (arith, some, ap length none.1) in bad)
+          ]),
+        )
 
     pub no_fault_left : IsFirst (length n.names) (is_bad_clock n) None → has_no_clock n ≡ false → IsFaultless parts
     no_fault_left d has = record {

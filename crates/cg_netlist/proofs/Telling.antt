@@ -45,8 +45,12 @@ pub register_fails : (n : Numbers) (r : RegisterCell NetName (Option NetName)) (
 unfolding Fails
 register_fails n r fault (inl mention) = mention_fails n (Register r) fault (λ s. refl) mention
 register_fails n r fault (inr (is, few, full)) =
-    inr (Registers, is, registers_passed (with_part (seen n) (Register r)) few
-    (omega (arith, full, length-map n.registers (map_open (net_name n.names)), length_push (map (map_open (net_name n.names)) n.registers) r)))
+    inr (
+      Registers,
+      is,
+      registers_passed (with_part (seen n) (Register r)) few
+          (omega (arith, full, length-map n.registers (map_open (net_name n.names)), length_push (map (map_open (net_name n.names)) n.registers) r)),
+    )
 
 -- what a call that says a part does
 pub record Told (model : NetName) (n next : Numbers) (old refused : Option AddFault) (part : Part) (result : Result (Unit {0}) AddFault) : Type 0 where
@@ -61,8 +65,8 @@ telling model n next old refused part (Ok tt) result invariant is none answers n
     let P : Option AddFault → Option AddFault → Type 0 = λ o r. Takes (built model n o) part (built model next r) (Ok tt) in
     let none_now : refused ≡ None = notes ∙ none in
     let few : limit_of (with_part (seen n) part) ≡ None = none_passed (with_part (seen n) part)
-        (omega (arith, hears.few_nets, ap (λ s. length s.nets) hears.said_is))
-        (omega (arith, hears.few_registers, ap (λ s. length s.registers) hears.said_is, length-map next.registers (map_open (net_name next.names)))) in
+    (omega (arith, hears.few_nets, ap (λ s. length s.nets) hears.said_is))
+    (omega (arith, hears.few_registers, ap (λ s. length s.registers) hears.said_is, length-map next.registers (map_open (net_name next.names)))) in
     let done : P None None = record {
       answers = subst (λ o. IsAnswer None o (Ok tt)) (sym few) (inl refl);
       takes = ap (λ s. record { model = model; said = s; refused = None }) hears.said_is;

@@ -17,15 +17,16 @@ ghost use Rattle.cg_netlist.specs.said.Wiring.{net_name};
 
 use crate::draft_nets::driving_cells;
 use crate::fault::NetFault;
-use crate::told::{Told, chain_cells, clock_roots, gated_marks, order, uses};
 use crate::id::NetId;
 use crate::marks::{
-    earlier, first_bad_clock, first_bad_gate, first_marked, first_undriven, marks, repeated, unranked,
+    earlier, first_bad_clock, first_bad_gate, first_marked, first_undriven, marks, repeated,
+    unranked,
 };
 use crate::netlist::Netlist;
 use crate::order::in_net_order;
 use crate::parts::Logic;
 use crate::ranks::ranks;
+use crate::told::{Told, chain_cells, clock_roots, gated_marks, order, uses};
 use cg_cell::name::Name;
 use std::alloc::{AllocError, Global};
 
@@ -118,12 +119,7 @@ fn check_drivers(alloc: Global, told: &Told, drivers: &[NetId]) -> Result<(), Ne
 }
 
 /// Looks for a net that is used and not driven.
-fn check_uses(
-    alloc: Global,
-    told: &Told,
-    drivers: &[NetId],
-    used: &[bool],
-) -> Result<(), NetFault>
+fn check_uses(alloc: Global, told: &Told, drivers: &[NetId], used: &[bool]) -> Result<(), NetFault>
     requires numbers { AreNumbers told.now }
     requires named { All (λ name. IsTrue (is_name name)) told.now.names }
     requires drivers { drivers.now ≡ driving told.now }
@@ -173,12 +169,7 @@ fn unranked_marks(alloc: Global, count: usize, cells: &[Logic]) -> Result<Vec<bo
 }
 
 /// Looks for a net that carries the clock, and may not.
-fn check_clocks(
-    alloc: Global,
-    told: &Told,
-    roots: &[NetId],
-    used: &[bool],
-) -> Result<(), NetFault>
+fn check_clocks(alloc: Global, told: &Told, roots: &[NetId], used: &[bool]) -> Result<(), NetFault>
     requires numbers { AreNumbers told.now }
     requires named { All (λ name. IsTrue (is_name name)) told.now.names }
     requires roots { roots.now ≡ rooted told.now }

@@ -18,7 +18,9 @@
 //! - `ranks`: how deep each logic cell lies under the registers and inputs, and which ones lie on a cycle.
 //! - `draft_nets`: the nets of a draft, listed by what they are to it.
 //! - `renumber`: the parts of a draft with their nets numbered in net order.
-//! - `finish`: the faults of a draft, in order, and else its netlist.
+//! - `order`: the places of the nets in net order.
+//! - `told`: the parts that a builder was told, with their nets in net order.
+//! - `finish`: the faults of what was built, in order.
 //! - `view`: what a netlist shows of one of its parts.
 //! - `netlist`: well-formed netlists, and what they answer.
 //! - `part_laws`: what is true of parts by name, of their faults, and of the netlists that they say.
@@ -31,8 +33,8 @@ pub mod builder;
 pub mod draft_builder;
 mod draft_finish;
 mod draft_nets;
-mod finish;
 pub mod fault;
+mod finish;
 pub mod history;
 pub mod id;
 mod marks;
@@ -40,9 +42,9 @@ mod mention;
 mod names;
 mod net_set;
 pub mod netlist;
+mod order;
 pub mod part_laws;
 pub mod parts;
-mod order;
 mod ranks;
 mod renumber;
 #[cfg(test)]

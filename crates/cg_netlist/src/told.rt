@@ -41,11 +41,7 @@ impl Model for Told {
 }
 
 /// The inputs, these clocks that are no inputs, and the outputs of logic cells, of gating cells and of registers.
-pub(crate) fn order(
-    alloc: Global,
-    told: &Told,
-    clocks: &[NetId],
-) -> Result<Vec<NetId>, AllocError>
+pub(crate) fn order(alloc: Global, told: &Told, clocks: &[NetId]) -> Result<Vec<NetId>, AllocError>
     requires numbered { AreNumbers told.now }
     requires clocks { AllByRecursion (λ net. net < length told.now.names) clocks.now }
     ensures { IfOk result (λ nets. nets.items ≡ drivers_by nat_eq told.now.inputs clocks.now told.now.cells told.now.gaters told.now.registers) }
@@ -127,11 +123,7 @@ fn chain_cell(alloc: Global, gater: &Gater) -> Result<Logic, AllocError>
 }
 
 /// Puts the nets that have no mark behind the others.
-fn add_unmarked(
-    nets: &mut Vec<NetId>,
-    marks: &[bool],
-    more: &[NetId],
-) -> Result<(), AllocError>
+fn add_unmarked(nets: &mut Vec<NetId>, marks: &[bool], more: &[NetId]) -> Result<(), AllocError>
     requires { All (λ net. net < length marks.now) more.now }
     ensures { OnOk result (nets.new.items ≡ nets.old.items ++ filter (λ net. not (is_marked marks.now net)) more.now) }
 {
@@ -204,10 +196,7 @@ fn add_asked(nets: &mut Vec<NetId>, gaters: &[Gater]) -> Result<(), AllocError>
 }
 
 /// Puts the inputs of registers behind the nets.
-fn add_register_inputs(
-    nets: &mut Vec<NetId>,
-    registers: &[OpenRegister],
-) -> Result<(), AllocError>
+fn add_register_inputs(nets: &mut Vec<NetId>, registers: &[OpenRegister]) -> Result<(), AllocError>
     ensures { OnOk result (nets.new.items ≡ nets.old.items ++ flat_map (λ register. register.inputs) registers.now) }
 {
     for register in registers {
@@ -217,10 +206,7 @@ fn add_register_inputs(
 }
 
 /// Puts the outputs of registers behind the nets.
-fn add_register_outputs(
-    nets: &mut Vec<NetId>,
-    registers: &[OpenRegister],
-) -> Result<(), AllocError>
+fn add_register_outputs(nets: &mut Vec<NetId>, registers: &[OpenRegister]) -> Result<(), AllocError>
     ensures { OnOk result (nets.new.items ≡ nets.old.items ++ driven_by_registers registers.now) }
 {
     for register in registers {
@@ -240,10 +226,7 @@ fn add_outputs(nets: &mut Vec<NetId>, outputs: &[(NetId, bool)]) -> Result<(), A
 }
 
 /// Puts the nets at named clock pins of registers behind the nets.
-fn add_register_clocks(
-    nets: &mut Vec<NetId>,
-    registers: &[OpenRegister],
-) -> Result<(), AllocError>
+fn add_register_clocks(nets: &mut Vec<NetId>, registers: &[OpenRegister]) -> Result<(), AllocError>
     ensures { OnOk result (nets.new.items ≡ nets.old.items ++ flat_map (λ register. option_to_list register.clock) registers.now) }
 {
     for register in registers {

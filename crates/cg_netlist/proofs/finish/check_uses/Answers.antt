@@ -23,5 +23,9 @@ returns-in-None c =
 pub returns-in-Ok-name_of : goal.returns-in-Ok-name_of
 returns-in-Ok-name_of c =
     let n = c.args.told.now in
-    inr (c.in-Some.net, ap (λ m. NoDriver m) c.in-Ok-name_of.ensures, subst (λ ds. IsFirst (length n.names) (λ net. is_in (used n) net && not (is_in ds net)) (Some c.in-Some.net)) c.requires.drivers
-    (undriven_found c.args.used.now c.in-Ok.driven.items c.deref.result.now (length n.names) c.len.result (used n) c.args.drivers.now (Some c.in-Some.net) c.deref.ensures.value (c.len.ensures.count ∙ ap (λ d. length d.names) c.told.view_is) c.requires.used c.in-Ok.ensures c.in-Some.ensures))
+    inr (
+      c.in-Some.net,
+      ap (λ m. NoDriver m) c.in-Ok-name_of.ensures,
+      subst (λ ds. IsFirst (length n.names) (λ net. is_in (used n) net && not (is_in ds net)) (Some c.in-Some.net)) c.requires.drivers
+          (undriven_found c.args.used.now c.in-Ok.driven.items c.deref.result.now (length n.names) c.len.result (used n) c.args.drivers.now (Some c.in-Some.net) c.deref.ensures.value (c.len.ensures.count ∙ ap (λ d. length d.names) c.told.view_is) c.requires.used c.in-Ok.ensures c.in-Some.ensures),
+    )

@@ -3,6 +3,6 @@ pub mod Members
 pub mod TrueLiterals
 mod ReadingOn
 pub mod TokenSpelling
-mod DimacsExact
+pub mod DimacsExact
 pub mod Pushed
 pub mod DimacsWritten

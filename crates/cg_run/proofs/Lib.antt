@@ -10,3 +10,4 @@ pub mod Voice
 pub mod Named
 pub mod Finished
 pub mod Steps
+pub mod Unbegun

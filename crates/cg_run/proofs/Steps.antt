@@ -1,5 +1,7 @@
 -- What files come to, step by step: where a mode comes to an output, each file was loaded and taken.
-use Rattle.std.proofs.Common.{◌≡◌, ℕ, List, [], ◌∷◌, Option, None, Some, Result, Ok, Err, refl, sym, ap, subst}
+use Rattle.std.specs.Str.{bytes_eq}
+use Rattle.std.proofs.lemmas.Slice.Eq.{bytes_eq-Decides}
+use Rattle.std.proofs.Common.{◌≡◌, ℕ, true, List, [], ◌∷◌, Option, None, Some, Result, Ok, Err, refl, sym, ap, subst}
 use Rattle.cg_shelf.specs.declared.faults.LoadFault.{LoadFault}
 use Rattle.cg_shelf.specs.declared.faults.LoadFault.TheVariants as loads
 use Rattle.cg_run.specs.declared.output.Output.{Output}
@@ -7,6 +9,7 @@ use Rattle.cg_run.specs.declared.refusal.Refusal.{Refusal}
 use Rattle.cg_run.specs.declared.refusal.Trouble.{Trouble}
 use Rattle.cg_run.specs.declared.role.Role.{Role}
 use Rattle.cg_run.specs.Reads.{Agrees}
+use Rattle.cg_run.specs.Writes.{put}
 use Rattle.cg_run.specs.Verdict.{Given, Loaded, found_as, taken, troubled, verdict, ◌>>=◌}
 
 ok_bind : {A B : Type 0} (v : Result A Refusal) (next : A → Result B Refusal) (y : B) → (v >>= next) ≡ Ok y → (x : A) × (v ≡ Ok x) × (next x ≡ Ok y)
@@ -49,3 +52,7 @@ held_so held loaded bytes agrees is = let A : Loaded → Type 0 = λ g. Agrees h
 pub found_ok : {A B E : Type 0} (make : A → B) (r : Result A E) (y : B) → found_as make r ≡ Ok y → (x : A) × (r ≡ Ok x) × (make x ≡ y)
 found_ok make (Ok found) y h = (found, refl, cc)
 found_ok make (Err fault) y h = cc
+
+-- what is put under a name stands there
+pub put_here : (held : List ℕ → Option (List ℕ)) (name bytes : List ℕ) → put held name bytes name ≡ Some bytes
+put_here held name bytes = let same : bytes_eq name name ≡ true = (bytes_eq-Decides name name).1 refl in rw same refl

@@ -1,10 +1,4 @@
-pub mod Parts
-pub mod ReadingHalf
-pub mod Attempting
-pub mod Ending
-pub mod Promises
-pub mod Gating
-pub mod Clauses
+pub mod LratMeans
 pub mod RowLemmas
 pub mod WritingLemmas
 pub mod PinLemmas
@@ -30,6 +24,9 @@ pub mod SaysDraft
 pub mod SaidDraft
 pub mod PlainReading
 pub mod PlainSaid
-pub mod Taken
 pub mod PlainWritable
 pub mod WrittenText
+pub mod SaidPlain
+pub mod GateMeans
+pub mod WordsRead
+pub mod Program

@@ -1,30 +1,66 @@
--- What `gate` puts out.
-use Rattle.std.specs.Prelude.{◌≡◌, ℕ, Bool, List, [], ◌∷◌, ◌++◌, codes, None, Some, Result, Ok}
+-- What `gate` makes of a library and a netlist, and what that means.
+use Rattle.std.specs.Prelude.{◌≡◌, ℕ, ◌+◌, Bool, List, [], ◌∷◌, ◌++◌, length, codes, decimal, Option, None, Some, Result, Ok, Err, IsSomeAnd}
+use Rattle.cg_cell.specs.Cell.{CellData}
+use Rattle.cg_liberty.specs.LibText.{LibText}
+use Rattle.cg_liberty.specs.Library.{library_of}
+use Rattle.cg_liberty.specs.declared.fault.LibertyFault.{LibertyFault}
+use Rattle.cg_liberty.specs.declared.fault.LibertyFault.TheVariants as liberty_faults
 use Rattle.cg_netlist.specs.BlifText.{BlifText}
-use Rattle.cg_netlist.specs.Canonical.{blif}
-use Rattle.cg_netlist.specs.Circuit.{Circuit}
+use Rattle.cg_netlist.specs.Canonical.{blif, net_names}
+use Rattle.cg_netlist.specs.Circuit.{Circuit, data_inputs}
 use Rattle.cg_netlist.specs.History.{HasHistory, HasOneHistory, IsLawful, IsStart, IsWaveform, Moment, Tick, outputs_of}
 use Rattle.cg_netlist.specs.PlainText.{PlainText}
 use Rattle.cg_netlist.specs.WellFormed.{IsWellFormed}
+use Rattle.cg_netlist.specs.declared.fault.NetFault.{NetFault}
+use Rattle.cg_netlist.specs.declared.fault.NetFault.TheVariants as net_faults
+use Rattle.cg_run.specs.Verdict.{Task, found_as, task_of}
+use Rattle.cg_run.specs.declared.output.Finish.{Finish}
+use Rattle.cg_run.specs.declared.output.Finish.TheVariants as finishes
+use Rattle.cg_run.specs.declared.output.Output.{Output}
+use Rattle.cg_run.specs.declared.refusal.Owner.TheVariants as owners
+use Rattle.cg_run.specs.declared.refusal.Trouble.{Trouble}
+use Rattle.cg_run.specs.declared.refusal.Trouble.TheVariants as troubles
+use Rattle.cg_run.specs.declared.role.Role.{Role}
+use Rattle.cg_run.specs.declared.role.Role.TheVariants as roles
+use Rattle.cg_shelf.specs.World.{World}
 use Rattle.cg_tool.specs.Drafting.{netlist_said}
-use Rattle.cg_tool.specs.Refusal.{refused_as, ◌>>=◌}
+use Rattle.cg_tool.specs.Refused.{refused_as}
 use Rattle.cg_tool.specs.declared.cg_blif.fault.BlifFault.{BlifFault}
 use Rattle.cg_tool.specs.declared.cg_blif.fault.BlifFault.TheVariants as blif_faults
-use Rattle.cg_tool.specs.declared.output.Finish.TheVariants as finishes
-use Rattle.cg_tool.specs.declared.output.Output.{Output}
-use Rattle.cg_tool.specs.declared.refusal.Refusal.{Refusal}
-use Rattle.cg_tool.specs.declared.refusal.Refusal.TheVariants as refusals
-use Rattle.cg_tool.specs.declared.refusal.Step.TheVariants.{Reading}
+use Rattle.cg_tool.specs.declared.modes.gate.Gate.{Gate}
 
--- why a netlist's text is refused
-abbrev pub netlist_refusal : BlifFault → Refusal
-netlist_refusal (blif_faults.BadLine line) = refusals.Netlist
-netlist_refusal (blif_faults.BadCover line) = refusals.Netlist
-netlist_refusal (blif_faults.BadLatch line) = refusals.Netlist
-netlist_refusal (blif_faults.SecondModel line) = refusals.Netlist
-netlist_refusal (blif_faults.Net fault) = refusals.Netlist
-netlist_refusal (blif_faults.Limit limit) = refusals.Limit limit
-netlist_refusal blif_faults.NoMemory = refusals.NoMemory Reading
+-- why a netlist or a library is refused, as its complaint says it
+abbrev pub net_trouble : NetFault → Trouble
+net_trouble (net_faults.TwoDrivers net) = troubles.Content (record { owner = owners.Netlist; text = codes "netlist: two drivers " ++ net })
+net_trouble (net_faults.NoDriver net) = troubles.Content (record { owner = owners.Netlist; text = codes "netlist: no driver " ++ net })
+net_trouble (net_faults.Cycle net) = troubles.Content (record { owner = owners.Netlist; text = codes "netlist: cycle " ++ net })
+net_trouble (net_faults.ClockFault net) = troubles.Content (record { owner = owners.Netlist; text = codes "netlist: clock fault " ++ net })
+net_trouble net_faults.NoClock = troubles.Content (record { owner = owners.Netlist; text = codes "netlist: no clock" })
+net_trouble net_faults.NoMemory = troubles.NoMemory
+
+abbrev pub netlist_trouble : BlifFault → Trouble
+netlist_trouble (blif_faults.BadLine line) = troubles.Content (record { owner = owners.Netlist; text = codes "netlist: bad line " ++ decimal line })
+netlist_trouble (blif_faults.BadCover line) = troubles.Content (record { owner = owners.Netlist; text = codes "netlist: bad cover " ++ decimal line })
+netlist_trouble (blif_faults.BadLatch line) = troubles.Content (record { owner = owners.Netlist; text = codes "netlist: bad latch " ++ decimal line })
+netlist_trouble (blif_faults.SecondModel line) = troubles.Content (record { owner = owners.Netlist; text = codes "netlist: second model " ++ decimal line })
+netlist_trouble (blif_faults.Net fault) = net_trouble fault
+netlist_trouble (blif_faults.Limit limit) = troubles.Limit limit
+netlist_trouble blif_faults.NoMemory = troubles.NoMemory
+
+abbrev pub library_trouble : LibertyFault → Trouble
+library_trouble (liberty_faults.BadToken at) = troubles.Content (record { owner = owners.Library; text = codes "library: bad token " ++ decimal at })
+library_trouble (liberty_faults.BadGroup at) = troubles.Content (record { owner = owners.Library; text = codes "library: bad group " ++ decimal at })
+library_trouble (liberty_faults.BadExpr cell at) = troubles.Content (record { owner = owners.Library; text = codes "library: bad expression " ++ cell ++ 32 ∷ [] ++ decimal at })
+library_trouble (liberty_faults.TwoCells cell) = troubles.Content (record { owner = owners.Library; text = codes "library: two cells " ++ cell })
+library_trouble (liberty_faults.Limit limit) = troubles.Limit limit
+library_trouble liberty_faults.NoMemory = troubles.NoMemory
+
+-- the library and the netlist that texts are read as, or why the texts are refused
+abbrev pub library_found : List ℕ → Result (List CellData) Trouble
+library_found text = refused_as library_trouble (library_of text)
+
+abbrev pub netlist_found : List ℕ → Result Circuit Trouble
+netlist_found text = refused_as netlist_trouble (netlist_said text)
 
 -- what is said of so many stages that were tried and inserted
 abbrev pub stages_text : List ℕ
@@ -32,33 +68,60 @@ stages_text = codes "stages 0 inserted 0" ++ 10 ∷ []
 
 -- what `gate` puts out of a netlist: no stage is tried yet, and the netlist is written as it was read
 abbrev pub gated : Circuit → Output
-gated netlist = record { stored = Some (blif netlist); said = stages_text; finish = finishes.Done }
+gated netlist = record { stores = record { role = roles.Out; bytes = blif netlist } ∷ []; said = stages_text; finish = finishes.Done }
 
--- the netlist that a text is read as, or why the text is refused
-abbrev pub netlist_of_text : List ℕ → Result Circuit Refusal
-netlist_of_text text = refused_as netlist_refusal (netlist_said text)
+-- the mode: it takes a library, takes a netlist, and gives the gated netlist
+abbrev pub gate_takes : Gate → Role → List ℕ → Result Gate Trouble
+gate_takes state roles.Library text = found_as (λ library. record { library = Some library; netlist = state.netlist }) (library_found text)
+gate_takes state roles.Netlist text = found_as (λ netlist. record { library = state.library; netlist = Some netlist }) (netlist_found text)
+gate_takes state role text = Ok state
 
--- what `gate` puts out of a text, or why the text is refused
-abbrev pub gate_output : List ℕ → Result Output Refusal
-gate_output text = netlist_of_text text >>= λ netlist. Ok (gated netlist)
+abbrev pub given_output : Option Circuit → Result Output Trouble
+given_output None = Err troubles.NoMemory
+given_output (Some netlist) = Ok (gated netlist)
 
--- Two netlists behave alike: from every start of the first's registers and over every waveform that begins with the
--- clock low, the lawful histories of both have the same outputs at every moment.
-abbrev pub SameOutputs : Circuit → Circuit → Type 0
-SameOutputs read written = (start : List Bool) (wave : List Tick) → IsStart read start → IsWaveform read wave
-    → (history gated : List Moment) → IsLawful read start wave history → IsLawful written start wave gated → outputs_of read history ≡ outputs_of written gated
+abbrev pub gate_gives : Gate → Result Output Trouble
+gate_gives state = given_output state.netlist
 
--- What `gate` puts out of a text: the text is in the plain form and says a well-formed netlist, which has exactly one
--- lawful history for each start and waveform. What is stored is the canonical text of a well-formed netlist, is a BLIF text
--- that says it, and this netlist behaves as the one that was read.
-pub record Gates (text : List ℕ) (output : Output) : Type 0 where
+abbrev pub gate_start : Gate
+gate_start = record { library = None; netlist = None }
+
+-- what a run of `gate` does: the library is loaded and read, then the netlist
+abbrev pub gate_task : Task
+gate_task = task_of gate_takes gate_gives gate_start (roles.Library ∷ roles.Netlist ∷ [])
+
+-- A written netlist behaves as the one that was read. It has the registers of that one and the added ones, which start as
+-- told, and the same data inputs and outputs by their names. From each start of the registers and over each waveform that
+-- begins with the clock low it has exactly one lawful history, and at every moment its outputs are those of the netlist
+-- that was read.
+pub record Behaves (added : List Bool) (read written : Circuit) : Type 0 where
+  pub registers : length written.registers ≡ length read.registers + length added
+  pub inputs : net_names written.names (data_inputs written) ≡ net_names read.names (data_inputs read)
+  pub outputs : net_names written.names written.outputs ≡ net_names read.names read.outputs
+  pub starts : (start : List Bool) → IsStart read start → IsStart written (start ++ added)
+  pub waves : (wave : List Tick) → IsWaveform read wave → IsWaveform written wave
+  pub some : (start : List Bool) (wave : List Tick) → IsStart read start → IsWaveform read wave → (history : List Moment) × IsLawful written (start ++ added) wave history
+  pub one : HasOneHistory written
+  pub same : (start : List Bool) (wave : List Tick) → IsStart read start → IsWaveform read wave → (history gated : List Moment) → IsLawful read start wave history → IsLawful written (start ++ added) wave gated → outputs_of read history ≡ outputs_of written gated
+
+-- A netlist was gated: the bytes under LIB are a text that stands for a library, and those under NETLIST are a BLIF text, in
+-- the plain form, that says a well-formed netlist, which has exactly one lawful history for each start and waveform. OUT
+-- holds the canonical text of the written netlist, which is a BLIF text that says it. The written netlist is the one that
+-- was read, since no stage is tried yet, and so it behaves as that one.
+pub record IsGated (names : Role → List ℕ) (before after : World) (finish : Finish) : Type 0 where
+  pub library : List CellData
   pub read : Circuit
   pub written : Circuit
-  pub says : PlainText text read
+  pub cells : IsSomeAnd (before.held (names roles.Library)) (λ text. LibText text library)
+  pub says : IsSomeAnd (before.held (names roles.Netlist)) (λ text. BlifText text [] None read)
+  pub plain : IsSomeAnd (before.held (names roles.Netlist)) (λ text. PlainText text read)
   pub read_well_formed : IsWellFormed read
-  pub written_well_formed : IsWellFormed written
   pub some : HasHistory read
   pub one : HasOneHistory read
-  pub is : output ≡ gated written
+  pub is : written ≡ read
+  pub written_well_formed : IsWellFormed written
+  pub stored : after.held (names roles.Out) ≡ Some (blif written)
   pub writes : BlifText (blif written) [] None written
-  pub same : SameOutputs read written
+  pub behaves : Behaves [] read written
+  pub said : after.said ≡ before.said ++ stages_text
+  pub ends : finish ≡ finishes.Done

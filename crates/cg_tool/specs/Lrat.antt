@@ -1,28 +1,33 @@
--- What `lrat` says.
-use Rattle.std.specs.Prelude.{◌≡◌, ℕ, List, [], ◌∷◌, ◌++◌, codes, decimal, None, Result}
+-- What `lrat` makes of a formula and a log, what it says, and what that means.
+use Rattle.std.specs.Prelude.{◌≡◌, ℕ, List, [], ◌∷◌, ◌++◌, codes, decimal, Result, Ok, Err, IsSomeAnd}
+use Rattle.cg_formula.specs.DimacsReading.{dimacs}
+use Rattle.cg_formula.specs.DimacsText.{DimacsText}
+use Rattle.cg_formula.specs.Satisfiable.{IsUnsatisfiable}
+use Rattle.cg_formula.specs.declared.dimacs.DimacsFault.{DimacsFault}
+use Rattle.cg_formula.specs.declared.dimacs.DimacsFault.TheVariants as dimacs_faults
 use Rattle.cg_formula.specs.declared.formula.Formula.{Formula}
+use Rattle.cg_lrat.specs.Accepted.{verdict}
+use Rattle.cg_lrat.specs.LratReading.{lrat}
+use Rattle.cg_lrat.specs.LratText.{LratText}
 use Rattle.cg_lrat.specs.declared.log.Log.{Log}
+use Rattle.cg_lrat.specs.declared.lrat.LratFault.{LratFault}
+use Rattle.cg_lrat.specs.declared.lrat.LratFault.TheVariants as lrat_faults
 use Rattle.cg_lrat.specs.declared.verdict.Verdict.{Verdict}
 use Rattle.cg_lrat.specs.declared.verdict.Verdict.TheVariants.{Accepted, Rejected}
 use Rattle.cg_lrat.specs.declared.verdict.Why.{Why}
 use Rattle.cg_lrat.specs.declared.verdict.Why.TheVariants.{UsedId, UnknownId, Tautology, NotUnit, NotFalse, NoHint, NoEmpty}
-use Rattle.cg_tool.specs.declared.output.Output.{Output}
-use Rattle.cg_tool.specs.declared.refusal.Refusal.{Refusal}
-use Rattle.cg_tool.specs.declared.refusal.Refusal.TheVariants as refusals
-use Rattle.cg_lrat.specs.Accepted.{verdict}
-use Rattle.cg_formula.specs.DimacsReading.{dimacs}
-use Rattle.cg_formula.specs.DimacsText.{DimacsText}
-use Rattle.cg_lrat.specs.LratReading.{lrat}
-use Rattle.cg_lrat.specs.LratText.{LratText}
-use Rattle.cg_formula.specs.Satisfiable.{IsUnsatisfiable}
-use Rattle.cg_formula.specs.declared.dimacs.DimacsFault.{DimacsFault}
-use Rattle.cg_formula.specs.declared.dimacs.DimacsFault.TheVariants as dimacs_faults
-use Rattle.cg_lrat.specs.declared.lrat.LratFault.{LratFault}
-use Rattle.cg_lrat.specs.declared.lrat.LratFault.TheVariants as lrat_faults
-use Rattle.cg_tool.specs.declared.refusal.Step.TheVariants.{Reading}
-use Rattle.cg_tool.specs.Refusal.{refused_as}
-use Rattle.cg_tool.specs.declared.output.Finish.{Finish}
-use Rattle.cg_tool.specs.declared.output.Finish.TheVariants as finishes
+use Rattle.cg_run.specs.Verdict.{Task, found_as, task_of}
+use Rattle.cg_run.specs.declared.output.Finish.{Finish}
+use Rattle.cg_run.specs.declared.output.Finish.TheVariants as finishes
+use Rattle.cg_run.specs.declared.output.Output.{Output}
+use Rattle.cg_run.specs.declared.refusal.Owner.TheVariants as owners
+use Rattle.cg_run.specs.declared.refusal.Trouble.{Trouble}
+use Rattle.cg_run.specs.declared.refusal.Trouble.TheVariants as troubles
+use Rattle.cg_run.specs.declared.role.Role.{Role}
+use Rattle.cg_run.specs.declared.role.Role.TheVariants as roles
+use Rattle.cg_shelf.specs.World.{World}
+use Rattle.cg_tool.specs.Refused.{refused_as}
+use Rattle.cg_tool.specs.declared.modes.lrat.Lrat.{Lrat}
 
 -- what is said of the cause why a proof is rejected
 abbrev pub cause_text : Why → List ℕ
@@ -39,44 +44,56 @@ abbrev pub check_text : Verdict → List ℕ
 check_text Accepted = codes "accepted" ++ 10 ∷ []
 check_text (Rejected line why) = codes "rejected line " ++ decimal line ++ 32 ∷ [] ++ cause_text why ++ 10 ∷ []
 
--- how a job ends that checked
+-- how a run ends that checked
 abbrev pub check_finish : Verdict → Finish
 check_finish Accepted = finishes.Done
 check_finish (Rejected line why) = finishes.Rejected
 
 -- what a check puts out: it stores nothing, and says what came out
 abbrev pub check_output : Verdict → Output
-check_output v = record { stored = None; said = check_text v; finish = check_finish v }
+check_output v = record { stores = []; said = check_text v; finish = check_finish v }
 
--- why a formula's text is refused
-abbrev pub formula_refusal : DimacsFault → Refusal
-formula_refusal dimacs_faults.BadHeader = refusals.BadHeader
-formula_refusal (dimacs_faults.BadClause line) = refusals.BadClause line
-formula_refusal (dimacs_faults.Limit limit) = refusals.Limit limit
-formula_refusal dimacs_faults.NoMemory = refusals.NoMemory Reading
+-- why a formula's text and a log's text are refused
+abbrev pub formula_trouble : DimacsFault → Trouble
+formula_trouble dimacs_faults.BadHeader = troubles.Content (record { owner = owners.Stimulus; text = codes "cnf: bad header" })
+formula_trouble (dimacs_faults.BadClause line) = troubles.Content (record { owner = owners.Stimulus; text = codes "cnf: bad clause " ++ decimal line })
+formula_trouble (dimacs_faults.Limit limit) = troubles.Limit limit
+formula_trouble dimacs_faults.NoMemory = troubles.NoMemory
 
--- why a proof's text is refused
-abbrev pub log_refusal : LratFault → Refusal
-log_refusal (lrat_faults.BadLine line) = refusals.BadLine line
-log_refusal lrat_faults.NoMemory = refusals.NoMemory Reading
+abbrev pub log_trouble : LratFault → Trouble
+log_trouble (lrat_faults.BadLine line) = troubles.Content (record { owner = owners.Stimulus; text = codes "proof: bad line " ++ decimal line })
+log_trouble lrat_faults.NoMemory = troubles.NoMemory
 
--- the formula of a text in DIMACS CNF, and the proof of a text in LRAT
-abbrev pub formula_of : List ℕ → Result Formula Refusal
-formula_of text = refused_as formula_refusal (dimacs text)
+abbrev pub formula_of : List ℕ → Result Formula Trouble
+formula_of text = refused_as formula_trouble (dimacs text)
 
-abbrev pub log_of : List ℕ → Result Log Refusal
-log_of text = refused_as log_refusal (lrat text)
+abbrev pub log_of : List ℕ → Result Log Trouble
+log_of text = refused_as log_trouble (lrat text)
 
--- what `lrat` puts out of a formula and a proof
-abbrev pub lrat_output : Formula → Log → Output
-lrat_output formula log = check_output (verdict formula log)
+-- the mode: it takes a formula, takes a log, and gives the check's output
+abbrev pub lrat_takes : Lrat → Role → List ℕ → Result Lrat Trouble
+lrat_takes state roles.Formula text = found_as (λ formula. record { formula = formula; log = state.log }) (formula_of text)
+lrat_takes state roles.Log text = found_as (λ log. record { formula = state.formula; log = log }) (log_of text)
+lrat_takes state role text = Ok state
 
--- What `lrat` puts out of two texts: they say a formula and a proof of these grammars, and where the proof is
--- accepted, no assignment satisfies the formula.
-pub record Checks (cnf proof : List ℕ) (output : Output) : Type 0 where
+abbrev pub lrat_gives : Lrat → Result Output Trouble
+lrat_gives state = Ok (check_output (verdict state.formula state.log))
+
+abbrev pub lrat_start : Lrat
+lrat_start = record { formula = record { variables = 0; clauses = [] }; log = record { steps = [] } }
+
+-- what a run of `lrat` does: the formula is loaded and read, then the log
+abbrev pub lrat_task : Task
+lrat_task = task_of lrat_takes lrat_gives lrat_start (roles.Formula ∷ roles.Log ∷ [])
+
+-- A finished check: the bytes under the two names say a formula and a log, what is said is what the check of the log comes
+-- to, and it ends with Done exactly where the log is accepted. Then no assignment satisfies the formula. Nothing is stored.
+pub record IsChecked (names : Role → List ℕ) (before after : World) (finish : Finish) : Type 0 where
   pub formula : Formula
   pub log : Log
-  pub says : DimacsText cnf formula
-  pub proves : LratText proof log
-  pub is : output ≡ lrat_output formula log
-  pub sound : output.finish ≡ finishes.Done → IsUnsatisfiable formula
+  pub says : IsSomeAnd (before.held (names roles.Formula)) (λ cnf. DimacsText cnf formula)
+  pub proves : IsSomeAnd (before.held (names roles.Log)) (λ proof. LratText proof log)
+  pub ends : check_finish (verdict formula log) ≡ finish
+  pub said : after.said ≡ before.said ++ check_text (verdict formula log)
+  pub held : (name : List ℕ) → after.held name ≡ before.held name
+  pub sound : finish ≡ finishes.Done → IsUnsatisfiable formula

@@ -1,17 +1,34 @@
 //! Runs over a shelf in memory: what the words, the files and the failing calls come to.
 
 use crate::{Status, run};
-use cg_shelf::{MemShelf, Shelf};
+use cg_shelf::{Call, MemShelf};
 use std::alloc::{AllocError, Global};
 use std::process::Abort;
 use std::test::Fail;
+
+/// A library with an inverter.
+const LIB: &str =
+    "library (l) { cell (INV) { pin (A) { direction : input; } pin (Y) { direction : output; function : \"!A\"; } } }\n";
+
+const COMB: &str = ".model comb\n.inputs a b\n.outputs y\n.names a b y\n11 1\n.end\n";
+
+const HOLD: &str =
+    ".model hold1\n.inputs clk en d\n.outputs q\n.names en d q n\n11- 1\n0-1 1\n.latch n q re clk 0\n.end\n";
+
+const HELD: &str =
+    ".model hold1\n.inputs clk en d\n.outputs q\n.clock clk\n.names en d q n\n11- 1\n0-1 1\n.latch n q re clk 0\n.end\n";
+
+const CNF: &str = "p cnf 1 2\n1 0\n-1 0\n";
+
+const LOG: &str = "3 0 1 2 0\n";
 
 /// A run, and what it is to come to.
 #[derive(Drop)]
 struct Case<'a> {
     /// The words behind the program's name, separated by one blank.
     words: &'a str,
-    /// What the files A and B hold before.
+    /// What the files L, A and B hold before.
+    library: &'a str,
     first: &'a str,
     second: &'a str,
     /// The numbers of the calls that fail.
@@ -22,8 +39,6 @@ struct Case<'a> {
     /// What B holds after.
     stored: &'a str,
 }
-
-const CNF: &str = "p cnf 1 2\n1 0\n-1 0\n";
 
 /// The words of a command line.
 fn words_of(alloc: Global, text: &str) -> Result<Vec<String>, AllocError> {
@@ -39,6 +54,7 @@ fn words_of(alloc: Global, text: &str) -> Result<Vec<String>, AllocError> {
 fn try_cases(rt: &impl Abort, alloc: Global, cases: &[Case<'_>]) -> Result<(), AllocError> {
     for case in cases {
         let mut shelf = MemShelf::new(alloc, case.failing)?;
+        shelf.put("L", case.library.as_bytes())?;
         shelf.put("A", case.first.as_bytes())?;
         shelf.put("B", case.second.as_bytes())?;
         let words = words_of(alloc, case.words)?;
@@ -51,20 +67,35 @@ fn try_cases(rt: &impl Abort, alloc: Global, cases: &[Case<'_>]) -> Result<(), A
             case.words,
             case.first
         );
-        assert_eq!(rt; shelf.complained(), case.complained.as_bytes());
+        assert_eq!(rt;
+            shelf.complained(),
+            case.complained.as_bytes(),
+            "{} of {:?}",
+            case.words,
+            case.first
+        );
+        assert_eq!(rt; shelf.held("L"), Some(case.library.as_bytes()));
         assert_eq!(rt; shelf.held("A"), Some(case.first.as_bytes()));
         assert_eq!(rt; shelf.held("B"), Some(case.stored.as_bytes()));
     }
     Ok(())
 }
 
-/// A proof of the formula that says `text`, and how its check ends.
-fn checks<'a>(proof: &'a str, status: Status, said: &'a str, complained: &'a str) -> Case<'a> {
+/// A formula and a proof, with calls that fail.
+fn check<'a>(
+    cnf: &'a str,
+    proof: &'a str,
+    failing: &'a [u64],
+    status: Status,
+    said: &'a str,
+    complained: &'a str,
+) -> Case<'a> {
     Case {
         words: "lrat A B",
-        first: CNF,
+        library: "",
+        first: cnf,
         second: proof,
-        failing: &[],
+        failing,
         status,
         said,
         complained,
@@ -72,159 +103,68 @@ fn checks<'a>(proof: &'a str, status: Status, said: &'a str, complained: &'a str
     }
 }
 
+/// A proof that is read, and what its check says.
+fn rejected<'a>(proof: &'a str, said: &'a str) -> Case<'a> {
+    check(CNF, proof, &[], Status::Rejected, said, "")
+}
+
 #[test]
 fn proofs(rt: HostRuntime) -> Result<(), Fail> {
     let cases = [
-        checks("3 0 1 2 0\n", Status::Done, "accepted\n", ""),
-        checks(
-            "3 0 1 0\n",
-            Status::Rejected,
-            "rejected line 1 not false 1\n",
-            "",
-        ),
-        checks(
-            "",
-            Status::Rejected,
-            "rejected line 0 no empty clause\n",
-            "",
-        ),
-        checks(
-            "2 0 1 2 0\n",
-            Status::Rejected,
-            "rejected line 1 used id 2\n",
-            "",
-        ),
-        checks(
-            "c\n3 d 7 0\n",
-            Status::Rejected,
-            "rejected line 2 unknown id 7\n",
-            "",
-        ),
-        checks(
-            "3 1 -1 0 1 0\n",
-            Status::Rejected,
-            "rejected line 1 tautology\n",
-            "",
-        ),
-        checks(
-            "3 1 0 1 2 0\n",
-            Status::Rejected,
-            "rejected line 1 not unit 1\n",
-            "",
-        ),
-        checks("3 0 0\n", Status::Rejected, "rejected line 1 no hint\n", ""),
-        checks(
-            "3 0 1 2\n",
-            Status::Stimulus,
-            "",
-            "clockgate: proof: bad line 1\n",
-        ),
-        checks(
-            "3 1 0 -1 2 0\n",
-            Status::Stimulus,
-            "",
-            "clockgate: proof: bad line 1\n",
-        ),
+        check(CNF, LOG, &[], Status::Done, "accepted\n", ""),
+        rejected("3 0 1 0\n", "rejected line 1 not false 1\n"),
+        rejected("", "rejected line 0 no empty clause\n"),
+        rejected("2 0 1 2 0\n", "rejected line 1 used id 2\n"),
+        rejected("c\n3 d 7 0\n", "rejected line 2 unknown id 7\n"),
+        rejected("3 1 -1 0 1 0\n", "rejected line 1 tautology\n"),
+        rejected("3 1 0 1 2 0\n", "rejected line 1 not unit 1\n"),
+        rejected("3 0 0\n", "rejected line 1 no hint\n"),
     ];
     try_cases(&rt, rt.alloc(), &cases)?;
     Ok(())
 }
 
-/// A check of a formula, with calls that fail.
-fn formula<'a>(
-    cnf: &'a str,
-    failing: &'a [u64],
-    status: Status,
-    said: &'a str,
-    complained: &'a str,
-) -> Case<'a> {
-    Case {
-        words: "lrat A B",
-        first: cnf,
-        second: "3 0 1 2 0",
-        failing,
-        status,
-        said,
-        complained,
-        stored: "3 0 1 2 0",
-    }
+/// A text that is refused by its content.
+fn refused_check<'a>(cnf: &'a str, proof: &'a str, complained: &'a str) -> Case<'a> {
+    check(cnf, proof, &[], Status::Stimulus, "", complained)
 }
 
 #[test]
-fn formulas_and_failing_calls(rt: HostRuntime) -> Result<(), Fail> {
+fn formulas(rt: HostRuntime) -> Result<(), Fail> {
     let cases = [
-        formula(
-            "p cnf 1",
-            &[],
-            Status::Stimulus,
-            "",
-            "clockgate: cnf: bad header\n",
-        ),
-        formula(
-            "p cnf 1 1\n2 0\n",
-            &[],
-            Status::Stimulus,
-            "",
-            "clockgate: cnf: bad clause 2\n",
-        ),
-        formula(
+        refused_check("p cnf 1", LOG, "clockgate: cnf: bad header\n"),
+        refused_check("p cnf 1 1\n2 0\n", LOG, "clockgate: cnf: bad clause 2\n"),
+        refused_check(CNF, "3 0 1 2\n", "clockgate: proof: bad line 1\n"),
+        refused_check(CNF, "3 1 0 -1 2 0\n", "clockgate: proof: bad line 1\n"),
+        refused_check("p cnf 1", "no proof", "clockgate: cnf: bad header\n"),
+        check(
             "p cnf 16777217 0\n",
+            LOG,
             &[],
             Status::Limit,
             "",
             "clockgate: limit variables\n",
         ),
-        formula(CNF, &[], Status::Done, "accepted\n", ""),
-        formula(
-            CNF,
-            &[0],
-            Status::ReadFault,
-            "",
-            "clockgate: read fault A\n",
-        ),
-        formula(
-            CNF,
-            &[1],
-            Status::ReadFault,
-            "",
-            "clockgate: read fault B\n",
-        ),
-        formula(
-            CNF,
-            &[2],
-            Status::WriteFault,
-            "",
-            "clockgate: write fault -\n",
-        ),
-        formula(CNF, &[2, 3], Status::WriteFault, "", ""),
-        formula("p cnf 1", &[1], Status::Stimulus, "", ""),
     ];
     try_cases(&rt, rt.alloc(), &cases)?;
     Ok(())
 }
 
-const COMB: &str = ".model comb\n.inputs a b\n.outputs y\n.names a b y\n11 1\n.end\n";
-
-const HOLD: &str =
-    ".model hold1\n.inputs clk en d\n.outputs q\n.names en d q n\n11- 1\n0-1 1\n.latch n q re clk 0\n.end\n";
-
-const HELD: &str =
-    ".model hold1\n.inputs clk en d\n.outputs q\n.clock clk\n.names en d q n\n11- 1\n0-1 1\n.latch n q re clk 0\n.end\n";
-
-/// A netlist that is gated over a file of the text `old`, with calls that fail.
+/// A netlist that is gated with a library, over a file of the text `old`.
 fn gate<'a>(
+    library: &'a str,
     netlist: &'a str,
-    failing: &'a [u64],
     status: Status,
     said: &'a str,
     complained: &'a str,
     stored: &'a str,
 ) -> Case<'a> {
     Case {
-        words: "gate A B",
+        words: "gate L A B",
+        library,
         first: netlist,
         second: "old",
-        failing,
+        failing: &[],
         status,
         said,
         complained,
@@ -233,93 +173,307 @@ fn gate<'a>(
 }
 
 /// A text that is no netlist.
-fn faulty(netlist: &str) -> Case<'_> {
-    gate(
-        netlist,
-        &[],
-        Status::Netlist,
-        "",
-        "clockgate: netlist\n",
-        "old",
-    )
+fn faulty<'a>(netlist: &'a str, complained: &'a str) -> Case<'a> {
+    gate(LIB, netlist, Status::Netlist, "", complained, "old")
+}
+
+/// A text that is no library.
+fn unread<'a>(library: &'a str, complained: &'a str) -> Case<'a> {
+    gate(library, COMB, Status::Library, "", complained, "old")
 }
 
 #[test]
 fn netlists(rt: HostRuntime) -> Result<(), Fail> {
     let stages = "stages 0 inserted 0\n";
     let cases = [
-        gate(COMB, &[], Status::Done, stages, "", COMB),
-        gate(HOLD, &[], Status::Done, stages, "", HELD),
-        faulty(".model cycle\n.inputs\n.outputs a\n.names b a\n1 1\n.names a b\n1 1\n.end\n"),
-        faulty(".model two\n.inputs x z\n.outputs y\n.names x y\n1 1\n.names z y\n1 1\n.end\n"),
-        faulty(".model none\n.inputs\n.outputs y\n.end\n"),
-        faulty(HELD),
-        faulty(""),
-        gate(
-            COMB,
-            &[0],
-            Status::ReadFault,
-            "",
-            "clockgate: read fault A\n",
-            "old",
+        gate(LIB, COMB, Status::Done, stages, "", COMB),
+        gate(LIB, HOLD, Status::Done, stages, "", HELD),
+        faulty("", "clockgate: netlist: bad line 1\n"),
+        faulty(
+            ".model m\n.inputs a\n.outputs y\n.names a y\n1 1\n11 1\n.end\n",
+            "clockgate: netlist: bad cover 6\n",
+        ),
+        faulty(
+            ".model m\n.inputs c d\n.outputs q\n.latch d q fe c 0\n.end\n",
+            "clockgate: netlist: bad latch 4\n",
+        ),
+        faulty(
+            ".model m\n.inputs\n.outputs a\n.names b a\n1 1\n.names a b\n1 1\n.end\n",
+            "clockgate: netlist: cycle a\n",
+        ),
+        faulty(
+            ".model m\n.inputs x z\n.outputs y\n.names x y\n1 1\n.names z y\n1 1\n.end\n",
+            "clockgate: netlist: two drivers y\n",
+        ),
+        faulty(
+            ".model m\n.inputs\n.outputs y\n.end\n",
+            "clockgate: netlist: no driver y\n",
+        ),
+        faulty(
+            ".model m\n.inputs c d\n.outputs q\n.latch d q re d 0\n.end\n",
+            "clockgate: netlist: clock fault d\n",
+        ),
+        unread("", "clockgate: library: bad group 0\n"),
+        unread("library (l) { \" }", "clockgate: library: bad token 14\n"),
+        unread(
+            "library (l) { cell (A) {",
+            "clockgate: library: bad group 24\n",
+        ),
+        unread(
+            "library (l) { cell (INV) { } cell (INV) { } }",
+            "clockgate: library: two cells INV\n",
+        ),
+        unread(
+            "library (l) { cell (INV) { pin (A) { direction : input; } pin (Y) { direction : output; function : \"A +\"; } } }",
+            "clockgate: library: bad expression INV 3\n",
         ),
         gate(
-            COMB,
-            &[1],
-            Status::WriteFault,
+            "nothing",
+            "nothing",
+            Status::Library,
             "",
-            "clockgate: write fault B\n",
+            "clockgate: library: bad group 0\n",
             "old",
-        ),
-        gate(
-            COMB,
-            &[2],
-            Status::WriteFault,
-            "",
-            "clockgate: write fault -\n",
-            COMB,
         ),
     ];
     try_cases(&rt, rt.alloc(), &cases)?;
     Ok(())
 }
 
-/// Words that the program does not take.
-fn refused(words: &str) -> Case<'_> {
+/// A run in which calls fail, and what it leaves: the calls of the shelf that were made, in order, and what B holds.
+#[derive(Drop)]
+struct Failing<'a> {
+    words: &'a str,
+    failing: &'a [u64],
+    status: Status,
+    said: &'a str,
+    complained: &'a str,
+    stored: &'a str,
+    calls: &'a [(Call, &'a str)],
+}
+
+#[test]
+fn each_call_failing_in_turn(rt: HostRuntime) -> Result<(), Fail> {
+    let stages = "stages 0 inserted 0\n";
+    let gate = [
+        (Call::Load, "L"),
+        (Call::Load, "A"),
+        (Call::Store, "B"),
+        (Call::Say, ""),
+        (Call::Complain, ""),
+    ];
+    let first = [(Call::Load, "L"), (Call::Complain, "")];
+    let second = [(Call::Load, "L"), (Call::Load, "A"), (Call::Complain, "")];
+    let third = [
+        (Call::Load, "L"),
+        (Call::Load, "A"),
+        (Call::Store, "B"),
+        (Call::Complain, ""),
+    ];
+    let lrat = [
+        (Call::Load, "C"),
+        (Call::Load, "P"),
+        (Call::Say, ""),
+        (Call::Complain, ""),
+    ];
+    let formula = [(Call::Load, "C"), (Call::Complain, "")];
+    let proof = [(Call::Load, "C"), (Call::Load, "P"), (Call::Complain, "")];
+    let cases = [
+        Failing {
+            words: "gate L A B",
+            failing: &[],
+            status: Status::Done,
+            said: stages,
+            complained: "",
+            stored: COMB,
+            calls: &gate[..4],
+        },
+        Failing {
+            words: "gate L A B",
+            failing: &[0],
+            status: Status::ReadFault,
+            said: "",
+            complained: "clockgate: read fault L\n",
+            stored: "old",
+            calls: &first,
+        },
+        Failing {
+            words: "gate L A B",
+            failing: &[1],
+            status: Status::ReadFault,
+            said: "",
+            complained: "clockgate: read fault A\n",
+            stored: "old",
+            calls: &second,
+        },
+        Failing {
+            words: "gate L A B",
+            failing: &[2],
+            status: Status::WriteFault,
+            said: "",
+            complained: "clockgate: write fault B\n",
+            stored: "old",
+            calls: &third,
+        },
+        Failing {
+            words: "gate L A B",
+            failing: &[3],
+            status: Status::WriteFault,
+            said: "",
+            complained: "clockgate: write fault -\n",
+            stored: COMB,
+            calls: &gate,
+        },
+        Failing {
+            words: "gate L A B",
+            failing: &[2, 3],
+            status: Status::WriteFault,
+            said: "",
+            complained: "",
+            stored: "old",
+            calls: &third,
+        },
+        Failing {
+            words: "lrat C P",
+            failing: &[],
+            status: Status::Done,
+            said: "accepted\n",
+            complained: "",
+            stored: "old",
+            calls: &lrat[..3],
+        },
+        Failing {
+            words: "lrat C P",
+            failing: &[0],
+            status: Status::ReadFault,
+            said: "",
+            complained: "clockgate: read fault C\n",
+            stored: "old",
+            calls: &formula,
+        },
+        Failing {
+            words: "lrat C P",
+            failing: &[1],
+            status: Status::ReadFault,
+            said: "",
+            complained: "clockgate: read fault P\n",
+            stored: "old",
+            calls: &proof,
+        },
+        Failing {
+            words: "lrat C P",
+            failing: &[2],
+            status: Status::WriteFault,
+            said: "",
+            complained: "clockgate: write fault -\n",
+            stored: "old",
+            calls: &lrat,
+        },
+        Failing {
+            words: "lrat C P",
+            failing: &[2, 3],
+            status: Status::WriteFault,
+            said: "",
+            complained: "",
+            stored: "old",
+            calls: &lrat,
+        },
+    ];
+    let alloc = rt.alloc();
+    for case in &cases {
+        let mut shelf = MemShelf::new(alloc, case.failing)?;
+        shelf.put("L", LIB.as_bytes())?;
+        shelf.put("A", COMB.as_bytes())?;
+        shelf.put("B", b"old")?;
+        shelf.put("C", CNF.as_bytes())?;
+        shelf.put("P", LOG.as_bytes())?;
+        let words = words_of(alloc, case.words)?;
+        let status = run(alloc, words.as_slice(), &mut shelf);
+        assert_eq!(rt; status, case.status, "{} {:?}", case.words, case.failing);
+        assert_eq!(rt;
+            shelf.said(),
+            case.said.as_bytes(),
+            "{} {:?}",
+            case.words,
+            case.failing
+        );
+        assert_eq!(rt; shelf.complained(), case.complained.as_bytes());
+        assert_eq!(rt; shelf.held("B"), Some(case.stored.as_bytes()));
+        assert_eq!(rt; shelf.calls().len(), case.calls.len());
+        for (made, (call, name)) in shelf.calls().iter().zip(case.calls.iter()) {
+            assert_eq!(rt; made.call, *call);
+            assert_eq!(rt; made.name.bytes(), name.as_bytes());
+        }
+    }
+    Ok(())
+}
+
+/// Words of `lrat`, that end with this status over files that are not there.
+fn words_end<'a>(words: &'a str, status: Status, complained: &'a str) -> Case<'a> {
     Case {
         words,
-        first: "",
-        second: "",
+        library: "",
+        first: CNF,
+        second: LOG,
         failing: &[],
-        status: Status::Usage,
+        status,
         said: "",
-        complained: "clockgate: usage\n",
-        stored: "",
+        complained,
+        stored: LOG,
     }
+}
+
+fn usage(words: &str) -> Case<'_> {
+    words_end(words, Status::Usage, "clockgate: usage\n")
+}
+
+/// Words that the program takes, whose first file is not there.
+fn missing<'a>(words: &'a str, complained: &'a str) -> Case<'a> {
+    words_end(words, Status::ReadFault, complained)
 }
 
 #[test]
 fn words(rt: HostRuntime) -> Result<(), Fail> {
     let cases = [
-        refused(""),
-        refused("lrat"),
-        refused("lrat A"),
-        refused("lrat A B C"),
-        refused("lrat A A"),
-        refused("lrat - B"),
-        refused("lrat A -B"),
-        refused("check A B"),
-        refused("gate B B"),
-        refused("A B lrat"),
+        // no mode, another mode, another number of files, one file twice
+        usage(""),
+        usage("check A B"),
+        usage("help"),
+        usage("A B lrat"),
+        usage("lrat"),
+        usage("lrat A"),
+        usage("lrat A B L"),
+        usage("gate A B"),
+        usage("gate L A B C"),
+        usage("lrat A A"),
+        usage("gate B A B"),
+        usage("gate B B A"),
+        usage("gate L A A"),
+        // help, no options
+        usage("--help"),
+        usage("lrat A B --help"),
+        usage("lrat -h A B"),
+        usage("lrat A B --version"),
+        usage("lrat A B -V"),
+        usage("lrat A B -x"),
+        usage("lrat A B --files=C"),
+        usage("lrat -A B"),
+        // a lone dash is a file, and behind two dashes every word is one
+        missing("lrat - B", "clockgate: read fault -\n"),
+        missing("lrat -- -A B", "clockgate: read fault -A\n"),
+        missing("-- lrat --help B", "clockgate: read fault --help\n"),
+        missing("lrat -- -- B", "clockgate: read fault --\n"),
+        missing("lrat ./A B", "clockgate: read fault ./A\n"),
         Case {
-            words: "lrat A missing",
+            words: "lrat A -- B",
+            library: "",
             first: CNF,
-            second: "",
+            second: LOG,
             failing: &[],
-            status: Status::ReadFault,
-            said: "",
-            complained: "clockgate: read fault missing\n",
-            stored: "",
+            status: Status::Done,
+            said: "accepted\n",
+            complained: "",
+            stored: LOG,
         },
     ];
     try_cases(&rt, rt.alloc(), &cases)?;

@@ -2,106 +2,78 @@
 
 ghost use Rattle.std.specs.Prelude.{◌≡◌, map, None, IsTrue, IfSome};
 ghost use Rattle.std.specs.String.{string_bytes};
+ghost use Rattle.cg_run.specs.Names.{file_of, name_of};
+ghost use Rattle.cg_run.specs.Promise.{Ended, FinishBy, Gains, IsOrFails, KeepsOthers, Stands, ends_as, held_files};
+ghost use Rattle.cg_run.specs.Reads.{Gave};
+ghost use Rattle.cg_run.specs.Run.{Runs};
 ghost use Rattle.cg_tool.specs.CommandLine.{job_of, job_words};
-ghost use Rattle.cg_tool.specs.Ends.{Ends, IsOrFails, IsOrNoMemory, KeepsOthers, ends_as};
-ghost use Rattle.cg_tool.specs.Headline.{IsChecked, IsGated, OnFinish, TakesPlain};
-ghost use Rattle.cg_tool.specs.Verdict.{contents, verdict};
-ghost use Rattle.cg_tool.specs.Run.{Reads, Attempts, Complains, Refuses, RunsJob, Runs};
+ghost use Rattle.cg_tool.specs.Gate.{IsGated};
+ghost use Rattle.cg_tool.specs.Lrat.{IsChecked};
+ghost use Rattle.cg_tool.specs.Program.{IsOrNoMemory, KeepsAll, RunsWords, task_by};
 
-use crate::job::{Job, Mode, read_words};
-use crate::output::{Finish, Output};
-use crate::refusal::Refusal;
-use crate::status::Status;
-use crate::writing::write;
-use crate::{gate, lrat};
-use cg_shelf::{Shelf, StoreFault};
+use crate::modes::{gate, lrat};
+use crate::words::{Job, Mode, read_words};
+use cg_run::Status;
+use cg_run::driver::complain;
+use cg_shelf::Shelf;
 use std::alloc::Global;
 
 /// Does what the words of a command line ask for, over the shelf, and answers how that ended.
 pub fn run<S: Shelf>(alloc: Global, words: &[String], shelf: &mut S) -> Status
-    // Each status with its cause, the calls that failed, what stands and what was complained.
-    ensures ends { Ends (job_of (map string_bytes words.now)) (S.world shelf.old) (S.world shelf.new) result }
+    // What the run did: its calls in order, what each file gave and what these files come to, and what stands.
+    ensures runs { RunsWords (Gave S.gives) (job_of (map string_bytes words.now)) (S.world shelf.old) (S.world shelf.new) result }
 
     // Usage comes exactly of words that are no job.
     ensures usage { result ≡ Status.Usage → job_of (map string_bytes words.now) ≡ None }
     ensures usage_only { job_of (map string_bytes words.now) ≡ None → IsOrNoMemory Status.Usage result }
+    ensures usage_keeps { IsTrue (S.world shelf.old).tells → KeepsAll (job_of (map string_bytes words.now)) (S.world shelf.old) (S.world shelf.new) }
 
-    // Where no call of the shelf fails, a job ends as its files come to.
+    // How a job ended, with the cause, the line of complaint and the failed calls.
+    ensures ended { IfSome (job_of (map string_bytes words.now))
+        (λ job. Ended (Gave S.gives) (task_by job.mode) (file_of job.files) (S.world shelf.old) (S.world shelf.new) result) }
+
+    // What stands, by the status.
+    ensures stands { IsTrue (S.world shelf.old).tells → IfSome (job_of (map string_bytes words.now))
+        (λ job. Stands (task_by job.mode) (file_of job.files) (S.world shelf.old) (S.world shelf.new) result) }
+
+    // At most one failed call besides that of the complaint, and which, by the status.
+    ensures gains { IfSome (job_of (map string_bytes words.now))
+        (λ job. Gains (task_by job.mode) (file_of job.files) (S.world shelf.old) (S.world shelf.new) result) }
+
+    // Every name but that of a stored file holds what it held.
+    ensures others { IsTrue (S.world shelf.old).tells → IfSome (job_of (map string_bytes words.now))
+        (λ job. KeepsOthers (task_by job.mode) (file_of job.files) (S.world shelf.old) (S.world shelf.new)) }
+
+    // Where no call of the shelf fails and memory is there, a job ends as its files come to.
     ensures comes { IsTrue (S.world shelf.old).tells → IfSome (job_of (map string_bytes words.now))
-        (λ job. IsOrFails (ends_as (verdict job.mode (contents job (S.world shelf.old)))) result) }
+        (λ job. IsOrFails (ends_as ((task_by job.mode).comes (held_files (file_of job.files) (S.world shelf.old)))) result) }
 
-    // Every name but that of the stored file holds what it held.
-    ensures others { IsTrue (S.world shelf.old).tells
-        → KeepsOthers (job_of (map string_bytes words.now)) (S.world shelf.old) (S.world shelf.new) }
-
-    // `gate` writes a netlist whose outputs equal those of the one that it read, at every moment.
+    // `gate` writes a netlist that behaves as the one that it read.
     ensures gated { IsTrue (S.world shelf.old).tells → IfSome (job_of (map string_bytes words.now))
-        (λ job. job.mode ≡ Mode.Gate → OnFinish result (IsGated job (S.world shelf.old) (S.world shelf.new) result)) }
-
-    // `gate` refuses no text in the plain form that says a netlist.
-    ensures taken { IsTrue (S.world shelf.old).tells → IfSome (job_of (map string_bytes words.now))
-        (λ job. job.mode ≡ Mode.Gate → TakesPlain job (S.world shelf.old) result) }
+        (λ job. job.mode ≡ Mode.Gate → FinishBy (IsGated (file_of job.files) (S.world shelf.old) (S.world shelf.new)) result) }
 
     // `lrat` checks the proof that it was given, and what it accepts has no satisfying assignment.
     ensures checked { IsTrue (S.world shelf.old).tells → IfSome (job_of (map string_bytes words.now))
-        (λ job. job.mode ≡ Mode.Lrat → OnFinish result (IsChecked job (S.world shelf.old) (S.world shelf.new) result)) }
+        (λ job. job.mode ≡ Mode.Lrat → FinishBy (IsChecked (file_of job.files) (S.world shelf.old) (S.world shelf.new)) result) }
 {
     run_words(alloc, words, shelf)
 }
 
 fn run_words<S: Shelf>(alloc: Global, words: &[String], shelf: &mut S) -> Status
-    ensures { Runs (job_of (map string_bytes words.now)) (S.world shelf.old) (S.world shelf.new) result }
+    ensures { RunsWords (Gave S.gives) (job_of (map string_bytes words.now)) (S.world shelf.old) (S.world shelf.new) result }
 {
-    match read_words(words) {
-        None => complain(shelf, Status::Usage, b"clockgate: usage\n"),
-        Some(job) => run_job(alloc, shelf, &job),
-    }
-}
-
-fn run_job<S: Shelf>(alloc: Global, shelf: &mut S, job: &Job<'_>) -> Status
-    ensures { RunsJob (job_words job.now) (S.world shelf.old) (S.world shelf.new) result }
-{
-    match attempt(alloc, shelf, job) {
-        Ok(finish) => finish.status(),
-        Err(refusal) => refuse(alloc, shelf, job, refusal),
-    }
-}
-
-/// Does the job up to its complaint.
-fn attempt<S: Shelf>(alloc: Global, shelf: &mut S, job: &Job<'_>) -> Result<Finish, Refusal>
-    ensures { Attempts (job_words job.now) (S.world shelf.old) (S.world shelf.new) result }
-{
-    let output = read(alloc, shelf, job)?;
-    write(shelf, job, &output)?;
-    Ok(output.finish)
-}
-
-/// Loads and reads the job's files.
-fn read<S: Shelf>(alloc: Global, shelf: &mut S, job: &Job<'_>) -> Result<Output, Refusal>
-    ensures { Reads (job_words job.now).mode (job_words job.now) (S.world shelf.old) (S.world shelf.new) result }
-{
-    match job.mode {
-        Mode::Gate => gate::read(alloc, shelf, job),
-        Mode::Lrat => lrat::read(alloc, shelf, job),
-    }
-}
-
-/// Complains of a refusal of the job, or of want of memory where there is none for its line.
-fn refuse<S: Shelf>(alloc: Global, shelf: &mut S, job: &Job<'_>, refusal: Refusal) -> Status
-    ensures { Refuses (job_words job.now) refusal (S.world shelf.old) (S.world shelf.new) result }
-{
-    match refusal.complaint(alloc, job) {
-        Ok(line) => complain(shelf, refusal.status(), line.as_slice()),
+    match read_words(alloc, words) {
+        Ok(Some(job)) => run_job(alloc, shelf, &job),
+        Ok(None) => complain(shelf, Status::Usage, b"clockgate: usage\n"),
         Err(_) => complain(shelf, Status::NoMemory, b"clockgate: no memory\n"),
     }
 }
 
-/// Complains one line. A complaint that fails does not change the status; one that finds no memory does.
-fn complain<S: Shelf>(shelf: &mut S, status: Status, line: &[u8]) -> Status
-    ensures { Complains line.now status (S.world shelf.old) (S.world shelf.new) result }
+fn run_job<S: Shelf>(alloc: Global, shelf: &mut S, job: &Job<'_>) -> Status
+    ensures { Runs (Gave S.gives) (task_by job.now.mode) (name_of job.now.names) (S.world shelf.old) (S.world shelf.new) result }
 {
-    match shelf.complain(line) {
-        Ok(()) | Err(StoreFault::Failed) => status,
-        Err(StoreFault::NoMemory) => Status::NoMemory,
+    match job.mode {
+        Mode::Gate => gate::run(alloc, shelf, &job.names),
+        Mode::Lrat => lrat::run(alloc, shelf, &job.names),
     }
 }

@@ -1,25 +1,28 @@
 use Rattle.std.proofs.Common.{map}
 use Rattle.std.specs.String.{string_bytes}
+use Rattle.cg_run.specs.Reads.{Gave}
 use Rattle.cg_tool.specs.CommandLine.{job_of}
-use Rattle.cg_tool.specs.Ends.{Ends}
-use Rattle.cg_tool.proofs.Clauses.{checked, comes, gates, others, usage, usage_only}
-use Rattle.cg_tool.proofs.Promises.{ends_of_run}
-use Rattle.cg_tool.proofs.Taken.{taken}
+use Rattle.cg_tool.proofs.Program.{job_checked, job_comes, job_ended, job_gains, job_gated, job_others, job_stands, usage, usage_keeps, usage_only}
 use Rattle.cg_tool.proofs.top.run.Goals as goal
 
 pub returns : goal.returns
 returns g c =
+    let gave = Gave g.S.Shelf.gives in
     let job = job_of (map string_bytes c.args.words.now) in
     let before = g.S.Shelf.world c.args.shelf.now in
     let after = g.S.Shelf.world c.run_words.new.shelf in
-    let ends : Ends job before after c.run_words.result = ends_of_run job before after c.run_words.result c.run_words.ensures in
+    let result = c.run_words.result in
+    let runs = c.run_words.ensures in
     record {
-      ends = ends;
-      usage = usage job before after c.run_words.result ends;
-      usage_only = usage_only job before after c.run_words.result ends;
-      comes = comes job before after c.run_words.result ends;
-      others = others job before after c.run_words.result ends;
-      gated = gates job before after c.run_words.result ends;
-      taken = taken job before after c.run_words.result ends;
-      checked = checked job before after c.run_words.result ends;
+      runs = runs;
+      usage = usage gave job before after result runs;
+      usage_only = usage_only gave job before after result runs;
+      usage_keeps = usage_keeps gave job before after result runs;
+      ended = job_ended gave job before after result runs;
+      stands = job_stands gave job before after result runs;
+      gains = job_gains gave job before after result runs;
+      others = job_others gave job before after result runs;
+      comes = job_comes gave job before after result runs;
+      gated = job_gated gave job before after result runs;
+      checked = job_checked gave job before after result runs;
     }

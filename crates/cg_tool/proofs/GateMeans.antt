@@ -1,0 +1,99 @@
+-- What a finished run of `gate` means, from what its files come to.
+use Rattle.std.proofs.Common.{◌≡◌, ◌+◌, ℕ, Bool, List, [], ◌∷◌, ◌++◌, length, Option, None, Some, Result, Ok, Err, refl, sym, ◌∙◌, ap, subst, append-nil, arith}
+use Rattle.std.specs.Prelude.{IsSomeAnd}
+use Rattle.cg_cell.specs.Cell.{CellData}
+use Rattle.cg_liberty.proofs.LibTexts.{text_of_library}
+use Rattle.cg_liberty.specs.LibText.{LibText}
+use Rattle.cg_liberty.specs.Library.{library_of}
+use Rattle.cg_netlist.specs.BlifText.{BlifText}
+use Rattle.cg_netlist.specs.Canonical.{blif}
+use Rattle.cg_netlist.specs.Circuit.{Circuit}
+use Rattle.cg_netlist.specs.History.{HasHistory, HasOneHistory, IsLawful, IsStart, IsWaveform, Moment, Tick, outputs_of}
+use Rattle.cg_netlist.specs.PlainText.{PlainText}
+use Rattle.cg_netlist.proofs.CanonicalSays.{canonical_says}
+use Rattle.cg_netlist.proofs.Histories.{has_history, has_one_history}
+use Rattle.cg_shelf.specs.World.{World}
+use Rattle.cg_run.specs.declared.output.Finish.{Finish}
+use Rattle.cg_run.specs.declared.output.Output.{Output}
+use Rattle.cg_run.specs.declared.output.Text.{Text}
+use Rattle.cg_run.specs.declared.refusal.Trouble.{Trouble}
+use Rattle.cg_run.specs.declared.role.Role.{Role}
+use Rattle.cg_run.specs.declared.role.Role.TheVariants as roles
+use Rattle.cg_run.specs.Writes.{Written, put, puts}
+use Rattle.cg_run.proofs.Finished.{Finishes}
+use Rattle.cg_run.proofs.Steps.{found_ok, held_so, put_here, step_end, step_of}
+use Rattle.cg_tool.specs.Drafting.{netlist_said}
+use Rattle.cg_tool.specs.Gate.{Behaves, IsGated, gate_gives, gate_start, gate_takes, gate_task, gated, given_output, library_found, library_trouble, netlist_found, netlist_trouble}
+use Rattle.cg_tool.specs.declared.modes.gate.Gate.{Gate}
+use Rattle.cg_tool.proofs.LratMeans.{refused_ok, some_and}
+use Rattle.cg_tool.proofs.PlainIsBlif.{plain_is_blif}
+use Rattle.cg_tool.proofs.PlainWritable.{plain_writable}
+use Rattle.cg_tool.proofs.SaidPlain.{said_plain}
+
+-- a netlist that is written as it was read behaves as itself
+behaves_alike : (c : Circuit) → HasHistory c → HasOneHistory c → Behaves [] c c
+behaves_alike c some one =
+    let same_start : (start : List Bool) → start ++ [] ≡ start = λ start. append-nil start in
+    record {
+      registers = omega arith;
+      inputs = refl;
+      outputs = refl;
+      starts = λ start is. let P : List Bool → Type 0 = λ s. IsStart c s in subst P (sym (same_start start)) is;
+      waves = λ wave is. is;
+      some = λ start wave is over. let P : List Bool → Type 0 = λ s. (history : List Moment) × IsLawful c s wave history in subst P (sym (same_start start)) (some start wave is over);
+      one = one;
+      same = λ start wave is over history gated lawful lawful_gated.
+          let P : List Bool → Type 0 = λ s. IsLawful c s wave gated in
+          ap (outputs_of c) (one start wave is over history gated lawful (subst P (same_start start) lawful_gated));
+    }
+
+gated_of : (names : Role → List ℕ) (before after : World) (finish : Finish) (library : List CellData) (c : Circuit) (text : List ℕ)
+    → IsSomeAnd (before.held (names roles.Library)) (λ lib. LibText lib library) → before.held (names roles.Netlist) ≡ Some text → PlainText text c
+    → (gated c).finish ≡ finish → Written names (gated c) before after → IsGated names before after finish
+gated_of names before after finish library c text cells held plain ends written =
+    let formed = (plain.says).formed in
+    let some = has_history c formed in
+    let one = has_one_history c formed in
+    record {
+      library = library;
+      read = c;
+      written = c;
+      cells = cells;
+      says = some_and (before.held (names roles.Netlist)) text (λ t. BlifText t [] None c) held (plain_is_blif text c plain);
+      plain = some_and (before.held (names roles.Netlist)) text (λ t. PlainText t c) held plain;
+      read_well_formed = formed;
+      some = some;
+      one = one;
+      is = refl;
+      written_well_formed = formed;
+      stored = written.held (names roles.Out) ∙ put_here before.held (names roles.Out) (blif c);
+      writes = canonical_says [] c (plain_writable text c plain);
+      behaves = behaves_alike c some one;
+      said = written.said;
+      ends = sym ends;
+    }
+
+given_ok : (netlist : Option Circuit) (output : Output) → given_output netlist ≡ Ok output → (c : Circuit) × (netlist ≡ Some c) × (output ≡ gated c)
+given_ok None output h = absurd (cc)
+given_ok (Some c) output h = (c, refl, cc)
+
+some_same : (a b : Circuit) → ◌≡◌ {A = Option Circuit} (Some a) (Some b) → a ≡ b
+some_same a b h = cc
+
+pub gated_means : (names : Role → List ℕ) (before after : World) (finish : Finish) → Finishes gate_task names before after finish → IsGated names before after finish
+gated_means names before after finish f =
+    let one = step_of gate_takes gate_gives gate_start roles.Library (roles.Netlist ∷ []) f.given f.output f.comes in
+    let l = found_ok (λ (q : List CellData). record { library = Some q; netlist = gate_start.netlist }) (library_found one.bytes) one.next one.takes_it in
+    let two = step_of gate_takes gate_gives one.next roles.Netlist [] f.given f.output one.later in
+    let n = found_ok (λ (q : Circuit). record { library = one.next.library; netlist = Some q }) (netlist_found two.bytes) two.next two.takes_it in
+    let ends = given_ok two.next.netlist f.output (step_end gate_takes gate_gives two.next f.given f.output two.later) in
+    let c : Circuit = n.0 in
+    let same : ends.0 ≡ c = some_same ends.0 c (sym ends.1 ∙ sym (ap (λ (g : Gate). g.netlist) n.2)) in
+    let out : f.output ≡ gated c = ends.2 ∙ ap gated same in
+    let W : Output → Type 0 = λ o. Written names o before after in
+    gated_of names before after finish l.0 c two.bytes
+    (some_and (before.held (names roles.Library)) one.bytes (λ lib. LibText lib l.0) (held_so (before.held (names roles.Library)) (f.given roles.Library) one.bytes (f.told roles.Library) one.loaded)
+    (text_of_library one.bytes l.0 (refused_ok library_trouble (library_of one.bytes) l.0 l.1)))
+    (held_so (before.held (names roles.Netlist)) (f.given roles.Netlist) two.bytes (f.told roles.Netlist) two.loaded)
+    (said_plain two.bytes c (refused_ok netlist_trouble (netlist_said two.bytes) c n.1))
+    (sym (ap (λ (o : Output). o.finish) out) ∙ f.ends) (subst W out f.written)

@@ -1,0 +1,233 @@
+//! The mode `gate`: a netlist is read, and written with the same behaviour.
+
+ghost use Rattle.std.specs.Prelude.{◌≡◌, ◌++◌, decimal, IfOk, IsTrue};
+ghost use Rattle.cg_run.specs.Names.{name_of};
+ghost use Rattle.cg_run.specs.Promise.{FinishBy};
+ghost use Rattle.cg_run.specs.Reads.{Gave};
+ghost use Rattle.cg_run.specs.Run.{Runs};
+ghost use Rattle.cg_run.specs.Verdict.{Answers};
+ghost use Rattle.cg_tool.specs.Gate.{IsGated, gate_gives, gate_start, gate_takes, gate_task, gated, library_found, library_trouble, net_trouble, netlist_found};
+
+use crate::cg_blif::fault::BlifFault;
+use crate::cg_blif::read_blif;
+use crate::cg_blif_out::write_blif;
+use cg_cell::library::Library;
+use cg_cell::name::Name;
+use cg_liberty::fault::LibertyFault;
+use cg_liberty::library::read_library;
+use cg_list::Seq;
+use cg_netlist::fault::NetFault;
+use cg_netlist::netlist::Netlist;
+use cg_run::{Content, Finish, Mode, Names, Output, Owner, Role, Status, Text, Trouble, drive};
+use cg_shelf::Shelf;
+use cg_text::number::push_number;
+use std::alloc::{AllocError, Global};
+
+/// What the mode has read so far.
+#[derive(Drop)]
+pub struct Gate {
+    pub library: Option<Library>,
+    pub netlist: Option<Netlist>,
+}
+
+impl Gate {
+    /// Nothing is read yet.
+    fn start() -> Gate
+        ensures { result ≡ gate_start }
+    {
+        Gate {
+            library: None,
+            netlist: None,
+        }
+    }
+}
+
+impl Mode for Gate {
+    ghost takes = { gate_takes };
+
+    ghost gives = { gate_gives };
+
+    fn take(self, alloc: Global, role: Role, bytes: Seq<u8>) -> Result<Gate, Trouble> {
+        match role {
+            Role::Library => {
+                let library = take_library(alloc, &bytes)?;
+                Ok(Gate {
+                    library: Some(library),
+                    netlist: self.netlist,
+                })
+            }
+            Role::Netlist => {
+                let netlist = take_netlist(alloc, &bytes)?;
+                Ok(Gate {
+                    library: self.library,
+                    netlist: Some(netlist),
+                })
+            }
+            _ => Ok(self),
+        }
+    }
+
+    fn finish(self, alloc: Global) -> Result<Output, Trouble> {
+        let Gate {
+            library: _library,
+            netlist,
+        } = self;
+        match netlist {
+            None => Err(Trouble::NoMemory),
+            Some(netlist) => Ok(write_gated(alloc, &netlist)?),
+        }
+    }
+}
+
+/// Gates the clock of a netlist, over the shelf.
+pub fn run<S: Shelf>(alloc: Global, shelf: &mut S, names: &Names<'_>) -> Status
+    ensures runs { Runs (Gave S.gives) gate_task (name_of names.now) (S.world shelf.old) (S.world shelf.new) result }
+
+    // A finished run read a library and a netlist, and wrote a netlist that behaves as the one that was read.
+    ensures gated { IsTrue (S.world shelf.old).tells
+        → FinishBy (IsGated (name_of names.now) (S.world shelf.old) (S.world shelf.new)) result }
+{
+    drive(
+        alloc,
+        shelf,
+        names,
+        &[Role::Library, Role::Netlist],
+        Gate::start(),
+    )
+}
+
+/// What is put out of a netlist: no stage is tried yet, and it is written as it was read.
+fn write_gated(alloc: Global, netlist: &Netlist) -> Result<Output, AllocError>
+    ensures { IfOk result (λ output. output ≡ gated netlist.now) }
+{
+    let bytes = Seq::from_vec(write_blif(alloc, netlist)?);
+    let said = Seq::from_vec(Vec::from_slice(alloc, b"stages 0 inserted 0\n")?);
+    let mut stores = Seq::new(alloc);
+    stores.push(Text {
+        role: Role::Out,
+        bytes,
+    })?;
+    Ok(Output {
+        stores,
+        said,
+        finish: Finish::Done,
+    })
+}
+
+fn take_library(alloc: Global, text: &Seq<u8>) -> Result<Library, Trouble>
+    ensures { Answers (library_found text.now) result }
+{
+    match read_library(alloc, text.as_slice()) {
+        Ok(library) => Ok(library),
+        Err(LibertyFault::BadToken(at)) => Err(at_place(
+            alloc,
+            Owner::Library,
+            b"library: bad token ",
+            at,
+        )?),
+        Err(LibertyFault::BadGroup(at)) => Err(at_place(
+            alloc,
+            Owner::Library,
+            b"library: bad group ",
+            at,
+        )?),
+        Err(LibertyFault::BadExpr(cell, at)) => Err(bad_expression(alloc, &cell, at)?),
+        Err(LibertyFault::TwoCells(cell)) => Err(with_name(
+            alloc,
+            Owner::Library,
+            b"library: two cells ",
+            &cell,
+        )?),
+        Err(LibertyFault::Limit(limit)) => Err(Trouble::Limit(limit)),
+        Err(LibertyFault::NoMemory) => Err(Trouble::NoMemory),
+    }
+}
+
+fn take_netlist(alloc: Global, text: &Seq<u8>) -> Result<Netlist, Trouble>
+    ensures { Answers (netlist_found text.now) result }
+{
+    match read_blif(alloc, text.as_slice()) {
+        Ok(netlist) => Ok(netlist),
+        Err(BlifFault::BadLine(line)) => Err(at_place(
+            alloc,
+            Owner::Netlist,
+            b"netlist: bad line ",
+            line,
+        )?),
+        Err(BlifFault::BadCover(line)) => Err(at_place(
+            alloc,
+            Owner::Netlist,
+            b"netlist: bad cover ",
+            line,
+        )?),
+        Err(BlifFault::BadLatch(line)) => Err(at_place(
+            alloc,
+            Owner::Netlist,
+            b"netlist: bad latch ",
+            line,
+        )?),
+        Err(BlifFault::SecondModel(line)) => Err(at_place(
+            alloc,
+            Owner::Netlist,
+            b"netlist: second model ",
+            line,
+        )?),
+        Err(BlifFault::Net(fault)) => Err(net_trouble(alloc, fault)?),
+        Err(BlifFault::Limit(limit)) => Err(Trouble::Limit(limit)),
+        Err(BlifFault::NoMemory) => Err(Trouble::NoMemory),
+    }
+}
+
+/// Why the parts of a netlist are refused as a whole.
+fn net_trouble(alloc: Global, fault: NetFault) -> Result<Trouble, AllocError>
+    ensures { IfOk result (λ trouble. trouble ≡ net_trouble fault) }
+{
+    match fault {
+        NetFault::TwoDrivers(net) => with_name(
+            alloc,
+            Owner::Netlist,
+            b"netlist: two drivers ",
+            &net,
+        ),
+        NetFault::NoDriver(net) => with_name(alloc, Owner::Netlist, b"netlist: no driver ", &net),
+        NetFault::Cycle(net) => with_name(alloc, Owner::Netlist, b"netlist: cycle ", &net),
+        NetFault::ClockFault(net) => with_name(
+            alloc,
+            Owner::Netlist,
+            b"netlist: clock fault ",
+            &net,
+        ),
+        NetFault::NoClock => Ok(Trouble::Content(Content::plain(
+            alloc,
+            Owner::Netlist,
+            b"netlist: no clock",
+        )?)),
+        NetFault::NoMemory => Ok(Trouble::NoMemory),
+    }
+}
+
+fn at_place(alloc: Global, owner: Owner, text: &[u8], number: u64) -> Result<Trouble, AllocError>
+    ensures { IfOk result (λ trouble. trouble ≡ Trouble.Content (record { owner = owner; text = text.now ++ decimal number })) }
+{
+    Ok(Trouble::Content(Content::numbered(alloc, owner, text, number)?))
+}
+
+fn with_name(alloc: Global, owner: Owner, text: &[u8], name: &Name) -> Result<Trouble, AllocError>
+    ensures { IfOk result (λ trouble. trouble ≡ Trouble.Content (record { owner = owner; text = text.now ++ name.now })) }
+{
+    Ok(Trouble::Content(Content::named(alloc, owner, text, name.bytes())?))
+}
+
+fn bad_expression(alloc: Global, cell: &Name, at: u64) -> Result<Trouble, AllocError>
+    ensures { IfOk result (λ trouble. trouble ≡ library_trouble (LibertyFault.BadExpr cell.now at)) }
+{
+    let mut text = Vec::from_slice(alloc, b"library: bad expression ")?;
+    text.extend_from_slice(cell.bytes())?;
+    text.push(b' ')?;
+    push_number(&mut text, at)?;
+    let text = Seq::from_vec(text);
+    Ok(Trouble::Content(Content {
+        owner: Owner::Library,
+        text,
+    }))
+}

@@ -1,0 +1,180 @@
+//! The mode `lrat`: a proof log is checked against a formula.
+
+ghost use Rattle.std.specs.Prelude.{◌≡◌, ◌++◌, [], decimal, IfOk, IsTrue, OnOk};
+ghost use Rattle.cg_run.specs.Names.{name_of};
+ghost use Rattle.cg_run.specs.Promise.{FinishBy};
+ghost use Rattle.cg_run.specs.Reads.{Gave};
+ghost use Rattle.cg_run.specs.Run.{Runs};
+ghost use Rattle.cg_run.specs.Verdict.{Answers};
+ghost use Rattle.cg_tool.specs.Lrat.{IsChecked, cause_text, check_finish, check_text, formula_of, log_of, lrat_gives, lrat_start, lrat_takes, lrat_task};
+
+use cg_formula::{DimacsFault, Formula, read_dimacs};
+use cg_list::Seq;
+use cg_lrat::checker::Checker;
+use cg_lrat::log::Log;
+use cg_lrat::lrat::{LratFault, read_lrat};
+use cg_lrat::verdict::{Verdict, Why};
+use cg_run::{Content, Finish, Mode, Names, Output, Owner, Role, Status, Trouble, drive};
+use cg_shelf::Shelf;
+use cg_text::number::push_number;
+use std::alloc::{AllocError, Global};
+
+/// What the mode has read so far.
+#[derive(Debug, Drop)]
+pub struct Lrat {
+    pub formula: Formula,
+    pub log: Log,
+}
+
+impl Lrat {
+    /// Nothing is read yet.
+    fn start(alloc: Global) -> Lrat
+        ensures { result ≡ lrat_start }
+    {
+        Lrat {
+            formula: Formula {
+                variables: 0,
+                clauses: Seq::new(alloc),
+            },
+            log: Log {
+                steps: Seq::new(alloc),
+            },
+        }
+    }
+}
+
+impl Mode for Lrat {
+    ghost takes = { lrat_takes };
+
+    ghost gives = { lrat_gives };
+
+    fn take(self, alloc: Global, role: Role, bytes: Seq<u8>) -> Result<Lrat, Trouble> {
+        let mut next = self;
+        match role {
+            Role::Formula => {
+                next.formula = read_formula(alloc, &bytes)?;
+                Ok(next)
+            }
+            Role::Log => {
+                next.log = read_log(alloc, &bytes)?;
+                Ok(next)
+            }
+            _ => Ok(next),
+        }
+    }
+
+    fn finish(self, alloc: Global) -> Result<Output, Trouble> {
+        let found = Checker::check(alloc, &self.formula, &self.log)?;
+        let said = Seq::from_vec(check_text(alloc, found)?);
+        let finish = check_finish(found);
+        Ok(Output {
+            stores: Seq::new(alloc),
+            said,
+            finish,
+        })
+    }
+}
+
+/// Checks the log against the formula, over the shelf.
+pub fn run<S: Shelf>(alloc: Global, shelf: &mut S, names: &Names<'_>) -> Status
+    ensures runs { Runs (Gave S.gives) lrat_task (name_of names.now) (S.world shelf.old) (S.world shelf.new) result }
+
+    // A finished run checked the log that it was given, and what it accepts has no satisfying assignment.
+    ensures checked { IsTrue (S.world shelf.old).tells
+        → FinishBy (IsChecked (name_of names.now) (S.world shelf.old) (S.world shelf.new)) result }
+{
+    drive(
+        alloc,
+        shelf,
+        names,
+        &[Role::Formula, Role::Log],
+        Lrat::start(alloc),
+    )
+}
+
+fn read_formula(alloc: Global, text: &Seq<u8>) -> Result<Formula, Trouble>
+    ensures { Answers (formula_of text.now) result }
+{
+    match read_dimacs(alloc, text.as_slice()) {
+        Ok(formula) => Ok(formula),
+        Err(DimacsFault::BadHeader) => Err(Trouble::Content(Content::plain(
+            alloc,
+            Owner::Stimulus,
+            b"cnf: bad header",
+        )?)),
+        Err(DimacsFault::BadClause(line)) => Err(Trouble::Content(Content::numbered(
+            alloc,
+            Owner::Stimulus,
+            b"cnf: bad clause ",
+            line,
+        )?)),
+        Err(DimacsFault::Limit(limit)) => Err(Trouble::Limit(limit)),
+        Err(DimacsFault::NoMemory) => Err(Trouble::NoMemory),
+    }
+}
+
+fn read_log(alloc: Global, text: &Seq<u8>) -> Result<Log, Trouble>
+    ensures { Answers (log_of text.now) result }
+{
+    match read_lrat(alloc, text.as_slice()) {
+        Ok(log) => Ok(log),
+        Err(LratFault::BadLine(line)) => Err(Trouble::Content(Content::numbered(
+            alloc,
+            Owner::Stimulus,
+            b"proof: bad line ",
+            line,
+        )?)),
+        Err(LratFault::NoMemory) => Err(Trouble::NoMemory),
+    }
+}
+
+fn check_finish(found: Verdict) -> Finish
+    ensures { result ≡ check_finish found }
+{
+    match found {
+        Verdict::Accepted => Finish::Done,
+        Verdict::Rejected(_, _) => Finish::Rejected,
+    }
+}
+
+/// What is said of a check.
+fn check_text(alloc: Global, found: Verdict) -> Result<Vec<u8>, AllocError>
+    ensures { IfOk result (λ text. text.items ≡ check_text found) }
+{
+    match found {
+        Verdict::Accepted => Vec::from_slice(alloc, b"accepted\n"),
+        Verdict::Rejected(line, why) => rejected_text(alloc, line, why),
+    }
+}
+
+fn rejected_text(alloc: Global, line: u64, why: Why) -> Result<Vec<u8>, AllocError>
+    ensures { IfOk result (λ text. text.items ≡ check_text (Verdict.Rejected line why)) }
+{
+    let mut text = Vec::from_slice(alloc, b"rejected line ")?;
+    push_number(&mut text, line)?;
+    text.push(b' ')?;
+    push_cause(&mut text, why)?;
+    text.push(b'\n')?;
+    Ok(text)
+}
+
+fn push_cause(text: &mut Vec<u8>, why: Why) -> Result<(), AllocError>
+    ensures { OnOk result (text.new.items ≡ text.old.items ++ cause_text why) }
+{
+    match why {
+        Why::UsedId(id) => push_numbered(text, b"used id ", id),
+        Why::UnknownId(id) => push_numbered(text, b"unknown id ", id),
+        Why::Tautology => text.extend_from_slice(b"tautology"),
+        Why::NotUnit(hint) => push_numbered(text, b"not unit ", hint),
+        Why::NotFalse(hint) => push_numbered(text, b"not false ", hint),
+        Why::NoHint => text.extend_from_slice(b"no hint"),
+        Why::NoEmpty => text.extend_from_slice(b"no empty clause"),
+    }
+}
+
+fn push_numbered(text: &mut Vec<u8>, words: &[u8], number: u64) -> Result<(), AllocError>
+    ensures { OnOk result (text.new.items ≡ text.old.items ++ (words.now ++ decimal number)) }
+{
+    text.extend_from_slice(words)?;
+    push_number(text, number)
+}

@@ -1,2 +1,17 @@
 pub mod JoinedWords
 pub mod WrittenLines
+pub mod PinPairs
+pub mod NetsAtPins
+pub mod WordsForPins
+pub mod PlacedLogic
+pub mod PlacedFlop
+pub mod SameSaid
+pub mod PlacedFits
+pub mod MeantNames
+pub mod RowsFit
+pub mod ToldIsTaken
+pub mod WithinLimits
+pub mod LinesTell
+pub mod CanonicalWords
+pub mod CanonicalLines
+pub mod CanonicalText

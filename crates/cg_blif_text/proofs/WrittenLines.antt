@@ -50,7 +50,7 @@ fine_append : (xs ys : List ℕ) → AllByRecursion IsFine xs → AllByRecursion
 fine_append [] ys fine_xs fine_ys = fine_ys
 fine_append (x ∷ xs) ys fine_xs fine_ys = (fine_xs.0, fine_append xs ys fine_xs.1 fine_ys)
 
-name_bytes : (w : Word) → is_name w ≡ true → list_all is_name_byte w ≡ true
+pub name_bytes : (w : Word) → is_name w ≡ true → list_all is_name_byte w ≡ true
 name_bytes w name = (and_parts (ends_name (slice_get w (length w - 1))) (list_all is_name_byte w) name).1
 
 fine_line : (ws : List Word) → AllByRecursion (λ word. IsTrue (is_name word)) ws → AllByRecursion IsFine (joined ws)
@@ -72,7 +72,7 @@ last_at : (front : List ℕ) (last : ℕ) → slice_get (front ++ last ∷ []) (
 last_at [] last = refl
 last_at (x ∷ xs) last = last_at xs last
 
-last_of : (front : List ℕ) (last : ℕ) → slice_get (front ++ last ∷ []) (length (front ++ last ∷ []) - 1) ≡ Some last
+pub last_of : (front : List ℕ) (last : ℕ) → slice_get (front ++ last ∷ []) (length (front ++ last ∷ []) - 1) ≡ Some last
 last_of front last =
     let long = length-append front (last ∷ []) in
     let e : length (front ++ last ∷ []) - 1 ≡ length front = omega (arith, long) in
@@ -86,7 +86,7 @@ last_named : (front : List ℕ) (last : ℕ) → list_all is_name_byte (front ++
 last_named [] last name = ltb-true 32 last (and_parts (nat_lt 32 last) (not (last == 35)) (and_parts (is_name_byte last) true name).0).0
 last_named (x ∷ xs) last name = last_named xs last (and_parts (is_name_byte x) (list_all is_name_byte (xs ++ last ∷ [])) name).1
 
-name_ends : (w : Word) → is_name w ≡ true → EndsWell w
+pub name_ends : (w : Word) → is_name w ≡ true → EndsWell w
 name_ends [] name = absurd (both_ways false refl name)
 name_ends (x ∷ xs) name =
     let cut = cut_last x xs in

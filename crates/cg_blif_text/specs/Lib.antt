@@ -4,3 +4,9 @@ pub mod Commands
 pub mod Latches
 pub mod Meaning
 pub mod Rows
+pub mod Blocks
+pub mod Placing
+pub mod Telling
+pub mod BlifText
+pub mod Canonical
+pub mod Laws

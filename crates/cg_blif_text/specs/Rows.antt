@@ -5,13 +5,8 @@ use Rattle.std.specs.Option.{option_map, option_and_then}
 use Rattle.cg_cell.specs.Cover.{CoverData}
 use Rattle.cg_cell.specs.Name.{is_name}
 use Rattle.cg_text.specs.declared.lines.Line.{Line}
-use Rattle.cg_blif_text.specs.declared.fault.LineFault.{LineFault}
-use Rattle.cg_blif_text.specs.declared.fault.LineFault.TheVariants.{BadLine, BadCover}
-
--- the fault of a line: the number of the line, and what it has wrong
-pub record Fault : Type 0 where
-  pub line : ℕ
-  pub cause : LineFault
+use Rattle.cg_blif_text.specs.declared.fault.BlifFault.{BlifFault}
+use Rattle.cg_blif_text.specs.declared.fault.BlifFault.TheVariants.{BadLine, BadCover}
 
 -- the bit of a byte `0` or `1`; the value that a word of one byte says
 abbrev pub bit_of : ℕ → Option Bool
@@ -50,22 +45,22 @@ keeps_value None value = true
 keeps_value (Some true) value = value
 keeps_value (Some false) value = not value
 
-abbrev pub put_places : List (Option Bool) → Result CoverData Fault → Result CoverData Fault
+abbrev pub put_places : List (Option Bool) → Result CoverData BlifFault → Result CoverData BlifFault
 put_places places (Ok cover) = Ok (record cover { rows = places ∷ cover.rows })
 put_places places (Err fault) = Err fault
 
 -- a row, and then the others behind a row of its value
-abbrev pub put_row : ℕ → Option Bool → Option Row → (Option Bool → Result CoverData Fault) → Result CoverData Fault
-put_row number on None later = Err (record { line = number; cause = BadCover })
-put_row number on (Some row) later = if keeps_value on row.value then put_places row.places (later (Some row.value)) else Err (record { line = number; cause = BadCover })
+abbrev pub put_row : ℕ → Option Bool → Option Row → (Option Bool → Result CoverData BlifFault) → Result CoverData BlifFault
+put_row number on None later = Err (BadCover number)
+put_row number on (Some row) later = if keeps_value on row.value then put_places row.places (later (Some row.value)) else Err (BadCover number)
 
 -- The cover that lines say, behind rows of this value if there are some; or the fault of the first line that is no such row.
 -- Without any row the cover is 0, and the value is 1.
-abbrev pub cover_from : ℕ → List Line → Option Bool → Result CoverData Fault
+abbrev pub cover_from : ℕ → List Line → Option Bool → Result CoverData BlifFault
 cover_from inputs [] on = Ok (record { rows = []; on = unwrap_or on true })
 cover_from inputs (line ∷ later) on =
     if list_all is_name line.words then put_row line.number on (row_of inputs line.words) (cover_from inputs later)
-    else Err (record { line = line.number; cause = BadLine })
+    else Err (BadLine line.number)
 
-abbrev pub cover_of : ℕ → List Line → Result CoverData Fault
+abbrev pub cover_of : ℕ → List Line → Result CoverData BlifFault
 cover_of inputs rows = cover_from inputs rows None

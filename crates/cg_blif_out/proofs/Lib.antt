@@ -1,0 +1,4 @@
+pub mod WritingLemmas
+pub mod PinLemmas
+pub mod WholeText
+pub mod WithinNetlist

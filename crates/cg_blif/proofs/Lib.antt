@@ -1,3 +1,7 @@
 pub mod Trimmed
 pub mod Begun
 pub mod PinNets
+pub mod RowLemmas
+pub mod HearingLemmas
+pub mod PinWordLemmas
+pub mod ResumingLemmas

@@ -7,8 +7,8 @@ use Rattle.cg_text.specs.Words.{words}
 use Rattle.cg_text.specs.declared.blanks.Blanks.TheVariants.{Controls}
 use Rattle.cg_text.specs.declared.lines.Line.{Line}
 use Rattle.cg_blif_text.specs.LogicalLines.{Logical, word_lines}
-use Rattle.cg_blif.specs.declared.fault.BlifFault.{BlifFault}
-use Rattle.cg_blif.specs.declared.fault.BlifFault.TheVariants.{BadLine, NoMemory}
+use Rattle.cg_blif_text.specs.declared.fault.BlifFault.{BlifFault}
+use Rattle.cg_blif_text.specs.declared.fault.BlifFault.TheVariants.{BadLine, NoMemory}
 
 -- the words of a line
 abbrev pub words_in : List ℕ → List (List ℕ)

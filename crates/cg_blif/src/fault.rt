@@ -1,73 +1,73 @@
-//! Why a text is no netlist.
+//! Why a line is not taken, and the fault of a text that it makes.
 
 ghost use Rattle.std.specs.Prelude.{◌≡◌};
-ghost use Rattle.cg_blif.specs.declared.fault.BlifFault.TheVariants.{NoMemory};
+ghost use Rattle.cg_blif_text.specs.Telling.{at};
+ghost use Rattle.cg_blif.specs.Hearing.{at_line, heard};
+ghost use Rattle.cg_blif.specs.declared.fault.Refusal.TheVariants.{NoMemory};
 
-use cg_limit::Limit;
-use cg_netlist::fault::NetFault;
+use cg_blif_text::fault::{BlifFault, LineFault};
+use cg_netlist::fault::AddFault;
 use std::alloc::{AllocError, AllocFailed};
-use thiserror::Error;
 
-/// Why a text is no netlist: what the first line at fault has wrong, or else what the netlist of all lines has wrong. A
-/// number is that of the line, counted from 1; of a line that joins others, that of the first of them. At one line the
-/// causes are looked for in the order of this list.
-#[derive(Debug, Drop, Error)]
-pub enum BlifFault {
-    /// The first word is no known command, a word ends in `\`, the words are not of the command's form, the line stands
-    /// where it may not stand, or it is a row without a `.names` line.
-    #[error("line {0} has no known form, or stands where it may not stand")]
-    BadLine(u64),
-
-    /// A row has the wrong number of words, the wrong length or a wrong byte, or another value than the rows before it.
-    #[error("line {0} is no row of its cover")]
-    BadCover(u64),
-
-    /// A `.latch` line has the wrong number of words, another type than `re`, or an init other than 0 to 3.
-    #[error("line {0} is no rising register")]
-    BadLatch(u64),
-
-    /// The library does not have the placed cell.
-    #[error("line {0} places a cell that the library does not have")]
-    UnknownCell(u64),
-
-    /// The library's cell of that name cannot be placed.
-    #[error("line {0} places a cell that cannot be placed")]
-    UnusableCell(u64),
-
-    /// A word without `=`, or for no pin, or for a pin that was given before, or with a net that has no name; or a pin
-    /// that has to be given is not.
-    #[error("line {0} does not give the pins of its cell")]
-    PinFault(u64),
-
-    /// A second `.model` line, or one behind the `.end` line.
-    #[error("line {0} is a second model")]
-    SecondModel(u64),
-
-    /// All lines were read, and they make no well-formed netlist.
-    #[error("{0}")]
-    Net(NetFault),
-
-    /// This limit would be passed.
-    #[error("the limit of {0:?} would be passed")]
-    Limit(Limit),
+/// Why a line is not taken: what it has wrong, or that no memory was left.
+#[derive(Drop)]
+pub enum Refusal {
+    /// What the line has wrong.
+    Line(LineFault),
 
     /// No memory was left.
-    #[error("no memory")]
     NoMemory,
 }
 
-impl From<AllocError> for BlifFault {
+impl From<AllocError> for Refusal {
     ghost from_gives = { λ _ e. e ≡ NoMemory };
 
-    fn from(_refused: AllocError) -> BlifFault {
-        BlifFault::NoMemory
+    fn from(_refused: AllocError) -> Refusal {
+        Refusal::NoMemory
     }
 }
 
-impl<T: Drop> From<AllocFailed<T>> for BlifFault {
+impl<T: Drop> From<AllocFailed<T>> for Refusal {
     ghost from_gives = { λ _ e. e ≡ NoMemory };
 
-    fn from(_refused: AllocFailed<T>) -> BlifFault {
-        BlifFault::NoMemory
+    fn from(_refused: AllocFailed<T>) -> Refusal {
+        Refusal::NoMemory
+    }
+}
+
+/// What a line whose part a builder answered so is.
+pub fn heard(answer: Result<(), AddFault>) -> Result<(), Refusal>
+    ensures { result ≡ heard answer }
+{
+    match answer {
+        Ok(()) => Ok(()),
+        Err(AddFault::Limit(limit)) => Err(Refusal::Line(LineFault::Limit(limit))),
+        Err(AddFault::NoMemory) => Err(Refusal::NoMemory),
+    }
+}
+
+/// The fault of a text whose line of this number is not taken.
+pub fn at_line(number: u64, refusal: Refusal) -> BlifFault
+    ensures { result ≡ at_line number refusal }
+{
+    match refusal {
+        Refusal::Line(cause) => at(number, cause),
+        Refusal::NoMemory => BlifFault::NoMemory,
+    }
+}
+
+/// The fault of a text whose line of this number has this wrong.
+pub fn at(number: u64, cause: LineFault) -> BlifFault
+    ensures { result ≡ at number cause }
+{
+    match cause {
+        LineFault::BadLine => BlifFault::BadLine(number),
+        LineFault::BadCover => BlifFault::BadCover(number),
+        LineFault::BadLatch => BlifFault::BadLatch(number),
+        LineFault::UnknownCell => BlifFault::UnknownCell(number),
+        LineFault::UnusableCell => BlifFault::UnusableCell(number),
+        LineFault::PinFault => BlifFault::PinFault(number),
+        LineFault::SecondModel => BlifFault::SecondModel(number),
+        LineFault::Limit(limit) => BlifFault::Limit(limit),
     }
 }

@@ -3,9 +3,14 @@
 
 mod byte;
 mod command;
-pub mod fault;
+mod cover;
+mod fault;
 mod latch;
 mod lines;
+mod parts;
 mod physical;
 mod pin_word;
+mod pins;
 mod statement;
+
+pub use cg_blif_text::fault::BlifFault;

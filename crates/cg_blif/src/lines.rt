@@ -5,8 +5,8 @@ ghost use Rattle.std.specs.List.{list_all};
 ghost use Rattle.cg_cell.specs.Name.{is_name};
 ghost use Rattle.cg_blif.specs.Joining.{IsUnnamedLine, PushedWords, words_in};
 
-use crate::fault::BlifFault;
 use crate::physical::{PhysicalLines, bared, is_joined, unjoined};
+use cg_blif_text::fault::BlifFault;
 use cg_blif_text::word::Word;
 use cg_cell::name::Name;
 use cg_text::blanks::Blanks;

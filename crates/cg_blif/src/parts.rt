@@ -1,0 +1,125 @@
+//! What a line says, given to the builder.
+
+ghost use Rattle.std.specs.Prelude.{◌≡◌, ◌∷◌, ◌≤◌, [], None, IfOk, IsTrue, length, map};
+ghost use Rattle.std.specs.List.{AllByRecursion};
+ghost use Rattle.cg_cell.specs.Cover.{Fits};
+ghost use Rattle.cg_cell.specs.Name.{is_name};
+ghost use Rattle.cg_netlist.specs.declared.parts.LogicFunction.TheVariants.{Cover as CoverRows};
+ghost use Rattle.cg_netlist.specs.said.Part.{Clock, Input, Logic, Output, Register};
+ghost use Rattle.cg_blif_text.specs.Telling.{latch_register, with_parts};
+ghost use Rattle.cg_blif.specs.Hearing.{Hears};
+
+use crate::fault::{Refusal, heard};
+use cg_blif_text::word::Word;
+use cg_cell::cover::Cover;
+use cg_netlist::builder::Builder;
+use std::alloc::{AllocError, Global};
+
+/// Makes nets inputs.
+#[tactic(auto, using(crate::proofs::HearingLemmas::lists))]
+pub fn add_inputs(builder: &mut Builder, nets: &[Word<'_>]) -> Result<(), Refusal>
+    requires { builder.old.refused ≡ None }
+    ensures { Hears builder.old builder.new (with_parts (map (λ net. Input net) nets.now) builder.old.said) result }
+{
+    'nets: for net in nets {
+        add_input(builder, net)?;
+    }
+    Ok(())
+}
+
+// Makes a net an input.
+fn add_input(builder: &mut Builder, net: &Word<'_>) -> Result<(), Refusal>
+    requires { builder.old.refused ≡ None }
+    ensures { Hears builder.old builder.new (with_parts (Input net.now ∷ []) builder.old.said) result }
+{
+    heard(builder.input(net.bytes()))
+}
+
+/// Makes nets outputs.
+#[tactic(auto, using(crate::proofs::HearingLemmas::lists))]
+pub fn add_outputs(builder: &mut Builder, nets: &[Word<'_>]) -> Result<(), Refusal>
+    requires { builder.old.refused ≡ None }
+    ensures { Hears builder.old builder.new (with_parts (map (λ net. Output net) nets.now) builder.old.said) result }
+{
+    'nets: for net in nets {
+        add_output(builder, net)?;
+    }
+    Ok(())
+}
+
+// Makes a net an output.
+fn add_output(builder: &mut Builder, net: &Word<'_>) -> Result<(), Refusal>
+    requires { builder.old.refused ≡ None }
+    ensures { Hears builder.old builder.new (with_parts (Output net.now ∷ []) builder.old.said) result }
+{
+    heard(builder.output(net.bytes()))
+}
+
+/// Declares nets to be the clock.
+#[tactic(auto, using(crate::proofs::HearingLemmas::lists))]
+pub fn add_clocks(builder: &mut Builder, nets: &[Word<'_>]) -> Result<(), Refusal>
+    requires { builder.old.refused ≡ None }
+    ensures { Hears builder.old builder.new (with_parts (map (λ net. Clock net) nets.now) builder.old.said) result }
+{
+    'nets: for net in nets {
+        add_clock(builder, net.bytes())?;
+    }
+    Ok(())
+}
+
+/// Declares a net to be the clock.
+pub fn add_clock(builder: &mut Builder, net: &[u8]) -> Result<(), Refusal>
+    requires builder { builder.old.refused ≡ None }
+    requires name { IsTrue (is_name net.now) }
+    ensures { Hears builder.old builder.new (with_parts (Clock net.now ∷ []) builder.old.said) result }
+{
+    heard(builder.clock(net))
+}
+
+/// Adds a logic cell of this cover.
+pub fn add_cover(
+    alloc: Global,
+    builder: &mut Builder,
+    inputs: &[Word<'_>],
+    output: &Word<'_>,
+    cover: Cover,
+) -> Result<(), Refusal>
+    requires builder { builder.old.refused ≡ None }
+    requires few { length inputs.now ≤ 256 }
+    requires fits { Fits (length inputs.now) cover }
+    ensures { Hears builder.old builder.new (with_parts (Logic (record { inputs = inputs.now; output = output.now; function = CoverRows cover }) ∷ []) builder.old.said) result }
+{
+    let inputs = names(alloc, inputs)?;
+    heard(builder.cover(&inputs, output.bytes(), cover))
+}
+
+// The bytes of words.
+fn names<'a>(alloc: Global, words: &[Word<'a>]) -> Result<Vec<&'a [u8]>, AllocError>
+    ensures bytes { IfOk result (λ names. map (λ name. name.now) names.items ≡ words.now) }
+    ensures named { IfOk result (λ names. AllByRecursion (λ name. IsTrue (is_name name)) (map (λ name. name.now) names.items)) }
+{
+    let mut names = Vec::with_capacity(alloc, words.len())?;
+    'words: for word in words {
+        names.push(word.bytes())?;
+    }
+    Ok(names)
+}
+
+/// Adds a plain register.
+pub fn add_latch(
+    builder: &mut Builder,
+    input: &Word<'_>,
+    output: &Word<'_>,
+    clock: &Option<Word<'_>>,
+    init: u8,
+) -> Result<(), Refusal>
+    requires builder { builder.old.refused ≡ None }
+    requires init { init ≤ 3 }
+    ensures { Hears builder.old builder.new (with_parts (Register (latch_register input.now output.now clock.now init) ∷ []) builder.old.said) result }
+{
+    let clock = match clock {
+        None => None,
+        Some(clock) => Some(clock.bytes()),
+    };
+    heard(builder.register(None, &[input.bytes()], &[(output.bytes(), 0)], clock, init))
+}

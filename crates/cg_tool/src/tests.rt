@@ -213,6 +213,14 @@ fn netlists(rt: HostRuntime) -> Result<(), Fail> {
             ".model m\n.inputs c d\n.outputs q\n.latch d q re d 0\n.end\n",
             "clockgate: netlist: clock fault d\n",
         ),
+    ];
+    try_cases(&rt, rt.alloc(), &cases)?;
+    Ok(())
+}
+
+#[test]
+fn libraries(rt: HostRuntime) -> Result<(), Fail> {
+    let cases = [
         unread("", "clockgate: library: bad group 0\n"),
         unread("library (l) { \" }", "clockgate: library: bad token 14\n"),
         unread(
@@ -252,135 +260,48 @@ struct Failing<'a> {
     calls: &'a [(Call, &'a str)],
 }
 
-#[test]
-fn each_call_failing_in_turn(rt: HostRuntime) -> Result<(), Fail> {
-    let stages = "stages 0 inserted 0\n";
-    let gate = [
-        (Call::Load, "L"),
-        (Call::Load, "A"),
-        (Call::Store, "B"),
-        (Call::Say, ""),
-        (Call::Complain, ""),
-    ];
-    let first = [(Call::Load, "L"), (Call::Complain, "")];
-    let second = [(Call::Load, "L"), (Call::Load, "A"), (Call::Complain, "")];
-    let third = [
-        (Call::Load, "L"),
-        (Call::Load, "A"),
-        (Call::Store, "B"),
-        (Call::Complain, ""),
-    ];
-    let lrat = [
-        (Call::Load, "C"),
-        (Call::Load, "P"),
-        (Call::Say, ""),
-        (Call::Complain, ""),
-    ];
-    let formula = [(Call::Load, "C"), (Call::Complain, "")];
-    let proof = [(Call::Load, "C"), (Call::Load, "P"), (Call::Complain, "")];
-    let cases = [
-        Failing {
-            words: "gate L A B",
-            failing: &[],
-            status: Status::Done,
-            said: stages,
-            complained: "",
-            stored: COMB,
-            calls: &gate[..4],
-        },
-        Failing {
-            words: "gate L A B",
-            failing: &[0],
-            status: Status::ReadFault,
-            said: "",
-            complained: "clockgate: read fault L\n",
-            stored: "old",
-            calls: &first,
-        },
-        Failing {
-            words: "gate L A B",
-            failing: &[1],
-            status: Status::ReadFault,
-            said: "",
-            complained: "clockgate: read fault A\n",
-            stored: "old",
-            calls: &second,
-        },
-        Failing {
-            words: "gate L A B",
-            failing: &[2],
-            status: Status::WriteFault,
-            said: "",
-            complained: "clockgate: write fault B\n",
-            stored: "old",
-            calls: &third,
-        },
-        Failing {
-            words: "gate L A B",
-            failing: &[3],
-            status: Status::WriteFault,
-            said: "",
-            complained: "clockgate: write fault -\n",
-            stored: COMB,
-            calls: &gate,
-        },
-        Failing {
-            words: "gate L A B",
-            failing: &[2, 3],
-            status: Status::WriteFault,
-            said: "",
-            complained: "",
-            stored: "old",
-            calls: &third,
-        },
-        Failing {
-            words: "lrat C P",
-            failing: &[],
-            status: Status::Done,
-            said: "accepted\n",
-            complained: "",
-            stored: "old",
-            calls: &lrat[..3],
-        },
-        Failing {
-            words: "lrat C P",
-            failing: &[0],
-            status: Status::ReadFault,
-            said: "",
-            complained: "clockgate: read fault C\n",
-            stored: "old",
-            calls: &formula,
-        },
-        Failing {
-            words: "lrat C P",
-            failing: &[1],
-            status: Status::ReadFault,
-            said: "",
-            complained: "clockgate: read fault P\n",
-            stored: "old",
-            calls: &proof,
-        },
-        Failing {
-            words: "lrat C P",
-            failing: &[2],
-            status: Status::WriteFault,
-            said: "",
-            complained: "clockgate: write fault -\n",
-            stored: "old",
-            calls: &lrat,
-        },
-        Failing {
-            words: "lrat C P",
-            failing: &[2, 3],
-            status: Status::WriteFault,
-            said: "",
-            complained: "",
-            stored: "old",
-            calls: &lrat,
-        },
-    ];
-    let alloc = rt.alloc();
-    for case in &cases {
+/// A run of `gate` over the files L and A, into B.
+fn gating<'a>(
+    failing: &'a [u64],
+    status: Status,
+    said: &'a str,
+    complained: &'a str,
+    stored: &'a str,
+    calls: &'a [(Call, &'a str)],
+) -> Failing<'a> {
+    Failing {
+        words: "gate L A B",
+        failing,
+        status,
+        said,
+        complained,
+        stored,
+        calls,
+    }
+}
+
+/// A run of `lrat` over the files C and P.
+fn checking<'a>(
+    failing: &'a [u64],
+    status: Status,
+    said: &'a str,
+    complained: &'a str,
+    calls: &'a [(Call, &'a str)],
+) -> Failing<'a> {
+    Failing {
+        words: "lrat C P",
+        failing,
+        status,
+        said,
+        complained,
+        stored: "old",
+        calls,
+    }
+}
+
+/// Runs the cases in turn, each over a new shelf.
+fn try_failing(rt: &impl Abort, alloc: Global, cases: &[Failing<'_>]) -> Result<(), AllocError> {
+    for case in cases {
         let mut shelf = MemShelf::new(alloc, case.failing)?;
         shelf.put("L", LIB.as_bytes())?;
         shelf.put("A", COMB.as_bytes())?;
@@ -405,6 +326,110 @@ fn each_call_failing_in_turn(rt: HostRuntime) -> Result<(), Fail> {
             assert_eq!(rt; made.name.bytes(), name.as_bytes());
         }
     }
+    Ok(())
+}
+
+static GATE: [(Call, &str); 5] = [
+    (Call::Load, "L"),
+    (Call::Load, "A"),
+    (Call::Store, "B"),
+    (Call::Say, ""),
+    (Call::Complain, ""),
+];
+
+static NO_LIBRARY: [(Call, &str); 2] = [(Call::Load, "L"), (Call::Complain, "")];
+
+static NO_NETLIST: [(Call, &str); 3] = [(Call::Load, "L"), (Call::Load, "A"), (Call::Complain, "")];
+
+static NO_STORE: [(Call, &str); 4] = [
+    (Call::Load, "L"),
+    (Call::Load, "A"),
+    (Call::Store, "B"),
+    (Call::Complain, ""),
+];
+
+#[test]
+fn each_call_of_gate_failing_in_turn(rt: HostRuntime) -> Result<(), Fail> {
+    let stages = "stages 0 inserted 0\n";
+    let cases = [
+        gating(&[], Status::Done, stages, "", COMB, &GATE[..4]),
+        gating(
+            &[0],
+            Status::ReadFault,
+            "",
+            "clockgate: read fault L\n",
+            "old",
+            &NO_LIBRARY,
+        ),
+        gating(
+            &[1],
+            Status::ReadFault,
+            "",
+            "clockgate: read fault A\n",
+            "old",
+            &NO_NETLIST,
+        ),
+        gating(
+            &[2],
+            Status::WriteFault,
+            "",
+            "clockgate: write fault B\n",
+            "old",
+            &NO_STORE,
+        ),
+        gating(
+            &[3],
+            Status::WriteFault,
+            "",
+            "clockgate: write fault -\n",
+            COMB,
+            &GATE,
+        ),
+        gating(&[2, 3], Status::WriteFault, "", "", "old", &NO_STORE),
+    ];
+    try_failing(&rt, rt.alloc(), &cases)?;
+    Ok(())
+}
+
+static LRAT: [(Call, &str); 4] = [
+    (Call::Load, "C"),
+    (Call::Load, "P"),
+    (Call::Say, ""),
+    (Call::Complain, ""),
+];
+
+static NO_FORMULA: [(Call, &str); 2] = [(Call::Load, "C"), (Call::Complain, "")];
+
+static NO_PROOF: [(Call, &str); 3] = [(Call::Load, "C"), (Call::Load, "P"), (Call::Complain, "")];
+
+#[test]
+fn each_call_of_lrat_failing_in_turn(rt: HostRuntime) -> Result<(), Fail> {
+    let cases = [
+        checking(&[], Status::Done, "accepted\n", "", &LRAT[..3]),
+        checking(
+            &[0],
+            Status::ReadFault,
+            "",
+            "clockgate: read fault C\n",
+            &NO_FORMULA,
+        ),
+        checking(
+            &[1],
+            Status::ReadFault,
+            "",
+            "clockgate: read fault P\n",
+            &NO_PROOF,
+        ),
+        checking(
+            &[2],
+            Status::WriteFault,
+            "",
+            "clockgate: write fault -\n",
+            &LRAT,
+        ),
+        checking(&[2, 3], Status::WriteFault, "", "", &LRAT),
+    ];
+    try_failing(&rt, rt.alloc(), &cases)?;
     Ok(())
 }
 
@@ -449,6 +474,16 @@ fn words(rt: HostRuntime) -> Result<(), Fail> {
         usage("gate B A B"),
         usage("gate B B A"),
         usage("gate L A A"),
+    ];
+    try_cases(&rt, rt.alloc(), &cases)?;
+    let mut shelf = MemShelf::new(rt.alloc(), &[])?;
+    assert_eq!(rt; run(rt.alloc(), &[], &mut shelf), Status::Usage);
+    Ok(())
+}
+
+#[test]
+fn options(rt: HostRuntime) -> Result<(), Fail> {
+    let cases = [
         // help, no options
         usage("--help"),
         usage("lrat A B --help"),
@@ -458,6 +493,14 @@ fn words(rt: HostRuntime) -> Result<(), Fail> {
         usage("lrat A B -x"),
         usage("lrat A B --files=C"),
         usage("lrat -A B"),
+    ];
+    try_cases(&rt, rt.alloc(), &cases)?;
+    Ok(())
+}
+
+#[test]
+fn dashes(rt: HostRuntime) -> Result<(), Fail> {
+    let cases = [
         // a lone dash is a file, and behind two dashes every word is one
         missing("lrat - B", "clockgate: read fault -\n"),
         missing("lrat -- -A B", "clockgate: read fault -A\n"),
@@ -477,7 +520,5 @@ fn words(rt: HostRuntime) -> Result<(), Fail> {
         },
     ];
     try_cases(&rt, rt.alloc(), &cases)?;
-    let mut shelf = MemShelf::new(rt.alloc(), &[])?;
-    assert_eq!(rt; run(rt.alloc(), &[], &mut shelf), Status::Usage);
     Ok(())
 }

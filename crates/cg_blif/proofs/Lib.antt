@@ -5,3 +5,4 @@ pub mod RowLemmas
 pub mod HearingLemmas
 pub mod PinWordLemmas
 pub mod ResumingLemmas
+pub mod PlaceLemmas

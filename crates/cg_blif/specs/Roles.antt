@@ -1,5 +1,5 @@
 -- The nets at pins, as a reader finds them.
-use Rattle.std.specs.Prelude.{ℕ, Bool, List, map, Option}
+use Rattle.std.specs.Prelude.{ℕ, Bool, List, map, Option, Result, Ok, Err, ◌≡◌, None, Some}
 use Rattle.std.specs.List.{list_any}
 use Rattle.std.specs.Option.{option_map}
 use Rattle.std.specs.Borrow.{Bor}
@@ -11,6 +11,9 @@ use Rattle.cg_cell.specs.declared.cell.Role.TheVariants.{Data, Clock, Enable, Te
 use Rattle.cg_netlist.specs.said.Wiring.{NetName}
 use Rattle.cg_blif_text.specs.PinWords.{PinNet}
 use Rattle.cg_blif_text.specs.Placing.{Shown}
+use Rattle.cg_blif_text.specs.declared.fault.LineFault.TheVariants.{PinFault}
+use Rattle.cg_blif.specs.declared.fault.Refusal.{Refusal}
+use Rattle.cg_blif.specs.declared.fault.Refusal.TheVariants.{Line, NoMemory}
 
 -- whether a pin is of a role; the two roles of a register's outputs are one here
 abbrev pub has_role : Role → PinData → Bool
@@ -36,3 +39,9 @@ net_and_place output = (output.0.now, output.1)
 
 abbrev pub seen_outputs : List Shown → List (NetName × ℕ)
 seen_outputs shown = map (λ output. (output.0.0, output.1)) shown
+
+-- the nets at the pins of a role are answered, or that one of them has none, or memory is wanting
+abbrev pub AllAt : {A : Type 0} → Option (List NetName) → Result (Vec (Bor (List ℕ)) A) Refusal → Type 0
+AllAt made (Ok nets) = made ≡ Some (map (λ net. net.now) nets.items)
+AllAt made (Err (Line cause)) = (cause ≡ PinFault) × (made ≡ None)
+AllAt made (Err NoMemory) = Unit {0}

@@ -11,6 +11,7 @@ mod parts;
 mod physical;
 mod pin_word;
 mod pins;
+mod place;
 mod statement;
 
 pub use cg_blif_text::fault::BlifFault;

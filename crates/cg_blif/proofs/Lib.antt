@@ -6,3 +6,5 @@ pub mod HearingLemmas
 pub mod PinWordLemmas
 pub mod ResumingLemmas
 pub mod PlaceLemmas
+pub mod ReadingLemmas
+pub mod NetlistLemmas

@@ -1,4 +1,19 @@
-//! The reader of BLIF texts.
+//! Reads a BLIF text with the cells of a library.
+//!
+//! In go the bytes of a file, a library, and a net that is declared to be the clock where one is given. Out comes the
+//! netlist that the text says, or the first fault of the text with its line. What a text says stands in
+//! `cg_blif_text`; docs/FORMATS.md writes the format out.
+//!
+//! In the order in which data flows through them:
+//!
+//! - `byte`, `physical`, `lines`: the lines of a text, without comments and joined, as words;
+//! - `command`, `latch`, `pin_word`, `statement`: what the words of a line say;
+//! - `cover`: the rows behind a `.names` line;
+//! - `pins`, `place`, `parts`: the parts that a line says, given to a builder;
+//! - `reading`: what was read of a text so far, and one line more;
+//! - [`options`]: what a reader is told beside the text;
+//! - [`reader`]: the netlist of a whole text;
+//! - `fault`: why a line is not taken.
 #![tactic(auto)]
 
 mod byte;
@@ -7,11 +22,16 @@ mod cover;
 mod fault;
 mod latch;
 mod lines;
+pub mod options;
 mod parts;
 mod physical;
 mod pin_word;
 mod pins;
 mod place;
+pub mod reader;
+mod reading;
 mod statement;
 
 pub use cg_blif_text::fault::BlifFault;
+pub use options::BlifOptions;
+pub use reader::read_blif;

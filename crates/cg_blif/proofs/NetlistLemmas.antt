@@ -1,0 +1,110 @@
+-- The netlist that a text says, as it is read.
+use Rattle.std.proofs.Common.{◌≡◌, ℕ, List, Option, Result, Ok, Err, refl, sym, ap, ◌∙◌, inl, inr}
+use Rattle.std.specs.Prelude.{IfErr, IfOk, MatchResult}
+use Rattle.std.specs.List.{AllByRecursion}
+use Rattle.cg_cell.specs.Cell.{CellData, IsCell}
+use Rattle.cg_netlist.specs.Circuit.{Circuit}
+use Rattle.cg_netlist.specs.declared.fault.NetFault.{NetFault}
+use Rattle.cg_netlist.specs.declared.fault.NetFault.TheVariants as nets
+use Rattle.cg_netlist.specs.said.Building.{Building, Finishes}
+use Rattle.cg_netlist.specs.said.Part.{Part}
+use Rattle.cg_netlist.specs.said.Said.{said}
+use Rattle.cg_netlist.specs.said.Says.{Says}
+use Rattle.cg_netlist.specs.said.Wiring.{NetName}
+use Rattle.cg_netlist.specs.said.Writable.{IsWritable}
+use Rattle.cg_netlist.proofs.said.NoneBeside.{faultless}
+use Rattle.cg_netlist.proofs.said.OneFault.{no_fault}
+use Rattle.cg_blif_text.specs.declared.fault.BlifFault.{BlifFault}
+use Rattle.cg_blif_text.specs.declared.fault.BlifFault.TheVariants as faults
+use Rattle.cg_blif_text.specs.BlifText.{BlifText, IsFirstFault, told_by}
+use Rattle.cg_blif_text.specs.Telling.{Told}
+use Rattle.cg_blif_text.proofs.CanonicalText.{no_two}
+use Rattle.cg_blif_text.proofs.SameSaid.{says_alike}
+use Rattle.cg_blif_text.proofs.ToldIsTaken.{text_is_writable, told_taken}
+use Rattle.cg_blif.specs.Resuming.{FinishesAs, IsFaultOf, IsFirstOrNoMemory, IsRead, IsReadFrom, told_of, unfinished}
+
+pub finish_fails : (b : Building) (fault : NetFault) → Finishes b (Err fault) → FinishesAs b (Err (unfinished fault))
+finish_fails b (nets.TwoDrivers net) is = λ parts same. elim (is parts same) [ inl none ↦ absurd (cc) | inr fault ↦ fault ]
+finish_fails b (nets.NoDriver net) is = λ parts same. elim (is parts same) [ inl none ↦ absurd (cc) | inr fault ↦ fault ]
+finish_fails b (nets.Cycle net) is = λ parts same. elim (is parts same) [ inl none ↦ absurd (cc) | inr fault ↦ fault ]
+finish_fails b (nets.ClockFault net) is = λ parts same. elim (is parts same) [ inl none ↦ absurd (cc) | inr fault ↦ fault ]
+finish_fails b nets.NoClock is = λ parts same. elim (is parts same) [ inl none ↦ absurd (cc) | inr fault ↦ fault ]
+finish_fails b nets.NoMemory is = tt
+
+-- what was told is one thing
+one_told : (s t : Told) → ◌≡◌ {A = Result Told BlifFault} (Ok s) (Ok t) → s ≡ t
+one_told s t is = cc
+
+renamed : (model other : List ℕ) (parts : List Part) (c : Circuit) → other ≡ c.model → Says model parts c → Says other parts c
+renamed model other parts c is says = record { model_is = sym is; wired_is = says.wired_is; rooted = says.rooted; formed = says.formed; ordered = says.ordered; few_nets = says.few_nets; few_registers = says.few_registers }
+
+module _ (text : List ℕ) (library : List CellData) (clock : Option NetName) where
+  -- a text that says a netlist has no fault
+  none_beside : (c : Circuit) (fault : BlifFault) → BlifText text library clock c → IsFirstFault text library clock fault → ⊥
+  none_beside c (faults.Net fault) says first =
+      let told : says.tells.told ≡ first.tells.told = one_told says.tells.told first.tells.told (sym says.tells.faultless ∙ first.tells.faultless) in
+      let same : said says.parts ≡ said first.parts = sym says.tells.said_is ∙ (ap (λ (t : Told). t.said) told ∙ first.tells.said_is) in
+      no_fault first.parts fault first.first (faultless c.model first.parts c (says_alike c.model says.parts first.parts c same says.says))
+  none_beside c (faults.BadLine n) says first = absurd (let no : ◌≡◌ {A = Result Told BlifFault} (Ok says.tells.told) (Err (faults.BadLine n)) = sym says.tells.faultless ∙ first in cc)
+  none_beside c (faults.BadCover n) says first = absurd (let no : ◌≡◌ {A = Result Told BlifFault} (Ok says.tells.told) (Err (faults.BadCover n)) = sym says.tells.faultless ∙ first in cc)
+  none_beside c (faults.BadLatch n) says first = absurd (let no : ◌≡◌ {A = Result Told BlifFault} (Ok says.tells.told) (Err (faults.BadLatch n)) = sym says.tells.faultless ∙ first in cc)
+  none_beside c (faults.UnknownCell n) says first = absurd (let no : ◌≡◌ {A = Result Told BlifFault} (Ok says.tells.told) (Err (faults.UnknownCell n)) = sym says.tells.faultless ∙ first in cc)
+  none_beside c (faults.UnusableCell n) says first = absurd (let no : ◌≡◌ {A = Result Told BlifFault} (Ok says.tells.told) (Err (faults.UnusableCell n)) = sym says.tells.faultless ∙ first in cc)
+  none_beside c (faults.PinFault n) says first = absurd (let no : ◌≡◌ {A = Result Told BlifFault} (Ok says.tells.told) (Err (faults.PinFault n)) = sym says.tells.faultless ∙ first in cc)
+  none_beside c (faults.SecondModel n) says first = absurd (let no : ◌≡◌ {A = Result Told BlifFault} (Ok says.tells.told) (Err (faults.SecondModel n)) = sym says.tells.faultless ∙ first in cc)
+  none_beside c (faults.Limit l) says first = absurd (let no : ◌≡◌ {A = Result Told BlifFault} (Ok says.tells.told) (Err (faults.Limit l)) = sym says.tells.faultless ∙ first in cc)
+  none_beside c faults.NoMemory says first = absurd (let no : ◌≡◌ {A = Result Told BlifFault} (Ok says.tells.told) (Err faults.NoMemory) = sym says.tells.faultless ∙ first in cc)
+
+  -- a fault of a line is the first fault
+  pub line_first : (fault : BlifFault) → IsFaultOf (told_by library clock text) fault → IsFirstOrNoMemory text library clock fault
+  line_first faults.NoMemory is = tt
+  line_first (faults.Net fault) is = absurd is
+  line_first (faults.BadLine n) is = is
+  line_first (faults.BadCover n) is = is
+  line_first (faults.BadLatch n) is = is
+  line_first (faults.UnknownCell n) is = is
+  line_first (faults.UnusableCell n) is = is
+  line_first (faults.PinFault n) is = is
+  line_first (faults.SecondModel n) is = is
+  line_first (faults.Limit l) is = is
+
+  module _ (cells : AllByRecursion IsCell library) where
+    -- what a builder finishes as that was told all of the text
+    pub finished : (b : Building) (result : Result Circuit BlifFault) → IsRead library clock text (Ok b) → FinishesAs b result → IsReadFrom text library clock result
+    finished b (Ok c) read finishes =
+        let taken = told_taken library cells clock text (told_of read.2.0 b) read.1 read.2.1 in
+        let says = finishes taken.said.parts (sym taken.said.is) in (
+          record {
+            parts = taken.said.parts;
+            tells = record { told = told_of read.2.0 b; faultless = read.2.1; model_is = sym says.model_is; said_is = taken.said.is };
+            says = renamed b.model c.model taken.said.parts c refl says;
+          },
+          read.1,
+        )
+    finished b (Err faults.NoMemory) read finishes = tt
+    finished b (Err (faults.Net fault)) read finishes =
+        let taken = told_taken library cells clock text (told_of read.2.0 b) read.1 read.2.1 in
+        record {
+          model = b.model;
+          parts = taken.said.parts;
+          tells = record { told = told_of read.2.0 b; faultless = read.2.1; model_is = refl; said_is = taken.said.is };
+          first = finishes taken.said.parts (sym taken.said.is);
+        }
+    finished b (Err fault) read finishes = absurd finishes
+
+  pub found : (result : Result Circuit BlifFault) → IsReadFrom text library clock result → IfOk result (λ c. BlifText text library clock c)
+  found (Ok c) is = is.0
+  found (Err fault) is = tt
+
+  pub first : (result : Result Circuit BlifFault) → IsReadFrom text library clock result → IfErr result (IsFirstOrNoMemory text library clock)
+  first (Ok c) is = tt
+  first (Err fault) is = is
+
+  pub only : (result : Result Circuit BlifFault) → IsReadFrom text library clock result → (c : Circuit) → BlifText text library clock c → MatchResult result (λ n. n ≡ c) (λ fault. fault ≡ faults.NoMemory)
+  only (Ok n) is c says = no_two text library clock n c is.0 says
+  only (Err faults.NoMemory) is c says = refl
+  only (Err fault) is c says = absurd (none_beside c fault says is)
+
+  pub writable : (result : Result Circuit BlifFault) → AllByRecursion IsCell library → IsReadFrom text library clock result → IfOk result (IsWritable library)
+  writable (Ok c) cells is = text_is_writable library cells clock text c is.1 is.0
+  writable (Err fault) cells is = tt

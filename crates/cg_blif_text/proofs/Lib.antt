@@ -15,3 +15,5 @@ pub mod LinesTell
 pub mod CanonicalWords
 pub mod CanonicalLines
 pub mod CanonicalText
+pub mod SameFaults
+pub mod ReadOnce

@@ -44,22 +44,24 @@ pub record IsTaken (library : List CellData) (s : Said) : Type 0 where
   pub is : s ≡ said parts
   pub each : AllByRecursion IsPart parts
   pub lines : AllByRecursion (IsLine library) parts
+  pub few : limit_of s ≡ None
 
 module _ (library : List CellData) (cells : AllByRecursion IsCell library) where
   -- more parts
 
   more_taken : (more : List Part) (s t : Said) → IsTaken library s → AllByRecursion IsPart more → AllByRecursion (IsLine library) more → with_parts more s ≡ Ok t → IsTaken library t
   more_taken [] s t taken each lines is = let same : s ≡ t = cc in subst (IsTaken library) same taken
-  more_taken (p ∷ more) s t taken each lines is = go (limit_of (with_part s p)) is (more_taken more (with_part s p) t (record {
+  more_taken (p ∷ more) s t taken each lines is = go (limit_of (with_part s p)) refl is (λ few later. more_taken more (with_part s p) t (record {
     parts = taken.parts ++ p ∷ [];
     is = ap (λ u. with_part u p) taken.is ∙ sym (said_more taken.parts p);
     each = each_together IsPart taken.parts (p ∷ []) taken.each (each.0, tt);
     lines = each_together (IsLine library) taken.parts (p ∷ []) taken.lines (lines.0, tt);
-  }) each.1 lines.1)
+    few = few;
+  }) each.1 lines.1 later)
     where
-      go : (o : Option Limit) → unless o (with_parts more (with_part s p)) ≡ Ok t → (with_parts more (with_part s p) ≡ Ok t → IsTaken library t) → IsTaken library t
-      go None q back = back q
-      go (Some limit) q back = absurd (cc)
+      go : (o : Option Limit) → limit_of (with_part s p) ≡ o → unless o (with_parts more (with_part s p)) ≡ Ok t → (limit_of (with_part s p) ≡ None → with_parts more (with_part s p) ≡ Ok t → IsTaken library t) → IsTaken library t
+      go None e q back = back e q
+      go (Some limit) e q back = absurd (cc)
 
   -- the parts of a statement
 
@@ -183,7 +185,7 @@ module _ (library : List CellData) (cells : AllByRecursion IsCell library) where
   cut_taken (row ∷ rows) blocks told after taken is = absurd (cc)
 
   untold_taken : IsToldTaken untold
-  untold_taken = record { model = refl; said = record { parts = []; is = refl; each = tt; lines = tt } }
+  untold_taken = record { model = refl; said = record { parts = []; is = refl; each = tt; lines = tt; few = refl } }
 
   clock_taken : (clock : Option Word) (told after : Told) → AllByRecursion IsNamed (option_to_list clock) → IsToldTaken told → tell_clock clock told ≡ Ok after → IsToldTaken after
   clock_taken None told after named taken is = told_as told after taken is

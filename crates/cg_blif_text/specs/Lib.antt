@@ -10,3 +10,4 @@ pub mod Telling
 pub mod BlifText
 pub mod Canonical
 pub mod Laws
+pub mod ReadAs

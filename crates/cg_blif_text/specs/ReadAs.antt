@@ -1,0 +1,34 @@
+-- What a text is read as: the netlist that it says, or why it says none.
+use Rattle.std.specs.Prelude.{◌≡◌, ◌⊎◌, ℕ, List, Option, Result, Ok, Err, IsTrue}
+use Rattle.std.specs.List.{AllByRecursion}
+use Rattle.std.specs.Option.{option_to_list}
+use Rattle.cg_cell.specs.Cell.{CellData, IsCell}
+use Rattle.cg_cell.specs.Name.{is_name}
+use Rattle.cg_netlist.specs.Circuit.{Circuit}
+use Rattle.cg_netlist.specs.declared.fault.NetFault.{NetFault}
+use Rattle.cg_netlist.specs.said.Wiring.{NetName}
+use Rattle.cg_blif_text.specs.declared.fault.BlifFault.{BlifFault}
+use Rattle.cg_blif_text.specs.declared.fault.BlifFault.TheVariants.{Net}
+use Rattle.cg_blif_text.specs.BlifText.{BlifText, HasNetFault, told_by}
+
+-- the text is refused for this fault: that of its first line that has one, or else that of its parts
+abbrev pub IsRefused : List CellData → Option NetName → List ℕ → BlifFault → Type 0
+IsRefused library clock text fault = (told_by library clock text ≡ Err fault) ⊎ ((net : NetFault) × (fault ≡ Net net) × HasNetFault text library clock net)
+
+-- the text is read as this
+abbrev pub IsReadAs : List CellData → Option NetName → List ℕ → Result Circuit BlifFault → Type 0
+IsReadAs library clock text (Ok c) = BlifText text library clock c
+IsReadAs library clock text (Err fault) = IsRefused library clock text fault
+
+-- the cells of the library are cells, and the clock of the option has a name
+pub record AreProper (library : List CellData) (clock : Option NetName) : Type 0 where
+  pub cells : AllByRecursion IsCell library
+  pub named : AllByRecursion (λ net. IsTrue (is_name net)) (option_to_list clock)
+
+-- What a text is read as with a proper library and clock, and that it is: each text is read as one thing, and no text as two.
+-- A netlist is answered with a proper library and clock alone.
+pub record ReadAs (library : List CellData) (clock : Option NetName) (text : List ℕ) : Type 0 where
+  pub result : Result Circuit BlifFault
+  pub says : (c : Circuit) → result ≡ Ok c → BlifText text library clock c
+  pub proper : (c : Circuit) → result ≡ Ok c → AreProper library clock
+  pub is : AreProper library clock → IsReadAs library clock text result

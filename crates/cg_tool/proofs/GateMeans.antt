@@ -5,12 +5,14 @@ use Rattle.cg_cell.specs.Cell.{CellData}
 use Rattle.cg_liberty.proofs.LibTexts.{text_of_library}
 use Rattle.cg_liberty.specs.LibText.{LibText}
 use Rattle.cg_liberty.specs.Library.{library_of}
-use Rattle.cg_netlist.specs.BlifText.{BlifText}
-use Rattle.cg_netlist.specs.Canonical.{blif}
-use Rattle.cg_netlist.specs.Circuit.{Circuit}
+use Rattle.cg_blif_text.specs.BlifText.{BlifText}
+use Rattle.cg_blif_text.specs.Canonical.{blif}
+use Rattle.cg_blif_text.specs.ReadAs.{AreProper}
+use Rattle.cg_blif_text.proofs.CanonicalText.{no_two, says_itself}
+use Rattle.cg_blif_text.proofs.ToldIsTaken.{text_is_writable}
+use Rattle.cg_netlist.specs.Circuit.{Circuit, GatingCell}
 use Rattle.cg_netlist.specs.History.{HasHistory, HasOneHistory, IsLawful, IsStart, IsWaveform, Moment, Tick, outputs_of}
-use Rattle.cg_netlist.specs.PlainText.{PlainText}
-use Rattle.cg_netlist.proofs.CanonicalSays.{canonical_says}
+use Rattle.cg_netlist.specs.said.Wiring.{NetName}
 use Rattle.cg_netlist.proofs.Histories.{has_history, has_one_history}
 use Rattle.cg_shelf.specs.World.{World}
 use Rattle.cg_run.specs.declared.output.Finish.{Finish}
@@ -22,13 +24,11 @@ use Rattle.cg_run.specs.declared.role.Role.TheVariants as roles
 use Rattle.cg_run.specs.Writes.{Written, put, puts}
 use Rattle.cg_run.proofs.Finished.{Finishes}
 use Rattle.cg_run.proofs.Steps.{found_ok, held_so, put_here, step_end, step_of}
-use Rattle.cg_tool.specs.Drafting.{netlist_said}
-use Rattle.cg_tool.specs.Gate.{Behaves, IsGated, gate_gives, gate_start, gate_takes, gate_task, gated, given_output, library_found, library_trouble, netlist_found, netlist_trouble}
+use Rattle.cg_tool.specs.NetlistSaid.{netlist_said}
+use Rattle.cg_tool.specs.Gate.{Behaves, IsGated, gate_gives, gate_start, gate_takes, gate_task, gated, given_output, library_found, library_trouble, netlist_found, netlist_read, netlist_trouble, ungated, ungated_of}
 use Rattle.cg_tool.specs.declared.modes.gate.Gate.{Gate}
 use Rattle.cg_tool.proofs.LratMeans.{refused_ok, some_and}
-use Rattle.cg_tool.proofs.PlainIsBlif.{plain_is_blif}
-use Rattle.cg_tool.proofs.PlainWritable.{plain_writable}
-use Rattle.cg_tool.proofs.SaidPlain.{said_plain}
+use Rattle.cg_tool.proofs.NetlistRead.{netlist_proper, netlist_says}
 
 -- a netlist that is written as it was read behaves as itself
 behaves_alike : (c : Circuit) → HasHistory c → HasOneHistory c → Behaves [] c c
@@ -47,27 +47,40 @@ behaves_alike c some one =
           ap (outputs_of c) (one start wave is over history gated lawful (subst P (same_start start) lawful_gated));
     }
 
-gated_of : (names : Role → List ℕ) (before after : World) (finish : Finish) (library : List CellData) (c : Circuit) (text : List ℕ)
-    → IsSomeAnd (before.held (names roles.Library)) (λ lib. LibText lib library) → before.held (names roles.Netlist) ≡ Some text → PlainText text c
-    → (gated c).finish ≡ finish → Written names (gated c) before after → IsGated names before after finish
-gated_of names before after finish library c text cells held plain ends written =
-    let formed = (plain.says).formed in
+-- what is found of a netlist was read, and has no gating cell
+none_gated : (d : Circuit) (gaters : List (GatingCell ℕ)) (c : Circuit) → d.gaters ≡ gaters → ungated d gaters ≡ Ok c → (d ≡ c) × (d.gaters ≡ [])
+none_gated d [] c none is = (cc, none)
+none_gated d (gater ∷ gaters) c some is = absurd (cc)
+
+found_read : (r : Result Circuit Trouble) (c : Circuit) → ungated_of r ≡ Ok c → (r ≡ Ok c) × (c.gaters ≡ [])
+found_read (Err trouble) c is = absurd (cc)
+found_read (Ok d) c is = let found = none_gated d d.gaters c refl is in (ap Ok found.0, sym (ap (λ (k : Circuit). k.gaters) found.0) ∙ found.1)
+
+gated_of : (clock : Option NetName) (names : Role → List ℕ) (before after : World) (finish : Finish) (library : List CellData) (c : Circuit) (text : List ℕ)
+    → IsSomeAnd (before.held (names roles.Library)) (λ lib. LibText lib library) → before.held (names roles.Netlist) ≡ Some text → netlist_said library clock text ≡ Ok c → c.gaters ≡ []
+    → (gated c).finish ≡ finish → Written names (gated c) before after → IsGated clock names before after finish
+gated_of clock names before after finish library c text cells held read no_gaters ends written =
+    let says = netlist_says library clock text c read in
+    let proper : AreProper library clock = netlist_proper library clock text c read in
+    let formed = (says.says).formed in
     let some = has_history c formed in
     let one = has_one_history c formed in
+    let writes : BlifText (blif c) library None c = says_itself library c (text_is_writable library proper.cells clock text c proper.named says) in
     record {
       library = library;
       read = c;
       written = c;
       cells = cells;
-      says = some_and (before.held (names roles.Netlist)) text (λ t. BlifText t [] None c) held (plain_is_blif text c plain);
-      plain = some_and (before.held (names roles.Netlist)) text (λ t. PlainText t c) held plain;
+      says = some_and (before.held (names roles.Netlist)) text (λ t. BlifText t library clock c) held says;
+      no_gaters = no_gaters;
       read_well_formed = formed;
       some = some;
       one = one;
       is = refl;
       written_well_formed = formed;
       stored = written.held (names roles.Out) ∙ put_here before.held (names roles.Out) (blif c);
-      writes = canonical_says [] c (plain_writable text c plain);
+      writes = writes;
+      no_other = λ d other. no_two (blif c) library None d c other writes;
       behaves = behaves_alike c some one;
       said = written.said;
       ends = sym ends;
@@ -80,20 +93,24 @@ given_ok (Some c) output h = (c, refl, cc)
 some_same : (a b : Circuit) → ◌≡◌ {A = Option Circuit} (Some a) (Some b) → a ≡ b
 some_same a b h = cc
 
-pub gated_means : (names : Role → List ℕ) (before after : World) (finish : Finish) → Finishes gate_task names before after finish → IsGated names before after finish
-gated_means names before after finish f =
-    let one = step_of gate_takes gate_gives gate_start roles.Library (roles.Netlist ∷ []) f.given f.output f.comes in
-    let l = found_ok (λ (q : List CellData). record { library = Some q; netlist = gate_start.netlist }) (library_found one.bytes) one.next one.takes_it in
+pub gated_means : (clock : Option NetName) (names : Role → List ℕ) (before after : World) (finish : Finish) → Finishes (gate_task clock) names before after finish → IsGated clock names before after finish
+gated_means clock names before after finish f =
+    let start : Gate = gate_start clock in
+    let one = step_of gate_takes gate_gives start roles.Library (roles.Netlist ∷ []) f.given f.output f.comes in
+    let l = found_ok (λ (q : List CellData). record { options = start.options; library = q; netlist = start.netlist }) (library_found one.bytes) one.next one.takes_it in
     let two = step_of gate_takes gate_gives one.next roles.Netlist [] f.given f.output one.later in
-    let n = found_ok (λ (q : Circuit). record { library = one.next.library; netlist = Some q }) (netlist_found two.bytes) two.next two.takes_it in
+    let n = found_ok (λ (q : Circuit). record { options = one.next.options; library = one.next.library; netlist = Some q }) (netlist_found one.next.library (one.next.options).clock two.bytes) two.next two.takes_it in
     let ends = given_ok two.next.netlist f.output (step_end gate_takes gate_gives two.next f.given f.output two.later) in
     let c : Circuit = n.0 in
     let same : ends.0 ≡ c = some_same ends.0 c (sym ends.1 ∙ sym (ap (λ (g : Gate). g.netlist) n.2)) in
     let out : f.output ≡ gated c = ends.2 ∙ ap gated same in
     let W : Output → Type 0 = λ o. Written names o before after in
-    gated_of names before after finish l.0 c two.bytes
+    let F : Gate → Type 0 = λ g. netlist_found g.library (g.options).clock two.bytes ≡ Ok c in
+    let found = found_read (netlist_read l.0 clock two.bytes) c (subst F (sym l.2) n.1) in
+    gated_of clock names before after finish l.0 c two.bytes
     (some_and (before.held (names roles.Library)) one.bytes (λ lib. LibText lib l.0) (held_so (before.held (names roles.Library)) (f.given roles.Library) one.bytes (f.told roles.Library) one.loaded)
     (text_of_library one.bytes l.0 (refused_ok library_trouble (library_of one.bytes) l.0 l.1)))
     (held_so (before.held (names roles.Netlist)) (f.given roles.Netlist) two.bytes (f.told roles.Netlist) two.loaded)
-    (said_plain two.bytes c (refused_ok netlist_trouble (netlist_said two.bytes) c n.1))
+    (refused_ok netlist_trouble (netlist_said l.0 clock two.bytes) c found.0)
+    found.1
     (sym (ap (λ (o : Output). o.finish) out) ∙ f.ends) (subst W out f.written)

@@ -22,7 +22,7 @@ use Rattle.cg_run.proofs.Voice.{ended}
 use Rattle.cg_tool.specs.CommandLine.{JobWords}
 use Rattle.cg_tool.specs.Gate.{IsGated, gate_gives, gate_start, gate_takes, gate_task}
 use Rattle.cg_tool.specs.Lrat.{IsChecked, lrat_gives, lrat_start, lrat_takes, lrat_task}
-use Rattle.cg_tool.specs.Program.{IsOrNoMemory, KeepsAll, RefusesWords, RunsWords, task_by}
+use Rattle.cg_tool.specs.Program.{IsOrNoMemory, KeepsAll, RefusesWords, RunsWords, task_by, task_in}
 use Rattle.cg_tool.specs.declared.words.Mode.{Mode}
 use Rattle.cg_tool.specs.declared.words.Mode.TheVariants.{Gate, Lrat}
 use Rattle.cg_tool.proofs.GateMeans.{gated_means}
@@ -51,8 +51,8 @@ words_answered false before after result complains = let P : Status → Type 0 =
 
 module _ (gave : List ℕ → Result (List ℕ) LoadFault → Type 0) where
   -- memory was wanting for the words
-  mode_unread : (mode : Mode) (job : JobWords) (before after : World) (result : Status) → Complains (complaint_line (codes "no memory")) statuses.NoMemory before after result → Runs gave (task_by mode) (file_of job.files) before after result
-  mode_unread Gate job before after result complains = runs_unbegun gave gate_takes gate_gives (file_of job.files) gate_start (roles.Library ∷ roles.Netlist ∷ []) before after result complains
+  mode_unread : (mode : Mode) (job : JobWords) (before after : World) (result : Status) → Complains (complaint_line (codes "no memory")) statuses.NoMemory before after result → Runs gave (task_in mode job.clock) (file_of job.files) before after result
+  mode_unread Gate job before after result complains = runs_unbegun gave gate_takes gate_gives (file_of job.files) (gate_start job.clock) (roles.Library ∷ roles.Netlist ∷ []) before after result complains
   mode_unread Lrat job before after result complains = runs_unbegun gave lrat_takes lrat_gives (file_of job.files) lrat_start (roles.Formula ∷ roles.Log ∷ []) before after result complains
 
   pub runs_unread : (job : Option JobWords) (before after : World) (result : Status) → Complains (complaint_line (codes "no memory")) statuses.NoMemory before after result → RunsWords gave job before after result
@@ -65,51 +65,51 @@ module _ (gave : List ℕ → Result (List ℕ) LoadFault → Type 0) where
 
   pub usage : (job : Option JobWords) (before after : World) (result : Status) → RunsWords gave job before after result → result ≡ statuses.Usage → job ≡ None
   usage None before after result runs used = refl
-  usage (Some job) before after result runs used = absurd (never_usage gave (task_by job.mode) (file_of job.files) before after result (ended gave (task_by job.mode) (file_of job.files) before after result runs) used)
+  usage (Some job) before after result runs used = absurd (never_usage gave (task_by job) (file_of job.files) before after result (ended gave (task_by job) (file_of job.files) before after result runs) used)
 
   pub usage_keeps : (job : Option JobWords) (before after : World) (result : Status) → RunsWords gave job before after result → IsTrue before.tells → KeepsAll job before after
   usage_keeps None before after result runs t = (runs.complains).same_held t
   usage_keeps (Some job) before after result runs t = tt
 
-  pub job_ended : (job : Option JobWords) (before after : World) (result : Status) → RunsWords gave job before after result → IfSome job (λ j. Ended gave (task_by j.mode) (file_of j.files) before after result)
+  pub job_ended : (job : Option JobWords) (before after : World) (result : Status) → RunsWords gave job before after result → IfSome job (λ j. Ended gave (task_by j) (file_of j.files) before after result)
   job_ended None before after result runs = tt
-  job_ended (Some job) before after result runs = ended gave (task_by job.mode) (file_of job.files) before after result runs
+  job_ended (Some job) before after result runs = ended gave (task_by job) (file_of job.files) before after result runs
 
-  pub job_stands : (job : Option JobWords) (before after : World) (result : Status) → RunsWords gave job before after result → IsTrue before.tells → IfSome job (λ j. Stands (task_by j.mode) (file_of j.files) before after result)
+  pub job_stands : (job : Option JobWords) (before after : World) (result : Status) → RunsWords gave job before after result → IsTrue before.tells → IfSome job (λ j. Stands (task_by j) (file_of j.files) before after result)
   job_stands None before after result runs t = tt
-  job_stands (Some job) before after result runs t = stands gave (task_by job.mode) (file_of job.files) before after result runs t
+  job_stands (Some job) before after result runs t = stands gave (task_by job) (file_of job.files) before after result runs t
 
-  mode_gains : (mode : Mode) (job : JobWords) (before after : World) (result : Status) → Runs gave (task_by mode) (file_of job.files) before after result → Gains (task_by mode) (file_of job.files) before after result
-  mode_gains Gate job before after result runs = gains gave gate_task (file_of job.files) before after result (load_named gate_takes gate_gives gate_start (roles.Library ∷ roles.Netlist ∷ [])) runs
+  mode_gains : (mode : Mode) (job : JobWords) (before after : World) (result : Status) → Runs gave (task_in mode job.clock) (file_of job.files) before after result → Gains (task_in mode job.clock) (file_of job.files) before after result
+  mode_gains Gate job before after result runs = gains gave (gate_task job.clock) (file_of job.files) before after result (load_named gate_takes gate_gives (gate_start job.clock) (roles.Library ∷ roles.Netlist ∷ [])) runs
   mode_gains Lrat job before after result runs = gains gave lrat_task (file_of job.files) before after result (load_named lrat_takes lrat_gives lrat_start (roles.Formula ∷ roles.Log ∷ [])) runs
 
-  pub job_gains : (job : Option JobWords) (before after : World) (result : Status) → RunsWords gave job before after result → IfSome job (λ j. Gains (task_by j.mode) (file_of j.files) before after result)
+  pub job_gains : (job : Option JobWords) (before after : World) (result : Status) → RunsWords gave job before after result → IfSome job (λ j. Gains (task_by j) (file_of j.files) before after result)
   job_gains None before after result runs = tt
   job_gains (Some job) before after result runs = mode_gains job.mode job before after result runs
 
-  pub job_others : (job : Option JobWords) (before after : World) (result : Status) → RunsWords gave job before after result → IsTrue before.tells → IfSome job (λ j. KeepsOthers (task_by j.mode) (file_of j.files) before after)
+  pub job_others : (job : Option JobWords) (before after : World) (result : Status) → RunsWords gave job before after result → IsTrue before.tells → IfSome job (λ j. KeepsOthers (task_by j) (file_of j.files) before after)
   job_others None before after result runs t = tt
-  job_others (Some job) before after result runs t = others gave (task_by job.mode) (file_of job.files) before after result runs t
+  job_others (Some job) before after result runs t = others gave (task_by job) (file_of job.files) before after result runs t
 
-  mode_comes : (mode : Mode) (job : JobWords) (before after : World) (result : Status) → Runs gave (task_by mode) (file_of job.files) before after result → IsTrue before.tells → IsOrFails (ends_as ((task_by mode).comes (held_files (file_of job.files) before))) result
-  mode_comes Gate job before after result runs t = completes gave gate_takes gate_gives gate_start (roles.Library ∷ roles.Netlist ∷ []) (file_of job.files) before after result runs t
+  mode_comes : (mode : Mode) (job : JobWords) (before after : World) (result : Status) → Runs gave (task_in mode job.clock) (file_of job.files) before after result → IsTrue before.tells → IsOrFails (ends_as ((task_in mode job.clock).comes (held_files (file_of job.files) before))) result
+  mode_comes Gate job before after result runs t = completes gave gate_takes gate_gives (gate_start job.clock) (roles.Library ∷ roles.Netlist ∷ []) (file_of job.files) before after result runs t
   mode_comes Lrat job before after result runs t = completes gave lrat_takes lrat_gives lrat_start (roles.Formula ∷ roles.Log ∷ []) (file_of job.files) before after result runs t
 
-  pub job_comes : (job : Option JobWords) (before after : World) (result : Status) → RunsWords gave job before after result → IsTrue before.tells → IfSome job (λ j. IsOrFails (ends_as ((task_by j.mode).comes (held_files (file_of j.files) before))) result)
+  pub job_comes : (job : Option JobWords) (before after : World) (result : Status) → RunsWords gave job before after result → IsTrue before.tells → IfSome job (λ j. IsOrFails (ends_as ((task_by j).comes (held_files (file_of j.files) before))) result)
   job_comes None before after result runs t = tt
   job_comes (Some job) before after result runs t = mode_comes job.mode job before after result runs t
 
   -- what a finished run means, mode by mode
-  mode_gated : (mode : Mode) (job : JobWords) (before after : World) (result : Status) → mode ≡ Gate → Runs gave (task_by mode) (file_of job.files) before after result → IsTrue before.tells → FinishBy (IsGated (file_of job.files) before after) result
+  mode_gated : (mode : Mode) (job : JobWords) (before after : World) (result : Status) → mode ≡ Gate → Runs gave (task_in mode job.clock) (file_of job.files) before after result → IsTrue before.tells → FinishBy (IsGated job.clock (file_of job.files) before after) result
   mode_gated Gate job before after result is runs t = let names = file_of job.files in
-      finish_map (λ finish. Finishes gate_task names before after finish) (IsGated names before after) result (gated_means names before after) (finished_so gave gate_task names before after result (ended gave gate_task names before after result runs) t)
+      finish_map (λ finish. Finishes (gate_task job.clock) names before after finish) (IsGated job.clock names before after) result (gated_means job.clock names before after) (finished_so gave (gate_task job.clock) names before after result (ended gave (gate_task job.clock) names before after result runs) t)
   mode_gated Lrat job before after result is runs t = cc
 
-  pub job_gated : (job : Option JobWords) (before after : World) (result : Status) → RunsWords gave job before after result → IsTrue before.tells → IfSome job (λ j. j.mode ≡ Gate → FinishBy (IsGated (file_of j.files) before after) result)
+  pub job_gated : (job : Option JobWords) (before after : World) (result : Status) → RunsWords gave job before after result → IsTrue before.tells → IfSome job (λ j. j.mode ≡ Gate → FinishBy (IsGated j.clock (file_of j.files) before after) result)
   job_gated None before after result runs t = tt
   job_gated (Some job) before after result runs t = λ is. mode_gated job.mode job before after result is runs t
 
-  mode_checked : (mode : Mode) (job : JobWords) (before after : World) (result : Status) → mode ≡ Lrat → Runs gave (task_by mode) (file_of job.files) before after result → IsTrue before.tells → FinishBy (IsChecked (file_of job.files) before after) result
+  mode_checked : (mode : Mode) (job : JobWords) (before after : World) (result : Status) → mode ≡ Lrat → Runs gave (task_in mode job.clock) (file_of job.files) before after result → IsTrue before.tells → FinishBy (IsChecked (file_of job.files) before after) result
   mode_checked Gate job before after result is runs t = cc
   mode_checked Lrat job before after result is runs t = let names = file_of job.files in
       finish_map (λ finish. Finishes lrat_task names before after finish) (IsChecked names before after) result (checked names before after) (finished_so gave lrat_task names before after result (ended gave lrat_task names before after result runs) t)

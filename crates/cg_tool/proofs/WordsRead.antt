@@ -18,7 +18,8 @@ use Rattle.clap.specs.declared.parser.matches.ArgMatches.{ArgMatches}
 use Rattle.clap.specs.declared.parser.matches.Found.{Found}
 use Rattle.clap.proofs.OnLiterals.{clap_on_literals}
 use Rattle.clap.proofs.WalkLemmas.{first_value-rows, raw_values-rows}
-use Rattle.cg_tool.specs.CommandLine.{JobWords, command_line, files_rule, job_in, job_of, job_with, job_without, mode_of, mode_rule}
+use Rattle.cg_tool.specs.CommandLine.{JobWords, clock_rule, command_line, files_rule, job_in, job_of, job_with, job_without, job_words, mode_of, mode_rule}
+use Rattle.cg_tool.specs.declared.words.Job.{Job}
 
 -- the command
 
@@ -43,24 +44,34 @@ some_range (Some r) wanted h = ap Some h
 pub files_rule_is : (arg whole : Arg) → rule_of arg ≡ new_rule (codes "FILES") → whole ≡ record arg { num_vals = whole.num_vals } → IsSomeAnd whole.num_vals (λ r. r ≡ record { start_inclusive = 0; end_inclusive = usize_max }) → rule_of whole ≡ files_rule
 files_rule_is arg whole plain is some = ranged arg whole (codes "FILES") whole.num_vals plain is (some_range whole.num_vals (record { start_inclusive = 0; end_inclusive = usize_max }) some)
 
-pub command_is : (named moded whole : Command) (mode files : Arg) → app_of named ≡ new_app (codes "clockgate") → AddsArg named mode moded → mode.global ≡ false → rule_of mode ≡ mode_rule → AddsArg moded files whole → files.global ≡ false → rule_of files ≡ files_rule → app_of whole ≡ command_line
-command_is named moded whole mode files app first apart rule second apart_too rule_too =
-    second.shape apart_too ∙ ap (λ (r : Rule). with_rule (app_of moded) r) rule_too
-    ∙ ap (λ (a : App). with_rule a files_rule) (first.shape apart ∙ ap (λ (r : Rule). with_rule (app_of named) r) rule ∙ ap (λ (a : App). with_rule a mode_rule) app)
+pub command_is : (named moded filed whole : Command) (mode files clock : Arg) → app_of named ≡ new_app (codes "clockgate") → AddsArg named mode moded → mode.global ≡ false → rule_of mode ≡ mode_rule
+    → AddsArg moded files filed → files.global ≡ false → rule_of files ≡ files_rule → AddsArg filed clock whole → clock.global ≡ false → rule_of clock ≡ clock_rule → app_of whole ≡ command_line
+command_is named moded filed whole mode files clock app first apart rule second apart_too rule_too third apart_three rule_three =
+    third.shape apart_three ∙ ap (λ (r : Rule). with_rule (app_of filed) r) rule_three
+    ∙ ap (λ (a : App). with_rule a clock_rule) (second.shape apart_too ∙ ap (λ (r : Rule). with_rule (app_of moded) r) rule_too
+    ∙ ap (λ (a : App). with_rule a files_rule) (first.shape apart ∙ ap (λ (r : Rule). with_rule (app_of named) r) rule ∙ ap (λ (a : App). with_rule a mode_rule) app))
 
 -- the job that the matches ask for
 
-pub named_job : (found : Found) (word : List ℕ) (files : Option (List (List ℕ))) (job : Option JobWords) → Some word ≡ first_value found (codes "MODE") → files ≡ option_map raw_values (matched_of found (codes "FILES"))
-    → job ≡ option_and_then (job_with (unwrap_or files [])) (mode_of word) → job ≡ job_in (rows_of found)
-named_job found word files job mode given is =
+pub named_job : (found : Found) (word : List ℕ) (files : Option (List (List ℕ))) (clock : Option (List ℕ)) (job : Option JobWords) → Some word ≡ first_value found (codes "MODE") → files ≡ option_map raw_values (matched_of found (codes "FILES"))
+    → clock ≡ first_value found (codes "clock") → job ≡ option_and_then (job_with (unwrap_or files []) clock) (mode_of word) → job ≡ job_in (rows_of found)
+named_job found word files clock job mode given named is =
     let one : Some word ≡ first_of (codes "MODE") (rows_of found) = mode ∙ first_value-rows found (codes "MODE") in
     let all : files ≡ all_of (codes "FILES") (rows_of found) = given ∙ raw_values-rows found (codes "FILES") in
-    is ∙ ap (λ o. option_and_then (job_with (unwrap_or o [])) (mode_of word)) all
-    ∙ ap (λ o. option_and_then (job_with (unwrap_or (all_of (codes "FILES") (rows_of found)) [])) (option_and_then mode_of o)) one
+    let net : clock ≡ first_of (codes "clock") (rows_of found) = named ∙ first_value-rows found (codes "clock") in
+    is ∙ ap (λ o. option_and_then (job_with (unwrap_or o []) clock) (mode_of word)) all
+    ∙ ap (λ o. option_and_then (job_with (unwrap_or (all_of (codes "FILES") (rows_of found)) []) o) (mode_of word)) net
+    ∙ ap (λ o. option_and_then (job_with (unwrap_or (all_of (codes "FILES") (rows_of found)) []) (first_of (codes "clock") (rows_of found))) (option_and_then mode_of o)) one
 
 pub no_mode : (found : Found) → None ≡ first_value found (codes "MODE") → None ≡ job_in (rows_of found)
 no_mode found mode =
-    ap (λ o. option_and_then (job_with (unwrap_or (all_of (codes "FILES") (rows_of found)) [])) (option_and_then mode_of o)) (mode ∙ first_value-rows found (codes "MODE"))
+    ap (λ o. option_and_then (job_with (unwrap_or (all_of (codes "FILES") (rows_of found)) []) (first_of (codes "clock") (rows_of found))) (option_and_then mode_of o)) (mode ∙ first_value-rows found (codes "MODE"))
+
+pub named_found : {E : Type 0} (found : Found) (word : List ℕ) (files : Option (List (List ℕ))) (clock : Option (List ℕ)) (result : Result (Option Job) E) → Some word ≡ first_value found (codes "MODE")
+    → files ≡ option_map raw_values (matched_of found (codes "FILES")) → clock ≡ first_value found (codes "clock") → IfOk result (λ job. option_map job_words job ≡ option_and_then (job_with (unwrap_or files []) clock) (mode_of word))
+    → IfOk result (λ job. option_map job_words job ≡ job_in (rows_of found))
+named_found found word files clock (Ok job) mode given named is = named_job found word files clock (option_map job_words job) mode given named is
+named_found found word files clock (Err fault) mode given named is = tt
 
 -- the words
 
@@ -72,6 +83,11 @@ words_taken app words matches job is has fine read =
     let H : App → Type 0 = λ a. HasMatchesOf a words matches in
     let F : App → Type 0 = λ a. is_simple_and_free a ≡ true → fault_of a words ≡ [] in
     read ∙ ap job_in (subst H is has command_is_simple).0 ∙ sym (without_none (fault_of command_line words) (job_in (matches_of command_line words)) (subst F is fine command_is_free))
+
+pub words_found : {E : Type 0} (app : App) (words : List (List ℕ)) (matches : ArgMatches) (result : Result (Option Job) E) → app ≡ command_line → HasMatchesOf app words matches → (is_simple_and_free app ≡ true → fault_of app words ≡ [])
+    → IfOk result (λ job. option_map job_words job ≡ job_in (rows_of (found_of matches))) → IfOk result (λ job. option_map job_words job ≡ job_of words)
+words_found app words matches (Ok job) is has fine read = words_taken app words matches (option_map job_words job) is has fine read
+words_found app words matches (Err fault) is has fine read = tt
 
 refused_case : (kinds : Kinds) (kind : ErrorKind) (job : Option JobWords) → IsAmong kind kinds → job_without kinds job ≡ None
 refused_case [] kind job among = absurd among

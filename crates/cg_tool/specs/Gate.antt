@@ -1,16 +1,19 @@
 -- What `gate` makes of a library and a netlist, and what that means.
-use Rattle.std.specs.Prelude.{◌≡◌, ℕ, ◌+◌, Bool, List, [], ◌∷◌, ◌++◌, length, codes, decimal, Option, None, Some, Result, Ok, Err, IsSomeAnd}
+use Rattle.std.specs.Prelude.{◌≡◌, ℕ, ◌+◌, Bool, List, [], ◌∷◌, ◌++◌, length, map, codes, decimal, Option, None, Some, Result, Ok, Err, IsSomeAnd}
 use Rattle.cg_cell.specs.Cell.{CellData}
 use Rattle.cg_liberty.specs.LibText.{LibText}
 use Rattle.cg_liberty.specs.Library.{library_of}
 use Rattle.cg_liberty.specs.declared.fault.LibertyFault.{LibertyFault}
 use Rattle.cg_liberty.specs.declared.fault.LibertyFault.TheVariants as liberty_faults
-use Rattle.cg_netlist.specs.BlifText.{BlifText}
-use Rattle.cg_netlist.specs.Canonical.{blif, net_names}
-use Rattle.cg_netlist.specs.Circuit.{Circuit, data_inputs}
+use Rattle.cg_blif.specs.declared.options.BlifOptions.{BlifOptions}
+use Rattle.cg_blif_text.specs.BlifText.{BlifText}
+use Rattle.cg_blif_text.specs.Canonical.{blif}
+use Rattle.cg_blif_text.specs.declared.fault.BlifFault.{BlifFault}
+use Rattle.cg_blif_text.specs.declared.fault.BlifFault.TheVariants as blif_faults
+use Rattle.cg_netlist.specs.Circuit.{Circuit, GatingCell, data_inputs}
 use Rattle.cg_netlist.specs.History.{HasHistory, HasOneHistory, IsLawful, IsStart, IsWaveform, Moment, Tick, outputs_of}
-use Rattle.cg_netlist.specs.PlainText.{PlainText}
 use Rattle.cg_netlist.specs.WellFormed.{IsWellFormed}
+use Rattle.cg_netlist.specs.said.Wiring.{NetName, net_name}
 use Rattle.cg_netlist.specs.declared.fault.NetFault.{NetFault}
 use Rattle.cg_netlist.specs.declared.fault.NetFault.TheVariants as net_faults
 use Rattle.cg_run.specs.Verdict.{Task, found_as, task_of}
@@ -23,10 +26,8 @@ use Rattle.cg_run.specs.declared.refusal.Trouble.TheVariants as troubles
 use Rattle.cg_run.specs.declared.role.Role.{Role}
 use Rattle.cg_run.specs.declared.role.Role.TheVariants as roles
 use Rattle.cg_shelf.specs.World.{World}
-use Rattle.cg_tool.specs.Drafting.{netlist_said}
+use Rattle.cg_tool.specs.NetlistSaid.{netlist_said}
 use Rattle.cg_tool.specs.Refused.{refused_as}
-use Rattle.cg_tool.specs.declared.cg_blif.fault.BlifFault.{BlifFault}
-use Rattle.cg_tool.specs.declared.cg_blif.fault.BlifFault.TheVariants as blif_faults
 use Rattle.cg_tool.specs.declared.modes.gate.Gate.{Gate}
 
 -- why a netlist or a library is refused, as its complaint says it
@@ -42,6 +43,9 @@ abbrev pub netlist_trouble : BlifFault → Trouble
 netlist_trouble (blif_faults.BadLine line) = troubles.Content (record { owner = owners.Netlist; text = codes "netlist: bad line " ++ decimal line })
 netlist_trouble (blif_faults.BadCover line) = troubles.Content (record { owner = owners.Netlist; text = codes "netlist: bad cover " ++ decimal line })
 netlist_trouble (blif_faults.BadLatch line) = troubles.Content (record { owner = owners.Netlist; text = codes "netlist: bad latch " ++ decimal line })
+netlist_trouble (blif_faults.UnknownCell line) = troubles.Content (record { owner = owners.Netlist; text = codes "netlist: unknown cell " ++ decimal line })
+netlist_trouble (blif_faults.UnusableCell line) = troubles.Content (record { owner = owners.Netlist; text = codes "netlist: unusable cell " ++ decimal line })
+netlist_trouble (blif_faults.PinFault line) = troubles.Content (record { owner = owners.Netlist; text = codes "netlist: pin fault " ++ decimal line })
 netlist_trouble (blif_faults.SecondModel line) = troubles.Content (record { owner = owners.Netlist; text = codes "netlist: second model " ++ decimal line })
 netlist_trouble (blif_faults.Net fault) = net_trouble fault
 netlist_trouble (blif_faults.Limit limit) = troubles.Limit limit
@@ -59,8 +63,20 @@ library_trouble liberty_faults.NoMemory = troubles.NoMemory
 abbrev pub library_found : List ℕ → Result (List CellData) Trouble
 library_found text = refused_as library_trouble (library_of text)
 
-abbrev pub netlist_found : List ℕ → Result Circuit Trouble
-netlist_found text = refused_as netlist_trouble (netlist_said text)
+abbrev pub netlist_read : List CellData → Option NetName → List ℕ → Result Circuit Trouble
+netlist_read library clock text = refused_as netlist_trouble (netlist_said library clock text)
+
+-- A netlist in which gating cells stand already is refused, for the first of them.
+abbrev pub ungated : Circuit → List (GatingCell ℕ) → Result Circuit Trouble
+ungated c [] = Ok c
+ungated c (gater ∷ gaters) = Err (troubles.Content (record { owner = owners.Netlist; text = codes "netlist: gating cell " ++ net_name c.names gater.output }))
+
+abbrev pub ungated_of : Result Circuit Trouble → Result Circuit Trouble
+ungated_of (Ok c) = ungated c c.gaters
+ungated_of (Err trouble) = Err trouble
+
+abbrev pub netlist_found : List CellData → Option NetName → List ℕ → Result Circuit Trouble
+netlist_found library clock text = ungated_of (netlist_read library clock text)
 
 -- what is said of so many stages that were tried and inserted
 abbrev pub stages_text : List ℕ
@@ -72,8 +88,9 @@ gated netlist = record { stores = record { role = roles.Out; bytes = blif netlis
 
 -- the mode: it takes a library, takes a netlist, and gives the gated netlist
 abbrev pub gate_takes : Gate → Role → List ℕ → Result Gate Trouble
-gate_takes state roles.Library text = found_as (λ library. record { library = Some library; netlist = state.netlist }) (library_found text)
-gate_takes state roles.Netlist text = found_as (λ netlist. record { library = state.library; netlist = Some netlist }) (netlist_found text)
+gate_takes state roles.Library text = found_as (λ library. record { options = state.options; library = library; netlist = state.netlist }) (library_found text)
+gate_takes state roles.Netlist text =
+    found_as (λ netlist. record { options = state.options; library = state.library; netlist = Some netlist }) (netlist_found state.library (state.options).clock text)
 gate_takes state role text = Ok state
 
 abbrev pub given_output : Option Circuit → Result Output Trouble
@@ -83,12 +100,13 @@ given_output (Some netlist) = Ok (gated netlist)
 abbrev pub gate_gives : Gate → Result Output Trouble
 gate_gives state = given_output state.netlist
 
-abbrev pub gate_start : Gate
-gate_start = record { library = None; netlist = None }
+-- nothing is read yet; the words may name a clock
+abbrev pub gate_start : Option NetName → Gate
+gate_start clock = record { options = record { clock = clock }; library = []; netlist = None }
 
 -- what a run of `gate` does: the library is loaded and read, then the netlist
-abbrev pub gate_task : Task
-gate_task = task_of gate_takes gate_gives gate_start (roles.Library ∷ roles.Netlist ∷ [])
+abbrev pub gate_task : Option NetName → Task
+gate_task clock = task_of gate_takes gate_gives (gate_start clock) (roles.Library ∷ roles.Netlist ∷ [])
 
 -- A written netlist behaves as the one that was read. It has the registers of that one and the added ones, which start as
 -- told, and the same data inputs and outputs by their names. From each start of the registers and over each waveform that
@@ -96,32 +114,34 @@ gate_task = task_of gate_takes gate_gives gate_start (roles.Library ∷ roles.Ne
 -- that was read.
 pub record Behaves (added : List Bool) (read written : Circuit) : Type 0 where
   pub registers : length written.registers ≡ length read.registers + length added
-  pub inputs : net_names written.names (data_inputs written) ≡ net_names read.names (data_inputs read)
-  pub outputs : net_names written.names written.outputs ≡ net_names read.names read.outputs
+  pub inputs : map (net_name written.names) (data_inputs written) ≡ map (net_name read.names) (data_inputs read)
+  pub outputs : map (net_name written.names) written.outputs ≡ map (net_name read.names) read.outputs
   pub starts : (start : List Bool) → IsStart read start → IsStart written (start ++ added)
   pub waves : (wave : List Tick) → IsWaveform read wave → IsWaveform written wave
   pub some : (start : List Bool) (wave : List Tick) → IsStart read start → IsWaveform read wave → (history : List Moment) × IsLawful written (start ++ added) wave history
   pub one : HasOneHistory written
   pub same : (start : List Bool) (wave : List Tick) → IsStart read start → IsWaveform read wave → (history gated : List Moment) → IsLawful read start wave history → IsLawful written (start ++ added) wave gated → outputs_of read history ≡ outputs_of written gated
 
--- A netlist was gated: the bytes under LIB are a text that stands for a library, and those under NETLIST are a BLIF text, in
--- the plain form, that says a well-formed netlist, which has exactly one lawful history for each start and waveform. OUT
--- holds the canonical text of the written netlist, which is a BLIF text that says it. The written netlist is the one that
--- was read, since no stage is tried yet, and so it behaves as that one.
-pub record IsGated (names : Role → List ℕ) (before after : World) (finish : Finish) : Type 0 where
+-- A netlist was gated: the bytes under LIB are a text that stands for a library, and those under NETLIST are a BLIF text
+-- that says a well-formed netlist with this library and the clock of the words. It has no gating cell, and exactly one
+-- lawful history for each start and waveform. OUT holds the canonical text of the written netlist, which is a BLIF text
+-- that says this netlist with the same library and without a clock of the words, and no other. The written netlist is the
+-- one that was read, since no stage is tried yet, and so it behaves as that one.
+pub record IsGated (clock : Option NetName) (names : Role → List ℕ) (before after : World) (finish : Finish) : Type 0 where
   pub library : List CellData
   pub read : Circuit
   pub written : Circuit
   pub cells : IsSomeAnd (before.held (names roles.Library)) (λ text. LibText text library)
-  pub says : IsSomeAnd (before.held (names roles.Netlist)) (λ text. BlifText text [] None read)
-  pub plain : IsSomeAnd (before.held (names roles.Netlist)) (λ text. PlainText text read)
+  pub says : IsSomeAnd (before.held (names roles.Netlist)) (λ text. BlifText text library clock read)
+  pub no_gaters : read.gaters ≡ []
   pub read_well_formed : IsWellFormed read
   pub some : HasHistory read
   pub one : HasOneHistory read
   pub is : written ≡ read
   pub written_well_formed : IsWellFormed written
   pub stored : after.held (names roles.Out) ≡ Some (blif written)
-  pub writes : BlifText (blif written) [] None written
+  pub writes : BlifText (blif written) library None written
+  pub no_other : (c : Circuit) → BlifText (blif written) library None c → c ≡ written
   pub behaves : Behaves [] read written
   pub said : after.said ≡ before.said ++ stages_text
   pub ends : finish ≡ finishes.Done

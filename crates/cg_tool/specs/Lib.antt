@@ -1,12 +1,4 @@
-pub mod Drafting
-pub mod Faults
-pub mod Reading
-pub mod Taking
-pub mod Latches
-pub mod OpenCover
-pub mod Rows
-pub mod Words
-pub mod Writing
+pub mod NetlistSaid
 pub mod CommandLine
 pub mod Refused
 pub mod Lrat

@@ -14,10 +14,14 @@ use Rattle.cg_tool.specs.Lrat.{lrat_task}
 use Rattle.cg_tool.specs.declared.words.Mode.{Mode}
 use Rattle.cg_tool.specs.declared.words.Mode.TheVariants.{Gate, Lrat}
 
--- what a mode does
-abbrev pub task_by : Mode → Task
-task_by Gate = gate_task
-task_by Lrat = lrat_task
+-- what a mode does, with the clock of the words
+abbrev pub task_in : Mode → Option (List ℕ) → Task
+task_in Gate clock = gate_task clock
+task_in Lrat clock = lrat_task
+
+-- what a job does
+abbrev pub task_by : JobWords → Task
+task_by job = task_in job.mode job.clock
 
 -- Words that ask for nothing are complained of, and nothing else is done. Want of memory may come in their place.
 pub record RefusesWords (before after : World) (result : Status) : Type 0 where
@@ -26,7 +30,7 @@ pub record RefusesWords (before after : World) (result : Status) : Type 0 where
 
 abbrev pub RunsWords : (List ℕ → Result (List ℕ) LoadFault → Type 0) → Option JobWords → World → World → Status → Type 0
 RunsWords gave None before after result = RefusesWords before after result
-RunsWords gave (Some job) before after result = Runs gave (task_by job.mode) (file_of job.files) before after result
+RunsWords gave (Some job) before after result = Runs gave (task_by job) (file_of job.files) before after result
 
 -- the end is this one, or want of memory
 abbrev pub IsOrNoMemory : Status → Status → Type 0

@@ -6,14 +6,10 @@
 //! The modules, in the order in which data flows through them:
 //!
 //! - [`words`]: the words, read by `clap` as what is to be done and the files that it is done with;
-//! - [`cg_blif`]: the text of a netlist, read as the netlist or its first fault;
-//! - [`cg_blif_out`]: a netlist, written as its canonical text;
 //! - [`modes`]: `gate` and `lrat`, each from its files to what is to be put out;
 //! - [`top`]: the top call, [`run`].
 #![tactic(auto)]
 
-pub mod cg_blif;
-pub mod cg_blif_out;
 pub mod modes;
 pub mod top;
 pub mod words;

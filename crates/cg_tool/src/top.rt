@@ -30,27 +30,27 @@ pub fn run<S: Shelf>(alloc: Global, words: &[String], shelf: &mut S) -> Status
 
     // How a job ended, with the cause, the line of complaint and the failed calls.
     ensures ended { IfSome (job_of (map string_bytes words.now))
-        (λ job. Ended (Gave S.gives) (task_by job.mode) (file_of job.files) (S.world shelf.old) (S.world shelf.new) result) }
+        (λ job. Ended (Gave S.gives) (task_by job) (file_of job.files) (S.world shelf.old) (S.world shelf.new) result) }
 
     // What stands, by the status.
     ensures stands { IsTrue (S.world shelf.old).tells → IfSome (job_of (map string_bytes words.now))
-        (λ job. Stands (task_by job.mode) (file_of job.files) (S.world shelf.old) (S.world shelf.new) result) }
+        (λ job. Stands (task_by job) (file_of job.files) (S.world shelf.old) (S.world shelf.new) result) }
 
     // At most one failed call besides that of the complaint, and which, by the status.
     ensures gains { IfSome (job_of (map string_bytes words.now))
-        (λ job. Gains (task_by job.mode) (file_of job.files) (S.world shelf.old) (S.world shelf.new) result) }
+        (λ job. Gains (task_by job) (file_of job.files) (S.world shelf.old) (S.world shelf.new) result) }
 
     // Every name but that of a stored file holds what it held.
     ensures others { IsTrue (S.world shelf.old).tells → IfSome (job_of (map string_bytes words.now))
-        (λ job. KeepsOthers (task_by job.mode) (file_of job.files) (S.world shelf.old) (S.world shelf.new)) }
+        (λ job. KeepsOthers (task_by job) (file_of job.files) (S.world shelf.old) (S.world shelf.new)) }
 
     // Where no call of the shelf fails and memory is there, a job ends as its files come to.
     ensures comes { IsTrue (S.world shelf.old).tells → IfSome (job_of (map string_bytes words.now))
-        (λ job. IsOrFails (ends_as ((task_by job.mode).comes (held_files (file_of job.files) (S.world shelf.old)))) result) }
+        (λ job. IsOrFails (ends_as ((task_by job).comes (held_files (file_of job.files) (S.world shelf.old)))) result) }
 
     // `gate` writes a netlist that behaves as the one that it read.
     ensures gated { IsTrue (S.world shelf.old).tells → IfSome (job_of (map string_bytes words.now))
-        (λ job. job.mode ≡ Mode.Gate → FinishBy (IsGated (file_of job.files) (S.world shelf.old) (S.world shelf.new)) result) }
+        (λ job. job.mode ≡ Mode.Gate → FinishBy (IsGated job.clock (file_of job.files) (S.world shelf.old) (S.world shelf.new)) result) }
 
     // `lrat` checks the proof that it was given, and what it accepts has no satisfying assignment.
     ensures checked { IsTrue (S.world shelf.old).tells → IfSome (job_of (map string_bytes words.now))
@@ -63,17 +63,18 @@ fn run_words<S: Shelf>(alloc: Global, words: &[String], shelf: &mut S) -> Status
     ensures { RunsWords (Gave S.gives) (job_of (map string_bytes words.now)) (S.world shelf.old) (S.world shelf.new) result }
 {
     match read_words(alloc, words) {
-        Ok(Some(job)) => run_job(alloc, shelf, &job),
+        Ok(Some(job)) => run_job(alloc, shelf, job),
         Ok(None) => complain(shelf, Status::Usage, b"clockgate: usage\n"),
         Err(_) => complain(shelf, Status::NoMemory, b"clockgate: no memory\n"),
     }
 }
 
-fn run_job<S: Shelf>(alloc: Global, shelf: &mut S, job: &Job<'_>) -> Status
-    ensures { Runs (Gave S.gives) (task_by job.now.mode) (name_of job.now.names) (S.world shelf.old) (S.world shelf.new) result }
+fn run_job<S: Shelf>(alloc: Global, shelf: &mut S, job: Job<'_>) -> Status
+    ensures { Runs (Gave S.gives) (task_by (job_words job.entry)) (name_of job.entry.names) (S.world shelf.old) (S.world shelf.new) result }
 {
-    match job.mode {
-        Mode::Gate => gate::run(alloc, shelf, &job.names),
-        Mode::Lrat => lrat::run(alloc, shelf, &job.names),
+    let Job { mode, names, clock } = job;
+    match mode {
+        Mode::Gate => gate::run(alloc, shelf, &names, clock),
+        Mode::Lrat => lrat::run(alloc, shelf, &names),
     }
 }

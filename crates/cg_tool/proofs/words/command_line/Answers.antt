@@ -1,6 +1,7 @@
-use Rattle.std.proofs.Common.{◌≡◌, rules, Result, Ok, Err}
+use Rattle.std.proofs.Common.{◌≡◌, rules, Result, Ok, Err, Some, codes, ap, ◌∙◌}
 use Rattle.std.specs.Prelude.{IfOk}
-use Rattle.clap.specs.Words.{AddsArg, app_of}
+use Rattle.clap.specs.Words.{AddsArg, Rule, app_of}
+use Rattle.clap.specs.Walk.{rule_of}
 use Rattle.clap.specs.declared.builder.arg.Arg.{Arg}
 use Rattle.clap.specs.declared.builder.command.Command.{Command}
 use Rattle.cg_tool.specs.CommandLine.{command_line}
@@ -15,6 +16,8 @@ pub returns : goal.returns
 returns c =
     let mode = c.new-mode.result in
     let files = c.num_args-files.result in
-    whole_is c.in_ok-moded.moded files c.arg-2.result c.arg-2.ensures
-    (λ whole adds. command_is c.new-named.result c.in_ok-moded.moded whole mode files c.new-named.ensures.app c.in_ok-moded.ensures (c.new-mode.ensures.optional).1 c.new-mode.ensures.rule adds (search rules)
-    (files_rule_is c.new.result files c.new.ensures.rule c.num_args-files.ensures.0 c.num_args-files.ensures.1))
+    let clock = c.long-option.result in
+    whole_is c.in_ok-filed.filed clock c.arg-3.result c.arg-3.ensures
+    (λ whole adds. command_is c.new-named.result c.in_ok-moded.moded c.in_ok-filed.filed whole mode files clock c.new-named.ensures.app c.in_ok-moded.ensures (c.new-mode.ensures.optional).1 c.new-mode.ensures.rule
+    c.in_ok-filed.ensures (search rules) (files_rule_is c.new.result files c.new.ensures.rule c.num_args-files.ensures.0 c.num_args-files.ensures.1)
+    adds (search rules) (ap rule_of c.long-option.ensures ∙ ap (λ (r : Rule). record r { long = Some (codes "clock") }) c.new-clock.ensures.rule))

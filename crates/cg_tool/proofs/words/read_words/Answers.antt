@@ -1,14 +1,12 @@
 use Rattle.std.proofs.Common.{◌≡◌, ◌⊎◌, inl, inr, true, false, map, sym, ◌∙◌}
-use Rattle.std.specs.Option.{option_map}
 use Rattle.std.specs.String.{string_bytes}
 use Rattle.clap.specs.Words.{app_of, fault_of, kind_of}
 use Rattle.clap.specs.declared.error.kind.ErrorKind.TheVariants.{OutOfMemory}
-use Rattle.cg_tool.specs.CommandLine.{job_words}
-use Rattle.cg_tool.proofs.WordsRead.{words_refused, words_taken}
+use Rattle.cg_tool.proofs.WordsRead.{words_found, words_refused}
 use Rattle.cg_tool.proofs.words.read_words.Goals as goal
 
 pub returns-in-Ok : goal.returns-in-Ok
-returns-in-Ok c = words_taken (app_of c.in_ok-command.command) (map string_bytes c.args.words.now) c.in-Ok.matches (option_map job_words c.read_job.result) c.in_ok-command.ensures c.in-Ok.ensures.matches c.in-Ok.ensures.kinds c.read_job.ensures
+returns-in-Ok c = words_found (app_of c.in_ok-command.command) (map string_bytes c.args.words.now) c.in-Ok.matches c.read_job.result c.in_ok-command.ensures c.in-Ok.ensures.matches c.in-Ok.ensures.kinds c.read_job.ensures
 
 pub returns-else-eq : goal.returns-else-eq
 returns-else-eq c =

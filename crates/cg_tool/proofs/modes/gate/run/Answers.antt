@@ -20,8 +20,8 @@ returns g c =
     let files = roles.Library ∷ roles.Netlist ∷ [] in
     let R : Gate → Type 0 = λ start. Runs gave (task_of gate_takes gate_gives start files) names before after c.drive.result in
     let E : Gate → Type 0 = λ start. Ended gave (task_of gate_takes gate_gives start files) names before after c.drive.result in
-    let ended : Ended gave gate_task names before after c.drive.result = subst E c.start.ensures c.drive.ensures.ended in
+    let ended : Ended gave (gate_task c.args.clock) names before after c.drive.result = subst E c.start.ensures c.drive.ensures.ended in
     record {
       runs = subst R c.start.ensures c.drive.ensures.runs;
-      gated = λ t. finish_map (λ finish. Finishes gate_task names before after finish) (IsGated names before after) c.drive.result (gated_means names before after) (finished_so gave gate_task names before after c.drive.result ended t);
+      gated = λ t. finish_map (λ finish. Finishes (gate_task c.args.clock) names before after finish) (IsGated c.args.clock names before after) c.drive.result (gated_means c.args.clock names before after) (finished_so gave (gate_task c.args.clock) names before after c.drive.result ended t);
     }

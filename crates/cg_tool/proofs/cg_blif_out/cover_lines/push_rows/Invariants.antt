@@ -1,6 +1,0 @@
-use Rattle.std.proofs.Common.{◌≡◌, ◌++◌, drop}
-use Rattle.cg_tool.specs.Writing.{rows_text}
-use Rattle.cg_tool.proofs.cg_blif_out.cover_lines.push_rows.Given as goal
-
-abbrev pub invariant-rows : goal.invariant-rows
-invariant-rows l = l.out.items ++ rows_text l.on (drop l.row-index l.rows) ≡ l.fn.out.items ++ rows_text l.on l.rows

@@ -1,5 +1,5 @@
 -- What a finished run of `gate` means, from what its files come to.
-use Rattle.std.proofs.Common.{◌≡◌, ◌+◌, ℕ, Bool, List, [], ◌∷◌, ◌++◌, length, Option, None, Some, Result, Ok, Err, refl, sym, ◌∙◌, ap, subst, append-nil, arith}
+use Rattle.std.proofs.Common.{◌≡◌, ℕ, Bool, List, [], ◌∷◌, ◌++◌, Option, None, Some, Result, Ok, Err, refl, sym, ◌∙◌, ap, subst, append-nil, arith}
 use Rattle.std.specs.Prelude.{IsSomeAnd}
 use Rattle.cg_cell.specs.Cell.{CellData}
 use Rattle.cg_liberty.proofs.LibTexts.{text_of_library}
@@ -11,17 +11,16 @@ use Rattle.cg_blif_text.specs.ReadAs.{AreProper}
 use Rattle.cg_blif_text.proofs.CanonicalText.{no_two, says_itself}
 use Rattle.cg_blif_text.proofs.ToldIsTaken.{text_is_writable}
 use Rattle.cg_netlist.specs.Circuit.{Circuit, GatingCell}
-use Rattle.cg_netlist.specs.History.{HasHistory, HasOneHistory, IsLawful, IsStart, IsWaveform, Moment, Tick, outputs_of}
+use Rattle.cg_netlist.specs.History.{HasHistory, HasOneHistory, IsLawful, IsStart, Moment, outputs_of}
 use Rattle.cg_netlist.specs.said.Wiring.{NetName}
 use Rattle.cg_netlist.proofs.Histories.{has_history, has_one_history}
 use Rattle.cg_shelf.specs.World.{World}
 use Rattle.cg_run.specs.declared.output.Finish.{Finish}
 use Rattle.cg_run.specs.declared.output.Output.{Output}
-use Rattle.cg_run.specs.declared.output.Text.{Text}
 use Rattle.cg_run.specs.declared.refusal.Trouble.{Trouble}
 use Rattle.cg_run.specs.declared.role.Role.{Role}
 use Rattle.cg_run.specs.declared.role.Role.TheVariants as roles
-use Rattle.cg_run.specs.Writes.{Written, put, puts}
+use Rattle.cg_run.specs.Writes.{Written}
 use Rattle.cg_run.proofs.Finished.{Finishes}
 use Rattle.cg_run.proofs.Steps.{found_ok, held_so, put_here, step_end, step_of}
 use Rattle.cg_tool.specs.NetlistSaid.{netlist_said}

@@ -5,7 +5,6 @@ use Rattle.cg_liberty.specs.LibText.{LibText}
 use Rattle.cg_liberty.specs.Library.{library_of}
 use Rattle.cg_liberty.specs.declared.fault.LibertyFault.{LibertyFault}
 use Rattle.cg_liberty.specs.declared.fault.LibertyFault.TheVariants as liberty_faults
-use Rattle.cg_blif.specs.declared.options.BlifOptions.{BlifOptions}
 use Rattle.cg_blif_text.specs.BlifText.{BlifText}
 use Rattle.cg_blif_text.specs.Canonical.{blif}
 use Rattle.cg_blif_text.specs.declared.fault.BlifFault.{BlifFault}

@@ -1,5 +1,5 @@
 -- What `lrat` makes of a formula and a log, what it says, and what that means.
-use Rattle.std.specs.Prelude.{◌≡◌, ℕ, List, [], ◌∷◌, ◌++◌, codes, decimal, Result, Ok, Err, IsSomeAnd}
+use Rattle.std.specs.Prelude.{◌≡◌, ℕ, List, [], ◌∷◌, ◌++◌, codes, decimal, Result, Ok, IsSomeAnd}
 use Rattle.cg_formula.specs.DimacsReading.{dimacs}
 use Rattle.cg_formula.specs.DimacsText.{DimacsText}
 use Rattle.cg_formula.specs.Satisfiable.{IsUnsatisfiable}

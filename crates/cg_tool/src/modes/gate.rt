@@ -90,12 +90,7 @@ impl Mode for Gate {
 }
 
 /// Gates the clock of a netlist, over the shelf; the words may name the clock.
-pub fn run<S: Shelf>(
-    alloc: Global,
-    shelf: &mut S,
-    names: &Names<'_>,
-    clock: Option<Name>,
-) -> Status
+pub fn run<S: Shelf>(alloc: Global, shelf: &mut S, names: &Names<'_>, clock: Option<Name>) -> Status
     ensures runs { Runs (Gave S.gives) (gate_task clock) (name_of names.now) (S.world shelf.old) (S.world shelf.new) result }
 
     // A finished run read a library and a netlist, and wrote a netlist that behaves as the one that was read.
@@ -280,7 +275,12 @@ fn net_trouble(alloc: Global, fault: NetFault) -> Result<Trouble, AllocError>
             b"netlist: two drivers ",
             net.bytes(),
         ),
-        NetFault::NoDriver(net) => with_name(alloc, Owner::Netlist, b"netlist: no driver ", net.bytes()),
+        NetFault::NoDriver(net) => with_name(
+            alloc,
+            Owner::Netlist,
+            b"netlist: no driver ",
+            net.bytes(),
+        ),
         NetFault::Cycle(net) => with_name(alloc, Owner::Netlist, b"netlist: cycle ", net.bytes()),
         NetFault::ClockFault(net) => with_name(
             alloc,

@@ -4,13 +4,13 @@ use Rattle.std.specs.Prelude.{IfErr, IfOk, MatchResult}
 use Rattle.cg_cell.specs.Cell.{CellData}
 use Rattle.cg_netlist.specs.Circuit.{Circuit}
 use Rattle.cg_netlist.specs.said.Wiring.{NetName}
-use Rattle.cg_blif.specs.Resuming.{IsFaultOf, IsFirstOrNoMemory}
+use Rattle.cg_blif.specs.Resuming.{IsFirstOrNoMemory}
 use Rattle.cg_blif_text.specs.declared.fault.BlifFault.{BlifFault}
 use Rattle.cg_blif_text.specs.declared.fault.BlifFault.TheVariants.{BadLine, BadCover, BadLatch, UnknownCell, UnusableCell, PinFault, SecondModel, Net, Limit, NoMemory}
 use Rattle.cg_blif_text.specs.BlifText.{BlifText}
 use Rattle.cg_blif_text.specs.ReadAs.{AreProper, IsReadAs}
 use Rattle.cg_blif_text.proofs.ReadOnce.{read_as, read_once}
-use Rattle.cg_tool.specs.NetlistSaid.{netlist_said}
+use Rattle.cg_tool.specs.NetlistSaid.{IsFaultOf, netlist_said}
 
 module _ (library : List CellData) (clock : Option NetName) (text : List ℕ) where
   -- a netlist that is read is one that the text says, with a proper library and clock

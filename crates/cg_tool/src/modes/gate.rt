@@ -4,14 +4,13 @@ ghost use Rattle.std.specs.Prelude.{◌≡◌, ◌++◌, decimal, IfOk, IsTrue, 
 ghost use Rattle.std.specs.List.{AllByRecursion};
 ghost use Rattle.std.specs.Option.{option_to_list};
 ghost use Rattle.cg_cell.specs.Name.{is_name};
-ghost use Rattle.cg_blif.specs.Resuming.{IsFaultOf};
 ghost use Rattle.cg_run.specs.Names.{name_of};
 ghost use Rattle.cg_run.specs.Promise.{FinishBy};
 ghost use Rattle.cg_run.specs.Reads.{Gave};
 ghost use Rattle.cg_run.specs.Run.{Runs};
 ghost use Rattle.cg_run.specs.Verdict.{Answers};
 ghost use Rattle.cg_tool.specs.Gate.{IsGated, gate_gives, gate_start, gate_takes, gate_task, gated, library_found, library_trouble, net_trouble, netlist_found, netlist_read, ungated};
-ghost use Rattle.cg_tool.specs.NetlistSaid.{netlist_said};
+ghost use Rattle.cg_tool.specs.NetlistSaid.{IsFaultOf, netlist_said};
 
 use cg_blif::{BlifFault, BlifOptions, read_blif};
 use cg_blif_out::write_blif;

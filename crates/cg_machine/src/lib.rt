@@ -10,6 +10,7 @@
 //! - `prefix`: names that are taken before anything is added.
 //! - `machine`: machines, and what is added to them.
 //! - `view`: what a machine shows of an added gate.
+//! - `stage`: registers that are to get one enable, as data.
 //! - `laws`: what is proved of machines.
 #![tactic(auto)]
 
@@ -18,4 +19,5 @@ mod gates;
 pub mod laws;
 pub mod machine;
 pub mod prefix;
+pub mod stage;
 pub mod view;

@@ -1,0 +1,9 @@
+pub mod Build
+pub mod Cone
+pub mod Laws
+pub mod LeafBits
+pub mod Leaves
+pub mod Question
+pub mod Reach
+pub mod Targets
+pub mod Violates

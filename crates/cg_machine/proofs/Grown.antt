@@ -152,6 +152,7 @@ module _ (m : MachineData) (good : IsMachine m) where
       well_formed = cell_pushed m.circuit good.well_formed (next_name m) name_named new_name g refl (gate_over kind (length inputs) fits.count) (λ x among. ((fits.nets x among).below, no_clock x (fits.nets x among).apart));
       no_gaters = good.no_gaters;
       inputs_once = good.inputs_once;
+      outputs_once = good.outputs_once;
       small = omega (arith, room, more_long);
       few_registers = good.few_registers;
       walk = subst (IsWalk (m.circuit.cells ++ g ∷ [])) (sym walk_is) walks;
@@ -207,6 +208,7 @@ module _ (m : MachineData) (good : IsMachine m) where
           (ap (λ xs. is_in xs (unwrap_or m.circuit.clock 0)) clocks_are ∙ from_option m.circuit.clock (unwrap_or m.circuit.clock 0) on_clock);
       no_gaters = good.no_gaters;
       inputs_once = good.inputs_once;
+      outputs_once = good.outputs_once;
       small = omega (arith, room, more_long);
       few_registers = omega (arith, space, more_registers);
       walk = good.walk;
@@ -242,6 +244,7 @@ module _ (m : MachineData) (good : IsMachine m) where
       well_formed = good.well_formed;
       no_gaters = good.no_gaters;
       inputs_once = good.inputs_once;
+      outputs_once = good.outputs_once;
       small = good.small;
       few_registers = good.few_registers;
       walk = good.walk;

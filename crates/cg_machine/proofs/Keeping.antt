@@ -11,7 +11,7 @@ use Rattle.cg_netlist.specs.Circuit.{Circuit, RegisterCell}
 use Rattle.cg_machine.specs.Added.{find_delay, first_output, next_gate, next_name, next_net, push_delay, push_gate, set_enable}
 use Rattle.cg_machine.specs.Gates.{AddedGate, gate_cell}
 use Rattle.cg_machine.specs.inner.Kept.{delay_of, kept}
-use Rattle.cg_machine.specs.Added.{own_netlist, own_nets, place_of}
+use Rattle.cg_machine.specs.Added.{HasNames, own_netlist, own_nets, place_of}
 use Rattle.cg_machine.specs.Machine.{MachineData, additions}
 use Rattle.cg_machine.specs.Run.{with_enables}
 use Rattle.cg_machine.specs.Start.{machine_of}
@@ -183,6 +183,12 @@ module _ (c : Circuit) (prefix : List ℕ) (es : List (Option ℕ)) (gs : List A
       let cells : take (length c.cells) m.circuit.cells ≡ c.cells = take-append_seam c.cells (map gate_cell gs) in
       let registers : take (length c.registers) m.circuit.registers ≡ c.registers = take-append_seam c.registers (map (delay_of c) ds) in
       λ i. record { model = c.model; names = names i; inputs = c.inputs; clock = c.clock; outputs = c.outputs; cells = cells i; gaters = c.gaters; registers = registers i }
+
+  -- the names
+  pub kept_names : HasNames (kept c prefix es gs ds)
+  kept_names =
+      ap (λ n. c.names ++ map name (range_with_len 0 n)) (sym added_count)
+      ∙ ap (λ (d : Circuit). d.names ++ map name (range_with_len 0 (additions (kept c prefix es gs ds)))) (sym kept_own)
 
 -- the place of a net among those that were added
 pub place_before : (m : MachineData) (net number own : ℕ) → number ≡ net → own ≡ own_nets m → number < own → place_of m net ≡ None

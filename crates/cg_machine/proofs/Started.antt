@@ -70,6 +70,7 @@ start_is_machine c prefix can =
       well_formed = formed;
       no_gaters = can.no_gaters;
       inputs_once = inputs_distinct c can.netlist.in_order;
+      outputs_once = can.outputs_once;
       small = can.netlist.nets;
       few_registers = can.netlist.registers;
       walk = subst (IsWalk c.cells) (sym walk_same) (walk_is c.cells formed.ranks formed.ranked (distinct_cells c formed.driven));

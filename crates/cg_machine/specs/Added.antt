@@ -1,7 +1,7 @@
 -- Gates, delay registers and enables that a machine gets, as functions of the machine. What was added before is found
 -- again; else it is appended, with a net of its own.
-use Rattle.std.specs.Prelude.{ℕ, ◌-◌, Bool, ◌&&◌, if◌then◌else◌, List, [], ◌∷◌, ◌++◌, length, slice_set, take, drop, nat_lt, Option, Some, None, Result, Ok, Err, unwrap_or, bytes_eq}
-use Rattle.std.specs.List.{find}
+use Rattle.std.specs.Prelude.{◌≡◌, ℕ, ◌-◌, Bool, ◌&&◌, if◌then◌else◌, List, [], ◌∷◌, ◌++◌, map, length, slice_set, take, drop, nat_lt, Option, Some, None, Result, Ok, Err, unwrap_or, bytes_eq}
+use Rattle.std.specs.List.{find, range_with_len}
 use Rattle.std.specs.Option.{option_and_then, option_map, option_or}
 use Rattle.cg_cell.specs.declared.fit.FitKind.{FitKind}
 use Rattle.cg_limit.specs.declared.Limit.{Limit}
@@ -122,6 +122,10 @@ own_nets m = length m.circuit.names - additions m
 
 abbrev pub own_netlist : MachineData → Circuit
 own_netlist m = record m.circuit { names = take (own_nets m) m.circuit.names; cells = take m.own_cells m.circuit.cells; registers = take m.own_registers m.circuit.registers }
+
+-- the names of the nets are those of the netlist, and behind them those of the added nets
+abbrev pub HasNames : MachineData → Type 0
+HasNames m = m.circuit.names ≡ (own_netlist m).names ++ map (added_name m) (range_with_len 0 (additions m))
 
 -- the place of an added net in the order of addition
 abbrev pub place_of : MachineData → ℕ → Option ℕ

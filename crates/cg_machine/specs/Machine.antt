@@ -100,8 +100,9 @@ pub record IsNet (m : MachineData) (net : ℕ) : Type 0 where
 pub record IsMachine (m : MachineData) : Type 0 where
   pub well_formed : IsWellFormed m.circuit
   pub no_gaters : m.circuit.gaters ≡ []
-  -- no input stands twice
+  -- no input stands twice, and no output
   pub inputs_once : IsDistinct nat_eq m.circuit.inputs
+  pub outputs_once : IsDistinct nat_eq m.circuit.outputs
   -- no limit is passed
   pub small : length m.circuit.names ≤ 1048576
   pub few_registers : length m.circuit.registers ≤ 65536

@@ -6,7 +6,7 @@ ghost use Rattle.cg_limit.specs.Answers.{OrNoMemory};
 ghost use Rattle.cg_netlist.specs.declared.fault.AddFault.{AddFault};
 ghost use Rattle.cg_netlist.specs.declared.fault.AddFault.TheVariants.{Limit as LimitFault, NoMemory};
 ghost use Rattle.cg_limit.specs.declared.Limit.TheVariants.{Nets, Registers};
-ghost use Rattle.cg_machine.specs.Added.{Added, delay_answer, find_delay, find_gate, gate_answer, nets_limit, own_netlist, place_of, push_delay, push_gate, registers_limit, set_enable};
+ghost use Rattle.cg_machine.specs.Added.{Added, HasNames, delay_answer, find_delay, find_gate, gate_answer, nets_limit, own_netlist, place_of, push_delay, push_gate, registers_limit, set_enable};
 ghost use Rattle.cg_machine.specs.Extends.{GateFits, HasDelay, HasGate};
 ghost use Rattle.cg_machine.specs.Gates.{HasInputs};
 ghost use Rattle.cg_machine.specs.Machine.{IsMachine, IsNet, delay_cell, enable_of};
@@ -91,9 +91,10 @@ impl Machine {
         &self.netlist
     }
 
-    /// What the names of added nets begin with.
+    /// What the names of added nets begin with. The place of a net in the order of addition follows it.
     pub fn prefix(&self) -> &[u8]
-        ensures { result.now ≡ self.now.prefix }
+        ensures prefix { result.now ≡ self.now.prefix }
+        ensures names { HasNames self.now }
     {
         self.prefix.bytes()
     }

@@ -1,0 +1,10 @@
+pub mod HoldStage
+pub mod StableStage
+pub mod UnseenStage
+pub mod Joins
+pub mod Fitting
+pub mod Enables
+pub mod HoldSafe
+pub mod StableSafe
+pub mod UnseenSafe
+pub mod StageSafe

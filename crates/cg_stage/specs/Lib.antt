@@ -1,0 +1,5 @@
+pub mod Stages
+pub mod Needs
+pub mod Joined
+pub mod Effects
+pub mod Laws

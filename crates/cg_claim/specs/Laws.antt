@@ -1,14 +1,34 @@
 -- What is proved of claims.
-use Rattle.std.specs.Prelude.{◌≡◌, ◌↔◌, ◌<◌, ℕ, Bool, true, false, not, List, length}
+use Rattle.std.specs.Prelude.{◌≡◌, ◌↔◌, ◌<◌, ℕ, Bool, true, false, not, List, [], ◌∷◌, length, map}
+use Rattle.cg_cell.specs.Build.{Run, build_and, build_not, build_or, plain}
+use Rattle.cg_cell.specs.Domain.{Seen}
+use Rattle.cg_cell.specs.declared.fit.FitKind.{FitKind}
+use Rattle.cg_cell.specs.declared.fit.FitKind.TheVariants.{Inv, And2, Or2}
 use Rattle.cg_aig.specs.Aig.{aig_ops}
+use Rattle.cg_netlist.specs.Circuit.{is_in}
 use Rattle.cg_machine.specs.Claims.{CanIdle, Hold, Literal, Stable, Target, Unseen, any_at}
-use Rattle.cg_machine.specs.Machine.{IsMachine, MachineData, values}
-use Rattle.cg_claim.specs.Build.{claim_run}
+use Rattle.cg_machine.specs.Gates.{AddedGate, HasInputs, gate_cell}
+use Rattle.cg_machine.specs.Machine.{IsMachine, MachineData, values, walk_of}
+use Rattle.cg_claim.specs.Build.{Table, aig_values, cell_run, claim_run}
+use Rattle.cg_claim.specs.Cone.{IsInCone}
 use Rattle.cg_claim.specs.LeafBits.{free_of, is_never, violates_at}
 use Rattle.cg_claim.specs.Leaves.{leaves_of, width_of}
-use Rattle.cg_claim.specs.Question.{Question, hold_question, idle_question, stable_question, target_part, unseen_question}
+use Rattle.cg_claim.specs.Question.{Question, held_question, hold_question, idle_question, stable_question, target_part, unseen_question}
+use Rattle.cg_claim.specs.Reach.{cone_of, inputs_of_register}
 use Rattle.cg_claim.specs.Targets.{meets}
 use Rattle.cg_claim.specs.Violates.{PartFits, SidesFit}
+
+-- the operation of a gate of this kind on the values of its inputs
+abbrev pub gate_run : FitKind → List ℕ → Seen → Run
+gate_run Inv (a ∷ []) s = build_not aig_ops a s
+gate_run And2 (a ∷ b ∷ []) s = build_and aig_ops a b s
+gate_run Or2 (a ∷ b ∷ []) s = build_or aig_ops a b s
+gate_run _ _ s = plain 0 s
+
+-- two runs end with the same answer in the same list
+pub record EndAlike (r q : Run) : Type 0 where
+  pub answer : r.answer ≡ q.answer
+  pub domain : r.domain ≡ q.domain
 
 -- the goal's bit at bits of the leaves
 abbrev pub goal_bit : MachineData → Question → List Bool → Bool
@@ -51,6 +71,19 @@ UnseenIsSaid = (m : MachineData) (E : List Literal) (Q G : List ℕ) (t : Target
 abbrev pub IdleIsSaid : Type 0
 IdleIsSaid = (m : MachineData) (E : List Literal) → IsMachine m → IsSometimesOne m (idle_question E) ↔ CanIdle m E
 
+-- the cone by the walk is the cone by the relation
+abbrev pub ConeIsReached : Type 0
+ConeIsReached = (m : MachineData) (roots : List ℕ) (y : ℕ) → IsMachine m → (is_in (cone_of (walk_of m) roots) y ≡ true) ↔ IsInCone m.circuit.cells roots y
+
+-- the Hold claims of a register have the same leaves, whatever the literal of the cone of its inputs
+abbrev pub HoldLeavesAreSame : Type 0
+HoldLeavesAreSame = (m : MachineData) (e : Literal) (r : ℕ) → IsMachine m → is_in (cone_of (walk_of m) (inputs_of_register m r)) e.0 ≡ true
+    → leaves_of m (hold_question e r) ≡ leaves_of m (held_question r)
+
 -- a target without a register of G in its cone needs no claim: it does not show them
 abbrev pub ApartIsUnseen : Type 0
 ApartIsUnseen = (m : MachineData) (E : List Literal) (Q G : List ℕ) (t : Target) → IsMachine m → PartFits m (target_part t) → meets m E G t ≡ false → Unseen m E Q G t
+
+-- an added gate gives what `not`, `and` or `or` of its inputs gives, by its kind
+abbrev pub GatesAreOperations : Type 0
+GatesAreOperations = (gate : AddedGate) (t : Table) → HasInputs gate.kind (length gate.inputs) → EndAlike (cell_run aig_values (gate_cell gate) t) (gate_run gate.kind (map t.at gate.inputs) t.domain)

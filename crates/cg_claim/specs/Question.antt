@@ -38,6 +38,10 @@ idle_question E = record { enables = E; follows = []; changes = []; sides = None
 abbrev pub hold_question : Literal → ℕ → Question
 hold_question e r = record { enables = e ∷ []; follows = []; changes = []; sides = Some (record { copy = Before; part = Next r }, record { copy = Before; part = State r }) }
 
+-- whether it can differ at all: what each Hold question of register r reaches beside its literal
+abbrev pub held_question : ℕ → Question
+held_question r = record { enables = []; follows = []; changes = []; sides = Some (record { copy = Before; part = Next r }, record { copy = Before; part = State r }) }
+
 -- whether it can differ a cycle after the joined enable was 0
 abbrev pub stable_question : List Literal → ℕ → Question
 stable_question E r = record { enables = E; follows = r ∷ []; changes = []; sides = Some (record { copy = After; part = Next r }, record { copy = After; part = State r }) }

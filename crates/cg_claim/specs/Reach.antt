@@ -21,9 +21,13 @@ abbrev pub cone_of : List (LogicCell ℕ) → List ℕ → List ℕ
 cone_of [] nets = nets
 cone_of (cell ∷ cells) nets = let later = cone_of cells nets in if is_in later cell.output then later ++ cell.inputs else later
 
+-- the input nets of a register
+abbrev pub inputs_of_register : MachineData → ℕ → List ℕ
+inputs_of_register m r = option_map_or (λ cell. cell.inputs) (slice_get m.circuit.registers r) []
+
 -- the nets that the next bit of a register asks for: its inputs and its enable
 abbrev pub next_nets : MachineData → ℕ → List ℕ
-next_nets m r = option_map_or (λ cell. cell.inputs) (slice_get m.circuit.registers r) [] ++ option_to_list (enable_of m r)
+next_nets m r = inputs_of_register m r ++ option_to_list (enable_of m r)
 
 -- whether a register's function names its own bit
 abbrev pub reads_own : RegisterCell ℕ ℕ → Bool

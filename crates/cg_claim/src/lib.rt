@@ -9,7 +9,9 @@
 //!
 //! - `name`: what a claim is about.
 //! - `leaf`: the leaves of a claim, and bits of them.
+//! - `laws`: what is proved of claims.
 #![tactic(auto)]
 
+pub mod laws;
 pub mod leaf;
 pub mod name;

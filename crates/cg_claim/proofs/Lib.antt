@@ -1,0 +1,17 @@
+pub mod Apart
+pub mod CellsLaid
+pub mod ClaimsHold
+pub mod ClaimsSaid
+pub mod ClosedCones
+pub mod ConesReach
+pub mod GivenNets
+pub mod Goal
+pub mod GoalBits
+pub mod HoldWidths
+pub mod NextBits
+pub mod OneCopy
+pub mod Places
+pub mod RowOne
+pub mod RowsMore
+pub mod Tried
+pub mod WholeLists

@@ -1,4 +1,4 @@
--- Cells, states and E, as they are built: their values stand for the bits of the machine's cycle.
+-- Logic cells and the joined enable, as they are built: their values stand for the bits of the machine's cycle.
 use Rattle.std.proofs.Common.{◌≡◌, ℕ, zero, suc, Bool, true, false, not, ◌||◌, cond, if◌then◌else◌, List, [], ◌∷◌, ◌++◌, map, length, IsTrue, nat_eq, slice_get, slice_index_or, Some, refl, sym, ◌∙◌, ap}
 use Rattle.std.specs.List.{filter}
 use Rattle.std.proofs.lemmas.Bool.{both_ways, eqb-true, eq-eqb, or_left, or_right}

@@ -9,11 +9,12 @@ use Rattle.cg_machine.specs.Gates.{HasInputs, gate_cover}
 use Rattle.cg_machine.specs.Machine.{values, walk_of}
 use Rattle.cg_netlist.specs.declared.parts.LogicFunction.TheVariants.{Cover}
 use Rattle.cg_claim.specs.Build.{aig_values, cell_run}
-use Rattle.cg_claim.specs.Laws.{ApartIsUnseen, ConeIsReached, EndAlike, GatesAreOperations, GoalViolates, HoldIsSaid, HoldLeavesAreSame, IdleGoal, IdleIsSaid, IsSometimesOne, NeverIsTried, StableIsSaid, UnseenIsSaid, gate_run}
+use Rattle.cg_claim.specs.Laws.{ApartIsUnseen, ConeIsReached, EndAlike, GatesAreOperations, GoalViolates, HoldIsSaid, HoldLeavesAreSame, IdleGoal, IdleIsSaid, IsSometimesOne, NeverIsTried, StableIsSaid, TargetsSuffice, UnseenIsSaid, gate_run}
 use Rattle.cg_claim.specs.LeafBits.{free_of, source_bit}
 use Rattle.cg_claim.specs.Leaves.{Leaf, leaves_of}
 use Rattle.cg_claim.specs.Question.{hold_question, idle_question, stable_question, unseen_question}
 use Rattle.cg_claim.specs.Violates.{Free}
+use Rattle.cg_claim.proofs.AllTargets.{all_unseen}
 use Rattle.cg_claim.proofs.Apart.{apart_unseen}
 use Rattle.cg_claim.proofs.ClaimsHold.{hold_never, idle_some, never_hold, never_stable, never_unseen, some_idle, stable_never, unseen_never}
 use Rattle.cg_claim.proofs.ConesReach.{cone_is}
@@ -77,6 +78,9 @@ hold_leaves_are_same m e r good among = hold_leaves m good e r among
 
 pub apart_is_unseen : ApartIsUnseen
 apart_is_unseen m E Q G t good fit none = apart_unseen m E Q G t good fit none
+
+pub targets_suffice : TargetsSuffice
+targets_suffice m E Q G good never t is = all_unseen m E Q G good never t is
 
 pub gates_are_operations : GatesAreOperations
 gates_are_operations gate t fits = go gate.kind gate.inputs fits

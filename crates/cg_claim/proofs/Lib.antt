@@ -1,3 +1,4 @@
+pub mod AllTargets
 pub mod Apart
 pub mod CellsLaid
 pub mod ClaimsHold

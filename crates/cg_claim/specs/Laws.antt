@@ -1,5 +1,5 @@
 -- What is proved of claims.
-use Rattle.std.specs.Prelude.{◌≡◌, ◌↔◌, ◌<◌, ℕ, Bool, true, false, not, List, [], ◌∷◌, length, map}
+use Rattle.std.specs.Prelude.{◌≡◌, ◌↔◌, ◌<◌, ℕ, Bool, true, false, not, List, [], ◌∷◌, length, map, slice_get, Some}
 use Rattle.cg_cell.specs.Build.{Run, build_and, build_not, build_or, plain}
 use Rattle.cg_cell.specs.Domain.{Seen}
 use Rattle.cg_cell.specs.declared.fit.FitKind.{FitKind}
@@ -11,11 +11,12 @@ use Rattle.cg_machine.specs.Gates.{AddedGate, HasInputs, gate_cell}
 use Rattle.cg_machine.specs.Machine.{IsMachine, MachineData, values, walk_of}
 use Rattle.cg_claim.specs.Build.{Table, aig_values, cell_run, claim_run}
 use Rattle.cg_claim.specs.Cone.{IsInCone}
+use Rattle.cg_claim.specs.declared.name.ClaimName.{ClaimName}
 use Rattle.cg_claim.specs.LeafBits.{free_of, is_never, violates_at}
 use Rattle.cg_claim.specs.Leaves.{leaves_of, width_of}
 use Rattle.cg_claim.specs.Question.{Question, held_question, hold_question, idle_question, stable_question, target_part, unseen_question}
 use Rattle.cg_claim.specs.Reach.{cone_of, inputs_of_register}
-use Rattle.cg_claim.specs.Targets.{meets}
+use Rattle.cg_claim.specs.Targets.{IsTarget, meets, unseen_targets}
 use Rattle.cg_claim.specs.Violates.{PartFits, SidesFit}
 
 -- the operation of a gate of this kind on the values of its inputs
@@ -83,6 +84,12 @@ HoldLeavesAreSame = (m : MachineData) (e : Literal) (r : ℕ) → IsMachine m �
 -- a target without a register of G in its cone needs no claim: it does not show them
 abbrev pub ApartIsUnseen : Type 0
 ApartIsUnseen = (m : MachineData) (E : List Literal) (Q G : List ℕ) (t : Target) → IsMachine m → PartFits m (target_part t) → meets m E G t ≡ false → Unseen m E Q G t
+
+-- where no goal of the targets that have a register of G in their cone is ever 1, no target shows these registers
+abbrev pub TargetsSuffice : Type 0
+TargetsSuffice = (m : MachineData) (E : List Literal) (Q G : List ℕ) → IsMachine m
+    → ((k : ℕ) (name : ClaimName) (t : Target) → slice_get (unseen_targets m E G) k ≡ Some (name, t) → IsNeverOne m (unseen_question E Q G t))
+    → (t : Target) → IsTarget m t → Unseen m E Q G t
 
 -- an added gate gives what `not`, `and` or `or` of its inputs gives, by its kind
 abbrev pub GatesAreOperations : Type 0

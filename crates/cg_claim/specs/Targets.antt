@@ -1,6 +1,7 @@
 -- The targets of a claim that registers are unseen: those with one of these registers in their cone.
-use Rattle.std.specs.Prelude.{ℕ, ◌+◌, Bool, List, [], ◌∷◌, ◌++◌, map}
+use Rattle.std.specs.Prelude.{◌≡◌, ◌<◌, ℕ, ◌+◌, Bool, true, List, [], ◌∷◌, ◌++◌, length, map}
 use Rattle.std.specs.List.{filter, list_any}
+use Rattle.cg_netlist.specs.Circuit.{is_in}
 use Rattle.cg_machine.specs.Claims.{Literal, Target, Shown, Next, Joined}
 use Rattle.cg_machine.specs.Machine.{MachineData}
 use Rattle.cg_claim.specs.declared.name.ClaimName.{ClaimName}
@@ -24,3 +25,9 @@ all_targets m = output_targets 0 m.circuit.outputs ++ map (λ r. (NextName r, Ne
 -- those that have a register of G in their cone
 abbrev pub unseen_targets : MachineData → List Literal → List ℕ → List (ClaimName × Target)
 unseen_targets m E G = filter (λ t. meets m E G t.1) (all_targets m)
+
+-- a target is one of the machine's: an output, the next bit of a register, or the joined enable
+abbrev pub IsTarget : MachineData → Target → Type 0
+IsTarget m (Shown y) = is_in m.circuit.outputs y ≡ true
+IsTarget m (Next r) = r < length m.circuit.registers
+IsTarget m Joined = Unit {0}

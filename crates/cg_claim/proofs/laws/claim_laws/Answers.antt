@@ -1,5 +1,5 @@
 use Rattle.cg_claim.proofs.laws.claim_laws.Goals as goal
-use Rattle.cg_claim.proofs.ClaimsSaid.{apart_is_unseen, cone_is_reached, gates_are_operations, goal_violates, hold_is_said, hold_leaves_are_same, idle_goal, idle_is_said, never_is_tried, stable_is_said, unseen_is_said}
+use Rattle.cg_claim.proofs.ClaimsSaid.{apart_is_unseen, cone_is_reached, gates_are_operations, goal_violates, hold_is_said, hold_leaves_are_same, idle_goal, idle_is_said, never_is_tried, stable_is_said, targets_suffice, unseen_is_said}
 
 pub returns : goal.returns
 returns c = record {
@@ -13,5 +13,6 @@ returns c = record {
   cone = cone_is_reached;
   same_leaves = hold_leaves_are_same;
   apart = apart_is_unseen;
+  targets = targets_suffice;
   gates = gates_are_operations;
 }

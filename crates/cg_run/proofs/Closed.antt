@@ -1,6 +1,6 @@
 -- What a run leaves once it was closed, whatever its mode.
-use Rattle.std.proofs.Common.{◌≡◌, ◌⊎◌, inl, inr, ℕ, Bool, true, false, IsTrue, List, [], ◌++◌, Result, Ok, Err, refl, sym, ◌∙◌, ap, subst, if◌then◌else◌}
-use Rattle.std.specs.Prelude.{IsOkAnd}
+use Rattle.std.proofs.Common.{◌≡◌, ◌⊎◌, inl, inr, ℕ, Bool, true, false, IsTrue, List, [], ◌++◌, Option, None, Some, Result, Ok, Err, refl, sym, ◌∙◌, ap, subst, if◌then◌else◌}
+use Rattle.std.specs.Prelude.{IsSomeAnd}
 use Rattle.std.proofs.lemmas.List.{append-nil}
 use Rattle.cg_shelf.specs.World.{World}
 use Rattle.cg_shelf.specs.Shelf.{AppendsFront, call_faults, one_fault}
@@ -79,14 +79,14 @@ closed names (Err refusal) between after result closes = record {
   ends = ends_refused refusal closes.shown closes.has_memory closes.complains.answer result closes.is closes.complains.ends;
 }
 
--- facts of what files come to
-pub ok_and : (v : Result Output Refusal) (P Q : Output → Type 0) → ((output : Output) → P output → Q output) → IsOkAnd v P → IsOkAnd v Q
-ok_and (Ok output) P Q step h = step output h
-ok_and (Err refusal) P Q step h = absurd h
+-- facts of an output
+pub some_step : (out : Option Output) (P Q : Output → Type 0) → ((output : Output) → P output → Q output) → IsSomeAnd out P → IsSomeAnd out Q
+some_step (Some output) P Q step h = step output h
+some_step None P Q step h = absurd h
 
-pub ok_both : (v : Result Output Refusal) (P Q R : Output → Type 0) → ((output : Output) → P output → Q output → R output) → IsOkAnd v P → IsOkAnd v Q → IsOkAnd v R
-ok_both (Ok output) P Q R step h k = step output h k
-ok_both (Err refusal) P Q R step h k = absurd h
+pub some_both : (out : Option Output) (P Q R : Output → Type 0) → ((output : Output) → P output → Q output → R output) → IsSomeAnd out P → IsSomeAnd out Q → IsSomeAnd out R
+some_both (Some output) P Q R step h k = step output h k
+some_both None P Q R step h k = absurd h
 
 -- what stands is not changed by a complaint
 written_after : (names : Role → List ℕ) (output : Output) (before between after : World) → after.held ≡ between.held → after.said ≡ between.said → Written names output before between → Written names output before after
@@ -111,45 +111,45 @@ leaves_after names output steps.Saying before between after held said w = record
   said = let P : List ℕ → Type 0 = λ s. AppendsFront before.said s output.said in subst P (sym said) w.said;
 }
 
-stands_after : (names : Role → List ℕ) (v : Result Output Refusal) (step : Step) (before between after : World) → after.held ≡ between.held → after.said ≡ between.said → StandsAt names v step before between → StandsAt names v step before after
-stands_after names v steps.Reading before between after held said w = record { held = held ∙ w.held; said = said ∙ w.said }
-stands_after names v (steps.Storing role) before between after held said w = ok_and v (λ o. LeavesAt names o (steps.Storing role) before between) (λ o. LeavesAt names o (steps.Storing role) before after) (λ o. leaves_after names o (steps.Storing role) before between after held said) w
-stands_after names v steps.Saying before between after held said w = ok_and v (λ o. LeavesAt names o steps.Saying before between) (λ o. LeavesAt names o steps.Saying before after) (λ o. leaves_after names o steps.Saying before between after held said) w
+stands_after : (names : Role → List ℕ) (out : Option Output) (step : Step) (before between after : World) → after.held ≡ between.held → after.said ≡ between.said → StandsAt names out step before between → StandsAt names out step before after
+stands_after names out steps.Reading before between after held said w = record { held = held ∙ w.held; said = said ∙ w.said }
+stands_after names out (steps.Storing role) before between after held said w = some_step out (λ o. LeavesAt names o (steps.Storing role) before between) (λ o. LeavesAt names o (steps.Storing role) before after) (λ o. leaves_after names o (steps.Storing role) before between after held said) w
+stands_after names out steps.Saying before between after held said w = some_step out (λ o. LeavesAt names o steps.Saying before between) (λ o. LeavesAt names o steps.Saying before after) (λ o. leaves_after names o steps.Saying before between after held said) w
 
-pub stays : (names : Role → List ℕ) (v : Result Output Refusal) (outcome : Result Finish Refusal) (before between after : World) → after.held ≡ between.held → after.said ≡ between.said → Leaves names v before between outcome → Leaves names v before after outcome
-stays names v (Ok finish) before between after held said w = ok_and v (λ o. Written names o before between) (λ o. Written names o before after) (λ o. written_after names o before between after held said) w
-stays names v (Err refusal) before between after held said w = stands_after names v (step_of refusal) before between after held said w
+pub stays : (names : Role → List ℕ) (out : Option Output) (outcome : Result Finish Refusal) (before between after : World) → after.held ≡ between.held → after.said ≡ between.said → Leaves names out before between outcome → Leaves names out before after outcome
+stays names out (Ok finish) before between after held said w = some_step out (λ o. Written names o before between) (λ o. Written names o before after) (λ o. written_after names o before between after held said) w
+stays names out (Err refusal) before between after held said w = stands_after names out (step_of refusal) before between after held said w
 
 -- what stands, status by status
-broken : (names : Role → List ℕ) (v : Result Output Refusal) (step : Step) (before after : World) → IsOkAnd v (λ o. HasStep o step) → IsOkAnd v (λ o. LeavesAt names o step before after) → IsOkAnd v (λ o. Broken names o before after)
-broken names v step before after has leaves = ok_both v (λ o. HasStep o step) (λ o. LeavesAt names o step before after) (λ o. Broken names o before after) (λ o h l. record { step = step; writing = h; leaves = l }) has leaves
+broken : (names : Role → List ℕ) (out : Option Output) (step : Step) (before after : World) → IsSomeAnd out (λ o. HasStep o step) → IsSomeAnd out (λ o. LeavesAt names o step before after) → IsSomeAnd out (λ o. Broken names o before after)
+broken names out step before after has leaves = some_both out (λ o. HasStep o step) (λ o. LeavesAt names o step before after) (λ o. Broken names o before after) (λ o h l. record { step = step; writing = h; leaves = l }) has leaves
 
-owner_stands : (names : Role → List ℕ) (v : Result Output Refusal) (before after : World) (owner : Owner) → Untouched before after → StandsBy names v before after (owner_status owner)
-owner_stands names v before after owners.Netlist h = h
-owner_stands names v before after owners.Library h = h
-owner_stands names v before after owners.Stimulus h = h
+owner_stands : (names : Role → List ℕ) (out : Option Output) (before after : World) (owner : Owner) → Untouched before after → StandsBy names out before after (owner_status owner)
+owner_stands names out before after owners.Netlist h = h
+owner_stands names out before after owners.Library h = h
+owner_stands names out before after owners.Stimulus h = h
 
-memory_stands : (names : Role → List ℕ) (v : Result Output Refusal) (refusal : Refusal) (step : Step) (before after : World) → CauseAt v refusal step → StandsAt names v step before after → StandsBy names v before after statuses.NoMemory
-memory_stands names v refusal steps.Reading before after cause stands = inl stands
-memory_stands names v refusal (steps.Storing role) before after cause stands = inr (broken names v (steps.Storing role) before after cause stands)
-memory_stands names v refusal steps.Saying before after cause stands = inr (broken names v steps.Saying before after cause stands)
+memory_stands : (refused : Option Refusal) (names : Role → List ℕ) (out : Option Output) (refusal : Refusal) (step : Step) (before after : World) → CauseAt refused out refusal step → StandsAt names out step before after → StandsBy names out before after statuses.NoMemory
+memory_stands refused names out refusal steps.Reading before after cause stands = inl stands
+memory_stands refused names out refusal (steps.Storing role) before after cause stands = inr (broken names out (steps.Storing role) before after cause stands)
+memory_stands refused names out refusal steps.Saying before after cause stands = inr (broken names out steps.Saying before after cause stands)
 
-refusal_stands : (names : Role → List ℕ) (v : Result Output Refusal) (refusal : Refusal) (before after : World) → CauseAt v refusal (step_of refusal) → StandsAt names v (step_of refusal) before after → StandsBy names v before after (status_of refusal)
-refusal_stands names v (refusals.Content content) before after cause stands = owner_stands names v before after content.owner stands
-refusal_stands names v (refusals.Limit limit) before after cause stands = stands
-refusal_stands names v (refusals.Load role) before after cause stands = stands
-refusal_stands names v (refusals.Store role) before after cause stands = broken names v (steps.Storing role) before after cause stands
-refusal_stands names v refusals.Say before after cause stands = broken names v steps.Saying before after cause stands
-refusal_stands names v (refusals.NoMemory step) before after cause stands = memory_stands names v (refusals.NoMemory step) step before after cause stands
+refusal_stands : (refused : Option Refusal) (names : Role → List ℕ) (out : Option Output) (refusal : Refusal) (before after : World) → CauseAt refused out refusal (step_of refusal) → StandsAt names out (step_of refusal) before after → StandsBy names out before after (status_of refusal)
+refusal_stands refused names out (refusals.Content content) before after cause stands = owner_stands names out before after content.owner stands
+refusal_stands refused names out (refusals.Limit limit) before after cause stands = stands
+refusal_stands refused names out (refusals.Load role) before after cause stands = stands
+refusal_stands refused names out (refusals.Store role) before after cause stands = broken names out (steps.Storing role) before after cause stands
+refusal_stands refused names out refusals.Say before after cause stands = broken names out steps.Saying before after cause stands
+refusal_stands refused names out (refusals.NoMemory step) before after cause stands = memory_stands refused names out (refusals.NoMemory step) step before after cause stands
 
-finish_stands : (names : Role → List ℕ) (v : Result Output Refusal) (finish : Finish) (before after : World) → IsOkAnd v (λ o. Written names o before after) → StandsBy names v before after (finish_status finish)
-finish_stands names v finishes.Done before after h = h
-finish_stands names v finishes.Rejected before after h = h
+finish_stands : (names : Role → List ℕ) (out : Option Output) (finish : Finish) (before after : World) → IsSomeAnd out (λ o. Written names o before after) → StandsBy names out before after (finish_status finish)
+finish_stands names out finishes.Done before after h = h
+finish_stands names out finishes.Rejected before after h = h
 
-outcome_stands : (names : Role → List ℕ) (v : Result Output Refusal) (outcome : Result Finish Refusal) (before after : World) (result : Status) → Cause v outcome → Leaves names v before after outcome → EndsSo outcome result → StandsBy names v before after result
-outcome_stands names v (Ok finish) before after result cause leaves ends = let P : Status → Type 0 = λ s. StandsBy names v before after s in subst P (sym ends) (finish_stands names v finish before after leaves)
-outcome_stands names v (Err refusal) before after result cause leaves (inl ends) = let P : Status → Type 0 = λ s. StandsBy names v before after s in subst P (sym ends) (refusal_stands names v refusal before after cause leaves)
-outcome_stands names v (Err refusal) before after result cause leaves (inr ends) = let P : Status → Type 0 = λ s. StandsBy names v before after s in subst P (sym ends) (memory_stands names v refusal (step_of refusal) before after cause leaves)
+outcome_stands : (refused : Option Refusal) (names : Role → List ℕ) (out : Option Output) (outcome : Result Finish Refusal) (before after : World) (result : Status) → Cause refused out outcome → Leaves names out before after outcome → EndsSo outcome result → StandsBy names out before after result
+outcome_stands refused names out (Ok finish) before after result cause leaves ends = let P : Status → Type 0 = λ s. StandsBy names out before after s in subst P (sym ends) (finish_stands names out finish before after leaves)
+outcome_stands refused names out (Err refusal) before after result cause leaves (inl ends) = let P : Status → Type 0 = λ s. StandsBy names out before after s in subst P (sym ends) (refusal_stands refused names out refusal before after cause leaves)
+outcome_stands refused names out (Err refusal) before after result cause leaves (inr ends) = let P : Status → Type 0 = λ s. StandsBy names out before after s in subst P (sym ends) (memory_stands refused names out refusal (step_of refusal) before after cause leaves)
 
 pub stands : (gave : List ℕ → Result (List ℕ) LoadFault → Type 0) (task : Task) (names : Role → List ℕ) (before after : World) (result : Status) → Runs gave task names before after result → IsTrue before.tells → Stands task names before after result
 stands gave task names before after result runs t =
@@ -159,52 +159,56 @@ stands gave task names before after result runs t =
     record {
       given = a.given;
       told = a.told t;
-      stands = outcome_stands names (task.comes a.given) runs.outcome before after result a.cause (stays names (task.comes a.given) runs.outcome before runs.between after (c.held u) (c.said u) (a.leaves t)) c.ends;
+      out = a.out;
+      comes = a.comes;
+      stands = outcome_stands (task.refused a.given) names a.out runs.outcome before after result a.cause (stays names a.out runs.outcome before runs.between after (c.held u) (c.said u) (a.leaves t)) c.ends;
     }
 
 -- the failed calls, status by status
-owner_calls : (names : Role → List ℕ) (loads : List Role) (v : Result Output Refusal) (owner : Owner) → CallBy names loads v [] (owner_status owner)
-owner_calls names loads v owners.Netlist = refl
-owner_calls names loads v owners.Library = refl
-owner_calls names loads v owners.Stimulus = refl
+owner_calls : (names : Role → List ℕ) (loads : List Role) (out : Option Output) (owner : Owner) → CallBy names loads out [] (owner_status owner)
+owner_calls names loads out owners.Netlist = refl
+owner_calls names loads out owners.Library = refl
+owner_calls names loads out owners.Stimulus = refl
 
-refusal_calls : (names : Role → List ℕ) (loads : List Role) (v : Result Output Refusal) (refusal : Refusal) → ((role : Role) → v ≡ Err (refusals.Load role) → IsTrue (is_among role loads)) → CauseAt v refusal (step_of refusal)
-    → CallBy names loads v (faults_of names refusal) (status_of refusal)
-refusal_calls names loads v (refusals.Content content) named cause = owner_calls names loads v content.owner
-refusal_calls names loads v (refusals.Limit limit) named cause = refl
-refusal_calls names loads v (refusals.Load role) named cause = (role, (named role cause, refl))
-refusal_calls names loads v (refusals.Store role) named cause = inl (role, (cause, refl))
-refusal_calls names loads v refusals.Say named cause = inr refl
-refusal_calls names loads v (refusals.NoMemory step) named cause = inl refl
+refusal_calls : (refused : Option Refusal) (names : Role → List ℕ) (loads : List Role) (out : Option Output) (refusal : Refusal) → ((role : Role) → refused ≡ Some (refusals.Load role) → IsTrue (is_among role loads)) → CauseAt refused out refusal (step_of refusal)
+    → CallBy names loads out (faults_of names refusal) (status_of refusal)
+refusal_calls refused names loads out (refusals.Content content) named cause = owner_calls names loads out content.owner
+refusal_calls refused names loads out (refusals.Limit limit) named cause = refl
+refusal_calls refused names loads out (refusals.Load role) named cause = (role, (named role cause, refl))
+refusal_calls refused names loads out (refusals.Store role) named cause = inl (role, (cause, refl))
+refusal_calls refused names loads out refusals.Say named cause = inr refl
+refusal_calls refused names loads out (refusals.NoMemory step) named cause = inl refl
 
-memory_calls : (names : Role → List ℕ) (loads : List Role) (v : Result Output Refusal) (refusal : Refusal) → CallBy names loads v (faults_of names refusal) statuses.NoMemory
-memory_calls names loads v (refusals.Content content) = inl refl
-memory_calls names loads v (refusals.Limit limit) = inl refl
-memory_calls names loads v (refusals.Load role) = inr (record { call = calls.Load; name = names role }, refl)
-memory_calls names loads v (refusals.Store role) = inr (record { call = calls.Store; name = names role }, refl)
-memory_calls names loads v refusals.Say = inr (record { call = calls.Say; name = [] }, refl)
-memory_calls names loads v (refusals.NoMemory step) = inl refl
+memory_calls : (names : Role → List ℕ) (loads : List Role) (out : Option Output) (refusal : Refusal) → CallBy names loads out (faults_of names refusal) statuses.NoMemory
+memory_calls names loads out (refusals.Content content) = inl refl
+memory_calls names loads out (refusals.Limit limit) = inl refl
+memory_calls names loads out (refusals.Load role) = inr (record { call = calls.Load; name = names role }, refl)
+memory_calls names loads out (refusals.Store role) = inr (record { call = calls.Store; name = names role }, refl)
+memory_calls names loads out refusals.Say = inr (record { call = calls.Say; name = [] }, refl)
+memory_calls names loads out (refusals.NoMemory step) = inl refl
 
-finish_calls : (names : Role → List ℕ) (loads : List Role) (v : Result Output Refusal) (finish : Finish) → CallBy names loads v [] (finish_status finish)
-finish_calls names loads v finishes.Done = refl
-finish_calls names loads v finishes.Rejected = refl
+finish_calls : (names : Role → List ℕ) (loads : List Role) (out : Option Output) (finish : Finish) → CallBy names loads out [] (finish_status finish)
+finish_calls names loads out finishes.Done = refl
+finish_calls names loads out finishes.Rejected = refl
 
-outcome_calls : (names : Role → List ℕ) (loads : List Role) (v : Result Output Refusal) (outcome : Result Finish Refusal) (result : Status) → ((role : Role) → v ≡ Err (refusals.Load role) → IsTrue (is_among role loads)) → Cause v outcome → EndsSo outcome result
-    → CallBy names loads v (outcome_faults names outcome) result
-outcome_calls names loads v (Ok finish) result named cause ends = let P : Status → Type 0 = λ s. CallBy names loads v [] s in subst P (sym ends) (finish_calls names loads v finish)
-outcome_calls names loads v (Err refusal) result named cause (inl ends) = let P : Status → Type 0 = λ s. CallBy names loads v (faults_of names refusal) s in subst P (sym ends) (refusal_calls names loads v refusal named cause)
-outcome_calls names loads v (Err refusal) result named cause (inr ends) = let P : Status → Type 0 = λ s. CallBy names loads v (faults_of names refusal) s in subst P (sym ends) (memory_calls names loads v refusal)
+outcome_calls : (refused : Option Refusal) (names : Role → List ℕ) (loads : List Role) (out : Option Output) (outcome : Result Finish Refusal) (result : Status) → ((role : Role) → refused ≡ Some (refusals.Load role) → IsTrue (is_among role loads)) → Cause refused out outcome → EndsSo outcome result
+    → CallBy names loads out (outcome_faults names outcome) result
+outcome_calls refused names loads out (Ok finish) result named cause ends = let P : Status → Type 0 = λ s. CallBy names loads out [] s in subst P (sym ends) (finish_calls names loads out finish)
+outcome_calls refused names loads out (Err refusal) result named cause (inl ends) = let P : Status → Type 0 = λ s. CallBy names loads out (faults_of names refusal) s in subst P (sym ends) (refusal_calls refused names loads out refusal named cause)
+outcome_calls refused names loads out (Err refusal) result named cause (inr ends) = let P : Status → Type 0 = λ s. CallBy names loads out (faults_of names refusal) s in subst P (sym ends) (memory_calls names loads out refusal)
 
 pub gains : (gave : List ℕ → Result (List ℕ) LoadFault → Type 0) (task : Task) (names : Role → List ℕ) (before after : World) (result : Status)
-    → ((given : Given) (role : Role) → task.comes given ≡ Err (refusals.Load role) → IsTrue (is_among role task.loads)) → Runs gave task names before after result → Gains task names before after result
+    → ((given : Given) (role : Role) → task.refused given ≡ Some (refusals.Load role) → IsTrue (is_among role task.loads)) → Runs gave task names before after result → Gains task names before after result
 gains gave task names before after result named runs =
     let c = closed names runs.outcome runs.between after result runs.closes in
     let a = runs.attempts in
     record {
       given = a.given;
+      out = a.out;
+      comes = a.comes;
       made = outcome_faults names runs.outcome;
       complaint = c.complaint;
       failed = c.failed ∙ ap (λ f. f ++ c.complaint) a.failed;
-      by = outcome_calls names task.loads (task.comes a.given) runs.outcome result (named a.given) a.cause c.ends;
+      by = outcome_calls (task.refused a.given) names task.loads a.out runs.outcome result (named a.given) a.cause c.ends;
       voice = c.voice;
     }

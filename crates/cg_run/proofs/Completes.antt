@@ -1,41 +1,44 @@
 -- Where no call fails, a run ends as what is held comes to.
 use Rattle.std.proofs.Common.{◌≡◌, ◌≤◌, ◌<◌, ◌⊎◌, inl, inr, ℕ, true, false, IsTrue, List, [], ◌∷◌, length, nat_lt, Option, None, Some, Result, Ok, Err, refl, sym, ◌∙◌, ap, subst}
-use Rattle.std.specs.Prelude.{IsOkAnd, IsSomeAnd}
+use Rattle.std.specs.Prelude.{IfSome, IsOkAnd, IsSomeAnd}
 use Rattle.std.proofs.lemmas.Bool.{le-ltb, lt-ltb}
 use Rattle.cg_shelf.specs.World.{World}
 use Rattle.cg_shelf.specs.declared.faults.LoadFault.{LoadFault}
 use Rattle.cg_shelf.specs.declared.faults.LoadFault.TheVariants as loads
+use Rattle.cg_limit.specs.declared.TheConstants.{MOST_FILE_BYTES}
 use Rattle.cg_run.specs.declared.output.Finish.{Finish}
+use Rattle.cg_run.specs.declared.output.Finish.TheVariants as finishes
+use Rattle.cg_run.specs.declared.refusal.Owner.{Owner}
+use Rattle.cg_run.specs.declared.refusal.Owner.TheVariants as owners
 use Rattle.cg_run.specs.declared.output.Output.{Output}
 use Rattle.cg_run.specs.declared.refusal.Refusal.{Refusal}
 use Rattle.cg_run.specs.declared.refusal.Refusal.TheVariants as refusals
 use Rattle.cg_run.specs.declared.refusal.Step.TheVariants as steps
 use Rattle.cg_run.specs.declared.role.Role.{Role}
 use Rattle.cg_run.specs.declared.status.Status.{Status}
-use Rattle.cg_run.specs.declared.status.Status.TheVariants as statuses
 use Rattle.cg_run.specs.Refusal.{owner_status, status_of, step_of}
 use Rattle.cg_run.specs.Status.{finish_status}
 use Rattle.cg_run.specs.Reads.{Agrees}
 use Rattle.cg_run.specs.Run.{Cause, CauseAt, Runs}
 use Rattle.cg_run.specs.declared.refusal.Trouble.{Trouble}
-use Rattle.cg_run.specs.Verdict.{Given, Loaded, taken, task_of, verdict, ◌>>=◌}
-use Rattle.cg_run.specs.Promise.{IsOrFails, ends_as, held_files, loaded_of}
+use Rattle.cg_run.specs.Verdict.{ComesTo, Given, Loaded, Task, reached, refusal_in, taken, task_of, ◌>>=◌}
+use Rattle.cg_run.specs.Promise.{EndsAs, EndsBy, UnlessFails, held_files, loaded_of}
 use Rattle.cg_run.proofs.Closed.{EndsSo, closed}
 
 -- a file was not loaded, or its load failed or found no memory
 abbrev IsLost : Loaded → Type 0
 IsLost gave = (gave ≡ None) ⊎ ((gave ≡ Some (Err loads.Failed)) ⊎ (gave ≡ Some (Err loads.NoMemory)))
 
-within : (n : ℕ) → n ≤ 67108864 → nat_lt 67108864 n ≡ false
-within n h = le-ltb 67108864 n h
+within : (n : ℕ) → n ≤ MOST_FILE_BYTES → nat_lt MOST_FILE_BYTES n ≡ false
+within n h = le-ltb MOST_FILE_BYTES n h
 
-beyond : (n : ℕ) → 67108864 < n → nat_lt 67108864 n ≡ true
-beyond n h = lt-ltb 67108864 n h
+beyond : (n : ℕ) → MOST_FILE_BYTES < n → nat_lt MOST_FILE_BYTES n ≡ true
+beyond n h = lt-ltb MOST_FILE_BYTES n h
 
-found : (bytes : List ℕ) → length bytes ≤ 67108864 → loaded_of (Some bytes) ≡ Some (Ok bytes)
+found : (bytes : List ℕ) → length bytes ≤ MOST_FILE_BYTES → loaded_of (Some bytes) ≡ Some (Ok bytes)
 found bytes h = rw (within (length bytes) h) refl
 
-long : (held : Option (List ℕ)) → IsSomeAnd held (λ bytes. 67108864 < length bytes) → loaded_of held ≡ Some (Err loads.TooLong)
+long : (held : Option (List ℕ)) → IsSomeAnd held (λ bytes. MOST_FILE_BYTES < length bytes) → loaded_of held ≡ Some (Err loads.TooLong)
 long None h = absurd h
 long (Some bytes) h = rw (beyond (length bytes) h) refl
 
@@ -46,97 +49,110 @@ gave_held held (Some (Err loads.Failed)) agrees = inr (inr (inl refl))
 gave_held held (Some (Err loads.TooLong)) agrees = inl (sym (long held agrees))
 gave_held held (Some (Err loads.NoMemory)) agrees = inr (inr (inr refl))
 
--- the files come to a load that failed, or to want of memory
-abbrev IsFaulty : Result Output Refusal → Type 0
-IsFaulty v = ((role : Role) × (v ≡ Err (refusals.Load role))) ⊎ (v ≡ Err (refusals.NoMemory steps.Reading))
+-- a load that failed, or want of memory, ends the reading
+abbrev IsFaulty : Option Refusal → Type 0
+IsFaulty refused = ((role : Role) × (refused ≡ Some (refusals.Load role))) ⊎ (refused ≡ Some (refusals.NoMemory steps.Reading))
 
-lost_faulty : {M : Type 0} (takes : M → Role → List ℕ → Result M Trouble) (gives : M → Result Output Trouble) (state : M) (role : Role) (rest : List Role) (given : Given)
-    → IsLost (given role) → IsFaulty (verdict takes gives state (role ∷ rest) given)
-lost_faulty takes gives state role rest given (inl lost) = inr (rw lost refl)
-lost_faulty takes gives state role rest given (inr (inl lost)) = inl (role, rw lost refl)
-lost_faulty takes gives state role rest given (inr (inr lost)) = inr (rw lost refl)
+lost_faulty : {M : Type 0} (takes : M → Role → List ℕ → Result M Trouble) (stops : M → Option Trouble) (state : M) (role : Role) (rest : List Role) (given : Given)
+    → IsLost (given role) → IsFaulty (refusal_in (reached takes stops state (role ∷ rest) given))
+lost_faulty takes stops state role rest given (inl lost) = inr (rw lost refl)
+lost_faulty takes stops state role rest given (inr (inl lost)) = inl (role, rw lost refl)
+lost_faulty takes stops state role rest given (inr (inr lost)) = inr (rw lost refl)
 
-next_same : {M : Type 0} (takes : M → Role → List ℕ → Result M Trouble) (gives : M → Result Output Trouble) (next : Result M Refusal) (rest : List Role) (given held : Given)
-    → ((state : M) → (verdict takes gives state rest given ≡ verdict takes gives state rest held) ⊎ IsFaulty (verdict takes gives state rest given))
-    → ((next >>= λ state. verdict takes gives state rest given) ≡ (next >>= λ state. verdict takes gives state rest held)) ⊎ IsFaulty (next >>= λ state. verdict takes gives state rest given)
-next_same takes gives (Ok state) rest given held step = step state
-next_same takes gives (Err refusal) rest given held step = inl refl
+next_same : {M : Type 0} (takes : M → Role → List ℕ → Result M Trouble) (stops : M → Option Trouble) (next : Result M Refusal) (rest : List Role) (given held : Given)
+    → ((state : M) → (reached takes stops state rest given ≡ reached takes stops state rest held) ⊎ IsFaulty (refusal_in (reached takes stops state rest given)))
+    → ((next >>= λ state. reached takes stops state rest given) ≡ (next >>= λ state. reached takes stops state rest held)) ⊎ IsFaulty (refusal_in (next >>= λ state. reached takes stops state rest given))
+next_same takes stops (Ok state) rest given held step = step state
+next_same takes stops (Err refusal) rest given held step = inl refl
 
-first_case : {M : Type 0} (takes : M → Role → List ℕ → Result M Trouble) (gives : M → Result Output Trouble) (state : M) (role : Role) (rest : List Role) (given held : Given)
+first_case : {M : Type 0} (takes : M → Role → List ℕ → Result M Trouble) (stops : M → Option Trouble) (state : M) (role : Role) (rest : List Role) (given held : Given)
     → (given role ≡ held role) ⊎ IsLost (given role)
-    → ((state : M) → (verdict takes gives state rest given ≡ verdict takes gives state rest held) ⊎ IsFaulty (verdict takes gives state rest given))
-    → (verdict takes gives state (role ∷ rest) given ≡ verdict takes gives state (role ∷ rest) held) ⊎ IsFaulty (verdict takes gives state (role ∷ rest) given)
-first_case takes gives state role rest given held (inl same) step =
-    let P : Loaded → Type 0 = λ h. (verdict takes gives state (role ∷ rest) given ≡ (taken takes state role h >>= λ next. verdict takes gives next rest held)) ⊎ IsFaulty (verdict takes gives state (role ∷ rest) given) in
-    subst P same (next_same takes gives (taken takes state role (given role)) rest given held step)
-first_case takes gives state role rest given held (inr lost) step = inr (lost_faulty takes gives state role rest given lost)
+    → ((state : M) → (reached takes stops state rest given ≡ reached takes stops state rest held) ⊎ IsFaulty (refusal_in (reached takes stops state rest given)))
+    → (reached takes stops state (role ∷ rest) given ≡ reached takes stops state (role ∷ rest) held) ⊎ IsFaulty (refusal_in (reached takes stops state (role ∷ rest) given))
+first_case takes stops state role rest given held (inl same) step =
+    let P : Loaded → Type 0 = λ h. (reached takes stops state (role ∷ rest) given ≡ (taken takes state role h >>= λ next. reached takes stops next rest held)) ⊎ IsFaulty (refusal_in (reached takes stops state (role ∷ rest) given)) in
+    subst P same (next_same takes stops (taken takes state role (given role)) rest given held step)
+first_case takes stops state role rest given held (inr lost) step = inr (lost_faulty takes stops state role rest given lost)
 
-verdict_held : {M : Type 0} (takes : M → Role → List ℕ → Result M Trouble) (gives : M → Result Output Trouble) (state : M) (files : List Role) (given held : Given)
+reached_held : {M : Type 0} (takes : M → Role → List ℕ → Result M Trouble) (stops : M → Option Trouble) (state : M) (files : List Role) (given held : Given)
     → ((role : Role) → (given role ≡ held role) ⊎ IsLost (given role))
-    → (verdict takes gives state files given ≡ verdict takes gives state files held) ⊎ IsFaulty (verdict takes gives state files given)
-verdict_held takes gives state [] given held each = inl refl
-verdict_held takes gives state (role ∷ rest) given held each = first_case takes gives state role rest given held (each role) (λ next. verdict_held takes gives next rest given held each)
+    → (reached takes stops state files given ≡ reached takes stops state files held) ⊎ IsFaulty (refusal_in (reached takes stops state files given))
+reached_held takes stops state [] given held each = inl refl
+reached_held takes stops state (role ∷ rest) given held each = first_case takes stops state role rest given held (each role) (λ next. reached_held takes stops next rest given held each)
 
 -- a run ends as its files come to, unless a call failed or there was no memory
-is_itself : (status : Status) → IsOrFails status status
-is_itself statuses.Done = refl
-is_itself statuses.Rejected = refl
-is_itself statuses.Usage = refl
-is_itself statuses.Netlist = refl
-is_itself statuses.Library = refl
-is_itself statuses.Stimulus = refl
-is_itself statuses.ReadFault = tt
-is_itself statuses.WriteFault = tt
-is_itself statuses.Limit = refl
-is_itself statuses.NoMemory = tt
+done_so : (P : Status → Type 0) (finish : Finish) (result : Status) → result ≡ finish_status finish → P result → UnlessFails P result
+done_so P finishes.Done result is h = let Q : Status → Type 0 = λ s. P s → UnlessFails P s in subst Q (sym is) (λ k. k) h
+done_so P finishes.Rejected result is h = let Q : Status → Type 0 = λ s. P s → UnlessFails P s in subst Q (sym is) (λ k. k) h
 
-finish_of : (v : Result Output Refusal) (finish : Finish) → IsOkAnd v (λ o. o.finish ≡ finish) → finish_status finish ≡ ends_as v
-finish_of (Ok output) finish h = ap finish_status (sym h)
-finish_of (Err refusal) finish h = absurd h
+owner_ends : (P : Status → Type 0) (owner : Owner) → P (owner_status owner) → UnlessFails P (owner_status owner)
+owner_ends P owners.Netlist h = h
+owner_ends P owners.Library h = h
+owner_ends P owners.Stimulus h = h
 
-refusal_ends : (v : Result Output Refusal) (refusal : Refusal) → CauseAt v refusal (step_of refusal) → IsOrFails (ends_as v) (status_of refusal)
-refusal_ends v (refusals.Content content) cause = rw cause (is_itself (owner_status content.owner))
-refusal_ends v (refusals.Limit limit) cause = rw cause refl
-refusal_ends v (refusals.Load role) cause = tt
-refusal_ends v (refusals.Store role) cause = tt
-refusal_ends v refusals.Say cause = tt
-refusal_ends v (refusals.NoMemory step) cause = tt
+finish_ends : (refused : Option Refusal) (comes : Output → Type 0) (out : Option Output) (finish : Finish) (result : Status) → IfSome out (λ o. (refused ≡ None) × comes o) → IsSomeAnd out (λ o. o.finish ≡ finish) → result ≡ finish_status finish → UnlessFails (EndsBy refused comes) result
+finish_ends refused comes (Some output) finish result came ends is =
+    let Q : Option Refusal → Type 0 = λ r. EndsBy r comes result in
+    done_so (EndsBy refused comes) finish result is (subst Q (sym came.0) (output, (came.1, is ∙ ap finish_status (sym ends))))
+finish_ends refused comes None finish result came ends is = absurd ends
 
-outcome_ends : (v : Result Output Refusal) (outcome : Result Finish Refusal) (result : Status) → Cause v outcome → EndsSo outcome result → IsOrFails (ends_as v) result
-outcome_ends v (Ok finish) result cause ends = rw (ends ∙ finish_of v finish cause) (is_itself (ends_as v))
-outcome_ends v (Err refusal) result cause (inl ends) = rw ends (refusal_ends v refusal cause)
-outcome_ends v (Err refusal) result cause (inr ends) = rw ends tt
+refused_so : (refused : Option Refusal) (comes : Output → Type 0) (refusal : Refusal) → refused ≡ Some refusal → EndsBy refused comes (status_of refusal)
+refused_so refused comes refusal is = let Q : Option Refusal → Type 0 = λ r. EndsBy r comes (status_of refusal) in subst Q (sym is) refl
 
--- files that come to a failed load or to want of memory end the run so
-faulty_refusal : (v : Result Output Refusal) (refusal : Refusal) (expected : Status) → IsFaulty v → CauseAt v refusal (step_of refusal) → IsOrFails expected (status_of refusal)
-faulty_refusal v (refusals.Content content) expected (inl faulty) cause = cc
-faulty_refusal v (refusals.Content content) expected (inr faulty) cause = cc
-faulty_refusal v (refusals.Limit limit) expected (inl faulty) cause = cc
-faulty_refusal v (refusals.Limit limit) expected (inr faulty) cause = cc
-faulty_refusal v (refusals.Load role) expected faulty cause = tt
-faulty_refusal v (refusals.Store role) expected faulty cause = tt
-faulty_refusal v refusals.Say expected faulty cause = tt
-faulty_refusal v (refusals.NoMemory step) expected faulty cause = tt
+refusal_ends : (refused : Option Refusal) (comes : Output → Type 0) (out : Option Output) (refusal : Refusal) → CauseAt refused out refusal (step_of refusal) → UnlessFails (EndsBy refused comes) (status_of refusal)
+refusal_ends refused comes out (refusals.Content content) cause = owner_ends (EndsBy refused comes) content.owner (refused_so refused comes (refusals.Content content) cause)
+refusal_ends refused comes out (refusals.Limit limit) cause = refused_so refused comes (refusals.Limit limit) cause
+refusal_ends refused comes out (refusals.Load role) cause = tt
+refusal_ends refused comes out (refusals.Store role) cause = tt
+refusal_ends refused comes out refusals.Say cause = tt
+refusal_ends refused comes out (refusals.NoMemory step) cause = tt
 
-faulty_ok : (v : Result Output Refusal) (P : Output → Type 0) → IsFaulty v → IsOkAnd v P → ⊥
-faulty_ok (Ok output) P (inl faulty) h = cc
-faulty_ok (Ok output) P (inr faulty) h = cc
-faulty_ok (Err refusal) P faulty h = h
+outcome_ends : (refused : Option Refusal) (comes : Output → Type 0) (out : Option Output) (outcome : Result Finish Refusal) (result : Status) → IfSome out (λ o. (refused ≡ None) × comes o) → Cause refused out outcome → EndsSo outcome result → UnlessFails (EndsBy refused comes) result
+outcome_ends refused comes out (Ok finish) result came cause ends = finish_ends refused comes out finish result came cause ends
+outcome_ends refused comes out (Err refusal) result came cause (inl ends) = rw ends (refusal_ends refused comes out refusal cause)
+outcome_ends refused comes out (Err refusal) result came cause (inr ends) = rw ends tt
 
-faulty_ends : (v : Result Output Refusal) (outcome : Result Finish Refusal) (result expected : Status) → IsFaulty v → Cause v outcome → EndsSo outcome result → IsOrFails expected result
-faulty_ends v (Ok finish) result expected faulty cause ends = absurd (faulty_ok v (λ o. o.finish ≡ finish) faulty cause)
-faulty_ends v (Err refusal) result expected faulty cause (inl ends) = rw ends (faulty_refusal v refusal expected faulty cause)
-faulty_ends v (Err refusal) result expected faulty cause (inr ends) = rw ends tt
+-- a failed load or want of memory while reading ends the run so
+faulty_refusal : (refused : Option Refusal) (out : Option Output) (refusal : Refusal) (P : Status → Type 0) → IsFaulty refused → CauseAt refused out refusal (step_of refusal) → UnlessFails P (status_of refusal)
+faulty_refusal refused out (refusals.Content content) P (inl faulty) cause = cc
+faulty_refusal refused out (refusals.Content content) P (inr faulty) cause = cc
+faulty_refusal refused out (refusals.Limit limit) P (inl faulty) cause = cc
+faulty_refusal refused out (refusals.Limit limit) P (inr faulty) cause = cc
+faulty_refusal refused out (refusals.Load role) P faulty cause = tt
+faulty_refusal refused out (refusals.Store role) P faulty cause = tt
+faulty_refusal refused out refusals.Say P faulty cause = tt
+faulty_refusal refused out (refusals.NoMemory step) P faulty cause = tt
 
-either_ends : (v held : Result Output Refusal) (outcome : Result Finish Refusal) (result : Status) → (v ≡ held) ⊎ IsFaulty v → Cause v outcome → EndsSo outcome result → IsOrFails (ends_as held) result
-either_ends v held outcome result (inl same) cause ends = let P : Result Output Refusal → Type 0 = λ w. IsOrFails (ends_as w) result in subst P same (outcome_ends v outcome result cause ends)
-either_ends v held outcome result (inr faulty) cause ends = faulty_ends v outcome result (ends_as held) faulty cause ends
+faulty_ok : (refused : Option Refusal) (comes P : Output → Type 0) (out : Option Output) → IsFaulty refused → IfSome out (λ o. (refused ≡ None) × comes o) → IsSomeAnd out P → ⊥
+faulty_ok refused comes P (Some output) (inl faulty) came h = let e : None ≡ Some (refusals.Load faulty.0) = sym came.0 ∙ faulty.1 in cc
+faulty_ok refused comes P (Some output) (inr faulty) came h = let e : None ≡ Some (refusals.NoMemory steps.Reading) = sym came.0 ∙ faulty in cc
+faulty_ok refused comes P None faulty came h = h
 
-pub completes : {M : Type 0} (gave : List ℕ → Result (List ℕ) LoadFault → Type 0) (takes : M → Role → List ℕ → Result M Trouble) (gives : M → Result Output Trouble) (state : M) (files : List Role) (names : Role → List ℕ) (before after : World) (result : Status)
-    → Runs gave (task_of takes gives state files) names before after result → IsTrue before.tells → IsOrFails (ends_as (verdict takes gives state files (held_files names before))) result
-completes gave takes gives state files names before after result runs t =
+faulty_ends : (refused : Option Refusal) (comes : Output → Type 0) (out : Option Output) (outcome : Result Finish Refusal) (result : Status) (P : Status → Type 0) → IsFaulty refused → IfSome out (λ o. (refused ≡ None) × comes o) → Cause refused out outcome → EndsSo outcome result → UnlessFails P result
+faulty_ends refused comes out (Ok finish) result P faulty came cause ends = absurd (faulty_ok refused comes (λ o. o.finish ≡ finish) out faulty came cause)
+faulty_ends refused comes out (Err refusal) result P faulty came cause (inl ends) = rw ends (faulty_refusal refused out refusal P faulty cause)
+faulty_ends refused comes out (Err refusal) result P faulty came cause (inr ends) = rw ends tt
+
+-- what is asked of a state, asked of what was found
+abbrev comes_of : {M : Type 0} → (M → Output → Type 0) → Result M Refusal → Output → Type 0
+comes_of gives v output = IsOkAnd v (λ found. gives found output)
+
+either_ends : {M : Type 0} (gives : M → Output → Type 0) (v held : Result M Refusal) (out : Option Output) (outcome : Result Finish Refusal) (result : Status) → (v ≡ held) ⊎ IsFaulty (refusal_in v)
+    → IfSome out (λ o. (refusal_in v ≡ None) × comes_of gives v o) → Cause (refusal_in v) out outcome → EndsSo outcome result → UnlessFails (EndsBy (refusal_in held) (comes_of gives held)) result
+either_ends {M} gives v held out outcome result (inl same) came cause ends = let P : Result M Refusal → Type 0 = λ w. UnlessFails (EndsBy (refusal_in w) (comes_of gives w)) result in subst P same (outcome_ends (refusal_in v) (comes_of gives v) out outcome result came cause ends)
+either_ends gives v held out outcome result (inr faulty) came cause ends = faulty_ends (refusal_in v) (comes_of gives v) out outcome result (EndsBy (refusal_in held) (comes_of gives held)) faulty came cause ends
+
+both : (task : Task) (given : Given) (out : Option Output) → IfSome out (ComesTo task given) → IfSome out (λ o. (task.refused given ≡ None) × task.comes given o)
+both task given (Some output) h = (h.unrefused, h.comes)
+both task given None h = tt
+
+pub completes : {M : Type 0} (gave : List ℕ → Result (List ℕ) LoadFault → Type 0) (takes : M → Role → List ℕ → Result M Trouble) (stops : M → Option Trouble) (gives : M → Output → Type 0) (state : M) (files : List Role) (names : Role → List ℕ) (before after : World) (result : Status)
+    → Runs gave (task_of takes stops gives state files) names before after result → IsTrue before.tells → UnlessFails (EndsAs (task_of takes stops gives state files) (held_files names before)) result
+completes gave takes stops gives state files names before after result runs t =
     let c = closed names runs.outcome runs.between after result runs.closes in
     let a = runs.attempts in
-    either_ends (verdict takes gives state files a.given) (verdict takes gives state files (held_files names before)) runs.outcome result
-    (verdict_held takes gives state files a.given (held_files names before) (λ role. gave_held (before.held (names role)) (a.given role) (a.told t role)))
-    a.cause c.ends
+    let v = reached takes stops state files a.given in
+    let w = reached takes stops state files (held_files names before) in
+    either_ends gives v w a.out runs.outcome result
+    (reached_held takes stops state files a.given (held_files names before) (λ role. gave_held (before.held (names role)) (a.given role) (a.told t role)))
+    (both (task_of takes stops gives state files) a.given a.out a.comes) a.cause c.ends

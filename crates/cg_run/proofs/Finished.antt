@@ -1,6 +1,6 @@
 -- A run that finished wrote what its files come to.
-use Rattle.std.proofs.Common.{◌≡◌, inl, inr, ℕ, IsTrue, List, Result, Ok, Err, refl, sym, subst}
-use Rattle.std.specs.Prelude.{IsOkAnd}
+use Rattle.std.proofs.Common.{◌≡◌, inl, inr, ℕ, IsTrue, List, Option, None, Some, Result, Ok, Err, refl, sym, subst}
+use Rattle.std.specs.Prelude.{IfSome, IsSomeAnd}
 use Rattle.cg_shelf.specs.World.{World}
 use Rattle.cg_shelf.specs.declared.faults.LoadFault.{LoadFault}
 use Rattle.cg_run.specs.declared.output.Finish.{Finish}
@@ -18,7 +18,7 @@ use Rattle.cg_run.specs.Reads.{Agrees}
 use Rattle.cg_run.specs.Refusal.{owner_status, status_of}
 use Rattle.cg_run.specs.Run.{Cause, Leaves}
 use Rattle.cg_run.specs.Status.{finish_status}
-use Rattle.cg_run.specs.Verdict.{Given, Task}
+use Rattle.cg_run.specs.Verdict.{ComesTo, Given, Task}
 use Rattle.cg_run.specs.Writes.{Written}
 
 -- what is known of a run that finished, over a shelf that tells
@@ -26,7 +26,7 @@ pub record Finishes (task : Task) (names : Role → List ℕ) (before after : Wo
   pub given : Given
   pub told : (role : Role) → Agrees (before.held (names role)) (given role)
   pub output : Output
-  pub comes : task.comes given ≡ Ok output
+  pub comes : ComesTo task given output
   pub ends : output.finish ≡ finish
   pub written : Written names output before after
 
@@ -52,23 +52,23 @@ outcome_by names P (Ok finish) before after result voice each = let Q : Status �
 outcome_by names P (Err refusal) before after result (inl voice) each = let Q : Status → Type 0 = λ s. FinishBy P s in subst Q (sym voice.0) (unfinished refusal P)
 outcome_by names P (Err refusal) before after result (inr voice) each = let Q : Status → Type 0 = λ s. FinishBy P s in subst Q (sym voice.0) tt
 
-finishes_case : (task : Task) (names : Role → List ℕ) (before after : World) (finish : Finish) (given : Given) (v : Result Output Refusal) → task.comes given ≡ v
-    → ((role : Role) → Agrees (before.held (names role)) (given role)) → IsOkAnd v (λ o. o.finish ≡ finish) → IsOkAnd v (λ o. Written names o before after) → Finishes task names before after finish
-finishes_case task names before after finish given (Ok output) comes told ends written = record { given = given; told = told; output = output; comes = comes; ends = ends; written = written }
-finishes_case task names before after finish given (Err refusal) comes told ends written = absurd ends
+finishes_case : (task : Task) (names : Role → List ℕ) (before after : World) (finish : Finish) (given : Given) (out : Option Output)
+    → ((role : Role) → Agrees (before.held (names role)) (given role)) → IfSome out (ComesTo task given) → IsSomeAnd out (λ o. o.finish ≡ finish) → IsSomeAnd out (λ o. Written names o before after) → Finishes task names before after finish
+finishes_case task names before after finish given (Some output) told comes ends written = record { given = given; told = told; output = output; comes = comes; ends = ends; written = written }
+finishes_case task names before after finish given None told comes ends written = absurd ends
 
-done_case : (task : Task) (names : Role → List ℕ) (before after : World) (given : Given) (outcome : Result Finish Refusal) (finish : Finish) → outcome ≡ Ok finish
-    → ((role : Role) → Agrees (before.held (names role)) (given role)) → Cause (task.comes given) outcome → Leaves names (task.comes given) before after outcome → Finishes task names before after finish
-done_case task names before after given outcome finish is told cause leaves =
-    let C : Result Finish Refusal → Type 0 = λ o. Cause (task.comes given) o in
-    let L : Result Finish Refusal → Type 0 = λ o. Leaves names (task.comes given) before after o in
-    finishes_case task names before after finish given (task.comes given) refl told (subst C is cause) (subst L is leaves)
+done_case : (task : Task) (names : Role → List ℕ) (before after : World) (given : Given) (out : Option Output) (outcome : Result Finish Refusal) (finish : Finish) → outcome ≡ Ok finish
+    → ((role : Role) → Agrees (before.held (names role)) (given role)) → IfSome out (ComesTo task given) → Cause (task.refused given) out outcome → Leaves names out before after outcome → Finishes task names before after finish
+done_case task names before after given out outcome finish is told comes cause leaves =
+    let C : Result Finish Refusal → Type 0 = λ o. Cause (task.refused given) out o in
+    let L : Result Finish Refusal → Type 0 = λ o. Leaves names out before after o in
+    finishes_case task names before after finish given out told comes (subst C is cause) (subst L is leaves)
 
 pub finished_so : (gave : List ℕ → Result (List ℕ) LoadFault → Type 0) (task : Task) (names : Role → List ℕ) (before after : World) (result : Status) → Ended gave task names before after result → IsTrue before.tells
     → FinishBy (λ finish. Finishes task names before after finish) result
 finished_so gave task names before after result ended t =
     outcome_by names (λ finish. Finishes task names before after finish) ended.outcome before after result ended.voice
-    (λ finish is. done_case task names before after ended.given ended.outcome finish is (ended.told t) ended.cause (ended.stands t))
+    (λ finish is. done_case task names before after ended.given ended.out ended.outcome finish is (ended.told t) ended.comes ended.cause (ended.stands t))
 
 -- a fact that follows from one of a finished run
 pub finish_map : (P Q : Finish → Type 0) (result : Status) → ((finish : Finish) → P finish → Q finish) → FinishBy P result → FinishBy Q result

@@ -1,15 +1,13 @@
 -- A load that is a cause is that of a file which the mode loads.
-use Rattle.std.proofs.Common.{◌≡◌, ◌⊎◌, inl, inr, ℕ, IsTrue, List, [], ◌∷◌, None, Some, Result, Ok, Err, subst}
-use Rattle.cg_shelf.specs.declared.faults.LoadFault.{LoadFault}
+use Rattle.std.proofs.Common.{◌≡◌, ◌⊎◌, inl, inr, ℕ, IsTrue, List, [], ◌∷◌, Option, None, Some, Result, Ok, Err, subst}
 use Rattle.cg_shelf.specs.declared.faults.LoadFault.TheVariants as loads
-use Rattle.cg_run.specs.declared.output.Output.{Output}
 use Rattle.cg_run.specs.declared.refusal.Refusal.{Refusal}
 use Rattle.cg_run.specs.declared.refusal.Refusal.TheVariants as refusals
 use Rattle.cg_run.specs.declared.refusal.Trouble.{Trouble}
 use Rattle.cg_run.specs.declared.refusal.Trouble.TheVariants as troubles
 use Rattle.cg_run.specs.declared.role.Role.{Role}
 use Rattle.cg_run.specs.Roles.{is_among, is_role}
-use Rattle.cg_run.specs.Verdict.{Given, Loaded, brought, taken, troubled, verdict, ◌>>=◌}
+use Rattle.cg_run.specs.Verdict.{Given, Loaded, brought, reached, refusal_in, stopped, taken, troubled, ◌>>=◌}
 use Rattle.cg_run.proofs.RoleLaws.{is_its_role}
 use Rattle.cg_run.proofs.WriteHalf.{or_left, or_right}
 
@@ -38,16 +36,30 @@ named_case : {M : Type 0} (takes : M → Role → List ℕ → Result M Trouble)
 named_case takes state first given role (inl h) = brought_named first given role h
 named_case takes state first given role (inr h) = absurd (no_load (takes state first h.0) role h.1)
 
-load_case : {M : Type 0} (takes : M → Role → List ℕ → Result M Trouble) (gives : M → Result Output Trouble) (state : M) (first : Role) (rest : List Role) (given : Given) (role : Role)
-    → (taken takes state first (given first) ≡ Err (refusals.Load role)) ⊎ ((next : M) × (verdict takes gives next rest given ≡ Err (refusals.Load role)))
-    → ((next : M) → verdict takes gives next rest given ≡ Err (refusals.Load role) → IsTrue (is_among role rest))
+load_case : {M : Type 0} (takes : M → Role → List ℕ → Result M Trouble) (stops : M → Option Trouble) (state : M) (first : Role) (rest : List Role) (given : Given) (role : Role)
+    → (taken takes state first (given first) ≡ Err (refusals.Load role)) ⊎ ((next : M) × (reached takes stops next rest given ≡ Err (refusals.Load role)))
+    → ((next : M) → reached takes stops next rest given ≡ Err (refusals.Load role) → IsTrue (is_among role rest))
     → IsTrue (is_among role (first ∷ rest))
-load_case takes gives state first rest given role (inl h) step = first_named first rest role (named_case takes state first (given first) role (bind_err (brought first (given first)) (λ bytes. troubled (takes state first bytes)) (refusals.Load role) h))
-load_case takes gives state first rest given role (inr h) step = or_right (is_role first role) (is_among role rest) (step h.0 h.1)
+load_case takes stops state first rest given role (inl h) step = first_named first rest role (named_case takes state first (given first) role (bind_err (brought first (given first)) (λ bytes. troubled (takes state first bytes)) (refusals.Load role) h))
+load_case takes stops state first rest given role (inr h) step = or_right (is_role first role) (is_among role rest) (step h.0 h.1)
 
-pub load_named : {M : Type 0} (takes : M → Role → List ℕ → Result M Trouble) (gives : M → Result Output Trouble) (state : M) (files : List Role) (given : Given) (role : Role)
-    → verdict takes gives state files given ≡ Err (refusals.Load role) → IsTrue (is_among role files)
-load_named takes gives state [] given role h = absurd (no_load (gives state) role h)
-load_named takes gives state (first ∷ rest) given role h =
-    load_case takes gives state first rest given role (bind_err (taken takes state first (given first)) (λ next. verdict takes gives next rest given) (refusals.Load role) h)
-    (λ next. load_named takes gives next rest given role)
+stopped_named : {M : Type 0} (stops : Option Trouble) (state : M) (role : Role) → stopped stops state ≡ Err (refusals.Load role) → ⊥
+stopped_named None state role h = cc
+stopped_named (Some (troubles.Content content)) state role h = cc
+stopped_named (Some (troubles.Limit limit)) state role h = cc
+stopped_named (Some troubles.NoMemory) state role h = cc
+
+reached_named : {M : Type 0} (takes : M → Role → List ℕ → Result M Trouble) (stops : M → Option Trouble) (state : M) (files : List Role) (given : Given) (role : Role)
+    → reached takes stops state files given ≡ Err (refusals.Load role) → IsTrue (is_among role files)
+reached_named takes stops state [] given role h = absurd (stopped_named (stops state) state role h)
+reached_named takes stops state (first ∷ rest) given role h =
+    load_case takes stops state first rest given role (bind_err (taken takes state first (given first)) (λ next. reached takes stops next rest given) (refusals.Load role) h)
+    (λ next. reached_named takes stops next rest given role)
+
+pub refused_err : {T : Type 0} (v : Result T Refusal) (refusal : Refusal) → refusal_in v ≡ Some refusal → v ≡ Err refusal
+refused_err (Ok x) refusal h = cc
+refused_err (Err other) refusal h = cc
+
+pub load_named : {M : Type 0} (takes : M → Role → List ℕ → Result M Trouble) (stops : M → Option Trouble) (state : M) (files : List Role) (given : Given) (role : Role)
+    → refusal_in (reached takes stops state files given) ≡ Some (refusals.Load role) → IsTrue (is_among role files)
+load_named takes stops state files given role h = reached_named takes stops state files given role (refused_err (reached takes stops state files given) (refusals.Load role) h)

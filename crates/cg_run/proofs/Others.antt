@@ -1,6 +1,6 @@
 -- Names that are not stored keep what they held.
-use Rattle.std.proofs.Common.{◌≡◌, ◌≢◌, ℕ, Bool, true, false, ◌||◌, IsTrue, List, [], ◌∷◌, ◌++◌, Option, Some, Result, Ok, Err, refl, sym, ◌∙◌, ap, subst, if◌then◌else◌}
-use Rattle.std.specs.Prelude.{IsOkAnd}
+use Rattle.std.proofs.Common.{◌≡◌, ◌≢◌, ℕ, Bool, true, false, ◌||◌, IsTrue, List, [], ◌∷◌, ◌++◌, Option, None, Some, Result, Ok, Err, refl, sym, ◌∙◌, ap, subst, if◌then◌else◌}
+use Rattle.std.specs.Prelude.{IfSome, IsSomeAnd}
 use Rattle.std.specs.Str.{bytes_eq}
 use Rattle.std.proofs.lemmas.Slice.Eq.{bytes_eq-Decides}
 use Rattle.cg_shelf.specs.World.{World}
@@ -18,7 +18,7 @@ use Rattle.cg_run.specs.Roles.{is_role}
 use Rattle.cg_run.specs.Run.{Cause, CauseAt, Leaves, Runs, StandsAt}
 use Rattle.cg_run.specs.Writes.{HasStep, LeavesAt, OpenAt, Written, is_stored, put, puts}
 use Rattle.cg_run.specs.Promise.{IsApart, KeepsOthers}
-use Rattle.cg_run.specs.Verdict.{Task}
+use Rattle.cg_run.specs.Verdict.{ComesTo, Given, Task}
 use Rattle.cg_run.proofs.RoleLaws.{is_its_role}
 use Rattle.cg_run.proofs.ReadHalf.{tells_on}
 use Rattle.cg_run.proofs.WriteHalf.{or_left, or_right}
@@ -53,26 +53,32 @@ step_kept names output steps.Reading before after name apart has leaves = absurd
 step_kept names output (steps.Storing role) before after name apart has leaves = open_kept names output.stores role before after name has apart leaves
 step_kept names output steps.Saying before after name apart has leaves = leaves.held name ∙ puts_kept names output.stores before.held name apart
 
-some_kept : (names : Role → List ℕ) (v : Result Output Refusal) (step : Step) (before after : World) (name : List ℕ) → IsApart names v name → IsOkAnd v (λ o. HasStep o step) → IsOkAnd v (λ o. LeavesAt names o step before after) → after.held name ≡ before.held name
-some_kept names (Ok output) step before after name apart has leaves = step_kept names output step before after name apart has leaves
-some_kept names (Err refusal) step before after name apart has leaves = absurd has
+some_kept : (names : Role → List ℕ) (out : Option Output) (step : Step) (before after : World) (name : List ℕ) → IfSome out (λ o. IsApart names o name) → IsSomeAnd out (λ o. HasStep o step) → IsSomeAnd out (λ o. LeavesAt names o step before after) → after.held name ≡ before.held name
+some_kept names (Some output) step before after name apart has leaves = step_kept names output step before after name apart has leaves
+some_kept names None step before after name apart has leaves = absurd has
 
-at_kept : (names : Role → List ℕ) (v : Result Output Refusal) (refusal : Refusal) (step : Step) (before after : World) (name : List ℕ) → IsApart names v name → CauseAt v refusal step → StandsAt names v step before after → after.held name ≡ before.held name
-at_kept names v refusal steps.Reading before after name apart cause stands = ap (λ h. h name) stands.held
-at_kept names v refusal (steps.Storing role) before after name apart cause stands = some_kept names v (steps.Storing role) before after name apart cause stands
-at_kept names v refusal steps.Saying before after name apart cause stands = some_kept names v steps.Saying before after name apart cause stands
+at_kept : (refused : Option Refusal) (names : Role → List ℕ) (out : Option Output) (refusal : Refusal) (step : Step) (before after : World) (name : List ℕ) → IfSome out (λ o. IsApart names o name) → CauseAt refused out refusal step → StandsAt names out step before after → after.held name ≡ before.held name
+at_kept refused names out refusal steps.Reading before after name apart cause stands = ap (λ h. h name) stands.held
+at_kept refused names out refusal (steps.Storing role) before after name apart cause stands = some_kept names out (steps.Storing role) before after name apart cause stands
+at_kept refused names out refusal steps.Saying before after name apart cause stands = some_kept names out steps.Saying before after name apart cause stands
 
-all_kept : (names : Role → List ℕ) (v : Result Output Refusal) (before after : World) (name : List ℕ) → IsApart names v name → IsOkAnd v (λ o. Written names o before after) → after.held name ≡ before.held name
-all_kept names (Ok output) before after name apart w = w.held name ∙ puts_kept names output.stores before.held name apart
-all_kept names (Err refusal) before after name apart w = absurd w
+all_kept : (names : Role → List ℕ) (out : Option Output) (before after : World) (name : List ℕ) → IfSome out (λ o. IsApart names o name) → IsSomeAnd out (λ o. Written names o before after) → after.held name ≡ before.held name
+all_kept names (Some output) before after name apart w = w.held name ∙ puts_kept names output.stores before.held name apart
+all_kept names None before after name apart w = absurd w
 
-outcome_kept : (names : Role → List ℕ) (v : Result Output Refusal) (outcome : Result Finish Refusal) (before after : World) (name : List ℕ) → IsApart names v name → Cause v outcome → Leaves names v before after outcome → after.held name ≡ before.held name
-outcome_kept names v (Ok finish) before after name apart cause leaves = all_kept names v before after name apart leaves
-outcome_kept names v (Err refusal) before after name apart cause leaves = at_kept names v refusal (step_of refusal) before after name apart cause leaves
+outcome_kept : (refused : Option Refusal) (names : Role → List ℕ) (out : Option Output) (outcome : Result Finish Refusal) (before after : World) (name : List ℕ) → IfSome out (λ o. IsApart names o name) → Cause refused out outcome → Leaves names out before after outcome → after.held name ≡ before.held name
+outcome_kept refused names out (Ok finish) before after name apart cause leaves = all_kept names out before after name apart leaves
+outcome_kept refused names out (Err refusal) before after name apart cause leaves = at_kept refused names out refusal (step_of refusal) before after name apart cause leaves
+
+-- a name that is apart from every output to which the files come
+apart_from : (task : Task) (names : Role → List ℕ) (name : List ℕ) (given : Given) (out : Option Output) → ((output : Output) → ComesTo task given output → IsApart names output name) → IfSome out (ComesTo task given) → IfSome out (λ o. IsApart names o name)
+apart_from task names name given (Some output) each comes = each output comes
+apart_from task names name given None each comes = tt
 
 pub others : (gave : List ℕ → Result (List ℕ) LoadFault → Type 0) (task : Task) (names : Role → List ℕ) (before after : World) (result : Status) → Runs gave task names before after result → IsTrue before.tells → KeepsOthers task names before after
 others gave task names before after result runs t name apart =
     let c = closed names runs.outcome runs.between after result runs.closes in
     let u = tells_on before.tells runs.between.tells runs.attempts.tells t in
     let a = runs.attempts in
-    ap (λ h. h name) (c.held u) ∙ outcome_kept names (task.comes a.given) runs.outcome before runs.between name (apart a.given) a.cause (a.leaves t)
+    ap (λ h. h name) (c.held u)
+    ∙ outcome_kept (task.refused a.given) names a.out runs.outcome before runs.between name (apart_from task names name a.given a.out (apart a.given) a.comes) a.cause (a.leaves t)

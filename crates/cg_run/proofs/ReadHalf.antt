@@ -1,10 +1,9 @@
 -- The reading half of a run, from its loads and what the mode made of them.
-use Rattle.std.proofs.Common.{◌≡◌, ◌⊎◌, inl, inr, ℕ, Bool, not, IsTrue, List, [], ◌∷◌, ◌++◌, Option, None, Some, Result, Ok, Err, refl, sym, ◌∙◌, ap, subst, append_assoc, append-nil}
-use Rattle.std.specs.Prelude.{IfSome}
+use Rattle.std.proofs.Common.{◌≡◌, inl, inr, ℕ, Bool, not, IsTrue, List, [], ◌∷◌, ◌++◌, Option, None, Some, Result, Ok, Err, refl, sym, ◌∙◌, ap, subst, append_assoc, append-nil}
+use Rattle.std.specs.Prelude.{IfSome, ⊤}
 use Rattle.cg_shelf.specs.World.{World}
 use Rattle.cg_shelf.specs.Shelf.{Listed, ListsLoad, load_faults, one_call}
 use Rattle.cg_shelf.specs.declared.faults.Call.TheVariants as calls
-use Rattle.cg_shelf.specs.declared.faults.CallMade.{CallMade}
 use Rattle.cg_shelf.specs.declared.faults.Fault.{Fault}
 use Rattle.cg_shelf.specs.declared.faults.LoadFault.{LoadFault}
 use Rattle.cg_shelf.specs.declared.faults.LoadFault.TheVariants as loads
@@ -15,10 +14,10 @@ use Rattle.cg_run.specs.declared.refusal.Trouble.{Trouble}
 use Rattle.cg_run.specs.declared.refusal.Trouble.TheVariants as troubles
 use Rattle.cg_run.specs.declared.role.Role.{Role}
 use Rattle.cg_run.specs.Reads.{Agrees, Loads, Reads, Untouched, load_calls, loaded_role}
-use Rattle.cg_run.specs.Refusal.{outcome_faults}
+use Rattle.cg_run.specs.Refusal.{outcome_faults, refusal_of}
 use Rattle.cg_run.specs.Roles.{are_distinct, is_among}
-use Rattle.cg_run.specs.Verdict.{Answers, Comes, Given, Loaded, asked, asked_from, brought, onward, taken, troubled, verdict, ◌>>=◌}
-use Rattle.cg_run.proofs.RoleLaws.{and_parts, asked_none, asked_same, asked_with, bind_same, given_each, given_here, given_with, none_given, verdict_with}
+use Rattle.cg_run.specs.Verdict.{Answers, Comes, Concludes, Given, Halts, Loaded, asked, asked_from, brought, onward, reached, refusal_in, stopped, taken, troubled, ◌>>=◌}
+use Rattle.cg_run.proofs.RoleLaws.{and_parts, asked_none, asked_same, asked_with, bind_same, given_each, given_here, given_with, none_given, reached_with}
 
 -- a shelf that told before tells on
 pub tells_on : (before after : Bool) → after ≡ before → IsTrue before → IsTrue after
@@ -94,12 +93,22 @@ module _ (gave : List ℕ → Result (List ℕ) LoadFault → Type 0) (names : R
   loads_err T loads.NoMemory from told (inl listed) held said complained tells failed = loads_so (Err loads.NoMemory) from told listed held said complained tells failed
   loads_err T loads.NoMemory from told (inr still) held said complained tells failed = loads_not still
 
--- what code answers without a call is what the reading half answers, and it adds no failed call
-answers_come : {T : Type 0} (v answer : Result T Trouble) → Answers v answer → Comes (troubled v) (troubled answer)
-answers_come v (Ok found) h = ap troubled h
-answers_come v (Err (troubles.Content content)) h = ap troubled h
-answers_come v (Err (troubles.Limit limit)) h = ap troubled h
-answers_come v (Err troubles.NoMemory) h = refl
+-- what code answers without a call is why the reading half is refused, and it adds no failed call
+abbrev pub Quits : {T U : Type 0} → Result T Refusal → Result U Refusal → Type 0
+Quits v (Ok found) = ⊤
+Quits v (Err refusal) = Halts (refusal_in v) refusal
+
+answers_quit : {T : Type 0} (v answer : Result T Trouble) → Answers v answer → Quits (troubled v) (troubled answer)
+answers_quit v (Ok found) h = tt
+answers_quit v (Err (troubles.Content content)) h = ap (λ w. refusal_in (troubled w)) h
+answers_quit v (Err (troubles.Limit limit)) h = ap (λ w. refusal_in (troubled w)) h
+answers_quit v (Err troubles.NoMemory) h = refl
+
+concluded : {M : Type 0} (stops : Option Trouble) (gives : M → Output → Type 0) (state : M) (answer : Result Output Trouble) → Concludes stops (gives state) answer → Comes gives (stopped stops state) (troubled answer)
+concluded stops gives state (Ok output) h = rw h.0 h.1
+concluded stops gives state (Err (troubles.Content content)) h = ap (λ s. refusal_in (stopped s state)) h
+concluded stops gives state (Err (troubles.Limit limit)) h = ap (λ s. refusal_in (stopped s state)) h
+concluded stops gives state (Err troubles.NoMemory) h = refl
 
 trouble_faults : {T : Type 0} (names : Role → List ℕ) (answer : Result T Trouble) → outcome_faults names (troubled answer) ≡ []
 trouble_faults names (Ok found) = refl
@@ -108,20 +117,21 @@ trouble_faults names (Err (troubles.Limit limit)) = refl
 trouble_faults names (Err troubles.NoMemory) = refl
 
 -- a refusal in the middle carries over to what comes after
-comes_bind : {A B : Type 0} (v : Result A Refusal) (next : A → Result B Refusal) (refusal : Refusal) → Comes v (Err refusal) → Comes (v >>= next) (Err refusal)
-comes_bind v next (refusals.Content content) comes = rw comes refl
-comes_bind v next (refusals.Limit limit) comes = rw comes refl
-comes_bind v next (refusals.Load role) comes = rw comes refl
-comes_bind v next (refusals.Store role) comes = absurd comes
-comes_bind v next refusals.Say comes = absurd comes
-comes_bind v next (refusals.NoMemory step) comes = comes
+halts_bind : {A B : Type 0} (v : Result A Refusal) (next : A → Result B Refusal) (refusal : Refusal) → Halts (refusal_in v) refusal → Halts (refusal_in (v >>= next)) refusal
+halts_bind (Err first) next refusal halts = halts
+halts_bind (Ok x) next (refusals.Content content) halts = cc
+halts_bind (Ok x) next (refusals.Limit limit) halts = cc
+halts_bind (Ok x) next (refusals.Load role) halts = cc
+halts_bind (Ok x) next (refusals.Store role) halts = absurd halts
+halts_bind (Ok x) next refusals.Say halts = absurd halts
+halts_bind (Ok x) next (refusals.NoMemory step) halts = halts
 
-brought_comes : (role : Role) (given : Loaded) → Comes (brought role given) (brought role given)
-brought_comes role None = refl
-brought_comes role (Some (Ok bytes)) = refl
-brought_comes role (Some (Err loads.Failed)) = refl
-brought_comes role (Some (Err loads.TooLong)) = refl
-brought_comes role (Some (Err loads.NoMemory)) = refl
+brought_quits : (role : Role) (given : Loaded) → Quits (brought role given) (brought role given)
+brought_quits role None = refl
+brought_quits role (Some (Ok bytes)) = tt
+brought_quits role (Some (Err loads.Failed)) = refl
+brought_quits role (Some (Err loads.TooLong)) = refl
+brought_quits role (Some (Err loads.NoMemory)) = refl
 
 pub brought_ok : (role : Role) (given : Loaded) (bytes : List ℕ) → brought role given ≡ Ok bytes → given ≡ Some (Ok bytes)
 brought_ok role None bytes h = cc
@@ -143,14 +153,14 @@ onward_none : {M : Type 0} (v : Result M Refusal) (more : M → List Role) → (
 onward_none (Ok next) more each = each next
 onward_none (Err refusal) more each = refl
 
-module _ {M : Type 0} (gave : List ℕ → Result (List ℕ) LoadFault → Type 0) (takes : M → Role → List ℕ → Result M Trouble) (gives : M → Result Output Trouble) (names : Role → List ℕ) where
+module _ {M : Type 0} (gave : List ℕ → Result (List ℕ) LoadFault → Type 0) (takes : M → Role → List ℕ → Result M Trouble) (stops : M → Option Trouble) (gives : M → Output → Type 0) (names : Role → List ℕ) where
   -- all files are taken
-  pub reads_end : (state : M) (world : World) (answer : Result Output Trouble) → Answers (gives state) answer → Reads gave takes gives names state [] world world (troubled answer)
+  pub reads_end : (state : M) (world : World) (answer : Result Output Trouble) → Concludes (stops state) (gives state) answer → Reads gave takes stops gives names state [] world world (troubled answer)
   reads_end state world answer answers = record {
     given = none_given;
     from = λ role. tt;
     told = λ t role. tt;
-    cause = answers_come (gives state) answer answers;
+    cause = concluded (stops state) gives state answer answers;
     listed = λ t. sym (append-nil world.calls);
     untouched = λ t. record { held = refl; said = refl };
     quiet = λ t. refl;
@@ -168,13 +178,13 @@ module _ {M : Type 0} (gave : List ℕ → Result (List ℕ) LoadFault → Type 
       let P : (List ℕ → Option (List ℕ)) → Type 0 = λ held. (other : Role) → Agrees (held (names other)) (given other) in
       given_each (λ r g. Agrees (before.held (names r)) g) role here given agrees (subst P same others)
 
-  -- verdict and loads begin with the first file
-  verdict_first : (state : M) (role : Role) (rest : List Role) (here : Loaded) (given : Given) → IsTrue (not (is_among role rest))
-      → verdict takes gives state (role ∷ rest) (given_with role here given) ≡ (taken takes state role here >>= λ next. verdict takes gives next rest given)
-  verdict_first state role rest here given apart =
+  -- what is reached, and the loads, begin with the first file
+  reached_first : (state : M) (role : Role) (rest : List Role) (here : Loaded) (given : Given) → IsTrue (not (is_among role rest))
+      → reached takes stops state (role ∷ rest) (given_with role here given) ≡ (taken takes state role here >>= λ next. reached takes stops next rest given)
+  reached_first state role rest here given apart =
       rw (given_here role here given)
-      (bind_same (taken takes state role here) (λ next. verdict takes gives next rest (given_with role here given)) (λ next. verdict takes gives next rest given)
-      (λ next. verdict_with takes gives next rest role here given apart))
+      (bind_same (taken takes state role here) (λ next. reached takes stops next rest (given_with role here given)) (λ next. reached takes stops next rest given)
+      (λ next. reached_with takes stops next rest role here given apart))
 
   asked_first : (state : M) (role : Role) (rest : List Role) (here : Loaded) (given : Given) → IsTrue (not (is_among role rest))
       → asked takes state (role ∷ rest) (given_with role here given) ≡ asked_from role here (taken takes state role here) (λ next. asked takes next rest given)
@@ -185,19 +195,19 @@ module _ {M : Type 0} (gave : List ℕ → Result (List ℕ) LoadFault → Type 
 
   -- the first load was refused
   pub reads_unloaded : (state : M) (role : Role) (rest : List Role) (before after : World) (refusal : Refusal)
-      → IsTrue (are_distinct (role ∷ rest)) → Loads gave names role before after (Err refusal) → Reads gave takes gives names state (role ∷ rest) before after (Err refusal)
+      → IsTrue (are_distinct (role ∷ rest)) → Loads gave names role before after (Err refusal) → Reads gave takes stops gives names state (role ∷ rest) before after (Err refusal)
   reads_unloaded state role rest before after refusal distinct load =
       let apart = (and_parts (not (is_among role rest)) (are_distinct rest) distinct).0 in
-      let C : Result (List ℕ) Refusal → Type 0 = λ a. Comes (brought role load.given) a in
-      let come : Comes (brought role load.given) (Err refusal) = subst C (sym load.is) (brought_comes role load.given) in
-      let V : Result Output Refusal → Type 0 = λ v. Comes v (Err refusal) in
+      let C : Result (List ℕ) Refusal → Type 0 = λ a. Quits (brought role load.given) a in
+      let quit : Halts (refusal_in (brought role load.given)) refusal = subst C (sym load.is) (brought_quits role load.given) in
+      let V : Result M Refusal → Type 0 = λ v. Halts (refusal_in v) refusal in
       let more : M → List Role = λ next. asked takes next rest none_given in
       record {
         given = given_with role load.given none_given;
         from = from_with role load.given none_given load.from (λ other. tt);
         told = λ t. told_with before before role load.given none_given (load.told t) refl (λ other. tt);
-        cause = subst V (sym (verdict_first state role rest load.given none_given apart))
-            (comes_bind (taken takes state role load.given) (λ next. verdict takes gives next rest none_given) refusal (comes_bind (brought role load.given) (λ bytes. troubled (takes state role bytes)) refusal come));
+        cause = subst V (sym (reached_first state role rest load.given none_given apart))
+            (halts_bind (taken takes state role load.given) (λ next. reached takes stops next rest none_given) refusal (halts_bind (brought role load.given) (λ bytes. troubled (takes state role bytes)) refusal quit));
         listed = λ t. load.listed t ∙ ap (λ l. before.calls ++ load_calls names l) (sym (asked_first state role rest load.given none_given apart ∙ refused_asked takes state role load.given refusal more (sym load.is)));
         untouched = load.untouched;
         quiet = load.quiet;
@@ -207,12 +217,12 @@ module _ {M : Type 0} (gave : List ℕ → Result (List ℕ) LoadFault → Type 
 
   -- the mode refused the first file, or found no memory for it
   pub reads_untaken : (state : M) (role : Role) (rest : List Role) (before after : World) (bytes : List ℕ) (trouble : Trouble)
-      → IsTrue (are_distinct (role ∷ rest)) → Loads gave names role before after (Ok bytes) → Answers (takes state role bytes) (Err trouble) → Reads gave takes gives names state (role ∷ rest) before after (troubled (Err trouble))
+      → IsTrue (are_distinct (role ∷ rest)) → Loads gave names role before after (Ok bytes) → Answers (takes state role bytes) (Err trouble) → Reads gave takes stops gives names state (role ∷ rest) before after (troubled (Err trouble))
   reads_untaken state role rest before after bytes trouble distinct load took =
       let apart = (and_parts (not (is_among role rest)) (are_distinct rest) distinct).0 in
       let here : load.given ≡ Some (Ok bytes) = brought_ok role load.given bytes (sym load.is) in
-      let V : Result Output Refusal → Type 0 = λ v. Comes v (troubled (Err trouble)) in
-      let W : Loaded → Type 0 = λ g. Comes (taken takes state role g) (troubled {T = M} (Err trouble)) in
+      let V : Result M Refusal → Type 0 = λ v. Halts (refusal_in v) (refusal_of trouble) in
+      let W : Loaded → Type 0 = λ g. Halts (refusal_in (taken takes state role g)) (refusal_of trouble) in
       let more : M → List Role = λ next. asked takes next rest none_given in
       let asks : asked_from role load.given (taken takes state role load.given) more ≡ loaded_role role load.given =
       let Q : Loaded → Type 0 = λ g. asked_from role g (taken takes state role g) more ≡ loaded_role role g in
@@ -221,8 +231,8 @@ module _ {M : Type 0} (gave : List ℕ → Result (List ℕ) LoadFault → Type 
         given = given_with role load.given none_given;
         from = from_with role load.given none_given load.from (λ other. tt);
         told = λ t. told_with before before role load.given none_given (load.told t) refl (λ other. tt);
-        cause = subst V (sym (verdict_first state role rest load.given none_given apart))
-            (comes_bind (taken takes state role load.given) (λ next. verdict takes gives next rest none_given) _ (subst W (sym here) (answers_come (takes state role bytes) (Err trouble) took)));
+        cause = subst V (sym (reached_first state role rest load.given none_given apart))
+            (halts_bind (taken takes state role load.given) (λ next. reached takes stops next rest none_given) (refusal_of trouble) (subst W (sym here) (answers_quit (takes state role bytes) (Err trouble) took)));
         listed = λ t. load.listed t ∙ ap (λ l. before.calls ++ load_calls names l) (sym (asked_first state role rest load.given none_given apart ∙ asks));
         untouched = load.untouched;
         quiet = load.quiet;
@@ -232,13 +242,13 @@ module _ {M : Type 0} (gave : List ℕ → Result (List ℕ) LoadFault → Type 
 
   -- the mode took the first file, and the rest followed
   pub reads_on : (state next : M) (role : Role) (rest : List Role) (before middle after : World) (bytes : List ℕ) (answer : Result Output Refusal)
-      → IsTrue (are_distinct (role ∷ rest)) → Loads gave names role before middle (Ok bytes) → takes state role bytes ≡ Ok next → Reads gave takes gives names next rest middle after answer → Reads gave takes gives names state (role ∷ rest) before after answer
+      → IsTrue (are_distinct (role ∷ rest)) → Loads gave names role before middle (Ok bytes) → takes state role bytes ≡ Ok next → Reads gave takes stops gives names next rest middle after answer → Reads gave takes stops gives names state (role ∷ rest) before after answer
   reads_on state next role rest before middle after bytes answer distinct load took reads =
       let apart = (and_parts (not (is_among role rest)) (are_distinct rest) distinct).0 in
       let here : load.given ≡ Some (Ok bytes) = brought_ok role load.given bytes (sym load.is) in
-      let V : Result Output Refusal → Type 0 = λ v. Comes v answer in
+      let V : Result M Refusal → Type 0 = λ v. Comes gives v answer in
       let first : taken takes state role load.given ≡ Ok next = ap (taken takes state role) here ∙ ap troubled took in
-      let whole = verdict_first state role rest load.given reads.given apart ∙ ap (λ v. v >>= λ n. verdict takes gives n rest reads.given) first in
+      let whole = reached_first state role rest load.given reads.given apart ∙ ap (λ v. v >>= λ n. reached takes stops n rest reads.given) first in
       let more : M → List Role = λ n. asked takes n rest reads.given in
       let asks : asked_from role load.given (taken takes state role load.given) more ≡ role ∷ more next = ap (λ g. asked_from role g (taken takes state role load.given) more) here ∙ ap (λ v. role ∷ onward v more) first in
       record {

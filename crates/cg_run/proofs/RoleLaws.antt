@@ -3,11 +3,10 @@ use Rattle.std.proofs.Common.{length, ◌≡◌, ℕ, zero, suc, Bool, true, fal
 use Rattle.std.proofs.lemmas.Bool.{eqb-true, eq-eqb}
 use Rattle.cg_run.specs.declared.role.Role.{Role}
 use Rattle.cg_run.specs.declared.role.Role.TheVariants as roles
-use Rattle.cg_run.specs.declared.output.Output.{Output}
 use Rattle.cg_run.specs.declared.refusal.Refusal.{Refusal}
 use Rattle.cg_run.specs.Roles.{is_among, is_role, role_number}
 use Rattle.cg_run.specs.declared.refusal.Trouble.{Trouble}
-use Rattle.cg_run.specs.Verdict.{Given, Loaded, asked, asked_from, onward, taken, verdict, ◌>>=◌}
+use Rattle.cg_run.specs.Verdict.{Given, Loaded, asked, asked_from, onward, reached, taken, ◌>>=◌}
 
 role_at : ℕ → Role
 role_at zero = roles.Library
@@ -64,14 +63,14 @@ asked_same role None v f g same = refl
 asked_same role (Some gave) v f g same = ap (λ l. role ∷ l) (onward_same v f g same)
 
 -- a file that is not among the rest does not count there
-pub verdict_with : {M : Type 0} (takes : M → Role → List ℕ → Result M Trouble) (gives : M → Result Output Trouble) (state : M) (rest : List Role) (role : Role) (gave : Loaded) (given : Given)
-    → IsTrue (not (is_among role rest)) → verdict takes gives state rest (given_with role gave given) ≡ verdict takes gives state rest given
-verdict_with takes gives state [] role gave given apart = refl
-verdict_with takes gives state (other ∷ rest) role gave given apart =
+pub reached_with : {M : Type 0} (takes : M → Role → List ℕ → Result M Trouble) (stops : M → Option Trouble) (state : M) (rest : List Role) (role : Role) (gave : Loaded) (given : Given)
+    → IsTrue (not (is_among role rest)) → reached takes stops state rest (given_with role gave given) ≡ reached takes stops state rest given
+reached_with takes stops state [] role gave given apart = refl
+reached_with takes stops state (other ∷ rest) role gave given apart =
     let p = not_or (is_role other role) (is_among role rest) apart in
     let e : given_with role gave given other ≡ given other = rw p.0 refl in
-    rw e (bind_same (taken takes state other (given other)) (λ next. verdict takes gives next rest (given_with role gave given)) (λ next. verdict takes gives next rest given)
-    (λ next. verdict_with takes gives next rest role gave given p.1))
+    rw e (bind_same (taken takes state other (given other)) (λ next. reached takes stops next rest (given_with role gave given)) (λ next. reached takes stops next rest given)
+    (λ next. reached_with takes stops next rest role gave given p.1))
 
 pub asked_with : {M : Type 0} (takes : M → Role → List ℕ → Result M Trouble) (state : M) (rest : List Role) (role : Role) (gave : Loaded) (given : Given)
     → IsTrue (not (is_among role rest)) → asked takes state rest (given_with role gave given) ≡ asked takes state rest given

@@ -1,5 +1,5 @@
 -- A run that found no memory before it began, and what no run ends with.
-use Rattle.std.proofs.Common.{◌≡◌, inl, inr, true, ℕ, List, [], ◌++◌, None, Result, Ok, Err, refl, sym, ◌∙◌, ap, append-nil}
+use Rattle.std.proofs.Common.{◌≡◌, inl, inr, true, ℕ, List, [], ◌++◌, Option, None, Result, Ok, Err, refl, sym, ◌∙◌, ap, append-nil}
 use Rattle.cg_shelf.specs.World.{World}
 use Rattle.cg_shelf.specs.declared.faults.LoadFault.{LoadFault}
 use Rattle.cg_run.specs.declared.output.Finish.{Finish}
@@ -19,19 +19,21 @@ use Rattle.cg_run.specs.Reads.{load_calls}
 use Rattle.cg_run.specs.Refusal.{complaint_text, owner_status, status_of}
 use Rattle.cg_run.specs.Run.{Complains, Runs}
 use Rattle.cg_run.specs.Status.{finish_status}
-use Rattle.cg_run.specs.Verdict.{Task, asked, task_of}
+use Rattle.cg_run.specs.Verdict.{Task, task_of}
 use Rattle.cg_run.proofs.RoleLaws.{asked_none, none_given}
 
 -- nothing was done but that want of memory was complained of
-pub runs_unbegun : {M : Type 0} (gave : List ℕ → Result (List ℕ) LoadFault → Type 0) (takes : M → Role → List ℕ → Result M Trouble) (gives : M → Result Output Trouble) (names : Role → List ℕ) (state : M) (files : List Role) (before after : World) (result : Status)
-    → Complains (complaint_text names (refusals.NoMemory steps.Reading)) statuses.NoMemory before after result → Runs gave (task_of takes gives state files) names before after result
-runs_unbegun gave takes gives names state files before after result complains = record {
+pub runs_unbegun : {M : Type 0} (gave : List ℕ → Result (List ℕ) LoadFault → Type 0) (takes : M → Role → List ℕ → Result M Trouble) (stops : M → Option Trouble) (gives : M → Output → Type 0) (names : Role → List ℕ) (state : M) (files : List Role) (before after : World) (result : Status)
+    → Complains (complaint_text names (refusals.NoMemory steps.Reading)) statuses.NoMemory before after result → Runs gave (task_of takes stops gives state files) names before after result
+runs_unbegun gave takes stops gives names state files before after result complains = record {
   outcome = Err (refusals.NoMemory steps.Reading);
   between = before;
   attempts = record {
     given = none_given;
     from = λ role. tt;
     told = λ t role. tt;
+    out = None;
+    comes = tt;
     cause = refl;
     leaves = λ t. record { held = refl; said = refl };
     writes = [];

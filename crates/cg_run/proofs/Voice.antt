@@ -8,7 +8,6 @@ use Rattle.cg_shelf.specs.declared.faults.LoadFault.{LoadFault}
 use Rattle.cg_shelf.specs.declared.faults.StoreFault.{StoreFault}
 use Rattle.cg_shelf.specs.declared.faults.StoreFault.TheVariants as stores
 use Rattle.cg_run.specs.declared.output.Finish.{Finish}
-use Rattle.cg_run.specs.declared.output.Output.{Output}
 use Rattle.cg_run.specs.declared.refusal.Refusal.{Refusal}
 use Rattle.cg_run.specs.declared.refusal.Refusal.TheVariants as refusals
 use Rattle.cg_run.specs.declared.role.Role.{Role}
@@ -105,8 +104,10 @@ ended gave task names before after result runs =
       given = a.given;
       from = a.from;
       told = a.told;
+      out = a.out;
+      comes = a.comes;
       outcome = runs.outcome;
       cause = a.cause;
       voice = voice names runs.outcome before runs.between after result a.tells a.quiet a.failed runs.closes;
-      stands = λ t. let u = tells_on before.tells runs.between.tells a.tells t in stays names (task.comes a.given) runs.outcome before runs.between after (c.held u) (c.said u) (a.leaves t);
+      stands = λ t. let u = tells_on before.tells runs.between.tells a.tells t in stays names a.out runs.outcome before runs.between after (c.held u) (c.said u) (a.leaves t);
     }

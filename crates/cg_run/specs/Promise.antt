@@ -1,5 +1,6 @@
 -- What every run keeps, whatever its mode.
-use Rattle.std.specs.Prelude.{◌≡◌, ◌≢◌, ◌⊎◌, ℕ, Bool, true, false, IsTrue, List, [], ◌∷◌, ◌++◌, length, nat_lt, if◌then◌else◌, Option, None, Some, Result, Ok, Err, IfOk, IfSome, IsOkAnd, ⊤}
+use Rattle.std.specs.Prelude.{◌≡◌, ◌≢◌, ◌⊎◌, ℕ, Bool, true, false, IsTrue, List, [], ◌∷◌, ◌++◌, length, nat_lt, if◌then◌else◌, Option, None, Some, Result, Ok, Err, IfSome, IsSomeAnd, ⊤}
+use Rattle.cg_limit.specs.declared.TheConstants.{MOST_FILE_BYTES}
 use Rattle.cg_shelf.specs.World.{World}
 use Rattle.cg_shelf.specs.Shelf.{AppendsFront, one_fault}
 use Rattle.cg_shelf.specs.declared.faults.Call.TheVariants as calls
@@ -20,7 +21,7 @@ use Rattle.cg_run.specs.Reads.{Agrees, Untouched}
 use Rattle.cg_run.specs.Roles.{is_among}
 use Rattle.cg_run.specs.Run.{Cause, Leaves}
 use Rattle.cg_run.specs.Status.{finish_status}
-use Rattle.cg_run.specs.Verdict.{Given, Loaded, Task}
+use Rattle.cg_run.specs.Verdict.{ComesTo, Given, Loaded, Task}
 use Rattle.cg_run.specs.Writes.{HasStep, LeavesAt, Written, is_stored}
 
 -- The line of a refusal was complained: whole, or a front part of it, and then the complaint failed.
@@ -48,16 +49,18 @@ abbrev pub VoiceBy : (Role → List ℕ) → Result Finish Refusal → World →
 VoiceBy names (Ok finish) before after result = (result ≡ finish_status finish) × (IsTrue before.tells → after.complained ≡ before.complained) × (after.faults ≡ before.faults)
 VoiceBy names (Err refusal) before after result = ((result ≡ status_of refusal) × Complained names refusal before after) ⊎ ((result ≡ statuses.NoMemory) × RanShort names refusal before after)
 
--- How a run ended, and why: `given` is what its loads gave, and the outcome has its cause in what these files come to. What
--- stands goes by the outcome.
+-- How a run ended, and why: `given` is what its loads gave, and the outcome has its cause in what these files are refused for
+-- or in the one output that they come to. What stands goes by the outcome.
 pub record Ended (gave : List ℕ → Result (List ℕ) LoadFault → Type 0) (task : Task) (names : Role → List ℕ) (before after : World) (result : Status) : Type 0 where
   pub given : Given
   pub from : (role : Role) → IfSome (given role) (gave (names role))
   pub told : IsTrue before.tells → (role : Role) → Agrees (before.held (names role)) (given role)
+  pub out : Option Output
+  pub comes : IfSome out (ComesTo task given)
   pub outcome : Result Finish Refusal
-  pub cause : Cause (task.comes given) outcome
+  pub cause : Cause (task.refused given) out outcome
   pub voice : VoiceBy names outcome before after result
-  pub stands : IsTrue before.tells → Leaves names (task.comes given) before after outcome
+  pub stands : IsTrue before.tells → Leaves names out before after outcome
 
 -- a part of the writes of an output was made: those before one of them, which is open
 pub record Broken (names : Role → List ℕ) (output : Output) (before after : World) : Type 0 where
@@ -66,59 +69,68 @@ pub record Broken (names : Role → List ℕ) (output : Output) (before after : 
   pub leaves : LeavesAt names output step before after
 
 -- what stands, by the status
-abbrev pub StandsBy : (Role → List ℕ) → Result Output Refusal → World → World → Status → Type 0
-StandsBy names v before after statuses.Done = IsOkAnd v (λ output. Written names output before after)
-StandsBy names v before after statuses.Rejected = IsOkAnd v (λ output. Written names output before after)
-StandsBy names v before after statuses.WriteFault = IsOkAnd v (λ output. Broken names output before after)
-StandsBy names v before after statuses.NoMemory = Untouched before after ⊎ IsOkAnd v (λ output. Broken names output before after)
-StandsBy names v before after other = Untouched before after
+abbrev pub StandsBy : (Role → List ℕ) → Option Output → World → World → Status → Type 0
+StandsBy names out before after statuses.Done = IsSomeAnd out (λ output. Written names output before after)
+StandsBy names out before after statuses.Rejected = IsSomeAnd out (λ output. Written names output before after)
+StandsBy names out before after statuses.WriteFault = IsSomeAnd out (λ output. Broken names output before after)
+StandsBy names out before after statuses.NoMemory = Untouched before after ⊎ IsSomeAnd out (λ output. Broken names output before after)
+StandsBy names out before after other = Untouched before after
 
 pub record Stands (task : Task) (names : Role → List ℕ) (before after : World) (result : Status) : Type 0 where
   pub given : Given
   pub told : (role : Role) → Agrees (before.held (names role)) (given role)
-  pub stands : StandsBy names (task.comes given) before after result
+  pub out : Option Output
+  pub comes : IfSome out (ComesTo task given)
+  pub stands : StandsBy names out before after result
 
 -- The failed calls of a run that are no complaint, by the status: at most one. A load that failed is that of a file which
 -- the mode loads, and a store that failed is that of a file which it stores.
-abbrev pub CallBy : (Role → List ℕ) → List Role → Result Output Refusal → List Fault → Status → Type 0
-CallBy names loads v made statuses.ReadFault = (role : Role) × (IsTrue (is_among role loads) × (made ≡ one_fault calls.Load (names role)))
-CallBy names loads v made statuses.WriteFault = ((role : Role) × (IsOkAnd v (λ output. IsTrue (is_stored role output.stores)) × (made ≡ one_fault calls.Store (names role)))) ⊎ (made ≡ one_fault calls.Say [])
-CallBy names loads v made statuses.NoMemory = (made ≡ []) ⊎ ((fault : Fault) × (made ≡ fault ∷ []))
-CallBy names loads v made other = made ≡ []
+abbrev pub CallBy : (Role → List ℕ) → List Role → Option Output → List Fault → Status → Type 0
+CallBy names loads out made statuses.ReadFault = (role : Role) × (IsTrue (is_among role loads) × (made ≡ one_fault calls.Load (names role)))
+CallBy names loads out made statuses.WriteFault = ((role : Role) × (IsSomeAnd out (λ output. IsTrue (is_stored role output.stores)) × (made ≡ one_fault calls.Store (names role)))) ⊎ (made ≡ one_fault calls.Say [])
+CallBy names loads out made statuses.NoMemory = (made ≡ []) ⊎ ((fault : Fault) × (made ≡ fault ∷ []))
+CallBy names loads out made other = made ≡ []
 
 pub record Gains (task : Task) (names : Role → List ℕ) (before after : World) (result : Status) : Type 0 where
   pub given : Given
+  pub out : Option Output
+  pub comes : IfSome out (ComesTo task given)
   pub made : List Fault
   pub complaint : List Fault
   pub failed : after.faults ≡ before.faults ++ made ++ complaint
-  pub by : CallBy names task.loads (task.comes given) made result
+  pub by : CallBy names task.loads out made result
   pub voice : (complaint ≡ []) ⊎ (complaint ≡ one_fault calls.Complain [])
 
--- a name that is not that of a file which the mode stores keeps what it held
-abbrev pub IsApart : (Role → List ℕ) → Result Output Refusal → List ℕ → Type 0
-IsApart names v name = IfOk v (λ output. (role : Role) → IsTrue (is_stored role output.stores) → name ≢ names role)
+-- A name that is not that of a file which is stored keeps what it held: it is apart from those of every output to which
+-- files come.
+abbrev pub IsApart : (Role → List ℕ) → Output → List ℕ → Type 0
+IsApart names output name = (role : Role) → IsTrue (is_stored role output.stores) → name ≢ names role
 
 abbrev pub KeepsOthers : Task → (Role → List ℕ) → World → World → Type 0
-KeepsOthers task names before after = (name : List ℕ) → ((given : Given) → IsApart names (task.comes given) name) → after.held name ≡ before.held name
+KeepsOthers task names before after = (name : List ℕ) → ((given : Given) (output : Output) → ComesTo task given output → IsApart names output name) → after.held name ≡ before.held name
 
 -- what a load gives of the bytes that are held, where it does not fail
 abbrev pub loaded_of : Option (List ℕ) → Loaded
 loaded_of None = Some (Err loads.Failed)
-loaded_of (Some bytes) = Some (if nat_lt 67108864 (length bytes) then Err loads.TooLong else Ok bytes)
+loaded_of (Some bytes) = Some (if nat_lt MOST_FILE_BYTES (length bytes) then Err loads.TooLong else Ok bytes)
 
 abbrev pub held_files : (Role → List ℕ) → World → Given
 held_files names world = λ role. loaded_of (world.held (names role))
 
--- the end is this one, unless a call of the shelf failed or there was no memory
-abbrev pub IsOrFails : Status → Status → Type 0
-IsOrFails expected statuses.ReadFault = ⊤
-IsOrFails expected statuses.WriteFault = ⊤
-IsOrFails expected statuses.NoMemory = ⊤
-IsOrFails expected result = result ≡ expected
+-- a fact of how a run ended, unless a call of the shelf failed or there was no memory
+abbrev pub UnlessFails : (Status → Type 0) → Status → Type 0
+UnlessFails P statuses.ReadFault = ⊤
+UnlessFails P statuses.WriteFault = ⊤
+UnlessFails P statuses.NoMemory = ⊤
+UnlessFails P result = P result
 
-abbrev pub ends_as : Result Output Refusal → Status
-ends_as (Ok output) = finish_status output.finish
-ends_as (Err refusal) = status_of refusal
+-- how files end a run: by what they are refused for, or else as an output says to which they come
+abbrev pub EndsBy : Option Refusal → (Output → Type 0) → Status → Type 0
+EndsBy (Some refusal) comes result = result ≡ status_of refusal
+EndsBy None comes result = (output : Output) × (comes output × (result ≡ finish_status output.finish))
+
+abbrev pub EndsAs : Task → Given → Status → Type 0
+EndsAs task given result = EndsBy (task.refused given) (task.comes given) result
 
 -- a fact of how a run finished, of the runs that did
 abbrev pub FinishBy : (Finish → Type 0) → Status → Type 0

@@ -1,5 +1,6 @@
 -- What the reading half of a run does.
 use Rattle.std.specs.Prelude.{◌≡◌, ◌≤◌, ◌<◌, ℕ, IsTrue, List, [], ◌∷◌, ◌++◌, length, Option, None, Some, Result, Ok, Err, IfSome, IsSomeAnd, ⊤}
+use Rattle.cg_limit.specs.declared.TheConstants.{MOST_FILE_BYTES}
 use Rattle.cg_shelf.specs.World.{World}
 use Rattle.cg_shelf.specs.Shelf.{one_call}
 use Rattle.cg_shelf.specs.declared.faults.Call.TheVariants as calls
@@ -11,7 +12,7 @@ use Rattle.cg_run.specs.declared.refusal.Refusal.{Refusal}
 use Rattle.cg_run.specs.declared.refusal.Trouble.{Trouble}
 use Rattle.cg_run.specs.declared.role.Role.{Role}
 use Rattle.cg_run.specs.Refusal.{outcome_faults}
-use Rattle.cg_run.specs.Verdict.{Comes, Given, Loaded, asked, brought, verdict}
+use Rattle.cg_run.specs.Verdict.{Comes, Given, Loaded, asked, brought, reached}
 
 -- nothing was stored or said
 pub record Untouched (before after : World) : Type 0 where
@@ -22,9 +23,9 @@ pub record Untouched (before after : World) : Type 0 where
 -- found no memory says nothing of what was held.
 abbrev pub Agrees : Option (List ℕ) → Loaded → Type 0
 Agrees held None = ⊤
-Agrees held (Some (Ok bytes)) = (held ≡ Some bytes) × (length bytes ≤ 67108864)
+Agrees held (Some (Ok bytes)) = (held ≡ Some bytes) × (length bytes ≤ MOST_FILE_BYTES)
 Agrees held (Some (Err loads.Failed)) = ⊤
-Agrees held (Some (Err loads.TooLong)) = IsSomeAnd held (λ bytes. 67108864 < length bytes)
+Agrees held (Some (Err loads.TooLong)) = IsSomeAnd held (λ bytes. MOST_FILE_BYTES < length bytes)
 Agrees held (Some (Err loads.NoMemory)) = ⊤
 
 -- a load of this name gave this, by what the shelf says of its loads
@@ -55,11 +56,11 @@ pub record Loads (gave : List ℕ → Result (List ℕ) LoadFault → Type 0) (n
 
 -- The reading half of a run. `given` is what its loads gave; a load gave it, and where the shelf tells, it agrees with what
 -- was held. These loads are the calls that were made. Nothing is stored, said or complained.
-pub record Reads {M : Type 0} (gave : List ℕ → Result (List ℕ) LoadFault → Type 0) (takes : M → Role → List ℕ → Result M Trouble) (gives : M → Result Output Trouble) (names : Role → List ℕ) (state : M) (loads : List Role) (before after : World) (answer : Result Output Refusal) : Type 0 where
+pub record Reads {M : Type 0} (gave : List ℕ → Result (List ℕ) LoadFault → Type 0) (takes : M → Role → List ℕ → Result M Trouble) (stops : M → Option Trouble) (gives : M → Output → Type 0) (names : Role → List ℕ) (state : M) (loads : List Role) (before after : World) (answer : Result Output Refusal) : Type 0 where
   pub given : Given
   pub from : (role : Role) → IfSome (given role) (gave (names role))
   pub told : IsTrue before.tells → (role : Role) → Agrees (before.held (names role)) (given role)
-  pub cause : Comes (verdict takes gives state loads given) answer
+  pub cause : Comes gives (reached takes stops state loads given) answer
   pub listed : IsTrue before.tells → after.calls ≡ before.calls ++ load_calls names (asked takes state loads given)
   pub untouched : IsTrue before.tells → Untouched before after
   pub quiet : IsTrue before.tells → after.complained ≡ before.complained

@@ -1,5 +1,5 @@
 -- What a refusal means: status, line of complaint, failed calls, and how far the run had come. One line a kind.
-use Rattle.std.specs.Prelude.{ℕ, List, [], ◌∷◌, ◌++◌, codes, decimal, Result, Ok, Err}
+use Rattle.std.specs.Prelude.{ℕ, List, [], ◌∷◌, ◌++◌, codes, Result, Ok, Err}
 use Rattle.cg_limit.specs.declared.Limit.{Limit}
 use Rattle.cg_limit.specs.declared.Limit.TheVariants as limits
 use Rattle.cg_shelf.specs.declared.faults.Call.TheVariants as calls

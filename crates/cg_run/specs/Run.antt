@@ -1,5 +1,5 @@
 -- What a run did: one relation, whatever its mode loads, makes of it, stores and says.
-use Rattle.std.specs.Prelude.{◌≡◌, ℕ, Bool, IsTrue, if◌then◌else◌, List, [], ◌++◌, Result, Ok, Err, IfSome, IsOkAnd}
+use Rattle.std.specs.Prelude.{◌≡◌, ℕ, Bool, IsTrue, if◌then◌else◌, List, [], ◌++◌, Option, Result, Ok, Err, IfSome, IsSomeAnd}
 use Rattle.cg_shelf.specs.World.{World}
 use Rattle.cg_shelf.specs.Shelf.{Appends, Lists, call_faults}
 use Rattle.cg_shelf.specs.declared.faults.Call.TheVariants.{Complain}
@@ -18,51 +18,55 @@ use Rattle.cg_run.specs.declared.status.Status.{Status}
 use Rattle.cg_run.specs.declared.status.Status.TheVariants as statuses
 use Rattle.cg_run.specs.Refusal.{complaint_text, outcome_faults, status_of, step_of}
 use Rattle.cg_run.specs.Status.{finish_status}
-use Rattle.cg_run.specs.Verdict.{Comes, Given, Task}
+use Rattle.cg_run.specs.Verdict.{ComesTo, Given, Halts, Task}
 use Rattle.cg_run.specs.Reads.{Agrees, Untouched, load_calls}
 use Rattle.cg_run.specs.Writes.{CallsAt, HasStep, LeavesAt, WriteCalls, Written}
 
--- Why a run was refused, where its files come to this: before the first write, they come to that very refusal, or memory
--- was wanting; at a write, they come to an output that has this write.
-abbrev pub CauseAt : Result Output Refusal → Refusal → Step → Type 0
-CauseAt v refusal steps.Reading = Comes v (Err refusal)
-CauseAt v refusal (steps.Storing role) = IsOkAnd v (λ output. HasStep output (steps.Storing role))
-CauseAt v refusal steps.Saying = IsOkAnd v (λ output. HasStep output steps.Saying)
+-- Why a run was refused, where its files are refused for this, or it began to put this output out: before the first write,
+-- for that very refusal, or for want of memory; at a write, which the output has.
+abbrev pub CauseAt : Option Refusal → Option Output → Refusal → Step → Type 0
+CauseAt refused out refusal steps.Reading = Halts refused refusal
+CauseAt refused out refusal (steps.Storing role) = IsSomeAnd out (λ output. HasStep output (steps.Storing role))
+CauseAt refused out refusal steps.Saying = IsSomeAnd out (λ output. HasStep output steps.Saying)
 
-abbrev pub Cause : Result Output Refusal → Result Finish Refusal → Type 0
-Cause v (Ok finish) = IsOkAnd v (λ output. output.finish ≡ finish)
-Cause v (Err refusal) = CauseAt v refusal (step_of refusal)
+abbrev pub Cause : Option Refusal → Option Output → Result Finish Refusal → Type 0
+Cause refused out (Ok finish) = IsSomeAnd out (λ output. output.finish ≡ finish)
+Cause refused out (Err refusal) = CauseAt refused out refusal (step_of refusal)
 
 -- what stands: nothing new, a part of the writes, or all
-abbrev pub StandsAt : (Role → List ℕ) → Result Output Refusal → Step → World → World → Type 0
-StandsAt names v steps.Reading before after = Untouched before after
-StandsAt names v (steps.Storing role) before after = IsOkAnd v (λ output. LeavesAt names output (steps.Storing role) before after)
-StandsAt names v steps.Saying before after = IsOkAnd v (λ output. LeavesAt names output steps.Saying before after)
+abbrev pub StandsAt : (Role → List ℕ) → Option Output → Step → World → World → Type 0
+StandsAt names out steps.Reading before after = Untouched before after
+StandsAt names out (steps.Storing role) before after = IsSomeAnd out (λ output. LeavesAt names output (steps.Storing role) before after)
+StandsAt names out steps.Saying before after = IsSomeAnd out (λ output. LeavesAt names output steps.Saying before after)
 
-abbrev pub Leaves : (Role → List ℕ) → Result Output Refusal → World → World → Result Finish Refusal → Type 0
-Leaves names v before after (Ok finish) = IsOkAnd v (λ output. Written names output before after)
-Leaves names v before after (Err refusal) = StandsAt names v (step_of refusal) before after
+abbrev pub Leaves : (Role → List ℕ) → Option Output → World → World → Result Finish Refusal → Type 0
+Leaves names out before after (Ok finish) = IsSomeAnd out (λ output. Written names output before after)
+Leaves names out before after (Err refusal) = StandsAt names out (step_of refusal) before after
 
--- the calls of the writes: none before the files come to an output, and then those of its texts in order
-abbrev pub MadeAt : (Role → List ℕ) → Result Output Refusal → Step → List CallMade → Type 0
-MadeAt names v steps.Reading made = made ≡ []
-MadeAt names v (steps.Storing role) made = IsOkAnd v (λ output. CallsAt names output (steps.Storing role) made)
-MadeAt names v steps.Saying made = IsOkAnd v (λ output. CallsAt names output steps.Saying made)
+-- the calls of the writes: none before there is an output, and then those of its texts in order
+abbrev pub MadeAt : (Role → List ℕ) → Option Output → Step → List CallMade → Type 0
+MadeAt names out steps.Reading made = made ≡ []
+MadeAt names out (steps.Storing role) made = IsSomeAnd out (λ output. CallsAt names output (steps.Storing role) made)
+MadeAt names out steps.Saying made = IsSomeAnd out (λ output. CallsAt names output steps.Saying made)
 
-abbrev pub Made : (Role → List ℕ) → Result Output Refusal → Result Finish Refusal → List CallMade → Type 0
-Made names v (Ok finish) made = IsOkAnd v (λ output. WriteCalls names output (Ok finish) made)
-Made names v (Err refusal) made = MadeAt names v (step_of refusal) made
+abbrev pub Made : (Role → List ℕ) → Option Output → Result Finish Refusal → List CallMade → Type 0
+Made names out (Ok finish) made = IsSomeAnd out (λ output. WriteCalls names output (Ok finish) made)
+Made names out (Err refusal) made = MadeAt names out (step_of refusal) made
 
 -- A run up to its complaint. `given` is what its loads gave: a load gave it, and where the shelf tells, it agrees with what
--- was held. The calls are the loads of the files that were asked for, in order, and then the writes.
+-- was held. `out` is the one output that it put out or began to: nothing was refused and the files come to it, and finish,
+-- what stands and the calls of the writes are its. The calls are the loads of the files that were asked for, in order, and
+-- then the writes.
 pub record Attempts (gave : List ℕ → Result (List ℕ) LoadFault → Type 0) (task : Task) (names : Role → List ℕ) (before after : World) (outcome : Result Finish Refusal) : Type 0 where
   pub given : Given
   pub from : (role : Role) → IfSome (given role) (gave (names role))
   pub told : IsTrue before.tells → (role : Role) → Agrees (before.held (names role)) (given role)
-  pub cause : Cause (task.comes given) outcome
-  pub leaves : IsTrue before.tells → Leaves names (task.comes given) before after outcome
+  pub out : Option Output
+  pub comes : IfSome out (ComesTo task given)
+  pub cause : Cause (task.refused given) out outcome
+  pub leaves : IsTrue before.tells → Leaves names out before after outcome
   pub writes : List CallMade
-  pub made : Made names (task.comes given) outcome writes
+  pub made : Made names out outcome writes
   pub listed : IsTrue before.tells → after.calls ≡ before.calls ++ load_calls names (task.asks given) ++ writes
   pub quiet : IsTrue before.tells → after.complained ≡ before.complained
   pub tells : after.tells ≡ before.tells

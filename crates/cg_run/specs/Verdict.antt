@@ -1,5 +1,5 @@
 -- What a mode comes to, found by reading alone, from what its loads gave.
-use Rattle.std.specs.Prelude.{◌≡◌, ℕ, List, [], ◌∷◌, Option, None, Some, Result, Ok, Err, ⊤}
+use Rattle.std.specs.Prelude.{◌≡◌, ℕ, List, [], ◌∷◌, Option, None, Some, Result, Ok, Err, IsOkAnd, ⊤}
 use Rattle.cg_limit.specs.declared.Limit.TheVariants as limits
 use Rattle.cg_shelf.specs.declared.faults.LoadFault.{LoadFault}
 use Rattle.cg_shelf.specs.declared.faults.LoadFault.TheVariants as loads
@@ -43,11 +43,16 @@ brought role (Some (Err loads.NoMemory)) = Err (refusals.NoMemory steps.Reading)
 abbrev pub taken : {M : Type 0} → (M → Role → List ℕ → Result M Trouble) → M → Role → Loaded → Result M Refusal
 taken takes state role loaded = brought role loaded >>= λ bytes. troubled (takes state role bytes)
 
--- What a mode comes to: it takes the files of these roles one after another, each before the next is loaded, and the
--- first refusal ends it; at the end it gives what is to be put out.
-abbrev pub verdict : {M : Type 0} → (M → Role → List ℕ → Result M Trouble) → (M → Result Output Trouble) → M → List Role → Given → Result Output Refusal
-verdict takes gives state [] given = troubled (gives state)
-verdict takes gives state (role ∷ rest) given = taken takes state role (given role) >>= λ next. verdict takes gives next rest given
+-- what was found, unless something stops it
+abbrev pub stopped : {M : Type 0} → Option Trouble → M → Result M Refusal
+stopped None state = Ok state
+stopped (Some trouble) state = Err (refusal_of trouble)
+
+-- What a mode finds: it takes the files of these roles one after another, each before the next is loaded, and the first
+-- refusal ends it; at the end what was found may itself be refused.
+abbrev pub reached : {M : Type 0} → (M → Role → List ℕ → Result M Trouble) → (M → Option Trouble) → M → List Role → Given → Result M Refusal
+reached takes stops state [] given = stopped (stops state) state
+reached takes stops state (role ∷ rest) given = taken takes state role (given role) >>= λ next. reached takes stops next rest given
 
 -- the files that are loaded until then, in order
 abbrev pub onward : {M : Type 0} → Result M Refusal → (M → List Role) → List Role
@@ -62,14 +67,31 @@ abbrev pub asked : {M : Type 0} → (M → Role → List ℕ → Result M Troubl
 asked takes state [] given = []
 asked takes state (role ∷ rest) given = asked_from role (given role) (taken takes state role (given role)) (λ next. asked takes next rest given)
 
--- a mode, as what a run does with it: which files it loads, in order, as far as it comes, and what they come to
-pub record Task : Type 0 where
+-- the refusal, where there is one
+abbrev pub refusal_in : {T : Type 0} → Result T Refusal → Option Refusal
+refusal_in (Ok found) = None
+refusal_in (Err refusal) = Some refusal
+
+-- A mode, as what a run does with it: which files it loads, in order, as far as it comes; for what they are refused, if they
+-- are; and which outputs they come to where nothing is refused. There may be more than one, of which a run puts out one.
+pub record Task : Type 1 where
   pub loads : List Role
   pub asks : Given → List Role
-  pub comes : Given → Result Output Refusal
+  pub refused : Given → Option Refusal
+  pub comes : Given → Output → Type 0
 
-abbrev pub task_of : {M : Type 0} → (M → Role → List ℕ → Result M Trouble) → (M → Result Output Trouble) → M → List Role → Task
-task_of takes gives state loads = record { loads = loads; asks = asked takes state loads; comes = verdict takes gives state loads }
+abbrev pub task_of : {M : Type 0} → (M → Role → List ℕ → Result M Trouble) → (M → Option Trouble) → (M → Output → Type 0) → M → List Role → Task
+task_of takes stops gives state loads = record {
+  loads = loads;
+  asks = asked takes state loads;
+  refused = λ given. refusal_in (reached takes stops state loads given);
+  comes = λ given output. IsOkAnd (reached takes stops state loads given) (λ found. gives found output);
+}
+
+-- nothing is refused, and the files come to this output
+pub record ComesTo (task : Task) (given : Given) (output : Output) : Type 0 where
+  pub unrefused : task.refused given ≡ None
+  pub comes : task.comes given output
 
 -- what code answers that makes no call of the shelf: what it comes to, or want of memory
 abbrev pub Answers : {T : Type 0} → Result T Trouble → Result T Trouble → Type 0
@@ -78,15 +100,27 @@ Answers v (Err (troubles.Content content)) = v ≡ Err (troubles.Content content
 Answers v (Err (troubles.Limit limit)) = v ≡ Err (troubles.Limit limit)
 Answers v (Err troubles.NoMemory) = ⊤
 
--- what the reading half of a run answers: what the files come to, or want of memory; it writes nothing
-abbrev pub Comes : {T : Type 0} → Result T Refusal → Result T Refusal → Type 0
-Comes v (Ok found) = v ≡ Ok found
-Comes v (Err (refusals.Content content)) = v ≡ Err (refusals.Content content)
-Comes v (Err (refusals.Limit limit)) = v ≡ Err (refusals.Limit limit)
-Comes v (Err (refusals.Load role)) = v ≡ Err (refusals.Load role)
-Comes v (Err (refusals.Store role)) = ⊥
-Comes v (Err refusals.Say) = ⊥
-Comes v (Err (refusals.NoMemory step)) = step ≡ steps.Reading
+-- what code answers once all files are taken: where nothing stops it an output that it may give, what stops it, or want of
+-- memory
+abbrev pub Concludes : Option Trouble → (Output → Type 0) → Result Output Trouble → Type 0
+Concludes stops gives (Ok output) = (stops ≡ None) × gives output
+Concludes stops gives (Err (troubles.Content content)) = stops ≡ Some (troubles.Content content)
+Concludes stops gives (Err (troubles.Limit limit)) = stops ≡ Some (troubles.Limit limit)
+Concludes stops gives (Err troubles.NoMemory) = ⊤
+
+-- why a run is refused before its first write: for what its files are refused, or memory was wanting
+abbrev pub Halts : Option Refusal → Refusal → Type 0
+Halts refused (refusals.Content content) = refused ≡ Some (refusals.Content content)
+Halts refused (refusals.Limit limit) = refused ≡ Some (refusals.Limit limit)
+Halts refused (refusals.Load role) = refused ≡ Some (refusals.Load role)
+Halts refused (refusals.Store role) = ⊥
+Halts refused refusals.Say = ⊥
+Halts refused (refusals.NoMemory step) = step ≡ steps.Reading
+
+-- what the reading half of a run answers of what was found: an output that it may give, or why it is refused; it writes nothing
+abbrev pub Comes : {M : Type 0} → (M → Output → Type 0) → Result M Refusal → Result Output Refusal → Type 0
+Comes gives v (Ok output) = IsOkAnd v (λ found. gives found output)
+Comes gives v (Err refusal) = Halts (refusal_in v) refusal
 
 -- what is made of what was found
 abbrev pub found_as : {A B E : Type 0} → (A → B) → Result A E → Result B E

@@ -1,7 +1,7 @@
 //! The run: what a mode does, over the shelf.
 
 ghost use Rattle.std.specs.Prelude.{◌≡◌, [], IsTrue};
-ghost use Rattle.cg_run.specs.Promise.{Ended, Gains, IsOrFails, KeepsOthers, Stands, ends_as, held_files};
+ghost use Rattle.cg_run.specs.Promise.{Ended, EndsAs, Gains, KeepsOthers, Stands, UnlessFails, held_files};
 ghost use Rattle.cg_run.specs.Reads.{Gave};
 ghost use Rattle.cg_run.specs.Names.{name_of};
 ghost use Rattle.cg_run.specs.Roles.{are_distinct};
@@ -30,26 +30,26 @@ pub fn drive<S: Shelf, M: Mode>(
 ) -> Status
     requires distinct { IsTrue (are_distinct loads.now) }
 
-    // What the run did: its calls in order, what each file gave and what these files come to, and what stands.
-    ensures runs { Runs (Gave S.gives) (task_of M.takes M.gives mode loads.now) (name_of names.now) (S.world shelf.old) (S.world shelf.new) result }
+    // What the run did: its calls in order, what each file gave, the one output that it put out, and what stands.
+    ensures runs { Runs (Gave S.gives) (task_of M.takes M.stops M.gives mode loads.now) (name_of names.now) (S.world shelf.old) (S.world shelf.new) result }
 
     // How it ended, with the cause, the line of complaint and the failed calls.
-    ensures ended { Ended (Gave S.gives) (task_of M.takes M.gives mode loads.now) (name_of names.now) (S.world shelf.old) (S.world shelf.new) result }
+    ensures ended { Ended (Gave S.gives) (task_of M.takes M.stops M.gives mode loads.now) (name_of names.now) (S.world shelf.old) (S.world shelf.new) result }
 
     // What stands, by the status.
     ensures stands { IsTrue (S.world shelf.old).tells
-        → Stands (task_of M.takes M.gives mode loads.now) (name_of names.now) (S.world shelf.old) (S.world shelf.new) result }
+        → Stands (task_of M.takes M.stops M.gives mode loads.now) (name_of names.now) (S.world shelf.old) (S.world shelf.new) result }
 
     // At most one failed call besides that of the complaint, and which, by the status.
-    ensures gains { Gains (task_of M.takes M.gives mode loads.now) (name_of names.now) (S.world shelf.old) (S.world shelf.new) result }
+    ensures gains { Gains (task_of M.takes M.stops M.gives mode loads.now) (name_of names.now) (S.world shelf.old) (S.world shelf.new) result }
 
     // Names that are not those of stored files keep what they held.
     ensures others { IsTrue (S.world shelf.old).tells
-        → KeepsOthers (task_of M.takes M.gives mode loads.now) (name_of names.now) (S.world shelf.old) (S.world shelf.new) }
+        → KeepsOthers (task_of M.takes M.stops M.gives mode loads.now) (name_of names.now) (S.world shelf.old) (S.world shelf.new) }
 
     // Where no call of the shelf fails and memory is there, a run ends as what is held comes to.
     ensures comes { IsTrue (S.world shelf.old).tells
-        → IsOrFails (ends_as ((task_of M.takes M.gives mode loads.now).comes (held_files (name_of names.now) (S.world shelf.old)))) result }
+        → UnlessFails (EndsAs (task_of M.takes M.stops M.gives mode loads.now) (held_files (name_of names.now) (S.world shelf.old))) result }
 {
     run(alloc, shelf, names, loads, mode)
 }
@@ -62,7 +62,7 @@ fn run<S: Shelf, M: Mode>(
     mode: M,
 ) -> Status
     requires distinct { IsTrue (are_distinct loads.now) }
-    ensures { Runs (Gave S.gives) (task_of M.takes M.gives mode loads.now) (name_of names.now) (S.world shelf.old) (S.world shelf.new) result }
+    ensures { Runs (Gave S.gives) (task_of M.takes M.stops M.gives mode loads.now) (name_of names.now) (S.world shelf.old) (S.world shelf.new) result }
 {
     let mut line = Vec::new(alloc);
     match attempt(alloc, shelf, names, loads, mode, &mut line) {
@@ -92,7 +92,7 @@ fn attempt<S: Shelf, M: Mode>(
 ) -> Result<Finish, Refusal>
     requires distinct { IsTrue (are_distinct loads.now) }
     ensures empty { line.new.items ≡ line.old.items }
-    ensures attempts { Attempts (Gave S.gives) (task_of M.takes M.gives mode loads.now) (name_of names.now) (S.world shelf.old) (S.world shelf.new) result }
+    ensures attempts { Attempts (Gave S.gives) (task_of M.takes M.stops M.gives mode loads.now) (name_of names.now) (S.world shelf.old) (S.world shelf.new) result }
 {
     let output = read(alloc, shelf, names, loads, mode)?;
     line.reserve(longest_line(names))?;

@@ -34,3 +34,6 @@ pub use output::{Finish, Output, Text};
 pub use refusal::{Content, Owner, Refusal, Step, Trouble};
 pub use role::Role;
 pub use status::Status;
+
+#[cfg(test)]
+mod tests;

@@ -10,13 +10,10 @@ use crate::names::Names;
 use crate::output::Output;
 use crate::refusal::{Refusal, Step};
 use crate::role::Role;
-use cg_limit::Limit;
+use cg_limit::{Limit, MOST_FILE_BYTES};
 use cg_list::Seq;
 use cg_shelf::{LoadFault, Shelf};
 use std::alloc::Global;
-
-/// A file has at most so many bytes.
-const MOST_BYTES: u64 = 67_108_864;
 
 /// Loads the files of these roles and has the mode take them, in order.
 pub fn read<S: Shelf, M: Mode>(
@@ -27,7 +24,7 @@ pub fn read<S: Shelf, M: Mode>(
     mode: M,
 ) -> Result<Output, Refusal>
     requires distinct { IsTrue (are_distinct loads.now) }
-    ensures { Reads (Gave S.gives) M.takes M.gives (name_of names.now) mode loads.now (S.world shelf.old) (S.world shelf.new) result }
+    ensures { Reads (Gave S.gives) M.takes M.stops M.gives (name_of names.now) mode loads.now (S.world shelf.old) (S.world shelf.new) result }
 {
     match loads.split_first() {
         None => Ok(mode.finish(alloc)?),
@@ -49,7 +46,7 @@ pub fn load<S: Shelf>(
     ensures { Loads (Gave S.gives) (name_of names.now) role (S.world shelf.old) (S.world shelf.new) result }
 {
     let mut bytes = Vec::new(alloc);
-    match shelf.load(names.name_of(role), MOST_BYTES, &mut bytes) {
+    match shelf.load(names.name_of(role), MOST_FILE_BYTES, &mut bytes) {
         Ok(()) => Ok(Seq::from_vec(bytes)),
         Err(LoadFault::Failed) => Err(Refusal::Load(role)),
         Err(LoadFault::TooLong) => Err(Refusal::Limit(Limit::File)),

@@ -22,9 +22,9 @@ use Rattle.cg_run.specs.declared.role.Role.{Role}
 use Rattle.cg_run.specs.declared.role.Role.TheVariants as roles
 use Rattle.cg_run.specs.Writes.{Written}
 use Rattle.cg_run.proofs.Finished.{Finishes}
-use Rattle.cg_run.proofs.Steps.{found_ok, held_so, put_here, step_end, step_of}
+use Rattle.cg_run.proofs.Steps.{came, found_ok, held_so, put_here, step_end, step_of}
 use Rattle.cg_tool.specs.NetlistSaid.{netlist_said}
-use Rattle.cg_tool.specs.Gate.{Behaves, IsGated, gate_gives, gate_start, gate_takes, gate_task, gated, given_output, library_found, library_trouble, netlist_found, netlist_read, netlist_trouble, ungated, ungated_of}
+use Rattle.cg_tool.specs.Gate.{Behaves, IsGated, gate_gives, gate_start, gate_stops, gate_takes, gate_task, gated, library_found, library_trouble, netlist_found, netlist_read, netlist_trouble, ungated, ungated_of}
 use Rattle.cg_tool.specs.declared.modes.gate.Gate.{Gate}
 use Rattle.cg_tool.proofs.LratMeans.{refused_ok, some_and}
 use Rattle.cg_tool.proofs.NetlistRead.{netlist_proper, netlist_says}
@@ -85,24 +85,21 @@ gated_of clock names before after finish library c text cells held read no_gater
       ends = sym ends;
     }
 
-given_ok : (netlist : Option Circuit) (output : Output) → given_output netlist ≡ Ok output → (c : Circuit) × (netlist ≡ Some c) × (output ≡ gated c)
-given_ok None output h = absurd (cc)
-given_ok (Some c) output h = (c, refl, cc)
-
-some_same : (a b : Circuit) → ◌≡◌ {A = Option Circuit} (Some a) (Some b) → a ≡ b
-some_same a b h = cc
+given_ok : (netlist : Option Circuit) (output : Output) (c : Circuit) → netlist ≡ Some c → IsSomeAnd netlist (λ n. output ≡ gated n) → output ≡ gated c
+given_ok netlist output c is h = let Q : Option Circuit → Type 0 = λ n. IsSomeAnd n (λ n. output ≡ gated n) in subst Q is h
 
 pub gated_means : (clock : Option NetName) (names : Role → List ℕ) (before after : World) (finish : Finish) → Finishes (gate_task clock) names before after finish → IsGated clock names before after finish
 gated_means clock names before after finish f =
     let start : Gate = gate_start clock in
-    let one = step_of gate_takes gate_gives start roles.Library (roles.Netlist ∷ []) f.given f.output f.comes in
+    let end = came gate_takes gate_stops gate_gives start (roles.Library ∷ roles.Netlist ∷ []) f.given f.output f.comes in
+    let one = step_of gate_takes gate_stops start roles.Library (roles.Netlist ∷ []) f.given end.0 end.1 in
     let l = found_ok (λ (q : List CellData). record { options = start.options; library = q; netlist = start.netlist }) (library_found one.bytes) one.next one.takes_it in
-    let two = step_of gate_takes gate_gives one.next roles.Netlist [] f.given f.output one.later in
+    let two = step_of gate_takes gate_stops one.next roles.Netlist [] f.given end.0 one.later in
     let n = found_ok (λ (q : Circuit). record { options = one.next.options; library = one.next.library; netlist = Some q }) (netlist_found one.next.library (one.next.options).clock two.bytes) two.next two.takes_it in
-    let ends = given_ok two.next.netlist f.output (step_end gate_takes gate_gives two.next f.given f.output two.later) in
+    let last = step_end gate_takes gate_stops two.next f.given end.0 two.later in
     let c : Circuit = n.0 in
-    let same : ends.0 ≡ c = some_same ends.0 c (sym ends.1 ∙ sym (ap (λ (g : Gate). g.netlist) n.2)) in
-    let out : f.output ≡ gated c = ends.2 ∙ ap gated same in
+    let G : Gate → Type 0 = λ g. gate_gives g f.output in
+    let out : f.output ≡ gated c = given_ok two.next.netlist f.output c (sym (ap (λ (g : Gate). g.netlist) n.2)) (subst G (sym last.1) end.2) in
     let W : Output → Type 0 = λ o. Written names o before after in
     let F : Gate → Type 0 = λ g. netlist_found g.library (g.options).clock two.bytes ≡ Ok c in
     let found = found_read (netlist_read l.0 clock two.bytes) c (subst F (sym l.2) n.1) in

@@ -23,8 +23,8 @@ use Rattle.cg_run.specs.declared.role.Role.{Role}
 use Rattle.cg_run.specs.declared.role.Role.TheVariants as roles
 use Rattle.cg_run.specs.Writes.{Written, puts}
 use Rattle.cg_run.proofs.Finished.{Finishes}
-use Rattle.cg_run.proofs.Steps.{found_ok, held_so, step_end, step_of}
-use Rattle.cg_tool.specs.Lrat.{IsChecked, check_finish, check_output, formula_of, formula_trouble, log_of, log_trouble, lrat_gives, lrat_start, lrat_takes, lrat_task}
+use Rattle.cg_run.proofs.Steps.{came, found_ok, held_so, step_end, step_of}
+use Rattle.cg_tool.specs.Lrat.{IsChecked, check_finish, check_output, formula_of, formula_trouble, log_of, log_trouble, lrat_gives, lrat_start, lrat_stops, lrat_takes, lrat_task}
 use Rattle.cg_tool.specs.Refused.{refused_as}
 use Rattle.cg_tool.specs.declared.modes.lrat.Lrat.{Lrat}
 
@@ -57,15 +57,18 @@ checked_of names before after finish output formula log says proves out ends wri
 
 pub checked : (names : Role → List ℕ) (before after : World) (finish : Finish) → Finishes lrat_task names before after finish → IsChecked names before after finish
 checked names before after finish f =
-    let one = step_of lrat_takes lrat_gives lrat_start roles.Formula (roles.Log ∷ []) f.given f.output f.comes in
+    let end = came lrat_takes lrat_stops lrat_gives lrat_start (roles.Formula ∷ roles.Log ∷ []) f.given f.output f.comes in
+    let one = step_of lrat_takes lrat_stops lrat_start roles.Formula (roles.Log ∷ []) f.given end.0 end.1 in
     let r = found_ok (λ (q : Formula). record { formula = q; log = lrat_start.log }) (formula_of one.bytes) one.next one.takes_it in
-    let two = step_of lrat_takes lrat_gives one.next roles.Log [] f.given f.output one.later in
+    let two = step_of lrat_takes lrat_stops one.next roles.Log [] f.given end.0 one.later in
     let s = found_ok (λ (q : Log). record { formula = one.next.formula; log = q }) (log_of two.bytes) two.next two.takes_it in
-    let ends : Ok (check_output (verdict two.next.formula two.next.log)) ≡ Ok f.output = step_end lrat_takes lrat_gives two.next f.given f.output two.later in
+    let last = step_end lrat_takes lrat_stops two.next f.given end.0 two.later in
     let first : one.next.formula ≡ r.0 = sym (ap (λ (n : Lrat). n.formula) r.2) in
     let kept : two.next.formula ≡ r.0 = sym (ap (λ (n : Lrat). n.formula) s.2) ∙ first in
     let second : two.next.log ≡ s.0 = sym (ap (λ (n : Lrat). n.log) s.2) in
-    let out : f.output ≡ check_output (verdict r.0 s.0) = let e : f.output ≡ check_output (verdict two.next.formula two.next.log) = cc in e ∙ ap (λ q. check_output (verdict q two.next.log)) kept ∙ ap (λ q. check_output (verdict r.0 q)) second in
+    let G : Lrat → Type 0 = λ n. lrat_gives n f.output in
+    let gives : lrat_gives two.next f.output = subst G (sym last.1) end.2 in
+    let out : f.output ≡ check_output (verdict r.0 s.0) = gives ∙ ap (λ q. check_output (verdict q two.next.log)) kept ∙ ap (λ q. check_output (verdict r.0 q)) second in
     checked_of names before after finish f.output r.0 s.0
     (some_and (before.held (names roles.Formula)) one.bytes (λ cnf. DimacsText cnf r.0) (held_so (before.held (names roles.Formula)) (f.given roles.Formula) one.bytes (f.told roles.Formula) one.loaded)
     (formula_is_text one.bytes r.0 (refused_ok formula_trouble (dimacs one.bytes) r.0 r.1)))

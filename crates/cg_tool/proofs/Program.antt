@@ -6,7 +6,7 @@ use Rattle.cg_shelf.specs.declared.faults.LoadFault.{LoadFault}
 use Rattle.cg_shelf.specs.declared.faults.StoreFault.{StoreFault}
 use Rattle.cg_shelf.specs.declared.faults.StoreFault.TheVariants as stores
 use Rattle.cg_run.specs.Names.{file_of}
-use Rattle.cg_run.specs.Promise.{Ended, FinishBy, Gains, IsOrFails, KeepsOthers, Stands, ends_as, held_files}
+use Rattle.cg_run.specs.Promise.{Ended, EndsAs, FinishBy, Gains, KeepsOthers, Stands, UnlessFails, held_files}
 use Rattle.cg_run.specs.Refusal.{complaint_line}
 use Rattle.cg_run.specs.Run.{Complains, Runs, status_after}
 use Rattle.cg_run.specs.declared.role.Role.TheVariants as roles
@@ -20,8 +20,8 @@ use Rattle.cg_run.proofs.Others.{others}
 use Rattle.cg_run.proofs.Unbegun.{never_usage, runs_unbegun}
 use Rattle.cg_run.proofs.Voice.{ended}
 use Rattle.cg_tool.specs.CommandLine.{JobWords}
-use Rattle.cg_tool.specs.Gate.{IsGated, gate_gives, gate_start, gate_takes, gate_task}
-use Rattle.cg_tool.specs.Lrat.{IsChecked, lrat_gives, lrat_start, lrat_takes, lrat_task}
+use Rattle.cg_tool.specs.Gate.{IsGated, gate_gives, gate_start, gate_stops, gate_takes, gate_task}
+use Rattle.cg_tool.specs.Lrat.{IsChecked, lrat_gives, lrat_start, lrat_stops, lrat_takes, lrat_task}
 use Rattle.cg_tool.specs.Program.{IsOrNoMemory, KeepsAll, RefusesWords, RunsWords, task_by, task_in}
 use Rattle.cg_tool.specs.declared.words.Mode.{Mode}
 use Rattle.cg_tool.specs.declared.words.Mode.TheVariants.{Gate, Lrat}
@@ -52,8 +52,8 @@ words_answered false before after result complains = let P : Status → Type 0 =
 module _ (gave : List ℕ → Result (List ℕ) LoadFault → Type 0) where
   -- memory was wanting for the words
   mode_unread : (mode : Mode) (job : JobWords) (before after : World) (result : Status) → Complains (complaint_line (codes "no memory")) statuses.NoMemory before after result → Runs gave (task_in mode job.clock) (file_of job.files) before after result
-  mode_unread Gate job before after result complains = runs_unbegun gave gate_takes gate_gives (file_of job.files) (gate_start job.clock) (roles.Library ∷ roles.Netlist ∷ []) before after result complains
-  mode_unread Lrat job before after result complains = runs_unbegun gave lrat_takes lrat_gives (file_of job.files) lrat_start (roles.Formula ∷ roles.Log ∷ []) before after result complains
+  mode_unread Gate job before after result complains = runs_unbegun gave gate_takes gate_stops gate_gives (file_of job.files) (gate_start job.clock) (roles.Library ∷ roles.Netlist ∷ []) before after result complains
+  mode_unread Lrat job before after result complains = runs_unbegun gave lrat_takes lrat_stops lrat_gives (file_of job.files) lrat_start (roles.Formula ∷ roles.Log ∷ []) before after result complains
 
   pub runs_unread : (job : Option JobWords) (before after : World) (result : Status) → Complains (complaint_line (codes "no memory")) statuses.NoMemory before after result → RunsWords gave job before after result
   runs_unread None before after result complains = unread_words before after result complains
@@ -80,8 +80,8 @@ module _ (gave : List ℕ → Result (List ℕ) LoadFault → Type 0) where
   job_stands (Some job) before after result runs t = stands gave (task_by job) (file_of job.files) before after result runs t
 
   mode_gains : (mode : Mode) (job : JobWords) (before after : World) (result : Status) → Runs gave (task_in mode job.clock) (file_of job.files) before after result → Gains (task_in mode job.clock) (file_of job.files) before after result
-  mode_gains Gate job before after result runs = gains gave (gate_task job.clock) (file_of job.files) before after result (load_named gate_takes gate_gives (gate_start job.clock) (roles.Library ∷ roles.Netlist ∷ [])) runs
-  mode_gains Lrat job before after result runs = gains gave lrat_task (file_of job.files) before after result (load_named lrat_takes lrat_gives lrat_start (roles.Formula ∷ roles.Log ∷ [])) runs
+  mode_gains Gate job before after result runs = gains gave (gate_task job.clock) (file_of job.files) before after result (load_named gate_takes gate_stops (gate_start job.clock) (roles.Library ∷ roles.Netlist ∷ [])) runs
+  mode_gains Lrat job before after result runs = gains gave lrat_task (file_of job.files) before after result (load_named lrat_takes lrat_stops lrat_start (roles.Formula ∷ roles.Log ∷ [])) runs
 
   pub job_gains : (job : Option JobWords) (before after : World) (result : Status) → RunsWords gave job before after result → IfSome job (λ j. Gains (task_by j) (file_of j.files) before after result)
   job_gains None before after result runs = tt
@@ -91,11 +91,11 @@ module _ (gave : List ℕ → Result (List ℕ) LoadFault → Type 0) where
   job_others None before after result runs t = tt
   job_others (Some job) before after result runs t = others gave (task_by job) (file_of job.files) before after result runs t
 
-  mode_comes : (mode : Mode) (job : JobWords) (before after : World) (result : Status) → Runs gave (task_in mode job.clock) (file_of job.files) before after result → IsTrue before.tells → IsOrFails (ends_as ((task_in mode job.clock).comes (held_files (file_of job.files) before))) result
-  mode_comes Gate job before after result runs t = completes gave gate_takes gate_gives (gate_start job.clock) (roles.Library ∷ roles.Netlist ∷ []) (file_of job.files) before after result runs t
-  mode_comes Lrat job before after result runs t = completes gave lrat_takes lrat_gives lrat_start (roles.Formula ∷ roles.Log ∷ []) (file_of job.files) before after result runs t
+  mode_comes : (mode : Mode) (job : JobWords) (before after : World) (result : Status) → Runs gave (task_in mode job.clock) (file_of job.files) before after result → IsTrue before.tells → UnlessFails (EndsAs (task_in mode job.clock) (held_files (file_of job.files) before)) result
+  mode_comes Gate job before after result runs t = completes gave gate_takes gate_stops gate_gives (gate_start job.clock) (roles.Library ∷ roles.Netlist ∷ []) (file_of job.files) before after result runs t
+  mode_comes Lrat job before after result runs t = completes gave lrat_takes lrat_stops lrat_gives lrat_start (roles.Formula ∷ roles.Log ∷ []) (file_of job.files) before after result runs t
 
-  pub job_comes : (job : Option JobWords) (before after : World) (result : Status) → RunsWords gave job before after result → IsTrue before.tells → IfSome job (λ j. IsOrFails (ends_as ((task_by j).comes (held_files (file_of j.files) before))) result)
+  pub job_comes : (job : Option JobWords) (before after : World) (result : Status) → RunsWords gave job before after result → IsTrue before.tells → IfSome job (λ j. UnlessFails (EndsAs (task_by j) (held_files (file_of j.files) before)) result)
   job_comes None before after result runs t = tt
   job_comes (Some job) before after result runs t = mode_comes job.mode job before after result runs t
 

@@ -85,19 +85,18 @@ stages_text = codes "stages 0 inserted 0" ++ 10 ∷ []
 abbrev pub gated : Circuit → Output
 gated netlist = record { stores = record { role = roles.Out; bytes = blif netlist } ∷ []; said = stages_text; finish = finishes.Done }
 
--- the mode: it takes a library, takes a netlist, and gives the gated netlist
+-- the mode: it takes a library, takes a netlist, and gives the gated netlist and nothing else; nothing stops it
 abbrev pub gate_takes : Gate → Role → List ℕ → Result Gate Trouble
 gate_takes state roles.Library text = found_as (λ library. record { options = state.options; library = library; netlist = state.netlist }) (library_found text)
 gate_takes state roles.Netlist text =
     found_as (λ netlist. record { options = state.options; library = state.library; netlist = Some netlist }) (netlist_found state.library (state.options).clock text)
 gate_takes state role text = Ok state
 
-abbrev pub given_output : Option Circuit → Result Output Trouble
-given_output None = Err troubles.NoMemory
-given_output (Some netlist) = Ok (gated netlist)
+abbrev pub gate_stops : Gate → Option Trouble
+gate_stops state = None
 
-abbrev pub gate_gives : Gate → Result Output Trouble
-gate_gives state = given_output state.netlist
+abbrev pub gate_gives : Gate → Output → Type 0
+gate_gives state output = IsSomeAnd state.netlist (λ netlist. output ≡ gated netlist)
 
 -- nothing is read yet; the words may name a clock
 abbrev pub gate_start : Option NetName → Gate
@@ -105,7 +104,7 @@ gate_start clock = record { options = record { clock = clock }; library = []; ne
 
 -- what a run of `gate` does: the library is loaded and read, then the netlist
 abbrev pub gate_task : Option NetName → Task
-gate_task clock = task_of gate_takes gate_gives (gate_start clock) (roles.Library ∷ roles.Netlist ∷ [])
+gate_task clock = task_of gate_takes gate_stops gate_gives (gate_start clock) (roles.Library ∷ roles.Netlist ∷ [])
 
 -- A written netlist behaves as the one that was read. It has the registers of that one and the added ones, which start as
 -- told, and the same data inputs and outputs by their names. From each start of the registers and over each waveform that

@@ -1,5 +1,5 @@
 -- What `lrat` makes of a formula and a log, what it says, and what that means.
-use Rattle.std.specs.Prelude.{◌≡◌, ℕ, List, [], ◌∷◌, ◌++◌, codes, decimal, Result, Ok, IsSomeAnd}
+use Rattle.std.specs.Prelude.{◌≡◌, ℕ, List, [], ◌∷◌, ◌++◌, codes, decimal, Option, None, Result, Ok, IsSomeAnd}
 use Rattle.cg_formula.specs.DimacsReading.{dimacs}
 use Rattle.cg_formula.specs.DimacsText.{DimacsText}
 use Rattle.cg_formula.specs.Satisfiable.{IsUnsatisfiable}
@@ -70,21 +70,24 @@ formula_of text = refused_as formula_trouble (dimacs text)
 abbrev pub log_of : List ℕ → Result Log Trouble
 log_of text = refused_as log_trouble (lrat text)
 
--- the mode: it takes a formula, takes a log, and gives the check's output
+-- the mode: it takes a formula, takes a log, and gives the output of the check and no other; nothing stops it
 abbrev pub lrat_takes : Lrat → Role → List ℕ → Result Lrat Trouble
 lrat_takes state roles.Formula text = found_as (λ formula. record { formula = formula; log = state.log }) (formula_of text)
 lrat_takes state roles.Log text = found_as (λ log. record { formula = state.formula; log = log }) (log_of text)
 lrat_takes state role text = Ok state
 
-abbrev pub lrat_gives : Lrat → Result Output Trouble
-lrat_gives state = Ok (check_output (verdict state.formula state.log))
+abbrev pub lrat_stops : Lrat → Option Trouble
+lrat_stops state = None
+
+abbrev pub lrat_gives : Lrat → Output → Type 0
+lrat_gives state output = output ≡ check_output (verdict state.formula state.log)
 
 abbrev pub lrat_start : Lrat
 lrat_start = record { formula = record { variables = 0; clauses = [] }; log = record { steps = [] } }
 
 -- what a run of `lrat` does: the formula is loaded and read, then the log
 abbrev pub lrat_task : Task
-lrat_task = task_of lrat_takes lrat_gives lrat_start (roles.Formula ∷ roles.Log ∷ [])
+lrat_task = task_of lrat_takes lrat_stops lrat_gives lrat_start (roles.Formula ∷ roles.Log ∷ [])
 
 -- A finished check: the bytes under the two names say a formula and a log, what is said is what the check of the log comes
 -- to, and it ends with Done exactly where the log is accepted. Then no assignment satisfies the formula. Nothing is stored.

@@ -3,7 +3,7 @@
 ghost use Rattle.std.specs.Prelude.{◌≡◌, map, None, IsTrue, IfSome};
 ghost use Rattle.std.specs.String.{string_bytes};
 ghost use Rattle.cg_run.specs.Names.{file_of, name_of};
-ghost use Rattle.cg_run.specs.Promise.{Ended, FinishBy, Gains, IsOrFails, KeepsOthers, Stands, ends_as, held_files};
+ghost use Rattle.cg_run.specs.Promise.{Ended, EndsAs, FinishBy, Gains, KeepsOthers, Stands, UnlessFails, held_files};
 ghost use Rattle.cg_run.specs.Reads.{Gave};
 ghost use Rattle.cg_run.specs.Run.{Runs};
 ghost use Rattle.cg_tool.specs.CommandLine.{job_of, job_words};
@@ -20,7 +20,7 @@ use std::alloc::Global;
 
 /// Does what the words of a command line ask for, over the shelf, and answers how that ended.
 pub fn run<S: Shelf>(alloc: Global, words: &[String], shelf: &mut S) -> Status
-    // What the run did: its calls in order, what each file gave and what these files come to, and what stands.
+    // What the run did: its calls in order, what each file gave, the one output that it put out, and what stands.
     ensures runs { RunsWords (Gave S.gives) (job_of (map string_bytes words.now)) (S.world shelf.old) (S.world shelf.new) result }
 
     // Usage comes exactly of words that are no job.
@@ -46,7 +46,7 @@ pub fn run<S: Shelf>(alloc: Global, words: &[String], shelf: &mut S) -> Status
 
     // Where no call of the shelf fails and memory is there, a job ends as its files come to.
     ensures comes { IsTrue (S.world shelf.old).tells → IfSome (job_of (map string_bytes words.now))
-        (λ job. IsOrFails (ends_as ((task_by job).comes (held_files (file_of job.files) (S.world shelf.old)))) result) }
+        (λ job. UnlessFails (EndsAs (task_by job) (held_files (file_of job.files) (S.world shelf.old))) result) }
 
     // `gate` writes a netlist that behaves as the one that it read.
     ensures gated { IsTrue (S.world shelf.old).tells → IfSome (job_of (map string_bytes words.now))

@@ -9,7 +9,7 @@ ghost use Rattle.cg_run.specs.Promise.{FinishBy};
 ghost use Rattle.cg_run.specs.Reads.{Gave};
 ghost use Rattle.cg_run.specs.Run.{Runs};
 ghost use Rattle.cg_run.specs.Verdict.{Answers};
-ghost use Rattle.cg_tool.specs.Gate.{IsGated, gate_gives, gate_start, gate_takes, gate_task, gated, library_found, library_trouble, net_trouble, netlist_found, netlist_read, ungated};
+ghost use Rattle.cg_tool.specs.Gate.{IsGated, gate_gives, gate_start, gate_stops, gate_takes, gate_task, gated, library_found, library_trouble, net_trouble, netlist_found, netlist_read, ungated};
 ghost use Rattle.cg_tool.specs.NetlistSaid.{IsFaultOf, netlist_said};
 
 use cg_blif::{BlifFault, BlifOptions, read_blif};
@@ -50,6 +50,8 @@ impl Gate {
 
 impl Mode for Gate {
     ghost takes = { gate_takes };
+
+    ghost stops = { gate_stops };
 
     ghost gives = { gate_gives };
 

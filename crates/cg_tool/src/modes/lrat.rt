@@ -6,7 +6,7 @@ ghost use Rattle.cg_run.specs.Promise.{FinishBy};
 ghost use Rattle.cg_run.specs.Reads.{Gave};
 ghost use Rattle.cg_run.specs.Run.{Runs};
 ghost use Rattle.cg_run.specs.Verdict.{Answers};
-ghost use Rattle.cg_tool.specs.Lrat.{IsChecked, cause_text, check_finish, check_text, formula_of, log_of, lrat_gives, lrat_start, lrat_takes, lrat_task};
+ghost use Rattle.cg_tool.specs.Lrat.{IsChecked, cause_text, check_finish, check_text, formula_of, log_of, lrat_gives, lrat_start, lrat_stops, lrat_takes, lrat_task};
 
 use cg_formula::{DimacsFault, Formula, read_dimacs};
 use cg_list::Seq;
@@ -45,6 +45,8 @@ impl Lrat {
 
 impl Mode for Lrat {
     ghost takes = { lrat_takes };
+
+    ghost stops = { lrat_stops };
 
     ghost gives = { lrat_gives };
 

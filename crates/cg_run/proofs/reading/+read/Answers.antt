@@ -13,25 +13,25 @@ returns-in_err-bytes-in-Some g t c =
     let p = err_from_is_err_and c.from_residual-in_err-bytes-in-Some.result c.from_residual-in_err-bytes-in-Some.ensures.1 in
     let is : c.args.loads.now ≡ c.in-Some.role.now ∷ c.in-Some.rest.now = c.in-Some.ensures.cases.0 in
     let D : List Role → Type 0 = λ l. IsTrue (are_distinct l) in
-    rw (p.1, p.2, is) (reads_unloaded (Gave g.S.Shelf.gives) g.M.Mode.takes g.M.Mode.gives (name_of c.args.names.now) c.args.mode c.in-Some.role.now c.in-Some.rest.now (g.S.Shelf.world c.args.shelf.now) (g.S.Shelf.world c.load.new.shelf) _ (subst D is c.requires.distinct) c.in_err-bytes-in-Some.ensures)
+    rw (p.1, p.2, is) (reads_unloaded (Gave g.S.Shelf.gives) g.M.Mode.takes g.M.Mode.stops g.M.Mode.gives (name_of c.args.names.now) c.args.mode c.in-Some.role.now c.in-Some.rest.now (g.S.Shelf.world c.args.shelf.now) (g.S.Shelf.world c.load.new.shelf) _ (subst D is c.requires.distinct) c.in_err-bytes-in-Some.ensures)
 
 pub returns-in_err-next-in-Some : goal.returns-in_err-next-in-Some
 returns-in_err-next-in-Some g t c =
     let p = err_from_is_err_and c.from_residual-in_err-next-in-Some.result c.from_residual-in_err-next-in-Some.ensures.1 in
     let is : c.args.loads.now ≡ c.in-Some.role.now ∷ c.in-Some.rest.now = c.in-Some.ensures.cases.0 in
     let D : List Role → Type 0 = λ l. IsTrue (are_distinct l) in
-    rw (p.1, p.2, is) (reads_untaken (Gave g.S.Shelf.gives) g.M.Mode.takes g.M.Mode.gives (name_of c.args.names.now) c.args.mode c.in-Some.role.now c.in-Some.rest.now (g.S.Shelf.world c.args.shelf.now) (g.S.Shelf.world c.load.new.shelf) c.in_ok-bytes-in-Some.bytes c.in_err-next-in-Some.field-0.0 (subst D is c.requires.distinct) c.in_ok-bytes-in-Some.ensures c.in_err-next-in-Some.ensures)
+    rw (p.1, p.2, is) (reads_untaken (Gave g.S.Shelf.gives) g.M.Mode.takes g.M.Mode.stops g.M.Mode.gives (name_of c.args.names.now) c.args.mode c.in-Some.role.now c.in-Some.rest.now (g.S.Shelf.world c.args.shelf.now) (g.S.Shelf.world c.load.new.shelf) c.in_ok-bytes-in-Some.bytes c.in_err-next-in-Some.field-0.0 (subst D is c.requires.distinct) c.in_ok-bytes-in-Some.ensures c.in_err-next-in-Some.ensures)
 
 pub returns-in_err-finish-in-None : goal.returns-in_err-finish-in-None
 returns-in_err-finish-in-None g t c =
     let p = err_from_is_err_and c.from_residual.result c.from_residual.ensures.1 in
-    rw (p.1, p.2, empty_list c.args.loads.now c.in-None.ensures.cases) (reads_end (Gave g.S.Shelf.gives) g.M.Mode.takes g.M.Mode.gives (name_of c.args.names.now) c.args.mode (g.S.Shelf.world c.args.shelf.now) (Err c.in_err-finish-in-None.field-0.0) c.in_err-finish-in-None.ensures)
+    rw (p.1, p.2, empty_list c.args.loads.now c.in-None.ensures.cases) (reads_end (Gave g.S.Shelf.gives) g.M.Mode.takes g.M.Mode.stops g.M.Mode.gives (name_of c.args.names.now) c.args.mode (g.S.Shelf.world c.args.shelf.now) (Err c.in_err-finish-in-None.field-0.0) c.in_err-finish-in-None.ensures)
 
 pub returns-in_ok-finish-in-None : goal.returns-in_ok-finish-in-None
-returns-in_ok-finish-in-None g t c = rw (empty_list c.args.loads.now c.in-None.ensures.cases) (reads_end (Gave g.S.Shelf.gives) g.M.Mode.takes g.M.Mode.gives (name_of c.args.names.now) c.args.mode (g.S.Shelf.world c.args.shelf.now) (Ok _) c.in_ok-finish-in-None.ensures)
+returns-in_ok-finish-in-None g t c = rw (empty_list c.args.loads.now c.in-None.ensures.cases) (reads_end (Gave g.S.Shelf.gives) g.M.Mode.takes g.M.Mode.stops g.M.Mode.gives (name_of c.args.names.now) c.args.mode (g.S.Shelf.world c.args.shelf.now) (Ok _) c.in_ok-finish-in-None.ensures)
 
 pub returns-in_ok-next-in-Some : goal.returns-in_ok-next-in-Some
 returns-in_ok-next-in-Some g t c =
     let is : c.args.loads.now ≡ c.in-Some.role.now ∷ c.in-Some.rest.now = c.in-Some.ensures.cases.0 in
     let D : List Role → Type 0 = λ l. IsTrue (are_distinct l) in
-    rw is (reads_on (Gave g.S.Shelf.gives) g.M.Mode.takes g.M.Mode.gives (name_of c.args.names.now) c.args.mode c.in_ok-next-in-Some.next c.in-Some.role.now c.in-Some.rest.now (g.S.Shelf.world c.args.shelf.now) (g.S.Shelf.world c.load.new.shelf) (g.S.Shelf.world c.read.new.shelf) c.in_ok-bytes-in-Some.bytes c.read.result (subst D is c.requires.distinct) c.in_ok-bytes-in-Some.ensures c.in_ok-next-in-Some.ensures c.read.ensures)
+    rw is (reads_on (Gave g.S.Shelf.gives) g.M.Mode.takes g.M.Mode.stops g.M.Mode.gives (name_of c.args.names.now) c.args.mode c.in_ok-next-in-Some.next c.in-Some.role.now c.in-Some.rest.now (g.S.Shelf.world c.args.shelf.now) (g.S.Shelf.world c.load.new.shelf) (g.S.Shelf.world c.read.new.shelf) c.in_ok-bytes-in-Some.bytes c.read.result (subst D is c.requires.distinct) c.in_ok-bytes-in-Some.ensures c.in_ok-next-in-Some.ensures c.read.ensures)

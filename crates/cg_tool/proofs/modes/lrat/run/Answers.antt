@@ -7,7 +7,7 @@ use Rattle.cg_run.specs.Run.{Runs}
 use Rattle.cg_run.specs.Verdict.{task_of}
 use Rattle.cg_run.proofs.Finished.{Finishes, finish_map, finished_so}
 use Rattle.cg_tool.specs.declared.modes.lrat.Lrat.{Lrat}
-use Rattle.cg_tool.specs.Lrat.{IsChecked, lrat_gives, lrat_takes, lrat_task}
+use Rattle.cg_tool.specs.Lrat.{IsChecked, lrat_gives, lrat_stops, lrat_takes, lrat_task}
 use Rattle.cg_tool.proofs.LratMeans.{checked}
 use Rattle.cg_tool.proofs.modes.lrat.run.Goals as goal
 
@@ -18,8 +18,8 @@ returns g c =
     let before = g.S.Shelf.world c.args.shelf.now in
     let after = g.S.Shelf.world c.drive.new.shelf in
     let files = roles.Formula ∷ roles.Log ∷ [] in
-    let R : Lrat → Type 0 = λ start. Runs gave (task_of lrat_takes lrat_gives start files) names before after c.drive.result in
-    let E : Lrat → Type 0 = λ start. Ended gave (task_of lrat_takes lrat_gives start files) names before after c.drive.result in
+    let R : Lrat → Type 0 = λ start. Runs gave (task_of lrat_takes lrat_stops lrat_gives start files) names before after c.drive.result in
+    let E : Lrat → Type 0 = λ start. Ended gave (task_of lrat_takes lrat_stops lrat_gives start files) names before after c.drive.result in
     let ended : Ended gave lrat_task names before after c.drive.result = subst E c.start.ensures c.drive.ensures.ended in
     record {
       runs = subst R c.start.ensures c.drive.ensures.runs;

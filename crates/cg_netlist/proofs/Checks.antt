@@ -1,8 +1,8 @@
 -- What each check finds is the first net that fails it.
-use Rattle.std.proofs.Common.{◌≡◌, ◌≢◌, ℕ, zero, suc, ◌+◌, ◌<◌, ◌≤◌, Bool, true, false, not, ◌&&◌, ◌||◌, nat_eq, nat_lt, List, [], ◌∷◌, ◌++◌, Option, Some, None, is_none, length, map, min, refl, sym, ap, ◌∙◌, subst, arith, inl, inr, IfOk, Result, Ok, Err}
-use Rattle.std.specs.List.{All, AllByRecursion, list_any, range_with_len, slice_get}
+use Rattle.std.proofs.Common.{◌≡◌, ℕ, zero, suc, ◌+◌, ◌<◌, ◌≤◌, Bool, false, not, ◌&&◌, ◌||◌, nat_lt, List, [], ◌∷◌, ◌++◌, Option, Some, None, is_none, length, refl, sym, ap, ◌∙◌, subst, arith, inl, inr, IfOk, Result, Ok, Err}
+use Rattle.std.specs.List.{All, AllByRecursion, list_any, slice_get}
 use Rattle.std.specs.Option.{option_map_or}
-use Rattle.std.proofs.lemmas.Bool.{and_from, and_parts, both_ways, cases_Bool, cases_lt, or_cases, or_left, or_parts, or_right, eqb-true, eq-eqb, ltb-true, lt-ltb}
+use Rattle.std.proofs.lemmas.Bool.{cases_lt, or_left, or_right}
 use Rattle.std.proofs.lemmas.List.FromFn.{get_or-map-range_with_len, length-map-range_with_len}
 use Rattle.std.proofs.lemmas.List.{length-append}
 use Rattle.std.proofs.lemmas.Option.{same_Some}
@@ -10,7 +10,8 @@ use Rattle.cg_netlist.specs.Circuit.{GatingCell, LogicCell, is_in}
 use Rattle.cg_netlist.specs.Marks.{IsFirst, IsTable, is_marked, marked_before}
 use Rattle.cg_netlist.specs.Ranking.{IsGraph, entry}
 use Rattle.cg_netlist.specs.Ranks.{driving_cell, rank_of, ranks_of}
-use Rattle.cg_netlist.specs.inner.Finishing.{chain, is_unranked}
+use Rattle.cg_netlist.specs.Chains.{chain}
+use Rattle.cg_netlist.specs.inner.Finishing.{is_unranked}
 use Rattle.cg_netlist.specs.inner.Numbers.{CellWithin, GaterWithin}
 use Rattle.cg_netlist.proofs.CheckLemmas.{before_is, first_within}
 use Rattle.cg_netlist.proofs.MarkLemmas.{same_first}

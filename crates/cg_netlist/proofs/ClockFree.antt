@@ -1,6 +1,6 @@
 -- Nets other than the clock do not follow the clock's bit: where nets settle with the clock high, they settle with it low
 -- once its own bit is cleared.
-use Rattle.std.proofs.Common.{◌≡◌, ℕ, ◌<◌, Bool, true, false, List, ◌++◌, length, slice_get, slice_set, Option, None, Some, refl, ap, sym, ◌∙◌, subst, inl, inr, arith}
+use Rattle.std.proofs.Common.{◌≡◌, ◌≢◌, ℕ, ◌<◌, Bool, true, false, List, ◌++◌, length, slice_get, slice_set, Option, None, Some, refl, ap, sym, ◌∙◌, subst, inl, inr, arith}
 use Rattle.std.proofs.lemmas.Bool.{both_ways}
 use Rattle.std.proofs.lemmas.List.{length-set}
 use Rattle.std.proofs.lemmas.Option.{same_Some}
@@ -19,6 +19,7 @@ pub record Lowers (c : Circuit) (inputs state gates nets : List Bool) : Type 0 w
   pub low : List Bool
   pub settles : Settles c false inputs state gates low
   pub same : (x : ℕ) → is_in (used_nets c) x ≡ true → slice_get low x ≡ slice_get nets x
+  pub apart : (x : ℕ) → c.clock ≢ Some x → slice_get low x ≡ slice_get nets x
 
 module _ (c : Circuit) (good : IsWellFormed c) (inputs state gates : List Bool) where
   module _ (clk : ℕ) (is : c.clock ≡ Some clk) (nets : List Bool) (clock : Bool) (settles : Settles c clock inputs state gates nets) where
@@ -67,6 +68,7 @@ module _ (c : Circuit) (good : IsWellFormed c) (inputs state gates : List Bool) 
             other cell.output out ∙ (settles.holds k cell at ∙ ap (λ bits. Some (function_value cell.function bits)) (sym (same_values (slice_set nets clk false) nets cell.inputs (λ x among. other x (unused x (input_is_used c k x cell at among))))));
       };
       same = λ x among. other x (unused x among);
+      apart = λ x differ. other x (λ e. differ (is ∙ ap Some (sym e)));
     }
 
   pub lowers : (nets : List Bool) (clock : Bool) → Settles c clock inputs state gates nets → Lowers c inputs state gates nets
@@ -74,4 +76,4 @@ module _ (c : Circuit) (good : IsWellFormed c) (inputs state gates : List Bool) 
     where
       go : (o : Option ℕ) → c.clock ≡ o → Lowers c inputs state gates nets
       go (Some clk) is = lowers_at clk is nets clock settles
-      go None is = record { low = nets; settles = record { long = settles.long; shows_clock = λ net at. absurd (let z : None ≡ Some net = sym is ∙ at in cc); shows_inputs = settles.shows_inputs; shows_gates = settles.shows_gates; shows_state = settles.shows_state; holds = settles.holds }; same = λ x among. refl }
+      go None is = record { low = nets; settles = record { long = settles.long; shows_clock = λ net at. absurd (let z : None ≡ Some net = sym is ∙ at in cc); shows_inputs = settles.shows_inputs; shows_gates = settles.shows_gates; shows_state = settles.shows_state; holds = settles.holds }; same = λ x among. refl; apart = λ x differ. refl }

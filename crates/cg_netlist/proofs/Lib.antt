@@ -2,6 +2,7 @@ pub mod AddedParts
 pub mod ByRank
 pub mod CanonicalNames
 pub mod CanonicalSays
+pub mod CellFits
 pub mod CheckLemmas
 pub mod Checks
 pub mod ClockFree
@@ -9,6 +10,7 @@ pub mod Clocks
 pub mod DraftLemmas
 pub mod DraftNets
 pub mod Driven
+pub mod DriverTable
 pub mod Faultless
 pub mod Finished
 pub mod FirstFaults
@@ -38,6 +40,7 @@ pub mod PlacedStatements
 pub mod RankLemmas
 pub mod RankingLemmas
 pub mod ReadyNumbers
+pub mod RegisterNext
 pub mod Renamed
 pub mod Renumbered
 pub mod Rising
@@ -53,8 +56,10 @@ pub mod Telling
 pub mod ToldNets
 pub mod Used
 pub mod Values
+pub mod WalkLawsHold
 pub mod WalkOrder
 pub mod Walked
+pub mod Walks
 pub mod WidthLemmas
 pub mod WritableParts
 pub mod WrittenLines

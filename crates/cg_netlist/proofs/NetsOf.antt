@@ -32,7 +32,7 @@ beside_at f (n ∷ nets) x among = go (beside_at f nets x) (nat_eq x n) refl amo
     go later false there inside = later inside
 
 -- cells that are put in an order, where the nets of none of them are already as they should be
-put_same : (cells : List (LogicCell ℕ)) (table vs : List Bool) → length table ≡ length vs → CellsHold cells vs → IsOrdered cells
+pub put_same : (cells : List (LogicCell ℕ)) (table vs : List Bool) → length table ≡ length vs → CellsHold cells vs → IsOrdered cells
     → ((x : ℕ) → is_in (outputs cells) x ≡ false → slice_get table x ≡ slice_get vs x) → put_cells cells table ≡ vs
 put_same [] table vs long holds ordered same = same_places table vs long (λ k below. same k refl)
 put_same (cell ∷ cells) table vs long holds ordered same =

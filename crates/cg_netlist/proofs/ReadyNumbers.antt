@@ -1,23 +1,23 @@
 -- Parts without a fault make a netlist by their numbers.
-use Rattle.std.proofs.Common.{◌≡◌, ◌≢◌, ◌⊎◌, ℕ, zero, suc, ◌+◌, ◌<◌, ◌≤◌, ◌==◌, Bool, true, false, cond, nat_eq, List, [], ◌∷◌, ◌++◌, Option, Some, None, map, length, slice_get, is_none, refl, sym, ap, ◌∙◌, subst, arith}
-use Rattle.std.specs.List.{AllByRecursion, AllPairs, IsDistinct, cons_option, filter_map, position_from}
+use Rattle.std.proofs.Common.{◌≡◌, ◌≢◌, ℕ, zero, suc, ◌+◌, ◌<◌, ◌==◌, true, false, cond, List, [], ◌∷◌, ◌++◌, Option, Some, None, map, length, slice_get, is_none, refl, ap, ◌∙◌, subst, arith}
+use Rattle.std.specs.List.{AllByRecursion, AllPairs, cons_option, filter_map, position_from}
 use Rattle.std.specs.Option.{option_map, option_map_or, option_to_list}
 use Rattle.std.specs.Str.{bytes_eq}
 use Rattle.std.proofs.lemmas.List.{length-map}
 use Rattle.std.proofs.lemmas.Option.{slice_get-map}
-use Rattle.cg_netlist.specs.Circuit.{Circuit, GatingCell, LogicCell, RegisterCell}
+use Rattle.cg_netlist.specs.Circuit.{Circuit, GatingCell, LogicCell}
 use Rattle.cg_netlist.specs.Names.{is_known}
 use Rattle.cg_netlist.specs.Netlist.{IsNetlist}
 use Rattle.cg_netlist.specs.Ranks.{driving_cell, driving_cells, next_rank, rank_of, rank_within}
-use Rattle.cg_netlist.specs.inner.Finishing.{chain, chain_cell, is_unranked}
+use Rattle.cg_netlist.specs.Chains.{chain, chain_cell}
+use Rattle.cg_netlist.specs.inner.Finishing.{is_unranked}
 use Rattle.cg_netlist.specs.inner.Heard.{IsHeard, IsReady}
-use Rattle.cg_netlist.specs.inner.Numbers.{Numbers, driving_gater, gate_above, gate_rank, made_of, ordered_numbers, roots_by, seen, wired_numbers}
+use Rattle.cg_netlist.specs.inner.Numbers.{Numbers, driving_gater, gate_above, gate_rank, made_of, ordered_numbers, roots_by, wired_numbers}
 use Rattle.cg_netlist.specs.said.Faults.{IsFaultless}
 use Rattle.cg_netlist.specs.said.Part.{Part, wired}
 use Rattle.cg_netlist.specs.said.Said.{Said, said}
 use Rattle.cg_netlist.specs.said.Says.{Says, netlist_of}
-use Rattle.cg_netlist.specs.said.Wiring.{NetName, Wiring, named, net_name}
-use Rattle.cg_netlist.specs.WellFormed.{IsWellFormed}
+use Rattle.cg_netlist.specs.said.Wiring.{NetName, Wiring, net_name}
 use Rattle.cg_netlist.specs.said.Part as parts_of
 use Rattle.cg_netlist.proofs.RankLemmas.{next_rank-agree}
 use Rattle.cg_netlist.proofs.said.AtLeastOne.{says_made}

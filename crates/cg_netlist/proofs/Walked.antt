@@ -1,15 +1,15 @@
 -- What the search for ranks asks of the logic cells of a well-formed netlist.
-use Rattle.std.proofs.Common.{◌≡◌, ℕ, ◌+◌, ◌<◌, Bool, true, false, cond, List, [], ◌∷◌, length, slice_get, Option, Some, None, get_or, refl, sym, ◌∙◌, ap, subst, arith}
+use Rattle.std.proofs.Common.{◌≡◌, ℕ, ◌+◌, ◌<◌, Bool, true, false, cond, List, [], ◌∷◌, length, slice_get, Option, Some, None, get_or, refl, sym, ◌∙◌, subst, arith}
 use Rattle.std.specs.List.{All, position_from}
-use Rattle.std.proofs.lemmas.Option.{same_Some, slice_get-get_or, slice_get_within}
-use Rattle.cg_netlist.specs.Circuit.{Circuit, LogicCell, cell_nets, given_nets, is_in, used_nets}
+use Rattle.std.proofs.lemmas.List.Elements.{All-get_or}
+use Rattle.std.proofs.lemmas.Option.{get_or_from_slice_get, same_Some, slice_get-get_or, slice_get_within}
+use Rattle.cg_netlist.specs.Circuit.{Circuit, LogicCell}
+use Rattle.cg_netlist.specs.Netlist.{IsNetlist}
 use Rattle.cg_netlist.specs.Ranking.{IsGraph, entry}
 use Rattle.cg_netlist.specs.Ranks.{driving_cell}
-use Rattle.cg_netlist.specs.WellFormed.{IsWellFormed}
-use Rattle.cg_netlist.proofs.Given.{driver_within}
-use Rattle.cg_netlist.proofs.Members.{All-from_members, All-member, is_in_right, member_at}
-use Rattle.cg_netlist.proofs.Used.{input_is_used}
-use Rattle.cg_netlist.proofs.Values.{at_map}
+use Rattle.cg_netlist.specs.inner.Walking.{IsLevelled}
+use Rattle.cg_netlist.proofs.CellFits.{cell_fits}
+use Rattle.cg_netlist.proofs.OrderLemmas.{cells_within}
 
 first_within : (test : LogicCell ℕ → Bool) (a : ℕ) (cells : List (LogicCell ℕ)) (k : ℕ) → position_from test a cells ≡ Some k → k < a + length cells
 first_within test a [] k is = absurd (cc)
@@ -26,22 +26,18 @@ entry_below table net k is = go (slice_get table net) refl is
     go None at none = absurd (cc)
     go (Some x) at some = slice_get_within table net x at
 
-module _ (c : Circuit) (formed : IsWellFormed c) (cells : List (LogicCell ℕ)) (are : cells ≡ c.cells) where
-  placed : (k : ℕ) (cell : LogicCell ℕ) → slice_get cells k ≡ Some cell → slice_get c.cells k ≡ Some cell
-  placed k cell at = ap (λ cs. slice_get cs k) (sym are) ∙ at
+-- the table of the cells that drive the nets serves the search
+pub levelled_graph : (n : ℕ) (cells : List (LogicCell ℕ)) → IsLevelled n cells → (drivers : List (Option ℕ)) → length drivers ≡ n → ((net : ℕ) → net < n → entry drivers net ≡ driving_cell cells net) → IsGraph drivers cells
+levelled_graph n cells levelled drivers fits tells = record {
+  driving = λ net k is. omega (arith, first_within _ 0 cells k (sym (tells net (omega (arith, entry_below drivers net k is, fits))) ∙ is));
+  nets = λ k cell at. subst (λ m. All (λ net. net < m) cell.inputs) (sym fits)
+      (subst (λ (x : LogicCell ℕ). All (λ net. net < n) x.inputs) (get_or_from_slice_get cells k cell cell at) (All-get_or (λ (x : LogicCell ℕ). All (λ net. net < n) x.inputs) cells k cell (slice_get_within cells k cell at) levelled.inputs));
+}
 
-  pub outputs_within : (n : ℕ) → n ≡ length c.names → All (λ cell. cell.output < n) cells
-  outputs_within n is k d below =
-      let cell : LogicCell ℕ = get_or cells k d in
-      let at : slice_get c.cells k ≡ Some cell = placed k cell (slice_get-get_or cells k d below) in
-      let among : is_in (cell_nets c) cell.output ≡ true = member_at (cell_nets c) k cell.output (at_map (λ (x : LogicCell ℕ). x.output) c.cells k cell at) in
-      let small = driver_within c formed.driven cell.output (is_in_right (given_nets c) (cell_nets c) cell.output among) in
-      omega (arith, small, is)
-
-  pub is_walk_graph : (drivers : List (Option ℕ)) → length drivers ≡ length c.names → ((net : ℕ) → net < length drivers → entry drivers net ≡ driving_cell cells net) → IsGraph drivers cells
-  is_walk_graph drivers fits tells = record {
-    driving = λ net k is. omega (arith, first_within _ 0 cells k (sym (tells net (entry_below drivers net k is)) ∙ is));
-    nets = λ k cell at. All-from_members (λ net. net < length drivers) cell.inputs (λ net among.
-        let small = All-member (λ net. net < length c.names) (used_nets c) net formed.used (input_is_used c k net cell (placed k cell at) among) in
-        omega (arith, small, fits));
-  }
+-- the logic cells of a netlist may be searched
+pub cells_levelled : (c : Circuit) → IsNetlist c → (n : ℕ) → n ≡ length c.names → IsLevelled n c.cells
+cells_levelled c good n is = record {
+  few = omega (arith, cells_within c good.in_order, good.nets);
+  outputs = λ k d below. let fits = cell_fits c good k (get_or c.cells k d) (slice_get-get_or c.cells k d below) in omega (arith, fits.output, is);
+  inputs = λ k d below. let fits = cell_fits c good k (get_or c.cells k d) (slice_get-get_or c.cells k d below) in subst (λ m. All (λ net. net < m) (get_or c.cells k d).inputs) (sym is) fits.inputs;
+}

@@ -1,9 +1,11 @@
 pub mod BlifText
 pub mod Calls
 pub mod Canonical
+pub mod Chains
 pub mod Circuit
 pub mod Draft
 pub mod Drafted
+pub mod Drivers
 pub mod Finish
 pub mod History
 pub mod LogicalLines
@@ -20,6 +22,8 @@ pub mod Ranks
 pub mod Says
 pub mod Statements
 pub mod View
+pub mod Walk
+pub mod WalkLaws
 pub mod WellFormed
 pub mod Writable
 pub mod inner

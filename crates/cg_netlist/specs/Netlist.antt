@@ -1,7 +1,7 @@
 -- What is true of every netlist that the program holds.
-use Rattle.std.specs.Prelude.{◌≡◌, ℕ, ◌<◌, ◌≤◌, ◌^◌, max, List, [], ◌∷◌, length}
+use Rattle.std.specs.Prelude.{ℕ, ◌<◌, ◌≤◌, ◌^◌, max, List, [], ◌∷◌, length}
 use Rattle.std.specs.List.{All}
-use Rattle.cg_netlist.specs.Circuit.{Circuit, LogicCell, data_inputs}
+use Rattle.cg_netlist.specs.Circuit.{Circuit, LogicCell}
 use Rattle.cg_netlist.specs.WellFormed.{IsWellFormed, IsInNetOrder}
 
 -- the greatest number of inputs of a logic cell
@@ -16,9 +16,3 @@ pub record IsNetlist (c : Circuit) : Type 0 where
   pub nets : length c.names ≤ 1048576
   pub registers : length c.registers ≤ 65536
   pub inputs : All (λ cell. length cell.inputs < 2 ^ 32) c.cells
-
--- a netlist, and what is kept beside it: the data inputs and the greatest number of inputs
-pub record IsKept (c : Circuit) (kept : List ℕ) (greatest : ℕ) : Type 0 where
-  pub netlist : IsNetlist c
-  pub inputs : kept ≡ data_inputs c
-  pub widest : greatest ≡ widest_of c.cells

@@ -18,6 +18,10 @@ has_rank cells rank k = option_map_or (λ r. r == rank) (rank_of cells k) false
 abbrev pub walk_order : List (LogicCell ℕ) → List ℕ
 walk_order cells = let numbers = range_with_len 0 (length cells) in flat_map (λ rank. filter (has_rank cells rank) numbers) numbers
 
+-- the cells in walk order
+abbrev pub walked : List (LogicCell ℕ) → List (LogicCell ℕ)
+walked cells = values_at cells (walk_order cells)
+
 -- no input of a cell is an output of the cell or of one behind it
 abbrev pub IsOrdered : List (LogicCell ℕ) → Type 0
 IsOrdered [] = Unit {0}

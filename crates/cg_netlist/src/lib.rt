@@ -22,26 +22,35 @@
 //! - `told`: the parts that a builder was told, with their nets in net order.
 //! - `finish`: the faults of what was built, in order.
 //! - `view`: what a netlist shows of one of its parts.
+//! - `levels`: the logic cells in an order in which each stands behind those that drive its inputs.
+//! - `driver`: what drives each net.
 //! - `netlist`: well-formed netlists, and what they answer.
+//! - `walk`: walks over the logic cells.
+//! - `next`: the next bits of registers.
+//! - `chains`: the gating cells in an order in which each stands behind the one that drives its clock pin.
+//! - `walk_laws`: what is true of walk order, and of the bits that a walk leaves.
 //! - `part_laws`: what is true of parts by name, of their faults, and of the netlists that they say.
-//! - `walk`: the logic cells in an order in which each stands behind those that drive its inputs.
 //! - `history`: that a netlist has one history for each start and waveform.
 #![tactic(auto)]
 
 mod adding;
 pub mod builder;
+mod chains;
 pub mod draft_builder;
 mod draft_finish;
 mod draft_nets;
+pub mod driver;
 pub mod fault;
 mod finish;
 pub mod history;
 pub mod id;
+mod levels;
 mod marks;
 mod mention;
 mod names;
 mod net_set;
 pub mod netlist;
+mod next;
 mod order;
 pub mod part_laws;
 pub mod parts;
@@ -51,4 +60,5 @@ mod renumber;
 mod tests;
 mod told;
 pub mod view;
-pub mod walk;
+mod walk;
+pub mod walk_laws;

@@ -3,13 +3,19 @@
 ghost use Rattle.std.specs.Prelude.{◌≡◌, ◌<◌, ◌^◌, ℕ, Some, false, not, length, slice_get, IfOk, MatchOption};
 ghost use Rattle.std.specs.List.{All, filter};
 ghost use Rattle.std.specs.Option.{option_to_list};
-ghost use Rattle.cg_netlist.specs.Circuit.{data_inputs, is_in};
+ghost use Rattle.cg_netlist.specs.Circuit.{LogicCell, data_inputs, is_in};
+ghost use Rattle.cg_netlist.specs.Drivers.{IsDriver};
+ghost use Rattle.cg_netlist.specs.Moment.{function_value};
 ghost use Rattle.cg_netlist.specs.Names.{is_known};
 ghost use Rattle.cg_netlist.specs.Netlist.{IsNetlist, widest_of};
+ghost use Rattle.cg_netlist.specs.Nets.{walk_order};
+ghost use Rattle.cg_netlist.specs.Walk.{IsCellCall};
 ghost use Rattle.cg_netlist.specs.View.{cell_seen, gater_seen, register_seen};
 
+use crate::driver::{Driver, drivers};
 use crate::id::{CellId, GateClockId, NetId, RegId};
-use crate::parts::{Logic, Parts};
+use crate::levels::walk_order;
+use crate::parts::{Gater, Logic, Parts};
 use crate::view::{CellView, GaterView, RegView};
 use std::alloc::{AllocError, Global};
 use std::marker::Model;
@@ -24,13 +30,15 @@ pub struct Netlist {
     parts: Parts,
     data_inputs: Vec<NetId>,
     widest: u32,
+    order: Vec<CellId>,
+    drivers: Vec<Driver>,
 }
 
 impl Model for Netlist {
     ghost use Rattle.std.specs.Coded.{codes};
     ghost use Rattle.cg_cell.specs.TermCode.{term_code};
     ghost use Rattle.cg_netlist.specs.Circuit.{Circuit};
-    ghost use Rattle.cg_netlist.specs.Netlist.{IsKept};
+    ghost use Rattle.cg_netlist.specs.inner.Kept.{IsKept};
 
     ghost Value = { Circuit };
 
@@ -38,7 +46,7 @@ impl Model for Netlist {
 
     ghost view = { λ n. n.parts };
 
-    ghost invariant = { λ n. IsKept n.parts n.data_inputs.items n.widest };
+    ghost invariant = { λ n. IsKept n.parts n.data_inputs.items n.widest n.order.items n.drivers.items };
 }
 
 impl Netlist {
@@ -49,10 +57,14 @@ impl Netlist {
     {
         let data_inputs = inputs_without(alloc, &parts.inputs, &parts.clock)?;
         let widest = widest(&parts.cells);
+        let order = walk_order(alloc, parts.names.len(), &parts.cells)?;
+        let drivers = drivers(alloc, &parts)?;
         Ok(Netlist {
             parts,
             data_inputs,
             widest,
+            order,
+            drivers,
         })
     }
 
@@ -185,12 +197,40 @@ impl Netlist {
         parts.gaters[id.number() as usize].view()
     }
 
-    /// The logic cells, as they are kept.
-    pub(crate) fn logic(&self) -> &[Logic]
-        ensures { result.now ≡ self.now.cells }
+    /// The gating cells, as they are kept.
+    pub(crate) fn gating(&self) -> &[Gater]
+        ensures { result.now ≡ self.now.gaters }
     {
         let parts = &self.parts;
-        &parts.cells
+        &parts.gaters
+    }
+
+    /// The value of a logic cell's function at bits of its inputs.
+    pub fn value(&self, id: CellId, bits: &[bool]) -> bool
+        requires { IsCellCall self.now id bits.now }
+        ensures { (cell : LogicCell ℕ) → slice_get self.now.cells id ≡ Some cell → result ≡ function_value cell.function bits.now }
+    {
+        let parts = &self.parts;
+        let cell = &parts.cells[id.number() as usize];
+        cell.function.view().value(bits)
+    }
+
+    /// The logic cells in walk order: by rank, where a cell has a higher rank than those that drive its inputs, and those
+    /// of one rank by number.
+    pub fn order(&self) -> &[CellId]
+        ensures order { result.now ≡ walk_order self.now.cells }
+        ensures netlist { IsNetlist self.now }
+    {
+        let _parts = &self.parts;
+        &self.order
+    }
+
+    /// What drives a net, which must be one of the netlist's.
+    pub fn driver(&self, net: NetId) -> Driver
+        requires { net < length self.now.names }
+        ensures { IsDriver self.now net result }
+    {
+        self.drivers[net.number() as usize]
     }
 }
 

@@ -5,14 +5,15 @@ ghost use Rattle.std.specs.List.{All, AllByRecursion, filter, flat_map};
 ghost use Rattle.std.specs.Option.{option_to_list};
 ghost use Rattle.cg_netlist.specs.Circuit.{asked_nets, is_in};
 ghost use Rattle.cg_netlist.specs.Marks.{IsTable, is_marked};
-ghost use Rattle.cg_netlist.specs.inner.Finishing.{chain, chain_cell};
+ghost use Rattle.cg_netlist.specs.Chains.{chain};
 ghost use Rattle.cg_netlist.specs.inner.Numbers.{AreNumbers, drivers_by, gated, pins_by, rooted, used};
 ghost use Rattle.cg_netlist.specs.said.Wiring.{driven_by_cells, driven_by_gaters, driven_by_registers};
 
+use crate::chains::chain_of;
 use crate::id::NetId;
 use crate::marks::marks;
 use crate::names::NetNames;
-use crate::parts::{Gater, Logic, LogicFunction, OpenRegister};
+use crate::parts::{Gater, Logic, OpenRegister};
 use std::alloc::{AllocError, Global};
 use std::marker::Model;
 
@@ -104,22 +105,7 @@ fn clock_pins(alloc: Global, told: &Told) -> Result<Vec<NetId>, AllocError>
 pub(crate) fn chain_cells(alloc: Global, told: &Told) -> Result<Vec<Logic>, AllocError>
     ensures { IfOk result (λ cells. cells.items ≡ chain told.now.gaters) }
 {
-    let mut cells = Vec::with_capacity(alloc, told.gaters.len())?;
-    for gater in &told.gaters {
-        cells.push(chain_cell(alloc, gater)?)?;
-    }
-    Ok(cells)
-}
-
-/// A gating cell as a cell over its clock pin alone.
-fn chain_cell(alloc: Global, gater: &Gater) -> Result<Logic, AllocError>
-    ensures { IfOk result (λ cell. cell ≡ chain_cell gater.now) }
-{
-    Ok(Logic {
-        inputs: vec![in alloc; gater.clock]?,
-        output: gater.output,
-        function: LogicFunction::Cell(gater.cell.clone()?),
-    })
+    chain_of(alloc, &told.gaters)
 }
 
 /// Puts the nets that have no mark behind the others.

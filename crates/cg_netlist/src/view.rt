@@ -1,7 +1,9 @@
 //! What a netlist shows of one of its parts.
 
-ghost use Rattle.std.specs.Prelude.{◌≡◌};
+ghost use Rattle.std.specs.Prelude.{◌≡◌, length};
+ghost use Rattle.cg_netlist.specs.Moment.{function_value};
 ghost use Rattle.cg_netlist.specs.View.{cell_seen, function_seen, gater_seen, kind_seen, register_seen};
+ghost use Rattle.cg_netlist.specs.WellFormed.{IsOver};
 
 use crate::id::NetId;
 use crate::parts::{Gater, Logic, LogicFunction, Register, RegisterKind};
@@ -82,6 +84,22 @@ pub struct GaterView<'a> {
 
     /// The placed cell of a library, of kind Gater.
     pub cell: &'a CellType,
+}
+
+impl Function<'_> {
+    /// The value of the function at bits of its inputs, of which there must be as many as it has.
+    pub fn value(self, bits: &[bool]) -> bool
+        requires { IsOver (length bits.now) (function_seen self) }
+        ensures { result ≡ function_value (function_seen self.entry) bits.now }
+    {
+        match self {
+            Function::Cover(cover) => cover.value(bits),
+            Function::Cell(cell) => match cell.function() {
+                Some(function) => function.value(bits),
+                None => false,
+            },
+        }
+    }
 }
 
 impl LogicFunction {

@@ -1,21 +1,13 @@
 -- What looking for faults finds, by the numbers of nets.
-use Rattle.std.specs.Prelude.{◌≡◌, ◌⊎◌, ℕ, nat_eq, nat_lt, Bool, false, ◌&&◌, ◌||◌, List, [], ◌∷◌, map, length, Option, None, Some, is_none, Result, MatchResult}
+use Rattle.std.specs.Prelude.{◌≡◌, ◌⊎◌, ℕ, nat_eq, nat_lt, Bool, false, ◌&&◌, ◌||◌, List, length, None, Some, is_none, Result, MatchResult}
 use Rattle.std.specs.Option.{option_map_or}
 use Rattle.cg_netlist.specs.declared.fault.NetFault.{NetFault}
 use Rattle.cg_netlist.specs.declared.fault.NetFault.TheVariants.{NoMemory}
-use Rattle.cg_netlist.specs.declared.parts.LogicFunction.TheVariants.{Cell}
-use Rattle.cg_netlist.specs.Circuit.{GatingCell, LogicCell}
+use Rattle.cg_netlist.specs.Circuit.{LogicCell}
 use Rattle.cg_netlist.specs.Marks.{IsFirst}
 use Rattle.cg_netlist.specs.Ranks.{driving_cell, rank_of}
 use Rattle.cg_netlist.specs.inner.Numbers.{Numbers, rooted}
 use Rattle.cg_netlist.specs.said.Wiring.{NetName, net_name}
-
--- a gating cell as a cell over its clock pin alone
-abbrev pub chain_cell : GatingCell ℕ → LogicCell ℕ
-chain_cell gater = record { inputs = gater.clock ∷ []; output = gater.output; function = Cell gater.cell }
-
-abbrev pub chain : List (GatingCell ℕ) → List (LogicCell ℕ)
-chain gaters = map chain_cell gaters
 
 -- a net is the output of a cell without a rank
 abbrev pub is_unranked : List (LogicCell ℕ) → ℕ → Bool

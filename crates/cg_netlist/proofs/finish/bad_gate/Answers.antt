@@ -3,7 +3,8 @@ use Rattle.std.specs.List.{AllByRecursion}
 use Rattle.std.specs.Option.{option_map_or}
 use Rattle.cg_netlist.specs.Circuit.{LogicCell, is_in}
 use Rattle.cg_netlist.specs.Marks.{IsFirst, IsTable}
-use Rattle.cg_netlist.specs.inner.Finishing.{chain, is_unranked}
+use Rattle.cg_netlist.specs.Chains.{chain}
+use Rattle.cg_netlist.specs.inner.Finishing.{is_unranked}
 use Rattle.cg_netlist.specs.inner.Numbers.{CellWithin, driving_gater, gate_rank, gated, used}
 use Rattle.cg_netlist.proofs.Checks.{chain_within, gates_found}
 use Rattle.cg_netlist.proofs.MarkLemmas.{same_first}

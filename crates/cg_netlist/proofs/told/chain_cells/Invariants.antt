@@ -1,6 +1,0 @@
-use Rattle.std.proofs.Common.{◌≡◌, ◌++◌, map, take}
-use Rattle.cg_netlist.specs.inner.Finishing.{chain_cell}
-use Rattle.cg_netlist.proofs.told.chain_cells.Given as goal
-
-abbrev pub invariant-loop-gater : goal.invariant-loop-gater
-invariant-loop-gater l = l.cells.items ≡ map chain_cell (take l.gater-index l.told.gaters)

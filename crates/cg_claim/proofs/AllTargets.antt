@@ -15,7 +15,7 @@ use Rattle.cg_claim.specs.Targets.{IsTarget, all_targets, meets, output_targets,
 use Rattle.cg_claim.specs.Violates.{PartFits}
 use Rattle.cg_claim.proofs.Apart.{apart_unseen}
 use Rattle.cg_claim.proofs.ClaimsHold.{never_unseen}
-use Rattle.cg_claim.proofs.Goal.{range_in}
+use Rattle.cg_claim.proofs.Reached.{range_in}
 use Rattle.cg_claim.proofs.GoalBits.{claim_says}
 
 -- an item stands in a list

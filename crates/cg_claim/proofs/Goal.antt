@@ -1,16 +1,13 @@
 -- The goal of a question is 1 exactly at the leaf bits that violate the claim.
-use Rattle.std.proofs.Common.{◌≡◌, ℕ, zero, suc, ◌+◌, ◌<◌, Bool, true, false, not, ◌&&◌, ◌||◌, cond, if◌then◌else◌, List, [], ◌∷◌, ◌++◌, length, IsTrue, nat_eq, slice_get, Option, None, Some, refl, sym, ◌∙◌, ap, subst, arith, inl, inr}
-use Rattle.std.specs.List.{filter, flat_map, list_any, range_with_len}
-use Rattle.std.specs.Option.{option_map_or}
-use Rattle.std.proofs.lemmas.Bool.{both_ways, cases_Bool, eqb-true, eq-eqb, lt-ltb, or_cases, or_left, or_right}
-use Rattle.std.proofs.lemmas.Option.{slice_get_within}
+use Rattle.std.proofs.Common.{◌≡◌, ℕ, ◌+◌, ◌<◌, Bool, true, false, not, ◌&&◌, ◌||◌, if◌then◌else◌, List, ◌++◌, length, IsTrue, slice_get, Option, None, Some, refl, sym, ◌∙◌, subst, arith, inl, inr}
+use Rattle.std.specs.List.{filter, flat_map}
+use Rattle.std.proofs.lemmas.Bool.{both_ways, cases_Bool, lt-ltb, or_left, or_right}
 use Rattle.cg_cell.specs.Domain.{Keeps, Ops, Seen}
 use Rattle.cg_cell.specs.Build.{build_and, build_xor, chain, plain}
 use Rattle.cg_cell.specs.Gates.{differ}
 use Rattle.cg_cell.proofs.Building.{keeps_self, keeps_then}
-use Rattle.cg_netlist.specs.Circuit.{RegisterCell, cell_nets, data_inputs, is_in, shown_nets}
+use Rattle.cg_netlist.specs.Circuit.{RegisterCell, cell_nets, data_inputs, is_in}
 use Rattle.cg_netlist.specs.Moment.{bit}
-use Rattle.cg_netlist.proofs.Members.{is_in_left, is_in_right}
 use Rattle.cg_netlist.proofs.Values.{element_at}
 use Rattle.cg_machine.specs.Claims.{any_at, followed, followed_bit, mixed}
 use Rattle.cg_machine.specs.Machine.{IsInputs, IsMachine, IsState, MachineData, values, walk_of}
@@ -19,151 +16,17 @@ use Rattle.cg_machine.proofs.Bits.{each_bit, length-each}
 use Rattle.cg_claim.specs.Build.{Copies, Table, Values, after_state_table, after_table, before_table, changed_state, changed_table, copies, enable_run, goal_of, goal_run, lay, leaf_value, nets_in, reached_cells, side_run, start_nets, states_in}
 use Rattle.cg_claim.specs.LeafBits.{source_bit}
 use Rattle.cg_claim.specs.Leaves.{Leaf, is_reached, is_source}
-use Rattle.cg_claim.specs.Question.{Copy, Before, After, Changed, Part, Net, Next, State, Enable, Side, Question}
-use Rattle.cg_claim.specs.Reach.{after_nets, after_states, before_nets, before_states, changed_nets, changed_states, cone_of, enable_nets, feeds, nets_reached, next_asks_own, origin_asks, origin_nets, part_asks, part_nets, registers_of, same_copy, side_asks, side_nets, sides_ask, sides_nets, states_reached}
+use Rattle.cg_claim.specs.Question.{Copy, Before, After, Changed, Part, Next, Side, Question}
+use Rattle.cg_claim.specs.Reach.{after_nets, after_states, before_nets, before_states, changed_nets, changed_states, cone_of, enable_nets, feeds, nets_reached, origin_asks, origin_nets, part_asks, part_nets, registers_of, sides_ask, sides_nets, states_reached}
 use Rattle.cg_claim.specs.Violates.{Free, inputs_of, nets_at, side_bit, sides_differ, state_of, violates, IsFree, PartFits, SidesFit}
 use Rattle.cg_claim.specs.declared.leaf.LeafSource.{LeafSource}
 use Rattle.cg_claim.specs.declared.leaf.LeafSource.TheVariants.{Input as InputOf, Register as RegisterOf}
-use Rattle.cg_claim.proofs.ClosedCones.{cone_closed, cone_has}
+use Rattle.cg_claim.proofs.ClosedCones.{cone_closed}
 use Rattle.cg_claim.proofs.GivenNets.{are_terms, bits_given, given_same, given_valid, registers_are, shown_feeds}
 use Rattle.cg_claim.proofs.CellsLaid.{Holds, IsFit, Laid, enable_gives, holds_later, lay_holds, sound_of}
 use Rattle.cg_cell.proofs.Runs.{Gives, Has, gives_and, gives_as, gives_plain, gives_then, gives_xor, has_later}
+use Rattle.cg_claim.proofs.Reached.{after_within, before_within, both_true, changed_within, enables_in, feeds_within, in_filter, not_of, origins_in, range_in, side_asks_in, side_nets_in, to_filter}
 use Rattle.cg_claim.proofs.NextBits.{lay_states_hold, part_gives, state_gives}
-
-both_true : (a b : Bool) → a ≡ true → b ≡ true → (a && b) ≡ true
-both_true true b h k = k
-both_true false b h k = h
-
-and_first : (a b : Bool) → (a && b) ≡ true → a ≡ true
-and_first true b h = refl
-and_first false b h = h
-
-not_of : (b : Bool) → b ≡ false → not b ≡ true
-not_of true h = sym h
-not_of false h = refl
-
-in_filter : (test : ℕ → Bool) (xs : List ℕ) (x : ℕ) → is_in (filter test xs) x ≡ true → (is_in xs x ≡ true) × (test x ≡ true)
-in_filter test [] x among = absurd (both_ways false refl among)
-in_filter test (y ∷ xs) x among = go (in_filter test xs x) (test y) refl among
-  where
-    go : (is_in (filter test xs) x ≡ true → (is_in xs x ≡ true) × (test x ≡ true)) → (b : Bool) → test y ≡ b → is_in (cond b (y ∷ filter test xs) (filter test xs)) x ≡ true → ((nat_eq x y || is_in xs x) ≡ true) × (test x ≡ true)
-    go known false is inside = let k = known inside in (or_right (nat_eq x y) (is_in xs x) k.0, k.1)
-    go known true is inside = elim (or_cases (nat_eq x y) (is_in (filter test xs) x) inside) [
-      | inl same ↦ (or_left (nat_eq x y) (is_in xs x) same, ap test (eqb-true x y same) ∙ is)
-      | inr later ↦ let k = known later in (or_right (nat_eq x y) (is_in xs x) k.0, k.1)
-    ]
-
-to_filter : (test : ℕ → Bool) (xs : List ℕ) (x : ℕ) → is_in xs x ≡ true → test x ≡ true → is_in (filter test xs) x ≡ true
-to_filter test [] x among passes = absurd (both_ways false refl among)
-to_filter test (y ∷ xs) x among passes = go (λ later. to_filter test xs x later passes) (test y) refl
-  where
-    go : (is_in xs x ≡ true → is_in (filter test xs) x ≡ true) → (b : Bool) → test y ≡ b → is_in (cond b (y ∷ filter test xs) (filter test xs)) x ≡ true
-    go rest true is = elim (or_cases (nat_eq x y) (is_in xs x) among) [
-      | inl same ↦ or_left (nat_eq x y) (is_in (filter test xs) x) same
-      | inr later ↦ or_right (nat_eq x y) (is_in (filter test xs) x) (rest later)
-    ]
-    go rest false is = elim (or_cases (nat_eq x y) (is_in xs x) among) [
-      | inl same ↦ absurd (both_ways (test x) (ap test (eqb-true x y same) ∙ is) passes)
-      | inr later ↦ rest later
-    ]
-
-pub range_in : (n a x : ℕ) → x < n → is_in (range_with_len a n) (a + x) ≡ true
-range_in zero a x below = absurd (omega arith)
-range_in (suc n) a zero below = or_left (nat_eq (a + 0) a) (is_in (range_with_len (a + 1) n) (a + 0)) (eq-eqb (a + 0) a (omega arith))
-range_in (suc n) a (suc x) below =
-    let e : a + 1 + x ≡ a + suc x = omega arith in
-    or_right (nat_eq (a + suc x) a) (is_in (range_with_len (a + 1) n) (a + suc x)) (subst (λ y. is_in (range_with_len (a + 1) n) y ≡ true) e (range_in n (a + 1) x (omega arith)))
-
-in_each : (f : ℕ → List ℕ) (xs : List ℕ) (x y : ℕ) → is_in xs x ≡ true → is_in (f x) y ≡ true → is_in (flat_map f xs) y ≡ true
-in_each f [] x y among inside = absurd (both_ways false refl among)
-in_each f (z ∷ xs) x y among inside = elim (or_cases (nat_eq x z) (is_in xs x) among) [
-  | inl same ↦ is_in_left (f z) (flat_map f xs) y (subst (λ w. is_in (f w) y ≡ true) (eqb-true x z same) inside)
-  | inr later ↦ is_in_right (f z) (flat_map f xs) y (in_each f xs x y later inside)
-]
-
-pub same_copy_self : (copy : Copy) → same_copy copy copy ≡ true
-same_copy_self Before = refl
-same_copy_self After = refl
-same_copy_self Changed = refl
-
--- what a question reaches
-module _ (m : MachineData) (q : Question) (fits : SidesFit m q.sides) where
-  abbrev n : ℕ
-  n = length m.circuit.registers
-
-  feeds_within : (nets : List ℕ) (r : ℕ) → feeds m nets r ≡ true → r < length m.circuit.registers
-  feeds_within nets r feeding = go (slice_get m.circuit.registers r) refl feeding
-    where
-      go : (o : Option (RegisterCell ℕ ℕ)) → slice_get m.circuit.registers r ≡ o → option_map_or (λ cell. list_any (is_in nets) (shown_nets cell)) o false ≡ true → r < length m.circuit.registers
-      go None is h = absurd (both_ways false refl h)
-      go (Some cell) is h = slice_get_within m.circuit.registers r cell is
-
-  part_within : (part : Part) (r : ℕ) → PartFits m part → part_asks m part r ≡ true → r < length m.circuit.registers
-  part_within (Net y) r fit asks = absurd (both_ways false refl asks)
-  part_within (Next k) r fit asks = let e : r ≡ k = eqb-true r k (and_first (nat_eq r k) (next_asks_own m k) asks) in omega (arith, e, fit)
-  part_within (State k) r fit asks = let e : r ≡ k = eqb-true r k asks in omega (arith, e, fit)
-  part_within Enable r fit asks = absurd (both_ways false refl asks)
-
-  second : (a b : Bool) → (a && b) ≡ true → b ≡ true
-  second true b h = h
-  second false b h = absurd (both_ways false refl h)
-
-  sides_within : (copy : Copy) (r : ℕ) → sides_ask m copy q.sides r ≡ true → r < length m.circuit.registers
-  sides_within copy r asks = go q.sides fits asks
-    where
-      go : (o : Option (Side × Side)) → SidesFit m o → sides_ask m copy o r ≡ true → r < length m.circuit.registers
-      go None fit h = absurd (both_ways false refl h)
-      go (Some s) fit h = elim (or_cases (side_asks m copy s.0 r) (side_asks m copy s.1 r) h) [
-        | inl a ↦ part_within s.0.part r fit.0 (second (same_copy s.0.copy copy) (part_asks m s.0.part r) a)
-        | inr b ↦ part_within s.1.part r fit.1 (second (same_copy s.1.copy copy) (part_asks m s.1.part r) b)
-      ]
-
-  changed_within : (r : ℕ) → changed_states m q r ≡ true → r < length m.circuit.registers
-  changed_within r h = elim (or_cases (feeds m (changed_nets m q) r) (sides_ask m Changed q.sides r) h) [ inl f ↦ feeds_within (changed_nets m q) r f | inr a ↦ sides_within Changed r a ]
-
-  after_within : (r : ℕ) → after_states m q r ≡ true → r < length m.circuit.registers
-  after_within r h = elim (or_cases (feeds m (after_nets m q) r) (sides_ask m After q.sides r || (changed_states m q r && not (is_in q.changes r))) h) [
-    | inl f ↦ feeds_within (after_nets m q) r f
-    | inr g ↦ elim (or_cases (sides_ask m After q.sides r) (changed_states m q r && not (is_in q.changes r)) g) [
-      | inl a ↦ sides_within After r a
-      | inr b ↦ changed_within r (and_first (changed_states m q r) (not (is_in q.changes r)) b)
-    ]
-  ]
-
-  before_within : (r : ℕ) → before_states m q r ≡ true → r < length m.circuit.registers
-  before_within r h = elim (or_cases (feeds m (before_nets m q) r) (sides_ask m Before q.sides r || (after_states m q r && origin_asks m q r)) h) [
-    | inl f ↦ feeds_within (before_nets m q) r f
-    | inr g ↦ elim (or_cases (sides_ask m Before q.sides r) (after_states m q r && origin_asks m q r) g) [
-      | inl a ↦ sides_within Before r a
-      | inr b ↦ after_within r (and_first (after_states m q r) (origin_asks m q r) b)
-    ]
-  ]
-
-  -- what sides ask for is reached
-  sides_in : (copy : Copy) (y : ℕ) → is_in (sides_nets m (enable_nets q) copy q.sides) y ≡ true → is_in (nets_reached m q copy) y ≡ true
-  sides_in Before y among =
-      let rest = flat_map (origin_nets m q) (filter (after_states m q) (registers_of m)) in
-      cone_has (walk_of m) (enable_nets q ++ sides_nets m (enable_nets q) Before q.sides ++ rest) y
-      (is_in_left (enable_nets q ++ sides_nets m (enable_nets q) Before q.sides) rest y (is_in_right (enable_nets q) (sides_nets m (enable_nets q) Before q.sides) y among))
-  sides_in After y among = cone_has (walk_of m) (sides_nets m (enable_nets q) After q.sides) y among
-  sides_in Changed y among = cone_has (walk_of m) (sides_nets m (enable_nets q) Changed q.sides) y among
-
-  sides_ask_in : (copy : Copy) (r : ℕ) → sides_ask m copy q.sides r ≡ true → states_reached m q copy r ≡ true
-  sides_ask_in Before r h = or_right (feeds m (before_nets m q) r) (sides_ask m Before q.sides r || (after_states m q r && origin_asks m q r)) (or_left (sides_ask m Before q.sides r) (after_states m q r && origin_asks m q r) h)
-  sides_ask_in After r h = or_right (feeds m (after_nets m q) r) (sides_ask m After q.sides r || (changed_states m q r && not (is_in q.changes r))) (or_left (sides_ask m After q.sides r) (changed_states m q r && not (is_in q.changes r)) h)
-  sides_ask_in Changed r h = or_right (feeds m (changed_nets m q) r) (sides_ask m Changed q.sides r) h
-
-  enables_in : (y : ℕ) → is_in (enable_nets q) y ≡ true → is_in (before_nets m q) y ≡ true
-  enables_in y among =
-      let rest = flat_map (origin_nets m q) (filter (after_states m q) (registers_of m)) in
-      cone_has (walk_of m) (enable_nets q ++ sides_nets m (enable_nets q) Before q.sides ++ rest) y
-      (is_in_left (enable_nets q ++ sides_nets m (enable_nets q) Before q.sides) rest y (is_in_left (enable_nets q) (sides_nets m (enable_nets q) Before q.sides) y among))
-
-  origins_in : (r y : ℕ) → is_in (filter (after_states m q) (registers_of m)) r ≡ true → is_in (origin_nets m q r) y ≡ true → is_in (before_nets m q) y ≡ true
-  origins_in r y among inside =
-      let rest = flat_map (origin_nets m q) (filter (after_states m q) (registers_of m)) in
-      cone_has (walk_of m) (enable_nets q ++ sides_nets m (enable_nets q) Before q.sides ++ rest) y
-      (is_in_right (enable_nets q ++ sides_nets m (enable_nets q) Before q.sides) rest y (in_each (origin_nets m q) (filter (after_states m q) (registers_of m)) r y among inside))
 
 -- all copies hold the bits of their cycles
 pub record CopiesHold (o : Ops) (bits : List Bool) (m : MachineData) (q : Question) (w : Free) (s : Seen) (c : Copies) : Type 0 where
@@ -388,38 +251,18 @@ module _ (d : Values) (bits : List Bool) (fit : IsFit d bits) (m : MachineData) 
         let r0 = side_run d m q c sides.0 u in
         let whole = λ (x : ℕ) (v : Seen). build_and d.ops (d.inverse e) x v in
         gives_then d.ops bits u r0 (λ a t. chain (side_run d m q c sides.1 t) (λ b u. chain (build_xor d.ops a b u) (λ x v. build_and d.ops (d.inverse e) x v))) a (not b && differ a z)
-        (side_gives sides.0 u keeps fit'.0 (λ y among. sides_in m q fits sides.0.copy y (side_nets_in sides is y among)) (λ r asks. sides_ask_in m q fits sides.0.copy r (side_asks_in sides is r asks))) (λ k0 h0.
+        (side_gives sides.0 u keeps fit'.0 (side_nets_in m q fits sides is sides.0 (inl refl)) (side_asks_in m q fits sides is sides.0 (inl refl))) (λ k0 h0.
         let t = r0.domain in
         let r1 = side_run d m q c sides.1 t in
         let kt = keeps_then d.ops c.domain u t keeps k0 in
         gives_then d.ops bits t r1 (λ b u. chain (build_xor d.ops r0.answer b u) (λ x v. build_and d.ops (d.inverse e) x v)) z (not b && differ a z)
-        (side_gives sides.1 t kt fit'.1 (λ y among. sides_in m q fits sides.1.copy y (side_nets_in' sides is y among)) (λ r asks. sides_ask_in m q fits sides.1.copy r (side_asks_in' sides is r asks))) (λ k1 h1.
+        (side_gives sides.1 t kt fit'.1 (side_nets_in m q fits sides is sides.1 (inr refl)) (side_asks_in m q fits sides is sides.1 (inr refl))) (λ k1 h1.
         let v = r1.domain in
         let r2 = build_xor d.ops r0.answer r1.answer v in
         gives_then d.ops bits v r2 whole (differ a z) (not b && differ a z)
         (gives_xor d.ops bits fit.lawful v r0.answer r1.answer a z (has_later d.ops bits t v r0.answer a k1 h0) h1) (λ k2 h2.
         let e' = has_later d.ops bits u r2.domain (d.inverse e) (not b) (keeps_then d.ops u v r2.domain (keeps_then d.ops u t v k0 k1) k2) (fit.inverse u e b h) in
         gives_and d.ops bits fit.lawful r2.domain (d.inverse e) r2.answer (not b) (differ a z) e' h2)))
-      where
-        first_nets : (side : Side) (y : ℕ) → is_in (part_nets m (enable_nets q) side.part) y ≡ true → is_in (side_nets m (enable_nets q) side.copy side) y ≡ true
-        first_nets side y among = subst (λ b. is_in (if b then part_nets m (enable_nets q) side.part else []) y ≡ true) (sym (same_copy_self side.copy)) among
-
-        first_asks : (side : Side) (r : ℕ) → part_asks m side.part r ≡ true → side_asks m side.copy side r ≡ true
-        first_asks side r asks = both_true (same_copy side.copy side.copy) (part_asks m side.part r) (same_copy_self side.copy) asks
-
-        side_nets_in : (p : Side × Side) → q.sides ≡ Some p → (y : ℕ) → is_in (part_nets m (enable_nets q) p.0.part) y ≡ true → is_in (sides_nets m (enable_nets q) p.0.copy q.sides) y ≡ true
-        side_nets_in p at y among = subst (λ o. is_in (sides_nets m (enable_nets q) p.0.copy o) y ≡ true) (sym at)
-            (is_in_left (side_nets m (enable_nets q) p.0.copy p.0) (side_nets m (enable_nets q) p.0.copy p.1) y (first_nets p.0 y among))
-
-        side_nets_in' : (p : Side × Side) → q.sides ≡ Some p → (y : ℕ) → is_in (part_nets m (enable_nets q) p.1.part) y ≡ true → is_in (sides_nets m (enable_nets q) p.1.copy q.sides) y ≡ true
-        side_nets_in' p at y among = subst (λ o. is_in (sides_nets m (enable_nets q) p.1.copy o) y ≡ true) (sym at)
-            (is_in_right (side_nets m (enable_nets q) p.1.copy p.0) (side_nets m (enable_nets q) p.1.copy p.1) y (first_nets p.1 y among))
-
-        side_asks_in : (p : Side × Side) → q.sides ≡ Some p → (r : ℕ) → part_asks m p.0.part r ≡ true → sides_ask m p.0.copy q.sides r ≡ true
-        side_asks_in p at r asks = subst (λ o. sides_ask m p.0.copy o r ≡ true) (sym at) (or_left (side_asks m p.0.copy p.0 r) (side_asks m p.0.copy p.1 r) (first_asks p.0 r asks))
-
-        side_asks_in' : (p : Side × Side) → q.sides ≡ Some p → (r : ℕ) → part_asks m p.1.part r ≡ true → sides_ask m p.1.copy q.sides r ≡ true
-        side_asks_in' p at r asks = subst (λ o. sides_ask m p.1.copy o r ≡ true) (sym at) (or_right (side_asks m p.1.copy p.0 r) (side_asks m p.1.copy p.1 r) (first_asks p.1 r asks))
 
     -- the goal is 1 exactly where the claim is violated
     pub goal_is : Gives d.ops bits c.domain (goal_run d m q c) (violates m q w)

@@ -19,7 +19,8 @@ use Rattle.cg_claim.specs.Reach.{registers_of, same_copy}
 use Rattle.cg_claim.specs.Violates.{IsNeverViolated, IsFree, SidesFit, Free, violates}
 use Rattle.cg_claim.specs.declared.leaf.LeafSource.{LeafSource}
 use Rattle.cg_claim.specs.declared.leaf.LeafSource.TheVariants.{Input as InputOf, Register as RegisterOf}
-use Rattle.cg_claim.proofs.Goal.{copies_hold, goal_is, range_in, same_copy_self}
+use Rattle.cg_claim.proofs.Goal.{copies_hold, goal_is}
+use Rattle.cg_claim.proofs.Reached.{range_in, same_copy_self}
 use Rattle.cg_claim.proofs.CellsLaid.{IsFit}
 use Rattle.cg_cell.proofs.Runs.{Has}
 

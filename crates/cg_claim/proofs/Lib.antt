@@ -12,7 +12,10 @@ pub mod HoldWidths
 pub mod NextBits
 pub mod OneCopy
 pub mod Places
+pub mod Reached
+pub mod ReachedOnly
 pub mod RowOne
 pub mod RowsMore
+pub mod StagesDone
 pub mod Tried
 pub mod WholeLists

@@ -5,5 +5,6 @@ pub mod LeafBits
 pub mod Leaves
 pub mod Question
 pub mod Reach
+pub mod Tables
 pub mod Targets
 pub mod Violates

@@ -1,0 +1,165 @@
+-- What a question reaches: registers that are there, all that its sides ask for, its joined enable, and what the states
+-- after the first cycle come from.
+use Rattle.std.proofs.Common.{◌≡◌, ℕ, zero, suc, ◌+◌, ◌<◌, Bool, true, false, not, ◌&&◌, ◌||◌, cond, if◌then◌else◌, List, [], ◌∷◌, ◌++◌, length, nat_eq, slice_get, Option, None, Some, refl, sym, ◌∙◌, ap, subst, arith, ◌⊎◌, inl, inr}
+use Rattle.std.specs.List.{filter, flat_map, list_any, range_with_len}
+use Rattle.std.specs.Option.{option_map_or}
+use Rattle.std.proofs.lemmas.Bool.{both_ways, eqb-true, eq-eqb, or_cases, or_left, or_right}
+use Rattle.std.proofs.lemmas.Option.{slice_get_within}
+use Rattle.cg_netlist.specs.Circuit.{RegisterCell, is_in, shown_nets}
+use Rattle.cg_netlist.proofs.Members.{is_in_left, is_in_right}
+use Rattle.cg_machine.specs.Machine.{MachineData, walk_of}
+use Rattle.cg_claim.specs.Question.{Copy, Before, After, Changed, Part, Net, Next, State, Enable, Side, Question}
+use Rattle.cg_claim.specs.Reach.{after_nets, after_states, before_nets, before_states, changed_nets, changed_states, enable_nets, feeds, nets_reached, next_asks_own, origin_asks, origin_nets, part_asks, part_nets, registers_of, same_copy, side_asks, side_nets, sides_ask, sides_nets, states_reached}
+use Rattle.cg_claim.specs.Violates.{PartFits, SidesFit}
+use Rattle.cg_claim.proofs.ClosedCones.{cone_has}
+
+pub both_true : (a b : Bool) → a ≡ true → b ≡ true → (a && b) ≡ true
+both_true true b h k = k
+both_true false b h k = h
+
+pub and_first : (a b : Bool) → (a && b) ≡ true → a ≡ true
+and_first true b h = refl
+and_first false b h = h
+
+pub not_of : (b : Bool) → b ≡ false → not b ≡ true
+not_of true h = sym h
+not_of false h = refl
+
+pub in_filter : (test : ℕ → Bool) (xs : List ℕ) (x : ℕ) → is_in (filter test xs) x ≡ true → (is_in xs x ≡ true) × (test x ≡ true)
+in_filter test [] x among = absurd (both_ways false refl among)
+in_filter test (y ∷ xs) x among = go (in_filter test xs x) (test y) refl among
+  where
+    go : (is_in (filter test xs) x ≡ true → (is_in xs x ≡ true) × (test x ≡ true)) → (b : Bool) → test y ≡ b → is_in (cond b (y ∷ filter test xs) (filter test xs)) x ≡ true → ((nat_eq x y || is_in xs x) ≡ true) × (test x ≡ true)
+    go known false is inside = let k = known inside in (or_right (nat_eq x y) (is_in xs x) k.0, k.1)
+    go known true is inside = elim (or_cases (nat_eq x y) (is_in (filter test xs) x) inside) [
+      | inl same ↦ (or_left (nat_eq x y) (is_in xs x) same, ap test (eqb-true x y same) ∙ is)
+      | inr later ↦ let k = known later in (or_right (nat_eq x y) (is_in xs x) k.0, k.1)
+    ]
+
+pub to_filter : (test : ℕ → Bool) (xs : List ℕ) (x : ℕ) → is_in xs x ≡ true → test x ≡ true → is_in (filter test xs) x ≡ true
+to_filter test [] x among passes = absurd (both_ways false refl among)
+to_filter test (y ∷ xs) x among passes = go (λ later. to_filter test xs x later passes) (test y) refl
+  where
+    go : (is_in xs x ≡ true → is_in (filter test xs) x ≡ true) → (b : Bool) → test y ≡ b → is_in (cond b (y ∷ filter test xs) (filter test xs)) x ≡ true
+    go rest true is = elim (or_cases (nat_eq x y) (is_in xs x) among) [
+      | inl same ↦ or_left (nat_eq x y) (is_in (filter test xs) x) same
+      | inr later ↦ or_right (nat_eq x y) (is_in (filter test xs) x) (rest later)
+    ]
+    go rest false is = elim (or_cases (nat_eq x y) (is_in xs x) among) [
+      | inl same ↦ absurd (both_ways (test x) (ap test (eqb-true x y same) ∙ is) passes)
+      | inr later ↦ rest later
+    ]
+
+pub range_in : (n a x : ℕ) → x < n → is_in (range_with_len a n) (a + x) ≡ true
+range_in zero a x below = absurd (omega arith)
+range_in (suc n) a zero below = or_left (nat_eq (a + 0) a) (is_in (range_with_len (a + 1) n) (a + 0)) (eq-eqb (a + 0) a (omega arith))
+range_in (suc n) a (suc x) below =
+    let e : a + 1 + x ≡ a + suc x = omega arith in
+    or_right (nat_eq (a + suc x) a) (is_in (range_with_len (a + 1) n) (a + suc x)) (subst (λ y. is_in (range_with_len (a + 1) n) y ≡ true) e (range_in n (a + 1) x (omega arith)))
+
+pub in_each : (f : ℕ → List ℕ) (xs : List ℕ) (x y : ℕ) → is_in xs x ≡ true → is_in (f x) y ≡ true → is_in (flat_map f xs) y ≡ true
+in_each f [] x y among inside = absurd (both_ways false refl among)
+in_each f (z ∷ xs) x y among inside = elim (or_cases (nat_eq x z) (is_in xs x) among) [
+  | inl same ↦ is_in_left (f z) (flat_map f xs) y (subst (λ w. is_in (f w) y ≡ true) (eqb-true x z same) inside)
+  | inr later ↦ is_in_right (f z) (flat_map f xs) y (in_each f xs x y later inside)
+]
+
+pub same_copy_self : (copy : Copy) → same_copy copy copy ≡ true
+same_copy_self Before = refl
+same_copy_self After = refl
+same_copy_self Changed = refl
+
+-- what a question reaches
+module _ (m : MachineData) (q : Question) (fits : SidesFit m q.sides) where
+  pub feeds_within : (nets : List ℕ) (r : ℕ) → feeds m nets r ≡ true → r < length m.circuit.registers
+  feeds_within nets r feeding = go (slice_get m.circuit.registers r) refl feeding
+    where
+      go : (o : Option (RegisterCell ℕ ℕ)) → slice_get m.circuit.registers r ≡ o → option_map_or (λ cell. list_any (is_in nets) (shown_nets cell)) o false ≡ true → r < length m.circuit.registers
+      go None is h = absurd (both_ways false refl h)
+      go (Some cell) is h = slice_get_within m.circuit.registers r cell is
+
+  pub part_within : (part : Part) (r : ℕ) → PartFits m part → part_asks m part r ≡ true → r < length m.circuit.registers
+  part_within (Net y) r fit asks = absurd (both_ways false refl asks)
+  part_within (Next k) r fit asks = let e : r ≡ k = eqb-true r k (and_first (nat_eq r k) (next_asks_own m k) asks) in omega (arith, e, fit)
+  part_within (State k) r fit asks = let e : r ≡ k = eqb-true r k asks in omega (arith, e, fit)
+  part_within Enable r fit asks = absurd (both_ways false refl asks)
+
+  second : (a b : Bool) → (a && b) ≡ true → b ≡ true
+  second true b h = h
+  second false b h = absurd (both_ways false refl h)
+
+  pub sides_within : (copy : Copy) (r : ℕ) → sides_ask m copy q.sides r ≡ true → r < length m.circuit.registers
+  sides_within copy r asks = go q.sides fits asks
+    where
+      go : (o : Option (Side × Side)) → SidesFit m o → sides_ask m copy o r ≡ true → r < length m.circuit.registers
+      go None fit h = absurd (both_ways false refl h)
+      go (Some s) fit h = elim (or_cases (side_asks m copy s.0 r) (side_asks m copy s.1 r) h) [
+        | inl a ↦ part_within s.0.part r fit.0 (second (same_copy s.0.copy copy) (part_asks m s.0.part r) a)
+        | inr b ↦ part_within s.1.part r fit.1 (second (same_copy s.1.copy copy) (part_asks m s.1.part r) b)
+      ]
+
+  pub changed_within : (r : ℕ) → changed_states m q r ≡ true → r < length m.circuit.registers
+  changed_within r h = elim (or_cases (feeds m (changed_nets m q) r) (sides_ask m Changed q.sides r) h) [ inl f ↦ feeds_within (changed_nets m q) r f | inr a ↦ sides_within Changed r a ]
+
+  pub after_within : (r : ℕ) → after_states m q r ≡ true → r < length m.circuit.registers
+  after_within r h = elim (or_cases (feeds m (after_nets m q) r) (sides_ask m After q.sides r || (changed_states m q r && not (is_in q.changes r))) h) [
+    | inl f ↦ feeds_within (after_nets m q) r f
+    | inr g ↦ elim (or_cases (sides_ask m After q.sides r) (changed_states m q r && not (is_in q.changes r)) g) [
+      | inl a ↦ sides_within After r a
+      | inr b ↦ changed_within r (and_first (changed_states m q r) (not (is_in q.changes r)) b)
+    ]
+  ]
+
+  pub before_within : (r : ℕ) → before_states m q r ≡ true → r < length m.circuit.registers
+  before_within r h = elim (or_cases (feeds m (before_nets m q) r) (sides_ask m Before q.sides r || (after_states m q r && origin_asks m q r)) h) [
+    | inl f ↦ feeds_within (before_nets m q) r f
+    | inr g ↦ elim (or_cases (sides_ask m Before q.sides r) (after_states m q r && origin_asks m q r) g) [
+      | inl a ↦ sides_within Before r a
+      | inr b ↦ after_within r (and_first (after_states m q r) (origin_asks m q r) b)
+    ]
+  ]
+
+  -- what sides ask for is reached
+  pub sides_in : (copy : Copy) (y : ℕ) → is_in (sides_nets m (enable_nets q) copy q.sides) y ≡ true → is_in (nets_reached m q copy) y ≡ true
+  sides_in Before y among =
+      let rest = flat_map (origin_nets m q) (filter (after_states m q) (registers_of m)) in
+      cone_has (walk_of m) (enable_nets q ++ sides_nets m (enable_nets q) Before q.sides ++ rest) y
+      (is_in_left (enable_nets q ++ sides_nets m (enable_nets q) Before q.sides) rest y (is_in_right (enable_nets q) (sides_nets m (enable_nets q) Before q.sides) y among))
+  sides_in After y among = cone_has (walk_of m) (sides_nets m (enable_nets q) After q.sides) y among
+  sides_in Changed y among = cone_has (walk_of m) (sides_nets m (enable_nets q) Changed q.sides) y among
+
+  pub sides_ask_in : (copy : Copy) (r : ℕ) → sides_ask m copy q.sides r ≡ true → states_reached m q copy r ≡ true
+  sides_ask_in Before r h = or_right (feeds m (before_nets m q) r) (sides_ask m Before q.sides r || (after_states m q r && origin_asks m q r)) (or_left (sides_ask m Before q.sides r) (after_states m q r && origin_asks m q r) h)
+  sides_ask_in After r h = or_right (feeds m (after_nets m q) r) (sides_ask m After q.sides r || (changed_states m q r && not (is_in q.changes r))) (or_left (sides_ask m After q.sides r) (changed_states m q r && not (is_in q.changes r)) h)
+  sides_ask_in Changed r h = or_right (feeds m (changed_nets m q) r) (sides_ask m Changed q.sides r) h
+
+  pub enables_in : (y : ℕ) → is_in (enable_nets q) y ≡ true → is_in (before_nets m q) y ≡ true
+  enables_in y among =
+      let rest = flat_map (origin_nets m q) (filter (after_states m q) (registers_of m)) in
+      cone_has (walk_of m) (enable_nets q ++ sides_nets m (enable_nets q) Before q.sides ++ rest) y
+      (is_in_left (enable_nets q ++ sides_nets m (enable_nets q) Before q.sides) rest y (is_in_left (enable_nets q) (sides_nets m (enable_nets q) Before q.sides) y among))
+
+  pub origins_in : (r y : ℕ) → is_in (filter (after_states m q) (registers_of m)) r ≡ true → is_in (origin_nets m q r) y ≡ true → is_in (before_nets m q) y ≡ true
+  origins_in r y among inside =
+      let rest = flat_map (origin_nets m q) (filter (after_states m q) (registers_of m)) in
+      cone_has (walk_of m) (enable_nets q ++ sides_nets m (enable_nets q) Before q.sides ++ rest) y
+      (is_in_right (enable_nets q ++ sides_nets m (enable_nets q) Before q.sides) rest y (in_each (origin_nets m q) (filter (after_states m q) (registers_of m)) r y among inside))
+
+  -- a side of the question asks for what is reached in its copy
+  pub side_nets_in : (sides : Side × Side) → q.sides ≡ Some sides → (side : Side) → (side ≡ sides.0) ⊎ (side ≡ sides.1)
+      → (y : ℕ) → is_in (part_nets m (enable_nets q) side.part) y ≡ true → is_in (nets_reached m q side.copy) y ≡ true
+  side_nets_in sides is side one y among =
+      let asked : is_in (side_nets m (enable_nets q) side.copy side) y ≡ true = subst (λ b. is_in (if b then part_nets m (enable_nets q) side.part else []) y ≡ true) (sym (same_copy_self side.copy)) among in
+      sides_in side.copy y (subst (λ o. is_in (sides_nets m (enable_nets q) side.copy o) y ≡ true) (sym is) (elim one [
+        | inl first ↦ is_in_left (side_nets m (enable_nets q) side.copy sides.0) (side_nets m (enable_nets q) side.copy sides.1) y (subst (λ z. is_in (side_nets m (enable_nets q) side.copy z) y ≡ true) first asked)
+        | inr other ↦ is_in_right (side_nets m (enable_nets q) side.copy sides.0) (side_nets m (enable_nets q) side.copy sides.1) y (subst (λ z. is_in (side_nets m (enable_nets q) side.copy z) y ≡ true) other asked)
+      ]))
+
+  pub side_asks_in : (sides : Side × Side) → q.sides ≡ Some sides → (side : Side) → (side ≡ sides.0) ⊎ (side ≡ sides.1)
+      → (r : ℕ) → part_asks m side.part r ≡ true → states_reached m q side.copy r ≡ true
+  side_asks_in sides is side one r asks =
+      let asked : side_asks m side.copy side r ≡ true = both_true (same_copy side.copy side.copy) (part_asks m side.part r) (same_copy_self side.copy) asks in
+      sides_ask_in side.copy r (subst (λ o. sides_ask m side.copy o r ≡ true) (sym is) (elim one [
+        | inl first ↦ or_left (side_asks m side.copy sides.0 r) (side_asks m side.copy sides.1 r) (subst (λ z. side_asks m side.copy z r ≡ true) first asked)
+        | inr other ↦ or_right (side_asks m side.copy sides.0 r) (side_asks m side.copy sides.1 r) (subst (λ z. side_asks m side.copy z r ≡ true) other asked)
+      ]))

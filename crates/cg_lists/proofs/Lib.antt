@@ -1,0 +1,7 @@
+pub mod Among
+pub mod FitLists
+pub mod UsedNets
+pub mod Mapped
+pub mod HoldFits
+pub mod StableFits
+pub mod UnseenFits

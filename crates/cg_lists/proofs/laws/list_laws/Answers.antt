@@ -1,0 +1,11 @@
+use Rattle.cg_lists.proofs.laws.list_laws.Goals as goal
+use Rattle.cg_lists.proofs.HoldFits.{hold_fits}
+use Rattle.cg_lists.proofs.StableFits.{stable_fits}
+use Rattle.cg_lists.proofs.UnseenFits.{unseen_fits}
+
+pub returns : goal.returns
+returns c = record {
+  hold = λ m idle width good. hold_fits m good idle width;
+  stable = λ m earlier good. stable_fits m good earlier;
+  unseen = λ m test earlier good. unseen_fits m good earlier test;
+}

@@ -1,0 +1,19 @@
+-- What is proved of lists of stages.
+use Rattle.std.specs.Prelude.{ℕ, Bool, List, Option}
+use Rattle.cg_machine.specs.Machine.{IsMachine, MachineData}
+use Rattle.cg_machine.specs.declared.stage.Earlier.{Earlier}
+use Rattle.cg_lists.specs.Fit.{AllFit}
+use Rattle.cg_lists.specs.HoldList.{hold_list}
+use Rattle.cg_lists.specs.Literals.{IdleData}
+use Rattle.cg_lists.specs.StableList.{stable_list}
+use Rattle.cg_lists.specs.UnseenList.{unseen_list}
+
+-- the stages of each list fit the machine that it is made on, and no two of a list have a register in common
+abbrev pub HoldListFits : Type 0
+HoldListFits = (m : MachineData) (idle : Option IdleData) (width : ℕ) → IsMachine m → AllFit m (hold_list m idle width)
+
+abbrev pub StableListFits : Type 0
+StableListFits = (m : MachineData) (earlier : List Earlier) → IsMachine m → AllFit m (stable_list m earlier)
+
+abbrev pub UnseenListFits : Type 0
+UnseenListFits = (m : MachineData) (test : Bool) (earlier : List Earlier) → IsMachine m → AllFit m (unseen_list m test earlier)

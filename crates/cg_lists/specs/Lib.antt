@@ -1,0 +1,9 @@
+pub mod Supports
+pub mod Groups
+pub mod Literals
+pub mod HoldList
+pub mod Rounds
+pub mod StableList
+pub mod UnseenList
+pub mod Fit
+pub mod Laws

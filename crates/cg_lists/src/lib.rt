@@ -1,0 +1,11 @@
+//! Which stages are tried: the lists of hold, stability and unobservability stages of a machine.
+//!
+//! The definitions are functions of a machine and of the stages that were tried before; the code that finds the stages stands
+//! above.
+//!
+//! The modules:
+//!
+//! - `laws`: what is proved of the lists.
+#![tactic(auto)]
+
+pub mod laws;

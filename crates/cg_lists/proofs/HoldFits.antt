@@ -8,11 +8,12 @@ use Rattle.cg_netlist.specs.Circuit.{is_in}
 use Rattle.cg_machine.specs.Claims.{Literal}
 use Rattle.cg_machine.specs.Machine.{IsMachine, IsNet, MachineData, enable_of, walk_of}
 use Rattle.cg_machine.specs.declared.stage.Stage.{Stage}
+use Rattle.cg_claim.specs.Reach.{inputs_of_register}
 use Rattle.cg_stage.specs.Stages.{Fits}
 use Rattle.cg_lists.specs.Fit.{AllFit}
 use Rattle.cg_lists.specs.HoldList.{choices, chosen, chosen_regs, hold_list, hold_stage, hold_width, serves, unless_empty}
 use Rattle.cg_lists.specs.Literals.{IdleData, both_literals, by_count, idle_count, insert_literal, literals_of, same_bool, same_literal}
-use Rattle.cg_lists.specs.Supports.{all_nets, free_registers, in_net_order, input_cone, inputs_of_register, own_registers_of}
+use Rattle.cg_lists.specs.Supports.{all_nets, free_registers, in_net_order, input_cone, own_registers_of}
 use Rattle.cg_lists.proofs.Among.{Among, among_cons, among_none, later}
 use Rattle.cg_lists.proofs.FitLists.{Differ, all_fit, filter_distinct, filter_in, range_distinct, range_in}
 use Rattle.cg_lists.proofs.UsedNets.{cone_used, inputs_used, used_net}

@@ -9,15 +9,11 @@ use Rattle.cg_machine.specs.declared.stage.StageKind.TheVariants.{Hold}
 use Rattle.cg_claim.specs.Build.{nodes_of}
 use Rattle.cg_claim.specs.LeafBits.{is_never}
 use Rattle.cg_claim.specs.Leaves.{width_of}
-use Rattle.cg_claim.specs.Question.{Before, Next, Question, State, hold_question, idle_question}
+use Rattle.cg_claim.specs.Question.{Question, held_question, hold_question, idle_question}
 use Rattle.cg_lists.specs.Literals.{IdleData, both_literals, literals_of, same_literal}
 use Rattle.cg_lists.specs.Supports.{all_nets, free_registers}
 
--- what the hold claims of a register reach, whatever literal of its cone they are for
-abbrev pub held_question : ℕ → Question
-held_question r = record { enables = []; follows = []; changes = []; sides = Some (record { copy = Before; part = Next r }, record { copy = Before; part = State r }) }
-
--- how wide each of them is
+-- how wide the hold claims of a register are, whatever literal of its cone they are for
 abbrev pub hold_width : MachineData → ℕ → ℕ
 hold_width m r = width_of m (held_question r)
 

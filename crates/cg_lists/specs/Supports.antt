@@ -1,16 +1,12 @@
 -- What the input nets of a register stand on: the nets of their cone, and the data inputs and registers at its edge.
-use Rattle.std.specs.Prelude.{ℕ, Bool, false, not, ◌&&◌, ◌||◌, List, [], length, slice_get, nat_eq, is_none, is_some}
+use Rattle.std.specs.Prelude.{ℕ, Bool, false, not, ◌&&◌, ◌||◌, List, length, slice_get, nat_eq, is_none, is_some}
 use Rattle.std.specs.List.{filter, list_any, range_with_len}
 use Rattle.std.specs.Option.{option_map_or}
 use Rattle.cg_netlist.specs.Circuit.{data_inputs, is_in}
 use Rattle.cg_machine.specs.Machine.{MachineData, enable_of, walk_of}
-use Rattle.cg_claim.specs.Reach.{cone_of, feeds, reads_own, registers_of}
+use Rattle.cg_claim.specs.Reach.{cone_of, feeds, inputs_of_register, reads_own, registers_of}
 
--- the input nets of a register
-abbrev pub inputs_of_register : MachineData → ℕ → List ℕ
-inputs_of_register m r = option_map_or (λ cell. cell.inputs) (slice_get m.circuit.registers r) []
-
--- the nets of their cone, these and the edge included
+-- the nets of the cone of its inputs, these and the edge included
 abbrev pub input_cone : MachineData → ℕ → List ℕ
 input_cone m r = cone_of (walk_of m) (inputs_of_register m r)
 

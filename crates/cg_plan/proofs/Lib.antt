@@ -1,0 +1,5 @@
+pub mod Decided
+pub mod PlanSafe
+pub mod Exactly
+pub mod AllSafe
+pub mod Examples

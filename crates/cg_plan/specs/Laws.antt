@@ -1,0 +1,56 @@
+-- What is proved of trying stages and of plans.
+use Rattle.std.specs.Prelude.{◌≡◌, ◌↔◌, ◌≤◌, ℕ, Bool, List, length, Option, None, slice_get, Some}
+use Rattle.cg_cell.specs.Cell.{CellData}
+use Rattle.cg_netlist.specs.Circuit.{Circuit}
+use Rattle.cg_netlist.specs.History.{IsLawful, IsStart, IsWaveform, Moment, Tick, outputs_of}
+use Rattle.cg_machine.specs.Claims.{CanIdle}
+use Rattle.cg_machine.specs.Machine.{IsMachine, MachineData}
+use Rattle.cg_machine.specs.Run.{Same, shown}
+use Rattle.cg_machine.specs.Start.{CanStart, machine_of}
+use Rattle.cg_machine.specs.declared.stage.Stage.{Stage}
+use Rattle.cg_claim.specs.Build.{nodes_of}
+use Rattle.cg_claim.specs.Leaves.{width_of}
+use Rattle.cg_lists.specs.Literals.{IdleData}
+use Rattle.cg_stage.specs.Effects.{limit_by}
+use Rattle.cg_stage.specs.Laws.{After}
+use Rattle.cg_stage.specs.Needs.{missing, needs}
+use Rattle.cg_stage.specs.Stages.{ClaimsHold, Fits}
+use Rattle.cg_plan.specs.Plan.{plan_of}
+use Rattle.cg_plan.specs.StageClaims.{NamedClaim, all_claims}
+use Rattle.cg_plan.specs.Trying.{Ends, tried}
+use Rattle.cg_plan.specs.Told.{IsPlan, ToldPlan}
+use Rattle.cg_plan.specs.declared.outcome.Outcome.TheVariants.{Inserted}
+use Rattle.cg_plan.specs.declared.settings.Settings.{Settings}
+use Rattle.cg_stage.specs.Effects.{effect}
+
+-- What a stage needs to be inserted: it is large enough, the library has its cells, its claims are narrow and have no more
+-- nodes than a claim may have, it can idle, its claims hold over all states and inputs, and no other limit is passed.
+pub record Deserves (library : List CellData) (settings : Settings) (m : MachineData) (s : Stage) : Type 0 where
+  pub large : settings.min ≤ length s.regs
+  pub cells : missing library (needs settings.test s) ≡ None
+  pub narrow : (k : ℕ) (c : NamedClaim) → slice_get (all_claims m s) k ≡ Some c → (width_of m c.1 ≤ settings.width) × (nodes_of m c.1 ≤ 65536)
+  pub idles : CanIdle m s.enable
+  pub holds : ClaimsHold s.kind m s
+  pub room : limit_by s.kind m s ≡ None
+
+-- a stage that fits is inserted exactly where it deserves it
+abbrev pub InsertedExactly : Type 0
+InsertedExactly = (library : List CellData) (settings : Settings) (m : MachineData) (s : Stage) → IsMachine m → Fits m s → (tried library settings m s ≡ Ends Inserted) ↔ Deserves library settings m s
+
+-- and then the machine after it shows what the machine before it shows
+abbrev pub InsertedIsSafe : Type 0
+InsertedIsSafe = (library : List CellData) (settings : Settings) (m : MachineData) (s : Stage) → IsMachine m → Fits m s → tried library settings m s ≡ Ends Inserted → After m s (effect m s)
+
+-- the machine of a plan is a machine, and shows what the machine shows that the plan begins with
+abbrev pub PlanIsSafe : Type 0
+PlanIsSafe = (library : List CellData) (settings : Settings) (idle : Option IdleData) (m : MachineData) → IsMachine m → IsMachine (plan_of library settings idle m).machine × Same m (plan_of library settings idle m).machine
+
+-- begun with the machine of a netlist, it shows what the netlist shows in its lawful history
+abbrev pub PlanShowsNetlist : Type 0
+PlanShowsNetlist = (library : List CellData) (settings : Settings) (idle : Option IdleData) (c : Circuit) (prefix : List ℕ) → CanStart c prefix
+    → (start : List Bool) (wave : List Tick) (history : List Moment) → IsStart c start → IsWaveform c wave → IsLawful c start wave history
+    → shown (plan_of library settings idle (machine_of c prefix)).machine start wave ≡ outputs_of c history
+
+-- the same of a plan as it is told
+abbrev pub ToldIsSafe : Type 0
+ToldIsSafe = (library : List CellData) (settings : Settings) (idle : Option IdleData) (m : MachineData) (told : ToldPlan) → IsMachine m → IsPlan library settings idle m told → IsMachine told.machine × Same m told.machine

@@ -1,0 +1,10 @@
+pub mod Entries
+pub mod Chain
+pub mod TestSafe
+pub mod Path
+pub mod Guards
+pub mod Phases
+pub mod Linked
+pub mod Early
+pub mod Harm
+pub mod AllTest

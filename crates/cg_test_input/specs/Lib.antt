@@ -1,0 +1,2 @@
+pub mod TestRun
+pub mod Laws

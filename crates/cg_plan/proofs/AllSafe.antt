@@ -12,7 +12,7 @@ use Rattle.cg_machine.proofs.Started.{netlist_is_run, start_is_machine}
 use Rattle.cg_lists.proofs.HoldFits.{hold_fits}
 use Rattle.cg_lists.proofs.StableFits.{stable_fits}
 use Rattle.cg_lists.proofs.UnseenFits.{unseen_fits}
-use Rattle.cg_plan.specs.Laws.{InsertedIsSafe, PlanIsSafe, PlanShowsNetlist, ToldIsSafe}
+use Rattle.cg_plan.specs.Laws.{EachFits, InsertedIsSafe, PlanIsSafe, PlanShowsNetlist, ToldIsSafe}
 use Rattle.cg_plan.specs.Plan.{earlier_of}
 use Rattle.cg_plan.proofs.Decided.{inserted_claims, inserted_free}
 use Rattle.cg_plan.proofs.PlanSafe.{IsSafe, plan_safe}
@@ -26,7 +26,7 @@ inserted_safe library settings m s good fits is =
 
 pub plans_safe : PlanIsSafe
 plans_safe library settings idle m good =
-    let safe : IsSafe m (plan_of library settings idle m) = plan_safe library settings m idle good (hold_fits m good idle settings.width)
+    let safe : IsSafe library settings m (plan_of library settings idle m) = plan_safe library settings m idle good (hold_fits m good idle settings.width)
     (λ p g. stable_fits p.machine g (earlier_of p)) (λ p g. unseen_fits p.machine g (earlier_of p) settings.test) in
     (safe.good, safe.same)
 
@@ -47,3 +47,9 @@ shows_netlist library settings idle c prefix can start wave history started wave
 pub told_safe : ToldIsSafe
 told_safe library settings idle m told good is =
     subst (λ n. IsMachine n × Same m n) (sym is.machine) (plans_safe library settings idle m good)
+
+pub each_fits : EachFits
+each_fits library settings idle m good k turn at =
+    let safe : IsSafe library settings m (plan_of library settings idle m) = plan_safe library settings m idle good (hold_fits m good idle settings.width)
+        (λ p g. stable_fits p.machine g (earlier_of p)) (λ p g. unseen_fits p.machine g (earlier_of p) settings.test) in
+    safe.turns k turn at

@@ -1,5 +1,5 @@
 -- Stages compose: the machine of a plan shows what the machine shows that it begins with.
-use Rattle.std.proofs.Common.{◌≡◌, ℕ, zero, suc, ◌<◌, true, false, List, [], ◌∷◌, length, Option, None, Some, refl, sym, ◌∙◌, subst, arith}
+use Rattle.std.proofs.Common.{◌≡◌, ℕ, zero, suc, ◌<◌, true, false, List, [], ◌∷◌, length, Option, None, Some, refl, sym, ◌∙◌, subst, arith, slice_get, ◌++◌, inl, inr}
 use Rattle.cg_cell.specs.Cell.{CellData}
 use Rattle.cg_limit.specs.declared.Limit.{Limit}
 use Rattle.cg_netlist.specs.Circuit.{is_in}
@@ -16,12 +16,15 @@ use Rattle.cg_stage.proofs.StageSafe.{stage_safe}
 use Rattle.cg_lists.specs.Fit.{AllFit, AreApart}
 use Rattle.cg_lists.specs.HoldList.{hold_list}
 use Rattle.cg_lists.specs.Literals.{IdleData}
-use Rattle.cg_plan.specs.Plan.{Plan, after_outcome, after_try, begin, list_by, plan_of, rounds, try_all, try_one, unless_stopped}
+use Rattle.cg_plan.specs.Plan.{Turn, Plan, after_outcome, after_try, begin, list_by, plan_of, rounds, try_all, try_one, unless_stopped}
 use Rattle.cg_plan.specs.Trying.{Ends, Passes, Tried, tried}
 use Rattle.cg_plan.specs.declared.outcome.Outcome.{Outcome}
 use Rattle.cg_plan.specs.declared.outcome.Outcome.TheVariants.{Inserted, NeverIdle, NoCell, Refuted, Small, Wide}
 use Rattle.cg_plan.specs.declared.settings.Settings.{Settings}
 use Rattle.cg_plan.proofs.Decided.{inserted_claims, inserted_free}
+use Rattle.std.proofs.lemmas.Option.{none-some}
+use Rattle.cg_machine.proofs.Lists.{push_cases}
+use Rattle.cg_plan.specs.Laws.{IsTurn}
 
 -- a stage that fits still fits after one that shares no register with it
 still_fits : (m n : MachineData) (s0 : Stage) (s : Stage) → IsMachine m → After m s0 n → ((r : ℕ) → is_in s.regs r ≡ true → is_in s0.regs r ≡ false) → Fits m s → Fits n s
@@ -41,46 +44,53 @@ all_still : (m n : MachineData) (s0 : Stage) (stages : List Stage) → IsMachine
 all_still m n s0 [] good after apart fit = tt
 all_still m n s0 (s ∷ stages) good after apart fit = (still_fits m n s0 s good after apart.0 fit.0, fit.1, all_still m n s0 stages good after apart.1 fit.2)
 
--- what is true of a plan so far
-pub record IsSafe (m : MachineData) (p : Plan) : Type 0 where
-  pub good : IsMachine p.machine
-  pub same : Same m p.machine
-
 module _ (library : List CellData) (settings : Settings) (m : MachineData) where
+  -- what is true of a plan so far
+  pub record IsSafe (p : Plan) : Type 0 where
+    pub good : IsMachine p.machine
+    pub same : Same m p.machine
+    pub turns : (k : ℕ) (turn : Turn) → slice_get p.turns k ≡ Some turn → IsTurn library settings turn
+
   -- a stage that was tried, and what it leaves of the stages behind it
   pub record Next (p q : Plan) (stages : List Stage) : Type 0 where
-    pub safe : IsSafe m q
+    pub safe : IsSafe q
     pub fit : AllFit q.machine stages
 
-  pub one_safe : (p : Plan) (s : Stage) (stages : List Stage) → IsSafe m p → Fits p.machine s → AreApart s.regs stages → AllFit p.machine stages → Next p (try_one library settings p s) stages
+  pub one_safe : (p : Plan) (s : Stage) (stages : List Stage) → IsSafe p → Fits p.machine s → AreApart s.regs stages → AllFit p.machine stages → Next p (try_one library settings p s) stages
   one_safe p s stages safe fits apart fit = go (tried library settings p.machine s) refl
     where
-      stays : (outcome : Outcome) → after_outcome p.machine s outcome ≡ p.machine → Next p (after_try p s (Ends outcome)) stages
-      stays outcome same = record {
-        safe = record { good = subst IsMachine (sym same) safe.good; same = subst (Same m) (sym same) safe.same };
+      more : (outcome : Outcome) → tried library settings p.machine s ≡ Ends outcome → (k : ℕ) (turn : Turn) → slice_get (p.turns ++ record { machine = p.machine; stage = s; outcome = outcome } ∷ []) k ≡ Some turn → IsTurn library settings turn
+      more outcome is k turn at = elim (push_cases p.turns (record { machine = p.machine; stage = s; outcome = outcome }) turn k at) [
+        | inl before ↦ safe.turns k turn before
+        | inr last ↦ subst (IsTurn library settings) last.1 (record { is_machine = safe.good; fits = fits; comes = is })
+      ]
+
+      stays : (outcome : Outcome) → tried library settings p.machine s ≡ Ends outcome → after_outcome p.machine s outcome ≡ p.machine → Next p (after_try p s (Ends outcome)) stages
+      stays outcome is same = record {
+        safe = record { good = subst IsMachine (sym same) safe.good; same = subst (Same m) (sym same) safe.same; turns = more outcome is };
         fit = subst (λ n. AllFit n stages) (sym same) fit;
       }
 
       go : (t : Tried) → tried library settings p.machine s ≡ t → Next p (after_try p s t) stages
-      go (Passes limit) is = record { safe = record { good = safe.good; same = safe.same }; fit = fit }
+      go (Passes limit) is = record { safe = record { good = safe.good; same = safe.same; turns = safe.turns }; fit = fit }
       go (Ends Inserted) is =
           let below : (r : ℕ) → is_in s.regs r ≡ true → r < length p.machine.circuit.registers = λ r among. let b = fits.registers r among in omega (arith, b, safe.good.own_registers) in
           let after : After p.machine s (effect p.machine s) = stage_safe p.machine s safe.good fits (inserted_free p.machine s safe.good below library settings is) (inserted_claims p.machine s safe.good below library settings is) in
           record {
-            safe = record { good = after.is_machine; same = same_then m p.machine (effect p.machine s) safe.same after.same };
+            safe = record { good = after.is_machine; same = same_then m p.machine (effect p.machine s) safe.same after.same; turns = more Inserted is };
             fit = all_still p.machine (effect p.machine s) s stages safe.good after apart fit;
           }
-      go (Ends (Refuted c bits)) is = stays (Refuted c bits) refl
-      go (Ends (Wide c n)) is = stays (Wide c n) refl
-      go (Ends NeverIdle) is = stays NeverIdle refl
-      go (Ends (Small n)) is = stays (Small n) refl
-      go (Ends (NoCell k)) is = stays (NoCell k) refl
+      go (Ends (Refuted c bits)) is = stays (Refuted c bits) is refl
+      go (Ends (Wide c n)) is = stays (Wide c n) is refl
+      go (Ends NeverIdle) is = stays NeverIdle is refl
+      go (Ends (Small n)) is = stays (Small n) is refl
+      go (Ends (NoCell k)) is = stays (NoCell k) is refl
 
-  pub unless : (o : Option Limit) (p q : Plan) → IsSafe m p → IsSafe m q → IsSafe m (unless_stopped o p q)
+  pub unless : (o : Option Limit) (p q : Plan) → IsSafe p → IsSafe q → IsSafe (unless_stopped o p q)
   unless None p q sp sq = sq
   unless (Some limit) p q sp sq = sp
 
-  pub all_safe : (p : Plan) (stages : List Stage) → IsSafe m p → AllFit p.machine stages → IsSafe m (try_all library settings p stages)
+  pub all_safe : (p : Plan) (stages : List Stage) → IsSafe p → AllFit p.machine stages → IsSafe (try_all library settings p stages)
   all_safe p [] safe fit = safe
   all_safe p (s ∷ stages) safe fit =
       let q : Plan = try_one library settings p s in
@@ -89,23 +99,23 @@ module _ (library : List CellData) (settings : Settings) (m : MachineData) where
 
   -- the lists of rounds fit, whatever was tried before
   module _ (kind : StageKind) (lists : (p : Plan) → IsMachine p.machine → AllFit p.machine (list_by kind settings p)) where
-    pub rounds_safe : (n : ℕ) (p : Plan) → IsSafe m p → IsSafe m (rounds library settings kind n p)
+    pub rounds_safe : (n : ℕ) (p : Plan) → IsSafe p → IsSafe (rounds library settings kind n p)
     rounds_safe zero p safe = safe
     rounds_safe (suc n) p safe =
         let q : Plan = try_all library settings p (list_by kind settings p) in
-        let done : IsSafe m q = all_safe p (list_by kind settings p) safe (lists p safe.good) in
+        let done : IsSafe q = all_safe p (list_by kind settings p) safe (lists p safe.good) in
         unless q.limit q (rounds library settings kind n q) done (rounds_safe n q done)
 
   module _ (idle : Option IdleData) (good : IsMachine m)
       (hold_fits : AllFit m (hold_list m idle settings.width))
       (stable_fits : (p : Plan) → IsMachine p.machine → AllFit p.machine (list_by Stable settings p))
       (unseen_fits : (p : Plan) → IsMachine p.machine → AllFit p.machine (list_by Unseen settings p)) where
-    pub plan_safe : IsSafe m (plan_of library settings idle m)
+    pub plan_safe : IsSafe (plan_of library settings idle m)
     plan_safe =
         let p : Plan = begin m idle settings in
-        let b0 : IsSafe m p = record { good = good; same = same_self m } in
+        let b0 : IsSafe p = record { good = good; same = same_self m; turns = λ k turn at. absurd (none-some turn at) } in
         let held : Plan = unless_stopped p.limit p (try_all library settings p (hold_list m idle settings.width)) in
-        let s1 : IsSafe m held = unless p.limit p (try_all library settings p (hold_list m idle settings.width)) b0 (all_safe p (hold_list m idle settings.width) b0 hold_fits) in
+        let s1 : IsSafe held = unless p.limit p (try_all library settings p (hold_list m idle settings.width)) b0 (all_safe p (hold_list m idle settings.width) b0 hold_fits) in
         let stable : Plan = unless_stopped held.limit held (rounds library settings Stable settings.rounds held) in
-        let s2 : IsSafe m stable = unless held.limit held (rounds library settings Stable settings.rounds held) s1 (rounds_safe Stable stable_fits settings.rounds held s1) in
+        let s2 : IsSafe stable = unless held.limit held (rounds library settings Stable settings.rounds held) s1 (rounds_safe Stable stable_fits settings.rounds held s1) in
         unless stable.limit stable (rounds library settings Unseen settings.rounds stable) s2 (rounds_safe Unseen unseen_fits settings.rounds stable s2)

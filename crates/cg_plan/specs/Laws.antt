@@ -15,7 +15,7 @@ use Rattle.cg_stage.specs.Effects.{limit_by}
 use Rattle.cg_stage.specs.Laws.{After}
 use Rattle.cg_stage.specs.Needs.{missing, needs}
 use Rattle.cg_stage.specs.Stages.{ClaimsHold, Fits}
-use Rattle.cg_plan.specs.Plan.{plan_of}
+use Rattle.cg_plan.specs.Plan.{Turn, plan_of}
 use Rattle.cg_plan.specs.StageClaims.{NamedClaim, all_claims}
 use Rattle.cg_plan.specs.Trying.{Ends, tried}
 use Rattle.cg_plan.specs.Told.{IsPlan, ToldPlan}
@@ -40,6 +40,17 @@ InsertedExactly = (library : List CellData) (settings : Settings) (m : MachineDa
 -- and then the machine after it shows what the machine before it shows
 abbrev pub InsertedIsSafe : Type 0
 InsertedIsSafe = (library : List CellData) (settings : Settings) (m : MachineData) (s : Stage) → IsMachine m → Fits m s → tried library settings m s ≡ Ends Inserted → After m s (effect m s)
+
+-- the turn of a stage: it is tried on a machine that it fits, and its outcome is what comes of it there
+pub record IsTurn (library : List CellData) (settings : Settings) (turn : Turn) : Type 0 where
+  pub is_machine : IsMachine turn.machine
+  pub fits : Fits turn.machine turn.stage
+  pub comes : tried library settings turn.machine turn.stage ≡ Ends turn.outcome
+
+-- so it is with each stage of a plan: the stages of its lists still fit at their turn
+abbrev pub EachFits : Type 0
+EachFits = (library : List CellData) (settings : Settings) (idle : Option IdleData) (m : MachineData) → IsMachine m
+    → (k : ℕ) (turn : Turn) → slice_get (plan_of library settings idle m).turns k ≡ Some turn → IsTurn library settings turn
 
 -- the machine of a plan is a machine, and shows what the machine shows that the plan begins with
 abbrev pub PlanIsSafe : Type 0

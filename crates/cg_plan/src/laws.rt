@@ -1,15 +1,16 @@
 //! What is proved of plans.
 
-ghost use Rattle.cg_plan.specs.Laws.{InsertedExactly, InsertedIsSafe, PlanIsSafe, PlanShowsNetlist, ToldIsSafe};
+ghost use Rattle.cg_plan.specs.Laws.{EachFits, InsertedExactly, InsertedIsSafe, PlanIsSafe, PlanShowsNetlist, ToldIsSafe};
 
 /// The laws of plans: a stage is inserted exactly where its claims hold and are narrow, it can idle, it is large enough, the
-/// library has its cells and no limit is passed; and the machine of a plan shows, from every start with 1 in the delay
+/// library has its cells and no limit is passed; each stage of a plan fits the machine at its turn; and the machine of a plan shows, from every start with 1 in the delay
 /// registers and over every waveform, what the machine shows that the plan begins with.
 ///
 /// The call does nothing; callers use what it ensures.
 pub fn plan_laws()
     ensures exactly { InsertedExactly }
     ensures safe { InsertedIsSafe }
+    ensures turns { EachFits }
     ensures plan { PlanIsSafe }
     ensures netlist { PlanShowsNetlist }
     ensures told { ToldIsSafe }

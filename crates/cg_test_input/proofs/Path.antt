@@ -131,7 +131,7 @@ module _ (library : List CellData) (settings : Settings) (m : MachineData) (Aske
     (insert : (p : Plan) (s : Stage) → Inv p → Asked s → Step p.machine s → Inv (inserted_in p s))
     (other : (p : Plan) (s : Stage) (outcome : Outcome) → is_inserted outcome ≡ false → Inv p → Inv (record { machine = p.machine; turns = p.turns ++ turn_of p s outcome ∷ []; limit = None }))
     (stops : (p : Plan) (limit : Limit) → Inv p → Inv (record { machine = p.machine; turns = p.turns; limit = Some limit })) where
-  one_inv : (p : Plan) (s : Stage) → IsSafe m p → Fits p.machine s → Asked s → Inv p → Inv (try_one library settings p s)
+  one_inv : (p : Plan) (s : Stage) → IsSafe library settings m p → Fits p.machine s → Asked s → Inv p → Inv (try_one library settings p s)
   one_inv p s safe fits asked inv = go (tried library settings p.machine s) refl
     where
       go : (t : Tried) → tried library settings p.machine s ≡ t → Inv (after_try p s t)
@@ -149,7 +149,7 @@ module _ (library : List CellData) (settings : Settings) (m : MachineData) (Aske
   inv_unless None p q ip iq = iq
   inv_unless (Some limit) p q ip iq = ip
 
-  pub all_inv : (p : Plan) (stages : List Stage) → IsSafe m p → AllFit p.machine stages → Every Asked stages → Inv p → Inv (try_all library settings p stages)
+  pub all_inv : (p : Plan) (stages : List Stage) → IsSafe library settings m p → AllFit p.machine stages → Every Asked stages → Inv p → Inv (try_all library settings p stages)
   all_inv p [] safe fit asked inv = inv
   all_inv p (s ∷ stages) safe fit asked inv =
       let q : Plan = try_one library settings p s in

@@ -125,7 +125,7 @@ and_false true = refl
 and_false false = refl
 
 module _ (library : List CellData) (settings : Settings) (m : MachineData) where
-  first_all : (p : Plan) (stages : List Stage) → IsSafe m p → AllFit p.machine stages → Every IsEarly stages → First m p → First m (try_all library settings p stages)
+  first_all : (p : Plan) (stages : List Stage) → IsSafe library settings m p → AllFit p.machine stages → Every IsEarly stages → First m p → First m (try_all library settings p stages)
   first_all p stages safe fit early first = all_inv library settings m IsEarly (First m)
       (λ p s inv asked step. record {
         path = (p.machine, s) ∷ inv.path;
@@ -142,7 +142,7 @@ module _ (library : List CellData) (settings : Settings) (m : MachineData) where
       (λ p limit inv. record { path = inv.path; is = inv.is; kinds = inv.kinds; none = inv.none })
       p stages safe fit early first
 
-  second_all : (b : MachineData) (K : List ℕ) (p : Plan) (stages : List Stage) → IsSafe m p → AllFit p.machine stages → Every (UnseenIn b K) stages → Second b K p → Second b K (try_all library settings p stages)
+  second_all : (b : MachineData) (K : List ℕ) (p : Plan) (stages : List Stage) → IsSafe library settings m p → AllFit p.machine stages → Every (UnseenIn b K) stages → Second b K p → Second b K (try_all library settings p stages)
   second_all b K p stages safe fit asked second = all_inv library settings m (UnseenIn b K) (Second b K)
       (λ p s inv asked step. record {
         path = (p.machine, s) ∷ inv.path;
@@ -180,7 +180,7 @@ module _ (library : List CellData) (settings : Settings) (m : MachineData) where
   stable_early [] = tt
   stable_early (g ∷ groups) = (refl, stable_early groups)
 
-  first_rounds : (n : ℕ) (p : Plan) → IsSafe m p → First m p → First m (rounds library settings Stable n p)
+  first_rounds : (n : ℕ) (p : Plan) → IsSafe library settings m p → First m p → First m (rounds library settings Stable n p)
   first_rounds zero p safe first = first
   first_rounds (suc n) p safe first =
       let stages : List Stage = stable_list p.machine (earlier_of p) in
@@ -198,7 +198,7 @@ module _ (library : List CellData) (settings : Settings) (m : MachineData) where
     pub kept : List ℕ
     pub second : Second b kept p
 
-  later_rounds : settings.test ≡ true → (b : MachineData) → IsMachine b → (n : ℕ) (p : Plan) → IsSafe m p → Later b p → Later b (rounds library settings Unseen n p)
+  later_rounds : settings.test ≡ true → (b : MachineData) → IsMachine b → (n : ℕ) (p : Plan) → IsSafe library settings m p → Later b p → Later b (rounds library settings Unseen n p)
   later_rounds test b good zero p safe later = later
   later_rounds test b good (suc n) p safe later =
       let stages : List Stage = unseen_list p.machine settings.test (earlier_of p) in
@@ -243,24 +243,24 @@ module _ (library : List CellData) (settings : Settings) (m : MachineData) where
 
   pub record Phases (p : Plan) : Type 0 where
     pub middle : Plan
-    pub safe : IsSafe m middle
+    pub safe : IsSafe library settings m middle
     pub first : First m middle
     pub later : Later middle.machine p
 
   pub phases : IsMachine m → settings.test ≡ true → (idle : Option IdleData) → Phases (plan_of library settings idle m)
   phases good test idle =
       let p : Plan = begin m idle settings in
-      let s0 : IsSafe m p = record { good = good; same = same_self m } in
+      let s0 : IsSafe library settings m p = record { good = good; same = same_self m; turns = λ k turn at. absurd (none-some turn at) } in
       let f0 : First m p = record { path = []; is = refl; kinds = tt; none = λ q among. both_ways false refl among } in
       let list : List Stage = hold_list m idle settings.width in
       let fit : AllFit m list = hold_fits m good idle settings.width in
       let tried : Plan = try_all library settings p list in
       let held : Plan = unless_stopped p.limit p tried in
-      let s1 : IsSafe m held = unless library settings m p.limit p tried s0 (all_safe library settings m p list s0 fit) in
+      let s1 : IsSafe library settings m held = unless library settings m p.limit p tried s0 (all_safe library settings m p list s0 fit) in
       let f1 : First m held = stop p.limit p tried f0 (first_all p list s0 fit (hold_early idle settings.width) f0) in
       let more : Plan = rounds library settings Stable settings.rounds held in
       let stable : Plan = unless_stopped held.limit held more in
-      let s2 : IsSafe m stable = unless library settings m held.limit held more s1 (rounds_safe library settings m Stable (λ q g. stable_fits q.machine g (earlier_of q)) settings.rounds held s1) in
+      let s2 : IsSafe library settings m stable = unless library settings m held.limit held more s1 (rounds_safe library settings m Stable (λ q g. stable_fits q.machine g (earlier_of q)) settings.rounds held s1) in
       let f2 : First m stable = stop held.limit held more f1 (first_rounds settings.rounds held s1 f1) in
       let l0 : Later stable.machine stable = record { kept = []; second = record { path = []; is = refl; done = tt; free = λ q among. absurd (both_ways false refl among); within = λ q among. absurd (f2.none q among) } } in
       record { middle = stable; safe = s2; first = f2; later = stop2 stable.machine stable.limit stable (rounds library settings Unseen settings.rounds stable) l0 (later_rounds test stable.machine s2.good settings.rounds stable s2 l0) }

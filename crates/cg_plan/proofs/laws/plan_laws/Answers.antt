@@ -1,11 +1,12 @@
 use Rattle.cg_plan.proofs.laws.plan_laws.Goals as goal
-use Rattle.cg_plan.proofs.AllSafe.{inserted_safe, plans_safe, shows_netlist, told_safe}
+use Rattle.cg_plan.proofs.AllSafe.{each_fits, inserted_safe, plans_safe, shows_netlist, told_safe}
 use Rattle.cg_plan.proofs.Exactly.{inserted_exactly}
 
 pub returns : goal.returns
 returns c = record {
   exactly = inserted_exactly;
   safe = inserted_safe;
+  turns = each_fits;
   plan = plans_safe;
   netlist = shows_netlist;
   told = told_safe;

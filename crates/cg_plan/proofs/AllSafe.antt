@@ -51,5 +51,5 @@ told_safe library settings idle m told good is =
 pub each_fits : EachFits
 each_fits library settings idle m good k turn at =
     let safe : IsSafe library settings m (plan_of library settings idle m) = plan_safe library settings m idle good (hold_fits m good idle settings.width)
-        (λ p g. stable_fits p.machine g (earlier_of p)) (λ p g. unseen_fits p.machine g (earlier_of p) settings.test) in
+    (λ p g. stable_fits p.machine g (earlier_of p)) (λ p g. unseen_fits p.machine g (earlier_of p) settings.test) in
     safe.turns k turn at

@@ -3,3 +3,4 @@ pub mod PlanSafe
 pub mod Exactly
 pub mod AllSafe
 pub mod Examples
+pub mod Telling

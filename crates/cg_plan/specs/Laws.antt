@@ -1,5 +1,5 @@
 -- What is proved of trying stages and of plans.
-use Rattle.std.specs.Prelude.{◌≡◌, ◌↔◌, ◌≤◌, ℕ, Bool, List, length, Option, None, slice_get, Some}
+use Rattle.std.specs.Prelude.{◌≡◌, ◌↔◌, ◌≤◌, ℕ, Bool, List, length, Option, None, slice_get, Some, ◌+◌, ◌++◌, [], ◌∷◌}
 use Rattle.cg_cell.specs.Cell.{CellData}
 use Rattle.cg_netlist.specs.Circuit.{Circuit}
 use Rattle.cg_netlist.specs.History.{IsLawful, IsStart, IsWaveform, Moment, Tick, outputs_of}
@@ -18,7 +18,9 @@ use Rattle.cg_stage.specs.Stages.{ClaimsHold, Fits}
 use Rattle.cg_plan.specs.Plan.{Turn, plan_of}
 use Rattle.cg_plan.specs.StageClaims.{NamedClaim, all_claims}
 use Rattle.cg_plan.specs.Trying.{Ends, tried}
-use Rattle.cg_plan.specs.Told.{IsPlan, ToldPlan}
+use Rattle.cg_plan.specs.Told.{AreAppended, AreCertified, AreTold, IsPlan, Tells, ToldPlan, claims_for, plan_claims}
+use Rattle.cg_plan.specs.declared.certificate.Certificate.{Certificate}
+use Rattle.cg_plan.specs.declared.outcome.Outcome.{Outcome}
 use Rattle.cg_plan.specs.declared.outcome.Outcome.TheVariants.{Inserted}
 use Rattle.cg_plan.specs.declared.settings.Settings.{Settings}
 use Rattle.cg_stage.specs.Effects.{effect}
@@ -65,3 +67,13 @@ PlanShowsNetlist = (library : List CellData) (settings : Settings) (idle : Optio
 -- the same of a plan as it is told
 abbrev pub ToldIsSafe : Type 0
 ToldIsSafe = (library : List CellData) (settings : Settings) (idle : Option IdleData) (m : MachineData) (told : ToldPlan) → IsMachine m → IsPlan library settings idle m told → IsMachine told.machine × Same m told.machine
+
+-- What is told of a plan may be told turn by turn: of one more turn its stage with its outcome behind the others, and the
+-- certificates of its claims behind the others.
+abbrev pub StagesAreTold : Type 0
+StagesAreTold = (turns : List Turn) (told : List (Stage × Outcome)) (turn : Turn) (outcome : Outcome) → AreTold turns told → Tells turn.machine turn.stage (Ends turn.outcome) outcome
+    → AreTold (turns ++ turn ∷ []) (told ++ (turn.stage, outcome) ∷ [])
+
+abbrev pub CertificatesAreTold : Type 0
+CertificatesAreTold = (turns : List Turn) (turn : Turn) (before after : List Certificate) → AreCertified (plan_claims 1 turns) before
+    → AreAppended (claims_for (1 + length turns) turn.machine turn.stage turn.outcome) before after → AreCertified (plan_claims 1 (turns ++ turn ∷ [])) after

@@ -77,10 +77,20 @@ AreCertified (c ∷ claims) (certificate ∷ certificates) = Certifies c certifi
 abbrev pub certified_claims : ℕ → MachineData → Stage → List StageClaim
 certified_claims number m s = map (λ c. record { machine = m; number = number; claim = c }) (claims_of m s)
 
+-- the claims that are certified where this comes of a stage
+abbrev pub claims_for : ℕ → MachineData → Stage → Outcome → List StageClaim
+claims_for number m s outcome = if is_inserted outcome then certified_claims number m s else []
+
 -- those of the turns of a plan, of which the first has this number
 abbrev pub plan_claims : ℕ → List Turn → List StageClaim
 plan_claims number [] = []
-plan_claims number (turn ∷ turns) = (if is_inserted turn.outcome then certified_claims number turn.machine turn.stage else []) ++ plan_claims (number + 1) turns
+plan_claims number (turn ∷ turns) = claims_for number turn.machine turn.stage turn.outcome ++ plan_claims (number + 1) turns
+
+-- certificates of these claims are put behind others
+pub record AreAppended (claims : List StageClaim) (before after : List Certificate) : Type 0 where
+  pub more : List Certificate
+  pub whole : after ≡ before ++ more
+  pub certified : AreCertified claims more
 
 -- stages with their outcomes as they are told of turns, one for each turn in order
 abbrev pub AreTold : List Turn → List (Stage × Outcome) → Type 0

@@ -1,6 +1,7 @@
 use Rattle.cg_plan.proofs.laws.plan_laws.Goals as goal
 use Rattle.cg_plan.proofs.AllSafe.{each_fits, inserted_safe, plans_safe, shows_netlist, told_safe}
 use Rattle.cg_plan.proofs.Exactly.{inserted_exactly}
+use Rattle.cg_plan.proofs.Telling.{certificates_told, stages_told}
 
 pub returns : goal.returns
 returns c = record {
@@ -10,4 +11,6 @@ returns c = record {
   plan = plans_safe;
   netlist = shows_netlist;
   told = told_safe;
+  stages = stages_told;
+  certificates = certificates_told;
 }

@@ -20,7 +20,8 @@ use Rattle.cg_claim.specs.Reach.{changed_states}
 use Rattle.cg_claim.specs.Targets.{meets}
 use Rattle.cg_claim.specs.Violates.{Free, IsNeverViolated, PartFits, part_bit, violates}
 use Rattle.cg_claim.proofs.ClaimsHold.{never_unseen}
-use Rattle.cg_claim.proofs.GoalBits.{found_bit, goal_at, leaf_among}
+use Rattle.cg_claim.proofs.GoalBits.{goal_at}
+use Rattle.cg_claim.proofs.LeavesFound.{found_bit, leaf_among}
 
 any_member : (test : ℕ → Bool) (xs : List ℕ) (x : ℕ) → is_in xs x ≡ true → test x ≡ true → list_any test xs ≡ true
 any_member test [] x among is = absurd (both_ways false refl among)

@@ -9,6 +9,8 @@ pub mod GivenNets
 pub mod Goal
 pub mod GoalBits
 pub mod HoldWidths
+pub mod LeafOrder
+pub mod LeavesFound
 pub mod NextBits
 pub mod OneCopy
 pub mod Places

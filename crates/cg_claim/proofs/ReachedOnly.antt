@@ -1,8 +1,8 @@
 -- What is built depends on what is reached alone: tables that are alike there lead to tables that are alike there.
-use Rattle.std.proofs.Common.{◌≡◌, ℕ, zero, suc, ◌+◌, ◌<◌, Bool, true, false, not, ◌&&◌, ◌||◌, cond, if◌then◌else◌, List, [], ◌∷◌, ◌++◌, map, length, nat_eq, slice_get, slice_index_or, Option, Some, None, is_some, refl, sym, ◌∙◌, ap, subst, inl, inr, arith}
-use Rattle.std.specs.List.{filter, flat_map}
+use Rattle.std.proofs.Common.{◌≡◌, ℕ, zero, suc, ◌<◌, Bool, true, false, ◌||◌, cond, if◌then◌else◌, List, [], ◌∷◌, ◌++◌, map, length, nat_eq, slice_get, slice_index_or, Option, Some, None, is_some, refl, sym, ◌∙◌, ap, subst, inl, inr}
+use Rattle.std.specs.List.{filter}
 use Rattle.std.specs.Option.{option_map_or, option_to_list}
-use Rattle.std.proofs.lemmas.Bool.{both_ways, cases_Bool, eqb-true, eq-eqb, or_cases, or_left, or_right}
+use Rattle.std.proofs.lemmas.Bool.{both_ways, cases_Bool, eq-eqb, or_left, or_right}
 use Rattle.std.proofs.lemmas.List.{length-map}
 use Rattle.std.proofs.lemmas.Option.{none-some, same_Some}
 use Rattle.cg_cell.specs.Build.{Run, build_and, build_mux, build_not, build_or, build_xor, chain, plain}
@@ -15,17 +15,15 @@ use Rattle.cg_netlist.proofs.Members.{is_in_left, is_in_right}
 use Rattle.cg_netlist.proofs.Values.{element_at, map_same}
 use Rattle.cg_machine.specs.Claims.{Literal}
 use Rattle.cg_machine.specs.Machine.{IsMachine, MachineData, enable_of, walk_of}
-use Rattle.cg_claim.specs.Build.{Copies, Table, Values, after_state_table, after_table, before_table, cell_run, changed_state, changed_table, copies, enable_run, from_state, function_term, given, goal_of, goal_run, join_run, lay, lay_states, leaf_value, literal_of, mux_run, next_run, next_run_of, nets_in, part_run, put, put_run, question_run, reached_cells, shown_by, side_run, start_nets, state_run, states_in}
-use Rattle.cg_claim.specs.declared.leaf.LeafSource.TheVariants.{Input as InputOf, Register as RegisterOf}
-use Rattle.cg_claim.specs.Leaves.{Leaf, leaves_of}
-use Rattle.cg_claim.specs.Question.{Copy, Before, After, Changed, Part, Net, Next, State, Enable, Question, Side}
-use Rattle.cg_claim.specs.Reach.{after_nets, after_states, before_nets, changed_nets, changed_states, cone_of, enable_nets, feeds, inputs_of_register, nets_reached, next_asks_own, next_nets, origin_asks, origin_nets, part_asks, part_nets, reads_own, register_term, registers_of, side_asks, side_nets, sides_ask, sides_nets, states_reached}
+use Rattle.cg_claim.specs.Build.{Table, Values, cell_run, enable_run, from_state, function_term, given, join_run, lay, lay_states, literal_of, mux_run, next_run, next_run_of, part_run, put_run, reached_cells, shown_by, start_nets, state_run}
+use Rattle.cg_claim.specs.Question.{Part, Net, Next, State, Enable, Question}
+use Rattle.cg_claim.specs.Reach.{cone_of, feeds, next_asks_own, next_nets, origin_asks, origin_nets, part_asks, part_nets, reads_own, register_term}
 use Rattle.cg_claim.specs.Tables.{SameOn}
-use Rattle.cg_claim.specs.Violates.{PartFits, SidesFit}
+use Rattle.cg_claim.specs.Violates.{PartFits}
 use Rattle.cg_claim.proofs.CellsLaid.{AreClosed, in_head, in_tail}
 use Rattle.cg_claim.proofs.ClosedCones.{cone_closed}
 use Rattle.cg_claim.proofs.GivenNets.{shown_feeds}
-use Rattle.cg_claim.proofs.Reached.{both_true, enables_in, in_filter, not_of, origins_in}
+use Rattle.cg_claim.proofs.Reached.{both_true}
 
 -- the inputs of each cell pass a test
 abbrev pub ReadOn : (ℕ → Bool) → List (LogicCell ℕ) → Type 0

@@ -1,6 +1,6 @@
 -- A claim is built stage by stage: where each stage begins as the definition's does, as far as that is reached, the whole
 -- is the definition's.
-use Rattle.std.proofs.Common.{◌≡◌, ℕ, ◌+◌, ◌<◌, Bool, true, false, not, ◌&&◌, ◌||◌, if◌then◌else◌, List, [], ◌∷◌, ◌++◌, length, Option, Some, None, refl, sym, ◌∙◌, ap, subst, arith, inl, inr}
+use Rattle.std.proofs.Common.{◌≡◌, ℕ, ◌+◌, Bool, true, false, not, ◌&&◌, ◌||◌, if◌then◌else◌, List, ◌++◌, length, Option, Some, None, refl, ◌∙◌, ap, subst, arith, inl, inr}
 use Rattle.std.specs.List.{filter, flat_map}
 use Rattle.std.proofs.lemmas.Bool.{both_ways, or_left, or_right}
 use Rattle.cg_cell.specs.Build.{Run, build_and, build_xor, chain}
@@ -11,7 +11,7 @@ use Rattle.cg_claim.specs.Build.{Copies, Table, Values, after_state_table, after
 use Rattle.cg_claim.specs.declared.leaf.LeafSource.TheVariants.{Input as InputOf, Register as RegisterOf}
 use Rattle.cg_claim.specs.Leaves.{Leaf}
 use Rattle.cg_claim.specs.Question.{Copy, Before, After, Changed, Question, Side}
-use Rattle.cg_claim.specs.Reach.{after_nets, after_states, before_nets, before_states, changed_nets, changed_states, enable_nets, feeds, nets_reached, origin_asks, origin_nets, part_asks, part_nets, registers_of, same_copy, side_asks, side_nets, sides_ask, sides_nets, states_reached}
+use Rattle.cg_claim.specs.Reach.{after_nets, after_states, before_nets, before_states, changed_nets, changed_states, enable_nets, feeds, nets_reached, origin_asks, origin_nets, part_asks, part_nets, registers_of, sides_ask, sides_nets, states_reached}
 use Rattle.cg_claim.specs.Tables.{SameOn}
 use Rattle.cg_claim.specs.Violates.{PartFits, SidesFit}
 use Rattle.cg_claim.proofs.Reached.{after_within, both_true, enables_in, in_filter, not_of, origins_in, range_in, side_asks_in, side_nets_in, to_filter}

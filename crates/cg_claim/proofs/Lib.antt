@@ -5,6 +5,7 @@ pub mod ClaimsHold
 pub mod ClaimsSaid
 pub mod ClosedCones
 pub mod ConesReach
+pub mod DriversTell
 pub mod GivenNets
 pub mod Goal
 pub mod GoalBits

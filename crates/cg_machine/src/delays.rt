@@ -1,7 +1,8 @@
 //! The delay registers that were added to a machine, found by the net that they delay.
 
-ghost use Rattle.std.specs.Prelude.{◌≡◌, ◌<◌, ◌++◌, ◌∷◌, [], None, OnErr, OnOk, Some, length, nat_eq, slice_get};
-ghost use Rattle.std.specs.List.{find};
+ghost use Rattle.std.specs.Prelude.{◌≡◌, ◌<◌, ◌++◌, ◌∷◌, [], None, OnErr, OnOk, Some, length, map, nat_eq, slice_get};
+ghost use Rattle.cg_machine.specs.inner.Putting.{put_bits};
+ghost use Rattle.std.specs.List.{All, find};
 ghost use Rattle.std.specs.Option.{option_map};
 
 use cg_netlist::id::NetId;
@@ -65,5 +66,17 @@ impl Delays {
     {
         self.by_net.insert(net.number(), output)?;
         Ok(())
+    }
+
+    /// Puts at the outputs of the delay registers their bits.
+    pub(crate) fn put(&self, state: &[bool], values: &mut [bool])
+        requires state { length state.now ≡ length self.now }
+        requires nets { All (λ delay. delay.1 < length values.old) self.now }
+        ensures { values.new ≡ put_bits (map (λ delay. delay.1) self.now) state.now values.old }
+    {
+        for number in 0..self.len() {
+            let (_, output) = self.delay(number);
+            values[output.number() as usize] = state[number];
+        }
     }
 }

@@ -1,10 +1,14 @@
 //! The gates that were added to a machine, found by what they compute.
 
-ghost use Rattle.std.specs.Prelude.{◌≡◌, ◌<◌, ◌++◌, ◌∷◌, [], None, OnErr, OnOk, Some, length, slice_get};
-ghost use Rattle.std.specs.List.{find};
+ghost use Rattle.std.specs.Prelude.{◌≡◌, ◌<◌, ◌&&◌, ◌||◌, ◌++◌, ◌∷◌, [], ℕ, None, OnErr, OnOk, Some, length, map, slice_get};
+ghost use Rattle.std.specs.List.{All, find};
 ghost use Rattle.std.specs.Option.{option_map};
 ghost use Rattle.cg_machine.specs.Added.{is_gate};
-ghost use Rattle.cg_machine.specs.Gates.{HasInputs};
+ghost use Rattle.cg_cell.specs.Cover.{cover_value};
+ghost use Rattle.cg_netlist.specs.Moment.{values_at};
+ghost use Rattle.cg_netlist.specs.Netlist.{widest_of};
+ghost use Rattle.cg_netlist.specs.Nets.{put_cells};
+ghost use Rattle.cg_machine.specs.Gates.{HasInputs, gate_cell, gate_cover};
 ghost use Rattle.cg_machine.specs.inner.Kept.{key_of};
 ghost use Rattle.cg_machine.specs.View.{gate_seen};
 
@@ -42,6 +46,53 @@ impl Gate {
             output: self.output,
         }
     }
+
+    /// What the gate computes of the bits at its inputs.
+    pub(crate) fn value(&self, values: &[bool]) -> bool
+        requires fits { HasInputs self.now.kind (length self.now.inputs) }
+        requires nets { All (λ net. net < length values.now) self.now.inputs }
+        ensures { result ≡ cover_value (gate_cover self.now.kind) (values_at values.now self.now.inputs) }
+    {
+        match self.kind {
+            FitKind::Inv => !self.bit(0, values),
+            FitKind::And2 => both(self.bit(0, values), self.bit(1, values)),
+            FitKind::Or2 => either(self.bit(0, values), self.bit(1, values)),
+            _ => false,
+        }
+    }
+
+    /// The bit at one of the inputs.
+    fn bit(&self, pin: usize, values: &[bool]) -> bool
+        requires pin { pin < length self.now.inputs }
+        requires nets { All (λ net. net < length values.now) self.now.inputs }
+        ensures { (net : ℕ) → slice_get self.now.inputs pin ≡ Some net → slice_get values.now net ≡ Some result }
+    {
+        let inputs = &self.inputs;
+        bit_at(inputs, pin, values)
+    }
+}
+
+/// The bit at one of these nets.
+fn bit_at(nets: &[NetId], place: usize, values: &[bool]) -> bool
+    requires place { place < length nets.now }
+    requires nets { All (λ net. net < length values.now) nets.now }
+    ensures { (net : ℕ) → slice_get nets.now place ≡ Some net → slice_get values.now net ≡ Some result }
+{
+    values[nets[place].number() as usize]
+}
+
+/// Whether both bits are 1.
+fn both(first: bool, second: bool) -> bool
+    ensures { result ≡ first && second }
+{
+    first && second
+}
+
+/// Whether one of the bits is 1.
+fn either(first: bool, second: bool) -> bool
+    ensures { result ≡ first || second }
+{
+    first || second
 }
 
 /// What a gate computes of which nets, by their numbers.
@@ -121,6 +172,32 @@ impl Gates {
         let key = key_of(gate.kind, &gate.inputs);
         self.by_key.insert(key, gate)?;
         Ok(())
+    }
+
+    /// The greatest number of inputs of a gate, 0 without gates.
+    pub(crate) fn widest(&self) -> u32
+        requires { All (λ gate. HasInputs gate.kind (length gate.inputs)) self.now }
+        ensures { result ≡ widest_of (map gate_cell self.now) }
+    {
+        let mut widest = 0;
+        for number in 0..self.len() {
+            widest = widest.max(self.gate(number).inputs.len() as u32);
+        }
+        widest
+    }
+
+    /// Puts at the output of each gate its function of its inputs, one gate after another.
+    pub(crate) fn put(&self, values: &mut [bool])
+        requires inputs { All (λ gate. All (λ net. net < length values.old) gate.inputs) self.now }
+        requires outputs { All (λ gate. gate.output < length values.old) self.now }
+        requires fit { All (λ gate. HasInputs gate.kind (length gate.inputs)) self.now }
+        ensures { values.new ≡ put_cells (map gate_cell self.now) values.old }
+    {
+        for number in 0..self.len() {
+            let gate = self.gate(number);
+            let bit = gate.value(values);
+            values[gate.output.number() as usize] = bit;
+        }
     }
 }
 

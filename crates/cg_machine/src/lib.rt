@@ -9,11 +9,13 @@
 //! - `gates`: the gates that were added, found by what they compute.
 //! - `prefix`: names that are taken before anything is added.
 //! - `machine`: machines, and what is added to them.
+//! - `cycle`: the bits of the nets in a cycle, and the next bits of the registers.
 //! - `view`: what a machine shows of an added gate.
 //! - `stage`: registers that are to get one enable, as data.
 //! - `laws`: what is proved of machines.
 #![tactic(auto)]
 
+mod cycle;
 mod delays;
 mod gates;
 pub mod laws;

@@ -20,18 +20,12 @@ use crate::gates::{Gate, Gates};
 use crate::view::GateView;
 use cg_cell::fit::FitKind;
 use cg_cell::name::Name;
-use cg_limit::Limit;
+use cg_limit::{Limit, MOST_NETS, MOST_REGISTERS};
 use cg_netlist::fault::AddFault;
 use cg_netlist::id::{NetId, RegId};
 use cg_netlist::netlist::Netlist;
 use std::alloc::{AllocError, Global};
 use std::marker::Model;
-
-/// The greatest number of nets.
-const MOST_NETS: u32 = 1_048_576;
-
-/// The greatest number of registers, delay registers among them.
-const MOST_REGISTERS: u32 = 65_536;
 
 /// A netlist without gating cells as a map from cycle to cycle, in which some registers have an enable net.
 ///
@@ -42,11 +36,11 @@ const MOST_REGISTERS: u32 = 65_536;
 #[derive(Drop)]
 pub struct Machine {
     alloc: Global,
-    netlist: Netlist,
+    pub(crate) netlist: Netlist,
     prefix: Name,
     enables: Vec<Option<NetId>>,
-    gates: Gates,
-    delays: Delays,
+    pub(crate) gates: Gates,
+    pub(crate) delays: Delays,
 }
 
 impl Model for Machine {
@@ -281,7 +275,7 @@ impl Machine {
         ensures { MatchResult result (λ net. (net ≡ length self.now.circuit.names) × (nets_limit self.now ≡ None)) (λ fault. (fault ≡ LimitFault Nets) × (nets_limit self.now ≡ Some Nets)) }
     {
         let nets = self.nets();
-        if nets < MOST_NETS {
+        if (nets as usize) < MOST_NETS {
             Ok(NetId::new(nets))
         } else {
             Err(AddFault::Limit(Limit::Nets))
@@ -292,7 +286,7 @@ impl Machine {
     fn check_registers(&self) -> Result<(), AddFault>
         ensures { MatchResult result (λ _. registers_limit self.now ≡ None) (λ fault. (fault ≡ LimitFault Registers) × (registers_limit self.now ≡ Some Registers)) }
     {
-        if self.registers() < MOST_REGISTERS {
+        if (self.registers() as usize) < MOST_REGISTERS {
             Ok(())
         } else {
             Err(AddFault::Limit(Limit::Registers))

@@ -12,7 +12,7 @@ use Rattle.cg_machine.proofs.Started.{netlist_is_run, start_is_machine}
 use Rattle.cg_lists.proofs.HoldFits.{hold_fits}
 use Rattle.cg_lists.proofs.StableFits.{stable_fits}
 use Rattle.cg_lists.proofs.UnseenFits.{unseen_fits}
-use Rattle.cg_plan.specs.Laws.{EachFits, InsertedIsSafe, PlanIsSafe, PlanShowsNetlist, ToldIsSafe}
+use Rattle.cg_plan.specs.Laws.{EachFits, InsertedIsSafe, PlanHasCells, PlanIsSafe, PlanShowsNetlist, ToldIsSafe}
 use Rattle.cg_plan.specs.Plan.{earlier_of}
 use Rattle.cg_plan.proofs.Decided.{inserted_claims, inserted_free}
 use Rattle.cg_plan.proofs.PlanSafe.{IsSafe, plan_safe}
@@ -53,3 +53,9 @@ each_fits library settings idle m good k turn at =
     let safe : IsSafe library settings m (plan_of library settings idle m) = plan_safe library settings m idle good (hold_fits m good idle settings.width)
     (λ p g. stable_fits p.machine g (earlier_of p)) (λ p g. unseen_fits p.machine g (earlier_of p) settings.test) in
     safe.turns k turn at
+
+pub has_cells : PlanHasCells
+has_cells library settings idle m good has =
+    let safe : IsSafe library settings m (plan_of library settings idle m) = plan_safe library settings m idle good (hold_fits m good idle settings.width)
+    (λ p g. stable_fits p.machine g (earlier_of p)) (λ p g. unseen_fits p.machine g (earlier_of p) settings.test) in
+    safe.cells has

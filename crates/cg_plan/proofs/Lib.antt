@@ -1,3 +1,4 @@
+pub mod CellsThere
 pub mod Decided
 pub mod PlanSafe
 pub mod Exactly

@@ -24,7 +24,10 @@ use Rattle.cg_plan.specs.declared.settings.Settings.{Settings}
 use Rattle.cg_plan.proofs.Decided.{inserted_claims, inserted_free}
 use Rattle.std.proofs.lemmas.Option.{none-some}
 use Rattle.cg_machine.proofs.Lists.{push_cases}
+use Rattle.cg_plan.specs.Cells.{HasCells}
 use Rattle.cg_plan.specs.Laws.{IsTurn}
+use Rattle.cg_plan.proofs.CellsThere.{effect_there}
+use Rattle.cg_plan.proofs.Exactly.{inserted_exactly}
 
 -- a stage that fits still fits after one that shares no register with it
 still_fits : (m n : MachineData) (s0 : Stage) (s : Stage) → IsMachine m → After m s0 n → ((r : ℕ) → is_in s.regs r ≡ true → is_in s0.regs r ≡ false) → Fits m s → Fits n s
@@ -49,6 +52,7 @@ module _ (library : List CellData) (settings : Settings) (m : MachineData) where
   pub record IsSafe (p : Plan) : Type 0 where
     pub good : IsMachine p.machine
     pub same : Same m p.machine
+    pub cells : HasCells library settings.test m → HasCells library settings.test p.machine
     pub turns : (k : ℕ) (turn : Turn) → slice_get p.turns k ≡ Some turn → IsTurn library settings turn
 
   -- a stage that was tried, and what it leaves of the stages behind it
@@ -67,17 +71,17 @@ module _ (library : List CellData) (settings : Settings) (m : MachineData) where
 
       stays : (outcome : Outcome) → tried library settings p.machine s ≡ Ends outcome → after_outcome p.machine s outcome ≡ p.machine → Next p (after_try p s (Ends outcome)) stages
       stays outcome is same = record {
-        safe = record { good = subst IsMachine (sym same) safe.good; same = subst (Same m) (sym same) safe.same; turns = more outcome is };
+        safe = record { good = subst IsMachine (sym same) safe.good; same = subst (Same m) (sym same) safe.same; cells = λ has. subst (HasCells library settings.test) (sym same) (safe.cells has); turns = more outcome is };
         fit = subst (λ n. AllFit n stages) (sym same) fit;
       }
 
       go : (t : Tried) → tried library settings p.machine s ≡ t → Next p (after_try p s t) stages
-      go (Passes limit) is = record { safe = record { good = safe.good; same = safe.same; turns = safe.turns }; fit = fit }
+      go (Passes limit) is = record { safe = record { good = safe.good; same = safe.same; cells = safe.cells; turns = safe.turns }; fit = fit }
       go (Ends Inserted) is =
           let below : (r : ℕ) → is_in s.regs r ≡ true → r < length p.machine.circuit.registers = λ r among. let b = fits.registers r among in omega (arith, b, safe.good.own_registers) in
           let after : After p.machine s (effect p.machine s) = stage_safe p.machine s safe.good fits (inserted_free p.machine s safe.good below library settings is) (inserted_claims p.machine s safe.good below library settings is) in
           record {
-            safe = record { good = after.is_machine; same = same_then m p.machine (effect p.machine s) safe.same after.same; turns = more Inserted is };
+            safe = record { good = after.is_machine; same = same_then m p.machine (effect p.machine s) safe.same after.same; cells = λ has. effect_there library settings.test p.machine s (((inserted_exactly library settings p.machine s safe.good fits).0 is).cells) (safe.cells has); turns = more Inserted is };
             fit = all_still p.machine (effect p.machine s) s stages safe.good after apart fit;
           }
       go (Ends (Refuted c bits)) is = stays (Refuted c bits) is refl
@@ -113,7 +117,7 @@ module _ (library : List CellData) (settings : Settings) (m : MachineData) where
     pub plan_safe : IsSafe (plan_of library settings idle m)
     plan_safe =
         let p : Plan = begin m idle settings in
-        let b0 : IsSafe p = record { good = good; same = same_self m; turns = λ k turn at. absurd (none-some turn at) } in
+        let b0 : IsSafe p = record { good = good; same = same_self m; cells = λ has. has; turns = λ k turn at. absurd (none-some turn at) } in
         let held : Plan = unless_stopped p.limit p (try_all library settings p (hold_list m idle settings.width)) in
         let s1 : IsSafe held = unless p.limit p (try_all library settings p (hold_list m idle settings.width)) b0 (all_safe p (hold_list m idle settings.width) b0 hold_fits) in
         let stable : Plan = unless_stopped held.limit held (rounds library settings Stable settings.rounds held) in

@@ -1,13 +1,10 @@
 -- What is told of a plan grows with each turn.
 use Rattle.std.proofs.Common.{◌≡◌, ℕ, ◌+◌, List, [], ◌∷◌, ◌++◌, length, refl, sym, ◌∙◌, ap, subst, arith, append_assoc}
 use Rattle.std.proofs.lemmas.List.{append-nil}
-use Rattle.cg_machine.specs.declared.stage.Stage.{Stage}
 use Rattle.cg_plan.specs.Laws.{CertificatesAreTold, StagesAreTold}
 use Rattle.cg_plan.specs.Plan.{Turn}
-use Rattle.cg_plan.specs.Told.{AreAppended, AreCertified, AreTold, StageClaim, Tells, claims_for, plan_claims}
-use Rattle.cg_plan.specs.Trying.{Ends}
+use Rattle.cg_plan.specs.Told.{AreCertified, AreTold, StageClaim, claims_for, plan_claims}
 use Rattle.cg_plan.specs.declared.certificate.Certificate.{Certificate}
-use Rattle.cg_plan.specs.declared.outcome.Outcome.{Outcome}
 
 pub stages_told : StagesAreTold
 stages_told [] told turn outcome are tells = subst (λ l. AreTold (turn ∷ []) (l ++ (turn.stage, outcome) ∷ [])) (sym are) (refl, tells, refl)

@@ -15,6 +15,7 @@ use Rattle.cg_stage.specs.Effects.{limit_by}
 use Rattle.cg_stage.specs.Laws.{After}
 use Rattle.cg_stage.specs.Needs.{missing, needs}
 use Rattle.cg_stage.specs.Stages.{ClaimsHold, Fits}
+use Rattle.cg_plan.specs.Cells.{HasCells}
 use Rattle.cg_plan.specs.Plan.{Turn, plan_of}
 use Rattle.cg_plan.specs.StageClaims.{NamedClaim, all_claims}
 use Rattle.cg_plan.specs.Trying.{Ends, tried}
@@ -57,6 +58,10 @@ EachFits = (library : List CellData) (settings : Settings) (idle : Option IdleDa
 -- the machine of a plan is a machine, and shows what the machine shows that the plan begins with
 abbrev pub PlanIsSafe : Type 0
 PlanIsSafe = (library : List CellData) (settings : Settings) (idle : Option IdleData) (m : MachineData) → IsMachine m → IsMachine (plan_of library settings idle m).machine × Same m (plan_of library settings idle m).machine
+
+-- where the library has the cells that the machine asks for with which a plan begins, it has those for the plan's machine
+abbrev pub PlanHasCells : Type 0
+PlanHasCells = (library : List CellData) (settings : Settings) (idle : Option IdleData) (m : MachineData) → IsMachine m → HasCells library settings.test m → HasCells library settings.test (plan_of library settings idle m).machine
 
 -- begun with the machine of a netlist, it shows what the netlist shows in its lawful history
 abbrev pub PlanShowsNetlist : Type 0

@@ -2,4 +2,5 @@ pub mod StageClaims
 pub mod Trying
 pub mod Plan
 pub mod Told
+pub mod Cells
 pub mod Laws

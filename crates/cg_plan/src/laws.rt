@@ -1,6 +1,6 @@
 //! What is proved of plans.
 
-ghost use Rattle.cg_plan.specs.Laws.{CertificatesAreTold, EachFits, InsertedExactly, InsertedIsSafe, PlanIsSafe, PlanShowsNetlist, StagesAreTold, ToldIsSafe};
+ghost use Rattle.cg_plan.specs.Laws.{CertificatesAreTold, EachFits, InsertedExactly, InsertedIsSafe, PlanHasCells, PlanIsSafe, PlanShowsNetlist, StagesAreTold, ToldIsSafe};
 
 /// The laws of plans: a stage is inserted exactly where its claims hold and are narrow, it can idle, it is large enough, the
 /// library has its cells and no limit is passed. Each stage of a plan fits the machine at its turn. The machine of a plan
@@ -13,6 +13,7 @@ pub fn plan_laws()
     ensures safe { InsertedIsSafe }
     ensures turns { EachFits }
     ensures plan { PlanIsSafe }
+    ensures cells { PlanHasCells }
     ensures netlist { PlanShowsNetlist }
     ensures told { ToldIsSafe }
     ensures stages { StagesAreTold }

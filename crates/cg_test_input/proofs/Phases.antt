@@ -250,7 +250,7 @@ module _ (library : List CellData) (settings : Settings) (m : MachineData) where
   pub phases : IsMachine m → settings.test ≡ true → (idle : Option IdleData) → Phases (plan_of library settings idle m)
   phases good test idle =
       let p : Plan = begin m idle settings in
-      let s0 : IsSafe library settings m p = record { good = good; same = same_self m; turns = λ k turn at. absurd (none-some turn at) } in
+      let s0 : IsSafe library settings m p = record { good = good; same = same_self m; cells = λ has. has; turns = λ k turn at. absurd (none-some turn at) } in
       let f0 : First m p = record { path = []; is = refl; kinds = tt; none = λ q among. both_ways false refl among } in
       let list : List Stage = hold_list m idle settings.width in
       let fit : AllFit m list = hold_fits m good idle settings.width in

@@ -1,5 +1,5 @@
 use Rattle.cg_plan.proofs.laws.plan_laws.Goals as goal
-use Rattle.cg_plan.proofs.AllSafe.{each_fits, inserted_safe, plans_safe, shows_netlist, told_safe}
+use Rattle.cg_plan.proofs.AllSafe.{each_fits, has_cells, inserted_safe, plans_safe, shows_netlist, told_safe}
 use Rattle.cg_plan.proofs.Exactly.{inserted_exactly}
 use Rattle.cg_plan.proofs.Telling.{certificates_told, stages_told}
 
@@ -9,6 +9,7 @@ returns c = record {
   safe = inserted_safe;
   turns = each_fits;
   plan = plans_safe;
+  cells = has_cells;
   netlist = shows_netlist;
   told = told_safe;
   stages = stages_told;

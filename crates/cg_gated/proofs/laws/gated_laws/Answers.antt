@@ -1,0 +1,10 @@
+use Rattle.cg_gated.proofs.laws.gated_laws.Goals as goal
+use Rattle.cg_gated.proofs.Planned.{can_insert, is_formed}
+use Rattle.cg_gated.proofs.SameOutputs.{shows_same}
+
+pub returns : goal.returns
+returns c = record {
+  inserts = can_insert;
+  formed = is_formed;
+  same = shows_same;
+}

@@ -1,0 +1,44 @@
+-- The gated netlist of a netlist: its machine is planned, and written with a gating cell for each enable.
+use Rattle.std.specs.Prelude.{◌≡◌, ◌≢◌, IsTrue, ℕ, List, ◌++◌, map, Option, Some, is_some}
+use Rattle.std.specs.List.{All}
+use Rattle.std.specs.Option.{option_to_list}
+use Rattle.cg_cell.specs.Cell.{CellData, IsCell}
+use Rattle.cg_cell.specs.Name.{is_name}
+use Rattle.cg_netlist.specs.Circuit.{Circuit}
+use Rattle.cg_netlist.specs.History.{Tick}
+use Rattle.cg_machine.specs.Machine.{MachineData}
+use Rattle.cg_machine.specs.Start.{CanStart, machine_of}
+use Rattle.cg_insert.specs.Insert.{gate_names, inserted, own_tick}
+use Rattle.cg_lists.specs.Literals.{IdleData}
+use Rattle.cg_plan.specs.Plan.{plan_of}
+use Rattle.cg_plan.specs.declared.settings.Settings.{Settings}
+use Rattle.cg_test_input.specs.TestRun.{ticks_of}
+
+-- what a netlist is gated by: the cells, the settings, how often nets are 0 on a stimulus, the prefix of the names of added
+-- nets, and the name of the test input, where there is to be one
+pub record Gating : Type 0 where
+  pub library : List CellData
+  pub settings : Settings
+  pub idle : Option IdleData
+  pub prefix : List ℕ
+  pub test : Option (List ℕ)
+
+-- the machine of the plan, and the gated netlist
+abbrev pub planned : Gating → Circuit → MachineData
+planned by c = (plan_of by.library by.settings by.idle (machine_of c by.prefix)).machine
+
+abbrev pub gated_by : Gating → Circuit → Circuit
+gated_by by c = inserted by.library by.test (planned by c)
+
+-- the waveform that the original sees: the same clock, and the inputs without the test input
+abbrev pub own_wave : MachineData → List Tick → List Tick
+own_wave m wave = ticks_of (map (own_tick m) wave)
+
+-- what gating needs: the netlist has no gating cell and no net whose name begins with the prefix, the library has cells, the
+-- plan is made for a test input exactly where there is one, and the name of that is new
+pub record CanGate (by : Gating) (c : Circuit) : Type 0 where
+  pub start : CanStart c by.prefix
+  pub cells : All IsCell by.library
+  pub tested : by.settings.test ≡ is_some by.test
+  pub named : All (λ name. IsTrue (is_name name)) (option_to_list by.test)
+  pub new : (name : List ℕ) → by.test ≡ Some name → All (λ other. other ≢ name) ((planned by c).circuit.names ++ gate_names (planned by c))

@@ -1,0 +1,26 @@
+-- What is proved of gated netlists.
+use Rattle.std.specs.Prelude.{◌≡◌, Bool, List, ◌++◌}
+use Rattle.cg_netlist.specs.Circuit.{Circuit}
+use Rattle.cg_netlist.specs.History.{IsLawful, IsStart, IsWaveform, Moment, Tick, outputs_of}
+use Rattle.cg_netlist.specs.WellFormed.{IsInNetOrder, IsWellFormed}
+use Rattle.cg_insert.specs.Insert.{CanInsert}
+use Rattle.cg_machine.specs.Machine.{IsMachine}
+use Rattle.cg_machine.specs.Run.{ones}
+use Rattle.cg_gated.specs.Gated.{CanGate, Gating, gated_by, own_wave, planned}
+
+-- the plan's machine is a machine, and the library has what inserting it asks for
+abbrev pub PlannedCanInsert : Type 0
+PlannedCanInsert = (by : Gating) (c : Circuit) → CanGate by c → IsMachine (planned by c) × CanInsert by.library by.test (planned by c)
+
+-- the gated netlist is well formed, and its nets are in net order
+abbrev pub GatedIsFormed : Type 0
+GatedIsFormed = (by : Gating) (c : Circuit) → CanGate by c → IsWellFormed (gated_by by c) × IsInNetOrder (gated_by by c)
+
+-- From every start of the netlist's registers, with 1 in the delay registers, and over every waveform, whatever an added test
+-- input does, the gated netlist shows what the netlist shows, at every moment: gating latches follow their enables, or the
+-- test input, while the clock is low.
+abbrev pub GatedShowsSame : Type 0
+GatedShowsSame = (by : Gating) (c : Circuit) → CanGate by c → (start : List Bool) (wave : List Tick) (history other : List Moment)
+    → IsStart c start → IsWaveform (gated_by by c) wave
+    → IsLawful (gated_by by c) (start ++ ones (planned by c)) wave history → IsLawful c start (own_wave (planned by c) wave) other
+    → outputs_of (gated_by by c) history ≡ outputs_of c other

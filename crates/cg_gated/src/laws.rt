@@ -1,0 +1,13 @@
+//! What is proved of gated netlists.
+
+ghost use Rattle.cg_gated.specs.Laws.{GatedIsFormed, GatedShowsSame, PlannedCanInsert};
+
+/// The laws of gated netlists: the gated netlist is well formed, and from every start with 1 in the delay registers and over
+/// every waveform, whatever an added test input does, its lawful history has at every moment the outputs of the original's.
+///
+/// The call does nothing; callers use what it ensures.
+pub fn gated_laws()
+    ensures inserts { PlannedCanInsert }
+    ensures formed { GatedIsFormed }
+    ensures same { GatedShowsSame }
+{}

@@ -1,0 +1,8 @@
+//! From a netlist to its gated netlist: the plan's machine written with gating cells shows what the netlist shows.
+//!
+//! The modules:
+//!
+//! - `laws`: what is proved of gated netlists.
+#![tactic(auto)]
+
+pub mod laws;

@@ -6,11 +6,11 @@ use Rattle.std.proofs.lemmas.List.{append-nil, length-map, length-replicate, tak
 use Rattle.std.proofs.lemmas.Option.{slice_get_within, slice_get-map}
 use Rattle.cg_cell.specs.Cell.{CellData}
 use Rattle.cg_netlist.specs.Circuit.{Circuit, GatingCell, RegisterCell, data_inputs}
-use Rattle.cg_netlist.specs.Finish.{renumbered_register}
+use Rattle.cg_netlist.specs.said.Wiring.{map_register}
 use Rattle.cg_netlist.specs.History.{AreTicks, IsLawful, LawfulFrom, Moment, Tick, next_bit, outputs_of, rises}
 use Rattle.cg_netlist.specs.Moment.{bit}
 use Rattle.cg_netlist.specs.WellFormed.{IsWellFormed}
-use Rattle.cg_netlist.proofs.Finished.{mapped_at}
+use Rattle.cg_netlist.proofs.PlaceLemmas.{mapped_at}
 use Rattle.cg_netlist.proofs.Values.{element_at, length-zip_with}
 use Rattle.cg_insert.proofs.GatedForm.{gated_formed, inputs_once}
 use Rattle.cg_insert.proofs.GatedMoments.{Tells, data_is, register_rises, take_get, tells}
@@ -65,7 +65,7 @@ module _ (library : List CellData) (test : Option (List ℕ)) (m : MachineData) 
 
   -- and of the inserted one
   rises_ordered : (was now : List Bool) → length was ≡ length (ordered g).names → length now ≡ length (ordered g).names → (r : ℕ) (cell : RegisterCell ℕ ℕ) → slice_get g.registers r ≡ Some cell
-      → rises was now (renumbered_register (place_in (Rattle.cg_netlist.specs.Circuit.net_order g)) cell) ≡ rises (pulled g was) (pulled g now) cell
+      → rises was now (map_register (place_in (Rattle.cg_netlist.specs.Circuit.net_order g)) cell) ≡ rises (pulled g was) (pulled g now) cell
   rises_ordered was now was_long now_long r cell at =
       let pin = register_pin g formed once r cell at in
       ap (λ b. not b && bit now (place_in (Rattle.cg_netlist.specs.Circuit.net_order g) cell.clock)) (sym (pulled_bit g formed once was was_long cell.clock pin))
@@ -82,7 +82,7 @@ module _ (library : List CellData) (test : Option (List ℕ)) (m : MachineData) 
       let state_long : length v.state ≡ length m.circuit.registers = ap length lawful.0.state ∙ (length-zip_with (next_bit u.nets v.nets) g.registers u.state (registers_count library test m good can ∙ sym before.state_long) ∙ registers_count library test m good can) in
       let now : Tells library test m good can k v = tells library test m good can start (Some u) k v lawful.0 ticks.0 state_long before.latches_long in (
         (λ r cell at.
-            let old = mapped_at (renumbered_register (place_in (Rattle.cg_netlist.specs.Circuit.net_order g))) (slice_get g.registers r) cell (sym (slice_get-map (renumbered_register (place_in (Rattle.cg_netlist.specs.Circuit.net_order g))) g.registers r) ∙ at) in
+            let old = mapped_at (map_register (place_in (Rattle.cg_netlist.specs.Circuit.net_order g))) (slice_get g.registers r) cell (sym (slice_get-map (map_register (place_in (Rattle.cg_netlist.specs.Circuit.net_order g))) g.registers r) ∙ at) in
             ap (rises p.nets q.nets) (sym old.2) ∙ (rises_ordered p.nets q.nets long there.0.nets.long r old.0 old.1 ∙ rises_at start kp k u v before lawful.0 now ticks.0 r old.0 old.1)),
         rises_from start k q wave history now there.0.nets.long ticks.1 there.1 lawful.1,
       )

@@ -4,7 +4,6 @@ use Rattle.std.specs.List.{All, AllByRecursion, list_any, slice_get}
 use Rattle.std.specs.Option.{option_map_or}
 use Rattle.std.proofs.lemmas.Bool.{cases_lt, or_left, or_right}
 use Rattle.std.proofs.lemmas.List.FromFn.{get_or-map-range_with_len, length-map-range_with_len}
-use Rattle.std.proofs.lemmas.List.{length-append}
 use Rattle.std.proofs.lemmas.Option.{same_Some}
 use Rattle.cg_netlist.specs.Circuit.{GatingCell, LogicCell, is_in}
 use Rattle.cg_netlist.specs.Marks.{IsFirst, IsTable, is_marked, marked_before}
@@ -13,7 +12,7 @@ use Rattle.cg_netlist.specs.Ranks.{driving_cell, rank_of, ranks_of}
 use Rattle.cg_netlist.specs.Chains.{chain}
 use Rattle.cg_netlist.specs.inner.Finishing.{is_unranked}
 use Rattle.cg_netlist.specs.inner.Numbers.{CellWithin, GaterWithin}
-use Rattle.cg_netlist.proofs.CheckLemmas.{before_is, first_within}
+use Rattle.cg_netlist.proofs.EarlierNets.{before_is, first_within}
 use Rattle.cg_netlist.proofs.MarkLemmas.{same_first}
 use Rattle.cg_netlist.proofs.TableLemmas.{entry_or, entry_within}
 use Rattle.cg_netlist.proofs.said.Each.{from_recursion}
@@ -52,28 +51,6 @@ gates_found gated used unreached shown lost n count gs us test first shown_is lo
     ap (λ x. x && (is_marked used net || is_marked unreached net)) (gate_table.tells net lt)
     ∙ (ap (λ x. is_in gs net && (x || is_marked unreached net)) (used_table.tells net lt) ∙ ap (λ x. is_in gs net && (is_in us net || x)) (lost_table.tells net (omega (arith, lt, count_is))))) there
 
--- one more mark behind others
-pub table_more : (marks more : List Bool) (n : ℕ) (test : ℕ → Bool) (b : Bool) → IsTable marks n test → b ≡ test n → more ≡ marks ++ b ∷ [] → IsTable more (n + 1) test
-table_more marks more n test b table is more_is =
-    subst (λ ms. IsTable ms (n + 1) test) (sym more_is) (record {
-      fits = length-append marks (b ∷ []) ∙ ap (λ m. m + 1) table.fits;
-      tells = λ net lt. elim (cases_lt net n) [
-        | inl below ↦ front marks net (omega (arith, below, table.fits)) ∙ table.tells net below
-        | inr above ↦ let here : net ≡ n = omega (arith, lt, above) in
-            let last : net ≡ length marks = omega (arith, here, table.fits) in
-            ap (is_marked (marks ++ b ∷ [])) last ∙ (end marks ∙ (is ∙ ap test (sym here)))
-      ];
-    })
-  where
-    front : (ms : List Bool) (net : ℕ) → net < length ms → is_marked (ms ++ b ∷ []) net ≡ is_marked ms net
-    front [] net lt = absurd (omega (arith, lt))
-    front (m ∷ ms) zero lt = refl
-    front (m ∷ ms) (suc net) lt = front ms net (omega (arith, lt))
-
-    end : (ms : List Bool) → is_marked (ms ++ b ∷ []) (length ms) ≡ b
-    end [] = refl
-    end (m ∷ ms) = end ms
-
 -- the tables of drivers and ranks, as marks
 pub is_graph_of : (n : ℕ) (drivers : List (Option ℕ)) (cells : List (LogicCell ℕ)) → AllByRecursion (CellWithin n) cells → length drivers ≡ n → ((net : ℕ) → net < n → entry drivers net ≡ driving_cell cells net) → IsGraph drivers cells
 is_graph_of n drivers cells within fits tells = record {
@@ -103,24 +80,6 @@ unranked_table n marks drivers ranks cells graph fits tells ranks_are table = re
     go : (net : ℕ) (o : Option ℕ) → entry drivers net ≡ o → option_map_or (λ k. is_none (entry (ranks_of cells) k)) o false ≡ option_map_or (λ k. is_none (rank_of cells k)) o false
     go net None is = refl
     go net (Some k) is = ap (λ r. is_none r) (entry_ranks cells k (graph.driving net k is))
-
--- the earlier of two first nets
-pub earlier_none : (n : ℕ) (test more : ℕ → Bool) → IsFirst n test None → IsFirst n more None → IsFirst n (λ net. test net || more net) None
-earlier_none n test more one other net lt = ap (λ b. b || more net) (one net lt) ∙ other net lt
-
-pub earlier_first : (n : ℕ) (test more : ℕ → Bool) (a : ℕ) (o : Option ℕ) → IsFirst n test (Some a) → IsFirst n more o → ((b : ℕ) → o ≡ Some b → a ≤ b) → IsFirst n (λ net. test net || more net) (Some a)
-earlier_first n test more a o one other first = (one.0, or_left (test a) (more a) one.1, λ net lt. ap (λ b. b || more net) (one.2 net lt) ∙ quiet o other first net lt)
-  where
-    quiet : (o : Option ℕ) → IsFirst n more o → ((b : ℕ) → o ≡ Some b → a ≤ b) → (net : ℕ) → net < a → more net ≡ false
-    quiet None other first net lt = other net (omega (arith, lt, one.0))
-    quiet (Some b) other first net lt = other.2 net (omega (arith, lt, first b refl))
-
-pub later_first : (n : ℕ) (test more : ℕ → Bool) (o : Option ℕ) (b : ℕ) → IsFirst n test o → IsFirst n more (Some b) → ((a : ℕ) → o ≡ Some a → b ≤ a) → IsFirst n (λ net. test net || more net) (Some b)
-later_first n test more o b one other first = (other.0, or_right (test b) (more b) other.1, λ net lt. ap (λ c. c || more net) (quiet o one first net lt) ∙ other.2 net lt)
-  where
-    quiet : (o : Option ℕ) → IsFirst n test o → ((a : ℕ) → o ≡ Some a → b ≤ a) → (net : ℕ) → net < b → test net ≡ false
-    quiet None one first net lt = one net (omega (arith, lt, other.0))
-    quiet (Some a) one first net lt = one.2 net (omega (arith, lt, first a refl))
 
 pub if_ok : {A E : Type 0} (r : Result A E) (P Q : A → Type 0) → ((x : A) → P x → Q x) → IfOk r P → IfOk r Q
 if_ok (Ok x) P Q f holds = f x holds

@@ -1,9 +1,9 @@
 -- What a builder keeps when it is told one more part.
-use Rattle.std.proofs.Common.{◌≡◌, ◌≢◌, ℕ, ◌+◌, ◌<◌, ◌≤◌, ◌^◌, Bool, true, false, IsTrue, if◌then◌else◌, List, [], ◌∷◌, ◌++◌, Option, Some, None, map, length, refl, sym, ap, ◌∙◌, subst, arith, inl, inr}
+use Rattle.std.proofs.Common.{[], ◌≡◌, ◌≢◌, ℕ, ◌+◌, ◌<◌, ◌≤◌, ◌^◌, Bool, true, false, IsTrue, if◌then◌else◌, List, ◌∷◌, ◌++◌, Option, Some, None, map, length, refl, sym, ap, ◌∙◌, subst, arith, inl, inr}
 use Rattle.std.specs.List.{AllByRecursion, AllPairs, count_by}
 use Rattle.std.specs.Option.{option_map, option_to_list}
 use Rattle.std.proofs.lemmas.Bool.{cases_Bool}
-use Rattle.std.proofs.lemmas.List.{length-append, length-map, map-append}
+use Rattle.std.proofs.lemmas.List.{length-map, map-append}
 use Rattle.cg_cell.specs.Cell.{CellData, IsCell}
 use Rattle.cg_cell.specs.Name.{is_name}
 use Rattle.cg_cell.specs.Pins.{is_data}
@@ -15,13 +15,12 @@ use Rattle.cg_netlist.specs.inner.Mentioned.{PutsCell, PutsGater, PutsNet, PutsR
 use Rattle.cg_netlist.specs.inner.Numbers.{CellWithin, GaterWithin, AreNumbers, Numbers, OpenWithin, seen}
 use Rattle.cg_netlist.specs.said.Part.{Part, Input, Output, Clock, Logic, Gate, Register, mentioned}
 use Rattle.cg_netlist.specs.said.Said.{Said, said, with_names, with_part}
-use Rattle.cg_netlist.specs.said.Says.{AreTaken, CellFits, GaterFits, IsPart}
-use Rattle.cg_netlist.specs.WellFormed.{RegisterFits}
+use Rattle.cg_netlist.specs.said.Says.{IsPart}
 use Rattle.cg_netlist.specs.said.Wiring.{NetName, map_cell, map_gater, map_outputs, net_name, map_open}
-use Rattle.cg_netlist.proofs.DraftLemmas.{with_names_different}
+use Rattle.cg_netlist.proofs.DifferentNames.{with_names_different}
 use Rattle.cg_netlist.proofs.Mentions.{with_names_front, with_names_grows}
 use Rattle.cg_netlist.proofs.Numbering.{net_named, net_within}
-use Rattle.cg_netlist.proofs.said.Agree.{all_agree, name_kept, nets_agree}
+use Rattle.cg_netlist.proofs.said.Agree.{all_agree, name_kept}
 use Rattle.cg_netlist.proofs.said.Each.{each}
 use Rattle.cg_netlist.proofs.said.ToldByNames.{known_as}
 use Rattle.cg_netlist.proofs.said.SaidMore.{said_more}
@@ -39,15 +38,6 @@ with_net_each P nets net all here = go (is_in nets net)
 
 -- names that go behind others change no part whose nets are there
 module _ (names more : List NetName) where
-  Old : ℕ → Type 0
-  Old net = net < length names
-
-  old_name : ℕ → NetName
-  old_name = net_name names
-
-  new_name : ℕ → NetName
-  new_name = net_name (names ++ more)
-
   pub nets_keep : (nets : List ℕ) → AllByRecursion (λ net. net < length names) nets → map (net_name (names ++ more)) nets ≡ map (net_name names) nets
   nets_keep nets within = all_agree (net_name (names ++ more)) (net_name names) (net_name (names ++ more)) (net_name names) (λ net. net < length names) (λ net lt. name_kept names more net lt) nets within
 
@@ -187,9 +177,6 @@ put_known names different nets net word within lt named =
     ]
 
 module _ (n : Numbers) (word : NetName) (names : List NetName) (few : length names ≤ 1048576) (numbered : AreNumbers n) (few_registers : length n.registers ≤ 65536) where
-  wide : Numbers
-  wide = renamed n (with_names n.names (word ∷ []))
-
   put_said : (nets more : List ℕ) (puts : PutsNet n.names names word nets more) → AllByRecursion (λ net. net < length n.names) nets → map (net_name names) more ≡ with_name (map (net_name n.names) nets) word
   put_said nets more puts within =
       let front = with_names_front n.names (word ∷ []) in

@@ -1,16 +1,12 @@
 -- A list whose elements are changed in place, one after another.
-use Rattle.std.proofs.Common.{ℕ, zero, suc, add-one, ◌+◌, ◌≤◌, ◌≡◌, List, [], ◌∷◌, ◌++◌, Some, map, length, take, drop, set, refl, sym, ap, ◌∙◌, subst}
+use Rattle.std.proofs.Common.{[], ℕ, zero, suc, add-one, ◌+◌, ◌≡◌, List, ◌∷◌, ◌++◌, Some, map, take, drop, set, refl, sym, ap, ◌∙◌, subst}
 use Rattle.std.specs.List.{slice_get, All}
-use Rattle.std.proofs.lemmas.List.{append-nil, take_all, drop_all}
 use Rattle.std.proofs.lemmas.List.Elements.{All-get_or, All-nil, All-cons, All-head, All-tail}
 use Rattle.std.proofs.lemmas.Option.{same_Some, slice_get_within, get_or_from_slice_get}
 
 -- the list with its first i elements changed
 abbrev pub changed_before : {X : Type 0} → (X → X) → List X → ℕ → List X
 changed_before f xs i = map f (take i xs) ++ drop i xs
-
-pub changed_all : {X : Type 0} (f : X → X) (xs : List X) (i : ℕ) → length xs ≤ i → changed_before f xs i ≡ map f xs
-changed_all f xs i le = ap (λ ys. map f ys ++ drop i xs) (take_all i xs le) ∙ (ap (λ ys. map f xs ++ ys) (drop_all i xs le) ∙ append-nil (map f xs))
 
 pub still_there : {X : Type 0} (f : X → X) (xs : List X) (i : ℕ) → slice_get (changed_before f xs i) i ≡ slice_get xs i
 still_there f [] zero = refl

@@ -1,10 +1,10 @@
 -- Lemmas on marks, and on the first net that passes a test.
 use Rattle.std.proofs.Math.Bool.{or-false}
-use Rattle.std.proofs.Common.{ℕ, zero, suc, add-one, zero-add, ◌+◌, ◌<◌, ◌≤◌, ◌≡◌, inl, inr, Bool, true, false, not, ◌&&◌, ◌||◌, cond, List, [], ◌∷◌, ◌++◌, Option, Some, None, length, set, get_or, replicate, unwrap_or, refl, sym, ap, ◌∙◌, subst, arith, nat_eq, nat_lt}
-use Rattle.std.specs.List.{All, slice_get, find, list_any, range_with_len, count_by}
+use Rattle.std.proofs.Common.{[], ℕ, zero, suc, add-one, zero-add, ◌+◌, ◌<◌, ◌≡◌, inl, inr, Bool, true, false, not, ◌&&◌, ◌||◌, cond, List, ◌∷◌, ◌++◌, Option, Some, None, length, set, get_or, unwrap_or, refl, sym, ap, ◌∙◌, subst, arith, nat_eq, nat_lt}
+use Rattle.std.specs.List.{All, slice_get, list_any, range_with_len, count_by}
 use Rattle.std.proofs.lemmas.Bool.{cases_Bool, eq-eqb, or_left, or_right, cases_lt, lt-ltb, le-ltb}
 use Rattle.std.proofs.lemmas.Bool.Decides.{eqb_tells}
-use Rattle.std.proofs.lemmas.List.{length-set, length-replicate}
+use Rattle.std.proofs.lemmas.List.{length-set}
 use Rattle.std.proofs.lemmas.List.Sums.{sum_by_push, sum_by-cons}
 use Rattle.std.proofs.lemmas.Option.{unwrap_or-slice_get, slice_get_within, get_or_from_slice_get}
 use Rattle.std.proofs.lemmas.List.Elements.{All-get_or}
@@ -21,31 +21,10 @@ pub record HasCounted (once twice : List Bool) (n : ℕ) (nets : List ℕ) : Typ
   pub once_are : AreMarked once nets
   pub twice_are : (net : ℕ) → is_marked twice net ≡ nat_lt 1 (count_by (nat_eq net) nets)
 
--- the first number that passes a test
-found_at : (test : ℕ → Bool) (n a x : ℕ) → a ≤ x → x < a + n → test x ≡ true → ((y : ℕ) → a ≤ y → y < x → test y ≡ false) → find test (range_with_len a n) ≡ Some x
-found_at test zero a x low high here before = absurd (omega arith)
-found_at test (suc n) a x low high here before = elim (eqb_tells a x) [
-  | inl e ↦ rw (ap test e.1 ∙ here) (ap (λ m. Some m) e.1)
-  | inr e ↦ rw (before a (omega arith) (omega (arith, e.1))) (found_at test n (a + 1) x (omega (arith, e.1)) (omega arith) here (λ y le lt. before y (omega arith) lt))
-]
-
-found_none : (test : ℕ → Bool) (n a : ℕ) → ((y : ℕ) → a ≤ y → y < a + n → test y ≡ false) → find test (range_with_len a n) ≡ None
-found_none test zero a none = refl
-found_none test (suc n) a none = rw (none a (omega arith) (omega arith)) (found_none test n (a + 1) (λ y le lt. none y (omega arith) (omega arith)))
-
-pub first_found : (test : ℕ → Bool) (n : ℕ) (first : Option ℕ) → IsFirst n test first → find test (range_with_len 0 n) ≡ first
-first_found test n None none = found_none test n 0 (λ y le lt. none y (omega arith))
-first_found test n (Some x) (within, here, before) = found_at test n 0 x (omega arith) (omega arith) here (λ y le lt. before y lt)
-
 -- the same for a test that agrees
 pub same_first : (test other : ℕ → Bool) (n : ℕ) (first : Option ℕ) → ((net : ℕ) → net < n → test net ≡ other net) → IsFirst n test first → IsFirst n other first
 same_first test other n None agree none = λ net lt. sym (agree net lt) ∙ none net lt
 same_first test other n (Some x) agree (within, here, before) = (within, sym (agree x within) ∙ here, λ net lt. sym (agree net (omega arith)) ∙ before net lt)
-
-no_mark : (n x : ℕ) → is_marked (replicate n false) x ≡ false
-no_mark zero x = refl
-no_mark (suc n) zero = refl
-no_mark (suc n) (suc x) = no_mark n x
 
 -- a net is among nets where it stands once or more
 pub in_counts : (nets : List ℕ) (net : ℕ) → is_in nets net ≡ nat_lt 0 (count_by (nat_eq net) nets)
@@ -70,9 +49,6 @@ one_more c = elim (cases_lt 0 c) [
   | inl lt ↦ or_right (nat_lt 1 c) (nat_lt 0 c) (lt-ltb 0 c lt) ∙ sym (lt-ltb 1 (c + 1) (omega arith))
   | inr le ↦ rw (le-ltb 1 c (omega arith), le-ltb 0 c le) (sym (le-ltb 1 (c + 1) (omega arith)))
 ]
-
-pub counted_none : (n : ℕ) → HasCounted (replicate n false) (replicate n false) n []
-counted_none n = record { once_fits = length-replicate n false; twice_fits = length-replicate n false; once_are = no_mark n; twice_are = no_mark n }
 
 pub counted_more : (once twice : List Bool) (n : ℕ) (nets : List ℕ) (net : ℕ) → HasCounted once twice n nets → net < n → HasCounted (set once net true) (set twice net (is_marked twice net || is_marked once net)) n (nets ++ net ∷ [])
 counted_more once twice n nets net counted lt = record {

@@ -1,9 +1,9 @@
 -- Lemmas on nets that are taken once, and their marks.
-use Rattle.std.proofs.Common.{ℕ, ◌<◌, ◌≡◌, inl, inr, Bool, true, false, ◌||◌, List, [], ◌∷◌, ◌++◌, length, set, get_or, unwrap_or, refl, sym, ap, ◌∙◌, if◌then◌else◌}
+use Rattle.std.proofs.Common.{[], ℕ, ◌<◌, ◌≡◌, inl, inr, Bool, true, false, ◌||◌, List, ◌∷◌, ◌++◌, length, set, get_or, unwrap_or, refl, sym, ap, ◌∙◌, if◌then◌else◌}
 use Rattle.std.proofs.lemmas.Option.{slice_get-get_or}
 use Rattle.std.proofs.lemmas.Bool.Decides.{eqb_tells}
 use Rattle.cg_netlist.specs.Circuit.{is_in}
-use Rattle.cg_netlist.specs.Draft.{with_net}
+use Rattle.cg_netlist.specs.inner.Mentioned.{with_net}
 use Rattle.cg_netlist.specs.Marks.{AreMarked, is_marked}
 use Rattle.cg_netlist.proofs.Members.{is_in-append, is_in_right}
 use Rattle.cg_netlist.proofs.RankingLemmas.{in_alone}

@@ -1,5 +1,5 @@
 -- A well-formed netlist is well formed in net order.
-use Rattle.std.proofs.Common.{◌≡◌, ◌≢◌, ◌⊎◌, ℕ, suc, ◌+◌, ◌<◌, Bool, true, false, not, cond, IsTrue, List, [], ◌∷◌, ◌++◌, map, length, slice_get, get_or, Option, None, Some, nat_eq, refl, ap, sym, ◌∙◌, subst, inl, inr, arith}
+use Rattle.std.proofs.Common.{[], ◌≡◌, ◌≢◌, ◌⊎◌, ℕ, suc, ◌+◌, ◌<◌, Bool, true, false, not, cond, IsTrue, List, ◌∷◌, ◌++◌, map, length, slice_get, get_or, Option, None, Some, nat_eq, refl, ap, sym, ◌∙◌, subst, inl, inr, arith}
 use Rattle.std.specs.List.{All, AllPairs, IsDistinct, count_by, filter, flat_map, range_with_len, slice_index}
 use Rattle.std.specs.Option.{option_map, option_to_list}
 use Rattle.std.proofs.lemmas.Bool.{both_ways, cases_Bool, false_from_ne_true, eqb-true, eq-eqb, or_cases, or_left, or_right}
@@ -10,18 +10,20 @@ use Rattle.cg_cell.specs.Cell.{IsCell}
 use Rattle.cg_cell.specs.Name.{is_name}
 use Rattle.cg_cell.specs.Pins.{is_test}
 use Rattle.cg_cell.specs.declared.cell.CellKind.TheVariants.{Gater as GaterKind}
-use Rattle.cg_netlist.specs.Canonical.{net_name, net_names}
+use Rattle.cg_netlist.specs.said.Wiring.{net_name}
 use Rattle.cg_netlist.specs.Circuit.{Circuit, GatingCell, LogicCell, asked_nets, is_in, cell_nets, clock_nets, data_inputs, gate_nets, given_nets, net_order, register_nets, used_nets}
-use Rattle.cg_netlist.specs.Finish.{renumbered_cell, renumbered_register}
+use Rattle.cg_netlist.specs.said.Wiring.{map_cell, map_register}
 use Rattle.cg_netlist.specs.WellFormed.{AreRanks, IsInNetOrder, IsOver, IsWellFormed, RegisterFits}
 use Rattle.cg_netlist.proofs.Driven.{driven_in_order}
-use Rattle.cg_netlist.proofs.Finished.{mapped_at, register_kept}
+use Rattle.cg_netlist.proofs.PlaceLemmas.{mapped_at}
+use Rattle.cg_netlist.proofs.RegisterKept.{register_kept}
 use Rattle.cg_netlist.proofs.Given.{clock_given, distinct_cells, distinct_gates, distinct_given, driver_within, from_option, given_no_cell, in_option, register_given, gate_given, given_driver, kind_of, Data, Clock, Gate, Shown}
 use Rattle.cg_netlist.proofs.Members.{All-from_members, All-member, distinct_append, distinct_apart, distinct_left, distinct_right, is_in_cases, is_in_left, is_in_right, member_at, one_place}
 use Rattle.cg_netlist.proofs.NetOrder.{data_renumbered, from_mapped, in_mapped, inputs_renumbered, outputs_renumbered, places_in_order, registers_renumbered}
 use Rattle.cg_netlist.proofs.PlaceLemmas.{same_net}
 use Rattle.cg_netlist.proofs.Values.{at_map}
-use Rattle.cg_netlist.specs.Ordered.{ordered, place_in, renumbered_gater, with_numbers}
+use Rattle.cg_netlist.specs.Ordered.{ordered, place_in, with_numbers}
+use Rattle.cg_netlist.specs.said.Wiring.{map_gater}
 use Rattle.cg_netlist.proofs.Used.{input_is_used}
 
 -- a net that is in a list stands at its place
@@ -38,7 +40,7 @@ place_found (y ∷ ys) x among = elim (cases_Bool (nat_eq x y)) [
 ]
 
 -- the parts of a renumbered netlist
-pub gates_renumbered : (f : ℕ → ℕ) (gs : List (GatingCell ℕ)) → map (λ g. g.output) (map (renumbered_gater f) gs) ≡ map f (map (λ g. g.output) gs)
+pub gates_renumbered : (f : ℕ → ℕ) (gs : List (GatingCell ℕ)) → map (λ g. g.output) (map (map_gater f) gs) ≡ map f (map (λ g. g.output) gs)
 gates_renumbered f [] = refl
 gates_renumbered f (g ∷ gs) = ap (λ xs. f g.output ∷ xs) (gates_renumbered f gs)
 
@@ -46,10 +48,10 @@ option_renumbered : (f : ℕ → ℕ) (o : Option ℕ) → option_to_list (optio
 option_renumbered f None = refl
 option_renumbered f (Some x) = refl
 
-pub asked_renumbered : (f : ℕ → ℕ) (gs : List (GatingCell ℕ)) → flat_map asked_nets (map (renumbered_gater f) gs) ≡ map f (flat_map asked_nets gs)
+pub asked_renumbered : (f : ℕ → ℕ) (gs : List (GatingCell ℕ)) → flat_map asked_nets (map (map_gater f) gs) ≡ map f (flat_map asked_nets gs)
 asked_renumbered f [] = refl
 asked_renumbered f (g ∷ gs) =
-    ap (λ xs. (f g.enable ∷ xs) ++ flat_map asked_nets (map (renumbered_gater f) gs)) (option_renumbered f g.test)
+    ap (λ xs. (f g.enable ∷ xs) ++ flat_map asked_nets (map (map_gater f) gs)) (option_renumbered f g.test)
     ∙ (ap (λ xs. map f (asked_nets g) ++ xs) (asked_renumbered f gs) ∙ sym (map-append f (asked_nets g) (flat_map asked_nets gs)))
 
 four_mapped : (f : ℕ → ℕ) (as' bs cs ds : List ℕ) → map f (as' ++ bs ++ cs ++ ds) ≡ map f as' ++ map f bs ++ map f cs ++ map f ds
@@ -60,8 +62,8 @@ used_is f names c =
     let a = flat_map (λ cell. cell.inputs) c.cells in
     let b = flat_map asked_nets c.gaters in
     let d = flat_map (λ r. r.inputs) c.registers in
-    ap (λ xs. xs ++ flat_map asked_nets (map (renumbered_gater f) c.gaters) ++ flat_map (λ r. r.inputs) (map (renumbered_register f) c.registers) ++ map f c.outputs) (inputs_renumbered f c.cells)
-    ∙ (ap (λ xs. map f a ++ xs ++ flat_map (λ r. r.inputs) (map (renumbered_register f) c.registers) ++ map f c.outputs) (asked_renumbered f c.gaters)
+    ap (λ xs. xs ++ flat_map asked_nets (map (map_gater f) c.gaters) ++ flat_map (λ r. r.inputs) (map (map_register f) c.registers) ++ map f c.outputs) (inputs_renumbered f c.cells)
+    ∙ (ap (λ xs. map f a ++ xs ++ flat_map (λ r. r.inputs) (map (map_register f) c.registers) ++ map f c.outputs) (asked_renumbered f c.gaters)
     ∙ (ap (λ xs. map f a ++ map f b ++ xs ++ map f c.outputs) (data_renumbered f c.registers)
     ∙ sym (four_mapped f a b d c.outputs)))
 
@@ -246,7 +248,7 @@ module _ (c : Circuit) (good : IsWellFormed c) (inputs_once : IsDistinct nat_eq 
   same_number x y x_in y_in same = same_Some x y (sym (placed x x_in) ∙ (ap (slice_get order) same ∙ placed y y_in))
 
   abbrev pub names : List (List ℕ)
-  names = net_names c.names order
+  names = map (net_name c.names) order
 
   names_long : length names ≡ length order
   names_long = length-map order (net_name c.names)
@@ -308,26 +310,26 @@ module _ (c : Circuit) (good : IsWellFormed c) (inputs_once : IsDistinct nat_eq 
   output_within : (k : ℕ) (cell : LogicCell ℕ) → slice_get c.cells k ≡ Some cell → cell.output < n
   output_within k cell at = driver_within c good.driven cell.output (is_in_right (given_nets c) (cell_nets c) cell.output (member_at (cell_nets c) k cell.output (at_map (λ cell. cell.output) c.cells k cell at)))
 
-  ranked : AreRanks (map (renumbered_cell f) c.cells) good.ranks
+  ranked : AreRanks (map (map_cell f) c.cells) good.ranks
   ranked = record {
-    count = good.ranked.count ∙ sym (length-map c.cells (renumbered_cell f));
+    count = good.ranked.count ∙ sym (length-map c.cells (map_cell f));
     rising = λ j k driver cell j_at k_at among.
-        let old_j = mapped_at (renumbered_cell f) (slice_get c.cells j) driver (sym (slice_get-map (renumbered_cell f) c.cells j) ∙ j_at) in
-        let old_k = mapped_at (renumbered_cell f) (slice_get c.cells k) cell (sym (slice_get-map (renumbered_cell f) c.cells k) ∙ k_at) in
+        let old_j = mapped_at (map_cell f) (slice_get c.cells j) driver (sym (slice_get-map (map_cell f) c.cells j) ∙ j_at) in
+        let old_k = mapped_at (map_cell f) (slice_get c.cells k) cell (sym (slice_get-map (map_cell f) c.cells k) ∙ k_at) in
         let in_old : is_in (map f old_k.0.inputs) (f old_j.0.output) ≡ true = ap (λ c. is_in c.inputs (f old_j.0.output)) old_k.2 ∙ (ap (λ c. is_in cell.inputs c.output) old_j.2 ∙ among) in
         let found = from_mapped f old_k.0.inputs (f old_j.0.output) in_old in
         let same : found.0 ≡ old_j.0.output = same_number found.0 old_j.0.output (used_within found.0 (input_is_used c k found.0 old_k.0 old_k.1 found.1)) (output_within j old_j.0 old_j.1) found.2 in
         good.ranked.rising j k old_j.0 old_k.0 old_j.1 old_k.1 (ap (is_in old_k.0.inputs) (sym same) ∙ found.1);
   }
 
-  chained : (k : ℕ) (gater : GatingCell ℕ) → slice_get (map (renumbered_gater f) c.gaters) k ≡ Some gater
-      → (option_map f c.clock ≡ Some gater.clock) ⊎ ((j : ℕ) × (before : GatingCell ℕ) × (slice_get (map (renumbered_gater f) c.gaters) j ≡ Some before) × (before.output ≡ gater.clock) × (slice_index good.numbers j < slice_index good.numbers k))
+  chained : (k : ℕ) (gater : GatingCell ℕ) → slice_get (map (map_gater f) c.gaters) k ≡ Some gater
+      → (option_map f c.clock ≡ Some gater.clock) ⊎ ((j : ℕ) × (before : GatingCell ℕ) × (slice_get (map (map_gater f) c.gaters) j ≡ Some before) × (before.output ≡ gater.clock) × (slice_index good.numbers j < slice_index good.numbers k))
   chained k gater at =
-      let old = mapped_at (renumbered_gater f) (slice_get c.gaters k) gater (sym (slice_get-map (renumbered_gater f) c.gaters k) ∙ at) in
+      let old = mapped_at (map_gater f) (slice_get c.gaters k) gater (sym (slice_get-map (map_gater f) c.gaters k) ∙ at) in
       let pin : f old.0.clock ≡ gater.clock = ap (λ g. g.clock) old.2 in
       elim (good.chained.chained k old.0 old.1) [
         | inl clk ↦ inl (ap (option_map f) clk ∙ ap (λ x. Some x) pin)
-        | inr lower ↦ inr (lower.0, renumbered_gater f lower.1, slice_get-map (renumbered_gater f) c.gaters lower.0 ∙ ap (option_map (renumbered_gater f)) lower.2, ap f lower.3 ∙ pin, lower.4)
+        | inr lower ↦ inr (lower.0, map_gater f lower.1, slice_get-map (map_gater f) c.gaters lower.0 ∙ ap (option_map (map_gater f)) lower.2, ap f lower.3 ∙ pin, lower.4)
       ]
 
   test_kept : (o : Option ℕ) → length (option_to_list (option_map f o)) ≡ length (option_to_list o)
@@ -339,17 +341,17 @@ module _ (c : Circuit) (good : IsWellFormed c) (inputs_once : IsDistinct nat_eq 
     model = good.model;
     names = names_named;
     different = names_different;
-    functions = All-map (λ cell. IsOver (length cell.inputs) cell.function) (renumbered_cell f) c.cells (All-weaker (λ cell. IsOver (length cell.inputs) cell.function) (λ cell. IsOver (length (map f cell.inputs)) cell.function) (λ cell is. subst (λ k. IsOver k cell.function) (sym (length-map cell.inputs f)) is) c.cells good.functions);
-    fitting = All-map RegisterFits (renumbered_register f) c.registers (All-weaker RegisterFits (λ r. RegisterFits (renumbered_register f r)) (λ r fits. register_kept f r fits) c.registers good.fitting);
-    gating = All-map (λ gater. IsCell gater.cell × (gater.cell.kind ≡ GaterKind) × (count_by is_test gater.cell.pins ≡ length (option_to_list gater.test))) (renumbered_gater f) c.gaters
+    functions = All-map (λ cell. IsOver (length cell.inputs) cell.function) (map_cell f) c.cells (All-weaker (λ cell. IsOver (length cell.inputs) cell.function) (λ cell. IsOver (length (map f cell.inputs)) cell.function) (λ cell is. subst (λ k. IsOver k cell.function) (sym (length-map cell.inputs f)) is) c.cells good.functions);
+    fitting = All-map RegisterFits (map_register f) c.registers (All-weaker RegisterFits (λ r. RegisterFits (map_register f r)) (λ r fits. register_kept f r fits) c.registers good.fitting);
+    gating = All-map (λ gater. IsCell gater.cell × (gater.cell.kind ≡ GaterKind) × (count_by is_test gater.cell.pins ≡ length (option_to_list gater.test))) (map_gater f) c.gaters
         (All-weaker (λ gater. IsCell gater.cell × (gater.cell.kind ≡ GaterKind) × (count_by is_test gater.cell.pins ≡ length (option_to_list gater.test))) (λ gater. IsCell gater.cell × (gater.cell.kind ≡ GaterKind) × (count_by is_test gater.cell.pins ≡ length (option_to_list (option_map f gater.test)))) (λ gater is. (is.0, is.1, is.2 ∙ sym (test_kept gater.test))) c.gaters good.gating);
     used = subst (All (λ net. net < length names)) (sym (used_is f names c)) (All-map (λ net. net < length names) f (used_nets c) (All-from_members (λ x. f x < length names) (used_nets c) (λ x among. number_within x (used_within x among))));
     driven = driven_in_order (ordered c) in_order;
     ranks = good.ranks;
     ranked = ranked;
     numbers = good.numbers;
-    chained = record { count = good.chained.count ∙ sym (length-map c.gaters (renumbered_gater f)); chained = chained };
-    clocked = All-map (λ r. is_in (clock_nets (ordered c)) r.clock ≡ true) (renumbered_register f) c.registers (All-weaker (λ r. is_in (clock_nets c) r.clock ≡ true) (λ r. is_in (clock_nets (ordered c)) (f r.clock) ≡ true) (λ r is. ap (λ xs. is_in xs (f r.clock)) (clock_nets_is f names c) ∙ in_mapped f (clock_nets c) r.clock is) c.registers good.clocked);
+    chained = record { count = good.chained.count ∙ sym (length-map c.gaters (map_gater f)); chained = chained };
+    clocked = All-map (λ r. is_in (clock_nets (ordered c)) r.clock ≡ true) (map_register f) c.registers (All-weaker (λ r. is_in (clock_nets c) r.clock ≡ true) (λ r. is_in (clock_nets (ordered c)) (f r.clock) ≡ true) (λ r is. ap (λ xs. is_in xs (f r.clock)) (clock_nets_is f names c) ∙ in_mapped f (clock_nets c) r.clock is) c.registers good.clocked);
     apart = λ net among. false_from_ne_true (is_in (used_nets (ordered c)) net) (λ used.
         let clk = from_mapped f (clock_nets c) net (sym (ap (λ xs. is_in xs net) (clock_nets_is f names c)) ∙ among) in
         let usage = from_mapped f (used_nets c) net (sym (ap (λ xs. is_in xs net) (used_is f names c)) ∙ used) in

@@ -1,12 +1,12 @@
 -- A netlist in net order has the same lawful histories, with its nets in that order.
-use Rattle.std.proofs.Common.{◌≡◌, ℕ, zero, suc, ◌+◌, ◌<◌, Bool, true, false, not, ◌&&◌, ◌||◌, if◌then◌else◌, List, [], ◌∷◌, ◌++◌, map, length, slice_get, Option, None, Some, nat_eq, refl, ap, sym, ◌∙◌, subst, arith, inl, inr}
+use Rattle.std.proofs.Common.{[], ◌≡◌, ℕ, ◌+◌, ◌<◌, Bool, true, false, not, ◌&&◌, ◌||◌, if◌then◌else◌, List, ◌∷◌, ◌++◌, map, length, slice_get, Option, None, Some, nat_eq, refl, ap, sym, ◌∙◌, subst, arith}
 use Rattle.std.specs.List.{IsDistinct, cons_option, list_any, range_with_len}
 use Rattle.std.specs.Option.{option_map, option_to_list}
 use Rattle.std.proofs.lemmas.Bool.{eq-eqb, or_left, or_right}
 use Rattle.std.proofs.lemmas.List.{length-map}
 use Rattle.std.proofs.lemmas.Option.{get_or_from_slice_get, slice_get-get_or, slice_get-map, slice_get_within}
-use Rattle.cg_netlist.specs.Circuit.{Circuit, GatingCell, LogicCell, RegisterCell, asked_nets, is_in, cell_nets, clock_nets, data_inputs, gate_nets, given_nets, register_nets, shown_nets, used_nets}
-use Rattle.cg_netlist.specs.Finish.{renumbered_cell, renumbered_register}
+use Rattle.cg_netlist.specs.Circuit.{Circuit, GatingCell, LogicCell, RegisterCell, asked_nets, is_in, cell_nets, clock_nets, data_inputs, gate_nets, given_nets, register_nets}
+use Rattle.cg_netlist.specs.said.Wiring.{map_cell, map_register}
 use Rattle.cg_netlist.specs.History.{AreTicks, IsLawful, IsStart, IsWaveform, LawfulFrom, Moment, MomentFollows, Tick, gate_bit, latches_before, next_bit, next_latch, next_value, outputs_of, state_now}
 use Rattle.cg_netlist.specs.Moment.{Settles, bit, function_value, register_bits, shown_bits, values_at, zip_with}
 use Rattle.cg_netlist.specs.WellFormed.{IsWellFormed}
@@ -17,7 +17,8 @@ use Rattle.cg_netlist.proofs.Members.{is_in_right, member_at}
 use Rattle.cg_netlist.proofs.NetOrder.{registers_renumbered}
 use Rattle.cg_netlist.proofs.OrderLemmas.{length-range_with_len}
 use Rattle.cg_netlist.proofs.Values.{at_map, by_place, zip_with_same}
-use Rattle.cg_netlist.specs.Ordered.{ordered, place_in, pulled, pulled_moment, renumbered_gater}
+use Rattle.cg_netlist.specs.Ordered.{ordered, place_in, pulled, pulled_moment}
+use Rattle.cg_netlist.specs.said.Wiring.{map_gater}
 use Rattle.cg_netlist.proofs.Used.{asked_is_used, data_is_used, input_is_used, output_is_used}
 use Rattle.cg_netlist.proofs.OrderedForm.{clock_nets_within, clock_within, data_is, gates_renumbered, number_within, ordered_formed, used_within}
 
@@ -31,10 +32,10 @@ shown_bits_same : (f : ℕ → ℕ) (outputs : List (ℕ × Bool)) (b : Bool) �
 shown_bits_same f [] b = refl
 shown_bits_same f (o ∷ os) b = ap (λ l. (if o.1 then not b else b) ∷ l) (shown_bits_same f os b)
 
-bits_same : (f : ℕ → ℕ) (rs : List (RegisterCell ℕ ℕ)) (s : List Bool) → register_bits (map (renumbered_register f) rs) s ≡ register_bits rs s
+bits_same : (f : ℕ → ℕ) (rs : List (RegisterCell ℕ ℕ)) (s : List Bool) → register_bits (map (map_register f) rs) s ≡ register_bits rs s
 bits_same f [] s = refl
 bits_same f (r ∷ rs) [] = refl
-bits_same f (r ∷ rs) (b ∷ s) = ap (λ l. l ++ register_bits (map (renumbered_register f) rs) s) (shown_bits_same f r.outputs b) ∙ ap (λ l. shown_bits r b ++ l) (bits_same f rs s)
+bits_same f (r ∷ rs) (b ∷ s) = ap (λ l. l ++ register_bits (map (map_register f) rs) s) (shown_bits_same f r.outputs b) ∙ ap (λ l. shown_bits r b ++ l) (bits_same f rs s)
 
 module _ (c : Circuit) (good : IsWellFormed c) (inputs_once : IsDistinct nat_eq c.inputs) where
   abbrev n : ℕ
@@ -73,7 +74,7 @@ module _ (c : Circuit) (good : IsWellFormed c) (inputs_once : IsDistinct nat_eq 
     shows_state = pulled_values nets there.long (register_nets c) (given_below (register_nets c) (register_given c)) ∙ (ap (values_at nets) (sym (registers_renumbered f c.registers)) ∙ (there.shows_state ∙ bits_same f c.registers state));
     holds = λ k cell at.
         pulled_get nets there.long cell.output (output_within k cell at)
-        ∙ (there.holds k (renumbered_cell f cell) (slice_get-map (renumbered_cell f) c.cells k ∙ ap (option_map (renumbered_cell f)) at)
+        ∙ (there.holds k (map_cell f cell) (slice_get-map (map_cell f) c.cells k ∙ ap (option_map (map_cell f)) at)
         ∙ ap (λ bits. Some (function_value cell.function bits)) (sym (pulled_values nets there.long cell.inputs (λ x among. used_within c good inputs_once x (input_is_used c k x cell at among)))));
   }
 
@@ -86,10 +87,10 @@ module _ (c : Circuit) (good : IsWellFormed c) (inputs_once : IsDistinct nat_eq 
   pub asked_within : (k : ℕ) (g : GatingCell ℕ) → slice_get c.gaters k ≡ Some g → (x : ℕ) → is_in (asked_nets g) x ≡ true → x < n
   asked_within k g at x among = used_within c good inputs_once x (asked_is_used c k x g at among)
 
-  gates_same : (nets : List Bool) → length nets ≡ length (ordered c).names → (latches : List Bool) → zip_with (gate_bit nets) (map (renumbered_gater f) c.gaters) latches ≡ zip_with (gate_bit (pulled c nets)) c.gaters latches
-  gates_same nets long latches = zip_mapped (gate_bit nets) (renumbered_gater f) c.gaters latches ∙ zip_with_same (λ g l. gate_bit nets (renumbered_gater f g) l) (gate_bit (pulled c nets)) c.gaters latches (λ k g l at was. ap (λ b. l && b) (sym (pulled_bit nets long g.clock (gater_pin k g at))))
+  gates_same : (nets : List Bool) → length nets ≡ length (ordered c).names → (latches : List Bool) → zip_with (gate_bit nets) (map (map_gater f) c.gaters) latches ≡ zip_with (gate_bit (pulled c nets)) c.gaters latches
+  gates_same nets long latches = zip_mapped (gate_bit nets) (map_gater f) c.gaters latches ∙ zip_with_same (λ g l. gate_bit nets (map_gater f g) l) (gate_bit (pulled c nets)) c.gaters latches (λ k g l at was. ap (λ b. l && b) (sym (pulled_bit nets long g.clock (gater_pin k g at))))
 
-  asks_same : (nets : List Bool) → length nets ≡ length (ordered c).names → (g : GatingCell ℕ) → ((x : ℕ) → is_in (asked_nets g) x ≡ true → x < n) → list_any (bit nets) (asked_nets (renumbered_gater f g)) ≡ list_any (bit (pulled c nets)) (asked_nets g)
+  asks_same : (nets : List Bool) → length nets ≡ length (ordered c).names → (g : GatingCell ℕ) → ((x : ℕ) → is_in (asked_nets g) x ≡ true → x < n) → list_any (bit nets) (asked_nets (map_gater f g)) ≡ list_any (bit (pulled c nets)) (asked_nets g)
   asks_same nets long g within = ap (λ b. b || list_any (bit nets) (option_to_list (option_map f g.test))) (sym (pulled_bit nets long g.enable (within g.enable (member_at (asked_nets g) 0 g.enable refl))))
       ∙ ap (λ b. bit (pulled c nets) g.enable || b) (go g.test (λ x is. within x (is_in_right (g.enable ∷ []) (option_to_list g.test) x is)))
     where
@@ -97,14 +98,14 @@ module _ (c : Circuit) (good : IsWellFormed c) (inputs_once : IsDistinct nat_eq 
       go None within = refl
       go (Some x) within = ap (λ b. b || false) (sym (pulled_bit nets long x (within x (member_at (x ∷ []) 0 x refl))))
 
-  latches_same : (nets : List Bool) → length nets ≡ length (ordered c).names → (before : List Bool) → zip_with (next_latch nets) (map (renumbered_gater f) c.gaters) before ≡ zip_with (next_latch (pulled c nets)) c.gaters before
-  latches_same nets long before = zip_mapped (next_latch nets) (renumbered_gater f) c.gaters before ∙ zip_with_same (λ g l. next_latch nets (renumbered_gater f g) l) (next_latch (pulled c nets)) c.gaters before (λ k g own at was.
-      ap (λ b. if b then own else list_any (bit nets) (asked_nets (renumbered_gater f g))) (sym (pulled_bit nets long g.clock (gater_pin k g at)))
+  latches_same : (nets : List Bool) → length nets ≡ length (ordered c).names → (before : List Bool) → zip_with (next_latch nets) (map (map_gater f) c.gaters) before ≡ zip_with (next_latch (pulled c nets)) c.gaters before
+  latches_same nets long before = zip_mapped (next_latch nets) (map_gater f) c.gaters before ∙ zip_with_same (λ g l. next_latch nets (map_gater f g) l) (next_latch (pulled c nets)) c.gaters before (λ k g own at was.
+      ap (λ b. if b then own else list_any (bit nets) (asked_nets (map_gater f g))) (sym (pulled_bit nets long g.clock (gater_pin k g at)))
       ∙ ap (λ b. if bit (pulled c nets) g.clock then own else b) (asks_same nets long g (asked_within k g at)))
 
   states_same : (before now : List Bool) → length before ≡ length (ordered c).names → length now ≡ length (ordered c).names → (state : List Bool)
-      → zip_with (next_bit before now) (map (renumbered_register f) c.registers) state ≡ zip_with (next_bit (pulled c before) (pulled c now)) c.registers state
-  states_same before now was is state = zip_mapped (next_bit before now) (renumbered_register f) c.registers state ∙ zip_with_same (λ r own. next_bit before now (renumbered_register f r) own) (next_bit (pulled c before) (pulled c now)) c.registers state (λ k r own at stored.
+      → zip_with (next_bit before now) (map (map_register f) c.registers) state ≡ zip_with (next_bit (pulled c before) (pulled c now)) c.registers state
+  states_same before now was is state = zip_mapped (next_bit before now) (map_register f) c.registers state ∙ zip_with_same (λ r own. next_bit before now (map_register f r) own) (next_bit (pulled c before) (pulled c now)) c.registers state (λ k r own at stored.
       ap (λ b. if not b && bit now (f r.clock) then next_value r.kind (values_at before (map f r.inputs)) own else own) (sym (pulled_bit before was r.clock (register_pin k r at)))
       ∙ (ap (λ b. if not (bit (pulled c before) r.clock) && b then next_value r.kind (values_at before (map f r.inputs)) own else own) (sym (pulled_bit now is r.clock (register_pin k r at)))
       ∙ ap (λ bits. if not (bit (pulled c before) r.clock) && bit (pulled c now) r.clock then next_value r.kind bits own else own) (sym (pulled_values before was r.inputs (λ x among. used_within c good inputs_once x (data_is_used c k x r at among))))))
@@ -117,7 +118,7 @@ module _ (c : Circuit) (good : IsWellFormed c) (inputs_once : IsDistinct nat_eq 
   WasLong (Some p) = length p.nets ≡ length (ordered c).names
 
   before_same : (before : Option Moment) → latches_before (ordered c) before ≡ latches_before c (pulled_before before)
-  before_same None = ap (λ k. Rattle.std.proofs.Common.replicate k false) (length-map c.gaters (renumbered_gater f))
+  before_same None = ap (λ k. Rattle.std.proofs.Common.replicate k false) (length-map c.gaters (map_gater f))
   before_same (Some p) = refl
 
   state_at : (start : List Bool) (before : Option Moment) (nets : List Bool) → WasLong before → length nets ≡ length (ordered c).names → state_now (ordered c) start before nets ≡ state_now c start (pulled_before before) (pulled c nets)
@@ -128,7 +129,7 @@ module _ (c : Circuit) (good : IsWellFormed c) (inputs_once : IsDistinct nat_eq 
   pulled_follows start before tick now was moves = record {
     state = moves.state ∙ state_at start before now.nets was moves.nets.long;
     latches = moves.latches ∙ (latches_same now.nets moves.nets.long (latches_before (ordered c) before) ∙ ap (zip_with (next_latch (pulled c now.nets)) c.gaters) (before_same before));
-    nets = subst (λ gates. Settles c tick.clock tick.inputs now.state gates (pulled c now.nets)) (gates_same now.nets moves.nets.long now.latches) (pulled_settles tick.clock tick.inputs now.state (zip_with (gate_bit now.nets) (map (renumbered_gater f) c.gaters) now.latches) now.nets moves.nets);
+    nets = subst (λ gates. Settles c tick.clock tick.inputs now.state gates (pulled c now.nets)) (gates_same now.nets moves.nets.long now.latches) (pulled_settles tick.clock tick.inputs now.state (zip_with (gate_bit now.nets) (map (map_gater f) c.gaters) now.latches) now.nets moves.nets);
   }
 
   pulled_from : (start : List Bool) (before : Option Moment) (wave : List Tick) (history : List Moment) → WasLong before → LawfulFrom (ordered c) start before wave history → LawfulFrom c start (pulled_before before) wave (map (pulled_moment c) history)
@@ -148,7 +149,7 @@ module _ (c : Circuit) (good : IsWellFormed c) (inputs_once : IsDistinct nat_eq 
 
   pub from_pulled : (start : List Bool) (wave : List Tick) (history : List Moment) → IsStart c start → IsWaveform c wave → IsLawful c start wave history → (there : List Moment) × IsLawful (ordered c) start wave there × (map (pulled_moment c) there ≡ history)
   from_pulled start wave history started waves lawful =
-      let found = has_history (ordered c) (ordered_formed c good inputs_once) start wave (started ∙ sym (length-map c.registers (renumbered_register f))) (ticks_same wave waves.0, waves.1) in
+      let found = has_history (ordered c) (ordered_formed c good inputs_once) start wave (started ∙ sym (length-map c.registers (map_register f))) (ticks_same wave waves.0, waves.1) in
       (found.0, found.1, has_one_history c good start wave started waves (map (pulled_moment c) found.0) history (pulled_lawful start wave found.0 found.1) lawful)
 
   -- the outputs are the same

@@ -1,22 +1,18 @@
 -- Lemmas on the places of nets in an order.
-use Rattle.std.proofs.Common.{ℕ, zero, suc, ◌+◌, ◌<◌, ◌≡◌, ◌≢◌, inl, inr, true, false, not, cond, List, [], ◌∷◌, Option, Some, None, length, take, set, get_or, unwrap_or, refl, sym, ap, ◌∙◌, subst, arith, nat_eq}
+use Rattle.std.proofs.Common.{map, [], ℕ, zero, suc, ◌+◌, ◌<◌, ◌≡◌, ◌≢◌, inl, inr, false, not, cond, List, ◌∷◌, Option, Some, None, length, take, get_or, unwrap_or, refl, sym, ap, ◌∙◌, arith, nat_eq}
 use Rattle.std.specs.List.{slice_get, All, AllPairs, IsDistinct, position_or_len}
 use Rattle.std.specs.Option.{option_map}
 use Rattle.std.proofs.lemmas.Bool.{cases_Bool, eqb-true, eq-eqb, both_ways, cases_lt}
-use Rattle.std.proofs.lemmas.Bool.Decides.{eqb_tells}
-use Rattle.std.proofs.lemmas.List.{length-set, map-append}
+use Rattle.std.proofs.lemmas.List.{map-append}
 use Rattle.std.proofs.lemmas.Option.{slice_get-map, unwrap_or-slice_get, same_Some}
-use Rattle.cg_netlist.specs.Canonical.{net_name, net_names}
+use Rattle.cg_netlist.specs.said.Wiring.{net_name}
 use Rattle.cg_netlist.specs.Circuit.{is_in}
 use Rattle.cg_netlist.specs.Names.{is_known, with_name}
-use Rattle.cg_netlist.specs.Places.{number_in}
 use Rattle.cg_netlist.proofs.Members.{distinct_head, distinct_tail, member_at, one_place}
-use Rattle.cg_netlist.proofs.DraftLemmas.{known_at}
+use Rattle.cg_netlist.proofs.DifferentNames.{known_at}
 use Rattle.cg_netlist.proofs.MarkLemmas.{All-at}
 use Rattle.cg_netlist.proofs.NameLemmas.{with_name-unknown}
-use Rattle.cg_netlist.proofs.RankingLemmas.{in_cases, take_next}
-use Rattle.cg_netlist.proofs.SearchLemmas.{only}
-use Rattle.cg_netlist.proofs.TableLemmas.{slice_get-set_same, slice_get-set_other}
+use Rattle.cg_netlist.proofs.RankingLemmas.{take_next}
 
 -- the place of a net in an order in which it stands once
 pub place_is : (order : List ℕ) (i net : ℕ) → IsDistinct nat_eq order → slice_get order i ≡ Some net → position_or_len (nat_eq net) order ≡ i
@@ -28,23 +24,6 @@ place_is (x ∷ order) (suc i) net once at =
       | inr no' ↦ no'
     ] in
     ap (λ b. cond (not b) (1 + position_or_len (nat_eq net) order) 0) other ∙ (ap (λ m. 1 + m) (place_is order i net (distinct_tail x order once) at) ∙ omega arith)
-
-pub placed_more : (places : List ℕ) (n : ℕ) (order : List ℕ) (i net place : ℕ) → length places ≡ n
-    → ((x : ℕ) → is_in (take i order) x ≡ true → number_in places x ≡ position_or_len (nat_eq x) order)
-    → All (λ x. x < n) order → IsDistinct nat_eq order → slice_get order i ≡ Some net → place ≡ i
-    → (length (set places net place) ≡ n) × ((x : ℕ) → is_in (take (i + 1) order) x ≡ true → number_in (set places net place) x ≡ position_or_len (nat_eq x) order)
-placed_more places n order i net place fits tells within once at is = (
-  length-set places net place ∙ fits,
-  λ x in'. elim (eqb_tells x net) [
-    | inl e ↦
-        let P : ℕ → Type 0 = λ y. number_in (set places net place) y ≡ position_or_len (nat_eq y) order in
-        subst P (sym e.1) (ap (λ o. unwrap_or o 0) (slice_get-set_same places net place (omega (arith, fits, All-at order n i net at within))) ∙ (is ∙ sym (place_is order i net once at)))
-    | inr e ↦ ap (λ o. unwrap_or o 0) (slice_get-set_other places net x place e.1) ∙ tells x (elim (in_cases (take i order) (net ∷ []) x (subst (λ xs. is_in xs x ≡ true) (take_next order i net at) in')) [
-      | inl early ↦ early
-      | inr here ↦ absurd (e.1 (only net x here))
-    ])
-  ],
-)
 
 -- different nets have different names
 pub same_net : (names : List (List ℕ)) (a b : ℕ) → AllPairs (λ name other. name ≢ other) names → a < length names → b < length names → net_name names a ≡ net_name names b → a ≡ b
@@ -64,15 +43,15 @@ take_get [] (suc i) j x at = absurd (cc)
 take_get (y ∷ xs) (suc i) zero x at = (omega arith, at)
 take_get (y ∷ xs) (suc i) (suc j) x at = let more = take_get xs i j x at in (omega (arith, more.0), more.1)
 
-mapped_at : {X Y : Type 0} (f : X → Y) (o : Option X) (y : Y) → option_map f o ≡ Some y → (x : X) × (o ≡ Some x) × (f x ≡ y)
+pub mapped_at : {X Y : Type 0} (f : X → Y) (o : Option X) (y : Y) → option_map f o ≡ Some y → (x : X) × (o ≡ Some x) × (f x ≡ y)
 mapped_at f None y is = absurd (cc)
 mapped_at f (Some x) y is = (x, refl, same_Some (f x) y is)
 
 fresh_name : (names : List (List ℕ)) (order : List ℕ) (i net : ℕ) → AllPairs (λ name other. name ≢ other) names → All (λ x. x < length names) order → IsDistinct nat_eq order → slice_get order i ≡ Some net
-    → is_known (net_names names (take i order)) (net_name names net) ≡ false
-fresh_name names order i net different within once at = elim (cases_Bool (is_known (net_names names (take i order)) (net_name names net))) [
+    → is_known (map (net_name names) (take i order)) (net_name names net) ≡ false
+fresh_name names order i net different within once at = elim (cases_Bool (is_known (map (net_name names) (take i order)) (net_name names net))) [
   | inl known ↦
-      let found = known_at (net_names names (take i order)) (net_name names net) known in
+      let found = known_at (map (net_name names) (take i order)) (net_name names net) known in
       let m = mapped_at (net_name names) (slice_get (take i order) found.0) (net_name names net) (sym (slice_get-map (net_name names) (take i order) found.0) ∙ found.1) in
       let there = take_get order i found.0 m.0 m.1 in
       let same : m.0 ≡ net = same_net names m.0 net different (All-at order (length names) found.0 m.0 there.1 within) (All-at order (length names) i net at within) m.2 in
@@ -82,9 +61,9 @@ fresh_name names order i net different within once at = elim (cases_Bool (is_kno
 ]
 
 pub named_more : (names : List (List ℕ)) (order : List ℕ) (i net : ℕ) (name : List ℕ) (ordered next : List (List ℕ)) → AllPairs (λ n other. n ≢ other) names → All (λ x. x < length names) order → IsDistinct nat_eq order → slice_get order i ≡ Some net
-    → slice_get names net ≡ Some name → ordered ≡ net_names names (take i order) → next ≡ with_name ordered name → next ≡ net_names names (take (i + 1) order)
+    → slice_get names net ≡ Some name → ordered ≡ map (net_name names) (take i order) → next ≡ with_name ordered name → next ≡ map (net_name names) (take (i + 1) order)
 named_more names order i net name ordered next different within once at named ordered_are next_is =
     let name_is : name ≡ net_name names net = sym (ap (λ o. unwrap_or o []) named) in
-    next_is ∙ (ap (λ ns. with_name ns name) ordered_are ∙ (ap (with_name (net_names names (take i order))) name_is
-    ∙ (with_name-unknown (net_names names (take i order)) (net_name names net) (fresh_name names order i net different within once at)
-    ∙ (sym (map-append (net_name names) (take i order) (net ∷ [])) ∙ ap (net_names names) (sym (take_next order i net at))))))
+    next_is ∙ (ap (λ ns. with_name ns name) ordered_are ∙ (ap (with_name (map (net_name names) (take i order))) name_is
+    ∙ (with_name-unknown (map (net_name names) (take i order)) (net_name names net) (fresh_name names order i net different within once at)
+    ∙ (sym (map-append (net_name names) (take i order) (net ∷ [])) ∙ ap (map (net_name names)) (sym (take_next order i net at))))))

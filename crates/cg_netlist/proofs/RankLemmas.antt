@@ -1,5 +1,5 @@
 -- Lemmas on ranks: where one list of ranks fits the rule at every cell, it is the list of ranks.
-use Rattle.std.proofs.Common.{ℕ, zero, suc, ◌+◌, ◌<◌, ◌≤◌, ◌≡◌, List, [], ◌∷◌, ◌++◌, Option, Some, None, map, max, refl, sym, ap, ◌∙◌, subst, arith}
+use Rattle.std.proofs.Common.{[], ℕ, zero, suc, ◌+◌, ◌<◌, ◌≤◌, ◌≡◌, List, ◌∷◌, ◌++◌, Option, Some, None, map, max, refl, sym, ap, ◌∙◌, subst, arith}
 use Rattle.std.specs.List.{AllByRecursion}
 use Rattle.std.specs.Option.{option_map}
 use Rattle.std.proofs.lemmas.Option.{same_Some}
@@ -18,12 +18,6 @@ pub next_rank-push : (ranks : List (Option ℕ)) (r : ℕ) → next_rank (ranks 
 next_rank-push [] r = refl
 next_rank-push (None ∷ ranks) r = refl
 next_rank-push (Some q ∷ ranks) r = ap (option_map (max (q + 1))) (next_rank-push ranks r) ∙ max_swap (q + 1) (r + 1) (next_rank ranks)
-
--- a cell under one without a rank has none
-pub next_rank-none : (before after : List (Option ℕ)) → next_rank (before ++ None ∷ after) ≡ None
-next_rank-none [] after = refl
-next_rank-none (None ∷ before) after = refl
-next_rank-none (Some r ∷ before) after = ap (option_map (max (r + 1))) (next_rank-none before after)
 
 -- the parts of a rank: those of the first cell above and of the others
 pub record IsGreater (o : Option ℕ) (os : List (Option ℕ)) (r : ℕ) : Type 0 where

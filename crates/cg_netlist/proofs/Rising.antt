@@ -1,5 +1,5 @@
 -- Where ranks rise from each driving cell to the driven one, every cell has a rank.
-use Rattle.std.proofs.Common.{ℕ, zero, suc, ◌+◌, ◌<◌, ◌≤◌, ◌≡◌, inl, inr, Bool, true, false, cond, List, [], ◌∷◌, Option, Some, None, map, max, length, is_none, refl, sym, ap, ◌∙◌, arith, nat_eq, nat_lt}
+use Rattle.std.proofs.Common.{[], ℕ, zero, suc, ◌+◌, ◌<◌, ◌≤◌, ◌≡◌, inl, inr, Bool, true, false, cond, List, ◌∷◌, Option, Some, None, map, max, length, is_none, refl, sym, ap, ◌∙◌, arith, nat_eq, nat_lt}
 use Rattle.std.specs.List.{slice_get, slice_index, count_by, filter_map, cons_option, position_from}
 use Rattle.std.specs.Option.{option_map, option_map_or}
 use Rattle.std.proofs.lemmas.Bool.{both_ways, or_cases, or_right, eqb-true, ltb-true, lt-ltb, le-ltb}
@@ -111,13 +111,3 @@ module _ (cells : List (LogicCell ℕ)) (ranks : List ℕ) (ranked : AreRanks ce
 
   pub every_rank_found : (k : ℕ) → k < length cells → is_none (rank_of cells k) ≡ false
   every_rank_found k lt = found_within (driving_cells cells) height falls (length cells) k (height_within k lt)
-
-  -- no net is the output of a cell without a rank
-  pub none_behind : (net : ℕ) → option_map_or (λ k. is_none (rank_of cells k)) (driving_cell cells net) false ≡ false
-  none_behind net = go (driving_cell cells net) refl
-    where
-      go : (o : Option ℕ) → driving_cell cells net ≡ o → option_map_or (λ k. is_none (rank_of cells k)) o false ≡ false
-      go None is = refl
-      go (Some k) is =
-          let driver = first_passes (λ c. nat_eq c.output net) 0 cells k is in
-          every_rank_found k (omega (arith, driver.2, slice_get_within cells driver.0 driver.1 driver.3))

@@ -1,5 +1,5 @@
 -- What each step of the search for ranks keeps.
-use Rattle.std.proofs.Common.{ℕ, ◌+◌, ◌<◌, ◌≡◌, inl, inr, List, [], ◌∷◌, ◌++◌, Option, Some, None, Bool, true, false, cond, is_none, length, take, set, get_or, refl, sym, ap, ◌∙◌, subst, arith, unwrap_or, is_some, nat_eq}
+use Rattle.std.proofs.Common.{[], ℕ, ◌+◌, ◌<◌, ◌≡◌, inl, inr, List, ◌∷◌, ◌++◌, Option, Some, None, Bool, true, false, cond, is_none, length, take, set, get_or, refl, sym, ap, ◌∙◌, subst, arith, unwrap_or, is_some, nat_eq}
 use Rattle.std.proofs.lemmas.Bool.{or_cases, eqb-true}
 use Rattle.std.specs.List.{cons_option, slice_get, slice_set, All, count_by}
 use Rattle.std.proofs.lemmas.List.{length-set, append-nil, length_push, take_all}
@@ -33,9 +33,6 @@ module _ (drivers : List (Option ℕ)) (cells : List (LogicCell ℕ)) where
     ];
     ranked = sound.ranked;
   }
-
-  pub looks_sound : (old new : Search) (k : ℕ) (above : Option ℕ) → IsSound drivers cells old → Looks drivers cells old new k above → IsSound drivers cells new
-  looks_sound old new k above sound looks = subst (λ s. IsSound drivers cells s) (sym looks.progress_set) (looked_on old k looks.progress sound looks.looked)
 
   waiters_in : (o : Option (List ℕ)) → ((waiters : List ℕ) → o ≡ Some waiters → All (λ j. j < length cells) waiters) → All (λ j. j < length cells) (unwrap_or o [])
   waiters_in None all = λ k d lt. absurd (omega arith)

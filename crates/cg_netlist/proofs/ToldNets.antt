@@ -1,10 +1,9 @@
 -- Nets that are listed by what they are to the parts.
-use Rattle.std.proofs.Common.{◌≡◌, ℕ, zero, suc, ◌+◌, ◌<◌, Bool, true, false, not, nat_eq, if◌then◌else◌, List, [], ◌∷◌, ◌++◌, Some, length, take, slice_get, unwrap_or, map, Option, None, append_assoc, subst, refl, sym, ap, ◌∙◌}
+use Rattle.std.proofs.Common.{[], ◌≡◌, ℕ, ◌+◌, ◌<◌, Bool, true, false, not, nat_eq, if◌then◌else◌, List, ◌∷◌, ◌++◌, Some, length, take, slice_get, map, Option, None, append_assoc, subst, refl, sym, ap, ◌∙◌}
 use Rattle.std.specs.List.{All, AllByRecursion, filter, flat_map}
 use Rattle.std.specs.Option.{option_map, option_to_list}
-use Rattle.std.proofs.lemmas.List.{append-nil}
 use Rattle.cg_netlist.specs.Circuit.{GatingCell, LogicCell, RegisterCell, asked_nets, is_in, shown_nets}
-use Rattle.cg_netlist.specs.Draft as Draft
+use Rattle.cg_netlist.specs.Places.{CellAmong, RegisterAmong}
 use Rattle.cg_netlist.specs.Marks.{IsTable, is_marked}
 use Rattle.cg_netlist.specs.inner.Numbers.{AreNumbers, CellWithin, GaterWithin, Numbers, OpenWithin, clock_number, drivers_by, gated, on_number, ordered_numbers, pins_by, rooted, used, wired_numbers}
 use Rattle.cg_netlist.specs.said.Wiring.{Wiring, driven_by_cells, driven_by_gaters, driven_by_registers, map_cell, map_gater, map_outputs, map_register, map_wiring}
@@ -91,9 +90,9 @@ module _ (n : Numbers) (ok : AreNumbers n) where
   pub asked_of : (nets given : List ℕ) (count : ℕ) → count ≡ length n.names → given ≡ nets → AllByRecursion Is nets → All (λ net. net < count) given
   asked_of nets given count count_is given_is within = subst (λ m. All (λ net. net < m) given) (sym count_is) (subst (All Is) (sym given_is) (from_recursion Is nets within))
 
-  pub cells_asked : (given : List (LogicCell ℕ)) (count : ℕ) → count ≡ length n.names → given ≡ n.cells → All (Draft.CellWithin count) given
-  cells_asked given count count_is given_is = subst (λ m. All (Draft.CellWithin m) given) (sym count_is) (subst (All (Draft.CellWithin (length n.names))) (sym given_is)
-      (from_recursion (Draft.CellWithin (length n.names)) n.cells (each (CellWithin (length n.names)) (Draft.CellWithin (length n.names)) (λ k within. record { inputs = from_recursion Is k.inputs within.inputs; output = within.output }) n.cells ok.cells)))
+  pub cells_asked : (given : List (LogicCell ℕ)) (count : ℕ) → count ≡ length n.names → given ≡ n.cells → All (CellAmong count) given
+  cells_asked given count count_is given_is = subst (λ m. All (CellAmong m) given) (sym count_is) (subst (All (CellAmong (length n.names))) (sym given_is)
+      (from_recursion (CellAmong (length n.names)) n.cells (each (CellWithin (length n.names)) (CellAmong (length n.names)) (λ k within. record { inputs = from_recursion Is k.inputs within.inputs; output = within.output }) n.cells ok.cells)))
 
   first_within : (xs : List ℕ) → AllByRecursion Is xs → AllByRecursion Is (option_to_list (slice_get xs 0))
   first_within [] all = tt
@@ -105,11 +104,11 @@ module _ (n : Numbers) (ok : AreNumbers n) where
   pub clock_asked : (given : Option ℕ) (count : ℕ) → count ≡ length n.names → given ≡ clock_number n → AllByRecursion (λ net. net < count) (option_to_list given)
   clock_asked given count count_is given_is = subst (λ m. AllByRecursion (λ net. net < m) (option_to_list given)) (sym count_is) (subst (λ o. AllByRecursion Is (option_to_list o)) (sym given_is) clock_within)
 
-  pub registers_asked : AllByRecursion (λ (r : RegisterCell ℕ ℕ). r.clock < length n.names) (wired_numbers n).registers → (given : List (RegisterCell ℕ ℕ)) (count : ℕ) → count ≡ length n.names → given ≡ (wired_numbers n).registers → All (Draft.RegisterWithin count) given
-  registers_asked clocked given count count_is given_is = subst (λ m. All (Draft.RegisterWithin m) given) (sym count_is) (subst (All (Draft.RegisterWithin (length n.names))) (sym given_is)
-      (from_recursion (Draft.RegisterWithin (length n.names)) (wired_numbers n).registers (go n.registers ok.registers clocked)))
+  pub registers_asked : AllByRecursion (λ (r : RegisterCell ℕ ℕ). r.clock < length n.names) (wired_numbers n).registers → (given : List (RegisterCell ℕ ℕ)) (count : ℕ) → count ≡ length n.names → given ≡ (wired_numbers n).registers → All (RegisterAmong count) given
+  registers_asked clocked given count count_is given_is = subst (λ m. All (RegisterAmong m) given) (sym count_is) (subst (All (RegisterAmong (length n.names))) (sym given_is)
+      (from_recursion (RegisterAmong (length n.names)) (wired_numbers n).registers (go n.registers ok.registers clocked)))
     where
-      go : (rs : List (RegisterCell ℕ (Option ℕ))) → AllByRecursion (OpenWithin (length n.names)) rs → AllByRecursion (λ (r : RegisterCell ℕ ℕ). r.clock < length n.names) (map (on_number (clock_number n)) rs) → AllByRecursion (Draft.RegisterWithin (length n.names)) (map (on_number (clock_number n)) rs)
+      go : (rs : List (RegisterCell ℕ (Option ℕ))) → AllByRecursion (OpenWithin (length n.names)) rs → AllByRecursion (λ (r : RegisterCell ℕ ℕ). r.clock < length n.names) (map (on_number (clock_number n)) rs) → AllByRecursion (RegisterAmong (length n.names)) (map (on_number (clock_number n)) rs)
       go [] all clocks = tt
       go (r ∷ rs) all clocks = (record { inputs = from_recursion Is r.inputs all.0.inputs; outputs = from_recursion Is (shown_nets r) all.0.outputs; clock = clocks.0 }, go rs all.1 clocks.1)
 

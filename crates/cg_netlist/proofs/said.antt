@@ -10,7 +10,6 @@ pub mod Counted
 pub mod Different
 pub mod Each
 pub mod FaultOrNone
-pub mod FinishTells
 pub mod FirstAt
 pub mod Fitting
 pub mod GateRanksTell

@@ -2,15 +2,11 @@
 use Rattle.std.specs.Prelude.{◌≡◌, ℕ, Bool, List, length, map, nat_eq}
 use Rattle.std.specs.List.{IsDistinct, position_or_len, range_with_len}
 use Rattle.std.specs.Option.{option_map}
-use Rattle.cg_netlist.specs.Canonical.{net_names}
-use Rattle.cg_netlist.specs.Circuit.{Circuit, GatingCell, net_order}
-use Rattle.cg_netlist.specs.Finish.{renumbered_cell, renumbered_register}
+use Rattle.cg_netlist.specs.Circuit.{Circuit, net_order}
 use Rattle.cg_netlist.specs.History.{IsLawful, IsStart, IsWaveform, Moment, Tick, outputs_of}
 use Rattle.cg_netlist.specs.Moment.{bit}
+use Rattle.cg_netlist.specs.said.Wiring.{map_cell, map_gater, map_register, net_name}
 use Rattle.cg_netlist.specs.WellFormed.{IsInNetOrder, IsWellFormed}
-
-abbrev pub renumbered_gater : (ℕ → ℕ) → GatingCell ℕ → GatingCell ℕ
-renumbered_gater number gater = record gater { clock = number gater.clock; enable = number gater.enable; test = option_map number gater.test; output = number gater.output }
 
 -- all parts with their nets numbered anew, and these names for them
 abbrev pub with_numbers : (ℕ → ℕ) → List (List ℕ) → Circuit → Circuit
@@ -20,9 +16,9 @@ with_numbers number names c = record {
   inputs = map number c.inputs;
   clock = option_map number c.clock;
   outputs = map number c.outputs;
-  cells = map (renumbered_cell number) c.cells;
-  gaters = map (renumbered_gater number) c.gaters;
-  registers = map (renumbered_register number) c.registers;
+  cells = map (map_cell number) c.cells;
+  gaters = map (map_gater number) c.gaters;
+  registers = map (map_register number) c.registers;
 }
 
 -- the place of a net in a list
@@ -31,7 +27,7 @@ place_in nets net = position_or_len (nat_eq net) nets
 
 -- the netlist in net order
 abbrev pub ordered : Circuit → Circuit
-ordered c = with_numbers (place_in (net_order c)) (net_names c.names (net_order c)) c
+ordered c = with_numbers (place_in (net_order c)) (map (net_name c.names) (net_order c)) c
 
 -- the bits of nets that are in net order, under the numbers of before; and a moment with them
 abbrev pub pulled : Circuit → List Bool → List Bool

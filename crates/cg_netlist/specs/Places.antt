@@ -1,13 +1,18 @@
--- The numbers that nets get in an order.
-use Rattle.std.specs.Prelude.{◌≡◌, ℕ, true, List, length, slice_get, unwrap_or, nat_eq}
-use Rattle.std.specs.List.{position_or_len}
-use Rattle.cg_netlist.specs.Circuit.{is_in}
+-- The numbers that nets get.
+use Rattle.std.specs.Prelude.{ℕ, ◌<◌, List, slice_get, unwrap_or}
+use Rattle.std.specs.List.{All}
+use Rattle.cg_netlist.specs.Circuit.{LogicCell, RegisterCell, shown_nets}
 
 -- the number of a net in a table of numbers
 abbrev pub number_in : List ℕ → ℕ → ℕ
 number_in places net = unwrap_or (slice_get places net) 0
 
--- the table has for each of n nets a number, and for those of an order their places in it
-pub record ArePlaces (places : List ℕ) (n : ℕ) (order : List ℕ) : Type 0 where
-  pub fits : length places ≡ n
-  pub tells : (net : ℕ) → is_in order net ≡ true → number_in places net ≡ position_or_len (nat_eq net) order
+-- a table of n numbers has one for each net of a part
+pub record CellAmong (n : ℕ) (cell : LogicCell ℕ) : Type 0 where
+  pub inputs : All (λ net. net < n) cell.inputs
+  pub output : cell.output < n
+
+pub record RegisterAmong (n : ℕ) (register : RegisterCell ℕ ℕ) : Type 0 where
+  pub inputs : All (λ net. net < n) register.inputs
+  pub outputs : All (λ net. net < n) (shown_nets register)
+  pub clock : register.clock < n

@@ -15,7 +15,6 @@ ghost use Rattle.cg_netlist.specs.said.Said.{said};
 ghost use Rattle.cg_netlist.specs.said.Says.{Says};
 ghost use Rattle.cg_netlist.specs.said.Wiring.{net_name};
 
-use crate::draft_nets::driving_cells;
 use crate::fault::NetFault;
 use crate::id::NetId;
 use crate::marks::{
@@ -25,7 +24,7 @@ use crate::marks::{
 use crate::netlist::Netlist;
 use crate::order::in_net_order;
 use crate::parts::Logic;
-use crate::ranks::ranks;
+use crate::ranks::{driving_cells, ranks};
 use crate::told::{Told, chain_cells, clock_roots, gated_marks, order, uses};
 use cg_cell::name::Name;
 use std::alloc::{AllocError, Global};

@@ -1,6 +1,7 @@
-//! What a netlist does over time is fixed by its start and by its waveform.
+//! What a netlist does over time is fixed by its start and by its waveform, and not by the order of its nets.
 
 ghost use Rattle.cg_netlist.specs.History.{HasHistory, HasOneHistory};
+ghost use Rattle.cg_netlist.specs.Ordered.{OrderedHasAll, OrderedIsFormed, OrderedIsLawful};
 
 use crate::netlist::Netlist;
 
@@ -14,3 +15,11 @@ pub fn one_lawful_history(netlist: &Netlist)
 {
     let _ = netlist.nets();
 }
+
+/// The laws of net order: a well-formed netlist with distinct inputs stays well formed when its nets are numbered in
+/// net order, and its lawful histories stay the same, net by net, with the same outputs.
+pub fn net_order_keeps_histories()
+    ensures formed { OrderedIsFormed }
+    ensures lawful { OrderedIsLawful }
+    ensures all { OrderedHasAll }
+{}

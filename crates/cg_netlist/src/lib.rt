@@ -14,10 +14,8 @@
 //! - `mention`: mentioning nets by their names.
 //! - `adding`: adding one part.
 //! - `builder`: building netlists, part by part.
-//! - `draft_builder`, `draft_finish`: the builder of before, by numbers, until the reader takes the new one.
 //! - `ranks`: how deep each logic cell lies under the registers and inputs, and which ones lie on a cycle.
-//! - `draft_nets`: the nets of a draft, listed by what they are to it.
-//! - `renumber`: the parts of a draft with their nets numbered in net order.
+//! - `renumber`: parts with other numbers for their nets.
 //! - `order`: the places of the nets in net order.
 //! - `told`: the parts that a builder was told, with their nets in net order.
 //! - `finish`: the faults of what was built, in order.
@@ -36,9 +34,6 @@
 mod adding;
 pub mod builder;
 mod chains;
-pub mod draft_builder;
-mod draft_finish;
-mod draft_nets;
 pub mod driver;
 pub mod fault;
 mod finish;

@@ -1,7 +1,7 @@
 //! Nets that are taken once.
 
 ghost use Rattle.std.specs.Prelude.{◌≡◌, ◌<◌, ◌^◌, ℕ, [], OnOk, length};
-ghost use Rattle.cg_netlist.specs.Draft.{with_net};
+ghost use Rattle.cg_netlist.specs.inner.Mentioned.{with_net};
 ghost use Rattle.cg_netlist.specs.Marks.{is_marked};
 
 use crate::id::NetId;

@@ -3,7 +3,6 @@
 ghost use Rattle.std.specs.Prelude.{◌≡◌, ◌<◌, ◌^◌, ℕ, nat_eq, length, map, slice_get, unwrap_or, IfOk};
 ghost use Rattle.std.specs.List.{All, AllByRecursion, IsDistinct, position_or_len};
 ghost use Rattle.std.specs.Option.{option_map, option_or, option_to_list};
-ghost use Rattle.cg_netlist.specs.Draft.{RegisterWithin};
 ghost use Rattle.cg_netlist.specs.Places.{number_in};
 ghost use Rattle.cg_netlist.specs.inner.Heard.{IsReady};
 ghost use Rattle.cg_netlist.specs.inner.Numbers.{AreNumbers, GaterWithin, clock_number, made_of, on_number, ordered_numbers, rooted, wired_numbers};

@@ -5,7 +5,7 @@
 //! when a cell gets its rank, the search goes on with those that waited for it. It looks at each input once,
 //! and what still waits in the end lies under a cycle.
 
-ghost use Rattle.std.specs.Prelude.{◌≡◌, ℕ, ◌+◌, ◌<◌, ◌≤◌, length, slice_get, All, MatchOption, OnOk, None, Some, is_some, true, IfOk, slice_set, [], replicate};
+ghost use Rattle.std.specs.Prelude.{◌≡◌, ℕ, ◌+◌, ◌<◌, ◌≤◌, length, slice_get, All, MatchOption, OnOk, None, Some, is_some, true, IfOk, slice_set, [], replicate, unwrap_or};
 ghost use Rattle.cg_netlist.specs.Circuit.{is_in};
 ghost use Rattle.cg_netlist.specs.Ranking.{HasLooked, IsGraph, IsSound, HasReached, Looks, Settles, SettlesEach, drivers_at, entry, inputs_of, unsearched, with_rank, with_waiter};
 ghost use Rattle.cg_netlist.specs.Ranks.{driving_cell, ranks_of};
@@ -286,4 +286,33 @@ pub(crate) fn entry(table: &[Option<usize>], place: usize) -> Option<usize>
     ensures { result ≡ entry table.now place }
 {
     table[place]
+}
+
+/// For each of `count` nets the first logic cell that drives it, if one does.
+pub(crate) fn driving_cells(
+    alloc: Global,
+    count: usize,
+    cells: &[Logic],
+) -> Result<Vec<Option<usize>>, AllocError>
+    requires { All (λ cell. cell.output < count) cells.now }
+    ensures fits { IfOk result (λ drivers. length drivers.items ≡ count) }
+    ensures tells { IfOk result (λ drivers. (net : ℕ) → net < count → entry drivers.items net ≡ driving_cell cells.now net) }
+{
+    let mut drivers = vec![in alloc; None; count]?;
+    for i in 0..cells.len() {
+        let cell = &cells[i];
+        let net = cell.output.number() as usize;
+        drivers[net] = first(drivers[net], i);
+    }
+    Ok(drivers)
+}
+
+/// The first of a driver that was found before and one that is found now.
+fn first(before: Option<usize>, now: usize) -> Option<usize>
+    ensures { result ≡ Some (unwrap_or before now) }
+{
+    match before {
+        Some(driver) => Some(driver),
+        None => Some(now),
+    }
 }

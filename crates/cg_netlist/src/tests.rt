@@ -1,30 +1,32 @@
-//! What drafts make, over a table of small ones.
+//! What parts make, over a table of small ones.
 
 ghost use Rattle.std.specs.Prelude.{◌≡◌, None, OnOk};
 
-use crate::draft_builder::Builder;
+use crate::builder::Builder;
 use crate::fault::{AddFault, NetFault};
-use crate::id::NetId;
+use crate::id::{GateClockId, NetId, RegId};
 use crate::netlist::Netlist;
+use cg_cell::cell::{CellKind, CellType, Pin, Role};
 use cg_cell::cover::Cover;
+use cg_cell::expr::Expr;
 use cg_cell::name::Name;
 use cg_limit::Limit;
 use cg_text::number::push_number;
 use std::alloc::{AllocError, Global};
 use std::test::Fail;
 
-/// A draft by the names of its nets: covers by their one input and their output, registers by input, output and clock.
-struct Draft {
+/// Parts by the names of their nets: covers by their one input and their output, registers by input, output and clock.
+struct Sketch {
     inputs: &'static [&'static str],
     outputs: &'static [&'static str],
     covers: &'static [(&'static str, &'static str)],
     registers: &'static [(&'static str, &'static str, &'static str)],
 }
 
-/// Drafts, and the nets of their netlists in net order or their first faults.
-static DRAFTS: [(Draft, &str); 9] = [
+/// Parts, and the nets of their netlists in net order or their first faults.
+static SKETCHES: [(Sketch, &str); 6] = [
     (
-        Draft {
+        Sketch {
             inputs: &["a", "clk", "a"],
             outputs: &["q", "q"],
             covers: &[("a", "d")],
@@ -33,7 +35,7 @@ static DRAFTS: [(Draft, &str); 9] = [
         " a clk d q",
     ),
     (
-        Draft {
+        Sketch {
             inputs: &[],
             outputs: &["a"],
             covers: &[("b", "a"), ("a", "b")],
@@ -42,25 +44,7 @@ static DRAFTS: [(Draft, &str); 9] = [
         "cycle a",
     ),
     (
-        Draft {
-            inputs: &["x", "z"],
-            outputs: &["y"],
-            covers: &[("x", "y"), ("z", "y")],
-            registers: &[],
-        },
-        "two drivers y",
-    ),
-    (
-        Draft {
-            inputs: &[],
-            outputs: &["y"],
-            covers: &[],
-            registers: &[],
-        },
-        "no driver y",
-    ),
-    (
-        Draft {
+        Sketch {
             inputs: &["x", "z"],
             outputs: &["w", "a", "y"],
             covers: &[("b", "a"), ("a", "b"), ("x", "y"), ("z", "y")],
@@ -69,16 +53,16 @@ static DRAFTS: [(Draft, &str); 9] = [
         "two drivers y",
     ),
     (
-        Draft {
-            inputs: &["d"],
-            outputs: &["q"],
+        Sketch {
+            inputs: &[],
+            outputs: &["y"],
             covers: &[],
-            registers: &[("d", "q", "clk")],
+            registers: &[],
         },
-        "clock clk",
+        "no driver y",
     ),
     (
-        Draft {
+        Sketch {
             inputs: &["d", "one", "two"],
             outputs: &["q"],
             covers: &[],
@@ -87,22 +71,13 @@ static DRAFTS: [(Draft, &str); 9] = [
         "clock two",
     ),
     (
-        Draft {
+        Sketch {
             inputs: &["d", "clk"],
             outputs: &["q", "clk"],
             covers: &[],
             registers: &[("d", "q", "clk")],
         },
         "clock clk",
-    ),
-    (
-        Draft {
-            inputs: &["d"],
-            outputs: &["b"],
-            covers: &[("d", "d")],
-            registers: &[],
-        },
-        "two drivers d",
     ),
 ];
 
@@ -143,9 +118,13 @@ fn add_covers(alloc: Global, builder: &mut Builder, covers: &[(&str, &str)]) -> 
     ensures { OnOk result (builder.new.refused ≡ None) }
 {
     for (input, output) in covers {
-        let inputs = [name(alloc, input)?];
+        let input = name(alloc, input)?;
         let output = name(alloc, output)?;
-        builder.cover(&inputs, output.bytes(), Cover::new(Vec::new(alloc), true))?;
+        builder.cover(
+            &[input.bytes()],
+            output.bytes(),
+            Cover::new(Vec::new(alloc), true),
+        )?;
     }
     Ok(())
 }
@@ -159,21 +138,27 @@ fn add_registers(
     ensures { OnOk result (builder.new.refused ≡ None) }
 {
     for (input, output, clock) in registers {
-        let inputs = [name(alloc, input)?];
-        let outputs = [Some(name(alloc, output)?)];
+        let input = name(alloc, input)?;
+        let output = name(alloc, output)?;
         let clock = name(alloc, clock)?;
-        builder.register(&inputs, &outputs, Some(clock.bytes()), 2)?;
+        builder.register(
+            None,
+            &[input.bytes()],
+            &[(output.bytes(), 0)],
+            Some(clock.bytes()),
+            2,
+        )?;
     }
     Ok(())
 }
 
-fn finished(alloc: Global, draft: &Draft) -> Result<Result<Netlist, NetFault>, Fail> {
+fn finished(alloc: Global, sketch: &Sketch) -> Result<Result<Netlist, NetFault>, Fail> {
     let model = name(alloc, "m")?;
     let mut builder = Builder::new(alloc, model.bytes())?;
-    add_inputs(alloc, &mut builder, draft.inputs)?;
-    add_outputs(alloc, &mut builder, draft.outputs)?;
-    add_covers(alloc, &mut builder, draft.covers)?;
-    add_registers(alloc, &mut builder, draft.registers)?;
+    add_inputs(alloc, &mut builder, sketch.inputs)?;
+    add_outputs(alloc, &mut builder, sketch.outputs)?;
+    add_covers(alloc, &mut builder, sketch.covers)?;
+    add_registers(alloc, &mut builder, sketch.registers)?;
     Ok(builder.finish())
 }
 
@@ -207,11 +192,65 @@ fn said(alloc: Global, made: Result<Netlist, NetFault>) -> Result<Vec<u8>, Alloc
 }
 
 #[test]
-fn drafts_make_netlists_or_name_their_first_fault(rt: HostRuntime) -> Result<(), Fail> {
-    for (draft, want) in &DRAFTS {
-        let said = said(rt.alloc(), finished(rt.alloc(), draft)?)?;
+fn parts_make_a_netlist_or_name_their_first_fault(rt: HostRuntime) -> Result<(), Fail> {
+    for (sketch, want) in &SKETCHES {
+        let said = said(rt.alloc(), finished(rt.alloc(), sketch)?)?;
         assert_eq!(rt; said.as_slice(), want.as_bytes());
     }
+    Ok(())
+}
+
+/// A gating cell with a test pin.
+fn gating_cell(alloc: Global) -> Result<CellType, AllocError> {
+    let mut pins = Vec::new(alloc);
+    pins.push(Pin::new(Name::new(alloc, b"CK")?, Role::Clock))?;
+    pins.push(Pin::new(Name::new(alloc, b"E")?, Role::Enable))?;
+    pins.push(Pin::new(Name::new(alloc, b"SE")?, Role::Test))?;
+    pins.push(Pin::new(Name::new(alloc, b"GCK")?, Role::Output))?;
+    let name = Name::new(alloc, b"ICG")?;
+    Ok(CellType::new(name, CellKind::Gater, pins, None))
+}
+
+/// An inverter.
+fn inverter(alloc: Global) -> Result<CellType, AllocError> {
+    let mut pins = Vec::new(alloc);
+    pins.push(Pin::new(Name::new(alloc, b"A")?, Role::Data))?;
+    pins.push(Pin::new(Name::new(alloc, b"Y")?, Role::Output))?;
+    let function = Expr::Not(1, Box::new(alloc, Expr::Variable(0))?);
+    let name = Name::new(alloc, b"INV")?;
+    Ok(CellType::new(name, CellKind::Logic, pins, Some(function)))
+}
+
+#[test]
+fn a_register_behind_a_gating_cell(rt: HostRuntime) -> Result<(), Fail> {
+    let alloc = rt.alloc();
+    let (d, en, se) = (name(alloc, "d")?, name(alloc, "en")?, name(alloc, "se")?);
+    let (clk, g) = (name(alloc, "clk")?, name(alloc, "g")?);
+    let (n, q) = (name(alloc, "n")?, name(alloc, "q")?);
+    let mut builder = Builder::new(alloc, d.bytes())?;
+    builder.input(d.bytes())?;
+    builder.output(q.bytes())?;
+    builder.clock(clk.bytes())?;
+    builder.gater(
+        &gating_cell(alloc)?,
+        clk.bytes(),
+        en.bytes(),
+        Some(se.bytes()),
+        g.bytes(),
+    )?;
+    builder.input(en.bytes())?;
+    builder.input(se.bytes())?;
+    builder.register(None, &[n.bytes()], &[(q.bytes(), 0)], Some(g.bytes()), 0)?;
+    builder.logic(&inverter(alloc)?, &[d.bytes()], n.bytes())?;
+    let netlist = builder.finish().expect(&rt, "no fault");
+    assert_eq!(rt; nets_of(alloc, &netlist)?.as_slice(), b" d en se clk n g q");
+    assert_eq!(rt; netlist.clock(), Some(NetId::new(3)));
+    assert!(rt; netlist.gaters() == 1 && netlist.registers() == 1);
+    let gater = netlist.gater(GateClockId::new(0));
+    assert_eq!(rt; gater.clock, NetId::new(3));
+    assert_eq!(rt; gater.enable, NetId::new(1));
+    assert_eq!(rt; gater.test, Some(NetId::new(2)));
+    assert_eq!(rt; netlist.register(RegId::new(0)).clock, NetId::new(5));
     Ok(())
 }
 
@@ -230,11 +269,10 @@ fn fill_with_inputs(alloc: Global, builder: &mut Builder, nets: u32) -> Result<(
 
 /// Adds so many registers, all on the same nets.
 fn fill_with_registers(alloc: Global, builder: &mut Builder, registers: u32) -> Result<(), Fail> {
-    let inputs = [name(alloc, "d")?];
-    let outputs = [Some(name(alloc, "q")?)];
-    let clock = name(alloc, "clk")?;
+    let input = name(alloc, "d")?;
+    let output = name(alloc, "q")?;
     for _register in 0..registers {
-        builder.register(&inputs, &outputs, Some(clock.bytes()), 2)?;
+        builder.register(None, &[input.bytes()], &[(output.bytes(), 0)], None, 2)?;
     }
     Ok(())
 }
@@ -259,14 +297,9 @@ fn one_register_more_than_65536_is_refused(rt: HostRuntime) -> Result<(), Fail> 
     let model = name(rt.alloc(), "m")?;
     let mut builder = Builder::new(rt.alloc(), model.bytes())?;
     fill_with_registers(rt.alloc(), &mut builder, 65_536)?;
-    let inputs = [name(rt.alloc(), "d")?];
-    let outputs = [Some(name(rt.alloc(), "p")?)];
-    let clock = name(rt.alloc(), "clk")?;
-    assert!(rt;
-        is_limit(
-            builder.register(&inputs, &outputs, Some(clock.bytes()), 2),
-            Limit::Registers
-        )
-    );
+    let input = name(rt.alloc(), "d")?;
+    let output = name(rt.alloc(), "p")?;
+    let added = builder.register(None, &[input.bytes()], &[(output.bytes(), 0)], None, 2);
+    assert!(rt; is_limit(added, Limit::Registers));
     Ok(())
 }

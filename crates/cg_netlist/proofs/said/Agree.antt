@@ -1,13 +1,11 @@
 -- Names that go behind others change no part whose nets are there.
-use Rattle.std.specs.Prelude.{◌≡◌, ℕ, zero, suc, ◌<◌, List, [], ◌∷◌, ◌++◌, map, length, Option, None, Some}
+use Rattle.std.specs.Prelude.{[], ◌≡◌, ℕ, zero, suc, ◌<◌, List, ◌∷◌, ◌++◌, map, length, Option, None, Some}
 use Rattle.std.proofs.Common.{refl, ap, ◌∙◌, arith}
 use Rattle.std.specs.List.{AllByRecursion}
 use Rattle.std.specs.Option.{option_map, option_to_list}
 use Rattle.cg_netlist.proofs.OrderedForm.{names}
-use Rattle.cg_netlist.proofs.said.Each.{each}
 use Rattle.cg_netlist.proofs.said.Kept.{CellNets, GaterNets}
 use Rattle.cg_netlist.specs.Circuit.{GatingCell, LogicCell}
-use Rattle.cg_netlist.specs.said.Part.{cells}
 use Rattle.cg_netlist.specs.said.Wiring.{NetName, map_cell, map_gater, net_name}
 
 module _ {N M : Type 0} (f g : N → M) where
@@ -43,12 +41,3 @@ pub name_kept : (names more : List NetName) (x : ℕ) → x < length names → n
 name_kept [] more x lt = absurd (omega arith)
 name_kept (n ∷ names) more zero lt = refl
 name_kept (n ∷ names) more (suc x) lt = name_kept names more x (omega (arith, lt))
-
--- so the logic cells are seen as before
-pub cells_seen : (names more : List NetName) (cells : List (LogicCell ℕ)) → AllByRecursion (CellNets (λ x. x < length names)) cells → map (map_cell (net_name (names ++ more))) cells ≡ map (map_cell (net_name names)) cells
-cells_seen names more cells within =
-    all_agree (net_name (names ++ more)) (net_name names) (map_cell (net_name (names ++ more))) (map_cell (net_name names)) (CellNets (λ x. x < length names))
-    (λ k is. cell_agrees (net_name (names ++ more)) (net_name names) k (record {
-      inputs = each (λ x. x < length names) (λ x. net_name (names ++ more) x ≡ net_name names x) (λ x lt. name_kept names more x lt) k.inputs is.inputs;
-      output = name_kept names more k.output is.output;
-    })) cells within

@@ -1,5 +1,5 @@
 -- Parts without a fault: each gating cell is fewer steps from the clock than those behind it.
-use Rattle.std.specs.Prelude.{◌≡◌, ◌⊎◌, ℕ, zero, suc, ◌<◌, ◌≤◌, true, List, [], ◌∷◌, map, length, slice_get, slice_index, Some}
+use Rattle.std.specs.Prelude.{[], ◌≡◌, ◌⊎◌, ℕ, zero, suc, ◌<◌, ◌≤◌, true, List, ◌∷◌, map, length, slice_get, slice_index, Some}
 use Rattle.std.proofs.Common.{refl, ap, ◌∙◌, sym, subst, inl, inr, arith}
 use Rattle.std.specs.List.{AllByRecursion}
 use Rattle.std.specs.Option.{option_map}
@@ -27,9 +27,6 @@ module _ (parts : List Part) (fine : IsFaultless parts) where
 
   abbrev place : NetName → ℕ
   place = place_in order
-
-  abbrev On : NetName → Type 0
-  On x = is_known order x ≡ true
 
   abbrev Reached : GatingCell NetName → Type 0
   Reached g = (n : ℕ) × (reaches parts n g.output ≡ true)

@@ -1,19 +1,17 @@
 -- What checks of numbers find is the first fault of the parts.
-use Rattle.std.specs.Prelude.{◌≡◌, ◌≢◌, ◌⊎◌, ℕ, zero, suc, ◌+◌, ◌<◌, ◌≤◌, nat_lt, nat_eq, Bool, true, false, not, ◌&&◌, ◌||◌, List, [], ◌∷◌, ◌++◌, map, length, slice_get, unwrap_or, Option, None, Some, MatchOption, is_none, is_some}
+use Rattle.std.specs.Prelude.{[], ◌≡◌, ◌≢◌, ℕ, zero, suc, ◌+◌, ◌<◌, ◌≤◌, nat_lt, nat_eq, Bool, true, false, not, ◌&&◌, ◌||◌, List, ◌∷◌, ◌++◌, map, length, Option, None, Some, MatchOption, is_none, is_some}
 use Rattle.std.proofs.Common.{refl, ap, ◌∙◌, sym, subst, inl, inr, arith, take, cond}
 use Rattle.std.specs.List.{AllByRecursion, AllPairs, IsDistinct, before_first, count_by, filter, flat_map, list_any}
-use Rattle.std.specs.Option.{option_map, option_map_or, option_to_list}
+use Rattle.std.specs.Option.{option_map_or, option_to_list}
 use Rattle.std.specs.Str.{bytes_eq}
 use Rattle.std.proofs.lemmas.Bool.{and_parts, both_ways, cases_Bool, cases_lt, eqb-true, eq-eqb, false_from_ne_true, lt-ltb, ltb-true, or_cases, or_left, or_parts, or_right}
 use Rattle.std.proofs.lemmas.List.{length-map, map-append}
 use Rattle.std.proofs.lemmas.List.Sums.{sum_by-cons}
-use Rattle.cg_netlist.specs.declared.fault.NetFault.TheVariants.{TwoDrivers, NoDriver, Cycle, ClockFault, NoClock}
-use Rattle.cg_netlist.proofs.Faultless.{once, proper}
+use Rattle.cg_netlist.specs.declared.fault.NetFault.TheVariants.{TwoDrivers, NoDriver, Cycle, ClockFault}
 use Rattle.cg_netlist.proofs.MarkLemmas.{in_counts}
 use Rattle.cg_netlist.proofs.Members.{distinct_cons, distinct_left, distinct_right}
 use Rattle.cg_netlist.proofs.OrderedForm.{names}
 use Rattle.cg_netlist.proofs.RankLemmas.{ranked, unranked}
-use Rattle.cg_netlist.proofs.Renumbered.{front}
 use Rattle.cg_netlist.proofs.said.ByNumber.{count_as, drivers_as, roots_as, uses_mapped}
 use Rattle.cg_netlist.proofs.said.Each.{each, each_together}
 use Rattle.cg_netlist.proofs.said.FirstAt.{each_at, first_at, name_at}

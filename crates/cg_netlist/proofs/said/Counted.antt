@@ -1,11 +1,10 @@
 -- How often a name stands in a list.
-use Rattle.std.specs.Prelude.{◌≡◌, ℕ, zero, suc, ◌+◌, ◌≤◌, true, false, ◌||◌, List, [], ◌∷◌, slice_get, Some}
+use Rattle.std.specs.Prelude.{[], ◌≡◌, ℕ, zero, suc, ◌+◌, ◌≤◌, true, false, ◌||◌, List, ◌∷◌, slice_get, Some}
 use Rattle.std.proofs.Common.{refl, ap, ◌∙◌, sym, inl, inr, arith, cond}
 use Rattle.std.specs.List.{count_by}
 use Rattle.std.specs.Str.{bytes_eq}
 use Rattle.std.proofs.lemmas.Bool.{both_ways, cases_Bool, or_parts}
 use Rattle.std.proofs.lemmas.List.Sums.{sum_by-cons}
-use Rattle.cg_netlist.proofs.Faultless.{once}
 use Rattle.cg_netlist.proofs.said.Different.{Apart}
 use Rattle.cg_netlist.proofs.said.KnownNames.{itself, same_word, word_at}
 use Rattle.cg_netlist.specs.Names.{is_known}

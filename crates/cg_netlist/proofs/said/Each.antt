@@ -1,9 +1,8 @@
 -- What holds of each element.
-use Rattle.std.specs.Prelude.{◌≡◌, List, [], ◌∷◌, ◌++◌, map, Bool, true, false, ◌||◌}
+use Rattle.std.specs.Prelude.{[], ◌≡◌, List, ◌∷◌, ◌++◌, map}
 use Rattle.std.proofs.Common.{refl, ap, ◌∙◌}
-use Rattle.std.specs.List.{All, AllByRecursion, list_any}
+use Rattle.std.specs.List.{All, AllByRecursion}
 use Rattle.std.proofs.lemmas.List.Elements.{All-nil, All-cons, All-head, All-tail}
-use Rattle.cg_netlist.proofs.Renumbered.{front}
 
 pub map_kept : {N M : Type 0} (f : N → M) (g : M → N) (xs : List N) → AllByRecursion (λ x. g (f x) ≡ x) xs → map g (map f xs) ≡ xs
 map_kept f g [] all = refl
@@ -12,15 +11,6 @@ map_kept f g (x ∷ xs) all = ap (λ y. y ∷ map g (map f xs)) all.0 ∙ ap (λ
 pub each : {X : Type 0} (P Q : X → Type 0) → ((x : X) → P x → Q x) → (xs : List X) → AllByRecursion P xs → AllByRecursion Q xs
 each P Q f [] all = tt
 each P Q f (x ∷ xs) all = (f x all.0, each P Q f xs all.1)
-
--- what holds of each of those that are among a list holds of each of its elements
-pub each_among : {N : Type 0} (P : N → Type 0) (same : N → N → Bool) → ((x : N) → same x x ≡ true) → (xs : List N) → ((x : N) → list_any (same x) xs ≡ true → P x) → AllByRecursion P xs
-each_among P same own [] holds = tt
-each_among P same own (x ∷ xs) holds = (holds x (ap (λ b. b || list_any (same x) xs) (own x)), each_among P same own xs (λ y among. holds y (later (same y x) (list_any (same y) xs) among)))
-  where
-    later : (a b : Bool) → b ≡ true → (a || b) ≡ true
-    later true b is = refl
-    later false b is = is
 
 -- what holds at each place holds of each element, and back
 pub by_recursion : {X : Type 0} (P : X → Type 0) (xs : List X) → All P xs → AllByRecursion P xs

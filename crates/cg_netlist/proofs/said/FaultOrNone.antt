@@ -1,12 +1,11 @@
 -- Parts have no fault, or they have a first one.
-use Rattle.std.specs.Prelude.{◌≡◌, ◌⊎◌, Bool, true, false, if◌then◌else◌, List, [], ◌∷◌, ◌++◌, length}
+use Rattle.std.specs.Prelude.{[], ◌≡◌, ◌⊎◌, Bool, true, false, if◌then◌else◌, List, ◌∷◌, ◌++◌, length}
 use Rattle.std.proofs.Common.{refl, ap, ◌∙◌, sym, subst, inl, inr, arith}
 use Rattle.std.specs.List.{AllByRecursion, before_first, count_by, list_any}
 use Rattle.std.specs.Str.{bytes_eq}
 use Rattle.std.proofs.lemmas.Bool.{both_ways, cases_Bool, cases_lt}
 use Rattle.cg_netlist.specs.declared.fault.NetFault.{NetFault}
 use Rattle.cg_netlist.specs.declared.fault.NetFault.TheVariants.{TwoDrivers, NoDriver, Cycle, ClockFault, NoClock}
-use Rattle.cg_netlist.proofs.Faultless.{once, proper}
 use Rattle.cg_netlist.proofs.said.ChainsEnd.{bounded_chains, chains_bounded, reaches_within}
 use Rattle.cg_netlist.proofs.said.KnownNames.{first_step, itself, known_head, known_tail}
 use Rattle.cg_netlist.proofs.said.WaysEnd.{ends_bounded}

@@ -1,5 +1,5 @@
 -- Parts without a fault: each net that they speak of is driven once, and has a place in net order.
-use Rattle.std.specs.Prelude.{◌≡◌, ◌≢◌, ℕ, ◌<◌, true, not, List, [], ◌∷◌, ◌++◌, map, length, slice_get, unwrap_or, Option, None, Some, nat_eq}
+use Rattle.std.specs.Prelude.{[], ◌≡◌, ◌≢◌, ℕ, ◌<◌, true, not, List, ◌∷◌, ◌++◌, map, length, slice_get, unwrap_or, Option, None, Some, nat_eq}
 use Rattle.std.proofs.Common.{refl, ap, ◌∙◌, sym, subst, inl, inr, arith, get_or}
 use Rattle.std.specs.List.{All, AllByRecursion, AllPairs, before_first, filter, filter_map, flat_map, list_any, range_with_len}
 use Rattle.std.specs.Option.{option_or, option_to_list}
@@ -161,11 +161,6 @@ module _ (parts : List Part) (fine : IsFaultless parts) where
     },
     gaters_on gs (λ x i. clks x (known_tail g.clock x (map (λ (h : GatingCell NetName). h.clock) gs) i)) (λ x i. asks x (known_right (asked_nets g) (gater_inputs gs) x i)) (λ x i. outs x (known_tail g.output x (driven_by_gaters gs) i)),
   )
-
-  -- the clock that a register is on
-  pub clock_there : (o : Option NetName) → clock_of parts ≡ o → (o ≡ None → ⊥) → On (unwrap_or o [])
-  clock_there None is some = absurd (some refl)
-  clock_there (Some x) is some = root_ordered x (root_first x is)
 
   abbrev AtPin : RegisterCell NetName (Option NetName) → Type 0
   AtPin r = AllByRecursion (λ x. is_known (clock_pins parts) x ≡ true) (option_to_list r.clock)

@@ -1,11 +1,10 @@
 -- The ranks of logic cells tell which ways up end: a cell has a rank where those from its output do.
-use Rattle.std.specs.Prelude.{◌≡◌, ◌≢◌, ℕ, zero, suc, ◌+◌, ◌<◌, ◌==◌, Bool, true, false, not, ◌&&◌, ◌||◌, max, List, [], ◌∷◌, map, length, slice_get, Option, None, Some, nat_eq, is_some}
+use Rattle.std.specs.Prelude.{[], ◌≡◌, ◌≢◌, ℕ, zero, suc, ◌+◌, ◌<◌, ◌==◌, Bool, true, false, not, ◌&&◌, ◌||◌, max, List, ◌∷◌, map, length, slice_get, Option, None, Some, nat_eq, is_some}
 use Rattle.std.proofs.Common.{refl, ap, ◌∙◌, sym, subst, inl, inr, arith, cond}
 use Rattle.std.specs.List.{AllByRecursion, AllPairs, IsDistinct, cons_option, filter_map, list_all, position_from}
 use Rattle.std.specs.Option.{option_map, option_map_or}
 use Rattle.std.specs.Str.{bytes_eq}
 use Rattle.std.proofs.lemmas.Bool.{both_ways, cases_Bool, or_left, or_right, eqb-true, eq-eqb}
-use Rattle.cg_netlist.proofs.Faultless.{once}
 use Rattle.cg_netlist.proofs.Members.{distinct_head, distinct_tail}
 use Rattle.cg_netlist.proofs.said.Kept.{CellNets}
 use Rattle.cg_netlist.proofs.said.KnownNames.{itself}

@@ -1,5 +1,5 @@
 -- The canonical parts of a netlist say it.
-use Rattle.std.specs.Prelude.{◌≡◌, ℕ, suc, ◌<◌, ◌≤◌, Bool, true, false, not, if◌then◌else◌, List, [], ◌∷◌, ◌++◌, map, length, slice_get, unwrap_or, Option, None, Some, nat_eq}
+use Rattle.std.specs.Prelude.{[], ◌≡◌, ℕ, suc, ◌<◌, ◌≤◌, Bool, true, false, not, if◌then◌else◌, List, ◌∷◌, ◌++◌, map, length, slice_get, unwrap_or, Option, None, Some, nat_eq}
 use Rattle.std.proofs.Common.{refl, ap, ◌∙◌, sym, subst, inl, inr, arith}
 use Rattle.std.specs.List.{AllByRecursion, IsDistinct, cons_option, filter, filter_map, flat_map}
 use Rattle.std.specs.Option.{option_map, option_or, option_to_list}
@@ -10,7 +10,6 @@ use Rattle.std.proofs.lemmas.Grind.{flat_map-append}
 use Rattle.std.proofs.lemmas.List.Elements.{filter_map-append}
 use Rattle.std.proofs.lemmas.Option.{none-some, slice_get-get_or}
 use Rattle.cg_netlist.proofs.Members.{distinct_head, distinct_tail, is_in_cases}
-use Rattle.cg_netlist.proofs.Renumbered.{front}
 use Rattle.cg_netlist.proofs.said.ByKind.{filter_has, has_once}
 use Rattle.cg_netlist.proofs.said.Different.{Apart, apart_from, apart_left, apart_once, no_more, once_apart}
 use Rattle.cg_netlist.proofs.said.Each.{by_recursion, each_together}

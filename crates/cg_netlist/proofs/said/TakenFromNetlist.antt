@@ -1,5 +1,5 @@
 -- The parts of a netlist are such as a builder takes.
-use Rattle.std.specs.Prelude.{◌≡◌, ◌<◌, ◌^◌, ℕ, Bool, IsTrue, true, List, [], ◌∷◌, ◌++◌, map, length, Some, nat_eq}
+use Rattle.std.specs.Prelude.{[], ◌≡◌, ◌<◌, ◌^◌, ℕ, Bool, IsTrue, true, List, ◌∷◌, ◌++◌, map, length, Some, nat_eq}
 use Rattle.std.proofs.Common.{refl}
 use Rattle.std.specs.List.{AllByRecursion, IsDistinct, flat_map}
 use Rattle.std.specs.Option.{option_to_list}
@@ -22,13 +22,6 @@ module _ (c : Circuit) (leaves : RegisterCell NetName NetName → Bool) (is : Is
 
   abbrev Named : NetName → Type 0
   Named x = IsTrue (is_name x)
-
-  -- each part, where what it mentions is named and it fits
-  abbrev Fine : Part → Type 0
-  Fine p = AllByRecursion Named (mentioned p) × PartFits p
-
-  fine_part : (p : Part) → Fine p → IsPart p
-  fine_part p fine = record { named = fine.0; fits = fine.1 }
 
   names_each : (xs : List Part) → AllByRecursion Named (flat_map mentioned xs) → AllByRecursion PartFits xs → AllByRecursion IsPart xs
   names_each [] all fits = tt

@@ -1,7 +1,0 @@
-use Rattle.std.proofs.Common.{◌≡◌, ◌++◌, take}
-use Rattle.std.specs.List.{flat_map}
-use Rattle.cg_netlist.specs.Circuit.{shown_nets}
-use Rattle.cg_netlist.proofs.draft_nets.add_register_outputs.Given as goal
-
-abbrev pub invariant-loop-register : goal.invariant-loop-register
-invariant-loop-register l = l.nets.items ≡ l.fn.nets.items ++ flat_map shown_nets (take l.register-index l.registers)

@@ -1,4 +1,4 @@
--- The parts that the calls of a builder say.
+-- The parts that the calls of a builder say, in the contracts of these calls.
 use Rattle.std.specs.Prelude.{ℕ, Bool, true, false, List, map, slice_get, Option, None, Some}
 use Rattle.std.specs.Option.{option_map_or}
 use Rattle.cg_cell.specs.Cell.{CellData}

@@ -4,11 +4,9 @@ ghost use Rattle.std.specs.Prelude.{◌≡◌, None, OnOk};
 
 use crate::builder::Builder;
 use crate::fault::{AddFault, NetFault};
-use crate::id::{GateClockId, NetId, RegId};
+use crate::id::NetId;
 use crate::netlist::Netlist;
-use cg_cell::cell::{CellKind, CellType, Pin, Role};
 use cg_cell::cover::Cover;
-use cg_cell::expr::Expr;
 use cg_cell::name::Name;
 use cg_limit::Limit;
 use cg_text::number::push_number;
@@ -197,60 +195,6 @@ fn parts_make_a_netlist_or_name_their_first_fault(rt: HostRuntime) -> Result<(),
         let said = said(rt.alloc(), finished(rt.alloc(), sketch)?)?;
         assert_eq!(rt; said.as_slice(), want.as_bytes());
     }
-    Ok(())
-}
-
-/// A gating cell with a test pin.
-fn gating_cell(alloc: Global) -> Result<CellType, AllocError> {
-    let mut pins = Vec::new(alloc);
-    pins.push(Pin::new(Name::new(alloc, b"CK")?, Role::Clock))?;
-    pins.push(Pin::new(Name::new(alloc, b"E")?, Role::Enable))?;
-    pins.push(Pin::new(Name::new(alloc, b"SE")?, Role::Test))?;
-    pins.push(Pin::new(Name::new(alloc, b"GCK")?, Role::Output))?;
-    let name = Name::new(alloc, b"ICG")?;
-    Ok(CellType::new(name, CellKind::Gater, pins, None))
-}
-
-/// An inverter.
-fn inverter(alloc: Global) -> Result<CellType, AllocError> {
-    let mut pins = Vec::new(alloc);
-    pins.push(Pin::new(Name::new(alloc, b"A")?, Role::Data))?;
-    pins.push(Pin::new(Name::new(alloc, b"Y")?, Role::Output))?;
-    let function = Expr::Not(1, Box::new(alloc, Expr::Variable(0))?);
-    let name = Name::new(alloc, b"INV")?;
-    Ok(CellType::new(name, CellKind::Logic, pins, Some(function)))
-}
-
-#[test]
-fn a_register_behind_a_gating_cell(rt: HostRuntime) -> Result<(), Fail> {
-    let alloc = rt.alloc();
-    let (d, en, se) = (name(alloc, "d")?, name(alloc, "en")?, name(alloc, "se")?);
-    let (clk, g) = (name(alloc, "clk")?, name(alloc, "g")?);
-    let (n, q) = (name(alloc, "n")?, name(alloc, "q")?);
-    let mut builder = Builder::new(alloc, d.bytes())?;
-    builder.input(d.bytes())?;
-    builder.output(q.bytes())?;
-    builder.clock(clk.bytes())?;
-    builder.gater(
-        &gating_cell(alloc)?,
-        clk.bytes(),
-        en.bytes(),
-        Some(se.bytes()),
-        g.bytes(),
-    )?;
-    builder.input(en.bytes())?;
-    builder.input(se.bytes())?;
-    builder.register(None, &[n.bytes()], &[(q.bytes(), 0)], Some(g.bytes()), 0)?;
-    builder.logic(&inverter(alloc)?, &[d.bytes()], n.bytes())?;
-    let netlist = builder.finish().expect(&rt, "no fault");
-    assert_eq!(rt; nets_of(alloc, &netlist)?.as_slice(), b" d en se clk n g q");
-    assert_eq!(rt; netlist.clock(), Some(NetId::new(3)));
-    assert!(rt; netlist.gaters() == 1 && netlist.registers() == 1);
-    let gater = netlist.gater(GateClockId::new(0));
-    assert_eq!(rt; gater.clock, NetId::new(3));
-    assert_eq!(rt; gater.enable, NetId::new(1));
-    assert_eq!(rt; gater.test, Some(NetId::new(2)));
-    assert_eq!(rt; netlist.register(RegId::new(0)).clock, NetId::new(5));
     Ok(())
 }
 

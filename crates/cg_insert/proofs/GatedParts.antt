@@ -105,6 +105,12 @@ few_names m good =
     let b = some_length m.enables in
     omega (arith, a, b, good.enables, good.few_registers, good.added_nets, good.small)
 
+pub few_enables : (m : MachineData) → IsMachine m → length (enables_of m) ≤ 65536
+few_enables m good =
+    let a = collect_length [] (filter_map (λ enable. enable) m.enables) in
+    let b = some_length m.enables in
+    omega (arith, a, b, good.enables, good.few_registers)
+
 some_in : (es : List (Option ℕ)) (r e : ℕ) → option_flatten (slice_get es r) ≡ Some e → is_in (filter_map (λ enable. enable) es) e ≡ true
 some_in [] r e is = absurd (cc)
 some_in (o ∷ es) zero e is = ap (λ x. is_in (cons_option x (filter_map (λ enable. enable) es)) e) is ∙ or_left (nat_eq e e) (is_in (filter_map (λ enable. enable) es) e) (eq-eqb e e refl)

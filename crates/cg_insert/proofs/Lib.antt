@@ -1,6 +1,15 @@
+pub mod ClockedPlaces
+pub mod Finishing
 pub mod GatedCells
 pub mod GatedForm
 pub mod GatedMoments
 pub mod GatedParts
 pub mod GatedRun
 pub mod Inserted
+pub mod InsertedParts
+pub mod Lookups
+pub mod NamesWhole
+pub mod OrderedNames
+pub mod RegisterCalls
+pub mod StillWritable
+pub mod ToldParts

@@ -1,2 +1,4 @@
 pub mod Insert
+pub mod Inserting
 pub mod Insertion
+pub mod inner

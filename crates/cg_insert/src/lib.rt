@@ -1,8 +1,25 @@
 //! From machines to netlists: a gating cell for each enable.
 //!
-//! The modules:
+//! A machine and a library go in. Out comes the netlist in which each enable has a gating cell, whose output is the clock
+//! of the registers that have that enable; an added gate is a cell of the library.
 //!
+//! The modules, in the order in which data flows through them:
+//!
+//! - `enables`: the enables of a machine, each once.
+//! - `names`: the names of the nets, those of the added ones made of the prefix and a number.
+//! - `copy`: a copy of a cover.
+//! - `logic`: logic cells and added gates, told to a builder.
+//! - `clocked`: gating cells and registers, told to a builder.
+//! - `telling`: all parts, told to a builder.
+//! - `insert`: the netlist.
 //! - `laws`: what is proved of the netlist that a machine's enables make.
 #![tactic(auto)]
 
+mod clocked;
+mod copy;
+mod enables;
+pub mod insert;
 pub mod laws;
+mod logic;
+mod names;
+mod telling;

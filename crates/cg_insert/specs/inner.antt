@@ -1,0 +1,2 @@
+pub mod GatedParts
+pub mod Telling

@@ -1,0 +1,122 @@
+//! All parts of the gated netlist, told to a builder.
+
+ghost use Rattle.std.specs.Prelude.{◌≡◌, ◌∷◌, []};
+ghost use Rattle.std.specs.Option.{option_copied, option_to_list};
+ghost use Rattle.cg_insert.specs.Insert.{CanInsert, enables_of};
+ghost use Rattle.cg_insert.specs.inner.GatedParts.{clock_parts, gated_parts, input_parts, output_parts};
+ghost use Rattle.cg_insert.specs.inner.Telling.{MayTell, Tells};
+
+use crate::clocked::{tell_gaters, tell_registers, test_net};
+use crate::enables::Enables;
+use crate::logic::{tell_cells, tell_gates};
+use crate::names::GatedNames;
+use cg_cell::library::Library;
+use cg_cell::name::Name;
+use cg_machine::machine::Machine;
+use cg_netlist::builder::Builder;
+use cg_netlist::fault::AddFault;
+use cg_netlist::id::NetId;
+use std::alloc::Global;
+
+/// Tells the parts in the order in which they are written: the inputs with the test input last, the outputs, the clock, the
+/// netlist's own logic cells, the added gates, the gating cells, and the registers with the delay registers last.
+pub(crate) fn tell(
+    alloc: Global,
+    builder: &mut Builder,
+    machine: &Machine,
+    library: &Library,
+    test: Option<&Name>,
+    names: &GatedNames<'_>,
+    enables: &Enables,
+) -> Result<(), AddFault>
+    requires can { CanInsert library.now (option_copied test) machine.now }
+    requires enables { enables.now ≡ enables_of machine.now }
+    requires parts { MayTell builder.old (gated_parts names.now library.now (option_copied test) machine.now) }
+    ensures { Tells builder.old (gated_parts names.now library.now (option_copied test.entry) machine.now) builder.new result }
+{
+    let netlist = machine.netlist();
+    tell_inputs(builder, names, netlist.inputs())?;
+    tell_test(builder, names, test_net(machine, test))?;
+    tell_outputs(builder, names, netlist.outputs())?;
+    tell_clock(builder, names, netlist.clock())?;
+    tell_cells(alloc, builder, names, netlist)?;
+    tell_gates(alloc, builder, names, machine, library)?;
+    tell_gaters(builder, names, machine, library, test, enables)?;
+    tell_registers(alloc, builder, names, machine, test, enables)
+}
+
+/// Tells the inputs.
+fn tell_inputs(
+    builder: &mut Builder,
+    names: &GatedNames<'_>,
+    nets: &[NetId],
+) -> Result<(), AddFault>
+    requires { MayTell builder.old (input_parts names.now nets.now) }
+    ensures { Tells builder.old (input_parts names.now nets.now) builder.new result }
+{
+    for net in nets {
+        tell_input(builder, names, *net)?;
+    }
+    Ok(())
+}
+
+/// Tells an input.
+fn tell_input(builder: &mut Builder, names: &GatedNames<'_>, net: NetId) -> Result<(), AddFault>
+    requires { MayTell builder.old (input_parts names.now (net ∷ [])) }
+    ensures { Tells builder.old (input_parts names.now (net ∷ [])) builder.new result }
+{
+    builder.input(names.name(net))
+}
+
+/// Tells the test input, if there is one.
+fn tell_test(
+    builder: &mut Builder,
+    names: &GatedNames<'_>,
+    test: Option<NetId>,
+) -> Result<(), AddFault>
+    requires { MayTell builder.old (input_parts names.now (option_to_list test)) }
+    ensures { Tells builder.old (input_parts names.now (option_to_list test)) builder.new result }
+{
+    match test {
+        Some(net) => tell_input(builder, names, net),
+        None => Ok(()),
+    }
+}
+
+/// Tells the outputs.
+fn tell_outputs(
+    builder: &mut Builder,
+    names: &GatedNames<'_>,
+    nets: &[NetId],
+) -> Result<(), AddFault>
+    requires { MayTell builder.old (output_parts names.now nets.now) }
+    ensures { Tells builder.old (output_parts names.now nets.now) builder.new result }
+{
+    for net in nets {
+        tell_output(builder, names, *net)?;
+    }
+    Ok(())
+}
+
+/// Tells an output.
+fn tell_output(builder: &mut Builder, names: &GatedNames<'_>, net: NetId) -> Result<(), AddFault>
+    requires { MayTell builder.old (output_parts names.now (net ∷ [])) }
+    ensures { Tells builder.old (output_parts names.now (net ∷ [])) builder.new result }
+{
+    builder.output(names.name(net))
+}
+
+/// Tells the clock, if there is one.
+fn tell_clock(
+    builder: &mut Builder,
+    names: &GatedNames<'_>,
+    clock: Option<NetId>,
+) -> Result<(), AddFault>
+    requires { MayTell builder.old (clock_parts names.now clock) }
+    ensures { Tells builder.old (clock_parts names.now clock) builder.new result }
+{
+    match clock {
+        Some(net) => builder.clock(names.name(net)),
+        None => Ok(()),
+    }
+}

@@ -19,3 +19,4 @@ pub mod Settled
 pub mod Simulation
 pub mod Started
 pub mod There
+pub mod TryLemmas

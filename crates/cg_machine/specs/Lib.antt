@@ -6,5 +6,6 @@ pub mod Laws
 pub mod Machine
 pub mod Run
 pub mod Start
+pub mod Tries
 pub mod View
 pub mod inner

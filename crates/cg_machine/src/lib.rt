@@ -10,6 +10,7 @@
 //! - `prefix`: names that are taken before anything is added.
 //! - `machine`: machines, and what is added to them.
 //! - `cycle`: the bits of the nets in a cycle, and the next bits of the registers.
+//! - `tries`: walks over the cells of a cone, up to the first fault.
 //! - `view`: what a machine shows of an added gate.
 //! - `stage`: registers that are to get one enable, as data.
 //! - `laws`: what is proved of machines.
@@ -22,4 +23,5 @@ pub mod laws;
 pub mod machine;
 pub mod prefix;
 pub mod stage;
+mod tries;
 pub mod view;

@@ -24,6 +24,7 @@
 //! - `driver`: what drives each net.
 //! - `netlist`: well-formed netlists, and what they answer.
 //! - `walk`: walks over the logic cells.
+//! - `cone`: what nets depend on, as data.
 //! - `next`: the next bits of registers.
 //! - `chains`: the gating cells in an order in which each stands behind the one that drives its clock pin.
 //! - `walk_laws`: what is true of walk order, and of the bits that a walk leaves.
@@ -34,6 +35,7 @@
 mod adding;
 pub mod builder;
 mod chains;
+pub mod cone;
 pub mod driver;
 pub mod fault;
 mod finish;
@@ -55,5 +57,5 @@ mod renumber;
 mod tests;
 mod told;
 pub mod view;
-mod walk;
+pub mod walk;
 pub mod walk_laws;

@@ -1,0 +1,5 @@
+pub mod InputTable
+pub mod InputsNamed
+pub mod ReadingOn
+pub mod StimExact
+pub mod Playing

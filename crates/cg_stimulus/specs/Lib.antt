@@ -1,0 +1,7 @@
+pub mod Comments
+pub mod Inputs
+pub mod Fault
+pub mod Reading
+pub mod StimText
+pub mod Pushing
+pub mod Played

@@ -1,0 +1,14 @@
+pub mod Added
+pub mod Chained
+pub mod Facts
+pub mod Follows
+pub mod Gathered
+pub mod Latched
+pub mod Marked
+pub mod Moved
+pub mod Puts
+pub mod Queue
+pub mod Ticked
+pub mod Walk
+pub mod Written
+pub mod Shown

@@ -1,0 +1,3 @@
+-- What only ties the code to the definitions.
+pub mod Chaining
+pub mod Keeping

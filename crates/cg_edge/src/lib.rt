@@ -1,0 +1,30 @@
+//! What a netlist does, moment by moment.
+//!
+//! A `Simulator` starts from a bit for each register and is given ticks, each a clock bit and a bit for each data input.
+//! After each it shows the bits of all nets, registers and latches at that moment of the netlist's one history, and which
+//! registers rose.
+//!
+//! The modules, in the order in which data flows through them:
+//!
+//! - `function`: the value of a cell's function at bits of nets.
+//! - `chain`: an order of the gating cells along their clock pins.
+//! - `clock_nets`: the clock and the outputs of gating cells.
+//! - `register_step`: which registers rise, and their next bits.
+//! - `readers`: which logic cells read a net.
+//! - `put`: the data inputs and the registers' bits at their nets.
+//! - `settle`: the logic cells, of which those are looked at that have a changed input.
+//! - `latch_step`: the latches of gating cells.
+//! - `moment`: from one moment to the next.
+//! - `simulator`: the simulator.
+#![tactic(auto)]
+
+mod chain;
+mod clock_nets;
+mod function;
+mod latch_step;
+mod moment;
+mod put;
+mod readers;
+mod register_step;
+mod settle;
+pub mod simulator;

@@ -1,0 +1,93 @@
+//! Which logic cells read a net.
+
+ghost use Rattle.std.specs.Prelude.{◌≡◌, ◌<◌, ◌^◌, ℕ, [], true, length, slice_get, replicate, Some, IfOk, OnOk};
+ghost use Rattle.std.specs.List.{All};
+ghost use Rattle.cg_netlist.specs.Circuit.{is_in};
+ghost use Rattle.cg_netlist.specs.Netlist.{IsNetlist};
+ghost use Rattle.cg_netlist.specs.Nets.{walk_order};
+ghost use Rattle.cg_edge.specs.inner.Keeping.{AreReaders, IsAdded, MarksMore, readers_at, walk_of};
+
+use cg_list::Seq;
+use cg_netlist::id::{CellId, NetId};
+use cg_netlist::netlist::Netlist;
+use std::alloc::{AllocError, Global};
+use std::marker::Model;
+
+/// For each net the places in walk order of the logic cells that read it.
+#[derive(Drop)]
+pub(crate) struct Readers {
+    places: Vec<Seq<usize>>,
+}
+
+impl Model for Readers {
+    ghost use Rattle.std.specs.Prelude.{List, ℕ};
+
+    ghost Value = { List (List ℕ) };
+
+    ghost view = { λ r. r.places.items };
+}
+
+impl Readers {
+    /// The readers of the nets of a netlist whose cells in walk order are `order`.
+    pub(crate) fn new(alloc: Global, netlist: &Netlist, order: &[CellId]) -> Result<Readers, AllocError>
+        requires { order.now ≡ walk_order netlist.now.cells }
+        ensures { IfOk result (λ readers. AreReaders (length netlist.now.names) (length order.now) (walk_of netlist.now) readers) }
+    {
+        let mut places = no_readers(alloc, netlist.nets() as usize)?;
+        for place in 0..order.len() {
+            add(netlist.cell(order[place]).inputs, place, &mut places)?;
+        }
+        Ok(Readers { places })
+    }
+
+    /// The places of the cells that read a net.
+    fn of(&self, net: NetId) -> &[usize]
+        requires { net < length self.now }
+        ensures { result.now ≡ readers_at self.now net }
+    {
+        self.places[net.number() as usize].as_slice()
+    }
+
+    /// Marks the places of the cells that read a net.
+    pub(crate) fn mark(&self, net: NetId, marks: &mut [bool])
+        requires net { net < length self.now }
+        requires marks { (p : ℕ) → is_in (readers_at self.now net) p ≡ true → p < length marks.old }
+        ensures more { MarksMore marks.old marks.new }
+        ensures told { (p : ℕ) → is_in (readers_at self.now net) p ≡ true → slice_get marks.new p ≡ Some true }
+    {
+        mark_all(self.of(net), marks)
+    }
+}
+
+/// Marks these places.
+fn mark_all(places: &[usize], marks: &mut [bool])
+    requires { All (λ p. p < length marks.old) places.now }
+    ensures more { MarksMore marks.old marks.new }
+    ensures told { (p : ℕ) → is_in places.now p ≡ true → slice_get marks.new p ≡ Some true }
+{
+    for place in places {
+        marks[*place] = true;
+    }
+}
+
+/// No readers for each of so many nets.
+fn no_readers(alloc: Global, nets: usize) -> Result<Vec<Seq<usize>>, AllocError>
+    ensures { IfOk result (λ places. places.items ≡ replicate nets []) }
+{
+    let mut places = Vec::with_capacity(alloc, nets)?;
+    for net in 0..nets {
+        places.push(Seq::new(alloc))?;
+    }
+    Ok(places)
+}
+
+/// Adds a place to the readers of each of these nets.
+fn add(inputs: &[NetId], place: usize, places: &mut Vec<Seq<usize>>) -> Result<(), AllocError>
+    requires { All (λ net. net < length places.old.items) inputs.now }
+    ensures { OnOk result (IsAdded inputs.now place places.old.items places.new.items) }
+{
+    for net in inputs {
+        places[net.number() as usize].push(place)?;
+    }
+    Ok(())
+}

@@ -1,0 +1,68 @@
+//! The logic cells, of which those are looked at that have a changed input.
+
+ghost use Rattle.std.specs.Prelude.{◌≡◌, ◌<◌, ◌≤◌, ℕ, length, slice_get, slice_set, Some};
+ghost use Rattle.cg_netlist.specs.Circuit.{LogicCell, cell_nets};
+ghost use Rattle.cg_netlist.specs.Moment.{CellsHold, function_value, values_at};
+ghost use Rattle.cg_netlist.specs.Netlist.{IsNetlist, widest_of};
+ghost use Rattle.cg_netlist.specs.Nets.{walk_order};
+ghost use Rattle.cg_edge.specs.inner.Keeping.{AreMarked, AreReaders, AreSettled, IsPut, SameBut, walk_of};
+
+use crate::function::{gather, value};
+use crate::put::put;
+use crate::readers::Readers;
+use cg_netlist::id::CellId;
+use cg_netlist::netlist::Netlist;
+
+/// Looks at the marked cells in walk order, so that each cell's output is its function of its inputs.
+pub(crate) fn settle(
+    netlist: &Netlist,
+    order: &[CellId],
+    readers: &Readers,
+    nets: &mut [bool],
+    marks: &mut [bool],
+    scratch: &mut [bool],
+)
+    requires netlist { IsNetlist netlist.now }
+    requires order { order.now ≡ walk_order netlist.now.cells }
+    requires nets { length nets.old ≡ length netlist.now.names }
+    requires readers { AreReaders (length netlist.now.names) (length order.now) (walk_of netlist.now) readers.now }
+    requires marks { length marks.old ≡ length order.now }
+    requires marked { AreMarked (walk_of netlist.now) marks.old nets.old }
+    requires room { widest_of netlist.now.cells ≤ length scratch.old }
+    ensures holds { CellsHold netlist.now.cells nets.new }
+    ensures same { SameBut (cell_nets netlist.now) nets.old nets.new }
+    ensures long { length marks.new ≡ length marks.old }
+    ensures room { length scratch.new ≡ length scratch.old }
+{
+    for place in 0..order.len() {
+        if marks[place] {
+            marks[place] = false;
+            look(netlist, order[place], readers, nets, marks, scratch);
+        }
+    }
+}
+
+/// Puts a cell's function of its inputs at its output.
+fn look(
+    netlist: &Netlist,
+    id: CellId,
+    readers: &Readers,
+    nets: &mut [bool],
+    marks: &mut [bool],
+    scratch: &mut [bool],
+)
+    requires netlist { IsNetlist netlist.now }
+    requires cell { id < length netlist.now.cells }
+    requires nets { length nets.old ≡ length netlist.now.names }
+    requires readers { AreReaders (length netlist.now.names) (length marks.old) (walk_of netlist.now) readers.now }
+    requires room { widest_of netlist.now.cells ≤ length scratch.old }
+    ensures nets { (cell : LogicCell ℕ) → slice_get netlist.now.cells id ≡ Some cell → nets.new ≡ slice_set nets.old cell.output (function_value cell.function (values_at nets.old cell.inputs)) }
+    ensures put { (cell : LogicCell ℕ) → slice_get netlist.now.cells id ≡ Some cell → IsPut readers.now cell.output (function_value cell.function (values_at nets.old cell.inputs)) nets.old nets.new marks.old marks.new }
+    ensures room { length scratch.new ≡ length scratch.old }
+{
+    let cell = netlist.cell(id);
+    let count = cell.inputs.len();
+    gather(nets, cell.inputs, scratch);
+    let bit = value(cell.function, &scratch[..count]);
+    put(readers, cell.output, bit, nets, marks);
+}

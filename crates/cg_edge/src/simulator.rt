@@ -1,0 +1,182 @@
+//! The simulator.
+
+ghost use Rattle.std.specs.Prelude.{◌≡◌, ◌∷◌, ◌++◌, ◌<◌, [], ℕ, List, Some, None, false, length, replicate, slice_get, slice_index_or, IfOk, IsSome};
+ghost use Rattle.std.specs.Option.{option_map};
+ghost use Rattle.cg_netlist.specs.Circuit.{data_inputs};
+ghost use Rattle.cg_netlist.specs.History.{Tick};
+ghost use Rattle.cg_netlist.specs.Moment.{bit};
+ghost use Rattle.cg_netlist.specs.Netlist.{IsNetlist};
+ghost use Rattle.cg_edge.specs.Shows.{Shows, ShowsOn};
+ghost use Rattle.cg_edge.specs.Simulated.{MayTick, Simulated, Ticks, fresh};
+
+use crate::chain::chain;
+use crate::moment::advance;
+use crate::readers::Readers;
+use crate::register_step::MOST_VARIABLES;
+use cg_netlist::id::{CellId, GateClockId, NetId, RegId};
+use cg_netlist::netlist::Netlist;
+use cg_netlist::walk::walk_order;
+use std::alloc::{AllocError, Global};
+use std::marker::Model;
+
+/// A netlist at one moment of its history.
+///
+/// It keeps the present bits of all nets, registers and latches, and marks the logic cells that have a changed input, so
+/// that a tick looks at those alone. All room that ticks need is made by `new`. Clauses see a `Simulated`; which
+/// histories it shows is said by `Shows`.
+#[derive(Drop)]
+pub struct Simulator<'a> {
+    netlist: &'a Netlist,
+    start: Vec<bool>,
+    chain: Vec<GateClockId>,
+    order: Vec<CellId>,
+    readers: Readers,
+    ticked: bool,
+    nets: Vec<bool>,
+    before: Vec<bool>,
+    state: Vec<bool>,
+    latches: Vec<bool>,
+    rose: Vec<bool>,
+    marks: Vec<bool>,
+    scratch: Vec<bool>,
+}
+
+impl<'a> Model for Simulator<'a> {
+    ghost use Rattle.std.specs.Coded.{codes};
+    ghost use Rattle.cg_cell.specs.TermCode.{term_code};
+    ghost use Rattle.cg_edge.specs.Simulated.{Simulated};
+    ghost use Rattle.cg_edge.specs.inner.Keeping.{IsKept, present_of};
+
+    ghost Value = { Simulated };
+
+    ghost coded = { Prim.hlevel (codes, term_code) };
+
+    ghost view = { λ s. record { circuit = s.netlist.now; start = s.start.items; present = present_of s.ticked s.nets.items s.state.items s.latches.items; rose = s.rose.items } };
+
+    ghost invariant = { λ s. IsKept s.netlist.now s.start.items s.chain.items s.order.items s.readers s.ticked s.nets.items s.before.items s.state.items s.latches.items s.rose.items s.marks.items s.scratch.items };
+}
+
+impl<'a> Simulator<'a> {
+    /// A simulator of a netlist whose registers have the bits of `start`, one for each.
+    pub fn new(
+        alloc: Global,
+        netlist: &'a Netlist,
+        start: &[bool],
+    ) -> Result<Simulator<'a>, AllocError>
+        requires { length start.now ≡ length netlist.now.registers }
+        ensures fresh { IfOk result (λ simulator. simulator ≡ fresh netlist.entry.now start.now) }
+        ensures shows { IfOk result (λ simulator. Shows simulator [] []) }
+    {
+        let nets = netlist.nets() as usize;
+        let registers = netlist.registers() as usize;
+        let gaters = netlist.gaters() as usize;
+        let order = walk_order(alloc, netlist)?;
+        let room = MOST_VARIABLES.max(netlist.widest() as usize);
+        let readers = Readers::new(alloc, netlist, &order)?;
+        let marks = bits(alloc, true, order.len())?;
+        Ok(Simulator {
+            netlist,
+            start: Vec::from_slice(alloc, start)?,
+            chain: chain(alloc, netlist)?,
+            order,
+            readers,
+            ticked: false,
+            nets: bits(alloc, false, nets)?,
+            before: bits(alloc, false, nets)?,
+            state: Vec::from_slice(alloc, start)?,
+            latches: bits(alloc, false, gaters)?,
+            rose: bits(alloc, false, registers)?,
+            marks,
+            scratch: bits(alloc, false, room)?,
+        })
+    }
+
+    /// Goes to the next moment, with this clock bit and a bit for each data input. At the first tick the clock must be low.
+    pub fn tick(&mut self, clock: bool, inputs: &[bool])
+        requires { MayTick self.old (record { clock = clock; inputs = inputs.now }) }
+        ensures ticks { Ticks self.old self.new (record { clock = clock; inputs = inputs.now }) }
+        ensures shows { ShowsOn self.old self.new (record { clock = clock; inputs = inputs.now }) }
+    {
+        advance(
+            self.netlist,
+            &self.chain,
+            &self.order,
+            &self.readers,
+            self.ticked,
+            clock,
+            inputs,
+            &mut self.nets,
+            &mut self.before,
+            &mut self.state,
+            &mut self.latches,
+            &mut self.rose,
+            &mut self.marks,
+            &mut self.scratch,
+        );
+        self.ticked = true;
+    }
+
+    /// The netlist.
+    pub fn netlist(&self) -> &'a Netlist
+        ensures { result.now ≡ self.now.circuit }
+    {
+        self.netlist
+    }
+
+    /// The present bits of all nets. There must have been a tick.
+    pub fn nets(&self) -> &[bool]
+        requires { IsSome self.now.present }
+        ensures { option_map (λ now. now.nets) self.now.present ≡ Some result.now }
+    {
+        &self.nets
+    }
+
+    /// The present bit of a net. There must have been a tick.
+    pub fn net(&self, net: NetId) -> bool
+        requires tick { IsSome self.now.present }
+        requires net { net < length self.now.circuit.names }
+        ensures { option_map (λ now. bit now.nets net) self.now.present ≡ Some result }
+    {
+        self.nets[net.number() as usize]
+    }
+
+    /// The present bit of a register. There must have been a tick.
+    pub fn register(&self, reg: RegId) -> bool
+        requires tick { IsSome self.now.present }
+        requires register { reg < length self.now.circuit.registers }
+        ensures { option_map (λ now. slice_index_or now.state reg false) self.now.present ≡ Some result }
+    {
+        self.state[reg.number() as usize]
+    }
+
+    /// The present bit of the latch of a gating cell. There must have been a tick.
+    pub fn latch(&self, gater: GateClockId) -> bool
+        requires tick { IsSome self.now.present }
+        requires gater { gater < length self.now.circuit.gaters }
+        ensures { option_map (λ now. slice_index_or now.latches gater false) self.now.present ≡ Some result }
+    {
+        self.latches[gater.number() as usize]
+    }
+
+    /// Whether a register rose at the present moment.
+    pub fn rose(&self, reg: RegId) -> bool
+        requires { reg < length self.now.circuit.registers }
+        ensures { slice_get self.now.rose reg ≡ Some result }
+    {
+        self.rose[reg.number() as usize]
+    }
+
+    /// For each register whether it rose at the present moment.
+    pub fn rises(&self) -> &[bool]
+        ensures { result.now ≡ self.now.rose }
+    {
+        &self.rose
+    }
+}
+
+/// So many equal bits.
+fn bits(alloc: Global, bit: bool, count: usize) -> Result<Vec<bool>, AllocError>
+    ensures { IfOk result (λ bits. bits.items ≡ replicate count bit) }
+{
+    vec![in alloc; bit; count]
+}

@@ -1,9 +1,9 @@
 -- The readers of nets, as cell after cell is added; and marks, as place after place is marked.
-use Rattle.std.proofs.Common.{◌≡◌, ◌≢◌, ℕ, zero, suc, ◌+◌, ◌<◌, ◌≤◌, ◌⊎◌, inl, inr, Bool, true, false, List, [], ◌∷◌, ◌++◌, take, length, replicate, get_or, slice_get, slice_index_or, slice_set, Some, nat_eq, refl, sym, ◌∙◌, ap, subst, arith}
+use Rattle.std.proofs.Common.{◌≡◌, ◌≢◌, ℕ, zero, suc, ◌+◌, ◌<◌, ◌≤◌, inl, inr, Bool, true, false, List, [], ◌∷◌, ◌++◌, take, length, replicate, get_or, slice_get, slice_set, Some, nat_eq, refl, sym, ◌∙◌, ap, arith}
 use Rattle.std.specs.List.{All}
-use Rattle.std.proofs.lemmas.Bool.{both_ways, eq-eqb, eqb-true, or_cases, or_left, or_right}
+use Rattle.std.proofs.lemmas.Bool.{both_ways, eq-eqb, eqb-true, or_cases, or_left}
 use Rattle.std.proofs.lemmas.List.{length-replicate, length-set, take_more}
-use Rattle.std.proofs.lemmas.Option.{get_or_from_slice_get, same_Some, slice_get-get_or, slice_get_within, unwrap_or-slice_get}
+use Rattle.std.proofs.lemmas.Option.{get_or_from_slice_get, same_Some, slice_get_within, unwrap_or-slice_get}
 use Rattle.cg_netlist.specs.Circuit.{LogicCell, is_in}
 use Rattle.cg_netlist.proofs.Members.{is_in_cases, is_in_left, is_in_right, place_of_member}
 use Rattle.cg_netlist.proofs.TableLemmas.{same_or_not, slice_get-set_other, slice_get-set_same}

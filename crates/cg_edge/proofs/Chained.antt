@@ -1,9 +1,9 @@
 -- Gating cells that are driven one after another, each behind the one that drives its clock pin.
-use Rattle.std.proofs.Common.{◌≡◌, ◌≢◌, ℕ, suc, ◌+◌, ◌<◌, ◌≤◌, ◌⊎◌, inl, inr, Bool, true, false, ◌&&◌, List, ◌++◌, length, slice_get, slice_index_or, slice_set, Option, None, Some, refl, sym, ◌∙◌, ap, subst, arith}
+use Rattle.std.proofs.Common.{◌≡◌, ◌≢◌, ℕ, ◌+◌, ◌<◌, inl, inr, Bool, true, false, ◌&&◌, List, length, slice_get, slice_index_or, slice_set, Option, None, Some, refl, sym, ◌∙◌, ap, subst, arith}
 use Rattle.std.specs.Option.{option_map_or, option_to_list}
 use Rattle.std.proofs.lemmas.Bool.{both_ways, cases_Bool}
 use Rattle.std.proofs.lemmas.List.{length-set}
-use Rattle.std.proofs.lemmas.Option.{get_or_from_slice_get, same_Some, slice_get-get_or, unwrap_or-slice_get, slice_get_within}
+use Rattle.std.proofs.lemmas.Option.{get_or_from_slice_get, same_Some, unwrap_or-slice_get, slice_get_within}
 use Rattle.cg_netlist.specs.Circuit.{Circuit, GatingCell, clock_nets, gate_nets, is_in}
 use Rattle.cg_netlist.specs.Moment.{bit}
 use Rattle.cg_netlist.specs.WellFormed.{IsWellFormed}
@@ -86,5 +86,5 @@ module _ (c : Circuit) (good : IsWellFormed c) (chain : List ℕ) (chained : IsC
       go (Some net) is = record {
         long = same.long ∙ (ap length (set net is) ∙ length-set old net clock);
         same = λ x apart. same.same x (apart_gates x apart) ∙ (ap (λ m. slice_get m x) (set net is)
-        ∙ slice_get-set_other old net x clock (λ e. both_ways (is_in (clock_nets c) net) (ap (is_in (clock_nets c)) (sym e) ∙ apart) (is_in_left (option_to_list c.clock) (gate_nets c) net (from_option c.clock net is))));
+            ∙ slice_get-set_other old net x clock (λ e. both_ways (is_in (clock_nets c) net) (ap (is_in (clock_nets c)) (sym e) ∙ apart) (is_in_left (option_to_list c.clock) (gate_nets c) net (from_option c.clock net is))));
       }

@@ -1,8 +1,7 @@
 -- The parts of a tick make the moment that follows.
-use Rattle.std.proofs.Common.{◌≡◌, ℕ, ◌<◌, Bool, true, false, ◌&&◌, not, if◌then◌else◌, suc, List, [], ◌∷◌, ◌++◌, map, replicate, length, slice_get, slice_index_or, Option, None, Some, refl, sym, ◌∙◌, ap, subst, inl, inr, arith}
-use Rattle.std.specs.List.{All}
+use Rattle.std.proofs.Common.{◌≡◌, ℕ, ◌<◌, Bool, true, false, ◌&&◌, not, if◌then◌else◌, suc, List, [], ◌∷◌, ◌++◌, map, replicate, length, slice_get, Option, None, Some, refl, sym, ◌∙◌, ap, inl, inr, arith}
 use Rattle.std.specs.Option.{option_to_list}
-use Rattle.std.proofs.lemmas.Bool.{both_ways, cases_Bool, false_from_ne_true}
+use Rattle.std.proofs.lemmas.Bool.{both_ways, false_from_ne_true}
 use Rattle.std.proofs.lemmas.List.{length-map}
 use Rattle.std.proofs.lemmas.Option.{get_or_from_slice_get, slice_get-get_or}
 use Rattle.cg_netlist.specs.Circuit.{Circuit, GatingCell, RegisterCell, cell_nets, clock_nets, data_inputs, gate_nets, is_in, register_nets}
@@ -16,7 +15,7 @@ use Rattle.cg_netlist.proofs.Values.{at_map, element_at, length-values_at, lengt
 use Rattle.cg_edge.specs.Simulated.{rises_at}
 use Rattle.cg_edge.specs.inner.Keeping.{SameBut, ShowClocks, present_of}
 use Rattle.cg_edge.proofs.Chained.{same_bit}
-use Rattle.cg_edge.proofs.Facts.{clock_net_within, data_no_cell, gater_among, gater_output, register_clocked, register_no_cell}
+use Rattle.cg_edge.proofs.Facts.{clock_net_within, data_no_cell, gater_among, register_clocked, register_no_cell}
 
 module _ (c : Circuit) (good : IsWellFormed c) where
   abbrev sources : List ℕ

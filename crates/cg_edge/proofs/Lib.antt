@@ -2,12 +2,11 @@ pub mod Added
 pub mod Chained
 pub mod Facts
 pub mod Follows
-pub mod Gathered
+pub mod GateOrder
 pub mod Latched
 pub mod Marked
 pub mod Moved
 pub mod Puts
-pub mod Queue
 pub mod Ticked
 pub mod Walk
 pub mod Written

@@ -9,7 +9,7 @@ use Rattle.cg_netlist.proofs.Members.{member_at}
 use Rattle.cg_netlist.proofs.TableLemmas.{same_or_not, slice_get-set_other, slice_get-set_same}
 use Rattle.cg_netlist.proofs.Used.{input_is_used}
 use Rattle.cg_netlist.proofs.Values.{at_map, same_values}
-use Rattle.cg_edge.specs.inner.Keeping.{AreMarked, AreReaders, AreSettled, Holds, IsPut, MarksMore, SameBut, readers_at, walk_of}
+use Rattle.cg_edge.specs.inner.Keeping.{AreMarked, AreReaders, AreSettled, Holds, IsPut, SameBut, readers_at, walk_of}
 use Rattle.cg_edge.proofs.Facts.{cell_output}
 use Rattle.cg_edge.proofs.Follows.{clock_no_cell}
 use Rattle.cg_edge.proofs.Walk.{one_cell, ordered_at, walked}

@@ -1,31 +1,12 @@
 -- The next bits of registers, register by register.
-use Rattle.std.proofs.Common.{◌≡◌, ℕ, ◌+◌, ◌<◌, ◌≤◌, Bool, true, false, if◌then◌else◌, List, length, slice_get, slice_index_or, get_or, Option, None, Some, refl, sym, ◌∙◌, ap, subst, arith}
-use Rattle.std.specs.List.{All, count_by}
+use Rattle.std.proofs.Common.{◌≡◌, ℕ, ◌<◌, Bool, true, false, if◌then◌else◌, List, length, slice_get, slice_index_or, Some, refl, sym, ◌∙◌, ap, arith}
 use Rattle.std.specs.Option.{option_map}
-use Rattle.std.proofs.lemmas.List.Sums.{count_by-le-length}
-use Rattle.std.proofs.lemmas.Option.{get_or_from_slice_get, same_Some, slice_get-get_or}
-use Rattle.cg_cell.specs.Cell.{CellData, IsCell, own_bits, variables_of}
-use Rattle.cg_cell.specs.Pins.{is_data}
-use Rattle.cg_cell.specs.declared.cell.CellKind.{CellKind}
-use Rattle.cg_cell.specs.declared.cell.CellKind.TheVariants.{Flop as FlopKind}
+use Rattle.std.proofs.lemmas.Option.{get_or_from_slice_get, same_Some}
 use Rattle.cg_netlist.specs.Circuit.{RegisterCell}
 use Rattle.cg_netlist.specs.History.{next_bit, next_value, rises}
 use Rattle.cg_netlist.specs.Moment.{values_at, zip_with}
-use Rattle.cg_netlist.proofs.Values.{element_at, value_at, zip_with_at}
+use Rattle.cg_netlist.proofs.Values.{element_at, zip_with_at}
 use Rattle.cg_edge.proofs.Written.{IsWritten}
-
--- the function of a library's register is over its inputs and its own bit, which are at most 17
-pub flop_variables : (cell : CellData) (n : ℕ) → IsCell cell → cell.kind ≡ FlopKind → count_by is_data cell.pins ≡ n → (variables_of cell ≡ n + 1) × (n + 1 ≤ 17)
-flop_variables cell n good flop count =
-    let own : own_bits cell.kind ≡ 1 = ap own_bits flop in
-    (omega (arith, own, count), omega (arith, count, good.few, count_by-le-length is_data cell.pins))
-
--- the bit of the one input
-pub one_input : (nets : List Bool) (inputs : List ℕ) (x : ℕ) → length inputs ≡ 1 → All (λ net. net < length nets) inputs → x ≡ get_or inputs 0 0 → slice_index_or nets x false ≡ slice_index_or (values_at nets inputs) 0 false
-one_input nets inputs x one within is =
-    let below : x < length nets = let low = within 0 0 (omega arith) in omega (arith, low, is) in
-    let first : slice_get inputs 0 ≡ Some x = slice_get-get_or inputs 0 0 (omega arith) ∙ ap (λ y. Some y) (sym is) in
-    sym (get_or_from_slice_get (values_at nets inputs) 0 (slice_index_or nets x false) false (value_at nets inputs 0 x within first ∙ slice_get-get_or nets x false below))
 
 -- what a register that rises and one that does not has next
 pub moved : (before nets : List Bool) (rs : List (RegisterCell ℕ ℕ)) (old cur : List Bool) (k : ℕ) (rise v : Bool) → length old ≡ length rs → k < length rs

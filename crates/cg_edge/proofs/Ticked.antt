@@ -1,13 +1,12 @@
 -- What a simulator keeps over a tick, and what it makes of it.
-use Rattle.std.proofs.Common.{◌≡◌, ◌<◌, ◌≤◌, ℕ, zero, suc, inl, Bool, true, false, List, length, slice_get, replicate, Option, None, Some, refl, sym, ◌∙◌, ap, subst, arith}
+use Rattle.std.proofs.Common.{◌≡◌, ◌<◌, ℕ, zero, suc, inl, Bool, true, List, length, slice_get, replicate, Some, refl, ◌∙◌, ap, subst, arith}
 use Rattle.std.proofs.lemmas.Option.{slice_get_within}
 use Rattle.cg_netlist.specs.Circuit.{Circuit}
-use Rattle.cg_netlist.specs.History.{Moment, MomentFollows, Tick}
-use Rattle.cg_netlist.specs.Moment.{CellsHold}
-use Rattle.cg_netlist.specs.Netlist.{IsNetlist, widest_of}
+use Rattle.cg_netlist.specs.History.{MomentFollows, Tick}
+use Rattle.cg_netlist.specs.Netlist.{IsNetlist}
 use Rattle.cg_netlist.specs.Nets.{walk_order}
-use Rattle.cg_edge.specs.Simulated.{Simulated, Ticks, rises_at}
-use Rattle.cg_edge.specs.inner.Keeping.{AreMarked, AreReaders, IsChain, IsKept, present_of, walk_of}
+use Rattle.cg_edge.specs.Simulated.{Ticks, rises_at}
+use Rattle.cg_edge.specs.inner.Keeping.{AreMarked, present_of, walk_of}
 use Rattle.cg_edge.proofs.Walk.{walk_long}
 
 pub ticks_at : (c : Circuit) (start : List Bool) (ticked : Bool) (nets state latches rose nets0 state0 latches0 nets1 state1 latches1 rose1 nets2 state2 latches2 rose2 : List Bool) (tick : Tick)

@@ -1,6 +1,5 @@
 -- Which histories a simulator shows.
 use Rattle.std.specs.Prelude.{◌≡◌, Bool, false, List, [], ◌∷◌, ◌++◌, length, replicate, Option, None, Some}
-use Rattle.std.specs.List.{last_or}
 use Rattle.cg_netlist.specs.Circuit.{Circuit}
 use Rattle.cg_netlist.specs.History.{IsLawful, IsStart, IsWaveform, Moment, Tick}
 use Rattle.cg_edge.specs.Simulated.{Simulated, rises_at}

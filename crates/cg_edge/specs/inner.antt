@@ -1,3 +1,2 @@
 -- What only ties the code to the definitions.
-pub mod Chaining
 pub mod Keeping

@@ -6,8 +6,6 @@
 //!
 //! The modules, in the order in which data flows through them:
 //!
-//! - `function`: the value of a cell's function at bits of nets.
-//! - `chain`: an order of the gating cells along their clock pins.
 //! - `clock_nets`: the clock and the outputs of gating cells.
 //! - `register_step`: which registers rise, and their next bits.
 //! - `readers`: which logic cells read a net.
@@ -18,9 +16,7 @@
 //! - `simulator`: the simulator.
 #![tactic(auto)]
 
-mod chain;
 mod clock_nets;
-mod function;
 mod latch_step;
 mod moment;
 mod put;

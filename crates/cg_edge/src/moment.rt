@@ -26,20 +26,17 @@ fn move_registers(
     nets: &[bool],
     state: &mut [bool],
     rose: &mut [bool],
-    scratch: &mut [bool],
 )
     requires netlist { IsNetlist netlist.now }
     requires before { length before.now ≡ length netlist.now.names }
     requires nets { length nets.now ≡ length netlist.now.names }
     requires state { length state.old ≡ length netlist.now.registers }
     requires rose { length rose.old ≡ length netlist.now.registers }
-    requires room { 17 ≤ length scratch.old }
     ensures state { state.new ≡ (if ticked then zip_with (next_bit before.now nets.now) netlist.now.registers state.old else state.old) }
     ensures rose { rose.new ≡ (if ticked then map (rises before.now nets.now) netlist.now.registers else rose.old) }
-    ensures long { length scratch.new ≡ length scratch.old }
 {
     if ticked {
-        step(netlist, before, nets, state, rose, scratch);
+        step(netlist, before, nets, state, rose);
     }
 }
 
@@ -73,7 +70,6 @@ pub(crate) fn advance(
     requires marks { length marks.old ≡ length order.now }
     requires marked { AreMarked (walk_of netlist.now) marks.old nets.old }
     requires room { widest_of netlist.now.cells ≤ length scratch.old }
-    requires variables { 17 ≤ length scratch.old }
     requires none_yet { ticked ≡ false → (latches.old ≡ replicate (length netlist.now.gaters) false) × (rose.old ≡ replicate (length netlist.now.registers) false) }
     ensures follows { (start : List Bool) → (ticked ≡ false → state.old ≡ start) → MomentFollows netlist.now start (present_of ticked nets.old state.old latches.old) (record { clock = clock; inputs = inputs.now }) (record { nets = nets.new; state = state.new; latches = latches.new }) }
     ensures rose { rose.new ≡ rises_at netlist.now (present_of ticked nets.old state.old latches.old) (record { nets = nets.new; state = state.new; latches = latches.new }) }
@@ -81,7 +77,7 @@ pub(crate) fn advance(
 {
     before.copy_from_slice(nets);
     drive(netlist, chain, clock, latches, nets);
-    move_registers(netlist, ticked, before, nets, state, rose, scratch);
+    move_registers(netlist, ticked, before, nets, state, rose);
     put_inputs(netlist, readers, inputs, nets, marks);
     put_registers(netlist, readers, state, nets, marks);
     settle(netlist, order, readers, nets, marks, scratch);

@@ -95,7 +95,14 @@ pub(crate) fn put_registers(
     ensures long { length marks.new ≡ length marks.old }
 {
     for k in 0..netlist.registers() {
-        put_register(netlist, readers, RegId::new(k), state[k as usize], nets, marks);
+        put_register(
+            netlist,
+            readers,
+            RegId::new(k),
+            state[k as usize],
+            nets,
+            marks,
+        );
     }
 }
 
@@ -119,7 +126,14 @@ fn put_register(
     ensures marked { AreMarked (walk_of netlist.now) marks.new nets.new }
     ensures long { length marks.new ≡ length marks.old }
 {
-    put_shown(netlist, readers, netlist.register(reg).outputs, bit, nets, marks)
+    put_shown(
+        netlist,
+        readers,
+        netlist.register(reg).outputs,
+        bit,
+        nets,
+        marks,
+    )
 }
 
 /// Puts a bit, or its inverse, at these nets, which no logic cell drives.

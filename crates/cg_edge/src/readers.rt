@@ -29,7 +29,11 @@ impl Model for Readers {
 
 impl Readers {
     /// The readers of the nets of a netlist whose cells in walk order are `order`.
-    pub(crate) fn new(alloc: Global, netlist: &Netlist, order: &[CellId]) -> Result<Readers, AllocError>
+    pub(crate) fn new(
+        alloc: Global,
+        netlist: &Netlist,
+        order: &[CellId],
+    ) -> Result<Readers, AllocError>
         requires { order.now ≡ walk_order netlist.now.cells }
         ensures { IfOk result (λ readers. AreReaders (length netlist.now.names) (length order.now) (walk_of netlist.now) readers) }
     {

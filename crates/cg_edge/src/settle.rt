@@ -7,11 +7,11 @@ ghost use Rattle.cg_netlist.specs.Netlist.{IsNetlist, widest_of};
 ghost use Rattle.cg_netlist.specs.Nets.{walk_order};
 ghost use Rattle.cg_edge.specs.inner.Keeping.{AreMarked, AreReaders, AreSettled, IsPut, SameBut, walk_of};
 
-use crate::function::{gather, value};
 use crate::put::put;
 use crate::readers::Readers;
 use cg_netlist::id::CellId;
 use cg_netlist::netlist::Netlist;
+use cg_netlist::walk::gather;
 
 /// Looks at the marked cells in walk order, so that each cell's output is its function of its inputs.
 pub(crate) fn settle(
@@ -63,6 +63,6 @@ fn look(
     let cell = netlist.cell(id);
     let count = cell.inputs.len();
     gather(nets, cell.inputs, scratch);
-    let bit = value(cell.function, &scratch[..count]);
+    let bit = netlist.value(id, &scratch[..count]);
     put(readers, cell.output, bit, nets, marks);
 }

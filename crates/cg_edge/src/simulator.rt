@@ -9,13 +9,10 @@ ghost use Rattle.cg_netlist.specs.Netlist.{IsNetlist};
 ghost use Rattle.cg_edge.specs.Shows.{Shows, ShowsOn};
 ghost use Rattle.cg_edge.specs.Simulated.{MayTick, Simulated, Ticks, fresh};
 
-use crate::chain::chain;
 use crate::moment::advance;
 use crate::readers::Readers;
-use crate::register_step::MOST_VARIABLES;
 use cg_netlist::id::{CellId, GateClockId, NetId, RegId};
 use cg_netlist::netlist::Netlist;
-use cg_netlist::walk::walk_order;
 use std::alloc::{AllocError, Global};
 use std::marker::Model;
 
@@ -29,7 +26,7 @@ pub struct Simulator<'a> {
     netlist: &'a Netlist,
     start: Vec<bool>,
     chain: Vec<GateClockId>,
-    order: Vec<CellId>,
+    order: &'a [CellId],
     readers: Readers,
     ticked: bool,
     nets: Vec<bool>,
@@ -53,7 +50,7 @@ impl<'a> Model for Simulator<'a> {
 
     ghost view = { λ s. record { circuit = s.netlist.now; start = s.start.items; present = present_of s.ticked s.nets.items s.state.items s.latches.items; rose = s.rose.items } };
 
-    ghost invariant = { λ s. IsKept s.netlist.now s.start.items s.chain.items s.order.items s.readers s.ticked s.nets.items s.before.items s.state.items s.latches.items s.rose.items s.marks.items s.scratch.items };
+    ghost invariant = { λ s. IsKept s.netlist.now s.start.items s.chain.items s.order.now s.readers s.ticked s.nets.items s.before.items s.state.items s.latches.items s.rose.items s.marks.items s.scratch.items };
 }
 
 impl<'a> Simulator<'a> {
@@ -70,14 +67,14 @@ impl<'a> Simulator<'a> {
         let nets = netlist.nets() as usize;
         let registers = netlist.registers() as usize;
         let gaters = netlist.gaters() as usize;
-        let order = walk_order(alloc, netlist)?;
-        let room = MOST_VARIABLES.max(netlist.widest() as usize);
-        let readers = Readers::new(alloc, netlist, &order)?;
+        let order = netlist.order();
+        let room = netlist.widest() as usize;
+        let readers = Readers::new(alloc, netlist, order)?;
         let marks = bits(alloc, true, order.len())?;
         Ok(Simulator {
             netlist,
             start: Vec::from_slice(alloc, start)?,
-            chain: chain(alloc, netlist)?,
+            chain: netlist.gate_order(alloc)?,
             order,
             readers,
             ticked: false,
@@ -100,7 +97,7 @@ impl<'a> Simulator<'a> {
         advance(
             self.netlist,
             &self.chain,
-            &self.order,
+            self.order,
             &self.readers,
             self.ticked,
             clock,

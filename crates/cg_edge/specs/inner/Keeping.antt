@@ -1,5 +1,5 @@
 -- What a simulator keeps between ticks, and what each part of a tick does to the bits of the nets.
-use Rattle.std.specs.Prelude.{◌≡◌, ◌≢◌, ℕ, ◌<◌, ◌≤◌, ◌^◌, ◌⊎◌, Bool, true, false, ◌&&◌, List, [], length, slice_get, slice_index_or, replicate, Option, None, Some, if◌then◌else◌}
+use Rattle.std.specs.Prelude.{◌≡◌, ◌≢◌, ℕ, ◌<◌, ◌≤◌, ◌⊎◌, Bool, true, false, ◌&&◌, List, [], length, slice_get, slice_index_or, replicate, Option, None, Some, if◌then◌else◌}
 use Rattle.cg_netlist.specs.Circuit.{Circuit, GatingCell, LogicCell, is_in}
 use Rattle.cg_netlist.specs.History.{Moment}
 use Rattle.cg_netlist.specs.Moment.{bit, function_value, values_at}
@@ -88,5 +88,4 @@ pub record IsKept (c : Circuit) (start : List Bool) (chain order : List ℕ) (re
   pub marks_long : length marks ≡ length order
   pub marked : AreMarked (walk_of c) marks nets
   pub room : widest_of c.cells ≤ length scratch
-  pub variables : 17 ≤ length scratch
   pub first : ticked ≡ false → (state ≡ start) × (latches ≡ replicate (length c.gaters) false) × (rose ≡ replicate (length c.registers) false)

@@ -1,4 +1,3 @@
-use Rattle.std.proofs.Common.{◌≡◌}
 use Rattle.cg_edge.proofs.Chained.{clocks_shown}
 use Rattle.cg_edge.proofs.clock_nets.drive.Goals as goal
 

@@ -1,4 +1,4 @@
-use Rattle.std.proofs.Common.{◌≡◌, ◌<◌, length, sym, arith}
+use Rattle.std.proofs.Common.{length, arith}
 use Rattle.cg_netlist.specs.View.{gater_seen}
 use Rattle.cg_edge.proofs.Facts.{gater_clock, gater_output}
 use Rattle.cg_edge.proofs.clock_nets.drive_gate.Goals as goal

@@ -1,4 +1,3 @@
-use Rattle.std.proofs.Common.{◌≡◌}
 use Rattle.cg_netlist.specs.Circuit.{gate_nets}
 use Rattle.cg_edge.specs.inner.Keeping.{AreDriven, SameBut}
 use Rattle.cg_edge.proofs.clock_nets.drive_gates.Given as goal

@@ -1,5 +1,5 @@
-use Rattle.std.proofs.Common.{◌≡◌, ◌<◌, length, slice_set, Some, sym, ap, ◌∙◌, arith}
-use Rattle.std.specs.Option.{option_map_or, option_to_list}
+use Rattle.std.proofs.Common.{length, sym, ◌∙◌, arith}
+use Rattle.std.specs.Option.{option_to_list}
 use Rattle.cg_netlist.specs.Circuit.{gate_nets}
 use Rattle.cg_netlist.proofs.Given.{from_option}
 use Rattle.cg_netlist.proofs.Members.{is_in_left}

@@ -1,11 +1,11 @@
-use Rattle.std.proofs.Common.{◌≡◌, ◌+◌, ◌<◌, ℕ, List, length, slice_get, slice_index_or, Some, false, sym, subst, ap, ◌∙◌, arith}
+use Rattle.std.proofs.Common.{◌<◌, ℕ, List, length, slice_get, slice_index_or, false, sym, ap, ◌∙◌, arith}
 use Rattle.std.specs.Option.{option_map}
 use Rattle.cg_netlist.specs.Circuit.{GatingCell}
 use Rattle.cg_netlist.specs.History.{next_latch}
 use Rattle.cg_netlist.specs.Moment.{zip_with}
 use Rattle.cg_netlist.proofs.Values.{length-zip_with}
 use Rattle.cg_edge.proofs.Latched.{latched}
-use Rattle.cg_edge.proofs.Written.{IsWritten, written_all, written_more, written_none}
+use Rattle.cg_edge.proofs.Written.{written_all, written_more, written_none}
 use Rattle.cg_edge.proofs.latch_step.follow.Goals as goal
 
 pub loop-k-init : goal.loop-k-init

@@ -1,4 +1,4 @@
-use Rattle.std.proofs.Common.{◌≡◌, ◌<◌, length, nat_eq, Some, refl, ap, sym, ◌∙◌, arith}
+use Rattle.std.proofs.Common.{length, nat_eq, refl, arith}
 use Rattle.std.specs.Option.{option_to_list}
 use Rattle.std.proofs.lemmas.Bool.{eq-eqb, or_left, or_right}
 use Rattle.cg_netlist.specs.Circuit.{is_in}

@@ -1,7 +1,7 @@
-use Rattle.std.proofs.Common.{◌≡◌, ℕ, Bool, List, false, length, map, if◌then◌else◌, sym, subst, ap, ◌∙◌}
+use Rattle.std.proofs.Common.{◌≡◌, Bool, List, length, map, if◌then◌else◌, sym, ap, ◌∙◌}
 use Rattle.cg_netlist.specs.History.{next_bit, rises}
 use Rattle.cg_netlist.specs.Moment.{zip_with}
-use Rattle.cg_edge.specs.inner.Keeping.{SameBut, present_of}
+use Rattle.cg_edge.specs.inner.Keeping.{present_of}
 use Rattle.cg_edge.proofs.Facts.{register_clocked}
 use Rattle.cg_edge.proofs.Follows.{Parts, before_latches, before_rose, before_state, clock_bit, follows}
 use Rattle.cg_edge.proofs.Marked.{marked_all, marked_clocks}

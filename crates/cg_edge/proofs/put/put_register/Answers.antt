@@ -1,4 +1,4 @@
-use Rattle.std.proofs.Common.{◌≡◌, ◌<◌, ℕ, length, subst}
+use Rattle.std.proofs.Common.{◌≡◌, ℕ, length, subst}
 use Rattle.std.proofs.lemmas.Option.{same_Some}
 use Rattle.std.proofs.Common.{sym, ◌∙◌}
 use Rattle.cg_netlist.specs.Circuit.{RegisterCell, shown_nets}

@@ -1,9 +1,8 @@
-use Rattle.std.proofs.Common.{◌≡◌, ◌+◌, ◌<◌, ℕ, Bool, List, length, take, Some, slice_get, slice_index_or, false, sym, subst, ap, ◌∙◌, arith}
+use Rattle.std.proofs.Common.{◌≡◌, ℕ, Bool, List, Some, slice_get, slice_index_or, false, ap, ◌∙◌, arith}
 use Rattle.std.proofs.lemmas.Option.{slice_get-get_or}
 use Rattle.cg_netlist.specs.Circuit.{RegisterCell, register_nets, shown_nets}
 use Rattle.cg_netlist.proofs.Used.{in_flat}
 use Rattle.cg_netlist.proofs.Values.{element_at}
-use Rattle.cg_edge.specs.inner.Keeping.{SameBut}
 use Rattle.cg_edge.proofs.Facts.{distinct_registers}
 use Rattle.cg_edge.proofs.Puts.{registers_more, same_wider}
 use Rattle.cg_edge.proofs.put.put_registers.Goals as goal

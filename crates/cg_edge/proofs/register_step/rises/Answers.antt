@@ -1,4 +1,4 @@
-use Rattle.std.proofs.Common.{◌≡◌, ◌<◌, length, sym, arith}
+use Rattle.std.proofs.Common.{length, arith}
 use Rattle.cg_netlist.specs.View.{register_seen}
 use Rattle.cg_edge.proofs.Facts.{register_clock}
 use Rattle.cg_edge.proofs.register_step.rises.Goals as goal

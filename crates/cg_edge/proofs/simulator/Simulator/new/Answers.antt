@@ -1,6 +1,7 @@
-use Rattle.std.proofs.Common.{◌≡◌, ◌≤◌, ℕ, false, true, length, replicate, refl, sym, subst, ap, ◌∙◌, arith}
+use Rattle.std.proofs.Common.{◌≡◌, false, true, length, replicate, sym, subst, ap, ◌∙◌, arith}
 use Rattle.std.proofs.lemmas.List.{length-replicate}
 use Rattle.cg_edge.specs.inner.Keeping.{AreReaders, walk_of}
+use Rattle.cg_edge.proofs.GateOrder.{gate_chain}
 use Rattle.cg_edge.proofs.Ticked.{all_marked}
 use Rattle.cg_edge.proofs.simulator.Simulator.new.Goals as goal
 
@@ -8,22 +9,20 @@ pub invariant_of-result : goal.invariant_of-result
 invariant_of-result c =
     let n = c.args.netlist.now in
     let good = c.nets-nets.ensures.netlist in
-    let many : c.len.result ≡ length c.in_ok-order.order.items = omega (arith, c.len.ensures, c.in_ok-order.order.ok) in
-    let room : length c.in_ok-bits-5.field-0.items ≡ c.max-room.result = ap length c.in_ok-bits-5.ensures ∙ length-replicate c.max-room.result false in
+    let room : length c.in_ok-bits-5.field-0.items ≡ c.widest-room.result = ap length c.in_ok-bits-5.ensures ∙ length-replicate c.widest-room.result false in
     record {
       netlist = good;
       started = ap length c.in_ok-from_slice.ensures.items ∙ c.requires;
-      chained = c.in_ok-chain.ensures;
-      ordered = c.in_ok-order.ensures;
-      reading = subst (AreReaders (length n.names) (length c.in_ok-order.order.items) (walk_of n)) (sym c.readers.view_is) (subst (λ order. AreReaders (length n.names) (length order) (walk_of n) c.in_ok-readers.readers) c.deref.ensures.value c.in_ok-readers.ensures);
+      chained = gate_chain n good.well_formed c.in_ok-gate_order.field-0.items c.in_ok-gate_order.ensures;
+      ordered = c.order-order.ensures.order;
+      reading = subst (AreReaders (length n.names) (length c.order-order.result.now) (walk_of n)) (sym c.readers.view_is) (c.in_ok-readers.ensures);
       nets_long = ap length c.in_ok-bits.ensures ∙ (length-replicate c.nets-nets.result false ∙ c.nets-nets.ensures.count);
       before_long = ap length c.in_ok-bits-2.ensures ∙ (length-replicate c.nets-nets.result false ∙ c.nets-nets.ensures.count);
       state_long = ap length c.in_ok-from_slice-2.ensures.items ∙ c.requires;
       latches_long = ap length c.in_ok-bits-3.ensures ∙ (length-replicate c.gaters-gaters.result false ∙ c.gaters-gaters.ensures.count);
       rose_long = ap length c.in_ok-bits-4.ensures ∙ (length-replicate c.registers-registers.result false ∙ c.registers-registers.ensures.count);
-      marks_long = ap length c.in_ok-marks.ensures ∙ (length-replicate c.len.result true ∙ many);
-      marked = all_marked n good c.in_ok-order.order.items c.in_ok-marks.marks.items c.in_ok-bits.field-0.items c.in_ok-order.ensures (c.in_ok-marks.ensures ∙ ap (λ k. replicate k true) many);
-      room = omega (arith, room, c.widest.ensures);
-      variables = omega (arith, room);
+      marks_long = ap length c.in_ok-marks.ensures ∙ length-replicate (length c.order-order.result.now) true;
+      marked = all_marked n good c.order-order.result.now c.in_ok-marks.marks.items c.in_ok-bits.field-0.items c.order-order.ensures.order c.in_ok-marks.ensures;
+      room = omega (arith, room, c.widest-room.ensures);
       first = λ none. (c.in_ok-from_slice-2.ensures.items ∙ sym c.in_ok-from_slice.ensures.items, c.in_ok-bits-3.ensures ∙ ap (λ k. replicate k false) c.gaters-gaters.ensures.count, c.in_ok-bits-4.ensures ∙ ap (λ k. replicate k false) c.registers-registers.ensures.count);
     }

@@ -1,4 +1,4 @@
-use Rattle.std.proofs.Common.{◌≡◌, ◌≤◌, ℕ, Bool, List, true, false, length, refl, sym, subst, ap, ◌∙◌, arith}
+use Rattle.std.proofs.Common.{◌≡◌, true, false, length, sym, subst, ap, ◌∙◌, arith}
 use Rattle.std.specs.Vec.{with_items}
 use Rattle.std.proofs.lemmas.List.{with_items_is}
 use Rattle.cg_netlist.specs.WellFormed.{IsWellFormed}
@@ -35,7 +35,6 @@ invariant_of-self c =
       marks_long = ap length marks ∙ (c.advance.auto.marks ∙ (ap length c.deref_mut-6.ensures.value ∙ k.marks_long));
       marked = subst (λ ms. AreMarked walk ms (with_items s.nets c.advance.new.nets).items) (sym marks) (subst (AreMarked walk c.advance.new.marks) (sym nets) c.advance.ensures.marked);
       room = omega (arith, room, k.room);
-      variables = omega (arith, room, k.variables);
       first = λ none. absurd (let no_tick : true ≡ false = none in cc);
     }
 

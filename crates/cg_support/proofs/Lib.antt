@@ -1,0 +1,5 @@
+pub mod Nets
+pub mod Reached
+pub mod Driving
+pub mod Steps
+pub mod Supported

@@ -1,0 +1,3 @@
+pub mod Grouped
+pub mod Ordered
+pub mod Joined

@@ -1,0 +1,15 @@
+//! Groups of registers by their keys, as the lists of stability and unobservability stages have them.
+//!
+//! In a round each register has a key or none. The keys of registers that the round leaves out are cleared, and the
+//! registers with one key form a group; the groups stand in the order of their first register.
+//!
+//! The modules:
+//!
+//! - `order`: numbers in rising order.
+//! - `key`: keys of registers.
+//! - `group`: the groups of registers by their keys.
+#![tactic(auto)]
+
+pub mod group;
+pub mod key;
+pub mod order;

@@ -1,7 +1,7 @@
 //! Groups of registers by their keys, as the lists of stability and unobservability stages have them.
 //!
-//! In a round each register has a key or none. The keys of registers that the round leaves out are cleared, and the
-//! registers with one key form a group; the groups stand in the order of their first register.
+//! A register has a key or none. The registers with one key form a group, and the groups stand in the order of their
+//! first register.
 //!
 //! The modules:
 //!

@@ -1,0 +1,4 @@
+pub mod Keyed
+pub mod Left
+pub mod Same
+pub mod Listed

@@ -1,0 +1,19 @@
+use Rattle.std.proofs.Common.{◌≡◌, ◌<◌, ℕ, true, List, length, sym, ◌∙◌, ap, subst, arith}
+use Rattle.std.specs.List.{filter_map}
+use Rattle.cg_netlist.specs.Circuit.{is_in}
+use Rattle.cg_stability.proofs.Keyed.{enables_below, key_there, other_enable}
+use Rattle.cg_stability.proofs.key.key_of.Goals as goal
+
+pub returns : goal.returns
+returns c =
+    let m = c.args.machine.now in
+    let r = c.args.reg in
+    let s = c.in_ok-support.support in
+    let is = c.in_ok-support.ensures in
+    let good = c.netlist-netlist.ensures.machine in
+    let own = good.own_registers in
+    let below : r < length m.circuit.registers = omega (arith, c.requires, own) in
+    let are : c.in_ok-enables.enables.items ≡ filter_map (other_enable m r) s.registers = c.in_ok-enables.ensures ∙ ap (filter_map (other_enable m r)) c.as_slice-registers.ensures.parts in
+    key_there m r below s is c.in_ok-enables.enables.items c.rising.result.items c.own_enable.result (sym c.has_key.ensures ∙ c.if-not-has_key.false) are
+    (c.rising.ensures (length m.circuit.names) (λ x among. enables_below m r below s is good x (subst (λ (l : List ℕ). is_in l x ≡ true) are among)))
+    c.own_enable.ensures

@@ -1,0 +1,20 @@
+use Rattle.std.proofs.Common.{◌≡◌, ℕ, List, if◌then◌else◌, Some, slice_get, take, refl, sym, ◌∙◌, ap}
+use Rattle.std.proofs.lemmas.List.{take_all}
+use Rattle.std.proofs.lemmas.Option.{slice_get_read}
+use Rattle.cg_netlist.specs.Circuit.{is_in}
+use Rattle.cg_groups.specs.Keys.{key_at}
+use Rattle.cg_stability.specs.inner.Leaving.{without}
+use Rattle.cg_stability.proofs.Left.{one_more}
+use Rattle.cg_stability.proofs.round.clear.Goals as goal
+
+pub loop-reg-preserved : goal.loop-reg-preserved
+loop-reg-preserved c = λ r.
+    let regs = c.as_slice-regs.result.now in
+    let at : slice_get regs c.loop-reg.reg-index ≡ Some c.number.result = slice_get_read regs _ c.loop-reg.reg-index c.reg-item.result refl c.loop-reg-test.true c.reg-item.is ∙ ap (λ n. Some n) (sym c.number.ensures.number) in
+    one_more c.args.before.now regs c.loop-reg.reg-index c.number.result r (key_at c.args.keys.now r) (key_at c.loop-reg.keys r) (key_at c.clear_one.new.keys r) at (c.loop-reg.invariant r) (c.clear_one.ensures r)
+
+pub returns : goal.returns
+returns c = λ r.
+    let e = c.args.before.now in
+    let all : take c.loop-reg.reg-index c.as_slice-regs.result.now ≡ e.stage.regs = take_all c.loop-reg.reg-index c.as_slice-regs.result.now c.loop-reg-test.false ∙ c.as_slice-regs.ensures.parts in
+    c.loop-reg.invariant r ∙ ap (λ (l : List ℕ). if is_in l r then without e (key_at c.args.keys.now r) else key_at c.args.keys.now r) all

@@ -1,0 +1,16 @@
+//! The stages of a round of stability: registers that stand on registers with enables alone, and that need no clock in
+//! the cycle after one in which none of these was loaded.
+//!
+//! A machine and the stages that were tried before go in, and the list of stages that are tried in a round comes out. It
+//! is found by one walk back from each register.
+//!
+//! The modules:
+//!
+//! - `key`: the key of a register, by which it is put into a group.
+//! - `round`: the keys of a round, without those of the registers that it leaves out.
+//! - `candidates`: the stages of a round.
+#![tactic(auto)]
+
+pub mod candidates;
+mod key;
+mod round;

@@ -1,0 +1,4 @@
+pub mod Feeding
+pub mod Filling
+pub mod Marking
+pub mod Walking

@@ -1,0 +1,14 @@
+//! Claims of a machine, built as and-inverter lists with a goal.
+//!
+//! The modules:
+//!
+//! - `cells`: the logic cells and added gates of a machine, in walk order.
+//! - `marks`: marks on the nets of a cone.
+//! - `fed`: the registers that show their bits at marked nets.
+//! - `start`: what the nets of a copy have before its cells are laid.
+#![tactic(auto)]
+
+mod cells;
+mod fed;
+mod marks;
+mod start;

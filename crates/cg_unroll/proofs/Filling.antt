@@ -30,7 +30,7 @@ fills_set g old net v below is = record { keeps = λ y known. go y (nat_eq y net
     go y false other known = get_or-set_other old net y v 0 (λ e. both_ways (nat_eq y net) other (eq-eqb y net e)) ∙ known
 
     here : (y : ℕ) → is_in (net ∷ []) y ≡ true → slice_index_or (slice_set old net v) y 0 ≡ g y
-    here y among = elim (or_cases (nat_eq y net) false among) [ inl same ↦ at y same | inr no ↦ absurd (both_ways false refl no) ]
+    here y among = elim (or_cases (nat_eq y net) false among) [ inl same ↦ at y same | inr none ↦ absurd (both_ways false refl none) ]
 
 pub fills_then : (g : ℕ → ℕ) (xs ys : List ℕ) (a b c : List ℕ) → Fills g xs a b → Fills g ys b c → Fills g (xs ++ ys) a c
 fills_then g xs ys a b c one two = record {
@@ -84,7 +84,7 @@ registers_more g ins rs r cell a b c at so_far one = record {
     split : flat_map shown_nets (take (r + 1) rs) ≡ flat_map shown_nets (take r rs) ++ shown_nets cell
     split = let e : r + 1 ≡ suc r = omega arith in ap (λ n. flat_map shown_nets (take n rs)) e ∙ (ap (flat_map shown_nets) (take_end rs r cell at) ∙ flat_append (take r rs))
 
-take_whole : {X : Type 0} (xs : List X) (n : ℕ) → length xs ≤ n → take n xs ≡ xs
+pub take_whole : {X : Type 0} (xs : List X) (n : ℕ) → length xs ≤ n → take n xs ≡ xs
 take_whole [] zero past = refl
 take_whole [] (suc n) past = refl
 take_whole (x ∷ xs) zero past = absurd (omega arith)
@@ -116,3 +116,9 @@ module _ (c : Circuit) (driven : IsDriven c) (inputs states : ℕ → ℕ) where
           (subst (λ rs. is_in (flat_map shown_nets rs) y ≡ true) (sym all) (in_flat shown_nets c.registers p.0 s.0 y s.1 s.2)))
       go false is None shows =
           filled.keeps y (zeros y ∙ sym (ap (λ b. if b then inputs y else from_state inverse 0 states (shown_by c.registers y)) is ∙ ap (from_state inverse 0 states) shows))
+
+pub take_firsts : (outputs : List (ℕ × Bool)) (n : ℕ) → length outputs ≤ n → take n (firsts outputs) ≡ firsts outputs
+take_firsts [] zero past = refl
+take_firsts [] (suc n) past = refl
+take_firsts (o ∷ outputs) zero past = absurd (omega arith)
+take_firsts (o ∷ outputs) (suc n) past = ap (λ l. o.0 ∷ l) (take_firsts outputs n (omega arith))

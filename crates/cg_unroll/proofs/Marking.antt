@@ -61,3 +61,15 @@ cone_more cell rest roots now more known one x =
     go : (b : Bool) → (is_in (cone_of rest roots) x || (b && is_in cell.inputs x)) ≡ is_in (if b then cone_of rest roots ++ cell.inputs else cone_of rest roots) x
     go true = sym (is_in-append (cone_of rest roots) cell.inputs x)
     go false = or_none (is_in (cone_of rest roots) x)
+
+pub drop_whole : {X : Type 0} (xs : List X) (n : ℕ) → length xs ≤ n → drop n xs ≡ []
+drop_whole [] zero past = refl
+drop_whole [] (suc n) past = refl
+drop_whole (x ∷ xs) zero past = absurd (omega arith)
+drop_whole (x ∷ xs) (suc n) past = drop_whole xs n (omega arith)
+
+-- an item is the same whatever stands for a missing one
+pub any_default : {X : Type 0} (xs : List X) (i : ℕ) (d e : X) → i < length xs → slice_index_or xs i d ≡ slice_index_or xs i e
+any_default [] i d e below = absurd (omega arith)
+any_default (x ∷ xs) zero d e below = refl
+any_default (x ∷ xs) (suc i) d e below = any_default xs i d e (omega arith)

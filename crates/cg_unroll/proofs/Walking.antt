@@ -12,11 +12,15 @@ use Rattle.cg_netlist.proofs.Used.{input_is_used}
 use Rattle.cg_netlist.specs.Circuit.{used_nets}
 use Rattle.cg_netlist.specs.WellFormed.{IsOver}
 use Rattle.cg_machine.proofs.Lists.{all_at}
-use Rattle.cg_netlist.proofs.Members.{All-from_members, All-member, is_in_cases, member_at, place_of_member}
-use Rattle.cg_netlist.proofs.Values.{element_at, length-values_at, at_map}
+use Rattle.cg_machine.specs.Added.{own_netlist}
+use Rattle.cg_netlist.specs.Circuit.{Circuit}
+use Rattle.cg_claim.proofs.CellsLaid.{in_head, in_tail}
+use Rattle.cg_unroll.proofs.Marking.{drop_cons}
+use Rattle.cg_netlist.proofs.Members.{All-from_members, All-member, is_in_cases, member_at}
+use Rattle.cg_netlist.proofs.Values.{element_at, length-values_at}
 use Rattle.cg_machine.specs.Gates.{AddedGate, gate_cell}
 use Rattle.cg_machine.specs.Machine.{IsMachine, MachineData, order_of, walk_of}
-use Rattle.cg_machine.proofs.Lists.{below_or, below_range, get_front, get_drop, take_get}
+use Rattle.cg_machine.proofs.Lists.{below_range, get_front, get_drop, take_get}
 
 length_range : (n a : ℕ) → length (range_with_len a n) ≡ n
 length_range zero a = refl
@@ -35,20 +39,13 @@ get_back (x ∷ xs) ys k = let e : suc (length xs) + k ≡ suc (length xs + k) =
 values_get : {X : Type 0} (xs : List X) (ks : List ℕ) (i k : ℕ) (x : X) → ((j : ℕ) → is_in ks j ≡ true → j < length xs) → slice_get ks i ≡ Some k → slice_get xs k ≡ Some x → slice_get (values_at xs ks) i ≡ Some x
 values_get xs [] i k x within at is = absurd (none-some k at)
 values_get xs (j ∷ ks) i k x within at is =
-    let e = element_at xs j (within j (member_at (j ∷ ks) 0 j refl)) in
-    ap (λ o. slice_get (cons_option o (values_at xs ks)) i) e.1 ∙ go i at
+    let e = element_at xs j (within j (in_head j ks)) in
+    ap (λ o. slice_get (cons_option o (values_at xs ks)) i) e.1
+    ∙ go (λ n later. values_get xs ks n k x (λ y among. within y (in_tail y j ks among)) later is) e.0 e.1 i at
   where
-    go : (i : ℕ) → slice_get (j ∷ ks) i ≡ Some k → slice_get ((element_at xs j (within j (member_at (j ∷ ks) 0 j refl))).0 ∷ values_at xs ks) i ≡ Some x
-    go zero here =
-        let e = element_at xs j (within j (member_at (j ∷ ks) 0 j refl)) in
-        sym e.1 ∙ (ap (slice_get xs) (same_Some j k here) ∙ is)
-    go (suc i) later = values_get xs ks i k x (λ y among. within y (tail y among)) later is
-      where
-        tail : (y : ℕ) → is_in ks y ≡ true → is_in (j ∷ ks) y ≡ true
-        tail y among = let p = among_place y among in member_at (j ∷ ks) (suc p.0) y p.1
-          where
-            among_place : (y : ℕ) → is_in ks y ≡ true → (p : ℕ) × (slice_get ks p ≡ Some y)
-            among_place y among = place_of_member ks y among
+    go : ((n : ℕ) → slice_get ks n ≡ Some k → slice_get (values_at xs ks) n ≡ Some x) → (y : _) → slice_get xs j ≡ Some y → (i : ℕ) → slice_get (j ∷ ks) i ≡ Some k → slice_get (y ∷ values_at xs ks) i ≡ Some x
+    go rest y stands zero here = sym stands ∙ (ap (slice_get xs) (same_Some j k here) ∙ is)
+    go rest y stands (suc i) later = rest i later
 
 module _ (m : MachineData) (good : IsMachine m) where
   abbrev own : List ℕ
@@ -113,3 +110,31 @@ module _ (m : MachineData) (good : IsMachine m) where
 
   pub over_at : (place : ℕ) (cell : LogicCell ℕ) → slice_get (walk_of m) place ≡ Some cell → IsOver (length cell.inputs) cell.function
   over_at place cell at = let k = good.walk.of_cells place cell at in all_at (λ (c : LogicCell ℕ). IsOver (length c.inputs) c.function) m.circuit.cells k.0 cell good.well_formed.functions k.1
+
+  -- the order of the netlist, as it is read
+  module _ (c : Circuit) (order : List ℕ) (own_is : c ≡ own_netlist m) (order_is : order ≡ walk_order c.cells) where
+    order_own : order ≡ own
+    order_own = order_is ∙ ap (λ (n : Circuit). walk_order n.cells) own_is
+
+    pub read_long : length (walk_of m) ≡ length order + length m.gates
+    read_long = omega (arith, walk_long, ap length order_own)
+
+    pub read_within : (place k : ℕ) → slice_get order place ≡ Some k → k < length c.cells
+    read_within place k at =
+        let below = own_within k (member_at own place k (ap (λ l. slice_get l place) (sym order_own) ∙ at)) in
+        omega (arith, below, own_long, ap (λ (n : Circuit). length n.cells) own_is)
+
+    pub read_own : (place k : ℕ) (v cell : LogicCell ℕ) → slice_get order place ≡ Some k → slice_get c.cells k ≡ Some v → slice_get (walk_of m) place ≡ Some cell → v ≡ cell
+    read_own place k v cell at is stands =
+        same_Some v cell (sym (own_at place k v (ap (λ l. slice_get l place) (sym order_own) ∙ at) (ap (λ (n : Circuit). slice_get n.cells k) (sym own_is) ∙ is)) ∙ stands)
+
+    pub read_gate : (place : ℕ) (gate : AddedGate) (cell : LogicCell ℕ) → length order ≤ place → place < length (walk_of m) → slice_get m.gates (place - length order) ≡ Some gate → slice_get (walk_of m) place ≡ Some cell → gate_cell gate ≡ cell
+    read_gate place gate cell past below is stands =
+        let e : length own + (place - length order) ≡ place = omega (arith, past, ap length order_own) in
+        same_Some (gate_cell gate) cell (sym (gate_at (place - length order) gate (omega (arith, below, read_long, past)) is) ∙ (ap (slice_get (walk_of m)) e ∙ stands))
+
+-- the cells that are left begin with one, and then those behind it
+pub left_cons : (walk : List (LogicCell ℕ)) (places : List ℕ) (k place : ℕ) (cell : LogicCell ℕ) → slice_get places k ≡ Some place → slice_get walk place ≡ Some cell → values_at walk (drop k places) ≡ cell ∷ values_at walk (drop (k + 1) places)
+left_cons walk places k place cell at is =
+    let e : suc k ≡ k + 1 = omega arith in
+    ap (values_at walk) (drop_cons places k place at ∙ ap (λ n. place ∷ drop n places) e) ∙ ap (λ o. cons_option o (values_at walk (drop (k + 1) places))) is

@@ -1,1 +1,3 @@
+pub mod Claims
+pub mod First
 pub mod inner

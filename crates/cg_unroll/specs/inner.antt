@@ -1,2 +1,4 @@
 pub mod Feeding
 pub mod Filling
+pub mod Building
+pub mod Leaves

@@ -6,9 +6,15 @@
 //! - `marks`: marks on the nets of a cone.
 //! - `fed`: the registers that show their bits at marked nets.
 //! - `start`: what the nets of a copy have before its cells are laid.
+//! - `lay`: the cells of a copy, put into the list.
+//! - `next`: the next bit of a register in a copy.
+//! - `goal`: the goal of a claim.
 #![tactic(auto)]
 
 mod cells;
 mod fed;
+mod goal;
+mod lay;
 mod marks;
+mod next;
 mod start;

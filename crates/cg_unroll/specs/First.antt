@@ -1,0 +1,14 @@
+-- Claims of one cycle.
+use Rattle.std.specs.Prelude.{ℕ, List, [], ◌∷◌, Option, Some, None}
+use Rattle.std.specs.Option.{option_map}
+use Rattle.cg_machine.specs.Claims.{Literal}
+use Rattle.cg_claim.specs.Question.{Before, Next, State, Question, Side}
+
+-- the next bit of a register, and its bit
+abbrev pub hold_sides : ℕ → Side × Side
+hold_sides r = (record { copy = Before; part = Next r }, record { copy = Before; part = State r })
+
+-- whether, where the joined enable is 0, the next bit of a register can differ from its bit; without a register, whether
+-- the joined enable can be 0
+abbrev pub first_question : List Literal → Option ℕ → Question
+first_question E reg = record { enables = E; follows = []; changes = []; sides = option_map hold_sides reg }

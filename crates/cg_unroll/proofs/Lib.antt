@@ -2,7 +2,9 @@ pub mod Building
 pub mod Feeding
 pub mod Filling
 pub mod Gating
+pub mod Joining
 pub mod Laying
 pub mod Marking
 pub mod Pushing
+pub mod Registers
 pub mod Walking

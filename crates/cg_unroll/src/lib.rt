@@ -4,17 +4,25 @@
 //!
 //! - `cells`: the logic cells and added gates of a machine, in walk order.
 //! - `marks`: marks on the nets of a cone.
+//! - `roots`: what a claim of one cycle reaches.
 //! - `fed`: the registers that show their bits at marked nets.
+//! - `places`: the places of the cells of a cone.
+//! - `leaves`: the leaves of a copy, in the order of their numbers.
 //! - `start`: what the nets of a copy have before its cells are laid.
 //! - `lay`: the cells of a copy, put into the list.
 //! - `next`: the next bit of a register in a copy.
 //! - `goal`: the goal of a claim.
+//! - `claim`: claims, and why a call that builds one is refused.
 #![tactic(auto)]
 
 mod cells;
+pub mod claim;
 mod fed;
 mod goal;
 mod lay;
+mod leaves;
 mod marks;
 mod next;
+mod places;
+mod roots;
 mod start;

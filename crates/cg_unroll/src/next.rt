@@ -43,9 +43,12 @@ pub(crate) fn next_literal(
     ensures failed { IfErr result (λ fault. MayFail
         (next_run aig_values machine.now (λ x. slice_index_or literals.now x 0) (λ r. slice_index_or states.now r 0) reg aig.old).domain fault) }
 {
+    let _netlist = machine.netlist();
     let own = states[reg.number() as usize];
-    let loaded = data_literal(machine, reg, own, literals, aig, buffer)?;
-    loaded_literal(machine, reg, loaded, own, literals, aig)
+    match data_literal(machine, reg, own, literals, aig, buffer) {
+        Ok(loaded) => loaded_literal(machine, reg, loaded, own, literals, aig),
+        Err(fault) => Err(fault),
+    }
 }
 
 /// The first literal where the register's enable is 1, and else the second; the first where it has no enable.

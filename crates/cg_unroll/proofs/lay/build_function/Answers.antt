@@ -22,7 +22,7 @@ returns-in-Cover-clause-failed c =
 
 pub returns-in-Some-clause-failed : goal.returns-in-Some-clause-failed
 returns-in-Some-clause-failed c =
-    subst (λ f. IfErr c.expression-in-Some.result (λ fault. MayFail (build_term aig_ops c.args.inputs.now (function_term (function_seen f)) c.args.aig.now).domain fault)) (sym c.in-Cell.is)
-    (subst (λ o. IfErr c.expression-in-Some.result (λ fault. MayFail (build_term aig_ops c.args.inputs.now (option_map_or (λ t. t) o (Bit false)) c.args.aig.now).domain fault)) c.in-Some.ensures.function
-    (if_err _ _ c.expression-in-Some.result (λ fault h. stops_fails c.args.aig.now c.expression-in-Some.new.self (build_term aig_ops c.args.inputs.now (term_of c.in-Some.function.now) c.args.aig.now) fault
-    (grows_term aig_ops aig_growing (term_of c.in-Some.function.now) c.args.inputs.now c.args.aig.now) h) c.expression-in-Some.ensures.stopped))
+    subst (λ f. IfErr c.expression.result (λ fault. MayFail (build_term aig_ops c.args.inputs.now (function_term (function_seen f)) c.args.aig.now).domain fault)) (sym c.in-Cell.is)
+    (subst (λ o. IfErr c.expression.result (λ fault. MayFail (build_term aig_ops c.args.inputs.now (option_map_or (λ t. t) o (Bit false)) c.args.aig.now).domain fault)) c.in-Some.ensures.function
+    (if_err _ _ c.expression.result (λ fault h. stops_fails c.args.aig.now c.expression.new.self (build_term aig_ops c.args.inputs.now (term_of c.in-Some.function.now) c.args.aig.now) fault
+    (grows_term aig_ops aig_growing (term_of c.in-Some.function.now) c.args.inputs.now c.args.aig.now) h) c.expression.ensures.stopped))

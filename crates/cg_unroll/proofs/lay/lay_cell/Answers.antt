@@ -41,6 +41,6 @@ returns-clause-laid c = λ cell stands.
     let inputs : c.deref.result.now ≡ map (λ net. slice_index_or c.args.literals.now net 0) cell.inputs =
     c.deref.ensures.value ∙ (c.in_ok-read_literals.ensures.read ∙ ap (map (λ net. slice_index_or c.args.literals.now net 0)) (c.inputs_at.ensures cell stands)) in
     let below : cell.output < length c.args.literals.now = omega (arith, output_within c.args.machine.now c.netlist-netlist.ensures.machine c.args.place cell stands, c.requires.literals) in
-    subst (λ n. LaysCells (cell ∷ []) c.args.aig.now c.build_cell-answer.new.aig c.args.literals.now (slice_set c.args.literals.now n c.in_ok-answer.answer)) (sym (c.number.ensures.number ∙ c.output_at-output.ensures cell stands))
-    (lays_cell cell c.args.aig.now c.build_cell-answer.new.aig c.args.literals.now c.in_ok-answer.answer below c.requires.valid
-    (subst (λ ins. Built c.args.aig.now c.build_cell-answer.new.aig c.in_ok-answer.answer (build_term aig_ops ins (function_term cell.function) c.args.aig.now)) inputs (c.in_ok-answer.ensures.built cell stands)))
+    subst (λ n. LaysCells (cell ∷ []) c.args.aig.now c.build_cell.new.aig c.args.literals.now (slice_set c.args.literals.now n c.in_ok-answer.answer)) (sym (c.number.ensures.number ∙ c.output_at-output.ensures cell stands))
+    (lays_cell cell c.args.aig.now c.build_cell.new.aig c.args.literals.now c.in_ok-answer.answer below c.requires.valid
+    (subst (λ ins. Built c.args.aig.now c.build_cell.new.aig c.in_ok-answer.answer (build_term aig_ops ins (function_term cell.function) c.args.aig.now)) inputs (c.in_ok-answer.ensures.built cell stands)))

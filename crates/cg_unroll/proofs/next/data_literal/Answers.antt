@@ -1,0 +1,71 @@
+use Rattle.std.proofs.Common.{◌≡◌, ◌<◌, ◌≤◌, ◌+◌, ◌++◌, [], ◌∷◌, ℕ, List, Some, get_or, length, map, slice_get, slice_index_or, unwrap_or, IfErr, IfOk, IsTrue, refl, sym, ◌∙◌, ap, subst, arith}
+use Rattle.std.specs.List.{All}
+use Rattle.std.proofs.lemmas.Bool.{leb-false}
+use Rattle.std.proofs.lemmas.List.{length-map}
+use Rattle.std.proofs.lemmas.Option.{same_Some, slice_get-get_or}
+use Rattle.cg_cell.specs.Domain.{AreValid, Seen}
+use Rattle.cg_cell.specs.Eval.{build_term}
+use Rattle.cg_cell.proofs.Evals.{valid_at}
+use Rattle.cg_aig.specs.Aig.{aig_ops}
+use Rattle.cg_netlist.specs.Circuit.{RegisterCell}
+use Rattle.cg_netlist.specs.View.{kind_seen, register_seen}
+use Rattle.cg_netlist.specs.declared.parts.RegisterKind.TheVariants.{Flop}
+use Rattle.cg_netlist.proofs.RegisterNext.{flop_inputs, flop_kind, one_input, register_inputs_within}
+use Rattle.cg_machine.specs.Machine.{MachineData, delay_cell}
+use Rattle.cg_claim.specs.Reach.{register_term}
+use Rattle.cg_unroll.specs.inner.Building.{Built, MayFail}
+use Rattle.cg_unroll.proofs.Building.{if_err, if_ok, valid_read}
+use Rattle.cg_unroll.proofs.Feeding.{own_register}
+use Rattle.cg_unroll.proofs.Marking.{any_default}
+use Rattle.cg_unroll.proofs.Registers.{data_run, first_within, plain_data, valid_append}
+use Rattle.cg_unroll.proofs.next.data_literal.Goals as goal
+
+pub bounds-literals-number : goal.bounds-literals-number
+bounds-literals-number c =
+    let m : MachineData = c.args.machine.now in
+    let delay : RegisterCell ℕ ℕ = delay_cell (unwrap_or m.circuit.clock 0) c.delay-net.result.0 c.delay-net.result.1 in
+    let small = first_within (length m.circuit.names) c.delay-net.result.0 [] (register_inputs_within m.circuit c.netlist-netlist.ensures.machine.well_formed c.args.reg delay c.delay-net.ensures (length m.circuit.names) (omega arith)) in
+    omega (arith, small, c.number.ensures.number, c.requires.literals)
+
+pub returns-then-is_delay-clause-built : goal.returns-then-is_delay-clause-built
+returns-then-is_delay-clause-built c = λ cell stands.
+    let m : MachineData = c.args.machine.now in
+    let s : Seen = c.args.aig.now in
+    let literals : List ℕ = c.args.literals.now in
+    let net : ℕ = c.delay-net.result.0 in
+    let delay : RegisterCell ℕ ℕ = delay_cell (unwrap_or m.circuit.clock 0) net c.delay-net.result.1 in
+    let small = first_within (length m.circuit.names) net [] (register_inputs_within m.circuit c.netlist-netlist.ensures.machine.well_formed c.args.reg delay c.delay-net.ensures (length m.circuit.names) (omega arith)) in
+    let below : net < length literals = omega (arith, small, c.requires.literals) in
+    let v : ℕ = c.index-literals-number.result in
+    let is : v ≡ slice_index_or literals net 0 = c.index-literals-number.is ∙ (ap (λ n. slice_index_or literals n v) c.number.ensures.number ∙ any_default literals net v 0 below) in
+    subst (λ (z : RegisterCell ℕ ℕ). Built s s v (data_run (λ x. slice_index_or literals x 0) c.args.own z s)) (same_Some delay cell (sym c.delay-net.ensures ∙ stands))
+    (plain_data (λ x. slice_index_or literals x 0) c.args.own delay net v s refl refl is (subst (λ a. IsTrue (aig_ops.is_valid s a)) (sym is) (valid_at aig_ops s literals net c.requires.valid below)))
+
+pub read_literals-requires : goal.read_literals-requires
+read_literals-requires c =
+    let m : MachineData = c.args.machine.now in
+    let view : RegisterCell ℕ ℕ = register_seen c.register-register.result in
+    let at = own_register m c.netlist-netlist.result.now c.args.reg view c.netlist-netlist.ensures.netlist (leb-false m.own_registers c.args.reg (sym c.if-is_delay.ensures)) c.register-register.ensures in
+    register_inputs_within m.circuit c.netlist-netlist.ensures.machine.well_formed c.args.reg view at (length c.args.literals.now) (omega (arith, c.requires.literals))
+
+pub build_register-requires-clause-kind : goal.build_register-requires-clause-kind
+build_register-requires-clause-kind c =
+    let m : MachineData = c.args.machine.now in
+    let view : RegisterCell ℕ ℕ = register_seen c.register-register.result in
+    let at = own_register m c.netlist-netlist.result.now c.args.reg view c.netlist-netlist.ensures.netlist (leb-false m.own_registers c.args.reg (sym c.if-is_delay.ensures)) c.register-register.ensures in
+    flop_kind m.circuit c.netlist-netlist.ensures.machine.well_formed c.args.reg view at c.in-Cell.cell.now (ap kind_seen c.in-Cell.is)
+
+pub build_register-requires-clause-fits : goal.build_register-requires-clause-fits
+build_register-requires-clause-fits c = ?
+
+pub build_register-requires-clause-valid : goal.build_register-requires-clause-valid
+build_register-requires-clause-valid c = ?
+
+pub returns-in-Plain-clause-built : goal.returns-in-Plain-clause-built
+returns-in-Plain-clause-built c = ?
+
+pub returns-in_ok-push_literal-in-Cell-clause-built : goal.returns-in_ok-push_literal-in-Cell-clause-built
+returns-in_ok-push_literal-in-Cell-clause-built c = ?
+
+pub returns-in_ok-push_literal-in-Cell-clause-failed : goal.returns-in_ok-push_literal-in-Cell-clause-failed
+returns-in_ok-push_literal-in-Cell-clause-failed c = ?

@@ -13,7 +13,7 @@ use Rattle.cg_claim.specs.Question.{Before}
 use Rattle.cg_claim.specs.Reach.{before_nets, before_states, cone_of, feeds, next_nets, origin_nets, registers_of, sides_nets}
 use Rattle.cg_claim.proofs.LeafOrder.{leaf, leaves_are}
 use Rattle.cg_claim.proofs.OneCopy.{IsOneCopy, leaves_one}
-use Rattle.cg_unroll.specs.First.{first_question, hold_sides}
+use Rattle.cg_unroll.specs.First.{asked_nets, first_question, hold_sides}
 use Rattle.cg_unroll.specs.inner.Feeding.{is_fed}
 use Rattle.cg_unroll.specs.inner.Leaves.{input_leaf, register_leaf}
 
@@ -63,11 +63,6 @@ filter_none test (x ∷ xs) none = ap (λ b. cond b (x ∷ filter test xs) (filt
 pub filter_same : {X : Type 0} (f g : X → Bool) (xs : List X) → ((x : X) → f x ≡ g x) → filter f xs ≡ filter g xs
 filter_same f g [] same = refl
 filter_same f g (x ∷ xs) same = ap (λ b. cond b (x ∷ filter f xs) (filter f xs)) (same x) ∙ ap (λ l. cond (g x) (x ∷ l) l) (filter_same f g xs same)
-
--- the nets that the next bit of the register asks for, where there is one
-abbrev pub asked_nets : MachineData → Option ℕ → List ℕ
-asked_nets m None = []
-asked_nets m (Some r) = next_nets m r
 
 -- what is reached is the cone of the enables and of these
 pub first_nets : (m : MachineData) (E : List Literal) (reg : Option ℕ) → before_nets m (first_question E reg) ≡ cone_of (walk_of m) (map (λ l. l.0) E ++ asked_nets m reg)

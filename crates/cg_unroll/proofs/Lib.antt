@@ -1,10 +1,14 @@
 pub mod Building
+pub mod Differing
 pub mod Feeding
 pub mod Filling
+pub mod FirstClaims
+pub mod Firsts
 pub mod Gating
 pub mod Joining
 pub mod Laying
 pub mod Marking
 pub mod Pushing
 pub mod Registers
+pub mod Tabling
 pub mod Walking

@@ -7,11 +7,11 @@ use Rattle.cg_netlist.specs.Circuit.{LogicCell, is_in}
 use Rattle.cg_netlist.proofs.Members.{is_in-append}
 use Rattle.cg_claim.specs.Reach.{cone_of}
 
-or_none : (b : Bool) → (b || false) ≡ b
+pub or_none : (b : Bool) → (b || false) ≡ b
 or_none true = refl
 or_none false = refl
 
-or_assoc : (a b c : Bool) → ((a || b) || c) ≡ (a || (b || c))
+pub or_assoc : (a b c : Bool) → ((a || b) || c) ≡ (a || (b || c))
 or_assoc true b c = refl
 or_assoc false b c = refl
 

@@ -3,7 +3,9 @@ use Rattle.std.proofs.Common.{◌≡◌, ℕ, ◌<◌, ◌≤◌, ◌+◌, List,
 use Rattle.std.specs.List.{All}
 use Rattle.std.proofs.lemmas.List.Elements.{All-head}
 use Rattle.std.proofs.lemmas.Option.{none-some, same_Some}
-use Rattle.cg_cell.specs.Build.{Run, plain}
+use Rattle.cg_cell.specs.Build.{Run, chain, plain}
+use Rattle.cg_claim.specs.Build.{aig_values, mux_run, next_run, next_run_of}
+use Rattle.cg_machine.specs.Machine.{MachineData, enable_of}
 use Rattle.cg_cell.specs.Domain.{AreValid, Seen}
 use Rattle.cg_cell.specs.Eval.{build_term}
 use Rattle.cg_cell.proofs.Building.{keeps_self}
@@ -35,3 +37,10 @@ valid_append s (x ∷ xs) own valid h = (valid.0, valid_append s xs own valid.1 
 
 pub first_within : (n net : ℕ) (nets : List ℕ) → All (λ x. x < n) (net ∷ nets) → net < n
 first_within n net nets all = All-head (λ x. x < n) net nets all
+
+-- the next bit of a register that is there
+pub next_is : (m : MachineData) (nets states : ℕ → ℕ) (r own : ℕ) (s : Seen) (cell : RegisterCell ℕ ℕ) → slice_get m.circuit.registers r ≡ Some cell → own ≡ states r
+    → next_run aig_values m nets states r s ≡ chain (data_run nets own cell s) (λ a t. mux_run aig_values (enable_of m r) nets a own t)
+next_is m nets states r own s cell at is =
+    ap (λ o. next_run_of aig_values o (enable_of m r) nets (states r) s) at
+    ∙ ap (λ w. chain (data_run nets w cell s) (λ a t. mux_run aig_values (enable_of m r) nets a w t)) (sym is)

@@ -2,6 +2,8 @@
 use Rattle.std.specs.Prelude.{ℕ, List, [], ◌∷◌, Option, Some, None}
 use Rattle.std.specs.Option.{option_map}
 use Rattle.cg_machine.specs.Claims.{Literal}
+use Rattle.cg_machine.specs.Machine.{MachineData}
+use Rattle.cg_claim.specs.Reach.{next_nets}
 use Rattle.cg_claim.specs.Question.{Before, Next, State, Question, Side}
 
 -- the next bit of a register, and its bit
@@ -12,3 +14,8 @@ hold_sides r = (record { copy = Before; part = Next r }, record { copy = Before;
 -- the joined enable can be 0
 abbrev pub first_question : List Literal → Option ℕ → Question
 first_question E reg = record { enables = E; follows = []; changes = []; sides = option_map hold_sides reg }
+
+-- the nets that the next bit of the register asks for, where there is one
+abbrev pub asked_nets : MachineData → Option ℕ → List ℕ
+asked_nets m None = []
+asked_nets m (Some r) = next_nets m r

@@ -8,7 +8,7 @@ ghost use Rattle.cg_unroll.specs.inner.Leaves.{input_leaf, register_leaf};
 
 use cg_claim::leaf::{Leaf, LeafSource};
 use cg_machine::machine::Machine;
-use cg_netlist::id::RegId;
+use cg_netlist::id::{NetId, RegId};
 use std::alloc::AllocError;
 
 /// Puts the data inputs with a mark behind the leaves, as leaves of this copy.
@@ -21,13 +21,11 @@ pub(crate) fn push_inputs(
     requires { length marks.now ≡ length machine.now.circuit.names }
     ensures { OnOk result (leaves.new.items ≡ leaves.old.items ++ map (input_leaf copy) (filter (λ y. slice_index_or marks.now y false) (data_inputs machine.now.circuit))) }
 {
-    let inputs = machine.netlist().data_inputs();
+    let netlist = machine.netlist();
+    let inputs = netlist.data_inputs();
     for k in 0..inputs.len() {
-        let leaf = Leaf {
-            copy,
-            source: LeafSource::Input(inputs[k]),
-        };
-        push_if(marks[inputs[k].number() as usize], leaf, leaves)?;
+        let net = inputs[k];
+        push_input(marks[net.number() as usize], copy, net, leaves)?;
     }
     Ok(())
 }
@@ -43,21 +41,39 @@ pub(crate) fn push_registers(
     ensures { OnOk result (leaves.new.items ≡ leaves.old.items ++ map (register_leaf copy) (filter (λ r. slice_index_or marks.now r false) (registers_of machine.now))) }
 {
     for r in 0..machine.registers() {
-        let leaf = Leaf {
-            copy,
-            source: LeafSource::Register(RegId::new(r)),
-        };
-        push_if(marks[r as usize], leaf, leaves)?;
+        push_register(marks[r as usize], copy, RegId::new(r), leaves)?;
     }
     Ok(())
 }
 
-/// Puts a leaf behind the others, if it is reached.
-fn push_if(reached: bool, leaf: Leaf, leaves: &mut Vec<Leaf>) -> Result<(), AllocError>
-    ensures { OnOk result (leaves.new.items ≡ leaves.old.items ++ (if reached then leaf ∷ [] else [])) }
+/// Puts a data input behind the leaves, if it is reached.
+fn push_input(
+    reached: bool,
+    copy: u8,
+    net: NetId,
+    leaves: &mut Vec<Leaf>,
+) -> Result<(), AllocError>
+    ensures { OnOk result (leaves.new.items ≡ leaves.old.items ++ (if reached then input_leaf copy net ∷ [] else [])) }
 {
     if reached {
-        leaves.push(leaf)?;
+        let source = LeafSource::Input(net);
+        leaves.push(Leaf { copy, source })?;
+    }
+    Ok(())
+}
+
+/// Puts a register behind the leaves, if it is reached.
+fn push_register(
+    reached: bool,
+    copy: u8,
+    reg: RegId,
+    leaves: &mut Vec<Leaf>,
+) -> Result<(), AllocError>
+    ensures { OnOk result (leaves.new.items ≡ leaves.old.items ++ (if reached then register_leaf copy reg ∷ [] else [])) }
+{
+    if reached {
+        let source = LeafSource::Register(reg);
+        leaves.push(Leaf { copy, source })?;
     }
     Ok(())
 }

@@ -8,6 +8,7 @@
 //! - `fed`: the registers that show their bits at marked nets.
 //! - `places`: the places of the cells of a cone.
 //! - `leaves`: the leaves of a copy, in the order of their numbers.
+//! - `tables`: the literals that the leaves give to data inputs and registers.
 //! - `start`: what the nets of a copy have before its cells are laid.
 //! - `lay`: the cells of a copy, put into the list.
 //! - `next`: the next bit of a register in a copy.
@@ -26,3 +27,4 @@ mod next;
 mod places;
 mod roots;
 mod start;
+mod tables;

@@ -1,10 +1,10 @@
 //! What a claim of one cycle reaches.
 
-ghost use Rattle.std.specs.Prelude.{◌≡◌, ◌<◌, ◌++◌, ◌||◌, ℕ, false, length, map, slice_index_or, IfOk};
+ghost use Rattle.std.specs.Prelude.{◌≡◌, ◌<◌, ◌++◌, ◌||◌, ℕ, Some, false, length, map, slice_index_or, IfOk};
 ghost use Rattle.std.specs.List.{All};
 ghost use Rattle.cg_netlist.specs.Circuit.{is_in};
 ghost use Rattle.cg_claim.specs.Reach.{before_nets, inputs_of_register, next_nets};
-ghost use Rattle.cg_unroll.specs.First.{first_question};
+ghost use Rattle.cg_unroll.specs.First.{asked_nets, first_question};
 
 use crate::marks::{mark_cone, mark_nets};
 use cg_machine::machine::Machine;
@@ -27,9 +27,7 @@ pub(crate) fn reached_nets(
 {
     let mut marks = vec![in alloc; false; machine.nets() as usize]?;
     mark_enables(enables, &mut marks);
-    if let Some(reg) = reg {
-        mark_next(machine, reg, &mut marks);
-    }
+    mark_asked(machine, reg, &mut marks);
     mark_cone(machine, &mut marks);
     Ok(marks)
 }
@@ -40,7 +38,19 @@ fn mark_enables(enables: &[NetLit], marks: &mut [bool])
     ensures { (x : ℕ) → slice_index_or marks.new x false ≡ (slice_index_or marks.old x false || is_in (map (λ l. l.0) enables.now) x) }
 {
     for k in 0..enables.len() {
-        marks[enables[k].net.number() as usize] = true;
+        let literal = enables[k];
+        marks[literal.net.number() as usize] = true;
+    }
+}
+
+/// Marks the nets too that the next bit of the register asks for, where there is one.
+fn mark_asked(machine: &Machine, reg: Option<RegId>, marks: &mut [bool])
+    requires register { (r : ℕ) → reg ≡ Some r → r < length machine.now.circuit.registers }
+    requires marks { length marks.old ≡ length machine.now.circuit.names }
+    ensures { (x : ℕ) → slice_index_or marks.new x false ≡ (slice_index_or marks.old x false || is_in (asked_nets machine.now reg) x) }
+{
+    if let Some(reg) = reg {
+        mark_next(machine, reg, marks);
     }
 }
 
@@ -50,6 +60,7 @@ fn mark_next(machine: &Machine, reg: RegId, marks: &mut [bool])
     requires marks { length marks.old ≡ length machine.now.circuit.names }
     ensures { (x : ℕ) → slice_index_or marks.new x false ≡ (slice_index_or marks.old x false || is_in (next_nets machine.now reg) x) }
 {
+    let _netlist = machine.netlist();
     mark_inputs_of(machine, reg, marks);
     if let Some(enable) = machine.enable(reg) {
         marks[enable.number() as usize] = true;

@@ -13,7 +13,7 @@ use Rattle.cg_claim.specs.Question.{Before}
 use Rattle.cg_claim.specs.Reach.{before_nets, before_states, cone_of, feeds, next_nets, origin_nets, registers_of, sides_nets}
 use Rattle.cg_claim.proofs.LeafOrder.{leaf, leaves_are}
 use Rattle.cg_claim.proofs.OneCopy.{IsOneCopy, leaves_one}
-use Rattle.cg_unroll.specs.First.{asked_nets, first_question, hold_sides}
+use Rattle.cg_unroll.specs.First.{asked_nets, first_question, hold_sides, is_own}
 use Rattle.cg_unroll.specs.inner.Feeding.{is_fed}
 use Rattle.cg_unroll.specs.inner.Leaves.{input_leaf, register_leaf}
 
@@ -72,10 +72,6 @@ first_nets m E reg = ap (λ rs. cone_of (walk_of m) (map (λ (l : Literal). l.0)
     go : (reg : Option ℕ) → cone_of (walk_of m) (map (λ (l : Literal). l.0) E ++ sides_nets m (map (λ (l : Literal). l.0) E) Before (option_map hold_sides reg) ++ []) ≡ cone_of (walk_of m) (map (λ (l : Literal). l.0) E ++ asked_nets m reg)
     go None = ap (cone_of (walk_of m)) (append-nil (map (λ (l : Literal). l.0) E ++ []))
     go (Some r) = ap (cone_of (walk_of m)) (append-nil (map (λ (l : Literal). l.0) E ++ (next_nets m r ++ [])) ∙ ap (λ l. map (λ (l : Literal). l.0) E ++ l) (append-nil (next_nets m r)))
-
--- the registers whose bits are reached
-abbrev pub is_own : Option ℕ → ℕ → Bool
-is_own reg r = option_map_or (λ k. nat_eq r k) reg false
 
 absorb : (a b : Bool) → ((a && b) || a) ≡ a
 absorb true true = refl

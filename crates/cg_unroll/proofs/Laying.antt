@@ -27,7 +27,7 @@ written s t literals x a r below b = record { domain = sym b.left; at = λ y _. 
     go y true is = ap (λ z. slice_index_or (slice_set literals x a) z 0) (eqb-true y x is) ∙ (get_or-set_same literals x a 0 below ∙ sym b.answered)
     go y false is = get_or-set_other literals x y a 0 (λ e. both_ways (nat_eq y x) is (eq-eqb y x e))
 
-valid_set : (t : Seen) (literals : List ℕ) (x a : ℕ) → AreValid aig_ops t literals → IsTrue (aig_ops.is_valid t a) → AreValid aig_ops t (slice_set literals x a)
+pub valid_set : (t : Seen) (literals : List ℕ) (x a : ℕ) → AreValid aig_ops t literals → IsTrue (aig_ops.is_valid t a) → AreValid aig_ops t (slice_set literals x a)
 valid_set t [] x a valid h = valid
 valid_set t (l ∷ literals) zero a valid h = (h, valid.1)
 valid_set t (l ∷ literals) (suc x) a valid h = (valid.0, valid_set t literals x a valid.1 h)

@@ -7,6 +7,7 @@ pub mod Firsts
 pub mod Gating
 pub mod Joining
 pub mod Laying
+pub mod LeafTables
 pub mod Marking
 pub mod Pushing
 pub mod Registers

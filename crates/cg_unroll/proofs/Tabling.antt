@@ -1,7 +1,9 @@
 -- The literals of leaves, put one after another.
-use Rattle.std.proofs.Common.{◌≡◌, ℕ, ◌+◌, ◌*◌, ◌<◌, ◌≤◌, ◌⊎◌, true, List, [], ◌∷◌, length, nat_eq, slice_get, slice_index_or, slice_set, Some, refl, sym, ◌∙◌, ap, subst, arith, inl, inr}
+use Rattle.std.proofs.Common.{◌≡◌, ℕ, ◌+◌, ◌*◌, ◌<◌, ◌≤◌, ◌⊎◌, true, List, [], ◌∷◌, length, nat_eq, slice_get, slice_index_or, slice_set, Some, IsTrue, refl, sym, ◌∙◌, ap, subst, arith, inl, inr}
 use Rattle.std.proofs.lemmas.Bool.{eq-eqb, or_left}
 use Rattle.std.proofs.lemmas.Option.{same_Some}
+use Rattle.cg_cell.specs.Domain.{AreValid, Seen}
+use Rattle.cg_aig.specs.Aig.{aig_ops}
 use Rattle.cg_netlist.specs.Circuit.{is_in}
 use Rattle.cg_claim.specs.declared.leaf.Leaf.{Leaf}
 use Rattle.cg_claim.specs.declared.leaf.LeafSource.{LeafSource}
@@ -10,6 +12,7 @@ use Rattle.cg_claim.proofs.CellsLaid.{in_head}
 use Rattle.cg_machine.proofs.Lists.{below_or}
 use Rattle.cg_unroll.specs.inner.Leaves.{FillsLeaves, IsSourceWithin, LeavesAgree, input_leaf, put_input, put_state, register_leaf}
 use Rattle.cg_unroll.proofs.Filling.{fills_set}
+use Rattle.cg_unroll.proofs.Laying.{valid_set}
 
 input_of : (a b : ℕ) → Input a ≡ Input b → a ≡ b
 input_of a b e = cc
@@ -80,3 +83,12 @@ module _ (leaves : List Leaf) (k v : ℕ) (source : LeafSource) (copy : ℕ) (at
               absurd cc
         ];
       }
+
+-- a valid literal put at a place
+pub valid_input : (s : Seen) (source : LeafSource) (v : ℕ) (values : List ℕ) → AreValid aig_ops s values → IsTrue (aig_ops.is_valid s v) → AreValid aig_ops s (put_input source v values)
+valid_input s (Input y) v values valid h = valid_set s values y v valid h
+valid_input s (Register r) v values valid h = valid
+
+pub valid_state : (s : Seen) (source : LeafSource) (v : ℕ) (values : List ℕ) → AreValid aig_ops s values → IsTrue (aig_ops.is_valid s v) → AreValid aig_ops s (put_state source v values)
+valid_state s (Input y) v values valid h = valid
+valid_state s (Register r) v values valid h = valid_set s values r v valid h

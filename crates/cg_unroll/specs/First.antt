@@ -1,6 +1,6 @@
 -- Claims of one cycle.
-use Rattle.std.specs.Prelude.{ℕ, List, [], ◌∷◌, Option, Some, None}
-use Rattle.std.specs.Option.{option_map}
+use Rattle.std.specs.Prelude.{ℕ, Bool, false, List, [], Option, Some, None, nat_eq}
+use Rattle.std.specs.Option.{option_map, option_map_or}
 use Rattle.cg_machine.specs.Claims.{Literal}
 use Rattle.cg_machine.specs.Machine.{MachineData}
 use Rattle.cg_claim.specs.Reach.{next_nets}
@@ -19,3 +19,7 @@ first_question E reg = record { enables = E; follows = []; changes = []; sides =
 abbrev pub asked_nets : MachineData → Option ℕ → List ℕ
 asked_nets m None = []
 asked_nets m (Some r) = next_nets m r
+
+-- whether a register is this one
+abbrev pub is_own : Option ℕ → ℕ → Bool
+is_own reg r = option_map_or (λ k. nat_eq r k) reg false

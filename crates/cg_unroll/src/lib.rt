@@ -13,12 +13,14 @@
 //! - `lay`: the cells of a copy, put into the list.
 //! - `next`: the next bit of a register in a copy.
 //! - `goal`: the goal of a claim.
+//! - `first`: claims of one cycle, whole.
 //! - `claim`: claims, and why a call that builds one is refused.
 #![tactic(auto)]
 
 mod cells;
 pub mod claim;
 mod fed;
+pub mod first;
 mod goal;
 mod lay;
 mod leaves;

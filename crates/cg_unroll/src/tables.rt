@@ -2,6 +2,8 @@
 
 ghost use Rattle.std.specs.Prelude.{◌≡◌, ℕ, length};
 ghost use Rattle.std.specs.List.{All};
+ghost use Rattle.cg_cell.specs.Domain.{AreValid};
+ghost use Rattle.cg_aig.specs.Aig.{aig_ops};
 ghost use Rattle.cg_unroll.specs.inner.Leaves.{FillsLeaves, IsLeafWithin, IsSourceWithin, LeavesAgree, input_leaf, put_input, put_state, register_leaf};
 
 use cg_aig::list::Aig;
@@ -17,12 +19,18 @@ pub(crate) fn put_leaves(
 )
     requires count { length leaves.now ≡ aig.now.number }
     requires within { All (IsLeafWithin (length inputs.old) (length states.old)) leaves.now }
+    requires valid_inputs { AreValid aig_ops aig.now inputs.old }
+    requires valid_states { AreValid aig_ops aig.now states.old }
+    ensures valid_inputs { AreValid aig_ops aig.now inputs.new }
+    ensures valid_states { AreValid aig_ops aig.now states.new }
     ensures inputs { (g : ℕ → ℕ) → LeavesAgree input_leaf leaves.now g → FillsLeaves input_leaf leaves.now (length leaves.now) g inputs.old inputs.new }
     ensures states { (g : ℕ → ℕ) → LeavesAgree register_leaf leaves.now g → FillsLeaves register_leaf leaves.now (length leaves.now) g states.old states.new }
 {
     let _leaves = aig.leaves();
     for k in 0..leaves.len() {
-        put_leaf(leaves[k].source, aig.leaf(k as u32), inputs, states);
+        let leaf = leaves[k];
+        let literal = aig.leaf(k as u32);
+        put_leaf(leaf.source, literal, inputs, states);
     }
 }
 

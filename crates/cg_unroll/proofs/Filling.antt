@@ -54,7 +54,7 @@ take_map outputs zero = refl
 take_map [] (suc i) = refl
 take_map (o ∷ outputs) (suc i) = ap (λ l. o.0 ∷ l) (take_map outputs i)
 
-first_at : (outputs : List (ℕ × Bool)) (i : ℕ) (o : ℕ × Bool) → slice_get outputs i ≡ Some o → slice_get (firsts outputs) i ≡ Some o.0
+pub first_at : (outputs : List (ℕ × Bool)) (i : ℕ) (o : ℕ × Bool) → slice_get outputs i ≡ Some o → slice_get (firsts outputs) i ≡ Some o.0
 first_at [] i o at = absurd (none-some o at)
 first_at (p ∷ outputs) zero o at = ap (λ (z : ℕ × Bool). Some z.0) (same_Some p o at)
 first_at (p ∷ outputs) (suc i) o at = first_at outputs i o at

@@ -26,10 +26,21 @@ pub(crate) fn reached_nets(
     ensures reached { IfOk result (λ marks. (x : ℕ) → slice_index_or marks.items x false ≡ is_in (before_nets machine.now (first_question enables.now reg)) x) }
 {
     let mut marks = vec![in alloc; false; machine.nets() as usize]?;
-    mark_enables(enables, &mut marks);
-    mark_asked(machine, reg, &mut marks);
-    mark_cone(machine, &mut marks);
+    mark_reached(machine, enables, reg, &mut marks);
     Ok(marks)
+}
+
+/// Marks the nets that a claim of one cycle reaches, where nothing is marked before.
+fn mark_reached(machine: &Machine, enables: &[NetLit], reg: Option<RegId>, marks: &mut [bool])
+    requires nets { All (λ l. l.0 < length machine.now.circuit.names) enables.now }
+    requires register { (r : ℕ) → reg ≡ Some r → r < length machine.now.circuit.registers }
+    requires marks { length marks.old ≡ length machine.now.circuit.names }
+    requires none { (x : ℕ) → slice_index_or marks.old x false ≡ false }
+    ensures { (x : ℕ) → slice_index_or marks.new x false ≡ is_in (before_nets machine.now (first_question enables.now reg)) x }
+{
+    mark_enables(enables, marks);
+    mark_asked(machine, reg, marks);
+    mark_cone(machine, marks);
 }
 
 /// Marks the nets of these literals too.

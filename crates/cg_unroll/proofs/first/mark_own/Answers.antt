@@ -12,5 +12,5 @@ returns-in-Some c = λ r.
     let below : c.number.result < length marks = omega (arith, c.requires c.in-Some.reg c.in-Some.is, c.number.ensures.number) in
     mark_set marks c.number.result r below ∙ ap (λ b. slice_index_or marks r false || b) (ap (nat_eq r) c.number.ensures.number ∙ ap (λ o. is_own o r) (sym c.in-Some.is))
 
-pub returns-in-None : goal.returns-in-None
-returns-in-None c = λ r. sym (or_none (slice_index_or c.args.marks.now r false)) ∙ ap (λ o. slice_index_or c.args.marks.now r false || is_own o r) (sym c.in-None.is)
+pub returns-in_default : goal.returns-in_default
+returns-in_default c = λ r. sym (or_none (slice_index_or c.args.marks.now r false)) ∙ ap (λ o. slice_index_or c.args.marks.now r false || is_own o r) (sym c.in_default.not-Some)

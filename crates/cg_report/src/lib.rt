@@ -8,6 +8,7 @@
 #![tactic(auto)]
 
 pub mod edge_count;
+pub mod player;
 #[cfg(test)]
 mod tests;
 pub mod toggle_count;

@@ -1,5 +1,5 @@
 -- A player: a netlist on which the rows of a stimulus are played, at a place of its played history.
-use Rattle.std.specs.Prelude.{◌≡◌, ◌+◌, ℕ, Bool, true, false, List, [], ◌∷◌, ◌++◌, Option, None, Some}
+use Rattle.std.specs.Prelude.{◌≡◌, ℕ, Bool, true, false, List, [], ◌∷◌, ◌++◌, Option, Some}
 use Rattle.cg_netlist.specs.Circuit.{Circuit}
 use Rattle.cg_netlist.specs.History.{Moment, Tick, edges}
 use Rattle.cg_edge.specs.Shows.{Shows}

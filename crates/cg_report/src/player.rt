@@ -1,7 +1,8 @@
 //! Rows of a stimulus, played on a netlist.
 
-ghost use Rattle.std.specs.Prelude.{◌≡◌, ◌≤◌, ◌++◌, [], ℕ, List, Bool, true, false, Some, length, map, drop, ◌==◌, IfOk};
+ghost use Rattle.std.specs.Prelude.{◌≡◌, ◌≤◌, ◌++◌, [], ℕ, List, Bool, true, false, Some, length, drop, replicate, IfOk};
 ghost use Rattle.std.specs.List.{count_by};
+ghost use Rattle.cg_netlist.specs.Circuit.{data_inputs};
 ghost use Rattle.cg_netlist.specs.History.{Moment, Tick};
 ghost use Rattle.cg_netlist.specs.Netlist.{IsNetlist};
 ghost use Rattle.cg_edge.specs.Shows.{ShowsOn};
@@ -61,6 +62,7 @@ impl<'a> Model for Player<'a> {
 impl<'a> Player<'a> {
     /// A player before the first moment. The netlist's data inputs must begin with those for which the stimulus is; the others
     /// are 0. Registers start at their init, with 2 and 3 taken as 0.
+    #[tactic(auto, using(crate::proofs::PlayedOn::first_left))]
     pub fn new(
         alloc: Global,
         netlist: &'a Netlist,
@@ -74,12 +76,13 @@ impl<'a> Player<'a> {
     {
         let start = start_of(alloc, netlist)?;
         let simulator = Simulator::new(alloc, netlist, &start)?;
-        let width = netlist.data_inputs().len();
+        let inputs = zeros(alloc, netlist)?;
+        let _ = netlist.nets();
         let _ = stimulus.rows();
         Ok(Player {
             simulator,
             stimulus,
-            inputs: vec![in alloc; false; width]?,
+            inputs,
             row: 0,
             next: Next::Low,
             edges: 0,
@@ -138,10 +141,18 @@ fn start_of(alloc: Global, netlist: &Netlist) -> Result<Vec<bool>, AllocError>
     Ok(start)
 }
 
+/// A zero for each data input.
+fn zeros(alloc: Global, netlist: &Netlist) -> Result<Vec<bool>, AllocError>
+    ensures { IfOk result (λ bits. bits.items ≡ replicate (length (data_inputs netlist.now)) false) }
+{
+    vec![in alloc; false; netlist.data_inputs().len()]
+}
+
 /// Puts the bits of a row at the front of the inputs.
 fn set_row(inputs: &mut [bool], row: &[bool])
     requires { length row.now ≤ length inputs.old }
-    ensures { inputs.new ≡ row.now ++ drop (length row.now) inputs.old }
+    ensures filled { inputs.new ≡ row.now ++ drop (length row.now) inputs.old }
+    ensures long { length inputs.new ≡ length inputs.old }
 {
     inputs[..row.len()].copy_from_slice(row);
 }

@@ -4,7 +4,7 @@ ghost use Rattle.std.specs.Prelude.{◌≡◌, None, OnOk};
 
 use crate::builder::Builder;
 use crate::fault::{AddFault, NetFault};
-use crate::id::NetId;
+use crate::id::{CellId, NetId, RegId};
 use crate::netlist::Netlist;
 use cg_cell::cover::Cover;
 use cg_cell::name::Name;
@@ -245,5 +245,37 @@ fn one_register_more_than_65536_is_refused(rt: HostRuntime) -> Result<(), Fail> 
     let output = name(rt.alloc(), "p")?;
     let added = builder.register(None, &[input.bytes()], &[(output.bytes(), 0)], None, 2);
     assert!(rt; is_limit(added, Limit::Registers));
+    Ok(())
+}
+
+/// A cell y over the output of a cell n over an input, and a register of y. Both cells are 0. In net order the nets are
+/// a, clk, y, n, q.
+static WALKED: Sketch = Sketch {
+    inputs: &["a", "clk"],
+    outputs: &["q"],
+    covers: &[("n", "y"), ("a", "n")],
+    registers: &[("y", "q", "clk")],
+};
+
+#[test]
+fn a_netlist_is_walked_from_drivers_to_driven(rt: HostRuntime) -> Result<(), Fail> {
+    let Ok(netlist) = finished(rt.alloc(), &WALKED)? else {
+        return Err(Fail::new("a fault"));
+    };
+    assert!(rt; netlist.nets() == 5 && netlist.widest() == 1 && netlist.registers() == 1);
+    assert_eq!(rt;
+        netlist.order(),
+        [CellId::new(1), CellId::new(0)].as_slice()
+    );
+    let mut bits = [true, false, true, true, true];
+    let mut scratch = [true];
+    netlist.settle(&mut bits, &mut scratch);
+    assert_eq!(rt;
+        bits.as_slice(),
+        [true, false, false, false, true].as_slice()
+    );
+    assert!(rt; !netlist.next_value(RegId::new(0), true, &bits));
+    let gaters = netlist.gate_order(rt.alloc())?;
+    assert!(rt; gaters.is_empty());
     Ok(())
 }

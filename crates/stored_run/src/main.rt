@@ -10,6 +10,7 @@ use std::process::ExitCode;
 
 /// The file that is looked at, and the most bytes that it may have.
 const WRITTEN: &str = "out.blif";
+
 const MOST_BYTES: u64 = 65_536;
 
 fn main(rt: HostRuntime) -> ExitCode {
@@ -31,8 +32,6 @@ fn main(rt: HostRuntime) -> ExitCode {
 /// Says what stands in the file.
 fn show<S: Shelf>(alloc: Global, shelf: &mut S) -> Result<(), ()> {
     let mut text = Vec::new(alloc);
-    shelf
-        .load(WRITTEN, MOST_BYTES, &mut text)
-        .map_err(|_| ())?;
+    shelf.load(WRITTEN, MOST_BYTES, &mut text).map_err(|_| ())?;
     shelf.say(text.as_slice()).map_err(|_| ())
 }

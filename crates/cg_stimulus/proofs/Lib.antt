@@ -3,3 +3,4 @@ pub mod InputsNamed
 pub mod ReadingOn
 pub mod StimExact
 pub mod Playing
+pub mod CommentCut

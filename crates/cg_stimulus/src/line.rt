@@ -23,7 +23,7 @@ pub(crate) struct BareWords<'a> {
 
 impl<'a> Model for BareWords<'a> {
     ghost use Rattle.std.specs.Prelude.{List, ℕ};
-    ghost use Rattle.cg_stimulus.specs.Comments.{uncommented};
+    ghost use Rattle.cg_stimulus.specs.inner.BareLines.{uncommented};
 
     ghost Value = { List (List ℕ) };
 
@@ -79,7 +79,7 @@ pub(crate) struct BareLines<'a> {
 impl<'a> Model for BareLines<'a> {
     ghost use Rattle.std.specs.Prelude.{List};
     ghost use Rattle.cg_text.specs.declared.lines.Line.{Line};
-    ghost use Rattle.cg_stimulus.specs.Comments.{bare_lines};
+    ghost use Rattle.cg_stimulus.specs.inner.BareLines.{bare_lines};
 
     ghost Value = { List Line };
 
@@ -90,6 +90,7 @@ impl<'a> BareLines<'a> {
     ghost use Rattle.cg_stimulus.specs.Comments.{stimulus_lines};
 
     /// All lines of a text.
+    #[tactic(auto, using(crate::proofs::CommentCut::text_is))]
     pub(crate) fn new(text: &'a [u8]) -> Self
         ensures { result ≡ stimulus_lines text.entry.now }
     {

@@ -1,5 +1,5 @@
 use Rattle.std.proofs.Common.{◌≡◌, length}
-use Rattle.cg_stimulus.specs.Comments.{bare_lines}
+use Rattle.cg_stimulus.specs.inner.BareLines.{bare_lines}
 use Rattle.cg_stimulus.proofs.line.BareLines.next_line.Given as goal
 
 abbrev pub invariant-lines : goal.invariant-lines

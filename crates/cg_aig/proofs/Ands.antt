@@ -4,10 +4,9 @@ use Rattle.std.specs.Prelude.{Err, IfOk, Ok, OnErr, Result}
 use Rattle.cg_cell.specs.Domain.{Makes, Seen, Stands}
 use Rattle.cg_cell.proofs.Building.{and_made}
 use Rattle.cg_aig.specs.declared.fault.AigFault.{AigFault}
-use Rattle.cg_aig.specs.declared.fault.AigFault.TheVariants.{Limit, NoMemory}
 use Rattle.cg_aig.specs.Aig.{IsAig, are_pairs, aig_and, aig_ops, and_with, in_order, is_sound, leaf_bits, lit_bit, node_values, put, simple}
 use Rattle.cg_aig.specs.AigLaws.{aig_lawful, is_lit_of, lit_is}
-use Rattle.cg_aig.specs.Limits.{AndRefuses, NoRoom, Refuses}
+use Rattle.cg_aig.specs.Limits.{AndRefuses, PutRefuses}
 use Rattle.cg_aig.specs.Values.{lit_even, values_keep, length-leaf_bits}
 
 pub by_simple : (s : Seen) (a b v : ℕ) → simple a b ≡ Some v → Makes s (aig_and s a b) s v
@@ -37,9 +36,8 @@ put_sound s t a b p (Err fault) h k e f n m u =
     sym same ∙ (lit_is s a h).sound
 
 pub and_refused : (s : Seen) (a b : ℕ) (p : ℕ × ℕ) (fault : AigFault) → simple a b ≡ None → p ≡ in_order a b →
-    Refuses (NoRoom s p) fault → AndRefuses s a b fault
-and_refused s a b p NoMemory e f h = tt
-and_refused s a b p (Limit which) e f h = (h.0, record { needed = e; pair = subst (NoRoom s) f h.1 })
+    PutRefuses s p fault → AndRefuses s a b fault
+and_refused s a b p fault e f h = (e, subst (λ q. PutRefuses s q fault) f h)
 
 leaf_bits_at : (n k : ℕ) (bits : List Bool) → k < n → slice_index_or (leaf_bits n bits) k false ≡ slice_index_or bits k false
 leaf_bits_at zero k bits h = absurd (omega arith)

@@ -37,8 +37,8 @@ and_past : (s : Seen) (a b : ℕ) (which : Quantity) → AndRefuses s a b (Limit
 and_past s a b which h =
     let room = h.1 in
     let one : (aig_and s a b).pairs ≡ s.pairs ++ in_order a b ∷ [] =
-    ap (λ o. (and_with o s (in_order a b)).pairs) room.needed ∙ ap (λ o. (put_at o s (in_order a b)).pairs) room.pair.absent in
-    omega (arith, ap length one, length-append s.pairs (in_order a b ∷ []), room.pair.full)
+    ap (λ o. (and_with o s (in_order a b)).pairs) h.0 ∙ ap (λ o. (put_at o s (in_order a b)).pairs) room.0 in
+    omega (arith, ap length one, length-append s.pairs (in_order a b ∷ []), room.1)
 
 -- a front part is no longer
 no_longer : (old new : List (ℕ × ℕ)) → Extends old new → length old ≤ length new

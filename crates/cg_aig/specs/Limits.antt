@@ -7,24 +7,18 @@ use Rattle.cg_aig.specs.declared.fault.AigFault.{AigFault}
 use Rattle.cg_aig.specs.declared.fault.AigFault.TheVariants.{Limit, NoMemory}
 use Rattle.cg_aig.specs.Aig.{in_order, same_pair, simple}
 
--- Want of memory is always allowed; the limit where it is that of the nodes of a claim, and the fact holds.
-abbrev pub Refuses : Type 0 → AigFault → Type 0
-Refuses Past NoMemory = Unit {0}
-Refuses Past (Limit which) = (which ≡ ClaimNodes) × Past
+-- A node must be appended for this pair, since none has it.
+abbrev pub IsNew : Seen → ℕ × ℕ → Type 0
+IsNew s p = position (same_pair p) s.pairs ≡ None
 
--- A node must be appended for this pair, and there is no room for it.
-pub record NoRoom (s : Seen) (p : ℕ × ℕ) : Type 0 where
-  pub absent : position (same_pair p) s.pairs ≡ None
-  pub full : MOST_CLAIM_NODES ≤ s.number + length s.pairs
+-- Why the node of a pair may be refused: only where it must be appended, at the limit for want of room and below it for want of memory.
+abbrev pub PutRefuses : Seen → ℕ × ℕ → AigFault → Type 0
+PutRefuses s p NoMemory = IsNew s p × (s.number + length s.pairs < MOST_CLAIM_NODES)
+PutRefuses s p (Limit which) = IsNew s p × (MOST_CLAIM_NODES ≤ s.number + length s.pairs) × (which ≡ ClaimNodes)
 
--- An `and` needs a node that must be appended, and there is no room for it.
-pub record NoRoomForAnd (s : Seen) (a b : ℕ) : Type 0 where
-  pub needed : simple a b ≡ None
-  pub pair : NoRoom s (in_order a b)
-
--- The faults that an `and` may answer.
+-- The faults that an `and` may answer: none where an operand or a constant is the answer, and else those of its pair.
 abbrev pub AndRefuses : Seen → ℕ → ℕ → AigFault → Type 0
-AndRefuses s a b fault = Refuses (NoRoomForAnd s a b) fault
+AndRefuses s a b fault = (simple a b ≡ None) × PutRefuses s (in_order a b) fault
 
 -- The fault of a list that would begin with too many leaves.
 pub record IsPastLimit (leaves : ℕ) (fault : AigFault) : Type 0 where

@@ -5,7 +5,7 @@ ghost use Rattle.cg_cell.specs.Build.{Evaluates, Stops, build_mux, build_or, bui
 ghost use Rattle.cg_cell.specs.Domain.{Keeps, Makes, Stands};
 ghost use Rattle.cg_cell.specs.Gates.{differ};
 ghost use Rattle.cg_aig.specs.Aig.{IsAig, aig_and, aig_ops, constant_lit, in_order, nodes, put, simple};
-ghost use Rattle.cg_aig.specs.Limits.{AndRefuses, IsPastLimit, NoRoom, Refuses};
+ghost use Rattle.cg_aig.specs.Limits.{AndRefuses, IsPastLimit, PutRefuses};
 
 use crate::fault::AigFault;
 use crate::lit::AigLit;
@@ -144,7 +144,7 @@ impl Aig {
     /// operand where the other is the constant 1 or is the same, the node that has this pair of operands, or
     /// a new node.
     ///
-    /// It is refused for want of memory, or where a node must be added beyond the limit.
+    /// It is refused only where a node must be added: beyond the limit, or for want of memory.
     pub fn and(&mut self, a: AigLit, b: AigLit) -> Result<AigLit, AigFault>
         requires left { IsTrue (aig_ops.is_valid self.old a) }
         requires right { IsTrue (aig_ops.is_valid self.old b) }
@@ -288,7 +288,7 @@ fn put_pair(
     ensures made { IfOk result (λ v. Makes (record { number = leaves; pairs = pairs.old.keys })
         (put (record { number = leaves; pairs = pairs.old.keys }) pair)
         (record { number = leaves; pairs = pairs.new.keys }) v) }
-    ensures refused { IfErr result (λ fault. Refuses (NoRoom (record { number = leaves; pairs = pairs.old.keys }) pair) fault) }
+    ensures refused { IfErr result (λ fault. PutRefuses (record { number = leaves; pairs = pairs.old.keys }) pair fault) }
     ensures unchanged { OnErr result (pairs.new.keys ≡ pairs.old.keys) }
     ensures small { leaves + length pairs.new.keys ≤ MOST_CLAIM_NODES }
 {

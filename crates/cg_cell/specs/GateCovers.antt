@@ -1,5 +1,5 @@
 -- The covers of single gates, as a netlist's text gives them: an inverter, an and and an or.
-use Rattle.std.specs.Prelude.{Bool, true, false, List, [], ◌∷◌, Some, None}
+use Rattle.std.specs.Prelude.{true, false, [], ◌∷◌, Some, None}
 use Rattle.cg_cell.specs.Cover.{CoverData}
 
 abbrev pub inverter_cover : CoverData

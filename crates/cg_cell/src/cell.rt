@@ -4,12 +4,14 @@ ghost use Rattle.std.specs.Prelude.{◌≡◌, IfOk, IfSome, IsTrue, count_by};
 ghost use Rattle.std.specs.Option.{option_copied, option_map};
 ghost use Rattle.cg_cell.specs.Expr.{is_over, term_of};
 ghost use Rattle.cg_cell.specs.Cell.{IsCell, has_test, variables_of};
+ghost use Rattle.cg_cell.specs.CellParts.{held, seen};
 ghost use Rattle.cg_cell.specs.Pins.{is_clock, is_data, is_enable, is_output, is_state, is_test};
 
 use crate::expr::Expr;
 use crate::name::Name;
 use std::alloc::{AllocError, Global};
 use std::marker::Model;
+use std::rc::Rc;
 
 /// What a cell is used as.
 #[derive(Clone, Copy, Debug, PartialEq, Eq)]
@@ -150,43 +152,99 @@ impl Pin {
 /// one Output; a Flop has Data pins, one Clock and at least one State or StateBar; a Gater has one
 /// Clock, one Enable, one Output and at most one Test; an Unusable cell has no pins. There are at most
 /// 16 pins, of different names without the byte `=`.
+///
+/// A clone of a cell that a library has taken shares what the cell is made of.
 #[derive(Debug, Drop)]
 pub struct CellType {
-    name: Name,
-    kind: CellKind,
-    pins: Vec<Pin>,
-    function: Option<Expr>,
+    parts: Holder,
 }
 
 impl Model for CellType {
     ghost use Rattle.std.specs.Coded.{codes};
-    ghost use Rattle.std.specs.Option.{option_map};
     ghost use Rattle.cg_cell.specs.Cell.{CellData, IsCell};
-    ghost use Rattle.cg_cell.specs.Expr.{term_of};
+    ghost use Rattle.cg_cell.specs.CellParts.{held};
     ghost use Rattle.cg_cell.specs.TermCode.{term_code};
 
     ghost Value = { CellData };
 
     ghost coded = { Prim.hlevel (codes, term_code) };
 
-    ghost view = { λ c. record { name = c.name; kind = c.kind; pins = c.pins.items; function = option_map term_of c.function } };
+    ghost view = { λ c. held c.parts };
 
-    ghost invariant = { λ c. IsCell (record { name = c.name; kind = c.kind; pins = c.pins.items; function = option_map term_of c.function }) };
+    ghost invariant = { λ c. IsCell (held c.parts) };
+}
+
+/// What a cell is made of.
+#[derive(Debug, Drop)]
+struct Parts {
+    name: Name,
+    kind: CellKind,
+    pins: Vec<Pin>,
+    function: Option<Expr>,
+}
+
+/// Where the parts of a cell are: with the cell alone, or with all clones of a cell of a library.
+#[derive(Debug, Drop)]
+enum Holder {
+    Own(Parts),
+    Shared(Rc<Parts>),
+}
+
+impl Holder {
+    /// The parts.
+    fn get(&self) -> &Parts
+        ensures { seen result.now ≡ held self.now }
+    {
+        match self {
+            Holder::Own(parts) => parts,
+            Holder::Shared(parts) => parts.as_ref(),
+        }
+    }
+
+    /// The same parts, held once more.
+    fn again(&self) -> Result<Holder, AllocError>
+        ensures { IfOk result (λ again. held again ≡ held self.now) }
+    {
+        match self {
+            Holder::Own(parts) => Ok(Holder::Own(parts.again()?)),
+            Holder::Shared(parts) => Ok(Holder::Shared(parts.clone()?)),
+        }
+    }
+
+    /// The parts, to be shared from now on.
+    fn shared(self, alloc: Global) -> Result<Holder, AllocError>
+        ensures { IfOk result (λ shared. held shared ≡ held self) }
+    {
+        match self {
+            Holder::Own(parts) => Ok(Holder::Shared(Rc::new(alloc, parts)?)),
+            shared => Ok(shared),
+        }
+    }
+}
+
+impl Parts {
+    /// A copy of the parts.
+    fn again(&self) -> Result<Parts, AllocError>
+        ensures { IfOk result (λ copy. seen copy ≡ seen self.now) }
+    {
+        let name = self.name.clone()?;
+        let pins = clone_pins(&self.pins, *self.pins.allocator())?;
+        let function = clone_function(&self.function)?;
+        Ok(Parts {
+            name,
+            kind: self.kind,
+            pins,
+            function,
+        })
+    }
 }
 
 impl Clone for CellType {
     ghost is_clone = { λ x y. y ≡ x };
 
     fn clone(&self) -> Result<CellType, AllocError> {
-        let name = self.name.clone()?;
-        let pins = clone_pins(&self.pins, *self.pins.allocator())?;
-        let function = clone_function(&self.function)?;
-        Ok(CellType {
-            name,
-            kind: self.kind,
-            pins,
-            function,
-        })
+        let parts = self.parts.again()?;
+        Ok(CellType { parts })
     }
 }
 
@@ -219,11 +277,21 @@ impl CellType {
         ensures { result ≡ record { name = name; kind = kind; pins = pins.items; function = option_map term_of function } }
     {
         CellType {
-            name,
-            kind,
-            pins,
-            function,
+            parts: Holder::Own(Parts {
+                name,
+                kind,
+                pins,
+                function,
+            }),
         }
+    }
+
+    /// The same cell. From now on its clones share what it is made of.
+    pub(crate) fn shared(self, alloc: Global) -> Result<CellType, AllocError>
+        ensures { IfOk result (λ cell. cell ≡ self) }
+    {
+        let parts = self.parts.shared(alloc)?;
+        Ok(CellType { parts })
     }
 
     /// The name of the cell.
@@ -231,14 +299,14 @@ impl CellType {
         ensures name { result.now ≡ self.now.name }
         ensures cell { IsCell self.now }
     {
-        &self.name
+        &self.parts.get().name
     }
 
     /// What the cell is used as.
     pub fn kind(&self) -> CellKind
         ensures { result ≡ self.now.kind }
     {
-        self.kind
+        self.parts.get().kind
     }
 
     /// The pins in the order of the library's text.
@@ -246,21 +314,26 @@ impl CellType {
         ensures pins { result.now ≡ self.now.pins }
         ensures cell { IsCell self.now }
     {
-        &self.pins
+        &self.parts.get().pins
     }
 
     /// Whether the cell has a test input.
     pub fn has_test(&self) -> bool
         ensures { result ≡ has_test self.now }
     {
-        self.pins.iter().any(|pin| pin.is_test())
+        self.parts.get().pins.iter().any(|pin| pin.is_test())
     }
 
     /// The number of Data pins: the inputs of the function.
     pub fn inputs(&self) -> usize
         ensures { result ≡ count_by is_data self.now.pins }
     {
-        self.pins.iter().filter(|pin| pin.is_data()).count()
+        self.parts
+            .get()
+            .pins
+            .iter()
+            .filter(|pin| pin.is_data())
+            .count()
     }
 
     /// The function of a Logic cell over its Data pins in pin order, that of a Flop over its Data pins
@@ -270,6 +343,6 @@ impl CellType {
         ensures over { IfSome result (λ function. IsTrue (is_over (variables_of self.now) function.now)) }
         ensures cell { IsCell self.now }
     {
-        self.function.as_ref()
+        self.parts.get().function.as_ref()
     }
 }

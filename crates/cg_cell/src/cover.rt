@@ -1,9 +1,10 @@
 //! Covers: functions as rows of given bits, as `.names` lines of BLIF write them.
 
-ghost use Rattle.std.specs.Prelude.{◌≡◌, List, [], Option, Bool, true, length};
+ghost use Rattle.std.specs.Prelude.{◌≡◌, List, [], Option, Bool, true, length, IfOk};
 ghost use Rattle.cg_cell.specs.Cover.{CoverData, Fits, HaveOneLength, IsCover, agrees, cover_value, row_matches};
 ghost use Rattle.std.specs.List.{AllByRecursion, list_any};
 
+use std::alloc::{AllocError, Global};
 use std::marker::Model;
 
 /// One row of a cover: a given bit for each input, or `None` where the row leaves the input open.
@@ -18,6 +19,15 @@ impl Model for CoverRow {
     ghost Value = { List (Option Bool) };
 
     ghost view = { λ row. row.bits.items };
+}
+
+impl Clone for CoverRow {
+    ghost is_clone = { λ x y. y ≡ x };
+
+    fn clone(&self) -> Result<CoverRow, AllocError> {
+        let bits = Vec::from_slice(*self.bits.allocator(), &self.bits)?;
+        Ok(CoverRow { bits })
+    }
 }
 
 impl CoverRow {
@@ -62,6 +72,27 @@ impl Model for Cover {
     ghost view = { λ cover. record { rows = cover.rows.items; on = cover.on } };
 
     ghost invariant = { λ cover. IsCover (record { rows = cover.rows.items; on = cover.on }) };
+}
+
+impl Clone for Cover {
+    ghost is_clone = { λ x y. y ≡ x };
+
+    fn clone(&self) -> Result<Cover, AllocError> {
+        let rows = clone_rows(&self.rows, *self.rows.allocator())?;
+        Ok(Cover { rows, on: self.on })
+    }
+}
+
+/// Clones of the rows, in their order.
+fn clone_rows(rows: &[CoverRow], alloc: Global) -> Result<Vec<CoverRow>, AllocError>
+    ensures { IfOk result (λ copies. copies.items ≡ rows.now) }
+{
+    let mut copies = Vec::with_capacity(alloc, rows.len())?;
+    'rows: for row in rows {
+        let copy = row.clone()?;
+        copies.push(copy)?;
+    }
+    Ok(copies)
 }
 
 impl Cover {

@@ -10,9 +10,6 @@
 //! - [`cover`]: a function as rows of given bits;
 //! - [`expr`]: a function as an expression over numbered variables;
 //! - [`lone`]: expressions that are one variable;
-//! - `tokens`, `pending`, `join`: the words and signs of an expression's text, what waits for an operand
-//!   that comes, and operators on expressions;
-//! - [`fault`], [`reading`]: reading that text, and its first fault from the left;
 //! - [`cell`]: cells of a library, with their kind, their pins and their function;
 //! - [`fit`]: which cells clock gating can use, and as what;
 //! - [`library`]: the cells of a library, by number, by name and by need;
@@ -30,14 +27,9 @@ pub mod eval;
 pub mod eval_bits;
 pub mod eval_cover;
 pub mod expr;
-pub mod fault;
 pub mod fit;
-mod join;
 pub mod library;
 pub mod lone;
 pub mod name;
-mod pending;
-pub mod reading;
 #[cfg(test)]
 mod tests;
-mod tokens;

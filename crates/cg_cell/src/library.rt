@@ -5,7 +5,7 @@ ghost use Rattle.std.specs.List.{AllByRecursion};
 ghost use Rattle.cg_cell.specs.Cell.{IsCell};
 ghost use Rattle.cg_cell.specs.Fit.{is_fit};
 ghost use Rattle.cg_cell.specs.Added.{Answers, add_fault};
-ghost use Rattle.cg_cell.specs.Library.{AreNamed, find_cell, first_fit, noted};
+ghost use Rattle.cg_cell.specs.Library.{AreNamed, IsFound, find_cell, first_fit, noted};
 ghost use Rattle.indexmap.specs.IndexMap.{values};
 
 use crate::cell::CellType;
@@ -120,11 +120,12 @@ impl Library {
         }
     }
 
-    /// The number of cells.
+    /// The number of cells. Each of them is the one that stands under its name.
     pub fn len(&self) -> u32
         ensures len { result ≡ length self.now }
         ensures few { result ≤ MOST_LIBRARY_CELLS }
         ensures cells { AllByRecursion IsCell self.now }
+        ensures found { AllByRecursion (IsFound self.now) self.now }
     {
         self.cells.len() as u32
     }
@@ -195,7 +196,7 @@ fn note(first: Option<LibId>, id: LibId, fits: bool) -> Option<LibId>
     }
 }
 
-/// Puts a cell under its name, where no cell stands.
+/// Puts a cell under its name, where no cell stands. From then on its clones share what it is made of.
 fn push(cells: &mut IndexMap<Vec<u8>, CellType>, cell: CellType) -> Result<(), AllocError>
     requires named { AreNamed (λ k. k.items) cells.old.entries }
     requires absent { find_cell cell.name (values cells.old) ≡ None }
@@ -203,7 +204,9 @@ fn push(cells: &mut IndexMap<Vec<u8>, CellType>, cell: CellType) -> Result<(), A
     ensures added { OnOk result (values cells.new ≡ values cells.old ++ cell ∷ []) }
     ensures unchanged { OnErr result (cells.new.entries ≡ cells.old.entries) }
 {
-    let key = Vec::from_slice(*cells.allocator(), cell.name().bytes())?;
+    let alloc = *cells.allocator();
+    let key = Vec::from_slice(alloc, cell.name().bytes())?;
+    let cell = cell.shared(alloc)?;
     cells.insert(key, cell)?;
     Ok(())
 }

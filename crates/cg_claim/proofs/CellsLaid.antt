@@ -1,7 +1,7 @@
 -- Logic cells and the joined enable, as they are built: their values stand for the bits of the machine's cycle.
 use Rattle.std.proofs.Common.{◌≡◌, ℕ, zero, suc, Bool, true, false, not, ◌||◌, cond, if◌then◌else◌, List, [], ◌∷◌, ◌++◌, map, length, IsTrue, nat_eq, slice_get, slice_index_or, Some, refl, sym, ◌∙◌, ap}
 use Rattle.std.specs.List.{filter}
-use Rattle.std.proofs.lemmas.Bool.{both_ways, eqb-true, eq-eqb, or_left, or_right}
+use Rattle.std.proofs.lemmas.Bool.{both_ways, eqb-true, eq-eqb}
 use Rattle.cg_cell.specs.Domain.{AreValid, IsLawful, Keeps, Ops, Seen}
 use Rattle.cg_cell.specs.Build.{Run, build_or, plain}
 use Rattle.cg_cell.specs.Eval.{bits_at}
@@ -11,7 +11,9 @@ use Rattle.cg_cell.proofs.Building.{keeps_self, keeps_then}
 use Rattle.cg_netlist.specs.Circuit.{LogicCell, is_in}
 use Rattle.cg_machine.specs.Claims.{Literal, literal_bit}
 use Rattle.cg_netlist.specs.Nets.{IsOrdered, outputs}
+use Rattle.cg_netlist.proofs.Cones.{AreClosed}
 use Rattle.cg_netlist.proofs.NetsOf.{or_none, other_eqb}
+use Rattle.cg_netlist.proofs.RisingPlaces.{in_head, in_tail}
 use Rattle.cg_claim.specs.Build.{Table, Values, cell_run, enable_run, function_term, join_run, lay, literal_of, put, put_run}
 use Rattle.cg_cell.proofs.Runs.{Gives, Has, IsZero, gives_as, gives_or, gives_plain, gives_term, gives_then, has_later}
 
@@ -34,16 +36,6 @@ pub record IsFit (d : Values) (bits : List Bool) : Type 0 where
 -- a cell's output is its term's value
 abbrev pub AreTerms : List (LogicCell ℕ) → (ℕ → Bool) → Type 0
 AreTerms cells value = (k : ℕ) (cell : LogicCell ℕ) → slice_get cells k ≡ Some cell → value cell.output ≡ term_value (map value cell.inputs) (function_term cell.function)
-
--- with the output of a cell its inputs pass the test
-abbrev pub AreClosed : List (LogicCell ℕ) → (ℕ → Bool) → Type 0
-AreClosed cells test = (k : ℕ) (cell : LogicCell ℕ) → slice_get cells k ≡ Some cell → test cell.output ≡ true → (x : ℕ) → is_in cell.inputs x ≡ true → test x ≡ true
-
-pub in_head : (x : ℕ) (xs : List ℕ) → is_in (x ∷ xs) x ≡ true
-in_head x xs = or_left (nat_eq x x) (is_in xs x) (eq-eqb x x refl)
-
-pub in_tail : (x y : ℕ) (xs : List ℕ) → is_in xs x ≡ true → is_in (y ∷ xs) x ≡ true
-in_tail x y xs among = or_right (nat_eq x y) (is_in xs x) among
 
 pub holds_later : (o : Ops) (bits : List Bool) (test value : ℕ → Bool) (s t : Seen) (at : ℕ → ℕ) → Keeps o s t → Holds o bits test value s at → Holds o bits test value t at
 holds_later o bits test value s t at k h = record { valid = λ x. k.valid (at x) (h.valid x); same = λ x passes. k.bits (at x) bits (h.valid x) ∙ h.same x passes }

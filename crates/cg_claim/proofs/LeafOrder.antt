@@ -20,9 +20,8 @@ use Rattle.cg_claim.specs.Build.{Values, leaf_value}
 use Rattle.cg_claim.specs.Leaves.{Leaf, is_reached, leaf_place, leaves_at, leaves_of, same_leaf, same_source, sources}
 use Rattle.cg_claim.specs.Question.{After, Before, Changed, Copy, Question}
 use Rattle.cg_claim.specs.Reach.{registers_of, same_copy}
-use Rattle.cg_claim.proofs.CellsLaid.{in_head}
+use Rattle.cg_netlist.proofs.RisingPlaces.{Rises, in_head, places_filter}
 use Rattle.cg_claim.proofs.LeavesFound.{and_parts, copy_is, leaf_is, source_is, source_self}
-use Rattle.cg_claim.proofs.Places.{Rises, places_filter}
 use Rattle.cg_claim.proofs.Reached.{both_true, same_copy_self}
 
 -- the leaf of a source in a copy

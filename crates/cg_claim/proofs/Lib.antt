@@ -3,8 +3,6 @@ pub mod Apart
 pub mod CellsLaid
 pub mod ClaimsHold
 pub mod ClaimsSaid
-pub mod ClosedCones
-pub mod ConesReach
 pub mod DriversTell
 pub mod GivenNets
 pub mod Goal
@@ -14,7 +12,6 @@ pub mod LeafOrder
 pub mod LeavesFound
 pub mod NextBits
 pub mod OneCopy
-pub mod Places
 pub mod Reached
 pub mod ReachedOnly
 pub mod RowOne

@@ -23,7 +23,8 @@ use Rattle.cg_claim.specs.Question.{Part, Net, Next, State, Enable, Question}
 use Rattle.cg_claim.specs.Reach.{next_asks_own, next_nets, origin_asks, origin_nets, part_asks, part_nets, reads_own, register_term}
 use Rattle.cg_claim.specs.Violates.{part_bit}
 use Rattle.cg_cell.proofs.Runs.{Gives, Has, gives_as, gives_mux, gives_plain, gives_term, gives_then, has_later}
-use Rattle.cg_claim.proofs.CellsLaid.{IsFit, Laid, bits_map, enable_gives, in_head, in_tail, own_free, put_same, put_valid, sound_of}
+use Rattle.cg_claim.proofs.CellsLaid.{IsFit, Laid, bits_map, enable_gives, own_free, put_same, put_valid, sound_of}
+use Rattle.cg_netlist.proofs.RisingPlaces.{in_head, in_tail}
 
 pub option_term : (bs : List Bool) (f : Option Term) → option_map_or (term_value bs) f false ≡ term_value bs (option_map_or (λ t. t) f (Bit false))
 option_term bs None = refl

@@ -10,7 +10,8 @@ use Rattle.cg_machine.specs.Machine.{MachineData, walk_of}
 use Rattle.cg_claim.specs.Build.{Values, after_state_table, after_table, before_table, changed_state, changed_table, copies, lay, lay_states, leaf_value, reached_cells, start_nets}
 use Rattle.cg_claim.specs.Leaves.{Leaf, is_reached, leaves_at, leaves_of, sources}
 use Rattle.cg_claim.specs.Question.{Before, After, Changed, Question, hold_question, idle_question}
-use Rattle.cg_claim.specs.Reach.{after_nets, after_states, changed_nets, changed_states, cone_of, feeds, registers_of}
+use Rattle.cg_claim.specs.Reach.{after_nets, after_states, changed_nets, changed_states, feeds, registers_of}
+use Rattle.cg_netlist.specs.Cone.{cone_of}
 use Rattle.cg_claim.specs.declared.leaf.LeafSource.{LeafSource}
 use Rattle.cg_claim.specs.declared.leaf.LeafSource.TheVariants.{Input as InputOf, Register as RegisterOf}
 

@@ -10,12 +10,12 @@ use Rattle.cg_machine.specs.Claims.{CanIdle, Hold, Literal, Stable, Target, Unse
 use Rattle.cg_machine.specs.Gates.{AddedGate, HasInputs, gate_cell}
 use Rattle.cg_machine.specs.Machine.{IsMachine, MachineData, values, walk_of}
 use Rattle.cg_claim.specs.Build.{Table, aig_values, cell_run, claim_run}
-use Rattle.cg_claim.specs.Cone.{IsInCone}
+use Rattle.cg_netlist.specs.Cone.{IsInCone, cone_of}
 use Rattle.cg_claim.specs.declared.name.ClaimName.{ClaimName}
 use Rattle.cg_claim.specs.LeafBits.{free_of, is_never, violates_at}
 use Rattle.cg_claim.specs.Leaves.{leaves_of, width_of}
 use Rattle.cg_claim.specs.Question.{Question, held_question, hold_question, idle_question, stable_question, target_part, unseen_question}
-use Rattle.cg_claim.specs.Reach.{cone_of, inputs_of_register}
+use Rattle.cg_claim.specs.Reach.{inputs_of_register}
 use Rattle.cg_claim.specs.Targets.{IsTarget, meets, unseen_targets}
 use Rattle.cg_claim.specs.Violates.{PartFits, SidesFit}
 

@@ -1,5 +1,4 @@
 pub mod Build
-pub mod Cone
 pub mod Laws
 pub mod LeafBits
 pub mod Leaves

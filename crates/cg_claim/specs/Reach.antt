@@ -4,7 +4,8 @@ use Rattle.std.specs.Prelude.{ℕ, Bool, true, false, not, ◌&&◌, ◌||◌, i
 use Rattle.std.specs.List.{filter, flat_map, list_any, range_with_len}
 use Rattle.std.specs.Option.{option_map_or, option_to_list}
 use Rattle.cg_cell.specs.Term.{Term, Bit, Input, has_input}
-use Rattle.cg_netlist.specs.Circuit.{LogicCell, RegisterCell, is_in, shown_nets}
+use Rattle.cg_netlist.specs.Circuit.{RegisterCell, is_in}
+use Rattle.cg_netlist.specs.Cone.{cone_of, register_feeds}
 use Rattle.cg_netlist.specs.declared.parts.RegisterKind.{RegisterKind}
 use Rattle.cg_netlist.specs.declared.parts.RegisterKind.TheVariants.{Plain, Flop}
 use Rattle.cg_machine.specs.Machine.{MachineData, enable_of, walk_of}
@@ -14,12 +15,6 @@ use Rattle.cg_claim.specs.Question.{Copy, Before, After, Changed, Part, Net, Nex
 abbrev pub register_term : RegisterKind → Term
 register_term Plain = Input 0
 register_term (Flop cell) = option_map_or (λ t. t) cell.function (Bit false)
-
--- the nets of a cone: the roots, and with the output of a cell its inputs. The cells stand in walk order, and the last
--- are looked at first.
-abbrev pub cone_of : List (LogicCell ℕ) → List ℕ → List ℕ
-cone_of [] nets = nets
-cone_of (cell ∷ cells) nets = let later = cone_of cells nets in if is_in later cell.output then later ++ cell.inputs else later
 
 -- the input nets of a register
 abbrev pub inputs_of_register : MachineData → ℕ → List ℕ
@@ -80,7 +75,7 @@ enable_nets q = map (λ l. l.0) q.enables
 
 -- whether a register shows its bit at one of these nets
 abbrev pub feeds : MachineData → List ℕ → ℕ → Bool
-feeds m nets r = option_map_or (λ cell. list_any (is_in nets) (shown_nets cell)) (slice_get m.circuit.registers r) false
+feeds m nets r = register_feeds m.circuit nets r
 
 -- the numbers of all registers
 abbrev pub registers_of : MachineData → List ℕ

@@ -123,7 +123,8 @@ impl<'a> Simulator<'a> {
     /// The present bits of all nets. There must have been a tick.
     pub fn nets(&self) -> &[bool]
         requires { IsSome self.now.present }
-        ensures { option_map (λ now. now.nets) self.now.present ≡ Some result.now }
+        ensures bits { option_map (λ now. now.nets) self.now.present ≡ Some result.now }
+        ensures long { length result.now ≡ length self.now.circuit.names }
     {
         &self.nets
     }
@@ -165,7 +166,8 @@ impl<'a> Simulator<'a> {
 
     /// For each register whether it rose at the present moment.
     pub fn rises(&self) -> &[bool]
-        ensures { result.now ≡ self.now.rose }
+        ensures rose { result.now ≡ self.now.rose }
+        ensures long { length result.now ≡ length self.now.circuit.registers }
     {
         &self.rose
     }

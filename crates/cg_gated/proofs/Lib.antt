@@ -1,2 +1,4 @@
 pub mod Planned
 pub mod SameOutputs
+pub mod NetlistKept
+pub mod Behaving

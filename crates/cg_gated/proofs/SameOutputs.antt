@@ -26,17 +26,17 @@ module _ (by : Gating) (c : Circuit) (can : CanGate by c) where
   abbrev n : MachineData
   n = planned by c
 
-  good : IsMachine (planned by c)
+  pub good : IsMachine (planned by c)
   good = (can_insert by c can).0
 
-  inserts : CanInsert by.library by.test (planned by c)
+  pub inserts : CanInsert by.library by.test (planned by c)
   inserts = (can_insert by c can).1
 
-  whole : Same (machine_of c by.prefix) (planned by c)
+  pub whole : Same (machine_of c by.prefix) (planned by c)
   whole = (plans_safe by.library by.settings by.idle (machine_of c by.prefix) (start_is_machine c by.prefix can.start)).1
 
   -- each moment has a bit for each data input of the plan's machine, and that of the test input behind them
-  counts : length (data_inputs (gated_by by c)) ≡ length (data_inputs (planned by c).circuit) + length (option_to_list (test_net (planned by c) by.test))
+  pub counts : length (data_inputs (gated_by by c)) ≡ length (data_inputs (planned by c).circuit) + length (option_to_list (test_net (planned by c) by.test))
   counts =
       let g : Circuit = gated by.library by.test n in
       ap length (data_ordered g (gated_formed by.library by.test n good inserts) (inputs_once by.library by.test n good inserts))
@@ -44,22 +44,22 @@ module _ (by : Gating) (c : Circuit) (can : CanGate by c) where
       ∙ (ap length (data_is by.library by.test n good inserts)
       ∙ length-append (data_inputs n.circuit) (option_to_list (test_net n by.test))))
 
-  own_ticks : (wave : List Tick) → AreTicks (gated_by by c) wave → AreTicks c (own_wave (planned by c) wave)
+  pub own_ticks : (wave : List Tick) → AreTicks (gated_by by c) wave → AreTicks c (own_wave (planned by c) wave)
   own_ticks [] ticks = tt
   own_ticks (tick ∷ wave) ticks = (
     length-take-le (length (data_inputs n.circuit)) tick.inputs (omega (arith, ticks.0, counts)) ∙ ap length whole.inputs,
     own_ticks wave ticks.1,
   )
 
-  own_low : (wave : List Tick) → BeginsLow wave → BeginsLow (own_wave (planned by c) wave)
+  pub own_low : (wave : List Tick) → BeginsLow wave → BeginsLow (own_wave (planned by c) wave)
   own_low [] low = tt
   own_low (tick ∷ wave) low = low
 
-  machine_ticks : by.test ≡ None → (wave : List Tick) → AreTicks (gated_by by c) wave → AreTicks (planned by c).circuit wave
+  pub machine_ticks : by.test ≡ None → (wave : List Tick) → AreTicks (gated_by by c) wave → AreTicks (planned by c).circuit wave
   machine_ticks none [] ticks = tt
   machine_ticks none (tick ∷ wave) ticks = (omega (arith, ticks.0, counts, ap (λ t. length (option_to_list (test_net n t))) none), machine_ticks none wave ticks.1)
 
-  back : (wave : List Tick) → ticks_of (map (λ (k : Tick). (k, false)) wave) ≡ wave
+  pub back : (wave : List Tick) → ticks_of (map (λ (k : Tick). (k, false)) wave) ≡ wave
   back [] = refl
   back (tick ∷ wave) = ap (λ l. tick ∷ l) (back wave)
 

@@ -1,12 +1,14 @@
 -- The gated netlist of a netlist: its machine is planned, and written with a gating cell for each enable.
-use Rattle.std.specs.Prelude.{◌≡◌, ◌≢◌, IsTrue, ℕ, List, ◌++◌, map, Option, Some, is_some}
+use Rattle.std.specs.Prelude.{◌≡◌, ◌≢◌, IsTrue, ℕ, ◌+◌, Bool, List, ◌++◌, length, map, Option, None, Some, is_some}
 use Rattle.std.specs.List.{All}
 use Rattle.std.specs.Option.{option_to_list}
 use Rattle.cg_cell.specs.Cell.{CellData, IsCell}
 use Rattle.cg_cell.specs.Name.{is_name}
-use Rattle.cg_netlist.specs.Circuit.{Circuit}
-use Rattle.cg_netlist.specs.History.{Tick}
+use Rattle.cg_netlist.specs.Circuit.{Circuit, data_inputs}
+use Rattle.cg_netlist.specs.History.{HasHistory, HasOneHistory, IsLawful, IsStart, IsWaveform, Moment, Tick, outputs_of}
+use Rattle.cg_netlist.specs.said.Wiring.{net_name}
 use Rattle.cg_machine.specs.Machine.{MachineData}
+use Rattle.cg_machine.specs.Run.{ones}
 use Rattle.cg_machine.specs.Start.{CanStart, machine_of}
 use Rattle.cg_insert.specs.Insert.{gate_names, inserted, own_tick}
 use Rattle.cg_lists.specs.Literals.{IdleData}
@@ -42,3 +44,20 @@ pub record CanGate (by : Gating) (c : Circuit) : Type 0 where
   pub tested : by.settings.test ≡ is_some by.test
   pub named : All (λ name. IsTrue (is_name name)) (option_to_list by.test)
   pub new : (name : List ℕ) → by.test ≡ Some name → All (λ other. other ≢ name) ((planned by c).circuit.names ++ gate_names (planned by c))
+
+-- The gated netlist behaves as the netlist. It has the registers of that one and the delay registers, which start with 1; the data inputs
+-- of that one and, behind them, a test input where there is to be one; and outputs of the same names. From each start of the registers and
+-- over each waveform that begins with the clock low it has exactly one lawful history, and at every moment its outputs are those of the
+-- netlist, which sees the same waveform without the test input.
+pub record Behaves (by : Gating) (read written : Circuit) : Type 0 where
+  pub registers : length written.registers ≡ length read.registers + length (ones (planned by read))
+  pub inputs : map (net_name written.names) (data_inputs written) ≡ map (net_name read.names) (data_inputs read) ++ option_to_list by.test
+  pub outputs : map (net_name written.names) written.outputs ≡ map (net_name read.names) read.outputs
+  pub starts : (start : List Bool) → IsStart read start → IsStart written (start ++ ones (planned by read))
+  pub waves : (wave : List Tick) → IsWaveform written wave → IsWaveform read (own_wave (planned by read) wave)
+  pub whole : by.test ≡ None → (wave : List Tick) → IsWaveform read wave → IsWaveform written wave × (own_wave (planned by read) wave ≡ wave)
+  pub some : HasHistory written
+  pub one : HasOneHistory written
+  pub same : (start : List Bool) (wave : List Tick) (history original : List Moment) → IsStart read start → IsWaveform written wave
+      → IsLawful written (start ++ ones (planned by read)) wave history → IsLawful read start (own_wave (planned by read) wave) original
+      → outputs_of written history ≡ outputs_of read original

@@ -4,9 +4,10 @@ use Rattle.cg_netlist.specs.Circuit.{Circuit}
 use Rattle.cg_netlist.specs.History.{IsLawful, IsStart, IsWaveform, Moment, Tick, outputs_of}
 use Rattle.cg_netlist.specs.WellFormed.{IsInNetOrder, IsWellFormed}
 use Rattle.cg_insert.specs.Insert.{CanInsert}
+use Rattle.cg_machine.specs.Added.{own_netlist}
 use Rattle.cg_machine.specs.Machine.{IsMachine}
 use Rattle.cg_machine.specs.Run.{ones}
-use Rattle.cg_gated.specs.Gated.{CanGate, Gating, gated_by, own_wave, planned}
+use Rattle.cg_gated.specs.Gated.{Behaves, CanGate, Gating, gated_by, own_wave, planned}
 
 -- the plan's machine is a machine, and the library has what inserting it asks for
 abbrev pub PlannedCanInsert : Type 0
@@ -24,3 +25,11 @@ GatedShowsSame = (by : Gating) (c : Circuit) → CanGate by c → (start : List 
     → IsStart c start → IsWaveform (gated_by by c) wave
     → IsLawful (gated_by by c) (start ++ ones (planned by c)) wave history → IsLawful c start (own_wave (planned by c) wave) other
     → outputs_of (gated_by by c) history ≡ outputs_of c other
+
+-- the plan keeps the netlist with which it begins
+abbrev pub PlannedKeeps : Type 0
+PlannedKeeps = (by : Gating) (c : Circuit) → own_netlist (planned by c) ≡ c
+
+-- and the gated netlist behaves as the netlist
+abbrev pub GatedBehaves : Type 0
+GatedBehaves = (by : Gating) (c : Circuit) → CanGate by c → Behaves by c (gated_by by c)

@@ -1,13 +1,16 @@
 //! What is proved of gated netlists.
 
-ghost use Rattle.cg_gated.specs.Laws.{GatedIsFormed, GatedShowsSame, PlannedCanInsert};
+ghost use Rattle.cg_gated.specs.Laws.{GatedBehaves, GatedIsFormed, GatedShowsSame, PlannedCanInsert, PlannedKeeps};
 
 /// The laws of gated netlists: the gated netlist is well formed, and from every start with 1 in the delay registers and over
-/// every waveform, whatever an added test input does, its lawful history has at every moment the outputs of the original's.
+/// every waveform, whatever an added test input does, its lawful history has at every moment the outputs of the original's. Data
+/// inputs and outputs keep their names.
 ///
 /// The call does nothing; callers use what it ensures.
 pub fn gated_laws()
     ensures inserts { PlannedCanInsert }
     ensures formed { GatedIsFormed }
     ensures same { GatedShowsSame }
+    ensures keeps { PlannedKeeps }
+    ensures behaves { GatedBehaves }
 {}

@@ -6,10 +6,9 @@ use Rattle.std.specs.Ordering.{nat_cmp}
 use Rattle.std.proofs.lemmas.List.Kept.{AllPairs-from_increasing}
 use Rattle.std.proofs.lemmas.List.Sorted.{list_any-IsPermutation}
 use Rattle.std.proofs.lemmas.Map.Keys.{IsStrictlyIncreasing-dedup}
-use Rattle.std.proofs.lemmas.Bool.{both_ways, cases_Bool, eqb-true, or_cases, or_left, or_right}
+use Rattle.std.proofs.lemmas.Bool.{cases_Bool, eqb-true}
 use Rattle.cg_netlist.specs.Circuit.{is_in}
-use Rattle.cg_claim.proofs.ConesReach.{rising_same}
-use Rattle.cg_claim.proofs.Places.{Rises}
+use Rattle.cg_netlist.proofs.RisingPlaces.{Rises, rising_same}
 use Rattle.cg_claim.proofs.Reached.{in_filter, range_in, to_filter}
 use Rattle.cg_netlist.proofs.Driven.{in_range}
 

@@ -1,5 +1,5 @@
 -- Keys of registers and groups by them, as data.
-use Rattle.std.specs.Prelude.{ℕ, List, [], ◌∷◌, slice_get, Option, Some, None}
+use Rattle.std.specs.Prelude.{ℕ, List, [], ◌∷◌, slice_get, Option}
 use Rattle.std.specs.Option.{option_flatten, option_map}
 use Rattle.cg_groups.specs.declared.key.Key.{Key}
 use Rattle.cg_lists.specs.Groups.{Group}

@@ -1,2 +1,3 @@
 pub mod Grouping
 pub mod Keys
+pub mod Leaving

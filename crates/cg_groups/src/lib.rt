@@ -7,9 +7,11 @@
 //!
 //! - `order`: numbers in rising order.
 //! - `key`: keys of registers.
+//! - `leaving`: registers that a round leaves out.
 //! - `group`: the groups of registers by their keys.
 #![tactic(auto)]
 
 pub mod group;
 pub mod key;
+pub mod leaving;
 pub mod order;

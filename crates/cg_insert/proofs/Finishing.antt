@@ -1,6 +1,6 @@
 -- What finishing answers a builder that was told the gated netlist's parts.
 use Rattle.std.proofs.Common.{◌≡◌, ℕ, ◌+◌, ◌<◌, ◌≤◌, ◌^◌, if◌then◌else◌, List, length, take, Option, None, Some, Result, Ok, Err, MatchResult, refl, ap, sym, ◌∙◌, subst, inl, inr}
-use Rattle.std.specs.List.{All}
+use Rattle.std.specs.List.{All, AllByRecursion}
 use Rattle.std.proofs.lemmas.Bool.{le-leb}
 use Rattle.cg_cell.specs.Cell.{CellData}
 use Rattle.cg_limit.specs.declared.Limit.{Limit}
@@ -19,6 +19,7 @@ use Rattle.cg_netlist.specs.said.Part.{Part}
 use Rattle.cg_netlist.specs.said.Said.{said}
 use Rattle.cg_insert.proofs.Inserted.{insertion_is_right}
 use Rattle.cg_insert.proofs.InsertedParts.{is_netlist, may_tell, outputs_once, parts_say, told_said}
+use Rattle.cg_netlist.specs.said.Writable.{IsOf}
 use Rattle.cg_insert.proofs.StillWritable.{still_writable}
 use Rattle.cg_insert.specs.Insert.{CanInsert, enables_of, first_gate, inserted, insertion_limit}
 use Rattle.cg_insert.specs.Inserting.{IsWhole, RunsAs, StaysWritable, insertion, unless_passed}
@@ -62,5 +63,5 @@ module _ (library : List CellData) (test : Option (List ℕ)) (m : MachineData) 
     pub runs : RunsAs library test m netlist
     runs = subst (RunsAs library test m) (sym is) (insertion_is_right library test m good can)
 
-    pub writable : StaysWritable library m netlist
-    writable = subst (StaysWritable library m) (sym is) (λ its own_writable. still_writable library test m good can (is_netlist library test m good can small narrow) (outputs_once library test m good can small narrow) its own_writable)
+    pub writable : AllByRecursion (IsOf library) library → StaysWritable library m netlist
+    writable its = subst (StaysWritable library m) (sym is) (λ own_writable. still_writable library test m good can (is_netlist library test m good can small narrow) (outputs_once library test m good can small narrow) its own_writable)

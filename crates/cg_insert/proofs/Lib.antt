@@ -12,4 +12,5 @@ pub mod NamesWhole
 pub mod OrderedNames
 pub mod RegisterCalls
 pub mod StillWritable
+pub mod ToldGroups
 pub mod ToldParts

@@ -1,6 +1,6 @@
 -- What inserting answers, and what it promises of the netlist that it answers.
 use Rattle.std.specs.Prelude.{◌≡◌, Bool, List, nat_eq, Option, Some, None, Result, Ok, Err, ℕ}
-use Rattle.std.specs.List.{AllByRecursion, IsDistinct}
+use Rattle.std.specs.List.{IsDistinct}
 use Rattle.cg_cell.specs.Cell.{CellData}
 use Rattle.cg_limit.specs.declared.Limit.{Limit}
 use Rattle.cg_machine.specs.Added.{own_netlist}
@@ -10,7 +10,7 @@ use Rattle.cg_netlist.specs.History.{IsLawful, IsWaveform, Moment, Tick}
 use Rattle.cg_netlist.specs.Netlist.{IsNetlist}
 use Rattle.cg_netlist.specs.declared.fault.AddFault.{AddFault}
 use Rattle.cg_netlist.specs.declared.fault.AddFault.TheVariants.{Limit as LimitFault}
-use Rattle.cg_netlist.specs.said.Writable.{IsOf, IsWritable}
+use Rattle.cg_netlist.specs.said.Writable.{IsWritable}
 use Rattle.cg_insert.specs.Insert.{inserted, insertion_limit}
 use Rattle.cg_insert.specs.Insertion.{IsRunOf}
 
@@ -31,6 +31,6 @@ pub record IsWhole (c : Circuit) : Type 0 where
 abbrev pub RunsAs : List CellData → Option (List ℕ) → MachineData → Circuit → Type 0
 RunsAs library test m c = (start : List Bool) (wave : List Tick) (history : List Moment) → IsState m start → IsWaveform c wave → IsLawful c start wave history → IsRunOf library test m start wave history
 
--- it is writable with the library if the machine's own netlist is, where the library has each of its cells under its name
+-- it is writable with the library if the machine's own netlist is
 abbrev pub StaysWritable : List CellData → MachineData → Circuit → Type 0
-StaysWritable library m c = AllByRecursion (IsOf library) library → IsWritable library (own_netlist m) → IsWritable library c
+StaysWritable library m c = IsWritable library (own_netlist m) → IsWritable library c

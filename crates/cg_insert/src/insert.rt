@@ -45,6 +45,7 @@ pub fn insert(
 {
     let netlist = machine.netlist();
     let _own = netlist.nets();
+    let _cells = library.len();
     let Ok(enables) = Enables::of(alloc, machine) else {
         return Err(AddFault::NoMemory);
     };

@@ -1,5 +1,5 @@
 -- Pins that are too many.
-use Rattle.std.proofs.Common.{◌≡◌, ◌+◌, ◌≤◌, ℕ, nat_le, Bool, true, false, cond, List, ◌∷◌, ◌++◌, length, None, Some, refl, suc, arith, length-append}
+use Rattle.std.proofs.Common.{◌≡◌, ◌+◌, ◌≤◌, ℕ, nat_le, false, List, ◌∷◌, ◌++◌, length, None, refl, suc, arith, length-append}
 use Rattle.std.proofs.lemmas.Bool.Decides.{nat_tests}
 use Rattle.cg_liberty.specs.Port.{few_pins}
 use Rattle.cg_liberty.specs.declared.port.PinText.{PinText}

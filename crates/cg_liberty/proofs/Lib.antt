@@ -10,7 +10,9 @@ pub mod Restated
 pub mod FlopCells
 pub mod Adding
 pub mod NamedCells
-pub mod DistinctCells
 pub mod AddedCells
 pub mod LibrarySpelled
 pub mod LibTexts
+pub mod Stepping
+pub mod Completing
+pub mod TextFaults

@@ -1,5 +1,5 @@
 -- The cells of a library text.
-use Rattle.std.specs.Prelude.{◌≡◌, ℕ, zero, suc, Bool, true, false, cond, ◌||◌, nat_le, List, [], ◌∷◌, ◌++◌, length, codes, Option, None, Some}
+use Rattle.std.specs.Prelude.{◌≡◌, ℕ, zero, suc, Bool, true, false, cond, ◌||◌, List, [], ◌∷◌, ◌++◌, codes, Option, None, Some}
 use Rattle.std.specs.Str.{bytes_eq}
 use Rattle.cg_liberty.specs.Group.{flop_from, new_flop, new_pin, pin_from, stated}
 use Rattle.cg_liberty.specs.Port.{few_pins, group_pins}

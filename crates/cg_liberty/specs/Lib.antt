@@ -5,3 +5,4 @@ pub mod Reading
 pub mod Kinds
 pub mod Library
 pub mod LibText
+pub mod FirstFault

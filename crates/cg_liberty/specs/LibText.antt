@@ -1,8 +1,9 @@
 -- The texts that stand for a library.
-use Rattle.std.specs.Prelude.{◌≡◌, ℕ, ◌≤◌, IsTrue, List, length, map, Ok}
+use Rattle.std.specs.Prelude.{◌≡◌, ℕ, ◌≤◌, IsTrue, List, length, Ok}
 use Rattle.std.specs.List.{AllZip, filter}
 use Rattle.cg_limit.specs.declared.TheConstants.{MOST_LIBRARY_CELLS}
 use Rattle.cg_cell.specs.Cell.{CellData}
+use Rattle.cg_cell.specs.Library.{names_of}
 use Rattle.cg_cell.specs.Name.{are_distinct, is_name}
 use Rattle.cg_liberty_text.specs.Grammar.{SpellsLibrary}
 use Rattle.cg_liberty.specs.Kinds.{cell_of}
@@ -18,10 +19,6 @@ named_groups groups = filter (λ group. is_name group.name) groups
 -- the cells are those that the groups describe, in order
 abbrev pub Describe : List CellGroup → List CellData → Type 0
 Describe groups cells = AllZip (λ group cell. cell_of group ≡ Ok cell) groups cells
-
--- the names of cells
-abbrev pub names_of : List CellData → List (List ℕ)
-names_of cells = map (λ cell. cell.name) cells
 
 -- the text stands for the library of these cells: its tokens are one group `library`, the `cell` groups directly in it whose argument is a name describe the cells in order, and these are at most 4,096, no two of one name
 pub record LibText (text : List ℕ) (cells : List CellData) : Type 0 where

@@ -1,9 +1,11 @@
 //! A library from its text.
 
-ghost use Rattle.std.specs.Prelude.{◌≡◌, ◌≤◌, List, [], length, None, IfOk, OnOk, Some, MatchResult};
+ghost use Rattle.std.specs.Prelude.{◌≡◌, ◌≤◌, List, [], length, None, IfErr, IfOk, OnOk, Some, MatchResult};
 ghost use Rattle.std.specs.List.{AllByRecursion};
 ghost use Rattle.cg_cell.specs.Cell.{CellData, IsCell};
+ghost use Rattle.cg_cell.specs.Library.{IsFound};
 ghost use Rattle.cg_liberty.specs.Cell.{GivesUp, cell_from, cells_from, first_text, new_cell};
+ghost use Rattle.cg_liberty.specs.FirstFault.{IsFirstFault};
 ghost use Rattle.cg_liberty.specs.Group.{IsLeft};
 ghost use Rattle.cg_liberty.specs.LibText.{LibText};
 ghost use Rattle.cg_liberty.specs.Library.{Adds, Stands, added, all_added, cell_groups, cell_refusal, library_of, text_refusal};
@@ -174,6 +176,7 @@ fn read_text(
 fn library_of_bytes(alloc: Global, bytes: &[u8]) -> Result<Library, LibertyFault>
     ensures stands { Stands result (library_of bytes.now) }
     ensures cells { IfOk result (λ library. AllByRecursion IsCell library) }
+    ensures named { IfOk result (λ library. AllByRecursion (IsFound library) library) }
 {
     let mut statements = Statements::new(bytes);
     match read_text(alloc, &mut statements) {
@@ -200,6 +203,8 @@ pub fn read_library(alloc: Global, bytes: &[u8]) -> Result<Library, LibertyFault
     ensures exact { Stands result (library_of bytes.now) }
     ensures found { IfOk result (λ library. LibText bytes.now library) }
     ensures cells { IfOk result (λ library. AllByRecursion IsCell library) }
+    ensures named { IfOk result (λ library. AllByRecursion (IsFound library) library) }
+    ensures fault { IfErr result (IsFirstFault bytes.now) }
     ensures only { (cells : List CellData) → LibText bytes.now cells → MatchResult result (λ library. library ≡ cells) (λ fault. fault ≡ NoMemory) }
 {
     library_of_bytes(alloc, bytes)

@@ -1,3 +1,4 @@
+pub mod AddedDrivers
 pub mod AddedNames
 pub mod Bits
 pub mod Cycles
@@ -20,3 +21,4 @@ pub mod Simulation
 pub mod Started
 pub mod There
 pub mod TryLemmas
+pub mod WalkPlaces

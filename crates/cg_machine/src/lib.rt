@@ -10,17 +10,21 @@
 //! - `prefix`: names that are taken before anything is added.
 //! - `machine`: machines, and what is added to them.
 //! - `cycle`: the bits of the nets in a cycle, and the next bits of the registers.
+//! - `order`: walk order.
+//! - `cone`: what nets depend on in the same cycle.
 //! - `tries`: walks over the cells of a cone, up to the first fault.
 //! - `view`: what a machine shows of an added gate.
 //! - `stage`: registers that are to get one enable, as data.
 //! - `laws`: what is proved of machines.
 #![tactic(auto)]
 
+pub mod cone;
 mod cycle;
 mod delays;
 mod gates;
 pub mod laws;
 pub mod machine;
+mod order;
 pub mod prefix;
 pub mod stage;
 mod tries;

@@ -14,6 +14,7 @@ ghost use Rattle.cg_machine.specs.Start.{CanStart, machine_of};
 ghost use Rattle.cg_machine.specs.declared.view.GateView.{GateView};
 ghost use Rattle.cg_machine.specs.View.{gate_seen};
 ghost use Rattle.cg_netlist.specs.Circuit.{RegisterCell};
+ghost use Rattle.cg_netlist.specs.Drivers.{IsDriver};
 
 use crate::delays::Delays;
 use crate::gates::{Gate, Gates};
@@ -21,8 +22,9 @@ use crate::view::GateView;
 use cg_cell::fit::FitKind;
 use cg_cell::name::Name;
 use cg_limit::{Limit, MOST_NETS, MOST_REGISTERS};
+use cg_netlist::driver::Driver;
 use cg_netlist::fault::AddFault;
-use cg_netlist::id::{NetId, RegId};
+use cg_netlist::id::{CellId, NetId, RegId};
 use cg_netlist::netlist::Netlist;
 use std::alloc::{AllocError, Global};
 use std::marker::Model;
@@ -35,12 +37,13 @@ use std::marker::Model;
 /// holds of it.
 #[derive(Drop)]
 pub struct Machine {
-    alloc: Global,
+    pub(crate) alloc: Global,
     pub(crate) netlist: Netlist,
     prefix: Name,
     enables: Vec<Option<NetId>>,
     pub(crate) gates: Gates,
     pub(crate) delays: Delays,
+    drivers: Vec<Driver>,
 }
 
 impl Model for Machine {
@@ -55,7 +58,7 @@ impl Model for Machine {
 
     ghost view = { λ m. kept m.netlist m.prefix m.enables.items m.gates m.delays };
 
-    ghost invariant = { λ m. IsKept m.netlist m.prefix m.enables.items m.gates m.delays };
+    ghost invariant = { λ m. IsKept m.netlist m.prefix m.enables.items m.gates m.delays m.drivers.items };
 }
 
 impl Machine {
@@ -74,6 +77,7 @@ impl Machine {
             enables,
             gates: Gates::new(alloc),
             delays: Delays::new(alloc),
+            drivers: Vec::new(alloc),
         })
     }
 
@@ -98,6 +102,13 @@ impl Machine {
         ensures { result ≡ length self.now.circuit.names }
     {
         self.netlist.nets() + (self.gates.len() + self.delays.len()) as u32
+    }
+
+    /// The number of logic cells, added gates among them.
+    pub fn cells(&self) -> u32
+        ensures { result ≡ length self.now.circuit.cells }
+    {
+        self.netlist.cells() + self.gates.len() as u32
     }
 
     /// The number of registers, delay registers among them.
@@ -171,6 +182,19 @@ impl Machine {
         }
     }
 
+    /// What drives a net, which must be one of the machine's: for added gate `k` the logic cell `k` behind the netlist's.
+    pub fn driver(&self, net: NetId) -> Driver
+        requires { net < length self.now.circuit.names }
+        ensures { IsDriver self.now.circuit net result }
+    {
+        let own = self.netlist.nets();
+        if net.number() < own {
+            self.netlist.driver(net)
+        } else {
+            self.drivers[(net.number() - own) as usize]
+        }
+    }
+
     /// The output net of a gate of this kind with these inputs in this order: a gate that was added before is found
     /// again, and else it is appended with a net. The nets must be nets of the machine other than the clock, as many as
     /// the kind has inputs; cells that gate a clock are no gates.
@@ -217,11 +241,17 @@ impl Machine {
         ensures unchanged { OnErr result (self.new ≡ self.old) }
     {
         let inputs = Vec::from_slice(self.alloc, inputs)?;
-        self.gates.push(Gate {
+        let gate = Gate {
             kind,
             inputs,
             output,
-        })
+        };
+        let id = CellId::new(self.cells());
+        self.drivers.push(Driver::Cell(id))?;
+        let pushed = self.gates.push(gate);
+        // A driver whose gate was not taken is taken back.
+        self.drivers.truncate(self.gates.len() + self.delays.len());
+        pushed
     }
 
     /// The output net of the delay register of a net, which must not be the clock: it holds the bit that the net had a
@@ -267,7 +297,12 @@ impl Machine {
         ensures pushed { OnOk result (self.new ≡ push_delay self.old net) }
         ensures unchanged { OnErr result (self.new ≡ self.old) }
     {
-        self.delays.push(net, output)
+        let reg = RegId::new(self.registers());
+        self.drivers.push(Driver::Register(reg, false))?;
+        let pushed = self.delays.push(net, output);
+        // A driver whose register was not taken is taken back.
+        self.drivers.truncate(self.gates.len() + self.delays.len());
+        pushed
     }
 
     /// The number of the next net, unless there are as many nets as there may be.

@@ -44,7 +44,7 @@ impl Machine {
     }
 
     /// The inputs of a logic cell or an added gate, which come behind the logic cells.
-    fn inputs_of(&self, id: CellId) -> &[NetId]
+    pub(crate) fn inputs_of(&self, id: CellId) -> &[NetId]
         requires { id < length self.now.circuit.cells }
         ensures { (cell : LogicCell ℕ) → slice_get self.now.circuit.cells id ≡ Some cell → result.now ≡ cell.inputs }
     {

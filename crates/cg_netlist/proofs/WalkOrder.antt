@@ -209,7 +209,8 @@ module _ (cells : List (LogicCell ℕ)) where
                 let low = drives_lower j.0 k x d c j.2 is input out in
                 omega (arith, low, falls.0 j.0 j.1)
 
-    in_order : (k : ℕ) → k < length cells → is_in (walk_order cells) k ≡ true
+    -- each cell stands in walk order
+    pub in_order : (k : ℕ) → k < length cells → is_in (walk_order cells) k ≡ true
     in_order k below =
         let r = has_some k below in
         let small = rank_small (driving_cells cells) (length cells) k r.0 r.1 in

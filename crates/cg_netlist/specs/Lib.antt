@@ -1,6 +1,7 @@
 pub mod Calls
 pub mod Chains
 pub mod Circuit
+pub mod Cone
 pub mod Drivers
 pub mod History
 pub mod Marks

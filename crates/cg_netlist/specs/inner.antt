@@ -3,5 +3,7 @@ pub mod Finishing
 pub mod Heard
 pub mod Kept
 pub mod Mentioned
+pub mod NamePlaces
 pub mod Numbers
+pub mod Reaching
 pub mod Walking

@@ -1,7 +1,18 @@
 //! Cones: what nets depend on at the same moment.
 
+ghost use Rattle.std.specs.Prelude.{◌≡◌, ◌<◌, length, IfOk};
+ghost use Rattle.std.specs.List.{All};
+ghost use Rattle.cg_netlist.specs.Cone.{cone_at};
+ghost use Rattle.cg_netlist.specs.Nets.{walk_order};
+
+use crate::driver::Driver;
 use crate::id::{CellId, NetId, RegId};
+use crate::net_set::NetSet;
+use crate::netlist::Netlist;
+use crate::reach::reached_cone;
+use crate::wiring::Wiring;
 use cg_list::Seq;
+use std::alloc::{AllocError, Global};
 
 /// What some nets depend on at the same moment: logic cells in walk order, and the data inputs and registers at their edge,
 /// each in order.
@@ -15,4 +26,43 @@ pub struct Cone {
 
     /// The registers.
     pub registers: Seq<RegId>,
+}
+
+impl Netlist {
+    /// The cone of these nets, which must be the netlist's: the logic cells from which they are reached through logic
+    /// cells, in walk order, and the data inputs and registers at the edge, each in order.
+    pub fn cone(&self, alloc: Global, roots: &[NetId]) -> Result<Cone, AllocError>
+        requires { All (λ net. net < length self.now.names) roots.now }
+        ensures { IfOk result (λ cone. cone ≡ cone_at self.now (walk_order self.now.cells) roots.now) }
+    {
+        reached_cone(alloc, self, roots, &mut NetSet::new(alloc))
+    }
+}
+
+impl Wiring for Netlist {
+    ghost use Rattle.cg_netlist.specs.Nets.{walk_order};
+
+    ghost circuit = { λ netlist. netlist };
+
+    ghost order = { λ netlist. walk_order netlist.cells };
+
+    fn net_count(&self) -> u32 {
+        self.nets()
+    }
+
+    fn net_driver(&self, net: NetId) -> Driver {
+        self.driver(net)
+    }
+
+    fn cell_inputs(&self, id: CellId) -> &[NetId] {
+        self.cell(id).inputs
+    }
+
+    fn cell_place(&self, id: CellId) -> u32 {
+        self.place(id)
+    }
+
+    fn cell_in_place(&self, place: u32) -> CellId {
+        self.order()[place as usize]
+    }
 }

@@ -22,9 +22,13 @@
 //! - `view`: what a netlist shows of one of its parts.
 //! - `levels`: the logic cells in an order in which each stands behind those that drive its inputs.
 //! - `driver`: what drives each net.
+//! - `ascending`: numbers in ascending order.
+//! - `wiring`: what a walk back over logic cells asks for.
+//! - `edge`: what drives the nets of a cone.
+//! - `reach`: walks back over logic cells, from some nets to their cone.
 //! - `netlist`: well-formed netlists, and what they answer.
 //! - `walk`: walks over the logic cells.
-//! - `cone`: what nets depend on, as data.
+//! - `cone`: what nets depend on at the same moment.
 //! - `next`: the next bits of registers.
 //! - `chains`: the gating cells in an order in which each stands behind the one that drives its clock pin.
 //! - `walk_laws`: what is true of walk order, and of the bits that a walk leaves.
@@ -33,10 +37,12 @@
 #![tactic(auto)]
 
 mod adding;
+pub mod ascending;
 pub mod builder;
 mod chains;
 pub mod cone;
 pub mod driver;
+pub mod edge;
 pub mod fault;
 mod finish;
 pub mod history;
@@ -45,13 +51,14 @@ mod levels;
 mod marks;
 mod mention;
 mod names;
-mod net_set;
+pub mod net_set;
 pub mod netlist;
 mod next;
 mod order;
 pub mod part_laws;
 pub mod parts;
 mod ranks;
+pub mod reach;
 mod renumber;
 #[cfg(test)]
 mod tests;
@@ -59,3 +66,4 @@ mod told;
 pub mod view;
 pub mod walk;
 pub mod walk_laws;
+pub mod wiring;

@@ -1,9 +1,12 @@
 //! The names of nets, numbered in the order in which they came.
 
-ghost use Rattle.std.specs.Prelude.{◌≡◌, ◌≢◌, ◌∷◌, [], ◌++◌, ◌<◌, ◌^◌, Some, false, true, length, slice_get, IfOk, MatchOption, OnErr, OnOk, if◌then◌else◌};
+ghost use Rattle.std.specs.Prelude.{◌≡◌, ◌≢◌, ◌∷◌, [], ◌++◌, ◌<◌, ◌^◌, Some, false, true, length, slice_get, IfOk, MatchOption, OnErr, OnOk, if◌then◌else◌, map};
 ghost use Rattle.std.specs.List.{AllPairs, list_any};
 ghost use Rattle.cg_netlist.specs.Names.{is_known, with_name};
+ghost use Rattle.cg_netlist.specs.inner.NamePlaces.{AreOrdered};
+ghost use Rattle.cg_netlist.specs.said.Wiring.{net_name};
 
+use crate::id::NetId;
 use indexmap::IndexSet;
 use std::alloc::{AllocError, Global};
 use std::marker::Model;
@@ -72,5 +75,72 @@ impl NetNames {
         let owned = Vec::from_slice(alloc, name)?;
         self.set.insert(owned)?;
         Ok(number)
+    }
+}
+
+/// The names of the nets of an order. They stay in the table in which they came: beside it lie the net of each place, and
+/// the place of each net, which is the length of the order for a net that has none.
+///
+/// Clauses see the list of names.
+#[derive(Drop)]
+pub(crate) struct OrderedNames {
+    names: NetNames,
+    order: Vec<NetId>,
+    places: Vec<NetId>,
+}
+
+impl Model for OrderedNames {
+    ghost use Rattle.std.specs.Prelude.{List, ℕ, map};
+    ghost use Rattle.cg_netlist.specs.inner.NamePlaces.{AreOrdered};
+    ghost use Rattle.cg_netlist.specs.said.Wiring.{net_name};
+
+    ghost Value = { List (List ℕ) };
+
+    ghost view = { λ n. map (net_name n.names) n.order.items };
+
+    ghost invariant = { λ n. AreOrdered n.names n.order.items n.places.items };
+}
+
+impl OrderedNames {
+    /// The names of an order in which each net stands once at most, with the places of all nets.
+    pub(crate) fn new(names: NetNames, order: Vec<NetId>, places: Vec<NetId>) -> OrderedNames
+        requires { AreOrdered names order.items places.items }
+        ensures { result ≡ map (net_name names) order.items }
+    {
+        OrderedNames {
+            names,
+            order,
+            places,
+        }
+    }
+
+    /// How many names there are.
+    pub(crate) fn len(&self) -> usize
+        ensures count { result ≡ length self.now }
+    {
+        self.order.len()
+    }
+
+    /// The name at this place.
+    pub(crate) fn name(&self, place: usize) -> &[u8]
+        requires { place < length self.now }
+        ensures { slice_get self.now place ≡ Some result.now }
+    {
+        self.names.name(self.order[place].number() as usize)
+    }
+
+    /// The place of a name, or `None` where it is none of these.
+    pub(crate) fn find(&self, name: &[u8]) -> Option<usize>
+        ensures { MatchOption result (is_known self.now name.now ≡ false) (λ i. slice_get self.now i ≡ Some name.now) }
+    {
+        let place = match self.names.find(name) {
+            Some(number) => self.places[number].number() as usize,
+            None => return None,
+        };
+        if place < self.order.len() {
+            Some(place)
+        } else {
+            None
+        }
     }
 }

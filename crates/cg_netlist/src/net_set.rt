@@ -1,8 +1,9 @@
 //! Nets that are taken once.
 
-ghost use Rattle.std.specs.Prelude.{◌≡◌, ◌<◌, ◌^◌, ℕ, [], OnOk, length};
+ghost use Rattle.std.specs.Prelude.{◌≡◌, ◌<◌, ◌^◌, ℕ, [], Some, false, OnOk, length, slice_get};
 ghost use Rattle.cg_netlist.specs.inner.Mentioned.{with_net};
-ghost use Rattle.cg_netlist.specs.Marks.{is_marked};
+ghost use Rattle.cg_netlist.specs.inner.Reaching.{with_nets};
+ghost use Rattle.cg_netlist.specs.Marks.{AreMarked, is_marked};
 
 use crate::id::NetId;
 use std::alloc::{AllocError, Global};
@@ -12,7 +13,7 @@ use std::marker::Model;
 ///
 /// Clauses see the list of the nets.
 #[derive(Drop)]
-pub(crate) struct NetSet {
+pub struct NetSet {
     nets: Vec<NetId>,
     marks: Vec<bool>,
 }
@@ -30,7 +31,7 @@ impl Model for NetSet {
 
 impl NetSet {
     /// No nets yet.
-    pub(crate) fn new(alloc: Global) -> NetSet
+    pub fn new(alloc: Global) -> NetSet
         ensures { result ≡ [] }
     {
         NetSet {
@@ -40,7 +41,7 @@ impl NetSet {
     }
 
     /// Puts a net behind the others, if it is not among them.
-    pub(crate) fn insert(&mut self, net: NetId) -> Result<(), AllocError>
+    pub fn insert(&mut self, net: NetId) -> Result<(), AllocError>
         ensures { OnOk result (self.new ≡ with_net self.old net) }
     {
         let place = net.number() as usize;
@@ -51,6 +52,39 @@ impl NetSet {
         self.nets.push(net)?;
         self.marks[place] = true;
         Ok(())
+    }
+
+    /// Puts each of these nets that is not among the others behind them.
+    pub fn extend(&mut self, nets: &[NetId]) -> Result<(), AllocError>
+        ensures { OnOk result (self.new ≡ with_nets self.old nets.now) }
+    {
+        for net in nets {
+            self.insert(*net)?;
+        }
+        Ok(())
+    }
+
+    /// How many nets there are.
+    pub fn len(&self) -> usize
+        ensures { result ≡ length self.now }
+    {
+        self.nets.len()
+    }
+
+    /// The net at a place.
+    pub fn net(&self, place: usize) -> NetId
+        requires { place < length self.now }
+        ensures { slice_get self.now place ≡ Some result }
+    {
+        self.nets[place]
+    }
+
+    /// Takes all nets out, at the cost of as many: the marks stay, unset.
+    pub fn clear(&mut self)
+        ensures { self.new ≡ [] }
+    {
+        unmark(&self.nets, &mut self.marks);
+        self.nets.clear();
     }
 
     /// The nets in their order.
@@ -72,4 +106,14 @@ fn reach(marks: &mut Vec<bool>, place: usize) -> Result<(), AllocError>
         marks.push(false)?;
     }
     Ok(())
+}
+
+/// Takes away the marks of these nets, which are all the marks.
+fn unmark(nets: &[NetId], marks: &mut [bool])
+    requires { AreMarked marks.old nets.now }
+    ensures { AreMarked marks.new [] }
+{
+    for net in nets {
+        marks[net.number() as usize] = false;
+    }
 }

@@ -14,7 +14,7 @@ ghost use Rattle.cg_netlist.specs.View.{cell_seen, gater_seen, register_seen};
 
 use crate::driver::{Driver, drivers};
 use crate::id::{CellId, GateClockId, NetId, RegId};
-use crate::levels::walk_order;
+use crate::levels::{places, walk_order};
 use crate::parts::{Gater, Logic, Parts};
 use crate::view::{CellView, GaterView, RegView};
 use std::alloc::{AllocError, Global};
@@ -31,6 +31,7 @@ pub struct Netlist {
     data_inputs: Vec<NetId>,
     widest: u32,
     order: Vec<CellId>,
+    places: Vec<u32>,
     drivers: Vec<Driver>,
 }
 
@@ -46,7 +47,7 @@ impl Model for Netlist {
 
     ghost view = { λ n. n.parts };
 
-    ghost invariant = { λ n. IsKept n.parts n.data_inputs.items n.widest n.order.items n.drivers.items };
+    ghost invariant = { λ n. IsKept n.parts n.data_inputs.items n.widest n.order.items n.places.items n.drivers.items };
 }
 
 impl Netlist {
@@ -58,12 +59,14 @@ impl Netlist {
         let data_inputs = inputs_without(alloc, &parts.inputs, &parts.clock)?;
         let widest = widest(&parts.cells);
         let order = walk_order(alloc, parts.names.len(), &parts.cells)?;
+        let places = places(alloc, parts.cells.len(), &order)?;
         let drivers = drivers(alloc, &parts)?;
         Ok(Netlist {
             parts,
             data_inputs,
             widest,
             order,
+            places,
             drivers,
         })
     }
@@ -223,6 +226,14 @@ impl Netlist {
     {
         let _parts = &self.parts;
         &self.order
+    }
+
+    /// The place in walk order of a logic cell, which must be one of the netlist's.
+    pub fn place(&self, id: CellId) -> u32
+        requires { id < length self.now.cells }
+        ensures { slice_get (walk_order self.now.cells) result ≡ Some id }
+    {
+        self.places[id.number() as usize]
     }
 
     /// What drives a net, which must be one of the netlist's.

@@ -6,12 +6,12 @@ ghost use Rattle.std.specs.Option.{option_map, option_or, option_to_list};
 ghost use Rattle.cg_netlist.specs.Places.{number_in};
 ghost use Rattle.cg_netlist.specs.inner.Heard.{IsReady};
 ghost use Rattle.cg_netlist.specs.inner.Numbers.{AreNumbers, GaterWithin, clock_number, made_of, on_number, ordered_numbers, rooted, wired_numbers};
-ghost use Rattle.cg_netlist.specs.said.Wiring.{circuit, map_gater, map_wiring};
+ghost use Rattle.cg_netlist.specs.said.Wiring.{circuit, map_gater, map_wiring, net_name};
 
 use crate::id::NetId;
-use crate::names::NetNames;
+use crate::names::OrderedNames;
 use crate::parts::{Gater, OpenRegister, Parts, Register};
-use crate::renumber::{names_in_order, number, renumber, renumber_cells, renumber_registers};
+use crate::renumber::{number, renumber, renumber_cells, renumber_registers};
 use crate::told::{Told, clock_roots, order};
 use cg_cell::name::Name;
 use std::alloc::{AllocError, Global};
@@ -25,8 +25,7 @@ pub(crate) fn in_net_order(alloc: Global, model: Name, told: Told) -> Result<Par
     let clock = first_of(&roots);
     let order = order(alloc, &told, clock)?;
     let places = places(alloc, told.names.len(), &order)?;
-    let names = names_in_order(alloc, &told.names, &order)?;
-    renumbered(alloc, model, told, names, clock.first().copied(), &places)
+    renumbered(alloc, model, told, &order, clock.first().copied(), &places)
 }
 
 /// The list of the first net, if there is one.
@@ -52,22 +51,25 @@ fn places(alloc: Global, count: usize, order: &[NetId]) -> Result<Vec<NetId>, Al
     Ok(places)
 }
 
-/// The parts with other numbers and names for their nets. A register without a clock of its own is on the clock.
+/// The parts with the nets numbered by their places in an order. A register without a clock of its own is on the clock.
 fn renumbered(
     alloc: Global,
     model: Name,
     told: Told,
-    names: NetNames,
+    order: &[NetId],
     clock: Option<NetId>,
     places: &[NetId],
 ) -> Result<Parts, AllocError>
     requires ready { IsReady told }
     requires places { length places.now ≡ length told.names }
+    requires tells { (net : ℕ) → net < length told.names → number_in places.now net ≡ position_or_len (nat_eq net) order.now }
+    requires nets { All (λ net. net < length told.names) order.now }
+    requires once { IsDistinct nat_eq order.now }
     requires clock { clock ≡ clock_number told }
-    ensures { IfOk result (λ parts. parts ≡ circuit model names (map_wiring (number_in places.now) (wired_numbers told))) }
+    ensures { IfOk result (λ parts. parts ≡ circuit model (map (net_name told.names) order.now) (map_wiring (number_in places.now) (wired_numbers told))) }
 {
     let Told {
-        names: _,
+        names,
         mut inputs,
         mut outputs,
         clocks: _,
@@ -81,9 +83,12 @@ fn renumbered(
     renumber_cells(places, &mut cells);
     renumber_gaters(places, &mut gaters);
     renumber_registers(places, &mut registers);
+    let _ = names.len();
+    let order = Vec::from_slice(alloc, order)?;
+    let all_places = Vec::from_slice(alloc, places)?;
     Ok(Parts {
         model,
-        names,
+        names: OrderedNames::new(names, order, all_places),
         inputs,
         clock: renumbered_given(places, &clock),
         outputs,

@@ -3,7 +3,7 @@
 ghost use Rattle.std.specs.Prelude.{◌≡◌};
 
 use crate::id::NetId;
-use crate::names::NetNames;
+use crate::names::OrderedNames;
 use cg_cell::cell::CellType;
 use cg_cell::cover::Cover;
 use cg_cell::name::Name;
@@ -126,7 +126,7 @@ impl Model for OpenRegister {
 #[derive(Drop)]
 pub(crate) struct Parts {
     pub(crate) model: Name,
-    pub(crate) names: NetNames,
+    pub(crate) names: OrderedNames,
     pub(crate) inputs: Vec<NetId>,
     pub(crate) clock: Option<NetId>,
     pub(crate) outputs: Vec<NetId>,

@@ -1,32 +1,12 @@
 //! Parts with other numbers for their nets.
 
-ghost use Rattle.std.specs.Prelude.{◌≡◌, ◌≢◌, ◌<◌, ℕ, nat_eq, map, length, IfOk};
-ghost use Rattle.std.specs.List.{All, AllPairs, IsDistinct};
+ghost use Rattle.std.specs.Prelude.{◌≡◌, ◌<◌, map, length};
+ghost use Rattle.std.specs.List.{All};
 ghost use Rattle.cg_netlist.specs.Places.{CellAmong, RegisterAmong, number_in};
-ghost use Rattle.cg_netlist.specs.said.Wiring.{map_cell, map_outputs, map_register, net_name};
+ghost use Rattle.cg_netlist.specs.said.Wiring.{map_cell, map_outputs, map_register};
 
 use crate::id::NetId;
-use crate::names::NetNames;
 use crate::parts::{Logic, Register};
-use std::alloc::{AllocError, Global};
-
-/// The names of the nets of an order, in which each stands once at most.
-pub(crate) fn names_in_order(
-    alloc: Global,
-    names: &NetNames,
-    order: &[NetId],
-) -> Result<NetNames, AllocError>
-    requires nets { All (λ net. net < length names.now) order.now }
-    requires once { IsDistinct nat_eq order.now }
-    requires different { AllPairs (λ name other. name ≢ other) names.now }
-    ensures { IfOk result (λ ordered. ordered ≡ map (net_name names.now) order.now) }
-{
-    let mut ordered = NetNames::new(alloc);
-    for net in order {
-        ordered.intern(alloc, names.name(net.number() as usize))?;
-    }
-    Ok(ordered)
-}
 
 /// The number that a net gets.
 pub(crate) fn number(places: &[NetId], net: NetId) -> NetId

@@ -101,7 +101,7 @@ start_on c n register start more at so_far pushed =
     pushed ∙ (ap (λ bits. bits ++ (register.init == 1) ∷ []) so_far ∙ sym (take_next (played_start c) n (register.init == 1) next))
 
 -- a buffer whose front is written whole
-pub take_front : (n : ℕ) (front back : List Bool) → length front ≡ n → take n (front ++ back) ≡ front
+pub take_front : {X : Type 0} (n : ℕ) (front back : List X) → length front ≡ n → take n (front ++ back) ≡ front
 take_front n [] back long = let none : n ≡ 0 = sym long in ap (λ k. take k back) none
 take_front zero (x ∷ front) back long = absurd (let no' : ⊥ = omega (arith, long) in no')
 take_front (suc n) (x ∷ front) back long = ap (λ xs. x ∷ xs) (take_front n front back (omega (arith, long)))

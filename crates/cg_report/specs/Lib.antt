@@ -2,4 +2,6 @@ pub mod Shown
 pub mod Counts
 pub mod Lines
 pub mod Place
+pub mod Idle
+pub mod RowLines
 pub mod inner

@@ -1,1 +1,5 @@
 pub mod Playing
+pub mod Giving
+pub mod RowByRow
+pub mod Idling
+pub mod Saying

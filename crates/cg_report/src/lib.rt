@@ -5,12 +5,19 @@
 //! A [`Watcher`](watcher::Watcher) is shown a netlist and then moments of it, one by one, and says a line of them. The two
 //! watchers of this crate count.
 //!
-//! Modules, as data flows: [`player`] (a place in the played history), [`watcher`] (the trait), [`edge_count`] (the rises of registers), [`toggle_count`] (the changes of
-//! nets).
+//! Modules, as data flows:
+//!
+//! - [`player`]: a place in the played history;
+//! - [`rows`]: what is said of the rows;
+//! - [`idle`]: how often nets are 0 at the low moments of the rows;
+//! - [`watcher`]: who is shown the moments, and says a line of them;
+//! - [`edge_count`]: the rises of registers, and [`toggle_count`]: the changes of nets.
 #![tactic(auto)]
 
 pub mod edge_count;
+pub mod idle;
 pub mod player;
+pub mod rows;
 #[cfg(test)]
 mod tests;
 pub mod toggle_count;

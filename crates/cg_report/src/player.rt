@@ -1,6 +1,6 @@
 //! Rows of a stimulus, played on a netlist.
 
-ghost use Rattle.std.specs.Prelude.{◌≡◌, ◌≤◌, ◌++◌, [], ℕ, List, Bool, true, false, Some, length, drop, replicate, IfOk};
+ghost use Rattle.std.specs.Prelude.{◌≡◌, ◌≤◌, ◌++◌, ◌∷◌, [], ℕ, List, Bool, true, false, Some, Ok, length, drop, replicate, IfOk, OnOk};
 ghost use Rattle.std.specs.List.{count_by};
 ghost use Rattle.cg_netlist.specs.Circuit.{data_inputs};
 ghost use Rattle.cg_netlist.specs.History.{Moment, Tick};
@@ -9,8 +9,10 @@ ghost use Rattle.cg_edge.specs.Shows.{ShowsOn};
 ghost use Rattle.cg_edge.specs.Simulated.{MayTick, Ticks, fresh};
 ghost use Rattle.cg_stimulus.specs.Inputs.{IsFor};
 ghost use Rattle.cg_stimulus.specs.Played.{IsPlayed, played_start, played_wave};
-ghost use Rattle.cg_report.specs.Place.{IsAt, Place, Steps};
+ghost use Rattle.cg_report.specs.inner.Giving.{Given, MayGive};
+ghost use Rattle.cg_report.specs.Place.{GivesStep, IsAt, MayWatch, Place, Steps};
 
+use crate::watcher::Watcher;
 use cg_edge::simulator::Simulator;
 use cg_netlist::id::RegId;
 use cg_netlist::netlist::Netlist;
@@ -47,6 +49,7 @@ impl<'a> Model for Player<'a> {
     ghost use Rattle.std.specs.Coded.{codes};
     ghost use Rattle.cg_cell.specs.TermCode.{term_code};
     ghost use Rattle.cg_netlist.specs.Circuit.{data_inputs};
+    ghost use Rattle.cg_report.specs.inner.Giving.{Given, MayGive};
     ghost use Rattle.cg_report.specs.Place.{Place};
     ghost use Rattle.cg_report.specs.inner.Playing.{IsPlayer, left_of};
 
@@ -89,6 +92,13 @@ impl<'a> Player<'a> {
         })
     }
 
+    /// Whether the clock is high at the next moment.
+    fn is_high(&self) -> bool
+        ensures { (tick : Tick) (later : List Tick) → self.now.left ≡ tick ∷ later → result ≡ tick.clock }
+    {
+        matches!(self.next, Next::High)
+    }
+
     /// Plays the next moment and answers true; or answers false, where all moments were played, and changes nothing.
     pub fn step(&mut self) -> bool
         ensures steps { Steps result self.old self.new }
@@ -111,6 +121,27 @@ impl<'a> Player<'a> {
             },
         }
         true
+    }
+
+    /// Plays the next moment, shows it to a watcher and answers true; or answers false, where all moments were played, and
+    /// changes nothing.
+    ///
+    /// The watcher must stand for moments of the player's netlist. Errs where the watcher finds no memory for the moment; then
+    /// nothing is known of what it stands for.
+    pub fn show(&mut self, watcher: &mut Box<dyn Watcher>) -> Result<bool, AllocError>
+        requires { MayWatch (stands watcher.old) self.old }
+        ensures steps { IfOk result (λ went. Steps went self.old self.new) }
+        ensures given { IfOk result (λ went. GivesStep went (stands watcher.old) (stands watcher.new) self.old self.new) }
+        ensures none_given { result ≡ Ok false → watcher.new ≡ watcher.old }
+        ensures same_name { called watcher.new ≡ called watcher.old }
+        ensures same_kind { says watcher.new ≡ says watcher.old }
+    {
+        let clock = self.is_high();
+        if !self.step() {
+            return Ok(false);
+        }
+        give(self.simulator(), clock, watcher)?;
+        Ok(true)
     }
 
     /// The edges of the moments that were played.
@@ -155,6 +186,20 @@ fn set_row(inputs: &mut [bool], row: &[bool])
     ensures long { length inputs.new ≡ length inputs.old }
 {
     inputs[..row.len()].copy_from_slice(row);
+}
+
+/// Shows a watcher the present moment, at which the clock has this bit.
+fn give(
+    simulator: &Simulator<'_>,
+    clock: bool,
+    watcher: &mut Box<dyn Watcher>,
+) -> Result<(), AllocError>
+    requires may { MayGive (stands watcher.old) simulator.now }
+    ensures given { OnOk result (Given (stands watcher.old) (stands watcher.new) simulator.now clock) }
+    ensures same_name { called watcher.new ≡ called watcher.old }
+    ensures same_kind { says watcher.new ≡ says watcher.old }
+{
+    watcher.moment(clock, simulator.nets(), simulator.rises())
 }
 
 /// Goes to the next moment, and answers how many registers rose.

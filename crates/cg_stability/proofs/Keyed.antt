@@ -10,7 +10,7 @@ use Rattle.cg_claim.specs.Reach.{feeds, registers_of}
 use Rattle.cg_claim.proofs.Reached.{and_first, both_true, in_filter, range_in, to_filter}
 use Rattle.cg_lists.specs.Rounds.{is_empty}
 use Rattle.cg_lists.specs.StableList.{StableKey, stable_key}
-use Rattle.cg_lists.specs.Supports.{all_nets, has_enable, has_input, in_net_order, input_cone, others_of, reads_own_at, supports}
+use Rattle.cg_lists.specs.Supports.{all_nets, has_enable, in_net_order, input_cone, others_of, reads_own_at, supports}
 use Rattle.cg_lists.proofs.Mapped.{mapped_from, mapped_in, not_true}
 use Rattle.cg_stability.specs.inner.Leaving.{AreRegisters, is_keyed}
 use Rattle.cg_support.specs.Support.{IsSupport}

@@ -1,4 +1,2 @@
 pub mod Keyed
-pub mod Left
-pub mod Same
 pub mod Listed

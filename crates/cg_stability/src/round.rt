@@ -1,16 +1,17 @@
 //! The keys of a round, without those of the registers that it leaves out.
 
-ghost use Rattle.std.specs.Prelude.{◌≡◌, ℕ, false, nat_eq, if◌then◌else◌, length, map, IfOk, OnOk};
-ghost use Rattle.std.specs.Option.{option_map, option_map_or};
+ghost use Rattle.std.specs.Prelude.{◌≡◌, ℕ, ◌&&◌, if◌then◌else◌, map, IfOk, OnOk};
 ghost use Rattle.cg_groups.specs.Keys.{key_at, key_seen};
+ghost use Rattle.cg_groups.specs.Leaving.{without};
 ghost use Rattle.cg_lists.specs.Rounds.{kept_key, same_kind};
 ghost use Rattle.cg_lists.specs.StableList.{had_stable};
 ghost use Rattle.cg_machine.specs.declared.stage.StageKind.TheVariants.{Stable};
 ghost use Rattle.cg_netlist.specs.Circuit.{is_in};
-ghost use Rattle.cg_stability.specs.inner.Leaving.{AreKeys, leaves, stage_key, without};
+ghost use Rattle.cg_stability.specs.inner.Leaving.{AreKeys, stage_key};
 
 use crate::key::key_of;
 use cg_groups::key::Key;
+use cg_groups::leaving::take_out;
 use cg_machine::machine::Machine;
 use cg_machine::stage::{Earlier, NetLit, Stage, StageKind};
 use cg_netlist::id::{NetId, RegId};
@@ -39,9 +40,21 @@ pub(crate) fn leave_out(
     ensures { OnOk result ((r : ℕ) → key_at keys.new r ≡ kept_key Stable had_stable earlier.now (key_at keys.old) r) }
 {
     for before in earlier {
-        let tried = key_of_stage(alloc, &before.stage)?;
-        clear(before, &tried, keys);
+        leave_out_of(alloc, before, keys)?;
     }
+    Ok(())
+}
+
+/// Clears the keys of the registers of one stage, where it is one of stability and leaves them out.
+fn leave_out_of(alloc: Global, before: &Earlier, keys: &mut [Option<Key>]) -> Result<(), AllocError>
+    ensures { OnOk result ((r : ℕ) → key_at keys.new r ≡ (if (same_kind before.now.stage.kind Stable && is_in before.now.stage.regs r) then without before.now.inserted (stage_key before.now.stage) (key_at keys.old r) else key_at keys.old r)) }
+{
+    if !is_stable(before.stage.kind) {
+        return Ok(());
+    }
+    let tried = key_of_stage(alloc, &before.stage)?;
+    let regs = before.stage.regs.as_slice();
+    take_out(regs, before.inserted, &tried, keys);
     Ok(())
 }
 
@@ -75,56 +88,6 @@ fn number_of(net: Option<NetId>) -> Option<u32>
         Some(net) => Some(net.number()),
         None => None,
     }
-}
-
-/// Clears the keys of the registers of a stage, where it leaves them out.
-fn clear(before: &Earlier, tried: &Key, keys: &mut [Option<Key>])
-    requires { key_seen tried.now ≡ stage_key before.now.stage }
-    ensures { (r : ℕ) → key_at keys.new r ≡ (if is_in before.now.stage.regs r then without before.now (key_at keys.old r) else key_at keys.old r) }
-{
-    let regs = before.stage.regs.as_slice();
-    for reg in regs {
-        clear_one(before, tried, reg.number() as usize, keys);
-    }
-}
-
-/// Clears the key of one register, where the stage leaves it out.
-fn clear_one(before: &Earlier, tried: &Key, place: usize, keys: &mut [Option<Key>])
-    requires { key_seen tried.now ≡ stage_key before.now.stage }
-    ensures { (r : ℕ) → key_at keys.new r ≡ (if nat_eq r place then without before.now (key_at keys.old r) else key_at keys.old r) }
-{
-    if place >= keys.len() {
-        return;
-    }
-    if !is_left_out(before, tried, &keys[place]) {
-        return;
-    }
-    keys[place] = None;
-}
-
-/// Whether a key is there, and the stage leaves out a register of it with this key.
-fn is_left_out(before: &Earlier, tried: &Key, key: &Option<Key>) -> bool
-    requires { key_seen tried.now ≡ stage_key before.now.stage }
-    ensures { result ≡ option_map_or (leaves before.now) (option_map key_seen key.now) false }
-{
-    match key {
-        Some(key) => loses(before, tried, key),
-        None => false,
-    }
-}
-
-/// Whether a stage leaves out a register of it with this key: it is one of stability, and was inserted or had the key.
-fn loses(before: &Earlier, tried: &Key, key: &Key) -> bool
-    requires { key_seen tried.now ≡ stage_key before.now.stage }
-    ensures { result ≡ leaves before.now (key_seen key.now) }
-{
-    if !is_stable(before.stage.kind) {
-        return false;
-    }
-    if before.inserted {
-        return true;
-    }
-    *key == *tried
 }
 
 /// Whether stages of this kind are stages of stability.

@@ -10,9 +10,8 @@ use Rattle.cg_netlist.proofs.Members.{is_in_cases, member_at}
 use Rattle.cg_netlist.proofs.Used.{input_is_used}
 use Rattle.cg_machine.specs.Added.{own_netlist}
 use Rattle.cg_machine.specs.Machine.{IsMachine, MachineData, walk_of}
-use Rattle.cg_claim.specs.Cone.{IsInCone, Reaches, here, through}
-use Rattle.cg_claim.specs.Reach.{cone_of}
-use Rattle.cg_claim.proofs.ConesReach.{cone_is}
+use Rattle.cg_netlist.specs.Cone.{IsInCone, Reaches, cone_of, here, through}
+use Rattle.cg_netlist.proofs.Cones.{cone_is, longer}
 use Rattle.cg_support.specs.inner.Reaching.{AreOwn, IsReached, with_nets}
 use Rattle.cg_support.proofs.Driving.{cell_driver}
 use Rattle.cg_support.proofs.Nets.{front, kept_all, only_these, put_all, same_truth, take_end, take_front, take_some}
@@ -26,10 +25,6 @@ in_next found more next net y at below among =
       | inl before ↦ inl before
       | inr last ↦ elim (or_cases (nat_eq y net) false last) [ inl same ↦ inr (eqb-true y net same) | inr none ↦ absurd (both_ways false refl none) ]
     ]
-
-longer : (cells : List (LogicCell ℕ)) (k : ℕ) (cell : LogicCell ℕ) (y x : ℕ) → slice_get cells k ≡ Some cell → is_in cell.inputs y ≡ true → Reaches cells cell.output x → Reaches cells y x
-longer cells k cell y x at input here = through k cell y at input here
-longer cells k cell y x at input (through j c z atj inz way) = through j c z atj inz (longer cells k cell y z at input way)
 
 module _ (m : MachineData) (good : IsMachine m) (roots : List ℕ) where
   -- at the start the roots

@@ -1,7 +1,7 @@
 //! The cones of nets.
 
 ghost use Rattle.std.specs.Prelude.{◌≡◌, ◌<◌, ◌+◌, ℕ, List, true, length, IfOk, OnOk};
-ghost use Rattle.cg_claim.specs.Reach.{cone_of};
+ghost use Rattle.cg_netlist.specs.Cone.{cone_of};
 ghost use Rattle.cg_machine.specs.Added.{own_netlist};
 ghost use Rattle.cg_machine.specs.Machine.{walk_of};
 ghost use Rattle.cg_netlist.specs.Circuit.{is_in};
@@ -15,11 +15,7 @@ use std::alloc::{AllocError, Global};
 
 /// The nets of the cone of these nets of a machine's netlist, by their numbers: these nets, and with the output of a
 /// logic cell its inputs. All are nets of the netlist.
-pub(crate) fn cone(
-    alloc: Global,
-    machine: &Machine,
-    roots: &[NetId],
-) -> Result<IndexSet<u32>, AllocError>
+pub fn cone(alloc: Global, machine: &Machine, roots: &[NetId]) -> Result<IndexSet<u32>, AllocError>
     requires { AreOwn machine.now roots.now }
     ensures cone { IfOk result (λ found. (y : ℕ) → is_in found.keys y ≡ is_in (cone_of (walk_of machine.now) roots.now) y) }
     ensures own { IfOk result (λ found. AreOwn machine.now found.keys) }

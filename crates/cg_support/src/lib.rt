@@ -10,6 +10,6 @@
 //! - `support`: the support of a register.
 #![tactic(auto)]
 
-mod cone;
+pub mod cone;
 mod edge;
 pub mod support;

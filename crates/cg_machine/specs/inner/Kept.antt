@@ -1,11 +1,13 @@
 -- What a machine keeps: its netlist, and beside it what was added.
-use Rattle.std.specs.Prelude.{◌≡◌, ℕ, ◌+◌, ◌++◌, List, length, map, replicate, slice_index, unwrap_or, Option, None}
+use Rattle.std.specs.Prelude.{◌≡◌, ℕ, ◌+◌, ◌++◌, List, length, map, replicate, slice_get, slice_index, unwrap_or, Option, None, Some}
 use Rattle.std.specs.List.{AllByRecursion, range_with_len}
 use Rattle.std.specs.Fmt.{decimal}
 use Rattle.cg_cell.specs.declared.fit.FitKind.{FitKind}
 use Rattle.cg_cell.specs.declared.fit.FitKind.TheVariants.{Inv, And2}
 use Rattle.cg_netlist.specs.Circuit.{Circuit, RegisterCell}
+use Rattle.cg_netlist.specs.Drivers.{IsDriver}
 use Rattle.cg_netlist.specs.Netlist.{IsNetlist}
+use Rattle.cg_netlist.specs.declared.driver.Driver.{Driver}
 use Rattle.cg_machine.specs.Gates.{AddedGate, HasInputs, gate_cell}
 use Rattle.cg_machine.specs.Machine.{IsMachine, MachineData, delay_cell}
 use Rattle.cg_machine.specs.declared.gates.GateKey.{GateKey}
@@ -34,11 +36,17 @@ kept c prefix enables gates delays = record {
   prefix = prefix;
 }
 
--- what is kept makes a machine
-pub record IsKept (c : Circuit) (name : List ℕ) (enables : List (Option ℕ)) (gates : List AddedGate) (delays : List (ℕ × ℕ)) : Type 0 where
+-- what drives each net behind the first n, in order of addition
+pub record AreAdded (c : Circuit) (n : ℕ) (drivers : List Driver) : Type 0 where
+  pub long : n + length drivers ≡ length c.names
+  pub each : (k : ℕ) (driver : Driver) → slice_get drivers k ≡ Some driver → IsDriver c (n + k) driver
+
+-- what is kept makes a machine, and tells what drives each added net
+pub record IsKept (c : Circuit) (name : List ℕ) (enables : List (Option ℕ)) (gates : List AddedGate) (delays : List (ℕ × ℕ)) (drivers : List Driver) : Type 0 where
   pub netlist : IsNetlist c
   pub enables_long : length enables ≡ length c.registers
   pub machine : IsMachine (kept c name enables gates delays)
+  pub added : AreAdded (grown c name gates delays) (length c.names) drivers
 
 -- the key by which a gate is found
 abbrev pub key_of : FitKind → List ℕ → GateKey

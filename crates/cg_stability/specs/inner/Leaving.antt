@@ -1,15 +1,13 @@
 -- Keys of a round, and what an earlier stage leaves of one.
-use Rattle.std.specs.Prelude.{◌≡◌, ℕ, ◌<◌, Bool, true, not, ◌&&◌, ◌||◌, if◌then◌else◌, List, length, Option, Some, None, option_and_then}
+use Rattle.std.specs.Prelude.{◌≡◌, ℕ, ◌<◌, Bool, true, not, ◌&&◌, List, length, Option}
 use Rattle.std.specs.List.{list_all}
 use Rattle.cg_groups.specs.Keys.{key_at}
 use Rattle.cg_groups.specs.declared.key.Key.{Key}
-use Rattle.cg_lists.specs.Rounds.{is_empty, same_kind}
-use Rattle.cg_lists.specs.StableList.{StableKey, had_stable, stable_key}
+use Rattle.cg_lists.specs.Rounds.{is_empty}
+use Rattle.cg_lists.specs.StableList.{StableKey, stable_key}
 use Rattle.cg_lists.specs.Supports.{has_enable, has_input, others_of}
 use Rattle.cg_machine.specs.Machine.{MachineData}
-use Rattle.cg_machine.specs.declared.stage.Earlier.{Earlier}
 use Rattle.cg_machine.specs.declared.stage.Stage.{Stage}
-use Rattle.cg_machine.specs.declared.stage.StageKind.TheVariants.{Stable}
 use Rattle.cg_netlist.specs.Circuit.{is_in}
 use Rattle.cg_stage.specs.Stages.{enable_nets}
 
@@ -29,11 +27,3 @@ pub record AreKeys (m : MachineData) (keys : List (Option Key)) : Type 0 where
 -- the key that the registers of a stage had
 abbrev pub stage_key : Stage → StableKey
 stage_key s = record { enables = enable_nets s; own = s.own }
-
--- whether a stage leaves out a register of it with this key: it is one of stability, and was inserted or had the key
-abbrev pub leaves : Earlier → StableKey → Bool
-leaves e k = same_kind e.stage.kind Stable && (e.inserted || had_stable k e.stage)
-
--- the key of a register that stood in a stage, unless it is left out
-abbrev pub without : Earlier → Option StableKey → Option StableKey
-without e key = option_and_then (λ k. if leaves e k then None else Some k) key

@@ -1,5 +1,7 @@
 use Rattle.cg_gated.proofs.laws.gated_laws.Goals as goal
 use Rattle.cg_gated.proofs.Planned.{can_insert, is_formed}
+use Rattle.cg_gated.proofs.Behaving.{gated_behaves}
+use Rattle.cg_gated.proofs.NetlistKept.{keeps_netlist}
 use Rattle.cg_gated.proofs.SameOutputs.{shows_same}
 
 pub returns : goal.returns
@@ -7,4 +9,6 @@ returns c = record {
   inserts = can_insert;
   formed = is_formed;
   same = shows_same;
+  keeps = keeps_netlist;
+  behaves = gated_behaves;
 }

@@ -6,45 +6,22 @@ use Rattle.cg_insert.proofs.Finishing.{answered, finished, no_limit, runs, wanti
 use Rattle.cg_insert.specs.Insert.{inserted, insertion_limit}
 use Rattle.cg_insert.proofs.insert.insert.Goals as goal
 
-pub returns-in-Ok-finish-clause-answer : goal.returns-in-Ok-finish-clause-answer
-returns-in-Ok-finish-clause-answer c =
+pub returns-in-Ok-finish : goal.returns-in-Ok-finish
+returns-in-Ok-finish c =
     let library = c.args.library.now in
     let test : Option (List ℕ) = option_copied c.args.test in
     let m = c.args.machine.now in
     let good = c.netlist-netlist.ensures.machine in
+    let netlist = c.in-Ok-finish.netlist in
     let own : IsNetlist (own_netlist m) = subst IsNetlist c.netlist-netlist.ensures.netlist c.nets-own.ensures.netlist in
     let small : insertion_limit test m ≡ None = no_limit test m (omega (arith, c.if-first_gate-len-gt-MOST_NETS.false, c.first_gate.ensures.first, c.len.ensures, ap length c.in-Ok.ensures)) in
-    answered library test m good c.requires own small c.in-Ok-finish.netlist (finished library test m good c.requires own small c.in_ok-builder.builder c.in_ok-builder.ensures c.in-Ok-finish.netlist c.in-Ok-finish.ensures)
-
-pub returns-in-Ok-finish-clause-whole : goal.returns-in-Ok-finish-clause-whole
-returns-in-Ok-finish-clause-whole c =
-    let library = c.args.library.now in
-    let test : Option (List ℕ) = option_copied c.args.test in
-    let m = c.args.machine.now in
-    let good = c.netlist-netlist.ensures.machine in
-    let own : IsNetlist (own_netlist m) = subst IsNetlist c.netlist-netlist.ensures.netlist c.nets-own.ensures.netlist in
-    let small : insertion_limit test m ≡ None = no_limit test m (omega (arith, c.if-first_gate-len-gt-MOST_NETS.false, c.first_gate.ensures.first, c.len.ensures, ap length c.in-Ok.ensures)) in
-    whole library test m good c.requires own small c.in-Ok-finish.netlist (finished library test m good c.requires own small c.in_ok-builder.builder c.in_ok-builder.ensures c.in-Ok-finish.netlist c.in-Ok-finish.ensures)
-
-pub returns-in-Ok-finish-clause-runs : goal.returns-in-Ok-finish-clause-runs
-returns-in-Ok-finish-clause-runs c =
-    let library = c.args.library.now in
-    let test : Option (List ℕ) = option_copied c.args.test in
-    let m = c.args.machine.now in
-    let good = c.netlist-netlist.ensures.machine in
-    let own : IsNetlist (own_netlist m) = subst IsNetlist c.netlist-netlist.ensures.netlist c.nets-own.ensures.netlist in
-    let small : insertion_limit test m ≡ None = no_limit test m (omega (arith, c.if-first_gate-len-gt-MOST_NETS.false, c.first_gate.ensures.first, c.len.ensures, ap length c.in-Ok.ensures)) in
-    runs library test m good c.requires own small c.in-Ok-finish.netlist (finished library test m good c.requires own small c.in_ok-builder.builder c.in_ok-builder.ensures c.in-Ok-finish.netlist c.in-Ok-finish.ensures)
-
-pub returns-in-Ok-finish-clause-writable : goal.returns-in-Ok-finish-clause-writable
-returns-in-Ok-finish-clause-writable c =
-    let library = c.args.library.now in
-    let test : Option (List ℕ) = option_copied c.args.test in
-    let m = c.args.machine.now in
-    let good = c.netlist-netlist.ensures.machine in
-    let own : IsNetlist (own_netlist m) = subst IsNetlist c.netlist-netlist.ensures.netlist c.nets-own.ensures.netlist in
-    let small : insertion_limit test m ≡ None = no_limit test m (omega (arith, c.if-first_gate-len-gt-MOST_NETS.false, c.first_gate.ensures.first, c.len.ensures, ap length c.in-Ok.ensures)) in
-    writable library test m good c.requires own small c.in-Ok-finish.netlist (finished library test m good c.requires own small c.in_ok-builder.builder c.in_ok-builder.ensures c.in-Ok-finish.netlist c.in-Ok-finish.ensures)
+    let made : netlist ≡ inserted library test m = finished library test m good c.requires own small c.in_ok-builder.builder c.in_ok-builder.ensures netlist c.in-Ok-finish.ensures in
+    record {
+      answer = answered library test m good c.requires own small netlist made;
+      whole = whole library test m good c.requires own small netlist made;
+      runs = runs library test m good c.requires own small netlist made;
+      writable = writable library test m good c.requires own small netlist made c.len-cells.ensures.found;
+    }
 
 pub wanting-requires : goal.wanting-requires
 wanting-requires c =

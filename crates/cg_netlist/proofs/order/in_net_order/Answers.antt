@@ -1,4 +1,4 @@
-use Rattle.std.proofs.Common.{◌≡◌, ◌<◌, ℕ, List, Option, nat_eq, length, map, slice_get, sym, ◌∙◌, ap, subst, arith}
+use Rattle.std.proofs.Common.{◌≡◌, ◌<◌, ℕ, List, Option, nat_eq, length, map, slice_get, refl, sym, ◌∙◌, ap, subst, arith}
 use Rattle.std.specs.List.{AllByRecursion, IsDistinct, position_or_len}
 use Rattle.std.specs.Option.{option_to_list}
 use Rattle.cg_netlist.specs.Circuit.{Circuit}
@@ -33,14 +33,20 @@ places-requires-clause-few c =
     let order = c.in_ok-order.ensures ∙ (ap (λ ks. drivers_by nat_eq n.inputs ks n.cells n.gaters n.registers) (c.first_of-clock.ensures ∙ ap (λ xs. option_to_list (slice_get xs 0)) (c.deref.ensures.value ∙ c.in_ok-roots.ensures)) ∙ ordered_is n c.requires.numbers) in
     omega (arith, ap length (c.deref-2.ensures.value ∙ order), c.requires.few)
 
-pub names_in_order-requires-clause-nets : goal.names_in_order-requires-clause-nets
-names_in_order-requires-clause-nets c =
+pub renumbered-requires-clause-tells : goal.renumbered-requires-clause-tells
+renumbered-requires-clause-tells c =
     let n : Numbers = c.args.told in
     let order = c.in_ok-order.ensures ∙ (ap (λ ks. drivers_by nat_eq n.inputs ks n.cells n.gaters n.registers) (c.first_of-clock.ensures ∙ ap (λ xs. option_to_list (slice_get xs 0)) (c.deref.ensures.value ∙ c.in_ok-roots.ensures)) ∙ ordered_is n c.requires.numbers) in
-    asked_of n c.requires.numbers (ordered_numbers n) c.deref-3.result.now (length c.told.inside.names) (ap (λ d. length d.names) c.told.view_is) (c.deref-3.ensures.value ∙ order) (ordered_within n c.requires.numbers)
+    λ net lt. ap (λ ps. number_in ps net) c.deref-4.ensures.value ∙ (c.in_ok-places.ensures.tells net (omega (arith, lt, c.len.ensures.count, ap (λ d. length d.names) c.told.view_is)) ∙ ap (position_or_len (nat_eq net)) (c.deref-2.ensures.value ∙ sym c.deref-3.ensures.value))
 
-pub names_in_order-requires-clause-once : goal.names_in_order-requires-clause-once
-names_in_order-requires-clause-once c =
+pub renumbered-requires-clause-nets : goal.renumbered-requires-clause-nets
+renumbered-requires-clause-nets c =
+    let n : Numbers = c.args.told in
+    let order = c.in_ok-order.ensures ∙ (ap (λ ks. drivers_by nat_eq n.inputs ks n.cells n.gaters n.registers) (c.first_of-clock.ensures ∙ ap (λ xs. option_to_list (slice_get xs 0)) (c.deref.ensures.value ∙ c.in_ok-roots.ensures)) ∙ ordered_is n c.requires.numbers) in
+    asked_of n c.requires.numbers (ordered_numbers n) c.deref-3.result.now (length n.names) refl (c.deref-3.ensures.value ∙ order) (ordered_within n c.requires.numbers)
+
+pub renumbered-requires-clause-once : goal.renumbered-requires-clause-once
+renumbered-requires-clause-once c =
     let n : Numbers = c.args.told in
     let order = c.in_ok-order.ensures ∙ (ap (λ ks. drivers_by nat_eq n.inputs ks n.cells n.gaters n.registers) (c.first_of-clock.ensures ∙ ap (λ xs. option_to_list (slice_get xs 0)) (c.deref.ensures.value ∙ c.in_ok-roots.ensures)) ∙ ordered_is n c.requires.numbers) in
     subst (IsDistinct nat_eq) (sym (c.deref-3.ensures.value ∙ order)) c.requires.once
@@ -49,9 +55,10 @@ pub returns : goal.returns
 returns c =
     let n : Numbers = c.args.told in
     let order = c.in_ok-order.ensures ∙ (ap (λ ks. drivers_by nat_eq n.inputs ks n.cells n.gaters n.registers) (c.first_of-clock.ensures ∙ ap (λ xs. option_to_list (slice_get xs 0)) (c.deref.ensures.value ∙ c.in_ok-roots.ensures)) ∙ ordered_is n c.requires.numbers) in
-    let names : c.in_ok-names.names ≡ map (net_name n.names) (ordered_numbers n) = c.in_ok-names.ensures ∙ (ap (λ d. map (net_name d.names) c.deref-3.result.now) c.told.view_is ∙ ap (map (net_name n.names)) (c.deref-3.ensures.value ∙ order)) in
+    let order_is = c.deref-3.ensures.value ∙ order in
+    let names : map (net_name n.names) c.deref-3.result.now ≡ map (net_name n.names) (ordered_numbers n) = ap (map (net_name n.names)) order_is in
     let num : ℕ → ℕ = number_in c.deref-4.result.now in
     let tells : (net : ℕ) → net < length n.names → num net ≡ place_of n net = λ net lt. ap (λ ps. number_in ps net) c.deref-4.ensures.value ∙ (c.in_ok-places.ensures.tells net (omega (arith, lt, c.len.ensures.count, ap (λ d. length d.names) c.told.view_is)) ∙ ap (position_or_len (nat_eq net)) (c.deref-2.ensures.value ∙ order)) in
     let wired = wiring_agrees num (place_of n) (wired_numbers n) (nets_weaker (λ net. net < length n.names) (λ net. num net ≡ place_of n net) tells (wired_numbers n) (wired_within n c.requires.numbers c.requires.clocked)) in
-    if_ok c.renumbered.result (λ parts. parts ≡ circuit c.args.model c.in_ok-names.names (map_wiring num (wired_numbers n))) (λ parts. parts ≡ made_of c.args.model n)
+    if_ok c.renumbered.result (λ parts. parts ≡ circuit c.args.model (map (net_name n.names) c.deref-3.result.now) (map_wiring num (wired_numbers n))) (λ parts. parts ≡ made_of c.args.model n)
     (λ parts is. is ∙ (ap (λ ns. circuit c.args.model ns (map_wiring num (wired_numbers n))) names ∙ ap (circuit c.args.model (map (net_name n.names) (ordered_numbers n))) wired)) c.renumbered.ensures

@@ -1,10 +1,11 @@
-use Rattle.std.proofs.Common.{◌≡◌, ◌<◌, ℕ, length, map, sym, ◌∙◌, ap, subst}
+use Rattle.std.proofs.Common.{◌≡◌, ◌<◌, ℕ, length, map, nat_eq, sym, ◌∙◌, ap, subst}
+use Rattle.std.specs.List.{All, IsDistinct, position_or_len}
 use Rattle.std.specs.Option.{option_map}
 use Rattle.std.proofs.lemmas.List.{length-map, with_items_is}
 use Rattle.cg_netlist.specs.Circuit.{LogicCell, RegisterCell}
 use Rattle.cg_netlist.specs.Places.{number_in}
 use Rattle.cg_netlist.specs.inner.Numbers.{clock_number, on_number, wired_numbers}
-use Rattle.cg_netlist.specs.said.Wiring.{map_cell, map_gater, map_register}
+use Rattle.cg_netlist.specs.said.Wiring.{map_cell, map_gater, map_register, net_name}
 use Rattle.cg_netlist.proofs.ToldNets.{cells_asked, clock_asked, registers_asked}
 use Rattle.cg_netlist.proofs.order.renumbered.Goals as goal
 
@@ -19,6 +20,19 @@ renumber_registers-requires c =
 
 pub renumbered_given-requires : goal.renumbered_given-requires
 renumbered_given-requires c = clock_asked c.args.told c.requires.ready.numbers c.args.clock (length c.args.places.now) c.requires.places c.requires.clock
+
+pub new-requires : goal.new-requires
+new-requires c =
+    let names_are : c.told.inside.names ≡ c.args.told.names = ap (λ d. d.names) c.told.view_is in
+    let order_is = c.in_ok-order.ensures.items in
+    let places_are = c.in_ok-all_places.ensures.items in
+    record {
+      within = subst (λ ns. All (λ net. net < length ns) c.in_ok-order.order.items) (sym names_are) (subst (All (λ net. net < length c.args.told.names)) (sym order_is) c.requires.nets);
+      once = subst (IsDistinct nat_eq) (sym order_is) c.requires.once;
+      different = c.len.ensures.different;
+      long = ap length places_are ∙ (c.requires.places ∙ ap length (sym names_are));
+      tells = λ net below. ap (λ ps. number_in ps net) places_are ∙ (c.requires.tells net (subst (λ ns. net < length ns) names_are below) ∙ ap (position_or_len (nat_eq net)) (sym order_is));
+    }
 
 pub returns : goal.returns
 returns c =
@@ -35,4 +49,5 @@ returns c =
     let cells_put = with_items_is c.told.inside.cells c.renumber_cells.new.cells (ap length c.renumber_cells.ensures ∙ (length-map c.deref_mut-3.result.now (map_cell num) ∙ c.deref_mut-3.ensures.len)) ∙ cells in
     let gaters_put = with_items_is c.told.inside.gaters c.renumber_gaters.new.gaters (ap length c.renumber_gaters.ensures ∙ (length-map c.deref_mut-4.result.now (map_gater num) ∙ c.deref_mut-4.ensures.len)) ∙ gaters in
     let registers_put = with_items_is c.in_ok-registers.registers c.renumber_registers.new.registers (ap length c.renumber_registers.ensures ∙ (length-map c.deref_mut-5.result.now (map_register num) ∙ c.deref_mut-5.ensures.len)) ∙ registers in
-    λ i. record { model = c.args.model; names = c.args.names; inputs = inputs_put i; clock = clock i; outputs = outputs_put i; cells = cells_put i; gaters = gaters_put i; registers = registers_put i }
+    let names_put = c.new.ensures ∙ (ap (λ l. map (net_name c.told.inside.names) l) c.in_ok-order.ensures.items ∙ ap (λ d. map (net_name d.names) c.args.order.now) c.told.view_is) in
+    λ i. record { model = c.args.model; names = names_put i; inputs = inputs_put i; clock = clock i; outputs = outputs_put i; cells = cells_put i; gaters = gaters_put i; registers = registers_put i }

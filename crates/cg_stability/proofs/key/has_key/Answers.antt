@@ -1,4 +1,4 @@
-use Rattle.std.proofs.Common.{◌≡◌, ◌||◌, ℕ, false, true, not, List, nat_eq, sym, ◌∙◌, ap, subst}
+use Rattle.std.proofs.Common.{◌≡◌, ◌||◌, ℕ, true, not, List, nat_eq, sym, ◌∙◌, ap, subst}
 use Rattle.std.specs.List.{list_all, list_any}
 use Rattle.cg_lists.specs.Supports.{has_enable}
 use Rattle.cg_netlist.specs.Circuit.{is_in}

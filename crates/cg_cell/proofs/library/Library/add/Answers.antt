@@ -1,7 +1,8 @@
-use Rattle.std.proofs.Common.{◌≡◌, ◌+◌, ◌++◌, ◌∷◌, [], ◌∙◌, ap, sym, length, arith, length-append}
+use Rattle.std.proofs.Common.{rules, ◌≡◌, ◌+◌, ◌++◌, ◌∷◌, [], ◌∙◌, ap, sym, length, arith, length-append}
 use Rattle.std.proofs.lemmas.List.{length-map}
 use Rattle.std.specs.Map.{values_of}
 use Rattle.cg_cell.specs.declared.fit.FitKind.TheVariants.{Gater, TestGater, Inv, And2, Or2}
+use Rattle.cg_cell.proofs.DistinctCells.{names_push}
 use Rattle.cg_cell.proofs.Libraries.{cells_push, noted_fit}
 use Rattle.cg_cell.proofs.library.Library.add.Goals as goal
 
@@ -16,6 +17,7 @@ invariant_of-self c =
       names = c.push.ensures.named;
       few = let grown : length after ≡ length before + 1 = ap length added ∙ length-append before (c.args.cell ∷ []) in omega (arith, grown, counted);
       are_cells = cells_push before c.args.cell after c.self.invariant.are_cells c.name.ensures.cell added;
+      distinct = names_push before c.args.cell after c.self.invariant.distinct (search rules) added;
       gaters = noted_fit Gater before c.args.cell after c.self.inside.gater c.len-2.result c.fits.result c.note-gater.result c.self.invariant.gaters number c.fits.ensures added c.note-gater.ensures;
       test_gaters = noted_fit TestGater before c.args.cell after c.self.inside.test_gater c.len-2.result c.fits-2.result c.note-test_gater.result c.self.invariant.test_gaters number c.fits-2.ensures added c.note-test_gater.ensures;
       inverters = noted_fit Inv before c.args.cell after c.self.inside.inv c.len-2.result c.fits-3.result c.note-inv.result c.self.invariant.inverters number c.fits-3.ensures added c.note-inv.ensures;

@@ -1,2 +1,0 @@
-pub mod ExprSorts
-pub mod PendingSeen

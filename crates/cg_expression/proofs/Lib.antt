@@ -1,0 +1,7 @@
+pub mod FirstFault
+pub mod Grammar
+pub mod Joins
+pub mod Readings
+pub mod Sound
+pub mod Within
+pub mod Words

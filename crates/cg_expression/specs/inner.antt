@@ -1,0 +1,2 @@
+pub mod TokensSeen
+pub mod PendingSeen

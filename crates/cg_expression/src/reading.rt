@@ -1,0 +1,288 @@
+//! Reading the text of an expression, token by token.
+
+ghost use Rattle.std.specs.Prelude.{◌≡◌, ◌<◌, ◌^◌, IfErr, IfOk, IsTrue, length, slice_index};
+ghost use Rattle.std.specs.List.{position_from};
+ghost use Rattle.std.specs.Str.{bytes_eq};
+ghost use Rattle.cg_cell.specs.Expr.{is_over, term_of};
+ghost use Rattle.cg_cell.specs.Term.{Term, is_within};
+ghost use Rattle.cg_expression.specs.Faults.{IsFirstFault};
+ghost use Rattle.cg_expression.specs.Grammar.{ExprText};
+ghost use Rattle.cg_expression.specs.Reading.{begin, closed, constant, finish, go_on, complete, leaf, opened, or_end, read_text, step, variable, Bracket, Inversion};
+ghost use Rattle.cg_expression.specs.inner.TokensSeen.{token_of};
+ghost use Rattle.cg_expression.specs.Reads.{Gives, mode_of};
+
+use crate::fault::ExprFault;
+use crate::join::inverse;
+use crate::pending::{Ended, Stack, end_and, end_or, end_xor};
+use crate::tokens::{Sort, Token, Tokens, is_digit, is_letter};
+use cg_cell::expr::Expr;
+use cg_cell::name::Name;
+use cg_limit::MOST_NESTING;
+use std::alloc::Global;
+
+/// Where a reading stands: the operand that may be complete, where there is one, and what waits before it.
+#[derive(Drop)]
+struct Reading {
+    operand: Option<Expr>,
+    stack: Stack,
+}
+
+/// Reads an expression as Liberty writes it, over the pins, which are its variables in their order.
+///
+/// From the strongest: `'` behind an operand inverts it, `!` before an operand inverts it, `^` is
+/// exclusive or, `*`, `&` or nothing between two operands is and, `+` and `|` are or; operators of one
+/// strength join from the left. `0` and `1` are constants, and brackets group.
+///
+/// The first fault from the left is answered: `BadExpr` with the place at which no reading can go on, which
+/// is the length where the text ends too early; `UnknownPin` with the place of a name that is no pin;
+/// `TooDeep` with the place of the bracket or `!` that would be the 65th open one.
+pub fn read_expr(alloc: Global, text: &[u8], pins: &[Name]) -> Result<Expr, ExprFault>
+    requires { length pins.now < 2 ^ 32 }
+    ensures exact { Gives term_of result (read_text pins.now text.now) }
+    ensures found { IfOk result (λ e. ExprText pins.now text.now (term_of e)) }
+    ensures fault { IfErr result (IsFirstFault pins.now text.now) }
+    ensures grammar { (t : Term) → ExprText pins.now text.now t → Gives term_of result (Ok t) }
+    ensures over { IfOk result (λ e. IsTrue (is_over (length pins.now) e)) }
+    ensures within { IfOk result (λ e. IsTrue (is_within (length pins.now) (term_of e))) }
+{
+    read(alloc, text, pins)
+}
+
+/// Reads an expression token by token.
+#[tactic(auto, using(crate::proofs::Readings::faults))]
+fn read(alloc: Global, text: &[u8], pins: &[Name]) -> Result<Expr, ExprFault>
+    requires { length pins.now < 2 ^ 32 }
+    ensures { Gives term_of result (read_text pins.now text.now) }
+{
+    let mut tokens = Tokens::new(text);
+    let mut reading = Reading {
+        operand: None,
+        stack: Stack::new(alloc),
+    };
+    'tokens: while let Some(token) = tokens.next() {
+        match after(alloc, pins, reading, token) {
+            Ok(next) => reading = next,
+            Err(fault) => return Err(fault),
+        }
+    }
+    end(alloc, reading, text.len())
+}
+
+/// The reading behind one more token.
+fn after(
+    alloc: Global,
+    pins: &[Name],
+    reading: Reading,
+    token: Token<'_>,
+) -> Result<Reading, ExprFault>
+    requires { length pins.now < 2 ^ 32 }
+    ensures { Gives (λ r. mode_of r.operand r.stack) result (step pins.now (mode_of reading.operand reading.stack) (token_of token.entry)) }
+{
+    let Reading { operand, stack } = reading;
+    match operand {
+        None => first(pins, stack, token),
+        Some(operand) => further(alloc, pins, operand, stack, token),
+    }
+}
+
+/// A token where an operand begins.
+fn first(pins: &[Name], stack: Stack, token: Token<'_>) -> Result<Reading, ExprFault>
+    requires { length pins.now < 2 ^ 32 }
+    ensures { Gives (λ r. mode_of r.operand r.stack) result (begin pins.now stack (token_of token.entry)) }
+{
+    match token.sort {
+        Sort::Word(word) => match word_leaf(pins, token.at, word) {
+            Ok(leaf) => Ok(Reading {
+                operand: Some(leaf),
+                stack,
+            }),
+            Err(fault) => Err(fault),
+        },
+        Sort::Not => inversion(stack, token.at),
+        Sort::Open => bracket(stack, token.at),
+        _ => Err(ExprFault::BadExpr(token.at as u64)),
+    }
+}
+
+/// A sign `!` opens.
+fn inversion(stack: Stack, at: usize) -> Result<Reading, ExprFault>
+    ensures { Gives (λ r. mode_of r.operand r.stack) result (opened at Inversion stack) }
+{
+    if stack.nesting() < MOST_NESTING {
+        let stack = stack.open_inversion()?;
+        Ok(Reading {
+            operand: None,
+            stack,
+        })
+    } else {
+        Err(ExprFault::TooDeep(at as u64))
+    }
+}
+
+/// A bracket opens.
+fn bracket(stack: Stack, at: usize) -> Result<Reading, ExprFault>
+    ensures { Gives (λ r. mode_of r.operand r.stack) result (opened at Bracket stack) }
+{
+    if stack.nesting() < MOST_NESTING {
+        let stack = stack.open_bracket()?;
+        Ok(Reading {
+            operand: None,
+            stack,
+        })
+    } else {
+        Err(ExprFault::TooDeep(at as u64))
+    }
+}
+
+/// The constant or the pin that a word is.
+fn word_leaf(pins: &[Name], at: usize, word: &[u8]) -> Result<Expr, ExprFault>
+    requires { length pins.now < 2 ^ 32 }
+    ensures { Gives term_of result (leaf pins.now at word.now) }
+{
+    let first = first_byte(word);
+    if is_digit(first) {
+        word_constant(at, word)
+    } else if is_letter(first) {
+        match pin_place(pins, word) {
+            Some(place) => Ok(Expr::Variable(place)),
+            None => Err(ExprFault::UnknownPin(at as u64)),
+        }
+    } else {
+        Err(ExprFault::BadExpr(at as u64))
+    }
+}
+
+/// The first byte, or 0 where there is none.
+fn first_byte(word: &[u8]) -> u8
+    ensures { result ≡ slice_index word.now 0 }
+{
+    match word.first() {
+        Some(first) => *first,
+        None => 0,
+    }
+}
+
+/// The constant that a word is.
+fn word_constant(at: usize, word: &[u8]) -> Result<Expr, ExprFault>
+    ensures { Gives term_of result (constant at word.now) }
+{
+    if word == b"0".as_slice() {
+        Ok(Expr::Constant(false))
+    } else if word == b"1".as_slice() {
+        Ok(Expr::Constant(true))
+    } else {
+        Err(ExprFault::BadExpr(at as u64))
+    }
+}
+
+/// The place of the first pin of that name.
+#[tactic(auto, using(crate::proofs::Readings::faults))]
+fn pin_place(pins: &[Name], name: &[u8]) -> Option<u32>
+    requires { length pins.now < 2 ^ 32 }
+    ensures { result ≡ position_from (bytes_eq name.now) 0 pins.now }
+{
+    'pins: for place in 0..pins.len() {
+        if is_named(&pins[place], name) {
+            return Some(place as u32);
+        }
+    }
+    None
+}
+
+/// Whether a pin has the name.
+fn is_named(pin: &Name, name: &[u8]) -> bool
+    ensures { result ≡ bytes_eq name.now pin.now }
+{
+    name == pin.bytes()
+}
+
+/// A token behind an operand.
+fn further(
+    alloc: Global,
+    pins: &[Name],
+    operand: Expr,
+    stack: Stack,
+    token: Token<'_>,
+) -> Result<Reading, ExprFault>
+    requires { length pins.now < 2 ^ 32 }
+    ensures { Gives (λ r. mode_of r.operand r.stack) result (go_on pins.now (term_of operand) stack (token_of token.entry)) }
+{
+    match token.sort {
+        Sort::Prime => {
+            let operand = inverse(alloc, operand)?;
+            Ok(Reading {
+                operand: Some(operand),
+                stack,
+            })
+        }
+        Sort::Xor => {
+            let left = end_xor(alloc, operand, stack)?;
+            let stack = left.stack.wait_xor(left.operand)?;
+            Ok(Reading {
+                operand: None,
+                stack,
+            })
+        }
+        Sort::And => {
+            let left = end_and(alloc, operand, stack)?;
+            let stack = left.stack.wait_and(left.operand)?;
+            Ok(Reading {
+                operand: None,
+                stack,
+            })
+        }
+        Sort::Or => {
+            let left = end_or(alloc, operand, stack)?;
+            let stack = left.stack.wait_or(left.operand)?;
+            Ok(Reading {
+                operand: None,
+                stack,
+            })
+        }
+        Sort::Close => close(alloc, operand, stack, token.at),
+        Sort::Other => Err(ExprFault::BadExpr(token.at as u64)),
+        _ => {
+            let left = end_and(alloc, operand, stack)?;
+            let stack = left.stack.wait_and(left.operand)?;
+            first(pins, stack, token)
+        }
+    }
+}
+
+/// A bracket closes, where one is open.
+fn close(alloc: Global, operand: Expr, stack: Stack, at: usize) -> Result<Reading, ExprFault>
+    ensures { Gives (λ r. mode_of r.operand r.stack) result (closed at (or_end (term_of operand) stack)) }
+{
+    let Ended { operand, stack } = end_or(alloc, operand, stack)?;
+    if stack.ends_in_bracket() {
+        Ok(Reading {
+            operand: Some(operand),
+            stack: stack.close_bracket(),
+        })
+    } else {
+        Err(ExprFault::BadExpr(at as u64))
+    }
+}
+
+/// The end of the text, which has that many bytes.
+fn end(alloc: Global, reading: Reading, length: usize) -> Result<Expr, ExprFault>
+    ensures { Gives term_of result (finish length (mode_of reading.operand reading.stack)) }
+{
+    let Reading { operand, stack } = reading;
+    match operand {
+        None => Err(ExprFault::BadExpr(length as u64)),
+        Some(operand) => complete(alloc, operand, stack, length),
+    }
+}
+
+/// The whole expression, where nothing waits any more.
+fn complete(alloc: Global, operand: Expr, stack: Stack, length: usize) -> Result<Expr, ExprFault>
+    ensures { Gives term_of result (complete length (or_end (term_of operand) stack)) }
+{
+    let Ended { operand, stack } = end_or(alloc, operand, stack)?;
+    if stack.is_empty() {
+        Ok(operand)
+    } else {
+        Err(ExprFault::BadExpr(length as u64))
+    }
+}

@@ -1,0 +1,139 @@
+-- The literals of a register are of nets of the cone of its inputs; a register without literals has no inputs.
+use Rattle.std.proofs.Common.{◌≡◌, ℕ, zero, suc, ◌*◌, ◌+◌, ◌<◌, ◌≤◌, Bool, true, false, cond, if◌then◌else◌, List, [], ◌∷◌, length, take, nat_eq, nat_le, nat_lt, slice_get, Option, Some, None, Result, Ok, Err, refl, sym, ◌∙◌, ap, subst, arith}
+use Rattle.std.specs.List.{filter, find, list_any, range_with_len}
+use Rattle.std.specs.Option.{option_map_or}
+use Rattle.std.proofs.lemmas.Bool.{both_ways, eq-eqb, or_left, or_right}
+use Rattle.std.proofs.lemmas.Option.{none-some, same_Some}
+use Rattle.cg_claim.specs.Question.{hold_question}
+use Rattle.cg_claim.specs.Reach.{inputs_of_register}
+use Rattle.cg_groups.proofs.Same.{same_filter}
+use Rattle.cg_limit.specs.declared.Limit.TheVariants.{ClaimNodes}
+use Rattle.cg_lists.proofs.FitLists.{filter_in, in_filtered, range_in}
+use Rattle.cg_lists.proofs.Mapped.{ordered_some}
+use Rattle.cg_lists.proofs.UsedNets.{inputs_used, used_net}
+use Rattle.cg_lists.specs.HoldList.{hold_width, is_large, serves, up_to}
+use Rattle.cg_lists.specs.Literals.{IdleData, both_literals, by_count, idle_count, insert_literal, literals_of}
+use Rattle.cg_lists.specs.Supports.{all_nets, in_net_order, input_cone}
+use Rattle.cg_machine.specs.Added.{own_netlist, own_nets}
+use Rattle.cg_machine.specs.Claims.{Literal}
+use Rattle.cg_machine.specs.Machine.{IsMachine, MachineData, walk_of}
+use Rattle.cg_netlist.proofs.Cones.{cone_has}
+use Rattle.cg_netlist.specs.Circuit.{RegisterCell, is_in}
+use Rattle.cg_netlist.specs.Cone.{cone_of}
+use Rattle.cg_netlist.specs.declared.fault.AddFault.{AddFault}
+use Rattle.cg_netlist.specs.declared.fault.AddFault.TheVariants.{Limit as LimitFault}
+use Rattle.cg_hold.specs.declared.choice.Choice.{Choice}
+use Rattle.cg_hold.specs.declared.choice.Choice.TheVariants.{Wide, Takes}
+use Rattle.cg_hold.specs.inner.Choosing.{FitsChoice, IsLiteralOf, choice_by}
+use Rattle.cg_hold.specs.inner.Packed.{place_of}
+
+module _ (m : MachineData) (r : ℕ) where
+  -- all are literals of the register
+  abbrev pub AllOf : List Literal → Type 0
+  AllOf [] = Unit {0}
+  AllOf (l ∷ ls) = IsLiteralOf m r l × AllOf ls
+
+  insert_all : (idle : Option IdleData) (l : Literal) (ks : List Literal) → IsLiteralOf m r l → AllOf ks → AllOf (insert_literal idle l ks)
+  insert_all idle l [] here all = (here, tt)
+  insert_all idle l (k ∷ ks) here all = go (nat_le (idle_count idle k) (idle_count idle l)) (insert_all idle l ks here all.1)
+    where
+      go : (b : Bool) → AllOf (insert_literal idle l ks) → AllOf (if b then l ∷ k ∷ ks else k ∷ insert_literal idle l ks)
+      go true rest = (here, all)
+      go false rest = (all.0, rest)
+
+  order_all : (idle : Option IdleData) (ls : List Literal) → AllOf ls → AllOf (by_count idle ls)
+  order_all idle [] all = tt
+  order_all idle (l ∷ ls) all = insert_all idle l (by_count idle ls) all.0 (order_all idle ls all.1)
+
+  both_all : (nets : List ℕ) → ((y : ℕ) → is_in nets y ≡ true → (is_in (input_cone m r) y ≡ true) × (y < length m.circuit.names)) → AllOf (both_literals nets)
+  both_all [] each = tt
+  both_all (y ∷ nets) each =
+      let here = each y (or_left (nat_eq y y) (is_in nets y) (eq-eqb y y refl)) in
+      (here, (here, both_all nets (λ z among. each z (or_right (nat_eq z y) (is_in nets z) among))))
+
+  pub literals_all : (idle : Option IdleData) → AllOf (literals_of m idle r)
+  literals_all idle = order_all idle (both_literals (in_net_order m (input_cone m r))) (both_all (in_net_order m (input_cone m r)) (λ y among.
+      let p = filter_in (is_in (input_cone m r)) (all_nets m) y among in
+      let b = range_in (length m.circuit.names) 0 y p.0 in
+      (p.1, omega (arith, b.1))))
+
+  pub literal_at : (ls : List Literal) (k : ℕ) (l : Literal) → AllOf ls → slice_get ls k ≡ Some l → IsLiteralOf m r l
+  literal_at [] k l all at = absurd (none-some l at)
+  literal_at (j ∷ ls) zero l all at = subst (IsLiteralOf m r) (same_Some j l at) all.0
+  literal_at (j ∷ ls) (suc k) l all at = literal_at ls k l all.1 at
+
+  found_of : (test : Literal → Bool) (ls : List Literal) (l : Literal) → AllOf ls → find test ls ≡ Some l → IsLiteralOf m r l
+  found_of test [] l all is = absurd (none-some l is)
+  found_of test (j ∷ ls) l all is = go (test j) is (found_of test ls l all.1)
+    where
+      go : (b : Bool) → cond b (Some j) (find test ls) ≡ Some l → (find test ls ≡ Some l → IsLiteralOf m r l) → IsLiteralOf m r l
+      go true h rest = subst (IsLiteralOf m r) (same_Some j l h) all.0
+      go false h rest = rest h
+
+  -- the parts of a choice
+  abbrev parts : Bool → Bool → Option Literal → Result Choice AddFault
+  parts w a o = if w then Ok Wide else if a then Err (LimitFault ClaimNodes) else Ok (Takes o)
+
+  -- a literal that is taken has its place
+  pub choice_fits : (width : ℕ) (ls : List Literal) (choice : Choice) (places : ℕ) → AllOf ls → places ≡ 2 * length m.circuit.names → choice_by m width r ls ≡ Ok choice → FitsChoice places choice
+  choice_fits width ls choice places all is chosen = go (nat_lt width (hold_width m r)) (list_any (λ l. is_large m (hold_question l r)) (up_to (serves m r) ls)) (find (serves m r) ls) (found_of (serves m r) ls) chosen
+    where
+      fits : (o : Option Literal) → ((l : Literal) → AllOf ls → o ≡ Some l → IsLiteralOf m r l) → FitsChoice places (Takes o)
+      fits None found = tt
+      fits (Some l) found = let h = (found l all refl).1 in small l.1 h
+        where
+          small : (b : Bool) → l.0 < length m.circuit.names → 2 * l.0 + (if b then 1 else 0) < places
+          small true h = omega (arith, is, h)
+          small false h = omega (arith, is, h)
+
+      go : (w a : Bool) (o : Option Literal) → ((l : Literal) → AllOf ls → o ≡ Some l → IsLiteralOf m r l) → parts w a o ≡ Ok choice → FitsChoice places choice
+      go true a o found h = let e : Wide ≡ choice = cc in subst (FitsChoice places) e tt
+      go false true o found h = absurd (cc)
+      go false false o found h = let e : Takes o ≡ choice = cc in subst (FitsChoice places) e (fits o found)
+
+  -- without literals there are no inputs
+  inserted_some : (idle : Option IdleData) (l : Literal) (ks : List Literal) → insert_literal idle l ks ≡ [] → ⊥
+  inserted_some idle l [] h = cc
+  inserted_some idle l (k ∷ ks) h = go (nat_le (idle_count idle k) (idle_count idle l)) h
+    where
+      go : (b : Bool) → (if b then l ∷ k ∷ ks else k ∷ insert_literal idle l ks) ≡ [] → ⊥
+      go true e = cc
+      go false e = cc
+
+  pub alone : IsMachine m → (idle : Option IdleData) → literals_of m idle r ≡ [] → inputs_of_register m r ≡ []
+  alone good idle none = go (inputs_of_register m r) refl
+    where
+      some_nets : (nets : List ℕ) (y : ℕ) → is_in nets y ≡ true → by_count idle (both_literals nets) ≡ [] → ⊥
+      some_nets [] y among h = both_ways false refl among
+      some_nets (x ∷ nets) y among h = inserted_some idle (x, false) (by_count idle ((x, true) ∷ both_literals nets)) h
+
+      go : (xs : List ℕ) → inputs_of_register m r ≡ xs → inputs_of_register m r ≡ []
+      go [] is = is
+      go (x ∷ xs) is =
+          let among : is_in (inputs_of_register m r) x ≡ true = ap (λ l. is_in l x) is ∙ or_left (nat_eq x x) (is_in xs x) (eq-eqb x x refl) in
+          let there : is_in (input_cone m r) x ≡ true = cone_has (walk_of m) (inputs_of_register m r) x among in
+          absurd (some_nets (in_net_order m (input_cone m r)) x (ordered_some m (input_cone m r) x there (used_net m good x (inputs_used m good r x among)).below) none)
+
+  -- the nets of the cone, in net order
+  pub nets_are : (cell : RegisterCell ℕ ℕ) → slice_get m.circuit.registers r ≡ Some cell → (found : List ℕ) → ((y : ℕ) → is_in found y ≡ is_in (cone_of (walk_of m) cell.inputs) y) → filter (is_in found) (all_nets m) ≡ in_net_order m (input_cone m r)
+  nets_are cell at found same = same_filter (is_in found) (is_in (input_cone m r)) (all_nets m) (λ y among. same y ∙ ap (λ o. is_in (cone_of (walk_of m) (option_map_or (λ (c : RegisterCell ℕ ℕ). c.inputs) o [])) y) (sym at))
+
+-- a net of the netlist is one of the machine
+pub own_below : (m : MachineData) (y : ℕ) → y < length (own_netlist m).names → y < length m.circuit.names
+own_below m y below = let h = short (own_nets m) m.circuit.names in omega (arith, below, h)
+  where
+    short : {X : Type 0} (n : ℕ) (xs : List X) → length (take n xs) ≤ length xs
+    short zero [] = omega arith
+    short zero (x ∷ xs) = omega arith
+    short (suc n) [] = omega arith
+    short (suc n) (x ∷ xs) = let h = short n xs in omega (arith, h)
+
+-- nets in net order stay so
+pub ordered_twice : (m : MachineData) (xs : List ℕ) → in_net_order m xs ≡ in_net_order m (in_net_order m xs)
+ordered_twice m xs = same_filter (is_in xs) (is_in (in_net_order m xs)) (all_nets m) (λ x among.
+    truth (is_in xs x) (is_in (in_net_order m xs) x) (λ h. in_filtered (is_in xs) (all_nets m) x among h) (λ h. (filter_in (is_in xs) (all_nets m) x h).1))
+  where
+    truth : (x y : Bool) → (x ≡ true → y ≡ true) → (y ≡ true → x ≡ true) → x ≡ y
+    truth true y there back = sym (there refl)
+    truth false true there back = back refl
+    truth false false there back = refl

@@ -1,0 +1,29 @@
+use Rattle.std.proofs.Common.{◌≡◌, ◌<◌, ◌≤◌, ℕ, List, true, Some, length, slice_get, sym, ◌∙◌, ap, subst, arith}
+use Rattle.std.specs.List.{filter}
+use Rattle.std.proofs.lemmas.List.{length-take-le}
+use Rattle.cg_lists.specs.Supports.{all_nets}
+use Rattle.cg_machine.specs.Added.{own_netlist, own_nets}
+use Rattle.cg_netlist.proofs.Used.{data_is_used}
+use Rattle.cg_netlist.specs.Circuit.{Circuit, is_in}
+use Rattle.cg_netlist.specs.Netlist.{IsNetlist}
+use Rattle.cg_netlist.specs.View.{register_seen}
+use Rattle.cg_support.proofs.Nets.{take_some}
+use Rattle.cg_support.proofs.Steps.{used_within}
+use Rattle.cg_hold.proofs.OfRegister.{nets_are, own_below}
+use Rattle.cg_hold.proofs.literals.nets_of.Goals as goal
+
+pub cone-requires : goal.cone-requires
+cone-requires c = λ y among.
+    let m = c.args.machine.now in
+    let at : slice_get (own_netlist m).registers c.args.reg ≡ Some (register_seen c.register.result) = subst (λ (n : Circuit). slice_get n.registers c.args.reg ≡ Some (register_seen c.register.result)) c.netlist-netlist.ensures.netlist c.register.ensures in
+    used_within (own_netlist m) (subst IsNetlist c.netlist-netlist.ensures.netlist c.registers-registers.ensures.netlist) y (data_is_used (own_netlist m) c.args.reg y (register_seen c.register.result) at among)
+
+pub returns : goal.returns
+returns c =
+    let m = c.args.machine.now in
+    let cell = register_seen c.register.result in
+    let at : slice_get m.circuit.registers c.args.reg ≡ Some cell = take_some m.own_registers m.circuit.registers c.args.reg cell (subst (λ (n : Circuit). slice_get n.registers c.args.reg ≡ Some cell) c.netlist-netlist.ensures.netlist c.register.ensures) in
+    let keys = c.in_ok-found.found.keys in
+    let all : c.in_ok-numbers_of.field-0.items ≡ keys = c.in_ok-numbers_of.ensures in
+    (c.rising.ensures (length m.circuit.names) (λ y among. own_below m y (c.in_ok-found.ensures.own y (ap (λ l. is_in l y) (sym all) ∙ among))))
+    ∙ (ap (λ l. filter (is_in l) (all_nets m)) all ∙ nets_are m c.args.reg cell at keys c.in_ok-found.ensures.cone)

@@ -1,0 +1,2 @@
+pub mod HoldAnswer
+pub mod inner

@@ -1,0 +1,133 @@
+//! The registers that took each literal.
+
+ghost use Rattle.std.specs.Prelude.{◌≡◌, ◌<◌, ◌≤◌, ◌+◌, ◌*◌, ◌^◌, ◌++◌, ◌∷◌, ◌⊎◌, [], ℕ, true, length, replicate, slice_index_or, slice_set, is_none, IfErr, IfOk, OnOk};
+ghost use Rattle.std.specs.Option.{option_copied};
+ghost use Rattle.cg_hold.specs.inner.Choosing.{AreChosen, FitsChoice, passes_at, wide_by, with_choice};
+ghost use Rattle.cg_hold.specs.inner.Packed.{place_of};
+ghost use Rattle.cg_limit.specs.declared.Limit.TheVariants.{ClaimNodes};
+ghost use Rattle.cg_lists.specs.HoldList.{hold_passes};
+ghost use Rattle.cg_lists.specs.Literals.{FitsIdle};
+ghost use Rattle.cg_machine.specs.Machine.{enable_of};
+ghost use Rattle.cg_netlist.specs.declared.fault.AddFault.TheVariants.{Limit as LimitFault, NoMemory};
+
+use crate::choice::{Choice, choose};
+use crate::trial::Trier;
+use cg_list::Seq;
+use cg_lists::idle::Idle;
+use cg_machine::machine::Machine;
+use cg_machine::stage::NetLit;
+use cg_netlist::fault::AddFault;
+use cg_netlist::id::RegId;
+use std::alloc::{AllocError, Global};
+
+/// What came of registers.
+#[derive(Drop)]
+pub(crate) struct Chosen {
+    /// For each literal, net by net and plain before inverted, the registers that took it.
+    pub lists: Vec<Seq<RegId>>,
+
+    /// Of how many registers the hold claims are too wide.
+    pub wide: u32,
+}
+
+impl Chosen {
+    /// What comes of all registers of a machine's netlist that have no enable.
+    pub fn of(
+        alloc: Global,
+        machine: &Machine,
+        width: u32,
+        idle: Option<&Idle<'_>>,
+    ) -> Result<Chosen, AddFault>
+        requires { FitsIdle machine.now (option_copied idle) }
+        ensures chosen { IfOk result (λ chosen. AreChosen machine.now (option_copied idle.entry) width machine.now.own_registers chosen.lists.items chosen.wide) }
+        ensures refused { IfErr result (λ fault. (fault ≡ NoMemory) ⊎ ((fault ≡ LimitFault ClaimNodes) × (hold_passes machine.now (option_copied idle.entry) width ≡ true))) }
+    {
+        let netlist = machine.netlist();
+        let mut trier = Trier::new(alloc);
+        let Ok(mut chosen) = Chosen::none(alloc, machine.nets()) else {
+            return Err(AddFault::NoMemory);
+        };
+        for reg in 0..netlist.registers() {
+            chosen.look(alloc, &mut trier, machine, RegId::new(reg), width, idle)?;
+        }
+        Ok(chosen)
+    }
+
+    /// No register for each literal of `nets` nets.
+    fn none(alloc: Global, nets: u32) -> Result<Chosen, AllocError>
+        requires { nets ≤ 1048576 }
+        ensures lists { IfOk result (λ chosen. chosen.lists.items ≡ replicate (2 * nets) []) }
+        ensures wide { IfOk result (λ chosen. chosen.wide ≡ 0) }
+    {
+        let mut lists = Vec::new(alloc);
+        for _ in 0..2 * nets {
+            lists.push(Seq::new(alloc))?;
+        }
+        Ok(Chosen { lists, wide: 0 })
+    }
+
+    /// Looks at one register.
+    fn look(
+        &mut self,
+        alloc: Global,
+        trier: &mut Trier,
+        machine: &Machine,
+        reg: RegId,
+        width: u32,
+        idle: Option<&Idle<'_>>,
+    ) -> Result<(), AddFault>
+        requires register { reg < machine.now.own_registers }
+        requires idle { FitsIdle machine.now (option_copied idle) }
+        requires chosen { AreChosen machine.now (option_copied idle) width reg self.old.lists.items self.old.wide }
+        ensures chosen { OnOk result (AreChosen machine.now (option_copied idle.entry) width (reg + 1) self.new.lists.items self.new.wide) }
+        ensures refused { IfErr result (λ fault. (fault ≡ NoMemory) ⊎ ((fault ≡ LimitFault ClaimNodes) × ((is_none (enable_of machine.now reg) ≡ true) × (passes_at machine.now (option_copied idle.entry) width reg ≡ true)))) }
+    {
+        let _netlist = machine.netlist();
+        if machine.enable(reg).is_some() {
+            return Ok(());
+        }
+        match choose(alloc, trier, machine, reg, width, idle) {
+            Ok(choice) => self.note(reg, choice),
+            Err(fault) => Err(fault),
+        }
+    }
+
+    /// Notes what came of a register.
+    fn note(&mut self, reg: RegId, choice: Choice) -> Result<(), AddFault>
+        requires wide { self.old.wide < 2 ^ 31 }
+        requires place { FitsChoice (length self.old.lists.items) choice }
+        ensures lists { OnOk result (self.new.lists.items ≡ with_choice self.old.lists.items choice reg) }
+        ensures wide { OnOk result (self.new.wide ≡ self.old.wide + wide_by choice) }
+        ensures failed { IfErr result (λ fault. fault ≡ NoMemory) }
+    {
+        match choice {
+            Choice::Wide => {
+                self.wide += 1;
+                Ok(())
+            }
+            Choice::Takes(Some(literal)) => self.put(literal, reg),
+            Choice::Takes(None) => Ok(()),
+        }
+    }
+
+    /// Puts a register to the literal that it took.
+    fn put(&mut self, literal: NetLit, reg: RegId) -> Result<(), AddFault>
+        requires { place_of literal < length self.old.lists.items }
+        ensures lists { OnOk result (self.new.lists.items ≡ slice_set self.old.lists.items (place_of literal) (slice_index_or self.old.lists.items (place_of literal) [] ++ reg ∷ [])) }
+        ensures wide { OnOk result (self.new.wide ≡ self.old.wide) }
+        ensures failed { IfErr result (λ fault. fault ≡ NoMemory) }
+    {
+        match self.lists[place_of(literal)].push(reg) {
+            Ok(()) => Ok(()),
+            Err(_) => Err(AddFault::NoMemory),
+        }
+    }
+}
+
+/// The place of a literal: net by net, plain before inverted.
+pub(crate) fn place_of(literal: NetLit) -> usize
+    ensures { result ≡ place_of literal }
+{
+    let place = 2 * literal.net.number() as usize;
+    if literal.inverted { place + 1 } else { place }
+}

@@ -1,0 +1,19 @@
+//! The hold stages of a machine: registers that keep their bits wherever one literal of the cone of their inputs is 0.
+//!
+//! A machine, a width and, where there is a stimulus, how often its nets are 0 go in, and the list of stages comes out. Each
+//! register is looked at once, over the nets of its own cone.
+//!
+//! The modules:
+//!
+//! - `literals`: the literals of a register in the order in which they are tried.
+//! - `trial`: what comes of one literal, by its claims.
+//! - `choice`: the literal that a register takes.
+//! - `chosen`: the registers that took each literal.
+//! - `candidates`: the hold stages.
+#![tactic(auto)]
+
+pub mod candidates;
+mod choice;
+mod chosen;
+mod literals;
+mod trial;

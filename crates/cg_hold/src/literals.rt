@@ -1,0 +1,151 @@
+//! The literals of a register in the order in which they are tried.
+
+ghost use Rattle.std.specs.Prelude.{◌≡◌, ◌<◌, ◌≤◌, ℕ, Some, true, length, map, IfOk};
+ghost use Rattle.std.specs.List.{All};
+ghost use Rattle.std.specs.Option.{option_copied};
+ghost use Rattle.cg_hold.specs.inner.Packed.{packed, unpacked};
+ghost use Rattle.cg_lists.specs.Literals.{FitsIdle, IsIdleData, both_literals, by_count, literals_of};
+ghost use Rattle.cg_lists.specs.Supports.{in_net_order, input_cone};
+ghost use Rattle.cg_netlist.specs.Circuit.{is_in};
+
+use cg_groups::order::rising;
+use cg_lists::idle::Idle;
+use cg_machine::machine::Machine;
+use cg_machine::stage::NetLit;
+use cg_netlist::id::{NetId, RegId};
+use cg_support::cone::cone;
+use indexmap::IndexSet;
+use std::alloc::{AllocError, Global};
+
+// More than the places of all literals: two for each net that a netlist may have.
+const PLACES: u64 = 2_097_152;
+
+/// The literals of a register in the order in which they are tried: the nets of the cone of its inputs, each plain and
+/// inverted, those before the others that are 0 on more rows of the stimulus.
+pub(crate) fn literals_of(
+    alloc: Global,
+    machine: &Machine,
+    reg: RegId,
+    idle: Option<&Idle<'_>>,
+) -> Result<Vec<NetLit>, AllocError>
+    requires register { reg < machine.now.own_registers }
+    requires idle { FitsIdle machine.now (option_copied idle) }
+    ensures { IfOk result (λ literals. literals.items ≡ literals_of machine.now (option_copied idle.entry) reg) }
+{
+    let nets = nets_of(alloc, machine, reg)?;
+    match idle {
+        Some(idle) => ranked(alloc, machine, &nets, idle),
+        None => both(alloc, &nets),
+    }
+}
+
+/// The nets of the cone of a register's inputs, in net order.
+fn nets_of(alloc: Global, machine: &Machine, reg: RegId) -> Result<Vec<u32>, AllocError>
+    requires { reg < machine.now.own_registers }
+    ensures { IfOk result (λ nets. nets.items ≡ in_net_order machine.now (input_cone machine.now reg)) }
+{
+    let netlist = machine.netlist();
+    let _registers = netlist.registers();
+    let found = cone(alloc, machine, netlist.register(reg).inputs)?;
+    Ok(rising(numbers_of(alloc, &found)?))
+}
+
+/// The numbers of a set.
+fn numbers_of(alloc: Global, found: &IndexSet<u32>) -> Result<Vec<u32>, AllocError>
+    ensures { IfOk result (λ numbers. numbers.items ≡ found.now.keys) }
+{
+    let mut numbers = Vec::new(alloc);
+    for place in 0..found.len() {
+        numbers.push(found[place])?;
+    }
+    Ok(numbers)
+}
+
+/// Each net plain and then inverted.
+fn both(alloc: Global, nets: &[u32]) -> Result<Vec<NetLit>, AllocError>
+    ensures { IfOk result (λ literals. literals.items ≡ both_literals nets.now) }
+{
+    let mut literals = Vec::new(alloc);
+    for number in nets {
+        let net = NetId::new(*number);
+        literals.push(NetLit {
+            net,
+            inverted: false,
+        })?;
+        literals.push(NetLit {
+            net,
+            inverted: true,
+        })?;
+    }
+    Ok(literals)
+}
+
+/// Each net plain and inverted, those before the others that are 0 on more rows; those that are 0 as often stay in net order,
+/// plain before inverted.
+fn ranked(
+    alloc: Global,
+    machine: &Machine,
+    nets: &[u32],
+    idle: &Idle<'_>,
+) -> Result<Vec<NetLit>, AllocError>
+    requires idle { IsIdleData machine.now idle.now }
+    requires order { nets.now ≡ in_net_order machine.now nets.now }
+    ensures { IfOk result (λ literals. literals.items ≡ by_count (Some idle.now) (both_literals nets.now)) }
+{
+    let _netlist = machine.netlist();
+    let mut numbers = packed_all(alloc, nets, idle)?;
+    numbers.sort_unstable();
+    numbers.dedup();
+    unpacked_all(alloc, &numbers)
+}
+
+/// The numbers of the literals of these nets.
+fn packed_all(alloc: Global, nets: &[u32], idle: &Idle<'_>) -> Result<Vec<u64>, AllocError>
+    requires most { All (λ zeros. zeros ≤ idle.now.rows) idle.now.zeros }
+    requires nets { (y : ℕ) → is_in nets.now y ≡ true → y < length idle.now.zeros }
+    ensures { IfOk result (λ numbers. numbers.items ≡ map (packed idle.now) (both_literals nets.now)) }
+{
+    let mut numbers = Vec::new(alloc);
+    for net in nets {
+        numbers.push(pack(*net, false, idle))?;
+        numbers.push(pack(*net, true, idle))?;
+    }
+    Ok(numbers)
+}
+
+/// The number of a literal: its rank, which is less where it is 0 on more rows, before its place.
+fn pack(net: u32, inverted: bool, idle: &Idle<'_>) -> u64
+    requires most { All (λ zeros. zeros ≤ idle.now.rows) idle.now.zeros }
+    requires net { net < length idle.now.zeros }
+    ensures { result ≡ packed idle.now (net, inverted) }
+{
+    let zeros = idle.zeros[net as usize];
+    let others = idle.rows - zeros;
+    if inverted {
+        zeros as u64 * PLACES + (2 * net as u64 + 1)
+    } else {
+        others as u64 * PLACES + 2 * net as u64
+    }
+}
+
+/// The literals of these numbers.
+fn unpacked_all(alloc: Global, numbers: &[u64]) -> Result<Vec<NetLit>, AllocError>
+    ensures { IfOk result (λ literals. literals.items ≡ map unpacked numbers.now) }
+{
+    let mut literals = Vec::new(alloc);
+    for number in numbers {
+        literals.push(unpack(*number))?;
+    }
+    Ok(literals)
+}
+
+/// The literal of a number.
+fn unpack(number: u64) -> NetLit
+    ensures { result ≡ unpacked number }
+{
+    let place = number % PLACES;
+    NetLit {
+        net: NetId::new((place / 2) as u32),
+        inverted: place % 2 == 1,
+    }
+}

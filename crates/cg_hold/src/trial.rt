@@ -1,0 +1,144 @@
+//! What comes of one literal, by its claims.
+
+ghost use Rattle.std.specs.Prelude.{◌≡◌, ◌<◌, ◌∷◌, [], ℕ, if◌then◌else◌, IsTrue, IfOk, MatchResult, length};
+ghost use Rattle.cg_aig.specs.Aig.{aig_ops};
+ghost use Rattle.cg_claim.specs.LeafBits.{is_never};
+ghost use Rattle.cg_claim.specs.Question.{Question, hold_question, idle_question};
+ghost use Rattle.cg_claim.specs.Violates.{SidesFit};
+ghost use Rattle.cg_hold.specs.inner.Choosing.{IsLiteralOf, refused_trial, trial_of};
+ghost use Rattle.cg_limit.specs.Answers.{OrNoMemory};
+ghost use Rattle.cg_lists.specs.HoldList.{serves};
+ghost use Rattle.cg_machine.specs.Machine.{IsMachine, MachineData};
+ghost use Rattle.cg_netlist.specs.declared.fault.AddFault.TheVariants.{NoMemory};
+ghost use Rattle.cg_unroll.specs.Claims.{IsClaim};
+
+use cg_claim::laws::claim_laws;
+use cg_decide::{Decider, Decision};
+use cg_lists::laws::list_laws;
+use cg_machine::machine::Machine;
+use cg_machine::stage::NetLit;
+use cg_netlist::fault::AddFault;
+use cg_netlist::id::RegId;
+use cg_unroll::claim::ClaimFault;
+use cg_unroll::unroller::Unroller;
+use std::alloc::{AllocError, Global};
+
+/// What comes of a literal that is looked at for a register.
+#[derive(Clone, Copy)]
+pub(crate) enum Trial {
+    /// The hold claims of the register are too wide.
+    TooWide,
+
+    /// The register holds its bit where the literal is 0, and the literal can be 0.
+    Serves,
+
+    /// One of the two is not so.
+    Fails,
+}
+
+/// What tries literals one after another, in buffers that are kept.
+#[derive(Drop)]
+pub(crate) struct Trier {
+    unroller: Unroller,
+    decider: Decider,
+}
+
+impl Trier {
+    /// With empty buffers.
+    pub fn new(alloc: Global) -> Trier {
+        Trier {
+            unroller: Unroller::new(alloc),
+            decider: Decider::new(alloc),
+        }
+    }
+
+    /// What comes of a literal of the cone of a register's inputs.
+    pub fn try_literal(
+        &mut self,
+        machine: &Machine,
+        literal: NetLit,
+        reg: RegId,
+        width: u32,
+    ) -> Result<Trial, AddFault>
+        requires register { reg < machine.now.own_registers }
+        requires literal { IsLiteralOf machine.now reg literal }
+        ensures { OrNoMemory NoMemory (λ trial. trial) result (trial_of machine.now width reg literal) }
+    {
+        list_laws();
+        let _netlist = machine.netlist();
+        match self.unroller.hold(machine, literal, reg, width) {
+            Ok(()) => self.judge(machine, literal, reg, width),
+            Err(fault) => refused(fault),
+        }
+    }
+
+    /// What comes of a literal whose hold claim was built.
+    fn judge(
+        &mut self,
+        machine: &Machine,
+        literal: NetLit,
+        reg: RegId,
+        width: u32,
+    ) -> Result<Trial, AddFault>
+        requires register { reg < machine.now.own_registers }
+        requires net { literal.0 < length machine.now.circuit.names }
+        requires claim { IsClaim machine.now (hold_question literal reg) width self.old.unroller }
+        ensures { MatchResult result (λ trial. trial ≡ (if serves machine.now reg literal then Trial.Serves else Trial.Fails)) (λ fault. fault ≡ NoMemory) }
+    {
+        let _netlist = machine.netlist();
+        let Ok(holds) = self.is_never() else {
+            return Err(AddFault::NoMemory);
+        };
+        if !holds {
+            return Ok(Trial::Fails);
+        }
+        let Ok(stays) = self.is_never_idle(machine, literal) else {
+            return Err(AddFault::NoMemory);
+        };
+        if stays {
+            Ok(Trial::Fails)
+        } else {
+            Ok(Trial::Serves)
+        }
+    }
+
+    /// Whether a literal is never 0.
+    fn is_never_idle(&mut self, machine: &Machine, literal: NetLit) -> Result<bool, AllocError>
+        requires { literal.0 < length machine.now.circuit.names }
+        ensures { IfOk result (λ never. never ≡ is_never machine.now (idle_question (literal ∷ []))) }
+    {
+        let _netlist = machine.netlist();
+        // The claim has fewer leaves than any width of this type allows, and its nodes are among those of a hold claim that was
+        // within the limit.
+        match self.unroller.idle(machine, &[literal], u32::MAX) {
+            Ok(()) => self.is_never(),
+            Err(_) => Err(AllocError),
+        }
+    }
+
+    /// Whether the goal of the claim that was built last is never 1.
+    fn is_never(&mut self) -> Result<bool, AllocError>
+        requires { IsTrue (aig_ops.is_valid self.old.unroller.aig self.old.unroller.goal) }
+        ensures { IfOk result (λ never. (m : MachineData) (q : Question) (width : ℕ) → IsMachine m → SidesFit m q.sides → IsClaim m q width self.old.unroller → never ≡ is_never m q) }
+    {
+        claim_laws();
+        match self
+            .decider
+            .decide(self.unroller.aig(), self.unroller.goal())?
+        {
+            Decision::Never(_, _) => Ok(true),
+            Decision::Sometimes(_) => Ok(false),
+        }
+    }
+}
+
+/// What comes of a literal whose hold claim is refused so.
+fn refused(fault: ClaimFault) -> Result<Trial, AddFault>
+    ensures { result ≡ refused_trial fault }
+{
+    match fault {
+        ClaimFault::Wide(_) => Ok(Trial::TooWide),
+        ClaimFault::Limit(limit) => Err(AddFault::Limit(limit)),
+        ClaimFault::NoMemory => Err(AddFault::NoMemory),
+    }
+}

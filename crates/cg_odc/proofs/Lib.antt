@@ -1,0 +1,6 @@
+pub mod Any
+pub mod Guarded
+pub mod Keyed
+pub mod Listed
+pub mod Lists
+pub mod Shown

@@ -1,0 +1,12 @@
+use Rattle.std.proofs.Common.{◌≡◌, ◌<◌, ℕ, length}
+use Rattle.std.specs.Option.{option_map}
+use Rattle.cg_groups.specs.Keys.{key_at}
+use Rattle.cg_lists.specs.UnseenList.{unseen_key}
+use Rattle.cg_odc.specs.inner.Guarding.{guard_key}
+use Rattle.cg_odc.proofs.key.keys_of.Given as goal
+
+abbrev pub invariant-loop-reg : goal.invariant-loop-reg
+invariant-loop-reg l = record {
+  count : length l.keys.items ≡ l.reg;
+  each : (r : ℕ) → r < l.reg → key_at l.keys.items r ≡ option_map guard_key (unseen_key l.machine r);
+}

@@ -1,0 +1,51 @@
+//! The keys of registers in a round of unobservability.
+
+ghost use Rattle.std.specs.Prelude.{◌≡◌, ◌<◌, ℕ, IfOk};
+ghost use Rattle.std.specs.Option.{option_map};
+ghost use Rattle.cg_groups.specs.Keys.{key_seen};
+ghost use Rattle.cg_lists.specs.UnseenList.{unseen_key};
+ghost use Rattle.cg_netlist.specs.Circuit.{is_in};
+ghost use Rattle.cg_odc.specs.inner.Guarding.{AreKeys, guard_key, guards_by};
+
+use crate::guards::Guards;
+use cg_groups::key::Key;
+use cg_groups::order::rising;
+use cg_machine::machine::Machine;
+use cg_netlist::id::RegId;
+use std::alloc::{AllocError, Global};
+
+/// The keys of all registers of a machine's netlist, each at its place: its guards, where it has some and no enable.
+pub(crate) fn keys_of(alloc: Global, machine: &Machine) -> Result<Vec<Option<Key>>, AllocError>
+    ensures { IfOk result (λ keys. AreKeys machine.now keys.items) }
+{
+    let netlist = machine.netlist();
+    let guards = Guards::of(alloc, machine)?;
+    let mut keys = Vec::new(alloc);
+    for reg in 0..netlist.registers() {
+        let list = guards.lists[reg as usize].as_slice();
+        let key = key_of(alloc, machine, RegId::new(reg), list)?;
+        keys.push(key)?;
+    }
+    Ok(keys)
+}
+
+/// The key of a register, where these are its guards, some of them more than once.
+fn key_of(
+    alloc: Global,
+    machine: &Machine,
+    reg: RegId,
+    guards: &[u32],
+) -> Result<Option<Key>, AllocError>
+    requires register { reg < machine.now.own_registers }
+    requires guards { (q : ℕ) → is_in guards.now q ≡ guards_by machine.now machine.now.own_registers reg q }
+    ensures { IfOk result (λ key. option_map key_seen key ≡ option_map guard_key (unseen_key machine.now reg)) }
+{
+    let _netlist = machine.netlist();
+    if machine.enable(reg).is_some() || guards.is_empty() {
+        return Ok(None);
+    }
+    Ok(Some(Key {
+        numbers: rising(Vec::from_slice(alloc, guards)?),
+        own: None,
+    }))
+}

@@ -1,0 +1,49 @@
+-- Texts that are written piece by piece.
+use Rattle.std.proofs.Common.{◌≡◌, ℕ, suc, Bool, cond, ◌+◌, ◌<◌, List, [], ◌∷◌, ◌++◌, length, drop, get_or, map, refl, sym, ap, ◌∙◌, add-one, drop-cons, append_assoc, append-nil}
+use Rattle.std.proofs.lemmas.Grind.{flat_map-append}
+use Rattle.std.specs.List.{count_by, flat_map}
+use Rattle.std.proofs.lemmas.List.Sums.{count_by-le-length, sum_by-cons}
+use Rattle.cg_machine.specs.Machine.{MachineData}
+use Rattle.cg_machine.specs.declared.stage.Stage.{Stage}
+use Rattle.cg_plan.specs.declared.certificate.Certificate.{Certificate}
+use Rattle.cg_plan.specs.declared.outcome.Outcome.{Outcome}
+use Rattle.cg_text.specs.Written.{joined, line_text, text_of}
+use Rattle.cg_plan_text.specs.ProofText.{certificate_text}
+use Rattle.cg_plan_text.specs.StageLines.{stages_from}
+use Rattle.cg_plan_text.specs.inner.Spaced.{spaced}
+use Rattle.cg_plan_text.specs.Words.{Word, stage_words}
+
+-- a line is its first word, the others each behind a space, and a line feed
+joined-spaced : (word : Word) (words : List Word) → joined (word ∷ words) ≡ word ++ spaced words
+joined-spaced word [] = sym (append-nil word)
+joined-spaced word (next ∷ words) = ap (λ later. word ++ (32 ∷ later)) (joined-spaced next words)
+
+pub line_text-spaced : (word : Word) (words : List Word) → line_text (word ∷ words) ≡ word ++ (spaced words ++ 10 ∷ [])
+line_text-spaced word words = ap (λ line. line ++ 10 ∷ []) (joined-spaced word words) ∙ append_assoc word (spaced words) (10 ∷ [])
+
+pub spaced-append : (words more : List Word) → spaced (words ++ more) ≡ spaced words ++ spaced more
+spaced-append words more = flat_map-append (λ (word : Word). 32 ∷ word) words more
+
+-- what is left to write at k is the word there and what is left behind it
+pub spaced_map-drop : {A : Type 0} (word : A → Word) (xs : List A) (k : ℕ) (d : A) → k < length xs → spaced (map word (drop k xs)) ≡ (32 ∷ word (get_or xs k d)) ++ spaced (map word (drop (k + 1) xs))
+spaced_map-drop word xs k d below = rw (add-one, drop-cons xs k d) refl
+
+pub stages_from-drop : (m : MachineData) (told : List (Stage × Outcome)) (k : ℕ) (d : Stage × Outcome) → k < length told
+    → text_of (stages_from m (k + 1) (drop k told)) ≡ line_text (stage_words m (k + 1) (get_or told k d)) ++ text_of (stages_from m (k + 1 + 1) (drop (k + 1) told))
+stages_from-drop m told k d below = rw (add-one k, drop-cons told k d) refl
+
+pub certificates-drop : (m : MachineData) (certificates : List Certificate) (k : ℕ) (d : Certificate) → k < length certificates
+    → flat_map (certificate_text m) (drop k certificates) ≡ certificate_text m (get_or certificates k d) ++ flat_map (certificate_text m) (drop (k + 1) certificates)
+certificates-drop m certificates k d below = rw (add-one, drop-cons certificates k d) refl
+
+-- what is left to count at k
+pub count_by-drop : {A : Type 0} (p : A → Bool) (xs : List A) (k : ℕ) (d : A) → k < length xs → count_by p (drop k xs) ≡ cond (p (get_or xs k d)) 1 0 + count_by p (drop (k + 1) xs)
+count_by-drop {A} p xs k d below = rw (add-one, drop-cons xs k d) (sum_by-cons (λ x. cond (p x) 1 0) (get_or xs k d) (drop (suc k) xs))
+
+pub ruleset counts = (count_by-drop, count_by-le-length)
+
+pub ruleset pieces = (spaced-append, append_assoc, append-nil)
+
+pub ruleset lines = (line_text-spaced, spaced-append, append_assoc, append-nil)
+
+pub ruleset turns = (spaced_map-drop, stages_from-drop, certificates-drop, append_assoc)

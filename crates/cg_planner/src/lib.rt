@@ -1,0 +1,14 @@
+//! Planning: which stages a machine gets.
+//!
+//! A machine, a library and settings go in. Stages are looked for and tried one after the other, each on the machine so far,
+//! and the plan comes out: the machine at the end, the stages with what came of them, and the proofs of the claims on which
+//! the inserted ones stand.
+//!
+//! The modules:
+//!
+//! - `trial`: a stage that is tried on a machine.
+//! - `plan`: the plan of a machine.
+#![tactic(auto)]
+
+pub mod plan;
+pub mod trial;

@@ -1,0 +1,60 @@
+//! The plan of a machine.
+
+ghost use Rattle.std.specs.Prelude.{◌≡◌, IfOk, IfErr};
+ghost use Rattle.std.specs.Option.{option_copied};
+ghost use Rattle.cg_lists.specs.Literals.{FitsIdle};
+ghost use Rattle.cg_plan.specs.Plan.{plan_of};
+ghost use Rattle.cg_plan.specs.Told.{IsPlan, PlanMayFail};
+ghost use Rattle.cg_planner.specs.Planning.{AreWritable, IsSafePlan, told};
+
+use cg_cell::library::Library;
+use cg_list::Seq;
+use cg_lists::idle::Idle;
+use cg_machine::machine::Machine;
+use cg_machine::stage::Stage;
+use cg_netlist::fault::AddFault;
+use cg_plan::certificate::Certificate;
+use cg_plan::outcome::Outcome;
+use cg_plan::settings::Settings;
+use std::alloc::Global;
+
+/// A plan of a machine.
+#[derive(Drop)]
+pub struct Plan {
+    /// The machine with all that the inserted stages add and set.
+    pub machine: Machine,
+
+    /// The stages that were tried, in order, each with what came of it.
+    pub stages: Seq<(Stage, Outcome)>,
+
+    /// Of how many registers without an enable the hold claims are too wide, on the machine that the plan begins with.
+    pub wide: u32,
+
+    /// A proof of each claim of the inserted stages, but for that it can idle, in the order of stages and claims.
+    pub certificates: Seq<Certificate>,
+}
+
+/// The plan of a machine: the hold stages are tried, those first whose literal is 0 most often where counts are given; then
+/// come the rounds of stability, and then those of unobservability. The plan's machine has, from every start with 1 in the
+/// delay registers and over every waveform, the outputs of the machine that is given.
+///
+/// The counts are one number for each net of the machine, none above the number of rows.
+///
+/// It is refused where a stage would be, or a claim of a register and a literal that are looked at for the hold stages, by the
+/// limit that comes first in the order of the plan.
+pub fn make_plan(
+    alloc: Global,
+    machine: Machine,
+    library: &Library,
+    settings: &Settings,
+    idle: Option<&Idle<'_>>,
+) -> Result<Plan, AddFault>
+    requires { FitsIdle machine (option_copied idle) }
+    ensures plan { IfOk result (λ plan. IsPlan library.now settings.now (option_copied idle.entry) machine (told plan)) }
+    ensures writable { IfOk result (λ plan. AreWritable plan.certificates) }
+    ensures safe { IfOk result (λ plan. IsSafePlan library.now settings.now machine plan.machine) }
+    ensures fault { IfErr result (PlanMayFail (plan_of library.now settings.now (option_copied idle.entry) machine).limit) }
+{
+    // stub: body to come
+    Err(AddFault::NoMemory)
+}

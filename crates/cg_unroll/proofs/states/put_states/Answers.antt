@@ -1,0 +1,56 @@
+use Rattle.std.proofs.Common.{◌≡◌, ◌<◌, ◌+◌, ℕ, suc, List, [], ◌∷◌, Some, drop, length, slice_get, slice_index_or, slice_set, sym, ◌∙◌, ap, subst, arith}
+use Rattle.std.proofs.lemmas.Option.{slice_get-get_or}
+use Rattle.cg_netlist.proofs.Members.{member_at}
+use Rattle.cg_machine.specs.Machine.{MachineData}
+use Rattle.cg_unroll.specs.inner.States.{IsLayingStates}
+use Rattle.cg_unroll.proofs.Fronts.{drop_cons, drop_whole}
+use Rattle.cg_unroll.proofs.StatesLaid.{states_end, states_fail, states_on, states_start}
+use Rattle.cg_unroll.proofs.states.put_states.Goals as goal
+
+pub loop-k-init : goal.loop-k-init
+loop-k-init c = states_start c.args.machine.now (λ x. slice_index_or c.args.nets.now x 0) (λ r. slice_index_or c.args.own.now r 0) (λ r. slice_index_or c.args.free.now r 0) c.args.registers.now c.args.aig.now c.args.states.now c.requires.valid_states
+
+pub returns-clause-laid : goal.returns-clause-laid
+returns-clause-laid c =
+    let m : MachineData = c.args.machine.now in
+    let nets : ℕ → ℕ = λ x. slice_index_or c.args.nets.now x 0 in
+    let own : ℕ → ℕ = λ r. slice_index_or c.args.own.now r 0 in
+    let free : ℕ → ℕ = λ r. slice_index_or c.args.free.now r 0 in
+    let none : drop c.loop-k.k c.args.registers.now ≡ [] = drop_whole c.args.registers.now c.loop-k.k (omega (arith, c.loop-k-test.false)) in
+    states_end m nets own free c.args.registers.now c.args.aig.now c.loop-k.aig c.args.states.now c.loop-k.states
+    (subst (λ l. IsLayingStates m nets own free c.args.registers.now l c.args.aig.now c.loop-k.aig c.args.states.now c.loop-k.states) none c.loop-k.invariant)
+
+pub returns-in-Err-clause-failed : goal.returns-in-Err-clause-failed
+returns-in-Err-clause-failed c =
+    let m : MachineData = c.args.machine.now in
+    let nets : ℕ → ℕ = λ x. slice_index_or c.args.nets.now x 0 in
+    let own : ℕ → ℕ = λ r. slice_index_or c.args.own.now r 0 in
+    let free : ℕ → ℕ = λ r. slice_index_or c.args.free.now r 0 in
+    let all : List ℕ = c.args.registers.now in
+    let k : ℕ = c.loop-k.k in
+    let r : ℕ = c.index-registers-k.result in
+    let at : slice_get all k ≡ Some r = slice_get-get_or all k r c.loop-k-test.true ∙ ap Some (sym c.index-registers-k.is) in
+    let left : drop k all ≡ r ∷ drop (suc k) all = drop_cons all k r at in
+    states_fail m nets own free all (drop (suc k) all) r c.args.aig.now c.loop-k.aig c.args.states.now c.loop-k.states (member_at all k r at)
+    (subst (λ l. IsLayingStates m nets own free all l c.args.aig.now c.loop-k.aig c.args.states.now c.loop-k.states) left c.loop-k.invariant)
+    c.in-Err.fault c.in-Err.ensures.failed
+
+pub loop-k-preserved : goal.loop-k-preserved
+loop-k-preserved c =
+    let m : MachineData = c.args.machine.now in
+    let nets : ℕ → ℕ = λ x. slice_index_or c.args.nets.now x 0 in
+    let own : ℕ → ℕ = λ r. slice_index_or c.args.own.now r 0 in
+    let free : ℕ → ℕ = λ r. slice_index_or c.args.free.now r 0 in
+    let all : List ℕ = c.args.registers.now in
+    let k : ℕ = c.loop-k.k in
+    let r : ℕ = c.index-registers-k.result in
+    let at : slice_get all k ≡ Some r = slice_get-get_or all k r c.loop-k-test.true ∙ ap Some (sym c.index-registers-k.is) in
+    let left : drop k all ≡ r ∷ drop (suc k) all = drop_cons all k r at in
+    let low : r < length m.circuit.registers = subst (λ n. n < length m.circuit.registers) (sym c.index-registers-k.is) (c.requires.registers k r c.loop-k-test.true) in
+    let below : r < length c.loop-k.states = omega (arith, low, c.requires.states, c.loop-k.invariant.long) in
+    let e : suc k ≡ k + 1 = omega arith in
+    subst (λ n. IsLayingStates m nets own free all (drop n all) c.args.aig.now c.state_literal.new.aig c.args.states.now c.put.new.self) e
+    (subst (IsLayingStates m nets own free all (drop (suc k) all) c.args.aig.now c.state_literal.new.aig c.args.states.now) (sym (c.in-Ok-put.ensures.put ∙ ap (λ n. slice_set c.loop-k.states n c.in-Ok.state) c.number.ensures.number))
+    (states_on m nets own free all (drop (suc k) all) r c.args.aig.now c.loop-k.aig c.args.states.now c.loop-k.states (member_at all k r at)
+    (subst (λ l. IsLayingStates m nets own free all l c.args.aig.now c.loop-k.aig c.args.states.now c.loop-k.states) left c.loop-k.invariant)
+    c.state_literal.new.aig c.in-Ok.state below c.in-Ok.ensures.built))

@@ -1,0 +1,115 @@
+//! The states of registers after the first cycle.
+
+ghost use Rattle.std.specs.Prelude.{◌≡◌, ◌<◌, ◌≤◌, if◌then◌else◌, length, nat_eq, slice_index_or, IfErr, IfOk, OnOk};
+ghost use Rattle.std.specs.List.{All};
+ghost use Rattle.cg_cell.specs.Domain.{AreValid};
+ghost use Rattle.cg_aig.specs.Aig.{aig_ops};
+ghost use Rattle.cg_aig.specs.declared.fault.AigFault.TheVariants.{NoMemory};
+ghost use Rattle.cg_claim.specs.Build.{aig_values, lay_states, mux_run, next_run};
+ghost use Rattle.cg_claim.specs.Question.{Question};
+ghost use Rattle.cg_machine.specs.Machine.{enable_of};
+ghost use Rattle.cg_unroll.specs.inner.Building.{Built, MayFail, table_of};
+ghost use Rattle.cg_unroll.specs.inner.States.{Carries, LaysStates, TellsFollows, state_step};
+
+use crate::literals::Literals;
+use crate::next::{loaded_literal, next_literal};
+use cg_aig::fault::AigFault;
+use cg_aig::list::Aig;
+use cg_aig::lit::AigLit;
+use cg_machine::machine::Machine;
+use cg_netlist::id::RegId;
+
+/// Puts the literals of the states that these registers have after the first cycle, one after another. `own` has their
+/// literals in that cycle, and `free` those of the leaves of the registers that nothing is said of. A register that holds
+/// its next bit is no such leaf, and has the constant 0 there.
+pub(crate) fn put_states(
+    machine: &Machine,
+    registers: &[RegId],
+    own: &Literals,
+    free: &Literals,
+    nets: &Literals,
+    aig: &mut Aig,
+    states: &mut Literals,
+    buffer: &mut Vec<AigLit>,
+) -> Result<(), AigFault>
+    requires registers { All (λ r. r < length machine.now.circuit.registers) registers.now }
+    requires own { length machine.now.circuit.registers ≤ length own.now }
+    requires free { length machine.now.circuit.registers ≤ length free.now }
+    requires states { length machine.now.circuit.registers ≤ length states.old }
+    requires nets { length machine.now.circuit.names ≤ length nets.now }
+    requires valid_own { AreValid aig_ops aig.old own.now }
+    requires valid_free { AreValid aig_ops aig.old free.now }
+    requires valid_states { AreValid aig_ops aig.old states.old }
+    requires valid_nets { AreValid aig_ops aig.old nets.now }
+    ensures laid { OnOk result (LaysStates machine.now (λ x. slice_index_or nets.now x 0) (λ r. slice_index_or own.now r 0) (λ r. slice_index_or free.now r 0)
+        registers.now aig.old aig.new states.old states.new) }
+    ensures failed { IfErr result (λ fault. (q : Question) → TellsFollows q.follows (λ r. slice_index_or free.now r 0) registers.now
+        → MayFail (lay_states aig_values machine.now q (λ x. slice_index_or nets.now x 0) (λ r. slice_index_or own.now r 0) (λ r. slice_index_or free.now r 0)
+        registers.now (table_of aig.old states.old)).domain fault) }
+{
+    for k in 0..registers.len() {
+        let reg = registers[k];
+        match state_literal(machine, reg, own, free, nets, aig, buffer) {
+            Ok(state) => match states.put(reg.number() as usize, state) {
+                Ok(()) => {}
+                Err(fault) => return Err(fault),
+            },
+            Err(fault) => return Err(fault),
+        }
+    }
+    Ok(())
+}
+
+/// The literal of the state that a register has after the first cycle: its next bit, or, where it is a leaf, that bit
+/// where it is loaded and else its own.
+fn state_literal(
+    machine: &Machine,
+    reg: RegId,
+    own: &Literals,
+    free: &Literals,
+    nets: &Literals,
+    aig: &mut Aig,
+    buffer: &mut Vec<AigLit>,
+) -> Result<AigLit, AigFault>
+    requires register { reg < length machine.now.circuit.registers }
+    requires own { length machine.now.circuit.registers ≤ length own.now }
+    requires free { length machine.now.circuit.registers ≤ length free.now }
+    requires nets { length machine.now.circuit.names ≤ length nets.now }
+    requires valid_own { AreValid aig_ops aig.old own.now }
+    requires valid_free { AreValid aig_ops aig.old free.now }
+    requires valid_nets { AreValid aig_ops aig.old nets.now }
+    ensures built { IfOk result (λ v. Built aig.old aig.new v
+        (state_step machine.now (λ x. slice_index_or nets.now x 0) (λ r. slice_index_or own.now r 0) (λ r. slice_index_or free.now r 0) reg aig.old)) }
+    ensures failed { IfErr result (λ fault. MayFail
+        (state_step machine.now (λ x. slice_index_or nets.now x 0) (λ r. slice_index_or own.now r 0) (λ r. slice_index_or free.now r 0) reg aig.old).domain fault) }
+{
+    let leaf = free.get(reg.number() as usize);
+    if leaf.number() == 0 {
+        return next_literal(machine, reg, own, nets, aig, buffer);
+    }
+    let state = own.get(reg.number() as usize);
+    loaded_literal(machine, reg, leaf, state, nets, aig)
+}
+
+/// Puts at these registers their literals of `states`, where they have none yet.
+pub(crate) fn carry_states(
+    registers: &[RegId],
+    states: &Literals,
+    others: &mut Literals,
+) -> Result<(), AigFault>
+    requires registers { All (λ r. r < length states.now) registers.now }
+    requires others { All (λ r. r < length others.old) registers.now }
+    ensures carried { OnOk result (Carries registers.now states.now others.old others.new) }
+    ensures failed { IfErr result (λ fault. fault ≡ NoMemory) }
+{
+    for k in 0..registers.len() {
+        let place = registers[k].number() as usize;
+        if others.get(place).number() == 0 {
+            match others.put(place, states.get(place)) {
+                Ok(()) => {}
+                Err(fault) => return Err(fault),
+            }
+        }
+    }
+    Ok(())
+}

@@ -1,0 +1,4 @@
+pub mod CommandLine
+pub mod Seen
+pub mod Options
+pub mod Jobs

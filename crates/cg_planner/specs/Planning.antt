@@ -29,3 +29,7 @@ pub record IsWritable (certificate : Certificate) : Type 0 where
 
 abbrev pub AreWritable : List Certificate → Type 0
 AreWritable certificates = All (λ (certificate : Certificate). IsWritable certificate) certificates
+
+-- certificates of which the later are those before with more behind: they can be written where those before can
+abbrev pub StayWritable : List Certificate → List Certificate → Type 0
+StayWritable before after = AreWritable before → AreWritable after

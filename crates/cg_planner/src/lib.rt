@@ -6,9 +6,11 @@
 //!
 //! The modules:
 //!
+//! - `judge`: what tries stages one after another.
 //! - `trial`: a stage that is tried on a machine.
 //! - `plan`: the plan of a machine.
 #![tactic(auto)]
 
+mod judge;
 pub mod plan;
 pub mod trial;

@@ -1,14 +1,16 @@
 //! A stage that is tried on a machine.
 
-ghost use Rattle.std.specs.Prelude.{◌≡◌, IfOk, IfErr, OnErr};
+ghost use Rattle.std.specs.Prelude.{◌≡◌, IfOk, IfErr, OnErr, OnOk};
 ghost use Rattle.cg_machine.specs.Extends.{Extends};
 ghost use Rattle.cg_machine.specs.Machine.{IsMachine};
 ghost use Rattle.cg_plan.specs.Plan.{after_outcome};
 ghost use Rattle.cg_plan.specs.Told.{AreAppended, MayFail, Tells, claims_for};
 ghost use Rattle.cg_plan.specs.Trying.{tried};
+ghost use Rattle.cg_planner.specs.Planning.{StayWritable};
 ghost use Rattle.cg_planner.specs.Trial.{WhereInserted};
 ghost use Rattle.cg_stage.specs.Stages.{Fits};
 
+use crate::judge::Judge;
 use cg_cell::library::Library;
 use cg_machine::machine::Machine;
 use cg_machine::stage::Stage;
@@ -41,12 +43,12 @@ pub fn try_stage(
     ensures machine { IfOk result (λ outcome. machine.new ≡ after_outcome machine.old stage.now outcome) }
     ensures safe { IfOk result (λ outcome. WhereInserted machine.old stage.now outcome machine.new) }
     ensures certificates { IfOk result (λ outcome. AreAppended (claims_for number machine.old stage.now outcome) into.old.items into.new.items) }
+    ensures writable { OnOk result (StayWritable into.old.items into.new.items) }
     ensures fault { IfErr result (MayFail (tried library.now settings.now machine.old stage.now)) }
     ensures kept { OnErr result (Extends machine.old machine.new) }
     ensures unchanged { OnErr result (into.new.items ≡ into.old.items) }
     ensures whole { IsMachine machine.new }
 {
-    // stub: body to come
-    let _netlist = machine.netlist();
-    Err(AddFault::NoMemory)
+    let mut judge = Judge::new(alloc);
+    judge.try_stage(machine, number, stage, library, settings, into)
 }

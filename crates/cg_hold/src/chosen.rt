@@ -42,15 +42,38 @@ impl Chosen {
         ensures chosen { IfOk result (λ chosen. AreChosen machine.now (option_copied idle.entry) width machine.now.own_registers chosen.lists.items chosen.wide) }
         ensures refused { IfErr result (λ fault. (fault ≡ NoMemory) ⊎ ((fault ≡ LimitFault ClaimNodes) × (hold_passes machine.now (option_copied idle.entry) width ≡ true))) }
     {
-        let netlist = machine.netlist();
-        let mut trier = Trier::new(alloc);
+        let _netlist = machine.netlist();
         let Ok(mut chosen) = Chosen::none(alloc, machine.nets()) else {
             return Err(AddFault::NoMemory);
         };
-        for reg in 0..netlist.registers() {
-            chosen.look(alloc, &mut trier, machine, RegId::new(reg), width, idle)?;
+        let mut trier = Trier::new(alloc);
+        match chosen.look_at_all(alloc, &mut trier, machine, width, idle) {
+            Ok(()) => Ok(chosen),
+            Err(fault) => Err(fault),
         }
-        Ok(chosen)
+    }
+
+    /// Looks at all registers of a machine's netlist.
+    fn look_at_all(
+        &mut self,
+        alloc: Global,
+        trier: &mut Trier,
+        machine: &Machine,
+        width: u32,
+        idle: Option<&Idle<'_>>,
+    ) -> Result<(), AddFault>
+        requires idle { FitsIdle machine.now (option_copied idle) }
+        requires chosen { AreChosen machine.now (option_copied idle) width 0 self.old.lists.items self.old.wide }
+        ensures chosen { OnOk result (AreChosen machine.now (option_copied idle.entry) width machine.now.own_registers self.new.lists.items self.new.wide) }
+        ensures refused { IfErr result (λ fault. (fault ≡ NoMemory) ⊎ ((fault ≡ LimitFault ClaimNodes) × (hold_passes machine.now (option_copied idle.entry) width ≡ true))) }
+    {
+        let netlist = machine.netlist();
+        for reg in 0..netlist.registers() {
+            if let Err(fault) = self.look(alloc, trier, machine, RegId::new(reg), width, idle) {
+                return Err(fault);
+            }
+        }
+        Ok(())
     }
 
     /// No register for each literal of `nets` nets.

@@ -164,7 +164,12 @@ impl Player {
             all.push(String::from_str(self.alloc, word).map_err(|_| ())?)
                 .map_err(|_| ())?;
         }
-        Ok(run(self.alloc, all.as_slice(), &mut self.files))
+        let mut watchers = Vec::new(self.alloc);
+        let edges: Box<dyn Watcher> = Box::new(self.alloc, EdgeCount::new()).map_err(|_| ())?;
+        watchers.push(edges).map_err(|_| ())?;
+        let toggles: Box<dyn Watcher> = Box::new(self.alloc, ToggleCount::new(self.alloc)).map_err(|_| ())?;
+        watchers.push(toggles).map_err(|_| ())?;
+        Ok(run(self.alloc, all.as_slice(), &mut self.files, watchers))
     }
 
     /// Says the number of a status that is not 0.

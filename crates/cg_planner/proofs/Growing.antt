@@ -1,5 +1,5 @@
 -- A plan in the making grows by the turn of a stage.
-use Rattle.std.proofs.Common.{◌≡◌, ℕ, ◌+◌, if◌then◌else◌, List, [], ◌∷◌, ◌++◌, length, map, Some, refl, sym, ◌∙◌, ap, subst, arith}
+use Rattle.std.proofs.Common.{◌≡◌, ℕ, ◌+◌, if◌then◌else◌, List, [], ◌∷◌, ◌++◌, length, refl, sym, ◌∙◌, ap, subst, arith}
 use Rattle.std.proofs.lemmas.List.{map-append}
 use Rattle.std.proofs.lemmas.Option.{none-some}
 use Rattle.cg_cell.specs.Cell.{CellData}
@@ -13,7 +13,7 @@ use Rattle.cg_netlist.specs.declared.fault.AddFault.TheVariants.{Limit as LimitF
 use Rattle.cg_plan.proofs.PlanSafe.{IsSafe, Next, one_safe}
 use Rattle.cg_plan.proofs.Telling.{certificates_told, stages_told}
 use Rattle.cg_plan.specs.Plan.{Plan, Turn, after_outcome, after_try, earlier_of, is_inserted, try_one}
-use Rattle.cg_plan.specs.Told.{AreAppended, AreTold, MayFail, Tells, certified_claims, claims_for, without_bits}
+use Rattle.cg_plan.specs.Told.{AreAppended, AreTold, IsBacked, MayFail, Tells, certified_claims, claims_for, without_bits}
 use Rattle.cg_plan.specs.Trying.{Ends, tried}
 use Rattle.cg_plan.specs.declared.outcome.Outcome.{Outcome}
 use Rattle.cg_plan.specs.declared.outcome.Outcome.TheVariants.{Inserted, NeverIdle, NoCell, Refuted, Small, Wide}
@@ -41,7 +41,7 @@ told_length (turn ∷ turns) (t ∷ told) are = omega (arith, told_length turns 
 module _ (library : List CellData) (settings : Settings) where
   -- this came of a stage on the machine of the draft d, and e is the draft after it, which does not tell it yet
   pub record ComesOf (number : ℕ) (s : Stage) (outcome : Outcome) (d e : Draft) : Type 0 where
-    pub number : number ≡ 1 + length d.stages
+    pub count : number ≡ 1 + length d.stages
     pub tells : Tells d.machine s (tried library settings d.machine s) outcome
     pub machine : e.machine ≡ after_outcome d.machine s outcome
     pub stages : e.stages ≡ d.stages
@@ -58,7 +58,7 @@ module _ (library : List CellData) (settings : Settings) where
     going = refl;
     machine = comes.machine ∙ (ap (λ m. after_outcome m s outcome) draft.machine ∙ ap (λ b. if b then effect p.machine s else p.machine) (sym (same_inserted outcome)));
     stages = subst (λ l. AreTold (p.turns ++ turn_of p s outcome ∷ []) (l ++ (s, outcome) ∷ [])) (sym comes.stages)
-        (stages_told p.turns d.stages (turn_of p s outcome) outcome draft.stages (refl, comes.tells.1));
+        (stages_told p.turns d.stages (turn_of p s outcome) outcome draft.stages (refl, subst (λ m. IsBacked m s outcome) draft.machine comes.tells.1));
     earlier = ap (λ l. l ++ earlier_by s outcome ∷ []) (comes.earlier ∙ draft.earlier)
         ∙ (ap (λ b. earlier_of p ++ record { stage = s; inserted = b } ∷ []) (sym (same_inserted outcome)) ∙ sym (map-append earlier_turn p.turns (turn_of p s outcome ∷ [])));
     certificates = certificates_told p.turns (turn_of p s outcome) d.certificates.items e.certificates.items draft.certificates appended;
@@ -69,7 +69,7 @@ module _ (library : List CellData) (settings : Settings) where
       earlier_turn turn = record { stage = turn.stage; inserted = is_inserted turn.outcome }
 
       count : number ≡ 1 + length p.turns
-      count = comes.number ∙ ap (λ n. 1 + n) (told_length p.turns d.stages draft.stages)
+      count = comes.count ∙ ap (λ n. 1 + n) (told_length p.turns d.stages draft.stages)
 
       appended : AreAppended (claims_for (1 + length p.turns) p.machine s (without_bits outcome)) d.certificates.items e.certificates.items
       appended = subst (λ b. AreAppended (if b then certified_claims (1 + length p.turns) p.machine s else []) d.certificates.items e.certificates.items) (sym (same_inserted outcome))

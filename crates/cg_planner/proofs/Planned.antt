@@ -1,75 +1,27 @@
 -- The plan of a machine from its parts.
-use Rattle.std.proofs.Common.{◌≡◌, ℕ, zero, suc, ◌⊎◌, inl, inr, Bool, true, false, if◌then◌else◌, List, [], Option, Some, None, Result, Ok, Err, refl, sym, ◌∙◌, ap, subst}
+use Rattle.std.proofs.Common.{◌≡◌, ℕ, Bool, true, false, if◌then◌else◌, List, [], Option, Some, None, Result, Ok, Err, refl, sym, ◌∙◌, ap, subst}
 use Rattle.cg_cell.specs.Cell.{CellData}
 use Rattle.cg_hold.specs.HoldAnswer.{hold_answer}
 use Rattle.cg_hold.specs.declared.candidates.HoldFound.{HoldFound}
-use Rattle.cg_limit.specs.Answers.{OrNoMemory}
 use Rattle.cg_limit.specs.declared.Limit.TheVariants.{ClaimNodes}
 use Rattle.cg_lists.proofs.HoldFits.{hold_fits}
-use Rattle.cg_lists.proofs.StableFits.{stable_fits}
-use Rattle.cg_lists.proofs.UnseenFits.{unseen_fits}
 use Rattle.cg_lists.specs.Fit.{AllFit}
 use Rattle.cg_lists.specs.HoldList.{hold_list, hold_passes, hold_wide}
 use Rattle.cg_lists.specs.Literals.{IdleData}
 use Rattle.cg_machine.specs.Machine.{IsMachine, MachineData}
 use Rattle.cg_machine.specs.Run.{Same}
-use Rattle.cg_machine.specs.declared.stage.Earlier.{Earlier}
-use Rattle.cg_machine.specs.declared.stage.Stage.{Stage}
-use Rattle.cg_machine.specs.declared.stage.StageKind.{StageKind}
-use Rattle.cg_machine.specs.declared.stage.StageKind.TheVariants.{Hold, Stable, Unseen}
+use Rattle.cg_machine.specs.declared.stage.StageKind.TheVariants.{Stable, Unseen}
 use Rattle.cg_netlist.specs.declared.fault.AddFault.{AddFault}
-use Rattle.cg_netlist.specs.declared.fault.AddFault.TheVariants.{Limit as LimitFault, NoMemory}
+use Rattle.cg_netlist.specs.declared.fault.AddFault.TheVariants.{Limit as LimitFault}
 use Rattle.cg_plan.proofs.AllSafe.{has_cells, plans_safe}
-use Rattle.cg_plan.specs.Plan.{Plan, begin, earlier_of, list_by, plan_of, rounds, try_all, unless_stopped, wide_of}
+use Rattle.cg_plan.specs.Plan.{Plan, plan_of, rounds, try_all, unless_stopped, wide_of}
 use Rattle.cg_plan.specs.Told.{IsPlan, PlanMayFail, ToldPlan}
 use Rattle.cg_plan.specs.declared.settings.Settings.{Settings}
 use Rattle.cg_planner.specs.Planning.{IsSafePlan}
 use Rattle.cg_planner.specs.declared.draft.Draft.{Draft}
-use Rattle.cg_planner.specs.inner.Drafting.{IsDraft, Leads, MayStop, all_parts, round_list, unbegun}
+use Rattle.cg_planner.specs.inner.Drafting.{IsDraft, Leads, MayStop, all_parts, unbegun}
 
--- the list of a round, as the draft has it
-pub list_told : (kind : StageKind) (settings : Settings) (p : Plan) (d : Draft) → IsDraft p d → round_list kind settings d.machine d.earlier ≡ list_by kind settings p
-list_told Hold settings p d draft = refl
-list_told Stable settings p d draft = ap (λ m. round_list Stable settings m d.earlier) draft.machine ∙ ap (λ l. round_list Stable settings p.machine l) draft.earlier
-list_told Unseen settings p d draft = ap (λ m. round_list Unseen settings m d.earlier) draft.machine ∙ ap (λ l. round_list Unseen settings p.machine l) draft.earlier
-
-pub list_fits : (kind : StageKind) (settings : Settings) (m : MachineData) (earlier : List Earlier) → IsMachine m → AllFit m (round_list kind settings m earlier)
-list_fits Hold settings m earlier good = tt
-list_fits Stable settings m earlier good = stable_fits m good earlier
-list_fits Unseen settings m earlier good = unseen_fits m good earlier settings.test
-
--- rounds without stages
-pub no_rounds : (library : List CellData) (settings : Settings) (kind : StageKind) (n : ℕ) (p : Plan) → list_by kind settings p ≡ [] → p.limit ≡ None → rounds library settings kind n p ≡ p
-no_rounds library settings kind zero p none going = refl
-no_rounds library settings kind (suc n) p none going =
-    ap (λ stages. let q = try_all library settings p stages in unless_stopped q.limit q (rounds library settings kind n q)) none
-    ∙ (ap (λ o. unless_stopped o p (rounds library settings kind n p)) going ∙ no_rounds library settings kind n p none going)
-
--- a round on the stages that the draft found
-pub leads_round : (library : List CellData) (settings : Settings) (kind : StageKind) (stages : List Stage) (d e : Draft) → stages ≡ round_list kind settings d.machine d.earlier
-    → Leads (λ p. try_all library settings p stages) d e → Leads (λ p. try_all library settings p (list_by kind settings p)) d e
-leads_round library settings kind stages d e is leads p draft = subst (λ l. IsDraft (try_all library settings p l) e) (is ∙ list_told kind settings p d draft) (leads p draft)
-
-pub stops_round : (library : List CellData) (settings : Settings) (kind : StageKind) (stages : List Stage) (d : Draft) (fault : AddFault) → stages ≡ round_list kind settings d.machine d.earlier
-    → MayStop (λ p. try_all library settings p stages) d fault → MayStop (λ p. try_all library settings p (list_by kind settings p)) d fault
-stops_round library settings kind stages d fault is may p draft = subst (λ l. PlanMayFail (try_all library settings p l).limit fault) (is ∙ list_told kind settings p d draft) (may p draft)
-
-module _ (library : List CellData) (settings : Settings) (idle : Option IdleData) (m : MachineData) where
-  -- the plan, where a claim of the hold list passes the limit and where none does
-  abbrev plan_by : Bool → Plan
-  plan_by passes =
-      let p : Plan = record { machine = m; turns = []; limit = if passes then Some ClaimNodes else None } in
-      let held : Plan = unless_stopped p.limit p (try_all library settings p (hold_list m idle settings.width)) in
-      let stable : Plan = unless_stopped held.limit held (rounds library settings Stable settings.rounds held) in
-      unless_stopped stable.limit stable (rounds library settings Unseen settings.rounds stable)
-
-  -- what the hold list answers: the list and a plan of all parts, or the limit at which the plan stops
-  planned : hold_passes m idle settings.width ≡ false → all_parts library settings (hold_list m idle settings.width) (unbegun m) ≡ plan_of library settings idle m
-  planned none = sym (ap plan_by none)
-
-  passed : hold_passes m idle settings.width ≡ true → (plan_of library settings idle m).limit ≡ Some ClaimNodes
-  passed some = ap (λ b. (plan_by b).limit) some
-
+module _ (settings : Settings) (idle : Option IdleData) (m : MachineData) where
   -- what the search for hold stages found, and that no claim passes the limit
   pub record IsFound (found : HoldFound) : Type 0 where
     pub none : hold_passes m idle settings.width ≡ false
@@ -88,18 +40,24 @@ module _ (library : List CellData) (settings : Settings) (idle : Option IdleData
           let same : found ≡ record { stages = hold_list m idle settings.width; wide = hold_wide m settings.width } = cc in
           record { none = at; stages = ap (λ (f : HoldFound). f.stages) same; wide = ap (λ (f : HoldFound). f.wide) same }
 
-  pub hold_fails : (fault : AddFault) → (fault ≡ NoMemory) ⊎ (hold_answer m idle settings.width ≡ Err fault) → PlanMayFail (plan_of library settings idle m).limit fault
-  hold_fails NoMemory may = tt
-  hold_fails (LimitFault limit) (inl is) = absurd (cc)
-  hold_fails (LimitFault limit) (inr is) = go (hold_passes m idle settings.width) refl is
-    where
-      go : (passes : Bool) → hold_passes m idle settings.width ≡ passes → answer_by passes ≡ Err (LimitFault limit) → (plan_of library settings idle m).limit ≡ Some limit
-      go true at h =
-          let same : ClaimNodes ≡ limit = cc in
-          passed at ∙ ap Some same
-      go false at h = absurd (cc)
+  -- the hold stages fit the draft of which nothing was tried
+  pub holds_fit : (found : HoldFound) (d : Draft) → IsMachine m → IsFound found → IsDraft (unbegun m) d → AllFit d.machine found.stages
+  holds_fit found d good is begun = subst (λ n. AllFit n found.stages) (sym begun.machine) (subst (AllFit m) (sym is.stages) (hold_fits m good idle settings.width))
 
-  module _ (found : HoldFound) (is : IsFound found) (d : Draft) (begun : IsDraft (unbegun m) d) where
+module _ (library : List CellData) (settings : Settings) (idle : Option IdleData) (m : MachineData) where
+  -- the plan, where a claim of the hold list passes the limit and where none does
+  abbrev plan_by : Bool → Plan
+  plan_by passes =
+      let p : Plan = record { machine = m; turns = []; limit = if passes then Some ClaimNodes else None } in
+      let held : Plan = unless_stopped p.limit p (try_all library settings p (hold_list m idle settings.width)) in
+      let stable : Plan = unless_stopped held.limit held (rounds library settings Stable settings.rounds held) in
+      unless_stopped stable.limit stable (rounds library settings Unseen settings.rounds stable)
+
+  -- a plan that no claim stops at once has all its parts
+  planned : hold_passes m idle settings.width ≡ false → all_parts library settings (hold_list m idle settings.width) (unbegun m) ≡ plan_of library settings idle m
+  planned none = sym (ap plan_by none)
+
+  module _ (found : HoldFound) (is : IsFound settings idle m found) (d : Draft) (begun : IsDraft (unbegun m) d) where
     parts_are : all_parts library settings found.stages (unbegun m) ≡ plan_of library settings idle m
     parts_are = ap (λ stages. all_parts library settings stages (unbegun m)) is.stages ∙ planned is.none
 

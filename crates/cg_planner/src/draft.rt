@@ -4,7 +4,7 @@ ghost use Rattle.std.specs.Prelude.{◌≡◌, ◌+◌, length, IfOk, IfErr, Mat
 ghost use Rattle.cg_lists.specs.Fit.{AllFit};
 ghost use Rattle.cg_netlist.specs.declared.fault.AddFault.TheVariants.{NoMemory};
 ghost use Rattle.cg_plan.specs.Plan.{rounds, try_all, try_one};
-ghost use Rattle.cg_planner.specs.inner.Drafting.{IsDraft, Leads, MayStop, StillFit, kept, round_list, unbegun};
+ghost use Rattle.cg_planner.specs.inner.Drafting.{IsDraft, Leads, MayStop, StillFit, all_parts, kept, round_list, unbegun};
 ghost use Rattle.cg_stage.specs.Stages.{Fits};
 
 use crate::earlier::earlier_of;
@@ -59,8 +59,24 @@ impl Draft {
         }
     }
 
+    /// Tries the hold stages, then comes what the rounds of stability find, and then what those of unobservability find.
+    pub fn try_parts(
+        &mut self,
+        holds: Seq<Stage>,
+        library: &Library,
+        settings: &Settings,
+    ) -> Result<(), AddFault>
+        requires { AllFit self.old.machine holds }
+        ensures leads { OnOk result (Leads (all_parts library.now settings.now holds) self.old self.new) }
+        ensures fault { IfErr result (MayStop (all_parts library.now settings.now holds) self.old) }
+    {
+        self.try_all(holds, library, settings)?;
+        self.rounds(StageKind::Stable, library, settings)?;
+        self.rounds(StageKind::Unseen, library, settings)
+    }
+
     /// As many rounds of a kind as the settings ask for, each with the list that the machine has at its start.
-    pub fn rounds(
+    fn rounds(
         &mut self,
         kind: StageKind,
         library: &Library,
@@ -70,7 +86,9 @@ impl Draft {
         ensures fault { IfErr result (MayStop (rounds library.now settings.now kind settings.now.rounds) self.old) }
     {
         for _ in 0..settings.rounds {
-            let stages = self.candidates(kind, settings)?;
+            let Ok(stages) = self.candidates(kind, settings) else {
+                return Err(AddFault::NoMemory);
+            };
             // A round without stages leaves all as it is, and so do those after it.
             if stages.is_empty() {
                 return Ok(());
@@ -81,27 +99,23 @@ impl Draft {
     }
 
     /// The stages that a round of this kind tries.
-    fn candidates(&self, kind: StageKind, settings: &Settings) -> Result<Seq<Stage>, AddFault>
-        ensures list { MatchResult result (λ stages. stages ≡ round_list kind settings.now self.now.machine self.now.earlier) (λ fault. fault ≡ NoMemory) }
+    fn candidates(&self, kind: StageKind, settings: &Settings) -> Result<Seq<Stage>, AllocError>
+        ensures list { IfOk result (λ stages. stages ≡ round_list kind settings.now self.now.machine self.now.earlier) }
         ensures fit { IfOk result (AllFit self.now.machine) }
     {
         let _netlist = self.machine.netlist();
         let earlier = self.earlier.as_slice();
-        let found = match kind {
+        match kind {
             StageKind::Hold => Ok(Seq::new(self.alloc)),
             StageKind::Stable => stability::candidates(self.alloc, &self.machine, earlier),
             StageKind::Unseen => {
                 unobservability::candidates(self.alloc, &self.machine, earlier, settings.test)
             }
-        };
-        match found {
-            Ok(stages) => Ok(stages),
-            Err(_) => Err(AddFault::NoMemory),
         }
     }
 
     /// Tries stages that fit, one after the other.
-    pub fn try_all(
+    fn try_all(
         &mut self,
         stages: Seq<Stage>,
         library: &Library,

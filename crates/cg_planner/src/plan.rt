@@ -13,7 +13,7 @@ use cg_hold::candidates::candidates;
 use cg_list::Seq;
 use cg_lists::idle::Idle;
 use cg_machine::machine::Machine;
-use cg_machine::stage::{Stage, StageKind};
+use cg_machine::stage::Stage;
 use cg_netlist::fault::AddFault;
 use cg_plan::certificate::Certificate;
 use cg_plan::outcome::Outcome;
@@ -60,9 +60,7 @@ pub fn make_plan(
     let _netlist = machine.netlist();
     let found = candidates(alloc, &machine, settings.width, idle)?;
     let mut draft = Draft::new(alloc, machine);
-    draft.try_all(found.stages, library, settings)?;
-    draft.rounds(StageKind::Stable, library, settings)?;
-    draft.rounds(StageKind::Unseen, library, settings)?;
+    draft.try_parts(found.stages, library, settings)?;
     Ok(Plan {
         machine: draft.machine,
         stages: draft.stages,

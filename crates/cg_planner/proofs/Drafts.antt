@@ -1,16 +1,11 @@
 -- Drafts that are led from one to the next.
-use Rattle.std.proofs.Common.{◌≡◌, Some, refl, sym, ◌∙◌, ap, subst}
+use Rattle.std.proofs.Common.{◌≡◌, Some, sym, ◌∙◌, ap, subst}
 use Rattle.cg_netlist.specs.declared.fault.AddFault.{AddFault}
 use Rattle.cg_netlist.specs.declared.fault.AddFault.TheVariants.{Limit as LimitFault, NoMemory}
 use Rattle.cg_limit.specs.declared.Limit.{Limit}
 use Rattle.cg_plan.specs.Plan.{Plan, unless_stopped}
 use Rattle.cg_planner.specs.declared.draft.Draft.{Draft}
 use Rattle.cg_planner.specs.inner.Drafting.{IsDraft, IsLeft, Leads, Left, MayStop, in_turn}
-
--- want of memory may come at any time
-pub no_memory : (f : Plan → Plan) (d : Draft) (fault : AddFault) → fault ≡ NoMemory → MayStop f d fault
-no_memory f d NoMemory is p draft = tt
-no_memory f d (LimitFault limit) is p draft = absurd (cc)
 
 -- a plan that a call led to has not stopped
 going : (f g : Plan → Plan) (p : Plan) (d : Draft) → IsDraft (f p) d → in_turn f g p ≡ g (f p)
@@ -19,25 +14,7 @@ going f g p d draft = ap (λ o. unless_stopped o (f p) (g (f p))) draft.going
 stopped : (f g : Plan → Plan) (p : Plan) (limit : Limit) → (f p).limit ≡ Some limit → (in_turn f g p).limit ≡ Some limit
 stopped f g p limit at = ap (λ o. (unless_stopped o (f p) (g (f p))).limit) at ∙ at
 
-pub leads_on : (f g : Plan → Plan) (c d e : Draft) → Leads f c d → Leads g d e → Leads (in_turn f g) c e
-leads_on f g c d e first second p draft =
-    let next : IsDraft (f p) d = first p draft in
-    subst (λ q. IsDraft q e) (sym (going f g p d next)) (second (f p) next)
-
-pub stops_first : (f g : Plan → Plan) (d : Draft) (fault : AddFault) → MayStop f d fault → MayStop (in_turn f g) d fault
-stops_first f g d NoMemory may p draft = tt
-stops_first f g d (LimitFault limit) may p draft = stopped f g p limit (may p draft)
-
-pub stops_later : (f g : Plan → Plan) (c d : Draft) (fault : AddFault) → Leads f c d → MayStop g d fault → MayStop (in_turn f g) c fault
-stops_later f g c d NoMemory first may p draft = tt
-stops_later f g c d (LimitFault limit) first may p draft =
-    let next : IsDraft (f p) d = first p draft in
-    ap (λ (q : Plan). q.limit) (going f g p d next) ∙ may (f p) next
-
--- the same in a loop
-pub left_all : (f : Plan → Plan) (d : Draft) → IsLeft f f d d
-left_all f d p draft = record { plan = p; tells = draft; same = refl }
-
+-- one more call in a loop
 pub left_more : (f g h : Plan → Plan) (c d e : Draft) → IsLeft f (in_turn g h) c d → Leads g d e → IsLeft f h c e
 left_more f g h c d e left leads p draft =
     let l : Left (f p) (in_turn g h) d = left p draft in

@@ -59,7 +59,7 @@ impl Draft {
         }
     }
 
-    /// Tries the hold stages, then comes what the rounds of stability find, and then what those of unobservability find.
+    /// Tries the hold stages, then what the rounds of stability find, and then what those of unobservability find.
     pub fn try_parts(
         &mut self,
         holds: Seq<Stage>,

@@ -1,0 +1,4 @@
+pub mod Drafts
+pub mod Growing
+pub mod Planned
+pub mod Rounds

@@ -8,9 +8,13 @@
 //!
 //! - `judge`: what tries stages one after another.
 //! - `trial`: a stage that is tried on a machine.
+//! - `earlier`: stages that were tried, as later rounds see them.
+//! - `draft`: a plan in the making.
 //! - `plan`: the plan of a machine.
 #![tactic(auto)]
 
+mod draft;
+mod earlier;
 mod judge;
 pub mod plan;
 pub mod trial;

@@ -3,5 +3,7 @@ pub mod Depths
 pub mod Kept
 pub mod LiftedMachine
 pub mod LiftedMoments
+pub mod LiftedRises
+pub mod LiftedRun
 pub mod Lifts
 pub mod Renumbered

@@ -1,9 +1,6 @@
 use Rattle.cg_extract.proofs.laws.extract_laws.Goals as goal
 use Rattle.cg_extract.proofs.LiftedMachine.{lifted_is_machine, lifted_is_small}
-use Rattle.cg_extract.proofs.LiftedMoments.{shown}
+use Rattle.cg_extract.proofs.LiftedRun.{lifted_is_run}
 
-pub returns-clause-machine : goal.returns-clause-machine
-returns-clause-machine c = lifted_is_machine
-
-pub returns-clause-small : goal.returns-clause-small
-returns-clause-small c = lifted_is_small
+pub returns : goal.returns
+returns c = record { machine = lifted_is_machine; small = lifted_is_small; run = lifted_is_run }

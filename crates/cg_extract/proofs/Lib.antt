@@ -6,4 +6,5 @@ pub mod LiftedMoments
 pub mod LiftedRises
 pub mod LiftedRun
 pub mod Lifts
+pub mod NetPlaces
 pub mod Renumbered

@@ -6,7 +6,13 @@
 //!
 //! The modules:
 //!
+//! - `refused`: gating cells that are not lifted.
+//! - `number`: the numbers that nets get, and those that they had.
+//! - `lift`: gating cells, taken by depth into a machine.
 //! - `laws`: what is proved of that machine.
 #![tactic(auto)]
 
 pub mod laws;
+mod lift;
+mod number;
+mod refused;

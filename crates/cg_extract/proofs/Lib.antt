@@ -8,3 +8,4 @@ pub mod LiftedRun
 pub mod Lifts
 pub mod NetPlaces
 pub mod Renumbered
+pub mod Taking

@@ -256,7 +256,8 @@ module _ (c : Circuit) (prefix : List ℕ) (can : CanExtract c prefix) where
   lift_all l [] is ready few = is
   lift_all l (g ∷ gs) is ready few = lift_all (lift_one c l g) gs (one_lifts l g ready.0.0 ready.0.1 ready.1 is (omega (arith, few))) ready.2 (omega (arith, few))
 
+  pub start_lifts : Lifts (unlifted c prefix)
+  start_lifts = record { machine = bare_machine c prefix can; extends = extends_self start; count = refl; room = omega arith; all = tt }
+
   pub lifting_lifts : Lifts (lifting c prefix)
-  lifting_lifts = lift_all (unlifted c prefix) (by_depth c)
-      (record { machine = bare_machine c prefix can; extends = extends_self start; count = refl; room = omega arith; all = tt })
-      (ready c good) (let a = depths_few c in omega (arith, a))
+  lifting_lifts = lift_all (unlifted c prefix) (by_depth c) start_lifts (ready c good) (let a = depths_few c in omega (arith, a))

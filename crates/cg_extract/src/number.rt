@@ -1,12 +1,31 @@
 //! The numbers that nets get where the outputs of gating cells are left out, and those that they had.
 
-ghost use Rattle.std.specs.Prelude.{◌≡◌, ◌<◌, ◌≤◌, ◌+◌, ◌^◌, true, length, slice_get, slice_index_or};
-ghost use Rattle.cg_extract.specs.Lifted.{kept_nets, number_of};
+ghost use Rattle.std.specs.Prelude.{◌≡◌, ◌<◌, ◌≤◌, ◌+◌, ◌^◌, true, length, slice_get, slice_index_or, IfOk};
+ghost use Rattle.cg_extract.specs.Lifted.{kept_nets, number_of, origins};
 ghost use Rattle.cg_netlist.specs.Circuit.{gate_nets, is_in};
 ghost use Rattle.cg_netlist.specs.Netlist.{IsNetlist};
 
+use cg_machine::machine::Machine;
 use cg_netlist::id::{GateClockId, NetId};
 use cg_netlist::netlist::Netlist;
+use std::alloc::{AllocError, Global};
+
+/// For each net of the machine the net of the netlist that it stands for, and nothing for an added one.
+pub(crate) fn origins(
+    alloc: Global,
+    netlist: &Netlist,
+    machine: &Machine,
+) -> Result<Vec<Option<NetId>>, AllocError>
+    requires { length (kept_nets netlist.now) ≤ length machine.now.circuit.names }
+    ensures { IfOk result (λ nets. nets.items ≡ origins netlist.now machine.now) }
+{
+    let _netlist = machine.netlist();
+    let mut nets = Vec::with_capacity(alloc, machine.nets() as usize)?;
+    for number in 0..machine.nets() {
+        nets.push(origin(netlist, number))?;
+    }
+    Ok(nets)
+}
 
 /// The number of a net that is kept: the outputs of gating cells stand side by side in net order, and those behind them move up.
 pub(crate) fn number(netlist: &Netlist, net: NetId) -> NetId

@@ -1,10 +1,11 @@
 -- Taking gating cells, with a table of the enables that stand for their output nets.
-use Rattle.std.specs.Prelude.{◌≡◌, ℕ, ◌<◌, true, List, map, length, slice_get, slice_set, Option, Some}
+use Rattle.std.specs.Prelude.{◌≡◌, ℕ, ◌<◌, true, List, map, length, slice_get, slice_set, Option, None, Some}
 use Rattle.std.specs.Option.{option_flatten}
-use Rattle.cg_netlist.specs.Circuit.{Circuit, GatingCell, is_in}
+use Rattle.cg_netlist.specs.Circuit.{Circuit, GatingCell, RegisterCell, is_in}
+use Rattle.cg_netlist.specs.Moment.{values_at}
 use Rattle.cg_machine.specs.Added.{Added}
 use Rattle.cg_machine.specs.Machine.{IsNet, MachineData}
-use Rattle.cg_extract.specs.Lifted.{chained, enable_under, kept_nets, number_of}
+use Rattle.cg_extract.specs.Lifted.{Lifting, chained, enable_under, kept_nets, lift_each, number_of, unlifted}
 
 -- what a table tells of a net
 abbrev pub entry_at : List (Option ℕ) → ℕ → Option ℕ
@@ -35,3 +36,20 @@ pub record IsTaken (c : Circuit) (m : MachineData) (table : List (Option ℕ)) (
   pub at : slice_get c.gaters k ≡ Some gater
   pub made : n ≡ (taken_into c m table gater).machine
   pub put : new ≡ slice_set table gater.output (Some (taken_into c m table gater).net)
+
+-- the machine and the table after the gating cells of these numbers were taken
+abbrev pub taken_so_far : Circuit → List ℕ → List ℕ → Lifting
+taken_so_far c prefix ks = lift_each c (unlifted c prefix) (values_at c.gaters ks)
+
+pub record IsSoFar (c : Circuit) (prefix ks : List ℕ) (m : MachineData) (table : List (Option ℕ)) : Type 0 where
+  pub machine : m ≡ (taken_so_far c prefix ks).machine
+  pub entries : IsTable c (taken_so_far c prefix ks).enables table
+
+-- a register is given an enable, if there is one
+abbrev pub given : List (Option ℕ) → ℕ → Option ℕ → List (Option ℕ)
+given enables r None = enables
+given enables r (Some enable) = slice_set enables r (Some enable)
+
+-- the enables of registers that a table gives
+abbrev pub table_enables : List (Option ℕ) → List (RegisterCell ℕ ℕ) → List (Option ℕ)
+table_enables table registers = map (λ r. entry_at table r.clock) registers

@@ -7,5 +7,6 @@ pub mod LiftedRises
 pub mod LiftedRun
 pub mod Lifts
 pub mod NetPlaces
+pub mod Origins
 pub mod Renumbered
 pub mod Taking

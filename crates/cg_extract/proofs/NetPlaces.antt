@@ -5,15 +5,15 @@ use Rattle.std.specs.Option.{option_to_list}
 use Rattle.std.proofs.lemmas.Bool.{both_ways, cases_Bool, false_from_ne_true}
 use Rattle.std.proofs.lemmas.List.{length-append, length-map}
 use Rattle.std.proofs.lemmas.Option.{slice_get_past}
-use Rattle.cg_netlist.specs.Circuit.{Circuit, GatingCell, cell_nets, gate_nets, is_in, register_nets}
+use Rattle.cg_netlist.specs.Circuit.{Circuit, GatingCell, RegisterCell, cell_nets, clock_nets, gate_nets, is_in, register_nets}
 use Rattle.cg_netlist.specs.Netlist.{IsNetlist}
 use Rattle.cg_netlist.proofs.Driven.{in_range}
-use Rattle.cg_netlist.proofs.Given.{clock_no_gate, from_option, in_option}
+use Rattle.cg_netlist.proofs.Given.{clock_given, clock_no_gate, driver_within, from_option, gate_given, given_driver, in_option}
 use Rattle.cg_netlist.proofs.Members.{is_in_cases, member_at}
 use Rattle.cg_netlist.proofs.OrderLemmas.{length-range_with_len}
 use Rattle.cg_netlist.proofs.PlaceLemmas.{place_is}
 use Rattle.cg_netlist.proofs.Values.{at_map, split_lists}
-use Rattle.cg_machine.proofs.Lists.{get_front}
+use Rattle.cg_machine.proofs.Lists.{all_at, get_front}
 use Rattle.cg_extract.proofs.Kept.{order_is, order_long, order_once}
 use Rattle.cg_extract.specs.Lifted.{kept_nets, number_of}
 
@@ -26,7 +26,7 @@ range_at zero a k below = absurd (omega arith)
 range_at (suc n) a zero below = ap (λ m. Some m) (let e : a ≡ a + 0 = omega arith in e)
 range_at (suc n) a (suc k) below = range_at n (a + 1) k (omega arith) ∙ ap (λ m. Some m) (let e : a + 1 + k ≡ a + suc k = omega arith in e)
 
-get_back : {X : Type 0} (xs ys : List X) (k : ℕ) → slice_get (xs ++ ys) (length xs + k) ≡ slice_get ys k
+pub get_back : {X : Type 0} (xs ys : List X) (k : ℕ) → slice_get (xs ++ ys) (length xs + k) ≡ slice_get ys k
 get_back [] ys k = ap (slice_get ys) (let z : 0 + k ≡ k = omega arith in z)
 get_back (x ∷ xs) ys k = ap (slice_get (x ∷ xs ++ ys)) (let z : suc (length xs) + k ≡ suc (length xs + k) = omega arith in z) ∙ get_back xs ys k
 
@@ -166,3 +166,12 @@ module _ (c : Circuit) (whole : IsNetlist c) where
         let gate : is_in (gate_nets c) gater.clock ≡ true = subst (λ x. is_in (gate_nets c) x ≡ true) lower.3 (member_at (gate_nets c) lower.0 lower.1.output (at_map (λ (x : GatingCell ℕ). x.output) c.gaters lower.0 lower.1 lower.2)) in
         ap not (false_from_ne_true (is_in (option_to_list c.clock) gater.clock) (λ clk. both_ways (is_in (gate_nets c) gater.clock) (clock_no_gate c whole.well_formed.driven gater.clock (in_option c.clock gater.clock clk)) gate)) ∙ sym gate
   ]
+
+  -- the clock net of a register is a net
+  pub clock_within : (k : ℕ) (register : RegisterCell ℕ ℕ) → slice_get c.registers k ≡ Some register → register.clock < length c.names
+  clock_within k register at =
+      let driven = whole.well_formed.driven in
+      elim (is_in_cases (option_to_list c.clock) (gate_nets c) register.clock (all_at (λ (x : RegisterCell ℕ ℕ). is_in (clock_nets c) x.clock ≡ true) c.registers k register whole.well_formed.clocked at)) [
+        | inl clk ↦ driver_within c driven register.clock (given_driver c register.clock (clock_given c register.clock (in_option c.clock register.clock clk)))
+        | inr gate ↦ driver_within c driven register.clock (given_driver c register.clock (gate_given c register.clock gate))
+      ]

@@ -4,7 +4,7 @@ use Rattle.std.specs.List.{cons_option}
 use Rattle.std.specs.Option.{option_flatten}
 use Rattle.std.proofs.Math.Seq.{set-append_seam}
 use Rattle.std.proofs.lemmas.Bool.{both_ways, cases_Bool, eq-eqb, eqb-true}
-use Rattle.std.proofs.lemmas.List.{length-append, length-map, length-replicate, length-set, length-take-le, map-append, take-append-drop, take_all}
+use Rattle.std.proofs.lemmas.List.{append-nil, drop_all, length-append, length-map, length-replicate, length-set, length-take-le, map-append, take-append-drop, take_all}
 use Rattle.std.proofs.lemmas.Option.{slice_get_within}
 use Rattle.cg_netlist.specs.Chains.{chain, chain_cell, gate_order}
 use Rattle.cg_netlist.specs.Circuit.{Circuit, GatingCell, RegisterCell, clock_nets, gate_nets, is_in}
@@ -23,6 +23,7 @@ use Rattle.cg_machine.proofs.Started.{none_anywhere}
 use Rattle.cg_machine.specs.Added.{Added, find_gate, or_push, push_gate}
 use Rattle.cg_cell.specs.declared.fit.FitKind.TheVariants.{And2}
 use Rattle.cg_machine.specs.Machine.{IsNet, MachineData}
+use Rattle.cg_machine.specs.Run.{with_enables}
 use Rattle.cg_machine.specs.Start.{machine_of}
 use Rattle.std.specs.Option.{option_to_list}
 use Rattle.cg_extract.proofs.Bare.{bare_long}
@@ -191,4 +192,14 @@ enables_more table registers k r at =
 pub enables_all : (table : List (Option ℕ)) (registers : List (RegisterCell ℕ ℕ)) (k : ℕ) → length registers ≤ k → enables_so_far table registers k ≡ table_enables table registers
 enables_all table registers k past =
     ap (λ rs. table_enables table rs ++ replicate (length registers - k) None) (take_all k registers past)
-    ∙ (ap (λ j. table_enables table registers ++ replicate j None) (let none : length registers - k ≡ 0 = omega (arith, past) in none) ∙ Rattle.std.proofs.lemmas.List.append-nil (table_enables table registers))
+    ∙ (ap (λ j. table_enables table registers ++ replicate j None) (let none : length registers - k ≡ 0 = omega (arith, past) in none) ∙ append-nil (table_enables table registers))
+
+-- a net is one whatever the enables are
+pub net_enabled : (m : MachineData) (enables : List (Option ℕ)) (net : ℕ) → IsNet m net → IsNet (with_enables m enables) net
+net_enabled m enables net is = record { below = is.below; apart = is.apart }
+
+-- a list that was written over in place
+pub written : {X : Type 0} (len : ℕ) (new items : List X) → length new ≡ length items → len ≡ length items → take len (new ++ drop (length new) items) ≡ new
+written len new items same is =
+    ap (λ rest. take len (new ++ rest)) (drop_all (length new) items (omega (arith, same)))
+    ∙ (ap (take len) (append-nil new) ∙ take_all len new (omega (arith, same, is)))

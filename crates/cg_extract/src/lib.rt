@@ -9,9 +9,11 @@
 //! - `refused`: gating cells that are not lifted.
 //! - `number`: the numbers that nets get, and those that they had.
 //! - `lift`: gating cells, taken by depth into a machine.
+//! - `extract`: the machine, or the first gating cell that is refused.
 //! - `laws`: what is proved of that machine.
 #![tactic(auto)]
 
+pub mod extract;
 pub mod laws;
 mod lift;
 mod number;

@@ -1,5 +1,6 @@
 pub mod Bare
 pub mod Depths
+pub mod Extracted
 pub mod Kept
 pub mod LiftedMachine
 pub mod LiftedMoments

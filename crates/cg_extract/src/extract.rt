@@ -36,7 +36,7 @@ pub enum ExtractFault {
     NoMemory,
 }
 
-/// The machine of a netlist with gating cells, where the netlist without them is given too: `bare` has its logic cells and
+/// The machine of a netlist with gating cells, where the netlist without them is given too: `kept` has its logic cells and
 /// registers in their order, every register on the clock, and all its nets but the outputs of gating cells.
 ///
 /// No output of the netlist may stand twice, and no net may have a name that begins with the prefix of the names of added nets.
@@ -45,18 +45,18 @@ pub enum ExtractFault {
 pub fn extract_with(
     alloc: Global,
     netlist: &Netlist,
-    bare: Netlist,
+    kept: Netlist,
     prefix: &Name,
     and2: bool,
 ) -> Result<Extracted, ExtractFault>
     requires can { CanExtract netlist.now prefix.now }
-    requires bare { bare ≡ bare netlist.now }
+    requires kept { kept ≡ bare netlist.now }
     ensures { OrNoMemory NoMemory (λ made. (made.machine, made.origin)) result (extraction netlist.now prefix.now and2) }
 {
     if let Some(gater) = first_refused(netlist, and2) {
         return Err(ExtractFault::Gater(gater));
     }
-    match lifted(alloc, netlist, bare, prefix) {
+    match lifted(alloc, netlist, kept, prefix) {
         Ok(extracted) => Ok(extracted),
         Err(_) => Err(ExtractFault::NoMemory),
     }
@@ -66,14 +66,14 @@ pub fn extract_with(
 fn lifted(
     alloc: Global,
     netlist: &Netlist,
-    bare: Netlist,
+    kept: Netlist,
     prefix: &Name,
 ) -> Result<Extracted, AllocError>
     requires can { CanExtract netlist.now prefix.now }
-    requires bare { bare ≡ bare netlist.now }
+    requires kept { kept ≡ bare netlist.now }
     ensures { IfOk result (λ made. (made.machine, made.origin) ≡ extracted netlist.now prefix.now) }
 {
-    let mut machine = Machine::of(alloc, bare, prefix)?;
+    let mut machine = Machine::of(alloc, kept, prefix)?;
     let enables = lift(alloc, netlist, &mut machine)?;
     set_enables(netlist, &mut machine, &enables);
     let origin = origins(alloc, netlist, &machine)?;

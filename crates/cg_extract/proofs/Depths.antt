@@ -1,5 +1,5 @@
 -- Gating cells by depth: each stands behind the one that drives its clock pin.
-use Rattle.std.proofs.Common.{◌≡◌, ◌⊎◌, ℕ, zero, suc, ◌≤◌, Bool, true, List, [], ◌∷◌, length, map, slice_get, nat_eq, Option, None, Some, refl, ap, sym, ◌∙◌, subst, inl, inr, arith}
+use Rattle.std.proofs.Common.{◌≡◌, ◌⊎◌, ℕ, zero, suc, ◌≤◌, true, List, [], ◌∷◌, length, map, slice_get, nat_eq, Option, None, Some, refl, ap, sym, ◌∙◌, subst, inl, inr, arith}
 use Rattle.std.specs.List.{cons_option}
 use Rattle.std.specs.Option.{option_map}
 use Rattle.std.proofs.lemmas.Bool.{both_ways, eq-eqb, or_cases, or_left, or_right}
@@ -56,8 +56,7 @@ module _ (c : Circuit) (good : IsWellFormed c) where
       → ((j : ℕ) (g : GatingCell ℕ) → slice_get gs j ≡ Some g → (k : ℕ) × (slice_get c.gaters k ≡ Some g)) → Ready c taken gs
   ready_by taken [] ordered has all = tt
   ready_by taken (g ∷ gs) ordered has all =
-      let own = all 0 g refl in
-      (
+      let own = all 0 g refl in (
         own,
         elim (good.chained.chained own.0 g own.1) [
           | inl clk ↦ inl clk

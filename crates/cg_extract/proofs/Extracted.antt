@@ -1,5 +1,5 @@
 -- The machine whose gating cells were lifted, with the enables of its registers, is the lifted machine.
-use Rattle.std.proofs.Common.{[], ◌≡◌, ℕ, suc, zero, ◌<◌, ◌≤◌, List, ◌∷◌, map, length, replicate, slice_get, Option, None, Some, refl, ap, sym, ◌∙◌, subst, inl, inr, arith}
+use Rattle.std.proofs.Common.{[], ◌≡◌, ℕ, suc, ◌<◌, ◌≤◌, List, ◌∷◌, map, length, replicate, slice_get, Option, None, Some, refl, ap, sym, ◌∙◌, subst, inl, inr, arith}
 use Rattle.std.specs.Option.{option_flatten}
 use Rattle.std.proofs.lemmas.List.{length-map}
 use Rattle.std.proofs.lemmas.Option.{slice_get_past}
@@ -11,7 +11,7 @@ use Rattle.cg_extract.proofs.LiftedMachine.{start_count}
 use Rattle.cg_extract.proofs.Lifts.{enable_net, lifting_lifts}
 use Rattle.cg_extract.proofs.NetPlaces.{below_or, clock_within}
 use Rattle.cg_extract.proofs.Taking.{lifting_free}
-use Rattle.cg_extract.specs.Lifted.{CanExtract, enable_under, kept_nets, lifted, lifted_enables, lifting}
+use Rattle.cg_extract.specs.Lifted.{CanExtract, enable_under, kept_nets, lifted, lifting}
 use Rattle.cg_extract.specs.inner.Taking.{IsTable, entry_at, table_enables}
 
 module _ (c : Circuit) (prefix : List ℕ) (can : CanExtract c prefix) (old : MachineData) (named : old.prefix ≡ prefix) (m : MachineData) (made : m ≡ (lifting c old.prefix).machine) (table : List (Option ℕ)) (tells : IsTable c (lifting c old.prefix).enables table) where

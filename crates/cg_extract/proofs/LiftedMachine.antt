@@ -4,14 +4,12 @@ use Rattle.std.specs.Option.{option_flatten, option_map}
 use Rattle.std.proofs.lemmas.Bool.{or_cases, or_left, or_right}
 use Rattle.std.proofs.lemmas.List.{length-map}
 use Rattle.std.proofs.lemmas.Option.{slice_get-map, slice_get_within}
-use Rattle.cg_netlist.specs.Chains.{chain, chain_cell, gate_order}
 use Rattle.cg_netlist.specs.Circuit.{Circuit, GatingCell, RegisterCell, gate_nets, is_in}
 use Rattle.cg_netlist.specs.said.Wiring.{map_register}
-use Rattle.cg_netlist.proofs.PlaceLemmas.{mapped_at}
 use Rattle.cg_machine.specs.Machine.{IsMachine, IsNet, MachineData, enable_of}
 use Rattle.cg_extract.proofs.Bare.{bare_long}
 use Rattle.cg_extract.proofs.Depths.{all_taken, depths_few}
-use Rattle.cg_extract.proofs.Lifts.{Lifts, enable_net, lifting_lifts, start, taken}
+use Rattle.cg_extract.proofs.Lifts.{Lifts, enable_net, lifting_lifts, taken}
 use Rattle.cg_extract.specs.Laws.{LiftedIsMachine, LiftedIsSmall}
 use Rattle.cg_extract.specs.Lifted.{CanExtract, Lifting, bare, by_depth, enable_under, lift_each, lift_one, lifted, lifted_enables, lifting, number_of, on_clock, unlifted}
 

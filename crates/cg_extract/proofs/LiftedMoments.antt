@@ -1,5 +1,5 @@
 -- A moment of the netlist is one of the netlist without its gating cells, and shows what the lifted machine's nets show.
-use Rattle.std.proofs.Common.{[], ◌≡◌, ◌≢◌, ℕ, ◌<◌, Bool, true, false, not, if◌then◌else◌, List, ◌∷◌, ◌++◌, map, length, slice_get, Option, None, Some, nat_eq, refl, ap, sym, ◌∙◌, subst, arith}
+use Rattle.std.proofs.Common.{[], ◌≡◌, ◌≢◌, ℕ, Bool, true, false, not, if◌then◌else◌, List, ◌∷◌, ◌++◌, map, length, slice_get, Some, nat_eq, refl, ap, sym, ◌∙◌, subst, arith}
 use Rattle.std.specs.List.{cons_option}
 use Rattle.std.specs.Option.{option_map, option_to_list}
 use Rattle.std.proofs.lemmas.Bool.{both_ways, eq-eqb, or_left, or_right}
@@ -15,14 +15,13 @@ use Rattle.cg_netlist.proofs.NetOrder.{registers_renumbered}
 use Rattle.cg_netlist.proofs.NetsOf.{nets_only}
 use Rattle.cg_netlist.proofs.PlaceLemmas.{mapped_at}
 use Rattle.cg_netlist.proofs.Used.{input_is_used}
-use Rattle.cg_machine.specs.Machine.{IsInputs, IsState, MachineData, values, walk_of}
-use Rattle.cg_machine.proofs.Lists.{take_get}
+use Rattle.cg_machine.specs.Machine.{IsInputs, IsState, values, walk_of}
 use Rattle.std.proofs.lemmas.List.{take_all}
 use Rattle.cg_extract.proofs.Bare.{bare_formed, bare_machine, data_is, number_within}
 use Rattle.cg_extract.proofs.Kept.{cell_kept, clock_kept, data_kept, kept_within, placed, register_kept, same_number, shown_on_clock, used_kept}
 use Rattle.cg_extract.proofs.LiftedMachine.{start_count}
 use Rattle.cg_extract.proofs.Lifts.{lifting_lifts, start}
-use Rattle.cg_extract.specs.Lifted.{CanExtract, bare, kept_nets, lifted, lifting, number_of, on_clock, ungated}
+use Rattle.cg_extract.specs.Lifted.{CanExtract, bare, kept_nets, lifted, number_of, on_clock, ungated}
 
 -- what registers show does not depend on their numbers, nor on their clocks
 shown_same : (f : ℕ → ℕ) (outputs : List (ℕ × Bool)) (b : Bool) → map {A = ℕ × Bool} (λ output. if output.1 then not b else b) (map (λ output. (f output.0, output.1)) outputs) ≡ map (λ output. if output.1 then not b else b) outputs

@@ -1,7 +1,7 @@
 -- What clock nets do from one moment to the next: the output of a gating cell rises where the clock rises and the and of the enables
 -- on its chain was 1 a moment before. A latch behind a gated clock follows its enable wherever that clock stays low.
-use Rattle.std.proofs.Common.{[], ◌≡◌, ◌⊎◌, ℕ, ◌<◌, Bool, true, false, not, ◌||◌, ◌&&◌, if◌then◌else◌, cond, List, ◌∷◌, length, map, slice_get, nat_eq, unwrap_or, Option, None, Some, refl, ap, sym, ◌∙◌, subst, inl, inr, arith}
-use Rattle.std.specs.List.{All, list_any}
+use Rattle.std.proofs.Common.{[], ◌≡◌, ℕ, Bool, true, false, not, ◌||◌, ◌&&◌, if◌then◌else◌, cond, List, ◌∷◌, length, slice_get, nat_eq, unwrap_or, Option, None, Some, refl, ap, sym, ◌∙◌, subst, inl, inr, arith}
+use Rattle.std.specs.List.{list_any}
 use Rattle.std.specs.Option.{option_to_list}
 use Rattle.std.proofs.lemmas.Bool.{both_ways, eq-eqb, eqb-true, or_left}
 use Rattle.std.proofs.lemmas.Option.{same_Some, slice_get_within, unwrap_or-slice_get}
@@ -13,7 +13,7 @@ use Rattle.cg_netlist.proofs.Given.{clock_no_gate, in_option}
 use Rattle.cg_netlist.proofs.Members.{is_in_cases}
 use Rattle.cg_netlist.proofs.Values.{element_at, length-zip_with, zip_with_at}
 use Rattle.cg_machine.proofs.Lists.{all_at}
-use Rattle.cg_machine.specs.Machine.{MachineData, load, values}
+use Rattle.cg_machine.specs.Machine.{load, values}
 use Rattle.cg_netlist.proofs.Used.{asked_is_used}
 use Rattle.cg_extract.proofs.Lifts.{AreLifted, IsLifted, enable_gate, lifting_lifts, taken_found}
 use Rattle.cg_extract.proofs.LiftedMachine.{gate_taken}

@@ -3,7 +3,7 @@ use Rattle.std.proofs.Common.{◌≡◌, ℕ, ◌<◌, Bool, true, false, not, �
 use Rattle.std.specs.Option.{option_map}
 use Rattle.std.proofs.lemmas.List.{length-replicate}
 use Rattle.std.proofs.lemmas.Option.{slice_get-map, slice_get_within}
-use Rattle.cg_netlist.specs.Circuit.{Circuit, RegisterCell, data_inputs}
+use Rattle.cg_netlist.specs.Circuit.{Circuit, RegisterCell}
 use Rattle.cg_netlist.specs.History.{AreTicks, IsLawful, LawfulFrom, Moment, MomentFollows, Tick, gate_bit, next_bit, next_value, outputs_of}
 use Rattle.cg_netlist.specs.Moment.{bit, values_at, zip_with}
 use Rattle.cg_netlist.specs.said.Wiring.{map_register}

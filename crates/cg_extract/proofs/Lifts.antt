@@ -1,8 +1,8 @@
 -- Gating cells are taken one after another: the machine stays a machine, and the net beside each shows the and of the enables on
 -- its chain.
-use Rattle.std.proofs.Common.{◌≡◌, ◌≢◌, ◌⊎◌, ℕ, zero, suc, ◌+◌, ◌<◌, ◌≤◌, Bool, true, false, ◌&&◌, cond, List, [], ◌∷◌, length, map, slice_get, nat_eq, Option, None, Some, refl, ap, sym, ◌∙◌, subst, inl, inr, arith}
+use Rattle.std.proofs.Common.{◌≡◌, ◌⊎◌, ℕ, suc, ◌+◌, ◌<◌, ◌≤◌, Bool, true, false, ◌&&◌, cond, List, [], ◌∷◌, length, map, slice_get, nat_eq, Option, None, Some, refl, ap, sym, ◌∙◌, subst, inl, inr, arith}
 use Rattle.std.specs.List.{cons_option}
-use Rattle.std.specs.Option.{option_map, option_to_list}
+use Rattle.std.specs.Option.{option_to_list}
 use Rattle.std.proofs.lemmas.Bool.{both_ways, eq-eqb, eqb-true, lt-ltb, or_cases, or_left}
 use Rattle.std.proofs.lemmas.List.{length-append, take_all}
 use Rattle.std.proofs.lemmas.Option.{same_Some, slice_get-get_or}
@@ -18,7 +18,7 @@ use Rattle.cg_netlist.proofs.Members.{is_in_left, member_at}
 use Rattle.cg_netlist.proofs.PlaceLemmas.{mapped_at}
 use Rattle.cg_netlist.proofs.Used.{asked_is_used}
 use Rattle.cg_netlist.proofs.Values.{at_map}
-use Rattle.cg_machine.specs.Added.{Added, add_gate, find_gate, gate_limit, nets_limit, next_name, or_push, push_gate, unless_found}
+use Rattle.cg_machine.specs.Added.{add_gate, find_gate, nets_limit, next_name, or_push, push_gate, unless_found}
 use Rattle.cg_machine.specs.Extends.{Extends, GateFits, HasGate}
 use Rattle.cg_machine.specs.Gates.{and_cover}
 use Rattle.cg_machine.specs.Machine.{IsInputs, IsMachine, IsNet, IsState, MachineData, load, values}

@@ -1,8 +1,8 @@
 -- Where nets stand in net order: the outputs of gating cells side by side, and the nets of registers behind them.
-use Rattle.std.proofs.Common.{[], ◌≡◌, ◌⊎◌, ℕ, zero, suc, ◌+◌, ◌-◌, ◌<◌, ◌≤◌, Bool, true, false, not, List, ◌∷◌, ◌++◌, map, length, slice_get, slice_index_or, Option, None, Some, nat_eq, refl, ap, sym, ◌∙◌, subst, inl, inr, arith}
+use Rattle.std.proofs.Common.{[], ◌≡◌, ◌⊎◌, ℕ, zero, suc, ◌+◌, ◌-◌, ◌<◌, ◌≤◌, true, not, List, ◌∷◌, ◌++◌, length, slice_get, slice_index_or, None, Some, refl, ap, sym, ◌∙◌, subst, inl, inr, arith}
 use Rattle.std.specs.List.{filter, range_with_len}
 use Rattle.std.specs.Option.{option_to_list}
-use Rattle.std.proofs.lemmas.Bool.{both_ways, cases_Bool, false_from_ne_true}
+use Rattle.std.proofs.lemmas.Bool.{both_ways, false_from_ne_true}
 use Rattle.std.proofs.lemmas.List.{length-append, length-map}
 use Rattle.std.proofs.lemmas.Option.{slice_get_past}
 use Rattle.cg_netlist.specs.Circuit.{Circuit, GatingCell, RegisterCell, cell_nets, clock_nets, gate_nets, is_in, register_nets}
@@ -129,10 +129,13 @@ module _ (c : Circuit) (whole : IsNetlist c) where
 
   pub number_high : (x : ℕ) → is_in (kept_nets c) x ≡ true → slice_index_or (gate_nets c) 0 0 ≤ x → (length c.gaters ≤ x) × (number_of c x ≡ x - length c.gaters)
   number_high x among past = elim (none_or_some g) [
-    | inl none ↦ (omega (arith, none), elim (sides x among) [
-      | inl low ↦ number_below x low ∙ (let e : x ≡ x - g = omega (arith, none) in e)
-      | inr high ↦ number_behind x high.0 high.1
-    ])
+    | inl none ↦ (
+      omega (arith, none),
+      elim (sides x among) [
+        | inl low ↦ number_below x low ∙ (let e : x ≡ x - g = omega (arith, none) in e)
+        | inr high ↦ number_behind x high.0 high.1
+      ],
+    )
     | inr some ↦ let z = first_some some in elim (sides x among) [
       | inl low ↦ absurd (omega (arith, z, past, low))
       | inr high ↦ (omega (arith, high.0), number_behind x high.0 high.1)

@@ -1,8 +1,8 @@
 -- Lists of nets under numbers that no two of some nets share.
-use Rattle.std.proofs.Common.{[], ◌≡◌, ◌⊎◌, ℕ, ◌+◌, Bool, true, false, not, cond, List, ◌∷◌, ◌++◌, map, slice_get, length, Option, None, Some, nat_eq, refl, ap, sym, ◌∙◌, inl, inr, zero, suc, arith}
+use Rattle.std.proofs.Common.{[], ◌≡◌, ℕ, ◌+◌, Bool, true, false, cond, List, ◌∷◌, ◌++◌, map, slice_get, Option, None, Some, nat_eq, refl, ap, sym, ◌∙◌, inl, inr, zero, suc, arith}
 use Rattle.std.specs.List.{IsDistinct, filter, position_from}
 use Rattle.std.specs.Option.{option_map, option_to_list}
-use Rattle.std.proofs.lemmas.Bool.{both_ways, cases_Bool, false_from_ne_true, eq-eqb, or_cases, or_left, or_right, eqb-true}
+use Rattle.std.proofs.lemmas.Bool.{both_ways, cases_Bool, false_from_ne_true, eq-eqb, or_left, or_right}
 use Rattle.std.proofs.lemmas.List.{map-append}
 use Rattle.cg_netlist.specs.Circuit.{is_in}
 use Rattle.cg_netlist.proofs.Members.{distinct_cons, distinct_head, distinct_tail}
@@ -44,9 +44,9 @@ module _ (f : ℕ → ℕ) (own : List ℕ) (apart : (x y : ℕ) → is_in own x
   distinct_mapped (x ∷ xs) within once =
       distinct_cons (f x) (map f xs)
       (false_from_ne_true (is_in (map f xs) (f x)) (λ there.
-          let found = from_mapped f xs (f x) there in
-          let same : found.0 ≡ x = apart found.0 x (within found.0 (or_right (nat_eq found.0 x) (is_in xs found.0) found.1)) (within x (or_left (nat_eq x x) (is_in xs x) (eq-eqb x x refl))) found.2 in
-          both_ways (is_in xs x) (distinct_head x xs once) (ap (is_in xs) (sym same) ∙ found.1)))
+      let found = from_mapped f xs (f x) there in
+      let same : found.0 ≡ x = apart found.0 x (within found.0 (or_right (nat_eq found.0 x) (is_in xs found.0) found.1)) (within x (or_left (nat_eq x x) (is_in xs x) (eq-eqb x x refl))) found.2 in
+      both_ways (is_in xs x) (distinct_head x xs once) (ap (is_in xs) (sym same) ∙ found.1)))
       (distinct_mapped xs (λ y among. within y (or_right (nat_eq y x) (is_in xs y) among)) (distinct_tail x xs once))
 
 -- a search that finds nothing, and one that has nothing to find

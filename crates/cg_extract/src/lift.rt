@@ -62,11 +62,7 @@ fn set_enable(machine: &mut Machine, reg: RegId, enable: Option<NetId>)
 
 /// The net that enables a gating cell: its own enable net, and where a gating cell drives its clock pin the and of that one's
 /// enable and its own.
-fn chained(
-    machine: &mut Machine,
-    parent: Option<NetId>,
-    own: NetId,
-) -> Result<NetId, AllocError>
+fn chained(machine: &mut Machine, parent: Option<NetId>, own: NetId) -> Result<NetId, AllocError>
     requires own { IsNet machine.old own }
     requires parent { (net : ℕ) → parent ≡ Some net → IsNet machine.old net }
     requires room { length machine.old.circuit.names < 1048576 }

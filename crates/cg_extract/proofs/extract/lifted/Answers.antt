@@ -1,4 +1,4 @@
-use Rattle.std.proofs.Common.{◌≡◌, ◌≤◌, ℕ, List, Option, length, sym, ap, ◌∙◌, subst, arith}
+use Rattle.std.proofs.Common.{◌≡◌, length, sym, ap, ◌∙◌, subst, arith}
 use Rattle.cg_machine.specs.Machine.{MachineData}
 use Rattle.cg_machine.specs.Run.{with_enables}
 use Rattle.cg_machine.specs.Start.{CanStart}

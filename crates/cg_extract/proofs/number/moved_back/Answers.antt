@@ -1,4 +1,4 @@
-use Rattle.std.proofs.Common.{◌≡◌, ◌+◌, ◌≤◌, ◌<◌, ◌^◌, length, Fits, w32, arith}
+use Rattle.std.proofs.Common.{arith}
 use Rattle.cg_netlist.proofs.OrderLemmas.{gaters_within}
 use Rattle.cg_extract.proofs.number.moved_back.Goals as goal
 

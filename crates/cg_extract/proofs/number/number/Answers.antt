@@ -1,4 +1,4 @@
-use Rattle.std.proofs.Common.{◌≡◌, ◌-◌, ◌≤◌, ◌<◌, ℕ, length, sym, ap, ◌∙◌, arith}
+use Rattle.std.proofs.Common.{sym, ◌∙◌, arith}
 use Rattle.cg_extract.proofs.NetPlaces.{number_high, number_low}
 use Rattle.cg_extract.proofs.number.number.Goals as goal
 

@@ -1,4 +1,4 @@
-use Rattle.std.proofs.Common.{◌≡◌, ◌+◌, ◌≤◌, ◌<◌, ℕ, length, None, Some, slice_index_or, sym, ap, ◌∙◌, inl, inr, arith}
+use Rattle.std.proofs.Common.{Some, slice_index_or, sym, ap, ◌∙◌, inl, inr, arith}
 use Rattle.cg_netlist.specs.Circuit.{gate_nets}
 use Rattle.cg_extract.proofs.NetPlaces.{below_or, origin_high, origin_low, origin_none}
 use Rattle.cg_extract.proofs.number.origin.Goals as goal

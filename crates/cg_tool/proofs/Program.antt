@@ -19,12 +19,13 @@ use Rattle.cg_run.proofs.Named.{load_named}
 use Rattle.cg_run.proofs.Others.{others}
 use Rattle.cg_run.proofs.Unbegun.{never_usage, runs_unbegun}
 use Rattle.cg_run.proofs.Voice.{ended}
-use Rattle.cg_tool.specs.CommandLine.{JobWords}
+use Rattle.cg_words.specs.Jobs.{JobWords}
+use Rattle.cg_words.specs.declared.job.Mode.{Mode}
+use Rattle.cg_words.specs.declared.job.Mode.TheVariants.{Demo, Gate, Lrat, Sim}
+use Rattle.cg_words.specs.declared.options.Asked.{Asked}
 use Rattle.cg_tool.specs.Gate.{IsGated, gate_gives, gate_start, gate_stops, gate_takes, gate_task}
 use Rattle.cg_tool.specs.Lrat.{IsChecked, lrat_gives, lrat_start, lrat_stops, lrat_takes, lrat_task}
 use Rattle.cg_tool.specs.Program.{IsOrNoMemory, KeepsAll, RefusesWords, RunsWords, task_by, task_in}
-use Rattle.cg_tool.specs.declared.words.Mode.{Mode}
-use Rattle.cg_tool.specs.declared.words.Mode.TheVariants.{Gate, Lrat}
 use Rattle.cg_tool.proofs.GateMeans.{gated_means}
 use Rattle.cg_tool.proofs.LratMeans.{checked}
 

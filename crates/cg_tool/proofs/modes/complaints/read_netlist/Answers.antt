@@ -1,5 +1,5 @@
 use Rattle.cg_tool.proofs.NetlistRead.{read_answers}
-use Rattle.cg_tool.proofs.modes.gate.read_netlist.Goals as goal
+use Rattle.cg_tool.proofs.modes.complaints.read_netlist.Goals as goal
 
 pub returns : goal.returns
 returns c =

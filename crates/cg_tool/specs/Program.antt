@@ -1,5 +1,5 @@
 -- What a run of the program does, by its words.
-use Rattle.std.specs.Prelude.{◌≡◌, ℕ, Bool, true, false, not, ◌&&◌, if◌then◌else◌, List, [], codes, Option, None, Some, Result, ⊤, ⊥}
+use Rattle.std.specs.Prelude.{◌≡◌, ℕ, Bool, true, false, not, ◌&&◌, if◌then◌else◌, List, [], codes, Option, None, Some, Result, ⊤}
 use Rattle.std.specs.Option.{option_and_then}
 use Rattle.cg_shelf.specs.World.{World}
 use Rattle.cg_shelf.specs.declared.faults.LoadFault.{LoadFault}

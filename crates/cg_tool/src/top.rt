@@ -1,6 +1,6 @@
 //! The top call.
 
-ghost use Rattle.std.specs.Prelude.{◌≡◌, map, None, IfOk, IfSome, IsTrue};
+ghost use Rattle.std.specs.Prelude.{◌≡◌, map, None, Some, IfOk, IfSome, IsTrue};
 ghost use Rattle.std.specs.Option.{option_map};
 ghost use Rattle.std.specs.String.{string_bytes};
 ghost use Rattle.cg_run.specs.Names.{file_of, name_of};
@@ -108,8 +108,18 @@ fn taken_job(job: Option<Job<'_>>) -> Option<Job<'_>>
     ensures { option_map job_words result ≡ taken_job (option_map job_words job.entry) }
 {
     match job {
-        Some(job) if is_taken(job.mode, job.options.asked) => Some(job),
-        _ => None,
+        None => None,
+        Some(job) => taken(job),
+    }
+}
+
+fn taken(job: Job<'_>) -> Option<Job<'_>>
+    ensures { option_map job_words result ≡ taken_job (Some (job_words job.entry)) }
+{
+    if is_taken(job.mode, job.options.asked) {
+        Some(job)
+    } else {
+        None
     }
 }
 

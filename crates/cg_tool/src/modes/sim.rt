@@ -19,6 +19,7 @@ use cg_cell::name::Name;
 use cg_list::Seq;
 use cg_netlist::netlist::Netlist;
 use cg_report::rows::push_rows;
+use cg_report::watched_rows::push_watched_rows;
 use cg_report::watcher::Watcher;
 use cg_run::{Finish, Names, Output, Reader, Refusal, Role, Status, Trouble, collect, put_out};
 use cg_shelf::Shelf;
@@ -158,7 +159,7 @@ fn say_rows(
     let mut text = Vec::new(alloc);
     match watcher {
         None => push_rows(alloc, netlist, stimulus, &mut text)?,
-        Some(_) => return Err(AllocError),
+        Some(mut watcher) => push_watched_rows(alloc, netlist, stimulus, &mut watcher, &mut text)?,
     }
     Ok(text)
 }

@@ -2,7 +2,7 @@ pub mod RoleLaws
 pub mod ReadHalf
 pub mod WriteHalf
 pub mod Attempted
-pub mod Closing
+pub mod RefusedSo
 pub mod Closed
 pub mod Others
 pub mod Completes
@@ -11,3 +11,4 @@ pub mod Named
 pub mod Finished
 pub mod Steps
 pub mod Unbegun
+pub mod Halves

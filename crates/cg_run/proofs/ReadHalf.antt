@@ -1,13 +1,12 @@
 -- The reading half of a run, from its loads and what the mode made of them.
 use Rattle.std.proofs.Common.{◌≡◌, inl, inr, ℕ, Bool, not, IsTrue, List, [], ◌∷◌, ◌++◌, Option, None, Some, Result, Ok, Err, refl, sym, ◌∙◌, ap, subst, append_assoc, append-nil}
-use Rattle.std.specs.Prelude.{IfSome, ⊤}
+use Rattle.std.specs.Prelude.{IfSome, IsOkAnd, ⊤}
 use Rattle.cg_shelf.specs.World.{World}
 use Rattle.cg_shelf.specs.Shelf.{Listed, ListsLoad, load_faults, one_call}
 use Rattle.cg_shelf.specs.declared.faults.Call.TheVariants as calls
 use Rattle.cg_shelf.specs.declared.faults.Fault.{Fault}
 use Rattle.cg_shelf.specs.declared.faults.LoadFault.{LoadFault}
 use Rattle.cg_shelf.specs.declared.faults.LoadFault.TheVariants as loads
-use Rattle.cg_run.specs.declared.output.Output.{Output}
 use Rattle.cg_run.specs.declared.refusal.Refusal.{Refusal}
 use Rattle.cg_run.specs.declared.refusal.Refusal.TheVariants as refusals
 use Rattle.cg_run.specs.declared.refusal.Trouble.{Trouble}
@@ -16,7 +15,7 @@ use Rattle.cg_run.specs.declared.role.Role.{Role}
 use Rattle.cg_run.specs.Reads.{Agrees, Loads, Reads, Untouched, load_calls, loaded_role}
 use Rattle.cg_run.specs.Refusal.{outcome_faults, refusal_of}
 use Rattle.cg_run.specs.Roles.{are_distinct, is_among}
-use Rattle.cg_run.specs.Verdict.{Answers, Comes, Concludes, Given, Halts, Loaded, asked, asked_from, brought, onward, reached, refusal_in, stopped, taken, troubled, ◌>>=◌}
+use Rattle.cg_run.specs.Verdict.{Answers, Comes, Given, Halts, Loaded, asked, asked_from, brought, onward, reached, refusal_in, stopped, taken, troubled, ◌>>=◌}
 use Rattle.cg_run.proofs.RoleLaws.{and_parts, asked_none, asked_same, asked_with, bind_same, given_each, given_here, given_with, none_given, reached_with}
 
 -- a shelf that told before tells on
@@ -104,20 +103,14 @@ answers_quit v (Err (troubles.Content content)) h = ap (λ w. refusal_in (troubl
 answers_quit v (Err (troubles.Limit limit)) h = ap (λ w. refusal_in (troubled w)) h
 answers_quit v (Err troubles.NoMemory) h = refl
 
-concluded : {M : Type 0} (stops : Option Trouble) (gives : M → Output → Type 0) (state : M) (answer : Result Output Trouble) → Concludes stops (gives state) answer → Comes gives (stopped stops state) (troubled answer)
-concluded stops gives state (Ok output) h = rw h.0 h.1
-concluded stops gives state (Err (troubles.Content content)) h = ap (λ s. refusal_in (stopped s state)) h
-concluded stops gives state (Err (troubles.Limit limit)) h = ap (λ s. refusal_in (stopped s state)) h
-concluded stops gives state (Err troubles.NoMemory) h = refl
-
-trouble_faults : {T : Type 0} (names : Role → List ℕ) (answer : Result T Trouble) → outcome_faults names (troubled answer) ≡ []
+pub trouble_faults : {T : Type 0} (names : Role → List ℕ) (answer : Result T Trouble) → outcome_faults names (troubled answer) ≡ []
 trouble_faults names (Ok found) = refl
 trouble_faults names (Err (troubles.Content content)) = refl
 trouble_faults names (Err (troubles.Limit limit)) = refl
 trouble_faults names (Err troubles.NoMemory) = refl
 
 -- a refusal in the middle carries over to what comes after
-halts_bind : {A B : Type 0} (v : Result A Refusal) (next : A → Result B Refusal) (refusal : Refusal) → Halts (refusal_in v) refusal → Halts (refusal_in (v >>= next)) refusal
+pub halts_bind : {A B : Type 0} (v : Result A Refusal) (next : A → Result B Refusal) (refusal : Refusal) → Halts (refusal_in v) refusal → Halts (refusal_in (v >>= next)) refusal
 halts_bind (Err first) next refusal halts = halts
 halts_bind (Ok x) next (refusals.Content content) halts = cc
 halts_bind (Ok x) next (refusals.Limit limit) halts = cc
@@ -153,19 +146,19 @@ onward_none : {M : Type 0} (v : Result M Refusal) (more : M → List Role) → (
 onward_none (Ok next) more each = each next
 onward_none (Err refusal) more each = refl
 
-module _ {M : Type 0} (gave : List ℕ → Result (List ℕ) LoadFault → Type 0) (takes : M → Role → List ℕ → Result M Trouble) (stops : M → Option Trouble) (gives : M → Output → Type 0) (names : Role → List ℕ) where
+module _ {M T : Type 0} (gave : List ℕ → Result (List ℕ) LoadFault → Type 0) (takes : M → Role → List ℕ → Result M Trouble) (stops : M → Option Trouble) (gives : M → T → Type 0) (names : Role → List ℕ) where
   -- all files are taken
-  pub reads_end : (state : M) (world : World) (answer : Result Output Trouble) → Concludes (stops state) (gives state) answer → Reads gave takes stops gives names state [] world world (troubled answer)
-  reads_end state world answer answers = record {
+  pub reads_end : (state : M) (world : World) (answer : T) → IsOkAnd (stopped (stops state) state) (λ found. gives found answer) → Reads gave takes stops gives names state [] world world (Ok answer)
+  reads_end state world answer comes = record {
     given = none_given;
     from = λ role. tt;
     told = λ t role. tt;
-    cause = concluded (stops state) gives state answer answers;
+    cause = comes;
     listed = λ t. sym (append-nil world.calls);
     untouched = λ t. record { held = refl; said = refl };
     quiet = λ t. refl;
     tells = refl;
-    failed = sym (ap (λ f. world.faults ++ f) (trouble_faults names answer) ∙ append-nil world.faults);
+    failed = sym (append-nil world.faults);
   }
 
   from_with : (role : Role) (here : Loaded) (given : Given) → IfSome here (gave (names role)) → ((other : Role) → IfSome (given other) (gave (names other))) → (other : Role) → IfSome (given_with role here given other) (gave (names other))
@@ -241,7 +234,7 @@ module _ {M : Type 0} (gave : List ℕ → Result (List ℕ) LoadFault → Type 
       }
 
   -- the mode took the first file, and the rest followed
-  pub reads_on : (state next : M) (role : Role) (rest : List Role) (before middle after : World) (bytes : List ℕ) (answer : Result Output Refusal)
+  pub reads_on : (state next : M) (role : Role) (rest : List Role) (before middle after : World) (bytes : List ℕ) (answer : Result T Refusal)
       → IsTrue (are_distinct (role ∷ rest)) → Loads gave names role before middle (Ok bytes) → takes state role bytes ≡ Ok next → Reads gave takes stops gives names next rest middle after answer → Reads gave takes stops gives names state (role ∷ rest) before after answer
   reads_on state next role rest before middle after bytes answer distinct load took reads =
       let apart = (and_parts (not (is_among role rest)) (are_distinct rest) distinct).0 in

@@ -7,12 +7,11 @@ use Rattle.cg_shelf.specs.declared.faults.Call.TheVariants as calls
 use Rattle.cg_shelf.specs.declared.faults.CallMade.{CallMade}
 use Rattle.cg_shelf.specs.declared.faults.LoadFault.{LoadFault}
 use Rattle.cg_shelf.specs.declared.faults.LoadFault.TheVariants as loads
-use Rattle.cg_run.specs.declared.output.Output.{Output}
 use Rattle.cg_run.specs.declared.refusal.Refusal.{Refusal}
 use Rattle.cg_run.specs.declared.refusal.Trouble.{Trouble}
 use Rattle.cg_run.specs.declared.role.Role.{Role}
 use Rattle.cg_run.specs.Refusal.{outcome_faults}
-use Rattle.cg_run.specs.Verdict.{Comes, Given, Loaded, asked, brought, reached}
+use Rattle.cg_run.specs.Verdict.{Comes, Given, Loaded, asked, brought, reached, unstopped}
 
 -- nothing was stored or said
 pub record Untouched (before after : World) : Type 0 where
@@ -56,7 +55,7 @@ pub record Loads (gave : List ℕ → Result (List ℕ) LoadFault → Type 0) (n
 
 -- The reading half of a run. `given` is what its loads gave; a load gave it, and where the shelf tells, it agrees with what
 -- was held. These loads are the calls that were made. Nothing is stored, said or complained.
-pub record Reads {M : Type 0} (gave : List ℕ → Result (List ℕ) LoadFault → Type 0) (takes : M → Role → List ℕ → Result M Trouble) (stops : M → Option Trouble) (gives : M → Output → Type 0) (names : Role → List ℕ) (state : M) (loads : List Role) (before after : World) (answer : Result Output Refusal) : Type 0 where
+pub record Reads {M T : Type 0} (gave : List ℕ → Result (List ℕ) LoadFault → Type 0) (takes : M → Role → List ℕ → Result M Trouble) (stops : M → Option Trouble) (gives : M → T → Type 0) (names : Role → List ℕ) (state : M) (loads : List Role) (before after : World) (answer : Result T Refusal) : Type 0 where
   pub given : Given
   pub from : (role : Role) → IfSome (given role) (gave (names role))
   pub told : IsTrue before.tells → (role : Role) → Agrees (before.held (names role)) (given role)
@@ -66,3 +65,7 @@ pub record Reads {M : Type 0} (gave : List ℕ → Result (List ℕ) LoadFault �
   pub quiet : IsTrue before.tells → after.complained ≡ before.complained
   pub tells : after.tells ≡ before.tells
   pub failed : after.faults ≡ before.faults ++ outcome_faults names answer
+
+-- The files are loaded and taken, and what was found in them is what they come to: nothing stops it yet.
+abbrev pub Collects : {M : Type 0} → (List ℕ → Result (List ℕ) LoadFault → Type 0) → (M → Role → List ℕ → Result M Trouble) → (Role → List ℕ) → M → List Role → World → World → Result M Refusal → Type 0
+Collects gave takes names state loads before after answer = Reads gave takes unstopped (λ found end. found ≡ end) names state loads before after answer

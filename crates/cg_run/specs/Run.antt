@@ -1,5 +1,5 @@
 -- What a run did: one relation, whatever its mode loads, makes of it, stores and says.
-use Rattle.std.specs.Prelude.{◌≡◌, ℕ, Bool, IsTrue, if◌then◌else◌, List, [], ◌++◌, Option, Result, Ok, Err, IfSome, IsSomeAnd}
+use Rattle.std.specs.Prelude.{◌≡◌, ◌⊎◌, ℕ, Bool, IsTrue, if◌then◌else◌, List, [], ◌++◌, Option, Result, Ok, Err, IfSome, IsSomeAnd}
 use Rattle.cg_shelf.specs.World.{World}
 use Rattle.cg_shelf.specs.Shelf.{Appends, Lists, call_faults}
 use Rattle.cg_shelf.specs.declared.faults.Call.TheVariants.{Complain}
@@ -20,7 +20,7 @@ use Rattle.cg_run.specs.Refusal.{complaint_text, outcome_faults, status_of, step
 use Rattle.cg_run.specs.Status.{finish_status}
 use Rattle.cg_run.specs.Verdict.{ComesTo, Given, Halts, Task}
 use Rattle.cg_run.specs.Reads.{Agrees, Untouched, load_calls}
-use Rattle.cg_run.specs.Writes.{CallsAt, HasStep, LeavesAt, WriteCalls, Written}
+use Rattle.cg_run.specs.Writes.{CallsAt, HasStep, LeavesAt, WriteCalls, Writes, Written}
 
 -- Why a run was refused, where its files are refused for this, or it began to put this output out: before the first write,
 -- for that very refusal, or for want of memory; at a write, which the output has.
@@ -106,4 +106,28 @@ pub record Runs (gave : List ℕ → Result (List ℕ) LoadFault → Type 0) (ta
   pub outcome : Result Finish Refusal
   pub between : World
   pub attempts : Attempts gave task names before between outcome
+  pub closes : Closes names outcome between after result
+
+-- how a run finished whose output was written, or why it was not
+abbrev pub finished_as : {T : Type 0} → Output → Result T Refusal → Result Finish Refusal
+finished_as output (Ok x) = Ok output.finish
+finished_as output (Err refusal) = Err refusal
+
+-- an output was written, as far as its writes came
+pub record WritesOut (names : Role → List ℕ) (output : Output) (before after : World) (outcome : Result Finish Refusal) : Type 0 where
+  pub answer : Result (Unit {0}) Refusal
+  pub writes : Writes names output before after answer
+  pub is : outcome ≡ finished_as output answer
+
+-- What reading came to, up to the complaint: an output is written, unless there is no memory for what may have to be
+-- complained of its writes; and of a refusal nothing is written.
+abbrev pub Tries : (Role → List ℕ) → Result Output Refusal → World → World → Result Finish Refusal → Type 0
+Tries names (Ok output) before after outcome = ((outcome ≡ Err (refusals.NoMemory steps.Reading)) × (after ≡ before)) ⊎ WritesOut names output before after outcome
+Tries names (Err refusal) before after outcome = (outcome ≡ Err refusal) × (after ≡ before)
+
+-- The writing half of a run: what reading came to was put out, and then the run closed.
+pub record PutsOut (names : Role → List ℕ) (found : Result Output Refusal) (before after : World) (result : Status) : Type 0 where
+  pub outcome : Result Finish Refusal
+  pub between : World
+  pub tries : Tries names found before between outcome
   pub closes : Closes names outcome between after result

@@ -43,6 +43,10 @@ brought role (Some (Err loads.NoMemory)) = Err (refusals.NoMemory steps.Reading)
 abbrev pub taken : {M : Type 0} → (M → Role → List ℕ → Result M Trouble) → M → Role → Loaded → Result M Refusal
 taken takes state role loaded = brought role loaded >>= λ bytes. troubled (takes state role bytes)
 
+-- nothing stops what was found
+abbrev pub unstopped : {M : Type 0} → M → Option Trouble
+unstopped state = None
+
 -- what was found, unless something stops it
 abbrev pub stopped : {M : Type 0} → Option Trouble → M → Result M Refusal
 stopped None state = Ok state
@@ -117,8 +121,8 @@ Halts refused (refusals.Store role) = ⊥
 Halts refused refusals.Say = ⊥
 Halts refused (refusals.NoMemory step) = step ≡ steps.Reading
 
--- what the reading half of a run answers of what was found: an output that it may give, or why it is refused; it writes nothing
-abbrev pub Comes : {M : Type 0} → (M → Output → Type 0) → Result M Refusal → Result Output Refusal → Type 0
+-- what the reading half of a run answers of what was found: what that may come to, or why it is refused; it writes nothing
+abbrev pub Comes : {M T : Type 0} → (M → T → Type 0) → Result M Refusal → Result T Refusal → Type 0
 Comes gives v (Ok output) = IsOkAnd v (λ found. gives found output)
 Comes gives v (Err refusal) = Halts (refusal_in v) refusal
 

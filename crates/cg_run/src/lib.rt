@@ -12,25 +12,29 @@
 //! - [`status`]: how a run ends;
 //! - [`output`]: what a mode puts out;
 //! - [`mode`]: what a run asks of a mode;
-//! - `reading`, `writing`: the two halves of a run;
-//! - [`driver`]: the run.
+//! - [`reading`]: the reading half of a run, [`collect`];
+//! - `writing`: the writes, and [`closing`]: the writing half of a run, [`put_out`];
+//! - [`driver`]: a run of both halves, with what a mode makes of its files between.
 #![tactic(auto)]
 
+pub mod closing;
 pub mod content;
 pub mod driver;
 pub mod mode;
 pub mod names;
 pub mod output;
-mod reading;
+pub mod reading;
 pub mod refusal;
 pub mod role;
 pub mod status;
 mod writing;
 
+pub use closing::put_out;
 pub use driver::drive;
-pub use mode::Mode;
+pub use mode::{Mode, Reader};
 pub use names::Names;
 pub use output::{Finish, Output, Text};
+pub use reading::collect;
 pub use refusal::{Content, Owner, Refusal, Step, Trouble};
 pub use role::Role;
 pub use status::Status;

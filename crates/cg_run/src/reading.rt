@@ -3,11 +3,10 @@
 ghost use Rattle.std.specs.Prelude.{◌≡◌, ◌++◌, IsTrue};
 ghost use Rattle.cg_run.specs.Names.{name_of};
 ghost use Rattle.cg_run.specs.Roles.{are_distinct};
-ghost use Rattle.cg_run.specs.Reads.{Gave, Loads, Reads};
+ghost use Rattle.cg_run.specs.Reads.{Collects, Gave, Loads};
 
-use crate::mode::Mode;
+use crate::mode::Reader;
 use crate::names::Names;
-use crate::output::Output;
 use crate::refusal::{Refusal, Step};
 use crate::role::Role;
 use cg_limit::{Limit, MOST_FILE_BYTES};
@@ -15,29 +14,31 @@ use cg_list::Seq;
 use cg_shelf::{LoadFault, Shelf};
 use std::alloc::Global;
 
-/// Loads the files of these roles and has the mode take them, in order.
-pub fn read<S: Shelf, M: Mode>(
+/// Loads the files of these roles and has the reader take them, in order.
+///
+/// With [`put_out`](crate::put_out) behind it this is a run, whatever finishes what was found in between.
+pub fn collect<S: Shelf, M: Reader>(
     alloc: Global,
     shelf: &mut S,
     names: &Names<'_>,
     loads: &[Role],
-    mode: M,
-) -> Result<Output, Refusal>
+    reader: M,
+) -> Result<M, Refusal>
     requires distinct { IsTrue (are_distinct loads.now) }
-    ensures { Reads (Gave S.gives) M.takes M.stops M.gives (name_of names.now) mode loads.now (S.world shelf.old) (S.world shelf.new) result }
+    ensures { Collects (Gave S.gives) M.takes (name_of names.now) reader loads.now (S.world shelf.old) (S.world shelf.new) result }
 {
     match loads.split_first() {
-        None => Ok(mode.finish(alloc)?),
+        None => Ok(reader),
         Some((role, rest)) => {
             let bytes = load(alloc, shelf, names, *role)?;
-            let next = mode.take(alloc, *role, bytes)?;
-            read(alloc, shelf, names, rest, next)
+            let next = reader.take(alloc, *role, bytes)?;
+            collect(alloc, shelf, names, rest, next)
         }
     }
 }
 
 /// Loads the file of a role.
-pub fn load<S: Shelf>(
+fn load<S: Shelf>(
     alloc: Global,
     shelf: &mut S,
     names: &Names<'_>,

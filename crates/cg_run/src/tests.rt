@@ -1,6 +1,6 @@
 //! Runs of a small mode over a shelf in memory: two stores, and runs that load nothing.
 
-use crate::{Finish, Mode, Names, Output, Role, Status, Text, Trouble, drive};
+use crate::{Finish, Mode, Names, Output, Reader, Role, Status, Text, Trouble, drive};
 use cg_list::Seq;
 use cg_shelf::{Call, MemShelf};
 use std::alloc::{AllocError, Global};
@@ -13,22 +13,26 @@ struct Copies {
     bytes: Seq<u8>,
 }
 
-impl Mode for Copies {
-    ghost use Rattle.std.specs.Prelude.{◌≡◌, [], ◌∷◌, None, Ok};
-    ghost use Rattle.cg_run.specs.declared.output.Finish.TheVariants.{Done};
-    ghost use Rattle.cg_run.specs.declared.role.Role.TheVariants.{Out, Proof};
+impl Reader for Copies {
+    ghost use Rattle.std.specs.Prelude.{Ok};
 
     ghost takes = { λ state role bytes. Ok (record { bytes = bytes }) };
+
+    fn take(self, _alloc: Global, _role: Role, bytes: Seq<u8>) -> Result<Copies, Trouble> {
+        Ok(Copies { bytes })
+    }
+}
+
+impl Mode for Copies {
+    ghost use Rattle.std.specs.Prelude.{◌≡◌, [], ◌∷◌, None};
+    ghost use Rattle.cg_run.specs.declared.output.Finish.TheVariants.{Done};
+    ghost use Rattle.cg_run.specs.declared.role.Role.TheVariants.{Out, Proof};
 
     ghost stops = { λ state. None };
 
     ghost gives = { λ state output.
         (output.stores ≡ record { role = Out; bytes = state.bytes } ∷ record { role = Proof; bytes = state.bytes } ∷ [])
         × (output.finish ≡ Done) };
-
-    fn take(self, _alloc: Global, _role: Role, bytes: Seq<u8>) -> Result<Copies, Trouble> {
-        Ok(Copies { bytes })
-    }
 
     fn finish(self, alloc: Global) -> Result<Output, Trouble> {
         let Copies { bytes } = self;

@@ -24,7 +24,8 @@ use Rattle.cg_run.specs.Writes.{Written}
 use Rattle.cg_run.proofs.Finished.{Finishes}
 use Rattle.cg_run.proofs.Steps.{came, found_ok, held_so, put_here, step_end, step_of}
 use Rattle.cg_tool.specs.NetlistSaid.{netlist_said}
-use Rattle.cg_tool.specs.Gate.{Behaves, IsGated, gate_gives, gate_start, gate_stops, gate_takes, gate_task, gated, library_found, library_trouble, netlist_found, netlist_read, netlist_trouble, ungated, ungated_of}
+use Rattle.cg_tool.specs.Complaints.{library_found, library_trouble, netlist_read, netlist_trouble}
+use Rattle.cg_tool.specs.Gate.{Behaves, IsGated, gate_gives, gate_start, gate_stops, gate_takes, gate_task, gated, netlist_found, ungated, ungated_of}
 use Rattle.cg_tool.specs.declared.modes.gate.Gate.{Gate}
 use Rattle.cg_tool.proofs.LratMeans.{refused_ok, some_and}
 use Rattle.cg_tool.proofs.NetlistRead.{netlist_proper, netlist_says}

@@ -1,5 +1,6 @@
 pub mod LratMeans
 pub mod NetlistRead
 pub mod GateMeans
-pub mod WordsRead
+pub mod StimulusFor
+pub mod SimMeans
 pub mod Program

@@ -1,6 +1,6 @@
 -- What every run of the program keeps, by its words.
 use Rattle.std.proofs.Common.{◌≡◌, ℕ, Bool, if◌then◌else◌, true, false, IsTrue, List, [], ◌∷◌, codes, Option, None, Some, Result, Ok, Err, refl, sym, subst}
-use Rattle.std.specs.Prelude.{IfSome}
+use Rattle.std.specs.Prelude.{IfSome, ⊤}
 use Rattle.cg_shelf.specs.World.{World}
 use Rattle.cg_shelf.specs.declared.faults.LoadFault.{LoadFault}
 use Rattle.cg_shelf.specs.declared.faults.StoreFault.{StoreFault}
@@ -9,9 +9,12 @@ use Rattle.cg_run.specs.Names.{file_of}
 use Rattle.cg_run.specs.Promise.{Ended, EndsAs, FinishBy, Gains, KeepsOthers, Stands, UnlessFails, held_files}
 use Rattle.cg_run.specs.Refusal.{complaint_line}
 use Rattle.cg_run.specs.Run.{Complains, Runs, status_after}
+use Rattle.cg_run.specs.declared.output.Finish.{Finish}
+use Rattle.cg_run.specs.declared.role.Role.{Role}
 use Rattle.cg_run.specs.declared.role.Role.TheVariants as roles
 use Rattle.cg_run.specs.declared.status.Status.{Status}
 use Rattle.cg_run.specs.declared.status.Status.TheVariants as statuses
+use Rattle.cg_run.specs.Verdict.{Task}
 use Rattle.cg_run.proofs.Closed.{gains, stands}
 use Rattle.cg_run.proofs.Completes.{completes}
 use Rattle.cg_run.proofs.Finished.{Finishes, finish_map, finished_so}
@@ -19,14 +22,19 @@ use Rattle.cg_run.proofs.Named.{load_named}
 use Rattle.cg_run.proofs.Others.{others}
 use Rattle.cg_run.proofs.Unbegun.{never_usage, runs_unbegun}
 use Rattle.cg_run.proofs.Voice.{ended}
-use Rattle.cg_tool.specs.CommandLine.{JobWords}
+use Rattle.cg_words.specs.Jobs.{JobWords}
+use Rattle.cg_words.specs.declared.job.Mode.{Mode}
+use Rattle.cg_words.specs.declared.job.Mode.TheVariants.{Demo, Gate, Lrat, Sim}
+use Rattle.cg_words.specs.declared.options.Asked.{Asked}
+use Rattle.cg_words.specs.declared.options.Options.{Options}
 use Rattle.cg_tool.specs.Gate.{IsGated, gate_gives, gate_start, gate_stops, gate_takes, gate_task}
 use Rattle.cg_tool.specs.Lrat.{IsChecked, lrat_gives, lrat_start, lrat_stops, lrat_takes, lrat_task}
-use Rattle.cg_tool.specs.Program.{IsOrNoMemory, KeepsAll, RefusesWords, RunsWords, task_by, task_in}
-use Rattle.cg_tool.specs.declared.words.Mode.{Mode}
-use Rattle.cg_tool.specs.declared.words.Mode.TheVariants.{Gate, Lrat}
+use Rattle.cg_tool.specs.Program.{IsOrNoMemory, KeepsAll, RefusesWords, RunsWords, is_taken, taken_job, task_by, task_in}
+use Rattle.cg_tool.specs.Sim.{IsSimulated, sim_gives, sim_start, sim_stops, sim_takes, sim_task}
+use Rattle.cg_tool.specs.Watching.{Kind, kind_at}
 use Rattle.cg_tool.proofs.GateMeans.{gated_means}
 use Rattle.cg_tool.proofs.LratMeans.{checked}
+use Rattle.cg_tool.proofs.SimMeans.{simulated_means}
 
 -- words that are no job end with Usage, or want of memory
 usage_answered : (answer : Result (Unit {0}) StoreFault) → IsOrNoMemory statuses.Usage (status_after statuses.Usage answer)
@@ -49,71 +57,125 @@ words_answered : (has : Bool) (before after : World) (result : Status) → Compl
 words_answered true before after result complains = let P : Status → Type 0 = λ s. IsOrNoMemory statuses.Usage s in subst P (sym complains.ends) (usage_answered complains.answer)
 words_answered false before after result complains = let P : Status → Type 0 = λ s. IsOrNoMemory statuses.Usage s in subst P (sym complains.ends) (memory_answered complains.answer)
 
-module _ (gave : List ℕ → Result (List ℕ) LoadFault → Type 0) where
+-- each job that is asked for is one that is taken
+abbrev IsTaken : Option JobWords → Type 0
+IsTaken None = ⊤
+IsTaken (Some job) = IsTrue (is_taken job.mode job.options.asked)
+
+taken_if : (job : JobWords) (taken : Bool) → is_taken job.mode job.options.asked ≡ taken → IsTaken (if taken then Some job else None)
+taken_if job true is = is
+taken_if job false is = tt
+
+pub is_taken_job : (job : Option JobWords) → IsTaken (taken_job job)
+is_taken_job None = tt
+is_taken_job (Some job) = taken_if job (is_taken job.mode job.options.asked) refl
+
+pub job_is_taken : (job : Option JobWords) (asked : JobWords) → Some asked ≡ taken_job job → IsTrue (is_taken asked.mode asked.options.asked)
+job_is_taken job asked is = subst IsTaken (sym is) (is_taken_job job)
+
+module _ (gave : List ℕ → Result (List ℕ) LoadFault → Type 0) (kinds : List Kind) where
   -- memory was wanting for the words
-  mode_unread : (mode : Mode) (job : JobWords) (before after : World) (result : Status) → Complains (complaint_line (codes "no memory")) statuses.NoMemory before after result → Runs gave (task_in mode job.clock) (file_of job.files) before after result
-  mode_unread Gate job before after result complains = runs_unbegun gave gate_takes gate_stops gate_gives (file_of job.files) (gate_start job.clock) (roles.Library ∷ roles.Netlist ∷ []) before after result complains
-  mode_unread Lrat job before after result complains = runs_unbegun gave lrat_takes lrat_stops lrat_gives (file_of job.files) lrat_start (roles.Formula ∷ roles.Log ∷ []) before after result complains
+  mode_unread : (mode : Mode) (asked : Asked) (options : Options) (names : Role → List ℕ) (before after : World) (result : Status) → IsTrue (is_taken mode asked)
+      → Complains (complaint_line (codes "no memory")) statuses.NoMemory before after result → Runs gave (task_in kinds mode options) names before after result
+  mode_unread Gate asked options names before after result taken complains = runs_unbegun gave gate_takes gate_stops gate_gives names (gate_start options.clock) (roles.Library ∷ roles.Netlist ∷ []) before after result complains
+  mode_unread Sim asked options names before after result taken complains =
+      runs_unbegun gave sim_takes sim_stops (sim_gives (kind_at kinds options.watch)) names (sim_start options.clock) (roles.Library ∷ roles.Netlist ∷ roles.Stimulus ∷ []) before after result complains
+  mode_unread Lrat asked options names before after result taken complains = runs_unbegun gave lrat_takes lrat_stops lrat_gives names lrat_start (roles.Formula ∷ roles.Log ∷ []) before after result complains
+  mode_unread (Demo size) asked options names before after result taken complains = cc
 
-  pub runs_unread : (job : Option JobWords) (before after : World) (result : Status) → Complains (complaint_line (codes "no memory")) statuses.NoMemory before after result → RunsWords gave job before after result
-  runs_unread None before after result complains = unread_words before after result complains
-  runs_unread (Some job) before after result complains = mode_unread job.mode job before after result complains
+  pub runs_unread : (job : Option JobWords) (before after : World) (result : Status) → IsTaken job → Complains (complaint_line (codes "no memory")) statuses.NoMemory before after result → RunsWords gave kinds job before after result
+  runs_unread None before after result taken complains = unread_words before after result complains
+  runs_unread (Some job) before after result taken complains = mode_unread job.mode job.options.asked job.options (file_of job.files) before after result taken complains
 
-  pub usage_only : (job : Option JobWords) (before after : World) (result : Status) → RunsWords gave job before after result → job ≡ None → IsOrNoMemory statuses.Usage result
+  pub usage_only : (job : Option JobWords) (before after : World) (result : Status) → RunsWords gave kinds job before after result → job ≡ None → IsOrNoMemory statuses.Usage result
   usage_only None before after result runs none = words_answered runs.has_memory before after result runs.complains
   usage_only (Some job) before after result runs none = cc
 
-  pub usage : (job : Option JobWords) (before after : World) (result : Status) → RunsWords gave job before after result → result ≡ statuses.Usage → job ≡ None
+  pub usage : (job : Option JobWords) (before after : World) (result : Status) → RunsWords gave kinds job before after result → result ≡ statuses.Usage → job ≡ None
   usage None before after result runs used = refl
-  usage (Some job) before after result runs used = absurd (never_usage gave (task_by job) (file_of job.files) before after result (ended gave (task_by job) (file_of job.files) before after result runs) used)
+  usage (Some job) before after result runs used =
+      absurd (never_usage gave (task_by kinds job) (file_of job.files) before after result (ended gave (task_by kinds job) (file_of job.files) before after result runs) used)
 
-  pub usage_keeps : (job : Option JobWords) (before after : World) (result : Status) → RunsWords gave job before after result → IsTrue before.tells → KeepsAll job before after
+  pub usage_keeps : (job : Option JobWords) (before after : World) (result : Status) → RunsWords gave kinds job before after result → IsTrue before.tells → KeepsAll job before after
   usage_keeps None before after result runs t = (runs.complains).same_held t
   usage_keeps (Some job) before after result runs t = tt
 
-  pub job_ended : (job : Option JobWords) (before after : World) (result : Status) → RunsWords gave job before after result → IfSome job (λ j. Ended gave (task_by j) (file_of j.files) before after result)
+  pub job_ended : (job : Option JobWords) (before after : World) (result : Status) → RunsWords gave kinds job before after result → IfSome job (λ j. Ended gave (task_by kinds j) (file_of j.files) before after result)
   job_ended None before after result runs = tt
-  job_ended (Some job) before after result runs = ended gave (task_by job) (file_of job.files) before after result runs
+  job_ended (Some job) before after result runs = ended gave (task_by kinds job) (file_of job.files) before after result runs
 
-  pub job_stands : (job : Option JobWords) (before after : World) (result : Status) → RunsWords gave job before after result → IsTrue before.tells → IfSome job (λ j. Stands (task_by j) (file_of j.files) before after result)
+  pub job_stands : (job : Option JobWords) (before after : World) (result : Status) → RunsWords gave kinds job before after result → IsTrue before.tells → IfSome job (λ j. Stands (task_by kinds j) (file_of j.files) before after result)
   job_stands None before after result runs t = tt
-  job_stands (Some job) before after result runs t = stands gave (task_by job) (file_of job.files) before after result runs t
+  job_stands (Some job) before after result runs t = stands gave (task_by kinds job) (file_of job.files) before after result runs t
 
-  mode_gains : (mode : Mode) (job : JobWords) (before after : World) (result : Status) → Runs gave (task_in mode job.clock) (file_of job.files) before after result → Gains (task_in mode job.clock) (file_of job.files) before after result
-  mode_gains Gate job before after result runs = gains gave (gate_task job.clock) (file_of job.files) before after result (load_named gate_takes gate_stops (gate_start job.clock) (roles.Library ∷ roles.Netlist ∷ [])) runs
-  mode_gains Lrat job before after result runs = gains gave lrat_task (file_of job.files) before after result (load_named lrat_takes lrat_stops lrat_start (roles.Formula ∷ roles.Log ∷ [])) runs
+  mode_gains : (mode : Mode) (asked : Asked) (options : Options) (names : Role → List ℕ) (before after : World) (result : Status) → IsTrue (is_taken mode asked)
+      → Runs gave (task_in kinds mode options) names before after result → Gains (task_in kinds mode options) names before after result
+  mode_gains Gate asked options names before after result taken runs = gains gave (gate_task options.clock) names before after result (load_named gate_takes gate_stops (gate_start options.clock) (roles.Library ∷ roles.Netlist ∷ [])) runs
+  mode_gains Sim asked options names before after result taken runs =
+      gains gave (sim_task options.clock (kind_at kinds options.watch)) names before after result (load_named sim_takes sim_stops (sim_start options.clock) (roles.Library ∷ roles.Netlist ∷ roles.Stimulus ∷ [])) runs
+  mode_gains Lrat asked options names before after result taken runs = gains gave lrat_task names before after result (load_named lrat_takes lrat_stops lrat_start (roles.Formula ∷ roles.Log ∷ [])) runs
+  mode_gains (Demo size) asked options names before after result taken runs = cc
 
-  pub job_gains : (job : Option JobWords) (before after : World) (result : Status) → RunsWords gave job before after result → IfSome job (λ j. Gains (task_by j) (file_of j.files) before after result)
-  job_gains None before after result runs = tt
-  job_gains (Some job) before after result runs = mode_gains job.mode job before after result runs
+  pub job_gains : (job : Option JobWords) (before after : World) (result : Status) → IsTaken job → RunsWords gave kinds job before after result → IfSome job (λ j. Gains (task_by kinds j) (file_of j.files) before after result)
+  job_gains None before after result taken runs = tt
+  job_gains (Some job) before after result taken runs = mode_gains job.mode job.options.asked job.options (file_of job.files) before after result taken runs
 
-  pub job_others : (job : Option JobWords) (before after : World) (result : Status) → RunsWords gave job before after result → IsTrue before.tells → IfSome job (λ j. KeepsOthers (task_by j) (file_of j.files) before after)
+  pub job_others : (job : Option JobWords) (before after : World) (result : Status) → RunsWords gave kinds job before after result → IsTrue before.tells → IfSome job (λ j. KeepsOthers (task_by kinds j) (file_of j.files) before after)
   job_others None before after result runs t = tt
-  job_others (Some job) before after result runs t = others gave (task_by job) (file_of job.files) before after result runs t
+  job_others (Some job) before after result runs t = others gave (task_by kinds job) (file_of job.files) before after result runs t
 
-  mode_comes : (mode : Mode) (job : JobWords) (before after : World) (result : Status) → Runs gave (task_in mode job.clock) (file_of job.files) before after result → IsTrue before.tells → UnlessFails (EndsAs (task_in mode job.clock) (held_files (file_of job.files) before)) result
-  mode_comes Gate job before after result runs t = completes gave gate_takes gate_stops gate_gives (gate_start job.clock) (roles.Library ∷ roles.Netlist ∷ []) (file_of job.files) before after result runs t
-  mode_comes Lrat job before after result runs t = completes gave lrat_takes lrat_stops lrat_gives lrat_start (roles.Formula ∷ roles.Log ∷ []) (file_of job.files) before after result runs t
+  mode_comes : (mode : Mode) (asked : Asked) (options : Options) (names : Role → List ℕ) (before after : World) (result : Status) → IsTrue (is_taken mode asked)
+      → Runs gave (task_in kinds mode options) names before after result → IsTrue before.tells → UnlessFails (EndsAs (task_in kinds mode options) (held_files names before)) result
+  mode_comes Gate asked options names before after result taken runs t = completes gave gate_takes gate_stops gate_gives (gate_start options.clock) (roles.Library ∷ roles.Netlist ∷ []) names before after result runs t
+  mode_comes Sim asked options names before after result taken runs t =
+      completes gave sim_takes sim_stops (sim_gives (kind_at kinds options.watch)) (sim_start options.clock) (roles.Library ∷ roles.Netlist ∷ roles.Stimulus ∷ []) names before after result runs t
+  mode_comes Lrat asked options names before after result taken runs t = completes gave lrat_takes lrat_stops lrat_gives lrat_start (roles.Formula ∷ roles.Log ∷ []) names before after result runs t
+  mode_comes (Demo size) asked options names before after result taken runs t = cc
 
-  pub job_comes : (job : Option JobWords) (before after : World) (result : Status) → RunsWords gave job before after result → IsTrue before.tells → IfSome job (λ j. UnlessFails (EndsAs (task_by j) (held_files (file_of j.files) before)) result)
-  job_comes None before after result runs t = tt
-  job_comes (Some job) before after result runs t = mode_comes job.mode job before after result runs t
+  pub job_comes : (job : Option JobWords) (before after : World) (result : Status) → IsTaken job → RunsWords gave kinds job before after result → IsTrue before.tells
+      → IfSome job (λ j. UnlessFails (EndsAs (task_by kinds j) (held_files (file_of j.files) before)) result)
+  job_comes None before after result taken runs t = tt
+  job_comes (Some job) before after result taken runs t = mode_comes job.mode job.options.asked job.options (file_of job.files) before after result taken runs t
 
   -- what a finished run means, mode by mode
-  mode_gated : (mode : Mode) (job : JobWords) (before after : World) (result : Status) → mode ≡ Gate → Runs gave (task_in mode job.clock) (file_of job.files) before after result → IsTrue before.tells → FinishBy (IsGated job.clock (file_of job.files) before after) result
-  mode_gated Gate job before after result is runs t = let names = file_of job.files in
-      finish_map (λ finish. Finishes (gate_task job.clock) names before after finish) (IsGated job.clock names before after) result (gated_means job.clock names before after) (finished_so gave (gate_task job.clock) names before after result (ended gave (gate_task job.clock) names before after result runs) t)
-  mode_gated Lrat job before after result is runs t = cc
+  finished_means : (task : Task) (names : Role → List ℕ) (before after : World) (P : Finish → Type 0) (result : Status) → ((finish : Finish) → Finishes task names before after finish → P finish)
+      → Runs gave task names before after result → IsTrue before.tells → FinishBy P result
+  finished_means task names before after P result means runs t =
+      finish_map (λ finish. Finishes task names before after finish) P result means (finished_so gave task names before after result (ended gave task names before after result runs) t)
 
-  pub job_gated : (job : Option JobWords) (before after : World) (result : Status) → RunsWords gave job before after result → IsTrue before.tells → IfSome job (λ j. j.mode ≡ Gate → FinishBy (IsGated j.clock (file_of j.files) before after) result)
+  mode_gated : (mode : Mode) (options : Options) (names : Role → List ℕ) (before after : World) (result : Status) → mode ≡ Gate → Runs gave (task_in kinds mode options) names before after result → IsTrue before.tells
+      → FinishBy (IsGated options.clock names before after) result
+  mode_gated Gate options names before after result is runs t = finished_means (gate_task options.clock) names before after (IsGated options.clock names before after) result (gated_means options.clock names before after) runs t
+  mode_gated Sim options names before after result is runs t = cc
+  mode_gated Lrat options names before after result is runs t = cc
+  mode_gated (Demo size) options names before after result is runs t = cc
+
+  pub job_gated : (job : Option JobWords) (before after : World) (result : Status) → RunsWords gave kinds job before after result → IsTrue before.tells
+      → IfSome job (λ j. j.mode ≡ Gate → FinishBy (IsGated j.options.clock (file_of j.files) before after) result)
   job_gated None before after result runs t = tt
-  job_gated (Some job) before after result runs t = λ is. mode_gated job.mode job before after result is runs t
+  job_gated (Some job) before after result runs t = λ is. mode_gated job.mode job.options (file_of job.files) before after result is runs t
 
-  mode_checked : (mode : Mode) (job : JobWords) (before after : World) (result : Status) → mode ≡ Lrat → Runs gave (task_in mode job.clock) (file_of job.files) before after result → IsTrue before.tells → FinishBy (IsChecked (file_of job.files) before after) result
-  mode_checked Gate job before after result is runs t = cc
-  mode_checked Lrat job before after result is runs t = let names = file_of job.files in
-      finish_map (λ finish. Finishes lrat_task names before after finish) (IsChecked names before after) result (checked names before after) (finished_so gave lrat_task names before after result (ended gave lrat_task names before after result runs) t)
+  mode_simulated : (mode : Mode) (options : Options) (names : Role → List ℕ) (before after : World) (result : Status) → mode ≡ Sim → Runs gave (task_in kinds mode options) names before after result → IsTrue before.tells
+      → FinishBy (IsSimulated options.clock (kind_at kinds options.watch) names before after) result
+  mode_simulated Gate options names before after result is runs t = cc
+  mode_simulated Sim options names before after result is runs t = let kind = kind_at kinds options.watch in
+      finished_means (sim_task options.clock kind) names before after (IsSimulated options.clock kind names before after) result (simulated_means options.clock kind names before after) runs t
+  mode_simulated Lrat options names before after result is runs t = cc
+  mode_simulated (Demo size) options names before after result is runs t = cc
 
-  pub job_checked : (job : Option JobWords) (before after : World) (result : Status) → RunsWords gave job before after result → IsTrue before.tells → IfSome job (λ j. j.mode ≡ Lrat → FinishBy (IsChecked (file_of j.files) before after) result)
+  pub job_simulated : (job : Option JobWords) (before after : World) (result : Status) → RunsWords gave kinds job before after result → IsTrue before.tells
+      → IfSome job (λ j. j.mode ≡ Sim → FinishBy (IsSimulated j.options.clock (kind_at kinds j.options.watch) (file_of j.files) before after) result)
+  job_simulated None before after result runs t = tt
+  job_simulated (Some job) before after result runs t = λ is. mode_simulated job.mode job.options (file_of job.files) before after result is runs t
+
+  mode_checked : (mode : Mode) (options : Options) (names : Role → List ℕ) (before after : World) (result : Status) → mode ≡ Lrat → Runs gave (task_in kinds mode options) names before after result → IsTrue before.tells
+      → FinishBy (IsChecked names before after) result
+  mode_checked Gate options names before after result is runs t = cc
+  mode_checked Sim options names before after result is runs t = cc
+  mode_checked Lrat options names before after result is runs t = finished_means lrat_task names before after (IsChecked names before after) result (checked names before after) runs t
+  mode_checked (Demo size) options names before after result is runs t = cc
+
+  pub job_checked : (job : Option JobWords) (before after : World) (result : Status) → RunsWords gave kinds job before after result → IsTrue before.tells
+      → IfSome job (λ j. j.mode ≡ Lrat → FinishBy (IsChecked (file_of j.files) before after) result)
   job_checked None before after result runs t = tt
-  job_checked (Some job) before after result runs t = λ is. mode_checked job.mode job before after result is runs t
+  job_checked (Some job) before after result runs t = λ is. mode_checked job.mode job.options (file_of job.files) before after result is runs t

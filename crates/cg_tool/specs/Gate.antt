@@ -1,20 +1,13 @@
 -- What `gate` makes of a library and a netlist, and what that means.
-use Rattle.std.specs.Prelude.{◌≡◌, ℕ, ◌+◌, Bool, List, [], ◌∷◌, ◌++◌, length, map, codes, decimal, Option, None, Some, Result, Ok, Err, IsSomeAnd}
+use Rattle.std.specs.Prelude.{◌≡◌, ℕ, ◌+◌, Bool, List, [], ◌∷◌, ◌++◌, length, map, codes, Option, None, Some, Result, Ok, Err, IsSomeAnd}
 use Rattle.cg_cell.specs.Cell.{CellData}
 use Rattle.cg_liberty.specs.LibText.{LibText}
-use Rattle.cg_liberty.specs.Library.{library_of}
-use Rattle.cg_liberty.specs.declared.fault.LibertyFault.{LibertyFault}
-use Rattle.cg_liberty.specs.declared.fault.LibertyFault.TheVariants as liberty_faults
 use Rattle.cg_blif_text.specs.BlifText.{BlifText}
 use Rattle.cg_blif_text.specs.Canonical.{blif}
-use Rattle.cg_blif_text.specs.declared.fault.BlifFault.{BlifFault}
-use Rattle.cg_blif_text.specs.declared.fault.BlifFault.TheVariants as blif_faults
 use Rattle.cg_netlist.specs.Circuit.{Circuit, GatingCell, data_inputs}
 use Rattle.cg_netlist.specs.History.{HasHistory, HasOneHistory, IsLawful, IsStart, IsWaveform, Moment, Tick, outputs_of}
 use Rattle.cg_netlist.specs.WellFormed.{IsWellFormed}
 use Rattle.cg_netlist.specs.said.Wiring.{NetName, net_name}
-use Rattle.cg_netlist.specs.declared.fault.NetFault.{NetFault}
-use Rattle.cg_netlist.specs.declared.fault.NetFault.TheVariants as net_faults
 use Rattle.cg_run.specs.Verdict.{Task, found_as, task_of}
 use Rattle.cg_run.specs.declared.output.Finish.{Finish}
 use Rattle.cg_run.specs.declared.output.Finish.TheVariants as finishes
@@ -25,45 +18,8 @@ use Rattle.cg_run.specs.declared.refusal.Trouble.TheVariants as troubles
 use Rattle.cg_run.specs.declared.role.Role.{Role}
 use Rattle.cg_run.specs.declared.role.Role.TheVariants as roles
 use Rattle.cg_shelf.specs.World.{World}
-use Rattle.cg_tool.specs.NetlistSaid.{netlist_said}
-use Rattle.cg_tool.specs.Refused.{refused_as}
+use Rattle.cg_tool.specs.Complaints.{library_found, netlist_read}
 use Rattle.cg_tool.specs.declared.modes.gate.Gate.{Gate}
-
--- why a netlist or a library is refused, as its complaint says it
-abbrev pub net_trouble : NetFault → Trouble
-net_trouble (net_faults.TwoDrivers net) = troubles.Content (record { owner = owners.Netlist; text = codes "netlist: two drivers " ++ net })
-net_trouble (net_faults.NoDriver net) = troubles.Content (record { owner = owners.Netlist; text = codes "netlist: no driver " ++ net })
-net_trouble (net_faults.Cycle net) = troubles.Content (record { owner = owners.Netlist; text = codes "netlist: cycle " ++ net })
-net_trouble (net_faults.ClockFault net) = troubles.Content (record { owner = owners.Netlist; text = codes "netlist: clock fault " ++ net })
-net_trouble net_faults.NoClock = troubles.Content (record { owner = owners.Netlist; text = codes "netlist: no clock" })
-net_trouble net_faults.NoMemory = troubles.NoMemory
-
-abbrev pub netlist_trouble : BlifFault → Trouble
-netlist_trouble (blif_faults.BadLine line) = troubles.Content (record { owner = owners.Netlist; text = codes "netlist: bad line " ++ decimal line })
-netlist_trouble (blif_faults.BadCover line) = troubles.Content (record { owner = owners.Netlist; text = codes "netlist: bad cover " ++ decimal line })
-netlist_trouble (blif_faults.BadLatch line) = troubles.Content (record { owner = owners.Netlist; text = codes "netlist: bad latch " ++ decimal line })
-netlist_trouble (blif_faults.UnknownCell line) = troubles.Content (record { owner = owners.Netlist; text = codes "netlist: unknown cell " ++ decimal line })
-netlist_trouble (blif_faults.UnusableCell line) = troubles.Content (record { owner = owners.Netlist; text = codes "netlist: unusable cell " ++ decimal line })
-netlist_trouble (blif_faults.PinFault line) = troubles.Content (record { owner = owners.Netlist; text = codes "netlist: pin fault " ++ decimal line })
-netlist_trouble (blif_faults.SecondModel line) = troubles.Content (record { owner = owners.Netlist; text = codes "netlist: second model " ++ decimal line })
-netlist_trouble (blif_faults.Net fault) = net_trouble fault
-netlist_trouble (blif_faults.Limit limit) = troubles.Limit limit
-netlist_trouble blif_faults.NoMemory = troubles.NoMemory
-
-abbrev pub library_trouble : LibertyFault → Trouble
-library_trouble (liberty_faults.BadToken at) = troubles.Content (record { owner = owners.Library; text = codes "library: bad token " ++ decimal at })
-library_trouble (liberty_faults.BadGroup at) = troubles.Content (record { owner = owners.Library; text = codes "library: bad group " ++ decimal at })
-library_trouble (liberty_faults.BadExpr cell at) = troubles.Content (record { owner = owners.Library; text = codes "library: bad expression " ++ cell ++ 32 ∷ [] ++ decimal at })
-library_trouble (liberty_faults.TwoCells cell) = troubles.Content (record { owner = owners.Library; text = codes "library: two cells " ++ cell })
-library_trouble (liberty_faults.Limit limit) = troubles.Limit limit
-library_trouble liberty_faults.NoMemory = troubles.NoMemory
-
--- the library and the netlist that texts are read as, or why the texts are refused
-abbrev pub library_found : List ℕ → Result (List CellData) Trouble
-library_found text = refused_as library_trouble (library_of text)
-
-abbrev pub netlist_read : List CellData → Option NetName → List ℕ → Result Circuit Trouble
-netlist_read library clock text = refused_as netlist_trouble (netlist_said library clock text)
 
 -- A netlist in which gating cells stand already is refused, for the first of them.
 abbrev pub ungated : Circuit → List (GatingCell ℕ) → Result Circuit Trouble

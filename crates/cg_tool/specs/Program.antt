@@ -1,5 +1,6 @@
 -- What a run of the program does, by its words.
-use Rattle.std.specs.Prelude.{◌≡◌, ℕ, Bool, if◌then◌else◌, List, codes, Option, None, Some, Result, ⊤}
+use Rattle.std.specs.Prelude.{◌≡◌, ℕ, Bool, true, false, not, ◌&&◌, if◌then◌else◌, List, [], codes, Option, None, Some, Result, ⊤}
+use Rattle.std.specs.Option.{option_and_then}
 use Rattle.cg_shelf.specs.World.{World}
 use Rattle.cg_shelf.specs.declared.faults.LoadFault.{LoadFault}
 use Rattle.cg_run.specs.Names.{file_of}
@@ -8,29 +9,49 @@ use Rattle.cg_run.specs.Run.{Complains, Runs}
 use Rattle.cg_run.specs.Verdict.{Task}
 use Rattle.cg_run.specs.declared.status.Status.{Status}
 use Rattle.cg_run.specs.declared.status.Status.TheVariants as statuses
-use Rattle.cg_tool.specs.CommandLine.{JobWords}
+use Rattle.cg_words.specs.Jobs.{JobWords, job_of}
+use Rattle.cg_words.specs.declared.job.Mode.{Mode}
+use Rattle.cg_words.specs.declared.job.Mode.TheVariants.{Demo, Gate, Lrat, Sim}
+use Rattle.cg_words.specs.declared.options.Asked.{Asked}
+use Rattle.cg_words.specs.declared.options.Options.{Options}
 use Rattle.cg_tool.specs.Gate.{gate_task}
 use Rattle.cg_tool.specs.Lrat.{lrat_task}
-use Rattle.cg_tool.specs.declared.words.Mode.{Mode}
-use Rattle.cg_tool.specs.declared.words.Mode.TheVariants.{Gate, Lrat}
+use Rattle.cg_tool.specs.Sim.{sim_task}
+use Rattle.cg_tool.specs.Watching.{Kind, kind_at}
 
--- what a mode does, with the clock of the words
-abbrev pub task_in : Mode → Option (List ℕ) → Task
-task_in Gate clock = gate_task clock
-task_in Lrat clock = lrat_task
+-- What is taken so far: no `demo`, and no `gate` that plays a stimulus or writes a proof or a report.
+abbrev pub is_taken : Mode → Asked → Bool
+is_taken Gate asked = not asked.stimulus && not asked.proof && not asked.report
+is_taken Sim asked = true
+is_taken Lrat asked = true
+is_taken (Demo size) asked = false
+
+abbrev pub taken_job : Option JobWords → Option JobWords
+taken_job job = option_and_then (λ job. if is_taken job.mode job.options.asked then Some job else None) job
+
+-- the job of a line, where there are watchers of these names
+abbrev pub asked_job : List (List ℕ) → List (List ℕ) → Option JobWords
+asked_job watchers words = taken_job (job_of watchers words)
+
+-- what a mode does with what the options say, where watchers of these kinds may be asked for
+abbrev pub task_in : List Kind → Mode → Options → Task
+task_in kinds Gate options = gate_task options.clock
+task_in kinds Sim options = sim_task options.clock (kind_at kinds options.watch)
+task_in kinds Lrat options = lrat_task
+task_in kinds (Demo size) options = record { loads = []; asks = λ given. []; refused = λ given. None; comes = λ given output. ⊥ }
 
 -- what a job does
-abbrev pub task_by : JobWords → Task
-task_by job = task_in job.mode job.clock
+abbrev pub task_by : List Kind → JobWords → Task
+task_by kinds job = task_in kinds job.mode job.options
 
 -- Words that ask for nothing are complained of, and nothing else is done. Want of memory may come in their place.
 pub record RefusesWords (before after : World) (result : Status) : Type 0 where
   pub has_memory : Bool
   pub complains : Complains (complaint_line (if has_memory then codes "usage" else codes "no memory")) (if has_memory then statuses.Usage else statuses.NoMemory) before after result
 
-abbrev pub RunsWords : (List ℕ → Result (List ℕ) LoadFault → Type 0) → Option JobWords → World → World → Status → Type 0
-RunsWords gave None before after result = RefusesWords before after result
-RunsWords gave (Some job) before after result = Runs gave (task_by job) (file_of job.files) before after result
+abbrev pub RunsWords : (List ℕ → Result (List ℕ) LoadFault → Type 0) → List Kind → Option JobWords → World → World → Status → Type 0
+RunsWords gave kinds None before after result = RefusesWords before after result
+RunsWords gave kinds (Some job) before after result = Runs gave (task_by kinds job) (file_of job.files) before after result
 
 -- the end is this one, or want of memory
 abbrev pub IsOrNoMemory : Status → Status → Type 0

@@ -2,10 +2,14 @@
 //!
 //! - `proofs`: formulas and proofs of the mode `lrat`.
 //! - `netlists`: libraries and BLIF texts of the mode `gate`.
+//! - `stimuli`: stimuli and watchers of the mode `sim`.
 //! - `failing`: each call of the shelf failing in turn.
 //! - `words`: the words of the command line.
 
 use crate::{Status, run};
+use cg_report::edge_count::EdgeCount;
+use cg_report::toggle_count::ToggleCount;
+use cg_report::watcher::Watcher;
 use cg_shelf::MemShelf;
 use std::alloc::{AllocError, Global};
 use std::process::Abort;
@@ -13,6 +17,7 @@ use std::process::Abort;
 mod failing;
 mod netlists;
 mod proofs;
+mod stimuli;
 mod words;
 
 const COMB: &str = ".model comb\n.inputs a b\n.outputs y\n.names a b y\n11 1\n.end\n";
@@ -57,7 +62,10 @@ fn try_cases(rt: &impl Abort, alloc: Global, cases: &[Case<'_>]) -> Result<(), A
         shelf.put("A", case.first.as_bytes())?;
         shelf.put("B", case.second.as_bytes())?;
         let words = words_of(alloc, case.words)?;
-        let status = run(alloc, words.as_slice(), &mut shelf);
+        let mut watchers: Vec<Box<dyn Watcher>> = Vec::new(alloc);
+        watchers.push(Box::new(alloc, EdgeCount::new())?)?;
+        watchers.push(Box::new(alloc, ToggleCount::new(alloc))?)?;
+        let status = run(alloc, words.as_slice(), &mut shelf, watchers);
         assert_eq!(rt; status, case.status, "{} of {:?}", case.words, case.first);
         assert_eq!(rt;
             shelf.said(),

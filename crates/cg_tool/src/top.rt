@@ -1,80 +1,160 @@
 //! The top call.
 
-ghost use Rattle.std.specs.Prelude.{◌≡◌, map, None, IsTrue, IfSome};
+ghost use Rattle.std.specs.Prelude.{◌≡◌, map, None, Some, IfOk, IfSome, IsTrue};
+ghost use Rattle.std.specs.Option.{option_map};
 ghost use Rattle.std.specs.String.{string_bytes};
 ghost use Rattle.cg_run.specs.Names.{file_of, name_of};
 ghost use Rattle.cg_run.specs.Promise.{Ended, EndsAs, FinishBy, Gains, KeepsOthers, Stands, UnlessFails, held_files};
 ghost use Rattle.cg_run.specs.Reads.{Gave};
 ghost use Rattle.cg_run.specs.Run.{Runs};
-ghost use Rattle.cg_tool.specs.CommandLine.{job_of, job_words};
+ghost use Rattle.cg_words.specs.Jobs.{job_words};
 ghost use Rattle.cg_tool.specs.Gate.{IsGated};
 ghost use Rattle.cg_tool.specs.Lrat.{IsChecked};
-ghost use Rattle.cg_tool.specs.Program.{IsOrNoMemory, KeepsAll, RunsWords, task_by};
+ghost use Rattle.cg_tool.specs.Program.{IsOrNoMemory, KeepsAll, RunsWords, asked_job, is_taken, task_by, taken_job};
+ghost use Rattle.cg_tool.specs.Sim.{IsSimulated};
+ghost use Rattle.cg_tool.specs.Watching.{kind_at};
 
-use crate::modes::{gate, lrat};
-use crate::words::{Job, Mode, read_words};
+use crate::modes::{gate, lrat, sim};
+use crate::watching::{chosen, names_of};
+use cg_report::watcher::Watcher;
 use cg_run::Status;
-use cg_run::driver::complain;
+use cg_run::closing::complain;
 use cg_shelf::Shelf;
-use std::alloc::Global;
+use cg_words::{Asked, Job, Mode, read_words};
+use std::alloc::{AllocError, Global};
 
 /// Does what the words of a command line ask for, over the shelf, and answers how that ended.
-pub fn run<S: Shelf>(alloc: Global, words: &[String], shelf: &mut S) -> Status
+///
+/// The words may ask for one of the watchers by its name; of two with one name the first is taken.
+pub fn run<S: Shelf>(
+    alloc: Global,
+    words: &[String],
+    shelf: &mut S,
+    watchers: Vec<Box<dyn Watcher>>,
+) -> Status
     // What the run did: its calls in order, what each file gave, the one output that it put out, and what stands.
-    ensures runs { RunsWords (Gave S.gives) (job_of (map string_bytes words.now)) (S.world shelf.old) (S.world shelf.new) result }
+    ensures runs { RunsWords (Gave S.gives) (map (λ watcher. says watcher) watchers.items) (asked_job (map (λ watcher. called watcher) watchers.items) (map string_bytes words.now)) (S.world shelf.old) (S.world shelf.new) result }
 
     // Usage comes exactly of words that are no job.
-    ensures usage { result ≡ Status.Usage → job_of (map string_bytes words.now) ≡ None }
-    ensures usage_only { job_of (map string_bytes words.now) ≡ None → IsOrNoMemory Status.Usage result }
-    ensures usage_keeps { IsTrue (S.world shelf.old).tells → KeepsAll (job_of (map string_bytes words.now)) (S.world shelf.old) (S.world shelf.new) }
+    ensures usage { result ≡ Status.Usage → asked_job (map (λ watcher. called watcher) watchers.items) (map string_bytes words.now) ≡ None }
+    ensures usage_only { asked_job (map (λ watcher. called watcher) watchers.items) (map string_bytes words.now) ≡ None → IsOrNoMemory Status.Usage result }
+    ensures usage_keeps { IsTrue (S.world shelf.old).tells → KeepsAll (asked_job (map (λ watcher. called watcher) watchers.items) (map string_bytes words.now)) (S.world shelf.old) (S.world shelf.new) }
 
     // How a job ended, with the cause, the line of complaint and the failed calls.
-    ensures ended { IfSome (job_of (map string_bytes words.now))
-        (λ job. Ended (Gave S.gives) (task_by job) (file_of job.files) (S.world shelf.old) (S.world shelf.new) result) }
+    ensures ended { IfSome (asked_job (map (λ watcher. called watcher) watchers.items) (map string_bytes words.now))
+        (λ job. Ended (Gave S.gives) (task_by (map (λ watcher. says watcher) watchers.items) job) (file_of job.files) (S.world shelf.old) (S.world shelf.new) result) }
 
     // What stands, by the status.
-    ensures stands { IsTrue (S.world shelf.old).tells → IfSome (job_of (map string_bytes words.now))
-        (λ job. Stands (task_by job) (file_of job.files) (S.world shelf.old) (S.world shelf.new) result) }
+    ensures stands { IsTrue (S.world shelf.old).tells → IfSome (asked_job (map (λ watcher. called watcher) watchers.items) (map string_bytes words.now))
+        (λ job. Stands (task_by (map (λ watcher. says watcher) watchers.items) job) (file_of job.files) (S.world shelf.old) (S.world shelf.new) result) }
 
     // At most one failed call besides that of the complaint, and which, by the status.
-    ensures gains { IfSome (job_of (map string_bytes words.now))
-        (λ job. Gains (task_by job) (file_of job.files) (S.world shelf.old) (S.world shelf.new) result) }
+    ensures gains { IfSome (asked_job (map (λ watcher. called watcher) watchers.items) (map string_bytes words.now))
+        (λ job. Gains (task_by (map (λ watcher. says watcher) watchers.items) job) (file_of job.files) (S.world shelf.old) (S.world shelf.new) result) }
 
     // Every name but that of a stored file holds what it held.
-    ensures others { IsTrue (S.world shelf.old).tells → IfSome (job_of (map string_bytes words.now))
-        (λ job. KeepsOthers (task_by job) (file_of job.files) (S.world shelf.old) (S.world shelf.new)) }
+    ensures others { IsTrue (S.world shelf.old).tells → IfSome (asked_job (map (λ watcher. called watcher) watchers.items) (map string_bytes words.now))
+        (λ job. KeepsOthers (task_by (map (λ watcher. says watcher) watchers.items) job) (file_of job.files) (S.world shelf.old) (S.world shelf.new)) }
 
     // Where no call of the shelf fails and memory is there, a job ends as its files come to.
-    ensures comes { IsTrue (S.world shelf.old).tells → IfSome (job_of (map string_bytes words.now))
-        (λ job. UnlessFails (EndsAs (task_by job) (held_files (file_of job.files) (S.world shelf.old))) result) }
+    ensures comes { IsTrue (S.world shelf.old).tells → IfSome (asked_job (map (λ watcher. called watcher) watchers.items) (map string_bytes words.now))
+        (λ job. UnlessFails (EndsAs (task_by (map (λ watcher. says watcher) watchers.items) job) (held_files (file_of job.files) (S.world shelf.old))) result) }
 
     // `gate` writes a netlist that behaves as the one that it read.
-    ensures gated { IsTrue (S.world shelf.old).tells → IfSome (job_of (map string_bytes words.now))
-        (λ job. job.mode ≡ Mode.Gate → FinishBy (IsGated job.clock (file_of job.files) (S.world shelf.old) (S.world shelf.new)) result) }
+    ensures gated { IsTrue (S.world shelf.old).tells → IfSome (asked_job (map (λ watcher. called watcher) watchers.items) (map string_bytes words.now))
+        (λ job. job.mode ≡ Mode.Gate → FinishBy (IsGated job.options.clock (file_of job.files) (S.world shelf.old) (S.world shelf.new)) result) }
+
+    // `sim` says the lines of the one history on which the stimulus is played, and what the watcher says of its moments.
+    ensures simulated { IsTrue (S.world shelf.old).tells → IfSome (asked_job (map (λ watcher. called watcher) watchers.items) (map string_bytes words.now))
+        (λ job. job.mode ≡ Mode.Sim → FinishBy (IsSimulated job.options.clock (kind_at (map (λ watcher. says watcher) watchers.items) job.options.watch) (file_of job.files) (S.world shelf.old) (S.world shelf.new)) result) }
 
     // `lrat` checks the proof that it was given, and what it accepts has no satisfying assignment.
-    ensures checked { IsTrue (S.world shelf.old).tells → IfSome (job_of (map string_bytes words.now))
+    ensures checked { IsTrue (S.world shelf.old).tells → IfSome (asked_job (map (λ watcher. called watcher) watchers.items) (map string_bytes words.now))
         (λ job. job.mode ≡ Mode.Lrat → FinishBy (IsChecked (file_of job.files) (S.world shelf.old) (S.world shelf.new)) result) }
 {
-    run_words(alloc, words, shelf)
+    run_words(alloc, words, shelf, watchers)
 }
 
-fn run_words<S: Shelf>(alloc: Global, words: &[String], shelf: &mut S) -> Status
-    ensures { RunsWords (Gave S.gives) (job_of (map string_bytes words.now)) (S.world shelf.old) (S.world shelf.new) result }
+fn run_words<S: Shelf>(
+    alloc: Global,
+    words: &[String],
+    shelf: &mut S,
+    watchers: Vec<Box<dyn Watcher>>,
+) -> Status
+    ensures { RunsWords (Gave S.gives) (map (λ watcher. says watcher) watchers.items) (asked_job (map (λ watcher. called watcher) watchers.items) (map string_bytes words.now)) (S.world shelf.old) (S.world shelf.new) result }
 {
-    match read_words(alloc, words) {
-        Ok(Some(job)) => run_job(alloc, shelf, job),
+    match read_job(alloc, words, watchers.as_slice()) {
+        Ok(Some(job)) => run_job(alloc, shelf, job, watchers),
         Ok(None) => complain(shelf, Status::Usage, b"clockgate: usage\n"),
         Err(_) => complain(shelf, Status::NoMemory, b"clockgate: no memory\n"),
     }
 }
 
-fn run_job<S: Shelf>(alloc: Global, shelf: &mut S, job: Job<'_>) -> Status
-    ensures { Runs (Gave S.gives) (task_by (job_words job.entry)) (name_of job.entry.names) (S.world shelf.old) (S.world shelf.new) result }
+/// The job that the words ask for.
+fn read_job<'a>(
+    alloc: Global,
+    words: &'a [String],
+    watchers: &[Box<dyn Watcher>],
+) -> Result<Option<Job<'a>>, AllocError>
+    ensures { IfOk result (λ job. option_map job_words job ≡ asked_job (map (λ watcher. called watcher) watchers.now) (map string_bytes words.entry.now)) }
 {
-    let Job { mode, names, clock } = job;
+    let names = names_of(alloc, watchers)?;
+    let job = read_words(alloc, words, names.as_slice())?;
+    Ok(taken_job(job))
+}
+
+/// The job, where it is taken.
+fn taken_job(job: Option<Job<'_>>) -> Option<Job<'_>>
+    ensures { option_map job_words result ≡ taken_job (option_map job_words job.entry) }
+{
+    match job {
+        None => None,
+        Some(job) => taken(job),
+    }
+}
+
+fn taken(job: Job<'_>) -> Option<Job<'_>>
+    ensures { option_map job_words result ≡ taken_job (Some (job_words job.entry)) }
+{
+    if is_taken(job.mode, job.options.asked) {
+        Some(job)
+    } else {
+        None
+    }
+}
+
+/// Whether a mode is taken, where these files are asked for.
+fn is_taken(mode: Mode, asked: Asked) -> bool
+    ensures { result ≡ is_taken mode asked }
+{
     match mode {
-        Mode::Gate => gate::run(alloc, shelf, &names, clock),
+        Mode::Gate => !asked.stimulus && !asked.proof && !asked.report,
+        Mode::Sim | Mode::Lrat => true,
+        Mode::Demo(_) => false,
+    }
+}
+
+fn run_job<S: Shelf>(
+    alloc: Global,
+    shelf: &mut S,
+    job: Job<'_>,
+    watchers: Vec<Box<dyn Watcher>>,
+) -> Status
+    requires { IsTrue (is_taken job.mode job.options.asked) }
+    ensures { Runs (Gave S.gives) (task_by (map (λ watcher. says watcher) watchers.items) (job_words job.entry)) (name_of job.entry.names) (S.world shelf.old) (S.world shelf.new) result }
+{
+    let Job {
+        mode,
+        names,
+        options,
+    } = job;
+    match mode {
+        Mode::Gate => gate::run(alloc, shelf, &names, options.clock),
+        Mode::Sim => {
+            let watcher = chosen(watchers, options.watch);
+            sim::run(alloc, shelf, &names, options.clock, watcher)
+        }
         Mode::Lrat => lrat::run(alloc, shelf, &names),
+        Mode::Demo(_) => Status::NoMemory,
     }
 }

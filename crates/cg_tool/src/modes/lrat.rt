@@ -14,7 +14,7 @@ use cg_lrat::checker::Checker;
 use cg_lrat::log::Log;
 use cg_lrat::lrat::{LratFault, read_lrat};
 use cg_lrat::verdict::{Verdict, Why};
-use cg_run::{Content, Finish, Mode, Names, Output, Owner, Role, Status, Trouble, drive};
+use cg_run::{Content, Finish, Mode, Names, Output, Owner, Reader, Role, Status, Trouble, drive};
 use cg_shelf::Shelf;
 use cg_text::number::push_number;
 use std::alloc::{AllocError, Global};
@@ -43,12 +43,8 @@ impl Lrat {
     }
 }
 
-impl Mode for Lrat {
+impl Reader for Lrat {
     ghost takes = { lrat_takes };
-
-    ghost stops = { lrat_stops };
-
-    ghost gives = { lrat_gives };
 
     fn take(self, alloc: Global, role: Role, bytes: Seq<u8>) -> Result<Lrat, Trouble> {
         let mut next = self;
@@ -64,6 +60,12 @@ impl Mode for Lrat {
             _ => Ok(next),
         }
     }
+}
+
+impl Mode for Lrat {
+    ghost stops = { lrat_stops };
+
+    ghost gives = { lrat_gives };
 
     fn finish(self, alloc: Global) -> Result<Output, Trouble> {
         let found = Checker::check(alloc, &self.formula, &self.log)?;

@@ -72,7 +72,7 @@ fn try_failing(rt: &impl Abort, alloc: Global, cases: &[Failing<'_>]) -> Result<
         shelf.put("C", CNF.as_bytes())?;
         shelf.put("P", LOG.as_bytes())?;
         let words = words_of(alloc, case.words)?;
-        let status = run(alloc, words.as_slice(), &mut shelf);
+        let status = run(alloc, words.as_slice(), &mut shelf, Vec::new(alloc));
         assert_eq!(rt; status, case.status, "{} {:?}", case.words, case.failing);
         assert_eq!(rt;
             shelf.said(),

@@ -5,7 +5,7 @@ use crate::Status;
 use std::test::Fail;
 
 /// A library with an inverter, a register, one that can be cleared, and a gating cell.
-const CELLS: &str =
+pub(super) const CELLS: &str =
     "library (l) { cell (INV) { pin (A) { direction : input; } pin (Y) { direction : output; function : \"!A\"; } }
 cell (DFF) { ff (s, t) { next_state : \"D\"; clocked_on : \"CK\"; } pin (D) { direction : input; } pin (CK) { direction : input; } pin (Q) { direction : output; function : \"s\"; } }
 cell (DFFR) { ff (s, t) { next_state : \"D\"; clocked_on : \"CK\"; clear : \"R\"; } pin (D) { direction : input; } pin (CK) { direction : input; } pin (R) { direction : input; } pin (Q) { direction : output; function : \"s\"; } }
@@ -25,7 +25,7 @@ const UNCLOCKED: &str =
 const CLOCKED: &str =
     ".model hold1\n.inputs en d\n.outputs q\n.clock clk\n.names en d q n\n11- 1\n0-1 1\n.latch n q re clk 0\n.end\n";
 
-const HOLD: &str =
+pub(super) const HOLD: &str =
     ".model hold1\n.inputs clk en d\n.outputs q\n.names en d q n\n11- 1\n0-1 1\n.latch n q re clk 0\n.end\n";
 
 const HELD: &str =

@@ -45,10 +45,13 @@ fn words(rt: HostRuntime) -> Result<(), Fail> {
         usage("gate B A B"),
         usage("gate B B A"),
         usage("gate L A A"),
+        usage("sim L A"),
+        usage("sim L A L"),
     ];
     try_cases(&rt, rt.alloc(), &cases)?;
     let mut shelf = MemShelf::new(rt.alloc(), &[])?;
-    assert_eq!(rt; run(rt.alloc(), &[], &mut shelf), Status::Usage);
+    let status = run(rt.alloc(), &[], &mut shelf, Vec::new(rt.alloc()));
+    assert_eq!(rt; status, Status::Usage);
     Ok(())
 }
 
@@ -70,6 +73,10 @@ fn options(rt: HostRuntime) -> Result<(), Fail> {
         usage("gate L A B --clock c --clock c"),
         usage("gate L A B --clock #"),
         usage("gate L A B --clock c\\"),
+        // a watcher of the list, for `sim`
+        usage("sim L A B --watch glitches"),
+        usage("lrat A B --watch edges"),
+        usage("sim L A B --min 1"),
     ];
     try_cases(&rt, rt.alloc(), &cases)?;
     Ok(())

@@ -11,7 +11,7 @@ use Rattle.cg_run.proofs.driver.drive.Goals as goal
 pub returns : goal.returns
 returns g c =
     let gave = Gave g.S.Shelf.gives in
-    let task = task_of g.M.Mode.takes g.M.Mode.stops g.M.Mode.gives c.args.mode c.args.loads.now in
+    let task = task_of g.M.Reader.takes g.M.Mode.stops g.M.Mode.gives c.args.mode c.args.loads.now in
     let names = name_of c.args.names.now in
     let before = g.S.Shelf.world c.args.shelf.now in
     let after = g.S.Shelf.world c.run.new.shelf in
@@ -20,7 +20,7 @@ returns g c =
       runs = runs;
       ended = ended gave task names before after c.run.result runs;
       stands = stands gave task names before after c.run.result runs;
-      gains = gains gave task names before after c.run.result (load_named g.M.Mode.takes g.M.Mode.stops c.args.mode c.args.loads.now) runs;
+      gains = gains gave task names before after c.run.result (load_named g.M.Reader.takes g.M.Mode.stops c.args.mode c.args.loads.now) runs;
       others = others gave task names before after c.run.result runs;
-      comes = completes gave g.M.Mode.takes g.M.Mode.stops g.M.Mode.gives c.args.mode c.args.loads.now names before after c.run.result runs;
+      comes = completes gave g.M.Reader.takes g.M.Mode.stops g.M.Mode.gives c.args.mode c.args.loads.now names before after c.run.result runs;
     }

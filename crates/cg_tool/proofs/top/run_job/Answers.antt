@@ -1,7 +1,18 @@
+use Rattle.std.proofs.Common.{Option, subst}
+use Rattle.cg_run.specs.Names.{name_of}
+use Rattle.cg_run.specs.Reads.{Gave}
+use Rattle.cg_run.specs.Run.{Runs}
+use Rattle.cg_tool.specs.Sim.{sim_task}
+use Rattle.cg_tool.specs.Watching.{Kind}
 use Rattle.cg_tool.proofs.top.run_job.Goals as goal
 
 pub returns-in-Gate : goal.returns-in-Gate
 returns-in-Gate g c = rw c.in-Gate.is c.run.ensures.runs
+
+pub returns-in-Sim : goal.returns-in-Sim
+returns-in-Sim g c =
+    let R : Option Kind → Type 0 = λ kind. Runs (Gave g.S.Shelf.gives) (sim_task c.args.job.options.clock kind) (name_of c.args.job.names) (g.S.Shelf.world c.args.shelf.now) (g.S.Shelf.world c.run-in-Sim.new.shelf) c.run-in-Sim.result in
+    rw c.in-Sim.is (subst R c.chosen-watcher.ensures c.run-in-Sim.ensures.runs)
 
 pub returns-in-Lrat : goal.returns-in-Lrat
 returns-in-Lrat g c = rw c.in-Lrat.is c.run-in-Lrat.ensures.runs

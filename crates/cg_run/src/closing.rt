@@ -1,0 +1,81 @@
+//! The end of a run: what reading came to is written, or one line of complaint tells why not.
+
+ghost use Rattle.std.specs.Prelude.{◌≡◌, []};
+ghost use Rattle.cg_run.specs.Names.{name_of};
+ghost use Rattle.cg_run.specs.Run.{Complains, PutsOut, Refuses, Tries};
+
+use crate::names::Names;
+use crate::output::{Finish, Output};
+use crate::refusal::Refusal;
+use crate::status::Status;
+use crate::writing::write;
+use cg_shelf::{Shelf, StoreFault};
+use std::alloc::Global;
+
+/// Writes the output that reading came to, and ends as it says; or complains why there is none, or why it is not written.
+pub fn put_out<S: Shelf>(
+    alloc: Global,
+    shelf: &mut S,
+    names: &Names<'_>,
+    found: Result<Output, Refusal>,
+) -> Status
+    ensures { PutsOut (name_of names.now) found (S.world shelf.old) (S.world shelf.new) result }
+{
+    let mut line = Vec::new(alloc);
+    match try_to_write(shelf, names, found, &mut line) {
+        Ok(finish) => finish.status(),
+        Err(refusal) => refuse(shelf, names, &refusal, &mut line),
+    }
+}
+
+/// Writes the output. Before the first write the line has room for the complaint of any write.
+fn try_to_write<S: Shelf>(
+    shelf: &mut S,
+    names: &Names<'_>,
+    found: Result<Output, Refusal>,
+    line: &mut Vec<u8>,
+) -> Result<Finish, Refusal>
+    ensures empty { line.new.items ≡ line.old.items }
+    ensures tries { Tries (name_of names.now) found (S.world shelf.old) (S.world shelf.new) result }
+{
+    let output = found?;
+    line.reserve(longest_line(names))?;
+    write(shelf, names, &output)?;
+    Ok(output.finish)
+}
+
+/// No complaint of a write is longer.
+fn longest_line(names: &Names<'_>) -> usize {
+    let longest = names
+        .out
+        .len()
+        .max(names.proof.len())
+        .max(names.report.len());
+    longest.saturating_add(64)
+}
+
+/// Complains of a refusal, or of want of memory where there is none for its line.
+fn refuse<S: Shelf>(
+    shelf: &mut S,
+    names: &Names<'_>,
+    refusal: &Refusal,
+    line: &mut Vec<u8>,
+) -> Status
+    requires { line.old.items ≡ [] }
+    ensures { Refuses (name_of names.now) refusal.now (S.world shelf.old) (S.world shelf.new) result }
+{
+    match refusal.complain_into(names, line) {
+        Ok(()) => complain(shelf, refusal.status(), line.as_slice()),
+        Err(_) => complain(shelf, Status::NoMemory, b"clockgate: no memory\n"),
+    }
+}
+
+/// Complains one line. A complaint that fails does not change the status; one that finds no memory does.
+pub fn complain<S: Shelf>(shelf: &mut S, status: Status, line: &[u8]) -> Status
+    ensures { Complains line.now status (S.world shelf.old) (S.world shelf.new) result }
+{
+    match shelf.complain(line) {
+        Ok(()) | Err(StoreFault::Failed) => status,
+        Err(StoreFault::NoMemory) => Status::NoMemory,
+    }
+}

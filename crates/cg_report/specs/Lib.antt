@@ -4,4 +4,5 @@ pub mod Lines
 pub mod Place
 pub mod Idle
 pub mod RowLines
+pub mod Watched
 pub mod inner

@@ -8,17 +8,20 @@
 //! Modules, as data flows:
 //!
 //! - [`player`]: a place in the played history;
-//! - [`rows`]: what is said of the rows;
+//! - [`rows`]: what is said of the rows, and [`watched_rows`]: the same with the line of a watcher;
+//! - [`edges`]: the edges of the rows alone, or with the line of a watcher;
 //! - [`idle`]: how often nets are 0 at the low moments of the rows;
 //! - [`watcher`]: who is shown the moments, and says a line of them;
 //! - [`edge_count`]: the rises of registers, and [`toggle_count`]: the changes of nets.
 #![tactic(auto)]
 
 pub mod edge_count;
+pub mod edges;
 pub mod idle;
 pub mod player;
 pub mod rows;
 #[cfg(test)]
 mod tests;
 pub mod toggle_count;
+pub mod watched_rows;
 pub mod watcher;

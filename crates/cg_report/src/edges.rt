@@ -1,0 +1,47 @@
+//! The edges of rows that are played.
+
+ghost use Rattle.std.specs.Prelude.{◌≡◌, ◌++◌, List, IfOk, OnOk};
+ghost use Rattle.cg_netlist.specs.History.{Moment, edges};
+ghost use Rattle.cg_stimulus.specs.Inputs.{IsFor};
+ghost use Rattle.cg_stimulus.specs.Played.{IsPlayed};
+ghost use Rattle.cg_report.specs.Watched.{watched_line};
+
+use crate::watcher::Watcher;
+use cg_netlist::netlist::Netlist;
+use cg_stimulus::stimulus::Stimulus;
+use std::alloc::{AllocError, Global};
+
+/// The edges of the history on which the rows are played.
+///
+/// The netlist's data inputs must begin with those for which the stimulus is.
+pub fn count_edges(alloc: Global, netlist: &Netlist, stimulus: &Stimulus) -> Result<u64, AllocError>
+    requires { IsFor netlist.now stimulus.now }
+    ensures { IfOk result (λ count. (history : List Moment) → IsPlayed netlist.now stimulus.now.rows history → count ≡ edges netlist.now history) }
+{
+    // stub: body to come
+    let _ = (alloc, netlist, stimulus);
+    Err(AllocError)
+}
+
+/// The edges of the history on which the rows are played; and puts behind a text the line of a watcher, which begins anew and
+/// is shown each moment once.
+///
+/// The netlist's data inputs must begin with those for which the stimulus is.
+pub fn watch_edges(
+    alloc: Global,
+    netlist: &Netlist,
+    stimulus: &Stimulus,
+    watcher: &mut Box<dyn Watcher>,
+    text: &mut Vec<u8>,
+) -> Result<u64, AllocError>
+    requires { IsFor netlist.now stimulus.now }
+    ensures edges { IfOk result (λ count. (history : List Moment) → IsPlayed netlist.now stimulus.now.rows history → count ≡ edges netlist.now history) }
+    ensures said { OnOk result ((history : List Moment) → IsPlayed netlist.now stimulus.now.rows history
+        → text.new.items ≡ text.old.items ++ watched_line (says watcher.old) netlist.now stimulus.now.rows history) }
+    ensures same_name { called watcher.new ≡ called watcher.old }
+    ensures same_kind { says watcher.new ≡ says watcher.old }
+{
+    // stub: body to come
+    let _ = (alloc, netlist, stimulus, watcher, text);
+    Err(AllocError)
+}

@@ -24,3 +24,5 @@ mod readers;
 mod register_step;
 mod settle;
 pub mod simulator;
+#[cfg(test)]
+mod tests;

@@ -10,7 +10,7 @@ use Rattle.cg_stimulus.specs.Played.{IsPlayed, played_wave}
 use Rattle.cg_stimulus.specs.StimText.{bit_byte}
 use Rattle.cg_report.specs.Idle.{low_moments}
 use Rattle.cg_report.specs.Place.{IsAt, Place, Plays, Steps}
-use Rattle.cg_report.specs.RowLines.{output_word, row_line, row_lines, rows_text}
+use Rattle.cg_report.specs.RowLines.{edges_line, output_word, row_line, row_lines, rows_text}
 use Rattle.cg_report.specs.inner.RowByRow.{IsPairs}
 use Rattle.cg_report.specs.inner.Saying.{SaysRow, SayRows}
 use Rattle.cg_report.proofs.RowOn.{behind_all, behind_more, behind_none, pair_played}
@@ -54,21 +54,18 @@ said_more c rows row number old new text more most said below number_is says =
 
 -- behind the last moment
 pub said_all : (c : Circuit) (rows : List (List Bool)) (row : ℕ) (old new : Place) (went : Bool) (text more most : List ℕ) (count : ℕ) → SayRows c rows row old text more → length rows ≤ row → Steps went old new
-    → count ≡ new.edges → most ≡ ((more ++ codes "edges ") ++ decimal count) ++ 10 ∷ []
+    → count ≡ new.edges → most ≡ more ++ edges_line count
     → ((history other : List Moment) → IsPlayed c rows history → IsPlayed c rows other → history ≡ other) → (history : List Moment) → IsPlayed c rows history → most ≡ text ++ rows_text c history
 said_all c rows row old new went text more most count said all steps counted is one history played =
     let whole = behind_all c rows row old new went said.played said.behind all steps in
     let mine = said.played ++ whole.last ∷ [] in
     let same : mine ≡ history = one mine history whole.all played in
     let lines : more ≡ text ++ row_lines c 1 mine = said.lines ∙ ap (λ l. text ++ l) (sym (row_lines_last c 1 said.played whole.last said.behind.pairs)) in
-    let rows_said = row_lines c 1 mine in
     is
-    ∙ (ap (λ m. ((m ++ codes "edges ") ++ decimal count) ++ 10 ∷ []) lines
-    ∙ (ap (λ m. (m ++ decimal count) ++ 10 ∷ []) (append_assoc text rows_said (codes "edges "))
-    ∙ (ap (λ m. m ++ 10 ∷ []) (append_assoc text (rows_said ++ codes "edges ") (decimal count))
-    ∙ (append_assoc text ((rows_said ++ codes "edges ") ++ decimal count) (10 ∷ [])
-    ∙ (ap (λ n. text ++ (((rows_said ++ codes "edges ") ++ decimal n) ++ 10 ∷ [])) (counted ∙ whole.edges)
-    ∙ ap (λ h. text ++ rows_text c h) same)))))
+    ∙ (ap (λ m. m ++ edges_line count) lines
+    ∙ (append_assoc text (row_lines c 1 mine) (edges_line count)
+    ∙ (ap (λ n. text ++ (row_lines c 1 mine ++ edges_line n)) (counted ∙ whole.edges)
+    ∙ ap (λ h. text ++ rows_text c h) same)))
 
 after_text : (text d a b end : List ℕ) → (((text ++ d) ++ a) ++ b) ++ end ≡ text ++ (((d ++ a) ++ b) ++ end)
 after_text text d a b end = ap (λ m. (m ++ b) ++ end) (append_assoc text d a) ∙ (ap (λ m. m ++ end) (append_assoc text (d ++ a) b) ∙ append_assoc text ((d ++ a) ++ b) end)

@@ -20,6 +20,10 @@ row_lines c number [] = []
 row_lines c number (last ∷ []) = []
 row_lines c number (low ∷ high ∷ history) = row_line c number low high ++ row_lines c (number + 1) history
 
+-- the line of this many edges
+abbrev pub edges_line : ℕ → List ℕ
+edges_line count = codes "edges " ++ decimal count ++ 10 ∷ []
+
 -- the lines of the rows, and the edges
 abbrev pub rows_text : Circuit → List Moment → List ℕ
-rows_text c history = row_lines c 1 history ++ codes "edges " ++ decimal (edges c history) ++ 10 ∷ []
+rows_text c history = row_lines c 1 history ++ edges_line (edges c history)

@@ -3,3 +3,4 @@ pub mod Giving
 pub mod RowByRow
 pub mod Idling
 pub mod Saying
+pub mod Watching

@@ -6,8 +6,11 @@ ghost use Rattle.cg_stimulus.specs.Inputs.{IsFor};
 ghost use Rattle.cg_stimulus.specs.Played.{IsPlayed};
 ghost use Rattle.cg_report.specs.Watched.{watched_line};
 
+use crate::player::Player;
+use crate::showing::{push_line, show_row};
 use crate::watcher::Watcher;
 use cg_netlist::netlist::Netlist;
+use cg_stimulus::played::one_played_history;
 use cg_stimulus::stimulus::Stimulus;
 use std::alloc::{AllocError, Global};
 
@@ -18,9 +21,14 @@ pub fn count_edges(alloc: Global, netlist: &Netlist, stimulus: &Stimulus) -> Res
     requires { IsFor netlist.now stimulus.now }
     ensures { IfOk result (λ count. (history : List Moment) → IsPlayed netlist.now stimulus.now.rows history → count ≡ edges netlist.now history) }
 {
-    // stub: body to come
-    let _ = (alloc, netlist, stimulus);
-    Err(AllocError)
+    one_played_history(netlist, stimulus);
+    let mut player = Player::new(alloc, netlist, stimulus)?;
+    'rows: for _row in 0..stimulus.rows() {
+        player.step();
+        player.step();
+    }
+    player.step();
+    Ok(player.edges())
 }
 
 /// The edges of the history on which the rows are played; and puts behind a text the line of a watcher, which begins anew and
@@ -41,7 +49,13 @@ pub fn watch_edges(
     ensures same_name { called watcher.new ≡ called watcher.old }
     ensures same_kind { says watcher.new ≡ says watcher.old }
 {
-    // stub: body to come
-    let _ = (alloc, netlist, stimulus, watcher, text);
-    Err(AllocError)
+    one_played_history(netlist, stimulus);
+    watcher.begin(netlist)?;
+    let mut player = Player::new(alloc, netlist, stimulus)?;
+    'rows: for _row in 0..stimulus.rows() {
+        show_row(&mut player, watcher)?;
+    }
+    player.show(watcher)?;
+    push_line(watcher, text)?;
+    Ok(player.edges())
 }

@@ -11,7 +11,7 @@
 //! - [`rows`]: what is said of the rows, and [`watched_rows`]: the same with the line of a watcher;
 //! - [`edges`]: the edges of the rows alone, or with the line of a watcher;
 //! - [`idle`]: how often nets are 0 at the low moments of the rows;
-//! - [`watcher`]: who is shown the moments, and says a line of them;
+//! - [`watcher`]: who is shown the moments, and says a line of them, and [`showing`]: how it is shown the rows;
 //! - [`edge_count`]: the rises of registers, and [`toggle_count`]: the changes of nets.
 #![tactic(auto)]
 
@@ -20,6 +20,7 @@ pub mod edges;
 pub mod idle;
 pub mod player;
 pub mod rows;
+mod showing;
 #[cfg(test)]
 mod tests;
 pub mod toggle_count;

@@ -7,7 +7,7 @@ ghost use Rattle.cg_netlist.specs.Moment.{bit};
 ghost use Rattle.cg_stimulus.specs.Inputs.{IsFor};
 ghost use Rattle.cg_stimulus.specs.Played.{IsPlayed};
 ghost use Rattle.cg_stimulus.specs.StimText.{bit_byte};
-ghost use Rattle.cg_report.specs.RowLines.{output_word, rows_text};
+ghost use Rattle.cg_report.specs.RowLines.{edges_line, output_word, rows_text};
 ghost use Rattle.cg_report.specs.inner.RowByRow.{HasRow};
 ghost use Rattle.cg_report.specs.inner.Saying.{SaysRow};
 
@@ -39,8 +39,15 @@ pub fn push_rows(
         push_row(&mut player, row, text)?;
     }
     player.step();
+    push_edges(player.edges(), text)
+}
+
+/// Puts the line of the edges behind the text.
+pub(crate) fn push_edges(count: u64, text: &mut Vec<u8>) -> Result<(), AllocError>
+    ensures { OnOk result (text.new.items ≡ text.old.items ++ edges_line count) }
+{
     text.extend_from_slice(b"edges ")?;
-    push_number(text, player.edges())?;
+    push_number(text, count)?;
     text.push(b'\n')?;
     Ok(())
 }
@@ -60,7 +67,7 @@ fn push_row(player: &mut Player<'_>, row: u32, text: &mut Vec<u8>) -> Result<(),
 }
 
 /// Puts the present bits of the outputs behind the text, as a word of its own.
-fn push_outputs(simulator: &Simulator<'_>, text: &mut Vec<u8>) -> Result<(), AllocError>
+pub(crate) fn push_outputs(simulator: &Simulator<'_>, text: &mut Vec<u8>) -> Result<(), AllocError>
     requires { IsSome simulator.now.present }
     ensures { OnOk result ((now : Moment) → simulator.now.present ≡ Some now
         → text.new.items ≡ text.old.items ++ 32 ∷ output_word simulator.now.circuit.outputs now.nets) }

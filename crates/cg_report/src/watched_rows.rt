@@ -1,15 +1,23 @@
 //! What is said of the rows that are played while a watcher looks on: a line for each, the edges, and the watcher's line.
 
-ghost use Rattle.std.specs.Prelude.{◌≡◌, ◌++◌, List, OnOk};
+ghost use Rattle.std.specs.Prelude.{◌≡◌, ◌+◌, ◌++◌, List, OnOk};
 ghost use Rattle.cg_netlist.specs.History.{Moment};
 ghost use Rattle.cg_stimulus.specs.Inputs.{IsFor};
 ghost use Rattle.cg_stimulus.specs.Played.{IsPlayed};
+ghost use Rattle.cg_report.specs.Place.{MayWatch};
 ghost use Rattle.cg_report.specs.RowLines.{rows_text};
 ghost use Rattle.cg_report.specs.Watched.{watched_line};
+ghost use Rattle.cg_report.specs.inner.RowByRow.{HasRow};
+ghost use Rattle.cg_report.specs.inner.Watching.{WatchesRow};
 
+use crate::player::Player;
+use crate::rows::{push_edges, push_outputs};
+use crate::showing::push_line;
 use crate::watcher::Watcher;
 use cg_netlist::netlist::Netlist;
+use cg_stimulus::played::one_played_history;
 use cg_stimulus::stimulus::Stimulus;
+use cg_text::number::push_number;
 use std::alloc::{AllocError, Global};
 
 /// Puts the lines of the rows behind a text, where they are played on the netlist, then the line of the edges, and then the
@@ -29,7 +37,36 @@ pub fn push_watched_rows(
     ensures same_name { called watcher.new ≡ called watcher.old }
     ensures same_kind { says watcher.new ≡ says watcher.old }
 {
-    // stub: body to come
-    let _ = (alloc, netlist, stimulus, watcher, text);
-    Err(AllocError)
+    one_played_history(netlist, stimulus);
+    watcher.begin(netlist)?;
+    let mut player = Player::new(alloc, netlist, stimulus)?;
+    'rows: for row in 0..stimulus.rows() {
+        push_watched_row(&mut player, row, watcher, text)?;
+    }
+    player.show(watcher)?;
+    push_edges(player.edges(), text)?;
+    push_line(watcher, text)
+}
+
+/// Plays both moments of a row, shows them to a watcher, and puts the row's line behind the text; rows are numbered from 0, and
+/// in their lines from 1.
+fn push_watched_row(
+    player: &mut Player<'_>,
+    row: u32,
+    watcher: &mut Box<dyn Watcher>,
+    text: &mut Vec<u8>,
+) -> Result<(), AllocError>
+    requires row { HasRow player.old.left }
+    requires watch { MayWatch (stands watcher.old) player.old }
+    ensures watches { OnOk result (WatchesRow (stands watcher.old) (stands watcher.new) (row + 1) player.old player.new text.old.items text.new.items) }
+    ensures same_name { called watcher.new ≡ called watcher.old }
+    ensures same_kind { says watcher.new ≡ says watcher.old }
+{
+    push_number(text, u64::from(row) + 1)?;
+    player.show(watcher)?;
+    push_outputs(player.simulator(), text)?;
+    player.show(watcher)?;
+    push_outputs(player.simulator(), text)?;
+    text.push(b'\n')?;
+    Ok(())
 }

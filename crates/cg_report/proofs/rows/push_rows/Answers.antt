@@ -16,8 +16,7 @@ rows-preserved c =
     said_more c.args.netlist.now c.args.stimulus.now.rows c.rows.row (c.rows.row + 1) c.rows.player c.push_row.new.player c.args.text.now.items c.rows.text.items c.push_row.new.text.items c.rows.invariant
     (omega (arith, c.rows-test.true, c.rows-row-end.ensures.count)) (omega arith) c.in_ok-push_row.ensures
 
-pub returns : goal.returns
-returns c =
-    said_all c.args.netlist.now c.args.stimulus.now.rows c.rows.row c.rows.player c.step.new.self c.step.result c.args.text.now.items c.rows.text.items c.push.new.self.items c.edges.result c.rows.invariant
-    (omega (arith, c.rows-test.false, c.rows-row-end.ensures.count)) c.step.ensures.steps c.edges.ensures.edges
-    (c.in_ok-push.ensures.items ∙ ap (λ m. m ++ 10 ∷ []) (c.in_ok-push_number.ensures ∙ ap (λ m. m ++ decimal c.edges.result) c.in_ok-extend_from_slice.ensures.items)) c.one_played_history.ensures.one
+pub returns-tail-push_edges : goal.returns-tail-push_edges
+returns-tail-push_edges c =
+    said_all c.args.netlist.now c.args.stimulus.now.rows c.rows.row c.rows.player c.step.new.self c.step.result c.args.text.now.items c.rows.text.items c.push_edges.new.text.items c.edges.result c.rows.invariant
+    (omega (arith, c.rows-test.false, c.rows-row-end.ensures.count)) c.step.ensures.steps c.edges.ensures.edges c.in_ok-push_edges.ensures c.one_played_history.ensures.one

@@ -19,7 +19,7 @@ pub left_after : (old new : Place) (tick : Tick) (later : List Tick) → old.lef
 left_after old new tick later left plays = let both : plays.tick ∷ new.left ≡ tick ∷ later = sym plays.left ∙ left in cc
 
 -- both moments of a row
-pub pair_played : (old between new : Place) → (one : Plays old between) → (two : Plays between new) → PlaysPair old new one.now two.now
+unfoldable pub pair_played : (old between new : Place) → (one : Plays old between) → (two : Plays between new) → PlaysPair old new one.now two.now
 pair_played old between new one two =
     let first : one.tick ∷ two.tick ∷ new.left ≡ old.left = ap (λ l. one.tick ∷ l) (sym two.left) ∙ sym one.left in
     record {
@@ -41,7 +41,7 @@ low_moments_on [] now later pairs = refl
 low_moments_on (last ∷ []) now later pairs = absurd pairs
 low_moments_on (low ∷ high ∷ played) now later pairs = ap (λ l. low ∷ l) (low_moments_on played now later pairs)
 
-pairs_on : (played : List Moment) (now later : Moment) → IsPairs played → IsPairs (played ++ now ∷ later ∷ [])
+pub pairs_on : (played : List Moment) (now later : Moment) → IsPairs played → IsPairs (played ++ now ∷ later ∷ [])
 pairs_on [] now later pairs = tt
 pairs_on (last ∷ []) now later pairs = absurd pairs
 pairs_on (low ∷ high ∷ played) now later pairs = pairs_on played now later pairs
@@ -52,7 +52,7 @@ low_moments_last (one ∷ []) last pairs = absurd pairs
 low_moments_last (low ∷ high ∷ played) last pairs = ap (λ l. low ∷ l) (low_moments_last played last pairs)
 
 -- before the first row
-pub behind_none : (c : Circuit) (rows : List (List Bool)) (place : Place) → place.simulated.circuit ≡ c → place.rows ≡ rows → place.left ≡ played_wave c rows → IsAt place [] [] → IsBehind c rows 0 place []
+unfoldable pub behind_none : (c : Circuit) (rows : List (List Bool)) (place : Place) → place.simulated.circuit ≡ c → place.rows ≡ rows → place.left ≡ played_wave c rows → IsAt place [] [] → IsBehind c rows 0 place []
 behind_none c rows place circuit same left at = record {
   circuit = circuit;
   same_rows = same;
@@ -65,7 +65,7 @@ behind_none c rows place circuit same left at = record {
 }
 
 -- a row is left where not all were played
-rows_left : (width : ℕ) (before row : List Bool) (later : List (List Bool)) (left : List Tick) (rest : List (List Bool)) → rest ≡ row ∷ later → left ≡ wave_from width before rest
+pub rows_left : (width : ℕ) (before row : List Bool) (later : List (List Bool)) (left : List Tick) (rest : List (List Bool)) → rest ≡ row ∷ later → left ≡ wave_from width before rest
     → left ≡ row_tick width false row ∷ row_tick width true row ∷ wave_from width row later
 rows_left width before row later left rest is of = of ∙ ap (wave_from width before) is
 
@@ -81,7 +81,7 @@ has_row c rows row place played behind below =
     }
 
 -- behind one row more
-pub behind_more : (c : Circuit) (rows : List (List Bool)) (row : ℕ) (old new : Place) (played : List Moment) (now later : Moment) → IsBehind c rows row old played → row < length rows → PlaysPair old new now later
+unfoldable pub behind_more : (c : Circuit) (rows : List (List Bool)) (row : ℕ) (old new : Place) (played : List Moment) (now later : Moment) → IsBehind c rows row old played → row < length rows → PlaysPair old new now later
     → IsBehind c rows (row + 1) new (played ++ now ∷ later ∷ [])
 behind_more c rows row old new played now later behind below plays =
     let width = length (data_inputs c) in

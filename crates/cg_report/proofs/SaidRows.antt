@@ -1,10 +1,11 @@
 -- The lines of the rows are put behind a text while they are played.
-use Rattle.std.proofs.Common.{◌≡◌, ℕ, suc, ◌+◌, ◌<◌, ◌≤◌, Bool, List, [], ◌∷◌, ◌++◌, length, codes, decimal, map, refl, sym, ap, ◌∙◌, append_assoc, append-nil, arith}
+use Rattle.std.proofs.Common.{◌≡◌, ℕ, suc, ◌+◌, ◌<◌, ◌≤◌, Bool, List, [], ◌∷◌, ◌++◌, length, decimal, map, Result, Ok, Err, refl, sym, ap, ◌∙◌, append_assoc, append-nil, arith}
 use Rattle.std.specs.List.{All, flat_map}
+use Rattle.std.specs.Result.{OnOk}
 use Rattle.cg_netlist.specs.Circuit.{Circuit, LogicCell, RegisterCell, asked_nets, used_nets}
 use Rattle.cg_netlist.specs.WellFormed.{IsWellFormed}
 use Rattle.cg_netlist.proofs.Members.{All-from_members, All-member, is_in_right}
-use Rattle.cg_netlist.specs.History.{Moment, edges}
+use Rattle.cg_netlist.specs.History.{Moment}
 use Rattle.cg_netlist.specs.Moment.{bit}
 use Rattle.cg_stimulus.specs.Played.{IsPlayed, played_wave}
 use Rattle.cg_stimulus.specs.StimText.{bit_byte}
@@ -15,10 +16,10 @@ use Rattle.cg_report.specs.inner.RowByRow.{IsPairs}
 use Rattle.cg_report.specs.inner.Saying.{SaysRow, SayRows}
 use Rattle.cg_report.proofs.RowOn.{behind_all, behind_more, behind_none, pair_played}
 
-pub row_said : (number : ℕ) (old between new : Place) (text more : List ℕ) → (one : Plays old between) → (two : Plays between new) → more ≡ text ++ row_line old.simulated.circuit number one.now two.now → SaysRow number old new text more
+unfoldable pub row_said : (number : ℕ) (old between new : Place) (text more : List ℕ) → (one : Plays old between) → (two : Plays between new) → more ≡ text ++ row_line old.simulated.circuit number one.now two.now → SaysRow number old new text more
 row_said number old between new text more one two line = record { now = one.now; later = two.now; pair = pair_played old between new one two; line = line }
 
-row_lines_on : (c : Circuit) (number : ℕ) (played : List Moment) (now later : Moment) → IsPairs played
+pub row_lines_on : (c : Circuit) (number : ℕ) (played : List Moment) (now later : Moment) → IsPairs played
     → row_lines c number (played ++ now ∷ later ∷ []) ≡ row_lines c number played ++ row_line c (number + length (low_moments played)) now later
 row_lines_on c number [] now later pairs = let e : number ≡ number + 0 = omega arith in append-nil (row_line c number now later) ∙ ap (λ n. row_line c n now later) e
 row_lines_on c number (last ∷ []) now later pairs = absurd pairs
@@ -33,11 +34,11 @@ row_lines_last c number (one ∷ []) last pairs = absurd pairs
 row_lines_last c number (low ∷ high ∷ played) last pairs = ap (λ l. row_line c number low high ++ l) (row_lines_last c (number + 1) played last pairs)
 
 -- before the first row
-pub said_none : (c : Circuit) (rows : List (List Bool)) (place : Place) (text : List ℕ) → place.simulated.circuit ≡ c → place.rows ≡ rows → place.left ≡ played_wave c rows → IsAt place [] [] → SayRows c rows 0 place text text
+unfoldable pub said_none : (c : Circuit) (rows : List (List Bool)) (place : Place) (text : List ℕ) → place.simulated.circuit ≡ c → place.rows ≡ rows → place.left ≡ played_wave c rows → IsAt place [] [] → SayRows c rows 0 place text text
 said_none c rows place text circuit same left at = record { played = []; behind = behind_none c rows place circuit same left at; lines = sym (append-nil text) }
 
 -- behind one row more
-pub said_more : (c : Circuit) (rows : List (List Bool)) (row number : ℕ) (old new : Place) (text more most : List ℕ) → SayRows c rows row old text more → row < length rows → number ≡ row + 1 → SaysRow number old new more most
+unfoldable pub said_more : (c : Circuit) (rows : List (List Bool)) (row number : ℕ) (old new : Place) (text more most : List ℕ) → SayRows c rows row old text more → row < length rows → number ≡ row + 1 → SaysRow number old new more most
     → SayRows c rows (row + 1) new text most
 said_more c rows row number old new text more most said below number_is says =
     let played = said.played in
@@ -66,6 +67,11 @@ said_all c rows row old new went text more most count said all steps counted is 
     ∙ (append_assoc text (row_lines c 1 mine) (edges_line count)
     ∙ (ap (λ n. text ++ (row_lines c 1 mine ++ edges_line n)) (counted ∙ whole.edges)
     ∙ ap (λ h. text ++ rows_text c h) same)))
+
+-- a text whose last part is put behind it by the last call
+pub on_ok : {T E : Type 0} (A B : Type 0) (r : Result T E) → (A → B) → OnOk r A → OnOk r B
+on_ok A B (Ok x) f a = f a
+on_ok A B (Err e) f a = tt
 
 after_text : (text d a b end : List ℕ) → (((text ++ d) ++ a) ++ b) ++ end ≡ text ++ (((d ++ a) ++ b) ++ end)
 after_text text d a b end = ap (λ m. (m ++ b) ++ end) (append_assoc text d a) ∙ (ap (λ m. m ++ end) (append_assoc text (d ++ a) b) ∙ append_assoc text ((d ++ a) ++ b) end)

@@ -1,17 +1,17 @@
 -- A watcher stands for the moments that it was shown while rows are played.
-use Rattle.std.proofs.Common.{◌≡◌, ℕ, ◌+◌, ◌<◌, ◌≤◌, Bool, true, false, List, [], ◌∷◌, ◌++◌, length, None, refl, sym, ap, subst, ◌∙◌, append_assoc}
+use Rattle.std.proofs.Common.{◌≡◌, ℕ, ◌+◌, ◌<◌, ◌≤◌, Bool, true, false, List, [], ◌∷◌, ◌++◌, length, None, sym, ap, subst, ◌∙◌, append_assoc}
 use Rattle.std.proofs.lemmas.List.{drop_all}
 use Rattle.std.proofs.lemmas.Option.{same_Some}
 use Rattle.cg_netlist.specs.Circuit.{Circuit, data_inputs}
-use Rattle.cg_netlist.specs.History.{Moment, Tick, edges}
+use Rattle.cg_netlist.specs.History.{Moment, edges}
 use Rattle.cg_stimulus.specs.Played.{IsPlayed, played_wave, row_tick, wave_from}
 use Rattle.cg_report.specs.Place.{GivesStep, IsAt, MayWatch, Place, Plays, Steps, played_moments, shown_from}
+use Rattle.cg_report.specs.RowLines.{row_line}
 use Rattle.cg_report.specs.Shown.{Shown}
-use Rattle.cg_report.specs.inner.RowByRow.{HasRow, IsBehind, PlaysPair}
-use Rattle.cg_report.specs.inner.Saying.{SaysRow, SayRows}
+use Rattle.cg_report.specs.inner.RowByRow.{IsBehind, PlaysPair}
 use Rattle.cg_report.specs.inner.Watching.{GoesOn, ShowRows, ShowsRow, StandsBehind, WatchRows, WatchesRow}
 use Rattle.cg_report.proofs.RowOn.{all_played, behind_all, behind_more, behind_none, left_after, pair_played, stepped}
-use Rattle.cg_report.proofs.SaidRows.{said_more, said_none}
+use Rattle.cg_report.proofs.SaidRows.{row_said, said_more, said_none}
 
 -- a step that was shown
 pub shown_step : (went : Bool) (old new : Place) (os ns : Circuit → List Shown → Type 0) → (one : Plays old new) → Steps went old new → GivesStep went os ns old new → GoesOn os ns old (one.tick ∷ []) (one.now ∷ [])
@@ -47,12 +47,18 @@ may_still false old new os ns one may steps gives = let none : one.tick ∷ new.
 
 pub row_shown : (old between new : Place) (os ms ns : Circuit → List Shown → Type 0) → (one : Plays old between) → (two : Plays between new) → GoesOn os ms old (one.tick ∷ []) (one.now ∷ [])
     → GoesOn ms ns between (two.tick ∷ []) (two.now ∷ []) → ShowsRow os ns old new
+unfolding pair_played
 row_shown old between new os ms ns one two first second = record {
   now = one.now;
   later = two.now;
   pair = pair_played old between new one two;
   shown = shown_pair old between new os ms ns one two first second;
 }
+
+pub row_watched : (number : ℕ) (old between new : Place) (text more : List ℕ) (os ms ns : Circuit → List Shown → Type 0) → (one : Plays old between) → (two : Plays between new) → GoesOn os ms old (one.tick ∷ []) (one.now ∷ [])
+    → GoesOn ms ns between (two.tick ∷ []) (two.now ∷ []) → more ≡ text ++ row_line old.simulated.circuit number one.now two.now → WatchesRow os ns number old new text more
+unfolding row_said pair_played
+row_watched number old between new text more os ms ns one two first second line = record { says = row_said number old between new text more one two line; shown = shown_pair old between new os ms ns one two first second }
 
 -- while rows are played, a watcher may be shown the next moment
 pub may_watch : (c : Circuit) (rows : List (List Bool)) (row : ℕ) (place : Place) (played : List Moment) (stands : Circuit → List Shown → Type 0) → (behind : IsBehind c rows row place played)
@@ -69,9 +75,11 @@ stands_more c rows row old new played now later os ns behind pair shown for' =
 
 pub shows_none : (c : Circuit) (rows : List (List Bool)) (place : Place) (stands : Circuit → List Shown → Type 0) → place.simulated.circuit ≡ c → place.rows ≡ rows → place.left ≡ played_wave c rows → IsAt place [] []
     → stands c [] → ShowRows stands c rows 0 place
+unfolding behind_none
 shows_none c rows place stands circuit same left at none = record { played = []; behind = behind_none c rows place circuit same left at; stands_for = none }
 
 pub shows_more : (c : Circuit) (rows : List (List Bool)) (row : ℕ) (old new : Place) (os ns : Circuit → List Shown → Type 0) → ShowRows os c rows row old → row < length rows → ShowsRow os ns old new → ShowRows ns c rows (row + 1) new
+unfolding behind_more
 shows_more c rows row old new os ns show below row_is = record {
   played = show.played ++ row_is.now ∷ row_is.later ∷ [];
   behind = behind_more c rows row old new show.played row_is.now row_is.later show.behind below row_is.pair;
@@ -80,10 +88,12 @@ shows_more c rows row old new os ns show below row_is = record {
 
 pub watches_none : (c : Circuit) (rows : List (List Bool)) (place : Place) (text : List ℕ) (stands : Circuit → List Shown → Type 0) → place.simulated.circuit ≡ c → place.rows ≡ rows → place.left ≡ played_wave c rows → IsAt place [] []
     → stands c [] → WatchRows stands c rows 0 place text text
+unfolding said_none behind_none
 watches_none c rows place text stands circuit same left at none = record { said = said_none c rows place text circuit same left at; stands_for = none }
 
 pub watches_more : (c : Circuit) (rows : List (List Bool)) (row number : ℕ) (old new : Place) (text more most : List ℕ) (os ns : Circuit → List Shown → Type 0) → WatchRows os c rows row old text more → row < length rows
     → number ≡ row + 1 → WatchesRow os ns number old new more most → WatchRows ns c rows (row + 1) new text most
+unfolding said_more behind_more
 watches_more c rows row number old new text more most os ns watch below number_is row_is =
     let says = row_is.says in record {
       said = said_more c rows row number old new text more most watch.said below number_is says;

@@ -7,7 +7,7 @@ ghost use Rattle.cg_stimulus.specs.Played.{IsPlayed};
 ghost use Rattle.cg_report.specs.Watched.{watched_line};
 
 use crate::player::Player;
-use crate::showing::{push_line, show_row};
+use crate::showing::{begin, push_line, show_row};
 use crate::watcher::Watcher;
 use cg_netlist::netlist::Netlist;
 use cg_stimulus::played::one_played_history;
@@ -50,7 +50,7 @@ pub fn watch_edges(
     ensures same_kind { says watcher.new ≡ says watcher.old }
 {
     one_played_history(netlist, stimulus);
-    watcher.begin(netlist)?;
+    begin(netlist, watcher)?;
     let mut player = Player::new(alloc, netlist, stimulus)?;
     'rows: for _row in 0..stimulus.rows() {
         show_row(&mut player, watcher)?;

@@ -9,7 +9,17 @@ ghost use Rattle.cg_report.specs.inner.Watching.{ShowsRow};
 
 use crate::player::Player;
 use crate::watcher::Watcher;
+use cg_netlist::netlist::Netlist;
 use std::alloc::AllocError;
+
+/// Begins a watcher with a netlist.
+pub(crate) fn begin(netlist: &Netlist, watcher: &mut Box<dyn Watcher>) -> Result<(), AllocError>
+    ensures begun { OnOk result (stands watcher.new netlist.now []) }
+    ensures same_name { called watcher.new ≡ called watcher.old }
+    ensures same_kind { says watcher.new ≡ says watcher.old }
+{
+    watcher.begin(netlist)
+}
 
 /// Plays both moments of a row, and shows them to a watcher.
 pub(crate) fn show_row(

@@ -12,7 +12,7 @@ ghost use Rattle.cg_report.specs.inner.Watching.{WatchesRow};
 
 use crate::player::Player;
 use crate::rows::{push_edges, push_outputs};
-use crate::showing::push_line;
+use crate::showing::{begin, push_line};
 use crate::watcher::Watcher;
 use cg_netlist::netlist::Netlist;
 use cg_stimulus::played::one_played_history;
@@ -38,7 +38,7 @@ pub fn push_watched_rows(
     ensures same_kind { says watcher.new ≡ says watcher.old }
 {
     one_played_history(netlist, stimulus);
-    watcher.begin(netlist)?;
+    begin(netlist, watcher)?;
     let mut player = Player::new(alloc, netlist, stimulus)?;
     'rows: for row in 0..stimulus.rows() {
         push_watched_row(&mut player, row, watcher, text)?;

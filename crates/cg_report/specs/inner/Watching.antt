@@ -1,5 +1,5 @@
 -- How a watcher is shown rows while they are played.
-use Rattle.std.specs.Prelude.{◌≡◌, ℕ, ◌+◌, Bool, List, [], ◌∷◌, ◌++◌, None}
+use Rattle.std.specs.Prelude.{ℕ, Bool, List, [], ◌∷◌, ◌++◌, None}
 use Rattle.cg_netlist.specs.Circuit.{Circuit}
 use Rattle.cg_netlist.specs.History.{Moment, Tick}
 use Rattle.cg_report.specs.Place.{IsAt, Place, shown_from}

@@ -1,6 +1,6 @@
-use Rattle.std.proofs.Common.{◌+◌, ◌++◌, ◌∷◌, [], decimal, arith, ap, ◌∙◌}
+use Rattle.std.proofs.Common.{◌+◌, arith, ap}
 use Rattle.cg_report.proofs.RowOn.{has_row}
-use Rattle.cg_report.proofs.SaidRows.{said_all, said_more, said_none}
+use Rattle.cg_report.proofs.SaidRows.{on_ok, said_all, said_more, said_none}
 use Rattle.cg_report.proofs.rows.push_rows.Goals as goal
 
 pub rows-init : goal.rows-init
@@ -16,7 +16,7 @@ rows-preserved c =
     said_more c.args.netlist.now c.args.stimulus.now.rows c.rows.row (c.rows.row + 1) c.rows.player c.push_row.new.player c.args.text.now.items c.rows.text.items c.push_row.new.text.items c.rows.invariant
     (omega (arith, c.rows-test.true, c.rows-row-end.ensures.count)) (omega arith) c.in_ok-push_row.ensures
 
-pub returns-tail-push_edges : goal.returns-tail-push_edges
-returns-tail-push_edges c =
-    said_all c.args.netlist.now c.args.stimulus.now.rows c.rows.row c.rows.player c.step.new.self c.step.result c.args.text.now.items c.rows.text.items c.push_edges.new.text.items c.edges.result c.rows.invariant
-    (omega (arith, c.rows-test.false, c.rows-row-end.ensures.count)) c.step.ensures.steps c.edges.ensures.edges c.in_ok-push_edges.ensures c.one_played_history.ensures.one
+pub returns : goal.returns
+returns c =
+    on_ok _ _ c.push_edges.result (λ is. said_all c.args.netlist.now c.args.stimulus.now.rows c.rows.row c.rows.player c.step.new.self c.step.result c.args.text.now.items c.rows.text.items c.push_edges.new.text.items
+    c.edges.result c.rows.invariant (omega (arith, c.rows-test.false, c.rows-row-end.ensures.count)) c.step.ensures.steps c.edges.ensures.edges is c.one_played_history.ensures.one) c.push_edges.ensures

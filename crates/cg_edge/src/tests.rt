@@ -1,6 +1,6 @@
 //! A history that was worked out by hand.
 
-ghost use Rattle.std.specs.Prelude.{◌≡◌, IfOk, IsSome, None, count_by, false, length};
+ghost use Rattle.std.specs.Prelude.{◌≡◌, IfOk, IsSome, None, OnOk, count_by, false, length};
 ghost use Rattle.cg_cell.specs.Pins.{is_test};
 ghost use Rattle.cg_netlist.specs.Circuit.{data_inputs};
 
@@ -39,26 +39,99 @@ fn tested_cell(alloc: Global) -> Result<CellType, Fail>
     Ok(CellType::new(name, CellKind::Gater, pins, None))
 }
 
-/// A gating cell g of e and the test input s, behind it one h of f, and a register q of d on h.
-fn netlist(alloc: Global) -> Result<Netlist, Fail> {
-    let first = tested_cell(alloc)?;
-    let second = gating_cell(alloc)?;
-    let mut builder = Builder::new(alloc, b"chain")?;
-    builder.input(b"e")?;
-    builder.input(b"f")?;
-    builder.input(b"d")?;
-    builder.input(b"s")?;
-    builder.clock(b"clk")?;
-    builder.gater(&first, b"clk", b"e", Some(b"s".as_slice()), b"g")?;
-    builder.gater(&second, b"g", b"f", None, b"h")?;
+/// A name of the text.
+fn name(alloc: Global, text: &str) -> Result<Name, Fail> {
+    let bytes = text.as_bytes();
+    if Name::is_name(bytes) {
+        Ok(Name::new(alloc, bytes)?)
+    } else {
+        Err(Fail::new("no name"))
+    }
+}
+
+fn add_input(alloc: Global, builder: &mut Builder, net: &str) -> Result<(), Fail>
+    requires { builder.old.refused ≡ None }
+    ensures { OnOk result (builder.new.refused ≡ None) }
+{
+    let net = name(alloc, net)?;
+    builder.input(net.bytes())?;
+    Ok(())
+}
+
+fn add_inputs(alloc: Global, builder: &mut Builder) -> Result<(), Fail>
+    requires { builder.old.refused ≡ None }
+    ensures { OnOk result (builder.new.refused ≡ None) }
+{
+    add_input(alloc, builder, "e")?;
+    add_input(alloc, builder, "f")?;
+    add_input(alloc, builder, "d")?;
+    add_input(alloc, builder, "s")?;
+    add_input(alloc, builder, "clk")
+}
+
+/// A gating cell g of e and the test input s.
+fn add_first(alloc: Global, builder: &mut Builder) -> Result<(), Fail>
+    requires { builder.old.refused ≡ None }
+    ensures { OnOk result (builder.new.refused ≡ None) }
+{
+    let cell = tested_cell(alloc)?;
+    let clock = name(alloc, "clk")?;
+    let enable = name(alloc, "e")?;
+    let test = name(alloc, "s")?;
+    let output = name(alloc, "g")?;
+    builder.gater(
+        &cell,
+        clock.bytes(),
+        enable.bytes(),
+        Some(test.bytes()),
+        output.bytes(),
+    )?;
+    Ok(())
+}
+
+/// Behind g a gating cell h of f.
+fn add_second(alloc: Global, builder: &mut Builder) -> Result<(), Fail>
+    requires { builder.old.refused ≡ None }
+    ensures { OnOk result (builder.new.refused ≡ None) }
+{
+    let cell = gating_cell(alloc)?;
+    let clock = name(alloc, "g")?;
+    let enable = name(alloc, "f")?;
+    let output = name(alloc, "h")?;
+    builder.gater(&cell, clock.bytes(), enable.bytes(), None, output.bytes())?;
+    Ok(())
+}
+
+/// A register q of d on h.
+fn add_register(alloc: Global, builder: &mut Builder) -> Result<(), Fail>
+    requires { builder.old.refused ≡ None }
+    ensures { OnOk result (builder.new.refused ≡ None) }
+{
+    let input = name(alloc, "d")?;
+    let output = name(alloc, "q")?;
+    let clock = name(alloc, "h")?;
     builder.register(
         None,
-        &[b"d".as_slice()],
-        &[(b"q".as_slice(), 0)],
-        Some(b"h".as_slice()),
+        &[input.bytes()],
+        &[(output.bytes(), 0)],
+        Some(clock.bytes()),
         0,
     )?;
-    Ok(builder.finish()?)
+    Ok(())
+}
+
+/// A chain of two gating cells, and a register behind it.
+fn chain(alloc: Global) -> Result<Netlist, Fail> {
+    let model = name(alloc, "chain")?;
+    let mut builder = Builder::new(alloc, model.bytes())?;
+    add_inputs(alloc, &mut builder)?;
+    add_first(alloc, &mut builder)?;
+    add_second(alloc, &mut builder)?;
+    add_register(alloc, &mut builder)?;
+    match builder.finish() {
+        Ok(netlist) => Ok(netlist),
+        Err(_) => Err(Fail::new("no netlist")),
+    }
 }
 
 /// The bits of the nets behind the inputs and the clock: g, h and q.
@@ -93,7 +166,7 @@ fn row(simulator: &mut Simulator<'_>, inputs: [bool; 4]) -> (Shown, Shown, usize
 fn a_chain_of_gating_cells_passes_the_edges_it_is_asked_for(rt: HostRuntime) -> Result<(), Fail> {
     const NO: bool = false;
     const YES: bool = true;
-    let netlist = netlist(rt.alloc())?;
+    let netlist = chain(rt.alloc())?;
     assert!(rt; netlist.data_inputs().len() == 4);
     assert!(rt; netlist.nets() == 8);
     assert!(rt; netlist.registers() == 1);

@@ -1,0 +1,6 @@
+pub mod Naming
+pub mod Lacking
+pub mod Measuring
+pub mod Deciding
+pub mod Adding
+pub mod Judging

@@ -1,0 +1,5 @@
+pub mod Naming
+pub mod Measuring
+pub mod Deciding
+pub mod Inserting
+pub mod Judging

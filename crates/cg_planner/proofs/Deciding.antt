@@ -91,7 +91,7 @@ all_more m number claims c before middle after all one = record {
     more = all.appended.more ++ one.certificate ∷ [];
     whole = one.whole ∙ (ap (λ l. l ++ one.certificate ∷ []) all.appended.whole ∙ append_assoc before all.appended.more (one.certificate ∷ []));
     certified = subst (λ l. AreCertified l (all.appended.more ++ one.certificate ∷ [])) (sym (numbered_more claims))
-    (certified_more (numbered m number claims) all.appended.more (record { machine = m; number = number; claim = c }) one.certificate all.appended.certified one.certifies);
+        (certified_more (numbered m number claims) all.appended.more (record { machine = m; number = number; claim = c }) one.certificate all.appended.certified one.certifies);
   };
   writable = λ are. subst AreWritable (sym one.whole) (All-append (λ (d : Certificate). IsWritable d) middle (one.certificate ∷ []) (all.writable are) (All-cons (λ (d : Certificate). IsWritable d) one.certificate [] one.writable (All-nil (λ (d : Certificate). IsWritable d))));
 }

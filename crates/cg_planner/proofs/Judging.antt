@@ -1,6 +1,7 @@
 -- What comes of a stage, by what its parts say.
 use Rattle.std.proofs.Common.{◌≡◌, ℕ, Bool, true, false, if◌then◌else◌, List, [], ◌∷◌, length, nat_lt, slice_get, Option, None, Some, refl, sym, ◌∙◌, ap, subst}
 use Rattle.std.specs.Option.{option_map}
+use Rattle.std.proofs.lemmas.List.{append-nil}
 use Rattle.cg_cell.specs.Cell.{CellData}
 use Rattle.cg_cell.specs.declared.fit.FitKind.{FitKind}
 use Rattle.cg_claim.specs.LeafBits.{is_never}
@@ -15,7 +16,7 @@ use Rattle.cg_netlist.specs.declared.fault.AddFault.TheVariants.{Limit as LimitF
 use Rattle.cg_plan.specs.Laws.{InsertedIsSafe}
 use Rattle.cg_plan.specs.Plan.{after_outcome, is_inserted}
 use Rattle.cg_plan.specs.StageClaims.{NamedClaim, all_claims, claims_of}
-use Rattle.cg_plan.specs.Told.{AreAppended, IsBacked, IsRefuted, MayFail, Tells, claims_for, without_bits}
+use Rattle.cg_plan.specs.Told.{AreAppended, IsBacked, IsRefuted, MayFail, Tells, certified_claims, claims_for, without_bits}
 use Rattle.cg_plan.specs.Trying.{Ends, Passes, Tried, decided, first_false, measured, tried, unless_false, unless_missing, unless_passed}
 use Rattle.cg_plan.specs.declared.certificate.Certificate.{Certificate}
 use Rattle.cg_plan.specs.declared.outcome.Outcome.{Outcome}
@@ -24,7 +25,7 @@ use Rattle.cg_plan.specs.declared.settings.Settings.{Settings}
 use Rattle.cg_stage.specs.Effects.{effect, limit_by}
 use Rattle.cg_stage.specs.Needs.{missing, needs}
 use Rattle.cg_stage.specs.Stages.{Fits}
-use Rattle.cg_planner.specs.Planning.{StayWritable}
+use Rattle.cg_planner.specs.Planning.{AreWritable, StayWritable}
 use Rattle.cg_planner.specs.Trial.{WhereInserted}
 use Rattle.cg_planner.specs.inner.Deciding.{AllCertified, AreDecided, IsViolated}
 use Rattle.cg_planner.specs.inner.Inserting.{MayPass}
@@ -116,3 +117,18 @@ module _ (m : MachineData) (s : Stage) where
   where_inserted safe library settings good fits NeverIdle n tells is = tt
   where_inserted safe library settings good fits (Small count) n tells is = tt
   where_inserted safe library settings good fits (NoCell kind) n tells is = tt
+
+  pub not_inserted : (outcome : Outcome) → (outcome ≡ Inserted → ⊥) → is_inserted outcome ≡ false
+  not_inserted Inserted apart = absurd (apart refl)
+  not_inserted (Refuted claim bits) apart = refl
+  not_inserted (Wide claim count) apart = refl
+  not_inserted NeverIdle apart = refl
+  not_inserted (Small count) apart = refl
+  not_inserted (NoCell kind) apart = refl
+
+  pub appended_none : (number : ℕ) (before after : List Certificate) (outcome : Outcome) → is_inserted outcome ≡ false → after ≡ before → AreAppended (claims_for number m s outcome) before after
+  appended_none number before after outcome ends is =
+      subst (λ (b : Bool). AreAppended (if b then certified_claims number m s else []) before after) (sym ends) (record { more = []; whole = is ∙ sym (append-nil before); certified = refl })
+
+pub writable_same : (before after : List Certificate) → after ≡ before → StayWritable before after
+writable_same before after is = λ are. subst AreWritable (sym is) are

@@ -17,7 +17,15 @@ use Rattle.cg_claim.specs.declared.leaf.Leaf.{Leaf}
 use Rattle.cg_claim.specs.declared.leaf.LeafBit.{LeafBit}
 use Rattle.cg_claim.specs.declared.name.ClaimName.{ClaimName}
 use Rattle.cg_cnf.specs.Clauses.{IsOneAt, formula_of}
-use Rattle.cg_decide.specs.Decision.{IsNeverOne}
+use Rattle.cg_decide.specs.Decision.{IsNeverOne, IsProved, IsWritable as CanBeWritten}
+use Rattle.cg_cell.specs.Domain.{Seen}
+use Rattle.cg_decide.specs.declared.decision.Decision.{Decision}
+use Rattle.cg_decide.specs.declared.decision.Decision.TheVariants.{Never}
+use Rattle.cg_formula.specs.Bounds.{IsFormula}
+use Rattle.cg_formula.specs.declared.formula.Formula.{Formula}
+use Rattle.cg_lrat.specs.Bounds.{IsLog}
+use Rattle.cg_lrat.specs.declared.log.Log.{Log}
+use Rattle.cg_sat.specs.Answer.{AreNumbered}
 use Rattle.cg_hold.proofs.Decided.{decided_never, decided_sometimes}
 use Rattle.cg_hold.proofs.ListNumber.{claim_number}
 use Rattle.cg_lrat.specs.AcceptedLog.{IsAccepted}
@@ -30,12 +38,9 @@ use Rattle.cg_plan.specs.declared.certificate.Certificate.{Certificate}
 use Rattle.cg_planner.specs.Planning.{AreWritable, IsWritable, StayWritable}
 use Rattle.cg_planner.specs.inner.Deciding.{AllCertified, AreDecided, Grow, IsCertified, IsDecided, IsViolated, numbered}
 use Rattle.cg_planner.specs.inner.Naming.{claims_named, named}
+use Rattle.cg_planner.proofs.Naming.{length_map}
 use Rattle.cg_unroll.specs.Claims.{IsClaim}
 use Rattle.cg_unroll.specs.declared.claim.Claim.{Claim}
-
-length_map : {A B : Type 0} (f : A → B) (xs : List A) → length (map f xs) ≡ length xs
-length_map f [] = refl
-length_map f (x ∷ xs) = ap suc (length_map f xs)
 
 module _ (goals : GoalViolates) (law : NeverIsTried) (m : MachineData) (q : Question) (width : ℕ) (claim : Claim) (good : IsMachine m) (fits : SidesFit m q.sides) (is : IsClaim m q width claim) where
   -- bits at which the goal is 1
@@ -71,6 +76,15 @@ module _ (goals : GoalViolates) (law : NeverIsTried) (m : MachineData) (q : Ques
       writable = writable;
     },
   )
+
+-- a decision, as it is told
+pub told_proved : (s t : Seen) (g h : ℕ) (d : Decision) (f : Formula) (log : Log) → s ≡ t → g ≡ h → IsProved s g d → d ≡ Never f log → (f ≡ formula_of t h) × IsAccepted f log
+told_proved s t g h d f log same goals proved is =
+    let p : (f ≡ formula_of s g) × IsAccepted f log = subst (IsProved s g) is proved in
+    (p.0 ∙ (ap (λ z. formula_of z g) same ∙ ap (formula_of t) goals), p.1)
+
+pub told_writable : (d : Decision) (f : Formula) (log : Log) → CanBeWritten d → d ≡ Never f log → IsFormula f × IsLog log
+told_writable d f log can is = let p : IsFormula f × IsLog log × AreNumbered log.steps = subst CanBeWritten is can in (p.0, p.1)
 
 -- one more certificate
 certified_more : (claims : List StageClaim) (more : List Certificate) (c : StageClaim) (certificate : Certificate) → AreCertified claims more → Certifies c certificate → AreCertified (claims ++ c ∷ []) (more ++ certificate ∷ [])
@@ -128,30 +142,7 @@ false_on m c claims never = ap (λ b. if b then first_false m claims else Some c
 pub false_here : (m : MachineData) (c : NamedClaim) (claims : List NamedClaim) → is_never m c.1 ≡ false → first_false m (c ∷ claims) ≡ Some c.0
 false_here m c claims some = ap (λ b. if b then first_false m claims else Some c.0) some
 
--- names from a place on, and up to the next
-pub names_at : (names : List ClaimName) (i : ℕ) (name : ClaimName) → slice_get names i ≡ Some name → drop i names ≡ name ∷ drop (i + 1) names
-names_at names i name at = let e : i + 1 ≡ suc i = omega arith in go names i at ∙ ap (λ n. name ∷ drop n names) (sym e)
-  where
-    go : (xs : List ClaimName) (k : ℕ) → slice_get xs k ≡ Some name → drop k xs ≡ name ∷ drop (suc k) xs
-    go [] k is = absurd (cc)
-    go (x ∷ xs) zero is = ap (λ y. y ∷ xs) (let e : x ≡ name = cc in e)
-    go (x ∷ xs) (suc k) is = go xs k is
-
-pub names_to : (names : List ClaimName) (i : ℕ) (name : ClaimName) → slice_get names i ≡ Some name → take (i + 1) names ≡ take i names ++ name ∷ []
-names_to names i name at = let e : i + 1 ≡ suc i = omega arith in ap (λ n. take n names) e ∙ go names i at
-  where
-    go : (xs : List ClaimName) (k : ℕ) → slice_get xs k ≡ Some name → take (suc k) xs ≡ take k xs ++ name ∷ []
-    go [] k is = absurd (cc)
-    go (x ∷ xs) zero is = ap (λ y. y ∷ []) (let e : x ≡ name = cc in e)
-    go (x ∷ xs) (suc k) is = ap (λ l. x ∷ l) (go xs k is)
-
 module _ (m : MachineData) (s : Stage) where
-  pub claims_at : (names : List ClaimName) (i : ℕ) (name : ClaimName) → slice_get names i ≡ Some name → claims_named m s (drop i names) ≡ named m s name ∷ claims_named m s (drop (i + 1) names)
-  claims_at names i name at = ap (claims_named m s) (names_at names i name at)
-
-  pub claims_to : (names : List ClaimName) (i : ℕ) (name : ClaimName) → slice_get names i ≡ Some name → claims_named m s (take (i + 1) names) ≡ claims_named m s (take i names) ++ named m s name ∷ []
-  claims_to names i name at = ap (claims_named m s) (names_to names i name at) ∙ map-append (named m s) (take i names) (name ∷ [])
-
   pub violated_at : (names : List ClaimName) (i : ℕ) (name : ClaimName) (bits : List LeafBit) → slice_get names i ≡ Some name → DoViolate m (named m s name).1 bits → IsViolated m (claims_named m s names) name bits
   violated_at names i name bits at violate = record {
     place = i;

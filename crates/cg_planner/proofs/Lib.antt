@@ -1,5 +1,4 @@
 pub mod Naming
-pub mod Lacking
 pub mod Measuring
 pub mod Deciding
 pub mod Adding

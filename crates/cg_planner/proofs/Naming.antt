@@ -1,13 +1,15 @@
 -- The names of a stage's claims name them, and what they name is there.
-use Rattle.std.proofs.Common.{◌≡◌, ℕ, suc, ◌+◌, ◌<◌, true, List, [], ◌∷◌, ◌++◌, map, length, slice_get, Some, refl, sym, ◌∙◌, ap, subst, arith}
+use Rattle.std.proofs.Common.{◌≡◌, ℕ, zero, suc, ◌+◌, ◌<◌, true, List, [], ◌∷◌, ◌++◌, map, length, slice_get, take, drop, nat_eq, Some, Result, Ok, Err, IfOk, refl, sym, ◌∙◌, ap, subst, arith, ◌⊎◌, inl, inr}
 use Rattle.std.specs.List.{All, filter, range_with_len}
+use Rattle.std.proofs.lemmas.List.{map-append}
 use Rattle.std.proofs.lemmas.List.Elements.{All-append, All-cons, All-filter, All-from_get_or, All-head, All-map, All-nil, All-tail}
 use Rattle.std.proofs.lemmas.List.FromFn.{get_or-range_with_len, length-range_with_len}
+use Rattle.std.proofs.lemmas.Bool.{eq-eqb, or_left}
 use Rattle.std.proofs.lemmas.Option.{get_or_from_slice_get, slice_get_within}
 use Rattle.cg_netlist.specs.Circuit.{is_in}
 use Rattle.cg_netlist.proofs.Members.{All-from_members}
 use Rattle.cg_machine.specs.Claims.{Joined, Literal, Next, Shown, Target}
-use Rattle.cg_machine.specs.Machine.{IsMachine, MachineData}
+use Rattle.cg_machine.specs.Machine.{IsMachine, IsNet, MachineData}
 use Rattle.cg_machine.specs.declared.stage.Stage.{Stage}
 use Rattle.cg_machine.specs.declared.stage.StageKind.{StageKind}
 use Rattle.cg_machine.specs.declared.stage.StageKind.TheVariants.{Hold, Stable, Unseen}
@@ -19,7 +21,8 @@ use Rattle.cg_claim.specs.declared.name.ClaimName.{ClaimName}
 use Rattle.cg_claim.specs.declared.name.ClaimName.TheVariants.{Enable, Hold as HoldName, Idle, Next as NextName, Output, Stable as StableName}
 use Rattle.cg_plan.specs.StageClaims.{NamedClaim, claims_by, claims_of, target_claim}
 use Rattle.cg_stage.specs.Stages.{Fits, enable_nets, first_literal}
-use Rattle.cg_planner.specs.inner.Naming.{AreNames, NameFits, claims_named, question_of}
+use Rattle.cg_unroll.specs.Claims.{target_of}
+use Rattle.cg_planner.specs.inner.Naming.{AreNames, NameFits, claims_named, named, question_of}
 
 -- the numbers of n registers
 all_below : (n : ℕ) → All (λ r. r < n) (range_with_len 0 n)
@@ -89,6 +92,13 @@ module _ (m : MachineData) (s : Stage) where
             All-cons (λ (k : Literal). k.0 < length m.circuit.names) l E (All-head (λ y. y < length m.circuit.names) l.0 (map (λ (k : Literal). k.0) E) all)
             (literal_there E (All-tail (λ y. y < length m.circuit.names) l.0 (map (λ (k : Literal). k.0) E) all))
 
+    pub first_there : IsNet m (first_literal s.enable).0
+    first_there = go s.enable fits.enabled fits.nets
+      where
+        go : (E : List Literal) → 0 < length E → ((y : ℕ) → is_in (map (λ (k : Literal). k.0) E) y ≡ true → IsNet m y) → IsNet m (first_literal E).0
+        go [] some nets = absurd (omega arith)
+        go (k ∷ E) some nets = nets k.0 (or_left (nat_eq k.0 k.0) (is_in (map (λ (j : Literal). j.0) E) k.0) (eq-eqb k.0 k.0 refl))
+
     pub hold_names : (names : List ClaimName) → s.kind ≡ Hold → names ≡ map HoldName s.regs → AreNames m s names
     hold_names names kind is = record {
       whole = ap (claims_named m s) is ∙ (hold_named s.regs ∙ ap (λ k. claims_by k m s) (sym kind));
@@ -115,3 +125,51 @@ sides_fit m s (StableName r) fits = (fits, fits)
 sides_fit m s (Output k) fits = (tt, tt)
 sides_fit m s (NextName r) fits = (fits, fits)
 sides_fit m s Enable fits = (tt, tt)
+
+-- the question of a target
+pub target_question : (m : MachineData) (s : Stage) (name : ClaimName) → ((k : ℕ) × (name ≡ Output k)) ⊎ (((r : ℕ) × (name ≡ NextName r)) ⊎ (name ≡ Enable)) → unseen_question s.enable s.guards s.regs (target_of m name) ≡ question_of m s name
+target_question m s Idle (inl is) = absurd (let e = is.1 in cc)
+target_question m s Idle (inr (inl is)) = absurd (let e = is.1 in cc)
+target_question m s Idle (inr (inr is)) = absurd (cc)
+target_question m s (HoldName r) (inl is) = absurd (let e = is.1 in cc)
+target_question m s (HoldName r) (inr (inl is)) = absurd (let e = is.1 in cc)
+target_question m s (HoldName r) (inr (inr is)) = absurd (cc)
+target_question m s (StableName r) (inl is) = absurd (let e = is.1 in cc)
+target_question m s (StableName r) (inr (inl is)) = absurd (let e = is.1 in cc)
+target_question m s (StableName r) (inr (inr is)) = absurd (cc)
+target_question m s (Output k) is = refl
+target_question m s (NextName r) is = refl
+target_question m s Enable is = refl
+
+-- what holds of an answer
+pub if_ok : {T E : Type 0} (r : Result T E) (P Q : T → Type 0) → ((x : T) → P x → Q x) → IfOk r P → IfOk r Q
+if_ok (Ok x) P Q then_ h = then_ x h
+if_ok (Err e) P Q then_ h = tt
+
+pub length_map : {A B : Type 0} (f : A → B) (xs : List A) → length (map f xs) ≡ length xs
+length_map f [] = refl
+length_map f (x ∷ xs) = ap suc (length_map f xs)
+
+-- names from a place on, and up to the next
+pub names_at : (names : List ClaimName) (i : ℕ) (name : ClaimName) → slice_get names i ≡ Some name → drop i names ≡ name ∷ drop (i + 1) names
+names_at names i name at = let e : i + 1 ≡ suc i = omega arith in go names i at ∙ ap (λ n. name ∷ drop n names) (sym e)
+  where
+    go : (xs : List ClaimName) (k : ℕ) → slice_get xs k ≡ Some name → drop k xs ≡ name ∷ drop (suc k) xs
+    go [] k is = absurd (cc)
+    go (x ∷ xs) zero is = ap (λ y. y ∷ xs) (let e : x ≡ name = cc in e)
+    go (x ∷ xs) (suc k) is = go xs k is
+
+pub names_to : (names : List ClaimName) (i : ℕ) (name : ClaimName) → slice_get names i ≡ Some name → take (i + 1) names ≡ take i names ++ name ∷ []
+names_to names i name at = let e : i + 1 ≡ suc i = omega arith in ap (λ n. take n names) e ∙ go names i at
+  where
+    go : (xs : List ClaimName) (k : ℕ) → slice_get xs k ≡ Some name → take (suc k) xs ≡ take k xs ++ name ∷ []
+    go [] k is = absurd (cc)
+    go (x ∷ xs) zero is = ap (λ y. y ∷ []) (let e : x ≡ name = cc in e)
+    go (x ∷ xs) (suc k) is = ap (λ l. x ∷ l) (go xs k is)
+
+module _ (m : MachineData) (s : Stage) where
+  pub claims_at : (names : List ClaimName) (i : ℕ) (name : ClaimName) → slice_get names i ≡ Some name → claims_named m s (drop i names) ≡ named m s name ∷ claims_named m s (drop (i + 1) names)
+  claims_at names i name at = ap (claims_named m s) (names_at names i name at)
+
+  pub claims_to : (names : List ClaimName) (i : ℕ) (name : ClaimName) → slice_get names i ≡ Some name → claims_named m s (take (i + 1) names) ≡ claims_named m s (take i names) ++ named m s name ∷ []
+  claims_to names i name at = ap (claims_named m s) (names_to names i name at) ∙ map-append (named m s) (take i names) (name ∷ [])

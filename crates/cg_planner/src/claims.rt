@@ -61,17 +61,17 @@ pub(crate) fn build_claim(
     unroller: &mut Unroller,
     machine: &Machine,
     stage: &Stage,
-    name: ClaimName,
+    name: &ClaimName,
     width: u32,
 ) -> Result<(), ClaimFault>
     requires fits { Fits machine.now stage.now }
-    requires name { NameFits machine.now name }
-    ensures claim { OnOk result (IsClaim machine.now (question_of machine.now stage.now name) width unroller.new) }
-    ensures refused { IfErr result (IsRefused machine.now (question_of machine.now stage.now name) width) }
+    requires name { NameFits machine.now name.now }
+    ensures claim { OnOk result (IsClaim machine.now (question_of machine.now stage.now name.now) width unroller.new) }
+    ensures refused { IfErr result (IsRefused machine.now (question_of machine.now stage.now name.now) width) }
 {
     let _netlist = machine.netlist();
     let enables = stage.enable.as_slice();
-    match name {
+    match *name {
         ClaimName::Idle => unroller.idle(machine, enables, width),
         ClaimName::Hold(reg) => unroller.hold(machine, first_literal(enables), reg, width),
         ClaimName::Stable(reg) => unroller.stable(machine, enables, reg, width),
@@ -80,7 +80,7 @@ pub(crate) fn build_claim(
             enables,
             stage.guards.as_slice(),
             stage.regs.as_slice(),
-            name,
+            *name,
             width,
         ),
     }

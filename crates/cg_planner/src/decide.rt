@@ -38,7 +38,7 @@ impl Judge {
     {
         let _netlist = machine.netlist();
         // All claims were measured before: none is too wide or too large.
-        match build_claim(&mut self.unroller, machine, stage, ClaimName::Idle, width) {
+        match build_claim(&mut self.unroller, machine, stage, &ClaimName::Idle, width) {
             Ok(()) => self.is_never(),
             Err(_) => Err(AllocError),
         }
@@ -76,7 +76,7 @@ impl Judge {
         ensures grown { Grow into.old.items into.new.items }
     {
         for name in names {
-            match self.decide(machine, number, stage, *name, width, into) {
+            match self.decide(machine, number, stage, name, width, into) {
                 Ok(None) => {}
                 Ok(Some(bits)) => return Ok(Some((*name, bits))),
                 Err(_) => return Err(AllocError),
@@ -92,13 +92,13 @@ impl Judge {
         machine: &Machine,
         number: u32,
         stage: &Stage,
-        name: ClaimName,
+        name: &ClaimName,
         width: u32,
         into: &mut Vec<Certificate>,
     ) -> Result<Option<Seq<LeafBit>>, AllocError>
         requires fits { Fits machine.now stage.now }
-        requires name { NameFits machine.now name }
-        ensures decided { IfOk result (IsDecided machine.now number (named machine.now stage.now name) into.old.items into.new.items) }
+        requires name { NameFits machine.now name.now }
+        ensures decided { IfOk result (IsDecided machine.now number (named machine.now stage.now name.now) into.old.items into.new.items) }
         ensures grown { Grow into.old.items into.new.items }
     {
         let _netlist = machine.netlist();
@@ -112,11 +112,11 @@ impl Judge {
     fn settle(
         &mut self,
         number: u32,
-        name: ClaimName,
+        name: &ClaimName,
         into: &mut Vec<Certificate>,
     ) -> Result<Option<Seq<LeafBit>>, AllocError>
         requires { IsTrue (aig_ops.is_valid self.old.unroller.aig self.old.unroller.goal) }
-        ensures decided { IfOk result (λ bits. (m : MachineData) (q : Question) (width : ℕ) → IsMachine m → SidesFit m q.sides → IsClaim m q width self.old.unroller → IsDecided m number (name, q) into.old.items into.new.items bits) }
+        ensures decided { IfOk result (λ bits. (m : MachineData) (q : Question) (width : ℕ) → IsMachine m → SidesFit m q.sides → IsClaim m q width self.old.unroller → IsDecided m number (name.now, q) into.old.items into.new.items bits) }
         ensures grown { Grow into.old.items into.new.items }
     {
         claim_laws();
@@ -127,7 +127,7 @@ impl Judge {
             Decision::Never(formula, log) => {
                 into.push(Certificate {
                     stage: number,
-                    claim: name,
+                    claim: *name,
                     formula,
                     log,
                 })?;

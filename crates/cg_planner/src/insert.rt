@@ -104,7 +104,8 @@ fn join_all(machine: &mut Machine, enables: &[NetLit]) -> Result<NetId, AddFault
     ensures fault { IfErr result (MayPass (join_all_limit machine.old (map (λ l. l.0) enables.now))) }
     ensures keeps { Keeps machine.old machine.new }
 {
-    join(machine, enables[0].net, &enables[1..])
+    let first = enables[0];
+    join(machine, first.net, &enables[1..])
 }
 
 /// Adds a net joined with those of more plain literals, from the left.

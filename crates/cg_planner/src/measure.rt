@@ -32,7 +32,7 @@ pub(crate) fn wide_end(
     requires names { AreNames machine.now stage.now names.now }
     ensures { OrNoMemory NoMemory (λ end. end) result (wide_end machine.now width (all_claims machine.now stage.now)) }
 {
-    match measure(unroller, machine, stage, ClaimName::Idle, width) {
+    match measure(unroller, machine, stage, &ClaimName::Idle, width) {
         Ok(None) => measure_each(unroller, machine, stage, names, width),
         Ok(Some(end)) => Ok(Some(end)),
         Err(fault) => Err(fault),
@@ -52,7 +52,7 @@ fn measure_each(
     ensures { OrNoMemory NoMemory (λ end. end) result (wide_end machine.now width (claims_named machine.now stage.now names.now)) }
 {
     for name in names {
-        match measure(unroller, machine, stage, *name, width) {
+        match measure(unroller, machine, stage, name, width) {
             Ok(None) => {}
             Ok(Some(end)) => return Ok(Some(end)),
             Err(fault) => return Err(fault),
@@ -66,16 +66,16 @@ fn measure(
     unroller: &mut Unroller,
     machine: &Machine,
     stage: &Stage,
-    name: ClaimName,
+    name: &ClaimName,
     width: u32,
 ) -> Result<Option<Outcome>, AddFault>
     requires fits { Fits machine.now stage.now }
-    requires name { NameFits machine.now name }
-    ensures { OrNoMemory NoMemory (λ end. end) result (wide_end machine.now width (claims_named machine.now stage.now (name ∷ []))) }
+    requires name { NameFits machine.now name.now }
+    ensures { OrNoMemory NoMemory (λ end. end) result (wide_end machine.now width (claims_named machine.now stage.now (name.now ∷ []))) }
 {
     match build_claim(unroller, machine, stage, name, width) {
         Ok(()) => Ok(None),
-        Err(ClaimFault::Wide(leaves)) => Ok(Some(Outcome::Wide(name, leaves))),
+        Err(ClaimFault::Wide(leaves)) => Ok(Some(Outcome::Wide(*name, leaves))),
         Err(ClaimFault::Limit(limit)) => Err(AddFault::Limit(limit)),
         Err(ClaimFault::NoMemory) => Err(AddFault::NoMemory),
     }

@@ -2,7 +2,7 @@ use Rattle.std.proofs.Common.{◌≡◌, drop, take}
 use Rattle.cg_plan.specs.Trying.{first_false}
 use Rattle.cg_planner.specs.inner.Deciding.{AllCertified}
 use Rattle.cg_planner.specs.inner.Naming.{claims_named}
-use Rattle.cg_planner.proofs.decide.Judge.decide_each.Given as goal
+use Rattle.cg_planner.proofs.judge.Judge.decide_each.Given as goal
 
 abbrev pub invariant-loop-name : goal.invariant-loop-name
 invariant-loop-name l = record {

@@ -1,7 +1,7 @@
 -- Nets that are added to a machine, and the limits that this passes.
-use Rattle.std.proofs.Common.{◌≡◌, ℕ, suc, ◌+◌, ◌<◌, true, List, [], ◌∷◌, map, length, slice_get, drop, nat_eq, zero, Option, None, Some, Result, Ok, Err, IfOk, IfErr, OnErr, refl, sym, ◌∙◌, ap, subst, arith, ◌⊎◌, inl, inr}
+use Rattle.std.proofs.Common.{◌≡◌, ℕ, suc, ◌+◌, ◌<◌, true, List, [], ◌∷◌, map, length, slice_get, drop, take, false, ◌-◌, nat_eq, zero, Option, None, Some, Result, Ok, Err, IfOk, IfErr, OnErr, refl, sym, ◌∙◌, ap, subst, arith, ◌⊎◌, inl, inr}
 use Rattle.std.specs.Option.{option_map, option_or}
-use Rattle.std.proofs.lemmas.Bool.{eq-eqb, or_left}
+use Rattle.std.proofs.lemmas.Bool.{both_ways, eq-eqb, or_left, or_right}
 use Rattle.std.proofs.lemmas.Option.{slice_get-map}
 use Rattle.cg_cell.specs.declared.fit.FitKind.{FitKind}
 use Rattle.cg_cell.specs.declared.fit.FitKind.TheVariants.{And2, Or2}
@@ -108,3 +108,38 @@ net_among E i l at = member_at (nets_of E) i l.0 (slice_get-map (λ (k : Literal
 
 pub gate_fits : (m : MachineData) (kind : FitKind) (a b : ℕ) → HasInputs kind 2 → IsNet m a → IsNet m b → GateFits m kind (a ∷ b ∷ [])
 gate_fits m kind a b count is it = record { count = count; nets = two_nets m a b is it }
+
+-- the nets of literals behind the first
+pub rest_is : (l : Literal) (E : List Literal) → take (length (l ∷ E) - 1) (drop 1 (l ∷ E)) ≡ E
+rest_is l E = go E (length (l ∷ E) - 1) (omega arith)
+  where
+    go : (xs : List Literal) (n : ℕ) → n ≡ length xs → take n xs ≡ xs
+    go [] zero is = refl
+    go [] (suc n) is = absurd (omega (arith, is))
+    go (x ∷ xs) zero is = absurd (omega (arith, is))
+    go (x ∷ xs) (suc n) is = ap (λ ys. x ∷ ys) (go xs n (omega (arith, is)))
+
+pub rest_among : (E : List Literal) (net : ℕ) → is_in (nets_of (take (length E - 1) (drop 1 E))) net ≡ true → is_in (nets_of E) net ≡ true
+rest_among [] net among = absurd (both_ways false refl among)
+rest_among (l ∷ E) net among = or_right (nat_eq net l.0) (is_in (nets_of E) net) (ap (λ F. is_in (nets_of F) net) (sym (rest_is l E)) ∙ among)
+
+-- the limit that is passed behind joined nets, and that of what is added last
+abbrev later : Option ℕ → Added → Option Limit
+later own a = option_or (delay_limit a.machine a.net) (own_limit (delayed a) own)
+
+pub delayed_limit_on : (m : MachineData) (nets : List ℕ) (own : Option ℕ) (n o : MachineData) (joined late : ℕ) → AddsNet (join_all_limit m nets) (join_all m nets) n joined → AddsNet (delay_limit n joined) (add_delay n joined) o late
+    → delayed_limit m nets own ≡ own_limit (with_net o late) own
+delayed_limit_on m nets own n o joined late first second =
+    ap (λ (l : Option Limit). option_or l (later own (join_all m nets))) first.room
+    ∙ (ap (later own) first.is
+    ∙ (ap (λ (l : Option Limit). option_or l (own_limit (add_delay n joined) own)) second.room ∙ ap (λ (a : Added). own_limit a own) second.is))
+
+-- the enable that the registers of a stage have before
+pub own_net : (m : MachineData) (s : Stage) → IsMachine m → Fits m s → (net : ℕ) → s.own ≡ Some net → IsNet m net
+own_net m s good fits net is = go s.regs fits.some fits.own
+  where
+    go : (rs : List ℕ) → 0 < length rs → ((r : ℕ) → is_in rs r ≡ true → enable_of m r ≡ s.own) → IsNet m net
+    go [] some had = absurd (omega arith)
+    go (r ∷ rs) some had =
+        let has : enable_of m r ≡ Some net = had r (or_left (nat_eq r r) (is_in rs r) (eq-eqb r r refl)) ∙ is in
+        good.enabled r net has

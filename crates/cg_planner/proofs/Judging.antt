@@ -1,5 +1,5 @@
 -- What comes of a stage, by what its parts say.
-use Rattle.std.proofs.Common.{◌≡◌, ℕ, Bool, true, false, if◌then◌else◌, List, [], ◌∷◌, length, nat_lt, slice_get, Option, None, Some, refl, sym, ◌∙◌, ap, subst}
+use Rattle.std.proofs.Common.{◌≡◌, ℕ, Bool, true, false, if◌then◌else◌, List, [], ◌∷◌, length, nat_lt, slice_get, Option, None, Some, Ok, refl, sym, ◌∙◌, ap, subst}
 use Rattle.std.specs.Option.{option_map}
 use Rattle.std.proofs.lemmas.List.{append-nil}
 use Rattle.cg_cell.specs.Cell.{CellData}
@@ -30,7 +30,8 @@ use Rattle.cg_planner.specs.Trial.{WhereInserted}
 use Rattle.cg_planner.specs.inner.Deciding.{AllCertified, AreDecided, IsViolated}
 use Rattle.cg_planner.specs.inner.Inserting.{MayPass}
 use Rattle.cg_planner.specs.inner.Judging.{Certifying, IsJudged, Pushes}
-use Rattle.cg_planner.specs.inner.Measuring.{early_end}
+use Rattle.cg_planner.specs.inner.Measuring.{early_end, wide_end}
+use Rattle.cg_planner.proofs.Measuring.{ends_wide, measured_end}
 
 -- an outcome without bits, of a stage that is not inserted
 pub record IsPlain (m : MachineData) (s : Stage) (outcome : Outcome) : Type 0 where
@@ -40,6 +41,12 @@ pub record IsPlain (m : MachineData) (s : Stage) (outcome : Outcome) : Type 0 wh
 
 pub plain_ends : (m : MachineData) (s : Stage) (given : Tried) (outcome : Outcome) → IsPlain m s outcome → given ≡ Ends outcome → IsJudged m s given (Some outcome)
 plain_ends m s given outcome plain is = ((is ∙ ap Ends (sym plain.bits), plain.backed), plain.ends)
+
+-- a stage with a claim that is too wide
+pub wide_ends : (m : MachineData) (s : Stage) (width : ℕ) (end : Outcome) → wide_end m width (all_claims m s) ≡ Ok (Some end) → IsJudged m s (measured m width (all_claims m s) (decided m s)) (Some end)
+wide_ends m s width end is =
+    let w = ends_wide m width (all_claims m s) end is in
+    plain_ends m s (measured m width (all_claims m s) (decided m s)) end (subst (IsPlain m s) (sym w.2) (record { bits = refl; backed = tt; ends = refl })) (measured_end m width (all_claims m s) (decided m s) end is)
 
 module _ (library : List CellData) (settings : Settings) (m : MachineData) (s : Stage) where
   abbrev rest : Tried

@@ -1,14 +1,14 @@
 //! What a stage adds to a machine, and the registers that get it as their enable.
 
-ghost use Rattle.std.specs.Prelude.{◌≡◌, ◌<◌, ◌∷◌, [], ℕ, if◌then◌else◌, true, IsSome, None, length, map, IfErr, IfOk, OnErr, OnOk};
+ghost use Rattle.std.specs.Prelude.{◌≡◌, ◌<◌, ◌∷◌, [], ℕ, Some, true, IsSome, None, length, map, IfErr, IfOk, OnErr, OnOk};
 ghost use Rattle.std.specs.List.{All};
 ghost use Rattle.cg_cell.specs.declared.fit.FitKind.TheVariants.{And2};
 ghost use Rattle.cg_machine.specs.Added.{add_delay, add_gate, delay_limit, gate_limit};
 ghost use Rattle.cg_machine.specs.Extends.{Extends, GateFits};
 ghost use Rattle.cg_machine.specs.Machine.{IsMachine, IsNet};
 ghost use Rattle.cg_netlist.specs.Circuit.{is_in};
-ghost use Rattle.cg_planner.specs.inner.Inserting.{AddsNet, Keeps, MayPass, literal_limit};
-ghost use Rattle.cg_stage.specs.Effects.{effect, limit_by, literal_net, net_by, own_limit, with_own};
+ghost use Rattle.cg_planner.specs.inner.Inserting.{AddsNet, Keeps, MayPass, delayed_limit, literal_limit};
+ghost use Rattle.cg_stage.specs.Effects.{delayed, effect, limit_by, literal_net, net_by, with_own};
 ghost use Rattle.cg_stage.specs.Joined.{enabled, join, join_all, join_all_limit, join_limit};
 ghost use Rattle.cg_stage.specs.Stages.{Fits, enable_nets};
 

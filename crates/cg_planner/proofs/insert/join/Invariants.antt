@@ -7,8 +7,8 @@ use Rattle.cg_planner.proofs.insert.join.Given as goal
 
 abbrev pub invariant-loop-literal : goal.invariant-loop-literal
 invariant-loop-literal l = record {
-  left : join (record { machine = l.machine; net = l.net }) (nets_of (drop l.literal-index l.rest)) ≡ join (record { machine = l.fn.machine; net = l.first }) (nets_of l.rest);
-  limit : join_limit (record { machine = l.machine; net = l.net }) (nets_of (drop l.literal-index l.rest)) ≡ join_limit (record { machine = l.fn.machine; net = l.first }) (nets_of l.rest);
+  left : join (record { machine = l.machine; net = l.net }) (nets_of (drop l.literal-index l.rest)) ≡ join (record { machine = l.fn.machine; net = l.fn.first }) (nets_of l.rest);
+  limit : join_limit (record { machine = l.machine; net = l.net }) (nets_of (drop l.literal-index l.rest)) ≡ join_limit (record { machine = l.fn.machine; net = l.fn.first }) (nets_of l.rest);
   keeps : Keeps l.fn.machine l.machine;
   is_net : IsNet l.machine l.net;
 }

@@ -4,12 +4,12 @@ use Rattle.std.specs.Option.{option_map, option_or}
 use Rattle.std.proofs.lemmas.Bool.{both_ways, eq-eqb, or_left, or_right}
 use Rattle.std.proofs.lemmas.Option.{slice_get-map}
 use Rattle.cg_cell.specs.declared.fit.FitKind.{FitKind}
-use Rattle.cg_cell.specs.declared.fit.FitKind.TheVariants.{And2, Or2}
+use Rattle.cg_cell.specs.declared.fit.FitKind.TheVariants.{Or2}
 use Rattle.cg_limit.specs.Answers.{OrNoMemory}
 use Rattle.cg_limit.specs.declared.Limit.{Limit}
 use Rattle.cg_machine.specs.Added.{Added, add_delay, add_gate, delay_answer, delay_limit, gate_answer, gate_limit, or_limit}
 use Rattle.cg_machine.specs.Claims.{Literal}
-use Rattle.cg_machine.specs.Extends.{Extends, GateFits, HasDelay, HasGate}
+use Rattle.cg_machine.specs.Extends.{GateFits, HasDelay, HasGate}
 use Rattle.cg_machine.specs.Gates.{HasInputs}
 use Rattle.cg_machine.specs.Machine.{IsMachine, IsNet, MachineData, enable_of}
 use Rattle.cg_machine.specs.declared.stage.Stage.{Stage}
@@ -18,10 +18,10 @@ use Rattle.cg_netlist.specs.Circuit.{is_in}
 use Rattle.cg_netlist.specs.declared.fault.AddFault.{AddFault}
 use Rattle.cg_netlist.specs.declared.fault.AddFault.TheVariants.{Limit as LimitFault, NoMemory}
 use Rattle.cg_netlist.proofs.Members.{member_at}
-use Rattle.cg_stage.specs.Effects.{delayed, own_limit, with_own}
+use Rattle.cg_stage.specs.Effects.{delayed, own_limit}
 use Rattle.cg_stage.specs.Joined.{join, join_all, join_all_limit, join_limit}
-use Rattle.cg_stage.specs.Stages.{Fits, enable_nets, first_literal}
-use Rattle.cg_stage.proofs.Joins.{net_kept, two_nets}
+use Rattle.cg_stage.specs.Stages.{Fits}
+use Rattle.cg_stage.proofs.Joins.{two_nets}
 use Rattle.cg_planner.specs.inner.Inserting.{AddsNet, Keeps, MayPass, delayed_limit}
 
 -- what an addition answers
@@ -74,10 +74,6 @@ module _ (m n : MachineData) (x : ℕ) where
 pub passes_first : (a b : Option Limit) (fault : AddFault) → MayPass a fault → MayPass (option_or a b) fault
 passes_first a b NoMemory may = tt
 passes_first a b (LimitFault limit) may = ap (λ o. option_or o b) may
-
-pub passes_second : (a b : Option Limit) (fault : AddFault) → a ≡ None → MayPass b fault → MayPass (option_or a b) fault
-passes_second a b NoMemory none may = tt
-passes_second a b (LimitFault limit) none may = ap (λ o. option_or o b) none ∙ may
 
 pub passes_same : (a b : Option Limit) (fault : AddFault) → a ≡ b → MayPass a fault → MayPass b fault
 passes_same a b NoMemory same may = tt

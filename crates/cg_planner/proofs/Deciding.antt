@@ -1,19 +1,15 @@
 -- What a decision says of a claim, and what decisions of claims one after another say.
-use Rattle.std.proofs.Common.{◌≡◌, ℕ, suc, ◌+◌, ◌<◌, Bool, true, false, if◌then◌else◌, List, [], ◌∷◌, ◌++◌, map, length, slice_get, take, drop, zero, Option, None, Some, refl, sym, ◌∙◌, ap, subst, arith, append_assoc}
-use Rattle.std.specs.List.{All}
+use Rattle.std.proofs.Common.{◌≡◌, ℕ, Bool, true, false, if◌then◌else◌, List, [], ◌∷◌, ◌++◌, map, length, slice_get, take, None, Some, refl, sym, ◌∙◌, ap, subst, append_assoc}
 use Rattle.std.specs.Option.{option_map}
-use Rattle.std.proofs.lemmas.Bool.{both_ways}
-use Rattle.std.proofs.lemmas.List.{append-nil, map-append}
 use Rattle.std.proofs.lemmas.List.Elements.{All-append, All-cons, All-nil}
 use Rattle.std.proofs.lemmas.Option.{slice_get-map}
 use Rattle.cg_aig.specs.Aig.{aig_ops}
 use Rattle.cg_claim.specs.Build.{claim_run}
-use Rattle.cg_claim.specs.Laws.{GoalViolates, NeverIsTried, goal_bit}
+use Rattle.cg_claim.specs.Laws.{GoalViolates, NeverIsTried}
 use Rattle.cg_claim.specs.LeafBits.{is_never, violates_at}
-use Rattle.cg_claim.specs.Leaves.{leaves_of, shown_leaf, width_of}
+use Rattle.cg_claim.specs.Leaves.{leaves_of, shown_leaf}
 use Rattle.cg_claim.specs.Question.{Question}
 use Rattle.cg_claim.specs.Violates.{SidesFit}
-use Rattle.cg_claim.specs.declared.leaf.Leaf.{Leaf}
 use Rattle.cg_claim.specs.declared.leaf.LeafBit.{LeafBit}
 use Rattle.cg_claim.specs.declared.name.ClaimName.{ClaimName}
 use Rattle.cg_cnf.specs.Clauses.{IsOneAt, formula_of}
@@ -32,11 +28,11 @@ use Rattle.cg_lrat.specs.AcceptedLog.{IsAccepted}
 use Rattle.cg_machine.specs.Machine.{IsMachine, MachineData}
 use Rattle.cg_machine.specs.declared.stage.Stage.{Stage}
 use Rattle.cg_plan.specs.StageClaims.{NamedClaim}
-use Rattle.cg_plan.specs.Told.{AreAppended, AreCertified, Certifies, DoViolate, StageClaim}
+use Rattle.cg_plan.specs.Told.{AreCertified, Certifies, DoViolate, StageClaim}
 use Rattle.cg_plan.specs.Trying.{first_false}
 use Rattle.cg_plan.specs.declared.certificate.Certificate.{Certificate}
-use Rattle.cg_planner.specs.Planning.{AreWritable, IsWritable, StayWritable}
-use Rattle.cg_planner.specs.inner.Deciding.{AllCertified, AreDecided, Grow, IsCertified, IsDecided, IsViolated, numbered}
+use Rattle.cg_planner.specs.Planning.{AreWritable, IsWritable}
+use Rattle.cg_planner.specs.inner.Deciding.{AllCertified, Grow, IsCertified, IsDecided, IsViolated, numbered}
 use Rattle.cg_planner.specs.inner.Naming.{claims_named, named}
 use Rattle.cg_planner.proofs.Naming.{length_map}
 use Rattle.cg_unroll.specs.Claims.{IsClaim}
@@ -92,13 +88,6 @@ certified_more [] more c certificate are certifies = subst (λ l. AreCertified (
 certified_more (d ∷ claims) [] c certificate are certifies = absurd are
 certified_more (d ∷ claims) (e ∷ more) c certificate are certifies = (are.0, certified_more claims more c certificate are.1 certifies)
 
--- no certificate yet
-pub none_certified : (m : MachineData) (number : ℕ) (before : List Certificate) → AllCertified m number [] before before
-none_certified m number before = record {
-  appended = record { more = []; whole = sym (append-nil before); certified = refl };
-  writable = λ are. are;
-}
-
 pub all_more : (m : MachineData) (number : ℕ) (claims : List NamedClaim) (c : NamedClaim) (before middle after : List Certificate) → AllCertified m number claims before middle → IsCertified m number c middle after → AllCertified m number (claims ++ c ∷ []) before after
 all_more m number claims c before middle after all one = record {
   appended = record {
@@ -113,19 +102,6 @@ all_more m number claims c before middle after all one = record {
     numbered_more : (ds : List NamedClaim) → numbered m number (ds ++ c ∷ []) ≡ numbered m number ds ++ record { machine = m; number = number; claim = c } ∷ []
     numbered_more [] = refl
     numbered_more (d ∷ ds) = ap (λ (l : List StageClaim). record { machine = m; number = number; claim = d } ∷ l) (numbered_more ds)
-
--- what grows
-pub grow_none : (before after : List Certificate) → after ≡ before → Grow before after
-grow_none before after is = record { more = []; whole = is ∙ sym (append-nil before) }
-
-pub grow_then : (before middle after : List Certificate) → Grow before middle → Grow middle after → Grow before after
-grow_then before middle after g h = record { more = g.more ++ h.more; whole = h.whole ∙ (ap (λ l. l ++ h.more) g.whole ∙ append_assoc before g.more h.more) }
-
-pub grow_all : (m : MachineData) (number : ℕ) (claims : List NamedClaim) (before after : List Certificate) → AllCertified m number claims before after → Grow before after
-grow_all m number claims before after all = record { more = all.appended.more; whole = all.appended.whole }
-
-pub grow_one : (m : MachineData) (number : ℕ) (c : NamedClaim) (before after : List Certificate) → IsCertified m number c before after → Grow before after
-grow_one m number c before after one = record { more = one.certificate ∷ []; whole = one.whole }
 
 -- what stands before is left
 pub taken_back : (before after : List Certificate) → Grow before after → take (length before) after ≡ before

@@ -1,50 +1,22 @@
 -- How a stage ends before its claims are decided, and what the definition of trying says of that.
-use Rattle.std.proofs.Common.{◌≡◌, ℕ, ◌+◌, ◌<◌, ◌≤◌, Bool, true, false, if◌then◌else◌, List, [], ◌∷◌, map, length, nat_lt, drop, Option, None, Some, Result, Ok, Err, refl, sym, ◌∙◌, ap, subst, arith, ◌⊎◌, inl, inr}
-use Rattle.std.proofs.lemmas.Bool.{false_from_ne_true, lt-ltb, ltb-true}
-use Rattle.cg_cell.specs.Cell.{CellData}
-use Rattle.cg_cell.specs.declared.fit.FitKind.{FitKind}
-use Rattle.cg_limit.specs.Answers.{OrNoMemory}
-use Rattle.cg_limit.specs.declared.Limit.{Limit}
+use Rattle.std.proofs.Common.{◌≡◌, ℕ, Bool, true, false, if◌then◌else◌, List, [], ◌∷◌, nat_lt, Option, None, Some, Result, Ok, Err, refl, ◌∙◌, ap, ◌⊎◌, inl, inr}
 use Rattle.cg_limit.specs.declared.Limit.TheVariants.{ClaimNodes}
 use Rattle.cg_netlist.specs.declared.fault.AddFault.{AddFault}
 use Rattle.cg_netlist.specs.declared.fault.AddFault.TheVariants.{Limit as LimitFault, NoMemory}
 use Rattle.cg_machine.specs.Machine.{MachineData}
-use Rattle.cg_machine.specs.declared.stage.Stage.{Stage}
-use Rattle.cg_claim.specs.Build.{nodes_of}
 use Rattle.cg_claim.specs.Leaves.{width_of}
-use Rattle.cg_claim.specs.Question.{Question}
 use Rattle.cg_claim.specs.declared.name.ClaimName.{ClaimName}
 use Rattle.cg_lists.specs.HoldList.{is_large}
-use Rattle.cg_plan.specs.StageClaims.{NamedClaim, all_claims}
-use Rattle.cg_plan.specs.Told.{MayFail, Tells}
-use Rattle.cg_plan.specs.Trying.{Ends, Passes, Tried, decided, measured, tried, unless_missing}
+use Rattle.cg_plan.specs.StageClaims.{NamedClaim}
+use Rattle.cg_plan.specs.Told.{MayFail}
+use Rattle.cg_plan.specs.Trying.{Ends, Passes, Tried, measured}
 use Rattle.cg_plan.specs.declared.outcome.Outcome.{Outcome}
-use Rattle.cg_plan.specs.declared.outcome.Outcome.TheVariants.{NoCell, Small, Wide}
-use Rattle.cg_plan.specs.declared.settings.Settings.{Settings}
-use Rattle.cg_stage.specs.Needs.{missing, needs}
-use Rattle.cg_planner.specs.inner.Measuring.{early_end, wide_end}
-
--- a number that is not above another
-pub at_most : (a b : ℕ) → b ≤ a → nat_lt a b ≡ false
-at_most a b above = false_from_ne_true (nat_lt a b) (λ less. let l = ltb-true a b less in omega (arith, l, above))
+use Rattle.cg_plan.specs.declared.outcome.Outcome.TheVariants.{Wide}
+use Rattle.cg_planner.specs.inner.Measuring.{wide_end}
 
 module _ (m : MachineData) (width : ℕ) where
   abbrev by_tests : NamedClaim → Bool → Bool → Result (Option Outcome) AddFault → Result (Option Outcome) AddFault
   by_tests c wide large rest = if wide then Ok (Some (Wide c.0 (width_of m c.1))) else (if large then Err (LimitFault ClaimNodes) else rest)
-
-  -- one claim, by its measures
-  pub narrow_one : (c : NamedClaim) → width_of m c.1 ≤ width → nodes_of m c.1 ≤ 65536 → wide_end m width (c ∷ []) ≡ Ok None
-  narrow_one c narrow small =
-      ap (λ b. by_tests c b (is_large m c.1) (Ok None)) (at_most width (width_of m c.1) narrow) ∙ ap (λ b. by_tests c false b (Ok None)) (at_most 65536 (nodes_of m c.1) small)
-
-  pub wide_one : (c : NamedClaim) (n : ℕ) → n ≡ width_of m c.1 → width < n → wide_end m width (c ∷ []) ≡ Ok (Some (Wide c.0 n))
-  wide_one c n is wide =
-      ap (λ b. by_tests c b (is_large m c.1) (Ok None)) (lt-ltb width (width_of m c.1) (omega (arith, is, wide))) ∙ ap (λ w. Ok (Some (Wide c.0 w))) (sym is)
-
-  pub large_one : (c : NamedClaim) (limit : Limit) → limit ≡ ClaimNodes → width_of m c.1 ≤ width → 65536 < nodes_of m c.1 → wide_end m width (c ∷ []) ≡ Err (LimitFault limit)
-  large_one c limit is narrow large =
-      ap (λ b. by_tests c b (is_large m c.1) (Ok None)) (at_most width (width_of m c.1) narrow)
-      ∙ (ap (λ b. by_tests c false b (Ok None)) (lt-ltb 65536 (nodes_of m c.1) large) ∙ ap (λ l. Err (LimitFault l)) (sym is))
 
   -- a claim before others
   pub front : (c : NamedClaim) (claims : List NamedClaim) → wide_end m width (c ∷ []) ≡ Ok None → wide_end m width (c ∷ claims) ≡ wide_end m width claims

@@ -1,6 +1,6 @@
 -- The names of a stage's claims name them, and what they name is there.
 use Rattle.std.proofs.Common.{◌≡◌, ℕ, zero, suc, ◌+◌, ◌<◌, true, List, [], ◌∷◌, ◌++◌, map, length, slice_get, take, drop, nat_eq, Some, Result, Ok, Err, IfOk, refl, sym, ◌∙◌, ap, subst, arith, ◌⊎◌, inl, inr}
-use Rattle.std.specs.List.{All, filter, range_with_len}
+use Rattle.std.specs.List.{All, range_with_len}
 use Rattle.std.proofs.lemmas.List.{map-append}
 use Rattle.std.proofs.lemmas.List.Elements.{All-append, All-cons, All-filter, All-from_get_or, All-head, All-map, All-nil, All-tail}
 use Rattle.std.proofs.lemmas.List.FromFn.{get_or-range_with_len, length-range_with_len}
@@ -11,7 +11,6 @@ use Rattle.cg_netlist.proofs.Members.{All-from_members}
 use Rattle.cg_machine.specs.Claims.{Joined, Literal, Next, Shown, Target}
 use Rattle.cg_machine.specs.Machine.{IsMachine, IsNet, MachineData}
 use Rattle.cg_machine.specs.declared.stage.Stage.{Stage}
-use Rattle.cg_machine.specs.declared.stage.StageKind.{StageKind}
 use Rattle.cg_machine.specs.declared.stage.StageKind.TheVariants.{Hold, Stable, Unseen}
 use Rattle.cg_claim.specs.Question.{Question, hold_question, stable_question, unseen_question}
 use Rattle.cg_claim.specs.Reach.{registers_of}
@@ -19,7 +18,7 @@ use Rattle.cg_claim.specs.Targets.{all_targets, meets, output_targets, unseen_ta
 use Rattle.cg_claim.specs.Violates.{SidesFit}
 use Rattle.cg_claim.specs.declared.name.ClaimName.{ClaimName}
 use Rattle.cg_claim.specs.declared.name.ClaimName.TheVariants.{Enable, Hold as HoldName, Idle, Next as NextName, Output, Stable as StableName}
-use Rattle.cg_plan.specs.StageClaims.{NamedClaim, claims_by, claims_of, target_claim}
+use Rattle.cg_plan.specs.StageClaims.{NamedClaim, claims_by, target_claim}
 use Rattle.cg_stage.specs.Stages.{Fits, enable_nets, first_literal}
 use Rattle.cg_unroll.specs.Claims.{target_of}
 use Rattle.cg_planner.specs.inner.Naming.{AreNames, NameFits, claims_named, named, question_of}
@@ -74,9 +73,6 @@ module _ (m : MachineData) (s : Stage) where
   module _ (good : IsMachine m) (fits : Fits m s) where
     pub registers_there : All (λ r. r < length m.circuit.registers) s.regs
     registers_there = All-from_members (λ r. r < length m.circuit.registers) s.regs (λ r among. let b = fits.registers r among in omega (arith, b, good.own_registers))
-
-    pub own_there : All (λ r. r < m.own_registers) s.regs
-    own_there = All-from_members (λ r. r < m.own_registers) s.regs fits.registers
 
     pub guards_there : All (λ r. r < length m.circuit.registers) s.guards
     guards_there = All-from_members (λ r. r < length m.circuit.registers) s.guards fits.guards

@@ -4,7 +4,7 @@ ghost use Rattle.std.specs.Prelude.{◌≡◌, IfOk, IfErr, OnErr, OnOk};
 ghost use Rattle.cg_machine.specs.Extends.{Extends};
 ghost use Rattle.cg_machine.specs.Machine.{IsMachine};
 ghost use Rattle.cg_netlist.specs.declared.fault.AddFault.TheVariants.{NoMemory};
-ghost use Rattle.cg_plan.specs.Plan.{after_outcome};
+ghost use Rattle.cg_plan.specs.Plan.{after_outcome, is_inserted};
 ghost use Rattle.cg_plan.specs.StageClaims.{all_claims};
 ghost use Rattle.cg_plan.specs.Told.{AreAppended, MayFail, Tells, claims_for};
 ghost use Rattle.cg_plan.specs.Trying.{decided, measured, tried};
@@ -77,8 +77,10 @@ impl Judge {
         let result = self.try_pushing(machine, number, stage, library, settings, into);
         let _after = machine.netlist();
         match result {
-            Ok(Outcome::Inserted) => Ok(Outcome::Inserted),
             Ok(outcome) => {
+                if is_inserted(&outcome) {
+                    return Ok(outcome);
+                }
                 into.truncate(count);
                 Ok(outcome)
             }
@@ -194,4 +196,11 @@ impl Judge {
             Err(_) => Err(AddFault::NoMemory),
         }
     }
+}
+
+/// Whether the stage gets its enable.
+fn is_inserted(outcome: &Outcome) -> bool
+    ensures { result ≡ is_inserted outcome.now }
+{
+    matches!(outcome, Outcome::Inserted)
 }

@@ -1,7 +1,6 @@
 -- What is decided of claims, and the certificates that come of it.
 use Rattle.std.specs.Prelude.{◌≡◌, ℕ, true, false, List, [], ◌∷◌, ◌++◌, map, slice_get, Option, Some, None}
 use Rattle.cg_machine.specs.Machine.{MachineData}
-use Rattle.cg_machine.specs.declared.stage.Stage.{Stage}
 use Rattle.cg_claim.specs.LeafBits.{is_never}
 use Rattle.cg_claim.specs.Question.{Question}
 use Rattle.cg_claim.specs.declared.leaf.LeafBit.{LeafBit}

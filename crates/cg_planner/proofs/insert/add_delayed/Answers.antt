@@ -1,4 +1,4 @@
-use Rattle.std.proofs.Common.{◌≡◌, Option, IfErr, sym, ◌∙◌, ap, subst}
+use Rattle.std.proofs.Common.{Option, IfErr, sym, ◌∙◌, ap, subst}
 use Rattle.cg_limit.specs.declared.Limit.{Limit}
 use Rattle.cg_stage.specs.Effects.{own_limit}
 use Rattle.cg_planner.specs.inner.Inserting.{MayPass}

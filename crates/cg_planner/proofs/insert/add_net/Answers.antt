@@ -1,4 +1,4 @@
-use Rattle.std.proofs.Common.{◌≡◌, List, IfErr, IfOk, is_some, sym, ◌∙◌, ap, subst}
+use Rattle.std.proofs.Common.{List, IfErr, IfOk, is_some, sym, ◌∙◌, ap, subst}
 use Rattle.cg_machine.specs.Claims.{Literal}
 use Rattle.cg_machine.specs.Machine.{IsNet}
 use Rattle.cg_machine.specs.declared.stage.StageKind.{StageKind}

@@ -1,4 +1,4 @@
-use Rattle.std.proofs.Common.{◌≡◌, ◌<◌, sym, subst, arith}
+use Rattle.std.proofs.Common.{◌<◌, sym, subst, arith}
 use Rattle.std.specs.List.{All}
 use Rattle.cg_netlist.proofs.Members.{All-from_members}
 use Rattle.cg_planner.proofs.insert.insert.Goals as goal

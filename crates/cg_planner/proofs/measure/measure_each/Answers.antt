@@ -1,4 +1,4 @@
-use Rattle.std.proofs.Common.{◌≡◌, ◌+◌, List, [], ◌∷◌, Option, Some, None, Result, Ok, Err, slice_get, drop, refl, sym, ◌∙◌, ap, subst, ◌⊎◌}
+use Rattle.std.proofs.Common.{◌≡◌, ◌+◌, [], ◌∷◌, Option, Some, None, Result, Ok, Err, slice_get, drop, refl, sym, ◌∙◌, ap, subst, ◌⊎◌}
 use Rattle.std.proofs.lemmas.Option.{slice_get_read}
 use Rattle.cg_netlist.specs.declared.fault.AddFault.{AddFault}
 use Rattle.cg_netlist.specs.declared.fault.AddFault.TheVariants.{NoMemory}
@@ -18,7 +18,7 @@ returns-in-Ok-Some c =
     let i = c.loop-name.name-index in
     let name = c.name-item.result in
     let at : slice_get names i ≡ Some name = slice_get_read names _ i name refl c.loop-name-test.true c.name-item.is in
-    let one : wide_end m w (named m s name ∷ []) ≡ Ok (Some c.in-Ok-Some.end) = cc (c.in-Ok-Some.ensures, c.in-Ok-Some.field-0-is, c.in-Ok-Some.end-is) in
+    let one : wide_end m w (named m s name ∷ []) ≡ Ok (Some c.in-Ok-Some.end) = cc (c.in-Ok-Some.ensures, c.in-Ok-Some.field-0-is) in
     sym c.loop-name.invariant ∙ (ap (wide_end m w) (claims_at m s names i name at) ∙ front_end m w (named m s name) (claims_named m s (drop (i + 1) names)) c.in-Ok-Some.end one)
 
 pub returns-in-Err : goal.returns-in-Err

@@ -1,8 +1,6 @@
-use Rattle.std.proofs.Common.{◌≡◌, Option, Some, None, Result, Ok, IfOk, refl, sym, ◌∙◌, ap, subst}
-use Rattle.cg_netlist.specs.declared.fault.AddFault.{AddFault}
+use Rattle.std.proofs.Common.{◌≡◌, Some, None, Ok, IfOk, sym, subst}
 use Rattle.cg_plan.specs.StageClaims.{all_claims}
-use Rattle.cg_plan.specs.Trying.{Tried, decided, measured}
-use Rattle.cg_plan.specs.declared.outcome.Outcome.{Outcome}
+use Rattle.cg_plan.specs.Trying.{Tried, decided}
 use Rattle.cg_planner.specs.inner.Judging.{IsJudged}
 use Rattle.cg_planner.specs.inner.Measuring.{wide_end}
 use Rattle.cg_planner.proofs.Judging.{wide_ends}

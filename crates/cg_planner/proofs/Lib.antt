@@ -2,3 +2,8 @@ pub mod Drafts
 pub mod Growing
 pub mod Planned
 pub mod Rounds
+pub mod Naming
+pub mod Measuring
+pub mod Deciding
+pub mod Adding
+pub mod Judging

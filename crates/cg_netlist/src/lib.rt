@@ -60,8 +60,6 @@ pub mod parts;
 mod ranks;
 pub mod reach;
 mod renumber;
-#[cfg(test)]
-mod tests;
 mod told;
 pub mod view;
 pub mod walk;

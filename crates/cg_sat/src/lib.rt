@@ -28,8 +28,6 @@ mod order;
 mod propagate;
 mod scan;
 mod search;
-#[cfg(test)]
-mod tests;
 mod trail;
 mod undo;
 mod units;

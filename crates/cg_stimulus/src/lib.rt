@@ -17,5 +17,3 @@ pub mod played;
 pub mod read;
 mod row;
 pub mod stimulus;
-#[cfg(test)]
-mod tests;

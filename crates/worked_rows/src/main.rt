@@ -3,14 +3,14 @@
 //!
 //! - A line that is empty or begins with `#` is said as it stands.
 //! - `show NAME` says what the file NAME holds.
-//! - `latches N NAME` makes a netlist of N registers that all take one input.
+//! - `latches N NAME` makes a netlist of N registers that all take one input, `nets N NAME` one of N nets.
 //! - `solve CNF LOG` solves the formula in the file CNF, says whether bits satisfy it, and else makes a file of the log.
 //! - `proof PROOF CNF LOG` makes files of the first formula of a proof file and of its log.
 //! - `fail N WORD..` is a command line of which the calls of these numbers (from 0, with commas between them) fail.
 //! - Any other line is a command line. A file of the folder that it names is brought into memory first, unless it is there.
 #![tactic(auto)]
 
-mod latches;
+mod long;
 mod player;
 mod solver;
 

@@ -1,7 +1,7 @@
 //! Who plays a script.
 
 use crate::MOST_BYTES;
-use crate::latches::latches;
+use crate::long::{latches, nets};
 use crate::solver::{Answer, solved};
 use cg_report::edge_count::EdgeCount;
 use cg_report::toggle_count::ToggleCount;
@@ -9,7 +9,7 @@ use cg_report::watcher::Watcher;
 use cg_shelf::{Call, CallMade, MemShelf, Shelf};
 use cg_text::number::push_number;
 use cg_tool::{Status, run};
-use std::alloc::Global;
+use std::alloc::{AllocError, Global};
 
 /// The files in memory.
 #[derive(Drop)]
@@ -34,7 +34,8 @@ impl Player {
         match words.as_slice() {
             [] | ["#", ..] => say(folder, line.as_bytes(), b"\n"),
             ["show", name] => self.show(folder, name),
-            ["latches", count, name] => self.make(count, name),
+            ["latches", count, name] => self.make(name, latches(self.alloc, number(count)?)),
+            ["nets", count, name] => self.make(name, nets(self.alloc, number(count)?)),
             ["solve", formula, log] => self.solve(folder, formula, log),
             ["proof", proof, formula, log] => self.split(proof, formula, log),
             ["fail", numbers, words @ ..] => self.failing(folder, numbers, line, words),
@@ -52,10 +53,9 @@ impl Player {
         )
     }
 
-    /// Makes a netlist of registers.
-    fn make(&mut self, count: &str, name: &str) -> Result<(), ()> {
-        let count = count.parse::<u32>().map_err(|_| ())?;
-        let text = latches(self.alloc, count).map_err(|_| ())?;
+    /// Makes a file of a text.
+    fn make(&mut self, name: &str, text: Result<Vec<u8>, AllocError>) -> Result<(), ()> {
+        let text = text.map_err(|_| ())?;
         self.files.put(name, text.as_slice()).map_err(|_| ())
     }
 
@@ -167,7 +167,9 @@ impl Player {
         let mut watchers = Vec::new(self.alloc);
         let edges: Box<dyn Watcher> = Box::new(self.alloc, EdgeCount::new()).map_err(|_| ())?;
         watchers.push(edges).map_err(|_| ())?;
-        let toggles: Box<dyn Watcher> = Box::new(self.alloc, ToggleCount::new(self.alloc)).map_err(|_| ())?;
+        let toggles: Box<dyn Watcher> = Box::new(self.alloc, ToggleCount::new(self.alloc)).map_err(
+            |_| (),
+        )?;
         watchers.push(toggles).map_err(|_| ())?;
         Ok(run(self.alloc, all.as_slice(), &mut self.files, watchers))
     }
@@ -182,6 +184,11 @@ impl Player {
         say(folder, b"status ", text.as_slice())?;
         say(folder, b"\n", b"")
     }
+}
+
+/// The number that a word is.
+fn number(word: &str) -> Result<u32, ()> {
+    word.parse::<u32>().map_err(|_| ())
 }
 
 /// Says two texts.

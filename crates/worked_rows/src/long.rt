@@ -1,4 +1,4 @@
-//! A netlist that is too long to be stored.
+//! Netlists that are too long to be stored.
 
 use cg_text::number::push_number;
 use std::alloc::{AllocError, Global};
@@ -10,6 +10,18 @@ pub fn latches(alloc: Global, count: u32) -> Result<Vec<u8>, AllocError> {
         text.extend_from_slice(b".latch a q")?;
         push_number(&mut text, u64::from(number))?;
         text.extend_from_slice(b" re clk 0\n")?;
+    }
+    text.extend_from_slice(b".end\n")?;
+    Ok(text)
+}
+
+/// A netlist of this many nets: one input, and constants.
+pub fn nets(alloc: Global, count: u32) -> Result<Vec<u8>, AllocError> {
+    let mut text = Vec::from_slice(alloc, b".model nets\n.inputs a\n.outputs a\n")?;
+    for number in 1..count {
+        text.extend_from_slice(b".names n")?;
+        push_number(&mut text, u64::from(number))?;
+        text.push(b'\n')?;
     }
     text.extend_from_slice(b".end\n")?;
     Ok(text)

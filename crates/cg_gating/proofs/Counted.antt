@@ -3,6 +3,7 @@ use Rattle.std.proofs.Common.{◌≡◌, ℕ, ◌+◌, ◌-◌, ◌<◌, Bool, t
 use Rattle.std.specs.List.{count_by, range_with_len}
 use Rattle.std.proofs.lemmas.List.Sums.{sum_by-cons}
 use Rattle.std.proofs.lemmas.List.FromFn.{length-map-range_with_len}
+use Rattle.cg_lists.specs.Literals.{IdleData}
 use Rattle.cg_machine.specs.Machine.{IsMachine, MachineData, step, values, walk_of}
 use Rattle.cg_machine.specs.Run.{state_now, states_from}
 use Rattle.cg_machine.specs.Start.{CanStart, machine_of}
@@ -16,7 +17,7 @@ use Rattle.cg_report.specs.Idle.{CountZeros, low_moments, zeros_of}
 use Rattle.cg_stimulus.specs.Inputs.{IsFor, IsStimulus, Rows}
 use Rattle.cg_stimulus.proofs.Playing.{start_is, wave_is}
 use Rattle.cg_stimulus.specs.Played.{IsPlayed, played_start, played_wave, row_tick, wave_from}
-use Rattle.cg_gating.specs.Idling.{idle_data, lows_from, row_inputs, zeros_at}
+use Rattle.cg_gating.specs.Idling.{idle_data, idle_of, lows_from, row_inputs, zeros_at}
 
 no_gates : (gaters : List (GatingCell ℕ)) (f : GatingCell ℕ → Bool → Bool) (latches : List Bool) → gaters ≡ [] → zip_with f gaters latches ≡ []
 no_gates gaters f latches is = ap (λ gs. zip_with f gs latches) is
@@ -79,3 +80,10 @@ module _ (c : Circuit) (prefix : List ℕ) (can : CanStart c prefix) where
   counts_are stimulus is for' history played zeros counted =
       let mine = counts stimulus is for' history played in
       same_places zeros (idle_data c prefix stimulus).zeros (counted.count ∙ sym mine.count) (λ k below. let in_names : k < length c.names = omega (arith, below, counted.count) in counted.each k in_names ∙ sym (mine.each k in_names))
+
+  -- as they are handed to the plan
+  pub idle_same : (stimulus : Rows) → IsStimulus stimulus → IsFor c stimulus → (history : List Moment) → IsPlayed c stimulus.rows history → (zeros : List ℕ) → CountZeros c history zeros
+      → (handed : List ℕ) (rows : ℕ) → handed ≡ zeros → rows ≡ length stimulus.rows → ◌≡◌ {A = Option IdleData} (Some (record { zeros = handed; rows = rows })) (idle_of c prefix (Some stimulus))
+  idle_same stimulus is for' history played zeros counted handed rows are long =
+      let same : handed ≡ (idle_data c prefix stimulus).zeros = are ∙ counts_are stimulus is for' history played zeros counted in
+      ap (λ (z : List ℕ). Some (record { zeros = z; rows = rows })) same ∙ ap (λ (n : ℕ). Some (record { zeros = (idle_data c prefix stimulus).zeros; rows = n })) long

@@ -1,4 +1,5 @@
 mod Counted
+mod Gated
 mod Leads
 mod MayInsert
 mod TestedWaves

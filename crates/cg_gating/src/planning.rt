@@ -7,13 +7,17 @@ ghost use Rattle.cg_gating.specs.Gating.{IsGated};
 ghost use Rattle.cg_gating.specs.Idling.{idle_of};
 ghost use Rattle.cg_gating.specs.Laws.{IsProper};
 ghost use Rattle.cg_gating.specs.Request.{MayGate, gating_of, stops_at};
+ghost use Rattle.cg_insert.specs.Insert.{CanInsert};
+ghost use Rattle.cg_insert.specs.Inserting.{insertion};
+ghost use Rattle.cg_limit.specs.Answers.{OrNoMemory};
 ghost use Rattle.cg_lists.specs.Literals.{FitsIdle};
 ghost use Rattle.cg_machine.specs.Added.{own_netlist};
 ghost use Rattle.cg_machine.specs.Start.{CanStart, machine_of};
+ghost use Rattle.cg_netlist.specs.declared.fault.AddFault.TheVariants.{NoMemory};
 ghost use Rattle.cg_plan.specs.Plan.{plan_of};
 ghost use Rattle.cg_plan.specs.Told.{IsPlan, PlanMayFail};
 ghost use Rattle.cg_planner.specs.Planning.{AreWritable, told};
-ghost use Rattle.cg_stimulus.specs.Inputs.{IsFor, Rows};
+ghost use Rattle.cg_stimulus.specs.Inputs.{IsFor, IsStimulus, Rows};
 
 use crate::request::Request;
 use cg_cell::name::Name;
@@ -24,6 +28,8 @@ use cg_netlist::fault::AddFault;
 use cg_netlist::netlist::Netlist;
 use cg_planner::plan::{Plan, make_plan};
 use cg_report::idle::idle_zeros;
+use cg_stimulus::played::one_played_history;
+use cg_stimulus::stimulus::Stimulus;
 use std::alloc::Global;
 
 /// A netlist that was gated: its plan, and the netlist that the plan's machine is written as.
@@ -49,11 +55,38 @@ pub fn gate_netlist(
     ensures proper { IsProper request.now }
     ensures fault { IfErr result (PlanMayFail (stops_at request.now netlist)) }
 {
+    hold_request(request);
+    let plan = plan_netlist(alloc, netlist, request)?;
+    match write_plan(alloc, &plan, request) {
+        Ok(netlist) => Ok(Gated { plan, netlist }),
+        Err(fault) => Err(fault),
+    }
+}
+
+/// The netlist that a plan's machine is written as.
+fn write_plan(alloc: Global, plan: &Plan, request: &Request<'_>) -> Result<Netlist, AddFault>
+    requires { CanInsert request.now.library request.now.test plan.now.machine }
+    ensures { OrNoMemory NoMemory (λ netlist. netlist) result (insertion request.now.library request.now.test plan.now.machine) }
+{
+    insert(alloc, &plan.machine, request.library, request.test)
+}
+
+/// A request holds a library, a name of the test input and a stimulus.
+fn hold_request(request: &Request<'_>)
+    ensures { IsProper request.now }
+{
     let _ = request.library.len();
     name_test(request.test);
-    let plan = plan_netlist(alloc, netlist, request)?;
-    let netlist = insert(alloc, &plan.machine, request.library, request.test)?;
-    Ok(Gated { plan, netlist })
+    hold_rows(request.stimulus);
+}
+
+/// A stimulus that is there has lawful rows.
+fn hold_rows(stimulus: Option<&Stimulus>)
+    ensures { (rows : Rows) → option_copied stimulus.entry ≡ Some rows → IsStimulus rows }
+{
+    if let Some(stimulus) = stimulus {
+        let _ = stimulus.rows();
+    }
 }
 
 /// A test input that is to be there has a name.
@@ -79,6 +112,7 @@ fn plan_netlist(
     match request.stimulus {
         None => plan_with(alloc, netlist, request, None),
         Some(stimulus) => {
+            one_played_history(&netlist, stimulus);
             let Ok(zeros) = idle_zeros(alloc, &netlist, stimulus) else {
                 return Err(AddFault::NoMemory);
             };

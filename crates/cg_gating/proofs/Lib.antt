@@ -1,3 +1,4 @@
+mod Answering
 mod Counted
 mod Gated
 mod Leads

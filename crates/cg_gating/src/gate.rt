@@ -3,7 +3,8 @@
 ghost use Rattle.std.specs.Prelude.{◌≡◌, None, Some, IfOk, IfErr, OnOk};
 ghost use Rattle.cg_gating.specs.Gating.{AreTexts, GivesDemo, GivesGated, SaysDemo};
 ghost use Rattle.cg_gating.specs.Headline.{Headline};
-ghost use Rattle.cg_gating.specs.Request.{MayGate, stops_at};
+ghost use Rattle.cg_gating.specs.Played.{IsWhatPlayed};
+ghost use Rattle.cg_gating.specs.Request.{AreFor, MayGate, stops_at};
 ghost use Rattle.cg_machine.specs.Added.{own_netlist};
 ghost use Rattle.cg_plan.specs.Told.{PlanMayFail};
 ghost use Rattle.cg_planner.specs.Planning.{AreWritable, told};
@@ -36,8 +37,7 @@ pub fn gate(alloc: Global, netlist: Netlist, request: &Request<'_>) -> Result<Te
     ensures fault { IfErr result (PlanMayFail (stops_at request.now netlist)) }
 {
     let gated = gate_netlist(alloc, netlist, request)?;
-    let read = gated.plan.machine.netlist();
-    let Ok(played) = play_both(alloc, read, &gated.netlist, request.stimulus) else {
+    let Ok(played) = play(alloc, &gated, request) else {
         return Err(AddFault::NoMemory);
     };
     finish(alloc, request, &gated, &played)
@@ -60,8 +60,7 @@ pub fn gate_watched(
     ensures fault { IfErr result (PlanMayFail (stops_at request.now netlist)) }
 {
     let gated = gate_netlist(alloc, netlist, request)?;
-    let read = gated.plan.machine.netlist();
-    let Ok(played) = watch_both(alloc, read, &gated.netlist, request.stimulus, watcher) else {
+    let Ok(played) = watch(alloc, &gated, request, watcher) else {
         return Err(AddFault::NoMemory);
     };
     finish(alloc, request, &gated, &played)
@@ -103,6 +102,29 @@ fn demo_said(
     let edges = edges_of(alloc, gated.plan.machine.netlist(), &gated.netlist, stimulus)?;
     let gates = gated.netlist.gaters();
     Ok(Seq::from_vec(demo_text(alloc, size, &gated.plan, gates, edges)?))
+}
+
+/// What comes of the stimulus, where there is one.
+fn play(alloc: Global, gated: &Gated, request: &Request<'_>) -> Result<Played, AllocError>
+    requires { AreFor request.now (own_netlist gated.now.plan.machine) gated.now.netlist }
+    ensures { IfOk result (λ played. IsWhatPlayed None request.now.stimulus (own_netlist gated.now.plan.machine) gated.now.netlist played) }
+{
+    let read = gated.plan.machine.netlist();
+    play_both(alloc, read, &gated.netlist, request.stimulus)
+}
+
+/// What comes of the stimulus, where there is one, while a watcher looks on the written netlist.
+fn watch(
+    alloc: Global,
+    gated: &Gated,
+    request: &Request<'_>,
+    watcher: &mut Box<dyn Watcher>,
+) -> Result<Played, AllocError>
+    requires { AreFor request.now (own_netlist gated.now.plan.machine) gated.now.netlist }
+    ensures { IfOk result (λ played. IsWhatPlayed (Some (says watcher.old)) request.now.stimulus (own_netlist gated.now.plan.machine) gated.now.netlist played) }
+{
+    let read = gated.plan.machine.netlist();
+    watch_both(alloc, read, &gated.netlist, request.stimulus, watcher)
 }
 
 /// The texts of a netlist that was gated, or want of memory.

@@ -10,8 +10,7 @@ ghost use Rattle.cg_plan.specs.Told.{PlanMayFail};
 ghost use Rattle.cg_planner.specs.Planning.{AreWritable, told};
 ghost use Rattle.cg_stimulus.specs.Inputs.{IsFor};
 
-use crate::planning::gate_netlist;
-use crate::planning::Gated;
+use crate::planning::{Gated, gate_netlist};
 use crate::playing::{edges_of, play_both, watch_both};
 use crate::request::Request;
 use crate::texts::{Texts, write_texts};
@@ -99,7 +98,12 @@ fn demo_said(
     requires written { IsFor gated.now.netlist stimulus.now }
     ensures { IfOk result (λ text. SaysDemo size stimulus.now.rows (own_netlist gated.now.plan.machine) gated.now.netlist (told gated.now.plan) text) }
 {
-    let edges = edges_of(alloc, gated.plan.machine.netlist(), &gated.netlist, stimulus)?;
+    let edges = edges_of(
+        alloc,
+        gated.plan.machine.netlist(),
+        &gated.netlist,
+        stimulus,
+    )?;
     let gates = gated.netlist.gaters();
     Ok(Seq::from_vec(demo_text(alloc, size, &gated.plan, gates, edges)?))
 }

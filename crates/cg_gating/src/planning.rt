@@ -99,11 +99,7 @@ fn name_test(test: Option<&Name>)
 }
 
 /// The plan of a netlist, for which nets are counted that are 0 on the rows of the stimulus, where there is one.
-fn plan_netlist(
-    alloc: Global,
-    netlist: Netlist,
-    request: &Request<'_>,
-) -> Result<Plan, AddFault>
+fn plan_netlist(alloc: Global, netlist: Netlist, request: &Request<'_>) -> Result<Plan, AddFault>
     requires { MayGate request.now netlist }
     ensures plan { IfOk result (λ plan. IsPlan request.now.library request.now.settings (idle_of netlist request.now.prefix request.now.stimulus) (machine_of netlist request.now.prefix) (told plan)) }
     ensures writable { IfOk result (λ plan. AreWritable plan.certificates) }

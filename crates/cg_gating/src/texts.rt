@@ -73,10 +73,5 @@ fn report_asked(
         return Ok(None);
     }
     let gates = gated.netlist.gaters();
-    Ok(Some(Seq::from_vec(report_text(
-        alloc,
-        &gated.plan,
-        gates,
-        played,
-    )?)))
+    Ok(Some(Seq::from_vec(report_text(alloc, &gated.plan, gates, played)?)))
 }

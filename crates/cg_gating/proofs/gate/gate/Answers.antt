@@ -1,4 +1,4 @@
-use Rattle.std.proofs.Common.{◌≡◌, None, Some}
+use Rattle.std.proofs.Common.{◌≡◌, None}
 use Rattle.cg_gating.proofs.Answering.{are_for, gives_all, if_ok, means_all, on_ok, wanting}
 use Rattle.cg_gating.proofs.Gated.{unstopped}
 use Rattle.cg_gating.specs.Gating.{AreTexts, GivesGated}

@@ -1,8 +1,7 @@
 -- What gating answers, from what its steps answer.
-use Rattle.std.proofs.Common.{◌≡◌, Option, None, Result, Ok, Err, IfOk, IfErr, sym, subst}
+use Rattle.std.proofs.Common.{◌≡◌, Option, Result, Ok, Err, IfOk, IfErr, sym, subst}
 use Rattle.std.specs.Prelude.{OnOk}
 use Rattle.cg_limit.specs.declared.Limit.{Limit}
-use Rattle.cg_machine.specs.Added.{own_netlist}
 use Rattle.cg_netlist.specs.Circuit.{Circuit}
 use Rattle.cg_netlist.specs.declared.fault.AddFault.{AddFault}
 use Rattle.cg_netlist.specs.declared.fault.AddFault.TheVariants.{NoMemory}
@@ -13,7 +12,7 @@ use Rattle.cg_gating.specs.Gating.{AreTexts, GivesGated, IsGated}
 use Rattle.cg_gating.specs.Headline.{Headline}
 use Rattle.cg_gating.specs.Laws.{IsProper}
 use Rattle.cg_gating.specs.Played.{IsWhatPlayed, Saying}
-use Rattle.cg_gating.specs.Request.{AreFor, MayGate, RequestData, gating_of, stops_at}
+use Rattle.cg_gating.specs.Request.{AreFor, MayGate, RequestData, gating_of}
 use Rattle.cg_gating.specs.declared.texts.Texts.{Texts}
 use Rattle.cg_gating.proofs.Meaning.{gated_means}
 

@@ -1,5 +1,5 @@
 -- What the code makes of a netlist: the plan's machine may be written, and what comes of it is what gating gives.
-use Rattle.std.proofs.Common.{◌≡◌, ℕ, List, [], ◌∷◌, ◌++◌, length, map, Option, None, Some, Result, Ok, Err, IfErr, refl, sym, ◌∙◌, ap, subst, append_assoc, inl, inr}
+use Rattle.std.proofs.Common.{◌≡◌, ◌++◌, Option, None, Some, Ok, Err, refl, sym, ◌∙◌, ap, subst, append_assoc, inl, inr}
 use Rattle.std.specs.Option.{option_or, option_to_list}
 use Rattle.cg_gated.specs.Gated.{CanGate, Gating, gated_by, planned}
 use Rattle.cg_gated.proofs.Behaving.{gated_behaves}
@@ -10,12 +10,10 @@ use Rattle.cg_insert.specs.Inserting.{insertion, unless_passed}
 use Rattle.cg_limit.specs.Answers.{OrNoMemory}
 use Rattle.cg_limit.specs.declared.Limit.{Limit}
 use Rattle.cg_machine.specs.Added.{own_netlist}
-use Rattle.cg_machine.specs.Machine.{MachineData}
 use Rattle.cg_machine.specs.Start.{machine_of}
 use Rattle.cg_netlist.specs.Circuit.{Circuit}
 use Rattle.cg_netlist.specs.declared.fault.AddFault.{AddFault}
 use Rattle.cg_netlist.specs.declared.fault.AddFault.TheVariants.{Limit as LimitFault, NoMemory}
-use Rattle.cg_plan.specs.Plan.{plan_of}
 use Rattle.cg_plan.specs.Told.{IsPlan, PlanMayFail, ToldPlan}
 use Rattle.cg_stimulus.specs.Inputs.{IsFor, Rows, input_names}
 use Rattle.cg_gating.specs.Gating.{IsGated}

@@ -1,9 +1,8 @@
 -- The stages of a plan lead, one after another, from the machine that the plan begins with to the plan's.
-use Rattle.std.proofs.Common.{◌≡◌, ℕ, zero, suc, List, [], ◌∷◌, ◌++◌, Option, None, Some, if◌then◌else◌, refl, sym, ◌∙◌, ap, subst}
+use Rattle.std.proofs.Common.{◌≡◌, ℕ, zero, suc, List, [], ◌∷◌, ◌++◌, Option, None, Some, refl, ◌∙◌, ap}
 use Rattle.cg_cell.specs.Cell.{CellData}
 use Rattle.cg_limit.specs.declared.Limit.{Limit}
-use Rattle.cg_limit.specs.declared.Limit.TheVariants.{ClaimNodes}
-use Rattle.cg_lists.specs.HoldList.{hold_list, hold_passes}
+use Rattle.cg_lists.specs.HoldList.{hold_list}
 use Rattle.cg_lists.specs.Literals.{IdleData}
 use Rattle.cg_machine.specs.Machine.{MachineData}
 use Rattle.cg_machine.specs.declared.stage.Stage.{Stage}

@@ -1,10 +1,9 @@
 -- What gating gives means what the headline says.
-use Rattle.std.proofs.Common.{◌≡◌, ◌↔◌, ℕ, ◌+◌, ◌-◌, Bool, true, List, [], ◌∷◌, ◌++◌, map, length, slice_get, replicate, Option, None, Some, refl, sym, ◌∙◌, ap, subst, arith, length-append}
+use Rattle.std.proofs.Common.{◌≡◌, ◌↔◌, ◌+◌, ◌-◌, Bool, true, List, ◌++◌, length, Option, None, Some, refl, sym, ◌∙◌, ap, subst}
 use Rattle.std.proofs.lemmas.List.{length-replicate}
 use Rattle.cg_blif_text.specs.BlifText.{BlifText}
-use Rattle.cg_blif_text.specs.Canonical.{blif}
 use Rattle.cg_blif_text.proofs.CanonicalText.{no_two, says_itself}
-use Rattle.cg_gated.specs.Gated.{Behaves, CanGate, Gating, gated_by, own_wave, planned}
+use Rattle.cg_gated.specs.Gated.{Behaves, CanGate, Gating, gated_by, planned}
 use Rattle.cg_gated.specs.Kept.{KeepsParts}
 use Rattle.cg_gated.proofs.Behaving.{gated_behaves}
 use Rattle.cg_gated.proofs.NetlistKept.{keeps_netlist}
@@ -20,14 +19,14 @@ use Rattle.cg_machine.specs.Run.{Same, ones}
 use Rattle.cg_machine.specs.Start.{machine_of}
 use Rattle.cg_machine.proofs.Started.{start_is_machine}
 use Rattle.cg_netlist.specs.Circuit.{Circuit}
-use Rattle.cg_netlist.specs.History.{IsLawful, IsStart, IsWaveform, Moment, Tick, outputs_of}
+use Rattle.cg_netlist.specs.History.{IsLawful, IsStart, IsWaveform, Moment, Tick}
 use Rattle.cg_netlist.specs.Netlist.{IsNetlist}
 use Rattle.cg_netlist.specs.WellFormed.{IsWellFormed}
 use Rattle.cg_netlist.specs.said.Writable.{IsWritable}
 use Rattle.cg_netlist.proofs.Histories.{has_history, has_one_history}
 use Rattle.cg_plan.specs.Laws.{Deserves, IsTurn}
 use Rattle.cg_plan.specs.Plan.{Plan, Turn, plan_of}
-use Rattle.cg_plan.specs.Trying.{Ends, Tried, tried}
+use Rattle.cg_plan.specs.Trying.{Ends, Tried}
 use Rattle.cg_plan.specs.declared.outcome.Outcome.{Outcome}
 use Rattle.cg_plan.specs.declared.outcome.Outcome.TheVariants.{Inserted}
 use Rattle.cg_plan.proofs.AllSafe.{each_fits, plans_safe}

@@ -1,4 +1,3 @@
-use Rattle.std.proofs.Common.{◌≡◌, Some}
 use Rattle.cg_gating.proofs.Gated.{for_written, gives_gated, insertion_stops, may_insert, own_is}
 use Rattle.cg_gating.proofs.planning.gate_netlist.Goals as goal
 use Rattle.cg_planner.specs.Planning.{told}

@@ -9,7 +9,6 @@ use Rattle.cg_machine.specs.Start.{machine_of}
 use Rattle.cg_plan.specs.Plan.{plan_of}
 use Rattle.cg_plan.specs.Told.{IsPlan, PlanMayFail}
 use Rattle.cg_planner.specs.Planning.{told}
-use Rattle.cg_stimulus.specs.Inputs.{Rows}
 
 pub returns-in-None-clause-fault : goal.returns-in-None-clause-fault
 returns-in-None-clause-fault c =

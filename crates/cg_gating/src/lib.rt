@@ -8,7 +8,7 @@
 //! - [`request`]: what is asked for.
 //! - `planning`: the plan of a netlist.
 //! - `playing`: what comes of a stimulus on both netlists.
-//! - `texts`: the texts.
+//! - [`texts`]: the texts.
 //! - [`gate`]: all of it.
 //! - [`laws`]: what the texts mean.
 #![tactic(auto)]
@@ -18,4 +18,4 @@ pub mod laws;
 mod planning;
 mod playing;
 pub mod request;
-mod texts;
+pub mod texts;

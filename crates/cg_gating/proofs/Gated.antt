@@ -16,6 +16,7 @@ use Rattle.cg_netlist.specs.declared.fault.AddFault.{AddFault}
 use Rattle.cg_netlist.specs.declared.fault.AddFault.TheVariants.{Limit as LimitFault, NoMemory}
 use Rattle.cg_plan.specs.Told.{IsPlan, PlanMayFail, ToldPlan}
 use Rattle.cg_stimulus.specs.Inputs.{IsFor, Rows, input_names}
+use Rattle.cg_planner.specs.Planning.{AreWritable}
 use Rattle.cg_gating.specs.Gating.{IsGated}
 use Rattle.cg_gating.specs.Laws.{IsProper}
 use Rattle.cg_gating.specs.Request.{MayGate, RequestData, gating_of, stops_at}
@@ -45,14 +46,14 @@ module _ (request : RequestData) (read : Circuit) (proper : IsProper request) (m
   pub own_is : own_netlist told.machine ≡ read
   own_is = ap own_netlist plan.machine ∙ keeps_netlist by read
 
-  pub gives_gated : (written : Circuit) → insertion request.library request.test told.machine ≡ Ok written → IsGated (gating_of request read) read told written
-  gives_gated written is =
+  pub gives_gated : AreWritable told.certificates → (written : Circuit) → insertion request.library request.test told.machine ≡ Ok written → IsGated (gating_of request read) read told written
+  gives_gated can_write written is =
       let un = unpassed (insertion_limit request.test told.machine) (inserted request.library request.test told.machine) written is in
-      record { plan = plan; fits = un.0; is = un.1 }
+      record { plan = plan; writable = can_write; fits = un.0; is = un.1 }
 
   pub for_written : (written : Circuit) → insertion request.library request.test told.machine ≡ Ok written → (stimulus : Rows) → request.stimulus ≡ Some stimulus → IsFor written stimulus
   for_written written is stimulus there =
-      let same : written ≡ gated_by by read = (gives_gated written is).is ∙ ap (inserted request.library request.test) plan.machine in
+      let same : written ≡ gated_by by read = (unpassed (insertion_limit request.test told.machine) (inserted request.library request.test told.machine) written is).1 ∙ ap (inserted request.library request.test) plan.machine in
       let for' = may.played stimulus there in
       let names : input_names written ≡ input_names read ++ option_to_list request.test = ap input_names same ∙ (gated_behaves by read can).inputs in
       (for'.0 ++ option_to_list request.test, names ∙ (ap (λ front. front ++ option_to_list request.test) for'.1 ∙ append_assoc stimulus.inputs for'.0 (option_to_list request.test)))

@@ -160,11 +160,14 @@ module _ (request : RequestData) (says : Option Saying) (read : Circuit) (texts 
     is = gives.gated.is;
     turns = plan.turns;
     planned = refl;
+    whole = gives.gated.plan.whole;
     lead = subst (Lead plan.turns m) (sym machine_is) (plan_leads request.library request.settings m by.idle);
     deserved = λ k turn at. comes turn (each_fits request.library request.settings by.idle m good k turn at);
     idle = idle;
     told = gives.gated.plan.stages;
+    wide = gives.gated.plan.wide;
     certified = gives.gated.plan.certificates;
+    writable = gives.gated.writable;
     proof = gives.gives.proof;
     played = gives.played;
     edges = gives.what.edges;

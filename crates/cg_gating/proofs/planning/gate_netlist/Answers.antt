@@ -9,7 +9,7 @@ pub returns-in-Err-clause-fault : goal.returns-in-Err-clause-fault
 returns-in-Err-clause-fault c = insertion_stops c.args.request.now c.args.netlist c.hold_request.ensures c.requires (told c.in_ok-plan.plan) c.in_ok-plan.ensures.plan c.in-Err.fault c.in-Err.ensures
 
 pub returns-in-Ok-clause-gated : goal.returns-in-Ok-clause-gated
-returns-in-Ok-clause-gated c = gives_gated c.args.request.now c.args.netlist c.hold_request.ensures c.requires (told c.in_ok-plan.plan) c.in_ok-plan.ensures.plan c.in-Ok.netlist c.in-Ok.ensures
+returns-in-Ok-clause-gated c = gives_gated c.args.request.now c.args.netlist c.hold_request.ensures c.requires (told c.in_ok-plan.plan) c.in_ok-plan.ensures.plan c.in_ok-plan.ensures.writable c.in-Ok.netlist c.in-Ok.ensures
 
 pub returns-in-Ok-clause-own : goal.returns-in-Ok-clause-own
 returns-in-Ok-clause-own c = own_is c.args.request.now c.args.netlist c.hold_request.ensures c.requires (told c.in_ok-plan.plan) c.in_ok-plan.ensures.plan

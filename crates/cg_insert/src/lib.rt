@@ -15,11 +15,11 @@
 //! - `laws`: what is proved of the netlist that a machine's enables make.
 #![tactic(auto)]
 
-mod clocked;
+pub mod clocked;
 mod copy;
 mod enables;
 pub mod insert;
 pub mod laws;
-mod logic;
-mod names;
-mod telling;
+pub mod logic;
+pub mod names;
+pub mod telling;

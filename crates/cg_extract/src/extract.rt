@@ -6,10 +6,10 @@ ghost use Rattle.cg_extract.specs.Lifted.{CanExtract};
 ghost use Rattle.cg_limit.specs.Answers.{OrNoMemory};
 ghost use Rattle.cg_extract.specs.declared.extract.ExtractFault.TheVariants.{NoMemory};
 
-use crate::bare::bare;
 use crate::lift::{lift, set_enables};
 use crate::number::origins;
 use crate::refused::first_refused;
+use crate::strip::bare;
 use cg_cell::name::Name;
 use cg_list::Seq;
 use cg_machine::machine::Machine;

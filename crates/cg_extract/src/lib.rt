@@ -8,15 +8,15 @@
 //!
 //! - `refused`: gating cells that are not lifted.
 //! - `number`: the numbers that nets get, and those that they had.
-//! - `bare`: the netlist without its gating cells, told to a builder.
+//! - `strip`: the netlist without its gating cells, told to a builder.
 //! - `lift`: gating cells, taken by depth into a machine.
 //! - `extract`: the machine, or the first gating cell that is refused.
 //! - `laws`: what is proved of that machine.
 #![tactic(auto)]
 
-mod bare;
 pub mod extract;
 pub mod laws;
 mod lift;
 mod number;
 mod refused;
+mod strip;

@@ -1,10 +1,11 @@
 //! The netlist without its gating cells.
 
-ghost use Rattle.std.specs.Prelude.{◌≡◌, nat_eq, unwrap_or, IfOk};
+ghost use Rattle.std.specs.Prelude.{◌≡◌, ◌<◌, Some, length, nat_eq, slice_get, unwrap_or, IfOk};
 ghost use Rattle.std.specs.List.{IsDistinct};
+ghost use Rattle.std.specs.Option.{option_to_list};
 ghost use Rattle.cg_extract.specs.Lifted.{bare, ungated};
 ghost use Rattle.cg_extract.specs.inner.BareParts.{bare_parts};
-ghost use Rattle.cg_insert.specs.inner.GatedParts.{clocked_parts};
+ghost use Rattle.cg_insert.specs.inner.GatedParts.{clocked_parts, with_clock};
 ghost use Rattle.cg_insert.specs.inner.Telling.{MayTell, Tells, told};
 ghost use Rattle.cg_netlist.specs.said.Building.{fresh};
 
@@ -16,6 +17,7 @@ use cg_netlist::builder::Builder;
 use cg_netlist::fault::AddFault;
 use cg_netlist::id::{NetId, RegId};
 use cg_netlist::netlist::Netlist;
+use cg_netlist::view::RegView;
 use std::alloc::{AllocError, Global};
 
 /// The netlist without its gating cells: its logic cells and registers in their order, every register on the clock, and all its
@@ -78,10 +80,27 @@ fn tell_registers(
 {
     let clock = clock_or_first(netlist);
     for number in 0..netlist.registers() {
-        let register = netlist.register(RegId::new(number));
-        tell_register(alloc, builder, names, register, clock)?;
+        tell_on_clock(alloc, builder, names, netlist, RegId::new(number), clock)?;
     }
     Ok(())
+}
+
+/// Tells the register of this number, on this clock.
+fn tell_on_clock(
+    alloc: Global,
+    builder: &mut Builder,
+    names: &GatedNames<'_>,
+    netlist: &Netlist,
+    reg: RegId,
+    clock: NetId,
+) -> Result<(), AddFault>
+    requires register { reg < length netlist.now.registers }
+    requires parts { MayTell builder.old (clocked_parts names.now (with_clock (Some clock) (option_to_list (slice_get netlist.now.registers reg)))) }
+    ensures { Tells builder.old (clocked_parts names.now (with_clock (Some clock) (option_to_list (slice_get netlist.now.registers reg)))) builder.new result }
+{
+    let register = netlist.register(reg);
+    let on_clock = RegView { clock, ..register };
+    tell_register(alloc, builder, names, on_clock, clock)
 }
 
 /// The clock, or the first net where there is none.

@@ -1,5 +1,5 @@
 -- The parts that a builder is told say the netlist without its gating cells.
-use Rattle.std.proofs.Common.{[], ◌≡◌, ℕ, ◌≤◌, Bool, false, List, ◌∷◌, ◌++◌, map, length, slice_get, unwrap_or, Option, None, Some, Ok, nat_eq, refl, ap, sym, ◌∙◌, subst}
+use Rattle.std.proofs.Common.{[], ◌≡◌, ℕ, ◌≤◌, Bool, false, List, ◌++◌, map, length, slice_get, unwrap_or, Option, None, Some, Ok, nat_eq, refl, ap, sym, ◌∙◌, subst}
 use Rattle.std.specs.List.{IsDistinct}
 use Rattle.std.specs.Option.{option_map, option_to_list}
 use Rattle.std.proofs.lemmas.List.{append-nil}
@@ -11,7 +11,7 @@ use Rattle.cg_netlist.proofs.said.TakenFromNetlist.{taken_own}
 use Rattle.cg_netlist.specs.Circuit.{Circuit, RegisterCell}
 use Rattle.cg_netlist.specs.Netlist.{IsNetlist}
 use Rattle.cg_netlist.specs.said.Building.{Building, Finishes, fresh}
-use Rattle.cg_netlist.specs.said.Part.{Clock, Input, Logic, Output, Part}
+use Rattle.cg_netlist.specs.said.Part.{Clock, Input, Logic, Output}
 use Rattle.cg_netlist.specs.said.Said.{nothing_said, said}
 use Rattle.cg_netlist.specs.said.Says.{AreTaken, Says, parts_from, register_part}
 use Rattle.cg_netlist.specs.said.Wiring.{NetName, map_cell, map_register, named, net_name}

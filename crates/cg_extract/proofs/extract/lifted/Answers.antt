@@ -47,6 +47,3 @@ returns c =
     ∙ enabled netlist c.args.prefix.now c.requires old named c.lift.new.machine c.in_ok-enables.ensures.machine c.in_ok-enables.enables.items c.in_ok-enables.ensures.enables) in
     let made = c.from_vec.ensures ∙ (c.in_ok-origin.ensures ∙ ap (origins netlist) machine) in
     ap (λ m. (m, c.from_vec.result)) machine ∙ ap (λ o. (lifted netlist c.args.prefix.now, o)) made
-
-pub bare-requires : goal.bare-requires
-bare-requires c = c.requires.outputs_once

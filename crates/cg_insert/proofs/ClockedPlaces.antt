@@ -1,13 +1,15 @@
 -- Gating cells and registers of the gated netlist by their numbers.
 use Rattle.std.proofs.Common.{◌≡◌, ℕ, ◌+◌, ◌<◌, List, [], ◌∷◌, length, slice_get, unwrap_or, Option, None, Some, refl, ap, sym, ◌∙◌, arith}
+use Rattle.std.specs.List.{range_with_len}
 use Rattle.std.specs.Option.{option_flatten, option_map, option_to_list}
 use Rattle.std.proofs.lemmas.Option.{slice_get_within}
 use Rattle.cg_cell.specs.Cell.{CellData}
 use Rattle.cg_machine.specs.Machine.{IsMachine, MachineData, enable_of}
 use Rattle.cg_netlist.proofs.OrderLemmas.{length-range_with_len}
 use Rattle.cg_netlist.proofs.Values.{element_at, length-zip_with, zip_with_at}
-use Rattle.cg_netlist.specs.Circuit.{RegisterCell}
+use Rattle.cg_netlist.specs.Circuit.{GatingCell, RegisterCell}
 use Rattle.cg_netlist.specs.Ordered.{place_in}
+use Rattle.cg_netlist.specs.said.Part.{Part}
 use Rattle.cg_netlist.specs.said.Wiring.{NetName}
 use Rattle.cg_insert.proofs.GatedParts.{range_at}
 use Rattle.cg_insert.specs.Insert.{enables_of, first_gate, gate_outputs, gater_cell, gating_cell, reclocked, test_net}

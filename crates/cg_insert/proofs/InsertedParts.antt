@@ -16,18 +16,18 @@ use Rattle.cg_netlist.proofs.Members.{distinct_cons, distinct_head, distinct_tai
 use Rattle.cg_netlist.proofs.NetOrder.{from_mapped}
 use Rattle.cg_netlist.proofs.OrderedForm.{same_number, used_within}
 use Rattle.cg_netlist.proofs.Used.{output_is_used}
-use Rattle.cg_netlist.proofs.said.Different.{apart_from, no_more}
+use Rattle.cg_netlist.proofs.said.Different.{Apart, apart_from, no_more}
 use Rattle.cg_netlist.proofs.said.Each.{by_recursion, each_together, from_recursion}
-use Rattle.cg_netlist.proofs.said.KnownNames.{known_each, word_at}
+use Rattle.cg_netlist.proofs.said.KnownNames.{known_each, known_head, known_tail, word_at}
 use Rattle.cg_netlist.proofs.said.SaidByItsParts.{none_left, says_own}
 use Rattle.cg_netlist.proofs.said.SaidMore.{said_more}
 use Rattle.cg_netlist.proofs.said.TakenFromNetlist.{taken_own}
-use Rattle.cg_netlist.specs.Circuit.{Circuit, LogicCell, RegisterCell, is_in, net_order}
+use Rattle.cg_netlist.specs.Circuit.{Circuit, GatingCell, LogicCell, RegisterCell, is_in, net_order}
 use Rattle.cg_netlist.specs.Names.{is_known}
 use Rattle.cg_netlist.specs.Netlist.{IsNetlist}
 use Rattle.cg_netlist.specs.Ordered.{ordered, place_in}
 use Rattle.cg_netlist.specs.WellFormed.{IsInNetOrder, IsWellFormed}
-use Rattle.cg_netlist.specs.said.Building.{fresh}
+use Rattle.cg_netlist.specs.said.Building.{Building, fresh}
 use Rattle.cg_netlist.specs.said.Part.{Clock, Gate, Input, Logic, Output, Part}
 use Rattle.cg_netlist.specs.said.Said.{nothing_said, said}
 use Rattle.cg_netlist.specs.said.Says.{AreTaken, Says, parts_from, register_part}
@@ -37,10 +37,10 @@ use Rattle.cg_insert.proofs.GatedMoments.{names_count}
 use Rattle.cg_insert.proofs.GatedParts.{registers_count}
 use Rattle.cg_insert.proofs.Inserted.{insertion_is_formed}
 use Rattle.cg_insert.proofs.OrderedNames.{named_ordered}
-use Rattle.cg_insert.proofs.ToldParts.{within_limit}
+use Rattle.cg_insert.proofs.ToldParts.{with_parts_more, within_limit}
 use Rattle.cg_insert.specs.Insert.{CanInsert, enables_of, first_gate, gated, inserted, insertion_limit, placed_gate, test_net}
 use Rattle.cg_insert.specs.inner.GatedParts.{clock_parts, clocked_parts, gated_gaters, gated_names, gated_parts, gated_registers, gater_parts, cell_parts, input_parts, output_parts}
-use Rattle.cg_insert.specs.inner.Telling.{MayTell, with_parts}
+use Rattle.cg_insert.specs.inner.Telling.{MayTell, told, with_parts}
 
 -- parts are said one after another
 pub said_all : (done ps : List Part) → with_parts (said done) ps ≡ said (done ++ ps)

@@ -7,6 +7,7 @@ use Rattle.std.proofs.lemmas.Option.{slice_get_within}
 use Rattle.std.proofs.lemmas.List.{length-take-le}
 use Rattle.cg_netlist.proofs.RankingLemmas.{take_next}
 use Rattle.cg_cell.specs.Cell.{CellData}
+use Rattle.cg_cell.specs.Pins.{PinData}
 use Rattle.cg_cell.specs.declared.cell.Role.{Role}
 use Rattle.cg_cell.specs.declared.cell.Role.TheVariants.{State, StateBar}
 use Rattle.cg_netlist.specs.Calls.{is_bar, kind_of, register_of, shows_inverse}
@@ -15,7 +16,7 @@ use Rattle.cg_netlist.specs.Moment.{zip_with}
 use Rattle.cg_netlist.specs.WellFormed.{FitsKind, RegisterFits, ShowsAsPin}
 use Rattle.cg_netlist.specs.declared.parts.RegisterKind.{RegisterKind}
 use Rattle.cg_netlist.specs.declared.parts.RegisterKind.TheVariants.{Plain, Flop}
-use Rattle.cg_netlist.specs.said.Part.{Register}
+use Rattle.cg_netlist.specs.said.Part.{Part, Register}
 use Rattle.cg_netlist.specs.said.Says.{IsPart}
 use Rattle.cg_netlist.specs.said.Wiring.{NetName, map_outputs, net_name}
 use Rattle.cg_insert.specs.inner.GatedParts.{clocked_part, placed_outputs}

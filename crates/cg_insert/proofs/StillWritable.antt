@@ -1,7 +1,7 @@
 -- The inserted netlist is writable where the machine's own netlist is.
-use Rattle.std.proofs.Common.{◌≡◌, ◌≢◌, ℕ, suc, ◌+◌, ◌-◌, ◌<◌, true, false, List, [], ◌∷◌, ◌++◌, map, length, take, slice_get, unwrap_or, Option, Some, nat_eq, refl, ap, sym, ◌∙◌, subst, inl, inr, arith, length-append}
-use Rattle.std.specs.List.{AllByRecursion, IsDistinct, find}
-use Rattle.std.specs.Option.{option_to_list}
+use Rattle.std.proofs.Common.{◌≡◌, ◌≢◌, ℕ, zero, suc, ◌+◌, ◌-◌, ◌<◌, ◌≤◌, ◌^◌, Bool, true, false, List, [], ◌∷◌, ◌++◌, map, length, take, slice_get, unwrap_or, codes, Option, None, Some, nat_eq, refl, ap, sym, ◌∙◌, subst, inl, inr, arith, length-append}
+use Rattle.std.specs.List.{All, AllByRecursion, IsDistinct, find, range_with_len}
+use Rattle.std.specs.Option.{option_map, option_to_list}
 use Rattle.std.proofs.lemmas.Bool.{both_ways}
 use Rattle.std.proofs.lemmas.List.{get_or-append_right, length-map}
 use Rattle.std.proofs.lemmas.List.FromFn.{get_or-map-range_with_len}

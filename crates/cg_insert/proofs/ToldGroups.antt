@@ -1,15 +1,16 @@
 -- The parts of a gated netlist in the groups in which they are told, and what a builder may be told when some of them were.
-use Rattle.std.proofs.Common.{◌++◌, ℕ, List, map, take, Option}
+use Rattle.std.proofs.Common.{◌≡◌, ◌++◌, ℕ, List, map, take, Option, Result, sym, ◌∙◌, ap, subst}
 use Rattle.std.specs.Option.{option_to_list}
 use Rattle.cg_cell.specs.Cell.{CellData}
 use Rattle.cg_machine.specs.Machine.{MachineData}
+use Rattle.cg_netlist.specs.declared.fault.AddFault.{AddFault}
 use Rattle.cg_netlist.specs.said.Building.{Building}
 use Rattle.cg_netlist.specs.said.Part.{Part}
 use Rattle.cg_netlist.specs.said.Wiring.{NetName}
-use Rattle.cg_insert.proofs.ToldParts.{may_front}
+use Rattle.cg_insert.proofs.ToldParts.{call_may, call_told, may_front}
 use Rattle.cg_insert.specs.Insert.{placed_gate, test_net}
 use Rattle.cg_insert.specs.inner.GatedParts.{cell_parts, clock_parts, clocked_parts, gated_gaters, gated_parts, gated_registers, gater_parts, input_parts, output_parts}
-use Rattle.cg_insert.specs.inner.Telling.{MayTell}
+use Rattle.cg_insert.specs.inner.Telling.{MayTell, told}
 
 module _ (names : List NetName) (library : List CellData) (test : Option (List ℕ)) (m : MachineData) where
   abbrev pub the_inputs : List Part

@@ -1,5 +1,6 @@
 -- Parts that a builder is told one after another.
-use Rattle.std.proofs.Common.{◌≡◌, ◌⊎◌, ℕ, zero, suc, ◌+◌, ◌≤◌, Bool, true, false, if◌then◌else◌, List, [], ◌∷◌, ◌++◌, map, length, take, drop, slice_get, nat_lt, Option, None, Some, Result, Ok, Err, MatchResult, refl, ap, sym, ◌∙◌, subst, length-append, inl, inr, arith}
+use Rattle.std.proofs.Common.{◌≡◌, ◌⊎◌, ℕ, zero, suc, ◌+◌, ◌<◌, ◌≤◌, Bool, true, false, if◌then◌else◌, List, [], ◌∷◌, ◌++◌, map, length, take, drop, slice_get, nat_lt, Option, None, Some, Result, Ok, Err, MatchResult, refl, ap, sym, ◌∙◌, subst, length-append, inl, inr, arith}
+use Rattle.std.specs.List.{AllByRecursion}
 use Rattle.std.proofs.lemmas.Bool.{both_ways, false_from_ne_true, lt-ltb, ltb-true}
 use Rattle.std.proofs.lemmas.List.{map-append}
 use Rattle.cg_limit.specs.declared.Limit.{Limit}
@@ -9,7 +10,7 @@ use Rattle.cg_netlist.proofs.RankingLemmas.{take_next}
 use Rattle.cg_netlist.proofs.said.Each.{each_back, each_front}
 use Rattle.cg_netlist.specs.Names.{is_known, with_name}
 use Rattle.cg_netlist.specs.declared.fault.AddFault.{AddFault}
-use Rattle.cg_netlist.specs.declared.fault.AddFault.TheVariants.{NoMemory}
+use Rattle.cg_netlist.specs.declared.fault.AddFault.TheVariants.{Limit as Passes, NoMemory}
 use Rattle.cg_netlist.specs.said.Building.{Building, IsAnswer, Takes}
 use Rattle.cg_netlist.specs.said.Part.{Clock, Gate, Input, Logic, Output, Part, Register, mentioned}
 use Rattle.cg_netlist.specs.said.Said.{Said, limit_of, with_kind, with_names, with_part}

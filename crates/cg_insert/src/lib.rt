@@ -13,6 +13,8 @@
 //! - `telling`: all parts, told to a builder.
 //! - `insert`: the netlist.
 //! - `laws`: what is proved of the netlist that a machine's enables make.
+//!
+//! What tells parts by the names of nets is public, for others that make one netlist of another.
 #![tactic(auto)]
 
 pub mod clocked;

@@ -1,8 +1,9 @@
-use Rattle.std.proofs.Common.{◌+◌, ℕ, length, ap, ◌∙◌, arith}
+use Rattle.std.proofs.Common.{◌≡◌, ◌<◌, ◌+◌, ◌≤◌, ℕ, List, length, Some, slice_get, ap, sym, ◌∙◌, arith}
 use Rattle.std.specs.Option.{option_copied}
+use Rattle.cg_netlist.specs.Circuit.{GatingCell}
 use Rattle.cg_insert.proofs.ClockedPlaces.{gater_stands, gaters_long}
 use Rattle.cg_insert.proofs.ToldParts.{end_at, may_at, told_at}
-use Rattle.cg_insert.specs.Insert.{fitting}
+use Rattle.cg_insert.specs.Insert.{enables_of, fitting, gating_kind}
 use Rattle.cg_insert.specs.inner.GatedParts.{gated_gaters, gater_part}
 use Rattle.cg_insert.proofs.clocked.tell_gaters.Goals as goal
 

@@ -1,4 +1,4 @@
-use Rattle.std.proofs.Common.{◌≡◌, ◌+◌, ℕ, length, slice_get, ap, sym, ◌∙◌, subst, arith}
+use Rattle.std.proofs.Common.{◌≡◌, ◌<◌, ◌+◌, ◌≤◌, ℕ, List, length, Option, Some, slice_get, ap, sym, ◌∙◌, subst, arith}
 use Rattle.std.specs.Option.{option_copied, option_map, option_to_list}
 use Rattle.cg_machine.specs.Machine.{enable_of}
 use Rattle.cg_netlist.specs.Ordered.{place_in}

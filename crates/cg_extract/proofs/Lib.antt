@@ -1,4 +1,5 @@
 pub mod Bare
+pub mod BareParts
 pub mod Depths
 pub mod Extracted
 pub mod Kept
@@ -11,3 +12,4 @@ pub mod NetPlaces
 pub mod Origins
 pub mod Renumbered
 pub mod Taking
+pub mod ToldBare

@@ -1,1 +1,2 @@
+pub mod BareParts
 pub mod Taking

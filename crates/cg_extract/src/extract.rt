@@ -2,13 +2,14 @@
 
 ghost use Rattle.std.specs.Prelude.{◌≡◌, IfOk};
 ghost use Rattle.cg_extract.specs.Extracting.{extraction, extracted};
-ghost use Rattle.cg_extract.specs.Lifted.{CanExtract, bare};
+ghost use Rattle.cg_extract.specs.Lifted.{CanExtract};
 ghost use Rattle.cg_limit.specs.Answers.{OrNoMemory};
 ghost use Rattle.cg_extract.specs.declared.extract.ExtractFault.TheVariants.{NoMemory};
 
 use crate::lift::{lift, set_enables};
 use crate::number::origins;
 use crate::refused::first_refused;
+use crate::strip::bare;
 use cg_cell::name::Name;
 use cg_list::Seq;
 use cg_machine::machine::Machine;
@@ -36,43 +37,36 @@ pub enum ExtractFault {
     NoMemory,
 }
 
-/// The machine of a netlist with gating cells, where the netlist without them is given too: `kept` has its logic cells and
-/// registers in their order, every register on the clock, and all its nets but the outputs of gating cells.
+/// The machine of a netlist with gating cells.
 ///
 /// No output of the netlist may stand twice, and no net may have a name that begins with the prefix of the names of added nets.
 /// `and2` tells whether there is a cell for the and of two nets. It is refused by `Gater` exactly where a gating cell has a test
 /// pin, or has its clock pin on the output of a gating cell while there is no such cell, with the first of these.
-pub fn extract_with(
+pub fn extract(
     alloc: Global,
     netlist: &Netlist,
-    kept: Netlist,
     prefix: &Name,
     and2: bool,
 ) -> Result<Extracted, ExtractFault>
-    requires can { CanExtract netlist.now prefix.now }
-    requires kept { kept ≡ bare netlist.now }
+    requires { CanExtract netlist.now prefix.now }
     ensures { OrNoMemory NoMemory (λ made. (made.machine, made.origin)) result (extraction netlist.now prefix.now and2) }
 {
+    // A refused cell is found before anything is built.
     if let Some(gater) = first_refused(netlist, and2) {
         return Err(ExtractFault::Gater(gater));
     }
-    match lifted(alloc, netlist, kept, prefix) {
+    match lifted(alloc, netlist, prefix) {
         Ok(extracted) => Ok(extracted),
         Err(_) => Err(ExtractFault::NoMemory),
     }
 }
 
 /// The machine of a netlist no gating cell of which is refused.
-fn lifted(
-    alloc: Global,
-    netlist: &Netlist,
-    kept: Netlist,
-    prefix: &Name,
-) -> Result<Extracted, AllocError>
-    requires can { CanExtract netlist.now prefix.now }
-    requires kept { kept ≡ bare netlist.now }
+fn lifted(alloc: Global, netlist: &Netlist, prefix: &Name) -> Result<Extracted, AllocError>
+    requires { CanExtract netlist.now prefix.now }
     ensures { IfOk result (λ made. (made.machine, made.origin) ≡ extracted netlist.now prefix.now) }
 {
+    let kept = bare(alloc, netlist)?;
     let mut machine = Machine::of(alloc, kept, prefix)?;
     let enables = lift(alloc, netlist, &mut machine)?;
     set_enables(netlist, &mut machine, &enables);

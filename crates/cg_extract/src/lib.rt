@@ -8,6 +8,7 @@
 //!
 //! - `refused`: gating cells that are not lifted.
 //! - `number`: the numbers that nets get, and those that they had.
+//! - `strip`: the netlist without its gating cells, told to a builder.
 //! - `lift`: gating cells, taken by depth into a machine.
 //! - `extract`: the machine, or the first gating cell that is refused.
 //! - `laws`: what is proved of that machine.
@@ -18,3 +19,4 @@ pub mod laws;
 mod lift;
 mod number;
 mod refused;
+mod strip;

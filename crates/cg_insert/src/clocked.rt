@@ -197,7 +197,7 @@ fn tell_at(
 }
 
 /// Tells a register, on this clock.
-fn tell_register(
+pub fn tell_register(
     alloc: Global,
     builder: &mut Builder,
     names: &GatedNames<'_>,

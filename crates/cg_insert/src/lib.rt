@@ -13,13 +13,15 @@
 //! - `telling`: all parts, told to a builder.
 //! - `insert`: the netlist.
 //! - `laws`: what is proved of the netlist that a machine's enables make.
+//!
+//! What tells parts by the names of nets is public, for others that make one netlist of another.
 #![tactic(auto)]
 
-mod clocked;
+pub mod clocked;
 mod copy;
 mod enables;
 pub mod insert;
 pub mod laws;
-mod logic;
-mod names;
-mod telling;
+pub mod logic;
+pub mod names;
+pub mod telling;

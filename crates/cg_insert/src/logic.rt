@@ -25,7 +25,7 @@ use cg_netlist::view::Function;
 use std::alloc::Global;
 
 /// Tells the logic cells of a netlist.
-pub(crate) fn tell_cells(
+pub fn tell_cells(
     alloc: Global,
     builder: &mut Builder,
     names: &GatedNames<'_>,

@@ -16,11 +16,12 @@ use cg_text::number::push_number;
 use std::alloc::{AllocError, Global};
 use std::marker::Model;
 
-/// The names of the machine's nets, of the test input and of the outputs of the gating cells, in this order.
+/// The names of the machine's nets, of the test input and of the outputs of the gating cells, in this order; or those of a
+/// netlist's nets alone.
 ///
 /// Those of the netlist lie in it, and only those of added nets are made. Clauses see the list of all names.
 #[derive(Drop)]
-pub(crate) struct GatedNames<'a> {
+pub struct GatedNames<'a> {
     netlist: &'a Netlist,
     more: Vec<Vec<u8>>,
 }
@@ -35,6 +36,16 @@ impl<'a> Model for GatedNames<'a> {
 }
 
 impl<'a> GatedNames<'a> {
+    /// The names of this netlist's nets, with nothing added.
+    pub fn of_netlist(alloc: Global, netlist: &'a Netlist) -> GatedNames<'a>
+        ensures { result ≡ netlist.now.names }
+    {
+        GatedNames {
+            netlist,
+            more: Vec::new(alloc),
+        }
+    }
+
     /// The names of this machine's nets, of a test input and of as many gating cells as there are enables.
     pub(crate) fn of(
         alloc: Global,

@@ -46,7 +46,7 @@ pub(crate) fn tell(
 }
 
 /// Tells the inputs.
-fn tell_inputs(
+pub fn tell_inputs(
     builder: &mut Builder,
     names: &GatedNames<'_>,
     nets: &[NetId],
@@ -84,7 +84,7 @@ fn tell_test(
 }
 
 /// Tells the outputs.
-fn tell_outputs(
+pub fn tell_outputs(
     builder: &mut Builder,
     names: &GatedNames<'_>,
     nets: &[NetId],
@@ -107,7 +107,7 @@ fn tell_output(builder: &mut Builder, names: &GatedNames<'_>, net: NetId) -> Res
 }
 
 /// Tells the clock, if there is one.
-fn tell_clock(
+pub fn tell_clock(
     builder: &mut Builder,
     names: &GatedNames<'_>,
     clock: Option<NetId>,

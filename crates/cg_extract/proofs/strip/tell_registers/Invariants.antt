@@ -1,0 +1,8 @@
+use Rattle.std.proofs.Common.{◌≡◌, take}
+use Rattle.cg_insert.specs.inner.GatedParts.{clocked_parts}
+use Rattle.cg_insert.specs.inner.Telling.{told}
+use Rattle.cg_extract.specs.Lifted.{ungated}
+use Rattle.cg_extract.proofs.strip.tell_registers.Given as goal
+
+abbrev pub invariant-loop-number : goal.invariant-loop-number
+invariant-loop-number l = l.builder ≡ told l.initial.builder (clocked_parts l.names (take l.number (ungated l.netlist).registers))

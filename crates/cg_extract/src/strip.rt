@@ -1,0 +1,111 @@
+//! The netlist without its gating cells.
+
+ghost use Rattle.std.specs.Prelude.{◌≡◌, ◌<◌, Some, length, nat_eq, slice_get, unwrap_or, IfOk};
+ghost use Rattle.std.specs.List.{IsDistinct};
+ghost use Rattle.std.specs.Option.{option_to_list};
+ghost use Rattle.cg_extract.specs.Lifted.{bare, ungated};
+ghost use Rattle.cg_extract.specs.inner.BareParts.{bare_parts};
+ghost use Rattle.cg_insert.specs.inner.GatedParts.{clocked_parts, with_clock};
+ghost use Rattle.cg_insert.specs.inner.Telling.{MayTell, Tells, told};
+ghost use Rattle.cg_netlist.specs.said.Building.{fresh};
+
+use cg_insert::clocked::tell_register;
+use cg_insert::logic::tell_cells;
+use cg_insert::names::GatedNames;
+use cg_insert::telling::{tell_clock, tell_inputs, tell_outputs};
+use cg_netlist::builder::Builder;
+use cg_netlist::fault::AddFault;
+use cg_netlist::id::{NetId, RegId};
+use cg_netlist::netlist::Netlist;
+use cg_netlist::view::RegView;
+use std::alloc::{AllocError, Global};
+
+/// The netlist without its gating cells: its logic cells and registers in their order, every register on the clock, and all its
+/// nets but the outputs of gating cells.
+pub(crate) fn bare(alloc: Global, netlist: &Netlist) -> Result<Netlist, AllocError>
+    requires { IsDistinct nat_eq netlist.now.outputs }
+    ensures { IfOk result (λ kept. kept ≡ bare netlist.now) }
+{
+    let _nets = netlist.nets();
+    // Its parts are those of a netlist, and no more than before: only memory can be wanting.
+    let Ok(builder) = told_builder(alloc, netlist) else {
+        return Err(AllocError);
+    };
+    match builder.finish() {
+        Ok(kept) => Ok(kept),
+        Err(_) => Err(AllocError),
+    }
+}
+
+/// A builder that was told all parts.
+fn told_builder(alloc: Global, netlist: &Netlist) -> Result<Builder, AddFault>
+    requires { IsDistinct nat_eq netlist.now.outputs }
+    ensures { IfOk result (λ builder. builder ≡ told (fresh netlist.now.model) (bare_parts netlist.now.names netlist.now)) }
+{
+    let _nets = netlist.nets();
+    let Ok(mut builder) = Builder::new(alloc, netlist.model()) else {
+        return Err(AddFault::NoMemory);
+    };
+    let names = GatedNames::of_netlist(alloc, netlist);
+    tell(alloc, &mut builder, &names, netlist)?;
+    Ok(builder)
+}
+
+/// Tells the parts in the order in which they are written.
+fn tell(
+    alloc: Global,
+    builder: &mut Builder,
+    names: &GatedNames<'_>,
+    netlist: &Netlist,
+) -> Result<(), AddFault>
+    requires { MayTell builder.old (bare_parts names.now netlist.now) }
+    ensures { Tells builder.old (bare_parts names.now netlist.now) builder.new result }
+{
+    tell_inputs(builder, names, netlist.inputs())?;
+    tell_outputs(builder, names, netlist.outputs())?;
+    tell_clock(builder, names, netlist.clock())?;
+    tell_cells(alloc, builder, names, netlist)?;
+    tell_registers(alloc, builder, names, netlist)
+}
+
+/// Tells the registers, each on the clock.
+fn tell_registers(
+    alloc: Global,
+    builder: &mut Builder,
+    names: &GatedNames<'_>,
+    netlist: &Netlist,
+) -> Result<(), AddFault>
+    requires { MayTell builder.old (clocked_parts names.now (ungated netlist.now).registers) }
+    ensures { Tells builder.old (clocked_parts names.now (ungated netlist.now).registers) builder.new result }
+{
+    let clock = clock_or_first(netlist);
+    for number in 0..netlist.registers() {
+        tell_on_clock(alloc, builder, names, netlist, RegId::new(number), clock)?;
+    }
+    Ok(())
+}
+
+/// Tells the register of this number, on this clock.
+fn tell_on_clock(
+    alloc: Global,
+    builder: &mut Builder,
+    names: &GatedNames<'_>,
+    netlist: &Netlist,
+    reg: RegId,
+    clock: NetId,
+) -> Result<(), AddFault>
+    requires register { reg < length netlist.now.registers }
+    requires parts { MayTell builder.old (clocked_parts names.now (with_clock (Some clock) (option_to_list (slice_get netlist.now.registers reg)))) }
+    ensures { Tells builder.old (clocked_parts names.now (with_clock (Some clock) (option_to_list (slice_get netlist.now.registers reg)))) builder.new result }
+{
+    let register = netlist.register(reg);
+    let on_clock = RegView { clock, ..register };
+    tell_register(alloc, builder, names, on_clock, clock)
+}
+
+/// The clock, or the first net where there is none.
+fn clock_or_first(netlist: &Netlist) -> NetId
+    ensures { result ≡ unwrap_or netlist.now.clock 0 }
+{
+    netlist.clock().unwrap_or(NetId::new(0))
+}

@@ -1,5 +1,6 @@
 mod Answering
 mod Counted
+mod Deserved
 mod Gated
 mod Leads
 mod MayInsert

@@ -1,5 +1,5 @@
 -- What gating gives means what the headline says.
-use Rattle.std.proofs.Common.{◌≡◌, ◌↔◌, ◌+◌, ◌-◌, Bool, true, List, ◌++◌, length, Option, None, Some, refl, sym, ◌∙◌, ap, subst}
+use Rattle.std.proofs.Common.{◌≡◌, ◌+◌, ◌-◌, Bool, true, List, ◌++◌, length, Option, None, Some, refl, sym, ◌∙◌, ap, subst}
 use Rattle.std.proofs.lemmas.List.{length-replicate}
 use Rattle.cg_blif_text.specs.BlifText.{BlifText}
 use Rattle.cg_blif_text.proofs.CanonicalText.{no_two, says_itself}
@@ -24,13 +24,8 @@ use Rattle.cg_netlist.specs.Netlist.{IsNetlist}
 use Rattle.cg_netlist.specs.WellFormed.{IsWellFormed}
 use Rattle.cg_netlist.specs.said.Writable.{IsWritable}
 use Rattle.cg_netlist.proofs.Histories.{has_history, has_one_history}
-use Rattle.cg_plan.specs.Laws.{Deserves, IsTurn}
-use Rattle.cg_plan.specs.Plan.{Plan, Turn, plan_of}
-use Rattle.cg_plan.specs.Trying.{Ends, Tried}
-use Rattle.cg_plan.specs.declared.outcome.Outcome.{Outcome}
-use Rattle.cg_plan.specs.declared.outcome.Outcome.TheVariants.{Inserted}
+use Rattle.cg_plan.specs.Plan.{Plan, plan_of}
 use Rattle.cg_plan.proofs.AllSafe.{each_fits, plans_safe}
-use Rattle.cg_plan.proofs.Exactly.{inserted_exactly}
 use Rattle.cg_report.specs.Idle.{CountZeros}
 use Rattle.cg_stage.proofs.Fitting.{starts_long}
 use Rattle.cg_stimulus.specs.Inputs.{Rows}
@@ -45,6 +40,7 @@ use Rattle.cg_gating.specs.Request.{MayGate, RequestData, gating_of}
 use Rattle.cg_gating.specs.Turns.{Lead}
 use Rattle.cg_gating.specs.declared.texts.Texts.{Texts}
 use Rattle.cg_gating.proofs.Counted.{counts}
+use Rattle.cg_gating.proofs.Deserved.{exactly_worthy}
 use Rattle.cg_gating.proofs.Leads.{plan_leads}
 use Rattle.cg_gating.proofs.MayInsert.{may_gate}
 use Rattle.cg_gating.proofs.TestedWaves.{IsTested, tested_wave}
@@ -127,15 +123,6 @@ module _ (request : RequestData) (says : Option Saying) (read : Circuit) (texts 
         rises = subst (λ c. RisesAre c gives.told.machine tested two.0) (sym gives.gated.is) (subst (λ k. RisesAre (inserted request.library request.test k) k tested two.0) (sym machine_is) rises);
       }
 
-  -- the stages
-  comes : (turn : Turn) → IsTurn request.library request.settings turn → (turn.outcome ≡ Inserted) ↔ Deserves request.library request.settings turn.machine turn.stage
-  comes turn its =
-      let exactly = inserted_exactly request.library request.settings turn.machine turn.stage its.is_machine its.fits in
-      (λ same. exactly.0 (its.comes ∙ ap Ends same), λ deserves. out turn.outcome (sym its.comes ∙ exactly.1 deserves))
-    where
-      out : (o : Outcome) → ◌≡◌ {A = Tried} (Ends o) (Ends Inserted) → o ≡ Inserted
-      out o same = cc
-
   idle : (stimulus : Rows) → request.stimulus ≡ Some stimulus → (history : List Moment) × IsPlayed read stimulus.rows history × CountZeros read history (idle_data read request.prefix stimulus).zeros
   idle stimulus there =
       let for' = may.played stimulus there in
@@ -162,7 +149,7 @@ module _ (request : RequestData) (says : Option Saying) (read : Circuit) (texts 
     planned = refl;
     whole = gives.gated.plan.whole;
     lead = subst (Lead plan.turns m) (sym machine_is) (plan_leads request.library request.settings m by.idle);
-    deserved = λ k turn at. comes turn (each_fits request.library request.settings by.idle m good k turn at);
+    deserved = λ k turn at. exactly_worthy request.library request.settings turn (each_fits request.library request.settings by.idle m good k turn at);
     idle = idle;
     told = gives.gated.plan.stages;
     wide = gives.gated.plan.wide;

@@ -13,7 +13,6 @@ use Rattle.cg_netlist.specs.History.{IsLawful, IsStart, IsWaveform, Moment, Tick
 use Rattle.cg_netlist.specs.Moment.{zip_with}
 use Rattle.cg_netlist.specs.WellFormed.{IsWellFormed}
 use Rattle.cg_netlist.specs.said.Wiring.{NetName, net_name}
-use Rattle.cg_plan.specs.Laws.{Deserves}
 use Rattle.cg_plan.specs.Plan.{Turn, plan_of, wide_of}
 use Rattle.cg_plan.specs.Told.{AreCertified, AreTold, ToldPlan, plan_claims}
 use Rattle.cg_plan.specs.declared.outcome.Outcome.TheVariants.{Inserted}
@@ -24,6 +23,7 @@ use Rattle.cg_planner.specs.Planning.{AreWritable}
 use Rattle.cg_report.specs.Idle.{CountZeros}
 use Rattle.cg_stimulus.specs.Inputs.{Rows, input_names}
 use Rattle.cg_stimulus.specs.Played.{IsPlayed}
+use Rattle.cg_gating.specs.Deserved.{IsWorthy}
 use Rattle.cg_gating.specs.Gating.{where_asked}
 use Rattle.cg_gating.specs.Idling.{idle_data, idle_of}
 use Rattle.cg_gating.specs.Played.{EdgesAre, LineIs, Saying}
@@ -76,13 +76,13 @@ pub record Headline (request : RequestData) (says : Option Saying) (read : Circu
   pub shows : (start : List Bool) (wave : List Tick) (bits : List Bool) → IsStart read start → IsWaveform read wave → length bits ≡ length wave
       → ShowsSame plan.machine read written start (replicate delays true) wave (with_bits request.test wave bits)
   -- it is what the plan's machine is written as; the plan came to its end, its stages lead there from the original, and each is
-  -- inserted exactly where it deserves it on the machine of its turn
+  -- inserted exactly where it is worth it on the machine of its turn
   pub is : written ≡ inserted request.library request.test plan.machine
   pub turns : List Turn
   pub planned : turns ≡ (plan_of request.library request.settings (idle_of read request.prefix request.stimulus) (machine_of read request.prefix)).turns
   pub whole : (plan_of request.library request.settings (idle_of read request.prefix request.stimulus) (machine_of read request.prefix)).limit ≡ None
   pub lead : Lead turns (machine_of read request.prefix) plan.machine
-  pub deserved : (k : ℕ) (turn : Turn) → slice_get turns k ≡ Some turn → (turn.outcome ≡ Inserted) ↔ Deserves request.library request.settings turn.machine turn.stage
+  pub deserved : (k : ℕ) (turn : Turn) → slice_get turns k ≡ Some turn → (turn.outcome ≡ Inserted) ↔ IsWorthy request.library request.settings turn.machine turn.stage
   -- literals are ranked by how often they are 0 in the history on which the stimulus is played
   pub idle : (stimulus : Rows) → request.stimulus ≡ Some stimulus
       → (history : List Moment) × IsPlayed read stimulus.rows history × CountZeros read history (idle_data read request.prefix stimulus).zeros

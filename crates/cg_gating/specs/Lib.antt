@@ -3,5 +3,6 @@ pub mod Request
 pub mod Played
 pub mod Gating
 pub mod Turns
+pub mod Deserved
 pub mod Headline
 pub mod Laws

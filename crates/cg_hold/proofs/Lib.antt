@@ -3,5 +3,7 @@ pub mod Decided
 pub mod ListNumber
 pub mod OfRegister
 pub mod Ranked
+pub mod Room
+pub mod Shown
 pub mod Taken
 pub mod Trials

@@ -3,12 +3,14 @@
 ghost use Rattle.std.specs.Prelude.{◌≡◌, ◌<◌, ℕ, Some, None, if◌then◌else◌, length, nat_lt, slice_get};
 ghost use Rattle.std.specs.Option.{option_copied};
 ghost use Rattle.cg_hold.specs.inner.Choosing.{IsLiteralOf, choice_by};
+ghost use Rattle.cg_hold.specs.inner.Cycles.{AreCycles};
 ghost use Rattle.cg_limit.specs.Answers.{OrNoMemory};
 ghost use Rattle.cg_lists.specs.Literals.{FitsIdle, literals_of};
 ghost use Rattle.cg_machine.specs.Claims.{Literal};
 ghost use Rattle.cg_machine.specs.Machine.{enable_of};
 ghost use Rattle.cg_netlist.specs.declared.fault.AddFault.TheVariants.{NoMemory};
 
+use crate::cycles::Cycles;
 use crate::literals::literals_of;
 use crate::trial::{Trial, Trier};
 use cg_lists::idle::Idle;
@@ -33,6 +35,7 @@ pub(crate) fn choose(
     alloc: Global,
     trier: &mut Trier,
     machine: &Machine,
+    cycles: &Cycles,
     reg: RegId,
     width: u32,
     idle: Option<&Idle<'_>>,
@@ -40,6 +43,7 @@ pub(crate) fn choose(
     requires register { reg < machine.now.own_registers }
     requires free { enable_of machine.now reg ≡ None }
     requires idle { FitsIdle machine.now (option_copied idle) }
+    requires cycles { AreCycles machine.now cycles.now.cycles }
     ensures { OrNoMemory NoMemory (λ choice. choice) result (choice_by machine.now width reg (literals_of machine.now (option_copied idle.entry) reg)) }
 {
     let _netlist = machine.netlist();
@@ -49,7 +53,7 @@ pub(crate) fn choose(
     if literals.is_empty() {
         return Ok(without_literals(width));
     }
-    first_that_serves(trier, machine, &literals, reg, width)
+    first_that_serves(trier, machine, cycles, &literals, reg, width)
 }
 
 /// What comes of a register without literals: its claims have one leaf, its own bit.
@@ -67,6 +71,7 @@ fn without_literals(width: u32) -> Choice
 fn first_that_serves(
     trier: &mut Trier,
     machine: &Machine,
+    cycles: &Cycles,
     literals: &[NetLit],
     reg: RegId,
     width: u32,
@@ -74,10 +79,12 @@ fn first_that_serves(
     requires register { reg < machine.now.own_registers }
     requires nets { (k : ℕ) (l : Literal) → slice_get literals.now k ≡ Some l → IsLiteralOf machine.now reg l }
     requires some { 0 < length literals.now }
+    requires cycles { AreCycles machine.now cycles.now.cycles }
     ensures { OrNoMemory NoMemory (λ choice. choice) result (choice_by machine.now width reg literals.now) }
 {
+    let room = trier.has_room(machine, literals[0], reg, width);
     for literal in literals {
-        match trier.try_literal(machine, *literal, reg, width)? {
+        match trier.settle(machine, cycles, room, *literal, reg, width)? {
             Trial::TooWide => return Ok(Choice::Wide),
             Trial::Serves => return Ok(Choice::Takes(Some(*literal))),
             Trial::Fails => {}

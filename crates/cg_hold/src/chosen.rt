@@ -3,6 +3,7 @@
 ghost use Rattle.std.specs.Prelude.{◌≡◌, ◌<◌, ◌≤◌, ◌+◌, ◌*◌, ◌^◌, ◌++◌, ◌∷◌, ◌⊎◌, [], ℕ, true, length, replicate, slice_index_or, slice_set, is_none, IfErr, IfOk, OnOk};
 ghost use Rattle.std.specs.Option.{option_copied};
 ghost use Rattle.cg_hold.specs.inner.Choosing.{AreChosen, FitsChoice, passes_at, wide_by, with_choice};
+ghost use Rattle.cg_hold.specs.inner.Cycles.{AreCycles};
 ghost use Rattle.cg_hold.specs.inner.Packed.{place_of};
 ghost use Rattle.cg_limit.specs.declared.Limit.TheVariants.{ClaimNodes};
 ghost use Rattle.cg_lists.specs.HoldList.{hold_passes};
@@ -11,6 +12,7 @@ ghost use Rattle.cg_machine.specs.Machine.{enable_of};
 ghost use Rattle.cg_netlist.specs.declared.fault.AddFault.TheVariants.{Limit as LimitFault, NoMemory};
 
 use crate::choice::{Choice, choose};
+use crate::cycles::Cycles;
 use crate::trial::Trier;
 use cg_list::Seq;
 use cg_lists::idle::Idle;
@@ -42,15 +44,51 @@ impl Chosen {
         ensures chosen { IfOk result (λ chosen. AreChosen machine.now (option_copied idle.entry) width machine.now.own_registers chosen.lists.items chosen.wide) }
         ensures refused { IfErr result (λ fault. (fault ≡ NoMemory) ⊎ ((fault ≡ LimitFault ClaimNodes) × (hold_passes machine.now (option_copied idle.entry) width ≡ true))) }
     {
-        let netlist = machine.netlist();
-        let mut trier = Trier::new(alloc);
+        let _netlist = machine.netlist();
         let Ok(mut chosen) = Chosen::none(alloc, machine.nets()) else {
             return Err(AddFault::NoMemory);
         };
-        for reg in 0..netlist.registers() {
-            chosen.look(alloc, &mut trier, machine, RegId::new(reg), width, idle)?;
+        let Ok(cycles) = Cycles::of(alloc, machine) else {
+            return Err(AddFault::NoMemory);
+        };
+        let mut trier = Trier::new(alloc);
+        match chosen.look_at_all(alloc, &mut trier, machine, &cycles, width, idle) {
+            Ok(()) => Ok(chosen),
+            Err(fault) => Err(fault),
         }
-        Ok(chosen)
+    }
+
+    /// Looks at all registers of a machine's netlist.
+    fn look_at_all(
+        &mut self,
+        alloc: Global,
+        trier: &mut Trier,
+        machine: &Machine,
+        cycles: &Cycles,
+        width: u32,
+        idle: Option<&Idle<'_>>,
+    ) -> Result<(), AddFault>
+        requires idle { FitsIdle machine.now (option_copied idle) }
+        requires cycles { AreCycles machine.now cycles.now.cycles }
+        requires chosen { AreChosen machine.now (option_copied idle) width 0 self.old.lists.items self.old.wide }
+        ensures chosen { OnOk result (AreChosen machine.now (option_copied idle.entry) width machine.now.own_registers self.new.lists.items self.new.wide) }
+        ensures refused { IfErr result (λ fault. (fault ≡ NoMemory) ⊎ ((fault ≡ LimitFault ClaimNodes) × (hold_passes machine.now (option_copied idle.entry) width ≡ true))) }
+    {
+        let netlist = machine.netlist();
+        for reg in 0..netlist.registers() {
+            if let Err(fault) = self.look(
+                alloc,
+                trier,
+                machine,
+                cycles,
+                RegId::new(reg),
+                width,
+                idle,
+            ) {
+                return Err(fault);
+            }
+        }
+        Ok(())
     }
 
     /// No register for each literal of `nets` nets.
@@ -72,12 +110,14 @@ impl Chosen {
         alloc: Global,
         trier: &mut Trier,
         machine: &Machine,
+        cycles: &Cycles,
         reg: RegId,
         width: u32,
         idle: Option<&Idle<'_>>,
     ) -> Result<(), AddFault>
         requires register { reg < machine.now.own_registers }
         requires idle { FitsIdle machine.now (option_copied idle) }
+        requires cycles { AreCycles machine.now cycles.now.cycles }
         requires chosen { AreChosen machine.now (option_copied idle) width reg self.old.lists.items self.old.wide }
         ensures chosen { OnOk result (AreChosen machine.now (option_copied idle.entry) width (reg + 1) self.new.lists.items self.new.wide) }
         ensures refused { IfErr result (λ fault. (fault ≡ NoMemory) ⊎ ((fault ≡ LimitFault ClaimNodes) × ((is_none (enable_of machine.now reg) ≡ true) × (passes_at machine.now (option_copied idle.entry) width reg ≡ true)))) }
@@ -86,7 +126,7 @@ impl Chosen {
         if machine.enable(reg).is_some() {
             return Ok(());
         }
-        match choose(alloc, trier, machine, reg, width, idle) {
+        match choose(alloc, trier, machine, cycles, reg, width, idle) {
             Ok(choice) => self.note(reg, choice),
             Err(fault) => Err(fault),
         }

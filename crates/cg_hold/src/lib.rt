@@ -6,7 +6,8 @@
 //! The modules:
 //!
 //! - `literals`: the literals of a register in the order in which they are tried.
-//! - `trial`: what comes of one literal, by its claims.
+//! - `cycles`: a few cycles with random bits, which settle most literals.
+//! - `trial`: what comes of one literal, by the cycles and by its claims.
 //! - `choice`: the literal that a register takes.
 //! - `chosen`: the registers that took each literal.
 //! - `candidates`: the hold stages.
@@ -15,5 +16,6 @@
 pub mod candidates;
 mod choice;
 mod chosen;
+mod cycles;
 mod literals;
 mod trial;

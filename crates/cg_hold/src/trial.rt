@@ -1,19 +1,23 @@
 //! What comes of one literal, by its claims.
 
-ghost use Rattle.std.specs.Prelude.{◌≡◌, ◌<◌, ◌∷◌, [], ℕ, if◌then◌else◌, IsTrue, IfOk, MatchResult, length};
+ghost use Rattle.std.specs.Prelude.{◌≡◌, ◌<◌, ◌+◌, ◌∷◌, [], ℕ, true, if◌then◌else◌, IsTrue, IfOk, MatchResult, length};
 ghost use Rattle.cg_aig.specs.Aig.{aig_ops};
 ghost use Rattle.cg_claim.specs.LeafBits.{is_never};
 ghost use Rattle.cg_claim.specs.Question.{Question, hold_question, idle_question};
 ghost use Rattle.cg_claim.specs.Violates.{SidesFit};
-ghost use Rattle.cg_hold.specs.inner.Choosing.{IsLiteralOf, refused_trial, trial_of};
+ghost use Rattle.cg_hold.specs.inner.Choosing.{HasRoom, IsLiteralOf, refused_trial, trial_of};
+ghost use Rattle.cg_hold.specs.inner.Cycles.{AreCycles};
 ghost use Rattle.cg_limit.specs.Answers.{OrNoMemory};
 ghost use Rattle.cg_lists.specs.HoldList.{serves};
 ghost use Rattle.cg_machine.specs.Machine.{IsMachine, MachineData};
 ghost use Rattle.cg_netlist.specs.declared.fault.AddFault.TheVariants.{NoMemory};
 ghost use Rattle.cg_unroll.specs.Claims.{IsClaim};
 
+use crate::cycles::Cycles;
+use cg_aig::Aig;
 use cg_claim::laws::claim_laws;
 use cg_decide::{Decider, Decision};
+use cg_limit::MOST_CLAIM_NODES;
 use cg_lists::laws::list_laws;
 use cg_machine::machine::Machine;
 use cg_machine::stage::NetLit;
@@ -52,22 +56,63 @@ impl Trier {
         }
     }
 
-    /// What comes of a literal of the cone of a register's inputs.
-    pub fn try_literal(
+    /// Whether the hold claim of a literal of the cone of a register's inputs is so much below its limits that none of this
+    /// register is refused.
+    pub fn has_room(&mut self, machine: &Machine, literal: NetLit, reg: RegId, width: u32) -> bool
+        requires register { reg < machine.now.own_registers }
+        requires literal { IsLiteralOf machine.now reg literal }
+        ensures { result ≡ true → HasRoom machine.now width reg }
+    {
+        list_laws();
+        let _netlist = machine.netlist();
+        match self.unroller.hold(machine, literal, reg, width) {
+            Ok(()) => nodes(self.unroller.aig()) < MOST_CLAIM_NODES,
+            Err(_) => false,
+        }
+    }
+
+    /// What comes of a literal of the cone of a register's inputs: by the cycles where the register has room and they show
+    /// that it does not serve, and else by its claims.
+    pub fn settle(
         &mut self,
         machine: &Machine,
+        cycles: &Cycles,
+        room: bool,
         literal: NetLit,
         reg: RegId,
         width: u32,
     ) -> Result<Trial, AddFault>
         requires register { reg < machine.now.own_registers }
         requires literal { IsLiteralOf machine.now reg literal }
+        requires cycles { AreCycles machine.now cycles.now.cycles }
+        requires room { room ≡ true → HasRoom machine.now width reg }
+        ensures { OrNoMemory NoMemory (λ trial. trial) result (trial_of machine.now width reg literal) }
+    {
+        let _netlist = machine.netlist();
+        if room && cycles.show_move(machine, literal, reg) {
+            return Ok(Trial::Fails);
+        }
+        self.try_literal(machine, cycles, literal, reg, width)
+    }
+
+    /// What comes of a literal of the cone of a register's inputs, by its claims.
+    fn try_literal(
+        &mut self,
+        machine: &Machine,
+        cycles: &Cycles,
+        literal: NetLit,
+        reg: RegId,
+        width: u32,
+    ) -> Result<Trial, AddFault>
+        requires register { reg < machine.now.own_registers }
+        requires literal { IsLiteralOf machine.now reg literal }
+        requires cycles { AreCycles machine.now cycles.now.cycles }
         ensures { OrNoMemory NoMemory (λ trial. trial) result (trial_of machine.now width reg literal) }
     {
         list_laws();
         let _netlist = machine.netlist();
         match self.unroller.hold(machine, literal, reg, width) {
-            Ok(()) => self.judge(machine, literal, reg, width),
+            Ok(()) => self.judge(machine, cycles, literal, reg, width),
             Err(fault) => refused(fault),
         }
     }
@@ -76,12 +121,14 @@ impl Trier {
     fn judge(
         &mut self,
         machine: &Machine,
+        cycles: &Cycles,
         literal: NetLit,
         reg: RegId,
         width: u32,
     ) -> Result<Trial, AddFault>
         requires register { reg < machine.now.own_registers }
         requires net { literal.0 < length machine.now.circuit.names }
+        requires cycles { AreCycles machine.now cycles.now.cycles }
         requires claim { IsClaim machine.now (hold_question literal reg) width self.old.unroller }
         ensures { MatchResult result (λ trial. trial ≡ (if serves machine.now reg literal then Trial.Serves else Trial.Fails)) (λ fault. fault ≡ NoMemory) }
     {
@@ -92,7 +139,7 @@ impl Trier {
         if !holds {
             return Ok(Trial::Fails);
         }
-        let Ok(stays) = self.is_never_idle(machine, literal) else {
+        let Ok(stays) = self.is_never_idle(machine, cycles, literal) else {
             return Err(AddFault::NoMemory);
         };
         if stays {
@@ -103,13 +150,22 @@ impl Trier {
     }
 
     /// Whether a literal is never 0.
-    fn is_never_idle(&mut self, machine: &Machine, literal: NetLit) -> Result<bool, AllocError>
-        requires { literal.0 < length machine.now.circuit.names }
+    fn is_never_idle(
+        &mut self,
+        machine: &Machine,
+        cycles: &Cycles,
+        literal: NetLit,
+    ) -> Result<bool, AllocError>
+        requires net { literal.0 < length machine.now.circuit.names }
+        requires cycles { AreCycles machine.now cycles.now.cycles }
         ensures { IfOk result (λ never. never ≡ is_never machine.now (idle_question (literal ∷ []))) }
     {
         let _netlist = machine.netlist();
-        // The claim has fewer leaves than any width of this type allows, and its nodes are among those of a hold claim that was
-        // within the limit.
+        if cycles.show_idle(machine, literal) {
+            return Ok(false);
+        }
+        // The claim has fewer leaves than any width of this type allows. Its nodes are among those of a hold claim that was
+        // within the limit; as this is not proved, a refusal would be answered as want of memory.
         match self.unroller.idle(machine, &[literal], u32::MAX) {
             Ok(()) => self.is_never(),
             Err(_) => Err(AllocError),
@@ -130,6 +186,13 @@ impl Trier {
             Decision::Sometimes(_) => Ok(false),
         }
     }
+}
+
+/// How many leaves and and-nodes a list has.
+fn nodes(aig: &Aig) -> u32
+    ensures { result ≡ aig.now.number + length aig.now.pairs }
+{
+    aig.leaves() + aig.ands()
 }
 
 /// What comes of a literal whose hold claim is refused so.

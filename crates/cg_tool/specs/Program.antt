@@ -1,5 +1,5 @@
 -- What a run of the program does, by its words.
-use Rattle.std.specs.Prelude.{◌≡◌, ℕ, Bool, true, false, not, ◌&&◌, if◌then◌else◌, List, [], codes, Option, None, Some, Result, ⊤}
+use Rattle.std.specs.Prelude.{◌≡◌, ℕ, Bool, true, false, not, ◌&&◌, if◌then◌else◌, List, [], codes, Option, None, Some, is_none, Result, ⊤}
 use Rattle.std.specs.Option.{option_and_then}
 use Rattle.cg_shelf.specs.World.{World}
 use Rattle.cg_shelf.specs.declared.faults.LoadFault.{LoadFault}
@@ -12,22 +12,21 @@ use Rattle.cg_run.specs.declared.status.Status.TheVariants as statuses
 use Rattle.cg_words.specs.Jobs.{JobWords, job_of}
 use Rattle.cg_words.specs.declared.job.Mode.{Mode}
 use Rattle.cg_words.specs.declared.job.Mode.TheVariants.{Demo, Gate, Lrat, Sim}
-use Rattle.cg_words.specs.declared.options.Asked.{Asked}
 use Rattle.cg_words.specs.declared.options.Options.{Options}
 use Rattle.cg_tool.specs.Gate.{gate_task}
 use Rattle.cg_tool.specs.Lrat.{lrat_task}
 use Rattle.cg_tool.specs.Sim.{sim_task}
 use Rattle.cg_tool.specs.Watching.{Kind, kind_at}
 
--- What is taken so far: no `demo`, and no `gate` that plays a stimulus or writes a proof or a report.
-abbrev pub is_taken : Mode → Asked → Bool
-is_taken Gate asked = not asked.stimulus && not asked.proof && not asked.report
-is_taken Sim asked = true
-is_taken Lrat asked = true
-is_taken (Demo size) asked = false
+-- What is taken so far: no `demo`, and no `gate` that plays a stimulus, writes a proof or a report, or adds a test input.
+abbrev pub is_taken : Mode → Options → Bool
+is_taken Gate options = not options.asked.stimulus && not options.asked.proof && not options.asked.report && is_none options.test
+is_taken Sim options = true
+is_taken Lrat options = true
+is_taken (Demo size) options = false
 
 abbrev pub taken_job : Option JobWords → Option JobWords
-taken_job job = option_and_then (λ job. if is_taken job.mode job.options.asked then Some job else None) job
+taken_job job = option_and_then (λ job. if is_taken job.mode job.options then Some job else None) job
 
 -- the job of a line, where there are watchers of these names
 abbrev pub asked_job : List (List ℕ) → List (List ℕ) → Option JobWords

@@ -20,7 +20,7 @@ use cg_report::watcher::Watcher;
 use cg_run::Status;
 use cg_run::closing::complain;
 use cg_shelf::Shelf;
-use cg_words::{Asked, Job, Mode, read_words};
+use cg_words::{Job, Mode, Options, read_words};
 use std::alloc::{AllocError, Global};
 
 /// Does what the words of a command line ask for, over the shelf, and answers how that ended.
@@ -116,19 +116,22 @@ fn taken_job(job: Option<Job<'_>>) -> Option<Job<'_>>
 fn taken(job: Job<'_>) -> Option<Job<'_>>
     ensures { option_map job_words result ≡ taken_job (Some (job_words job.entry)) }
 {
-    if is_taken(job.mode, job.options.asked) {
+    if is_taken(job.mode, &job.options) {
         Some(job)
     } else {
         None
     }
 }
 
-/// Whether a mode is taken, where these files are asked for.
-fn is_taken(mode: Mode, asked: Asked) -> bool
-    ensures { result ≡ is_taken mode asked }
+/// Whether a mode is taken with these options.
+fn is_taken(mode: Mode, options: &Options) -> bool
+    ensures { result ≡ is_taken mode options.now }
 {
     match mode {
-        Mode::Gate => !asked.stimulus && !asked.proof && !asked.report,
+        Mode::Gate => {
+            let asked = options.asked;
+            !asked.stimulus && !asked.proof && !asked.report && options.test.is_none()
+        }
         Mode::Sim | Mode::Lrat => true,
         Mode::Demo(_) => false,
     }
@@ -140,7 +143,7 @@ fn run_job<S: Shelf>(
     job: Job<'_>,
     watchers: Vec<Box<dyn Watcher>>,
 ) -> Status
-    requires { IsTrue (is_taken job.mode job.options.asked) }
+    requires { IsTrue (is_taken job.mode job.options) }
     ensures { Runs (Gave S.gives) (task_by (map (λ watcher. says watcher) watchers.items) (job_words job.entry)) (name_of job.entry.names) (S.world shelf.old) (S.world shelf.new) result }
 {
     let Job {

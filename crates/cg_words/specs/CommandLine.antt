@@ -22,7 +22,7 @@ with_options app [] = app
 with_options app (name ∷ names) = with_options (with_option app name) names
 
 abbrev pub option_names : List Text
-option_names = codes "stim" ∷ codes "proof" ∷ codes "report" ∷ codes "min" ∷ codes "width" ∷ codes "rounds" ∷ codes "clock" ∷ codes "prefix" ∷ codes "watch" ∷ []
+option_names = codes "stim" ∷ codes "proof" ∷ codes "report" ∷ codes "min" ∷ codes "width" ∷ codes "rounds" ∷ codes "clock" ∷ codes "prefix" ∷ codes "test" ∷ codes "watch" ∷ []
 
 abbrev pub command_line : App
 command_line = with_options (with_rule (with_rule (new_app (codes "clockgate")) mode_rule) files_rule) option_names
@@ -37,6 +37,7 @@ pub record Values : Type 0 where
   pub rounds : Option Text
   pub clock : Option Text
   pub prefix : Option Text
+  pub test : Option Text
   pub watch : Option Text
 
 -- those that the matches of the command have
@@ -50,5 +51,6 @@ values_in rows = record {
   rounds = first_of (codes "rounds") rows;
   clock = first_of (codes "clock") rows;
   prefix = first_of (codes "prefix") rows;
+  test = first_of (codes "test") rows;
   watch = first_of (codes "watch") rows;
 }

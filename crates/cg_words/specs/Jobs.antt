@@ -25,8 +25,8 @@ job_words job = record { mode = job.mode; files = files_of job.names; options = 
 abbrev pub job_of_options : Mode → Files → Option Options → Option JobWords
 job_of_options mode files options = option_map (λ options. record { mode = mode; files = files; options = options }) options
 
--- `gate LIB NETLIST OUT` with `--stim F`, `--proof F`, `--report F`, `--min N`, `--width N`, `--rounds N`, `--clock NAME`, `--prefix P` and
--- `--watch NAME`, where all files are different
+-- `gate LIB NETLIST OUT` with `--stim F`, `--proof F`, `--report F`, `--min N`, `--width N`, `--rounds N`, `--clock NAME`, `--prefix P`,
+-- `--test NAME` and `--watch NAME`, where all files are different
 abbrev pub gate_files : Text → Text → Text → Values → Files
 gate_files library netlist out values =
     record no_files { library = library; netlist = netlist; stimulus = unwrap_or values.stim []; out = out; proof = unwrap_or values.proof []; report = unwrap_or values.report [] }

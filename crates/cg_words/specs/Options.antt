@@ -1,6 +1,6 @@
 -- What the options of a line say.
-use Rattle.std.specs.Prelude.{ℕ, Bool, true, false, not, ◌&&◌, ◌||◌, if◌then◌else◌, List, [], ◌∷◌, ◌++◌, nat_le, codes, Option, None, Some, is_none, is_some, unwrap_or}
-use Rattle.std.specs.List.{list_any, position_from}
+use Rattle.std.specs.Prelude.{ℕ, nat_eq, Bool, true, false, not, ◌&&◌, ◌||◌, if◌then◌else◌, List, [], ◌∷◌, ◌++◌, nat_le, codes, Option, None, Some, is_none, is_some, unwrap_or}
+use Rattle.std.specs.List.{list_any, position_from, starts_with}
 use Rattle.std.specs.Option.{option_and_then, option_map, option_to_list}
 use Rattle.std.specs.Str.{bytes_eq}
 use Rattle.clap.specs.Words.{Text}
@@ -27,12 +27,13 @@ abbrev pub number_or : ℕ → ℕ → ℕ → Option Text → Option ℕ
 number_or default low high None = Some default
 number_or default low high (Some word) = number_in low high word
 
-abbrev pub settings_with : Option ℕ → Option ℕ → Option ℕ → Option Settings
-settings_with (Some min) (Some width) (Some rounds) = Some (record { min = min; width = width; rounds = rounds; test = false })
-settings_with _ _ _ = None
+-- what bounds a plan; gating cells have a test input exactly where one is named
+abbrev pub settings_with : Bool → Option ℕ → Option ℕ → Option ℕ → Option Settings
+settings_with test (Some min) (Some width) (Some rounds) = Some (record { min = min; width = width; rounds = rounds; test = test })
+settings_with test _ _ _ = None
 
 abbrev pub settings_in : Values → Option Settings
-settings_in values = settings_with (number_or 1 1 1024 values.min) (number_or 32 1 256 values.width) (number_or 4 0 16 values.rounds)
+settings_in values = settings_with (is_some values.test) (number_or 1 1 1024 values.min) (number_or 32 1 256 values.width) (number_or 4 0 16 values.rounds)
 
 abbrev pub default_settings : Settings
 default_settings = record { min = 1; width = 32; rounds = 4; test = false }
@@ -45,6 +46,11 @@ is_named (Some name) = is_name name
 -- what added nets are named by where the words do not say it
 abbrev pub default_prefix : Text
 default_prefix = codes "cg_"
+
+-- a name that, where it is given, no added net can have: it does not begin with the prefix
+abbrev pub is_apart : Text → Option Text → Bool
+is_apart prefix None = true
+is_apart prefix (Some name) = not (starts_with nat_eq name prefix)
 
 -- the place of the watcher that is asked for: the first of this name among those that there are
 abbrev pub watch_in : List Text → Option Text → Option (Option ℕ)
@@ -66,20 +72,21 @@ asked_in values = record { stimulus = is_some values.stim; proof = is_some value
 
 -- whether options are given that `gate` alone has; and options of any mode
 abbrev pub has_gate_options : Values → Bool
-has_gate_options values = is_some values.stim || is_some values.proof || is_some values.report || is_some values.min || is_some values.width || is_some values.rounds || is_some values.prefix
+has_gate_options values = is_some values.stim || is_some values.proof || is_some values.report || is_some values.min || is_some values.width || is_some values.rounds || is_some values.prefix || is_some values.test
 
 abbrev pub has_options : Values → Bool
 has_options values = is_some values.clock || is_some values.watch || has_gate_options values
 
 -- what a mode is done with that has no options
 abbrev pub no_options : Options
-no_options = record { clock = None; prefix = default_prefix; settings = default_settings; watch = None; asked = record { stimulus = false; proof = false; report = false } }
+no_options = record { clock = None; prefix = default_prefix; test = None; settings = default_settings; watch = None; asked = record { stimulus = false; proof = false; report = false } }
 
--- what the options of `gate` say; the values of `--clock` and `--prefix` are names, and there is a watcher only with a stimulus
+-- What the options of `gate` say. The values of `--clock`, `--prefix` and `--test` are names, that of `--test` does not begin with the
+-- prefix, whether this is given or is the default, and there is a watcher only with a stimulus.
 abbrev pub gate_options_with : Values → Option Settings → Option (Option ℕ) → Option Options
 gate_options_with values (Some settings) (Some watch) =
-    if is_named values.clock && (is_named values.prefix && (is_none values.watch || is_some values.stim))
-    then Some (record { clock = values.clock; prefix = unwrap_or values.prefix default_prefix; settings = settings; watch = watch; asked = asked_in values })
+    if is_named values.clock && (is_named values.prefix && (is_named values.test && (is_apart (unwrap_or values.prefix default_prefix) values.test && (is_none values.watch || is_some values.stim))))
+    then Some (record { clock = values.clock; prefix = unwrap_or values.prefix default_prefix; test = values.test; settings = settings; watch = watch; asked = asked_in values })
     else None
 gate_options_with values _ _ = None
 

@@ -14,5 +14,6 @@ values_of given = record {
   rounds = option_map (λ word. word.now) given.rounds;
   clock = option_map (λ word. word.now) given.clock;
   prefix = option_map (λ word. word.now) given.prefix;
+  test = option_map (λ word. word.now) given.test;
   watch = option_map (λ word. word.now) given.watch;
 }

@@ -20,7 +20,8 @@ pub fn command_line<'a>(alloc: Global) -> Result<Command<'a>, AllocError>
     let rounds = with_option(alloc, width, "rounds")?;
     let clock = with_option(alloc, rounds, "clock")?;
     let prefix = with_option(alloc, clock, "prefix")?;
-    with_option(alloc, prefix, "watch")
+    let test = with_option(alloc, prefix, "test")?;
+    with_option(alloc, test, "watch")
 }
 
 /// The command without options.

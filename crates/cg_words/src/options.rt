@@ -4,7 +4,7 @@ ghost use Rattle.std.specs.Prelude.{◌≡◌, ◌++◌, ◌<◌, ◌^◌, [], c
 ghost use Rattle.std.specs.List.{list_any, position_from};
 ghost use Rattle.std.specs.Str.{bytes_eq};
 ghost use Rattle.std.specs.Option.{option_map, option_to_list};
-ghost use Rattle.cg_words.specs.Options.{are_different, asked_in, default_prefix, gate_options, has_gate_options, has_options, is_named, no_options, number_in, number_or, option_files, settings_in, sim_options, watch_in};
+ghost use Rattle.cg_words.specs.Options.{are_different, asked_in, default_prefix, gate_options, has_gate_options, has_options, is_apart, is_named, no_options, number_in, number_or, option_files, settings_in, sim_options, watch_in};
 ghost use Rattle.cg_words.specs.Seen.{values_of};
 
 use crate::values::OptionWords;
@@ -30,6 +30,9 @@ pub struct Options {
     /// What the names of added nets begin with.
     pub prefix: Name,
 
+    /// The name of the test input that gating cells get, where there is to be one. It does not begin with the prefix.
+    pub test: Option<Name>,
+
     /// What bounds the plan.
     pub settings: Settings,
 
@@ -47,6 +50,7 @@ pub fn no_options(alloc: Global) -> Result<Options, AllocError>
     Ok(Options {
         clock: None,
         prefix: Name::new(alloc, b"cg_")?,
+        test: None,
         settings: Settings {
             min: 1,
             width: 32,
@@ -79,12 +83,16 @@ pub fn gate_options(
     if !is_named(given.clock) || !is_named(given.prefix) {
         return Ok(None);
     }
+    if !is_named(given.test) || !is_apart(given.test, given.prefix) {
+        return Ok(None);
+    }
     if given.watch.is_some() && given.stim.is_none() {
         return Ok(None);
     }
     Ok(Some(Options {
         clock: name(alloc, given.clock)?,
         prefix: prefix(alloc, given.prefix)?,
+        test: name(alloc, given.test)?,
         settings,
         watch,
         asked: asked_for(given),
@@ -110,6 +118,7 @@ pub fn sim_options(
     Ok(Some(Options {
         clock,
         prefix: plain.prefix,
+        test: plain.test,
         settings: plain.settings,
         watch,
         asked: plain.asked,
@@ -127,6 +136,7 @@ pub fn has_gate_options(given: &OptionWords<'_>) -> bool
         || given.width.is_some()
         || given.rounds.is_some()
         || given.prefix.is_some()
+        || given.test.is_some()
 }
 
 /// Whether options of any mode are given.
@@ -156,7 +166,7 @@ fn settings(given: &OptionWords<'_>) -> Option<Settings>
         min,
         width,
         rounds,
-        test: false,
+        test: given.test.is_some(),
     })
 }
 
@@ -189,6 +199,18 @@ fn is_named(value: Option<&str>) -> bool
     match value {
         None => true,
         Some(value) => Name::is_name(value.as_bytes()),
+    }
+}
+
+/// Whether a name, where it is given, is none that added nets can have: it does not begin with the prefix.
+fn is_apart(value: Option<&str>, prefix: Option<&str>) -> bool
+    ensures { result ≡ is_apart (unwrap_or (option_map (λ word. word.now) prefix.entry) default_prefix) (option_map (λ word. word.now) value.entry) }
+{
+    match value {
+        None => true,
+        Some(value) => !value
+            .as_bytes()
+            .starts_with(prefix.unwrap_or("cg_").as_bytes()),
     }
 }
 

@@ -18,6 +18,7 @@ pub struct OptionWords<'a> {
     pub rounds: Option<&'a str>,
     pub clock: Option<&'a str>,
     pub prefix: Option<&'a str>,
+    pub test: Option<&'a str>,
     pub watch: Option<&'a str>,
 }
 
@@ -34,6 +35,7 @@ pub fn given<'a>(matches: &ArgMatches<'a>) -> OptionWords<'a>
         rounds: matches.get_str("rounds"),
         clock: matches.get_str("clock"),
         prefix: matches.get_str("prefix"),
+        test: matches.get_str("test"),
         watch: matches.get_str("watch"),
     }
 }

@@ -25,6 +25,10 @@ use Rattle.cg_hold.specs.inner.Packed.{place_of}
 abbrev pub IsLiteralOf : MachineData → ℕ → Literal → Type 0
 IsLiteralOf m r l = (is_in (input_cone m r) l.0 ≡ true) × (l.0 < length m.circuit.names)
 
+-- no hold claim of a register is refused
+abbrev pub HasRoom : MachineData → ℕ → ℕ → Type 0
+HasRoom m width r = (nat_lt width (hold_width m r) ≡ false) × ((l : Literal) → IsLiteralOf m r l → is_large m (hold_question l r) ≡ false)
+
 -- what comes of a literal that is looked at
 abbrev pub trial_of : MachineData → ℕ → ℕ → Literal → Result Trial AddFault
 trial_of m width r l =

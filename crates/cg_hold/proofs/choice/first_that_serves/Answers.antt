@@ -9,15 +9,15 @@ use Rattle.cg_hold.specs.inner.Choosing.{choice_by, trial_of}
 use Rattle.cg_hold.proofs.Trials.{drop_at, err_choice, front_fails, front_serves, front_wide}
 use Rattle.cg_hold.proofs.choice.first_that_serves.Goals as goal
 
-pub returns-in_err-try_literal : goal.returns-in_err-try_literal
-returns-in_err-try_literal c =
+pub returns-in_err-settle : goal.returns-in_err-settle
+returns-in_err-settle c =
     let literals = c.args.literals.now in
     let i = c.loop-literal.literal-index in
     let l = c.literal-item.result in
     let at : slice_get literals i ≡ Some l = slice_get_read literals _ i l refl c.loop-literal-test.true c.literal-item.is in
-    let same : c.from_residual.result ≡ Err c.in_err-try_literal.field-0.0 = search rules in
+    let same : c.from_residual.result ≡ Err c.in_err-settle.field-0.0 = search rules in
     subst (λ (z : Result Choice AddFault). OrNoMemory NoMemory (λ (t : Choice). t) z (choice_by c.args.machine.now c.args.width c.args.reg literals)) (sym same)
-    (err_choice c.args.machine.now c.args.width c.args.reg literals i l at c.loop-literal.invariant.left c.in_err-try_literal.field-0.0 c.in_err-try_literal.ensures)
+    (err_choice c.args.machine.now c.args.width c.args.reg literals i l at c.loop-literal.invariant.left c.in_err-settle.field-0.0 c.in_err-settle.ensures)
 
 pub returns-in-TooWide : goal.returns-in-TooWide
 returns-in-TooWide c =
@@ -28,7 +28,7 @@ returns-in-TooWide c =
     let i = c.loop-literal.literal-index in
     let l = c.literal-item.result in
     let at : slice_get literals i ≡ Some l = slice_get_read literals _ i l refl c.loop-literal-test.true c.literal-item.is in
-    sym c.loop-literal.invariant.left ∙ (ap (choice_by m w r) (drop_at literals i l at) ∙ front_wide m w r l (drop (i + 1) literals) (subst (λ (z : Trial). trial_of m w r l ≡ Ok z) c.in-TooWide.is c.in_ok-try_literal.ensures))
+    sym c.loop-literal.invariant.left ∙ (ap (choice_by m w r) (drop_at literals i l at) ∙ front_wide m w r l (drop (i + 1) literals) (subst (λ (z : Trial). trial_of m w r l ≡ Ok z) c.in-TooWide.is c.in_ok-settle.ensures))
 
 pub returns-in-Serves : goal.returns-in-Serves
 returns-in-Serves c =
@@ -39,7 +39,7 @@ returns-in-Serves c =
     let i = c.loop-literal.literal-index in
     let l = c.literal-item.result in
     let at : slice_get literals i ≡ Some l = slice_get_read literals _ i l refl c.loop-literal-test.true c.literal-item.is in
-    sym c.loop-literal.invariant.left ∙ (ap (choice_by m w r) (drop_at literals i l at) ∙ front_serves m w r l (drop (i + 1) literals) (subst (λ (z : Trial). trial_of m w r l ≡ Ok z) c.in-Serves.is c.in_ok-try_literal.ensures))
+    sym c.loop-literal.invariant.left ∙ (ap (choice_by m w r) (drop_at literals i l at) ∙ front_serves m w r l (drop (i + 1) literals) (subst (λ (z : Trial). trial_of m w r l ≡ Ok z) c.in-Serves.is c.in_ok-settle.ensures))
 
 pub loop-literal-preserved : goal.loop-literal-preserved
 loop-literal-preserved c =
@@ -50,5 +50,5 @@ loop-literal-preserved c =
     let i = c.loop-literal.literal-index in
     let l = c.literal-item.result in
     let at : slice_get literals i ≡ Some l = slice_get_read literals _ i l refl c.loop-literal-test.true c.literal-item.is in
-    let step = front_fails m w r l (drop (i + 1) literals) (subst (λ (z : Trial). trial_of m w r l ≡ Ok z) c.in-Fails.is c.in_ok-try_literal.ensures) in
+    let step = front_fails m w r l (drop (i + 1) literals) (subst (λ (z : Trial). trial_of m w r l ≡ Ok z) c.in-Fails.is c.in_ok-settle.ensures) in
     record { left = sym (sym c.loop-literal.invariant.left ∙ (ap (choice_by m w r) (drop_at literals i l at) ∙ step.0)); narrow = λ some. step.1 }

@@ -1,0 +1,30 @@
+use Rattle.std.proofs.Common.{◌≡◌, ◌<◌, ◌+◌, ℕ, length, ◌∙◌, ap, subst, arith}
+use Rattle.std.specs.Option.{option_copied}
+use Rattle.cg_groups.proofs.Listed.{own_count}
+use Rattle.cg_netlist.specs.Circuit.{Circuit}
+use Rattle.cg_hold.specs.inner.Choosing.{AreChosen}
+use Rattle.cg_hold.proofs.Taken.{refused_told}
+use Rattle.cg_hold.proofs.chosen.Chosen.look_at_all.Goals as goal
+
+pub look-requires-clause-register : goal.look-requires-clause-register
+look-requires-clause-register c =
+    let m = c.args.machine.now in
+    let count : c.registers-reg-end.result ≡ m.own_registers = c.registers-reg-end.ensures.count ∙ (ap (λ (n : Circuit). length n.registers) c.netlist-netlist.ensures.netlist ∙ own_count m c.netlist-netlist.ensures.machine) in
+    omega (arith, count, c.new.ensures, c.loop-reg-test.true)
+
+pub returns-in-Err-clause-refused : goal.returns-in-Err-clause-refused
+returns-in-Err-clause-refused c =
+    let m = c.args.machine.now in
+    let count : c.registers-reg-end.result ≡ m.own_registers = c.registers-reg-end.ensures.count ∙ (ap (λ (n : Circuit). length n.registers) c.netlist-netlist.ensures.netlist ∙ own_count m c.netlist-netlist.ensures.machine) in
+    refused_told m (option_copied c.args.idle) c.args.width c.new.result (omega (arith, count, c.new.ensures, c.loop-reg-test.true)) c.in-Err.fault c.in-Err.ensures.refused
+
+pub loop-reg-preserved : goal.loop-reg-preserved
+loop-reg-preserved c =
+    subst (λ n. AreChosen c.args.machine.now (option_copied c.args.idle) c.args.width (n + 1) c.look.new.self.lists.items c.look.new.self.wide) c.new.ensures c.in_default.ensures.chosen
+
+pub returns-clause-chosen : goal.returns-clause-chosen
+returns-clause-chosen c =
+    let m = c.args.machine.now in
+    let count : c.registers-reg-end.result ≡ m.own_registers = c.registers-reg-end.ensures.count ∙ (ap (λ (n : Circuit). length n.registers) c.netlist-netlist.ensures.netlist ∙ own_count m c.netlist-netlist.ensures.machine) in
+    let all : c.loop-reg.reg ≡ m.own_registers = omega (arith, count, c.loop-reg-test.false, c.loop-reg.auto.reg-end) in
+    subst (λ n. AreChosen m (option_copied c.args.idle) c.args.width n c.loop-reg.self.lists.items c.loop-reg.self.wide) all c.loop-reg.invariant

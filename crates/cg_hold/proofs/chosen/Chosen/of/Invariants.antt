@@ -1,6 +1,0 @@
-use Rattle.std.specs.Option.{option_copied}
-use Rattle.cg_hold.specs.inner.Choosing.{AreChosen}
-use Rattle.cg_hold.proofs.chosen.Chosen.of.Given as goal
-
-abbrev pub invariant-loop-reg : goal.invariant-loop-reg
-invariant-loop-reg l = AreChosen l.machine (option_copied l.idle) l.width l.reg l.chosen.lists.items l.chosen.wide

@@ -1,0 +1,46 @@
+//! Plays the file `script`, command lines of the program one after another, over files in memory, and says after each what
+//! it said and complained and how it ended. So a stored run compares all that the program puts out, written files too.
+//!
+//! - A line that is empty or begins with `#` is said as it stands.
+//! - `show NAME` says what the file NAME holds.
+//! - `latches N NAME` makes a netlist of N registers that all take one input.
+//! - `solve CNF LOG` solves the formula in the file CNF, says whether bits satisfy it, and else makes a file of the log.
+//! - `proof PROOF CNF LOG` makes files of the first formula of a proof file and of its log.
+//! - `fail N WORD..` is a command line of which the calls of these numbers (from 0, with commas between them) fail.
+//! - Any other line is a command line. A file of the folder that it names is brought into memory first, unless it is there.
+#![tactic(auto)]
+
+mod latches;
+mod player;
+mod solver;
+
+use crate::player::Player;
+use cg_shelf::{DirShelf, Shelf};
+use std::alloc::Global;
+use std::process::ExitCode;
+
+/// The most bytes of a file of the folder.
+const MOST_BYTES: u64 = 1_048_576;
+
+fn main(rt: HostRuntime) -> ExitCode {
+    let alloc = rt.alloc();
+    let mut folder = DirShelf::new(rt, alloc);
+    match play(alloc, &mut folder) {
+        Ok(()) => ExitCode::SUCCESS,
+        Err(()) => ExitCode::FAILURE,
+    }
+}
+
+/// Plays the script line by line.
+fn play<S: Shelf>(alloc: Global, folder: &mut S) -> Result<(), ()> {
+    let mut script = Vec::new(alloc);
+    folder
+        .load("script", MOST_BYTES, &mut script)
+        .map_err(|_| ())?;
+    let script = String::from_utf8(script).map_err(|_| ())?;
+    let mut player = Player::new(alloc)?;
+    for line in script.lines() {
+        player.line(folder, line)?;
+    }
+    Ok(())
+}

@@ -1,0 +1,191 @@
+//! Who plays a script.
+
+use crate::MOST_BYTES;
+use crate::latches::latches;
+use crate::solver::{Answer, solved};
+use cg_report::edge_count::EdgeCount;
+use cg_report::toggle_count::ToggleCount;
+use cg_report::watcher::Watcher;
+use cg_shelf::{Call, CallMade, MemShelf, Shelf};
+use cg_text::number::push_number;
+use cg_tool::{Status, run};
+use std::alloc::Global;
+
+/// The files in memory.
+#[derive(Drop)]
+pub struct Player {
+    alloc: Global,
+    files: MemShelf,
+}
+
+impl Player {
+    /// With no file.
+    pub fn new(alloc: Global) -> Result<Player, ()> {
+        let files = MemShelf::new(alloc, &[]).map_err(|_| ())?;
+        Ok(Player { alloc, files })
+    }
+
+    /// Plays one line, and says on the folder's shelf what comes of it.
+    pub fn line<S: Shelf>(&mut self, folder: &mut S, line: &str) -> Result<(), ()> {
+        let words = line
+            .split_whitespace()
+            .collect::<Vec<&str>>(self.alloc)
+            .map_err(|_| ())?;
+        match words.as_slice() {
+            [] | ["#", ..] => say(folder, line.as_bytes(), b"\n"),
+            ["show", name] => self.show(folder, name),
+            ["latches", count, name] => self.make(count, name),
+            ["solve", formula, log] => self.solve(folder, formula, log),
+            ["proof", proof, formula, log] => self.split(proof, formula, log),
+            ["fail", numbers, words @ ..] => self.failing(folder, numbers, line, words),
+            words => self.command(folder, line, words),
+        }
+    }
+
+    /// Says what a file holds.
+    fn show<S: Shelf>(&mut self, folder: &mut S, name: &str) -> Result<(), ()> {
+        say(folder, b"$ cat ", name.as_bytes())?;
+        say(
+            folder,
+            b"\n",
+            self.files.held(name).unwrap_or(b"there is no such file\n"),
+        )
+    }
+
+    /// Makes a netlist of registers.
+    fn make(&mut self, count: &str, name: &str) -> Result<(), ()> {
+        let count = count.parse::<u32>().map_err(|_| ())?;
+        let text = latches(self.alloc, count).map_err(|_| ())?;
+        self.files.put(name, text.as_slice()).map_err(|_| ())
+    }
+
+    /// Solves a formula of the folder, and says whether bits satisfy it or makes a file of the log.
+    fn solve<S: Shelf>(&mut self, folder: &mut S, formula: &str, log: &str) -> Result<(), ()> {
+        say(folder, b"$ solve ", formula.as_bytes())?;
+        self.bring(folder, formula)?;
+        match solved(self.alloc, self.files.held(formula).ok_or(())?)? {
+            Answer::Satisfied => say(folder, b"\nsatisfied", b"\n"),
+            Answer::ModelFails => say(folder, b"\nthe model fails", b"\n"),
+            Answer::Refuted(text) => {
+                say(folder, b"\nnever satisfied", b"\n")?;
+                self.files.put(log, text.as_slice()).map_err(|_| ())
+            }
+        }
+    }
+
+    /// Makes files of the first formula of a proof file and of what stands behind it.
+    fn split(&mut self, proof: &str, formula: &str, log: &str) -> Result<(), ()> {
+        let held = self.files.held(proof).ok_or(())?;
+        let text = Vec::from_slice(self.alloc, held).map_err(|_| ())?;
+        let text = String::from_utf8(text).map_err(|_| ())?;
+        let (first, rest) = text.split_once("c lrat\n").ok_or(())?;
+        self.files.put(formula, first.as_bytes()).map_err(|_| ())?;
+        self.files.put(log, rest.as_bytes()).map_err(|_| ())
+    }
+
+    /// Runs the program on a command line.
+    fn command<S: Shelf>(&mut self, folder: &mut S, line: &str, words: &[&str]) -> Result<(), ()> {
+        say(folder, b"$ clockgate ", line.as_bytes())?;
+        say(folder, b"\n", b"")?;
+        for word in words {
+            self.bring(folder, word)?;
+        }
+        let said = self.files.said().len();
+        let complained = self.files.complained().len();
+        let status = self.run(words)?;
+        say(folder, self.files.said().get(said..).unwrap_or(b""), b"")?;
+        say(
+            folder,
+            self.files.complained().get(complained..).unwrap_or(b""),
+            b"",
+        )?;
+        self.end(folder, status)
+    }
+
+    /// Runs the program over new files of which calls with these numbers fail, and says which calls it made and whether each
+    /// file that it was to store is there.
+    fn failing<S: Shelf>(
+        &mut self,
+        folder: &mut S,
+        numbers: &str,
+        line: &str,
+        words: &[&str],
+    ) -> Result<(), ()> {
+        let mut failing = Vec::new(self.alloc);
+        for number in numbers.split(',') {
+            let number = number.parse::<u64>().map_err(|_| ())?;
+            failing.push(number).map_err(|_| ())?;
+        }
+        let files = MemShelf::new(self.alloc, failing.as_slice()).map_err(|_| ())?;
+        let mut player = Player {
+            alloc: self.alloc,
+            files,
+        };
+        player.command(folder, line, words)?;
+        for made in player.files.calls() {
+            player.call(folder, made)?;
+        }
+        Ok(())
+    }
+
+    /// Says a call that was made.
+    fn call<S: Shelf>(&self, folder: &mut S, made: &CallMade) -> Result<(), ()> {
+        let name = made.name.bytes();
+        match made.call {
+            Call::Load => say(folder, b"load ", name)?,
+            Call::Store => say(folder, b"store ", name)?,
+            Call::Say => say(folder, b"say", b"")?,
+            Call::Complain => say(folder, b"complain", b"")?,
+        }
+        let stored = str::from_utf8(name)
+            .map_err(|_| ())
+            .map(|name| self.files.held(name).is_some())?;
+        match (made.call, stored) {
+            (Call::Store, false) => say(folder, b", which is not there", b"\n"),
+            _ => say(folder, b"\n", b""),
+        }
+    }
+
+    /// Brings a file of the folder into memory, where the word names one that is not there yet.
+    fn bring<S: Shelf>(&mut self, folder: &mut S, word: &str) -> Result<(), ()> {
+        let mut bytes = Vec::new(self.alloc);
+        if self.files.held(word).is_some() || folder.load(word, MOST_BYTES, &mut bytes).is_err() {
+            return Ok(());
+        }
+        self.files.put(word, bytes.as_slice()).map_err(|_| ())
+    }
+
+    /// Runs the program with its two watchers.
+    fn run(&mut self, words: &[&str]) -> Result<Status, ()> {
+        let mut all = Vec::new(self.alloc);
+        all.push(String::from_str(self.alloc, "clockgate").map_err(|_| ())?)
+            .map_err(|_| ())?;
+        for word in words {
+            all.push(String::from_str(self.alloc, word).map_err(|_| ())?)
+                .map_err(|_| ())?;
+        }
+        let mut watchers = Vec::new(self.alloc);
+        let edges: Box<dyn Watcher> = Box::new(self.alloc, EdgeCount::new()).map_err(|_| ())?;
+        watchers.push(edges).map_err(|_| ())?;
+        let toggles: Box<dyn Watcher> = Box::new(self.alloc, ToggleCount::new(self.alloc)).map_err(|_| ())?;
+        watchers.push(toggles).map_err(|_| ())?;
+        Ok(run(self.alloc, all.as_slice(), &mut self.files, watchers))
+    }
+
+    /// Says the number of a status that is not 0.
+    fn end<S: Shelf>(&mut self, folder: &mut S, status: Status) -> Result<(), ()> {
+        if status == Status::Done {
+            return Ok(());
+        }
+        let mut text = Vec::new(self.alloc);
+        push_number(&mut text, u64::from(status.number())).map_err(|_| ())?;
+        say(folder, b"status ", text.as_slice())?;
+        say(folder, b"\n", b"")
+    }
+}
+
+/// Says two texts.
+fn say<S: Shelf>(folder: &mut S, first: &[u8], second: &[u8]) -> Result<(), ()> {
+    folder.say(first).map_err(|_| ())?;
+    folder.say(second).map_err(|_| ())
+}

@@ -1,0 +1,45 @@
+//! Formulas that are solved.
+
+ghost use Rattle.std.specs.Prelude.{IfOk};
+ghost use Rattle.std.specs.Option.{IfSome};
+
+use cg_formula::{Formula, Lit, read_dimacs};
+use cg_lrat::write_lrat;
+use cg_sat::{Solved, solve};
+use std::alloc::Global;
+
+/// What is said of a formula.
+#[derive(Drop)]
+pub enum Answer {
+    /// These bits make each clause true.
+    Satisfied,
+    /// These bits do not.
+    ModelFails,
+    /// Nothing satisfies it: the text of the log that proves it.
+    Refuted(Vec<u8>),
+}
+
+/// Solves the formula of a text.
+pub fn solved(alloc: Global, text: &[u8]) -> Result<Answer, ()> {
+    let formula = read_dimacs(alloc, text).map_err(|_| ())?;
+    match solve(alloc, &formula).map_err(|_| ())? {
+        Solved::Sat(bits) if is_model(&formula, bits.as_slice()) => Ok(Answer::Satisfied),
+        Solved::Sat(_) => Ok(Answer::ModelFails),
+        Solved::Unsat(log) => Ok(Answer::Refuted(write_lrat(alloc, &log).map_err(|_| ())?)),
+    }
+}
+
+/// Whether a bit for each variable makes each clause true.
+fn is_model(formula: &Formula, bits: &[bool]) -> bool {
+    bits.len() == formula.variables as usize
+        && formula.clauses.as_slice().iter().all(|clause| clause
+            .lits
+            .as_slice()
+            .iter()
+            .any(|lit| is_true(bits, *lit)))
+}
+
+fn is_true(bits: &[bool], lit: Lit) -> bool {
+    bits.get((lit.variable as usize).wrapping_sub(1))
+        .is_some_and(|bit| *bit != lit.inverted)
+}

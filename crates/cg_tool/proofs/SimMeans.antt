@@ -90,7 +90,7 @@ played_rows kind c text output h =
     (r.0, refused_ok stimulus_trouble (stimulus (input_names c) text) r.0 r.1, subst P (sym r.2) s.2)
 
 -- a mode that took the text of a stimulus has it, and the netlist that it had
-kept : (before : Sim) (text : List ℕ) (after : Sim) → Ok {E = Trouble} (record before { stimulus = text }) ≡ Ok after → (after.netlist ≡ before.netlist) × (after.stimulus ≡ text)
+kept : (before : Sim) (text : List ℕ) (after : Sim) → ◌≡◌ {A = Result Sim Trouble} (Ok (record before { stimulus = text })) (Ok after) → (after.netlist ≡ before.netlist) × (after.stimulus ≡ text)
 kept before text after is = let same : record before { stimulus = text } ≡ after = cc in (sym (ap (λ (g : Sim). g.netlist) same), sym (ap (λ (g : Sim). g.stimulus) same))
 
 pub simulated_means : (clock : Option NetName) (kind : Option Kind) (names : Role → List ℕ) (before after : World) (finish : Finish) → Finishes (sim_task clock kind) names before after finish → IsSimulated clock kind names before after finish

@@ -1,0 +1,2 @@
+-- What ties the code to the definitions.
+pub mod Playing

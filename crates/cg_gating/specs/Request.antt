@@ -38,7 +38,7 @@ pub record MayGate (request : RequestData) (c : Circuit) : Type 0 where
   pub writable : IsWritable request.library c
   pub tested : request.settings.test ≡ is_some request.test
   pub free : (name : List ℕ) → request.test ≡ Some name → IsFree c request.prefix name
-  pub for : (stimulus : Rows) → request.stimulus ≡ Some stimulus → IsFor c stimulus
+  pub played : (stimulus : Rows) → request.stimulus ≡ Some stimulus → IsFor c stimulus
 
 -- what the netlist is gated by
 abbrev pub gating_of : RequestData → Circuit → Gating

@@ -44,7 +44,7 @@ pub fn gate_netlist(
     requires { MayGate request.now netlist }
     ensures gated { IfOk result (λ gated. IsGated (gating_of request.now netlist) netlist (told gated.plan) gated.netlist) }
     ensures own { IfOk result (λ gated. own_netlist gated.plan.machine ≡ netlist) }
-    ensures for { IfOk result (λ gated. (stimulus : Rows) → request.now.stimulus ≡ Some stimulus → IsFor gated.netlist stimulus) }
+    ensures fits { IfOk result (λ gated. (stimulus : Rows) → request.now.stimulus ≡ Some stimulus → IsFor gated.netlist stimulus) }
     ensures writable { IfOk result (λ gated. AreWritable gated.plan.certificates) }
     ensures proper { IsProper request.now }
     ensures fault { IfErr result (PlanMayFail (stops_at request.now netlist)) }

@@ -7,7 +7,7 @@ use cg_stimulus::stimulus::Stimulus;
 use std::marker::Model;
 
 /// What gating is asked for, beside the netlist. Clauses see a `RequestData`.
-#[derive(Clone, Copy)]
+#[derive(Drop)]
 pub struct Request<'a> {
     /// The cells.
     pub library: &'a Library,

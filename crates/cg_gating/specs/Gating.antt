@@ -10,7 +10,8 @@ use Rattle.cg_plan_text.specs.ProofText.{proof_text}
 use Rattle.cg_plan_text.specs.Summary.{demo_text, report_text, said_text}
 use Rattle.cg_plan_text.specs.declared.summary.Edges.{Edges}
 use Rattle.cg_plan_text.specs.declared.summary.Played.{Played}
-use Rattle.cg_gating.specs.Played.{IsWhatPlayed, Saying}
+use Rattle.cg_stimulus.specs.Inputs.{Rows}
+use Rattle.cg_gating.specs.Played.{AreEdges, IsWhatPlayed, Saying}
 use Rattle.cg_gating.specs.Request.{RequestData, gating_of}
 use Rattle.cg_gating.specs.declared.texts.Texts.{Texts}
 
@@ -39,13 +40,18 @@ pub record GivesGated (request : RequestData) (says : Option Saying) (c : Circui
   pub played : Played
   pub gated : IsGated (gating_of request c) c told written
   pub what : IsWhatPlayed says request.stimulus c written played
-  pub texts : AreTexts request told written played texts
+  pub gives : AreTexts request told written played texts
 
--- what is said of a generated pipeline of this size
+-- what is said of a generated pipeline of this size that was gated
+pub record SaysDemo (size : ℕ) (rows : List (List Bool)) (read written : Circuit) (told : ToldPlan) (text : List ℕ) : Type 0 where
+  pub both : Edges
+  pub edges : AreEdges rows read written both
+  pub said : text ≡ demo_text size told (length written.gaters) both
+
 pub record GivesDemo (size : ℕ) (request : RequestData) (c : Circuit) (text : List ℕ) : Type 0 where
+  pub stimulus : Rows
+  pub played : request.stimulus ≡ Some stimulus
   pub told : ToldPlan
   pub written : Circuit
-  pub both : Edges
   pub gated : IsGated (gating_of request c) c told written
-  pub what : IsWhatPlayed None request.stimulus c written (record { edges = Some both; watched = None })
-  pub text : text ≡ demo_text size told (length written.gaters) both
+  pub says : SaysDemo size stimulus.rows c written told text

@@ -5,4 +5,3 @@ pub mod Gating
 pub mod Turns
 pub mod Headline
 pub mod Laws
-pub mod inner

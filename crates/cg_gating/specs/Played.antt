@@ -17,8 +17,8 @@ pub record HasEdges (c : Circuit) (rows : List (List Bool)) (count : ℕ) : Type
 
 -- the edges of both netlists
 pub record AreEdges (rows : List (List Bool)) (read written : Circuit) (both : Edges) : Type 0 where
-  pub original : HasEdges read rows both.original
-  pub written : HasEdges written rows both.written
+  pub before : HasEdges read rows both.original
+  pub after : HasEdges written rows both.written
 
 abbrev pub EdgesAre : Option Rows → Circuit → Circuit → Option Edges → Type 0
 EdgesAre None read written told = told ≡ None

@@ -1,15 +1,16 @@
 //! What comes of a stimulus that is played on the original and on the written netlist.
 
-ghost use Rattle.std.specs.Prelude.{◌≡◌, ◌+◌, ◌*◌, None, Some, length, IfOk};
+ghost use Rattle.std.specs.Prelude.{◌≡◌, None, Some, IfOk};
 ghost use Rattle.std.specs.Option.{option_copied};
-ghost use Rattle.cg_gating.specs.Played.{AreEdges, EdgesAre, HasEdges, IsSaid, IsWhatPlayed};
+ghost use Rattle.cg_gating.specs.Played.{AreEdges, HasEdges, IsSaid, IsWhatPlayed};
 ghost use Rattle.cg_stimulus.specs.Inputs.{IsFor, Rows};
 
 use cg_list::Seq;
 use cg_netlist::netlist::Netlist;
 use cg_plan_text::summary::{Edges, Played};
-use cg_report::player::Player;
+use cg_report::edges::{count_edges, watch_edges};
 use cg_report::watcher::Watcher;
+use cg_stimulus::played::one_played_history;
 use cg_stimulus::stimulus::Stimulus;
 use std::alloc::{AllocError, Global};
 
@@ -45,26 +46,54 @@ pub fn edges_of(
     requires written { IsFor written.now stimulus.now }
     ensures { IfOk result (λ both. AreEdges stimulus.now.rows read.now written.now both) }
 {
-    let original = play(alloc, read, stimulus)?;
-    let written = play(alloc, written, stimulus)?;
+    one_played_history(read, stimulus);
+    one_played_history(written, stimulus);
+    let original = count_edges(alloc, read, stimulus)?;
+    let written = count_edges(alloc, written, stimulus)?;
     Ok(Edges { original, written })
 }
 
-/// The number of moments of a stimulus.
-fn moments(stimulus: &Stimulus) -> u64
-    ensures { result ≡ 2 * length stimulus.now.rows + 1 }
+/// What comes of a stimulus, where there is one, that is played on both netlists, while a watcher looks on the written one.
+pub fn watch_both(
+    alloc: Global,
+    read: &Netlist,
+    written: &Netlist,
+    stimulus: Option<&Stimulus>,
+    watcher: &mut Box<dyn Watcher>,
+) -> Result<Played, AllocError>
+    requires read { (rows : Rows) → option_copied stimulus ≡ Some rows → IsFor read.now rows }
+    requires written { (rows : Rows) → option_copied stimulus ≡ Some rows → IsFor written.now rows }
+    ensures { IfOk result (λ played. IsWhatPlayed (Some (says watcher.old)) (option_copied stimulus.entry) read.now written.now played) }
 {
-    2 * u64::from(stimulus.rows()) + 1
+    match stimulus {
+        None => Ok(Played {
+            edges: None,
+            watched: None,
+        }),
+        Some(stimulus) => watch_rows(alloc, read, written, stimulus, watcher),
+    }
 }
 
-/// The edges of the history of a netlist on which a stimulus is played.
-fn play(alloc: Global, netlist: &Netlist, stimulus: &Stimulus) -> Result<u64, AllocError>
-    requires { IsFor netlist.now stimulus.now }
-    ensures { IfOk result (λ count. HasEdges netlist.now stimulus.now.rows count) }
+/// The edges of both netlists, and the line of a watcher that looks on the written one, which is kept without its end.
+fn watch_rows(
+    alloc: Global,
+    read: &Netlist,
+    written: &Netlist,
+    stimulus: &Stimulus,
+    watcher: &mut Box<dyn Watcher>,
+) -> Result<Played, AllocError>
+    requires read { IsFor read.now stimulus.now }
+    requires written { IsFor written.now stimulus.now }
+    ensures { IfOk result (λ played. IsWhatPlayed (Some (says watcher.old)) (Some stimulus.now) read.now written.now played) }
 {
-    let mut player = Player::new(alloc, netlist, stimulus)?;
-    'moments: for _moment in 0..moments(stimulus) {
-        player.step();
-    }
-    Ok(player.edges())
+    one_played_history(read, stimulus);
+    one_played_history(written, stimulus);
+    let original = count_edges(alloc, read, stimulus)?;
+    let mut line = Vec::new(alloc);
+    let written = watch_edges(alloc, written, stimulus, watcher, &mut line)?;
+    line.pop();
+    Ok(Played {
+        edges: Some(Edges { original, written }),
+        watched: Some(Seq::from_vec(line)),
+    })
 }

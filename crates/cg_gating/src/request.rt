@@ -32,10 +32,14 @@ pub struct Request<'a> {
 }
 
 impl<'a> Model for Request<'a> {
+    ghost use Rattle.std.specs.Coded.{codes};
     ghost use Rattle.std.specs.Option.{option_copied};
+    ghost use Rattle.cg_cell.specs.TermCode.{term_code};
     ghost use Rattle.cg_gating.specs.Request.{RequestData};
 
     ghost Value = { RequestData };
+
+    ghost coded = { Prim.hlevel (codes, term_code) };
 
     ghost view = { λ r. record {
         library = r.library.now;

@@ -1,2 +1,0 @@
--- What ties the code to the definitions.
-pub mod Playing

@@ -51,7 +51,7 @@ module _ (by : Gating) (c : Circuit) (can : CanGate by c) where
   may : CanInsert by.library by.test (planned by c)
   may = (can_insert by c can).1
 
-  formed : IsWellFormed g
+  pub formed : IsWellFormed g
   formed = gated_formed by.library by.test n is_machine may
 
   original_formed : IsWellFormed c
@@ -62,14 +62,14 @@ module _ (by : Gating) (c : Circuit) (can : CanGate by c) where
   names_are = refl
 
   -- a net of the machine is one of the gated netlist, and one of the netlist is one of the machine
-  longer : length n.circuit.names ≤ length g.names
+  pub longer : length n.circuit.names ≤ length g.names
   longer = omega (arith, ap length names_are, length-append (n.circuit.names ++ option_to_list by.test) (gate_names n), length-append n.circuit.names (option_to_list by.test))
 
   own_count : length c.names ≡ own_nets n
   own_count = sym (ap (λ (d : Circuit). length d.names) (keeps_netlist by c)) ∙ length-take-le (own_nets n) n.circuit.names (omega arith)
 
   -- the names of nets that the netlist has
-  kept_name : (x : ℕ) → x < length c.names → net_name g.names x ≡ net_name c.names x
+  pub kept_name : (x : ℕ) → x < length c.names → net_name g.names x ≡ net_name c.names x
   kept_name x below =
       let in_machine : x < length n.circuit.names = omega (arith, below, own_count) in
       ap (λ o. unwrap_or o [])

@@ -1,5 +1,5 @@
 -- The gated netlist behaves as the netlist.
-use Rattle.std.proofs.Common.{◌≡◌, ℕ, zero, suc, ◌+◌, ◌-◌, ◌<◌, ◌≤◌, Bool, true, List, [], ◌∷◌, ◌++◌, map, length, slice_get, Option, None, Some, refl, sym, ◌∙◌, ap, arith, length-append}
+use Rattle.std.proofs.Common.{◌≡◌, ℕ, zero, suc, ◌+◌, ◌-◌, ◌<◌, ◌≤◌, true, List, [], ◌∷◌, ◌++◌, map, length, slice_get, Option, None, Some, refl, sym, ◌∙◌, ap, arith, length-append}
 use Rattle.std.specs.Option.{option_to_list}
 use Rattle.std.specs.Prelude.{unwrap_or}
 use Rattle.std.proofs.lemmas.List.{length-map, length-replicate, length-take-le, map-append}
@@ -13,7 +13,7 @@ use Rattle.cg_machine.specs.Added.{own_nets}
 use Rattle.cg_machine.specs.Machine.{IsMachine, MachineData}
 use Rattle.cg_machine.specs.Run.{ones}
 use Rattle.cg_netlist.specs.Circuit.{Circuit, data_inputs, is_in, net_order, used_nets}
-use Rattle.cg_netlist.specs.History.{AreTicks, IsStart, IsWaveform, Tick}
+use Rattle.cg_netlist.specs.History.{AreTicks, IsWaveform, Tick}
 use Rattle.cg_netlist.specs.Ordered.{place_in}
 use Rattle.cg_netlist.specs.WellFormed.{IsWellFormed}
 use Rattle.cg_netlist.specs.said.Wiring.{map_register, net_name}
@@ -23,7 +23,7 @@ use Rattle.cg_netlist.proofs.Members.{All-member}
 use Rattle.cg_netlist.proofs.OrderedForm.{data_is as data_ordered}
 use Rattle.cg_netlist.proofs.Values.{length-zip_with, map_same}
 use Rattle.cg_test_input.specs.TestRun.{ticks_of}
-use Rattle.cg_gated.specs.Gated.{Behaves, CanGate, Gating, gated_by, own_wave, planned}
+use Rattle.cg_gated.specs.Gated.{CanGate, Gating, gated_by, own_wave, planned}
 use Rattle.cg_gated.specs.Laws.{GatedBehaves}
 use Rattle.cg_gated.proofs.NetlistKept.{keeps_netlist}
 use Rattle.cg_gated.proofs.Planned.{can_insert, is_formed}

@@ -1,5 +1,5 @@
 -- A plan keeps the netlist with which it begins: gates and delay registers stand behind its parts.
-use Rattle.std.proofs.Common.{◌≡◌, ℕ, zero, suc, ◌+◌, ◌-◌, ◌≤◌, Bool, true, false, if◌then◌else◌, List, [], ◌∷◌, ◌++◌, length, map, take, Option, None, Some, refl, sym, ◌∙◌, ap, subst, append-nil, append_assoc, arith, length-append}
+use Rattle.std.proofs.Common.{◌≡◌, ℕ, zero, suc, ◌+◌, ◌-◌, ◌≤◌, Bool, true, false, if◌then◌else◌, List, [], ◌∷◌, ◌++◌, length, map, take, Option, None, Some, refl, sym, ◌∙◌, ap, append-nil, append_assoc, arith, length-append}
 use Rattle.std.specs.List.{range_with_len}
 use Rattle.std.proofs.Math.Seq.{take-length}
 use Rattle.std.proofs.lemmas.List.{take-append-le}
@@ -8,21 +8,18 @@ use Rattle.cg_cell.specs.Cell.{CellData}
 use Rattle.cg_cell.specs.declared.fit.FitKind.{FitKind}
 use Rattle.cg_cell.specs.declared.fit.FitKind.TheVariants.{And2, Inv, Or2}
 use Rattle.cg_limit.specs.declared.Limit.{Limit}
-use Rattle.cg_limit.specs.declared.Limit.TheVariants.{ClaimNodes}
-use Rattle.cg_lists.specs.HoldList.{hold_list, hold_passes}
+use Rattle.cg_lists.specs.HoldList.{hold_list}
 use Rattle.cg_lists.specs.Literals.{IdleData}
-use Rattle.cg_machine.specs.Added.{Added, HasNames, add_delay, add_gate, find_delay, find_gate, next_delay, next_gate, next_name, or_push, own_netlist, own_nets, push_delay, push_gate}
-use Rattle.cg_machine.specs.Claims.{Literal}
-use Rattle.cg_machine.specs.Gates.{AddedGate, gate_cell}
+use Rattle.cg_machine.specs.Added.{Added, HasNames, add_delay, add_gate, find_delay, find_gate, next_delay, next_gate, next_name, or_push, own_netlist, push_delay, push_gate}
+use Rattle.cg_machine.specs.Gates.{gate_cell}
 use Rattle.cg_machine.specs.Machine.{MachineData, added_name, additions}
 use Rattle.cg_machine.specs.Start.{machine_of}
 use Rattle.cg_machine.specs.declared.stage.Stage.{Stage}
 use Rattle.cg_machine.specs.declared.stage.StageKind.{StageKind}
 use Rattle.cg_machine.specs.declared.stage.StageKind.TheVariants.{Hold, Stable, Unseen}
 use Rattle.cg_netlist.specs.Circuit.{Circuit, LogicCell, RegisterCell}
-use Rattle.cg_plan.specs.Plan.{Plan, after_outcome, after_try, begin, is_inserted, list_by, plan_of, rounds, try_all, try_one, unless_stopped}
+use Rattle.cg_plan.specs.Plan.{Plan, after_try, begin, is_inserted, list_by, plan_of, rounds, try_all, try_one, unless_stopped}
 use Rattle.cg_plan.specs.Trying.{Ends, Passes, Tried, tried}
-use Rattle.cg_plan.specs.declared.outcome.Outcome.{Outcome}
 use Rattle.cg_plan.specs.declared.settings.Settings.{Settings}
 use Rattle.cg_stage.specs.Effects.{delayed, effect, literal_net, net_by, with_own}
 use Rattle.cg_stage.specs.Joined.{join, join_all}

@@ -1,15 +1,13 @@
 -- The gated netlist keeps the parts of the netlist, by the names of their nets.
-use Rattle.std.proofs.Common.{◌≡◌, ℕ, zero, suc, ◌+◌, ◌<◌, ◌≤◌, Bool, true, List, [], ◌∷◌, ◌++◌, map, length, slice_get, take, Option, None, Some, nat_eq, refl, sym, ◌∙◌, ap, subst, arith}
-use Rattle.std.specs.List.{All, AllByRecursion}
+use Rattle.std.proofs.Common.{◌≡◌, ℕ, zero, suc, ◌<◌, ◌≤◌, Bool, true, List, [], ◌∷◌, ◌++◌, map, length, slice_get, take, Option, None, Some, nat_eq, refl, sym, ◌∙◌, ap, subst, arith}
+use Rattle.std.specs.List.{AllByRecursion}
 use Rattle.std.specs.Option.{option_flatten, option_map}
 use Rattle.std.proofs.lemmas.Bool.{eq-eqb, or_left, or_right}
-use Rattle.std.proofs.lemmas.List.{length-map, map-append}
-use Rattle.std.proofs.lemmas.Option.{none-some, same_Some, slice_get-map}
+use Rattle.std.proofs.lemmas.Option.{none-some, same_Some}
 use Rattle.cg_insert.specs.Insert.{gated, placed_gate, reclocked}
-use Rattle.cg_insert.proofs.GatedForm.{inputs_once}
 use Rattle.cg_insert.proofs.OrderedNames.{named_ordered}
-use Rattle.cg_machine.specs.Machine.{IsMachine, MachineData, enable_of}
-use Rattle.cg_netlist.specs.Circuit.{Circuit, LogicCell, RegisterCell, cell_nets, given_nets, is_in, net_order, register_nets, shown_nets, used_nets}
+use Rattle.cg_machine.specs.Machine.{MachineData}
+use Rattle.cg_netlist.specs.Circuit.{Circuit, LogicCell, RegisterCell, cell_nets, given_nets, is_in, net_order, shown_nets, used_nets}
 use Rattle.cg_netlist.specs.Moment.{zip_with}
 use Rattle.cg_netlist.specs.Ordered.{place_in}
 use Rattle.cg_netlist.specs.WellFormed.{IsWellFormed}
@@ -17,14 +15,14 @@ use Rattle.cg_netlist.specs.said.Wiring.{NetName, Wiring, map_cell, map_outputs,
 use Rattle.cg_netlist.proofs.Given.{clock_given, driver_within, given_driver, register_given}
 use Rattle.cg_netlist.proofs.Members.{All-member, is_in_right, member_at}
 use Rattle.cg_netlist.proofs.Used.{data_is_used, in_flat, input_is_used}
-use Rattle.cg_netlist.proofs.Values.{at_map, length-zip_with, map_same}
+use Rattle.cg_netlist.proofs.Values.{at_map, map_same}
 use Rattle.cg_gated.specs.Gated.{CanGate, Gating, gated_by, planned}
-use Rattle.cg_gated.specs.Kept.{IsDelay, KeepsParts, named_cell, unclocked}
+use Rattle.cg_gated.specs.Kept.{IsDelay, named_cell, unclocked}
 use Rattle.cg_gated.specs.Laws.{GatedKeeps}
-use Rattle.cg_gated.proofs.Behaving.{formed, kept_name}
+use Rattle.cg_gated.proofs.Behaving.{kept_name}
 use Rattle.cg_gated.proofs.NetlistKept.{keeps_netlist}
-use Rattle.cg_gated.proofs.Planned.{can_insert, is_formed}
-use Rattle.cg_gated.proofs.SameOutputs.{good, inserts, whole}
+use Rattle.cg_gated.proofs.Planned.{is_formed}
+use Rattle.cg_gated.proofs.SameOutputs.{good, whole}
 
 take_mapped : {X Y : Type 0} (f : X → Y) (n : ℕ) (xs : List X) → map f (take n xs) ≡ take n (map f xs)
 take_mapped f zero xs = refl

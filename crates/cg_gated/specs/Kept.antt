@@ -1,5 +1,5 @@
 -- What a written netlist keeps of the one that was read, by the names of the nets.
-use Rattle.std.specs.Prelude.{◌≡◌, ◌≤◌, ℕ, List, length, map, slice_get, take, Option, None, Some}
+use Rattle.std.specs.Prelude.{◌≡◌, ◌≤◌, ℕ, length, map, slice_get, take, Option, None, Some}
 use Rattle.std.specs.Option.{option_map}
 use Rattle.cg_netlist.specs.Circuit.{Circuit, LogicCell, RegisterCell}
 use Rattle.cg_netlist.specs.declared.parts.RegisterKind.TheVariants.{Plain}

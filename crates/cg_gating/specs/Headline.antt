@@ -1,18 +1,18 @@
 -- What gating a netlist means: the written netlist shows what the one that was read shows, from every state and for all time.
-use Rattle.std.specs.Prelude.{◌≡◌, ◌↔◌, ◌≤◌, ℕ, ◌+◌, Bool, true, List, [], ◌∷◌, ◌++◌, map, length, replicate, slice_get, take, Option, None, Some}
+use Rattle.std.specs.Prelude.{◌≡◌, ◌↔◌, ℕ, ◌+◌, Bool, true, List, [], ◌∷◌, ◌++◌, map, length, replicate, slice_get, Option, None, Some}
 use Rattle.std.specs.Option.{option_to_list}
 use Rattle.cg_blif_text.specs.BlifText.{BlifText}
 use Rattle.cg_blif_text.specs.Canonical.{blif}
+use Rattle.cg_gated.specs.Kept.{KeepsParts}
 use Rattle.cg_insert.specs.Insert.{inserted}
 use Rattle.cg_insert.specs.Insertion.{RisesAre}
 use Rattle.cg_machine.specs.Machine.{MachineData}
 use Rattle.cg_machine.specs.Start.{machine_of}
-use Rattle.cg_netlist.specs.Circuit.{Circuit, RegisterCell}
+use Rattle.cg_netlist.specs.Circuit.{Circuit}
 use Rattle.cg_netlist.specs.History.{IsLawful, IsStart, IsWaveform, Moment, Tick, outputs_of}
 use Rattle.cg_netlist.specs.Moment.{zip_with}
 use Rattle.cg_netlist.specs.WellFormed.{IsWellFormed}
-use Rattle.cg_netlist.specs.declared.parts.RegisterKind.TheVariants.{Plain}
-use Rattle.cg_netlist.specs.said.Wiring.{NetName, map_outputs, net_name}
+use Rattle.cg_netlist.specs.said.Wiring.{NetName, net_name}
 use Rattle.cg_plan.specs.Laws.{Deserves}
 use Rattle.cg_plan.specs.Plan.{Turn, plan_of}
 use Rattle.cg_plan.specs.Told.{AreCertified, AreTold, ToldPlan, plan_claims}
@@ -52,16 +52,6 @@ pub record ShowsSame (m : MachineData) (read written : Circuit) (start added : L
   pub same : outputs_of written history ≡ outputs_of read original
   pub rises : RisesAre written m tested history
 
--- a register by the names of its nets, but for its clock
-abbrev pub unclocked : Circuit → RegisterCell ℕ ℕ → RegisterCell NetName (Option NetName)
-unclocked c r = record { inputs = map (net_name c.names) r.inputs; outputs = map_outputs (net_name c.names) r.outputs; pins = r.pins; clock = None; kind = r.kind; init = r.init }
-
--- a delay register: it is plain, is on the clock and starts with 1
-pub record IsDelay (c : Circuit) (r : RegisterCell ℕ ℕ) : Type 0 where
-  pub plain : r.kind ≡ Plain
-  pub starts : r.init ≡ 1
-  pub clock : c.clock ≡ Some r.clock
-
 -- The texts of a netlist that was gated, and what they mean.
 pub record Headline (request : RequestData) (says : Option Saying) (read : Circuit) (texts : Texts) : Type 0 where
   -- there is a written netlist, which is well formed, and the text that is put out says it with the same library, and no other
@@ -72,14 +62,13 @@ pub record Headline (request : RequestData) (says : Option Saying) (read : Circu
   pub no_other : (c : Circuit) → BlifText texts.out request.library None c → c ≡ written
   -- its data inputs and outputs have the names of the original's, but that a test input, where there is to be one, stands behind
   -- the others
-  pub model : written.model ≡ read.model
   pub inputs : input_names written ≡ input_names read ++ option_to_list request.test
   pub outputs : map (net_name written.names) written.outputs ≡ map (net_name read.names) read.outputs
-  -- its registers are those of the original, each as it was but for its clock, and behind them delay registers
+  -- its model, its clock and its first logic cells are the original's, and its registers are those of the original, each as it
+  -- was but for its clock, and behind them delay registers
   pub delays : ℕ
   pub registers : length written.registers ≡ length read.registers + delays
-  pub own : map (unclocked written) (take (length read.registers) written.registers) ≡ map (unclocked read) read.registers
-  pub added : (k : ℕ) (r : RegisterCell ℕ ℕ) → length read.registers ≤ k → slice_get written.registers k ≡ Some r → IsDelay written r
+  pub parts : KeepsParts read written
   -- from every state of the original's registers, with 1 in the delay registers, and over every waveform that begins with the
   -- clock low, whatever the test input does, it shows what the original shows
   pub plan : ToldPlan

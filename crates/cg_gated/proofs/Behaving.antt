@@ -1,5 +1,5 @@
 -- The gated netlist behaves as the netlist.
-use Rattle.std.proofs.Common.{◌≡◌, ℕ, zero, suc, ◌+◌, ◌-◌, ◌<◌, ◌≤◌, Bool, true, List, [], ◌∷◌, ◌++◌, map, length, slice_get, Option, None, Some, refl, sym, ◌∙◌, ap, arith, length-append}
+use Rattle.std.proofs.Common.{◌≡◌, ℕ, zero, suc, ◌+◌, ◌-◌, ◌<◌, ◌≤◌, true, List, [], ◌∷◌, ◌++◌, map, length, slice_get, Option, None, Some, refl, sym, ◌∙◌, ap, arith, length-append}
 use Rattle.std.specs.Option.{option_to_list}
 use Rattle.std.specs.Prelude.{unwrap_or}
 use Rattle.std.proofs.lemmas.List.{length-map, length-replicate, length-take-le, map-append}
@@ -13,7 +13,7 @@ use Rattle.cg_machine.specs.Added.{own_nets}
 use Rattle.cg_machine.specs.Machine.{IsMachine, MachineData}
 use Rattle.cg_machine.specs.Run.{ones}
 use Rattle.cg_netlist.specs.Circuit.{Circuit, data_inputs, is_in, net_order, used_nets}
-use Rattle.cg_netlist.specs.History.{AreTicks, IsStart, IsWaveform, Tick}
+use Rattle.cg_netlist.specs.History.{AreTicks, IsWaveform, Tick}
 use Rattle.cg_netlist.specs.Ordered.{place_in}
 use Rattle.cg_netlist.specs.WellFormed.{IsWellFormed}
 use Rattle.cg_netlist.specs.said.Wiring.{map_register, net_name}
@@ -23,7 +23,7 @@ use Rattle.cg_netlist.proofs.Members.{All-member}
 use Rattle.cg_netlist.proofs.OrderedForm.{data_is as data_ordered}
 use Rattle.cg_netlist.proofs.Values.{length-zip_with, map_same}
 use Rattle.cg_test_input.specs.TestRun.{ticks_of}
-use Rattle.cg_gated.specs.Gated.{Behaves, CanGate, Gating, gated_by, own_wave, planned}
+use Rattle.cg_gated.specs.Gated.{CanGate, Gating, gated_by, own_wave, planned}
 use Rattle.cg_gated.specs.Laws.{GatedBehaves}
 use Rattle.cg_gated.proofs.NetlistKept.{keeps_netlist}
 use Rattle.cg_gated.proofs.Planned.{can_insert, is_formed}
@@ -51,7 +51,7 @@ module _ (by : Gating) (c : Circuit) (can : CanGate by c) where
   may : CanInsert by.library by.test (planned by c)
   may = (can_insert by c can).1
 
-  formed : IsWellFormed g
+  pub formed : IsWellFormed g
   formed = gated_formed by.library by.test n is_machine may
 
   original_formed : IsWellFormed c
@@ -62,14 +62,14 @@ module _ (by : Gating) (c : Circuit) (can : CanGate by c) where
   names_are = refl
 
   -- a net of the machine is one of the gated netlist, and one of the netlist is one of the machine
-  longer : length n.circuit.names ≤ length g.names
+  pub longer : length n.circuit.names ≤ length g.names
   longer = omega (arith, ap length names_are, length-append (n.circuit.names ++ option_to_list by.test) (gate_names n), length-append n.circuit.names (option_to_list by.test))
 
   own_count : length c.names ≡ own_nets n
   own_count = sym (ap (λ (d : Circuit). length d.names) (keeps_netlist by c)) ∙ length-take-le (own_nets n) n.circuit.names (omega arith)
 
   -- the names of nets that the netlist has
-  kept_name : (x : ℕ) → x < length c.names → net_name g.names x ≡ net_name c.names x
+  pub kept_name : (x : ℕ) → x < length c.names → net_name g.names x ≡ net_name c.names x
   kept_name x below =
       let in_machine : x < length n.circuit.names = omega (arith, below, own_count) in
       ap (λ o. unwrap_or o [])

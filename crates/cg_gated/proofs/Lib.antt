@@ -2,3 +2,4 @@ pub mod Planned
 pub mod SameOutputs
 pub mod NetlistKept
 pub mod Behaving
+pub mod PartsKept

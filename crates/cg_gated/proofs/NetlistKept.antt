@@ -1,48 +1,49 @@
 -- A plan keeps the netlist with which it begins: gates and delay registers stand behind its parts.
-use Rattle.std.proofs.Common.{◌≡◌, ℕ, zero, suc, ◌+◌, ◌-◌, ◌≤◌, Bool, true, false, if◌then◌else◌, List, [], ◌∷◌, ◌++◌, length, take, Option, None, Some, refl, sym, ◌∙◌, ap, subst, arith, length-append}
+use Rattle.std.proofs.Common.{◌≡◌, ℕ, zero, suc, ◌+◌, ◌-◌, ◌≤◌, Bool, true, false, if◌then◌else◌, List, [], ◌∷◌, ◌++◌, length, map, take, Option, None, Some, refl, sym, ◌∙◌, ap, append-nil, append_assoc, arith, length-append}
+use Rattle.std.specs.List.{range_with_len}
 use Rattle.std.proofs.Math.Seq.{take-length}
 use Rattle.std.proofs.lemmas.List.{take-append-le}
+use Rattle.std.proofs.lemmas.List.FromFn.{map-range_with_len_more}
 use Rattle.cg_cell.specs.Cell.{CellData}
 use Rattle.cg_cell.specs.declared.fit.FitKind.{FitKind}
 use Rattle.cg_cell.specs.declared.fit.FitKind.TheVariants.{And2, Inv, Or2}
 use Rattle.cg_limit.specs.declared.Limit.{Limit}
-use Rattle.cg_limit.specs.declared.Limit.TheVariants.{ClaimNodes}
-use Rattle.cg_lists.specs.HoldList.{hold_list, hold_passes}
+use Rattle.cg_lists.specs.HoldList.{hold_list}
 use Rattle.cg_lists.specs.Literals.{IdleData}
-use Rattle.cg_machine.specs.Added.{Added, add_delay, add_gate, find_delay, find_gate, next_delay, next_gate, next_name, or_push, own_netlist, own_nets, push_delay, push_gate}
-use Rattle.cg_machine.specs.Claims.{Literal}
-use Rattle.cg_machine.specs.Gates.{AddedGate, gate_cell}
-use Rattle.cg_machine.specs.Machine.{MachineData, additions}
+use Rattle.cg_machine.specs.Added.{Added, HasNames, add_delay, add_gate, find_delay, find_gate, next_delay, next_gate, next_name, or_push, own_netlist, push_delay, push_gate}
+use Rattle.cg_machine.specs.Gates.{gate_cell}
+use Rattle.cg_machine.specs.Machine.{MachineData, added_name, additions}
 use Rattle.cg_machine.specs.Start.{machine_of}
 use Rattle.cg_machine.specs.declared.stage.Stage.{Stage}
 use Rattle.cg_machine.specs.declared.stage.StageKind.{StageKind}
 use Rattle.cg_machine.specs.declared.stage.StageKind.TheVariants.{Hold, Stable, Unseen}
 use Rattle.cg_netlist.specs.Circuit.{Circuit, LogicCell, RegisterCell}
-use Rattle.cg_plan.specs.Plan.{Plan, after_outcome, after_try, begin, is_inserted, list_by, plan_of, rounds, try_all, try_one, unless_stopped}
+use Rattle.cg_plan.specs.Plan.{Plan, after_try, begin, is_inserted, list_by, plan_of, rounds, try_all, try_one, unless_stopped}
 use Rattle.cg_plan.specs.Trying.{Ends, Passes, Tried, tried}
-use Rattle.cg_plan.specs.declared.outcome.Outcome.{Outcome}
 use Rattle.cg_plan.specs.declared.settings.Settings.{Settings}
 use Rattle.cg_stage.specs.Effects.{delayed, effect, literal_net, net_by, with_own}
 use Rattle.cg_stage.specs.Joined.{join, join_all}
 use Rattle.cg_stage.specs.Stages.{enable_nets, first_literal}
 use Rattle.cg_gated.specs.Gated.{Gating, planned}
-use Rattle.cg_gated.specs.Laws.{PlannedKeeps}
+use Rattle.cg_gated.specs.Laws.{PlannedKeeps, PlannedNames}
 
 -- the netlist's own parts are the first ones
 record IsFront (m : MachineData) : Type 0 where
   cells : m.own_cells ≤ length m.circuit.cells
   registers : m.own_registers ≤ length m.circuit.registers
 
--- n has m's netlist
+-- n has m's netlist and prefix, and names added nets by it where m does
 record Keeps (m n : MachineData) : Type 0 where
   front : IsFront n
   same : own_netlist n ≡ own_netlist m
+  prefix : n.prefix ≡ m.prefix
+  names : HasNames m → HasNames n
 
 stays : (m : MachineData) → IsFront m → Keeps m m
-stays m front = record { front = front; same = refl }
+stays m front = record { front = front; same = refl; prefix = refl; names = λ named. named }
 
 onward : (m n o : MachineData) → Keeps m n → Keeps n o → Keeps m o
-onward m n o first second = record { front = second.front; same = second.same ∙ first.same }
+onward m n o first second = record { front = second.front; same = second.same ∙ first.same; prefix = second.prefix ∙ first.prefix; names = λ named. second.names (first.names named) }
 
 same_parts : (c : Circuit) (n1 n2 : List (List ℕ)) (c1 c2 : List (LogicCell ℕ)) (r1 r2 : List (RegisterCell ℕ ℕ)) → n1 ≡ n2 → c1 ≡ c2 → r1 ≡ r2
     → let a : Circuit = record c { names = n1; cells = c1; registers = r1 } in let b : Circuit = record c { names = n2; cells = c2; registers = r2 } in a ≡ b
@@ -54,29 +55,39 @@ front_names names name more fewer one =
     let same : length (names ++ name ∷ []) - more ≡ length names - fewer = omega (arith, long, one) in
     ap (λ k. take k (names ++ name ∷ [])) same ∙ take-append-le (length names - fewer) names (name ∷ []) (omega arith)
 
+-- one name more
+more_names : (m : MachineData) (own : List (List ℕ)) (count : ℕ) → count ≡ additions m + 1 → own ≡ (own_netlist m).names → HasNames m → m.circuit.names ++ next_name m ∷ [] ≡ own ++ map (added_name m) (range_with_len 0 count)
+more_names m own count one same named =
+    let added : List (List ℕ) = map (added_name m) (range_with_len 0 (additions m)) in
+    ap (λ names. names ++ next_name m ∷ []) named
+    ∙ (append_assoc (own_netlist m).names added (next_name m ∷ [])
+    ∙ (ap (λ later. (own_netlist m).names ++ later) (sym (map-range_with_len_more (added_name m) 0 (additions m) (additions m) (omega arith)))
+    ∙ (ap (λ n. (own_netlist m).names ++ map (added_name m) (range_with_len 0 n)) (sym one)
+    ∙ ap (λ names. names ++ map (added_name m) (range_with_len 0 count)) (sym same))))
+
 pushed_gate : (m : MachineData) (kind : FitKind) (inputs : List ℕ) → IsFront m → Keeps m (push_gate m kind inputs)
 pushed_gate m kind inputs front =
     let cell : LogicCell ℕ = gate_cell (next_gate m kind inputs) in
     let gates : length (m.gates ++ next_gate m kind inputs ∷ []) ≡ length m.gates + 1 = length-append m.gates (next_gate m kind inputs ∷ []) in
     let cells : length (m.circuit.cells ++ cell ∷ []) ≡ length m.circuit.cells + 1 = length-append m.circuit.cells (cell ∷ []) in
+    let names : (own_netlist (push_gate m kind inputs)).names ≡ (own_netlist m).names = front_names m.circuit.names (next_name m) (additions (push_gate m kind inputs)) (additions m) (omega (arith, gates)) in
     record {
       front = record { cells = omega (arith, cells, front.cells); registers = front.registers };
-      same = same_parts m.circuit _ _ _ _ _ _
-          (front_names m.circuit.names (next_name m) (additions (push_gate m kind inputs)) (additions m) (omega (arith, gates)))
-          (take-append-le m.own_cells m.circuit.cells (cell ∷ []) front.cells)
-          refl;
+      same = same_parts m.circuit _ _ _ _ _ _ names (take-append-le m.own_cells m.circuit.cells (cell ∷ []) front.cells) refl;
+      prefix = refl;
+      names = λ named. more_names m (own_netlist (push_gate m kind inputs)).names (additions (push_gate m kind inputs)) (omega (arith, gates)) names named;
     }
 
 pushed_delay : (m : MachineData) (net : ℕ) → IsFront m → Keeps m (push_delay m net)
 pushed_delay m net front =
     let r : RegisterCell ℕ ℕ = next_delay m net in
     let registers : length (m.circuit.registers ++ r ∷ []) ≡ length m.circuit.registers + 1 = length-append m.circuit.registers (r ∷ []) in
+    let names : (own_netlist (push_delay m net)).names ≡ (own_netlist m).names = front_names m.circuit.names (next_name m) (additions (push_delay m net)) (additions m) (omega (arith, registers, front.registers)) in
     record {
       front = record { cells = front.cells; registers = omega (arith, registers, front.registers) };
-      same = same_parts m.circuit _ _ _ _ _ _
-          (front_names m.circuit.names (next_name m) (additions (push_delay m net)) (additions m) (omega (arith, registers, front.registers)))
-          refl
-          (take-append-le m.own_registers m.circuit.registers (r ∷ []) front.registers);
+      same = same_parts m.circuit _ _ _ _ _ _ names refl (take-append-le m.own_registers m.circuit.registers (r ∷ []) front.registers);
+      prefix = refl;
+      names = λ named. more_names m (own_netlist (push_delay m net)).names (additions (push_delay m net)) (omega (arith, registers, front.registers)) names named;
     }
 
 found_or_pushed : (m pushed : MachineData) (found : Option ℕ) → IsFront m → Keeps m pushed → Keeps m (or_push m pushed found).machine
@@ -119,7 +130,7 @@ net_keeps Stable m s front =
     onward m a.machine (with_own (delayed a) s.own).machine first (onward a.machine (delayed a).machine (with_own (delayed a) s.own).machine second third)
 
 effect_keeps : (m : MachineData) (s : Stage) → IsFront m → Keeps m (effect m s)
-effect_keeps m s front = let k : Keeps m (net_by s.kind m s).machine = net_keeps s.kind m s front in record { front = record { cells = k.front.cells; registers = k.front.registers }; same = k.same }
+effect_keeps m s front = let k : Keeps m (net_by s.kind m s).machine = net_keeps s.kind m s front in record { front = record { cells = k.front.cells; registers = k.front.registers }; same = k.same; prefix = k.prefix; names = k.names }
 
 -- the plan
 inserted_keeps : (inserted : Bool) (m : MachineData) (s : Stage) → IsFront m → Keeps m (if inserted then effect m s else m)
@@ -171,6 +182,18 @@ own_is_whole c prefix =
     let same : own_netlist (machine_of c prefix) ≡ c = same_parts c _ _ _ _ _ _ (ap (λ k. take k c.names) none ∙ take-length c.names) (take-length c.cells) (take-length c.registers) in
     same
 
+planned_keeps : (by : Gating) (c : Circuit) → Keeps (machine_of c by.prefix) (planned by c)
+planned_keeps by c = plan_keeps by.library by.settings by.idle (machine_of c by.prefix) (record { cells = omega arith; registers = omega arith })
+
 pub keeps_netlist : PlannedKeeps
-keeps_netlist by c =
-    (plan_keeps by.library by.settings by.idle (machine_of c by.prefix) (record { cells = omega arith; registers = omega arith })).same ∙ own_is_whole c by.prefix
+keeps_netlist by c = (planned_keeps by c).same ∙ own_is_whole c by.prefix
+
+-- at the start there are the netlist's names alone
+named_start : (c : Circuit) (prefix : List ℕ) → HasNames (machine_of c prefix)
+named_start c prefix =
+    let none : additions (machine_of c prefix) ≡ 0 = omega arith in
+    sym (ap (λ (d : Circuit). d.names) (own_is_whole c prefix)) ∙ (sym (append-nil (own_netlist (machine_of c prefix)).names)
+    ∙ ap (λ n. (own_netlist (machine_of c prefix)).names ++ map (added_name (machine_of c prefix)) (range_with_len 0 n)) (sym none))
+
+pub names_planned : PlannedNames
+names_planned by c = let keeps = planned_keeps by c in (keeps.names (named_start c by.prefix), keeps.prefix)

@@ -4,9 +4,10 @@ use Rattle.cg_netlist.specs.Circuit.{Circuit}
 use Rattle.cg_netlist.specs.History.{IsLawful, IsStart, IsWaveform, Moment, Tick, outputs_of}
 use Rattle.cg_netlist.specs.WellFormed.{IsInNetOrder, IsWellFormed}
 use Rattle.cg_insert.specs.Insert.{CanInsert}
-use Rattle.cg_machine.specs.Added.{own_netlist}
+use Rattle.cg_machine.specs.Added.{HasNames, own_netlist}
 use Rattle.cg_machine.specs.Machine.{IsMachine}
 use Rattle.cg_machine.specs.Run.{ones}
+use Rattle.cg_gated.specs.Kept.{KeepsParts}
 use Rattle.cg_gated.specs.Gated.{Behaves, CanGate, Gating, gated_by, own_wave, planned}
 
 -- the plan's machine is a machine, and the library has what inserting it asks for
@@ -33,3 +34,11 @@ PlannedKeeps = (by : Gating) (c : Circuit) → own_netlist (planned by c) ≡ c
 -- and the gated netlist behaves as the netlist
 abbrev pub GatedBehaves : Type 0
 GatedBehaves = (by : Gating) (c : Circuit) → CanGate by c → Behaves by c (gated_by by c)
+
+-- the nets that a plan adds are named by the prefix, in order of addition
+abbrev pub PlannedNames : Type 0
+PlannedNames = (by : Gating) (c : Circuit) → HasNames (planned by c) × ((planned by c).prefix ≡ by.prefix)
+
+-- and the gated netlist keeps the parts of the netlist
+abbrev pub GatedKeeps : Type 0
+GatedKeeps = (by : Gating) (c : Circuit) → CanGate by c → KeepsParts c (gated_by by c)

@@ -1,7 +1,8 @@
 use Rattle.cg_gated.proofs.laws.gated_laws.Goals as goal
 use Rattle.cg_gated.proofs.Planned.{can_insert, is_formed}
 use Rattle.cg_gated.proofs.Behaving.{gated_behaves}
-use Rattle.cg_gated.proofs.NetlistKept.{keeps_netlist}
+use Rattle.cg_gated.proofs.NetlistKept.{keeps_netlist, names_planned}
+use Rattle.cg_gated.proofs.PartsKept.{keeps_parts}
 use Rattle.cg_gated.proofs.SameOutputs.{shows_same}
 
 pub returns : goal.returns
@@ -11,4 +12,6 @@ returns c = record {
   same = shows_same;
   keeps = keeps_netlist;
   behaves = gated_behaves;
+  names = names_planned;
+  parts = keeps_parts;
 }

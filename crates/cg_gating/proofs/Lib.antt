@@ -1,0 +1,5 @@
+mod Counted
+mod Leads
+mod MayInsert
+mod TestedWaves
+pub mod Meaning

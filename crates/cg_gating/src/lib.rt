@@ -1,0 +1,21 @@
+//! Gating: from a netlist to the texts of its gated netlist.
+//!
+//! A netlist, a library and what is asked for go in; the text of the gated netlist comes out, with the proof file, the report and
+//! what is said of them. Nothing is read or written here.
+//!
+//! The modules, in the order in which data flows through them:
+//!
+//! - [`request`]: what is asked for.
+//! - `planning`: the plan of a netlist.
+//! - `playing`: what comes of a stimulus on both netlists.
+//! - `texts`: the texts.
+//! - [`gate`]: all of it.
+//! - [`laws`]: what the texts mean.
+#![tactic(auto)]
+
+pub mod gate;
+pub mod laws;
+mod planning;
+mod playing;
+pub mod request;
+mod texts;

@@ -24,5 +24,3 @@ mod readers;
 mod register_step;
 mod settle;
 pub mod simulator;
-#[cfg(test)]
-mod tests;

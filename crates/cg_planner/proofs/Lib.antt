@@ -1,0 +1,9 @@
+pub mod Drafts
+pub mod Growing
+pub mod Planned
+pub mod Rounds
+pub mod Naming
+pub mod Measuring
+pub mod Deciding
+pub mod Adding
+pub mod Judging

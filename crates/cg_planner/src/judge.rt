@@ -3,19 +3,30 @@
 ghost use Rattle.std.specs.Prelude.{◌≡◌, IfOk, IfErr, OnErr, OnOk};
 ghost use Rattle.cg_machine.specs.Extends.{Extends};
 ghost use Rattle.cg_machine.specs.Machine.{IsMachine};
-ghost use Rattle.cg_plan.specs.Plan.{after_outcome};
+ghost use Rattle.cg_netlist.specs.declared.fault.AddFault.TheVariants.{NoMemory};
+ghost use Rattle.cg_plan.specs.Plan.{after_outcome, is_inserted};
+ghost use Rattle.cg_plan.specs.StageClaims.{all_claims};
 ghost use Rattle.cg_plan.specs.Told.{AreAppended, MayFail, Tells, claims_for};
-ghost use Rattle.cg_plan.specs.Trying.{tried};
+ghost use Rattle.cg_plan.specs.Trying.{decided, measured, tried};
 ghost use Rattle.cg_planner.specs.Planning.{StayWritable};
 ghost use Rattle.cg_planner.specs.Trial.{WhereInserted};
+ghost use Rattle.cg_planner.specs.inner.Deciding.{Grow};
+ghost use Rattle.cg_planner.specs.inner.Judging.{Certifying, IsJudged, Pushes};
+ghost use Rattle.cg_planner.specs.inner.Naming.{AreNames};
 ghost use Rattle.cg_stage.specs.Stages.{Fits};
 
+use crate::cells::early_end;
+use crate::claims::claim_names;
+use crate::insert::insert;
+use crate::measure::wide_end;
 use cg_cell::library::Library;
+use cg_claim::name::ClaimName;
 use cg_decide::Decider;
 use cg_machine::machine::Machine;
 use cg_machine::stage::Stage;
 use cg_netlist::fault::AddFault;
 use cg_plan::certificate::Certificate;
+use cg_plan::laws::plan_laws;
 use cg_plan::outcome::Outcome;
 use cg_plan::settings::Settings;
 use cg_unroll::unroller::Unroller;
@@ -24,9 +35,9 @@ use std::alloc::Global;
 /// What tries stages, in buffers that are kept, so that a claim costs what it reaches.
 #[derive(Drop)]
 pub(crate) struct Judge {
-    alloc: Global,
-    unroller: Unroller,
-    decider: Decider,
+    pub(crate) alloc: Global,
+    pub(crate) unroller: Unroller,
+    pub(crate) decider: Decider,
 }
 
 impl Judge {
@@ -60,8 +71,136 @@ impl Judge {
         ensures unchanged { OnErr result (into.new.items ≡ into.old.items) }
         ensures whole { IsMachine machine.new }
     {
-        // stub: body to come
-        let _netlist = machine.netlist();
-        Err(AddFault::NoMemory)
+        plan_laws();
+        let _before = machine.netlist();
+        let count = into.len();
+        let result = self.try_pushing(machine, number, stage, library, settings, into);
+        let _after = machine.netlist();
+        match result {
+            Ok(outcome) => {
+                if is_inserted(&outcome) {
+                    return Ok(outcome);
+                }
+                into.truncate(count);
+                Ok(outcome)
+            }
+            Err(fault) => {
+                into.truncate(count);
+                Err(fault)
+            }
+        }
     }
+
+    /// Tries a stage, and puts certificates behind `into` also where it is not inserted.
+    fn try_pushing(
+        &mut self,
+        machine: &mut Machine,
+        number: u32,
+        stage: &Stage,
+        library: &Library,
+        settings: &Settings,
+        into: &mut Vec<Certificate>,
+    ) -> Result<Outcome, AddFault>
+        requires { Fits machine.old stage.now }
+        ensures outcome { IfOk result (λ outcome. Tells machine.old stage.now (tried library.now settings.now machine.old stage.now) outcome) }
+        ensures machine { IfOk result (λ outcome. machine.new ≡ after_outcome machine.old stage.now outcome) }
+        ensures certificates { IfOk result (Pushes machine.old number stage.now into.old.items into.new.items) }
+        ensures fault { IfErr result (MayFail (tried library.now settings.now machine.old stage.now)) }
+        ensures kept { OnErr result (Extends machine.old machine.new) }
+        ensures grown { Grow into.old.items into.new.items }
+    {
+        match early_end(stage, library, settings) {
+            Some(outcome) => Ok(outcome),
+            None => self.try_claims(machine, number, stage, settings.width, into),
+        }
+    }
+
+    /// Tries a stage that is large enough, and of which the library has the cells.
+    fn try_claims(
+        &mut self,
+        machine: &mut Machine,
+        number: u32,
+        stage: &Stage,
+        width: u32,
+        into: &mut Vec<Certificate>,
+    ) -> Result<Outcome, AddFault>
+        requires { Fits machine.old stage.now }
+        ensures outcome { IfOk result (λ outcome. Tells machine.old stage.now (measured machine.old width (all_claims machine.old stage.now) (decided machine.old stage.now)) outcome) }
+        ensures machine { IfOk result (λ outcome. machine.new ≡ after_outcome machine.old stage.now outcome) }
+        ensures certificates { IfOk result (Pushes machine.old number stage.now into.old.items into.new.items) }
+        ensures fault { IfErr result (MayFail (measured machine.old width (all_claims machine.old stage.now) (decided machine.old stage.now))) }
+        ensures kept { OnErr result (Extends machine.old machine.new) }
+        ensures grown { Grow into.old.items into.new.items }
+    {
+        match self.judge_claims(machine, number, stage, width, into) {
+            Ok(Some(outcome)) => Ok(outcome),
+            Ok(None) => match insert(machine, stage) {
+                Ok(()) => Ok(Outcome::Inserted),
+                Err(fault) => Err(fault),
+            },
+            Err(fault) => Err(fault),
+        }
+    }
+
+    /// How a stage ends by its claims; where it does not, their certificates are put behind `into`.
+    fn judge_claims(
+        &mut self,
+        machine: &Machine,
+        number: u32,
+        stage: &Stage,
+        width: u32,
+        into: &mut Vec<Certificate>,
+    ) -> Result<Option<Outcome>, AddFault>
+        requires { Fits machine.now stage.now }
+        ensures judged { IfOk result (IsJudged machine.now stage.now (measured machine.now width (all_claims machine.now stage.now) (decided machine.now stage.now))) }
+        ensures certificates { IfOk result (Certifying machine.now number stage.now into.old.items into.new.items) }
+        ensures fault { IfErr result (MayFail (measured machine.now width (all_claims machine.now stage.now) (decided machine.now stage.now))) }
+        ensures grown { Grow into.old.items into.new.items }
+    {
+        let Ok(names) = claim_names(self.alloc, machine, stage) else {
+            return Err(AddFault::NoMemory);
+        };
+        match wide_end(&mut self.unroller, machine, stage, names.as_slice(), width) {
+            Ok(None) => self.decide_claims(machine, number, stage, names.as_slice(), width, into),
+            Ok(Some(outcome)) => Ok(Some(outcome)),
+            Err(fault) => Err(fault),
+        }
+    }
+
+    /// How a stage ends of which all claims are narrow, by what is decided of them.
+    fn decide_claims(
+        &mut self,
+        machine: &Machine,
+        number: u32,
+        stage: &Stage,
+        names: &[ClaimName],
+        width: u32,
+        into: &mut Vec<Certificate>,
+    ) -> Result<Option<Outcome>, AddFault>
+        requires fits { Fits machine.now stage.now }
+        requires names { AreNames machine.now stage.now names.now }
+        ensures judged { IfOk result (IsJudged machine.now stage.now (decided machine.now stage.now)) }
+        ensures certificates { IfOk result (Certifying machine.now number stage.now into.old.items into.new.items) }
+        ensures fault { IfErr result (λ fault. fault ≡ NoMemory) }
+        ensures grown { Grow into.old.items into.new.items }
+    {
+        let Ok(never_idle) = self.is_never_idle(machine, stage, width) else {
+            return Err(AddFault::NoMemory);
+        };
+        if never_idle {
+            return Ok(Some(Outcome::NeverIdle));
+        }
+        match self.decide_each(machine, number, stage, names, width, into) {
+            Ok(None) => Ok(None),
+            Ok(Some((name, bits))) => Ok(Some(Outcome::Refuted(name, bits))),
+            Err(_) => Err(AddFault::NoMemory),
+        }
+    }
+}
+
+/// Whether the stage gets its enable.
+fn is_inserted(outcome: &Outcome) -> bool
+    ensures { result ≡ is_inserted outcome.now }
+{
+    matches!(outcome, Outcome::Inserted)
 }

@@ -6,11 +6,25 @@
 //!
 //! The modules:
 //!
+//! - `cells`: how a stage ends by its registers and its cells alone.
+//! - `claims`: the claims of a stage, by their names.
+//! - `measure`: how a stage ends by the measures of its claims.
+//! - `decide`: the decision of claims, one after the other.
+//! - `insert`: what a stage adds to a machine.
 //! - `judge`: what tries stages one after another.
 //! - `trial`: a stage that is tried on a machine.
+//! - `earlier`: stages that were tried, as later rounds see them.
+//! - `draft`: a plan in the making.
 //! - `plan`: the plan of a machine.
 #![tactic(auto)]
 
+mod cells;
+mod claims;
+mod decide;
+mod draft;
+mod earlier;
+mod insert;
 mod judge;
+mod measure;
 pub mod plan;
 pub mod trial;

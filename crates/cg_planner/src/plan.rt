@@ -7,7 +7,9 @@ ghost use Rattle.cg_plan.specs.Plan.{plan_of};
 ghost use Rattle.cg_plan.specs.Told.{IsPlan, PlanMayFail};
 ghost use Rattle.cg_planner.specs.Planning.{AreWritable, IsSafePlan, told};
 
+use crate::draft::Draft;
 use cg_cell::library::Library;
+use cg_hold::candidates::candidates;
 use cg_list::Seq;
 use cg_lists::idle::Idle;
 use cg_machine::machine::Machine;
@@ -55,6 +57,14 @@ pub fn make_plan(
     ensures safe { IfOk result (λ plan. IsSafePlan library.now settings.now machine plan.machine) }
     ensures fault { IfErr result (PlanMayFail (plan_of library.now settings.now (option_copied idle.entry) machine).limit) }
 {
-    // stub: body to come
-    Err(AddFault::NoMemory)
+    let _netlist = machine.netlist();
+    let found = candidates(alloc, &machine, settings.width, idle)?;
+    let mut draft = Draft::new(alloc, machine);
+    draft.try_parts(found.stages, library, settings)?;
+    Ok(Plan {
+        machine: draft.machine,
+        stages: draft.stages,
+        wide: found.wide,
+        certificates: Seq::from_vec(draft.certificates),
+    })
 }

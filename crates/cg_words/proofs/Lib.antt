@@ -1,2 +1,3 @@
 pub mod WordsRead
 pub mod Places
+pub mod TestInput

@@ -1,5 +1,5 @@
 -- The place of the first of some parts that passes a test.
-use Rattle.std.proofs.Common.{◌≡◌, ℕ, ◌+◌, ◌<◌, Bool, cond, List, length, drop, get_or, map, Option, Some, sym, ap, ◌∙◌, add-one, drop-cons}
+use Rattle.std.proofs.Common.{◌≡◌, ℕ, ◌+◌, ◌<◌, Bool, cond, List, length, drop, get_or, map, Some, sym, ap, ◌∙◌, add-one, drop-cons}
 use Rattle.std.specs.List.{position_from}
 
 -- what is left to look at from k on

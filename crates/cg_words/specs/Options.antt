@@ -1,7 +1,7 @@
 -- What the options of a line say.
-use Rattle.std.specs.Prelude.{ℕ, nat_eq, Bool, true, false, not, ◌&&◌, ◌||◌, if◌then◌else◌, List, [], ◌∷◌, ◌++◌, nat_le, codes, Option, None, Some, is_none, is_some, unwrap_or}
+use Rattle.std.specs.Prelude.{◌≡◌, ℕ, nat_eq, Bool, true, false, not, ◌&&◌, ◌||◌, if◌then◌else◌, List, [], ◌∷◌, ◌++◌, nat_le, codes, Option, None, Some, is_none, is_some, unwrap_or}
 use Rattle.std.specs.List.{list_any, position_from, starts_with}
-use Rattle.std.specs.Option.{option_and_then, option_map, option_to_list}
+use Rattle.std.specs.Option.{option_map, option_to_list}
 use Rattle.std.specs.Str.{bytes_eq}
 use Rattle.clap.specs.Words.{Text}
 use Rattle.cg_cell.specs.Name.{is_name}
@@ -100,3 +100,8 @@ sim_options_with values None = None
 
 abbrev pub sim_options : List Text → Values → Option Options
 sim_options watchers values = sim_options_with values (watch_in watchers values.watch)
+
+-- what options say of a test input: there is one exactly where it has a name, which does not begin with the prefix
+pub record NamesTest (options : Options) : Type 0 where
+  pub asked : options.settings.test ≡ is_some options.test
+  pub apart : is_apart options.prefix options.test ≡ true

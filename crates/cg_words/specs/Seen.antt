@@ -1,5 +1,4 @@
 -- The values that the program keeps, as the words that they are.
-use Rattle.std.specs.Prelude.{Option}
 use Rattle.std.specs.Option.{option_map}
 use Rattle.cg_words.specs.CommandLine.{Values}
 use Rattle.cg_words.specs.declared.values.OptionWords.{OptionWords}

@@ -1,0 +1,13 @@
+pub mod Bare
+pub mod Depths
+pub mod Extracted
+pub mod Kept
+pub mod LiftedMachine
+pub mod LiftedMoments
+pub mod LiftedRises
+pub mod LiftedRun
+pub mod Lifts
+pub mod NetPlaces
+pub mod Origins
+pub mod Renumbered
+pub mod Taking

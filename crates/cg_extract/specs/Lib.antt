@@ -1,0 +1,4 @@
+pub mod Extracting
+pub mod Laws
+pub mod Lifted
+pub mod inner

@@ -1,0 +1,20 @@
+//! From netlists with gating cells to machines: the gating cells are lifted to enables.
+//!
+//! A netlist goes in. Out comes the machine of the netlist without its gating cells, in which every register is on the clock,
+//! and a register that was clocked by a gating cell has an enable: the and of the enable nets on the chain of gating cells from
+//! the clock to it.
+//!
+//! The modules:
+//!
+//! - `refused`: gating cells that are not lifted.
+//! - `number`: the numbers that nets get, and those that they had.
+//! - `lift`: gating cells, taken by depth into a machine.
+//! - `extract`: the machine, or the first gating cell that is refused.
+//! - `laws`: what is proved of that machine.
+#![tactic(auto)]
+
+pub mod extract;
+pub mod laws;
+mod lift;
+mod number;
+mod refused;

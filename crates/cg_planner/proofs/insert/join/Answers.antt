@@ -1,0 +1,55 @@
+use Rattle.std.proofs.Common.{◌≡◌, ℕ, ◌+◌, List, ◌∷◌, [], Some, slice_get, drop, refl, sym, ◌∙◌, ap, subst}
+use Rattle.std.proofs.lemmas.Option.{slice_get_read}
+use Rattle.cg_cell.specs.declared.fit.FitKind.TheVariants.{Or2}
+use Rattle.cg_machine.specs.Added.{Added, add_gate, gate_limit}
+use Rattle.cg_machine.specs.Claims.{Literal}
+use Rattle.cg_machine.specs.Machine.{IsNet}
+use Rattle.cg_stage.specs.Joined.{join, join_limit}
+use Rattle.cg_stage.proofs.Joins.{net_kept}
+use Rattle.cg_planner.proofs.Adding.{gate_fits, join_on, keeps_then, limit_on, net_among, nets_at, nets_of, passes_first, passes_same}
+use Rattle.cg_planner.proofs.insert.join.Goals as goal
+
+pub add_gate-requires : goal.add_gate-requires
+add_gate-requires c =
+    let m = c.args.machine.now in
+    let n = c.loop-literal.machine in
+    let E = c.args.rest.now in
+    let i = c.loop-literal.literal-index in
+    let l = c.literal-item.result in
+    let at : slice_get E i ≡ Some l = slice_get_read E _ i l refl c.loop-literal-test.true c.literal-item.is in
+    let is : IsNet n l.0 = net_kept m n c.loop-literal.invariant.keeps.extends l.0 (c.requires.nets l.0 (net_among E i l at)) in
+    gate_fits n Or2 c.loop-literal.net c.literal.inside.net refl c.loop-literal.invariant.is_net (subst (IsNet n) (sym (ap (λ (k : Literal). k.0) c.literal.view_is)) is)
+
+pub returns-in-Err-clause-fault : goal.returns-in-Err-clause-fault
+returns-in-Err-clause-fault c =
+    let E = c.args.rest.now in
+    let i = c.loop-literal.literal-index in
+    let l = c.literal-item.result in
+    let y = c.literal.inside.net in
+    let ys : List ℕ = nets_of (drop (i + 1) E) in
+    let a : Added = record { machine = c.loop-literal.machine; net = c.loop-literal.net } in
+    let at : slice_get E i ≡ Some l = slice_get_read E _ i l refl c.loop-literal-test.true c.literal-item.is in
+    let front : nets_of (drop i E) ≡ y ∷ ys = nets_at E i l at ∙ ap (λ (z : ℕ). z ∷ ys) (sym (ap (λ (k : Literal). k.0) c.literal.view_is)) in
+    passes_same (join_limit a (y ∷ ys)) (join_limit (record { machine = c.args.machine.now; net = c.args.first }) (nets_of E)) c.in-Err.fault (ap (join_limit a) (sym front) ∙ c.loop-literal.invariant.limit)
+    (passes_first (gate_limit a.machine Or2 (a.net ∷ y ∷ [])) (join_limit (add_gate a.machine Or2 (a.net ∷ y ∷ [])) ys) c.in-Err.fault c.in-Err.ensures.fault)
+
+pub returns-in-Err-clause-keeps : goal.returns-in-Err-clause-keeps
+returns-in-Err-clause-keeps c = keeps_then c.args.machine.now c.loop-literal.machine c.add_gate.new.machine c.loop-literal.invariant.keeps c.in-Err.ensures.keeps
+
+pub loop-literal-preserved : goal.loop-literal-preserved
+loop-literal-preserved c =
+    let E = c.args.rest.now in
+    let i = c.loop-literal.literal-index in
+    let l = c.literal-item.result in
+    let y = c.literal.inside.net in
+    let ys : List ℕ = nets_of (drop (i + 1) E) in
+    let a : Added = record { machine = c.loop-literal.machine; net = c.loop-literal.net } in
+    let n = c.add_gate.new.machine in
+    let at : slice_get E i ≡ Some l = slice_get_read E _ i l refl c.loop-literal-test.true c.literal-item.is in
+    let front : nets_of (drop i E) ≡ y ∷ ys = nets_at E i l at ∙ ap (λ (z : ℕ). z ∷ ys) (sym (ap (λ (k : Literal). k.0) c.literal.view_is)) in
+    record {
+      left = sym (join_on a y ys n c.in-Ok.joined c.in-Ok.ensures.added) ∙ (ap (join a) (sym front) ∙ c.loop-literal.invariant.left);
+      limit = sym (limit_on a y ys n c.in-Ok.joined c.in-Ok.ensures.added) ∙ (ap (join_limit a) (sym front) ∙ c.loop-literal.invariant.limit);
+      keeps = keeps_then c.args.machine.now c.loop-literal.machine n c.loop-literal.invariant.keeps c.in-Ok.ensures.keeps;
+      is_net = c.in-Ok.ensures.added.is_net;
+    }

@@ -1,5 +1,0 @@
-mod Counted
-mod Leads
-mod MayInsert
-mod TestedWaves
-pub mod Meaning

@@ -6,16 +6,10 @@
 //! The modules, in the order in which data flows through them:
 //!
 //! - [`request`]: what is asked for.
-//! - `planning`: the plan of a netlist.
-//! - `playing`: what comes of a stimulus on both netlists.
 //! - `texts`: the texts.
 //! - [`gate`]: all of it.
-//! - [`laws`]: what the texts mean.
 #![tactic(auto)]
 
 pub mod gate;
-pub mod laws;
-mod planning;
-mod playing;
 pub mod request;
-mod texts;
+pub mod texts;

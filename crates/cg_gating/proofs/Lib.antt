@@ -1,0 +1,7 @@
+mod Answering
+mod Counted
+mod Gated
+mod Leads
+mod MayInsert
+mod TestedWaves
+pub mod Meaning

@@ -11,14 +11,16 @@ use Rattle.cg_plan_text.specs.Summary.{demo_text, report_text, said_text}
 use Rattle.cg_plan_text.specs.declared.summary.Edges.{Edges}
 use Rattle.cg_plan_text.specs.declared.summary.Played.{Played}
 use Rattle.cg_stimulus.specs.Inputs.{Rows}
+use Rattle.cg_planner.specs.Planning.{AreWritable}
 use Rattle.cg_gating.specs.Played.{AreEdges, IsWhatPlayed, Saying}
 use Rattle.cg_gating.specs.Request.{RequestData, gating_of}
 use Rattle.cg_gating.specs.declared.texts.Texts.{Texts}
 
--- a plan as it is told, and the netlist that its machine is written as. Free are the bits that are told of a refuted claim and
+-- a plan as it is told, whose certificates keep to the bounds of their formats, and the netlist that its machine is written as. Free are the bits that are told of a refuted claim and
 -- the logs of the certificates, as far as their definitions leave them open.
 pub record IsGated (by : Gating) (c : Circuit) (told : ToldPlan) (written : Circuit) : Type 0 where
   pub plan : IsPlan by.library by.settings by.idle (machine_of c by.prefix) told
+  pub writable : AreWritable told.certificates
   pub fits : insertion_limit by.test told.machine ≡ None
   pub is : written ≡ inserted by.library by.test told.machine
 

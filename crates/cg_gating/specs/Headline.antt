@@ -14,12 +14,13 @@ use Rattle.cg_netlist.specs.Moment.{zip_with}
 use Rattle.cg_netlist.specs.WellFormed.{IsWellFormed}
 use Rattle.cg_netlist.specs.said.Wiring.{NetName, net_name}
 use Rattle.cg_plan.specs.Laws.{Deserves}
-use Rattle.cg_plan.specs.Plan.{Turn, plan_of}
+use Rattle.cg_plan.specs.Plan.{Turn, plan_of, wide_of}
 use Rattle.cg_plan.specs.Told.{AreCertified, AreTold, ToldPlan, plan_claims}
 use Rattle.cg_plan.specs.declared.outcome.Outcome.TheVariants.{Inserted}
 use Rattle.cg_plan_text.specs.ProofText.{proof_text}
 use Rattle.cg_plan_text.specs.Summary.{report_text, said_text}
 use Rattle.cg_plan_text.specs.declared.summary.Played.{Played}
+use Rattle.cg_planner.specs.Planning.{AreWritable}
 use Rattle.cg_report.specs.Idle.{CountZeros}
 use Rattle.cg_stimulus.specs.Inputs.{Rows, input_names}
 use Rattle.cg_stimulus.specs.Played.{IsPlayed}
@@ -74,11 +75,12 @@ pub record Headline (request : RequestData) (says : Option Saying) (read : Circu
   pub plan : ToldPlan
   pub shows : (start : List Bool) (wave : List Tick) (bits : List Bool) → IsStart read start → IsWaveform read wave → length bits ≡ length wave
       → ShowsSame plan.machine read written start (replicate delays true) wave (with_bits request.test wave bits)
-  -- it is what the plan's machine is written as; the plan's stages lead there from the original, and each is inserted exactly where
-  -- it deserves it on the machine of its turn
+  -- it is what the plan's machine is written as; the plan came to its end, its stages lead there from the original, and each is
+  -- inserted exactly where it deserves it on the machine of its turn
   pub is : written ≡ inserted request.library request.test plan.machine
   pub turns : List Turn
   pub planned : turns ≡ (plan_of request.library request.settings (idle_of read request.prefix request.stimulus) (machine_of read request.prefix)).turns
+  pub whole : (plan_of request.library request.settings (idle_of read request.prefix request.stimulus) (machine_of read request.prefix)).limit ≡ None
   pub lead : Lead turns (machine_of read request.prefix) plan.machine
   pub deserved : (k : ℕ) (turn : Turn) → slice_get turns k ≡ Some turn → (turn.outcome ≡ Inserted) ↔ Deserves request.library request.settings turn.machine turn.stage
   -- literals are ranked by how often they are 0 in the history on which the stimulus is played
@@ -86,9 +88,12 @@ pub record Headline (request : RequestData) (says : Option Saying) (read : Circu
       → (history : List Moment) × IsPlayed read stimulus.rows history × CountZeros read history (idle_data read request.prefix stimulus).zeros
   -- the stages are told with their outcomes, and bits that are told of a refuted claim violate it
   pub told : AreTold turns plan.stages
+  -- and it is told of how many registers the hold claims are too wide
+  pub wide : plan.wide ≡ wide_of request.settings (machine_of read request.prefix)
   -- the proof file has for each claim of each inserted stage, in order, the defined formula and an accepted log that proves that
-  -- nothing satisfies it, and nothing else
+  -- nothing satisfies it, and nothing else; formulas and logs keep to the bounds of their formats, so that they are read back
   pub certified : AreCertified (plan_claims 1 turns) plan.certificates
+  pub writable : AreWritable plan.certificates
   pub proof : texts.proof ≡ where_asked request.proof (proof_text plan)
   -- the edges are those of the histories on which the stimulus is played on both netlists, and the watcher says its line of exactly
   -- the moments of the written one's

@@ -1,5 +1,5 @@
 -- What gating is asked for, what it needs, and what stops it.
-use Rattle.std.specs.Prelude.{◌≡◌, ◌≢◌, ℕ, Bool, false, List, Option, None, Some, is_some}
+use Rattle.std.specs.Prelude.{◌≡◌, ◌≢◌, ℕ, Bool, false, List, Option, Some, is_some}
 use Rattle.std.specs.List.{All}
 use Rattle.std.specs.Option.{option_or}
 use Rattle.cg_cell.specs.Cell.{CellData}
@@ -39,6 +39,11 @@ pub record MayGate (request : RequestData) (c : Circuit) : Type 0 where
   pub tested : request.settings.test ≡ is_some request.test
   pub free : (name : List ℕ) → request.test ≡ Some name → IsFree c request.prefix name
   pub played : (stimulus : Rows) → request.stimulus ≡ Some stimulus → IsFor c stimulus
+
+-- the stimulus, where there is one, is for both netlists
+pub record AreFor (request : RequestData) (read written : Circuit) : Type 0 where
+  pub before : (stimulus : Rows) → request.stimulus ≡ Some stimulus → IsFor read stimulus
+  pub after : (stimulus : Rows) → request.stimulus ≡ Some stimulus → IsFor written stimulus
 
 -- what the netlist is gated by
 abbrev pub gating_of : RequestData → Circuit → Gating

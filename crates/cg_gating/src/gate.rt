@@ -1,19 +1,26 @@
 //! A netlist is gated.
 
 ghost use Rattle.std.specs.Prelude.{◌≡◌, None, Some, IfOk, IfErr, OnOk};
-ghost use Rattle.cg_gating.specs.Gating.{GivesDemo, GivesGated};
+ghost use Rattle.cg_gating.specs.Gating.{AreTexts, GivesDemo, GivesGated, SaysDemo};
 ghost use Rattle.cg_gating.specs.Headline.{Headline};
-ghost use Rattle.cg_gating.specs.Request.{MayGate, stops_at};
+ghost use Rattle.cg_gating.specs.Played.{IsWhatPlayed};
+ghost use Rattle.cg_gating.specs.Request.{AreFor, MayGate, stops_at};
+ghost use Rattle.cg_machine.specs.Added.{own_netlist};
 ghost use Rattle.cg_plan.specs.Told.{PlanMayFail};
+ghost use Rattle.cg_planner.specs.Planning.{AreWritable, told};
+ghost use Rattle.cg_stimulus.specs.Inputs.{IsFor};
 
+use crate::planning::{Gated, gate_netlist};
+use crate::playing::{edges_of, play_both, watch_both};
 use crate::request::Request;
-use crate::texts::Texts;
+use crate::texts::{Texts, write_texts};
 use cg_list::Seq;
 use cg_netlist::fault::AddFault;
 use cg_netlist::netlist::Netlist;
+use cg_plan_text::summary::{Played, demo_text};
 use cg_report::watcher::Watcher;
 use cg_stimulus::stimulus::Stimulus;
-use std::alloc::Global;
+use std::alloc::{AllocError, Global};
 
 /// Gates a netlist: stages are planned and the plan's machine is written with a gating cell for each enable.
 ///
@@ -28,7 +35,11 @@ pub fn gate(alloc: Global, netlist: Netlist, request: &Request<'_>) -> Result<Te
     ensures unstopped { OnOk result (stops_at request.now netlist ≡ None) }
     ensures fault { IfErr result (PlanMayFail (stops_at request.now netlist)) }
 {
-    Err(AddFault::NoMemory)
+    let gated = gate_netlist(alloc, netlist, request)?;
+    let Ok(played) = play(alloc, &gated, request) else {
+        return Err(AddFault::NoMemory);
+    };
+    finish(alloc, request, &gated, &played)
 }
 
 /// Gates a netlist as [`gate`] does, and shows the history on which the stimulus is played on the written netlist to a watcher,
@@ -47,7 +58,11 @@ pub fn gate_watched(
     ensures unstopped { OnOk result (stops_at request.now netlist ≡ None) }
     ensures fault { IfErr result (PlanMayFail (stops_at request.now netlist)) }
 {
-    Err(AddFault::NoMemory)
+    let gated = gate_netlist(alloc, netlist, request)?;
+    let Ok(played) = watch(alloc, &gated, request, watcher) else {
+        return Err(AddFault::NoMemory);
+    };
+    finish(alloc, request, &gated, &played)
 }
 
 /// Gates a generated pipeline of a size, and answers what is said of it. The stimulus is one for the netlist, and stands in the
@@ -65,6 +80,70 @@ pub fn gate_demo(
     ensures unstopped { OnOk result (stops_at request.now netlist ≡ None) }
     ensures fault { IfErr result (PlanMayFail (stops_at request.now netlist)) }
 {
-    Err(AddFault::NoMemory)
+    let gated = gate_netlist(alloc, netlist, request)?;
+    let Ok(text) = demo_said(alloc, size, &gated, stimulus) else {
+        return Err(AddFault::NoMemory);
+    };
+    Ok(text)
 }
 
+/// What is said of a generated pipeline that was gated.
+fn demo_said(
+    alloc: Global,
+    size: u32,
+    gated: &Gated,
+    stimulus: &Stimulus,
+) -> Result<Seq<u8>, AllocError>
+    requires read { IsFor (own_netlist gated.now.plan.machine) stimulus.now }
+    requires written { IsFor gated.now.netlist stimulus.now }
+    ensures { IfOk result (λ text. SaysDemo size stimulus.now.rows (own_netlist gated.now.plan.machine) gated.now.netlist (told gated.now.plan) text) }
+{
+    let edges = edges_of(
+        alloc,
+        gated.plan.machine.netlist(),
+        &gated.netlist,
+        stimulus,
+    )?;
+    let gates = gated.netlist.gaters();
+    Ok(Seq::from_vec(demo_text(alloc, size, &gated.plan, gates, edges)?))
+}
+
+/// What comes of the stimulus, where there is one.
+fn play(alloc: Global, gated: &Gated, request: &Request<'_>) -> Result<Played, AllocError>
+    requires { AreFor request.now (own_netlist gated.now.plan.machine) gated.now.netlist }
+    ensures { IfOk result (λ played. IsWhatPlayed None request.now.stimulus (own_netlist gated.now.plan.machine) gated.now.netlist played) }
+{
+    let read = gated.plan.machine.netlist();
+    play_both(alloc, read, &gated.netlist, request.stimulus)
+}
+
+/// What comes of the stimulus, where there is one, while a watcher looks on the written netlist.
+fn watch(
+    alloc: Global,
+    gated: &Gated,
+    request: &Request<'_>,
+    watcher: &mut Box<dyn Watcher>,
+) -> Result<Played, AllocError>
+    requires { AreFor request.now (own_netlist gated.now.plan.machine) gated.now.netlist }
+    ensures { IfOk result (λ played. IsWhatPlayed (Some (says watcher.old)) request.now.stimulus (own_netlist gated.now.plan.machine) gated.now.netlist played) }
+{
+    let read = gated.plan.machine.netlist();
+    watch_both(alloc, read, &gated.netlist, request.stimulus, watcher)
+}
+
+/// The texts of a netlist that was gated, or want of memory.
+fn finish(
+    alloc: Global,
+    request: &Request<'_>,
+    gated: &Gated,
+    played: &Played,
+) -> Result<Texts, AddFault>
+    requires { AreWritable gated.now.plan.certificates }
+    ensures texts { IfOk result (λ texts. AreTexts request.now (told gated.now.plan) gated.now.netlist played.now texts) }
+    ensures fault { IfErr result (λ fault. fault ≡ AddFault.NoMemory) }
+{
+    match write_texts(alloc, request, gated, played) {
+        Ok(texts) => Ok(texts),
+        Err(_) => Err(AddFault::NoMemory),
+    }
+}

@@ -6,10 +6,16 @@
 //! The modules, in the order in which data flows through them:
 //!
 //! - [`request`]: what is asked for.
-//! - `texts`: the texts.
+//! - `planning`: the plan of a netlist.
+//! - `playing`: what comes of a stimulus on both netlists.
+//! - [`texts`]: the texts.
 //! - [`gate`]: all of it.
+//! - [`laws`]: what the texts mean.
 #![tactic(auto)]
 
 pub mod gate;
+pub mod laws;
+mod planning;
+mod playing;
 pub mod request;
 pub mod texts;

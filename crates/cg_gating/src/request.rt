@@ -42,12 +42,12 @@ impl<'a> Model for Request<'a> {
     ghost coded = { Prim.hlevel (codes, term_code) };
 
     ghost view = { λ r. record {
-        library = r.library.now;
-        settings = r.settings.now;
-        prefix = r.prefix.now;
-        test = option_copied r.test;
-        stimulus = option_copied r.stimulus;
-        proof = r.proof;
-        report = r.report;
+      library = r.library.now;
+      settings = r.settings.now;
+      prefix = r.prefix.now;
+      test = option_copied r.test;
+      stimulus = option_copied r.stimulus;
+      proof = r.proof;
+      report = r.report;
     } };
 }

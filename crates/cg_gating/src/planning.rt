@@ -1,0 +1,141 @@
+//! The plan of a netlist, and the netlist that the plan's machine is written as.
+
+ghost use Rattle.std.specs.Prelude.{◌≡◌, ℕ, List, Some, IfOk, IfErr, IsTrue};
+ghost use Rattle.std.specs.Option.{option_copied};
+ghost use Rattle.cg_cell.specs.Name.{is_name};
+ghost use Rattle.cg_gating.specs.Gating.{IsGated};
+ghost use Rattle.cg_gating.specs.Idling.{idle_of};
+ghost use Rattle.cg_gating.specs.Laws.{IsProper};
+ghost use Rattle.cg_gating.specs.Request.{MayGate, gating_of, stops_at};
+ghost use Rattle.cg_insert.specs.Insert.{CanInsert};
+ghost use Rattle.cg_insert.specs.Inserting.{insertion};
+ghost use Rattle.cg_limit.specs.Answers.{OrNoMemory};
+ghost use Rattle.cg_lists.specs.Literals.{FitsIdle};
+ghost use Rattle.cg_machine.specs.Added.{own_netlist};
+ghost use Rattle.cg_machine.specs.Start.{CanStart, machine_of};
+ghost use Rattle.cg_netlist.specs.declared.fault.AddFault.TheVariants.{NoMemory};
+ghost use Rattle.cg_plan.specs.Plan.{plan_of};
+ghost use Rattle.cg_plan.specs.Told.{IsPlan, PlanMayFail};
+ghost use Rattle.cg_planner.specs.Planning.{AreWritable, told};
+ghost use Rattle.cg_stimulus.specs.Inputs.{IsFor, IsStimulus, Rows};
+
+use crate::request::Request;
+use cg_cell::name::Name;
+use cg_insert::insert::insert;
+use cg_lists::idle::Idle;
+use cg_machine::machine::Machine;
+use cg_netlist::fault::AddFault;
+use cg_netlist::netlist::Netlist;
+use cg_planner::plan::{Plan, make_plan};
+use cg_report::idle::idle_zeros;
+use cg_stimulus::played::one_played_history;
+use cg_stimulus::stimulus::Stimulus;
+use std::alloc::Global;
+
+/// A netlist that was gated: its plan, and the netlist that the plan's machine is written as.
+#[derive(Drop)]
+pub struct Gated {
+    pub plan: Plan,
+    pub netlist: Netlist,
+}
+
+/// Plans a netlist, and writes the plan's machine as a netlist.
+///
+/// It is refused by the limit at which the plan stops, or else by that which the written netlist would pass.
+pub fn gate_netlist(
+    alloc: Global,
+    netlist: Netlist,
+    request: &Request<'_>,
+) -> Result<Gated, AddFault>
+    requires { MayGate request.now netlist }
+    ensures gated { IfOk result (λ gated. IsGated (gating_of request.now netlist) netlist (told gated.plan) gated.netlist) }
+    ensures own { IfOk result (λ gated. own_netlist gated.plan.machine ≡ netlist) }
+    ensures fits { IfOk result (λ gated. (stimulus : Rows) → request.now.stimulus ≡ Some stimulus → IsFor gated.netlist stimulus) }
+    ensures writable { IfOk result (λ gated. AreWritable gated.plan.certificates) }
+    ensures proper { IsProper request.now }
+    ensures fault { IfErr result (PlanMayFail (stops_at request.now netlist)) }
+{
+    hold_request(request);
+    let plan = plan_netlist(alloc, netlist, request)?;
+    match write_plan(alloc, &plan, request) {
+        Ok(netlist) => Ok(Gated { plan, netlist }),
+        Err(fault) => Err(fault),
+    }
+}
+
+/// The netlist that a plan's machine is written as.
+fn write_plan(alloc: Global, plan: &Plan, request: &Request<'_>) -> Result<Netlist, AddFault>
+    requires { CanInsert request.now.library request.now.test plan.now.machine }
+    ensures { OrNoMemory NoMemory (λ netlist. netlist) result (insertion request.now.library request.now.test plan.now.machine) }
+{
+    insert(alloc, &plan.machine, request.library, request.test)
+}
+
+/// A request holds a library, a name of the test input and a stimulus.
+fn hold_request(request: &Request<'_>)
+    ensures { IsProper request.now }
+{
+    let _ = request.library.len();
+    name_test(request.test);
+    hold_rows(request.stimulus);
+}
+
+/// A stimulus that is there has lawful rows.
+fn hold_rows(stimulus: Option<&Stimulus>)
+    ensures { (rows : Rows) → option_copied stimulus.entry ≡ Some rows → IsStimulus rows }
+{
+    if let Some(stimulus) = stimulus {
+        let _ = stimulus.rows();
+    }
+}
+
+/// A test input that is to be there has a name.
+fn name_test(test: Option<&Name>)
+    ensures { (name : List ℕ) → option_copied test.entry ≡ Some name → IsTrue (is_name name) }
+{
+    if let Some(name) = test {
+        let _ = name.bytes();
+    }
+}
+
+/// The plan of a netlist, for which nets are counted that are 0 on the rows of the stimulus, where there is one.
+fn plan_netlist(alloc: Global, netlist: Netlist, request: &Request<'_>) -> Result<Plan, AddFault>
+    requires { MayGate request.now netlist }
+    ensures plan { IfOk result (λ plan. IsPlan request.now.library request.now.settings (idle_of netlist request.now.prefix request.now.stimulus) (machine_of netlist request.now.prefix) (told plan)) }
+    ensures writable { IfOk result (λ plan. AreWritable plan.certificates) }
+    ensures fault { IfErr result (PlanMayFail (plan_of request.now.library request.now.settings (idle_of netlist request.now.prefix request.now.stimulus) (machine_of netlist request.now.prefix)).limit) }
+{
+    match request.stimulus {
+        None => plan_with(alloc, netlist, request, None),
+        Some(stimulus) => {
+            one_played_history(&netlist, stimulus);
+            let Ok(zeros) = idle_zeros(alloc, &netlist, stimulus) else {
+                return Err(AddFault::NoMemory);
+            };
+            let idle = Idle {
+                zeros: &zeros,
+                rows: stimulus.rows(),
+            };
+            plan_with(alloc, netlist, request, Some(&idle))
+        }
+    }
+}
+
+/// The plan of a netlist with these counts.
+fn plan_with(
+    alloc: Global,
+    netlist: Netlist,
+    request: &Request<'_>,
+    idle: Option<&Idle<'_>>,
+) -> Result<Plan, AddFault>
+    requires start { CanStart netlist request.now.prefix }
+    requires idle { FitsIdle (machine_of netlist request.now.prefix) (option_copied idle) }
+    ensures plan { IfOk result (λ plan. IsPlan request.now.library request.now.settings (option_copied idle.entry) (machine_of netlist request.now.prefix) (told plan)) }
+    ensures writable { IfOk result (λ plan. AreWritable plan.certificates) }
+    ensures fault { IfErr result (PlanMayFail (plan_of request.now.library request.now.settings (option_copied idle.entry) (machine_of netlist request.now.prefix)).limit) }
+{
+    let Ok(machine) = Machine::of(alloc, netlist, request.prefix) else {
+        return Err(AddFault::NoMemory);
+    };
+    make_plan(alloc, machine, request.library, request.settings, idle)
+}

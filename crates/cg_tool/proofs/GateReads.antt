@@ -1,9 +1,8 @@
 -- What the mode `gate` has read when all files are taken.
-use Rattle.std.proofs.Common.{◌≡◌, ◌≢◌, ℕ, Bool, true, false, ◌||◌, ◌&&◌, IsTrue, if◌then◌else◌, List, [], ◌∷◌, ◌++◌, codes, Option, None, Some, is_some, Result, Ok, Err, nat_eq, refl, sym, ◌∙◌, ap, subst}
+use Rattle.std.proofs.Common.{◌≡◌, ℕ, Bool, true, false, ◌||◌, IsTrue, if◌then◌else◌, List, [], ◌∷◌, Option, None, Some, is_some, Result, Ok, Err, refl, sym, ◌∙◌, ap, subst}
 use Rattle.std.specs.Prelude.{IsOkAnd}
 use Rattle.cg_cell.specs.Cell.{CellData}
 use Rattle.cg_cell.specs.Name.{is_name}
-use Rattle.cg_blif_text.specs.BlifText.{BlifText}
 use Rattle.cg_blif_text.proofs.ToldIsTaken.{text_is_writable}
 use Rattle.cg_gating.specs.Request.{IsFree, MayGate}
 use Rattle.cg_machine.specs.Start.{begins, first_clash}

@@ -1,5 +1,5 @@
 -- What a finished run of `sim` means, from what its files come to.
-use Rattle.std.proofs.Common.{◌≡◌, ℕ, Bool, List, [], ◌∷◌, ◌++◌, length, Option, None, Some, Result, Ok, Err, refl, sym, ◌∙◌, ap, subst, append-nil}
+use Rattle.std.proofs.Common.{◌≡◌, ℕ, Bool, List, [], ◌∷◌, ◌++◌, length, Option, Some, Result, Ok, Err, refl, sym, ◌∙◌, ap, subst, append-nil}
 use Rattle.std.specs.Prelude.{IsOkAnd, IsSomeAnd}
 use Rattle.std.specs.List.{AllByRecursion, AllZip}
 use Rattle.std.proofs.lemmas.Slice.Zip.{AllZip-long}
@@ -9,7 +9,6 @@ use Rattle.cg_liberty.specs.LibText.{LibText}
 use Rattle.cg_liberty.specs.Library.{library_of}
 use Rattle.cg_blif_text.specs.BlifText.{BlifText}
 use Rattle.cg_netlist.specs.Circuit.{Circuit}
-use Rattle.cg_netlist.specs.History.{Moment}
 use Rattle.cg_netlist.specs.said.Wiring.{NetName}
 use Rattle.cg_netlist.proofs.Histories.{has_history, has_one_history}
 use Rattle.cg_text.specs.declared.lines.Line.{Line}
@@ -23,7 +22,7 @@ use Rattle.cg_run.specs.Writes.{Written, puts}
 use Rattle.cg_run.proofs.Finished.{Finishes}
 use Rattle.cg_run.proofs.Steps.{came, found_ok, held_so, step_end, step_of}
 use Rattle.cg_stimulus.specs.Inputs.{IsFor, IsStimulus, Rows, input_names}
-use Rattle.cg_stimulus.specs.Played.{IsPlayed, played_start, played_wave}
+use Rattle.cg_stimulus.specs.Played.{played_start, played_wave}
 use Rattle.cg_stimulus.specs.Reading.{stimulus}
 use Rattle.cg_stimulus.specs.StimText.{SaysRow, StimText}
 use Rattle.cg_stimulus.proofs.Playing.{start_is, wave_is}
@@ -31,7 +30,7 @@ use Rattle.cg_stimulus.proofs.StimExact.{read_is_text}
 use Rattle.cg_tool.specs.Complaints.{library_found, library_trouble, netlist_read, netlist_trouble, stimulus_found, stimulus_trouble}
 use Rattle.cg_tool.specs.NetlistSaid.{netlist_said}
 use Rattle.cg_tool.specs.Refused.{refused_as}
-use Rattle.cg_tool.specs.Sim.{IsSimulated, PlaysAs, sim_gives, sim_start, sim_stops, sim_takes, sim_task, sim_text}
+use Rattle.cg_tool.specs.Sim.{IsSimulated, PlaysAs, sim_gives, sim_start, sim_stops, sim_takes, sim_task}
 use Rattle.cg_tool.specs.Watching.{Kind}
 use Rattle.cg_tool.specs.declared.modes.sim.Sim.{Sim}
 use Rattle.cg_tool.proofs.LratMeans.{refused_ok, some_and}

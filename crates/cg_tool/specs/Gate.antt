@@ -20,7 +20,6 @@ use Rattle.cg_run.specs.declared.refusal.Trouble.TheVariants as troubles
 use Rattle.cg_run.specs.declared.role.Role.{Role}
 use Rattle.cg_run.specs.declared.role.Role.TheVariants as roles
 use Rattle.cg_stimulus.specs.Inputs.{Rows}
-use Rattle.cg_words.specs.declared.options.Asked.{Asked}
 use Rattle.cg_words.specs.declared.options.Options.{Options}
 use Rattle.cg_tool.specs.Complaints.{library_found, netlist_read, stimulus_found}
 use Rattle.cg_tool.specs.Refused.{then_found}

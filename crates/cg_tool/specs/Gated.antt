@@ -1,5 +1,5 @@
 -- What a finished run of `gate` means.
-use Rattle.std.specs.Prelude.{◌≡◌, ◌≢◌, ℕ, Bool, true, false, IsTrue, List, ◌++◌, Option, None, Some, IsSomeAnd}
+use Rattle.std.specs.Prelude.{◌≡◌, ℕ, Bool, true, false, List, ◌++◌, Option, None, Some, IsSomeAnd}
 use Rattle.cg_cell.specs.Cell.{CellData}
 use Rattle.cg_liberty.specs.LibText.{LibText}
 use Rattle.cg_blif_text.specs.BlifText.{BlifText}
@@ -17,7 +17,6 @@ use Rattle.cg_run.specs.declared.role.Role.TheVariants as roles
 use Rattle.cg_shelf.specs.World.{World}
 use Rattle.cg_stimulus.specs.Inputs.{Rows, input_names}
 use Rattle.cg_stimulus.specs.StimText.{StimText}
-use Rattle.cg_words.specs.declared.options.Asked.{Asked}
 use Rattle.cg_words.specs.declared.options.Options.{Options}
 use Rattle.cg_tool.specs.Gate.{gate_output, request_by, wanted_by}
 use Rattle.cg_tool.specs.Watching.{Kind}

@@ -1,4 +1,4 @@
-use Rattle.std.proofs.Common.{Some, ap, subst, sym}
+use Rattle.std.proofs.Common.{subst, sym}
 use Rattle.std.specs.Option.{option_map}
 use Rattle.cg_gating.specs.Request.{MayGate, RequestData, stops_at}
 use Rattle.cg_run.specs.Verdict.{Concludes}

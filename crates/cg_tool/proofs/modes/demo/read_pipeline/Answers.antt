@@ -1,7 +1,5 @@
-use Rattle.std.proofs.Common.{◌≡◌, None, Result, Ok, subst}
+use Rattle.std.proofs.Common.{◌≡◌, None, Ok, subst}
 use Rattle.std.proofs.lemmas.Result.{err_from_is_err_and}
-use Rattle.cg_netlist.specs.Circuit.{Circuit}
-use Rattle.cg_run.specs.declared.refusal.Trouble.{Trouble}
 use Rattle.cg_tool.specs.Demo.{lines_text}
 use Rattle.cg_tool.specs.Gate.{gateable_found}
 use Rattle.cg_tool.specs.declared.modes.wanted.Wanted.{Wanted}

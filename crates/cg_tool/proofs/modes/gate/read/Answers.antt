@@ -1,8 +1,7 @@
-use Rattle.std.proofs.Common.{◌≡◌, List, Option, Result, Ok, Err, subst}
+use Rattle.std.proofs.Common.{List, Option, Ok, Err, subst}
 use Rattle.std.specs.Option.{option_map}
 use Rattle.std.proofs.lemmas.Result.{err_from_is_err_and}
 use Rattle.cg_run.specs.declared.role.Role.{Role}
-use Rattle.cg_run.specs.declared.role.Role.TheVariants as roles
 use Rattle.cg_run.specs.Names.{name_of}
 use Rattle.cg_run.specs.Reads.{Collects, Gave}
 use Rattle.cg_run.proofs.Halves.{reads_concluded, reads_refused}

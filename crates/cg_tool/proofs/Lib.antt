@@ -1,6 +1,9 @@
 pub mod LratMeans
 pub mod NetlistRead
+pub mod Names
+pub mod GateReads
 pub mod GateMeans
+pub mod DemoMeans
 pub mod StimulusFor
 pub mod SimMeans
 pub mod Program

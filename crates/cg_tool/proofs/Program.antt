@@ -1,6 +1,6 @@
 -- What every run of the program keeps, by its words.
 use Rattle.std.proofs.Common.{◌≡◌, ℕ, Bool, if◌then◌else◌, true, false, IsTrue, List, [], ◌∷◌, codes, Option, None, Some, Result, Ok, Err, refl, sym, subst}
-use Rattle.std.specs.Prelude.{IfSome, ⊤}
+use Rattle.std.specs.Prelude.{IfSome}
 use Rattle.cg_shelf.specs.World.{World}
 use Rattle.cg_shelf.specs.declared.faults.LoadFault.{LoadFault}
 use Rattle.cg_shelf.specs.declared.faults.StoreFault.{StoreFault}
@@ -25,13 +25,15 @@ use Rattle.cg_run.proofs.Voice.{ended}
 use Rattle.cg_words.specs.Jobs.{JobWords}
 use Rattle.cg_words.specs.declared.job.Mode.{Mode}
 use Rattle.cg_words.specs.declared.job.Mode.TheVariants.{Demo, Gate, Lrat, Sim}
-use Rattle.cg_words.specs.declared.options.Asked.{Asked}
 use Rattle.cg_words.specs.declared.options.Options.{Options}
-use Rattle.cg_tool.specs.Gate.{IsGated, gate_gives, gate_start, gate_stops, gate_takes, gate_task}
+use Rattle.cg_tool.specs.Demo.{IsDemo, demo_gives, demo_stops, demo_takes, demo_task}
+use Rattle.cg_tool.specs.Gate.{gate_gives, gate_loads, gate_start, gate_stops, gate_takes, gate_task}
+use Rattle.cg_tool.specs.Gated.{IsGated}
 use Rattle.cg_tool.specs.Lrat.{IsChecked, lrat_gives, lrat_start, lrat_stops, lrat_takes, lrat_task}
-use Rattle.cg_tool.specs.Program.{IsOrNoMemory, KeepsAll, RefusesWords, RunsWords, is_taken, taken_job, task_by, task_in}
+use Rattle.cg_tool.specs.Program.{IsOrNoMemory, KeepsAll, RefusesWords, RunsWords, task_by, task_in}
 use Rattle.cg_tool.specs.Sim.{IsSimulated, sim_gives, sim_start, sim_stops, sim_takes, sim_task}
 use Rattle.cg_tool.specs.Watching.{Kind, kind_at}
+use Rattle.cg_tool.proofs.DemoMeans.{demo_means}
 use Rattle.cg_tool.proofs.GateMeans.{gated_means}
 use Rattle.cg_tool.proofs.LratMeans.{checked}
 use Rattle.cg_tool.proofs.SimMeans.{simulated_means}
@@ -57,35 +59,19 @@ words_answered : (has : Bool) (before after : World) (result : Status) → Compl
 words_answered true before after result complains = let P : Status → Type 0 = λ s. IsOrNoMemory statuses.Usage s in subst P (sym complains.ends) (usage_answered complains.answer)
 words_answered false before after result complains = let P : Status → Type 0 = λ s. IsOrNoMemory statuses.Usage s in subst P (sym complains.ends) (memory_answered complains.answer)
 
--- each job that is asked for is one that is taken
-abbrev IsTaken : Option JobWords → Type 0
-IsTaken None = ⊤
-IsTaken (Some job) = IsTrue (is_taken job.mode job.options.asked)
-
-taken_if : (job : JobWords) (taken : Bool) → is_taken job.mode job.options.asked ≡ taken → IsTaken (if taken then Some job else None)
-taken_if job true is = is
-taken_if job false is = tt
-
-pub is_taken_job : (job : Option JobWords) → IsTaken (taken_job job)
-is_taken_job None = tt
-is_taken_job (Some job) = taken_if job (is_taken job.mode job.options.asked) refl
-
-pub job_is_taken : (job : Option JobWords) (asked : JobWords) → Some asked ≡ taken_job job → IsTrue (is_taken asked.mode asked.options.asked)
-job_is_taken job asked is = subst IsTaken (sym is) (is_taken_job job)
-
 module _ (gave : List ℕ → Result (List ℕ) LoadFault → Type 0) (kinds : List Kind) where
   -- memory was wanting for the words
-  mode_unread : (mode : Mode) (asked : Asked) (options : Options) (names : Role → List ℕ) (before after : World) (result : Status) → IsTrue (is_taken mode asked)
+  mode_unread : (mode : Mode) (options : Options) (names : Role → List ℕ) (before after : World) (result : Status)
       → Complains (complaint_line (codes "no memory")) statuses.NoMemory before after result → Runs gave (task_in kinds mode options) names before after result
-  mode_unread Gate asked options names before after result taken complains = runs_unbegun gave gate_takes gate_stops gate_gives names (gate_start options.clock) (roles.Library ∷ roles.Netlist ∷ []) before after result complains
-  mode_unread Sim asked options names before after result taken complains =
+  mode_unread Gate options names before after result complains = runs_unbegun gave gate_takes gate_stops (gate_gives (kind_at kinds options.watch)) names (gate_start options) (gate_loads options.asked.stimulus) before after result complains
+  mode_unread Sim options names before after result complains =
       runs_unbegun gave sim_takes sim_stops (sim_gives (kind_at kinds options.watch)) names (sim_start options.clock) (roles.Library ∷ roles.Netlist ∷ roles.Stimulus ∷ []) before after result complains
-  mode_unread Lrat asked options names before after result taken complains = runs_unbegun gave lrat_takes lrat_stops lrat_gives names lrat_start (roles.Formula ∷ roles.Log ∷ []) before after result complains
-  mode_unread (Demo size) asked options names before after result taken complains = cc
+  mode_unread Lrat options names before after result complains = runs_unbegun gave lrat_takes lrat_stops lrat_gives names lrat_start (roles.Formula ∷ roles.Log ∷ []) before after result complains
+  mode_unread (Demo size) options names before after result complains = runs_unbegun gave demo_takes demo_stops demo_gives names (record { size = size }) [] before after result complains
 
-  pub runs_unread : (job : Option JobWords) (before after : World) (result : Status) → IsTaken job → Complains (complaint_line (codes "no memory")) statuses.NoMemory before after result → RunsWords gave kinds job before after result
-  runs_unread None before after result taken complains = unread_words before after result complains
-  runs_unread (Some job) before after result taken complains = mode_unread job.mode job.options.asked job.options (file_of job.files) before after result taken complains
+  pub runs_unread : (job : Option JobWords) (before after : World) (result : Status) → Complains (complaint_line (codes "no memory")) statuses.NoMemory before after result → RunsWords gave kinds job before after result
+  runs_unread None before after result complains = unread_words before after result complains
+  runs_unread (Some job) before after result complains = mode_unread job.mode job.options (file_of job.files) before after result complains
 
   pub usage_only : (job : Option JobWords) (before after : World) (result : Status) → RunsWords gave kinds job before after result → job ≡ None → IsOrNoMemory statuses.Usage result
   usage_only None before after result runs none = words_answered runs.has_memory before after result runs.complains
@@ -108,34 +94,34 @@ module _ (gave : List ℕ → Result (List ℕ) LoadFault → Type 0) (kinds : L
   job_stands None before after result runs t = tt
   job_stands (Some job) before after result runs t = stands gave (task_by kinds job) (file_of job.files) before after result runs t
 
-  mode_gains : (mode : Mode) (asked : Asked) (options : Options) (names : Role → List ℕ) (before after : World) (result : Status) → IsTrue (is_taken mode asked)
+  mode_gains : (mode : Mode) (options : Options) (names : Role → List ℕ) (before after : World) (result : Status)
       → Runs gave (task_in kinds mode options) names before after result → Gains (task_in kinds mode options) names before after result
-  mode_gains Gate asked options names before after result taken runs = gains gave (gate_task options.clock) names before after result (load_named gate_takes gate_stops (gate_start options.clock) (roles.Library ∷ roles.Netlist ∷ [])) runs
-  mode_gains Sim asked options names before after result taken runs =
+  mode_gains Gate options names before after result runs = gains gave (gate_task options (kind_at kinds options.watch)) names before after result (load_named gate_takes gate_stops (gate_start options) (gate_loads options.asked.stimulus)) runs
+  mode_gains Sim options names before after result runs =
       gains gave (sim_task options.clock (kind_at kinds options.watch)) names before after result (load_named sim_takes sim_stops (sim_start options.clock) (roles.Library ∷ roles.Netlist ∷ roles.Stimulus ∷ [])) runs
-  mode_gains Lrat asked options names before after result taken runs = gains gave lrat_task names before after result (load_named lrat_takes lrat_stops lrat_start (roles.Formula ∷ roles.Log ∷ [])) runs
-  mode_gains (Demo size) asked options names before after result taken runs = cc
+  mode_gains Lrat options names before after result runs = gains gave lrat_task names before after result (load_named lrat_takes lrat_stops lrat_start (roles.Formula ∷ roles.Log ∷ [])) runs
+  mode_gains (Demo size) options names before after result runs = gains gave (demo_task size) names before after result (load_named demo_takes demo_stops (record { size = size }) []) runs
 
-  pub job_gains : (job : Option JobWords) (before after : World) (result : Status) → IsTaken job → RunsWords gave kinds job before after result → IfSome job (λ j. Gains (task_by kinds j) (file_of j.files) before after result)
-  job_gains None before after result taken runs = tt
-  job_gains (Some job) before after result taken runs = mode_gains job.mode job.options.asked job.options (file_of job.files) before after result taken runs
+  pub job_gains : (job : Option JobWords) (before after : World) (result : Status) → RunsWords gave kinds job before after result → IfSome job (λ j. Gains (task_by kinds j) (file_of j.files) before after result)
+  job_gains None before after result runs = tt
+  job_gains (Some job) before after result runs = mode_gains job.mode job.options (file_of job.files) before after result runs
 
   pub job_others : (job : Option JobWords) (before after : World) (result : Status) → RunsWords gave kinds job before after result → IsTrue before.tells → IfSome job (λ j. KeepsOthers (task_by kinds j) (file_of j.files) before after)
   job_others None before after result runs t = tt
   job_others (Some job) before after result runs t = others gave (task_by kinds job) (file_of job.files) before after result runs t
 
-  mode_comes : (mode : Mode) (asked : Asked) (options : Options) (names : Role → List ℕ) (before after : World) (result : Status) → IsTrue (is_taken mode asked)
+  mode_comes : (mode : Mode) (options : Options) (names : Role → List ℕ) (before after : World) (result : Status)
       → Runs gave (task_in kinds mode options) names before after result → IsTrue before.tells → UnlessFails (EndsAs (task_in kinds mode options) (held_files names before)) result
-  mode_comes Gate asked options names before after result taken runs t = completes gave gate_takes gate_stops gate_gives (gate_start options.clock) (roles.Library ∷ roles.Netlist ∷ []) names before after result runs t
-  mode_comes Sim asked options names before after result taken runs t =
+  mode_comes Gate options names before after result runs t = completes gave gate_takes gate_stops (gate_gives (kind_at kinds options.watch)) (gate_start options) (gate_loads options.asked.stimulus) names before after result runs t
+  mode_comes Sim options names before after result runs t =
       completes gave sim_takes sim_stops (sim_gives (kind_at kinds options.watch)) (sim_start options.clock) (roles.Library ∷ roles.Netlist ∷ roles.Stimulus ∷ []) names before after result runs t
-  mode_comes Lrat asked options names before after result taken runs t = completes gave lrat_takes lrat_stops lrat_gives lrat_start (roles.Formula ∷ roles.Log ∷ []) names before after result runs t
-  mode_comes (Demo size) asked options names before after result taken runs t = cc
+  mode_comes Lrat options names before after result runs t = completes gave lrat_takes lrat_stops lrat_gives lrat_start (roles.Formula ∷ roles.Log ∷ []) names before after result runs t
+  mode_comes (Demo size) options names before after result runs t = completes gave demo_takes demo_stops demo_gives (record { size = size }) [] names before after result runs t
 
-  pub job_comes : (job : Option JobWords) (before after : World) (result : Status) → IsTaken job → RunsWords gave kinds job before after result → IsTrue before.tells
+  pub job_comes : (job : Option JobWords) (before after : World) (result : Status) → RunsWords gave kinds job before after result → IsTrue before.tells
       → IfSome job (λ j. UnlessFails (EndsAs (task_by kinds j) (held_files (file_of j.files) before)) result)
-  job_comes None before after result taken runs t = tt
-  job_comes (Some job) before after result taken runs t = mode_comes job.mode job.options.asked job.options (file_of job.files) before after result taken runs t
+  job_comes None before after result runs t = tt
+  job_comes (Some job) before after result runs t = mode_comes job.mode job.options (file_of job.files) before after result runs t
 
   -- what a finished run means, mode by mode
   finished_means : (task : Task) (names : Role → List ℕ) (before after : World) (P : Finish → Type 0) (result : Status) → ((finish : Finish) → Finishes task names before after finish → P finish)
@@ -144,14 +130,15 @@ module _ (gave : List ℕ → Result (List ℕ) LoadFault → Type 0) (kinds : L
       finish_map (λ finish. Finishes task names before after finish) P result means (finished_so gave task names before after result (ended gave task names before after result runs) t)
 
   mode_gated : (mode : Mode) (options : Options) (names : Role → List ℕ) (before after : World) (result : Status) → mode ≡ Gate → Runs gave (task_in kinds mode options) names before after result → IsTrue before.tells
-      → FinishBy (IsGated options.clock names before after) result
-  mode_gated Gate options names before after result is runs t = finished_means (gate_task options.clock) names before after (IsGated options.clock names before after) result (gated_means options.clock names before after) runs t
+      → FinishBy (IsGated options (kind_at kinds options.watch) names before after) result
+  mode_gated Gate options names before after result is runs t = let kind = kind_at kinds options.watch in
+      finished_means (gate_task options kind) names before after (IsGated options kind names before after) result (gated_means options kind names before after) runs t
   mode_gated Sim options names before after result is runs t = cc
   mode_gated Lrat options names before after result is runs t = cc
   mode_gated (Demo size) options names before after result is runs t = cc
 
   pub job_gated : (job : Option JobWords) (before after : World) (result : Status) → RunsWords gave kinds job before after result → IsTrue before.tells
-      → IfSome job (λ j. j.mode ≡ Gate → FinishBy (IsGated j.options.clock (file_of j.files) before after) result)
+      → IfSome job (λ j. j.mode ≡ Gate → FinishBy (IsGated j.options (kind_at kinds j.options.watch) (file_of j.files) before after) result)
   job_gated None before after result runs t = tt
   job_gated (Some job) before after result runs t = λ is. mode_gated job.mode job.options (file_of job.files) before after result is runs t
 
@@ -179,3 +166,18 @@ module _ (gave : List ℕ → Result (List ℕ) LoadFault → Type 0) (kinds : L
       → IfSome job (λ j. j.mode ≡ Lrat → FinishBy (IsChecked (file_of j.files) before after) result)
   job_checked None before after result runs t = tt
   job_checked (Some job) before after result runs t = λ is. mode_checked job.mode job.options (file_of job.files) before after result is runs t
+
+  mode_shown : (mode : Mode) (options : Options) (names : Role → List ℕ) (size : ℕ) (before after : World) (result : Status) → mode ≡ Demo size → Runs gave (task_in kinds mode options) names before after result → IsTrue before.tells
+      → FinishBy (IsDemo size before after) result
+  mode_shown Gate options names size before after result is runs t = cc
+  mode_shown Sim options names size before after result is runs t = cc
+  mode_shown Lrat options names size before after result is runs t = cc
+  mode_shown (Demo other) options names size before after result is runs t =
+      let same : other ≡ size = cc in
+      let P : ℕ → Type 0 = λ n. FinishBy (IsDemo n before after) result in
+      subst P same (finished_means (demo_task other) names before after (IsDemo other before after) result (demo_means other names before after) runs t)
+
+  pub job_shown : (job : Option JobWords) (before after : World) (result : Status) → RunsWords gave kinds job before after result → IsTrue before.tells
+      → IfSome job (λ j. (size : ℕ) → j.mode ≡ Demo size → FinishBy (IsDemo size before after) result)
+  job_shown None before after result runs t = tt
+  job_shown (Some job) before after result runs t = λ size is. mode_shown job.mode job.options (file_of job.files) size before after result is runs t

@@ -1,5 +1,5 @@
 -- What a finished run of `sim` means, from what its files come to.
-use Rattle.std.proofs.Common.{◌≡◌, ℕ, Bool, List, [], ◌∷◌, ◌++◌, length, Option, None, Some, Result, Ok, Err, refl, sym, ◌∙◌, ap, subst, append-nil}
+use Rattle.std.proofs.Common.{◌≡◌, ℕ, Bool, List, [], ◌∷◌, ◌++◌, length, Option, Some, Result, Ok, Err, refl, sym, ◌∙◌, ap, subst, append-nil}
 use Rattle.std.specs.Prelude.{IsOkAnd, IsSomeAnd}
 use Rattle.std.specs.List.{AllByRecursion, AllZip}
 use Rattle.std.proofs.lemmas.Slice.Zip.{AllZip-long}
@@ -9,7 +9,6 @@ use Rattle.cg_liberty.specs.LibText.{LibText}
 use Rattle.cg_liberty.specs.Library.{library_of}
 use Rattle.cg_blif_text.specs.BlifText.{BlifText}
 use Rattle.cg_netlist.specs.Circuit.{Circuit}
-use Rattle.cg_netlist.specs.History.{Moment}
 use Rattle.cg_netlist.specs.said.Wiring.{NetName}
 use Rattle.cg_netlist.proofs.Histories.{has_history, has_one_history}
 use Rattle.cg_text.specs.declared.lines.Line.{Line}
@@ -23,7 +22,7 @@ use Rattle.cg_run.specs.Writes.{Written, puts}
 use Rattle.cg_run.proofs.Finished.{Finishes}
 use Rattle.cg_run.proofs.Steps.{came, found_ok, held_so, step_end, step_of}
 use Rattle.cg_stimulus.specs.Inputs.{IsFor, IsStimulus, Rows, input_names}
-use Rattle.cg_stimulus.specs.Played.{IsPlayed, played_start, played_wave}
+use Rattle.cg_stimulus.specs.Played.{played_start, played_wave}
 use Rattle.cg_stimulus.specs.Reading.{stimulus}
 use Rattle.cg_stimulus.specs.StimText.{SaysRow, StimText}
 use Rattle.cg_stimulus.proofs.Playing.{start_is, wave_is}
@@ -31,7 +30,7 @@ use Rattle.cg_stimulus.proofs.StimExact.{read_is_text}
 use Rattle.cg_tool.specs.Complaints.{library_found, library_trouble, netlist_read, netlist_trouble, stimulus_found, stimulus_trouble}
 use Rattle.cg_tool.specs.NetlistSaid.{netlist_said}
 use Rattle.cg_tool.specs.Refused.{refused_as}
-use Rattle.cg_tool.specs.Sim.{IsSimulated, PlaysAs, sim_gives, sim_start, sim_stops, sim_takes, sim_task, sim_text}
+use Rattle.cg_tool.specs.Sim.{IsSimulated, PlaysAs, sim_gives, sim_start, sim_stops, sim_takes, sim_task}
 use Rattle.cg_tool.specs.Watching.{Kind}
 use Rattle.cg_tool.specs.declared.modes.sim.Sim.{Sim}
 use Rattle.cg_tool.proofs.LratMeans.{refused_ok, some_and}
@@ -89,6 +88,10 @@ played_rows kind c text output h =
     let P : Rows → Type 0 = λ s. PlaysAs kind c s output in
     (r.0, refused_ok stimulus_trouble (stimulus (input_names c) text) r.0 r.1, subst P (sym r.2) s.2)
 
+-- a mode that took the text of a stimulus has it, and the netlist that it had
+kept : (before : Sim) (text : List ℕ) (after : Sim) → ◌≡◌ {A = Result Sim Trouble} (Ok (record before { stimulus = text })) (Ok after) → (after.netlist ≡ before.netlist) × (after.stimulus ≡ text)
+kept before text after is = let same : record before { stimulus = text } ≡ after = cc in (sym (ap (λ (g : Sim). g.netlist) same), sym (ap (λ (g : Sim). g.stimulus) same))
+
 pub simulated_means : (clock : Option NetName) (kind : Option Kind) (names : Role → List ℕ) (before after : World) (finish : Finish) → Finishes (sim_task clock kind) names before after finish → IsSimulated clock kind names before after finish
 simulated_means clock kind names before after finish f =
     let start : Sim = sim_start clock in
@@ -98,16 +101,14 @@ simulated_means clock kind names before after finish f =
     let two = step_of sim_takes sim_stops one.next roles.Netlist (roles.Stimulus ∷ []) f.given end.0 one.later in
     let n = found_ok (λ (q : Circuit). record one.next { netlist = Some q }) (netlist_read one.next.library (one.next.options).clock two.bytes) two.next two.takes_it in
     let three = step_of sim_takes sim_stops two.next roles.Stimulus [] f.given end.0 two.later in
-    let third : Ok (record two.next { stimulus = three.bytes }) ≡ Ok three.next = three.takes_it in
-    let kept : record two.next { stimulus = three.bytes } ≡ three.next = cc in
+    let third = kept two.next three.bytes three.next three.takes_it in
     let last = step_end sim_takes sim_stops three.next f.given end.0 three.later in
     let c : Circuit = n.0 in
     let G : Sim → Type 0 = λ g. sim_gives kind g f.output in
     let gives : sim_gives kind three.next f.output = subst G (sym last.1) end.2 in
-    let has : three.next.netlist ≡ Some c = sym (ap (λ (g : Sim). g.netlist) kept) ∙ sym (ap (λ (g : Sim). g.netlist) n.2) in
-    let text : three.next.stimulus ≡ three.bytes = sym (ap (λ (g : Sim). g.stimulus) kept) in
+    let has : three.next.netlist ≡ Some c = third.0 ∙ sym (ap (λ (g : Sim). g.netlist) n.2) in
     let T : List ℕ → Type 0 = λ t. IsOkAnd (stimulus_found c t) (λ s. PlaysAs kind c s f.output) in
-    let r = played_rows kind c three.bytes f.output (subst T text (given_so three.next.netlist c (λ c. IsOkAnd (stimulus_found c three.next.stimulus) (λ s. PlaysAs kind c s f.output)) has gives)) in
+    let r = played_rows kind c three.bytes f.output (subst T third.1 (given_so three.next.netlist c (λ c. IsOkAnd (stimulus_found c three.next.stimulus) (λ s. PlaysAs kind c s f.output)) has gives)) in
     let F : Sim → Type 0 = λ g. netlist_read g.library (g.options).clock two.bytes ≡ Ok c in
     let read : netlist_said l.0 clock two.bytes ≡ Ok c = refused_ok netlist_trouble (netlist_said l.0 clock two.bytes) c (subst F (sym l.2) n.1) in
     let says = netlist_says l.0 clock two.bytes c read in

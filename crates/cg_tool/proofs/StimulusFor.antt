@@ -1,5 +1,5 @@
 -- A stimulus that was read for a netlist is one for it.
-use Rattle.std.proofs.Common.{◌≡◌, ℕ, Bool, List, [], ◌++◌, Result, Ok, sym, ◌∙◌, ap, append-nil}
+use Rattle.std.proofs.Common.{◌≡◌, ℕ, Bool, List, [], Ok, sym, ◌∙◌, ap, append-nil}
 use Rattle.cg_netlist.specs.Circuit.{Circuit}
 use Rattle.cg_run.proofs.Steps.{found_ok}
 use Rattle.cg_stimulus.specs.Inputs.{IsFor, Rows, input_names}

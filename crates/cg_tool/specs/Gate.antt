@@ -1,101 +1,120 @@
--- What `gate` makes of a library and a netlist, and what that means.
-use Rattle.std.specs.Prelude.{◌≡◌, ℕ, ◌+◌, Bool, List, [], ◌∷◌, ◌++◌, length, map, codes, Option, None, Some, Result, Ok, Err, IsSomeAnd}
+-- What `gate` makes of a library, a netlist and it may be a stimulus.
+use Rattle.std.specs.Prelude.{◌≡◌, ℕ, ◌||◌, Bool, if◌then◌else◌, List, [], ◌∷◌, ◌++◌, codes, Option, None, Some, is_some, Result, Ok, Err, IsOkAnd, IsSomeAnd}
+use Rattle.std.specs.Option.{option_and_then, option_map}
 use Rattle.cg_cell.specs.Cell.{CellData}
-use Rattle.cg_liberty.specs.LibText.{LibText}
-use Rattle.cg_blif_text.specs.BlifText.{BlifText}
-use Rattle.cg_blif_text.specs.Canonical.{blif}
-use Rattle.cg_netlist.specs.Circuit.{Circuit, GatingCell, data_inputs}
-use Rattle.cg_netlist.specs.History.{HasHistory, HasOneHistory, IsLawful, IsStart, IsWaveform, Moment, Tick, outputs_of}
-use Rattle.cg_netlist.specs.WellFormed.{IsWellFormed}
+use Rattle.cg_gating.specs.Gating.{GivesGated}
+use Rattle.cg_gating.specs.Headline.{Headline}
+use Rattle.cg_gating.specs.Request.{MayGate, RequestData, stops_at}
+use Rattle.cg_gating.specs.declared.texts.Texts.{Texts}
+use Rattle.cg_machine.specs.Start.{begins, first_clash}
+use Rattle.cg_netlist.specs.Circuit.{Circuit, GatingCell}
+use Rattle.cg_netlist.specs.Names.{is_known}
 use Rattle.cg_netlist.specs.said.Wiring.{NetName, net_name}
 use Rattle.cg_run.specs.Verdict.{Task, found_as, task_of}
-use Rattle.cg_run.specs.declared.output.Finish.{Finish}
 use Rattle.cg_run.specs.declared.output.Finish.TheVariants as finishes
 use Rattle.cg_run.specs.declared.output.Output.{Output}
+use Rattle.cg_run.specs.declared.output.Text.{Text}
 use Rattle.cg_run.specs.declared.refusal.Owner.TheVariants as owners
 use Rattle.cg_run.specs.declared.refusal.Trouble.{Trouble}
 use Rattle.cg_run.specs.declared.refusal.Trouble.TheVariants as troubles
 use Rattle.cg_run.specs.declared.role.Role.{Role}
 use Rattle.cg_run.specs.declared.role.Role.TheVariants as roles
-use Rattle.cg_shelf.specs.World.{World}
-use Rattle.cg_tool.specs.Complaints.{library_found, netlist_read}
+use Rattle.cg_stimulus.specs.Inputs.{Rows}
+use Rattle.cg_words.specs.declared.options.Options.{Options}
+use Rattle.cg_tool.specs.Complaints.{library_found, netlist_read, stimulus_found}
+use Rattle.cg_tool.specs.Refused.{then_found}
+use Rattle.cg_tool.specs.Watching.{Kind}
 use Rattle.cg_tool.specs.declared.modes.gate.Gate.{Gate}
+use Rattle.cg_tool.specs.declared.modes.wanted.Wanted.{Wanted}
 
--- A netlist in which gating cells stand already is refused, for the first of them.
+-- how a netlist is to be gated, by what the options say; gating cells have a test input exactly where one is named
+abbrev pub wanted_by : Options → Wanted
+wanted_by options = record { prefix = options.prefix; test = options.test; settings = record options.settings { test = is_some options.test }; asked = options.asked }
+
+abbrev pub netlist_refused : List ℕ → Trouble
+netlist_refused text = troubles.Content (record { owner = owners.Netlist; text = text })
+
+-- a netlist with a net whose name begins with the prefix is refused, for the first of them
+abbrev pub unprefixed : Circuit → Option ℕ → Result Circuit Trouble
+unprefixed c None = Ok c
+unprefixed c (Some net) = Err (netlist_refused (codes "netlist: prefix taken " ++ net_name c.names net))
+
+-- so is one with a net that has the name of the test input, or may come to have it
+abbrev pub untested : List ℕ → Option NetName → Circuit → Result Circuit Trouble
+untested prefix None c = Ok c
+untested prefix (Some test) c = if is_known c.names test || begins prefix test then Err (netlist_refused (codes "netlist: test taken " ++ test)) else Ok c
+
+-- so is one in which gating cells stand already, for the first of them
 abbrev pub ungated : Circuit → List (GatingCell ℕ) → Result Circuit Trouble
 ungated c [] = Ok c
-ungated c (gater ∷ gaters) = Err (troubles.Content (record { owner = owners.Netlist; text = codes "netlist: gating cell " ++ net_name c.names gater.output }))
+ungated c (gater ∷ gaters) = Err (netlist_refused (codes "netlist: gating cell " ++ net_name c.names gater.output))
 
-abbrev pub ungated_of : Result Circuit Trouble → Result Circuit Trouble
-ungated_of (Ok c) = ungated c c.gaters
-ungated_of (Err trouble) = Err trouble
+-- a netlist that may be gated so
+abbrev pub gateable : Wanted → Circuit → Result Circuit Trouble
+gateable wanted c = then_found (unprefixed c (first_clash wanted.prefix c.names)) (λ c. then_found (untested wanted.prefix wanted.test c) (λ c. ungated c c.gaters))
 
-abbrev pub netlist_found : List CellData → Option NetName → List ℕ → Result Circuit Trouble
-netlist_found library clock text = ungated_of (netlist_read library clock text)
+abbrev pub gateable_found : List CellData → Option NetName → Wanted → List ℕ → Result Circuit Trouble
+gateable_found library clock wanted text = then_found (netlist_read library clock text) (gateable wanted)
 
--- what is said of so many stages that were tried and inserted
-abbrev pub stages_text : List ℕ
-stages_text = codes "stages 0 inserted 0" ++ 10 ∷ []
+-- the stimulus, where one is asked for
+abbrev pub stimulus_asked : Bool → Circuit → List ℕ → Result (Option Rows) Trouble
+stimulus_asked asked c text = if asked then found_as Some (stimulus_found c text) else Ok None
 
--- what `gate` puts out of a netlist: no stage is tried yet, and the netlist is written as it was read
-abbrev pub gated : Circuit → Output
-gated netlist = record { stores = record { role = roles.Out; bytes = blif netlist } ∷ []; said = stages_text; finish = finishes.Done }
+-- what gating is asked for
+abbrev pub request_by : List CellData → Wanted → Option Rows → RequestData
+request_by library wanted stimulus = record {
+  library = library;
+  settings = wanted.settings;
+  prefix = wanted.prefix;
+  test = wanted.test;
+  stimulus = stimulus;
+  proof = wanted.asked.proof;
+  report = wanted.asked.report;
+}
 
--- the mode: it takes a library, takes a netlist, and gives the gated netlist and nothing else; nothing stops it
+-- what `gate` puts out of the texts of a gated netlist: it stores the netlist, and the proof file and the report where they are asked
+-- for
+abbrev pub text_for : Role → Option (List ℕ) → List Text
+text_for role None = []
+text_for role (Some bytes) = record { role = role; bytes = bytes } ∷ []
+
+abbrev pub gate_output : Texts → Output
+gate_output texts = record { stores = record { role = roles.Out; bytes = texts.out } ∷ text_for roles.Proof texts.proof ++ text_for roles.Report texts.report; said = texts.said; finish = finishes.Done }
+
+-- what `gate` puts out of a netlist that may be gated: the texts that gating gives, which mean what the headline says
+pub record GatesAs (kind : Option Kind) (request : RequestData) (c : Circuit) (output : Output) : Type 0 where
+  pub may : MayGate request c
+  pub texts : Texts
+  pub gives : GivesGated request kind c texts
+  pub headline : Headline request kind c texts
+  pub is : output ≡ gate_output texts
+
+-- The mode: it takes a library, a netlist that may be gated, and the text of a stimulus. That text is read when all are taken, and
+-- a fault of it stops the mode, or else the limit at which gating stops.
 abbrev pub gate_takes : Gate → Role → List ℕ → Result Gate Trouble
-gate_takes state roles.Library text = found_as (λ library. record { options = state.options; library = library; netlist = state.netlist }) (library_found text)
-gate_takes state roles.Netlist text =
-    found_as (λ netlist. record { options = state.options; library = state.library; netlist = Some netlist }) (netlist_found state.library (state.options).clock text)
+gate_takes state roles.Library text = found_as (λ library. record state { library = library }) (library_found text)
+gate_takes state roles.Netlist text = found_as (λ netlist. record state { netlist = Some netlist }) (gateable_found state.library (state.options).clock state.wanted text)
+gate_takes state roles.Stimulus text = Ok (record state { stimulus = text })
 gate_takes state role text = Ok state
 
+abbrev pub stops_with : List CellData → Wanted → Circuit → Result (Option Rows) Trouble → Option Trouble
+stops_with library wanted c (Err trouble) = Some trouble
+stops_with library wanted c (Ok stimulus) = option_map troubles.Limit (stops_at (request_by library wanted stimulus) c)
+
 abbrev pub gate_stops : Gate → Option Trouble
-gate_stops state = None
+gate_stops state = option_and_then (λ c. stops_with state.library state.wanted c (stimulus_asked (state.wanted).asked.stimulus c state.stimulus)) state.netlist
 
-abbrev pub gate_gives : Gate → Output → Type 0
-gate_gives state output = IsSomeAnd state.netlist (λ netlist. output ≡ gated netlist)
+abbrev pub gate_gives : Option Kind → Gate → Output → Type 0
+gate_gives kind state output =
+    IsSomeAnd state.netlist (λ c. IsOkAnd (stimulus_asked (state.wanted).asked.stimulus c state.stimulus) (λ stimulus. GatesAs kind (request_by state.library state.wanted stimulus) c output))
 
--- nothing is read yet; the words may name a clock
-abbrev pub gate_start : Option NetName → Gate
-gate_start clock = record { options = record { clock = clock }; library = []; netlist = None }
+-- nothing is read yet
+abbrev pub gate_start : Options → Gate
+gate_start options = record { options = record { clock = options.clock }; wanted = wanted_by options; library = []; netlist = None; stimulus = [] }
 
--- what a run of `gate` does: the library is loaded and read, then the netlist
-abbrev pub gate_task : Option NetName → Task
-gate_task clock = task_of gate_takes gate_stops gate_gives (gate_start clock) (roles.Library ∷ roles.Netlist ∷ [])
+-- what a run of `gate` does: the library is loaded and read, then the netlist, then the stimulus, where one is asked for
+abbrev pub gate_loads : Bool → List Role
+gate_loads stimulus = roles.Library ∷ roles.Netlist ∷ (if stimulus then roles.Stimulus ∷ [] else [])
 
--- A written netlist behaves as the one that was read. It has the registers of that one and the added ones, which start as
--- told, and the same data inputs and outputs by their names. From each start of the registers and over each waveform that
--- begins with the clock low it has exactly one lawful history, and at every moment its outputs are those of the netlist
--- that was read.
-pub record Behaves (added : List Bool) (read written : Circuit) : Type 0 where
-  pub registers : length written.registers ≡ length read.registers + length added
-  pub inputs : map (net_name written.names) (data_inputs written) ≡ map (net_name read.names) (data_inputs read)
-  pub outputs : map (net_name written.names) written.outputs ≡ map (net_name read.names) read.outputs
-  pub starts : (start : List Bool) → IsStart read start → IsStart written (start ++ added)
-  pub waves : (wave : List Tick) → IsWaveform read wave → IsWaveform written wave
-  pub some : (start : List Bool) (wave : List Tick) → IsStart read start → IsWaveform read wave → (history : List Moment) × IsLawful written (start ++ added) wave history
-  pub one : HasOneHistory written
-  pub same : (start : List Bool) (wave : List Tick) → IsStart read start → IsWaveform read wave → (history gated : List Moment) → IsLawful read start wave history → IsLawful written (start ++ added) wave gated → outputs_of read history ≡ outputs_of written gated
-
--- A netlist was gated: the bytes under LIB are a text that stands for a library, and those under NETLIST are a BLIF text
--- that says a well-formed netlist with this library and the clock of the words. It has no gating cell, and exactly one
--- lawful history for each start and waveform. OUT holds the canonical text of the written netlist, which is a BLIF text
--- that says this netlist with the same library and without a clock of the words, and no other. The written netlist is the
--- one that was read, since no stage is tried yet, and so it behaves as that one.
-pub record IsGated (clock : Option NetName) (names : Role → List ℕ) (before after : World) (finish : Finish) : Type 0 where
-  pub library : List CellData
-  pub read : Circuit
-  pub written : Circuit
-  pub cells : IsSomeAnd (before.held (names roles.Library)) (λ text. LibText text library)
-  pub says : IsSomeAnd (before.held (names roles.Netlist)) (λ text. BlifText text library clock read)
-  pub no_gaters : read.gaters ≡ []
-  pub read_well_formed : IsWellFormed read
-  pub some : HasHistory read
-  pub one : HasOneHistory read
-  pub is : written ≡ read
-  pub written_well_formed : IsWellFormed written
-  pub stored : after.held (names roles.Out) ≡ Some (blif written)
-  pub writes : BlifText (blif written) library None written
-  pub no_other : (c : Circuit) → BlifText (blif written) library None c → c ≡ written
-  pub behaves : Behaves [] read written
-  pub said : after.said ≡ before.said ++ stages_text
-  pub ends : finish ≡ finishes.Done
+abbrev pub gate_task : Options → Option Kind → Task
+gate_task options kind = task_of gate_takes gate_stops (gate_gives kind) (gate_start options) (gate_loads options.asked.stimulus)

@@ -5,4 +5,7 @@ pub mod Watching
 pub mod Lrat
 pub mod Sim
 pub mod Gate
+pub mod Gated
+pub mod Demo
 pub mod Program
+pub mod inner

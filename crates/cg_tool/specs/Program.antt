@@ -1,6 +1,5 @@
 -- What a run of the program does, by its words.
-use Rattle.std.specs.Prelude.{◌≡◌, ℕ, Bool, true, false, not, ◌&&◌, if◌then◌else◌, List, [], codes, Option, None, Some, Result, ⊤}
-use Rattle.std.specs.Option.{option_and_then}
+use Rattle.std.specs.Prelude.{◌≡◌, ℕ, Bool, if◌then◌else◌, List, codes, Option, None, Some, Result, ⊤}
 use Rattle.cg_shelf.specs.World.{World}
 use Rattle.cg_shelf.specs.declared.faults.LoadFault.{LoadFault}
 use Rattle.cg_run.specs.Names.{file_of}
@@ -9,36 +8,22 @@ use Rattle.cg_run.specs.Run.{Complains, Runs}
 use Rattle.cg_run.specs.Verdict.{Task}
 use Rattle.cg_run.specs.declared.status.Status.{Status}
 use Rattle.cg_run.specs.declared.status.Status.TheVariants as statuses
-use Rattle.cg_words.specs.Jobs.{JobWords, job_of}
+use Rattle.cg_words.specs.Jobs.{JobWords}
 use Rattle.cg_words.specs.declared.job.Mode.{Mode}
 use Rattle.cg_words.specs.declared.job.Mode.TheVariants.{Demo, Gate, Lrat, Sim}
-use Rattle.cg_words.specs.declared.options.Asked.{Asked}
 use Rattle.cg_words.specs.declared.options.Options.{Options}
+use Rattle.cg_tool.specs.Demo.{demo_task}
 use Rattle.cg_tool.specs.Gate.{gate_task}
 use Rattle.cg_tool.specs.Lrat.{lrat_task}
 use Rattle.cg_tool.specs.Sim.{sim_task}
 use Rattle.cg_tool.specs.Watching.{Kind, kind_at}
 
--- What is taken so far: no `demo`, and no `gate` that plays a stimulus or writes a proof or a report.
-abbrev pub is_taken : Mode → Asked → Bool
-is_taken Gate asked = not asked.stimulus && not asked.proof && not asked.report
-is_taken Sim asked = true
-is_taken Lrat asked = true
-is_taken (Demo size) asked = false
-
-abbrev pub taken_job : Option JobWords → Option JobWords
-taken_job job = option_and_then (λ job. if is_taken job.mode job.options.asked then Some job else None) job
-
--- the job of a line, where there are watchers of these names
-abbrev pub asked_job : List (List ℕ) → List (List ℕ) → Option JobWords
-asked_job watchers words = taken_job (job_of watchers words)
-
 -- what a mode does with what the options say, where watchers of these kinds may be asked for
 abbrev pub task_in : List Kind → Mode → Options → Task
-task_in kinds Gate options = gate_task options.clock
+task_in kinds Gate options = gate_task options (kind_at kinds options.watch)
 task_in kinds Sim options = sim_task options.clock (kind_at kinds options.watch)
 task_in kinds Lrat options = lrat_task
-task_in kinds (Demo size) options = record { loads = []; asks = λ given. []; refused = λ given. None; comes = λ given output. ⊥ }
+task_in kinds (Demo size) options = demo_task size
 
 -- what a job does
 abbrev pub task_by : List Kind → JobWords → Task

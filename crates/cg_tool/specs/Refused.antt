@@ -5,3 +5,8 @@ use Rattle.cg_run.specs.declared.refusal.Trouble.{Trouble}
 abbrev pub refused_as : {T E : Type 0} → (E → Trouble) → Result T E → Result T Trouble
 refused_as trouble (Ok found) = Ok found
 refused_as trouble (Err fault) = Err (trouble fault)
+
+-- what comes of what was found, unless that is refused already
+abbrev pub then_found : {A B : Type 0} → Result A Trouble → (A → Result B Trouble) → Result B Trouble
+then_found (Ok found) next = next found
+then_found (Err trouble) next = Err trouble

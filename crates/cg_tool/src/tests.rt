@@ -2,6 +2,7 @@
 //!
 //! - `proofs`: formulas and proofs of the mode `lrat`.
 //! - `netlists`: libraries and BLIF texts of the mode `gate`.
+//! - `gating`: the further files and options of the mode `gate`, and the mode `demo`.
 //! - `stimuli`: stimuli and watchers of the mode `sim`.
 //! - `failing`: each call of the shelf failing in turn.
 //! - `words`: the words of the command line.
@@ -15,6 +16,7 @@ use std::alloc::{AllocError, Global};
 use std::process::Abort;
 
 mod failing;
+mod gating;
 mod netlists;
 mod proofs;
 mod stimuli;

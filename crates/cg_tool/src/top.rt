@@ -1,26 +1,27 @@
 //! The top call.
 
-ghost use Rattle.std.specs.Prelude.{◌≡◌, map, None, Some, IfOk, IfSome, IsTrue};
+ghost use Rattle.std.specs.Prelude.{◌≡◌, ℕ, map, None, IfOk, IfSome, IsTrue};
 ghost use Rattle.std.specs.Option.{option_map};
 ghost use Rattle.std.specs.String.{string_bytes};
 ghost use Rattle.cg_run.specs.Names.{file_of, name_of};
 ghost use Rattle.cg_run.specs.Promise.{Ended, EndsAs, FinishBy, Gains, KeepsOthers, Stands, UnlessFails, held_files};
 ghost use Rattle.cg_run.specs.Reads.{Gave};
 ghost use Rattle.cg_run.specs.Run.{Runs};
-ghost use Rattle.cg_words.specs.Jobs.{job_words};
-ghost use Rattle.cg_tool.specs.Gate.{IsGated};
+ghost use Rattle.cg_words.specs.Jobs.{job_of, job_words};
+ghost use Rattle.cg_tool.specs.Demo.{IsDemo};
+ghost use Rattle.cg_tool.specs.Gated.{IsGated};
 ghost use Rattle.cg_tool.specs.Lrat.{IsChecked};
-ghost use Rattle.cg_tool.specs.Program.{IsOrNoMemory, KeepsAll, RunsWords, asked_job, is_taken, task_by, taken_job};
+ghost use Rattle.cg_tool.specs.Program.{IsOrNoMemory, KeepsAll, RunsWords, task_by};
 ghost use Rattle.cg_tool.specs.Sim.{IsSimulated};
 ghost use Rattle.cg_tool.specs.Watching.{kind_at};
 
-use crate::modes::{gate, lrat, sim};
+use crate::modes::{demo, gate, lrat, sim};
 use crate::watching::{chosen, names_of};
 use cg_report::watcher::Watcher;
 use cg_run::Status;
 use cg_run::closing::complain;
 use cg_shelf::Shelf;
-use cg_words::{Asked, Job, Mode, read_words};
+use cg_words::{Job, Mode, read_words};
 use std::alloc::{AllocError, Global};
 
 /// Does what the words of a command line ask for, over the shelf, and answers how that ended.
@@ -33,43 +34,47 @@ pub fn run<S: Shelf>(
     watchers: Vec<Box<dyn Watcher>>,
 ) -> Status
     // What the run did: its calls in order, what each file gave, the one output that it put out, and what stands.
-    ensures runs { RunsWords (Gave S.gives) (map (λ watcher. says watcher) watchers.items) (asked_job (map (λ watcher. called watcher) watchers.items) (map string_bytes words.now)) (S.world shelf.old) (S.world shelf.new) result }
+    ensures runs { RunsWords (Gave S.gives) (map (λ watcher. says watcher) watchers.items) (job_of (map (λ watcher. called watcher) watchers.items) (map string_bytes words.now)) (S.world shelf.old) (S.world shelf.new) result }
 
     // Usage comes exactly of words that are no job.
-    ensures usage { result ≡ Status.Usage → asked_job (map (λ watcher. called watcher) watchers.items) (map string_bytes words.now) ≡ None }
-    ensures usage_only { asked_job (map (λ watcher. called watcher) watchers.items) (map string_bytes words.now) ≡ None → IsOrNoMemory Status.Usage result }
-    ensures usage_keeps { IsTrue (S.world shelf.old).tells → KeepsAll (asked_job (map (λ watcher. called watcher) watchers.items) (map string_bytes words.now)) (S.world shelf.old) (S.world shelf.new) }
+    ensures usage { result ≡ Status.Usage → job_of (map (λ watcher. called watcher) watchers.items) (map string_bytes words.now) ≡ None }
+    ensures usage_only { job_of (map (λ watcher. called watcher) watchers.items) (map string_bytes words.now) ≡ None → IsOrNoMemory Status.Usage result }
+    ensures usage_keeps { IsTrue (S.world shelf.old).tells → KeepsAll (job_of (map (λ watcher. called watcher) watchers.items) (map string_bytes words.now)) (S.world shelf.old) (S.world shelf.new) }
 
     // How a job ended, with the cause, the line of complaint and the failed calls.
-    ensures ended { IfSome (asked_job (map (λ watcher. called watcher) watchers.items) (map string_bytes words.now))
+    ensures ended { IfSome (job_of (map (λ watcher. called watcher) watchers.items) (map string_bytes words.now))
         (λ job. Ended (Gave S.gives) (task_by (map (λ watcher. says watcher) watchers.items) job) (file_of job.files) (S.world shelf.old) (S.world shelf.new) result) }
 
     // What stands, by the status.
-    ensures stands { IsTrue (S.world shelf.old).tells → IfSome (asked_job (map (λ watcher. called watcher) watchers.items) (map string_bytes words.now))
+    ensures stands { IsTrue (S.world shelf.old).tells → IfSome (job_of (map (λ watcher. called watcher) watchers.items) (map string_bytes words.now))
         (λ job. Stands (task_by (map (λ watcher. says watcher) watchers.items) job) (file_of job.files) (S.world shelf.old) (S.world shelf.new) result) }
 
     // At most one failed call besides that of the complaint, and which, by the status.
-    ensures gains { IfSome (asked_job (map (λ watcher. called watcher) watchers.items) (map string_bytes words.now))
+    ensures gains { IfSome (job_of (map (λ watcher. called watcher) watchers.items) (map string_bytes words.now))
         (λ job. Gains (task_by (map (λ watcher. says watcher) watchers.items) job) (file_of job.files) (S.world shelf.old) (S.world shelf.new) result) }
 
     // Every name but that of a stored file holds what it held.
-    ensures others { IsTrue (S.world shelf.old).tells → IfSome (asked_job (map (λ watcher. called watcher) watchers.items) (map string_bytes words.now))
+    ensures others { IsTrue (S.world shelf.old).tells → IfSome (job_of (map (λ watcher. called watcher) watchers.items) (map string_bytes words.now))
         (λ job. KeepsOthers (task_by (map (λ watcher. says watcher) watchers.items) job) (file_of job.files) (S.world shelf.old) (S.world shelf.new)) }
 
     // Where no call of the shelf fails and memory is there, a job ends as its files come to.
-    ensures comes { IsTrue (S.world shelf.old).tells → IfSome (asked_job (map (λ watcher. called watcher) watchers.items) (map string_bytes words.now))
+    ensures comes { IsTrue (S.world shelf.old).tells → IfSome (job_of (map (λ watcher. called watcher) watchers.items) (map string_bytes words.now))
         (λ job. UnlessFails (EndsAs (task_by (map (λ watcher. says watcher) watchers.items) job) (held_files (file_of job.files) (S.world shelf.old))) result) }
 
-    // `gate` writes a netlist that behaves as the one that it read.
-    ensures gated { IsTrue (S.world shelf.old).tells → IfSome (asked_job (map (λ watcher. called watcher) watchers.items) (map string_bytes words.now))
-        (λ job. job.mode ≡ Mode.Gate → FinishBy (IsGated job.options.clock (file_of job.files) (S.world shelf.old) (S.world shelf.new)) result) }
+    // `gate` writes a netlist that shows, from every state and for all time, what the one that it read shows.
+    ensures gated { IsTrue (S.world shelf.old).tells → IfSome (job_of (map (λ watcher. called watcher) watchers.items) (map string_bytes words.now))
+        (λ job. job.mode ≡ Mode.Gate → FinishBy (IsGated job.options (kind_at (map (λ watcher. says watcher) watchers.items) job.options.watch) (file_of job.files) (S.world shelf.old) (S.world shelf.new)) result) }
 
     // `sim` says the lines of the one history on which the stimulus is played, and what the watcher says of its moments.
-    ensures simulated { IsTrue (S.world shelf.old).tells → IfSome (asked_job (map (λ watcher. called watcher) watchers.items) (map string_bytes words.now))
+    ensures simulated { IsTrue (S.world shelf.old).tells → IfSome (job_of (map (λ watcher. called watcher) watchers.items) (map string_bytes words.now))
         (λ job. job.mode ≡ Mode.Sim → FinishBy (IsSimulated job.options.clock (kind_at (map (λ watcher. says watcher) watchers.items) job.options.watch) (file_of job.files) (S.world shelf.old) (S.world shelf.new)) result) }
 
+    // `demo` says the summary of the generated pipeline, gated as its stimulus and the defaults say.
+    ensures shown { IsTrue (S.world shelf.old).tells → IfSome (job_of (map (λ watcher. called watcher) watchers.items) (map string_bytes words.now))
+        (λ job. (size : ℕ) → job.mode ≡ Mode.Demo size → FinishBy (IsDemo size (S.world shelf.old) (S.world shelf.new)) result) }
+
     // `lrat` checks the proof that it was given, and what it accepts has no satisfying assignment.
-    ensures checked { IsTrue (S.world shelf.old).tells → IfSome (asked_job (map (λ watcher. called watcher) watchers.items) (map string_bytes words.now))
+    ensures checked { IsTrue (S.world shelf.old).tells → IfSome (job_of (map (λ watcher. called watcher) watchers.items) (map string_bytes words.now))
         (λ job. job.mode ≡ Mode.Lrat → FinishBy (IsChecked (file_of job.files) (S.world shelf.old) (S.world shelf.new)) result) }
 {
     run_words(alloc, words, shelf, watchers)
@@ -81,7 +86,7 @@ fn run_words<S: Shelf>(
     shelf: &mut S,
     watchers: Vec<Box<dyn Watcher>>,
 ) -> Status
-    ensures { RunsWords (Gave S.gives) (map (λ watcher. says watcher) watchers.items) (asked_job (map (λ watcher. called watcher) watchers.items) (map string_bytes words.now)) (S.world shelf.old) (S.world shelf.new) result }
+    ensures { RunsWords (Gave S.gives) (map (λ watcher. says watcher) watchers.items) (job_of (map (λ watcher. called watcher) watchers.items) (map string_bytes words.now)) (S.world shelf.old) (S.world shelf.new) result }
 {
     match read_job(alloc, words, watchers.as_slice()) {
         Ok(Some(job)) => run_job(alloc, shelf, job, watchers),
@@ -96,42 +101,10 @@ fn read_job<'a>(
     words: &'a [String],
     watchers: &[Box<dyn Watcher>],
 ) -> Result<Option<Job<'a>>, AllocError>
-    ensures { IfOk result (λ job. option_map job_words job ≡ asked_job (map (λ watcher. called watcher) watchers.now) (map string_bytes words.entry.now)) }
+    ensures { IfOk result (λ job. option_map job_words job ≡ job_of (map (λ watcher. called watcher) watchers.now) (map string_bytes words.entry.now)) }
 {
     let names = names_of(alloc, watchers)?;
-    let job = read_words(alloc, words, names.as_slice())?;
-    Ok(taken_job(job))
-}
-
-/// The job, where it is taken.
-fn taken_job(job: Option<Job<'_>>) -> Option<Job<'_>>
-    ensures { option_map job_words result ≡ taken_job (option_map job_words job.entry) }
-{
-    match job {
-        None => None,
-        Some(job) => taken(job),
-    }
-}
-
-fn taken(job: Job<'_>) -> Option<Job<'_>>
-    ensures { option_map job_words result ≡ taken_job (Some (job_words job.entry)) }
-{
-    if is_taken(job.mode, job.options.asked) {
-        Some(job)
-    } else {
-        None
-    }
-}
-
-/// Whether a mode is taken, where these files are asked for.
-fn is_taken(mode: Mode, asked: Asked) -> bool
-    ensures { result ≡ is_taken mode asked }
-{
-    match mode {
-        Mode::Gate => !asked.stimulus && !asked.proof && !asked.report,
-        Mode::Sim | Mode::Lrat => true,
-        Mode::Demo(_) => false,
-    }
+    read_words(alloc, words, names.as_slice())
 }
 
 fn run_job<S: Shelf>(
@@ -140,7 +113,6 @@ fn run_job<S: Shelf>(
     job: Job<'_>,
     watchers: Vec<Box<dyn Watcher>>,
 ) -> Status
-    requires { IsTrue (is_taken job.mode job.options.asked) }
     ensures { Runs (Gave S.gives) (task_by (map (λ watcher. says watcher) watchers.items) (job_words job.entry)) (name_of job.entry.names) (S.world shelf.old) (S.world shelf.new) result }
 {
     let Job {
@@ -148,13 +120,11 @@ fn run_job<S: Shelf>(
         names,
         options,
     } = job;
+    let watcher = chosen(watchers, options.watch);
     match mode {
-        Mode::Gate => gate::run(alloc, shelf, &names, options.clock),
-        Mode::Sim => {
-            let watcher = chosen(watchers, options.watch);
-            sim::run(alloc, shelf, &names, options.clock, watcher)
-        }
+        Mode::Gate => gate::run(alloc, shelf, &names, options, watcher),
+        Mode::Sim => sim::run(alloc, shelf, &names, options.clock, watcher),
         Mode::Lrat => lrat::run(alloc, shelf, &names),
-        Mode::Demo(_) => Status::NoMemory,
+        Mode::Demo(size) => demo::run(alloc, shelf, &names, size),
     }
 }

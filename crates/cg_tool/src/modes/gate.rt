@@ -1,42 +1,69 @@
-//! The mode `gate`: a netlist is read, and written with the same behaviour.
+//! The mode `gate`: a netlist is read, its clock is gated, and it is written.
 
-ghost use Rattle.std.specs.Prelude.{◌≡◌, IfOk, IsTrue};
+ghost use Rattle.std.specs.Prelude.{◌≡◌, ◌++◌, IfErr, IfOk, IsOkAnd, IsTrue, None, OnOk};
+ghost use Rattle.std.specs.Option.{option_copied, option_map};
+ghost use Rattle.cg_gating.specs.Gating.{GivesGated};
+ghost use Rattle.cg_gating.specs.Headline.{Headline};
+ghost use Rattle.cg_gating.specs.Request.{MayGate, stops_at};
+ghost use Rattle.cg_plan.specs.Told.{PlanMayFail};
 ghost use Rattle.cg_run.specs.Names.{name_of};
 ghost use Rattle.cg_run.specs.Promise.{FinishBy};
-ghost use Rattle.cg_run.specs.Reads.{Gave};
+ghost use Rattle.cg_run.specs.Reads.{Gave, Reads};
+ghost use Rattle.cg_run.specs.Roles.{are_distinct};
 ghost use Rattle.cg_run.specs.Run.{Runs};
-ghost use Rattle.cg_run.specs.Verdict.{Answers};
-ghost use Rattle.cg_tool.specs.Gate.{IsGated, gate_gives, gate_start, gate_stops, gate_takes, gate_task, gated, netlist_found, ungated};
+ghost use Rattle.cg_run.specs.Verdict.{Concludes};
+ghost use Rattle.cg_tool.specs.Gate.{GatesAs, gate_gives, gate_loads, gate_output, gate_start, gate_stops, gate_takes, gate_task, request_by, stimulus_asked, stops_with, text_for, wanted_by};
+ghost use Rattle.cg_tool.specs.Gated.{IsGated};
+ghost use Rattle.cg_tool.specs.inner.GateReads.{IsRead, MayBeGated};
 
-use crate::modes::complaints::{take_library, take_netlist, with_name};
+use crate::modes::complaints::{take_library, take_stimulus};
+use crate::modes::wanted::{Wanted, take_gateable};
 use cg_blif::BlifOptions;
-use cg_blif_out::write_blif;
 use cg_cell::library::Library;
-use cg_cell::name::Name;
+use cg_gating::gate::{gate, gate_watched};
+use cg_gating::request::Request;
+use cg_gating::texts::Texts;
 use cg_list::Seq;
-use cg_netlist::id::GateClockId;
+use cg_netlist::fault::AddFault;
 use cg_netlist::netlist::Netlist;
-use cg_run::{Finish, Mode, Names, Output, Owner, Reader, Role, Status, Text, Trouble, drive};
+use cg_report::watcher::Watcher;
+use cg_run::{
+    Finish, Names, Output, Reader, Refusal, Role, Status, Text, Trouble, collect, put_out,
+};
 use cg_shelf::Shelf;
+use cg_stimulus::stimulus::Stimulus;
+use cg_words::Options;
 use std::alloc::{AllocError, Global};
 
 /// What the mode was told, and what it has read so far.
 #[derive(Drop)]
 pub struct Gate {
     pub options: BlifOptions,
+    pub wanted: Wanted,
     pub library: Library,
     pub netlist: Option<Netlist>,
+    /// The text of the stimulus, which is read for the netlist.
+    pub stimulus: Seq<u8>,
 }
 
 impl Gate {
-    /// Nothing is read yet; the words may name a clock.
-    fn start(alloc: Global, clock: Option<Name>) -> Gate
-        ensures { result ≡ gate_start clock }
+    /// Nothing is read yet.
+    fn start(alloc: Global, options: Options) -> Gate
+        ensures { result ≡ gate_start options }
     {
         Gate {
-            options: BlifOptions { clock },
+            options: BlifOptions {
+                clock: options.clock,
+            },
+            wanted: Wanted::new(
+                options.prefix,
+                options.test,
+                options.settings,
+                options.asked,
+            ),
             library: Library::new(alloc),
             netlist: None,
+            stimulus: Seq::new(alloc),
         }
     }
 }
@@ -45,74 +72,187 @@ impl Reader for Gate {
     ghost takes = { gate_takes };
 
     fn take(self, alloc: Global, role: Role, bytes: Seq<u8>) -> Result<Gate, Trouble> {
+        let mut next = self;
         match role {
             Role::Library => {
-                let library = take_library(alloc, &bytes)?;
-                Ok(Gate {
-                    options: self.options,
-                    library,
-                    netlist: self.netlist,
-                })
+                next.library = take_library(alloc, &bytes)?;
+                Ok(next)
             }
             Role::Netlist => {
-                let netlist = take_ungated(alloc, &bytes, &self.library, &self.options)?;
-                Ok(Gate {
-                    options: self.options,
-                    library: self.library,
-                    netlist: Some(netlist),
-                })
+                let netlist = take_gateable(
+                    alloc,
+                    &bytes,
+                    &next.library,
+                    &next.options,
+                    &next.wanted,
+                )?;
+                next.netlist = Some(netlist);
+                Ok(next)
             }
-            _ => Ok(self),
+            Role::Stimulus => {
+                next.stimulus = bytes;
+                Ok(next)
+            }
+            _ => Ok(next),
         }
     }
 }
 
-impl Mode for Gate {
-    ghost stops = { gate_stops };
+/// Gates the clock of a netlist, over the shelf, as the options say.
+pub fn run<S: Shelf>(
+    alloc: Global,
+    shelf: &mut S,
+    names: &Names<'_>,
+    options: Options,
+    watcher: Option<Box<dyn Watcher>>,
+) -> Status
+    ensures runs { Runs (Gave S.gives) (gate_task options (option_map (λ watcher. says watcher) watcher)) (name_of names.now) (S.world shelf.old) (S.world shelf.new) result }
 
-    ghost gives = { gate_gives };
-
-    fn finish(self, alloc: Global) -> Result<Output, Trouble> {
-        let Gate {
-            options: _options,
-            library: _library,
-            netlist,
-        } = self;
-        match netlist {
-            None => Err(Trouble::NoMemory),
-            Some(netlist) => Ok(write_gated(alloc, &netlist)?),
-        }
-    }
-}
-
-/// Gates the clock of a netlist, over the shelf; the words may name the clock.
-pub fn run<S: Shelf>(alloc: Global, shelf: &mut S, names: &Names<'_>, clock: Option<Name>) -> Status
-    ensures runs { Runs (Gave S.gives) (gate_task clock) (name_of names.now) (S.world shelf.old) (S.world shelf.new) result }
-
-    // A finished run read a library and a netlist, and wrote a netlist that behaves as the one that was read.
+    // A finished run read a library, a netlist and the stimulus that was asked for, and wrote a netlist that shows what the one that
+    // was read shows.
     ensures gated { IsTrue (S.world shelf.old).tells
-        → FinishBy (IsGated clock (name_of names.now) (S.world shelf.old) (S.world shelf.new)) result }
+        → FinishBy (IsGated options (option_map (λ watcher. says watcher) watcher) (name_of names.now) (S.world shelf.old) (S.world shelf.new)) result }
 {
-    drive(
-        alloc,
-        shelf,
-        names,
-        &[Role::Library, Role::Netlist],
-        Gate::start(alloc, clock),
-    )
+    let found = read(alloc, shelf, names, options, watcher);
+    put_out(alloc, shelf, names, found)
 }
 
-/// What is put out of a netlist: no stage is tried yet, and it is written as it was read.
-fn write_gated(alloc: Global, netlist: &Netlist) -> Result<Output, AllocError>
-    ensures { IfOk result (λ output. output ≡ gated netlist.now) }
+/// Loads the files and reads them, and gates the netlist.
+fn read<S: Shelf>(
+    alloc: Global,
+    shelf: &mut S,
+    names: &Names<'_>,
+    options: Options,
+    watcher: Option<Box<dyn Watcher>>,
+) -> Result<Output, Refusal>
+    ensures { Reads (Gave S.gives) gate_takes gate_stops (gate_gives (option_map (λ watcher. says watcher) watcher)) (name_of names.now) (gate_start options) (gate_loads options.asked.stimulus) (S.world shelf.old) (S.world shelf.new) result }
 {
-    let bytes = Seq::from_vec(write_blif(alloc, netlist)?);
-    let said = Seq::from_vec(Vec::from_slice(alloc, b"stages 0 inserted 0\n")?);
+    let _ = options.prefix.bytes();
+    let files = loads(options.asked.stimulus);
+    let found = collect(alloc, shelf, names, files, Gate::start(alloc, options))?;
+    Ok(finish(alloc, found, watcher)?)
+}
+
+/// The files that are loaded.
+fn loads(stimulus: bool) -> &'static [Role]
+    ensures files { result.now ≡ gate_loads stimulus }
+    ensures distinct { IsTrue (are_distinct result.now) }
+{
+    if stimulus {
+        &[Role::Library, Role::Netlist, Role::Stimulus]
+    } else {
+        &[Role::Library, Role::Netlist]
+    }
+}
+
+/// What is put out once all files are taken.
+fn finish(alloc: Global, found: Gate, watcher: Option<Box<dyn Watcher>>) -> Result<Output, Trouble>
+    requires { IsRead found }
+    ensures { Concludes (gate_stops found) (gate_gives (option_map (λ watcher. says watcher) watcher) found) result }
+{
+    let Gate {
+        options: _options,
+        wanted,
+        library,
+        netlist,
+        stimulus,
+    } = found;
+    match netlist {
+        None => Err(Trouble::NoMemory),
+        Some(netlist) => gate_on(alloc, &library, netlist, &wanted, &stimulus, watcher),
+    }
+}
+
+/// What is put out of a netlist and the text of a stimulus, where one is asked for.
+fn gate_on(
+    alloc: Global,
+    library: &Library,
+    netlist: Netlist,
+    wanted: &Wanted,
+    text: &Seq<u8>,
+    watcher: Option<Box<dyn Watcher>>,
+) -> Result<Output, Trouble>
+    requires { MayBeGated library.now wanted.now netlist }
+    ensures { Concludes (stops_with library.now wanted.now netlist (stimulus_asked wanted.now.asked.stimulus netlist text.now))
+        (λ output. IsOkAnd (stimulus_asked wanted.now.asked.stimulus netlist text.now) (λ stimulus. GatesAs (option_map (λ watcher. says watcher) watcher) (request_by library.now wanted.now stimulus) netlist output)) result }
+{
+    if !wanted.asked.stimulus {
+        return gate_with(alloc, library, netlist, wanted, None, watcher);
+    }
+    let stimulus = take_stimulus(alloc, text, &netlist)?;
+    gate_with(alloc, library, netlist, wanted, Some(&stimulus), watcher)
+}
+
+/// What is put out of a netlist and a stimulus for it, where there is one.
+fn gate_with(
+    alloc: Global,
+    library: &Library,
+    netlist: Netlist,
+    wanted: &Wanted,
+    stimulus: Option<&Stimulus>,
+    watcher: Option<Box<dyn Watcher>>,
+) -> Result<Output, Trouble>
+    requires { MayGate (request_by library.now wanted.now (option_copied stimulus)) netlist }
+    ensures { Concludes (option_map Trouble.Limit (stops_at (request_by library.now wanted.now (option_copied stimulus.entry)) netlist))
+        (GatesAs (option_map (λ watcher. says watcher) watcher) (request_by library.now wanted.now (option_copied stimulus.entry)) netlist) result }
+{
+    let request = wanted.request(library, stimulus);
+    gate_by(alloc, netlist, &request, watcher)
+}
+
+/// What is put out of a netlist, by what gating is asked for.
+fn gate_by(
+    alloc: Global,
+    netlist: Netlist,
+    request: &Request<'_>,
+    watcher: Option<Box<dyn Watcher>>,
+) -> Result<Output, Trouble>
+    requires { MayGate request.now netlist }
+    ensures { Concludes (option_map Trouble.Limit (stops_at request.now netlist)) (GatesAs (option_map (λ watcher. says watcher) watcher) request.now netlist) result }
+{
+    match gated(alloc, netlist, request, watcher) {
+        Ok(texts) => Ok(put_texts(alloc, texts)?),
+        Err(AddFault::Limit(limit)) => Err(Trouble::Limit(limit)),
+        Err(AddFault::NoMemory) => Err(Trouble::NoMemory),
+    }
+}
+
+/// The texts of the gated netlist.
+fn gated(
+    alloc: Global,
+    netlist: Netlist,
+    request: &Request<'_>,
+    watcher: Option<Box<dyn Watcher>>,
+) -> Result<Texts, AddFault>
+    requires { MayGate request.now netlist }
+    ensures gives { IfOk result (λ texts. GivesGated request.now (option_map (λ watcher. says watcher) watcher) netlist texts) }
+    ensures headline { IfOk result (λ texts. Headline request.now (option_map (λ watcher. says watcher) watcher) netlist texts) }
+    ensures unstopped { OnOk result (stops_at request.now netlist ≡ None) }
+    ensures fault { IfErr result (PlanMayFail (stops_at request.now netlist)) }
+{
+    match watcher {
+        None => gate(alloc, netlist, request),
+        Some(mut watcher) => gate_watched(alloc, netlist, request, &mut watcher),
+    }
+}
+
+/// The output of the texts.
+fn put_texts(alloc: Global, texts: Texts) -> Result<Output, AllocError>
+    ensures { IfOk result (λ output. output ≡ gate_output texts) }
+{
+    let Texts {
+        out,
+        proof,
+        report,
+        said,
+    } = texts;
     let mut stores = Seq::new(alloc);
     stores.push(Text {
         role: Role::Out,
-        bytes,
+        bytes: out,
     })?;
+    put_text(&mut stores, Role::Proof, proof)?;
+    put_text(&mut stores, Role::Report, report)?;
     Ok(Output {
         stores,
         said,
@@ -120,31 +260,12 @@ fn write_gated(alloc: Global, netlist: &Netlist) -> Result<Output, AllocError>
     })
 }
 
-/// Takes a netlist without gating cells.
-fn take_ungated(
-    alloc: Global,
-    text: &Seq<u8>,
-    library: &Library,
-    options: &BlifOptions,
-) -> Result<Netlist, Trouble>
-    ensures { Answers (netlist_found library.now options.now.clock text.now) result }
+/// Puts a text behind the others, where there is one.
+fn put_text(stores: &mut Seq<Text>, role: Role, text: Option<Seq<u8>>) -> Result<(), AllocError>
+    ensures { OnOk result (stores.new ≡ stores.old ++ text_for role text) }
 {
-    let netlist = take_netlist(alloc, text, library, options)?;
-    ungated(alloc, netlist)
-}
-
-/// The netlist, unless gating cells stand in it already.
-fn ungated(alloc: Global, netlist: Netlist) -> Result<Netlist, Trouble>
-    ensures { Answers (ungated netlist netlist.gaters) result }
-{
-    if netlist.gaters() == 0 {
-        return Ok(netlist);
+    match text {
+        None => Ok(()),
+        Some(bytes) => stores.push(Text { role, bytes }),
     }
-    let output = netlist.gater(GateClockId::new(0)).output;
-    Err(with_name(
-        alloc,
-        Owner::Netlist,
-        b"netlist: gating cell ",
-        netlist.name(output),
-    )?)
 }

@@ -11,25 +11,26 @@ cell (DFF) { ff (s, t) { next_state : \"D\"; clocked_on : \"CK\"; } pin (D) { di
 cell (DFFR) { ff (s, t) { next_state : \"D\"; clocked_on : \"CK\"; clear : \"R\"; } pin (D) { direction : input; } pin (CK) { direction : input; } pin (R) { direction : input; } pin (Q) { direction : output; function : \"s\"; } }
 cell (ICG) { clock_gating_integrated_cell : \"latch_posedge\"; pin (CK) { direction : input; clock_gate_clock_pin : true; } pin (E) { direction : input; clock_gate_enable_pin : true; } pin (GCK) { direction : output; clock_gate_out_pin : true; } } }\n";
 
-/// A netlist in the forms that a mapper writes, and its canonical text.
+/// A netlist in the forms that a mapper writes, and its gated netlist.
 const MAPPED: &str =
     "# Mapped\n.model top\n.inputs clk en \\\n d\n.outputs q\n.names $false\n.names $true\n1\n.names $undef\n.names en d q $abc$12$n4:x[0]\n11- 1\n0-1 1\n.gate DFF CK=clk D=$abc$12$n4:x[0] Q=$u\\w[1]\n.names $u\\w[1] q\n1 1\n.end\n";
 
 const WRITTEN: &str =
-    ".model top\n.inputs clk en d\n.outputs q\n.clock clk\n.names $false\n.names $true\n1\n.names $undef\n.names en d q $abc$12$n4:x[0]\n11- 1\n0-1 1\n.names $u\\w[1] q\n1 1\n.gate DFF D=$abc$12$n4:x[0] CK=clk Q=$u\\w[1]\n.end\n";
+    ".model top\n.inputs clk en d\n.outputs q\n.clock clk\n.names $false\n.names $true\n1\n.names $undef\n.names en d q $abc$12$n4:x[0]\n11- 1\n0-1 1\n.names $u\\w[1] q\n1 1\n.gate ICG CK=clk E=en GCK=cg_0\n.gate DFF D=$abc$12$n4:x[0] CK=cg_0 Q=$u\\w[1]\n.end\n";
 
-/// A netlist that does not name its clock, and its canonical text where the words name it.
+/// A netlist that does not name its clock, and its gated netlist where the words name it.
 const UNCLOCKED: &str =
     ".model hold1\n.inputs en d\n.outputs q\n.names en d q n\n11- 1\n0-1 1\n.latch n q 0\n.end\n";
 
 const CLOCKED: &str =
-    ".model hold1\n.inputs en d\n.outputs q\n.clock clk\n.names en d q n\n11- 1\n0-1 1\n.latch n q re clk 0\n.end\n";
+    ".model hold1\n.inputs en d\n.outputs q\n.clock clk\n.names en d q n\n11- 1\n0-1 1\n.gate ICG CK=clk E=en GCK=cg_0\n.latch n q re cg_0 0\n.end\n";
 
+/// A netlist of one held register, and its gated netlist.
 pub(super) const HOLD: &str =
     ".model hold1\n.inputs clk en d\n.outputs q\n.names en d q n\n11- 1\n0-1 1\n.latch n q re clk 0\n.end\n";
 
-const HELD: &str =
-    ".model hold1\n.inputs clk en d\n.outputs q\n.clock clk\n.names en d q n\n11- 1\n0-1 1\n.latch n q re clk 0\n.end\n";
+pub(super) const HELD: &str =
+    ".model hold1\n.inputs clk en d\n.outputs q\n.clock clk\n.names en d q n\n11- 1\n0-1 1\n.gate ICG CK=clk E=en GCK=cg_0\n.latch n q re cg_0 0\n.end\n";
 
 /// A netlist that is gated with a library, over a file of the text `old`.
 fn gate<'a>(
@@ -69,7 +70,7 @@ fn gated<'a>(netlist: &'a str, stored: &'a str) -> Case<'a> {
         CELLS,
         netlist,
         Status::Done,
-        "stages 0 inserted 0\n",
+        "stages 1 inserted 1\n",
         "",
         stored,
     )
@@ -84,7 +85,7 @@ fn clocked<'a>(words: &'a str, netlist: &'a str, stored: &'a str) -> Case<'a> {
         second: "old",
         failing: &[],
         status: Status::Done,
-        said: "stages 0 inserted 0\n",
+        said: "stages 1 inserted 1\n",
         complained: "",
         stored,
     }
@@ -93,11 +94,16 @@ fn clocked<'a>(words: &'a str, netlist: &'a str, stored: &'a str) -> Case<'a> {
 #[test]
 fn netlists(rt: HostRuntime) -> Result<(), Fail> {
     let cases = [
-        gated("", ".model top\n.inputs\n.outputs\n.end\n"),
-        // the clock is written, and what was written is read and written again
+        gate(
+            CELLS,
+            "",
+            Status::Done,
+            "stages 0 inserted 0\n",
+            "",
+            ".model top\n.inputs\n.outputs\n.end\n",
+        ),
         gated(HOLD, HELD),
         gated(MAPPED, WRITTEN),
-        gated(WRITTEN, WRITTEN),
         // a clock of the words
         faulty(UNCLOCKED, "clockgate: netlist: no clock\n"),
         clocked("gate L A B --clock clk", UNCLOCKED, CLOCKED),
@@ -168,6 +174,8 @@ fn nets_at_fault(rt: HostRuntime) -> Result<(), Fail> {
             ".model m\n.inputs c e d\n.outputs q\n.gate ICG CK=c E=e GCK=g\n.latch d q re g 0\n.end\n",
             "clockgate: netlist: gating cell g\n",
         ),
+        // a name with the prefix comes before a gating cell
+        faulty(HELD, "clockgate: netlist: prefix taken cg_0\n"),
     ];
     try_cases(&rt, rt.alloc(), &cases)?;
     Ok(())

@@ -2,8 +2,7 @@ use Rattle.std.proofs.Common.{map}
 use Rattle.std.specs.String.{string_bytes}
 use Rattle.cg_run.specs.Reads.{Gave}
 use Rattle.cg_words.specs.Jobs.{job_of}
-use Rattle.cg_tool.specs.Program.{asked_job}
-use Rattle.cg_tool.proofs.Program.{is_taken_job, job_checked, job_comes, job_ended, job_gains, job_gated, job_others, job_simulated, job_stands, usage, usage_keeps, usage_only}
+use Rattle.cg_tool.proofs.Program.{job_checked, job_comes, job_ended, job_gains, job_gated, job_others, job_shown, job_simulated, job_stands, usage, usage_keeps, usage_only}
 use Rattle.cg_tool.proofs.top.run.Goals as goal
 
 pub returns : goal.returns
@@ -12,8 +11,7 @@ returns g c =
     let kinds = map (λ w. (goal.Watcher-dyn g (w.vtable, w.value)).says w.value) c.args.watchers.items in
     let called = map (λ w. (goal.Watcher-dyn g (w.vtable, w.value)).called w.value) c.args.watchers.items in
     let words = map string_bytes c.args.words.now in
-    let job = asked_job called words in
-    let taken = is_taken_job (job_of called words) in
+    let job = job_of called words in
     let before = g.S.Shelf.world c.args.shelf.now in
     let after = g.S.Shelf.world c.run_words.new.shelf in
     let result = c.run_words.result in
@@ -25,10 +23,11 @@ returns g c =
       usage_keeps = usage_keeps gave kinds job before after result runs;
       ended = job_ended gave kinds job before after result runs;
       stands = job_stands gave kinds job before after result runs;
-      gains = job_gains gave kinds job before after result taken runs;
+      gains = job_gains gave kinds job before after result runs;
       others = job_others gave kinds job before after result runs;
-      comes = job_comes gave kinds job before after result taken runs;
+      comes = job_comes gave kinds job before after result runs;
       gated = job_gated gave kinds job before after result runs;
       simulated = job_simulated gave kinds job before after result runs;
+      shown = job_shown gave kinds job before after result runs;
       checked = job_checked gave kinds job before after result runs;
     }

@@ -2,12 +2,15 @@ use Rattle.std.proofs.Common.{Option, subst}
 use Rattle.cg_run.specs.Names.{name_of}
 use Rattle.cg_run.specs.Reads.{Gave}
 use Rattle.cg_run.specs.Run.{Runs}
+use Rattle.cg_tool.specs.Gate.{gate_task}
 use Rattle.cg_tool.specs.Sim.{sim_task}
 use Rattle.cg_tool.specs.Watching.{Kind}
 use Rattle.cg_tool.proofs.top.run_job.Goals as goal
 
 pub returns-in-Gate : goal.returns-in-Gate
-returns-in-Gate g c = rw c.in-Gate.is c.run.ensures.runs
+returns-in-Gate g c =
+    let R : Option Kind → Type 0 = λ kind. Runs (Gave g.S.Shelf.gives) (gate_task c.args.job.options kind) (name_of c.args.job.names) (g.S.Shelf.world c.args.shelf.now) (g.S.Shelf.world c.run.new.shelf) c.run.result in
+    rw c.in-Gate.is (subst R c.chosen-watcher.ensures c.run.ensures.runs)
 
 pub returns-in-Sim : goal.returns-in-Sim
 returns-in-Sim g c =
@@ -16,3 +19,6 @@ returns-in-Sim g c =
 
 pub returns-in-Lrat : goal.returns-in-Lrat
 returns-in-Lrat g c = rw c.in-Lrat.is c.run-in-Lrat.ensures.runs
+
+pub returns-in-Demo : goal.returns-in-Demo
+returns-in-Demo g c = rw c.in-Demo.is c.run-in-Demo.ensures.runs

@@ -1,18 +1,21 @@
-use Rattle.std.proofs.Common.{◌≡◌, Option, None, Some, map, ap, sym, ◌∙◌, subst}
+use Rattle.std.proofs.Common.{Option, map, ap, sym, ◌∙◌, subst}
 use Rattle.std.specs.Option.{option_map}
 use Rattle.std.specs.String.{string_bytes}
 use Rattle.cg_run.specs.Reads.{Gave}
 use Rattle.cg_words.specs.Jobs.{JobWords, job_of, job_words}
-use Rattle.cg_tool.specs.Program.{RunsWords, asked_job}
-use Rattle.cg_tool.proofs.Program.{is_taken_job, job_is_taken, refused_words, runs_unread}
+use Rattle.cg_tool.specs.Program.{RunsWords}
+use Rattle.cg_tool.proofs.Program.{refused_words, runs_unread}
 use Rattle.cg_tool.proofs.top.run_words.Goals as goal
 
-pub run_job-requires : goal.run_job-requires
-run_job-requires g c =
+pub returns-in-Ok-Some : goal.returns-in-Ok-Some
+returns-in-Ok-Some g c =
+    let kinds = map (λ w. (goal.Watcher-dyn g (w.vtable, w.value)).says w.value) c.args.watchers.items in
+    let before = g.S.Shelf.world c.args.shelf.now in
+    let after = g.S.Shelf.world c.run_job.new.shelf in
+    let R : Option JobWords → Type 0 = λ job. RunsWords (Gave g.S.Shelf.gives) kinds job before after c.run_job.result in
     let called = map (λ w. (goal.Watcher-dyn g (w.vtable, w.value)).called w.value) in
     let words = map string_bytes c.args.words.now in
-    job_is_taken (job_of (called c.args.watchers.items) words) (job_words c.in-Ok-Some.job)
-    (ap (option_map job_words) (sym c.in-Ok-Some.field-0-is) ∙ c.in-Ok-Some.ensures ∙ ap (λ watchers. asked_job (called watchers) words) c.as_slice.ensures.value)
+    subst R (ap (option_map job_words) (sym c.in-Ok-Some.field-0-is) ∙ c.in-Ok-Some.ensures ∙ ap (λ watchers. job_of (called watchers) words) c.as_slice.ensures.value) c.run_job.ensures
 
 pub returns-in-Ok-None : goal.returns-in-Ok-None
 returns-in-Ok-None g c =
@@ -22,11 +25,11 @@ returns-in-Ok-None g c =
     let R : Option JobWords → Type 0 = λ job. RunsWords (Gave g.S.Shelf.gives) kinds job before after c.complain.result in
     let called = map (λ w. (goal.Watcher-dyn g (w.vtable, w.value)).called w.value) in
     let words = map string_bytes c.args.words.now in
-    subst R (ap (option_map job_words) (sym c.in-Ok-None.field-0-is) ∙ c.in-Ok-None.ensures ∙ ap (λ watchers. asked_job (called watchers) words) c.as_slice.ensures.value) (refused_words before after c.complain.result c.complain.ensures)
+    subst R (ap (option_map job_words) (sym c.in-Ok-None.field-0-is) ∙ c.in-Ok-None.ensures ∙ ap (λ watchers. job_of (called watchers) words) c.as_slice.ensures.value) (refused_words before after c.complain.result c.complain.ensures)
 
 pub returns-in-Err : goal.returns-in-Err
 returns-in-Err g c =
     let kinds = map (λ w. (goal.Watcher-dyn g (w.vtable, w.value)).says w.value) c.args.watchers.items in
     let called = map (λ w. (goal.Watcher-dyn g (w.vtable, w.value)).called w.value) c.args.watchers.items in
     let words = map string_bytes c.args.words.now in
-    runs_unread (Gave g.S.Shelf.gives) kinds (asked_job called words) (g.S.Shelf.world c.args.shelf.now) (g.S.Shelf.world c.complain-in-Err.new.shelf) c.complain-in-Err.result (is_taken_job (job_of called words)) c.complain-in-Err.ensures
+    runs_unread (Gave g.S.Shelf.gives) kinds (job_of called words) (g.S.Shelf.world c.args.shelf.now) (g.S.Shelf.world c.complain-in-Err.new.shelf) c.complain-in-Err.result c.complain-in-Err.ensures

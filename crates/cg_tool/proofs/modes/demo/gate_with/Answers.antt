@@ -1,0 +1,15 @@
+use Rattle.std.proofs.Common.{subst, sym}
+use Rattle.std.specs.Option.{option_map}
+use Rattle.cg_gating.specs.Request.{MayGate, RequestData, stops_at}
+use Rattle.cg_run.specs.Verdict.{Concludes}
+use Rattle.cg_run.specs.declared.refusal.Trouble.TheVariants as troubles
+use Rattle.cg_tool.specs.Demo.{PutsDemo}
+use Rattle.cg_tool.proofs.modes.demo.gate_with.Goals as goal
+
+pub gate_by-requires-clause-may : goal.gate_by-requires-clause-may
+gate_by-requires-clause-may c = let M : RequestData → Type 0 = λ q. MayGate q c.args.netlist in subst M (sym c.request-request.ensures) c.requires
+
+pub returns : goal.returns
+returns c =
+    let P : RequestData → Type 0 = λ q. Concludes (option_map troubles.Limit (stops_at q c.args.netlist)) (PutsDemo c.args.size q c.args.netlist) c.gate_by.result in
+    subst P c.request-request.ensures c.gate_by.ensures

@@ -1,0 +1,48 @@
+-- What a finished run of `gate` means.
+use Rattle.std.specs.Prelude.{◌≡◌, ℕ, Bool, true, false, List, ◌++◌, Option, None, Some, IsSomeAnd}
+use Rattle.cg_cell.specs.Cell.{CellData}
+use Rattle.cg_liberty.specs.LibText.{LibText}
+use Rattle.cg_blif_text.specs.BlifText.{BlifText}
+use Rattle.cg_gating.specs.Gating.{GivesGated}
+use Rattle.cg_gating.specs.Headline.{Headline}
+use Rattle.cg_gating.specs.Request.{MayGate}
+use Rattle.cg_gating.specs.declared.texts.Texts.{Texts}
+use Rattle.cg_netlist.specs.Circuit.{Circuit}
+use Rattle.cg_netlist.specs.WellFormed.{IsWellFormed}
+use Rattle.cg_run.specs.Writes.{puts}
+use Rattle.cg_run.specs.declared.output.Finish.{Finish}
+use Rattle.cg_run.specs.declared.output.Finish.TheVariants as finishes
+use Rattle.cg_run.specs.declared.role.Role.{Role}
+use Rattle.cg_run.specs.declared.role.Role.TheVariants as roles
+use Rattle.cg_shelf.specs.World.{World}
+use Rattle.cg_stimulus.specs.Inputs.{Rows, input_names}
+use Rattle.cg_stimulus.specs.StimText.{StimText}
+use Rattle.cg_words.specs.declared.options.Options.{Options}
+use Rattle.cg_tool.specs.Gate.{gate_output, request_by, wanted_by}
+use Rattle.cg_tool.specs.Watching.{Kind}
+
+-- the stimulus that is asked for is the one that the text says for the netlist
+abbrev pub IsDriven : Bool → Option (List ℕ) → Circuit → Option Rows → Type 0
+IsDriven true held c None = ⊥
+IsDriven true held c (Some stimulus) = (stimulus.inputs ≡ input_names c) × IsSomeAnd held (λ text. StimText (input_names c) text stimulus.rows)
+IsDriven false held c stimulus = stimulus ≡ None
+
+-- A netlist was gated: the bytes under LIB are a text that stands for a library, and those under NETLIST are a BLIF text that says
+-- a well-formed netlist with this library and the clock of the words, in which no gating cell stands and no net's name begins with
+-- the prefix. Those under the stimulus's name, where one is asked for, stand for rows of its data inputs. What is stored and said
+-- are the texts that gating gives of it, and they mean what the headline says.
+pub record IsGated (options : Options) (kind : Option Kind) (names : Role → List ℕ) (before after : World) (finish : Finish) : Type 0 where
+  pub library : List CellData
+  pub read : Circuit
+  pub stimulus : Option Rows
+  pub texts : Texts
+  pub cells : IsSomeAnd (before.held (names roles.Library)) (λ text. LibText text library)
+  pub says : IsSomeAnd (before.held (names roles.Netlist)) (λ text. BlifText text library options.clock read)
+  pub drives : IsDriven options.asked.stimulus (before.held (names roles.Stimulus)) read stimulus
+  pub well_formed : IsWellFormed read
+  pub may : MayGate (request_by library (wanted_by options) stimulus) read
+  pub gives : GivesGated (request_by library (wanted_by options) stimulus) kind read texts
+  pub headline : Headline (request_by library (wanted_by options) stimulus) kind read texts
+  pub stored : (name : List ℕ) → after.held name ≡ puts names (gate_output texts).stores before.held name
+  pub said : after.said ≡ before.said ++ texts.said
+  pub ends : finish ≡ finishes.Done

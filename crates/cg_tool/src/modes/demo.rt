@@ -1,0 +1,194 @@
+//! The mode `demo`: a generated pipeline is gated, and a summary is said of it.
+
+ghost use Rattle.std.specs.Prelude.{◌≡◌, IfOk, IsTrue, None, Ok, Some};
+ghost use Rattle.std.specs.Option.{option_map};
+ghost use Rattle.cg_gating.specs.Request.{MayGate, stops_at};
+ghost use Rattle.cg_run.specs.Names.{name_of};
+ghost use Rattle.cg_run.specs.Promise.{FinishBy};
+ghost use Rattle.cg_run.specs.Reads.{Gave};
+ghost use Rattle.cg_run.specs.Run.{Runs};
+ghost use Rattle.cg_run.specs.Verdict.{Answers, Concludes};
+ghost use Rattle.cg_tool.specs.Demo.{IsDemo, PutsDemo, cells_text, demo_gives, demo_stops, demo_takes, demo_task, demo_wanted, lines_text, pipeline_found, pipeline_request, pipeline_stops, rows_text};
+ghost use Rattle.cg_tool.specs.Complaints.{library_found, stimulus_found};
+ghost use Rattle.cg_tool.specs.Gate.{gateable_found, request_by};
+
+use crate::modes::complaints::{take_library, take_stimulus};
+use crate::modes::wanted::{Wanted, take_gateable};
+use cg_blif::BlifOptions;
+use cg_cell::library::Library;
+use cg_demo::library::library;
+use cg_demo::netlist::generated;
+use cg_demo::stimulus::stimulus;
+use cg_gating::gate::gate_demo;
+use cg_gating::request::Request;
+use cg_list::Seq;
+use cg_netlist::fault::AddFault;
+use cg_netlist::netlist::Netlist;
+use cg_run::{Finish, Mode, Names, Output, Reader, Role, Status, Trouble, drive};
+use cg_shelf::Shelf;
+use cg_stimulus::stimulus::Stimulus;
+use cg_words::options::no_options;
+use std::alloc::{AllocError, Global};
+
+/// The size of the pipeline that is to be gated.
+#[derive(Clone, Copy, Debug, Drop)]
+pub struct Demo {
+    pub size: u32,
+}
+
+/// A pipeline that was read: its library, its netlist and its stimulus.
+#[derive(Drop)]
+pub struct Pipeline {
+    pub library: Library,
+    pub netlist: Netlist,
+    pub stimulus: Stimulus,
+}
+
+impl Reader for Demo {
+    ghost takes = { demo_takes };
+
+    fn take(self, _alloc: Global, _role: Role, _bytes: Seq<u8>) -> Result<Demo, Trouble> {
+        Ok(self)
+    }
+}
+
+impl Mode for Demo {
+    ghost stops = { demo_stops };
+
+    ghost gives = { demo_gives };
+
+    fn finish(self, alloc: Global) -> Result<Output, Trouble> {
+        let wanted = wanted(alloc)?;
+        let pipeline = read_pipeline(alloc, self.size, &wanted)?;
+        gate_pipeline(alloc, self.size, pipeline, &wanted)
+    }
+}
+
+/// Gates a pipeline of this size, and says what came of it.
+pub fn run<S: Shelf>(alloc: Global, shelf: &mut S, names: &Names<'_>, size: u32) -> Status
+    ensures runs { Runs (Gave S.gives) (demo_task size) (name_of names.now) (S.world shelf.old) (S.world shelf.new) result }
+
+    // A finished run gated the generated pipeline as its stimulus and the defaults say, and said the summary of it.
+    ensures shown { IsTrue (S.world shelf.old).tells → FinishBy (IsDemo size (S.world shelf.old) (S.world shelf.new)) result }
+{
+    drive(alloc, shelf, names, &[], Demo { size })
+}
+
+/// How the pipeline is gated: as the defaults say.
+fn wanted(alloc: Global) -> Result<Wanted, AllocError>
+    ensures { IfOk result (λ wanted. wanted ≡ demo_wanted) }
+{
+    let options = no_options(alloc)?;
+    Ok(Wanted::new(
+        options.prefix,
+        options.test,
+        options.settings,
+        options.asked,
+    ))
+}
+
+/// Reads the library.
+#[tactic(auto, unfolding(crate::specs::Demo::cells_text))]
+fn read_library(alloc: Global) -> Result<Library, Trouble>
+    ensures { Answers (library_found cells_text) result }
+{
+    let text = Seq::from_vec(Vec::from_slice(alloc, library())?);
+    take_library(alloc, &text)
+}
+
+/// Reads the netlist.
+#[tactic(auto, unfolding(crate::specs::Demo::lines_text))]
+fn read_netlist(
+    alloc: Global,
+    size: u32,
+    library: &Library,
+    wanted: &Wanted,
+) -> Result<Netlist, Trouble>
+    ensures { Answers (gateable_found library.now None wanted.now (lines_text size)) result }
+{
+    let text = Seq::from_vec(generated(alloc, size)?);
+    let options = BlifOptions { clock: None };
+    take_gateable(alloc, &text, library, &options, wanted)
+}
+
+/// Reads the stimulus.
+#[tactic(auto, unfolding(crate::specs::Demo::rows_text))]
+fn read_rows(alloc: Global, size: u32, netlist: &Netlist) -> Result<Stimulus, Trouble>
+    ensures { Answers (stimulus_found netlist.now (rows_text size)) result }
+{
+    let text = Seq::from_vec(stimulus(alloc, size)?);
+    take_stimulus(alloc, &text, netlist)
+}
+
+/// Reads the texts of a pipeline.
+fn read_pipeline(alloc: Global, size: u32, wanted: &Wanted) -> Result<Pipeline, Trouble>
+    requires { wanted.now ≡ demo_wanted }
+    ensures { Answers (pipeline_found size) result }
+{
+    let library = read_library(alloc)?;
+    let netlist = read_netlist(alloc, size, &library, wanted)?;
+    let stimulus = read_rows(alloc, size, &netlist)?;
+    Ok(Pipeline {
+        library,
+        netlist,
+        stimulus,
+    })
+}
+
+/// Gates a pipeline that was read.
+fn gate_pipeline(
+    alloc: Global,
+    size: u32,
+    pipeline: Pipeline,
+    wanted: &Wanted,
+) -> Result<Output, Trouble>
+    requires wanted { wanted.now ≡ demo_wanted }
+    requires read { pipeline_found size ≡ Ok pipeline }
+    ensures { Concludes (pipeline_stops (Ok pipeline)) (PutsDemo size (pipeline_request pipeline) pipeline.netlist) result }
+{
+    let Pipeline {
+        library,
+        netlist,
+        stimulus,
+    } = pipeline;
+    let _ = wanted.prefix.bytes();
+    gate_with(alloc, size, &library, netlist, &stimulus, wanted)
+}
+
+fn gate_with(
+    alloc: Global,
+    size: u32,
+    library: &Library,
+    netlist: Netlist,
+    stimulus: &Stimulus,
+    wanted: &Wanted,
+) -> Result<Output, Trouble>
+    requires { MayGate (request_by library.now wanted.now (Some stimulus.now)) netlist }
+    ensures { Concludes (option_map Trouble.Limit (stops_at (request_by library.now wanted.now (Some stimulus.now)) netlist))
+        (PutsDemo size (request_by library.now wanted.now (Some stimulus.now)) netlist) result }
+{
+    let request = wanted.request(library, Some(stimulus));
+    gate_by(alloc, size, netlist, &request, stimulus)
+}
+
+fn gate_by(
+    alloc: Global,
+    size: u32,
+    netlist: Netlist,
+    request: &Request<'_>,
+    stimulus: &Stimulus,
+) -> Result<Output, Trouble>
+    requires may { MayGate request.now netlist }
+    requires played { request.now.stimulus ≡ Some stimulus.now }
+    ensures { Concludes (option_map Trouble.Limit (stops_at request.now netlist)) (PutsDemo size request.now netlist) result }
+{
+    match gate_demo(alloc, size, netlist, request, stimulus) {
+        Ok(said) => Ok(Output {
+            stores: Seq::new(alloc),
+            said,
+            finish: Finish::Done,
+        }),
+        Err(AddFault::Limit(limit)) => Err(Trouble::Limit(limit)),
+        Err(AddFault::NoMemory) => Err(Trouble::NoMemory),
+    }
+}

@@ -1,0 +1,166 @@
+//! How a netlist is to be gated.
+
+ghost use Rattle.std.specs.Prelude.{◌≡◌, ◌||◌, Some, is_some};
+ghost use Rattle.std.specs.Option.{option_copied};
+ghost use Rattle.cg_run.specs.Verdict.{Answers};
+ghost use Rattle.cg_machine.specs.Start.{begins, first_clash};
+ghost use Rattle.cg_netlist.specs.Names.{is_known};
+ghost use Rattle.cg_tool.specs.Gate.{gateable, gateable_found, request_by, ungated, unprefixed, untested};
+
+use crate::modes::complaints::{take_netlist, with_name};
+use cg_blif::BlifOptions;
+use cg_cell::library::Library;
+use cg_cell::name::Name;
+use cg_gating::request::Request;
+use cg_list::Seq;
+use cg_machine::prefix::prefix_clash;
+use cg_netlist::id::GateClockId;
+use cg_netlist::netlist::Netlist;
+use cg_plan::settings::Settings;
+use cg_run::{Owner, Trouble};
+use cg_stimulus::stimulus::Stimulus;
+use cg_words::Asked;
+use std::alloc::Global;
+
+/// How a netlist is to be gated.
+#[derive(Debug, Drop)]
+pub struct Wanted {
+    /// What the names of added nets begin with.
+    pub prefix: Name,
+
+    /// The name of the test input, where there is to be one.
+    pub test: Option<Name>,
+
+    /// What bounds the plan.
+    pub settings: Settings,
+
+    /// Which further files are asked for.
+    pub asked: Asked,
+}
+
+impl Wanted {
+    /// How a netlist is to be gated; gating cells have a test input exactly where one is named.
+    pub fn new(prefix: Name, test: Option<Name>, settings: Settings, asked: Asked) -> Wanted
+        ensures { result ≡ record { prefix = prefix; test = test; settings = record settings { test = is_some test }; asked = asked } }
+    {
+        let settings = Settings {
+            test: test.is_some(),
+            ..settings
+        };
+        Wanted {
+            prefix,
+            test,
+            settings,
+            asked,
+        }
+    }
+
+    /// What gating is asked for, with these cells and this stimulus, where there is one.
+    pub fn request<'a>(
+        &'a self,
+        library: &'a Library,
+        stimulus: Option<&'a Stimulus>,
+    ) -> Request<'a>
+        ensures { result ≡ request_by library.entry.now self.entry.now (option_copied stimulus.entry) }
+    {
+        Request {
+            library,
+            settings: &self.settings,
+            prefix: &self.prefix,
+            test: self.test.as_ref(),
+            stimulus,
+            proof: self.asked.proof,
+            report: self.asked.report,
+        }
+    }
+}
+
+/// The netlist that a text says with the cells of a library, where it may be gated so.
+pub fn take_gateable(
+    alloc: Global,
+    text: &Seq<u8>,
+    library: &Library,
+    options: &BlifOptions,
+    wanted: &Wanted,
+) -> Result<Netlist, Trouble>
+    ensures { Answers (gateable_found library.now options.now.clock wanted.now text.now) result }
+{
+    let netlist = take_netlist(alloc, text, library, options)?;
+    gateable(alloc, netlist, wanted)
+}
+
+/// The netlist, where it may be gated so.
+pub fn gateable(alloc: Global, netlist: Netlist, wanted: &Wanted) -> Result<Netlist, Trouble>
+    ensures { Answers (gateable wanted.now netlist) result }
+{
+    let netlist = unprefixed(alloc, netlist, &wanted.prefix)?;
+    let netlist = untested(alloc, netlist, wanted)?;
+    ungated(alloc, netlist)
+}
+
+/// The netlist, unless a net's name begins with the prefix.
+fn unprefixed(alloc: Global, netlist: Netlist, prefix: &Name) -> Result<Netlist, Trouble>
+    ensures { Answers (unprefixed netlist (first_clash prefix.now netlist.names)) result }
+{
+    match prefix_clash(&netlist, prefix) {
+        None => Ok(netlist),
+        Some(net) => Err(with_name(
+            alloc,
+            Owner::Netlist,
+            b"netlist: prefix taken ",
+            netlist.name(net),
+        )?),
+    }
+}
+
+/// The netlist, unless a net has the name of the test input, or may come to have it.
+fn untested(alloc: Global, netlist: Netlist, wanted: &Wanted) -> Result<Netlist, Trouble>
+    ensures { Answers (untested wanted.now.prefix wanted.now.test netlist) result }
+{
+    match &wanted.test {
+        None => Ok(netlist),
+        Some(test) => free(alloc, netlist, &wanted.prefix, test),
+    }
+}
+
+fn free(alloc: Global, netlist: Netlist, prefix: &Name, test: &Name) -> Result<Netlist, Trouble>
+    ensures { Answers (untested prefix.now (Some test.now) netlist) result }
+{
+    if is_taken(&netlist, prefix, test) {
+        return Err(with_name(alloc, Owner::Netlist, b"netlist: test taken ", test.bytes())?);
+    }
+    Ok(netlist)
+}
+
+/// Whether a net has the name of the test input, or may come to have it.
+fn is_taken(netlist: &Netlist, prefix: &Name, test: &Name) -> bool
+    ensures { result ≡ (is_known netlist.now.names test.now || begins prefix.now test.now) }
+{
+    is_known(netlist, test) || test.bytes().starts_with(prefix.bytes())
+}
+
+/// Whether a net has this name.
+fn is_known(netlist: &Netlist, name: &Name) -> bool
+    ensures { result ≡ is_known netlist.now.names name.now }
+{
+    match netlist.find(name.bytes()) {
+        None => false,
+        Some(_) => true,
+    }
+}
+
+/// The netlist, unless gating cells stand in it already.
+fn ungated(alloc: Global, netlist: Netlist) -> Result<Netlist, Trouble>
+    ensures { Answers (ungated netlist netlist.gaters) result }
+{
+    if netlist.gaters() == 0 {
+        return Ok(netlist);
+    }
+    let output = netlist.gater(GateClockId::new(0)).output;
+    Err(with_name(
+        alloc,
+        Owner::Netlist,
+        b"netlist: gating cell ",
+        netlist.name(output),
+    )?)
+}

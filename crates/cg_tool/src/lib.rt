@@ -16,6 +16,3 @@ pub mod watching;
 
 pub use cg_run::Status;
 pub use top::run;
-
-#[cfg(test)]
-mod tests;

@@ -2,6 +2,7 @@ pub mod LratMeans
 pub mod NetlistRead
 pub mod Names
 pub mod GateReads
+pub mod Standing
 pub mod GateMeans
 pub mod DemoMeans
 pub mod StimulusFor

@@ -7,4 +7,5 @@ pub mod GateMeans
 pub mod DemoMeans
 pub mod StimulusFor
 pub mod SimMeans
+pub mod JobsApart
 pub mod Program

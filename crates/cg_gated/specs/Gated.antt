@@ -1,15 +1,19 @@
--- The gated netlist of a netlist: its machine is planned, and written with a gating cell for each enable.
-use Rattle.std.specs.Prelude.{◌≡◌, ◌≢◌, IsTrue, ℕ, ◌+◌, Bool, List, ◌++◌, length, map, Option, None, Some, is_some}
-use Rattle.std.specs.List.{All}
+-- The gated netlist of a netlist: its machine, to whose enables its own gating cells are lifted, is planned, and written with a
+-- gating cell for each enable.
+use Rattle.std.specs.Prelude.{◌≡◌, ◌≢◌, IsTrue, ℕ, ◌+◌, Bool, List, [], ◌∷◌, ◌++◌, length, map, Option, None, Some, is_some}
+use Rattle.std.specs.List.{All, find}
 use Rattle.std.specs.Option.{option_to_list}
 use Rattle.cg_cell.specs.Cell.{CellData, IsCell}
+use Rattle.cg_cell.specs.Fit.{is_fit}
 use Rattle.cg_cell.specs.Name.{is_name}
-use Rattle.cg_netlist.specs.Circuit.{Circuit, data_inputs}
+use Rattle.cg_cell.specs.declared.fit.FitKind.TheVariants.{And2}
+use Rattle.cg_netlist.specs.Circuit.{Circuit, GatingCell, data_inputs}
 use Rattle.cg_netlist.specs.History.{HasHistory, HasOneHistory, IsLawful, IsStart, IsWaveform, Moment, Tick, outputs_of}
 use Rattle.cg_netlist.specs.said.Wiring.{net_name}
+use Rattle.cg_netlist.specs.said.Writable.{IsOf}
 use Rattle.cg_machine.specs.Machine.{MachineData}
 use Rattle.cg_machine.specs.Run.{ones}
-use Rattle.cg_machine.specs.Start.{CanStart, machine_of}
+use Rattle.cg_extract.specs.Lifted.{CanExtract, first_refused, lifted}
 use Rattle.cg_insert.specs.Insert.{gate_names, inserted, own_tick}
 use Rattle.cg_lists.specs.Literals.{IdleData}
 use Rattle.cg_plan.specs.Plan.{plan_of}
@@ -27,7 +31,7 @@ pub record Gating : Type 0 where
 
 -- the machine of the plan, and the gated netlist
 abbrev pub planned : Gating → Circuit → MachineData
-planned by c = (plan_of by.library by.settings by.idle (machine_of c by.prefix)).machine
+planned by c = (plan_of by.library by.settings by.idle (lifted c by.prefix)).machine
 
 abbrev pub gated_by : Gating → Circuit → Circuit
 gated_by by c = inserted by.library by.test (planned by c)
@@ -36,10 +40,26 @@ gated_by by c = inserted by.library by.test (planned by c)
 abbrev pub own_wave : MachineData → List Tick → List Tick
 own_wave m wave = ticks_of (map (own_tick m) wave)
 
--- what gating needs: the netlist has no gating cell and no net whose name begins with the prefix, the library has cells, the
--- plan is made for a test input exactly where there is one, and the name of that is new
+-- whether a library has a cell for the and of two nets
+abbrev pub has_and : List CellData → Bool
+has_and library = is_some (find (is_fit And2) library)
+
+-- the first gating cell with which a netlist is not gated: where there is to be a test input the first of all; else the first
+-- that has a test pin, or stands behind another while the library has no cell for the and of two nets
+abbrev pub first_gater : List (GatingCell ℕ) → Option ℕ
+first_gater [] = None
+first_gater (gater ∷ gaters) = Some 0
+
+abbrev pub refused_gater : List CellData → Option (List ℕ) → Circuit → Option ℕ
+refused_gater library None c = first_refused c (has_and library)
+refused_gater library (Some test) c = first_gater c.gaters
+
+-- what gating needs: no gating cell of the netlist is refused, and each is a cell of the library; no net's name begins with the
+-- prefix; the library has cells; the plan is made for a test input exactly where there is to be one, and the name of that is new
 pub record CanGate (by : Gating) (c : Circuit) : Type 0 where
-  pub start : CanStart c by.prefix
+  pub start : CanExtract c by.prefix
+  pub lifts : refused_gater by.library by.test c ≡ None
+  pub own : All (λ gater. IsOf by.library gater.cell) c.gaters
   pub cells : All IsCell by.library
   pub tested : by.settings.test ≡ is_some by.test
   pub named : All (λ name. IsTrue (is_name name)) (option_to_list by.test)

@@ -7,6 +7,7 @@ use Rattle.cg_insert.specs.Insert.{CanInsert}
 use Rattle.cg_machine.specs.Added.{HasNames, own_netlist}
 use Rattle.cg_machine.specs.Machine.{IsMachine}
 use Rattle.cg_machine.specs.Run.{ones}
+use Rattle.cg_extract.specs.Lifted.{CanExtract, bare}
 use Rattle.cg_gated.specs.Kept.{KeepsParts}
 use Rattle.cg_gated.specs.Gated.{Behaves, CanGate, Gating, gated_by, own_wave, planned}
 
@@ -27,9 +28,9 @@ GatedShowsSame = (by : Gating) (c : Circuit) → CanGate by c → (start : List 
     → IsLawful (gated_by by c) (start ++ ones (planned by c)) wave history → IsLawful c start (own_wave (planned by c) wave) other
     → outputs_of (gated_by by c) history ≡ outputs_of c other
 
--- the plan keeps the netlist with which it begins
+-- the plan keeps the netlist with which it begins, which is the one without the gating cells
 abbrev pub PlannedKeeps : Type 0
-PlannedKeeps = (by : Gating) (c : Circuit) → own_netlist (planned by c) ≡ c
+PlannedKeeps = (by : Gating) (c : Circuit) → CanExtract c by.prefix → own_netlist (planned by c) ≡ bare c
 
 -- and the gated netlist behaves as the netlist
 abbrev pub GatedBehaves : Type 0
@@ -37,7 +38,7 @@ GatedBehaves = (by : Gating) (c : Circuit) → CanGate by c → Behaves by c (ga
 
 -- the nets that a plan adds are named by the prefix, in order of addition
 abbrev pub PlannedNames : Type 0
-PlannedNames = (by : Gating) (c : Circuit) → HasNames (planned by c) × ((planned by c).prefix ≡ by.prefix)
+PlannedNames = (by : Gating) (c : Circuit) → CanExtract c by.prefix → HasNames (planned by c) × ((planned by c).prefix ≡ by.prefix)
 
 -- and the gated netlist keeps the parts of the netlist
 abbrev pub GatedKeeps : Type 0

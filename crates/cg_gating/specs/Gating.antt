@@ -3,7 +3,7 @@ use Rattle.std.specs.Prelude.{◌≡◌, ℕ, Bool, if◌then◌else◌, List, l
 use Rattle.cg_blif_text.specs.Canonical.{blif}
 use Rattle.cg_gated.specs.Gated.{Gating}
 use Rattle.cg_insert.specs.Insert.{inserted, insertion_limit}
-use Rattle.cg_machine.specs.Start.{machine_of}
+use Rattle.cg_extract.specs.Lifted.{lifted}
 use Rattle.cg_netlist.specs.Circuit.{Circuit}
 use Rattle.cg_plan.specs.Told.{IsPlan, ToldPlan}
 use Rattle.cg_plan_text.specs.ProofText.{proof_text}
@@ -19,7 +19,7 @@ use Rattle.cg_gating.specs.declared.texts.Texts.{Texts}
 -- a plan as it is told, whose certificates keep to the bounds of their formats, and the netlist that its machine is written as. Free are the bits that are told of a refuted claim and
 -- the logs of the certificates, as far as their definitions leave them open.
 pub record IsGated (by : Gating) (c : Circuit) (told : ToldPlan) (written : Circuit) : Type 0 where
-  pub plan : IsPlan by.library by.settings by.idle (machine_of c by.prefix) told
+  pub plan : IsPlan by.library by.settings by.idle (lifted c by.prefix) told
   pub writable : AreWritable told.certificates
   pub fits : insertion_limit by.test told.machine ≡ None
   pub is : written ≡ inserted by.library by.test told.machine

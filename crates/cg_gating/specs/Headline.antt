@@ -3,11 +3,11 @@ use Rattle.std.specs.Prelude.{◌≡◌, ◌↔◌, ℕ, ◌+◌, Bool, true, Li
 use Rattle.std.specs.Option.{option_to_list}
 use Rattle.cg_blif_text.specs.BlifText.{BlifText}
 use Rattle.cg_blif_text.specs.Canonical.{blif}
+use Rattle.cg_extract.specs.Lifted.{lifted, origins}
 use Rattle.cg_gated.specs.Kept.{KeepsParts}
 use Rattle.cg_insert.specs.Insert.{inserted}
 use Rattle.cg_insert.specs.Insertion.{RisesAre}
 use Rattle.cg_machine.specs.Machine.{MachineData}
-use Rattle.cg_machine.specs.Start.{machine_of}
 use Rattle.cg_netlist.specs.Circuit.{Circuit}
 use Rattle.cg_netlist.specs.History.{IsLawful, IsStart, IsWaveform, Moment, Tick, outputs_of}
 use Rattle.cg_netlist.specs.Moment.{zip_with}
@@ -20,12 +20,12 @@ use Rattle.cg_plan_text.specs.ProofText.{proof_text}
 use Rattle.cg_plan_text.specs.Summary.{report_text, said_text}
 use Rattle.cg_plan_text.specs.declared.summary.Played.{Played}
 use Rattle.cg_planner.specs.Planning.{AreWritable}
-use Rattle.cg_report.specs.Idle.{CountZeros}
+use Rattle.cg_report.specs.Idle.{low_moments, zeros_of}
 use Rattle.cg_stimulus.specs.Inputs.{Rows, input_names}
 use Rattle.cg_stimulus.specs.Played.{IsPlayed}
 use Rattle.cg_gating.specs.Deserved.{IsWorthy}
 use Rattle.cg_gating.specs.Gating.{where_asked}
-use Rattle.cg_gating.specs.Idling.{idle_data, idle_of}
+use Rattle.cg_gating.specs.Idling.{idle_data, idle_of, zeros_by}
 use Rattle.cg_gating.specs.Played.{EdgesAre, LineIs, Saying}
 use Rattle.cg_gating.specs.Request.{RequestData}
 use Rattle.cg_gating.specs.Turns.{Lead}
@@ -75,21 +75,24 @@ pub record Headline (request : RequestData) (says : Option Saying) (read : Circu
   pub plan : ToldPlan
   pub shows : (start : List Bool) (wave : List Tick) (bits : List Bool) → IsStart read start → IsWaveform read wave → length bits ≡ length wave
       → ShowsSame plan.machine read written start (replicate delays true) wave (with_bits request.test wave bits)
-  -- it is what the plan's machine is written as; the plan came to its end, its stages lead there from the original, and each is
-  -- inserted exactly where it is worth it on the machine of its turn
+  -- it is what the plan's machine is written as; the plan came to its end, its stages lead there from the machine of the original,
+  -- to whose enables the original's gating cells are lifted, and each is inserted exactly where it is worth it on the machine of
+  -- its turn
   pub is : written ≡ inserted request.library request.test plan.machine
   pub turns : List Turn
-  pub planned : turns ≡ (plan_of request.library request.settings (idle_of read request.prefix request.stimulus) (machine_of read request.prefix)).turns
-  pub whole : (plan_of request.library request.settings (idle_of read request.prefix request.stimulus) (machine_of read request.prefix)).limit ≡ None
-  pub lead : Lead turns (machine_of read request.prefix) plan.machine
+  pub planned : turns ≡ (plan_of request.library request.settings (idle_of read request.prefix request.stimulus) (lifted read request.prefix)).turns
+  pub whole : (plan_of request.library request.settings (idle_of read request.prefix request.stimulus) (lifted read request.prefix)).limit ≡ None
+  pub lead : Lead turns (lifted read request.prefix) plan.machine
   pub deserved : (k : ℕ) (turn : Turn) → slice_get turns k ≡ Some turn → (turn.outcome ≡ Inserted) ↔ IsWorthy request.library request.settings turn.machine turn.stage
-  -- literals are ranked by how often they are 0 in the history on which the stimulus is played
+  -- literals are ranked by how often their nets are 0 in the history on which the stimulus is played on the original; a net that
+  -- stands for none of the original's counts 0
   pub idle : (stimulus : Rows) → request.stimulus ≡ Some stimulus
-      → (history : List Moment) × IsPlayed read stimulus.rows history × CountZeros read history (idle_data read request.prefix stimulus).zeros
+      → (history : List Moment) × IsPlayed read stimulus.rows history
+      × ((idle_data read request.prefix stimulus).zeros ≡ map (zeros_by (λ net. zeros_of net (low_moments history))) (origins read (lifted read request.prefix)))
   -- the stages are told with their outcomes, and bits that are told of a refuted claim violate it
   pub told : AreTold turns plan.stages
   -- and it is told of how many registers the hold claims are too wide
-  pub wide : plan.wide ≡ wide_of request.settings (machine_of read request.prefix)
+  pub wide : plan.wide ≡ wide_of request.settings (lifted read request.prefix)
   -- the proof file has for each claim of each inserted stage, in order, the defined formula and an accepted log that proves that
   -- nothing satisfies it, and nothing else; formulas and logs keep to the bounds of their formats, so that they are read back
   pub certified : AreCertified (plan_claims 1 turns) plan.certificates

@@ -1,10 +1,11 @@
--- How often each net is 0 at the low moments of rows that are played on a netlist without gating cells, as a function: at a low
--- moment the nets have the bits of its machine's cycle, and each row is a step.
+-- How often each net of the machine of a netlist is 0 at the low moments of rows that are played on the netlist, as a function: at a
+-- low moment the nets of the netlist have the bits of its machine's cycle, and each row is a step. A net that was added with the
+-- machine counts 0.
 use Rattle.std.specs.Prelude.{ℕ, ◌-◌, Bool, false, not, List, [], ◌∷◌, ◌++◌, map, length, replicate, Option, None, Some}
-use Rattle.std.specs.List.{count_by, range_with_len}
+use Rattle.std.specs.List.{count_by}
+use Rattle.cg_extract.specs.Lifted.{lifted, number_of, origins}
 use Rattle.cg_lists.specs.Literals.{IdleData}
 use Rattle.cg_machine.specs.Machine.{MachineData, step, values}
-use Rattle.cg_machine.specs.Start.{machine_of}
 use Rattle.cg_netlist.specs.Circuit.{Circuit, data_inputs}
 use Rattle.cg_netlist.specs.Moment.{bit}
 use Rattle.cg_stimulus.specs.Inputs.{Rows}
@@ -23,9 +24,14 @@ lows_from m state (row ∷ rows) = values m state (row_inputs m row) ∷ lows_fr
 abbrev pub zeros_at : List (List Bool) → ℕ → ℕ
 zeros_at lows net = count_by (λ nets. not (bit nets net)) lows
 
+-- the same of a net of the machine, by the net of the netlist from which it comes
+abbrev pub zeros_by : (ℕ → ℕ) → Option ℕ → ℕ
+zeros_by zeros None = 0
+zeros_by zeros (Some net) = zeros net
+
 abbrev pub idle_data : Circuit → List ℕ → Rows → IdleData
-idle_data c prefix stimulus = record {
-  zeros = map (zeros_at (lows_from (machine_of c prefix) (played_start c) stimulus.rows)) (range_with_len 0 (length c.names));
+idle_data c prefix stimulus = let m = lifted c prefix in let lows = lows_from m (played_start c) stimulus.rows in record {
+  zeros = map (zeros_by (λ net. zeros_at lows (number_of c net))) (origins c m);
   rows = length stimulus.rows;
 }
 

@@ -3,10 +3,11 @@ use Rattle.std.specs.Prelude.{◌≡◌, ◌≢◌, ℕ, Bool, false, List, Opti
 use Rattle.std.specs.List.{All}
 use Rattle.std.specs.Option.{option_or}
 use Rattle.cg_cell.specs.Cell.{CellData}
-use Rattle.cg_gated.specs.Gated.{Gating, planned}
+use Rattle.cg_extract.specs.Lifted.{CanExtract, lifted}
+use Rattle.cg_gated.specs.Gated.{Gating, planned, refused_gater}
 use Rattle.cg_insert.specs.Insert.{insertion_limit}
 use Rattle.cg_limit.specs.declared.Limit.{Limit}
-use Rattle.cg_machine.specs.Start.{CanStart, begins, machine_of}
+use Rattle.cg_machine.specs.Start.{begins}
 use Rattle.cg_netlist.specs.Circuit.{Circuit}
 use Rattle.cg_netlist.specs.said.Writable.{IsWritable}
 use Rattle.cg_plan.specs.Plan.{plan_of}
@@ -30,11 +31,12 @@ pub record IsFree (c : Circuit) (prefix name : List ℕ) : Type 0 where
   pub new : All (λ other. other ≢ name) c.names
   pub apart : begins prefix name ≡ false
 
--- What gating needs. The netlist is one that a text can say with the cells of the library. No gating cell stands in it, and no
+-- What gating needs. The netlist is one that a text can say with the cells of the library. No gating cell of it is refused, and no
 -- net's name begins with the prefix. The plan is made for a test input exactly where there is to be one, and its name is free. The
 -- stimulus is one for the netlist.
 pub record MayGate (request : RequestData) (c : Circuit) : Type 0 where
-  pub start : CanStart c request.prefix
+  pub start : CanExtract c request.prefix
+  pub lifts : refused_gater request.library request.test c ≡ None
   pub writable : IsWritable request.library c
   pub tested : request.settings.test ≡ is_some request.test
   pub free : (name : List ℕ) → request.test ≡ Some name → IsFree c request.prefix name
@@ -57,7 +59,7 @@ gating_of request c = record {
 
 -- the limit at which the plan stops, or else the limit that the written netlist would pass
 abbrev pub stops_by : Gating → Circuit → Option Limit
-stops_by by c = option_or (plan_of by.library by.settings by.idle (machine_of c by.prefix)).limit (insertion_limit by.test (planned by c))
+stops_by by c = option_or (plan_of by.library by.settings by.idle (lifted c by.prefix)).limit (insertion_limit by.test (planned by c))
 
 abbrev pub stops_at : RequestData → Circuit → Option Limit
 stops_at request c = stops_by (gating_of request c) c

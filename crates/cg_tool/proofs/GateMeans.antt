@@ -1,7 +1,9 @@
 -- What a finished run of `gate` means, from what its files come to.
-use Rattle.std.proofs.Common.{◌≡◌, ℕ, Bool, true, false, IsTrue, List, ◌++◌, Option, Some, Result, Ok, Err, refl, sym, ◌∙◌, ap, subst}
-use Rattle.std.specs.Prelude.{IsOkAnd, IsSomeAnd}
+use Rattle.std.proofs.Common.{◌≡◌, ℕ, Bool, true, false, IsTrue, List, ◌++◌, Option, Some, Result, Ok, Err, refl, sym, ◌∙◌, ap, subst, None}
+use Rattle.std.specs.Prelude.{IfSome, IsOkAnd, IsSomeAnd}
 use Rattle.cg_blif_text.specs.BlifText.{BlifText}
+use Rattle.cg_gating.specs.Gating.{where_asked}
+use Rattle.cg_gating.specs.declared.texts.Texts.{Texts}
 use Rattle.cg_liberty.proofs.LibTexts.{text_of_library}
 use Rattle.cg_liberty.specs.LibText.{LibText}
 use Rattle.cg_liberty.specs.Library.{library_of}
@@ -19,10 +21,11 @@ use Rattle.cg_stimulus.specs.Inputs.{Rows, input_names}
 use Rattle.cg_stimulus.specs.Reading.{stimulus}
 use Rattle.cg_stimulus.specs.StimText.{StimText}
 use Rattle.cg_stimulus.proofs.StimExact.{read_is_text}
+use Rattle.cg_words.specs.declared.options.Asked.{Asked}
 use Rattle.cg_words.specs.declared.options.Options.{Options}
 use Rattle.cg_tool.specs.Complaints.{library_trouble, stimulus_found, stimulus_trouble}
-use Rattle.cg_tool.specs.Gate.{GatesAs, gate_gives, gate_loads, gate_start, gate_stops, gate_takes, gate_task, request_by, stimulus_asked, wanted_by}
-use Rattle.cg_tool.specs.Gated.{IsDriven, IsGated}
+use Rattle.cg_tool.specs.Gate.{GatesAs, gate_output, gate_gives, gate_loads, gate_start, gate_stops, gate_takes, gate_task, request_by, stimulus_asked, wanted_by}
+use Rattle.cg_tool.specs.Gated.{AreApart, IsDriven, IsGated, Stand}
 use Rattle.cg_tool.specs.Refused.{refused_as}
 use Rattle.cg_tool.specs.Watching.{Kind}
 use Rattle.cg_tool.specs.declared.modes.gate.Gate.{Gate}
@@ -30,6 +33,7 @@ use Rattle.cg_tool.specs.declared.modes.wanted.Wanted.{Wanted}
 use Rattle.cg_tool.proofs.GateReads.{Read, found_so, read_so}
 use Rattle.cg_tool.proofs.LratMeans.{refused_ok, some_and}
 use Rattle.cg_tool.proofs.NetlistRead.{netlist_says}
+use Rattle.cg_tool.proofs.Standing.{asked_so, out_stands, proof_stands, report_stands}
 
 -- a stimulus that is found is what its text says
 found_text : (held : Option (List ℕ)) (c : Circuit) (text : List ℕ) (found : Rows) → stimulus_found c text ≡ Ok found → held ≡ Some text → IsDriven true held c (Some found)
@@ -61,6 +65,24 @@ gates_so options kind end c output is wanted gives =
     ok_and (stimulus_asked options.asked.stimulus c end.stimulus) (λ s. GatesAs kind (request_by end.library (wanted_by options) s) c output)
     (subst W wanted (given_so end.netlist c (λ c. IsOkAnd (stimulus_asked (end.wanted).asked.stimulus c end.stimulus) (λ s. GatesAs kind (request_by end.library end.wanted s) c output)) is gives))
 
+-- the files hold their texts
+if_some : (o : Option (List ℕ)) (P Q : List ℕ → Type 0) → ((text : List ℕ) → P text → Q text) → IfSome o P → IfSome o Q
+if_some None P Q step h = tt
+if_some (Some text) P Q step h = step text h
+
+stand_of : (asked : Asked) (names : Role → List ℕ) (before after : World) (texts : Texts) (proof report : List ℕ) → texts.proof ≡ where_asked asked.proof proof → texts.report ≡ where_asked asked.report report
+    → ((name : List ℕ) → after.held name ≡ puts names (gate_output texts).stores before.held name) → AreApart asked names → Stand names texts after
+stand_of asked names before after texts proof report proof_is report_is held apart =
+    let has_proof : (text : List ℕ) → texts.proof ≡ Some text → IsTrue asked.proof = λ text is. asked_so asked.proof text proof (sym proof_is ∙ is) in
+    let has_report : (text : List ℕ) → texts.report ≡ Some text → IsTrue asked.report = λ text is. asked_so asked.report text report (sym report_is ∙ is) in
+    record {
+      out = held (names roles.Out) ∙ out_stands names before.held texts.out texts.proof texts.report (λ text is. apart.out_proof (has_proof text is)) (λ text is. apart.out_report (has_report text is));
+      proof = if_some texts.proof (λ text. puts names (gate_output texts).stores before.held (names roles.Proof) ≡ Some text) (λ text. after.held (names roles.Proof) ≡ Some text) (λ text is. held (names roles.Proof) ∙ is)
+          (proof_stands names before.held texts.out texts.proof texts.report (λ first second is also. apart.proof_report (has_proof first is) (has_report second also)));
+      report = if_some texts.report (λ text. puts names (gate_output texts).stores before.held (names roles.Report) ≡ Some text) (λ text. after.held (names roles.Report) ≡ Some text)
+          (λ text is. held (names roles.Report) ∙ is) (report_stands names before.held texts.out texts.proof texts.report);
+    }
+
 gated_of : (options : Options) (kind : Option Kind) (names : Role → List ℕ) (before after : World) (finish : Finish) (end : Gate) (f : Finishes (gate_task options kind) names before after finish)
     → Read options options.asked.stimulus f.given end → gate_gives kind end f.output → IsGated options kind names before after finish
 gated_of options kind names before after finish end f read gives =
@@ -68,6 +90,8 @@ gated_of options kind names before after finish end f read gives =
     let gates = gates_so options kind end c f.output read.is read.wanted gives in
     let found = found_so end.library options.clock (wanted_by options) read.text c read.found in
     let says = netlist_says end.library options.clock read.text c found.said in
+    let held : (name : List ℕ) → after.held name ≡ puts names (gate_output (gates.2).texts).stores before.held name = λ name. f.written.held name ∙ ap (λ (o : Output). puts names o.stores before.held name) (gates.2).is in
+    let texts = ((gates.2).gives).gives in
     record {
       library = end.library;
       read = c;
@@ -84,7 +108,8 @@ gated_of options kind names before after finish end f read gives =
       may = (gates.2).may;
       gives = (gates.2).gives;
       headline = (gates.2).headline;
-      stored = λ name. f.written.held name ∙ ap (λ (o : Output). puts names o.stores before.held name) (gates.2).is;
+      stand = stand_of options.asked names before after (gates.2).texts _ _ texts.proof texts.report held;
+      stored = held;
       said = f.written.said ∙ ap (λ (o : Output). before.said ++ o.said) (gates.2).is;
       ends = sym f.ends ∙ ap (λ (o : Output). o.finish) (gates.2).is;
     }

@@ -1,5 +1,5 @@
 -- What a finished run of `gate` means.
-use Rattle.std.specs.Prelude.{◌≡◌, ℕ, Bool, true, false, List, ◌++◌, Option, None, Some, IsSomeAnd}
+use Rattle.std.specs.Prelude.{◌≡◌, ℕ, Bool, true, false, List, ◌++◌, Option, None, Some, IfSome, IsSomeAnd, IsTrue, ◌≢◌}
 use Rattle.cg_cell.specs.Cell.{CellData}
 use Rattle.cg_liberty.specs.LibText.{LibText}
 use Rattle.cg_blif_text.specs.BlifText.{BlifText}
@@ -17,6 +17,7 @@ use Rattle.cg_run.specs.declared.role.Role.TheVariants as roles
 use Rattle.cg_shelf.specs.World.{World}
 use Rattle.cg_stimulus.specs.Inputs.{Rows, input_names}
 use Rattle.cg_stimulus.specs.StimText.{StimText}
+use Rattle.cg_words.specs.declared.options.Asked.{Asked}
 use Rattle.cg_words.specs.declared.options.Options.{Options}
 use Rattle.cg_tool.specs.Gate.{gate_output, request_by, wanted_by}
 use Rattle.cg_tool.specs.Watching.{Kind}
@@ -27,10 +28,22 @@ IsDriven true held c None = ⊥
 IsDriven true held c (Some stimulus) = (stimulus.inputs ≡ input_names c) × IsSomeAnd held (λ text. StimText (input_names c) text stimulus.rows)
 IsDriven false held c stimulus = stimulus ≡ None
 
+-- the files that are stored have different names
+pub record AreApart (asked : Asked) (names : Role → List ℕ) : Type 0 where
+  pub out_proof : IsTrue asked.proof → names roles.Out ≢ names roles.Proof
+  pub out_report : IsTrue asked.report → names roles.Out ≢ names roles.Report
+  pub proof_report : IsTrue asked.proof → IsTrue asked.report → names roles.Proof ≢ names roles.Report
+
+-- each file that is stored holds its text
+pub record Stand (names : Role → List ℕ) (texts : Texts) (after : World) : Type 0 where
+  pub out : after.held (names roles.Out) ≡ Some texts.out
+  pub proof : IfSome texts.proof (λ text. after.held (names roles.Proof) ≡ Some text)
+  pub report : IfSome texts.report (λ text. after.held (names roles.Report) ≡ Some text)
+
 -- A netlist was gated: the bytes under LIB are a text that stands for a library, and those under NETLIST are a BLIF text that says
 -- a well-formed netlist with this library and the clock of the words, in which no gating cell stands and no net's name begins with
 -- the prefix. Those under the stimulus's name, where one is asked for, stand for rows of its data inputs. What is stored and said
--- are the texts that gating gives of it, and they mean what the headline says.
+-- are the texts that gating gives of it, and they mean what the headline says. Files of different names each hold their text.
 pub record IsGated (options : Options) (kind : Option Kind) (names : Role → List ℕ) (before after : World) (finish : Finish) : Type 0 where
   pub library : List CellData
   pub read : Circuit
@@ -43,6 +56,7 @@ pub record IsGated (options : Options) (kind : Option Kind) (names : Role → Li
   pub may : MayGate (request_by library (wanted_by options) stimulus) read
   pub gives : GivesGated (request_by library (wanted_by options) stimulus) kind read texts
   pub headline : Headline (request_by library (wanted_by options) stimulus) kind read texts
+  pub stand : AreApart options.asked names → Stand names texts after
   pub stored : (name : List ℕ) → after.held name ≡ puts names (gate_output texts).stores before.held name
   pub said : after.said ≡ before.said ++ texts.said
   pub ends : finish ≡ finishes.Done

@@ -9,7 +9,7 @@ ghost use Rattle.cg_run.specs.Reads.{Gave};
 ghost use Rattle.cg_run.specs.Run.{Runs};
 ghost use Rattle.cg_words.specs.Jobs.{job_of, job_words};
 ghost use Rattle.cg_tool.specs.Demo.{IsDemo};
-ghost use Rattle.cg_tool.specs.Gated.{IsGated};
+ghost use Rattle.cg_tool.specs.Gated.{AreApart, IsGated};
 ghost use Rattle.cg_tool.specs.Lrat.{IsChecked};
 ghost use Rattle.cg_tool.specs.Program.{IsOrNoMemory, KeepsAll, RunsWords, task_by};
 ghost use Rattle.cg_tool.specs.Sim.{IsSimulated};
@@ -64,6 +64,10 @@ pub fn run<S: Shelf>(
     // `gate` writes a netlist that shows, from every state and for all time, what the one that it read shows.
     ensures gated { IsTrue (S.world shelf.old).tells → IfSome (job_of (map (λ watcher. called watcher) watchers.items) (map string_bytes words.now))
         (λ job. job.mode ≡ Mode.Gate → FinishBy (IsGated job.options (kind_at (map (λ watcher. says watcher) watchers.items) job.options.watch) (file_of job.files) (S.world shelf.old) (S.world shelf.new)) result) }
+
+    // The files that it stores have different names, so that each holds its text.
+    ensures apart { IfSome (job_of (map (λ watcher. called watcher) watchers.items) (map string_bytes words.now))
+        (λ job. job.mode ≡ Mode.Gate → AreApart job.options.asked (file_of job.files)) }
 
     // `sim` says the lines of the one history on which the stimulus is played, and what the watcher says of its moments.
     ensures simulated { IsTrue (S.world shelf.old).tells → IfSome (job_of (map (λ watcher. called watcher) watchers.items) (map string_bytes words.now))

@@ -1,0 +1,164 @@
+-- The files that a job of `gate` stores have different names.
+use Rattle.std.proofs.Common.{◌≡◌, ◌≢◌, ℕ, Bool, true, false, not, ◌&&◌, IsTrue, if◌then◌else◌, List, [], ◌∷◌, ◌++◌, codes, Option, None, Some, is_some, refl, sym, ◌∙◌, ap, subst, append_assoc}
+use Rattle.std.specs.Prelude.{IfSome, unwrap_or}
+use Rattle.std.specs.List.{list_any}
+use Rattle.std.specs.Option.{option_and_then, option_map, option_to_list}
+use Rattle.std.specs.Str.{bytes_eq}
+use Rattle.std.proofs.lemmas.Slice.Eq.{bytes_eq-Decides}
+use Rattle.clap.specs.Words.{Kinds, Row, all_of, fault_of, first_of, matches_of}
+use Rattle.cg_plan.specs.declared.settings.Settings.{Settings}
+use Rattle.cg_run.specs.Names.{Files, file_of, no_files}
+use Rattle.cg_words.specs.CommandLine.{Values, command_line, values_in}
+use Rattle.cg_words.specs.Jobs.{JobWords, demo_job, gate_files, gate_job, job_in, job_of, job_of_options, job_with, job_without, lrat_job, sim_job}
+use Rattle.cg_words.specs.Options.{are_different, asked_in, gate_options, gate_options_with, has_options, no_options, number_in, option_files, settings_in, watch_in}
+use Rattle.cg_words.specs.declared.job.Mode.{Mode}
+use Rattle.cg_words.specs.declared.job.Mode.TheVariants.{Demo, Gate, Lrat, Sim}
+use Rattle.cg_words.specs.declared.options.Asked.{Asked}
+use Rattle.cg_words.specs.declared.options.Options.{Options}
+use Rattle.cg_tool.specs.Gated.{AreApart}
+use Rattle.cg_tool.proofs.Names.{or_none}
+
+-- different names
+and_both : (a b : Bool) → IsTrue (a && b) → IsTrue a × IsTrue b
+and_both true b h = (refl, h)
+and_both false b h = absurd (cc)
+
+is_false : (a : Bool) → IsTrue (not a) → a ≡ false
+is_false true h = absurd (cc)
+is_false false h = refl
+
+any_back : (test : List ℕ → Bool) (front rest : List (List ℕ)) → list_any test (front ++ rest) ≡ false → list_any test rest ≡ false
+any_back test [] rest none = none
+any_back test (x ∷ front) rest none = any_back test front rest (or_none (test x) (list_any test (front ++ rest)) none).1
+
+different_back : (front rest : List (List ℕ)) → IsTrue (are_different (front ++ rest)) → IsTrue (are_different rest)
+different_back [] rest different = different
+different_back (x ∷ front) rest different = different_back front rest (and_both (not (list_any (λ other. bytes_eq other x) (front ++ rest))) (are_different (front ++ rest)) different).1
+
+unequal : (name other : List ℕ) → bytes_eq other name ≡ false → name ≢ other
+unequal name other apart same = let both : false ≡ true = sym apart ∙ (bytes_eq-Decides other name).1 (sym same) in absurd (cc)
+
+-- a name differs from the one behind these
+differs : (name other : List ℕ) (front rest : List (List ℕ)) → list_any (λ o. bytes_eq o name) (front ++ other ∷ rest) ≡ false → name ≢ other
+differs name other front rest none =
+    unequal name other (or_none (bytes_eq other name) (list_any (λ o. bytes_eq o name) rest) (any_back (λ o. bytes_eq o name) front (other ∷ rest) none)).0
+
+module _ (out : List ℕ) (stim : Option (List ℕ)) where
+  none_of : (rest : List (List ℕ)) → IsTrue (are_different (out ∷ rest)) → list_any (λ o. bytes_eq o out) rest ≡ false
+  none_of rest different = is_false (list_any (λ o. bytes_eq o out) rest) (and_both (not (list_any (λ o. bytes_eq o out) rest)) (are_different rest) different).0
+
+  out_proof : (proof report : Option (List ℕ)) → IsTrue (are_different (out ∷ (option_to_list stim ++ (option_to_list proof ++ option_to_list report)))) → IsTrue (is_some proof) → out ≢ unwrap_or proof []
+  out_proof None report different asked = absurd (cc)
+  out_proof (Some p) report different asked = differs out p (option_to_list stim) (option_to_list report) (none_of (option_to_list stim ++ (p ∷ option_to_list report)) different)
+
+  out_report : (proof report : Option (List ℕ)) → IsTrue (are_different (out ∷ (option_to_list stim ++ (option_to_list proof ++ option_to_list report)))) → IsTrue (is_some report) → out ≢ unwrap_or report []
+  out_report proof None different asked = absurd (cc)
+  out_report proof (Some r) different asked =
+      differs out r (option_to_list proof) [] (any_back (λ o. bytes_eq o out) (option_to_list stim) (option_to_list proof ++ (r ∷ [])) (none_of (option_to_list stim ++ (option_to_list proof ++ (r ∷ []))) different))
+
+  proof_report : (proof report : Option (List ℕ)) → IsTrue (are_different (out ∷ (option_to_list stim ++ (option_to_list proof ++ option_to_list report)))) → IsTrue (is_some proof) → IsTrue (is_some report) → unwrap_or proof [] ≢ unwrap_or report []
+  proof_report None report different asked also = absurd (cc)
+  proof_report (Some p) None different asked also = absurd (cc)
+  proof_report (Some p) (Some r) different asked also =
+      let behind = different_back (out ∷ option_to_list stim) (p ∷ r ∷ []) different in
+      differs p r [] [] (is_false (list_any (λ o. bytes_eq o p) (r ∷ [])) (and_both (not (list_any (λ o. bytes_eq o p) (r ∷ []))) (are_different (r ∷ [])) behind).0)
+
+files_apart : (library netlist out : List ℕ) (values : Values) → IsTrue (are_different (library ∷ netlist ∷ out ∷ option_files values)) → AreApart (asked_in values) (file_of (gate_files library netlist out values))
+files_apart library netlist out values different =
+    let D : List (List ℕ) → Type 0 = λ l. IsTrue (are_different (out ∷ l)) in
+    let behind = subst D (append_assoc (option_to_list values.stim) (option_to_list values.proof) (option_to_list values.report)) (different_back (library ∷ netlist ∷ []) (out ∷ option_files values) different) in
+    record {
+      out_proof = out_proof out values.stim values.proof values.report behind;
+      out_report = out_report out values.stim values.proof values.report behind;
+      proof_report = proof_report out values.stim values.proof values.report behind;
+    }
+
+-- what a job was made of
+made_of : {A B : Type 0} (make : A → B) (o : Option A) (y : B) → option_map make o ≡ Some y → (x : A) × (o ≡ Some x) × (make x ≡ y)
+made_of make None y is = absurd (cc)
+made_of make (Some x) y is = (x, refl, cc)
+
+asked_so : (values : Values) (settings : Option Settings) (watch : Option (Option ℕ)) (options : Options) → gate_options_with values settings watch ≡ Some options → options.asked ≡ asked_in values
+asked_so values None watch options is = absurd (cc)
+asked_so values (Some settings) None options is = absurd (cc)
+asked_so values (Some settings) (Some watch) options is = go _ is
+  where
+    go : (taken : Bool) → (if taken then Some (record { clock = values.clock; prefix = unwrap_or values.prefix (codes "cg_"); test = values.test; settings = settings; watch = watch; asked = asked_in values }) else None) ≡ Some options → options.asked ≡ asked_in values
+    go true is = let same : record { clock = values.clock; prefix = unwrap_or values.prefix (codes "cg_"); test = values.test; settings = settings; watch = watch; asked = asked_in values } ≡ options = cc in
+        sym (ap (λ (o : Options). o.asked) same)
+    go false is = absurd (cc)
+
+gate_apart : (watchers files : List (List ℕ)) (values : Values) (job : JobWords) → gate_job watchers files values ≡ Some job → AreApart job.options.asked (file_of job.files)
+gate_apart watchers [] values job is = absurd (cc)
+gate_apart watchers (a ∷ []) values job is = absurd (cc)
+gate_apart watchers (a ∷ b ∷ []) values job is = absurd (cc)
+gate_apart watchers (a ∷ b ∷ c ∷ d ∷ files) values job is = absurd (cc)
+gate_apart watchers (library ∷ netlist ∷ out ∷ []) values job is = go (are_different (library ∷ netlist ∷ out ∷ option_files values)) refl is
+  where
+    go : (different : Bool) → are_different (library ∷ netlist ∷ out ∷ option_files values) ≡ different → (if different then job_of_options Gate (gate_files library netlist out values) (gate_options watchers values) else None) ≡ Some job → AreApart job.options.asked (file_of job.files)
+    go false different is = absurd (cc)
+    go true different is =
+        let made = made_of (λ (options : Options). record { mode = Gate; files = gate_files library netlist out values; options = options }) (gate_options watchers values) job is in
+        let asked = asked_so values (settings_in values) (watch_in watchers values.watch) made.0 made.1 in
+        let A : Asked → Type 0 = λ a. AreApart a (file_of (gate_files library netlist out values)) in
+        let J : JobWords → Type 0 = λ j. AreApart j.options.asked (file_of j.files) in
+        subst J made.2 (subst A (sym asked) (files_apart library netlist out values different))
+
+-- jobs of other modes
+mode_so : (mode : Mode) (files : Files) (options : Option Options) (job : JobWords) → job_of_options mode files options ≡ Some job → job.mode ≡ mode
+mode_so mode files options job is =
+    let made = made_of (λ (options : Options). record { mode = mode; files = files; options = options }) options job is in sym (ap (λ (j : JobWords). j.mode) made.2)
+
+mode_if : (taken : Bool) (mode : Mode) (files : Files) (options : Option Options) (job : JobWords) → (if taken then job_of_options mode files options else None) ≡ Some job → job.mode ≡ mode
+mode_if true mode files options job is = mode_so mode files options job is
+mode_if false mode files options job is = absurd (cc)
+
+sim_mode : (watchers files : List (List ℕ)) (values : Values) (job : JobWords) → sim_job watchers files values ≡ Some job → job.mode ≡ Sim
+sim_mode watchers [] values job is = absurd (cc)
+sim_mode watchers (a ∷ []) values job is = absurd (cc)
+sim_mode watchers (a ∷ b ∷ []) values job is = absurd (cc)
+sim_mode watchers (a ∷ b ∷ c ∷ d ∷ files) values job is = absurd (cc)
+sim_mode watchers (a ∷ b ∷ c ∷ []) values job is = mode_if (are_different (a ∷ b ∷ c ∷ [])) Sim _ _ job is
+
+lrat_mode : (files : List (List ℕ)) (values : Values) (job : JobWords) → lrat_job files values ≡ Some job → job.mode ≡ Lrat
+lrat_mode [] values job is = absurd (cc)
+lrat_mode (a ∷ []) values job is = absurd (cc)
+lrat_mode (a ∷ b ∷ c ∷ files) values job is = absurd (cc)
+lrat_mode (a ∷ b ∷ []) values job is = mode_if (are_different (a ∷ b ∷ [])) Lrat _ _ job is
+
+demo_mode : (files : List (List ℕ)) (values : Values) (job : JobWords) → demo_job files values ≡ Some job → job.mode ≡ Gate → ⊥
+demo_mode [] values job is gate = absurd (cc)
+demo_mode (a ∷ b ∷ files) values job is gate = absurd (cc)
+demo_mode (size ∷ []) values job is gate = go (number_in 1 4096 size) is
+  where
+    go : (size : Option ℕ) → option_and_then (λ size. job_of_options (Demo size) no_files (if has_options values then None else Some no_options)) size ≡ Some job → ⊥
+    go None is = cc
+    go (Some n) is = let demo : job.mode ≡ Demo n = mode_so (Demo n) no_files (if has_options values then None else Some no_options) job is in let both : Demo n ≡ Gate = sym demo ∙ gate in cc
+
+with_apart : (watchers files : List (List ℕ)) (values : Values) (word : List ℕ) (job : JobWords) → job_with watchers files values word ≡ Some job → job.mode ≡ Gate → AreApart job.options.asked (file_of job.files)
+with_apart watchers files values word job is gate = go (bytes_eq word (codes "gate")) (bytes_eq word (codes "sim")) (bytes_eq word (codes "lrat")) (bytes_eq word (codes "demo")) is
+  where
+    go : (a b c d : Bool) → (if a then gate_job watchers files values else if b then sim_job watchers files values else if c then lrat_job files values else if d then demo_job files values else None) ≡ Some job → AreApart job.options.asked (file_of job.files)
+    go true b c d is = gate_apart watchers files values job is
+    go false true c d is = let sim : Sim ≡ Gate = sym (sim_mode watchers files values job is) ∙ gate in absurd (cc)
+    go false false true d is = let lrat : Lrat ≡ Gate = sym (lrat_mode files values job is) ∙ gate in absurd (cc)
+    go false false false true is = absurd (demo_mode files values job is gate)
+    go false false false false is = absurd (cc)
+
+in_apart : (watchers : List (List ℕ)) (rows : List Row) (job : JobWords) → job_in watchers rows ≡ Some job → job.mode ≡ Gate → AreApart job.options.asked (file_of job.files)
+in_apart watchers rows job is gate = go (first_of (codes "MODE") rows) is
+  where
+    go : (word : Option (List ℕ)) → option_and_then (job_with watchers (unwrap_or (all_of (codes "FILES") rows) []) (values_in rows)) word ≡ Some job → AreApart job.options.asked (file_of job.files)
+    go None is = absurd (cc)
+    go (Some word) is = with_apart watchers (unwrap_or (all_of (codes "FILES") rows) []) (values_in rows) word job is gate
+
+without_apart : (kinds : Kinds) (found : Option JobWords) (job : JobWords) → job_without kinds found ≡ Some job → found ≡ Some job
+without_apart [] found job is = is
+without_apart (kind ∷ kinds) found job is = absurd (cc)
+
+pub job_apart : (watchers words : List (List ℕ)) (job : JobWords) → job_of watchers words ≡ Some job → job.mode ≡ Gate → AreApart job.options.asked (file_of job.files)
+job_apart watchers words job is gate = in_apart watchers (matches_of command_line words) job (without_apart (fault_of command_line words) (job_in watchers (matches_of command_line words)) job is) gate
+
+pub jobs_apart : (job : Option JobWords) → ((j : JobWords) → job ≡ Some j → j.mode ≡ Gate → AreApart j.options.asked (file_of j.files)) → IfSome job (λ j. j.mode ≡ Gate → AreApart j.options.asked (file_of j.files))
+jobs_apart None each = tt
+jobs_apart (Some job) each = each job refl

@@ -4,9 +4,10 @@ use Rattle.std.specs.Prelude.{IsOkAnd}
 use Rattle.cg_cell.specs.Cell.{CellData}
 use Rattle.cg_cell.specs.Name.{is_name}
 use Rattle.cg_blif_text.proofs.ToldIsTaken.{text_is_writable}
+use Rattle.cg_gated.specs.Gated.{refused_gater}
 use Rattle.cg_gating.specs.Request.{IsFree, MayGate}
 use Rattle.cg_machine.specs.Start.{begins, first_clash}
-use Rattle.cg_netlist.specs.Circuit.{Circuit, GatingCell}
+use Rattle.cg_netlist.specs.Circuit.{Circuit}
 use Rattle.cg_netlist.specs.Names.{is_known}
 use Rattle.cg_netlist.specs.said.Wiring.{NetName}
 use Rattle.cg_run.specs.Verdict.{Given, reached, unstopped}
@@ -18,7 +19,7 @@ use Rattle.cg_run.proofs.Steps.{found_ok, step_end, step_of}
 use Rattle.cg_stimulus.specs.Inputs.{IsFor, Rows}
 use Rattle.cg_words.specs.declared.options.Options.{Options}
 use Rattle.cg_tool.specs.Complaints.{library_found, netlist_read, netlist_trouble}
-use Rattle.cg_tool.specs.Gate.{gate_loads, gate_start, gate_takes, gateable, gateable_found, request_by, ungated, unprefixed, untested, wanted_by}
+use Rattle.cg_tool.specs.Gate.{gate_loads, gate_start, gate_takes, gateable, gateable_found, request_by, unlifted, unprefixed, untested, wanted_by}
 use Rattle.cg_tool.specs.NetlistSaid.{netlist_said}
 use Rattle.cg_tool.specs.inner.GateReads.{IsRead}
 use Rattle.cg_tool.specs.Refused.{then_found}
@@ -52,38 +53,39 @@ untested_ok prefix (Some test) c d is =
     let F : List ℕ → Type 0 = λ name. IsFree c prefix name in
     (free.0, λ name some. let same : test ≡ name = cc in subst F same free.1)
 
-ungated_ok : (c d : Circuit) (gaters : List (GatingCell ℕ)) → ungated c gaters ≡ Ok d → (c ≡ d) × (gaters ≡ [])
-ungated_ok c d [] is = (cc, refl)
-ungated_ok c d (gater ∷ gaters) is = absurd (cc)
+unlifted_ok : (c d : Circuit) (refused : Option ℕ) → unlifted c refused ≡ Ok d → (c ≡ d) × (refused ≡ None)
+unlifted_ok c d None is = (cc, refl)
+unlifted_ok c d (Some gater) is = absurd (cc)
 
 -- a netlist that may be gated so
-pub record IsGateable (wanted : Wanted) (c : Circuit) : Type 0 where
+pub record IsGateable (library : List CellData) (wanted : Wanted) (c : Circuit) : Type 0 where
   pub new : first_clash wanted.prefix c.names ≡ None
   pub free : (name : List ℕ) → wanted.test ≡ Some name → IsFree c wanted.prefix name
-  pub no_gaters : c.gaters ≡ []
+  pub lifts : refused_gater library wanted.test c ≡ None
 
-gateable_ok : (wanted : Wanted) (c d : Circuit) → gateable wanted c ≡ Ok d → (c ≡ d) × IsGateable wanted c
-gateable_ok wanted c d is =
-    let one = then_ok (unprefixed c (first_clash wanted.prefix c.names)) (λ c. then_found (untested wanted.prefix wanted.test c) (λ c. ungated c c.gaters)) d is in
+gateable_ok : (library : List CellData) (wanted : Wanted) (c d : Circuit) → gateable library wanted c ≡ Ok d → (c ≡ d) × IsGateable library wanted c
+gateable_ok library wanted c d is =
+    let last = λ (c : Circuit). unlifted c (refused_gater library wanted.test c) in
+    let one = then_ok (unprefixed c (first_clash wanted.prefix c.names)) (λ c. then_found (untested wanted.prefix wanted.test c) last) d is in
     let first = unprefixed_ok c one.0 (first_clash wanted.prefix c.names) one.1 in
-    let two = then_ok (untested wanted.prefix wanted.test one.0) (λ c. ungated c c.gaters) d one.2 in
+    let two = then_ok (untested wanted.prefix wanted.test one.0) last d one.2 in
     let second = untested_ok wanted.prefix wanted.test one.0 two.0 two.1 in
-    let third = ungated_ok two.0 d (two.0).gaters two.2 in
+    let third = unlifted_ok two.0 d (refused_gater library wanted.test two.0) two.2 in
     let F : Circuit → Type 0 = λ c. (name : List ℕ) → wanted.test ≡ Some name → IsFree c wanted.prefix name in
-    let G : Circuit → Type 0 = λ c. c.gaters ≡ [] in
+    let G : Circuit → Type 0 = λ c. refused_gater library wanted.test c ≡ None in
     let back : two.0 ≡ c = sym (first.1 ∙ second.0) in
-    (first.1 ∙ second.0 ∙ third.0, record { new = first.0; free = subst F (sym first.1) second.1; no_gaters = subst G back third.1 })
+    (first.1 ∙ second.0 ∙ third.0, record { new = first.0; free = subst F (sym first.1) second.1; lifts = subst G back third.1 })
 
 -- a netlist that was found so
 pub record FoundSo (library : List CellData) (clock : Option NetName) (wanted : Wanted) (text : List ℕ) (c : Circuit) : Type 0 where
   pub said : netlist_said library clock text ≡ Ok c
-  pub gateable : IsGateable wanted c
+  pub gateable : IsGateable library wanted c
 
 pub found_so : (library : List CellData) (clock : Option NetName) (wanted : Wanted) (text : List ℕ) (c : Circuit) → gateable_found library clock wanted text ≡ Ok c → FoundSo library clock wanted text c
 found_so library clock wanted text c is =
-    let one = then_ok (netlist_read library clock text) (gateable wanted) c is in
-    let ok = gateable_ok wanted one.0 c one.2 in
-    let G : Circuit → Type 0 = λ d. IsGateable wanted d in
+    let one = then_ok (netlist_read library clock text) (gateable library wanted) c is in
+    let ok = gateable_ok library wanted one.0 c one.2 in
+    let G : Circuit → Type 0 = λ d. IsGateable library wanted d in
     record { said = refused_ok netlist_trouble (netlist_said library clock text) c (one.1 ∙ ap Ok ok.0); gateable = subst G ok.0 ok.1 }
 
 pub may_gate : (library : List CellData) (clock : Option NetName) (wanted : Wanted) (text : List ℕ) (c : Circuit) (stimulus : Option Rows) → IsTrue (is_name wanted.prefix) → wanted.settings.test ≡ is_some wanted.test
@@ -92,7 +94,8 @@ may_gate library clock wanted text c stimulus named tested found played =
     let proper = netlist_proper library clock text c found.said in
     let writable = text_is_writable library proper.cells clock text c proper.named (netlist_says library clock text c found.said) in
     record {
-      start = record { netlist = writable.netlist; outputs_once = writable.outputs_once; no_gaters = (found.gateable).no_gaters; named = named; new = (found.gateable).new };
+      start = record { netlist = writable.netlist; outputs_once = writable.outputs_once; named = named; new = (found.gateable).new };
+      lifts = (found.gateable).lifts;
       writable = writable;
       tested = tested;
       free = (found.gateable).free;

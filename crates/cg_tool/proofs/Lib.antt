@@ -1,6 +1,7 @@
 pub mod LratMeans
 pub mod NetlistRead
 pub mod Names
+pub mod Refusing
 pub mod GateReads
 pub mod Standing
 pub mod GateMeans

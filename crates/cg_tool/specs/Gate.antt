@@ -1,7 +1,8 @@
 -- What `gate` makes of a library, a netlist and it may be a stimulus.
-use Rattle.std.specs.Prelude.{◌≡◌, ℕ, ◌||◌, Bool, if◌then◌else◌, List, [], ◌∷◌, ◌++◌, codes, Option, None, Some, is_some, Result, Ok, Err, IsOkAnd, IsSomeAnd}
+use Rattle.std.specs.Prelude.{◌≡◌, ℕ, ◌||◌, Bool, if◌then◌else◌, List, [], ◌∷◌, ◌++◌, codes, slice_get, Option, None, Some, is_some, Result, Ok, Err, IsOkAnd, IsSomeAnd}
 use Rattle.std.specs.Option.{option_and_then, option_map}
 use Rattle.cg_cell.specs.Cell.{CellData}
+use Rattle.cg_gated.specs.Gated.{refused_gater}
 use Rattle.cg_gating.specs.Gating.{GivesGated}
 use Rattle.cg_gating.specs.Headline.{Headline}
 use Rattle.cg_gating.specs.Request.{MayGate, RequestData, stops_at}
@@ -44,17 +45,22 @@ abbrev pub untested : List ℕ → Option NetName → Circuit → Result Circuit
 untested prefix None c = Ok c
 untested prefix (Some test) c = if is_known c.names test || begins prefix test then Err (netlist_refused (codes "netlist: test taken " ++ test)) else Ok c
 
--- so is one in which gating cells stand already, for the first of them
-abbrev pub ungated : Circuit → List (GatingCell ℕ) → Result Circuit Trouble
-ungated c [] = Ok c
-ungated c (gater ∷ gaters) = Err (netlist_refused (codes "netlist: gating cell " ++ net_name c.names gater.output))
+-- so is one with a gating cell that is not lifted, for the first of them
+abbrev pub output_name : Circuit → Option (GatingCell ℕ) → NetName
+output_name c None = []
+output_name c (Some gater) = net_name c.names gater.output
+
+abbrev pub unlifted : Circuit → Option ℕ → Result Circuit Trouble
+unlifted c None = Ok c
+unlifted c (Some gater) = Err (netlist_refused (codes "netlist: gating cell " ++ output_name c (slice_get c.gaters gater)))
 
 -- a netlist that may be gated so
-abbrev pub gateable : Wanted → Circuit → Result Circuit Trouble
-gateable wanted c = then_found (unprefixed c (first_clash wanted.prefix c.names)) (λ c. then_found (untested wanted.prefix wanted.test c) (λ c. ungated c c.gaters))
+abbrev pub gateable : List CellData → Wanted → Circuit → Result Circuit Trouble
+gateable library wanted c =
+    then_found (unprefixed c (first_clash wanted.prefix c.names)) (λ c. then_found (untested wanted.prefix wanted.test c) (λ c. unlifted c (refused_gater library wanted.test c)))
 
 abbrev pub gateable_found : List CellData → Option NetName → Wanted → List ℕ → Result Circuit Trouble
-gateable_found library clock wanted text = then_found (netlist_read library clock text) (gateable wanted)
+gateable_found library clock wanted text = then_found (netlist_read library clock text) (gateable library wanted)
 
 -- the stimulus, where one is asked for
 abbrev pub stimulus_asked : Bool → Circuit → List ℕ → Result (Option Rows) Trouble

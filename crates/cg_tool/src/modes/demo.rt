@@ -152,20 +152,20 @@ fn gate_pipeline(
         stimulus,
     } = pipeline;
     let _ = wanted.prefix.bytes();
-    gate_with(alloc, size, &library, netlist, &stimulus, wanted)
+    gate_with(alloc, size, &library, &netlist, &stimulus, wanted)
 }
 
 fn gate_with(
     alloc: Global,
     size: u32,
     library: &Library,
-    netlist: Netlist,
+    netlist: &Netlist,
     stimulus: &Stimulus,
     wanted: &Wanted,
 ) -> Result<Output, Trouble>
-    requires { MayGate (request_by library.now wanted.now (Some stimulus.now)) netlist }
-    ensures { Concludes (option_map Trouble.Limit (stops_at (request_by library.now wanted.now (Some stimulus.now)) netlist))
-        (PutsDemo size (request_by library.now wanted.now (Some stimulus.now)) netlist) result }
+    requires { MayGate (request_by library.now wanted.now (Some stimulus.now)) netlist.now }
+    ensures { Concludes (option_map Trouble.Limit (stops_at (request_by library.now wanted.now (Some stimulus.now)) netlist.now))
+        (PutsDemo size (request_by library.now wanted.now (Some stimulus.now)) netlist.now) result }
 {
     let request = wanted.request(library, Some(stimulus));
     gate_by(alloc, size, netlist, &request, stimulus)
@@ -174,13 +174,13 @@ fn gate_with(
 fn gate_by(
     alloc: Global,
     size: u32,
-    netlist: Netlist,
+    netlist: &Netlist,
     request: &Request<'_>,
     stimulus: &Stimulus,
 ) -> Result<Output, Trouble>
-    requires may { MayGate request.now netlist }
+    requires may { MayGate request.now netlist.now }
     requires played { request.now.stimulus ≡ Some stimulus.now }
-    ensures { Concludes (option_map Trouble.Limit (stops_at request.now netlist)) (PutsDemo size request.now netlist) result }
+    ensures { Concludes (option_map Trouble.Limit (stops_at request.now netlist.now)) (PutsDemo size request.now netlist.now) result }
 {
     match gate_demo(alloc, size, netlist, request, stimulus) {
         Ok(said) => Ok(Output {

@@ -159,7 +159,7 @@ fn finish(alloc: Global, found: Gate, watcher: Option<Box<dyn Watcher>>) -> Resu
     } = found;
     match netlist {
         None => Err(Trouble::NoMemory),
-        Some(netlist) => gate_on(alloc, &library, netlist, &wanted, &stimulus, watcher),
+        Some(netlist) => gate_on(alloc, &library, &netlist, &wanted, &stimulus, watcher),
     }
 }
 
@@ -167,19 +167,19 @@ fn finish(alloc: Global, found: Gate, watcher: Option<Box<dyn Watcher>>) -> Resu
 fn gate_on(
     alloc: Global,
     library: &Library,
-    netlist: Netlist,
+    netlist: &Netlist,
     wanted: &Wanted,
     text: &Seq<u8>,
     watcher: Option<Box<dyn Watcher>>,
 ) -> Result<Output, Trouble>
-    requires { MayBeGated library.now wanted.now netlist }
-    ensures { Concludes (stops_with library.now wanted.now netlist (stimulus_asked wanted.now.asked.stimulus netlist text.now))
-        (λ output. IsOkAnd (stimulus_asked wanted.now.asked.stimulus netlist text.now) (λ stimulus. GatesAs (option_map (λ watcher. says watcher) watcher) (request_by library.now wanted.now stimulus) netlist output)) result }
+    requires { MayBeGated library.now wanted.now netlist.now }
+    ensures { Concludes (stops_with library.now wanted.now netlist.now (stimulus_asked wanted.now.asked.stimulus netlist.now text.now))
+        (λ output. IsOkAnd (stimulus_asked wanted.now.asked.stimulus netlist.now text.now) (λ stimulus. GatesAs (option_map (λ watcher. says watcher) watcher) (request_by library.now wanted.now stimulus) netlist.now output)) result }
 {
     if !wanted.asked.stimulus {
         return gate_with(alloc, library, netlist, wanted, None, watcher);
     }
-    let stimulus = take_stimulus(alloc, text, &netlist)?;
+    let stimulus = take_stimulus(alloc, text, netlist)?;
     gate_with(alloc, library, netlist, wanted, Some(&stimulus), watcher)
 }
 
@@ -187,14 +187,14 @@ fn gate_on(
 fn gate_with(
     alloc: Global,
     library: &Library,
-    netlist: Netlist,
+    netlist: &Netlist,
     wanted: &Wanted,
     stimulus: Option<&Stimulus>,
     watcher: Option<Box<dyn Watcher>>,
 ) -> Result<Output, Trouble>
-    requires { MayGate (request_by library.now wanted.now (option_copied stimulus)) netlist }
-    ensures { Concludes (option_map Trouble.Limit (stops_at (request_by library.now wanted.now (option_copied stimulus.entry)) netlist))
-        (GatesAs (option_map (λ watcher. says watcher) watcher) (request_by library.now wanted.now (option_copied stimulus.entry)) netlist) result }
+    requires { MayGate (request_by library.now wanted.now (option_copied stimulus)) netlist.now }
+    ensures { Concludes (option_map Trouble.Limit (stops_at (request_by library.now wanted.now (option_copied stimulus.entry)) netlist.now))
+        (GatesAs (option_map (λ watcher. says watcher) watcher) (request_by library.now wanted.now (option_copied stimulus.entry)) netlist.now) result }
 {
     let request = wanted.request(library, stimulus);
     gate_by(alloc, netlist, &request, watcher)
@@ -203,12 +203,12 @@ fn gate_with(
 /// What is put out of a netlist, by what gating is asked for.
 fn gate_by(
     alloc: Global,
-    netlist: Netlist,
+    netlist: &Netlist,
     request: &Request<'_>,
     watcher: Option<Box<dyn Watcher>>,
 ) -> Result<Output, Trouble>
-    requires { MayGate request.now netlist }
-    ensures { Concludes (option_map Trouble.Limit (stops_at request.now netlist)) (GatesAs (option_map (λ watcher. says watcher) watcher) request.now netlist) result }
+    requires { MayGate request.now netlist.now }
+    ensures { Concludes (option_map Trouble.Limit (stops_at request.now netlist.now)) (GatesAs (option_map (λ watcher. says watcher) watcher) request.now netlist.now) result }
 {
     match gated(alloc, netlist, request, watcher) {
         Ok(texts) => Ok(put_texts(alloc, texts)?),
@@ -220,15 +220,15 @@ fn gate_by(
 /// The texts of the gated netlist.
 fn gated(
     alloc: Global,
-    netlist: Netlist,
+    netlist: &Netlist,
     request: &Request<'_>,
     watcher: Option<Box<dyn Watcher>>,
 ) -> Result<Texts, AddFault>
-    requires { MayGate request.now netlist }
-    ensures gives { IfOk result (λ texts. GivesGated request.now (option_map (λ watcher. says watcher) watcher) netlist texts) }
-    ensures headline { IfOk result (λ texts. Headline request.now (option_map (λ watcher. says watcher) watcher) netlist texts) }
-    ensures unstopped { OnOk result (stops_at request.now netlist ≡ None) }
-    ensures fault { IfErr result (PlanMayFail (stops_at request.now netlist)) }
+    requires { MayGate request.now netlist.now }
+    ensures gives { IfOk result (λ texts. GivesGated request.now (option_map (λ watcher. says watcher) watcher) netlist.now texts) }
+    ensures headline { IfOk result (λ texts. Headline request.now (option_map (λ watcher. says watcher) watcher) netlist.now texts) }
+    ensures unstopped { OnOk result (stops_at request.now netlist.now ≡ None) }
+    ensures fault { IfErr result (PlanMayFail (stops_at request.now netlist.now)) }
 {
     match watcher {
         None => gate(alloc, netlist, request),

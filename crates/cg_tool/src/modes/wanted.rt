@@ -1,16 +1,19 @@
 //! How a netlist is to be gated.
 
-ghost use Rattle.std.specs.Prelude.{◌≡◌, ◌||◌, Some, is_some};
+ghost use Rattle.std.specs.Prelude.{◌≡◌, ◌<◌, ◌||◌, ℕ, Some, is_some, length};
 ghost use Rattle.std.specs.Option.{option_copied};
+ghost use Rattle.cg_gated.specs.Gated.{first_gater, has_and, refused_gater};
 ghost use Rattle.cg_run.specs.Verdict.{Answers};
 ghost use Rattle.cg_machine.specs.Start.{begins, first_clash};
 ghost use Rattle.cg_netlist.specs.Names.{is_known};
-ghost use Rattle.cg_tool.specs.Gate.{gateable, gateable_found, request_by, ungated, unprefixed, untested};
+ghost use Rattle.cg_tool.specs.Gate.{gateable, gateable_found, request_by, unlifted, unprefixed, untested};
 
 use crate::modes::complaints::{take_netlist, with_name};
 use cg_blif::BlifOptions;
+use cg_cell::fit::FitKind;
 use cg_cell::library::Library;
 use cg_cell::name::Name;
+use cg_extract::refused::first_refused;
 use cg_gating::request::Request;
 use cg_list::Seq;
 use cg_machine::prefix::prefix_clash;
@@ -86,16 +89,22 @@ pub fn take_gateable(
     ensures { Answers (gateable_found library.now options.now.clock wanted.now text.now) result }
 {
     let netlist = take_netlist(alloc, text, library, options)?;
-    gateable(alloc, netlist, wanted)
+    gateable(alloc, netlist, library, wanted)
 }
 
 /// The netlist, where it may be gated so.
-pub fn gateable(alloc: Global, netlist: Netlist, wanted: &Wanted) -> Result<Netlist, Trouble>
-    ensures { Answers (gateable wanted.now netlist) result }
+pub fn gateable(
+    alloc: Global,
+    netlist: Netlist,
+    library: &Library,
+    wanted: &Wanted,
+) -> Result<Netlist, Trouble>
+    ensures { Answers (gateable library.now wanted.now netlist) result }
 {
     let netlist = unprefixed(alloc, netlist, &wanted.prefix)?;
     let netlist = untested(alloc, netlist, wanted)?;
-    ungated(alloc, netlist)
+    let refused = refused_gater(&netlist, library, wanted.test.as_ref());
+    unlifted(alloc, netlist, refused)
 }
 
 /// The netlist, unless a net's name begins with the prefix.
@@ -149,14 +158,52 @@ fn is_known(netlist: &Netlist, name: &Name) -> bool
     }
 }
 
-/// The netlist, unless gating cells stand in it already.
-fn ungated(alloc: Global, netlist: Netlist) -> Result<Netlist, Trouble>
-    ensures { Answers (ungated netlist netlist.gaters) result }
+/// The first gating cell with which a netlist is not gated: with a test input the first of all; without one the first that is not
+/// lifted with the cells of the library.
+fn refused_gater(
+    netlist: &Netlist,
+    library: &Library,
+    test: Option<&Name>,
+) -> Option<GateClockId>
+    ensures { result ≡ refused_gater library.now (option_copied test) netlist.now }
+{
+    match test {
+        None => first_refused(netlist, has_and(library)),
+        Some(_) => first_gater(netlist),
+    }
+}
+
+/// Whether a library has a cell for the and of two nets.
+fn has_and(library: &Library) -> bool
+    ensures { result ≡ has_and library.now }
+{
+    library.fit(FitKind::And2).is_some()
+}
+
+/// The first gating cell, if there is one.
+fn first_gater(netlist: &Netlist) -> Option<GateClockId>
+    ensures { result ≡ first_gater netlist.now.gaters }
 {
     if netlist.gaters() == 0 {
-        return Ok(netlist);
+        return None;
     }
-    let output = netlist.gater(GateClockId::new(0)).output;
+    Some(GateClockId::new(0))
+}
+
+/// The netlist, unless this gating cell is refused.
+fn unlifted(
+    alloc: Global,
+    netlist: Netlist,
+    refused: Option<GateClockId>,
+) -> Result<Netlist, Trouble>
+    requires { (gater : ℕ) → refused ≡ Some gater → gater < length netlist.gaters }
+    ensures { Answers (unlifted netlist refused) result }
+{
+    let _gaters = netlist.gaters();
+    let Some(gater) = refused else {
+        return Ok(netlist);
+    };
+    let output = netlist.gater(gater).output;
     Err(with_name(
         alloc,
         Owner::Netlist,

@@ -10,5 +10,5 @@ pub gate_with-requires-2 : goal.gate_with-requires-2
 gate_with-requires-2 g c =
     c.requires (Some c.in_ok-stimulus.stimulus) (λ rows is.
     let same : c.in_ok-stimulus.stimulus ≡ rows = cc in
-    let F : Rows → Type 0 = λ s. IsFor c.args.netlist s in
-    subst F same (found_is_for c.args.netlist c.args.text.now c.in_ok-stimulus.stimulus c.in_ok-stimulus.ensures))
+    let F : Rows → Type 0 = λ s. IsFor c.args.netlist.now s in
+    subst F same (found_is_for c.args.netlist.now c.args.text.now c.in_ok-stimulus.stimulus c.in_ok-stimulus.ensures))

@@ -8,10 +8,10 @@ use Rattle.cg_tool.specs.Watching.{Kind}
 use Rattle.cg_tool.proofs.modes.gate.gate_with.Goals as goal
 
 pub gate_by-requires : goal.gate_by-requires
-gate_by-requires g c = let M : RequestData → Type 0 = λ q. MayGate q c.args.netlist in subst M (sym c.request-request.ensures) c.requires
+gate_by-requires g c = let M : RequestData → Type 0 = λ q. MayGate q c.args.netlist.now in subst M (sym c.request-request.ensures) c.requires
 
 pub returns : goal.returns
 returns g c =
     let kind : Option Kind = option_map (λ w. (goal.Watcher-dyn g (w.vtable, w.value)).says w.value) c.args.watcher in
-    let P : RequestData → Type 0 = λ q. Concludes (option_map troubles.Limit (stops_at q c.args.netlist)) (GatesAs kind q c.args.netlist) c.gate_by.result in
+    let P : RequestData → Type 0 = λ q. Concludes (option_map troubles.Limit (stops_at q c.args.netlist.now)) (GatesAs kind q c.args.netlist.now) c.gate_by.result in
     subst P c.request-request.ensures c.gate_by.ensures

@@ -1,6 +1,0 @@
-use Rattle.cg_netlist.specs.View.{gater_seen}
-use Rattle.cg_blif_out.proofs.WithinNetlist.{gater_nets}
-use Rattle.cg_tool.proofs.modes.wanted.ungated.Goals as goal
-
-pub name-requires : goal.name-requires
-name-requires c = (gater_nets c.args.netlist c.gaters.ensures.netlist c.new.result (gater_seen c.gater-output.result) c.gater-output.ensures).output

@@ -8,7 +8,7 @@ use Rattle.cg_netlist.specs.declared.fault.AddFault.TheVariants.{NoMemory}
 use Rattle.cg_plan.specs.Told.{PlanMayFail, ToldPlan}
 use Rattle.cg_plan_text.specs.declared.summary.Played.{Played}
 use Rattle.cg_stimulus.specs.Inputs.{IsFor, Rows}
-use Rattle.cg_gating.specs.Gating.{AreTexts, GivesGated, IsGated}
+use Rattle.cg_gating.specs.Gating.{AreTexts, GivesGated, IsWritten}
 use Rattle.cg_gating.specs.Headline.{Headline}
 use Rattle.cg_gating.specs.Laws.{IsProper}
 use Rattle.cg_gating.specs.Played.{IsWhatPlayed, Saying}
@@ -36,7 +36,7 @@ are_for request read own written same may after = record {
   after = after;
 }
 
-module _ (request : RequestData) (says : Option Saying) (read own written : Circuit) (told : ToldPlan) (played : Played) (same : own ≡ read) (gated : IsGated (gating_of request read) read told written)
+module _ (request : RequestData) (says : Option Saying) (read own written : Circuit) (told : ToldPlan) (played : Played) (same : own ≡ read) (gated : IsWritten (gating_of request read) read told written)
     (what : IsWhatPlayed says request.stimulus own written played) where
   pub gives_all : (texts : Texts) → AreTexts request told written played texts → GivesGated request says read texts
   gives_all texts are = record { told = told; written = written; played = played; gated = gated; what = subst (λ c. IsWhatPlayed says request.stimulus c written played) same what; gives = are }

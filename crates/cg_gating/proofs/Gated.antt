@@ -17,7 +17,7 @@ use Rattle.cg_netlist.specs.declared.fault.AddFault.TheVariants.{Limit as LimitF
 use Rattle.cg_plan.specs.Told.{IsPlan, PlanMayFail, ToldPlan}
 use Rattle.cg_stimulus.specs.Inputs.{IsFor, Rows, input_names}
 use Rattle.cg_planner.specs.Planning.{AreWritable}
-use Rattle.cg_gating.specs.Gating.{IsGated}
+use Rattle.cg_gating.specs.Gating.{IsWritten}
 use Rattle.cg_gating.specs.Laws.{IsProper}
 use Rattle.cg_gating.specs.Request.{MayGate, RequestData, gating_of, stops_at}
 use Rattle.cg_gating.proofs.MayInsert.{may_gate}
@@ -46,7 +46,7 @@ module _ (request : RequestData) (read : Circuit) (proper : IsProper request) (m
   pub own_is : own_netlist told.machine ≡ read
   own_is = ap own_netlist plan.machine ∙ keeps_netlist by read
 
-  pub gives_gated : AreWritable told.certificates → (written : Circuit) → insertion request.library request.test told.machine ≡ Ok written → IsGated (gating_of request read) read told written
+  pub gives_gated : AreWritable told.certificates → (written : Circuit) → insertion request.library request.test told.machine ≡ Ok written → IsWritten (gating_of request read) read told written
   gives_gated can_write written is =
       let un = unpassed (insertion_limit request.test told.machine) (inserted request.library request.test told.machine) written is in
       record { plan = plan; writable = can_write; fits = un.0; is = un.1 }
@@ -67,5 +67,5 @@ module _ (request : RequestData) (read : Circuit) (proper : IsProper request) (m
       limits : insertion_limit request.test told.machine ≡ stops_at request read
       limits = ap (insertion_limit request.test) plan.machine ∙ ap (λ l. option_or l (insertion_limit request.test (planned by read))) (sym plan.whole)
 
-  pub unstopped : (written : Circuit) → IsGated (gating_of request read) read told written → stops_at request read ≡ None
+  pub unstopped : (written : Circuit) → IsWritten (gating_of request read) read told written → stops_at request read ≡ None
   unstopped written is = ap (λ l. option_or l (insertion_limit request.test (planned by read))) plan.whole ∙ (ap (insertion_limit request.test) (sym plan.machine) ∙ is.fits)

@@ -6,7 +6,7 @@
 //!
 //! The modules:
 //!
-//! - `refused`: gating cells that are not lifted.
+//! - [`refused`]: gating cells that are not lifted.
 //! - `number`: the numbers that nets get, and those that they had.
 //! - `strip`: the netlist without its gating cells, told to a builder.
 //! - `lift`: gating cells, taken by depth into a machine.
@@ -18,5 +18,5 @@ pub mod extract;
 pub mod laws;
 mod lift;
 mod number;
-mod refused;
+pub mod refused;
 mod strip;

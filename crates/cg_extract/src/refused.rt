@@ -10,7 +10,7 @@ use cg_netlist::netlist::Netlist;
 
 /// The first gating cell that has a test pin, or whose clock pin is driven by a gating cell while there is no cell for the and of
 /// two nets.
-pub(crate) fn first_refused(netlist: &Netlist, and2: bool) -> Option<GateClockId>
+pub fn first_refused(netlist: &Netlist, and2: bool) -> Option<GateClockId>
     ensures { result ≡ first_refused netlist.now and2 }
 {
     for number in 0..netlist.gaters() {

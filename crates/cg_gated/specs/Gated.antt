@@ -1,10 +1,10 @@
 -- The gated netlist of a netlist: its machine, to whose enables its own gating cells are lifted, is planned, and written with a
 -- gating cell for each enable.
 use Rattle.std.specs.Prelude.{◌≡◌, ◌≢◌, IsTrue, ℕ, ◌+◌, Bool, List, [], ◌∷◌, ◌++◌, length, map, Option, None, Some, is_some}
-use Rattle.std.specs.List.{All, find}
+use Rattle.std.specs.List.{All}
 use Rattle.std.specs.Option.{option_to_list}
 use Rattle.cg_cell.specs.Cell.{CellData, IsCell}
-use Rattle.cg_cell.specs.Fit.{is_fit}
+use Rattle.cg_cell.specs.Library.{first_fit}
 use Rattle.cg_cell.specs.Name.{is_name}
 use Rattle.cg_cell.specs.declared.fit.FitKind.TheVariants.{And2}
 use Rattle.cg_netlist.specs.Circuit.{Circuit, GatingCell, data_inputs}
@@ -42,7 +42,7 @@ own_wave m wave = ticks_of (map (own_tick m) wave)
 
 -- whether a library has a cell for the and of two nets
 abbrev pub has_and : List CellData → Bool
-has_and library = is_some (find (is_fit And2) library)
+has_and library = is_some (first_fit And2 library)
 
 -- the first gating cell with which a netlist is not gated: where there is to be a test input the first of all; else the first
 -- that has a test pin, or stands behind another while the library has no cell for the and of two nets

@@ -42,7 +42,7 @@ starts_with_cells by c can = record {
     asks = lifted_asks c by.prefix can.start
 
     gates_there : (o : Option CellData) → find (is_fit And2) by.library ≡ o → All (λ (gate : AddedGate). HasCell by.library gate.kind) (lifted c by.prefix).gates
-    gates_there (Some cell) is = All-weaker (λ (gate : AddedGate). gate.kind ≡ And2) (λ (gate : AddedGate). HasCell by.library gate.kind) (λ gate and. subst (HasCell by.library) (sym and) (cell, is)) (lifted c by.prefix).gates asks.gates
+    gates_there (Some cell) is = All-weaker (λ (gate : AddedGate). gate.kind ≡ And2) (λ (gate : AddedGate). HasCell by.library gate.kind) (λ gate is_and. subst (HasCell by.library) (sym is_and) (cell, is)) (lifted c by.prefix).gates asks.gates
     gates_there None is = subst (All (λ (gate : AddedGate). HasCell by.library gate.kind)) (sym (asks.none (unchained by c can is))) (All-nil (λ (gate : AddedGate). HasCell by.library gate.kind))
 
 pub can_insert : PlannedCanInsert

@@ -1,16 +1,14 @@
 -- What the code makes of a netlist: the plan's machine may be written, and what comes of it is what gating gives.
 use Rattle.std.proofs.Common.{◌≡◌, ◌++◌, Option, None, Some, Ok, Err, refl, sym, ◌∙◌, ap, subst, append_assoc, inl, inr}
 use Rattle.std.specs.Option.{option_or, option_to_list}
+use Rattle.cg_extract.specs.Lifted.{lifted}
 use Rattle.cg_gated.specs.Gated.{CanGate, Gating, gated_by, planned}
 use Rattle.cg_gated.proofs.Behaving.{gated_behaves}
-use Rattle.cg_gated.proofs.NetlistKept.{keeps_netlist}
 use Rattle.cg_gated.proofs.Planned.{can_insert}
 use Rattle.cg_insert.specs.Insert.{CanInsert, inserted, insertion_limit}
 use Rattle.cg_insert.specs.Inserting.{insertion, unless_passed}
 use Rattle.cg_limit.specs.Answers.{OrNoMemory}
 use Rattle.cg_limit.specs.declared.Limit.{Limit}
-use Rattle.cg_machine.specs.Added.{own_netlist}
-use Rattle.cg_machine.specs.Start.{machine_of}
 use Rattle.cg_netlist.specs.Circuit.{Circuit}
 use Rattle.cg_netlist.specs.declared.fault.AddFault.{AddFault}
 use Rattle.cg_netlist.specs.declared.fault.AddFault.TheVariants.{Limit as LimitFault, NoMemory}
@@ -33,7 +31,7 @@ passed (Some limit) c NoMemory is = tt
 passed (Some limit) c (LimitFault which) is = let same : limit ≡ which = cc in ap Some same
 
 module _ (request : RequestData) (read : Circuit) (proper : IsProper request) (may : MayGate request read) (told : ToldPlan)
-    (plan : IsPlan request.library request.settings (gating_of request read).idle (machine_of read request.prefix) told) where
+    (plan : IsPlan request.library request.settings (gating_of request read).idle (lifted read request.prefix) told) where
   abbrev by : Gating
   by = gating_of request read
 
@@ -42,9 +40,6 @@ module _ (request : RequestData) (read : Circuit) (proper : IsProper request) (m
 
   pub may_insert : CanInsert request.library request.test told.machine
   may_insert = subst (CanInsert request.library request.test) (sym plan.machine) (can_insert by read can).1
-
-  pub own_is : own_netlist told.machine ≡ read
-  own_is = ap own_netlist plan.machine ∙ keeps_netlist by read
 
   pub gives_gated : AreWritable told.certificates → (written : Circuit) → insertion request.library request.test told.machine ≡ Ok written → IsWritten (gating_of request read) read told written
   gives_gated can_write written is =

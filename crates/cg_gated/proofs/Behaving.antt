@@ -16,18 +16,22 @@ use Rattle.cg_netlist.specs.Circuit.{Circuit, data_inputs, is_in, net_order, use
 use Rattle.cg_netlist.specs.History.{AreTicks, IsWaveform, Tick}
 use Rattle.cg_netlist.specs.Ordered.{place_in}
 use Rattle.cg_netlist.specs.WellFormed.{IsWellFormed}
-use Rattle.cg_netlist.specs.said.Wiring.{map_register, net_name}
+use Rattle.cg_netlist.specs.said.Wiring.{NetName, Wiring, map_register, net_name}
 use Rattle.cg_netlist.proofs.Given.{data_given, driver_within, given_driver}
 use Rattle.cg_netlist.proofs.Histories.{has_history, has_one_history}
 use Rattle.cg_netlist.proofs.Members.{All-member}
 use Rattle.cg_netlist.proofs.OrderedForm.{data_is as data_ordered}
 use Rattle.cg_netlist.proofs.Values.{length-zip_with, map_same}
 use Rattle.cg_test_input.specs.TestRun.{ticks_of}
+use Rattle.cg_extract.specs.Laws.{KeepsNames}
+use Rattle.cg_extract.specs.Lifted.{bare}
 use Rattle.cg_gated.specs.Gated.{CanGate, Gating, gated_by, own_wave, planned}
 use Rattle.cg_gated.specs.Laws.{GatedBehaves}
+use Rattle.cg_gated.proofs.ForGating.{bare_is_netlist}
+use Rattle.cg_gated.proofs.LiftedShows.{kept_names}
 use Rattle.cg_gated.proofs.NetlistKept.{keeps_netlist}
 use Rattle.cg_gated.proofs.Planned.{can_insert, is_formed}
-use Rattle.cg_gated.proofs.SameOutputs.{back, counts, machine_ticks, own_low, own_ticks, shows_same, whole}
+use Rattle.cg_gated.proofs.SameOutputs.{back, counts, inputs_count, machine_ticks, own_count, own_inputs, own_low, own_ticks, shows_same}
 
 get_front : {X : Type 0} (xs ys : List X) (k : ℕ) → k < length xs → slice_get (xs ++ ys) k ≡ slice_get xs k
 get_front [] ys k below = absurd (omega arith)
@@ -54,8 +58,15 @@ module _ (by : Gating) (c : Circuit) (can : CanGate by c) where
   pub formed : IsWellFormed g
   formed = gated_formed by.library by.test n is_machine may
 
-  original_formed : IsWellFormed c
-  original_formed = can.start.netlist.well_formed
+  -- the netlist without its gating cells, with which the machine begins
+  abbrev o : Circuit
+  o = bare c
+
+  same_names : KeepsNames c
+  same_names = kept_names c by.prefix can.start
+
+  own_formed : IsWellFormed (bare c)
+  own_formed = (bare_is_netlist c can.start.netlist).0.well_formed
 
   -- the names of the gated netlist: those of the machine, that of the test input, those of the outputs of the gating cells
   names_are : g.names ≡ (n.circuit.names ++ option_to_list by.test) ++ gate_names n
@@ -65,19 +76,19 @@ module _ (by : Gating) (c : Circuit) (can : CanGate by c) where
   pub longer : length n.circuit.names ≤ length g.names
   longer = omega (arith, ap length names_are, length-append (n.circuit.names ++ option_to_list by.test) (gate_names n), length-append n.circuit.names (option_to_list by.test))
 
-  own_count : length c.names ≡ own_nets n
-  own_count = sym (ap (λ (d : Circuit). length d.names) (keeps_netlist by c)) ∙ length-take-le (own_nets n) n.circuit.names (omega arith)
+  net_count : length (bare c).names ≡ own_nets n
+  net_count = sym (ap (λ (d : Circuit). length d.names) (keeps_netlist by c can.start)) ∙ length-take-le (own_nets n) n.circuit.names (omega arith)
 
-  -- the names of nets that the netlist has
-  pub kept_name : (x : ℕ) → x < length c.names → net_name g.names x ≡ net_name c.names x
+  -- the names of nets that it has
+  pub kept_name : (x : ℕ) → x < length (bare c).names → net_name g.names x ≡ net_name (bare c).names x
   kept_name x below =
-      let in_machine : x < length n.circuit.names = omega (arith, below, own_count) in
+      let in_machine : x < length n.circuit.names = omega (arith, below, net_count) in
       ap (λ o. unwrap_or o [])
       (ap (λ names. slice_get names x) names_are
       ∙ get_front (n.circuit.names ++ option_to_list by.test) (gate_names n) x (omega (arith, in_machine, length-append n.circuit.names (option_to_list by.test)))
       ∙ get_front n.circuit.names (option_to_list by.test) x in_machine
-      ∙ (sym (take_get n.circuit.names (own_nets n) x (omega (arith, below, own_count)))
-      ∙ ap (λ (d : Circuit). slice_get d.names x) (keeps_netlist by c)))
+      ∙ (sym (take_get n.circuit.names (own_nets n) x (omega (arith, below, net_count)))
+      ∙ ap (λ (d : Circuit). slice_get d.names x) (keeps_netlist by c can.start)))
 
   -- a net keeps its name in net order
   at_place : (nets : List ℕ) → ((x : ℕ) → is_in nets x ≡ true → x < length g.names) → map (net_name (gated_by by c).names) (map (place_in (net_order g)) nets) ≡ map (net_name g.names) nets
@@ -94,8 +105,8 @@ module _ (by : Gating) (c : Circuit) (can : CanGate by c) where
       get_front (n.circuit.names ++ name ∷ []) (gate_names n) (length n.circuit.names) (omega (arith, length-append n.circuit.names (name ∷ []))) ∙ get_behind n.circuit.names [] name in
       ap (λ (o : Option (List ℕ)). unwrap_or o [] ∷ []) at
 
-  data_within : (x : ℕ) → is_in (data_inputs c) x ≡ true → x < length c.names
-  data_within x among = driver_within c original_formed.driven x (given_driver c x (data_given c x among))
+  data_within : (x : ℕ) → is_in (data_inputs o) x ≡ true → x < length o.names
+  data_within x among = driver_within o own_formed.driven x (given_driver o x (data_given o x among))
 
   input_names_are : map (net_name (gated_by by c).names) (data_inputs (gated_by by c)) ≡ map (net_name c.names) (data_inputs c) ++ option_to_list by.test
   input_names_are =
@@ -105,8 +116,9 @@ module _ (by : Gating) (c : Circuit) (can : CanGate by c) where
       ∙ (map-append (net_name g.names) (data_inputs n.circuit) (option_to_list (test_net n by.test))
       ∙ (ap (λ later. map (net_name g.names) (data_inputs n.circuit) ++ later) (tested_name by.test)
       ∙ ap (λ first. first ++ option_to_list by.test)
-      (ap (map (net_name g.names)) (whole by c can).inputs
-      ∙ map_same (net_name g.names) (net_name c.names) (data_inputs c) (λ x among. kept_name x (data_within x among)))))))
+      (ap (map (net_name g.names)) (own_inputs by c can)
+      ∙ (map_same (net_name g.names) (net_name o.names) (data_inputs o) (λ x among. kept_name x (data_within x among))
+      ∙ same_names.inputs))))))
 
   outputs_within : (d : Circuit) → IsWellFormed d → (x : ℕ) → is_in d.outputs x ≡ true → x < length d.names
   outputs_within d good_d x among = All-member (λ net. net < length d.names) (used_nets d) x good_d.used (output_is_used d x among)
@@ -114,8 +126,9 @@ module _ (by : Gating) (c : Circuit) (can : CanGate by c) where
   output_names_are : map (net_name (gated_by by c).names) (gated_by by c).outputs ≡ map (net_name c.names) c.outputs
   output_names_are =
       at_place n.circuit.outputs (λ x among. let below : x < length n.circuit.names = outputs_within n.circuit is_machine.well_formed x among in omega (arith, below, longer))
-      ∙ (ap (map (net_name g.names)) (ap (λ (d : Circuit). d.outputs) (keeps_netlist by c))
-      ∙ map_same (net_name g.names) (net_name c.names) c.outputs (λ x among. kept_name x (outputs_within c original_formed x among)))
+      ∙ (ap (map (net_name g.names)) (ap (λ (d : Circuit). d.outputs) (keeps_netlist by c can.start))
+      ∙ (map_same (net_name g.names) (net_name o.names) o.outputs (λ x among. kept_name x (outputs_within o own_formed x among))
+      ∙ ap (λ (w : Wiring NetName). w.outputs) same_names.parts))
 
   count : length (gated_by by c).registers ≡ length c.registers + length (ones (planned by c))
   count =
@@ -124,14 +137,14 @@ module _ (by : Gating) (c : Circuit) (can : CanGate by c) where
         length-map g.registers (map_register (place_in (net_order g))),
         length-zip_with (reclocked by.test n) n.circuit.registers n.enables (sym is_machine.enables),
         length-replicate (length n.circuit.registers - n.own_registers) true,
-        (whole by c can).own,
+        own_count by c can,
         is_machine.own_registers,
       )
 
   lower_ticks : by.test ≡ None → (wave : List Tick) → AreTicks c wave → AreTicks (gated_by by c) wave
   lower_ticks none [] ticks = tt
   lower_ticks none (tick ∷ wave) ticks =
-      (omega (arith, ticks.0, counts by c can, ap length (whole by c can).inputs, ap (λ t. length (option_to_list (test_net n t))) none), lower_ticks none wave ticks.1)
+      (omega (arith, ticks.0, counts by c can, inputs_count by c can, ap (λ t. length (option_to_list (test_net n t))) none), lower_ticks none wave ticks.1)
 
   whole_wave : by.test ≡ None → (wave : List Tick) → IsWaveform c wave → IsWaveform (gated_by by c) wave × (own_wave n wave ≡ wave)
   whole_wave none wave waves =

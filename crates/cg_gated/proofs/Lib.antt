@@ -1,5 +1,8 @@
+pub mod ForGating
+pub mod OwnGaters
 pub mod Planned
-pub mod SameOutputs
+pub mod LiftedShows
 pub mod NetlistKept
+pub mod SameOutputs
 pub mod Behaving
 pub mod PartsKept

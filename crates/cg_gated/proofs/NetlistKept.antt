@@ -13,7 +13,6 @@ use Rattle.cg_lists.specs.Literals.{IdleData}
 use Rattle.cg_machine.specs.Added.{Added, HasNames, add_delay, add_gate, find_delay, find_gate, next_delay, next_gate, next_name, or_push, own_netlist, push_delay, push_gate}
 use Rattle.cg_machine.specs.Gates.{gate_cell}
 use Rattle.cg_machine.specs.Machine.{MachineData, added_name, additions}
-use Rattle.cg_machine.specs.Start.{machine_of}
 use Rattle.cg_machine.specs.declared.stage.Stage.{Stage}
 use Rattle.cg_machine.specs.declared.stage.StageKind.{StageKind}
 use Rattle.cg_machine.specs.declared.stage.StageKind.TheVariants.{Hold, Stable, Unseen}
@@ -24,6 +23,10 @@ use Rattle.cg_plan.specs.declared.settings.Settings.{Settings}
 use Rattle.cg_stage.specs.Effects.{delayed, effect, literal_net, net_by, with_own}
 use Rattle.cg_stage.specs.Joined.{join, join_all}
 use Rattle.cg_stage.specs.Stages.{enable_nets, first_literal}
+use Rattle.cg_extract.proofs.LiftedMachine.{lifted_is_machine}
+use Rattle.cg_extract.specs.Laws.{HasOwn}
+use Rattle.cg_extract.specs.Lifted.{CanExtract, lifted}
+use Rattle.cg_gated.proofs.ForGating.{lifted_own}
 use Rattle.cg_gated.specs.Gated.{Gating, planned}
 use Rattle.cg_gated.specs.Laws.{PlannedKeeps, PlannedNames}
 
@@ -175,25 +178,18 @@ module _ (library : List CellData) (settings : Settings) where
       let three : Keeps stable.machine (unless_stopped stable.limit stable last).machine = stopped_keeps stable.machine stable.limit stable last (stays stable.machine two.front) (rounds_keep Unseen settings.rounds stable two.front) in
       onward m held.machine (unless_stopped stable.limit stable last).machine one (onward held.machine stable.machine (unless_stopped stable.limit stable last).machine two three)
 
--- a machine to which nothing is added has the netlist itself
-own_is_whole : (c : Circuit) (prefix : List ℕ) → own_netlist (machine_of c prefix) ≡ c
-own_is_whole c prefix =
-    let none : length c.names - additions (machine_of c prefix) ≡ length c.names = omega arith in
-    let same : own_netlist (machine_of c prefix) ≡ c = same_parts c _ _ _ _ _ _ (ap (λ k. take k c.names) none ∙ take-length c.names) (take-length c.cells) (take-length c.registers) in
-    same
+module _ (by : Gating) (c : Circuit) (can : CanExtract c by.prefix) where
+  own : HasOwn c by.prefix (lifted c by.prefix)
+  own = lifted_own c by.prefix can
 
-planned_keeps : (by : Gating) (c : Circuit) → Keeps (machine_of c by.prefix) (planned by c)
-planned_keeps by c = plan_keeps by.library by.settings by.idle (machine_of c by.prefix) (record { cells = omega arith; registers = omega arith })
+  lifted_front : IsFront (lifted c by.prefix)
+  lifted_front = let good = lifted_is_machine c by.prefix can in record { cells = omega (arith, good.own_cells); registers = good.own_registers }
+
+  planned_keeps : Keeps (lifted c by.prefix) (planned by c)
+  planned_keeps = plan_keeps by.library by.settings by.idle (lifted c by.prefix) lifted_front
 
 pub keeps_netlist : PlannedKeeps
-keeps_netlist by c = (planned_keeps by c).same ∙ own_is_whole c by.prefix
-
--- at the start there are the netlist's names alone
-named_start : (c : Circuit) (prefix : List ℕ) → HasNames (machine_of c prefix)
-named_start c prefix =
-    let none : additions (machine_of c prefix) ≡ 0 = omega arith in
-    sym (ap (λ (d : Circuit). d.names) (own_is_whole c prefix)) ∙ (sym (append-nil (own_netlist (machine_of c prefix)).names)
-    ∙ ap (λ n. (own_netlist (machine_of c prefix)).names ++ map (added_name (machine_of c prefix)) (range_with_len 0 n)) (sym none))
+keeps_netlist by c can = (planned_keeps by c can).same ∙ (own by c can).own
 
 pub names_planned : PlannedNames
-names_planned by c = let keeps = planned_keeps by c in (keeps.names (named_start c by.prefix), keeps.prefix)
+names_planned by c can = ((planned_keeps by c can).names (own by c can).names, (planned_keeps by c can).prefix ∙ (own by c can).prefix)

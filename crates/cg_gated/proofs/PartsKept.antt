@@ -3,6 +3,7 @@ use Rattle.std.proofs.Common.{◌≡◌, ℕ, zero, suc, ◌<◌, ◌≤◌, Boo
 use Rattle.std.specs.List.{AllByRecursion}
 use Rattle.std.specs.Option.{option_flatten, option_map}
 use Rattle.std.proofs.lemmas.Bool.{eq-eqb, or_left, or_right}
+use Rattle.std.proofs.lemmas.List.{length-map}
 use Rattle.std.proofs.lemmas.Option.{none-some, same_Some}
 use Rattle.cg_insert.specs.Insert.{gated, placed_gate, reclocked}
 use Rattle.cg_insert.proofs.OrderedNames.{named_ordered}
@@ -16,13 +17,16 @@ use Rattle.cg_netlist.proofs.Given.{clock_given, driver_within, given_driver, re
 use Rattle.cg_netlist.proofs.Members.{All-member, is_in_right, member_at}
 use Rattle.cg_netlist.proofs.Used.{data_is_used, in_flat, input_is_used}
 use Rattle.cg_netlist.proofs.Values.{at_map, map_same}
+use Rattle.cg_extract.specs.Lifted.{bare, number_of, on_clock, ungated}
 use Rattle.cg_gated.specs.Gated.{CanGate, Gating, gated_by, planned}
 use Rattle.cg_gated.specs.Kept.{IsDelay, named_cell, unclocked}
 use Rattle.cg_gated.specs.Laws.{GatedKeeps}
 use Rattle.cg_gated.proofs.Behaving.{kept_name}
+use Rattle.cg_gated.proofs.ForGating.{bare_is_netlist}
+use Rattle.cg_gated.proofs.LiftedShows.{kept_names}
 use Rattle.cg_gated.proofs.NetlistKept.{keeps_netlist}
 use Rattle.cg_gated.proofs.Planned.{is_formed}
-use Rattle.cg_gated.proofs.SameOutputs.{good, whole}
+use Rattle.cg_gated.proofs.SameOutputs.{good, own_count}
 
 take_mapped : {X Y : Type 0} (f : X → Y) (n : ℕ) (xs : List X) → map f (take n xs) ≡ take n (map f xs)
 take_mapped f zero xs = refl
@@ -114,32 +118,49 @@ module _ (by : Gating) (c : Circuit) (can : CanGate by c) where
   abbrev w : Circuit
   w = gated_by by c
 
+  -- the netlist without its gating cells
+  abbrev o : Circuit
+  o = bare c
+
   abbrev new_name : ℕ → NetName
   new_name = net_name g.names
+
+  abbrev own_name : ℕ → NetName
+  own_name = net_name o.names
 
   abbrev old_name : ℕ → NetName
   old_name = net_name c.names
 
-  original : IsWellFormed c
-  original = can.start.netlist.well_formed
+  own_formed : IsWellFormed (bare c)
+  own_formed = (bare_is_netlist c can.start.netlist).0.well_formed
+
+  -- by the names of its nets it is the netlist but for gating cells and clocks
+  same_parts : named (bare c) ≡ named (ungated c)
+  same_parts = (kept_names c by.prefix can.start).parts
 
   ordered_same : named w ≡ named g
   ordered_same = named_ordered g (is_formed by c can).0 (is_formed by c can).1
 
-  own_registers : take (length c.registers) n.circuit.registers ≡ c.registers
-  own_registers = ap (λ k. take k n.circuit.registers) (sym (whole by c can).own) ∙ ap (λ (d : Circuit). d.registers) (keeps_netlist by c)
+  own_registers : take (length c.registers) n.circuit.registers ≡ o.registers
+  own_registers = ap (λ k. take k n.circuit.registers) (sym (own_count by c can)) ∙ ap (λ (d : Circuit). d.registers) (keeps_netlist by c can.start)
 
-  own_cells : take n.own_cells n.circuit.cells ≡ c.cells
-  own_cells = ap (λ (d : Circuit). d.cells) (keeps_netlist by c)
+  own_cells : take n.own_cells n.circuit.cells ≡ o.cells
+  own_cells = ap (λ (d : Circuit). d.cells) (keeps_netlist by c can.start)
 
-  used : (x : ℕ) → is_in (used_nets c) x ≡ true → x < length c.names
-  used x among = All-member (λ net. net < length c.names) (used_nets c) x original.used among
+  used : (x : ℕ) → is_in (used_nets o) x ≡ true → x < length o.names
+  used x among = All-member (λ net. net < length o.names) (used_nets o) x own_formed.used among
 
-  register_same : (k : ℕ) (r : RegisterCell ℕ ℕ) → slice_get c.registers k ≡ Some r → SameNamed new_name old_name r
+  register_same : (k : ℕ) (r : RegisterCell ℕ ℕ) → slice_get o.registers k ≡ Some r → SameNamed new_name own_name r
   register_same k r at = record {
-    taken = λ x among. kept_name by c can x (used x (data_is_used c k x r at among));
-    shown = λ x among. kept_name by c can x (driver_within c original.driven x (given_driver c x (register_given c x (in_flat shown_nets c.registers k r x at among))));
+    taken = λ x among. kept_name by c can x (used x (data_is_used o k x r at among));
+    shown = λ x among. kept_name by c can x (driver_within o own_formed.driven x (given_driver o x (register_given o x (in_flat shown_nets o.registers k r x at among))));
   }
+
+  named_registers : map (as_named own_name) o.registers ≡ map (unclocked c) c.registers
+  named_registers =
+      sym (twice without_clock (map_register own_name) o.registers)
+      ∙ (ap (λ (v : Wiring NetName). map without_clock v.registers) same_parts
+      ∙ (twice without_clock (map_register old_name) (map (on_clock c) c.registers) ∙ twice (as_named old_name) (on_clock c) c.registers))
 
   registers_kept : map (unclocked w) (take (length c.registers) w.registers) ≡ map (unclocked c) c.registers
   registers_kept =
@@ -147,36 +168,39 @@ module _ (by : Gating) (c : Circuit) (can : CanGate by c) where
       sym (twice without_clock (map_register (net_name w.names)) (take k w.registers))
       ∙ (ap (map without_clock) (take_mapped (map_register (net_name w.names)) k w.registers ∙ (ap (λ (v : Wiring NetName). take k v.registers) ordered_same ∙ sym (take_mapped (map_register new_name) k g.registers)))
       ∙ (twice without_clock (map_register new_name) (take k g.registers)
-      ∙ (front_named new_name old_name by.test n k n.circuit.registers n.enables (good by c can).enables (subst (AllByRecursion (SameNamed new_name old_name)) (sym own_registers) (each_of (SameNamed new_name old_name) c.registers register_same))
-      ∙ ap (map (as_named old_name)) own_registers)))
+      ∙ (front_named new_name own_name by.test n k n.circuit.registers n.enables (good by c can).enables (subst (AllByRecursion (SameNamed new_name own_name)) (sym own_registers) (each_of (SameNamed new_name own_name) o.registers register_same))
+      ∙ (ap (map (as_named own_name)) own_registers ∙ named_registers))))
 
-  cell_same : (k : ℕ) (cell : LogicCell ℕ) → slice_get c.cells k ≡ Some cell → SameNets new_name old_name cell.inputs × (new_name cell.output ≡ old_name cell.output)
+  cell_same : (k : ℕ) (cell : LogicCell ℕ) → slice_get o.cells k ≡ Some cell → SameNets new_name own_name cell.inputs × (new_name cell.output ≡ own_name cell.output)
   cell_same k cell at = (
-    λ x among. kept_name by c can x (used x (input_is_used c k x cell at among)),
-    kept_name by c can cell.output (driver_within c original.driven cell.output (is_in_right (given_nets c) (cell_nets c) cell.output
-        (member_at (cell_nets c) k cell.output (at_map (λ (l : LogicCell ℕ). l.output) c.cells k cell at)))),
+    λ x among. kept_name by c can x (used x (input_is_used o k x cell at among)),
+    kept_name by c can cell.output (driver_within o own_formed.driven cell.output (is_in_right (given_nets o) (cell_nets o) cell.output
+        (member_at (cell_nets o) k cell.output (at_map (λ (l : LogicCell ℕ). l.output) o.cells k cell at)))),
   )
 
   cells_kept : map (named_cell w) (take (length c.cells) w.cells) ≡ map (named_cell c) c.cells
   cells_kept =
       let k : ℕ = length c.cells in
+      let long : length (take n.own_cells n.circuit.cells) ≡ k = ap length own_cells ∙ length-map c.cells (map_cell (number_of c)) in
       take_mapped (named_cell w) k w.cells ∙ (ap (λ (v : Wiring NetName). take k v.cells) ordered_same ∙ (sym (take_mapped (map_cell new_name) k g.cells)
-      ∙ (ap (map (map_cell new_name)) (take_front k (take n.own_cells n.circuit.cells) (map (placed_gate by.library) n.gates) (ap length own_cells) ∙ own_cells)
-      ∙ cells_same new_name old_name c.cells cell_same)))
+      ∙ (ap (map (map_cell new_name)) (take_front k (take n.own_cells n.circuit.cells) (map (placed_gate by.library) n.gates) long ∙ own_cells)
+      ∙ (cells_same new_name own_name o.cells cell_same ∙ ap (λ (v : Wiring NetName). v.cells) same_parts))))
 
   clock_kept : option_map (net_name w.names) w.clock ≡ option_map old_name c.clock
-  clock_kept = ap (λ (v : Wiring NetName). v.clock) ordered_same ∙ (ap (option_map new_name) (ap (λ (d : Circuit). d.clock) (keeps_netlist by c)) ∙ go c.clock refl)
+  clock_kept =
+      ap (λ (v : Wiring NetName). v.clock) ordered_same
+      ∙ (ap (option_map new_name) (ap (λ (d : Circuit). d.clock) (keeps_netlist by c can.start)) ∙ (go o.clock refl ∙ ap (λ (v : Wiring NetName). v.clock) same_parts))
     where
-      go : (o : Option ℕ) → c.clock ≡ o → option_map new_name o ≡ option_map old_name o
+      go : (clock : Option ℕ) → o.clock ≡ clock → option_map new_name clock ≡ option_map own_name clock
       go None is = refl
-      go (Some x) is = ap Some (kept_name by c can x (driver_within c original.driven x (given_driver c x (clock_given c x is))))
+      go (Some x) is = ap Some (kept_name by c can x (driver_within o own_formed.driven x (given_driver o x (clock_given o x is))))
 
   delays_are : (k : ℕ) (r : RegisterCell ℕ ℕ) → length c.registers ≤ k → slice_get w.registers k ≡ Some r → IsDelay w r
   delays_are k r past at =
       let f : ℕ → ℕ = place_in (net_order g) in
       let first = from_map (map_register f) g.registers k r at in
       let second = from_zip by.test n n.circuit.registers n.enables k first.0 first.1 in
-      let own : n.own_registers ≡ length c.registers = (whole by c can).own in
+      let own : n.own_registers ≡ length c.registers = own_count by c can in
       let delay = (good by c can).delays k second.0 (omega (arith, own, past)) second.1 in
       let free : first.0 ≡ second.0 = second.2 ∙ ap (reclocked by.test n second.0) delay.free in
       let is : r ≡ map_register f second.0 = first.2 ∙ ap (map_register f) free in
@@ -188,7 +212,7 @@ module _ (by : Gating) (c : Circuit) (can : CanGate by c) where
 
 pub keeps_parts : GatedKeeps
 keeps_parts by c can = record {
-  model = ap (λ (d : Circuit). d.model) (keeps_netlist by c);
+  model = ap (λ (d : Circuit). d.model) (keeps_netlist by c can.start);
   clock = clock_kept by c can;
   cells = cells_kept by c can;
   registers = registers_kept by c can;

@@ -1,20 +1,25 @@
 -- The plan's machine may be inserted.
-use Rattle.std.proofs.Common.{◌≡◌, ℕ, suc, List, [], ◌∷◌, length, slice_get, is_some, Option, None, Some, refl, sym, ◌∙◌, ap, subst, ◌⊎◌, inl, inr}
-use Rattle.std.specs.List.{filter_map}
+use Rattle.std.proofs.Common.{◌≡◌, ℕ, suc, List, [], ◌∷◌, slice_get, is_some, Option, None, Some, refl, sym, ◌∙◌, ap, subst, ◌⊎◌, inl, inr}
+use Rattle.std.specs.List.{All, filter_map, find}
 use Rattle.std.specs.Option.{option_flatten}
-use Rattle.std.proofs.lemmas.List.Elements.{All-nil}
-use Rattle.std.proofs.lemmas.Option.{none-some}
+use Rattle.std.proofs.lemmas.List.Elements.{All-nil, All-weaker}
+use Rattle.cg_cell.specs.Cell.{CellData}
+use Rattle.cg_cell.specs.Fit.{is_fit}
+use Rattle.cg_cell.specs.declared.fit.FitKind.TheVariants.{And2}
 use Rattle.cg_netlist.specs.Circuit.{Circuit}
 use Rattle.cg_machine.specs.Gates.{AddedGate}
 use Rattle.cg_machine.specs.Machine.{IsMachine, MachineData}
-use Rattle.cg_machine.specs.Start.{machine_of}
-use Rattle.cg_machine.proofs.Started.{none_anywhere, start_is_machine}
 use Rattle.cg_insert.specs.Insert.{collect, gating_kind}
 use Rattle.cg_insert.proofs.Inserted.{insertion_is_formed}
 use Rattle.cg_stage.specs.Needs.{gater_kind}
 use Rattle.cg_plan.specs.Cells.{HasCell, HasCells}
 use Rattle.cg_plan.proofs.AllSafe.{has_cells, plans_safe}
-use Rattle.cg_gated.specs.Gated.{Gating, planned}
+use Rattle.cg_extract.proofs.LiftedMachine.{lifted_is_machine}
+use Rattle.cg_extract.specs.Laws.{AsksFor}
+use Rattle.cg_extract.specs.Lifted.{lifted}
+use Rattle.cg_gated.proofs.ForGating.{lifted_asks}
+use Rattle.cg_gated.proofs.OwnGaters.{gater_there, unchained}
+use Rattle.cg_gated.specs.Gated.{CanGate, Gating, planned}
 use Rattle.cg_gated.specs.Laws.{GatedIsFormed, PlannedCanInsert}
 
 some_enable : (es : List (Option ℕ)) → (filter_map (λ (enable : Option ℕ). enable) es ≡ []) ⊎ ((r : ℕ) × (e : ℕ) × (option_flatten (slice_get es r) ≡ Some e))
@@ -26,19 +31,26 @@ same_kind : (test : Option (List ℕ)) → gater_kind (is_some test) ≡ gating_
 same_kind None = refl
 same_kind (Some name) = refl
 
--- nothing is asked for at the start
-starts_with_cells : (by : Gating) (c : Circuit) → HasCells by.library by.settings.test (machine_of c by.prefix)
-starts_with_cells by c = record {
-  gates = All-nil (λ (gate : AddedGate). HasCell by.library gate.kind);
-  gater = λ r e is. absurd (none-some e (sym (none_anywhere (length c.registers) r) ∙ is));
+-- the library has what the lifted machine asks for
+starts_with_cells : (by : Gating) (c : Circuit) → CanGate by c → HasCells by.library by.settings.test (lifted c by.prefix)
+starts_with_cells by c can = record {
+  gates = gates_there (find (is_fit And2) by.library) refl;
+  gater = λ r e is. let own = asks.gater r e is in gater_there by c can own.0 own.1 own.2;
 }
+  where
+    asks : AsksFor c (lifted c by.prefix)
+    asks = lifted_asks c by.prefix can.start
+
+    gates_there : (o : Option CellData) → find (is_fit And2) by.library ≡ o → All (λ (gate : AddedGate). HasCell by.library gate.kind) (lifted c by.prefix).gates
+    gates_there (Some cell) is = All-weaker (λ (gate : AddedGate). gate.kind ≡ And2) (λ (gate : AddedGate). HasCell by.library gate.kind) (λ gate is_and. subst (HasCell by.library) (sym is_and) (cell, is)) (lifted c by.prefix).gates asks.gates
+    gates_there None is = subst (All (λ (gate : AddedGate). HasCell by.library gate.kind)) (sym (asks.none (unchained by c can is))) (All-nil (λ (gate : AddedGate). HasCell by.library gate.kind))
 
 pub can_insert : PlannedCanInsert
 can_insert by c can =
-    let m : MachineData = machine_of c by.prefix in
-    let good : IsMachine m = start_is_machine c by.prefix can.start in
+    let m : MachineData = lifted c by.prefix in
+    let good : IsMachine m = lifted_is_machine c by.prefix can.start in
     let n : MachineData = planned by c in
-    let has : HasCells by.library by.settings.test n = has_cells by.library by.settings by.idle m good (starts_with_cells by c) in (
+    let has : HasCells by.library by.settings.test n = has_cells by.library by.settings by.idle m good (starts_with_cells by c can) in (
       (plans_safe by.library by.settings by.idle m good).0,
       record {
         cells = can.cells;

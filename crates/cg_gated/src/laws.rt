@@ -4,7 +4,8 @@ ghost use Rattle.cg_gated.specs.Laws.{GatedBehaves, GatedIsFormed, GatedKeeps, G
 
 /// The laws of gated netlists: the gated netlist is well formed, and from every start with 1 in the delay registers and over
 /// every waveform, whatever an added test input does, its lawful history has at every moment the outputs of the original's. Data
-/// inputs and outputs keep their names, and logic cells and registers stand as they were, but for the clocks of registers.
+/// inputs and outputs keep their names, and logic cells and registers stand as they were, but for the clocks of registers. The
+/// original may have gating cells: with these lifted to enables the plan begins.
 ///
 /// The call does nothing; callers use what it ensures.
 pub fn gated_laws()

@@ -7,12 +7,11 @@ use Rattle.cg_netlist.specs.declared.fault.AddFault.{AddFault}
 use Rattle.cg_netlist.specs.declared.fault.AddFault.TheVariants.{NoMemory}
 use Rattle.cg_plan.specs.Told.{PlanMayFail, ToldPlan}
 use Rattle.cg_plan_text.specs.declared.summary.Played.{Played}
-use Rattle.cg_stimulus.specs.Inputs.{IsFor, Rows}
-use Rattle.cg_gating.specs.Gating.{AreTexts, GivesGated, IsGated}
+use Rattle.cg_gating.specs.Gating.{AreTexts, GivesGated, IsWritten}
 use Rattle.cg_gating.specs.Headline.{Headline}
 use Rattle.cg_gating.specs.Laws.{IsProper}
 use Rattle.cg_gating.specs.Played.{IsWhatPlayed, Saying}
-use Rattle.cg_gating.specs.Request.{AreFor, MayGate, RequestData, gating_of}
+use Rattle.cg_gating.specs.Request.{MayGate, RequestData, gating_of}
 use Rattle.cg_gating.specs.declared.texts.Texts.{Texts}
 use Rattle.cg_gating.proofs.Meaning.{gated_means}
 
@@ -29,17 +28,10 @@ pub on_ok : {A : Type 0} (P : Type 0) (r : Result A AddFault) → P → OnOk r P
 on_ok P (Ok x) is = is
 on_ok P (Err fault) is = tt
 
--- the netlist with which a plan begins may be played as the one that was read
-pub are_for : (request : RequestData) (read own written : Circuit) → own ≡ read → MayGate request read → ((stimulus : Rows) → request.stimulus ≡ Option.Some stimulus → IsFor written stimulus) → AreFor request own written
-are_for request read own written same may after = record {
-  before = λ stimulus there. subst (λ c. IsFor c stimulus) (sym same) (may.played stimulus there);
-  after = after;
-}
-
-module _ (request : RequestData) (says : Option Saying) (read own written : Circuit) (told : ToldPlan) (played : Played) (same : own ≡ read) (gated : IsGated (gating_of request read) read told written)
-    (what : IsWhatPlayed says request.stimulus own written played) where
+module _ (request : RequestData) (says : Option Saying) (read written : Circuit) (told : ToldPlan) (played : Played) (gated : IsWritten (gating_of request read) read told written)
+    (what : IsWhatPlayed says request.stimulus read written played) where
   pub gives_all : (texts : Texts) → AreTexts request told written played texts → GivesGated request says read texts
-  gives_all texts are = record { told = told; written = written; played = played; gated = gated; what = subst (λ c. IsWhatPlayed says request.stimulus c written played) same what; gives = are }
+  gives_all texts are = record { told = told; written = written; played = played; gated = gated; what = what; gives = are }
 
   pub means_all : IsProper request → MayGate request read → (texts : Texts) → AreTexts request told written played texts → Headline request says read texts
   means_all proper may texts are = gated_means request says read texts proper may (gives_all texts are)

@@ -1,23 +1,21 @@
 -- What the code makes of a netlist: the plan's machine may be written, and what comes of it is what gating gives.
 use Rattle.std.proofs.Common.{◌≡◌, ◌++◌, Option, None, Some, Ok, Err, refl, sym, ◌∙◌, ap, subst, append_assoc, inl, inr}
 use Rattle.std.specs.Option.{option_or, option_to_list}
+use Rattle.cg_extract.specs.Lifted.{lifted}
 use Rattle.cg_gated.specs.Gated.{CanGate, Gating, gated_by, planned}
 use Rattle.cg_gated.proofs.Behaving.{gated_behaves}
-use Rattle.cg_gated.proofs.NetlistKept.{keeps_netlist}
 use Rattle.cg_gated.proofs.Planned.{can_insert}
 use Rattle.cg_insert.specs.Insert.{CanInsert, inserted, insertion_limit}
 use Rattle.cg_insert.specs.Inserting.{insertion, unless_passed}
 use Rattle.cg_limit.specs.Answers.{OrNoMemory}
 use Rattle.cg_limit.specs.declared.Limit.{Limit}
-use Rattle.cg_machine.specs.Added.{own_netlist}
-use Rattle.cg_machine.specs.Start.{machine_of}
 use Rattle.cg_netlist.specs.Circuit.{Circuit}
 use Rattle.cg_netlist.specs.declared.fault.AddFault.{AddFault}
 use Rattle.cg_netlist.specs.declared.fault.AddFault.TheVariants.{Limit as LimitFault, NoMemory}
 use Rattle.cg_plan.specs.Told.{IsPlan, PlanMayFail, ToldPlan}
 use Rattle.cg_stimulus.specs.Inputs.{IsFor, Rows, input_names}
 use Rattle.cg_planner.specs.Planning.{AreWritable}
-use Rattle.cg_gating.specs.Gating.{IsGated}
+use Rattle.cg_gating.specs.Gating.{IsWritten}
 use Rattle.cg_gating.specs.Laws.{IsProper}
 use Rattle.cg_gating.specs.Request.{MayGate, RequestData, gating_of, stops_at}
 use Rattle.cg_gating.proofs.MayInsert.{may_gate}
@@ -33,7 +31,7 @@ passed (Some limit) c NoMemory is = tt
 passed (Some limit) c (LimitFault which) is = let same : limit ≡ which = cc in ap Some same
 
 module _ (request : RequestData) (read : Circuit) (proper : IsProper request) (may : MayGate request read) (told : ToldPlan)
-    (plan : IsPlan request.library request.settings (gating_of request read).idle (machine_of read request.prefix) told) where
+    (plan : IsPlan request.library request.settings (gating_of request read).idle (lifted read request.prefix) told) where
   abbrev by : Gating
   by = gating_of request read
 
@@ -43,10 +41,7 @@ module _ (request : RequestData) (read : Circuit) (proper : IsProper request) (m
   pub may_insert : CanInsert request.library request.test told.machine
   may_insert = subst (CanInsert request.library request.test) (sym plan.machine) (can_insert by read can).1
 
-  pub own_is : own_netlist told.machine ≡ read
-  own_is = ap own_netlist plan.machine ∙ keeps_netlist by read
-
-  pub gives_gated : AreWritable told.certificates → (written : Circuit) → insertion request.library request.test told.machine ≡ Ok written → IsGated (gating_of request read) read told written
+  pub gives_gated : AreWritable told.certificates → (written : Circuit) → insertion request.library request.test told.machine ≡ Ok written → IsWritten (gating_of request read) read told written
   gives_gated can_write written is =
       let un = unpassed (insertion_limit request.test told.machine) (inserted request.library request.test told.machine) written is in
       record { plan = plan; writable = can_write; fits = un.0; is = un.1 }
@@ -67,5 +62,5 @@ module _ (request : RequestData) (read : Circuit) (proper : IsProper request) (m
       limits : insertion_limit request.test told.machine ≡ stops_at request read
       limits = ap (insertion_limit request.test) plan.machine ∙ ap (λ l. option_or l (insertion_limit request.test (planned by read))) (sym plan.whole)
 
-  pub unstopped : (written : Circuit) → IsGated (gating_of request read) read told written → stops_at request read ≡ None
+  pub unstopped : (written : Circuit) → IsWritten (gating_of request read) read told written → stops_at request read ≡ None
   unstopped written is = ap (λ l. option_or l (insertion_limit request.test (planned by read))) plan.whole ∙ (ap (insertion_limit request.test) (sym plan.machine) ∙ is.fits)

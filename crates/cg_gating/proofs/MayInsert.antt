@@ -4,10 +4,14 @@ use Rattle.std.specs.Fmt.{decimal}
 use Rattle.std.specs.List.{All, AllByRecursion, range_with_len}
 use Rattle.std.specs.Option.{option_to_list}
 use Rattle.std.proofs.lemmas.Bool.{both_ways, eq-eqb}
+use Rattle.std.proofs.lemmas.List.Elements.{All-get_or, All-map}
+use Rattle.std.proofs.lemmas.Option.{unwrap_or-slice_get}
 use Rattle.std.proofs.Math.Seq.{take-append_seam}
 use lib.Pointwise.{pointwise}
 use Rattle.cg_cell.specs.Cell.{IsCell}
 use Rattle.cg_cell.specs.Name.{is_name}
+use Rattle.cg_extract.proofs.Kept.{kept_within}
+use Rattle.cg_extract.specs.Lifted.{bare, kept_nets}
 use Rattle.cg_gated.specs.Gated.{CanGate, Gating, planned}
 use Rattle.cg_gated.proofs.NetlistKept.{keeps_netlist, names_planned}
 use Rattle.cg_insert.specs.Insert.{enables_of, gate_names}
@@ -15,6 +19,8 @@ use Rattle.cg_machine.specs.Added.{own_netlist}
 use Rattle.cg_machine.specs.Machine.{MachineData, added_name, additions}
 use Rattle.cg_machine.specs.Start.{begins}
 use Rattle.cg_netlist.specs.Circuit.{Circuit}
+use Rattle.cg_netlist.specs.said.Wiring.{net_name}
+use Rattle.cg_netlist.proofs.Members.{All-from_members}
 use Rattle.cg_netlist.proofs.said.Each.{by_recursion, each_together, from_recursion}
 use Rattle.cg_gating.specs.Laws.{IsProper}
 use Rattle.cg_gating.specs.Request.{IsFree, MayGate, RequestData, gating_of}
@@ -36,18 +42,23 @@ module _ (request : RequestData) (c : Circuit) (proper : IsProper request) (may 
 
   -- no name that is made of the prefix is a free one
   apart : (name : List ℕ) → IsFree c request.prefix name → (k : ℕ) → added_name n k ≢ name
-  apart name free k same = both_ways (begins request.prefix name) free.apart (ap (begins request.prefix) (sym same ∙ ap (λ p. p ++ decimal k) (names_planned by c).1) ∙ begun request.prefix (decimal k))
+  apart name free k same = both_ways (begins request.prefix name) free.apart (ap (begins request.prefix) (sym same ∙ ap (λ p. p ++ decimal k) (names_planned by c may.start).1) ∙ begun request.prefix (decimal k))
 
   none_added : (name : List ℕ) → IsFree c request.prefix name → (ks : List ℕ) → AllByRecursion (λ (other : List ℕ). other ≢ name) (map (added_name n) ks)
   none_added name free [] = tt
   none_added name free (k ∷ ks) = (apart name free k, none_added name free ks)
 
+  -- each net that is kept has a name of the netlist
+  kept_names : (name : List ℕ) → IsFree c request.prefix name → AllByRecursion (λ (other : List ℕ). other ≢ name) (bare c).names
+  kept_names name free = by_recursion (λ other. other ≢ name) (bare c).names (All-map (λ other. other ≢ name) (net_name c.names) (kept_nets c) (All-from_members (λ x. net_name c.names x ≢ name) (kept_nets c) (λ x kept.
+  subst (λ other. other ≢ name) (sym (unwrap_or-slice_get c.names x [])) (All-get_or (λ other. other ≢ name) c.names x [] (kept_within c may.start.netlist x kept) free.new))))
+
   new : (name : List ℕ) → request.test ≡ Some name → All (λ other. other ≢ name) (n.circuit.names ++ gate_names n)
   new name is =
       let free = may.free name is in
       let P : List (List ℕ) → Type 0 = λ names. AllByRecursion (λ (other : List ℕ). other ≢ name) names in
-      let own : P (own_netlist n).names = subst P (ap (λ (d : Circuit). d.names) (sym (keeps_netlist by c))) (by_recursion (λ other. other ≢ name) c.names free.new) in
-      let all : P n.circuit.names = subst P (sym (names_planned by c).0) (each_together (λ other. other ≢ name) (own_netlist n).names (map (added_name n) (range_with_len 0 (additions n))) own (none_added name free (range_with_len 0 (additions n)))) in
+      let own : P (own_netlist n).names = subst P (ap (λ (d : Circuit). d.names) (sym (keeps_netlist by c may.start))) (kept_names name free) in
+      let all : P n.circuit.names = subst P (sym (names_planned by c may.start).0) (each_together (λ other. other ≢ name) (own_netlist n).names (map (added_name n) (range_with_len 0 (additions n))) own (none_added name free (range_with_len 0 (additions n)))) in
       from_recursion (λ other. other ≢ name) (n.circuit.names ++ gate_names n) (each_together (λ other. other ≢ name) n.circuit.names (gate_names n) all (none_added name free (range_with_len (additions n) (length (enables_of n)))))
 
   named : (test : Option (List ℕ)) → ((name : List ℕ) → test ≡ Some name → IsTrue (is_name name)) → AllByRecursion (λ name. IsTrue (is_name name)) (option_to_list test)
@@ -57,6 +68,8 @@ module _ (request : RequestData) (c : Circuit) (proper : IsProper request) (may 
   pub may_gate : CanGate (gating_of request c) c
   may_gate = record {
     start = may.start;
+    lifts = may.lifts;
+    own = may.writable.gating;
     cells = from_recursion IsCell request.library proper.cells;
     tested = may.tested;
     named = from_recursion (λ name. IsTrue (is_name name)) (option_to_list request.test) (named request.test proper.named);

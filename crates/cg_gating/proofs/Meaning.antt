@@ -1,11 +1,14 @@
 -- What gating gives means what the headline says.
-use Rattle.std.proofs.Common.{◌≡◌, ◌+◌, ◌-◌, Bool, true, List, ◌++◌, length, Option, None, Some, refl, sym, ◌∙◌, ap, subst}
+use Rattle.std.proofs.Common.{◌≡◌, ◌+◌, ◌-◌, Bool, true, List, ◌++◌, map, length, Option, None, Some, refl, sym, ◌∙◌, ap, subst}
 use Rattle.std.proofs.lemmas.List.{length-replicate}
 use Rattle.cg_blif_text.specs.BlifText.{BlifText}
 use Rattle.cg_blif_text.proofs.CanonicalText.{no_two, says_itself}
+use Rattle.cg_extract.proofs.LiftedMachine.{lifted_is_machine, lifted_is_small}
+use Rattle.cg_extract.specs.Lifted.{lifted, origins}
 use Rattle.cg_gated.specs.Gated.{Behaves, CanGate, Gating, gated_by, planned}
 use Rattle.cg_gated.specs.Kept.{KeepsParts}
 use Rattle.cg_gated.proofs.Behaving.{gated_behaves}
+use Rattle.cg_gated.proofs.LiftedShows.{lifted_inputs}
 use Rattle.cg_gated.proofs.NetlistKept.{keeps_netlist}
 use Rattle.cg_gated.proofs.PartsKept.{keeps_parts}
 use Rattle.cg_gated.proofs.Planned.{can_insert, is_formed}
@@ -16,9 +19,7 @@ use Rattle.cg_insert.proofs.Inserted.{insertion_is_right}
 use Rattle.cg_machine.specs.Added.{own_netlist}
 use Rattle.cg_machine.specs.Machine.{IsMachine, IsState, MachineData}
 use Rattle.cg_machine.specs.Run.{Same, ones}
-use Rattle.cg_machine.specs.Start.{machine_of}
-use Rattle.cg_machine.proofs.Started.{start_is_machine}
-use Rattle.cg_netlist.specs.Circuit.{Circuit}
+use Rattle.cg_netlist.specs.Circuit.{Circuit, data_inputs}
 use Rattle.cg_netlist.specs.History.{IsLawful, IsStart, IsWaveform, Moment, Tick}
 use Rattle.cg_netlist.specs.Netlist.{IsNetlist}
 use Rattle.cg_netlist.specs.WellFormed.{IsWellFormed}
@@ -26,14 +27,14 @@ use Rattle.cg_netlist.specs.said.Writable.{IsWritable}
 use Rattle.cg_netlist.proofs.Histories.{has_history, has_one_history}
 use Rattle.cg_plan.specs.Plan.{Plan, plan_of}
 use Rattle.cg_plan.proofs.AllSafe.{each_fits, plans_safe}
-use Rattle.cg_report.specs.Idle.{CountZeros}
+use Rattle.cg_report.specs.Idle.{low_moments, zeros_of}
 use Rattle.cg_stage.proofs.Fitting.{starts_long}
 use Rattle.cg_stimulus.specs.Inputs.{Rows}
 use Rattle.cg_stimulus.specs.Played.{IsPlayed, played_start, played_wave}
 use Rattle.cg_stimulus.proofs.Playing.{start_is, wave_is}
 use Rattle.cg_gating.specs.Gating.{GivesGated}
 use Rattle.cg_gating.specs.Headline.{Headline, ShowsSame, with_bits}
-use Rattle.cg_gating.specs.Idling.{idle_data}
+use Rattle.cg_gating.specs.Idling.{idle_data, zeros_by}
 use Rattle.cg_gating.specs.Laws.{GatedMeans, IsProper}
 use Rattle.cg_gating.specs.Played.{Saying}
 use Rattle.cg_gating.specs.Request.{MayGate, RequestData, gating_of}
@@ -42,15 +43,17 @@ use Rattle.cg_gating.specs.declared.texts.Texts.{Texts}
 use Rattle.cg_gating.proofs.Counted.{counts}
 use Rattle.cg_gating.proofs.Deserved.{exactly_worthy}
 use Rattle.cg_gating.proofs.Leads.{plan_leads}
+use Rattle.cg_gating.proofs.Given.{bare_is_netlist, bare_is_writable}
 use Rattle.cg_gating.proofs.MayInsert.{may_gate}
 use Rattle.cg_gating.proofs.TestedWaves.{IsTested, tested_wave}
+use Rattle.cg_gating.proofs.Unrefused.{untested}
 
 module _ (request : RequestData) (says : Option Saying) (read : Circuit) (texts : Texts) (proper : IsProper request) (may : MayGate request read) (gives : GivesGated request says read texts) where
   abbrev by : Gating
   by = gating_of request read
 
   abbrev m : MachineData
-  m = machine_of read request.prefix
+  m = lifted read request.prefix
 
   abbrev n : MachineData
   n = planned (gating_of request read) read
@@ -59,7 +62,7 @@ module _ (request : RequestData) (says : Option Saying) (read : Circuit) (texts 
   w = gives.written
 
   abbrev plan : Plan
-  plan = plan_of request.library request.settings (gating_of request read).idle (machine_of read request.prefix)
+  plan = plan_of request.library request.settings (gating_of request read).idle (lifted read request.prefix)
 
   can : CanGate (gating_of request read) read
   can = may_gate request read proper may
@@ -74,7 +77,7 @@ module _ (request : RequestData) (says : Option Saying) (read : Circuit) (texts 
   behaves = subst (Behaves by read) (sym is) (gated_behaves by read can)
 
   good : IsMachine m
-  good = start_is_machine read request.prefix may.start
+  good = lifted_is_machine read request.prefix may.start
 
   good_planned : IsMachine n
   good_planned = (can_insert by read can).0
@@ -85,14 +88,17 @@ module _ (request : RequestData) (says : Option Saying) (read : Circuit) (texts 
   whole : Same m n
   whole = (plans_safe request.library request.settings by.idle m good).1
 
+  inputs_long : length (data_inputs n.circuit) ≡ length (data_inputs read)
+  inputs_long = ap length whole.inputs ∙ lifted_inputs read request.prefix may.start
+
   formed : IsWellFormed gives.written
   formed = subst IsWellFormed (sym is) (is_formed by read can).0
 
   is_writable : IsWritable request.library gives.written
   is_writable =
-      let own : IsNetlist (own_netlist n) = subst IsNetlist (sym (keeps_netlist by read)) may.start.netlist in
+      let own : IsNetlist (own_netlist n) = subst IsNetlist (sym (keeps_netlist by read may.start)) (bare_is_netlist read may.start.netlist).0 in
       let small : insertion_limit request.test n ≡ None = ap (insertion_limit request.test) (sym machine_is) ∙ gives.gated.fits in
-      writable request.library request.test n good_planned inserts own small gives.written is proper.found (subst (IsWritable request.library) (sym (keeps_netlist by read)) may.writable)
+      writable request.library request.test n good_planned inserts own small gives.written is proper.found (subst (IsWritable request.library) (sym (keeps_netlist by read may.start)) (bare_is_writable request.library read may.writable))
 
   says_it : BlifText texts.out request.library None gives.written
   says_it = subst (λ text. BlifText text request.library None w) (sym gives.gives.out) (says_itself request.library w is_writable)
@@ -103,11 +109,11 @@ module _ (request : RequestData) (says : Option Saying) (read : Circuit) (texts 
   shows start wave bits starts waves long =
       let tested : List Tick = with_bits request.test wave bits in
       let full : List Bool = start ++ ones n in
-      let facts : IsTested w n wave tested = tested_wave by read w behaves whole.inputs wave bits waves long in
+      let facts : IsTested w n wave tested = tested_wave by read w behaves inputs_long wave bits waves long in
       let started : IsStart w full = behaves.starts start starts in
       let one = has_history read may.start.netlist.well_formed start wave starts waves in
       let two = behaves.some full tested started facts.waveform in
-      let state : IsState n full = starts_long n good_planned.own_registers start (starts ∙ sym whole.own) in
+      let state : IsState n full = starts_long n good_planned.own_registers start (starts ∙ (sym (lifted_is_small read request.prefix may.start).2 ∙ sym whole.own)) in
       let waves_there : IsWaveform (gated_by by read) tested = subst (λ c. IsWaveform c tested) is facts.waveform in
       let lawful_there : IsLawful (gated_by by read) full tested two.0 = subst (λ c. IsLawful c full tested two.0) is two.1 in
       let rises : RisesAre (inserted request.library request.test n) n tested two.0 = (insertion_is_right request.library request.test n good_planned inserts full tested two.0 state waves_there lawful_there).edges in
@@ -123,12 +129,13 @@ module _ (request : RequestData) (says : Option Saying) (read : Circuit) (texts 
         rises = subst (λ c. RisesAre c gives.told.machine tested two.0) (sym gives.gated.is) (subst (λ k. RisesAre (inserted request.library request.test k) k tested two.0) (sym machine_is) rises);
       }
 
-  idle : (stimulus : Rows) → request.stimulus ≡ Some stimulus → (history : List Moment) × IsPlayed read stimulus.rows history × CountZeros read history (idle_data read request.prefix stimulus).zeros
+  idle : (stimulus : Rows) → request.stimulus ≡ Some stimulus → (history : List Moment) × IsPlayed read stimulus.rows history
+      × ((idle_data read request.prefix stimulus).zeros ≡ map (zeros_by (λ net. zeros_of net (low_moments history))) (origins read (lifted read request.prefix)))
   idle stimulus there =
       let for' = may.played stimulus there in
       let rows = proper.rows stimulus there in
       let some = has_history read may.start.netlist.well_formed (played_start read) (played_wave read stimulus.rows) (start_is read) (wave_is read stimulus rows for') in
-      (some.0, some.1, counts read request.prefix may.start stimulus rows for' some.0 some.1)
+      (some.0, some.1, counts read request.prefix may.start (untested request.library request.test read may.lifts) stimulus rows for' some.0 some.1)
 
   pub means : Headline request says read texts
   means = record {

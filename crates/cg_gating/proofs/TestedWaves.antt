@@ -15,7 +15,7 @@ plain_wave [] bits long = refl
 plain_wave (tick ∷ wave) [] long = absurd (omega (arith, long))
 plain_wave (tick ∷ wave) (bit ∷ bits) long = ap (λ w. tick ∷ w) (plain_wave wave bits (omega (arith, long)))
 
-module _ (read written : Circuit) (n : MachineData) (same : data_inputs n.circuit ≡ data_inputs read) (name : NetName) (more : length (data_inputs written) ≡ length (data_inputs read) + 1) where
+module _ (read written : Circuit) (n : MachineData) (same : length (data_inputs n.circuit) ≡ length (data_inputs read)) (name : NetName) (more : length (data_inputs written) ≡ length (data_inputs read) + 1) where
   tested_ticks : (wave : List Tick) (bits : List Bool) → AreTicks read wave → AreTicks written (with_bits (Some name) wave bits)
   tested_ticks [] bits ticks = tt
   tested_ticks (tick ∷ wave) [] ticks = tt
@@ -30,7 +30,7 @@ module _ (read written : Circuit) (n : MachineData) (same : data_inputs n.circui
   tested_own [] bits long ticks = refl
   tested_own (tick ∷ wave) [] long ticks = absurd (omega (arith, long))
   tested_own (tick ∷ wave) (bit ∷ bits) long ticks =
-      let count : length (data_inputs n.circuit) ≡ length tick.inputs = ap length same ∙ sym ticks.0 in
+      let count : length (data_inputs n.circuit) ≡ length tick.inputs = same ∙ sym ticks.0 in
       let inputs : take (length (data_inputs n.circuit)) (tick.inputs ++ bit ∷ []) ≡ tick.inputs = ap (λ k. take k (tick.inputs ++ bit ∷ [])) count ∙ take-append_seam tick.inputs (bit ∷ []) in
       let tail : own_wave n (with_bits (Some name) wave bits) ≡ wave = tested_own wave bits (omega (arith, long)) ticks.1 in
       ap (λ xs. record { clock = tick.clock; inputs = xs } ∷ own_wave n (with_bits (Some name) wave bits)) inputs ∙ ap (λ w. tick ∷ w) tail
@@ -40,7 +40,7 @@ pub record IsTested (written : Circuit) (n : MachineData) (wave tested : List Ti
   pub waveform : IsWaveform written tested
   pub own : own_wave n tested ≡ wave
 
-pub tested_wave : (by : Gating) (read written : Circuit) → Behaves by read written → data_inputs (planned by read).circuit ≡ data_inputs read → (wave : List Tick) (bits : List Bool) → IsWaveform read wave → length bits ≡ length wave
+pub tested_wave : (by : Gating) (read written : Circuit) → Behaves by read written → length (data_inputs (planned by read).circuit) ≡ length (data_inputs read) → (wave : List Tick) (bits : List Bool) → IsWaveform read wave → length bits ≡ length wave
     → IsTested written (planned by read) wave (with_bits by.test wave bits)
 tested_wave by read written behaves same wave bits waves long = go by.test refl
   where

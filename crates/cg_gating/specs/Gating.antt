@@ -18,7 +18,7 @@ use Rattle.cg_gating.specs.declared.texts.Texts.{Texts}
 
 -- a plan as it is told, whose certificates keep to the bounds of their formats, and the netlist that its machine is written as. Free are the bits that are told of a refuted claim and
 -- the logs of the certificates, as far as their definitions leave them open.
-pub record IsGated (by : Gating) (c : Circuit) (told : ToldPlan) (written : Circuit) : Type 0 where
+pub record IsWritten (by : Gating) (c : Circuit) (told : ToldPlan) (written : Circuit) : Type 0 where
   pub plan : IsPlan by.library by.settings by.idle (lifted c by.prefix) told
   pub writable : AreWritable told.certificates
   pub fits : insertion_limit by.test told.machine ≡ None
@@ -40,7 +40,7 @@ pub record GivesGated (request : RequestData) (says : Option Saying) (c : Circui
   pub told : ToldPlan
   pub written : Circuit
   pub played : Played
-  pub gated : IsGated (gating_of request c) c told written
+  pub gated : IsWritten (gating_of request c) c told written
   pub what : IsWhatPlayed says request.stimulus c written played
   pub gives : AreTexts request told written played texts
 
@@ -55,5 +55,5 @@ pub record GivesDemo (size : ℕ) (request : RequestData) (c : Circuit) (text : 
   pub played : request.stimulus ≡ Some stimulus
   pub told : ToldPlan
   pub written : Circuit
-  pub gated : IsGated (gating_of request c) c told written
+  pub gated : IsWritten (gating_of request c) c told written
   pub says : SaysDemo size stimulus.rows c written told text

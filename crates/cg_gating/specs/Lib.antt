@@ -5,4 +5,5 @@ pub mod Gating
 pub mod Turns
 pub mod Deserved
 pub mod Headline
+pub mod Loading
 pub mod Laws

@@ -42,11 +42,6 @@ pub record MayGate (request : RequestData) (c : Circuit) : Type 0 where
   pub free : (name : List ℕ) → request.test ≡ Some name → IsFree c request.prefix name
   pub played : (stimulus : Rows) → request.stimulus ≡ Some stimulus → IsFor c stimulus
 
--- the stimulus, where there is one, is for both netlists
-pub record AreFor (request : RequestData) (read written : Circuit) : Type 0 where
-  pub before : (stimulus : Rows) → request.stimulus ≡ Some stimulus → IsFor read stimulus
-  pub after : (stimulus : Rows) → request.stimulus ≡ Some stimulus → IsFor written stimulus
-
 -- what the netlist is gated by
 abbrev pub gating_of : RequestData → Circuit → Gating
 gating_of request c = record {

@@ -1,11 +1,9 @@
 //! A netlist is gated.
 
-ghost use Rattle.std.specs.Prelude.{◌≡◌, None, Some, IfOk, IfErr, OnOk};
+ghost use Rattle.std.specs.Prelude.{◌≡◌, true, None, Some, is_some, IfOk, IfErr, OnOk};
 ghost use Rattle.cg_gating.specs.Gating.{AreTexts, GivesDemo, GivesGated, SaysDemo};
 ghost use Rattle.cg_gating.specs.Headline.{Headline};
-ghost use Rattle.cg_gating.specs.Played.{IsWhatPlayed};
-ghost use Rattle.cg_gating.specs.Request.{AreFor, MayGate, stops_at};
-ghost use Rattle.cg_machine.specs.Added.{own_netlist};
+ghost use Rattle.cg_gating.specs.Request.{MayGate, stops_at};
 ghost use Rattle.cg_plan.specs.Told.{PlanMayFail};
 ghost use Rattle.cg_planner.specs.Planning.{AreWritable, told};
 ghost use Rattle.cg_stimulus.specs.Inputs.{IsFor};
@@ -25,18 +23,18 @@ use std::alloc::{AllocError, Global};
 /// Gates a netlist: stages are planned and the plan's machine is written with a gating cell for each enable.
 ///
 /// It is refused by the limit at which the plan stops, or else by that on nets where the written netlist would pass it.
-pub fn gate(alloc: Global, netlist: Netlist, request: &Request<'_>) -> Result<Texts, AddFault>
-    requires { MayGate request.now netlist }
-    ensures gives { IfOk result (λ texts. GivesGated request.now None netlist texts) }
+pub fn gate(alloc: Global, netlist: &Netlist, request: &Request<'_>) -> Result<Texts, AddFault>
+    requires { MayGate request.now netlist.now }
+    ensures gives { IfOk result (λ texts. GivesGated request.now None netlist.now texts) }
 
     // The written netlist shows, from every state and over every waveform that begins with the clock low, what the netlist
     // shows; and a stage is inserted exactly where it deserves it.
-    ensures headline { IfOk result (λ texts. Headline request.now None netlist texts) }
-    ensures unstopped { OnOk result (stops_at request.now netlist ≡ None) }
-    ensures fault { IfErr result (PlanMayFail (stops_at request.now netlist)) }
+    ensures headline { IfOk result (λ texts. Headline request.now None netlist.now texts) }
+    ensures unstopped { OnOk result (stops_at request.now netlist.now ≡ None) }
+    ensures fault { IfErr result (PlanMayFail (stops_at request.now netlist.now)) }
 {
     let gated = gate_netlist(alloc, netlist, request)?;
-    let Ok(played) = play(alloc, &gated, request) else {
+    let Ok(played) = play_both(alloc, netlist, &gated.netlist, request.stimulus) else {
         return Err(AddFault::NoMemory);
     };
     finish(alloc, request, &gated, &played)
@@ -46,42 +44,41 @@ pub fn gate(alloc: Global, netlist: Netlist, request: &Request<'_>) -> Result<Te
 /// which begins anew. Without a stimulus the watcher is shown nothing.
 pub fn gate_watched(
     alloc: Global,
-    netlist: Netlist,
+    netlist: &Netlist,
     request: &Request<'_>,
     watcher: &mut Box<dyn Watcher>,
 ) -> Result<Texts, AddFault>
-    requires { MayGate request.now netlist }
-    ensures gives { IfOk result (λ texts. GivesGated request.now (Some (says watcher.old)) netlist texts) }
+    requires { MayGate request.now netlist.now }
+    ensures gives { IfOk result (λ texts. GivesGated request.now (Some (says watcher.old)) netlist.now texts) }
 
     // What holds without a watcher, and the watcher's line is what it says of exactly the moments of that history.
-    ensures headline { IfOk result (λ texts. Headline request.now (Some (says watcher.old)) netlist texts) }
-    ensures unstopped { OnOk result (stops_at request.now netlist ≡ None) }
-    ensures fault { IfErr result (PlanMayFail (stops_at request.now netlist)) }
+    ensures headline { IfOk result (λ texts. Headline request.now (Some (says watcher.old)) netlist.now texts) }
+    ensures unstopped { OnOk result (stops_at request.now netlist.now ≡ None) }
+    ensures fault { IfErr result (PlanMayFail (stops_at request.now netlist.now)) }
 {
     let gated = gate_netlist(alloc, netlist, request)?;
-    let Ok(played) = watch(alloc, &gated, request, watcher) else {
+    let Ok(played) = watch_both(alloc, netlist, &gated.netlist, request.stimulus, watcher) else {
         return Err(AddFault::NoMemory);
     };
     finish(alloc, request, &gated, &played)
 }
 
-/// Gates a generated pipeline of a size, and answers what is said of it. The stimulus is one for the netlist, and stands in the
-/// request.
+/// Gates a generated pipeline of a size, and answers what is said of it. The stimulus that stands in the request is played.
 pub fn gate_demo(
     alloc: Global,
     size: u32,
-    netlist: Netlist,
+    netlist: &Netlist,
     request: &Request<'_>,
-    stimulus: &Stimulus,
 ) -> Result<Seq<u8>, AddFault>
-    requires may { MayGate request.now netlist }
-    requires played { request.now.stimulus ≡ Some stimulus.now }
-    ensures gives { IfOk result (λ text. GivesDemo size request.now netlist text) }
-    ensures unstopped { OnOk result (stops_at request.now netlist ≡ None) }
-    ensures fault { IfErr result (PlanMayFail (stops_at request.now netlist)) }
+    requires may { MayGate request.now netlist.now }
+    requires played { is_some request.now.stimulus ≡ true }
+    ensures gives { IfOk result (λ text. GivesDemo size request.now netlist.now text) }
+    ensures unstopped { OnOk result (stops_at request.now netlist.now ≡ None) }
+    ensures fault { IfErr result (PlanMayFail (stops_at request.now netlist.now)) }
 {
+    let stimulus = request.stimulus.unwrap();
     let gated = gate_netlist(alloc, netlist, request)?;
-    let Ok(text) = demo_said(alloc, size, &gated, stimulus) else {
+    let Ok(text) = demo_said(alloc, size, netlist, &gated, stimulus) else {
         return Err(AddFault::NoMemory);
     };
     Ok(text)
@@ -91,44 +88,17 @@ pub fn gate_demo(
 fn demo_said(
     alloc: Global,
     size: u32,
+    read: &Netlist,
     gated: &Gated,
     stimulus: &Stimulus,
 ) -> Result<Seq<u8>, AllocError>
-    requires read { IsFor (own_netlist gated.now.plan.machine) stimulus.now }
+    requires read { IsFor read.now stimulus.now }
     requires written { IsFor gated.now.netlist stimulus.now }
-    ensures { IfOk result (λ text. SaysDemo size stimulus.now.rows (own_netlist gated.now.plan.machine) gated.now.netlist (told gated.now.plan) text) }
+    ensures { IfOk result (λ text. SaysDemo size stimulus.now.rows read.now gated.now.netlist (told gated.now.plan) text) }
 {
-    let edges = edges_of(
-        alloc,
-        gated.plan.machine.netlist(),
-        &gated.netlist,
-        stimulus,
-    )?;
+    let edges = edges_of(alloc, read, &gated.netlist, stimulus)?;
     let gates = gated.netlist.gaters();
     Ok(Seq::from_vec(demo_text(alloc, size, &gated.plan, gates, edges)?))
-}
-
-/// What comes of the stimulus, where there is one.
-fn play(alloc: Global, gated: &Gated, request: &Request<'_>) -> Result<Played, AllocError>
-    requires { AreFor request.now (own_netlist gated.now.plan.machine) gated.now.netlist }
-    ensures { IfOk result (λ played. IsWhatPlayed None request.now.stimulus (own_netlist gated.now.plan.machine) gated.now.netlist played) }
-{
-    let read = gated.plan.machine.netlist();
-    play_both(alloc, read, &gated.netlist, request.stimulus)
-}
-
-/// What comes of the stimulus, where there is one, while a watcher looks on the written netlist.
-fn watch(
-    alloc: Global,
-    gated: &Gated,
-    request: &Request<'_>,
-    watcher: &mut Box<dyn Watcher>,
-) -> Result<Played, AllocError>
-    requires { AreFor request.now (own_netlist gated.now.plan.machine) gated.now.netlist }
-    ensures { IfOk result (λ played. IsWhatPlayed (Some (says watcher.old)) request.now.stimulus (own_netlist gated.now.plan.machine) gated.now.netlist played) }
-{
-    let read = gated.plan.machine.netlist();
-    watch_both(alloc, read, &gated.netlist, request.stimulus, watcher)
 }
 
 /// The texts of a netlist that was gated, or want of memory.

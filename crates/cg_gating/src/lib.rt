@@ -6,6 +6,7 @@
 //! The modules, in the order in which data flows through them:
 //!
 //! - [`request`]: what is asked for.
+//! - `counting`: how often nets are 0 on a stimulus.
 //! - `planning`: the plan of a netlist.
 //! - `playing`: what comes of a stimulus on both netlists.
 //! - [`texts`]: the texts.
@@ -13,6 +14,7 @@
 //! - [`laws`]: what the texts mean.
 #![tactic(auto)]
 
+mod counting;
 pub mod gate;
 pub mod laws;
 mod planning;

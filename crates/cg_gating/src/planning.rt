@@ -3,7 +3,9 @@
 ghost use Rattle.std.specs.Prelude.{◌≡◌, ℕ, List, Some, IfOk, IfErr, IsTrue};
 ghost use Rattle.std.specs.Option.{option_copied};
 ghost use Rattle.cg_cell.specs.Name.{is_name};
-ghost use Rattle.cg_gating.specs.Gating.{IsGated};
+ghost use Rattle.cg_extract.specs.Extracting.{extracted};
+ghost use Rattle.cg_extract.specs.Lifted.{lifted};
+ghost use Rattle.cg_gating.specs.Gating.{IsWritten};
 ghost use Rattle.cg_gating.specs.Idling.{idle_of};
 ghost use Rattle.cg_gating.specs.Laws.{IsProper};
 ghost use Rattle.cg_gating.specs.Request.{MayGate, gating_of, stops_at};
@@ -11,26 +13,25 @@ ghost use Rattle.cg_insert.specs.Insert.{CanInsert};
 ghost use Rattle.cg_insert.specs.Inserting.{insertion};
 ghost use Rattle.cg_limit.specs.Answers.{OrNoMemory};
 ghost use Rattle.cg_lists.specs.Literals.{FitsIdle};
-ghost use Rattle.cg_machine.specs.Added.{own_netlist};
-ghost use Rattle.cg_machine.specs.Start.{CanStart, machine_of};
 ghost use Rattle.cg_netlist.specs.declared.fault.AddFault.TheVariants.{NoMemory};
 ghost use Rattle.cg_plan.specs.Plan.{plan_of};
 ghost use Rattle.cg_plan.specs.Told.{IsPlan, PlanMayFail};
 ghost use Rattle.cg_planner.specs.Planning.{AreWritable, told};
 ghost use Rattle.cg_stimulus.specs.Inputs.{IsFor, IsStimulus, Rows};
 
+use crate::counting::machine_zeros;
 use crate::request::Request;
+use cg_cell::fit::FitKind;
 use cg_cell::name::Name;
+use cg_extract::extract::{Extracted, extract};
 use cg_insert::insert::insert;
 use cg_lists::idle::Idle;
 use cg_machine::machine::Machine;
 use cg_netlist::fault::AddFault;
 use cg_netlist::netlist::Netlist;
 use cg_planner::plan::{Plan, make_plan};
-use cg_report::idle::idle_zeros;
-use cg_stimulus::played::one_played_history;
 use cg_stimulus::stimulus::Stimulus;
-use std::alloc::Global;
+use std::alloc::{AllocError, Global};
 
 /// A netlist that was gated: its plan, and the netlist that the plan's machine is written as.
 #[derive(Drop)]
@@ -39,21 +40,20 @@ pub struct Gated {
     pub netlist: Netlist,
 }
 
-/// Plans a netlist, and writes the plan's machine as a netlist.
+/// Plans the machine of a netlist, to whose enables its gating cells are lifted, and writes the plan's machine as a netlist.
 ///
 /// It is refused by the limit at which the plan stops, or else by that which the written netlist would pass.
 pub fn gate_netlist(
     alloc: Global,
-    netlist: Netlist,
+    netlist: &Netlist,
     request: &Request<'_>,
 ) -> Result<Gated, AddFault>
-    requires { MayGate request.now netlist }
-    ensures gated { IfOk result (λ gated. IsGated (gating_of request.now netlist) netlist (told gated.plan) gated.netlist) }
-    ensures own { IfOk result (λ gated. own_netlist gated.plan.machine ≡ netlist) }
+    requires { MayGate request.now netlist.now }
+    ensures gated { IfOk result (λ gated. IsWritten (gating_of request.now netlist.now) netlist.now (told gated.plan) gated.netlist) }
     ensures fits { IfOk result (λ gated. (stimulus : Rows) → request.now.stimulus ≡ Some stimulus → IsFor gated.netlist stimulus) }
     ensures writable { IfOk result (λ gated. AreWritable gated.plan.certificates) }
     ensures proper { IsProper request.now }
-    ensures fault { IfErr result (PlanMayFail (stops_at request.now netlist)) }
+    ensures fault { IfErr result (PlanMayFail (stops_at request.now netlist.now)) }
 {
     hold_request(request);
     let plan = plan_netlist(alloc, netlist, request)?;
@@ -99,43 +99,53 @@ fn name_test(test: Option<&Name>)
 }
 
 /// The plan of a netlist, for which nets are counted that are 0 on the rows of the stimulus, where there is one.
-fn plan_netlist(alloc: Global, netlist: Netlist, request: &Request<'_>) -> Result<Plan, AddFault>
-    requires { MayGate request.now netlist }
-    ensures plan { IfOk result (λ plan. IsPlan request.now.library request.now.settings (idle_of netlist request.now.prefix request.now.stimulus) (machine_of netlist request.now.prefix) (told plan)) }
+fn plan_netlist(alloc: Global, netlist: &Netlist, request: &Request<'_>) -> Result<Plan, AddFault>
+    requires { MayGate request.now netlist.now }
+    ensures plan { IfOk result (λ plan. IsPlan request.now.library request.now.settings (idle_of netlist.now request.now.prefix request.now.stimulus) (lifted netlist.now request.now.prefix) (told plan)) }
     ensures writable { IfOk result (λ plan. AreWritable plan.certificates) }
-    ensures fault { IfErr result (PlanMayFail (plan_of request.now.library request.now.settings (idle_of netlist request.now.prefix request.now.stimulus) (machine_of netlist request.now.prefix)).limit) }
+    ensures fault { IfErr result (PlanMayFail (plan_of request.now.library request.now.settings (idle_of netlist.now request.now.prefix request.now.stimulus) (lifted netlist.now request.now.prefix)).limit) }
 {
+    let Ok(lifted) = lift(alloc, netlist, request) else {
+        return Err(AddFault::NoMemory);
+    };
     match request.stimulus {
-        None => plan_with(alloc, netlist, request, None),
+        None => plan_machine(alloc, lifted.machine, request, None),
         Some(stimulus) => {
-            one_played_history(&netlist, stimulus);
-            let Ok(zeros) = idle_zeros(alloc, &netlist, stimulus) else {
+            let Ok(zeros) = machine_zeros(alloc, netlist, lifted.origin.as_slice(), stimulus) else {
                 return Err(AddFault::NoMemory);
             };
             let idle = Idle {
                 zeros: &zeros,
                 rows: stimulus.rows(),
             };
-            plan_with(alloc, netlist, request, Some(&idle))
+            plan_machine(alloc, lifted.machine, request, Some(&idle))
         }
     }
 }
 
-/// The plan of a netlist with these counts.
-fn plan_with(
+/// The machine of a netlist none of whose gating cells is refused.
+fn lift(alloc: Global, netlist: &Netlist, request: &Request<'_>) -> Result<Extracted, AllocError>
+    requires { MayGate request.now netlist.now }
+    ensures { IfOk result (λ lifted. (lifted.machine, lifted.origin) ≡ extracted netlist.now request.now.prefix) }
+{
+    let and2 = request.library.fit(FitKind::And2).is_some();
+    match extract(alloc, netlist, request.prefix, and2) {
+        Ok(lifted) => Ok(lifted),
+        Err(_) => Err(AllocError),
+    }
+}
+
+/// The plan of a machine with these counts.
+fn plan_machine(
     alloc: Global,
-    netlist: Netlist,
+    machine: Machine,
     request: &Request<'_>,
     idle: Option<&Idle<'_>>,
 ) -> Result<Plan, AddFault>
-    requires start { CanStart netlist request.now.prefix }
-    requires idle { FitsIdle (machine_of netlist request.now.prefix) (option_copied idle) }
-    ensures plan { IfOk result (λ plan. IsPlan request.now.library request.now.settings (option_copied idle.entry) (machine_of netlist request.now.prefix) (told plan)) }
+    requires { FitsIdle machine (option_copied idle) }
+    ensures plan { IfOk result (λ plan. IsPlan request.now.library request.now.settings (option_copied idle.entry) machine (told plan)) }
     ensures writable { IfOk result (λ plan. AreWritable plan.certificates) }
-    ensures fault { IfErr result (PlanMayFail (plan_of request.now.library request.now.settings (option_copied idle.entry) (machine_of netlist request.now.prefix)).limit) }
+    ensures fault { IfErr result (PlanMayFail (plan_of request.now.library request.now.settings (option_copied idle.entry) machine).limit) }
 {
-    let Ok(machine) = Machine::of(alloc, netlist, request.prefix) else {
-        return Err(AddFault::NoMemory);
-    };
     make_plan(alloc, machine, request.library, request.settings, idle)
 }

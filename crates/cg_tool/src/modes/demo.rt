@@ -1,6 +1,6 @@
 //! The mode `demo`: a generated pipeline is gated, and a summary is said of it.
 
-ghost use Rattle.std.specs.Prelude.{◌≡◌, IfOk, IsTrue, None, Ok, Some};
+ghost use Rattle.std.specs.Prelude.{◌≡◌, IfOk, IsTrue, None, Ok, Some, is_some, true};
 ghost use Rattle.std.specs.Option.{option_map};
 ghost use Rattle.cg_gating.specs.Request.{MayGate, stops_at};
 ghost use Rattle.cg_run.specs.Names.{name_of};
@@ -168,7 +168,7 @@ fn gate_with(
         (PutsDemo size (request_by library.now wanted.now (Some stimulus.now)) netlist.now) result }
 {
     let request = wanted.request(library, Some(stimulus));
-    gate_by(alloc, size, netlist, &request, stimulus)
+    gate_by(alloc, size, netlist, &request)
 }
 
 fn gate_by(
@@ -176,13 +176,12 @@ fn gate_by(
     size: u32,
     netlist: &Netlist,
     request: &Request<'_>,
-    stimulus: &Stimulus,
 ) -> Result<Output, Trouble>
     requires may { MayGate request.now netlist.now }
-    requires played { request.now.stimulus ≡ Some stimulus.now }
+    requires played { is_some request.now.stimulus ≡ true }
     ensures { Concludes (option_map Trouble.Limit (stops_at request.now netlist.now)) (PutsDemo size request.now netlist.now) result }
 {
-    match gate_demo(alloc, size, netlist, request, stimulus) {
+    match gate_demo(alloc, size, netlist, request) {
         Ok(said) => Ok(Output {
             stores: Seq::new(alloc),
             said,

@@ -43,10 +43,10 @@ abbrev pub BareIsWritable : Type 0
 BareIsWritable = (library : List CellData) (c : Circuit) → IsWritable library c → IsWritable library (bare c)
 
 -- this netlist is the machine's own, and the gates of chains have names that are made of the prefix, in order of addition
-pub record HasOwn (c : Circuit) (prefix : List ℕ) (m : MachineData) : Type 0 where
+pub record HasOwn (c : Circuit) (start : List ℕ) (m : MachineData) : Type 0 where
   pub own : own_netlist m ≡ bare c
   pub names : HasNames m
-  pub prefix : m.prefix ≡ prefix
+  pub prefix : m.prefix ≡ start
 
 abbrev pub LiftedOwn : Type 0
 LiftedOwn = (c : Circuit) (prefix : List ℕ) → CanExtract c prefix → HasOwn c prefix (lifted c prefix)

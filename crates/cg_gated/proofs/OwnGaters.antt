@@ -1,6 +1,6 @@
 -- The gating cells of a netlist that is gated: none is refused, and so the library has cells for what they become.
 use Rattle.std.proofs.Common.{◌≡◌, ℕ, ◌+◌, ◌≤◌, Bool, true, false, not, cond, ◌&&◌, List, [], ◌∷◌, length, slice_get, is_some, Option, None, Some, refl, sym, ◌∙◌, ap, subst, arith}
-use Rattle.std.specs.List.{All, count_by, find, list_any, position_from}
+use Rattle.std.specs.List.{count_by, find, list_any, position_from}
 use Rattle.std.specs.Option.{option_to_list}
 use Rattle.std.specs.Str.{bytes_eq}
 use Rattle.std.proofs.lemmas.Bool.{both_ways}
@@ -12,7 +12,6 @@ use Rattle.cg_cell.specs.Pins.{is_test}
 use Rattle.cg_cell.specs.declared.cell.CellKind.TheVariants.{Gater as GaterKind}
 use Rattle.cg_cell.specs.declared.fit.FitKind.TheVariants.{And2, Gater}
 use Rattle.cg_netlist.specs.Circuit.{Circuit, GatingCell}
-use Rattle.cg_netlist.specs.WellFormed.{IsWellFormed}
 use Rattle.cg_netlist.specs.said.Writable.{IsOf}
 use Rattle.cg_insert.proofs.GatedCells.{some_pass}
 use Rattle.cg_insert.proofs.GatedParts.{at_All}

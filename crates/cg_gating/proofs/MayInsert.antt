@@ -50,8 +50,11 @@ module _ (request : RequestData) (c : Circuit) (proper : IsProper request) (may 
 
   -- each net that is kept has a name of the netlist
   kept_names : (name : List ℕ) → IsFree c request.prefix name → AllByRecursion (λ (other : List ℕ). other ≢ name) (bare c).names
-  kept_names name free = by_recursion (λ other. other ≢ name) (bare c).names (All-map (λ other. other ≢ name) (net_name c.names) (kept_nets c) (All-from_members (λ x. net_name c.names x ≢ name) (kept_nets c) (λ x kept.
-  subst (λ other. other ≢ name) (sym (unwrap_or-slice_get c.names x [])) (All-get_or (λ other. other ≢ name) c.names x [] (kept_within c may.start.netlist x kept) free.new))))
+  kept_names name free =
+      let P : List ℕ → Type 0 = λ other. other ≢ name in
+      let each : All (λ x. P (net_name c.names x)) (kept_nets c) = All-from_members (λ x. P (net_name c.names x)) (kept_nets c) (λ x kept.
+      subst P (sym (unwrap_or-slice_get c.names x [])) (All-get_or P c.names x [] (kept_within c may.start.netlist x kept) free.new)) in
+      by_recursion P (bare c).names (All-map P (net_name c.names) (kept_nets c) each)
 
   new : (name : List ℕ) → request.test ≡ Some name → All (λ other. other ≢ name) (n.circuit.names ++ gate_names n)
   new name is =

@@ -3,8 +3,7 @@
 ghost use Rattle.std.specs.Prelude.{◌≡◌, ℕ, List, Some, IfOk, IfErr, IsTrue};
 ghost use Rattle.std.specs.Option.{option_copied};
 ghost use Rattle.cg_cell.specs.Name.{is_name};
-ghost use Rattle.cg_extract.specs.Extracting.{extracted};
-ghost use Rattle.cg_extract.specs.Lifted.{lifted};
+ghost use Rattle.cg_extract.specs.Lifted.{lifted, origins};
 ghost use Rattle.cg_gating.specs.Gating.{IsWritten};
 ghost use Rattle.cg_gating.specs.Idling.{idle_of};
 ghost use Rattle.cg_gating.specs.Laws.{IsProper};
@@ -105,20 +104,20 @@ fn plan_netlist(alloc: Global, netlist: &Netlist, request: &Request<'_>) -> Resu
     ensures writable { IfOk result (λ plan. AreWritable plan.certificates) }
     ensures fault { IfErr result (PlanMayFail (plan_of request.now.library request.now.settings (idle_of netlist.now request.now.prefix request.now.stimulus) (lifted netlist.now request.now.prefix)).limit) }
 {
-    let Ok(lifted) = lift(alloc, netlist, request) else {
+    let Ok(made) = lift(alloc, netlist, request) else {
         return Err(AddFault::NoMemory);
     };
     match request.stimulus {
-        None => plan_machine(alloc, lifted.machine, request, None),
+        None => plan_machine(alloc, made.machine, request, None),
         Some(stimulus) => {
-            let Ok(zeros) = machine_zeros(alloc, netlist, lifted.origin.as_slice(), stimulus) else {
+            let Ok(zeros) = machine_zeros(alloc, netlist, made.origin.as_slice(), stimulus) else {
                 return Err(AddFault::NoMemory);
             };
             let idle = Idle {
                 zeros: &zeros,
                 rows: stimulus.rows(),
             };
-            plan_machine(alloc, lifted.machine, request, Some(&idle))
+            plan_machine(alloc, made.machine, request, Some(&idle))
         }
     }
 }
@@ -126,11 +125,12 @@ fn plan_netlist(alloc: Global, netlist: &Netlist, request: &Request<'_>) -> Resu
 /// The machine of a netlist none of whose gating cells is refused.
 fn lift(alloc: Global, netlist: &Netlist, request: &Request<'_>) -> Result<Extracted, AllocError>
     requires { MayGate request.now netlist.now }
-    ensures { IfOk result (λ lifted. (lifted.machine, lifted.origin) ≡ extracted netlist.now request.now.prefix) }
+    ensures machine { IfOk result (λ made. made.machine ≡ lifted netlist.now request.now.prefix) }
+    ensures origin { IfOk result (λ made. made.origin ≡ origins netlist.now (lifted netlist.now request.now.prefix)) }
 {
     let and2 = request.library.fit(FitKind::And2).is_some();
     match extract(alloc, netlist, request.prefix, and2) {
-        Ok(lifted) => Ok(lifted),
+        Ok(made) => Ok(made),
         Err(_) => Err(AllocError),
     }
 }

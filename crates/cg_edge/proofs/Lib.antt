@@ -2,11 +2,13 @@ pub mod Added
 pub mod Chained
 pub mod Facts
 pub mod Follows
+pub mod Laid
 pub mod GateOrder
 pub mod Latched
 pub mod Marked
 pub mod Moved
 pub mod Puts
+pub mod Rows
 pub mod Ticked
 pub mod Walk
 pub mod Written

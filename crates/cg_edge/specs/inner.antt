@@ -1,2 +1,3 @@
 -- What only ties the code to the definitions.
+pub mod Flat
 pub mod Keeping

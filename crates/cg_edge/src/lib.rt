@@ -9,6 +9,8 @@
 //! - `clock_nets`: the clock and the outputs of gating cells.
 //! - `register_step`: which registers rise, and their next bits.
 //! - `readers`: which logic cells read a net.
+//! - `table`: truth tables of logic cells that have few inputs.
+//! - `flat`: the logic cells, laid out for a quick look.
 //! - `put`: the data inputs and the registers' bits at their nets.
 //! - `settle`: the logic cells, of which those are looked at that have a changed input.
 //! - `latch_step`: the latches of gating cells.
@@ -17,6 +19,7 @@
 #![tactic(auto)]
 
 mod clock_nets;
+mod flat;
 mod latch_step;
 mod moment;
 mod put;
@@ -24,3 +27,4 @@ mod readers;
 mod register_step;
 mod settle;
 pub mod simulator;
+mod table;

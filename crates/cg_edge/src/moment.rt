@@ -7,9 +7,11 @@ ghost use Rattle.cg_netlist.specs.Moment.{zip_with};
 ghost use Rattle.cg_netlist.specs.Netlist.{IsNetlist, widest_of};
 ghost use Rattle.cg_netlist.specs.Nets.{walk_order};
 ghost use Rattle.cg_edge.specs.Simulated.{rises_at};
+ghost use Rattle.cg_edge.specs.inner.Flat.{AreLaid};
 ghost use Rattle.cg_edge.specs.inner.Keeping.{AreMarked, AreReaders, IsChain, present_of, walk_of};
 
 use crate::clock_nets::drive;
+use crate::flat::FlatCells;
 use crate::latch_step::follow;
 use crate::put::{put_inputs, put_registers};
 use crate::readers::Readers;
@@ -45,6 +47,7 @@ pub(crate) fn advance(
     netlist: &Netlist,
     chain: &[GateClockId],
     order: &[CellId],
+    cells: &FlatCells,
     readers: &Readers,
     ticked: bool,
     clock: bool,
@@ -60,6 +63,7 @@ pub(crate) fn advance(
     requires netlist { IsNetlist netlist.now }
     requires chain { IsChain netlist.now chain.now }
     requires order { order.now ≡ walk_order netlist.now.cells }
+    requires cells { AreLaid netlist.now order.now (length order.now) cells.now }
     requires readers { AreReaders (length netlist.now.names) (length order.now) (walk_of netlist.now) readers.now }
     requires inputs { length inputs.now ≡ length (data_inputs netlist.now) }
     requires nets { length nets.old ≡ length netlist.now.names }
@@ -80,6 +84,6 @@ pub(crate) fn advance(
     move_registers(netlist, ticked, before, nets, state, rose);
     put_inputs(netlist, readers, inputs, nets, marks);
     put_registers(netlist, readers, state, nets, marks);
-    settle(netlist, order, readers, nets, marks, scratch);
+    settle(netlist, order, cells, readers, nets, marks, scratch);
     follow(netlist, nets, latches);
 }

@@ -5,18 +5,20 @@ ghost use Rattle.cg_netlist.specs.Circuit.{LogicCell, cell_nets};
 ghost use Rattle.cg_netlist.specs.Moment.{CellsHold, function_value, values_at};
 ghost use Rattle.cg_netlist.specs.Netlist.{IsNetlist, widest_of};
 ghost use Rattle.cg_netlist.specs.Nets.{walk_order};
+ghost use Rattle.cg_edge.specs.inner.Flat.{AreLaid, IsLaidAt};
 ghost use Rattle.cg_edge.specs.inner.Keeping.{AreMarked, AreReaders, AreSettled, IsPut, SameBut, walk_of};
 
+use crate::flat::FlatCells;
 use crate::put::put;
 use crate::readers::Readers;
 use cg_netlist::id::CellId;
 use cg_netlist::netlist::Netlist;
-use cg_netlist::walk::gather;
 
 /// Looks at the marked cells in walk order, so that each cell's output is its function of its inputs.
 pub(crate) fn settle(
     netlist: &Netlist,
     order: &[CellId],
+    cells: &FlatCells,
     readers: &Readers,
     nets: &mut [bool],
     marks: &mut [bool],
@@ -24,6 +26,7 @@ pub(crate) fn settle(
 )
     requires netlist { IsNetlist netlist.now }
     requires order { order.now ≡ walk_order netlist.now.cells }
+    requires cells { AreLaid netlist.now order.now (length order.now) cells.now }
     requires nets { length nets.old ≡ length netlist.now.names }
     requires readers { AreReaders (length netlist.now.names) (length order.now) (walk_of netlist.now) readers.now }
     requires marks { length marks.old ≡ length order.now }
@@ -37,7 +40,16 @@ pub(crate) fn settle(
     for place in 0..order.len() {
         if marks[place] {
             marks[place] = false;
-            look(netlist, order[place], readers, nets, marks, scratch);
+            look(
+                netlist,
+                order[place],
+                cells,
+                place,
+                readers,
+                nets,
+                marks,
+                scratch,
+            );
         }
     }
 }
@@ -46,6 +58,8 @@ pub(crate) fn settle(
 fn look(
     netlist: &Netlist,
     id: CellId,
+    cells: &FlatCells,
+    place: usize,
     readers: &Readers,
     nets: &mut [bool],
     marks: &mut [bool],
@@ -53,6 +67,8 @@ fn look(
 )
     requires netlist { IsNetlist netlist.now }
     requires cell { id < length netlist.now.cells }
+    requires place { place < length cells.now.cells }
+    requires laid { IsLaidAt netlist.now id cells.now place }
     requires nets { length nets.old ≡ length netlist.now.names }
     requires readers { AreReaders (length netlist.now.names) (length marks.old) (walk_of netlist.now) readers.now }
     requires room { widest_of netlist.now.cells ≤ length scratch.old }
@@ -60,9 +76,6 @@ fn look(
     ensures put { (cell : LogicCell ℕ) → slice_get netlist.now.cells id ≡ Some cell → IsPut readers.now cell.output (function_value cell.function (values_at nets.old cell.inputs)) nets.old nets.new marks.old marks.new }
     ensures room { length scratch.new ≡ length scratch.old }
 {
-    let cell = netlist.cell(id);
-    let count = cell.inputs.len();
-    gather(nets, cell.inputs, scratch);
-    let bit = netlist.value(id, &scratch[..count]);
-    put(readers, cell.output, bit, nets, marks);
+    let bit = cells.evaluate(netlist, id, place, nets, scratch);
+    put(readers, cells.output(netlist, id, place), bit, nets, marks);
 }

@@ -9,6 +9,7 @@ ghost use Rattle.cg_netlist.specs.Netlist.{IsNetlist};
 ghost use Rattle.cg_edge.specs.Shows.{Shows, ShowsOn};
 ghost use Rattle.cg_edge.specs.Simulated.{MayTick, Simulated, Ticks, fresh};
 
+use crate::flat::FlatCells;
 use crate::moment::advance;
 use crate::readers::Readers;
 use cg_netlist::id::{CellId, GateClockId, NetId, RegId};
@@ -27,6 +28,7 @@ pub struct Simulator<'a> {
     start: Vec<bool>,
     chain: Vec<GateClockId>,
     order: &'a [CellId],
+    cells: FlatCells,
     readers: Readers,
     ticked: bool,
     nets: Vec<bool>,
@@ -50,7 +52,7 @@ impl<'a> Model for Simulator<'a> {
 
     ghost view = { λ s. record { circuit = s.netlist.now; start = s.start.items; present = present_of s.ticked s.nets.items s.state.items s.latches.items; rose = s.rose.items } };
 
-    ghost invariant = { λ s. IsKept s.netlist.now s.start.items s.chain.items s.order.now s.readers s.ticked s.nets.items s.before.items s.state.items s.latches.items s.rose.items s.marks.items s.scratch.items };
+    ghost invariant = { λ s. IsKept s.netlist.now s.start.items s.chain.items s.order.now s.cells s.readers s.ticked s.nets.items s.before.items s.state.items s.latches.items s.rose.items s.marks.items s.scratch.items };
 }
 
 impl<'a> Simulator<'a> {
@@ -69,6 +71,7 @@ impl<'a> Simulator<'a> {
         let gaters = netlist.gaters() as usize;
         let order = netlist.order();
         let room = netlist.widest() as usize;
+        let cells = FlatCells::new(alloc, netlist, order)?;
         let readers = Readers::new(alloc, netlist, order)?;
         let marks = bits(alloc, true, order.len())?;
         Ok(Simulator {
@@ -76,6 +79,7 @@ impl<'a> Simulator<'a> {
             start: Vec::from_slice(alloc, start)?,
             chain: netlist.gate_order(alloc)?,
             order,
+            cells,
             readers,
             ticked: false,
             nets: bits(alloc, false, nets)?,
@@ -98,6 +102,7 @@ impl<'a> Simulator<'a> {
             self.netlist,
             &self.chain,
             self.order,
+            &self.cells,
             &self.readers,
             self.ticked,
             clock,

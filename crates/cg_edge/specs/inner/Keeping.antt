@@ -5,6 +5,7 @@ use Rattle.cg_netlist.specs.History.{Moment}
 use Rattle.cg_netlist.specs.Moment.{bit, function_value, values_at}
 use Rattle.cg_netlist.specs.Netlist.{IsNetlist, widest_of}
 use Rattle.cg_netlist.specs.Nets.{walk_order}
+use Rattle.cg_edge.specs.inner.Flat.{AreLaid, Layout}
 
 -- the bits of nets after a part of a tick are those of before but at these nets
 pub record SameBut (touched : List ℕ) (old new : List Bool) : Type 0 where
@@ -74,11 +75,12 @@ present_of ticked nets state latches = if ticked then Some (record { nets = nets
 
 -- what is true of a simulator: each list has its length, each cell holds or is marked, and before the first tick the
 -- registers have their start bits, no latch is 1 and no register rose
-pub record IsKept (c : Circuit) (start : List Bool) (chain order : List ℕ) (readers : List (List ℕ)) (ticked : Bool) (nets before state latches rose marks scratch : List Bool) : Type 0 where
+pub record IsKept (c : Circuit) (start : List Bool) (chain order : List ℕ) (cells : Layout) (readers : List (List ℕ)) (ticked : Bool) (nets before state latches rose marks scratch : List Bool) : Type 0 where
   pub netlist : IsNetlist c
   pub started : length start ≡ length c.registers
   pub chained : IsChain c chain
   pub ordered : order ≡ walk_order c.cells
+  pub laid : AreLaid c order (length order) cells
   pub reading : AreReaders (length c.names) (length order) (walk_of c) readers
   pub nets_long : length nets ≡ length c.names
   pub before_long : length before ≡ length c.names

@@ -1,28 +1,22 @@
-use Rattle.std.proofs.Common.{length, sym, arith}
-use Rattle.std.proofs.lemmas.List.{length-take-le}
-use Rattle.cg_netlist.specs.View.{cell_seen}
-use Rattle.cg_edge.proofs.Facts.{cell_inputs, cell_output}
-use Rattle.cg_edge.proofs.Walk.{inputs_least}
+use Rattle.std.proofs.Common.{◌≡◌, ℕ, Bool, List, length, slice_set, sym, subst, ap, ◌∙◌, arith}
+use Rattle.cg_netlist.specs.Circuit.{LogicCell}
+use Rattle.cg_netlist.specs.Moment.{function_value, values_at}
+use Rattle.cg_netlist.proofs.Values.{element_at}
+use Rattle.cg_edge.specs.inner.Keeping.{IsPut}
+use Rattle.cg_edge.proofs.Facts.{cell_output}
 use Rattle.cg_edge.proofs.settle.look.Goals as goal
 
-pub gather-requires-clause-nets : goal.gather-requires-clause-nets
-gather-requires-clause-nets c = cell_inputs c.args.netlist.now c.requires.netlist.well_formed c.args.id (cell_seen c.cell-cell.result) c.cell-cell.ensures (length c.args.nets.now) c.requires.nets
-
-pub gather-requires-clause-scratch : goal.gather-requires-clause-scratch
-gather-requires-clause-scratch c = let least = inputs_least c.args.netlist.now.cells c.args.id (cell_seen c.cell-cell.result) c.cell-cell.ensures in omega (arith, least, c.requires.room)
-
-pub slice_bounds-value-end : goal.slice_bounds-value-end
-slice_bounds-value-end c = let least = inputs_least c.args.netlist.now.cells c.args.id (cell_seen c.cell-cell.result) c.cell-cell.ensures in omega (arith, least, c.requires.room, c.gather.auto.scratch)
-
-pub slice_bounds-value-end-2 : goal.slice_bounds-value-end-2
-slice_bounds-value-end-2 c =
-    let least = inputs_least c.args.netlist.now.cells c.args.id (cell_seen c.cell-cell.result) c.cell-cell.ensures in
-    sym (length-take-le (length c.cell-cell.result.inputs.now) c.gather.new.scratch (omega (arith, least, c.requires.room, c.gather.auto.scratch)))
-
-pub value-bit-requires : goal.value-bit-requires
-value-bit-requires c =
-    let least = inputs_least c.args.netlist.now.cells c.args.id (cell_seen c.cell-cell.result) c.cell-cell.ensures in
-    (cell_seen c.cell-cell.result, c.cell-cell.ensures, length-take-le (length c.cell-cell.result.inputs.now) c.gather.new.scratch (omega (arith, least, c.requires.room, c.gather.auto.scratch)))
-
 pub put-requires-clause-net : goal.put-requires-clause-net
-put-requires-clause-net c = let below = cell_output c.args.netlist.now c.requires.netlist.well_formed c.args.id (cell_seen c.cell-cell.result) c.cell-cell.ensures (length c.args.nets.now) c.requires.nets in omega (arith, below)
+put-requires-clause-net c =
+    let cell = element_at c.args.netlist.now.cells c.args.id c.requires.cell in
+    let below = cell_output c.args.netlist.now c.requires.netlist.well_formed c.args.id cell.0 cell.1 (length c.args.nets.now) c.requires.nets in
+    omega (arith, below, c.output.ensures cell.0 cell.1)
+
+pub returns-clause-nets : goal.returns-clause-nets
+returns-clause-nets c cell at =
+    c.put.ensures.nets ∙ (ap (λ net. slice_set c.args.nets.now net c.evaluate-bit.result) (c.output.ensures cell at) ∙ ap (slice_set c.args.nets.now cell.output) (c.evaluate-bit.ensures.value cell at))
+
+pub returns-clause-put : goal.returns-clause-put
+returns-clause-put c cell at =
+    subst (λ net. IsPut c.args.readers.now net (function_value cell.function (values_at c.args.nets.now cell.inputs)) c.args.nets.now c.put.new.nets c.args.marks.now c.put.new.marks) (c.output.ensures cell at)
+    (subst (λ b. IsPut c.args.readers.now c.output.result b c.args.nets.now c.put.new.nets c.args.marks.now c.put.new.marks) (c.evaluate-bit.ensures.value cell at) c.put.ensures.put)

@@ -14,6 +14,11 @@ use Rattle.cg_edge.proofs.settle.settle.Goals.{then-marks-place, else-marks-plac
 pub look-requires-clause-cell : goal.look-requires-clause-cell
 look-requires-clause-cell c = order_within c.args.netlist.now.cells c.args.order.now c.requires.order c.loop-place.place c.index-order-place.result c.index-order-place.is c.loop-place-test.true
 
+pub look-requires-clause-laid : goal.look-requires-clause-laid
+look-requires-clause-laid c =
+    c.requires.cells.laid c.loop-place.place c.index-order-place.result
+    (slice_get-get_or c.args.order.now c.loop-place.place c.index-order-place.result c.loop-place-test.true ∙ ap (λ x. Some x) (sym c.index-order-place.is))
+
 pub loop-place-preserved : goal.loop-place-preserved
 loop-place-preserved c =
     let n = c.args.netlist.now in

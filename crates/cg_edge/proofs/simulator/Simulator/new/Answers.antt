@@ -1,9 +1,14 @@
 use Rattle.std.proofs.Common.{◌≡◌, false, true, length, replicate, sym, subst, ap, ◌∙◌, arith}
 use Rattle.std.proofs.lemmas.List.{length-replicate}
+use Rattle.cg_edge.specs.inner.Flat.{AreLaid}
 use Rattle.cg_edge.specs.inner.Keeping.{AreReaders, walk_of}
 use Rattle.cg_edge.proofs.GateOrder.{gate_chain}
+use Rattle.cg_edge.proofs.Laid.{order_cells}
 use Rattle.cg_edge.proofs.Ticked.{all_marked}
 use Rattle.cg_edge.proofs.simulator.Simulator.new.Goals as goal
+
+pub new-requires : goal.new-requires
+new-requires c = order_cells c.args.netlist.now.cells c.order-order.result.now c.order-order.ensures.order
 
 pub invariant_of-result : goal.invariant_of-result
 invariant_of-result c =
@@ -15,6 +20,7 @@ invariant_of-result c =
       started = ap length c.in_ok-from_slice.ensures.items ∙ c.requires;
       chained = gate_chain n good.well_formed c.in_ok-gate_order.field-0.items c.in_ok-gate_order.ensures;
       ordered = c.order-order.ensures.order;
+      laid = subst (AreLaid n c.order-order.result.now (length c.order-order.result.now)) (sym c.cells.view_is) (c.in_ok-cells.ensures);
       reading = subst (AreReaders (length n.names) (length c.order-order.result.now) (walk_of n)) (sym c.readers.view_is) (c.in_ok-readers.ensures);
       nets_long = ap length c.in_ok-bits.ensures ∙ (length-replicate c.nets-nets.result false ∙ c.nets-nets.ensures.count);
       before_long = ap length c.in_ok-bits-2.ensures ∙ (length-replicate c.nets-nets.result false ∙ c.nets-nets.ensures.count);

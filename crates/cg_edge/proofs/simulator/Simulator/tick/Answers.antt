@@ -26,6 +26,7 @@ invariant_of-self c =
       started = k.started;
       chained = k.chained;
       ordered = k.ordered;
+      laid = k.laid;
       reading = k.reading;
       nets_long = ap length nets ∙ (c.advance.auto.nets ∙ (ap length c.deref_mut.ensures.value ∙ k.nets_long));
       before_long = ap length before ∙ (c.advance.auto.before ∙ (ap length c.deref_mut-2.ensures.value ∙ k.before_long));

@@ -1,13 +1,13 @@
 -- Terms and cells built on a list and on one in which it is embedded.
-use Rattle.std.proofs.Common.{◌<◌, ◌||◌, length, slice_get, inl, inr, ◌≡◌, ◌+◌, ◌*◌, ◌/◌, ◌%◌, ℕ, zero, suc, Bool, true, false, cond, if◌then◌else◌, List, [], ◌∷◌, map, nat_eq, slice_index_or, refl, sym, ◌∙◌, ap, subst, arith}
+use Rattle.std.proofs.Common.{◌≡◌, ◌+◌, ◌*◌, ◌/◌, ◌%◌, ℕ, zero, suc, Bool, true, false, cond, if◌then◌else◌, List, [], ◌∷◌, map, nat_eq, slice_index_or, refl, sym, ◌∙◌, ap, subst, arith}
 use Rattle.std.specs.List.{filter}
-use Rattle.std.proofs.lemmas.Bool.{eqb-true, or_left, both_ways}
+use Rattle.std.proofs.lemmas.Bool.{both_ways}
 use Rattle.cg_cell.specs.Build.{Run, build_and, build_not, build_or, build_xor, chain}
 use Rattle.cg_cell.specs.Domain.{Seen}
 use Rattle.cg_cell.specs.Eval.{build_term}
 use Rattle.cg_cell.specs.Term.{Term, Bit, Input, Inverse, Both, Either, Differ}
-use Rattle.cg_cell.proofs.RunsGrow.{Grows, grows_term}
-use Rattle.cg_aig.specs.Aig.{nodes, aig_ops, inverse}
+use Rattle.cg_cell.proofs.RunsGrow.{grows_term}
+use Rattle.cg_aig.specs.Aig.{aig_ops, inverse}
 use Rattle.cg_aig.proofs.RunsFit.{aig_growing}
 use Rattle.cg_netlist.specs.Circuit.{LogicCell, is_in}
 use Rattle.cg_netlist.specs.Nets.{IsOrdered, outputs}

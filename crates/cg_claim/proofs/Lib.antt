@@ -4,10 +4,14 @@ pub mod CellsLaid
 pub mod ClaimsHold
 pub mod ClaimsSaid
 pub mod DriversTell
+pub mod Embedded
+pub mod EmbeddedLeaves
+pub mod EmbeddedRuns
 pub mod GivenNets
 pub mod Goal
 pub mod GoalBits
 pub mod HoldWidths
+pub mod IdleSizes
 pub mod LeafOrder
 pub mod LeavesFound
 pub mod NextBits

@@ -1,5 +1,5 @@
 -- What is proved of claims.
-use Rattle.std.specs.Prelude.{◌≡◌, ◌↔◌, ◌<◌, ℕ, Bool, true, false, not, List, [], ◌∷◌, length, map, slice_get, Some}
+use Rattle.std.specs.Prelude.{◌≡◌, ◌↔◌, ◌<◌, ◌≤◌, ℕ, Bool, true, false, not, List, [], ◌∷◌, length, map, slice_get, Some}
 use Rattle.cg_cell.specs.Build.{Run, build_and, build_not, build_or, plain}
 use Rattle.cg_cell.specs.Domain.{Seen}
 use Rattle.cg_cell.specs.declared.fit.FitKind.{FitKind}
@@ -9,7 +9,7 @@ use Rattle.cg_netlist.specs.Circuit.{is_in}
 use Rattle.cg_machine.specs.Claims.{CanIdle, Hold, Literal, Stable, Target, Unseen, any_at}
 use Rattle.cg_machine.specs.Gates.{AddedGate, HasInputs, gate_cell}
 use Rattle.cg_machine.specs.Machine.{IsMachine, MachineData, values, walk_of}
-use Rattle.cg_claim.specs.Build.{Table, aig_values, cell_run, claim_run}
+use Rattle.cg_claim.specs.Build.{Table, aig_values, cell_run, claim_run, nodes_of}
 use Rattle.cg_netlist.specs.Cone.{IsInCone, cone_of}
 use Rattle.cg_claim.specs.declared.name.ClaimName.{ClaimName}
 use Rattle.cg_claim.specs.LeafBits.{free_of, is_never, violates_at}
@@ -94,3 +94,7 @@ TargetsSuffice = (m : MachineData) (E : List Literal) (Q G : List ℕ) → IsMac
 -- an added gate gives what `not`, `and` or `or` of its inputs gives, by its kind
 abbrev pub GatesAreOperations : Type 0
 GatesAreOperations = (gate : AddedGate) (t : Table) → HasInputs gate.kind (length gate.inputs) → EndAlike (cell_run aig_values (gate_cell gate) t) (gate_run gate.kind (map t.at gate.inputs) t.domain)
+
+-- the claim that a literal can be 0 has no more leaves and and-nodes than one that a register holds its bit where it is 0
+abbrev pub IdleIsNoLarger : Type 0
+IdleIsNoLarger = (m : MachineData) (e : Literal) (r : ℕ) → IsMachine m → nodes_of m (idle_question (e ∷ [])) ≤ nodes_of m (hold_question e r)

@@ -1,10 +1,11 @@
 //! What is proved of claims.
 
-ghost use Rattle.cg_claim.specs.Laws.{ApartIsUnseen, ConeIsReached, GatesAreOperations, GoalViolates, HoldIsSaid, HoldLeavesAreSame, IdleGoal, IdleIsSaid, NeverIsTried, StableIsSaid, TargetsSuffice, UnseenIsSaid};
+ghost use Rattle.cg_claim.specs.Laws.{ApartIsUnseen, ConeIsReached, GatesAreOperations, GoalViolates, HoldIsSaid, HoldLeavesAreSame, IdleGoal, IdleIsNoLarger, IdleIsSaid, NeverIsTried, StableIsSaid, TargetsSuffice, UnseenIsSaid};
 
 /// The laws of claims: at bits of its leaves a goal is 1 exactly where these bits violate the claim, so that it is
 /// never 1 exactly where the claim holds over all states and inputs. What a claim reaches is what logic cells lead
-/// from, and a target that reaches no register of a stage needs no claim.
+/// from, and a target that reaches no register of a stage needs no claim. The claim that a literal can be 0 is no larger
+/// than one that a register holds its bit where that literal is 0.
 ///
 /// The call does nothing; callers use what it ensures.
 pub fn claim_laws()
@@ -20,4 +21,5 @@ pub fn claim_laws()
     ensures apart { ApartIsUnseen }
     ensures targets { TargetsSuffice }
     ensures gates { GatesAreOperations }
+    ensures no_larger { IdleIsNoLarger }
 {}

@@ -6,7 +6,7 @@ use Rattle.std.proofs.lemmas.Option.{none-some, same_Some}
 use Rattle.cg_claim.specs.Build.{nodes_of}
 use Rattle.cg_claim.specs.LeafBits.{is_never}
 use Rattle.cg_claim.specs.Leaves.{width_of}
-use Rattle.cg_claim.specs.Question.{hold_question, idle_question}
+use Rattle.cg_claim.specs.Question.{Question, hold_question, idle_question}
 use Rattle.cg_limit.specs.Answers.{OrNoMemory}
 use Rattle.cg_limit.specs.declared.Limit.{Limit}
 use Rattle.cg_limit.specs.declared.Limit.TheVariants.{ClaimNodes}
@@ -19,6 +19,7 @@ use Rattle.cg_netlist.specs.declared.fault.AddFault.TheVariants.{Limit as LimitF
 use Rattle.cg_unroll.specs.Claims.{IsRefused}
 use Rattle.cg_unroll.specs.declared.claim.ClaimFault.{ClaimFault}
 use Rattle.cg_unroll.specs.declared.claim.ClaimFault.TheVariants.{Wide as WideFault, Limit as ClaimLimit, NoMemory as ClaimMemory}
+use Rattle.cg_unroll.proofs.FewLeaves.{few_leaves}
 use Rattle.cg_hold.specs.declared.choice.Choice.{Choice}
 use Rattle.cg_hold.specs.declared.choice.Choice.TheVariants.{Wide, Takes}
 use Rattle.cg_hold.specs.declared.trial.Trial.{Trial}
@@ -182,3 +183,9 @@ okay choice = Ok choice
 pub no_literals : (xs : List Literal) (n : ℕ) (b : Bool) → n ≡ length xs → b ≡ nat_eq n 0 → b ≡ true → xs ≡ []
 no_literals [] n b long is empty = refl
 no_literals (x ∷ xs) n b long is empty = let e : n ≡ 0 = eqb-true n 0 (sym is ∙ empty) in absurd (omega (arith, e, long))
+
+-- at the largest width the fault of a claim that has no more nodes than it may have is want of memory
+pub wants_memory : (m : MachineData) → IsMachine m → (q : Question) (fault : ClaimFault) → nodes_of m q ≤ 65536 → IsRefused m q 4294967295 fault → fault ≡ ClaimMemory
+wants_memory m good q (WideFault n) small is = let few = few_leaves m good q in absurd (omega (arith, few, is.0, is.1))
+wants_memory m good q (ClaimLimit which) small is = absurd (omega (arith, small, is.2))
+wants_memory m good q ClaimMemory small is = refl

@@ -5,7 +5,7 @@ ghost use Rattle.cg_aig.specs.Aig.{aig_ops};
 ghost use Rattle.cg_claim.specs.LeafBits.{is_never};
 ghost use Rattle.cg_claim.specs.Question.{Question, hold_question, idle_question};
 ghost use Rattle.cg_claim.specs.Violates.{SidesFit};
-ghost use Rattle.cg_hold.specs.inner.Choosing.{HasRoom, IsLiteralOf, refused_trial, trial_of};
+ghost use Rattle.cg_hold.specs.inner.Choosing.{HasRoom, IdleFits, IsLiteralOf, refused_trial, trial_of};
 ghost use Rattle.cg_hold.specs.inner.Cycles.{AreCycles};
 ghost use Rattle.cg_limit.specs.Answers.{OrNoMemory};
 ghost use Rattle.cg_lists.specs.HoldList.{serves};
@@ -132,6 +132,7 @@ impl Trier {
         requires claim { IsClaim machine.now (hold_question literal reg) width self.old.unroller }
         ensures { MatchResult result (λ trial. trial ≡ (if serves machine.now reg literal then Trial.Serves else Trial.Fails)) (λ fault. fault ≡ NoMemory) }
     {
+        claim_laws();
         let _netlist = machine.netlist();
         let Ok(holds) = self.is_never() else {
             return Err(AddFault::NoMemory);
@@ -149,7 +150,7 @@ impl Trier {
         }
     }
 
-    /// Whether a literal is never 0.
+    /// Whether a literal is never 0, where the claim that it can be is within its limit.
     fn is_never_idle(
         &mut self,
         machine: &Machine,
@@ -158,17 +159,17 @@ impl Trier {
     ) -> Result<bool, AllocError>
         requires net { literal.0 < length machine.now.circuit.names }
         requires cycles { AreCycles machine.now cycles.now.cycles }
+        requires small { IdleFits machine.now literal }
         ensures { IfOk result (λ never. never ≡ is_never machine.now (idle_question (literal ∷ []))) }
     {
         let _netlist = machine.netlist();
         if cycles.show_idle(machine, literal) {
             return Ok(false);
         }
-        // The claim has fewer leaves than any width of this type allows. Its nodes are among those of a hold claim that was
-        // within the limit; as this is not proved, a refusal would be answered as want of memory.
+        // No machine has as many leaves as this width.
         match self.unroller.idle(machine, &[literal], u32::MAX) {
             Ok(()) => self.is_never(),
-            Err(_) => Err(AllocError),
+            Err(fault) => Err(wanting(fault)),
         }
     }
 
@@ -203,5 +204,15 @@ fn refused(fault: ClaimFault) -> Result<Trial, AddFault>
         ClaimFault::Wide(_) => Ok(Trial::TooWide),
         ClaimFault::Limit(limit) => Err(AddFault::Limit(limit)),
         ClaimFault::NoMemory => Err(AddFault::NoMemory),
+    }
+}
+
+/// Want of memory, where a fault stands for nothing else.
+fn wanting(fault: ClaimFault) -> AllocError
+    requires { fault ≡ ClaimFault.NoMemory }
+{
+    match fault {
+        ClaimFault::NoMemory => AllocError,
+        ClaimFault::Wide(_) | ClaimFault::Limit(_) => unreachable!(),
     }
 }

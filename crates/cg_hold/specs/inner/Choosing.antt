@@ -1,14 +1,16 @@
 -- What is known of the first registers.
-use Rattle.std.specs.Prelude.{◌≡◌, ◌<◌, ℕ, ◌*◌, Bool, true, false, if◌then◌else◌, List, [], ◌∷◌, ◌++◌, length, map, slice_index_or, slice_set, nat_lt, slice_get, is_none, Option, Some, None, Result, Ok, Err}
+use Rattle.std.specs.Prelude.{◌≡◌, ◌<◌, ◌≤◌, ℕ, ◌*◌, Bool, true, false, if◌then◌else◌, List, [], ◌∷◌, ◌++◌, length, map, slice_index_or, slice_set, nat_lt, slice_get, is_none, Option, Some, None, Result, Ok, Err}
 use Rattle.std.specs.List.{count_by, filter, find, list_any, range_with_len}
 use Rattle.std.specs.Option.{option_map_or}
 use Rattle.cg_limit.specs.declared.Limit.TheVariants.{ClaimNodes}
+use Rattle.cg_limit.specs.declared.TheConstants.{MOST_CLAIM_NODES}
 use Rattle.cg_netlist.specs.declared.fault.AddFault.{AddFault}
 use Rattle.cg_netlist.specs.declared.fault.AddFault.TheVariants.{Limit as LimitFault, NoMemory}
 use Rattle.cg_machine.specs.Claims.{Literal}
 use Rattle.cg_machine.specs.Machine.{MachineData, enable_of}
 use Rattle.cg_machine.specs.declared.stage.Stage.{Stage}
-use Rattle.cg_claim.specs.Question.{hold_question}
+use Rattle.cg_claim.specs.Build.{nodes_of}
+use Rattle.cg_claim.specs.Question.{hold_question, idle_question}
 use Rattle.cg_lists.specs.HoldList.{chosen, chosen_regs, hold_stage, hold_width, is_large, looked_at, serves, unless_empty, up_to}
 use Rattle.cg_lists.specs.Literals.{IdleData}
 use Rattle.cg_lists.specs.Supports.{input_cone}
@@ -28,6 +30,10 @@ IsLiteralOf m r l = (is_in (input_cone m r) l.0 ≡ true) × (l.0 < length m.cir
 -- no hold claim of a register is refused
 abbrev pub HasRoom : MachineData → ℕ → ℕ → Type 0
 HasRoom m width r = (nat_lt width (hold_width m r) ≡ false) × ((l : Literal) → IsLiteralOf m r l → is_large m (hold_question l r) ≡ false)
+
+-- the claim that a literal can be 0 has no more leaves and and-nodes than a claim may have
+abbrev pub IdleFits : MachineData → Literal → Type 0
+IdleFits m l = nodes_of m (idle_question (l ∷ [])) ≤ MOST_CLAIM_NODES
 
 -- what comes of a literal that is looked at
 abbrev pub trial_of : MachineData → ℕ → ℕ → Literal → Result Trial AddFault

@@ -3,6 +3,12 @@ use Rattle.cg_claim.specs.Question.{hold_question}
 use Rattle.cg_hold.proofs.Trials.{both_serve, fails_hold}
 use Rattle.cg_hold.proofs.trial.Trier.judge.Goals as goal
 
+pub is_never_idle-requires-clause-small : goal.is_never_idle-requires-clause-small
+is_never_idle-requires-clause-small c =
+    let small = c.requires.claim.small in
+    let less = c.claim_laws.ensures.no_larger c.args.machine.now c.args.literal c.args.reg c.netlist-netlist.ensures.machine in
+    omega (arith, small, less)
+
 pub returns-then-not-holds : goal.returns-then-not-holds
 returns-then-not-holds c =
     let m = c.args.machine.now in

@@ -9,6 +9,7 @@ ghost use Rattle.cg_stage.specs.Stages.{Fits};
 
 use crate::earlier::earlier_of;
 use crate::judge::Judge;
+use crate::progress::Progress;
 use cg_cell::library::Library;
 use cg_list::Seq;
 use cg_machine::machine::Machine;
@@ -59,20 +60,38 @@ impl Draft {
         }
     }
 
-    /// Tries the hold stages, then what the rounds of stability find, and then what those of unobservability find.
+    /// Tries all parts, and tells when that ends, whatever comes of it.
     pub fn try_parts(
         &mut self,
         holds: Seq<Stage>,
         library: &Library,
         settings: &Settings,
+        progress: &mut dyn Progress,
     ) -> Result<(), AddFault>
         requires { AllFit self.old.machine holds }
         ensures leads { OnOk result (Leads (all_parts library.now settings.now holds) self.old self.new) }
         ensures fault { IfErr result (MayStop (all_parts library.now settings.now holds) self.old) }
     {
-        self.try_all(holds, library, settings)?;
-        self.rounds(StageKind::Stable, library, settings)?;
-        self.rounds(StageKind::Unseen, library, settings)
+        let tried = self.try_each_part(holds, library, settings, progress);
+        progress.done();
+        tried
+    }
+
+    /// Tries the hold stages, then what the rounds of stability find, and then what those of unobservability find.
+    fn try_each_part(
+        &mut self,
+        holds: Seq<Stage>,
+        library: &Library,
+        settings: &Settings,
+        progress: &mut dyn Progress,
+    ) -> Result<(), AddFault>
+        requires { AllFit self.old.machine holds }
+        ensures leads { OnOk result (Leads (all_parts library.now settings.now holds) self.old self.new) }
+        ensures fault { IfErr result (MayStop (all_parts library.now settings.now holds) self.old) }
+    {
+        self.try_all(holds, library, settings, progress)?;
+        self.rounds(StageKind::Stable, library, settings, progress)?;
+        self.rounds(StageKind::Unseen, library, settings, progress)
     }
 
     /// As many rounds of a kind as the settings ask for, each with the list that the machine has at its start.
@@ -81,6 +100,7 @@ impl Draft {
         kind: StageKind,
         library: &Library,
         settings: &Settings,
+        progress: &mut dyn Progress,
     ) -> Result<(), AddFault>
         ensures leads { OnOk result (Leads (rounds library.now settings.now kind settings.now.rounds) self.old self.new) }
         ensures fault { IfErr result (MayStop (rounds library.now settings.now kind settings.now.rounds) self.old) }
@@ -93,7 +113,7 @@ impl Draft {
             if stages.is_empty() {
                 return Ok(());
             }
-            self.try_all(stages, library, settings)?;
+            self.try_all(stages, library, settings, progress)?;
         }
         Ok(())
     }
@@ -114,18 +134,21 @@ impl Draft {
         }
     }
 
-    /// Tries stages that fit, one after the other.
+    /// Tries stages that fit, one after the other, and tells of each.
     fn try_all(
         &mut self,
         stages: Seq<Stage>,
         library: &Library,
         settings: &Settings,
+        progress: &mut dyn Progress,
     ) -> Result<(), AddFault>
         requires { AllFit self.old.machine stages }
         ensures leads { OnOk result (Leads (λ p. try_all library.now settings.now p stages) self.old self.new) }
         ensures fault { IfErr result (MayStop (λ p. try_all library.now settings.now p stages) self.old) }
     {
+        let listed = self.stages.len().saturating_add(stages.len());
         for stage in stages.into_vec() {
+            progress.trying(self.stages.len().saturating_add(1), listed);
             self.try_one(stage, library, settings)?;
         }
         Ok(())

@@ -16,6 +16,7 @@
 //! - `earlier`: stages that were tried, as later rounds see them.
 //! - `draft`: a plan in the making.
 //! - `plan`: the plan of a machine.
+//! - `progress`: who is told how far a plan is.
 #![tactic(auto)]
 
 mod cells;
@@ -27,4 +28,5 @@ mod insert;
 mod judge;
 mod measure;
 pub mod plan;
+pub mod progress;
 pub mod trial;

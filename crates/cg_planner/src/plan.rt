@@ -8,6 +8,7 @@ ghost use Rattle.cg_plan.specs.Told.{IsPlan, PlanMayFail};
 ghost use Rattle.cg_planner.specs.Planning.{AreWritable, IsSafePlan, told};
 
 use crate::draft::Draft;
+use crate::progress::Progress;
 use cg_cell::library::Library;
 use cg_hold::candidates::candidates;
 use cg_list::Seq;
@@ -42,6 +43,8 @@ pub struct Plan {
 ///
 /// The counts are one number for each net of the machine, none above the number of rows.
 ///
+/// Of each stage `progress` is told before it is tried; and it is told when the trying ends, whatever ends it.
+///
 /// It is refused where a stage would be, or a claim of a register and a literal that are looked at for the hold stages, by the
 /// limit that comes first in the order of the plan.
 pub fn make_plan(
@@ -50,6 +53,7 @@ pub fn make_plan(
     library: &Library,
     settings: &Settings,
     idle: Option<&Idle<'_>>,
+    progress: &mut dyn Progress,
 ) -> Result<Plan, AddFault>
     requires { FitsIdle machine (option_copied idle) }
     ensures plan { IfOk result (λ plan. IsPlan library.now settings.now (option_copied idle.entry) machine (told plan)) }
@@ -60,7 +64,7 @@ pub fn make_plan(
     let _netlist = machine.netlist();
     let found = candidates(alloc, &machine, settings.width, idle)?;
     let mut draft = Draft::new(alloc, machine);
-    draft.try_parts(found.stages, library, settings)?;
+    draft.try_parts(found.stages, library, settings, progress)?;
     Ok(Plan {
         machine: draft.machine,
         stages: draft.stages,

@@ -8,7 +8,7 @@ use Rattle.cg_planner.proofs.Planned.{hold_found, holds_fit, is_plan, is_safe, p
 use Rattle.cg_planner.proofs.plan.make_plan.Goals as goal
 
 pub try_parts-requires : goal.try_parts-requires
-try_parts-requires c =
+try_parts-requires g c =
     let m = c.args.machine in
     let settings = c.args.settings.now in
     let idle = option_copied c.args.idle in
@@ -16,7 +16,7 @@ try_parts-requires c =
     holds_fit settings idle m found c.new-draft.result c.netlist-netlist.ensures.machine (hold_found settings idle m found c.in_ok-found.ensures.answer) c.new-draft.ensures
 
 pub returns-in_err-try_parts-clause-fault : goal.returns-in_err-try_parts-clause-fault
-returns-in_err-try_parts-clause-fault c =
+returns-in_err-try_parts-clause-fault g c =
     let m = c.args.machine in
     let library = c.args.library.now in
     let settings = c.args.settings.now in
@@ -28,7 +28,7 @@ returns-in_err-try_parts-clause-fault c =
     (plan_fails library settings idle m found (hold_found settings idle m found c.in_ok-found.ensures.answer) c.new-draft.result c.new-draft.ensures fault c.in_err-try_parts.ensures.fault)
 
 pub returns-clause-plan : goal.returns-clause-plan
-returns-clause-plan c =
+returns-clause-plan g c =
     let m = c.args.machine in
     let library = c.args.library.now in
     let settings = c.args.settings.now in
@@ -40,7 +40,7 @@ returns-clause-plan c =
     (is_plan library settings idle m d found.wide (whole_draft library settings idle m found is c.new-draft.result c.new-draft.ensures d c.in_ok-try_parts.ensures.leads) is.wide)
 
 pub returns-clause-writable : goal.returns-clause-writable
-returns-clause-writable c =
+returns-clause-writable g c =
     let m = c.args.machine in
     let library = c.args.library.now in
     let settings = c.args.settings.now in
@@ -50,7 +50,7 @@ returns-clause-writable c =
     subst AreWritable (sym c.from_vec.ensures) whole.writable
 
 pub returns-clause-safe : goal.returns-clause-safe
-returns-clause-safe c =
+returns-clause-safe g c =
     let m = c.args.machine in
     let library = c.args.library.now in
     let settings = c.args.settings.now in

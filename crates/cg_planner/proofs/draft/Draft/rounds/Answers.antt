@@ -7,7 +7,7 @@ use Rattle.cg_planner.proofs.Rounds.{leads_round, list_told, no_rounds, no_stage
 use Rattle.cg_planner.proofs.draft.Draft.rounds.Goals as goal
 
 pub returns-then-is_empty-clause-leads : goal.returns-then-is_empty-clause-leads
-returns-then-is_empty-clause-leads c =
+returns-then-is_empty-clause-leads g c =
     let library = c.args.library.now in
     let settings = c.args.settings.now in
     let kind = c.args.kind in
@@ -16,7 +16,7 @@ returns-then-is_empty-clause-leads c =
     (λ p draft. no_rounds library settings kind (settings.rounds - c.loop.counter) p (sym (c.in-Ok.ensures.list ∙ list_told kind settings p c.loop.self draft) ∙ none) draft.going)
 
 pub returns-in_err-try_all-clause-fault : goal.returns-in_err-try_all-clause-fault
-returns-in_err-try_all-clause-fault c =
+returns-in_err-try_all-clause-fault g c =
     let library = c.args.library.now in
     let settings = c.args.settings.now in
     let kind = c.args.kind in
@@ -30,7 +30,7 @@ returns-in_err-try_all-clause-fault c =
     (stops_round library settings kind c.in-Ok.stages c.loop.self fault c.in-Ok.ensures.list c.in_err-try_all.ensures.fault))
 
 pub loop-preserved : goal.loop-preserved
-loop-preserved c =
+loop-preserved g c =
     let library = c.args.library.now in
     let settings = c.args.settings.now in
     let kind = c.args.kind in

@@ -6,7 +6,7 @@ use Rattle.cg_planner.specs.inner.Drafting.{IsLeft}
 use Rattle.cg_planner.proofs.draft.Draft.try_all.Given as goal
 
 abbrev pub invariant-loop-stage : goal.invariant-loop-stage
-invariant-loop-stage l = record {
+invariant-loop-stage g l = record {
   count : into_iter_len l.stage-iterator ≡ length (into_iter_items l.stage-iterator);
   fit : AllFit l.self.machine (into_iter_items l.stage-iterator);
   left : IsLeft (λ p. try_all l.library l.settings p (into_iter_items l.initial.stage-iterator)) (λ p. try_all l.library l.settings p (into_iter_items l.stage-iterator)) l.initial.self l.self;

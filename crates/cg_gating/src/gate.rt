@@ -16,6 +16,7 @@ use cg_list::Seq;
 use cg_netlist::fault::AddFault;
 use cg_netlist::netlist::Netlist;
 use cg_plan_text::summary::{Played, demo_text};
+use cg_planner::progress::Progress;
 use cg_report::watcher::Watcher;
 use cg_stimulus::stimulus::Stimulus;
 use std::alloc::{AllocError, Global};
@@ -23,7 +24,12 @@ use std::alloc::{AllocError, Global};
 /// Gates a netlist: stages are planned and the plan's machine is written with a gating cell for each enable.
 ///
 /// It is refused by the limit at which the plan stops, or else by that on nets where the written netlist would pass it.
-pub fn gate(alloc: Global, netlist: &Netlist, request: &Request<'_>) -> Result<Texts, AddFault>
+pub fn gate(
+    alloc: Global,
+    netlist: &Netlist,
+    request: &Request<'_>,
+    progress: &mut dyn Progress,
+) -> Result<Texts, AddFault>
     requires { MayGate request.now netlist.now }
     ensures gives { IfOk result (λ texts. GivesGated request.now None netlist.now texts) }
 
@@ -33,7 +39,7 @@ pub fn gate(alloc: Global, netlist: &Netlist, request: &Request<'_>) -> Result<T
     ensures unstopped { OnOk result (stops_at request.now netlist.now ≡ None) }
     ensures fault { IfErr result (PlanMayFail (stops_at request.now netlist.now)) }
 {
-    let gated = gate_netlist(alloc, netlist, request)?;
+    let gated = gate_netlist(alloc, netlist, request, progress)?;
     let Ok(played) = play_both(alloc, netlist, &gated.netlist, request.stimulus) else {
         return Err(AddFault::NoMemory);
     };
@@ -47,6 +53,7 @@ pub fn gate_watched(
     netlist: &Netlist,
     request: &Request<'_>,
     watcher: &mut Box<dyn Watcher>,
+    progress: &mut dyn Progress,
 ) -> Result<Texts, AddFault>
     requires { MayGate request.now netlist.now }
     ensures gives { IfOk result (λ texts. GivesGated request.now (Some (says watcher.old)) netlist.now texts) }
@@ -56,7 +63,7 @@ pub fn gate_watched(
     ensures unstopped { OnOk result (stops_at request.now netlist.now ≡ None) }
     ensures fault { IfErr result (PlanMayFail (stops_at request.now netlist.now)) }
 {
-    let gated = gate_netlist(alloc, netlist, request)?;
+    let gated = gate_netlist(alloc, netlist, request, progress)?;
     let Ok(played) = watch_both(alloc, netlist, &gated.netlist, request.stimulus, watcher) else {
         return Err(AddFault::NoMemory);
     };
@@ -69,6 +76,7 @@ pub fn gate_demo(
     size: u32,
     netlist: &Netlist,
     request: &Request<'_>,
+    progress: &mut dyn Progress,
 ) -> Result<Seq<u8>, AddFault>
     requires may { MayGate request.now netlist.now }
     requires played { is_some request.now.stimulus ≡ true }
@@ -77,7 +85,7 @@ pub fn gate_demo(
     ensures fault { IfErr result (PlanMayFail (stops_at request.now netlist.now)) }
 {
     let stimulus = request.stimulus.unwrap();
-    let gated = gate_netlist(alloc, netlist, request)?;
+    let gated = gate_netlist(alloc, netlist, request, progress)?;
     let Ok(text) = demo_said(alloc, size, netlist, &gated, stimulus) else {
         return Err(AddFault::NoMemory);
     };

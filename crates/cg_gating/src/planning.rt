@@ -29,6 +29,7 @@ use cg_machine::machine::Machine;
 use cg_netlist::fault::AddFault;
 use cg_netlist::netlist::Netlist;
 use cg_planner::plan::{Plan, make_plan};
+use cg_planner::progress::Progress;
 use cg_stimulus::stimulus::Stimulus;
 use std::alloc::{AllocError, Global};
 
@@ -46,6 +47,7 @@ pub fn gate_netlist(
     alloc: Global,
     netlist: &Netlist,
     request: &Request<'_>,
+    progress: &mut dyn Progress,
 ) -> Result<Gated, AddFault>
     requires { MayGate request.now netlist.now }
     ensures gated { IfOk result (λ gated. IsWritten (gating_of request.now netlist.now) netlist.now (told gated.plan) gated.netlist) }
@@ -55,7 +57,7 @@ pub fn gate_netlist(
     ensures fault { IfErr result (PlanMayFail (stops_at request.now netlist.now)) }
 {
     hold_request(request);
-    let plan = plan_netlist(alloc, netlist, request)?;
+    let plan = plan_netlist(alloc, netlist, request, progress)?;
     match write_plan(alloc, &plan, request) {
         Ok(netlist) => Ok(Gated { plan, netlist }),
         Err(fault) => Err(fault),
@@ -98,7 +100,12 @@ fn name_test(test: Option<&Name>)
 }
 
 /// The plan of a netlist, for which nets are counted that are 0 on the rows of the stimulus, where there is one.
-fn plan_netlist(alloc: Global, netlist: &Netlist, request: &Request<'_>) -> Result<Plan, AddFault>
+fn plan_netlist(
+    alloc: Global,
+    netlist: &Netlist,
+    request: &Request<'_>,
+    progress: &mut dyn Progress,
+) -> Result<Plan, AddFault>
     requires { MayGate request.now netlist.now }
     ensures plan { IfOk result (λ plan. IsPlan request.now.library request.now.settings (idle_of netlist.now request.now.prefix request.now.stimulus) (lifted netlist.now request.now.prefix) (told plan)) }
     ensures writable { IfOk result (λ plan. AreWritable plan.certificates) }
@@ -108,7 +115,7 @@ fn plan_netlist(alloc: Global, netlist: &Netlist, request: &Request<'_>) -> Resu
         return Err(AddFault::NoMemory);
     };
     match request.stimulus {
-        None => plan_machine(alloc, made.machine, request, None),
+        None => plan_machine(alloc, made.machine, request, None, progress),
         Some(stimulus) => {
             let Ok(zeros) = machine_zeros(alloc, netlist, made.origin.as_slice(), stimulus) else {
                 return Err(AddFault::NoMemory);
@@ -117,7 +124,7 @@ fn plan_netlist(alloc: Global, netlist: &Netlist, request: &Request<'_>) -> Resu
                 zeros: &zeros,
                 rows: stimulus.rows(),
             };
-            plan_machine(alloc, made.machine, request, Some(&idle))
+            plan_machine(alloc, made.machine, request, Some(&idle), progress)
         }
     }
 }
@@ -141,11 +148,19 @@ fn plan_machine(
     machine: Machine,
     request: &Request<'_>,
     idle: Option<&Idle<'_>>,
+    progress: &mut dyn Progress,
 ) -> Result<Plan, AddFault>
     requires { FitsIdle machine (option_copied idle) }
     ensures plan { IfOk result (λ plan. IsPlan request.now.library request.now.settings (option_copied idle.entry) machine (told plan)) }
     ensures writable { IfOk result (λ plan. AreWritable plan.certificates) }
     ensures fault { IfErr result (PlanMayFail (plan_of request.now.library request.now.settings (option_copied idle.entry) machine).limit) }
 {
-    make_plan(alloc, machine, request.library, request.settings, idle)
+    make_plan(
+        alloc,
+        machine,
+        request.library,
+        request.settings,
+        idle,
+        progress,
+    )
 }

@@ -17,6 +17,7 @@ ghost use Rattle.cg_tool.specs.Watching.{kind_at};
 
 use crate::modes::{demo, gate, lrat, sim};
 use crate::watching::{chosen, names_of};
+use cg_planner::progress::Progress;
 use cg_report::watcher::Watcher;
 use cg_run::Status;
 use cg_run::closing::complain;
@@ -26,12 +27,14 @@ use std::alloc::{AllocError, Global};
 
 /// Does what the words of a command line ask for, over the shelf, and answers how that ended.
 ///
-/// The words may ask for one of the watchers by its name; of two with one name the first is taken.
+/// The words may ask for one of the watchers by its name; of two with one name the first is taken. While stages are tried `progress` is
+/// told how far that is.
 pub fn run<S: Shelf>(
     alloc: Global,
     words: &[String],
     shelf: &mut S,
     watchers: Vec<Box<dyn Watcher>>,
+    progress: &mut dyn Progress,
 ) -> Status
     // What the run did: its calls in order, what each file gave, the one output that it put out, and what stands.
     ensures runs { RunsWords (Gave S.gives) (map (λ watcher. says watcher) watchers.items) (job_of (map (λ watcher. called watcher) watchers.items) (map string_bytes words.now)) (S.world shelf.old) (S.world shelf.new) result }
@@ -81,7 +84,7 @@ pub fn run<S: Shelf>(
     ensures checked { IsTrue (S.world shelf.old).tells → IfSome (job_of (map (λ watcher. called watcher) watchers.items) (map string_bytes words.now))
         (λ job. job.mode ≡ Mode.Lrat → FinishBy (IsChecked (file_of job.files) (S.world shelf.old) (S.world shelf.new)) result) }
 {
-    run_words(alloc, words, shelf, watchers)
+    run_words(alloc, words, shelf, watchers, progress)
 }
 
 fn run_words<S: Shelf>(
@@ -89,11 +92,12 @@ fn run_words<S: Shelf>(
     words: &[String],
     shelf: &mut S,
     watchers: Vec<Box<dyn Watcher>>,
+    progress: &mut dyn Progress,
 ) -> Status
     ensures { RunsWords (Gave S.gives) (map (λ watcher. says watcher) watchers.items) (job_of (map (λ watcher. called watcher) watchers.items) (map string_bytes words.now)) (S.world shelf.old) (S.world shelf.new) result }
 {
     match read_job(alloc, words, watchers.as_slice()) {
-        Ok(Some(job)) => run_job(alloc, shelf, job, watchers),
+        Ok(Some(job)) => run_job(alloc, shelf, job, watchers, progress),
         Ok(None) => complain(shelf, Status::Usage, b"clockgate: usage\n"),
         Err(_) => complain(shelf, Status::NoMemory, b"clockgate: no memory\n"),
     }
@@ -116,6 +120,7 @@ fn run_job<S: Shelf>(
     shelf: &mut S,
     job: Job<'_>,
     watchers: Vec<Box<dyn Watcher>>,
+    progress: &mut dyn Progress,
 ) -> Status
     ensures { Runs (Gave S.gives) (task_by (map (λ watcher. says watcher) watchers.items) (job_words job.entry)) (name_of job.entry.names) (S.world shelf.old) (S.world shelf.new) result }
 {
@@ -126,9 +131,9 @@ fn run_job<S: Shelf>(
     } = job;
     let watcher = chosen(watchers, options.watch);
     match mode {
-        Mode::Gate => gate::run(alloc, shelf, &names, options, watcher),
+        Mode::Gate => gate::run(alloc, shelf, &names, options, watcher, progress),
         Mode::Sim => sim::run(alloc, shelf, &names, options.clock, watcher),
         Mode::Lrat => lrat::run(alloc, shelf, &names),
-        Mode::Demo(size) => demo::run(alloc, shelf, &names, size),
+        Mode::Demo(size) => demo::run(alloc, shelf, &names, size, progress),
     }
 }

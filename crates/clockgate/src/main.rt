@@ -2,14 +2,17 @@
 //! run ended. All that it does is `cg_tool::run` over a shelf of real files, with the watchers that there are.
 #![tactic(auto)]
 
+mod stage_line;
+
 use cg_report::edge_count::EdgeCount;
 use cg_report::toggle_count::ToggleCount;
 use cg_report::watcher::Watcher;
 use cg_shelf::DirShelf;
 use cg_tool::{Status, run};
+use stage_line::StageLine;
 use std::alloc::AllocError;
 use std::env;
-use std::io::ErrorKind;
+use std::io::{ErrorKind, IsTerminal};
 use std::process::ExitCode;
 
 fn main(rt: HostRuntime) -> ExitCode {
@@ -35,5 +38,12 @@ fn watched(rt: HostRuntime, words: &[String]) -> Result<Status, AllocError> {
     let mut watchers: Vec<Box<dyn Watcher>> = Vec::new(alloc);
     watchers.push(Box::new(alloc, EdgeCount::new())?)?;
     watchers.push(Box::new(alloc, ToggleCount::new(alloc))?)?;
-    Ok(run(alloc, words, &mut DirShelf::new(rt, alloc), watchers))
+    let mut line = StageLine::new(rt, rt.stderr().is_terminal());
+    Ok(run(
+        alloc,
+        words,
+        &mut DirShelf::new(rt, alloc),
+        watchers,
+        &mut line,
+    ))
 }

@@ -3,6 +3,7 @@
 use crate::MOST_BYTES;
 use crate::long::{latches, nets};
 use crate::solver::{Answer, solved};
+use cg_planner::progress::Silent;
 use cg_report::edge_count::EdgeCount;
 use cg_report::toggle_count::ToggleCount;
 use cg_report::watcher::Watcher;
@@ -171,7 +172,13 @@ impl Player {
             |_| (),
         )?;
         watchers.push(toggles).map_err(|_| ())?;
-        Ok(run(self.alloc, all.as_slice(), &mut self.files, watchers))
+        Ok(run(
+            self.alloc,
+            all.as_slice(),
+            &mut self.files,
+            watchers,
+            &mut Silent,
+        ))
     }
 
     /// Says the number of a status that is not 0.

@@ -1,11 +1,11 @@
 //! The mode `demo`: a generated pipeline is gated, and a summary is said of it.
 
-ghost use Rattle.std.specs.Prelude.{◌≡◌, IfOk, IsTrue, None, Ok, Some, is_some, true};
+ghost use Rattle.std.specs.Prelude.{◌≡◌, [], IfOk, IsTrue, None, Ok, Some, is_some, true};
 ghost use Rattle.std.specs.Option.{option_map};
 ghost use Rattle.cg_gating.specs.Request.{MayGate, stops_at};
 ghost use Rattle.cg_run.specs.Names.{name_of};
 ghost use Rattle.cg_run.specs.Promise.{FinishBy};
-ghost use Rattle.cg_run.specs.Reads.{Gave};
+ghost use Rattle.cg_run.specs.Reads.{Gave, Reads};
 ghost use Rattle.cg_run.specs.Run.{Runs};
 ghost use Rattle.cg_run.specs.Verdict.{Answers, Concludes};
 ghost use Rattle.cg_tool.specs.Demo.{IsDemo, PutsDemo, cells_text, demo_gives, demo_stops, demo_takes, demo_task, demo_wanted, lines_text, pipeline_found, pipeline_request, pipeline_stops, rows_text};
@@ -24,7 +24,8 @@ use cg_gating::request::Request;
 use cg_list::Seq;
 use cg_netlist::fault::AddFault;
 use cg_netlist::netlist::Netlist;
-use cg_run::{Finish, Mode, Names, Output, Reader, Role, Status, Trouble, drive};
+use cg_planner::progress::Progress;
+use cg_run::{Finish, Names, Output, Reader, Refusal, Role, Status, Trouble, collect, put_out};
 use cg_shelf::Shelf;
 use cg_stimulus::stimulus::Stimulus;
 use cg_words::options::no_options;
@@ -52,26 +53,44 @@ impl Reader for Demo {
     }
 }
 
-impl Mode for Demo {
-    ghost stops = { demo_stops };
-
-    ghost gives = { demo_gives };
-
-    fn finish(self, alloc: Global) -> Result<Output, Trouble> {
-        let wanted = wanted(alloc)?;
-        let pipeline = read_pipeline(alloc, self.size, &wanted)?;
-        gate_pipeline(alloc, self.size, pipeline, &wanted)
-    }
-}
-
 /// Gates a pipeline of this size, and says what came of it.
-pub fn run<S: Shelf>(alloc: Global, shelf: &mut S, names: &Names<'_>, size: u32) -> Status
+pub fn run<S: Shelf>(
+    alloc: Global,
+    shelf: &mut S,
+    names: &Names<'_>,
+    size: u32,
+    progress: &mut dyn Progress,
+) -> Status
     ensures runs { Runs (Gave S.gives) (demo_task size) (name_of names.now) (S.world shelf.old) (S.world shelf.new) result }
 
     // A finished run gated the generated pipeline as its stimulus and the defaults say, and said the summary of it.
     ensures shown { IsTrue (S.world shelf.old).tells → FinishBy (IsDemo size (S.world shelf.old) (S.world shelf.new)) result }
 {
-    drive(alloc, shelf, names, &[], Demo { size })
+    let found = read(alloc, shelf, names, size, progress);
+    put_out(alloc, shelf, names, found)
+}
+
+/// Loads nothing, and gates the pipeline.
+fn read<S: Shelf>(
+    alloc: Global,
+    shelf: &mut S,
+    names: &Names<'_>,
+    size: u32,
+    progress: &mut dyn Progress,
+) -> Result<Output, Refusal>
+    ensures { Reads (Gave S.gives) demo_takes demo_stops demo_gives (name_of names.now) (record { size = size }) [] (S.world shelf.old) (S.world shelf.new) result }
+{
+    let demo = collect(alloc, shelf, names, &[], Demo { size })?;
+    Ok(finish(alloc, demo, progress)?)
+}
+
+/// What is put out of a pipeline of this size.
+fn finish(alloc: Global, demo: Demo, progress: &mut dyn Progress) -> Result<Output, Trouble>
+    ensures { Concludes (demo_stops demo) (demo_gives demo) result }
+{
+    let wanted = wanted(alloc)?;
+    let pipeline = read_pipeline(alloc, demo.size, &wanted)?;
+    gate_pipeline(alloc, demo.size, pipeline, &wanted, progress)
 }
 
 /// How the pipeline is gated: as the defaults say.
@@ -141,6 +160,7 @@ fn gate_pipeline(
     size: u32,
     pipeline: Pipeline,
     wanted: &Wanted,
+    progress: &mut dyn Progress,
 ) -> Result<Output, Trouble>
     requires wanted { wanted.now ≡ demo_wanted }
     requires read { pipeline_found size ≡ Ok pipeline }
@@ -152,7 +172,7 @@ fn gate_pipeline(
         stimulus,
     } = pipeline;
     let _ = wanted.prefix.bytes();
-    gate_with(alloc, size, &library, &netlist, &stimulus, wanted)
+    gate_with(alloc, size, &library, &netlist, &stimulus, wanted, progress)
 }
 
 fn gate_with(
@@ -162,13 +182,14 @@ fn gate_with(
     netlist: &Netlist,
     stimulus: &Stimulus,
     wanted: &Wanted,
+    progress: &mut dyn Progress,
 ) -> Result<Output, Trouble>
     requires { MayGate (request_by library.now wanted.now (Some stimulus.now)) netlist.now }
     ensures { Concludes (option_map Trouble.Limit (stops_at (request_by library.now wanted.now (Some stimulus.now)) netlist.now))
         (PutsDemo size (request_by library.now wanted.now (Some stimulus.now)) netlist.now) result }
 {
     let request = wanted.request(library, Some(stimulus));
-    gate_by(alloc, size, netlist, &request)
+    gate_by(alloc, size, netlist, &request, progress)
 }
 
 fn gate_by(
@@ -176,12 +197,13 @@ fn gate_by(
     size: u32,
     netlist: &Netlist,
     request: &Request<'_>,
+    progress: &mut dyn Progress,
 ) -> Result<Output, Trouble>
     requires may { MayGate request.now netlist.now }
     requires played { is_some request.now.stimulus ≡ true }
     ensures { Concludes (option_map Trouble.Limit (stops_at request.now netlist.now)) (PutsDemo size request.now netlist.now) result }
 {
-    match gate_demo(alloc, size, netlist, request) {
+    match gate_demo(alloc, size, netlist, request, progress) {
         Ok(said) => Ok(Output {
             stores: Seq::new(alloc),
             said,

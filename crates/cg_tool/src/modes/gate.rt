@@ -26,6 +26,7 @@ use cg_gating::texts::Texts;
 use cg_list::Seq;
 use cg_netlist::fault::AddFault;
 use cg_netlist::netlist::Netlist;
+use cg_planner::progress::Progress;
 use cg_report::watcher::Watcher;
 use cg_run::{
     Finish, Names, Output, Reader, Refusal, Role, Status, Text, Trouble, collect, put_out,
@@ -105,6 +106,7 @@ pub fn run<S: Shelf>(
     names: &Names<'_>,
     options: Options,
     watcher: Option<Box<dyn Watcher>>,
+    progress: &mut dyn Progress,
 ) -> Status
     ensures runs { Runs (Gave S.gives) (gate_task options (option_map (λ watcher. says watcher) watcher)) (name_of names.now) (S.world shelf.old) (S.world shelf.new) result }
 
@@ -113,7 +115,7 @@ pub fn run<S: Shelf>(
     ensures gated { IsTrue (S.world shelf.old).tells
         → FinishBy (IsGated options (option_map (λ watcher. says watcher) watcher) (name_of names.now) (S.world shelf.old) (S.world shelf.new)) result }
 {
-    let found = read(alloc, shelf, names, options, watcher);
+    let found = read(alloc, shelf, names, options, watcher, progress);
     put_out(alloc, shelf, names, found)
 }
 
@@ -124,13 +126,14 @@ fn read<S: Shelf>(
     names: &Names<'_>,
     options: Options,
     watcher: Option<Box<dyn Watcher>>,
+    progress: &mut dyn Progress,
 ) -> Result<Output, Refusal>
     ensures { Reads (Gave S.gives) gate_takes gate_stops (gate_gives (option_map (λ watcher. says watcher) watcher)) (name_of names.now) (gate_start options) (gate_loads options.asked.stimulus) (S.world shelf.old) (S.world shelf.new) result }
 {
     let _ = options.prefix.bytes();
     let files = loads(options.asked.stimulus);
     let found = collect(alloc, shelf, names, files, Gate::start(alloc, options))?;
-    Ok(finish(alloc, found, watcher)?)
+    Ok(finish(alloc, found, watcher, progress)?)
 }
 
 /// The files that are loaded.
@@ -146,7 +149,12 @@ fn loads(stimulus: bool) -> &'static [Role]
 }
 
 /// What is put out once all files are taken.
-fn finish(alloc: Global, found: Gate, watcher: Option<Box<dyn Watcher>>) -> Result<Output, Trouble>
+fn finish(
+    alloc: Global,
+    found: Gate,
+    watcher: Option<Box<dyn Watcher>>,
+    progress: &mut dyn Progress,
+) -> Result<Output, Trouble>
     requires { IsRead found }
     ensures { Concludes (gate_stops found) (gate_gives (option_map (λ watcher. says watcher) watcher) found) result }
 {
@@ -159,7 +167,9 @@ fn finish(alloc: Global, found: Gate, watcher: Option<Box<dyn Watcher>>) -> Resu
     } = found;
     match netlist {
         None => Err(Trouble::NoMemory),
-        Some(netlist) => gate_on(alloc, &library, &netlist, &wanted, &stimulus, watcher),
+        Some(netlist) => gate_on(
+            alloc, &library, &netlist, &wanted, &stimulus, watcher, progress,
+        ),
     }
 }
 
@@ -171,16 +181,25 @@ fn gate_on(
     wanted: &Wanted,
     text: &Seq<u8>,
     watcher: Option<Box<dyn Watcher>>,
+    progress: &mut dyn Progress,
 ) -> Result<Output, Trouble>
     requires { MayBeGated library.now wanted.now netlist.now }
     ensures { Concludes (stops_with library.now wanted.now netlist.now (stimulus_asked wanted.now.asked.stimulus netlist.now text.now))
         (λ output. IsOkAnd (stimulus_asked wanted.now.asked.stimulus netlist.now text.now) (λ stimulus. GatesAs (option_map (λ watcher. says watcher) watcher) (request_by library.now wanted.now stimulus) netlist.now output)) result }
 {
     if !wanted.asked.stimulus {
-        return gate_with(alloc, library, netlist, wanted, None, watcher);
+        return gate_with(alloc, library, netlist, wanted, None, watcher, progress);
     }
     let stimulus = take_stimulus(alloc, text, netlist)?;
-    gate_with(alloc, library, netlist, wanted, Some(&stimulus), watcher)
+    gate_with(
+        alloc,
+        library,
+        netlist,
+        wanted,
+        Some(&stimulus),
+        watcher,
+        progress,
+    )
 }
 
 /// What is put out of a netlist and a stimulus for it, where there is one.
@@ -191,13 +210,14 @@ fn gate_with(
     wanted: &Wanted,
     stimulus: Option<&Stimulus>,
     watcher: Option<Box<dyn Watcher>>,
+    progress: &mut dyn Progress,
 ) -> Result<Output, Trouble>
     requires { MayGate (request_by library.now wanted.now (option_copied stimulus)) netlist.now }
     ensures { Concludes (option_map Trouble.Limit (stops_at (request_by library.now wanted.now (option_copied stimulus.entry)) netlist.now))
         (GatesAs (option_map (λ watcher. says watcher) watcher) (request_by library.now wanted.now (option_copied stimulus.entry)) netlist.now) result }
 {
     let request = wanted.request(library, stimulus);
-    gate_by(alloc, netlist, &request, watcher)
+    gate_by(alloc, netlist, &request, watcher, progress)
 }
 
 /// What is put out of a netlist, by what gating is asked for.
@@ -206,11 +226,12 @@ fn gate_by(
     netlist: &Netlist,
     request: &Request<'_>,
     watcher: Option<Box<dyn Watcher>>,
+    progress: &mut dyn Progress,
 ) -> Result<Output, Trouble>
     requires { MayGate request.now netlist.now }
     ensures { Concludes (option_map Trouble.Limit (stops_at request.now netlist.now)) (GatesAs (option_map (λ watcher. says watcher) watcher) request.now netlist.now) result }
 {
-    match gated(alloc, netlist, request, watcher) {
+    match gated(alloc, netlist, request, watcher, progress) {
         Ok(texts) => Ok(put_texts(alloc, texts)?),
         Err(AddFault::Limit(limit)) => Err(Trouble::Limit(limit)),
         Err(AddFault::NoMemory) => Err(Trouble::NoMemory),
@@ -223,6 +244,7 @@ fn gated(
     netlist: &Netlist,
     request: &Request<'_>,
     watcher: Option<Box<dyn Watcher>>,
+    progress: &mut dyn Progress,
 ) -> Result<Texts, AddFault>
     requires { MayGate request.now netlist.now }
     ensures gives { IfOk result (λ texts. GivesGated request.now (option_map (λ watcher. says watcher) watcher) netlist.now texts) }
@@ -231,8 +253,8 @@ fn gated(
     ensures fault { IfErr result (PlanMayFail (stops_at request.now netlist.now)) }
 {
     match watcher {
-        None => gate(alloc, netlist, request),
-        Some(mut watcher) => gate_watched(alloc, netlist, request, &mut watcher),
+        None => gate(alloc, netlist, request, progress),
+        Some(mut watcher) => gate_watched(alloc, netlist, request, &mut watcher, progress),
     }
 }
 

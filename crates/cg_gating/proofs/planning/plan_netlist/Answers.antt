@@ -11,7 +11,7 @@ use Rattle.cg_plan.specs.Told.{IsPlan, PlanMayFail}
 use Rattle.cg_planner.specs.Planning.{told}
 
 pub returns-in-None-clause-fault : goal.returns-in-None-clause-fault
-returns-in-None-clause-fault c =
+returns-in-None-clause-fault g c =
     let request = c.args.request.now in
     let m = machine_of c.args.netlist request.prefix in
     let none : request.stimulus ≡ None = sym (ap (λ (r : RequestData). r.stimulus) c.request.view_is) ∙ ap option_copied c.in-None.is in
@@ -19,7 +19,7 @@ returns-in-None-clause-fault c =
     subst F (ap (idle_of c.args.netlist request.prefix) (sym none)) c.plan_with.ensures.fault
 
 pub returns-in-Ok-clause-plan : goal.returns-in-Ok-clause-plan
-returns-in-Ok-clause-plan c =
+returns-in-Ok-clause-plan g c =
     let request = c.args.request.now in
     let netlist = c.args.netlist in
     let m = machine_of netlist request.prefix in
@@ -31,7 +31,7 @@ returns-in-Ok-clause-plan c =
     subst F (same ∙ ap (idle_of netlist request.prefix) (sym some)) c.plan_with-in-Some.ensures.plan
 
 pub returns-in-Ok-clause-fault : goal.returns-in-Ok-clause-fault
-returns-in-Ok-clause-fault c =
+returns-in-Ok-clause-fault g c =
     let request = c.args.request.now in
     let netlist = c.args.netlist in
     let m = machine_of netlist request.prefix in

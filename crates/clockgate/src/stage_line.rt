@@ -1,0 +1,65 @@
+//! The line on a terminal that tells how far a run is.
+
+use cg_planner::progress::Progress;
+use std::time::{Clock, Duration, Instant};
+
+/// A line on standard error that is written over and over, where that is a terminal; elsewhere nothing is written.
+///
+/// It is written ten times a second at most, and not in the first tenth of a second.
+#[derive(Drop)]
+pub struct StageLine<R: Clock + Eprint> {
+    rt: R,
+
+    /// When it was written last, or made; none where it is never to be written.
+    written: Option<Instant>,
+
+    /// Whether something is written that was not blanked out again.
+    stands: bool,
+}
+
+impl<R: Clock + Eprint> StageLine<R> {
+    /// Nothing is written yet, and nothing ever where standard error is no terminal.
+    pub fn new(rt: R, is_terminal: bool) -> StageLine<R> {
+        let written = if is_terminal {
+            Instant::now(&rt).ok()
+        } else {
+            None
+        };
+        StageLine {
+            rt,
+            written,
+            stands: false,
+        }
+    }
+
+    /// Whether it is time to write it again.
+    fn is_due(&mut self) -> bool {
+        let Some(written) = self.written else {
+            return false;
+        };
+        let Ok(now) = Instant::now(&self.rt) else {
+            return false;
+        };
+        if now.duration_since(written) < Duration::from_millis(100) {
+            return false;
+        }
+        self.written = Some(now);
+        true
+    }
+}
+
+impl<R: Clock + Eprint> Progress for StageLine<R> {
+    fn trying(&mut self, stage: usize, listed: usize) {
+        if self.is_due() {
+            self.stands = true;
+            let _ = eprint!(self.rt; "\rstage {stage} of {listed}");
+        }
+    }
+
+    fn done(&mut self) {
+        if self.stands {
+            self.stands = false;
+            let _ = eprint!(self.rt; "\r{:40}\r", "");
+        }
+    }
+}

@@ -148,10 +148,27 @@ impl Draft {
     {
         let listed = self.stages.len().saturating_add(stages.len());
         for stage in stages.into_vec() {
-            progress.trying(self.stages.len().saturating_add(1), listed);
-            self.try_one(stage, library, settings)?;
+            self.try_told(stage, listed, library, settings, progress)?;
         }
         Ok(())
+    }
+
+    /// Tries a stage that fits, one of so many that are listed so far, and tells of it before.
+    fn try_told(
+        &mut self,
+        stage: Stage,
+        listed: usize,
+        library: &Library,
+        settings: &Settings,
+        progress: &mut dyn Progress,
+    ) -> Result<(), AddFault>
+        requires { Fits self.old.machine stage }
+        ensures leads { OnOk result (Leads (λ p. try_one library.now settings.now p stage) self.old self.new) }
+        ensures fault { IfErr result (MayStop (λ p. try_one library.now settings.now p stage) self.old) }
+        ensures rest { OnOk result (StillFit stage self.old.machine self.new.machine) }
+    {
+        progress.trying(self.stages.len().saturating_add(1), listed);
+        self.try_one(stage, library, settings)
     }
 
     /// Tries a stage that fits.

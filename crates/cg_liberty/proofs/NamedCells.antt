@@ -1,14 +1,13 @@
 -- The cell that a group describes has the group's name.
-use Rattle.std.proofs.Common.{◌≡◌, ℕ, nat_le, length, Bool, true, false, cond, List, [], ◌∷◌, ◌++◌, Option, None, Some, Result, Ok, Err, refl, subst}
+use Rattle.std.proofs.Common.{◌≡◌, ℕ, Bool, true, false, cond, List, [], ◌∷◌, ◌++◌, Option, None, Some, Result, Ok, Err, refl, subst}
 use Rattle.cg_cell.specs.Cell.{CellData}
 use Rattle.cg_cell.specs.Term.{Term}
 use Rattle.cg_cell.specs.Pins.{PinData}
-use Rattle.cg_liberty.specs.Kinds.{all_known, cell_by_flops, cell_of, cell_with_ports, flop_cell, flop_clocked, flop_of, gater_pins, gater_with, gating_cell, input_names, inverses_read, is_plain_flop, logic_of, output_texts, state_names, unusable}
+use Rattle.cg_liberty.specs.Kinds.{all_known, cell_by_flops, cell_of, cell_with_ports, flop_clocked, flop_of, gater_pins, gater_with, gating_cell, input_names, inverses_read, is_plain_flop, logic_of, output_texts, state_names, unusable}
 use Rattle.cg_liberty.specs.Port.{is_there, ports_of, text_of}
 use Rattle.cg_liberty.specs.Reading.{reading, readings, then_read}
 use Rattle.cg_liberty.specs.declared.fault.CellFault.{CellFault}
 use Rattle.cg_liberty.specs.declared.group.CellGroup.{CellGroup}
-use Rattle.cg_liberty.specs.declared.group.FlopGroup.{FlopGroup}
 use Rattle.cg_liberty.specs.declared.group.Flops.{Flops}
 use Rattle.cg_liberty.specs.declared.group.Flops.TheVariants.{Absent, One, Several}
 use Rattle.cg_liberty.specs.declared.port.Port.{Port}
@@ -49,25 +48,18 @@ flop_name name ports plain None clocked inverses = refl
 flop_name name ports plain (Some next) None inverses = refl
 flop_name name ports plain (Some next) (Some clocked) None = refl
 
-flop_cell_name : (name : List ℕ) (ports : List Port) (flop : FlopGroup) → HasName name (flop_cell name ports flop)
-flop_cell_name name ports flop =
-    let plain : Bool = is_plain_flop (input_names ports) flop in
-    let made : Option Term → Option Term → List (Option Bool) → Result CellData CellFault = λ next clocked outputs. Ok (flop_of name ports plain next clocked (all_known outputs)) in
-    let reads_outputs : Option Term → Option Term → Result CellData CellFault = λ next clocked. then_read (inverses_read (state_names flop.names) (output_texts ports)) (made next clocked) in
-    let reads_clock : Option Term → Result CellData CellFault = λ next. then_read (reading (input_names ports) (text_of flop.clocked_on)) (reads_outputs next) in
-    after_reading name (reading (input_names ports ++ state_names flop.names) (text_of flop.next_state)) reads_clock (λ next.
-    after_reading name (reading (input_names ports) (text_of flop.clocked_on)) (reads_outputs next) (λ clocked.
-    after_reading name (inverses_read (state_names flop.names) (output_texts ports)) (made next clocked) (λ outputs.
-    flop_name name ports plain next clocked (all_known outputs))))
-
-few_name : (name : List ℕ) (few : Bool) (made : Result CellData CellFault) → HasName name made → HasName name (cond few made (Ok (unusable name)))
-few_name name true made h = h
-few_name name false made h = refl
-
 by_flops_name : (cell : CellGroup) (ports : List Port) (flops : Flops) → HasName cell.name (cell_by_flops cell ports flops)
 by_flops_name cell ports Absent =
     after_reading cell.name (readings (input_names ports) (output_texts ports)) (λ functions. Ok (logic_of cell.name ports functions)) (λ functions. logic_name cell.name ports functions)
-by_flops_name cell ports (One flop) = few_name cell.name (nat_le (length flop.names) 2) (flop_cell cell.name ports flop) (flop_cell_name cell.name ports flop)
+by_flops_name cell ports (One flop) =
+    let plain : Bool = is_plain_flop (input_names ports) flop in
+    let made : Option Term → Option Term → List (Option Bool) → Result CellData CellFault = λ next clocked outputs. Ok (flop_of cell.name ports plain next clocked (all_known outputs)) in
+    let reads_outputs : Option Term → Option Term → Result CellData CellFault = λ next clocked. then_read (inverses_read (state_names flop.names) (output_texts ports)) (made next clocked) in
+    let reads_clock : Option Term → Result CellData CellFault = λ next. then_read (reading (input_names ports) (text_of flop.clocked_on)) (reads_outputs next) in
+    after_reading cell.name (reading (input_names ports ++ state_names flop.names) (text_of flop.next_state)) reads_clock (λ next.
+    after_reading cell.name (reading (input_names ports) (text_of flop.clocked_on)) (reads_outputs next) (λ clocked.
+    after_reading cell.name (inverses_read (state_names flop.names) (output_texts ports)) (made next clocked) (λ outputs.
+    flop_name cell.name ports plain next clocked (all_known outputs))))
 by_flops_name cell ports Several = refl
 
 by_tests_name : (cell : CellGroup) (ports : List Port) (gating bank : Bool) → HasName cell.name (cond gating (Ok (gating_cell cell ports)) (cond bank (Ok (unusable cell.name)) (cell_by_flops cell ports cell.flops)))

@@ -189,10 +189,9 @@ flop_cell name ports flop =
 
 -- All kinds, the first rule that applies
 
--- a register has two states, so a cell whose `ff` group has more arguments than two is unusable, whatever they are
 abbrev pub cell_by_flops : CellGroup → List Port → Flops → Result CellData CellFault
 cell_by_flops cell ports Absent = logic_cell cell.name ports
-cell_by_flops cell ports (One flop) = cond (nat_le (length flop.names) 2) (flop_cell cell.name ports flop) (Ok (unusable cell.name))
+cell_by_flops cell ports (One flop) = flop_cell cell.name ports flop
 cell_by_flops cell ports Several = Ok (unusable cell.name)
 
 abbrev pub cell_with_ports : CellGroup → Option (List Port) → Result CellData CellFault

@@ -1,6 +1,6 @@
 //! The cell that a group describes, by the first rule that applies.
 
-ghost use Rattle.std.specs.Prelude.{◌≡◌, nat_le, length, IfOk, IsTrue};
+ghost use Rattle.std.specs.Prelude.{◌≡◌, IfOk, IsTrue};
 ghost use Rattle.cg_cell.specs.Name.{is_name};
 ghost use Rattle.cg_liberty.specs.Kinds.{cell_by_flops, cell_of, cell_with_ports, gating_cell};
 ghost use Rattle.cg_liberty.specs.Port.{ArePorts};
@@ -14,7 +14,6 @@ use crate::logic::{logic_cell_of, unusable_cell};
 use crate::port::{Port, ports_of_cell};
 use cg_cell::cell::CellType;
 use cg_cell::name::Name;
-use cg_liberty_text::argument::Arguments;
 use std::alloc::{AllocError, Global};
 
 /// The cell of these pins whose attribute says which gating cell it is.
@@ -38,14 +37,6 @@ fn cell_by_gating(
     Ok(unusable_cell(alloc, name))
 }
 
-/// Whether there are no more arguments than a flip-flop has states. No more than three are looked at.
-fn are_two_at_most(texts: &Arguments<'_>) -> bool
-    ensures { result ≡ nat_le (length texts.now) 2 }
-{
-    let mut left = texts.again();
-    left.next().is_none() || left.next().is_none() || left.next().is_none()
-}
-
 /// The cell of these pins without a gating attribute or other states than flip-flops.
 fn cell_by_flop_groups(
     alloc: Global,
@@ -60,12 +51,7 @@ fn cell_by_flop_groups(
 {
     match &cell.flops {
         Flops::Absent => logic_cell_of(alloc, name, ports),
-        Flops::One(flop) => {
-            if !are_two_at_most(&flop.names) {
-                return Ok(unusable_cell(alloc, name));
-            }
-            flop_cell_of(alloc, name, ports, flop)
-        }
+        Flops::One(flop) => flop_cell_of(alloc, name, ports, flop),
         Flops::Several => Ok(unusable_cell(alloc, name)),
     }
 }

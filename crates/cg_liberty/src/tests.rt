@@ -315,14 +315,6 @@ fn the_kinds_of_cells(rt: HostRuntime) -> Result<(), Fail> {
             "ff (I) { next_state : \"I\"; clocked_on : \"CK\"; } pin (CK) { direction : input; } pin (Q) { direction : output; function : \"I\"; }",
             "C unusable;",
         ),
-        (
-            "ff (I) { next_state : \"(\"; } pin (D) { direction : input; }",
-            "bad expression C 1",
-        ),
-        (
-            "ff (I, N, M) { next_state : \"(\"; } pin (D) { direction : input; }",
-            "C unusable;",
-        ),
     ];
     for (statements, wanted) in cells {
         let text = with_cell(alloc, statements)?;
@@ -412,7 +404,6 @@ fn registers_that_are_no_plain_flop(rt: HostRuntime) -> Result<(), Fail> {
         ("I, I", plain, first),
         ("D, N", plain, second),
         ("I#, N", plain, second),
-        ("I, N, M", plain, first),
         ("I, N", "clocked_on : CK;", first),
         ("I, N", "next_state : D;", first),
         ("I, N", "next_state : D; clocked_on : CK; clear : D;", first),

@@ -1,5 +1,5 @@
 -- What lifting adds: an and for a gating cell that stands behind another, and nothing where none does.
-use Rattle.std.proofs.Common.{◌≡◌, ℕ, Bool, true, false, ◌||◌, cond, List, [], ◌∷◌, slice_get, nat_eq, is_some, Option, None, Some, refl, ap, sym, ◌∙◌, subst}
+use Rattle.std.proofs.Common.{◌≡◌, ℕ, Bool, true, false, cond, List, [], ◌∷◌, slice_get, nat_eq, is_some, Option, None, Some, refl, ap, sym, ◌∙◌, subst}
 use Rattle.std.specs.List.{All}
 use Rattle.std.specs.Option.{option_flatten, option_map}
 use Rattle.std.proofs.lemmas.Bool.{both_ways, eqb-true, or_parts}
@@ -8,7 +8,7 @@ use Rattle.std.proofs.lemmas.Option.{slice_get-map}
 use Rattle.cg_cell.specs.declared.fit.FitKind.TheVariants.{And2}
 use Rattle.cg_machine.specs.Added.{find_gate, next_gate, or_push, push_gate}
 use Rattle.cg_machine.specs.Gates.{AddedGate}
-use Rattle.cg_machine.specs.Machine.{MachineData, enable_of}
+use Rattle.cg_machine.specs.Machine.{MachineData}
 use Rattle.cg_netlist.proofs.Members.{member_at, place_of_member}
 use Rattle.cg_netlist.proofs.Values.{at_map, under_map}
 use Rattle.cg_netlist.specs.Circuit.{Circuit, GatingCell, RegisterCell, gate_nets, is_in}

@@ -1,16 +1,15 @@
 -- What gating needs of a netlist with gating cells: of the netlist that is left, and of the machine.
-use Rattle.std.proofs.Common.{[], ◌≡◌, ℕ, Bool, true, false, ◌||◌, List, ◌∷◌, map, length, slice_get, get_or, unwrap_or, is_some, nat_eq, Option, None, Some, refl, ap, sym, ◌∙◌, subst}
+use Rattle.std.proofs.Common.{[], ◌≡◌, ℕ, true, false, List, ◌∷◌, map, length, get_or, unwrap_or, is_some, nat_eq, Option, None, Some, refl, ap, sym, ◌∙◌, subst}
 use Rattle.std.specs.Option.{option_map}
 use Rattle.std.proofs.lemmas.Bool.{both_ways, eq-eqb, or_left, or_parts, or_right}
 use Rattle.std.proofs.lemmas.List.{length-map}
 use Rattle.std.proofs.lemmas.List.Elements.{All-map, All-nil, All-weaker}
 use Rattle.std.proofs.lemmas.Option.{slice_get-get_or, slice_get-map}
-use Rattle.cg_cell.specs.Cell.{CellData}
 use Rattle.cg_insert.proofs.OrderedNames.{named_ordered}
-use Rattle.cg_netlist.specs.Circuit.{Circuit, GatingCell, LogicCell, RegisterCell, data_inputs, gate_nets, is_in}
+use Rattle.cg_netlist.specs.Circuit.{Circuit, GatingCell, LogicCell, RegisterCell, data_inputs, is_in}
 use Rattle.cg_netlist.specs.Netlist.{IsNetlist}
 use Rattle.cg_netlist.specs.said.Wiring.{map_cell, map_register, net_name}
-use Rattle.cg_netlist.specs.said.Writable.{FunctionIsOf, IsOf, IsWritable, KindIsOf}
+use Rattle.cg_netlist.specs.said.Writable.{FunctionIsOf, IsOf, KindIsOf}
 use Rattle.cg_extract.proofs.Asked.{asked}
 use Rattle.cg_extract.proofs.Bare.{bare_formed, bare_netlist, data_is, in_order}
 use Rattle.cg_extract.proofs.Kept.{data_kept, placed}

@@ -1,5 +1,5 @@
 -- What is proved of the machine of a netlist with gating cells.
-use Rattle.std.specs.Prelude.{◌≡◌, ℕ, ◌≤◌, Bool, false, true, List, [], length, map, slice_get, Option, None, Some}
+use Rattle.std.specs.Prelude.{◌≡◌, ℕ, ◌≤◌, Bool, false, true, List, [], length, map, slice_get, None, Some}
 use Rattle.std.specs.List.{All}
 use Rattle.cg_cell.specs.Cell.{CellData}
 use Rattle.cg_cell.specs.declared.fit.FitKind.TheVariants.{And2}

@@ -1,5 +1,5 @@
 -- The logic cells as they are laid out for a quick look.
-use Rattle.std.specs.Prelude.{◌≡◌, ◌≤◌, ◌<◌, ℕ, ◌+◌, ◌*◌, ◌++◌, Bool, List, [], ◌∷◌, drop, length, slice_get, take, Some}
+use Rattle.std.specs.Prelude.{◌≡◌, ◌≤◌, ℕ, ◌+◌, ◌*◌, ◌++◌, Bool, List, [], ◌∷◌, drop, length, slice_get, take, Some}
 use Rattle.std.specs.Int.{bit_at}
 use Rattle.cg_cell.specs.Bits.{one_if}
 use Rattle.cg_netlist.specs.declared.parts.LogicFunction.{LogicFunction}

@@ -1,5 +1,4 @@
-use Rattle.std.proofs.Common.{◌≡◌, ℕ, Bool, List, length, slice_set, sym, subst, ap, ◌∙◌, arith}
-use Rattle.cg_netlist.specs.Circuit.{LogicCell}
+use Rattle.std.proofs.Common.{length, slice_set, subst, ap, ◌∙◌, arith}
 use Rattle.cg_netlist.specs.Moment.{function_value, values_at}
 use Rattle.cg_netlist.proofs.Values.{element_at}
 use Rattle.cg_edge.specs.inner.Keeping.{IsPut}

@@ -1,5 +1,4 @@
 use Rattle.std.proofs.Common.{◌≡◌, ◌+◌, ◌-◌, ◌*◌, ◌<◌, ℕ, Bool, List, length, drop, slice_get, slice_index_or, Some, false, sym, ap, ◌∙◌, arith}
-use Rattle.std.specs.List.{All}
 use Rattle.std.proofs.lemmas.Option.{slice_get-get_or}
 use Rattle.cg_cell.specs.Bits.{one_if}
 use Rattle.cg_netlist.specs.Moment.{values_at}

@@ -1,7 +1,6 @@
-use Rattle.std.proofs.Common.{◌≡◌, ◌<◌, ◌≤◌, ℕ, Bool, List, drop, length, nat_eq, take, sym, subst, ap, ◌∙◌, arith}
+use Rattle.std.proofs.Common.{◌<◌, ◌≤◌, Bool, List, drop, length, nat_eq, take, sym, subst, ap, ◌∙◌, arith}
 use Rattle.std.specs.Int.{bit_at}
 use Rattle.std.specs.List.{All}
-use Rattle.cg_netlist.specs.Circuit.{LogicCell}
 use Rattle.cg_netlist.specs.Moment.{function_value, values_at}
 use Rattle.cg_netlist.proofs.Values.{element_at, length-values_at}
 use Rattle.cg_edge.specs.declared.flat.FlatCell.{FlatCell}

@@ -1,5 +1,5 @@
 -- The plan of a machine from its parts.
-use Rattle.std.proofs.Common.{◌≡◌, ℕ, Bool, true, false, if◌then◌else◌, List, [], Option, Some, None, Result, Ok, Err, refl, sym, ◌∙◌, ap, subst}
+use Rattle.std.proofs.Common.{◌≡◌, ℕ, Bool, true, false, if◌then◌else◌, List, [], Option, Some, None, Result, Ok, Err, refl, sym, ◌∙◌, ap, subst, ◌⊎◌, inl, inr}
 use Rattle.cg_cell.specs.Cell.{CellData}
 use Rattle.cg_hold.specs.HoldAnswer.{hold_answer}
 use Rattle.cg_hold.specs.declared.candidates.HoldFound.{HoldFound}
@@ -12,7 +12,7 @@ use Rattle.cg_machine.specs.Machine.{IsMachine, MachineData}
 use Rattle.cg_machine.specs.Run.{Same}
 use Rattle.cg_machine.specs.declared.stage.StageKind.TheVariants.{Stable, Unseen}
 use Rattle.cg_netlist.specs.declared.fault.AddFault.{AddFault}
-use Rattle.cg_netlist.specs.declared.fault.AddFault.TheVariants.{Limit as LimitFault}
+use Rattle.cg_netlist.specs.declared.fault.AddFault.TheVariants.{Limit as LimitFault, NoMemory}
 use Rattle.cg_plan.proofs.AllSafe.{has_cells, plans_safe}
 use Rattle.cg_plan.specs.Plan.{Plan, plan_of, rounds, try_all, unless_stopped, wide_of}
 use Rattle.cg_plan.specs.Told.{IsPlan, PlanMayFail, ToldPlan}
@@ -56,6 +56,17 @@ module _ (library : List CellData) (settings : Settings) (idle : Option IdleData
   -- a plan that no claim stops at once has all its parts
   planned : hold_passes m idle settings.width ≡ false → all_parts library settings (hold_list m idle settings.width) (unbegun m) ≡ plan_of library settings idle m
   planned none = sym (ap plan_by none)
+
+  -- where the search for hold stages is refused, the plan stops at once
+  pub hold_fails : (fault : AddFault) → (fault ≡ NoMemory) ⊎ (hold_answer m idle settings.width ≡ Err fault) → PlanMayFail (plan_of library settings idle m).limit fault
+  hold_fails fault refused = elim refused [
+    | inl none ↦ subst (PlanMayFail (plan_of library settings idle m).limit) (sym none) tt
+    | inr is ↦ go (hold_passes m idle settings.width) refl is
+  ]
+    where
+      go : (passes : Bool) → hold_passes m idle settings.width ≡ passes → answer_by settings idle m passes ≡ Err fault → PlanMayFail (plan_of library settings idle m).limit fault
+      go true at is = let same : LimitFault ClaimNodes ≡ fault = cc in subst (PlanMayFail (plan_of library settings idle m).limit) same (ap (λ b. (plan_by b).limit) at)
+      go false at is = absurd (cc)
 
   module _ (found : HoldFound) (is : IsFound settings idle m found) (d : Draft) (begun : IsDraft (unbegun m) d) where
     parts_are : all_parts library settings found.stages (unbegun m) ≡ plan_of library settings idle m

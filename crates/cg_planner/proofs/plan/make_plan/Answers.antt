@@ -4,7 +4,7 @@ use Rattle.std.specs.Option.{option_copied}
 use Rattle.cg_plan.specs.Told.{IsPlan}
 use Rattle.cg_plan.specs.declared.certificate.Certificate.{Certificate}
 use Rattle.cg_planner.specs.Planning.{AreWritable}
-use Rattle.cg_planner.proofs.Planned.{hold_found, holds_fit, is_plan, is_safe, plan_fails, whole_draft}
+use Rattle.cg_planner.proofs.Planned.{hold_fails, hold_found, holds_fit, is_plan, is_safe, plan_fails, whole_draft}
 use Rattle.cg_planner.proofs.plan.make_plan.Goals as goal
 
 pub try_parts-requires : goal.try_parts-requires
@@ -14,6 +14,11 @@ try_parts-requires g c =
     let idle = option_copied c.args.idle in
     let found = c.in_ok-found.found in
     holds_fit settings idle m found c.new-draft.result c.netlist-netlist.ensures.machine (hold_found settings idle m found c.in_ok-found.ensures.answer) c.new-draft.ensures
+
+pub returns-in_err-found-clause-fault : goal.returns-in_err-found-clause-fault
+returns-in_err-found-clause-fault g c =
+    let given = err_from_is_err_and c.from_residual.result c.from_residual.ensures.1 in
+    rw (given.1, given.2) (hold_fails c.args.library.now c.args.settings.now (option_copied c.args.idle) c.args.machine c.in_err-found.field-0.0 c.in_err-found.ensures.answer)
 
 pub returns-in_err-try_parts-clause-fault : goal.returns-in_err-try_parts-clause-fault
 returns-in_err-try_parts-clause-fault g c =

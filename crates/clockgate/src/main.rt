@@ -35,5 +35,5 @@ fn watched(rt: HostRuntime, words: &[String]) -> Result<Status, AllocError> {
     let mut watchers: Vec<Box<dyn Watcher>> = Vec::new(alloc);
     watchers.push(Box::new(alloc, EdgeCount::new())?)?;
     watchers.push(Box::new(alloc, ToggleCount::new(alloc))?)?;
-    Ok(run(alloc, words, &mut DirShelf::new(rt, alloc), watchers))
+    Ok(run(alloc, words, &mut DirShelf::new(rt, rt.stderr(), alloc), watchers))
 }

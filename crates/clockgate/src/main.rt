@@ -1,5 +1,6 @@
 //! The program `clockgate`: its words and the files of the system go in, and its exit status is how the
-//! run ended. All that it does is `cg_tool::run` over a shelf of real files, with the watchers that there are.
+//! run ended. All that it does is `cg_tool::run` over a shelf of real files, with the watchers that there are, or one
+//! line of complaint where the words cannot be had.
 #![tactic(auto)]
 
 use cg_report::edge_count::EdgeCount;

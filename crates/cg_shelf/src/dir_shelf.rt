@@ -8,29 +8,34 @@ use crate::calls::Shelf;
 use crate::faults::{Call, Fault, FileName, LoadFault, StoreFault};
 use crate::transfer::{read_whole, write_whole};
 use std::alloc::{AllocError, Global};
-use std::fs::OpenOptions;
+use std::io::Write;
 use std::rt::Runtime;
 use std::{fs, io};
 
-/// A shelf over the files of the system, standard output and standard error.
+/// A shelf over the files of the system, standard output, and a writer for complaints.
+///
+/// The writer is the standard error that the program was started with: opened anew it would have a place of its own
+/// in a file, and others that write there would write over the complaint.
 ///
 /// It tells nothing of content, since nothing can be proved of what the system holds. It keeps the list of
 /// its failed calls. Every error of the system fails the call, an interrupted read or write among them. That it
 /// reads and writes whole files is proved of its loops over any reader and writer.
 #[derive(Drop)]
-pub struct DirShelf<R: Runtime> {
+pub struct DirShelf<R: Runtime, E: Write + Drop> {
     rt: R,
+    errors: E,
     alloc: Global,
     faults: Vec<Fault>,
 }
 
-impl<R: Runtime> DirShelf<R> {
-    /// A shelf over this runtime, which has failed in nothing yet.
-    pub fn new(rt: R, alloc: Global) -> DirShelf<R>
+impl<R: Runtime, E: Write + Drop> DirShelf<R, E> {
+    /// A shelf over this runtime that complains to this writer. It has failed in nothing yet.
+    pub fn new(rt: R, errors: E, alloc: Global) -> DirShelf<R, E>
         ensures { result.faults.items ≡ [] }
     {
         DirShelf {
             rt,
+            errors,
             alloc,
             faults: Vec::new(alloc),
         }
@@ -49,16 +54,6 @@ impl<R: Runtime> DirShelf<R> {
 
     fn write_file(&self, name: &str, bytes: &[u8]) -> Result<(), StoreFault> {
         match fs::create(&self.rt, name) {
-            Ok(mut file) => write_whole(&mut file, bytes),
-            Err(_) => Err(StoreFault::Failed),
-        }
-    }
-
-    /// Writes to standard error, opened as a file: a complaint holds names, which need be no text.
-    fn write_errors(&self, bytes: &[u8]) -> Result<(), StoreFault> {
-        let mut options = OpenOptions::new();
-        options.append(true);
-        match options.open(&self.rt, "/dev/stderr") {
             Ok(mut file) => write_whole(&mut file, bytes),
             Err(_) => Err(StoreFault::Failed),
         }
@@ -100,7 +95,7 @@ impl<R: Runtime> DirShelf<R> {
     }
 }
 
-impl<R: Runtime> Shelf for DirShelf<R> {
+impl<R: Runtime, E: Write + Drop> Shelf for DirShelf<R, E> {
     ghost world = { λ shelf. record {
       tells = false;
       held = λ _. None;
@@ -134,7 +129,7 @@ impl<R: Runtime> Shelf for DirShelf<R> {
     }
 
     fn complain(&mut self, bytes: &[u8]) -> Result<(), StoreFault> {
-        let answer = self.write_errors(bytes);
+        let answer = write_whole(&mut self.errors, bytes);
         self.note_store(Call::Complain, b"", answer)
     }
 }

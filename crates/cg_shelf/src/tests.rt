@@ -86,7 +86,7 @@ fn real_files(rt: HostRuntime) -> Result<(), Fail> {
     let id = process::id(rt.process());
     let name = format!(in rt.alloc(); "cg_shelf_{id}")?;
     let missing = format!(in rt.alloc(); "cg_shelf_{id}/none")?;
-    let mut shelf = DirShelf::new(rt.clone()?, rt.alloc());
+    let mut shelf = DirShelf::new(rt.clone()?, rt.stderr(), rt.alloc());
     exercise(&rt, rt.alloc(), &mut shelf, name.as_str(), missing.as_str());
     assert_eq!(rt;
         shelf.store(missing.as_str(), b"x"),
@@ -125,4 +125,17 @@ fn a_writer_that_takes_little_gets_all_it_has_room_for(rt: HostRuntime) {
         assert_eq!(rt; write_whole(&mut writer, b"all of this"), answer);
         assert_eq!(rt; writer.taken.as_slice(), taken);
     }
+}
+
+#[test]
+fn complaints_go_to_the_writer_that_the_shelf_was_given(rt: HostRuntime) {
+    let mut writer = ShortWriter {
+        taken: Vec::new(rt.alloc()),
+        room: 11,
+    };
+    let mut shelf = DirShelf::new(rt, &mut writer, rt.alloc());
+    assert_eq!(rt; shelf.complain(b"first "), Ok(()));
+    assert_eq!(rt; shelf.complain(b"second"), Err(StoreFault::Failed));
+    drop(shelf);
+    assert_eq!(rt; writer.taken.as_slice(), b"first secon".as_slice());
 }

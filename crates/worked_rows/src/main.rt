@@ -24,7 +24,7 @@ const MOST_BYTES: u64 = 1_048_576;
 
 fn main(rt: HostRuntime) -> ExitCode {
     let alloc = rt.alloc();
-    let mut folder = DirShelf::new(rt, alloc);
+    let mut folder = DirShelf::new(rt, rt.stderr(), alloc);
     match play(alloc, &mut folder) {
         Ok(()) => ExitCode::SUCCESS,
         Err(()) => ExitCode::FAILURE,

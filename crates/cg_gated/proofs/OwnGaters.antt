@@ -1,9 +1,10 @@
 -- The gating cells of a netlist that is gated: none is refused, and so the library has cells for what they become.
-use Rattle.std.proofs.Common.{◌≡◌, ℕ, ◌≤◌, Bool, true, false, not, cond, ◌&&◌, List, [], ◌∷◌, length, slice_get, is_some, Option, None, Some, refl, sym, ◌∙◌, ap, subst, arith}
-use Rattle.std.specs.List.{All, count_by, find, list_any, position_from}
+use Rattle.std.proofs.Common.{◌≡◌, ℕ, ◌+◌, ◌≤◌, Bool, true, false, not, cond, ◌&&◌, List, [], ◌∷◌, length, slice_get, is_some, Option, None, Some, refl, sym, ◌∙◌, ap, subst, arith}
+use Rattle.std.specs.List.{count_by, find, list_any, position_from}
 use Rattle.std.specs.Option.{option_to_list}
 use Rattle.std.specs.Str.{bytes_eq}
 use Rattle.std.proofs.lemmas.Bool.{both_ways}
+use Rattle.std.proofs.lemmas.Iterator.Adapters.{position_from-zero}
 use Rattle.std.proofs.lemmas.Option.{none-some, same_Some}
 use Rattle.cg_cell.specs.Cell.{CellData, IsCell, has_test}
 use Rattle.cg_cell.specs.Fit.{is_fit, is_gater}
@@ -11,7 +12,6 @@ use Rattle.cg_cell.specs.Pins.{is_test}
 use Rattle.cg_cell.specs.declared.cell.CellKind.TheVariants.{Gater as GaterKind}
 use Rattle.cg_cell.specs.declared.fit.FitKind.TheVariants.{And2, Gater}
 use Rattle.cg_netlist.specs.Circuit.{Circuit, GatingCell}
-use Rattle.cg_netlist.specs.WellFormed.{IsWellFormed}
 use Rattle.cg_netlist.specs.said.Writable.{IsOf}
 use Rattle.cg_insert.proofs.GatedCells.{some_pass}
 use Rattle.cg_insert.proofs.GatedParts.{at_All}
@@ -30,6 +30,18 @@ found_too {X = X} p q (y ∷ ys) x at passes = go (p y) refl (q y) at (found_too
     go true is b here rest = (y, refl)
     go false is true here rest = absurd (both_ways (p y) is (ap p (same_Some y x here) ∙ passes))
     go false is false later rest = rest later passes
+
+-- and so it does where some place passes it
+placed_found : {X : Type 0} (p : X → Bool) (xs : List X) (a : ℕ) → is_some (position_from p a xs) ≡ true → (x : X) × (find p xs ≡ Some x)
+placed_found p [] a some = absurd (both_ways false refl some)
+placed_found {X = X} p (x ∷ xs) a some = go (p x) refl some (placed_found p xs (a + 1))
+  where
+    go : (b : Bool) → p x ≡ b → is_some (cond b (Some a) (position_from p (a + 1) xs)) ≡ true → (is_some (position_from p (a + 1) xs) ≡ true → (y : X) × (find p xs ≡ Some y)) → (y : X) × (cond b (Some x) (find p xs) ≡ Some y)
+    go true is some rest = (x, refl)
+    go false is some rest = rest some
+
+pub and_there : (library : List CellData) → has_and library ≡ true → HasCell library And2
+and_there library some = placed_found (is_fit And2) library 0 (ap is_some (sym (position_from-zero (is_fit And2) library)) ∙ some)
 
 none_pass : {X : Type 0} (p : X → Bool) (xs : List X) → count_by p xs ≡ 0 → list_any p xs ≡ false
 none_pass p xs none = go (list_any p xs) refl
@@ -59,11 +71,11 @@ module _ (by : Gating) (c : Circuit) (can : CanGate by c) where
   untested is = unrefused_untested c (has_and by.library) (plain_refused is)
 
   -- without a cell for the and of two nets, no gating cell stands behind another
-  pub unchained : find (is_fit And2) by.library ≡ None → first_refused c false ≡ None
+  pub unchained : has_and by.library ≡ false → first_refused c false ≡ None
   unchained none = go by.test refl
     where
       go : (t : Option (List ℕ)) → by.test ≡ t → first_refused c false ≡ None
-      go None is = subst (λ (o : Option CellData). first_refused c (is_some o) ≡ None) none (plain_refused is)
+      go None is = subst (λ b. first_refused c b ≡ None) none (plain_refused is)
       go (Some name) is = ap (position_from (is_refused c false) 0) (ungated_tested name is)
 
   -- where there is a gating cell, the library has one of the kind that is written

@@ -1,10 +1,8 @@
 -- The plan's machine may be inserted.
-use Rattle.std.proofs.Common.{◌≡◌, ℕ, suc, List, [], ◌∷◌, slice_get, is_some, Option, None, Some, refl, sym, ◌∙◌, ap, subst, ◌⊎◌, inl, inr}
-use Rattle.std.specs.List.{All, filter_map, find}
+use Rattle.std.proofs.Common.{◌≡◌, ℕ, suc, Bool, true, false, List, [], ◌∷◌, slice_get, is_some, Option, None, Some, refl, sym, ◌∙◌, ap, subst, ◌⊎◌, inl, inr}
+use Rattle.std.specs.List.{All, filter_map}
 use Rattle.std.specs.Option.{option_flatten}
 use Rattle.std.proofs.lemmas.List.Elements.{All-nil, All-weaker}
-use Rattle.cg_cell.specs.Cell.{CellData}
-use Rattle.cg_cell.specs.Fit.{is_fit}
 use Rattle.cg_cell.specs.declared.fit.FitKind.TheVariants.{And2}
 use Rattle.cg_netlist.specs.Circuit.{Circuit}
 use Rattle.cg_machine.specs.Gates.{AddedGate}
@@ -18,8 +16,8 @@ use Rattle.cg_extract.proofs.LiftedMachine.{lifted_is_machine}
 use Rattle.cg_extract.specs.Laws.{AsksFor}
 use Rattle.cg_extract.specs.Lifted.{lifted}
 use Rattle.cg_gated.proofs.ForGating.{lifted_asks}
-use Rattle.cg_gated.proofs.OwnGaters.{gater_there, unchained}
-use Rattle.cg_gated.specs.Gated.{CanGate, Gating, planned}
+use Rattle.cg_gated.proofs.OwnGaters.{and_there, gater_there, unchained}
+use Rattle.cg_gated.specs.Gated.{CanGate, Gating, has_and, planned}
 use Rattle.cg_gated.specs.Laws.{GatedIsFormed, PlannedCanInsert}
 
 some_enable : (es : List (Option ℕ)) → (filter_map (λ (enable : Option ℕ). enable) es ≡ []) ⊎ ((r : ℕ) × (e : ℕ) × (option_flatten (slice_get es r) ≡ Some e))
@@ -34,16 +32,16 @@ same_kind (Some name) = refl
 -- the library has what the lifted machine asks for
 starts_with_cells : (by : Gating) (c : Circuit) → CanGate by c → HasCells by.library by.settings.test (lifted c by.prefix)
 starts_with_cells by c can = record {
-  gates = gates_there (find (is_fit And2) by.library) refl;
+  gates = gates_there (has_and by.library) refl;
   gater = λ r e is. let own = asks.gater r e is in gater_there by c can own.0 own.1 own.2;
 }
   where
     asks : AsksFor c (lifted c by.prefix)
     asks = lifted_asks c by.prefix can.start
 
-    gates_there : (o : Option CellData) → find (is_fit And2) by.library ≡ o → All (λ (gate : AddedGate). HasCell by.library gate.kind) (lifted c by.prefix).gates
-    gates_there (Some cell) is = All-weaker (λ (gate : AddedGate). gate.kind ≡ And2) (λ (gate : AddedGate). HasCell by.library gate.kind) (λ gate is_and. subst (HasCell by.library) (sym is_and) (cell, is)) (lifted c by.prefix).gates asks.gates
-    gates_there None is = subst (All (λ (gate : AddedGate). HasCell by.library gate.kind)) (sym (asks.none (unchained by c can is))) (All-nil (λ (gate : AddedGate). HasCell by.library gate.kind))
+    gates_there : (b : Bool) → has_and by.library ≡ b → All (λ (gate : AddedGate). HasCell by.library gate.kind) (lifted c by.prefix).gates
+    gates_there true is = All-weaker (λ (gate : AddedGate). gate.kind ≡ And2) (λ (gate : AddedGate). HasCell by.library gate.kind) (λ gate is_and. subst (HasCell by.library) (sym is_and) (and_there by.library is)) (lifted c by.prefix).gates asks.gates
+    gates_there false is = subst (All (λ (gate : AddedGate). HasCell by.library gate.kind)) (sym (asks.none (unchained by c can is))) (All-nil (λ (gate : AddedGate). HasCell by.library gate.kind))
 
 pub can_insert : PlannedCanInsert
 can_insert by c can =

@@ -7,7 +7,7 @@ use Rattle.std.proofs.lemmas.List.{length-map}
 use Rattle.std.proofs.lemmas.Option.{none-some, same_Some}
 use Rattle.cg_insert.specs.Insert.{gated, placed_gate, reclocked}
 use Rattle.cg_insert.proofs.OrderedNames.{named_ordered}
-use Rattle.cg_machine.specs.Machine.{MachineData}
+use Rattle.cg_machine.specs.Machine.{IsDelay as MachineDelay, MachineData}
 use Rattle.cg_netlist.specs.Circuit.{Circuit, LogicCell, RegisterCell, cell_nets, given_nets, is_in, net_order, shown_nets, used_nets}
 use Rattle.cg_netlist.specs.Moment.{zip_with}
 use Rattle.cg_netlist.specs.Ordered.{place_in}
@@ -108,6 +108,14 @@ from_map f [] k y at = absurd (none-some y at)
 from_map f (x ∷ xs) zero y at = (x, refl, sym (same_Some (f x) y at))
 from_map f (x ∷ xs) (suc k) y at = from_map f xs k y at
 
+-- a delay register of a machine is one under other numbers
+renumbered_delay : (m : MachineData) (k : ℕ) (cell : RegisterCell ℕ ℕ) (f : ℕ → ℕ) (w : Circuit) (r : RegisterCell ℕ ℕ) → MachineDelay m k cell → w.clock ≡ option_map f m.circuit.clock → r ≡ map_register f cell → IsDelay w r
+renumbered_delay m k cell f w r delay clock is = record {
+  plain = ap (λ (x : RegisterCell ℕ ℕ). x.kind) is ∙ ap (λ (x : RegisterCell ℕ ℕ). x.kind) delay.is;
+  starts = ap (λ (x : RegisterCell ℕ ℕ). x.init) is ∙ ap (λ (x : RegisterCell ℕ ℕ). x.init) delay.is;
+  clock = clock ∙ (ap (option_map f) delay.clock ∙ ap (λ (x : RegisterCell ℕ ℕ). Some x.clock) (sym is));
+}
+
 module _ (by : Gating) (c : Circuit) (can : CanGate by c) where
   abbrev n : MachineData
   n = planned by c
@@ -204,11 +212,7 @@ module _ (by : Gating) (c : Circuit) (can : CanGate by c) where
       let delay = (good by c can).delays k second.0 (omega (arith, own, past)) second.1 in
       let free : first.0 ≡ second.0 = second.2 ∙ ap (reclocked by.test n second.0) delay.free in
       let is : r ≡ map_register f second.0 = first.2 ∙ ap (map_register f) free in
-      record {
-        plain = ap (λ (x : RegisterCell ℕ ℕ). x.kind) is ∙ ap (λ (x : RegisterCell ℕ ℕ). x.kind) delay.is;
-        starts = ap (λ (x : RegisterCell ℕ ℕ). x.init) is ∙ ap (λ (x : RegisterCell ℕ ℕ). x.init) delay.is;
-        clock = ap (option_map f) delay.clock ∙ ap (λ (x : RegisterCell ℕ ℕ). Some x.clock) (sym is);
-      }
+      renumbered_delay n k second.0 f w r delay refl is
 
 pub keeps_parts : GatedKeeps
 keeps_parts by c can = record {

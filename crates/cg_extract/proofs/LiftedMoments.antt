@@ -1,5 +1,5 @@
 -- A moment of the netlist is one of the netlist without its gating cells, and shows what the lifted machine's nets show.
-use Rattle.std.proofs.Common.{[], ◌≡◌, ◌≢◌, ℕ, Bool, true, false, not, if◌then◌else◌, List, ◌∷◌, ◌++◌, map, length, slice_get, Some, nat_eq, refl, ap, sym, ◌∙◌, subst, arith}
+use Rattle.std.proofs.Common.{[], ◌≡◌, ◌≢◌, ℕ, ◌<◌, Bool, true, false, not, if◌then◌else◌, List, ◌∷◌, ◌++◌, map, length, slice_get, Some, nat_eq, refl, ap, sym, ◌∙◌, subst, arith}
 use Rattle.std.specs.List.{cons_option}
 use Rattle.std.specs.Option.{option_map, option_to_list}
 use Rattle.std.proofs.lemmas.Bool.{both_ways, eq-eqb, or_left, or_right}
@@ -88,24 +88,33 @@ module _ (c : Circuit) (prefix : List ℕ) (can : CanExtract c prefix) where
     start_state : length state ≡ length (bare c).registers
     start_state = state_long ∙ sym (start_count c prefix can)
 
+    -- the bits of the machine's nets in the cycle, from those of the netlist that is left while the clock is low
+    from_low : (low : List Bool) → Settles (bare c) false inputs state [] low → (y : ℕ) → y < length (bare c).names → slice_get (values (lifted c prefix) state inputs) y ≡ slice_get low y
+    from_low low settles y below =
+        let machine = bare_machine c prefix can in
+        let old_values : values (start c prefix can) state inputs ≡ low = nets_only (bare c) machine.well_formed.driven (walk_of (start c prefix can)) machine.walk false inputs state [] low settles in
+        let old_state : Rattle.cg_machine.specs.Extends.old (start c prefix can) state ≡ state = take_all (length (bare c).registers) state (omega (arith, start_state)) in
+        (lifting_lifts c prefix can).extends.fronts state inputs is_state start_inputs y below
+        ∙ (ap (λ s. slice_get (values (start c prefix can) s inputs) y) old_state ∙ ap (λ vs. slice_get vs y) old_values)
+
     pub shown : (x : ℕ) → is_in (used_nets c) x ≡ true → slice_get (values (lifted c prefix) state inputs) (number_of c x) ≡ slice_get nets x
     shown x among =
-        let e = (lifting_lifts c prefix can).extends in
         let kept = used_kept c whole x among in
         let low = lowers (bare c) (bare_formed c whole) inputs state [] (moved c nets) clock (moved_settles clock inputs state gates nets there) in
         let apart : (bare c).clock ≢ Some (f x) = λ clk.
         let old = mapped_at f c.clock (f x) clk in
         let same : old.0 ≡ x = same_number c whole old.0 x (clock_kept c whole old.0 old.1) kept old.2 in
         both_ways (is_in (used_nets c) old.0) (whole.well_formed.apart old.0 (is_in_left (option_to_list c.clock) (gate_nets c) old.0 (from_option c.clock old.0 old.1))) (ap (is_in (used_nets c)) same ∙ among) in
-        let machine = bare_machine c prefix can in
-        let old_values : values (start c prefix can) state inputs ≡ low.low = nets_only (bare c) machine.well_formed.driven (walk_of (start c prefix can)) machine.walk false inputs state [] low.low low.settles in
-        let old_state : Rattle.cg_machine.specs.Extends.old (start c prefix can) state ≡ state = take_all (length (bare c).registers) state (omega (arith, start_state)) in
-        e.fronts state inputs is_state start_inputs (f x) (number_within c whole x kept)
-        ∙ (ap (λ s. slice_get (values (start c prefix can) s inputs) (f x)) old_state
-        ∙ (ap (λ vs. slice_get vs (f x)) old_values ∙ (low.apart (f x) apart ∙ moved_get nets there.long x kept)))
+        from_low low.low low.settles (f x) (number_within c whole x kept) ∙ (low.apart (f x) apart ∙ moved_get nets there.long x kept)
 
     pub shown_values : (xs : List ℕ) → ((x : ℕ) → is_in xs x ≡ true → is_in (used_nets c) x ≡ true) → values_at (values (lifted c prefix) state inputs) (map (number_of c) xs) ≡ values_at nets xs
     shown_values [] used = refl
     shown_values (x ∷ xs) used =
         ap (λ o. cons_option o (values_at (values (lifted c prefix) state inputs) (map f xs))) (shown x (used x (or_left (nat_eq x x) (is_in xs x) (eq-eqb x x refl))))
         ∙ ap (cons_option (slice_get nets x)) (shown_values xs (λ y among. used y (or_right (nat_eq y x) (is_in xs y) among)))
+
+  -- while the clock is low each net that is kept has that bit, the clock too
+  pub shown_kept : (inputs state gates nets : List Bool) → Settles c false inputs state gates nets → length state ≡ length c.registers → length inputs ≡ length (data_inputs c)
+      → (x : ℕ) → is_in (kept_nets c) x ≡ true → slice_get (values (lifted c prefix) state inputs) (number_of c x) ≡ slice_get nets x
+  shown_kept inputs state gates nets there state_long inputs_long x among =
+      from_low false inputs state gates nets there state_long inputs_long (moved c nets) (moved_settles false inputs state gates nets there) (number_of c x) (number_within c whole x among) ∙ moved_get nets there.long x among

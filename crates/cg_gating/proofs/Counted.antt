@@ -12,7 +12,7 @@ use Rattle.cg_extract.proofs.LiftedRun.{lifted_is_run}
 use Rattle.cg_extract.proofs.Lifts.{lifting_lifts}
 use Rattle.cg_extract.proofs.Origins.{origins_long}
 use Rattle.cg_extract.specs.Lifted.{CanExtract, HasNoTests, kept_nets, lifted, number_of, origins}
-use Rattle.cg_gated.proofs.LiftedShows.{lifted_inputs}
+use Rattle.cg_gating.proofs.LiftedInputs.{lifted_inputs}
 use Rattle.cg_lists.specs.Literals.{IdleData, IsIdleData}
 use Rattle.cg_machine.proofs.Bits.{length-each}
 use Rattle.cg_machine.specs.Machine.{MachineData, next, step, values}
@@ -27,7 +27,7 @@ use Rattle.cg_stimulus.specs.Inputs.{IsFor, IsStimulus, Rows}
 use Rattle.cg_stimulus.proofs.Playing.{start_is, wave_is}
 use Rattle.cg_stimulus.specs.Played.{IsPlayed, played_start, played_wave, row_tick, wave_from}
 use Rattle.cg_gating.specs.Idling.{idle_data, idle_of, lows_from, row_inputs, zeros_at, zeros_by}
-use Rattle.cg_gating.proofs.Given.{lifted_shows_nets}
+use Rattle.cg_extract.proofs.ForGating.{lifted_shows_nets}
 
 -- where nets come from
 abbrev come_from : List ℕ → ℕ → List (Option ℕ)

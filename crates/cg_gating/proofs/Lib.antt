@@ -2,8 +2,8 @@ mod Answering
 mod Counted
 mod Deserved
 mod Gated
-mod Given
 mod Leads
+mod LiftedInputs
 mod Loading
 mod MayInsert
 mod TestedWaves

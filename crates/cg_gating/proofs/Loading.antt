@@ -4,7 +4,7 @@ use Rattle.std.proofs.lemmas.Option.{none-some, same_Some}
 use Rattle.cg_cell.specs.Cell.{CellData}
 use Rattle.cg_extract.proofs.LiftedMachine.{lifted_is_machine}
 use Rattle.cg_extract.specs.Lifted.{lifted}
-use Rattle.cg_gated.proofs.LiftedShows.{lifted_inputs}
+use Rattle.cg_gating.proofs.LiftedInputs.{lifted_inputs}
 use Rattle.cg_insert.specs.Insert.{own_tick}
 use Rattle.cg_insert.specs.Insertion.{RisesAre}
 use Rattle.cg_machine.specs.Machine.{MachineData, enable_of, load, values}

@@ -8,7 +8,7 @@ use Rattle.cg_extract.specs.Lifted.{lifted, origins}
 use Rattle.cg_gated.specs.Gated.{Behaves, CanGate, Gating, gated_by, planned}
 use Rattle.cg_gated.specs.Kept.{KeepsParts}
 use Rattle.cg_gated.proofs.Behaving.{gated_behaves}
-use Rattle.cg_gated.proofs.LiftedShows.{lifted_inputs}
+use Rattle.cg_gating.proofs.LiftedInputs.{lifted_inputs}
 use Rattle.cg_gated.proofs.NetlistKept.{keeps_netlist}
 use Rattle.cg_gated.proofs.PartsKept.{keeps_parts}
 use Rattle.cg_gated.proofs.Planned.{can_insert, is_formed}
@@ -43,7 +43,7 @@ use Rattle.cg_gating.specs.declared.texts.Texts.{Texts}
 use Rattle.cg_gating.proofs.Counted.{counts}
 use Rattle.cg_gating.proofs.Deserved.{exactly_worthy}
 use Rattle.cg_gating.proofs.Leads.{plan_leads}
-use Rattle.cg_gating.proofs.Given.{bare_is_netlist, bare_is_writable}
+use Rattle.cg_extract.proofs.ForGating.{bare_is_netlist, bare_is_writable}
 use Rattle.cg_gating.proofs.MayInsert.{may_gate}
 use Rattle.cg_gating.proofs.TestedWaves.{IsTested, tested_wave}
 use Rattle.cg_gating.proofs.Unrefused.{untested}

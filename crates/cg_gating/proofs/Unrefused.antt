@@ -7,7 +7,7 @@ use Rattle.cg_extract.specs.Lifted.{HasNoTests, first_refused, is_refused}
 use Rattle.cg_gated.specs.Gated.{first_gater, has_and, refused_gater}
 use Rattle.cg_machine.specs.Machine.{MachineData}
 use Rattle.cg_netlist.specs.Circuit.{Circuit, GatingCell}
-use Rattle.cg_gating.proofs.Given.{unrefused_untested}
+use Rattle.cg_extract.proofs.ForGating.{unrefused_untested}
 
 -- where there is no first one, there is none to be found
 none_there : (p : GatingCell ℕ → Bool) (gaters : List (GatingCell ℕ)) → first_gater gaters ≡ None → position_from p 0 gaters ≡ None

@@ -1,18 +1,15 @@
-use Rattle.cg_gating.proofs.Gated.{for_written, gives_gated, insertion_stops, may_insert, own_is}
+use Rattle.cg_gating.proofs.Gated.{for_written, gives_gated, insertion_stops, may_insert}
 use Rattle.cg_gating.proofs.planning.gate_netlist.Goals as goal
 use Rattle.cg_planner.specs.Planning.{told}
 
 pub write_plan-requires : goal.write_plan-requires
-write_plan-requires c = may_insert c.args.request.now c.args.netlist c.hold_request.ensures c.requires (told c.in_ok-plan.plan) c.in_ok-plan.ensures.plan
+write_plan-requires c = may_insert c.args.request.now c.args.netlist.now c.hold_request.ensures c.requires (told c.in_ok-plan.plan) c.in_ok-plan.ensures.plan
 
 pub returns-in-Err-clause-fault : goal.returns-in-Err-clause-fault
-returns-in-Err-clause-fault c = insertion_stops c.args.request.now c.args.netlist c.hold_request.ensures c.requires (told c.in_ok-plan.plan) c.in_ok-plan.ensures.plan c.in-Err.fault c.in-Err.ensures
+returns-in-Err-clause-fault c = insertion_stops c.args.request.now c.args.netlist.now c.hold_request.ensures c.requires (told c.in_ok-plan.plan) c.in_ok-plan.ensures.plan c.in-Err.fault c.in-Err.ensures
 
 pub returns-in-Ok-clause-gated : goal.returns-in-Ok-clause-gated
-returns-in-Ok-clause-gated c = gives_gated c.args.request.now c.args.netlist c.hold_request.ensures c.requires (told c.in_ok-plan.plan) c.in_ok-plan.ensures.plan c.in_ok-plan.ensures.writable c.in-Ok.netlist c.in-Ok.ensures
-
-pub returns-in-Ok-clause-own : goal.returns-in-Ok-clause-own
-returns-in-Ok-clause-own c = own_is c.args.request.now c.args.netlist c.hold_request.ensures c.requires (told c.in_ok-plan.plan) c.in_ok-plan.ensures.plan
+returns-in-Ok-clause-gated c = gives_gated c.args.request.now c.args.netlist.now c.hold_request.ensures c.requires (told c.in_ok-plan.plan) c.in_ok-plan.ensures.plan c.in_ok-plan.ensures.writable c.in-Ok.netlist c.in-Ok.ensures
 
 pub returns-in-Ok-clause-fits : goal.returns-in-Ok-clause-fits
-returns-in-Ok-clause-fits c = for_written c.args.request.now c.args.netlist c.hold_request.ensures c.requires (told c.in_ok-plan.plan) c.in_ok-plan.ensures.plan c.in-Ok.netlist c.in-Ok.ensures
+returns-in-Ok-clause-fits c = for_written c.args.request.now c.args.netlist.now c.hold_request.ensures c.requires (told c.in_ok-plan.plan) c.in_ok-plan.ensures.plan c.in-Ok.netlist c.in-Ok.ensures

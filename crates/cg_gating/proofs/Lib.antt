@@ -1,4 +1,5 @@
 mod Answering
+mod Carried
 mod Counted
 mod Deserved
 mod Gated

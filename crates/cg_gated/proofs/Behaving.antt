@@ -27,7 +27,7 @@ use Rattle.cg_extract.specs.Laws.{KeepsNames}
 use Rattle.cg_extract.specs.Lifted.{bare}
 use Rattle.cg_gated.specs.Gated.{CanGate, Gating, gated_by, own_wave, planned}
 use Rattle.cg_gated.specs.Laws.{GatedBehaves}
-use Rattle.cg_gated.proofs.ForGating.{bare_is_netlist}
+use Rattle.cg_extract.proofs.ForGating.{bare_is_netlist}
 use Rattle.cg_gated.proofs.LiftedShows.{kept_names}
 use Rattle.cg_gated.proofs.NetlistKept.{keeps_netlist}
 use Rattle.cg_gated.proofs.Planned.{can_insert, is_formed}

@@ -1,4 +1,3 @@
-pub mod ForGating
 pub mod OwnGaters
 pub mod Planned
 pub mod LiftedShows

@@ -11,7 +11,7 @@ use Rattle.cg_extract.proofs.LiftedMachine.{lifted_is_small}
 use Rattle.cg_extract.proofs.LiftedRun.{lifted_is_run}
 use Rattle.cg_extract.specs.Laws.{KeepsNames}
 use Rattle.cg_extract.specs.Lifted.{CanExtract, HasNoTests, bare, lifted}
-use Rattle.cg_gated.proofs.ForGating.{bare_is_netlist, lifted_own}
+use Rattle.cg_extract.proofs.ForGating.{bare_is_netlist, lifted_own}
 
 -- a waveform of a netlist is one of each with as many data inputs
 pub same_ticks : (c d : Circuit) → length (data_inputs d) ≡ length (data_inputs c) → (wave : List Tick) → AreTicks c wave → AreTicks d wave

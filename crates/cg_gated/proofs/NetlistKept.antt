@@ -25,7 +25,7 @@ use Rattle.cg_stage.specs.Stages.{enable_nets, first_literal}
 use Rattle.cg_extract.proofs.LiftedMachine.{lifted_is_machine}
 use Rattle.cg_extract.specs.Laws.{HasOwn}
 use Rattle.cg_extract.specs.Lifted.{CanExtract, lifted}
-use Rattle.cg_gated.proofs.ForGating.{lifted_own}
+use Rattle.cg_extract.proofs.ForGating.{lifted_own}
 use Rattle.cg_gated.specs.Gated.{Gating, planned}
 use Rattle.cg_gated.specs.Laws.{PlannedKeeps, PlannedNames}
 

@@ -18,7 +18,7 @@ use Rattle.cg_insert.proofs.GatedParts.{at_All}
 use Rattle.cg_plan.specs.Cells.{HasCell}
 use Rattle.cg_stage.specs.Needs.{gater_kind}
 use Rattle.cg_extract.specs.Lifted.{HasNoTests, first_refused, is_refused}
-use Rattle.cg_gated.proofs.ForGating.{unrefused_untested}
+use Rattle.cg_extract.proofs.ForGating.{unrefused_untested}
 use Rattle.cg_gated.specs.Gated.{CanGate, Gating, first_gater, has_and, refused_gater}
 
 -- where a test finds an element that passes another test, that one finds one

@@ -22,7 +22,7 @@ use Rattle.cg_gated.specs.Gated.{CanGate, Gating, gated_by, planned}
 use Rattle.cg_gated.specs.Kept.{IsDelay, named_cell, unclocked}
 use Rattle.cg_gated.specs.Laws.{GatedKeeps}
 use Rattle.cg_gated.proofs.Behaving.{kept_name}
-use Rattle.cg_gated.proofs.ForGating.{bare_is_netlist}
+use Rattle.cg_extract.proofs.ForGating.{bare_is_netlist}
 use Rattle.cg_gated.proofs.LiftedShows.{kept_names}
 use Rattle.cg_gated.proofs.NetlistKept.{keeps_netlist}
 use Rattle.cg_gated.proofs.Planned.{is_formed}

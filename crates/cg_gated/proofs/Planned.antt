@@ -15,7 +15,7 @@ use Rattle.cg_plan.proofs.AllSafe.{has_cells, plans_safe}
 use Rattle.cg_extract.proofs.LiftedMachine.{lifted_is_machine}
 use Rattle.cg_extract.specs.Laws.{AsksFor}
 use Rattle.cg_extract.specs.Lifted.{lifted}
-use Rattle.cg_gated.proofs.ForGating.{lifted_asks}
+use Rattle.cg_extract.proofs.ForGating.{lifted_asks}
 use Rattle.cg_gated.proofs.OwnGaters.{and_there, gater_there, unchained}
 use Rattle.cg_gated.specs.Gated.{CanGate, Gating, has_and, planned}
 use Rattle.cg_gated.specs.Laws.{GatedIsFormed, PlannedCanInsert}

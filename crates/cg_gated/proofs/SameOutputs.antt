@@ -21,7 +21,7 @@ use Rattle.cg_extract.proofs.LiftedMachine.{lifted_is_machine, lifted_is_small}
 use Rattle.cg_extract.specs.Lifted.{bare, lifted}
 use Rattle.cg_gated.specs.Gated.{CanGate, Gating, gated_by, own_wave, planned}
 use Rattle.cg_gated.specs.Laws.{GatedShowsSame}
-use Rattle.cg_gated.proofs.ForGating.{lifted_of_ungated}
+use Rattle.cg_extract.proofs.ForGating.{lifted_of_ungated}
 use Rattle.cg_gated.proofs.LiftedShows.{bare_inputs, lifted_shows, lifted_ticks, starts_ungated}
 use Rattle.cg_gated.proofs.NetlistKept.{keeps_netlist}
 use Rattle.cg_gated.proofs.OwnGaters.{ungated_tested, untested}

@@ -1,5 +1,5 @@
 -- Counts that are carried to the nets that come from others.
-use Rattle.std.proofs.Common.{◌≡◌, ℕ, ◌<◌, ◌≤◌, List, [], ◌∷◌, map, length, slice_get, slice_index_or, Option, None, Some, IfSome, refl, sym, ◌∙◌, ap, subst, arith}
+use Rattle.std.proofs.Common.{◌≡◌, ℕ, ◌<◌, ◌≤◌, List, [], ◌∷◌, map, length, slice_get, slice_index_or, Option, None, Some, IfSome, Result, Ok, Err, IfOk, refl, ◌∙◌, ap, arith}
 use Rattle.std.specs.List.{All, AllByRecursion}
 use Rattle.std.proofs.lemmas.List.Elements.{All-get_or}
 use Rattle.std.proofs.lemmas.Option.{get_or_from_slice_get}
@@ -35,3 +35,7 @@ module _ (zeros : List ℕ) where
   pub counts_carried : (c : Circuit) (history : List Moment) → CountZeros c history zeros → (origins : List (Option ℕ)) → All (Below (length c.names)) origins
       → map (zeros_by (λ net. slice_index_or zeros net 0)) origins ≡ map (zeros_by (λ net. zeros_of net (low_moments history))) origins
   counts_carried c history counted origins within = same_each (λ net. zeros_of net (low_moments history)) (length c.names) origins (by_recursion (Below (length c.names)) origins within) counted.each
+
+pub if_made : {A E : Type 0} (P Q : A → Type 0) (r : Result A E) → ((x : A) → P x → Q x) → IfOk r P → IfOk r Q
+if_made P Q (Ok x) all is = all x is
+if_made P Q (Err fault) all is = tt

@@ -1,4 +1,4 @@
-use Rattle.std.proofs.Common.{◌≡◌, ◌×◌, ℕ, List, Option, is_some, ap, subst, ◌∙◌}
+use Rattle.std.proofs.Common.{◌≡◌, ℕ, List, Option, is_some, ap, subst, ◌∙◌}
 use Rattle.cg_extract.specs.Extracting.{extracted}
 use Rattle.cg_extract.specs.Lifted.{first_refused, lifted, origins}
 use Rattle.cg_gated.specs.Gated.{has_and}

@@ -8,11 +8,11 @@ use Rattle.cg_netlist.specs.Circuit.{Circuit, GatingCell}
 
 found_within : {X : Type 0} (test : X → Bool) (first : ℕ) (xs : List X) (k : ℕ) → position_from test first xs ≡ Some k → k < first + length xs
 found_within test first [] k is = absurd (cc)
-found_within test first (x ∷ xs) k is = go (test x) refl is
+found_within test first (x ∷ xs) k is = go (test x) (found_within test (first + 1) xs k) is
   where
-    go : (b : Bool) → test x ≡ b → cond b (Some first) (position_from test (first + 1) xs) ≡ Some k → k < first + (length xs + 1)
-    go true passes here = let same : first ≡ k = cc in omega (arith, same)
-    go false fails later = let below = found_within test (first + 1) xs k later in omega (arith, below)
+    go : (b : Bool) → (position_from test (first + 1) xs ≡ Some k → k < (first + 1) + length xs) → cond b (Some first) (position_from test (first + 1) xs) ≡ Some k → k < first + length (x ∷ xs)
+    go true later here = let same : first ≡ k = cc in omega (arith, same)
+    go false later there = let below = later there in omega (arith, below)
 
 gater_within : (gaters : List (GatingCell ℕ)) (k : ℕ) → first_gater gaters ≡ Some k → k < length gaters
 gater_within [] k is = absurd (cc)

@@ -165,7 +165,7 @@ fn refused_gater(
     library: &Library,
     test: Option<&Name>,
 ) -> Option<GateClockId>
-    ensures { result ≡ refused_gater library.now (option_copied test) netlist.now }
+    ensures { result ≡ refused_gater library.now (option_copied test.entry) netlist.now }
 {
     match test {
         None => first_refused(netlist, has_and(library)),

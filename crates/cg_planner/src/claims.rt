@@ -6,6 +6,7 @@ ghost use Rattle.cg_planner.specs.inner.Naming.{AreNames, NameFits, question_of}
 ghost use Rattle.cg_stage.specs.Stages.{Fits, first_literal};
 ghost use Rattle.cg_unroll.specs.Claims.{IsClaim, IsRefused};
 
+use crate::sets::StageSets;
 use cg_claim::name::ClaimName;
 use cg_machine::machine::Machine;
 use cg_machine::stage::{NetLit, Stage, StageKind};
@@ -60,7 +61,7 @@ fn stable_names(alloc: Global, regs: &[RegId]) -> Result<Vec<ClaimName>, AllocEr
 pub(crate) fn build_claim(
     unroller: &mut Unroller,
     machine: &Machine,
-    stage: &Stage,
+    stage: &StageSets<'_>,
     name: &ClaimName,
     width: u32,
 ) -> Result<(), ClaimFault>
@@ -70,19 +71,14 @@ pub(crate) fn build_claim(
     ensures refused { IfErr result (IsRefused machine.now (question_of machine.now stage.now name.now) width) }
 {
     let _netlist = machine.netlist();
-    let enables = stage.enable.as_slice();
+    let enables = stage.stage.enable.as_slice();
     match *name {
         ClaimName::Idle => unroller.idle(machine, enables, width),
         ClaimName::Hold(reg) => unroller.hold(machine, first_literal(enables), reg, width),
         ClaimName::Stable(reg) => unroller.stable(machine, enables, reg, width),
-        ClaimName::Output(_) | ClaimName::Next(_) | ClaimName::Enable => unroller.unseen(
-            machine,
-            enables,
-            stage.guards.as_slice(),
-            stage.regs.as_slice(),
-            *name,
-            width,
-        ),
+        ClaimName::Output(_) | ClaimName::Next(_) | ClaimName::Enable => {
+            unroller.unseen(machine, enables, &stage.unseen, *name, width)
+        }
     }
 }
 

@@ -15,13 +15,13 @@ ghost use Rattle.cg_unroll.specs.Claims.{IsClaim};
 
 use crate::claims::build_claim;
 use crate::judge::Judge;
+use crate::sets::StageSets;
 use cg_claim::laws::claim_laws;
 use cg_claim::leaf::{Leaf, LeafBit};
 use cg_claim::name::ClaimName;
 use cg_decide::Decision;
 use cg_list::Seq;
 use cg_machine::machine::Machine;
-use cg_machine::stage::Stage;
 use cg_plan::certificate::Certificate;
 use std::alloc::{AllocError, Global};
 
@@ -30,7 +30,7 @@ impl Judge {
     pub(crate) fn is_never_idle(
         &mut self,
         machine: &Machine,
-        stage: &Stage,
+        stage: &StageSets<'_>,
         width: u32,
     ) -> Result<bool, AllocError>
         requires { Fits machine.now stage.now }
@@ -65,7 +65,7 @@ impl Judge {
         &mut self,
         machine: &Machine,
         number: u32,
-        stage: &Stage,
+        stage: &StageSets<'_>,
         names: &[ClaimName],
         width: u32,
         into: &mut Vec<Certificate>,
@@ -91,7 +91,7 @@ impl Judge {
         &mut self,
         machine: &Machine,
         number: u32,
-        stage: &Stage,
+        stage: &StageSets<'_>,
         name: &ClaimName,
         width: u32,
         into: &mut Vec<Certificate>,

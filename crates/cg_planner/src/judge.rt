@@ -19,6 +19,7 @@ use crate::cells::early_end;
 use crate::claims::claim_names;
 use crate::insert::insert;
 use crate::measure::wide_end;
+use crate::sets::StageSets;
 use cg_cell::library::Library;
 use cg_claim::name::ClaimName;
 use cg_decide::Decider;
@@ -160,8 +161,31 @@ impl Judge {
         let Ok(names) = claim_names(self.alloc, machine, stage) else {
             return Err(AddFault::NoMemory);
         };
-        match wide_end(&mut self.unroller, machine, stage, names.as_slice(), width) {
-            Ok(None) => self.decide_claims(machine, number, stage, names.as_slice(), width, into),
+        let Ok(sets) = StageSets::new(self.alloc, stage) else {
+            return Err(AddFault::NoMemory);
+        };
+        self.judge_named(machine, number, &sets, names.as_slice(), width, into)
+    }
+
+    /// How a stage ends by its claims, which have these names beside that it can idle.
+    fn judge_named(
+        &mut self,
+        machine: &Machine,
+        number: u32,
+        stage: &StageSets<'_>,
+        names: &[ClaimName],
+        width: u32,
+        into: &mut Vec<Certificate>,
+    ) -> Result<Option<Outcome>, AddFault>
+        requires fits { Fits machine.now stage.now }
+        requires names { AreNames machine.now stage.now names.now }
+        ensures judged { IfOk result (IsJudged machine.now stage.now (measured machine.now width (all_claims machine.now stage.now) (decided machine.now stage.now))) }
+        ensures certificates { IfOk result (Certifying machine.now number stage.now into.old.items into.new.items) }
+        ensures fault { IfErr result (MayFail (measured machine.now width (all_claims machine.now stage.now) (decided machine.now stage.now))) }
+        ensures grown { Grow into.old.items into.new.items }
+    {
+        match wide_end(&mut self.unroller, machine, stage, names, width) {
+            Ok(None) => self.decide_claims(machine, number, stage, names, width, into),
             Ok(Some(outcome)) => Ok(Some(outcome)),
             Err(fault) => Err(fault),
         }
@@ -172,7 +196,7 @@ impl Judge {
         &mut self,
         machine: &Machine,
         number: u32,
-        stage: &Stage,
+        stage: &StageSets<'_>,
         names: &[ClaimName],
         width: u32,
         into: &mut Vec<Certificate>,

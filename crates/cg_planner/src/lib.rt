@@ -8,6 +8,7 @@
 //!
 //! - `cells`: how a stage ends by its registers and its cells alone.
 //! - `claims`: the claims of a stage, by their names.
+//! - `sets`: a stage whose claims are built.
 //! - `measure`: how a stage ends by the measures of its claims.
 //! - `decide`: the decision of claims, one after the other.
 //! - `insert`: what a stage adds to a machine.
@@ -29,4 +30,5 @@ mod judge;
 mod measure;
 pub mod plan;
 pub mod progress;
+mod sets;
 pub mod trial;

@@ -11,9 +11,9 @@ ghost use Rattle.cg_planner.specs.inner.Naming.{AreNames, NameFits, claims_named
 ghost use Rattle.cg_stage.specs.Stages.{Fits};
 
 use crate::claims::build_claim;
+use crate::sets::StageSets;
 use cg_claim::name::ClaimName;
 use cg_machine::machine::Machine;
-use cg_machine::stage::Stage;
 use cg_netlist::fault::AddFault;
 use cg_plan::outcome::Outcome;
 use cg_unroll::claim::ClaimFault;
@@ -24,7 +24,7 @@ use cg_unroll::unroller::Unroller;
 pub(crate) fn wide_end(
     unroller: &mut Unroller,
     machine: &Machine,
-    stage: &Stage,
+    stage: &StageSets<'_>,
     names: &[ClaimName],
     width: u32,
 ) -> Result<Option<Outcome>, AddFault>
@@ -43,7 +43,7 @@ pub(crate) fn wide_end(
 fn measure_each(
     unroller: &mut Unroller,
     machine: &Machine,
-    stage: &Stage,
+    stage: &StageSets<'_>,
     names: &[ClaimName],
     width: u32,
 ) -> Result<Option<Outcome>, AddFault>
@@ -65,7 +65,7 @@ fn measure_each(
 fn measure(
     unroller: &mut Unroller,
     machine: &Machine,
-    stage: &Stage,
+    stage: &StageSets<'_>,
     name: &ClaimName,
     width: u32,
 ) -> Result<Option<Outcome>, AddFault>

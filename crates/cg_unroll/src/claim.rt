@@ -6,6 +6,7 @@ ghost use Rattle.cg_claim.specs.Question.{hold_question, idle_question, stable_q
 ghost use Rattle.cg_unroll.specs.Claims.{IsClaim, IsRefused, IsTargetName, target_of};
 
 use crate::unroller::Unroller;
+use crate::unseen::UnseenRegs;
 use cg_aig::list::Aig;
 use cg_aig::lit::AigLit;
 use cg_claim::leaf::Leaf;
@@ -131,8 +132,11 @@ pub fn unseen_claim(
     ensures claim { IfOk result (IsClaim machine.now (unseen_question enables.now guards.now regs.now (target_of machine.now target)) width) }
     ensures refused { IfErr result (IsRefused machine.now (unseen_question enables.now guards.now regs.now (target_of machine.now target)) width) }
 {
+    let Ok(unseen) = UnseenRegs::new(alloc, guards, regs) else {
+        return Err(ClaimFault::NoMemory);
+    };
     let mut unroller = Unroller::new(alloc);
-    match unroller.unseen(machine, enables, guards, regs, target, width) {
+    match unroller.unseen(machine, enables, &unseen, target, width) {
         Ok(()) => Ok(unroller.into_claim()),
         Err(fault) => Err(fault),
     }

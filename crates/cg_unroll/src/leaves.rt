@@ -11,7 +11,8 @@ ghost use Rattle.cg_unroll.specs.inner.Leaves.{input_leaf, register_leaf};
 ghost use Rattle.cg_unroll.specs.inner.Reached.{AreNamed, IsConeOf, IsLater};
 
 use crate::asked::Asked;
-use crate::reached::{Later, Named};
+use crate::named::Named;
+use crate::reached::Later;
 use crate::sources::{before_states, inside, outside};
 use cg_claim::leaf::{Leaf, LeafSource};
 use cg_list::Seq;
@@ -31,7 +32,7 @@ pub(crate) fn leaves(
     later: &Later,
 ) -> Result<Seq<Leaf>, AllocError>
     requires asked { AsksThere machine.now (question_of asked.now) }
-    requires named { AreNamed (question_of asked.now) named.now }
+    requires named { AreNamed asked.now.follows.now asked.now.changes.now named.now }
     requires before { IsConeOf machine.now (before_nets machine.now (question_of asked.now)) before.now }
     requires later { IsLater machine.now (question_of asked.now) later.now }
     ensures { IfOk result (λ leaves. leaves ≡ map shown_leaf (leaves_of machine.now (question_of asked.now))) }
@@ -54,7 +55,7 @@ fn push_before(
     leaves: &mut Vec<Leaf>,
 ) -> Result<(), AllocError>
     requires asked { AsksThere machine.now (question_of asked.now) }
-    requires named { AreNamed (question_of asked.now) named.now }
+    requires named { AreNamed asked.now.follows.now asked.now.changes.now named.now }
     requires before { IsConeOf machine.now (before_nets machine.now (question_of asked.now)) before.now }
     requires later { IsLater machine.now (question_of asked.now) later.now }
     ensures { OnOk result (leaves.new.items ≡ leaves.old.items ++ map shown_leaf (leaves_at machine.now (question_of asked.now) Before)) }
@@ -75,7 +76,7 @@ fn push_after(
     later: &Later,
     leaves: &mut Vec<Leaf>,
 ) -> Result<(), AllocError>
-    requires named { AreNamed (question_of asked.now) named.now }
+    requires named { AreNamed asked.now.follows.now asked.now.changes.now named.now }
     requires later { IsLater machine.now (question_of asked.now) later.now }
     ensures { OnOk result (leaves.new.items ≡ leaves.old.items ++ map shown_leaf (leaves_at machine.now (question_of asked.now) After)) }
 {
@@ -95,7 +96,7 @@ fn push_changed(
     later: &Later,
     leaves: &mut Vec<Leaf>,
 ) -> Result<(), AllocError>
-    requires named { AreNamed (question_of asked.now) named.now }
+    requires named { AreNamed asked.now.follows.now asked.now.changes.now named.now }
     requires later { IsLater machine.now (question_of asked.now) later.now }
     ensures { OnOk result (leaves.new.items ≡ leaves.old.items ++ map shown_leaf (leaves_at machine.now (question_of asked.now) Changed)) }
 {

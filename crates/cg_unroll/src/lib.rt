@@ -11,6 +11,8 @@
 //! - `roots`: the nets that it asks for in each copy.
 //! - `sources`: the registers whose states it asks for in each copy.
 //! - `leaves`: its leaves.
+//! - `named`: the registers that it says something of, as sets.
+//! - `unseen`: the registers of unobservability claims.
 //! - `reached`: what it reaches.
 //! - `literals`: a literal for each net or each register, where most have none.
 //! - `tables`: the literals of the nets and of the states of the copies, and those of the leaves at their places.
@@ -37,6 +39,7 @@ mod goal;
 mod lay;
 mod leaves;
 mod literals;
+mod named;
 mod next;
 mod reached;
 mod roots;
@@ -46,4 +49,5 @@ mod states;
 mod tables;
 pub mod targets;
 pub mod unroller;
+pub mod unseen;
 mod walk;

@@ -9,15 +9,15 @@ ghost use Rattle.cg_unroll.specs.inner.Reached.{AreNamed, IsConeOf, IsLater, IsR
 
 use crate::asked::{Asked, Frame};
 use crate::leaves::leaves;
+use crate::named::Named;
 use crate::roots::{push_enables, push_origins, push_sides};
-use crate::sources::{after_states, changed_states, set_of};
+use crate::sources::{after_states, changed_states};
 use cg_claim::leaf::Leaf;
 use cg_list::Seq;
 use cg_machine::cone::ConeFinder;
 use cg_machine::machine::Machine;
 use cg_netlist::cone::Cone;
 use cg_netlist::id::RegId;
-use indexmap::IndexSet;
 use std::alloc::{AllocError, Global};
 
 /// What a claim reaches.
@@ -37,16 +37,6 @@ pub(crate) struct Reached {
 
     /// The leaves, in the order of their numbers.
     pub(crate) leaves: Seq<Leaf>,
-}
-
-/// The registers that a claim says something of, as sets.
-#[derive(Drop)]
-pub(crate) struct Named {
-    /// Those that hold their next bits after the first cycle.
-    pub(crate) follows: IndexSet<u32>,
-
-    /// Those that may have other bits in the last copy.
-    pub(crate) changes: IndexSet<u32>,
 }
 
 /// What a claim reaches in the copies after the first.
@@ -81,8 +71,7 @@ impl Reacher {
         }
     }
 
-    /// What a claim reaches, at the cost of that: the cones of the later copies first, then the states after the first
-    /// cycle that they ask for, and then the first cone, which these ask for.
+    /// What a claim reaches that says something of few registers.
     pub(crate) fn reach(
         &mut self,
         machine: &Machine,
@@ -91,10 +80,26 @@ impl Reacher {
         requires { AsksThere machine.now (question_of asked.now) }
         ensures { IfOk result (IsReached machine.now (question_of asked.now)) }
     {
-        let named = sets_of(self.alloc, asked)?;
-        let later = self.later_copies(machine, asked, &named)?;
-        let before = self.first_cone(machine, asked, &named, &later)?;
-        let leaves = leaves(self.alloc, machine, asked, &named, &before, &later)?;
+        let named = Named::new(self.alloc, asked.follows, asked.changes)?;
+        let reached = self.reach_with(machine, asked, &named)?;
+        Ok(reached)
+    }
+
+    /// What a claim reaches, at the cost of that: the cones of the later copies first, then the states after the first
+    /// cycle that they ask for, and then the first cone, which these ask for.
+    pub(crate) fn reach_with(
+        &mut self,
+        machine: &Machine,
+        asked: &Asked<'_>,
+        named: &Named,
+    ) -> Result<Reached, AllocError>
+        requires asked { AsksThere machine.now (question_of asked.now) }
+        requires named { AreNamed asked.now.follows.now asked.now.changes.now named.now }
+        ensures { IfOk result (IsReached machine.now (question_of asked.now)) }
+    {
+        let later = self.later_copies(machine, asked, named)?;
+        let before = self.first_cone(machine, asked, named, &later)?;
+        let leaves = leaves(self.alloc, machine, asked, named, &before, &later)?;
         Ok(Reached {
             before,
             after: later.after,
@@ -112,7 +117,7 @@ impl Reacher {
         named: &Named,
     ) -> Result<Later, AllocError>
         requires asked { AsksThere machine.now (question_of asked.now) }
-        requires named { AreNamed (question_of asked.now) named.now }
+        requires named { AreNamed asked.now.follows.now asked.now.changes.now named.now }
         ensures { IfOk result (IsLater machine.now (question_of asked.now)) }
     {
         let changed = self.later_cone(machine, asked, Frame::Changed)?;
@@ -154,7 +159,7 @@ impl Reacher {
         later: &Later,
     ) -> Result<Cone, AllocError>
         requires asked { AsksThere machine.now (question_of asked.now) }
-        requires named { AreNamed (question_of asked.now) named.now }
+        requires named { AreNamed asked.now.follows.now asked.now.changes.now named.now }
         requires later { IsLater machine.now (question_of asked.now) later.now }
         ensures { IfOk result (IsConeOf machine.now (before_nets machine.now (question_of asked.now))) }
     {
@@ -167,13 +172,4 @@ impl Reacher {
         let cone = self.cones.find(machine, &roots)?;
         Ok(cone)
     }
-}
-
-/// The registers that a claim says something of, as sets.
-fn sets_of(alloc: Global, asked: &Asked<'_>) -> Result<Named, AllocError>
-    ensures { IfOk result (AreNamed (question_of asked.now)) }
-{
-    let follows = set_of(alloc, asked.follows)?;
-    let changes = set_of(alloc, asked.changes)?;
-    Ok(Named { follows, changes })
 }

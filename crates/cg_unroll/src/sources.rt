@@ -12,7 +12,8 @@ ghost use Rattle.cg_unroll.specs.inner.Asking.{AsksThere, PartThere, copy_of, pa
 ghost use Rattle.cg_unroll.specs.inner.Reached.{AreNamed, IsConeOf, IsLater};
 
 use crate::asked::{Asked, Frame, Part, Side};
-use crate::reached::{Later, Named};
+use crate::named::Named;
+use crate::reached::Later;
 use crate::roots::is_same;
 use cg_cell::cell::CellType;
 use cg_list::Seq;
@@ -136,7 +137,7 @@ pub(crate) fn after_states(
     moved: &Seq<RegId>,
 ) -> Result<Seq<RegId>, AllocError>
     requires asked { AsksThere machine.now (question_of asked.now) }
-    requires named { AreNamed (question_of asked.now) named.now }
+    requires named { AreNamed asked.now.follows.now asked.now.changes.now named.now }
     requires cone { IsConeOf machine.now (after_nets machine.now (question_of asked.now)) after.now }
     requires moved { moved.now ≡ filter (changed_states machine.now (question_of asked.now)) (registers_of machine.now) }
     ensures { IfOk result (λ regs. regs ≡ filter (after_states machine.now (question_of asked.now)) (registers_of machine.now)) }
@@ -162,7 +163,7 @@ pub(crate) fn before_states(
     later: &Later,
 ) -> Result<Seq<RegId>, AllocError>
     requires asked { AsksThere machine.now (question_of asked.now) }
-    requires named { AreNamed (question_of asked.now) named.now }
+    requires named { AreNamed asked.now.follows.now asked.now.changes.now named.now }
     requires cone { IsConeOf machine.now (before_nets machine.now (question_of asked.now)) before.now }
     requires later { IsLater machine.now (question_of asked.now) later.now }
     ensures { IfOk result (λ regs. regs ≡ filter (before_states machine.now (question_of asked.now)) (registers_of machine.now)) }

@@ -12,6 +12,7 @@ use crate::asked::{Asked, Frame, Part, Side};
 use crate::build::Builder;
 use crate::claim::{Claim, ClaimFault};
 use crate::reached::{Reached, Reacher};
+use crate::unseen::UnseenRegs;
 use cg_aig::fault::AigFault;
 use cg_aig::list::Aig;
 use cg_aig::lit::AigLit;
@@ -159,17 +160,16 @@ impl Unroller {
         &mut self,
         machine: &Machine,
         enables: &[NetLit],
-        guards: &[RegId],
-        regs: &[RegId],
+        unseen: &UnseenRegs<'_>,
         target: ClaimName,
         width: u32,
     ) -> Result<(), ClaimFault>
         requires nets { All (λ l. l.0 < length machine.now.circuit.names) enables.now }
-        requires guards { All (λ r. r < length machine.now.circuit.registers) guards.now }
-        requires registers { All (λ r. r < length machine.now.circuit.registers) regs.now }
+        requires guards { All (λ r. r < length machine.now.circuit.registers) unseen.now.guards }
+        requires registers { All (λ r. r < length machine.now.circuit.registers) unseen.now.regs }
         requires target { IsTargetName machine.now target }
-        ensures claim { OnOk result (IsClaim machine.now (unseen_question enables.now guards.now regs.now (target_of machine.now target)) width self.new) }
-        ensures refused { IfErr result (IsRefused machine.now (unseen_question enables.now guards.now regs.now (target_of machine.now target)) width) }
+        ensures claim { OnOk result (IsClaim machine.now (unseen_question enables.now unseen.now.guards unseen.now.regs (target_of machine.now target)) width self.new) }
+        ensures refused { IfErr result (IsRefused machine.now (unseen_question enables.now unseen.now.guards unseen.now.regs (target_of machine.now target)) width) }
     {
         let after = Side {
             frame: Frame::After,
@@ -181,14 +181,17 @@ impl Unroller {
         };
         let asked = Asked {
             enables,
-            follows: guards,
-            changes: regs,
+            follows: unseen.guards,
+            changes: unseen.regs,
             sides: Some((after, changed)),
         };
-        self.answer(machine, &asked, width)
+        match self.reacher.reach_with(machine, &asked, &unseen.named) {
+            Ok(reached) => self.build(machine, &asked, reached, width),
+            Err(_) => Err(ClaimFault::NoMemory),
+        }
     }
 
-    /// Builds the claim of a question.
+    /// Builds the claim of a question that says something of few registers.
     fn answer(&mut self, machine: &Machine, asked: &Asked<'_>, width: u32) -> Result<(), ClaimFault>
         requires { AsksThere machine.now (question_of asked.now) }
         ensures claim { OnOk result (IsClaim machine.now (question_of asked.now) width self.new) }

@@ -8,7 +8,7 @@ use Rattle.cg_claim.specs.declared.name.ClaimName.{ClaimName}
 use Rattle.cg_claim.specs.declared.name.ClaimName.TheVariants.{Enable, Hold, Idle, Next, Output, Stable}
 use Rattle.cg_plan.specs.StageClaims.{NamedClaim, claims_of}
 use Rattle.cg_stage.specs.Stages.{first_literal}
-use Rattle.cg_unroll.specs.Claims.{target_of}
+use Rattle.cg_unroll.specs.Claims.{UnseenData, target_of}
 
 -- the question of the claim that a name names
 abbrev pub question_of : MachineData → Stage → ClaimName → Question
@@ -18,6 +18,10 @@ question_of m s (Stable r) = stable_question s.enable r
 question_of m s (Output k) = unseen_question s.enable s.guards s.regs (target_of m (Output k))
 question_of m s (Next r) = unseen_question s.enable s.guards s.regs (target_of m (Next r))
 question_of m s Enable = unseen_question s.enable s.guards s.regs (target_of m Enable)
+
+-- the registers of a stage's unobservability claims, and their guards
+abbrev pub unseen_of : Stage → UnseenData
+unseen_of s = record { guards = s.guards; regs = s.regs }
 
 -- what a name names is there
 abbrev pub NameFits : MachineData → ClaimName → Type 0

@@ -9,8 +9,8 @@ use Rattle.cg_claim.specs.Build.{reached_cells}
 use Rattle.cg_claim.specs.Leaves.{leaves_of, shown_leaf}
 use Rattle.cg_claim.specs.Question.{Question}
 use Rattle.cg_claim.specs.Reach.{after_nets, after_states, before_nets, changed_nets, changed_states, feeds, registers_of}
+use Rattle.cg_unroll.specs.declared.named.Named.{Named}
 use Rattle.cg_unroll.specs.declared.reached.Later.{Later}
-use Rattle.cg_unroll.specs.declared.reached.Named.{Named}
 use Rattle.cg_unroll.specs.declared.reached.Reached.{Reached}
 
 -- a cone has the cells whose outputs are among these nets, in walk order, the data inputs that are, and the registers
@@ -30,9 +30,9 @@ pub record IsReached (m : MachineData) (q : Question) (reached : Reached) : Type
   pub leaves : reached.leaves ≡ map shown_leaf (leaves_of m q)
 
 -- sets of the registers that hold their next bits, and of those that may have other bits
-pub record AreNamed (q : Question) (named : Named) : Type 0 where
-  pub follows : (r : ℕ) → is_in q.follows r ≡ is_in named.follows.keys r
-  pub changes : (r : ℕ) → is_in q.changes r ≡ is_in named.changes.keys r
+pub record AreNamed (Q G : List ℕ) (named : Named) : Type 0 where
+  pub follows : (r : ℕ) → is_in Q r ≡ is_in named.follows.keys r
+  pub changes : (r : ℕ) → is_in G r ≡ is_in named.changes.keys r
 
 -- the cones of the later copies, and the registers whose states are reached in them
 pub record IsLater (m : MachineData) (q : Question) (later : Later) : Type 0 where

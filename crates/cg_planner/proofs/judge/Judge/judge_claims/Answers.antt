@@ -1,30 +1,19 @@
-use Rattle.std.proofs.Common.{◌≡◌, Some, None, Ok, IfOk, sym, subst}
+use Rattle.std.proofs.Common.{IfErr, IfOk, subst}
+use Rattle.cg_machine.specs.declared.stage.Stage.{Stage}
 use Rattle.cg_plan.specs.StageClaims.{all_claims}
-use Rattle.cg_plan.specs.Trying.{Tried, decided}
+use Rattle.cg_plan.specs.Told.{MayFail}
+use Rattle.cg_plan.specs.Trying.{decided, measured}
 use Rattle.cg_planner.specs.inner.Judging.{IsJudged}
-use Rattle.cg_planner.specs.inner.Measuring.{wide_end}
-use Rattle.cg_planner.proofs.Judging.{wide_ends}
-use Rattle.cg_planner.proofs.Measuring.{measured_fault, measured_on}
 use Rattle.cg_planner.proofs.judge.Judge.judge_claims.Goals as goal
 
-pub returns-in-Ok-None-clause-judged : goal.returns-in-Ok-None-clause-judged
-returns-in-Ok-None-clause-judged c =
+pub returns-clause-judged : goal.returns-clause-judged
+returns-clause-judged c =
     let m = c.args.machine.now in
-    let s = c.args.stage.now in
     let w = c.args.width in
-    let all : wide_end m w (all_claims m s) ≡ Ok None = cc (c.in-Ok-None.ensures, c.in-Ok-None.field-0-is) in
-    subst (λ (t : Tried). IfOk c.decide_claims.result (IsJudged m s t)) (sym (measured_on m w (all_claims m s) (decided m s) all)) c.decide_claims.ensures.judged
-
-pub returns-in-Ok-Some-clause-judged : goal.returns-in-Ok-Some-clause-judged
-returns-in-Ok-Some-clause-judged c =
-    let m = c.args.machine.now in
-    let s = c.args.stage.now in
-    let w = c.args.width in
-    let end : wide_end m w (all_claims m s) ≡ Ok (Some c.in-Ok-Some.outcome) = cc (c.in-Ok-Some.ensures, c.in-Ok-Some.field-0-is) in
-    wide_ends m s w c.in-Ok-Some.outcome end
+    subst (λ (s : Stage). IfOk c.judge_named.result (IsJudged m s (measured m w (all_claims m s) (decided m s)))) c.in-Ok-new.ensures c.judge_named.ensures.judged
 
 pub returns-clause-fault : goal.returns-clause-fault
 returns-clause-fault c =
     let m = c.args.machine.now in
-    let s = c.args.stage.now in
-    measured_fault m c.args.width (all_claims m s) (decided m s) c.in-Err.fault c.in-Err.ensures
+    let w = c.args.width in
+    subst (λ (s : Stage). IfErr c.judge_named.result (MayFail (measured m w (all_claims m s) (decided m s)))) c.in-Ok-new.ensures c.judge_named.ensures.fault

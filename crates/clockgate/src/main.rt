@@ -10,12 +10,16 @@ use cg_report::toggle_count::ToggleCount;
 use cg_report::watcher::Watcher;
 use cg_run::Status;
 use cg_run::closing::complain;
-use cg_shelf::DirShelf;
+use cg_shelf::{DirShelf, Shelf};
 use cg_tool::run;
 use stage_line::StageLine;
+use std::alloc::AllocError;
 use std::io::{ErrorKind, IsTerminal};
 use std::process::ExitCode;
 use std::{env, io};
+
+/// What is said where memory is wanting.
+const NO_MEMORY: &[u8] = b"clockgate: no memory\n";
 
 fn main(rt: HostRuntime) -> ExitCode {
     ExitCode::from(status(rt).number())
@@ -24,26 +28,39 @@ fn main(rt: HostRuntime) -> ExitCode {
 /// Runs the words of the command line, or complains as a run does that they cannot be had. A word that is not UTF-8 is
 /// no word that the program takes.
 fn status(rt: HostRuntime) -> Status {
-    let alloc = rt.alloc();
-    let mut shelf = DirShelf::new(rt, rt.stderr(), alloc);
-    match words_and_watchers(rt) {
-        Ok((words, watchers)) => {
-            let mut line = StageLine::new(rt, rt.stderr().is_terminal());
-            run(alloc, words.as_slice(), &mut shelf, watchers, &mut line)
-        }
+    let mut shelf = DirShelf::new(rt, rt.stderr(), rt.alloc());
+    match words(rt) {
+        Ok(words) => run_words(rt, words.as_slice(), &mut shelf),
         Err(error) if error.kind() == ErrorKind::InvalidData => {
             complain(&mut shelf, Status::Usage, b"clockgate: usage\n")
         }
-        Err(_) => complain(&mut shelf, Status::NoMemory, b"clockgate: no memory\n"),
+        Err(_) => complain(&mut shelf, Status::NoMemory, NO_MEMORY),
     }
 }
 
-/// The words of the command line, and the watchers of edges and of toggles, for one of which the words may ask.
-fn words_and_watchers(rt: HostRuntime) -> io::Result<(Vec<String>, Vec<Box<dyn Watcher>>)> {
+/// The words of the command line.
+fn words(rt: HostRuntime) -> io::Result<Vec<String>> {
+    Ok(env::args(&rt)?.collect::<Vec<String>>(rt.alloc())?)
+}
+
+/// Runs the words, or complains that the watchers cannot be had.
+fn run_words<S: Shelf>(rt: HostRuntime, words: &[String], shelf: &mut S) -> Status {
+    match run_watched(rt, words, shelf) {
+        Ok(status) => status,
+        Err(_) => complain(shelf, Status::NoMemory, NO_MEMORY),
+    }
+}
+
+/// Runs the words, which may ask for a watcher of edges or of toggles.
+fn run_watched<S: Shelf>(
+    rt: HostRuntime,
+    words: &[String],
+    shelf: &mut S,
+) -> Result<Status, AllocError> {
     let alloc = rt.alloc();
-    let words = env::args(&rt)?.collect::<Vec<String>>(alloc)?;
     let mut watchers: Vec<Box<dyn Watcher>> = Vec::new(alloc);
     watchers.push(Box::new(alloc, EdgeCount::new())?)?;
     watchers.push(Box::new(alloc, ToggleCount::new(alloc))?)?;
-    Ok((words, watchers))
+    let mut line = StageLine::new(rt, rt.stderr().is_terminal());
+    Ok(run(alloc, words, shelf, watchers, &mut line))
 }

@@ -160,11 +160,7 @@ fn is_known(netlist: &Netlist, name: &Name) -> bool
 
 /// The first gating cell with which a netlist is not gated: with a test input the first of all; without one the first that is not
 /// lifted with the cells of the library.
-fn refused_gater(
-    netlist: &Netlist,
-    library: &Library,
-    test: Option<&Name>,
-) -> Option<GateClockId>
+fn refused_gater(netlist: &Netlist, library: &Library, test: Option<&Name>) -> Option<GateClockId>
     ensures { result ≡ refused_gater library.now (option_copied test.entry) netlist.now }
 {
     match test {

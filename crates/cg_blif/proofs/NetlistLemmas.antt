@@ -6,7 +6,7 @@ use Rattle.cg_cell.specs.Cell.{CellData, IsCell}
 use Rattle.cg_netlist.specs.Circuit.{Circuit}
 use Rattle.cg_netlist.specs.declared.fault.NetFault.{NetFault}
 use Rattle.cg_netlist.specs.declared.fault.NetFault.TheVariants as nets
-use Rattle.cg_netlist.specs.said.Building.{Building, Finishes}
+use Rattle.cg_builder.specs.Building.{Building, Finishes}
 use Rattle.cg_netlist.specs.said.Part.{Part}
 use Rattle.cg_netlist.specs.said.Said.{said}
 use Rattle.cg_netlist.specs.said.Says.{Says}

@@ -10,7 +10,7 @@ use Rattle.cg_netlist.specs.declared.parts.LogicFunction.TheVariants.{Cover}
 use Rattle.cg_netlist.specs.Circuit.{Circuit}
 use Rattle.cg_netlist.specs.declared.fault.NetFault.{NetFault}
 use Rattle.cg_netlist.specs.declared.fault.NetFault.TheVariants as nets
-use Rattle.cg_netlist.specs.said.Building.{Building, Finishes}
+use Rattle.cg_builder.specs.Building.{Building, Finishes}
 use Rattle.cg_netlist.specs.said.Part.{Part, Logic}
 use Rattle.cg_netlist.specs.said.Faults.{IsFault}
 use Rattle.cg_netlist.specs.said.Said.{Said, nothing_said, said}

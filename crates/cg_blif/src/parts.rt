@@ -11,8 +11,8 @@ ghost use Rattle.cg_blif.specs.Hearing.{Hears};
 
 use crate::fault::{Refusal, heard};
 use cg_blif_text::word::Word;
+use cg_builder::builder::Builder;
 use cg_cell::cover::Cover;
-use cg_netlist::builder::Builder;
 use std::alloc::{AllocError, Global};
 
 /// Makes nets inputs.

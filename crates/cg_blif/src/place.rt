@@ -14,9 +14,9 @@ use crate::pins::{are_for_pins, nets_of, outputs_of};
 use cg_blif_text::fault::LineFault;
 use cg_blif_text::statement::PinWord;
 use cg_blif_text::word::Word;
+use cg_builder::builder::Builder;
 use cg_cell::cell::{CellKind, CellType, Role};
 use cg_cell::library::Library;
-use cg_netlist::builder::Builder;
 use std::alloc::Global;
 
 /// Adds the cell of a `.gate` line.

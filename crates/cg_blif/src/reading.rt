@@ -18,8 +18,8 @@ use cg_blif_text::fault::LineFault;
 use cg_blif_text::place::Place;
 use cg_blif_text::statement::Statement;
 use cg_blif_text::word::Word;
+use cg_builder::builder::Builder;
 use cg_cell::library::Library;
-use cg_netlist::builder::Builder;
 use std::alloc::{AllocError, Global};
 
 /// What was read of a text so far: where the next line stands, the parts of all lines but an open cover, and the cover

@@ -7,13 +7,13 @@ ghost use Rattle.cg_extract.specs.Lifted.{bare, ungated};
 ghost use Rattle.cg_extract.specs.inner.BareParts.{bare_parts};
 ghost use Rattle.cg_insert.specs.inner.GatedParts.{clocked_parts, with_clock};
 ghost use Rattle.cg_insert.specs.inner.Telling.{MayTell, Tells, told};
-ghost use Rattle.cg_netlist.specs.said.Building.{fresh};
+ghost use Rattle.cg_builder.specs.Building.{fresh};
 
+use cg_builder::builder::Builder;
 use cg_insert::clocked::tell_register;
 use cg_insert::logic::tell_cells;
 use cg_insert::names::GatedNames;
 use cg_insert::telling::{tell_clock, tell_inputs, tell_outputs};
-use cg_netlist::builder::Builder;
 use cg_netlist::fault::AddFault;
 use cg_netlist::id::{NetId, RegId};
 use cg_netlist::netlist::Netlist;

@@ -11,7 +11,7 @@ use Rattle.cg_netlist.proofs.said.Each.{each_back, each_front}
 use Rattle.cg_netlist.specs.Names.{is_known, with_name}
 use Rattle.cg_netlist.specs.declared.fault.AddFault.{AddFault}
 use Rattle.cg_netlist.specs.declared.fault.AddFault.TheVariants.{Limit as Passes, NoMemory}
-use Rattle.cg_netlist.specs.said.Building.{Building, IsAnswer, Takes}
+use Rattle.cg_builder.specs.Building.{Building, IsAnswer, Takes}
 use Rattle.cg_netlist.specs.said.Part.{Clock, Gate, Input, Logic, Output, Part, Register, mentioned}
 use Rattle.cg_netlist.specs.said.Said.{Said, limit_of, with_kind, with_names, with_part}
 use Rattle.cg_netlist.specs.said.Says.{IsPart}

@@ -9,19 +9,19 @@ ghost use Rattle.cg_insert.specs.Insert.{enables_of, first_gate, gating_kind, te
 ghost use Rattle.cg_insert.specs.inner.GatedParts.{clocked_part, clocked_parts, gated_gaters, gated_registers, gater_part, gater_parts, placed_outputs, with_clock};
 ghost use Rattle.cg_insert.specs.inner.Telling.{MayTell, Tells};
 ghost use Rattle.cg_machine.specs.Machine.{enable_of};
-ghost use Rattle.cg_netlist.specs.Calls.{kind_of};
+ghost use Rattle.cg_builder.specs.Calls.{kind_of};
 ghost use Rattle.cg_netlist.specs.Ordered.{place_in};
 ghost use Rattle.cg_netlist.specs.View.{kind_seen, register_seen};
 
 use crate::enables::Enables;
 use crate::logic::fitting;
 use crate::names::GatedNames;
+use cg_builder::builder::Builder;
 use cg_cell::cell::CellType;
 use cg_cell::fit::FitKind;
 use cg_cell::library::Library;
 use cg_cell::name::Name;
 use cg_machine::machine::Machine;
-use cg_netlist::builder::Builder;
 use cg_netlist::fault::AddFault;
 use cg_netlist::id::{NetId, RegId};
 use cg_netlist::view::{RegKind, RegView};

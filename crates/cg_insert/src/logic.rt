@@ -12,12 +12,12 @@ ghost use Rattle.cg_machine.specs.View.{gate_seen};
 
 use crate::copy::copy_cover;
 use crate::names::GatedNames;
+use cg_builder::builder::Builder;
 use cg_cell::cell::CellType;
 use cg_cell::fit::FitKind;
 use cg_cell::library::Library;
 use cg_machine::machine::Machine;
 use cg_machine::view::GateView;
-use cg_netlist::builder::Builder;
 use cg_netlist::fault::AddFault;
 use cg_netlist::id::CellId;
 use cg_netlist::netlist::Netlist;

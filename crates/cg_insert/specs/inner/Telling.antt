@@ -3,7 +3,7 @@ use Rattle.std.specs.Prelude.{◌≡◌, List, [], ◌∷◌, None, Result, Matc
 use Rattle.std.specs.List.{AllByRecursion}
 use Rattle.cg_netlist.specs.declared.fault.AddFault.{AddFault}
 use Rattle.cg_netlist.specs.declared.fault.AddFault.TheVariants.{NoMemory}
-use Rattle.cg_netlist.specs.said.Building.{Building}
+use Rattle.cg_builder.specs.Building.{Building}
 use Rattle.cg_netlist.specs.said.Part.{Part}
 use Rattle.cg_netlist.specs.said.Said.{Said, limit_of, with_part}
 use Rattle.cg_netlist.specs.said.Says.{IsPart}

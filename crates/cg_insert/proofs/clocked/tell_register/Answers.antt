@@ -2,7 +2,7 @@ use Rattle.std.proofs.Common.{◌≡◌, ◌∷◌, [], Bor, ℕ, List, Some, ma
 use Rattle.std.specs.Option.{option_copied}
 use Rattle.cg_netlist.specs.Circuit.{RegisterCell}
 use Rattle.cg_netlist.specs.View.{register_seen}
-use Rattle.cg_netlist.specs.said.Building.{Takes}
+use Rattle.cg_builder.specs.Building.{Takes}
 use Rattle.cg_netlist.specs.said.Part.{Part}
 use Rattle.cg_netlist.specs.said.Says.{IsPart}
 use Rattle.cg_netlist.specs.said.Wiring.{NetName}

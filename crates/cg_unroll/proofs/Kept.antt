@@ -15,7 +15,7 @@ use Rattle.cg_claim.specs.Violates.{PartFits, SidesFit}
 use Rattle.cg_claim.proofs.Reached.{in_filter}
 use Rattle.cg_unroll.specs.declared.tables.Tables.{Tables}
 use Rattle.cg_claim.specs.declared.leaf.Leaf.{Leaf}
-use Rattle.cg_unroll.specs.inner.Asking.{PartThere, SidesThere}
+use Rattle.cg_reach.specs.Asking.{PartThere, SidesThere}
 use Rattle.cg_unroll.specs.inner.Copying.{AreTables, Starts}
 use Rattle.cg_unroll.specs.inner.Laid.{LaysCopy}
 use Rattle.cg_unroll.specs.inner.Placing.{IsTable}

@@ -11,7 +11,7 @@ use Rattle.cg_claim.specs.Build.{Table, aig_values, lay, reached_cells, start_ne
 use Rattle.cg_claim.specs.Tables.{SameOn}
 use Rattle.cg_unroll.specs.inner.Building.{MayFail, table_of}
 use Rattle.cg_unroll.specs.inner.Placing.{IsTable}
-use Rattle.cg_unroll.specs.inner.Reached.{IsConeOf}
+use Rattle.cg_reach.specs.Reached.{IsConeOf}
 
 -- the data inputs have these literals, and all other nets 0
 abbrev pub HoldsInputs : MachineData → (ℕ → ℕ) → List ℕ → Type 0

@@ -1,6 +1,7 @@
 -- Reading a DIMACS text: the formula, or the first fault.
 use Rattle.std.specs.Prelude.{◌≡◌, ℕ, ◌&&◌, List, [], ◌∷◌, Result, Ok, Err, codes, if◌then◌else◌, nat_le, zero, suc}
 use Rattle.std.specs.Str.{bytes_eq}
+use Rattle.cg_limit.specs.declared.TheConstants.{MOST_VARIABLES}
 use Rattle.cg_limit.specs.declared.Limit.TheVariants.{Variables}
 use Rattle.cg_text.specs.declared.blanks.Blanks.TheVariants.{Whitespace}
 use Rattle.cg_text.specs.declared.lines.Comments.TheVariants.{LeadingC}
@@ -44,7 +45,7 @@ abbrev pub counts_of : Number → Number → Result Header DimacsFault
 counts_of Misspelled clauses = Err BadHeader
 counts_of (Small n) Misspelled = Err BadHeader
 counts_of (Small n) Large = Err BadHeader
-counts_of (Small n) (Small m) = if nat_le n 16777216 then Ok (record { variables = n; clauses = m }) else Err (Limit Variables)
+counts_of (Small n) (Small m) = if nat_le n MOST_VARIABLES then Ok (record { variables = n; clauses = m }) else Err (Limit Variables)
 counts_of Large Misspelled = Err BadHeader
 counts_of Large Large = Err BadHeader
 counts_of Large (Small m) = Err (Limit Variables)

@@ -9,7 +9,7 @@ ghost use Rattle.cg_formula.specs.DimacsReading.{Gives, counts_of, header_of, cl
 
 use crate::formula::{Clause, Formula};
 use crate::token::{ClauseToken, push_clause, read_clause_token};
-use cg_limit::Limit;
+use cg_limit::{Limit, MOST_VARIABLES};
 use cg_list::Seq;
 use cg_text::blanks::Blanks;
 use cg_text::lines::{Comments, Layout, Lines};
@@ -17,7 +17,6 @@ use cg_text::number::{Number, push_number, read_number};
 use cg_text::tokens::Tokens;
 use cg_text::words::Words;
 use std::alloc::{AllocError, AllocFailed, Global};
-use thiserror::Error;
 
 /// How DIMACS and LRAT texts are cut into lines and words.
 pub const LAYOUT: Layout = Layout {
@@ -25,24 +24,17 @@ pub const LAYOUT: Layout = Layout {
     comments: Comments::LeadingC,
 };
 
-/// The most variables that a header may name.
-pub const MOST_VARIABLES: u32 = 16_777_216;
-
 /// Why a DIMACS text is refused.
-#[derive(Clone, Copy, Debug, Error, PartialEq, Eq)]
+#[derive(Clone, Copy, Debug, PartialEq, Eq)]
 pub enum DimacsFault {
     /// The first line that has words is not `p cnf`, the number of variables and the number of clauses.
-    #[error("bad header")]
     BadHeader,
     /// The line of the first word that no clause can go on with; or, where the text ends too early, the number of
     /// its lines and one more.
-    #[error("bad clause at line {0}")]
     BadClause(u64),
     /// The header names more than 16,777,216 variables.
-    #[error("too many variables")]
     Limit(Limit),
     /// There was no memory for the formula.
-    #[error("no memory")]
     NoMemory,
 }
 

@@ -16,19 +16,16 @@ use cg_text::lines::{Line, Lines};
 use cg_text::number::push_number;
 use cg_text::words::Words;
 use std::alloc::{AllocError, AllocFailed, Global};
-use thiserror::Error;
 
 /// The greatest variable that a log may name.
 pub const GREATEST_VARIABLE: u32 = 2_147_483_647;
 
 /// Why an LRAT text is refused.
-#[derive(Clone, Copy, Debug, Error, PartialEq, Eq)]
+#[derive(Clone, Copy, Debug, PartialEq, Eq)]
 pub enum LratFault {
     /// The first line that is neither an addition nor a deletion.
-    #[error("bad line {0}")]
     BadLine(u64),
     /// There was no memory for the log.
-    #[error("no memory")]
     NoMemory,
 }
 

@@ -41,7 +41,7 @@ pub record IsConflict (clauses : Store) (trail : List Entry) (place : ℕ) : Typ
 
 -- only a conflict says something
 abbrev pub IsLook : Store → List Entry → Look → Type 0
-IsLook clauses trail Stays = Unit {0}
+IsLook clauses trail (Stays blocker) = Unit {0}
 IsLook clauses trail Moved = Unit {0}
 IsLook clauses trail (Conflict place) = IsConflict clauses trail place
 

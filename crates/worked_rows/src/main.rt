@@ -1,12 +1,15 @@
-//! Plays the file `script`, command lines of the program one after another, over files in memory, and says after each what
-//! it said and complained and how it ended. So a stored run compares all that the program puts out, written files too.
+//! Plays the file `script`, command lines of the program one after another, over files in memory or over those of the folder, and
+//! says after each what it said and complained and how it ended. So a stored run compares all that the program puts out, written
+//! files too.
 //!
 //! - A line that is empty or begins with `#` is said as it stands.
 //! - `show NAME` says what the file NAME holds.
 //! - `latches N NAME` makes a netlist of N registers that all take one input, `nets N NAME` one of N nets.
 //! - `solve CNF LOG` solves the formula in the file CNF, says whether bits satisfy it, and else makes a file of the log.
 //! - `proof PROOF CNF LOG` makes files of the first formula of a proof file and of its log.
-//! - `fail N WORD..` is a command line of which the calls of these numbers (from 0, with commas between them) fail.
+//! - `fail N WORD..` is a command line of which the calls of these numbers (from 0, with commas between them) fail. It is run over
+//!   files of its own; a file that it stored is compared with the one of that name that stands in memory.
+//! - `folder WORD..` is a command line over the files of the folder itself, and `read NAME` says what the file NAME of it holds.
 //! - Any other line is a command line. A file of the folder that it names is brought into memory first, unless it is there.
 #![tactic(auto)]
 

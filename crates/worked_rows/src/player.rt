@@ -12,6 +12,9 @@ use cg_text::number::push_number;
 use cg_tool::{Status, run};
 use std::alloc::{AllocError, Global};
 
+/// What is said in place of the bytes of a file that is not there.
+const NO_FILE: &[u8] = b"there is no such file\n";
+
 /// The files in memory.
 #[derive(Drop)]
 pub struct Player {
@@ -39,6 +42,8 @@ impl Player {
             ["nets", count, name] => self.make(name, nets(self.alloc, number(count)?)),
             ["solve", formula, log] => self.solve(folder, formula, log),
             ["proof", proof, formula, log] => self.split(proof, formula, log),
+            ["folder", words @ ..] => self.in_folder(folder, line, words),
+            ["read", name] => self.read(folder, name),
             ["fail", numbers, words @ ..] => self.failing(folder, numbers, line, words),
             words => self.command(folder, line, words),
         }
@@ -47,11 +52,7 @@ impl Player {
     /// Says what a file holds.
     fn show<S: Shelf>(&mut self, folder: &mut S, name: &str) -> Result<(), ()> {
         say(folder, b"$ cat ", name.as_bytes())?;
-        say(
-            folder,
-            b"\n",
-            self.files.held(name).unwrap_or(b"there is no such file\n"),
-        )
+        say(folder, b"\n", self.files.held(name).unwrap_or(NO_FILE))
     }
 
     /// Makes a file of a text.
@@ -93,7 +94,7 @@ impl Player {
         }
         let said = self.files.said().len();
         let complained = self.files.complained().len();
-        let status = self.run(words)?;
+        let status = run_over(self.alloc, &mut self.files, words)?;
         say(folder, self.files.said().get(said..).unwrap_or(b""), b"")?;
         say(
             folder,
@@ -103,8 +104,32 @@ impl Player {
         self.end(folder, status)
     }
 
+    /// Runs the program on a command line over the folder itself, where what it says goes out as it is said.
+    fn in_folder<S: Shelf>(
+        &mut self,
+        folder: &mut S,
+        line: &str,
+        words: &[&str],
+    ) -> Result<(), ()> {
+        say(folder, b"$ clockgate ", line.as_bytes())?;
+        say(folder, b"\n", b"")?;
+        let status = run_over(self.alloc, folder, words)?;
+        self.end(folder, status)
+    }
+
+    /// Says what a file of the folder holds.
+    fn read<S: Shelf>(&mut self, folder: &mut S, name: &str) -> Result<(), ()> {
+        say(folder, b"$ cat ", name.as_bytes())?;
+        say(folder, b"\n", b"")?;
+        let mut bytes = Vec::new(self.alloc);
+        match folder.load(name, MOST_BYTES, &mut bytes) {
+            Ok(()) => say(folder, bytes.as_slice(), b""),
+            Err(_) => say(folder, NO_FILE, b""),
+        }
+    }
+
     /// Runs the program over new files of which calls with these numbers fail, and says which calls it made and whether each
-    /// file that it was to store is there.
+    /// file that it was to store is there, and holds what the file of that name holds that was stored before.
     fn failing<S: Shelf>(
         &mut self,
         folder: &mut S,
@@ -124,13 +149,13 @@ impl Player {
         };
         player.command(folder, line, words)?;
         for made in player.files.calls() {
-            player.call(folder, made)?;
+            self.call(folder, made, &player.files)?;
         }
         Ok(())
     }
 
-    /// Says a call that was made.
-    fn call<S: Shelf>(&self, folder: &mut S, made: &CallMade) -> Result<(), ()> {
+    /// Says a call that was made over these files.
+    fn call<S: Shelf>(&self, folder: &mut S, made: &CallMade, files: &MemShelf) -> Result<(), ()> {
         let name = made.name.bytes();
         match made.call {
             Call::Load => say(folder, b"load ", name)?,
@@ -138,12 +163,14 @@ impl Player {
             Call::Say => say(folder, b"say", b"")?,
             Call::Complain => say(folder, b"complain", b"")?,
         }
-        let stored = str::from_utf8(name)
-            .map_err(|_| ())
-            .map(|name| self.files.held(name).is_some())?;
-        match (made.call, stored) {
-            (Call::Store, false) => say(folder, b", which is not there", b"\n"),
-            _ => say(folder, b"\n", b""),
+        if made.call != Call::Store {
+            return say(folder, b"\n", b"");
+        }
+        let name = str::from_utf8(name).map_err(|_| ())?;
+        match (files.held(name), self.files.held(name)) {
+            (None, _) => say(folder, b", which is not there", b"\n"),
+            (Some(held), Some(whole)) if held == whole => say(folder, b", whole", b"\n"),
+            (Some(_), _) => say(folder, b", with other bytes", b"\n"),
         }
     }
 
@@ -156,31 +183,6 @@ impl Player {
         self.files.put(word, bytes.as_slice()).map_err(|_| ())
     }
 
-    /// Runs the program with its two watchers.
-    fn run(&mut self, words: &[&str]) -> Result<Status, ()> {
-        let mut all = Vec::new(self.alloc);
-        all.push(String::from_str(self.alloc, "clockgate").map_err(|_| ())?)
-            .map_err(|_| ())?;
-        for word in words {
-            all.push(String::from_str(self.alloc, word).map_err(|_| ())?)
-                .map_err(|_| ())?;
-        }
-        let mut watchers = Vec::new(self.alloc);
-        let edges: Box<dyn Watcher> = Box::new(self.alloc, EdgeCount::new()).map_err(|_| ())?;
-        watchers.push(edges).map_err(|_| ())?;
-        let toggles: Box<dyn Watcher> = Box::new(self.alloc, ToggleCount::new(self.alloc)).map_err(
-            |_| (),
-        )?;
-        watchers.push(toggles).map_err(|_| ())?;
-        Ok(run(
-            self.alloc,
-            all.as_slice(),
-            &mut self.files,
-            watchers,
-            &mut Silent,
-        ))
-    }
-
     /// Says the number of a status that is not 0.
     fn end<S: Shelf>(&mut self, folder: &mut S, status: Status) -> Result<(), ()> {
         if status == Status::Done {
@@ -191,6 +193,23 @@ impl Player {
         say(folder, b"status ", text.as_slice())?;
         say(folder, b"\n", b"")
     }
+}
+
+/// Runs the program with its two watchers over a shelf.
+fn run_over<S: Shelf>(alloc: Global, shelf: &mut S, words: &[&str]) -> Result<Status, ()> {
+    let mut all = Vec::new(alloc);
+    all.push(String::from_str(alloc, "clockgate").map_err(|_| ())?)
+        .map_err(|_| ())?;
+    for word in words {
+        all.push(String::from_str(alloc, word).map_err(|_| ())?)
+            .map_err(|_| ())?;
+    }
+    let mut watchers = Vec::new(alloc);
+    let edges: Box<dyn Watcher> = Box::new(alloc, EdgeCount::new()).map_err(|_| ())?;
+    watchers.push(edges).map_err(|_| ())?;
+    let toggles: Box<dyn Watcher> = Box::new(alloc, ToggleCount::new(alloc)).map_err(|_| ())?;
+    watchers.push(toggles).map_err(|_| ())?;
+    Ok(run(alloc, all.as_slice(), shelf, watchers, &mut Silent))
 }
 
 /// The number that a word is.

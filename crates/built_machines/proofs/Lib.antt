@@ -1,0 +1,2 @@
+mod CellsThere
+mod NewName

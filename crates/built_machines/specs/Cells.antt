@@ -1,0 +1,10 @@
+-- Cells that a library has.
+use Rattle.std.specs.Prelude.{◌≡◌, List, Some}
+use Rattle.std.specs.List.{find}
+use Rattle.cg_cell.specs.Cell.{CellData}
+use Rattle.cg_cell.specs.Fit.{is_fit}
+use Rattle.cg_cell.specs.declared.fit.FitKind.{FitKind}
+
+-- the library has a cell of a kind
+abbrev pub HasCell : List CellData → FitKind → Type 0
+HasCell library kind = (cell : CellData) × (find (is_fit kind) library ≡ Some cell)

@@ -6,7 +6,7 @@ use Rattle.std.proofs.lemmas.Bool.{cases_lt, or_left, or_right}
 use Rattle.std.proofs.lemmas.List.FromFn.{get_or-map-range_with_len, length-map-range_with_len}
 use Rattle.std.proofs.lemmas.Option.{same_Some}
 use Rattle.cg_netlist.specs.Circuit.{GatingCell, LogicCell, is_in}
-use Rattle.cg_netlist.specs.Marks.{IsFirst, IsTable, is_marked, marked_before}
+use Rattle.cg_netlist.specs.Marks.{AreMarksOf, IsFirst, is_marked, marked_before}
 use Rattle.cg_netlist.specs.Ranking.{IsGraph, entry}
 use Rattle.cg_netlist.specs.Ranks.{driving_cell, rank_of, ranks_of, is_unranked}
 use Rattle.cg_netlist.specs.Chains.{chain}
@@ -19,19 +19,19 @@ use Rattle.cg_netlist.proofs.TableLemmas.{entry_or, entry_within}
 use Rattle.cg_netlist.proofs.said.Each.{from_recursion}
 
 -- marks that are shown tell the first net
-pub marked_first : (marks shown : List Bool) (count n : ℕ) (test : ℕ → Bool) (first : Option ℕ) → shown ≡ marks → count ≡ n → IsTable marks count test → IsFirst (length shown) (is_marked shown) first → IsFirst n test first
+pub marked_first : (marks shown : List Bool) (count n : ℕ) (test : ℕ → Bool) (first : Option ℕ) → shown ≡ marks → count ≡ n → AreMarksOf marks count test → IsFirst (length shown) (is_marked shown) first → IsFirst n test first
 marked_first marks shown count n test first shown_is count_is table found =
     let there : IsFirst n (is_marked marks) first = subst (λ m. IsFirst m (is_marked marks) first) (table.fits ∙ count_is) (subst (λ ms. IsFirst (length ms) (is_marked ms) first) shown_is found) in
     same_first (is_marked marks) test n first (λ net lt. table.tells net (omega (arith, lt, count_is))) there
 
-pub undriven_found : (used driven shown : List Bool) (n count : ℕ) (us ds : List ℕ) (first : Option ℕ) → shown ≡ driven → count ≡ n → IsTable used n (is_in us) → IsTable driven count (is_in ds)
+pub undriven_found : (used driven shown : List Bool) (n count : ℕ) (us ds : List ℕ) (first : Option ℕ) → shown ≡ driven → count ≡ n → AreMarksOf used n (is_in us) → AreMarksOf driven count (is_in ds)
     → IsFirst (length used) (λ net. is_marked used net && not (is_marked shown net)) first → IsFirst n (λ net. is_in us net && not (is_in ds net)) first
 undriven_found used driven shown n count us ds first shown_is count_is used_table driven_table found =
     let there : IsFirst n (λ net. is_marked used net && not (is_marked driven net)) first = subst (λ m. IsFirst m (λ net. is_marked used net && not (is_marked driven net)) first) used_table.fits (subst (λ ms. IsFirst (length used) (λ net. is_marked used net && not (is_marked ms net)) first) shown_is found) in
     same_first (λ net. is_marked used net && not (is_marked driven net)) (λ net. is_in us net && not (is_in ds net)) n first
     (λ net lt. ap (λ b. b && not (is_marked driven net)) (used_table.tells net lt) ∙ ap (λ b. is_in us net && not b) (driven_table.tells net (omega (arith, lt, count_is)))) there
 
-pub roots_found : (rooted sources used shown given : List Bool) (n count : ℕ) (rs ss us : List ℕ) (first : Option ℕ) → shown ≡ rooted → given ≡ sources → count ≡ n → IsTable rooted count (is_in rs) → IsTable sources count (is_in ss) → IsTable used n (is_in us)
+pub roots_found : (rooted sources used shown given : List Bool) (n count : ℕ) (rs ss us : List ℕ) (first : Option ℕ) → shown ≡ rooted → given ≡ sources → count ≡ n → AreMarksOf rooted count (is_in rs) → AreMarksOf sources count (is_in ss) → AreMarksOf used n (is_in us)
     → IsFirst (length shown) (λ net. is_marked shown net && ((not (is_marked given net) || marked_before shown net) || is_marked used net)) first
     → IsFirst n (λ net. is_in rs net && ((not (is_in ss net) || list_any (λ other. nat_lt other net) rs) || is_in us net)) first
 roots_found rooted sources used shown given n count rs ss us first shown_is given_is count_is root_table source_table used_table found =
@@ -43,7 +43,7 @@ roots_found rooted sources used shown given n count rs ss us first shown_is give
     ∙ (ap (λ x. is_in rs net && ((not (is_in ss net) || x) || is_marked used net)) (before_is rooted rs count net root_table (omega (arith, lt, count_is)))
     ∙ ap (λ x. is_in rs net && ((not (is_in ss net) || list_any (λ other. nat_lt other net) rs) || x)) (used_table.tells net lt)))) there
 
-pub gates_found : (gated used unreached shown lost : List Bool) (n count : ℕ) (gs us : List ℕ) (test : ℕ → Bool) (first : Option ℕ) → shown ≡ gated → lost ≡ unreached → count ≡ n → IsTable gated n (is_in gs) → IsTable used n (is_in us) → IsTable unreached count test
+pub gates_found : (gated used unreached shown lost : List Bool) (n count : ℕ) (gs us : List ℕ) (test : ℕ → Bool) (first : Option ℕ) → shown ≡ gated → lost ≡ unreached → count ≡ n → AreMarksOf gated n (is_in gs) → AreMarksOf used n (is_in us) → AreMarksOf unreached count test
     → IsFirst (length shown) (λ net. is_marked shown net && (is_marked used net || is_marked lost net)) first → IsFirst n (λ net. is_in gs net && (is_in us net || test net)) first
 gates_found gated used unreached shown lost n count gs us test first shown_is lost_is count_is gate_table used_table lost_table found =
     let Test : List Bool → List Bool → ℕ → Bool = λ cs ls net. is_marked cs net && (is_marked used net || is_marked ls net) in

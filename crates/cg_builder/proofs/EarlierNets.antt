@@ -4,7 +4,7 @@ use Rattle.std.specs.List.{list_any, range_with_len, position_from}
 use Rattle.std.proofs.lemmas.Bool.{eqb-true, eq-eqb, both_ways, or_cases, or_left, or_right, ltb-true, lt-ltb, cases_Bool}
 use Rattle.cg_netlist.specs.Circuit.{is_in, LogicCell}
 use Rattle.std.proofs.lemmas.Option.{same_Some}
-use Rattle.cg_netlist.specs.Marks.{IsTable, is_marked, marked_before}
+use Rattle.cg_netlist.specs.Marks.{AreMarksOf, is_marked, marked_before}
 
 -- a net at a clock pin comes after none that is before it
 pub any_before : (pins : List ℕ) (a b : ℕ) → is_in pins a ≡ true → a < b → list_any (λ other. nat_lt other b) pins ≡ true
@@ -44,7 +44,7 @@ pins_before (pin ∷ pins) net is = elim (or_cases (nat_lt pin net) (list_any (�
   | inr later ↦ let more = pins_before pins net later in (more.0, more.1, or_right (nat_eq more.0 pin) (is_in pins more.0) more.2)
 ]
 
-pub before_is : (clocks : List Bool) (pins : List ℕ) (n net : ℕ) → IsTable clocks n (is_in pins) → net ≤ n → marked_before clocks net ≡ list_any (λ other. nat_lt other net) pins
+pub before_is : (clocks : List Bool) (pins : List ℕ) (n net : ℕ) → AreMarksOf clocks n (is_in pins) → net ≤ n → marked_before clocks net ≡ list_any (λ other. nat_lt other net) pins
 before_is clocks pins n net table le = same_truth (marked_before clocks net) (list_any (λ other. nat_lt other net) pins)
     (λ is. let y = range_has (is_marked clocks) net 0 is in any_before pins y.0 net (sym (table.tells y.0 (omega (arith, y.1))) ∙ y.2) (omega (arith, y.1)))
     (λ is. let y = pins_before pins net is in any_in_range (is_marked clocks) net 0 y.0 (omega arith) (omega (arith, y.1)) (table.tells y.0 (omega (arith, y.1)) ∙ y.2))

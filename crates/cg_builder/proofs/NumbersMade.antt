@@ -13,7 +13,7 @@ use Rattle.cg_netlist.proofs.said.SaidByItsParts.{same_wiring}
 use Rattle.cg_netlist.proofs.said.ToldByNames.{known_as, nets_weaker, told}
 use Rattle.cg_netlist.specs.Circuit.{GatingCell, LogicCell, RegisterCell, is_in, shown_nets}
 use Rattle.cg_netlist.specs.Names.{is_known}
-use Rattle.cg_builder.specs.inner.Numbers.{AreNumbers, GaterWithin, Numbers, OpenWithin, clock_number, made_of, on_number, ordered_numbers, place_of, rooted, seen, wired_numbers}
+use Rattle.cg_builder.specs.inner.Numbers.{AreNumbers, GaterWithin, Numbers, OpenWithin, clock_number, made_of, on_number, ordered_numbers, ordered_place, rooted, seen, wired_numbers}
 use Rattle.cg_netlist.specs.Places.{CellWithin}
 use Rattle.cg_netlist.specs.said.Faults.{HasClock}
 use Rattle.cg_netlist.specs.said.Part.{Part, cells, clock_of, gaters, inputs, on_clock, outputs, registers, wired}
@@ -174,12 +174,12 @@ module _ (parts : List Part) (n : Numbers) (ok : AreNumbers n) (same : said part
       more : List ℕ
       more = filter (λ net. not (is_in n.inputs net)) (option_to_list (clock_number n))
 
-  places_go : WiringNets (λ x. place_in (map name (ordered_numbers n)) (name x) ≡ place_of n x) (wired_numbers n)
-  places_go = nets_weaker Is (λ x. place_in (map name (ordered_numbers n)) (name x) ≡ place_of n x) (λ x lt. place_as (ordered_numbers n) x order_within lt) (wired_numbers n) wired_within
+  places_go : WiringNets (λ x. place_in (map name (ordered_numbers n)) (name x) ≡ ordered_place n x) (wired_numbers n)
+  places_go = nets_weaker Is (λ x. place_in (map name (ordered_numbers n)) (name x) ≡ ordered_place n x) (λ x lt. place_as (ordered_numbers n) x order_within lt) (wired_numbers n) wired_within
 
   -- so the netlist of the parts is that of the numbers
   pub made_is : (model : List ℕ) → netlist_of model parts ≡ made_of model n
   made_is model =
       ap (numbered model) wired_named
       ∙ (ap (λ order. circuit model order (map_wiring (place_in order) (map_wiring name (wired_numbers n)))) order_named
-      ∙ ap (circuit model (map name (ordered_numbers n))) (wiring_goes name (place_in (map name (ordered_numbers n))) (place_of n) (wired_numbers n) places_go))
+      ∙ ap (circuit model (map name (ordered_numbers n))) (wiring_goes name (place_in (map name (ordered_numbers n))) (ordered_place n) (wired_numbers n) places_go))

@@ -4,7 +4,7 @@ use Rattle.std.specs.List.{All, AllByRecursion, filter, flat_map}
 use Rattle.std.specs.Option.{option_map, option_to_list}
 use Rattle.cg_netlist.specs.Circuit.{GatingCell, LogicCell, RegisterCell, asked_nets, is_in, shown_nets}
 use Rattle.cg_builder.specs.inner.Renumbering.{CellAmong, RegisterAmong}
-use Rattle.cg_netlist.specs.Marks.{IsTable, is_marked}
+use Rattle.cg_netlist.specs.Marks.{AreMarksOf, is_marked}
 use Rattle.cg_builder.specs.inner.Numbers.{AreNumbers, GaterWithin, Numbers, OpenWithin, clock_number, drivers_by, gated, on_number, ordered_numbers, pins_by, rooted, used, wired_numbers}
 use Rattle.cg_netlist.specs.Places.{CellWithin}
 use Rattle.cg_netlist.specs.said.Wiring.{Wiring, driven_by_cells, driven_by_gaters, driven_by_registers, map_cell, map_gater, map_outputs, map_register, map_wiring}
@@ -45,7 +45,7 @@ left_as p q (x ∷ xs) same = ap (λ b. if not b then x ∷ filter (λ y. not (p
     go false rest = ap (λ ys. x ∷ ys) rest
 
 -- nets whose marks are those of others
-pub left_of : (marks : List Bool) (n : ℕ) (nets xs : List ℕ) → IsTable marks n (is_in nets) → AllByRecursion (λ x. x < n) xs → filter (λ x. not (is_marked marks x)) xs ≡ filter (λ x. not (is_in nets x)) xs
+pub left_of : (marks : List Bool) (n : ℕ) (nets xs : List ℕ) → AreMarksOf marks n (is_in nets) → AllByRecursion (λ x. x < n) xs → filter (λ x. not (is_marked marks x)) xs ≡ filter (λ x. not (is_in nets x)) xs
 left_of marks n nets xs table within = left_as (is_marked marks) (is_in nets) xs (each (λ x. x < n) (λ x. is_marked marks x ≡ is_in nets x) (λ x lt. table.tells x lt) xs within)
 
 -- the numbers that are listed are those of nets

@@ -99,7 +99,8 @@ pub(crate) fn add_placed(
     ensures cell { IsCell cell.now }
     ensures puts { MatchResult result
         (λ _. PutsCell names.old names.new cells.old.items cells.new.items (cell_of (map (λ name. name.now) inputs.now) output.now (PlacedCell cell.now)))
-        (λ fault. IsMentionFault (with_names names.old (mentioned (LogicPart (cell_of (map (λ name. name.now) inputs.now) output.now (PlacedCell cell.now))))) fault) }
+        (λ fault. IsMentionFault
+        (with_names names.old (mentioned (LogicPart (cell_of (map (λ name. name.now) inputs.now) output.now (PlacedCell cell.now))))) fault) }
 {
     let function = match placed(cell) {
         Ok(cell) => LogicFunction::Cell(cell),
@@ -123,7 +124,8 @@ pub(crate) fn add_gater(
     ensures cell { IsCell cell.now }
     ensures puts { MatchResult result
         (λ _. PutsGater names.old names.new gaters.old.items gaters.new.items (gater_of cell.now clock.now enable.now (option_copied test.entry) output.now))
-        (λ fault. IsMentionFault (with_names names.old (mentioned (Gate (gater_of cell.now clock.now enable.now (option_copied test.entry) output.now)))) fault) }
+        (λ fault. IsMentionFault
+        (with_names names.old (mentioned (Gate (gater_of cell.now clock.now enable.now (option_copied test.entry) output.now)))) fault) }
 {
     let cell = match placed(cell) {
         Ok(cell) => cell,
@@ -171,8 +173,11 @@ pub(crate) fn add_register(
     requires nets { length names.old ≤ MOST_NETS }
     requires registers { length registers.old.items ≤ MOST_REGISTERS }
     ensures { MatchResult result
-        (λ _. PutsRegister names.old names.new registers.old.items registers.new.items (register_of (option_copied cell.entry) (map (λ name. name.now) inputs.now) (map (λ output. (output.0.now, output.1)) outputs.now) (option_copied clock.entry) init))
-        (IsRegisterFault (with_names names.old (mentioned (RegisterPart (register_of (option_copied cell.entry) (map (λ name. name.now) inputs.now) (map (λ output. (output.0.now, output.1)) outputs.now) (option_copied clock.entry) init)))) (length registers.old.items)) }
+        (λ _. PutsRegister names.old names.new registers.old.items registers.new.items (register_of (option_copied cell.entry)
+        (map (λ name. name.now) inputs.now) (map (λ output. (output.0.now, output.1)) outputs.now) (option_copied clock.entry) init))
+        (IsRegisterFault (with_names names.old
+        (mentioned (RegisterPart (register_of (option_copied cell.entry) (map (λ name. name.now) inputs.now)
+        (map (λ output. (output.0.now, output.1)) outputs.now) (option_copied clock.entry) init)))) (length registers.old.items)) }
 {
     let inputs = match mention_each(alloc, names, inputs) {
         Ok(nets) => nets,

@@ -3,7 +3,7 @@
 ghost use Rattle.std.specs.Prelude.{◌≡◌, ◌≤◌, ◌<◌, ◌^◌, ◌⊎◌, ◌∷◌, ◌++◌, [], None, IfErr, IfOk, IsTrue, List, MatchResult, count_by, length, map};
 ghost use Rattle.std.specs.List.{AllByRecursion};
 ghost use Rattle.std.specs.Option.{option_copied, option_to_list};
-ghost use Rattle.cg_cell.specs.Cover.{Fits};
+ghost use Rattle.cg_cell.specs.Cover.{CoverFits};
 ghost use Rattle.cg_cell.specs.Name.{is_name};
 ghost use Rattle.cg_cell.specs.Pins.{is_data, is_test};
 ghost use Rattle.cg_cell.specs.declared.cell.CellKind.TheVariants.{Gater as GaterKind, Logic as LogicKind};
@@ -60,9 +60,27 @@ impl Model for Builder {
 
     ghost coded = { Prim.hlevel (codes, term_code) };
 
-    ghost view = { λ b. built b.model (record { names = b.names; inputs = b.inputs; outputs = b.outputs; clocks = b.clocks; cells = b.cells.items; gaters = b.gaters.items; registers = b.registers.items }) b.refused };
+    ghost view = { λ b. built b.model
+        (record {
+          names = b.names;
+          inputs = b.inputs;
+          outputs = b.outputs;
+          clocks = b.clocks;
+          cells = b.cells.items;
+          gaters = b.gaters.items;
+          registers = b.registers.items;
+        }) b.refused };
 
-    ghost invariant = { λ b. IsBuilder b.model (record { names = b.names; inputs = b.inputs; outputs = b.outputs; clocks = b.clocks; cells = b.cells.items; gaters = b.gaters.items; registers = b.registers.items }) b.refused };
+    ghost invariant = { λ b. IsBuilder b.model
+        (record {
+          names = b.names;
+          inputs = b.inputs;
+          outputs = b.outputs;
+          clocks = b.clocks;
+          cells = b.cells.items;
+          gaters = b.gaters.items;
+          registers = b.registers.items;
+        }) b.refused };
 }
 
 impl Builder {
@@ -127,7 +145,7 @@ impl Builder {
         requires inputs { AllByRecursion (λ name. IsTrue (is_name name)) (map (λ name. name.now) inputs.now) }
         requires output { IsTrue (is_name output.now) }
         requires few { length inputs.now < 2 ^ 32 }
-        requires fits { Fits (length inputs.now) cover }
+        requires fits { CoverFits (length inputs.now) cover }
         ensures { Takes self.old (LogicPart (cell_of (map (λ name. name.now) inputs.now) output.now (CoverRows cover))) self.new result }
     {
         if let Some(fault) = self.refused {
@@ -183,7 +201,8 @@ impl Builder {
     ) -> Result<(), AddFault>
         requires kind { cell.now.kind ≡ GaterKind }
         requires test { count_by is_test cell.now.pins ≡ length (option_to_list (option_copied test)) }
-        requires nets { AllByRecursion (λ name. IsTrue (is_name name)) (mentioned (Gate (gater_of cell.now clock.now enable.now (option_copied test) output.now))) }
+        requires nets { AllByRecursion (λ name. IsTrue (is_name name))
+            (mentioned (Gate (gater_of cell.now clock.now enable.now (option_copied test) output.now))) }
         ensures { Takes self.old (Gate (gater_of cell.now clock.now enable.now (option_copied test.entry) output.now)) self.new result }
     {
         if let Some(fault) = self.refused {
@@ -215,9 +234,14 @@ impl Builder {
         clock: Option<&[u8]>,
         init: u8,
     ) -> Result<(), AddFault>
-        requires fits { RegisterFits (register_of (option_copied cell) (map (λ name. name.now) inputs.now) (map (λ output. (output.0.now, output.1)) outputs.now) (option_copied clock) init) }
-        requires nets { AllByRecursion (λ name. IsTrue (is_name name)) (mentioned (RegisterPart (register_of (option_copied cell) (map (λ name. name.now) inputs.now) (map (λ output. (output.0.now, output.1)) outputs.now) (option_copied clock) init))) }
-        ensures { Takes self.old (RegisterPart (register_of (option_copied cell.entry) (map (λ name. name.now) inputs.now) (map (λ output. (output.0.now, output.1)) outputs.now) (option_copied clock.entry) init)) self.new result }
+        requires fits { RegisterFits (register_of (option_copied cell) (map (λ name. name.now) inputs.now)
+            (map (λ output. (output.0.now, output.1)) outputs.now) (option_copied clock) init) }
+        requires nets { AllByRecursion (λ name. IsTrue (is_name name))
+            (mentioned (RegisterPart (register_of (option_copied cell) (map (λ name. name.now) inputs.now)
+            (map (λ output. (output.0.now, output.1)) outputs.now) (option_copied clock) init))) }
+        ensures { Takes self.old
+            (RegisterPart (register_of (option_copied cell.entry) (map (λ name. name.now) inputs.now) (map (λ output. (output.0.now, output.1)) outputs.now)
+            (option_copied clock.entry) init)) self.new result }
     {
         if let Some(fault) = self.refused {
             return Err(fault);

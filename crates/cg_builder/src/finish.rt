@@ -4,11 +4,12 @@ ghost use Rattle.std.specs.Prelude.{◌≡◌, ◌⊎◌, ◌<◌, ◌≤◌, �
 ghost use Rattle.std.specs.List.{All, AllByRecursion, list_any};
 ghost use Rattle.cg_cell.specs.Name.{is_name};
 ghost use Rattle.cg_netlist.specs.Circuit.{is_in};
-ghost use Rattle.cg_netlist.specs.Marks.{IsFirst, IsTable, is_marked, marked_before};
+ghost use Rattle.cg_netlist.specs.Marks.{AreMarksOf, IsFirst, is_marked, marked_before};
 ghost use Rattle.cg_netlist.specs.declared.fault.NetFault.TheVariants.{ClockFault, Cycle, NoDriver, NoMemory, TwoDrivers};
-ghost use Rattle.cg_builder.specs.inner.Finishing.{IsChecked, has_no_clock};
+ghost use Rattle.cg_builder.specs.inner.Finishing.{FindsFirstFault, has_no_clock};
 ghost use Rattle.cg_builder.specs.inner.Heard.{IsHeard};
-ghost use Rattle.cg_builder.specs.inner.Numbers.{AreNumbers, driving, gated, is_bad_clock, is_bad_gate, is_bad_root, is_behind_cycle, is_driven_twice, is_undriven, rooted, seen, used as in_use};
+ghost use Rattle.cg_builder.specs.inner.Numbers.{AreNumbers, driving, gated, is_bad_clock, is_bad_gate, is_bad_root};
+ghost use Rattle.cg_builder.specs.inner.Numbers.{is_behind_cycle, is_driven_twice, is_undriven, rooted, seen, used as in_use};
 ghost use Rattle.cg_netlist.specs.said.Faults.{IsFault, IsFaultless};
 ghost use Rattle.cg_netlist.specs.said.Part.{Part};
 ghost use Rattle.cg_netlist.specs.said.Said.{said};
@@ -30,7 +31,8 @@ use std::alloc::{AllocError, Global};
 /// The netlist of the parts, or the first fault of them.
 pub(crate) fn finished(alloc: Global, model: Name, told: Told) -> Result<Netlist, NetFault>
     requires { IsHeard model told }
-    ensures { (parts : List Part) → said parts ≡ seen told → MatchResult result (λ netlist. Says model parts netlist) (λ fault. (fault ≡ NoMemory) ⊎ IsFault parts fault) }
+    ensures { (parts : List Part) → said parts ≡ seen told
+        → MatchResult result (λ netlist. Says model parts netlist) (λ fault. (fault ≡ NoMemory) ⊎ IsFault parts fault) }
 {
     match check(alloc, &told) {
         Ok(()) => (),
@@ -50,7 +52,8 @@ pub(crate) fn finished(alloc: Global, model: Name, told: Told) -> Result<Netlist
 fn check(alloc: Global, told: &Told) -> Result<(), NetFault>
     requires numbers { AreNumbers told.now }
     requires named { All (λ name. IsTrue (is_name name)) told.now.names }
-    ensures { (parts : List Part) → said parts ≡ seen told.now → MatchResult result (λ _. IsFaultless parts) (λ fault. (fault ≡ NoMemory) ⊎ IsFault parts fault) }
+    ensures { (parts : List Part) → said parts ≡ seen told.now
+        → MatchResult result (λ _. IsFaultless parts) (λ fault. (fault ≡ NoMemory) ⊎ IsFault parts fault) }
 {
     let drivers = match order(alloc, told, &told.clocks) {
         Ok(drivers) => drivers,
@@ -89,7 +92,7 @@ fn check(alloc: Global, told: &Told) -> Result<(), NetFault>
 /// Marks on the nets that are used for their bits.
 fn used_marks(alloc: Global, told: &Told) -> Result<Vec<bool>, AllocError>
     requires { AreNumbers told.now }
-    ensures { IfOk result (λ marks. IsTable marks.items (length told.now.names) (is_in (in_use told.now))) }
+    ensures { IfOk result (λ marks. AreMarksOf marks.items (length told.now.names) (is_in (in_use told.now))) }
 {
     let nets = uses(alloc, told)?;
     marks(alloc, told.names.len(), &nets)
@@ -100,7 +103,7 @@ fn check_drivers(alloc: Global, told: &Told, drivers: &[NetId]) -> Result<(), Ne
     requires numbers { AreNumbers told.now }
     requires named { All (λ name. IsTrue (is_name name)) told.now.names }
     requires drivers { drivers.now ≡ driving told.now }
-    ensures { IsChecked told.now TwoDrivers (is_driven_twice told.now) result }
+    ensures { FindsFirstFault told.now TwoDrivers (is_driven_twice told.now) result }
 {
     let twice = match repeated(alloc, told.names.len(), drivers) {
         Ok(twice) => twice,
@@ -120,8 +123,8 @@ fn check_uses(alloc: Global, told: &Told, drivers: &[NetId], used: &[bool]) -> R
     requires numbers { AreNumbers told.now }
     requires named { All (λ name. IsTrue (is_name name)) told.now.names }
     requires drivers { drivers.now ≡ driving told.now }
-    requires used { IsTable used.now (length told.now.names) (is_in (in_use told.now)) }
-    ensures { IsChecked told.now NoDriver (is_undriven told.now) result }
+    requires used { AreMarksOf used.now (length told.now.names) (is_in (in_use told.now)) }
+    ensures { FindsFirstFault told.now NoDriver (is_undriven told.now) result }
 {
     let driven = match marks(alloc, told.names.len(), drivers) {
         Ok(driven) => driven,
@@ -140,7 +143,7 @@ fn check_uses(alloc: Global, told: &Told, drivers: &[NetId], used: &[bool]) -> R
 fn check_cycles(alloc: Global, told: &Told) -> Result<(), NetFault>
     requires numbers { AreNumbers told.now }
     requires named { All (λ name. IsTrue (is_name name)) told.now.names }
-    ensures { IsChecked told.now Cycle (is_behind_cycle told.now) result }
+    ensures { FindsFirstFault told.now Cycle (is_behind_cycle told.now) result }
 {
     let unranked = match unranked_marks(alloc, told.names.len(), &told.cells) {
         Ok(unranked) => unranked,
@@ -160,8 +163,8 @@ fn check_clocks(alloc: Global, told: &Told, roots: &[NetId], used: &[bool]) -> R
     requires numbers { AreNumbers told.now }
     requires named { All (λ name. IsTrue (is_name name)) told.now.names }
     requires roots { roots.now ≡ rooted told.now }
-    requires used { IsTable used.now (length told.now.names) (is_in (in_use told.now)) }
-    ensures { IsChecked told.now ClockFault (is_bad_clock told.now) result }
+    requires used { AreMarksOf used.now (length told.now.names) (is_in (in_use told.now)) }
+    ensures { FindsFirstFault told.now ClockFault (is_bad_clock told.now) result }
 {
     let root = match bad_root(alloc, told, roots, used) {
         Ok(root) => root,
@@ -190,7 +193,7 @@ fn bad_root(
 ) -> Result<Option<usize>, AllocError>
     requires numbers { AreNumbers told.now }
     requires roots { roots.now ≡ rooted told.now }
-    requires used { IsTable used.now (length told.now.names) (is_in (in_use told.now)) }
+    requires used { AreMarksOf used.now (length told.now.names) (is_in (in_use told.now)) }
     ensures { IfOk result (λ first. IsFirst (length told.now.names) (λ net. is_in (rooted told.now) net && is_bad_root told.now net) first) }
 {
     let count = told.names.len();
@@ -204,7 +207,7 @@ fn bad_root(
 /// The first net that a gating cell drives, and that is used for its bit, or that no clock reaches.
 fn bad_gate(alloc: Global, told: &Told, used: &[bool]) -> Result<Option<usize>, AllocError>
     requires numbers { AreNumbers told.now }
-    requires used { IsTable used.now (length told.now.names) (is_in (in_use told.now)) }
+    requires used { AreMarksOf used.now (length told.now.names) (is_in (in_use told.now)) }
     ensures { IfOk result (λ first. IsFirst (length told.now.names) (λ net. is_in (gated told.now) net && is_bad_gate told.now net) first) }
 {
     let gated = gated_marks(alloc, told)?;

@@ -3,7 +3,7 @@
 ghost use Rattle.std.specs.Prelude.{◌≡◌, ◌<◌, ◌&&◌, ◌||◌, ℕ, Bool, Some, not, nat_eq, nat_lt, length, IfOk};
 ghost use Rattle.std.specs.List.{All, count_by};
 ghost use Rattle.cg_netlist.specs.Circuit.{is_in};
-ghost use Rattle.cg_netlist.specs.Marks.{IsFirst, IsTable, is_marked, marked_before};
+ghost use Rattle.cg_netlist.specs.Marks.{AreMarksOf, IsFirst, is_marked, marked_before};
 
 use cg_netlist::id::NetId;
 use std::alloc::{AllocError, Global};
@@ -11,7 +11,7 @@ use std::alloc::{AllocError, Global};
 /// Of `count` nets, marks on these.
 pub(crate) fn marks(alloc: Global, count: usize, nets: &[NetId]) -> Result<Vec<bool>, AllocError>
     requires { All (λ net. net < count) nets.now }
-    ensures { IfOk result (λ marks. IsTable marks.items count (is_in nets.now)) }
+    ensures { IfOk result (λ marks. AreMarksOf marks.items count (is_in nets.now)) }
 {
     let mut marks = vec![in alloc; false; count]?;
     for net in nets {
@@ -23,7 +23,7 @@ pub(crate) fn marks(alloc: Global, count: usize, nets: &[NetId]) -> Result<Vec<b
 /// Of `count` nets, marks on those that stand among these twice or more.
 pub(crate) fn repeated(alloc: Global, count: usize, nets: &[NetId]) -> Result<Vec<bool>, AllocError>
     requires { All (λ net. net < count) nets.now }
-    ensures { IfOk result (λ marks. IsTable marks.items count (λ net. nat_lt 1 (count_by (nat_eq net) nets.now))) }
+    ensures { IfOk result (λ marks. AreMarksOf marks.items count (λ net. nat_lt 1 (count_by (nat_eq net) nets.now))) }
 {
     let mut once = vec![in alloc; false; count]?;
     let mut twice = vec![in alloc; false; count]?;

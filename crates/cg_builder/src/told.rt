@@ -4,7 +4,7 @@ ghost use Rattle.std.specs.Prelude.{◌≡◌, ◌<◌, ◌++◌, ◌∷◌, [],
 ghost use Rattle.std.specs.List.{All, AllByRecursion, filter, flat_map};
 ghost use Rattle.std.specs.Option.{option_to_list};
 ghost use Rattle.cg_netlist.specs.Circuit.{asked_nets, is_in};
-ghost use Rattle.cg_netlist.specs.Marks.{IsTable, is_marked};
+ghost use Rattle.cg_netlist.specs.Marks.{AreMarksOf, is_marked};
 ghost use Rattle.cg_netlist.specs.Chains.{chain};
 ghost use Rattle.cg_builder.specs.inner.Numbers.{AreNumbers, drivers_by, gated, pins_by, rooted, used};
 ghost use Rattle.cg_netlist.specs.said.Wiring.{driven_by_cells, driven_by_gaters, driven_by_registers};
@@ -39,7 +39,15 @@ impl Model for Told {
 
     ghost coded = { Prim.hlevel (codes, term_code) };
 
-    ghost view = { λ g. record { names = g.names; inputs = g.inputs.items; outputs = g.outputs.items; clocks = g.clocks.items; cells = g.cells.items; gaters = g.gaters.items; registers = g.registers.items } };
+    ghost view = { λ g. record {
+      names = g.names;
+      inputs = g.inputs.items;
+      outputs = g.outputs.items;
+      clocks = g.clocks.items;
+      cells = g.cells.items;
+      gaters = g.gaters.items;
+      registers = g.registers.items;
+    } };
 }
 
 /// The inputs, these clocks that are no inputs, and the outputs of logic cells, of gating cells and of registers.
@@ -85,7 +93,7 @@ pub(crate) fn clock_roots(alloc: Global, told: &Told) -> Result<Vec<NetId>, Allo
 /// Marks on the nets that gating cells drive.
 pub(crate) fn gated_marks(alloc: Global, told: &Told) -> Result<Vec<bool>, AllocError>
     requires { AreNumbers told.now }
-    ensures { IfOk result (λ marks. IsTable marks.items (length told.now.names) (is_in (gated told.now))) }
+    ensures { IfOk result (λ marks. AreMarksOf marks.items (length told.now.names) (is_in (gated told.now))) }
 {
     let mut gated = Vec::new(alloc);
     add_gater_outputs(&mut gated, &told.gaters)?;

@@ -22,7 +22,7 @@ use Rattle.cg_formula.specs.declared.dimacs.DimacsFault.{DimacsFault}
 use Rattle.cg_formula.specs.declared.dimacs.DimacsFault.TheVariants.{BadClause}
 use Rattle.cg_formula.specs.Bounds.{IsLit, IsClause}
 use Rattle.cg_formula.specs.Tokens.{clause_token}
-use Rattle.cg_formula.specs.DimacsReading.{layout, Gives, ◌>>=◌, counts_of, header_of, clause_at, clauses_at, formula_at, dimacs}
+use Rattle.cg_formula.specs.DimacsReading.{layout, DimacsOrNoMemory, ◌>>=◌, counts_of, header_of, clause_at, clauses_at, formula_at, dimacs}
 use Rattle.cg_formula.specs.DimacsText.{lit_word, clause_words, header_words, DimacsText}
 use Rattle.cg_formula.proofs.Connectives.{and_true}
 use Rattle.cg_formula.proofs.TokenSpelling.{literal_spelled, end_spelled, clause_token-lit, clause_token-zero}
@@ -217,6 +217,6 @@ text_is_read text formula t =
     (header_again formula t.bounds.few t.countable, clauses_again formula.variables (end_line text) (omega (arith, t.bounds.few)) formula.clauses t.bounds.clauses (spots_of t.later) t.body)
     refl
 
-pub given_is_text : (text : List ℕ) (r : Result Formula DimacsFault) → Gives (λ (f : Formula). f) r (dimacs text) → IfOk r (DimacsText text)
+pub given_is_text : (text : List ℕ) (r : Result Formula DimacsFault) → DimacsOrNoMemory (λ (f : Formula). f) r (dimacs text) → IfOk r (DimacsText text)
 given_is_text text (Ok formula) e = read_is_text text formula e
 given_is_text text (Err fault) e = tt

@@ -33,12 +33,12 @@ abbrev pub ◌>>=◌ : {A B : Type 0} → Result A DimacsFault → (A → Result
 (Err e) >>= f = Err e
 
 -- what a function answered, seen by view, is what reading gives, unless memory ran out
-abbrev pub Gives : {X Y : Type 0} → (X → Y) → Result X DimacsFault → Result Y DimacsFault → Type 0
-Gives view (Ok x) read = read ≡ Ok (view x)
-Gives view (Err NoMemory) read = Unit {0}
-Gives view (Err BadHeader) read = read ≡ Err BadHeader
-Gives view (Err (BadClause line)) read = read ≡ Err (BadClause line)
-Gives view (Err (Limit limit)) read = read ≡ Err (Limit limit)
+abbrev pub DimacsOrNoMemory : {X Y : Type 0} → (X → Y) → Result X DimacsFault → Result Y DimacsFault → Type 0
+DimacsOrNoMemory view (Ok x) read = read ≡ Ok (view x)
+DimacsOrNoMemory view (Err NoMemory) read = Unit {0}
+DimacsOrNoMemory view (Err BadHeader) read = read ≡ Err BadHeader
+DimacsOrNoMemory view (Err (BadClause line)) read = read ≡ Err (BadClause line)
+DimacsOrNoMemory view (Err (Limit limit)) read = read ≡ Err (Limit limit)
 
 -- how many variables and clauses the header names
 abbrev pub counts_of : Number → Number → Result Header DimacsFault

@@ -71,7 +71,8 @@ fn told_builder(
     requires enables { enables.now ≡ enables_of machine.now }
     requires small { insertion_limit (option_copied test) machine.now ≡ None }
     ensures { MatchResult result
-        (λ builder. builder ≡ told (fresh machine.now.circuit.model) (gated_parts (gated_names (option_copied test.entry) machine.now) library.now (option_copied test.entry) machine.now))
+        (λ builder. builder ≡ told (fresh machine.now.circuit.model)
+        (gated_parts (gated_names (option_copied test.entry) machine.now) library.now (option_copied test.entry) machine.now))
         (λ fault. fault ≡ NoMemory) }
 {
     let Ok(names) = GatedNames::of(alloc, machine, test, enables.len()) else {

@@ -5,7 +5,7 @@ use Rattle.std.specs.Option.{option_map_or}
 use Rattle.std.proofs.lemmas.List.FromFn.{get_or-map-range_with_len, length-map-range_with_len}
 use Rattle.std.proofs.lemmas.Option.{same_Some}
 use Rattle.cg_netlist.specs.Circuit.{LogicCell}
-use Rattle.cg_netlist.specs.Marks.{IsTable}
+use Rattle.cg_netlist.specs.Marks.{AreMarksOf}
 use Rattle.cg_netlist.specs.Places.{CellWithin}
 use Rattle.cg_netlist.specs.Ranking.{IsGraph, entry}
 use Rattle.cg_netlist.specs.Ranks.{driving_cell, is_unranked, rank_of, ranks_of}
@@ -40,7 +40,7 @@ pub ranked_under : (drivers ranks : List (Option ℕ)) (cells : List (LogicCell 
 ranked_under drivers ranks cells graph ranks_are net k is = omega (arith, graph.driving net k is, ap length ranks_are, length-map-range_with_len (rank_of cells) 0 (length cells))
 
 pub unranked_table : (n : ℕ) (marks : List Bool) (drivers ranks : List (Option ℕ)) (cells : List (LogicCell ℕ)) → IsGraph drivers cells → length drivers ≡ n → ((net : ℕ) → net < n → entry drivers net ≡ driving_cell cells net) → ranks ≡ ranks_of cells
-    → IsTable marks (length drivers) (λ net. option_map_or (λ k. is_none (entry ranks k)) (entry drivers net) false) → IsTable marks n (is_unranked cells)
+    → AreMarksOf marks (length drivers) (λ net. option_map_or (λ k. is_none (entry ranks k)) (entry drivers net) false) → AreMarksOf marks n (is_unranked cells)
 unranked_table n marks drivers ranks cells graph fits tells ranks_are table = record {
   fits = table.fits ∙ fits;
   tells = λ net lt. table.tells net (omega (arith, lt, fits)) ∙ (ap (λ rs. option_map_or (λ k. is_none (entry rs k)) (entry drivers net) false) ranks_are

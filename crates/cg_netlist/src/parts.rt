@@ -159,5 +159,14 @@ impl Model for Parts {
 
     ghost coded = { Prim.hlevel (codes, term_code) };
 
-    ghost view = { λ p. record { model = p.model; names = p.names; inputs = p.inputs.items; clock = p.clock; outputs = p.outputs.items; cells = p.cells.items; gaters = p.gaters.items; registers = p.registers.items } };
+    ghost view = { λ p. record {
+      model = p.model;
+      names = p.names;
+      inputs = p.inputs.items;
+      clock = p.clock;
+      outputs = p.outputs.items;
+      cells = p.cells.items;
+      gaters = p.gaters.items;
+      registers = p.registers.items;
+    } };
 }

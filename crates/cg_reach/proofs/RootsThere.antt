@@ -10,7 +10,7 @@ use Rattle.cg_netlist.proofs.Used.{data_is_used}
 use Rattle.cg_machine.specs.Claims.{Literal}
 use Rattle.cg_machine.specs.Machine.{IsMachine, MachineData, enable_of}
 use Rattle.cg_machine.proofs.Lists.{below_range, in_one}
-use Rattle.cg_claim.specs.Question.{Copy, Before, Part, Net, Next, State, Enable, Side, Question}
+use Rattle.cg_claim.specs.Question.{Copy, Before, CopyPart, Net, Next, State, Enable, Side, Question}
 use Rattle.cg_claim.specs.Reach.{after_states, enable_nets, inputs_of_register, next_nets, origin_nets, part_nets, registers_of, same_copy, side_nets, sides_nets}
 use Rattle.cg_reach.specs.Asking.{AsksThere, PartThere, SidesThere}
 use Rattle.cg_reach.proofs.Filtering.{in_filtered}
@@ -50,7 +50,7 @@ module _ (m : MachineData) (good : IsMachine m) where
       go None at = none_there m
       go (Some cell) at = λ x among. All-member (λ net. net < length m.circuit.names) (used_nets m.circuit) x good.well_formed.used (data_is_used m.circuit r x cell at among)
 
-  part_there : (E : List ℕ) → AreThere m E → (part : Part) → PartThere m part → AreThere m (part_nets m E part)
+  part_there : (E : List ℕ) → AreThere m E → (part : CopyPart) → PartThere m part → AreThere m (part_nets m E part)
   part_there E there (Net y) is = λ x among. subst (λ z. z < length m.circuit.names) (sym (in_one x y among)) is
   part_there E there (Next r) is = next_there r
   part_there E there (State r) is = none_there m

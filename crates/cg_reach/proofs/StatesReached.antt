@@ -9,8 +9,8 @@ use Rattle.cg_netlist.proofs.Members.{is_in-append}
 use Rattle.cg_machine.specs.Machine.{MachineData}
 use Rattle.cg_claim.specs.Question.{Copy, Question, Before, After, Changed, Side}
 use Rattle.cg_claim.specs.Reach.{after_nets, after_states, before_nets, before_states, changed_nets, changed_states, feeds, next_asks_own, origin_asks, part_asks, registers_of, same_copy, side_asks, sides_ask}
-use Rattle.cg_claim.specs.Violates.{PartFits, SidesFit}
-use Rattle.cg_claim.specs.Question.{Part, Net, Next, State, Enable}
+use Rattle.cg_claim.specs.Violates.{CopyPartFits, SidesFit}
+use Rattle.cg_claim.specs.Question.{CopyPart, Net, Next, State, Enable}
 use Rattle.cg_claim.proofs.Reached.{after_within, before_within, changed_within, feeds_within}
 use Rattle.cg_reach.specs.Asking.{AsksThere, PartThere, SidesThere}
 use Rattle.cg_reach.specs.inner.Sources.{part_states, side_states, sides_states, with_number, with_numbers}
@@ -42,7 +42,7 @@ pub set_has : (regs keys : List ℕ) → keys ≡ with_numbers [] regs → (r : 
 set_has regs keys is r = sym (ap (λ l. is_in l r) is ∙ set_within [] regs r)
 
 -- the registers whose states are asked for are those of which the question says so
-part_in : (m : MachineData) (part : Part) (k : ℕ) → is_in (part_states m part) k ≡ part_asks m part k
+part_in : (m : MachineData) (part : CopyPart) (k : ℕ) → is_in (part_states m part) k ≡ part_asks m part k
 part_in m (Net y) k = refl
 part_in m (Next r) k = go (next_asks_own m r)
   where
@@ -78,7 +78,7 @@ sides_in m copy (Some s) k = is_in-append (side_states m copy s.0) (side_states 
 pub asked_in : (m : MachineData) (sides : Option (Side × Side)) (copy : Copy) (first second : List ℕ) → second ≡ first ++ sides_states m copy sides → (k : ℕ) → is_in second k ≡ (is_in first k || sides_ask m copy sides k)
 asked_in m sides copy first second is k = ap (λ l. is_in l k) is ∙ (is_in-append first (sides_states m copy sides) k ∙ ap (λ b. is_in first k || b) (sides_in m copy sides k))
 
-part_fits : (m : MachineData) (part : Part) → PartThere m part → PartFits m part
+part_fits : (m : MachineData) (part : CopyPart) → PartThere m part → CopyPartFits m part
 part_fits m (Net y) is = tt
 part_fits m (Next r) is = is
 part_fits m (State r) is = is

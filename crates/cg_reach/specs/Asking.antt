@@ -3,7 +3,7 @@ use Rattle.std.specs.Prelude.{◌<◌, length, Option, Some, None}
 use Rattle.std.specs.List.{All}
 use Rattle.std.specs.Option.{option_map}
 use Rattle.cg_machine.specs.Machine.{MachineData}
-use Rattle.cg_claim.specs.Question.{Copy, Before, After, Changed, Part, Net, Next, State, Enable, Side, Question}
+use Rattle.cg_claim.specs.Question.{Copy, Before, After, Changed, CopyPart, Net, Next, State, Enable, Side, Question}
 use Rattle.cg_reach.specs.declared.asked.Frame.{Frame}
 use Rattle.cg_reach.specs.declared.asked.Frame.TheVariants.{Before as BeforeFrame, After as AfterFrame, Changed as ChangedFrame}
 use Rattle.cg_reach.specs.declared.asked.Part.{Part as AskedPart}
@@ -16,7 +16,7 @@ copy_of BeforeFrame = Before
 copy_of AfterFrame = After
 copy_of ChangedFrame = Changed
 
-abbrev pub part_of : AskedPart → Part
+abbrev pub part_of : AskedPart → CopyPart
 part_of (NetPart y) = Net y
 part_of (NextPart r) = Next r
 part_of (StatePart r) = State r
@@ -29,7 +29,7 @@ abbrev pub question_of : Asked → Question
 question_of asked = record { enables = asked.enables.now; follows = asked.follows.now; changes = asked.changes.now; sides = option_map (λ s. (side_of s.0, side_of s.1)) asked.sides }
 
 -- the nets and registers that a part names are there
-abbrev pub PartThere : MachineData → Part → Type 0
+abbrev pub PartThere : MachineData → CopyPart → Type 0
 PartThere m (Net y) = y < length m.circuit.names
 PartThere m (Next r) = r < length m.circuit.registers
 PartThere m (State r) = r < length m.circuit.registers

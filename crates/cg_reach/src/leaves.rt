@@ -8,7 +8,7 @@ ghost use Rattle.cg_claim.specs.Question.{Before, After, Changed};
 ghost use Rattle.cg_claim.specs.Reach.{before_nets};
 ghost use Rattle.cg_reach.specs.Asking.{AsksThere, question_of};
 ghost use Rattle.cg_reach.specs.inner.Leaves.{input_leaf, register_leaf};
-ghost use Rattle.cg_reach.specs.inner.Found.{AreNamed, IsLater};
+ghost use Rattle.cg_reach.specs.inner.Found.{AreSetsOf, IsLater};
 ghost use Rattle.cg_reach.specs.Reached.{IsConeOf};
 
 use crate::asked::Asked;
@@ -33,7 +33,7 @@ pub(crate) fn leaves(
     later: &Later,
 ) -> Result<Seq<Leaf>, AllocError>
     requires asked { AsksThere machine.now (question_of asked.now) }
-    requires named { AreNamed asked.now.follows.now asked.now.changes.now named.now }
+    requires named { AreSetsOf asked.now.follows.now asked.now.changes.now named.now }
     requires before { IsConeOf machine.now (before_nets machine.now (question_of asked.now)) before.now }
     requires later { IsLater machine.now (question_of asked.now) later.now }
     ensures { IfOk result (λ leaves. leaves ≡ map shown_leaf (leaves_of machine.now (question_of asked.now))) }
@@ -56,7 +56,7 @@ fn push_before(
     leaves: &mut Vec<Leaf>,
 ) -> Result<(), AllocError>
     requires asked { AsksThere machine.now (question_of asked.now) }
-    requires named { AreNamed asked.now.follows.now asked.now.changes.now named.now }
+    requires named { AreSetsOf asked.now.follows.now asked.now.changes.now named.now }
     requires before { IsConeOf machine.now (before_nets machine.now (question_of asked.now)) before.now }
     requires later { IsLater machine.now (question_of asked.now) later.now }
     ensures { OnOk result (leaves.new.items ≡ leaves.old.items ++ map shown_leaf (leaves_at machine.now (question_of asked.now) Before)) }
@@ -77,7 +77,7 @@ fn push_after(
     later: &Later,
     leaves: &mut Vec<Leaf>,
 ) -> Result<(), AllocError>
-    requires named { AreNamed asked.now.follows.now asked.now.changes.now named.now }
+    requires named { AreSetsOf asked.now.follows.now asked.now.changes.now named.now }
     requires later { IsLater machine.now (question_of asked.now) later.now }
     ensures { OnOk result (leaves.new.items ≡ leaves.old.items ++ map shown_leaf (leaves_at machine.now (question_of asked.now) After)) }
 {
@@ -97,7 +97,7 @@ fn push_changed(
     later: &Later,
     leaves: &mut Vec<Leaf>,
 ) -> Result<(), AllocError>
-    requires named { AreNamed asked.now.follows.now asked.now.changes.now named.now }
+    requires named { AreSetsOf asked.now.follows.now asked.now.changes.now named.now }
     requires later { IsLater machine.now (question_of asked.now) later.now }
     ensures { OnOk result (leaves.new.items ≡ leaves.old.items ++ map shown_leaf (leaves_at machine.now (question_of asked.now) Changed)) }
 {

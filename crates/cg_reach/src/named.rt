@@ -1,7 +1,7 @@
 //! The registers that a claim says something of, as sets.
 
 ghost use Rattle.std.specs.Prelude.{IfOk};
-ghost use Rattle.cg_reach.specs.inner.Found.{AreNamed};
+ghost use Rattle.cg_reach.specs.inner.Found.{AreSetsOf};
 
 use crate::sources::set_of;
 use cg_netlist::id::RegId;
@@ -25,7 +25,7 @@ impl Named {
         follows: &[RegId],
         changes: &[RegId],
     ) -> Result<Named, AllocError>
-        ensures { IfOk result (AreNamed follows.now changes.now) }
+        ensures { IfOk result (AreSetsOf follows.now changes.now) }
     {
         let follows = set_of(alloc, follows)?;
         let changes = set_of(alloc, changes)?;

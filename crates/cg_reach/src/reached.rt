@@ -5,7 +5,7 @@ ghost use Rattle.cg_netlist.specs.Cone.{cone_of};
 ghost use Rattle.cg_machine.specs.Machine.{walk_of};
 ghost use Rattle.cg_claim.specs.Reach.{before_nets, enable_nets, sides_nets};
 ghost use Rattle.cg_reach.specs.Asking.{AsksThere, copy_of, question_of};
-ghost use Rattle.cg_reach.specs.inner.Found.{AreNamed, IsLater};
+ghost use Rattle.cg_reach.specs.inner.Found.{AreSetsOf, IsLater};
 ghost use Rattle.cg_reach.specs.Reached.{IsConeOf, IsReached};
 
 use crate::asked::{Asked, Frame};
@@ -107,7 +107,7 @@ impl Reacher {
         named: &Named,
     ) -> Result<Reached, AllocError>
         requires asked { AsksThere machine.now (question_of asked.now) }
-        requires named { AreNamed asked.now.follows.now asked.now.changes.now named.now }
+        requires named { AreSetsOf asked.now.follows.now asked.now.changes.now named.now }
         ensures { IfOk result (IsReached machine.now (question_of asked.now)) }
     {
         let later = self.later_copies(machine, asked, named)?;
@@ -130,7 +130,7 @@ impl Reacher {
         named: &Named,
     ) -> Result<Later, AllocError>
         requires asked { AsksThere machine.now (question_of asked.now) }
-        requires named { AreNamed asked.now.follows.now asked.now.changes.now named.now }
+        requires named { AreSetsOf asked.now.follows.now asked.now.changes.now named.now }
         ensures { IfOk result (IsLater machine.now (question_of asked.now)) }
     {
         let changed = self.later_cone(machine, asked, Frame::Changed)?;
@@ -153,7 +153,8 @@ impl Reacher {
         frame: Frame,
     ) -> Result<Cone, AllocError>
         requires { AsksThere machine.now (question_of asked.now) }
-        ensures { IfOk result (let q = question_of asked.now in IsConeOf machine.now (cone_of (walk_of machine.now) (sides_nets machine.now (enable_nets q) (copy_of frame) q.sides))) }
+        ensures { IfOk result (let q = question_of asked.now in IsConeOf machine.now
+            (cone_of (walk_of machine.now) (sides_nets machine.now (enable_nets q) (copy_of frame) q.sides))) }
     {
         let _netlist = machine.netlist();
         let mut roots = Vec::new(self.alloc);
@@ -172,7 +173,7 @@ impl Reacher {
         later: &Later,
     ) -> Result<Cone, AllocError>
         requires asked { AsksThere machine.now (question_of asked.now) }
-        requires named { AreNamed asked.now.follows.now asked.now.changes.now named.now }
+        requires named { AreSetsOf asked.now.follows.now asked.now.changes.now named.now }
         requires later { IsLater machine.now (question_of asked.now) later.now }
         ensures { IfOk result (IsConeOf machine.now (before_nets machine.now (question_of asked.now))) }
     {

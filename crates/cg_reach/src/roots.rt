@@ -35,7 +35,8 @@ pub(crate) fn push_sides(
     roots: &mut Vec<NetId>,
 ) -> Result<(), AllocError>
     requires { AsksThere machine.now (question_of asked.now) }
-    ensures { OnOk result (let q = question_of asked.now in roots.new.items ≡ roots.old.items ++ sides_nets machine.now (enable_nets q) (copy_of frame) q.sides) }
+    ensures { OnOk result
+        (let q = question_of asked.now in roots.new.items ≡ roots.old.items ++ sides_nets machine.now (enable_nets q) (copy_of frame) q.sides) }
 {
     if let Some((one, other)) = &asked.sides {
         push_side(machine, asked.enables, frame, one, roots)?;

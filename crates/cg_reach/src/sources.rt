@@ -7,10 +7,11 @@ ghost use Rattle.cg_cell.specs.Pins.{is_data};
 ghost use Rattle.cg_cell.specs.Term.{has_input};
 ghost use Rattle.cg_netlist.specs.Circuit.{RegisterCell, is_in};
 ghost use Rattle.cg_claim.specs.Question.{Question};
-ghost use Rattle.cg_claim.specs.Reach.{after_nets, after_states, before_nets, before_states, changed_nets, changed_states, next_asks_own, origin_asks, reads_own, registers_of};
+ghost use Rattle.cg_claim.specs.Reach.{after_nets, after_states, before_nets, before_states, changed_nets};
+ghost use Rattle.cg_claim.specs.Reach.{changed_states, next_asks_own, origin_asks, reads_own, registers_of};
 ghost use Rattle.cg_reach.specs.Asking.{AsksThere, PartThere, copy_of, part_of, question_of, side_of};
 ghost use Rattle.cg_reach.specs.inner.Sources.{part_states, side_states, sides_states, with_numbers};
-ghost use Rattle.cg_reach.specs.inner.Found.{AreNamed, IsLater};
+ghost use Rattle.cg_reach.specs.inner.Found.{AreSetsOf, IsLater};
 ghost use Rattle.cg_reach.specs.Reached.{IsConeOf};
 
 use crate::asked::{Asked, Frame, Part, Side};
@@ -139,7 +140,7 @@ pub(crate) fn after_states(
     moved: &Seq<RegId>,
 ) -> Result<Seq<RegId>, AllocError>
     requires asked { AsksThere machine.now (question_of asked.now) }
-    requires named { AreNamed asked.now.follows.now asked.now.changes.now named.now }
+    requires named { AreSetsOf asked.now.follows.now asked.now.changes.now named.now }
     requires cone { IsConeOf machine.now (after_nets machine.now (question_of asked.now)) after.now }
     requires moved { moved.now ≡ filter (changed_states machine.now (question_of asked.now)) (registers_of machine.now) }
     ensures { IfOk result (λ regs. regs ≡ filter (after_states machine.now (question_of asked.now)) (registers_of machine.now)) }
@@ -165,7 +166,7 @@ pub(crate) fn before_states(
     later: &Later,
 ) -> Result<Seq<RegId>, AllocError>
     requires asked { AsksThere machine.now (question_of asked.now) }
-    requires named { AreNamed asked.now.follows.now asked.now.changes.now named.now }
+    requires named { AreSetsOf asked.now.follows.now asked.now.changes.now named.now }
     requires cone { IsConeOf machine.now (before_nets machine.now (question_of asked.now)) before.now }
     requires later { IsLater machine.now (question_of asked.now) later.now }
     ensures { IfOk result (λ regs. regs ≡ filter (before_states machine.now (question_of asked.now)) (registers_of machine.now)) }

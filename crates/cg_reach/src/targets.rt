@@ -76,7 +76,8 @@ fn push_registers(
     names: &mut Vec<ClaimName>,
 ) -> Result<(), AllocError>
     requires { length marks.now ≡ length machine.now.circuit.names }
-    ensures { OnOk result (names.new.items ≡ names.old.items ++ map Next (filter (λ r. is_next_marked machine.now (λ y. slice_index_or marks.now y false) (is_in set.now.keys r) r) (registers_of machine.now))) }
+    ensures { OnOk result (names.new.items ≡ names.old.items ++ map Next
+        (filter (λ r. is_next_marked machine.now (λ y. slice_index_or marks.now y false) (is_in set.now.keys r) r) (registers_of machine.now))) }
 {
     let _netlist = machine.netlist();
     for r in 0..machine.registers() {

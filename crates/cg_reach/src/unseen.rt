@@ -20,13 +20,13 @@ pub struct UnseenRegs<'a> {
 
 impl<'a> Model for UnseenRegs<'a> {
     ghost use Rattle.cg_reach.specs.Unseen.{UnseenData};
-    ghost use Rattle.cg_reach.specs.inner.Found.{AreNamed};
+    ghost use Rattle.cg_reach.specs.inner.Found.{AreSetsOf};
 
     ghost Value = { UnseenData };
 
     ghost view = { λ u. record { guards = u.guards.now; regs = u.regs.now } };
 
-    ghost invariant = { λ u. AreNamed u.guards.now u.regs.now u.named };
+    ghost invariant = { λ u. AreSetsOf u.guards.now u.regs.now u.named };
 }
 
 impl<'a> UnseenRegs<'a> {

@@ -5,13 +5,13 @@
 use crate::clauses::Clauses;
 use std::alloc::{AllocError, Global};
 
-// What a use of a clause adds to its merit, at first and at most.
+/// What a use of a clause adds to its merit, at first and at most.
 const FIRST: u64 = 1 << 10;
 
 const MOST: u64 = 1 << 40;
 
-// How many conflicts there are until clauses are deleted the first time, and how many more each time. Few clauses are kept:
-// each is looked at again and again, and most are never of use again.
+/// How many conflicts there are until clauses are deleted the first time, and how many more each time. Few clauses are kept:
+/// each is looked at again and again, and most are never of use again.
 const PERIOD: u64 = 200;
 
 const LONGER: u64 = 50;

@@ -26,7 +26,7 @@ pub enum Look {
     Conflict(usize),
 }
 
-// A literal becomes true by a clause.
+/// A literal becomes true by a clause.
 pub fn imply(
     trail: &mut Trail,
     clauses: &Clauses,
@@ -48,8 +48,8 @@ pub fn imply(
     Ok(())
 }
 
-// What the trail makes of the clause of this number. A literal that is not false is looked for first from where one was
-// found last.
+/// What the trail makes of the clause of this number. A literal that is not false is looked for first from where one was
+/// found last.
 fn scan_on(trail: &Trail, watches: &mut Watches, clause: &[Lit], number: u32, given: Lit) -> Found
     ensures { Finds (lits_of trail.now) clause.now given result }
 {
@@ -59,7 +59,7 @@ fn scan_on(trail: &Trail, watches: &mut Watches, clause: &[Lit], number: u32, gi
     }
 }
 
-// Looks at a clause of which a literal became false.
+/// Looks at a clause of which a literal became false.
 fn look_at(
     trail: &mut Trail,
     clauses: &Clauses,
@@ -103,7 +103,7 @@ fn look_at(
     }
 }
 
-// Looks at the clauses of a list.
+/// Looks at the clauses of a list.
 fn look_along(
     trail: &mut Trail,
     clauses: &Clauses,

@@ -28,7 +28,7 @@ pub struct Pair {
     pub from: usize,
 }
 
-// The first place of a part of a clause with a literal that is not false, beside the given one.
+/// The first place of a part of a clause with a literal that is not false, beside the given one.
 fn open_place(trail: &Trail, lits: &[Lit], given: Lit, from: usize, to: usize) -> Option<usize>
     requires { to ≤ length lits.now }
 {

@@ -109,9 +109,11 @@ fn part_literal(
     requires nets { All (λ l. l.0 < length machine.now.circuit.names) enables.now }
     requires copy { IsCopy machine.now aig.old copy.now }
     ensures built { IfOk result (λ v. Built aig.old aig.new v
-        (part_run aig_values machine.now enables.now (λ x. slice_index_or copy.now.nets x 0) (λ r. slice_index_or copy.now.states r 0) (part_of part) aig.old)) }
+        (part_run aig_values machine.now enables.now (λ x. slice_index_or copy.now.nets x 0) (λ r. slice_index_or copy.now.states r 0)
+        (part_of part) aig.old)) }
     ensures failed { IfErr result (λ fault. MayFail
-        (part_run aig_values machine.now enables.now (λ x. slice_index_or copy.now.nets x 0) (λ r. slice_index_or copy.now.states r 0) (part_of part) aig.old).domain fault) }
+        (part_run aig_values machine.now enables.now (λ x. slice_index_or copy.now.nets x 0) (λ r. slice_index_or copy.now.states r 0)
+        (part_of part) aig.old).domain fault) }
 {
     let _leaves = aig.leaves();
     match part {

@@ -168,8 +168,10 @@ impl Unroller {
         requires guards { All (λ r. r < length machine.now.circuit.registers) unseen.now.guards }
         requires registers { All (λ r. r < length machine.now.circuit.registers) unseen.now.regs }
         requires target { IsTargetName machine.now target }
-        ensures claim { OnOk result (IsClaim machine.now (unseen_question enables.now unseen.now.guards unseen.now.regs (target_of machine.now target)) width self.new) }
-        ensures refused { IfErr result (IsRefused machine.now (unseen_question enables.now unseen.now.guards unseen.now.regs (target_of machine.now target)) width) }
+        ensures claim { OnOk result
+            (IsClaim machine.now (unseen_question enables.now unseen.now.guards unseen.now.regs (target_of machine.now target)) width self.new) }
+        ensures refused { IfErr result
+            (IsRefused machine.now (unseen_question enables.now unseen.now.guards unseen.now.regs (target_of machine.now target)) width) }
     {
         let after = Side {
             frame: Frame::After,

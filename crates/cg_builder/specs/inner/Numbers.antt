@@ -121,8 +121,8 @@ wired_numbers n = record { inputs = n.inputs; clock = clock_number n; outputs = 
 abbrev pub ordered_numbers : Numbers → List ℕ
 ordered_numbers n = order_of nat_eq (wired_numbers n)
 
-abbrev pub place_of : Numbers → ℕ → ℕ
-place_of n net = position_or_len (nat_eq net) (ordered_numbers n)
+abbrev pub ordered_place : Numbers → ℕ → ℕ
+ordered_place n net = position_or_len (nat_eq net) (ordered_numbers n)
 
 abbrev pub made_of : List ℕ → Numbers → Circuit
-made_of model n = circuit model (map (net_name n.names) (ordered_numbers n)) (map_wiring (place_of n) (wired_numbers n))
+made_of model n = circuit model (map (net_name n.names) (ordered_numbers n)) (map_wiring (ordered_place n) (wired_numbers n))

@@ -24,5 +24,5 @@ pub record MayTell (b : Building) (parts : List Part) : Type 0 where
   pub within : limit_of (with_parts b.said parts) ≡ None
 
 -- it was told them, or memory was wanting
-abbrev pub Tells : Building → List Part → Building → Result (Unit {0}) AddFault → Type 0
-Tells old parts new result = MatchResult result (λ _. new ≡ told old parts) (λ fault. fault ≡ NoMemory)
+abbrev pub WasTold : Building → List Part → Building → Result (Unit {0}) AddFault → Type 0
+WasTold old parts new result = MatchResult result (λ _. new ≡ told old parts) (λ fault. fault ≡ NoMemory)

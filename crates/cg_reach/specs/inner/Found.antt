@@ -10,7 +10,7 @@ use Rattle.cg_reach.specs.declared.reached.Later.{Later}
 use Rattle.cg_reach.specs.Reached.{IsConeOf}
 
 -- sets of the registers that hold their next bits, and of those that may have other bits
-pub record AreNamed (Q G : List ℕ) (named : Named) : Type 0 where
+pub record AreSetsOf (Q G : List ℕ) (named : Named) : Type 0 where
   pub follows : (r : ℕ) → is_in Q r ≡ is_in named.follows.keys r
   pub changes : (r : ℕ) → is_in G r ≡ is_in named.changes.keys r
 

@@ -1,12 +1,12 @@
 -- The registers whose states the program looks for, and numbers without repetition.
 use Rattle.std.specs.Prelude.{ℕ, if◌then◌else◌, List, [], ◌∷◌, ◌++◌, Option, Some, None}
 use Rattle.cg_machine.specs.Machine.{MachineData}
-use Rattle.cg_claim.specs.Question.{Copy, Part, Net, Next, State, Enable, Side}
+use Rattle.cg_claim.specs.Question.{Copy, CopyPart, Net, Next, State, Enable, Side}
 use Rattle.cg_claim.specs.Reach.{next_asks_own, same_copy}
 use Rattle.cg_netlist.specs.Circuit.{is_in}
 
 -- the registers whose states a part asks for in its copy, a side, both sides ask for in a copy
-abbrev pub part_states : MachineData → Part → List ℕ
+abbrev pub part_states : MachineData → CopyPart → List ℕ
 part_states m (Net y) = []
 part_states m (Next r) = if next_asks_own m r then r ∷ [] else []
 part_states m (State r) = r ∷ []

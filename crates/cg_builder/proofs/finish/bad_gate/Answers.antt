@@ -2,7 +2,7 @@ use Rattle.std.proofs.Common.{◌≡◌, ◌&&◌, ◌||◌, ℕ, Bool, List, fa
 use Rattle.std.specs.List.{AllByRecursion}
 use Rattle.std.specs.Option.{option_map_or}
 use Rattle.cg_netlist.specs.Circuit.{LogicCell, is_in}
-use Rattle.cg_netlist.specs.Marks.{IsFirst, IsTable}
+use Rattle.cg_netlist.specs.Marks.{AreMarksOf, IsFirst}
 use Rattle.cg_netlist.specs.Chains.{chain}
 use Rattle.cg_netlist.specs.Ranks.{is_unranked}
 use Rattle.cg_netlist.specs.Places.{CellWithin}
@@ -21,7 +21,7 @@ unranked_marks-requires c =
 pub returns : goal.returns
 returns c =
     let n = c.args.told.now in
-    let table : IsTable c.in_ok-unreached.unreached.items c.len.result (is_unranked (chain n.gaters)) = subst (λ ks. IsTable c.in_ok-unreached.unreached.items c.len.result (is_unranked ks)) (c.deref.ensures.value ∙ c.in_ok-chain.ensures) c.in_ok-unreached.ensures in
+    let table : AreMarksOf c.in_ok-unreached.unreached.items c.len.result (is_unranked (chain n.gaters)) = subst (λ ks. AreMarksOf c.in_ok-unreached.unreached.items c.len.result (is_unranked ks)) (c.deref.ensures.value ∙ c.in_ok-chain.ensures) c.in_ok-unreached.ensures in
     same_first (λ net. is_in (gated n) net && (is_in (used n) net || is_unranked (chain n.gaters) net)) (λ net. is_in (gated n) net && (is_in (used n) net || option_map_or (λ k. is_none (gate_rank n.gaters k)) (driving_gater n.gaters net) false)) (length n.names) c.first_bad_gate.result
     (λ net lt. ap (λ b. is_in (gated n) net && (is_in (used n) net || b)) (chain_unranked n.gaters net))
     (gates_found c.in_ok-gated.gated.items c.args.used.now c.in_ok-unreached.unreached.items c.deref-2.result.now c.deref-3.result.now (length n.names) c.len.result (gated n) (used n) (is_unranked (chain n.gaters)) c.first_bad_gate.result c.deref-2.ensures.value c.deref-3.ensures.value

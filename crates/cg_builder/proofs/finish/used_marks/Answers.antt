@@ -1,7 +1,7 @@
 use Rattle.std.proofs.Common.{◌≡◌, ℕ, ◌<◌, ◌&&◌, ◌||◌, not, nat_eq, nat_lt, Bool, List, Some, None, Option, length, inl, inr, refl, sym, ◌∙◌, ap, subst, arith}
 use Rattle.std.specs.List.{count_by}
 use Rattle.cg_netlist.specs.Circuit.{is_in}
-use Rattle.cg_netlist.specs.Marks.{IsFirst, IsTable, is_marked}
+use Rattle.cg_netlist.specs.Marks.{AreMarksOf, IsFirst, is_marked}
 use Rattle.cg_netlist.specs.declared.fault.NetFault.TheVariants.{ClockFault, Cycle, NoDriver, TwoDrivers}
 use Rattle.cg_builder.specs.inner.Numbers.{driving, is_driven_twice, is_undriven, used}
 use Rattle.cg_netlist.specs.Ranks.{is_unranked}

@@ -3,7 +3,7 @@ use Rattle.std.specs.List.{AllByRecursion, IsDistinct, position_or_len}
 use Rattle.std.specs.Option.{option_to_list}
 use Rattle.cg_netlist.specs.Circuit.{Circuit}
 use Rattle.cg_netlist.specs.Places.{number_in}
-use Rattle.cg_builder.specs.inner.Numbers.{Numbers, clock_number, drivers_by, made_of, ordered_numbers, place_of, wired_numbers}
+use Rattle.cg_builder.specs.inner.Numbers.{Numbers, clock_number, drivers_by, made_of, ordered_numbers, ordered_place, wired_numbers}
 use Rattle.cg_netlist.specs.said.Wiring.{NetName, circuit, map_wiring, net_name}
 use Rattle.cg_netlist.proofs.ByRank.{if_ok}
 use Rattle.cg_builder.proofs.ToldNets.{asked_of, clock_within, ordered_is, ordered_within, wired_within, wiring_agrees}
@@ -58,7 +58,7 @@ returns c =
     let order_is = c.deref-3.ensures.value ∙ order in
     let names : map (net_name n.names) c.deref-3.result.now ≡ map (net_name n.names) (ordered_numbers n) = ap (map (net_name n.names)) order_is in
     let num : ℕ → ℕ = number_in c.deref-4.result.now in
-    let tells : (net : ℕ) → net < length n.names → num net ≡ place_of n net = λ net lt. ap (λ ps. number_in ps net) c.deref-4.ensures.value ∙ (c.in_ok-places.ensures.tells net (omega (arith, lt, c.len.ensures.count, ap (λ d. length d.names) c.told.view_is)) ∙ ap (position_or_len (nat_eq net)) (c.deref-2.ensures.value ∙ order)) in
-    let wired = wiring_agrees num (place_of n) (wired_numbers n) (nets_weaker (λ net. net < length n.names) (λ net. num net ≡ place_of n net) tells (wired_numbers n) (wired_within n c.requires.numbers c.requires.clocked)) in
+    let tells : (net : ℕ) → net < length n.names → num net ≡ ordered_place n net = λ net lt. ap (λ ps. number_in ps net) c.deref-4.ensures.value ∙ (c.in_ok-places.ensures.tells net (omega (arith, lt, c.len.ensures.count, ap (λ d. length d.names) c.told.view_is)) ∙ ap (position_or_len (nat_eq net)) (c.deref-2.ensures.value ∙ order)) in
+    let wired = wiring_agrees num (ordered_place n) (wired_numbers n) (nets_weaker (λ net. net < length n.names) (λ net. num net ≡ ordered_place n net) tells (wired_numbers n) (wired_within n c.requires.numbers c.requires.clocked)) in
     if_ok (λ parts. parts ≡ circuit c.args.model (map (net_name n.names) c.deref-3.result.now) (map_wiring num (wired_numbers n))) (λ parts. parts ≡ made_of c.args.model n) c.renumbered.result
     (λ parts is. is ∙ (ap (λ ns. circuit c.args.model ns (map_wiring num (wired_numbers n))) names ∙ ap (circuit c.args.model (map (net_name n.names) (ordered_numbers n))) wired)) c.renumbered.ensures

@@ -1,7 +1,7 @@
 use Rattle.std.proofs.Common.{◌≡◌, ◌<◌, ◌++◌, not, length, refl, sym, ◌∙◌, ap, subst, arith}
 use Rattle.std.specs.List.{AllByRecursion, filter}
 use Rattle.cg_netlist.specs.Circuit.{is_in}
-use Rattle.cg_netlist.specs.Marks.{IsTable, is_marked}
+use Rattle.cg_netlist.specs.Marks.{AreMarksOf, is_marked}
 use Rattle.cg_builder.specs.inner.Numbers.{Numbers}
 use Rattle.cg_netlist.specs.said.Wiring.{driven_by_cells, driven_by_gaters, driven_by_registers}
 use Rattle.cg_builder.proofs.ToldNets.{asked_of, left_of}
@@ -11,9 +11,9 @@ pub returns : goal.returns
 returns c =
     let n : Numbers = c.args.told.now in
     let inputs = c.deref-2.ensures.value ∙ ap (λ d. d.inputs) c.told.view_is in
-    let table : IsTable c.deref-3.result.now (length n.names) (is_in n.inputs) =
-    subst (λ m. IsTable c.deref-3.result.now m (is_in n.inputs)) (c.len.ensures.count ∙ ap (λ d. length d.names) c.told.view_is)
-    (subst (λ xs. IsTable c.deref-3.result.now c.len.result (is_in xs)) (c.deref.ensures.value ∙ ap (λ d. d.inputs) c.told.view_is) (subst (λ ms. IsTable ms c.len.result (is_in c.deref.result.now)) (sym c.deref-3.ensures.value) c.in_ok-inputs.ensures)) in
+    let table : AreMarksOf c.deref-3.result.now (length n.names) (is_in n.inputs) =
+    subst (λ m. AreMarksOf c.deref-3.result.now m (is_in n.inputs)) (c.len.ensures.count ∙ ap (λ d. length d.names) c.told.view_is)
+    (subst (λ xs. AreMarksOf c.deref-3.result.now c.len.result (is_in xs)) (c.deref.ensures.value ∙ ap (λ d. d.inputs) c.told.view_is) (subst (λ ms. AreMarksOf ms c.len.result (is_in c.deref.result.now)) (sym c.deref-3.ensures.value) c.in_ok-inputs.ensures)) in
     let free = filter (λ net. not (is_in n.inputs net)) c.args.clocks.now in
     let first : c.add_unmarked.new.nets.items ≡ n.inputs ++ free =
     c.in_ok-add_unmarked.ensures ∙ (ap (λ xs. xs ++ filter (λ net. not (is_marked c.deref-3.result.now net)) c.args.clocks.now) (c.in_ok-nets.ensures.items ∙ inputs) ∙ ap (λ xs. n.inputs ++ xs) (left_of c.deref-3.result.now (length n.names) n.inputs c.args.clocks.now table c.requires.clocks)) in

@@ -9,7 +9,7 @@ use Rattle.cg_netlist.specs.said.Wiring.{NetName}
 use Rattle.cg_insert.proofs.RegisterCalls.{register_call}
 use Rattle.cg_insert.proofs.ToldParts.{tells_one}
 use Rattle.cg_insert.specs.inner.GatedParts.{clocked_part, placed_outputs}
-use Rattle.cg_insert.specs.inner.Telling.{MayTell, Tells}
+use Rattle.cg_insert.specs.inner.Telling.{MayTell, WasTold}
 use Rattle.cg_insert.proofs.clocked.tell_register.Goals as goal
 
 pub register-requires-clause-fits : goal.register-requires-clause-fits

@@ -4,7 +4,7 @@ use Rattle.std.specs.Option.{option_copied, option_to_list}
 use Rattle.std.proofs.lemmas.Result.{MatchResult-weaker}
 use Rattle.std.proofs.lemmas.List.{length-map}
 use Rattle.cg_cell.specs.Cell.{IsCell}
-use Rattle.cg_cell.specs.Cover.{Fits, IsCover}
+use Rattle.cg_cell.specs.Cover.{CoverFits, IsCover}
 use Rattle.cg_cell.specs.Name.{is_name}
 use Rattle.cg_netlist.specs.declared.parts.LogicFunction.TheVariants.{Cell, Cover}
 use Rattle.cg_builder.specs.Calls.{cell_of, gater_of, register_of}
@@ -34,7 +34,7 @@ told c =
     let long : length inputs ≡ length c.args.inputs.now = length-map c.args.inputs.now (λ (name : Bor (List ℕ)). name.now) in
     let is : IsPart (part c) = record {
       named = words_push inputs c.args.output.now c.requires.inputs c.requires.output;
-      fits = record { over = (subst IsCover c.cover.view_is c.cover.invariant, subst (λ m. Fits m c.args.cover) (sym long) c.requires.fits); few = omega (arith, c.requires.few, long) };
+      fits = record { over = (subst IsCover c.cover.view_is c.cover.invariant, subst (λ m. CoverFits m c.args.cover) (sym long) c.requires.fits); few = omega (arith, c.requires.few, long) };
     } in
     telling c.self.inside.model n (record n { names = call.new.names; cells = call.new.cells.items }) c.self.inside.refused c.noted.new.refused (part c) call.result c.noted.result c.self.invariant
     is c.in_default.is c.noted.ensures.answers c.noted.ensures.notes

@@ -12,7 +12,7 @@ use Rattle.cg_stage.specs.Stages.{ClaimsHold}
 
 -- A stage is worth inserting on a machine. Nothing is asked of nodes, nets or registers: a run in which a limit on these is
 -- passed comes to no end, so no stage is left out for them.
-pub record IsWorthy (library : List CellData) (settings : Settings) (m : MachineData) (s : Stage) : Type 0 where
+pub record IsWorthInserting (library : List CellData) (settings : Settings) (m : MachineData) (s : Stage) : Type 0 where
   -- it has no fewer registers than are asked for
   pub large : settings.min ≤ length s.regs
   -- the library has each cell that it needs

@@ -1,4 +1,5 @@
 pub mod Added
+pub mod Bits
 pub mod Chained
 pub mod Facts
 pub mod Follows
@@ -13,3 +14,4 @@ pub mod Ticked
 pub mod Walk
 pub mod Written
 pub mod Shown
+pub mod Spanned

@@ -1,5 +1,5 @@
 -- Each cell holds or is marked: what a write at a net keeps of this, and what a look at a cell.
-use Rattle.std.proofs.Common.{◌≡◌, ◌≢◌, ℕ, ◌+◌, ◌<◌, ◌≤◌, ◌⊎◌, inl, inr, Bool, true, false, List, length, slice_get, slice_set, Some, refl, sym, ◌∙◌, ap, subst, arith}
+use Rattle.std.proofs.Common.{◌≡◌, ◌≢◌, ℕ, ◌+◌, ◌<◌, ◌≤◌, ◌⊎◌, inl, inr, Bool, true, false, List, length, slice_get, slice_set, Some, sym, ◌∙◌, ap, subst, arith}
 use Rattle.std.proofs.lemmas.Bool.{both_ways, cases_Bool, false_from_ne_true}
 use Rattle.std.proofs.lemmas.Option.{same_Some, slice_get_within}
 use Rattle.cg_netlist.specs.Circuit.{Circuit, LogicCell, cell_nets, clock_nets, is_in, used_nets}
@@ -10,6 +10,7 @@ use Rattle.cg_netlist.proofs.TableLemmas.{same_or_not, slice_get-set_other, slic
 use Rattle.cg_netlist.proofs.Used.{input_is_used}
 use Rattle.cg_netlist.proofs.Values.{at_map, same_values}
 use Rattle.cg_edge.specs.inner.Keeping.{AreMarked, AreReaders, AreSettled, Holds, IsPut, SameBut, readers_at, walk_of}
+use Rattle.cg_edge.proofs.Bits.{below_or}
 use Rattle.cg_edge.proofs.Facts.{cell_output}
 use Rattle.cg_edge.proofs.Follows.{clock_no_cell}
 use Rattle.cg_edge.proofs.Walk.{one_cell, ordered_at, walked}
@@ -72,32 +73,22 @@ module _ (c : Circuit) (good : IsWellFormed c) (readers : List (List ℕ)) where
             | inl told ↦ inl (elim (below_or q i) [ inl below ↦ absurd (later below) | inr past ↦ omega arith ], told)
             | inr still ↦ inr still
           ]
-        where
-          below_or : (q i : ℕ) → (q ≤ i) ⊎ (i < q)
-          below_or Rattle.std.proofs.Common.zero i = inl (omega arith)
-          below_or (Rattle.std.proofs.Common.suc q) Rattle.std.proofs.Common.zero = inr (omega arith)
-          below_or (Rattle.std.proofs.Common.suc q) (Rattle.std.proofs.Common.suc i) = elim (below_or q i) [ inl h ↦ inl (omega arith) | inr h ↦ inr (omega arith) ]
 
-  -- a place that is not marked is passed over
-  pub settled_past : (i : ℕ) (marks nets : List Bool) → slice_get marks i ≡ Some false → AreSettled (walk_of c) i marks nets → AreSettled (walk_of c) (i + 1) marks nets
-  settled_past i marks nets low settled q b at = elim (settled q b at) [
-    | inl waits ↦
-        let apart : q ≢ i = λ e. both_ways false refl (sym (same_Some true false (sym waits.1 ∙ (ap (slice_get marks) e ∙ low)))) in
-        let later : i ≤ q = waits.0 in
-        inl (omega (arith, apart, later), waits.1)
+  -- places that are not marked are passed over
+  pub settled_past : (i p : ℕ) (marks nets : List Bool) → ((q : ℕ) → i ≤ q → q < p → slice_get marks q ≢ Some true) → AreSettled (walk_of c) i marks nets → AreSettled (walk_of c) p marks nets
+  settled_past i p marks nets first settled q b at = elim (settled q b at) [
+    | inl waits ↦ elim (below_or p q) [ inl past ↦ inl (past, waits.1) | inr before ↦ absurd (first q waits.0 before waits.1) ]
     | inr holds ↦ inr holds
   ]
 
   pub settled_first : (marks nets : List Bool) → AreMarked (walk_of c) marks nets → AreSettled (walk_of c) 0 marks nets
   settled_first marks nets marked q b at = elim (marked q b at) [ inl waits ↦ inl (omega arith, waits) | inr holds ↦ inr holds ]
 
-  pub settled_all : (i : ℕ) (marks nets : List Bool) → length (walk_of c) ≤ i → AreSettled (walk_of c) i marks nets → CellsHold c.cells nets
-  settled_all i marks nets all settled k cell at =
+  -- where no place is marked any more, each cell holds
+  pub settled_all : (i : ℕ) (marks nets : List Bool) → ((q : ℕ) → i ≤ q → slice_get marks q ≢ Some true) → AreSettled (walk_of c) i marks nets → CellsHold c.cells nets
+  settled_all i marks nets none settled k cell at =
       let p = (walked c good).placed k cell at in
-      elim (settled p.0 cell p.1) [
-        | inl waits ↦ let later : i ≤ p.0 = waits.0 in absurd (omega (arith, all, later, slice_get_within (walk_of c) p.0 cell p.1))
-        | inr holds ↦ holds
-      ]
+      elim (settled p.0 cell p.1) [ inl waits ↦ absurd (none p.0 waits.0 waits.1) | inr holds ↦ holds ]
 
   -- no cell reads a clock net or drives one
   pub marked_clocks : (marks old new : List Bool) → SameBut (clock_nets c) old new → AreMarked (walk_of c) marks old → AreMarked (walk_of c) marks new

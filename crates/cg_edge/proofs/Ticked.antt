@@ -1,5 +1,5 @@
 -- What a simulator keeps over a tick, and what it makes of it.
-use Rattle.std.proofs.Common.{◌≡◌, ◌<◌, ℕ, zero, suc, inl, Bool, true, List, length, slice_get, replicate, Some, refl, ◌∙◌, ap, subst, arith}
+use Rattle.std.proofs.Common.{◌≡◌, ◌<◌, ℕ, inl, Bool, true, List, length, slice_get, Some, refl, ◌∙◌, ap, subst, arith}
 use Rattle.std.proofs.lemmas.Option.{slice_get_within}
 use Rattle.cg_netlist.specs.Circuit.{Circuit}
 use Rattle.cg_netlist.specs.History.{MomentFollows, Tick}
@@ -25,12 +25,5 @@ ticks_at c start ticked nets state latches rose nets0 state0 latches0 nets1 stat
 }
 
 -- where all places are marked, each cell is
-pub all_marked : (c : Circuit) → IsNetlist c → (order : List ℕ) (marks nets : List Bool) → order ≡ walk_order c.cells → marks ≡ replicate (length order) true → AreMarked (walk_of c) marks nets
-all_marked c good order marks nets is ones p cell at =
-    let below : p < length order = omega (arith, slice_get_within (walk_of c) p cell at, walk_long c good.well_formed, ap length is) in
-    inl (ap (λ ms. slice_get ms p) ones ∙ one (length order) p below)
-  where
-    one : (n p : ℕ) → p < n → slice_get (replicate n true) p ≡ Some true
-    one zero p below = absurd (omega arith)
-    one (suc n) zero below = refl
-    one (suc n) (suc p) below = one n p (omega arith)
+pub all_marked : (c : Circuit) → IsNetlist c → (order : List ℕ) (marks nets : List Bool) → order ≡ walk_order c.cells → ((p : ℕ) → p < length order → slice_get marks p ≡ Some true) → AreMarked (walk_of c) marks nets
+all_marked c good order marks nets is ones p cell at = inl (ones p (omega (arith, slice_get_within (walk_of c) p cell at, walk_long c good.well_formed, ap length is)))

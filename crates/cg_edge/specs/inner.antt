@@ -1,3 +1,5 @@
 -- What only ties the code to the definitions.
+pub mod Bits
 pub mod Flat
 pub mod Keeping
+pub mod Spans

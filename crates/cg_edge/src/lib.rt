@@ -8,6 +8,7 @@
 //!
 //! - `clock_nets`: the clock and the outputs of gating cells.
 //! - `register_step`: which registers rise, and their next bits.
+//! - `marks`: which logic cells are to be looked at.
 //! - `readers`: which logic cells read a net.
 //! - `table`: truth tables of logic cells that have few inputs.
 //! - `flat`: the logic cells, laid out for a quick look.
@@ -21,6 +22,7 @@
 mod clock_nets;
 mod flat;
 mod latch_step;
+mod marks;
 mod moment;
 mod put;
 mod readers;

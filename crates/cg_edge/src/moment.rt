@@ -13,6 +13,7 @@ ghost use Rattle.cg_edge.specs.inner.Keeping.{AreMarked, AreReaders, IsChain, pr
 use crate::clock_nets::drive;
 use crate::flat::FlatCells;
 use crate::latch_step::follow;
+use crate::marks::Marks;
 use crate::put::{put_inputs, put_registers};
 use crate::readers::Readers;
 use crate::register_step::step;
@@ -57,7 +58,7 @@ pub(crate) fn advance(
     state: &mut [bool],
     latches: &mut [bool],
     rose: &mut [bool],
-    marks: &mut [bool],
+    marks: &mut Marks,
     scratch: &mut [bool],
 )
     requires netlist { IsNetlist netlist.now }
@@ -82,6 +83,7 @@ pub(crate) fn advance(
     ensures rose { rose.new ≡ rises_at netlist.now (present_of ticked nets.old state.old latches.old)
         (record { nets = nets.new; state = state.new; latches = latches.new }) }
     ensures marked { AreMarked (walk_of netlist.now) marks.new nets.new }
+    ensures long { length marks.new ≡ length marks.old }
 {
     before.copy_from_slice(nets);
     drive(netlist, chain, clock, latches, nets);

@@ -8,12 +8,13 @@ ghost use Rattle.cg_netlist.specs.Netlist.{IsNetlist};
 ghost use Rattle.cg_netlist.specs.Nets.{walk_order};
 ghost use Rattle.cg_edge.specs.inner.Keeping.{AreMarked, AreReaders, IsPut, SameBut, readers_at, walk_of};
 
+use crate::marks::Marks;
 use crate::readers::Readers;
 use cg_netlist::id::{NetId, RegId};
 use cg_netlist::netlist::Netlist;
 
 /// Puts a bit at a net, and marks the cells that read it where that is another bit than it had.
-pub(crate) fn put(readers: &Readers, net: NetId, bit: bool, nets: &mut [bool], marks: &mut [bool])
+pub(crate) fn put(readers: &Readers, net: NetId, bit: bool, nets: &mut [bool], marks: &mut Marks)
     requires net { net < length nets.old }
     requires readers { length readers.now ≡ length nets.old }
     requires marks { (p : ℕ) → is_in (readers_at readers.now net) p ≡ true → p < length marks.old }
@@ -34,7 +35,7 @@ fn put_given(
     net: NetId,
     bit: bool,
     nets: &mut [bool],
-    marks: &mut [bool],
+    marks: &mut Marks,
 )
     requires given { is_in (cell_nets netlist.now) net ≡ false }
     requires net { net < length nets.old }
@@ -56,7 +57,7 @@ pub(crate) fn put_inputs(
     readers: &Readers,
     inputs: &[bool],
     nets: &mut [bool],
-    marks: &mut [bool],
+    marks: &mut Marks,
 )
     requires inputs { length inputs.now ≡ length (data_inputs netlist.now) }
     requires nets { length nets.old ≡ length netlist.now.names }
@@ -81,7 +82,7 @@ pub(crate) fn put_registers(
     readers: &Readers,
     state: &[bool],
     nets: &mut [bool],
-    marks: &mut [bool],
+    marks: &mut Marks,
 )
     requires state { length state.now ≡ length netlist.now.registers }
     requires nets { length nets.old ≡ length netlist.now.names }
@@ -113,7 +114,7 @@ fn put_register(
     reg: RegId,
     bit: bool,
     nets: &mut [bool],
-    marks: &mut [bool],
+    marks: &mut Marks,
 )
     requires register { reg < length netlist.now.registers }
     requires nets { length nets.old ≡ length netlist.now.names }
@@ -143,7 +144,7 @@ fn put_shown(
     outputs: &[(NetId, bool)],
     bit: bool,
     nets: &mut [bool],
-    marks: &mut [bool],
+    marks: &mut Marks,
 )
     requires given { (x : ℕ) → is_in (map (λ output. output.0) outputs.now) x ≡ true → is_in (cell_nets netlist.now) x ≡ false }
     requires within { All (λ x. x < length nets.old) (map (λ output. output.0) outputs.now) }

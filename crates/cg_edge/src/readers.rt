@@ -1,30 +1,45 @@
 //! Which logic cells read a net.
 
-ghost use Rattle.std.specs.Prelude.{◌≡◌, ◌<◌, ◌^◌, ℕ, [], true, length, slice_get, replicate, Some, IfOk, OnOk};
+ghost use Rattle.std.specs.Prelude.{◌≡◌, ◌<◌, ◌^◌, ◌++◌, ◌∷◌, ℕ, [], true, length, slice_get, replicate, Some, IfOk, OnOk};
 ghost use Rattle.std.specs.List.{All};
 ghost use Rattle.cg_netlist.specs.Circuit.{is_in};
 ghost use Rattle.cg_netlist.specs.Netlist.{IsNetlist};
 ghost use Rattle.cg_netlist.specs.Nets.{walk_order};
 ghost use Rattle.cg_edge.specs.inner.Keeping.{AreReaders, IsAdded, MarksMore, readers_at, walk_of};
 
+use crate::marks::Marks;
 use cg_list::Seq;
 use cg_netlist::id::{CellId, NetId};
 use cg_netlist::netlist::Netlist;
 use std::alloc::{AllocError, Global};
 use std::marker::Model;
 
+/// Where the readers of a net stand among those of all nets.
+#[derive(Clone, Copy, Debug)]
+pub(crate) struct Span {
+    first: usize,
+    count: usize,
+}
+
 /// For each net the places in walk order of the logic cells that read it.
+///
+/// They stand in one list, net after net, so that no other place in memory is fetched for a net than for the one before.
 #[derive(Drop)]
 pub(crate) struct Readers {
-    places: Vec<Seq<usize>>,
+    spans: Vec<Span>,
+    places: Vec<usize>,
 }
 
 impl Model for Readers {
-    ghost use Rattle.std.specs.Prelude.{List, ℕ};
+    ghost use Rattle.std.specs.Prelude.{List, ℕ, length, map};
+    ghost use Rattle.std.specs.List.{All};
+    ghost use Rattle.cg_edge.specs.inner.Spans.{IsWithin, spanned};
 
     ghost Value = { List (List ℕ) };
 
-    ghost view = { λ r. r.places.items };
+    ghost view = { λ r. map (spanned r.places.items) r.spans.items };
+
+    ghost invariant = { λ r. All (IsWithin (length r.places.items)) r.spans.items };
 }
 
 impl Readers {
@@ -41,7 +56,20 @@ impl Readers {
         for place in 0..order.len() {
             add(netlist.cell(order[place]).inputs, place, &mut places)?;
         }
-        Ok(Readers { places })
+        join(alloc, &places)
+    }
+
+    /// Puts the readers of one more net behind the others.
+    fn push(&mut self, places: &[usize]) -> Result<(), AllocError>
+        ensures { OnOk result (self.new ≡ self.old ++ places.now ∷ []) }
+    {
+        let span = Span {
+            first: self.places.len(),
+            count: places.len(),
+        };
+        self.places.extend_from_slice(places)?;
+        self.spans.push(span)?;
+        Ok(())
     }
 
     /// The places of the cells that read a net.
@@ -49,11 +77,12 @@ impl Readers {
         requires { net < length self.now }
         ensures { result.now ≡ readers_at self.now net }
     {
-        self.places[net.number() as usize].as_slice()
+        let span = self.spans[net.number() as usize];
+        &self.places[span.first..][..span.count]
     }
 
     /// Marks the places of the cells that read a net.
-    pub(crate) fn mark(&self, net: NetId, marks: &mut [bool])
+    pub(crate) fn mark(&self, net: NetId, marks: &mut Marks)
         requires net { net < length self.now }
         requires marks { (p : ℕ) → is_in (readers_at self.now net) p ≡ true → p < length marks.old }
         ensures more { MarksMore marks.old marks.new }
@@ -63,14 +92,28 @@ impl Readers {
     }
 }
 
+/// The readers of nets, of which each has a list of its own here.
+fn join(alloc: Global, lists: &[Seq<usize>]) -> Result<Readers, AllocError>
+    ensures { IfOk result (λ readers. readers ≡ lists.now) }
+{
+    let mut readers = Readers {
+        spans: Vec::with_capacity(alloc, lists.len())?,
+        places: Vec::new(alloc),
+    };
+    for list in lists {
+        readers.push(list.as_slice())?;
+    }
+    Ok(readers)
+}
+
 /// Marks these places.
-fn mark_all(places: &[usize], marks: &mut [bool])
+fn mark_all(places: &[usize], marks: &mut Marks)
     requires { All (λ p. p < length marks.old) places.now }
     ensures more { MarksMore marks.old marks.new }
     ensures told { (p : ℕ) → is_in places.now p ≡ true → slice_get marks.new p ≡ Some true }
 {
     for place in places {
-        marks[*place] = true;
+        marks.add(*place);
     }
 }
 

@@ -9,6 +9,7 @@ ghost use Rattle.cg_edge.specs.inner.Flat.{AreLaid, IsLaidAt};
 ghost use Rattle.cg_edge.specs.inner.Keeping.{AreMarked, AreReaders, AreSettled, IsPut, SameBut, walk_of};
 
 use crate::flat::FlatCells;
+use crate::marks::Marks;
 use crate::put::put;
 use crate::readers::Readers;
 use cg_netlist::id::CellId;
@@ -21,7 +22,7 @@ pub(crate) fn settle(
     cells: &FlatCells,
     readers: &Readers,
     nets: &mut [bool],
-    marks: &mut [bool],
+    marks: &mut Marks,
     scratch: &mut [bool],
 )
     requires netlist { IsNetlist netlist.now }
@@ -37,20 +38,20 @@ pub(crate) fn settle(
     ensures long { length marks.new ≡ length marks.old }
     ensures room { length scratch.new ≡ length scratch.old }
 {
-    for place in 0..order.len() {
-        if marks[place] {
-            marks[place] = false;
-            look(
-                netlist,
-                order[place],
-                cells,
-                place,
-                readers,
-                nets,
-                marks,
-                scratch,
-            );
-        }
+    let mut from = 0;
+    'marked: while let Some(place) = marks.next(from) {
+        marks.remove(place);
+        look(
+            netlist,
+            order[place],
+            cells,
+            place,
+            readers,
+            nets,
+            marks,
+            scratch,
+        );
+        from = place + 1;
     }
 }
 
@@ -62,7 +63,7 @@ fn look(
     place: usize,
     readers: &Readers,
     nets: &mut [bool],
-    marks: &mut [bool],
+    marks: &mut Marks,
     scratch: &mut [bool],
 )
     requires netlist { IsNetlist netlist.now }

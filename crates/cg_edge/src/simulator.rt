@@ -10,6 +10,7 @@ ghost use Rattle.cg_edge.specs.Shows.{Shows, ShowsOn};
 ghost use Rattle.cg_edge.specs.Simulated.{MayTick, Simulated, Ticks, fresh};
 
 use crate::flat::FlatCells;
+use crate::marks::Marks;
 use crate::moment::advance;
 use crate::readers::Readers;
 use cg_netlist::id::{CellId, GateClockId, NetId, RegId};
@@ -36,7 +37,7 @@ pub struct Simulator<'a> {
     state: Vec<bool>,
     latches: Vec<bool>,
     rose: Vec<bool>,
-    marks: Vec<bool>,
+    marks: Marks,
     scratch: Vec<bool>,
 }
 
@@ -58,7 +59,7 @@ impl<'a> Model for Simulator<'a> {
     } };
 
     ghost invariant = { λ s. IsKept s.netlist.now s.start.items s.chain.items s.order.now s.cells s.readers s.ticked s.nets.items s.before.items s.state.items
-        s.latches.items s.rose.items s.marks.items s.scratch.items };
+        s.latches.items s.rose.items s.marks s.scratch.items };
 }
 
 impl<'a> Simulator<'a> {
@@ -79,7 +80,7 @@ impl<'a> Simulator<'a> {
         let room = netlist.widest() as usize;
         let cells = FlatCells::new(alloc, netlist, order)?;
         let readers = Readers::new(alloc, netlist, order)?;
-        let marks = bits(alloc, true, order.len())?;
+        let marks = Marks::all(alloc, order.len())?;
         Ok(Simulator {
             netlist,
             start: Vec::from_slice(alloc, start)?,

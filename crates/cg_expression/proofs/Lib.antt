@@ -1,3 +1,4 @@
+pub mod Blanked
 pub mod FirstFault
 pub mod Grammar
 pub mod Joins

@@ -1,2 +1,3 @@
 pub mod TokensSeen
 pub mod PendingSeen
+pub mod Blanked

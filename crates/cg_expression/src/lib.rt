@@ -8,9 +8,11 @@
 //! - `tokens`: the words and signs of the text;
 //! - `pending`, `join`: what waits for the operand that comes, and operators on expressions;
 //! - [`fault`]: why a text is no expression;
-//! - [`reading`]: reading token by token.
+//! - [`reading`]: reading token by token;
+//! - [`check`]: the first fault alone, without the expression.
 #![tactic(auto)]
 
+pub mod check;
 pub mod fault;
 mod join;
 mod pending;
@@ -19,5 +21,6 @@ pub mod reading;
 mod tests;
 mod tokens;
 
+pub use check::{Names, check_expr};
 pub use fault::ExprFault;
 pub use reading::read_expr;

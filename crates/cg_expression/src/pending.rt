@@ -4,6 +4,7 @@ ghost use Rattle.std.specs.Prelude.{◌≡◌, ◌∷◌, [], ◌<◌, IfOk, tru
 ghost use Rattle.cg_expression.specs.Reading.{AndLeft as AndWaits, Bracket as BracketWaits, Inversion as InversionWaits};
 ghost use Rattle.cg_expression.specs.Reading.{OrLeft as OrWaits, XorLeft as XorWaits, and_end, inv_end, nesting, or_end, xor_end};
 ghost use Rattle.cg_cell.specs.Expr.{term_of};
+ghost use Rattle.cg_expression.specs.inner.Blanked.{blanks};
 ghost use Rattle.cg_expression.specs.inner.PendingSeen.{ends_in_bracket, ends_in_inversion, is_bottom, pending_of, seen};
 
 use crate::join::{both, either, inverse, one_of};
@@ -98,6 +99,31 @@ impl Stack {
         ensures { result ≡ ends_in_bracket self.now }
     {
         matches!(self.top, Some(Pending::Bracket))
+    }
+
+    /// The same with a constant for the operand that waits last, where that waits for another.
+    pub fn without_operand(self) -> Stack
+        ensures { blanks result ≡ blanks self }
+    {
+        let Stack { top, below, depth } = self;
+        match top {
+            Some(Pending::OrLeft(_)) => Stack {
+                top: Some(Pending::OrLeft(Expr::Constant(false))),
+                below,
+                depth,
+            },
+            Some(Pending::AndLeft(_)) => Stack {
+                top: Some(Pending::AndLeft(Expr::Constant(false))),
+                below,
+                depth,
+            },
+            Some(Pending::XorLeft(_)) => Stack {
+                top: Some(Pending::XorLeft(Expr::Constant(false))),
+                below,
+                depth,
+            },
+            top => Stack { top, below, depth },
+        }
     }
 
     /// A left operand of an or waits.

@@ -1,13 +1,13 @@
 //! Reading the text of an expression, token by token.
 
-ghost use Rattle.std.specs.Prelude.{◌≡◌, ◌<◌, ◌^◌, IfErr, IfOk, IsTrue, length, slice_index};
+ghost use Rattle.std.specs.Prelude.{◌≡◌, [], ◌<◌, ◌^◌, IfErr, IfOk, IsTrue, length, slice_index};
 ghost use Rattle.std.specs.List.{position_from};
 ghost use Rattle.std.specs.Str.{bytes_eq};
 ghost use Rattle.cg_cell.specs.Expr.{is_over, term_of};
 ghost use Rattle.cg_cell.specs.Term.{Term, is_within};
 ghost use Rattle.cg_expression.specs.Faults.{IsFirstExprFault};
 ghost use Rattle.cg_expression.specs.Grammar.{ExprText};
-ghost use Rattle.cg_expression.specs.Reading.{begin, closed, constant, finish, go_on, complete, leaf};
+ghost use Rattle.cg_expression.specs.Reading.{begin, Expects, closed, constant, finish, go_on, complete, leaf};
 ghost use Rattle.cg_expression.specs.Reading.{opened, or_end, read_text, step, variable, Bracket, Inversion};
 ghost use Rattle.cg_expression.specs.inner.TokensSeen.{token_of};
 ghost use Rattle.cg_expression.specs.Reads.{ExprOrNoMemory, mode_of};
@@ -23,9 +23,24 @@ use std::alloc::Global;
 
 /// Where a reading stands: the operand that may be complete, where there is one, and what waits before it.
 #[derive(Drop)]
-struct Reading {
-    operand: Option<Expr>,
-    stack: Stack,
+pub struct Reading {
+    /// The operand that may be complete.
+    pub operand: Option<Expr>,
+
+    /// What waits before it.
+    pub stack: Stack,
+}
+
+impl Reading {
+    /// Nothing is read yet.
+    pub fn new(alloc: Global) -> Reading
+        ensures { mode_of result.operand result.stack ≡ Expects [] }
+    {
+        Reading {
+            operand: None,
+            stack: Stack::new(alloc),
+        }
+    }
 }
 
 /// Reads an expression as Liberty writes it, over the pins, which are its variables in their order.
@@ -56,10 +71,7 @@ fn read(alloc: Global, text: &[u8], pins: &[Name]) -> Result<Expr, ExprFault>
     ensures { ExprOrNoMemory term_of result (read_text pins.now text.now) }
 {
     let mut tokens = Tokens::new(text);
-    let mut reading = Reading {
-        operand: None,
-        stack: Stack::new(alloc),
-    };
+    let mut reading = Reading::new(alloc);
     'tokens: while let Some(token) = tokens.next() {
         match after(alloc, pins, reading, token) {
             Ok(next) => reading = next,
@@ -70,7 +82,7 @@ fn read(alloc: Global, text: &[u8], pins: &[Name]) -> Result<Expr, ExprFault>
 }
 
 /// The reading behind one more token.
-fn after(
+pub fn after(
     alloc: Global,
     pins: &[Name],
     reading: Reading,
@@ -154,7 +166,7 @@ fn word_leaf(pins: &[Name], at: usize, word: &[u8]) -> Result<Expr, ExprFault>
 }
 
 /// The first byte, or 0 where there is none.
-fn first_byte(word: &[u8]) -> u8
+pub fn first_byte(word: &[u8]) -> u8
     ensures { result ≡ slice_index word.now 0 }
 {
     match word.first() {
@@ -266,7 +278,7 @@ fn close(alloc: Global, operand: Expr, stack: Stack, at: usize) -> Result<Readin
 }
 
 /// The end of the text, which has that many bytes.
-fn end(alloc: Global, reading: Reading, length: usize) -> Result<Expr, ExprFault>
+pub fn end(alloc: Global, reading: Reading, length: usize) -> Result<Expr, ExprFault>
     ensures { ExprOrNoMemory term_of result (finish length (mode_of reading.operand reading.stack)) }
 {
     let Reading { operand, stack } = reading;

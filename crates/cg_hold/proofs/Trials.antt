@@ -24,7 +24,7 @@ use Rattle.cg_hold.specs.declared.choice.Choice.{Choice}
 use Rattle.cg_hold.specs.declared.choice.Choice.TheVariants.{Wide, Takes}
 use Rattle.cg_hold.specs.declared.trial.Trial.{Trial}
 use Rattle.cg_hold.specs.declared.trial.Trial.TheVariants.{TooWide, Serves, Fails}
-use Rattle.cg_hold.specs.inner.Choosing.{IsLiteralOf, choice_by, refused_trial, trial_of}
+use Rattle.cg_hold.specs.inner.Choosing.{IsLiteralOf, IsRoom, choice_by, refused_room, refused_trial, trial_of}
 
 -- the literals from a place on
 pub drop_at : (ls : List Literal) (i : ℕ) (l : Literal) → slice_get ls i ≡ Some l → drop i ls ≡ l ∷ drop (i + 1) ls
@@ -179,6 +179,20 @@ refused_is widths m good r l of width ClaimMemory is = inl refl
 
 abbrev pub okay : Choice → Result Choice AddFault
 okay choice = Ok choice
+
+-- what is known of the hold claims of a register where one is refused
+pub refused_room_is : HoldWidthsAreOne → (m : MachineData) → IsMachine m → (r : ℕ) (l : Literal) → IsLiteralOf m r l → (width : ℕ) (fault : ClaimFault) → IsRefused m (hold_question l r) width fault → IsRoom m width r (refused_room fault)
+refused_room_is widths m good r l of width (WideFault n) is = is_wide widths m good r l of width n is.0 is.1
+refused_room_is widths m good r l of width (ClaimLimit which) is = tt
+refused_room_is widths m good r l of width ClaimMemory is = tt
+
+-- where they are too wide, so much comes of the register, whatever its literals
+pub all_wide : (m : MachineData) (width r : ℕ) (ls : List Literal) → nat_lt width (hold_width m r) ≡ true → choice_by m width r ls ≡ Ok Wide
+all_wide m width r ls wide = go (nat_lt width (hold_width m r)) wide
+  where
+    go : (b : Bool) → b ≡ true → (if b then Ok Wide else if list_any (λ l. is_large m (hold_question l r)) (up_to (serves m r) ls) then Err (LimitFault ClaimNodes) else Ok (Takes (find (serves m r) ls))) ≡ okay Wide
+    go true is = refl
+    go false is = absurd (cc)
 
 pub no_literals : (xs : List Literal) (n : ℕ) (b : Bool) → n ≡ length xs → b ≡ nat_eq n 0 → b ≡ true → xs ≡ []
 no_literals [] n b long is empty = refl

@@ -1,3 +1,4 @@
 pub mod Choosing
 pub mod Cycles
+pub mod Known
 pub mod Packed

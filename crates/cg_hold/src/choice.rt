@@ -1,8 +1,8 @@
 //! The literal that a register takes.
 
-ghost use Rattle.std.specs.Prelude.{◌≡◌, ◌<◌, ℕ, Some, None, if◌then◌else◌, length, nat_lt, slice_get};
+ghost use Rattle.std.specs.Prelude.{◌≡◌, ◌<◌, ℕ, Some, None, true, if◌then◌else◌, length, nat_lt, slice_get};
 ghost use Rattle.std.specs.Option.{option_copied};
-ghost use Rattle.cg_hold.specs.inner.Choosing.{IsLiteralOf, choice_by};
+ghost use Rattle.cg_hold.specs.inner.Choosing.{HasRoom, IsLiteralOf, choice_by};
 ghost use Rattle.cg_hold.specs.inner.Cycles.{AreCycles};
 ghost use Rattle.cg_limit.specs.Answers.{OrNoMemory};
 ghost use Rattle.cg_lists.specs.Literals.{FitsIdle, literals_of};
@@ -12,7 +12,7 @@ ghost use Rattle.cg_netlist.specs.declared.fault.AddFault.TheVariants.{NoMemory}
 
 use crate::cycles::Cycles;
 use crate::literals::literals_of;
-use crate::trial::{Trial, Trier};
+use crate::trial::{Trial, Trier, is_ample, is_too_wide};
 use cg_lists::idle::Idle;
 use cg_machine::machine::Machine;
 use cg_machine::stage::NetLit;
@@ -47,13 +47,48 @@ pub(crate) fn choose(
     ensures { OrNoMemory NoMemory (λ choice. choice) result (choice_by machine.now width reg (literals_of machine.now (option_copied idle.entry) reg)) }
 {
     let _netlist = machine.netlist();
-    let Ok(literals) = literals_of(alloc, machine, reg, idle) else {
+    let room = trier.measure(machine, reg, width);
+    if is_too_wide(room) {
+        return Ok(Choice::Wide);
+    }
+    choose_by_literals(
+        alloc,
+        trier,
+        machine,
+        cycles,
+        reg,
+        width,
+        idle,
+        is_ample(room),
+    )
+}
+
+/// The same by the literals of the register, none of which is refused where there is room.
+fn choose_by_literals(
+    alloc: Global,
+    trier: &mut Trier,
+    machine: &Machine,
+    cycles: &Cycles,
+    reg: RegId,
+    width: u32,
+    idle: Option<&Idle<'_>>,
+    room: bool,
+) -> Result<Choice, AddFault>
+    requires register { reg < machine.now.own_registers }
+    requires free { enable_of machine.now reg ≡ None }
+    requires idle { FitsIdle machine.now (option_copied idle) }
+    requires cycles { AreCycles machine.now cycles.now.cycles }
+    requires room { room ≡ true → HasRoom machine.now width reg }
+    ensures { OrNoMemory NoMemory (λ choice. choice) result (choice_by machine.now width reg (literals_of machine.now (option_copied idle.entry) reg)) }
+{
+    let _netlist = machine.netlist();
+    let Ok(literals) = literals_of(alloc, machine, reg, idle, &mut trier.finder) else {
         return Err(AddFault::NoMemory);
     };
     if literals.is_empty() {
         return Ok(without_literals(width));
     }
-    first_that_serves(trier, machine, cycles, &literals, reg, width)
+    first_that_serves(trier, machine, cycles, &literals, reg, width, room)
 }
 
 /// What comes of a register without literals: its claims have one leaf, its own bit.
@@ -75,14 +110,15 @@ fn first_that_serves(
     literals: &[NetLit],
     reg: RegId,
     width: u32,
+    room: bool,
 ) -> Result<Choice, AddFault>
     requires register { reg < machine.now.own_registers }
     requires nets { (k : ℕ) (l : Literal) → slice_get literals.now k ≡ Some l → IsLiteralOf machine.now reg l }
     requires some { 0 < length literals.now }
     requires cycles { AreCycles machine.now cycles.now.cycles }
+    requires room { room ≡ true → HasRoom machine.now width reg }
     ensures { OrNoMemory NoMemory (λ choice. choice) result (choice_by machine.now width reg literals.now) }
 {
-    let room = trier.has_room(machine, literals[0], reg, width);
     for literal in literals {
         match trier.settle(machine, cycles, room, *literal, reg, width)? {
             Trial::TooWide => return Ok(Choice::Wide),

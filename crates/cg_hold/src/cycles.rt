@@ -19,7 +19,7 @@ use cg_netlist::id::RegId;
 use std::alloc::{AllocError, Global};
 
 // How many cycles there are. Each takes a place for each net.
-const CYCLES: u32 = 64;
+const CYCLES: u32 = 24;
 
 // Where the pseudo-random numbers begin: any number but 0 (xorshift, Marsaglia 2003).
 const SEED: u64 = 0x9e37_79b9_7f4a_7c15;
@@ -143,7 +143,7 @@ impl Cycle {
 }
 
 /// That many zeros.
-fn zeros(alloc: Global, count: usize) -> Result<Vec<bool>, AllocError>
+pub(crate) fn zeros(alloc: Global, count: usize) -> Result<Vec<bool>, AllocError>
     ensures { IfOk result (λ bits. length bits.items ≡ count) }
 {
     vec![in alloc; false; count]

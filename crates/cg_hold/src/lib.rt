@@ -7,6 +7,7 @@
 //!
 //! - `literals`: the literals of a register in the order in which they are tried.
 //! - `cycles`: a few cycles with random bits, which settle most literals.
+//! - `known`: leaf bits at which goals were 1.
 //! - `trial`: what comes of one literal, by the cycles and by its claims.
 //! - `choice`: the literal that a register takes.
 //! - `chosen`: the registers that took each literal.
@@ -17,5 +18,6 @@ pub mod candidates;
 mod choice;
 mod chosen;
 mod cycles;
+mod known;
 mod literals;
 mod trial;

@@ -13,8 +13,7 @@ use cg_lists::idle::Idle;
 use cg_machine::machine::Machine;
 use cg_machine::stage::NetLit;
 use cg_netlist::id::{NetId, RegId};
-use cg_support::cone::cone;
-use indexmap::IndexSet;
+use cg_support::finder::SupportFinder;
 use std::alloc::{AllocError, Global};
 
 // More than the places of all literals: two for each net that a netlist may have.
@@ -27,12 +26,13 @@ pub(crate) fn literals_of(
     machine: &Machine,
     reg: RegId,
     idle: Option<&Idle<'_>>,
+    finder: &mut SupportFinder,
 ) -> Result<Vec<NetLit>, AllocError>
     requires register { reg < machine.now.own_registers }
     requires idle { FitsIdle machine.now (option_copied idle) }
     ensures { IfOk result (λ literals. literals.items ≡ literals_of machine.now (option_copied idle.entry) reg) }
 {
-    let nets = nets_of(alloc, machine, reg)?;
+    let nets = nets_of(machine, reg, finder)?;
     match idle {
         Some(idle) => ranked(alloc, machine, &nets, idle),
         None => both(alloc, &nets),
@@ -40,25 +40,18 @@ pub(crate) fn literals_of(
 }
 
 /// The nets of the cone of a register's inputs, in net order.
-fn nets_of(alloc: Global, machine: &Machine, reg: RegId) -> Result<Vec<u32>, AllocError>
+fn nets_of(
+    machine: &Machine,
+    reg: RegId,
+    finder: &mut SupportFinder,
+) -> Result<Vec<u32>, AllocError>
     requires { reg < machine.now.own_registers }
     ensures { IfOk result (λ nets. nets.items ≡ in_net_order machine.now (input_cone machine.now reg)) }
 {
     let netlist = machine.netlist();
     let _registers = netlist.registers();
-    let found = cone(alloc, machine, netlist.register(reg).inputs)?;
-    Ok(rising(numbers_of(alloc, &found)?))
-}
-
-/// The numbers of a set.
-fn numbers_of(alloc: Global, found: &IndexSet<u32>) -> Result<Vec<u32>, AllocError>
-    ensures { IfOk result (λ numbers. numbers.items ≡ found.now.keys) }
-{
-    let mut numbers = Vec::new(alloc);
-    for place in 0..found.len() {
-        numbers.push(found[place])?;
-    }
-    Ok(numbers)
+    let found = finder.cone(machine, netlist.register(reg).inputs)?;
+    Ok(rising(found))
 }
 
 /// Each net plain and then inverted.

@@ -1,19 +1,23 @@
 //! What comes of one literal, by its claims.
 
-ghost use Rattle.std.specs.Prelude.{◌≡◌, ◌<◌, ◌+◌, ◌∷◌, [], ℕ, true, if◌then◌else◌, IsTrue, IfOk, MatchResult, length};
+ghost use Rattle.std.specs.Prelude.{◌≡◌, ◌<◌, ◌+◌, ◌∷◌, [], ℕ, true, if◌then◌else◌, IsTrue, IfOk, MatchResult, length, nat_lt};
 ghost use Rattle.cg_aig.specs.Aig.{aig_ops};
 ghost use Rattle.cg_claim.specs.LeafBits.{is_never};
 ghost use Rattle.cg_claim.specs.Question.{Question, hold_question, idle_question};
 ghost use Rattle.cg_claim.specs.Violates.{SidesFit};
-ghost use Rattle.cg_hold.specs.inner.Choosing.{HasRoom, IdleFits, IsLiteralOf, refused_trial, trial_of};
+ghost use Rattle.cg_hold.specs.inner.Choosing.{HasRoom, IdleFits, IsLiteralOf, IsRoom, refused_room, refused_trial, trial_of};
 ghost use Rattle.cg_hold.specs.inner.Cycles.{AreCycles};
+ghost use Rattle.cg_hold.specs.inner.Known.{IsEverOne};
 ghost use Rattle.cg_limit.specs.Answers.{OrNoMemory};
 ghost use Rattle.cg_lists.specs.HoldList.{serves};
 ghost use Rattle.cg_machine.specs.Machine.{IsMachine, MachineData};
+ghost use Rattle.cg_limit.specs.declared.TheConstants.{MOST_CLAIM_NODES};
+ghost use Rattle.cg_netlist.specs.Circuit.{is_in};
 ghost use Rattle.cg_netlist.specs.declared.fault.AddFault.TheVariants.{NoMemory};
 ghost use Rattle.cg_unroll.specs.Claims.{IsClaim};
 
 use crate::cycles::Cycles;
+use crate::known::Known;
 use cg_aig::Aig;
 use cg_claim::laws::claim_laws;
 use cg_decide::{Decider, Decision};
@@ -22,7 +26,8 @@ use cg_lists::laws::list_laws;
 use cg_machine::machine::Machine;
 use cg_machine::stage::NetLit;
 use cg_netlist::fault::AddFault;
-use cg_netlist::id::RegId;
+use cg_netlist::id::{NetId, RegId};
+use cg_support::finder::SupportFinder;
 use cg_unroll::claim::ClaimFault;
 use cg_unroll::unroller::Unroller;
 use std::alloc::{AllocError, Global};
@@ -40,34 +45,72 @@ pub(crate) enum Trial {
     Fails,
 }
 
+/// What is known of the hold claims of a register.
+#[derive(Clone, Copy)]
+pub(crate) enum Room {
+    /// They are too wide.
+    TooWide,
+
+    /// None of them is refused.
+    Ample,
+
+    /// Nothing.
+    Unknown,
+}
+
 /// What tries literals one after another, in buffers that are kept.
 #[derive(Drop)]
 pub(crate) struct Trier {
+    /// What finds the literals.
+    pub finder: SupportFinder,
+
     unroller: Unroller,
     decider: Decider,
+    known: Known,
 }
 
 impl Trier {
     /// With empty buffers.
     pub fn new(alloc: Global) -> Trier {
         Trier {
+            finder: SupportFinder::new(alloc),
             unroller: Unroller::new(alloc),
             decider: Decider::new(alloc),
+            known: Known::new(alloc),
         }
     }
 
-    /// Whether the hold claim of a literal of the cone of a register's inputs is so much below its limits that none of this
-    /// register is refused.
-    pub fn has_room(&mut self, machine: &Machine, literal: NetLit, reg: RegId, width: u32) -> bool
+    /// What is known of the hold claims of a register by that of its first input: they are equally wide, and differ by one
+    /// and-node at most.
+    pub fn measure(&mut self, machine: &Machine, reg: RegId, width: u32) -> Room
+        requires { reg < machine.now.own_registers }
+        ensures { IsRoom machine.now width reg result }
+    {
+        let netlist = machine.netlist();
+        let _registers = netlist.registers();
+        let register = netlist.register(reg);
+        if register.inputs.is_empty() {
+            return Room::Unknown;
+        }
+        let net = first(register.inputs);
+        let literal = NetLit {
+            net,
+            inverted: false,
+        };
+        self.measure_by(machine, literal, reg, width)
+    }
+
+    /// The same by the claim of a literal of the cone of the register's inputs.
+    fn measure_by(&mut self, machine: &Machine, literal: NetLit, reg: RegId, width: u32) -> Room
         requires register { reg < machine.now.own_registers }
         requires literal { IsLiteralOf machine.now reg literal }
-        ensures { result ≡ true → HasRoom machine.now width reg }
+        ensures { IsRoom machine.now width reg result }
     {
         list_laws();
         let _netlist = machine.netlist();
         match self.unroller.hold(machine, literal, reg, width) {
-            Ok(()) => nodes(self.unroller.aig()) < MOST_CLAIM_NODES,
-            Err(_) => false,
+            Ok(()) => room_of(nodes(self.unroller.aig())),
+            Err(fault) => refused_room(fault),
         }
     }
 
@@ -180,13 +223,29 @@ impl Trier {
             → never ≡ is_never m q) }
     {
         claim_laws();
-        match self
-            .decider
-            .decide(self.unroller.aig(), self.unroller.goal())?
-        {
-            Decision::Never(_, _) => Ok(true),
-            Decision::Sometimes(_) => Ok(false),
+        let known = self.is_known()?;
+        if known {
+            return Ok(false);
         }
+        let decision = self
+            .decider
+            .decide(self.unroller.aig(), self.unroller.goal())?;
+        match decision {
+            Decision::Never(_, _) => Ok(true),
+            Decision::Sometimes(bits) => {
+                self.known.keep(bits);
+                Ok(false)
+            }
+        }
+    }
+
+    /// Whether bits that are kept violate the claim that was built last.
+    fn is_known(&self) -> Result<bool, AllocError>
+        requires { IsTrue (aig_ops.is_valid self.now.unroller.aig self.now.unroller.goal) }
+        ensures { IfOk result (λ known. known ≡ true → IsEverOne self.now.unroller.aig self.now.unroller.goal) }
+    {
+        self.known
+            .violate(self.unroller.aig(), self.unroller.goal())
     }
 }
 
@@ -195,6 +254,56 @@ fn nodes(aig: &Aig) -> u32
     ensures { result ≡ aig.now.number + length aig.now.pairs }
 {
     aig.leaves() + aig.ands()
+}
+
+/// The first of these nets.
+fn first(nets: &[NetId]) -> NetId
+    requires { 0 < length nets.now }
+    ensures { is_in nets.now result ≡ true }
+{
+    nets[0]
+}
+
+/// What is known of the hold claims of a register where one of them has so many leaves and and-nodes.
+fn room_of(nodes: u32) -> Room
+    ensures { result ≡ (if nat_lt nodes MOST_CLAIM_NODES then Room.Ample else Room.Unknown) }
+{
+    if nodes < MOST_CLAIM_NODES {
+        Room::Ample
+    } else {
+        Room::Unknown
+    }
+}
+
+/// What is known of the hold claims of a register where one of them is refused so.
+fn refused_room(fault: ClaimFault) -> Room
+    ensures { result ≡ refused_room fault }
+{
+    match fault {
+        ClaimFault::Wide(_) => Room::TooWide,
+        ClaimFault::Limit(_) => Room::Unknown,
+        ClaimFault::NoMemory => Room::Unknown,
+    }
+}
+
+/// Whether the hold claims of a register are known to be too wide.
+pub(crate) fn is_too_wide(room: Room) -> bool
+    ensures { result ≡ true → room ≡ Room.TooWide }
+{
+    match room {
+        Room::TooWide => true,
+        _ => false,
+    }
+}
+
+/// Whether it is known that no hold claim of a register is refused.
+pub(crate) fn is_ample(room: Room) -> bool
+    ensures { result ≡ true → room ≡ Room.Ample }
+{
+    match room {
+        Room::Ample => true,
+        _ => false,
+    }
 }
 
 /// What comes of a literal whose hold claim is refused so.

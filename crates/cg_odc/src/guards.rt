@@ -8,7 +8,7 @@ use crate::guard::guard_of;
 use cg_list::Seq;
 use cg_machine::machine::Machine;
 use cg_netlist::id::RegId;
-use cg_support::support::support_of;
+use cg_support::finder::SupportFinder;
 use std::alloc::{AllocError, Global};
 
 /// The guards of the registers of a netlist, by the numbers of both; a guard may stand there more than once.
@@ -24,9 +24,10 @@ impl Guards {
         ensures { IfOk result (λ guards. AreGuards machine.now machine.now.own_registers guards.lists.items) }
     {
         let netlist = machine.netlist();
+        let mut finder = SupportFinder::new(alloc);
         let mut guards = Guards::none(alloc, netlist.registers())?;
         for reg in 0..netlist.registers() {
-            guards.note(alloc, machine, RegId::new(reg))?;
+            guards.note(machine, RegId::new(reg), &mut finder)?;
         }
         Ok(guards)
     }
@@ -43,12 +44,17 @@ impl Guards {
     }
 
     /// Notes the guard of what a register stands on, where there is one.
-    fn note(&mut self, alloc: Global, machine: &Machine, reg: RegId) -> Result<(), AllocError>
+    fn note(
+        &mut self,
+        machine: &Machine,
+        reg: RegId,
+        finder: &mut SupportFinder,
+    ) -> Result<(), AllocError>
         requires { reg < machine.now.own_registers }
         ensures { OnOk result (AreGuards machine.now reg self.old.lists.items → AreGuards machine.now (reg + 1) self.new.lists.items) }
     {
         if let Some(guard) = guard_of(machine, reg) {
-            let support = support_of(alloc, machine, reg)?;
+            let support = finder.support_of(machine, reg)?;
             self.spread(support.registers.as_slice(), reg, guard)?;
         }
         Ok(())

@@ -2,19 +2,15 @@
 
 use std::alloc::{AllocError, AllocFailed, Global};
 use std::marker::Model;
-use thiserror::Error;
 
 /// Why [`Shelf::load`](crate::Shelf::load) gave no bytes.
-#[derive(Clone, Copy, Debug, PartialEq, Eq, Error)]
+#[derive(Clone, Copy, Debug, PartialEq, Eq)]
 pub enum LoadFault {
     /// The call failed; the shelf recorded it.
-    #[error("the file could not be read")]
     Failed,
     /// The file is longer than the caller's limit.
-    #[error("the file is too long")]
     TooLong,
     /// There was no memory for the bytes.
-    #[error("no memory")]
     NoMemory,
 }
 
@@ -30,13 +26,11 @@ impl From<AllocError> for LoadFault {
 }
 
 /// Why a call that puts bytes out gave up.
-#[derive(Clone, Copy, Debug, PartialEq, Eq, Error)]
+#[derive(Clone, Copy, Debug, PartialEq, Eq)]
 pub enum StoreFault {
     /// The call failed; the shelf recorded it.
-    #[error("the bytes could not be written")]
     Failed,
     /// There was no memory.
-    #[error("no memory")]
     NoMemory,
 }
 

@@ -14,7 +14,8 @@ use cg_groups::key::Key;
 use cg_groups::order::rising;
 use cg_machine::machine::Machine;
 use cg_netlist::id::RegId;
-use cg_support::support::{Support, support_of};
+use cg_support::finder::SupportFinder;
+use cg_support::support::Support;
 use std::alloc::{AllocError, Global};
 
 /// The key of a register: the enables of the registers that it stands on, in net order, and its own enable. It has none
@@ -23,12 +24,13 @@ pub(crate) fn key_of(
     alloc: Global,
     machine: &Machine,
     reg: RegId,
+    finder: &mut SupportFinder,
 ) -> Result<Option<Key>, AllocError>
     requires { reg < machine.now.own_registers }
     ensures { IfOk result (λ key. option_map key_seen key ≡ stable_key machine.now reg) }
 {
     let _netlist = machine.netlist();
-    let support = support_of(alloc, machine, reg)?;
+    let support = finder.support_of(machine, reg)?;
     let registers = support.registers.as_slice();
     if !has_key(machine, reg, &support) {
         return Ok(None);

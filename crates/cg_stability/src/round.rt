@@ -15,6 +15,7 @@ use cg_groups::leaving::take_out;
 use cg_machine::machine::Machine;
 use cg_machine::stage::{Earlier, NetLit, Stage, StageKind};
 use cg_netlist::id::{NetId, RegId};
+use cg_support::finder::SupportFinder;
 use std::alloc::{AllocError, Global};
 
 /// The keys of all registers of a machine's netlist, each at its place.
@@ -22,9 +23,10 @@ pub(crate) fn keys_of(alloc: Global, machine: &Machine) -> Result<Vec<Option<Key
     ensures { IfOk result (λ keys. AreKeys machine.now keys.items) }
 {
     let netlist = machine.netlist();
+    let mut finder = SupportFinder::new(alloc);
     let mut keys = Vec::new(alloc);
     for reg in 0..netlist.registers() {
-        let key = key_of(alloc, machine, RegId::new(reg))?;
+        let key = key_of(alloc, machine, RegId::new(reg), &mut finder)?;
         keys.push(key)?;
     }
     Ok(keys)

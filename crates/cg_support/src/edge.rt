@@ -9,18 +9,13 @@ use crate::support::Support;
 use cg_list::Seq;
 use cg_machine::machine::Machine;
 use cg_netlist::driver::Driver;
-use cg_netlist::id::NetId;
-use indexmap::IndexSet;
+use cg_netlist::net_set::NetSet;
 use std::alloc::{AllocError, Global};
 
 /// Whether a data input is among these nets of a machine's netlist, and the registers that show their bits at one.
-pub(crate) fn edge(
-    alloc: Global,
-    machine: &Machine,
-    nets: &IndexSet<u32>,
-) -> Result<Support, AllocError>
-    requires { AreOwn machine.now nets.now.keys }
-    ensures { IfOk result (IsEdge machine.now nets.now.keys) }
+pub(crate) fn edge(alloc: Global, machine: &Machine, nets: &NetSet) -> Result<Support, AllocError>
+    requires { AreOwn machine.now nets.now }
+    ensures { IfOk result (IsEdge machine.now nets.now) }
 {
     let netlist = machine.netlist();
     let mut support = Support {
@@ -28,7 +23,7 @@ pub(crate) fn edge(
         registers: Seq::new(alloc),
     };
     for place in 0..nets.len() {
-        let net = NetId::new(nets[place]);
+        let net = nets.net(place);
         note(netlist.driver(net), &mut support)?;
     }
     Ok(support)

@@ -8,8 +8,10 @@
 //! - `cone`: the nets from which logic cells lead to some nets.
 //! - `edge`: what drives the nets of a cone from outside.
 //! - `support`: the support of a register.
+//! - `finder`: what finds cones and supports, one after another.
 #![tactic(auto)]
 
-pub mod cone;
+mod cone;
 mod edge;
+pub mod finder;
 pub mod support;

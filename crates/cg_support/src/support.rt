@@ -1,6 +1,6 @@
 //! The support of a register.
 
-ghost use Rattle.std.specs.Prelude.{◌≡◌, ◌<◌, ℕ, Some, false, length, slice_get, IfOk};
+ghost use Rattle.std.specs.Prelude.{◌≡◌, ◌<◌, ℕ, [], Some, false, length, slice_get, IfOk};
 ghost use Rattle.std.specs.List.{count_by};
 ghost use Rattle.std.specs.Option.{option_map_or};
 ghost use Rattle.cg_cell.specs.Pins.{is_data};
@@ -15,6 +15,7 @@ use cg_cell::cell::CellType;
 use cg_list::Seq;
 use cg_machine::machine::Machine;
 use cg_netlist::id::RegId;
+use cg_netlist::net_set::NetSet;
 use cg_netlist::netlist::Netlist;
 use cg_netlist::view::RegKind;
 use std::alloc::{AllocError, Global};
@@ -29,15 +30,21 @@ pub struct Support {
     pub registers: Seq<RegId>,
 }
 
-/// The support of a register of a machine's netlist.
-pub fn support_of(alloc: Global, machine: &Machine, reg: RegId) -> Result<Support, AllocError>
-    requires { reg < machine.now.own_registers }
+/// The support of a register of a machine's netlist, with an empty set for the nets that are found.
+pub(crate) fn support_of(
+    alloc: Global,
+    machine: &Machine,
+    reg: RegId,
+    found: &mut NetSet,
+) -> Result<Support, AllocError>
+    requires empty { found.old ≡ [] }
+    requires register { reg < machine.now.own_registers }
     ensures { IfOk result (IsSupport machine.now reg) }
 {
     let netlist = machine.netlist();
     let _registers = netlist.registers();
-    let cone = cone(alloc, machine, netlist.register(reg).inputs)?;
-    let mut support = edge(alloc, machine, &cone)?;
+    cone(machine, netlist.register(reg).inputs, found)?;
+    let mut support = edge(alloc, machine, found)?;
     if reads_own(netlist, reg) {
         support.registers.push(reg)?;
     }

@@ -19,6 +19,8 @@ use Rattle.cg_unroll.specs.declared.claim.ClaimFault.{ClaimFault}
 use Rattle.cg_unroll.specs.declared.claim.ClaimFault.TheVariants.{Wide as WideFault, Limit as ClaimLimit, NoMemory as ClaimMemory}
 use Rattle.cg_hold.specs.declared.choice.Choice.{Choice}
 use Rattle.cg_hold.specs.declared.choice.Choice.TheVariants.{Wide, Takes}
+use Rattle.cg_hold.specs.declared.trial.Room.{Room}
+use Rattle.cg_hold.specs.declared.trial.Room.TheVariants.{TooWide as RoomTooWide, Ample, Unknown}
 use Rattle.cg_hold.specs.declared.trial.Trial.{Trial}
 use Rattle.cg_hold.specs.declared.trial.Trial.TheVariants.{TooWide, Serves, Fails}
 use Rattle.cg_hold.specs.inner.Packed.{literal_place}
@@ -30,6 +32,18 @@ IsLiteralOf m r l = (is_in (input_cone m r) l.0 ≡ true) × (l.0 < length m.cir
 -- no hold claim of a register is refused
 abbrev pub HasRoom : MachineData → ℕ → ℕ → Type 0
 HasRoom m width r = (nat_lt width (hold_width m r) ≡ false) × ((l : Literal) → IsLiteralOf m r l → is_large m (hold_question l r) ≡ false)
+
+-- what is known of the hold claims of a register
+abbrev pub IsRoom : MachineData → ℕ → ℕ → Room → Type 0
+IsRoom m width r RoomTooWide = nat_lt width (hold_width m r) ≡ true
+IsRoom m width r Ample = HasRoom m width r
+IsRoom m width r Unknown = Unit {0}
+
+-- what is known of them where one is refused so
+abbrev pub refused_room : ClaimFault → Room
+refused_room (WideFault n) = RoomTooWide
+refused_room (ClaimLimit which) = Unknown
+refused_room ClaimMemory = Unknown
 
 -- the claim that a literal can be 0 has no more leaves and and-nodes than a claim may have
 abbrev pub IdleFits : MachineData → Literal → Type 0

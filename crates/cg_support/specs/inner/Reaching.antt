@@ -5,14 +5,6 @@ use Rattle.cg_machine.specs.Added.{own_netlist}
 use Rattle.cg_machine.specs.Machine.{MachineData}
 use Rattle.cg_netlist.specs.Circuit.{LogicCell, is_in}
 
--- nets with one more, and with more of them, each once
-abbrev pub with_net : List ℕ → ℕ → List ℕ
-with_net found x = if is_in found x then found else found ++ x ∷ []
-
-abbrev pub with_nets : List ℕ → List ℕ → List ℕ
-with_nets found [] = found
-with_nets found (x ∷ xs) = with_nets (with_net found x) xs
-
 -- all are nets of the machine's netlist
 abbrev pub AreOwn : MachineData → List ℕ → Type 0
 AreOwn m nets = (y : ℕ) → is_in nets y ≡ true → y < length (own_netlist m).names

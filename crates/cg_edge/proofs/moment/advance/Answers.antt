@@ -66,3 +66,6 @@ returns-clause-rose c =
 
 pub returns-clause-marked : goal.returns-clause-marked
 returns-clause-marked c = marked_all c.args.netlist.now c.requires.netlist.well_formed c.args.readers.now c.settle.new.marks c.settle.new.nets c.settle.ensures.holds
+
+pub returns-clause-long : goal.returns-clause-long
+returns-clause-long c = c.settle.ensures.long ∙ (c.put_registers.ensures.long ∙ c.put_inputs.ensures.long)

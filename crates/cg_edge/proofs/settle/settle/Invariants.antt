@@ -1,7 +1,11 @@
-use Rattle.std.proofs.Common.{◌≡◌, length}
+use Rattle.std.proofs.Common.{◌≡◌, ◌-◌, length}
 use Rattle.cg_netlist.specs.Circuit.{cell_nets}
 use Rattle.cg_edge.specs.inner.Keeping.{AreSettled, SameBut, walk_of}
 use Rattle.cg_edge.proofs.settle.settle.Given as goal
 
-abbrev pub invariant-loop-place : goal.invariant-loop-place
-invariant-loop-place l = AreSettled (walk_of l.netlist) l.place l.marks l.nets × SameBut (cell_nets l.netlist) l.fn.nets l.nets × (length l.scratch ≡ length l.fn.scratch)
+abbrev pub invariant-marked : goal.invariant-marked
+invariant-marked l =
+    AreSettled (walk_of l.netlist) l.from l.marks l.nets × SameBut (cell_nets l.netlist) l.fn.nets l.nets × (length l.scratch ≡ length l.fn.scratch) × (length l.marks ≡ length l.fn.marks)
+
+abbrev pub decreases-marked : goal.decreases-marked
+decreases-marked l = length l.marks - l.from

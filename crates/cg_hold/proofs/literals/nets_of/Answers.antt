@@ -23,7 +23,6 @@ returns c =
     let m = c.args.machine.now in
     let cell = register_seen c.register.result in
     let at : slice_get m.circuit.registers c.args.reg ≡ Some cell = take_some m.own_registers m.circuit.registers c.args.reg cell (subst (λ (n : Circuit). slice_get n.registers c.args.reg ≡ Some cell) c.netlist-netlist.ensures.netlist c.register.ensures) in
-    let keys = c.in_ok-found.found.keys in
-    let all : c.in_ok-numbers_of.field-0.items ≡ keys = c.in_ok-numbers_of.ensures in
-    (c.rising.ensures (length m.circuit.names) (λ y among. own_below m y (c.in_ok-found.ensures.own y (ap (λ l. is_in l y) (sym all) ∙ among))))
-    ∙ (ap (λ l. filter (is_in l) (all_nets m)) all ∙ nets_are m c.args.reg cell at keys c.in_ok-found.ensures.cone)
+    let found = c.in_ok-found.found.items in
+    (c.rising.ensures (length m.circuit.names) (λ y among. own_below m y (c.in_ok-found.ensures.own y among)))
+    ∙ nets_are m c.args.reg cell at found c.in_ok-found.ensures.cone

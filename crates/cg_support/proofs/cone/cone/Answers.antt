@@ -1,12 +1,13 @@
 use Rattle.std.proofs.Common.{◌≡◌, [], ◌≤◌, length, sym, ◌∙◌, ap, subst, arith}
-use Rattle.cg_support.specs.inner.Reaching.{IsReached, with_nets}
+use Rattle.cg_netlist.specs.inner.Reaching.{with_nets}
+use Rattle.cg_support.specs.inner.Reaching.{IsReached}
 use Rattle.cg_support.proofs.Reached.{reached_all, reached_first}
 use Rattle.cg_support.proofs.cone.cone.Goals as goal
 
 pub loop-next-init : goal.loop-next-init
 loop-next-init c =
-    let is : c.reach.new.found.keys ≡ with_nets [] c.args.roots.now = c.in_ok-reach.ensures ∙ ap (λ l. with_nets l c.args.roots.now) c.new-found.ensures.empty in
-    subst (IsReached c.args.machine.now c.args.roots.now 0) (sym is) (reached_first c.args.machine.now c.netlist-netlist.ensures.machine c.args.roots.now c.requires)
+    let is : c.extend.new.self ≡ with_nets [] c.args.roots.now = c.in_ok-extend.ensures ∙ ap (λ l. with_nets l c.args.roots.now) c.requires.empty in
+    subst (IsReached c.args.machine.now c.args.roots.now 0) (sym is) (reached_first c.args.machine.now c.netlist-netlist.ensures.machine c.args.roots.now c.requires.own)
 
 pub returns-clause-cone : goal.returns-clause-cone
-returns-clause-cone c = reached_all c.args.machine.now c.netlist-netlist.ensures.machine c.args.roots.now c.loop-next.found.keys c.loop-next.next (omega (arith, c.loop-next-test.false, c.len.ensures.len)) c.loop-next.invariant
+returns-clause-cone c = reached_all c.args.machine.now c.netlist-netlist.ensures.machine c.args.roots.now c.loop-next.found c.loop-next.next (omega (arith, c.loop-next-test.false, c.len.ensures)) c.loop-next.invariant

@@ -12,8 +12,8 @@ use Rattle.cg_support.proofs.Supported.{support_own, support_plain}
 use Rattle.cg_support.proofs.support.support_of.Goals as goal
 use Rattle.cg_support.proofs.support.support_of.Goals.{then-reads_own+in_ok-push, else-reads_own}
 
-pub cone-requires : goal.cone-requires
-cone-requires c = λ y among.
+pub cone-requires-clause-own : goal.cone-requires-clause-own
+cone-requires-clause-own c = λ y among.
     let m = c.args.machine.now in
     let at : slice_get (own_netlist m).registers c.args.reg ≡ Some (register_seen c.register.result) = subst (λ (n : Circuit). slice_get n.registers c.args.reg ≡ Some (register_seen c.register.result)) c.netlist-netlist.ensures.netlist c.register.ensures in
     used_within (own_netlist m) (subst IsNetlist c.netlist-netlist.ensures.netlist c.registers-registers.ensures.netlist) y (data_is_used (own_netlist m) c.args.reg y (register_seen c.register.result) at among)
@@ -24,6 +24,6 @@ returns c =
     let cell = register_seen c.register.result in
     let at : slice_get m.circuit.registers c.args.reg ≡ Some cell = take_some m.own_registers m.circuit.registers c.args.reg cell (subst (λ (n : Circuit). slice_get n.registers c.args.reg ≡ Some cell) c.netlist-netlist.ensures.netlist c.register.ensures) in
     elim c.if-reads_own.branch [
-      | then-reads_own+in_ok-push w ↦ support_own m c.args.reg cell at c.in_ok-cone.cone.keys c.in_ok-cone.ensures.cone c.in_ok-support.support c.in_ok-support.ensures (sym (c.reads_own.ensures cell c.register.ensures) ∙ w.if-reads_own.true) c.if-reads_own.support (ap (λ (s : Support). s.has_input) w.support-is) (ap (λ (s : Support). s.registers) w.support-is ∙ w.in_ok-push.ensures.parts)
-      | else-reads_own w ↦ subst (λ s. IsSupport m c.args.reg s) (sym w.support-is) (support_plain m c.args.reg cell at c.in_ok-cone.cone.keys c.in_ok-cone.ensures.cone c.in_ok-support.support c.in_ok-support.ensures (sym (c.reads_own.ensures cell c.register.ensures) ∙ w.if-reads_own.false))
+      | then-reads_own+in_ok-push w ↦ support_own m c.args.reg cell at c.cone.new.found c.in_ok-cone.ensures.cone c.in_ok-support.support c.in_ok-support.ensures (sym (c.reads_own.ensures cell c.register.ensures) ∙ w.if-reads_own.true) c.if-reads_own.support (ap (λ (s : Support). s.has_input) w.support-is) (ap (λ (s : Support). s.registers) w.support-is ∙ w.in_ok-push.ensures.parts)
+      | else-reads_own w ↦ subst (λ s. IsSupport m c.args.reg s) (sym w.support-is) (support_plain m c.args.reg cell at c.cone.new.found c.in_ok-cone.ensures.cone c.in_ok-support.support c.in_ok-support.ensures (sym (c.reads_own.ensures cell c.register.ensures) ∙ w.if-reads_own.false))
     ]

@@ -1,7 +1,7 @@
-use Rattle.std.proofs.Common.{◌≡◌, false, true, length, replicate, sym, subst, ap, ◌∙◌, arith}
+use Rattle.std.proofs.Common.{◌≡◌, false, length, replicate, sym, subst, ap, ◌∙◌, arith}
 use Rattle.std.proofs.lemmas.List.{length-replicate}
 use Rattle.cg_edge.specs.inner.Flat.{AreLaid}
-use Rattle.cg_edge.specs.inner.Keeping.{AreReaders, walk_of}
+use Rattle.cg_edge.specs.inner.Keeping.{AreMarked, AreReaders, walk_of}
 use Rattle.cg_edge.proofs.GateOrder.{gate_chain}
 use Rattle.cg_edge.proofs.Laid.{order_cells}
 use Rattle.cg_edge.proofs.Ticked.{all_marked}
@@ -10,8 +10,8 @@ use Rattle.cg_edge.proofs.simulator.Simulator.new.Goals as goal
 pub new-requires : goal.new-requires
 new-requires c = order_cells c.args.netlist.now.cells c.order-order.result.now c.order-order.ensures.order
 
-pub invariant_of-result : goal.invariant_of-result
-invariant_of-result c =
+pub invariant_of-result-3 : goal.invariant_of-result-3
+invariant_of-result-3 c =
     let n = c.args.netlist.now in
     let good = c.nets-nets.ensures.netlist in
     let room : length c.in_ok-bits-5.field-0.items ≡ c.widest-room.result = ap length c.in_ok-bits-5.ensures ∙ length-replicate c.widest-room.result false in
@@ -27,8 +27,8 @@ invariant_of-result c =
       state_long = ap length c.in_ok-from_slice-2.ensures.items ∙ c.requires;
       latches_long = ap length c.in_ok-bits-3.ensures ∙ (length-replicate c.gaters-gaters.result false ∙ c.gaters-gaters.ensures.count);
       rose_long = ap length c.in_ok-bits-4.ensures ∙ (length-replicate c.registers-registers.result false ∙ c.registers-registers.ensures.count);
-      marks_long = ap length c.in_ok-marks.ensures ∙ length-replicate (length c.order-order.result.now) true;
-      marked = all_marked n good c.order-order.result.now c.in_ok-marks.marks.items c.in_ok-bits.field-0.items c.order-order.ensures.order c.in_ok-marks.ensures;
+      marks_long = subst (λ ms. length ms ≡ length c.order-order.result.now) (sym c.marks.view_is) c.in_ok-marks.ensures.long;
+      marked = subst (λ ms. AreMarked (walk_of n) ms c.in_ok-bits.field-0.items) (sym c.marks.view_is) (all_marked n good c.order-order.result.now c.in_ok-marks.marks c.in_ok-bits.field-0.items c.order-order.ensures.order c.in_ok-marks.ensures.all);
       room = omega (arith, room, c.widest-room.ensures);
       first = λ none. (c.in_ok-from_slice-2.ensures.items ∙ sym c.in_ok-from_slice.ensures.items, c.in_ok-bits-3.ensures ∙ ap (λ k. replicate k false) c.gaters-gaters.ensures.count, c.in_ok-bits-4.ensures ∙ ap (λ k. replicate k false) c.registers-registers.ensures.count);
     }

@@ -17,10 +17,9 @@ invariant_of-self c =
     let state : (with_items s.state c.advance.new.state).items ≡ c.advance.new.state = with_items_is s.state c.advance.new.state (c.advance.auto.state ∙ c.deref_mut-3.ensures.len) in
     let latches : (with_items s.latches c.advance.new.latches).items ≡ c.advance.new.latches = with_items_is s.latches c.advance.new.latches (c.advance.auto.latches ∙ c.deref_mut-4.ensures.len) in
     let rose : (with_items s.rose c.advance.new.rose).items ≡ c.advance.new.rose = with_items_is s.rose c.advance.new.rose (c.advance.auto.rose ∙ c.deref_mut-5.ensures.len) in
-    let marks : (with_items s.marks c.advance.new.marks).items ≡ c.advance.new.marks = with_items_is s.marks c.advance.new.marks (c.advance.auto.marks ∙ c.deref_mut-6.ensures.len) in
-    let scratch : (with_items s.scratch c.advance.new.scratch).items ≡ c.advance.new.scratch = with_items_is s.scratch c.advance.new.scratch (c.advance.auto.scratch ∙ c.deref_mut-7.ensures.len) in
+    let scratch : (with_items s.scratch c.advance.new.scratch).items ≡ c.advance.new.scratch = with_items_is s.scratch c.advance.new.scratch (c.advance.auto.scratch ∙ c.deref_mut-6.ensures.len) in
     let walk = walk_of s.netlist.now in
-    let room : length (with_items s.scratch c.advance.new.scratch).items ≡ length s.scratch.items = ap length scratch ∙ (c.advance.auto.scratch ∙ ap length c.deref_mut-7.ensures.value) in
+    let room : length (with_items s.scratch c.advance.new.scratch).items ≡ length s.scratch.items = ap length scratch ∙ (c.advance.auto.scratch ∙ ap length c.deref_mut-6.ensures.value) in
     record {
       netlist = k.netlist;
       started = k.started;
@@ -33,8 +32,8 @@ invariant_of-self c =
       state_long = ap length state ∙ (c.advance.auto.state ∙ (ap length c.deref_mut-3.ensures.value ∙ k.state_long));
       latches_long = ap length latches ∙ (c.advance.auto.latches ∙ (ap length c.deref_mut-4.ensures.value ∙ k.latches_long));
       rose_long = ap length rose ∙ (c.advance.auto.rose ∙ (ap length c.deref_mut-5.ensures.value ∙ k.rose_long));
-      marks_long = ap length marks ∙ (c.advance.auto.marks ∙ (ap length c.deref_mut-6.ensures.value ∙ k.marks_long));
-      marked = subst (λ ms. AreMarked walk ms (with_items s.nets c.advance.new.nets).items) (sym marks) (subst (AreMarked walk c.advance.new.marks) (sym nets) c.advance.ensures.marked);
+      marks_long = c.advance.ensures.long ∙ k.marks_long;
+      marked = subst (AreMarked walk c.advance.new.marks) (sym nets) c.advance.ensures.marked;
       room = omega (arith, room, k.room);
       first = λ none. absurd (let no_tick : true ≡ false = none in cc);
     }

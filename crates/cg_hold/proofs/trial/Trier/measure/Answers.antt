@@ -1,0 +1,28 @@
+use Rattle.std.proofs.Common.{◌≡◌, ◌<◌, ℕ, List, true, Some, [], length, slice_get, sym, ◌∙◌, ap, subst}
+use Rattle.std.specs.Option.{option_map_or}
+use Rattle.cg_hold.proofs.OfRegister.{own_below}
+use Rattle.cg_lists.specs.Supports.{input_cone}
+use Rattle.cg_machine.specs.Added.{own_netlist}
+use Rattle.cg_machine.specs.Machine.{walk_of}
+use Rattle.cg_netlist.proofs.Cones.{cone_has}
+use Rattle.cg_netlist.proofs.Used.{data_is_used}
+use Rattle.cg_netlist.specs.Circuit.{Circuit, RegisterCell, is_in}
+use Rattle.cg_netlist.specs.Cone.{cone_of}
+use Rattle.cg_netlist.specs.Netlist.{IsNetlist}
+use Rattle.cg_netlist.specs.View.{register_seen}
+use Rattle.cg_support.proofs.Nets.{take_some}
+use Rattle.cg_support.proofs.Steps.{used_within}
+use Rattle.cg_hold.proofs.trial.Trier.measure.Goals as goal
+
+pub measure_by-requires-clause-literal : goal.measure_by-requires-clause-literal
+measure_by-requires-clause-literal c =
+    let m = c.args.machine.now in
+    let r = c.args.reg in
+    let net = c.first-net.result in
+    let cell = register_seen c.register-register.result in
+    let own : slice_get (own_netlist m).registers r ≡ Some cell = subst (λ (n : Circuit). slice_get n.registers r ≡ Some cell) c.netlist-netlist.ensures.netlist c.register-register.ensures in
+    let at : slice_get m.circuit.registers r ≡ Some cell = take_some m.own_registers m.circuit.registers r cell own in
+    let good : IsNetlist (own_netlist m) = subst IsNetlist c.netlist-netlist.ensures.netlist c.registers-registers.ensures.netlist in
+    let among : is_in cell.inputs net ≡ true = c.first-net.ensures in
+    let here : is_in (input_cone m r) net ≡ true = ap (λ o. is_in (cone_of (walk_of m) (option_map_or (λ (k : RegisterCell ℕ ℕ). k.inputs) o [])) net) at ∙ cone_has (walk_of m) cell.inputs net among in
+    (here, own_below m net (used_within (own_netlist m) good net (data_is_used (own_netlist m) r net cell own among)))

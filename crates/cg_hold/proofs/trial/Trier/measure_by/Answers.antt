@@ -1,0 +1,33 @@
+use Rattle.std.proofs.Common.{◌≡◌, ◌+◌, ℕ, Bool, true, false, if◌then◌else◌, length, nat_lt, refl, sym, ◌∙◌, ap, subst}
+use Rattle.std.proofs.lemmas.Bool.{ltb-true}
+use Rattle.cg_cell.specs.Domain.{Seen}
+use Rattle.cg_machine.specs.Machine.{MachineData}
+use Rattle.cg_hold.specs.declared.trial.Room.{Room}
+use Rattle.cg_hold.specs.declared.trial.Room.TheVariants.{Ample, Unknown}
+use Rattle.cg_hold.specs.inner.Choosing.{HasRoom, IsRoom, refused_room}
+use Rattle.cg_hold.proofs.Room.{room_told}
+use Rattle.cg_hold.proofs.Trials.{refused_room_is}
+use Rattle.cg_hold.proofs.trial.Trier.measure_by.Goals as goal
+
+room_if : (m : MachineData) (w r : ℕ) (b : Bool) → (b ≡ true → HasRoom m w r) → IsRoom m w r (if b then Ample else Unknown)
+room_if m w r true room = room refl
+room_if m w r false room = tt
+
+pub returns-in-Ok : goal.returns-in-Ok
+returns-in-Ok c =
+    let m = c.args.machine.now in
+    let r = c.args.reg in
+    let w = c.args.width in
+    let claim = c.hold.new.self in
+    let n = c.nodes.result in
+    let count : n ≡ claim.aig.number + length claim.aig.pairs = c.nodes.ensures ∙ ap (λ (s : Seen). s.number + length s.pairs) c.aig.ensures in
+    subst (IsRoom m w r) (sym c.room_of.ensures)
+    (room_if m w r (nat_lt n 65536) (λ below. room_told c.list_laws.ensures.widths m c.netlist-netlist.ensures.machine r c.args.literal c.requires.literal w claim c.in-Ok.ensures.claim n count (ltb-true n 65536 below)))
+
+pub returns-in-Err : goal.returns-in-Err
+returns-in-Err c =
+    let m = c.args.machine.now in
+    let r = c.args.reg in
+    let w = c.args.width in
+    subst (IsRoom m w r) (sym c.refused_room.ensures)
+    (refused_room_is c.list_laws.ensures.widths m c.netlist-netlist.ensures.machine r c.args.literal c.requires.literal w c.in-Err.fault c.in-Err.ensures.refused)

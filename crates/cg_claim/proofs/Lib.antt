@@ -20,6 +20,7 @@ pub mod Reached
 pub mod ReachedOnly
 pub mod RowOne
 pub mod RowsMore
+pub mod RowsOwn
 pub mod StagesDone
 pub mod Tried
 pub mod WholeLists

@@ -36,7 +36,7 @@ abbrev loads : Term
 loads = Either (Both (Input 2) (Inverse (Input 1))) (Both (Input 0) (Input 1))
 
 abbrev loader : ℕ → ℕ → ℕ → (RegisterCell ℕ ℕ)
-loader data enable output = record { inputs = data ∷ enable ∷ []; outputs = (output, false) ∷ []; pins = 0 ∷ []; clock = 0; kind = Flop (record { name = []; kind = FlopKind; pins = []; function = Some loads }); init = 3 }
+loader loaded enable output = record { inputs = loaded ∷ enable ∷ []; outputs = (output, false) ∷ []; pins = 0 ∷ []; clock = 0; kind = Flop (record { name = []; kind = FlopKind; pins = []; function = Some loads }); init = 3 }
 
 abbrev input0 : ℕ → Leaf
 input0 y = record { copy = Before; source = InputOf y }

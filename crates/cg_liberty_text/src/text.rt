@@ -1,6 +1,7 @@
 //! The text of a word or a string, without a copy.
 
-ghost use Rattle.std.specs.Prelude.{◌≡◌, ◌==◌, ◌∷◌, ◌++◌, ℕ, List, [], MatchOption, IfOk};
+ghost use Rattle.std.specs.Prelude.{◌≡◌, ◌==◌, ◌∷◌, ◌++◌, ℕ, List, [], MatchOption, IfOk, IfSome};
+ghost use Rattle.std.specs.List.{list_any};
 ghost use Rattle.std.specs.Str.{bytes_eq};
 ghost use Rattle.cg_liberty_text.specs.Text.{content, escape, unescaped};
 
@@ -83,6 +84,20 @@ impl<'a> Text<'a> {
         left.next_byte().is_none()
     }
 
+    /// The bytes where they stand in the file, unless some of them are written by a `\`.
+    #[tactic(auto, using(crate::proofs::Texts::plain_text))]
+    pub fn plain(&self) -> Option<&'a [u8]>
+        ensures { IfSome result (λ raw. raw.now ≡ self.now) }
+    {
+        if !self.quoted {
+            return Some(self.raw);
+        }
+        if has_escape(self.raw) {
+            return None;
+        }
+        Some(self.raw)
+    }
+
     /// A copy of the bytes.
     pub fn bytes(&self, alloc: Global) -> Result<Vec<u8>, AllocError>
         ensures { IfOk result (λ bytes. bytes.items ≡ self.now) }
@@ -94,6 +109,13 @@ impl<'a> Text<'a> {
         }
         Ok(bytes)
     }
+}
+
+/// Whether some byte is a `\`.
+fn has_escape(raw: &[u8]) -> bool
+    ensures { result ≡ list_any (λ byte. byte == 92) raw.now }
+{
+    raw.iter().any(|byte| *byte == b'\\')
 }
 
 /// A first byte, and the bytes behind it.

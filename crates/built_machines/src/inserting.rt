@@ -58,8 +58,7 @@ fn has_gates(machine: &Machine, library: &Library) -> bool
     true
 }
 
-// Whether the library has a cell for an added gate, as it has for those before.
-#[tactic(auto, using(crate::proofs::CellsThere::one_more))]
+/// Whether the library has a cell for an added gate, as it has for those before.
 fn has_gate(machine: &Machine, library: &Library, k: u32) -> bool
     requires { k < length machine.now.gates }
     ensures { result ≡ true → HaveCells library.now (take k machine.now.gates) → HaveCells library.now (take (k + 1) machine.now.gates) }

@@ -4,7 +4,7 @@ use Rattle.std.specs.Prelude.{Err, IfOk, Ok, OnErr, Result}
 use Rattle.cg_cell.specs.Domain.{Makes, Seen, Stands}
 use Rattle.cg_cell.proofs.Building.{and_made}
 use Rattle.cg_aig.specs.declared.fault.AigFault.{AigFault}
-use Rattle.cg_aig.specs.Aig.{IsAig, are_pairs, aig_and, aig_ops, and_with, in_order, is_sound, leaf_bits, lit_bit, node_values, put, simple}
+use Rattle.cg_aig.specs.Aig.{IsAig, are_pairs, aig_and, aig_ops, and_with, in_order, is_sound, leaf_bits, lit_bit, node_values, pair_node, simple}
 use Rattle.cg_aig.specs.AigLaws.{aig_lawful, is_lit_of, lit_is}
 use Rattle.cg_aig.specs.Limits.{AndRefuses, PutRefuses}
 use Rattle.cg_aig.specs.Values.{lit_even, values_keep, length-leaf_bits}
@@ -14,9 +14,9 @@ by_simple s a b v e =
     subst (λ f. Makes s (and_with f s (in_order a b)) s v) (sym e) (record { answered = refl; left = refl })
 
 pub by_node : (s t : Seen) (a b v : ℕ) (p : ℕ × ℕ) → simple a b ≡ None → p ≡ in_order a b →
-    Makes s (put s p) t v → Makes s (aig_and s a b) t v
+    Makes s (pair_node s p) t v → Makes s (aig_and s a b) t v
 by_node s t a b v p e f m =
-    subst (λ found. Makes s (and_with found s (in_order a b)) t v) (sym e) (subst (λ q. Makes s (put s q) t v) f m)
+    subst (λ found. Makes s (and_with found s (in_order a b)) t v) (sym e) (subst (λ q. Makes s (pair_node s q) t v) f m)
 
 pub and_stands : (s t : Seen) (a b v : ℕ) → IsTrue (aig_ops.is_valid s a) → IsTrue (aig_ops.is_valid s b) →
     Makes s (aig_and s a b) t v → Stands aig_ops s t v (λ bits. aig_ops.bit s bits a && aig_ops.bit s bits b)
@@ -29,7 +29,7 @@ and_sound s t a b v h k m = (lit_is t v (and_stands s t a b v h k m).valid).soun
 -- after a node was put, or not for want of room or memory, the list is sound
 pub put_sound : (s t : Seen) (a b : ℕ) (p : ℕ × ℕ) (r : Result ℕ AigFault) →
     IsTrue (aig_ops.is_valid s a) → IsTrue (aig_ops.is_valid s b) → simple a b ≡ None → p ≡ in_order a b → t.number ≡ s.number →
-    IfOk r (λ v. Makes s (put s p) t v) → OnErr r (t.pairs ≡ s.pairs) → IsTrue (is_sound t)
+    IfOk r (λ v. Makes s (pair_node s p) t v) → OnErr r (t.pairs ≡ s.pairs) → IsTrue (is_sound t)
 put_sound s t a b p (Ok v) h k e f n m u = and_sound s t a b v h k (by_node s t a b v p e f m)
 put_sound s t a b p (Err fault) h k e f n m u =
     let same : are_pairs (1 + s.number) s.pairs ≡ are_pairs (1 + t.number) t.pairs = cc in

@@ -4,11 +4,11 @@ use Rattle.std.specs.Prelude.{position}
 use Rattle.std.specs.List.{AllByRecursion}
 use Rattle.cg_limit.specs.declared.Limit.{Limit as Quantity}
 use Rattle.cg_limit.specs.declared.TheConstants.{MOST_CLAIM_NODES}
-use Rattle.cg_cell.specs.Domain.{Extends, Seen}
+use Rattle.cg_cell.specs.Domain.{GrowsAtEnd, Seen}
 use Rattle.cg_cell.specs.Build.{AndCall, RefusesAt, Run, Somewhere, Stops}
 use Rattle.cg_cell.proofs.Building.{extends_self}
 use Rattle.cg_cell.proofs.RunsGrow.{Grows, IsFront, IsGrowing}
-use Rattle.cg_aig.specs.Aig.{aig_and, aig_ops, and_with, in_order, put_at, same_pair, simple}
+use Rattle.cg_aig.specs.Aig.{aig_and, aig_ops, and_with, in_order, pair_node_at, same_pair, simple}
 use Rattle.cg_aig.specs.Limits.{AndRefuses}
 use Rattle.cg_aig.specs.declared.fault.AigFault.TheVariants.{Limit}
 
@@ -16,11 +16,11 @@ use Rattle.cg_aig.specs.declared.fault.AigFault.TheVariants.{Limit}
 abbrev pub size : Seen → ℕ
 size s = s.number + length s.pairs
 
-put_grows : (s : Seen) (p : ℕ × ℕ) (found : Option ℕ) → Extends s.pairs (put_at found s p).pairs
+put_grows : (s : Seen) (p : ℕ × ℕ) (found : Option ℕ) → GrowsAtEnd s.pairs (pair_node_at found s p).pairs
 put_grows s p (Some k) = extends_self s.pairs
 put_grows s p None = record { added = p ∷ []; whole = refl }
 
-and_grows : (s : Seen) (p : ℕ × ℕ) (found : Option ℕ) → Extends s.pairs (and_with found s p).pairs
+and_grows : (s : Seen) (p : ℕ × ℕ) (found : Option ℕ) → GrowsAtEnd s.pairs (and_with found s p).pairs
 and_grows s p (Some a) = extends_self s.pairs
 and_grows s p None = put_grows s p (position (same_pair p) s.pairs)
 
@@ -37,11 +37,11 @@ and_past : (s : Seen) (a b : ℕ) (which : Quantity) → AndRefuses s a b (Limit
 and_past s a b which h =
     let room = h.1 in
     let one : (aig_and s a b).pairs ≡ s.pairs ++ in_order a b ∷ [] =
-    ap (λ o. (and_with o s (in_order a b)).pairs) h.0 ∙ ap (λ o. (put_at o s (in_order a b)).pairs) room.0 in
+    ap (λ o. (and_with o s (in_order a b)).pairs) h.0 ∙ ap (λ o. (pair_node_at o s (in_order a b)).pairs) room.0 in
     omega (arith, ap length one, length-append s.pairs (in_order a b ∷ []), room.1)
 
 -- a front part is no longer
-no_longer : (old new : List (ℕ × ℕ)) → Extends old new → length old ≤ length new
+no_longer : (old new : List (ℕ × ℕ)) → GrowsAtEnd old new → length old ≤ length new
 no_longer old new e = omega (arith, ap length e.whole, length-append old e.added)
 
 stops_at : (s t : Seen) (pairs : List (ℕ × ℕ)) (which : Quantity) (calls : List AndCall)

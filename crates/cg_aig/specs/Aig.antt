@@ -61,17 +61,17 @@ abbrev pub same_pair : ℕ × ℕ → ℕ × ℕ → Bool
 same_pair p q = p.0 == q.0 && p.1 == q.1
 
 -- The literal of the and-node with this pair: the node at place k, or a new one behind the others.
-abbrev pub put_at : Option ℕ → Seen → ℕ × ℕ → Made
-put_at (Some k) s p = record { answer = 2 * (1 + s.number + k); pairs = s.pairs }
-put_at None s p = record { answer = 2 * nodes s; pairs = s.pairs ++ p ∷ [] }
+abbrev pub pair_node_at : Option ℕ → Seen → ℕ × ℕ → Made
+pair_node_at (Some k) s p = record { answer = 2 * (1 + s.number + k); pairs = s.pairs }
+pair_node_at None s p = record { answer = 2 * nodes s; pairs = s.pairs ++ p ∷ [] }
 
 -- The first and-node with this pair, or a new one.
-abbrev pub put : Seen → ℕ × ℕ → Made
-put s p = put_at (position (same_pair p) s.pairs) s p
+abbrev pub pair_node : Seen → ℕ × ℕ → Made
+pair_node s p = pair_node_at (position (same_pair p) s.pairs) s p
 
 abbrev pub and_with : Option ℕ → Seen → ℕ × ℕ → Made
 and_with (Some a) s p = record { answer = a; pairs = s.pairs }
-and_with None s p = put s p
+and_with None s p = pair_node s p
 
 -- The and of two literals.
 abbrev pub aig_and : Seen → ℕ → ℕ → Made

@@ -6,8 +6,8 @@ use Rattle.std.proofs.lemmas.Bool.{eqb-false, eqb-true, lt-ltb, ltb-true, ltb-fa
 use Rattle.std.proofs.lemmas.Option.{slice_get-get_or}
 use Rattle.std.proofs.Math.Seq.{get_or-append_seam}
 use Rattle.std.proofs.lemmas.List.Quantifiers.{position-Some}
-use Rattle.cg_cell.specs.Domain.{IsLawful, Keeps, Seen, Stands, after}
-use Rattle.cg_aig.specs.Aig.{aig_and, aig_ops, and_with, are_pairs, constant_lit, in_order, inverse, is_pair, is_sound, leaf_bits, lit_bit, node_values, nodes, put, put_at, same_pair, simple, values_from}
+use Rattle.cg_cell.specs.Domain.{IsDomain, Keeps, Seen, Stands, after}
+use Rattle.cg_aig.specs.Aig.{aig_and, aig_ops, and_with, are_pairs, constant_lit, in_order, inverse, is_pair, is_sound, leaf_bits, lit_bit, node_values, nodes, pair_node, pair_node_at, same_pair, simple, values_from}
 use Rattle.cg_aig.specs.Values.{IsPair, and_both, and_left, and_right, is_pair_of, length-leaf_bits, length-node_values, lit_even, lit_inverse, lit_keep, inverse_even, inverse_odd, node_is, pairs_append, parity, values_append, values_keep}
 
 -- the list of s with one more and-node
@@ -92,7 +92,7 @@ last_pair pairs p =
 
 put_at_stands : (s : Seen) (p : ℕ × ℕ) (found : Option ℕ) → IsTrue (is_sound s) → IsPair (nodes s) p →
     position (same_pair p) s.pairs ≡ found →
-    Stands aig_ops s (after s (put_at found s p)) (put_at found s p).answer (pair_bit s p)
+    Stands aig_ops s (after s (pair_node_at found s p)) (pair_node_at found s p).answer (pair_bit s p)
 put_at_stands s p (Some k) h pair e =
     let at = position-Some (same_pair p) s.pairs k (0, 0) e in
     record {
@@ -252,7 +252,7 @@ and_with_stands s a b (Some r) e h k = record {
   bit = λ bits. pick_bit (lit_bit (node_values s bits)) (a == 0 || (b == 0 || a == inverse b)) (a == 1) (b == 1) (a == b) a b r (tests_of s bits a b) e;
 }
 and_with_stands s a b None e h k =
-    stands_as s (after s (put s (in_order a b))) (put s (in_order a b)).answer (pair_bit s (in_order a b)) _
+    stands_as s (after s (pair_node s (in_order a b))) (pair_node s (in_order a b)).answer (pair_bit s (in_order a b)) _
     (put_at_stands s (in_order a b) (position (same_pair (in_order a b)) s.pairs) h.sound (pair_of_none (nodes s) a b e h.node k.node) refl)
     (λ bits. order_bit (lit_bit (node_values s bits)) a b (nat_lt a b))
 
@@ -287,7 +287,7 @@ constant_stands s false h = record {
   bit = λ bits. bit_of_zero s bits;
 }
 
-pub aig_lawful : IsLawful aig_ops
+pub aig_lawful : IsDomain aig_ops
 aig_lawful = record {
   sound = λ s a h. (lit_is s a h).sound;
   constant_stands = constant_stands;

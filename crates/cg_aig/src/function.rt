@@ -2,7 +2,7 @@
 
 ghost use Rattle.std.specs.Prelude.{IfOk, IfErr, IsTrue, OnErr, length};
 ghost use Rattle.cg_cell.specs.Build.{Evaluates, Stops};
-ghost use Rattle.cg_cell.specs.Cover.{Fits, cover_value};
+ghost use Rattle.cg_cell.specs.Cover.{CoverFits, cover_value};
 ghost use Rattle.cg_cell.specs.Domain.{AreValid, Keeps};
 ghost use Rattle.cg_cell.specs.Eval.{bits_at, build_term};
 ghost use Rattle.cg_cell.specs.EvalCover.{cover_term};
@@ -41,7 +41,7 @@ impl Aig {
     /// from the left, beginning with 0, inverted at the end where its value on them is 0. It is refused where
     /// an `and` of these is, and the nodes that were made before stay.
     pub fn cover(&mut self, cover: &Cover, inputs: &[AigLit]) -> Result<AigLit, AigFault>
-        requires wide { Fits (length inputs.now) cover.now }
+        requires wide { CoverFits (length inputs.now) cover.now }
         requires valid { AreValid aig_ops self.old inputs.now }
         ensures built { IfOk result (λ v. Evaluates aig_ops self.old self.new v
             (build_term aig_ops inputs.now (cover_term cover.now) self.old)

@@ -1,10 +1,11 @@
 //! The list of nodes.
 
-ghost use Rattle.std.specs.Prelude.{false, if◌then◌else◌, ◌≡◌, ◌≤◌, ◌<◌, ◌+◌, ◌*◌, ◌&&◌, ◌||◌, ℕ, Bool, List, [], length, slice_get, slice_index_or, Some, Err, IsTrue, IfOk, IfErr, OnOk, OnErr};
+ghost use Rattle.std.specs.Prelude.{false, if◌then◌else◌, ◌≡◌, ◌≤◌, ◌<◌, ◌+◌, ◌*◌, ◌&&◌, ◌||◌, ℕ, Bool, List, []};
+ghost use Rattle.std.specs.Prelude.{length, slice_get, slice_index_or, Some, Err, IsTrue, IfOk, IfErr, OnOk, OnErr};
 ghost use Rattle.cg_cell.specs.Build.{Evaluates, Stops, build_mux, build_or, build_xor};
 ghost use Rattle.cg_cell.specs.Domain.{Keeps, Makes, Stands};
-ghost use Rattle.cg_cell.specs.Gates.{differ};
-ghost use Rattle.cg_aig.specs.Aig.{IsAig, aig_and, aig_ops, constant_lit, in_order, nodes, put, simple};
+ghost use Rattle.cg_cell.specs.Gates.{exclusive_or};
+ghost use Rattle.cg_aig.specs.Aig.{IsAig, aig_and, aig_ops, constant_lit, in_order, nodes, pair_node, simple};
 ghost use Rattle.cg_aig.specs.Limits.{AndRefuses, IsPastLimit, PutRefuses};
 
 use crate::fault::AigFault;
@@ -189,7 +190,7 @@ impl Aig {
         requires left { IsTrue (aig_ops.is_valid self.old a) }
         requires right { IsTrue (aig_ops.is_valid self.old b) }
         ensures built { IfOk result (λ v. Evaluates aig_ops self.old self.new v (build_xor aig_ops a b self.old)
-            (λ bits. differ (aig_ops.bit self.old bits a) (aig_ops.bit self.old bits b))) }
+            (λ bits. exclusive_or (aig_ops.bit self.old bits a) (aig_ops.bit self.old bits b))) }
         ensures stopped { IfErr result (λ fault. Stops AndRefuses (build_xor aig_ops a b self.old) fault self.new) }
         ensures kept { OnErr result (Keeps aig_ops self.old self.new) }
     {
@@ -286,7 +287,7 @@ fn put_pair(
 ) -> Result<AigLit, AigFault>
     requires { leaves + length pairs.old.keys ≤ MOST_CLAIM_NODES }
     ensures made { IfOk result (λ v. Makes (record { number = leaves; pairs = pairs.old.keys })
-        (put (record { number = leaves; pairs = pairs.old.keys }) pair)
+        (pair_node (record { number = leaves; pairs = pairs.old.keys }) pair)
         (record { number = leaves; pairs = pairs.new.keys }) v) }
     ensures refused { IfErr result (λ fault. PutRefuses (record { number = leaves; pairs = pairs.old.keys }) pair fault) }
     ensures unchanged { OnErr result (pairs.new.keys ≡ pairs.old.keys) }

@@ -6,7 +6,7 @@ use Rattle.cg_cell.specs.Cell.{CellData, IsCell}
 use Rattle.cg_netlist.specs.Circuit.{Circuit}
 use Rattle.cg_netlist.specs.declared.fault.NetFault.{NetFault}
 use Rattle.cg_netlist.specs.declared.fault.NetFault.TheVariants as nets
-use Rattle.cg_netlist.specs.said.Building.{Building, Finishes}
+use Rattle.cg_builder.specs.Building.{Building, Finishes}
 use Rattle.cg_netlist.specs.said.Part.{Part}
 use Rattle.cg_netlist.specs.said.Said.{said}
 use Rattle.cg_netlist.specs.said.Says.{Says}
@@ -16,7 +16,7 @@ use Rattle.cg_netlist.proofs.said.NoneBeside.{faultless}
 use Rattle.cg_netlist.proofs.said.OneFault.{no_fault}
 use Rattle.cg_blif_text.specs.declared.fault.BlifFault.{BlifFault}
 use Rattle.cg_blif_text.specs.declared.fault.BlifFault.TheVariants as faults
-use Rattle.cg_blif_text.specs.BlifText.{BlifText, IsFirstFault, told_by}
+use Rattle.cg_blif_text.specs.BlifText.{BlifText, IsFirstBlifFault, told_by}
 use Rattle.cg_blif_text.specs.Telling.{Told}
 use Rattle.cg_blif_text.proofs.CanonicalText.{no_two}
 use Rattle.cg_blif_text.proofs.SameSaid.{says_alike}
@@ -40,7 +40,7 @@ renamed model other parts c is says = record { model_is = sym is; wired_is = say
 
 module _ (text : List ℕ) (library : List CellData) (clock : Option NetName) where
   -- a text that says a netlist has no fault
-  none_beside : (c : Circuit) (fault : BlifFault) → BlifText text library clock c → IsFirstFault text library clock fault → ⊥
+  none_beside : (c : Circuit) (fault : BlifFault) → BlifText text library clock c → IsFirstBlifFault text library clock fault → ⊥
   none_beside c (faults.Net fault) says first =
       let told : says.tells.told ≡ first.tells.told = one_told says.tells.told first.tells.told (sym says.tells.faultless ∙ first.tells.faultless) in
       let same : said says.parts ≡ said first.parts = sym says.tells.said_is ∙ (ap (λ (t : Told). t.said) told ∙ first.tells.said_is) in

@@ -10,7 +10,7 @@ use Rattle.cg_cell.specs.Name.{are_distinct}
 use Rattle.cg_cell.specs.Pins.{PinData}
 use Rattle.cg_netlist.proofs.said.KnownNames.{itself, same_word}
 use Rattle.cg_blif_text.specs.PinWords.{PinNet}
-use Rattle.cg_blif_text.specs.Placing.{are_for_pins, at_role, given, is_for_pin, nets_at, put, show, shown_at}
+use Rattle.cg_blif_text.specs.Placing.{are_for_pins, at_role, given, is_for_pin, nets_at, put_net, show, shown_at}
 use Rattle.cg_blif.specs.Roles.{is_given}
 
 -- what is left to search at k is the element there and what is left behind it
@@ -106,12 +106,12 @@ one_more_word pins words k d below so_far good new =
 abbrev pub behind : List (List ℕ) → Option (List (List ℕ)) → Option (List (List ℕ))
 behind front rest = option_map (λ nets. front ++ nets) rest
 
-pub behind_put : (front : List (List ℕ)) (net : List ℕ) (rest : Option (List (List ℕ))) → behind front (put (Some net) rest) ≡ behind (front ++ net ∷ []) rest
+pub behind_put : (front : List (List ℕ)) (net : List ℕ) (rest : Option (List (List ℕ))) → behind front (put_net (Some net) rest) ≡ behind (front ++ net ∷ []) rest
 behind_put front net None = refl
 behind_put front net (Some nets) = ap (λ ns. Some ns) (sym (append_assoc front (net ∷ []) nets))
 
 pub role_drop : (role : PinData → Bool) (pins : List PinData) (words : List PinNet) (k : ℕ) (d : PinData) → k < length pins
-    → at_role role (drop k pins) (nets_at (drop k pins) words) ≡ (if role (get_or pins k d) then put (given words (get_or pins k d)) (at_role role (drop (k + 1) pins) (nets_at (drop (k + 1) pins) words)) else at_role role (drop (k + 1) pins) (nets_at (drop (k + 1) pins) words))
+    → at_role role (drop k pins) (nets_at (drop k pins) words) ≡ (if role (get_or pins k d) then put_net (given words (get_or pins k d)) (at_role role (drop (k + 1) pins) (nets_at (drop (k + 1) pins) words)) else at_role role (drop (k + 1) pins) (nets_at (drop (k + 1) pins) words))
 role_drop role pins words k d below = rw (add-one, drop-cons pins k d) refl
 
 pub shown_drop : (pins : List PinData) (words : List PinNet) (k : ℕ) (d : PinData) → k < length pins

@@ -11,13 +11,13 @@ use Rattle.cg_cell.specs.Library.{find_cell}
 use Rattle.cg_cell.specs.Pins.{is_clock, is_data, is_enable, is_output, is_test}
 use Rattle.cg_cell.specs.declared.cell.CellKind.{CellKind}
 use Rattle.cg_cell.specs.declared.cell.CellKind.TheVariants.{Logic as LogicKind, Flop as FlopKind, Gater as GaterKind, Unusable}
-use Rattle.cg_netlist.specs.Calls.{cell_of, gater_of, register_of, shows_inverse}
+use Rattle.cg_builder.specs.Calls.{cell_of, gater_of, register_of, shows_inverse}
 use Rattle.cg_netlist.specs.Circuit.{RegisterCell}
 use Rattle.cg_netlist.specs.WellFormed.{RegisterFits}
 use Rattle.cg_netlist.specs.declared.parts.LogicFunction.TheVariants.{Cell}
 use Rattle.cg_netlist.specs.declared.parts.RegisterKind.TheVariants.{Flop}
 use Rattle.cg_netlist.specs.declared.fault.AddFault.{AddFault}
-use Rattle.cg_netlist.specs.said.Building.{Building, Takes}
+use Rattle.cg_builder.specs.Building.{Building, Takes}
 use Rattle.cg_netlist.specs.said.Part.{Part, Logic, Gate, Register, mentioned}
 use Rattle.cg_netlist.specs.said.Says.{IsPart}
 use Rattle.cg_netlist.specs.said.Writable.{cell_named}

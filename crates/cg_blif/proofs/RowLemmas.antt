@@ -1,13 +1,13 @@
 -- Rows of a cover, read place by place.
 use Rattle.std.proofs.Common.{◌≡◌, ℕ, Bool, ◌+◌, ◌<◌, List, [], ◌∷◌, ◌++◌, length, drop, get_or, Option, None, Some, refl, add-one, drop-cons, append_assoc}
 use Rattle.std.specs.Option.{option_map, option_and_then}
-use Rattle.cg_blif_text.specs.Rows.{place_of, places_of}
+use Rattle.cg_blif_text.specs.Rows.{row_place, row_places}
 
 -- places behind those in front
 abbrev pub places_behind : List (Option Bool) → Option (List (Option Bool)) → Option (List (Option Bool))
 places_behind front rest = option_map (λ places. front ++ places) rest
 
-pub places_of-drop : (word : List ℕ) (i : ℕ) → i < length word → places_of (drop i word) ≡ option_and_then (λ place. option_map (λ places. place ∷ places) (places_of (drop (i + 1) word))) (place_of (get_or word i 0))
+pub places_of-drop : (word : List ℕ) (i : ℕ) → i < length word → row_places (drop i word) ≡ option_and_then (λ place. option_map (λ places. place ∷ places) (row_places (drop (i + 1) word))) (row_place (get_or word i 0))
 places_of-drop word i below = rw (add-one, drop-cons word i 0) refl
 
 pub places_behind-push : (front : List (Option Bool)) (place : Option Bool) (rest : Option (List (Option Bool))) → places_behind front (option_map (λ places. place ∷ places) rest) ≡ places_behind (front ++ place ∷ []) rest

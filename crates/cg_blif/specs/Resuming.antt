@@ -10,7 +10,7 @@ use Rattle.cg_netlist.specs.declared.parts.LogicFunction.TheVariants.{Cover}
 use Rattle.cg_netlist.specs.Circuit.{Circuit}
 use Rattle.cg_netlist.specs.declared.fault.NetFault.{NetFault}
 use Rattle.cg_netlist.specs.declared.fault.NetFault.TheVariants as nets
-use Rattle.cg_netlist.specs.said.Building.{Building, Finishes}
+use Rattle.cg_builder.specs.Building.{Building, Finishes}
 use Rattle.cg_netlist.specs.said.Part.{Part, Logic}
 use Rattle.cg_netlist.specs.said.Faults.{IsFault}
 use Rattle.cg_netlist.specs.said.Said.{Said, nothing_said, said}
@@ -24,7 +24,7 @@ use Rattle.cg_blif_text.specs.declared.statement.Statement.{Statement}
 use Rattle.cg_blif_text.specs.declared.statement.Statement.TheVariants.{Model, Names, Latch}
 use Rattle.cg_blif_text.specs.Blocks.{cut}
 use Rattle.cg_blif_text.specs.Rows.{cover_from}
-use Rattle.cg_blif_text.specs.BlifText.{BlifText, IsFirstFault, told_by}
+use Rattle.cg_blif_text.specs.BlifText.{BlifText, IsFirstBlifFault, told_by}
 use Rattle.cg_blif_text.specs.Telling.{Told, at, cover_or_none, go_on, next_model, no_rows, said_by, tell_blocks, tell_cut, tell_parts, with_parts, with_said}
 use Rattle.cg_netlist.specs.said.Wiring.{NetName}
 use Rattle.cg_blif.specs.Joining.{IsUnnamed}
@@ -140,21 +140,21 @@ IsReadAs made (Ok r) = (r.builder.refused ≡ None) × (made ≡ Ok (told_of r.p
 IsReadAs made (Err fault) = IsFaultOf made fault
 
 -- all lines and the clock of the option were told, and that has a name; or this is the first fault; or memory is wanting
-abbrev pub AreNamed : Option NetName → Type 0
-AreNamed clock = AllByRecursion (λ net. IsTrue (is_name net)) (option_to_list clock)
+abbrev pub IsNamedClock : Option NetName → Type 0
+IsNamedClock clock = AllByRecursion (λ net. IsTrue (is_name net)) (option_to_list clock)
 
 abbrev pub IsRead : List CellData → Option NetName → List ℕ → Result Building BlifFault → Type 0
-IsRead library clock text (Ok b) = (b.refused ≡ None) × AreNamed clock × ((place : Place) × (told_by library clock text ≡ Ok (told_of place b)))
+IsRead library clock text (Ok b) = (b.refused ≡ None) × IsNamedClock clock × ((place : Place) × (told_by library clock text ≡ Ok (told_of place b)))
 IsRead library clock text (Err fault) = IsFaultOf (told_by library clock text) fault
 
 -- the fault is the first of the text, or memory is wanting
 abbrev pub IsFirstOrNoMemory : List ℕ → List CellData → Option NetName → BlifFault → Type 0
 IsFirstOrNoMemory text library clock NoMemory = Unit {0}
-IsFirstOrNoMemory text library clock fault = IsFirstFault text library clock fault
+IsFirstOrNoMemory text library clock fault = IsFirstBlifFault text library clock fault
 
 -- a netlist was read, which the text says; or there is a fault
 abbrev pub IsReadFrom : List ℕ → List CellData → Option NetName → Result Circuit BlifFault → Type 0
-IsReadFrom text library clock (Ok c) = BlifText text library clock c × AreNamed clock
+IsReadFrom text library clock (Ok c) = BlifText text library clock c × IsNamedClock clock
 IsReadFrom text library clock (Err fault) = IsFirstOrNoMemory text library clock fault
 
 -- how a text is answered whose builder finishes so

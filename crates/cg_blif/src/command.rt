@@ -20,7 +20,7 @@ pub fn command_of(word: &[u8]) -> Command
     }
 }
 
-// The command of a word that is none of the frequent ones.
+/// The command of a word that is none of the frequent ones.
 fn rarer_command(word: &[u8]) -> Command
     ensures { result ≡ rarer_command word.now }
 {
@@ -41,7 +41,7 @@ fn rarer_command(word: &[u8]) -> Command
     }
 }
 
-// Whether the word is a command whose lines are skipped.
+/// Whether the word is a command whose lines are skipped.
 fn is_skipped(word: &[u8]) -> bool
     ensures { result ≡ is_skipped word.now }
 {

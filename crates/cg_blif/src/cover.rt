@@ -1,8 +1,8 @@
 //! The rows behind a `.names` line, until a line that is no row.
 
 ghost use Rattle.std.specs.Prelude.{◌≡◌, ◌≤◌, List, [], length, IfOk, IfSome, MatchBool, Option, None, Some, Bool};
-ghost use Rattle.cg_cell.specs.Cover.{Fits};
-ghost use Rattle.cg_blif_text.specs.Rows.{keeps_value, place_of, places_of, row_of, row_with, value_of};
+ghost use Rattle.cg_cell.specs.Cover.{CoverFits};
+ghost use Rattle.cg_blif_text.specs.Rows.{keeps_value, row_of, row_place, row_places, row_with, value_of};
 ghost use Rattle.cg_blif.specs.OpenCovers.{cover_so_far, with_row};
 
 use cg_blif_text::word::Word;
@@ -63,7 +63,8 @@ impl<'a> OpenCover<'a> {
 
     /// Reads a line of these words as the next row; false where it is none, and then nothing changes.
     pub fn read_row(&mut self, alloc: Global, words: &[Word<'_>]) -> Result<bool, AllocError>
-        ensures { IfOk result (λ read. MatchBool read (with_row self.old (row_of (length self.old.inputs) words.now) ≡ Some self.new) ((with_row self.old (row_of (length self.old.inputs) words.now) ≡ None) × (self.new ≡ self.old))) }
+        ensures { IfOk result (λ read. MatchBool read (with_row self.old (row_of (length self.old.inputs) words.now) ≡ Some self.new)
+            ((with_row self.old (row_of (length self.old.inputs) words.now) ≡ None) × (self.new ≡ self.old))) }
     {
         match row_of(alloc, self.inputs.len(), words)? {
             None => Ok(false),
@@ -71,10 +72,11 @@ impl<'a> OpenCover<'a> {
         }
     }
 
-    // Adds a row with a place for each input; false where its value is another than that of the rows before.
+    /// Adds a row with a place for each input; false where its value is another than that of the rows before.
     fn add_row(&mut self, row: CoverLine) -> Result<bool, AllocError>
         requires { length row.places ≡ length self.old.inputs }
-        ensures { IfOk result (λ added. MatchBool added (with_row self.old (Some row) ≡ Some self.new) ((with_row self.old (Some row) ≡ None) × (self.new ≡ self.old))) }
+        ensures { IfOk result
+            (λ added. MatchBool added (with_row self.old (Some row) ≡ Some self.new) ((with_row self.old (Some row) ≡ None) × (self.new ≡ self.old))) }
     {
         let CoverLine { places, value } = row;
         if !keeps_value(self.on, value) {
@@ -90,7 +92,7 @@ impl<'a> OpenCover<'a> {
         ensures inputs { result.0 ≡ self.entry.inputs }
         ensures output { result.1 ≡ self.entry.output }
         ensures cover { result.2 ≡ cover_so_far self.entry }
-        ensures fits { Fits (length self.entry.inputs) (cover_so_far self.entry) }
+        ensures fits { CoverFits (length self.entry.inputs) (cover_so_far self.entry) }
         ensures few { length self.entry.inputs ≤ 256 }
     {
         let OpenCover {
@@ -104,7 +106,7 @@ impl<'a> OpenCover<'a> {
     }
 }
 
-// The row of a cover with so many inputs that words say.
+/// The row of a cover with so many inputs that words say.
 fn row_of(alloc: Global, inputs: usize, words: &[Word<'_>]) -> Result<Option<CoverLine>, AllocError>
     ensures row { IfOk result (λ row. row ≡ row_of inputs words.now) }
     ensures long { IfOk result (λ row. IfSome row (λ row. length row.places ≡ inputs)) }
@@ -118,7 +120,7 @@ fn row_of(alloc: Global, inputs: usize, words: &[Word<'_>]) -> Result<Option<Cov
     }
 }
 
-// The row of this value, without places.
+/// The row of this value, without places.
 fn value_row(alloc: Global, value: &[u8]) -> Option<CoverLine>
     ensures row { result ≡ row_with (Some []) (value_of value.now) }
     ensures long { IfSome result (λ row. length row.places ≡ 0) }
@@ -132,9 +134,9 @@ fn value_row(alloc: Global, value: &[u8]) -> Option<CoverLine>
     })
 }
 
-// The row of these places and this value.
+/// The row of these places and this value.
 fn places_row(alloc: Global, places: &[u8], value: &[u8]) -> Result<Option<CoverLine>, AllocError>
-    ensures row { IfOk result (λ row. row ≡ row_with (places_of places.now) (value_of value.now)) }
+    ensures row { IfOk result (λ row. row ≡ row_with (row_places places.now) (value_of value.now)) }
     ensures long { IfOk result (λ row. IfSome row (λ row. length row.places ≡ length places.now)) }
 {
     let places = match read_places(alloc, places)? {
@@ -147,7 +149,7 @@ fn places_row(alloc: Global, places: &[u8], value: &[u8]) -> Result<Option<Cover
     }
 }
 
-// Whether a row of this value may stand behind rows of that value.
+/// Whether a row of this value may stand behind rows of that value.
 fn keeps_value(on: Option<bool>, value: bool) -> bool
     ensures { result ≡ keeps_value on value }
 {
@@ -157,7 +159,7 @@ fn keeps_value(on: Option<bool>, value: bool) -> bool
     }
 }
 
-// The value that a word says: `0` or `1`.
+/// The value that a word says: `0` or `1`.
 fn value_of(word: &[u8]) -> Option<bool>
     ensures { result ≡ value_of word.now }
 {
@@ -171,9 +173,9 @@ fn value_of(word: &[u8]) -> Option<bool>
     }
 }
 
-// The place of a row that a byte says: `0`, `1` or `-`; `None` for another byte.
+/// The place of a row that a byte says: `0`, `1` or `-`; `None` for another byte.
 fn place_of(byte: u8) -> Option<Option<bool>>
-    ensures { result ≡ place_of byte }
+    ensures { result ≡ row_place byte }
 {
     match byte {
         b'0' => Some(Some(false)),
@@ -183,10 +185,10 @@ fn place_of(byte: u8) -> Option<Option<bool>>
     }
 }
 
-// The places that a word says; `None` where a byte is none of `0`, `1`, `-`.
+/// The places that a word says; `None` where a byte is none of `0`, `1`, `-`.
 #[tactic(auto, using(crate::proofs::RowLemmas::rows))]
 fn read_places(alloc: Global, word: &[u8]) -> Result<Option<CoverRow>, AllocError>
-    ensures row { IfOk result (λ row. row ≡ places_of word.now) }
+    ensures row { IfOk result (λ row. row ≡ row_places word.now) }
     ensures long { IfOk result (λ row. IfSome row (λ places. length places ≡ length word.now)) }
 {
     let mut bits = Vec::with_capacity(alloc, word.len())?;

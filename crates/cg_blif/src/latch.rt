@@ -22,7 +22,7 @@ pub fn latch_line<'a>(words: &[Word<'a>]) -> Result<Statement<'a>, LineFault>
     }
 }
 
-// A register of this type, on this clock.
+/// A register of this type, on this clock.
 fn latch_typed<'a>(
     input: &Word<'a>,
     output: &Word<'a>,
@@ -38,7 +38,7 @@ fn latch_typed<'a>(
     latch_with(input, output, control_of(control), init)
 }
 
-// A register on this clock, or on the one global clock, where there is an init.
+/// A register on this clock, or on the one global clock, where there is an init.
 fn latch_with<'a>(
     input: &Word<'a>,
     output: &Word<'a>,
@@ -58,7 +58,7 @@ fn latch_with<'a>(
     }
 }
 
-// The clock that a word says: `NIL` is the one global clock.
+/// The clock that a word says: `NIL` is the one global clock.
 fn control_of<'a>(control: &Word<'a>) -> Option<Word<'a>>
     ensures { result ≡ control_of control.now }
 {
@@ -69,7 +69,7 @@ fn control_of<'a>(control: &Word<'a>) -> Option<Word<'a>>
     }
 }
 
-// The init that a word says: one digit from 0 to 3.
+/// The init that a word says: one digit from 0 to 3.
 fn init_of(word: &[u8]) -> Option<u8>
     ensures { result ≡ init_of word.now }
 {

@@ -47,7 +47,8 @@ impl<'a> LogicalLines<'a> {
     /// Reads the words of the next line, in place of those that are there, and answers the number of the line; or `None`
     /// behind the last line. `BadLine` where a word of the line ends in `\`.
     pub fn next_line(&mut self, words: &mut Vec<Word<'a>>) -> Result<Option<u64>, BlifFault>
-        ensures line { IfOk result (λ number. MatchOption number ((self.old ≡ []) × (self.new ≡ [])) (λ number. self.old ≡ record { number = number; words = words.new.items } ∷ self.new)) }
+        ensures line { IfOk result (λ number. MatchOption number ((self.old ≡ []) × (self.new ≡ []))
+            (λ number. self.old ≡ record { number = number; words = words.new.items } ∷ self.new)) }
         ensures named { OnOk result (list_all is_name words.new.items ≡ true) }
         ensures bad { IfErr result (IsUnnamedLine self.old) }
     {
@@ -72,7 +73,7 @@ impl<'a> LogicalLines<'a> {
     }
 }
 
-// Puts the words of a line behind these, up to the first that is no name; false where there is one.
+/// Puts the words of a line behind these, up to the first that is no name; false where there is one.
 fn push_words<'a>(words: &mut Vec<Word<'a>>, line: &'a [u8]) -> Result<bool, AllocError>
     requires { list_all is_name words.old.items ≡ true }
     ensures { IfOk result (λ named. PushedWords words.old.items (words_in line.entry.now) words.new.items named) }

@@ -2,7 +2,7 @@
 
 ghost use Rattle.std.specs.Prelude.{◌≡◌, ◌∷◌, ◌≤◌, [], None, IfOk, IsTrue, length, map};
 ghost use Rattle.std.specs.List.{AllByRecursion};
-ghost use Rattle.cg_cell.specs.Cover.{Fits};
+ghost use Rattle.cg_cell.specs.Cover.{CoverFits};
 ghost use Rattle.cg_cell.specs.Name.{is_name};
 ghost use Rattle.cg_netlist.specs.declared.parts.LogicFunction.TheVariants.{Cover as CoverRows};
 ghost use Rattle.cg_netlist.specs.said.Part.{Clock, Input, Logic, Output, Register};
@@ -11,8 +11,8 @@ ghost use Rattle.cg_blif.specs.Hearing.{Hears};
 
 use crate::fault::{Refusal, heard};
 use cg_blif_text::word::Word;
+use cg_builder::builder::Builder;
 use cg_cell::cover::Cover;
-use cg_netlist::builder::Builder;
 use std::alloc::{AllocError, Global};
 
 /// Makes nets inputs.
@@ -27,7 +27,7 @@ pub fn add_inputs(builder: &mut Builder, nets: &[Word<'_>]) -> Result<(), Refusa
     Ok(())
 }
 
-// Makes a net an input.
+/// Makes a net an input.
 fn add_input(builder: &mut Builder, net: &Word<'_>) -> Result<(), Refusal>
     requires { builder.old.refused ≡ None }
     ensures { Hears builder.old builder.new (with_parts (Input net.now ∷ []) builder.old.said) result }
@@ -47,7 +47,7 @@ pub fn add_outputs(builder: &mut Builder, nets: &[Word<'_>]) -> Result<(), Refus
     Ok(())
 }
 
-// Makes a net an output.
+/// Makes a net an output.
 fn add_output(builder: &mut Builder, net: &Word<'_>) -> Result<(), Refusal>
     requires { builder.old.refused ≡ None }
     ensures { Hears builder.old builder.new (with_parts (Output net.now ∷ []) builder.old.said) result }
@@ -86,14 +86,15 @@ pub fn add_cover(
 ) -> Result<(), Refusal>
     requires builder { builder.old.refused ≡ None }
     requires few { length inputs.now ≤ 256 }
-    requires fits { Fits (length inputs.now) cover }
-    ensures { Hears builder.old builder.new (with_parts (Logic (record { inputs = inputs.now; output = output.now; function = CoverRows cover }) ∷ []) builder.old.said) result }
+    requires fits { CoverFits (length inputs.now) cover }
+    ensures { Hears builder.old builder.new
+        (with_parts (Logic (record { inputs = inputs.now; output = output.now; function = CoverRows cover }) ∷ []) builder.old.said) result }
 {
     let inputs = names(alloc, inputs)?;
     heard(builder.cover(&inputs, output.bytes(), cover))
 }
 
-// The bytes of words.
+/// The bytes of words.
 fn names<'a>(alloc: Global, words: &[Word<'a>]) -> Result<Vec<&'a [u8]>, AllocError>
     ensures bytes { IfOk result (λ names. map (λ name. name.now) names.items ≡ words.now) }
     ensures named { IfOk result (λ names. AllByRecursion (λ name. IsTrue (is_name name)) (map (λ name. name.now) names.items)) }

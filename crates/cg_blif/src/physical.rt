@@ -50,7 +50,8 @@ impl<'a> PhysicalLines<'a> {
 
     /// The next line, without the line feed that ends it.
     pub fn next_line(&mut self) -> Option<&'a [u8]>
-        ensures { MatchOption result ((self.old.left ≡ []) × (self.new.left ≡ [])) (λ line. (self.old.left ≡ line.now ∷ self.new.left) × (self.new.number ≡ self.old.number + 1)) }
+        ensures { MatchOption result ((self.old.left ≡ []) × (self.new.left ≡ []))
+            (λ line. (self.old.left ≡ line.now ∷ self.new.left) × (self.new.number ≡ self.old.number + 1)) }
     {
         if self.rest.is_empty() {
             return None;
@@ -62,7 +63,7 @@ impl<'a> PhysicalLines<'a> {
     }
 }
 
-// The first line of a text that is not empty, and what stands behind the line feed that ends it.
+/// The first line of a text that is not empty, and what stands behind the line feed that ends it.
 fn cut_line<'a>(text: &'a [u8]) -> (&'a [u8], &'a [u8])
     requires { 0 < length text.now }
     ensures cut { lines text.entry.now ≡ result.0.now ∷ lines result.1.now }
@@ -82,14 +83,14 @@ pub fn bared<'a>(line: &'a [u8]) -> &'a [u8]
     trimmed(uncommented(line))
 }
 
-// A line without its comment.
+/// A line without its comment.
 fn uncommented<'a>(line: &'a [u8]) -> &'a [u8]
     ensures { result.now ≡ before_first (λ b. b == 35) line.entry.now }
 {
     &line[..first_at(line, b'#')]
 }
 
-// A line without the blanks at its end.
+/// A line without the blanks at its end.
 fn trimmed<'a>(line: &'a [u8]) -> &'a [u8]
     ensures { result.now ≡ without_end line.entry.now }
 {
@@ -103,7 +104,7 @@ fn trimmed<'a>(line: &'a [u8]) -> &'a [u8]
     rest
 }
 
-// Whether a byte is a blank that is taken away at the end of a line.
+/// Whether a byte is a blank that is taken away at the end of a line.
 fn is_trailing(byte: u8) -> bool
     ensures { result ≡ is_trailing byte }
 {

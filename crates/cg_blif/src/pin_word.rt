@@ -19,7 +19,7 @@ pub fn pin_nets<'a>(alloc: Global, words: &[Word<'a>]) -> Result<Vec<PinWord<'a>
     Ok(pins)
 }
 
-// A word as a pin and the net behind the first `=`.
+/// A word as a pin and the net behind the first `=`.
 fn pin_net<'a>(word: &'a [u8]) -> PinWord<'a>
     ensures { result ≡ pin_net word.entry.now }
 {

@@ -25,7 +25,7 @@ pub fn are_for_pins(pins: &[Pin], words: &[PinWord<'_>]) -> bool
     true
 }
 
-// Whether a word is for a pin, and gives a net with a name.
+/// Whether a word is for a pin, and gives a net with a name.
 fn is_for_pin(pins: &[Pin], word: &PinWord<'_>) -> bool
     ensures { result ≡ is_for_pin pins.now word.now }
 {
@@ -35,7 +35,7 @@ fn is_for_pin(pins: &[Pin], word: &PinWord<'_>) -> bool
     }
 }
 
-// Whether a pin has this name.
+/// Whether a pin has this name.
 #[tactic(auto, using(crate::proofs::PinWordLemmas::searches))]
 fn is_pin(pins: &[Pin], name: &[u8]) -> bool
     ensures { result ≡ list_any (λ pin. bytes_eq name.now pin.name) pins.now }
@@ -48,7 +48,7 @@ fn is_pin(pins: &[Pin], name: &[u8]) -> bool
     false
 }
 
-// Whether a word is for the pin of this name.
+/// Whether a word is for the pin of this name.
 #[tactic(auto, using(crate::proofs::PinWordLemmas::searches))]
 fn is_given(words: &[PinWord<'_>], name: &[u8]) -> bool
     ensures { result ≡ is_given words.now name.now }
@@ -61,7 +61,7 @@ fn is_given(words: &[PinWord<'_>], name: &[u8]) -> bool
     false
 }
 
-// The net that words give to the pin of a name.
+/// The net that words give to the pin of a name.
 #[tactic(auto, using(crate::proofs::PinWordLemmas::searches))]
 fn given<'a>(words: &[PinWord<'a>], pin: &Pin) -> Option<&'a [u8]>
     ensures { option_copied result ≡ given words.now pin.now }
@@ -74,7 +74,7 @@ fn given<'a>(words: &[PinWord<'a>], pin: &Pin) -> Option<&'a [u8]>
     None
 }
 
-// Whether a pin is of a role; the two roles of a register's outputs are one here.
+/// Whether a pin is of a role; the two roles of a register's outputs are one here.
 fn has_role(pin: &Pin, role: Role) -> bool
     ensures { result ≡ has_role role pin.now }
 {

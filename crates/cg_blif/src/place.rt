@@ -14,9 +14,9 @@ use crate::pins::{are_for_pins, nets_of, outputs_of};
 use cg_blif_text::fault::LineFault;
 use cg_blif_text::statement::PinWord;
 use cg_blif_text::word::Word;
+use cg_builder::builder::Builder;
 use cg_cell::cell::{CellKind, CellType, Role};
 use cg_cell::library::Library;
-use cg_netlist::builder::Builder;
 use std::alloc::Global;
 
 /// Adds the cell of a `.gate` line.
@@ -37,7 +37,7 @@ pub fn place(
     }
 }
 
-// Adds a cell with nets at its pins.
+/// Adds a cell with nets at its pins.
 #[tactic(auto, using(crate::proofs::PlaceLemmas::kinds))]
 fn place_cell(
     alloc: Global,
@@ -63,7 +63,7 @@ fn place_cell(
     }
 }
 
-// The nets at the pins of a role, each of which must have one.
+/// The nets at the pins of a role, each of which must have one.
 fn all_at<'a>(
     alloc: Global,
     cell: &CellType,
@@ -79,7 +79,7 @@ fn all_at<'a>(
     }
 }
 
-// Adds a logic cell with nets at its pins.
+/// Adds a logic cell with nets at its pins.
 #[tactic(auto, using(crate::proofs::PlaceLemmas::logic))]
 fn place_logic(
     alloc: Global,
@@ -100,7 +100,7 @@ fn place_logic(
     heard(builder.logic(cell, &inputs, outputs[0]))
 }
 
-// Adds a gating cell with nets at its pins.
+/// Adds a gating cell with nets at its pins.
 #[tactic(auto, using(crate::proofs::PlaceLemmas::gaters))]
 fn place_gater(
     alloc: Global,
@@ -124,7 +124,7 @@ fn place_gater(
     heard(builder.gater(cell, clocks[0], enables[0], test, outputs[0]))
 }
 
-// Adds a register with nets at its pins.
+/// Adds a register with nets at its pins.
 #[tactic(auto, using(crate::proofs::PlaceLemmas::flops))]
 fn place_flop(
     alloc: Global,

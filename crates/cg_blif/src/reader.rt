@@ -20,8 +20,8 @@ use crate::reading::{Reading, close, is_row};
 use cg_blif_text::fault::BlifFault;
 use cg_blif_text::place::Place;
 use cg_blif_text::word::Word;
+use cg_builder::builder::Builder;
 use cg_cell::library::Library;
-use cg_netlist::builder::Builder;
 use cg_netlist::fault::NetFault;
 use cg_netlist::netlist::Netlist;
 use std::alloc::Global;
@@ -51,7 +51,7 @@ pub fn read_blif(
     read(alloc, text, library, options)
 }
 
-// Reads a text with cells of a library.
+/// Reads a text with cells of a library.
 fn read(
     alloc: Global,
     text: &[u8],
@@ -67,7 +67,7 @@ fn read(
     }
 }
 
-// The netlist of the parts that a builder was told.
+/// The netlist of the parts that a builder was told.
 #[tactic(auto, using(crate::proofs::NetlistLemmas::finish_fails))]
 fn finish(builder: Builder) -> Result<Netlist, BlifFault>
     requires { builder.refused ≡ None }
@@ -79,7 +79,7 @@ fn finish(builder: Builder) -> Result<Netlist, BlifFault>
     }
 }
 
-// The fault of a text whose parts have this one.
+/// The fault of a text whose parts have this one.
 fn unfinished(fault: NetFault) -> BlifFault
     ensures { result ≡ unfinished fault }
 {
@@ -93,7 +93,7 @@ fn unfinished(fault: NetFault) -> BlifFault
     }
 }
 
-// The builder of the parts that a text tells.
+/// The builder of the parts that a text tells.
 fn tell(
     alloc: Global,
     text: &[u8],
@@ -113,7 +113,7 @@ fn tell(
     }
 }
 
-// What all lines of a text tell.
+/// What all lines of a text tell.
 fn read_lines<'a>(
     alloc: Global,
     text: &'a [u8],
@@ -147,7 +147,7 @@ fn read_lines<'a>(
     }
 }
 
-// The fault of a text whose next line has this number, and a word that is no name: that of the open cover comes first.
+/// The fault of a text whose next line has this number, and a word that is no name: that of the open cover comes first.
 fn close_at(alloc: Global, reading: Reading<'_>, number: u64) -> BlifFault
     requires { IsAt reading }
     ensures { ClosesAt reading.entry number result }
@@ -160,7 +160,7 @@ fn close_at(alloc: Global, reading: Reading<'_>, number: u64) -> BlifFault
     }
 }
 
-// Reads a line of these words.
+/// Reads a line of these words.
 fn read_line<'a>(
     alloc: Global,
     library: &Library,

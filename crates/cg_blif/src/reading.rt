@@ -18,8 +18,8 @@ use cg_blif_text::fault::LineFault;
 use cg_blif_text::place::Place;
 use cg_blif_text::statement::Statement;
 use cg_blif_text::word::Word;
+use cg_builder::builder::Builder;
 use cg_cell::library::Library;
-use cg_netlist::builder::Builder;
 use std::alloc::{AllocError, Global};
 
 /// What was read of a text so far: where the next line stands, the parts of all lines but an open cover, and the cover
@@ -110,7 +110,7 @@ pub fn close(
     }
 }
 
-// Gives what a statement says to the builder, and opens the cover of a `.names` line.
+/// Gives what a statement says to the builder, and opens the cover of a `.names` line.
 fn say<'a>(
     alloc: Global,
     library: &Library,
@@ -152,14 +152,14 @@ fn say<'a>(
     }
 }
 
-// Whether a line is a `.model` line.
+/// Whether a line is a `.model` line.
 fn is_model(meaning: &Result<Statement<'_>, LineFault>) -> bool
     ensures { result ≡ is_model meaning.now }
 {
     matches!(meaning, Ok(Statement::Model(_)))
 }
 
-// What is wrong where a line stands: a `.model` line is the first line, and nothing stands behind the `.end` line.
+/// What is wrong where a line stands: a `.model` line is the first line, and nothing stands behind the `.end` line.
 fn misplaced(place: Place, is_model: bool) -> Option<LineFault>
     ensures { result ≡ misplaced place is_model }
 {
@@ -170,7 +170,7 @@ fn misplaced(place: Place, is_model: bool) -> Option<LineFault>
     }
 }
 
-// Where the line behind a statement stands.
+/// Where the line behind a statement stands.
 fn next_place(place: Place, statement: &Statement<'_>) -> Place
     ensures { result ≡ next_place place statement.now }
 {

@@ -34,7 +34,7 @@ pub fn statement_of<'a>(
     behind(alloc, command_of(first.bytes()), words)
 }
 
-// Takes the first of some words away.
+/// Takes the first of some words away.
 fn take_first<'a>(words: &mut Vec<Word<'a>>) -> Word<'a>
     requires { 0 < length words.old.items }
     ensures { words.old.items ≡ result ∷ words.new.items }
@@ -42,7 +42,7 @@ fn take_first<'a>(words: &mut Vec<Word<'a>>) -> Word<'a>
     words.remove(0)
 }
 
-// The statement of a line of this command, with these words behind it.
+/// The statement of a line of this command, with these words behind it.
 fn behind<'a>(
     alloc: Global,
     command: Command,
@@ -64,7 +64,7 @@ fn behind<'a>(
     }
 }
 
-// The `.model` line of these words.
+/// The `.model` line of these words.
 fn model_line<'a>(words: Vec<Word<'a>>) -> Result<Statement<'a>, LineFault>
     ensures { result ≡ behind Model words.entry.items }
 {
@@ -74,7 +74,7 @@ fn model_line<'a>(words: Vec<Word<'a>>) -> Result<Statement<'a>, LineFault>
     }
 }
 
-// The `.names` line of these words.
+/// The `.names` line of these words.
 fn names_line<'a>(words: Vec<Word<'a>>) -> Result<Statement<'a>, LineFault>
     ensures { result ≡ names_line words.entry.items }
 {
@@ -88,7 +88,7 @@ fn names_line<'a>(words: Vec<Word<'a>>) -> Result<Statement<'a>, LineFault>
     }
 }
 
-// The `.gate` line of these words.
+/// The `.gate` line of these words.
 fn gate_line<'a>(
     alloc: Global,
     words: Vec<Word<'a>>,
@@ -104,7 +104,7 @@ fn gate_line<'a>(
     }
 }
 
-// The `.end` line of these words.
+/// The `.end` line of these words.
 fn end_line<'a>(words: Vec<Word<'a>>) -> Result<Statement<'a>, LineFault>
     ensures { result ≡ behind End words.entry.items }
 {

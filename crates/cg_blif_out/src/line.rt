@@ -32,7 +32,7 @@ pub fn push_statement(out: &mut Vec<u8>, statement: &Statement<'_>) -> Result<()
     }
 }
 
-// Appends words, each behind a space.
+/// Appends words, each behind a space.
 #[tactic(auto, using(crate::proofs::WritingLemmas::names))]
 fn push_words(out: &mut Vec<u8>, words: &[Word<'_>]) -> Result<(), AllocError>
     ensures { OnOk result (out.new.items ≡ out.old.items ++ spaced words.now) }
@@ -44,7 +44,7 @@ fn push_words(out: &mut Vec<u8>, words: &[Word<'_>]) -> Result<(), AllocError>
     Ok(())
 }
 
-// Appends a line of a command and words.
+/// Appends a line of a command and words.
 #[tactic(auto, using(crate::proofs::WritingLemmas::lines))]
 fn push_line(out: &mut Vec<u8>, command: &[u8], words: &[Word<'_>]) -> Result<(), AllocError>
     ensures { OnOk result (out.new.items ≡ out.old.items ++ line_text (command.now ∷ words.now)) }
@@ -54,7 +54,7 @@ fn push_line(out: &mut Vec<u8>, command: &[u8], words: &[Word<'_>]) -> Result<()
     out.extend_from_slice(b"\n")
 }
 
-// Appends a `.names` line.
+/// Appends a `.names` line.
 #[tactic(auto, using(crate::proofs::WritingLemmas::names_lines))]
 fn push_names(out: &mut Vec<u8>, inputs: &[Word<'_>], output: &Word<'_>) -> Result<(), AllocError>
     ensures { OnOk result (out.new.items ≡ out.old.items ++ line_text (statement_line (Names inputs.now output.now))) }
@@ -66,7 +66,7 @@ fn push_names(out: &mut Vec<u8>, inputs: &[Word<'_>], output: &Word<'_>) -> Resu
     out.extend_from_slice(b"\n")
 }
 
-// Appends a `.latch` line.
+/// Appends a `.latch` line.
 #[tactic(auto, using(crate::proofs::WritingLemmas::latches))]
 fn push_latch(
     out: &mut Vec<u8>,
@@ -87,7 +87,7 @@ fn push_latch(
     out.extend_from_slice(&[b' ', b'0' + init, b'\n'])
 }
 
-// Appends the clock of a register, and `NIL` for the one global clock.
+/// Appends the clock of a register, and `NIL` for the one global clock.
 fn push_clock(out: &mut Vec<u8>, clock: &Option<Word<'_>>) -> Result<(), AllocError>
     ensures { OnOk result (out.new.items ≡ out.old.items ++ unwrap_or clock.now NIL) }
 {
@@ -97,7 +97,7 @@ fn push_clock(out: &mut Vec<u8>, clock: &Option<Word<'_>>) -> Result<(), AllocEr
     }
 }
 
-// Appends a `.gate` line.
+/// Appends a `.gate` line.
 #[tactic(auto, using(crate::proofs::WritingLemmas::gates))]
 fn push_gate(out: &mut Vec<u8>, cell: &Word<'_>, pins: &[PinWord<'_>]) -> Result<(), AllocError>
     ensures { OnOk result (out.new.items ≡ out.old.items ++ line_text (statement_line (Gate cell.now pins.now))) }
@@ -108,7 +108,7 @@ fn push_gate(out: &mut Vec<u8>, cell: &Word<'_>, pins: &[PinWord<'_>]) -> Result
     out.extend_from_slice(b"\n")
 }
 
-// Appends pins with their nets, each behind a space.
+/// Appends pins with their nets, each behind a space.
 #[tactic(auto, using(crate::proofs::WritingLemmas::pins))]
 fn push_pins(out: &mut Vec<u8>, pins: &[PinWord<'_>]) -> Result<(), AllocError>
     ensures { OnOk result (out.new.items ≡ out.old.items ++ pins_text pins.now) }
@@ -119,7 +119,7 @@ fn push_pins(out: &mut Vec<u8>, pins: &[PinWord<'_>]) -> Result<(), AllocError>
     Ok(())
 }
 
-// Appends a pin with its net, behind a space.
+/// Appends a pin with its net, behind a space.
 fn push_pin(out: &mut Vec<u8>, pin: &PinWord<'_>) -> Result<(), AllocError>
     ensures { OnOk result (out.new.items ≡ out.old.items ++ 32 ∷ pin_text pin.now) }
 {

@@ -23,7 +23,8 @@ pub fn push_cell(
 ) -> Result<(), AllocError>
     requires netlist { IsNetlist netlist.now }
     requires id { id < length netlist.now.cells }
-    ensures { OnOk result ((cell : LogicCell ℕ) → slice_get netlist.now.cells id ≡ Some cell → out.new.items ≡ out.old.items ++ cell_text netlist.now.names cell) }
+    ensures { OnOk result ((cell : LogicCell ℕ) → slice_get netlist.now.cells id ≡ Some cell
+        → out.new.items ≡ out.old.items ++ cell_text netlist.now.names cell) }
 {
     let cell = netlist.cell(id);
     let statement = cell_statement(alloc, netlist, &cell)?;
@@ -31,7 +32,7 @@ pub fn push_cell(
     push_function_rows(out, &cell.function)
 }
 
-// Appends the rows of a cover, and nothing for a placed cell.
+/// Appends the rows of a cover, and nothing for a placed cell.
 fn push_function_rows(out: &mut Vec<u8>, function: &Function<'_>) -> Result<(), AllocError>
     ensures { OnOk result (out.new.items ≡ out.old.items ++ function_rows (function_seen function.now)) }
 {
@@ -50,7 +51,8 @@ pub fn push_gater(
 ) -> Result<(), AllocError>
     requires netlist { IsNetlist netlist.now }
     requires id { id < length netlist.now.gaters }
-    ensures { OnOk result ((gater : GatingCell ℕ) → slice_get netlist.now.gaters id ≡ Some gater → out.new.items ≡ out.old.items ++ gater_text netlist.now.names gater) }
+    ensures { OnOk result ((gater : GatingCell ℕ) → slice_get netlist.now.gaters id ≡ Some gater
+        → out.new.items ≡ out.old.items ++ gater_text netlist.now.names gater) }
 {
     let gater = netlist.gater(id);
     let statement = gater_statement(alloc, netlist, &gater)?;
@@ -66,7 +68,8 @@ pub fn push_register(
 ) -> Result<(), AllocError>
     requires netlist { IsNetlist netlist.now }
     requires id { id < length netlist.now.registers }
-    ensures { OnOk result ((register : RegisterCell ℕ ℕ) → slice_get netlist.now.registers id ≡ Some register → out.new.items ≡ out.old.items ++ register_text netlist.now.names register) }
+    ensures { OnOk result ((register : RegisterCell ℕ ℕ) → slice_get netlist.now.registers id ≡ Some register
+        → out.new.items ≡ out.old.items ++ register_text netlist.now.names register) }
 {
     let statement = register_statement(alloc, netlist, id)?;
     push_statement(out, &statement)

@@ -17,7 +17,7 @@ use cg_netlist::netlist::Netlist;
 use cg_netlist::view::{GaterView, RegView};
 use std::alloc::{AllocError, Global};
 
-// Puts a pin with its net behind others.
+/// Puts a pin with its net behind others.
 fn push_pin<'a>(
     words: &mut Vec<PinWord<'a>>,
     netlist: &'a Netlist,
@@ -45,7 +45,8 @@ pub fn logic_pins<'a>(
 ) -> Result<Vec<PinWord<'a>>, AllocError>
     requires inputs { AreNets netlist.now inputs.now }
     requires output { IsNet netlist.now output }
-    ensures { IfOk result (λ words. words.items ≡ pin_pairs pins.entry.now (logic_nets pins.entry.now (map (net_name netlist.entry.now.names) inputs.now) (net_name netlist.entry.now.names output))) }
+    ensures { IfOk result (λ words. words.items ≡ pin_pairs pins.entry.now
+        (logic_nets pins.entry.now (map (net_name netlist.entry.now.names) inputs.now) (net_name netlist.entry.now.names output))) }
 {
     let mut words = Vec::with_capacity(alloc, pins.len())?;
     let mut next = 0;
@@ -55,8 +56,8 @@ pub fn logic_pins<'a>(
     Ok(words)
 }
 
-// Puts a pin of a logic cell behind others, `next` being the number of inputs that were put; answers the number of inputs that
-// are put then.
+/// Puts a pin of a logic cell behind others, `next` being the number of inputs that were put; answers the number of inputs that
+/// are put then.
 #[tactic(auto, using(crate::proofs::PinLemmas::logic))]
 fn push_logic_pin<'a>(
     words: &mut Vec<PinWord<'a>>,
@@ -68,8 +69,10 @@ fn push_logic_pin<'a>(
 ) -> Result<usize, AllocError>
     requires inputs { AreNets netlist.now inputs.now }
     requires output { IsNet netlist.now output }
-    ensures { IfOk result (λ after. (later : List PinData) → words.new.items ++ pin_pairs later (logic_nets later (map (net_name netlist.entry.now.names) (drop after inputs.now)) (net_name netlist.entry.now.names output))
-        ≡ words.old.items ++ pin_pairs (pin.entry.now ∷ later) (logic_nets (pin.entry.now ∷ later) (map (net_name netlist.entry.now.names) (drop next inputs.now)) (net_name netlist.entry.now.names output))) }
+    ensures { IfOk result (λ after. (later : List PinData) → words.new.items ++ pin_pairs later
+        (logic_nets later (map (net_name netlist.entry.now.names) (drop after inputs.now)) (net_name netlist.entry.now.names output))
+        ≡ words.old.items ++ pin_pairs (pin.entry.now ∷ later)
+        (logic_nets (pin.entry.now ∷ later) (map (net_name netlist.entry.now.names) (drop next inputs.now)) (net_name netlist.entry.now.names output))) }
 {
     if pin.role() == Role::Output {
         push_pin(words, netlist, pin, output)?;
@@ -91,7 +94,8 @@ pub fn gater_pins<'a>(
     gater: &GaterView<'_>,
 ) -> Result<Vec<PinWord<'a>>, AllocError>
     requires { GaterNets netlist.now (gater_seen gater.now) }
-    ensures { IfOk result (λ words. words.items ≡ pin_pairs pins.entry.now (map (gater_net (map_gater (net_name netlist.entry.now.names) (gater_seen gater.now))) pins.entry.now)) }
+    ensures { IfOk result (λ words. words.items ≡ pin_pairs pins.entry.now
+        (map (gater_net (map_gater (net_name netlist.entry.now.names) (gater_seen gater.now))) pins.entry.now)) }
 {
     let mut words = Vec::with_capacity(alloc, pins.len())?;
     'pins: for pin in pins {
@@ -100,7 +104,7 @@ pub fn gater_pins<'a>(
     Ok(words)
 }
 
-// Puts a pin of a gating cell behind others, where it has a net.
+/// Puts a pin of a gating cell behind others, where it has a net.
 fn push_gater_pin<'a>(
     words: &mut Vec<PinWord<'a>>,
     netlist: &'a Netlist,
@@ -108,7 +112,8 @@ fn push_gater_pin<'a>(
     gater: &GaterView<'_>,
 ) -> Result<(), AllocError>
     requires { GaterNets netlist.now (gater_seen gater.now) }
-    ensures { OnOk result (words.new.items ≡ words.old.items ++ one_pair pin.entry.now (gater_net (map_gater (net_name netlist.entry.now.names) (gater_seen gater.now)) pin.entry.now)) }
+    ensures { OnOk result (words.new.items ≡ words.old.items ++ one_pair pin.entry.now
+        (gater_net (map_gater (net_name netlist.entry.now.names) (gater_seen gater.now)) pin.entry.now)) }
 {
     match pin.role() {
         Role::Clock => push_pin(words, netlist, pin, gater.clock),
@@ -122,7 +127,7 @@ fn push_gater_pin<'a>(
     }
 }
 
-// How many inputs and how many outputs of a register were put.
+/// How many inputs and how many outputs of a register were put.
 #[derive(Clone, Copy)]
 struct Put {
     inputs: usize,
@@ -140,7 +145,8 @@ pub fn flop_pins<'a>(
 ) -> Result<Vec<PinWord<'a>>, AllocError>
     requires nets { RegisterNets netlist.now (register_seen register.now) }
     requires places { length register.now.pins.now ≡ length register.now.outputs.now }
-    ensures { IfOk result (λ words. words.items ≡ pin_pairs pins.entry.now (seen_nets netlist.entry.now.names (register_seen register.now) 0 pins.entry.now 0 0)) }
+    ensures { IfOk result
+        (λ words. words.items ≡ pin_pairs pins.entry.now (seen_nets netlist.entry.now.names (register_seen register.now) 0 pins.entry.now 0 0)) }
 {
     let mut words = Vec::with_capacity(alloc, pins.len())?;
     let mut put = Put {
@@ -153,7 +159,7 @@ pub fn flop_pins<'a>(
     Ok(words)
 }
 
-// Puts the pin of a register at a place behind others, so much being put; answers how much is put then.
+/// Puts the pin of a register at a place behind others, so much being put; answers how much is put then.
 #[tactic(auto, using(crate::proofs::PinLemmas::flop))]
 fn push_flop_pin<'a>(
     words: &mut Vec<PinWord<'a>>,
@@ -165,8 +171,10 @@ fn push_flop_pin<'a>(
 ) -> Result<Put, AllocError>
     requires nets { RegisterNets netlist.now (register_seen register.now) }
     requires places { length register.now.pins.now ≡ length register.now.outputs.now }
-    ensures { IfOk result (λ after. (later : List PinData) → words.new.items ++ pin_pairs later (seen_nets netlist.entry.now.names (register_seen register.now) (at + 1) later after.inputs after.outputs)
-        ≡ words.old.items ++ pin_pairs (pin.entry.now ∷ later) (seen_nets netlist.entry.now.names (register_seen register.now) at (pin.entry.now ∷ later) put.inputs put.outputs)) }
+    ensures { IfOk result (λ after. (later : List PinData)
+        → words.new.items ++ pin_pairs later (seen_nets netlist.entry.now.names (register_seen register.now) (at + 1) later after.inputs after.outputs)
+        ≡ words.old.items ++ pin_pairs (pin.entry.now ∷ later)
+        (seen_nets netlist.entry.now.names (register_seen register.now) at (pin.entry.now ∷ later) put.inputs put.outputs)) }
 {
     match pin.role() {
         Role::Clock => {
@@ -180,7 +188,7 @@ fn push_flop_pin<'a>(
     }
 }
 
-// Puts an output pin at a place behind others, if it is the next that is connected.
+/// Puts an output pin at a place behind others, if it is the next that is connected.
 #[tactic(auto, using(crate::proofs::PinLemmas::flop))]
 fn push_output<'a>(
     words: &mut Vec<PinWord<'a>>,
@@ -194,8 +202,10 @@ fn push_output<'a>(
     requires places { length register.now.pins.now ≡ length register.now.outputs.now }
     requires clock { is_clock pin.now ≡ false }
     requires state { is_state pin.now ≡ true }
-    ensures { IfOk result (λ after. (later : List PinData) → words.new.items ++ pin_pairs later (seen_nets netlist.entry.now.names (register_seen register.now) (at + 1) later after.inputs after.outputs)
-        ≡ words.old.items ++ pin_pairs (pin.entry.now ∷ later) (seen_nets netlist.entry.now.names (register_seen register.now) at (pin.entry.now ∷ later) put.inputs put.outputs)) }
+    ensures { IfOk result (λ after. (later : List PinData)
+        → words.new.items ++ pin_pairs later (seen_nets netlist.entry.now.names (register_seen register.now) (at + 1) later after.inputs after.outputs)
+        ≡ words.old.items ++ pin_pairs (pin.entry.now ∷ later)
+        (seen_nets netlist.entry.now.names (register_seen register.now) at (pin.entry.now ∷ later) put.inputs put.outputs)) }
 {
     let Put { inputs, outputs } = put;
     if outputs >= register.outputs.len() {
@@ -211,7 +221,7 @@ fn push_output<'a>(
     })
 }
 
-// Puts an input pin at a place behind others, if an input is left.
+/// Puts an input pin at a place behind others, if an input is left.
 #[tactic(auto, using(crate::proofs::PinLemmas::flop))]
 fn push_input<'a>(
     words: &mut Vec<PinWord<'a>>,
@@ -224,8 +234,10 @@ fn push_input<'a>(
     requires nets { RegisterNets netlist.now (register_seen register.now) }
     requires clock { is_clock pin.now ≡ false }
     requires state { is_state pin.now ≡ false }
-    ensures { IfOk result (λ after. (later : List PinData) → words.new.items ++ pin_pairs later (seen_nets netlist.entry.now.names (register_seen register.now) (at + 1) later after.inputs after.outputs)
-        ≡ words.old.items ++ pin_pairs (pin.entry.now ∷ later) (seen_nets netlist.entry.now.names (register_seen register.now) at (pin.entry.now ∷ later) put.inputs put.outputs)) }
+    ensures { IfOk result (λ after. (later : List PinData)
+        → words.new.items ++ pin_pairs later (seen_nets netlist.entry.now.names (register_seen register.now) (at + 1) later after.inputs after.outputs)
+        ≡ words.old.items ++ pin_pairs (pin.entry.now ∷ later)
+        (seen_nets netlist.entry.now.names (register_seen register.now) at (pin.entry.now ∷ later) put.inputs put.outputs)) }
 {
     let Put { inputs, outputs } = put;
     if inputs >= register.inputs.len() {

@@ -15,7 +15,7 @@ pub fn push_rows(out: &mut Vec<u8>, cover: &Cover) -> Result<(), AllocError>
     push_rows_on(out, cover.rows(), cover.on())
 }
 
-// Appends rows of this value, each as a line.
+/// Appends rows of this value, each as a line.
 #[tactic(auto, using(crate::proofs::WritingLemmas::turns))]
 fn push_rows_on(out: &mut Vec<u8>, rows: &[CoverRow], on: bool) -> Result<(), AllocError>
     ensures { OnOk result (out.new.items ≡ out.old.items ++ rows_text on rows.now) }
@@ -26,7 +26,7 @@ fn push_rows_on(out: &mut Vec<u8>, rows: &[CoverRow], on: bool) -> Result<(), Al
     Ok(())
 }
 
-// Appends a row as a line: the places, if there are inputs, and the value.
+/// Appends a row as a line: the places, if there are inputs, and the value.
 #[tactic(auto, using(crate::proofs::WritingLemmas::rows))]
 fn push_row(out: &mut Vec<u8>, row: &CoverRow, on: bool) -> Result<(), AllocError>
     ensures { OnOk result (out.new.items ≡ out.old.items ++ line_text (row_words on row.now)) }
@@ -40,7 +40,7 @@ fn push_row(out: &mut Vec<u8>, row: &CoverRow, on: bool) -> Result<(), AllocErro
     Ok(())
 }
 
-// Appends a byte for each place of a row.
+/// Appends a byte for each place of a row.
 #[tactic(auto, using(crate::proofs::WritingLemmas::turns))]
 fn push_places(out: &mut Vec<u8>, places: &[Option<bool>]) -> Result<(), AllocError>
     ensures { OnOk result (out.new.items ≡ out.old.items ++ map place_byte places.now) }
@@ -51,14 +51,14 @@ fn push_places(out: &mut Vec<u8>, places: &[Option<bool>]) -> Result<(), AllocEr
     Ok(())
 }
 
-// A bit as a byte.
+/// A bit as a byte.
 fn bit_byte(bit: bool) -> u8
     ensures { result ≡ bit_byte bit }
 {
     if bit { b'1' } else { b'0' }
 }
 
-// A place of a row as a byte: `-` where the row leaves the input open.
+/// A place of a row as a byte: `-` where the row leaves the input open.
 fn place_byte(place: Option<bool>) -> u8
     ensures { result ≡ place_byte place }
 {

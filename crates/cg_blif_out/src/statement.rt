@@ -30,7 +30,8 @@ pub fn cell_statement<'a>(
 ) -> Result<Statement<'a>, AllocError>
     requires netlist { IsNetlist netlist.now }
     requires nets { CellNets netlist.now (cell_seen cell.now) }
-    ensures { IfOk result (λ s. s ≡ function_statement (map (net_name netlist.entry.now.names) cell.entry.now.inputs.now) (net_name netlist.entry.now.names cell.entry.now.output) (function_seen cell.entry.now.function)) }
+    ensures { IfOk result (λ s. s ≡ function_statement (map (net_name netlist.entry.now.names) cell.entry.now.inputs.now)
+        (net_name netlist.entry.now.names cell.entry.now.output) (function_seen cell.entry.now.function)) }
 {
     match cell.function {
         Function::Cover(_) => {
@@ -65,7 +66,8 @@ pub fn register_statement<'a>(
 ) -> Result<Statement<'a>, AllocError>
     requires netlist { IsNetlist netlist.now }
     requires id { id < length netlist.now.registers }
-    ensures { IfOk result (λ s. (register : RegisterCell ℕ ℕ) → slice_get netlist.entry.now.registers id ≡ Some register → (s ≡ register_statement (map_register (net_name netlist.entry.now.names) register)) × (register.init ≤ 3)) }
+    ensures { IfOk result (λ s. (register : RegisterCell ℕ ℕ) → slice_get netlist.entry.now.registers id ≡ Some register
+        → (s ≡ register_statement (map_register (net_name netlist.entry.now.names) register)) × (register.init ≤ 3)) }
 {
     let register = netlist.register(id);
     match register.kind {
@@ -74,7 +76,7 @@ pub fn register_statement<'a>(
     }
 }
 
-// What the line of a placed register says.
+/// What the line of a placed register says.
 fn flop_statement<'a>(
     alloc: Global,
     netlist: &'a Netlist,
@@ -89,14 +91,14 @@ fn flop_statement<'a>(
     Ok(gate_statement(cell, pins))
 }
 
-// What the line of a placed cell says, with these nets at its pins.
+/// What the line of a placed cell says, with these nets at its pins.
 fn gate_statement<'a>(cell: &'a CellType, pins: Vec<PinWord<'a>>) -> Statement<'a>
     ensures { result ≡ Gate cell.entry.now.name pins.entry.items }
 {
     Statement::Gate(Word::new(cell.name().bytes()), Seq::from_vec(pins))
 }
 
-// What the line of a plain register says.
+/// What the line of a plain register says.
 fn plain_statement<'a>(netlist: &'a Netlist, register: &RegView<'a>) -> Statement<'a>
     requires netlist { IsNetlist netlist.now }
     requires nets { RegisterNets netlist.now (register_seen register.now) }

@@ -32,7 +32,7 @@ pub fn write_blif(alloc: Global, netlist: &Netlist) -> Result<Vec<u8>, AllocErro
     canonical(alloc, netlist)
 }
 
-// The canonical text.
+/// The canonical text.
 #[tactic(auto, using(crate::proofs::WholeText::whole))]
 fn canonical(alloc: Global, netlist: &Netlist) -> Result<Vec<u8>, AllocError>
     requires { IsNetlist netlist.now }
@@ -47,7 +47,7 @@ fn canonical(alloc: Global, netlist: &Netlist) -> Result<Vec<u8>, AllocError>
     Ok(out)
 }
 
-// Appends the lines before the parts.
+/// Appends the lines before the parts.
 #[tactic(auto, using(crate::proofs::WholeText::whole))]
 fn push_header(alloc: Global, out: &mut Vec<u8>, netlist: &Netlist) -> Result<(), AllocError>
     requires { IsNetlist netlist.now }
@@ -61,7 +61,7 @@ fn push_header(alloc: Global, out: &mut Vec<u8>, netlist: &Netlist) -> Result<()
     push_clock(alloc, out, netlist)
 }
 
-// Appends the line of the clock, where there is one.
+/// Appends the line of the clock, where there is one.
 fn push_clock(alloc: Global, out: &mut Vec<u8>, netlist: &Netlist) -> Result<(), AllocError>
     requires { IsNetlist netlist.now }
     ensures { OnOk result (out.new.items ≡ out.old.items ++ clock_text netlist.now.names netlist.now.clock) }
@@ -76,7 +76,7 @@ fn push_clock(alloc: Global, out: &mut Vec<u8>, netlist: &Netlist) -> Result<(),
     }
 }
 
-// Appends the lines of the logic cells.
+/// Appends the lines of the logic cells.
 fn push_cells(alloc: Global, out: &mut Vec<u8>, netlist: &Netlist) -> Result<(), AllocError>
     requires { IsNetlist netlist.now }
     ensures { OnOk result (out.new.items ≡ out.old.items ++ flat_map (cell_text netlist.now.names) netlist.now.cells) }
@@ -87,7 +87,7 @@ fn push_cells(alloc: Global, out: &mut Vec<u8>, netlist: &Netlist) -> Result<(),
     Ok(())
 }
 
-// Appends the lines of the gating cells.
+/// Appends the lines of the gating cells.
 fn push_gaters(alloc: Global, out: &mut Vec<u8>, netlist: &Netlist) -> Result<(), AllocError>
     requires { IsNetlist netlist.now }
     ensures { OnOk result (out.new.items ≡ out.old.items ++ flat_map (gater_text netlist.now.names) netlist.now.gaters) }
@@ -98,7 +98,7 @@ fn push_gaters(alloc: Global, out: &mut Vec<u8>, netlist: &Netlist) -> Result<()
     Ok(())
 }
 
-// Appends the lines of the registers.
+/// Appends the lines of the registers.
 fn push_registers(alloc: Global, out: &mut Vec<u8>, netlist: &Netlist) -> Result<(), AllocError>
     requires { IsNetlist netlist.now }
     ensures { OnOk result (out.new.items ≡ out.old.items ++ flat_map (register_text netlist.now.names) netlist.now.registers) }

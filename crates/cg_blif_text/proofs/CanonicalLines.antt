@@ -4,7 +4,7 @@ use Rattle.std.specs.List.{AllByRecursion, flat_map}
 use Rattle.std.specs.Option.{option_to_list}
 use Rattle.std.proofs.lemmas.List.{append-nil}
 use Rattle.cg_cell.specs.Cell.{CellData, IsCell}
-use Rattle.cg_cell.specs.Cover.{CoverData, Fits, IsCover}
+use Rattle.cg_cell.specs.Cover.{CoverData, CoverFits, IsCover}
 use Rattle.cg_cell.specs.Name.{is_name}
 use Rattle.cg_text.specs.declared.lines.Line.{Line}
 use Rattle.cg_text.specs.Written.{numbered}
@@ -96,7 +96,7 @@ module _ (library : List CellData) where
   rows_written on [] = tt
   rows_written on (row ∷ rows) = ((row_written on row, row_named on row), rows_written on rows)
 
-  pub cover_tells : (inputs : List Word) (output : Word) (cover : CoverData) → AllByRecursion IsNamed inputs → IsNamed output → length inputs ≤ 256 → IsCover cover → Fits (length inputs) cover
+  pub cover_tells : (inputs : List Word) (output : Word) (cover : CoverData) → AllByRecursion IsNamed inputs → IsNamed output → length inputs ≤ 256 → IsCover cover → CoverFits (length inputs) cover
       → Tells library (statement_line (Names inputs output) ∷ map (row_words cover.on) cover.rows) (Logic (record { inputs = inputs; output = output; function = Cover cover }) ∷ [])
   cover_tells inputs output cover ins out few is fits = record { tell = tell; written = ((omega arith, named), rows_written cover.on cover.rows) }
     where

@@ -6,7 +6,7 @@ use Rattle.std.proofs.lemmas.Bool.{and_from, eq-eqb, false_from_ne_true, ltb-tru
 use Rattle.std.proofs.lemmas.List.{length-append, length-map}
 use Rattle.std.proofs.lemmas.List.Folds.{list_all-append}
 use Rattle.std.proofs.Math.Dec.{eqb-suc-zero}
-use Rattle.cg_cell.specs.Cover.{CoverData, Fits, IsCover}
+use Rattle.cg_cell.specs.Cover.{CoverData, CoverFits, IsCover}
 use Rattle.cg_cell.specs.Name.{ends_name, is_name, is_name_byte}
 use Rattle.cg_cell.specs.Pins.{PinData}
 use Rattle.cg_limit.specs.declared.Limit.TheVariants.{CoverInputs}
@@ -19,7 +19,7 @@ use Rattle.cg_blif_text.specs.Commands.{are_row}
 use Rattle.cg_blif_text.specs.Latches.{init_of}
 use Rattle.cg_blif_text.specs.Meaning.{front, last, names_line}
 use Rattle.cg_blif_text.specs.PinWords.{pin_word}
-use Rattle.cg_blif_text.specs.Rows.{cover_from, keeps_value, place_of, places_of, put_places, put_row, row_of, row_with, value_of}
+use Rattle.cg_blif_text.specs.Rows.{cover_from, keeps_value, put_places, put_row, row_of, row_place, row_places, row_with, value_of}
 use Rattle.cg_blif_text.proofs.PinPairs.{Word, pin_words}
 use Rattle.cg_blif_text.proofs.PlacedFlop.{IsNamed}
 use Rattle.cg_blif_text.proofs.WordsForPins.{AreNamed}
@@ -96,15 +96,15 @@ row_row on (None ∷ ps) = refl
 row_row on (Some true ∷ ps) = refl
 row_row on (Some false ∷ ps) = refl
 
-place_back : (p : Option Bool) → place_of (place_byte p) ≡ Some p
+place_back : (p : Option Bool) → row_place (place_byte p) ≡ Some p
 place_back None = refl
 place_back (Some true) = refl
 place_back (Some false) = refl
 
-places_back : (ps : List (Option Bool)) → places_of (map place_byte ps) ≡ Some ps
+places_back : (ps : List (Option Bool)) → row_places (map place_byte ps) ≡ Some ps
 places_back [] = refl
 places_back (p ∷ ps) =
-    ap (λ o. option_and_then (λ place. option_map (λ places. place ∷ places) (places_of (map place_byte ps))) o) (place_back p)
+    ap (λ o. option_and_then (λ place. option_map (λ places. place ∷ places) (row_places (map place_byte ps))) o) (place_back p)
     ∙ ap (λ o. option_map (λ places. p ∷ places) o) (places_back ps)
 
 value_back : (on : Bool) → value_of (bit_byte on ∷ []) ≡ Some on
@@ -118,9 +118,9 @@ row_back : (inputs : ℕ) (on : Bool) (row : List (Option Bool)) → length row 
 row_back inputs on [] long =
     ap (λ n. if n == 0 then row_with (Some []) (value_of (bit_byte on ∷ [])) else None) (sym long) ∙ ap (row_with (Some [])) (value_back on)
 row_back inputs on (p ∷ ps) long =
-    ap (λ n. if not (n == 0) && length (map place_byte (p ∷ ps)) == n then row_with (places_of (map place_byte (p ∷ ps))) (value_of (bit_byte on ∷ [])) else None) (sym long)
-    ∙ (ap (λ b. if not b && length (map place_byte (p ∷ ps)) == length (p ∷ ps) then row_with (places_of (map place_byte (p ∷ ps))) (value_of (bit_byte on ∷ [])) else None) (eqb-suc-zero (length ps))
-    ∙ (ap (λ b. if b then row_with (places_of (map place_byte (p ∷ ps))) (value_of (bit_byte on ∷ [])) else None) (ap (λ n. n == length (p ∷ ps)) (length-map (p ∷ ps) place_byte) ∙ same_eqb (length (p ∷ ps)))
+    ap (λ n. if not (n == 0) && length (map place_byte (p ∷ ps)) == n then row_with (row_places (map place_byte (p ∷ ps))) (value_of (bit_byte on ∷ [])) else None) (sym long)
+    ∙ (ap (λ b. if not b && length (map place_byte (p ∷ ps)) == length (p ∷ ps) then row_with (row_places (map place_byte (p ∷ ps))) (value_of (bit_byte on ∷ [])) else None) (eqb-suc-zero (length ps))
+    ∙ (ap (λ b. if b then row_with (row_places (map place_byte (p ∷ ps))) (value_of (bit_byte on ∷ [])) else None) (ap (λ n. n == length (p ∷ ps)) (length-map (p ∷ ps) place_byte) ∙ same_eqb (length (p ∷ ps)))
     ∙ (ap (λ o. row_with o (value_of (bit_byte on ∷ []))) (places_back (p ∷ ps)) ∙ ap (row_with (Some (p ∷ ps))) (value_back on))))
 
 keeps_own : (on : Bool) → keeps_value (Some on) on ≡ true
@@ -137,7 +137,7 @@ rows_on inputs on (row ∷ rows) number fits =
     ∙ (ap (λ b. if b then put_places row (cover_from inputs (numbered (number + 1) (map (row_words on) rows)) (Some on)) else Err (BadCover number)) (keeps_own on)
     ∙ ap (put_places row) (rows_on inputs on rows (number + 1) fits.1)))
 
-pub rows_back : (inputs : ℕ) (cover : CoverData) (number : ℕ) → IsCover cover → Fits inputs cover → cover_from inputs (numbered number (map (row_words cover.on) cover.rows)) None ≡ Ok cover
+pub rows_back : (inputs : ℕ) (cover : CoverData) (number : ℕ) → IsCover cover → CoverFits inputs cover → cover_from inputs (numbered number (map (row_words cover.on) cover.rows)) None ≡ Ok cover
 rows_back inputs cover number is fits = go cover.rows refl fits
   where
     go : (rows : List (List (Option Bool))) → cover.rows ≡ rows → AllByRecursion (λ row. length row ≡ inputs) rows → cover_from inputs (numbered number (map (row_words cover.on) rows)) None ≡ Ok (record { rows = rows; on = cover.on })

@@ -22,7 +22,7 @@ use Rattle.cg_netlist.proofs.said.KnownNames.{itself, same_word}
 use Rattle.cg_blif_text.specs.declared.fault.LineFault.TheVariants.{PinFault}
 use Rattle.cg_blif_text.specs.Canonical.{gater_net}
 use Rattle.cg_blif_text.specs.PinWords.{PinNet}
-use Rattle.cg_blif_text.specs.Placing.{are_for_pins, at_role, gater_part, given, nets_at, part_or, placed_as, placed_by, placed_part, put}
+use Rattle.cg_blif_text.specs.Placing.{are_for_pins, at_role, gater_part, given, nets_at, part_or, placed_as, placed_by, placed_part, put_net}
 use Rattle.cg_blif_text.specs.Canonical.{pin_pairs}
 use Rattle.cg_blif_text.proofs.PinPairs.{Word}
 
@@ -75,8 +75,8 @@ role_of_one role f x has [] = refl
 role_of_one role f x has (p ∷ pins) = go (role p) refl (role_of_one role f x has pins)
   where
     go : (b : Bool) → role p ≡ b → at_role role pins (map f pins) ≡ Some (map (λ pin. x) (filter role pins))
-        → (if b then put (f p) (at_role role pins (map f pins)) else at_role role pins (map f pins)) ≡ Some (map (λ pin. x) (if b then p ∷ filter role pins else filter role pins))
-    go true e rest = ap (λ o. put o (at_role role pins (map f pins))) (has p e) ∙ ap (put (Some x)) rest
+        → (if b then put_net (f p) (at_role role pins (map f pins)) else at_role role pins (map f pins)) ≡ Some (map (λ pin. x) (if b then p ∷ filter role pins else filter role pins))
+    go true e rest = ap (λ o. put_net o (at_role role pins (map f pins))) (has p e) ∙ ap (put_net (Some x)) rest
     go false e rest = rest
 
 pub counted : (role : PinData → Bool) (pins : List PinData) → count_by role pins ≡ length (filter role pins)
@@ -105,7 +105,7 @@ no_role role (net ∷ nets) [] long none = absurd (omega arith)
 no_role role [] (p ∷ pins) long none = absurd (omega arith)
 no_role role (net ∷ nets) (p ∷ pins) long none = go (role p) none (λ none'. no_role role nets pins (omega (arith, long)) none')
   where
-    go : (b : Bool) → length (if b then p ∷ filter role pins else filter role pins) ≡ 0 → (length (filter role pins) ≡ 0 → at_role role pins nets ≡ Some []) → (if b then put net (at_role role pins nets) else at_role role pins nets) ≡ Some []
+    go : (b : Bool) → length (if b then p ∷ filter role pins else filter role pins) ≡ 0 → (length (filter role pins) ≡ 0 → at_role role pins nets ≡ Some []) → (if b then put_net net (at_role role pins nets) else at_role role pins nets) ≡ Some []
     go true none' rest = absurd (omega arith)
     go false none' rest = rest none'
 

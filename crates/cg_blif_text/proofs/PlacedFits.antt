@@ -25,7 +25,7 @@ use Rattle.cg_netlist.proofs.said.Each.{each_together}
 use Rattle.cg_blif_text.specs.declared.fault.LineFault.{LineFault}
 use Rattle.cg_blif_text.specs.declared.fault.LineFault.TheVariants.{PinFault}
 use Rattle.cg_blif_text.specs.PinWords.{PinNet}
-use Rattle.cg_blif_text.specs.Placing.{Shown, are_for_pins, at_role, flop_part, gater_part, given, has_name, is_bar, is_for_pin, logic_part, nets_at, part_or, placed_as, placed_part, put, show, shown_at}
+use Rattle.cg_blif_text.specs.Placing.{Shown, are_for_pins, at_role, flop_part, gater_part, given, has_name, is_bar, is_for_pin, logic_part, nets_at, part_or, placed_as, placed_part, put_net, show, shown_at}
 use Rattle.cg_blif_text.proofs.PinPairs.{Word}
 use Rattle.cg_blif_text.proofs.PlacedFlop.{Along, IsNamed}
 use Rattle.cg_blif_text.proofs.WordsForPins.{AreNamed}
@@ -45,7 +45,7 @@ role_is role [] nets xs named is = let none : [] ≡ xs = same_Some [] xs is in 
 role_is role (p ∷ pins) [] xs named is = absurd (cc)
 role_is role (p ∷ pins) (net ∷ nets) xs named is = go (role p) refl net (at_role role pins nets) named.0 is (λ ys r. role_is role pins nets ys named.1 r)
   where
-    go : (b : Bool) → role p ≡ b → (o : Option Word) (rest : Option (List Word)) → AllByRecursion IsNamed (option_to_list o) → (if b then put o rest else rest) ≡ Some xs → ((ys : List Word) → rest ≡ Some ys → AtRole role pins ys) → AtRole role (p ∷ pins) xs
+    go : (b : Bool) → role p ≡ b → (o : Option Word) (rest : Option (List Word)) → AllByRecursion IsNamed (option_to_list o) → (if b then put_net o rest else rest) ≡ Some xs → ((ys : List Word) → rest ≡ Some ys → AtRole role pins ys) → AtRole role (p ∷ pins) xs
     go true e None None n q back = absurd (cc)
     go true e None (Some ys) n q back = absurd (cc)
     go true e (Some x) None n q back = absurd (cc)

@@ -25,7 +25,7 @@ use Rattle.cg_netlist.specs.said.Writable.{KindIsOf, cell_named}
 use Rattle.cg_netlist.proofs.said.Each.{each_back, each_front}
 use Rattle.cg_blif_text.specs.declared.fault.LineFault.TheVariants.{PinFault}
 use Rattle.cg_blif_text.specs.Canonical.{flop_nets, left_here, net_here, with_places}
-use Rattle.cg_blif_text.specs.Placing.{Shown, at_role, flop_part, is_bar, nets_at, part_or, placed_as, placed_by, placed_part, put, show, shown_at}
+use Rattle.cg_blif_text.specs.Placing.{Shown, at_role, flop_part, is_bar, nets_at, part_or, placed_as, placed_by, placed_part, put_net, show, shown_at}
 use Rattle.cg_blif_text.proofs.NetsAtPins.{counted, nets_back, one_left}
 use Rattle.cg_blif_text.specs.Canonical.{pin_pairs}
 use Rattle.cg_blif_text.proofs.PinPairs.{Word}
@@ -134,7 +134,7 @@ clocks_at at (p ∷ pins) inputs clock shown = elim (cases_Bool (is_clock p)) [
   | inl c ↦
       let s = (clock_apart p.name p.role c).0 in
       ap (at_role is_clock (p ∷ pins)) (if_step true false p at pins inputs clock shown c s)
-      ∙ (at_step is_clock p pins (Some clock) (flop_nets (at + 1) pins inputs clock shown) true c ∙ (ap (put (Some clock)) (clocks_at (at + 1) pins inputs clock shown) ∙ kept true c))
+      ∙ (at_step is_clock p pins (Some clock) (flop_nets (at + 1) pins inputs clock shown) true c ∙ (ap (put_net (Some clock)) (clocks_at (at + 1) pins inputs clock shown) ∙ kept true c))
   | inr c ↦ elim (cases_Bool (is_state p)) [
     | inl s ↦ ap (at_role is_clock (p ∷ pins)) (if_step false true p at pins inputs clock shown c s)
         ∙ (at_step is_clock p pins (net_here at shown) (flop_nets (at + 1) pins inputs clock (left_here at shown)) false c ∙ (clocks_at (at + 1) pins inputs clock (left_here at shown) ∙ kept false c))
@@ -178,9 +178,9 @@ data_at at (p ∷ pins) inputs clock shown only count = elim (cases_Bool (is_clo
 ]
   where
     next : (ins : List Word) → suc (count_by is_data pins) ≡ length ins → ((js : List Word) → count_by is_data pins ≡ length js → at_role is_data pins (flop_nets (at + 1) pins js clock shown) ≡ Some js)
-        → put (slice_get ins 0) (at_role is_data pins (flop_nets (at + 1) pins (drop 1 ins) clock shown)) ≡ Some ins
+        → put_net (slice_get ins 0) (at_role is_data pins (flop_nets (at + 1) pins (drop 1 ins) clock shown)) ≡ Some ins
     next [] n rest = absurd (omega arith)
-    next (i ∷ is) n rest = ap (put (Some i)) (rest is (omega (arith, n)))
+    next (i ∷ is) n rest = ap (put_net (Some i)) (rest is (omega (arith, n)))
 
 -- outputs in pin order, as their pins tell
 along_from : (all : List PinData) (at : ℕ) (outputs : List (Word × Bool)) (places : List ℕ) → AllZip (ShowsAsPin all) outputs places → IsStrictlyIncreasing places → ((n : ℕ) → slice_get places 0 ≡ Some n → at ≤ n) → Along (slice_get all) at (with_places outputs places)

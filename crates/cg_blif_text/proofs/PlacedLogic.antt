@@ -17,7 +17,7 @@ use Rattle.cg_netlist.specs.said.Part.{Logic, Gate, mentioned}
 use Rattle.cg_netlist.specs.said.Writable.{cell_named}
 use Rattle.cg_blif_text.specs.declared.fault.LineFault.TheVariants.{PinFault}
 use Rattle.cg_blif_text.specs.Canonical.{logic_nets}
-use Rattle.cg_blif_text.specs.Placing.{at_role, logic_part, nets_at, part_or, placed_as, placed_by, placed_part, put}
+use Rattle.cg_blif_text.specs.Placing.{at_role, logic_part, nets_at, part_or, placed_as, placed_by, placed_part, put_net}
 use Rattle.cg_blif_text.proofs.NetsAtPins.{counted, gater_nets, nets_back, one_left}
 use Rattle.cg_blif_text.specs.Canonical.{pin_pairs}
 use Rattle.cg_blif_text.proofs.PinPairs.{Word}
@@ -56,13 +56,13 @@ outputs_at : (pins : List PinData) (inputs : List Word) (output : Word) → at_r
 outputs_at [] inputs output = refl
 outputs_at (p ∷ pins) [] output = elim (cases_Bool (is_output p)) [
   | inl e ↦ ap (λ b. at_role is_output (p ∷ pins) ((if b then Some output else None) ∷ logic_nets pins [] output)) e
-      ∙ (at_step is_output p pins (Some output) (logic_nets pins [] output) true e ∙ (ap (put (Some output)) (outputs_at pins [] output) ∙ kept p pins output true e))
+      ∙ (at_step is_output p pins (Some output) (logic_nets pins [] output) true e ∙ (ap (put_net (Some output)) (outputs_at pins [] output) ∙ kept p pins output true e))
   | inr e ↦ ap (λ b. at_role is_output (p ∷ pins) ((if b then Some output else None) ∷ logic_nets pins [] output)) e
       ∙ (at_step is_output p pins None (logic_nets pins [] output) false e ∙ (outputs_at pins [] output ∙ kept p pins output false e))
 ]
 outputs_at (p ∷ pins) (i ∷ is) output = elim (cases_Bool (is_output p)) [
   | inl e ↦ ap (λ b. at_role is_output (p ∷ pins) (if b then Some output ∷ logic_nets pins (i ∷ is) output else Some i ∷ logic_nets pins is output)) e
-      ∙ (at_step is_output p pins (Some output) (logic_nets pins (i ∷ is) output) true e ∙ (ap (put (Some output)) (outputs_at pins (i ∷ is) output) ∙ kept p pins output true e))
+      ∙ (at_step is_output p pins (Some output) (logic_nets pins (i ∷ is) output) true e ∙ (ap (put_net (Some output)) (outputs_at pins (i ∷ is) output) ∙ kept p pins output true e))
   | inr e ↦ ap (λ b. at_role is_output (p ∷ pins) (if b then Some output ∷ logic_nets pins (i ∷ is) output else Some i ∷ logic_nets pins is output)) e
       ∙ (at_step is_output p pins (Some i) (logic_nets pins is output) false e ∙ (outputs_at pins is output ∙ kept p pins output false e))
 ]
@@ -90,7 +90,7 @@ inputs_at (p ∷ pins) (i ∷ is) output only count = elim (cases_Bool (is_outpu
       let d : is_data p ≡ true = data_only (is_data p) (is_output p) only.0 e in
       let less : count_by is_data pins ≡ length is = omega (arith, count, count_step p pins true d) in
       ap (λ b. at_role is_data (p ∷ pins) (if b then Some output ∷ logic_nets pins (i ∷ is) output else Some i ∷ logic_nets pins is output)) e
-      ∙ (at_step is_data p pins (Some i) (logic_nets pins is output) true d ∙ ap (put (Some i)) (inputs_at pins is output only.1 less))
+      ∙ (at_step is_data p pins (Some i) (logic_nets pins is output) true d ∙ ap (put_net (Some i)) (inputs_at pins is output only.1 less))
 ]
 
 pub nets_named : (pins : List PinData) (inputs : List Word) (output : Word) → AllByRecursion (λ net. IsTrue (is_name net)) inputs → IsTrue (is_name output) → AreNamed (logic_nets pins inputs output)

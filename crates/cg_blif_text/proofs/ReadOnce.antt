@@ -24,7 +24,7 @@ use Rattle.cg_netlist.proofs.said.NoneBeside.{faultless}
 use Rattle.cg_netlist.proofs.said.OneFault.{no_fault, one_fault}
 use Rattle.cg_blif_text.specs.declared.fault.BlifFault.{BlifFault}
 use Rattle.cg_blif_text.specs.declared.fault.BlifFault.TheVariants.{Net, NoMemory}
-use Rattle.cg_blif_text.specs.BlifText.{BlifText, HasNetFault, Tells, told_by}
+use Rattle.cg_blif_text.specs.BlifText.{BlifText, HasNetFault, TellsParts, told_by}
 use Rattle.cg_blif_text.specs.ReadAs.{AreProper, IsReadAs, IsRefused, ReadAs}
 use Rattle.cg_blif_text.specs.Telling.{Told}
 use Rattle.cg_blif_text.proofs.CanonicalText.{no_two}

@@ -5,7 +5,7 @@ use Rattle.std.specs.Option.{option_to_list}
 use Rattle.std.specs.Str.{bytes_eq}
 use Rattle.std.proofs.lemmas.Option.{same_Some}
 use Rattle.cg_cell.specs.Cell.{CellData, IsCell}
-use Rattle.cg_cell.specs.Cover.{CoverData, Fits, IsCover}
+use Rattle.cg_cell.specs.Cover.{CoverData, CoverFits, IsCover}
 use Rattle.cg_limit.specs.declared.Limit.{Limit}
 use Rattle.cg_text.specs.declared.lines.Line.{Line}
 use Rattle.cg_netlist.specs.declared.parts.LogicFunction.TheVariants.{Cover}
@@ -95,7 +95,7 @@ module _ (library : List CellData) (cells : AllByRecursion IsCell library) where
 
   -- the cover of a statement's rows
   abbrev IsCoverOf : Statement → CoverData → Type 0
-  IsCoverOf (Names inputs output) cover = IsCover cover × Fits (length inputs) cover
+  IsCoverOf (Names inputs output) cover = IsCover cover × CoverFits (length inputs) cover
   IsCoverOf statement cover = Unit {0}
 
   rows_cover : (statement : Statement) (rows : List Line) (cover : CoverData) → rows_behind statement rows ≡ Ok cover → IsCoverOf statement cover

@@ -8,7 +8,7 @@ use Rattle.std.proofs.lemmas.Bool.{and_from, and_parts, both_ways, cases_Bool, f
 use Rattle.std.proofs.lemmas.List.Sums.{sum_by-cons}
 use Rattle.cg_cell.specs.Name.{are_distinct, is_name}
 use Rattle.cg_cell.specs.Pins.{PinData, is_data}
-use Rattle.cg_blif_text.specs.Placing.{are_for_pins, at_role, has_name, put}
+use Rattle.cg_blif_text.specs.Placing.{are_for_pins, at_role, has_name, put_net}
 use Rattle.cg_blif_text.specs.PinWords.{PinNet}
 use Rattle.cg_netlist.specs.Names.{is_known}
 use Rattle.cg_blif_text.specs.Canonical.{pin_pairs}
@@ -73,8 +73,8 @@ pins_are pins nets distinct named =
     and_from (list_all (λ (word : PinNet). list_any (λ pin. bytes_eq word.pin pin.name) pins && has_name word.net) (pin_pairs pins nets)) (are_distinct (map (λ word. word.pin) (pin_pairs pins nets)))
     (pairs_are pins pins nets (own_names pins) named) (keys_distinct pins nets distinct)
 
-pub at_step : (role : PinData → Bool) (p : PinData) (pins : List PinData) (net : Option Word) (nets : List (Option Word)) (b : Bool) → role p ≡ b → at_role role (p ∷ pins) (net ∷ nets) ≡ (if b then put net (at_role role pins nets) else at_role role pins nets)
-at_step role p pins net nets b is = ap (λ c. if c then put net (at_role role pins nets) else at_role role pins nets) is
+pub at_step : (role : PinData → Bool) (p : PinData) (pins : List PinData) (net : Option Word) (nets : List (Option Word)) (b : Bool) → role p ≡ b → at_role role (p ∷ pins) (net ∷ nets) ≡ (if b then put_net net (at_role role pins nets) else at_role role pins nets)
+at_step role p pins net nets b is = ap (λ c. if c then put_net net (at_role role pins nets) else at_role role pins nets) is
 
 pub count_step : (p : PinData) (pins : List PinData) (b : Bool) → is_data p ≡ b → count_by is_data (p ∷ pins) ≡ cond b 1 0 + count_by is_data pins
 count_step p pins b is = sum_by-cons (λ z. cond (is_data z) 1 0) p pins ∙ ap (λ c. cond c 1 0 + count_by is_data pins) is

@@ -18,7 +18,7 @@ abbrev pub told_by : List CellData → Option NetName → List ℕ → Result To
 told_by library clock text = go_on (tell_lines library (text_lines text)) (tell_clock clock)
 
 -- parts that a text tells
-pub record Tells (library : List CellData) (clock : Option NetName) (text : List ℕ) (model : List ℕ) (parts : List Part) : Type 0 where
+pub record TellsParts (library : List CellData) (clock : Option NetName) (text : List ℕ) (model : List ℕ) (parts : List Part) : Type 0 where
   pub told : Told
   pub faultless : told_by library clock text ≡ Ok told
   pub model_is : told.model ≡ model
@@ -27,17 +27,17 @@ pub record Tells (library : List CellData) (clock : Option NetName) (text : List
 -- the text says the netlist: no line has a fault, and the parts that they tell say it
 pub record BlifText (text : List ℕ) (library : List CellData) (clock : Option NetName) (c : Circuit) : Type 0 where
   pub parts : List Part
-  pub tells : Tells library clock text c.model parts
+  pub tells : TellsParts library clock text c.model parts
   pub says : Says c.model parts c
 
 -- no line has a fault, and the parts that they tell have this fault first
 pub record HasNetFault (text : List ℕ) (library : List CellData) (clock : Option NetName) (fault : NetFault) : Type 0 where
   pub model : List ℕ
   pub parts : List Part
-  pub tells : Tells library clock text model parts
+  pub tells : TellsParts library clock text model parts
   pub first : IsFault parts fault
 
 -- the first fault of the text: that of its first line that has one, or else that of its parts
-abbrev pub IsFirstFault : List ℕ → List CellData → Option NetName → BlifFault → Type 0
-IsFirstFault text library clock (Net fault) = HasNetFault text library clock fault
-IsFirstFault text library clock fault = told_by library clock text ≡ Err fault
+abbrev pub IsFirstBlifFault : List ℕ → List CellData → Option NetName → BlifFault → Type 0
+IsFirstBlifFault text library clock (Net fault) = HasNetFault text library clock fault
+IsFirstBlifFault text library clock fault = told_by library clock text ≡ Err fault

@@ -36,14 +36,14 @@ abbrev pub are_for_pins : List PinData → List PinNet → Bool
 are_for_pins pins words = list_all (is_for_pin pins) words && are_distinct (map (λ word. word.pin) words)
 
 -- the nets at the pins of a role, in pin order, where each of them has one
-abbrev pub put : Option NetName → Option (List NetName) → Option (List NetName)
-put (Some net) (Some nets) = Some (net ∷ nets)
-put net nets = None
+abbrev pub put_net : Option NetName → Option (List NetName) → Option (List NetName)
+put_net (Some net) (Some nets) = Some (net ∷ nets)
+put_net net nets = None
 
 abbrev pub at_role : (PinData → Bool) → List PinData → List (Option NetName) → Option (List NetName)
 at_role role [] nets = Some []
 at_role role (pin ∷ pins) [] = None
-at_role role (pin ∷ pins) (net ∷ nets) = if role pin then put net (at_role role pins nets) else at_role role pins nets
+at_role role (pin ∷ pins) (net ∷ nets) = if role pin then put_net net (at_role role pins nets) else at_role role pins nets
 
 -- the outputs of a register that have nets, each with whether it shows the inverse, and with the place of its pin
 abbrev pub is_bar : PinData → Bool

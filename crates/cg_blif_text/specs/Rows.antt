@@ -16,12 +16,12 @@ abbrev pub value_of : List ℕ → Option Bool
 value_of word = if length word == 1 then bit_of (slice_index word 0) else None
 
 -- the place of a row that a byte says: `-` leaves the input open; the places that a word says
-abbrev pub place_of : ℕ → Option (Option Bool)
-place_of byte = if byte == 45 then Some None else option_map Some (bit_of byte)
+abbrev pub row_place : ℕ → Option (Option Bool)
+row_place byte = if byte == 45 then Some None else option_map Some (bit_of byte)
 
-abbrev pub places_of : List ℕ → Option (List (Option Bool))
-places_of [] = Some []
-places_of (byte ∷ word) = option_and_then (λ place. option_map (λ places. place ∷ places) (places_of word)) (place_of byte)
+abbrev pub row_places : List ℕ → Option (List (Option Bool))
+row_places [] = Some []
+row_places (byte ∷ word) = option_and_then (λ place. option_map (λ places. place ∷ places) (row_places word)) (row_place byte)
 
 -- a row: a place for each input, and the value where it matches
 pub record Row : Type 0 where
@@ -36,7 +36,7 @@ row_with places value = None
 -- are no inputs
 abbrev pub row_of : ℕ → List (List ℕ) → Option Row
 row_of inputs (value ∷ []) = if inputs == 0 then row_with (Some []) (value_of value) else None
-row_of inputs (places ∷ value ∷ []) = if not (inputs == 0) && length places == inputs then row_with (places_of places) (value_of value) else None
+row_of inputs (places ∷ value ∷ []) = if not (inputs == 0) && length places == inputs then row_with (row_places places) (value_of value) else None
 row_of inputs words = None
 
 -- all rows of a cover have one value

@@ -1,12 +1,12 @@
 -- Runs one after another: what holds of each part holds of the chain.
 use Rattle.std.proofs.Common.{◌≡◌, ℕ, Bool, List, [], ◌∷◌, ◌++◌, inl, inr, refl, sym, ◌∙◌, ap, subst, append-nil, append_assoc, IsTrue, not, ◌&&◌}
-use Rattle.cg_cell.specs.Domain.{Extends, IsLawful, Keeps, Made, Makes, Ops, Seen, Stands, after}
+use Rattle.cg_cell.specs.Domain.{GrowsAtEnd, IsDomain, Keeps, Made, Makes, Ops, Seen, Stands, after}
 use Rattle.cg_cell.specs.Build.{Builds, Evaluates, RefusesAt, Run, Somewhere, Stops, build_and, build_not, chain, made, plain}
 
-pub extends_self : (xs : List (ℕ × ℕ)) → Extends xs xs
+pub extends_self : (xs : List (ℕ × ℕ)) → GrowsAtEnd xs xs
 extends_self xs = record { added = []; whole = sym (append-nil xs) }
 
-pub extends_then : (xs ys zs : List (ℕ × ℕ)) → Extends xs ys → Extends ys zs → Extends xs zs
+pub extends_then : (xs ys zs : List (ℕ × ℕ)) → GrowsAtEnd xs ys → GrowsAtEnd ys zs → GrowsAtEnd xs zs
 extends_then xs ys zs p q = record {
   added = p.added ++ q.added;
   whole = q.whole ∙ (ap (λ l. l ++ q.added) p.whole ∙ append_assoc xs p.added q.added);
@@ -80,15 +80,15 @@ made_evaluates o s m t r value p h = record {
   stands = stands_as o s m t r value p h;
 }
 
-pub constant_made : (o : Ops) (laws : IsLawful o) (s t : Seen) (b : Bool) (r : ℕ) → IsTrue (o.is_sound s) →
+pub constant_made : (o : Ops) (laws : IsDomain o) (s t : Seen) (b : Bool) (r : ℕ) → IsTrue (o.is_sound s) →
     Makes s (o.constant_of s b) t r → Evaluates o s t r (made s (o.constant_of s b)) (λ _. b)
 constant_made o laws s t b r h p = made_evaluates o s (o.constant_of s b) t r (λ _. b) p (laws.constant_stands s b h)
 
-pub not_made : (o : Ops) (laws : IsLawful o) (s t : Seen) (a r : ℕ) → IsTrue (o.is_valid s a) →
+pub not_made : (o : Ops) (laws : IsDomain o) (s t : Seen) (a r : ℕ) → IsTrue (o.is_valid s a) →
     Makes s (o.not_of s a) t r → Evaluates o s t r (build_not o a s) (λ bits. not (o.bit s bits a))
 not_made o laws s t a r h p = made_evaluates o s (o.not_of s a) t r (λ bits. not (o.bit s bits a)) p (laws.not_stands s a h)
 
-pub and_made : (o : Ops) (laws : IsLawful o) (s t : Seen) (a b r : ℕ) →
+pub and_made : (o : Ops) (laws : IsDomain o) (s t : Seen) (a b r : ℕ) →
     IsTrue (o.is_valid s a) → IsTrue (o.is_valid s b) → Makes s (o.and_of s a b) t r →
     Evaluates o s t r (build_and o a b s) (λ bits. o.bit s bits a && o.bit s bits b)
 and_made o laws s t a b r h k p = record {

@@ -3,9 +3,9 @@ use Rattle.std.proofs.Common.{◌≡◌, ◌<◌, ◌≤◌, ℕ, zero, suc, ◌
 use Rattle.std.specs.Prelude.{Option, Some, None, if◌then◌else◌, slice_index_or, take, drop, get_or}
 use Rattle.std.specs.List.{AllByRecursion, list_any}
 use Rattle.std.proofs.lemmas.List.{length-map, length-take-le, map-append, take_more}
-use Rattle.cg_cell.specs.Domain.{AreValid, IsLawful, Makes, Ops, Seen}
+use Rattle.cg_cell.specs.Domain.{AreValid, IsDomain, Makes, Ops, Seen}
 use Rattle.cg_cell.specs.Build.{Builds, Evaluates, Run, Stops, build_and, build_not, chain}
-use Rattle.cg_cell.specs.Cover.{CoverData, Fits, cover_value, row_matches}
+use Rattle.cg_cell.specs.Cover.{CoverData, CoverFits, cover_value, row_matches}
 use Rattle.cg_cell.specs.Term.{Term, Bit, Input, Inverse, Both, Either, join_left, term_value}
 use Rattle.cg_cell.specs.Eval.{bits_at, build_operator, build_term, operator_term}
 use Rattle.cg_cell.specs.EvalCover.{build_on, build_place, cover_term, given_term, given_terms, on_bit, place_bit, place_terms, row_term, rows_term}
@@ -15,7 +15,7 @@ use Rattle.cg_cell.proofs.Building.{evaluates_as, evaluates_then, keeps_then, no
 use Rattle.cg_cell.proofs.Evals.{bits_then, join_left-append, join_left-more, join_left-stops, next_operand, operator_built}
 
 -- an input of a row, inverted
-pub given_inverse : (o : Ops) (laws : IsLawful o) (inputs : List ℕ) (s t : Seen) (k a r : ℕ) →
+pub given_inverse : (o : Ops) (laws : IsDomain o) (inputs : List ℕ) (s t : Seen) (k a r : ℕ) →
     Evaluates o s s a (build_term o inputs (Input k) s) (λ bits. term_value (bits_at o s inputs bits) (Input k)) →
     Makes s (o.not_of s a) t r →
     Evaluates o s t r (build_term o inputs (given_term k false) s) (λ bits. term_value (bits_at o s inputs bits) (given_term k false))
@@ -211,7 +211,7 @@ on_value bits t false true e = e
 on_value bits t true false e = ap not e
 on_value bits t false false e = ap not e
 
-pub cover_value_is : (bits : List Bool) (cover : CoverData) → Fits (length bits) cover → term_value bits (cover_term cover) ≡ cover_value cover bits
+pub cover_value_is : (bits : List Bool) (cover : CoverData) → CoverFits (length bits) cover → term_value bits (cover_term cover) ≡ cover_value cover bits
 cover_value_is bits cover h =
     on_value bits (rows_term cover.rows) (list_any (λ row. row_matches row bits) cover.rows) cover.on (rows_value bits (Bit false) cover.rows h)
 
@@ -231,7 +231,7 @@ on_built o inputs x s t u a r true p q = record {
 on_built o inputs x s t u a r false p q =
     evaluates_then o s t u a r (build_term o inputs x s) (λ c d. build_not o c d) _ _ _ p q (λ bits. ap not (p.stands.bit bits))
 
-pub cover_built : {X : Type 0} (number : X → ℕ) (o : Ops) (inputs : List X) (cover : CoverData) (s t u : Seen) (a r : ℕ) → Fits (length inputs) cover →
+pub cover_built : {X : Type 0} (number : X → ℕ) (o : Ops) (inputs : List X) (cover : CoverData) (s t u : Seen) (a r : ℕ) → CoverFits (length inputs) cover →
     Evaluates o s t a (build_term o (map number inputs) (rows_term cover.rows) s) (λ bits. term_value (bits_at o s (map number inputs) bits) (rows_term cover.rows)) →
     Evaluates o t u r (build_on o cover.on a t) (λ bits. on_bit cover.on (o.bit t bits a)) →
     Evaluates o s u r (build_term o (map number inputs) (cover_term cover) s) (λ bits. cover_value cover (bits_at o s (map number inputs) bits))
@@ -240,7 +240,7 @@ cover_built number o inputs cover s t u a r fits p q =
     (λ bits.
     let long : length inputs ≡ length (bits_at o s (map number inputs) bits) =
     sym (length-map (map number inputs) (λ b. o.bit s bits b) ∙ length-map inputs number) in
-    cover_value_is (bits_at o s (map number inputs) bits) cover (subst (λ n. Fits n cover) long fits))
+    cover_value_is (bits_at o s (map number inputs) bits) cover (subst (λ n. CoverFits n cover) long fits))
 
 pub cover_stops : {F : Type 0} (refuses : Seen → ℕ → ℕ → F → Type 0) (o : Ops) (inputs : List ℕ) (x : Term) (s v : Seen) (f : F) (on : Bool) →
     Stops refuses (build_term o inputs x s) f v → Stops refuses (build_term o inputs (if on then x else Inverse x) s) f v

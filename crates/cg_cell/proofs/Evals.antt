@@ -2,7 +2,7 @@
 use Rattle.std.proofs.Common.{◌≡◌, ◌<◌, ℕ, zero, suc, ◌+◌, Bool, List, [], ◌∷◌, ◌++◌, false, refl, sym, ◌∙◌, ap, subst, arith, IsTrue, not, length, map, length-append}
 use Rattle.std.specs.Prelude.{Option, Some, None, option_map, slice_index_or, take, drop, get_or}
 use Rattle.std.proofs.lemmas.List.{map-append, take_more}
-use Rattle.cg_cell.specs.Domain.{AreValid, IsLawful, Keeps, Makes, Ops, Seen}
+use Rattle.cg_cell.specs.Domain.{AreValid, IsDomain, Keeps, Makes, Ops, Seen}
 use Rattle.cg_cell.specs.Build.{Builds, Evaluates, Run, Stops, build_not, chain, made, plain}
 use Rattle.cg_cell.specs.Gates.{inverted}
 use Rattle.cg_cell.specs.Expr.{term_of, terms_of}
@@ -14,7 +14,7 @@ use Rattle.cg_cell.specs.declared.eval.Operator.TheVariants.{And, Or, Xor}
 use Rattle.cg_cell.proofs.Building.{builds_then, constant_made, evaluates_as, evaluates_then, keeps_self, keeps_then, not_made, plain_evaluates, stops_first, stops_then}
 
 -- one more sign
-pub inverses_more : (o : Ops) (laws : IsLawful o) (s t u : Seen) (a b r n : ℕ) →
+pub inverses_more : (o : Ops) (laws : IsDomain o) (s t u : Seen) (a b r n : ℕ) →
     Evaluates o s t b (build_inverses o n a s) (λ bits. inverted n (o.bit s bits a)) → Makes t (o.not_of t b) u r →
     Evaluates o s u r (build_inverses o (n + 1) a s) (λ bits. inverted (n + 1) (o.bit s bits a))
 inverses_more o laws s t u a b r n p m =
@@ -202,7 +202,7 @@ join_stops number refuses o inputs operator terms x rest s t u v (Some a) b f g 
     (stops_then refuses (build_term o inputs x t) (λ c d. build_operator o operator (number a) c d) f u v b p h)
 
 -- no operands: the constant
-pub none_stands : (o : Ops) (laws : IsLawful o) (inputs : List ℕ) (operator : Operator) (terms : List Term) (s t u : Seen) (r : ℕ) →
+pub none_stands : (o : Ops) (laws : IsDomain o) (inputs : List ℕ) (operator : Operator) (terms : List Term) (s t u : Seen) (r : ℕ) →
     Going o inputs operator terms s t None → IsTrue (o.is_sound t) → Makes t (o.constant_of t (operator_none operator)) u r →
     Evaluates o s u r (build_term o inputs (so_far operator terms) s) (λ bits. term_value (bits_at o s inputs bits) (so_far operator terms))
 none_stands o laws inputs operator terms s t u r g sound m =

@@ -1,6 +1,6 @@
 -- Operands of a node, one after another.
 use Rattle.std.proofs.Common.{◌≡◌, ℕ, zero, suc, Bool, true, false, not, ◌+◌, ◌%◌, ◌<◌, List, ◌∷◌, length, get_or, drop, map, IsTrue, ◌&&◌, ◌||◌, refl, ap, sym, ◌∙◌, add-one, drop-cons, arith}
-use Rattle.cg_cell.specs.Gates.{all_of, any_of, differ, inverted, odd_of}
+use Rattle.cg_cell.specs.Gates.{all_of, any_of, exclusive_or, inverted, odd_of}
 use Rattle.cg_cell.specs.Expr.{all_over, is_over}
 use Rattle.cg_cell.specs.declared.expr.Expr.{Expr}
 
@@ -14,7 +14,7 @@ all_of-drop f xs i d h = ap all_of (map-drop f xs i d h)
 pub any_of-drop : {X : Type 0} (f : X → Bool) (xs : List X) (i : ℕ) (d : X) → i < length xs → any_of (map f (drop i xs)) ≡ (f (get_or xs i d) || any_of (map f (drop (i + 1) xs)))
 any_of-drop f xs i d h = ap any_of (map-drop f xs i d h)
 
-pub odd_of-drop : {X : Type 0} (f : X → Bool) (xs : List X) (i : ℕ) (d : X) → i < length xs → odd_of (map f (drop i xs)) ≡ differ (f (get_or xs i d)) (odd_of (map f (drop (i + 1) xs)))
+pub odd_of-drop : {X : Type 0} (f : X → Bool) (xs : List X) (i : ℕ) (d : X) → i < length xs → odd_of (map f (drop i xs)) ≡ exclusive_or (f (get_or xs i d)) (odd_of (map f (drop (i + 1) xs)))
 odd_of-drop f xs i d h = ap odd_of (map-drop f xs i d h)
 
 -- both of two tests
@@ -37,14 +37,14 @@ not_not : (bit : Bool) → not (not bit) ≡ bit
 not_not true = refl
 not_not false = refl
 
-pub differ-none : (a : Bool) → differ a false ≡ a
-differ-none true = refl
-differ-none false = refl
+pub exclusive_or-none : (a : Bool) → exclusive_or a false ≡ a
+exclusive_or-none true = refl
+exclusive_or-none false = refl
 
-pub differ-next : (a b c : Bool) → differ (differ a b) c ≡ differ a (differ b c)
-differ-next true true c = sym (not_not c)
-differ-next true false c = refl
-differ-next false b c = refl
+pub exclusive_or-next : (a b c : Bool) → exclusive_or (exclusive_or a b) c ≡ exclusive_or a (exclusive_or b c)
+exclusive_or-next true true c = sym (not_not c)
+exclusive_or-next true false c = refl
+exclusive_or-next false b c = refl
 
 -- an even number of inversions is none, and an odd number is one
 pub record Parity (n : ℕ) (bit : Bool) : Type 0 where

@@ -2,7 +2,7 @@
 use Rattle.std.proofs.Common.{◌≡◌, ℕ, Bool, List, true, false, refl, IsTrue, not, ◌&&◌, ◌||◌}
 use Rattle.std.specs.Prelude.{OnErr, Result, Ok, Err, if◌then◌else◌}
 use Rattle.cg_cell.specs.Domain.{Ops, Seen}
-use Rattle.cg_cell.specs.Gates.{differ}
+use Rattle.cg_cell.specs.Gates.{exclusive_or}
 use Rattle.cg_cell.specs.Build.{Evaluates, build_and, build_not, build_or, build_xor, build_mux, chain}
 use Rattle.cg_cell.proofs.Building.{evaluates_then, keeps_then}
 
@@ -15,7 +15,7 @@ or_bits true b = refl
 or_bits false true = refl
 or_bits false false = refl
 
-pub xor_bits : (a b : Bool) → ((a && not b) || (not a && b)) ≡ differ a b
+pub xor_bits : (a b : Bool) → ((a && not b) || (not a && b)) ≡ exclusive_or a b
 xor_bits true true = refl
 xor_bits true false = refl
 xor_bits false b = refl
@@ -59,9 +59,9 @@ pub xor_made : (o : Ops) (s t u v w x : Seen) (a b nb left na right r : ℕ) →
     Evaluates o u v na (build_not o a u) (λ bits. not (o.bit u bits a)) →
     Evaluates o v w right (build_and o na b v) (λ bits. o.bit v bits na && o.bit v bits b) →
     Evaluates o w x r (build_or o left right w) (λ bits. o.bit w bits left || o.bit w bits right) →
-    Evaluates o s x r (build_xor o a b s) (λ bits. differ (o.bit s bits a) (o.bit s bits b))
+    Evaluates o s x r (build_xor o a b s) (λ bits. exclusive_or (o.bit s bits a) (o.bit s bits b))
 xor_made o s t u v w x a b nb left na right r ha hb p q k l m =
-    let wanted : List Bool → Bool = λ bits. differ (o.bit s bits a) (o.bit s bits b) in
+    let wanted : List Bool → Bool = λ bits. exclusive_or (o.bit s bits a) (o.bit s bits b) in
     let ha' = p.stands.keeps.valid a ha in
     let su = keeps_then o s t u p.stands.keeps q.stands.keeps in
     let sv = keeps_then o s u v su k.stands.keeps in

@@ -1,10 +1,10 @@
 -- What a building comes to, at one assignment: for lawful operations and valid inputs, its run ends in a value that stands for
 -- the bit that it is to compute. No call is made: the run is the definition's.
 use Rattle.std.proofs.Common.{◌≡◌, ℕ, zero, suc, Bool, false, not, ◌&&◌, ◌||◌, if◌then◌else◌, List, [], ◌∷◌, IsTrue, slice_index_or, refl, ◌∙◌, ap}
-use Rattle.cg_cell.specs.Domain.{AreValid, IsLawful, Keeps, Ops, Seen}
+use Rattle.cg_cell.specs.Domain.{AreValid, IsDomain, Keeps, Ops, Seen}
 use Rattle.cg_cell.specs.Build.{Run, build_and, build_mux, build_not, build_or, build_xor, chain, plain}
 use Rattle.cg_cell.specs.Eval.{bits_at, build_term}
-use Rattle.cg_cell.specs.Gates.{differ}
+use Rattle.cg_cell.specs.Gates.{exclusive_or}
 use Rattle.cg_cell.specs.Term.{Term, Bit, Input, Inverse, Both, Either, Differ, term_value}
 use Rattle.cg_cell.proofs.Building.{keeps_self, keeps_then}
 use Rattle.cg_cell.proofs.Evals.{bits_then, valid_then}
@@ -43,7 +43,7 @@ module _ (o : Ops) (bits : List Bool) where
       let h : Gives o bits r.domain (next r.answer r.domain) c = k g.keeps g.has in
       record { keeps = keeps_then o s r.domain (next r.answer r.domain).domain g.keeps h.keeps; has = h.has }
 
-  module _ (laws : IsLawful o) where
+  module _ (laws : IsDomain o) where
     pub gives_not : (s : Seen) (a : ℕ) (b : Bool) → Has o bits s a b → Gives o bits s (build_not o a s) (not b)
     gives_not s a b h = let st = laws.not_stands s a h.valid in record { keeps = st.keeps; has = record { valid = st.valid; bit = st.bit bits ∙ ap not h.bit } }
 
@@ -63,9 +63,9 @@ module _ (o : Ops) (bits : List Bool) where
         gives_not (build_and o na nb u).domain (build_and o na nb u).answer (not x && not y) hn))))
         (or_bits x y)
 
-    pub gives_xor : (s : Seen) (a b : ℕ) (x y : Bool) → Has o bits s a x → Has o bits s b y → Gives o bits s (build_xor o a b s) (differ x y)
+    pub gives_xor : (s : Seen) (a b : ℕ) (x y : Bool) → Has o bits s a x → Has o bits s b y → Gives o bits s (build_xor o a b s) (exclusive_or x y)
     gives_xor s a b x y h k =
-        gives_as s (build_xor o a b s) ((x && not y) || (not x && y)) (differ x y)
+        gives_as s (build_xor o a b s) ((x && not y) || (not x && y)) (exclusive_or x y)
         (gives_then s (build_not o b s) (λ nb t. chain (build_and o a nb t) (λ left u. chain (build_not o a u) (λ na v. chain (build_and o na b v) (λ right w. build_or o left right w)))) (not y) ((x && not y) || (not x && y)) (gives_not s b y k) (λ kt hnb.
         let t = (build_not o b s).domain in let nb = (build_not o b s).answer in
         let ht = has_later s t a x kt h in let bt = has_later s t b y kt k in
@@ -123,4 +123,4 @@ module _ (o : Ops) (bits : List Bool) where
           gives_not (build_term o inputs x s).domain (build_term o inputs x s).answer (term_value (bits_at o s inputs bits) x) h)
       gives_term (Both x y) s inputs sound valid = two x y s inputs (build_and o) (λ a b. a && b) gives_and sound valid (gives_term x s inputs sound valid) (λ t ok v. gives_term y t inputs ok v)
       gives_term (Either x y) s inputs sound valid = two x y s inputs (build_or o) (λ a b. a || b) gives_or sound valid (gives_term x s inputs sound valid) (λ t ok v. gives_term y t inputs ok v)
-      gives_term (Differ x y) s inputs sound valid = two x y s inputs (build_xor o) (λ a b. differ a b) gives_xor sound valid (gives_term x s inputs sound valid) (λ t ok v. gives_term y t inputs ok v)
+      gives_term (Differ x y) s inputs sound valid = two x y s inputs (build_xor o) (λ a b. exclusive_or a b) gives_xor sound valid (gives_term x s inputs sound valid) (λ t ok v. gives_term y t inputs ok v)

@@ -1,7 +1,7 @@
 -- Runs only grow the list: what each call of `and` leaves is a front part of what the whole run leaves.
 use Rattle.std.proofs.Common.{◌≡◌, ℕ, Bool, List, [], ◌∷◌, ◌++◌, refl, ◌∙◌}
 use Rattle.std.specs.List.{AllByRecursion}
-use Rattle.cg_cell.specs.Domain.{Extends, Ops, Seen}
+use Rattle.cg_cell.specs.Domain.{GrowsAtEnd, Ops, Seen}
 use Rattle.cg_cell.specs.Build.{AndCall, Run, build_and, build_mux, build_not, build_or, build_xor, chain, plain}
 use Rattle.cg_cell.specs.Eval.{build_term}
 use Rattle.cg_cell.specs.Term.{Term, Bit, Input, Inverse, Both, Either, Differ}
@@ -9,19 +9,19 @@ use Rattle.cg_cell.proofs.Building.{extends_self, extends_then}
 
 -- an operation only adds to the list, whatever its operands
 pub record IsGrowing (o : Ops) : Type 0 where
-  pub constant : (s : Seen) (b : Bool) → Extends s.pairs (o.constant_of s b).pairs
-  pub inverse : (s : Seen) (a : ℕ) → Extends s.pairs (o.not_of s a).pairs
-  pub both : (s : Seen) (a b : ℕ) → Extends s.pairs (o.and_of s a b).pairs
+  pub constant : (s : Seen) (b : Bool) → GrowsAtEnd s.pairs (o.constant_of s b).pairs
+  pub inverse : (s : Seen) (a : ℕ) → GrowsAtEnd s.pairs (o.not_of s a).pairs
+  pub both : (s : Seen) (a b : ℕ) → GrowsAtEnd s.pairs (o.and_of s a b).pairs
 
 -- what a call of `and` in a run from s leaves is a front part of these pairs
 pub record IsFront (o : Ops) (s : Seen) (pairs : List (ℕ × ℕ)) (call : AndCall) : Type 0 where
   pub number : call.domain.number ≡ s.number
-  pub pairs_kept : Extends (o.and_of call.domain call.left call.right).pairs pairs
+  pub pairs_kept : GrowsAtEnd (o.and_of call.domain call.left call.right).pairs pairs
 
 -- a run from s ends in a list that begins with s, and with what each of its calls of `and` leaves
 pub record Grows (o : Ops) (s : Seen) (r : Run) : Type 0 where
   pub number : r.domain.number ≡ s.number
-  pub longer : Extends s.pairs r.domain.pairs
+  pub longer : GrowsAtEnd s.pairs r.domain.pairs
   pub calls : AllByRecursion (IsFront o s r.domain.pairs) r.calls
 
 all_append : {X : Type 0} (P : X → Type 0) (xs ys : List X) → AllByRecursion P xs → AllByRecursion P ys → AllByRecursion P (xs ++ ys)

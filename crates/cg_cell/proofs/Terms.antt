@@ -1,6 +1,6 @@
 -- An expression and its term say the same.
 use Rattle.std.proofs.Common.{◌≡◌, ℕ, zero, suc, Bool, true, false, not, ◌&&◌, ◌||◌, List, [], ◌∷◌, map, refl, ap, sym, ◌∙◌, subst}
-use Rattle.cg_cell.specs.Gates.{all_of, any_of, differ, inverted, odd_of}
+use Rattle.cg_cell.specs.Gates.{all_of, any_of, exclusive_or, inverted, odd_of}
 use Rattle.cg_cell.specs.Term.{Term, Bit, Both, Either, Differ, has_input, inverse_times, is_within, join_all, join_left, term_value}
 use Rattle.cg_cell.specs.Expr.{expr_value, is_over, names_step, names_variable, over_step, term_of, term_step, value_step}
 use Rattle.cg_cell.specs.declared.expr.Expr.{Expr}
@@ -37,12 +37,12 @@ not_not : (a : Bool) → not (not a) ≡ a
 not_not true = refl
 not_not false = refl
 
-differ_assoc : (a b c : Bool) → differ (differ a b) c ≡ differ a (differ b c)
+differ_assoc : (a b c : Bool) → exclusive_or (exclusive_or a b) c ≡ exclusive_or a (exclusive_or b c)
 differ_assoc true true c = sym (not_not c)
 differ_assoc true false c = refl
 differ_assoc false b c = refl
 
-differ_false : (a : Bool) → differ a false ≡ a
+differ_false : (a : Bool) → exclusive_or a false ≡ a
 differ_false true = refl
 differ_false false = refl
 
@@ -54,9 +54,9 @@ from_left-any : (a : Bool) (bs : List Bool) → from_left (λ x y. x || y) a bs 
 from_left-any a [] = sym (or_false a)
 from_left-any a (b ∷ bs) = from_left-any (a || b) bs ∙ or_assoc a b (any_of bs)
 
-from_left-odd : (a : Bool) (bs : List Bool) → from_left differ a bs ≡ differ a (odd_of bs)
+from_left-odd : (a : Bool) (bs : List Bool) → from_left exclusive_or a bs ≡ exclusive_or a (odd_of bs)
 from_left-odd a [] = sym (differ_false a)
-from_left-odd a (b ∷ bs) = from_left-odd (differ a b) bs ∙ differ_assoc a b (odd_of bs)
+from_left-odd a (b ∷ bs) = from_left-odd (exclusive_or a b) bs ∙ differ_assoc a b (odd_of bs)
 
 join-all : (test : Term → Bool) (operator : Term → Term → Term) (none : Term) → test none ≡ true → ((s t : Term) → test (operator s t) ≡ (test s && test t))
     → (ts : List Term) → test (join_all operator none ts) ≡ all_of (map test ts)
@@ -68,10 +68,10 @@ join-any : (test : Term → Bool) (operator : Term → Term → Term) (none : Te
 join-any test operator none e down [] = e
 join-any test operator none e down (t ∷ ts) = join_left-test test operator (λ x y. x || y) down t ts ∙ from_left-any (test t) (map test ts)
 
-join-odd : (test : Term → Bool) (operator : Term → Term → Term) (none : Term) → test none ≡ false → ((s t : Term) → test (operator s t) ≡ differ (test s) (test t))
+join-odd : (test : Term → Bool) (operator : Term → Term → Term) (none : Term) → test none ≡ false → ((s t : Term) → test (operator s t) ≡ exclusive_or (test s) (test t))
     → (ts : List Term) → test (join_all operator none ts) ≡ odd_of (map test ts)
 join-odd test operator none e down [] = e
-join-odd test operator none e down (t ∷ ts) = join_left-test test operator differ down t ts ∙ from_left-odd (test t) (map test ts)
+join-odd test operator none e down (t ∷ ts) = join_left-test test operator exclusive_or down t ts ∙ from_left-odd (test t) (map test ts)
 
 times-value : (bits : List Bool) (n : ℕ) (t : Term) → term_value bits (inverse_times n t) ≡ inverted n (term_value bits t)
 times-value bits zero t = refl

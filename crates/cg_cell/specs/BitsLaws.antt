@@ -2,7 +2,7 @@
 use Rattle.std.specs.Prelude.{◌≡◌, ◌==◌, ℕ, Bool, true, false, not, ◌&&◌, nat_lt, [], refl, IsTrue}
 use Rattle.std.proofs.Common.{◌∙◌, arith, sym, append-nil}
 use Rattle.std.proofs.lemmas.Bool.Decides.{nat_tests}
-use Rattle.cg_cell.specs.Domain.{IsLawful, Keeps, Seen}
+use Rattle.cg_cell.specs.Domain.{IsDomain, Keeps, Seen}
 use Rattle.cg_cell.specs.Bits.{bits_ops, one_if}
 
 same : (s : Seen) → Keeps bits_ops s s
@@ -24,7 +24,7 @@ bit_one_if false = refl
 not_bit : (a : ℕ) → IsTrue (nat_lt a 2) → (a == 0) ≡ not (a == 1)
 not_bit a h = grind (arith, nat_tests)
 
-pub bits_lawful : IsLawful bits_ops
+pub bits_lawful : IsDomain bits_ops
 bits_lawful = record {
   sound = λ s a h. refl;
   constant_stands = λ s b h. record { keeps = same s; valid = valid_one_if b; bit = λ bits. bit_one_if b };

@@ -35,7 +35,7 @@ pub record Ops : Type 0 where
   pub bit : Seen → List Bool → ℕ → Bool
 
 -- A list grew at its end, if at all.
-pub record Extends (old new : List (ℕ × ℕ)) : Type 0 where
+pub record GrowsAtEnd (old new : List (ℕ × ℕ)) : Type 0 where
   pub added : List (ℕ × ℕ)
   pub whole : new ≡ old ++ added
 
@@ -43,7 +43,7 @@ pub record Extends (old new : List (ℕ × ℕ)) : Type 0 where
 -- its bits.
 pub record Keeps (o : Ops) (s t : Seen) : Type 0 where
   pub number : t.number ≡ s.number
-  pub pairs : Extends s.pairs t.pairs
+  pub pairs : GrowsAtEnd s.pairs t.pairs
   pub valid : (a : ℕ) → IsTrue (o.is_valid s a) → IsTrue (o.is_valid t a)
   pub bits : (a : ℕ) (bits : List Bool) → IsTrue (o.is_valid s a) → o.bit t bits a ≡ o.bit s bits a
 
@@ -55,7 +55,7 @@ pub record Stands (o : Ops) (s t : Seen) (answer : ℕ) (value : List Bool → B
 
 -- The laws of a domain: a domain with a valid value is sound, and each operation's answer stands
 -- for the operation's bit.
-pub record IsLawful (o : Ops) : Type 0 where
+pub record IsDomain (o : Ops) : Type 0 where
   pub sound : (s : Seen) (a : ℕ) → IsTrue (o.is_valid s a) → IsTrue (o.is_sound s)
   pub constant_stands : (s : Seen) (b : Bool) → IsTrue (o.is_sound s) →
       Stands o s (after s (o.constant_of s b)) (o.constant_of s b).answer (λ _. b)

@@ -3,7 +3,7 @@
 use Rattle.std.specs.Prelude.{ℕ, zero, suc, Bool, true, false, ◌&&◌, ◌||◌, List, map, slice_index_or, Option, None, Some, IsTrue}
 use Rattle.cg_cell.specs.Domain.{Ops, Seen}
 use Rattle.cg_cell.specs.Build.{Run, build_and, build_not, build_or, build_xor, chain, made, plain}
-use Rattle.cg_cell.specs.Gates.{differ}
+use Rattle.cg_cell.specs.Gates.{exclusive_or}
 use Rattle.cg_cell.specs.Term.{Term, Bit, Input, Inverse, Both, Either, Differ, join_all}
 use Rattle.cg_cell.specs.declared.eval.Operator.{Operator}
 use Rattle.cg_cell.specs.declared.eval.Operator.TheVariants.{And, Or, Xor}
@@ -40,7 +40,7 @@ build_operator o Xor a b s = build_xor o a b s
 abbrev pub operator_bit : Operator → Bool → Bool → Bool
 operator_bit And a b = a && b
 operator_bit Or a b = a || b
-operator_bit Xor a b = differ a b
+operator_bit Xor a b = exclusive_or a b
 
 abbrev pub operator_none : Operator → Bool
 operator_none And = true

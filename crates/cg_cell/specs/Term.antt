@@ -1,6 +1,6 @@
 -- Expressions as plain data: each operator with its two operands, as a text with brackets all round writes it.
 use Rattle.std.specs.Prelude.{ℕ, zero, suc, Bool, true, false, not, ◌&&◌, ◌||◌, ◌==◌, nat_lt, List, [], ◌∷◌, slice_index_or, Option, Some, None}
-use Rattle.cg_cell.specs.Gates.{differ}
+use Rattle.cg_cell.specs.Gates.{exclusive_or}
 
 -- a term over numbered inputs
 pub data Term : Type 0 where
@@ -18,7 +18,7 @@ term_value bits (Input k) = slice_index_or bits k false
 term_value bits (Inverse t) = not (term_value bits t)
 term_value bits (Both s t) = term_value bits s && term_value bits t
 term_value bits (Either s t) = term_value bits s || term_value bits t
-term_value bits (Differ s t) = differ (term_value bits s) (term_value bits t)
+term_value bits (Differ s t) = exclusive_or (term_value bits s) (term_value bits t)
 
 -- whether every input of a term is below a number
 abbrev pub is_within : ℕ → Term → Bool

@@ -5,7 +5,7 @@
 
 ghost use Rattle.std.specs.Prelude.{not, ◌&&◌, ◌||◌, if◌then◌else◌, IsTrue, IfOk, IfErr, OnErr};
 ghost use Rattle.cg_cell.specs.Domain.{Keeps};
-ghost use Rattle.cg_cell.specs.Gates.{differ};
+ghost use Rattle.cg_cell.specs.Gates.{exclusive_or};
 ghost use Rattle.cg_cell.specs.Build.{build_and, build_or, build_xor, build_mux, Evaluates, Stops};
 
 use crate::domain::Domain;
@@ -52,7 +52,7 @@ pub fn xor<D: Domain>(domain: &mut D, a: D::Value, b: D::Value) -> Result<D::Val
     requires right { IsTrue (D.ops.is_valid (D.seen domain.old) (D.number b)) }
     ensures built { IfOk result (λ v. Evaluates D.ops (D.seen domain.old) (D.seen domain.new) (D.number v)
         (build_xor D.ops (D.number a) (D.number b) (D.seen domain.old))
-        (λ bits. differ (D.ops.bit (D.seen domain.old) bits (D.number a)) (D.ops.bit (D.seen domain.old) bits (D.number b)))) }
+        (λ bits. exclusive_or (D.ops.bit (D.seen domain.old) bits (D.number a)) (D.ops.bit (D.seen domain.old) bits (D.number b)))) }
     ensures stopped { IfErr result (λ fault. Stops D.refuses
         (build_xor D.ops (D.number a) (D.number b) (D.seen domain.old)) fault (D.seen domain.new)) }
     ensures kept { OnErr result (Keeps D.ops (D.seen domain.old) (D.seen domain.new)) }

@@ -1,7 +1,7 @@
 //! Covers: functions as rows of given bits, as `.names` lines of BLIF write them.
 
 ghost use Rattle.std.specs.Prelude.{◌≡◌, List, [], Option, Bool, true, length, IfOk};
-ghost use Rattle.cg_cell.specs.Cover.{CoverData, Fits, HaveOneLength, IsCover, agrees, cover_value, row_matches};
+ghost use Rattle.cg_cell.specs.Cover.{CoverData, CoverFits, HaveOneLength, IsCover, agrees, cover_value, row_matches};
 ghost use Rattle.std.specs.List.{AllByRecursion, list_any};
 
 use std::alloc::{AllocError, Global};
@@ -125,7 +125,7 @@ impl Cover {
     /// `bits` has one bit per input, in the order of the places of a row.
     #[tactic(auto, using(crate::proofs::Covers::steps))]
     pub fn value(&self, bits: &[bool]) -> bool
-        requires { Fits (length bits.now) self.now }
+        requires { CoverFits (length bits.now) self.now }
         ensures { result ≡ cover_value self.now bits.now }
     {
         if any_matches(&self.rows, bits) {

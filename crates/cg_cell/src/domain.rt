@@ -3,7 +3,7 @@
 //! One evaluation of a function serves truth values and and-inverter lists alike: both are a [`Domain`].
 
 ghost use Rattle.std.specs.Prelude.{◌≡◌, ℕ, IsTrue, IfOk, IfErr, OnErr};
-ghost use Rattle.cg_cell.specs.Domain.{Seen, Made, Makes, Ops, IsLawful};
+ghost use Rattle.cg_cell.specs.Domain.{Seen, Made, Makes, Ops, IsDomain};
 
 use std::convert::Infallible;
 
@@ -45,7 +45,7 @@ pub trait Domain {
         ensures refused { IfErr result (λ f. refuses (seen self.old) (number a) (number b) f) }
         ensures unchanged { OnErr result (seen self.new ≡ seen self.old) };
 
-    ghost lawful: { IsLawful ops };
+    ghost lawful: { IsDomain ops };
 }
 
 /// Truth values as a domain. Nothing is kept, and nothing is ever refused.

@@ -1,7 +1,7 @@
 //! The evaluation over truth values: it is the function's bit, and nothing is ever refused.
 
 ghost use Rattle.std.specs.Prelude.{◌≡◌, IsTrue, length};
-ghost use Rattle.cg_cell.specs.Cover.{Fits, cover_value};
+ghost use Rattle.cg_cell.specs.Cover.{CoverFits, cover_value};
 ghost use Rattle.cg_cell.specs.Expr.{expr_value, is_over};
 
 use crate::cover::Cover;
@@ -23,7 +23,7 @@ impl Expr {
 impl Cover {
     /// The bit that [`Cover::eval`] gives over truth values: the cover's value on these bits.
     pub fn eval_bits(&self, bits: &[bool]) -> bool
-        requires { Fits (length bits.now) self.now }
+        requires { CoverFits (length bits.now) self.now }
         ensures { result ≡ cover_value self.now bits.now }
     {
         match self.eval(&mut Bits, bits) {

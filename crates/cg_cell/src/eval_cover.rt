@@ -4,7 +4,7 @@ ghost use Rattle.std.specs.Prelude.{◌≡◌, ◌<◌, ℕ, IsTrue, IfOk, IfErr
 ghost use Rattle.std.specs.List.{AllByRecursion};
 ghost use Rattle.cg_cell.specs.Domain.{AreValid, Keeps};
 ghost use Rattle.cg_cell.specs.Build.{Evaluates, Stops};
-ghost use Rattle.cg_cell.specs.Cover.{Fits, cover_value};
+ghost use Rattle.cg_cell.specs.Cover.{CoverFits, cover_value};
 ghost use Rattle.cg_cell.specs.Term.{term_value};
 ghost use Rattle.cg_cell.specs.Eval.{bits_at, build_term};
 ghost use Rattle.cg_cell.specs.EvalCover.{build_on, build_place, cover_term, given_term, on_bit, place_bit, row_term, rows_term};
@@ -21,7 +21,7 @@ impl Cover {
     /// the left, beginning with 0, inverted at the end where its value on them is 0. The call is refused
     /// where an `and` of these is, and leaves the domain as it was before that `and`.
     pub fn eval<D: Domain>(&self, domain: &mut D, inputs: &[D::Value]) -> Result<D::Value, D::Fault>
-        requires wide { Fits (length inputs.now) self.now }
+        requires wide { CoverFits (length inputs.now) self.now }
         requires valid { AreValid D.ops (D.seen domain.old) (map D.number inputs.now) }
         ensures built { IfOk result (λ v. Evaluates D.ops (D.seen domain.old) (D.seen domain.new) (D.number v)
             (build_term D.ops (map D.number inputs.now) (cover_term self.now) (D.seen domain.old))

@@ -3,7 +3,7 @@
 ghost use Rattle.std.specs.Prelude.{◌≡◌, List, Bool, IsTrue, length, IfOk};
 ghost use Rattle.cg_cell.specs.Expr.{all_over, any_names, expr_value, is_over, names_variable, term_of, terms_of, values_of};
 ghost use Rattle.cg_cell.specs.Term.{has_input, term_value};
-ghost use Rattle.cg_cell.specs.Gates.{all_of, any_of, differ, inverted, odd_of};
+ghost use Rattle.cg_cell.specs.Gates.{all_of, any_of, exclusive_or, inverted, odd_of};
 
 use std::alloc::{AllocError, Global};
 
@@ -125,7 +125,7 @@ fn invert(signs: u64, bit: bool) -> bool
 
 /// Exclusive or of two bits.
 fn differ(a: bool, b: bool) -> bool
-    ensures { result ≡ differ a b }
+    ensures { result ≡ exclusive_or a b }
 {
     if a { !b } else { b }
 }

@@ -2,7 +2,7 @@
 
 ghost use Rattle.std.specs.Prelude.{◌≡◌, IfOk, IfSome};
 ghost use Rattle.std.specs.List.{AllByRecursion};
-ghost use Rattle.cg_cell.specs.Cover.{Fits};
+ghost use Rattle.cg_cell.specs.Cover.{CoverFits};
 
 use crate::cell::{CellKind, CellType, Pin, Role};
 use crate::cover::{Cover, CoverRow};
@@ -61,7 +61,7 @@ fn cover(
     rows: &[&[Option<bool>]],
     on: bool,
 ) -> Result<Option<Cover>, AllocError>
-    ensures { IfOk result (λ made. IfSome made (λ cover. Fits inputs cover)) }
+    ensures { IfOk result (λ made. IfSome made (λ cover. CoverFits inputs cover)) }
 {
     let mut made = Vec::new(alloc);
     'rows: for row in rows {

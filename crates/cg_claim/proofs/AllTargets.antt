@@ -12,7 +12,7 @@ use Rattle.cg_claim.specs.Laws.{IsNeverOne}
 use Rattle.cg_claim.specs.Question.{target_part, unseen_question}
 use Rattle.cg_claim.specs.Reach.{registers_of}
 use Rattle.cg_claim.specs.Targets.{IsTarget, all_targets, meets, output_targets, unseen_targets}
-use Rattle.cg_claim.specs.Violates.{PartFits}
+use Rattle.cg_claim.specs.Violates.{CopyPartFits}
 use Rattle.cg_claim.proofs.Apart.{apart_unseen}
 use Rattle.cg_claim.proofs.ClaimsHold.{never_unseen}
 use Rattle.cg_claim.proofs.Reached.{range_in}
@@ -88,7 +88,7 @@ target_among m (Next r) is =
 target_among m Joined is =
     (Enable, in_back (Enable, Joined) (output_targets 0 m.circuit.outputs ++ map (λ q. (NextName q, Next q)) (registers_of m)) ((Enable, Joined) ∷ []) (record { place = 0; at = refl }))
 
-pub target_fits : (m : MachineData) (t : Target) → IsTarget m t → PartFits m (target_part t)
+pub target_fits : (m : MachineData) (t : Target) → IsTarget m t → CopyPartFits m (target_part t)
 target_fits m (Shown y) is = tt
 target_fits m (Next r) is = is
 target_fits m Joined is = tt

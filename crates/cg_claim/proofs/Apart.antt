@@ -3,7 +3,7 @@
 use Rattle.std.proofs.Common.{◌≡◌, ℕ, Bool, true, false, not, ◌&&◌, List, [], ◌∷◌, map, length, nat_eq, if◌then◌else◌, sym, refl, ◌∙◌, ap, inl, inr, arith}
 use Rattle.std.specs.List.{list_any, range_with_len}
 use Rattle.std.proofs.lemmas.Bool.{both_ways, eqb-true, or_cases, or_left, or_right}
-use Rattle.cg_cell.specs.Gates.{differ}
+use Rattle.cg_cell.specs.Gates.{exclusive_or}
 use Rattle.cg_netlist.specs.Circuit.{is_in}
 use Rattle.cg_netlist.specs.Moment.{bit}
 use Rattle.cg_netlist.proofs.Values.{map_same}
@@ -18,7 +18,7 @@ use Rattle.cg_claim.specs.Leaves.{Leaf, is_reached, is_source, leaves_of}
 use Rattle.cg_claim.specs.Question.{After, Before, Changed, Copy, Question, target_part, unseen_question}
 use Rattle.cg_claim.specs.Reach.{changed_states}
 use Rattle.cg_claim.specs.Targets.{meets}
-use Rattle.cg_claim.specs.Violates.{Free, IsNeverViolated, PartFits, part_bit, violates}
+use Rattle.cg_claim.specs.Violates.{CopyPartFits, Free, IsNeverViolated, part_bit, violates}
 use Rattle.cg_claim.proofs.ClaimsHold.{never_unseen}
 use Rattle.cg_claim.proofs.GoalBits.{goal_at}
 use Rattle.cg_claim.proofs.LeavesFound.{found_bit, leaf_among}
@@ -34,7 +34,7 @@ both_parts : (a b : Bool) → (a && b) ≡ true → (a ≡ true) × (b ≡ true)
 both_parts true b is = (refl, is)
 both_parts false b is = absurd (both_ways false refl is)
 
-module _ (m : MachineData) (E : List Literal) (Q G : List ℕ) (t : Target) (good : IsMachine m) (fit : PartFits m (target_part t)) (none : meets m E G t ≡ false) where
+module _ (m : MachineData) (E : List Literal) (Q G : List ℕ) (t : Target) (good : IsMachine m) (fit : CopyPartFits m (target_part t)) (none : meets m E G t ≡ false) where
   -- its question
   abbrev q : Question
   q = unseen_question E Q G t
@@ -66,7 +66,7 @@ module _ (m : MachineData) (E : List Literal) (Q G : List ℕ) (t : Target) (goo
       let f : ℕ → Bool = followed_bit m Q (values m w.s0 w.x0) w.s0 w.free in
       map_same (bit (each_register m f)) f (range_with_len 0 (length m.circuit.registers)) (λ r among. each_bit m f r (let b = below_range (length m.circuit.registers) 0 r among in omega (arith, b)))
 
-  no_difference : (b : Bool) → differ b b ≡ false
+  no_difference : (b : Bool) → exclusive_or b b ≡ false
   no_difference true = refl
   no_difference false = refl
 
@@ -78,8 +78,8 @@ module _ (m : MachineData) (E : List Literal) (Q G : List ℕ) (t : Target) (goo
   still_no w =
       let s = followed m Q w.s0 w.x0 w.free in
       let same : mixed m G s s ≡ s = mixed_same s (followed_is w) in
-      and_none (not (any_at (values m w.s0 w.x0) E)) (differ (part_bit m E (values m s w.x1) s (target_part t)) (part_bit m E (values m (mixed m G s s) w.x1) (mixed m G s s) (target_part t)))
-      (ap (λ u. differ (part_bit m E (values m s w.x1) s (target_part t)) (part_bit m E (values m u w.x1) u (target_part t))) same ∙ no_difference (part_bit m E (values m s w.x1) s (target_part t)))
+      and_none (not (any_at (values m w.s0 w.x0) E)) (exclusive_or (part_bit m E (values m s w.x1) s (target_part t)) (part_bit m E (values m (mixed m G s s) w.x1) (mixed m G s s) (target_part t)))
+      (ap (λ u. exclusive_or (part_bit m E (values m s w.x1) s (target_part t)) (part_bit m E (values m u w.x1) u (target_part t))) same ∙ no_difference (part_bit m E (values m s w.x1) s (target_part t)))
 
   never : IsNeverViolated m q
   never w free =

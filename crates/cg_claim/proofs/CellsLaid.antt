@@ -2,7 +2,7 @@
 use Rattle.std.proofs.Common.{◌≡◌, ℕ, zero, suc, Bool, true, false, not, ◌||◌, cond, if◌then◌else◌, List, [], ◌∷◌, ◌++◌, map, length, IsTrue, nat_eq, slice_get, slice_index_or, Some, refl, sym, ◌∙◌, ap}
 use Rattle.std.specs.List.{filter}
 use Rattle.std.proofs.lemmas.Bool.{both_ways, eqb-true, eq-eqb}
-use Rattle.cg_cell.specs.Domain.{AreValid, IsLawful, Keeps, Ops, Seen}
+use Rattle.cg_cell.specs.Domain.{AreValid, IsDomain, Keeps, Ops, Seen}
 use Rattle.cg_cell.specs.Build.{Run, build_or, plain}
 use Rattle.cg_cell.specs.Eval.{bits_at}
 use Rattle.cg_cell.specs.Gates.{any_of}
@@ -14,7 +14,7 @@ use Rattle.cg_netlist.specs.Nets.{IsOrdered, outputs}
 use Rattle.cg_netlist.proofs.Cones.{AreClosed}
 use Rattle.cg_netlist.proofs.NetsOf.{or_none, other_eqb}
 use Rattle.cg_netlist.proofs.RisingPlaces.{in_head, in_tail}
-use Rattle.cg_claim.specs.Build.{Table, Values, cell_run, enable_run, function_term, join_run, lay, literal_of, put, put_run}
+use Rattle.cg_claim.specs.Build.{Table, Values, cell_run, enable_run, function_term, join_run, lay, literal_of, put_run, table_with}
 use Rattle.cg_cell.proofs.Runs.{Gives, Has, IsZero, gives_as, gives_or, gives_plain, gives_term, gives_then, has_later}
 
 -- what a table holds at places that a test names stands for these bits, and all that it holds is valid
@@ -29,7 +29,7 @@ pub record Laid (o : Ops) (bits : List Bool) (test : ℕ → Bool) (value : ℕ 
 
 -- what is asked of the values
 pub record IsFit (d : Values) (bits : List Bool) : Type 0 where
-  pub lawful : IsLawful d.ops
+  pub lawful : IsDomain d.ops
   pub zero : IsZero d.ops bits
   pub inverse : (s : Seen) (a : ℕ) (b : Bool) → Has d.ops bits s a b → Has d.ops bits s (d.inverse a) (not b)
 
@@ -58,7 +58,7 @@ module _ (d : Values) (bits : List Bool) (fit : IsFit d bits) where
       ∙ ap (λ bs. value x ∷ bs) (bits_map s at value xs (λ y among. same y (in_tail y x xs among)))
 
   -- a table after one more run
-  pub put_valid : (s : Seen) (t : Table) (x : ℕ) (r : Run) (b : Bool) → ((y : ℕ) → IsTrue (d.ops.is_valid t.domain (t.at y))) → Gives d.ops bits t.domain r b → (y : ℕ) → IsTrue (d.ops.is_valid r.domain (put t.at x r.answer y))
+  pub put_valid : (s : Seen) (t : Table) (x : ℕ) (r : Run) (b : Bool) → ((y : ℕ) → IsTrue (d.ops.is_valid t.domain (t.at y))) → Gives d.ops bits t.domain r b → (y : ℕ) → IsTrue (d.ops.is_valid r.domain (table_with t.at x r.answer y))
   put_valid s t x r b valid g y = go (nat_eq y x)
     where
       go : (c : Bool) → IsTrue (d.ops.is_valid r.domain (if c then r.answer else t.at y))
@@ -66,7 +66,7 @@ module _ (d : Values) (bits : List Bool) (fit : IsFit d bits) where
       go false = g.keeps.valid (t.at y) (valid y)
 
   pub put_same : (t : Table) (x : ℕ) (r : Run) (value : ℕ → Bool) → ((y : ℕ) → IsTrue (d.ops.is_valid t.domain (t.at y))) → Gives d.ops bits t.domain r (value x)
-      → (y : ℕ) → (nat_eq y x ≡ false → d.ops.bit t.domain bits (t.at y) ≡ value y) → d.ops.bit r.domain bits (put t.at x r.answer y) ≡ value y
+      → (y : ℕ) → (nat_eq y x ≡ false → d.ops.bit t.domain bits (t.at y) ≡ value y) → d.ops.bit r.domain bits (table_with t.at x r.answer y) ≡ value y
   put_same t x r value valid g y other = go (nat_eq y x) refl
     where
       go : (c : Bool) → nat_eq y x ≡ c → d.ops.bit r.domain bits (if c then r.answer else t.at y) ≡ value y

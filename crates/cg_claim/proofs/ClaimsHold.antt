@@ -2,7 +2,7 @@
 use Rattle.std.proofs.Common.{◌≡◌, ℕ, ◌<◌, Bool, true, false, not, ◌&&◌, ◌||◌, if◌then◌else◌, List, [], ◌∷◌, length, slice_get, Option, None, Some, refl, sym, ◌∙◌, ap, subst, arith, inl, inr}
 use Rattle.std.proofs.lemmas.Bool.{both_ways}
 use Rattle.std.proofs.lemmas.Option.{slice_get_past, slice_get-get_or}
-use Rattle.cg_cell.specs.Gates.{differ}
+use Rattle.cg_cell.specs.Gates.{exclusive_or}
 use Rattle.cg_netlist.specs.Circuit.{RegisterCell, is_in}
 use Rattle.cg_netlist.specs.Moment.{bit}
 use Rattle.cg_netlist.proofs.Values.{same_places}
@@ -13,17 +13,17 @@ use Rattle.cg_machine.proofs.Bits.{bit_past, each_bit, each_get, length-each, sa
 use Rattle.cg_claim.specs.Question.{hold_question, idle_question, stable_question, target_part, unseen_question}
 use Rattle.cg_claim.specs.Violates.{Free, IsFree, IsNeverViolated, part_bit, violates}
 
-no_clash : (E a b : Bool) → (E ≡ false → a ≡ b) → (not E && differ a b) ≡ false
+no_clash : (E a b : Bool) → (E ≡ false → a ≡ b) → (not E && exclusive_or a b) ≡ false
 no_clash true a b same = refl
 no_clash false a b same = go a b (same refl)
   where
-    go : (x y : Bool) → x ≡ y → differ x y ≡ false
+    go : (x y : Bool) → x ≡ y → exclusive_or x y ≡ false
     go true true e = refl
     go true false e = cc
     go false true e = cc
     go false false e = refl
 
-from_clash : (E a b : Bool) → (not E && differ a b) ≡ false → E ≡ false → a ≡ b
+from_clash : (E a b : Bool) → (not E && exclusive_or a b) ≡ false → E ≡ false → a ≡ b
 from_clash true a b none idle = absurd (both_ways true idle refl)
 from_clash false true true none idle = refl
 from_clash false true false none idle = absurd (both_ways true none refl)
@@ -118,8 +118,8 @@ module _ (m : MachineData) where
   never_stable E r never s0 x0 s1 x1 long ins ins1 follows idle =
       let w : Free = record { s0 = s0; x0 = x0; free = s1; x1 = x1; other = [] } in
       let same : followed m (r ∷ []) s0 x0 s1 ≡ s1 = follows_followed (r ∷ []) s0 x0 s1 follows in
-      let none : (not (any_at (values m s0 x0) E) && differ (next m (values m s1 x1) s1 r) (bit s1 r)) ≡ false =
-      subst (λ t. (not (any_at (values m s0 x0) E) && differ (next m (values m t x1) t r) (bit t r)) ≡ false) same (never w (record { s0 = long; x0 = ins; x1 = ins1 })) in
+      let none : (not (any_at (values m s0 x0) E) && exclusive_or (next m (values m s1 x1) s1 r) (bit s1 r)) ≡ false =
+      subst (λ t. (not (any_at (values m s0 x0) E) && exclusive_or (next m (values m t x1) t r) (bit t r)) ≡ false) same (never w (record { s0 = long; x0 = ins; x1 = ins1 })) in
       from_clash (any_at (values m s0 x0) E) (next m (values m s1 x1) s1 r) (bit s1 r) none idle
 
   -- states with other bits in G
@@ -161,7 +161,7 @@ module _ (m : MachineData) where
   pub never_unseen : (E : List Literal) (Q G : List ℕ) (t : Target) → IsNeverViolated m (unseen_question E Q G t) → Unseen m E Q G t
   never_unseen E Q G t never s0 x0 s1 s2 x1 long ins ins1 follows idle outside =
       let w : Free = record { s0 = s0; x0 = x0; free = s1; x1 = x1; other = s2 } in
-      let P : List Bool → List Bool → Type 0 = λ u v. (not (any_at (values m s0 x0) E) && differ (part_bit m E (values m u x1) u (target_part t)) (part_bit m E (values m v x1) v (target_part t))) ≡ false in
+      let P : List Bool → List Bool → Type 0 = λ u v. (not (any_at (values m s0 x0) E) && exclusive_or (part_bit m E (values m u x1) u (target_part t)) (part_bit m E (values m v x1) v (target_part t))) ≡ false in
       let first : P s1 (mixed m G s2 s1) = subst (λ u. P u (mixed m G s2 u)) (follows_followed Q s0 x0 s1 follows) (never w (record { s0 = long; x0 = ins; x1 = ins1 })) in
       let none : P s1 s2 = subst (P s1) (outside_mixed G s1 s2 follows.long outside) first in
       sym (target_is E t s1 x1) ∙ (from_clash (any_at (values m s0 x0) E) (part_bit m E (values m s1 x1) s1 (target_part t)) (part_bit m E (values m s2 x1) s2 (target_part t)) none idle ∙ target_is E t s2 x1)

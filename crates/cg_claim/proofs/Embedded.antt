@@ -10,9 +10,9 @@ use Rattle.std.proofs.lemmas.List.Quantifiers.{position-Some}
 use Rattle.std.proofs.lemmas.Map.Steps.{length-le_from_distinct_below}
 use Rattle.std.proofs.lemmas.List.Sums.{fails_before_first, position_or_len_is}
 use Rattle.std.proofs.lemmas.Option.{none-some, same_Some}
-use Rattle.cg_cell.specs.Domain.{Extends, Made, Seen, after}
+use Rattle.cg_cell.specs.Domain.{GrowsAtEnd, Made, Seen, after}
 use Rattle.cg_cell.proofs.Building.{extends_self}
-use Rattle.cg_aig.specs.Aig.{aig_and, and_with, in_order, inverse, nodes, put, put_at, same_pair, simple}
+use Rattle.cg_aig.specs.Aig.{aig_and, and_with, in_order, inverse, nodes, pair_node, pair_node_at, same_pair, simple}
 use Rattle.cg_aig.specs.Values.{and_left, and_right, inverse_even, inverse_odd, parity}
 
 -- the literal of the image of a literal's node, inverted where the literal is
@@ -254,7 +254,7 @@ module _ (g : ℕ → ℕ) (s t : Seen) (e : Embeds g s t) (a b : ℕ) (h : a < 
       go false = swapped (sent g b) (sent g a) (λ same. other (sent_apart g s t e a b h k (sym same)))
 
 -- a longer list has what is embedded
-module _ (g : ℕ → ℕ) (s t u : Seen) (e : Embeds g s t) (number : u.number ≡ t.number) (longer : Extends t.pairs u.pairs) where
+module _ (g : ℕ → ℕ) (s t u : Seen) (e : Embeds g s t) (number : u.number ≡ t.number) (longer : GrowsAtEnd t.pairs u.pairs) where
   nodes_longer : nodes t ≤ nodes u
   nodes_longer = let w = ap length longer.whole in let l = length-append t.pairs longer.added in omega arith
 
@@ -392,9 +392,9 @@ record Placed (t : Seen) (q : ℕ × ℕ) (made : Made) : Type 0 where
   place : ℕ
   at : IsAt made.pairs q place
   answer : made.answer ≡ 2 * (1 + t.number + place)
-  longer : Extends t.pairs made.pairs
+  longer : GrowsAtEnd t.pairs made.pairs
 
-placed_at : (t : Seen) (q : ℕ × ℕ) (found : Option ℕ) → position (same_pair q) t.pairs ≡ found → Placed t q (put_at found t q)
+placed_at : (t : Seen) (q : ℕ × ℕ) (found : Option ℕ) → position (same_pair q) t.pairs ≡ found → Placed t q (pair_node_at found t q)
 placed_at t q (Some k) is = record { place = k; at = found_at t.pairs q k is; answer = refl; longer = extends_self t.pairs }
 placed_at t q None is = record {
   place = length t.pairs;
@@ -410,7 +410,7 @@ placed_at t q None is = record {
 -- an `and` on both
 module _ (g : ℕ → ℕ) (s t : Seen) (e : Embeds g s t) (a b : ℕ) (h : a < 2 * nodes s) (k : b < 2 * nodes s) where
   put_grown : a ≢ b → (found : Option ℕ) → position (same_pair (in_order a b)) s.pairs ≡ found
-      → Grown g s (after s (put_at found s (in_order a b))) (after t (put t (in_order (sent g a) (sent g b)))) (put_at found s (in_order a b)).answer (put t (in_order (sent g a) (sent g b))).answer
+      → Grown g s (after s (pair_node_at found s (in_order a b))) (after t (pair_node t (in_order (sent g a) (sent g b)))) (pair_node_at found s (in_order a b)).answer (pair_node t (in_order (sent g a) (sent g b))).answer
   put_grown other (Some i) is =
       let p : ℕ × ℕ = in_order a b in
       let q : ℕ × ℕ = in_order (sent g a) (sent g b) in
@@ -429,16 +429,16 @@ module _ (g : ℕ → ℕ) (s t : Seen) (e : Embeds g s t) (a b : ℕ) (h : a < 
         same = λ n below. refl;
         answer = record { valid = omega arith; is = read ∙ last };
       } in
-      subst (λ f. Grown g s s (after t (put_at f t q)) (2 * (1 + s.number + i)) (put_at f t q).answer) (sym found) grown
+      subst (λ f. Grown g s s (after t (pair_node_at f t q)) (2 * (1 + s.number + i)) (pair_node_at f t q).answer) (sym found) grown
   put_grown other None is =
       let p : ℕ × ℕ = in_order a b in
       let q : ℕ × ℕ = in_order (sent g a) (sent g b) in
-      let placed : Placed t q (put t q) = placed_at t q (position (same_pair q) t.pairs) refl in
-      let later : Embeds g s (after t (put t q)) = embeds_later g s t (after t (put t q)) e refl placed.longer in
-      let at : IsAt (put t q).pairs (in_order (sent g p.0) (sent g p.1)) placed.place = subst (λ z. IsAt (put t q).pairs z placed.place) (sym (order_sent g s t e a b h k other p refl)) placed.at in
-      grown_new g s (after t (put t q)) later p (order_rises a b other) (order_below a b (2 * nodes s) h k)
+      let placed : Placed t q (pair_node t q) = placed_at t q (position (same_pair q) t.pairs) refl in
+      let later : Embeds g s (after t (pair_node t q)) = embeds_later g s t (after t (pair_node t q)) e refl placed.longer in
+      let at : IsAt (pair_node t q).pairs (in_order (sent g p.0) (sent g p.1)) placed.place = subst (λ z. IsAt (pair_node t q).pairs z placed.place) (sym (order_sent g s t e a b h k other p refl)) placed.at in
+      grown_new g s (after t (pair_node t q)) later p (order_rises a b other) (order_below a b (2 * nodes s) h k)
       (λ n below same. both_ways (same_pair p (get_or s.pairs n (0, 0))) (none_at s.pairs p is n below) (pair_self p (get_or s.pairs n (0, 0)) same))
-      placed.place at (put t q).answer placed.answer
+      placed.place at (pair_node t q).answer placed.answer
 
   with_grown : (found : Option ℕ) → simple a b ≡ found
       → Grown g s (after s (and_with found s (in_order a b))) (after t (and_with (option_map (sent g) found) t (in_order (sent g a) (sent g b)))) (and_with found s (in_order a b)).answer (and_with (option_map (sent g) found) t (in_order (sent g a) (sent g b))).answer

@@ -4,7 +4,7 @@ use Rattle.std.specs.List.{filter, flat_map}
 use Rattle.std.proofs.lemmas.Bool.{both_ways, cases_Bool, lt-ltb, or_left, or_right}
 use Rattle.cg_cell.specs.Domain.{Keeps, Ops, Seen}
 use Rattle.cg_cell.specs.Build.{build_and, build_xor, chain, plain}
-use Rattle.cg_cell.specs.Gates.{differ}
+use Rattle.cg_cell.specs.Gates.{exclusive_or}
 use Rattle.cg_cell.proofs.Building.{keeps_self, keeps_then}
 use Rattle.cg_netlist.specs.Circuit.{RegisterCell, cell_nets, data_inputs, is_in}
 use Rattle.cg_netlist.specs.Moment.{bit}
@@ -16,10 +16,10 @@ use Rattle.cg_machine.proofs.Bits.{each_bit, length-each}
 use Rattle.cg_claim.specs.Build.{Copies, Table, Values, after_state_table, after_table, before_table, changed_state, changed_table, copies, enable_run, goal_of, goal_run, lay, leaf_value, nets_in, reached_cells, side_run, start_nets, states_in}
 use Rattle.cg_claim.specs.LeafBits.{source_bit}
 use Rattle.cg_claim.specs.Leaves.{Leaf, is_reached, is_source}
-use Rattle.cg_claim.specs.Question.{Copy, Before, After, Changed, Part, Next, Side, Question}
+use Rattle.cg_claim.specs.Question.{Copy, Before, After, Changed, CopyPart, Next, Side, Question}
 use Rattle.cg_claim.specs.Reach.{after_nets, after_states, before_nets, before_states, changed_nets, changed_states, enable_nets, feeds, nets_reached, origin_asks, origin_nets, part_asks, part_nets, registers_of, sides_ask, sides_nets, states_reached}
 use Rattle.cg_netlist.specs.Cone.{cone_of}
-use Rattle.cg_claim.specs.Violates.{Free, inputs_of, nets_at, side_bit, sides_differ, state_of, violates, IsFree, PartFits, SidesFit}
+use Rattle.cg_claim.specs.Violates.{Free, inputs_of, nets_at, side_bit, sides_differ, state_of, violates, IsFree, CopyPartFits, SidesFit}
 use Rattle.cg_claim.specs.declared.leaf.LeafSource.{LeafSource}
 use Rattle.cg_claim.specs.declared.leaf.LeafSource.TheVariants.{Input as InputOf, Register as RegisterOf}
 use Rattle.cg_netlist.proofs.Cones.{cone_closed}
@@ -215,11 +215,11 @@ module _ (d : Values) (bits : List Bool) (fit : IsFit d bits) (m : MachineData) 
     inputs_fit After = free.x1
     inputs_fit Changed = free.x1
 
-    part_register : (part : Part) → PartFits m part → (r : ℕ) → part ≡ Next r → (cell : RegisterCell ℕ ℕ) × (slice_get m.circuit.registers r ≡ Some cell)
-    part_register part fit r is = let below : r < length m.circuit.registers = subst (PartFits m) is fit in element_at m.circuit.registers r below
+    part_register : (part : CopyPart) → CopyPartFits m part → (r : ℕ) → part ≡ Next r → (cell : RegisterCell ℕ ℕ) × (slice_get m.circuit.registers r ≡ Some cell)
+    part_register part fit r is = let below : r < length m.circuit.registers = subst (CopyPartFits m) is fit in element_at m.circuit.registers r below
 
     -- a side of which all is reached
-    side_gives : (side : Side) (u : Seen) → Keeps d.ops c.domain u → PartFits m side.part
+    side_gives : (side : Side) (u : Seen) → Keeps d.ops c.domain u → CopyPartFits m side.part
         → ((y : ℕ) → is_in (part_nets m (enable_nets q) side.part) y ≡ true → is_in (nets_reached m q side.copy) y ≡ true)
         → ((r : ℕ) → part_asks m side.part r ≡ true → states_reached m q side.copy r ≡ true)
         → Gives d.ops bits u (side_run d m q c side u) (side_bit m q w side)
@@ -251,19 +251,19 @@ module _ (d : Values) (bits : List Bool) (fit : IsFit d bits) (m : MachineData) 
         let z = side_bit m q w sides.1 in
         let r0 = side_run d m q c sides.0 u in
         let whole = λ (x : ℕ) (v : Seen). build_and d.ops (d.inverse e) x v in
-        gives_then d.ops bits u r0 (λ a t. chain (side_run d m q c sides.1 t) (λ b u. chain (build_xor d.ops a b u) (λ x v. build_and d.ops (d.inverse e) x v))) a (not b && differ a z)
+        gives_then d.ops bits u r0 (λ a t. chain (side_run d m q c sides.1 t) (λ b u. chain (build_xor d.ops a b u) (λ x v. build_and d.ops (d.inverse e) x v))) a (not b && exclusive_or a z)
         (side_gives sides.0 u keeps fit'.0 (side_nets_in m q fits sides is sides.0 (inl refl)) (side_asks_in m q fits sides is sides.0 (inl refl))) (λ k0 h0.
         let t = r0.domain in
         let r1 = side_run d m q c sides.1 t in
         let kt = keeps_then d.ops c.domain u t keeps k0 in
-        gives_then d.ops bits t r1 (λ b u. chain (build_xor d.ops r0.answer b u) (λ x v. build_and d.ops (d.inverse e) x v)) z (not b && differ a z)
+        gives_then d.ops bits t r1 (λ b u. chain (build_xor d.ops r0.answer b u) (λ x v. build_and d.ops (d.inverse e) x v)) z (not b && exclusive_or a z)
         (side_gives sides.1 t kt fit'.1 (side_nets_in m q fits sides is sides.1 (inr refl)) (side_asks_in m q fits sides is sides.1 (inr refl))) (λ k1 h1.
         let v = r1.domain in
         let r2 = build_xor d.ops r0.answer r1.answer v in
-        gives_then d.ops bits v r2 whole (differ a z) (not b && differ a z)
+        gives_then d.ops bits v r2 whole (exclusive_or a z) (not b && exclusive_or a z)
         (gives_xor d.ops bits fit.lawful v r0.answer r1.answer a z (has_later d.ops bits t v r0.answer a k1 h0) h1) (λ k2 h2.
         let e' = has_later d.ops bits u r2.domain (d.inverse e) (not b) (keeps_then d.ops u v r2.domain (keeps_then d.ops u t v k0 k1) k2) (fit.inverse u e b h) in
-        gives_and d.ops bits fit.lawful r2.domain (d.inverse e) r2.answer (not b) (differ a z) e' h2)))
+        gives_and d.ops bits fit.lawful r2.domain (d.inverse e) r2.answer (not b) (exclusive_or a z) e' h2)))
 
     -- the goal is 1 exactly where the claim is violated
     pub goal_is : Gives d.ops bits c.domain (goal_run d m q c) (violates m q w)

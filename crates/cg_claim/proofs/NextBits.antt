@@ -19,7 +19,7 @@ use Rattle.cg_netlist.proofs.Members.{is_in_left, is_in_right}
 use Rattle.cg_machine.specs.Claims.{Literal, followed_bit}
 use Rattle.cg_machine.specs.Machine.{MachineData, enable_of, load, next, next_of}
 use Rattle.cg_claim.specs.Build.{Table, Values, lay_states, mux_run, next_run, next_run_of, part_run, put_run, state_run}
-use Rattle.cg_claim.specs.Question.{Part, Net, Next, State, Enable, Question}
+use Rattle.cg_claim.specs.Question.{CopyPart, Net, Next, State, Enable, Question}
 use Rattle.cg_claim.specs.Reach.{next_asks_own, next_nets, origin_asks, origin_nets, part_asks, part_nets, reads_own, register_term}
 use Rattle.cg_claim.specs.Violates.{part_bit}
 use Rattle.cg_cell.proofs.Runs.{Gives, Has, gives_as, gives_mux, gives_plain, gives_term, gives_then, has_later}
@@ -147,7 +147,7 @@ module _ (d : Values) (bits : List Bool) (fit : IsFit d bits) where
       either_none false b h k = k
 
   -- the parts of a goal
-  pub part_gives : (m : MachineData) (E : List Literal) (vs state : List Bool) (nets states : ℕ → ℕ) (part : Part) (s : Seen)
+  pub part_gives : (m : MachineData) (E : List Literal) (vs state : List Bool) (nets states : ℕ → ℕ) (part : CopyPart) (s : Seen)
       → ((r : ℕ) → part ≡ Next r → (cell : RegisterCell ℕ ℕ) × (slice_get m.circuit.registers r ≡ Some cell))
       → ((r : ℕ) (cell : RegisterCell ℕ ℕ) → slice_get m.circuit.registers r ≡ Some cell → IsRegister vs cell)
       → IsTrue (d.ops.is_sound s)

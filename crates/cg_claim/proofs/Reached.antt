@@ -8,9 +8,9 @@ use Rattle.std.proofs.lemmas.Option.{slice_get_within}
 use Rattle.cg_netlist.specs.Circuit.{RegisterCell, is_in, shown_nets}
 use Rattle.cg_netlist.proofs.Members.{is_in_left, is_in_right}
 use Rattle.cg_machine.specs.Machine.{MachineData, walk_of}
-use Rattle.cg_claim.specs.Question.{Copy, Before, After, Changed, Part, Net, Next, State, Enable, Side, Question}
+use Rattle.cg_claim.specs.Question.{Copy, Before, After, Changed, CopyPart, Net, Next, State, Enable, Side, Question}
 use Rattle.cg_claim.specs.Reach.{after_nets, after_states, before_nets, before_states, changed_nets, changed_states, enable_nets, feeds, nets_reached, next_asks_own, origin_asks, origin_nets, part_asks, part_nets, registers_of, same_copy, side_asks, side_nets, sides_ask, sides_nets, states_reached}
-use Rattle.cg_claim.specs.Violates.{PartFits, SidesFit}
+use Rattle.cg_claim.specs.Violates.{CopyPartFits, SidesFit}
 use Rattle.cg_netlist.proofs.Cones.{cone_has}
 
 pub both_true : (a b : Bool) → a ≡ true → b ≡ true → (a && b) ≡ true
@@ -78,7 +78,7 @@ module _ (m : MachineData) (q : Question) (fits : SidesFit m q.sides) where
       go None is h = absurd (both_ways false refl h)
       go (Some cell) is h = slice_get_within m.circuit.registers r cell is
 
-  pub part_within : (part : Part) (r : ℕ) → PartFits m part → part_asks m part r ≡ true → r < length m.circuit.registers
+  pub part_within : (part : CopyPart) (r : ℕ) → CopyPartFits m part → part_asks m part r ≡ true → r < length m.circuit.registers
   part_within (Net y) r fit asks = absurd (both_ways false refl asks)
   part_within (Next k) r fit asks = let e : r ≡ k = eqb-true r k (and_first (nat_eq r k) (next_asks_own m k) asks) in omega (arith, e, fit)
   part_within (State k) r fit asks = let e : r ≡ k = eqb-true r k asks in omega (arith, e, fit)

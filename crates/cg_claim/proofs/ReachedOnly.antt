@@ -16,11 +16,11 @@ use Rattle.cg_netlist.proofs.Values.{element_at, map_same}
 use Rattle.cg_machine.specs.Claims.{Literal}
 use Rattle.cg_machine.specs.Machine.{IsMachine, MachineData, enable_of, walk_of}
 use Rattle.cg_claim.specs.Build.{Table, Values, cell_run, enable_run, from_state, function_term, given, join_run, lay, lay_states, literal_of, mux_run, next_run, next_run_of, part_run, put_run, reached_cells, shown_by, start_nets, state_run}
-use Rattle.cg_claim.specs.Question.{Part, Net, Next, State, Enable, Question}
+use Rattle.cg_claim.specs.Question.{CopyPart, Net, Next, State, Enable, Question}
 use Rattle.cg_netlist.specs.Cone.{cone_of}
 use Rattle.cg_claim.specs.Reach.{feeds, next_asks_own, next_nets, origin_asks, origin_nets, part_asks, part_nets, reads_own, register_term}
 use Rattle.cg_claim.specs.Tables.{SameOn}
-use Rattle.cg_claim.specs.Violates.{PartFits}
+use Rattle.cg_claim.specs.Violates.{CopyPartFits}
 use Rattle.cg_netlist.proofs.Cones.{AreClosed, cone_closed}
 use Rattle.cg_netlist.proofs.RisingPlaces.{in_head, in_tail}
 use Rattle.cg_claim.proofs.GivenNets.{shown_feeds}
@@ -234,7 +234,7 @@ module _ (d : Values) where
       ∙ join_same nets nets' (literal_of d nets' l) ls s (λ y among. same y (in_tail y l.0 (map (λ l. l.0) ls) among))
 
   -- a part reads the nets and the state that it asks for
-  pub part_same : (m : MachineData) (E : List Literal) (nets nets' states states' : ℕ → ℕ) (part : Part) (s : Seen) → PartFits m part
+  pub part_same : (m : MachineData) (E : List Literal) (nets nets' states states' : ℕ → ℕ) (part : CopyPart) (s : Seen) → CopyPartFits m part
       → ((y : ℕ) → is_in (part_nets m (map (λ l. l.0) E) part) y ≡ true → nets y ≡ nets' y) → ((r : ℕ) → part_asks m part r ≡ true → states r ≡ states' r)
       → part_run d m E nets states part s ≡ part_run d m E nets' states' part s
   part_same m E nets nets' states states' (Net y) s fits same own = ap (λ a. plain a s) (same y (in_head y []))

@@ -13,7 +13,7 @@ use Rattle.cg_claim.specs.Leaves.{Leaf}
 use Rattle.cg_claim.specs.Question.{Copy, Before, After, Changed, Question, Side}
 use Rattle.cg_claim.specs.Reach.{after_nets, after_states, before_nets, before_states, changed_nets, changed_states, enable_nets, feeds, nets_reached, origin_asks, origin_nets, part_asks, part_nets, registers_of, sides_ask, sides_nets, states_reached}
 use Rattle.cg_claim.specs.Tables.{SameOn}
-use Rattle.cg_claim.specs.Violates.{PartFits, SidesFit}
+use Rattle.cg_claim.specs.Violates.{CopyPartFits, SidesFit}
 use Rattle.cg_claim.proofs.Reached.{after_within, both_true, enables_in, in_filter, not_of, origins_in, range_in, side_asks_in, side_nets_in, to_filter}
 use Rattle.cg_claim.proofs.ReachedOnly.{copy_laid, enable_same, lay_states_same, part_same}
 
@@ -83,7 +83,7 @@ module _ (d : Values) (m : MachineData) (good : IsMachine m) (q : Question) (fit
   -- the goal reads what is reached of the copies
   module _ (c e : Copies) (nets : (copy : Copy) (y : ℕ) → is_in (nets_reached m q copy) y ≡ true → nets_in c copy y ≡ nets_in e copy y)
       (states : (copy : Copy) (r : ℕ) → states_reached m q copy r ≡ true → states_in c copy r ≡ states_in e copy r) where
-    side_same : (side : Side) (s : Seen) → PartFits m side.part
+    side_same : (side : Side) (s : Seen) → CopyPartFits m side.part
         → ((y : ℕ) → is_in (part_nets m (enable_nets q) side.part) y ≡ true → is_in (nets_reached m q side.copy) y ≡ true)
         → ((r : ℕ) → part_asks m side.part r ≡ true → states_reached m q side.copy r ≡ true)
         → side_run d m q c side s ≡ side_run d m q e side s

@@ -13,7 +13,7 @@ use Rattle.cg_machine.specs.Machine.{MachineData, enable_of}
 use Rattle.cg_claim.specs.Build.{Copies, Table, after_state_table, after_table, aig_values, before_table, cell_run, changed_state, copies, enable_run, function_term, goal_of, goal_run, join_run, lay, lay_states, leaf_value, literal_of, mux_run, next_run, next_run_of, part_run, put_run, reached_cells, side_run, size, start_nets, state_run}
 use Rattle.cg_claim.specs.declared.leaf.LeafSource.TheVariants.{Input as InputOf, Register as RegisterOf}
 use Rattle.cg_claim.specs.Leaves.{Leaf}
-use Rattle.cg_claim.specs.Question.{Before, After, Part, Net, Next, State, Enable, Question, Side}
+use Rattle.cg_claim.specs.Question.{Before, After, CopyPart, Net, Next, State, Enable, Question, Side}
 use Rattle.cg_claim.specs.Reach.{after_nets, after_states, changed_nets, register_term, registers_of}
 
 -- a run leaves a list that is no shorter
@@ -63,7 +63,7 @@ pub enable_grows : (nets : ℕ → ℕ) (ls : List Literal) (s : Seen) → Grows
 enable_grows nets [] s = grows_plain aig_ops aig_growing s 0
 enable_grows nets (l ∷ ls) s = join_grows nets (literal_of aig_values nets l) ls s
 
-pub part_grows : (m : MachineData) (E : List Literal) (nets states : ℕ → ℕ) (part : Part) (s : Seen) → Grows aig_ops s (part_run aig_values m E nets states part s)
+pub part_grows : (m : MachineData) (E : List Literal) (nets states : ℕ → ℕ) (part : CopyPart) (s : Seen) → Grows aig_ops s (part_run aig_values m E nets states part s)
 part_grows m E nets states (Net y) s = grows_plain aig_ops aig_growing s (nets y)
 part_grows m E nets states (Next r) s = next_of_grows (slice_get m.circuit.registers r) (enable_of m r) nets (states r) s
 part_grows m E nets states (State r) s = grows_plain aig_ops aig_growing s (states r)

@@ -18,7 +18,7 @@ use Rattle.cg_machine.specs.Claims.{Literal}
 use Rattle.cg_claim.specs.declared.leaf.LeafSource.{LeafSource}
 use Rattle.cg_claim.specs.declared.leaf.LeafSource.TheVariants.{Input, Register}
 use Rattle.cg_claim.specs.Leaves.{Leaf, leaf_place, leaves_of, width_of}
-use Rattle.cg_claim.specs.Question.{Copy, Before, After, Changed, Part, Net, Next, State, Enable, Side, Question}
+use Rattle.cg_claim.specs.Question.{Copy, Before, After, Changed, CopyPart, Net, Next, State, Enable, Side, Question}
 use Rattle.cg_claim.specs.Reach.{after_nets, after_states, before_nets, changed_nets, register_term, registers_of}
 
 -- values that stand for bits: a domain's operations, the inverse of a value where that takes no operation of the list,
@@ -66,11 +66,11 @@ pub record Table : Type 0 where
   pub at : ℕ → ℕ
 
 -- a table with one more value
-abbrev pub put : (ℕ → ℕ) → ℕ → ℕ → ℕ → ℕ
-put table x a y = if nat_eq y x then a else table y
+abbrev pub table_with : (ℕ → ℕ) → ℕ → ℕ → ℕ → ℕ
+table_with table x a y = if nat_eq y x then a else table y
 
 abbrev pub put_run : Table → ℕ → Run → Table
-put_run t x r = record { domain = r.domain; at = put t.at x r.answer }
+put_run t x r = record { domain = r.domain; at = table_with t.at x r.answer }
 
 -- a logic cell, from the values of its inputs
 abbrev pub cell_run : Values → LogicCell ℕ → Table → Run
@@ -119,7 +119,7 @@ enable_run d nets [] s = plain 0 s
 enable_run d nets (l ∷ ls) s = join_run d nets (literal_of d nets l) ls s
 
 -- a part of a copy, of which nets and states are given
-abbrev pub part_run : Values → MachineData → List Literal → (ℕ → ℕ) → (ℕ → ℕ) → Part → Seen → Run
+abbrev pub part_run : Values → MachineData → List Literal → (ℕ → ℕ) → (ℕ → ℕ) → CopyPart → Seen → Run
 part_run d m E nets states (Net y) s = plain (nets y) s
 part_run d m E nets states (Next r) s = next_run d m nets states r s
 part_run d m E nets states (State r) s = plain (states r) s

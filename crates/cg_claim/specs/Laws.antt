@@ -17,7 +17,7 @@ use Rattle.cg_claim.specs.Leaves.{leaves_of, width_of}
 use Rattle.cg_claim.specs.Question.{Question, held_question, hold_question, idle_question, stable_question, target_part, unseen_question}
 use Rattle.cg_claim.specs.Reach.{inputs_of_register}
 use Rattle.cg_claim.specs.Targets.{IsTarget, meets, unseen_targets}
-use Rattle.cg_claim.specs.Violates.{PartFits, SidesFit}
+use Rattle.cg_claim.specs.Violates.{CopyPartFits, SidesFit}
 
 -- the operation of a gate of this kind on the values of its inputs
 abbrev pub gate_run : FitKind → List ℕ → Seen → Run
@@ -66,7 +66,7 @@ abbrev pub StableIsSaid : Type 0
 StableIsSaid = (m : MachineData) (E : List Literal) (r : ℕ) → IsMachine m → r < length m.circuit.registers → IsNeverOne m (stable_question E r) ↔ Stable m E r
 
 abbrev pub UnseenIsSaid : Type 0
-UnseenIsSaid = (m : MachineData) (E : List Literal) (Q G : List ℕ) (t : Target) → IsMachine m → PartFits m (target_part t) → IsNeverOne m (unseen_question E Q G t) ↔ Unseen m E Q G t
+UnseenIsSaid = (m : MachineData) (E : List Literal) (Q G : List ℕ) (t : Target) → IsMachine m → CopyPartFits m (target_part t) → IsNeverOne m (unseen_question E Q G t) ↔ Unseen m E Q G t
 
 -- the goal of Idle is sometimes 1 exactly where the joined enable can be 0
 abbrev pub IdleIsSaid : Type 0
@@ -83,7 +83,7 @@ HoldLeavesAreSame = (m : MachineData) (e : Literal) (r : ℕ) → IsMachine m �
 
 -- a target without a register of G in its cone needs no claim: it does not show them
 abbrev pub ApartIsUnseen : Type 0
-ApartIsUnseen = (m : MachineData) (E : List Literal) (Q G : List ℕ) (t : Target) → IsMachine m → PartFits m (target_part t) → meets m E G t ≡ false → Unseen m E Q G t
+ApartIsUnseen = (m : MachineData) (E : List Literal) (Q G : List ℕ) (t : Target) → IsMachine m → CopyPartFits m (target_part t) → meets m E G t ≡ false → Unseen m E Q G t
 
 -- where no goal of the targets that have a register of G in their cone is ever 1, no target shows these registers
 abbrev pub TargetsSuffice : Type 0

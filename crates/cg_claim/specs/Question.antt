@@ -10,16 +10,16 @@ pub data Copy : Type 0 where
 
 -- what one side of a goal shows of a copy: the bit of a net, the next bit of a register, the bit of a register, or the
 -- joined enable
-pub data Part : Type 0 where
-  Net : ℕ → Part
-  Next : ℕ → Part
-  State : ℕ → Part
-  Enable : Part
+pub data CopyPart : Type 0 where
+  Net : ℕ → CopyPart
+  Next : ℕ → CopyPart
+  State : ℕ → CopyPart
+  Enable : CopyPart
 
 -- a side of a goal: a part of a copy
 pub record Side : Type 0 where
   pub copy : Copy
-  pub part : Part
+  pub part : CopyPart
 
 -- a question: the literals of the joined enable, the registers that hold their next bits after the first cycle, the
 -- registers that may have other bits in the last copy, and the two sides that may differ. Without sides it is whether
@@ -47,7 +47,7 @@ abbrev pub stable_question : List Literal → ℕ → Question
 stable_question E r = record { enables = E; follows = r ∷ []; changes = []; sides = Some (record { copy = After; part = Next r }, record { copy = After; part = State r }) }
 
 -- the part that shows a target
-abbrev pub target_part : Target → Part
+abbrev pub target_part : Target → CopyPart
 target_part (Shown y) = Net y
 target_part (NextTarget r) = Next r
 target_part Joined = Enable

@@ -9,7 +9,7 @@ use Rattle.cg_netlist.specs.Cone.{cone_of, register_feeds}
 use Rattle.cg_netlist.specs.declared.parts.RegisterKind.{RegisterKind}
 use Rattle.cg_netlist.specs.declared.parts.RegisterKind.TheVariants.{Plain, Flop}
 use Rattle.cg_machine.specs.Machine.{MachineData, enable_of, walk_of}
-use Rattle.cg_claim.specs.Question.{Copy, Before, After, Changed, Part, Net, Next, State, Enable, Side, Question}
+use Rattle.cg_claim.specs.Question.{Copy, Before, After, Changed, CopyPart, Net, Next, State, Enable, Side, Question}
 
 -- a register's function, over its inputs and its own bit behind them
 abbrev pub register_term : RegisterKind → Term
@@ -33,14 +33,14 @@ abbrev pub next_asks_own : MachineData → ℕ → Bool
 next_asks_own m r = is_some (enable_of m r) || option_map_or reads_own (slice_get m.circuit.registers r) false
 
 -- the nets that a part asks for in its copy, where E are the nets of the joined enable
-abbrev pub part_nets : MachineData → List ℕ → Part → List ℕ
+abbrev pub part_nets : MachineData → List ℕ → CopyPart → List ℕ
 part_nets m E (Net y) = y ∷ []
 part_nets m E (Next r) = next_nets m r
 part_nets m E (State r) = []
 part_nets m E Enable = E
 
 -- whether a part asks for the state of register k in its copy
-abbrev pub part_asks : MachineData → Part → ℕ → Bool
+abbrev pub part_asks : MachineData → CopyPart → ℕ → Bool
 part_asks m (Net y) k = false
 part_asks m (Next r) k = nat_eq k r && next_asks_own m r
 part_asks m (State r) k = nat_eq k r

@@ -1,10 +1,10 @@
 -- When bits of a machine violate a claim.
 use Rattle.std.specs.Prelude.{◌≡◌, ◌<◌, Bool, true, false, not, ◌&&◌, List, length, Option, Some, None}
-use Rattle.cg_cell.specs.Gates.{differ}
+use Rattle.cg_cell.specs.Gates.{exclusive_or}
 use Rattle.cg_netlist.specs.Moment.{bit}
 use Rattle.cg_machine.specs.Machine.{IsInputs, IsState, MachineData, next, values}
 use Rattle.cg_machine.specs.Claims.{Literal, any_at, followed, mixed}
-use Rattle.cg_claim.specs.Question.{Copy, Before, After, Changed, Part, Net, Next, State, Enable, Side, Question}
+use Rattle.cg_claim.specs.Question.{Copy, Before, After, Changed, CopyPart, Net, Next, State, Enable, Side, Question}
 
 -- free bits: the state and the inputs of the first cycle, the bits after it of the registers that nothing is said of,
 -- the inputs of the second cycle, and the other bits of the registers that may have some
@@ -38,7 +38,7 @@ abbrev pub nets_at : MachineData → Question → Free → Copy → List Bool
 nets_at m q w copy = values m (state_of m q w copy) (inputs_of w copy)
 
 -- the bit of a part of a cycle
-abbrev pub part_bit : MachineData → List Literal → List Bool → List Bool → Part → Bool
+abbrev pub part_bit : MachineData → List Literal → List Bool → List Bool → CopyPart → Bool
 part_bit m E nets state (Net y) = bit nets y
 part_bit m E nets state (Next r) = next m nets state r
 part_bit m E nets state (State r) = bit state r
@@ -51,7 +51,7 @@ side_bit m q w side = part_bit m q.enables (nets_at m q w side.copy) (state_of m
 -- whether the two sides differ
 abbrev pub sides_differ : MachineData → Question → Free → Option (Side × Side) → Bool
 sides_differ m q w None = true
-sides_differ m q w (Some s) = differ (side_bit m q w s.0) (side_bit m q w s.1)
+sides_differ m q w (Some s) = exclusive_or (side_bit m q w s.0) (side_bit m q w s.1)
 
 -- whether free bits violate a claim: the joined enable is 0 in the first cycle, and the sides differ
 abbrev pub violates : MachineData → Question → Free → Bool
@@ -62,13 +62,13 @@ abbrev pub IsNeverViolated : MachineData → Question → Type 0
 IsNeverViolated m q = (w : Free) → IsFree m w → violates m q w ≡ false
 
 -- the registers that a part names are there
-abbrev pub PartFits : MachineData → Part → Type 0
-PartFits m (Net y) = Unit {0}
-PartFits m (Next r) = r < length m.circuit.registers
-PartFits m (State r) = r < length m.circuit.registers
-PartFits m Enable = Unit {0}
+abbrev pub CopyPartFits : MachineData → CopyPart → Type 0
+CopyPartFits m (Net y) = Unit {0}
+CopyPartFits m (Next r) = r < length m.circuit.registers
+CopyPartFits m (State r) = r < length m.circuit.registers
+CopyPartFits m Enable = Unit {0}
 
 -- and those that the sides name
 abbrev pub SidesFit : MachineData → Option (Side × Side) → Type 0
 SidesFit m None = Unit {0}
-SidesFit m (Some s) = PartFits m s.0.part × PartFits m s.1.part
+SidesFit m (Some s) = CopyPartFits m s.0.part × CopyPartFits m s.1.part

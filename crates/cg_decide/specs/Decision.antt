@@ -25,6 +25,6 @@ IsProved s goal (Never formula log) = (formula ≡ formula_of s goal) × IsAccep
 IsProved s goal (Sometimes bits) = Unit {0}
 
 -- formula and log can be written: their variables and ids are within the bounds, and the log's lines are counted from 1
-abbrev pub IsWritable : Decision → Type 0
-IsWritable (Never formula log) = IsFormula formula × IsLog log × AreNumbered log.steps
-IsWritable (Sometimes bits) = Unit {0}
+abbrev pub IsWritableDecision : Decision → Type 0
+IsWritableDecision (Never formula log) = IsFormula formula × IsLog log × AreNumbered log.steps
+IsWritableDecision (Sometimes bits) = Unit {0}

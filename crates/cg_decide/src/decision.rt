@@ -4,7 +4,7 @@ ghost use Rattle.std.specs.Prelude.{◌≡◌, ◌≤◌, IsTrue, length, IfOk, 
 ghost use Rattle.std.specs.Option.{IfSome};
 ghost use Rattle.cg_aig.specs.Aig.{aig_ops, nodes};
 ghost use Rattle.cg_cnf.specs.Clauses.{IsOneAt};
-ghost use Rattle.cg_decide.specs.Decision.{IsExact, IsProved, IsWritable};
+ghost use Rattle.cg_decide.specs.Decision.{IsExact, IsProved, IsWritableDecision};
 
 use crate::patterns::Patterns;
 use cg_aig::{Aig, AigLit};
@@ -82,7 +82,7 @@ impl Decider {
         requires { IsTrue (aig_ops.is_valid aig.now goal) }
         ensures exactly { IfOk result (IsExact aig.now goal) }
         ensures proved { IfOk result (IsProved aig.now goal) }
-        ensures writable { IfOk result IsWritable }
+        ensures writable { IfOk result IsWritableDecision }
     {
         if let Some(bits) = self.draw(aig, goal)? {
             return Ok(Decision::Sometimes(bits));
@@ -105,7 +105,7 @@ pub fn decide(alloc: Global, aig: &Aig, goal: AigLit) -> Result<Decision, AllocE
     requires { IsTrue (aig_ops.is_valid aig.now goal) }
     ensures exactly { IfOk result (IsExact aig.now goal) }
     ensures proved { IfOk result (IsProved aig.now goal) }
-    ensures writable { IfOk result IsWritable }
+    ensures writable { IfOk result IsWritableDecision }
 {
     let mut decider = Decider::new(alloc);
     decider.decide(aig, goal)

@@ -7,7 +7,7 @@ use Rattle.cg_cell.specs.Bits.{one_if}
 use Rattle.cg_netlist.specs.Circuit.{Circuit, LogicCell}
 use Rattle.cg_netlist.specs.Nets.{walk_order}
 use Rattle.cg_edge.specs.declared.flat.FlatCell.{FlatCell}
-use Rattle.cg_edge.specs.inner.Flat.{AreLaid, IsLaid, IsLaidAt, IsPushed, IsTable, Layout}
+use Rattle.cg_edge.specs.inner.Flat.{AreLaid, IsLaid, IsLaidAt, IsPushed, IsTruthTable, Layout}
 use Rattle.cg_edge.proofs.Walk.{walk_within}
 
 -- what stands at a place after a push
@@ -30,7 +30,7 @@ laid_grown inputs more laid cell is = record {
 }
 
 -- a cell whose inputs stand behind all others
-pub laid_last : (inputs : List ℕ) (laid : FlatCell) (cell : LogicCell ℕ) → laid.output ≡ cell.output → laid.first ≡ length inputs → laid.count ≡ length cell.inputs → (length cell.inputs ≤ 6 → IsTable cell.function (length cell.inputs) laid.table)
+pub laid_last : (inputs : List ℕ) (laid : FlatCell) (cell : LogicCell ℕ) → laid.output ≡ cell.output → laid.first ≡ length inputs → laid.count ≡ length cell.inputs → (length cell.inputs ≤ 6 → IsTruthTable cell.function (length cell.inputs) laid.table)
     → IsLaid (inputs ++ cell.inputs) laid cell
 laid_last inputs laid cell output first count table = record {
   output = output;

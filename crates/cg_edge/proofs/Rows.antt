@@ -15,7 +15,7 @@ use Rattle.cg_netlist.specs.declared.parts.LogicFunction.{LogicFunction}
 use Rattle.cg_netlist.specs.Moment.{function_value, values_at}
 use Rattle.cg_netlist.proofs.TableLemmas.{same_or_not}
 use Rattle.cg_netlist.proofs.Walks.{drop_at}
-use Rattle.cg_edge.specs.inner.Flat.{IsTable, row_of}
+use Rattle.cg_edge.specs.inner.Flat.{IsTruthTable, row_of}
 
 pub one_if_small : (b : Bool) → one_if b ≤ 1
 one_if_small true = omega arith
@@ -90,7 +90,7 @@ pub record IsFilled (function : LogicFunction) (n k table : ℕ) : Type 0 where
 pub filled_none : (function : LogicFunction) (n : ℕ) → IsFilled function n 0 0
 filled_none function n = record { done = λ bits long below. absurd (omega (arith, below)); left = λ row past. bit_at-zero row }
 
-pub filled_all : (function : LogicFunction) (n k table : ℕ) → 2 ^ n ≤ k → IsFilled function n k table → IsTable function n table
+pub filled_all : (function : LogicFunction) (n k table : ℕ) → 2 ^ n ≤ k → IsFilled function n k table → IsTruthTable function n table
 filled_all function n k table all filled bits long = filled.done bits long (let below = row_below bits in let same : 2 ^ length bits ≡ 2 ^ n = ap (λ m. 2 ^ m) long in omega (arith, below, same, all))
 
 module _ (function : LogicFunction) (n k table : ℕ) (bits : List Bool) (low : k < 64) (long : length bits ≡ n) (at : row_of bits ≡ k) (filled : IsFilled function n k table) where

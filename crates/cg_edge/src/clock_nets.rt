@@ -61,7 +61,8 @@ fn drive_gate(netlist: &Netlist, id: GateClockId, latches: &[bool], nets: &mut [
     requires gater { id < length netlist.now.gaters }
     requires latches { length latches.now ≡ length netlist.now.gaters }
     requires nets { length nets.old ≡ length netlist.now.names }
-    ensures { (gater : GatingCell ℕ) → slice_get netlist.now.gaters id ≡ Some gater → nets.new ≡ slice_set nets.old gater.output (slice_index_or latches.now id false && bit nets.old gater.clock) }
+    ensures { (gater : GatingCell ℕ) → slice_get netlist.now.gaters id ≡ Some gater
+        → nets.new ≡ slice_set nets.old gater.output (slice_index_or latches.now id false && bit nets.old gater.clock) }
 {
     let gater = netlist.gater(id);
     let passes = nets[gater.clock.number() as usize];

@@ -103,7 +103,8 @@ impl FlatCells {
         requires laid { IsLaidAt netlist.now id self.now place }
         requires nets { length nets.now ≡ length netlist.now.names }
         requires room { widest_of netlist.now.cells ≤ length scratch.old }
-        ensures value { (cell : LogicCell ℕ) → slice_get netlist.now.cells id ≡ Some cell → result ≡ function_value cell.function (values_at nets.now cell.inputs) }
+        ensures value { (cell : LogicCell ℕ) → slice_get netlist.now.cells id ≡ Some cell
+            → result ≡ function_value cell.function (values_at nets.now cell.inputs) }
         ensures room { length scratch.new ≡ length scratch.old }
     {
         let laid = self.cells[place];

@@ -74,9 +74,13 @@ pub(crate) fn advance(
     requires marks { length marks.old ≡ length order.now }
     requires marked { AreMarked (walk_of netlist.now) marks.old nets.old }
     requires room { widest_of netlist.now.cells ≤ length scratch.old }
-    requires none_yet { ticked ≡ false → (latches.old ≡ replicate (length netlist.now.gaters) false) × (rose.old ≡ replicate (length netlist.now.registers) false) }
-    ensures follows { (start : List Bool) → (ticked ≡ false → state.old ≡ start) → MomentFollows netlist.now start (present_of ticked nets.old state.old latches.old) (record { clock = clock; inputs = inputs.now }) (record { nets = nets.new; state = state.new; latches = latches.new }) }
-    ensures rose { rose.new ≡ rises_at netlist.now (present_of ticked nets.old state.old latches.old) (record { nets = nets.new; state = state.new; latches = latches.new }) }
+    requires none_yet { ticked ≡ false
+        → (latches.old ≡ replicate (length netlist.now.gaters) false) × (rose.old ≡ replicate (length netlist.now.registers) false) }
+    ensures follows { (start : List Bool) → (ticked ≡ false → state.old ≡ start)
+        → MomentFollows netlist.now start (present_of ticked nets.old state.old latches.old) (record { clock = clock; inputs = inputs.now })
+        (record { nets = nets.new; state = state.new; latches = latches.new }) }
+    ensures rose { rose.new ≡ rises_at netlist.now (present_of ticked nets.old state.old latches.old)
+        (record { nets = nets.new; state = state.new; latches = latches.new }) }
     ensures marked { AreMarked (walk_of netlist.now) marks.new nets.new }
 {
     before.copy_from_slice(nets);

@@ -72,8 +72,10 @@ fn look(
     requires nets { length nets.old ≡ length netlist.now.names }
     requires readers { AreReaders (length netlist.now.names) (length marks.old) (walk_of netlist.now) readers.now }
     requires room { widest_of netlist.now.cells ≤ length scratch.old }
-    ensures nets { (cell : LogicCell ℕ) → slice_get netlist.now.cells id ≡ Some cell → nets.new ≡ slice_set nets.old cell.output (function_value cell.function (values_at nets.old cell.inputs)) }
-    ensures put { (cell : LogicCell ℕ) → slice_get netlist.now.cells id ≡ Some cell → IsPut readers.now cell.output (function_value cell.function (values_at nets.old cell.inputs)) nets.old nets.new marks.old marks.new }
+    ensures nets { (cell : LogicCell ℕ) → slice_get netlist.now.cells id ≡ Some cell
+        → nets.new ≡ slice_set nets.old cell.output (function_value cell.function (values_at nets.old cell.inputs)) }
+    ensures put { (cell : LogicCell ℕ) → slice_get netlist.now.cells id ≡ Some cell
+        → IsPut readers.now cell.output (function_value cell.function (values_at nets.old cell.inputs)) nets.old nets.new marks.old marks.new }
     ensures room { length scratch.new ≡ length scratch.old }
 {
     let bit = cells.evaluate(netlist, id, place, nets, scratch);

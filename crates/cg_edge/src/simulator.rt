@@ -50,9 +50,15 @@ impl<'a> Model for Simulator<'a> {
 
     ghost coded = { Prim.hlevel (codes, term_code) };
 
-    ghost view = { λ s. record { circuit = s.netlist.now; start = s.start.items; present = present_of s.ticked s.nets.items s.state.items s.latches.items; rose = s.rose.items } };
+    ghost view = { λ s. record {
+      circuit = s.netlist.now;
+      start = s.start.items;
+      present = present_of s.ticked s.nets.items s.state.items s.latches.items;
+      rose = s.rose.items;
+    } };
 
-    ghost invariant = { λ s. IsKept s.netlist.now s.start.items s.chain.items s.order.now s.cells s.readers s.ticked s.nets.items s.before.items s.state.items s.latches.items s.rose.items s.marks.items s.scratch.items };
+    ghost invariant = { λ s. IsKept s.netlist.now s.start.items s.chain.items s.order.now s.cells s.readers s.ticked s.nets.items s.before.items s.state.items
+        s.latches.items s.rose.items s.marks.items s.scratch.items };
 }
 
 impl<'a> Simulator<'a> {

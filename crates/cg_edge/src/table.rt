@@ -6,7 +6,7 @@ ghost use Rattle.std.specs.Prelude.{◌≡◌, ◌<◌, ◌≤◌, ◌^◌, ℕ,
 ghost use Rattle.std.specs.List.{All};
 ghost use Rattle.cg_netlist.specs.Circuit.{LogicCell};
 ghost use Rattle.cg_netlist.specs.Moment.{values_at};
-ghost use Rattle.cg_edge.specs.inner.Flat.{IsTable, row_of};
+ghost use Rattle.cg_edge.specs.inner.Flat.{IsTruthTable, row_of};
 
 use cg_netlist::id::{CellId, NetId};
 use cg_netlist::netlist::Netlist;
@@ -17,7 +17,8 @@ pub(crate) const FEW: usize = 6;
 /// The table of a cell's function, where it has few inputs.
 pub(crate) fn table(netlist: &Netlist, id: CellId) -> u64
     requires cell { id < length netlist.now.cells }
-    ensures { (cell : LogicCell ℕ) → slice_get netlist.now.cells id ≡ Some cell → length cell.inputs ≤ 6 → IsTable cell.function (length cell.inputs) result }
+    ensures { (cell : LogicCell ℕ) → slice_get netlist.now.cells id ≡ Some cell → length cell.inputs ≤ 6
+        → IsTruthTable cell.function (length cell.inputs) result }
 {
     let cell = netlist.cell(id);
     let count = cell.inputs.len();

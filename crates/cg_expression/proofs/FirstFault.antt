@@ -5,11 +5,11 @@ use Rattle.std.specs.List.{position_from}
 use Rattle.std.specs.Str.{bytes_eq}
 use Rattle.cg_limit.specs.declared.TheConstants.{MOST_NESTING}
 use Rattle.cg_cell.specs.Expr.{term_of}
-use Rattle.cg_expression.specs.Faults.{CanGoOn, FailsAt, IsFirstFault, NoneBegins, first_place}
-use Rattle.cg_expression.specs.Grammar.{Level, AtomLevel, PrimeLevel, NotLevel, XorLevel, AndLevel, OrLevel, Stands, word, brackets, unprimed, upright, inverted, one_of, xor, factor, and, neighbours, summand, or}
+use Rattle.cg_expression.specs.Faults.{CanGoOn, FailsAt, IsFirstExprFault, NoneBegins, first_place}
+use Rattle.cg_expression.specs.Grammar.{Level, AtomLevel, PrimeLevel, NotLevel, XorLevel, AndLevel, OrLevel, ParsesAs, word, brackets, unprimed, upright, inverted, one_of, xor, factor, and, neighbours, summand, or}
 use Rattle.cg_expression.specs.Reading.{Pending, OrLeft, AndLeft, XorLeft, Inversion, Bracket, Ended, Mode, Expects, Has, after, and_end, begin, closed, complete, constant, finish, go_on, has_leaf, leaf, nesting, opened, or_end, read_on, read_text, step, variable}
-use Rattle.cg_expression.specs.Tokens.{Sort, Token, Word, OrSign, AndSign, XorSign, NotSign, PrimeSign, OpenBracket, CloseBracket, Other, is_digit, is_letter, tokens_from}
-use Rattle.cg_expression.specs.Reads.{Gives}
+use Rattle.cg_expression.specs.Tokens.{TokenKind, Token, Word, OrSign, AndSign, XorSign, NotSign, PrimeSign, OpenBracket, CloseBracket, Other, is_digit, is_letter, tokens_from}
+use Rattle.cg_expression.specs.Reads.{ExprOrNoMemory}
 use Rattle.cg_cell.specs.Term.{Term, Bit, Inverse, Both, Either, Differ}
 use Rattle.cg_cell.specs.declared.expr.Expr.{Expr}
 use Rattle.cg_expression.specs.declared.fault.ExprFault.{ExprFault}
@@ -53,7 +53,7 @@ has_leaf_at at (Err fault) ps h = h
 opened_at : (at : ℕ) (opening : Pending) (ps : List Pending) → FaultsAt at (opened at opening ps)
 opened_at at opening ps = either_at at (nat_lt (nesting ps) MOST_NESTING) (Ok (Expects (opening ∷ ps))) (Err (TooDeep at)) tt refl
 
-begin_at : (pins : List (List ℕ)) (ps : List Pending) (at : ℕ) (sort : Sort) → FaultsAt at (begin pins ps (record { at = at; sort = sort }))
+begin_at : (pins : List (List ℕ)) (ps : List Pending) (at : ℕ) (kind : TokenKind) → FaultsAt at (begin pins ps (record { at = at; kind = kind }))
 begin_at pins ps at (Word bytes) = has_leaf_at at (leaf pins at bytes) ps (leaf_at pins at bytes)
 begin_at pins ps at OrSign = refl
 begin_at pins ps at AndSign = refl
@@ -80,7 +80,7 @@ complete_at end t (XorLeft s ∷ ps) = refl
 complete_at end t (Inversion ∷ ps) = refl
 complete_at end t (Bracket ∷ ps) = refl
 
-go_on_at : (pins : List (List ℕ)) (t : Term) (ps : List Pending) (at : ℕ) (sort : Sort) → FaultsAt at (go_on pins t ps (record { at = at; sort = sort }))
+go_on_at : (pins : List (List ℕ)) (t : Term) (ps : List Pending) (at : ℕ) (kind : TokenKind) → FaultsAt at (go_on pins t ps (record { at = at; kind = kind }))
 go_on_at pins t ps at (Word bytes) = begin_at pins (AndLeft (and_end t ps).term ∷ (and_end t ps).pending) at (Word bytes)
 go_on_at pins t ps at OrSign = tt
 go_on_at pins t ps at AndSign = tt
@@ -92,8 +92,8 @@ go_on_at pins t ps at CloseBracket = closed_at at (or_end t ps).term (or_end t p
 go_on_at pins t ps at Other = refl
 
 step_at : (pins : List (List ℕ)) (mode : Mode) (token : Token) → FaultsAt token.at (step pins mode token)
-step_at pins (Expects ps) token = begin_at pins ps token.at token.sort
-step_at pins (Has t ps) token = go_on_at pins t ps token.at token.sort
+step_at pins (Expects ps) token = begin_at pins ps token.at token.kind
+step_at pins (Has t ps) token = go_on_at pins t ps token.at token.kind
 
 finish_at : (end : ℕ) (mode : Mode) → FaultsAt end (finish end mode)
 finish_at end (Expects ps) = refl
@@ -101,7 +101,7 @@ finish_at end (Has t ps) = complete_at end (or_end t ps).term (or_end t ps).pend
 
 module _ (pins : List (List ℕ)) where
   -- what is of a level is of the weaker ones
-  as_or : (level : Level) (o : ℕ) (ts : List Token) (t : Term) → Stands pins level o ts t → Stands pins OrLevel o ts t
+  as_or : (level : Level) (o : ℕ) (ts : List Token) (t : Term) → ParsesAs pins level o ts t → ParsesAs pins OrLevel o ts t
   as_or AtomLevel o ts t h = summand o ts t (factor o ts t (one_of o ts t (upright o ts t (unprimed o ts t h))))
   as_or PrimeLevel o ts t h = summand o ts t (factor o ts t (one_of o ts t (upright o ts t h)))
   as_or NotLevel o ts t h = summand o ts t (factor o ts t (one_of o ts t h))
@@ -109,7 +109,7 @@ module _ (pins : List (List ℕ)) where
   as_or AndLevel o ts t h = summand o ts t h
   as_or OrLevel o ts t h = h
 
-  as_and : (level : Level) (s : Term) (qs : List Pending) → waits level (OrLeft s ∷ qs) → (o : ℕ) (ts : List Token) (t : Term) → Stands pins level o ts t → Stands pins AndLevel o ts t
+  as_and : (level : Level) (s : Term) (qs : List Pending) → waits level (OrLeft s ∷ qs) → (o : ℕ) (ts : List Token) (t : Term) → ParsesAs pins level o ts t → ParsesAs pins AndLevel o ts t
   as_and AtomLevel s qs w o ts t h = factor o ts t (one_of o ts t (upright o ts t (unprimed o ts t h)))
   as_and PrimeLevel s qs w o ts t h = factor o ts t (one_of o ts t (upright o ts t h))
   as_and NotLevel s qs w o ts t h = factor o ts t (one_of o ts t h)
@@ -117,7 +117,7 @@ module _ (pins : List (List ℕ)) where
   as_and AndLevel s qs w o ts t h = h
   as_and OrLevel s qs w o ts t h = absurd w
 
-  as_xor : (level : Level) (s : Term) (qs : List Pending) → waits level (AndLeft s ∷ qs) → (o : ℕ) (ts : List Token) (t : Term) → Stands pins level o ts t → Stands pins XorLevel o ts t
+  as_xor : (level : Level) (s : Term) (qs : List Pending) → waits level (AndLeft s ∷ qs) → (o : ℕ) (ts : List Token) (t : Term) → ParsesAs pins level o ts t → ParsesAs pins XorLevel o ts t
   as_xor AtomLevel s qs w o ts t h = one_of o ts t (upright o ts t (unprimed o ts t h))
   as_xor PrimeLevel s qs w o ts t h = one_of o ts t (upright o ts t h)
   as_xor NotLevel s qs w o ts t h = one_of o ts t h
@@ -125,7 +125,7 @@ module _ (pins : List (List ℕ)) where
   as_xor AndLevel s qs w o ts t h = absurd w
   as_xor OrLevel s qs w o ts t h = absurd w
 
-  behind_xor : (level : Level) (s : Term) (qs : List Pending) → waits level (XorLeft s ∷ qs) → (o : ℕ) (ts : List Token) (t : Term) → Stands pins level o ts t → Stands pins NotLevel o ts t
+  behind_xor : (level : Level) (s : Term) (qs : List Pending) → waits level (XorLeft s ∷ qs) → (o : ℕ) (ts : List Token) (t : Term) → ParsesAs pins level o ts t → ParsesAs pins NotLevel o ts t
   behind_xor AtomLevel s qs w o ts t h = upright o ts t (unprimed o ts t h)
   behind_xor PrimeLevel s qs w o ts t h = upright o ts t h
   behind_xor NotLevel s qs w o ts t h = h
@@ -133,7 +133,7 @@ module _ (pins : List (List ℕ)) where
   behind_xor AndLevel s qs w o ts t h = absurd w
   behind_xor OrLevel s qs w o ts t h = absurd w
 
-  behind_not : (level : Level) (qs : List Pending) → waits level (Inversion ∷ qs) → (o : ℕ) (ts : List Token) (t : Term) → Stands pins level o ts t → Stands pins NotLevel o ts t
+  behind_not : (level : Level) (qs : List Pending) → waits level (Inversion ∷ qs) → (o : ℕ) (ts : List Token) (t : Term) → ParsesAs pins level o ts t → ParsesAs pins NotLevel o ts t
   behind_not AtomLevel qs w o ts t h = upright o ts t (unprimed o ts t h)
   behind_not PrimeLevel qs w o ts t h = upright o ts t h
   behind_not NotLevel qs w o ts t h = h
@@ -148,8 +148,8 @@ module _ (pins : List (List ℕ)) where
       ∙ ap (λ (l : List Token). l ++ more) (grown ((b ++ o ∷ []) ++ ts) (b ++ o ∷ []) ts k refl ∙ append_assoc b (o ∷ []) (ts ++ k ∷ []))
 
   -- what waits can be ended: each open bracket is closed
-  close : (level : Level) (ps : List Pending) (before : List Token) → Waited pins ps before → waits level ps → (ts : List Token) (t : Term) → Stands pins level (nesting ps) ts t → CanGoOn pins (before ++ ts)
-  close level ps before nothing f ts t h = record { more = []; term = t; stands = subst (λ (l : List Token). Stands pins OrLevel 0 l t) (sym (append-nil ts)) (as_or level 0 ts t h) }
+  close : (level : Level) (ps : List Pending) (before : List Token) → Waited pins ps before → waits level ps → (ts : List Token) (t : Term) → ParsesAs pins level (nesting ps) ts t → CanGoOn pins (before ++ ts)
+  close level ps before nothing f ts t h = record { more = []; term = t; stands = subst (λ (l : List Token). ParsesAs pins OrLevel 0 l t) (sym (append-nil ts)) (as_or level 0 ts t h) }
   close level ps before (left_or qs b us at s w g st) f ts t h =
       subst (CanGoOn pins) (sym (regroup b us ts (sign at OrSign))) (close OrLevel qs b w g (us ++ sign at OrSign ∷ ts) (Either s t) (or (nesting qs) at us ts s t st (as_and level s qs f (nesting qs) ts t h)))
   close level ps before (left_and qs b us at s w g st) f ts t h =
@@ -161,13 +161,13 @@ module _ (pins : List (List ℕ)) where
   close level ps before (not_open qs b at w lt) f ts t h =
       subst (CanGoOn pins) (sym (append_assoc b (sign at NotSign ∷ []) ts)) (close NotLevel qs b w tt (sign at NotSign ∷ ts) (Inverse t) (inverted (nesting qs) at ts t lt (behind_not level qs f (nesting qs + 1) ts t h)))
   close level ps before (bracket_open qs b at w lt) f ts t h =
-      let inner : Stands pins NotLevel (nesting qs) (sign at OpenBracket ∷ (ts ++ sign 0 CloseBracket ∷ [])) t =
+      let inner : ParsesAs pins NotLevel (nesting qs) (sign at OpenBracket ∷ (ts ++ sign 0 CloseBracket ∷ [])) t =
       upright (nesting qs) _ t (unprimed (nesting qs) _ t (brackets (nesting qs) at 0 ts t lt (as_or level (nesting qs + 1) ts t h))) in
       let rest = close NotLevel qs b w tt (sign at OpenBracket ∷ (ts ++ sign 0 CloseBracket ∷ [])) t inner in
       record {
         more = sign 0 CloseBracket ∷ rest.more;
         term = rest.term;
-        stands = subst (λ (l : List Token). Stands pins OrLevel 0 l rest.term) (sym (closing b ts rest.more (sign at OpenBracket) (sign 0 CloseBracket))) rest.stands;
+        stands = subst (λ (l : List Token). ParsesAs pins OrLevel 0 l rest.term) (sym (closing b ts rest.more (sign at OpenBracket) (sign 0 CloseBracket))) rest.stands;
       }
 
   -- a reading can go on wherever it stands: an operand that must come may be the constant 0
@@ -178,7 +178,7 @@ module _ (pins : List (List ℕ)) where
       record {
         more = sign 0 (Word (48 ∷ [])) ∷ rest.more;
         term = rest.term;
-        stands = subst (λ (l : List Token). Stands pins OrLevel 0 l rest.term) (append_assoc all (sign 0 (Word (48 ∷ [])) ∷ []) rest.more) rest.stands;
+        stands = subst (λ (l : List Token). ParsesAs pins OrLevel 0 l rest.term) (append_assoc all (sign 0 (Word (48 ∷ [])) ∷ []) rest.more) rest.stands;
       }
 
   -- where the tokens of a text have their first fault
@@ -194,7 +194,7 @@ module _ (pins : List (List ℕ)) where
   abbrev LeadsTo : Mode → List Token → Type 0
   LeadsTo mode all = (end : ℕ) (more : List Token) → read_on pins end (Ok (Expects [])) (all ++ more) ≡ read_on pins end (Ok mode) more
 
-  no_term : (end : ℕ) (tokens : List Token) (fault : ExprFault) → read_on pins end (Ok (Expects [])) tokens ≡ Err fault → (t : Term) → Stands pins OrLevel 0 tokens t → ⊥
+  no_term : (end : ℕ) (tokens : List Token) (fault : ExprFault) → read_on pins end (Ok (Expects [])) tokens ≡ Err fault → (t : Term) → ParsesAs pins OrLevel 0 tokens t → ⊥
   no_term end tokens fault is t h = let same : Ok t ≡ Err fault = sym (reads_tokens pins end tokens t h) ∙ is in cc
 
   at_the_end : (end : ℕ) (mode : Mode) (all : List Token) (fault : ExprFault) → ModeReads pins mode all → LeadsTo mode all → finish end mode ≡ Err fault → Found end (all ++ []) fault
@@ -236,17 +236,17 @@ module _ (pins : List (List ℕ)) where
           as_mode f g e = let h : f ≡ g = cc in ap Err h
 
 -- a fault that is read is the text's first fault
-pub read_faults : (pins : List (List ℕ)) (text : List ℕ) (fault : ExprFault) → read_text pins text ≡ Err fault → IsFirstFault pins text fault
+pub read_faults : (pins : List (List ℕ)) (text : List ℕ) (fault : ExprFault) → read_text pins text ≡ Err fault → IsFirstExprFault pins text fault
 read_faults pins text fault is = shown fault (locate pins (length text) (Expects []) (tokens_from false 0 text) [] fault nothing (λ end more. refl) is)
   where
-    shown : (fault : ExprFault) → Found pins (length text) (tokens_from false 0 text) fault → IsFirstFault pins text fault
+    shown : (fault : ExprFault) → Found pins (length text) (tokens_from false 0 text) fault → IsFirstExprFault pins text fault
     shown (BadExpr at) found = record { front = found.front; later = found.later; split = found.split; place = found.place; before = found.before; wrong = found.wrong }
     shown (UnknownPin at) found = record { front = found.front; later = found.later; split = found.split; place = found.place; before = found.before; wrong = found.wrong }
     shown (TooDeep at) found = record { front = found.front; later = found.later; split = found.split; place = found.place; before = found.before; wrong = found.wrong }
     shown NoMemory found = tt
 
 -- a fault that is answered is the text's first fault, or want of memory
-pub answered_faults : (pins : List (List ℕ)) (text : List ℕ) (r : Result Expr ExprFault) → Gives term_of r (read_text pins text) → IfErr r (IsFirstFault pins text)
+pub answered_faults : (pins : List (List ℕ)) (text : List ℕ) (r : Result Expr ExprFault) → ExprOrNoMemory term_of r (read_text pins text) → IfErr r (IsFirstExprFault pins text)
 answered_faults pins text (Ok e) g = tt
 answered_faults pins text (Err (BadExpr at)) g = read_faults pins text (BadExpr at) g
 answered_faults pins text (Err (UnknownPin at)) g = read_faults pins text (UnknownPin at) g

@@ -3,39 +3,39 @@ use Rattle.std.proofs.Common.{◌≡◌, ℕ, ◌+◌, ◌<◌, Bool, true, fals
 use Rattle.std.proofs.lemmas.Bool.Decides.{nat_tests}
 use Rattle.cg_limit.specs.declared.TheConstants.{MOST_NESTING}
 use Rattle.cg_expression.specs.Reading.{Pending, OrLeft, AndLeft, XorLeft, Inversion, Bracket, Ended, Mode, Expects, Has, and_end, begin, closed, has_leaf, nesting, opened, or_end, read_on, read_text, xor_end, complete, join_and, join_or}
-use Rattle.cg_expression.specs.Tokens.{Sort, Token, Word, OrSign, AndSign, XorSign, NotSign, PrimeSign, OpenBracket, CloseBracket, Other, tokens_from}
-use Rattle.cg_expression.specs.Grammar.{ExprText, Level, AtomLevel, PrimeLevel, NotLevel, XorLevel, AndLevel, OrLevel, Stands, word, brackets, unprimed, primed, upright, inverted, one_of, xor, factor, and, neighbours, summand, or}
+use Rattle.cg_expression.specs.Tokens.{TokenKind, Token, Word, OrSign, AndSign, XorSign, NotSign, PrimeSign, OpenBracket, CloseBracket, Other, tokens_from}
+use Rattle.cg_expression.specs.Grammar.{ExprText, Level, AtomLevel, PrimeLevel, NotLevel, XorLevel, AndLevel, OrLevel, ParsesAs, word, brackets, unprimed, primed, upright, inverted, one_of, xor, factor, and, neighbours, summand, or}
 use Rattle.cg_cell.specs.Term.{Term, Inverse, Both, Either, Differ}
 use Rattle.cg_expression.specs.declared.fault.ExprFault.{ExprFault}
 use Rattle.cg_expression.specs.declared.fault.ExprFault.TheVariants.{TooDeep}
 
 -- what may stand behind a level, so that it ends there
-abbrev ends_not : Sort → Type 0
+abbrev ends_not : TokenKind → Type 0
 ends_not PrimeSign = ⊥
 ends_not _ = Unit {0}
 
-abbrev ends_and : Sort → Type 0
+abbrev ends_and : TokenKind → Type 0
 ends_and PrimeSign = ⊥
 ends_and XorSign = ⊥
 ends_and _ = Unit {0}
 
-abbrev ends_or : Sort → Type 0
+abbrev ends_or : TokenKind → Type 0
 ends_or OrSign = Unit {0}
 ends_or CloseBracket = Unit {0}
 ends_or Other = Unit {0}
 ends_or _ = ⊥
 
-abbrev Follows : (Sort → Type 0) → List Token → Type 0
+abbrev Follows : (TokenKind → Type 0) → List Token → Type 0
 Follows F [] = Unit {0}
-Follows F (token ∷ tokens) = F token.sort
+Follows F (token ∷ tokens) = F token.kind
 
-abbrev follower : Level → Sort → Type 0
-follower AtomLevel sort = Unit {0}
-follower PrimeLevel sort = Unit {0}
-follower NotLevel sort = ends_not sort
-follower XorLevel sort = ends_not sort
-follower AndLevel sort = ends_and sort
-follower OrLevel sort = ends_or sort
+abbrev follower : Level → TokenKind → Type 0
+follower AtomLevel kind = Unit {0}
+follower PrimeLevel kind = Unit {0}
+follower NotLevel kind = ends_not kind
+follower XorLevel kind = ends_not kind
+follower AndLevel kind = ends_and kind
+follower OrLevel kind = ends_or kind
 
 -- what may wait before a level, so that nothing there takes a part of it
 abbrev pub before_xor : List Pending → Type 0
@@ -102,7 +102,7 @@ or_alone t (XorLeft s ∷ pending) h = absurd h
 or_alone t (Inversion ∷ pending) h = absurd h
 or_alone t (Bracket ∷ pending) h = refl
 
-and_not : (sort : Sort) → ends_and sort → ends_not sort
+and_not : (kind : TokenKind) → ends_and kind → ends_not kind
 and_not (Word bytes) h = tt
 and_not OrSign h = tt
 and_not AndSign h = tt
@@ -113,7 +113,7 @@ and_not OpenBracket h = tt
 and_not CloseBracket h = tt
 and_not Other h = tt
 
-or_and_sort : (sort : Sort) → ends_or sort → ends_and sort
+or_and_sort : (kind : TokenKind) → ends_or kind → ends_and kind
 or_and_sort (Word bytes) h = absurd h
 or_and_sort OrSign h = tt
 or_and_sort AndSign h = absurd h
@@ -124,16 +124,16 @@ or_and_sort OpenBracket h = absurd h
 or_and_sort CloseBracket h = tt
 or_and_sort Other h = tt
 
-weaker : (F G : Sort → Type 0) (rest : List Token) → ((sort : Sort) → F sort → G sort) → Follows F rest → Follows G rest
+weaker : (F G : TokenKind → Type 0) (rest : List Token) → ((kind : TokenKind) → F kind → G kind) → Follows F rest → Follows G rest
 weaker F G [] k h = tt
-weaker F G (token ∷ rest) k h = k token.sort h
+weaker F G (token ∷ rest) k h = k token.kind h
 
-anything : (rest : List Token) → Follows (λ sort. Unit {0}) rest
+anything : (rest : List Token) → Follows (λ kind. Unit {0}) rest
 anything [] = tt
 anything (token ∷ rest) = tt
 
 -- the tokens that begin an operand
-abbrev begins : Sort → Type 0
+abbrev begins : TokenKind → Type 0
 begins (Word bytes) = Unit {0}
 begins NotSign = Unit {0}
 begins OpenBracket = Unit {0}
@@ -141,13 +141,13 @@ begins _ = ⊥
 
 abbrev Begins : List Token → Type 0
 Begins [] = ⊥
-Begins (token ∷ tokens) = begins token.sort
+Begins (token ∷ tokens) = begins token.kind
 
 begins_more : (ts us : List Token) → Begins ts → Begins (ts ++ us)
 begins_more [] us h = absurd h
 begins_more (token ∷ ts) us h = h
 
-begins_and : (sort : Sort) → begins sort → ends_and sort
+begins_and : (kind : TokenKind) → begins kind → ends_and kind
 begins_and (Word bytes) h = tt
 begins_and OrSign h = absurd h
 begins_and AndSign h = absurd h
@@ -160,12 +160,12 @@ begins_and Other h = absurd h
 
 behind_and : (ts rest : List Token) → Begins ts → Follows ends_and (ts ++ rest)
 behind_and [] rest h = absurd h
-behind_and (token ∷ ts) rest h = begins_and token.sort h
+behind_and (token ∷ ts) rest h = begins_and token.kind h
 
 room : (d n : ℕ) → n ≡ d → d < MOST_NESTING → nat_lt n MOST_NESTING ≡ true
 room d n e h = grind (arith, nat_tests)
 
-stands_begin : (pins : List (List ℕ)) (level : Level) (d : ℕ) (ts : List Token) (t : Term) → Stands pins level d ts t → Begins ts
+stands_begin : (pins : List (List ℕ)) (level : Level) (d : ℕ) (ts : List Token) (t : Term) → ParsesAs pins level d ts t → Begins ts
 stands_begin pins level d ts t (word o at bytes u e) = tt
 stands_begin pins level d ts t (brackets o at close us u h s) = tt
 stands_begin pins level d ts t (unprimed o us u s) = stands_begin pins AtomLevel o us u s
@@ -188,7 +188,7 @@ module _ (pins : List (List ℕ)) (end : ℕ) where
   abbrev next_step : Ended → Token → Result Mode ExprFault
   next_step e token = begin pins (AndLeft e.term ∷ e.pending) token
 
-  as_or-at : (s t : Term) (ps qs : List Pending) (at : ℕ) (sort : Sort) (rest : List Token) → or_end s ps ≡ or_end t qs → ends_or sort → read (Has s ps) (record { at = at; sort = sort } ∷ rest) ≡ read (Has t qs) (record { at = at; sort = sort } ∷ rest)
+  as_or-at : (s t : Term) (ps qs : List Pending) (at : ℕ) (kind : TokenKind) (rest : List Token) → or_end s ps ≡ or_end t qs → ends_or kind → read (Has s ps) (record { at = at; kind = kind } ∷ rest) ≡ read (Has t qs) (record { at = at; kind = kind } ∷ rest)
   as_or-at s t ps qs at (Word bytes) rest e h = absurd h
   as_or-at s t ps qs at OrSign rest e h = ap (λ (f : Ended). read (Expects (OrLeft (f).term ∷ (f).pending)) rest) e
   as_or-at s t ps qs at AndSign rest e h = absurd h
@@ -201,40 +201,40 @@ module _ (pins : List (List ℕ)) (end : ℕ) where
 
   as_or : (s t : Term) (ps qs : List Pending) (rest : List Token) → or_end s ps ≡ or_end t qs → Follows ends_or rest → read (Has s ps) rest ≡ read (Has t qs) rest
   as_or s t ps qs [] e h = ap (complete end) e
-  as_or s t ps qs (token ∷ rest) e h = as_or-at s t ps qs token.at token.sort rest e h
+  as_or s t ps qs (token ∷ rest) e h = as_or-at s t ps qs token.at token.kind rest e h
 
-  as_and-at : (s t : Term) (ps qs : List Pending) (at : ℕ) (sort : Sort) (rest : List Token) → and_end s ps ≡ and_end t qs → ends_and sort → read (Has s ps) (record { at = at; sort = sort } ∷ rest) ≡ read (Has t qs) (record { at = at; sort = sort } ∷ rest)
-  as_and-at s t ps qs at (Word bytes) rest e h = ap (λ (f : Ended). read_on pins end (next_step (f) (record { at = at; sort = Word bytes })) rest) e
+  as_and-at : (s t : Term) (ps qs : List Pending) (at : ℕ) (kind : TokenKind) (rest : List Token) → and_end s ps ≡ and_end t qs → ends_and kind → read (Has s ps) (record { at = at; kind = kind } ∷ rest) ≡ read (Has t qs) (record { at = at; kind = kind } ∷ rest)
+  as_and-at s t ps qs at (Word bytes) rest e h = ap (λ (f : Ended). read_on pins end (next_step (f) (record { at = at; kind = Word bytes })) rest) e
   as_and-at s t ps qs at OrSign rest e h = ap (λ (f : Ended). read (Expects (OrLeft (join_or f).term ∷ (join_or f).pending)) rest) e
   as_and-at s t ps qs at AndSign rest e h = ap (λ (f : Ended). read (Expects (AndLeft (f).term ∷ (f).pending)) rest) e
   as_and-at s t ps qs at XorSign rest e h = absurd h
-  as_and-at s t ps qs at NotSign rest e h = ap (λ (f : Ended). read_on pins end (next_step (f) (record { at = at; sort = NotSign })) rest) e
+  as_and-at s t ps qs at NotSign rest e h = ap (λ (f : Ended). read_on pins end (next_step (f) (record { at = at; kind = NotSign })) rest) e
   as_and-at s t ps qs at PrimeSign rest e h = absurd h
-  as_and-at s t ps qs at OpenBracket rest e h = ap (λ (f : Ended). read_on pins end (next_step (f) (record { at = at; sort = OpenBracket })) rest) e
+  as_and-at s t ps qs at OpenBracket rest e h = ap (λ (f : Ended). read_on pins end (next_step (f) (record { at = at; kind = OpenBracket })) rest) e
   as_and-at s t ps qs at CloseBracket rest e h = ap (λ (f : Ended). read_on pins end (closed at (join_or f)) rest) e
   as_and-at s t ps qs at Other rest e h = refl
 
   as_and : (s t : Term) (ps qs : List Pending) (rest : List Token) → and_end s ps ≡ and_end t qs → Follows ends_and rest → read (Has s ps) rest ≡ read (Has t qs) rest
   as_and s t ps qs [] e h = ap (λ (f : Ended). complete end (join_or f)) e
-  as_and s t ps qs (token ∷ rest) e h = as_and-at s t ps qs token.at token.sort rest e h
+  as_and s t ps qs (token ∷ rest) e h = as_and-at s t ps qs token.at token.kind rest e h
 
-  as_xor-at : (s t : Term) (ps qs : List Pending) (at : ℕ) (sort : Sort) (rest : List Token) → xor_end s ps ≡ xor_end t qs → ends_not sort → read (Has s ps) (record { at = at; sort = sort } ∷ rest) ≡ read (Has t qs) (record { at = at; sort = sort } ∷ rest)
-  as_xor-at s t ps qs at (Word bytes) rest e h = ap (λ (f : Ended). read_on pins end (next_step (join_and f) (record { at = at; sort = Word bytes })) rest) e
+  as_xor-at : (s t : Term) (ps qs : List Pending) (at : ℕ) (kind : TokenKind) (rest : List Token) → xor_end s ps ≡ xor_end t qs → ends_not kind → read (Has s ps) (record { at = at; kind = kind } ∷ rest) ≡ read (Has t qs) (record { at = at; kind = kind } ∷ rest)
+  as_xor-at s t ps qs at (Word bytes) rest e h = ap (λ (f : Ended). read_on pins end (next_step (join_and f) (record { at = at; kind = Word bytes })) rest) e
   as_xor-at s t ps qs at OrSign rest e h = ap (λ (f : Ended). read (Expects (OrLeft (join_or (join_and f)).term ∷ (join_or (join_and f)).pending)) rest) e
   as_xor-at s t ps qs at AndSign rest e h = ap (λ (f : Ended). read (Expects (AndLeft (join_and f).term ∷ (join_and f).pending)) rest) e
   as_xor-at s t ps qs at XorSign rest e h = ap (λ (f : Ended). read (Expects (XorLeft (f).term ∷ (f).pending)) rest) e
-  as_xor-at s t ps qs at NotSign rest e h = ap (λ (f : Ended). read_on pins end (next_step (join_and f) (record { at = at; sort = NotSign })) rest) e
+  as_xor-at s t ps qs at NotSign rest e h = ap (λ (f : Ended). read_on pins end (next_step (join_and f) (record { at = at; kind = NotSign })) rest) e
   as_xor-at s t ps qs at PrimeSign rest e h = absurd h
-  as_xor-at s t ps qs at OpenBracket rest e h = ap (λ (f : Ended). read_on pins end (next_step (join_and f) (record { at = at; sort = OpenBracket })) rest) e
+  as_xor-at s t ps qs at OpenBracket rest e h = ap (λ (f : Ended). read_on pins end (next_step (join_and f) (record { at = at; kind = OpenBracket })) rest) e
   as_xor-at s t ps qs at CloseBracket rest e h = ap (λ (f : Ended). read_on pins end (closed at (join_or (join_and f))) rest) e
   as_xor-at s t ps qs at Other rest e h = refl
 
   as_xor : (s t : Term) (ps qs : List Pending) (rest : List Token) → xor_end s ps ≡ xor_end t qs → Follows ends_not rest → read (Has s ps) rest ≡ read (Has t qs) rest
   as_xor s t ps qs [] e h = ap (λ (f : Ended). complete end (join_or (join_and f))) e
-  as_xor s t ps qs (token ∷ rest) e h = as_xor-at s t ps qs token.at token.sort rest e h
+  as_xor s t ps qs (token ∷ rest) e h = as_xor-at s t ps qs token.at token.kind rest e h
 
-  neighbour-at : (t : Term) (ps : List Pending) (at : ℕ) (sort : Sort) (rest : List Token) → begins sort
-      → read (Has t ps) (record { at = at; sort = sort } ∷ rest) ≡ read (Expects (AndLeft (and_end t ps).term ∷ (and_end t ps).pending)) (record { at = at; sort = sort } ∷ rest)
+  neighbour-at : (t : Term) (ps : List Pending) (at : ℕ) (kind : TokenKind) (rest : List Token) → begins kind
+      → read (Has t ps) (record { at = at; kind = kind } ∷ rest) ≡ read (Expects (AndLeft (and_end t ps).term ∷ (and_end t ps).pending)) (record { at = at; kind = kind } ∷ rest)
   neighbour-at t ps at (Word bytes) rest h = refl
   neighbour-at t ps at OrSign rest h = absurd h
   neighbour-at t ps at AndSign rest h = absurd h
@@ -247,35 +247,35 @@ module _ (pins : List (List ℕ)) (end : ℕ) where
 
   neighbour : (t : Term) (ps : List Pending) (us rest : List Token) → Begins us → read (Has t ps) (us ++ rest) ≡ read (Expects (AndLeft (and_end t ps).term ∷ (and_end t ps).pending)) (us ++ rest)
   neighbour t ps [] rest h = absurd h
-  neighbour t ps (token ∷ us) rest h = neighbour-at t ps token.at token.sort (us ++ rest) h
+  neighbour t ps (token ∷ us) rest h = neighbour-at t ps token.at token.kind (us ++ rest) h
 
   open_up : (at : ℕ) (opening : Pending) (ps : List Pending) (d : ℕ) (tokens : List Token) → nesting ps ≡ d → d < MOST_NESTING → read_on pins end (opened at opening ps) tokens ≡ read (Expects (opening ∷ ps)) tokens
   open_up at opening ps d tokens n h = ap (λ (b : Bool). read_on pins end (cond b (Ok (Expects (opening ∷ ps))) (Err (TooDeep at))) tokens) (room d (nesting ps) n h)
 
   -- a part of a level is read as an operand with its term
-  reads : (level : Level) (d : ℕ) (ts : List Token) (t : Term) → Stands pins level d ts t → (ps : List Pending) (rest : List Token)
+  reads : (level : Level) (d : ℕ) (ts : List Token) (t : Term) → ParsesAs pins level d ts t → (ps : List Pending) (rest : List Token)
       → waits level ps → nesting ps ≡ d → Follows (follower level) rest → read (Expects ps) (ts ++ rest) ≡ read (Has t ps) rest
   reads level d ts t (word o at bytes u e) ps rest w n h = ap (λ (r : Result Term ExprFault). read_on pins end (has_leaf r ps) rest) e
   reads level d ts t (brackets o at close us u h s) ps rest w n f =
-      open_up at Bracket ps o ((us ++ record { at = close; sort = CloseBracket } ∷ []) ++ rest) n h
-      ∙ ap (read (Expects (Bracket ∷ ps))) (append_assoc us (record { at = close; sort = CloseBracket } ∷ []) rest)
-      ∙ reads OrLevel (o + 1) us u s (Bracket ∷ ps) (record { at = close; sort = CloseBracket } ∷ rest) tt (ap (λ (m : ℕ). m + 1) n) tt
+      open_up at Bracket ps o ((us ++ record { at = close; kind = CloseBracket } ∷ []) ++ rest) n h
+      ∙ ap (read (Expects (Bracket ∷ ps))) (append_assoc us (record { at = close; kind = CloseBracket } ∷ []) rest)
+      ∙ reads OrLevel (o + 1) us u s (Bracket ∷ ps) (record { at = close; kind = CloseBracket } ∷ rest) tt (ap (λ (m : ℕ). m + 1) n) tt
   reads level d ts t (unprimed o us u s) ps rest w n h = reads AtomLevel o us u s ps rest tt n (anything rest)
-  reads level d ts t (primed o at us u s) ps rest w n h = ap (read (Expects ps)) (append_assoc us (record { at = at; sort = PrimeSign } ∷ []) rest) ∙ reads PrimeLevel o us u s ps (record { at = at; sort = PrimeSign } ∷ rest) tt n tt
+  reads level d ts t (primed o at us u s) ps rest w n h = ap (read (Expects ps)) (append_assoc us (record { at = at; kind = PrimeSign } ∷ []) rest) ∙ reads PrimeLevel o us u s ps (record { at = at; kind = PrimeSign } ∷ rest) tt n tt
   reads level d ts t (upright o us u s) ps rest w n h = reads PrimeLevel o us u s ps rest tt n (anything rest)
   reads level d ts t (inverted o at us u h s) ps rest w n f =
       open_up at Inversion ps o (us ++ rest) n h ∙ reads NotLevel (o + 1) us u s (Inversion ∷ ps) rest tt (ap (λ (m : ℕ). m + 1) n) f ∙ as_xor u (Inverse u) (Inversion ∷ ps) ps rest refl f
   reads level d ts t (one_of o us u s) ps rest w n h = reads NotLevel o us u s ps rest tt n h
   reads level d ts t (xor o at us vs u v s r) ps rest w n h =
-      ap (read (Expects ps)) (append_assoc us (record { at = at; sort = XorSign } ∷ vs) rest)
-      ∙ reads XorLevel o us u s ps (record { at = at; sort = XorSign } ∷ (vs ++ rest)) w n tt
+      ap (read (Expects ps)) (append_assoc us (record { at = at; kind = XorSign } ∷ vs) rest)
+      ∙ reads XorLevel o us u s ps (record { at = at; kind = XorSign } ∷ (vs ++ rest)) w n tt
       ∙ ap (λ (e : Ended). read (Expects (XorLeft e.term ∷ e.pending)) (vs ++ rest)) (xor_alone u ps w)
       ∙ reads NotLevel o vs v r (XorLeft u ∷ ps) rest tt n h
       ∙ as_xor v (Differ u v) (XorLeft u ∷ ps) ps rest (sym (xor_alone (Differ u v) ps w)) h
   reads level d ts t (factor o us u s) ps rest w n h = reads XorLevel o us u s ps rest (and_xor ps w) n (weaker ends_and ends_not rest and_not h)
   reads level d ts t (and o at us vs u v s r) ps rest w n h =
-      ap (read (Expects ps)) (append_assoc us (record { at = at; sort = AndSign } ∷ vs) rest)
-      ∙ reads AndLevel o us u s ps (record { at = at; sort = AndSign } ∷ (vs ++ rest)) w n tt
+      ap (read (Expects ps)) (append_assoc us (record { at = at; kind = AndSign } ∷ vs) rest)
+      ∙ reads AndLevel o us u s ps (record { at = at; kind = AndSign } ∷ (vs ++ rest)) w n tt
       ∙ ap (λ (e : Ended). read (Expects (AndLeft e.term ∷ e.pending)) (vs ++ rest)) (and_alone u ps w)
       ∙ reads XorLevel o vs v r (AndLeft u ∷ ps) rest tt n (weaker ends_and ends_not rest and_not h)
       ∙ as_and v (Both u v) (AndLeft u ∷ ps) ps rest (sym (and_alone (Both u v) ps w)) h
@@ -289,14 +289,14 @@ module _ (pins : List (List ℕ)) (end : ℕ) where
       ∙ as_and v (Both u v) (AndLeft u ∷ ps) ps rest (sym (and_alone (Both u v) ps w)) h
   reads level d ts t (summand o us u s) ps rest w n h = reads AndLevel o us u s ps rest (or_and ps w) n (weaker ends_or ends_and rest or_and_sort h)
   reads level d ts t (or o at us vs u v s r) ps rest w n h =
-      ap (read (Expects ps)) (append_assoc us (record { at = at; sort = OrSign } ∷ vs) rest)
-      ∙ reads OrLevel o us u s ps (record { at = at; sort = OrSign } ∷ (vs ++ rest)) w n tt
+      ap (read (Expects ps)) (append_assoc us (record { at = at; kind = OrSign } ∷ vs) rest)
+      ∙ reads OrLevel o us u s ps (record { at = at; kind = OrSign } ∷ (vs ++ rest)) w n tt
       ∙ ap (λ (e : Ended). read (Expects (OrLeft e.term ∷ e.pending)) (vs ++ rest)) (or_alone u ps w)
       ∙ reads AndLevel o vs v r (OrLeft u ∷ ps) rest tt n (weaker ends_or ends_and rest or_and_sort h)
       ∙ as_or v (Either u v) (OrLeft u ∷ ps) ps rest (sym (or_alone (Either u v) ps w)) h
 
 -- tokens that stand for a term are read as it
-pub reads_tokens : (pins : List (List ℕ)) (end : ℕ) (tokens : List Token) (t : Term) → Stands pins OrLevel 0 tokens t → read_on pins end (Ok (Expects [])) tokens ≡ Ok t
+pub reads_tokens : (pins : List (List ℕ)) (end : ℕ) (tokens : List Token) (t : Term) → ParsesAs pins OrLevel 0 tokens t → read_on pins end (Ok (Expects [])) tokens ≡ Ok t
 reads_tokens pins end tokens t stands = ap (read_on pins end (Ok (Expects []))) (sym (append-nil tokens)) ∙ reads pins end OrLevel 0 tokens t stands [] [] tt refl tt
 
 -- an expression is read, as the term that it stands for

@@ -5,10 +5,10 @@ use Rattle.std.specs.List.{position_from}
 use Rattle.std.specs.Str.{bytes_eq}
 use Rattle.cg_limit.specs.declared.TheConstants.{MOST_NESTING}
 use Rattle.cg_expression.specs.Reading.{Pending, OrLeft, AndLeft, XorLeft, Inversion, Bracket, Ended, Mode, Expects, Has, after, and_end, begin, closed, complete, constant, finish, go_on, has_leaf, inv_end, join_and, join_or, join_xor, leaf, nesting, or_end, read_on, read_text, variable, xor_end}
-use Rattle.cg_expression.specs.Tokens.{Sort, Token, Word, OrSign, AndSign, XorSign, NotSign, PrimeSign, OpenBracket, CloseBracket, Other, is_digit, is_letter, tokens_from}
+use Rattle.cg_expression.specs.Tokens.{TokenKind, Token, Word, OrSign, AndSign, XorSign, NotSign, PrimeSign, OpenBracket, CloseBracket, Other, is_digit, is_letter, tokens_from}
 use Rattle.cg_cell.specs.Term.{Term, Bit, Inverse, is_within}
 use Rattle.cg_cell.specs.Expr.{is_over, term_of}
-use Rattle.cg_expression.specs.Reads.{Gives}
+use Rattle.cg_expression.specs.Reads.{ExprOrNoMemory}
 use Rattle.cg_cell.specs.declared.expr.Expr.{Expr}
 use Rattle.cg_expression.specs.declared.fault.ExprFault.{ExprFault}
 use Rattle.cg_expression.specs.declared.fault.ExprFault.TheVariants.{BadExpr, TooDeep}
@@ -145,7 +145,7 @@ module _ (pins : List (List ℕ)) where
       cond_reads many (Within many) (is_digit (slice_index word 0)) (constant at word) (cond (is_letter (slice_index word 0)) (variable at (position_from (bytes_eq word) 0 pins)) (Err (BadExpr at))) zero_or_one (
       cond_reads many (Within many) (is_letter (slice_index word 0)) (variable at (position_from (bytes_eq word) 0 pins)) (Err (BadExpr at)) pin tt)
 
-  begin-within : (pending : List Pending) (at : ℕ) (sort : Sort) → AllWithin many pending → ReadsWithin many (ModeWithin many) (begin pins pending (record { at = at; sort = sort }))
+  begin-within : (pending : List Pending) (at : ℕ) (kind : TokenKind) → AllWithin many pending → ReadsWithin many (ModeWithin many) (begin pins pending (record { at = at; kind = kind }))
   begin-within pending at (Word word) h = has_leaf-within many (leaf pins at word) pending (leaf-within at word) h
   begin-within pending at OrSign h = tt
   begin-within pending at AndSign h = tt
@@ -156,7 +156,7 @@ module _ (pins : List (List ℕ)) where
   begin-within pending at CloseBracket h = tt
   begin-within pending at Other h = tt
 
-  go_on-within : (t : Term) (pending : List Pending) (at : ℕ) (sort : Sort) → Within many t → AllWithin many pending → ReadsWithin many (ModeWithin many) (go_on pins t pending (record { at = at; sort = sort }))
+  go_on-within : (t : Term) (pending : List Pending) (at : ℕ) (kind : TokenKind) → Within many t → AllWithin many pending → ReadsWithin many (ModeWithin many) (go_on pins t pending (record { at = at; kind = kind }))
   go_on-within t pending at (Word word) h k = let e = and_end-within many t pending h k in begin-within (AndLeft (and_end t pending).term ∷ (and_end t pending).pending) at (Word word) (e.term, e.pending)
   go_on-within t pending at OrSign h k = let e = or_end-within many t pending h k in (e.term, e.pending)
   go_on-within t pending at AndSign h k = let e = and_end-within many t pending h k in (e.term, e.pending)
@@ -168,8 +168,8 @@ module _ (pins : List (List ℕ)) where
   go_on-within t pending at Other h k = tt
 
   after-within : (reading : Result Mode ExprFault) (token : Token) → ReadsWithin many (ModeWithin many) reading → ReadsWithin many (ModeWithin many) (after pins reading token)
-  after-within (Ok (Expects pending)) token h = begin-within pending token.at token.sort h
-  after-within (Ok (Has t pending)) token h = go_on-within t pending token.at token.sort h.0 h.1
+  after-within (Ok (Expects pending)) token h = begin-within pending token.at token.kind h
+  after-within (Ok (Has t pending)) token h = go_on-within t pending token.at token.kind h.0 h.1
   after-within (Err fault) token h = tt
 
   read_on-within : (end : ℕ) (reading : Result Mode ExprFault) (tokens : List Token) → ReadsWithin many (ModeWithin many) reading → ReadsWithin many (Within many) (read_on pins end reading tokens)
@@ -178,7 +178,7 @@ module _ (pins : List (List ℕ)) where
   read_on-within end reading (token ∷ tokens) h = read_on-within end (after pins reading token) tokens (after-within reading token h)
 
 -- what is read names no input but the pins
-pub read_within : (pins : List (List ℕ)) (text : List ℕ) (r : Result Expr ExprFault) → Gives term_of r (read_text pins text) → IfOk r (λ e. IsTrue (is_within (length pins) (term_of e)))
+pub read_within : (pins : List (List ℕ)) (text : List ℕ) (r : Result Expr ExprFault) → ExprOrNoMemory term_of r (read_text pins text) → IfOk r (λ e. IsTrue (is_within (length pins) (term_of e)))
 read_within pins text (Ok e) g = subst (ReadsWithin (length pins) (Within (length pins))) g (read_on-within pins (length text) (Ok (Expects [])) (tokens_from false 0 text) tt)
 read_within pins text (Err fault) g = tt
 

@@ -50,12 +50,12 @@ word-rest at (byte ∷ bytes) = pick (word-rest (at + 1) bytes) (is_word_byte by
     pick later false e = outside at byte bytes e
 
 first_word : (at byte : ℕ) (bytes : List ℕ) → is_word_byte byte ≡ true
-    → tokens_from false at (byte ∷ bytes) ≡ record { at = at; sort = Word (byte ∷ take_while is_word_byte bytes) } ∷ tokens_from true (at + 1) bytes
+    → tokens_from false at (byte ∷ bytes) ≡ record { at = at; kind = Word (byte ∷ take_while is_word_byte bytes) } ∷ tokens_from true (at + 1) bytes
 first_word at byte bytes e = rw e refl
 
 -- a word, and what stands behind it
 pub word-first : (text : List ℕ) (at end : ℕ) → at < length text → is_word_byte (slice_index text at) ≡ true → end ≡ at + 1 + prefix_len is_word_byte (drop (at + 1) text)
-    → tokens_from false at (drop at text) ≡ record { at = at; sort = Word (take (end - at) (drop at text)) } ∷ tokens_from false end (drop end text)
+    → tokens_from false at (drop at text) ≡ record { at = at; kind = Word (take (end - at) (drop at text)) } ∷ tokens_from false end (drop end text)
 word-first text at end h word is =
     let later = drop (at + 1) text in
     let n = prefix_len is_word_byte later in
@@ -63,4 +63,4 @@ word-first text at end h word is =
     let rest : tokens_from true (at + 1) later ≡ tokens_from false end (drop end text) = word-rest (at + 1) later ∙ ap (tokens_from false (at + 1 + n)) (drop-drop n (at + 1) text) ∙ ap (λ m. tokens_from false m (drop m text)) (sym is) in
     let long : end - at ≡ suc n = omega arith in
     let same : take (end - at) (drop at text) ≡ slice_index text at ∷ take n later = rw (long, split) refl in
-    ap (tokens_from false at) split ∙ first_word at (slice_index text at) later word ∙ ap (λ w. record { at = at; sort = Word w } ∷ tokens_from true (at + 1) later) (sym same) ∙ ap (λ ts. record { at = at; sort = Word (take (end - at) (drop at text)) } ∷ ts) rest
+    ap (tokens_from false at) split ∙ first_word at (slice_index text at) later word ∙ ap (λ w. record { at = at; kind = Word w } ∷ tokens_from true (at + 1) later) (sym same) ∙ ap (λ ts. record { at = at; kind = Word (take (end - at) (drop at text)) } ∷ ts) rest

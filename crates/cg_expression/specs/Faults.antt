@@ -1,6 +1,6 @@
 -- Where the text of an expression has its first fault, by the grammar alone.
 use Rattle.std.specs.Prelude.{◌≡◌, ℕ, false, List, [], ◌∷◌, ◌++◌, length}
-use Rattle.cg_expression.specs.Grammar.{OrLevel, Stands}
+use Rattle.cg_expression.specs.Grammar.{OrLevel, ParsesAs}
 use Rattle.cg_expression.specs.Tokens.{Token, tokens_from}
 use Rattle.cg_cell.specs.Term.{Term}
 use Rattle.cg_expression.specs.declared.fault.ExprFault.{ExprFault}
@@ -10,12 +10,12 @@ use Rattle.cg_expression.specs.declared.fault.ExprFault.TheVariants.{BadExpr, Un
 pub record CanGoOn (pins : List (List ℕ)) (front : List Token) : Type 0 where
   pub more : List Token
   pub term : Term
-  pub stands : Stands pins OrLevel 0 (front ++ more) term
+  pub stands : ParsesAs pins OrLevel 0 (front ++ more) term
 
 -- with the first of the later tokens they cannot: no expression begins so, whatever follows; where none is left, they are no expression
 abbrev pub NoneBegins : List (List ℕ) → List Token → List Token → Type 0
-NoneBegins pins front [] = (t : Term) → Stands pins OrLevel 0 front t → ⊥
-NoneBegins pins front (token ∷ later) = (more : List Token) (t : Term) → Stands pins OrLevel 0 (front ++ token ∷ more) t → ⊥
+NoneBegins pins front [] = (t : Term) → ParsesAs pins OrLevel 0 front t → ⊥
+NoneBegins pins front (token ∷ later) = (more : List Token) (t : Term) → ParsesAs pins OrLevel 0 (front ++ token ∷ more) t → ⊥
 
 -- the place of the first of these tokens, or the end
 abbrev pub first_place : ℕ → List Token → ℕ
@@ -32,8 +32,8 @@ pub record FailsAt (pins : List (List ℕ)) (text : List ℕ) (at : ℕ) : Type 
   pub wrong : NoneBegins pins front later
 
 -- the place of a fault is that of the text's first fault
-abbrev pub IsFirstFault : List (List ℕ) → List ℕ → ExprFault → Type 0
-IsFirstFault pins text (BadExpr at) = FailsAt pins text at
-IsFirstFault pins text (UnknownPin at) = FailsAt pins text at
-IsFirstFault pins text (TooDeep at) = FailsAt pins text at
-IsFirstFault pins text NoMemory = Unit {0}
+abbrev pub IsFirstExprFault : List (List ℕ) → List ℕ → ExprFault → Type 0
+IsFirstExprFault pins text (BadExpr at) = FailsAt pins text at
+IsFirstExprFault pins text (UnknownPin at) = FailsAt pins text at
+IsFirstExprFault pins text (TooDeep at) = FailsAt pins text at
+IsFirstExprFault pins text NoMemory = Unit {0}

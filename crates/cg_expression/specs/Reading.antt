@@ -81,7 +81,7 @@ opened at opening pending = if nat_lt (nesting pending) MOST_NESTING then Ok (Ex
 
 -- a token where an operand begins
 abbrev pub begin : List (List ℕ) → List Pending → Token → Result Mode ExprFault
-begin pins pending token = elim token.sort [
+begin pins pending token = elim token.kind [
   | Word word ↦ has_leaf (leaf pins token.at word) pending
   | NotSign ↦ opened token.at Inversion pending
   | OpenBracket ↦ opened token.at Bracket pending
@@ -94,7 +94,7 @@ closed at e = elim e.pending [ Bracket ∷ pending ↦ Ok (Has e.term pending) |
 
 -- a token behind an operand; one that begins an operand makes the two an and
 abbrev pub go_on : List (List ℕ) → Term → List Pending → Token → Result Mode ExprFault
-go_on pins t pending token = elim token.sort [
+go_on pins t pending token = elim token.kind [
   | PrimeSign ↦ Ok (Has (Inverse t) pending)
   | XorSign ↦ Ok (Expects (XorLeft (xor_end t pending).term ∷ (xor_end t pending).pending))
   | AndSign ↦ Ok (Expects (AndLeft (and_end t pending).term ∷ (and_end t pending).pending))

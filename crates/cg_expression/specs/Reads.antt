@@ -7,10 +7,10 @@ use Rattle.cg_expression.specs.declared.fault.ExprFault.{ExprFault}
 use Rattle.cg_expression.specs.declared.fault.ExprFault.TheVariants.{NoMemory}
 
 -- an answer, seen by view, is what reading gives; want of memory may come in place of any
-abbrev pub Gives : {A B : Type 0} → (A → B) → Result A ExprFault → Result B ExprFault → Type 0
-Gives view (Ok answer) read = read ≡ Ok (view answer)
-Gives view (Err NoMemory) read = Unit {0}
-Gives view (Err fault) read = read ≡ Err fault
+abbrev pub ExprOrNoMemory : {A B : Type 0} → (A → B) → Result A ExprFault → Result B ExprFault → Type 0
+ExprOrNoMemory view (Ok answer) read = read ≡ Ok (view answer)
+ExprOrNoMemory view (Err NoMemory) read = Unit {0}
+ExprOrNoMemory view (Err fault) read = read ≡ Err fault
 
 -- where a reading stands
 abbrev pub mode_of : Option Expr → List Pending → Mode

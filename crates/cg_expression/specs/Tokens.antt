@@ -4,21 +4,21 @@ use Rattle.std.specs.List.{take_while}
 use Rattle.cg_text.specs.Blanks.{is_white_space}
 
 -- what a token is
-pub data Sort : Type 0 where
-  Word : List ℕ → Sort
-  OrSign : Sort
-  AndSign : Sort
-  XorSign : Sort
-  NotSign : Sort
-  PrimeSign : Sort
-  OpenBracket : Sort
-  CloseBracket : Sort
-  Other : Sort
+pub data TokenKind : Type 0 where
+  Word : List ℕ → TokenKind
+  OrSign : TokenKind
+  AndSign : TokenKind
+  XorSign : TokenKind
+  NotSign : TokenKind
+  PrimeSign : TokenKind
+  OpenBracket : TokenKind
+  CloseBracket : TokenKind
+  Other : TokenKind
 
 -- a token, and the place of its first byte
 pub record Token : Type 0 where
   pub at : ℕ
-  pub sort : Sort
+  pub kind : TokenKind
 
 abbrev pub is_digit : ℕ → Bool
 is_digit byte = nat_le 48 byte && nat_le byte 57
@@ -32,7 +32,7 @@ abbrev pub is_word_byte : ℕ → Bool
 is_word_byte byte = is_letter byte || is_digit byte || byte == 91 || byte == 93 || byte == 46
 
 -- the sign that a byte is: `+` and `|`, `*` and `&`, `^`, `!`, `'`, `(` and `)`
-abbrev pub sign_of : ℕ → Sort
+abbrev pub sign_of : ℕ → TokenKind
 sign_of byte =
     if byte == 43 || byte == 124 then OrSign
     else (if byte == 42 || byte == 38 then AndSign
@@ -50,7 +50,7 @@ tokens_from inside at [] = []
 tokens_from inside at (byte ∷ bytes) =
     if is_word_byte byte then (
     if inside then tokens_from true (at + 1) bytes
-    else record { at = at; sort = Word (byte ∷ take_while is_word_byte bytes) } ∷ tokens_from true (at + 1) bytes)
+    else record { at = at; kind = Word (byte ∷ take_while is_word_byte bytes) } ∷ tokens_from true (at + 1) bytes)
     else (
     if is_white_space byte then tokens_from false (at + 1) bytes
-    else record { at = at; sort = sign_of byte } ∷ tokens_from false (at + 1) bytes)
+    else record { at = at; kind = sign_of byte } ∷ tokens_from false (at + 1) bytes)

@@ -61,7 +61,8 @@ pub fn one_of(alloc: Global, left: Expr, right: Expr) -> Result<Expr, AllocError
 /// The operands of a level with one more behind them.
 #[tactic(auto, using(crate::proofs::Joins::joins))]
 fn followed(operands: Vec<Expr>, none: bool, right: Expr) -> Result<Vec<Expr>, AllocError>
-    ensures { IfOk result (λ v. (operator : Term → Term → Term) → join_all operator (Bit none) (terms_of v.items) ≡ operator (join_all operator (Bit none) (terms_of operands.items)) (term_of right)) }
+    ensures { IfOk result (λ v. (operator : Term → Term → Term)
+        → join_all operator (Bit none) (terms_of v.items) ≡ operator (join_all operator (Bit none) (terms_of operands.items)) (term_of right)) }
 {
     let mut operands = filled(operands, none)?;
     operands.push(right)?;
@@ -71,7 +72,8 @@ fn followed(operands: Vec<Expr>, none: bool, right: Expr) -> Result<Vec<Expr>, A
 /// The operands of a level; one without operands is the constant.
 fn filled(operands: Vec<Expr>, none: bool) -> Result<Vec<Expr>, AllocError>
     ensures full { IfOk result (λ v. 0 < length v.items) }
-    ensures same { IfOk result (λ v. (operator : Term → Term → Term) → join_all operator (Bit none) (terms_of v.items) ≡ join_all operator (Bit none) (terms_of operands.items)) }
+    ensures same { IfOk result (λ v. (operator : Term → Term → Term)
+        → join_all operator (Bit none) (terms_of v.items) ≡ join_all operator (Bit none) (terms_of operands.items)) }
 {
     if operands.is_empty() {
         let mut constant = operands;

@@ -1,7 +1,8 @@
 //! What waits for the operand that comes, while an expression is read.
 
 ghost use Rattle.std.specs.Prelude.{◌≡◌, ◌∷◌, [], ◌<◌, IfOk, true, map, reverse};
-ghost use Rattle.cg_expression.specs.Reading.{AndLeft as AndWaits, Bracket as BracketWaits, Inversion as InversionWaits, OrLeft as OrWaits, XorLeft as XorWaits, and_end, inv_end, nesting, or_end, xor_end};
+ghost use Rattle.cg_expression.specs.Reading.{AndLeft as AndWaits, Bracket as BracketWaits, Inversion as InversionWaits};
+ghost use Rattle.cg_expression.specs.Reading.{OrLeft as OrWaits, XorLeft as XorWaits, and_end, inv_end, nesting, or_end, xor_end};
 ghost use Rattle.cg_cell.specs.Expr.{term_of};
 ghost use Rattle.cg_expression.specs.inner.PendingSeen.{ends_in_bracket, ends_in_inversion, is_bottom, pending_of, seen};
 

@@ -5,16 +5,17 @@ ghost use Rattle.std.specs.List.{position_from};
 ghost use Rattle.std.specs.Str.{bytes_eq};
 ghost use Rattle.cg_cell.specs.Expr.{is_over, term_of};
 ghost use Rattle.cg_cell.specs.Term.{Term, is_within};
-ghost use Rattle.cg_expression.specs.Faults.{IsFirstFault};
+ghost use Rattle.cg_expression.specs.Faults.{IsFirstExprFault};
 ghost use Rattle.cg_expression.specs.Grammar.{ExprText};
-ghost use Rattle.cg_expression.specs.Reading.{begin, closed, constant, finish, go_on, complete, leaf, opened, or_end, read_text, step, variable, Bracket, Inversion};
+ghost use Rattle.cg_expression.specs.Reading.{begin, closed, constant, finish, go_on, complete, leaf};
+ghost use Rattle.cg_expression.specs.Reading.{opened, or_end, read_text, step, variable, Bracket, Inversion};
 ghost use Rattle.cg_expression.specs.inner.TokensSeen.{token_of};
-ghost use Rattle.cg_expression.specs.Reads.{Gives, mode_of};
+ghost use Rattle.cg_expression.specs.Reads.{ExprOrNoMemory, mode_of};
 
 use crate::fault::ExprFault;
 use crate::join::inverse;
 use crate::pending::{Ended, Stack, end_and, end_or, end_xor};
-use crate::tokens::{Sort, Token, Tokens, is_digit, is_letter};
+use crate::tokens::{Token, TokenKind, Tokens, is_digit, is_letter};
 use cg_cell::expr::Expr;
 use cg_cell::name::Name;
 use cg_limit::MOST_NESTING;
@@ -38,10 +39,10 @@ struct Reading {
 /// `TooDeep` with the place of the bracket or `!` that would be the 65th open one.
 pub fn read_expr(alloc: Global, text: &[u8], pins: &[Name]) -> Result<Expr, ExprFault>
     requires { length pins.now < 2 ^ 32 }
-    ensures exact { Gives term_of result (read_text pins.now text.now) }
+    ensures exact { ExprOrNoMemory term_of result (read_text pins.now text.now) }
     ensures found { IfOk result (λ e. ExprText pins.now text.now (term_of e)) }
-    ensures fault { IfErr result (IsFirstFault pins.now text.now) }
-    ensures grammar { (t : Term) → ExprText pins.now text.now t → Gives term_of result (Ok t) }
+    ensures fault { IfErr result (IsFirstExprFault pins.now text.now) }
+    ensures grammar { (t : Term) → ExprText pins.now text.now t → ExprOrNoMemory term_of result (Ok t) }
     ensures over { IfOk result (λ e. IsTrue (is_over (length pins.now) e)) }
     ensures within { IfOk result (λ e. IsTrue (is_within (length pins.now) (term_of e))) }
 {
@@ -52,7 +53,7 @@ pub fn read_expr(alloc: Global, text: &[u8], pins: &[Name]) -> Result<Expr, Expr
 #[tactic(auto, using(crate::proofs::Readings::faults))]
 fn read(alloc: Global, text: &[u8], pins: &[Name]) -> Result<Expr, ExprFault>
     requires { length pins.now < 2 ^ 32 }
-    ensures { Gives term_of result (read_text pins.now text.now) }
+    ensures { ExprOrNoMemory term_of result (read_text pins.now text.now) }
 {
     let mut tokens = Tokens::new(text);
     let mut reading = Reading {
@@ -76,7 +77,7 @@ fn after(
     token: Token<'_>,
 ) -> Result<Reading, ExprFault>
     requires { length pins.now < 2 ^ 32 }
-    ensures { Gives (λ r. mode_of r.operand r.stack) result (step pins.now (mode_of reading.operand reading.stack) (token_of token.entry)) }
+    ensures { ExprOrNoMemory (λ r. mode_of r.operand r.stack) result (step pins.now (mode_of reading.operand reading.stack) (token_of token.entry)) }
 {
     let Reading { operand, stack } = reading;
     match operand {
@@ -88,25 +89,25 @@ fn after(
 /// A token where an operand begins.
 fn first(pins: &[Name], stack: Stack, token: Token<'_>) -> Result<Reading, ExprFault>
     requires { length pins.now < 2 ^ 32 }
-    ensures { Gives (λ r. mode_of r.operand r.stack) result (begin pins.now stack (token_of token.entry)) }
+    ensures { ExprOrNoMemory (λ r. mode_of r.operand r.stack) result (begin pins.now stack (token_of token.entry)) }
 {
-    match token.sort {
-        Sort::Word(word) => match word_leaf(pins, token.at, word) {
+    match token.kind {
+        TokenKind::Word(word) => match word_leaf(pins, token.at, word) {
             Ok(leaf) => Ok(Reading {
                 operand: Some(leaf),
                 stack,
             }),
             Err(fault) => Err(fault),
         },
-        Sort::Not => inversion(stack, token.at),
-        Sort::Open => bracket(stack, token.at),
+        TokenKind::Not => inversion(stack, token.at),
+        TokenKind::Open => bracket(stack, token.at),
         _ => Err(ExprFault::BadExpr(token.at as u64)),
     }
 }
 
 /// A sign `!` opens.
 fn inversion(stack: Stack, at: usize) -> Result<Reading, ExprFault>
-    ensures { Gives (λ r. mode_of r.operand r.stack) result (opened at Inversion stack) }
+    ensures { ExprOrNoMemory (λ r. mode_of r.operand r.stack) result (opened at Inversion stack) }
 {
     if stack.nesting() < MOST_NESTING {
         let stack = stack.open_inversion()?;
@@ -121,7 +122,7 @@ fn inversion(stack: Stack, at: usize) -> Result<Reading, ExprFault>
 
 /// A bracket opens.
 fn bracket(stack: Stack, at: usize) -> Result<Reading, ExprFault>
-    ensures { Gives (λ r. mode_of r.operand r.stack) result (opened at Bracket stack) }
+    ensures { ExprOrNoMemory (λ r. mode_of r.operand r.stack) result (opened at Bracket stack) }
 {
     if stack.nesting() < MOST_NESTING {
         let stack = stack.open_bracket()?;
@@ -137,7 +138,7 @@ fn bracket(stack: Stack, at: usize) -> Result<Reading, ExprFault>
 /// The constant or the pin that a word is.
 fn word_leaf(pins: &[Name], at: usize, word: &[u8]) -> Result<Expr, ExprFault>
     requires { length pins.now < 2 ^ 32 }
-    ensures { Gives term_of result (leaf pins.now at word.now) }
+    ensures { ExprOrNoMemory term_of result (leaf pins.now at word.now) }
 {
     let first = first_byte(word);
     if is_digit(first) {
@@ -164,7 +165,7 @@ fn first_byte(word: &[u8]) -> u8
 
 /// The constant that a word is.
 fn word_constant(at: usize, word: &[u8]) -> Result<Expr, ExprFault>
-    ensures { Gives term_of result (constant at word.now) }
+    ensures { ExprOrNoMemory term_of result (constant at word.now) }
 {
     if word == b"0".as_slice() {
         Ok(Expr::Constant(false))
@@ -205,17 +206,17 @@ fn further(
     token: Token<'_>,
 ) -> Result<Reading, ExprFault>
     requires { length pins.now < 2 ^ 32 }
-    ensures { Gives (λ r. mode_of r.operand r.stack) result (go_on pins.now (term_of operand) stack (token_of token.entry)) }
+    ensures { ExprOrNoMemory (λ r. mode_of r.operand r.stack) result (go_on pins.now (term_of operand) stack (token_of token.entry)) }
 {
-    match token.sort {
-        Sort::Prime => {
+    match token.kind {
+        TokenKind::Prime => {
             let operand = inverse(alloc, operand)?;
             Ok(Reading {
                 operand: Some(operand),
                 stack,
             })
         }
-        Sort::Xor => {
+        TokenKind::Xor => {
             let left = end_xor(alloc, operand, stack)?;
             let stack = left.stack.wait_xor(left.operand)?;
             Ok(Reading {
@@ -223,7 +224,7 @@ fn further(
                 stack,
             })
         }
-        Sort::And => {
+        TokenKind::And => {
             let left = end_and(alloc, operand, stack)?;
             let stack = left.stack.wait_and(left.operand)?;
             Ok(Reading {
@@ -231,7 +232,7 @@ fn further(
                 stack,
             })
         }
-        Sort::Or => {
+        TokenKind::Or => {
             let left = end_or(alloc, operand, stack)?;
             let stack = left.stack.wait_or(left.operand)?;
             Ok(Reading {
@@ -239,8 +240,8 @@ fn further(
                 stack,
             })
         }
-        Sort::Close => close(alloc, operand, stack, token.at),
-        Sort::Other => Err(ExprFault::BadExpr(token.at as u64)),
+        TokenKind::Close => close(alloc, operand, stack, token.at),
+        TokenKind::Other => Err(ExprFault::BadExpr(token.at as u64)),
         _ => {
             let left = end_and(alloc, operand, stack)?;
             let stack = left.stack.wait_and(left.operand)?;
@@ -251,7 +252,7 @@ fn further(
 
 /// A bracket closes, where one is open.
 fn close(alloc: Global, operand: Expr, stack: Stack, at: usize) -> Result<Reading, ExprFault>
-    ensures { Gives (λ r. mode_of r.operand r.stack) result (closed at (or_end (term_of operand) stack)) }
+    ensures { ExprOrNoMemory (λ r. mode_of r.operand r.stack) result (closed at (or_end (term_of operand) stack)) }
 {
     let Ended { operand, stack } = end_or(alloc, operand, stack)?;
     if stack.ends_in_bracket() {
@@ -266,7 +267,7 @@ fn close(alloc: Global, operand: Expr, stack: Stack, at: usize) -> Result<Readin
 
 /// The end of the text, which has that many bytes.
 fn end(alloc: Global, reading: Reading, length: usize) -> Result<Expr, ExprFault>
-    ensures { Gives term_of result (finish length (mode_of reading.operand reading.stack)) }
+    ensures { ExprOrNoMemory term_of result (finish length (mode_of reading.operand reading.stack)) }
 {
     let Reading { operand, stack } = reading;
     match operand {
@@ -277,7 +278,7 @@ fn end(alloc: Global, reading: Reading, length: usize) -> Result<Expr, ExprFault
 
 /// The whole expression, where nothing waits any more.
 fn complete(alloc: Global, operand: Expr, stack: Stack, length: usize) -> Result<Expr, ExprFault>
-    ensures { Gives term_of result (complete length (or_end (term_of operand) stack)) }
+    ensures { ExprOrNoMemory term_of result (complete length (or_end (term_of operand) stack)) }
 {
     let Ended { operand, stack } = end_or(alloc, operand, stack)?;
     if stack.is_empty() {

@@ -4,14 +4,14 @@ ghost use Rattle.std.specs.Prelude.{◌≡◌, ◌∷◌, [], ◌+◌, ◌≤◌
 ghost use Rattle.std.specs.List.{prefix_len};
 ghost use Rattle.cg_text.specs.Blanks.{is_white_space};
 ghost use Rattle.cg_expression.specs.Tokens.{is_digit, is_letter, is_word_byte, sign_of, tokens_from};
-ghost use Rattle.cg_expression.specs.inner.TokensSeen.{sort_of, token_of};
+ghost use Rattle.cg_expression.specs.inner.TokensSeen.{kind_of, token_of};
 
 use cg_text::blanks::is_white_space;
 use std::marker::Model;
 
 /// What a token is.
 #[derive(Clone, Copy)]
-pub enum Sort<'a> {
+pub enum TokenKind<'a> {
     /// The longest run of letters, digits, `_`, `[`, `]` and `.`.
     Word(&'a [u8]),
 
@@ -44,7 +44,7 @@ pub enum Sort<'a> {
 #[derive(Clone, Copy)]
 pub struct Token<'a> {
     pub at: usize,
-    pub sort: Sort<'a>,
+    pub kind: TokenKind<'a>,
 }
 
 /// The tokens that are left of a text. Clauses see them as a list.
@@ -86,13 +86,13 @@ impl<'a> Tokens<'a> {
             self.at = end;
             Some(Token {
                 at,
-                sort: Sort::Word(&self.text[at..end]),
+                kind: TokenKind::Word(&self.text[at..end]),
             })
         } else {
             self.at = at + 1;
             Some(Token {
                 at,
-                sort: sign(self.text[at]),
+                kind: sign(self.text[at]),
             })
         }
     }
@@ -147,17 +147,17 @@ fn is_word_byte(byte: u8) -> bool
 }
 
 /// The sign that a byte is, which is neither a blank nor in a word.
-fn sign<'a>(byte: u8) -> Sort<'a>
-    ensures { sort_of result ≡ sign_of byte }
+fn sign<'a>(byte: u8) -> TokenKind<'a>
+    ensures { kind_of result ≡ sign_of byte }
 {
     match byte {
-        b'+' | b'|' => Sort::Or,
-        b'*' | b'&' => Sort::And,
-        b'^' => Sort::Xor,
-        b'!' => Sort::Not,
-        b'\'' => Sort::Prime,
-        b'(' => Sort::Open,
-        b')' => Sort::Close,
-        _ => Sort::Other,
+        b'+' | b'|' => TokenKind::Or,
+        b'*' | b'&' => TokenKind::And,
+        b'^' => TokenKind::Xor,
+        b'!' => TokenKind::Not,
+        b'\'' => TokenKind::Prime,
+        b'(' => TokenKind::Open,
+        b')' => TokenKind::Close,
+        _ => TokenKind::Other,
     }
 }

@@ -10,7 +10,7 @@ use Rattle.cg_netlist.proofs.said.SaidByItsParts.{none_left, says_own}
 use Rattle.cg_netlist.proofs.said.TakenFromNetlist.{taken_own}
 use Rattle.cg_netlist.specs.Circuit.{Circuit, RegisterCell}
 use Rattle.cg_netlist.specs.Netlist.{IsNetlist}
-use Rattle.cg_netlist.specs.said.Building.{Building, Finishes, fresh}
+use Rattle.cg_builder.specs.Building.{Building, Finishes, fresh}
 use Rattle.cg_netlist.specs.said.Part.{Clock, Input, Logic, Output}
 use Rattle.cg_netlist.specs.said.Said.{nothing_said, said}
 use Rattle.cg_netlist.specs.said.Says.{AreTaken, Says, parts_from, register_part}

@@ -12,14 +12,14 @@ use Rattle.cg_extract.proofs.Lifts.{enable_net, lifting_lifts}
 use Rattle.cg_extract.proofs.NetPlaces.{below_or, clock_within}
 use Rattle.cg_extract.proofs.Taking.{lifting_free}
 use Rattle.cg_extract.specs.Lifted.{CanExtract, enable_under, kept_nets, lifted, lifting}
-use Rattle.cg_extract.specs.inner.Taking.{IsTable, entry_at, table_enables}
+use Rattle.cg_extract.specs.inner.Taking.{IsEnableTable, entry_at, table_enables}
 
-module _ (c : Circuit) (prefix : List ℕ) (can : CanExtract c prefix) (old : MachineData) (named : old.prefix ≡ prefix) (m : MachineData) (made : m ≡ (lifting c old.prefix).machine) (table : List (Option ℕ)) (tells : IsTable c (lifting c old.prefix).enables table) where
+module _ (c : Circuit) (prefix : List ℕ) (can : CanExtract c prefix) (old : MachineData) (named : old.prefix ≡ prefix) (m : MachineData) (made : m ≡ (lifting c old.prefix).machine) (table : List (Option ℕ)) (tells : IsEnableTable c (lifting c old.prefix).enables table) where
   machine_is : m ≡ (lifting c prefix).machine
   machine_is = made ∙ ap (λ p. (lifting c p).machine) named
 
-  table_is : IsTable c (lifting c prefix).enables table
-  table_is = subst (λ p. IsTable c (lifting c p).enables table) named tells
+  table_is : IsEnableTable c (lifting c prefix).enables table
+  table_is = subst (λ p. IsEnableTable c (lifting c p).enables table) named tells
 
   pub nets : (net enable : ℕ) → entry_at table net ≡ Some enable → IsNet m enable
   nets net enable has = subst (λ n. IsNet n enable) (sym machine_is) (elim (below_or (length c.names) net) [

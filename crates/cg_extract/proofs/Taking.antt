@@ -32,7 +32,7 @@ use Rattle.cg_extract.proofs.Kept.{used_kept}
 use Rattle.cg_extract.proofs.LiftedMachine.{start_count}
 use Rattle.cg_extract.proofs.Lifts.{Lifts, enable_is_net, enable_net, net_kept, one_lifts, start, start_lifts, taken}
 use Rattle.cg_extract.specs.Lifted.{CanExtract, Lifting, bare, by_depth, chained, enable_under, kept_nets, lift_each, lift_one, lifting, number_of, unlifted}
-use Rattle.cg_extract.specs.inner.Taking.{CanTake, IsSoFar, IsTable, IsTaken, entry_at, given, table_enables, taken_into, taken_so_far}
+use Rattle.cg_extract.specs.inner.Taking.{CanTake, IsEnableTable, IsSoFar, IsTaken, entry_at, given, table_enables, taken_into, taken_so_far}
 
 each_append : (c : Circuit) (l : Lifting) (xs ys : List (GatingCell ℕ)) → lift_each c l (xs ++ ys) ≡ lift_each c (lift_each c l xs) ys
 each_append c l [] ys = refl
@@ -123,7 +123,7 @@ module _ (c : Circuit) (prefix : List ℕ) (can : CanExtract c prefix) where
       enable_kept k g at = used_kept c can.netlist g.enable (asked_is_used c k g.enable g at (member_at (g.enable ∷ option_to_list g.test) 0 g.enable refl))
 
   -- one more
-  table_more : (entries : List (ℕ × ℕ)) (table : List (Option ℕ)) (out net : ℕ) → out < length table → IsTable c entries table → IsTable c ((out, net) ∷ entries) (set table out (Some net))
+  table_more : (entries : List (ℕ × ℕ)) (table : List (Option ℕ)) (out net : ℕ) → out < length table → IsEnableTable c entries table → IsEnableTable c ((out, net) ∷ entries) (set table out (Some net))
   table_more entries table out net within is = record {
     long = length-set table out (Some net) ∙ is.long;
     tells = λ x below. elim (cases_Bool (nat_eq x out)) [
@@ -148,8 +148,8 @@ module _ (c : Circuit) (prefix : List ℕ) (can : CanExtract c prefix) where
       ∙ refl) ∙ ap (lift_each c (unlifted c prefix)) (sym (ap (values_at c.gaters) (take_next order i k at) ∙ (values_at-append c.gaters (take i order) (k ∷ []) ∙ ap (λ o. values_at c.gaters (take i order) ++ cons_option o []) is.at))) in
       record {
         machine = is.made ∙ (ap (λ (a : Added). a.machine) added ∙ ap (λ (l : Lifting). l.machine) next);
-        entries = subst (λ (l : Lifting). IsTable c l.enables new) next
-            (subst (IsTable c ((g.output, (chained l.machine (enable_under l.enables g.clock) own).net) ∷ l.enables)) (sym (is.put ∙ ap (λ (a : Added). set table g.output (Some a.net)) added))
+        entries = subst (λ (l : Lifting). IsEnableTable c l.enables new) next
+            (subst (IsEnableTable c ((g.output, (chained l.machine (enable_under l.enables g.clock) own).net) ∷ l.enables)) (sym (is.put ∙ ap (λ (a : Added). set table g.output (Some a.net)) added))
             (table_more l.enables table g.output (chained l.machine (enable_under l.enables g.clock) own).net (omega (arith, out, so_far.entries.long)) so_far.entries));
       }
 
@@ -160,10 +160,10 @@ module _ (c : Circuit) (prefix : List ℕ) (can : CanExtract c prefix) where
     entries = record { long = ap length empty ∙ length-replicate (length c.names) None; tells = λ net below. ap (λ t. entry_at t net) empty ∙ none_anywhere (length c.names) net };
   }
 
-  pub all_taken : (i : ℕ) (m : MachineData) (table : List (Option ℕ)) → length order ≤ i → IsSoFar c prefix (take i order) m table → (m ≡ (lifting c prefix).machine) × IsTable c (lifting c prefix).enables table
+  pub all_taken : (i : ℕ) (m : MachineData) (table : List (Option ℕ)) → length order ≤ i → IsSoFar c prefix (take i order) m table → (m ≡ (lifting c prefix).machine) × IsEnableTable c (lifting c prefix).enables table
   all_taken i m table past so_far =
       let whole : take i order ≡ order = take_all i order past in
-      (so_far.machine ∙ ap (λ ks. (taken_so_far c prefix ks).machine) whole, subst (λ ks. IsTable c (taken_so_far c prefix ks).enables table) whole so_far.entries)
+      (so_far.machine ∙ ap (λ ks. (taken_so_far c prefix ks).machine) whole, subst (λ ks. IsEnableTable c (taken_so_far c prefix ks).enables table) whole so_far.entries)
 
   -- no register has an enable yet
   pub lifting_free : (lifting c prefix).machine.enables ≡ replicate (length c.registers) None

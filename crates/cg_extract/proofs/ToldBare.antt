@@ -2,7 +2,7 @@
 -- some of them were.
 use Rattle.std.proofs.Common.{◌++◌, List}
 use Rattle.cg_netlist.specs.Circuit.{Circuit}
-use Rattle.cg_netlist.specs.said.Building.{Building}
+use Rattle.cg_builder.specs.Building.{Building}
 use Rattle.cg_netlist.specs.said.Part.{Part}
 use Rattle.cg_netlist.specs.said.Wiring.{NetName}
 use Rattle.cg_insert.proofs.ToldParts.{may_front}

@@ -1,6 +1,7 @@
 //! What is proved of the machine of a netlist with gating cells.
 
-ghost use Rattle.cg_extract.specs.Laws.{BareIsNetlist, BareIsWritable, LiftedAsks, LiftedIsMachine, LiftedIsRun, LiftedIsSmall, LiftedOfUngated, LiftedOwn, LiftedShowsNets, UnrefusedHasNoTests};
+ghost use Rattle.cg_extract.specs.Laws.{BareIsNetlist, BareIsWritable, LiftedAsks, LiftedIsMachine, LiftedIsRun};
+ghost use Rattle.cg_extract.specs.Laws.{LiftedIsSmall, LiftedOfUngated, LiftedOwn, LiftedShowsNets, UnrefusedHasNoTests};
 
 /// The laws of extraction: what it makes is a machine, which meets no limit, and where no gating cell has a test pin, the lawful
 /// history of the netlist has the bits of the registers and of the outputs of the machine's run. While the clock is low, each net

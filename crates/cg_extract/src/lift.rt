@@ -2,7 +2,7 @@
 
 ghost use Rattle.std.specs.Prelude.{◌≡◌, ◌<◌, ℕ, None, Some, IfOk, length, replicate};
 ghost use Rattle.cg_extract.specs.Lifted.{CanExtract, bare, chained, lifting};
-ghost use Rattle.cg_extract.specs.inner.Taking.{CanTake, IsTable, IsTaken, entry_at, given, table_enables};
+ghost use Rattle.cg_extract.specs.inner.Taking.{CanTake, IsEnableTable, IsTaken, entry_at, given, table_enables};
 ghost use Rattle.cg_machine.specs.Machine.{IsNet};
 ghost use Rattle.cg_machine.specs.Run.{with_enables};
 ghost use Rattle.cg_machine.specs.Start.{machine_of};
@@ -24,7 +24,7 @@ pub(crate) fn lift(
     requires can { CanExtract netlist.now machine.old.prefix }
     requires bare { machine.old ≡ machine_of (bare netlist.now) machine.old.prefix }
     ensures machine { IfOk result (λ _. machine.new ≡ (lifting netlist.now machine.old.prefix).machine) }
-    ensures enables { IfOk result (λ enables. IsTable netlist.now (lifting netlist.now machine.old.prefix).enables enables.items) }
+    ensures enables { IfOk result (λ enables. IsEnableTable netlist.now (lifting netlist.now machine.old.prefix).enables enables.items) }
 {
     let order = netlist.gate_order(alloc)?;
     let mut enables = vec![in alloc; None; netlist.nets() as usize]?;

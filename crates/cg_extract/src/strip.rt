@@ -6,14 +6,14 @@ ghost use Rattle.std.specs.Option.{option_to_list};
 ghost use Rattle.cg_extract.specs.Lifted.{bare, ungated};
 ghost use Rattle.cg_extract.specs.inner.BareParts.{bare_parts};
 ghost use Rattle.cg_insert.specs.inner.GatedParts.{clocked_parts, with_clock};
-ghost use Rattle.cg_insert.specs.inner.Telling.{MayTell, Tells, told};
-ghost use Rattle.cg_netlist.specs.said.Building.{fresh};
+ghost use Rattle.cg_insert.specs.inner.Telling.{MayTell, WasTold, told};
+ghost use Rattle.cg_builder.specs.Building.{fresh};
 
+use cg_builder::builder::Builder;
 use cg_insert::clocked::tell_register;
 use cg_insert::logic::tell_cells;
 use cg_insert::names::GatedNames;
 use cg_insert::telling::{tell_clock, tell_inputs, tell_outputs};
-use cg_netlist::builder::Builder;
 use cg_netlist::fault::AddFault;
 use cg_netlist::id::{NetId, RegId};
 use cg_netlist::netlist::Netlist;
@@ -59,7 +59,7 @@ fn tell(
     netlist: &Netlist,
 ) -> Result<(), AddFault>
     requires { MayTell builder.old (bare_parts names.now netlist.now) }
-    ensures { Tells builder.old (bare_parts names.now netlist.now) builder.new result }
+    ensures { WasTold builder.old (bare_parts names.now netlist.now) builder.new result }
 {
     tell_inputs(builder, names, netlist.inputs())?;
     tell_outputs(builder, names, netlist.outputs())?;
@@ -76,7 +76,7 @@ fn tell_registers(
     netlist: &Netlist,
 ) -> Result<(), AddFault>
     requires { MayTell builder.old (clocked_parts names.now (ungated netlist.now).registers) }
-    ensures { Tells builder.old (clocked_parts names.now (ungated netlist.now).registers) builder.new result }
+    ensures { WasTold builder.old (clocked_parts names.now (ungated netlist.now).registers) builder.new result }
 {
     let clock = clock_or_first(netlist);
     for number in 0..netlist.registers() {
@@ -96,7 +96,8 @@ fn tell_on_clock(
 ) -> Result<(), AddFault>
     requires register { reg < length netlist.now.registers }
     requires parts { MayTell builder.old (clocked_parts names.now (with_clock (Some clock) (option_to_list (slice_get netlist.now.registers reg)))) }
-    ensures { Tells builder.old (clocked_parts names.now (with_clock (Some clock) (option_to_list (slice_get netlist.now.registers reg)))) builder.new result }
+    ensures { WasTold builder.old
+        (clocked_parts names.now (with_clock (Some clock) (option_to_list (slice_get netlist.now.registers reg)))) builder.new result }
 {
     let register = netlist.register(reg);
     let on_clock = RegView { clock, ..register };

@@ -4,6 +4,7 @@ use Rattle.std.proofs.lemmas.Bool.{leb-true, le-leb}
 use Rattle.std.proofs.lemmas.Slice.Eq.{bytes_eq-Decides}
 use Rattle.std.specs.List.{flat_map, AllByRecursion}
 use Rattle.std.specs.Str.{bytes_eq}
+use Rattle.cg_limit.specs.declared.TheConstants.{MOST_VARIABLES}
 use Rattle.cg_text.specs.declared.lines.Line.{Line}
 use Rattle.cg_text.specs.declared.number.Number.{Number}
 use Rattle.cg_text.specs.declared.number.Number.TheVariants.{Small, Large, Misspelled}
@@ -21,7 +22,7 @@ use Rattle.cg_formula.specs.declared.dimacs.DimacsFault.{DimacsFault}
 use Rattle.cg_formula.specs.declared.dimacs.DimacsFault.TheVariants.{BadClause}
 use Rattle.cg_formula.specs.Bounds.{IsLit, IsClause}
 use Rattle.cg_formula.specs.Tokens.{clause_token}
-use Rattle.cg_formula.specs.DimacsReading.{layout, Gives, ◌>>=◌, counts_of, header_of, clause_at, clauses_at, formula_at, dimacs}
+use Rattle.cg_formula.specs.DimacsReading.{layout, DimacsOrNoMemory, ◌>>=◌, counts_of, header_of, clause_at, clauses_at, formula_at, dimacs}
 use Rattle.cg_formula.specs.DimacsText.{lit_word, clause_words, header_words, DimacsText}
 use Rattle.cg_formula.proofs.Connectives.{and_true}
 use Rattle.cg_formula.proofs.TokenSpelling.{literal_spelled, end_spelled, clause_token-lit, clause_token-zero}
@@ -35,26 +36,26 @@ bind_ok (Err d) f y e = absurd (cc)
 
 record SpellsHeader (ws : List (List ℕ)) (header : Header) : Type 0 where
   pub words : ws ≡ header_words header.variables header.clauses
-  pub few : header.variables ≤ 16777216
+  pub few : header.variables ≤ MOST_VARIABLES
   pub countable : header.clauses < 2 ^ 64
 
 record Counts (v c : Number) (header : Header) : Type 0 where
   pub variables : v ≡ Small header.variables
   pub clauses : c ≡ Small header.clauses
-  pub few : header.variables ≤ 16777216
+  pub few : header.variables ≤ MOST_VARIABLES
 
 counts_found : (v c : Number) (header : Header) → counts_of v c ≡ Ok header → Counts v c header
 counts_found Misspelled c header e = absurd (cc)
 counts_found (Small n) Misspelled header e = absurd (cc)
 counts_found (Small n) Large header e = absurd (cc)
-counts_found (Small n) (Small m) header e = pick (nat_le n 16777216) refl where
-  pick : (b : Bool) → nat_le n 16777216 ≡ b → Counts (Small n) (Small m) header
+counts_found (Small n) (Small m) header e = pick (nat_le n MOST_VARIABLES) refl where
+  pick : (b : Bool) → nat_le n MOST_VARIABLES ≡ b → Counts (Small n) (Small m) header
   pick true f =
       let made : Ok (record { variables = n; clauses = m }) ≡ Ok header = rw f at e in
       let same : (let h : Header = record { variables = n; clauses = m } in h) ≡ header = cc in
       let variables : n ≡ header.variables = ap (λ (h : Header). h.variables) same in
       record
-      { variables = ap Small variables; clauses = ap (λ (h : Header). Small h.clauses) same; few = omega (arith, variables, leb-true n 16777216 f) }
+      { variables = ap Small variables; clauses = ap (λ (h : Header). Small h.clauses) same; few = omega (arith, variables, leb-true n MOST_VARIABLES f) }
   pick false f = let no = rw f at e in absurd (cc)
 counts_found Large Misspelled header e = absurd (cc)
 counts_found Large Large header e = absurd (cc)
@@ -80,11 +81,11 @@ header_spelled (p ∷ cnf ∷ v ∷ c ∷ []) header e = pick (bytes_eq p (codes
   pick false f = let no = rw f at e in absurd (cc)
 header_spelled (p ∷ cnf ∷ v ∷ c ∷ w ∷ ws) header e = absurd (cc)
 
-header_again : (formula : Formula) → formula.variables ≤ 16777216 → length formula.clauses < 2 ^ 64
+header_again : (formula : Formula) → formula.variables ≤ MOST_VARIABLES → length formula.clauses < 2 ^ 64
     → header_of (header_words formula.variables (length formula.clauses)) ≡ Ok (record { variables = formula.variables; clauses = length formula.clauses })
 header_again formula few countable =
     rw
-    (number_of-decimal formula.variables (omega arith), number_of-decimal (length formula.clauses) countable, le-leb formula.variables 16777216 few)
+    (number_of-decimal formula.variables (omega arith), number_of-decimal (length formula.clauses) countable, le-leb formula.variables MOST_VARIABLES few)
     refl
 
 -- a clause
@@ -216,6 +217,6 @@ text_is_read text formula t =
     (header_again formula t.bounds.few t.countable, clauses_again formula.variables (end_line text) (omega (arith, t.bounds.few)) formula.clauses t.bounds.clauses (spots_of t.later) t.body)
     refl
 
-pub given_is_text : (text : List ℕ) (r : Result Formula DimacsFault) → Gives (λ (f : Formula). f) r (dimacs text) → IfOk r (DimacsText text)
+pub given_is_text : (text : List ℕ) (r : Result Formula DimacsFault) → DimacsOrNoMemory (λ (f : Formula). f) r (dimacs text) → IfOk r (DimacsText text)
 given_is_text text (Ok formula) e = read_is_text text formula e
 given_is_text text (Err fault) e = tt

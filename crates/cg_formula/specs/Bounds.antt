@@ -1,6 +1,7 @@
 -- The bounds of formulas: which variables their clauses may name.
 use Rattle.std.specs.Prelude.{ℕ, ◌≤◌}
 use Rattle.std.specs.List.{AllByRecursion}
+use Rattle.cg_limit.specs.declared.TheConstants.{MOST_VARIABLES}
 use Rattle.cg_formula.specs.declared.formula.Lit.{Lit}
 use Rattle.cg_formula.specs.declared.formula.Clause.{Clause}
 use Rattle.cg_formula.specs.declared.formula.Formula.{Formula}
@@ -15,5 +16,5 @@ IsClause greatest clause = AllByRecursion (IsLit greatest) clause.lits
 
 -- the formula has at most 16,777,216 variables, and its clauses name no others
 pub record IsFormula (formula : Formula) : Type 0 where
-  pub few : formula.variables ≤ 16777216
+  pub few : formula.variables ≤ MOST_VARIABLES
   pub clauses : AllByRecursion (IsClause formula.variables) formula.clauses

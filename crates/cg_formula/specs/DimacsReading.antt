@@ -1,6 +1,7 @@
 -- Reading a DIMACS text: the formula, or the first fault.
 use Rattle.std.specs.Prelude.{◌≡◌, ℕ, ◌&&◌, List, [], ◌∷◌, Result, Ok, Err, codes, if◌then◌else◌, nat_le, zero, suc}
 use Rattle.std.specs.Str.{bytes_eq}
+use Rattle.cg_limit.specs.declared.TheConstants.{MOST_VARIABLES}
 use Rattle.cg_limit.specs.declared.Limit.TheVariants.{Variables}
 use Rattle.cg_text.specs.declared.blanks.Blanks.TheVariants.{Whitespace}
 use Rattle.cg_text.specs.declared.lines.Comments.TheVariants.{LeadingC}
@@ -32,19 +33,19 @@ abbrev pub ◌>>=◌ : {A B : Type 0} → Result A DimacsFault → (A → Result
 (Err e) >>= f = Err e
 
 -- what a function answered, seen by view, is what reading gives, unless memory ran out
-abbrev pub Gives : {X Y : Type 0} → (X → Y) → Result X DimacsFault → Result Y DimacsFault → Type 0
-Gives view (Ok x) read = read ≡ Ok (view x)
-Gives view (Err NoMemory) read = Unit {0}
-Gives view (Err BadHeader) read = read ≡ Err BadHeader
-Gives view (Err (BadClause line)) read = read ≡ Err (BadClause line)
-Gives view (Err (Limit limit)) read = read ≡ Err (Limit limit)
+abbrev pub DimacsOrNoMemory : {X Y : Type 0} → (X → Y) → Result X DimacsFault → Result Y DimacsFault → Type 0
+DimacsOrNoMemory view (Ok x) read = read ≡ Ok (view x)
+DimacsOrNoMemory view (Err NoMemory) read = Unit {0}
+DimacsOrNoMemory view (Err BadHeader) read = read ≡ Err BadHeader
+DimacsOrNoMemory view (Err (BadClause line)) read = read ≡ Err (BadClause line)
+DimacsOrNoMemory view (Err (Limit limit)) read = read ≡ Err (Limit limit)
 
 -- how many variables and clauses the header names
 abbrev pub counts_of : Number → Number → Result Header DimacsFault
 counts_of Misspelled clauses = Err BadHeader
 counts_of (Small n) Misspelled = Err BadHeader
 counts_of (Small n) Large = Err BadHeader
-counts_of (Small n) (Small m) = if nat_le n 16777216 then Ok (record { variables = n; clauses = m }) else Err (Limit Variables)
+counts_of (Small n) (Small m) = if nat_le n MOST_VARIABLES then Ok (record { variables = n; clauses = m }) else Err (Limit Variables)
 counts_of Large Misspelled = Err BadHeader
 counts_of Large Large = Err BadHeader
 counts_of Large (Small m) = Err (Limit Variables)

@@ -5,11 +5,11 @@ ghost use Rattle.cg_text.specs.Written.{line_text};
 ghost use Rattle.cg_formula.specs.Bounds.{IsFormula};
 ghost use Rattle.cg_formula.specs.declared.formula.Formula.{Formula};
 ghost use Rattle.cg_formula.specs.DimacsText.{DimacsText, header_words, clause_words, dimacs_text};
-ghost use Rattle.cg_formula.specs.DimacsReading.{Gives, counts_of, header_of, clause_at, clauses_at, dimacs};
+ghost use Rattle.cg_formula.specs.DimacsReading.{DimacsOrNoMemory, counts_of, header_of, clause_at, clauses_at, dimacs};
 
 use crate::formula::{Clause, Formula};
 use crate::token::{ClauseToken, push_clause, read_clause_token};
-use cg_limit::Limit;
+use cg_limit::{Limit, MOST_VARIABLES};
 use cg_list::Seq;
 use cg_text::blanks::Blanks;
 use cg_text::lines::{Comments, Layout, Lines};
@@ -17,7 +17,6 @@ use cg_text::number::{Number, push_number, read_number};
 use cg_text::tokens::Tokens;
 use cg_text::words::Words;
 use std::alloc::{AllocError, AllocFailed, Global};
-use thiserror::Error;
 
 /// How DIMACS and LRAT texts are cut into lines and words.
 pub const LAYOUT: Layout = Layout {
@@ -25,24 +24,17 @@ pub const LAYOUT: Layout = Layout {
     comments: Comments::LeadingC,
 };
 
-/// The most variables that a header may name.
-pub const MOST_VARIABLES: u32 = 16_777_216;
-
 /// Why a DIMACS text is refused.
-#[derive(Clone, Copy, Debug, Error, PartialEq, Eq)]
+#[derive(Clone, Copy, Debug, PartialEq, Eq)]
 pub enum DimacsFault {
     /// The first line that has words is not `p cnf`, the number of variables and the number of clauses.
-    #[error("bad header")]
     BadHeader,
     /// The line of the first word that no clause can go on with; or, where the text ends too early, the number of
     /// its lines and one more.
-    #[error("bad clause at line {0}")]
     BadClause(u64),
     /// The header names more than 16,777,216 variables.
-    #[error("too many variables")]
     Limit(Limit),
     /// There was no memory for the formula.
-    #[error("no memory")]
     NoMemory,
 }
 
@@ -77,7 +69,7 @@ struct Header {
 
 /// The numbers of the first line.
 fn read_header(line: Words<'_>) -> Result<Header, DimacsFault>
-    ensures { Gives (λ header. header) result (header_of line.entry) }
+    ensures { DimacsOrNoMemory (λ header. header) result (header_of line.entry) }
 {
     let mut words = line;
     let problem = words.next_word().ok_or(DimacsFault::BadHeader)?;
@@ -92,7 +84,7 @@ fn read_header(line: Words<'_>) -> Result<Header, DimacsFault>
 
 /// The numbers of variables and clauses.
 fn read_counts(variables: Number, clauses: Number) -> Result<Header, DimacsFault>
-    ensures { Gives (λ header. header) result (counts_of variables clauses) }
+    ensures { DimacsOrNoMemory (λ header. header) result (counts_of variables clauses) }
 {
     match (variables, clauses) {
         (Number::Misspelled, _) | (_, Number::Misspelled | Number::Large) => {
@@ -113,7 +105,7 @@ fn read_clause(
     tokens: &mut Tokens<'_>,
     variables: u32,
 ) -> Result<Clause, DimacsFault>
-    ensures clause { Gives (λ clause. (clause.lits, tokens.new.left)) result (clause_at variables tokens.old.end tokens.old.left) }
+    ensures clause { DimacsOrNoMemory (λ clause. (clause.lits, tokens.new.left)) result (clause_at variables tokens.old.end tokens.old.left) }
     ensures end { tokens.new.end ≡ tokens.old.end }
 {
     let mut lits = Vec::new(alloc);
@@ -139,7 +131,7 @@ fn read_clauses(
     tokens: &mut Tokens<'_>,
     header: Header,
 ) -> Result<Seq<Clause>, DimacsFault>
-    ensures { Gives (λ clauses. clauses) result (clauses_at header.variables tokens.old.end header.clauses tokens.old.left) }
+    ensures { DimacsOrNoMemory (λ clauses. clauses) result (clauses_at header.variables tokens.old.end header.clauses tokens.old.left) }
 {
     let mut clauses = Vec::new(alloc);
     for _done in 0..header.clauses {
@@ -153,7 +145,7 @@ fn read_clauses(
 
 /// The formula, or the first fault.
 fn read_text(alloc: Global, text: &[u8]) -> Result<Formula, DimacsFault>
-    ensures { Gives (λ formula. formula) result (dimacs text.now) }
+    ensures { DimacsOrNoMemory (λ formula. formula) result (dimacs text.now) }
 {
     let mut lines = Lines::new(text, LAYOUT);
     let Ok(first) = lines.next_line() else {
@@ -178,8 +170,8 @@ fn read_text(alloc: Global, text: &[u8]) -> Result<Formula, DimacsFault>
 /// on variables.
 pub fn read_dimacs(alloc: Global, text: &[u8]) -> Result<Formula, DimacsFault>
     ensures found { IfOk result (DimacsText text.now) }
-    ensures only { (formula : Formula) → DimacsText text.now formula → Gives (λ read. read) result (Ok formula) }
-    ensures exact { Gives (λ read. read) result (dimacs text.now) }
+    ensures only { (formula : Formula) → DimacsText text.now formula → DimacsOrNoMemory (λ read. read) result (Ok formula) }
+    ensures exact { DimacsOrNoMemory (λ read. read) result (dimacs text.now) }
 {
     read_text(alloc, text)
 }

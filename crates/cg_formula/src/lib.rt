@@ -14,6 +14,6 @@ mod formula;
 mod tests;
 mod token;
 
-pub use dimacs::{DimacsFault, LAYOUT, MOST_VARIABLES, read_dimacs, write_dimacs};
+pub use dimacs::{DimacsFault, LAYOUT, read_dimacs, write_dimacs};
 pub use formula::{Clause, Formula, Lit};
 pub use token::{ClauseToken, push_clause, read_clause_token};

@@ -25,7 +25,7 @@ use Rattle.cg_machine.specs.declared.stage.StageKind.{StageKind}
 use Rattle.cg_machine.specs.declared.stage.StageKind.TheVariants.{Hold, Stable, Unseen}
 use Rattle.cg_netlist.specs.Circuit.{is_in}
 use Rattle.cg_netlist.proofs.Members.{All-from_members}
-use Rattle.cg_plan.specs.Laws.{Deserves, IsTurn}
+use Rattle.cg_plan.specs.Laws.{IsInsertable, IsTurn}
 use Rattle.cg_plan.specs.Plan.{Turn}
 use Rattle.cg_plan.specs.StageClaims.{NamedClaim, all_claims, claims_by, claims_of, target_claim}
 use Rattle.cg_plan.specs.Trying.{Ends, Passes, Tried, decided, first_false, measured, tried, unless_false, unless_missing, unless_passed}
@@ -37,7 +37,7 @@ use Rattle.cg_plan.proofs.Exactly.{inserted_exactly}
 use Rattle.cg_stage.specs.Effects.{limit_by}
 use Rattle.cg_stage.specs.Needs.{missing, needs}
 use Rattle.cg_stage.specs.Stages.{ClaimsHold, Fits, IsTarget, first_literal}
-use Rattle.cg_gating.specs.Deserved.{IsWorthy}
+use Rattle.cg_gating.specs.WorthInserting.{IsWorthInserting}
 
 abbrev IsNever : MachineData → NamedClaim → Type 0
 IsNever m c = is_never m c.1 ≡ true
@@ -107,7 +107,7 @@ module _ (m : MachineData) where
 
     module _ (library : List CellData) (settings : Settings) (o : Outcome) where
       -- a worthy stage comes as far as the limits, and an outcome there is that it is inserted
-      inserted_worthy : IsWorthy library settings m s → tried library settings m s ≡ Ends o → o ≡ Inserted
+      inserted_worthy : IsWorthInserting library settings m s → tried library settings m s ≡ Ends o → o ≡ Inserted
       inserted_worthy w h = last (limit_by s.kind m s) (sym decides ∙ measured_on settings.width (all_claims m s) (decided m s) o w.narrow (sym comes ∙ h))
         where
           comes : tried library settings m s ≡ measured m settings.width (all_claims m s) (decided m s)
@@ -124,10 +124,10 @@ module _ (m : MachineData) where
           last None is = cc
           last (Some l) is = absurd (cc)
 
-      worthy : Deserves library settings m s → IsWorthy library settings m s
+      worthy : IsInsertable library settings m s → IsWorthInserting library settings m s
       worthy d = record { large = d.large; cells = d.cells; narrow = λ k c at. (d.narrow k c at).0; idles = d.idles; holds = d.holds }
 
-pub exactly_worthy : (library : List CellData) (settings : Settings) (turn : Turn) → IsTurn library settings turn → (turn.outcome ≡ Inserted) ↔ IsWorthy library settings turn.machine turn.stage
+pub exactly_worthy : (library : List CellData) (settings : Settings) (turn : Turn) → IsTurn library settings turn → (turn.outcome ≡ Inserted) ↔ IsWorthInserting library settings turn.machine turn.stage
 exactly_worthy library settings turn its =
     let m : MachineData = turn.machine in
     let s : Stage = turn.stage in (

@@ -23,7 +23,7 @@ use Rattle.cg_planner.specs.Planning.{AreWritable}
 use Rattle.cg_report.specs.Idle.{low_moments, zeros_of}
 use Rattle.cg_stimulus.specs.Inputs.{Rows, input_names}
 use Rattle.cg_stimulus.specs.Played.{IsPlayed}
-use Rattle.cg_gating.specs.Deserved.{IsWorthy}
+use Rattle.cg_gating.specs.WorthInserting.{IsWorthInserting}
 use Rattle.cg_gating.specs.Gating.{where_asked}
 use Rattle.cg_gating.specs.Idling.{idle_data, idle_of, zeros_by}
 use Rattle.cg_gating.specs.Played.{EdgesAre, LineIs, Saying}
@@ -83,7 +83,7 @@ pub record Headline (request : RequestData) (says : Option Saying) (read : Circu
   pub planned : turns ≡ (plan_of request.library request.settings (idle_of read request.prefix request.stimulus) (lifted read request.prefix)).turns
   pub whole : (plan_of request.library request.settings (idle_of read request.prefix request.stimulus) (lifted read request.prefix)).limit ≡ None
   pub lead : Lead turns (lifted read request.prefix) plan.machine
-  pub deserved : (k : ℕ) (turn : Turn) → slice_get turns k ≡ Some turn → (turn.outcome ≡ Inserted) ↔ IsWorthy request.library request.settings turn.machine turn.stage
+  pub deserved : (k : ℕ) (turn : Turn) → slice_get turns k ≡ Some turn → (turn.outcome ≡ Inserted) ↔ IsWorthInserting request.library request.settings turn.machine turn.stage
   -- literals are ranked by how often their nets are 0 in the history on which the stimulus is played on the original; a net that
   -- stands for none of the original's counts 0
   pub idle : (stimulus : Rows) → request.stimulus ≡ Some stimulus

@@ -3,7 +3,7 @@ pub mod Request
 pub mod Played
 pub mod Gating
 pub mod Turns
-pub mod Deserved
+pub mod WorthInserting
 pub mod Headline
 pub mod Loading
 pub mod Laws

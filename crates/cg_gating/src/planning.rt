@@ -107,9 +107,12 @@ fn plan_netlist(
     progress: &mut dyn Progress,
 ) -> Result<Plan, AddFault>
     requires { MayGate request.now netlist.now }
-    ensures plan { IfOk result (λ plan. IsPlan request.now.library request.now.settings (idle_of netlist.now request.now.prefix request.now.stimulus) (lifted netlist.now request.now.prefix) (told plan)) }
+    ensures plan { IfOk result (λ plan. IsPlan request.now.library request.now.settings (idle_of netlist.now request.now.prefix request.now.stimulus)
+        (lifted netlist.now request.now.prefix) (told plan)) }
     ensures writable { IfOk result (λ plan. AreWritable plan.certificates) }
-    ensures fault { IfErr result (PlanMayFail (plan_of request.now.library request.now.settings (idle_of netlist.now request.now.prefix request.now.stimulus) (lifted netlist.now request.now.prefix)).limit) }
+    ensures fault { IfErr result
+        (PlanMayFail (plan_of request.now.library request.now.settings (idle_of netlist.now request.now.prefix request.now.stimulus)
+        (lifted netlist.now request.now.prefix)).limit) }
 {
     let Ok(made) = lift(alloc, netlist, request) else {
         return Err(AddFault::NoMemory);

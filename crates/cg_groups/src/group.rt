@@ -28,7 +28,8 @@ pub struct Groups {
 pub fn groups_of(alloc: Global, keys: &[Option<Key>]) -> Result<Groups, AllocError>
     requires { length keys.now ≤ 2 ^ 32 }
     ensures even { IfOk result (λ found. length found.regs.items ≡ length found.keys.keys) }
-    ensures groups { IfOk result (λ found. groups_seen found.keys.keys found.regs.items ≡ groups same_stable (key_at keys.now) (range_with_len 0 (length keys.now))) }
+    ensures groups { IfOk result
+        (λ found. groups_seen found.keys.keys found.regs.items ≡ groups same_stable (key_at keys.now) (range_with_len 0 (length keys.now))) }
 {
     let mut found = Groups {
         keys: IndexSet::new(alloc),
@@ -44,7 +45,8 @@ pub fn groups_of(alloc: Global, keys: &[Option<Key>]) -> Result<Groups, AllocErr
 fn put(alloc: Global, key: &Option<Key>, reg: RegId, found: &mut Groups) -> Result<(), AllocError>
     requires { length found.old.regs.items ≡ length found.old.keys.keys }
     ensures even { OnOk result (length found.new.regs.items ≡ length found.new.keys.keys) }
-    ensures put { OnOk result (groups_seen found.new.keys.keys found.new.regs.items ≡ with_key same_stable (groups_seen found.old.keys.keys found.old.regs.items) (option_map key_seen key.now) reg) }
+    ensures put { OnOk result (groups_seen found.new.keys.keys found.new.regs.items ≡ with_key same_stable
+        (groups_seen found.old.keys.keys found.old.regs.items) (option_map key_seen key.now) reg) }
 {
     match key {
         Some(key) => add(alloc, key, reg, found),
@@ -56,7 +58,8 @@ fn put(alloc: Global, key: &Option<Key>, reg: RegId, found: &mut Groups) -> Resu
 fn add(alloc: Global, key: &Key, reg: RegId, found: &mut Groups) -> Result<(), AllocError>
     requires { length found.old.regs.items ≡ length found.old.keys.keys }
     ensures even { OnOk result (length found.new.regs.items ≡ length found.new.keys.keys) }
-    ensures added { OnOk result (groups_seen found.new.keys.keys found.new.regs.items ≡ with_member same_stable (groups_seen found.old.keys.keys found.old.regs.items) (key_seen key.now) reg) }
+    ensures added { OnOk result (groups_seen found.new.keys.keys found.new.regs.items ≡ with_member same_stable
+        (groups_seen found.old.keys.keys found.old.regs.items) (key_seen key.now) reg) }
 {
     let (place, new) = found.keys.insert_full(key.copy(alloc)?)?;
     if new {

@@ -25,7 +25,7 @@ use Rattle.cg_netlist.specs.declared.fault.AddFault.TheVariants.{Limit as LimitF
 use Rattle.cg_hold.specs.declared.choice.Choice.{Choice}
 use Rattle.cg_hold.specs.declared.choice.Choice.TheVariants.{Wide, Takes}
 use Rattle.cg_hold.specs.inner.Choosing.{FitsChoice, IsLiteralOf, choice_by}
-use Rattle.cg_hold.specs.inner.Packed.{place_of}
+use Rattle.cg_hold.specs.inner.Packed.{literal_place}
 
 module _ (m : MachineData) (r : ℕ) where
   -- all are literals of the register

@@ -15,7 +15,7 @@ use Rattle.cg_machine.specs.Machine.{IsMachine, MachineData}
 use Rattle.cg_netlist.proofs.Members.{All-member, member_at}
 use Rattle.cg_netlist.proofs.RisingPlaces.{Rises, rising_same}
 use Rattle.cg_netlist.specs.Circuit.{is_in}
-use Rattle.cg_hold.specs.inner.Packed.{packed, place_of, unpacked}
+use Rattle.cg_hold.specs.inner.Packed.{literal_place, packed, unpacked}
 
 -- without a stimulus the order is that of the nets
 pub by_none : (ls : List Literal) → by_count None ls ≡ ls
@@ -36,12 +36,12 @@ module _ (idle : IdleData) where
   -- literals whose places are above one, and whose counts are among the rows
   abbrev pub Above : ℕ → List Literal → Type 0
   Above p [] = Unit {0}
-  Above p (k ∷ ks) = ((p < place_of k) × (place_of k < 2097152) × (count k ≤ idle.rows)) × Above p ks
+  Above p (k ∷ ks) = ((p < literal_place k) × (literal_place k < 2097152) × (count k ≤ idle.rows)) × Above p ks
 
   -- literals whose places rise
   abbrev pub Rise : ℕ → List Literal → Type 0
   Rise p [] = Unit {0}
-  Rise p (l ∷ ls) = ((p ≤ place_of l) × (place_of l < 2097152) × (count l ≤ idle.rows)) × Rise (suc (place_of l)) ls
+  Rise p (l ∷ ls) = ((p ≤ literal_place l) × (literal_place l < 2097152) × (count l ≤ idle.rows)) × Rise (suc (literal_place l)) ls
 
   above_less : (p q : ℕ) (ks : List Literal) → q ≤ p → Above p ks → Above q ks
   above_less p q [] less above = tt
@@ -60,7 +60,7 @@ module _ (idle : IdleData) where
   insert_later : (l k : Literal) (ks : List Literal) → nat_le (count k) (count l) ≡ false → insert_literal (Some idle) l (k ∷ ks) ≡ k ∷ insert_literal (Some idle) l ks
   insert_later l k ks is = ap (λ b. if b then l ∷ k ∷ ks else k ∷ insert_literal (Some idle) l ks) is
 
-  above_insert : (p : ℕ) (l : Literal) (ks : List Literal) → (p < place_of l) × (place_of l < 2097152) × (count l ≤ idle.rows) → Above p ks → Above p (insert_literal (Some idle) l ks)
+  above_insert : (p : ℕ) (l : Literal) (ks : List Literal) → (p < literal_place l) × (literal_place l < 2097152) × (count l ≤ idle.rows) → Above p ks → Above p (insert_literal (Some idle) l ks)
   above_insert p l [] here above = (here, tt)
   above_insert p l (k ∷ ks) here above = elim (le-cases (count k) (count l)) [
     | inl first ↦ subst (Above p) (sym (insert_first l k ks first.0)) (here, above)
@@ -71,15 +71,15 @@ module _ (idle : IdleData) where
   above_order p [] rise = tt
   above_order p (l ∷ ls) rise =
       let h = rise.0.0 in
-      above_insert p l (order ls) (omega (arith, h), rise.0.1, rise.0.2) (above_less (place_of l) p (order ls) (omega (arith, h)) (above_order (place_of l) ls rise.1))
+      above_insert p l (order ls) (omega (arith, h), rise.0.1, rise.0.2) (above_less (literal_place l) p (order ls) (omega (arith, h)) (above_order (literal_place l) ls rise.1))
 
-  before : (l k : Literal) → count k ≤ count l → place_of l < place_of k → packed idle l < packed idle k
+  before : (l k : Literal) → count k ≤ count l → literal_place l < literal_place k → packed idle l < packed idle k
   before l k less place = omega arith
 
-  behind : (l k : Literal) → count l < count k → count k ≤ idle.rows → place_of k < 2097152 → packed idle k < packed idle l
+  behind : (l k : Literal) → count l < count k → count k ≤ idle.rows → literal_place k < 2097152 → packed idle k < packed idle l
   behind l k more most small = omega arith
 
-  rises_insert : (a : ℕ) (l : Literal) (ks : List Literal) → a ≤ packed idle l → Above (place_of l) ks → Rises a (map (packed idle) ks) → Rises a (map (packed idle) (insert_literal (Some idle) l ks))
+  rises_insert : (a : ℕ) (l : Literal) (ks : List Literal) → a ≤ packed idle l → Above (literal_place l) ks → Rises a (map (packed idle) ks) → Rises a (map (packed idle) (insert_literal (Some idle) l ks))
   rises_insert a l [] low above rises = (low, tt)
   rises_insert a l (k ∷ ks) low above rises = elim (le-cases (count k) (count l)) [
     | inl first ↦ subst (λ xs. Rises a (map (packed idle) xs)) (sym (insert_first l k ks first.0)) (low, (before l k first.1 above.0.0, rises.1))
@@ -88,7 +88,7 @@ module _ (idle : IdleData) where
 
   pub rises_order : (p : ℕ) (ls : List Literal) → Rise p ls → Rises 0 (map (packed idle) (order ls))
   rises_order p [] rise = tt
-  rises_order p (l ∷ ls) rise = rises_insert 0 l (order ls) (omega arith) (above_order (place_of l) ls rise.1) (rises_order (suc (place_of l)) ls rise.1)
+  rises_order p (l ∷ ls) rise = rises_insert 0 l (order ls) (omega arith) (above_order (literal_place l) ls rise.1) (rises_order (suc (literal_place l)) ls rise.1)
 
   -- the order has the same literals
   in_insert : (l : Literal) (ks : List Literal) (x : ℕ) → is_in (map (packed idle) (insert_literal (Some idle) l ks)) x ≡ (nat_eq x (packed idle l) || is_in (map (packed idle) ks) x)
@@ -108,20 +108,20 @@ module _ (idle : IdleData) where
   in_order (l ∷ ls) x = in_insert l (order ls) x ∙ ap (λ b. nat_eq x (packed idle l) || b) (in_order ls x)
 
   -- a literal from its number
-  unpacked_is : (l : Literal) → place_of l < 2097152 → unpacked (packed idle l) ≡ l
+  unpacked_is : (l : Literal) → literal_place l < 2097152 → unpacked (packed idle l) ≡ l
   unpacked_is l small = go l.1 refl
     where
-      rest : packed idle l % 2097152 ≡ place_of l
+      rest : packed idle l % 2097152 ≡ literal_place l
       rest = omega arith
 
       go : (b : Bool) → l.1 ≡ b → unpacked (packed idle l) ≡ l
       go true is =
-          let p : place_of l ≡ 2 * l.0 + 1 = ap (λ c. 2 * l.0 + (if c then 1 else 0)) is in
+          let p : literal_place l ≡ 2 * l.0 + 1 = ap (λ c. 2 * l.0 + (if c then 1 else 0)) is in
           let half : (packed idle l % 2097152) / 2 ≡ l.0 = omega (arith, rest, p) in
           let odd : (packed idle l % 2097152) % 2 ≡ 1 = omega (arith, rest, p) in
           ap (λ n. (n, nat_eq ((packed idle l % 2097152) % 2) 1)) half ∙ (ap (λ n. (l.0, nat_eq n 1)) odd ∙ ap (λ b. (l.0, b)) (sym is))
       go false is =
-          let p : place_of l ≡ 2 * l.0 = ap (λ c. 2 * l.0 + (if c then 1 else 0)) is ∙ omega arith in
+          let p : literal_place l ≡ 2 * l.0 = ap (λ c. 2 * l.0 + (if c then 1 else 0)) is ∙ omega arith in
           let half : (packed idle l % 2097152) / 2 ≡ l.0 = omega (arith, rest, p) in
           let even : (packed idle l % 2097152) % 2 ≡ 0 = omega (arith, rest, p) in
           ap (λ n. (n, nat_eq ((packed idle l % 2097152) % 2) 1)) half ∙ (ap (λ n. (l.0, nat_eq n 1)) even ∙ ap (λ b. (l.0, b)) (sym is))
@@ -129,9 +129,9 @@ module _ (idle : IdleData) where
   -- literals whose places are not too great
   abbrev pub Small : List Literal → Type 0
   Small [] = Unit {0}
-  Small (l ∷ ls) = (place_of l < 2097152) × Small ls
+  Small (l ∷ ls) = (literal_place l < 2097152) × Small ls
 
-  small_insert : (l : Literal) (ks : List Literal) → place_of l < 2097152 → Small ks → Small (insert_literal (Some idle) l ks)
+  small_insert : (l : Literal) (ks : List Literal) → literal_place l < 2097152 → Small ks → Small (insert_literal (Some idle) l ks)
   small_insert l [] here small = (here, tt)
   small_insert l (k ∷ ks) here small = elim (le-cases (count k) (count l)) [
     | inl first ↦ subst Small (sym (insert_first l k ks first.0)) (here, small)
@@ -140,7 +140,7 @@ module _ (idle : IdleData) where
 
   pub small_order : (p : ℕ) (ls : List Literal) → Rise p ls → Small (order ls)
   small_order p [] rise = tt
-  small_order p (l ∷ ls) rise = small_insert l (order ls) rise.0.1 (small_order (suc (place_of l)) ls rise.1)
+  small_order p (l ∷ ls) rise = small_insert l (order ls) rise.0.1 (small_order (suc (literal_place l)) ls rise.1)
 
   pub unpacked_all : (ls : List Literal) → Small ls → map unpacked (map (packed idle) ls) ≡ ls
   unpacked_all [] small = refl

@@ -5,7 +5,7 @@ use Rattle.std.specs.Prelude.{position}
 use Rattle.std.specs.List.{filter, flat_map}
 use Rattle.std.specs.Option.{option_to_list}
 use Rattle.std.proofs.lemmas.Bool.{both_ways, eqb-true, ltb-true, or_cases, or_right}
-use Rattle.cg_aig.specs.Aig.{aig_and, aig_ops, and_with, in_order, inverse, put_at, same_pair, simple}
+use Rattle.cg_aig.specs.Aig.{aig_and, aig_ops, and_with, in_order, inverse, pair_node_at, same_pair, simple}
 use Rattle.cg_cell.specs.Build.{Run, build_xor, chain, plain}
 use Rattle.cg_cell.specs.Domain.{Seen}
 use Rattle.cg_claim.proofs.HoldWidths.{hold_leaves}
@@ -29,7 +29,7 @@ use Rattle.cg_hold.proofs.Trials.{is_narrow}
 use Rattle.cg_hold.specs.inner.Choosing.{HasRoom, IsLiteralOf}
 
 -- an `and` adds one pair or none
-put_one : (s : Seen) (p : ℕ × ℕ) (found : Option ℕ) → (length s.pairs ≤ length (put_at found s p).pairs) × (length (put_at found s p).pairs ≤ length s.pairs + 1)
+put_one : (s : Seen) (p : ℕ × ℕ) (found : Option ℕ) → (length s.pairs ≤ length (pair_node_at found s p).pairs) × (length (pair_node_at found s p).pairs ≤ length s.pairs + 1)
 put_one s p (Some k) = (omega arith, omega arith)
 put_one s p None = let e = length-append s.pairs (p ∷ []) in (omega (arith, e), omega (arith, e))
 

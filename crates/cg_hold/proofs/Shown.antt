@@ -2,7 +2,7 @@
 use Rattle.std.proofs.Common.{◌≡◌, ◌<◌, ℕ, zero, suc, Bool, true, false, not, ◌||◌, ◌&&◌, List, [], ◌∷◌, ◌++◌, length, slice_get, Option, Some, refl, sym, ◌∙◌, ap, subst}
 use Rattle.std.proofs.lemmas.Bool.{and_parts, both_ways, false_from_ne_true}
 use Rattle.std.proofs.lemmas.Option.{none-some, same_Some}
-use Rattle.cg_cell.specs.Gates.{differ}
+use Rattle.cg_cell.specs.Gates.{exclusive_or}
 use Rattle.cg_claim.proofs.Tried.{is_never_says}
 use Rattle.cg_claim.specs.LeafBits.{is_never}
 use Rattle.cg_claim.specs.Question.{Question, hold_question, idle_question}
@@ -37,10 +37,10 @@ module _ (m : MachineData) (good : IsMachine m) (cycle : Cycle) (is : IsCycle m 
   zero_there : not (literal_bit (bit cycle.nets) l) ≡ true → not (any_at (values m cycle.state is.inputs) (l ∷ [])) ≡ true
   zero_there h = ap not (one_joined (values m cycle.state is.inputs) l) ∙ (ap (λ nets. not (literal_bit (bit nets) l)) (sym is.nets) ∙ h)
 
-  pub move_shown : (r : ℕ) → r < length m.circuit.registers → not (literal_bit (bit cycle.nets) l) ≡ true → differ (next m cycle.nets cycle.state r) (bit cycle.state r) ≡ true → is_never m (hold_question l r) ≡ false
+  pub move_shown : (r : ℕ) → r < length m.circuit.registers → not (literal_bit (bit cycle.nets) l) ≡ true → exclusive_or (next m cycle.nets cycle.state r) (bit cycle.state r) ≡ true → is_never m (hold_question l r) ≡ false
   move_shown r there idle other = violated m (hold_question l r) good (there, there) (free_of m cycle is) (is_free m cycle is)
-      (ap (λ b. b && differ (next m (values m cycle.state is.inputs) cycle.state r) (bit cycle.state r)) (zero_there idle)
-      ∙ (ap (λ nets. differ (next m nets cycle.state r) (bit cycle.state r)) (sym is.nets) ∙ other))
+      (ap (λ b. b && exclusive_or (next m (values m cycle.state is.inputs) cycle.state r) (bit cycle.state r)) (zero_there idle)
+      ∙ (ap (λ nets. exclusive_or (next m nets cycle.state r) (bit cycle.state r)) (sym is.nets) ∙ other))
 
   pub idle_shown : not (literal_bit (bit cycle.nets) l) ≡ true → is_never m (idle_question (l ∷ [])) ≡ false
   idle_shown idle = violated m (idle_question (l ∷ [])) good tt (free_of m cycle is) (is_free m cycle is)

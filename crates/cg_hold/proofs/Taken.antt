@@ -30,7 +30,7 @@ use Rattle.cg_hold.specs.declared.choice.Choice.TheVariants.{Wide, Takes}
 use Rattle.cg_hold.specs.HoldAnswer.{hold_answer}
 use Rattle.cg_hold.specs.declared.candidates.HoldFound.{HoldFound}
 use Rattle.cg_hold.specs.inner.Choosing.{AreChosen, FitsChoice, choice_by, choices_to, free_to, list_at, passes_at, stage_at, wide_by, with_choice}
-use Rattle.cg_hold.specs.inner.Packed.{place_of}
+use Rattle.cg_hold.specs.inner.Packed.{literal_place}
 
 -- what a choice takes, and whether it is too wide
 abbrev option_of : Choice → Option Literal
@@ -46,7 +46,7 @@ wide_one Wide = refl
 wide_one (Takes o) = refl
 
 -- a literal by its place
-same_is : (l k : Literal) → same_literal l k ≡ true → place_of l ≡ place_of k
+same_is : (l k : Literal) → same_literal l k ≡ true → literal_place l ≡ literal_place k
 same_is l k same =
     let p = and_parts (nat_eq l.0 k.0) (same_bool l.1 k.1) same in
     go (eqb-true l.0 k.0 p.0) l.1 k.1 p.1
@@ -57,7 +57,7 @@ same_is l k same =
     go e false true h = absurd (both_ways false refl h)
     go e false false h = ap (λ n. 2 * n + 0) e
 
-place_is : (l k : Literal) → place_of l ≡ place_of k → same_literal l k ≡ true
+place_is : (l k : Literal) → literal_place l ≡ literal_place k → same_literal l k ≡ true
 place_is l k e = go l.1 k.1 e
   where
     net : (x y : ℕ) (b : Bool) → x ≡ y → (nat_eq x y && true) ≡ true
@@ -69,8 +69,8 @@ place_is l k e = go l.1 k.1 e
     go false true h = absurd (omega (arith, h))
     go false false h = net l.0 k.0 true (omega (arith, h))
 
-same_place : (l k : Literal) → nat_eq (place_of l) (place_of k) ≡ same_literal l k
-same_place l k = truth (nat_eq (place_of l) (place_of k)) (same_literal l k) (λ h. place_is l k (eqb-true (place_of l) (place_of k) h)) (λ h. eq-eqb (place_of l) (place_of k) (same_is l k h))
+same_place : (l k : Literal) → nat_eq (literal_place l) (literal_place k) ≡ same_literal l k
+same_place l k = truth (nat_eq (literal_place l) (literal_place k)) (same_literal l k) (λ h. place_is l k (eqb-true (literal_place l) (literal_place k) h)) (λ h. eq-eqb (literal_place l) (literal_place k) (same_is l k h))
   where
     truth : (x y : Bool) → (x ≡ true → y ≡ true) → (y ≡ true → x ≡ true) → x ≡ y
     truth true y there back = sym (there refl)
@@ -85,24 +85,24 @@ index_list lists k = sym (unwrap_or-slice_get lists k []) ∙ go (slice_get list
     go None = refl
     go (Some l) = refl
 
-list_with : (lists : List (List ℕ)) (choice : Choice) (r : ℕ) (l : Literal) → FitsChoice (length lists) choice → list_at (with_choice lists choice r) (place_of l) ≡ list_at lists (place_of l) ++ (if option_map_or (same_literal l) (option_of choice) false then r ∷ [] else [])
-list_with lists Wide r l fits = sym (append-nil (list_at lists (place_of l)))
-list_with lists (Takes None) r l fits = sym (append-nil (list_at lists (place_of l)))
-list_with lists (Takes (Some k)) r l fits = elim (eqb_tells (place_of l) (place_of k)) [
+list_with : (lists : List (List ℕ)) (choice : Choice) (r : ℕ) (l : Literal) → FitsChoice (length lists) choice → list_at (with_choice lists choice r) (literal_place l) ≡ list_at lists (literal_place l) ++ (if option_map_or (same_literal l) (option_of choice) false then r ∷ [] else [])
+list_with lists Wide r l fits = sym (append-nil (list_at lists (literal_place l)))
+list_with lists (Takes None) r l fits = sym (append-nil (list_at lists (literal_place l)))
+list_with lists (Takes (Some k)) r l fits = elim (eqb_tells (literal_place l) (literal_place k)) [
   | inl same ↦
-      ap (λ z. list_at (slice_set lists (place_of k) (slice_index_or lists (place_of k) [] ++ r ∷ [])) z) same.1
-      ∙ (ap (λ o. option_map_or (λ (x : List ℕ). x) o []) (slice_get-set_same lists (place_of k) (slice_index_or lists (place_of k) [] ++ r ∷ []) fits)
-      ∙ (ap (λ x. x ++ r ∷ []) (index_list lists (place_of k) ∙ ap (list_at lists) (sym same.1))
-      ∙ ap (λ b. list_at lists (place_of l) ++ (if b then r ∷ [] else [])) (sym (sym (same_place l k) ∙ same.0))))
+      ap (λ z. list_at (slice_set lists (literal_place k) (slice_index_or lists (literal_place k) [] ++ r ∷ [])) z) same.1
+      ∙ (ap (λ o. option_map_or (λ (x : List ℕ). x) o []) (slice_get-set_same lists (literal_place k) (slice_index_or lists (literal_place k) [] ++ r ∷ []) fits)
+      ∙ (ap (λ x. x ++ r ∷ []) (index_list lists (literal_place k) ∙ ap (list_at lists) (sym same.1))
+      ∙ ap (λ b. list_at lists (literal_place l) ++ (if b then r ∷ [] else [])) (sym (sym (same_place l k) ∙ same.0))))
   | inr other ↦
-      ap (λ o. option_map_or (λ (x : List ℕ). x) o []) (slice_get-set_other lists (place_of k) (place_of l) (slice_index_or lists (place_of k) [] ++ r ∷ []) other.1)
-      ∙ (sym (append-nil (list_at lists (place_of l))) ∙ ap (λ b. list_at lists (place_of l) ++ (if b then r ∷ [] else [])) (sym (sym (same_place l k) ∙ other.0)))
+      ap (λ o. option_map_or (λ (x : List ℕ). x) o []) (slice_get-set_other lists (literal_place k) (literal_place l) (slice_index_or lists (literal_place k) [] ++ r ∷ []) other.1)
+      ∙ (sym (append-nil (list_at lists (literal_place l))) ∙ ap (λ b. list_at lists (literal_place l) ++ (if b then r ∷ [] else [])) (sym (sym (same_place l k) ∙ other.0)))
 ]
 
 pub with_length : (lists : List (List ℕ)) (choice : Choice) (r : ℕ) → length (with_choice lists choice r) ≡ length lists
 with_length lists Wide r = refl
 with_length lists (Takes None) r = refl
-with_length lists (Takes (Some k)) r = length-set lists (place_of k) (slice_index_or lists (place_of k) [] ++ r ∷ [])
+with_length lists (Takes (Some k)) r = length-set lists (literal_place k) (slice_index_or lists (literal_place k) [] ++ r ∷ [])
 
 or_none : (b : Bool) → (b || false) ≡ b
 or_none true = refl
@@ -194,9 +194,9 @@ module _ (m : MachineData) (idle : Option IdleData) (width : ℕ) where
       record {
         count = ap length put ∙ (with_length lists choice n ∙ are.count);
         each = λ l within.
-            ap (λ xs. list_at xs (place_of l)) put
+            ap (λ xs. list_at xs (literal_place l)) put
             ∙ (list_with lists choice n l fits
-            ∙ (ap (λ o. list_at lists (place_of l) ++ (if option_map_or (same_literal l) o false then n ∷ [] else [])) (sym s.takes)
+            ∙ (ap (λ o. list_at lists (literal_place l) ++ (if option_map_or (same_literal l) o false then n ∷ [] else [])) (sym s.takes)
             ∙ (ap (λ xs. xs ++ (if option_map_or (same_literal l) (chosen m idle width n) false then n ∷ [] else [])) (are.each l within)
             ∙ (sym (chosen_more n l (free_to m n)) ∙ ap (λ rs. chosen_regs (map (λ (r : ℕ). (r, chosen m idle width r)) rs) l) (sym (free_next n free))))));
         wide_is =
@@ -233,7 +233,7 @@ module _ (m : MachineData) (idle : Option IdleData) (width : ℕ) where
   pub chosen_none : (lists : List (List ℕ)) (wide : ℕ) → lists ≡ replicate (2 * length m.circuit.names) [] → wide ≡ 0 → AreChosen m idle width 0 lists wide
   chosen_none lists wide empty zeroed = record {
     count = ap length empty ∙ length-replicate (2 * length m.circuit.names) [];
-    each = λ l within. ap (λ xs. list_at xs (place_of l)) empty ∙ none_at (2 * length m.circuit.names) (place_of l);
+    each = λ l within. ap (λ xs. list_at xs (literal_place l)) empty ∙ none_at (2 * length m.circuit.names) (literal_place l);
     wide_is = zeroed;
     within = refl;
   }
@@ -255,7 +255,7 @@ module _ (m : MachineData) (idle : Option IdleData) (width : ℕ) where
   passing r own free passes = any_in (passes_at m idle width) (free_registers m) r (in_filtered (λ k. is_none (enable_of m k)) (range_with_len 0 m.own_registers) r (is_in-range m.own_registers 0 r (omega arith) (omega arith)) free) passes
 
   -- the stages
-  same_maps : (lists : List (List ℕ)) (n a : ℕ) → ((l : Literal) → l.0 < a + n → list_at lists (place_of l) ≡ chosen_regs (choices m idle width) l)
+  same_maps : (lists : List (List ℕ)) (n a : ℕ) → ((l : Literal) → l.0 < a + n → list_at lists (literal_place l) ≡ chosen_regs (choices m idle width) l)
       → filter_map (stage_at lists) (both_literals (range_with_len a n)) ≡ filter_map (λ l. unless_empty (hold_stage l) (chosen_regs (choices m idle width) l)) (both_literals (range_with_len a n))
   same_maps lists zero a same = refl
   same_maps lists (suc n) a same =
@@ -295,7 +295,7 @@ both_more lists n before one two so_far first second =
     two_options (Some x) b = refl
 
 -- no stage where no register took a literal
-pub empty_stage : (lists : List (List ℕ)) (l : Literal) (i : ℕ) (regs : List ℕ) (b : Bool) (before : List Stage) → i ≡ place_of l → i < length lists → regs ≡ slice_index_or lists i regs → b ≡ nat_eq (length regs) 0 → b ≡ true → before ≡ before ++ cons_option (stage_at lists l) []
+pub empty_stage : (lists : List (List ℕ)) (l : Literal) (i : ℕ) (regs : List ℕ) (b : Bool) (before : List Stage) → i ≡ literal_place l → i < length lists → regs ≡ slice_index_or lists i regs → b ≡ nat_eq (length regs) 0 → b ≡ true → before ≡ before ++ cons_option (stage_at lists l) []
 empty_stage lists l i regs b before place below read is some =
     sym (ap (λ rs. before ++ cons_option (unless_empty (hold_stage l) rs) []) (sym there ∙ none regs (sym is ∙ some)) ∙ append-nil before)
   where
@@ -303,7 +303,7 @@ empty_stage lists l i regs b before place below read is some =
     none [] h = refl
     none (r ∷ rs) h = let e : length (r ∷ rs) ≡ 0 = eqb-true (length (r ∷ rs)) 0 h in absurd (omega (arith, e))
 
-    there : regs ≡ list_at lists (place_of l)
+    there : regs ≡ list_at lists (literal_place l)
     there = read ∙ (sym (unwrap_or-slice_get lists i regs) ∙ (ap (λ o. unwrap_or o regs) (slice_get-get_or lists i [] below) ∙ (index_list lists i ∙ ap (list_at lists) place)))
 
 -- a fault of one register is one of the list

@@ -5,7 +5,7 @@ ghost use Rattle.std.specs.List.{cons_option, filter_map, range_with_len};
 ghost use Rattle.std.specs.Option.{option_copied};
 ghost use Rattle.cg_hold.specs.HoldAnswer.{hold_answer};
 ghost use Rattle.cg_hold.specs.inner.Choosing.{stage_at};
-ghost use Rattle.cg_hold.specs.inner.Packed.{place_of};
+ghost use Rattle.cg_hold.specs.inner.Packed.{literal_place};
 ghost use Rattle.cg_limit.specs.Answers.{OrNoMemory};
 ghost use Rattle.cg_lists.specs.HoldList.{hold_stage};
 ghost use Rattle.cg_lists.specs.Literals.{FitsIdle, both_literals};
@@ -94,7 +94,7 @@ fn push_stage(
     lists: &[Seq<RegId>],
     stages: &mut Seq<Stage>,
 ) -> Result<(), AllocError>
-    requires { place_of literal < length lists.now }
+    requires { literal_place literal < length lists.now }
     ensures { OnOk result (stages.new ≡ stages.old ++ cons_option (stage_at lists.now literal) []) }
 {
     let regs = &lists[place_of(literal)];

@@ -1,10 +1,11 @@
 //! The registers that took each literal.
 
-ghost use Rattle.std.specs.Prelude.{◌≡◌, ◌<◌, ◌≤◌, ◌+◌, ◌*◌, ◌^◌, ◌++◌, ◌∷◌, ◌⊎◌, [], ℕ, true, length, replicate, slice_index_or, slice_set, is_none, IfErr, IfOk, OnOk};
+ghost use Rattle.std.specs.Prelude.{◌≡◌, ◌<◌, ◌≤◌, ◌+◌, ◌*◌, ◌^◌, ◌++◌, ◌∷◌, ◌⊎◌, [], ℕ, true, length};
+ghost use Rattle.std.specs.Prelude.{replicate, slice_index_or, slice_set, is_none, IfErr, IfOk, OnOk};
 ghost use Rattle.std.specs.Option.{option_copied};
 ghost use Rattle.cg_hold.specs.inner.Choosing.{AreChosen, FitsChoice, passes_at, wide_by, with_choice};
 ghost use Rattle.cg_hold.specs.inner.Cycles.{AreCycles};
-ghost use Rattle.cg_hold.specs.inner.Packed.{place_of};
+ghost use Rattle.cg_hold.specs.inner.Packed.{literal_place};
 ghost use Rattle.cg_limit.specs.declared.Limit.TheVariants.{ClaimNodes};
 ghost use Rattle.cg_lists.specs.HoldList.{hold_passes};
 ghost use Rattle.cg_lists.specs.Literals.{FitsIdle};
@@ -41,8 +42,10 @@ impl Chosen {
         idle: Option<&Idle<'_>>,
     ) -> Result<Chosen, AddFault>
         requires { FitsIdle machine.now (option_copied idle) }
-        ensures chosen { IfOk result (λ chosen. AreChosen machine.now (option_copied idle.entry) width machine.now.own_registers chosen.lists.items chosen.wide) }
-        ensures refused { IfErr result (λ fault. (fault ≡ NoMemory) ⊎ ((fault ≡ LimitFault ClaimNodes) × (hold_passes machine.now (option_copied idle.entry) width ≡ true))) }
+        ensures chosen { IfOk result
+            (λ chosen. AreChosen machine.now (option_copied idle.entry) width machine.now.own_registers chosen.lists.items chosen.wide) }
+        ensures refused { IfErr result
+            (λ fault. (fault ≡ NoMemory) ⊎ ((fault ≡ LimitFault ClaimNodes) × (hold_passes machine.now (option_copied idle.entry) width ≡ true))) }
     {
         let _netlist = machine.netlist();
         let Ok(mut chosen) = Chosen::none(alloc, machine.nets()) else {
@@ -72,7 +75,8 @@ impl Chosen {
         requires cycles { AreCycles machine.now cycles.now.cycles }
         requires chosen { AreChosen machine.now (option_copied idle) width 0 self.old.lists.items self.old.wide }
         ensures chosen { OnOk result (AreChosen machine.now (option_copied idle.entry) width machine.now.own_registers self.new.lists.items self.new.wide) }
-        ensures refused { IfErr result (λ fault. (fault ≡ NoMemory) ⊎ ((fault ≡ LimitFault ClaimNodes) × (hold_passes machine.now (option_copied idle.entry) width ≡ true))) }
+        ensures refused { IfErr result
+            (λ fault. (fault ≡ NoMemory) ⊎ ((fault ≡ LimitFault ClaimNodes) × (hold_passes machine.now (option_copied idle.entry) width ≡ true))) }
     {
         let netlist = machine.netlist();
         for reg in 0..netlist.registers() {
@@ -120,7 +124,9 @@ impl Chosen {
         requires cycles { AreCycles machine.now cycles.now.cycles }
         requires chosen { AreChosen machine.now (option_copied idle) width reg self.old.lists.items self.old.wide }
         ensures chosen { OnOk result (AreChosen machine.now (option_copied idle.entry) width (reg + 1) self.new.lists.items self.new.wide) }
-        ensures refused { IfErr result (λ fault. (fault ≡ NoMemory) ⊎ ((fault ≡ LimitFault ClaimNodes) × ((is_none (enable_of machine.now reg) ≡ true) × (passes_at machine.now (option_copied idle.entry) width reg ≡ true)))) }
+        ensures refused { IfErr result
+            (λ fault. (fault ≡ NoMemory) ⊎ ((fault ≡ LimitFault ClaimNodes)
+            × ((is_none (enable_of machine.now reg) ≡ true) × (passes_at machine.now (option_copied idle.entry) width reg ≡ true)))) }
     {
         let _netlist = machine.netlist();
         if machine.enable(reg).is_some() {
@@ -152,8 +158,9 @@ impl Chosen {
 
     /// Puts a register to the literal that it took.
     fn put(&mut self, literal: NetLit, reg: RegId) -> Result<(), AddFault>
-        requires { place_of literal < length self.old.lists.items }
-        ensures lists { OnOk result (self.new.lists.items ≡ slice_set self.old.lists.items (place_of literal) (slice_index_or self.old.lists.items (place_of literal) [] ++ reg ∷ [])) }
+        requires { literal_place literal < length self.old.lists.items }
+        ensures lists { OnOk result (self.new.lists.items ≡ slice_set self.old.lists.items (literal_place literal)
+            (slice_index_or self.old.lists.items (literal_place literal) [] ++ reg ∷ [])) }
         ensures wide { OnOk result (self.new.wide ≡ self.old.wide) }
         ensures failed { IfErr result (λ fault. fault ≡ NoMemory) }
     {
@@ -166,7 +173,7 @@ impl Chosen {
 
 /// The place of a literal: net by net, plain before inverted.
 pub(crate) fn place_of(literal: NetLit) -> usize
-    ensures { result ≡ place_of literal }
+    ensures { result ≡ literal_place literal }
 {
     let place = 2 * literal.net.number() as usize;
     if literal.inverted { place + 1 } else { place }

@@ -4,7 +4,7 @@
 //! in some cycle can be 0. What no cycle shows is left to the claims.
 
 ghost use Rattle.std.specs.Prelude.{◌≡◌, ◌<◌, ◌∷◌, [], true, false, not, IfOk, length};
-ghost use Rattle.cg_cell.specs.Gates.{differ};
+ghost use Rattle.cg_cell.specs.Gates.{exclusive_or};
 ghost use Rattle.cg_claim.specs.LeafBits.{is_never};
 ghost use Rattle.cg_claim.specs.Question.{hold_question, idle_question};
 ghost use Rattle.cg_hold.specs.inner.Cycles.{AreCycles, IsCycle};
@@ -133,7 +133,7 @@ impl Cycle {
     fn takes_other(&self, machine: &Machine, reg: RegId) -> bool
         requires cycle { IsCycle machine.now self.now }
         requires register { reg < length machine.now.circuit.registers }
-        ensures { result ≡ differ (next machine.now self.now.nets self.now.state reg) (bit self.now.state reg) }
+        ensures { result ≡ exclusive_or (next machine.now self.now.nets self.now.state reg) (bit self.now.state reg) }
     {
         let _netlist = machine.netlist();
         let state = self.state.as_slice();

@@ -176,7 +176,8 @@ impl Trier {
     /// Whether the goal of the claim that was built last is never 1.
     fn is_never(&mut self) -> Result<bool, AllocError>
         requires { IsTrue (aig_ops.is_valid self.old.unroller.aig self.old.unroller.goal) }
-        ensures { IfOk result (λ never. (m : MachineData) (q : Question) (width : ℕ) → IsMachine m → SidesFit m q.sides → IsClaim m q width self.old.unroller → never ≡ is_never m q) }
+        ensures { IfOk result (λ never. (m : MachineData) (q : Question) (width : ℕ) → IsMachine m → SidesFit m q.sides → IsClaim m q width self.old.unroller
+            → never ≡ is_never m q) }
     {
         claim_laws();
         match self

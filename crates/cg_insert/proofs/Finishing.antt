@@ -14,7 +14,7 @@ use Rattle.cg_netlist.specs.Circuit.{Circuit}
 use Rattle.cg_netlist.specs.Netlist.{IsNetlist}
 use Rattle.cg_netlist.specs.declared.fault.NetFault.{NetFault}
 use Rattle.cg_netlist.specs.declared.fault.NetFault.TheVariants.{NoMemory}
-use Rattle.cg_netlist.specs.said.Building.{Building, Finishes, fresh}
+use Rattle.cg_builder.specs.Building.{Building, Finishes, fresh}
 use Rattle.cg_netlist.specs.said.Part.{Part}
 use Rattle.cg_netlist.specs.said.Said.{said}
 use Rattle.cg_insert.proofs.Inserted.{insertion_is_right}

@@ -27,7 +27,7 @@ use Rattle.cg_netlist.specs.Names.{is_known}
 use Rattle.cg_netlist.specs.Netlist.{IsNetlist}
 use Rattle.cg_netlist.specs.Ordered.{ordered, place_in}
 use Rattle.cg_netlist.specs.WellFormed.{IsInNetOrder, IsWellFormed}
-use Rattle.cg_netlist.specs.said.Building.{Building, fresh}
+use Rattle.cg_builder.specs.Building.{Building, fresh}
 use Rattle.cg_netlist.specs.said.Part.{Clock, Gate, Input, Logic, Output, Part}
 use Rattle.cg_netlist.specs.said.Said.{nothing_said, said}
 use Rattle.cg_netlist.specs.said.Says.{AreTaken, Says, parts_from, register_part}

@@ -10,7 +10,7 @@ use Rattle.cg_cell.specs.Cell.{CellData}
 use Rattle.cg_cell.specs.Pins.{PinData}
 use Rattle.cg_cell.specs.declared.cell.Role.{Role}
 use Rattle.cg_cell.specs.declared.cell.Role.TheVariants.{State, StateBar}
-use Rattle.cg_netlist.specs.Calls.{is_bar, kind_of, register_of, shows_inverse}
+use Rattle.cg_builder.specs.Calls.{is_bar, kind_of, register_of, shows_inverse}
 use Rattle.cg_netlist.specs.Circuit.{RegisterCell}
 use Rattle.cg_netlist.specs.Moment.{zip_with}
 use Rattle.cg_netlist.specs.WellFormed.{FitsKind, RegisterFits, ShowsAsPin}

@@ -4,7 +4,7 @@ use Rattle.std.specs.Option.{option_to_list}
 use Rattle.cg_cell.specs.Cell.{CellData}
 use Rattle.cg_machine.specs.Machine.{MachineData}
 use Rattle.cg_netlist.specs.declared.fault.AddFault.{AddFault}
-use Rattle.cg_netlist.specs.said.Building.{Building}
+use Rattle.cg_builder.specs.Building.{Building}
 use Rattle.cg_netlist.specs.said.Part.{Part}
 use Rattle.cg_netlist.specs.said.Wiring.{NetName}
 use Rattle.cg_insert.proofs.ToldParts.{call_may, call_told, may_front}

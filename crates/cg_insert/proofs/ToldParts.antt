@@ -11,12 +11,12 @@ use Rattle.cg_netlist.proofs.said.Each.{each_back, each_front}
 use Rattle.cg_netlist.specs.Names.{is_known, with_name}
 use Rattle.cg_netlist.specs.declared.fault.AddFault.{AddFault}
 use Rattle.cg_netlist.specs.declared.fault.AddFault.TheVariants.{Limit as Passes, NoMemory}
-use Rattle.cg_netlist.specs.said.Building.{Building, IsAnswer, Takes}
+use Rattle.cg_builder.specs.Building.{Building, IsAnswer, Takes}
 use Rattle.cg_netlist.specs.said.Part.{Clock, Gate, Input, Logic, Output, Part, Register, mentioned}
 use Rattle.cg_netlist.specs.said.Said.{Said, limit_of, with_kind, with_names, with_part}
 use Rattle.cg_netlist.specs.said.Says.{IsPart}
 use Rattle.cg_netlist.specs.said.Wiring.{NetName}
-use Rattle.cg_insert.specs.inner.Telling.{MayTell, Tells, told, with_parts}
+use Rattle.cg_insert.specs.inner.Telling.{MayTell, WasTold, told, with_parts}
 
 pub with_parts_more : (s : Said) (xs ys : List Part) → with_parts s (xs ++ ys) ≡ with_parts (with_parts s xs) ys
 with_parts_more s [] ys = refl
@@ -96,10 +96,10 @@ pub may_next : (b : Building) (xs ys : List Part) → MayTell b (xs ++ ys) → M
 may_next b xs ys may = record { open_yet = may.open_yet; each = each_back IsPart xs ys may.each; within = ap limit_of (sym (with_parts_more b.said xs ys)) ∙ may.within }
 
 -- a call that says a part
-pub tells_one : (b new : Building) (p : Part) (result : Result (Unit {0}) AddFault) → MayTell b (p ∷ []) → Takes b p new result → Tells b (p ∷ []) new result
+pub tells_one : (b new : Building) (p : Part) (result : Result (Unit {0}) AddFault) → MayTell b (p ∷ []) → Takes b p new result → WasTold b (p ∷ []) new result
 tells_one b new p result may takes = go result takes.takes (subst (λ o. IsAnswer o None result) may.open_yet (subst (λ l. IsAnswer b.refused l result) may.within takes.answers))
   where
-    go : (r : Result (Unit {0}) AddFault) → MatchResult r (λ _. new ≡ record b { said = with_part b.said p }) (λ _. Unit {0}) → (r ≡ Ok tt) ⊎ (r ≡ Err NoMemory) → Tells b (p ∷ []) new r
+    go : (r : Result (Unit {0}) AddFault) → MatchResult r (λ _. new ≡ record b { said = with_part b.said p }) (λ _. Unit {0}) → (r ≡ Ok tt) ⊎ (r ≡ Err NoMemory) → WasTold b (p ∷ []) new r
     go (Ok done) is answer = is
     go (Err fault) is answer = elim answer [ inl ok ↦ absurd (cc) | inr err ↦ (cc) ]
 
@@ -130,6 +130,6 @@ call_may b now done p called may is same = subst (MayTell now) (sym same) (subst
 pub call_told : (b now new : Building) (done p called : List Part) → now ≡ told b done → called ≡ p → new ≡ told now called → new ≡ told b (done ++ p)
 call_told b now new done p called is same more = more ∙ (ap (told now) same ∙ (ap (λ c. told c p) is ∙ sym (told_more b done p)))
 
-pub call_tells : (b now new : Building) (done p called : List Part) → now ≡ told b done → called ≡ p → (result : Result (Unit {0}) AddFault) → Tells now called new result → Tells b (done ++ p) new result
+pub call_tells : (b now new : Building) (done p called : List Part) → now ≡ told b done → called ≡ p → (result : Result (Unit {0}) AddFault) → WasTold now called new result → WasTold b (done ++ p) new result
 call_tells b now new done p called is same (Ok unit) tells = call_told b now new done p called is same tells
 call_tells b now new done p called is same (Err fault) tells = tells

@@ -6,22 +6,23 @@ ghost use Rattle.std.specs.Option.{option_copied, option_map, option_to_list};
 ghost use Rattle.cg_cell.specs.Cell.{CellData};
 ghost use Rattle.cg_cell.specs.Fit.{is_fit};
 ghost use Rattle.cg_insert.specs.Insert.{enables_of, first_gate, gating_kind, test_net};
-ghost use Rattle.cg_insert.specs.inner.GatedParts.{clocked_part, clocked_parts, gated_gaters, gated_registers, gater_part, gater_parts, placed_outputs, with_clock};
-ghost use Rattle.cg_insert.specs.inner.Telling.{MayTell, Tells};
+ghost use Rattle.cg_insert.specs.inner.GatedParts.{clocked_part, clocked_parts, gated_gaters, gated_registers};
+ghost use Rattle.cg_insert.specs.inner.GatedParts.{gater_part, gater_parts, placed_outputs, with_clock};
+ghost use Rattle.cg_insert.specs.inner.Telling.{MayTell, WasTold};
 ghost use Rattle.cg_machine.specs.Machine.{enable_of};
-ghost use Rattle.cg_netlist.specs.Calls.{kind_of};
+ghost use Rattle.cg_builder.specs.Calls.{kind_of};
 ghost use Rattle.cg_netlist.specs.Ordered.{place_in};
 ghost use Rattle.cg_netlist.specs.View.{kind_seen, register_seen};
 
 use crate::enables::Enables;
 use crate::logic::fitting;
 use crate::names::GatedNames;
+use cg_builder::builder::Builder;
 use cg_cell::cell::CellType;
 use cg_cell::fit::FitKind;
 use cg_cell::library::Library;
 use cg_cell::name::Name;
 use cg_machine::machine::Machine;
-use cg_netlist::builder::Builder;
 use cg_netlist::fault::AddFault;
 use cg_netlist::id::{NetId, RegId};
 use cg_netlist::view::{RegKind, RegView};
@@ -72,7 +73,7 @@ pub(crate) fn tell_gaters(
     requires enables { enables.now ≡ enables_of machine.now }
     requires fits { enables_of machine.now ≢ [] → (cell : CellData) × (find (is_fit (gating_kind (option_copied test))) library.now ≡ Some cell) }
     requires parts { MayTell builder.old (gater_parts names.now (gated_gaters library.now (option_copied test) machine.now)) }
-    ensures { Tells builder.old (gater_parts names.now (gated_gaters library.now (option_copied test.entry) machine.now)) builder.new result }
+    ensures { WasTold builder.old (gater_parts names.now (gated_gaters library.now (option_copied test.entry) machine.now)) builder.new result }
 {
     let clock = clock_or_first(machine);
     let test_pin = test_net(machine, test);
@@ -115,7 +116,8 @@ fn tell_gater(
     output: NetId,
 ) -> Result<(), AddFault>
     requires { MayTell builder.old (gater_part names.now (record { clock = clock; enable = enable; test = test.now; output = output; cell = cell.now }) ∷ []) }
-    ensures { Tells builder.old (gater_part names.now (record { clock = clock; enable = enable; test = test.now; output = output; cell = cell.now }) ∷ []) builder.new result }
+    ensures { WasTold builder.old
+        (gater_part names.now (record { clock = clock; enable = enable; test = test.now; output = output; cell = cell.now }) ∷ []) builder.new result }
 {
     let test = match test {
         Some(net) => Some(names.name(*net)),
@@ -141,7 +143,7 @@ pub(crate) fn tell_registers(
 ) -> Result<(), AddFault>
     requires enables { enables.now ≡ enables_of machine.now }
     requires parts { MayTell builder.old (clocked_parts names.now (gated_registers (option_copied test) machine.now)) }
-    ensures { Tells builder.old (clocked_parts names.now (gated_registers (option_copied test.entry) machine.now)) builder.new result }
+    ensures { WasTold builder.old (clocked_parts names.now (gated_registers (option_copied test.entry) machine.now)) builder.new result }
 {
     let _netlist = machine.netlist();
     let first = first_gate(machine, test);
@@ -176,7 +178,8 @@ fn tell_at(
 ) -> Result<(), AddFault>
     requires register { reg < length machine.now.circuit.registers }
     requires parts { MayTell builder.old (clocked_parts names.now (with_clock gate (option_to_list (slice_get machine.now.circuit.registers reg)))) }
-    ensures { Tells builder.old (clocked_parts names.now (with_clock gate (option_to_list (slice_get machine.now.circuit.registers reg)))) builder.new result }
+    ensures { WasTold builder.old
+        (clocked_parts names.now (with_clock gate (option_to_list (slice_get machine.now.circuit.registers reg)))) builder.new result }
 {
     if !machine.is_delay(reg) {
         let register = machine.netlist().register(reg);
@@ -205,7 +208,7 @@ pub fn tell_register(
     clock: NetId,
 ) -> Result<(), AddFault>
     requires { MayTell builder.old (clocked_part names.now (record (register_seen register) { clock = clock }) ∷ []) }
-    ensures { Tells builder.old (clocked_part names.now (record (register_seen register.entry) { clock = clock }) ∷ []) builder.new result }
+    ensures { WasTold builder.old (clocked_part names.now (record (register_seen register.entry) { clock = clock }) ∷ []) builder.new result }
 {
     let Ok(inputs) = names.each(alloc, register.inputs) else {
         return Err(AddFault::NoMemory);

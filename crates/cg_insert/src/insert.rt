@@ -9,17 +9,17 @@ ghost use Rattle.cg_insert.specs.Inserting.{IsWhole, RunsAs, StaysWritable, inse
 ghost use Rattle.cg_insert.specs.inner.GatedParts.{gated_names, gated_parts};
 ghost use Rattle.cg_insert.specs.inner.Telling.{told};
 ghost use Rattle.cg_netlist.specs.declared.fault.AddFault.TheVariants.{Limit as LimitFault, NoMemory};
-ghost use Rattle.cg_netlist.specs.said.Building.{fresh};
+ghost use Rattle.cg_builder.specs.Building.{fresh};
 
 use crate::clocked::first_gate;
 use crate::enables::Enables;
 use crate::names::GatedNames;
 use crate::telling::tell;
+use cg_builder::builder::Builder;
 use cg_cell::library::Library;
 use cg_cell::name::Name;
 use cg_limit::{Limit, MOST_NETS};
 use cg_machine::machine::Machine;
-use cg_netlist::builder::Builder;
 use cg_netlist::fault::{AddFault, NetFault};
 use cg_netlist::netlist::Netlist;
 use std::alloc::Global;
@@ -71,7 +71,8 @@ fn told_builder(
     requires enables { enables.now ≡ enables_of machine.now }
     requires small { insertion_limit (option_copied test) machine.now ≡ None }
     ensures { MatchResult result
-        (λ builder. builder ≡ told (fresh machine.now.circuit.model) (gated_parts (gated_names (option_copied test.entry) machine.now) library.now (option_copied test.entry) machine.now))
+        (λ builder. builder ≡ told (fresh machine.now.circuit.model)
+        (gated_parts (gated_names (option_copied test.entry) machine.now) library.now (option_copied test.entry) machine.now))
         (λ fault. fault ≡ NoMemory) }
 {
     let Ok(names) = GatedNames::of(alloc, machine, test, enables.len()) else {

@@ -7,17 +7,17 @@ ghost use Rattle.cg_cell.specs.Fit.{is_fit};
 ghost use Rattle.cg_cell.specs.Cell.{CellData};
 ghost use Rattle.cg_insert.specs.Insert.{fitting, placed_gate};
 ghost use Rattle.cg_insert.specs.inner.GatedParts.{cell_part, cell_parts};
-ghost use Rattle.cg_insert.specs.inner.Telling.{MayTell, Tells};
+ghost use Rattle.cg_insert.specs.inner.Telling.{MayTell, WasTold};
 ghost use Rattle.cg_machine.specs.View.{gate_seen};
 
 use crate::copy::copy_cover;
 use crate::names::GatedNames;
+use cg_builder::builder::Builder;
 use cg_cell::cell::CellType;
 use cg_cell::fit::FitKind;
 use cg_cell::library::Library;
 use cg_machine::machine::Machine;
 use cg_machine::view::GateView;
-use cg_netlist::builder::Builder;
 use cg_netlist::fault::AddFault;
 use cg_netlist::id::CellId;
 use cg_netlist::netlist::Netlist;
@@ -32,7 +32,7 @@ pub fn tell_cells(
     netlist: &Netlist,
 ) -> Result<(), AddFault>
     requires { MayTell builder.old (cell_parts names.now netlist.now.cells) }
-    ensures { Tells builder.old (cell_parts names.now netlist.now.cells) builder.new result }
+    ensures { WasTold builder.old (cell_parts names.now netlist.now.cells) builder.new result }
 {
     for number in 0..netlist.cells() {
         tell_cell(alloc, builder, names, netlist, CellId::new(number))?;
@@ -50,7 +50,7 @@ fn tell_cell(
 ) -> Result<(), AddFault>
     requires there { id < length netlist.now.cells }
     requires part { MayTell builder.old (cell_parts names.now (option_to_list (slice_get netlist.now.cells id))) }
-    ensures { Tells builder.old (cell_parts names.now (option_to_list (slice_get netlist.now.cells id))) builder.new result }
+    ensures { WasTold builder.old (cell_parts names.now (option_to_list (slice_get netlist.now.cells id))) builder.new result }
 {
     let cell = netlist.cell(id);
     let Ok(inputs) = names.each(alloc, cell.inputs) else {
@@ -76,7 +76,7 @@ pub(crate) fn tell_gates(
 ) -> Result<(), AddFault>
     requires fits { All (λ gate. (cell : CellData) × (find (is_fit gate.kind) library.now ≡ Some cell)) machine.now.gates }
     requires parts { MayTell builder.old (cell_parts names.now (map (placed_gate library.now) machine.now.gates)) }
-    ensures { Tells builder.old (cell_parts names.now (map (placed_gate library.now) machine.now.gates)) builder.new result }
+    ensures { WasTold builder.old (cell_parts names.now (map (placed_gate library.now) machine.now.gates)) builder.new result }
 {
     for number in 0..machine.gates() {
         tell_gate(alloc, builder, names, machine.gate(number), library)?;
@@ -94,7 +94,7 @@ fn tell_gate(
 ) -> Result<(), AddFault>
     requires fits { (cell : CellData) × (find (is_fit gate.kind) library.now ≡ Some cell) }
     requires parts { MayTell builder.old (cell_part names.now (placed_gate library.now (gate_seen gate)) ∷ []) }
-    ensures { Tells builder.old (cell_part names.now (placed_gate library.now (gate_seen gate.entry)) ∷ []) builder.new result }
+    ensures { WasTold builder.old (cell_part names.now (placed_gate library.now (gate_seen gate.entry)) ∷ []) builder.new result }
 {
     let Ok(inputs) = names.each(alloc, gate.inputs) else {
         return Err(AddFault::NoMemory);

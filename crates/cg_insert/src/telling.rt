@@ -4,16 +4,16 @@ ghost use Rattle.std.specs.Prelude.{◌≡◌, ◌∷◌, []};
 ghost use Rattle.std.specs.Option.{option_copied, option_to_list};
 ghost use Rattle.cg_insert.specs.Insert.{CanInsert, enables_of};
 ghost use Rattle.cg_insert.specs.inner.GatedParts.{clock_parts, gated_parts, input_parts, output_parts};
-ghost use Rattle.cg_insert.specs.inner.Telling.{MayTell, Tells};
+ghost use Rattle.cg_insert.specs.inner.Telling.{MayTell, WasTold};
 
 use crate::clocked::{tell_gaters, tell_registers, test_net};
 use crate::enables::Enables;
 use crate::logic::{tell_cells, tell_gates};
 use crate::names::GatedNames;
+use cg_builder::builder::Builder;
 use cg_cell::library::Library;
 use cg_cell::name::Name;
 use cg_machine::machine::Machine;
-use cg_netlist::builder::Builder;
 use cg_netlist::fault::AddFault;
 use cg_netlist::id::NetId;
 use std::alloc::Global;
@@ -32,7 +32,7 @@ pub(crate) fn tell(
     requires can { CanInsert library.now (option_copied test) machine.now }
     requires enables { enables.now ≡ enables_of machine.now }
     requires parts { MayTell builder.old (gated_parts names.now library.now (option_copied test) machine.now) }
-    ensures { Tells builder.old (gated_parts names.now library.now (option_copied test.entry) machine.now) builder.new result }
+    ensures { WasTold builder.old (gated_parts names.now library.now (option_copied test.entry) machine.now) builder.new result }
 {
     let netlist = machine.netlist();
     tell_inputs(builder, names, netlist.inputs())?;
@@ -52,7 +52,7 @@ pub fn tell_inputs(
     nets: &[NetId],
 ) -> Result<(), AddFault>
     requires { MayTell builder.old (input_parts names.now nets.now) }
-    ensures { Tells builder.old (input_parts names.now nets.now) builder.new result }
+    ensures { WasTold builder.old (input_parts names.now nets.now) builder.new result }
 {
     for net in nets {
         tell_input(builder, names, *net)?;
@@ -63,7 +63,7 @@ pub fn tell_inputs(
 /// Tells an input.
 fn tell_input(builder: &mut Builder, names: &GatedNames<'_>, net: NetId) -> Result<(), AddFault>
     requires { MayTell builder.old (input_parts names.now (net ∷ [])) }
-    ensures { Tells builder.old (input_parts names.now (net ∷ [])) builder.new result }
+    ensures { WasTold builder.old (input_parts names.now (net ∷ [])) builder.new result }
 {
     builder.input(names.name(net))
 }
@@ -75,7 +75,7 @@ fn tell_test(
     test: Option<NetId>,
 ) -> Result<(), AddFault>
     requires { MayTell builder.old (input_parts names.now (option_to_list test)) }
-    ensures { Tells builder.old (input_parts names.now (option_to_list test)) builder.new result }
+    ensures { WasTold builder.old (input_parts names.now (option_to_list test)) builder.new result }
 {
     match test {
         Some(net) => tell_input(builder, names, net),
@@ -90,7 +90,7 @@ pub fn tell_outputs(
     nets: &[NetId],
 ) -> Result<(), AddFault>
     requires { MayTell builder.old (output_parts names.now nets.now) }
-    ensures { Tells builder.old (output_parts names.now nets.now) builder.new result }
+    ensures { WasTold builder.old (output_parts names.now nets.now) builder.new result }
 {
     for net in nets {
         tell_output(builder, names, *net)?;
@@ -101,7 +101,7 @@ pub fn tell_outputs(
 /// Tells an output.
 fn tell_output(builder: &mut Builder, names: &GatedNames<'_>, net: NetId) -> Result<(), AddFault>
     requires { MayTell builder.old (output_parts names.now (net ∷ [])) }
-    ensures { Tells builder.old (output_parts names.now (net ∷ [])) builder.new result }
+    ensures { WasTold builder.old (output_parts names.now (net ∷ [])) builder.new result }
 {
     builder.output(names.name(net))
 }
@@ -113,7 +113,7 @@ pub fn tell_clock(
     clock: Option<NetId>,
 ) -> Result<(), AddFault>
     requires { MayTell builder.old (clock_parts names.now clock) }
-    ensures { Tells builder.old (clock_parts names.now clock) builder.new result }
+    ensures { WasTold builder.old (clock_parts names.now clock) builder.new result }
 {
     match clock {
         Some(net) => builder.clock(names.name(net)),

@@ -2,12 +2,12 @@
 use Rattle.std.proofs.Common.{◌≡◌, List, [], ◌∷◌, Result, Ok, Err, sym, ap, ◌∙◌, subst}
 use Rattle.cg_cell.specs.Cell.{CellData}
 use Rattle.cg_cell.specs.declared.library.Library.{Library}
-use Rattle.cg_liberty.specs.Library.{Adds, Remains, Stands, added, all_added, then_add}
+use Rattle.cg_liberty.specs.Library.{Adds, LibraryOrNoMemory, Remains, added, all_added, then_add}
 use Rattle.cg_liberty.specs.declared.fault.LibertyFault.{LibertyFault}
 use Rattle.cg_liberty.specs.declared.fault.LibertyFault.TheVariants as faults
 use Rattle.cg_liberty.specs.declared.group.CellGroup.{CellGroup}
 
-from_added : (after : Result Library LibertyFault) (step whole : Result (List CellData) LibertyFault) (groups : List CellGroup) → Stands after step → whole ≡ then_add step (λ next. all_added next groups) → Remains after groups whole
+from_added : (after : Result Library LibertyFault) (step whole : Result (List CellData) LibertyFault) (groups : List CellGroup) → LibraryOrNoMemory after step → whole ≡ then_add step (λ next. all_added next groups) → Remains after groups whole
 from_added (Ok library) step whole groups stands is = is ∙ ap (λ (r : Result (List CellData) LibertyFault). then_add r (λ next. all_added next groups)) stands
 from_added (Err (faults.BadToken at)) step whole groups stands is = is ∙ ap (λ (r : Result (List CellData) LibertyFault). then_add r (λ next. all_added next groups)) stands
 from_added (Err (faults.BadGroup at)) step whole groups stands is = is ∙ ap (λ (r : Result (List CellData) LibertyFault). then_add r (λ next. all_added next groups)) stands
@@ -30,7 +30,7 @@ remains_more (Ok library) after group groups whole adds h = from_added after (ad
 remains_more (Err fault) after group groups whole adds h = subst (λ (r : Result Library LibertyFault). Remains r groups whole) (sym adds) (refused fault group groups whole h)
 
 -- none is left
-pub remains_none : (after : Result Library LibertyFault) (whole : Result (List CellData) LibertyFault) → Remains after [] whole → Stands after whole
+pub remains_none : (after : Result Library LibertyFault) (whole : Result (List CellData) LibertyFault) → Remains after [] whole → LibraryOrNoMemory after whole
 remains_none (Ok library) whole h = h
 remains_none (Err (faults.BadToken at)) whole h = h
 remains_none (Err (faults.BadGroup at)) whole h = h

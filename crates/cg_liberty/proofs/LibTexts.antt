@@ -3,7 +3,7 @@ use Rattle.std.proofs.Common.{◌≡◌, ℕ, List, [], length, Option, None, So
 use Rattle.cg_cell.specs.Cell.{CellData}
 use Rattle.cg_cell.specs.declared.library.Library.{Library}
 use Rattle.cg_liberty.specs.LibText.{LibText}
-use Rattle.cg_liberty.specs.Library.{Stands, all_added, by_fault, cell_groups, library_of}
+use Rattle.cg_liberty.specs.Library.{LibraryOrNoMemory, all_added, by_fault, cell_groups, library_of}
 use Rattle.cg_liberty_text.specs.Statement.{Read, statements}
 use Rattle.cg_liberty_text.specs.Statement.Phase.{Start}
 use Rattle.cg_liberty_text.specs.Token.{tokens}
@@ -37,11 +37,11 @@ library_of_text text cells t =
     read ∙ adds (cell_groups t.read) [] cells t.described (record { few = t.few; distinct = t.distinct })
 
 -- an answer that stands for what is read, by the texts of libraries
-pub answer_found : (text : List ℕ) (answer : Result Library LibertyFault) → Stands answer (library_of text) → IfOk answer (λ library. LibText text library)
+pub answer_found : (text : List ℕ) (answer : Result Library LibertyFault) → LibraryOrNoMemory answer (library_of text) → IfOk answer (λ library. LibText text library)
 answer_found text (Ok library) stands = text_of_library text library stands
 answer_found text (Err fault) stands = tt
 
-pub answer_only : (text : List ℕ) (answer : Result Library LibertyFault) (cells : List CellData) → Stands answer (library_of text) → LibText text cells → MatchResult answer (λ library. library ≡ cells) (λ fault. fault ≡ faults.NoMemory)
+pub answer_only : (text : List ℕ) (answer : Result Library LibertyFault) (cells : List CellData) → LibraryOrNoMemory answer (library_of text) → LibText text cells → MatchResult answer (λ library. library ≡ cells) (λ fault. fault ≡ faults.NoMemory)
 answer_only text (Ok library) cells stands t = let is = library_of_text text cells t in cc
 answer_only text (Err (faults.BadToken at)) cells stands t = let is = library_of_text text cells t in cc
 answer_only text (Err (faults.BadGroup at)) cells stands t = let is = library_of_text text cells t in cc

@@ -5,7 +5,7 @@ use Rattle.std.proofs.lemmas.Slice.Eq.{bytes_eq-Decides}
 use Rattle.cg_limit.specs.declared.TheConstants.{MOST_NESTING}
 use Rattle.cg_liberty_text.specs.Argument.{argument_texts, behind_arguments, unexpected}
 use Rattle.cg_liberty_text.specs.Grammar.{IsHead, Piece, Spells, SpellsAll, SpellsLibrary, statements_of, tokens_of}
-use Rattle.cg_liberty_text.specs.Statement.{Read, faulty, put, statements}
+use Rattle.cg_liberty_text.specs.Statement.{Read, faulty, put_statement, statements}
 use Rattle.cg_liberty_text.specs.Statement.Phase.{Done, Listed, Named, Start}
 use Rattle.cg_liberty_text.specs.declared.fault.TextFault.{TextFault}
 use Rattle.cg_liberty_text.specs.declared.fault.TextFault.TheVariants.{BadGroup}
@@ -32,7 +32,7 @@ library_read end tokens read library =
     let row : statements end 1 Start (tokens_of group.pieces ++ group.last ∷ []) ≡ onto (statements_of group.pieces) (statements end 1 Start (group.last ∷ [])) = row_read end 1 (Spells 63) (λ piece rest spelled. spelled_read end 63 1 refl deep piece rest spelled) group.pieces (group.last ∷ []) group.inside in
     ap (statements end 0 Start) (sym (append-nil tokens))
     ∙ group_opened end 0 MOST_NESTING (SpellsAll 63) piece [] group (λ after. library_named end group.word after group.head.named library.named) refl refl row
-    ∙ ap (λ (r : Read). put (Open group.word.text group.texts) (onto (statements_of group.pieces) r)) (brace_closed end 1 group.last [] deep group.closes)
+    ∙ ap (λ (r : Read). put_statement (Open group.word.text group.texts) (onto (statements_of group.pieces) r)) (brace_closed end 1 group.last [] deep group.closes)
     ∙ whole group.word.text group.texts (statements_of group.pieces) (as_read [])
     ∙ ap as_read (append-nil (Open group.word.text group.texts ∷ statements_of group.pieces ++ Close ∷ []) ∙ sym group.stands)
 

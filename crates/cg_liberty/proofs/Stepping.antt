@@ -3,7 +3,7 @@ use Rattle.std.proofs.Common.{◌≡◌, ◌+◌, ◌-◌, ◌==◌, ℕ, nat_lt
 use Rattle.std.specs.Str.{bytes_eq}
 use Rattle.cg_limit.specs.declared.TheConstants.{MOST_NESTING}
 use Rattle.cg_liberty_text.specs.Argument.{argument_texts, ends_value, is_close_brace, is_close_paren, is_colon, is_in_value, is_open_brace, is_open_paren, is_semicolon, is_text, is_word, may_follow, unexpected, value_text}
-use Rattle.cg_liberty_text.specs.Statement.{Phase, begun, ended, faulty, put, statements}
+use Rattle.cg_liberty_text.specs.Statement.{Phase, begun, ended, faulty, put_statement, statements}
 use Rattle.cg_liberty_text.specs.Statement.Phase.{Done, Listed, Listing, Named, Start, Valued}
 use Rattle.cg_liberty_text.specs.declared.fault.TextFault.{TextFault}
 use Rattle.cg_liberty_text.specs.declared.fault.TextFault.TheVariants.{BadGroup, Nesting}
@@ -60,7 +60,7 @@ behind end after (Some s) fault = (statements end s.depth (ahead s.phase after) 
 behind end after None fault = Some fault
 
 three : (end depth : ℕ) (token : Token) (after : List Token) (names passes closes last : Bool) →
-    (cond names (statements end depth (Named token) after) (cond passes (statements end depth Start after) (cond closes (put Close (statements end (depth - 1) (cond last Done Start) after)) (faulty (unexpected token))))).1
+    (cond names (statements end depth (Named token) after) (cond passes (statements end depth Start after) (cond closes (put_statement Close (statements end (depth - 1) (cond last Done Start) after)) (faulty (unexpected token))))).1
     ≡ behind end after (cond names (Some (at depth (Named token))) (cond passes (Some (at depth Start)) (cond closes (Some (at (depth - 1) (cond last Done Start))) None))) (unexpected token)
 three end depth token after true passes closes last = refl
 three end depth token after false true closes last = refl
@@ -72,7 +72,7 @@ begun_fault : (end depth : ℕ) (token : Token) (after : List Token) → (begun 
 begun_fault end depth token after = three end depth token after (is_word token.kind && (nat_lt 0 depth || bytes_eq token.text (codes "library"))) (is_semicolon token.kind && nat_lt 0 depth) (is_close_brace token.kind && nat_lt 0 depth) (depth == 1)
 
 named_fault : (end depth : ℕ) (word token : Token) (after : List Token) (opening colon : Bool) →
-    (cond opening (statements end depth (Listing word (argument_texts after) kinds.OpenParen) after) (cond colon (put (Attribute word.text (value_text after)) (statements end depth Valued after)) (faulty (unexpected token)))).1
+    (cond opening (statements end depth (Listing word (argument_texts after) kinds.OpenParen) after) (cond colon (put_statement (Attribute word.text (value_text after)) (statements end depth Valued after)) (faulty (unexpected token)))).1
     ≡ behind end after (cond opening (Some (at depth (Listing word [] kinds.OpenParen))) (cond colon (Some (at depth Valued)) None)) (unexpected token)
 named_fault end depth word token after true colon = refl
 named_fault end depth word token after false true = refl
@@ -88,7 +88,7 @@ listing_fault end depth word token texts after true false false = ap (λ (ts : L
 listing_fault end depth word token texts after false closes text = refl
 
 listed_fault : (end depth : ℕ) (word token : Token) (texts : List (List ℕ)) (after : List Token) (brace deep misplaced inside : Bool) →
-    (cond brace (cond deep (faulty Nesting) (cond misplaced (faulty (BadGroup word.at)) (put (Open word.text texts) (statements end (depth + 1) Start after)))) (cond inside (put (Attribute word.text None) (begun depth token (λ inside next. statements end inside next after))) (faulty (unexpected token)))).1
+    (cond brace (cond deep (faulty Nesting) (cond misplaced (faulty (BadGroup word.at)) (put_statement (Open word.text texts) (statements end (depth + 1) Start after)))) (cond inside (put_statement (Attribute word.text None) (begun depth token (λ inside next. statements end inside next after))) (faulty (unexpected token)))).1
     ≡ behind end after (cond brace (cond deep None (cond misplaced None (Some (at (depth + 1) Start)))) (cond inside (begins depth token) None)) (cond brace (cond deep Nesting (BadGroup word.at)) (unexpected token))
 listed_fault end depth word token texts after true true misplaced inside = refl
 listed_fault end depth word token texts after true false true inside = refl

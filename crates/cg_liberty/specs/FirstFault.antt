@@ -45,10 +45,10 @@ pub record FailsBy (end : ℕ) (tokens : List Token) (fault : TextFault) : Type 
   pub told : IsTold end front later fault
 
 -- a refusal for a fault of the text is for its first one; one for a cell comes only where the text is one of the grammar
-abbrev pub IsFirstFault : List ℕ → LibertyFault → Type 0
-IsFirstFault text (faults.BadToken at) = FailsBy (length text) (tokens text) (texts.BadToken at)
-IsFirstFault text (faults.BadGroup at) = FailsBy (length text) (tokens text) (texts.BadGroup at)
-IsFirstFault text (faults.BadExpr name at) = (read : List Statement) × SpellsLibrary (tokens text) read
-IsFirstFault text (faults.TwoCells name) = (read : List Statement) × SpellsLibrary (tokens text) read
-IsFirstFault text (faults.Limit which) = FailsBy (length text) (tokens text) texts.Nesting ⊎ ((read : List Statement) × SpellsLibrary (tokens text) read)
-IsFirstFault text faults.NoMemory = Unit {0}
+abbrev pub IsFirstLibertyFault : List ℕ → LibertyFault → Type 0
+IsFirstLibertyFault text (faults.BadToken at) = FailsBy (length text) (tokens text) (texts.BadToken at)
+IsFirstLibertyFault text (faults.BadGroup at) = FailsBy (length text) (tokens text) (texts.BadGroup at)
+IsFirstLibertyFault text (faults.BadExpr name at) = (read : List Statement) × SpellsLibrary (tokens text) read
+IsFirstLibertyFault text (faults.TwoCells name) = (read : List Statement) × SpellsLibrary (tokens text) read
+IsFirstLibertyFault text (faults.Limit which) = FailsBy (length text) (tokens text) texts.Nesting ⊎ ((read : List Statement) × SpellsLibrary (tokens text) read)
+IsFirstLibertyFault text faults.NoMemory = Unit {0}

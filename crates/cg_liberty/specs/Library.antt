@@ -73,14 +73,14 @@ abbrev pub library_of : List ℕ → Result (List CellData) LibertyFault
 library_of text = let read = statements (length text) 0 Start (tokens text) in by_fault read.1 read.0
 
 -- an answer stands for what a definition gives, unless memory was wanting
-abbrev pub Stands : Result Library LibertyFault → Result (List CellData) LibertyFault → Type 0
-Stands (Ok library) read = read ≡ Ok library
-Stands (Err (faults.BadToken at)) read = read ≡ Err (faults.BadToken at)
-Stands (Err (faults.BadGroup at)) read = read ≡ Err (faults.BadGroup at)
-Stands (Err (faults.BadExpr name at)) read = read ≡ Err (faults.BadExpr name at)
-Stands (Err (faults.TwoCells name)) read = read ≡ Err (faults.TwoCells name)
-Stands (Err (faults.Limit which)) read = read ≡ Err (faults.Limit which)
-Stands (Err faults.NoMemory) read = Unit {0}
+abbrev pub LibraryOrNoMemory : Result Library LibertyFault → Result (List CellData) LibertyFault → Type 0
+LibraryOrNoMemory (Ok library) read = read ≡ Ok library
+LibraryOrNoMemory (Err (faults.BadToken at)) read = read ≡ Err (faults.BadToken at)
+LibraryOrNoMemory (Err (faults.BadGroup at)) read = read ≡ Err (faults.BadGroup at)
+LibraryOrNoMemory (Err (faults.BadExpr name at)) read = read ≡ Err (faults.BadExpr name at)
+LibraryOrNoMemory (Err (faults.TwoCells name)) read = read ≡ Err (faults.TwoCells name)
+LibraryOrNoMemory (Err (faults.Limit which)) read = read ≡ Err (faults.Limit which)
+LibraryOrNoMemory (Err faults.NoMemory) read = Unit {0}
 
 -- a refusal stays, and memory may be wanting; else the cells of the groups are still to be added
 abbrev pub Remains : Result Library LibertyFault → List CellGroup → Result (List CellData) LibertyFault → Type 0
@@ -90,5 +90,5 @@ Remains (Err fault) groups whole = whole ≡ Err fault
 
 -- a library that was not refused yet takes the cell of one more group; a refusal stays
 abbrev pub Adds : Result Library LibertyFault → Result Library LibertyFault → CellGroup → Type 0
-Adds (Ok library) after group = Stands after (added library group)
+Adds (Ok library) after group = LibraryOrNoMemory after (added library group)
 Adds (Err fault) after group = after ≡ Err fault

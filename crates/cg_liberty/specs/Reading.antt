@@ -31,8 +31,8 @@ readings names [] = Ok []
 readings names (text ∷ texts) = then_read (reading names text) (λ term. then_read (readings names texts) (λ terms. Ok (term ∷ terms)))
 
 -- an answer, seen by a view, is what a definition gives, unless memory was wanting
-abbrev pub Gives : {A B : Type 0} → (A → B) → Result A CellFault → Result B CellFault → Type 0
-Gives view (Ok x) read = read ≡ Ok (view x)
-Gives view (Err (cells.BadExpr at)) read = read ≡ Err (cells.BadExpr at)
-Gives view (Err cells.Nesting) read = read ≡ Err cells.Nesting
-Gives view (Err cells.NoMemory) read = Unit {0}
+abbrev pub CellOrNoMemory : {A B : Type 0} → (A → B) → Result A CellFault → Result B CellFault → Type 0
+CellOrNoMemory view (Ok x) read = read ≡ Ok (view x)
+CellOrNoMemory view (Err (cells.BadExpr at)) read = read ≡ Err (cells.BadExpr at)
+CellOrNoMemory view (Err cells.Nesting) read = read ≡ Err cells.Nesting
+CellOrNoMemory view (Err cells.NoMemory) read = Unit {0}

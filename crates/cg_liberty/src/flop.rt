@@ -7,9 +7,10 @@ ghost use Rattle.cg_cell.specs.Expr.{is_over, term_of};
 ghost use Rattle.cg_cell.specs.Name.{are_distinct, is_name};
 ghost use Rattle.cg_cell.specs.Pins.{is_state};
 ghost use Rattle.cg_cell.specs.Term.{is_within};
-ghost use Rattle.cg_liberty.specs.Kinds.{all_known, are_flop_pins, flop_cell, flop_of, flop_pins, flop_with_parts, input_names, inverse_by, inverses_read, is_inverse, is_plain_flop, output_role, output_texts, rest_of, restated, state_names};
+ghost use Rattle.cg_liberty.specs.Kinds.{all_known, are_flop_pins, flop_cell, flop_of, flop_pins, flop_with_parts, input_names, inverse_by};
+ghost use Rattle.cg_liberty.specs.Kinds.{inverses_read, is_inverse, is_plain_flop, output_role, output_texts, rest_of, restated, state_names};
 ghost use Rattle.cg_liberty.specs.Port.{ArePorts, is_there, text_of};
-ghost use Rattle.cg_liberty.specs.Reading.{Gives, reading, readings};
+ghost use Rattle.cg_liberty.specs.Reading.{CellOrNoMemory, reading, readings};
 
 use crate::expression::read_stated;
 use crate::fault::CellFault;
@@ -126,7 +127,7 @@ fn read_inverses(
     ports: &[Port<'_>],
     states: &[Name],
 ) -> Result<Seq<Option<bool>>, CellFault>
-    ensures { Gives (λ inverses. inverses) result (inverses_read states.now (output_texts ports.now)) }
+    ensures { CellOrNoMemory (λ inverses. inverses) result (inverses_read states.now (output_texts ports.now)) }
 {
     let mut inverses = Seq::new(alloc);
     'ports: for port in ports {
@@ -287,7 +288,8 @@ fn flop_of_parts(
     requires two { plain ≡ true → names ≡ inputs + 2 }
     requires next { IfSome next (λ e. IsTrue (is_within names (term_of e))) }
     requires clocked { IfSome clocked (λ e. IsTrue (is_within inputs (term_of e))) }
-    ensures { IfOk result (λ cell. cell ≡ flop_of name ports.now plain (option_map term_of next) (option_map term_of clocked) (option_map (λ known. known.items) known)) }
+    ensures { IfOk result
+        (λ cell. cell ≡ flop_of name ports.now plain (option_map term_of next) (option_map term_of clocked) (option_map (λ known. known.items) known)) }
 {
     let Some(next) = next else {
         return Ok(unusable_cell(alloc, name));
@@ -324,7 +326,7 @@ pub fn flop_cell_of(
 ) -> Result<CellType, CellFault>
     requires named { IsTrue (is_name name) }
     requires ports { ArePorts ports.now }
-    ensures { Gives (λ cell. cell) result (flop_cell name ports.now flop.now) }
+    ensures { CellOrNoMemory (λ cell. cell) result (flop_cell name ports.now flop.now) }
 {
     let inputs = input_names_of(alloc, ports)?;
     let mut states = Seq::new(alloc);

@@ -35,7 +35,8 @@ fn read_pin<'a>(
     statements: &mut Statements<'a>,
     names: Arguments<'a>,
 ) -> Result<PinGroup<'a>, TextFault>
-    ensures pin { MatchResult result (λ pin. (pin ≡ pin_from 0 (new_pin names.entry) statements.old.0) × IsLeft statements.old statements.new) (λ fault. statements.old.1 ≡ Some fault) }
+    ensures pin { MatchResult result (λ pin. (pin ≡ pin_from 0 (new_pin names.entry) statements.old.0) × IsLeft statements.old statements.new)
+        (λ fault. statements.old.1 ≡ Some fault) }
     ensures shorter { OnOk result (length statements.new.0 ≤ length statements.old.0) }
 {
     let mut pin = PinGroup::new(names);
@@ -55,7 +56,8 @@ fn read_flop<'a>(
     statements: &mut Statements<'a>,
     names: Arguments<'a>,
 ) -> Result<FlopGroup<'a>, TextFault>
-    ensures flop { MatchResult result (λ flop. (flop ≡ flop_from 0 (new_flop names.entry) statements.old.0) × IsLeft statements.old statements.new) (λ fault. statements.old.1 ≡ Some fault) }
+    ensures flop { MatchResult result (λ flop. (flop ≡ flop_from 0 (new_flop names.entry) statements.old.0) × IsLeft statements.old statements.new)
+        (λ fault. statements.old.1 ≡ Some fault) }
     ensures shorter { OnOk result (length statements.new.0 ≤ length statements.old.0) }
 {
     let mut flop = FlopGroup::new(names);
@@ -77,7 +79,8 @@ fn read_group<'a>(
     word: &Text<'_>,
     arguments: Arguments<'a>,
 ) -> Result<(), ReadFault>
-    ensures cell { MatchResult result (λ _. (cell.new ≡ cell_with_group cell.old word.now arguments.entry statements.old.0) × IsLeft statements.old statements.new) (GivesUp statements.old) }
+    ensures cell { MatchResult result
+        (λ _. (cell.new ≡ cell_with_group cell.old word.now arguments.entry statements.old.0) × IsLeft statements.old statements.new) (GivesUp statements.old) }
     ensures shorter { OnOk result (length statements.new.0 ≤ length statements.old.0) }
 {
     if word.is(b"pin") {
@@ -100,7 +103,8 @@ pub fn read_cell<'a>(
     statements: &mut Statements<'a>,
     name: Text<'a>,
 ) -> Result<CellGroup<'a>, ReadFault>
-    ensures cell { MatchResult result (λ cell. (cell ≡ cell_from 0 (new_cell name.entry) statements.old.0) × IsLeft statements.old statements.new) (GivesUp statements.old) }
+    ensures cell { MatchResult result (λ cell. (cell ≡ cell_from 0 (new_cell name.entry) statements.old.0) × IsLeft statements.old statements.new)
+        (GivesUp statements.old) }
     ensures shorter { OnOk result (length statements.new.0 ≤ length statements.old.0) }
 {
     let mut cell = CellGroup::new(alloc, name);

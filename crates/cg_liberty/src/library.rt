@@ -5,10 +5,10 @@ ghost use Rattle.std.specs.List.{AllByRecursion};
 ghost use Rattle.cg_cell.specs.Cell.{CellData, IsCell};
 ghost use Rattle.cg_cell.specs.Library.{IsFound};
 ghost use Rattle.cg_liberty.specs.Cell.{GivesUp, cell_from, cells_from, first_text, new_cell};
-ghost use Rattle.cg_liberty.specs.FirstFault.{IsFirstFault};
+ghost use Rattle.cg_liberty.specs.FirstFault.{IsFirstLibertyFault};
 ghost use Rattle.cg_liberty.specs.Group.{IsLeft};
 ghost use Rattle.cg_liberty.specs.LibText.{LibText};
-ghost use Rattle.cg_liberty.specs.Library.{Adds, Stands, added, all_added, cell_groups, cell_refusal, library_of, text_refusal};
+ghost use Rattle.cg_liberty.specs.Library.{Adds, LibraryOrNoMemory, added, all_added, cell_groups, cell_refusal, library_of, text_refusal};
 ghost use Rattle.cg_liberty.specs.declared.fault.LibertyFault.TheVariants.{NoMemory};
 
 use crate::fault::{CellFault, LibertyFault, ReadFault};
@@ -53,7 +53,7 @@ fn add_group(
     mut library: Library,
     group: &CellGroup<'_>,
 ) -> Result<Library, LibertyFault>
-    ensures { Stands result (added library group.now) }
+    ensures { LibraryOrNoMemory result (added library group.now) }
 {
     let bytes = group.name.bytes(alloc)?;
     if !Name::is_name(&bytes) {
@@ -107,7 +107,8 @@ fn take_cell<'a>(
     library: Result<Library, LibertyFault>,
     arguments: Arguments<'a>,
 ) -> Result<Result<Library, LibertyFault>, ReadFault>
-    ensures taken { MatchResult result (λ after. Adds library after (cell_from 0 (new_cell (first_text arguments.entry)) statements.old.0) × IsLeft statements.old statements.new) (GivesUp statements.old) }
+    ensures taken { MatchResult result (λ after. Adds library after (cell_from 0 (new_cell (first_text arguments.entry)) statements.old.0)
+        × IsLeft statements.old statements.new) (GivesUp statements.old) }
     ensures shorter { OnOk result (length statements.new.0 ≤ length statements.old.0) }
 {
     let group = read_cell(alloc, statements, first_argument(arguments))?;
@@ -129,7 +130,8 @@ fn read_cells(
     alloc: Global,
     statements: &mut Statements<'_>,
 ) -> Result<Result<Library, LibertyFault>, ReadFault>
-    ensures { MatchResult result (λ library. (statements.old.1 ≡ None) × Stands library (all_added [] (cells_from 0 statements.old.0))) (GivesUp statements.old) }
+    ensures { MatchResult result (λ library. (statements.old.1 ≡ None) × LibraryOrNoMemory library (all_added [] (cells_from 0 statements.old.0)))
+        (GivesUp statements.old) }
 {
     let mut library = Ok(Library::new(alloc));
     'statements: while let Some(statement) = statements.next()? {
@@ -156,7 +158,8 @@ fn read_text(
     alloc: Global,
     statements: &mut Statements<'_>,
 ) -> Result<Result<Library, LibertyFault>, ReadFault>
-    ensures { MatchResult result (λ library. (statements.old.1 ≡ None) × Stands library (all_added [] (cell_groups statements.old.0))) (GivesUp statements.old) }
+    ensures { MatchResult result (λ library. (statements.old.1 ≡ None) × LibraryOrNoMemory library (all_added [] (cell_groups statements.old.0)))
+        (GivesUp statements.old) }
 {
     match statements.next()? {
         Some(Statement::Open(_, _)) => read_cells(alloc, statements),
@@ -174,7 +177,7 @@ fn read_text(
 
 /// The library that a text stands for, or its first fault.
 fn library_of_bytes(alloc: Global, bytes: &[u8]) -> Result<Library, LibertyFault>
-    ensures stands { Stands result (library_of bytes.now) }
+    ensures stands { LibraryOrNoMemory result (library_of bytes.now) }
     ensures cells { IfOk result (λ library. AllByRecursion IsCell library) }
     ensures named { IfOk result (λ library. AllByRecursion (IsFound library) library) }
 {
@@ -200,11 +203,11 @@ fn library_of_bytes(alloc: Global, bytes: &[u8]) -> Result<Library, LibertyFault
 /// 4,096 are there; `TwoCells` where its name is taken; `BadExpr`, or `Limit(Nesting)`, for its first
 /// expression that is none, or that nests deeper than 64.
 pub fn read_library(alloc: Global, bytes: &[u8]) -> Result<Library, LibertyFault>
-    ensures exact { Stands result (library_of bytes.now) }
+    ensures exact { LibraryOrNoMemory result (library_of bytes.now) }
     ensures found { IfOk result (λ library. LibText bytes.now library) }
     ensures cells { IfOk result (λ library. AllByRecursion IsCell library) }
     ensures named { IfOk result (λ library. AllByRecursion (IsFound library) library) }
-    ensures fault { IfErr result (IsFirstFault bytes.now) }
+    ensures fault { IfErr result (IsFirstLibertyFault bytes.now) }
     ensures only { (cells : List CellData) → LibText bytes.now cells → MatchResult result (λ library. library ≡ cells) (λ fault. fault ≡ NoMemory) }
 {
     library_of_bytes(alloc, bytes)

@@ -6,7 +6,7 @@ ghost use Rattle.cg_cell.specs.Name.{is_name};
 ghost use Rattle.cg_cell.specs.Term.{is_within};
 ghost use Rattle.cg_liberty.specs.Kinds.{input_names, logic_cell, logic_of, logic_pins, logic_role, output_texts, unusable};
 ghost use Rattle.cg_liberty.specs.Port.{ArePorts};
-ghost use Rattle.cg_liberty.specs.Reading.{Gives, readings};
+ghost use Rattle.cg_liberty.specs.Reading.{CellOrNoMemory, readings};
 
 use crate::expression::read_stated;
 use crate::fault::CellFault;
@@ -106,7 +106,8 @@ fn read_functions(
     ports: &[Port<'_>],
     names: &[Name],
 ) -> Result<Vec<Option<Expr>>, CellFault>
-    ensures read { Gives (λ functions. map (λ function. option_map term_of function) functions.items) result (readings names.now (output_texts ports.now)) }
+    ensures read { CellOrNoMemory (λ functions. map (λ function. option_map term_of function) functions.items) result
+        (readings names.now (output_texts ports.now)) }
     ensures counted { IfOk result (λ functions. vec_len functions ≡ length (output_texts ports.now)) }
     ensures within { IfOk result (λ functions. All (λ function. IfSome function (λ e. IsTrue (is_within (length names.now) (term_of e)))) functions.items) }
 {
@@ -125,7 +126,7 @@ fn read_functions(
 pub fn logic_cell_of(alloc: Global, name: Name, ports: &[Port<'_>]) -> Result<CellType, CellFault>
     requires named { IsTrue (is_name name) }
     requires ports { ArePorts ports.now }
-    ensures { Gives (λ cell. cell) result (logic_cell name ports.now) }
+    ensures { CellOrNoMemory (λ cell. cell) result (logic_cell name ports.now) }
 {
     let names = input_names_of(alloc, ports)?;
     let functions = read_functions(alloc, ports, names.as_slice())?;

@@ -4,7 +4,7 @@ use Rattle.std.proofs.lemmas.Bool.{eqb-false}
 use Rattle.cg_limit.specs.declared.TheConstants.{MOST_NESTING}
 use Rattle.cg_liberty_text.specs.Argument.{argument_texts, behind_arguments, behind_value}
 use Rattle.cg_liberty_text.specs.Grammar.{EachBefore, IsGroup, IsHead, IsPlain, Piece, Spells, SpellsAll, lone_text, statements_of, tokens_of}
-use Rattle.cg_liberty_text.specs.Statement.{Read, faulty, put, statements}
+use Rattle.cg_liberty_text.specs.Statement.{Read, faulty, put_statement, statements}
 use Rattle.cg_liberty_text.specs.Statement.Phase.{Done, Listed, Named, Start}
 use Rattle.cg_liberty_text.specs.declared.fault.TextFault.{TextFault}
 use Rattle.cg_liberty_text.specs.declared.fault.TextFault.TheVariants.{BadGroup, Nesting}
@@ -91,14 +91,14 @@ record Opened (depth : ℕ) (word : Token) (texts : List (List ℕ)) (later : Re
   placed : is_misplaced depth word texts ≡ false
   fine : Fine later
 
-opened_by : (depth : ℕ) (word : Token) (texts : List (List ℕ)) (later : Read) (deep misplaced : Bool) → (depth == MOST_NESTING) ≡ deep → is_misplaced depth word texts ≡ misplaced → Fine (cond deep (faulty Nesting) (cond misplaced (faulty (BadGroup word.at)) (put (Open word.text texts) later))) → Opened depth word texts later
+opened_by : (depth : ℕ) (word : Token) (texts : List (List ℕ)) (later : Read) (deep misplaced : Bool) → (depth == MOST_NESTING) ≡ deep → is_misplaced depth word texts ≡ misplaced → Fine (cond deep (faulty Nesting) (cond misplaced (faulty (BadGroup word.at)) (put_statement (Open word.text texts) later))) → Opened depth word texts later
 opened_by depth word texts later true misplaced d m h = faulted Nesting h
 opened_by depth word texts later false true d m h = faulted (BadGroup word.at) h
 opened_by depth word texts later false false d m h = record { shallow = d; placed = m; fine = h }
 
 brace_tested : (end depth : ℕ) (word : Token) (texts : List (List ℕ)) (brace : Token) (after : List Token) → brace.kind ≡ kinds.OpenBrace → Fine (statements end depth (Listed word texts) (brace ∷ after)) → Opened depth word texts (statements end (depth + 1) Start after)
 brace_tested end depth word texts brace after is h =
-    let tests : statements end depth (Listed word texts) (brace ∷ after) ≡ cond (depth == MOST_NESTING) (faulty Nesting) (cond (is_misplaced depth word texts) (faulty (BadGroup word.at)) (put (Open word.text texts) (statements end (depth + 1) Start after))) = rw is refl in
+    let tests : statements end depth (Listed word texts) (brace ∷ after) ≡ cond (depth == MOST_NESTING) (faulty Nesting) (cond (is_misplaced depth word texts) (faulty (BadGroup word.at)) (put_statement (Open word.text texts) (statements end (depth + 1) Start after))) = rw is refl in
     opened_by depth word texts (statements end (depth + 1) Start after) (depth == MOST_NESTING) (is_misplaced depth word texts) refl refl (fine_by _ _ tests h)
 
 closed_inside : (end room depth : ℕ) (tokens : List Token) → 1 ≤ depth → (inner : Closed end room (depth + 1) tokens) → Fine (statements end depth Start inner.rest)

@@ -6,7 +6,7 @@ use Rattle.std.proofs.lemmas.Slice.Eq.{bytes_eq-Decides}
 use Rattle.cg_limit.specs.declared.TheConstants.{MOST_NESTING}
 use Rattle.cg_liberty_text.specs.Argument.{argument_texts, behind_arguments, behind_value, is_open_brace, value_text}
 use Rattle.cg_liberty_text.specs.Grammar.{EachBefore, FitsPlace, HasNoBody, IsComplex, IsGroup, IsHead, IsLone, IsPlain, IsSimple, Piece, Spells, lone_text, statements_of, tokens_of}
-use Rattle.cg_liberty_text.specs.Statement.{Read, put, statements}
+use Rattle.cg_liberty_text.specs.Statement.{Read, put_statement, statements}
 use Rattle.cg_liberty_text.specs.Statement.Phase.{Done, Listed, Listing, Named, Start, Valued}
 use Rattle.cg_liberty_text.specs.declared.fault.TextFault.{TextFault}
 use Rattle.cg_liberty_text.specs.declared.lexeme.Kind.{Kind}
@@ -47,36 +47,36 @@ paren_listing end depth word opening after is =
     let step : statements end depth (Named word) (opening ∷ after) ≡ statements end depth (Listing word (argument_texts after) kinds.OpenParen) after = rw is refl in
     step ∙ listing end depth word (argument_texts after) kinds.OpenParen after
 
-pub colon_valued : (end depth : ℕ) (word colon : Token) (after : List Token) → 1 ≤ depth → colon.kind ≡ kinds.Colon → statements end depth (Named word) (colon ∷ after) ≡ put (Attribute word.text (value_text after)) (go_on (behind_value after) (statements end depth Start))
+pub colon_valued : (end depth : ℕ) (word colon : Token) (after : List Token) → 1 ≤ depth → colon.kind ≡ kinds.Colon → statements end depth (Named word) (colon ∷ after) ≡ put_statement (Attribute word.text (value_text after)) (go_on (behind_value after) (statements end depth Start))
 colon_valued end depth word colon after inside is =
-    let step : statements end depth (Named word) (colon ∷ after) ≡ put (Attribute word.text (value_text after)) (statements end depth Valued after) = rw (is, inside_any depth inside) refl in
-    step ∙ ap (put (Attribute word.text (value_text after))) (valued end depth after)
+    let step : statements end depth (Named word) (colon ∷ after) ≡ put_statement (Attribute word.text (value_text after)) (statements end depth Valued after) = rw (is, inside_any depth inside) refl in
+    step ∙ ap (put_statement (Attribute word.text (value_text after))) (valued end depth after)
 
 is_no_brace : (kind : Kind) → kind ≢ kinds.OpenBrace → is_open_brace kind ≡ false
 is_no_brace kinds.OpenBrace apart = absurd (apart refl)
 is_no_brace _ apart = refl
 
-pub no_body : (end depth : ℕ) (word : Token) (texts : List (List ℕ)) (token : Token) (after : List Token) → 1 ≤ depth → token.kind ≢ kinds.OpenBrace → statements end depth (Listed word texts) (token ∷ after) ≡ put (Attribute word.text None) (statements end depth Start (token ∷ after))
+pub no_body : (end depth : ℕ) (word : Token) (texts : List (List ℕ)) (token : Token) (after : List Token) → 1 ≤ depth → token.kind ≢ kinds.OpenBrace → statements end depth (Listed word texts) (token ∷ after) ≡ put_statement (Attribute word.text None) (statements end depth Start (token ∷ after))
 no_body end depth word texts token after inside apart = rw (is_no_brace token.kind apart, inside_any depth inside) refl
 
 -- whether a `cell` directly in the library has not one argument
 abbrev pub is_misplaced : ℕ → Token → List (List ℕ) → Bool
 is_misplaced depth word texts = depth == 1 && (bytes_eq word.text (codes "cell") && not (length texts == 1))
 
-pub brace_opened : (end depth : ℕ) (word : Token) (texts : List (List ℕ)) (brace : Token) (after : List Token) → brace.kind ≡ kinds.OpenBrace → (depth == MOST_NESTING) ≡ false → is_misplaced depth word texts ≡ false → statements end depth (Listed word texts) (brace ∷ after) ≡ put (Open word.text texts) (statements end (depth + 1) Start after)
+pub brace_opened : (end depth : ℕ) (word : Token) (texts : List (List ℕ)) (brace : Token) (after : List Token) → brace.kind ≡ kinds.OpenBrace → (depth == MOST_NESTING) ≡ false → is_misplaced depth word texts ≡ false → statements end depth (Listed word texts) (brace ∷ after) ≡ put_statement (Open word.text texts) (statements end (depth + 1) Start after)
 brace_opened end depth word texts brace after is shallow placed = rw (is, shallow, placed) refl
 
-pub brace_closed : (end depth : ℕ) (last : Token) (after : List Token) → 1 ≤ depth → last.kind ≡ kinds.CloseBrace → statements end depth Start (last ∷ after) ≡ put Close (statements end (depth - 1) (cond (depth == 1) Done Start) after)
+pub brace_closed : (end depth : ℕ) (last : Token) (after : List Token) → 1 ≤ depth → last.kind ≡ kinds.CloseBrace → statements end depth Start (last ∷ after) ≡ put_statement Close (statements end (depth - 1) (cond (depth == 1) Done Start) after)
 brace_closed end depth last after inside is = rw (is, inside_any depth inside) refl
 
-pub brace_closed_inside : (end depth : ℕ) (last : Token) (after : List Token) → 1 ≤ depth → last.kind ≡ kinds.CloseBrace → statements end (depth + 1) Start (last ∷ after) ≡ put Close (statements end depth Start after)
+pub brace_closed_inside : (end depth : ℕ) (last : Token) (after : List Token) → 1 ≤ depth → last.kind ≡ kinds.CloseBrace → statements end (depth + 1) Start (last ∷ after) ≡ put_statement Close (statements end depth Start after)
 brace_closed_inside end depth last after inside is =
     let back : depth + 1 - 1 ≡ depth = omega arith in
     let more : (depth + 1 == 1) ≡ false = ne_eqb (depth + 1) 1 (λ same. omega arith) in
     let deep : 1 ≤ depth + 1 = omega arith in
     brace_closed end (depth + 1) last after deep is
-    ∙ ap (λ (d : ℕ). put Close (statements end d (cond (depth + 1 == 1) Done Start) after)) back
-    ∙ ap (λ (b : Bool). put Close (statements end depth (cond b Done Start) after)) more
+    ∙ ap (λ (d : ℕ). put_statement Close (statements end d (cond (depth + 1 == 1) Done Start) after)) back
+    ∙ ap (λ (b : Bool). put_statement Close (statements end depth (cond b Done Start) after)) more
 
 -- Where a group may stand
 
@@ -134,11 +134,11 @@ simple_read end depth piece rest inside simple =
     ap (λ (ts : List Token). statements end depth Start (ts ++ rest)) simple.is
     ∙ word_named end depth simple.word (simple.colon ∷ behind) inside simple.named
     ∙ colon_valued end depth simple.word simple.colon behind inside simple.marks
-    ∙ ap (λ (r : Result (List Token) TextFault). put (Attribute simple.word.text (value_text behind)) (go_on r (statements end depth Start))) passed
-    ∙ ap (λ (t : Option (List ℕ)). put (Attribute simple.word.text t) (statements end depth Start rest)) text
+    ∙ ap (λ (r : Result (List Token) TextFault). put_statement (Attribute simple.word.text (value_text behind)) (go_on r (statements end depth Start))) passed
+    ∙ ap (λ (t : Option (List ℕ)). put_statement (Attribute simple.word.text t) (statements end depth Start rest)) text
     ∙ ap (λ (s : List Statement). onto s (statements end depth Start rest)) (sym simple.stands)
 
-complex_rest : (end depth : ℕ) (word : Token) (texts : List (List ℕ)) (rest : List Token) → 1 ≤ depth → HasNoBody rest → statements end depth (Listed word texts) rest ≡ put (Attribute word.text None) (statements end depth Start rest)
+complex_rest : (end depth : ℕ) (word : Token) (texts : List (List ℕ)) (rest : List Token) → 1 ≤ depth → HasNoBody rest → statements end depth (Listed word texts) rest ≡ put_statement (Attribute word.text None) (statements end depth Start rest)
 complex_rest end depth word texts [] inside apart = absurd apart
 complex_rest end depth word texts (token ∷ after) inside apart = no_body end depth word texts token after inside apart
 
@@ -162,24 +162,24 @@ row_read end depth Is reads (piece ∷ pieces) rest row =
     ∙ onto_onto piece.statements (statements_of pieces) (statements end depth Start rest)
 
 -- a group is read up to its `}`
-pub group_opened : (end depth room : ℕ) (InARow : List Piece → List Token → Type 0) (piece : Piece) (rest : List Token) (group : IsGroup room InARow piece rest) → ((after : List Token) → statements end depth Start (group.word ∷ after) ≡ statements end depth (Named group.word) after) → (depth == MOST_NESTING) ≡ false → is_misplaced depth group.word group.texts ≡ false → statements end (depth + 1) Start (tokens_of group.pieces ++ group.last ∷ rest) ≡ onto (statements_of group.pieces) (statements end (depth + 1) Start (group.last ∷ rest)) → statements end depth Start (piece.tokens ++ rest) ≡ put (Open group.word.text group.texts) (onto (statements_of group.pieces) (statements end (depth + 1) Start (group.last ∷ rest)))
+pub group_opened : (end depth room : ℕ) (InARow : List Piece → List Token → Type 0) (piece : Piece) (rest : List Token) (group : IsGroup room InARow piece rest) → ((after : List Token) → statements end depth Start (group.word ∷ after) ≡ statements end depth (Named group.word) after) → (depth == MOST_NESTING) ≡ false → is_misplaced depth group.word group.texts ≡ false → statements end (depth + 1) Start (tokens_of group.pieces ++ group.last ∷ rest) ≡ onto (statements_of group.pieces) (statements end (depth + 1) Start (group.last ∷ rest)) → statements end depth Start (piece.tokens ++ rest) ≡ put_statement (Open group.word.text group.texts) (onto (statements_of group.pieces) (statements end (depth + 1) Start (group.last ∷ rest)))
 group_opened end depth room InARow piece rest group starts shallow placed row =
     let body : List Token = group.brace ∷ tokens_of group.pieces ++ group.last ∷ [] in
     ap (λ (ts : List Token). statements end depth Start (ts ++ rest)) group.is
     ∙ ap (statements end depth Start) (append_assoc group.front body rest)
     ∙ head_read end depth group.word group.texts group.front (body ++ rest) starts group.head
     ∙ brace_opened end depth group.word group.texts group.brace ((tokens_of group.pieces ++ group.last ∷ []) ++ rest) group.opens shallow placed
-    ∙ ap (λ (ts : List Token). put (Open group.word.text group.texts) (statements end (depth + 1) Start ts)) (append_assoc (tokens_of group.pieces) (group.last ∷ []) rest)
-    ∙ ap (put (Open group.word.text group.texts)) row
+    ∙ ap (λ (ts : List Token). put_statement (Open group.word.text group.texts) (statements end (depth + 1) Start ts)) (append_assoc (tokens_of group.pieces) (group.last ∷ []) rest)
+    ∙ ap (put_statement (Open group.word.text group.texts)) row
 
-pub whole : (word : List ℕ) (texts : List (List ℕ)) (body : List Statement) (later : Read) → put (Open word texts) (onto body (put Close later)) ≡ onto (Open word texts ∷ body ++ Close ∷ []) later
+pub whole : (word : List ℕ) (texts : List (List ℕ)) (body : List Statement) (later : Read) → put_statement (Open word texts) (onto body (put_statement Close later)) ≡ onto (Open word texts ∷ body ++ Close ∷ []) later
 whole word texts body later = same_fault (Open word texts ∷ body ++ Close ∷ later.0) (Open word texts ∷ (body ++ Close ∷ []) ++ later.0) later.1 (ap (λ (s : List Statement). Open word texts ∷ s) (sym (append_assoc body (Close ∷ []) later.0)))
 
 group_read : (end depth room : ℕ) (Is : Piece → List Token → Type 0) (piece : Piece) (rest : List Token) → 1 ≤ depth → depth + suc room ≡ MOST_NESTING → ((piece : Piece) (rest : List Token) → Is piece rest → IsRead end (depth + 1) piece rest) → IsGroup (suc room) (EachBefore Is) piece rest → IsRead end depth piece rest
 group_read end depth room Is piece rest inside is reads group =
     let shallow : (depth == MOST_NESTING) ≡ false = ne_eqb depth MOST_NESTING (λ same. omega arith) in
     group_opened end depth (suc room) (EachBefore Is) piece rest group (λ after. word_named end depth group.word after inside group.head.named) shallow (placed_of (suc room) depth group.word group.texts is group.place) (row_read end (depth + 1) Is reads group.pieces (group.last ∷ rest) group.inside)
-    ∙ ap (λ (r : Read). put (Open group.word.text group.texts) (onto (statements_of group.pieces) r)) (brace_closed_inside end depth group.last rest inside group.closes)
+    ∙ ap (λ (r : Read). put_statement (Open group.word.text group.texts) (onto (statements_of group.pieces) r)) (brace_closed_inside end depth group.last rest inside group.closes)
     ∙ whole group.word.text group.texts (statements_of group.pieces) (statements end depth Start rest)
     ∙ ap (λ (s : List Statement). onto s (statements end depth Start rest)) (sym group.stands)
 

@@ -25,8 +25,8 @@ abbrev pub Read : Type 0
 Read = List Statement × Option TextFault
 
 -- a statement before the others
-abbrev pub put : Statement → Read → Read
-put statement later = (statement ∷ later.0, later.1)
+abbrev pub put_statement : Statement → Read → Read
+put_statement statement later = (statement ∷ later.0, later.1)
 
 abbrev pub faulty : TextFault → Read
 faulty fault = ([], Some fault)
@@ -36,14 +36,14 @@ abbrev pub opened : ℕ → Token → List (List ℕ) → Read → Read
 opened depth word texts later =
     cond (depth == MOST_NESTING) (faulty Nesting)
     (cond (depth == 1 && (bytes_eq word.text (codes "cell") && not (length texts == 1))) (faulty (BadGroup word.at))
-    (put (Open word.text texts) later))
+    (put_statement (Open word.text texts) later))
 
 -- the statement that a token begins; `later` is what follows it, in so many open groups
 abbrev pub begun : ℕ → Token → (ℕ → Phase → Read) → Read
 begun depth token later =
     cond (is_word token.kind && (nat_lt 0 depth || bytes_eq token.text (codes "library"))) (later depth (Named token))
     (cond (is_semicolon token.kind && nat_lt 0 depth) (later depth Start)
-    (cond (is_close_brace token.kind && nat_lt 0 depth) (put Close (later (depth - 1) (cond (depth == 1) Done Start)))
+    (cond (is_close_brace token.kind && nat_lt 0 depth) (put_statement Close (later (depth - 1) (cond (depth == 1) Done Start)))
     (faulty (unexpected token))))
 
 -- what a token does in a phase; `after` are the tokens behind it
@@ -51,14 +51,14 @@ abbrev pub follow : ℕ → Phase → Token → List Token → (ℕ → Phase �
 follow depth Start token after later = begun depth token later
 follow depth (Named word) token after later =
     cond (is_open_paren token.kind) (later depth (Listing word (argument_texts after) kinds.OpenParen))
-    (cond (is_colon token.kind && nat_lt 0 depth) (put (Attribute word.text (value_text after)) (later depth Valued))
+    (cond (is_colon token.kind && nat_lt 0 depth) (put_statement (Attribute word.text (value_text after)) (later depth Valued))
     (faulty (unexpected token)))
 follow depth (Listing word texts before) token after later =
     cond (may_follow before token.kind) (later depth (cond (is_close_paren token.kind) (Listed word texts) (Listing word texts token.kind)))
     (faulty (unexpected token))
 follow depth (Listed word texts) token after later =
     cond (is_open_brace token.kind) (opened depth word texts (later (depth + 1) Start))
-    (cond (nat_lt 0 depth) (put (Attribute word.text None) (begun depth token later))
+    (cond (nat_lt 0 depth) (put_statement (Attribute word.text None) (begun depth token later))
     (faulty (unexpected token)))
 follow depth Valued token after later =
     cond (ends_value token) (cond (not token.fresh && is_semicolon token.kind) (later depth Start) (begun depth token later))
@@ -89,7 +89,7 @@ phase_behind depth (Attribute word text) = Start
 
 -- the statements from one on that is read from some tokens, where `left` are those behind it
 abbrev pub Reads : ℕ → ℕ → Phase → List Token → List Token → Statement → Type 0
-Reads end depth phase tokens left statement = statements end depth phase tokens ≡ put statement (statements end (depth_behind depth statement) (phase_behind depth statement) left)
+Reads end depth phase tokens left statement = statements end depth phase tokens ≡ put_statement statement (statements end (depth_behind depth statement) (phase_behind depth statement) left)
 
 abbrev pub Refused : ℕ → ℕ → Phase → List Token → TextFault → Type 0
 Refused end depth phase tokens fault = (statements end depth phase tokens).1 ≡ Some fault

@@ -1,7 +1,9 @@
 //! The arguments and the values of statements, in tokens.
 
 ghost use Rattle.std.specs.Prelude.{◌≡◌, ◌==◌, ◌∷◌, ℕ, List, [], length, Ok, Err, MatchOption, MatchResult};
-ghost use Rattle.cg_liberty_text.specs.Argument.{argument_texts, behind_arguments, behind_value, ends_value, is_bad, is_close_brace, is_close_paren, is_colon, is_comma, is_in_value, is_open_brace, is_open_paren, is_semicolon, is_text, is_value_over, is_word, may_follow, unexpected, value_text};
+ghost use Rattle.cg_liberty_text.specs.Argument.{argument_texts, behind_arguments, behind_value, ends_value, is_bad, is_close_brace};
+ghost use Rattle.cg_liberty_text.specs.Argument.{is_close_paren, is_colon, is_comma, is_in_value, is_open_brace, is_open_paren};
+ghost use Rattle.cg_liberty_text.specs.Argument.{is_semicolon, is_text, is_value_over, is_word, may_follow, unexpected, value_text};
 ghost use Rattle.cg_liberty_text.specs.declared.lexeme.Kind.TheVariants.{OpenParen};
 
 use crate::fault::TextFault;
@@ -186,7 +188,8 @@ impl<'a> Arguments<'a> {
 
 /// Passes over the arguments and their `)`.
 pub fn pass_arguments(tokens: &mut Tokens<'_>) -> Result<(), TextFault>
-    ensures behind { MatchResult result (λ _. behind_arguments tokens.old.1 OpenParen tokens.old.0 ≡ Ok tokens.new.0) (λ fault. behind_arguments tokens.old.1 OpenParen tokens.old.0 ≡ Err fault) }
+    ensures behind { MatchResult result (λ _. behind_arguments tokens.old.1 OpenParen tokens.old.0 ≡ Ok tokens.new.0)
+        (λ fault. behind_arguments tokens.old.1 OpenParen tokens.old.0 ≡ Err fault) }
     ensures end { tokens.new.1 ≡ tokens.old.1 }
 {
     let mut before = Kind::OpenParen;

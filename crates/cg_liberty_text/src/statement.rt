@@ -55,7 +55,8 @@ fn statement_named<'a>(
     word: Token<'a>,
 ) -> Result<Statement<'a>, TextFault>
     requires { depth ≤ MOST_NESTING }
-    ensures statement { MatchResult result (Reads tokens.old.1 depth (Named word.entry) tokens.old.0 tokens.new.0) (Refused tokens.old.1 depth (Named word.entry) tokens.old.0) }
+    ensures statement { MatchResult result (Reads tokens.old.1 depth (Named word.entry) tokens.old.0 tokens.new.0)
+        (Refused tokens.old.1 depth (Named word.entry) tokens.old.0) }
     ensures depth { IfOk result (FitsDepth depth) }
     ensures end { tokens.new.1 ≡ tokens.old.1 }
 {
@@ -78,7 +79,8 @@ fn statement_valued<'a>(
     depth: usize,
     word: Token<'a>,
 ) -> Result<Statement<'a>, TextFault>
-    ensures statement { MatchResult result (ReadsValue tokens.old.1 depth word.entry tokens.old.0 tokens.new.0) (Refused tokens.old.1 depth Valued tokens.old.0) }
+    ensures statement { MatchResult result (ReadsValue tokens.old.1 depth word.entry tokens.old.0 tokens.new.0)
+        (Refused tokens.old.1 depth Valued tokens.old.0) }
     ensures depth { IfOk result (FitsDepth depth) }
     ensures end { tokens.new.1 ≡ tokens.old.1 }
 {
@@ -95,7 +97,8 @@ fn statement_listed<'a>(
     word: Token<'a>,
 ) -> Result<Statement<'a>, TextFault>
     requires { depth ≤ MOST_NESTING }
-    ensures statement { MatchResult result (Reads tokens.old.1 depth (Listing word.entry (argument_texts tokens.old.0) OpenParen) tokens.old.0 tokens.new.0) (Refused tokens.old.1 depth (Listing word.entry (argument_texts tokens.old.0) OpenParen) tokens.old.0) }
+    ensures statement { MatchResult result (Reads tokens.old.1 depth (Listing word.entry (argument_texts tokens.old.0) OpenParen) tokens.old.0 tokens.new.0)
+        (Refused tokens.old.1 depth (Listing word.entry (argument_texts tokens.old.0) OpenParen) tokens.old.0) }
     ensures depth { IfOk result (FitsDepth depth) }
     ensures end { tokens.new.1 ≡ tokens.old.1 }
 {
@@ -112,7 +115,8 @@ fn statement_opened<'a>(
     arguments: Arguments<'a>,
 ) -> Result<Statement<'a>, TextFault>
     requires { depth ≤ MOST_NESTING }
-    ensures statement { MatchResult result (Reads tokens.old.1 depth (Listed word.entry arguments.entry) tokens.old.0 tokens.new.0) (Refused tokens.old.1 depth (Listed word.entry arguments.entry) tokens.old.0) }
+    ensures statement { MatchResult result (Reads tokens.old.1 depth (Listed word.entry arguments.entry) tokens.old.0 tokens.new.0)
+        (Refused tokens.old.1 depth (Listed word.entry arguments.entry) tokens.old.0) }
     ensures depth { IfOk result (FitsDepth depth) }
     ensures end { tokens.new.1 ≡ tokens.old.1 }
 {

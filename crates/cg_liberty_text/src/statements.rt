@@ -1,7 +1,7 @@
 //! A text read statement by statement.
 
 ghost use Rattle.std.specs.Prelude.{◌≡◌, List, [], length, None, Some, MatchOption, MatchResult};
-ghost use Rattle.cg_liberty_text.specs.Statement.{put, statements};
+ghost use Rattle.cg_liberty_text.specs.Statement.{put_statement, statements};
 ghost use Rattle.cg_liberty_text.specs.Statement.Phase.{Start};
 ghost use Rattle.cg_liberty_text.specs.Token.{tokens};
 
@@ -52,7 +52,8 @@ impl<'a> Statements<'a> {
 
     /// Takes the next statement, or nothing behind the last one.
     pub fn next(&mut self) -> Result<Option<Statement<'a>>, TextFault>
-        ensures { MatchResult result (λ next. MatchOption next ((self.old ≡ ([], None)) × (self.new ≡ ([], None))) (λ statement. self.old ≡ put statement self.new)) (λ fault. self.old.1 ≡ Some fault) }
+        ensures { MatchResult result (λ next. MatchOption next ((self.old ≡ ([], None)) × (self.new ≡ ([], None)))
+            (λ statement. self.old ≡ put_statement statement self.new)) (λ fault. self.old.1 ≡ Some fault) }
     {
         if self.done {
             return match self.tokens.next() {

@@ -1,7 +1,7 @@
 -- The literals that may hold a register, those first that are 0 most often.
 use Rattle.std.specs.Prelude.{◌≡◌, ◌≤◌, ℕ, ◌-◌, Bool, true, false, not, ◌&&◌, if◌then◌else◌, List, [], ◌∷◌, length, slice_index_or, nat_eq, nat_le, Option, Some, None}
 use Rattle.std.specs.List.{All, flat_map}
-use Rattle.cg_cell.specs.Gates.{differ}
+use Rattle.cg_cell.specs.Gates.{exclusive_or}
 use Rattle.cg_machine.specs.Claims.{Literal}
 use Rattle.cg_machine.specs.Machine.{MachineData}
 use Rattle.cg_lists.specs.Supports.{in_net_order, input_cone}
@@ -45,7 +45,7 @@ literals_of m idle r = by_count idle (both_literals (in_net_order m (input_cone 
 
 -- whether two literals are the same
 abbrev pub same_bool : Bool → Bool → Bool
-same_bool a b = not (differ a b)
+same_bool a b = not (exclusive_or a b)
 
 abbrev pub same_literal : Literal → Literal → Bool
 same_literal l k = nat_eq l.0 k.0 && same_bool l.1 k.1

@@ -8,7 +8,7 @@ use Rattle.cg_lrat.specs.declared.verdict.Verdict.TheVariants.{Accepted, Rejecte
 use Rattle.cg_lrat.specs.declared.verdict.Why.{Why}
 use Rattle.cg_lrat.specs.declared.verdict.Why.TheVariants.{NoEmpty}
 use Rattle.cg_lrat.specs.Accepted.{State, first_state, fault_of, state_after, adds_empty, step_verdict, verdict_from, verdict}
-use Rattle.cg_lrat.specs.AcceptedLog.{LeadsTo, Deserves}
+use Rattle.cg_lrat.specs.AcceptedLog.{LeadsTo, IsVerdict}
 
 -- the same from any state
 record AcceptedFrom (state : State) (steps : List Step) : Type 0 where
@@ -81,9 +81,9 @@ deserved_from state (step ∷ later) =
           record { before = []; last = step; behind = later; end = state; whole = refl; reached = refl; taken = f; empty = g }
       pick rest None f false g = onwards state step later (verdict_from (state_after state step.body step.id) later) f g rest
 
-pub deserved : (formula : Formula) (log : Log) → Deserves formula log (verdict formula log)
+pub deserved : (formula : Formula) (log : Log) → IsVerdict formula log (verdict formula log)
 deserved formula log = shown (verdict formula log) (deserved_from (first_state formula) log.steps) where
-  shown : (v : Verdict) → DeservesFrom (first_state formula) log.steps v → Deserves formula log v
+  shown : (v : Verdict) → DeservesFrom (first_state formula) log.steps v → IsVerdict formula log v
   shown Accepted d =
       record
       { before = d.before; last = d.last; behind = d.behind; state = d.end; whole = d.whole; reached = d.reached; taken = d.taken; empty = d.empty }
@@ -102,7 +102,7 @@ nothing_behind : (steps : List Step) → steps ++ [] ≡ steps
 nothing_behind [] = refl
 nothing_behind (step ∷ later) = ap (λ ss. step ∷ ss) (nothing_behind later)
 
-pub deserves_only : (formula : Formula) (log : Log) (v : Verdict) → Deserves formula log v → verdict formula log ≡ v
+pub deserves_only : (formula : Formula) (log : Log) (v : Verdict) → IsVerdict formula log v → verdict formula log ≡ v
 deserves_only formula log Accepted d =
     ap (verdict_from (first_state formula)) d.whole ∙ led (first_state formula) d.state d.before (d.last ∷ d.behind) d.reached
     ∙ rw (d.taken, d.empty) refl

@@ -24,7 +24,7 @@ use Rattle.cg_formula.specs.Tokens.{clause_token}
 use Rattle.cg_lrat.specs.Ids.{id_token}
 use Rattle.cg_formula.specs.DimacsReading.{layout}
 use Rattle.cg_formula.specs.DimacsText.{lit_word}
-use Rattle.cg_lrat.specs.LratReading.{Gives, ◌>>=◌, lits_at, put_id, ids_at, addition_of, deletion_of, body_of, words_step, step_of, steps_of, lrat}
+use Rattle.cg_lrat.specs.LratReading.{LratOrNoMemory, ◌>>=◌, lits_at, put_id, ids_at, addition_of, deletion_of, body_of, words_step, step_of, steps_of, lrat}
 use Rattle.cg_lrat.specs.LratText.{id_words, body_words, step_line, LratText}
 use Rattle.cg_formula.proofs.TokenSpelling.{literal_spelled, end_spelled, clause_token-lit, first_digit}
 use Rattle.cg_lrat.proofs.IdSpelling.{id_spelled, id_end_spelled, id_token-decimal}
@@ -242,6 +242,6 @@ read_is_text text log e =
 pub text_is_read : (text : List ℕ) (log : Log) → LratText text log → lrat text ≡ Ok log
 text_is_read text log t = rw (t.lines, steps_again log.steps t.bounds) refl
 
-pub given_is_text : (text : List ℕ) (r : Result Log LratFault) → Gives (λ (l : Log). l) r (lrat text) → IfOk r (LratText text)
+pub given_is_text : (text : List ℕ) (r : Result Log LratFault) → LratOrNoMemory (λ (l : Log). l) r (lrat text) → IfOk r (LratText text)
 given_is_text text (Ok log) e = read_is_text text log e
 given_is_text text (Err fault) e = tt

@@ -45,6 +45,6 @@ pub record IsWithoutEmpty (formula : Formula) (log : Log) (line : ℕ) (why : Wh
   pub cause : why ≡ NoEmpty
 
 -- the verdict that a log deserves
-abbrev pub Deserves : Formula → Log → Verdict → Type 0
-Deserves formula log Accepted = IsAccepted formula log
-Deserves formula log (Rejected line why) = IsRefusedAt formula log line why ⊎ IsWithoutEmpty formula log line why
+abbrev pub IsVerdict : Formula → Log → Verdict → Type 0
+IsVerdict formula log Accepted = IsAccepted formula log
+IsVerdict formula log (Rejected line why) = IsRefusedAt formula log line why ⊎ IsWithoutEmpty formula log line why

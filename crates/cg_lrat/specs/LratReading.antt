@@ -25,10 +25,10 @@ abbrev pub ◌>>=◌ : {A B : Type 0} → Result A LratFault → (A → Result B
 (Err e) >>= f = Err e
 
 -- what a function answered, seen by view, is what reading gives, unless memory ran out
-abbrev pub Gives : {X Y : Type 0} → (X → Y) → Result X LratFault → Result Y LratFault → Type 0
-Gives view (Ok x) read = read ≡ Ok (view x)
-Gives view (Err NoMemory) read = Unit {0}
-Gives view (Err (BadLine line)) read = read ≡ Err (BadLine line)
+abbrev pub LratOrNoMemory : {X Y : Type 0} → (X → Y) → Result X LratFault → Result Y LratFault → Type 0
+LratOrNoMemory view (Ok x) read = read ≡ Ok (view x)
+LratOrNoMemory view (Err NoMemory) read = Unit {0}
+LratOrNoMemory view (Err (BadLine line)) read = read ≡ Err (BadLine line)
 
 -- a word of a clause, before the rest of the clause and the words behind it
 abbrev pub put_token : ℕ → ClauseToken → List (List ℕ) → Result (List Lit × List (List ℕ)) LratFault

@@ -3,7 +3,7 @@
 ghost use Rattle.std.specs.Prelude.{◌≡◌, Ok, IfOk};
 ghost use Rattle.cg_lrat.specs.declared.verdict.Verdict.{Verdict};
 ghost use Rattle.cg_lrat.specs.Accepted.{verdict};
-ghost use Rattle.cg_lrat.specs.AcceptedLog.{Deserves};
+ghost use Rattle.cg_lrat.specs.AcceptedLog.{IsVerdict};
 ghost use Rattle.cg_formula.specs.Satisfiable.{IsUnsatisfiable};
 
 use crate::log::Log;
@@ -37,8 +37,8 @@ impl Checker {
     /// `Accepted` is an answer that can be relied on: no assignment satisfies the formula. `Rejected` says nothing
     /// of the formula.
     pub fn check(alloc: Global, formula: &Formula, log: &Log) -> Result<Verdict, AllocError>
-        ensures deserved { IfOk result (λ found. Deserves formula.now log.now found) }
-        ensures only { (v : Verdict) → Deserves formula.now log.now v → IfOk result (λ found. found ≡ v) }
+        ensures deserved { IfOk result (λ found. IsVerdict formula.now log.now found) }
+        ensures only { (v : Verdict) → IsVerdict formula.now log.now v → IfOk result (λ found. found ≡ v) }
         ensures exact { IfOk result (λ found. found ≡ verdict formula.now log.now) }
         ensures sound { result ≡ Ok Verdict.Accepted → IsUnsatisfiable formula.now }
     {

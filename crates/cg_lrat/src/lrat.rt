@@ -6,7 +6,7 @@ ghost use Rattle.cg_lrat.specs.declared.log.Log.{Log};
 ghost use Rattle.cg_lrat.specs.Bounds.{IsLog};
 ghost use Rattle.cg_lrat.specs.LratText.{LratText, id_words, body_words, step_words, lrat_text, counted};
 ghost use Rattle.cg_formula.specs.DimacsText.{clause_words};
-ghost use Rattle.cg_lrat.specs.LratReading.{Gives, lits_at, ids_at, addition_of, deletion_of, step_of, lrat};
+ghost use Rattle.cg_lrat.specs.LratReading.{LratOrNoMemory, lits_at, ids_at, addition_of, deletion_of, step_of, lrat};
 
 use crate::id::{IdToken, push_ids, read_id_token};
 use crate::log::{Body, Log, Step};
@@ -16,19 +16,16 @@ use cg_text::lines::{Line, Lines};
 use cg_text::number::push_number;
 use cg_text::words::Words;
 use std::alloc::{AllocError, AllocFailed, Global};
-use thiserror::Error;
 
 /// The greatest variable that a log may name.
 pub const GREATEST_VARIABLE: u32 = 2_147_483_647;
 
 /// Why an LRAT text is refused.
-#[derive(Clone, Copy, Debug, Error, PartialEq, Eq)]
+#[derive(Clone, Copy, Debug, PartialEq, Eq)]
 pub enum LratFault {
     /// The first line that is neither an addition nor a deletion.
-    #[error("bad line {0}")]
     BadLine(u64),
     /// There was no memory for the log.
-    #[error("no memory")]
     NoMemory,
 }
 
@@ -56,7 +53,7 @@ impl<T: Drop> From<AllocFailed<T>> for LratFault {
 
 /// The literals up to the zero that ends them. A fault is at this line.
 fn read_lits(alloc: Global, words: &mut Words<'_>, line: u64) -> Result<Clause, LratFault>
-    ensures { Gives (λ clause. (clause.lits, words.new)) result (lits_at line words.old) }
+    ensures { LratOrNoMemory (λ clause. (clause.lits, words.new)) result (lits_at line words.old) }
 {
     let mut lits = Vec::new(alloc);
     'literals: loop {
@@ -74,7 +71,7 @@ fn read_lits(alloc: Global, words: &mut Words<'_>, line: u64) -> Result<Clause, 
 
 /// The ids up to the zero that ends the line.
 fn read_ids(alloc: Global, words: Words<'_>, line: u64) -> Result<Seq<u64>, LratFault>
-    ensures { Gives (λ ids. ids) result (ids_at line words.entry) }
+    ensures { LratOrNoMemory (λ ids. ids) result (ids_at line words.entry) }
 {
     let mut words = words;
     let mut ids = Vec::new(alloc);
@@ -95,7 +92,7 @@ fn read_ids(alloc: Global, words: Words<'_>, line: u64) -> Result<Seq<u64>, Lrat
 
 /// The clause and the hints of an addition.
 fn read_addition(alloc: Global, words: Words<'_>, line: u64) -> Result<Body, LratFault>
-    ensures { Gives (λ body. body) result (addition_of line words.entry) }
+    ensures { LratOrNoMemory (λ body. body) result (addition_of line words.entry) }
 {
     let mut words = words;
     let clause = read_lits(alloc, &mut words, line)?;
@@ -116,7 +113,7 @@ fn deleted<'a>(words: &Words<'a>) -> Option<Words<'a>>
 
 /// What a line says.
 fn read_step(alloc: Global, line: Line<'_>) -> Result<Step, LratFault>
-    ensures { Gives (λ step. step) result (step_of line.entry) }
+    ensures { LratOrNoMemory (λ step. step) result (step_of line.entry) }
 {
     let number = line.number;
     let mut words = line.words;
@@ -137,7 +134,7 @@ fn read_step(alloc: Global, line: Line<'_>) -> Result<Step, LratFault>
 
 /// The log, or its first bad line.
 fn read_text(alloc: Global, text: &[u8]) -> Result<Log, LratFault>
-    ensures { Gives (λ log. log) result (lrat text.now) }
+    ensures { LratOrNoMemory (λ log. log) result (lrat text.now) }
 {
     let mut lines = Lines::new(text, LAYOUT);
     let mut steps = Vec::new(alloc);
@@ -156,8 +153,8 @@ fn read_text(alloc: Global, text: &[u8]) -> Result<Log, LratFault>
 /// literal may have a minus before them. Hints that are negative are refused.
 pub fn read_lrat(alloc: Global, text: &[u8]) -> Result<Log, LratFault>
     ensures found { IfOk result (LratText text.now) }
-    ensures only { (log : Log) → LratText text.now log → Gives (λ read. read) result (Ok log) }
-    ensures exact { Gives (λ read. read) result (lrat text.now) }
+    ensures only { (log : Log) → LratText text.now log → LratOrNoMemory (λ read. read) result (Ok log) }
+    ensures exact { LratOrNoMemory (λ read. read) result (lrat text.now) }
 {
     read_text(alloc, text)
 }

@@ -73,7 +73,8 @@ impl<'a> Progress<'a> {
     /// Takes an addition.
     fn add(&mut self, id: u64, clause: &'a [Lit], hints: &[u64]) -> Result<Next, AllocError>
         ensures next { IfOk result (λ next. next ≡ next_by (addition_fault (state_of self.old) id clause.entry.now hints.now) (length clause.entry.now == 0)) }
-        ensures later { result ≡ Ok Next.Later → state_of self.new ≡ record { live = update nat_eq (live_in self.old.live) id (Some clause.entry.now); greatest = id } }
+        ensures later { result ≡ Ok Next.Later
+            → state_of self.new ≡ record { live = update nat_eq (live_in self.old.live) id (Some clause.entry.now); greatest = id } }
     {
         if id <= self.greatest {
             return Ok(Next::Refused(Why::UsedId(id)));

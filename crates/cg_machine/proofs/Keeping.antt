@@ -11,7 +11,7 @@ use Rattle.cg_netlist.specs.Circuit.{Circuit, RegisterCell}
 use Rattle.cg_machine.specs.Added.{find_delay, first_output, next_gate, next_name, next_net, push_delay, push_gate, set_enable}
 use Rattle.cg_machine.specs.Gates.{AddedGate, gate_cell}
 use Rattle.cg_machine.specs.inner.Kept.{delay_of, kept}
-use Rattle.cg_machine.specs.Added.{HasNames, own_netlist, own_nets, place_of}
+use Rattle.cg_machine.specs.Added.{HasNames, added_place, own_netlist, own_nets}
 use Rattle.cg_machine.specs.Machine.{MachineData, additions}
 use Rattle.cg_machine.specs.Run.{with_enables}
 use Rattle.cg_machine.specs.Start.{machine_of}
@@ -191,10 +191,10 @@ module _ (c : Circuit) (prefix : List ℕ) (es : List (Option ℕ)) (gs : List A
       ∙ ap (λ (d : Circuit). d.names ++ map name (range_with_len 0 (additions (kept c prefix es gs ds)))) (sym kept_own)
 
 -- the place of a net among those that were added
-pub place_before : (m : MachineData) (net number own : ℕ) → number ≡ net → own ≡ own_nets m → number < own → place_of m net ≡ None
+pub place_before : (m : MachineData) (net number own : ℕ) → number ≡ net → own ≡ own_nets m → number < own → added_place m net ≡ None
 place_before m net number own is count below = ap (λ b. if b then None else Some (net - own_nets m)) (lt-ltb net (own_nets m) (omega (arith, is, count, below)))
 
-pub place_behind : (m : MachineData) (net number own : ℕ) → number ≡ net → own ≡ own_nets m → own ≤ number → place_of m net ≡ Some (number - own)
+pub place_behind : (m : MachineData) (net number own : ℕ) → number ≡ net → own ≡ own_nets m → own ≤ number → added_place m net ≡ Some (number - own)
 place_behind m net number own is count past =
     let same : net - own_nets m ≡ number - own = omega (arith, is, count) in
     ap (λ b. if b then None else Some (net - own_nets m)) (false_from_ne_true (nat_lt net (own_nets m)) (λ low. let b = ltb-true net (own_nets m) low in omega (arith, b, is, count, past))) ∙ ap Some same

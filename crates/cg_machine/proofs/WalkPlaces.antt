@@ -12,7 +12,7 @@ use Rattle.cg_netlist.proofs.ConeEdge.{data_rises}
 use Rattle.cg_netlist.proofs.Driven.{in_range}
 use Rattle.cg_netlist.proofs.Given.{distinct_cells, driver_within}
 use Rattle.cg_netlist.proofs.Members.{distinct_append, is_in_right, one_place}
-use Rattle.cg_netlist.proofs.Mentions.{front_get}
+use Rattle.cg_netlist.proofs.TableLemmas.{front_get}
 use Rattle.cg_netlist.proofs.RisingNumbers.{range_rises}
 use Rattle.cg_netlist.specs.inner.Reaching.{IsWired, Rises}
 use Rattle.cg_netlist.proofs.WalkPlaces.{rises_once, walk_long, walk_once}

@@ -128,5 +128,5 @@ abbrev pub HasNames : MachineData → Type 0
 HasNames m = m.circuit.names ≡ (own_netlist m).names ++ map (added_name m) (range_with_len 0 (additions m))
 
 -- the place of an added net in the order of addition
-abbrev pub place_of : MachineData → ℕ → Option ℕ
-place_of m net = if nat_lt net (own_nets m) then None else Some (net - own_nets m)
+abbrev pub added_place : MachineData → ℕ → Option ℕ
+added_place m net = if nat_lt net (own_nets m) then None else Some (net - own_nets m)

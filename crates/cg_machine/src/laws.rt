@@ -1,6 +1,7 @@
 //! What is proved of machines.
 
-ghost use Rattle.cg_machine.specs.Laws.{DelayIsThere, EnabledIsMachine, ExtendsShowsSame, GateIsThere, NetlistIsRun, SameComposes, StartIsMachine, ValuesAreAll, ValuesSettle};
+ghost use Rattle.cg_machine.specs.Laws.{DelayIsThere, EnabledIsMachine, ExtendsShowsSame, GateIsThere};
+ghost use Rattle.cg_machine.specs.Laws.{NetlistIsRun, SameComposes, StartIsMachine, ValuesAreAll, ValuesSettle};
 
 /// The laws of machines: their nets have one list of bits in each cycle, what is added to them is there and shows
 /// nothing, machines that show the same may be chained, and the machine of a netlist runs as the netlist does.

@@ -1,12 +1,14 @@
 //! Machines.
 
-ghost use Rattle.std.specs.Prelude.{◌≡◌, ◌<◌, ◌≤◌, ◌∷◌, [], ℕ, List, Some, None, IfErr, IfOk, IsSome, OnErr, OnOk, MatchResult, length, nat_le, replicate, slice_get, unwrap_or};
+ghost use Rattle.std.specs.Prelude.{◌≡◌, ◌<◌, ◌≤◌, ◌∷◌, [], ℕ, List, Some, None, IfErr, IfOk, IsSome, OnErr};
+ghost use Rattle.std.specs.Prelude.{OnOk, MatchResult, length, nat_le, replicate, slice_get, unwrap_or};
 ghost use Rattle.std.specs.Option.{option_map};
 ghost use Rattle.cg_limit.specs.Answers.{OrNoMemory};
 ghost use Rattle.cg_netlist.specs.declared.fault.AddFault.{AddFault};
 ghost use Rattle.cg_netlist.specs.declared.fault.AddFault.TheVariants.{Limit as LimitFault, NoMemory};
 ghost use Rattle.cg_limit.specs.declared.Limit.TheVariants.{Nets, Registers};
-ghost use Rattle.cg_machine.specs.Added.{Added, HasNames, delay_answer, find_delay, find_gate, gate_answer, nets_limit, own_netlist, place_of, push_delay, push_gate, registers_limit, set_enable};
+ghost use Rattle.cg_machine.specs.Added.{Added, HasNames, added_place, delay_answer, find_delay, find_gate, gate_answer};
+ghost use Rattle.cg_machine.specs.Added.{nets_limit, own_netlist, push_delay, push_gate, registers_limit, set_enable};
 ghost use Rattle.cg_machine.specs.Extends.{GateFits, HasDelay, HasGate};
 ghost use Rattle.cg_machine.specs.Gates.{HasInputs};
 ghost use Rattle.cg_machine.specs.Machine.{IsMachine, IsNet, delay_cell, enable_of};
@@ -172,7 +174,7 @@ impl Machine {
 
     /// The place of a net in the order of addition, or `None` where the netlist has it.
     pub fn added(&self, net: NetId) -> Option<u32>
-        ensures { result ≡ place_of self.now net }
+        ensures { result ≡ added_place self.now net }
     {
         let own = self.netlist.nets();
         if net.number() < own {
@@ -307,7 +309,8 @@ impl Machine {
 
     /// The number of the next net, unless there are as many nets as there may be.
     fn next_net(&self) -> Result<NetId, AddFault>
-        ensures { MatchResult result (λ net. (net ≡ length self.now.circuit.names) × (nets_limit self.now ≡ None)) (λ fault. (fault ≡ LimitFault Nets) × (nets_limit self.now ≡ Some Nets)) }
+        ensures { MatchResult result (λ net. (net ≡ length self.now.circuit.names) × (nets_limit self.now ≡ None))
+            (λ fault. (fault ≡ LimitFault Nets) × (nets_limit self.now ≡ Some Nets)) }
     {
         let nets = self.nets();
         if (nets as usize) < MOST_NETS {
@@ -319,7 +322,8 @@ impl Machine {
 
     /// Refuses where there are as many registers as there may be.
     fn check_registers(&self) -> Result<(), AddFault>
-        ensures { MatchResult result (λ _. registers_limit self.now ≡ None) (λ fault. (fault ≡ LimitFault Registers) × (registers_limit self.now ≡ Some Registers)) }
+        ensures { MatchResult result (λ _. registers_limit self.now ≡ None)
+            (λ fault. (fault ≡ LimitFault Registers) × (registers_limit self.now ≡ Some Registers)) }
     {
         if (self.registers() as usize) < MOST_REGISTERS {
             Ok(())

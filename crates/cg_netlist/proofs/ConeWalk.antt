@@ -9,10 +9,11 @@ use Rattle.cg_netlist.specs.Nets.{IsWalk}
 use Rattle.cg_netlist.specs.WellFormed.{IsWellFormed}
 use Rattle.cg_netlist.specs.declared.driver.Driver.{Driver}
 use Rattle.cg_netlist.specs.declared.driver.Driver.TheVariants.{Cell}
-use Rattle.cg_netlist.specs.inner.Reaching.{IsReached, with_nets}
+use Rattle.cg_netlist.specs.inner.Reaching.{IsReached}
+use Rattle.cg_netlist.specs.NetSets.{with_nets}
 use Rattle.cg_netlist.proofs.Cones.{cone_is, longer}
 use Rattle.cg_netlist.proofs.FoundNets.{front, kept_all, only_these, put_all, same_truth, take_end, take_front}
-use Rattle.cg_netlist.proofs.MarkLemmas.{All-at}
+use Rattle.cg_netlist.proofs.TableLemmas.{All-at}
 use Rattle.cg_netlist.proofs.Members.{is_in_cases, member_at, place_of_member}
 use Rattle.cg_netlist.proofs.OneDriver.{cell_driver, cell_number}
 use Rattle.cg_netlist.proofs.Used.{input_is_used}

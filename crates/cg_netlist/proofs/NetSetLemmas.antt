@@ -5,7 +5,7 @@ use Rattle.std.proofs.lemmas.List.{length-set}
 use Rattle.std.proofs.lemmas.Option.{slice_get-get_or}
 use Rattle.std.proofs.lemmas.Bool.Decides.{eqb_tells}
 use Rattle.cg_netlist.specs.Circuit.{is_in}
-use Rattle.cg_netlist.specs.inner.Mentioned.{with_net}
+use Rattle.cg_netlist.specs.NetSets.{with_net}
 use Rattle.cg_netlist.specs.Marks.{AreMarked, is_marked}
 use Rattle.cg_netlist.proofs.Members.{is_in-append, is_in_right}
 use Rattle.cg_netlist.proofs.RankingLemmas.{in_alone}

@@ -10,7 +10,7 @@ use Rattle.cg_netlist.specs.Circuit.{is_in}
 use Rattle.cg_netlist.specs.Names.{is_known, with_name}
 use Rattle.cg_netlist.proofs.Members.{distinct_head, distinct_tail, member_at, one_place}
 use Rattle.cg_netlist.proofs.DifferentNames.{known_at}
-use Rattle.cg_netlist.proofs.MarkLemmas.{All-at}
+use Rattle.cg_netlist.proofs.TableLemmas.{All-at}
 use Rattle.cg_netlist.proofs.NameLemmas.{with_name-unknown}
 use Rattle.cg_netlist.proofs.RankingLemmas.{take_next}
 

@@ -10,7 +10,7 @@ use Rattle.std.proofs.lemmas.List.FromFn.{fill_by_all}
 use Rattle.std.proofs.lemmas.Option.{same_Some, slice_get_within, get_or_from_slice_get}
 use Rattle.cg_netlist.specs.Circuit.{LogicCell, is_in}
 use Rattle.cg_netlist.specs.Ranks.{next_rank, rank_of, ranks_of, driving_cell, driving_cells}
-use Rattle.cg_netlist.specs.Ranking.{HasLooked, HasReached, IsGraph, IsSound, IsSettled, Grows, Search, Settles, SettlesEach, Waits, entry, drivers_at, inputs_of, rank_under, unsearched}
+use Rattle.cg_netlist.specs.Ranking.{HasLooked, HasReached, IsGraph, IsSound, HasRankOrWaits, Grows, Search, RanksOrWaits, EachRanksOrWaits, Waits, entry, drivers_at, inputs_of, rank_under, unsearched}
 use Rattle.cg_netlist.proofs.RankLemmas.{rank_is, under_none}
 use Rattle.cg_netlist.proofs.RankingLemmas.{in_left, in_right, in_cases, take_next}
 use Rattle.cg_netlist.proofs.TableLemmas.{slice_get-set_other, set_cases, entry_or, same_or_not}
@@ -81,7 +81,7 @@ none_among f (i ∷ js) j in' none = elim (or_cases (nat_eq j i) (is_in js j) in
 
 module _ (drivers : List (Option ℕ)) (cells : List (LogicCell ℕ)) where
   -- a settled cell stays settled as the search goes on
-  pub settled_on : (old new : Search) (turn k : ℕ) → turn ≤ length old.found → Grows old new → IsSettled drivers cells old turn k → IsSettled drivers cells new turn k
+  pub settled_on : (old new : Search) (turn k : ℕ) → turn ≤ length old.found → Grows old new → HasRankOrWaits drivers cells old turn k → HasRankOrWaits drivers cells new turn k
   settled_on old new turn k within grows (inl ranked) = inl (some_kept (entry old.ranks k) (entry new.ranks k) (grows.ranks k) ranked)
   settled_on old new turn k within grows (inr waits) =
       let w = grows.waiting waits.for k waits.waiters waits.table waits.waits in
@@ -102,27 +102,27 @@ module _ (drivers : List (Option ℕ)) (cells : List (LogicCell ℕ)) where
   -- each cell before `next` was looked at
   pub record HasBegun (s : Search) (next : ℕ) : Type 0 where
     pub sound : IsSound drivers cells s
-    pub settled : (k : ℕ) → k < next → IsSettled drivers cells s 0 k
+    pub settled : (k : ℕ) → k < next → HasRankOrWaits drivers cells s 0 k
 
-  pub begun_more : (old new : Search) (next : ℕ) → HasBegun old next → Settles drivers cells old new next → HasBegun new (next + 1)
+  pub begun_more : (old new : Search) (next : ℕ) → HasBegun old next → RanksOrWaits drivers cells old new next → HasBegun new (next + 1)
   begun_more old new next begun settles = record {
     sound = settles.sound;
     settled = λ k lt. elim (same_or_not k next) [
-      | inl e ↦ subst (λ i. IsSettled drivers cells new 0 i) (sym e) (settles.settled 0)
+      | inl e ↦ subst (λ i. HasRankOrWaits drivers cells new 0 i) (sym e) (settles.settled 0)
       | inr e ↦ settled_on old new 0 k (omega arith) settles.grows (begun.settled k (omega (arith, e)))
     ];
   }
 
-  pub each_none : (s : Search) → IsSound drivers cells s → SettlesEach drivers cells s s []
+  pub each_none : (s : Search) → IsSound drivers cells s → EachRanksOrWaits drivers cells s s []
   each_none s sound = record { sound = sound; grows = grows_none s; settled = λ k turn within in'. absurd (cc) }
 
-  pub each_more : (first old new : Search) (which : List ℕ) (i k : ℕ) → SettlesEach drivers cells first old (take i which) → slice_get which i ≡ Some k → Settles drivers cells old new k → SettlesEach drivers cells first new (take (i + 1) which)
+  pub each_more : (first old new : Search) (which : List ℕ) (i k : ℕ) → EachRanksOrWaits drivers cells first old (take i which) → slice_get which i ≡ Some k → RanksOrWaits drivers cells old new k → EachRanksOrWaits drivers cells first new (take (i + 1) which)
   each_more first old new which i k each at settles = record {
     sound = settles.sound;
     grows = grows_on first old new each.grows settles.grows;
     settled = λ j turn within in'. elim (in_cases (take i which) (k ∷ []) j (subst (λ xs. is_in xs j ≡ true) (take_next which i k at) in')) [
       | inl before ↦ settled_on old new turn j (further first old turn each.grows within) settles.grows (each.settled j turn within before)
-      | inr now ↦ subst (λ x. IsSettled drivers cells new turn x) (sym (only k j now)) (settles.settled turn)
+      | inr now ↦ subst (λ x. HasRankOrWaits drivers cells new turn x) (sym (only k j now)) (settles.settled turn)
     ];
   }
 
@@ -144,7 +144,7 @@ module _ (drivers : List (Option ℕ)) (cells : List (LogicCell ℕ)) where
   }
 
   pub turn_taken : (s new : Search) (turn k : ℕ) (waiters : List ℕ) → HasReached drivers cells s turn → slice_get s.found turn ≡ Some k → slice_get s.waiting k ≡ Some waiters
-      → SettlesEach drivers cells (record s { waiting = slice_set s.waiting k [] }) new waiters → HasReached drivers cells new (turn + 1)
+      → EachRanksOrWaits drivers cells (record s { waiting = slice_set s.waiting k [] }) new waiters → HasReached drivers cells new (turn + 1)
   turn_taken s new turn k waiters reached at table each = record {
     sound = each.sound;
     within = further mid new (turn + 1) each.grows more;

@@ -8,7 +8,7 @@ use Rattle.std.proofs.lemmas.List.Sums.{sum_by-set}
 use Rattle.std.proofs.lemmas.List.Elements.{All-push}
 use Rattle.cg_netlist.specs.declared.ranks.Progress.{Progress}
 use Rattle.cg_netlist.specs.Circuit.{LogicCell, is_in}
-use Rattle.cg_netlist.specs.Ranking.{HasLooked, IsGraph, IsSound, Grows, Looks, Search, Settles, entry, drivers_at, inputs_of, rank_under, with_rank, with_waiter}
+use Rattle.cg_netlist.specs.Ranking.{HasLooked, IsGraph, IsSound, Grows, Looks, Search, RanksOrWaits, entry, drivers_at, inputs_of, rank_under, with_rank, with_waiter}
 use Rattle.cg_netlist.proofs.RankLemmas.{next_rank-bound, next_rank-more}
 use Rattle.cg_netlist.proofs.RankingLemmas.{in_left, in_right, in_alone}
 use Rattle.cg_netlist.proofs.TableLemmas.{slice_get-set_same, slice_get-set_other, set_cases, entry-set_same, entry-set_other, entry_or, same_or_not}
@@ -141,9 +141,9 @@ module _ (drivers : List (Option ℕ)) (cells : List (LogicCell ℕ)) where
   pub waits_in : (old mid : Search) (k j : ℕ) → IsGraph drivers cells → IsSound drivers cells old → Looks drivers cells old mid k (Some j) → j < length mid.waiting
   waits_in old mid k j graph sound looks = subst (λ m. j < length m.waiting) (sym looks.progress_set) (omega (arith, sound.waiting_fits, above_in (inputs_of cells k) j graph.driving looks.stops.0))
 
-  pub settled_by_wait : (old mid : Search) (k j : ℕ) → IsGraph drivers cells → IsSound drivers cells old → Looks drivers cells old mid k (Some j) → k < length cells → Settles drivers cells old (with_waiter mid j k) k
+  pub settled_by_wait : (old mid : Search) (k j : ℕ) → IsGraph drivers cells → IsSound drivers cells old → Looks drivers cells old mid k (Some j) → k < length cells → RanksOrWaits drivers cells old (with_waiter mid j k) k
   settled_by_wait old mid k j graph sound looks k_in =
-      subst (λ m. Settles drivers cells old (with_waiter m j k) k) (sym looks.progress_set) (record {
+      subst (λ m. RanksOrWaits drivers cells old (with_waiter m j k) k) (sym looks.progress_set) (record {
         sound = waiter_sound now j k now_sound j_in k_in;
         grows = record { ranks = grows.ranks; waiting = grows.waiting; more = grows.more; found = grows.found; new_ranks = grows.new_ranks };
         settled = λ turn. inr (record {
@@ -169,11 +169,11 @@ module _ (drivers : List (Option ℕ)) (cells : List (LogicCell ℕ)) where
       grows = waiter_grows now j k now_sound j_in
 
   pub settled_by_rank : (old mid : Search) (k : ℕ) → IsSound drivers cells old → Looks drivers cells old mid k None → k < length cells → entry old.ranks k ≡ None
-      → (p : Progress) × (slice_get mid.progress k ≡ Some p) × Settles drivers cells old (with_rank mid k p.rank) k
+      → (p : Progress) × (slice_get mid.progress k ≡ Some p) × RanksOrWaits drivers cells old (with_rank mid k p.rank) k
   settled_by_rank old mid k sound looks k_in unranked = (
     looks.progress,
     subst (λ m. slice_get m.progress k ≡ Some looks.progress) (sym looks.progress_set) (slice_get-set_same old.progress k looks.progress (omega (arith, sound.progress_fits))),
-    subst (λ m. Settles drivers cells old (with_rank m k looks.progress.rank) k) (sym looks.progress_set) (record {
+    subst (λ m. RanksOrWaits drivers cells old (with_rank m k looks.progress.rank) k) (sym looks.progress_set) (record {
       sound = rank_sound now k looks.progress.rank (looked_on old k looks.progress sound looks.looked) k_in unranked is;
       grows = record { ranks = grows.ranks; waiting = grows.waiting; more = grows.more; found = grows.found; new_ranks = grows.new_ranks };
       settled = λ turn. inl (ap is_some (entry-set_same old.ranks k (Some looks.progress.rank) (omega (arith, sound.ranks_fit))));

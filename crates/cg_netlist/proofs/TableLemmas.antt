@@ -1,8 +1,9 @@
 -- Lemmas on tables: lists that are read and written at a place.
-use Rattle.std.proofs.Common.{ℕ, zero, suc, ◌<◌, ◌≡◌, ◌≢◌, ◌⊎◌, inl, inr, List, [], ◌∷◌, Option, Some, None, length, set, get_or, refl, sym, ap, arith}
-use Rattle.std.specs.List.{slice_get}
+use Rattle.std.proofs.Common.{ℕ, zero, suc, ◌<◌, ◌≡◌, ◌≢◌, ◌⊎◌, inl, inr, List, [], ◌∷◌, Option, Some, None, length, set, get_or, ◌++◌, refl, sym, ap, arith}
+use Rattle.std.specs.List.{All, slice_get}
 use Rattle.std.specs.Option.{option_flatten}
-use Rattle.std.proofs.lemmas.Option.{same_Some, slice_get_within}
+use Rattle.std.proofs.lemmas.List.Elements.{All-get_or}
+use Rattle.std.proofs.lemmas.Option.{get_or_from_slice_get, same_Some, slice_get_within}
 use Rattle.std.proofs.lemmas.Bool.Decides.{eqb_tells}
 use Rattle.cg_netlist.specs.Ranking.{entry}
 
@@ -47,3 +48,11 @@ entry-set_other table k j o other = ap option_flatten (slice_get-set_other table
 
 pub same_or_not : (j k : ℕ) → (j ≡ k) ⊎ (j ≢ k)
 same_or_not j k = elim (eqb_tells j k) [ inl e ↦ inl e.1 | inr e ↦ inr e.1 ]
+
+pub All-at : (nets : List ℕ) (n i net : ℕ) → slice_get nets i ≡ Some net → All (λ x. x < n) nets → net < n
+All-at nets n i net at all = let here : get_or nets i 0 < n = All-get_or (λ x. x < n) nets i 0 (slice_get_within nets i net at) all in omega (arith, here, get_or_from_slice_get nets i net 0 at)
+
+pub front_get : {X : Type 0} (xs ys : List X) (i : ℕ) (x : X) → slice_get xs i ≡ Some x → slice_get (xs ++ ys) i ≡ Some x
+front_get [] ys i x at = absurd (cc)
+front_get (y ∷ xs) ys zero x at = at
+front_get (y ∷ xs) ys (suc i) x at = front_get xs ys i x at

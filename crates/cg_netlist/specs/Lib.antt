@@ -1,4 +1,3 @@
-pub mod Calls
 pub mod Chains
 pub mod Circuit
 pub mod Cone
@@ -6,7 +5,9 @@ pub mod Drivers
 pub mod History
 pub mod Marks
 pub mod Moment
+pub mod NamePlaces
 pub mod Names
+pub mod NetSets
 pub mod Netlist
 pub mod Nets
 pub mod Ordered

@@ -12,7 +12,7 @@ abbrev pub AreMarked : List Bool → List ℕ → Type 0
 AreMarked marks nets = (net : ℕ) → is_marked marks net ≡ is_in nets net
 
 -- the marks of the first n nets are those of a test
-pub record IsTable (marks : List Bool) (n : ℕ) (test : ℕ → Bool) : Type 0 where
+pub record AreMarksOf (marks : List Bool) (n : ℕ) (test : ℕ → Bool) : Type 0 where
   pub fits : length marks ≡ n
   pub tells : (net : ℕ) → net < n → is_marked marks net ≡ test net
 

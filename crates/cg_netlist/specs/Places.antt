@@ -1,18 +1,13 @@
--- The numbers that nets get.
+-- The numbers that nets get, and cells over so many nets.
 use Rattle.std.specs.Prelude.{ℕ, ◌<◌, List, slice_get, unwrap_or}
-use Rattle.std.specs.List.{All}
-use Rattle.cg_netlist.specs.Circuit.{LogicCell, RegisterCell, shown_nets}
+use Rattle.std.specs.List.{AllByRecursion}
+use Rattle.cg_netlist.specs.Circuit.{LogicCell}
 
 -- the number of a net in a table of numbers
 abbrev pub number_in : List ℕ → ℕ → ℕ
 number_in places net = unwrap_or (slice_get places net) 0
 
--- a table of n numbers has one for each net of a part
-pub record CellAmong (n : ℕ) (cell : LogicCell ℕ) : Type 0 where
-  pub inputs : All (λ net. net < n) cell.inputs
-  pub output : cell.output < n
-
-pub record RegisterAmong (n : ℕ) (register : RegisterCell ℕ ℕ) : Type 0 where
-  pub inputs : All (λ net. net < n) register.inputs
-  pub outputs : All (λ net. net < n) (shown_nets register)
-  pub clock : register.clock < n
+-- the nets of a logic cell are among the first m
+pub record CellWithin (m : ℕ) (cell : LogicCell ℕ) : Type 0 where
+  pub inputs : AllByRecursion (λ net. net < m) cell.inputs
+  pub output : cell.output < m

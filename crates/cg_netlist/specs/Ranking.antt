@@ -76,8 +76,8 @@ pub record Waits (drivers : List (Option ℕ)) (cells : List (LogicCell ℕ)) (s
   pub waits : is_in waiters k ≡ true
   pub pending : (entry s.ranks for ≡ None) ⊎ (is_in (drop turn s.found) for ≡ true)
 
-abbrev pub IsSettled : List (Option ℕ) → List (LogicCell ℕ) → Search → ℕ → ℕ → Type 0
-IsSettled drivers cells s turn k = IsSome (entry s.ranks k) ⊎ Waits drivers cells s turn k
+abbrev pub HasRankOrWaits : List (Option ℕ) → List (LogicCell ℕ) → Search → ℕ → ℕ → Type 0
+HasRankOrWaits drivers cells s turn k = IsSome (entry s.ranks k) ⊎ Waits drivers cells s turn k
 
 -- what a step of the search keeps: the ranks, who waits and what was found stay; a cell that gets a rank is found
 pub record Grows (old new : Search) : Type 0 where
@@ -89,22 +89,22 @@ pub record Grows (old new : Search) : Type 0 where
   pub new_ranks : (k : ℕ) → entry old.ranks k ≡ None → (entry new.ranks k ≡ None) ⊎ (is_in more k ≡ true)
 
 -- a step of the search on cell k, which has its rank or waits for one that it can wait for
-pub record Settles (drivers : List (Option ℕ)) (cells : List (LogicCell ℕ)) (old new : Search) (k : ℕ) : Type 0 where
+pub record RanksOrWaits (drivers : List (Option ℕ)) (cells : List (LogicCell ℕ)) (old new : Search) (k : ℕ) : Type 0 where
   pub sound : IsSound drivers cells new
   pub grows : Grows old new
-  pub settled : (turn : ℕ) → IsSettled drivers cells new turn k
+  pub settled : (turn : ℕ) → HasRankOrWaits drivers cells new turn k
 
 -- steps of the search on each of these cells
-pub record SettlesEach (drivers : List (Option ℕ)) (cells : List (LogicCell ℕ)) (old new : Search) (which : List ℕ) : Type 0 where
+pub record EachRanksOrWaits (drivers : List (Option ℕ)) (cells : List (LogicCell ℕ)) (old new : Search) (which : List ℕ) : Type 0 where
   pub sound : IsSound drivers cells new
   pub grows : Grows old new
-  pub settled : (k turn : ℕ) → turn ≤ length old.found → is_in which k ≡ true → IsSettled drivers cells new turn k
+  pub settled : (k turn : ℕ) → turn ≤ length old.found → is_in which k ≡ true → HasRankOrWaits drivers cells new turn k
 
 -- the search has given the cells found before `turn` their turn: each cell is settled as it is after these
 pub record HasReached (drivers : List (Option ℕ)) (cells : List (LogicCell ℕ)) (s : Search) (turn : ℕ) : Type 0 where
   pub sound : IsSound drivers cells s
   pub within : turn ≤ length s.found
-  pub settled : (k : ℕ) → k < length cells → IsSettled drivers cells s turn k
+  pub settled : (k : ℕ) → k < length cells → HasRankOrWaits drivers cells s turn k
 
 -- the table of the cells that drive the nets names cells, and has a place for each net at an input
 pub record IsGraph (drivers : List (Option ℕ)) (cells : List (LogicCell ℕ)) : Type 0 where

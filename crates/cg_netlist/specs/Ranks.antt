@@ -1,6 +1,6 @@
 -- How deep the logic cells of a netlist lie, in the words of levelised simulation: the rank of a cell is the length
 -- of the longest way up from it through logic cells.
-use Rattle.std.specs.Prelude.{ℕ, zero, suc, ◌+◌, ◌==◌, max, List, [], ◌∷◌, map, length, slice_get, Option, Some, None}
+use Rattle.std.specs.Prelude.{ℕ, zero, suc, ◌+◌, ◌==◌, max, Bool, false, List, [], ◌∷◌, map, length, slice_get, Option, Some, None, is_none}
 use Rattle.std.specs.List.{position_from, filter_map, range_with_len}
 use Rattle.std.specs.Option.{option_map, option_map_or}
 use Rattle.cg_netlist.specs.Circuit.{LogicCell}
@@ -31,3 +31,7 @@ rank_of cells = rank_within (driving_cells cells) (length cells)
 
 abbrev pub ranks_of : List (LogicCell ℕ) → List (Option ℕ)
 ranks_of cells = map (rank_of cells) (range_with_len 0 (length cells))
+
+-- a net is the output of a cell without a rank
+abbrev pub is_unranked : List (LogicCell ℕ) → ℕ → Bool
+is_unranked cells net = option_map_or (λ k. is_none (rank_of cells k)) (driving_cell cells net) false

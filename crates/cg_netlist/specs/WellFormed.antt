@@ -5,7 +5,7 @@ use Rattle.std.specs.Option.{option_to_list}
 use Rattle.std.specs.List.Sorted.{IsStrictlyIncreasing}
 use Rattle.cg_cell.specs.Name.{is_name}
 use Rattle.cg_cell.specs.Cell.{IsCell}
-use Rattle.cg_cell.specs.Cover.{Fits, IsCover}
+use Rattle.cg_cell.specs.Cover.{CoverFits, IsCover}
 use Rattle.cg_cell.specs.Pins.{PinData, is_data, is_test}
 use Rattle.cg_cell.specs.declared.cell.CellKind.TheVariants.{Logic, Flop as FlopKind, Gater as GaterKind}
 use Rattle.cg_cell.specs.declared.cell.Role.TheVariants.{State, StateBar}
@@ -17,7 +17,7 @@ use Rattle.cg_netlist.specs.Circuit.{Circuit, LogicCell, GatingCell, RegisterCel
 
 -- a function is one of this many inputs: a row of a cover has a place for each, a logic cell a data pin
 abbrev pub IsOver : ℕ → LogicFunction → Type 0
-IsOver inputs (Cover cover) = IsCover cover × Fits inputs cover
+IsOver inputs (Cover cover) = IsCover cover × CoverFits inputs cover
 IsOver inputs (Cell cell) = IsCell cell × (cell.kind ≡ Logic) × (count_by is_data cell.pins ≡ inputs)
 
 -- an output shows the inverse of a register's bit exactly where its pin is an output of the inverse

@@ -1,9 +1,4 @@
 pub mod Driving
-pub mod Finishing
-pub mod Heard
 pub mod Kept
-pub mod Mentioned
-pub mod NamePlaces
-pub mod Numbers
 pub mod Reaching
 pub mod Walking

@@ -1,4 +1,3 @@
-pub mod Building
 pub mod Faults
 pub mod Laws
 pub mod Part

@@ -22,7 +22,7 @@ impl Netlist {
 }
 
 /// Gating cells as cells over their clock pins alone.
-pub(crate) fn chain_of(alloc: Global, gaters: &[Gater]) -> Result<Vec<Logic>, AllocError>
+pub fn chain_of(alloc: Global, gaters: &[Gater]) -> Result<Vec<Logic>, AllocError>
     ensures { IfOk result (λ cells. cells.items ≡ chain gaters.now) }
 {
     let mut cells = Vec::with_capacity(alloc, gaters.len())?;

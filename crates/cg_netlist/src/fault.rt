@@ -36,7 +36,8 @@ pub enum NetFault {
     #[error("net {0:?} is no proper clock")]
     ClockFault(Name),
 
-    /// There is a register and no clock. It does not come while each register names its clock.
+    /// There is a register or a gating cell, and no place where the clock may come from: no clock is declared, and each net that is
+    /// named at a clock pin is the output of a gating cell.
     #[error("there is no clock")]
     NoClock,
 

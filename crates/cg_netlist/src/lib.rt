@@ -1,24 +1,17 @@
 //! Netlists as plain data, and what they mean.
 //!
-//! A `Builder` takes the parts of a netlist in file order, nets by their names. `Builder::finish` answers a
-//! `Netlist`, which is well formed and numbers its nets in net order, or the first fault of what was built.
+//! `Netlist::new` makes a netlist of parts that are one: well formed, with their nets in net order. Who has parts by the
+//! names of their nets makes it by the crate `cg_builder`.
 //!
 //! The modules, in the order in which data flows through them:
 //!
 //! - `id`: the numbers of nets, logic cells, registers and gating cells.
 //! - `fault`: why a part is not taken, and why parts make no netlist.
 //! - `names`: the names of nets in their order.
-//! - `marks`: marks on nets, and the first net that has one.
 //! - `net_set`: nets that are taken once.
 //! - `parts`: logic cells, gating cells and registers as a netlist keeps them.
-//! - `mention`: mentioning nets by their names.
-//! - `adding`: adding one part.
-//! - `builder`: building netlists, part by part.
 //! - `ranks`: how deep each logic cell lies under the registers and inputs, and which ones lie on a cycle.
-//! - `renumber`: parts with other numbers for their nets.
-//! - `order`: the places of the nets in net order.
-//! - `told`: the parts that a builder was told, with their nets in net order.
-//! - `finish`: the faults of what was built, in order.
+//! - `cycles`: marks on the nets that logic cells behind a cycle drive.
 //! - `view`: what a netlist shows of one of its parts.
 //! - `levels`: the logic cells in an order in which each stands behind those that drive its inputs.
 //! - `driver`: what drives each net.
@@ -36,31 +29,24 @@
 //! - `history`: that a netlist has one history for each start and waveform.
 #![tactic(auto)]
 
-mod adding;
 pub mod ascending;
-pub mod builder;
-mod chains;
+pub mod chains;
 pub mod cone;
+pub mod cycles;
 pub mod driver;
 pub mod edge;
 pub mod fault;
-mod finish;
 pub mod history;
 pub mod id;
 mod levels;
-mod marks;
-mod mention;
-mod names;
+pub mod names;
 pub mod net_set;
 pub mod netlist;
 mod next;
-mod order;
 pub mod part_laws;
 pub mod parts;
 mod ranks;
 pub mod reach;
-mod renumber;
-mod told;
 pub mod view;
 pub mod walk;
 pub mod walk_laws;

@@ -1,9 +1,10 @@
 //! The names of nets, numbered in the order in which they came.
 
-ghost use Rattle.std.specs.Prelude.{◌≡◌, ◌≢◌, ◌∷◌, [], ◌++◌, ◌<◌, ◌^◌, Some, false, true, length, slice_get, IfOk, MatchOption, OnErr, OnOk, if◌then◌else◌, map};
+ghost use Rattle.std.specs.Prelude.{◌≡◌, ◌≢◌, ◌∷◌, [], ◌++◌, ◌<◌, ◌^◌, Some, false, true, length};
+ghost use Rattle.std.specs.Prelude.{slice_get, IfOk, MatchOption, OnErr, OnOk, if◌then◌else◌, map};
 ghost use Rattle.std.specs.List.{AllPairs, list_any};
 ghost use Rattle.cg_netlist.specs.Names.{is_known, with_name};
-ghost use Rattle.cg_netlist.specs.inner.NamePlaces.{AreOrdered};
+ghost use Rattle.cg_netlist.specs.NamePlaces.{AreOrdered};
 ghost use Rattle.cg_netlist.specs.said.Wiring.{net_name};
 
 use crate::id::NetId;
@@ -16,7 +17,7 @@ use std::marker::Model;
 ///
 /// Clauses see the list of names.
 #[derive(Drop)]
-pub(crate) struct NetNames {
+pub struct NetNames {
     set: IndexSet<Vec<u8>>,
 }
 
@@ -31,7 +32,7 @@ impl Model for NetNames {
 
 impl NetNames {
     /// No names yet.
-    pub(crate) fn new(alloc: Global) -> NetNames
+    pub fn new(alloc: Global) -> NetNames
         ensures { result ≡ [] }
     {
         NetNames {
@@ -40,7 +41,7 @@ impl NetNames {
     }
 
     /// How many names there are.
-    pub(crate) fn len(&self) -> usize
+    pub fn len(&self) -> usize
         ensures count { result ≡ length self.now }
         ensures different { AllPairs (λ name other. name ≢ other) self.now }
     {
@@ -48,7 +49,7 @@ impl NetNames {
     }
 
     /// The name of this number.
-    pub(crate) fn name(&self, number: usize) -> &[u8]
+    pub fn name(&self, number: usize) -> &[u8]
         requires { number < length self.now }
         ensures { slice_get self.now number ≡ Some result.now }
     {
@@ -56,14 +57,14 @@ impl NetNames {
     }
 
     /// The number of a name, or `None` where it is none of these.
-    pub(crate) fn find(&self, name: &[u8]) -> Option<usize>
+    pub fn find(&self, name: &[u8]) -> Option<usize>
         ensures { MatchOption result (is_known self.now name.now ≡ false) (λ i. slice_get self.now i ≡ Some name.now) }
     {
         self.set.get_index_of(name)
     }
 
     /// The number of a name, which goes behind the others where it is none of them yet.
-    pub(crate) fn intern(&mut self, alloc: Global, name: &[u8]) -> Result<usize, AllocError>
+    pub fn intern(&mut self, alloc: Global, name: &[u8]) -> Result<usize, AllocError>
         ensures names { OnOk result (self.new ≡ with_name self.old name.now) }
         ensures number { IfOk result (λ i. slice_get self.new i ≡ Some name.now) }
         ensures err { OnErr result (self.new ≡ self.old) }
@@ -83,7 +84,7 @@ impl NetNames {
 ///
 /// Clauses see the list of names.
 #[derive(Drop)]
-pub(crate) struct OrderedNames {
+pub struct OrderedNames {
     names: NetNames,
     order: Vec<NetId>,
     places: Vec<NetId>,
@@ -91,7 +92,7 @@ pub(crate) struct OrderedNames {
 
 impl Model for OrderedNames {
     ghost use Rattle.std.specs.Prelude.{List, ℕ, map};
-    ghost use Rattle.cg_netlist.specs.inner.NamePlaces.{AreOrdered};
+    ghost use Rattle.cg_netlist.specs.NamePlaces.{AreOrdered};
     ghost use Rattle.cg_netlist.specs.said.Wiring.{net_name};
 
     ghost Value = { List (List ℕ) };
@@ -103,7 +104,7 @@ impl Model for OrderedNames {
 
 impl OrderedNames {
     /// The names of an order in which each net stands once at most, with the places of all nets.
-    pub(crate) fn new(names: NetNames, order: Vec<NetId>, places: Vec<NetId>) -> OrderedNames
+    pub fn new(names: NetNames, order: Vec<NetId>, places: Vec<NetId>) -> OrderedNames
         requires { AreOrdered names order.items places.items }
         ensures { result ≡ map (net_name names) order.items }
     {
@@ -115,14 +116,14 @@ impl OrderedNames {
     }
 
     /// How many names there are.
-    pub(crate) fn len(&self) -> usize
+    pub fn len(&self) -> usize
         ensures count { result ≡ length self.now }
     {
         self.order.len()
     }
 
     /// The name at this place.
-    pub(crate) fn name(&self, place: usize) -> &[u8]
+    pub fn name(&self, place: usize) -> &[u8]
         requires { place < length self.now }
         ensures { slice_get self.now place ≡ Some result.now }
     {
@@ -130,7 +131,7 @@ impl OrderedNames {
     }
 
     /// The place of a name, or `None` where it is none of these.
-    pub(crate) fn find(&self, name: &[u8]) -> Option<usize>
+    pub fn find(&self, name: &[u8]) -> Option<usize>
         ensures { MatchOption result (is_known self.now name.now ≡ false) (λ i. slice_get self.now i ≡ Some name.now) }
     {
         let place = match self.names.find(name) {

@@ -1,8 +1,7 @@
 //! Nets that are taken once.
 
 ghost use Rattle.std.specs.Prelude.{◌≡◌, ◌<◌, ◌^◌, ℕ, [], Some, false, OnOk, length, slice_get};
-ghost use Rattle.cg_netlist.specs.inner.Mentioned.{with_net};
-ghost use Rattle.cg_netlist.specs.inner.Reaching.{with_nets};
+ghost use Rattle.cg_netlist.specs.NetSets.{with_net, with_nets};
 ghost use Rattle.cg_netlist.specs.Marks.{AreMarked, is_marked};
 
 use crate::id::NetId;
@@ -88,7 +87,7 @@ impl NetSet {
     }
 
     /// The nets in their order.
-    pub(crate) fn into_vec(self) -> Vec<NetId>
+    pub fn into_vec(self) -> Vec<NetId>
         ensures { result.items ≡ self }
     {
         let NetSet { nets, marks: _ } = self;

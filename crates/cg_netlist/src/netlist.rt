@@ -51,8 +51,9 @@ impl Model for Netlist {
 }
 
 impl Netlist {
-    /// The netlist of these parts.
-    pub(crate) fn new(alloc: Global, parts: Parts) -> Result<Netlist, AllocError>
+    /// The netlist of these parts: well formed, with its nets in net order and within the limits. This is how a netlist comes
+    /// to be, for whoever has shown that its parts are one.
+    pub fn new(alloc: Global, parts: Parts) -> Result<Netlist, AllocError>
         requires { IsNetlist parts }
         ensures { IfOk result (λ netlist. netlist ≡ parts) }
     {

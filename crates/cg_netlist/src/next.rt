@@ -24,7 +24,8 @@ impl Netlist {
     pub fn next_value(&self, id: RegId, own: bool, values: &[bool]) -> bool
         requires register { id < length self.now.registers }
         requires values { length self.now.names ≤ length values.now }
-        ensures { (register : RegisterCell ℕ ℕ) → slice_get self.now.registers id ≡ Some register → result ≡ next_value register.kind (values_at values.now register.inputs) own }
+        ensures { (register : RegisterCell ℕ ℕ) → slice_get self.now.registers id ≡ Some register
+            → result ≡ next_value register.kind (values_at values.now register.inputs) own }
     {
         let _nets = self.nets();
         let register = self.register(id);

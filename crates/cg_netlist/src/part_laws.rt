@@ -2,7 +2,8 @@
 //!
 //! Each law is what a call ensures that does nothing: so it is proved as every contract is, and callers can use it.
 
-ghost use Rattle.cg_netlist.specs.said.Laws.{AtLeastOne, AtMostOne, FaultOrNone, NoFault, NoneBeside, OneFault, OwnParts, SaidByItsParts, SaidIsNetlist, SaidIsWritable, SaidMore, WritableIsSaid};
+ghost use Rattle.cg_netlist.specs.said.Laws.{AtLeastOne, AtMostOne, FaultOrNone, NoFault, NoneBeside, OneFault, OwnParts};
+ghost use Rattle.cg_netlist.specs.said.Laws.{SaidByItsParts, SaidIsNetlist, SaidIsWritable, SaidMore, WritableIsSaid};
 
 /// Parts that have no fault say one netlist, and parts that have one say none.
 pub fn one_netlist_said()

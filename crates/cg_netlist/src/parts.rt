@@ -31,10 +31,15 @@ pub enum RegisterKind {
 
 /// A logic cell.
 #[derive(Debug, Drop)]
-pub(crate) struct Logic {
-    pub(crate) inputs: Vec<NetId>,
-    pub(crate) output: NetId,
-    pub(crate) function: LogicFunction,
+pub struct Logic {
+    /// The input nets, in the order of the function's variables.
+    pub inputs: Vec<NetId>,
+
+    /// The output net.
+    pub output: NetId,
+
+    /// The function.
+    pub function: LogicFunction,
 }
 
 impl Model for Logic {
@@ -52,12 +57,21 @@ impl Model for Logic {
 
 /// A gating cell: a latch that follows the enable while the clock is low, and the AND of latch and clock.
 #[derive(Debug, Drop)]
-pub(crate) struct Gater {
-    pub(crate) clock: NetId,
-    pub(crate) enable: NetId,
-    pub(crate) test: Option<NetId>,
-    pub(crate) output: NetId,
-    pub(crate) cell: CellType,
+pub struct Gater {
+    /// The net at the clock pin.
+    pub clock: NetId,
+
+    /// The net at the enable pin.
+    pub enable: NetId,
+
+    /// The net at the test pin, where the cell has one.
+    pub test: Option<NetId>,
+
+    /// The output net.
+    pub output: NetId,
+
+    /// The placed cell of a library, of kind Gater.
+    pub cell: CellType,
 }
 
 impl Model for Gater {
@@ -73,16 +87,26 @@ impl Model for Gater {
     ghost view = { λ g. record { clock = g.clock; enable = g.enable; test = g.test; output = g.output; cell = g.cell } };
 }
 
-/// A register. An output is a net and whether it shows the inverse of the register's bit; `pins` has for each
-/// output the place of its pin among the library cell's pins, and 0 for a plain register.
+/// A register.
 #[derive(Debug, Drop)]
-pub(crate) struct Register {
-    pub(crate) inputs: Vec<NetId>,
-    pub(crate) outputs: Vec<(NetId, bool)>,
-    pub(crate) pins: Vec<u32>,
-    pub(crate) clock: NetId,
-    pub(crate) kind: RegisterKind,
-    pub(crate) init: u8,
+pub struct Register {
+    /// The input nets.
+    pub inputs: Vec<NetId>,
+
+    /// The output nets, each with true where it shows the inverse of the register's bit.
+    pub outputs: Vec<(NetId, bool)>,
+
+    /// For each output the place of its pin among the library cell's pins, counted from 0, and 0 for a plain register.
+    pub pins: Vec<u32>,
+
+    /// The clock net.
+    pub clock: NetId,
+
+    /// What the register is made of.
+    pub kind: RegisterKind,
+
+    /// The bit at the start: 0 or 1, 2 where it does not matter, 3 where it is not known.
+    pub init: u8,
 }
 
 impl Model for Register {
@@ -98,41 +122,32 @@ impl Model for Register {
     ghost view = { λ r. record { inputs = r.inputs.items; outputs = r.outputs.items; pins = r.pins.items; clock = r.clock; kind = r.kind; init = r.init } };
 }
 
-/// A register as a builder keeps it: one with no clock of its own is on the one clock of the netlist.
-#[derive(Debug, Drop)]
-pub(crate) struct OpenRegister {
-    pub(crate) inputs: Vec<NetId>,
-    pub(crate) outputs: Vec<(NetId, bool)>,
-    pub(crate) pins: Vec<u32>,
-    pub(crate) clock: Option<NetId>,
-    pub(crate) kind: RegisterKind,
-    pub(crate) init: u8,
-}
-
-impl Model for OpenRegister {
-    ghost use Rattle.std.specs.Prelude.{Option, ℕ};
-    ghost use Rattle.std.specs.Coded.{codes};
-    ghost use Rattle.cg_cell.specs.TermCode.{term_code};
-    ghost use Rattle.cg_netlist.specs.Circuit.{RegisterCell};
-
-    ghost Value = { RegisterCell ℕ (Option ℕ) };
-
-    ghost coded = { Prim.hlevel (codes, term_code) };
-
-    ghost view = { λ r. record { inputs = r.inputs.items; outputs = r.outputs.items; pins = r.pins.items; clock = r.clock; kind = r.kind; init = r.init } };
-}
-
-/// All parts of a netlist. Nets are numbered by the table of names.
+/// All parts of a netlist, which `Netlist::new` takes where they are one. Nets are numbered by the table of names.
 #[derive(Drop)]
-pub(crate) struct Parts {
-    pub(crate) model: Name,
-    pub(crate) names: OrderedNames,
-    pub(crate) inputs: Vec<NetId>,
-    pub(crate) clock: Option<NetId>,
-    pub(crate) outputs: Vec<NetId>,
-    pub(crate) cells: Vec<Logic>,
-    pub(crate) gaters: Vec<Gater>,
-    pub(crate) registers: Vec<Register>,
+pub struct Parts {
+    /// The name of the model.
+    pub model: Name,
+
+    /// The names of the nets, in the order of their numbers.
+    pub names: OrderedNames,
+
+    /// The inputs, the clock among them where it is one.
+    pub inputs: Vec<NetId>,
+
+    /// The clock, or `None` where nothing is clocked.
+    pub clock: Option<NetId>,
+
+    /// The outputs.
+    pub outputs: Vec<NetId>,
+
+    /// The logic cells.
+    pub cells: Vec<Logic>,
+
+    /// The gating cells.
+    pub gaters: Vec<Gater>,
+
+    /// The registers.
+    pub registers: Vec<Register>,
 }
 
 impl Model for Parts {
@@ -144,5 +159,14 @@ impl Model for Parts {
 
     ghost coded = { Prim.hlevel (codes, term_code) };
 
-    ghost view = { λ p. record { model = p.model; names = p.names; inputs = p.inputs.items; clock = p.clock; outputs = p.outputs.items; cells = p.cells.items; gaters = p.gaters.items; registers = p.registers.items } };
+    ghost view = { λ p. record {
+      model = p.model;
+      names = p.names;
+      inputs = p.inputs.items;
+      clock = p.clock;
+      outputs = p.outputs.items;
+      cells = p.cells.items;
+      gaters = p.gaters.items;
+      registers = p.registers.items;
+    } };
 }

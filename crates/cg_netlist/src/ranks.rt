@@ -5,9 +5,11 @@
 //! when a cell gets its rank, the search goes on with those that waited for it. It looks at each input once,
 //! and what still waits in the end lies under a cycle.
 
-ghost use Rattle.std.specs.Prelude.{◌≡◌, ℕ, ◌+◌, ◌<◌, ◌≤◌, length, slice_get, All, MatchOption, OnOk, None, Some, is_some, true, IfOk, slice_set, [], replicate, unwrap_or};
+ghost use Rattle.std.specs.Prelude.{◌≡◌, ℕ, ◌+◌, ◌<◌, ◌≤◌, length, slice_get, All, MatchOption, OnOk};
+ghost use Rattle.std.specs.Prelude.{None, Some, is_some, true, IfOk, slice_set, [], replicate, unwrap_or};
 ghost use Rattle.cg_netlist.specs.Circuit.{is_in};
-ghost use Rattle.cg_netlist.specs.Ranking.{HasLooked, IsGraph, IsSound, HasReached, Looks, Settles, SettlesEach, drivers_at, entry, inputs_of, unsearched, with_rank, with_waiter};
+ghost use Rattle.cg_netlist.specs.Ranking.{HasLooked, IsGraph, IsSound, HasReached, Looks, RanksOrWaits, EachRanksOrWaits};
+ghost use Rattle.cg_netlist.specs.Ranking.{drivers_at, entry, inputs_of, unsearched, with_rank, with_waiter};
 ghost use Rattle.cg_netlist.specs.Ranks.{driving_cell, ranks_of};
 ghost use Rattle.cg_netlist.specs.declared.ranks.Progress.{Progress};
 
@@ -149,7 +151,7 @@ impl Ranking {
         requires graph { IsGraph drivers.now cells.now }
         requires sound { IsSound drivers.now cells.now self.old }
         requires cells { All (λ cell. cell < length cells.now) which.now }
-        ensures { OnOk result (SettlesEach drivers.now cells.now self.old self.new which.now) }
+        ensures { OnOk result (EachRanksOrWaits drivers.now cells.now self.old self.new which.now) }
     {
         for cell in which {
             self.settle(cells, drivers, *cell)?;
@@ -180,7 +182,7 @@ impl Ranking {
         requires graph { IsGraph drivers.now cells.now }
         requires sound { IsSound drivers.now cells.now self.old }
         requires cell { cell < length cells.now }
-        ensures { OnOk result (Settles drivers.now cells.now self.old self.new cell) }
+        ensures { OnOk result (RanksOrWaits drivers.now cells.now self.old self.new cell) }
     {
         if self.is_ranked(cell) {
             return Ok(());

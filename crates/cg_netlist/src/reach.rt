@@ -62,7 +62,8 @@ fn reach<W: Wiring>(wiring: &W, roots: &[NetId], found: &mut NetSet) -> Result<(
 fn spread<W: Wiring>(wiring: &W, next: usize, found: &mut NetSet) -> Result<(), AllocError>
     requires next { next < length found.old }
     requires within { (y : ℕ) → is_in found.old y ≡ true → y < length (W.circuit wiring.now).names }
-    ensures { OnOk result ((roots : List ℕ) → IsReached (W.circuit wiring.now) roots next found.old → IsReached (W.circuit wiring.now) roots (next + 1) found.new) }
+    ensures { OnOk result ((roots : List ℕ) → IsReached (W.circuit wiring.now) roots next found.old
+        → IsReached (W.circuit wiring.now) roots (next + 1) found.new) }
 {
     let _nets = wiring.net_count();
     match wiring.net_driver(found.net(next)) {

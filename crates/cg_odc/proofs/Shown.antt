@@ -11,7 +11,7 @@ use Rattle.cg_netlist.specs.WellFormed.{IsDriven}
 use Rattle.cg_netlist.specs.declared.driver.Driver.{Driver}
 use Rattle.cg_netlist.specs.declared.driver.Driver.TheVariants.{Input, Clock, Cell, Gater, Register}
 use Rattle.cg_netlist.proofs.DriverTable.{register_net_within}
-use Rattle.cg_machine.specs.Added.{own_netlist, own_nets, place_of}
+use Rattle.cg_machine.specs.Added.{added_place, own_netlist, own_nets}
 use Rattle.cg_machine.specs.Machine.{IsMachine, MachineData}
 use Rattle.cg_machine.proofs.Lists.{take_get}
 use Rattle.cg_claim.proofs.DriversTell.{driven_value, driver_tells}
@@ -119,7 +119,7 @@ module _ (m : MachineData) (good : IsMachine m) where
       short (suc n) (x ∷ xs) = let h = short n xs in omega (arith, h)
 
 -- a net that was added, and one that was not
-pub place_added : (m : MachineData) (y : ℕ) → is_some (place_of m y) ≡ true → own_nets m ≤ y
+pub place_added : (m : MachineData) (y : ℕ) → is_some (added_place m y) ≡ true → own_nets m ≤ y
 place_added m y added = go (nat_lt y (own_nets m)) refl added
   where
     go : (b : Bool) → nat_lt y (own_nets m) ≡ b → is_some (if b then None else Some (y - own_nets m)) ≡ true → own_nets m ≤ y
@@ -134,7 +134,7 @@ place_added m y added = go (nat_lt y (own_nets m)) refl added
             le-or-lt (suc x) zero = inr (omega arith)
             le-or-lt (suc x) (suc z) = elim (le-or-lt x z) [ inl h ↦ inl (omega arith) | inr h ↦ inr (omega arith) ]
 
-pub place_own : (m : MachineData) → IsMachine m → (y : ℕ) → is_some (place_of m y) ≡ false → y < length (own_netlist m).names
+pub place_own : (m : MachineData) → IsMachine m → (y : ℕ) → is_some (added_place m y) ≡ false → y < length (own_netlist m).names
 place_own m good y own = go (nat_lt y (own_nets m)) refl own
   where
     go : (b : Bool) → nat_lt y (own_nets m) ≡ b → is_some (if b then None else Some (y - own_nets m)) ≡ false → y < length (own_netlist m).names

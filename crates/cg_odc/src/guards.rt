@@ -58,7 +58,8 @@ impl Guards {
     fn spread(&mut self, registers: &[RegId], reg: RegId, guard: RegId) -> Result<(), AllocError>
         ensures count { OnOk result (length self.new.lists.items ≡ length self.old.lists.items) }
         ensures each { OnOk result ((g : ℕ) → g < length self.old.lists.items → (q : ℕ)
-            → is_in (list_at self.new.lists.items g) q ≡ (is_in (list_at self.old.lists.items g) q || (is_in registers.now g && (not (nat_eq g reg) && not (nat_eq g guard)) && nat_eq q guard))) }
+            → is_in (list_at self.new.lists.items g) q ≡
+            (is_in (list_at self.old.lists.items g) q || (is_in registers.now g && (not (nat_eq g reg) && not (nat_eq g guard)) && nat_eq q guard))) }
     {
         for under in registers {
             self.put_apart(*under, reg, guard)?;
@@ -70,7 +71,8 @@ impl Guards {
     fn put_apart(&mut self, under: RegId, reg: RegId, guard: RegId) -> Result<(), AllocError>
         ensures count { OnOk result (length self.new.lists.items ≡ length self.old.lists.items) }
         ensures each { OnOk result ((g : ℕ) → g < length self.old.lists.items → (q : ℕ)
-            → is_in (list_at self.new.lists.items g) q ≡ (is_in (list_at self.old.lists.items g) q || (nat_eq g under && (not (nat_eq g reg) && not (nat_eq g guard)) && nat_eq q guard))) }
+            → is_in (list_at self.new.lists.items g) q ≡
+            (is_in (list_at self.old.lists.items g) q || (nat_eq g under && (not (nat_eq g reg) && not (nat_eq g guard)) && nat_eq q guard))) }
     {
         if under.number() == reg.number() || under.number() == guard.number() {
             return Ok(());

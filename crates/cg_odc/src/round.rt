@@ -31,7 +31,9 @@ pub(crate) fn leave_out(
 
 /// Clears the keys of the registers of one stage, where it is one of unobservability and leaves them out.
 fn leave_out_of(alloc: Global, before: &Earlier, keys: &mut [Option<Key>]) -> Result<(), AllocError>
-    ensures { OnOk result ((r : ℕ) → key_at keys.new r ≡ (if (same_kind before.now.stage.kind Unseen && is_in before.now.stage.regs r) then without before.now.inserted (guard_key before.now.stage.guards) (key_at keys.old r) else key_at keys.old r)) }
+    ensures { OnOk result ((r : ℕ)
+        → key_at keys.new r ≡ (if (same_kind before.now.stage.kind Unseen && is_in before.now.stage.regs r)
+        then without before.now.inserted (guard_key before.now.stage.guards) (key_at keys.old r) else key_at keys.old r)) }
 {
     if !is_unseen(before.stage.kind) {
         return Ok(());

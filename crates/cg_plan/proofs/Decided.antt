@@ -17,7 +17,7 @@ use Rattle.cg_claim.specs.Leaves.{width_of}
 use Rattle.cg_claim.specs.Question.{Question, hold_question, idle_question, stable_question, target_part, unseen_question}
 use Rattle.cg_claim.specs.Reach.{registers_of}
 use Rattle.cg_claim.specs.Targets.{all_targets, meets, output_targets, unseen_targets}
-use Rattle.cg_claim.specs.Violates.{PartFits}
+use Rattle.cg_claim.specs.Violates.{CopyPartFits}
 use Rattle.cg_claim.specs.declared.name.ClaimName.{ClaimName}
 use Rattle.cg_claim.specs.declared.name.ClaimName.TheVariants.{Enable, Hold as HoldName, Next as NextName, Output, Stable as StableName}
 use Rattle.cg_claim.proofs.Apart.{apart_unseen}
@@ -89,7 +89,7 @@ module _ (m : MachineData) where
   )
   target_among Joined is = (Enable, in_back (Enable, Joined) (output_targets 0 m.circuit.outputs ++ map (λ q. (NextName q, Next q)) (registers_of m)) ((Enable, Joined) ∷ []) (record { place = 0; at = refl }))
 
-  pub fits_part : (t : Target) → IsTarget m t → PartFits m (target_part t)
+  pub fits_part : (t : Target) → IsTarget m t → CopyPartFits m (target_part t)
   fits_part (Shown y) is = tt
   fits_part (Next r) is = is
   fits_part Joined is = tt

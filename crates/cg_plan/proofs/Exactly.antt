@@ -32,7 +32,7 @@ use Rattle.cg_plan.specs.Trying.{Ends, Passes, Tried, decided, first_false, meas
 use Rattle.cg_plan.specs.declared.outcome.Outcome.TheVariants.{Inserted, NeverIdle, Small, Wide}
 use Rattle.cg_plan.specs.declared.settings.Settings.{Settings}
 use Rattle.cg_claim.specs.Violates.{violates}
-use Rattle.cg_plan.specs.Laws.{Deserves, InsertedExactly}
+use Rattle.cg_plan.specs.Laws.{InsertedExactly, IsInsertable}
 use Rattle.cg_plan.proofs.Decided.{fits_part, inserted_claims, inserted_decided, inserted_free}
 
 not_less : (a b : ℕ) → nat_lt a b ≡ false → b ≤ a
@@ -174,7 +174,7 @@ module _ (m : MachineData) (good : IsMachine m) where
       abbrev claims : List (NamedClaim)
       claims = all_claims m s
 
-      to : Deserves library settings m s → tried library settings m s ≡ Ends Inserted
+      to : IsInsertable library settings m s → tried library settings m s ≡ Ends Inserted
       to d =
           let first : first_false m (claims_of m s) ≡ None = all_never (claims_of m s) (each_never s.kind d.holds) in
           let decides : decided m s ≡ Ends Inserted =
@@ -207,7 +207,7 @@ module _ (m : MachineData) (good : IsMachine m) where
           go true is k = absurd (cc)
           go false is k = is
 
-      from : tried library settings m s ≡ Ends Inserted → Deserves library settings m s
+      from : tried library settings m s ≡ Ends Inserted → IsInsertable library settings m s
       from h =
           let p : Passed = passed h in record {
             large = p.large;

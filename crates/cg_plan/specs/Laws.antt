@@ -19,7 +19,7 @@ use Rattle.cg_plan.specs.Cells.{HasCells}
 use Rattle.cg_plan.specs.Plan.{Turn, plan_of}
 use Rattle.cg_plan.specs.StageClaims.{NamedClaim, all_claims}
 use Rattle.cg_plan.specs.Trying.{Ends, tried}
-use Rattle.cg_plan.specs.Told.{AreAppended, AreCertified, AreTold, IsPlan, Tells, ToldPlan, claims_for, plan_claims}
+use Rattle.cg_plan.specs.Told.{AreAppended, AreCertified, AreTold, IsPlan, TellsOutcome, ToldPlan, claims_for, plan_claims}
 use Rattle.cg_plan.specs.declared.certificate.Certificate.{Certificate}
 use Rattle.cg_plan.specs.declared.outcome.Outcome.{Outcome}
 use Rattle.cg_plan.specs.declared.outcome.Outcome.TheVariants.{Inserted}
@@ -28,7 +28,7 @@ use Rattle.cg_stage.specs.Effects.{effect}
 
 -- What a stage needs to be inserted: it is large enough, the library has its cells, its claims are narrow and have no more
 -- nodes than a claim may have, it can idle, its claims hold over all states and inputs, and no other limit is passed.
-pub record Deserves (library : List CellData) (settings : Settings) (m : MachineData) (s : Stage) : Type 0 where
+pub record IsInsertable (library : List CellData) (settings : Settings) (m : MachineData) (s : Stage) : Type 0 where
   pub large : settings.min ≤ length s.regs
   pub cells : missing library (needs settings.test s) ≡ None
   pub narrow : (k : ℕ) (c : NamedClaim) → slice_get (all_claims m s) k ≡ Some c → (width_of m c.1 ≤ settings.width) × (nodes_of m c.1 ≤ 65536)
@@ -38,7 +38,7 @@ pub record Deserves (library : List CellData) (settings : Settings) (m : Machine
 
 -- a stage that fits is inserted exactly where it deserves it
 abbrev pub InsertedExactly : Type 0
-InsertedExactly = (library : List CellData) (settings : Settings) (m : MachineData) (s : Stage) → IsMachine m → Fits m s → (tried library settings m s ≡ Ends Inserted) ↔ Deserves library settings m s
+InsertedExactly = (library : List CellData) (settings : Settings) (m : MachineData) (s : Stage) → IsMachine m → Fits m s → (tried library settings m s ≡ Ends Inserted) ↔ IsInsertable library settings m s
 
 -- and then the machine after it shows what the machine before it shows
 abbrev pub InsertedIsSafe : Type 0
@@ -76,7 +76,7 @@ ToldIsSafe = (library : List CellData) (settings : Settings) (idle : Option Idle
 -- What is told of a plan may be told turn by turn: of one more turn its stage with its outcome behind the others, and the
 -- certificates of its claims behind the others.
 abbrev pub StagesAreTold : Type 0
-StagesAreTold = (turns : List Turn) (told : List (Stage × Outcome)) (turn : Turn) (outcome : Outcome) → AreTold turns told → Tells turn.machine turn.stage (Ends turn.outcome) outcome
+StagesAreTold = (turns : List Turn) (told : List (Stage × Outcome)) (turn : Turn) (outcome : Outcome) → AreTold turns told → TellsOutcome turn.machine turn.stage (Ends turn.outcome) outcome
     → AreTold (turns ++ turn ∷ []) (told ++ (turn.stage, outcome) ∷ [])
 
 abbrev pub CertificatesAreTold : Type 0

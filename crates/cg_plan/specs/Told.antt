@@ -46,8 +46,8 @@ IsBacked m s (Refuted claim bits) = IsRefuted m s claim bits
 IsBacked m s _ = Unit {0}
 
 -- an outcome that is told of a stage on a machine is what comes of it, and bits that are told with it violate the claim
-abbrev pub Tells : MachineData → Stage → Tried → Outcome → Type 0
-Tells m s result told = (result ≡ Ends (without_bits told)) × IsBacked m s told
+abbrev pub TellsOutcome : MachineData → Stage → Tried → Outcome → Type 0
+TellsOutcome m s result told = (result ≡ Ends (without_bits told)) × IsBacked m s told
 
 -- a fault of trying a stage: the limit that is passed, or want of memory at any time
 abbrev pub MayFail : Tried → AddFault → Type 0
@@ -96,7 +96,7 @@ pub record AreAppended (claims : List StageClaim) (before after : List Certifica
 abbrev pub AreTold : List Turn → List (Stage × Outcome) → Type 0
 AreTold [] told = told ≡ []
 AreTold (turn ∷ turns) [] = ⊥
-AreTold (turn ∷ turns) (t ∷ told) = (t.0 ≡ turn.stage) × Tells turn.machine turn.stage (Ends turn.outcome) t.1 × AreTold turns told
+AreTold (turn ∷ turns) (t ∷ told) = (t.0 ≡ turn.stage) × TellsOutcome turn.machine turn.stage (Ends turn.outcome) t.1 × AreTold turns told
 
 -- a plan as it is told: the machine at its end, its stages with their outcomes, of how many registers the hold claims are
 -- too wide on the machine that it begins with, and the certificates

@@ -1,6 +1,7 @@
 //! What is proved of plans.
 
-ghost use Rattle.cg_plan.specs.Laws.{CertificatesAreTold, EachFits, InsertedExactly, InsertedIsSafe, PlanHasCells, PlanIsSafe, PlanShowsNetlist, StagesAreTold, ToldIsSafe};
+ghost use Rattle.cg_plan.specs.Laws.{CertificatesAreTold, EachFits, InsertedExactly, InsertedIsSafe};
+ghost use Rattle.cg_plan.specs.Laws.{PlanHasCells, PlanIsSafe, PlanShowsNetlist, StagesAreTold, ToldIsSafe};
 
 /// The laws of plans: a stage is inserted exactly where its claims hold and are narrow, it can idle, it is large enough, the
 /// library has its cells and no limit is passed. Each stage of a plan fits the machine at its turn. The machine of a plan

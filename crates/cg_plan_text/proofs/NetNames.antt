@@ -8,7 +8,7 @@ use Rattle.std.proofs.lemmas.Bool.{ltb-false}
 use Rattle.std.proofs.lemmas.List.{get_or-append_right, get_or-take, length-append, length-map, length-take-le}
 use Rattle.std.proofs.lemmas.List.FromFn.{get_or-map-range_with_len, length-range_with_len}
 use Rattle.std.proofs.lemmas.Option.{get_or_from_slice_get, slice_get_past, unwrap_or-slice_get}
-use Rattle.cg_machine.specs.Added.{HasNames, first_output, own_netlist, own_nets, place_of}
+use Rattle.cg_machine.specs.Added.{HasNames, added_place, first_output, own_netlist, own_nets}
 use Rattle.cg_machine.specs.Machine.{MachineData, added_name, additions, delay_cell}
 use Rattle.cg_machine.proofs.Lists.{take_get}
 use Rattle.cg_netlist.specs.Circuit.{RegisterCell}
@@ -55,7 +55,7 @@ register_net-none m r past = ap named_by (slice_get_past m.circuit.registers r p
 pub ruleset net_names = (net_word-own, net_word-none)
 
 -- a net that has a place in the order of addition
-pub net_word-placed : (m : MachineData) (net place : ℕ) → HasNames m → net < length m.circuit.names → Some place ≡ place_of m net → net_word m net ≡ m.prefix ++ decimal place
+pub net_word-placed : (m : MachineData) (net place : ℕ) → HasNames m → net < length m.circuit.names → Some place ≡ added_place m net → net_word m net ≡ m.prefix ++ decimal place
 net_word-placed m net place names below is = go (nat_lt net (own_nets m)) refl
   where
     go : (b : Bool) → nat_lt net (own_nets m) ≡ b → net_word m net ≡ m.prefix ++ decimal place

@@ -7,7 +7,7 @@ ghost use Rattle.cg_formula.specs.DimacsText.{dimacs_text};
 ghost use Rattle.cg_lrat.specs.Bounds.{IsLog};
 ghost use Rattle.cg_lrat.specs.LratText.{lrat_text};
 ghost use Rattle.cg_plan_text.specs.ProofText.{certificate_text, heading_words, proof_text};
-ghost use Rattle.cg_planner.specs.Planning.{AreWritable, IsWritable, told};
+ghost use Rattle.cg_planner.specs.Planning.{AreWritable, IsWritableCertificate, told};
 ghost use Rattle.cg_text.specs.Written.{line_text};
 
 use crate::claim::push_claim;
@@ -60,7 +60,7 @@ fn push_certificate(
     machine: &Machine,
     certificate: &Certificate,
 ) -> Result<(), AllocError>
-    requires { IsWritable certificate.now }
+    requires { IsWritableCertificate certificate.now }
     ensures { OnOk result (text.new.items ≡ text.old.items ++ certificate_text machine.now certificate.now) }
 {
     push_heading(text, machine, certificate)?;

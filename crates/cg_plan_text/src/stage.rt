@@ -56,7 +56,8 @@ fn push_one(text: &mut Vec<u8>, machine: &Machine, reg: RegId) -> Result<(), All
 /// Puts `enable`, the number of the literals and their names behind a text.
 #[tactic(auto, using(crate::proofs::TextLemmas::turns))]
 fn push_enables(text: &mut Vec<u8>, machine: &Machine, enable: &[NetLit]) -> Result<(), AllocError>
-    ensures { OnOk result (text.new.items ≡ text.old.items ++ spaced (codes "enable" ∷ decimal (length enable.now) ∷ map (literal_word machine.now) enable.now)) }
+    ensures { OnOk result
+        (text.new.items ≡ text.old.items ++ spaced (codes "enable" ∷ decimal (length enable.now) ∷ map (literal_word machine.now) enable.now)) }
 {
     push_word(text, b"enable")?;
     push_count(text, enable.len() as u64)?;

@@ -3,7 +3,8 @@
 ghost use Rattle.std.specs.Prelude.{◌≡◌, ◌++◌, ◌∷◌, [], decimal, IfOk, OnOk};
 ghost use Rattle.std.specs.List.{count_by};
 ghost use Rattle.cg_plan.specs.Plan.{is_inserted};
-ghost use Rattle.cg_plan_text.specs.Summary.{demo_text, difference_word, edges_line, edges_words, played_lines, report_text, said_text, summary_of, watched_line};
+ghost use Rattle.cg_plan_text.specs.Summary.{demo_text, difference_word, edges_line, edges_words};
+ghost use Rattle.cg_plan_text.specs.Summary.{played_lines, report_text, said_text, summary_of, watched_line};
 ghost use Rattle.cg_planner.specs.Planning.{told};
 ghost use Rattle.cg_text.specs.Written.{line_text};
 

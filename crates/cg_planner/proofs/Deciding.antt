@@ -13,7 +13,7 @@ use Rattle.cg_claim.specs.Violates.{SidesFit}
 use Rattle.cg_claim.specs.declared.leaf.LeafBit.{LeafBit}
 use Rattle.cg_claim.specs.declared.name.ClaimName.{ClaimName}
 use Rattle.cg_cnf.specs.Clauses.{IsOneAt, formula_of}
-use Rattle.cg_decide.specs.Decision.{IsNeverOne, IsProved, IsWritable as CanBeWritten}
+use Rattle.cg_decide.specs.Decision.{IsNeverOne, IsProved, IsWritableDecision as CanBeWritten}
 use Rattle.cg_cell.specs.Domain.{Seen}
 use Rattle.cg_decide.specs.declared.decision.Decision.{Decision}
 use Rattle.cg_decide.specs.declared.decision.Decision.TheVariants.{Never}
@@ -31,7 +31,7 @@ use Rattle.cg_plan.specs.StageClaims.{NamedClaim}
 use Rattle.cg_plan.specs.Told.{AreCertified, Certifies, DoViolate, StageClaim}
 use Rattle.cg_plan.specs.Trying.{first_false}
 use Rattle.cg_plan.specs.declared.certificate.Certificate.{Certificate}
-use Rattle.cg_planner.specs.Planning.{AreWritable, IsWritable}
+use Rattle.cg_planner.specs.Planning.{AreWritable, IsWritableCertificate}
 use Rattle.cg_planner.specs.inner.Deciding.{AllCertified, Grow, IsCertified, IsDecided, IsViolated, numbered}
 use Rattle.cg_planner.specs.inner.Naming.{claims_named, named}
 use Rattle.cg_planner.proofs.Naming.{length_map}
@@ -56,7 +56,7 @@ module _ (goals : GoalViolates) (law : NeverIsTried) (m : MachineData) (q : Ques
 
   -- a certificate that the goal is never 1
   pub settled_never : (number : ℕ) (name : ClaimName) (before after : List Certificate) (certificate : Certificate) → IsNeverOne claim.aig claim.goal
-      → certificate.stage ≡ number → certificate.claim ≡ name → certificate.formula ≡ formula_of claim.aig claim.goal → IsAccepted certificate.formula certificate.log → IsWritable certificate → after ≡ before ++ certificate ∷ []
+      → certificate.stage ≡ number → certificate.claim ≡ name → certificate.formula ≡ formula_of claim.aig claim.goal → IsAccepted certificate.formula certificate.log → IsWritableCertificate certificate → after ≡ before ++ certificate ∷ []
       → IsDecided m number (name, q) before after None
   settled_never number name before after certificate never stage_is name_is formula_is accepted writable whole = (
     sym (decided_never law m q width claim good fits is never),
@@ -96,7 +96,7 @@ all_more m number claims c before middle after all one = record {
     certified = subst (λ l. AreCertified l (all.appended.more ++ one.certificate ∷ [])) (sym (numbered_more claims))
         (certified_more (numbered m number claims) all.appended.more (record { machine = m; number = number; claim = c }) one.certificate all.appended.certified one.certifies);
   };
-  writable = λ are. subst AreWritable (sym one.whole) (All-append (λ (d : Certificate). IsWritable d) middle (one.certificate ∷ []) (all.writable are) (All-cons (λ (d : Certificate). IsWritable d) one.certificate [] one.writable (All-nil (λ (d : Certificate). IsWritable d))));
+  writable = λ are. subst AreWritable (sym one.whole) (All-append (λ (d : Certificate). IsWritableCertificate d) middle (one.certificate ∷ []) (all.writable are) (All-cons (λ (d : Certificate). IsWritableCertificate d) one.certificate [] one.writable (All-nil (λ (d : Certificate). IsWritableCertificate d))));
 }
   where
     numbered_more : (ds : List NamedClaim) → numbered m number (ds ++ c ∷ []) ≡ numbered m number ds ++ record { machine = m; number = number; claim = c } ∷ []

@@ -13,7 +13,7 @@ use Rattle.cg_netlist.specs.declared.fault.AddFault.TheVariants.{Limit as LimitF
 use Rattle.cg_plan.proofs.PlanSafe.{IsSafe, Next, one_safe}
 use Rattle.cg_plan.proofs.Telling.{certificates_told, stages_told}
 use Rattle.cg_plan.specs.Plan.{Plan, Turn, after_outcome, after_try, earlier_of, is_inserted, try_one}
-use Rattle.cg_plan.specs.Told.{AreAppended, AreTold, IsBacked, MayFail, Tells, certified_claims, claims_for, without_bits}
+use Rattle.cg_plan.specs.Told.{AreAppended, AreTold, IsBacked, MayFail, TellsOutcome, certified_claims, claims_for, without_bits}
 use Rattle.cg_plan.specs.Trying.{Ends, tried}
 use Rattle.cg_plan.specs.declared.outcome.Outcome.{Outcome}
 use Rattle.cg_plan.specs.declared.outcome.Outcome.TheVariants.{Inserted, NeverIdle, NoCell, Refuted, Small, Wide}
@@ -42,7 +42,7 @@ module _ (library : List CellData) (settings : Settings) where
   -- this came of a stage on the machine of the draft d, and e is the draft after it, which does not tell it yet
   pub record ComesOf (number : ℕ) (s : Stage) (outcome : Outcome) (d e : Draft) : Type 0 where
     pub count : number ≡ 1 + length d.stages
-    pub tells : Tells d.machine s (tried library settings d.machine s) outcome
+    pub tells : TellsOutcome d.machine s (tried library settings d.machine s) outcome
     pub machine : e.machine ≡ after_outcome d.machine s outcome
     pub stages : e.stages ≡ d.stages
     pub earlier : e.earlier ≡ d.earlier

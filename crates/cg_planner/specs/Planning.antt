@@ -23,12 +23,12 @@ pub record IsSafePlan (library : List CellData) (settings : Settings) (m n : Mac
   pub cells : HasCells library settings.test m → HasCells library settings.test n
 
 -- certificates that can be written: each formula and each log keeps to the bounds of its format
-pub record IsWritable (certificate : Certificate) : Type 0 where
+pub record IsWritableCertificate (certificate : Certificate) : Type 0 where
   pub formula : IsFormula certificate.formula
   pub log : IsLog certificate.log
 
 abbrev pub AreWritable : List Certificate → Type 0
-AreWritable certificates = All (λ (certificate : Certificate). IsWritable certificate) certificates
+AreWritable certificates = All (λ (certificate : Certificate). IsWritableCertificate certificate) certificates
 
 -- certificates of which the later are those before with more behind: they can be written where those before can
 abbrev pub StayWritable : List Certificate → List Certificate → Type 0

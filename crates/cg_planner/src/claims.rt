@@ -11,8 +11,8 @@ use cg_claim::name::ClaimName;
 use cg_machine::machine::Machine;
 use cg_machine::stage::{NetLit, Stage, StageKind};
 use cg_netlist::id::RegId;
+use cg_reach::targets::unseen_targets;
 use cg_unroll::claim::ClaimFault;
-use cg_unroll::targets::unseen_targets;
 use cg_unroll::unroller::Unroller;
 use std::alloc::{AllocError, Global};
 

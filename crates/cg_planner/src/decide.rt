@@ -47,7 +47,8 @@ impl Judge {
     /// Whether the goal of the claim that was built last is never 1.
     fn is_never(&mut self) -> Result<bool, AllocError>
         requires { IsTrue (aig_ops.is_valid self.old.unroller.aig self.old.unroller.goal) }
-        ensures { IfOk result (λ never. (m : MachineData) (q : Question) (width : ℕ) → IsMachine m → SidesFit m q.sides → IsClaim m q width self.old.unroller → never ≡ is_never m q) }
+        ensures { IfOk result (λ never. (m : MachineData) (q : Question) (width : ℕ) → IsMachine m → SidesFit m q.sides → IsClaim m q width self.old.unroller
+            → never ≡ is_never m q) }
     {
         claim_laws();
         match self
@@ -116,7 +117,8 @@ impl Judge {
         into: &mut Vec<Certificate>,
     ) -> Result<Option<Seq<LeafBit>>, AllocError>
         requires { IsTrue (aig_ops.is_valid self.old.unroller.aig self.old.unroller.goal) }
-        ensures decided { IfOk result (λ bits. (m : MachineData) (q : Question) (width : ℕ) → IsMachine m → SidesFit m q.sides → IsClaim m q width self.old.unroller → IsDecided m number (name.now, q) into.old.items into.new.items bits) }
+        ensures decided { IfOk result (λ bits. (m : MachineData) (q : Question) (width : ℕ) → IsMachine m → SidesFit m q.sides
+            → IsClaim m q width self.old.unroller → IsDecided m number (name.now, q) into.old.items into.new.items bits) }
         ensures grown { Grow into.old.items into.new.items }
     {
         claim_laws();

@@ -84,7 +84,8 @@ fn add_delayed(
     requires nets { (net : ℕ) → is_in (map (λ l. l.0) enables.now) net ≡ true → IsNet machine.old net }
     requires own { (net : ℕ) → own ≡ Some net → IsNet machine.old net }
     requires clock { IsSome machine.old.circuit.clock }
-    ensures added { IfOk result (AddsNet (delayed_limit machine.old (map (λ l. l.0) enables.now) own) (with_own (delayed (join_all machine.old (map (λ l. l.0) enables.now))) own) machine.new) }
+    ensures added { IfOk result (AddsNet (delayed_limit machine.old (map (λ l. l.0) enables.now) own)
+        (with_own (delayed (join_all machine.old (map (λ l. l.0) enables.now))) own) machine.new) }
     ensures fault { IfErr result (MayPass (delayed_limit machine.old (map (λ l. l.0) enables.now) own)) }
     ensures keeps { Keeps machine.old machine.new }
 {
@@ -100,7 +101,8 @@ fn add_delayed(
 fn join_all(machine: &mut Machine, enables: &[NetLit]) -> Result<NetId, AddFault>
     requires some { 0 < length enables.now }
     requires nets { (net : ℕ) → is_in (map (λ l. l.0) enables.now) net ≡ true → IsNet machine.old net }
-    ensures added { IfOk result (AddsNet (join_all_limit machine.old (map (λ l. l.0) enables.now)) (join_all machine.old (map (λ l. l.0) enables.now)) machine.new) }
+    ensures added { IfOk result
+        (AddsNet (join_all_limit machine.old (map (λ l. l.0) enables.now)) (join_all machine.old (map (λ l. l.0) enables.now)) machine.new) }
     ensures fault { IfErr result (MayPass (join_all_limit machine.old (map (λ l. l.0) enables.now))) }
     ensures keeps { Keeps machine.old machine.new }
 {
@@ -112,7 +114,8 @@ fn join_all(machine: &mut Machine, enables: &[NetLit]) -> Result<NetId, AddFault
 fn join(machine: &mut Machine, first: NetId, rest: &[NetLit]) -> Result<NetId, AddFault>
     requires first { IsNet machine.old first }
     requires nets { (net : ℕ) → is_in (map (λ l. l.0) rest.now) net ≡ true → IsNet machine.old net }
-    ensures added { IfOk result (AddsNet (join_limit (record { machine = machine.old; net = first }) (map (λ l. l.0) rest.now)) (join (record { machine = machine.old; net = first }) (map (λ l. l.0) rest.now)) machine.new) }
+    ensures added { IfOk result (AddsNet (join_limit (record { machine = machine.old; net = first }) (map (λ l. l.0) rest.now))
+        (join (record { machine = machine.old; net = first }) (map (λ l. l.0) rest.now)) machine.new) }
     ensures fault { IfErr result (MayPass (join_limit (record { machine = machine.old; net = first }) (map (λ l. l.0) rest.now))) }
     ensures keeps { Keeps machine.old machine.new }
 {

@@ -6,7 +6,7 @@ ghost use Rattle.cg_machine.specs.Machine.{IsMachine};
 ghost use Rattle.cg_netlist.specs.declared.fault.AddFault.TheVariants.{NoMemory};
 ghost use Rattle.cg_plan.specs.Plan.{after_outcome, is_inserted};
 ghost use Rattle.cg_plan.specs.StageClaims.{all_claims};
-ghost use Rattle.cg_plan.specs.Told.{AreAppended, MayFail, Tells, claims_for};
+ghost use Rattle.cg_plan.specs.Told.{AreAppended, MayFail, TellsOutcome, claims_for};
 ghost use Rattle.cg_plan.specs.Trying.{decided, measured, tried};
 ghost use Rattle.cg_planner.specs.Planning.{StayWritable};
 ghost use Rattle.cg_planner.specs.Trial.{WhereInserted};
@@ -62,7 +62,7 @@ impl Judge {
         into: &mut Vec<Certificate>,
     ) -> Result<Outcome, AddFault>
         requires { Fits machine.old stage.now }
-        ensures outcome { IfOk result (λ outcome. Tells machine.old stage.now (tried library.now settings.now machine.old stage.now) outcome) }
+        ensures outcome { IfOk result (λ outcome. TellsOutcome machine.old stage.now (tried library.now settings.now machine.old stage.now) outcome) }
         ensures machine { IfOk result (λ outcome. machine.new ≡ after_outcome machine.old stage.now outcome) }
         ensures safe { IfOk result (λ outcome. WhereInserted machine.old stage.now outcome machine.new) }
         ensures certificates { IfOk result (λ outcome. AreAppended (claims_for number machine.old stage.now outcome) into.old.items into.new.items) }
@@ -103,7 +103,7 @@ impl Judge {
         into: &mut Vec<Certificate>,
     ) -> Result<Outcome, AddFault>
         requires { Fits machine.old stage.now }
-        ensures outcome { IfOk result (λ outcome. Tells machine.old stage.now (tried library.now settings.now machine.old stage.now) outcome) }
+        ensures outcome { IfOk result (λ outcome. TellsOutcome machine.old stage.now (tried library.now settings.now machine.old stage.now) outcome) }
         ensures machine { IfOk result (λ outcome. machine.new ≡ after_outcome machine.old stage.now outcome) }
         ensures certificates { IfOk result (Pushes machine.old number stage.now into.old.items into.new.items) }
         ensures fault { IfErr result (MayFail (tried library.now settings.now machine.old stage.now)) }
@@ -126,7 +126,8 @@ impl Judge {
         into: &mut Vec<Certificate>,
     ) -> Result<Outcome, AddFault>
         requires { Fits machine.old stage.now }
-        ensures outcome { IfOk result (λ outcome. Tells machine.old stage.now (measured machine.old width (all_claims machine.old stage.now) (decided machine.old stage.now)) outcome) }
+        ensures outcome { IfOk result (λ outcome. TellsOutcome machine.old stage.now
+            (measured machine.old width (all_claims machine.old stage.now) (decided machine.old stage.now)) outcome) }
         ensures machine { IfOk result (λ outcome. machine.new ≡ after_outcome machine.old stage.now outcome) }
         ensures certificates { IfOk result (Pushes machine.old number stage.now into.old.items into.new.items) }
         ensures fault { IfErr result (MayFail (measured machine.old width (all_claims machine.old stage.now) (decided machine.old stage.now))) }
@@ -153,7 +154,8 @@ impl Judge {
         into: &mut Vec<Certificate>,
     ) -> Result<Option<Outcome>, AddFault>
         requires { Fits machine.now stage.now }
-        ensures judged { IfOk result (IsJudged machine.now stage.now (measured machine.now width (all_claims machine.now stage.now) (decided machine.now stage.now))) }
+        ensures judged { IfOk result
+            (IsJudged machine.now stage.now (measured machine.now width (all_claims machine.now stage.now) (decided machine.now stage.now))) }
         ensures certificates { IfOk result (Certifying machine.now number stage.now into.old.items into.new.items) }
         ensures fault { IfErr result (MayFail (measured machine.now width (all_claims machine.now stage.now) (decided machine.now stage.now))) }
         ensures grown { Grow into.old.items into.new.items }
@@ -179,7 +181,8 @@ impl Judge {
     ) -> Result<Option<Outcome>, AddFault>
         requires fits { Fits machine.now stage.now }
         requires names { AreNames machine.now stage.now names.now }
-        ensures judged { IfOk result (IsJudged machine.now stage.now (measured machine.now width (all_claims machine.now stage.now) (decided machine.now stage.now))) }
+        ensures judged { IfOk result
+            (IsJudged machine.now stage.now (measured machine.now width (all_claims machine.now stage.now) (decided machine.now stage.now))) }
         ensures certificates { IfOk result (Certifying machine.now number stage.now into.old.items into.new.items) }
         ensures fault { IfErr result (MayFail (measured machine.now width (all_claims machine.now stage.now) (decided machine.now stage.now))) }
         ensures grown { Grow into.old.items into.new.items }

@@ -3,7 +3,7 @@
 ghost use Rattle.std.specs.Prelude.{◌≡◌, IfOk};
 
 use cg_machine::stage::Stage;
-use cg_unroll::unseen::UnseenRegs;
+use cg_reach::unseen::UnseenRegs;
 use std::alloc::{AllocError, Global};
 use std::marker::Model;
 

@@ -4,7 +4,7 @@ ghost use Rattle.std.specs.Prelude.{◌≡◌, IfOk, IfErr, OnErr, OnOk};
 ghost use Rattle.cg_machine.specs.Extends.{Extends};
 ghost use Rattle.cg_machine.specs.Machine.{IsMachine};
 ghost use Rattle.cg_plan.specs.Plan.{after_outcome};
-ghost use Rattle.cg_plan.specs.Told.{AreAppended, MayFail, Tells, claims_for};
+ghost use Rattle.cg_plan.specs.Told.{AreAppended, MayFail, TellsOutcome, claims_for};
 ghost use Rattle.cg_plan.specs.Trying.{tried};
 ghost use Rattle.cg_planner.specs.Planning.{StayWritable};
 ghost use Rattle.cg_planner.specs.Trial.{WhereInserted};
@@ -39,7 +39,7 @@ pub fn try_stage(
     into: &mut Vec<Certificate>,
 ) -> Result<Outcome, AddFault>
     requires { Fits machine.old stage.now }
-    ensures outcome { IfOk result (λ outcome. Tells machine.old stage.now (tried library.now settings.now machine.old stage.now) outcome) }
+    ensures outcome { IfOk result (λ outcome. TellsOutcome machine.old stage.now (tried library.now settings.now machine.old stage.now) outcome) }
     ensures machine { IfOk result (λ outcome. machine.new ≡ after_outcome machine.old stage.now outcome) }
     ensures safe { IfOk result (λ outcome. WhereInserted machine.old stage.now outcome machine.new) }
     ensures certificates { IfOk result (λ outcome. AreAppended (claims_for number machine.old stage.now outcome) into.old.items into.new.items) }

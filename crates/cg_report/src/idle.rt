@@ -26,7 +26,8 @@ pub fn idle_zeros(
     requires { IsFor netlist.now stimulus.now }
     ensures count { IfOk result (λ zeros. length zeros.items ≡ length netlist.now.names) }
     ensures most { IfOk result (λ zeros. All (λ n. n ≤ length stimulus.now.rows) zeros.items) }
-    ensures zeros { IfOk result (λ zeros. (history : List Moment) → IsPlayed netlist.now stimulus.now.rows history → CountZeros netlist.now history zeros.items) }
+    ensures zeros { IfOk result (λ zeros. (history : List Moment) → IsPlayed netlist.now stimulus.now.rows history
+        → CountZeros netlist.now history zeros.items) }
 {
     one_played_history(netlist, stimulus);
     let mut zeros = no_zeros(alloc, netlist)?;

@@ -57,7 +57,13 @@ impl<'a> Model for Player<'a> {
 
     ghost coded = { Prim.hlevel (codes, term_code) };
 
-    ghost view = { λ p. record { simulated = p.simulator; rows = p.stimulus.now.rows; left = left_of (length (data_inputs p.simulator.circuit)) p.next p.inputs.items p.row p.stimulus.now.rows; edges = p.edges } };
+    ghost view = { λ p. record {
+      simulated = p.simulator;
+      rows = p.stimulus.now.rows;
+      left = left_of
+          (length (data_inputs p.simulator.circuit)) p.next p.inputs.items p.row p.stimulus.now.rows;
+      edges = p.edges;
+    } };
 
     ghost invariant = { λ p. IsPlayer p.simulator p.stimulus.now p.inputs.items p.row p.next p.edges };
 }

@@ -8,7 +8,7 @@ use crate::edges::{count_edges, watch_edges};
 use crate::toggle_count::ToggleCount;
 use crate::watched_rows::push_watched_rows;
 use crate::watcher::Watcher;
-use cg_netlist::builder::Builder;
+use cg_builder::builder::Builder;
 use cg_netlist::netlist::Netlist;
 use cg_stimulus::stimulus::Stimulus;
 use cg_text::number::push_number;

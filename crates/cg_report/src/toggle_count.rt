@@ -38,7 +38,8 @@ impl Watcher for ToggleCount {
 
     ghost says = { λ w. toggle_line };
 
-    ghost stands = { λ w c moments. (w.toggles ≡ capped (toggles moments)) × (length w.last.items ≡ length c.names) × (last_nets moments ≡ (if w.begun then Some w.last.items else None)) };
+    ghost stands = { λ w c moments. (w.toggles ≡ capped (toggles moments)) × (length w.last.items ≡ length c.names)
+        × (last_nets moments ≡ (if w.begun then Some w.last.items else None)) };
 
     fn name(&self) -> &str {
         "toggles"

@@ -26,7 +26,7 @@ use Rattle.cg_run.specs.Status.{finish_status}
 use Rattle.cg_run.specs.Reads.{Untouched}
 use Rattle.cg_run.specs.Run.{Cause, CauseAt, Closes, Leaves, Runs, StandsAt, status_after}
 use Rattle.cg_run.specs.Writes.{HasStep, LeavesAt, Written}
-use Rattle.cg_run.specs.Promise.{Broken, CallBy, Gains, Stands, StandsBy}
+use Rattle.cg_run.specs.Promise.{Broken, CallBy, Gains, LeavesShelf, StandsBy}
 use Rattle.cg_run.specs.Roles.{is_among}
 use Rattle.cg_run.specs.Verdict.{Given, Task}
 use Rattle.cg_run.proofs.ReadHalf.{tells_on}
@@ -151,7 +151,7 @@ outcome_stands refused names out (Ok finish) before after result cause leaves en
 outcome_stands refused names out (Err refusal) before after result cause leaves (inl ends) = let P : Status → Type 0 = λ s. StandsBy names out before after s in subst P (sym ends) (refusal_stands refused names out refusal before after cause leaves)
 outcome_stands refused names out (Err refusal) before after result cause leaves (inr ends) = let P : Status → Type 0 = λ s. StandsBy names out before after s in subst P (sym ends) (memory_stands refused names out refusal (step_of refusal) before after cause leaves)
 
-pub stands : (gave : List ℕ → Result (List ℕ) LoadFault → Type 0) (task : Task) (names : Role → List ℕ) (before after : World) (result : Status) → Runs gave task names before after result → IsTrue before.tells → Stands task names before after result
+pub stands : (gave : List ℕ → Result (List ℕ) LoadFault → Type 0) (task : Task) (names : Role → List ℕ) (before after : World) (result : Status) → Runs gave task names before after result → IsTrue before.tells → LeavesShelf task names before after result
 stands gave task names before after result runs t =
     let c = closed names runs.outcome runs.between after result runs.closes in
     let u = tells_on before.tells runs.between.tells runs.attempts.tells t in

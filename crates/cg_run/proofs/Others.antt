@@ -16,7 +16,7 @@ use Rattle.cg_run.specs.declared.status.Status.{Status}
 use Rattle.cg_run.specs.Refusal.{step_of}
 use Rattle.cg_run.specs.Roles.{is_role}
 use Rattle.cg_run.specs.Run.{Cause, CauseAt, Leaves, Runs, StandsAt}
-use Rattle.cg_run.specs.Writes.{HasStep, LeavesAt, OpenAt, Written, is_stored, put, puts}
+use Rattle.cg_run.specs.Writes.{HasStep, LeavesAt, OpenAt, Written, is_stored, put_under, puts}
 use Rattle.cg_run.specs.Promise.{IsApart, KeepsOthers}
 use Rattle.cg_run.specs.Verdict.{ComesTo, Given, Task}
 use Rattle.cg_run.proofs.RoleLaws.{is_its_role}
@@ -31,7 +31,7 @@ put_kept held name bytes other false is apart = refl
 pub puts_kept : (names : Role → List ℕ) (texts : List Text) (held : List ℕ → Option (List ℕ)) (name : List ℕ) → ((role : Role) → IsTrue (is_stored role texts) → name ≢ names role) → puts names texts held name ≡ held name
 puts_kept names [] held name apart = refl
 puts_kept names (text ∷ rest) held name apart =
-    puts_kept names rest (put held (names text.role) text.bytes) name (λ role h. apart role (or_right (is_role text.role role) (is_stored role rest) h))
+    puts_kept names rest (put_under held (names text.role) text.bytes) name (λ role h. apart role (or_right (is_role text.role role) (is_stored role rest) h))
     ∙ put_kept held (names text.role) text.bytes name (bytes_eq name (names text.role)) refl (apart text.role (or_left (is_role text.role text.role) (is_stored text.role rest) (is_its_role text.role)))
 
 or_either : (a b c : Bool) → (IsTrue b → IsTrue c) → IsTrue (a || b) → IsTrue (a || c)

@@ -9,7 +9,7 @@ use Rattle.cg_run.specs.declared.refusal.Refusal.{Refusal}
 use Rattle.cg_run.specs.declared.refusal.Trouble.{Trouble}
 use Rattle.cg_run.specs.declared.role.Role.{Role}
 use Rattle.cg_run.specs.Reads.{Agrees}
-use Rattle.cg_run.specs.Writes.{put}
+use Rattle.cg_run.specs.Writes.{put_under}
 use Rattle.cg_run.specs.Verdict.{ComesTo, Given, Loaded, found_as, reached, stopped, taken, task_of, troubled, ◌>>=◌}
 
 ok_bind : {A B : Type 0} (v : Result A Refusal) (next : A → Result B Refusal) (y : B) → (v >>= next) ≡ Ok y → (x : A) × (v ≡ Ok x) × (next x ≡ Ok y)
@@ -67,5 +67,5 @@ found_ok make (Ok found) y h = (found, refl, cc)
 found_ok make (Err fault) y h = cc
 
 -- what is put under a name stands there
-pub put_here : (held : List ℕ → Option (List ℕ)) (name bytes : List ℕ) → put held name bytes name ≡ Some bytes
+pub put_here : (held : List ℕ → Option (List ℕ)) (name bytes : List ℕ) → put_under held name bytes name ≡ Some bytes
 put_here held name bytes = let same : bytes_eq name name ≡ true = (bytes_eq-Decides name name).1 refl in rw same refl

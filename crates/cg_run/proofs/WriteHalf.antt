@@ -20,24 +20,24 @@ use Rattle.cg_run.specs.declared.refusal.Step.TheVariants as steps
 use Rattle.cg_run.specs.declared.role.Role.{Role}
 use Rattle.cg_run.specs.Refusal.{outcome_faults, step_of}
 use Rattle.cg_run.specs.Roles.{is_role}
-use Rattle.cg_run.specs.Writes.{CallsAt, HasStep, Holds, IsUpTo, LeavesAt, OneCall, OpenStep, SaidBy, SaysAll, StoreCalls, StoreLeaves, StoredAll, StoresAll, StoresAt, StoresOne, StoresStep, WriteCalls, WriteLeaves, Writes, is_stored, put, puts, store_calls}
+use Rattle.cg_run.specs.Writes.{CallsAt, HasStep, Holds, IsUpTo, LeavesAt, OneCall, OpenStep, SaidBy, SaysAll, StoreCalls, StoreLeaves, StoredAll, StoresAll, StoresAt, StoresOne, StoresStep, WriteCalls, WriteLeaves, Writes, is_stored, put_under, puts, store_calls}
 use Rattle.cg_run.proofs.RoleLaws.{is_its_role}
 use Rattle.cg_run.proofs.ReadHalf.{faults_join, joined, tells_on}
 
 -- what is held by name decides what is held once texts are put
-put_same : (f g : List ℕ → Option (List ℕ)) (name bytes : List ℕ) → ((n : List ℕ) → f n ≡ g n) → (n : List ℕ) → put f name bytes n ≡ put g name bytes n
+put_same : (f g : List ℕ → Option (List ℕ)) (name bytes : List ℕ) → ((n : List ℕ) → f n ≡ g n) → (n : List ℕ) → put_under f name bytes n ≡ put_under g name bytes n
 put_same f g name bytes same n = rw (same n) refl
 
 pub puts_same : (names : Role → List ℕ) (texts : List Text) (f g : List ℕ → Option (List ℕ)) → ((n : List ℕ) → f n ≡ g n) → (n : List ℕ) → puts names texts f n ≡ puts names texts g n
 puts_same names [] f g same n = same n
-puts_same names (text ∷ rest) f g same n = puts_same names rest (put f (names text.role) text.bytes) (put g (names text.role) text.bytes) (put_same f g (names text.role) text.bytes same) n
+puts_same names (text ∷ rest) f g same n = puts_same names rest (put_under f (names text.role) text.bytes) (put_under g (names text.role) text.bytes) (put_same f g (names text.role) text.bytes same) n
 
 -- one store, name by name
 put_case : (held after : List ℕ → Option (List ℕ)) (name bytes n : List ℕ) (same : Bool) → bytes_eq n name ≡ same → after name ≡ Some bytes → (n ≢ name → after n ≡ held n) → after n ≡ (if same then Some bytes else held n)
 put_case held after name bytes n true is stands others = ap after ((bytes_eq-Decides n name).0 is) ∙ stands
 put_case held after name bytes n false is stands others = others (λ e. let t : bytes_eq n name ≡ true = (bytes_eq-Decides n name).1 e in cc)
 
-put_stands : (held after : List ℕ → Option (List ℕ)) (name bytes : List ℕ) → after name ≡ Some bytes → SameBut name held after → (n : List ℕ) → after n ≡ put held name bytes n
+put_stands : (held after : List ℕ → Option (List ℕ)) (name bytes : List ℕ) → after name ≡ Some bytes → SameBut name held after → (n : List ℕ) → after n ≡ put_under held name bytes n
 put_stands held after name bytes stands others n = put_case held after name bytes n (bytes_eq n name) refl stands (others n)
 
 -- the call of a write, as it is listed
@@ -215,7 +215,7 @@ later_step text rest (steps.Storing role) h = or_right (is_role text.role role) 
 later_step text rest steps.Saying h = h
 
 later_open : (names : Role → List ℕ) (text : Text) (rest : List Text) (before middle after : World) (step : Step)
-    → ((n : List ℕ) → middle.held n ≡ put before.held (names text.role) text.bytes n) → middle.said ≡ before.said
+    → ((n : List ℕ) → middle.held n ≡ put_under before.held (names text.role) text.bytes n) → middle.said ≡ before.said
     → OpenStep names rest step middle after → OpenStep names (text ∷ rest) step before after
 later_open names text rest before middle after steps.Reading held said open_there = open_there
 later_open names text rest before middle after steps.Saying held said open_there = open_there
@@ -225,15 +225,15 @@ later_open names text rest before middle after (steps.Storing role) held said th
   rest = there.rest;
   parts = ap (λ l. text ∷ l) there.parts;
   is = there.is;
-  held = λ name apart. there.held name apart ∙ puts_same names there.done middle.held (put before.held (names text.role) text.bytes) held name;
+  held = λ name apart. there.held name apart ∙ puts_same names there.done middle.held (put_under before.held (names text.role) text.bytes) held name;
   said = there.said ∙ said;
 }
 
 later_leaves : {U : Type 0} (names : Role → List ℕ) (text : Text) (rest : List Text) (before middle after : World) (answer : Result U Refusal)
-    → ((n : List ℕ) → middle.held n ≡ put before.held (names text.role) text.bytes n) → middle.said ≡ before.said
+    → ((n : List ℕ) → middle.held n ≡ put_under before.held (names text.role) text.bytes n) → middle.said ≡ before.said
     → StoreLeaves names rest middle after answer → StoreLeaves names (text ∷ rest) before after answer
 later_leaves names text rest before middle after (Ok x) held said there = record {
-  held = λ name. there.held name ∙ puts_same names rest middle.held (put before.held (names text.role) text.bytes) held name;
+  held = λ name. there.held name ∙ puts_same names rest middle.held (put_under before.held (names text.role) text.bytes) held name;
   said = there.said ∙ said;
 }
 later_leaves names text rest before middle after (Err refusal) held said there = later_open names text rest before middle after (step_of refusal) held said there

@@ -76,7 +76,7 @@ StandsBy names out before after statuses.WriteFault = IsSomeAnd out (λ output. 
 StandsBy names out before after statuses.NoMemory = Untouched before after ⊎ IsSomeAnd out (λ output. Broken names output before after)
 StandsBy names out before after other = Untouched before after
 
-pub record Stands (task : Task) (names : Role → List ℕ) (before after : World) (result : Status) : Type 0 where
+pub record LeavesShelf (task : Task) (names : Role → List ℕ) (before after : World) (result : Status) : Type 0 where
   pub given : Given
   pub told : (role : Role) → Agrees (before.held (names role)) (given role)
   pub out : Option Output

@@ -16,12 +16,12 @@ use Rattle.cg_run.specs.Roles.{is_among}
 use Rattle.cg_run.specs.Reads.{Untouched}
 
 -- what is held once bytes are put under a name, and once texts are put under their roles' names in order
-abbrev pub put : (List ℕ → Option (List ℕ)) → List ℕ → List ℕ → List ℕ → Option (List ℕ)
-put held name bytes other = if bytes_eq other name then Some bytes else held other
+abbrev pub put_under : (List ℕ → Option (List ℕ)) → List ℕ → List ℕ → List ℕ → Option (List ℕ)
+put_under held name bytes other = if bytes_eq other name then Some bytes else held other
 
 abbrev pub puts : (Role → List ℕ) → List Text → (List ℕ → Option (List ℕ)) → List ℕ → Option (List ℕ)
 puts names [] held = held
-puts names (text ∷ rest) held = puts names rest (put held (names text.role) text.bytes)
+puts names (text ∷ rest) held = puts names rest (put_under held (names text.role) text.bytes)
 
 -- the calls that store these texts
 abbrev pub store_calls : (Role → List ℕ) → List Text → List CallMade

@@ -1,7 +1,7 @@
 //! The run: what a mode does, over the shelf.
 
 ghost use Rattle.std.specs.Prelude.{◌≡◌, IsTrue};
-ghost use Rattle.cg_run.specs.Promise.{Ended, EndsAs, Gains, KeepsOthers, Stands, UnlessFails, held_files};
+ghost use Rattle.cg_run.specs.Promise.{Ended, EndsAs, Gains, KeepsOthers, LeavesShelf, UnlessFails, held_files};
 ghost use Rattle.cg_run.specs.Reads.{Gave, Reads};
 ghost use Rattle.cg_run.specs.Names.{name_of};
 ghost use Rattle.cg_run.specs.Roles.{are_distinct};
@@ -37,7 +37,7 @@ pub fn drive<S: Shelf, M: Mode>(
 
     // What stands, by the status.
     ensures stands { IsTrue (S.world shelf.old).tells
-        → Stands (task_of M.takes M.stops M.gives mode loads.now) (name_of names.now) (S.world shelf.old) (S.world shelf.new) result }
+        → LeavesShelf (task_of M.takes M.stops M.gives mode loads.now) (name_of names.now) (S.world shelf.old) (S.world shelf.new) result }
 
     // At most one failed call besides that of the complaint, and which, by the status.
     ensures gains { Gains (task_of M.takes M.stops M.gives mode loads.now) (name_of names.now) (S.world shelf.old) (S.world shelf.new) result }

@@ -9,6 +9,7 @@
 //!
 //! - [`role`]: what a file is to a run, and [`names`]: which file that is;
 //! - [`refusal`]: why a run was not done, and its line of complaint;
+//! - [`content`]: what is complained of a file's content, with a number or a name;
 //! - [`status`]: how a run ends;
 //! - [`output`]: what a mode puts out;
 //! - [`mode`]: what a run asks of a mode;

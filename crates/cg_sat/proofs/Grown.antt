@@ -11,7 +11,7 @@ use Rattle.cg_formula.proofs.Members.{same_lit_equal}
 use Rattle.cg_sat.specs.declared.trail.Entry.{Entry}
 use Rattle.cg_formula.specs.Assignments.{IsUnassigned, IsUnit}
 use Rattle.cg_sat.specs.inner.Trail.{lits_of, IsTrail, IsImplied, HasReason, IsUnused}
-use Rattle.cg_sat.specs.inner.Learn.{AreNamed, Asserts}
+use Rattle.cg_sat.specs.inner.Learn.{Asserts, VariablesBelow}
 use Rattle.cg_sat.specs.inner.Store.{Store, clause_at, IsWithout}
 use Rattle.cg_sat.proofs.Store.{get_last, get_kept, clause_pushed, found_before}
 use Rattle.cg_sat.proofs.Walk.{entry_at}
@@ -28,7 +28,7 @@ grows_same count clauses trail s = record { search = s; worth = omega arith }
 pub grows_then : (count : ℕ) (clauses : Store) (old mid new : List Entry) → Grows count clauses old mid → Grows count clauses mid new → Grows count clauses old new
 grows_then count clauses old mid new g h = let a = g.worth in let b = h.worth in record { search = h.search; worth = omega arith }
 
-named_pushed : (count : ℕ) (clauses : Store) (trail : List Entry) (entry : Entry) → AreNamed count clauses trail → entry.lit.variable < count → AreNamed count clauses (trail ++ entry ∷ [])
+named_pushed : (count : ℕ) (clauses : Store) (trail : List Entry) (entry : Entry) → VariablesBelow count clauses trail → entry.lit.variable < count → VariablesBelow count clauses (trail ++ entry ∷ [])
 named_pushed count clauses trail entry named below = record {
   in_clauses = named.in_clauses;
   in_trail = λ k other e. elim (pushed_at trail entry k other e) [
@@ -168,7 +168,7 @@ prefix_without formula old new place behind less prefix = record {
 }
 
 -- room for more variables
-pub named_more : (m n : ℕ) (clauses : Store) (trail : List Entry) → m ≤ n → AreNamed m clauses trail → AreNamed n clauses trail
+pub named_more : (m n : ℕ) (clauses : Store) (trail : List Entry) → m ≤ n → VariablesBelow m clauses trail → VariablesBelow n clauses trail
 named_more m n clauses trail le named = record {
   in_clauses = λ k clause lit is e. let below = named.in_clauses k clause lit is e in omega arith;
   in_trail = λ k entry is. let below = named.in_trail k entry is in omega arith;

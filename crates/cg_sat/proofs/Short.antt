@@ -14,7 +14,7 @@ use Rattle.cg_sat.specs.declared.trail.Entry.{Entry}
 use Rattle.cg_sat.specs.inner.Store.{Store}
 use Rattle.cg_formula.specs.Assignments.{IsUnassigned}
 use Rattle.cg_sat.specs.inner.Trail.{lits_of, IsTrail}
-use Rattle.cg_sat.specs.inner.Learn.{AreNamed}
+use Rattle.cg_sat.specs.inner.Learn.{VariablesBelow}
 use Rattle.cg_formula.proofs.Members.{here}
 use Rattle.cg_sat.proofs.Marks.{take_lits, other_variable}
 use Rattle.cg_sat.proofs.Walk.{entry_at}
@@ -64,7 +64,7 @@ length_variables : (trail : List Entry) → length (variables (lits_of trail)) �
 length_variables [] = refl
 length_variables (t ∷ ts) = ap suc (length_variables ts)
 
-pub trail_short : (count : ℕ) (clauses : Store) (trail : List Entry) → IsTrail clauses trail → AreNamed count clauses trail → length trail ≤ count
+pub trail_short : (count : ℕ) (clauses : Store) (trail : List Entry) → IsTrail clauses trail → VariablesBelow count clauses trail → length trail ≤ count
 trail_short count clauses trail stands named =
     let distinct : IsDistinct nat_eq (variables (lits_of (take (length trail) trail))) = distinct_to trail stands.open_at (length trail) (omega arith) in
     let whole : IsDistinct nat_eq (variables (lits_of trail)) = rw (take-length trail) at distinct in

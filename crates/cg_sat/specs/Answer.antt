@@ -25,6 +25,6 @@ abbrev pub AreNumbered : List Step → Type 0
 AreNumbered steps = (k : ℕ) (step : Step) → slice_get steps k ≡ Some step → step.line ≡ k + 1
 
 -- the log can be written: its ids and variables are within the bounds, and its lines are counted from 1
-abbrev pub IsWritable : Solved → Type 0
-IsWritable (Sat bits) = Unit {0}
-IsWritable (Unsat log) = IsLog log × AreNumbered log.steps
+abbrev pub IsWritableAnswer : Solved → Type 0
+IsWritableAnswer (Sat bits) = Unit {0}
+IsWritableAnswer (Unsat log) = IsLog log × AreNumbered log.steps

@@ -40,7 +40,7 @@ pub fn open_lit(trail: &Trail, clause: &[Lit]) -> Option<Lit>
     None
 }
 
-// The bits of the variables.
+/// The bits of the variables.
 fn bits_of(alloc: Global, trail: &Trail, variables: u32) -> Result<Vec<bool>, AllocError>
     ensures long { IfOk result (λ bits. length bits.items ≡ variables) }
     ensures bits { IfOk result (λ bits. ShowsBits (lits_of trail.now) bits.items) }
@@ -56,7 +56,7 @@ fn bits_of(alloc: Global, trail: &Trail, variables: u32) -> Result<Vec<bool>, Al
     Ok(bits)
 }
 
-// Whether the bits make the literal true.
+/// Whether the bits make the literal true.
 fn bit_of(bits: &[bool], lit: Lit) -> bool
     requires { (0 < lit.variable) × (lit.variable ≤ length bits.now) }
     ensures { result ≡ lit_bit bits.now lit }
@@ -64,7 +64,7 @@ fn bit_of(bits: &[bool], lit: Lit) -> bool
     bits[lit.variable as usize - 1] != lit.inverted
 }
 
-// Whether the bits satisfy the clause.
+/// Whether the bits satisfy the clause.
 fn is_satisfied(bits: &[bool], clause: &[Lit]) -> bool
     requires { (lit : Lit) → is_in lit clause.now ≡ true → (0 < lit.variable) × (lit.variable ≤ length bits.now) }
     ensures { result ≡ list_any (lit_bit bits.now) clause.now }
@@ -77,7 +77,7 @@ fn is_satisfied(bits: &[bool], clause: &[Lit]) -> bool
     false
 }
 
-// The first clause that the bits do not satisfy.
+/// The first clause that the bits do not satisfy.
 fn unsatisfied(formula: &Formula, bits: &[bool]) -> Option<usize>
     requires formula { IsFormula formula.now }
     requires long { length bits.now ≡ formula.now.variables }
@@ -91,7 +91,7 @@ fn unsatisfied(formula: &Formula, bits: &[bool]) -> Option<usize>
     None
 }
 
-// What is done where no variable is proposed.
+/// What is done where no variable is proposed.
 fn last_choice(
     alloc: Global,
     formula: &Formula,

@@ -7,7 +7,7 @@ use cg_formula::Lit;
 use std::alloc::{AllocError, Global};
 use std::marker::Model;
 
-// Where the literals of a clause stand.
+/// Where the literals of a clause stand.
 #[derive(Clone, Copy)]
 struct Span {
     from: usize,

@@ -130,7 +130,7 @@ impl<'a> LogDraft<'a> {
     }
 }
 
-// Puts the clauses of a formula in the place of others.
+/// Puts the clauses of a formula in the place of others.
 fn put_clauses(clauses: &mut Clauses, formula: &Formula) -> Result<(), AllocError>
     ensures { OnOk result (clauses.new ≡ given formula.now) }
 {

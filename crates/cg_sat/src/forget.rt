@@ -11,7 +11,7 @@ use crate::trail::Entry;
 use cg_formula::Formula;
 use std::alloc::{AllocError, Global};
 
-// Marks the places of the clauses that are reasons.
+/// Marks the places of the clauses that are reasons.
 fn reasons(alloc: Global, trail: &[Entry], places: usize) -> Result<Vec<bool>, AllocError>
     ensures long { IfOk result (λ used. length used.items ≡ places) }
     ensures marked { IfOk result (λ used. MarksReasons trail.now used.items) }
@@ -27,7 +27,7 @@ fn reasons(alloc: Global, trail: &[Entry], places: usize) -> Result<Vec<bool>, A
     Ok(used)
 }
 
-// Deletes the clause at a place, but none of the formula's and no reason.
+/// Deletes the clause at a place, but none of the formula's and no reason.
 fn delete_learnt(
     formula: &Formula,
     draft: &mut LogDraft<'_>,

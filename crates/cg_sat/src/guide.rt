@@ -9,7 +9,7 @@ use crate::watches::Watches;
 use cg_formula::Lit;
 use std::alloc::{AllocError, Global};
 
-// No clause.
+/// No clause.
 const NOWHERE: usize = usize::MAX;
 
 /// What guides the search.

@@ -1,6 +1,7 @@
 //! The clause that is learnt from a conflict.
 
-ghost use Rattle.std.specs.Prelude.{◌≡◌, List, ◌+◌, ◌<◌, ◌≤◌, true, false, [], ℕ, ◌∷◌, ◌++◌, length, take, None, ◌⊎◌, map, reverse, Some, MatchOption, OnOk, IfOk, if◌then◌else◌};
+ghost use Rattle.std.specs.Prelude.{◌≡◌, List, ◌+◌, ◌<◌, ◌≤◌, true, false, [], ℕ, ◌∷◌, ◌++◌, length, take};
+ghost use Rattle.std.specs.Prelude.{None, ◌⊎◌, map, reverse, Some, MatchOption, OnOk, IfOk, if◌then◌else◌};
 ghost use Rattle.std.specs.List.{slice_get};
 ghost use Rattle.std.specs.Bool.{IsTrue};
 ghost use Rattle.cg_formula.specs.declared.formula.Lit.{Lit};
@@ -8,7 +9,7 @@ ghost use Rattle.cg_formula.specs.Lits.{inverse, is_in};
 ghost use Rattle.cg_sat.specs.inner.Trail.{lits_of, IsTrail, IsImplied};
 ghost use Rattle.cg_sat.specs.declared.trail.Entry.{Entry};
 ghost use Rattle.cg_sat.specs.inner.Search.{IsConflict};
-ghost use Rattle.cg_sat.specs.inner.Learn.{is_marked, AreNamed, Derives, AreClear, IsDecided, AreImplied, Gathered, IsTop, IsLevel, IsPoint, Teaches};
+ghost use Rattle.cg_sat.specs.inner.Learn.{is_marked, VariablesBelow, Derives, AreClear, IsDecided, AreImplied, Gathered, IsTop, IsLevel, IsPoint, Teaches};
 
 use crate::clauses::Clauses;
 use crate::guide::Guide;
@@ -59,7 +60,7 @@ impl Work {
     }
 }
 
-// Marks the variables of a clause.
+/// Marks the variables of a clause.
 fn mark(marks: &mut Vec<bool>, guide: &mut Guide, clause: &[Lit])
     requires { (lit : Lit) → is_in lit clause.now ≡ true → lit.variable < length marks.old.items }
     ensures marked { (lit : Lit) → is_in lit clause.now ≡ true → is_marked marks.new.items lit ≡ true }
@@ -75,7 +76,7 @@ fn mark(marks: &mut Vec<bool>, guide: &mut Guide, clause: &[Lit])
     }
 }
 
-// The place of the unit clause of a literal, where there is one, in place of its reason.
+/// The place of the unit clause of a literal, where there is one, in place of its reason.
 fn shortest(guide: &Guide, clauses: &Clauses, lit: Lit, reason: usize) -> usize
     ensures { (before : List Lit) → IsImplied clauses.now before lit reason → IsImplied clauses.now before lit result }
 {
@@ -87,7 +88,7 @@ fn shortest(guide: &Guide, clauses: &Clauses, lit: Lit, reason: usize) -> usize
     }
 }
 
-// Takes the reason of an entry, or its unit clause, in place of its literal.
+/// Takes the reason of an entry, or its unit clause, in place of its literal.
 fn resolve(
     work: &mut Work,
     guide: &mut Guide,
@@ -99,7 +100,7 @@ fn resolve(
     requires within { at < length trail.now }
     requires stands { (entry : Entry) → slice_get trail.now at ≡ Some entry → entry.reason ≡ Some reason }
     requires trail { IsTrail clauses.now trail.now }
-    requires named { AreNamed (length work.old.marks.items) clauses.now trail.now }
+    requires named { VariablesBelow (length work.old.marks.items) clauses.now trail.now }
     requires derives { Derives clauses.now (lits_of (take (at + 1) trail.now)) work.old.marks.items work.old.kept.items work.old.hints.items }
     ensures derives { OnOk result (Derives clauses.now (lits_of (take at trail.now)) work.new.marks.items work.new.kept.items work.new.hints.items) }
     ensures marks { length work.new.marks.items ≡ length work.old.marks.items }
@@ -117,11 +118,11 @@ fn resolve(
     Ok(())
 }
 
-// Keeps the literal of an entry.
+/// Keeps the literal of an entry.
 fn keep(work: &mut Work, clauses: &Clauses, trail: &[Entry], at: usize) -> Result<(), AllocError>
     requires within { at < length trail.now }
     requires trail { IsTrail clauses.now trail.now }
-    requires named { AreNamed (length work.old.marks.items) clauses.now trail.now }
+    requires named { VariablesBelow (length work.old.marks.items) clauses.now trail.now }
     requires derives { Derives clauses.now (lits_of (take (at + 1) trail.now)) work.old.marks.items work.old.kept.items work.old.hints.items }
     ensures derives { OnOk result (Derives clauses.now (lits_of (take at trail.now)) work.new.marks.items work.new.kept.items work.new.hints.items) }
     ensures marks { length work.new.marks.items ≡ length work.old.marks.items }
@@ -135,7 +136,7 @@ fn keep(work: &mut Work, clauses: &Clauses, trail: &[Entry], at: usize) -> Resul
     Ok(())
 }
 
-// Whether all literals of a reason but one are needed anyway.
+/// Whether all literals of a reason but one are needed anyway.
 fn is_redundant(marks: &[bool], guide: &Guide, clauses: &Clauses, reason: usize, lit: Lit) -> bool {
     let Some(clause) = clauses.get(reason) else {
         return false;
@@ -150,7 +151,7 @@ fn is_redundant(marks: &[bool], guide: &Guide, clauses: &Clauses, reason: usize,
     true
 }
 
-// Whether no entry of these places is needed.
+/// Whether no entry of these places is needed.
 fn is_clear(marks: &[bool], trail: &[Entry], from: usize, to: usize) -> bool
     requires within { to ≤ length trail.now }
     requires named { (k : ℕ) (entry : Entry) → slice_get trail.now k ≡ Some entry → entry.lit.variable < length marks.now }
@@ -164,8 +165,8 @@ fn is_clear(marks: &[bool], trail: &[Entry], from: usize, to: usize) -> bool
     true
 }
 
-// Goes down the trail from a decision: what is needed there is kept, or its reason is taken. Answers where the trail
-// is to be cut: at the lowest decision above all that is kept.
+/// Goes down the trail from a decision: what is needed there is kept, or its reason is taken. Answers where the trail
+/// is to be cut: at the lowest decision above all that is kept.
 fn gather(
     work: &mut Work,
     guide: &mut Guide,
@@ -176,7 +177,7 @@ fn gather(
     requires within { from < length trail.now }
     requires decided { IsDecided trail.now from }
     requires trail { IsTrail clauses.now trail.now }
-    requires named { AreNamed (length work.old.marks.items) clauses.now trail.now }
+    requires named { VariablesBelow (length work.old.marks.items) clauses.now trail.now }
     requires derives { Derives clauses.now (lits_of (take from trail.now)) work.old.marks.items work.old.kept.items work.old.hints.items }
     ensures derives { OnOk result (Derives clauses.now [] work.new.marks.items work.new.kept.items work.new.hints.items) }
     ensures marks { length work.new.marks.items ≡ length work.old.marks.items }
@@ -204,7 +205,7 @@ fn gather(
     Ok(cut)
 }
 
-// The last place at which something is needed.
+/// The last place at which something is needed.
 fn last_marked(marks: &[bool], trail: &[Entry]) -> Option<usize>
     requires named { (k : ℕ) (entry : Entry) → slice_get trail.now k ≡ Some entry → entry.lit.variable < length marks.now }
     ensures { MatchOption result (AreClear marks.now trail.now 0 (length trail.now)) (λ top. IsTop marks.now trail.now top) }
@@ -217,7 +218,7 @@ fn last_marked(marks: &[bool], trail: &[Entry]) -> Option<usize>
     None
 }
 
-// The last decision at a place or before it.
+/// The last decision at a place or before it.
 fn level_of(trail: &[Entry], top: usize) -> Option<usize>
     requires { top < length trail.now }
     ensures { MatchOption result (AreImplied trail.now 0 (top + 1)) (λ from. IsLevel trail.now top from) }
@@ -230,7 +231,7 @@ fn level_of(trail: &[Entry], top: usize) -> Option<usize>
     None
 }
 
-// Takes reasons in place of what is needed last, until nothing else of the level is needed.
+/// Takes reasons in place of what is needed last, until nothing else of the level is needed.
 fn first_point(
     work: &mut Work,
     guide: &mut Guide,
@@ -242,9 +243,10 @@ fn first_point(
     requires within { top < length trail.now }
     requires level { IsLevel trail.now top from }
     requires trail { IsTrail clauses.now trail.now }
-    requires named { AreNamed (length work.old.marks.items) clauses.now trail.now }
+    requires named { VariablesBelow (length work.old.marks.items) clauses.now trail.now }
     requires derives { Derives clauses.now (lits_of (take (top + 1) trail.now)) work.old.marks.items work.old.kept.items work.old.hints.items }
-    ensures derives { IfOk result (λ at. Derives clauses.now (lits_of (take (at + 1) trail.now)) work.new.marks.items work.new.kept.items work.new.hints.items) }
+    ensures derives { IfOk result
+        (λ at. Derives clauses.now (lits_of (take (at + 1) trail.now)) work.new.marks.items work.new.kept.items work.new.hints.items) }
     ensures point { IfOk result (λ at. IsPoint trail.now work.new.marks.items from top at) }
     ensures marks { length work.new.marks.items ≡ length work.old.marks.items }
     ensures kept { work.new.kept.items ≡ work.old.kept.items }
@@ -264,7 +266,7 @@ fn first_point(
     Ok(from)
 }
 
-// Takes the reasons of all that is needed.
+/// Takes the reasons of all that is needed.
 fn refute(
     work: &mut Work,
     guide: &mut Guide,
@@ -275,7 +277,7 @@ fn refute(
     requires within { top < length trail.now }
     requires implied { AreImplied trail.now 0 (top + 1) }
     requires trail { IsTrail clauses.now trail.now }
-    requires named { AreNamed (length work.old.marks.items) clauses.now trail.now }
+    requires named { VariablesBelow (length work.old.marks.items) clauses.now trail.now }
     requires derives { Derives clauses.now (lits_of (take (top + 1) trail.now)) work.old.marks.items work.old.kept.items work.old.hints.items }
     ensures derives { OnOk result (Derives clauses.now [] work.new.marks.items work.new.kept.items work.new.hints.items) }
     ensures marks { length work.new.marks.items ≡ length work.old.marks.items }
@@ -293,7 +295,7 @@ fn refute(
     Ok(())
 }
 
-// The hints, the first one first.
+/// The hints, the first one first.
 fn take_hints(alloc: Global, work: &mut Work) -> Vec<u64>
     ensures hints { result.items ≡ reverse work.old.hints.items }
     ensures marks { length work.new.marks.items ≡ length work.old.marks.items }
@@ -303,7 +305,7 @@ fn take_hints(alloc: Global, work: &mut Work) -> Vec<u64>
     hints
 }
 
-// The literals inverted.
+/// The literals inverted.
 fn inverses(alloc: Global, lits: &[Lit]) -> Result<Vec<Lit>, AllocError>
     ensures { IfOk result (λ inverted. inverted.items ≡ map inverse lits.now) }
 {
@@ -325,7 +327,7 @@ pub fn learn(
 ) -> Result<Lesson, AllocError>
     requires conflict { IsConflict clauses.now trail.now conflict }
     requires trail { IsTrail clauses.now trail.now }
-    requires named { AreNamed (length work.old.marks.items) clauses.now trail.now }
+    requires named { VariablesBelow (length work.old.marks.items) clauses.now trail.now }
     ensures lesson { IfOk result (λ lesson. Teaches clauses.now trail.now lesson) }
     ensures marks { length work.new.marks.items ≡ length work.old.marks.items }
 {

@@ -5,15 +5,16 @@
 use crate::clauses::Clauses;
 use std::alloc::{AllocError, Global};
 
-// What a use of a clause adds to its merit, at first and at most.
+/// What a use of a clause adds to its merit, at first and at most.
 const FIRST: u64 = 1 << 10;
 
 const MOST: u64 = 1 << 40;
 
-// How many conflicts there are until clauses are deleted the first time, and how many more each time.
-const PERIOD: u64 = 2000;
+/// How many conflicts there are until clauses are deleted the first time, and how many more each time. Few clauses are kept:
+/// each is looked at again and again, and most are never of use again.
+const PERIOD: u64 = 200;
 
-const LONGER: u64 = 300;
+const LONGER: u64 = 50;
 
 /// The merits of clauses: each use adds to one, and later uses add more.
 #[derive(Drop)]
@@ -88,8 +89,8 @@ impl Merits {
         from: usize,
     ) -> Result<Vec<(u64, usize)>, AllocError> {
         let mut found = Vec::new(self.alloc);
-        for (place, merit) in self.merits.iter().enumerate() {
-            if place >= from && clauses.get(place).is_some_and(|lits| lits.len() > 2) {
+        for (place, merit) in self.merits.iter().enumerate().skip(from) {
+            if clauses.get(place).is_some_and(|lits| lits.len() > 2) {
                 found.push((*merit, place))?;
             }
         }

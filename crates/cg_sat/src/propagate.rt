@@ -4,6 +4,7 @@ ghost use Rattle.std.specs.Prelude.{◌≡◌, ◌+◌, ◌<◌, ◌≤◌, [], 
 ghost use Rattle.std.specs.Option.{IfSome};
 ghost use Rattle.cg_formula.specs.Assignments.{IsUnassigned};
 ghost use Rattle.cg_sat.specs.inner.Trail.{lits_of, IsTrail, IsImplied};
+ghost use Rattle.cg_sat.specs.inner.Scan.{Finds};
 ghost use Rattle.cg_sat.specs.inner.Search.{IsSearch, Grows, IsConflict, IsLook};
 
 use crate::clauses::Clauses;
@@ -17,15 +18,15 @@ use std::alloc::AllocError;
 /// What comes of a clause on a list.
 #[derive(Clone, Copy)]
 pub enum Look {
-    /// It stays there.
-    Stays,
+    /// It stays there. While this literal is true it need not be looked at again.
+    Stays(Lit),
     /// It went to another list, or was deleted.
     Moved,
     /// It is false.
     Conflict(usize),
 }
 
-// A literal becomes true by a clause.
+/// A literal becomes true by a clause.
 pub fn imply(
     trail: &mut Trail,
     clauses: &Clauses,
@@ -47,7 +48,18 @@ pub fn imply(
     Ok(())
 }
 
-// Looks at a clause of which a literal became false.
+/// What the trail makes of the clause of this number. A literal that is not false is looked for first from where one was
+/// found last.
+fn scan_on(trail: &Trail, watches: &mut Watches, clause: &[Lit], number: u32, given: Lit) -> Found
+    ensures { Finds (lits_of trail.now) clause.now given result }
+{
+    match watches.next(trail, clause, number, given) {
+        Some(next) => Found::Another(next),
+        None => scan(trail, clause, given),
+    }
+}
+
+/// Looks at a clause of which a literal became false.
 fn look_at(
     trail: &mut Trail,
     clauses: &Clauses,
@@ -61,7 +73,7 @@ fn look_at(
     ensures conflict { IfOk result (IsLook clauses.now trail.new) }
 {
     if trail.has(watch.blocker) {
-        return Ok(Look::Stays);
+        return Ok(Look::Stays(watch.blocker));
     }
     let place = watch.clause as usize;
     let Some(clause) = clauses.get(place) else {
@@ -69,9 +81,9 @@ fn look_at(
     };
     let other = watches.other(watch.clause, lit);
     if trail.has(other) {
-        return Ok(Look::Stays);
+        return Ok(Look::Stays(other));
     }
-    match scan(trail, clause, other) {
+    match scan_on(trail, watches, clause, watch.clause, other) {
         Found::Another(next) => {
             watches.set(watch.clause, other, next);
             let moved = Watch {
@@ -85,13 +97,13 @@ fn look_at(
             if !trail.has(other.inverse()) {
                 imply(trail, clauses, other, place, count)?;
             }
-            Ok(Look::Stays)
+            Ok(Look::Stays(other))
         }
         Found::Nothing => Ok(Look::Conflict(place)),
     }
 }
 
-// Looks at the clauses of a list.
+/// Looks at the clauses of a list.
 fn look_along(
     trail: &mut Trail,
     clauses: &Clauses,
@@ -108,7 +120,10 @@ fn look_along(
     'list: while at < list.len() {
         let watch = list[at];
         match look_at(trail, clauses, watches, watch, lit, count)? {
-            Look::Stays => at += 1,
+            Look::Stays(blocker) => {
+                list[at].blocker = blocker;
+                at += 1;
+            }
             Look::Moved => {
                 let _ = list.swap_remove(at);
             }

@@ -8,7 +8,7 @@ ghost use Rattle.cg_formula.specs.declared.formula.Formula.{Formula};
 ghost use Rattle.cg_formula.specs.Bounds.{IsFormula};
 ghost use Rattle.cg_formula.specs.Lits.{is_in};
 ghost use Rattle.cg_lrat.specs.Accepted.{clause_fault};
-ghost use Rattle.cg_sat.specs.Answer.{IsShown, IsExact, IsWritable};
+ghost use Rattle.cg_sat.specs.Answer.{IsShown, IsExact, IsWritableAnswer};
 ghost use Rattle.cg_sat.specs.inner.Store.{given, live_of};
 ghost use Rattle.cg_sat.specs.inner.Learn.{Asserts};
 ghost use Rattle.cg_sat.specs.inner.Worth.{worth};
@@ -59,7 +59,7 @@ pub enum End {
     Refuted(Vec<u64>),
 }
 
-// Adds a learnt clause, cuts the trail, and makes the clause's first literal true.
+/// Adds a learnt clause, cuts the trail, and makes the clause's first literal true.
 fn turn_back(
     draft: &mut LogDraft<'_>,
     trail: &mut Trail,
@@ -101,7 +101,7 @@ fn turn_back(
     Ok(())
 }
 
-// Watches a clause, or takes what follows from it. Answers whether it is false.
+/// Watches a clause, or takes what follows from it. Answers whether it is false.
 fn begin_at(
     trail: &mut Trail,
     clauses: &Clauses,
@@ -136,7 +136,7 @@ fn begin_at(
     Ok(false)
 }
 
-// Watches all clauses. Answers one that is false.
+/// Watches all clauses. Answers one that is false.
 fn begin(
     trail: &mut Trail,
     clauses: &Clauses,
@@ -155,7 +155,7 @@ fn begin(
     propagate(trail, clauses, guide, count)
 }
 
-// Learns from a clause that is false. Answers the hints of the empty clause, if it is that one that is learnt.
+/// Learns from a clause that is false. Answers the hints of the empty clause, if it is that one that is learnt.
 fn resolve_conflict(
     alloc: Global,
     formula: &Formula,
@@ -190,7 +190,7 @@ fn resolve_conflict(
     }
 }
 
-// Decides a literal, where nothing follows.
+/// Decides a literal, where nothing follows.
 fn decide(
     alloc: Global,
     formula: &Formula,
@@ -219,8 +219,8 @@ fn decide(
     }
 }
 
-// Searches for bits that satisfy the formula, from no literal that is true. Each turn learns from a clause that is
-// false, or decides a literal where nothing follows.
+/// Searches for bits that satisfy the formula, from no literal that is true. Each turn learns from a clause that is
+/// false, or decides a literal where nothing follows.
 fn search(
     alloc: Global,
     formula: &Formula,
@@ -290,7 +290,7 @@ impl Solver {
         requires { IsFormula formula.now }
         ensures exactly { IfOk result (IsExact formula.now) }
         ensures shown { IfOk result (IsShown formula.now) }
-        ensures writable { IfOk result IsWritable }
+        ensures writable { IfOk result IsWritableAnswer }
     {
         let alloc = self.alloc;
         let count = formula.variables as usize + 1;
@@ -330,7 +330,7 @@ pub fn solve(alloc: Global, formula: &Formula) -> Result<Solved, AllocError>
     requires { IsFormula formula.now }
     ensures exactly { IfOk result (IsExact formula.now) }
     ensures shown { IfOk result (IsShown formula.now) }
-    ensures writable { IfOk result IsWritable }
+    ensures writable { IfOk result IsWritableAnswer }
 {
     let mut solver = Solver::new(alloc);
     solver.solve(formula)

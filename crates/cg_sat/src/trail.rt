@@ -30,13 +30,13 @@ pub struct Trail {
 impl Model for Trail {
     ghost use Rattle.std.specs.Prelude.{List};
     ghost use Rattle.cg_sat.specs.declared.trail.Entry.{Entry};
-    ghost use Rattle.cg_sat.specs.inner.Trail.{IsTable};
+    ghost use Rattle.cg_sat.specs.inner.Trail.{IsAssignmentOf};
 
     ghost Value = { List Entry };
 
     ghost view = { λ s. s.entries.items };
 
-    ghost invariant = { λ s. IsTable s.trues.items s.entries.items };
+    ghost invariant = { λ s. IsAssignmentOf s.trues.items s.entries.items };
 }
 
 impl Trail {
@@ -108,7 +108,7 @@ impl Trail {
     }
 }
 
-// Makes the table long enough for a place.
+/// Makes the table long enough for a place.
 fn reach(trues: &mut Vec<bool>, place: usize) -> Result<(), AllocError>
     ensures long { OnOk result (place < length trues.new.items) }
     ensures same { (at : ℕ) → slice_index_or trues.new.items at false ≡ slice_index_or trues.old.items at false }
@@ -119,7 +119,7 @@ fn reach(trues: &mut Vec<bool>, place: usize) -> Result<(), AllocError>
     Ok(())
 }
 
-// Takes the marks of entries away.
+/// Takes the marks of entries away.
 fn unmark(trues: &mut Vec<bool>, entries: &[Entry])
     ensures off { (lit : Lit) → is_in lit (lits_of entries.now) ≡ true → slice_index_or trues.new.items (lit_number lit) false ≡ false }
     ensures fewer { (at : ℕ) → slice_index_or trues.old.items at false ≡ false → slice_index_or trues.new.items at false ≡ false }

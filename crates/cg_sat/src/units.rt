@@ -31,8 +31,8 @@ pub fn is_unit(clauses: &Clauses, place: usize, lit: Lit) -> bool
     }
 }
 
-// Takes the unit clause that makes a literal false as a hint, unless the literal is false already. Answers whether it is
-// false now.
+/// Takes the unit clause that makes a literal false as a hint, unless the literal is false already. Answers whether it is
+/// false now.
 fn take_unit(
     clauses: &Clauses,
     guide: &Guide,
@@ -40,7 +40,8 @@ fn take_unit(
     hints: &mut Vec<u64>,
     lit: Lit,
 ) -> Result<bool, AllocError>
-    ensures follows { (first : List Lit) → Follows (live_of clauses.now) first hints.old.items (lits_of trues.old) → OnOk result (Follows (live_of clauses.now) first hints.new.items (lits_of trues.new)) }
+    ensures follows { (first : List Lit) → Follows (live_of clauses.now) first hints.old.items (lits_of trues.old)
+        → OnOk result (Follows (live_of clauses.now) first hints.new.items (lits_of trues.new)) }
     ensures kept { (other : Lit) → is_in other (lits_of trues.old) ≡ true → OnOk result (is_in other (lits_of trues.new) ≡ true) }
     ensures off { IfOk result (λ found. IsTrue found → is_in (inverse lit) (lits_of trues.new) ≡ true) }
 {
@@ -63,8 +64,8 @@ fn take_unit(
     Ok(true)
 }
 
-// The hints of the unit clause of a literal: unit clauses that make all other literals of its reason false, and the
-// reason. None where one of them has no unit clause.
+/// The hints of the unit clause of a literal: unit clauses that make all other literals of its reason false, and the
+/// reason. None where one of them has no unit clause.
 fn unit_hints(
     alloc: Global,
     clauses: &Clauses,
@@ -94,7 +95,7 @@ fn unit_hints(
     Ok(Some(hints))
 }
 
-// Adds the unit clause of an entry's literal, where it follows from other unit clauses and the entry's reason.
+/// Adds the unit clause of an entry's literal, where it follows from other unit clauses and the entry's reason.
 fn add_unit(
     alloc: Global,
     draft: &mut LogDraft<'_>,

@@ -2,6 +2,9 @@
 //!
 //! Nothing of an answer rests on it: a clause that it misses is found where all variables have values.
 
+ghost use Rattle.std.specs.Prelude.{◌≤◌, length};
+
+use crate::trail::Trail;
 use cg_formula::Lit;
 use std::alloc::{AllocError, Global};
 
@@ -21,6 +24,21 @@ pub struct Pair {
     pub first: Lit,
     /// The other one.
     pub second: Lit,
+    /// Where in the clause a literal that is not false was found last.
+    pub from: usize,
+}
+
+/// The first place of a part of a clause with a literal that is not false, beside the given one.
+fn open_place(trail: &Trail, lits: &[Lit], given: Lit, from: usize, to: usize) -> Option<usize>
+    requires { to ≤ length lits.now }
+{
+    for at in from..to {
+        let lit = lits[at];
+        if !trail.has(lit.inverse()) && !lit.is(given) {
+            return Some(at);
+        }
+    }
+    None
 }
 
 /// The lists, by literal, and the pairs, by clause.
@@ -59,6 +77,7 @@ impl Watches {
         self.pairs.push(Pair {
             first: lit,
             second: lit,
+            from: 0,
         })?;
         Ok(())
     }
@@ -82,7 +101,11 @@ impl Watches {
                 },
             )?;
         }
-        self.pairs.push(Pair { first, second })?;
+        self.pairs.push(Pair {
+            first,
+            second,
+            from: 0,
+        })?;
         Ok(())
     }
 
@@ -108,8 +131,26 @@ impl Watches {
     pub fn set(&mut self, clause: u32, first: Lit, second: Lit) {
         let index = clause as usize;
         if index < self.pairs.len() {
-            self.pairs[index] = Pair { first, second };
+            self.pairs[index].first = first;
+            self.pairs[index].second = second;
         }
+    }
+
+    /// A literal of the clause that is not false, beside the given one.
+    ///
+    /// It is looked for from where one was found last: those before were false then, and mostly are so still, and each
+    /// look from the front would pass over them all (Gent 2013).
+    pub fn next(&mut self, trail: &Trail, lits: &[Lit], clause: u32, given: Lit) -> Option<Lit> {
+        let index = clause as usize;
+        let from = self.pairs.get(index)?.from.min(lits.len());
+        let at = match open_place(trail, lits, given, from, lits.len()) {
+            Some(at) => at,
+            None => open_place(trail, lits, given, 0, from)?,
+        };
+        if index < self.pairs.len() {
+            self.pairs[index].from = at;
+        }
+        lits.get(at).copied()
     }
 
     /// Takes the list of a literal out.

@@ -47,7 +47,9 @@ pub(crate) fn leave_out(
 
 /// Clears the keys of the registers of one stage, where it is one of stability and leaves them out.
 fn leave_out_of(alloc: Global, before: &Earlier, keys: &mut [Option<Key>]) -> Result<(), AllocError>
-    ensures { OnOk result ((r : ℕ) → key_at keys.new r ≡ (if (same_kind before.now.stage.kind Stable && is_in before.now.stage.regs r) then without before.now.inserted (stage_key before.now.stage) (key_at keys.old r) else key_at keys.old r)) }
+    ensures { OnOk result ((r : ℕ)
+        → key_at keys.new r ≡ (if (same_kind before.now.stage.kind Stable && is_in before.now.stage.regs r)
+        then without before.now.inserted (stage_key before.now.stage) (key_at keys.old r) else key_at keys.old r)) }
 {
     if !is_stable(before.stage.kind) {
         return Ok(());

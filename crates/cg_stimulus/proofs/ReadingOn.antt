@@ -7,14 +7,14 @@ use Rattle.cg_netlist.proofs.NameLemmas.{with_name-unknown}
 use Rattle.cg_stimulus.specs.declared.fault.StimulusFault.{StimulusFault}
 use Rattle.cg_stimulus.specs.declared.fault.StimulusFault.TheVariants as faults
 use Rattle.cg_stimulus.specs.declared.header.Header.{Header}
-use Rattle.cg_stimulus.specs.Fault.{Gives, ◌>>=◌}
+use Rattle.cg_stimulus.specs.Fault.{StimulusOrNoMemory, ◌>>=◌}
 use Rattle.cg_stimulus.specs.Inputs.{Rows}
 use Rattle.cg_stimulus.specs.Pushing.{PushRefuses}
-use Rattle.cg_stimulus.specs.Reading.{names_from, columns_of, place_of, row_of, rows_of}
+use Rattle.cg_stimulus.specs.Reading.{names_from, columns_of, column_of, row_of, rows_of}
 
 -- a fault goes on as it is
 pub fault_goes_on : {X Y V W : Type 0} (view : X → Y) (other : V → W) (e : StimulusFault) (read : Result Y StimulusFault) (whole : Result W StimulusFault)
-    → Gives view (Err e) read → (read ≡ Err e → whole ≡ Err e) → Gives other (Err e) whole
+    → StimulusOrNoMemory view (Err e) read → (read ≡ Err e → whole ≡ Err e) → StimulusOrNoMemory other (Err e) whole
 fault_goes_on view other (faults.BadName line) read whole gives on = on gives
 fault_goes_on view other (faults.MissingInput name) read whole gives on = on gives
 fault_goes_on view other (faults.BadRow line) read whole gives on = on gives
@@ -45,14 +45,14 @@ column_after front column (Ok columns) = ap Ok (sym (append_assoc front (column 
 column_after front column (Err e) = refl
 
 pub columns_go : (names : List (List ℕ)) (front new : List ℕ) (left : List (List ℕ)) (input : List ℕ) (later : List (List ℕ)) (column : ℕ) (whole : Result (List ℕ) StimulusFault)
-    → new ≡ front ++ column ∷ [] → left ≡ input ∷ later → place_of names input ≡ Some column → columns_before front (columns_of names left) ≡ whole
+    → new ≡ front ++ column ∷ [] → left ≡ input ∷ later → column_of names input ≡ Some column → columns_before front (columns_of names left) ≡ whole
     → columns_before new (columns_of names later) ≡ whole
 columns_go names front new left input later column whole pushed split place so_far =
     ap (λ columns. columns_before columns (columns_of names later)) pushed
     ∙ (sym (column_after front column (columns_of names later)) ∙ (sym (rw (split, place) refl) ∙ so_far))
 
 pub columns_end : (names : List (List ℕ)) (front : List ℕ) (left : List (List ℕ)) (input : List ℕ) (later : List (List ℕ)) (whole : Result (List ℕ) StimulusFault)
-    → left ≡ input ∷ later → place_of names input ≡ None → columns_before front (columns_of names left) ≡ whole → whole ≡ Err (faults.MissingInput input)
+    → left ≡ input ∷ later → column_of names input ≡ None → columns_before front (columns_of names left) ≡ whole → whole ≡ Err (faults.MissingInput input)
 columns_end names front left input later whole split place so_far = sym so_far ∙ rw (split, place) refl
 
 -- rows
@@ -81,7 +81,7 @@ row_refused header front left line later e whole split so_far bad = sym so_far �
 
 pub push_refused : (header : Header) (stimulus : Rows) (left : List Line) (line : Line) (later : List Line) (row : List Bool) (e : StimulusFault) (whole : Result (List (List Bool)) StimulusFault)
     → left ≡ line ∷ later → row_of line.number header line.words ≡ Ok row → rows_before stimulus.rows (rows_of header (length stimulus.rows) left) ≡ whole
-    → PushRefuses stimulus e → Gives (λ (read : Rows). read.rows) (Err e) whole
+    → PushRefuses stimulus e → StimulusOrNoMemory (λ (read : Rows). read.rows) (Err e) whole
 push_refused header stimulus left line later row (faults.BadName n) whole split is so_far cause = absurd cause
 push_refused header stimulus left line later row (faults.MissingInput name) whole split is so_far cause = absurd cause
 push_refused header stimulus left line later row (faults.BadRow n) whole split is so_far cause = absurd cause

@@ -20,8 +20,8 @@ use Rattle.cg_stimulus.specs.declared.fault.StimulusFault.{StimulusFault}
 use Rattle.cg_stimulus.specs.declared.fault.StimulusFault.TheVariants as faults
 use Rattle.cg_stimulus.specs.declared.header.Header.{Header}
 use Rattle.cg_stimulus.specs.Comments.{stimulus_lines}
-use Rattle.cg_stimulus.specs.Fault.{Gives, ◌>>=◌}
-use Rattle.cg_stimulus.specs.Reading.{place_of, names_from, columns_of, header_of, is_bit_byte, says_row, bits_of, row_of, rows_of, rows_in, stimulus}
+use Rattle.cg_stimulus.specs.Fault.{StimulusOrNoMemory, ◌>>=◌}
+use Rattle.cg_stimulus.specs.Reading.{column_of, names_from, columns_of, header_of, is_bit_byte, says_row, bits_of, row_of, rows_of, rows_in, stimulus}
 use Rattle.cg_stimulus.specs.StimText.{bit_byte, StandOnce, ShowsBit, SaysRow, StimText}
 
 bind_ok : {A B : Type 0} (r : Result A StimulusFault) (f : A → Result B StimulusFault) (y : B) → ◌>>=◌ {B = B} r f ≡ Ok y
@@ -123,16 +123,16 @@ position_within (n ∷ names) name i at = deeper i at (cases_Bool (same name n))
       let next : position_or_len (same name) (n ∷ names) ≡ 1 + position_or_len (same name) names = ap (λ b. cond (not b) (1 + position_or_len (same name) names) 0) other in
       omega (arith, next, later i at)
 
-found_at : (names : List (List ℕ)) (name : List ℕ) (i : ℕ) → place_of names name ≡ Some i → slice_get names i ≡ Some name
+found_at : (names : List (List ℕ)) (name : List ℕ) (i : ℕ) → column_of names name ≡ Some i → slice_get names i ≡ Some name
 found_at names name i e =
     let is = position-Some (same name) names i [] e in
     slice_get-get_or names i [] is.0 ∙ ap (λ n. Some n) (sym (same_text name _ (sym is.1)))
 
-no_place : (names : List (List ℕ)) (name : List ℕ) → place_of names name ≡ None → is_known names name ≡ true → ⊥
+no_place : (names : List (List ℕ)) (name : List ℕ) → column_of names name ≡ None → is_known names name ≡ true → ⊥
 no_place names name none known =
     let at = known_at names name known in
     let within : position_or_len (same name) names < length names = position_within names name at.0 at.1 in
-    let some : place_of names name ≡ Some (position_or_len (same name) names) = rw ((Decides-ltb (position_or_len (same name) names) (length names)).1 within) refl in
+    let some : column_of names name ≡ Some (position_or_len (same name) names) = rw ((Decides-ltb (position_or_len (same name) names) (length names)).1 within) refl in
     let clash : None ≡ Some (position_or_len (same name) names) = sym none ∙ some in absurd (cc)
 
 abbrev IsColumn : List (List ℕ) → List ℕ → ℕ → Type 0
@@ -140,8 +140,8 @@ IsColumn names input column = slice_get names column ≡ Some input
 
 columns_spelled : (names inputs : List (List ℕ)) (columns : List ℕ) → columns_of names inputs ≡ Ok columns → AllZip (IsColumn names) inputs columns
 columns_spelled names [] columns e = let none : [] ≡ columns = cc in subst (AllZip (IsColumn names) []) none tt
-columns_spelled names (input ∷ inputs) columns e = pick (place_of names input) refl (columns_spelled names inputs) where
-  pick : (o : Option ℕ) → place_of names input ≡ o → ((columns : List ℕ) → columns_of names inputs ≡ Ok columns → AllZip (IsColumn names) inputs columns)
+columns_spelled names (input ∷ inputs) columns e = pick (column_of names input) refl (columns_spelled names inputs) where
+  pick : (o : Option ℕ) → column_of names input ≡ o → ((columns : List ℕ) → columns_of names inputs ≡ Ok columns → AllZip (IsColumn names) inputs columns)
       → AllZip (IsColumn names) (input ∷ inputs) columns
   pick None f later = let bad : Err (faults.MissingInput input) ≡ Ok columns = rw f at e in absurd (cc)
   pick (Some column) f later =
@@ -152,8 +152,8 @@ columns_spelled names (input ∷ inputs) columns e = pick (place_of names input)
 columns_again : (names inputs : List (List ℕ)) → AllByRecursion (λ input. is_known names input ≡ true) inputs
     → (columns : List ℕ) × (columns_of names inputs ≡ Ok columns)
 columns_again names [] all = ([], refl)
-columns_again names (input ∷ inputs) all = pick (place_of names input) refl (columns_again names inputs all.1) where
-  pick : (o : Option ℕ) → place_of names input ≡ o → (columns : List ℕ) × (columns_of names inputs ≡ Ok columns)
+columns_again names (input ∷ inputs) all = pick (column_of names input) refl (columns_again names inputs all.1) where
+  pick : (o : Option ℕ) → column_of names input ≡ o → (columns : List ℕ) × (columns_of names inputs ≡ Ok columns)
       → (columns : List ℕ) × (columns_of names (input ∷ inputs) ≡ Ok columns)
   pick (Some column) f later = (column ∷ later.0, rw (f, later.1) refl)
   pick None f later = absurd (no_place names input f all.0)
@@ -339,7 +339,7 @@ text_is_read inputs text rows t =
     rw (t.lines, t.headed, names_again t.first.number inputs [] t.names t.once t.known, columns.1)
     (rows_again t.names inputs columns.0 0 t.later rows t.once zip t.say (omega (arith, t.few)))
 
-pub given_is_text : {X : Type 0} (view : X → List (List Bool)) (inputs : List (List ℕ)) (text : List ℕ) (r : Result X StimulusFault) → Gives view r (stimulus inputs text)
+pub given_is_text : {X : Type 0} (view : X → List (List Bool)) (inputs : List (List ℕ)) (text : List ℕ) (r : Result X StimulusFault) → StimulusOrNoMemory view r (stimulus inputs text)
     → IfOk r (λ x. StimText inputs text (view x))
 given_is_text view inputs text (Ok x) e = read_is_text inputs text (view x) e
 given_is_text view inputs text (Err fault) e = tt

@@ -10,10 +10,10 @@ abbrev pub ◌>>=◌ : {A B : Type 0} → Result A StimulusFault → (A → Resu
 (Err e) >>= f = Err e
 
 -- what a function answered, seen by view, is what reading gives, unless memory ran out
-abbrev pub Gives : {X Y : Type 0} → (X → Y) → Result X StimulusFault → Result Y StimulusFault → Type 0
-Gives view (Ok x) read = read ≡ Ok (view x)
-Gives view (Err (BadName line)) read = read ≡ Err (BadName line)
-Gives view (Err (MissingInput name)) read = read ≡ Err (MissingInput name)
-Gives view (Err (BadRow line)) read = read ≡ Err (BadRow line)
-Gives view (Err (Limit which)) read = read ≡ Err (Limit which)
-Gives view (Err NoMemory) read = Unit {0}
+abbrev pub StimulusOrNoMemory : {X Y : Type 0} → (X → Y) → Result X StimulusFault → Result Y StimulusFault → Type 0
+StimulusOrNoMemory view (Ok x) read = read ≡ Ok (view x)
+StimulusOrNoMemory view (Err (BadName line)) read = read ≡ Err (BadName line)
+StimulusOrNoMemory view (Err (MissingInput name)) read = read ≡ Err (MissingInput name)
+StimulusOrNoMemory view (Err (BadRow line)) read = read ≡ Err (BadRow line)
+StimulusOrNoMemory view (Err (Limit which)) read = read ≡ Err (Limit which)
+StimulusOrNoMemory view (Err NoMemory) read = Unit {0}

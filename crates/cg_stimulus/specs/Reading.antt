@@ -13,8 +13,8 @@ use Rattle.cg_stimulus.specs.Comments.{stimulus_lines}
 use Rattle.cg_stimulus.specs.Fault.{◌>>=◌}
 
 -- the place of a name among names
-abbrev pub place_of : List (List ℕ) → List ℕ → Option ℕ
-place_of names name = position (pointwise nat_eq name) names
+abbrev pub column_of : List (List ℕ) → List ℕ → Option ℕ
+column_of names name = position (pointwise nat_eq name) names
 
 -- the names behind `inputs`, each a data input that stands among them once; those before were read already
 abbrev pub names_from : ℕ → List (List ℕ) → List (List ℕ) → List (List ℕ) → Result (List (List ℕ)) StimulusFault
@@ -29,7 +29,7 @@ put_column input (Some column) later = later >>= λ columns. Ok (column ∷ colu
 -- for each data input the place of its name in the text, and so of its bit in a row
 abbrev pub columns_of : List (List ℕ) → List (List ℕ) → Result (List ℕ) StimulusFault
 columns_of names [] = Ok []
-columns_of names (input ∷ later) = put_column input (place_of names input) (columns_of names later)
+columns_of names (input ∷ later) = put_column input (column_of names input) (columns_of names later)
 
 -- what the first line says: how many names stand in it, and the column of each data input
 abbrev pub header_of : ℕ → List (List ℕ) → List (List ℕ) → Result Header StimulusFault

@@ -101,7 +101,8 @@ impl<'a> BareLines<'a> {
 
     /// The next line.
     pub(crate) fn next_line(&mut self) -> Option<BareLine<'a>>
-        ensures line { MatchOption result ((self.old ≡ []) × (self.new ≡ [])) (λ line. self.old ≡ record { number = line.number; words = line.words } ∷ self.new) }
+        ensures line { MatchOption result ((self.old ≡ []) × (self.new ≡ []))
+            (λ line. self.old ≡ record { number = line.number; words = line.words } ∷ self.new) }
     {
         'lines: while let Ok(line) = self.lines.next_line() {
             let words = BareWords { words: line.words };

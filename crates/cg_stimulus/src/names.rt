@@ -2,7 +2,7 @@
 
 ghost use Rattle.std.specs.Prelude.{◌≡◌, ◌<◌, [], Some, length, slice_get, OnOk};
 ghost use Rattle.cg_netlist.specs.Names.{is_known, with_name};
-ghost use Rattle.cg_stimulus.specs.Reading.{place_of};
+ghost use Rattle.cg_stimulus.specs.Reading.{column_of};
 
 use indexmap::IndexSet;
 use std::alloc::{AllocError, Global};
@@ -52,7 +52,7 @@ impl InputNames {
 
     /// The place of a name, or `None` where it is none of these.
     pub(crate) fn place(&self, name: &[u8]) -> Option<usize>
-        ensures { result ≡ place_of self.now name.now }
+        ensures { result ≡ column_of self.now name.now }
     {
         self.set.get_index_of(name)
     }

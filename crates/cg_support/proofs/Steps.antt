@@ -9,7 +9,7 @@ use Rattle.cg_netlist.specs.Drivers.{IsDriver}
 use Rattle.cg_netlist.specs.Netlist.{IsNetlist}
 use Rattle.cg_netlist.specs.declared.driver.Driver.{Driver}
 use Rattle.cg_netlist.specs.declared.driver.Driver.TheVariants.{Cell}
-use Rattle.cg_netlist.proofs.MarkLemmas.{All-at}
+use Rattle.cg_netlist.proofs.TableLemmas.{All-at}
 use Rattle.cg_netlist.proofs.Members.{place_of_member}
 use Rattle.cg_netlist.proofs.Used.{input_is_used}
 use Rattle.cg_machine.specs.Added.{own_netlist}

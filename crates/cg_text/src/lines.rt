@@ -74,7 +74,8 @@ impl<'a> Lines<'a> {
 
     /// The next line, or behind the last one its number and one more.
     pub fn next_line(&mut self) -> Result<Line<'a>, u64>
-        ensures line { MatchResult result (λ line. self.old.left ≡ line ∷ self.new.left) (λ end. (self.old.left ≡ []) × (self.new.left ≡ []) × (end ≡ self.old.end)) }
+        ensures line { MatchResult result (λ line. self.old.left ≡ line ∷ self.new.left)
+            (λ end. (self.old.left ≡ []) × (self.new.left ≡ []) × (end ≡ self.old.end)) }
         ensures end { self.new.end ≡ self.old.end }
     {
         'lines: while !self.rest.is_empty() {

@@ -51,7 +51,8 @@ impl<'a> Tokens<'a> {
 
     /// The next word, or the number behind that of the last line.
     pub fn next_token(&mut self) -> Result<Token<'a>, u64>
-        ensures token { MatchResult result (λ token. self.old.left ≡ spot_of token ∷ self.new.left) (λ end. (self.old.left ≡ []) × (self.new.left ≡ []) × (end ≡ self.old.end)) }
+        ensures token { MatchResult result (λ token. self.old.left ≡ spot_of token ∷ self.new.left)
+            (λ end. (self.old.left ≡ []) × (self.new.left ≡ []) × (end ≡ self.old.end)) }
         ensures end { self.new.end ≡ self.old.end }
     {
         'tokens: loop {

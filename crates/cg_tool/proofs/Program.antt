@@ -6,7 +6,7 @@ use Rattle.cg_shelf.specs.declared.faults.LoadFault.{LoadFault}
 use Rattle.cg_shelf.specs.declared.faults.StoreFault.{StoreFault}
 use Rattle.cg_shelf.specs.declared.faults.StoreFault.TheVariants as stores
 use Rattle.cg_run.specs.Names.{file_of}
-use Rattle.cg_run.specs.Promise.{Ended, EndsAs, FinishBy, Gains, KeepsOthers, Stands, UnlessFails, held_files}
+use Rattle.cg_run.specs.Promise.{Ended, EndsAs, FinishBy, Gains, KeepsOthers, LeavesShelf, UnlessFails, held_files}
 use Rattle.cg_run.specs.Refusal.{complaint_line}
 use Rattle.cg_run.specs.Run.{Complains, Runs, status_after}
 use Rattle.cg_run.specs.declared.output.Finish.{Finish}
@@ -90,7 +90,7 @@ module _ (gave : List ℕ → Result (List ℕ) LoadFault → Type 0) (kinds : L
   job_ended None before after result runs = tt
   job_ended (Some job) before after result runs = ended gave (task_by kinds job) (file_of job.files) before after result runs
 
-  pub job_stands : (job : Option JobWords) (before after : World) (result : Status) → RunsWords gave kinds job before after result → IsTrue before.tells → IfSome job (λ j. Stands (task_by kinds j) (file_of j.files) before after result)
+  pub job_stands : (job : Option JobWords) (before after : World) (result : Status) → RunsWords gave kinds job before after result → IsTrue before.tells → IfSome job (λ j. LeavesShelf (task_by kinds j) (file_of j.files) before after result)
   job_stands None before after result runs t = tt
   job_stands (Some job) before after result runs t = stands gave (task_by kinds job) (file_of job.files) before after result runs t
 

@@ -4,13 +4,13 @@ use Rattle.std.specs.Prelude.{IfSome}
 use Rattle.std.specs.Str.{bytes_eq}
 use Rattle.std.proofs.lemmas.Slice.Eq.{bytes_eq-Decides}
 use Rattle.cg_gating.specs.Gating.{where_asked}
-use Rattle.cg_run.specs.Writes.{put, puts}
+use Rattle.cg_run.specs.Writes.{put_under, puts}
 use Rattle.cg_run.specs.declared.role.Role.{Role}
 use Rattle.cg_run.specs.declared.role.Role.TheVariants as roles
 use Rattle.cg_run.proofs.Steps.{put_here}
 use Rattle.cg_tool.specs.Gate.{text_for}
 
-put_apart : (held : List ℕ → Option (List ℕ)) (name bytes other : List ℕ) → other ≢ name → put held name bytes other ≡ held other
+put_apart : (held : List ℕ → Option (List ℕ)) (name bytes other : List ℕ) → other ≢ name → put_under held name bytes other ≡ held other
 put_apart held name bytes other apart = go (bytes_eq other name) refl
   where
     go : (same : Bool) → bytes_eq other name ≡ same → (if same then Some bytes else held other) ≡ held other
@@ -30,22 +30,22 @@ module _ (names : Role → List ℕ) (held : List ℕ → Option (List ℕ)) (ou
   pub out_stands : (proof report : Option (List ℕ)) → ((text : List ℕ) → proof ≡ Some text → names roles.Out ≢ names roles.Proof) → ((text : List ℕ) → report ≡ Some text → names roles.Out ≢ names roles.Report)
       → after proof report (names roles.Out) ≡ Some out
   out_stands None None first second = put_here held (names roles.Out) out
-  out_stands (Some p) None first second = put_apart (put held (names roles.Out) out) (names roles.Proof) p (names roles.Out) (first p refl) ∙ put_here held (names roles.Out) out
-  out_stands None (Some r) first second = put_apart (put held (names roles.Out) out) (names roles.Report) r (names roles.Out) (second r refl) ∙ put_here held (names roles.Out) out
+  out_stands (Some p) None first second = put_apart (put_under held (names roles.Out) out) (names roles.Proof) p (names roles.Out) (first p refl) ∙ put_here held (names roles.Out) out
+  out_stands None (Some r) first second = put_apart (put_under held (names roles.Out) out) (names roles.Report) r (names roles.Out) (second r refl) ∙ put_here held (names roles.Out) out
   out_stands (Some p) (Some r) first second =
-      put_apart (put (put held (names roles.Out) out) (names roles.Proof) p) (names roles.Report) r (names roles.Out) (second r refl)
-      ∙ put_apart (put held (names roles.Out) out) (names roles.Proof) p (names roles.Out) (first p refl) ∙ put_here held (names roles.Out) out
+      put_apart (put_under (put_under held (names roles.Out) out) (names roles.Proof) p) (names roles.Report) r (names roles.Out) (second r refl)
+      ∙ put_apart (put_under held (names roles.Out) out) (names roles.Proof) p (names roles.Out) (first p refl) ∙ put_here held (names roles.Out) out
 
   pub proof_stands : (proof report : Option (List ℕ)) → ((first second : List ℕ) → proof ≡ Some first → report ≡ Some second → names roles.Proof ≢ names roles.Report)
       → IfSome proof (λ text. after proof report (names roles.Proof) ≡ Some text)
   proof_stands None report apart = tt
-  proof_stands (Some p) None apart = put_here (put held (names roles.Out) out) (names roles.Proof) p
+  proof_stands (Some p) None apart = put_here (put_under held (names roles.Out) out) (names roles.Proof) p
   proof_stands (Some p) (Some r) apart =
-      put_apart (put (put held (names roles.Out) out) (names roles.Proof) p) (names roles.Report) r (names roles.Proof) (apart p r refl refl)
-      ∙ put_here (put held (names roles.Out) out) (names roles.Proof) p
+      put_apart (put_under (put_under held (names roles.Out) out) (names roles.Proof) p) (names roles.Report) r (names roles.Proof) (apart p r refl refl)
+      ∙ put_here (put_under held (names roles.Out) out) (names roles.Proof) p
 
   pub report_stands : (proof report : Option (List ℕ)) → IfSome report (λ text. after proof report (names roles.Report) ≡ Some text)
   report_stands None None = tt
   report_stands (Some p) None = tt
-  report_stands None (Some r) = put_here (put held (names roles.Out) out) (names roles.Report) r
-  report_stands (Some p) (Some r) = put_here (put (put held (names roles.Out) out) (names roles.Proof) p) (names roles.Report) r
+  report_stands None (Some r) = put_here (put_under held (names roles.Out) out) (names roles.Report) r
+  report_stands (Some p) (Some r) = put_here (put_under (put_under held (names roles.Out) out) (names roles.Proof) p) (names roles.Report) r

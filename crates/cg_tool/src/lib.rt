@@ -6,7 +6,7 @@
 //! The modules, in the order in which data flows through them:
 //!
 //! - [`watching`]: the watchers, of which the words may ask for one;
-//! - [`modes`]: `gate`, `sim` and `lrat`, each from its files to what is to be put out;
+//! - [`modes`]: `gate`, `sim`, `lrat` and `demo`, each from its files, of which `demo` has none, to what is to be put out;
 //! - [`top`]: the top call, [`run`].
 #![tactic(auto)]
 

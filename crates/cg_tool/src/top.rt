@@ -4,7 +4,7 @@ ghost use Rattle.std.specs.Prelude.{◌≡◌, ℕ, map, None, IfOk, IfSome, IsT
 ghost use Rattle.std.specs.Option.{option_map};
 ghost use Rattle.std.specs.String.{string_bytes};
 ghost use Rattle.cg_run.specs.Names.{file_of, name_of};
-ghost use Rattle.cg_run.specs.Promise.{Ended, EndsAs, FinishBy, Gains, KeepsOthers, Stands, UnlessFails, held_files};
+ghost use Rattle.cg_run.specs.Promise.{Ended, EndsAs, FinishBy, Gains, KeepsOthers, LeavesShelf, UnlessFails, held_files};
 ghost use Rattle.cg_run.specs.Reads.{Gave};
 ghost use Rattle.cg_run.specs.Run.{Runs};
 ghost use Rattle.cg_words.specs.Jobs.{job_of, job_words};
@@ -37,20 +37,23 @@ pub fn run<S: Shelf>(
     progress: &mut dyn Progress,
 ) -> Status
     // What the run did: its calls in order, what each file gave, the one output that it put out, and what stands.
-    ensures runs { RunsWords (Gave S.gives) (map (λ watcher. says watcher) watchers.items) (job_of (map (λ watcher. called watcher) watchers.items) (map string_bytes words.now)) (S.world shelf.old) (S.world shelf.new) result }
+    ensures runs { RunsWords (Gave S.gives) (map (λ watcher. says watcher) watchers.items)
+        (job_of (map (λ watcher. called watcher) watchers.items) (map string_bytes words.now)) (S.world shelf.old) (S.world shelf.new) result }
 
     // Usage comes exactly of words that are no job.
     ensures usage { result ≡ Status.Usage → job_of (map (λ watcher. called watcher) watchers.items) (map string_bytes words.now) ≡ None }
     ensures usage_only { job_of (map (λ watcher. called watcher) watchers.items) (map string_bytes words.now) ≡ None → IsOrNoMemory Status.Usage result }
-    ensures usage_keeps { IsTrue (S.world shelf.old).tells → KeepsAll (job_of (map (λ watcher. called watcher) watchers.items) (map string_bytes words.now)) (S.world shelf.old) (S.world shelf.new) }
+    ensures usage_keeps { IsTrue (S.world shelf.old).tells
+        → KeepsAll (job_of (map (λ watcher. called watcher) watchers.items) (map string_bytes words.now)) (S.world shelf.old) (S.world shelf.new) }
 
     // How a job ended, with the cause, the line of complaint and the failed calls.
     ensures ended { IfSome (job_of (map (λ watcher. called watcher) watchers.items) (map string_bytes words.now))
-        (λ job. Ended (Gave S.gives) (task_by (map (λ watcher. says watcher) watchers.items) job) (file_of job.files) (S.world shelf.old) (S.world shelf.new) result) }
+        (λ job. Ended (Gave S.gives) (task_by (map (λ watcher. says watcher) watchers.items) job) (file_of job.files) (S.world shelf.old)
+        (S.world shelf.new) result) }
 
     // What stands, by the status.
     ensures stands { IsTrue (S.world shelf.old).tells → IfSome (job_of (map (λ watcher. called watcher) watchers.items) (map string_bytes words.now))
-        (λ job. Stands (task_by (map (λ watcher. says watcher) watchers.items) job) (file_of job.files) (S.world shelf.old) (S.world shelf.new) result) }
+        (λ job. LeavesShelf (task_by (map (λ watcher. says watcher) watchers.items) job) (file_of job.files) (S.world shelf.old) (S.world shelf.new) result) }
 
     // At most one failed call besides that of the complaint, and which, by the status.
     ensures gains { IfSome (job_of (map (λ watcher. called watcher) watchers.items) (map string_bytes words.now))
@@ -66,7 +69,9 @@ pub fn run<S: Shelf>(
 
     // `gate` writes a netlist that shows, from every state and for all time, what the one that it read shows.
     ensures gated { IsTrue (S.world shelf.old).tells → IfSome (job_of (map (λ watcher. called watcher) watchers.items) (map string_bytes words.now))
-        (λ job. job.mode ≡ Mode.Gate → FinishBy (IsGated job.options (kind_at (map (λ watcher. says watcher) watchers.items) job.options.watch) (file_of job.files) (S.world shelf.old) (S.world shelf.new)) result) }
+        (λ job. job.mode ≡ Mode.Gate
+        → FinishBy (IsGated job.options (kind_at (map (λ watcher. says watcher) watchers.items) job.options.watch) (file_of job.files) (S.world shelf.old)
+        (S.world shelf.new)) result) }
 
     // The files that it stores have different names, so that each holds its text.
     ensures apart { IfSome (job_of (map (λ watcher. called watcher) watchers.items) (map string_bytes words.now))
@@ -74,7 +79,9 @@ pub fn run<S: Shelf>(
 
     // `sim` says the lines of the one history on which the stimulus is played, and what the watcher says of its moments.
     ensures simulated { IsTrue (S.world shelf.old).tells → IfSome (job_of (map (λ watcher. called watcher) watchers.items) (map string_bytes words.now))
-        (λ job. job.mode ≡ Mode.Sim → FinishBy (IsSimulated job.options.clock (kind_at (map (λ watcher. says watcher) watchers.items) job.options.watch) (file_of job.files) (S.world shelf.old) (S.world shelf.new)) result) }
+        (λ job. job.mode ≡ Mode.Sim
+        → FinishBy (IsSimulated job.options.clock (kind_at (map (λ watcher. says watcher) watchers.items) job.options.watch) (file_of job.files)
+        (S.world shelf.old) (S.world shelf.new)) result) }
 
     // `demo` says the summary of the generated pipeline, gated as its stimulus and the defaults say.
     ensures shown { IsTrue (S.world shelf.old).tells → IfSome (job_of (map (λ watcher. called watcher) watchers.items) (map string_bytes words.now))
@@ -87,6 +94,7 @@ pub fn run<S: Shelf>(
     run_words(alloc, words, shelf, watchers, progress)
 }
 
+/// Does what the words ask for, or complains.
 fn run_words<S: Shelf>(
     alloc: Global,
     words: &[String],
@@ -94,7 +102,8 @@ fn run_words<S: Shelf>(
     watchers: Vec<Box<dyn Watcher>>,
     progress: &mut dyn Progress,
 ) -> Status
-    ensures { RunsWords (Gave S.gives) (map (λ watcher. says watcher) watchers.items) (job_of (map (λ watcher. called watcher) watchers.items) (map string_bytes words.now)) (S.world shelf.old) (S.world shelf.new) result }
+    ensures { RunsWords (Gave S.gives) (map (λ watcher. says watcher) watchers.items)
+        (job_of (map (λ watcher. called watcher) watchers.items) (map string_bytes words.now)) (S.world shelf.old) (S.world shelf.new) result }
 {
     match read_job(alloc, words, watchers.as_slice()) {
         Ok(Some(job)) => run_job(alloc, shelf, job, watchers, progress),
@@ -115,6 +124,7 @@ fn read_job<'a>(
     read_words(alloc, words, names.as_slice())
 }
 
+/// Does a job, each mode with its own options.
 fn run_job<S: Shelf>(
     alloc: Global,
     shelf: &mut S,
@@ -122,7 +132,8 @@ fn run_job<S: Shelf>(
     watchers: Vec<Box<dyn Watcher>>,
     progress: &mut dyn Progress,
 ) -> Status
-    ensures { Runs (Gave S.gives) (task_by (map (λ watcher. says watcher) watchers.items) (job_words job.entry)) (name_of job.entry.names) (S.world shelf.old) (S.world shelf.new) result }
+    ensures { Runs (Gave S.gives) (task_by (map (λ watcher. says watcher) watchers.items) (job_words job.entry)) (name_of job.entry.names) (S.world shelf.old)
+        (S.world shelf.new) result }
 {
     let Job {
         mode,

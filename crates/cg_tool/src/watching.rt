@@ -21,6 +21,7 @@ pub fn names_of<'a>(
     Ok(names)
 }
 
+/// The name of a watcher.
 fn name_of(watcher: &Box<dyn Watcher>) -> &str
     ensures { result.now ≡ called watcher.now }
 {
@@ -37,6 +38,7 @@ pub fn chosen(watchers: Vec<Box<dyn Watcher>>, place: Option<usize>) -> Option<B
     }
 }
 
+/// The watcher at a place among these.
 fn watcher_at(watchers: Vec<Box<dyn Watcher>>, place: usize) -> Option<Box<dyn Watcher>>
     ensures { option_map (λ watcher. says watcher) result ≡ slice_get (map (λ watcher. says watcher) watchers.items) place }
 {

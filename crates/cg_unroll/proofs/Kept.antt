@@ -9,20 +9,20 @@ use Rattle.cg_netlist.proofs.Members.{All-from_members}
 use Rattle.cg_netlist.specs.declared.cone.Cone.{Cone}
 use Rattle.cg_machine.specs.Machine.{MachineData}
 use Rattle.cg_machine.proofs.Lists.{below_range}
-use Rattle.cg_claim.specs.Question.{Enable, Net, Next, Part, Side, State}
+use Rattle.cg_claim.specs.Question.{CopyPart, Enable, Net, Next, Side, State}
 use Rattle.cg_claim.specs.Reach.{registers_of}
-use Rattle.cg_claim.specs.Violates.{PartFits, SidesFit}
+use Rattle.cg_claim.specs.Violates.{CopyPartFits, SidesFit}
 use Rattle.cg_claim.proofs.Reached.{in_filter}
 use Rattle.cg_unroll.specs.declared.tables.Tables.{Tables}
 use Rattle.cg_claim.specs.declared.leaf.Leaf.{Leaf}
-use Rattle.cg_unroll.specs.inner.Asking.{PartThere, SidesThere}
+use Rattle.cg_reach.specs.Asking.{PartThere, SidesThere}
 use Rattle.cg_unroll.specs.inner.Copying.{AreTables, Starts}
 use Rattle.cg_unroll.specs.inner.Laid.{LaysCopy}
-use Rattle.cg_unroll.specs.inner.Placing.{IsTable}
+use Rattle.cg_unroll.specs.inner.Placing.{IsLiteralTable}
 use Rattle.cg_unroll.specs.inner.States.{Carries, LaysStates}
 use Rattle.cg_unroll.proofs.Sides.{table_later}
 
-part_fits : (m : MachineData) (part : Part) → PartThere m part → PartFits m part
+part_fits : (m : MachineData) (part : CopyPart) → PartThere m part → CopyPartFits m part
 part_fits m (Net y) there = tt
 part_fits m (Next r) there = there
 part_fits m (State r) there = there
@@ -46,36 +46,36 @@ places_there n k registers more all = λ j d below. let small = all j d below in
 -- the tables of each stage
 module _ (m : MachineData) (leaves : List Leaf) (s : Seen) (start : Tables) (starts : Starts m leaves s start)
     (s1 : Seen) (before : Cone) (nets0 : List ℕ) (lays0 : LaysCopy m before start.before.states s s1 start.before.nets nets0) where
-  pub own_table : IsTable (length m.circuit.registers) s1 start.before.states
+  pub own_table : IsLiteralTable (length m.circuit.registers) s1 start.before.states
   own_table = table_later (length m.circuit.registers) s s1 start.before.states lays0.keeps starts.before_states.table
 
-  pub free_table : IsTable (length m.circuit.registers) s1 start.free
+  pub free_table : IsLiteralTable (length m.circuit.registers) s1 start.free
   free_table = table_later (length m.circuit.registers) s s1 start.free lays0.keeps starts.free.table
 
-  pub zero_table : IsTable (length m.circuit.registers) s1 start.after.states
+  pub zero_table : IsLiteralTable (length m.circuit.registers) s1 start.after.states
   zero_table = table_later (length m.circuit.registers) s s1 start.after.states lays0.keeps starts.after_states
 
   module _ (nets own free : ℕ → ℕ) (registers : List ℕ) (s2 : Seen) (states1 : List ℕ) (lays1 : LaysStates m nets own free registers s1 s2 start.after.states states1) where
     two : Keeps aig_ops s s2
     two = keeps_then aig_ops s s1 s2 lays0.keeps lays1.keeps
 
-    pub states_table : IsTable (length m.circuit.registers) s2 states1
+    pub states_table : IsLiteralTable (length m.circuit.registers) s2 states1
     states_table = record { valid = lays1.valid; long = omega (arith, lays1.long, starts.after_states.long) }
 
-    pub after_table : IsTable (length m.circuit.names) s2 start.after.nets
+    pub after_table : IsLiteralTable (length m.circuit.names) s2 start.after.nets
     after_table = table_later (length m.circuit.names) s s2 start.after.nets two starts.after_nets.table
 
     module _ (after : Cone) (s3 : Seen) (nets1 : List ℕ) (lays2 : LaysCopy m after states1 s2 s3 start.after.nets nets1) (states2 : List ℕ) (carries : Carries registers states1 start.changed.states states2) where
       three : Keeps aig_ops s s3
       three = keeps_then aig_ops s s2 s3 two lays2.keeps
 
-      pub others_table : IsTable (length m.circuit.registers) s3 states2
+      pub others_table : IsLiteralTable (length m.circuit.registers) s3 states2
       others_table = record {
         valid = carries.valid s3 (valid_then aig_ops s2 s3 states1 lays2.keeps lays1.valid) (valid_then aig_ops s s3 start.changed.states three starts.changed_states.table.valid);
         long = omega (arith, carries.long, starts.changed_states.table.long);
       }
 
-      pub changed_table : IsTable (length m.circuit.names) s3 start.changed.nets
+      pub changed_table : IsLiteralTable (length m.circuit.names) s3 start.changed.nets
       changed_table = table_later (length m.circuit.names) s s3 start.changed.nets three starts.changed_nets.table
 
       module _ (changed : Cone) (s4 : Seen) (nets2 : List ℕ) (lays3 : LaysCopy m changed states2 s3 s4 start.changed.nets nets2) where

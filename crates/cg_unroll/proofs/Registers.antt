@@ -5,10 +5,7 @@ use Rattle.std.proofs.lemmas.List.Elements.{All-head}
 use Rattle.std.proofs.lemmas.Option.{none-some, same_Some}
 use Rattle.cg_cell.specs.Build.{Run, chain, plain}
 use Rattle.cg_claim.specs.Build.{aig_values, mux_run, next_run, next_run_of}
-use Rattle.cg_machine.specs.Added.{own_netlist}
 use Rattle.cg_machine.specs.Machine.{MachineData, enable_of}
-use Rattle.cg_machine.proofs.Lists.{take_get}
-use Rattle.cg_netlist.specs.Circuit.{Circuit}
 use Rattle.cg_cell.specs.Domain.{AreValid, Seen}
 use Rattle.cg_cell.specs.Eval.{build_term}
 use Rattle.cg_cell.proofs.Building.{keeps_self}
@@ -46,7 +43,3 @@ pub next_is : (m : MachineData) (nets states : ℕ → ℕ) (r own : ℕ) (s : S
 next_is m nets states r own s cell at is =
     ap (λ o. next_run_of aig_values o (enable_of m r) nets (states r) s) at
     ∙ ap (λ w. chain (data_run nets w cell s) (λ a t. mux_run aig_values (enable_of m r) nets a w t)) (sym is)
-
--- a register of the netlist is the machine's
-pub own_register : (m : MachineData) (c : Circuit) (reg : ℕ) (v : RegisterCell ℕ ℕ) → c ≡ own_netlist m → reg < m.own_registers → slice_get c.registers reg ≡ Some v → slice_get m.circuit.registers reg ≡ Some v
-own_register m c reg v own_is low is = sym (take_get m.own_registers m.circuit.registers reg low) ∙ (ap (λ (n : Circuit). slice_get n.registers reg) (sym own_is) ∙ is)

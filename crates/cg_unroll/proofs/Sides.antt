@@ -9,19 +9,19 @@ use Rattle.cg_aig.proofs.RunsFit.{aig_growing}
 use Rattle.cg_machine.specs.Claims.{Literal}
 use Rattle.cg_machine.specs.Machine.{MachineData}
 use Rattle.cg_claim.specs.Build.{aig_values, goal_of, nets_in, part_run, side_run, states_in}
-use Rattle.cg_claim.specs.Question.{Part, Question}
+use Rattle.cg_claim.specs.Question.{CopyPart, Question}
 use Rattle.cg_claim.proofs.WholeLists.{part_grows}
-use Rattle.cg_unroll.specs.declared.asked.Frame.{Frame}
-use Rattle.cg_unroll.specs.declared.asked.Frame.TheVariants.{Before, After, Changed}
-use Rattle.cg_unroll.specs.declared.asked.Side.{Side}
+use Rattle.cg_reach.specs.declared.asked.Frame.{Frame}
+use Rattle.cg_reach.specs.declared.asked.Frame.TheVariants.{Before, After, Changed}
+use Rattle.cg_reach.specs.declared.asked.Side.{Side}
 use Rattle.cg_unroll.specs.declared.tables.CopyTables.{CopyTables}
 use Rattle.cg_unroll.specs.declared.tables.Tables.{Tables}
-use Rattle.cg_unroll.specs.inner.Asking.{copy_of, part_of, side_of}
+use Rattle.cg_reach.specs.Asking.{copy_of, part_of, side_of}
 use Rattle.cg_unroll.specs.inner.Copying.{AreTables, IsCopy, copies_of, copy_tables, shown_run, sides_run}
-use Rattle.cg_unroll.specs.inner.Placing.{IsTable}
+use Rattle.cg_unroll.specs.inner.Placing.{IsLiteralTable}
 
 -- a table is one of each later list
-pub table_later : (n : ℕ) (s t : Seen) (values : List ℕ) → Keeps aig_ops s t → IsTable n s values → IsTable n t values
+pub table_later : (n : ℕ) (s t : Seen) (values : List ℕ) → Keeps aig_ops s t → IsLiteralTable n s values → IsLiteralTable n t values
 table_later n s t values k table = record { valid = valid_then aig_ops s t values k table.valid; long = table.long }
 
 pub copy_later : (m : MachineData) (s t : Seen) (copy : CopyTables) → Keeps aig_ops s t → IsCopy m s copy → IsCopy m t copy
@@ -56,7 +56,7 @@ module _ (m : MachineData) (E : List Literal) (tables : Tables) where
       grows_then aig_ops aig_growing t r (λ b u. chain (build_xor aig_ops a b u) (λ x v. build_and aig_ops (inverse joined) x v)) (shown_grows other t) (joined_grows joined a r.answer r.domain)
 
 module _ (m : MachineData) (q : Question) (tables : Tables) (first : Seen) where
-  side_at : (frame : Frame) (part : Part) (s : Seen)
+  side_at : (frame : Frame) (part : CopyPart) (s : Seen)
       → part_run aig_values m q.enables (λ x. slice_index_or (copy_tables tables frame).nets x 0) (λ r. slice_index_or (copy_tables tables frame).states r 0) part s
       ≡ part_run aig_values m q.enables (nets_in (copies_of tables first) (copy_of frame)) (states_in (copies_of tables first) (copy_of frame)) part s
   side_at Before part s = refl

@@ -1,5 +1,5 @@
 -- What a call that builds a claim answers.
-use Rattle.std.specs.Prelude.{◌≡◌, ◌<◌, ◌≤◌, ℕ, List, map, length, slice_index_or, IsTrue}
+use Rattle.std.specs.Prelude.{◌≡◌, ◌<◌, ◌≤◌, ℕ, map, length, slice_index_or, IsTrue}
 use Rattle.cg_aig.specs.Aig.{aig_ops}
 use Rattle.cg_limit.specs.declared.Limit.TheVariants.{ClaimNodes}
 use Rattle.cg_limit.specs.declared.TheConstants.{MOST_CLAIM_NODES}
@@ -30,11 +30,6 @@ abbrev pub IsRefused : MachineData → Question → ℕ → ClaimFault → Type 
 IsRefused m q width (Wide n) = (n ≡ width_of m q) × (width < n)
 IsRefused m q width (Limit which) = (which ≡ ClaimNodes) × (width_of m q ≤ width) × (MOST_CLAIM_NODES < nodes_of m q)
 IsRefused m q width NoMemory = Unit {0}
-
--- registers that may have other bits, and their guards, which hold their next bits
-pub record UnseenData : Type 0 where
-  pub guards : List ℕ
-  pub regs : List ℕ
 
 -- a name names a target: an output, the next bit of a register, or the joined enable
 abbrev pub IsTargetName : MachineData → ClaimName → Type 0

@@ -1,13 +1,9 @@
-pub mod Asking
 pub mod Building
 pub mod Copying
 pub mod Faults
 pub mod Filling
 pub mod Joining
 pub mod Laid
-pub mod Leaves
 pub mod Placing
-pub mod Reached
 pub mod Sparse
-pub mod Spreading
 pub mod States

@@ -5,14 +5,12 @@ ghost use Rattle.cg_aig.specs.Aig.{aig_ops};
 ghost use Rattle.cg_cell.specs.Build.{Builds};
 ghost use Rattle.cg_claim.specs.Build.{aig_values, claim_run, leaf_list, question_run};
 ghost use Rattle.cg_claim.specs.Leaves.{width_of};
-ghost use Rattle.cg_unroll.specs.inner.Asking.{AsksThere, question_of};
+ghost use Rattle.cg_reach.specs.Asking.{AsksThere, question_of};
 ghost use Rattle.cg_unroll.specs.inner.Building.{Built, MayFail};
-ghost use Rattle.cg_unroll.specs.inner.Reached.{IsReached};
+ghost use Rattle.cg_reach.specs.Reached.{IsReached};
 
-use crate::asked::Asked;
 use crate::copy::lay_copy;
 use crate::goal::goal_literal;
-use crate::reached::Reached;
 use crate::states::{carry_states, put_states};
 use crate::tables::Tables;
 use cg_aig::fault::AigFault;
@@ -20,6 +18,8 @@ use cg_aig::list::Aig;
 use cg_aig::lit::AigLit;
 use cg_limit::{Limit, MOST_CLAIM_NODES};
 use cg_machine::machine::Machine;
+use cg_reach::asked::Asked;
+use cg_reach::reached::Reached;
 use std::alloc::Global;
 
 /// What builds lists and goals, in buffers that are kept from claim to claim.

@@ -6,7 +6,6 @@ ghost use Rattle.cg_claim.specs.Question.{hold_question, idle_question, stable_q
 ghost use Rattle.cg_unroll.specs.Claims.{IsClaim, IsRefused, IsTargetName, target_of};
 
 use crate::unroller::Unroller;
-use crate::unseen::UnseenRegs;
 use cg_aig::list::Aig;
 use cg_aig::lit::AigLit;
 use cg_claim::leaf::Leaf;
@@ -16,6 +15,7 @@ use cg_list::Seq;
 use cg_machine::machine::Machine;
 use cg_machine::stage::NetLit;
 use cg_netlist::id::RegId;
+use cg_reach::unseen::UnseenRegs;
 use std::alloc::Global;
 
 /// A claim: an and-inverter list with a goal, which is 1 at bits of the leaves exactly where these bits violate the claim.

@@ -3,7 +3,7 @@
 ghost use Rattle.std.specs.Prelude.{◌<◌, length, IfErr, OnOk};
 ghost use Rattle.std.specs.List.{All};
 ghost use Rattle.cg_unroll.specs.inner.Laid.{CopyFails, LaysCopy};
-ghost use Rattle.cg_unroll.specs.inner.Placing.{IsTable};
+ghost use Rattle.cg_unroll.specs.inner.Placing.{IsLiteralTable};
 
 use crate::edge::put_registers;
 use crate::lay::lay_cells;
@@ -26,8 +26,8 @@ pub(crate) fn lay_copy(
 ) -> Result<(), AigFault>
     requires cells { All (λ k. k < length machine.now.circuit.cells) cone.now.cells }
     requires registers { All (λ r. r < length machine.now.circuit.registers) cone.now.registers }
-    requires states { IsTable (length machine.now.circuit.registers) aig.old states.now }
-    requires nets { IsTable (length machine.now.circuit.names) aig.old nets.old }
+    requires states { IsLiteralTable (length machine.now.circuit.registers) aig.old states.now }
+    requires nets { IsLiteralTable (length machine.now.circuit.names) aig.old nets.old }
     ensures laid { OnOk result (LaysCopy machine.now cone.now states.now aig.old aig.new nets.old nets.new) }
     ensures failed { IfErr result (CopyFails machine.now cone.now states.now aig.old nets.old) }
 {

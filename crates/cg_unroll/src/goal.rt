@@ -6,11 +6,10 @@ ghost use Rattle.cg_cell.specs.Build.{build_and, build_xor, chain};
 ghost use Rattle.cg_cell.specs.Domain.{AreValid};
 ghost use Rattle.cg_aig.specs.Aig.{aig_ops, inverse};
 ghost use Rattle.cg_claim.specs.Build.{aig_values, enable_run, goal_run, literal_of, part_run};
-ghost use Rattle.cg_unroll.specs.inner.Asking.{AsksThere, PartThere, part_of, question_of};
+ghost use Rattle.cg_reach.specs.Asking.{AsksThere, PartThere, part_of, question_of};
 ghost use Rattle.cg_unroll.specs.inner.Building.{Built, MayFail};
 ghost use Rattle.cg_unroll.specs.inner.Copying.{AreTables, IsCopy, copies_of, sides_run};
 
-use crate::asked::{Asked, Frame, Part, Side};
 use crate::literals::Literals;
 use crate::next::next_literal;
 use crate::tables::{CopyTables, Tables};
@@ -19,6 +18,7 @@ use cg_aig::list::Aig;
 use cg_aig::lit::AigLit;
 use cg_machine::machine::Machine;
 use cg_machine::stage::NetLit;
+use cg_reach::asked::{Asked, Frame, Part, Side};
 
 /// The literal of the goal of a claim: the inverse of the joined enable, and, where the claim has sides, 1 where in
 /// addition they differ. The joined enable is built first, then the sides from the left, and then what joins them.
@@ -109,9 +109,11 @@ fn part_literal(
     requires nets { All (λ l. l.0 < length machine.now.circuit.names) enables.now }
     requires copy { IsCopy machine.now aig.old copy.now }
     ensures built { IfOk result (λ v. Built aig.old aig.new v
-        (part_run aig_values machine.now enables.now (λ x. slice_index_or copy.now.nets x 0) (λ r. slice_index_or copy.now.states r 0) (part_of part) aig.old)) }
+        (part_run aig_values machine.now enables.now (λ x. slice_index_or copy.now.nets x 0) (λ r. slice_index_or copy.now.states r 0)
+        (part_of part) aig.old)) }
     ensures failed { IfErr result (λ fault. MayFail
-        (part_run aig_values machine.now enables.now (λ x. slice_index_or copy.now.nets x 0) (λ r. slice_index_or copy.now.states r 0) (part_of part) aig.old).domain fault) }
+        (part_run aig_values machine.now enables.now (λ x. slice_index_or copy.now.nets x 0) (λ r. slice_index_or copy.now.states r 0)
+        (part_of part) aig.old).domain fault) }
 {
     let _leaves = aig.leaves();
     match part {

@@ -37,7 +37,8 @@ pub(crate) fn lay_cells(
     requires literals { length machine.now.circuit.names ≤ length literals.old }
     requires valid { AreValid aig_ops aig.old literals.old }
     ensures laid { OnOk result (LaysCells (values_at machine.now.circuit.cells cells.now) aig.old aig.new literals.old literals.new) }
-    ensures failed { IfErr result (λ fault. MayFail (lay aig_values (values_at machine.now.circuit.cells cells.now) (table_of aig.old literals.old)).domain fault) }
+    ensures failed { IfErr result
+        (λ fault. MayFail (lay aig_values (values_at machine.now.circuit.cells cells.now) (table_of aig.old literals.old)).domain fault) }
 {
     for k in 0..cells.len() {
         match lay_cell(machine, cells[k], aig, literals, buffer) {

@@ -2,18 +2,11 @@
 //!
 //! What is asked of a machine before registers get an enable comes in as an enable, registers and a target, and goes out
 //! as an and-inverter list with a goal, which is 1 at bits of its leaves exactly where these bits violate the claim. All
-//! kinds of claims take one path: what the goal reaches is found first, then the leaves are counted, and then the list
-//! is built.
+//! kinds of claims take one path: what the goal reaches is found first, by the crate below, then the leaves are counted,
+//! and then the list is built.
 //!
 //! The modules:
 //!
-//! - `asked`: what a claim asks, as data.
-//! - `roots`: the nets that it asks for in each copy.
-//! - `sources`: the registers whose states it asks for in each copy.
-//! - `leaves`: its leaves.
-//! - `named`: the registers that it says something of, as sets.
-//! - `unseen`: the registers of unobservability claims.
-//! - `reached`: what it reaches.
 //! - `literals`: a literal for each net or each register, where most have none.
 //! - `tables`: the literals of the nets and of the states of the copies, and those of the leaves at their places.
 //! - `edge`: the registers at the edge of a cone.
@@ -25,29 +18,16 @@
 //! - `build`: the list and the goal, built from what is reached.
 //! - `unroller`: the object that builds claims one after another, in buffers that are kept.
 //! - `claim`: claims, and calls that build one each.
-//! - `walk`: the logic cells and added gates of a machine, in walk order.
-//! - `spread`: the nets at which registers can show.
-//! - `targets`: where registers may show.
 #![tactic(auto)]
 
-mod asked;
 mod build;
 pub mod claim;
 mod copy;
 mod edge;
 mod goal;
 mod lay;
-mod leaves;
 mod literals;
-mod named;
 mod next;
-mod reached;
-mod roots;
-mod sources;
-mod spread;
 mod states;
 mod tables;
-pub mod targets;
 pub mod unroller;
-pub mod unseen;
-mod walk;

@@ -81,7 +81,8 @@ fn state_literal(
     ensures built { IfOk result (λ v. Built aig.old aig.new v
         (state_step machine.now (λ x. slice_index_or nets.now x 0) (λ r. slice_index_or own.now r 0) (λ r. slice_index_or free.now r 0) reg aig.old)) }
     ensures failed { IfErr result (λ fault. MayFail
-        (state_step machine.now (λ x. slice_index_or nets.now x 0) (λ r. slice_index_or own.now r 0) (λ r. slice_index_or free.now r 0) reg aig.old).domain fault) }
+        (state_step machine.now (λ x. slice_index_or nets.now x 0) (λ r. slice_index_or own.now r 0)
+        (λ r. slice_index_or free.now r 0) reg aig.old).domain fault) }
 {
     let leaf = free.get(reg.number() as usize);
     if leaf.number() == 0 {

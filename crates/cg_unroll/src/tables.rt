@@ -5,13 +5,13 @@ ghost use Rattle.cg_aig.specs.declared.fault.AigFault.TheVariants.{NoMemory};
 ghost use Rattle.cg_unroll.specs.inner.Copying.{AreLeavesPlaced, Starts, copy_tables};
 ghost use Rattle.cg_unroll.specs.inner.Placing.{ArePlaced, HoldsLeaves, place_in, source_place};
 
-use crate::asked::Frame;
 use crate::literals::Literals;
 use cg_aig::fault::AigFault;
 use cg_aig::list::Aig;
 use cg_aig::lit::AigLit;
 use cg_claim::leaf::{Leaf, LeafSource};
 use cg_machine::machine::Machine;
+use cg_reach::asked::Frame;
 use std::alloc::Global;
 
 /// The literals of a copy of the machine: of its nets, and of the states of its registers.

@@ -4,15 +4,12 @@ ghost use Rattle.std.specs.Prelude.{◌≡◌, ◌<◌, length, IfErr, OnOk};
 ghost use Rattle.std.specs.List.{All};
 ghost use Rattle.cg_claim.specs.Question.{hold_question, idle_question, stable_question, target_part, unseen_question};
 ghost use Rattle.cg_unroll.specs.Claims.{IsClaim, IsRefused, IsTargetName, target_of};
-ghost use Rattle.cg_unroll.specs.inner.Asking.{AsksThere, PartThere, part_of, question_of};
+ghost use Rattle.cg_reach.specs.Asking.{AsksThere, PartThere, part_of, question_of};
 ghost use Rattle.cg_unroll.specs.inner.Faults.{fault_of};
-ghost use Rattle.cg_unroll.specs.inner.Reached.{IsReached};
+ghost use Rattle.cg_reach.specs.Reached.{IsReached};
 
-use crate::asked::{Asked, Frame, Part, Side};
 use crate::build::Builder;
 use crate::claim::{Claim, ClaimFault};
-use crate::reached::{Reached, Reacher};
-use crate::unseen::UnseenRegs;
 use cg_aig::fault::AigFault;
 use cg_aig::list::Aig;
 use cg_aig::lit::AigLit;
@@ -22,6 +19,9 @@ use cg_list::Seq;
 use cg_machine::machine::Machine;
 use cg_machine::stage::NetLit;
 use cg_netlist::id::RegId;
+use cg_reach::asked::{Asked, Frame, Part, Side};
+use cg_reach::reached::{Reached, Reacher};
+use cg_reach::unseen::UnseenRegs;
 use std::alloc::Global;
 use std::marker::Model;
 
@@ -168,8 +168,10 @@ impl Unroller {
         requires guards { All (λ r. r < length machine.now.circuit.registers) unseen.now.guards }
         requires registers { All (λ r. r < length machine.now.circuit.registers) unseen.now.regs }
         requires target { IsTargetName machine.now target }
-        ensures claim { OnOk result (IsClaim machine.now (unseen_question enables.now unseen.now.guards unseen.now.regs (target_of machine.now target)) width self.new) }
-        ensures refused { IfErr result (IsRefused machine.now (unseen_question enables.now unseen.now.guards unseen.now.regs (target_of machine.now target)) width) }
+        ensures claim { OnOk result
+            (IsClaim machine.now (unseen_question enables.now unseen.now.guards unseen.now.regs (target_of machine.now target)) width self.new) }
+        ensures refused { IfErr result
+            (IsRefused machine.now (unseen_question enables.now unseen.now.guards unseen.now.regs (target_of machine.now target)) width) }
     {
         let after = Side {
             frame: Frame::After,
@@ -181,11 +183,11 @@ impl Unroller {
         };
         let asked = Asked {
             enables,
-            follows: unseen.guards,
-            changes: unseen.regs,
+            follows: unseen.guards(),
+            changes: unseen.regs(),
             sides: Some((after, changed)),
         };
-        match self.reacher.reach_with(machine, &asked, &unseen.named) {
+        match self.reacher.reach_with(machine, &asked, unseen) {
             Ok(reached) => self.build(machine, &asked, reached, width),
             Err(_) => Err(ClaimFault::NoMemory),
         }

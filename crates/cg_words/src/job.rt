@@ -96,7 +96,8 @@ fn job_named<'a>(
     given: &OptionWords<'a>,
     watchers: &[&str],
 ) -> Result<Option<Job<'a>>, AllocError>
-    ensures { IfOk result (λ job. option_map job_words job ≡ job_with (map (λ name. name.now) watchers.now) (unwrap_or (option_map (λ s. map (λ v. v.now) s.now) files.entry) []) (values_of given.now) word.now) }
+    ensures { IfOk result (λ job. option_map job_words job ≡ job_with (map (λ name. name.now) watchers.now)
+        (unwrap_or (option_map (λ s. map (λ v. v.now) s.now) files.entry) []) (values_of given.now) word.now) }
 {
     match files {
         None => job_with(alloc, word, &[], given, watchers),
@@ -111,7 +112,8 @@ fn job_with<'a>(
     given: &OptionWords<'a>,
     watchers: &[&str],
 ) -> Result<Option<Job<'a>>, AllocError>
-    ensures { IfOk result (λ job. option_map job_words job ≡ job_with (map (λ name. name.now) watchers.now) (map (λ file. file.now) files.now) (values_of given.now) word.now) }
+    ensures { IfOk result
+        (λ job. option_map job_words job ≡ job_with (map (λ name. name.now) watchers.now) (map (λ file. file.now) files.now) (values_of given.now) word.now) }
 {
     match word {
         "gate" => gate_job(alloc, files, given, watchers),
@@ -129,7 +131,8 @@ fn gate_job<'a>(
     given: &OptionWords<'a>,
     watchers: &[&str],
 ) -> Result<Option<Job<'a>>, AllocError>
-    ensures { IfOk result (λ job. option_map job_words job ≡ gate_job (map (λ name. name.now) watchers.now) (map (λ file. file.now) files.now) (values_of given.now)) }
+    ensures { IfOk result
+        (λ job. option_map job_words job ≡ gate_job (map (λ name. name.now) watchers.now) (map (λ file. file.now) files.now) (values_of given.now)) }
 {
     let [library, netlist, out] = files else {
         return Ok(None);
@@ -165,7 +168,8 @@ fn sim_job<'a>(
     given: &OptionWords<'a>,
     watchers: &[&str],
 ) -> Result<Option<Job<'a>>, AllocError>
-    ensures { IfOk result (λ job. option_map job_words job ≡ sim_job (map (λ name. name.now) watchers.now) (map (λ file. file.now) files.now) (values_of given.now)) }
+    ensures { IfOk result
+        (λ job. option_map job_words job ≡ sim_job (map (λ name. name.now) watchers.now) (map (λ file. file.now) files.now) (values_of given.now)) }
 {
     let [library, netlist, stimulus] = files else {
         return Ok(None);

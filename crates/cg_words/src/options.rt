@@ -4,7 +4,8 @@ ghost use Rattle.std.specs.Prelude.{◌≡◌, ◌++◌, ◌<◌, ◌^◌, [], c
 ghost use Rattle.std.specs.List.{list_any, position_from};
 ghost use Rattle.std.specs.Str.{bytes_eq};
 ghost use Rattle.std.specs.Option.{option_map, option_to_list};
-ghost use Rattle.cg_words.specs.Options.{are_different, asked_in, default_prefix, gate_options, has_gate_options, has_options, is_apart, is_named, no_options, number_in, number_or, option_files, settings_in, sim_options, watch_in};
+ghost use Rattle.cg_words.specs.Options.{are_different, asked_in, default_prefix, gate_options, has_gate_options, has_options, is_apart};
+ghost use Rattle.cg_words.specs.Options.{is_named, no_options, number_in, number_or, option_files, settings_in, sim_options, watch_in};
 ghost use Rattle.cg_words.specs.Seen.{values_of};
 
 use crate::values::OptionWords;
@@ -272,7 +273,8 @@ pub fn push_files<'a>(files: &mut Vec<&'a str>, given: &OptionWords<'a>) -> Resu
 }
 
 fn push_file<'a>(files: &mut Vec<&'a str>, file: Option<&'a str>) -> Result<(), AllocError>
-    ensures { OnOk result (map (λ file. file.now) files.new.items ≡ map (λ file. file.now) files.old.items ++ option_to_list (option_map (λ word. word.now) file.entry)) }
+    ensures { OnOk result
+        (map (λ file. file.now) files.new.items ≡ map (λ file. file.now) files.old.items ++ option_to_list (option_map (λ word. word.now) file.entry)) }
 {
     if let Some(file) = file {
         files.push(file)?;

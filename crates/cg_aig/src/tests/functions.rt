@@ -3,7 +3,7 @@
 //! The tables were worked out from the definition of the operators.
 
 ghost use Rattle.std.specs.Prelude.{◌≡◌, IfOk, IfSome, IsTrue, length};
-ghost use Rattle.cg_cell.specs.Cover.{Fits};
+ghost use Rattle.cg_cell.specs.Cover.{CoverFits};
 ghost use Rattle.cg_cell.specs.Domain.{AreValid};
 ghost use Rattle.cg_cell.specs.Expr.{is_over};
 ghost use Rattle.cg_aig.specs.Aig.{aig_ops};
@@ -74,7 +74,7 @@ fn expr_list(alloc: Global, expr: &Expr) -> Option<[u8; 8]>
 
 /// The values of a cover, row by row.
 fn cover_values(cover: &Cover) -> [u8; 8]
-    requires { Fits 3 cover.now }
+    requires { CoverFits 3 cover.now }
 {
     let mut bits = [0; 8];
     for k in 0..8 {
@@ -85,7 +85,7 @@ fn cover_values(cover: &Cover) -> [u8; 8]
 
 /// The bits of a cover over truth values, row by row.
 fn cover_bits(cover: &Cover) -> [u8; 8]
-    requires { Fits 3 cover.now }
+    requires { CoverFits 3 cover.now }
 {
     let mut bits = [0; 8];
     for k in 0..8 {
@@ -96,7 +96,7 @@ fn cover_bits(cover: &Cover) -> [u8; 8]
 
 /// The bits of a cover over a list, row by row.
 fn cover_list(alloc: Global, cover: &Cover) -> Option<[u8; 8]>
-    requires { Fits 3 cover.now }
+    requires { CoverFits 3 cover.now }
 {
     let mut aig = Aig::new(alloc, 3).ok()?;
     let inputs = leaves(&aig)?;
@@ -160,7 +160,7 @@ const ROWS: [(&[[Option<bool>; 3]], bool, [u8; 8]); 6] = [
 
 /// A cover of these rows; None where there are none and `on` is false.
 fn cover(alloc: Global, rows: &[[Option<bool>; 3]], on: bool) -> Result<Option<Cover>, AllocError>
-    ensures { IfOk result (λ made. IfSome made (λ cover. Fits 3 cover)) }
+    ensures { IfOk result (λ made. IfSome made (λ cover. CoverFits 3 cover)) }
 {
     let mut made = Vec::new(alloc);
     'rows: for row in rows {

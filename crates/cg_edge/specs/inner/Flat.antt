@@ -13,8 +13,8 @@ row_of [] = 0
 row_of (b ∷ bits) = one_if b + 2 * row_of bits
 
 -- a truth table of a function of n bits: each row's bit is the function's value at the bits that stand there
-abbrev pub IsTable : LogicFunction → ℕ → ℕ → Type 0
-IsTable function n table = (bits : List Bool) → length bits ≡ n → bit_at table (row_of bits) ≡ one_if (function_value function bits)
+abbrev pub IsTruthTable : LogicFunction → ℕ → ℕ → Type 0
+IsTruthTable function n table = (bits : List Bool) → length bits ≡ n → bit_at table (row_of bits) ≡ one_if (function_value function bits)
 
 -- the cells that are laid out, and the inputs of one behind those of the other
 pub record Layout : Type 0 where
@@ -27,7 +27,7 @@ pub record IsLaid (all : List ℕ) (laid : FlatCell) (cell : LogicCell ℕ) : Ty
   pub count : laid.count ≡ length cell.inputs
   pub within : laid.first + laid.count ≤ length all
   pub inputs : take laid.count (drop laid.first all) ≡ cell.inputs
-  pub table : length cell.inputs ≤ 6 → IsTable cell.function (length cell.inputs) laid.table
+  pub table : length cell.inputs ≤ 6 → IsTruthTable cell.function (length cell.inputs) laid.table
 
 -- the k-th logic cell is laid out at the place p
 abbrev pub IsLaidAt : Circuit → ℕ → Layout → ℕ → Type 0

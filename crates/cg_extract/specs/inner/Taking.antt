@@ -12,7 +12,7 @@ abbrev pub entry_at : List (Option ℕ) → ℕ → Option ℕ
 entry_at table net = option_flatten (slice_get table net)
 
 -- the table has a place for each net of the netlist, and there the enable of what the net clocks
-pub record IsTable (c : Circuit) (entries : List (ℕ × ℕ)) (table : List (Option ℕ)) : Type 0 where
+pub record IsEnableTable (c : Circuit) (entries : List (ℕ × ℕ)) (table : List (Option ℕ)) : Type 0 where
   pub long : length table ≡ length c.names
   pub tells : (net : ℕ) → net < length c.names → entry_at table net ≡ enable_under entries net
 
@@ -43,7 +43,7 @@ taken_so_far c prefix ks = lift_each c (unlifted c prefix) (values_at c.gaters k
 
 pub record IsSoFar (c : Circuit) (prefix ks : List ℕ) (m : MachineData) (table : List (Option ℕ)) : Type 0 where
   pub machine : m ≡ (taken_so_far c prefix ks).machine
-  pub entries : IsTable c (taken_so_far c prefix ks).enables table
+  pub entries : IsEnableTable c (taken_so_far c prefix ks).enables table
 
 -- a register is given an enable, if there is one
 abbrev pub given : List (Option ℕ) → ℕ → Option ℕ → List (Option ℕ)

@@ -21,7 +21,7 @@ use Rattle.cg_hold.specs.declared.choice.Choice.{Choice}
 use Rattle.cg_hold.specs.declared.choice.Choice.TheVariants.{Wide, Takes}
 use Rattle.cg_hold.specs.declared.trial.Trial.{Trial}
 use Rattle.cg_hold.specs.declared.trial.Trial.TheVariants.{TooWide, Serves, Fails}
-use Rattle.cg_hold.specs.inner.Packed.{place_of}
+use Rattle.cg_hold.specs.inner.Packed.{literal_place}
 
 -- a literal of the cone of a register's inputs
 abbrev pub IsLiteralOf : MachineData → ℕ → Literal → Type 0
@@ -75,7 +75,7 @@ list_at lists k = option_map_or (λ l. l) (slice_get lists k) []
 -- are too wide; and none that is looked at passes the limit
 pub record AreChosen (m : MachineData) (idle : Option IdleData) (width n : ℕ) (lists : List (List ℕ)) (wide : ℕ) : Type 0 where
   pub count : length lists ≡ 2 * length m.circuit.names
-  pub each : (l : Literal) → l.0 < length m.circuit.names → list_at lists (place_of l) ≡ chosen_regs (choices_to m idle width n) l
+  pub each : (l : Literal) → l.0 < length m.circuit.names → list_at lists (literal_place l) ≡ chosen_regs (choices_to m idle width n) l
   pub wide_is : wide ≡ count_by (λ r. nat_lt width (hold_width m r)) (free_to m n)
   pub within : list_any (passes_at m idle width) (free_to m n) ≡ false
 
@@ -83,13 +83,13 @@ pub record AreChosen (m : MachineData) (idle : Option IdleData) (width n : ℕ) 
 abbrev pub FitsChoice : ℕ → Choice → Type 0
 FitsChoice places Wide = Unit {0}
 FitsChoice places (Takes None) = Unit {0}
-FitsChoice places (Takes (Some l)) = place_of l < places
+FitsChoice places (Takes (Some l)) = literal_place l < places
 
 -- the lists with one more register, and how much is added to the number of those that are too wide
 abbrev pub with_choice : List (List ℕ) → Choice → ℕ → List (List ℕ)
 with_choice lists Wide r = lists
 with_choice lists (Takes None) r = lists
-with_choice lists (Takes (Some l)) r = slice_set lists (place_of l) (slice_index_or lists (place_of l) [] ++ r ∷ [])
+with_choice lists (Takes (Some l)) r = slice_set lists (literal_place l) (slice_index_or lists (literal_place l) [] ++ r ∷ [])
 
 abbrev pub wide_by : Choice → ℕ
 wide_by Wide = 1
@@ -97,4 +97,4 @@ wide_by (Takes literal) = 0
 
 -- the stage of the registers that took a literal, where there are some
 abbrev pub stage_at : List (List ℕ) → Literal → Option Stage
-stage_at lists l = unless_empty (hold_stage l) (list_at lists (place_of l))
+stage_at lists l = unless_empty (hold_stage l) (list_at lists (literal_place l))

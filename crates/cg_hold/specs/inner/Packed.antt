@@ -4,12 +4,12 @@ use Rattle.cg_lists.specs.Literals.{IdleData, idle_count}
 use Rattle.cg_machine.specs.Claims.{Literal}
 
 -- the place of a literal: net by net, plain before inverted
-abbrev pub place_of : Literal → ℕ
-place_of l = 2 * l.0 + (if l.1 then 1 else 0)
+abbrev pub literal_place : Literal → ℕ
+literal_place l = 2 * l.0 + (if l.1 then 1 else 0)
 
 -- the number of a literal: its rank, which is less where it is 0 on more rows, before its place
 abbrev pub packed : IdleData → Literal → ℕ
-packed idle l = (idle.rows - idle_count (Some idle) l) * 2097152 + place_of l
+packed idle l = (idle.rows - idle_count (Some idle) l) * 2097152 + literal_place l
 
 -- the literal of a number
 abbrev pub unpacked : ℕ → Literal

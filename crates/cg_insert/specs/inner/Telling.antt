@@ -3,7 +3,7 @@ use Rattle.std.specs.Prelude.{◌≡◌, List, [], ◌∷◌, None, Result, Matc
 use Rattle.std.specs.List.{AllByRecursion}
 use Rattle.cg_netlist.specs.declared.fault.AddFault.{AddFault}
 use Rattle.cg_netlist.specs.declared.fault.AddFault.TheVariants.{NoMemory}
-use Rattle.cg_netlist.specs.said.Building.{Building}
+use Rattle.cg_builder.specs.Building.{Building}
 use Rattle.cg_netlist.specs.said.Part.{Part}
 use Rattle.cg_netlist.specs.said.Said.{Said, limit_of, with_part}
 use Rattle.cg_netlist.specs.said.Says.{IsPart}
@@ -24,5 +24,5 @@ pub record MayTell (b : Building) (parts : List Part) : Type 0 where
   pub within : limit_of (with_parts b.said parts) ≡ None
 
 -- it was told them, or memory was wanting
-abbrev pub Tells : Building → List Part → Building → Result (Unit {0}) AddFault → Type 0
-Tells old parts new result = MatchResult result (λ _. new ≡ told old parts) (λ fault. fault ≡ NoMemory)
+abbrev pub WasTold : Building → List Part → Building → Result (Unit {0}) AddFault → Type 0
+WasTold old parts new result = MatchResult result (λ _. new ≡ told old parts) (λ fault. fault ≡ NoMemory)

@@ -18,7 +18,6 @@ use Rattle.cg_netlist.proofs.said.ToldByNames.{cell_net_within, clock_net_within
 use Rattle.cg_netlist.specs.Circuit.{Circuit, GatingCell, LogicCell, RegisterCell, is_in, shown_nets}
 use Rattle.cg_netlist.specs.Names.{is_known}
 use Rattle.cg_netlist.specs.WellFormed.{IsWellFormed}
-use Rattle.cg_netlist.specs.inner.Numbers.{used}
 use Rattle.cg_netlist.specs.said.Faults.{HasClock, IsClockProper, IsDrivenIfUsed, IsDrivenOnce, IsEnding, IsFaultless, IsGateProper, IsRootProper, ends_within, reaches}
 use Rattle.cg_netlist.specs.said.Part.{Part, cells, clock_in, clock_of, clock_pins, clocks, drivers, each_once, gaters, inputs, nets, on_clock, outputs, registers, roots, uses, wired}
 use Rattle.cg_netlist.specs.said.Says.{IsClockOf, Says}

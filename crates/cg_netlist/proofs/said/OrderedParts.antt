@@ -21,7 +21,6 @@ use Rattle.cg_netlist.proofs.said.OrderMapped.{order_mapped, used_mapped}
 use Rattle.cg_netlist.proofs.said.ToldByNames.{nets_weaker}
 use Rattle.cg_netlist.specs.Circuit.{GatingCell, LogicCell, RegisterCell, asked_nets, is_in, shown_nets}
 use Rattle.cg_netlist.specs.Names.{is_known}
-use Rattle.cg_netlist.specs.inner.Numbers.{used}
 use Rattle.cg_netlist.specs.said.Faults.{IsClockProper, IsDrivenIfUsed, IsDrivenOnce, IsFaultless, IsRootProper}
 use Rattle.cg_netlist.specs.said.Part.{Part, cells, clock_in, clock_of, clock_pins, clocks, drivers, gaters, inputs, nets, on_clock, outputs, registers, roots, uses, wired}
 use Rattle.cg_netlist.specs.said.Says.{IsClockOf}

@@ -23,7 +23,6 @@ use Rattle.cg_netlist.specs.Circuit.{Circuit, GatingCell, LogicCell, RegisterCel
 use Rattle.cg_netlist.specs.Names.{is_known}
 use Rattle.cg_netlist.specs.Netlist.{IsNetlist}
 use Rattle.cg_netlist.specs.WellFormed.{IsInNetOrder, IsWellFormed}
-use Rattle.cg_netlist.specs.inner.Numbers.{seen}
 use Rattle.cg_netlist.specs.said.Part.{Clock, Gate, Input, Logic, Output, Part, cell_in, cells, clock_in, clock_of, clock_pins, clocks, each_once, gater_in, gaters, input_in, inputs, mentioned, nets, on_clock, output_in, outputs, register_in, registers, roots, wired}
 use Rattle.cg_netlist.specs.said.Says.{IsClockOf, Says, parts_from, register_part}
 use Rattle.cg_netlist.specs.said.Wiring.{NetName, Wiring, driven_by_gaters, map_gater, map_register, named, net_name, order_of, wiring}

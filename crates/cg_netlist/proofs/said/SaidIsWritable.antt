@@ -16,7 +16,6 @@ use Rattle.cg_netlist.proofs.said.NoneBeside.{cells_are, clock_is, gaters_are}
 use Rattle.cg_netlist.proofs.said.SaidIsNetlist.{each_under, said_is_netlist, said_outputs_once}
 use Rattle.cg_netlist.proofs.said.ToldByNames.{clock_net_within}
 use Rattle.cg_netlist.specs.Circuit.{Circuit, GatingCell, LogicCell, RegisterCell, gate_nets, is_in}
-use Rattle.cg_netlist.specs.inner.Numbers.{gated}
 use Rattle.cg_netlist.specs.said.Part.{Gate, Logic, Part, Register, cell_in, clock_of, gater_in, on_clock, register_in, registers}
 use Rattle.cg_netlist.specs.said.Says.{AreTaken, Says}
 use Rattle.cg_netlist.specs.said.Wiring.{NetName, map_cell, map_gater, map_register, net_name}

@@ -7,12 +7,7 @@ use Rattle.cg_netlist.specs.Cone.{IsInCone}
 use Rattle.cg_netlist.specs.Moment.{values_at}
 use Rattle.cg_netlist.specs.Nets.{IsWalk}
 use Rattle.cg_netlist.specs.WellFormed.{IsWellFormed}
-use Rattle.cg_netlist.specs.inner.Mentioned.{with_net}
-
--- nets with more of them behind, each once
-abbrev pub with_nets : List ℕ → List ℕ → List ℕ
-with_nets found [] = found
-with_nets found (x ∷ xs) = with_nets (with_net found x) xs
+use Rattle.cg_netlist.specs.NetSets.{with_net}
 
 -- the roots were found, only nets of their cone were, and with the output of a cell among the first `next` its inputs
 pub record IsReached (c : Circuit) (roots : List ℕ) (next : ℕ) (found : List ℕ) : Type 0 where

@@ -9,7 +9,7 @@ use Rattle.cg_plan.specs.StageClaims.{NamedClaim}
 use Rattle.cg_plan.specs.Told.{AreAppended, Certifies, DoViolate, StageClaim}
 use Rattle.cg_plan.specs.Trying.{first_false}
 use Rattle.cg_plan.specs.declared.certificate.Certificate.{Certificate}
-use Rattle.cg_planner.specs.Planning.{IsWritable, StayWritable}
+use Rattle.cg_planner.specs.Planning.{IsWritableCertificate, StayWritable}
 
 -- claims of the stage of this number
 abbrev pub numbered : MachineData → ℕ → List NamedClaim → List StageClaim
@@ -25,7 +25,7 @@ pub record IsCertified (m : MachineData) (number : ℕ) (c : NamedClaim) (before
   pub certificate : Certificate
   pub whole : after ≡ before ++ certificate ∷ []
   pub certifies : Certifies (record { machine = m; number = number; claim = c }) certificate
-  pub writable : IsWritable certificate
+  pub writable : IsWritableCertificate certificate
 
 -- a claim is decided: it is never violated and certified, or these bits violate it
 abbrev pub IsDecided : MachineData → ℕ → NamedClaim → List Certificate → List Certificate → Option (List LeafBit) → Type 0

@@ -4,7 +4,7 @@ use Rattle.cg_machine.specs.Machine.{MachineData}
 use Rattle.cg_machine.specs.declared.stage.Stage.{Stage}
 use Rattle.cg_plan.specs.Plan.{is_inserted}
 use Rattle.cg_plan.specs.StageClaims.{claims_of}
-use Rattle.cg_plan.specs.Told.{Tells}
+use Rattle.cg_plan.specs.Told.{TellsOutcome}
 use Rattle.cg_plan.specs.Trying.{Tried, unless_passed}
 use Rattle.cg_plan.specs.declared.certificate.Certificate.{Certificate}
 use Rattle.cg_plan.specs.declared.outcome.Outcome.{Outcome}
@@ -14,7 +14,7 @@ use Rattle.cg_planner.specs.inner.Deciding.{AllCertified}
 
 -- a stage of which this comes ends so, or it is inserted unless a limit is passed
 abbrev pub IsJudged : MachineData → Stage → Tried → Option Outcome → Type 0
-IsJudged m s given (Some outcome) = Tells m s given outcome × (is_inserted outcome ≡ false)
+IsJudged m s given (Some outcome) = TellsOutcome m s given outcome × (is_inserted outcome ≡ false)
 IsJudged m s given None = given ≡ unless_passed (limit_by s.kind m s)
 
 -- all claims of a stage that does not end by them are certified

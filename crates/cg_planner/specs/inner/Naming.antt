@@ -8,7 +8,8 @@ use Rattle.cg_claim.specs.declared.name.ClaimName.{ClaimName}
 use Rattle.cg_claim.specs.declared.name.ClaimName.TheVariants.{Enable, Hold, Idle, Next, Output, Stable}
 use Rattle.cg_plan.specs.StageClaims.{NamedClaim, claims_of}
 use Rattle.cg_stage.specs.Stages.{first_literal}
-use Rattle.cg_unroll.specs.Claims.{UnseenData, target_of}
+use Rattle.cg_reach.specs.Unseen.{UnseenData}
+use Rattle.cg_unroll.specs.Claims.{target_of}
 
 -- the question of the claim that a name names
 abbrev pub question_of : MachineData → Stage → ClaimName → Question

@@ -18,7 +18,7 @@ abbrev pub is_marked : List Bool → Lit → Bool
 is_marked marks lit = slice_index_or marks lit.variable false
 
 -- each variable has a mark
-pub record AreNamed (count : ℕ) (clauses : Store) (trail : List Entry) : Type 0 where
+pub record VariablesBelow (count : ℕ) (clauses : Store) (trail : List Entry) : Type 0 where
   pub in_clauses : (k : ℕ) (clause : List Lit) (lit : Lit) → clause_at clauses k ≡ Some clause → is_in lit clause ≡ true → lit.variable < count
   pub in_trail : (k : ℕ) (entry : Entry) → slice_get trail k ≡ Some entry → entry.lit.variable < count
 

@@ -14,7 +14,7 @@ use Rattle.cg_sat.specs.declared.propagate.Look.{Look}
 use Rattle.cg_sat.specs.declared.propagate.Look.TheVariants.{Stays, Moved, Conflict}
 use Rattle.cg_formula.specs.Assignments.{IsFalsified, IsUnassigned}
 use Rattle.cg_sat.specs.inner.Trail.{lits_of, IsTrail}
-use Rattle.cg_sat.specs.inner.Learn.{AreNamed}
+use Rattle.cg_sat.specs.inner.Learn.{VariablesBelow}
 use Rattle.cg_sat.specs.inner.Worth.{worth}
 
 -- variables are counted from one
@@ -25,7 +25,7 @@ pub record AreFromOne (clauses : Store) (trail : List Entry) : Type 0 where
 -- a trail over these clauses, whose variables are below the count
 pub record IsSearch (count : ℕ) (clauses : Store) (trail : List Entry) : Type 0 where
   pub stands : IsTrail clauses trail
-  pub named : AreNamed count clauses trail
+  pub named : VariablesBelow count clauses trail
   pub ones : AreFromOne clauses trail
 
 -- the trail has grown by what follows from it
@@ -41,7 +41,7 @@ pub record IsConflict (clauses : Store) (trail : List Entry) (place : ℕ) : Typ
 
 -- only a conflict says something
 abbrev pub IsLook : Store → List Entry → Look → Type 0
-IsLook clauses trail Stays = Unit {0}
+IsLook clauses trail (Stays blocker) = Unit {0}
 IsLook clauses trail Moved = Unit {0}
 IsLook clauses trail (Conflict place) = IsConflict clauses trail place
 

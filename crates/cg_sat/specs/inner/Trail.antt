@@ -30,5 +30,5 @@ abbrev pub IsUnused : ℕ → List Entry → Type 0
 IsUnused place trail = (i : ℕ) (entry : Entry) → slice_get trail i ≡ Some entry → entry.reason ≡ Some place → ⊥
 
 -- the table of true literals tells what is in the trail
-pub record IsTable (trues : List Bool) (trail : List Entry) : Type 0 where
+pub record IsAssignmentOf (trues : List Bool) (trail : List Entry) : Type 0 where
   pub same : (lit : Lit) → slice_index_or trues (lit_number lit) false ≡ is_in lit (lits_of trail)

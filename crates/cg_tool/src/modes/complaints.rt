@@ -53,7 +53,7 @@ pub fn take_library(alloc: Global, text: &Seq<u8>) -> Result<Library, Trouble>
     }
 }
 
-// The clock of the options, which has a name.
+/// The clock of the options, which has a name.
 fn clock_of(options: &BlifOptions) -> Option<&[u8]>
     ensures { AllByRecursion (λ net. IsTrue (is_name net)) (option_to_list options.now.clock) }
 {
@@ -63,14 +63,15 @@ fn clock_of(options: &BlifOptions) -> Option<&[u8]>
     }
 }
 
-// What a netlist is read as. A library has cells, and the clock of the options has a name.
+/// What a netlist is read as. A library has cells, and the clock of the options has a name.
 fn read_netlist(
     alloc: Global,
     text: &[u8],
     library: &Library,
     options: &BlifOptions,
 ) -> Result<Netlist, BlifFault>
-    ensures { MatchResult result (λ netlist. netlist_said library.now options.now.clock text.now ≡ Ok netlist) (IsFaultOf (netlist_said library.now options.now.clock text.now)) }
+    ensures { MatchResult result (λ netlist. netlist_said library.now options.now.clock text.now ≡ Ok netlist)
+        (IsFaultOf (netlist_said library.now options.now.clock text.now)) }
 {
     let _ = library.len();
     let _ = clock_of(options);

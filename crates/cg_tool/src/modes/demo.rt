@@ -8,7 +8,8 @@ ghost use Rattle.cg_run.specs.Promise.{FinishBy};
 ghost use Rattle.cg_run.specs.Reads.{Gave, Reads};
 ghost use Rattle.cg_run.specs.Run.{Runs};
 ghost use Rattle.cg_run.specs.Verdict.{Answers, Concludes};
-ghost use Rattle.cg_tool.specs.Demo.{IsDemo, PutsDemo, cells_text, demo_gives, demo_stops, demo_takes, demo_task, demo_wanted, lines_text, pipeline_found, pipeline_request, pipeline_stops, rows_text};
+ghost use Rattle.cg_tool.specs.Demo.{IsDemo, PutsDemo, cells_text, demo_gives, demo_stops, demo_takes, demo_task};
+ghost use Rattle.cg_tool.specs.Demo.{demo_wanted, lines_text, pipeline_found, pipeline_request, pipeline_stops, rows_text};
 ghost use Rattle.cg_tool.specs.Complaints.{library_found, stimulus_found};
 ghost use Rattle.cg_tool.specs.Gate.{gateable_found, request_by};
 
@@ -48,6 +49,7 @@ pub struct Pipeline {
 impl Reader for Demo {
     ghost takes = { demo_takes };
 
+    /// Takes nothing: a run of `demo` loads no file.
     fn take(self, _alloc: Global, _role: Role, _bytes: Seq<u8>) -> Result<Demo, Trouble> {
         Ok(self)
     }
@@ -78,7 +80,8 @@ fn read<S: Shelf>(
     size: u32,
     progress: &mut dyn Progress,
 ) -> Result<Output, Refusal>
-    ensures { Reads (Gave S.gives) demo_takes demo_stops demo_gives (name_of names.now) (record { size = size }) [] (S.world shelf.old) (S.world shelf.new) result }
+    ensures { Reads (Gave S.gives) demo_takes demo_stops demo_gives (name_of names.now) (record { size = size }) [] (S.world shelf.old)
+        (S.world shelf.new) result }
 {
     let demo = collect(alloc, shelf, names, &[], Demo { size })?;
     Ok(finish(alloc, demo, progress)?)
@@ -175,6 +178,7 @@ fn gate_pipeline(
     gate_with(alloc, size, &library, &netlist, &stimulus, wanted, progress)
 }
 
+/// What is put out of the pipeline, gated with this library.
 fn gate_with(
     alloc: Global,
     size: u32,
@@ -192,6 +196,7 @@ fn gate_with(
     gate_by(alloc, size, netlist, &request, progress)
 }
 
+/// What is put out of the pipeline, gated as a request asks.
 fn gate_by(
     alloc: Global,
     size: u32,

@@ -12,7 +12,8 @@ ghost use Rattle.cg_run.specs.Reads.{Gave, Reads};
 ghost use Rattle.cg_run.specs.Roles.{are_distinct};
 ghost use Rattle.cg_run.specs.Run.{Runs};
 ghost use Rattle.cg_run.specs.Verdict.{Concludes};
-ghost use Rattle.cg_tool.specs.Gate.{GatesAs, gate_gives, gate_loads, gate_output, gate_start, gate_stops, gate_takes, gate_task, request_by, stimulus_asked, stops_with, text_for, wanted_by};
+ghost use Rattle.cg_tool.specs.Gate.{GatesAs, gate_gives, gate_loads, gate_output, gate_start, gate_stops, gate_takes};
+ghost use Rattle.cg_tool.specs.Gate.{gate_task, request_by, stimulus_asked, stops_with, text_for, wanted_by};
 ghost use Rattle.cg_tool.specs.Gated.{IsGated};
 ghost use Rattle.cg_tool.specs.inner.GateReads.{IsRead, MayBeGated};
 
@@ -72,6 +73,7 @@ impl Gate {
 impl Reader for Gate {
     ghost takes = { gate_takes };
 
+    /// Takes the library, the netlist and the stimulus, where one is asked for, as each is loaded.
     fn take(self, alloc: Global, role: Role, bytes: Seq<u8>) -> Result<Gate, Trouble> {
         let mut next = self;
         match role {
@@ -108,7 +110,8 @@ pub fn run<S: Shelf>(
     watcher: Option<Box<dyn Watcher>>,
     progress: &mut dyn Progress,
 ) -> Status
-    ensures runs { Runs (Gave S.gives) (gate_task options (option_map (λ watcher. says watcher) watcher)) (name_of names.now) (S.world shelf.old) (S.world shelf.new) result }
+    ensures runs { Runs (Gave S.gives) (gate_task options (option_map (λ watcher. says watcher) watcher)) (name_of names.now) (S.world shelf.old)
+        (S.world shelf.new) result }
 
     // A finished run read a library, a netlist and the stimulus that was asked for, and wrote a netlist that shows what the one that
     // was read shows.
@@ -128,7 +131,8 @@ fn read<S: Shelf>(
     watcher: Option<Box<dyn Watcher>>,
     progress: &mut dyn Progress,
 ) -> Result<Output, Refusal>
-    ensures { Reads (Gave S.gives) gate_takes gate_stops (gate_gives (option_map (λ watcher. says watcher) watcher)) (name_of names.now) (gate_start options) (gate_loads options.asked.stimulus) (S.world shelf.old) (S.world shelf.new) result }
+    ensures { Reads (Gave S.gives) gate_takes gate_stops (gate_gives (option_map (λ watcher. says watcher) watcher)) (name_of names.now) (gate_start options)
+        (gate_loads options.asked.stimulus) (S.world shelf.old) (S.world shelf.new) result }
 {
     let _ = options.prefix.bytes();
     let files = loads(options.asked.stimulus);
@@ -185,7 +189,8 @@ fn gate_on(
 ) -> Result<Output, Trouble>
     requires { MayBeGated library.now wanted.now netlist.now }
     ensures { Concludes (stops_with library.now wanted.now netlist.now (stimulus_asked wanted.now.asked.stimulus netlist.now text.now))
-        (λ output. IsOkAnd (stimulus_asked wanted.now.asked.stimulus netlist.now text.now) (λ stimulus. GatesAs (option_map (λ watcher. says watcher) watcher) (request_by library.now wanted.now stimulus) netlist.now output)) result }
+        (λ output. IsOkAnd (stimulus_asked wanted.now.asked.stimulus netlist.now text.now)
+        (λ stimulus. GatesAs (option_map (λ watcher. says watcher) watcher) (request_by library.now wanted.now stimulus) netlist.now output)) result }
 {
     if !wanted.asked.stimulus {
         return gate_with(alloc, library, netlist, wanted, None, watcher, progress);
@@ -229,7 +234,8 @@ fn gate_by(
     progress: &mut dyn Progress,
 ) -> Result<Output, Trouble>
     requires { MayGate request.now netlist.now }
-    ensures { Concludes (option_map Trouble.Limit (stops_at request.now netlist.now)) (GatesAs (option_map (λ watcher. says watcher) watcher) request.now netlist.now) result }
+    ensures { Concludes (option_map Trouble.Limit (stops_at request.now netlist.now))
+        (GatesAs (option_map (λ watcher. says watcher) watcher) request.now netlist.now) result }
 {
     match gated(alloc, netlist, request, watcher, progress) {
         Ok(texts) => Ok(put_texts(alloc, texts)?),

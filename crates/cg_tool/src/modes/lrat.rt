@@ -6,7 +6,8 @@ ghost use Rattle.cg_run.specs.Promise.{FinishBy};
 ghost use Rattle.cg_run.specs.Reads.{Gave};
 ghost use Rattle.cg_run.specs.Run.{Runs};
 ghost use Rattle.cg_run.specs.Verdict.{Answers};
-ghost use Rattle.cg_tool.specs.Lrat.{IsChecked, cause_text, check_finish, check_text, formula_of, log_of, lrat_gives, lrat_start, lrat_stops, lrat_takes, lrat_task};
+ghost use Rattle.cg_tool.specs.Lrat.{IsChecked, cause_text, check_finish, check_text, formula_of};
+ghost use Rattle.cg_tool.specs.Lrat.{log_of, lrat_gives, lrat_start, lrat_stops, lrat_takes, lrat_task};
 
 use cg_formula::{DimacsFault, Formula, read_dimacs};
 use cg_list::Seq;
@@ -46,6 +47,7 @@ impl Lrat {
 impl Reader for Lrat {
     ghost takes = { lrat_takes };
 
+    /// Takes the formula and then the log, as each is loaded.
     fn take(self, alloc: Global, role: Role, bytes: Seq<u8>) -> Result<Lrat, Trouble> {
         let mut next = self;
         match role {
@@ -67,6 +69,7 @@ impl Mode for Lrat {
 
     ghost gives = { lrat_gives };
 
+    /// Checks the log, and says what the check comes to.
     fn finish(self, alloc: Global) -> Result<Output, Trouble> {
         let found = Checker::check(alloc, &self.formula, &self.log)?;
         let said = Seq::from_vec(check_text(alloc, found)?);
@@ -96,6 +99,7 @@ pub fn run<S: Shelf>(alloc: Global, shelf: &mut S, names: &Names<'_>) -> Status
     )
 }
 
+/// The formula of a DIMACS text, or what the text is refused for.
 fn read_formula(alloc: Global, text: &Seq<u8>) -> Result<Formula, Trouble>
     ensures { Answers (formula_of text.now) result }
 {
@@ -117,6 +121,7 @@ fn read_formula(alloc: Global, text: &Seq<u8>) -> Result<Formula, Trouble>
     }
 }
 
+/// The log of an LRAT text, or what the text is refused for.
 fn read_log(alloc: Global, text: &Seq<u8>) -> Result<Log, Trouble>
     ensures { Answers (log_of text.now) result }
 {
@@ -132,6 +137,7 @@ fn read_log(alloc: Global, text: &Seq<u8>) -> Result<Log, Trouble>
     }
 }
 
+/// How a run ends by what its check comes to.
 fn check_finish(found: Verdict) -> Finish
     ensures { result ≡ check_finish found }
 {
@@ -151,6 +157,7 @@ fn check_text(alloc: Global, found: Verdict) -> Result<Vec<u8>, AllocError>
     }
 }
 
+/// What is said of a log that is rejected at this line.
 fn rejected_text(alloc: Global, line: u64, why: Why) -> Result<Vec<u8>, AllocError>
     ensures { IfOk result (λ text. text.items ≡ check_text (Verdict.Rejected line why)) }
 {
@@ -162,6 +169,7 @@ fn rejected_text(alloc: Global, line: u64, why: Why) -> Result<Vec<u8>, AllocErr
     Ok(text)
 }
 
+/// Appends the cause why a log is rejected.
 fn push_cause(text: &mut Vec<u8>, why: Why) -> Result<(), AllocError>
     ensures { OnOk result (text.new.items ≡ text.old.items ++ cause_text why) }
 {
@@ -176,6 +184,7 @@ fn push_cause(text: &mut Vec<u8>, why: Why) -> Result<(), AllocError>
     }
 }
 
+/// Appends words and a number.
 fn push_numbered(text: &mut Vec<u8>, words: &[u8], number: u64) -> Result<(), AllocError>
     ensures { OnOk result (text.new.items ≡ text.old.items ++ (words.now ++ decimal number)) }
 {

@@ -53,6 +53,7 @@ impl Sim {
 impl Reader for Sim {
     ghost takes = { sim_takes };
 
+    /// Takes the library, the netlist and the stimulus, as each is loaded.
     fn take(self, alloc: Global, role: Role, bytes: Seq<u8>) -> Result<Sim, Trouble> {
         let mut next = self;
         match role {
@@ -82,7 +83,8 @@ pub fn run<S: Shelf>(
     clock: Option<Name>,
     watcher: Option<Box<dyn Watcher>>,
 ) -> Status
-    ensures runs { Runs (Gave S.gives) (sim_task clock (option_map (λ watcher. says watcher) watcher)) (name_of names.now) (S.world shelf.old) (S.world shelf.new) result }
+    ensures runs { Runs (Gave S.gives) (sim_task clock (option_map (λ watcher. says watcher) watcher)) (name_of names.now) (S.world shelf.old)
+        (S.world shelf.new) result }
 
     // A finished run said the lines of the one history on which the stimulus is played, and the watcher's line of its moments.
     ensures simulated { IsTrue (S.world shelf.old).tells
@@ -100,7 +102,8 @@ fn read<S: Shelf>(
     clock: Option<Name>,
     watcher: Option<Box<dyn Watcher>>,
 ) -> Result<Output, Refusal>
-    ensures { Reads (Gave S.gives) sim_takes sim_stops (sim_gives (option_map (λ watcher. says watcher) watcher)) (name_of names.now) (sim_start clock) (roles.Library ∷ roles.Netlist ∷ roles.Stimulus ∷ []) (S.world shelf.old) (S.world shelf.new) result }
+    ensures { Reads (Gave S.gives) sim_takes sim_stops (sim_gives (option_map (λ watcher. says watcher) watcher)) (name_of names.now) (sim_start clock)
+        (roles.Library ∷ roles.Netlist ∷ roles.Stimulus ∷ []) (S.world shelf.old) (S.world shelf.new) result }
 {
     let sim = collect(
         alloc,
@@ -128,6 +131,7 @@ fn play(alloc: Global, sim: Sim, watcher: Option<Box<dyn Watcher>>) -> Result<Ou
     }
 }
 
+/// What is put out of a stimulus text that is played on the netlist.
 fn play_on(
     alloc: Global,
     netlist: &Netlist,
@@ -135,7 +139,8 @@ fn play_on(
     watcher: Option<Box<dyn Watcher>>,
 ) -> Result<Output, Trouble>
     ensures { Concludes (trouble_in (stimulus_found netlist.now text.now))
-        (λ output. IsOkAnd (stimulus_found netlist.now text.now) (λ stimulus. PlaysAs (option_map (λ watcher. says watcher) watcher) netlist.now stimulus output)) result }
+        (λ output. IsOkAnd (stimulus_found netlist.now text.now)
+        (λ stimulus. PlaysAs (option_map (λ watcher. says watcher) watcher) netlist.now stimulus output)) result }
 {
     let stimulus = take_stimulus(alloc, text, netlist)?;
     let said = say_rows(alloc, netlist, &stimulus, watcher)?;

@@ -132,6 +132,7 @@ fn untested(alloc: Global, netlist: Netlist, wanted: &Wanted) -> Result<Netlist,
     }
 }
 
+/// The netlist, unless this name of a test input is taken.
 fn free(alloc: Global, netlist: Netlist, prefix: &Name, test: &Name) -> Result<Netlist, Trouble>
     ensures { Answers (untested prefix.now (Some test.now) netlist) result }
 {

@@ -6,21 +6,21 @@ use Rattle.cg_aig.specs.Aig.{aig_ops, inverse}
 use Rattle.cg_machine.specs.Claims.{Literal}
 use Rattle.cg_machine.specs.Machine.{MachineData}
 use Rattle.cg_claim.specs.Build.{Copies, aig_values, part_run}
-use Rattle.cg_unroll.specs.declared.asked.Frame.{Frame}
-use Rattle.cg_unroll.specs.declared.asked.Frame.TheVariants.{Before, After, Changed}
-use Rattle.cg_unroll.specs.declared.asked.Side.{Side}
+use Rattle.cg_reach.specs.declared.asked.Frame.{Frame}
+use Rattle.cg_reach.specs.declared.asked.Frame.TheVariants.{Before, After, Changed}
+use Rattle.cg_reach.specs.declared.asked.Side.{Side}
 use Rattle.cg_unroll.specs.declared.tables.CopyTables.{CopyTables}
 use Rattle.cg_unroll.specs.declared.tables.Tables.{Tables}
-use Rattle.cg_unroll.specs.inner.Asking.{part_of}
+use Rattle.cg_reach.specs.Asking.{part_of}
 use Rattle.cg_unroll.specs.declared.tables.Sources.TheVariants.{Inputs, Registers}
-use Rattle.cg_unroll.specs.inner.Placing.{ArePlaced, HoldsLeaves, IsTable, place_in}
+use Rattle.cg_unroll.specs.inner.Placing.{ArePlaced, HoldsLeaves, IsLiteralTable, place_in}
 use Rattle.cg_unroll.specs.inner.Sparse.{AreZero}
 use Rattle.cg_claim.specs.declared.leaf.Leaf.{Leaf}
 
 -- a copy has a literal of the list for each net and for each register
 pub record IsCopy (m : MachineData) (s : Seen) (copy : CopyTables) : Type 0 where
-  pub nets : IsTable (length m.circuit.names) s copy.nets
-  pub states : IsTable (length m.circuit.registers) s copy.states
+  pub nets : IsLiteralTable (length m.circuit.names) s copy.nets
+  pub states : IsLiteralTable (length m.circuit.registers) s copy.states
 
 -- and so have all
 pub record AreTables (m : MachineData) (s : Seen) (tables : Tables) : Type 0 where
@@ -41,7 +41,7 @@ pub record Starts (m : MachineData) (leaves : List Leaf) (s : Seen) (tables : Ta
   pub after_nets : HoldsLeaves (place_in 1 Inputs) leaves (length m.circuit.names) s tables.after.nets
   pub free : HoldsLeaves (place_in 1 Registers) leaves (length m.circuit.registers) s tables.free
   pub zeros : AreZero tables.after.states
-  pub after_states : IsTable (length m.circuit.registers) s tables.after.states
+  pub after_states : IsLiteralTable (length m.circuit.registers) s tables.after.states
   pub changed_nets : HoldsLeaves (place_in 1 Inputs) leaves (length m.circuit.names) s tables.changed.nets
   pub changed_states : HoldsLeaves (place_in 2 Registers) leaves (length m.circuit.registers) s tables.changed.states
 

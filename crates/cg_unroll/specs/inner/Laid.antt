@@ -10,8 +10,8 @@ use Rattle.cg_machine.specs.Machine.{MachineData, walk_of}
 use Rattle.cg_claim.specs.Build.{Table, aig_values, lay, reached_cells, start_nets}
 use Rattle.cg_claim.specs.Tables.{SameOn}
 use Rattle.cg_unroll.specs.inner.Building.{MayFail, table_of}
-use Rattle.cg_unroll.specs.inner.Placing.{IsTable}
-use Rattle.cg_unroll.specs.inner.Reached.{IsConeOf}
+use Rattle.cg_unroll.specs.inner.Placing.{IsLiteralTable}
+use Rattle.cg_reach.specs.Reached.{IsConeOf}
 
 -- the data inputs have these literals, and all other nets 0
 abbrev pub HoldsInputs : MachineData → (ℕ → ℕ) → List ℕ → Type 0
@@ -26,7 +26,7 @@ pub record LaysCopy (m : MachineData) (cone : Cone) (states : List ℕ) (s t : S
   pub same : (roots : List ℕ) (inputs : ℕ → ℕ) → IsConeOf m (cone_of (walk_of m) roots) cone → HoldsInputs m inputs old
       → SameOn (is_in (cone_of (walk_of m) roots)) (table_of t new) (copy_table m (cone_of (walk_of m) roots) inputs states s)
   pub keeps : Keeps aig_ops s t
-  pub table : IsTable (length m.circuit.names) t new
+  pub table : IsLiteralTable (length m.circuit.names) t new
 
 -- or a fault came on the way
 abbrev pub CopyFails : MachineData → Cone → List ℕ → Seen → List ℕ → AigFault → Type 0

@@ -33,11 +33,11 @@ pub record FillsLeaves (place : Leaf → Option ℕ) (leaves : List Leaf) (k : �
   pub fills : (g : ℕ → ℕ) → AgreesLeaves place leaves g → (j y : ℕ) (l : Leaf) → j < k → slice_get leaves j ≡ Some l → place l ≡ Some y → slice_index_or values y 0 ≡ g y
 
 -- a literal of the list stands at each of at least so many places
-pub record IsTable (places : ℕ) (s : Seen) (values : List ℕ) : Type 0 where
+pub record IsLiteralTable (places : ℕ) (s : Seen) (values : List ℕ) : Type 0 where
   pub valid : AreValid aig_ops s values
   pub long : places ≤ length values
 
 -- and these are the literals of leaves
 pub record HoldsLeaves (place : Leaf → Option ℕ) (leaves : List Leaf) (places : ℕ) (s : Seen) (values : List ℕ) : Type 0 where
   pub filled : FillsLeaves place leaves (length leaves) values
-  pub table : IsTable places s values
+  pub table : IsLiteralTable places s values

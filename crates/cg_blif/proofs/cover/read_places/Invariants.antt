@@ -1,10 +1,10 @@
 use Rattle.std.proofs.Common.{◌≡◌, drop, length}
-use Rattle.cg_blif_text.specs.Rows.{places_of}
+use Rattle.cg_blif_text.specs.Rows.{row_places}
 use Rattle.cg_blif.proofs.RowLemmas.{places_behind}
 use Rattle.cg_blif.proofs.cover.read_places.Given as goal
 
 abbrev pub invariant-places : goal.invariant-places
 invariant-places l = record {
-  read : places_behind l.bits.items (places_of (drop l.byte-index l.word)) ≡ places_of l.fn.word;
+  read : places_behind l.bits.items (row_places (drop l.byte-index l.word)) ≡ row_places l.fn.word;
   long : length l.bits.items ≡ l.byte-index;
 }

@@ -4,7 +4,7 @@ use Rattle.std.specs.Option.{option_copied, option_to_list}
 use Rattle.cg_cell.specs.Name.{is_name}
 use Rattle.cg_cell.specs.Pins.{is_clock, is_enable, is_output, is_test}
 use Rattle.cg_cell.specs.declared.cell.CellKind.TheVariants.{Gater as GaterKind}
-use Rattle.cg_netlist.specs.Calls.{gater_of}
+use Rattle.cg_builder.specs.Calls.{gater_of}
 use Rattle.cg_netlist.specs.said.Part.{Gate, mentioned}
 use Rattle.cg_blif_text.specs.Placing.{at_role, nets_at, part_or, placed_part}
 use Rattle.cg_blif_text.specs.Telling.{with_said}

@@ -3,14 +3,14 @@ use Rattle.cg_blif_text.specs.BlifText.{told_by}
 use Rattle.cg_blif_text.specs.LogicalLines.{text_lines}
 use Rattle.cg_blif_text.specs.Telling.{go_on, tell_clock, tell_lines}
 use Rattle.cg_blif_text.specs.declared.fault.BlifFault.{BlifFault}
-use Rattle.cg_blif.specs.Resuming.{AreNamed, IsFaultOf, told_of}
+use Rattle.cg_blif.specs.Resuming.{IsFaultOf, IsNamedClock, told_of}
 use Rattle.cg_blif.proofs.ReadingLemmas.{clock_refused, clock_told, fault_along}
 use Rattle.cg_blif.proofs.reader.tell.Goals as goal
 
 pub returns-in-None : goal.returns-in-None
 returns-in-None c =
     let lines = tell_lines c.args.library.now (text_lines c.args.text.now) in
-    let N : Option (List ℕ) → Type 0 = λ o. AreNamed o in (
+    let N : Option (List ℕ) → Type 0 = λ o. IsNamedClock o in (
       c.in_ok-reading.ensures.0,
       subst N (sym c.in-None.is) tt,
       (c.in_ok-reading.reading.place, ap (λ o. go_on lines (tell_clock o)) c.in-None.is ∙ ap (λ r. go_on r (tell_clock None)) c.in_ok-reading.ensures.1),
@@ -23,7 +23,7 @@ returns-in-Ok c =
     let place = c.in_ok-reading.reading.place in
     let net = c.bytes.result.now in
     let clock : c.args.options.now.clock ≡ Some net = c.in-Some.is ∙ ap Some (sym c.bytes.ensures.bytes) in
-    let N : Option (List ℕ) → Type 0 = λ o. AreNamed o in (
+    let N : Option (List ℕ) → Type 0 = λ o. IsNamedClock o in (
       c.in-Ok.ensures.0,
       subst N (sym c.in-Some.is) (c.bytes.ensures.name, tt),
       (

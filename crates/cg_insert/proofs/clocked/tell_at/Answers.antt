@@ -5,7 +5,7 @@ use Rattle.cg_netlist.specs.View.{register_seen}
 use Rattle.cg_netlist.specs.said.Part.{Part}
 use Rattle.cg_insert.proofs.ClockedPlaces.{own_part}
 use Rattle.cg_insert.proofs.Lookups.{not_le}
-use Rattle.cg_insert.specs.inner.Telling.{MayTell, Tells}
+use Rattle.cg_insert.specs.inner.Telling.{MayTell, WasTold}
 use Rattle.cg_insert.proofs.clocked.tell_at.Goals as goal
 
 pub tell_register-requires : goal.tell_register-requires
@@ -22,4 +22,4 @@ returns-then-not-is_delay c =
     let reg : ℕ = c.args.reg in
     let own : reg < m.own_registers = not_le m.own_registers reg (sym c.if-not-is_delay.ensures) in
     let at : slice_get m.circuit.registers reg ≡ Some (register_seen c.register-register.result) = sym (take_get m.own_registers m.circuit.registers reg own) ∙ (ap (λ (d : Circuit). slice_get d.registers reg) (sym c.netlist.ensures.netlist) ∙ c.register-register.ensures) in
-    subst (λ (ps : List Part). Tells c.args.builder.now ps c.tell_register.new.builder c.tell_register.result) (sym (own_part c.args.names.now c.args.gate (slice_get m.circuit.registers reg) (register_seen c.register-register.result) c.unwrap_or-clock.result at c.unwrap_or-clock.ensures)) c.tell_register.ensures
+    subst (λ (ps : List Part). WasTold c.args.builder.now ps c.tell_register.new.builder c.tell_register.result) (sym (own_part c.args.names.now c.args.gate (slice_get m.circuit.registers reg) (register_seen c.register-register.result) c.unwrap_or-clock.result at c.unwrap_or-clock.ensures)) c.tell_register.ensures

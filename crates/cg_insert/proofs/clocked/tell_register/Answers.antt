@@ -2,14 +2,14 @@ use Rattle.std.proofs.Common.{◌≡◌, ◌∷◌, [], Bor, ℕ, List, Some, ma
 use Rattle.std.specs.Option.{option_copied}
 use Rattle.cg_netlist.specs.Circuit.{RegisterCell}
 use Rattle.cg_netlist.specs.View.{register_seen}
-use Rattle.cg_netlist.specs.said.Building.{Takes}
+use Rattle.cg_builder.specs.Building.{Takes}
 use Rattle.cg_netlist.specs.said.Part.{Part}
 use Rattle.cg_netlist.specs.said.Says.{IsPart}
 use Rattle.cg_netlist.specs.said.Wiring.{NetName}
 use Rattle.cg_insert.proofs.RegisterCalls.{register_call}
 use Rattle.cg_insert.proofs.ToldParts.{tells_one}
 use Rattle.cg_insert.specs.inner.GatedParts.{clocked_part, placed_outputs}
-use Rattle.cg_insert.specs.inner.Telling.{MayTell, Tells}
+use Rattle.cg_insert.specs.inner.Telling.{MayTell, WasTold}
 use Rattle.cg_insert.proofs.clocked.tell_register.Goals as goal
 
 pub register-requires-clause-fits : goal.register-requires-clause-fits

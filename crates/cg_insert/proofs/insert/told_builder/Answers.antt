@@ -2,7 +2,7 @@ use Rattle.std.proofs.Common.{ap, ◌∙◌, subst}
 use Rattle.std.specs.Option.{option_copied}
 use Rattle.cg_netlist.specs.Circuit.{Circuit}
 use Rattle.cg_netlist.specs.Netlist.{IsNetlist}
-use Rattle.cg_netlist.specs.said.Building.{fresh}
+use Rattle.cg_builder.specs.Building.{fresh}
 use Rattle.cg_insert.proofs.Finishing.{may}
 use Rattle.cg_insert.proofs.insert.told_builder.Goals as goal
 

@@ -1,5 +1,6 @@
 use Rattle.std.proofs.Common.{◌≡◌, ◌<◌, ℕ, [], length, sym, ◌∙◌, ap, subst, arith}
-use Rattle.cg_netlist.specs.inner.Reaching.{IsReached, with_nets}
+use Rattle.cg_netlist.specs.inner.Reaching.{IsReached}
+use Rattle.cg_netlist.specs.NetSets.{with_nets}
 use Rattle.cg_netlist.proofs.ConeWalk.{reached_all, reached_first}
 use Rattle.cg_netlist.proofs.Members.{All-member}
 use Rattle.cg_netlist.proofs.reach.reach.Goals as goal

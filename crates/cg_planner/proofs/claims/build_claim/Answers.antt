@@ -4,7 +4,8 @@ use Rattle.cg_machine.specs.Claims.{Literal}
 use Rattle.cg_machine.specs.declared.stage.Stage.{Stage}
 use Rattle.cg_claim.specs.Question.{Question, hold_question, idle_question, stable_question, unseen_question}
 use Rattle.cg_stage.specs.Stages.{first_literal}
-use Rattle.cg_unroll.specs.Claims.{IsRefused, UnseenData, target_of}
+use Rattle.cg_unroll.specs.Claims.{IsRefused, target_of}
+use Rattle.cg_reach.specs.Unseen.{UnseenData}
 use Rattle.cg_planner.specs.inner.Naming.{question_of, unseen_of}
 use Rattle.cg_planner.proofs.Naming.{first_there, guards_there, nets_there, registers_there, target_question}
 use Rattle.cg_planner.proofs.claims.build_claim.Goals as goal

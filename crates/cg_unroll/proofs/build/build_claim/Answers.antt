@@ -10,9 +10,9 @@ use Rattle.cg_claim.specs.Question.{Question}
 use Rattle.cg_claim.specs.Reach.{after_nets, after_states, before_nets, changed_nets, feeds}
 use Rattle.cg_claim.specs.Violates.{SidesFit}
 use Rattle.cg_machine.specs.Machine.{IsMachine, MachineData}
-use Rattle.cg_unroll.specs.declared.reached.Reached.{Reached}
+use Rattle.cg_reach.specs.declared.reached.Reached.{Reached}
 use Rattle.cg_unroll.specs.declared.tables.Tables.{Tables}
-use Rattle.cg_unroll.specs.inner.Asking.{question_of}
+use Rattle.cg_reach.specs.Asking.{question_of}
 use Rattle.cg_unroll.specs.inner.Building.{Built, MayFail, table_of}
 use Rattle.cg_unroll.specs.inner.Copying.{AreLeavesPlaced, Starts}
 use Rattle.cg_unroll.specs.inner.Laid.{LaysCopy}

@@ -1,6 +1,7 @@
 use Rattle.std.proofs.Common.{sym, subst}
 use Rattle.cg_claim.specs.Question.{unseen_question}
-use Rattle.cg_unroll.specs.Claims.{IsClaim, UnseenData, target_of}
+use Rattle.cg_unroll.specs.Claims.{IsClaim, target_of}
+use Rattle.cg_reach.specs.Unseen.{UnseenData}
 use Rattle.cg_unroll.specs.declared.claim.Claim.{Claim}
 use Rattle.cg_unroll.proofs.claim.unseen_claim.Goals as goal
 

@@ -1,5 +1,5 @@
 use Rattle.std.proofs.Common.{◌≡◌, drop}
-use Rattle.cg_netlist.specs.inner.Reaching.{with_nets}
+use Rattle.cg_netlist.specs.NetSets.{with_nets}
 use Rattle.cg_netlist.proofs.net_set.NetSet.extend.Given as goal
 
 abbrev pub invariant-loop-net : goal.invariant-loop-net

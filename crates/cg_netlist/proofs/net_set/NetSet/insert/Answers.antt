@@ -1,6 +1,6 @@
 use Rattle.std.proofs.Common.{[], ◌≡◌, ◌++◌, ◌∷◌, true, false, slice_set, sym, ◌∙◌, ap, subst}
 use Rattle.cg_netlist.specs.Circuit.{is_in}
-use Rattle.cg_netlist.specs.inner.Mentioned.{with_net}
+use Rattle.cg_netlist.specs.NetSets.{with_net}
 use Rattle.cg_netlist.specs.Marks.{AreMarked, is_marked}
 use Rattle.cg_netlist.proofs.NetSetLemmas.{mark_at, marked_more, with_net-new}
 use Rattle.cg_netlist.proofs.net_set.NetSet.insert.Goals as goal

@@ -2,7 +2,7 @@ use Rattle.std.proofs.Common.{◌≡◌, ◌<◌, ◌≤◌, ℕ, List, length, 
 use Rattle.std.proofs.lemmas.List.{length-map}
 use Rattle.cg_claim.specs.declared.leaf.Leaf.{Leaf}
 use Rattle.cg_claim.specs.Leaves.{leaves_of, shown_leaf, width_of}
-use Rattle.cg_unroll.specs.inner.Asking.{question_of}
+use Rattle.cg_reach.specs.Asking.{question_of}
 use Rattle.cg_unroll.proofs.FewLeaves.{few_leaves}
 use Rattle.cg_unroll.proofs.unroller.Unroller.build.Goals as goal
 

@@ -1,0 +1,16 @@
+use Rattle.std.proofs.Common.{◌≡◌, ◌&&◌, ℕ, Some, length, inr, ap}
+use Rattle.cg_netlist.specs.Circuit.{is_in}
+use Rattle.cg_netlist.specs.Marks.{IsFirst}
+use Rattle.cg_netlist.specs.declared.fault.NetFault.TheVariants.{ClockFault}
+use Rattle.cg_builder.specs.inner.Numbers.{gated, is_bad_clock, is_bad_gate, is_bad_root, rooted}
+use Rattle.cg_builder.proofs.finish.check_clocks.Goals as goal
+
+pub name_of-requires-clause-net : goal.name_of-requires-clause-net
+name_of-requires-clause-net c =
+    let n = c.args.told.now in
+    (c.in-Some.ensures (length n.names) (λ net. is_in (rooted n) net && is_bad_root n net) (λ net. is_in (gated n) net && is_bad_gate n net) c.in-Ok.ensures c.in-Ok-bad_gate.ensures).0
+
+pub returns-in-Ok-name_of : goal.returns-in-Ok-name_of
+returns-in-Ok-name_of c =
+    let n = c.args.told.now in
+    inr (c.in-Some.net, ap (λ m. ClockFault m) c.in-Ok-name_of.ensures, c.in-Some.ensures (length n.names) (λ net. is_in (rooted n) net && is_bad_root n net) (λ net. is_in (gated n) net && is_bad_gate n net) c.in-Ok.ensures c.in-Ok-bad_gate.ensures)

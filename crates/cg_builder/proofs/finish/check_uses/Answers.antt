@@ -1,0 +1,31 @@
+use Rattle.std.proofs.Common.{◌≡◌, ℕ, ◌<◌, ◌&&◌, ◌||◌, not, nat_eq, nat_lt, Bool, List, Some, None, Option, length, inl, inr, refl, sym, ◌∙◌, ap, subst, arith}
+use Rattle.std.specs.List.{count_by}
+use Rattle.cg_netlist.specs.Circuit.{is_in}
+use Rattle.cg_netlist.specs.Marks.{AreMarksOf, IsFirst, is_marked}
+use Rattle.cg_netlist.specs.declared.fault.NetFault.TheVariants.{ClockFault, Cycle, NoDriver, TwoDrivers}
+use Rattle.cg_builder.specs.inner.Numbers.{driving, is_driven_twice, is_undriven, used}
+use Rattle.cg_netlist.specs.Ranks.{is_unranked}
+use Rattle.cg_builder.proofs.Checks.{marked_first, undriven_found}
+use Rattle.cg_builder.proofs.ToldNets.{asked_of, order_within, used_within}
+use Rattle.cg_builder.proofs.finish.check_uses.Goals as goal
+
+pub marks-requires : goal.marks-requires
+marks-requires c =
+    let n = c.args.told.now in
+    asked_of n c.requires.numbers (driving n) c.args.drivers.now c.len.result (c.len.ensures.count ∙ ap (λ d. length d.names) c.told.view_is) c.requires.drivers (order_within n c.requires.numbers n.clocks c.requires.numbers.clocks)
+
+pub returns-in-None : goal.returns-in-None
+returns-in-None c =
+    let n = c.args.told.now in
+    subst (λ ds. IsFirst (length n.names) (λ net. is_in (used n) net && not (is_in ds net)) None) c.requires.drivers
+    (undriven_found c.args.used.now c.in-Ok.driven.items c.deref.result.now (length n.names) c.len.result (used n) c.args.drivers.now None c.deref.ensures.value (c.len.ensures.count ∙ ap (λ d. length d.names) c.told.view_is) c.requires.used c.in-Ok.ensures c.in-None.ensures)
+
+pub returns-in-Ok-name_of : goal.returns-in-Ok-name_of
+returns-in-Ok-name_of c =
+    let n = c.args.told.now in
+    inr (
+      c.in-Some.net,
+      ap (λ m. NoDriver m) c.in-Ok-name_of.ensures,
+      subst (λ ds. IsFirst (length n.names) (λ net. is_in (used n) net && not (is_in ds net)) (Some c.in-Some.net)) c.requires.drivers
+          (undriven_found c.args.used.now c.in-Ok.driven.items c.deref.result.now (length n.names) c.len.result (used n) c.args.drivers.now (Some c.in-Some.net) c.deref.ensures.value (c.len.ensures.count ∙ ap (λ d. length d.names) c.told.view_is) c.requires.used c.in-Ok.ensures c.in-Some.ensures),
+    )

@@ -1,0 +1,5 @@
+pub mod Finishing
+pub mod Heard
+pub mod Mentioned
+pub mod Numbers
+pub mod Renumbering

@@ -1,8 +1,0 @@
-use Rattle.std.proofs.Common.{false, is_none}
-use Rattle.std.specs.Option.{option_map_or}
-use Rattle.cg_netlist.specs.Marks.{IsTable}
-use Rattle.cg_netlist.specs.Ranking.{entry}
-use Rattle.cg_netlist.proofs.marks.unranked.Given as goal
-
-abbrev pub invariant-loop-net : goal.invariant-loop-net
-invariant-loop-net l = IsTable l.marks.items l.net (λ net. option_map_or (λ k. is_none (entry l.ranks k)) (entry l.drivers net) false)

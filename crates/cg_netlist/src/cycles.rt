@@ -1,0 +1,51 @@
+//! Logic cells whose cone holds a cycle.
+
+ghost use Rattle.std.specs.Prelude.{◌≡◌, ◌<◌, ℕ, Some, false, length, IfOk, is_none};
+ghost use Rattle.std.specs.List.{AllByRecursion};
+ghost use Rattle.std.specs.Option.{option_map_or};
+ghost use Rattle.cg_netlist.specs.Marks.{AreMarksOf};
+ghost use Rattle.cg_netlist.specs.Places.{CellWithin};
+ghost use Rattle.cg_netlist.specs.Ranking.{entry};
+ghost use Rattle.cg_netlist.specs.Ranks.{is_unranked};
+
+use crate::parts::Logic;
+use crate::ranks::{driving_cells, entry, ranks};
+use std::alloc::{AllocError, Global};
+
+/// Of `count` nets, marks on the outputs of cells without a rank: those whose cone holds a cycle of cells.
+pub fn unranked_marks(alloc: Global, count: usize, cells: &[Logic]) -> Result<Vec<bool>, AllocError>
+    requires { AllByRecursion (CellWithin count) cells.now }
+    ensures { IfOk result (λ marks. AreMarksOf marks.items count (is_unranked cells.now)) }
+{
+    let drivers = driving_cells(alloc, count, cells)?;
+    let ranks = ranks(alloc, cells, &drivers)?;
+    unranked(alloc, &drivers, &ranks)
+}
+
+/// Marks on the nets that are driven by cells without a rank.
+fn unranked(
+    alloc: Global,
+    drivers: &[Option<usize>],
+    ranks: &[Option<usize>],
+) -> Result<Vec<bool>, AllocError>
+    requires { (net k : ℕ) → entry drivers.now net ≡ Some k → k < length ranks.now }
+    ensures { IfOk result
+        (λ marks. AreMarksOf marks.items (length drivers.now) (λ net. option_map_or (λ k. is_none (entry ranks.now k)) (entry drivers.now net) false)) }
+{
+    let mut marks = Vec::with_capacity(alloc, drivers.len())?;
+    for net in 0..drivers.len() {
+        marks.push(is_unranked(entry(drivers, net), ranks))?;
+    }
+    Ok(marks)
+}
+
+/// Whether a net's driver is a cell without a rank.
+fn is_unranked(driver: Option<usize>, ranks: &[Option<usize>]) -> bool
+    requires { (k : ℕ) → driver ≡ Some k → k < length ranks.now }
+    ensures { result ≡ option_map_or (λ k. is_none (entry ranks.now k)) driver false }
+{
+    match driver {
+        Some(cell) => ranks[cell].is_none(),
+        None => false,
+    }
+}

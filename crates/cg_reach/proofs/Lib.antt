@@ -1,0 +1,11 @@
+pub mod ConesFound
+pub mod Filtering
+pub mod LeavesReached
+pub mod Marking
+pub mod OwnRegisters
+pub mod RisingInputs
+pub mod RootsThere
+pub mod SpreadCones
+pub mod StatesReached
+pub mod Targeting
+pub mod Walking

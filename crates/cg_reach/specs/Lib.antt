@@ -1,0 +1,4 @@
+pub mod Asking
+pub mod Reached
+pub mod Unseen
+pub mod inner

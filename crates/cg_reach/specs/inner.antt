@@ -1,0 +1,4 @@
+pub mod Found
+pub mod Leaves
+pub mod Sources
+pub mod Spreading

@@ -1,5 +1,5 @@
 -- Cells that are found to be there.
-use Rattle.std.proofs.Common.{◌≡◌, ℕ, zero, suc, ◌+◌, ◌<◌, Bool, true, false, cond, List, [], ◌∷◌, length, get_or, slice_get, take, is_some, Option, None, Some, refl, sym, subst, arith}
+use Rattle.std.proofs.Common.{◌≡◌, ℕ, zero, suc, ◌+◌, ◌<◌, Bool, true, false, cond, List, [], ◌∷◌, length, get_or, slice_get, take, is_some, Option, None, Some, refl, sym, ap, ◌∙◌, subst, arith}
 use Rattle.std.specs.List.{All, find}
 use Rattle.std.proofs.lemmas.Bool.{both_ways}
 use Rattle.std.proofs.lemmas.List.Elements.{All-append, All-cons, All-nil}
@@ -11,7 +11,7 @@ use Rattle.cg_cell.specs.declared.cell.CellKind.TheVariants.{Unusable}
 use Rattle.cg_cell.specs.declared.fit.FitKind.{FitKind}
 use Rattle.cg_machine.specs.Gates.{AddedGate}
 use Rattle.cg_netlist.proofs.RankingLemmas.{take_next}
-use Rattle.built_machines.specs.Cells.{HasCell}
+use Rattle.built_machines.specs.Cells.{HasCell, HaveCells}
 
 -- a cell that passes is found, or one before it
 found : (p : CellData → Bool) (xs : List CellData) (i : ℕ) (d : CellData) → i < length xs → p (get_or xs i d) ≡ true → (cell : CellData) × (find p xs ≡ Some cell)
@@ -33,9 +33,19 @@ fit_there library kind some = go (first_fit kind library) refl some
     go None at h = absurd (both_ways false refl h)
     go (Some i) at h = let w = position-Some (is_fit kind) library i other at in found (is_fit kind) library i other w.0 w.1
 
--- one gate more has a cell
+-- gates have cells, none of them, one more of them, all of them
+pub no_gate : (library : List CellData) (gates : List AddedGate) → HaveCells library (take 0 gates)
+no_gate library gates = record { each = All-nil (λ (g : AddedGate). HasCell library g.kind) }
+
 pub one_more : (library : List CellData) (gates : List AddedGate) (k : ℕ) (gate : AddedGate) → slice_get gates k ≡ Some gate → HasCell library gate.kind
-    → All (λ (g : AddedGate). HasCell library g.kind) (take k gates) → All (λ (g : AddedGate). HasCell library g.kind) (take (k + 1) gates)
+    → HaveCells library (take k gates) → HaveCells library (take (k + 1) gates)
 one_more library gates k gate at has before =
     let P : AddedGate → Type 0 = λ g. HasCell library g.kind in
-    subst (All P) (sym (take_next gates k gate at)) (All-append P (take k gates) (gate ∷ []) before (All-cons P gate [] has (All-nil P)))
+    record { each = subst (All P) (sym (take_next gates k gate at)) (All-append P (take k gates) (gate ∷ []) before.each (All-cons P gate [] has (All-nil P))) }
+
+taken : {X : Type 0} (xs : List X) → take (length xs) xs ≡ xs
+taken [] = refl
+taken (x ∷ xs) = ap (λ ys. x ∷ ys) (taken xs)
+
+pub all_gates : (library : List CellData) (gates : List AddedGate) (k : ℕ) → k ≡ length gates → HaveCells library (take k gates) → HaveCells library gates
+all_gates library gates k end all = subst (HaveCells library) (ap (λ n. take n gates) end ∙ taken gates) all

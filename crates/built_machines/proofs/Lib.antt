@@ -1,2 +1,4 @@
 mod CellsThere
+mod MayInsert
 mod NewName
+mod Starting

@@ -1,7 +1,8 @@
 //! A machine on which steps are played, and the library that it is inserted with.
 
-ghost use Rattle.std.specs.Prelude.{nat_eq};
+ghost use Rattle.std.specs.Prelude.{◌≡◌, nat_eq, true};
 ghost use Rattle.std.specs.List.{IsDistinct};
+ghost use Rattle.cg_machine.specs.Start.{CanStart};
 
 use crate::inserting::inserted_text;
 use crate::steps::step;
@@ -77,8 +78,18 @@ fn machine_of(alloc: Global, netlist: Netlist) -> Result<Machine, ()>
     requires { IsDistinct nat_eq netlist.outputs }
 {
     let prefix = Name::new(alloc, b"cg_").map_err(|_| ())?;
-    if netlist.gaters() > 0 || prefix_clash(&netlist, &prefix).is_some() {
+    if !can_start(&netlist, &prefix) {
         return Err(());
     }
     Machine::of(alloc, netlist, &prefix).map_err(|_| ())
+}
+
+// Whether a netlist has no gating cell, and no net with a name that begins with the prefix.
+#[tactic(auto, using(crate::proofs::Starting::can_start))]
+fn can_start(netlist: &Netlist, prefix: &Name) -> bool
+    requires { IsDistinct nat_eq netlist.now.outputs }
+    ensures { result ≡ true → CanStart netlist.now prefix.now }
+{
+    let _named = prefix.bytes();
+    netlist.gaters() == 0 && prefix_clash(netlist, prefix).is_none()
 }

@@ -1,9 +1,9 @@
 //! The text of the netlist that a machine is inserted as.
 
-ghost use Rattle.std.specs.Prelude.{◌≡◌, ◌≢◌, ◌++◌, true};
+ghost use Rattle.std.specs.Prelude.{◌≡◌, ◌≢◌, ◌<◌, ◌+◌, ◌++◌, true, length, take};
 ghost use Rattle.std.specs.List.{All};
 ghost use Rattle.std.specs.Option.{option_copied};
-ghost use Rattle.built_machines.specs.Cells.{HasCell};
+ghost use Rattle.built_machines.specs.Cells.{HasCell, HaveCells};
 ghost use Rattle.cg_insert.specs.Insert.{CanInsert, gate_names};
 
 use cg_blif_out::write_blif;
@@ -28,7 +28,8 @@ pub fn inserted_text(
     write_blif(alloc, &netlist).map_err(|_| ())
 }
 
-/// Whether the library has the cells that are needed, and the name of a test input is new.
+// Whether the library has the cells that are needed, and the name of a test input is new.
+#[tactic(auto, using(crate::proofs::MayInsert::untested, crate::proofs::MayInsert::tested))]
 fn can_insert(machine: &Machine, library: &Library, test: Option<&Name>) -> bool
     ensures { result ≡ true → CanInsert library.now (option_copied test.entry) machine.now }
 {
@@ -45,16 +46,24 @@ fn can_insert(machine: &Machine, library: &Library, test: Option<&Name>) -> bool
 }
 
 // Whether the library has a cell for each added gate.
-#[tactic(auto, using(crate::proofs::CellsThere::one_more))]
+#[tactic(auto, using(crate::proofs::CellsThere::no_gate, crate::proofs::CellsThere::all_gates))]
 fn has_gates(machine: &Machine, library: &Library) -> bool
-    ensures { result ≡ true → All (λ gate. HasCell library.now gate.kind) machine.now.gates }
+    ensures { result ≡ true → HaveCells library.now machine.now.gates }
 {
     for k in 0..machine.gates() {
-        if !has_cell(library, machine.gate(k).kind) {
+        if !has_gate(machine, library, k) {
             return false;
         }
     }
     true
+}
+
+/// Whether the library has a cell for an added gate, as it has for those before.
+fn has_gate(machine: &Machine, library: &Library, k: u32) -> bool
+    requires { k < length machine.now.gates }
+    ensures { result ≡ true → HaveCells library.now (take k machine.now.gates) → HaveCells library.now (take (k + 1) machine.now.gates) }
+{
+    has_cell(library, machine.gate(k).kind)
 }
 
 // Whether the library has a cell of this kind.

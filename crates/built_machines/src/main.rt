@@ -11,15 +11,13 @@
 mod bench;
 mod inserting;
 mod nets;
+mod player;
 mod steps;
 
-use crate::bench::Bench;
+use crate::player::{Player, load};
 use cg_shelf::{DirShelf, Shelf};
 use std::alloc::Global;
 use std::process::ExitCode;
-
-/// The most bytes of a file of the folder.
-const MOST_BYTES: u64 = 1_048_576;
 
 fn main(rt: HostRuntime) -> ExitCode {
     let alloc = rt.alloc();
@@ -34,41 +32,9 @@ fn main(rt: HostRuntime) -> ExitCode {
 fn play<S: Shelf>(alloc: Global, folder: &mut S) -> Result<(), ()> {
     let script = load(alloc, folder, "script")?;
     let script = String::from_utf8(script).map_err(|_| ())?;
-    let mut bench = None;
+    let mut player = Player::new(alloc);
     for line in script.lines() {
-        folder.say(line.as_bytes()).map_err(|_| ())?;
-        folder.say(b"\n").map_err(|_| ())?;
-        let words = line
-            .split_whitespace()
-            .collect::<Vec<&str>>(alloc)
-            .map_err(|_| ())?;
-        match words.as_slice() {
-            [] | ["#", ..] => {}
-            ["machine", library, netlist] => bench = Some(begin(alloc, folder, library, netlist)?),
-            words => {
-                let text = bench.as_mut().ok_or(())?.step(words)?;
-                folder.say(text.as_slice()).map_err(|_| ())?;
-            }
-        }
+        player.line(folder, line)?;
     }
     Ok(())
-}
-
-/// The machine of a netlist, read with a library.
-fn begin<S: Shelf>(
-    alloc: Global,
-    folder: &mut S,
-    library: &str,
-    netlist: &str,
-) -> Result<Bench, ()> {
-    let library = load(alloc, folder, library)?;
-    let netlist = load(alloc, folder, netlist)?;
-    Bench::new(alloc, library.as_slice(), netlist.as_slice())
-}
-
-/// What a file of the folder holds.
-fn load<S: Shelf>(alloc: Global, folder: &mut S, name: &str) -> Result<Vec<u8>, ()> {
-    let mut bytes = Vec::new(alloc);
-    folder.load(name, MOST_BYTES, &mut bytes).map_err(|_| ())?;
-    Ok(bytes)
 }

@@ -1,6 +1,6 @@
 //! The nets of a machine, by their names.
 
-ghost use Rattle.std.specs.Prelude.{◌≡◌, Some, IfOk, true};
+ghost use Rattle.std.specs.Prelude.{◌≡◌, ◌≢◌, Some, IfOk, true};
 ghost use Rattle.cg_machine.specs.Machine.{IsNet};
 
 use cg_machine::machine::Machine;

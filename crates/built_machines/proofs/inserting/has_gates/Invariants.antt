@@ -1,7 +1,6 @@
 use Rattle.std.proofs.Common.{take}
-use Rattle.std.specs.List.{All}
-use Rattle.built_machines.specs.Cells.{HasCell}
+use Rattle.built_machines.specs.Cells.{HaveCells}
 use Rattle.built_machines.proofs.inserting.has_gates.Given as goal
 
 abbrev pub invariant-loop-k : goal.invariant-loop-k
-invariant-loop-k l = All (λ gate. HasCell l.library gate.kind) (take l.k l.machine.gates)
+invariant-loop-k l = HaveCells l.library (take l.k l.machine.gates)

@@ -5,8 +5,7 @@ use Rattle.std.proofs.lemmas.Bool.{both_ways, cases_Bool, eqb-true, eq-eqb, or_c
 use Rattle.std.proofs.lemmas.Option.{none-some, same_Some}
 use Rattle.cg_netlist.specs.Circuit.{is_in}
 use Rattle.cg_netlist.proofs.Members.{is_in_cases, is_in_left, is_in_right}
-use Rattle.cg_netlist.specs.inner.Mentioned.{with_net}
-use Rattle.cg_netlist.specs.inner.Reaching.{with_nets}
+use Rattle.cg_netlist.specs.NetSets.{with_net, with_nets}
 
 -- a truth value that holds exactly where another does
 pub same_truth : (a b : Bool) → (a ≡ true → b ≡ true) → (b ≡ true → a ≡ true) → a ≡ b

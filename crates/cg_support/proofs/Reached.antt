@@ -12,7 +12,7 @@ use Rattle.cg_machine.specs.Added.{own_netlist}
 use Rattle.cg_machine.specs.Machine.{IsMachine, MachineData, walk_of}
 use Rattle.cg_netlist.specs.Cone.{IsInCone, Reaches, cone_of, here, through}
 use Rattle.cg_netlist.proofs.Cones.{cone_is, longer}
-use Rattle.cg_netlist.specs.inner.Reaching.{with_nets}
+use Rattle.cg_netlist.specs.NetSets.{with_nets}
 use Rattle.cg_support.specs.inner.Reaching.{AreOwn, IsReached}
 use Rattle.cg_support.proofs.Driving.{cell_driver}
 use Rattle.cg_support.proofs.Nets.{front, kept_all, only_these, put_all, same_truth, take_end, take_front, take_some}

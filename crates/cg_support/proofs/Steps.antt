@@ -16,7 +16,7 @@ use Rattle.cg_machine.specs.Added.{own_netlist}
 use Rattle.cg_machine.specs.Machine.{IsMachine, MachineData}
 use Rattle.cg_support.specs.declared.support.Support.{Support}
 use Rattle.cg_support.specs.inner.Edge.{IsEdge, is_input, is_register, shows_at}
-use Rattle.cg_netlist.specs.inner.Reaching.{with_nets}
+use Rattle.cg_netlist.specs.NetSets.{with_nets}
 use Rattle.cg_support.specs.inner.Reaching.{AreOwn, IsReached}
 use Rattle.cg_support.proofs.Driving.{cell_driver, input_driver, register_driver}
 use Rattle.cg_support.proofs.Nets.{take_end}

@@ -11,8 +11,11 @@
 //!   files of its own; a file that it stored is compared with the one of that name that stands in memory.
 //! - `folder WORD..` is a command line over the files of the folder itself, and `read NAME` says what the file NAME of it holds.
 //! - Any other line is a command line. A file of the folder that it names is brought into memory first, unless it is there.
+//!
+//! A command line may name two watchers beside those of the program, `highs` and `few`.
 #![tactic(auto)]
 
+mod highs;
 mod long;
 mod player;
 mod solver;

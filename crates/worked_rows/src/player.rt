@@ -1,6 +1,7 @@
 //! Who plays a script.
 
 use crate::MOST_BYTES;
+use crate::highs::Highs;
 use crate::long::{latches, nets};
 use crate::solver::{Answer, solved};
 use cg_planner::progress::Silent;
@@ -195,7 +196,7 @@ impl Player {
     }
 }
 
-/// Runs the program with its two watchers over a shelf.
+/// Runs the program with its two watchers, and two of a kind of their own, over a shelf.
 fn run_over<S: Shelf>(alloc: Global, shelf: &mut S, words: &[&str]) -> Result<Status, ()> {
     let mut all = Vec::new(alloc);
     all.push(String::from_str(alloc, "clockgate").map_err(|_| ())?)
@@ -209,6 +210,10 @@ fn run_over<S: Shelf>(alloc: Global, shelf: &mut S, words: &[&str]) -> Result<St
     watchers.push(edges).map_err(|_| ())?;
     let toggles: Box<dyn Watcher> = Box::new(alloc, ToggleCount::new(alloc)).map_err(|_| ())?;
     watchers.push(toggles).map_err(|_| ())?;
+    let highs: Box<dyn Watcher> = Box::new(alloc, Highs::new()).map_err(|_| ())?;
+    watchers.push(highs).map_err(|_| ())?;
+    let few: Box<dyn Watcher> = Box::new(alloc, Highs::few()).map_err(|_| ())?;
+    watchers.push(few).map_err(|_| ())?;
     Ok(run(alloc, all.as_slice(), shelf, watchers, &mut Silent))
 }
 

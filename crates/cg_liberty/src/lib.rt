@@ -27,5 +27,3 @@ pub mod library;
 mod logic;
 mod port;
 mod restate;
-#[cfg(test)]
-mod tests;

@@ -1,6 +1,6 @@
 //! Texts with the faults that they have, and a formula that is written again.
 
-use crate::dimacs::{DimacsFault, read_dimacs, write_dimacs};
+use cg_formula::{DimacsFault, read_dimacs, write_dimacs};
 use cg_limit::Limit;
 use std::alloc::Global;
 use std::test::Fail;

@@ -1,7 +1,6 @@
 //! Both shelves, called through their bound as the rest of the program calls them.
 
-use crate::transfer::write_whole;
-use crate::{Call, DirShelf, LoadFault, MemShelf, Shelf, StoreFault};
+use cg_shelf::{Call, DirShelf, LoadFault, MemShelf, Shelf, StoreFault};
 use std::alloc::Global;
 use std::io::Write;
 use std::process::Abort;
@@ -111,7 +110,7 @@ fn real_files(rt: HostRuntime) -> Result<(), Fail> {
 }
 
 #[test]
-fn a_writer_that_takes_little_gets_all_it_has_room_for(rt: HostRuntime) {
+fn a_writer_that_takes_little_gets_all_it_has_room_for(rt: HostRuntime) -> Result<(), Fail> {
     let cases: [(usize, Result<(), StoreFault>, &[u8]); 3] = [
         (11, Ok(()), b"all of this"),
         (10, Err(StoreFault::Failed), b"all of thi"),
@@ -122,9 +121,12 @@ fn a_writer_that_takes_little_gets_all_it_has_room_for(rt: HostRuntime) {
             taken: Vec::new(rt.alloc()),
             room,
         };
-        assert_eq!(rt; write_whole(&mut writer, b"all of this"), answer);
+        let mut shelf = DirShelf::new(rt.clone()?, &mut writer, rt.alloc());
+        assert_eq!(rt; shelf.complain(b"all of this"), answer);
+        drop(shelf);
         assert_eq!(rt; writer.taken.as_slice(), taken);
     }
+    Ok(())
 }
 
 #[test]

@@ -9,8 +9,8 @@ ghost use Rattle.cg_cell.specs.Expr.{is_over};
 ghost use Rattle.cg_aig.specs.Aig.{aig_ops};
 
 use super::bit_at;
-use crate::list::Aig;
-use crate::lit::AigLit;
+use cg_aig::list::Aig;
+use cg_aig::lit::AigLit;
 use cg_cell::cover::{Cover, CoverRow};
 use cg_cell::expr::Expr;
 use std::alloc::{AllocError, Global};

@@ -1,7 +1,7 @@
 //! Runs of a small mode over a shelf in memory: two stores, and runs that load nothing.
 
-use crate::{Finish, Mode, Names, Output, Reader, Role, Status, Text, Trouble, drive};
 use cg_list::Seq;
+use cg_run::{Finish, Mode, Names, Output, Reader, Role, Status, Text, Trouble, drive};
 use cg_shelf::{Call, MemShelf};
 use std::alloc::{AllocError, Global};
 use std::process::Abort;

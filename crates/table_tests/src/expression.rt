@@ -1,8 +1,8 @@
 //! Expressions as Liberty writes them: what they are at each row of bits, and where they are refused.
 
-use crate::fault::ExprFault;
-use crate::reading::read_expr;
 use cg_cell::name::Name;
+use cg_expression::fault::ExprFault;
+use cg_expression::reading::read_expr;
 use std::alloc::{AllocError, Global};
 use std::test::Fail;
 

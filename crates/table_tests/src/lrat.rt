@@ -2,10 +2,10 @@
 //!
 //! The answers were found by the rules of the formats, by hand and by a program in another language.
 
-use crate::checker::Checker;
-use crate::lrat::{LratFault, read_lrat, write_lrat};
-use crate::verdict::{Verdict, Why};
 use cg_formula::{DimacsFault, read_dimacs};
+use cg_lrat::checker::Checker;
+use cg_lrat::lrat::{LratFault, read_lrat, write_lrat};
+use cg_lrat::verdict::{Verdict, Why};
 use std::alloc::Global;
 use std::test::Fail;
 

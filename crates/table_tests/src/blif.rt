@@ -1,10 +1,9 @@
 //! Texts and what they are read as.
 
-use crate::{BlifFault, BlifOptions, read_blif};
+use cg_blif::{BlifFault, BlifOptions, read_blif};
 use cg_cell::library::Library;
 use cg_cell::name::Name;
 use std::alloc::{AllocError, Global};
-use std::process::Abort;
 use std::test::Fail;
 
 /// How many registers and nets the netlist of a text has, or the number of its line at fault behind a letter for the

@@ -2,8 +2,8 @@
 
 mod functions;
 
-use crate::list::Aig;
-use crate::lit::AigLit;
+use cg_aig::list::Aig;
+use cg_aig::lit::AigLit;
 
 /// An operation on three operands, of which all but `Mux` take the first two.
 #[derive(Clone, Copy, Debug)]

@@ -1,9 +1,9 @@
 //! Texts with what is read of them.
 
-use crate::blanks::Blanks;
-use crate::lines::{Comments, Layout, Lines};
-use crate::number::{Number, push_number, read_number};
-use crate::tokens::Tokens;
+use cg_text::blanks::Blanks;
+use cg_text::lines::{Comments, Layout, Lines};
+use cg_text::number::{Number, push_number, read_number};
+use cg_text::tokens::Tokens;
 use std::alloc::{AllocError, Global};
 use std::test::Fail;
 

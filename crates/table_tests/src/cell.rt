@@ -4,12 +4,12 @@ ghost use Rattle.std.specs.Prelude.{◌≡◌, IfOk, IfSome};
 ghost use Rattle.std.specs.List.{AllByRecursion};
 ghost use Rattle.cg_cell.specs.Cover.{CoverFits};
 
-use crate::cell::{CellKind, CellType, Pin, Role};
-use crate::cover::{Cover, CoverRow};
-use crate::expr::Expr;
-use crate::fit::FitKind;
-use crate::library::{Library, LibraryFault};
-use crate::name::Name;
+use cg_cell::cell::{CellKind, CellType, Pin, Role};
+use cg_cell::cover::{Cover, CoverRow};
+use cg_cell::expr::Expr;
+use cg_cell::fit::FitKind;
+use cg_cell::library::{Library, LibraryFault};
+use cg_cell::name::Name;
 use cg_limit::Limit;
 use std::alloc::{AllocError, Global};
 use std::test::Fail;

@@ -1,11 +1,11 @@
 //! Texts and what they are read as.
 
-use crate::fault::LibertyFault;
-use crate::library::read_library;
 use cg_cell::cell::{CellKind, CellType, Role};
 use cg_cell::fit::FitKind;
 use cg_cell::library::Library;
 use cg_cell::name::Name;
+use cg_liberty::fault::LibertyFault;
+use cg_liberty::library::read_library;
 use cg_limit::Limit;
 use std::alloc::{AllocError, Global};
 use std::test::Fail;

@@ -3,13 +3,13 @@
 ghost use Rattle.std.specs.Prelude.{◌≡◌, IfOk};
 ghost use Rattle.cg_stimulus.specs.Inputs.{IsFor};
 
-use crate::edge_count::EdgeCount;
-use crate::edges::{count_edges, watch_edges};
-use crate::toggle_count::ToggleCount;
-use crate::watched_rows::push_watched_rows;
-use crate::watcher::Watcher;
 use cg_builder::builder::Builder;
 use cg_netlist::netlist::Netlist;
+use cg_report::edge_count::EdgeCount;
+use cg_report::edges::{count_edges, watch_edges};
+use cg_report::toggle_count::ToggleCount;
+use cg_report::watched_rows::push_watched_rows;
+use cg_report::watcher::Watcher;
 use cg_stimulus::stimulus::Stimulus;
 use cg_text::number::push_number;
 use std::alloc::Global;

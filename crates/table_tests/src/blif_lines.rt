@@ -259,14 +259,20 @@ fn registers_and_clocks(rt: HostRuntime) -> Result<(), Fail> {
         (".latch d q re c x\n", "latch 1"),
         (".latch d q re c 0 0\n", "latch 1"),
         // `NIL` is the clock of the netlist, also where a net has this name
-        (".inputs NIL c d\n.latch d q re NIL\n.latch d p re c\n", "2 of 5"),
+        (
+            ".inputs NIL c d\n.latch d q re NIL\n.latch d p re c\n",
+            "2 of 5",
+        ),
         // a clock is given once or more, and may be an input; none is taken that no line names
         (".inputs c d\n.clock c\n.clock c\n.latch d q\n", "1 of 3"),
         (".clock c d\n", "clock d"),
         (".clock c\n.outputs c\n", "clock c"),
         (".inputs a c1 c2\n.outputs q\n.latch a q 0\n", "no clock"),
         (".inputs d\n.latch d q re c\n", "clock c"),
-        (".inputs d c1 c2\n.latch d q re c2\n.latch d p re c1\n", "clock c2"),
+        (
+            ".inputs d c1 c2\n.latch d q re c2\n.latch d p re c1\n",
+            "clock c2",
+        ),
         (".inputs d\n.clock c\n.names d c\n1 1\n", "two drivers c"),
     ];
     let library = Library::new(alloc);
@@ -312,9 +318,18 @@ fn placed_cells(rt: HostRuntime) -> Result<(), Fail> {
         (".inputs c d\n.gate DFF D=d CK=c Q=q\n", "1 of 3"),
         (".inputs c d\n.gate DFF QN=n CK=c D=d\n", "1 of 3"),
         (".inputs c d\n.gate DFF D=d CK=c Q=q QN=n\n", "1 of 4"),
-        (".inputs c e d\n.gate ICG CK=c E=e GCK=g\n.latch d q re g\n", "1 of 5"),
-        (".inputs c e s d\n.gate ICGT CK=c E=e SE=s GCK=g\n.latch d q re g\n", "1 of 6"),
-        (".inputs c e f d\n.gate ICG CK=g E=f GCK=h\n.gate ICG CK=c E=e GCK=g\n.latch d q re h\n", "1 of 7"),
+        (
+            ".inputs c e d\n.gate ICG CK=c E=e GCK=g\n.latch d q re g\n",
+            "1 of 5",
+        ),
+        (
+            ".inputs c e s d\n.gate ICGT CK=c E=e SE=s GCK=g\n.latch d q re g\n",
+            "1 of 6",
+        ),
+        (
+            ".inputs c e f d\n.gate ICG CK=g E=f GCK=h\n.gate ICG CK=c E=e GCK=g\n.latch d q re h\n",
+            "1 of 7",
+        ),
         // which fault comes first at a line
         (".gate\n", "line 1"),
         (".gate NONE\n", "unknown 1"),
@@ -338,13 +353,22 @@ fn placed_cells(rt: HostRuntime) -> Result<(), Fail> {
         (".gate ICGT CK=c E=e GCK=g\n", "pin 1"),
         // a cell mentions its nets in the order of its pins, not in that of its words
         (".gate AND2 Y=y B=b A=a\n", "no driver a"),
-        (".inputs c d\n.gate DFF QN=q Q=q CK=c D=d\n", "two drivers q"),
+        (
+            ".inputs c d\n.gate DFF QN=q Q=q CK=c D=d\n",
+            "two drivers q",
+        ),
         // chains of gating cells begin at the clock, and nothing else reads what carries it
         (".inputs e\n.gate ICG CK=g E=e GCK=g\n", "clock g"),
         (".inputs c\n.gate ICG CK=c E=c GCK=g\n", "clock c"),
         (".inputs c e\n.gate ICGT CK=c E=e SE=c GCK=g\n", "clock c"),
-        (".inputs c e\n.gate ICG CK=c E=e GCK=g\n.outputs g\n", "clock g"),
-        (".inputs c e\n.gate ICGT CK=c E=e SE=s GCK=g\n", "no driver s"),
+        (
+            ".inputs c e\n.gate ICG CK=c E=e GCK=g\n.outputs g\n",
+            "clock g",
+        ),
+        (
+            ".inputs c e\n.gate ICGT CK=c E=e SE=s GCK=g\n",
+            "no driver s",
+        ),
     ];
     let library = match read_library(alloc, CELLS.as_bytes()) {
         Ok(library) => library,

@@ -12,6 +12,7 @@ ghost use Rattle.cg_lists.specs.Literals.{FitsIdle, both_literals};
 ghost use Rattle.cg_netlist.specs.declared.fault.AddFault.TheVariants.{NoMemory};
 
 use crate::chosen::{Chosen, place_of};
+use crate::progress::Progress;
 use cg_list::Seq;
 use cg_lists::idle::Idle;
 use cg_machine::machine::Machine;
@@ -39,17 +40,20 @@ pub struct HoldFound {
 ///
 /// It is refused by `Limit(ClaimNodes)` exactly where the hold claim of a literal that is looked at has more than 65,536
 /// leaves and and-nodes.
+///
+/// Of each register `progress` is told before it is looked at.
 pub fn candidates(
     alloc: Global,
     machine: &Machine,
     width: u32,
     idle: Option<&Idle<'_>>,
+    progress: &mut dyn Progress,
 ) -> Result<HoldFound, AddFault>
     requires { FitsIdle machine.now (option_copied idle) }
     ensures answer { OrNoMemory NoMemory (λ found. found) result (hold_answer machine.now (option_copied idle.entry) width) }
 {
     let _netlist = machine.netlist();
-    let chosen = Chosen::of(alloc, machine, width, idle)?;
+    let chosen = Chosen::of(alloc, machine, width, idle, progress)?;
     let wide = chosen.wide;
     match stages(alloc, machine.nets(), &chosen.lists) {
         Ok(stages) => Ok(HoldFound { stages, wide }),

@@ -14,6 +14,7 @@ ghost use Rattle.cg_netlist.specs.declared.fault.AddFault.TheVariants.{Limit as 
 
 use crate::choice::{Choice, choose};
 use crate::cycles::Cycles;
+use crate::progress::Progress;
 use crate::trial::Trier;
 use cg_list::Seq;
 use cg_lists::idle::Idle;
@@ -40,6 +41,7 @@ impl Chosen {
         machine: &Machine,
         width: u32,
         idle: Option<&Idle<'_>>,
+        progress: &mut dyn Progress,
     ) -> Result<Chosen, AddFault>
         requires { FitsIdle machine.now (option_copied idle) }
         ensures chosen { IfOk result
@@ -55,13 +57,13 @@ impl Chosen {
             return Err(AddFault::NoMemory);
         };
         let mut trier = Trier::new(alloc);
-        match chosen.look_at_all(alloc, &mut trier, machine, &cycles, width, idle) {
+        match chosen.look_at_all(alloc, &mut trier, machine, &cycles, width, idle, progress) {
             Ok(()) => Ok(chosen),
             Err(fault) => Err(fault),
         }
     }
 
-    /// Looks at all registers of a machine's netlist.
+    /// Looks at all registers of a machine's netlist, and tells of each.
     fn look_at_all(
         &mut self,
         alloc: Global,
@@ -70,6 +72,7 @@ impl Chosen {
         cycles: &Cycles,
         width: u32,
         idle: Option<&Idle<'_>>,
+        progress: &mut dyn Progress,
     ) -> Result<(), AddFault>
         requires idle { FitsIdle machine.now (option_copied idle) }
         requires cycles { AreCycles machine.now cycles.now.cycles }
@@ -80,7 +83,7 @@ impl Chosen {
     {
         let netlist = machine.netlist();
         for reg in 0..netlist.registers() {
-            if let Err(fault) = self.look(
+            if let Err(fault) = self.look_told(
                 alloc,
                 trier,
                 machine,
@@ -88,6 +91,7 @@ impl Chosen {
                 RegId::new(reg),
                 width,
                 idle,
+                progress,
             ) {
                 return Err(fault);
             }
@@ -106,6 +110,32 @@ impl Chosen {
             lists.push(Seq::new(alloc))?;
         }
         Ok(Chosen { lists, wide: 0 })
+    }
+
+    /// Looks at one register, and tells of it before.
+    fn look_told(
+        &mut self,
+        alloc: Global,
+        trier: &mut Trier,
+        machine: &Machine,
+        cycles: &Cycles,
+        reg: RegId,
+        width: u32,
+        idle: Option<&Idle<'_>>,
+        progress: &mut dyn Progress,
+    ) -> Result<(), AddFault>
+        requires register { reg < machine.now.own_registers }
+        requires idle { FitsIdle machine.now (option_copied idle) }
+        requires cycles { AreCycles machine.now cycles.now.cycles }
+        requires chosen { AreChosen machine.now (option_copied idle) width reg self.old.lists.items self.old.wide }
+        ensures chosen { OnOk result (AreChosen machine.now (option_copied idle.entry) width (reg + 1) self.new.lists.items self.new.wide) }
+        ensures refused { IfErr result
+            (λ fault. (fault ≡ NoMemory) ⊎ ((fault ≡ LimitFault ClaimNodes)
+            × ((is_none (enable_of machine.now reg) ≡ true) × (passes_at machine.now (option_copied idle.entry) width reg ≡ true)))) }
+    {
+        let registers = machine.netlist().registers();
+        progress.looking(reg.number() as usize + 1, registers as usize);
+        self.look(alloc, trier, machine, cycles, reg, width, idle)
     }
 
     /// Looks at one register.

@@ -12,6 +12,7 @@
 //! - `choice`: the literal that a register takes.
 //! - `chosen`: the registers that took each literal.
 //! - `candidates`: the hold stages.
+//! - `progress`: who is told how far long work is, this and that of the crates above.
 #![tactic(auto)]
 
 pub mod candidates;
@@ -20,4 +21,5 @@ mod chosen;
 mod cycles;
 mod known;
 mod literals;
+pub mod progress;
 mod trial;

@@ -9,8 +9,8 @@ ghost use Rattle.cg_stage.specs.Stages.{Fits};
 
 use crate::earlier::earlier_of;
 use crate::judge::Judge;
-use crate::progress::Progress;
 use cg_cell::library::Library;
+use cg_hold::progress::Progress;
 use cg_list::Seq;
 use cg_machine::machine::Machine;
 use cg_machine::stage::{Earlier, Stage, StageKind};
@@ -60,25 +60,8 @@ impl Draft {
         }
     }
 
-    /// Tries all parts, and tells when that ends, whatever comes of it.
-    pub fn try_parts(
-        &mut self,
-        holds: Seq<Stage>,
-        library: &Library,
-        settings: &Settings,
-        progress: &mut dyn Progress,
-    ) -> Result<(), AddFault>
-        requires { AllFit self.old.machine holds }
-        ensures leads { OnOk result (Leads (all_parts library.now settings.now holds) self.old self.new) }
-        ensures fault { IfErr result (MayStop (all_parts library.now settings.now holds) self.old) }
-    {
-        let tried = self.try_each_part(holds, library, settings, progress);
-        progress.done();
-        tried
-    }
-
     /// Tries the hold stages, then what the rounds of stability find, and then what those of unobservability find.
-    fn try_each_part(
+    pub fn try_parts(
         &mut self,
         holds: Seq<Stage>,
         library: &Library,

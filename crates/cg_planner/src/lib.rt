@@ -17,7 +17,6 @@
 //! - `earlier`: stages that were tried, as later rounds see them.
 //! - `draft`: a plan in the making.
 //! - `plan`: the plan of a machine.
-//! - `progress`: who is told how far a plan is.
 #![tactic(auto)]
 
 mod cells;
@@ -29,6 +28,8 @@ mod insert;
 mod judge;
 mod measure;
 pub mod plan;
-pub mod progress;
 mod sets;
 pub mod trial;
+
+/// Who is told how far a plan is.
+pub use cg_hold::progress;

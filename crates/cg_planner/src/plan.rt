@@ -8,9 +8,9 @@ ghost use Rattle.cg_plan.specs.Told.{IsPlan, PlanMayFail};
 ghost use Rattle.cg_planner.specs.Planning.{AreWritable, IsSafePlan, told};
 
 use crate::draft::Draft;
-use crate::progress::Progress;
 use cg_cell::library::Library;
 use cg_hold::candidates::candidates;
+use cg_hold::progress::Progress;
 use cg_list::Seq;
 use cg_lists::idle::Idle;
 use cg_machine::machine::Machine;
@@ -43,7 +43,8 @@ pub struct Plan {
 ///
 /// The counts are one number for each net of the machine, none above the number of rows.
 ///
-/// Of each stage `progress` is told before it is tried; and it is told when the trying ends, whatever ends it.
+/// Of each register that the search for hold stages looks at, and of each stage, `progress` is told before; and it is told when
+/// the planning ends, whatever ends it.
 ///
 /// It is refused where a stage would be, or a claim of a register and a literal that are looked at for the hold stages, by the
 /// limit that comes first in the order of the plan.
@@ -61,8 +62,28 @@ pub fn make_plan(
     ensures safe { IfOk result (λ plan. IsSafePlan library.now settings.now machine plan.machine) }
     ensures fault { IfErr result (PlanMayFail (plan_of library.now settings.now (option_copied idle.entry) machine).limit) }
 {
+    let plan = plan_told(alloc, machine, library, settings, idle, progress);
+    progress.done();
+    plan
+}
+
+/// The same, without telling that it ends.
+fn plan_told(
+    alloc: Global,
+    machine: Machine,
+    library: &Library,
+    settings: &Settings,
+    idle: Option<&Idle<'_>>,
+    progress: &mut dyn Progress,
+) -> Result<Plan, AddFault>
+    requires { FitsIdle machine (option_copied idle) }
+    ensures plan { IfOk result (λ plan. IsPlan library.now settings.now (option_copied idle.entry) machine (told plan)) }
+    ensures writable { IfOk result (λ plan. AreWritable plan.certificates) }
+    ensures safe { IfOk result (λ plan. IsSafePlan library.now settings.now machine plan.machine) }
+    ensures fault { IfErr result (PlanMayFail (plan_of library.now settings.now (option_copied idle.entry) machine).limit) }
+{
     let _netlist = machine.netlist();
-    let found = candidates(alloc, &machine, settings.width, idle)?;
+    let found = candidates(alloc, &machine, settings.width, idle, progress)?;
     let mut draft = Draft::new(alloc, machine);
     draft.try_parts(found.stages, library, settings, progress)?;
     Ok(Plan {

@@ -50,5 +50,8 @@ pub fn try_stage(
     ensures whole { IsMachine machine.new }
 {
     let mut judge = Judge::new(alloc);
-    judge.try_stage(machine, number, stage, library, settings, into)
+    let result = judge.try_stage(machine, number, stage, library, settings, into);
+    // By a call: its many parts would else be dropped step by step in each goal of this function.
+    drop(judge);
+    result
 }

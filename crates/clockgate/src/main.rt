@@ -3,7 +3,7 @@
 //! line of complaint where the words cannot be had.
 #![tactic(auto)]
 
-mod stage_line;
+mod progress_line;
 
 use cg_report::edge_count::EdgeCount;
 use cg_report::toggle_count::ToggleCount;
@@ -12,7 +12,7 @@ use cg_run::Status;
 use cg_run::closing::complain;
 use cg_shelf::{DirShelf, Shelf};
 use cg_tool::run;
-use stage_line::StageLine;
+use progress_line::ProgressLine;
 use std::alloc::AllocError;
 use std::io::{ErrorKind, IsTerminal};
 use std::process::ExitCode;
@@ -61,6 +61,6 @@ fn run_watched<S: Shelf>(
     let mut watchers: Vec<Box<dyn Watcher>> = Vec::new(alloc);
     watchers.push(Box::new(alloc, EdgeCount::new())?)?;
     watchers.push(Box::new(alloc, ToggleCount::new(alloc))?)?;
-    let mut line = StageLine::new(rt, rt.stderr().is_terminal());
+    let mut line = ProgressLine::new(rt, rt.stderr().is_terminal());
     Ok(run(alloc, words, shelf, watchers, &mut line))
 }

@@ -7,7 +7,7 @@ use Rattle.cg_hold.proofs.Taken.{answered}
 use Rattle.cg_hold.proofs.candidates.candidates.Goals as goal
 
 pub returns-in-Ok : goal.returns-in-Ok
-returns-in-Ok c =
+returns-in-Ok g c =
     let m = c.args.machine.now in
     let lists = c.in_ok-chosen.chosen.lists.items in
     record {

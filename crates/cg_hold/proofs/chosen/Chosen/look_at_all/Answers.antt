@@ -6,24 +6,24 @@ use Rattle.cg_hold.specs.inner.Choosing.{AreChosen}
 use Rattle.cg_hold.proofs.Taken.{refused_told}
 use Rattle.cg_hold.proofs.chosen.Chosen.look_at_all.Goals as goal
 
-pub look-requires-clause-register : goal.look-requires-clause-register
-look-requires-clause-register c =
+pub look_told-requires-clause-register : goal.look_told-requires-clause-register
+look_told-requires-clause-register g c =
     let m = c.args.machine.now in
     let count : c.registers-reg-end.result ≡ m.own_registers = c.registers-reg-end.ensures.count ∙ (ap (λ (n : Circuit). length n.registers) c.netlist-netlist.ensures.netlist ∙ own_count m c.netlist-netlist.ensures.machine) in
     omega (arith, count, c.new.ensures, c.loop-reg-test.true)
 
 pub returns-in-Err-clause-refused : goal.returns-in-Err-clause-refused
-returns-in-Err-clause-refused c =
+returns-in-Err-clause-refused g c =
     let m = c.args.machine.now in
     let count : c.registers-reg-end.result ≡ m.own_registers = c.registers-reg-end.ensures.count ∙ (ap (λ (n : Circuit). length n.registers) c.netlist-netlist.ensures.netlist ∙ own_count m c.netlist-netlist.ensures.machine) in
     refused_told m (option_copied c.args.idle) c.args.width c.new.result (omega (arith, count, c.new.ensures, c.loop-reg-test.true)) c.in-Err.fault c.in-Err.ensures.refused
 
 pub loop-reg-preserved : goal.loop-reg-preserved
-loop-reg-preserved c =
-    subst (λ n. AreChosen c.args.machine.now (option_copied c.args.idle) c.args.width (n + 1) c.look.new.self.lists.items c.look.new.self.wide) c.new.ensures c.in_default.ensures.chosen
+loop-reg-preserved g c =
+    subst (λ n. AreChosen c.args.machine.now (option_copied c.args.idle) c.args.width (n + 1) c.look_told.new.self.lists.items c.look_told.new.self.wide) c.new.ensures c.in_default.ensures.chosen
 
 pub returns-clause-chosen : goal.returns-clause-chosen
-returns-clause-chosen c =
+returns-clause-chosen g c =
     let m = c.args.machine.now in
     let count : c.registers-reg-end.result ≡ m.own_registers = c.registers-reg-end.ensures.count ∙ (ap (λ (n : Circuit). length n.registers) c.netlist-netlist.ensures.netlist ∙ own_count m c.netlist-netlist.ensures.machine) in
     let all : c.loop-reg.reg ≡ m.own_registers = omega (arith, count, c.loop-reg-test.false, c.loop-reg.auto.reg-end) in

@@ -5,7 +5,7 @@ use Rattle.cg_plan.specs.Told.{IsPlan}
 use Rattle.cg_plan.specs.declared.certificate.Certificate.{Certificate}
 use Rattle.cg_planner.specs.Planning.{AreWritable}
 use Rattle.cg_planner.proofs.Planned.{hold_fails, hold_found, holds_fit, is_plan, is_safe, plan_fails, whole_draft}
-use Rattle.cg_planner.proofs.plan.make_plan.Goals as goal
+use Rattle.cg_planner.proofs.plan.plan_told.Goals as goal
 
 pub try_parts-requires : goal.try_parts-requires
 try_parts-requires g c =

@@ -7,7 +7,7 @@ use std::time::{Clock, Duration, Instant};
 ///
 /// It is written ten times a second at most, and not in the first tenth of a second.
 #[derive(Drop)]
-pub struct StageLine<R: Clock + Eprint> {
+pub struct ProgressLine<R: Clock + Eprint> {
     rt: R,
 
     /// When it was written last, or made; none where it is never to be written.
@@ -17,15 +17,15 @@ pub struct StageLine<R: Clock + Eprint> {
     stands: bool,
 }
 
-impl<R: Clock + Eprint> StageLine<R> {
+impl<R: Clock + Eprint> ProgressLine<R> {
     /// Nothing is written yet, and nothing ever where standard error is no terminal.
-    pub fn new(rt: R, is_terminal: bool) -> StageLine<R> {
+    pub fn new(rt: R, is_terminal: bool) -> ProgressLine<R> {
         let written = if is_terminal {
             Instant::now(&rt).ok()
         } else {
             None
         };
-        StageLine {
+        ProgressLine {
             rt,
             written,
             stands: false,
@@ -46,14 +46,23 @@ impl<R: Clock + Eprint> StageLine<R> {
         self.written = Some(now);
         true
     }
-}
 
-impl<R: Clock + Eprint> Progress for StageLine<R> {
-    fn trying(&mut self, stage: usize, listed: usize) {
+    /// Shows the thing that it is at, by its number of so many, over all of the line that stands, which may be longer.
+    fn show(&mut self, thing: &str, number: usize, count: usize) {
         if self.is_due() {
             self.stands = true;
-            let _ = eprint!(self.rt; "\rstage {stage} of {listed}");
+            let _ = eprint!(self.rt; "\r{:40}\r{thing} {number} of {count}", "");
         }
+    }
+}
+
+impl<R: Clock + Eprint> Progress for ProgressLine<R> {
+    fn looking(&mut self, register: usize, registers: usize) {
+        self.show("register", register, registers);
+    }
+
+    fn trying(&mut self, stage: usize, listed: usize) {
+        self.show("stage", stage, listed);
     }
 
     fn done(&mut self) {

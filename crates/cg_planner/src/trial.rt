@@ -18,6 +18,7 @@ use cg_netlist::fault::AddFault;
 use cg_plan::certificate::Certificate;
 use cg_plan::outcome::Outcome;
 use cg_plan::settings::Settings;
+use cg_reach::fanout::Fanout;
 use std::alloc::Global;
 
 /// Tries a stage that fits the machine, as the stage of this number, and inserts it where it deserves it.
@@ -50,5 +51,6 @@ pub fn try_stage(
     ensures whole { IsMachine machine.new }
 {
     let mut judge = Judge::new(alloc);
-    judge.try_stage(machine, number, stage, library, settings, into)
+    let mut fanout = Fanout::new(alloc);
+    judge.try_stage(machine, &mut fanout, number, stage, library, settings, into)
 }

@@ -107,7 +107,7 @@ all_put m found (j ∷ ks) k cell x among at there input = elim (or_cases (nat_e
 
 -- and only such outputs
 module _ (m : MachineData) (test : ℕ → Bool)
-  (closed : (k : ℕ) (cell : LogicCell ℕ) (x : ℕ) → slice_get m.circuit.cells k ≡ Some cell → test x ≡ true → is_in cell.inputs x ≡ true → test cell.output ≡ true) where
+    (closed : (k : ℕ) (cell : LogicCell ℕ) (x : ℕ) → slice_get m.circuit.cells k ≡ Some cell → test x ≡ true → is_in cell.inputs x ≡ true → test cell.output ≡ true) where
   led_only : (found : List ℕ) (k : ℕ) → ((y : ℕ) → is_in found y ≡ true → test y ≡ true) → (y : ℕ) → is_in (led_by m found k) y ≡ true → test y ≡ true
   led_only found k only y among = go (slice_get m.circuit.cells k) refl among
     where

@@ -64,11 +64,7 @@ pub(crate) fn learn_registers(
 }
 
 /// Notes what a register reads: its inputs, and its enable.
-fn learn_register(
-    machine: &Machine,
-    reg: RegId,
-    readers: &mut Readers,
-) -> Result<(), AllocError>
+fn learn_register(machine: &Machine, reg: RegId, readers: &mut Readers) -> Result<(), AllocError>
     requires { reg < length machine.now.circuit.registers }
     ensures kept { OnOk result (Keeps readers.old readers.new) }
     ensures noted { OnOk result ((y : ℕ) → is_in (next_nets machine.now reg) y ≡ true → is_in (readers_at readers.new y) reg ≡ true) }
@@ -103,11 +99,7 @@ fn learn_enable(machine: &Machine, reg: RegId, readers: &mut Readers) -> Result<
 }
 
 /// Notes that these registers read a net.
-pub(crate) fn learn_net(
-    net: NetId,
-    regs: &[RegId],
-    readers: &mut Readers,
-) -> Result<(), AllocError>
+pub(crate) fn learn_net(net: NetId, regs: &[RegId], readers: &mut Readers) -> Result<(), AllocError>
     ensures { OnOk result ((y k : ℕ) → is_in (readers_at readers.new y) k ≡ (is_in (readers_at readers.old y) k || (nat_eq y net && is_in regs.now k))) }
 {
     for reg in regs {

@@ -38,11 +38,7 @@ pub(crate) fn spread(
 }
 
 /// Finds the nets too that show the bits of these registers.
-fn find_shown(
-    machine: &Machine,
-    regs: &[RegId],
-    found: &mut FoundNets,
-) -> Result<(), AllocError>
+fn find_shown(machine: &Machine, regs: &[RegId], found: &mut FoundNets) -> Result<(), AllocError>
     requires { All (λ r. r < length machine.now.circuit.registers) regs.now }
     ensures { OnOk result ((y : ℕ) → is_in found.new y ≡ (is_in found.old y || is_shown machine.now regs.now y)) }
 {
@@ -53,11 +49,7 @@ fn find_shown(
 }
 
 /// Finds the nets too that show the bit of a register.
-fn find_register(
-    machine: &Machine,
-    reg: RegId,
-    found: &mut FoundNets,
-) -> Result<(), AllocError>
+fn find_register(machine: &Machine, reg: RegId, found: &mut FoundNets) -> Result<(), AllocError>
     requires { reg < length machine.now.circuit.registers }
     ensures { OnOk result ((y : ℕ) → is_in found.new y ≡ (is_in found.old y || shows machine.now y reg)) }
 {
@@ -89,11 +81,7 @@ fn find_outputs(outputs: &[(NetId, bool)], found: &mut FoundNets) -> Result<(), 
 }
 
 /// Finds the outputs too of those of these cells that have an input among the nets found, one cell after another.
-fn lead_on(
-    machine: &Machine,
-    readers: &[u32],
-    found: &mut FoundNets,
-) -> Result<(), AllocError>
+fn lead_on(machine: &Machine, readers: &[u32], found: &mut FoundNets) -> Result<(), AllocError>
     ensures { OnOk result (found.new ≡ led_by_all machine.now found.old readers.now) }
 {
     for reader in readers {

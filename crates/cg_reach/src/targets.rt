@@ -117,12 +117,7 @@ fn push_registers_at(
 }
 
 /// Whether a number is a register of which the next bit asks for a net found, or for the bit of a register of the set.
-fn is_register_found(
-    machine: &Machine,
-    number: u32,
-    found: &FoundNets,
-    set: &IndexSet<u32>,
-) -> bool
+fn is_register_found(machine: &Machine, number: u32, found: &FoundNets, set: &IndexSet<u32>) -> bool
     ensures { result ≡ is_register_marked machine.now (is_in found.now) (is_in set.now.keys) number }
 {
     number < machine.registers()

@@ -5,9 +5,9 @@ use Rattle.std.specs.declared.vec.Vec.{Vec}
 use Rattle.cg_claim.specs.Targets.{unseen_targets}
 use Rattle.cg_claim.specs.declared.name.ClaimName.{ClaimName}
 use Rattle.cg_claim.specs.declared.name.ClaimName.TheVariants.{Hold, Stable}
-use Rattle.cg_machine.specs.Claims.{Literal, Target}
+use Rattle.cg_machine.specs.Claims.{Target}
 use Rattle.cg_planner.specs.inner.Naming.{AreNames}
-use Rattle.cg_planner.proofs.Naming.{hold_names, if_ok, nets_there, registers_there, stable_names, unseen_names}
+use Rattle.cg_planner.proofs.Naming.{hold_names, if_ok, registers_there, stable_names, unseen_names}
 use Rattle.cg_planner.proofs.claims.claim_names.Goals as goal
 
 pub unseen_targets-requires-clause-registers : goal.unseen_targets-requires-clause-registers

@@ -1,4 +1,4 @@
-use Rattle.std.proofs.Common.{◌≡◌, ◌<◌, ℕ, List, sym, ap, subst, arith}
+use Rattle.std.proofs.Common.{◌<◌, ℕ, List, sym, subst, arith}
 use Rattle.std.specs.List.{All}
 use Rattle.cg_machine.specs.Machine.{MachineData}
 use Rattle.cg_netlist.proofs.Members.{All-from_members}

@@ -3,6 +3,7 @@ pub mod Growing
 pub mod Planned
 pub mod Rounds
 pub mod Naming
+pub mod Noted
 pub mod Measuring
 pub mod Deciding
 pub mod Adding

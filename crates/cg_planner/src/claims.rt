@@ -3,6 +3,7 @@
 ghost use Rattle.std.specs.Prelude.{◌≡◌, ◌<◌, length, map, IfErr, IfOk, OnOk};
 ghost use Rattle.cg_claim.specs.declared.name.ClaimName.TheVariants.{Hold, Stable};
 ghost use Rattle.cg_planner.specs.inner.Naming.{AreNames, NameFits, question_of};
+ghost use Rattle.cg_reach.specs.Fanout.{Knows};
 ghost use Rattle.cg_stage.specs.Stages.{Fits, first_literal};
 ghost use Rattle.cg_unroll.specs.Claims.{IsClaim, IsRefused};
 
@@ -11,7 +12,7 @@ use cg_claim::name::ClaimName;
 use cg_machine::machine::Machine;
 use cg_machine::stage::{NetLit, Stage, StageKind};
 use cg_netlist::id::RegId;
-use cg_reach::targets::unseen_targets;
+use cg_reach::fanout::Fanout;
 use cg_unroll::claim::ClaimFault;
 use cg_unroll::unroller::Unroller;
 use std::alloc::{AllocError, Global};
@@ -21,17 +22,20 @@ use std::alloc::{AllocError, Global};
 pub(crate) fn claim_names(
     alloc: Global,
     machine: &Machine,
+    fanout: &mut Fanout,
     stage: &Stage,
 ) -> Result<Vec<ClaimName>, AllocError>
-    requires { Fits machine.now stage.now }
-    ensures { IfOk result (λ names. AreNames machine.now stage.now names.items) }
+    requires fits { Fits machine.now stage.now }
+    requires knows { Knows machine.now fanout.old }
+    ensures names { IfOk result (λ names. AreNames machine.now stage.now names.items) }
+    ensures knows { OnOk result (Knows machine.now fanout.new) }
 {
     let _netlist = machine.netlist();
     let regs = stage.regs.as_slice();
     match stage.kind {
         StageKind::Hold => hold_names(alloc, regs),
         StageKind::Stable => stable_names(alloc, regs),
-        StageKind::Unseen => unseen_targets(alloc, machine, stage.enable.as_slice(), regs),
+        StageKind::Unseen => fanout.unseen_targets(machine, stage.enable.as_slice(), regs),
     }
 }
 

@@ -5,6 +5,7 @@ ghost use Rattle.cg_lists.specs.Fit.{AllFit};
 ghost use Rattle.cg_netlist.specs.declared.fault.AddFault.TheVariants.{NoMemory};
 ghost use Rattle.cg_plan.specs.Plan.{rounds, try_all, try_one};
 ghost use Rattle.cg_planner.specs.inner.Drafting.{IsDraft, Leads, MayStop, StillFit, all_parts, kept, round_list, unbegun};
+ghost use Rattle.cg_reach.specs.Fanout.{Knows};
 ghost use Rattle.cg_stage.specs.Stages.{Fits};
 
 use crate::earlier::earlier_of;
@@ -19,6 +20,7 @@ use cg_odc::candidates as unobservability;
 use cg_plan::certificate::Certificate;
 use cg_plan::outcome::Outcome;
 use cg_plan::settings::Settings;
+use cg_reach::fanout::Fanout;
 use cg_stability::candidates as stability;
 use std::alloc::{AllocError, Global};
 
@@ -130,8 +132,10 @@ impl Draft {
         ensures fault { IfErr result (MayStop (λ p. try_all library.now settings.now p stages) self.old) }
     {
         let listed = self.stages.len().saturating_add(stages.len());
+        // What reads the nets is found once for all of them, and grown with the machine.
+        let mut fanout = Fanout::new(self.alloc);
         for stage in stages.into_vec() {
-            self.try_told(stage, listed, library, settings, progress)?;
+            self.try_told(stage, listed, &mut fanout, library, settings, progress)?;
         }
         Ok(())
     }
@@ -141,27 +145,33 @@ impl Draft {
         &mut self,
         stage: Stage,
         listed: usize,
+        fanout: &mut Fanout,
         library: &Library,
         settings: &Settings,
         progress: &mut dyn Progress,
     ) -> Result<(), AddFault>
-        requires { Fits self.old.machine stage }
+        requires fits { Fits self.old.machine stage }
+        requires knows { Knows self.old.machine fanout.old }
+        ensures knows { OnOk result (Knows self.new.machine fanout.new) }
         ensures leads { OnOk result (Leads (λ p. try_one library.now settings.now p stage) self.old self.new) }
         ensures fault { IfErr result (MayStop (λ p. try_one library.now settings.now p stage) self.old) }
         ensures rest { OnOk result (StillFit stage self.old.machine self.new.machine) }
     {
         progress.trying(self.stages.len().saturating_add(1), listed);
-        self.try_one(stage, library, settings)
+        self.try_one(stage, fanout, library, settings)
     }
 
     /// Tries a stage that fits.
     fn try_one(
         &mut self,
         stage: Stage,
+        fanout: &mut Fanout,
         library: &Library,
         settings: &Settings,
     ) -> Result<(), AddFault>
-        requires { Fits self.old.machine stage }
+        requires fits { Fits self.old.machine stage }
+        requires knows { Knows self.old.machine fanout.old }
+        ensures knows { OnOk result (Knows self.new.machine fanout.new) }
         ensures leads { OnOk result (Leads (λ p. try_one library.now settings.now p stage) self.old self.new) }
         ensures fault { IfErr result (MayStop (λ p. try_one library.now settings.now p stage) self.old) }
         ensures rest { OnOk result (StillFit stage self.old.machine self.new.machine) }
@@ -170,6 +180,7 @@ impl Draft {
         let number = self.next_number()?;
         let outcome = self.judge.try_stage(
             &mut self.machine,
+            fanout,
             number,
             &stage,
             library,

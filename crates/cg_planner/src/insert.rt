@@ -8,6 +8,7 @@ ghost use Rattle.cg_machine.specs.Extends.{Extends, GateFits};
 ghost use Rattle.cg_machine.specs.Machine.{IsMachine, IsNet};
 ghost use Rattle.cg_netlist.specs.Circuit.{is_in};
 ghost use Rattle.cg_planner.specs.inner.Inserting.{AddsNet, Keeps, MayPass, delayed_limit, literal_limit};
+ghost use Rattle.cg_reach.specs.Fanout.{Knows};
 ghost use Rattle.cg_stage.specs.Effects.{delayed, effect, limit_by, literal_net, net_by, with_own};
 ghost use Rattle.cg_stage.specs.Joined.{enabled, join, join_all, join_all_limit, join_limit};
 ghost use Rattle.cg_stage.specs.Stages.{Fits, enable_nets};
@@ -18,18 +19,32 @@ use cg_machine::machine::Machine;
 use cg_machine::stage::{NetLit, Stage, StageKind};
 use cg_netlist::fault::AddFault;
 use cg_netlist::id::{NetId, RegId};
+use cg_reach::fanout::Fanout;
 
-/// Adds what a stage adds, and gives its registers the enable. No register gets it before all is added.
-pub(crate) fn insert(machine: &mut Machine, stage: &Stage) -> Result<(), AddFault>
-    requires { Fits machine.old stage.now }
+/// Adds what a stage adds, and gives its registers the enable, which what reads the nets is told of before. No register gets
+/// it before all is added.
+pub(crate) fn insert(
+    machine: &mut Machine,
+    fanout: &mut Fanout,
+    stage: &Stage,
+) -> Result<(), AddFault>
+    requires fits { Fits machine.old stage.now }
+    requires knows { Knows machine.old fanout.old }
     ensures effect { OnOk result (machine.new ≡ effect machine.old stage.now) }
     ensures room { OnOk result (limit_by stage.now.kind machine.old stage.now ≡ None) }
     ensures fault { IfErr result (MayPass (limit_by stage.now.kind machine.old stage.now)) }
     ensures kept { OnErr result (Extends machine.old machine.new) }
+    ensures knows { OnOk result (Knows machine.new fanout.new) }
 {
     let net = add_net(machine, stage)?;
-    give_enable(machine, stage.regs.as_slice(), net);
-    Ok(())
+    let regs = stage.regs.as_slice();
+    match fanout.note_enable(net, regs) {
+        Ok(()) => {
+            give_enable(machine, regs, net);
+            Ok(())
+        }
+        Err(_) => Err(AddFault::NoMemory),
+    }
 }
 
 /// Gives registers this net as their enable.

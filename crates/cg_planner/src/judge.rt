@@ -13,6 +13,7 @@ ghost use Rattle.cg_planner.specs.Trial.{WhereInserted};
 ghost use Rattle.cg_planner.specs.inner.Deciding.{Grow};
 ghost use Rattle.cg_planner.specs.inner.Judging.{Certifying, IsJudged, Pushes};
 ghost use Rattle.cg_planner.specs.inner.Naming.{AreNames};
+ghost use Rattle.cg_reach.specs.Fanout.{Knows};
 ghost use Rattle.cg_stage.specs.Stages.{Fits};
 
 use crate::cells::early_end;
@@ -30,6 +31,7 @@ use cg_plan::certificate::Certificate;
 use cg_plan::laws::plan_laws;
 use cg_plan::outcome::Outcome;
 use cg_plan::settings::Settings;
+use cg_reach::fanout::Fanout;
 use cg_unroll::unroller::Unroller;
 use std::alloc::Global;
 
@@ -55,18 +57,21 @@ impl Judge {
     pub fn try_stage(
         &mut self,
         machine: &mut Machine,
+        fanout: &mut Fanout,
         number: u32,
         stage: &Stage,
         library: &Library,
         settings: &Settings,
         into: &mut Vec<Certificate>,
     ) -> Result<Outcome, AddFault>
-        requires { Fits machine.old stage.now }
+        requires fits { Fits machine.old stage.now }
+        requires knows { Knows machine.old fanout.old }
         ensures outcome { IfOk result (λ outcome. TellsOutcome machine.old stage.now (tried library.now settings.now machine.old stage.now) outcome) }
         ensures machine { IfOk result (λ outcome. machine.new ≡ after_outcome machine.old stage.now outcome) }
         ensures safe { IfOk result (λ outcome. WhereInserted machine.old stage.now outcome machine.new) }
         ensures certificates { IfOk result (λ outcome. AreAppended (claims_for number machine.old stage.now outcome) into.old.items into.new.items) }
         ensures writable { OnOk result (StayWritable into.old.items into.new.items) }
+        ensures knows { OnOk result (Knows machine.new fanout.new) }
         ensures fault { IfErr result (MayFail (tried library.now settings.now machine.old stage.now)) }
         ensures kept { OnErr result (Extends machine.old machine.new) }
         ensures unchanged { OnErr result (into.new.items ≡ into.old.items) }
@@ -75,7 +80,7 @@ impl Judge {
         plan_laws();
         let _before = machine.netlist();
         let count = into.len();
-        let result = self.try_pushing(machine, number, stage, library, settings, into);
+        let result = self.try_pushing(machine, fanout, number, stage, library, settings, into);
         let _after = machine.netlist();
         match result {
             Ok(outcome) => {
@@ -96,23 +101,26 @@ impl Judge {
     fn try_pushing(
         &mut self,
         machine: &mut Machine,
+        fanout: &mut Fanout,
         number: u32,
         stage: &Stage,
         library: &Library,
         settings: &Settings,
         into: &mut Vec<Certificate>,
     ) -> Result<Outcome, AddFault>
-        requires { Fits machine.old stage.now }
+        requires fits { Fits machine.old stage.now }
+        requires knows { Knows machine.old fanout.old }
         ensures outcome { IfOk result (λ outcome. TellsOutcome machine.old stage.now (tried library.now settings.now machine.old stage.now) outcome) }
         ensures machine { IfOk result (λ outcome. machine.new ≡ after_outcome machine.old stage.now outcome) }
         ensures certificates { IfOk result (Pushes machine.old number stage.now into.old.items into.new.items) }
+        ensures knows { OnOk result (Knows machine.new fanout.new) }
         ensures fault { IfErr result (MayFail (tried library.now settings.now machine.old stage.now)) }
         ensures kept { OnErr result (Extends machine.old machine.new) }
         ensures grown { Grow into.old.items into.new.items }
     {
         match early_end(stage, library, settings) {
             Some(outcome) => Ok(outcome),
-            None => self.try_claims(machine, number, stage, settings.width, into),
+            None => self.try_claims(machine, fanout, number, stage, settings.width, into),
         }
     }
 
@@ -120,23 +128,26 @@ impl Judge {
     fn try_claims(
         &mut self,
         machine: &mut Machine,
+        fanout: &mut Fanout,
         number: u32,
         stage: &Stage,
         width: u32,
         into: &mut Vec<Certificate>,
     ) -> Result<Outcome, AddFault>
-        requires { Fits machine.old stage.now }
+        requires fits { Fits machine.old stage.now }
+        requires knows { Knows machine.old fanout.old }
         ensures outcome { IfOk result (λ outcome. TellsOutcome machine.old stage.now
             (measured machine.old width (all_claims machine.old stage.now) (decided machine.old stage.now)) outcome) }
         ensures machine { IfOk result (λ outcome. machine.new ≡ after_outcome machine.old stage.now outcome) }
         ensures certificates { IfOk result (Pushes machine.old number stage.now into.old.items into.new.items) }
+        ensures knows { OnOk result (Knows machine.new fanout.new) }
         ensures fault { IfErr result (MayFail (measured machine.old width (all_claims machine.old stage.now) (decided machine.old stage.now))) }
         ensures kept { OnErr result (Extends machine.old machine.new) }
         ensures grown { Grow into.old.items into.new.items }
     {
-        match self.judge_claims(machine, number, stage, width, into) {
+        match self.judge_claims(machine, fanout, number, stage, width, into) {
             Ok(Some(outcome)) => Ok(outcome),
-            Ok(None) => match insert(machine, stage) {
+            Ok(None) => match insert(machine, fanout, stage) {
                 Ok(()) => Ok(Outcome::Inserted),
                 Err(fault) => Err(fault),
             },
@@ -148,19 +159,22 @@ impl Judge {
     fn judge_claims(
         &mut self,
         machine: &Machine,
+        fanout: &mut Fanout,
         number: u32,
         stage: &Stage,
         width: u32,
         into: &mut Vec<Certificate>,
     ) -> Result<Option<Outcome>, AddFault>
-        requires { Fits machine.now stage.now }
+        requires fits { Fits machine.now stage.now }
+        requires knows { Knows machine.now fanout.old }
         ensures judged { IfOk result
             (IsJudged machine.now stage.now (measured machine.now width (all_claims machine.now stage.now) (decided machine.now stage.now))) }
         ensures certificates { IfOk result (Certifying machine.now number stage.now into.old.items into.new.items) }
+        ensures knows { OnOk result (Knows machine.now fanout.new) }
         ensures fault { IfErr result (MayFail (measured machine.now width (all_claims machine.now stage.now) (decided machine.now stage.now))) }
         ensures grown { Grow into.old.items into.new.items }
     {
-        let Ok(names) = claim_names(self.alloc, machine, stage) else {
+        let Ok(names) = claim_names(self.alloc, machine, fanout, stage) else {
             return Err(AddFault::NoMemory);
         };
         let Ok(sets) = StageSets::new(self.alloc, stage) else {

@@ -18,6 +18,7 @@ use cg_netlist::fault::AddFault;
 use cg_plan::certificate::Certificate;
 use cg_plan::outcome::Outcome;
 use cg_plan::settings::Settings;
+use cg_reach::fanout::Fanout;
 use std::alloc::Global;
 
 /// Tries a stage that fits the machine, as the stage of this number, and inserts it where it deserves it.
@@ -50,8 +51,10 @@ pub fn try_stage(
     ensures whole { IsMachine machine.new }
 {
     let mut judge = Judge::new(alloc);
-    let result = judge.try_stage(machine, number, stage, library, settings, into);
-    // By a call: its many parts would else be dropped step by step in each goal of this function.
+    let mut fanout = Fanout::new(alloc);
+    let result = judge.try_stage(machine, &mut fanout, number, stage, library, settings, into);
+    // By calls: their many parts would else be dropped step by step in each goal of this function.
+    drop(fanout);
     drop(judge);
     result
 }

@@ -1,11 +1,12 @@
 pub mod ConesFound
 pub mod Filtering
+pub mod Leading
 pub mod LeavesReached
 pub mod Marking
+pub mod Noting
 pub mod OwnRegisters
 pub mod RisingInputs
 pub mod RootsThere
 pub mod SpreadCones
 pub mod StatesReached
 pub mod Targeting
-pub mod Walking

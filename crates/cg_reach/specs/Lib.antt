@@ -1,4 +1,5 @@
 pub mod Asking
+pub mod Fanout
 pub mod Reached
 pub mod Unseen
 pub mod inner

@@ -13,18 +13,28 @@
 //! - `named`: the registers that it says something of, as sets.
 //! - `unseen`: the registers of unobservability claims.
 //! - `reached`: what it reaches.
-//! - `walk`: the logic cells and added gates of a machine, in walk order.
+//! - `fanout`: what reads the nets of a machine, and with that where registers may show.
+//! - `tables`: the readers of its nets, grown with the machine.
+//! - `learn`: these readers, noted one part after another.
+//! - `readers`: the readers of each net, as lists.
+//! - `cells`: the logic cells and added gates of a machine, by their numbers.
 //! - `spread`: the nets at which registers can show.
-//! - `targets`: where registers may show.
+//! - `found`: nets that were found, with marks.
+//! - `targets`: the targets that show these nets, by their names.
 #![tactic(auto)]
 
 pub mod asked;
+mod cells;
+pub mod fanout;
+mod found;
+mod learn;
 mod leaves;
 mod named;
 pub mod reached;
+mod readers;
 mod roots;
 mod sources;
 mod spread;
-pub mod targets;
+mod tables;
+mod targets;
 pub mod unseen;
-mod walk;

@@ -60,7 +60,7 @@ fn regs_of(alloc: Global, numbers: &[u32]) -> Result<Vec<RegId>, AllocError>
 }
 
 /// Puts these registers behind the numbers.
-fn push_all(regs: &[RegId], numbers: &mut Vec<u32>) -> Result<(), AllocError>
+pub(crate) fn push_all(regs: &[RegId], numbers: &mut Vec<u32>) -> Result<(), AllocError>
     ensures { OnOk result (numbers.new.items ≡ numbers.old.items ++ regs.now) }
 {
     for reg in regs {

@@ -1,152 +1,217 @@
-//! Where registers may show.
+//! Where registers may show, as names of targets.
 
-ghost use Rattle.std.specs.Prelude.{◌≡◌, ◌<◌, ◌++◌, ◌∷◌, [], false, if◌then◌else◌, length, map, slice_index_or, IfOk, OnOk};
-ghost use Rattle.std.specs.List.{All, filter, list_any};
+ghost use Rattle.std.specs.Prelude.{◌≡◌, ◌<◌, ◌++◌, ◌∷◌, [], ℕ, if◌then◌else◌, length, map, IfOk, OnOk};
+ghost use Rattle.std.specs.List.{filter, list_any, range_with_len};
 ghost use Rattle.std.specs.Option.{option_to_list};
 ghost use Rattle.cg_machine.specs.Machine.{enable_of};
 ghost use Rattle.cg_claim.specs.Reach.{inputs_of_register, registers_of};
-ghost use Rattle.cg_claim.specs.Targets.{unseen_targets};
-ghost use Rattle.cg_claim.specs.declared.name.ClaimName.TheVariants.{Enable, Next};
+ghost use Rattle.cg_claim.specs.declared.name.ClaimName.TheVariants.{Next, Output};
 ghost use Rattle.cg_netlist.specs.Circuit.{is_in};
-ghost use Rattle.cg_reach.specs.inner.Spreading.{is_next_marked, marked_outputs};
+ghost use Rattle.cg_reach.specs.inner.Spreading.{AreOutputReaders, AreRegisterReaders, is_next_marked, is_output_marked};
+ghost use Rattle.cg_reach.specs.inner.Spreading.{is_register_marked};
 
-use crate::sources::{asks_own, set_of};
-use crate::spread::{is_any_marked, spread};
+use crate::found::FoundNets;
+use crate::readers::Readers;
+use crate::sources::{asks_own, push_all};
+use crate::spread::is_any_found;
 use cg_claim::name::ClaimName;
 use cg_machine::machine::Machine;
 use cg_machine::stage::NetLit;
+use cg_netlist::ascending::ascending;
 use cg_netlist::id::RegId;
 use indexmap::IndexSet;
 use std::alloc::{AllocError, Global};
 
-/// The names of the targets that have one of these registers in their cone, in order: outputs, next bits of registers, and
-/// the joined enable. The others cannot show the registers.
-///
-/// It costs one walk over the machine, whatever the number of registers and targets.
-pub fn unseen_targets(
+/// The outputs that stand at nets found, in order, by the readers of these nets.
+pub(crate) fn outputs_found(
     alloc: Global,
     machine: &Machine,
-    enables: &[NetLit],
-    regs: &[RegId],
-) -> Result<Vec<ClaimName>, AllocError>
-    requires nets { All (λ l. l.0 < length machine.now.circuit.names) enables.now }
-    requires registers { All (λ r. r < length machine.now.circuit.registers) regs.now }
-    ensures { IfOk result (λ names. names.items ≡ map (λ t. t.0) (unseen_targets machine.now enables.now regs.now)) }
+    readers: &Readers,
+    found: &FoundNets,
+) -> Result<Vec<u32>, AllocError>
+    requires { AreOutputReaders machine.now readers.now }
+    ensures { IfOk result (λ outputs. outputs.items ≡ filter (is_output_marked machine.now (is_in found.now)) (range_with_len 0 (length machine.now.circuit.outputs))) }
 {
-    let _netlist = machine.netlist();
-    let marks = spread(alloc, machine, regs)?;
-    let marked = marks.as_slice();
-    let set = set_of(alloc, regs)?;
-    let mut names = Vec::new(alloc);
-    push_outputs(machine, marked, &mut names)?;
-    push_registers(machine, marked, &set, &mut names)?;
-    let joined = is_joined_marked(enables, marked);
-    push_if(joined, ClaimName::Enable, &mut names)?;
-    Ok(names)
+    let mut numbers = Vec::new(alloc);
+    for place in 0..found.len() {
+        push_outputs_at(machine, readers.of(found.net(place)), found, &mut numbers)?;
+    }
+    Ok(ascending(numbers))
 }
 
-/// Puts the names of the outputs with a mark behind the others.
-fn push_outputs(
+/// Puts those of these outputs that stand at a net found behind the numbers.
+fn push_outputs_at(
     machine: &Machine,
-    marks: &[bool],
-    names: &mut Vec<ClaimName>,
+    readers: &[u32],
+    found: &FoundNets,
+    numbers: &mut Vec<u32>,
 ) -> Result<(), AllocError>
-    requires { length marks.now ≡ length machine.now.circuit.names }
-    ensures { OnOk result (names.new.items ≡ names.old.items ++ marked_outputs (λ y. slice_index_or marks.now y false) 0 machine.now.circuit.outputs) }
+    ensures { OnOk result (numbers.new.items ≡ numbers.old.items ++ filter (is_output_marked machine.now (is_in found.now)) readers.now) }
 {
-    let netlist = machine.netlist();
-    let outputs = netlist.outputs();
-    for k in 0..outputs.len() {
-        let net = outputs[k];
+    for reader in readers {
+        push_if(is_output_found(machine, *reader, found), *reader, numbers)?;
+    }
+    Ok(())
+}
+
+/// Whether an output stands at a net found.
+fn is_output_found(machine: &Machine, output: u32, found: &FoundNets) -> bool
+    ensures { result ≡ is_output_marked machine.now (is_in found.now) output }
+{
+    let outputs = machine.netlist().outputs();
+    match outputs.get(output as usize) {
+        Some(net) => found.contains(*net),
+        None => false,
+    }
+}
+
+/// The registers, in order, whose next bits ask for a net found, or for the bit of a register of the set, which has these
+/// registers; by the readers of the nets found.
+pub(crate) fn registers_found(
+    alloc: Global,
+    machine: &Machine,
+    readers: &Readers,
+    found: &FoundNets,
+    regs: &[RegId],
+    set: &IndexSet<u32>,
+) -> Result<Vec<u32>, AllocError>
+    requires readers { AreRegisterReaders machine.now readers.now }
+    requires set { (r : ℕ) → is_in regs.now r ≡ is_in set.now.keys r }
+    ensures { IfOk result (λ registers. registers.items ≡ filter (λ r. is_next_marked machine.now (is_in found.now) (is_in set.now.keys r) r) (registers_of machine.now)) }
+{
+    let mut own = Vec::new(alloc);
+    push_all(regs, &mut own)?;
+    let mut numbers = Vec::new(alloc);
+    push_registers_at(machine, &own, found, set, &mut numbers)?;
+    for place in 0..found.len() {
+        push_registers_at(
+            machine,
+            readers.of(found.net(place)),
+            found,
+            set,
+            &mut numbers,
+        )?;
+    }
+    Ok(ascending(numbers))
+}
+
+/// Puts those of these registers behind the numbers whose next bits ask for a net found, or for the bit of a register of the
+/// set.
+fn push_registers_at(
+    machine: &Machine,
+    readers: &[u32],
+    found: &FoundNets,
+    set: &IndexSet<u32>,
+    numbers: &mut Vec<u32>,
+) -> Result<(), AllocError>
+    ensures { OnOk result (numbers.new.items ≡ numbers.old.items ++ filter (is_register_marked machine.now (is_in found.now) (is_in set.now.keys)) readers.now) }
+{
+    for reader in readers {
         push_if(
-            marks[net.number() as usize],
-            ClaimName::Output(k as u32),
-            names,
+            is_register_found(machine, *reader, found, set),
+            *reader,
+            numbers,
         )?;
     }
     Ok(())
 }
 
-/// Puts the names of the next bits of registers behind the others that ask for a net with a mark, or for the bit of a
-/// register of the set.
-fn push_registers(
-    machine: &Machine,
-    marks: &[bool],
-    set: &IndexSet<u32>,
-    names: &mut Vec<ClaimName>,
-) -> Result<(), AllocError>
-    requires { length marks.now ≡ length machine.now.circuit.names }
-    ensures { OnOk result (names.new.items ≡ names.old.items ++ map Next
-        (filter (λ r. is_next_marked machine.now (λ y. slice_index_or marks.now y false) (is_in set.now.keys r) r) (registers_of machine.now))) }
+/// Whether a number is a register of which the next bit asks for a net found, or for the bit of a register of the set.
+fn is_register_found(machine: &Machine, number: u32, found: &FoundNets, set: &IndexSet<u32>) -> bool
+    ensures { result ≡ is_register_marked machine.now (is_in found.now) (is_in set.now.keys) number }
 {
-    let _netlist = machine.netlist();
-    for r in 0..machine.registers() {
-        let reg = RegId::new(r);
-        let marked = is_next_marked(machine, marks, set.contains(&reg.number()), reg);
-        push_if(marked, ClaimName::Next(reg), names)?;
-    }
-    Ok(())
+    number < machine.registers()
+        && is_next_found(machine, found, set.contains(&number), RegId::new(number))
 }
 
-/// Whether the next bit of a register asks for a net with a mark, or, where the register is inside, for its bit.
-fn is_next_marked(machine: &Machine, marks: &[bool], inside: bool, reg: RegId) -> bool
-    requires marks { length marks.now ≡ length machine.now.circuit.names }
-    requires register { reg < length machine.now.circuit.registers }
-    ensures { result ≡ is_next_marked machine.now (λ y. slice_index_or marks.now y false) inside reg }
+/// Whether the next bit of a register asks for a net found, or, where the register is inside, for its bit.
+fn is_next_found(machine: &Machine, found: &FoundNets, inside: bool, reg: RegId) -> bool
+    requires { reg < length machine.now.circuit.registers }
+    ensures { result ≡ is_next_marked machine.now (is_in found.now) inside reg }
 {
     let own = inside && asks_own(machine, reg);
-    let input = are_inputs_marked(machine, marks, reg);
-    let enable = is_enable_marked(machine, marks, reg);
+    let input = are_inputs_found(machine, found, reg);
+    let enable = is_enable_found(machine, found, reg);
     own | (input | enable)
 }
 
-/// Whether the enable of a register has a mark.
-fn is_enable_marked(machine: &Machine, marks: &[bool], reg: RegId) -> bool
-    requires marks { length marks.now ≡ length machine.now.circuit.names }
-    requires register { reg < length machine.now.circuit.registers }
-    ensures { result ≡ list_any (λ y. slice_index_or marks.now y false) (option_to_list (enable_of machine.now reg)) }
+/// Whether the enable of a register was found.
+fn is_enable_found(machine: &Machine, found: &FoundNets, reg: RegId) -> bool
+    requires { reg < length machine.now.circuit.registers }
+    ensures { result ≡ list_any (is_in found.now) (option_to_list (enable_of machine.now reg)) }
 {
-    let _netlist = machine.netlist();
     match machine.enable(reg) {
-        Some(enable) => marks[enable.number() as usize],
+        Some(enable) => found.contains(enable),
         None => false,
     }
 }
 
-/// Whether an input of a register has a mark.
-fn are_inputs_marked(machine: &Machine, marks: &[bool], reg: RegId) -> bool
-    requires marks { length marks.now ≡ length machine.now.circuit.names }
-    requires register { reg < length machine.now.circuit.registers }
-    ensures { result ≡ list_any (λ y. slice_index_or marks.now y false) (inputs_of_register machine.now reg) }
+/// Whether an input of a register was found.
+fn are_inputs_found(machine: &Machine, found: &FoundNets, reg: RegId) -> bool
+    requires { reg < length machine.now.circuit.registers }
+    ensures { result ≡ list_any (is_in found.now) (inputs_of_register machine.now reg) }
 {
     let netlist = machine.netlist();
     if machine.is_delay(reg) {
         let (net, _) = machine.delay(reg);
-        marks[net.number() as usize]
+        found.contains(net)
     } else {
-        is_any_marked(netlist.register(reg).inputs, marks)
+        is_any_found(netlist.register(reg).inputs, found)
     }
 }
 
+/// Puts a number behind the others, or not.
+fn push_if(wanted: bool, number: u32, numbers: &mut Vec<u32>) -> Result<(), AllocError>
+    ensures { OnOk result (numbers.new.items ≡ numbers.old.items ++ (if wanted then number ∷ [] else [])) }
+{
+    if wanted {
+        numbers.push(number)?;
+    }
+    Ok(())
+}
+
+/// Whether a net of the joined enable was found.
+pub(crate) fn is_joined_found(enables: &[NetLit], found: &FoundNets) -> bool
+    ensures { result ≡ list_any (λ l. is_in found.now l.0) enables.now }
+{
+    let mut any = false;
+    for k in 0..enables.len() {
+        let literal = enables[k];
+        any = any | found.contains(literal.net);
+    }
+    any
+}
+
+/// Puts the names of these outputs behind the others.
+pub(crate) fn push_outputs(outputs: &[u32], names: &mut Vec<ClaimName>) -> Result<(), AllocError>
+    ensures { OnOk result (names.new.items ≡ names.old.items ++ map Output outputs.now) }
+{
+    for output in outputs {
+        names.push(ClaimName::Output(*output))?;
+    }
+    Ok(())
+}
+
+/// Puts the names of the next bits of these registers behind the others.
+pub(crate) fn push_nexts(registers: &[u32], names: &mut Vec<ClaimName>) -> Result<(), AllocError>
+    ensures { OnOk result (names.new.items ≡ names.old.items ++ map Next registers.now) }
+{
+    for register in registers {
+        names.push(ClaimName::Next(RegId::new(*register)))?;
+    }
+    Ok(())
+}
+
 /// Puts a name behind the others, or not.
-fn push_if(wanted: bool, name: ClaimName, names: &mut Vec<ClaimName>) -> Result<(), AllocError>
+pub(crate) fn push_name_if(
+    wanted: bool,
+    name: ClaimName,
+    names: &mut Vec<ClaimName>,
+) -> Result<(), AllocError>
     ensures { OnOk result (names.new.items ≡ names.old.items ++ (if wanted then name ∷ [] else [])) }
 {
     if wanted {
         names.push(name)?;
     }
     Ok(())
-}
-
-/// Whether a net of the joined enable has a mark.
-fn is_joined_marked(enables: &[NetLit], marks: &[bool]) -> bool
-    requires { All (λ l. l.0 < length marks.now) enables.now }
-    ensures { result ≡ list_any (λ l. slice_index_or marks.now l.0 false) enables.now }
-{
-    let mut any = false;
-    for k in 0..enables.len() {
-        let literal = enables[k];
-        any = any | marks[literal.net.number() as usize];
-    }
-    any
 }

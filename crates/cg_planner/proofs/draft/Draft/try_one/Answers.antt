@@ -3,6 +3,7 @@ use Rattle.cg_plan.specs.Plan.{try_one}
 use Rattle.cg_planner.specs.declared.draft.Draft.{Draft}
 use Rattle.cg_planner.specs.inner.Drafting.{Leads, StillFit}
 use Rattle.cg_planner.proofs.Growing.{leads_one, still_fit}
+use Rattle.cg_reach.specs.Fanout.{Knows}
 use Rattle.cg_planner.proofs.draft.Draft.try_one.Goals as goal
 
 pub returns-in-Ok-clause-leads : goal.returns-in-Ok-clause-leads
@@ -19,4 +20,7 @@ returns-in-Ok-clause-rest c =
     let m = c.args.self.now.machine in
     let done = c.in_ok-outcome.ensures in
     subst (StillFit c.args.stage m) (sym (ap (λ (d : Draft). d.machine) c.in-Ok.ensures ∙ done.machine))
-    (still_fit c.args.library.now c.args.settings.now m c.args.stage c.in_ok-outcome.outcome c.netlist-netlist.ensures.machine c.requires done.outcome.0)
+    (still_fit c.args.library.now c.args.settings.now m c.args.stage c.in_ok-outcome.outcome c.netlist-netlist.ensures.machine c.requires.fits done.outcome.0)
+
+pub returns-in-Ok-clause-knows : goal.returns-in-Ok-clause-knows
+returns-in-Ok-clause-knows c = subst (λ (d : Draft). Knows d.machine c.try_stage.new.fanout) (sym c.in-Ok.ensures) c.in_ok-outcome.ensures.knows

@@ -41,7 +41,7 @@ state_any word (text ∷ texts) =
     ∙ ap (λ (later : Bool). is_name text && bytes_eq word text || later) (state_any word texts)
     ∙ sym (own_any (bytes_eq word) text (state_names texts) (is_name text))
 
-states_any : (word : List ℕ) (texts : List (List ℕ)) → list_any (bytes_eq word) (state_names texts) ≡ (is_name word && list_any (bytes_eq word) texts)
+pub states_any : (word : List ℕ) (texts : List (List ℕ)) → list_any (bytes_eq word) (state_names texts) ≡ (is_name word && list_any (bytes_eq word) texts)
 states_any word texts = sym (state_any word texts)
 
 pub ruleset known = (list_any-append, states_any)

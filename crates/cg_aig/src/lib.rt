@@ -19,8 +19,6 @@ pub mod fault;
 pub mod function;
 pub mod list;
 pub mod lit;
-#[cfg(test)]
-mod tests;
 mod values;
 
 pub use fault::AigFault;

@@ -31,8 +31,6 @@ mod place;
 pub mod reader;
 mod reading;
 mod statement;
-#[cfg(test)]
-mod tests;
 
 pub use cg_blif_text::fault::BlifFault;
 pub use options::BlifOptions;

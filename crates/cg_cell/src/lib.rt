@@ -31,5 +31,3 @@ pub mod fit;
 pub mod library;
 pub mod lone;
 pub mod name;
-#[cfg(test)]
-mod tests;

@@ -17,8 +17,6 @@ pub mod fault;
 mod join;
 mod pending;
 pub mod reading;
-#[cfg(test)]
-mod tests;
 mod tokens;
 
 pub use check::{Names, check_expr};

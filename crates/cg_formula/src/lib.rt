@@ -10,8 +10,6 @@
 
 mod dimacs;
 mod formula;
-#[cfg(test)]
-mod tests;
 mod token;
 
 pub use dimacs::{DimacsFault, LAYOUT, read_dimacs, write_dimacs};

@@ -29,5 +29,3 @@ pub mod library;
 mod logic;
 mod port;
 mod restate;
-#[cfg(test)]
-mod tests;

@@ -28,8 +28,6 @@ mod live;
 pub mod log;
 pub mod lrat;
 mod progress;
-#[cfg(test)]
-mod tests;
 pub mod verdict;
 
 pub use checker::Checker;

@@ -21,8 +21,6 @@ pub mod idle;
 pub mod player;
 pub mod rows;
 mod showing;
-#[cfg(test)]
-mod tests;
 pub mod toggle_count;
 pub mod watched_rows;
 pub mod watcher;

@@ -39,6 +39,3 @@ pub use reading::collect;
 pub use refusal::{Content, Owner, Refusal, Step, Trouble};
 pub use role::Role;
 pub use status::Status;
-
-#[cfg(test)]
-mod tests;

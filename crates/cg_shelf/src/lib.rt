@@ -24,6 +24,3 @@ pub use calls::Shelf;
 pub use dir_shelf::DirShelf;
 pub use faults::{Call, CallMade, Fault, FileName, LoadFault, StoreFault};
 pub use mem_shelf::MemShelf;
-
-#[cfg(test)]
-mod tests;

@@ -13,7 +13,5 @@ pub mod blanks;
 pub mod lines;
 pub mod number;
 mod piece;
-#[cfg(test)]
-mod tests;
 pub mod tokens;
 pub mod words;

@@ -44,6 +44,20 @@ fn stands_at(bytes: &[u8], place: usize, text: &[u8]) -> bool
     }
 }
 
+/// Whether the first argument that is read from a place on is this text. Of a longer argument only so many bytes are read as
+/// this text may have with a `\` before each of them, so that one long argument does not make looking for others long.
+fn leads_to(bytes: &[u8], place: usize, text: &[u8]) -> bool
+    ensures { result ≡ true → stands_at bytes.now place text.now ≡ true }
+{
+    let most = text
+        .len()
+        .saturating_mul(2)
+        .saturating_add(3)
+        .saturating_add(place);
+    let near = &bytes[..most.min(bytes.len())];
+    stands_at(near, place, text) && stands_at(bytes, place, text)
+}
+
 /// The hash of a text (FNV-1a).
 fn hash(text: &[u8]) -> u64 {
     let mut hash: u64 = 0xcbf2_9ce4_8422_2325;
@@ -83,7 +97,7 @@ pub fn look(bytes: &[u8], places: &[u32], text: &[u8]) -> Looked
         if place == 0 {
             return Looked::Free(slot);
         }
-        if stands_at(bytes, place as usize, text) {
+        if leads_to(bytes, place as usize, text) {
             return Looked::Found;
         }
     }

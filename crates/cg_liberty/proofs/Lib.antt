@@ -16,3 +16,4 @@ pub mod LibTexts
 pub mod Stepping
 pub mod Completing
 pub mod TextFaults
+pub mod FaultsAlone

@@ -1,6 +1,6 @@
 //! Registers: an `ff` group with a next state, a clock and outputs that give the state or its inverse.
 
-ghost use Rattle.std.specs.Prelude.{◌≡◌, ◌+◌, ◌≤◌, ◌<◌, ◌++◌, ◌==◌, ◌||◌, ℕ, List, IfOk, IfSome, IsTrue, OnOk, Some, count_by, length, option_map, true};
+ghost use Rattle.std.specs.Prelude.{◌≡◌, ◌+◌, ◌≤◌, ◌<◌, ◌++◌, ◌==◌, ◌&&◌, ◌||◌, ℕ, List, IfOk, IfSome, IsTrue, OnOk, Some, count_by, length, not, option_map, true};
 ghost use Rattle.std.specs.List.{list_any};
 ghost use Rattle.std.specs.Str.{bytes_eq};
 ghost use Rattle.cg_cell.specs.Expr.{is_over, term_of};
@@ -12,6 +12,7 @@ ghost use Rattle.cg_liberty.specs.Kinds.{inverses_read, is_inverse, is_plain_flo
 ghost use Rattle.cg_liberty.specs.Port.{ArePorts, is_there, text_of};
 ghost use Rattle.cg_liberty.specs.Reading.{CellOrNoMemory, reading, readings};
 
+use crate::checked::checked_cell_of;
 use crate::expression::read_stated;
 use crate::fault::CellFault;
 use crate::gater::clocks_among;
@@ -155,11 +156,11 @@ fn all_known_of(alloc: Global, outputs: &[Option<bool>]) -> Result<Option<Vec<bo
 }
 
 /// Whether some of the names is this one.
-fn is_name_taken(names: &[Name], name: &Name) -> bool
+pub fn is_name_taken(names: &[Name], name: &[u8]) -> bool
     ensures { result ≡ list_any (bytes_eq name.now) names.now }
 {
     'names: for other in names {
-        if name.bytes() == other.bytes() {
+        if name == other.bytes() {
             return true;
         }
     }
@@ -171,7 +172,7 @@ fn are_names_apart(names: &[Name]) -> bool
     ensures { result ≡ are_distinct names.now }
 {
     'names: for (i, name) in names.iter().enumerate() {
-        if is_name_taken(&names[i + 1..], name) {
+        if is_name_taken(&names[i + 1..], name.bytes()) {
             return false;
         }
     }
@@ -191,6 +192,13 @@ fn has_other_sets(flop: &FlopGroup<'_>) -> bool
     ensures { result ≡ (is_there flop.now.clear || (is_there flop.now.preset || is_there flop.now.clocked_on_also)) }
 {
     flop.clear.is_there() || flop.preset.is_there() || flop.clocked_on_also.is_there()
+}
+
+/// Whether an `ff` group, by all but the names, may be that of a usable register.
+fn can_be_plain(flop: &FlopGroup<'_>) -> bool
+    ensures { result ≡ (length flop.now.names == 2 && not (is_there flop.now.clear || (is_there flop.now.preset || is_there flop.now.clocked_on_also))) }
+{
+    are_two(&flop.names) && !has_other_sets(flop)
 }
 
 /// Whether a register has two states of names of their own, and no other way to be set than by its
@@ -316,9 +324,9 @@ fn flop_of_parts(
     )
 }
 
-/// The register of these pins, or an unusable cell.
+/// The register of these pins, or an unusable cell, from expressions that are read in full.
 #[tactic(auto, using(crate::proofs::FlopCells::few_inputs))]
-pub fn flop_cell_of(
+fn read_cell_of(
     alloc: Global,
     name: Name,
     ports: &[Port<'_>],
@@ -349,4 +357,23 @@ pub fn flop_cell_of(
         inputs.len() as u32,
         names.len(),
     )?)
+}
+
+/// The register of these pins, or an unusable cell. Where it cannot be usable, nothing is kept of its expressions.
+#[tactic(auto, using(crate::proofs::FaultsAlone::cannot_be_plain))]
+pub fn flop_cell_of(
+    alloc: Global,
+    name: Name,
+    ports: &[Port<'_>],
+    flop: &FlopGroup<'_>,
+) -> Result<CellType, CellFault>
+    requires named { IsTrue (is_name name) }
+    requires ports { ArePorts ports.now }
+    ensures { CellOrNoMemory (λ cell. cell) result (flop_cell name ports.now flop.now) }
+{
+    if can_be_plain(flop) {
+        read_cell_of(alloc, name, ports, flop)
+    } else {
+        checked_cell_of(alloc, name, ports, flop)
+    }
 }

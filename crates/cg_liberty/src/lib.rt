@@ -11,11 +11,13 @@
 //! - `expression`: the expressions of a cell;
 //! - `logic`, `gater`, `flop`: cells of each kind, with `restate` for the function of a register
 //!   over its own pins;
+//! - `checked`: registers that cannot be usable, of which only the faults count;
 //! - `kind`: the rule that decides the kind of a cell;
 //! - [`library`]: the library, or the first fault;
 //! - [`fault`]: what a cell and a library may be refused for.
 #![tactic(auto)]
 
+mod checked;
 mod expression;
 pub mod fault;
 mod flop;

@@ -5,3 +5,4 @@ pub mod ArgumentLists
 pub mod AttributeValues
 pub mod SpelledIsRead
 pub mod ReadIsSpelled
+pub mod Hinted

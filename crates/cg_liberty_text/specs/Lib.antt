@@ -1,5 +1,6 @@
 pub mod Argument
 pub mod Grammar
+pub mod Hint
 pub mod Lexeme
 pub mod Statement
 pub mod Text

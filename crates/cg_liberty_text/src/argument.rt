@@ -1,6 +1,8 @@
 //! The arguments and the values of statements, in tokens.
 
 ghost use Rattle.std.specs.Prelude.{◌≡◌, ◌==◌, ◌∷◌, ℕ, List, [], length, Ok, Err, MatchOption, MatchResult};
+ghost use Rattle.std.specs.List.{list_any};
+ghost use Rattle.std.specs.Str.{bytes_eq};
 ghost use Rattle.cg_liberty_text.specs.Argument.{argument_texts, behind_arguments, behind_value, ends_value, is_bad, is_close_brace};
 ghost use Rattle.cg_liberty_text.specs.Argument.{is_close_paren, is_colon, is_comma, is_in_value, is_open_brace, is_open_paren};
 ghost use Rattle.cg_liberty_text.specs.Argument.{is_semicolon, is_text, is_value_over, is_word, may_follow, unexpected, value_text};
@@ -160,6 +162,13 @@ impl<'a> Arguments<'a> {
         }
     }
 
+    /// The tokens from the next argument on, or from what stands before it.
+    pub fn tokens(&self) -> Tokens<'a>
+        ensures { argument_texts result.0 ≡ self.now }
+    {
+        self.tokens.again()
+    }
+
     /// Takes the next argument, where there is one.
     pub fn next(&mut self) -> Option<Text<'a>>
         ensures { MatchOption result ((self.old ≡ []) × (self.new ≡ [])) (λ text. self.old ≡ text ∷ self.new) }
@@ -175,6 +184,20 @@ impl<'a> Arguments<'a> {
                 return Some(token.text);
             }
         }
+    }
+
+    /// Whether a text is among them.
+    #[tactic(auto, using(crate::proofs::Hinted::compared))]
+    pub fn has(&self, text: &[u8]) -> bool
+        ensures { result ≡ list_any (bytes_eq text.now) self.now }
+    {
+        let mut left = self.again();
+        'texts: while let Some(own) = left.next() {
+            if own.is(text) {
+                return true;
+            }
+        }
+        false
     }
 
     /// Whether there is exactly one.

@@ -10,12 +10,15 @@
 //! - [`text`]: the bytes that a word or a string stands for;
 //! - [`token`], [`tokens`]: a token, and a text cut into tokens;
 //! - [`argument`]: the arguments and the values of statements;
+//! - [`hints`], [`indexed`]: looking for texts among many arguments;
 //! - [`statement`], [`statements`]: a statement, and a text read statement by statement;
 //! - [`fault`]: what a text may be refused for.
 #![tactic(auto)]
 
 pub mod argument;
 pub mod fault;
+pub mod hints;
+pub mod indexed;
 pub mod lexeme;
 pub mod statement;
 pub mod statements;

@@ -103,7 +103,8 @@ impl<'a> Text<'a> {
         ensures { IfOk result (λ bytes. bytes.items ≡ self.now) }
     {
         let mut left = self.again();
-        let mut bytes = Vec::new(alloc);
+        // What it stands for is no longer than what is written.
+        let mut bytes = Vec::with_capacity(alloc, self.raw.len())?;
         'bytes: while let Some(byte) = left.next_byte() {
             bytes.push(byte)?;
         }

@@ -1,7 +1,7 @@
 //! A text cut into tokens, one by one.
 
 ghost use Rattle.std.specs.Prelude.{◌≡◌, ◌+◌, ◌<◌, ◌≤◌, ◌∷◌, ℕ, List, [], length, false, take, drop, MatchOption};
-ghost use Rattle.cg_liberty_text.specs.Token.{token_text, tokens};
+ghost use Rattle.cg_liberty_text.specs.Token.{token_text, tokens, tokens_from};
 ghost use Rattle.cg_liberty_text.specs.declared.token.Token.{Token};
 
 use crate::lexeme::{Kind, Lexeme, lexeme_at};
@@ -65,6 +65,13 @@ impl<'a> Tokens<'a> {
         ensures { result ≡ self.now.1 }
     {
         self.end
+    }
+
+    /// The bytes of the text that are left.
+    pub fn left(&self) -> &'a [u8]
+        ensures { (at : ℕ) × (self.now.0 ≡ tokens_from 0 false at result.now) }
+    {
+        self.rest
     }
 
     /// Takes the next token, or nothing where the text ends.

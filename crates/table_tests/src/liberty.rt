@@ -315,6 +315,18 @@ fn the_kinds_of_cells(rt: HostRuntime) -> Result<(), Fail> {
             "ff (I) { next_state : \"I\"; clocked_on : \"CK\"; } pin (CK) { direction : input; } pin (Q) { direction : output; function : \"I\"; }",
             "C unusable;",
         ),
+        (
+            "pin (b) { direction : input; } ff (s, t, u) { clocked_on : \"b\"; next_state : \"u + )\"; }",
+            "bad expression C 4",
+        ),
+        (
+            "pin (b) { direction : input; } ff (s, t, u) { clocked_on : \"b\"; next_state : \"v + )\"; }",
+            "C unusable;",
+        ),
+        (
+            "pin (b) { direction : input; } ff (s, t, u) { clocked_on : \"b\"; next_state : \"u\"; }",
+            "C unusable;",
+        ),
     ];
     for (statements, wanted) in cells {
         let text = with_cell(alloc, statements)?;

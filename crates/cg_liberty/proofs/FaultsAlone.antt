@@ -1,0 +1,98 @@
+-- Where a register cannot be usable, only the faults of its expressions count; the names among its arguments.
+use Rattle.std.proofs.Common.{◌≡◌, ℕ, Bool, true, false, cond, ◌&&◌, ◌||◌, ◌==◌, not, List, [], ◌∷◌, ◌++◌, length, Option, None, Some, Result, Ok, Err, refl, ap, sym, ◌∙◌}
+use Rattle.std.specs.List.{list_any}
+use Rattle.std.specs.Str.{bytes_eq}
+use Rattle.std.proofs.lemmas.List.Folds.{list_any-append}
+use Rattle.std.proofs.lemmas.Slice.Eq.{bytes_eq-Decides}
+use Rattle.cg_cell.specs.Cell.{CellData}
+use Rattle.cg_cell.specs.Name.{are_distinct, is_name}
+use Rattle.cg_cell.specs.Term.{Term}
+use Rattle.cg_liberty.specs.Checked.{faults_of, flop_checked, outputs_checked}
+use Rattle.cg_liberty.specs.Kinds.{all_known, flop_cell, flop_of, input_names, inverses_read, is_inverse, is_plain_flop, own_state, output_texts, state_names, unusable}
+use Rattle.cg_liberty.specs.Port.{is_there, text_of}
+use Rattle.cg_liberty.specs.Reading.{reading, then_read}
+use Rattle.cg_liberty.specs.declared.fault.CellFault.{CellFault}
+use Rattle.cg_liberty.specs.declared.group.FlopGroup.{FlopGroup}
+use Rattle.cg_liberty.specs.declared.port.Port.{Port}
+
+-- a word is among the arguments that are names where it is a name and among the arguments
+own_any : (f : List ℕ → Bool) (text : List ℕ) (later : List (List ℕ)) (named : Bool) → list_any f (cond named (text ∷ []) [] ++ later) ≡ (named && f text || list_any f later)
+own_any f text later true = refl
+own_any f text later false = refl
+
+one_more : (named own same among : Bool) → (same ≡ true → named ≡ own) → (named && (same || among)) ≡ (own && same || (named && among))
+one_more true true true among h = refl
+one_more true false true among h = let no : true ≡ false = h refl in cc
+one_more false true true among h = let no : false ≡ true = h refl in cc
+one_more false false true among h = refl
+one_more true true false among h = refl
+one_more true false false among h = refl
+one_more false true false among h = refl
+one_more false false false among h = refl
+
+none_named : (named : Bool) → (named && false) ≡ false
+none_named true = refl
+none_named false = refl
+
+state_any : (word : List ℕ) (texts : List (List ℕ)) → (is_name word && list_any (bytes_eq word) texts) ≡ list_any (bytes_eq word) (state_names texts)
+state_any word [] = none_named (is_name word)
+state_any word (text ∷ texts) =
+    one_more (is_name word) (is_name text) (bytes_eq word text) (list_any (bytes_eq word) texts) (λ same. ap is_name ((bytes_eq-Decides word text).0 same))
+    ∙ ap (λ (later : Bool). is_name text && bytes_eq word text || later) (state_any word texts)
+    ∙ sym (own_any (bytes_eq word) text (state_names texts) (is_name text))
+
+pub states_any : (word : List ℕ) (texts : List (List ℕ)) → list_any (bytes_eq word) (state_names texts) ≡ (is_name word && list_any (bytes_eq word) texts)
+states_any word texts = sym (state_any word texts)
+
+pub ruleset known = (list_any-append, states_any)
+
+-- no names behind others
+pub no_more : (names : List (List ℕ)) → names ++ [] ≡ names
+no_more [] = refl
+no_more (name ∷ names) = ap (λ (later : List (List ℕ)). name ∷ later) (no_more names)
+
+-- the faults of the functions of outputs
+outputs_faults : (names : List (List ℕ)) (texts : List (Option (List ℕ))) → faults_of (inverses_read names texts) ≡ outputs_checked names texts
+outputs_faults names [] = refl
+outputs_faults names (text ∷ texts) = first (reading names text) (inverses_read names texts) (outputs_checked names texts) (outputs_faults names texts)
+  where
+    first : (read : Result (Option Term) CellFault) (later : Result (List (Option Bool)) CellFault) (checked : Result (Unit {0}) CellFault) → faults_of later ≡ checked
+        → faults_of (then_read read (λ term. then_read later (λ known. Ok (is_inverse (length names) term ∷ known)))) ≡ then_read (faults_of read) (λ _. checked)
+    first (Ok term) (Ok known) checked h = h
+    first (Ok term) (Err fault) checked h = h
+    first (Err fault) later checked h = refl
+
+-- a register that is not plain is unusable
+not_plain : (name : List ℕ) (ports : List Port) (next clocked : Option Term) (known : Option (List Bool)) → flop_of name ports false next clocked known ≡ unusable name
+not_plain name ports None clocked known = refl
+not_plain name ports (Some next) None known = refl
+not_plain name ports (Some next) (Some clocked) None = refl
+not_plain name ports (Some next) (Some clocked) (Some known) = refl
+
+three : (next clocked : Result (Option Term) CellFault) (outputs : Result (List (Option Bool)) CellFault) (cell : CellData) (made : Option Term → Option Term → List (Option Bool) → CellData)
+    → ((a b : Option Term) (c : List (Option Bool)) → made a b c ≡ cell)
+    → then_read next (λ a. then_read clocked (λ b. then_read outputs (λ c. Ok (made a b c))))
+    ≡ then_read (then_read (faults_of next) (λ _. then_read (faults_of clocked) (λ _. faults_of outputs))) (λ _. Ok cell)
+three (Ok a) (Ok b) (Ok c) cell made same = ap Ok (same a b c)
+three (Ok a) (Ok b) (Err fault) cell made same = refl
+three (Ok a) (Err fault) outputs cell made same = refl
+three (Err fault) clocked outputs cell made same = refl
+
+pub only_faults : (name : List ℕ) (ports : List Port) (flop : FlopGroup) → is_plain_flop (input_names ports) flop ≡ false
+    → flop_cell name ports flop ≡ then_read (flop_checked (input_names ports) (output_texts ports) flop) (λ _. Ok (unusable name))
+only_faults name ports flop odd =
+    three (reading (input_names ports ++ state_names flop.names) (text_of flop.next_state)) (reading (input_names ports) (text_of flop.clocked_on))
+    (inverses_read (state_names flop.names) (output_texts ports)) (unusable name) (λ a b c. flop_of name ports (is_plain_flop (input_names ports) flop) a b (all_known c))
+    (λ a b c. rw odd (not_plain name ports a b (all_known c)))
+    ∙ ap (λ (outputs : Result (Unit {0}) CellFault). then_read (then_read (faults_of (reading (input_names ports ++ state_names flop.names) (text_of flop.next_state))) (λ _. then_read (faults_of (reading (input_names ports) (text_of flop.clocked_on))) (λ _. outputs))) (λ _. Ok (unusable name))) (outputs_faults (state_names flop.names) (output_texts ports))
+
+-- a register of another number of arguments than two, or with another way to be set than by its clock, is not plain
+odd_by : (two states apart others : Bool) → (two && not others) ≡ false → (two && (states && (apart && not others))) ≡ false
+odd_by false states apart others h = refl
+odd_by true states apart false h = cc
+odd_by true false apart true h = refl
+odd_by true true false true h = refl
+odd_by true true true true h = refl
+
+pub cannot_be_plain : (inputs : List (List ℕ)) (flop : FlopGroup) → (length flop.names == 2 && not (is_there flop.clear || (is_there flop.preset || is_there flop.clocked_on_also))) ≡ false → is_plain_flop inputs flop ≡ false
+cannot_be_plain inputs flop h = odd_by (length flop.names == 2) (length (state_names flop.names) == 2) (are_distinct (inputs ++ state_names flop.names)) (is_there flop.clear || (is_there flop.preset || is_there flop.clocked_on_also)) h

@@ -74,16 +74,3 @@ fn texts(rt: HostRuntime) -> Result<(), Fail> {
     assert_eq!(rt; found.as_str(), "1 of 5");
     Ok(())
 }
-
-#[test]
-fn each_front_part_is_read(rt: HostRuntime) -> Result<(), Fail> {
-    let text =
-        b"# by hand\n.model top\n.inputs clk en \\\n d\n.outputs q\n.names $true\n1\n.names en d q n:x[0]\n11- 1\n0-1 1\n.latch n:x[0] $u\\w[1] re clk 3\n.names $u\\w[1] q\n1 1\n.end\n";
-    for length in 0..text.len() {
-        let found = read(rt.alloc(), &text[..length], None)?;
-        assert!(rt; !found.is_empty());
-    }
-    let found = read(rt.alloc(), text.as_slice(), None)?;
-    assert_eq!(rt; found.as_str(), "1 of 7");
-    Ok(())
-}

@@ -131,11 +131,31 @@ impl Draft {
         ensures leads { OnOk result (Leads (λ p. try_all library.now settings.now p stages) self.old self.new) }
         ensures fault { IfErr result (MayStop (λ p. try_all library.now settings.now p stages) self.old) }
     {
-        let listed = self.stages.len().saturating_add(stages.len());
         // What reads the nets is found once for all of them, and grown with the machine.
         let mut fanout = Fanout::new(self.alloc);
+        let result = self.try_listed(stages, &mut fanout, library, settings, progress);
+        // By a call, as its parts would else be dropped one by one in the proof of each way out.
+        drop(fanout);
+        result
+    }
+
+    /// Tries stages that fit, one after the other, and tells of each.
+    fn try_listed(
+        &mut self,
+        stages: Seq<Stage>,
+        fanout: &mut Fanout,
+        library: &Library,
+        settings: &Settings,
+        progress: &mut dyn Progress,
+    ) -> Result<(), AddFault>
+        requires fits { AllFit self.old.machine stages }
+        requires knows { Knows self.old.machine fanout.old }
+        ensures leads { OnOk result (Leads (λ p. try_all library.now settings.now p stages) self.old self.new) }
+        ensures fault { IfErr result (MayStop (λ p. try_all library.now settings.now p stages) self.old) }
+    {
+        let listed = self.stages.len().saturating_add(stages.len());
         for stage in stages.into_vec() {
-            self.try_told(stage, listed, &mut fanout, library, settings, progress)?;
+            self.try_told(stage, listed, fanout, library, settings, progress)?;
         }
         Ok(())
     }

@@ -4,7 +4,7 @@ use Rattle.cg_lists.specs.Fit.{AllFit}
 use Rattle.cg_plan.specs.Plan.{try_all}
 use Rattle.cg_planner.specs.inner.Drafting.{IsLeft}
 use Rattle.cg_reach.specs.Fanout.{Knows}
-use Rattle.cg_planner.proofs.draft.Draft.try_all.Given as goal
+use Rattle.cg_planner.proofs.draft.Draft.try_listed.Given as goal
 
 abbrev pub invariant-loop-stage : goal.invariant-loop-stage
 invariant-loop-stage g l = record {

@@ -20,7 +20,8 @@ use cg_cell::library::Library;
 use cg_cell::name::Name;
 use cg_limit::{Limit, MOST_NETS};
 use cg_machine::machine::Machine;
-use cg_netlist::fault::{AddFault, NetFault};
+use cg_netlist::fault::AddFault;
+use cg_parts::fault::NetFault;
 use cg_netlist::netlist::Netlist;
 use std::alloc::Global;
 

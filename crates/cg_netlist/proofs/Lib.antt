@@ -9,6 +9,7 @@ pub mod DifferentNames
 pub mod Driven
 pub mod DriverTable
 pub mod DrivingCells
+pub mod Each
 pub mod Filtered
 pub mod GatedRegister
 pub mod FoundNets
@@ -46,4 +47,3 @@ pub mod WalkPlaces
 pub mod Walked
 pub mod Walks
 pub mod WidthLemmas
-pub mod said

@@ -18,5 +18,5 @@ pub mod View
 pub mod Walk
 pub mod WalkLaws
 pub mod WellFormed
+pub mod Wiring
 pub mod inner
-pub mod said

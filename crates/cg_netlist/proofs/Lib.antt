@@ -2,9 +2,6 @@ pub mod ByRank
 pub mod CellFits
 pub mod ClockFree
 pub mod Clocks
-pub mod ConeEdge
-pub mod ConeWalk
-pub mod Cones
 pub mod DifferentNames
 pub mod Driven
 pub mod DriverTable
@@ -21,7 +18,6 @@ pub mod NamesInOrder
 pub mod NetOrder
 pub mod NetSetLemmas
 pub mod NetsOf
-pub mod OneDriver
 pub mod OrderLemmas
 pub mod OrderedForm
 pub mod OrderedHistories

@@ -1,6 +1,5 @@
 pub mod Chains
 pub mod Circuit
-pub mod Cone
 pub mod Drivers
 pub mod History
 pub mod Marks

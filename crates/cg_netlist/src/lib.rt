@@ -15,25 +15,17 @@
 //! - `view`: what a netlist shows of one of its parts.
 //! - `levels`: the logic cells in an order in which each stands behind those that drive its inputs.
 //! - `driver`: what drives each net.
-//! - `ascending`: numbers in ascending order.
-//! - `wiring`: what a walk back over logic cells asks for.
-//! - `edge`: what drives the nets of a cone.
-//! - `reach`: walks back over logic cells, from some nets to their cone.
 //! - `netlist`: well-formed netlists, and what they answer.
 //! - `walk`: walks over the logic cells.
-//! - `cone`: what nets depend on at the same moment.
 //! - `next`: the next bits of registers.
 //! - `chains`: the gating cells in an order in which each stands behind the one that drives its clock pin.
 //! - `walk_laws`: what is true of walk order, and of the bits that a walk leaves.
 //! - `history`: that a netlist has one history for each start and waveform.
 #![tactic(auto)]
 
-pub mod ascending;
 pub mod chains;
-pub mod cone;
 pub mod cycles;
 pub mod driver;
-pub mod edge;
 pub mod fault;
 pub mod history;
 pub mod id;
@@ -44,8 +36,6 @@ pub mod netlist;
 mod next;
 pub mod parts;
 mod ranks;
-pub mod reach;
 pub mod view;
 pub mod walk;
 pub mod walk_laws;
-pub mod wiring;

@@ -22,8 +22,8 @@ use cg_blif_text::place::Place;
 use cg_blif_text::word::Word;
 use cg_builder::builder::Builder;
 use cg_cell::library::Library;
-use cg_parts::fault::NetFault;
 use cg_netlist::netlist::Netlist;
+use cg_parts::fault::NetFault;
 use std::alloc::Global;
 use std::mem;
 

@@ -21,11 +21,11 @@ use cg_cell::cell::CellType;
 use cg_cell::cover::Cover;
 use cg_cell::name::Name;
 use cg_netlist::fault::AddFault;
-use cg_parts::fault::NetFault;
 use cg_netlist::names::NetNames;
 use cg_netlist::net_set::NetSet;
 use cg_netlist::netlist::Netlist;
 use cg_netlist::parts::{Gater, Logic, LogicFunction};
+use cg_parts::fault::NetFault;
 use std::alloc::{AllocError, Global};
 use std::marker::Model;
 

@@ -23,9 +23,9 @@ use crate::order::in_net_order;
 use crate::told::{Told, chain_cells, clock_roots, gated_marks, order, uses};
 use cg_cell::name::Name;
 use cg_netlist::cycles::unranked_marks;
-use cg_parts::fault::NetFault;
 use cg_netlist::id::NetId;
 use cg_netlist::netlist::Netlist;
+use cg_parts::fault::NetFault;
 use std::alloc::{AllocError, Global};
 
 /// The netlist of the parts, or the first fault of them.

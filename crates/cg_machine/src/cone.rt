@@ -7,11 +7,11 @@ ghost use Rattle.cg_cone.specs.Cone.{cone_at};
 
 use crate::machine::Machine;
 use cg_cone::cone::Cone;
+use cg_cone::reach::reached_cone;
+use cg_cone::wiring::Wiring;
 use cg_netlist::driver::Driver;
 use cg_netlist::id::{CellId, NetId};
 use cg_netlist::net_set::NetSet;
-use cg_cone::reach::reached_cone;
-use cg_cone::wiring::Wiring;
 use std::alloc::{AllocError, Global};
 
 /// Finds cones, one after another, each at the cost of what it reaches.

@@ -15,10 +15,10 @@ use crate::roots::{push_enables, push_origins, push_sides};
 use crate::sources::{after_states, changed_states};
 use crate::unseen::UnseenRegs;
 use cg_claim::leaf::Leaf;
+use cg_cone::cone::Cone;
 use cg_list::Seq;
 use cg_machine::cone::ConeFinder;
 use cg_machine::machine::Machine;
-use cg_cone::cone::Cone;
 use cg_netlist::id::RegId;
 use std::alloc::{AllocError, Global};
 

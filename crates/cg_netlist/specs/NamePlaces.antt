@@ -1,5 +1,5 @@
 -- What is kept beside a table of names where some of its nets stand in an order.
-use Rattle.std.specs.Prelude.{◌≡◌, ◌≢◌, ℕ, ◌<◌, ◌^◌, List, length, nat_eq}
+use Rattle.std.specs.Prelude.{◌≡◌, ◌≢◌, ℕ, ◌<◌, List, length, nat_eq}
 use Rattle.std.specs.List.{All, AllPairs, IsDistinct, position_or_len}
 use Rattle.cg_netlist.specs.Places.{number_in}
 

@@ -1,6 +1,7 @@
 -- What is true of every netlist that the program holds.
 use Rattle.std.specs.Prelude.{ℕ, ◌<◌, ◌≤◌, ◌^◌, max, List, [], ◌∷◌, length}
 use Rattle.std.specs.List.{All}
+use Rattle.cg_limit.specs.declared.TheConstants.{MOST_NETS, MOST_REGISTERS}
 use Rattle.cg_netlist.specs.Circuit.{Circuit, LogicCell}
 use Rattle.cg_netlist.specs.WellFormed.{IsWellFormed, IsInNetOrder}
 
@@ -13,6 +14,6 @@ widest_of (cell ∷ cells) = max (length cell.inputs) (widest_of cells)
 pub record IsNetlist (c : Circuit) : Type 0 where
   pub well_formed : IsWellFormed c
   pub in_order : IsInNetOrder c
-  pub nets : length c.names ≤ 1048576
-  pub registers : length c.registers ≤ 65536
+  pub nets : length c.names ≤ MOST_NETS
+  pub registers : length c.registers ≤ MOST_REGISTERS
   pub inputs : All (λ cell. length cell.inputs < 2 ^ 32) c.cells

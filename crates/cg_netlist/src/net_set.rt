@@ -1,6 +1,7 @@
 //! Nets that are taken once.
 
 ghost use Rattle.std.specs.Prelude.{◌≡◌, ◌<◌, ◌^◌, ℕ, [], Some, false, OnOk, length, slice_get};
+ghost use Rattle.cg_netlist.specs.Circuit.{is_in};
 ghost use Rattle.cg_netlist.specs.NetSets.{with_net, with_nets};
 ghost use Rattle.cg_netlist.specs.Marks.{AreMarked, is_marked};
 
@@ -37,6 +38,13 @@ impl NetSet {
             nets: Vec::new(alloc),
             marks: Vec::new(alloc),
         }
+    }
+
+    /// Whether a net is among them.
+    pub fn contains(&self, net: NetId) -> bool
+        ensures { result ≡ is_in self.now net }
+    {
+        mark_at(&self.marks, net.number() as usize)
     }
 
     /// Puts a net behind the others, if it is not among them.
@@ -92,6 +100,16 @@ impl NetSet {
     {
         let NetSet { nets, marks: _ } = self;
         nets
+    }
+}
+
+/// The mark at a place; behind the last there is none.
+fn mark_at(marks: &[bool], place: usize) -> bool
+    ensures { result ≡ is_marked marks.now place }
+{
+    match marks.get(place) {
+        Some(mark) => *mark,
+        None => false,
     }
 }
 

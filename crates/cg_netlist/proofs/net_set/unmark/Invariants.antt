@@ -1,5 +1,4 @@
-use Rattle.std.proofs.Common.{◌≡◌, ℕ, ◌<◌, true, drop, length}
-use Rattle.cg_netlist.specs.Circuit.{is_in}
+use Rattle.std.proofs.Common.{drop}
 use Rattle.cg_netlist.proofs.NetSetLemmas.{MarkedLeft}
 use Rattle.cg_netlist.proofs.net_set.unmark.Given as goal
 

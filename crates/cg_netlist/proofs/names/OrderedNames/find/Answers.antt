@@ -1,5 +1,4 @@
-use Rattle.std.proofs.Common.{◌≡◌, ◌<◌, ◌≤◌, ℕ, Some, false, length, nat_eq, slice_get, sym, ◌∙◌, subst, arith}
-use Rattle.std.specs.List.{position_or_len}
+use Rattle.std.proofs.Common.{◌≡◌, ℕ, Some, false, slice_get, ◌∙◌, subst, arith}
 use Rattle.std.proofs.lemmas.Option.{slice_get_within}
 use Rattle.cg_netlist.specs.Names.{is_known}
 use Rattle.cg_netlist.proofs.NamesInOrder.{not_named, not_placed, placed_name, placed_number}

@@ -18,11 +18,11 @@ use Rattle.cg_netlist.specs.declared.parts.LogicFunction.TheVariants.{Cell}
 use Rattle.cg_netlist.specs.declared.parts.RegisterKind.TheVariants.{Flop}
 use Rattle.cg_netlist.specs.declared.fault.AddFault.{AddFault}
 use Rattle.cg_builder.specs.Building.{Building, Takes}
-use Rattle.cg_netlist.specs.said.Part.{Part, Logic, Gate, Register, mentioned}
-use Rattle.cg_netlist.specs.said.Says.{IsPart}
-use Rattle.cg_netlist.specs.said.Writable.{cell_named}
-use Rattle.cg_netlist.proofs.said.Each.{each_back, each_front}
-use Rattle.cg_netlist.proofs.said.KnownNames.{itself}
+use Rattle.cg_parts.specs.Part.{Part, Logic, Gate, Register, mentioned}
+use Rattle.cg_parts.specs.Says.{IsPart}
+use Rattle.cg_parts.specs.Writable.{cell_named}
+use Rattle.cg_netlist.proofs.Each.{each_back, each_front}
+use Rattle.cg_parts.proofs.KnownNames.{itself}
 use Rattle.cg_blif_text.specs.declared.fault.LineFault.{LineFault}
 use Rattle.cg_blif_text.specs.declared.fault.LineFault.TheVariants.{PinFault}
 use Rattle.cg_blif_text.specs.PinWords.{PinNet}

@@ -2,7 +2,7 @@
 use Rattle.std.specs.Prelude.{◌≡◌, ◌≤◌, Bool, true, List, [], ◌∷◌, ◌++◌, length, if◌then◌else◌, unwrap_or, Option, None, Some}
 use Rattle.std.specs.List.{AllByRecursion}
 use Rattle.cg_cell.specs.Cover.{CoverData}
-use Rattle.cg_netlist.specs.said.Wiring.{NetName}
+use Rattle.cg_netlist.specs.Wiring.{NetName}
 use Rattle.cg_blif_text.specs.Rows.{Row, keeps_value}
 
 -- the nets of the line, the rows so far, and the value of these rows

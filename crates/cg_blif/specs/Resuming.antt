@@ -8,12 +8,12 @@ use Rattle.cg_cell.specs.Cover.{CoverData}
 use Rattle.cg_text.specs.declared.lines.Line.{Line}
 use Rattle.cg_netlist.specs.declared.parts.LogicFunction.TheVariants.{Cover}
 use Rattle.cg_netlist.specs.Circuit.{Circuit}
-use Rattle.cg_netlist.specs.declared.fault.NetFault.{NetFault}
-use Rattle.cg_netlist.specs.declared.fault.NetFault.TheVariants as nets
+use Rattle.cg_parts.specs.declared.fault.NetFault.{NetFault}
+use Rattle.cg_parts.specs.declared.fault.NetFault.TheVariants as nets
 use Rattle.cg_builder.specs.Building.{Building, Finishes}
-use Rattle.cg_netlist.specs.said.Part.{Part, Logic}
-use Rattle.cg_netlist.specs.said.Faults.{IsFault}
-use Rattle.cg_netlist.specs.said.Said.{Said, nothing_said, said}
+use Rattle.cg_parts.specs.Part.{Part, Logic}
+use Rattle.cg_parts.specs.Faults.{IsFault}
+use Rattle.cg_parts.specs.Said.{Said, nothing_said, said}
 use Rattle.cg_blif_text.specs.declared.fault.BlifFault.{BlifFault}
 use Rattle.cg_blif_text.specs.declared.fault.BlifFault.TheVariants.{Net, NoMemory}
 use Rattle.cg_blif_text.specs.declared.fault.LineFault.{LineFault}
@@ -26,7 +26,7 @@ use Rattle.cg_blif_text.specs.Blocks.{cut}
 use Rattle.cg_blif_text.specs.Rows.{cover_from}
 use Rattle.cg_blif_text.specs.BlifText.{BlifText, IsFirstBlifFault, told_by}
 use Rattle.cg_blif_text.specs.Telling.{Told, at, cover_or_none, go_on, next_model, no_rows, said_by, tell_blocks, tell_cut, tell_parts, with_parts, with_said}
-use Rattle.cg_netlist.specs.said.Wiring.{NetName}
+use Rattle.cg_netlist.specs.Wiring.{NetName}
 use Rattle.cg_blif.specs.Joining.{IsUnnamed}
 use Rattle.cg_blif.specs.OpenCovers.{CoverSoFar, cover_so_far}
 use Rattle.cg_blif.specs.declared.fault.Refusal.{Refusal}

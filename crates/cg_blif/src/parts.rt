@@ -5,7 +5,7 @@ ghost use Rattle.std.specs.List.{AllByRecursion};
 ghost use Rattle.cg_cell.specs.Cover.{CoverFits};
 ghost use Rattle.cg_cell.specs.Name.{is_name};
 ghost use Rattle.cg_netlist.specs.declared.parts.LogicFunction.TheVariants.{Cover as CoverRows};
-ghost use Rattle.cg_netlist.specs.said.Part.{Clock, Input, Logic, Output, Register};
+ghost use Rattle.cg_parts.specs.Part.{Clock, Input, Logic, Output, Register};
 ghost use Rattle.cg_blif_text.specs.Telling.{latch_register, with_parts};
 ghost use Rattle.cg_blif.specs.Hearing.{Hears};
 

@@ -3,7 +3,7 @@
 ghost use Rattle.std.specs.Prelude.{◌≡◌, ◌∷◌, [], None, true};
 ghost use Rattle.cg_cell.specs.Cell.{IsCell};
 ghost use Rattle.cg_cell.specs.declared.cell.CellKind.TheVariants.{Flop as FlopKind, Gater as GaterKind, Logic as LogicKind};
-ghost use Rattle.cg_netlist.specs.said.Writable.{cell_named};
+ghost use Rattle.cg_parts.specs.Writable.{cell_named};
 ghost use Rattle.cg_blif_text.specs.Placing.{are_for_pins, at_role, nets_at, part_or, placed_as, placed_by, placed_part};
 ghost use Rattle.cg_blif_text.specs.Telling.{with_said};
 ghost use Rattle.cg_blif.specs.Hearing.{Hears};

@@ -5,7 +5,7 @@ ghost use Rattle.std.specs.List.{AllByRecursion, list_all};
 ghost use Rattle.cg_cell.specs.Cell.{IsCell};
 ghost use Rattle.cg_cell.specs.Name.{is_name};
 ghost use Rattle.cg_netlist.specs.Circuit.{Circuit};
-ghost use Rattle.cg_netlist.specs.said.Writable.{IsWritable};
+ghost use Rattle.cg_parts.specs.Writable.{IsWritable};
 ghost use Rattle.cg_blif_text.specs.BlifText.{BlifText};
 ghost use Rattle.cg_blif_text.specs.LogicalLines.{text_lines};
 ghost use Rattle.cg_blif_text.specs.Telling.{tell_lines};
@@ -22,8 +22,8 @@ use cg_blif_text::place::Place;
 use cg_blif_text::word::Word;
 use cg_builder::builder::Builder;
 use cg_cell::library::Library;
-use cg_netlist::fault::NetFault;
 use cg_netlist::netlist::Netlist;
+use cg_parts::fault::NetFault;
 use std::alloc::Global;
 use std::mem;
 

@@ -3,7 +3,7 @@
 ghost use Rattle.std.specs.Prelude.{◌≡◌, None, Ok, false, true};
 ghost use Rattle.std.specs.List.{list_all};
 ghost use Rattle.cg_cell.specs.Name.{is_name};
-ghost use Rattle.cg_netlist.specs.said.Said.{nothing_said};
+ghost use Rattle.cg_parts.specs.Said.{nothing_said};
 ghost use Rattle.cg_blif_text.specs.Commands.{are_row};
 ghost use Rattle.cg_blif_text.specs.Telling.{next_place};
 ghost use Rattle.cg_blif.specs.Hearing.{Hears};

@@ -9,13 +9,13 @@ use Rattle.std.specs.declared.alloc.AllocError.{AllocError}
 use Rattle.std.specs.declared.vec.Vec.{Vec}
 use Rattle.cg_cell.specs.Cell.{CellData}
 use Rattle.cg_text.specs.Written.{line_text, text_of}
-use Rattle.cg_netlist.specs.said.Writable.{IsWritable}
+use Rattle.cg_parts.specs.Writable.{IsWritable}
 use Rattle.cg_blif_text.specs.BlifText.{BlifText}
 use Rattle.cg_blif_text.proofs.CanonicalText.{says_itself}
 use Rattle.cg_netlist.specs.declared.parts.LogicFunction.{LogicFunction}
 use Rattle.cg_netlist.specs.declared.parts.LogicFunction.TheVariants.{Cover, Cell}
 use Rattle.cg_netlist.specs.Circuit.{Circuit, LogicCell}
-use Rattle.cg_netlist.specs.said.Wiring.{NetName, map_cell, map_gater, map_register, named, net_name}
+use Rattle.cg_netlist.specs.Wiring.{NetName, map_cell, map_gater, map_register, named, net_name}
 use Rattle.cg_blif_text.specs.declared.statement.Statement.TheVariants.{Model, Inputs, Outputs, Clocks, End}
 use Rattle.cg_blif_text.specs.Canonical.{blif, cell_lines, function_statement, gater_statement, register_statement, row_words, rows_of, statement_line}
 use Rattle.cg_blif_out.specs.Writing.{cell_text, clock_text, function_rows, gater_text, header_text, register_text}

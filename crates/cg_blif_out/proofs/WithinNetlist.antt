@@ -10,10 +10,10 @@ use Rattle.cg_netlist.specs.declared.parts.RegisterKind.{RegisterKind}
 use Rattle.cg_netlist.specs.declared.parts.RegisterKind.TheVariants.{Plain, Flop}
 use Rattle.cg_netlist.specs.Netlist.{IsNetlist}
 use Rattle.cg_netlist.specs.WellFormed.{RegisterFits}
-use Rattle.cg_netlist.specs.said.Wiring.{map_register, net_name, wiring}
-use Rattle.cg_netlist.proofs.said.Each.{by_recursion}
-use Rattle.cg_netlist.proofs.said.Kept as kept
-use Rattle.cg_netlist.proofs.said.ToldByNames.{wiring_within}
+use Rattle.cg_netlist.specs.Wiring.{map_register, net_name, wiring}
+use Rattle.cg_netlist.proofs.Each.{by_recursion}
+use Rattle.cg_parts.proofs.Kept as kept
+use Rattle.cg_parts.proofs.ToldByNames.{wiring_within}
 use Rattle.cg_blif_text.specs.Canonical.{function_statement, kind_statement, register_statement, statement_line}
 use Rattle.cg_blif_out.specs.Writing.{HasDigit, register_text}
 use Rattle.cg_blif_text.specs.declared.statement.Statement.{Statement}

@@ -5,7 +5,7 @@ ghost use Rattle.std.specs.List.{AllByRecursion};
 ghost use Rattle.cg_cell.specs.Pins.{PinData, is_clock, is_state};
 ghost use Rattle.cg_netlist.specs.Netlist.{IsNetlist};
 ghost use Rattle.cg_netlist.specs.View.{gater_seen, register_seen};
-ghost use Rattle.cg_netlist.specs.said.Wiring.{map_gater, net_name};
+ghost use Rattle.cg_netlist.specs.Wiring.{map_gater, net_name};
 ghost use Rattle.cg_blif_text.specs.Canonical.{gater_net, logic_nets, pin_pairs};
 ghost use Rattle.cg_blif_out.specs.Pins.{one_pair, pin_pair, seen_nets};
 ghost use Rattle.cg_blif_out.specs.Within.{AreNets, GaterNets, IsNet, RegisterNets};

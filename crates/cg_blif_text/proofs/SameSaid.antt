@@ -4,11 +4,11 @@ use Rattle.std.specs.List.{AllByRecursion, filter, flat_map, slice_get}
 use Rattle.std.specs.Option.{option_to_list}
 use Rattle.cg_netlist.specs.Circuit.{Circuit}
 use Rattle.cg_netlist.specs.Names.{is_known}
-use Rattle.cg_netlist.specs.said.Part.{Part, on_clock}
-use Rattle.cg_netlist.specs.said.Said.{Said, said}
-use Rattle.cg_netlist.specs.said.Says.{Says}
-use Rattle.cg_netlist.specs.said.Wiring.{NetName, Wiring, driven_by_gaters, named}
-use Rattle.cg_netlist.proofs.said.AtMostOne.{says_one}
+use Rattle.cg_parts.specs.Part.{Part, on_clock}
+use Rattle.cg_parts.specs.Said.{Said, said}
+use Rattle.cg_parts.specs.Says.{Says}
+use Rattle.cg_netlist.specs.Wiring.{NetName, Wiring, driven_by_gaters, named}
+use Rattle.cg_parts.proofs.AtMostOne.{says_one}
 
 abbrev roots_of : Said → List NetName
 roots_of s = s.clocks ++ filter (λ net. not (is_known (driven_by_gaters s.gaters) net)) (map (λ gater. gater.clock) s.gaters ++ flat_map (λ r. option_to_list r.clock) s.registers)

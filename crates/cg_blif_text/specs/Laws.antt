@@ -5,8 +5,8 @@ use Rattle.std.specs.Option.{option_to_list}
 use Rattle.cg_cell.specs.Cell.{CellData, IsCell}
 use Rattle.cg_cell.specs.Name.{is_name}
 use Rattle.cg_netlist.specs.Circuit.{Circuit}
-use Rattle.cg_netlist.specs.said.Wiring.{NetName}
-use Rattle.cg_netlist.specs.said.Writable.{IsWritable}
+use Rattle.cg_netlist.specs.Wiring.{NetName}
+use Rattle.cg_parts.specs.Writable.{IsWritable}
 use Rattle.cg_blif_text.specs.BlifText.{BlifText}
 use Rattle.cg_blif_text.specs.Canonical.{blif}
 

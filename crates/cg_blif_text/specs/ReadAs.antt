@@ -5,8 +5,8 @@ use Rattle.std.specs.Option.{option_to_list}
 use Rattle.cg_cell.specs.Cell.{CellData, IsCell}
 use Rattle.cg_cell.specs.Name.{is_name}
 use Rattle.cg_netlist.specs.Circuit.{Circuit}
-use Rattle.cg_netlist.specs.declared.fault.NetFault.{NetFault}
-use Rattle.cg_netlist.specs.said.Wiring.{NetName}
+use Rattle.cg_parts.specs.declared.fault.NetFault.{NetFault}
+use Rattle.cg_netlist.specs.Wiring.{NetName}
 use Rattle.cg_blif_text.specs.declared.fault.BlifFault.{BlifFault}
 use Rattle.cg_blif_text.specs.declared.fault.BlifFault.TheVariants.{Net}
 use Rattle.cg_blif_text.specs.BlifText.{BlifText, HasNetFault, told_by}

@@ -4,7 +4,7 @@ ghost use Rattle.std.specs.Prelude.{◌≡◌};
 ghost use Rattle.cg_blif_text.specs.declared.fault.BlifFault.TheVariants.{NoMemory};
 
 use cg_limit::Limit;
-use cg_netlist::fault::NetFault;
+use cg_parts::fault::NetFault;
 use std::alloc::{AllocError, AllocFailed};
 use thiserror::Error;
 
@@ -74,7 +74,7 @@ pub enum BlifFault {
     SecondModel(u64),
 
     /// All lines were read, and they make no well-formed netlist.
-    #[error("{0}")]
+    #[error("{0:?}")]
     Net(NetFault),
 
     /// This limit would be passed.

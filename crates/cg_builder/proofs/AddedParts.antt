@@ -9,11 +9,10 @@ use Rattle.cg_netlist.specs.declared.parts.LogicFunction.{LogicFunction}
 use Rattle.cg_netlist.specs.declared.parts.RegisterKind.{RegisterKind}
 use Rattle.cg_builder.specs.Calls.{cell_of, gater_of, kind_of, register_of, shows_inverse}
 use Rattle.cg_netlist.specs.Circuit.{GatingCell, LogicCell, RegisterCell, shown_nets}
-use Rattle.cg_netlist.specs.Names.{with_name}
+use Rattle.cg_netlist.specs.Names.{with_name, with_names}
 use Rattle.cg_builder.specs.inner.Mentioned.{IsMentioned, IsMentionFault, PutsCell, PutsGater, PutsRegister}
-use Rattle.cg_netlist.specs.said.Part.{Gate, Register, mentioned}
-use Rattle.cg_netlist.specs.said.Said.{with_names}
-use Rattle.cg_netlist.specs.said.Wiring.{NetName, map_cell, map_gater, map_outputs, net_name, map_open}
+use Rattle.cg_parts.specs.Part.{Gate, Register, mentioned}
+use Rattle.cg_netlist.specs.Wiring.{NetName, map_cell, map_gater, map_outputs, net_name, map_open}
 use Rattle.cg_builder.proofs.Mentions.{fault_on_way, still_numbered, with_names-append}
 use Rattle.cg_builder.proofs.Numbering.{given_named, net_named, net_within, nets_named, nets_within, outputs_named}
 use Rattle.cg_netlist.proofs.RankingLemmas.{take_next}

@@ -4,9 +4,9 @@ use Rattle.std.proofs.Common.{refl, ap, ◌∙◌, arith}
 use Rattle.std.specs.List.{AllByRecursion}
 use Rattle.std.specs.Option.{option_map, option_to_list}
 use Rattle.cg_netlist.proofs.OrderedForm.{names}
-use Rattle.cg_netlist.proofs.said.Kept.{CellNets, GaterNets}
+use Rattle.cg_parts.proofs.Kept.{CellNets, GaterNets}
 use Rattle.cg_netlist.specs.Circuit.{GatingCell, LogicCell}
-use Rattle.cg_netlist.specs.said.Wiring.{NetName, map_cell, map_gater, net_name}
+use Rattle.cg_netlist.specs.Wiring.{NetName, map_cell, map_gater, net_name}
 
 module _ {N M : Type 0} (f g : N → M) where
   abbrev Agree : N → Type 0

@@ -16,7 +16,7 @@ use Rattle.cg_builder.proofs.EarlierNets.{before_is}
 use Rattle.cg_netlist.proofs.Unranked.{first_within}
 use Rattle.cg_builder.proofs.MarkLemmas.{same_first}
 use Rattle.cg_netlist.proofs.TableLemmas.{entry_or, entry_within}
-use Rattle.cg_netlist.proofs.said.Each.{from_recursion}
+use Rattle.cg_netlist.proofs.Each.{from_recursion}
 
 -- marks that are shown tell the first net
 pub marked_first : (marks shown : List Bool) (count n : ℕ) (test : ℕ → Bool) (first : Option ℕ) → shown ≡ marks → count ≡ n → AreMarksOf marks count test → IsFirst (length shown) (is_marked shown) first → IsFirst n test first

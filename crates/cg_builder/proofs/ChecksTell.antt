@@ -7,33 +7,33 @@ use Rattle.std.specs.Str.{bytes_eq}
 use Rattle.std.proofs.lemmas.Bool.{and_parts, both_ways, cases_Bool, cases_lt, eqb-true, eq-eqb, false_from_ne_true, lt-ltb, ltb-true, or_cases, or_left, or_parts, or_right}
 use Rattle.std.proofs.lemmas.List.{length-map, map-append}
 use Rattle.std.proofs.lemmas.List.Sums.{sum_by-cons}
-use Rattle.cg_netlist.specs.declared.fault.NetFault.TheVariants.{TwoDrivers, NoDriver, Cycle, ClockFault}
+use Rattle.cg_parts.specs.declared.fault.NetFault.TheVariants.{TwoDrivers, NoDriver, Cycle, ClockFault}
 use Rattle.cg_builder.proofs.MarkLemmas.{in_counts}
 use Rattle.cg_netlist.proofs.Members.{distinct_cons, distinct_left, distinct_right}
 use Rattle.cg_netlist.proofs.OrderedForm.{names}
 use Rattle.cg_netlist.proofs.RankLemmas.{ranked, unranked}
 use Rattle.cg_builder.proofs.ByNumber.{count_as, drivers_as, roots_as, uses_mapped}
-use Rattle.cg_netlist.proofs.said.Each.{each, each_together}
+use Rattle.cg_netlist.proofs.Each.{each, each_together}
 use Rattle.cg_builder.proofs.FirstAt.{each_at, first_at, name_at}
 use Rattle.cg_builder.proofs.GateRanksTell.{gated_as, gated_none, gated_some, ranked_reaches, reaches_ranked}
-use Rattle.cg_netlist.proofs.said.GatedNets.{before, behind}
-use Rattle.cg_netlist.proofs.said.Kept.{CellNets}
-use Rattle.cg_netlist.proofs.said.KnownNames.{known_each, known_head, known_tail, same_word, word_at}
-use Rattle.cg_netlist.proofs.said.NamePlaces.{any_known}
-use Rattle.cg_netlist.proofs.said.NetLists.{cell_inputs, gater_inputs, register_inputs}
+use Rattle.cg_parts.proofs.GatedNets.{before, behind}
+use Rattle.cg_parts.proofs.Kept.{CellNets}
+use Rattle.cg_parts.proofs.KnownNames.{known_each, known_head, known_tail, same_word, word_at}
+use Rattle.cg_parts.proofs.NamePlaces.{any_known}
+use Rattle.cg_parts.proofs.NetLists.{cell_inputs, gater_inputs, register_inputs}
 use Rattle.cg_builder.proofs.RanksTell.{driven_as, driven_by_none, driven_by_some, rank_ends}
-use Rattle.cg_netlist.proofs.said.ToldByNames.{known_as, place_back}
-use Rattle.cg_netlist.proofs.said.WaysEnd.{ends_bounded, not_false, undriven_ends}
+use Rattle.cg_parts.proofs.ToldByNames.{known_as, place_back}
+use Rattle.cg_parts.proofs.WaysEnd.{ends_bounded, not_false, undriven_ends}
 use Rattle.cg_netlist.specs.Circuit.{GatingCell, LogicCell, RegisterCell, asked_nets, is_in, shown_nets}
 use Rattle.cg_netlist.specs.Marks.{IsFirst}
 use Rattle.cg_netlist.specs.Names.{is_known}
 use Rattle.cg_netlist.specs.Ranks.{driving_cell, rank_of}
 use Rattle.cg_builder.specs.inner.Numbers.{AreNumbers, GaterWithin, Numbers, OpenWithin, drivers_by, driving, driving_gater, gate_rank, gated, is_bad_clock, is_bad_gate, is_bad_root, is_behind_cycle, is_driven_twice, is_undriven, pins_by, rooted, roots_by, seen, used}
 use Rattle.cg_netlist.specs.Places.{CellWithin}
-use Rattle.cg_netlist.specs.said.Faults.{EachNet, HasClock, IsClockProper, IsDrivenIfUsed, IsDrivenOnce, IsEnding, IsFault, IsFirstNot, IsGateProper, IsRootProper, ends_within, reaches}
-use Rattle.cg_netlist.specs.said.Part.{Part, cells, clocks, drivers, gaters, inputs, is_gated, nets, roots, uses}
-use Rattle.cg_netlist.specs.said.Said.{Said, said}
-use Rattle.cg_netlist.specs.said.Wiring.{NetName, driven_by_cells, driven_by_gaters, driven_by_registers, map_cell, map_gater, map_open, net_name, used_by}
+use Rattle.cg_parts.specs.Faults.{EachNet, HasClock, IsClockProper, IsDrivenIfUsed, IsDrivenOnce, IsEnding, IsFault, IsFirstNot, IsGateProper, IsRootProper, ends_within, reaches}
+use Rattle.cg_parts.specs.Part.{Part, cells, clocks, drivers, gaters, inputs, is_gated, nets, roots, uses}
+use Rattle.cg_parts.specs.Said.{Said, said}
+use Rattle.cg_netlist.specs.Wiring.{NetName, driven_by_cells, driven_by_gaters, driven_by_registers, map_cell, map_gater, map_open, net_name, used_by}
 
 -- nets that stand once at most
 counts_distinct : (xs : List ℕ) → ((x : ℕ) → is_in xs x ≡ true → count_by (nat_eq x) xs ≤ 1) → IsDistinct nat_eq xs

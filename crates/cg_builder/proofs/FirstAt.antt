@@ -5,11 +5,11 @@ use Rattle.std.specs.List.{AllByRecursion, AllPairs, before_first}
 use Rattle.std.specs.Str.{bytes_eq}
 use Rattle.std.proofs.lemmas.Option.{slice_get-get_or}
 use Rattle.cg_netlist.proofs.OrderedForm.{names}
-use Rattle.cg_netlist.proofs.said.KnownNames.{word_at}
-use Rattle.cg_netlist.proofs.said.ToldByNames.{place_back}
-use Rattle.cg_netlist.specs.said.Faults.{IsFirstNot}
-use Rattle.cg_netlist.specs.said.Part.{Part, nets}
-use Rattle.cg_netlist.specs.said.Wiring.{NetName, net_name}
+use Rattle.cg_parts.proofs.KnownNames.{word_at}
+use Rattle.cg_parts.proofs.ToldByNames.{place_back}
+use Rattle.cg_parts.specs.Faults.{IsFirstNot}
+use Rattle.cg_parts.specs.Part.{Part, nets}
+use Rattle.cg_netlist.specs.Wiring.{NetName, net_name}
 
 pub name_at : (names : List NetName) (x : ℕ) → x < length names → slice_get names x ≡ Some (net_name names x)
 name_at names x lt = slice_get-get_or names x [] lt ∙ ap (λ o. Some (unwrap_or o [])) (sym (slice_get-get_or names x [] lt))

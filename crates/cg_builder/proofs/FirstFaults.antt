@@ -3,22 +3,22 @@ use Rattle.std.proofs.Common.{◌≡◌, ◌⊎◌, ℕ, zero, suc, ◌+◌, ◌
 use Rattle.std.specs.List.{All, AllByRecursion, flat_map}
 use Rattle.std.proofs.lemmas.Bool.{and_from, and_parts, both_ways, cases_Bool, or_cases, or_parts, eq-eqb, eqb-true, lt-ltb, ltb-true}
 use Rattle.cg_cell.specs.Name.{is_name}
-use Rattle.cg_netlist.specs.declared.fault.NetFault.{NetFault}
-use Rattle.cg_netlist.specs.declared.fault.NetFault.TheVariants.{ClockFault, Cycle, NoClock, NoDriver, NoMemory, TwoDrivers}
+use Rattle.cg_parts.specs.declared.fault.NetFault.{NetFault}
+use Rattle.cg_parts.specs.declared.fault.NetFault.TheVariants.{ClockFault, Cycle, NoClock, NoDriver, NoMemory, TwoDrivers}
 use Rattle.cg_netlist.specs.Marks.{IsFirst}
 use Rattle.cg_netlist.specs.Names.{is_known}
 use Rattle.cg_builder.specs.inner.Finishing.{has_no_clock}
 use Rattle.cg_builder.specs.inner.Heard.{IsHeard}
 use Rattle.cg_builder.specs.inner.Numbers.{AreNumbers, Numbers, is_bad_clock, is_behind_cycle, is_driven_twice, is_undriven, rooted, seen}
-use Rattle.cg_netlist.specs.said.Faults.{EachNet, HasClock, IsClockProper, IsDrivenIfUsed, IsDrivenOnce, IsEnding, IsFault, IsFaultless}
-use Rattle.cg_netlist.specs.said.Part.{Part, mentioned, nets}
-use Rattle.cg_netlist.specs.said.Said.{said}
-use Rattle.cg_netlist.specs.said.Says.{IsPart}
-use Rattle.cg_netlist.specs.said.Wiring.{NetName, net_name}
-use Rattle.cg_netlist.proofs.said.ByKind.{has_once}
+use Rattle.cg_parts.specs.Faults.{EachNet, HasClock, IsClockProper, IsDrivenIfUsed, IsDrivenOnce, IsEnding, IsFault, IsFaultless}
+use Rattle.cg_parts.specs.Part.{Part, mentioned, nets}
+use Rattle.cg_parts.specs.Said.{said}
+use Rattle.cg_parts.specs.Says.{IsPart}
+use Rattle.cg_netlist.specs.Wiring.{NetName, net_name}
+use Rattle.cg_parts.proofs.ByKind.{has_once}
 use Rattle.cg_builder.proofs.ChecksTell.{clock_first, clocked_if, clockless_if, cycle_first, twice_first, undriven_first}
-use Rattle.cg_netlist.proofs.said.Each.{from_recursion}
-use Rattle.cg_netlist.proofs.said.KnownNames.{each_known, known_cases, known_each}
+use Rattle.cg_netlist.proofs.Each.{from_recursion}
+use Rattle.cg_parts.proofs.KnownNames.{each_known, known_cases, known_each}
 
 -- a fault that a check found
 found : (parts : List Part) (n : Numbers) (make : NetName → NetFault) (test : ℕ → Bool) (fault : NetFault) → (fault ≡ NoMemory) ⊎ ((net : ℕ) × (fault ≡ make (net_name n.names net)) × IsFirst (length n.names) test (Some net))

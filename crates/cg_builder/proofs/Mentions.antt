@@ -4,9 +4,8 @@ use Rattle.std.specs.List.{slice_get}
 use Rattle.std.proofs.lemmas.List.{append-nil, length-append, take-append-drop}
 use Rattle.std.proofs.lemmas.Bool.{cases_Bool}
 use Rattle.cg_netlist.specs.declared.fault.AddFault.{AddFault}
-use Rattle.cg_netlist.specs.Names.{is_known, with_name}
+use Rattle.cg_netlist.specs.Names.{is_known, with_name, with_names}
 use Rattle.cg_builder.specs.inner.Mentioned.{IsMentionFault}
-use Rattle.cg_netlist.specs.said.Said.{with_names}
 use Rattle.cg_netlist.proofs.NameLemmas.{with_name-known, with_name-unknown}
 use Rattle.cg_netlist.proofs.RankingLemmas.{take_next}
 use Rattle.cg_netlist.proofs.TableLemmas.{front_get}

@@ -8,8 +8,8 @@ use Rattle.cg_netlist.specs.Circuit.{GatingCell, LogicCell, RegisterCell, asked_
 use Rattle.cg_builder.specs.inner.Mentioned.{IsMentioned}
 use Rattle.cg_netlist.specs.Places.{CellWithin}
 use Rattle.cg_builder.specs.inner.Numbers.{GaterWithin, OpenWithin}
-use Rattle.cg_netlist.specs.said.Said.{with_names}
-use Rattle.cg_netlist.specs.said.Wiring.{NetName, map_cell, map_gater, map_outputs, net_name, map_open}
+use Rattle.cg_netlist.specs.Names.{with_names}
+use Rattle.cg_netlist.specs.Wiring.{NetName, map_cell, map_gater, map_outputs, net_name, map_open}
 use Rattle.cg_builder.proofs.Mentions.{still_numbered}
 
 -- nets with these names are within the names, and have them

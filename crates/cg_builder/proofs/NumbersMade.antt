@@ -6,20 +6,20 @@ use Rattle.std.specs.Option.{option_map, option_or, option_to_list}
 use Rattle.std.specs.Str.{bytes_eq}
 use Rattle.cg_netlist.proofs.Clocks.{pins}
 use Rattle.cg_builder.proofs.ChecksTell.{filter_each, map_each, rooted_in, roots_seen}
-use Rattle.cg_netlist.proofs.said.Each.{each, each_together}
-use Rattle.cg_netlist.proofs.said.Kept.{CellNets, GaterNets, RegisterNets, WiringNets}
-use Rattle.cg_netlist.proofs.said.OrderMapped.{order_mapped}
-use Rattle.cg_netlist.proofs.said.SaidByItsParts.{same_wiring}
-use Rattle.cg_netlist.proofs.said.ToldByNames.{known_as, nets_weaker, told}
+use Rattle.cg_netlist.proofs.Each.{each, each_together}
+use Rattle.cg_parts.proofs.Kept.{CellNets, GaterNets, RegisterNets, WiringNets}
+use Rattle.cg_parts.proofs.OrderMapped.{order_mapped}
+use Rattle.cg_parts.proofs.SaidByItsParts.{same_wiring}
+use Rattle.cg_parts.proofs.ToldByNames.{known_as, nets_weaker, told}
 use Rattle.cg_netlist.specs.Circuit.{GatingCell, LogicCell, RegisterCell, is_in, shown_nets}
 use Rattle.cg_netlist.specs.Names.{is_known}
 use Rattle.cg_builder.specs.inner.Numbers.{AreNumbers, GaterWithin, Numbers, OpenWithin, clock_number, made_of, on_number, ordered_numbers, ordered_place, rooted, seen, wired_numbers}
 use Rattle.cg_netlist.specs.Places.{CellWithin}
-use Rattle.cg_netlist.specs.said.Faults.{HasClock}
-use Rattle.cg_netlist.specs.said.Part.{Part, cells, clock_of, gaters, inputs, on_clock, outputs, registers, wired}
-use Rattle.cg_netlist.specs.said.Said.{Said, said}
-use Rattle.cg_netlist.specs.said.Says.{netlist_of}
-use Rattle.cg_netlist.specs.said.Wiring.{NetName, Wiring, circuit, driven_by_cells, driven_by_gaters, driven_by_registers, map_cell, map_gater, map_open, map_outputs, map_register, map_wiring, net_name, numbered, order_of, place_in}
+use Rattle.cg_parts.specs.Faults.{HasClock}
+use Rattle.cg_parts.specs.Part.{Part, cells, clock_of, gaters, inputs, on_clock, outputs, registers, wired}
+use Rattle.cg_parts.specs.Said.{Said, said}
+use Rattle.cg_parts.specs.Says.{netlist_of}
+use Rattle.cg_netlist.specs.Wiring.{NetName, Wiring, circuit, driven_by_cells, driven_by_gaters, driven_by_registers, map_cell, map_gater, map_open, map_outputs, map_register, map_wiring, net_name, numbered, order_of, place_in}
 
 -- a map after a map is one map, where the nets agree
 module _ {N M K : Type 0} (f : N → M) (g : M → K) (h : N → K) where

@@ -12,19 +12,19 @@ use Rattle.cg_netlist.specs.Ranks.{driving_cell, driving_cells, next_rank, rank_
 use Rattle.cg_netlist.specs.Chains.{chain, chain_cell}
 use Rattle.cg_builder.specs.inner.Heard.{IsHeard, IsReady}
 use Rattle.cg_builder.specs.inner.Numbers.{Numbers, driving_gater, gate_above, gate_rank, made_of, ordered_numbers, roots_by, wired_numbers}
-use Rattle.cg_netlist.specs.said.Faults.{IsFaultless}
-use Rattle.cg_netlist.specs.said.Part.{Part, wired}
-use Rattle.cg_netlist.specs.said.Said.{Said, said}
-use Rattle.cg_netlist.specs.said.Says.{Says, netlist_of}
-use Rattle.cg_netlist.specs.said.Wiring.{NetName, Wiring, net_name}
-use Rattle.cg_netlist.specs.said.Part as parts_of
+use Rattle.cg_parts.specs.Faults.{IsFaultless}
+use Rattle.cg_parts.specs.Part.{Part, wired}
+use Rattle.cg_parts.specs.Said.{Said, said}
+use Rattle.cg_parts.specs.Says.{Says, netlist_of}
+use Rattle.cg_netlist.specs.Wiring.{NetName, Wiring, net_name}
+use Rattle.cg_parts.specs.Part as parts_of
 use Rattle.cg_netlist.proofs.RankLemmas.{next_rank-agree}
-use Rattle.cg_netlist.proofs.said.AtLeastOne.{says_made}
-use Rattle.cg_netlist.proofs.said.Different.{apart_from}
-use Rattle.cg_netlist.proofs.said.Each.{each}
-use Rattle.cg_netlist.proofs.said.Kept.{RegisterNets}
+use Rattle.cg_parts.proofs.AtLeastOne.{says_made}
+use Rattle.cg_parts.proofs.Different.{apart_from}
+use Rattle.cg_netlist.proofs.Each.{each}
+use Rattle.cg_parts.proofs.Kept.{RegisterNets}
 use Rattle.cg_builder.proofs.NumbersMade.{made_is, wired_within}
-use Rattle.cg_netlist.proofs.said.SaidIsNetlist.{apart_nets, said_is_netlist}
+use Rattle.cg_parts.proofs.SaidIsNetlist.{apart_nets, said_is_netlist}
 
 module _ (model : NetName) (n : Numbers) (heard : IsHeard model n) (fine : IsFaultless heard.parts) where
   made : netlist_of model heard.parts ≡ made_of model n

@@ -11,10 +11,11 @@ use Rattle.cg_builder.specs.inner.Heard.{IsHeard, built}
 use Rattle.cg_builder.specs.inner.Mentioned.{IsMentionFault, IsRegisterFault}
 use Rattle.cg_builder.specs.inner.Numbers.{Numbers, seen}
 use Rattle.cg_builder.specs.Building.{Building, IsAnswer, Takes}
-use Rattle.cg_netlist.specs.said.Part.{Part, Register, mentioned}
-use Rattle.cg_netlist.specs.said.Said.{Said, limit_of, with_names, with_part}
-use Rattle.cg_netlist.specs.said.Says.{IsPart}
-use Rattle.cg_netlist.specs.said.Wiring.{NetName, net_name, map_open}
+use Rattle.cg_parts.specs.Part.{Part, Register, mentioned}
+use Rattle.cg_parts.specs.Said.{Said, limit_of, with_part}
+use Rattle.cg_netlist.specs.Names.{with_names}
+use Rattle.cg_parts.specs.Says.{IsPart}
+use Rattle.cg_netlist.specs.Wiring.{NetName, net_name, map_open}
 use Rattle.cg_netlist.specs.Circuit.{RegisterCell}
 use Rattle.cg_builder.proofs.Hearing.{Hears, still_heard}
 

@@ -7,12 +7,12 @@ use Rattle.cg_builder.specs.inner.Renumbering.{CellAmong, RegisterAmong}
 use Rattle.cg_netlist.specs.Marks.{AreMarksOf, is_marked}
 use Rattle.cg_builder.specs.inner.Numbers.{AreNumbers, GaterWithin, Numbers, OpenWithin, clock_number, drivers_by, gated, on_number, ordered_numbers, pins_by, rooted, used, wired_numbers}
 use Rattle.cg_netlist.specs.Places.{CellWithin}
-use Rattle.cg_netlist.specs.said.Wiring.{Wiring, driven_by_cells, driven_by_gaters, driven_by_registers, map_cell, map_gater, map_outputs, map_register, map_wiring}
+use Rattle.cg_netlist.specs.Wiring.{Wiring, driven_by_cells, driven_by_gaters, driven_by_registers, map_cell, map_gater, map_outputs, map_register, map_wiring}
 use Rattle.cg_netlist.proofs.RankingLemmas.{take_next}
 use Rattle.cg_builder.proofs.ChecksTell.{filter_each, map_each}
 use Rattle.cg_builder.proofs.Agree.{all_agree, cell_agrees, gater_agrees, nets_agree}
-use Rattle.cg_netlist.proofs.said.Each.{each, each_together, from_recursion}
-use Rattle.cg_netlist.proofs.said.Kept.{CellNets, GaterNets, RegisterNets, WiringNets}
+use Rattle.cg_netlist.proofs.Each.{each, each_together, from_recursion}
+use Rattle.cg_parts.proofs.Kept.{CellNets, GaterNets, RegisterNets, WiringNets}
 
 filter_push : (p : ℕ → Bool) (xs : List ℕ) (x : ℕ) → filter p (xs ++ x ∷ []) ≡ filter p xs ++ (if p x then x ∷ [] else [])
 filter_push p [] x = refl

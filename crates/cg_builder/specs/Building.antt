@@ -3,13 +3,13 @@ use Rattle.std.specs.Prelude.{◌≡◌, ◌⊎◌, List, ℕ, Option, None, Som
 use Rattle.cg_limit.specs.declared.Limit.{Limit}
 use Rattle.cg_netlist.specs.declared.fault.AddFault.{AddFault}
 use Rattle.cg_netlist.specs.declared.fault.AddFault.TheVariants.{Limit as Passes, NoMemory as NoRoom}
-use Rattle.cg_netlist.specs.declared.fault.NetFault.{NetFault}
-use Rattle.cg_netlist.specs.declared.fault.NetFault.TheVariants.{NoMemory}
+use Rattle.cg_parts.specs.declared.fault.NetFault.{NetFault}
+use Rattle.cg_parts.specs.declared.fault.NetFault.TheVariants.{NoMemory}
 use Rattle.cg_netlist.specs.Circuit.{Circuit}
-use Rattle.cg_netlist.specs.said.Faults.{IsFault}
-use Rattle.cg_netlist.specs.said.Part.{Part}
-use Rattle.cg_netlist.specs.said.Said.{Said, limit_of, nothing_said, said, with_part}
-use Rattle.cg_netlist.specs.said.Says.{Says}
+use Rattle.cg_parts.specs.Faults.{IsFault}
+use Rattle.cg_parts.specs.Part.{Part}
+use Rattle.cg_parts.specs.Said.{Said, limit_of, nothing_said, said, with_part}
+use Rattle.cg_parts.specs.Says.{Says}
 
 -- a builder: the name of its model, what it was told, and the refusal of the first call that it refused
 pub record Building : Type 0 where

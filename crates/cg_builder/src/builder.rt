@@ -11,7 +11,7 @@ ghost use Rattle.cg_builder.specs.Calls.{cell_of, gater_of, register_of};
 ghost use Rattle.cg_netlist.specs.WellFormed.{RegisterFits};
 ghost use Rattle.cg_netlist.specs.declared.parts.LogicFunction.TheVariants.{Cell as PlacedCell, Cover as CoverRows};
 ghost use Rattle.cg_builder.specs.Building.{Finishes, Takes, fresh};
-ghost use Rattle.cg_netlist.specs.said.Part.{Clock, Gate, Input, Logic as LogicPart, Output, Register as RegisterPart, mentioned};
+ghost use Rattle.cg_parts.specs.Part.{Clock, Gate, Input, Logic as LogicPart, Output, Register as RegisterPart, mentioned};
 
 use crate::adding::{add_gater, add_logic, add_net, add_placed, add_register};
 use crate::finish::finished;
@@ -20,11 +20,12 @@ use crate::told::Told;
 use cg_cell::cell::CellType;
 use cg_cell::cover::Cover;
 use cg_cell::name::Name;
-use cg_netlist::fault::{AddFault, NetFault};
+use cg_netlist::fault::AddFault;
 use cg_netlist::names::NetNames;
 use cg_netlist::net_set::NetSet;
 use cg_netlist::netlist::Netlist;
 use cg_netlist::parts::{Gater, Logic, LogicFunction};
+use cg_parts::fault::NetFault;
 use std::alloc::{AllocError, Global};
 use std::marker::Model;
 

@@ -5,16 +5,16 @@ ghost use Rattle.std.specs.List.{All, AllByRecursion, list_any};
 ghost use Rattle.cg_cell.specs.Name.{is_name};
 ghost use Rattle.cg_netlist.specs.Circuit.{is_in};
 ghost use Rattle.cg_netlist.specs.Marks.{AreMarksOf, IsFirst, is_marked, marked_before};
-ghost use Rattle.cg_netlist.specs.declared.fault.NetFault.TheVariants.{ClockFault, Cycle, NoDriver, NoMemory, TwoDrivers};
+ghost use Rattle.cg_parts.specs.declared.fault.NetFault.TheVariants.{ClockFault, Cycle, NoDriver, NoMemory, TwoDrivers};
 ghost use Rattle.cg_builder.specs.inner.Finishing.{FindsFirstFault, has_no_clock};
 ghost use Rattle.cg_builder.specs.inner.Heard.{IsHeard};
 ghost use Rattle.cg_builder.specs.inner.Numbers.{AreNumbers, driving, gated, is_bad_clock, is_bad_gate, is_bad_root};
 ghost use Rattle.cg_builder.specs.inner.Numbers.{is_behind_cycle, is_driven_twice, is_undriven, rooted, seen, used as in_use};
-ghost use Rattle.cg_netlist.specs.said.Faults.{IsFault, IsFaultless};
-ghost use Rattle.cg_netlist.specs.said.Part.{Part};
-ghost use Rattle.cg_netlist.specs.said.Said.{said};
-ghost use Rattle.cg_netlist.specs.said.Says.{Says};
-ghost use Rattle.cg_netlist.specs.said.Wiring.{net_name};
+ghost use Rattle.cg_parts.specs.Faults.{IsFault, IsFaultless};
+ghost use Rattle.cg_parts.specs.Part.{Part};
+ghost use Rattle.cg_parts.specs.Said.{said};
+ghost use Rattle.cg_parts.specs.Says.{Says};
+ghost use Rattle.cg_netlist.specs.Wiring.{net_name};
 
 use crate::marks::{
     earlier, first_bad_clock, first_bad_gate, first_marked, first_undriven, marks, repeated,
@@ -23,9 +23,9 @@ use crate::order::in_net_order;
 use crate::told::{Told, chain_cells, clock_roots, gated_marks, order, uses};
 use cg_cell::name::Name;
 use cg_netlist::cycles::unranked_marks;
-use cg_netlist::fault::NetFault;
 use cg_netlist::id::NetId;
 use cg_netlist::netlist::Netlist;
+use cg_parts::fault::NetFault;
 use std::alloc::{AllocError, Global};
 
 /// The netlist of the parts, or the first fault of them.

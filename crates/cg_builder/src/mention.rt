@@ -4,7 +4,7 @@ ghost use Rattle.std.specs.Prelude.{◌≡◌, ◌≢◌, ◌<◌, ◌≤◌, �
 ghost use Rattle.std.specs.List.{AllPairs};
 ghost use Rattle.std.specs.Option.{option_copied, option_to_list};
 ghost use Rattle.cg_builder.specs.inner.Mentioned.{IsMentioned, IsMentionFault};
-ghost use Rattle.cg_netlist.specs.said.Said.{with_names};
+ghost use Rattle.cg_netlist.specs.Names.{with_names};
 
 use cg_limit::Limit;
 use cg_netlist::fault::AddFault;

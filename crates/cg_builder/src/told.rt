@@ -7,7 +7,7 @@ ghost use Rattle.cg_netlist.specs.Circuit.{asked_nets, is_in};
 ghost use Rattle.cg_netlist.specs.Marks.{AreMarksOf, is_marked};
 ghost use Rattle.cg_netlist.specs.Chains.{chain};
 ghost use Rattle.cg_builder.specs.inner.Numbers.{AreNumbers, drivers_by, gated, pins_by, rooted, used};
-ghost use Rattle.cg_netlist.specs.said.Wiring.{driven_by_cells, driven_by_gaters, driven_by_registers};
+ghost use Rattle.cg_netlist.specs.Wiring.{driven_by_cells, driven_by_gaters, driven_by_registers};
 
 use crate::marks::marks;
 use crate::open_register::OpenRegister;

@@ -18,11 +18,11 @@ use Rattle.cg_claim.specs.LeafBits.{source_bit}
 use Rattle.cg_claim.specs.Leaves.{Leaf, is_reached, is_source}
 use Rattle.cg_claim.specs.Question.{Copy, Before, After, Changed, CopyPart, Next, Side, Question}
 use Rattle.cg_claim.specs.Reach.{after_nets, after_states, before_nets, before_states, changed_nets, changed_states, enable_nets, feeds, nets_reached, origin_asks, origin_nets, part_asks, part_nets, registers_of, sides_ask, sides_nets, states_reached}
-use Rattle.cg_netlist.specs.Cone.{cone_of}
+use Rattle.cg_cone.specs.Cone.{cone_of}
 use Rattle.cg_claim.specs.Violates.{Free, inputs_of, nets_at, side_bit, sides_differ, state_of, violates, IsFree, CopyPartFits, SidesFit}
 use Rattle.cg_claim.specs.declared.leaf.LeafSource.{LeafSource}
 use Rattle.cg_claim.specs.declared.leaf.LeafSource.TheVariants.{Input as InputOf, Register as RegisterOf}
-use Rattle.cg_netlist.proofs.Cones.{cone_closed}
+use Rattle.cg_cone.proofs.Cones.{cone_closed}
 use Rattle.cg_claim.proofs.GivenNets.{are_terms, bits_given, given_same, given_valid, registers_are, shown_feeds}
 use Rattle.cg_claim.proofs.CellsLaid.{Holds, IsFit, Laid, enable_gives, holds_later, lay_holds, sound_of}
 use Rattle.cg_cell.proofs.Runs.{Gives, Has, gives_and, gives_as, gives_plain, gives_then, gives_xor, has_later}

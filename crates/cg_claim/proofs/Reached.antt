@@ -11,7 +11,7 @@ use Rattle.cg_machine.specs.Machine.{MachineData, walk_of}
 use Rattle.cg_claim.specs.Question.{Copy, Before, After, Changed, CopyPart, Net, Next, State, Enable, Side, Question}
 use Rattle.cg_claim.specs.Reach.{after_nets, after_states, before_nets, before_states, changed_nets, changed_states, enable_nets, feeds, nets_reached, next_asks_own, origin_asks, origin_nets, part_asks, part_nets, registers_of, same_copy, side_asks, side_nets, sides_ask, sides_nets, states_reached}
 use Rattle.cg_claim.specs.Violates.{CopyPartFits, SidesFit}
-use Rattle.cg_netlist.proofs.Cones.{cone_has}
+use Rattle.cg_cone.proofs.Cones.{cone_has}
 
 pub both_true : (a b : Bool) → a ≡ true → b ≡ true → (a && b) ≡ true
 both_true true b h k = k

@@ -17,11 +17,11 @@ use Rattle.cg_machine.specs.Claims.{Literal}
 use Rattle.cg_machine.specs.Machine.{IsMachine, MachineData, enable_of, walk_of}
 use Rattle.cg_claim.specs.Build.{Table, Values, cell_run, enable_run, from_state, function_term, given, join_run, lay, lay_states, literal_of, mux_run, next_run, next_run_of, part_run, put_run, reached_cells, shown_by, start_nets, state_run}
 use Rattle.cg_claim.specs.Question.{CopyPart, Net, Next, State, Enable, Question}
-use Rattle.cg_netlist.specs.Cone.{cone_of}
+use Rattle.cg_cone.specs.Cone.{cone_of}
 use Rattle.cg_claim.specs.Reach.{feeds, next_asks_own, next_nets, origin_asks, origin_nets, part_asks, part_nets, reads_own, register_term}
 use Rattle.cg_claim.specs.Tables.{SameOn}
 use Rattle.cg_claim.specs.Violates.{CopyPartFits}
-use Rattle.cg_netlist.proofs.Cones.{AreClosed, cone_closed}
+use Rattle.cg_cone.proofs.Cones.{AreClosed, cone_closed}
 use Rattle.cg_netlist.proofs.RisingPlaces.{in_head, in_tail}
 use Rattle.cg_claim.proofs.GivenNets.{shown_feeds}
 use Rattle.cg_claim.proofs.Reached.{both_true}

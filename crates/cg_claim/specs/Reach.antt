@@ -5,7 +5,7 @@ use Rattle.std.specs.List.{filter, flat_map, list_any, range_with_len}
 use Rattle.std.specs.Option.{option_map_or, option_to_list}
 use Rattle.cg_cell.specs.Term.{Term, Bit, Input, has_input}
 use Rattle.cg_netlist.specs.Circuit.{RegisterCell, is_in}
-use Rattle.cg_netlist.specs.Cone.{cone_of, register_feeds}
+use Rattle.cg_cone.specs.Cone.{cone_of, register_feeds}
 use Rattle.cg_netlist.specs.declared.parts.RegisterKind.{RegisterKind}
 use Rattle.cg_netlist.specs.declared.parts.RegisterKind.TheVariants.{Plain, Flop}
 use Rattle.cg_machine.specs.Machine.{MachineData, enable_of, walk_of}

@@ -7,7 +7,7 @@ use Rattle.std.proofs.lemmas.List.{append-nil, length-map, map-append}
 use Rattle.std.proofs.lemmas.List.Elements.{All-map, All-nil, All-weaker, All-get_or}
 use Rattle.std.proofs.lemmas.Option.{get_or_from_slice_get, slice_get-get_or, slice_get-map, slice_get_within, unwrap_or-slice_get}
 use Rattle.cg_cell.specs.Name.{is_name}
-use Rattle.cg_netlist.specs.said.Wiring.{map_cell, map_register, net_name}
+use Rattle.cg_netlist.specs.Wiring.{map_cell, map_register, net_name}
 use Rattle.cg_netlist.specs.Circuit.{Circuit, LogicCell, RegisterCell, cell_nets, clock_nets, data_inputs, gate_nets, is_in, register_nets, used_nets}
 use Rattle.cg_netlist.specs.Netlist.{IsNetlist}
 use Rattle.cg_netlist.specs.WellFormed.{AreRanks, IsInNetOrder, IsOver, IsWellFormed, RegisterFits}

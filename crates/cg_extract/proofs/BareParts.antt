@@ -5,16 +5,16 @@ use Rattle.std.specs.Option.{option_map, option_to_list}
 use Rattle.std.proofs.lemmas.List.{append-nil}
 use Rattle.std.proofs.lemmas.Option.{slice_get-map}
 use Rattle.cg_netlist.proofs.Used.{output_is_used}
-use Rattle.cg_netlist.proofs.said.AtMostOne.{says_one}
-use Rattle.cg_netlist.proofs.said.SaidByItsParts.{none_left, says_own}
-use Rattle.cg_netlist.proofs.said.TakenFromNetlist.{taken_own}
+use Rattle.cg_parts.proofs.AtMostOne.{says_one}
+use Rattle.cg_parts.proofs.SaidByItsParts.{none_left, says_own}
+use Rattle.cg_parts.proofs.TakenFromNetlist.{taken_own}
 use Rattle.cg_netlist.specs.Circuit.{Circuit, RegisterCell}
 use Rattle.cg_netlist.specs.Netlist.{IsNetlist}
 use Rattle.cg_builder.specs.Building.{Building, Finishes, fresh}
-use Rattle.cg_netlist.specs.said.Part.{Clock, Input, Logic, Output}
-use Rattle.cg_netlist.specs.said.Said.{nothing_said, said}
-use Rattle.cg_netlist.specs.said.Says.{AreTaken, Says, parts_from, register_part}
-use Rattle.cg_netlist.specs.said.Wiring.{NetName, map_cell, map_register, named, net_name}
+use Rattle.cg_parts.specs.Part.{Clock, Input, Logic, Output}
+use Rattle.cg_parts.specs.Said.{nothing_said, said}
+use Rattle.cg_parts.specs.Says.{AreTaken, Says, parts_from, register_part}
+use Rattle.cg_netlist.specs.Wiring.{NetName, map_cell, map_register, named, net_name}
 use Rattle.cg_insert.proofs.InsertedParts.{map_twice, said_all}
 use Rattle.cg_insert.proofs.OrderedNames.{named_ordered}
 use Rattle.cg_insert.proofs.ToldParts.{within_limit}

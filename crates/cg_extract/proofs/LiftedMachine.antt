@@ -5,7 +5,7 @@ use Rattle.std.proofs.lemmas.Bool.{or_cases, or_left, or_right}
 use Rattle.std.proofs.lemmas.List.{length-map}
 use Rattle.std.proofs.lemmas.Option.{slice_get-map, slice_get_within}
 use Rattle.cg_netlist.specs.Circuit.{Circuit, GatingCell, RegisterCell, gate_nets, is_in}
-use Rattle.cg_netlist.specs.said.Wiring.{map_register}
+use Rattle.cg_netlist.specs.Wiring.{map_register}
 use Rattle.cg_machine.specs.Machine.{IsMachine, IsNet, MachineData, enable_of}
 use Rattle.cg_extract.proofs.Bare.{bare_long}
 use Rattle.cg_extract.proofs.Depths.{all_taken, depths_few}

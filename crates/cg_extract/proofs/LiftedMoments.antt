@@ -7,7 +7,7 @@ use Rattle.std.proofs.lemmas.List.{length-map}
 use Rattle.std.proofs.lemmas.Option.{slice_get-get_or, slice_get-map}
 use Rattle.cg_netlist.specs.Circuit.{Circuit, LogicCell, RegisterCell, data_inputs, gate_nets, is_in, register_nets, used_nets}
 use Rattle.cg_netlist.specs.Moment.{Settles, bit, function_value, register_bits, shown_bits, values_at}
-use Rattle.cg_netlist.specs.said.Wiring.{map_cell, map_register, net_name}
+use Rattle.cg_netlist.specs.Wiring.{map_cell, map_register, net_name}
 use Rattle.cg_netlist.proofs.ClockFree.{lowers}
 use Rattle.cg_netlist.proofs.Given.{from_option}
 use Rattle.cg_netlist.proofs.Members.{is_in_left}

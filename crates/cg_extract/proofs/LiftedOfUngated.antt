@@ -9,12 +9,12 @@ use Rattle.cg_machine.specs.Run.{with_enables}
 use Rattle.cg_machine.specs.Start.{machine_of}
 use Rattle.cg_netlist.proofs.Given.{in_option}
 use Rattle.cg_netlist.proofs.Members.{is_in_cases}
-use Rattle.cg_netlist.proofs.said.AtMostOne.{says_one}
-use Rattle.cg_netlist.proofs.said.SaidByItsParts.{none_left, says_own}
+use Rattle.cg_parts.proofs.AtMostOne.{says_one}
+use Rattle.cg_parts.proofs.SaidByItsParts.{none_left, says_own}
 use Rattle.cg_netlist.specs.Circuit.{Circuit, GatingCell, RegisterCell, clock_nets, gate_nets, is_in}
 use Rattle.cg_netlist.specs.Netlist.{IsNetlist}
-use Rattle.cg_netlist.specs.said.Says.{Says, parts_from}
-use Rattle.cg_netlist.specs.said.Wiring.{NetName, named}
+use Rattle.cg_parts.specs.Says.{Says, parts_from}
+use Rattle.cg_netlist.specs.Wiring.{NetName, named}
 use Rattle.cg_extract.proofs.Bare.{bare_formed, bare_netlist, in_order}
 use Rattle.cg_extract.proofs.Depths.{depths_few}
 use Rattle.cg_extract.proofs.BareParts.{outputs_once}

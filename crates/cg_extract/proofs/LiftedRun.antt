@@ -6,7 +6,7 @@ use Rattle.std.proofs.lemmas.Option.{slice_get-map, slice_get_within}
 use Rattle.cg_netlist.specs.Circuit.{Circuit, RegisterCell}
 use Rattle.cg_netlist.specs.History.{AreTicks, IsLawful, LawfulFrom, Moment, MomentFollows, Tick, gate_bit, next_bit, next_value, outputs_of}
 use Rattle.cg_netlist.specs.Moment.{bit, values_at, zip_with}
-use Rattle.cg_netlist.specs.said.Wiring.{map_register}
+use Rattle.cg_netlist.specs.Wiring.{map_register}
 use Rattle.cg_netlist.proofs.Used.{data_is_used, output_is_used}
 use Rattle.cg_netlist.proofs.Values.{bit_shown, element_at, length-zip_with, same_places, zip_with_at}
 use Rattle.cg_machine.proofs.Bits.{each_get, length-each}

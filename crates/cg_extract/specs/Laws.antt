@@ -7,8 +7,8 @@ use Rattle.cg_netlist.specs.Circuit.{Circuit, GatingCell, data_inputs, is_in}
 use Rattle.cg_netlist.specs.History.{IsLawful, IsStart, IsWaveform, Moment, Tick, outputs_of}
 use Rattle.cg_netlist.specs.Moment.{Settles}
 use Rattle.cg_netlist.specs.Netlist.{IsNetlist}
-use Rattle.cg_netlist.specs.said.Wiring.{named, net_name}
-use Rattle.cg_netlist.specs.said.Writable.{IsWritable}
+use Rattle.cg_netlist.specs.Wiring.{named, net_name}
+use Rattle.cg_parts.specs.Writable.{IsWritable}
 use Rattle.cg_machine.specs.Added.{HasNames, own_netlist}
 use Rattle.cg_machine.specs.Machine.{IsMachine, MachineData, enable_of, values}
 use Rattle.cg_machine.specs.Run.{shown_from, states_from}

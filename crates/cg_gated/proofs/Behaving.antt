@@ -16,7 +16,7 @@ use Rattle.cg_netlist.specs.Circuit.{Circuit, data_inputs, is_in, net_order, use
 use Rattle.cg_netlist.specs.History.{AreTicks, IsWaveform, Tick}
 use Rattle.cg_netlist.specs.Ordered.{place_in}
 use Rattle.cg_netlist.specs.WellFormed.{IsWellFormed}
-use Rattle.cg_netlist.specs.said.Wiring.{NetName, Wiring, map_register, net_name}
+use Rattle.cg_netlist.specs.Wiring.{NetName, Wiring, map_register, net_name}
 use Rattle.cg_netlist.proofs.Given.{data_given, driver_within, given_driver}
 use Rattle.cg_netlist.proofs.Histories.{has_history, has_one_history}
 use Rattle.cg_netlist.proofs.Members.{All-member}

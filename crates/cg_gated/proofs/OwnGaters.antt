@@ -12,7 +12,7 @@ use Rattle.cg_cell.specs.Pins.{is_test}
 use Rattle.cg_cell.specs.declared.cell.CellKind.TheVariants.{Gater as GaterKind}
 use Rattle.cg_cell.specs.declared.fit.FitKind.TheVariants.{And2, Gater}
 use Rattle.cg_netlist.specs.Circuit.{Circuit, GatingCell}
-use Rattle.cg_netlist.specs.said.Writable.{IsOf}
+use Rattle.cg_parts.specs.Writable.{IsOf}
 use Rattle.cg_insert.proofs.GatedCells.{some_pass}
 use Rattle.cg_insert.proofs.GatedParts.{at_All}
 use Rattle.cg_plan.specs.Cells.{HasCell}

@@ -12,7 +12,7 @@ use Rattle.cg_netlist.specs.Circuit.{Circuit, LogicCell, RegisterCell, cell_nets
 use Rattle.cg_netlist.specs.Moment.{zip_with}
 use Rattle.cg_netlist.specs.Ordered.{place_in}
 use Rattle.cg_netlist.specs.WellFormed.{IsWellFormed}
-use Rattle.cg_netlist.specs.said.Wiring.{NetName, Wiring, map_cell, map_outputs, map_register, named, net_name}
+use Rattle.cg_netlist.specs.Wiring.{NetName, Wiring, map_cell, map_outputs, map_register, named, net_name}
 use Rattle.cg_netlist.proofs.Given.{clock_given, driver_within, given_driver, register_given}
 use Rattle.cg_netlist.proofs.Members.{All-member, is_in_right, member_at}
 use Rattle.cg_netlist.proofs.Used.{data_is_used, in_flat, input_is_used}

@@ -3,7 +3,7 @@ use Rattle.std.proofs.Common.{◌≡◌, ℕ, ◌<◌, ◌≤◌, List, [], ◌�
 use Rattle.std.specs.List.{All, AllByRecursion}
 use Rattle.std.proofs.lemmas.List.Elements.{All-get_or}
 use Rattle.std.proofs.lemmas.Option.{get_or_from_slice_get}
-use Rattle.cg_netlist.proofs.said.Each.{by_recursion, from_recursion}
+use Rattle.cg_netlist.proofs.Each.{by_recursion, from_recursion}
 use Rattle.cg_netlist.specs.Circuit.{Circuit}
 use Rattle.cg_netlist.specs.History.{Moment}
 use Rattle.cg_report.specs.Idle.{CountZeros, low_moments, zeros_of}

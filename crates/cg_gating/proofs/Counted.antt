@@ -20,8 +20,8 @@ use Rattle.cg_machine.specs.Run.{state_now, states_from}
 use Rattle.cg_netlist.specs.Circuit.{Circuit, data_inputs, is_in}
 use Rattle.cg_netlist.specs.History.{AreTicks, LawfulFrom, Moment, Tick, gate_bit}
 use Rattle.cg_netlist.specs.Moment.{bit, zip_with}
-use Rattle.cg_netlist.specs.said.Wiring.{net_name}
-use Rattle.cg_netlist.proofs.said.Each.{from_recursion}
+use Rattle.cg_netlist.specs.Wiring.{net_name}
+use Rattle.cg_netlist.proofs.Each.{from_recursion}
 use Rattle.cg_report.specs.Idle.{CountZeros, low_moments, zeros_of}
 use Rattle.cg_stimulus.specs.Inputs.{IsFor, IsStimulus, Rows}
 use Rattle.cg_stimulus.proofs.Playing.{start_is, wave_is}

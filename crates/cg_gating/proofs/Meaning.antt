@@ -23,7 +23,7 @@ use Rattle.cg_netlist.specs.Circuit.{Circuit, data_inputs}
 use Rattle.cg_netlist.specs.History.{IsLawful, IsStart, IsWaveform, Moment, Tick}
 use Rattle.cg_netlist.specs.Netlist.{IsNetlist}
 use Rattle.cg_netlist.specs.WellFormed.{IsWellFormed}
-use Rattle.cg_netlist.specs.said.Writable.{IsWritable}
+use Rattle.cg_parts.specs.Writable.{IsWritable}
 use Rattle.cg_netlist.proofs.Histories.{has_history, has_one_history}
 use Rattle.cg_plan.specs.Plan.{Plan, plan_of}
 use Rattle.cg_plan.proofs.AllSafe.{each_fits, plans_safe}

@@ -9,7 +9,7 @@ use Rattle.cg_insert.specs.Insert.{insertion_limit}
 use Rattle.cg_limit.specs.declared.Limit.{Limit}
 use Rattle.cg_machine.specs.Start.{begins}
 use Rattle.cg_netlist.specs.Circuit.{Circuit}
-use Rattle.cg_netlist.specs.said.Writable.{IsWritable}
+use Rattle.cg_parts.specs.Writable.{IsWritable}
 use Rattle.cg_plan.specs.Plan.{plan_of}
 use Rattle.cg_plan.specs.declared.settings.Settings.{Settings}
 use Rattle.cg_stimulus.specs.Inputs.{IsFor, Rows}

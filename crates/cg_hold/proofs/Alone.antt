@@ -12,7 +12,7 @@ use Rattle.cg_lists.specs.HoldList.{hold_width}
 use Rattle.cg_lists.specs.Supports.{input_cone}
 use Rattle.cg_machine.specs.Machine.{MachineData, enable_of, walk_of}
 use Rattle.cg_netlist.specs.Circuit.{LogicCell, RegisterCell, data_inputs, is_in, shown_nets}
-use Rattle.cg_netlist.specs.Cone.{cone_of}
+use Rattle.cg_cone.specs.Cone.{cone_of}
 
 cone_none : (cells : List (LogicCell ℕ)) → cone_of cells [] ≡ []
 cone_none [] = refl

@@ -17,9 +17,9 @@ use Rattle.cg_lists.specs.Supports.{all_nets, in_net_order, input_cone}
 use Rattle.cg_machine.specs.Added.{own_netlist, own_nets}
 use Rattle.cg_machine.specs.Claims.{Literal}
 use Rattle.cg_machine.specs.Machine.{IsMachine, MachineData, walk_of}
-use Rattle.cg_netlist.proofs.Cones.{cone_has}
+use Rattle.cg_cone.proofs.Cones.{cone_has}
 use Rattle.cg_netlist.specs.Circuit.{RegisterCell, is_in}
-use Rattle.cg_netlist.specs.Cone.{cone_of}
+use Rattle.cg_cone.specs.Cone.{cone_of}
 use Rattle.cg_netlist.specs.declared.fault.AddFault.{AddFault}
 use Rattle.cg_netlist.specs.declared.fault.AddFault.TheVariants.{Limit as LimitFault}
 use Rattle.cg_hold.specs.declared.choice.Choice.{Choice}

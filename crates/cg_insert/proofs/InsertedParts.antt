@@ -16,22 +16,22 @@ use Rattle.cg_netlist.proofs.Members.{distinct_cons, distinct_head, distinct_tai
 use Rattle.cg_netlist.proofs.NetOrder.{from_mapped}
 use Rattle.cg_netlist.proofs.OrderedForm.{same_number, used_within}
 use Rattle.cg_netlist.proofs.Used.{output_is_used}
-use Rattle.cg_netlist.proofs.said.Different.{Apart, apart_from, no_more}
-use Rattle.cg_netlist.proofs.said.Each.{by_recursion, each_together, from_recursion}
-use Rattle.cg_netlist.proofs.said.KnownNames.{known_each, known_head, known_tail, word_at}
-use Rattle.cg_netlist.proofs.said.SaidByItsParts.{none_left, says_own}
-use Rattle.cg_netlist.proofs.said.SaidMore.{said_more}
-use Rattle.cg_netlist.proofs.said.TakenFromNetlist.{taken_own}
+use Rattle.cg_parts.proofs.Different.{Apart, apart_from, no_more}
+use Rattle.cg_netlist.proofs.Each.{by_recursion, each_together, from_recursion}
+use Rattle.cg_parts.proofs.KnownNames.{known_each, known_head, known_tail, word_at}
+use Rattle.cg_parts.proofs.SaidByItsParts.{none_left, says_own}
+use Rattle.cg_parts.proofs.SaidMore.{said_more}
+use Rattle.cg_parts.proofs.TakenFromNetlist.{taken_own}
 use Rattle.cg_netlist.specs.Circuit.{Circuit, GatingCell, LogicCell, RegisterCell, is_in, net_order}
 use Rattle.cg_netlist.specs.Names.{is_known}
 use Rattle.cg_netlist.specs.Netlist.{IsNetlist}
 use Rattle.cg_netlist.specs.Ordered.{ordered, place_in}
 use Rattle.cg_netlist.specs.WellFormed.{IsInNetOrder, IsWellFormed}
 use Rattle.cg_builder.specs.Building.{Building, fresh}
-use Rattle.cg_netlist.specs.said.Part.{Clock, Gate, Input, Logic, Output, Part}
-use Rattle.cg_netlist.specs.said.Said.{nothing_said, said}
-use Rattle.cg_netlist.specs.said.Says.{AreTaken, Says, parts_from, register_part}
-use Rattle.cg_netlist.specs.said.Wiring.{NetName, map_cell, map_gater, map_register, named, net_name}
+use Rattle.cg_parts.specs.Part.{Clock, Gate, Input, Logic, Output, Part}
+use Rattle.cg_parts.specs.Said.{nothing_said, said}
+use Rattle.cg_parts.specs.Says.{AreTaken, Says, parts_from, register_part}
+use Rattle.cg_netlist.specs.Wiring.{NetName, map_cell, map_gater, map_register, named, net_name}
 use Rattle.cg_insert.proofs.GatedForm.{gated_formed, inputs_once}
 use Rattle.cg_insert.proofs.GatedMoments.{names_count}
 use Rattle.cg_insert.proofs.GatedParts.{registers_count}

@@ -9,10 +9,10 @@ use Rattle.cg_netlist.specs.Circuit.{Circuit, GatingCell, LogicCell, RegisterCel
 use Rattle.cg_netlist.specs.Ordered.{ordered, place_in}
 use Rattle.cg_netlist.specs.WellFormed.{IsInNetOrder, IsWellFormed}
 use Rattle.cg_netlist.proofs.OrderedForm.{placed}
-use Rattle.cg_netlist.proofs.said.Kept.{CellNets, GaterNets, RegisterNets, WiringNets}
-use Rattle.cg_netlist.proofs.said.SaidByItsParts.{same_wiring}
-use Rattle.cg_netlist.proofs.said.ToldByNames.{wiring_within}
-use Rattle.cg_netlist.specs.said.Wiring.{NetName, Wiring, map_cell, map_gater, map_outputs, map_register, map_wiring, named, net_name, wiring}
+use Rattle.cg_parts.proofs.Kept.{CellNets, GaterNets, RegisterNets, WiringNets}
+use Rattle.cg_parts.proofs.SaidByItsParts.{same_wiring}
+use Rattle.cg_parts.proofs.ToldByNames.{wiring_within}
+use Rattle.cg_netlist.specs.Wiring.{NetName, Wiring, map_cell, map_gater, map_outputs, map_register, map_wiring, named, net_name, wiring}
 
 -- parts with other nets twice, where the nets in between are such
 module _ {N M K : Type 0} (f : N → M) (h : M → K) (k : N → K) (P : M → Type 0) (same : (x : N) → P (f x) → h (f x) ≡ k x) where

@@ -16,9 +16,9 @@ use Rattle.cg_netlist.specs.Moment.{zip_with}
 use Rattle.cg_netlist.specs.WellFormed.{FitsKind, RegisterFits, ShowsAsPin}
 use Rattle.cg_netlist.specs.declared.parts.RegisterKind.{RegisterKind}
 use Rattle.cg_netlist.specs.declared.parts.RegisterKind.TheVariants.{Plain, Flop}
-use Rattle.cg_netlist.specs.said.Part.{Part, Register}
-use Rattle.cg_netlist.specs.said.Says.{IsPart}
-use Rattle.cg_netlist.specs.said.Wiring.{NetName, map_outputs, net_name}
+use Rattle.cg_parts.specs.Part.{Part, Register}
+use Rattle.cg_parts.specs.Says.{IsPart}
+use Rattle.cg_netlist.specs.Wiring.{NetName, map_outputs, net_name}
 use Rattle.cg_insert.specs.inner.GatedParts.{clocked_part, placed_outputs}
 
 -- each output with the place of its pin

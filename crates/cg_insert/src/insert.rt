@@ -20,8 +20,9 @@ use cg_cell::library::Library;
 use cg_cell::name::Name;
 use cg_limit::{Limit, MOST_NETS};
 use cg_machine::machine::Machine;
-use cg_netlist::fault::{AddFault, NetFault};
+use cg_netlist::fault::AddFault;
 use cg_netlist::netlist::Netlist;
+use cg_parts::fault::NetFault;
 use std::alloc::Global;
 
 /// The netlist of a machine: each enable has a gating cell, in the order of the first register that has it, whose output is

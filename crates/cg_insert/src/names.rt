@@ -6,7 +6,7 @@ ghost use Rattle.std.specs.Option.{option_copied, option_to_list};
 ghost use Rattle.cg_insert.specs.inner.GatedParts.{gated_names};
 ghost use Rattle.cg_insert.specs.Insert.{enables_of};
 ghost use Rattle.cg_netlist.specs.Names.{bytes_of};
-ghost use Rattle.cg_netlist.specs.said.Wiring.{net_name};
+ghost use Rattle.cg_netlist.specs.Wiring.{net_name};
 
 use cg_cell::name::Name;
 use cg_machine::machine::Machine;

@@ -8,7 +8,7 @@ use Rattle.cg_netlist.proofs.Members.{is_in_cases, is_in_left}
 use Rattle.cg_netlist.proofs.Used.{data_is_used, input_is_used}
 use Rattle.cg_machine.specs.Machine.{IsMachine, IsNet, MachineData}
 use Rattle.cg_machine.proofs.Grown.{used_below}
-use Rattle.cg_netlist.specs.Cone.{cone_of}
+use Rattle.cg_cone.specs.Cone.{cone_of}
 use Rattle.cg_claim.specs.Reach.{inputs_of_register}
 use Rattle.cg_lists.specs.Supports.{}
 

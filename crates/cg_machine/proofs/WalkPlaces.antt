@@ -8,13 +8,14 @@ use Rattle.cg_netlist.specs.Circuit.{Circuit, LogicCell, cell_nets, given_nets, 
 use Rattle.cg_netlist.specs.Netlist.{IsNetlist}
 use Rattle.cg_netlist.specs.Nets.{walk_order}
 use Rattle.cg_netlist.proofs.CellFits.{walk_within}
-use Rattle.cg_netlist.proofs.ConeEdge.{data_rises}
+use Rattle.cg_cone.proofs.ConeEdge.{data_rises}
 use Rattle.cg_netlist.proofs.Driven.{in_range}
 use Rattle.cg_netlist.proofs.Given.{distinct_cells, driver_within}
 use Rattle.cg_netlist.proofs.Members.{distinct_append, is_in_right, one_place}
 use Rattle.cg_netlist.proofs.TableLemmas.{front_get}
 use Rattle.cg_netlist.proofs.RisingNumbers.{range_rises}
-use Rattle.cg_netlist.specs.inner.Reaching.{IsWired, Rises}
+use Rattle.cg_cone.specs.inner.Reaching.{IsWired}
+use Rattle.cg_netlist.specs.inner.Rising.{Rises}
 use Rattle.cg_netlist.proofs.WalkPlaces.{rises_once, walk_long, walk_once}
 use Rattle.cg_machine.specs.Added.{own_netlist}
 use Rattle.cg_machine.specs.Machine.{IsMachine, MachineData, order_of}

@@ -7,7 +7,7 @@ ghost use Rattle.cg_netlist.specs.Netlist.{widest_of};
 ghost use Rattle.cg_machine.specs.Tries.{MayTry, Tries};
 
 use crate::machine::Machine;
-use cg_netlist::cone::Cone;
+use cg_cone::cone::Cone;
 use cg_netlist::id::{CellId, NetId};
 use cg_netlist::walk::{gather, put};
 

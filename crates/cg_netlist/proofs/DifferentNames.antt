@@ -5,8 +5,7 @@ use Rattle.std.specs.Cmp.Lexicographic.{same_text, other_text}
 use Rattle.std.proofs.lemmas.Bool.{cases_Bool, or_cases, or_parts, both_ways}
 use Rattle.std.proofs.lemmas.List.Quantifiers.{all_pairs_push}
 use lib.Pointwise.{pointwise}
-use Rattle.cg_netlist.specs.Names.{is_known, with_name}
-use Rattle.cg_netlist.specs.said.Said.{with_names}
+use Rattle.cg_netlist.specs.Names.{is_known, with_name, with_names}
 use Rattle.cg_netlist.proofs.NameLemmas.{with_name-known, with_name-unknown}
 
 abbrev AreDifferent : List (List ℕ) → Type 0

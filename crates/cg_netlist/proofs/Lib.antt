@@ -2,13 +2,11 @@ pub mod ByRank
 pub mod CellFits
 pub mod ClockFree
 pub mod Clocks
-pub mod ConeEdge
-pub mod ConeWalk
-pub mod Cones
 pub mod DifferentNames
 pub mod Driven
 pub mod DriverTable
 pub mod DrivingCells
+pub mod Each
 pub mod Filtered
 pub mod GatedRegister
 pub mod FoundNets
@@ -20,7 +18,6 @@ pub mod NamesInOrder
 pub mod NetOrder
 pub mod NetSetLemmas
 pub mod NetsOf
-pub mod OneDriver
 pub mod OrderLemmas
 pub mod OrderedForm
 pub mod OrderedHistories
@@ -46,4 +43,3 @@ pub mod WalkPlaces
 pub mod Walked
 pub mod Walks
 pub mod WidthLemmas
-pub mod said

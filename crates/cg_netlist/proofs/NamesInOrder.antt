@@ -8,7 +8,7 @@ use lib.Pointwise.{pointwise}
 use Rattle.cg_netlist.specs.Names.{is_known}
 use Rattle.cg_netlist.specs.Places.{number_in}
 use Rattle.cg_netlist.specs.NamePlaces.{AreOrdered}
-use Rattle.cg_netlist.specs.said.Wiring.{net_name}
+use Rattle.cg_netlist.specs.Wiring.{net_name}
 use Rattle.cg_netlist.proofs.DifferentNames.{known_at}
 use Rattle.cg_netlist.proofs.TableLemmas.{All-at}
 use Rattle.cg_netlist.proofs.PlaceLemmas.{mapped_at, place_is, same_net}

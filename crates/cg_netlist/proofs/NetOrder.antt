@@ -7,7 +7,7 @@ use Rattle.std.proofs.lemmas.List.{map-append, map-id, length-map}
 use Rattle.std.proofs.lemmas.List.FromFn.{fill_by_all}
 use Rattle.std.proofs.lemmas.Option.{get_or_from_slice_get, slice_get-map, slice_get-get_or}
 use Rattle.cg_netlist.specs.Circuit.{LogicCell, RegisterCell, is_in, shown_nets}
-use Rattle.cg_netlist.specs.said.Wiring.{map_cell, map_register}
+use Rattle.cg_netlist.specs.Wiring.{map_cell, map_register}
 use Rattle.cg_netlist.proofs.PlaceLemmas.{place_is}
 
 -- a net that is in a list stands in the mapped list under its number

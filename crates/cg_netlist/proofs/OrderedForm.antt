@@ -10,9 +10,9 @@ use Rattle.cg_cell.specs.Cell.{IsCell}
 use Rattle.cg_cell.specs.Name.{is_name}
 use Rattle.cg_cell.specs.Pins.{is_test}
 use Rattle.cg_cell.specs.declared.cell.CellKind.TheVariants.{Gater as GaterKind}
-use Rattle.cg_netlist.specs.said.Wiring.{net_name}
+use Rattle.cg_netlist.specs.Wiring.{net_name}
 use Rattle.cg_netlist.specs.Circuit.{Circuit, GatingCell, LogicCell, asked_nets, is_in, cell_nets, clock_nets, data_inputs, gate_nets, given_nets, net_order, register_nets, used_nets}
-use Rattle.cg_netlist.specs.said.Wiring.{map_cell, map_register}
+use Rattle.cg_netlist.specs.Wiring.{map_cell, map_register}
 use Rattle.cg_netlist.specs.WellFormed.{AreRanks, IsInNetOrder, IsOver, IsWellFormed, RegisterFits}
 use Rattle.cg_netlist.proofs.Driven.{driven_in_order}
 use Rattle.cg_netlist.proofs.PlaceLemmas.{mapped_at}
@@ -23,7 +23,7 @@ use Rattle.cg_netlist.proofs.NetOrder.{data_renumbered, from_mapped, in_mapped, 
 use Rattle.cg_netlist.proofs.PlaceLemmas.{same_net}
 use Rattle.cg_netlist.proofs.Values.{at_map}
 use Rattle.cg_netlist.specs.Ordered.{ordered, place_in, with_numbers}
-use Rattle.cg_netlist.specs.said.Wiring.{map_gater}
+use Rattle.cg_netlist.specs.Wiring.{map_gater}
 use Rattle.cg_netlist.proofs.Used.{input_is_used}
 
 -- a net that is in a list stands at its place

@@ -5,7 +5,7 @@ use Rattle.std.specs.Option.{option_map}
 use Rattle.std.proofs.lemmas.Bool.{cases_Bool, eqb-true, eq-eqb, both_ways, cases_lt}
 use Rattle.std.proofs.lemmas.List.{map-append}
 use Rattle.std.proofs.lemmas.Option.{slice_get-map, unwrap_or-slice_get, same_Some}
-use Rattle.cg_netlist.specs.said.Wiring.{net_name}
+use Rattle.cg_netlist.specs.Wiring.{net_name}
 use Rattle.cg_netlist.specs.Circuit.{is_in}
 use Rattle.cg_netlist.specs.Names.{is_known, with_name}
 use Rattle.cg_netlist.proofs.Members.{distinct_head, distinct_tail, member_at, one_place}

@@ -3,7 +3,7 @@ use Rattle.std.proofs.Common.{[], ℕ, suc, ◌≤◌, ◌≡◌, Bool, List, �
 use Rattle.std.specs.List.{AllZip}
 use Rattle.std.proofs.lemmas.List.{length-map}
 use Rattle.cg_cell.specs.Pins.{PinData}
-use Rattle.cg_netlist.specs.said.Wiring.{map_register}
+use Rattle.cg_netlist.specs.Wiring.{map_register}
 use Rattle.cg_netlist.specs.Circuit.{RegisterCell}
 use Rattle.cg_netlist.specs.WellFormed.{FitsKind, RegisterFits, ShowsAsPin}
 use Rattle.cg_netlist.specs.declared.parts.RegisterKind.{RegisterKind}

@@ -10,7 +10,7 @@ use Rattle.std.proofs.lemmas.Bool.{both_ways, cases_Bool, eqb-true, or_cases, or
 use Rattle.cg_netlist.specs.Circuit.{is_in}
 use Rattle.cg_netlist.proofs.Filtered.{in_filter, range_in, to_filter}
 use Rattle.cg_netlist.proofs.FoundNets.{same_truth}
-use Rattle.cg_netlist.specs.inner.Reaching.{Rises}
+use Rattle.cg_netlist.specs.inner.Rising.{Rises}
 use Rattle.cg_netlist.proofs.RisingPlaces.{rising_same}
 
 pub rises_later : (a b : ℕ) (xs : List ℕ) → b ≤ a → Rises a xs → Rises b xs

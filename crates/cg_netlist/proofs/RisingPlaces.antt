@@ -5,7 +5,7 @@ use Rattle.std.specs.List.{cons_option, filter}
 use Rattle.std.proofs.lemmas.Bool.{both_ways, cases_Bool, eqb-true, eq-eqb, or_cases, or_left, or_right}
 use Rattle.cg_netlist.specs.Circuit.{is_in}
 use Rattle.cg_netlist.specs.Moment.{values_at}
-pub use Rattle.cg_netlist.specs.inner.Reaching.{Rises}
+pub use Rattle.cg_netlist.specs.inner.Rising.{Rises}
 
 pub in_head : (x : ℕ) (xs : List ℕ) → is_in (x ∷ xs) x ≡ true
 in_head x xs = or_left (nat_eq x x) (is_in xs x) (eq-eqb x x refl)

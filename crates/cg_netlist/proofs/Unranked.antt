@@ -10,7 +10,7 @@ use Rattle.cg_netlist.specs.Places.{CellWithin}
 use Rattle.cg_netlist.specs.Ranking.{IsGraph, entry}
 use Rattle.cg_netlist.specs.Ranks.{driving_cell, is_unranked, rank_of, ranks_of}
 use Rattle.cg_netlist.proofs.TableLemmas.{entry_or, entry_within}
-use Rattle.cg_netlist.proofs.said.Each.{from_recursion}
+use Rattle.cg_netlist.proofs.Each.{from_recursion}
 
 -- the number of a driving cell is that of a cell
 pub first_within : (test : LogicCell ℕ → Bool) (a : ℕ) (cells : List (LogicCell ℕ)) (k : ℕ) → position_from test a cells ≡ Some k → k < a + length cells

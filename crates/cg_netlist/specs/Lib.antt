@@ -1,6 +1,5 @@
 pub mod Chains
 pub mod Circuit
-pub mod Cone
 pub mod Drivers
 pub mod History
 pub mod Marks
@@ -18,5 +17,5 @@ pub mod View
 pub mod Walk
 pub mod WalkLaws
 pub mod WellFormed
+pub mod Wiring
 pub mod inner
-pub mod said

@@ -15,3 +15,8 @@ is_known names name = list_any (pointwise nat_eq name) names
 -- the names with this one behind them, if it is not among them
 abbrev pub with_name : List (List ℕ) → List ℕ → List (List ℕ)
 with_name names name = if is_known names name then names else names ++ name ∷ []
+
+-- names with more behind them, each that is not there yet
+abbrev pub with_names : List (List ℕ) → List (List ℕ) → List (List ℕ)
+with_names names [] = names
+with_names names (name ∷ more) = with_names (with_name names name) more

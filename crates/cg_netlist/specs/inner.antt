@@ -1,4 +1,4 @@
 pub mod Driving
 pub mod Kept
-pub mod Reaching
+pub mod Rising
 pub mod Walking

@@ -1,12 +1,12 @@
 //! Netlists as plain data, and what they mean.
 //!
 //! `Netlist::new` makes a netlist of parts that are one: well formed, with their nets in net order. Who has parts by the
-//! names of their nets makes it by the crate `cg_builder`.
+//! names of their nets makes it by the crate `cg_builder`; what such parts say stands in `cg_parts`.
 //!
 //! The modules, in the order in which data flows through them:
 //!
 //! - `id`: the numbers of nets, logic cells, registers and gating cells.
-//! - `fault`: why a part is not taken, and why parts make no netlist.
+//! - `fault`: why a part is not taken.
 //! - `names`: the names of nets in their order.
 //! - `net_set`: nets that are taken once.
 //! - `parts`: logic cells, gating cells and registers as a netlist keeps them.
@@ -15,26 +15,17 @@
 //! - `view`: what a netlist shows of one of its parts.
 //! - `levels`: the logic cells in an order in which each stands behind those that drive its inputs.
 //! - `driver`: what drives each net.
-//! - `ascending`: numbers in ascending order.
-//! - `wiring`: what a walk back over logic cells asks for.
-//! - `edge`: what drives the nets of a cone.
-//! - `reach`: walks back over logic cells, from some nets to their cone.
 //! - `netlist`: well-formed netlists, and what they answer.
 //! - `walk`: walks over the logic cells.
-//! - `cone`: what nets depend on at the same moment.
 //! - `next`: the next bits of registers.
 //! - `chains`: the gating cells in an order in which each stands behind the one that drives its clock pin.
 //! - `walk_laws`: what is true of walk order, and of the bits that a walk leaves.
-//! - `part_laws`: what is true of parts by name, of their faults, and of the netlists that they say.
 //! - `history`: that a netlist has one history for each start and waveform.
 #![tactic(auto)]
 
-pub mod ascending;
 pub mod chains;
-pub mod cone;
 pub mod cycles;
 pub mod driver;
-pub mod edge;
 pub mod fault;
 pub mod history;
 pub mod id;
@@ -43,11 +34,8 @@ pub mod names;
 pub mod net_set;
 pub mod netlist;
 mod next;
-pub mod part_laws;
 pub mod parts;
 mod ranks;
-pub mod reach;
 pub mod view;
 pub mod walk;
 pub mod walk_laws;
-pub mod wiring;

@@ -5,7 +5,7 @@ ghost use Rattle.std.specs.Prelude.{slice_get, IfOk, MatchOption, OnErr, OnOk, i
 ghost use Rattle.std.specs.List.{AllPairs, list_any};
 ghost use Rattle.cg_netlist.specs.Names.{is_known, with_name};
 ghost use Rattle.cg_netlist.specs.NamePlaces.{AreOrdered};
-ghost use Rattle.cg_netlist.specs.said.Wiring.{net_name};
+ghost use Rattle.cg_netlist.specs.Wiring.{net_name};
 
 use crate::id::NetId;
 use indexmap::IndexSet;
@@ -93,7 +93,7 @@ pub struct OrderedNames {
 impl Model for OrderedNames {
     ghost use Rattle.std.specs.Prelude.{List, ℕ, map};
     ghost use Rattle.cg_netlist.specs.NamePlaces.{AreOrdered};
-    ghost use Rattle.cg_netlist.specs.said.Wiring.{net_name};
+    ghost use Rattle.cg_netlist.specs.Wiring.{net_name};
 
     ghost Value = { List (List ℕ) };
 

@@ -6,9 +6,9 @@ use Rattle.std.proofs.lemmas.Bool.{both_ways, eqb-true, eq-eqb, or_cases, or_lef
 use Rattle.std.proofs.lemmas.Option.{none-some, same_Some}
 use Rattle.std.proofs.lemmas.List.{append-nil, append_assoc}
 use Rattle.cg_netlist.specs.Circuit.{LogicCell, is_in}
-use Rattle.cg_netlist.specs.Cone.{IsInCone, Reaches, cone_of, through}
+use Rattle.cg_cone.specs.Cone.{IsInCone, Reaches, cone_of, through}
 use Rattle.cg_netlist.specs.NetSets.{with_net}
-use Rattle.cg_netlist.proofs.Cones.{cone_is}
+use Rattle.cg_cone.proofs.Cones.{cone_is}
 use Rattle.cg_netlist.proofs.FoundNets.{front, in_one, kept_one, one_more, put_one, same_truth, take_end, take_front}
 use Rattle.cg_netlist.proofs.Members.{is_in_cases, is_in_left}
 use Rattle.cg_machine.specs.Machine.{IsMachine, MachineData, walk_of}

@@ -3,7 +3,7 @@ use Rattle.std.proofs.Common.{◌≡◌, ℕ, zero, suc, ◌+◌, ◌<◌, ◌�
 use Rattle.std.specs.List.{filter, range_with_len}
 use Rattle.std.proofs.lemmas.List.{append_assoc}
 use Rattle.cg_netlist.specs.Circuit.{data_inputs, is_in}
-use Rattle.cg_netlist.specs.declared.cone.Cone.{Cone}
+use Rattle.cg_cone.specs.declared.cone.Cone.{Cone}
 use Rattle.cg_netlist.proofs.Members.{is_in-append}
 use Rattle.cg_machine.specs.Machine.{MachineData}
 use Rattle.cg_claim.specs.declared.leaf.Leaf.{Leaf as ShownLeaf}

@@ -5,7 +5,7 @@ use Rattle.std.specs.Option.{option_to_list}
 use Rattle.cg_netlist.specs.Circuit.{Circuit, cell_nets, data_inputs, drivers, gate_nets, given_nets, is_in, net_order, register_nets}
 use Rattle.cg_netlist.proofs.Given.{data_given}
 use Rattle.cg_netlist.proofs.Members.{All-member, is_in-append, is_in_left}
-use Rattle.cg_netlist.specs.inner.Reaching.{Rises}
+use Rattle.cg_netlist.specs.inner.Rising.{Rises}
 use Rattle.cg_netlist.proofs.RisingNumbers.{range_rises}
 use Rattle.cg_netlist.proofs.RisingPlaces.{rising_same}
 use Rattle.cg_machine.specs.Machine.{IsMachine, MachineData}

@@ -6,7 +6,7 @@ use Rattle.std.proofs.lemmas.Bool.{both_ways, eqb-true, eq-eqb}
 use Rattle.std.proofs.lemmas.List.Elements.{filter-append}
 use Rattle.std.proofs.lemmas.List.Folds.{list_any-append}
 use Rattle.cg_netlist.specs.Circuit.{LogicCell, RegisterCell, is_in, shown_nets}
-use Rattle.cg_netlist.specs.Cone.{cone_of}
+use Rattle.cg_cone.specs.Cone.{cone_of}
 use Rattle.cg_machine.specs.Claims.{Literal, Target, Shown, Next as NextTarget, Joined}
 use Rattle.cg_machine.specs.Machine.{MachineData, enable_of, walk_of}
 use Rattle.cg_claim.specs.declared.name.ClaimName.{ClaimName}

@@ -3,7 +3,7 @@ use Rattle.std.specs.Prelude.{◌≡◌, ◌<◌, ℕ, List, length, map}
 use Rattle.std.specs.List.{All, filter}
 use Rattle.cg_netlist.specs.Circuit.{data_inputs, is_in}
 use Rattle.cg_netlist.specs.Moment.{values_at}
-use Rattle.cg_netlist.specs.declared.cone.Cone.{Cone}
+use Rattle.cg_cone.specs.declared.cone.Cone.{Cone}
 use Rattle.cg_machine.specs.Machine.{MachineData}
 use Rattle.cg_claim.specs.Build.{reached_cells}
 use Rattle.cg_claim.specs.Leaves.{leaves_of, shown_leaf}

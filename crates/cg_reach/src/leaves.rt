@@ -16,10 +16,10 @@ use crate::named::Named;
 use crate::reached::Later;
 use crate::sources::{before_states, inside, outside};
 use cg_claim::leaf::{Leaf, LeafSource};
+use cg_cone::ascending::ascending;
+use cg_cone::cone::Cone;
 use cg_list::Seq;
 use cg_machine::machine::Machine;
-use cg_netlist::ascending::ascending;
-use cg_netlist::cone::Cone;
 use cg_netlist::id::{NetId, RegId};
 use std::alloc::{AllocError, Global};
 

@@ -1,7 +1,7 @@
 //! What a claim reaches in each copy of the machine, and its leaves.
 
 ghost use Rattle.std.specs.Prelude.{◌≡◌, IfOk};
-ghost use Rattle.cg_netlist.specs.Cone.{cone_of};
+ghost use Rattle.cg_cone.specs.Cone.{cone_of};
 ghost use Rattle.cg_machine.specs.Machine.{walk_of};
 ghost use Rattle.cg_claim.specs.Reach.{before_nets, enable_nets, sides_nets};
 ghost use Rattle.cg_reach.specs.Asking.{AsksThere, copy_of, question_of};
@@ -15,10 +15,10 @@ use crate::roots::{push_enables, push_origins, push_sides};
 use crate::sources::{after_states, changed_states};
 use crate::unseen::UnseenRegs;
 use cg_claim::leaf::Leaf;
+use cg_cone::cone::Cone;
 use cg_list::Seq;
 use cg_machine::cone::ConeFinder;
 use cg_machine::machine::Machine;
-use cg_netlist::cone::Cone;
 use cg_netlist::id::RegId;
 use std::alloc::{AllocError, Global};
 

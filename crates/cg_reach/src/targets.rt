@@ -17,7 +17,7 @@ use crate::spread::is_any_found;
 use cg_claim::name::ClaimName;
 use cg_machine::machine::Machine;
 use cg_machine::stage::NetLit;
-use cg_netlist::ascending::ascending;
+use cg_cone::ascending::ascending;
 use cg_netlist::id::RegId;
 use indexmap::IndexSet;
 use std::alloc::{AllocError, Global};

@@ -10,7 +10,7 @@ use Rattle.cg_netlist.specs.History.{Moment, Tick, edges_from, rises}
 use Rattle.cg_netlist.proofs.RankingLemmas.{take_next}
 use Rattle.cg_edge.specs.Shows.{Shows, ShowsOn, last_moment}
 use Rattle.cg_netlist.specs.Netlist.{IsNetlist}
-use Rattle.cg_netlist.specs.said.Wiring.{net_name}
+use Rattle.cg_netlist.specs.Wiring.{net_name}
 use Rattle.cg_edge.specs.Simulated.{Simulated, Ticks, fresh, rises_at}
 use Rattle.cg_stimulus.specs.Inputs.{Rows, IsStimulus, IsFor, input_names}
 use Rattle.cg_stimulus.specs.Played.{played_start, played_wave, wave_from}

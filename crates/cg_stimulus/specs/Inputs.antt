@@ -1,7 +1,7 @@
 -- What a stimulus is: a bit for each data input, row by row.
 use Rattle.std.specs.Prelude.{◌≡◌, ◌≤◌, ℕ, Bool, List, ◌++◌, length, map}
 use Rattle.std.specs.List.{AllByRecursion}
-use Rattle.cg_netlist.specs.said.Wiring.{net_name}
+use Rattle.cg_netlist.specs.Wiring.{net_name}
 use Rattle.cg_netlist.specs.Circuit.{Circuit, data_inputs}
 
 -- the names of the data inputs, in their order

@@ -2,7 +2,7 @@
 
 ghost use Rattle.std.specs.Prelude.{◌≡◌, ◌≢◌, ◌≤◌, ◌<◌, ◌++◌, ◌∷◌, [], Some, length, map, nat_eq, slice_get, IfOk, IfErr, OnErr, OnOk};
 ghost use Rattle.std.specs.List.{All, AllPairs, IsDistinct};
-ghost use Rattle.cg_netlist.specs.said.Wiring.{net_name};
+ghost use Rattle.cg_netlist.specs.Wiring.{net_name};
 ghost use Rattle.cg_stimulus.specs.Inputs.{IsStimulus, input_names};
 ghost use Rattle.cg_stimulus.specs.Pushing.{PushRefuses};
 

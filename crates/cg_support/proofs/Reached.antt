@@ -10,8 +10,8 @@ use Rattle.cg_netlist.proofs.Members.{is_in_cases, member_at}
 use Rattle.cg_netlist.proofs.Used.{input_is_used}
 use Rattle.cg_machine.specs.Added.{own_netlist}
 use Rattle.cg_machine.specs.Machine.{IsMachine, MachineData, walk_of}
-use Rattle.cg_netlist.specs.Cone.{IsInCone, Reaches, cone_of, here, through}
-use Rattle.cg_netlist.proofs.Cones.{cone_is, longer}
+use Rattle.cg_cone.specs.Cone.{IsInCone, Reaches, cone_of, here, through}
+use Rattle.cg_cone.proofs.Cones.{cone_is, longer}
 use Rattle.cg_netlist.specs.NetSets.{with_nets}
 use Rattle.cg_support.specs.inner.Reaching.{AreOwn, IsReached}
 use Rattle.cg_support.proofs.Driving.{cell_driver}

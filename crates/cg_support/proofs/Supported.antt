@@ -6,7 +6,7 @@ use Rattle.std.proofs.lemmas.Bool.{both_ways, eqb-true, eq-eqb, or_cases, or_lef
 use Rattle.cg_netlist.specs.Circuit.{RegisterCell, data_inputs, is_in, shown_nets}
 use Rattle.cg_netlist.proofs.Members.{is_in-append}
 use Rattle.cg_machine.specs.Machine.{MachineData, walk_of}
-use Rattle.cg_netlist.specs.Cone.{cone_of}
+use Rattle.cg_cone.specs.Cone.{cone_of}
 use Rattle.cg_claim.specs.Reach.{feeds, reads_own}
 use Rattle.cg_lists.specs.Supports.{has_input, input_cone, reads_own_at, supports}
 use Rattle.cg_support.specs.Support.{IsSupport}

@@ -1,7 +1,7 @@
 //! The cones of nets.
 
 ghost use Rattle.std.specs.Prelude.{◌≡◌, ◌<◌, ◌+◌, ℕ, List, [], true, length, OnOk};
-ghost use Rattle.cg_netlist.specs.Cone.{cone_of};
+ghost use Rattle.cg_cone.specs.Cone.{cone_of};
 ghost use Rattle.cg_machine.specs.Machine.{walk_of};
 ghost use Rattle.cg_netlist.specs.Circuit.{is_in};
 ghost use Rattle.cg_support.specs.inner.Reaching.{AreOwn, IsReached};

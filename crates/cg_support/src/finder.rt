@@ -3,7 +3,7 @@
 ghost use Rattle.std.specs.Prelude.{◌≡◌, ◌<◌, ℕ, [], length, slice_get, IfOk};
 ghost use Rattle.cg_machine.specs.Machine.{walk_of};
 ghost use Rattle.cg_netlist.specs.Circuit.{is_in};
-ghost use Rattle.cg_netlist.specs.Cone.{cone_of};
+ghost use Rattle.cg_cone.specs.Cone.{cone_of};
 ghost use Rattle.cg_support.specs.Support.{IsSupport};
 ghost use Rattle.cg_support.specs.inner.Reaching.{AreOwn};
 

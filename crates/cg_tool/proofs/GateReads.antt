@@ -9,7 +9,7 @@ use Rattle.cg_gating.specs.Request.{IsFree, MayGate}
 use Rattle.cg_machine.specs.Start.{begins, first_clash}
 use Rattle.cg_netlist.specs.Circuit.{Circuit}
 use Rattle.cg_netlist.specs.Names.{is_known}
-use Rattle.cg_netlist.specs.said.Wiring.{NetName}
+use Rattle.cg_netlist.specs.Wiring.{NetName}
 use Rattle.cg_run.specs.Verdict.{Given, reached, unstopped}
 use Rattle.cg_run.specs.declared.refusal.Refusal.{Refusal}
 use Rattle.cg_run.specs.declared.refusal.Trouble.{Trouble}

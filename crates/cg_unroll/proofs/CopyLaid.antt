@@ -7,9 +7,9 @@ use Rattle.cg_cell.specs.Domain.{AreValid, Seen}
 use Rattle.cg_aig.specs.Aig.{aig_ops, inverse}
 use Rattle.cg_aig.specs.declared.fault.AigFault.{AigFault}
 use Rattle.cg_netlist.specs.Circuit.{RegisterCell, data_inputs, is_in, shown_nets}
-use Rattle.cg_netlist.specs.Cone.{cone_of}
+use Rattle.cg_cone.specs.Cone.{cone_of}
 use Rattle.cg_netlist.specs.Moment.{values_at}
-use Rattle.cg_netlist.specs.declared.cone.Cone.{Cone}
+use Rattle.cg_cone.specs.declared.cone.Cone.{Cone}
 use Rattle.cg_netlist.specs.declared.driver.Driver.TheVariants.{Register}
 use Rattle.cg_machine.specs.Machine.{IsMachine, MachineData, walk_of}
 use Rattle.cg_claim.specs.Build.{aig_values, from_state, lay, reached_cells, shown_by, start_nets}

@@ -11,8 +11,8 @@ use crate::literals::Literals;
 use cg_aig::fault::AigFault;
 use cg_aig::list::Aig;
 use cg_aig::lit::AigLit;
+use cg_cone::cone::Cone;
 use cg_machine::machine::Machine;
-use cg_netlist::cone::Cone;
 
 /// Puts a copy of the machine into the list, as far as a cone reaches: the registers at its edge have the literals of
 /// `states`, its data inputs have theirs in `nets`, and each net of the cone gets its own there.

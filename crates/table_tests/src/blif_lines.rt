@@ -4,7 +4,7 @@ use cg_blif::{BlifFault, BlifOptions, read_blif};
 use cg_cell::library::Library;
 use cg_cell::name::Name;
 use cg_liberty::library::read_library;
-use cg_netlist::fault::NetFault;
+use cg_parts::fault::NetFault;
 use std::alloc::{AllocError, Global};
 use std::test::Fail;
 

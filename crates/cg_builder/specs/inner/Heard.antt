@@ -4,10 +4,10 @@ use Rattle.std.specs.List.{AllByRecursion, IsDistinct}
 use Rattle.cg_netlist.specs.declared.fault.AddFault.{AddFault}
 use Rattle.cg_builder.specs.inner.Numbers.{AreNumbers, Numbers, ordered_numbers, seen, wired_numbers}
 use Rattle.cg_builder.specs.Building.{Building}
-use Rattle.cg_netlist.specs.said.Part.{Part}
-use Rattle.cg_netlist.specs.said.Said.{said}
-use Rattle.cg_netlist.specs.said.Says.{AreTaken}
-use Rattle.cg_netlist.specs.said.Wiring.{NetName}
+use Rattle.cg_parts.specs.Part.{Part}
+use Rattle.cg_parts.specs.Said.{said}
+use Rattle.cg_parts.specs.Says.{AreTaken}
+use Rattle.cg_netlist.specs.Wiring.{NetName}
 
 -- a builder by its numbers
 abbrev pub built : NetName → Numbers → Option AddFault → Building

@@ -6,9 +6,9 @@ use Rattle.cg_netlist.specs.declared.fault.AddFault.TheVariants.{Limit as Passes
 use Rattle.cg_netlist.specs.Circuit.{GatingCell, LogicCell, RegisterCell}
 use Rattle.cg_netlist.specs.NetSets.{with_net}
 use Rattle.cg_netlist.specs.Places.{CellWithin}
-use Rattle.cg_netlist.specs.said.Part.{Part, Logic, Gate, Register, mentioned}
-use Rattle.cg_netlist.specs.said.Said.{with_names}
-use Rattle.cg_netlist.specs.said.Wiring.{NetName, map_cell, map_gater, net_name, map_open}
+use Rattle.cg_parts.specs.Part.{Part, Logic, Gate, Register, mentioned}
+use Rattle.cg_netlist.specs.Names.{with_names}
+use Rattle.cg_netlist.specs.Wiring.{NetName, map_cell, map_gater, net_name, map_open}
 use Rattle.cg_builder.specs.inner.Numbers.{GaterWithin, OpenWithin}
 
 -- the nets of these names were mentioned one after another, and have these numbers

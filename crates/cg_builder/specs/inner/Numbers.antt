@@ -6,8 +6,8 @@ use Rattle.std.specs.Option.{option_map_or, option_or, option_to_list}
 use Rattle.cg_netlist.specs.Circuit.{Circuit, LogicCell, GatingCell, RegisterCell, asked_nets, is_in, shown_nets}
 use Rattle.cg_netlist.specs.Places.{CellWithin}
 use Rattle.cg_netlist.specs.Ranks.{driving_cell, rank_of, rank_within}
-use Rattle.cg_netlist.specs.said.Said.{Said}
-use Rattle.cg_netlist.specs.said.Wiring.{NetName, Wiring, among, circuit, driven_by_cells, driven_by_gaters, driven_by_registers, map_cell, map_gater, map_open, map_wiring, net_name, order_of, used_by}
+use Rattle.cg_parts.specs.Said.{Said}
+use Rattle.cg_netlist.specs.Wiring.{NetName, Wiring, among, circuit, driven_by_cells, driven_by_gaters, driven_by_registers, map_cell, map_gater, map_open, map_wiring, net_name, order_of, used_by}
 
 pub record Numbers : Type 0 where
   pub names : List NetName

@@ -4,9 +4,9 @@ use Rattle.std.specs.List.{AllByRecursion}
 use Rattle.cg_netlist.specs.declared.fault.AddFault.{AddFault}
 use Rattle.cg_netlist.specs.declared.fault.AddFault.TheVariants.{NoMemory}
 use Rattle.cg_builder.specs.Building.{Building}
-use Rattle.cg_netlist.specs.said.Part.{Part}
-use Rattle.cg_netlist.specs.said.Said.{Said, limit_of, with_part}
-use Rattle.cg_netlist.specs.said.Says.{IsPart}
+use Rattle.cg_parts.specs.Part.{Part}
+use Rattle.cg_parts.specs.Said.{Said, limit_of, with_part}
+use Rattle.cg_parts.specs.Says.{IsPart}
 
 -- what was said, and more parts
 abbrev pub with_parts : Said → List Part → Said

@@ -1,6 +1,6 @@
 -- Nets that a walk back from some nets has found.
 use Rattle.std.specs.Prelude.{◌≡◌, ℕ, ◌<◌, true, if◌then◌else◌, List, [], ◌∷◌, ◌++◌, length, slice_get, take, Some}
-use Rattle.cg_netlist.specs.Cone.{IsInCone}
+use Rattle.cg_cone.specs.Cone.{IsInCone}
 use Rattle.cg_machine.specs.Added.{own_netlist}
 use Rattle.cg_machine.specs.Machine.{MachineData}
 use Rattle.cg_netlist.specs.Circuit.{LogicCell, is_in}

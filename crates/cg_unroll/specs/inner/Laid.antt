@@ -4,8 +4,8 @@ use Rattle.cg_cell.specs.Domain.{Keeps, Seen}
 use Rattle.cg_aig.specs.Aig.{aig_ops}
 use Rattle.cg_aig.specs.declared.fault.AigFault.{AigFault}
 use Rattle.cg_netlist.specs.Circuit.{data_inputs, is_in}
-use Rattle.cg_netlist.specs.Cone.{cone_of}
-use Rattle.cg_netlist.specs.declared.cone.Cone.{Cone}
+use Rattle.cg_cone.specs.Cone.{cone_of}
+use Rattle.cg_cone.specs.declared.cone.Cone.{Cone}
 use Rattle.cg_machine.specs.Machine.{MachineData, walk_of}
 use Rattle.cg_claim.specs.Build.{Table, aig_values, lay, reached_cells, start_nets}
 use Rattle.cg_claim.specs.Tables.{SameOn}

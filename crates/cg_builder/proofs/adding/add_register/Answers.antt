@@ -2,8 +2,8 @@ use Rattle.std.proofs.Common.{rules, refl, ◌≡◌, [], ◌∷◌, ◌++◌, �
 use Rattle.std.specs.Option.{option_copied, option_to_list}
 use Rattle.std.proofs.lemmas.Result.{MatchResult-weaker}
 use Rattle.cg_builder.specs.inner.Mentioned.{IsMentionFault, IsMentioned}
-use Rattle.cg_netlist.specs.said.Said.{with_names}
-use Rattle.cg_netlist.specs.said.Wiring.{NetName}
+use Rattle.cg_netlist.specs.Names.{with_names}
+use Rattle.cg_netlist.specs.Wiring.{NetName}
 use Rattle.cg_builder.proofs.AddedParts.{fault_first, fault_then, lent_inverted, lent_places, lent_words, puts_register, register_names, register_words}
 use Rattle.cg_builder.proofs.Mentions.{with_names_grows}
 use Rattle.cg_builder.proofs.adding.add_register.Goals as goal

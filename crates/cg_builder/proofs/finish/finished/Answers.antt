@@ -1,7 +1,7 @@
 use Rattle.std.proofs.Common.{◌≡◌, sym, ◌∙◌, ap, subst}
 use Rattle.cg_netlist.specs.Netlist.{IsNetlist}
 use Rattle.cg_builder.specs.inner.Numbers.{made_of}
-use Rattle.cg_netlist.specs.said.Says.{Says}
+use Rattle.cg_parts.specs.Says.{Says}
 use Rattle.cg_builder.proofs.FirstFaults.{names_named}
 use Rattle.cg_builder.proofs.ReadyNumbers.{makes_netlist, ready, says_alike, says_own}
 use Rattle.cg_builder.proofs.finish.finished.Goals as goal

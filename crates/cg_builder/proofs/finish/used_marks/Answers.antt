@@ -2,7 +2,7 @@ use Rattle.std.proofs.Common.{◌≡◌, ℕ, ◌<◌, ◌&&◌, ◌||◌, not, 
 use Rattle.std.specs.List.{count_by}
 use Rattle.cg_netlist.specs.Circuit.{is_in}
 use Rattle.cg_netlist.specs.Marks.{AreMarksOf, IsFirst, is_marked}
-use Rattle.cg_netlist.specs.declared.fault.NetFault.TheVariants.{ClockFault, Cycle, NoDriver, TwoDrivers}
+use Rattle.cg_parts.specs.declared.fault.NetFault.TheVariants.{ClockFault, Cycle, NoDriver, TwoDrivers}
 use Rattle.cg_builder.specs.inner.Numbers.{driving, is_driven_twice, is_undriven, used}
 use Rattle.cg_netlist.specs.Ranks.{is_unranked}
 use Rattle.cg_builder.proofs.Checks.{marked_first, undriven_found}

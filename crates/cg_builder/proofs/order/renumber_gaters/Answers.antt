@@ -3,9 +3,9 @@ use Rattle.std.specs.List.{slice_get, slice_set}
 use Rattle.std.proofs.lemmas.Option.{slice_get-get_or}
 use Rattle.cg_netlist.specs.Places.{number_in}
 use Rattle.cg_builder.specs.inner.Numbers.{GaterWithin}
-use Rattle.cg_netlist.specs.said.Wiring.{map_gater}
+use Rattle.cg_netlist.specs.Wiring.{map_gater}
 use Rattle.cg_builder.proofs.InPlace.{All-next, change_next}
-use Rattle.cg_netlist.proofs.said.Each.{from_recursion}
+use Rattle.cg_netlist.proofs.Each.{from_recursion}
 use Rattle.cg_builder.proofs.order.renumber_gaters.Goals as goal
 
 pub renumber_gater-requires : goal.renumber_gater-requires

@@ -1,6 +1,6 @@
 use Rattle.std.proofs.Common.{◌≡◌}
 use Rattle.cg_netlist.specs.Places.{number_in}
-use Rattle.cg_netlist.specs.said.Wiring.{map_gater}
+use Rattle.cg_netlist.specs.Wiring.{map_gater}
 use Rattle.cg_builder.proofs.InPlace.{changed_before}
 use Rattle.cg_builder.proofs.order.renumber_gaters.Given as goal
 

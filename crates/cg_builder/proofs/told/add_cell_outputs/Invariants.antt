@@ -1,5 +1,5 @@
 use Rattle.std.proofs.Common.{◌≡◌, ◌++◌, take}
-use Rattle.cg_netlist.specs.said.Wiring.{driven_by_cells}
+use Rattle.cg_netlist.specs.Wiring.{driven_by_cells}
 use Rattle.cg_builder.proofs.told.add_cell_outputs.Given as goal
 
 abbrev pub invariant-loop-cell : goal.invariant-loop-cell

@@ -1,5 +1,5 @@
 use Rattle.std.proofs.Common.{◌≡◌, ◌++◌, take}
-use Rattle.cg_netlist.specs.said.Wiring.{driven_by_gaters}
+use Rattle.cg_netlist.specs.Wiring.{driven_by_gaters}
 use Rattle.cg_builder.proofs.told.add_gater_outputs.Given as goal
 
 abbrev pub invariant-loop-gater : goal.invariant-loop-gater

@@ -1,5 +1,5 @@
 use Rattle.std.proofs.Common.{◌≡◌, ◌++◌, take}
-use Rattle.cg_netlist.specs.said.Wiring.{driven_by_registers}
+use Rattle.cg_netlist.specs.Wiring.{driven_by_registers}
 use Rattle.cg_builder.proofs.told.add_register_outputs.Given as goal
 
 abbrev pub invariant-loop-register : goal.invariant-loop-register

@@ -1,6 +1,6 @@
 use Rattle.std.proofs.Common.{◌≡◌, ◌++◌, length, sym, ◌∙◌, ap}
 use Rattle.cg_builder.specs.inner.Numbers.{gated}
-use Rattle.cg_netlist.specs.said.Wiring.{driven_by_gaters}
+use Rattle.cg_netlist.specs.Wiring.{driven_by_gaters}
 use Rattle.cg_builder.proofs.ToldNets.{asked_of, gated_within}
 use Rattle.cg_builder.proofs.told.gated_marks.Goals as goal
 

@@ -2,8 +2,8 @@ use Rattle.std.proofs.Common.{◌≡◌, ℕ, List, [], ◌++◌, length, sym, �
 use Rattle.std.specs.List.{range_with_len}
 use Rattle.cg_netlist.specs.Circuit.{Circuit, data_inputs}
 use Rattle.cg_netlist.specs.Netlist.{IsNetlist}
-use Rattle.cg_netlist.specs.inner.Reaching.{Rises}
-use Rattle.cg_netlist.proofs.ConeEdge.{data_rises}
+use Rattle.cg_netlist.specs.inner.Rising.{Rises}
+use Rattle.cg_cone.proofs.ConeEdge.{data_rises}
 use Rattle.cg_reach.proofs.RisingInputs.{both_inputs_are}
 use Rattle.cg_reach.proofs.leaves.both_inputs.Goals as goal
 

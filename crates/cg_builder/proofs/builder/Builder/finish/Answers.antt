@@ -1,9 +1,9 @@
 use Rattle.std.proofs.Common.{◌≡◌, ◌⊎◌, MatchResult, sym, ◌∙◌, ap, subst}
-use Rattle.cg_netlist.specs.declared.fault.NetFault.TheVariants.{NoMemory}
+use Rattle.cg_parts.specs.declared.fault.NetFault.TheVariants.{NoMemory}
 use Rattle.cg_builder.specs.inner.Heard.{IsHeard}
 use Rattle.cg_builder.specs.inner.Numbers.{Numbers, seen}
-use Rattle.cg_netlist.specs.said.Faults.{IsFault}
-use Rattle.cg_netlist.specs.said.Says.{Says}
+use Rattle.cg_parts.specs.Faults.{IsFault}
+use Rattle.cg_parts.specs.Says.{Says}
 use Rattle.cg_builder.proofs.builder.Builder.finish.Goals as goal
 
 pub finished-requires : goal.finished-requires

@@ -11,9 +11,9 @@ use Rattle.cg_builder.specs.Calls.{cell_of, gater_of, register_of}
 use Rattle.cg_builder.specs.inner.Heard.{built}
 use Rattle.cg_builder.specs.inner.Numbers.{Numbers}
 use Rattle.cg_builder.specs.Building.{Takes}
-use Rattle.cg_netlist.specs.said.Part.{Part, Gate, Logic, Register}
-use Rattle.cg_netlist.specs.said.Says.{IsPart}
-use Rattle.cg_netlist.specs.said.Wiring.{NetName}
+use Rattle.cg_parts.specs.Part.{Part, Gate, Logic, Register}
+use Rattle.cg_parts.specs.Says.{IsPart}
+use Rattle.cg_netlist.specs.Wiring.{NetName}
 use Rattle.cg_builder.proofs.Hearing.{few_heard, hears_cell, hears_gater, hears_register, few_inputs, words_push}
 use Rattle.cg_builder.proofs.Telling.{Told, mention_fails, register_fails, telling}
 use Rattle.cg_builder.proofs.builder.Builder.gater.Goals as goal

@@ -3,7 +3,7 @@ use Rattle.std.proofs.lemmas.Result.{MatchResult-weaker}
 use Rattle.cg_builder.specs.inner.Heard.{built}
 use Rattle.cg_builder.specs.inner.Numbers.{Numbers}
 use Rattle.cg_builder.specs.Building.{Takes}
-use Rattle.cg_netlist.specs.said.Part.{Input}
+use Rattle.cg_parts.specs.Part.{Input}
 use Rattle.cg_builder.proofs.Hearing.{hears_input, few_heard}
 use Rattle.cg_builder.proofs.Telling.{Told, mention_fails, telling}
 use Rattle.cg_builder.proofs.builder.Builder.input.Goals as goal

@@ -1,6 +1,6 @@
 use Rattle.std.proofs.Common.{length, map, ap, sym, ◌∙◌}
 use Rattle.std.proofs.lemmas.List.{length-map}
-use Rattle.cg_netlist.specs.said.Wiring.{net_name}
+use Rattle.cg_netlist.specs.Wiring.{net_name}
 use Rattle.cg_netlist.proofs.names.OrderedNames.len.Goals as goal
 
 pub returns : goal.returns

@@ -1,6 +1,6 @@
 use Rattle.std.proofs.Common.{◌≡◌, ℕ, List, [], ◌++◌, sym, ◌∙◌, ap, subst}
 use Rattle.std.specs.List.{filter, flat_map}
-use Rattle.cg_netlist.specs.Cone.{cone_of}
+use Rattle.cg_cone.specs.Cone.{cone_of}
 use Rattle.cg_machine.specs.Machine.{walk_of}
 use Rattle.cg_claim.specs.Question.{Before}
 use Rattle.cg_claim.specs.Reach.{after_states, enable_nets, origin_nets, registers_of, sides_nets}

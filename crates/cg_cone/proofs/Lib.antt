@@ -1,0 +1,4 @@
+pub mod ConeEdge
+pub mod ConeWalk
+pub mod Cones
+pub mod OneDriver

@@ -1,7 +1,0 @@
-pub mod Faults
-pub mod Laws
-pub mod Part
-pub mod Said
-pub mod Says
-pub mod Wiring
-pub mod Writable

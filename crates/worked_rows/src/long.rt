@@ -1,4 +1,4 @@
-//! Netlists that are too long to be stored.
+//! Netlists and libraries that are too long to be stored.
 
 use cg_text::number::push_number;
 use std::alloc::{AllocError, Global};
@@ -24,5 +24,17 @@ pub fn nets(alloc: Global, count: u32) -> Result<Vec<u8>, AllocError> {
         text.push(b'\n')?;
     }
     text.extend_from_slice(b".end\n")?;
+    Ok(text)
+}
+
+/// A library of this many cells, C0 and so on, each known by name alone.
+pub fn cells(alloc: Global, count: u32) -> Result<Vec<u8>, AllocError> {
+    let mut text = Vec::from_slice(alloc, b"library (cells) {\n")?;
+    for number in 0..count {
+        text.extend_from_slice(b"  cell (C")?;
+        push_number(&mut text, u64::from(number))?;
+        text.extend_from_slice(b") { }\n")?;
+    }
+    text.extend_from_slice(b"}\n")?;
     Ok(text)
 }

@@ -4,12 +4,17 @@
 //!
 //! - A line that is empty or begins with `#` is said as it stands.
 //! - `show NAME` says what the file NAME holds.
-//! - `latches N NAME` makes a netlist of N registers that all take one input, `nets N NAME` one of N nets.
+//! - `latches N NAME` makes a netlist of N registers that all take one input, `nets N NAME` one of N nets, and `cells N NAME` a
+//!   library of N cells.
+//! - `cases FILE WORD..` is a command line that is run for each case of FILE, over files of its own in which the case is the file
+//!   `case`. A case ends with a `%` and a line end, which are no part of it. Behind what a run says stands the file `out`, where it
+//!   stored one.
 //! - `solve CNF LOG` solves the formula in the file CNF, says whether bits satisfy it, and else makes a file of the log.
 //! - `proof PROOF CNF LOG` makes files of the first formula of a proof file and of its log.
 //! - `fail N WORD..` is a command line of which the calls of these numbers (from 0, with commas between them) fail. It is run over
 //!   files of its own; a file that it stored is compared with the one of that name that stands in memory.
-//! - `folder WORD..` is a command line over the files of the folder itself, and `read NAME` says what the file NAME of it holds.
+//! - `folder WORD..` is a command line over the files of the folder itself, and `read NAME` says what the file NAME of it holds. What
+//!   it complains goes to standard output too.
 //! - Any other line is a command line. A file of the folder that it names is brought into memory first, unless it is there.
 //!
 //! A command line may name two watchers beside those of the program, `highs` and `few`.
@@ -30,7 +35,7 @@ const MOST_BYTES: u64 = 1_048_576;
 
 fn main(rt: HostRuntime) -> ExitCode {
     let alloc = rt.alloc();
-    let mut folder = DirShelf::new(rt, rt.stderr(), alloc);
+    let mut folder = DirShelf::new(rt, rt.stdout(), alloc);
     match play(alloc, &mut folder) {
         Ok(()) => ExitCode::SUCCESS,
         Err(()) => ExitCode::FAILURE,

@@ -2,7 +2,7 @@
 
 use crate::MOST_BYTES;
 use crate::highs::Highs;
-use crate::long::{latches, nets};
+use crate::long::{cells, latches, nets};
 use crate::solver::{Answer, solved};
 use cg_planner::progress::Silent;
 use cg_report::edge_count::EdgeCount;
@@ -15,6 +15,9 @@ use std::alloc::{AllocError, Global};
 
 /// What is said in place of the bytes of a file that is not there.
 const NO_FILE: &[u8] = b"there is no such file\n";
+
+/// What ends a case.
+const CASE_END: &str = "%\n";
 
 /// The files in memory.
 #[derive(Drop)]
@@ -41,6 +44,8 @@ impl Player {
             ["show", name] => self.show(folder, name),
             ["latches", count, name] => self.make(name, latches(self.alloc, number(count)?)),
             ["nets", count, name] => self.make(name, nets(self.alloc, number(count)?)),
+            ["cells", count, name] => self.make(name, cells(self.alloc, number(count)?)),
+            ["cases", name, words @ ..] => self.cases(folder, name, line, words),
             ["solve", formula, log] => self.solve(folder, formula, log),
             ["proof", proof, formula, log] => self.split(proof, formula, log),
             ["folder", words @ ..] => self.in_folder(folder, line, words),
@@ -90,6 +95,11 @@ impl Player {
     fn command<S: Shelf>(&mut self, folder: &mut S, line: &str, words: &[&str]) -> Result<(), ()> {
         say(folder, b"$ clockgate ", line.as_bytes())?;
         say(folder, b"\n", b"")?;
+        self.play(folder, words)
+    }
+
+    /// Runs the program on words, and says what it said and complained and how it ended.
+    fn play<S: Shelf>(&mut self, folder: &mut S, words: &[&str]) -> Result<(), ()> {
         for word in words {
             self.bring(folder, word)?;
         }
@@ -103,6 +113,31 @@ impl Player {
             b"",
         )?;
         self.end(folder, status)
+    }
+
+    /// Runs the program on words for each case of a file, over new files in which the case is the file `case`. Says the case, what
+    /// comes of it, and the file `out` that it stored.
+    fn cases<S: Shelf>(
+        &mut self,
+        folder: &mut S,
+        name: &str,
+        line: &str,
+        words: &[&str],
+    ) -> Result<(), ()> {
+        say(folder, b"$ ", line.as_bytes())?;
+        say(folder, b"\n", b"")?;
+        self.bring(folder, name)?;
+        let held = self.files.held(name).ok_or(())?;
+        let text = str::from_utf8(held).map_err(|_| ())?;
+        let text = text.strip_suffix(CASE_END).ok_or(())?;
+        for case in text.split(CASE_END) {
+            say(folder, case.as_bytes(), CASE_END.as_bytes())?;
+            let mut player = Player::new(self.alloc)?;
+            player.files.put("case", case.as_bytes()).map_err(|_| ())?;
+            player.play(folder, words)?;
+            say(folder, player.files.held("out").unwrap_or(b""), b"")?;
+        }
+        Ok(())
     }
 
     /// Runs the program on a command line over the folder itself, where what it says goes out as it is said.

@@ -4,7 +4,7 @@ use Rattle.std.specs.List.{cons_option, filter, list_any, range_with_len}
 use Rattle.std.specs.Option.{option_map_or, option_to_list}
 use Rattle.std.proofs.lemmas.Bool.{both_ways, eqb-true, eq-eqb, or_cases, or_left, or_right}
 use Rattle.std.proofs.lemmas.List.Folds.{list_any-append}
-use Rattle.std.proofs.lemmas.Option.{same_Some, slice_get_within}
+use Rattle.std.proofs.lemmas.Option.{slice_get_within}
 use Rattle.std.proofs.Math.Bool.{or-false}
 use Rattle.cg_netlist.specs.Circuit.{Circuit, LogicCell, RegisterCell, cell_nets, data_inputs, gate_nets, is_in, net_order, register_nets, shown_nets}
 use Rattle.cg_cone.specs.Cone.{cell_feeds, cone_at, cone_of, register_feeds}
@@ -20,9 +20,9 @@ use Rattle.cg_cone.specs.inner.Reaching.{IsEdge, IsWired, cell_shows, register_s
 use Rattle.cg_netlist.specs.inner.Rising.{Rises}
 use Rattle.cg_netlist.proofs.Driven.{in_range}
 use Rattle.cg_netlist.proofs.Filtered.{in_filter, range_in, to_filter}
-use Rattle.cg_netlist.proofs.FoundNets.{in_one, same_truth, take_end}
+use Rattle.cg_netlist.proofs.FoundNets.{same_truth, take_end}
 use Rattle.cg_netlist.proofs.Given.{data_given, distinct_cells, driver_within, given_driver}
-use Rattle.cg_netlist.proofs.Members.{is_in-append, member_at}
+use Rattle.cg_netlist.proofs.Members.{member_at}
 use Rattle.cg_cone.proofs.OneDriver.{cell_driver, cell_number, input_driver, is_input, is_register, register_driver}
 use Rattle.cg_netlist.proofs.RisingNumbers.{range_rises, rises_later}
 use Rattle.cg_netlist.proofs.RisingPlaces.{places_filter, rising_same}

@@ -1,9 +1,9 @@
 -- A walk back from some nets, one net at a time: at its end the cone was found.
-use Rattle.std.proofs.Common.{◌≡◌, ℕ, zero, suc, ◌+◌, ◌<◌, ◌≤◌, Bool, true, false, List, [], ◌∷◌, ◌++◌, length, take, nat_eq, slice_get, Option, Some, None, refl, sym, ◌∙◌, ap, subst, arith, ◌⊎◌, inl, inr}
+use Rattle.std.proofs.Common.{◌≡◌, ℕ, zero, suc, ◌+◌, ◌<◌, ◌≤◌, true, false, List, [], ◌∷◌, ◌++◌, length, take, nat_eq, slice_get, Some, refl, sym, ◌∙◌, ap, subst, arith, ◌⊎◌, inl, inr}
 use Rattle.std.proofs.lemmas.Bool.{both_ways, eqb-true, or_cases}
 use Rattle.std.proofs.lemmas.Option.{same_Some}
 use Rattle.cg_netlist.specs.Circuit.{Circuit, LogicCell, is_in, used_nets}
-use Rattle.cg_cone.specs.Cone.{IsInCone, Reaches, cone_of, here, through}
+use Rattle.cg_cone.specs.Cone.{Reaches, cone_of, here, through}
 use Rattle.cg_netlist.specs.Drivers.{IsDriver}
 use Rattle.cg_netlist.specs.Nets.{IsWalk}
 use Rattle.cg_netlist.specs.WellFormed.{IsWellFormed}

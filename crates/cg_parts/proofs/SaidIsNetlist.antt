@@ -4,6 +4,7 @@ use Rattle.std.proofs.Common.{refl, ap, ◌∙◌, sym, subst, inl, inr, arith}
 use Rattle.std.specs.List.{All, AllByRecursion, IsDistinct, filter_map}
 use Rattle.std.proofs.lemmas.Bool.{both_ways, false_from_ne_true, or_cases, eqb-true}
 use Rattle.std.proofs.lemmas.List.{length-map}
+use Rattle.cg_limit.specs.declared.TheConstants.{MOST_NETS, MOST_REGISTERS}
 use Rattle.cg_netlist.proofs.Members.{distinct_cons}
 use Rattle.cg_parts.proofs.ByKind.{kind_each, picks_cell}
 use Rattle.cg_parts.proofs.Different.{Apart, apart_from, apart_once, no_more}
@@ -44,12 +45,12 @@ module _ (model : List ℕ) (parts : List Part) (c : Circuit) (taken : AreTaken 
   pub fits_each : AllByRecursion PartFits parts
   fits_each = each IsPart PartFits (λ p is. is.fits) parts taken.each
 
-  few_names : length c.names ≤ 1048576
+  few_names : length c.names ≤ MOST_NETS
   few_names =
       let few : length c.names ≤ length (nets parts) = no_more c.names (nets parts) (apart_from c.names says.formed.different) (λ x i. driver_mentioned parts x (ap (λ xs. is_known xs x) (drivers_are model parts c says) ∙ i)) in
       omega (arith, few, taken.few_nets)
 
-  few_registers : length c.registers ≤ 65536
+  few_registers : length c.registers ≤ MOST_REGISTERS
   few_registers =
       let same : map (map_register name) c.registers ≡ map (on_clock (clock_of parts)) (registers parts) = ap (λ v. v.registers) says.wired_is in
       let long : length c.registers ≡ length (registers parts) = sym (length-map c.registers (map_register name)) ∙ (ap length same ∙ length-map (registers parts) (on_clock (clock_of parts))) in

@@ -1,6 +1,7 @@
 -- What parts have said so far, kind by kind: all that is asked of a list of parts. Of the order of parts of different kinds
 -- it keeps the order of first mention alone.
 use Rattle.std.specs.Prelude.{nat_lt, if◌then◌else◌, List, [], ◌∷◌, ◌++◌, length, Option, None, Some}
+use Rattle.cg_limit.specs.declared.TheConstants.{MOST_NETS, MOST_REGISTERS}
 use Rattle.cg_limit.specs.declared.Limit.{Limit}
 use Rattle.cg_limit.specs.declared.Limit.TheVariants.{Nets, Registers}
 use Rattle.cg_netlist.specs.Names.{with_name, with_names}
@@ -41,4 +42,4 @@ with_part s part = record (with_kind part s) { nets = with_names s.nets (mention
 
 -- the limit that this passes, if it passes one: 1,048,576 nets, and then 65,536 registers
 abbrev pub limit_of : Said → Option Limit
-limit_of s = if nat_lt 1048576 (length s.nets) then Some Nets else if nat_lt 65536 (length s.registers) then Some Registers else None
+limit_of s = if nat_lt MOST_NETS (length s.nets) then Some Nets else if nat_lt MOST_REGISTERS (length s.registers) then Some Registers else None

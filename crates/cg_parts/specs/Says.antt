@@ -6,6 +6,7 @@ use Rattle.cg_cell.specs.Cell.{IsCell}
 use Rattle.cg_cell.specs.Name.{is_name}
 use Rattle.cg_cell.specs.Pins.{is_test}
 use Rattle.cg_cell.specs.declared.cell.CellKind.TheVariants.{Gater as GaterKind}
+use Rattle.cg_limit.specs.declared.TheConstants.{MOST_NETS, MOST_REGISTERS}
 use Rattle.cg_netlist.specs.Names.{is_known}
 use Rattle.cg_netlist.specs.WellFormed.{IsOver}
 use Rattle.cg_netlist.specs.Circuit.{Circuit, LogicCell, GatingCell, RegisterCell}
@@ -25,8 +26,8 @@ pub record Says (model : List ℕ) (parts : List Part) (c : Circuit) : Type 0 wh
   pub rooted : AllByRecursion (IsClockOf parts) (roots parts)
   pub formed : IsWellFormed c
   pub ordered : IsInNetOrder c
-  pub few_nets : length (nets parts) ≤ 1048576
-  pub few_registers : length (registers parts) ≤ 65536
+  pub few_nets : length (nets parts) ≤ MOST_NETS
+  pub few_registers : length (registers parts) ≤ MOST_REGISTERS
 
 -- a logic cell has as many inputs as its function takes, and fewer than 2^32
 pub record CellFits {N : Type 0} (cell : LogicCell N) : Type 0 where
@@ -53,8 +54,8 @@ pub record IsPart (part : Part) : Type 0 where
 pub record AreTaken (model : List ℕ) (parts : List Part) : Type 0 where
   pub model_named : IsTrue (is_name model)
   pub each : AllByRecursion IsPart parts
-  pub few_nets : length (nets parts) ≤ 1048576
-  pub few_registers : length (registers parts) ≤ 65536
+  pub few_nets : length (nets parts) ≤ MOST_NETS
+  pub few_registers : length (registers parts) ≤ MOST_REGISTERS
 
 -- the netlist that parts say, where they say one: their wiring, numbered in net order
 abbrev pub netlist_of : List ℕ → List Part → Circuit

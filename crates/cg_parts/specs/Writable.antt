@@ -3,6 +3,7 @@ use Rattle.std.specs.Prelude.{◌≡◌, ◌≢◌, ◌≤◌, ◌&&◌, ℕ, Bo
 use Rattle.std.specs.List.{All, IsDistinct, find}
 use Rattle.std.specs.Str.{bytes_eq}
 use Rattle.cg_cell.specs.Cell.{CellData}
+use Rattle.cg_limit.specs.declared.TheConstants.{MOST_COVER_INPUTS}
 use Rattle.cg_netlist.specs.declared.parts.LogicFunction.{LogicFunction}
 use Rattle.cg_netlist.specs.declared.parts.LogicFunction.TheVariants.{Cover, Cell}
 use Rattle.cg_netlist.specs.declared.parts.RegisterKind.{RegisterKind}
@@ -23,7 +24,7 @@ IsOf library cell = cell_named library cell.name ≡ Some cell
 
 -- a function is a cover of at most 256 inputs, or a cell of the library
 abbrev pub FunctionIsOf : List CellData → ℕ → LogicFunction → Type 0
-FunctionIsOf library inputs (Cover cover) = inputs ≤ 256
+FunctionIsOf library inputs (Cover cover) = inputs ≤ MOST_COVER_INPUTS
 FunctionIsOf library inputs (Cell cell) = IsOf library cell
 
 -- a register is plain, or is a cell of the library and has the init 3, which is "not known"

@@ -1,5 +1,5 @@
 -- Nets that a walk back from some nets has found, and what drives them.
-use Rattle.std.specs.Prelude.{◌≡◌, ℕ, suc, ◌<◌, ◌≤◌, Bool, true, false, ◌&&◌, List, [], ◌∷◌, length, slice_get, take, nat_eq, Some}
+use Rattle.std.specs.Prelude.{◌≡◌, ℕ, ◌<◌, Bool, true, false, ◌&&◌, List, length, slice_get, take, nat_eq, Some}
 use Rattle.std.specs.List.{IsDistinct, list_any}
 use Rattle.std.specs.Option.{option_map_or}
 use Rattle.cg_netlist.specs.Circuit.{Circuit, LogicCell, data_inputs, is_in, shown_nets}

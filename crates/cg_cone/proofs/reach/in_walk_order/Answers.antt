@@ -1,5 +1,4 @@
-use Rattle.std.proofs.Common.{◌≡◌, ◌<◌, ℕ, true, List, length, sym, ◌∙◌, ap, subst}
-use Rattle.std.specs.List.{filter, range_with_len}
+use Rattle.std.proofs.Common.{◌≡◌, ℕ, true, List, length, ◌∙◌, subst}
 use Rattle.cg_netlist.specs.Circuit.{is_in}
 use Rattle.cg_cone.proofs.ConeEdge.{kept_below, walked_more}
 use Rattle.cg_cone.proofs.reach.in_walk_order.Goals as goal

@@ -1,4 +1,4 @@
-use Rattle.std.proofs.Common.{◌≡◌, ℕ, List, [], ◌∷◌, ◌++◌, sym, subst}
+use Rattle.std.proofs.Common.{ℕ, List, [], ◌∷◌, ◌++◌, sym, subst}
 use Rattle.cg_cone.specs.inner.Reaching.{IsEdge}
 use Rattle.cg_cone.proofs.ConeEdge.{edge_cell, edge_clock, edge_gater, edge_input, edge_register, pushed_ok}
 use Rattle.cg_netlist.proofs.Members.{one_place}

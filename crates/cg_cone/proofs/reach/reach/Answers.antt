@@ -1,4 +1,4 @@
-use Rattle.std.proofs.Common.{◌≡◌, ◌<◌, ℕ, [], length, sym, ◌∙◌, ap, subst, arith}
+use Rattle.std.proofs.Common.{◌≡◌, ◌<◌, [], length, sym, ◌∙◌, ap, subst, arith}
 use Rattle.cg_cone.specs.inner.Reaching.{IsReached}
 use Rattle.cg_netlist.specs.NetSets.{with_nets}
 use Rattle.cg_cone.proofs.ConeWalk.{reached_all, reached_first}

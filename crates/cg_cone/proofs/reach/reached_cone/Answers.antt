@@ -1,4 +1,3 @@
-use Rattle.std.proofs.Common.{◌≡◌, ℕ, List}
 use Rattle.cg_cone.proofs.ConeEdge.{cone_made, places_within}
 use Rattle.cg_cone.proofs.reach.reached_cone.Goals as goal
 

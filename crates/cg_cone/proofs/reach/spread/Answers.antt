@@ -1,4 +1,3 @@
-use Rattle.std.proofs.Common.{◌≡◌, ◌<◌, ℕ, length, sym, ◌∙◌, ap, subst, arith}
 use Rattle.std.proofs.lemmas.Option.{slice_get_within}
 use Rattle.cg_cone.proofs.ConeEdge.{ok_then}
 use Rattle.cg_cone.proofs.ConeWalk.{reached_cell, reached_edge}

@@ -44,7 +44,7 @@ impl Machine {
     }
 
     /// The inputs of a logic cell or an added gate, which come behind the logic cells.
-    pub(crate) fn inputs_of(&self, id: CellId) -> &[NetId]
+    pub fn inputs_of(&self, id: CellId) -> &[NetId]
         requires { id < length self.now.circuit.cells }
         ensures { (cell : LogicCell ℕ) → slice_get self.now.circuit.cells id ≡ Some cell → result.now ≡ cell.inputs }
     {
@@ -57,7 +57,7 @@ impl Machine {
     }
 
     /// The output of a logic cell or an added gate.
-    fn output_of(&self, id: CellId) -> NetId
+    pub fn output_of(&self, id: CellId) -> NetId
         requires { id < length self.now.circuit.cells }
         ensures { (cell : LogicCell ℕ) → slice_get self.now.circuit.cells id ≡ Some cell → result ≡ cell.output }
     {

@@ -7,7 +7,6 @@ ghost use Rattle.cg_machine.specs.Machine.{MachineData};
 ghost use Rattle.cg_reach.specs.Fanout.{Grows, Knows};
 ghost use Rattle.cg_reach.specs.inner.Learning.{KnowsAll};
 
-use crate::found::FoundNets;
 use crate::sources::set_of;
 use crate::spread::spread;
 use crate::tables::Tables;
@@ -18,6 +17,7 @@ use cg_claim::name::ClaimName;
 use cg_machine::machine::Machine;
 use cg_machine::stage::NetLit;
 use cg_netlist::id::{NetId, RegId};
+use cg_netlist::net_set::NetSet;
 use std::alloc::{AllocError, Global};
 use std::marker::Model;
 
@@ -29,7 +29,7 @@ use std::marker::Model;
 pub struct Fanout {
     alloc: Global,
     tables: Tables,
-    found: FoundNets,
+    found: NetSet,
 }
 
 impl Model for Fanout {
@@ -51,7 +51,7 @@ impl Fanout {
         Fanout {
             alloc,
             tables: Tables::new(alloc),
-            found: FoundNets::new(alloc),
+            found: NetSet::new(alloc),
         }
     }
 
@@ -98,7 +98,7 @@ fn names(
     tables: &Tables,
     enables: &[NetLit],
     regs: &[RegId],
-    found: &mut FoundNets,
+    found: &mut NetSet,
 ) -> Result<Vec<ClaimName>, AllocError>
     requires knows { KnowsAll machine.now tables.now }
     requires registers { All (λ r. r < length machine.now.circuit.registers) regs.now }

@@ -8,10 +8,9 @@ ghost use Rattle.cg_netlist.specs.Circuit.{LogicCell, is_in};
 ghost use Rattle.cg_reach.specs.Fanout.{readers_at};
 ghost use Rattle.cg_reach.specs.inner.Learning.{Keeps};
 
-use crate::cells::inputs_of;
 use crate::readers::Readers;
 use cg_machine::machine::Machine;
-use cg_netlist::id::{NetId, RegId};
+use cg_netlist::id::{CellId, NetId, RegId};
 use std::alloc::AllocError;
 
 /// Notes what the cells of a machine read, from this one on.
@@ -25,7 +24,7 @@ pub(crate) fn learn_cells(
         → is_in cell.inputs y ≡ true → is_in (readers_at readers.new y) k ≡ true) }
 {
     for number in first..machine.cells() {
-        readers.note_all(inputs_of(machine, number), number)?;
+        readers.note_all(machine.inputs_of(CellId::new(number)), number)?;
     }
     Ok(())
 }

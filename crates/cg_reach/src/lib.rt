@@ -17,16 +17,12 @@
 //! - `tables`: the readers of its nets, grown with the machine.
 //! - `learn`: these readers, noted one part after another.
 //! - `readers`: the readers of each net, as lists.
-//! - `cells`: the logic cells and added gates of a machine, by their numbers.
 //! - `spread`: the nets at which registers can show.
-//! - `found`: nets that were found, with marks.
 //! - `targets`: the targets that show these nets, by their names.
 #![tactic(auto)]
 
 pub mod asked;
-mod cells;
 pub mod fanout;
-mod found;
 mod learn;
 mod leaves;
 mod named;

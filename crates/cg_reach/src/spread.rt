@@ -6,11 +6,10 @@ ghost use Rattle.cg_machine.specs.Machine.{walk_of};
 ghost use Rattle.cg_netlist.specs.Circuit.{LogicCell, is_in};
 ghost use Rattle.cg_reach.specs.inner.Spreading.{AreCellReaders, is_shown, led_by, led_by_all, led_on, shows, spread};
 
-use crate::cells::{inputs_of, output_of};
-use crate::found::FoundNets;
 use crate::readers::Readers;
 use cg_machine::machine::Machine;
-use cg_netlist::id::{NetId, RegId};
+use cg_netlist::id::{CellId, NetId, RegId};
+use cg_netlist::net_set::NetSet;
 use std::alloc::AllocError;
 
 /// Finds the nets at which these registers can show in the same cycle: those that show their bits, and with an input of a
@@ -19,7 +18,7 @@ pub(crate) fn spread(
     machine: &Machine,
     readers: &Readers,
     regs: &[RegId],
-    found: &mut FoundNets,
+    found: &mut NetSet,
 ) -> Result<(), AllocError>
     requires registers { All (λ r. r < length machine.now.circuit.registers) regs.now }
     requires readers { AreCellReaders machine.now readers.now }
@@ -38,7 +37,7 @@ pub(crate) fn spread(
 }
 
 /// Finds the nets too that show the bits of these registers.
-fn find_shown(machine: &Machine, regs: &[RegId], found: &mut FoundNets) -> Result<(), AllocError>
+fn find_shown(machine: &Machine, regs: &[RegId], found: &mut NetSet) -> Result<(), AllocError>
     requires { All (λ r. r < length machine.now.circuit.registers) regs.now }
     ensures { OnOk result ((y : ℕ) → is_in found.new y ≡ (is_in found.old y || is_shown machine.now regs.now y)) }
 {
@@ -49,7 +48,7 @@ fn find_shown(machine: &Machine, regs: &[RegId], found: &mut FoundNets) -> Resul
 }
 
 /// Finds the nets too that show the bit of a register.
-fn find_register(machine: &Machine, reg: RegId, found: &mut FoundNets) -> Result<(), AllocError>
+fn find_register(machine: &Machine, reg: RegId, found: &mut NetSet) -> Result<(), AllocError>
     requires { reg < length machine.now.circuit.registers }
     ensures { OnOk result ((y : ℕ) → is_in found.new y ≡ (is_in found.old y || shows machine.now y reg)) }
 {
@@ -63,14 +62,14 @@ fn find_register(machine: &Machine, reg: RegId, found: &mut FoundNets) -> Result
 }
 
 /// Finds a net too.
-fn find_net(net: NetId, found: &mut FoundNets) -> Result<(), AllocError>
+fn find_net(net: NetId, found: &mut NetSet) -> Result<(), AllocError>
     ensures { OnOk result ((y : ℕ) → is_in found.new y ≡ (is_in found.old y || is_in (net ∷ []) y)) }
 {
     found.insert(net)
 }
 
 /// Finds these outputs too.
-fn find_outputs(outputs: &[(NetId, bool)], found: &mut FoundNets) -> Result<(), AllocError>
+fn find_outputs(outputs: &[(NetId, bool)], found: &mut NetSet) -> Result<(), AllocError>
     ensures { OnOk result ((y : ℕ) → is_in found.new y ≡ (is_in found.old y || is_in (map (λ output. output.0) outputs.now) y)) }
 {
     for place in 0..outputs.len() {
@@ -81,7 +80,7 @@ fn find_outputs(outputs: &[(NetId, bool)], found: &mut FoundNets) -> Result<(), 
 }
 
 /// Finds the outputs too of those of these cells that have an input among the nets found, one cell after another.
-fn lead_on(machine: &Machine, readers: &[u32], found: &mut FoundNets) -> Result<(), AllocError>
+fn lead_on(machine: &Machine, readers: &[u32], found: &mut NetSet) -> Result<(), AllocError>
     ensures { OnOk result (found.new ≡ led_by_all machine.now found.old readers.now) }
 {
     for reader in readers {
@@ -91,7 +90,7 @@ fn lead_on(machine: &Machine, readers: &[u32], found: &mut FoundNets) -> Result<
 }
 
 /// Finds the output too of a cell that has an input among the nets found.
-fn lead(machine: &Machine, number: u32, found: &mut FoundNets) -> Result<(), AllocError>
+fn lead(machine: &Machine, number: u32, found: &mut NetSet) -> Result<(), AllocError>
     ensures { OnOk result (found.new ≡ led_by machine.now found.old number) }
 {
     if number < machine.cells() {
@@ -101,23 +100,24 @@ fn lead(machine: &Machine, number: u32, found: &mut FoundNets) -> Result<(), All
 }
 
 /// The same by a cell of the machine.
-fn lead_through(machine: &Machine, number: u32, found: &mut FoundNets) -> Result<(), AllocError>
+fn lead_through(machine: &Machine, number: u32, found: &mut NetSet) -> Result<(), AllocError>
     requires { number < length machine.now.circuit.cells }
     ensures { OnOk result ((cell : LogicCell ℕ) → slice_get machine.now.circuit.cells number ≡ Some cell → found.new ≡ led_on cell found.old) }
 {
-    let output = output_of(machine, number);
+    let id = CellId::new(number);
+    let output = machine.output_of(id);
     // Its inputs are looked at once, however many of them were found.
     if found.contains(output) {
         return Ok(());
     }
-    if is_any_found(inputs_of(machine, number), found) {
+    if is_any_found(machine.inputs_of(id), found) {
         found.insert(output)?;
     }
     Ok(())
 }
 
 /// Whether one of these nets was found.
-pub(crate) fn is_any_found(nets: &[NetId], found: &FoundNets) -> bool
+pub(crate) fn is_any_found(nets: &[NetId], found: &NetSet) -> bool
     ensures { result ≡ list_any (is_in found.now) nets.now }
 {
     let mut any = false;

@@ -10,15 +10,15 @@ ghost use Rattle.cg_netlist.specs.Circuit.{is_in};
 ghost use Rattle.cg_reach.specs.inner.Spreading.{AreOutputReaders, AreRegisterReaders, is_next_marked, is_output_marked};
 ghost use Rattle.cg_reach.specs.inner.Spreading.{is_register_marked};
 
-use crate::found::FoundNets;
 use crate::readers::Readers;
 use crate::sources::{asks_own, push_all};
 use crate::spread::is_any_found;
 use cg_claim::name::ClaimName;
+use cg_cone::ascending::ascending;
 use cg_machine::machine::Machine;
 use cg_machine::stage::NetLit;
-use cg_cone::ascending::ascending;
 use cg_netlist::id::RegId;
+use cg_netlist::net_set::NetSet;
 use indexmap::IndexSet;
 use std::alloc::{AllocError, Global};
 
@@ -27,7 +27,7 @@ pub(crate) fn outputs_found(
     alloc: Global,
     machine: &Machine,
     readers: &Readers,
-    found: &FoundNets,
+    found: &NetSet,
 ) -> Result<Vec<u32>, AllocError>
     requires { AreOutputReaders machine.now readers.now }
     ensures { IfOk result (λ outputs. outputs.items ≡ filter (is_output_marked machine.now (is_in found.now)) (range_with_len 0 (length machine.now.circuit.outputs))) }
@@ -43,7 +43,7 @@ pub(crate) fn outputs_found(
 fn push_outputs_at(
     machine: &Machine,
     readers: &[u32],
-    found: &FoundNets,
+    found: &NetSet,
     numbers: &mut Vec<u32>,
 ) -> Result<(), AllocError>
     ensures { OnOk result (numbers.new.items ≡ numbers.old.items ++ filter (is_output_marked machine.now (is_in found.now)) readers.now) }
@@ -55,7 +55,7 @@ fn push_outputs_at(
 }
 
 /// Whether an output stands at a net found.
-fn is_output_found(machine: &Machine, output: u32, found: &FoundNets) -> bool
+fn is_output_found(machine: &Machine, output: u32, found: &NetSet) -> bool
     ensures { result ≡ is_output_marked machine.now (is_in found.now) output }
 {
     let outputs = machine.netlist().outputs();
@@ -71,7 +71,7 @@ pub(crate) fn registers_found(
     alloc: Global,
     machine: &Machine,
     readers: &Readers,
-    found: &FoundNets,
+    found: &NetSet,
     regs: &[RegId],
     set: &IndexSet<u32>,
 ) -> Result<Vec<u32>, AllocError>
@@ -100,7 +100,7 @@ pub(crate) fn registers_found(
 fn push_registers_at(
     machine: &Machine,
     readers: &[u32],
-    found: &FoundNets,
+    found: &NetSet,
     set: &IndexSet<u32>,
     numbers: &mut Vec<u32>,
 ) -> Result<(), AllocError>
@@ -117,7 +117,7 @@ fn push_registers_at(
 }
 
 /// Whether a number is a register of which the next bit asks for a net found, or for the bit of a register of the set.
-fn is_register_found(machine: &Machine, number: u32, found: &FoundNets, set: &IndexSet<u32>) -> bool
+fn is_register_found(machine: &Machine, number: u32, found: &NetSet, set: &IndexSet<u32>) -> bool
     ensures { result ≡ is_register_marked machine.now (is_in found.now) (is_in set.now.keys) number }
 {
     number < machine.registers()
@@ -125,7 +125,7 @@ fn is_register_found(machine: &Machine, number: u32, found: &FoundNets, set: &In
 }
 
 /// Whether the next bit of a register asks for a net found, or, where the register is inside, for its bit.
-fn is_next_found(machine: &Machine, found: &FoundNets, inside: bool, reg: RegId) -> bool
+fn is_next_found(machine: &Machine, found: &NetSet, inside: bool, reg: RegId) -> bool
     requires { reg < length machine.now.circuit.registers }
     ensures { result ≡ is_next_marked machine.now (is_in found.now) inside reg }
 {
@@ -136,7 +136,7 @@ fn is_next_found(machine: &Machine, found: &FoundNets, inside: bool, reg: RegId)
 }
 
 /// Whether the enable of a register was found.
-fn is_enable_found(machine: &Machine, found: &FoundNets, reg: RegId) -> bool
+fn is_enable_found(machine: &Machine, found: &NetSet, reg: RegId) -> bool
     requires { reg < length machine.now.circuit.registers }
     ensures { result ≡ list_any (is_in found.now) (option_to_list (enable_of machine.now reg)) }
 {
@@ -147,7 +147,7 @@ fn is_enable_found(machine: &Machine, found: &FoundNets, reg: RegId) -> bool
 }
 
 /// Whether an input of a register was found.
-fn are_inputs_found(machine: &Machine, found: &FoundNets, reg: RegId) -> bool
+fn are_inputs_found(machine: &Machine, found: &NetSet, reg: RegId) -> bool
     requires { reg < length machine.now.circuit.registers }
     ensures { result ≡ list_any (is_in found.now) (inputs_of_register machine.now reg) }
 {
@@ -171,7 +171,7 @@ fn push_if(wanted: bool, number: u32, numbers: &mut Vec<u32>) -> Result<(), Allo
 }
 
 /// Whether a net of the joined enable was found.
-pub(crate) fn is_joined_found(enables: &[NetLit], found: &FoundNets) -> bool
+pub(crate) fn is_joined_found(enables: &[NetLit], found: &NetSet) -> bool
     ensures { result ≡ list_any (λ l. is_in found.now l.0) enables.now }
 {
     let mut any = false;

@@ -4,7 +4,6 @@ pub mod PinNets
 pub mod RowLemmas
 pub mod HearingLemmas
 pub mod PinWordLemmas
-pub mod ResumingLemmas
 pub mod PlaceLemmas
 pub mod ReadingLemmas
 pub mod NetlistLemmas

@@ -20,6 +20,7 @@ use Rattle.cg_blif_text.specs.BlifText.{BlifText, IsFirstBlifFault, told_by}
 use Rattle.cg_blif_text.specs.Telling.{Told}
 use Rattle.cg_blif_text.proofs.CanonicalText.{no_two}
 use Rattle.cg_blif_text.proofs.SameSaid.{says_alike}
+use Rattle.cg_blif_text.proofs.TextFaults.{has_told, told_has}
 use Rattle.cg_blif_text.proofs.ToldIsTaken.{text_is_writable, told_taken}
 use Rattle.cg_blif.specs.Resuming.{FinishesAs, IsFaultOf, IsFirstOrNoMemory, IsRead, IsReadFrom, told_of, unfinished}
 
@@ -41,32 +42,24 @@ renamed model other parts c is says = record { model_is = sym is; wired_is = say
 module _ (text : List ℕ) (library : List CellData) (clock : Option NetName) where
   -- a text that says a netlist has no fault
   none_beside : (c : Circuit) (fault : BlifFault) → BlifText text library clock c → IsFirstBlifFault text library clock fault → ⊥
-  none_beside c (faults.Net fault) says first =
+  none_beside c fault says (inl has) = absurd (let no : ◌≡◌ {A = Result Told BlifFault} (Ok says.tells.told) (Err fault) = sym says.tells.faultless ∙ has_told library clock text fault has in cc)
+  none_beside c fault says (inr (net, is, first)) =
       let told : says.tells.told ≡ first.tells.told = one_told says.tells.told first.tells.told (sym says.tells.faultless ∙ first.tells.faultless) in
       let same : said says.parts ≡ said first.parts = sym says.tells.said_is ∙ (ap (λ (t : Told). t.said) told ∙ first.tells.said_is) in
-      no_fault first.parts fault first.first (faultless c.model first.parts c (says_alike c.model says.parts first.parts c same says.says))
-  none_beside c (faults.BadLine n) says first = absurd (let no : ◌≡◌ {A = Result Told BlifFault} (Ok says.tells.told) (Err (faults.BadLine n)) = sym says.tells.faultless ∙ first in cc)
-  none_beside c (faults.BadCover n) says first = absurd (let no : ◌≡◌ {A = Result Told BlifFault} (Ok says.tells.told) (Err (faults.BadCover n)) = sym says.tells.faultless ∙ first in cc)
-  none_beside c (faults.BadLatch n) says first = absurd (let no : ◌≡◌ {A = Result Told BlifFault} (Ok says.tells.told) (Err (faults.BadLatch n)) = sym says.tells.faultless ∙ first in cc)
-  none_beside c (faults.UnknownCell n) says first = absurd (let no : ◌≡◌ {A = Result Told BlifFault} (Ok says.tells.told) (Err (faults.UnknownCell n)) = sym says.tells.faultless ∙ first in cc)
-  none_beside c (faults.UnusableCell n) says first = absurd (let no : ◌≡◌ {A = Result Told BlifFault} (Ok says.tells.told) (Err (faults.UnusableCell n)) = sym says.tells.faultless ∙ first in cc)
-  none_beside c (faults.PinFault n) says first = absurd (let no : ◌≡◌ {A = Result Told BlifFault} (Ok says.tells.told) (Err (faults.PinFault n)) = sym says.tells.faultless ∙ first in cc)
-  none_beside c (faults.SecondModel n) says first = absurd (let no : ◌≡◌ {A = Result Told BlifFault} (Ok says.tells.told) (Err (faults.SecondModel n)) = sym says.tells.faultless ∙ first in cc)
-  none_beside c (faults.Limit l) says first = absurd (let no : ◌≡◌ {A = Result Told BlifFault} (Ok says.tells.told) (Err (faults.Limit l)) = sym says.tells.faultless ∙ first in cc)
-  none_beside c faults.NoMemory says first = absurd (let no : ◌≡◌ {A = Result Told BlifFault} (Ok says.tells.told) (Err faults.NoMemory) = sym says.tells.faultless ∙ first in cc)
+      no_fault first.parts net first.first (faultless c.model first.parts c (says_alike c.model says.parts first.parts c same says.says))
 
   -- a fault of a line is the first fault
   pub line_first : (fault : BlifFault) → IsFaultOf (told_by library clock text) fault → IsFirstOrNoMemory text library clock fault
   line_first faults.NoMemory is = tt
   line_first (faults.Net fault) is = absurd is
-  line_first (faults.BadLine n) is = is
-  line_first (faults.BadCover n) is = is
-  line_first (faults.BadLatch n) is = is
-  line_first (faults.UnknownCell n) is = is
-  line_first (faults.UnusableCell n) is = is
-  line_first (faults.PinFault n) is = is
-  line_first (faults.SecondModel n) is = is
-  line_first (faults.Limit l) is = is
+  line_first (faults.BadLine n) is = inl (told_has library clock text (faults.BadLine n) is)
+  line_first (faults.BadCover n) is = inl (told_has library clock text (faults.BadCover n) is)
+  line_first (faults.BadLatch n) is = inl (told_has library clock text (faults.BadLatch n) is)
+  line_first (faults.UnknownCell n) is = inl (told_has library clock text (faults.UnknownCell n) is)
+  line_first (faults.UnusableCell n) is = inl (told_has library clock text (faults.UnusableCell n) is)
+  line_first (faults.PinFault n) is = inl (told_has library clock text (faults.PinFault n) is)
+  line_first (faults.SecondModel n) is = inl (told_has library clock text (faults.SecondModel n) is)
+  line_first (faults.Limit l) is = inl (told_has library clock text (faults.Limit l) is)
 
   module _ (cells : AllByRecursion IsCell library) where
     -- what a builder finishes as that was told all of the text
@@ -84,12 +77,16 @@ module _ (text : List ℕ) (library : List CellData) (clock : Option NetName) wh
     finished b (Err faults.NoMemory) read finishes = tt
     finished b (Err (faults.Net fault)) read finishes =
         let taken = told_taken library cells clock text (told_of read.2.0 b) read.1 read.2.1 in
-        record {
-          model = b.model;
-          parts = taken.said.parts;
-          tells = record { told = told_of read.2.0 b; faultless = read.2.1; model_is = refl; said_is = taken.said.is };
-          first = finishes taken.said.parts (sym taken.said.is);
-        }
+        inr (
+          fault,
+          refl,
+          record {
+            model = b.model;
+            parts = taken.said.parts;
+            tells = record { told = told_of read.2.0 b; faultless = read.2.1; model_is = refl; said_is = taken.said.is };
+            first = finishes taken.said.parts (sym taken.said.is);
+          },
+        )
     finished b (Err fault) read finishes = absurd finishes
 
   pub found : (result : Result Circuit BlifFault) → IsReadFrom text library clock result → IfOk result (λ c. BlifText text library clock c)

@@ -24,12 +24,13 @@ use Rattle.cg_blif_text.specs.Telling.{Told, at, go_on, meant_at, next_model, ne
 use Rattle.cg_blif_text.proofs.MeantNames.{IsMade, meant_made}
 use Rattle.cg_blif.specs.Hearing.{Hears, at_line}
 use Rattle.cg_blif.specs.Joining.{IsUnnamed, IsUnnamedLine}
-use Rattle.cg_blif.specs.OpenCovers.{CoverSoFar, with_row}
-use Rattle.cg_blif.specs.Resuming.{HasBounds, IsAt, IsFaultOf, IsFresh, Resumes, TakesStatement, closed, closed_said, is_model, left_of, misplaced, opened, resume, said_at_once, told_of}
+use Rattle.cg_blif_text.specs.OpenCovers.{CoverSoFar, with_row}
+use Rattle.cg_blif_text.specs.LinesLeft.{closed, closed_said, opened, resume, said_at_once}
+use Rattle.cg_blif.specs.Resuming.{HasBounds, IsAt, IsFaultOf, IsFresh, Resumes, TakesStatement, is_model, left_of, misplaced, told_of}
 use Rattle.cg_blif.specs.declared.fault.Refusal.{Refusal}
 use Rattle.cg_blif.specs.declared.fault.Refusal.TheVariants.{Line as AtLine, NoMemory as NoRoom}
 use Rattle.cg_blif.specs.declared.reading.Reading.{Reading}
-use Rattle.cg_blif.proofs.ResumingLemmas.{at_bad_row, at_command, at_end, at_fault, at_lone_row, at_names, at_row, at_statement, at_unnamed, closed_fault, closed_told, lone}
+use Rattle.cg_blif_text.proofs.LinesLeft.{at_bad_row, at_command, at_end, at_lone_row, at_row, at_unnamed, closed_fault, closed_told, next, on_statement, refused, took}
 
 -- a line that is a command has words
 pub some_words : (words : List (List ℕ)) → are_row words ≡ false → 0 < length words
@@ -96,94 +97,7 @@ stays Unnamed b cover fresh o is = refl
 stays Named b cover fresh o is = refl
 stays Ended b cover fresh o is = refl
 
--- Statements
-
-IsLone : Statement → Type 0
-IsLone statement = (rows : List Line) → rows_behind statement rows ≡ lone rows
-
 module _ (library : List CellData) where
-  abbrev on_statement : Told → ℕ → List Line → Result Statement LineFault → Result Told BlifFault
-  on_statement told number later meaning = go_on (tell_statement library told number (cut later).rows meaning) (tell_blocks library (cut later).blocks)
-
-  abbrev next : Told → Statement → Said → Told
-  next told statement s = record { place = next_place told.place statement; model = next_model told.model statement; said = s }
-
-  took : (told : Told) (number : ℕ) (later : List Line) (statement : Statement) (s : Said) → said_at_once library told.said statement ≡ Ok s → on_statement told number later (Ok statement) ≡ resume library (next told statement s) (opened statement) later
-  took told number later (Names inputs output) s is =
-      let same : told.said ≡ s = cc in
-      at_names library told number later inputs output ∙ ap (λ t. resume library (next told (Names inputs output) t) (opened (Names inputs output)) later) same
-  took told number later (Model name) s is = at_statement library told number later (Model name) s rows is
-    where
-      rows : (ls : List Line) → rows_behind (Model name) ls ≡ lone ls
-      rows [] = refl
-      rows (l ∷ ls) = refl
-  took told number later (Inputs nets) s is = at_statement library told number later (Inputs nets) s rows is
-    where
-      rows : (ls : List Line) → rows_behind (Inputs nets) ls ≡ lone ls
-      rows [] = refl
-      rows (l ∷ ls) = refl
-  took told number later (Outputs nets) s is = at_statement library told number later (Outputs nets) s rows is
-    where
-      rows : (ls : List Line) → rows_behind (Outputs nets) ls ≡ lone ls
-      rows [] = refl
-      rows (l ∷ ls) = refl
-  took told number later (Clocks nets) s is = at_statement library told number later (Clocks nets) s rows is
-    where
-      rows : (ls : List Line) → rows_behind (Clocks nets) ls ≡ lone ls
-      rows [] = refl
-      rows (l ∷ ls) = refl
-  took told number later (Latch input output clock init) s is = at_statement library told number later (Latch input output clock init) s rows is
-    where
-      rows : (ls : List Line) → rows_behind (Latch input output clock init) ls ≡ lone ls
-      rows [] = refl
-      rows (l ∷ ls) = refl
-  took told number later (Gate cell pins) s is = at_statement library told number later (Gate cell pins) s rows is
-    where
-      rows : (ls : List Line) → rows_behind (Gate cell pins) ls ≡ lone ls
-      rows [] = refl
-      rows (l ∷ ls) = refl
-  took told number later Skipped s is = at_statement library told number later Skipped s rows is
-    where
-      rows : (ls : List Line) → rows_behind Skipped ls ≡ lone ls
-      rows [] = refl
-      rows (l ∷ ls) = refl
-  took told number later End s is = at_statement library told number later End s rows is
-    where
-      rows : (ls : List Line) → rows_behind End ls ≡ lone ls
-      rows [] = refl
-      rows (l ∷ ls) = refl
-
-  refused : (told : Told) (number : ℕ) (later : List Line) (statement : Statement) (cause : LineFault) → said_at_once library told.said statement ≡ Err cause → on_statement told number later (Ok statement) ≡ Err (at number cause)
-  refused told number later (Names inputs output) cause is = absurd (cc)
-  refused told number later (Model name) cause is = absurd (cc)
-  refused told number later Skipped cause is = absurd (cc)
-  refused told number later End cause is = absurd (cc)
-  refused told number later (Inputs nets) cause is = at_fault library told number later (Inputs nets) cause rows is
-    where
-      rows : (ls : List Line) → rows_behind (Inputs nets) ls ≡ lone ls
-      rows [] = refl
-      rows (l ∷ ls) = refl
-  refused told number later (Outputs nets) cause is = at_fault library told number later (Outputs nets) cause rows is
-    where
-      rows : (ls : List Line) → rows_behind (Outputs nets) ls ≡ lone ls
-      rows [] = refl
-      rows (l ∷ ls) = refl
-  refused told number later (Clocks nets) cause is = at_fault library told number later (Clocks nets) cause rows is
-    where
-      rows : (ls : List Line) → rows_behind (Clocks nets) ls ≡ lone ls
-      rows [] = refl
-      rows (l ∷ ls) = refl
-  refused told number later (Latch input output clock init) cause is = at_fault library told number later (Latch input output clock init) cause rows is
-    where
-      rows : (ls : List Line) → rows_behind (Latch input output clock init) ls ≡ lone ls
-      rows [] = refl
-      rows (l ∷ ls) = refl
-  refused told number later (Gate cell pins) cause is = at_fault library told number later (Gate cell pins) cause rows is
-    where
-      rows : (ls : List Line) → rows_behind (Gate cell pins) ls ≡ lone ls
-      rows [] = refl
-      rows (l ∷ ls) = refl
-
   -- a reader between lines, and a line of these words
   module _ (r : Reading) (is : IsAt r) (words : List (List ℕ)) (number : ℕ) (later : List Line) where
     abbrev told : Told
@@ -199,25 +113,25 @@ module _ (library : List CellData) where
     closes t said = closed_told r.place r.builder.model r.builder.said t r.cover (stays r.place r.builder r.cover is.1) said
 
     module _ (command : are_row words ≡ false) where
-      behind_cover : (t : Said) → closed_said r.builder.said r.cover ≡ Ok t → left_of library r (line ∷ later) ≡ on_statement (told_closed t) number later (meant_at r.place (meant words))
+      behind_cover : (t : Said) → closed_said r.builder.said r.cover ≡ Ok t → left_of library r (line ∷ later) ≡ on_statement library (told_closed t) number later (meant_at r.place (meant words))
       behind_cover t said =
           at_command library told r.cover line later command
-          ∙ ap (λ c. go_on c (λ u. on_statement u number later (meant_at u.place (meant words)))) (closes t said)
+          ∙ ap (λ c. go_on c (λ u. on_statement library u number later (meant_at u.place (meant words)))) (closes t said)
 
       pub cover_fails : (cause : LineFault) → closed_said r.builder.said r.cover ≡ Err cause → left_of library r (line ∷ later) ≡ Err (at number cause)
       cover_fails cause said =
           at_command library told r.cover line later command
-          ∙ ap (λ c. go_on c (λ u. on_statement u number later (meant_at u.place (meant words)))) (closed_fault told r.cover cause number said)
+          ∙ ap (λ c. go_on c (λ u. on_statement library u number later (meant_at u.place (meant words)))) (closed_fault told r.cover cause number said)
 
       pub line_fails : (t : Said) (cause : LineFault) → closed_said r.builder.said r.cover ≡ Ok t → meant_at r.place (meant words) ≡ Err cause → left_of library r (line ∷ later) ≡ Err (at number cause)
-      line_fails t cause said means = behind_cover t said ∙ ap (on_statement (told_closed t) number later) means
+      line_fails t cause said means = behind_cover t said ∙ ap (on_statement library (told_closed t) number later) means
 
       pub statement_fails : (t : Said) (statement : Statement) (cause : LineFault) → closed_said r.builder.said r.cover ≡ Ok t → meant_at r.place (meant words) ≡ Ok statement → said_at_once library t statement ≡ Err cause → left_of library r (line ∷ later) ≡ Err (at number cause)
-      statement_fails t statement cause said means fails = behind_cover t said ∙ (ap (on_statement (told_closed t) number later) means ∙ refused (told_closed t) number later statement cause fails)
+      statement_fails t statement cause said means fails = behind_cover t said ∙ (ap (on_statement library (told_closed t) number later) means ∙ refused library (told_closed t) number later statement cause fails)
 
       pub statement_taken : (t s : Said) (statement : Statement) → closed_said r.builder.said r.cover ≡ Ok t → meant_at r.place (meant words) ≡ Ok statement → said_at_once library t statement ≡ Ok s
-          → resume library (next (told_closed t) statement s) (opened statement) later ≡ left_of library r (line ∷ later)
-      statement_taken t s statement said means taken = sym (behind_cover t said ∙ (ap (on_statement (told_closed t) number later) means ∙ took (told_closed t) number later statement s taken))
+          → resume library (next library (told_closed t) statement s) (opened statement) later ≡ left_of library r (line ∷ later)
+      statement_taken t s statement said means taken = sym (behind_cover t said ∙ (ap (on_statement library (told_closed t) number later) means ∙ took library (told_closed t) number later statement s taken))
 
     module _ (row : are_row words ≡ true) where
       pub row_alone : r.cover ≡ None → left_of library r (line ∷ later) ≡ Err (at number BadLine)

@@ -3,7 +3,7 @@
 ghost use Rattle.std.specs.Prelude.{◌≡◌, ◌≤◌, List, [], length, IfOk, IfSome, MatchBool, Option, None, Some, Bool};
 ghost use Rattle.cg_cell.specs.Cover.{CoverFits};
 ghost use Rattle.cg_blif_text.specs.Rows.{keeps_value, row_of, row_place, row_places, row_with, value_of};
-ghost use Rattle.cg_blif.specs.OpenCovers.{cover_so_far, with_row};
+ghost use Rattle.cg_blif_text.specs.OpenCovers.{cover_so_far, with_row};
 
 use cg_blif_text::word::Word;
 use cg_cell::cover::{Cover, CoverRow};
@@ -38,7 +38,7 @@ pub struct OpenCover<'a> {
 }
 
 impl<'a> Model for OpenCover<'a> {
-    ghost use Rattle.cg_blif.specs.OpenCovers.{CoverSoFar, IsOpen};
+    ghost use Rattle.cg_blif_text.specs.OpenCovers.{CoverSoFar, IsOpen};
 
     ghost Value = { CoverSoFar };
 

@@ -7,7 +7,8 @@ ghost use Rattle.cg_parts.specs.Said.{nothing_said};
 ghost use Rattle.cg_blif_text.specs.Commands.{are_row};
 ghost use Rattle.cg_blif_text.specs.Telling.{next_place};
 ghost use Rattle.cg_blif.specs.Hearing.{Hears};
-ghost use Rattle.cg_blif.specs.Resuming.{HasBounds, IsAt, Resumes, ResumesAt, TakesStatement, closed_said, is_model, misplaced};
+ghost use Rattle.cg_blif_text.specs.LinesLeft.{closed_said};
+ghost use Rattle.cg_blif.specs.Resuming.{HasBounds, IsAt, Resumes, ResumesAt, TakesStatement, is_model, misplaced};
 
 use crate::cover::OpenCover;
 use crate::fault::Refusal;

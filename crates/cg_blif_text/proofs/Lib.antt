@@ -12,6 +12,10 @@ pub mod RowsFit
 pub mod ToldIsTaken
 pub mod WithinLimits
 pub mod LinesTell
+pub mod LinesLeft
+pub mod LineTable
+pub mod FirstFaults
+pub mod TextFaults
 pub mod CanonicalWords
 pub mod CanonicalLines
 pub mod CanonicalText

@@ -24,12 +24,13 @@ use Rattle.cg_parts.proofs.NoneBeside.{faultless}
 use Rattle.cg_parts.proofs.OneFault.{no_fault, one_fault}
 use Rattle.cg_blif_text.specs.declared.fault.BlifFault.{BlifFault}
 use Rattle.cg_blif_text.specs.declared.fault.BlifFault.TheVariants.{Net, NoMemory}
-use Rattle.cg_blif_text.specs.BlifText.{BlifText, HasNetFault, TellsParts, told_by}
-use Rattle.cg_blif_text.specs.ReadAs.{AreProper, IsReadAs, IsRefused, ReadAs}
+use Rattle.cg_blif_text.specs.BlifText.{BlifText, HasNetFault, IsFirstBlifFault, TellsParts, told_by}
+use Rattle.cg_blif_text.specs.ReadAs.{AreProper, IsReadAs, ReadAs}
 use Rattle.cg_blif_text.specs.Telling.{Told}
 use Rattle.cg_blif_text.proofs.CanonicalText.{no_two}
 use Rattle.cg_blif_text.proofs.SameFaults.{fault_alike}
 use Rattle.cg_blif_text.proofs.SameSaid.{says_alike}
+use Rattle.cg_blif_text.proofs.TextFaults.{has_told, told_has}
 use Rattle.cg_blif_text.proofs.ToldIsTaken.{IsTaken, IsToldTaken, told_taken}
 
 -- Whether a list of cells is one of cells
@@ -143,7 +144,7 @@ module _ (library : List CellData) (clock : Option NetName) (text : List ℕ) wh
   }
 
   told_read : (r : Result Told BlifFault) → told_by library clock text ≡ r → Decides (AreProper library clock) → ReadAs library clock text
-  told_read (Err fault) e proper = record { result = Err fault; says = λ d is. absurd (cc); proper = λ d is. absurd (cc); is = λ _. inl e }
+  told_read (Err fault) e proper = record { result = Err fault; says = λ d is. absurd (cc); proper = λ d is. absurd (cc); is = λ _. inl (told_has library clock text fault e) }
   told_read (Ok told) e (inr improper) = record { result = Err NoMemory; says = λ d is. absurd (cc); proper = λ d is. absurd (cc); is = λ p. absurd (improper p) }
   told_read (Ok told) e (inl p) =
       let taken = told_taken library p.cells clock text told p.named e in
@@ -165,17 +166,17 @@ module _ (library : List CellData) (clock : Option NetName) (text : List ℕ) wh
   said_alike : (a b : Told) (parts others : List Part) → a ≡ b → a.said ≡ said parts → b.said ≡ said others → said parts ≡ said others
   said_alike a b parts others same is also = sym is ∙ ap (λ (t : Told). t.said) same ∙ also
 
-  not_both : (c : Circuit) (fault : BlifFault) → BlifText text library clock c → IsRefused library clock text fault → ⊥
-  not_both c fault says (inl refused) = told_or_not says.tells.told fault says.tells.faultless refused
+  not_both : (c : Circuit) (fault : BlifFault) → BlifText text library clock c → IsFirstBlifFault text library clock fault → ⊥
+  not_both c fault says (inl refused) = told_or_not says.tells.told fault says.tells.faultless (has_told library clock text fault refused)
   not_both c fault says (inr refused) =
       let has : HasNetFault text library clock refused.0 = refused.2 in
       let same = said_alike has.tells.told says.tells.told has.parts says.parts (same_told has.tells.told says.tells.told has.tells.faultless says.tells.faultless) has.tells.said_is says.tells.said_is in
       no_fault says.parts refused.0 (fault_alike has.parts says.parts same refused.0 has.first) (faultless c.model says.parts c says.says)
 
-  one_refusal : (f g : BlifFault) → IsRefused library clock text f → IsRefused library clock text g → f ≡ g
-  one_refusal f g (inl is) (inl also) = let both_are : ◌≡◌ {A = Result Told BlifFault} (Err f) (Err g) = sym is ∙ also in cc
-  one_refusal f g (inl is) (inr also) = let has : HasNetFault text library clock also.0 = also.2 in absurd (told_or_not has.tells.told f has.tells.faultless is)
-  one_refusal f g (inr is) (inl also) = let has : HasNetFault text library clock is.0 = is.2 in absurd (told_or_not has.tells.told g has.tells.faultless also)
+  one_refusal : (f g : BlifFault) → IsFirstBlifFault text library clock f → IsFirstBlifFault text library clock g → f ≡ g
+  one_refusal f g (inl is) (inl also) = let both_are : ◌≡◌ {A = Result Told BlifFault} (Err f) (Err g) = sym (has_told library clock text f is) ∙ has_told library clock text g also in cc
+  one_refusal f g (inl is) (inr also) = let has : HasNetFault text library clock also.0 = also.2 in absurd (told_or_not has.tells.told f has.tells.faultless (has_told library clock text f is))
+  one_refusal f g (inr is) (inl also) = let has : HasNetFault text library clock is.0 = is.2 in absurd (told_or_not has.tells.told g has.tells.faultless (has_told library clock text g also))
   one_refusal f g (inr is) (inr also) =
       let a : HasNetFault text library clock is.0 = is.2 in
       let b : HasNetFault text library clock also.0 = also.2 in

@@ -15,7 +15,7 @@ use Rattle.cg_parts.proofs.SaidMore.{once_words, said_more}
 use Rattle.cg_blif_text.specs.Telling.{unless, with_parts}
 
 -- names are not lost
-more_names : (names more : List NetName) → length names ≤ length (with_names names more)
+pub more_names : (names more : List NetName) → length names ≤ length (with_names names more)
 more_names names [] = omega arith
 more_names names (name ∷ more) = let rest = more_names (with_name names name) more in let one = go (is_known names name) in omega (arith, rest, one)
   where

@@ -1,5 +1,5 @@
 -- Which netlist a text says with the cells of a library, or which fault it has first.
-use Rattle.std.specs.Prelude.{◌≡◌, ℕ, List, Option, Result, Ok, Err}
+use Rattle.std.specs.Prelude.{◌≡◌, ◌⊎◌, ℕ, List, Option, Result, Ok, Err}
 use Rattle.cg_cell.specs.Cell.{CellData}
 use Rattle.cg_netlist.specs.Circuit.{Circuit}
 use Rattle.cg_parts.specs.declared.fault.NetFault.{NetFault}
@@ -10,6 +10,7 @@ use Rattle.cg_parts.specs.Says.{Says}
 use Rattle.cg_netlist.specs.Wiring.{NetName}
 use Rattle.cg_blif_text.specs.declared.fault.BlifFault.{BlifFault}
 use Rattle.cg_blif_text.specs.declared.fault.BlifFault.TheVariants.{Net}
+use Rattle.cg_blif_text.specs.LineFaults.{IsFirstOfLines}
 use Rattle.cg_blif_text.specs.LogicalLines.{text_lines}
 use Rattle.cg_blif_text.specs.Telling.{Told, go_on, tell_clock, tell_lines}
 
@@ -37,7 +38,16 @@ pub record HasNetFault (text : List ℕ) (library : List CellData) (clock : Opti
   pub tells : TellsParts library clock text model parts
   pub first : IsFault parts fault
 
--- the first fault of the text: that of its first line that has one, or else that of its parts
+-- no line has a fault, and the clock of the option is a net more than there may be
+pub record HasClockFault (text : List ℕ) (library : List CellData) (clock : Option NetName) (fault : BlifFault) : Type 0 where
+  pub told : Told
+  pub before : tell_lines library (text_lines text) ≡ Ok told
+  pub fails : tell_clock clock told ≡ Err fault
+
+-- the first fault of the first line that has one, or else that of the clock of the option
+abbrev pub HasLineFault : List ℕ → List CellData → Option NetName → BlifFault → Type 0
+HasLineFault text library clock fault = IsFirstOfLines library (text_lines text) fault ⊎ HasClockFault text library clock fault
+
+-- the first fault of the text: that of its lines and of the clock, or else that of its parts
 abbrev pub IsFirstBlifFault : List ℕ → List CellData → Option NetName → BlifFault → Type 0
-IsFirstBlifFault text library clock (Net fault) = HasNetFault text library clock fault
-IsFirstBlifFault text library clock fault = told_by library clock text ≡ Err fault
+IsFirstBlifFault text library clock fault = HasLineFault text library clock fault ⊎ ((net : NetFault) × (fault ≡ Net net) × HasNetFault text library clock net)

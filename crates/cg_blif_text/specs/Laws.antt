@@ -1,14 +1,18 @@
 -- What is true of BLIF texts and of the netlists that they say.
-use Rattle.std.specs.Prelude.{◌≡◌, ℕ, IsTrue, List, Option, None}
+use Rattle.std.specs.Prelude.{◌≡◌, ◌↔◌, ℕ, IsTrue, List, Option, None, Err}
 use Rattle.std.specs.List.{AllByRecursion}
 use Rattle.std.specs.Option.{option_to_list}
 use Rattle.cg_cell.specs.Cell.{CellData, IsCell}
 use Rattle.cg_cell.specs.Name.{is_name}
+use Rattle.cg_text.specs.declared.lines.Line.{Line}
 use Rattle.cg_netlist.specs.Circuit.{Circuit}
 use Rattle.cg_netlist.specs.Wiring.{NetName}
 use Rattle.cg_parts.specs.Writable.{IsWritable}
 use Rattle.cg_blif_text.specs.BlifText.{BlifText}
 use Rattle.cg_blif_text.specs.Canonical.{blif}
+use Rattle.cg_blif_text.specs.LineFaults.{IsFirstOfLines}
+use Rattle.cg_blif_text.specs.Telling.{tell_lines}
+use Rattle.cg_blif_text.specs.declared.fault.BlifFault.{BlifFault}
 
 -- no text says two netlists
 abbrev pub NoTextSaysTwo : Type 0
@@ -23,3 +27,7 @@ abbrev pub TextsSayWritable : Type 0
 TextsSayWritable =
     (text : List ℕ) (library : List CellData) (clock : Option NetName) (c : Circuit) → AllByRecursion IsCell library → AllByRecursion (λ net. IsTrue (is_name net)) (option_to_list clock)
     → BlifText text library clock c → IsWritable library c
+
+-- what lines tell is a fault exactly where it is the first by the table, of the first line that has one
+abbrev pub FaultsAreFirst : Type 0
+FaultsAreFirst = (library : List CellData) (lines : List Line) (fault : BlifFault) → (tell_lines library lines ≡ Err fault) ↔ IsFirstOfLines library lines fault

@@ -7,6 +7,9 @@ pub mod Rows
 pub mod Blocks
 pub mod Placing
 pub mod Telling
+pub mod OpenCovers
+pub mod LinesLeft
+pub mod LineFaults
 pub mod BlifText
 pub mod Canonical
 pub mod Laws

@@ -1,24 +1,18 @@
 -- What a text is read as: the netlist that it says, or why it says none.
-use Rattle.std.specs.Prelude.{◌≡◌, ◌⊎◌, ℕ, List, Option, Result, Ok, Err, IsTrue}
+use Rattle.std.specs.Prelude.{◌≡◌, ℕ, List, Option, Result, Ok, Err, IsTrue}
 use Rattle.std.specs.List.{AllByRecursion}
 use Rattle.std.specs.Option.{option_to_list}
 use Rattle.cg_cell.specs.Cell.{CellData, IsCell}
 use Rattle.cg_cell.specs.Name.{is_name}
 use Rattle.cg_netlist.specs.Circuit.{Circuit}
-use Rattle.cg_parts.specs.declared.fault.NetFault.{NetFault}
 use Rattle.cg_netlist.specs.Wiring.{NetName}
 use Rattle.cg_blif_text.specs.declared.fault.BlifFault.{BlifFault}
-use Rattle.cg_blif_text.specs.declared.fault.BlifFault.TheVariants.{Net}
-use Rattle.cg_blif_text.specs.BlifText.{BlifText, HasNetFault, told_by}
+use Rattle.cg_blif_text.specs.BlifText.{BlifText, IsFirstBlifFault}
 
--- the text is refused for this fault: that of its first line that has one, or else that of its parts
-abbrev pub IsRefused : List CellData → Option NetName → List ℕ → BlifFault → Type 0
-IsRefused library clock text fault = (told_by library clock text ≡ Err fault) ⊎ ((net : NetFault) × (fault ≡ Net net) × HasNetFault text library clock net)
-
--- the text is read as this
+-- the text is read as this: a netlist that it says, or its first fault
 abbrev pub IsReadAs : List CellData → Option NetName → List ℕ → Result Circuit BlifFault → Type 0
 IsReadAs library clock text (Ok c) = BlifText text library clock c
-IsReadAs library clock text (Err fault) = IsRefused library clock text fault
+IsReadAs library clock text (Err fault) = IsFirstBlifFault text library clock fault
 
 -- the cells of the library are cells, and the clock of the option has a name
 pub record AreProper (library : List CellData) (clock : Option NetName) : Type 0 where

@@ -3,6 +3,7 @@
 ghost use Rattle.std.specs.Prelude.{◌≡◌, ◌<◌, ℕ, None, Some, IfOk, length, replicate};
 ghost use Rattle.cg_extract.specs.Lifted.{CanExtract, bare, chained, lifting};
 ghost use Rattle.cg_extract.specs.inner.Taking.{CanTake, IsEnableTable, IsTaken, entry_at, given, table_enables};
+ghost use Rattle.cg_limit.specs.declared.TheConstants.{MOST_NETS};
 ghost use Rattle.cg_machine.specs.Machine.{IsNet};
 ghost use Rattle.cg_machine.specs.Run.{with_enables};
 ghost use Rattle.cg_machine.specs.Start.{machine_of};
@@ -65,7 +66,7 @@ fn set_enable(machine: &mut Machine, reg: RegId, enable: Option<NetId>)
 fn chained(machine: &mut Machine, parent: Option<NetId>, own: NetId) -> Result<NetId, AllocError>
     requires own { IsNet machine.old own }
     requires parent { (net : ℕ) → parent ≡ Some net → IsNet machine.old net }
-    requires room { length machine.old.circuit.names < 1048576 }
+    requires room { length machine.old.circuit.names < MOST_NETS }
     ensures { IfOk result (λ net. record { machine = machine.new; net = net } ≡ chained machine.old parent own) }
 {
     let Some(parent) = parent else {

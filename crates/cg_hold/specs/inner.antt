@@ -2,3 +2,4 @@ pub mod Choosing
 pub mod Cycles
 pub mod Known
 pub mod Packed
+pub mod Searching

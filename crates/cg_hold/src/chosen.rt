@@ -7,6 +7,7 @@ ghost use Rattle.cg_hold.specs.inner.Choosing.{AreChosen, FitsChoice, passes_at,
 ghost use Rattle.cg_hold.specs.inner.Cycles.{AreCycles};
 ghost use Rattle.cg_hold.specs.inner.Packed.{literal_place};
 ghost use Rattle.cg_limit.specs.declared.Limit.TheVariants.{ClaimNodes};
+ghost use Rattle.cg_limit.specs.declared.TheConstants.{MOST_NETS};
 ghost use Rattle.cg_lists.specs.HoldList.{hold_passes};
 ghost use Rattle.cg_lists.specs.Literals.{FitsIdle};
 ghost use Rattle.cg_machine.specs.Machine.{enable_of};
@@ -24,6 +25,22 @@ use cg_netlist::fault::AddFault;
 use cg_netlist::id::RegId;
 use std::alloc::{AllocError, Global};
 
+/// What a search for hold stages is over: what each look at a register needs beside the register.
+#[derive(Drop)]
+pub(crate) struct Search<'a> {
+    /// The machine.
+    pub machine: &'a Machine,
+
+    /// Cycles of it.
+    pub cycles: &'a Cycles,
+
+    /// How wide a claim may be.
+    pub width: u32,
+
+    /// How often its nets are 0, where there is a stimulus.
+    pub idle: Option<&'a Idle<'a>>,
+}
+
 /// What came of registers.
 #[derive(Drop)]
 pub(crate) struct Chosen {
@@ -35,6 +52,8 @@ pub(crate) struct Chosen {
 }
 
 impl Chosen {
+    ghost use Rattle.cg_hold.specs.inner.Searching.{AreLookedAt, IsSearch, RefusesAt};
+
     /// What comes of all registers of a machine's netlist that have no enable.
     pub fn of(
         alloc: Global,
@@ -56,41 +75,39 @@ impl Chosen {
         let Ok(cycles) = Cycles::of(alloc, machine) else {
             return Err(AddFault::NoMemory);
         };
-        let mut trier = Trier::new(alloc);
-        match chosen.look_at_all(alloc, &mut trier, machine, &cycles, width, idle, progress) {
+        let search = Search {
+            machine,
+            cycles: &cycles,
+            width,
+            idle,
+        };
+        match chosen.look_at_all(alloc, &search, progress) {
             Ok(()) => Ok(chosen),
             Err(fault) => Err(fault),
         }
     }
 
-    /// Looks at all registers of a machine's netlist, and tells of each.
+    /// Looks at all registers of the machine's netlist, and tells of each.
     fn look_at_all(
         &mut self,
         alloc: Global,
-        trier: &mut Trier,
-        machine: &Machine,
-        cycles: &Cycles,
-        width: u32,
-        idle: Option<&Idle<'_>>,
+        search: &Search<'_>,
         progress: &mut dyn Progress,
     ) -> Result<(), AddFault>
-        requires idle { FitsIdle machine.now (option_copied idle) }
-        requires cycles { AreCycles machine.now cycles.now.cycles }
-        requires chosen { AreChosen machine.now (option_copied idle) width 0 self.old.lists.items self.old.wide }
-        ensures chosen { OnOk result (AreChosen machine.now (option_copied idle.entry) width machine.now.own_registers self.new.lists.items self.new.wide) }
-        ensures refused { IfErr result
-            (λ fault. (fault ≡ NoMemory) ⊎ ((fault ≡ LimitFault ClaimNodes) × (hold_passes machine.now (option_copied idle.entry) width ≡ true))) }
+        requires search { IsSearch search.now }
+        requires chosen { AreLookedAt search.now 0 self.old.lists.items self.old.wide }
+        ensures chosen { OnOk result (AreLookedAt search.now search.now.machine.now.own_registers self.new.lists.items self.new.wide) }
+        ensures refused { IfErr result (λ fault. (fault ≡ NoMemory)
+            ⊎ ((fault ≡ LimitFault ClaimNodes) × (hold_passes search.now.machine.now (option_copied search.now.idle) search.now.width ≡ true))) }
     {
-        let netlist = machine.netlist();
+        let mut trier = Trier::new(alloc);
+        let netlist = search.machine.netlist();
         for reg in 0..netlist.registers() {
             if let Err(fault) = self.look_told(
                 alloc,
-                trier,
-                machine,
-                cycles,
+                &mut trier,
+                search,
                 RegId::new(reg),
-                width,
-                idle,
                 progress,
             ) {
                 return Err(fault);
@@ -101,7 +118,7 @@ impl Chosen {
 
     /// No register for each literal of `nets` nets.
     fn none(alloc: Global, nets: u32) -> Result<Chosen, AllocError>
-        requires { nets ≤ 1048576 }
+        requires { nets ≤ MOST_NETS }
         ensures lists { IfOk result (λ chosen. chosen.lists.items ≡ replicate (2 * nets) []) }
         ensures wide { IfOk result (λ chosen. chosen.wide ≡ 0) }
     {
@@ -117,25 +134,19 @@ impl Chosen {
         &mut self,
         alloc: Global,
         trier: &mut Trier,
-        machine: &Machine,
-        cycles: &Cycles,
+        search: &Search<'_>,
         reg: RegId,
-        width: u32,
-        idle: Option<&Idle<'_>>,
         progress: &mut dyn Progress,
     ) -> Result<(), AddFault>
-        requires register { reg < machine.now.own_registers }
-        requires idle { FitsIdle machine.now (option_copied idle) }
-        requires cycles { AreCycles machine.now cycles.now.cycles }
-        requires chosen { AreChosen machine.now (option_copied idle) width reg self.old.lists.items self.old.wide }
-        ensures chosen { OnOk result (AreChosen machine.now (option_copied idle.entry) width (reg + 1) self.new.lists.items self.new.wide) }
-        ensures refused { IfErr result
-            (λ fault. (fault ≡ NoMemory) ⊎ ((fault ≡ LimitFault ClaimNodes)
-            × ((is_none (enable_of machine.now reg) ≡ true) × (passes_at machine.now (option_copied idle.entry) width reg ≡ true)))) }
+        requires register { reg < search.now.machine.now.own_registers }
+        requires search { IsSearch search.now }
+        requires chosen { AreLookedAt search.now reg self.old.lists.items self.old.wide }
+        ensures chosen { OnOk result (AreLookedAt search.now (reg + 1) self.new.lists.items self.new.wide) }
+        ensures refused { IfErr result (RefusesAt search.now reg) }
     {
-        let registers = machine.netlist().registers();
+        let registers = search.machine.netlist().registers();
         progress.looking(reg.number() as usize + 1, registers as usize);
-        self.look(alloc, trier, machine, cycles, reg, width, idle)
+        self.look(alloc, trier, search, reg)
     }
 
     /// Looks at one register.
@@ -143,26 +154,29 @@ impl Chosen {
         &mut self,
         alloc: Global,
         trier: &mut Trier,
-        machine: &Machine,
-        cycles: &Cycles,
+        search: &Search<'_>,
         reg: RegId,
-        width: u32,
-        idle: Option<&Idle<'_>>,
     ) -> Result<(), AddFault>
-        requires register { reg < machine.now.own_registers }
-        requires idle { FitsIdle machine.now (option_copied idle) }
-        requires cycles { AreCycles machine.now cycles.now.cycles }
-        requires chosen { AreChosen machine.now (option_copied idle) width reg self.old.lists.items self.old.wide }
-        ensures chosen { OnOk result (AreChosen machine.now (option_copied idle.entry) width (reg + 1) self.new.lists.items self.new.wide) }
-        ensures refused { IfErr result
-            (λ fault. (fault ≡ NoMemory) ⊎ ((fault ≡ LimitFault ClaimNodes)
-            × ((is_none (enable_of machine.now reg) ≡ true) × (passes_at machine.now (option_copied idle.entry) width reg ≡ true)))) }
+        requires register { reg < search.now.machine.now.own_registers }
+        requires search { IsSearch search.now }
+        requires chosen { AreLookedAt search.now reg self.old.lists.items self.old.wide }
+        ensures chosen { OnOk result (AreLookedAt search.now (reg + 1) self.new.lists.items self.new.wide) }
+        ensures refused { IfErr result (RefusesAt search.now reg) }
     {
+        let machine = search.machine;
         let _netlist = machine.netlist();
         if machine.enable(reg).is_some() {
             return Ok(());
         }
-        match choose(alloc, trier, machine, cycles, reg, width, idle) {
+        match choose(
+            alloc,
+            trier,
+            machine,
+            search.cycles,
+            reg,
+            search.width,
+            search.idle,
+        ) {
             Ok(choice) => self.note(reg, choice),
             Err(fault) => Err(fault),
         }

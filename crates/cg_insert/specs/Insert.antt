@@ -10,6 +10,7 @@ use Rattle.cg_cell.specs.declared.fit.FitKind.{FitKind}
 use Rattle.cg_cell.specs.declared.fit.FitKind.TheVariants.{Gater, TestGater}
 use Rattle.cg_limit.specs.declared.Limit.{Limit}
 use Rattle.cg_limit.specs.declared.Limit.TheVariants.{Nets}
+use Rattle.cg_limit.specs.declared.TheConstants.{MOST_NETS}
 use Rattle.cg_netlist.specs.declared.parts.LogicFunction.TheVariants.{Cell}
 use Rattle.cg_netlist.specs.Circuit.{Circuit, GatingCell, LogicCell, RegisterCell, data_inputs, is_in}
 use Rattle.cg_machine.specs.Gates.{AddedGate}
@@ -93,7 +94,7 @@ inserted library test m = ordered (gated library test m)
 
 -- the limit that insertion passes, if it passes one: that on nets
 abbrev pub insertion_limit : Option (List ℕ) → MachineData → Option Limit
-insertion_limit test m = if nat_le (first_gate m test + length (enables_of m)) 1048576 then None else Some Nets
+insertion_limit test m = if nat_le (first_gate m test + length (enables_of m)) MOST_NETS then None else Some Nets
 
 -- the condition: the library has a cell for each added gate, and one for gating where there is an enable; the test input
 -- is a new name

@@ -2,6 +2,7 @@
 use Rattle.std.specs.Prelude.{ℕ, Bool, false, not, ◌&&◌, if◌then◌else◌, List, [], ◌∷◌, map, nat_lt, Option, Some, None}
 use Rattle.std.specs.List.{count_by, filter, filter_map, find, list_any}
 use Rattle.std.specs.Option.{option_map_or}
+use Rattle.cg_limit.specs.declared.TheConstants.{MOST_CLAIM_NODES}
 use Rattle.cg_machine.specs.Claims.{Literal}
 use Rattle.cg_machine.specs.Machine.{MachineData}
 use Rattle.cg_machine.specs.declared.stage.Stage.{Stage}
@@ -63,7 +64,7 @@ looked_at m idle width r = if nat_lt width (hold_width m r) then [] else up_to (
 
 -- whether the hold claim of a literal that is looked at has more leaves and and-nodes than a claim may have
 abbrev pub is_large : MachineData → Question → Bool
-is_large m q = nat_lt 65536 (nodes_of m q)
+is_large m q = nat_lt MOST_CLAIM_NODES (nodes_of m q)
 
 abbrev pub hold_passes : MachineData → Option IdleData → ℕ → Bool
 hold_passes m idle width = list_any (λ r. list_any (λ l. is_large m (hold_question l r)) (looked_at m idle width r)) (free_registers m)

@@ -6,6 +6,7 @@ use Rattle.std.specs.Option.{option_and_then, option_map, option_or}
 use Rattle.cg_cell.specs.declared.fit.FitKind.{FitKind}
 use Rattle.cg_limit.specs.declared.Limit.{Limit}
 use Rattle.cg_limit.specs.declared.Limit.TheVariants.{Nets, Registers}
+use Rattle.cg_limit.specs.declared.TheConstants.{MOST_NETS, MOST_REGISTERS}
 use Rattle.cg_netlist.specs.Circuit.{Circuit, LogicCell, RegisterCell}
 use Rattle.cg_netlist.specs.declared.fault.AddFault.{AddFault}
 use Rattle.cg_netlist.specs.declared.fault.AddFault.TheVariants.{Limit as LimitFault}
@@ -85,10 +86,10 @@ unless_found None limit = limit
 unless_found (Some net) limit = None
 
 abbrev pub nets_limit : MachineData → Option Limit
-nets_limit m = if nat_lt (length m.circuit.names) 1048576 then None else Some Nets
+nets_limit m = if nat_lt (length m.circuit.names) MOST_NETS then None else Some Nets
 
 abbrev pub registers_limit : MachineData → Option Limit
-registers_limit m = if nat_lt (length m.circuit.registers) 65536 then None else Some Registers
+registers_limit m = if nat_lt (length m.circuit.registers) MOST_REGISTERS then None else Some Registers
 
 abbrev pub gate_limit : MachineData → FitKind → List ℕ → Option Limit
 gate_limit m kind inputs = unless_found (find_gate m kind inputs) (nets_limit m)

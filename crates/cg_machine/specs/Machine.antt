@@ -4,6 +4,7 @@ use Rattle.std.specs.List.{All, IsDistinct, range_with_len}
 use Rattle.std.specs.Fmt.{decimal}
 use Rattle.std.specs.Option.{option_flatten}
 use Rattle.cg_cell.specs.Name.{is_name}
+use Rattle.cg_limit.specs.declared.TheConstants.{MOST_NETS, MOST_REGISTERS}
 use Rattle.cg_netlist.specs.Circuit.{Circuit, LogicCell, RegisterCell, data_inputs}
 use Rattle.cg_netlist.specs.declared.parts.RegisterKind.TheVariants.{Plain}
 use Rattle.cg_netlist.specs.History.{next_value}
@@ -104,8 +105,8 @@ pub record IsMachine (m : MachineData) : Type 0 where
   pub inputs_once : IsDistinct nat_eq m.circuit.inputs
   pub outputs_once : IsDistinct nat_eq m.circuit.outputs
   -- no limit is passed
-  pub small : length m.circuit.names ≤ 1048576
-  pub few_registers : length m.circuit.registers ≤ 65536
+  pub small : length m.circuit.names ≤ MOST_NETS
+  pub few_registers : length m.circuit.registers ≤ MOST_REGISTERS
   -- in walk order each logic cell stands behind those that drive its inputs
   pub walk : IsWalk m.circuit.cells (walk_of m)
   -- each register has an enable or none, and an enable is a net other than the clock

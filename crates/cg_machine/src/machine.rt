@@ -7,6 +7,7 @@ ghost use Rattle.cg_limit.specs.Answers.{OrNoMemory};
 ghost use Rattle.cg_netlist.specs.declared.fault.AddFault.{AddFault};
 ghost use Rattle.cg_netlist.specs.declared.fault.AddFault.TheVariants.{Limit as LimitFault, NoMemory};
 ghost use Rattle.cg_limit.specs.declared.Limit.TheVariants.{Nets, Registers};
+ghost use Rattle.cg_limit.specs.declared.TheConstants.{MOST_NETS, MOST_REGISTERS};
 ghost use Rattle.cg_machine.specs.Added.{Added, HasNames, added_place, delay_answer, find_delay, find_gate, gate_answer};
 ghost use Rattle.cg_machine.specs.Added.{nets_limit, own_netlist, push_delay, push_gate, registers_limit, set_enable};
 ghost use Rattle.cg_machine.specs.Extends.{GateFits, HasDelay, HasGate};
@@ -237,7 +238,7 @@ impl Machine {
     ) -> Result<(), AllocError>
         requires fits { GateFits self.old kind inputs.now }
         requires absent { find_gate self.old kind inputs.now ≡ None }
-        requires room { length self.old.circuit.names < 1048576 }
+        requires room { length self.old.circuit.names < MOST_NETS }
         requires next { output ≡ length self.old.circuit.names }
         ensures pushed { OnOk result (self.new ≡ push_gate self.old kind inputs.now) }
         ensures unchanged { OnErr result (self.new ≡ self.old) }
@@ -293,8 +294,8 @@ impl Machine {
         requires clock { IsSome self.old.circuit.clock }
         requires net { IsNet self.old net }
         requires absent { find_delay self.old net ≡ None }
-        requires room { length self.old.circuit.names < 1048576 }
-        requires space { length self.old.circuit.registers < 65536 }
+        requires room { length self.old.circuit.names < MOST_NETS }
+        requires space { length self.old.circuit.registers < MOST_REGISTERS }
         requires next { output ≡ length self.old.circuit.names }
         ensures pushed { OnOk result (self.new ≡ push_delay self.old net) }
         ensures unchanged { OnErr result (self.new ≡ self.old) }

@@ -1,6 +1,7 @@
 -- What is proved of trying stages and of plans.
 use Rattle.std.specs.Prelude.{◌≡◌, ◌↔◌, ◌≤◌, ℕ, Bool, List, length, Option, None, slice_get, Some, ◌+◌, ◌++◌, [], ◌∷◌}
 use Rattle.cg_cell.specs.Cell.{CellData}
+use Rattle.cg_limit.specs.declared.TheConstants.{MOST_CLAIM_NODES}
 use Rattle.cg_netlist.specs.Circuit.{Circuit}
 use Rattle.cg_netlist.specs.History.{IsLawful, IsStart, IsWaveform, Moment, Tick, outputs_of}
 use Rattle.cg_machine.specs.Claims.{CanIdle}
@@ -31,7 +32,7 @@ use Rattle.cg_stage.specs.Effects.{effect}
 pub record IsInsertable (library : List CellData) (settings : Settings) (m : MachineData) (s : Stage) : Type 0 where
   pub large : settings.min ≤ length s.regs
   pub cells : missing library (needs settings.test s) ≡ None
-  pub narrow : (k : ℕ) (c : NamedClaim) → slice_get (all_claims m s) k ≡ Some c → (width_of m c.1 ≤ settings.width) × (nodes_of m c.1 ≤ 65536)
+  pub narrow : (k : ℕ) (c : NamedClaim) → slice_get (all_claims m s) k ≡ Some c → (width_of m c.1 ≤ settings.width) × (nodes_of m c.1 ≤ MOST_CLAIM_NODES)
   pub idles : CanIdle m s.enable
   pub holds : ClaimsHold s.kind m s
   pub room : limit_by s.kind m s ≡ None

@@ -2,6 +2,7 @@
 
 ghost use Rattle.std.specs.Prelude.{◌≡◌, ◌≤◌, ◌<◌, List, length, replicate, IfOk};
 ghost use Rattle.std.specs.List.{All};
+ghost use Rattle.cg_limit.specs.declared.TheConstants.{MOST_ROWS};
 ghost use Rattle.cg_netlist.specs.History.{Moment};
 ghost use Rattle.cg_stimulus.specs.Inputs.{IsFor};
 ghost use Rattle.cg_stimulus.specs.Played.{IsPlayed};
@@ -50,7 +51,7 @@ fn no_zeros(alloc: Global, netlist: &Netlist) -> Result<Vec<u32>, AllocError>
 fn play_row(player: &mut Player<'_>, zeros: &mut [u32])
     requires row { HasRow player.old.left }
     requires nets { length zeros.old ≡ length player.old.simulated.circuit.names }
-    requires room { All (λ n. n < 1048576) zeros.old }
+    requires room { All (λ n. n < MOST_ROWS) zeros.old }
     ensures { PlaysRow player.old player.new zeros.old zeros.new }
 {
     player.step();
@@ -61,7 +62,7 @@ fn play_row(player: &mut Player<'_>, zeros: &mut [u32])
 /// Counts one more at each net that is 0.
 fn count_zeros(nets: &[bool], zeros: &mut [u32])
     requires nets { length nets.now ≡ length zeros.old }
-    requires room { All (λ n. n < 1048576) zeros.old }
+    requires room { All (λ n. n < MOST_ROWS) zeros.old }
     ensures { AreCounted (length zeros.old) nets.now zeros.old zeros.new }
 {
     for net in 0..zeros.len() {

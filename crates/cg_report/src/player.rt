@@ -7,6 +7,7 @@ ghost use Rattle.cg_netlist.specs.History.{Moment, Tick};
 ghost use Rattle.cg_netlist.specs.Netlist.{IsNetlist};
 ghost use Rattle.cg_edge.specs.Shows.{ShowsOn};
 ghost use Rattle.cg_edge.specs.Simulated.{MayTick, Ticks, fresh};
+ghost use Rattle.cg_limit.specs.declared.TheConstants.{MOST_REGISTERS};
 ghost use Rattle.cg_stimulus.specs.Inputs.{IsFor};
 ghost use Rattle.cg_stimulus.specs.Played.{IsPlayed, played_start, played_wave};
 ghost use Rattle.cg_report.specs.inner.Giving.{Given, MayGive};
@@ -215,7 +216,7 @@ fn play(simulator: &mut Simulator<'_>, clock: bool, inputs: &[bool]) -> u64
     ensures ticks { Ticks simulator.old simulator.new (record { clock = clock; inputs = inputs.now }) }
     ensures shows { ShowsOn simulator.old simulator.new (record { clock = clock; inputs = inputs.now }) }
     ensures rises { result ≡ count_by (λ rose. rose) simulator.new.rose }
-    ensures within { result ≤ 65536 }
+    ensures within { result ≤ MOST_REGISTERS }
 {
     simulator.tick(clock, inputs);
     simulator.rises().iter().filter(|rose| **rose).count() as u64

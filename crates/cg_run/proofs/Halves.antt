@@ -1,19 +1,17 @@
 -- A run of its two halves, with what finishes what was found between them.
-use Rattle.std.proofs.Common.{◌≡◌, inl, inr, ℕ, List, [], ◌∷◌, ◌++◌, Option, None, Some, Result, Ok, Err, refl, sym, ◌∙◌, ap, subst}
+use Rattle.std.proofs.Common.{◌≡◌, inl, inr, ℕ, List, [], ◌∷◌, ◌++◌, Option, Result, Ok, Err, refl, sym, ◌∙◌, ap, subst}
 use Rattle.std.specs.Prelude.{IsOkAnd}
 use Rattle.cg_shelf.specs.World.{World}
 use Rattle.cg_shelf.specs.declared.faults.LoadFault.{LoadFault}
 use Rattle.cg_run.specs.declared.output.Finish.{Finish}
 use Rattle.cg_run.specs.declared.output.Output.{Output}
 use Rattle.cg_run.specs.declared.refusal.Refusal.{Refusal}
-use Rattle.cg_run.specs.declared.refusal.Refusal.TheVariants as refusals
-use Rattle.cg_run.specs.declared.refusal.Step.TheVariants as steps
 use Rattle.cg_run.specs.declared.refusal.Trouble.{Trouble}
 use Rattle.cg_run.specs.declared.refusal.Trouble.TheVariants as troubles
 use Rattle.cg_run.specs.declared.role.Role.{Role}
 use Rattle.cg_run.specs.declared.status.Status.{Status}
 use Rattle.cg_run.specs.Reads.{Collects, Reads}
-use Rattle.cg_run.specs.Run.{Attempts, PutsOut, Runs, Tries, WritesOut, finished_as}
+use Rattle.cg_run.specs.Run.{Attempts, PutsOut, Runs, Tries, finished_as}
 use Rattle.cg_run.specs.Verdict.{Comes, Concludes, Given, Halts, reached, refusal_in, stopped, taken, task_of, troubled, unstopped, ◌>>=◌}
 use Rattle.cg_run.specs.Writes.{Writes}
 use Rattle.cg_run.proofs.Attempted.{attempts_unread, attempts_unreserved, attempts_unwritten, attempts_written}

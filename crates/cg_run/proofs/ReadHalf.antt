@@ -12,7 +12,8 @@ use Rattle.cg_run.specs.declared.refusal.Refusal.TheVariants as refusals
 use Rattle.cg_run.specs.declared.refusal.Trouble.{Trouble}
 use Rattle.cg_run.specs.declared.refusal.Trouble.TheVariants as troubles
 use Rattle.cg_run.specs.declared.role.Role.{Role}
-use Rattle.cg_run.specs.Reads.{Agrees, Loads, Reads, Untouched, load_calls, loaded_role}
+use Rattle.cg_run.specs.Reads.{Agrees, Reads, Untouched, load_calls}
+use Rattle.cg_run.specs.inner.Steps.{Loads, loaded_role}
 use Rattle.cg_run.specs.Refusal.{outcome_faults, refusal_of}
 use Rattle.cg_run.specs.Roles.{are_distinct, is_among}
 use Rattle.cg_run.specs.Verdict.{Answers, Comes, Given, Halts, Loaded, asked, asked_from, brought, onward, reached, refusal_in, stopped, taken, troubled, ◌>>=◌}

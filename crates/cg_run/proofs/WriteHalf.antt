@@ -20,7 +20,8 @@ use Rattle.cg_run.specs.declared.refusal.Step.TheVariants as steps
 use Rattle.cg_run.specs.declared.role.Role.{Role}
 use Rattle.cg_run.specs.Refusal.{outcome_faults, step_of}
 use Rattle.cg_run.specs.Roles.{is_role}
-use Rattle.cg_run.specs.Writes.{CallsAt, HasStep, Holds, IsUpTo, LeavesAt, OneCall, OpenStep, SaidBy, SaysAll, StoreCalls, StoreLeaves, StoredAll, StoresAll, StoresAt, StoresOne, StoresStep, WriteCalls, WriteLeaves, Writes, is_stored, put_under, puts, store_calls}
+use Rattle.cg_run.specs.Writes.{CallsAt, HasStep, IsUpTo, LeavesAt, WriteCalls, WriteLeaves, Writes, is_stored, put_under, puts, store_calls}
+use Rattle.cg_run.specs.inner.Steps.{Holds, OneCall, OpenStep, SaidBy, SaysAll, StoreCalls, StoreLeaves, StoredAll, StoresAll, StoresAt, StoresOne, StoresStep}
 use Rattle.cg_run.proofs.RoleLaws.{is_its_role}
 use Rattle.cg_run.proofs.ReadHalf.{faults_join, joined, tells_on}
 

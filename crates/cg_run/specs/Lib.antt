@@ -7,3 +7,4 @@ pub mod Reads
 pub mod Writes
 pub mod Run
 pub mod Promise
+pub mod inner

@@ -11,7 +11,7 @@ use Rattle.cg_run.specs.declared.refusal.Refusal.{Refusal}
 use Rattle.cg_run.specs.declared.refusal.Trouble.{Trouble}
 use Rattle.cg_run.specs.declared.role.Role.{Role}
 use Rattle.cg_run.specs.Refusal.{outcome_faults}
-use Rattle.cg_run.specs.Verdict.{Comes, Given, Loaded, asked, brought, reached, unstopped}
+use Rattle.cg_run.specs.Verdict.{Comes, Given, Loaded, asked, reached, unstopped}
 
 -- nothing was stored or said
 pub record Untouched (before after : World) : Type 0 where
@@ -35,23 +35,6 @@ Gave {S} gives name gave = (shelf : S) × gives shelf name gave
 abbrev pub load_calls : (Role → List ℕ) → List Role → List CallMade
 load_calls names [] = []
 load_calls names (role ∷ rest) = one_call calls.Load (names role) ++ load_calls names rest
-
--- the file is loaded, unless memory was wanting before that
-abbrev pub loaded_role : Role → Loaded → List Role
-loaded_role role None = []
-loaded_role role (Some gave) = role ∷ []
-
--- The load of one file. `given` is what it gave.
-pub record Loads (gave : List ℕ → Result (List ℕ) LoadFault → Type 0) (names : Role → List ℕ) (role : Role) (before after : World) (answer : Result (List ℕ) Refusal) : Type 0 where
-  pub given : Loaded
-  pub from : IfSome given (gave (names role))
-  pub told : IsTrue before.tells → Agrees (before.held (names role)) given
-  pub is : answer ≡ brought role given
-  pub listed : IsTrue before.tells → after.calls ≡ before.calls ++ load_calls names (loaded_role role given)
-  pub untouched : IsTrue before.tells → Untouched before after
-  pub quiet : IsTrue before.tells → after.complained ≡ before.complained
-  pub tells : after.tells ≡ before.tells
-  pub failed : after.faults ≡ before.faults ++ outcome_faults names answer
 
 -- The reading half of a run. `given` is what its loads gave; a load gave it, and where the shelf tells, it agrees with what
 -- was held. These loads are the calls that were made. Nothing is stored, said or complained.

@@ -3,7 +3,8 @@
 ghost use Rattle.std.specs.Prelude.{◌≡◌, ◌++◌, IsTrue};
 ghost use Rattle.cg_run.specs.Names.{name_of};
 ghost use Rattle.cg_run.specs.Roles.{are_distinct};
-ghost use Rattle.cg_run.specs.Reads.{Collects, Gave, Loads};
+ghost use Rattle.cg_run.specs.Reads.{Collects, Gave};
+ghost use Rattle.cg_run.specs.inner.Steps.{Loads};
 
 use crate::mode::Reader;
 use crate::names::Names;

@@ -2,7 +2,8 @@
 
 ghost use Rattle.std.specs.Prelude.{◌≡◌, ◌++◌, IsTrue};
 ghost use Rattle.cg_run.specs.Names.{name_of};
-ghost use Rattle.cg_run.specs.Writes.{Writes, StoresAll, StoresOne, SaysAll};
+ghost use Rattle.cg_run.specs.Writes.{Writes};
+ghost use Rattle.cg_run.specs.inner.Steps.{StoresAll, StoresOne, SaysAll};
 
 use crate::names::Names;
 use crate::output::{Output, Text};

@@ -13,6 +13,7 @@ use Rattle.std.proofs.lemmas.Option.{slice_get_within, slice_get-get_or, get_or_
 use Rattle.std.proofs.lemmas.Slice.Eq.{bytes_eq-Decides}
 use lib.Pointwise.{pointwise}
 use Rattle.cg_text.specs.declared.lines.Line.{Line}
+use Rattle.cg_limit.specs.Answers.{OrNoMemory}
 use Rattle.cg_limit.specs.declared.Limit.TheVariants as limits
 use Rattle.cg_netlist.specs.Names.{is_known}
 use Rattle.cg_netlist.proofs.DifferentNames.{known_at}
@@ -20,7 +21,7 @@ use Rattle.cg_stimulus.specs.declared.fault.StimulusFault.{StimulusFault}
 use Rattle.cg_stimulus.specs.declared.fault.StimulusFault.TheVariants as faults
 use Rattle.cg_stimulus.specs.declared.header.Header.{Header}
 use Rattle.cg_stimulus.specs.Comments.{stimulus_lines}
-use Rattle.cg_stimulus.specs.Fault.{StimulusOrNoMemory, ◌>>=◌}
+use Rattle.cg_stimulus.specs.Fault.{◌>>=◌}
 use Rattle.cg_stimulus.specs.Reading.{column_of, names_from, columns_of, header_of, is_bit_byte, says_row, bits_of, row_of, rows_of, rows_in, stimulus}
 use Rattle.cg_stimulus.specs.StimText.{bit_byte, StandOnce, ShowsBit, SaysRow, StimText}
 
@@ -339,7 +340,7 @@ text_is_read inputs text rows t =
     rw (t.lines, t.headed, names_again t.first.number inputs [] t.names t.once t.known, columns.1)
     (rows_again t.names inputs columns.0 0 t.later rows t.once zip t.say (omega (arith, t.few)))
 
-pub given_is_text : {X : Type 0} (view : X → List (List Bool)) (inputs : List (List ℕ)) (text : List ℕ) (r : Result X StimulusFault) → StimulusOrNoMemory view r (stimulus inputs text)
+pub given_is_text : {X : Type 0} (view : X → List (List Bool)) (inputs : List (List ℕ)) (text : List ℕ) (r : Result X StimulusFault) → OrNoMemory faults.NoMemory view r (stimulus inputs text)
     → IfOk r (λ x. StimText inputs text (view x))
 given_is_text view inputs text (Ok x) e = read_is_text inputs text (view x) e
 given_is_text view inputs text (Err fault) e = tt

@@ -1,6 +1,7 @@
 -- What a stimulus is: a bit for each data input, row by row.
 use Rattle.std.specs.Prelude.{◌≡◌, ◌≤◌, ℕ, Bool, List, ◌++◌, length, map}
 use Rattle.std.specs.List.{AllByRecursion}
+use Rattle.cg_limit.specs.declared.TheConstants.{MOST_ROWS}
 use Rattle.cg_netlist.specs.Wiring.{net_name}
 use Rattle.cg_netlist.specs.Circuit.{Circuit, data_inputs}
 
@@ -16,7 +17,7 @@ pub record Rows : Type 0 where
 -- each row has a bit for each input, and there are not too many rows
 pub record IsStimulus (stimulus : Rows) : Type 0 where
   pub wide : AllByRecursion (λ row. length row ≡ length stimulus.inputs) stimulus.rows
-  pub few : length stimulus.rows ≤ 1048576
+  pub few : length stimulus.rows ≤ MOST_ROWS
 
 -- the data inputs of the netlist begin with those for which the stimulus is
 abbrev pub IsFor : Circuit → Rows → Type 0

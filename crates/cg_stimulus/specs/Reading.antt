@@ -5,6 +5,7 @@ use Rattle.std.specs.Str.{bytes_eq}
 use lib.Pointwise.{pointwise}
 use Rattle.cg_text.specs.declared.lines.Line.{Line}
 use Rattle.cg_limit.specs.declared.Limit.TheVariants as limits
+use Rattle.cg_limit.specs.declared.TheConstants.{MOST_ROWS}
 use Rattle.cg_netlist.specs.Names.{is_known}
 use Rattle.cg_stimulus.specs.declared.fault.StimulusFault.{StimulusFault}
 use Rattle.cg_stimulus.specs.declared.header.Header.{Header}
@@ -58,7 +59,7 @@ row_of line header (w ∷ v ∷ ws) = Err (BadRow line)
 abbrev pub rows_of : Header → ℕ → List Line → Result (List (List Bool)) StimulusFault
 rows_of header count [] = Ok []
 rows_of header count (line ∷ later) = row_of line.number header line.words >>= λ row.
-    if nat_lt count 1048576 then (rows_of header (count + 1) later >>= λ rows. Ok (row ∷ rows)) else Err (Limit limits.Rows)
+    if nat_lt count MOST_ROWS then (rows_of header (count + 1) later >>= λ rows. Ok (row ∷ rows)) else Err (Limit limits.Rows)
 
 abbrev pub rows_in : List (List ℕ) → List Line → Result (List (List Bool)) StimulusFault
 rows_in inputs [] = Err (BadRow 0)

@@ -2,6 +2,7 @@
 use Rattle.std.specs.Prelude.{◌≡◌, ◌≤◌, ◌==◌, ℕ, true, false, Bool, List, ◌∷◌, [], length, slice_get, Some, codes, if◌then◌else◌}
 use Rattle.std.specs.List.{AllByRecursion, AllZip, list_all}
 use Rattle.cg_text.specs.declared.lines.Line.{Line}
+use Rattle.cg_limit.specs.declared.TheConstants.{MOST_ROWS}
 use Rattle.cg_netlist.specs.Names.{is_known}
 use Rattle.cg_stimulus.specs.Comments.{stimulus_lines}
 use Rattle.cg_stimulus.specs.Reading.{is_bit_byte}
@@ -42,4 +43,4 @@ pub record StimText (inputs : List (List ℕ)) (text : List ℕ) (rows : List (L
   pub known : AllByRecursion (λ name. is_known inputs name ≡ true) names
   pub all : AllByRecursion (λ input. is_known names input ≡ true) inputs
   pub say : AllZip (SaysRow inputs names) later rows
-  pub few : length rows ≤ 1048576
+  pub few : length rows ≤ MOST_ROWS

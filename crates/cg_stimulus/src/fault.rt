@@ -3,29 +3,23 @@
 use cg_cell::name::Name;
 use cg_limit::Limit;
 use std::alloc::{AllocError, AllocFailed};
-use thiserror::Error;
 
 /// The first fault of a stimulus text. Lines are counted from 1.
-#[derive(Debug, Drop, Error)]
+#[derive(Debug, Drop)]
 pub enum StimulusFault {
     /// A name in the first line, which has this number, is no data input, or stands there twice.
-    #[error("bad name in line {0}")]
     BadName(u64),
 
     /// The first data input that the first line does not name.
-    #[error("no input {0:?}")]
     MissingInput(Name),
 
     /// The line with this number is no row, or the first line does not begin with the word `inputs`; 0 where the text has no line.
-    #[error("bad row in line {0}")]
     BadRow(u64),
 
     /// There are more rows than a stimulus may have.
-    #[error("the limit of {0:?} would be passed")]
     Limit(Limit),
 
     /// There was no memory.
-    #[error("no memory")]
     NoMemory,
 }
 

@@ -3,7 +3,8 @@
 ghost use Rattle.std.specs.Prelude.{◌≡◌, [], length, IfOk, IsTrue};
 ghost use Rattle.std.specs.List.{AllByRecursion};
 ghost use Rattle.cg_cell.specs.Name.{is_name};
-ghost use Rattle.cg_stimulus.specs.Fault.{StimulusOrNoMemory};
+ghost use Rattle.cg_limit.specs.Answers.{OrNoMemory};
+ghost use Rattle.cg_stimulus.specs.declared.fault.StimulusFault.TheVariants.{NoMemory};
 ghost use Rattle.cg_stimulus.specs.Reading.{names_from, columns_of, header_of};
 
 use crate::fault::StimulusFault;
@@ -29,7 +30,7 @@ fn read_names(
     inputs: &InputNames,
     words: BareWords<'_>,
 ) -> Result<InputNames, StimulusFault>
-    ensures { StimulusOrNoMemory (λ names. names) result (names_from line inputs.now [] words.entry) }
+    ensures { OrNoMemory NoMemory (λ names. names) result (names_from line inputs.now [] words.entry) }
 {
     let mut words = words;
     let mut names = InputNames::new(alloc);
@@ -49,7 +50,7 @@ fn find_columns(
     inputs: &InputNames,
 ) -> Result<Seq<usize>, StimulusFault>
     requires { AllByRecursion (λ name. IsTrue (is_name name)) inputs.now }
-    ensures columns { StimulusOrNoMemory (λ columns. columns) result (columns_of names.now inputs.now) }
+    ensures columns { OrNoMemory NoMemory (λ columns. columns) result (columns_of names.now inputs.now) }
     ensures wide { IfOk result (λ columns. length columns ≡ length inputs.now) }
 {
     let mut columns = Vec::new(alloc);
@@ -71,7 +72,7 @@ pub(crate) fn read_header(
 ) -> Result<Header, StimulusFault>
     requires { AllByRecursion (λ name. IsTrue (is_name name)) inputs.now }
     ensures wide { IfOk result (λ header. length header.columns ≡ length inputs.now) }
-    ensures header { StimulusOrNoMemory (λ header. header) result (header_of line.entry.number inputs.now line.entry.words) }
+    ensures header { OrNoMemory NoMemory (λ header. header) result (header_of line.entry.number inputs.now line.entry.words) }
 {
     let number = line.number;
     let mut words = line.words;

@@ -3,7 +3,8 @@
 ghost use Rattle.std.specs.Prelude.{◌≡◌, [], Bool, List, Ok, length, IfOk, IsTrue};
 ghost use Rattle.std.specs.List.{AllByRecursion};
 ghost use Rattle.cg_cell.specs.Name.{is_name};
-ghost use Rattle.cg_stimulus.specs.Fault.{StimulusOrNoMemory};
+ghost use Rattle.cg_limit.specs.Answers.{OrNoMemory};
+ghost use Rattle.cg_stimulus.specs.declared.fault.StimulusFault.TheVariants.{NoMemory};
 ghost use Rattle.cg_stimulus.specs.Inputs.{input_names};
 ghost use Rattle.cg_stimulus.specs.Reading.{rows_of, stimulus};
 ghost use Rattle.cg_stimulus.specs.StimText.{StimText};
@@ -32,7 +33,7 @@ fn read_rows(
 ) -> Result<Stimulus, StimulusFault>
     requires none { stimulus.rows ≡ [] }
     requires wide { length header.now.columns ≡ length stimulus.inputs }
-    ensures rows { StimulusOrNoMemory (λ read. read.rows) result (rows_of header.now 0 lines.entry) }
+    ensures rows { OrNoMemory NoMemory (λ read. read.rows) result (rows_of header.now 0 lines.entry) }
     ensures inputs { IfOk result (λ read. read.inputs ≡ stimulus.inputs) }
 {
     let mut lines = lines;
@@ -47,7 +48,7 @@ fn read_rows(
 /// The stimulus of a text, or its first fault.
 fn read_text(alloc: Global, bytes: &[u8], netlist: &Netlist) -> Result<Stimulus, StimulusFault>
     ensures inputs { IfOk result (λ read. read.inputs ≡ input_names netlist.now) }
-    ensures rows { StimulusOrNoMemory (λ read. read.rows) result (stimulus (input_names netlist.now) bytes.now) }
+    ensures rows { OrNoMemory NoMemory (λ read. read.rows) result (stimulus (input_names netlist.now) bytes.now) }
 {
     inputs_have_names(netlist);
     let stimulus = Stimulus::new(alloc, netlist)?;
@@ -70,8 +71,8 @@ pub fn read_stimulus(
     ensures inputs { IfOk result (λ read. read.inputs ≡ input_names netlist.now) }
     ensures found { IfOk result (λ read. StimText (input_names netlist.now) bytes.now read.rows) }
     ensures only { (rows : List (List Bool)) → StimText (input_names netlist.now) bytes.now rows
-        → StimulusOrNoMemory (λ read. read.rows) result (Ok rows) }
-    ensures exact { StimulusOrNoMemory (λ read. read.rows) result (stimulus (input_names netlist.now) bytes.now) }
+        → OrNoMemory NoMemory (λ read. read.rows) result (Ok rows) }
+    ensures exact { OrNoMemory NoMemory (λ read. read.rows) result (stimulus (input_names netlist.now) bytes.now) }
 {
     read_text(alloc, bytes, netlist)
 }

@@ -2,7 +2,8 @@
 
 ghost use Rattle.std.specs.Prelude.{◌≡◌, ◌==◌, length, slice_index_or, IfOk};
 ghost use Rattle.std.specs.List.{list_all};
-ghost use Rattle.cg_stimulus.specs.Fault.{StimulusOrNoMemory};
+ghost use Rattle.cg_limit.specs.Answers.{OrNoMemory};
+ghost use Rattle.cg_stimulus.specs.declared.fault.StimulusFault.TheVariants.{NoMemory};
 ghost use Rattle.cg_stimulus.specs.Reading.{is_bit_byte, says_row, bits_of, row_of};
 
 use crate::fault::StimulusFault;
@@ -56,7 +57,7 @@ pub(crate) fn read_row(
     line: BareLine<'_>,
 ) -> Result<Vec<bool>, StimulusFault>
     ensures wide { IfOk result (λ row. length row.items ≡ length header.now.columns) }
-    ensures row { StimulusOrNoMemory (λ row. row.items) result (row_of line.entry.number header.now line.entry.words) }
+    ensures row { OrNoMemory NoMemory (λ row. row.items) result (row_of line.entry.number header.now line.entry.words) }
 {
     let number = line.number;
     let mut words = line.words;

@@ -2,6 +2,7 @@
 
 ghost use Rattle.std.specs.Prelude.{◌≡◌, ◌≢◌, ◌≤◌, ◌<◌, ◌++◌, ◌∷◌, [], Some, length, map, nat_eq, slice_get, IfOk, IfErr, OnErr, OnOk};
 ghost use Rattle.std.specs.List.{All, AllPairs, IsDistinct};
+ghost use Rattle.cg_limit.specs.declared.TheConstants.{MOST_ROWS};
 ghost use Rattle.cg_netlist.specs.Wiring.{net_name};
 ghost use Rattle.cg_stimulus.specs.Inputs.{IsStimulus, input_names};
 ghost use Rattle.cg_stimulus.specs.Pushing.{PushRefuses};
@@ -53,7 +54,7 @@ impl Stimulus {
         requires wide { length bits.now ≡ length self.old.inputs }
         ensures inputs { self.new.inputs ≡ self.old.inputs }
         ensures rows { OnOk result (self.new.rows ≡ self.old.rows ++ bits.now ∷ []) }
-        ensures within { OnOk result (length self.old.rows < 1048576) }
+        ensures within { OnOk result (length self.old.rows < MOST_ROWS) }
         ensures refused { OnErr result (self.new.rows ≡ self.old.rows) }
         ensures cause { IfErr result (λ fault. PushRefuses self.old fault) }
     {

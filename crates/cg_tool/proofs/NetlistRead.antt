@@ -1,5 +1,5 @@
 -- What a reader answers is what the text is read as.
-use Rattle.std.proofs.Common.{◌≡◌, inl, inr, ℕ, List, Option, Result, Ok, Err, refl}
+use Rattle.std.proofs.Common.{◌≡◌, ℕ, List, Option, Result, Ok, Err}
 use Rattle.std.specs.Prelude.{IfErr, IfOk, MatchResult}
 use Rattle.cg_cell.specs.Cell.{CellData}
 use Rattle.cg_netlist.specs.Circuit.{Circuit}
@@ -29,13 +29,13 @@ module _ (library : List CellData) (clock : Option NetName) (text : List ℕ) wh
   pub read_answers : AreProper library clock → (result : Result Circuit BlifFault) → IfOk result (λ c. BlifText text library clock c) → IfErr result (IsFirstOrNoMemory text library clock)
       → MatchResult result (λ c. netlist_said library clock text ≡ Ok c) (IsFaultOf (netlist_said library clock text))
   read_answers proper (Ok c) found first = reads proper (Ok c) found
-  read_answers proper (Err (BadLine line)) found first = reads proper (Err (BadLine line)) (inl first)
-  read_answers proper (Err (BadCover line)) found first = reads proper (Err (BadCover line)) (inl first)
-  read_answers proper (Err (BadLatch line)) found first = reads proper (Err (BadLatch line)) (inl first)
-  read_answers proper (Err (UnknownCell line)) found first = reads proper (Err (UnknownCell line)) (inl first)
-  read_answers proper (Err (UnusableCell line)) found first = reads proper (Err (UnusableCell line)) (inl first)
-  read_answers proper (Err (PinFault line)) found first = reads proper (Err (PinFault line)) (inl first)
-  read_answers proper (Err (SecondModel line)) found first = reads proper (Err (SecondModel line)) (inl first)
-  read_answers proper (Err (Net fault)) found first = reads proper (Err (Net fault)) (inr (fault, refl, first))
-  read_answers proper (Err (Limit limit)) found first = reads proper (Err (Limit limit)) (inl first)
+  read_answers proper (Err (BadLine line)) found first = reads proper (Err (BadLine line)) first
+  read_answers proper (Err (BadCover line)) found first = reads proper (Err (BadCover line)) first
+  read_answers proper (Err (BadLatch line)) found first = reads proper (Err (BadLatch line)) first
+  read_answers proper (Err (UnknownCell line)) found first = reads proper (Err (UnknownCell line)) first
+  read_answers proper (Err (UnusableCell line)) found first = reads proper (Err (UnusableCell line)) first
+  read_answers proper (Err (PinFault line)) found first = reads proper (Err (PinFault line)) first
+  read_answers proper (Err (SecondModel line)) found first = reads proper (Err (SecondModel line)) first
+  read_answers proper (Err (Net fault)) found first = reads proper (Err (Net fault)) first
+  read_answers proper (Err (Limit limit)) found first = reads proper (Err (Limit limit)) first
   read_answers proper (Err NoMemory) found first = tt

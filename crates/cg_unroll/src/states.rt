@@ -106,10 +106,7 @@ pub(crate) fn carry_states(
     for k in 0..registers.len() {
         let place = registers[k].number() as usize;
         if others.get(place).number() == 0 {
-            match others.put(place, states.get(place)) {
-                Ok(()) => {}
-                Err(fault) => return Err(fault),
-            }
+            others.put(place, states.get(place))?;
         }
     }
     Ok(())

@@ -1,6 +1,7 @@
 -- Taking gating cells, with a table of the enables that stand for their output nets.
 use Rattle.std.specs.Prelude.{◌≡◌, ℕ, ◌<◌, true, List, map, length, slice_get, slice_set, Option, None, Some}
 use Rattle.std.specs.Option.{option_flatten}
+use Rattle.cg_limit.specs.declared.TheConstants.{MOST_NETS}
 use Rattle.cg_netlist.specs.Circuit.{Circuit, GatingCell, RegisterCell, is_in}
 use Rattle.cg_netlist.specs.Moment.{values_at}
 use Rattle.cg_machine.specs.Added.{Added}
@@ -25,7 +26,7 @@ pub record CanTake (c : Circuit) (m : MachineData) (table : List (Option ℕ)) (
   pub pin : gater.clock < length table
   pub output : gater.output < length table
   pub parent : (e : ℕ) → entry_at table gater.clock ≡ Some e → IsNet m e
-  pub room : length m.circuit.names < 1048576
+  pub room : length m.circuit.names < MOST_NETS
 
 -- and it was taken
 abbrev pub taken_into : Circuit → MachineData → List (Option ℕ) → GatingCell ℕ → Added

@@ -1,5 +1,6 @@
 -- How a player keeps its place.
 use Rattle.std.specs.Prelude.{◌≡◌, ◌≤◌, ◌<◌, ◌+◌, ◌-◌, ◌*◌, ℕ, Bool, true, false, List, [], ◌∷◌, ◌++◌, length, drop, replicate, Option, IsSome}
+use Rattle.cg_limit.specs.declared.TheConstants.{MOST_REGISTERS}
 use Rattle.cg_netlist.specs.Circuit.{data_inputs}
 use Rattle.cg_netlist.specs.History.{Moment, Tick}
 use Rattle.cg_netlist.specs.Netlist.{IsNetlist}
@@ -23,11 +24,12 @@ left_of width Low inputs row rows = low_from width inputs (drop row rows)
 left_of width High inputs row rows = record { clock = true; inputs = inputs } ∷ low_from width inputs (drop (row + 1) rows)
 left_of width Ended inputs row rows = []
 
--- what the next moment is, with the place of its row, and how many edges there are at most so far
+-- what the next moment is, with the place of its row, and how many edges there are at most so far: each register may rise
+-- at both moments of a row
 abbrev pub IsNext : Next → ℕ → ℕ → Option Moment → ℕ → Type 0
-IsNext Low rows row present edges = (row ≤ rows) × (edges ≤ 131072 * row)
-IsNext High rows row present edges = (row < rows) × (edges ≤ 131072 * row + 65536) × IsSome present
-IsNext Ended rows row present edges = (row ≤ rows) × (edges ≤ 131072 * row + 65536)
+IsNext Low rows row present edges = (row ≤ rows) × (edges ≤ 2 * MOST_REGISTERS * row)
+IsNext High rows row present edges = (row < rows) × (edges ≤ 2 * MOST_REGISTERS * row + MOST_REGISTERS) × IsSome present
+IsNext Ended rows row present edges = (row ≤ rows) × (edges ≤ 2 * MOST_REGISTERS * row + MOST_REGISTERS)
 
 pub record IsPlayer (simulated : Simulated) (stimulus : Rows) (inputs : List Bool) (row : ℕ) (next : Next) (edges : ℕ) : Type 0 where
   pub netlist : IsNetlist simulated.circuit

@@ -1,8 +1,9 @@
 use Rattle.std.proofs.Common.{◌≡◌, Option, Err, sym, ap, ◌∙◌, subst}
 use Rattle.cg_blif_text.specs.declared.fault.BlifFault.{BlifFault}
 use Rattle.cg_blif.specs.Hearing.{Hears}
-use Rattle.cg_blif.specs.OpenCovers.{CoverSoFar}
-use Rattle.cg_blif.specs.Resuming.{IsFaultOf, closed_said, left_of}
+use Rattle.cg_blif_text.specs.OpenCovers.{CoverSoFar}
+use Rattle.cg_blif_text.specs.LinesLeft.{closed_said}
+use Rattle.cg_blif.specs.Resuming.{IsFaultOf, left_of}
 use Rattle.cg_blif.proofs.ReadingLemmas.{close_fails, unnamed_fails}
 use Rattle.cg_blif.proofs.reader.close_at.Goals as goal
 

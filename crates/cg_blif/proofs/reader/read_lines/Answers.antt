@@ -3,8 +3,9 @@ use Rattle.cg_blif_text.specs.LogicalLines.{text_lines}
 use Rattle.cg_blif_text.specs.Telling.{tell_lines}
 use Rattle.cg_blif_text.specs.declared.fault.BlifFault.{BlifFault}
 use Rattle.cg_blif.specs.Hearing.{Hears}
-use Rattle.cg_blif.specs.OpenCovers.{CoverSoFar}
-use Rattle.cg_blif.specs.Resuming.{IsFaultOf, closed_said, left_of}
+use Rattle.cg_blif_text.specs.OpenCovers.{CoverSoFar}
+use Rattle.cg_blif_text.specs.LinesLeft.{closed_said}
+use Rattle.cg_blif.specs.Resuming.{IsFaultOf, left_of}
 use Rattle.cg_blif.proofs.ReadingLemmas.{end_refused, fault_along, unnamed_at}
 use Rattle.cg_blif.proofs.reader.read_lines.Goals as goal
 

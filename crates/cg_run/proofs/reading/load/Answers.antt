@@ -2,7 +2,8 @@ use Rattle.std.proofs.Common.{Err, subst}
 use Rattle.std.specs.Prelude.{Some}
 use Rattle.cg_shelf.specs.declared.faults.LoadFault.{LoadFault}
 use Rattle.cg_run.specs.Names.{name_of}
-use Rattle.cg_run.specs.Reads.{Gave, Loads}
+use Rattle.cg_run.specs.Reads.{Gave}
+use Rattle.cg_run.specs.inner.Steps.{Loads}
 use Rattle.cg_run.specs.Verdict.{brought}
 use Rattle.cg_run.proofs.ReadHalf.{loads_err, loads_ok}
 use Rattle.cg_run.proofs.reading.load.Goals as goal

@@ -1,7 +1,7 @@
 use Rattle.std.proofs.Common.{Ok, Err, subst}
 use Rattle.cg_shelf.specs.declared.faults.StoreFault.{StoreFault}
 use Rattle.cg_run.specs.Names.{name_of}
-use Rattle.cg_run.specs.Writes.{SaysAll}
+use Rattle.cg_run.specs.inner.Steps.{SaysAll}
 use Rattle.cg_run.proofs.WriteHalf.{as_say, says_one}
 use Rattle.cg_run.proofs.writing.say.Goals as goal
 

@@ -1,7 +1,7 @@
 use Rattle.std.proofs.Common.{Ok, Err, subst}
 use Rattle.cg_shelf.specs.declared.faults.StoreFault.{StoreFault}
 use Rattle.cg_run.specs.Names.{name_of}
-use Rattle.cg_run.specs.Writes.{StoresOne}
+use Rattle.cg_run.specs.inner.Steps.{StoresOne}
 use Rattle.cg_run.proofs.WriteHalf.{as_store, stores_one}
 use Rattle.cg_run.proofs.writing.store.Goals as goal
 

@@ -1,4 +1,4 @@
-use Rattle.std.proofs.Common.{◌∷◌, [], Err, drop, length, sym, ap, ◌∙◌, ◌+◌}
+use Rattle.std.proofs.Common.{◌∷◌, [], Err, inr, drop, length, sym, ap, ◌∙◌, ◌+◌}
 use Rattle.std.proofs.lemmas.List.{length-append}
 use Rattle.cg_stimulus.specs.declared.fault.StimulusFault.TheVariants as faults
 use Rattle.cg_stimulus.specs.Reading.{columns_of}
@@ -7,9 +7,9 @@ use Rattle.cg_stimulus.proofs.header.find_columns.Goals as goal
 
 pub returns-in-None-clause-columns : goal.returns-in-None-clause-columns
 returns-in-None-clause-columns c =
-    columns_end c.args.names.now c.inputs.columns.items (drop c.inputs.place c.args.inputs.now) c.name-input.result.now (drop (c.inputs.place + 1) c.args.inputs.now)
+    inr (columns_end c.args.names.now c.inputs.columns.items (drop c.inputs.place c.args.inputs.now) c.name-input.result.now (drop (c.inputs.place + 1) c.args.inputs.now)
     (columns_of c.args.names.now c.args.inputs.now) (next_at c.args.inputs.now c.inputs.place c.name-input.result.now c.name-input.ensures) (sym c.place.ensures ∙ c.in-None.is) c.inputs.invariant.read
-    ∙ ap (λ name. Err (faults.MissingInput name)) (sym c.in_ok-new-in-None.ensures)
+    ∙ ap (λ name. Err (faults.MissingInput name)) (sym c.in_ok-new-in-None.ensures))
 
 pub inputs-preserved : goal.inputs-preserved
 inputs-preserved c = record {

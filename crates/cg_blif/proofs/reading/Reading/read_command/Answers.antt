@@ -1,7 +1,8 @@
 use Rattle.std.proofs.Common.{◌≡◌, None, Ok, Err, Some, Result, rules, sym, ap, ◌∙◌, subst}
 use Rattle.cg_blif_text.specs.Meaning.{meant}
 use Rattle.cg_blif_text.specs.declared.place.Place.{Place}
-use Rattle.cg_blif.specs.Resuming.{Resumes, closed_said, is_model, misplaced}
+use Rattle.cg_blif_text.specs.LinesLeft.{closed_said}
+use Rattle.cg_blif.specs.Resuming.{Resumes, is_model, misplaced}
 use Rattle.cg_blif.specs.declared.fault.Refusal.{Refusal}
 use Rattle.cg_blif.proofs.ReadingLemmas.{in_place, line_fails, meant_bounded, out_of_place, say_fails, say_taken}
 use Rattle.cg_blif.proofs.reading.Reading.read_command.Goals as goal

@@ -1,6 +1,7 @@
 use Rattle.std.proofs.Common.{◌≡◌, Option, Some, sym, ap, ◌∙◌, subst}
-use Rattle.cg_blif.specs.OpenCovers.{CoverSoFar}
-use Rattle.cg_blif.specs.Resuming.{IsFresh, closed_said}
+use Rattle.cg_blif_text.specs.OpenCovers.{CoverSoFar}
+use Rattle.cg_blif_text.specs.LinesLeft.{closed_said}
+use Rattle.cg_blif.specs.Resuming.{IsFresh}
 use Rattle.cg_blif.proofs.ReadingLemmas.{fresh_row, row_fails, row_taken}
 use Rattle.cg_blif.proofs.reading.Reading.read_row.Goals as goal
 

@@ -1,4 +1,4 @@
--- How a reader goes from one line to the next.
+-- What the lines that are left tell, line by line.
 use Rattle.std.proofs.Common.{◌≡◌, ℕ, Bool, true, false, if◌then◌else◌, List, [], ◌∷◌, ◌++◌, length, unwrap_or, Option, None, Some, Result, Ok, Err, refl, sym, ap, ◌∙◌, append_assoc, append-nil}
 use Rattle.std.specs.List.{list_all}
 use Rattle.std.proofs.lemmas.Bool.{both_ways}
@@ -17,14 +17,14 @@ use Rattle.cg_blif_text.specs.declared.fault.LineFault.TheVariants.{BadLine, Lim
 use Rattle.cg_blif_text.specs.declared.place.Place.{Place}
 use Rattle.cg_blif_text.specs.declared.place.Place.TheVariants.{First, Unnamed, Named, Ended}
 use Rattle.cg_blif_text.specs.declared.statement.Statement.{Statement}
-use Rattle.cg_blif_text.specs.declared.statement.Statement.TheVariants.{Names}
+use Rattle.cg_blif_text.specs.declared.statement.Statement.TheVariants.{Model, Inputs, Outputs, Clocks, Names, Latch, Gate, Skipped, End}
 use Rattle.cg_blif_text.specs.Blocks.{cut, put_in}
 use Rattle.cg_blif_text.specs.Commands.{are_row, command_of}
 use Rattle.cg_blif_text.specs.Meaning.{behind, meant}
 use Rattle.cg_blif_text.specs.Rows.{Row, cover_from, keeps_value, put_places, put_row, row_of}
 use Rattle.cg_blif_text.specs.Telling.{Told, at, cover_or_none, go_on, meant_at, next_model, next_place, no_rows, rows_behind, said_by, tell_blocks, tell_cut, tell_parts, tell_statement, unless, with_parts, with_said}
-use Rattle.cg_blif.specs.OpenCovers.{CoverSoFar, cover_so_far, with_row}
-use Rattle.cg_blif.specs.Resuming.{close_with, closed, closed_said, cover_part, covered, put_rows, resume}
+use Rattle.cg_blif_text.specs.LinesLeft.{close_with, closed, closed_said, cover_part, covered, opened, put_rows, resume, said_at_once}
+use Rattle.cg_blif_text.specs.OpenCovers.{CoverSoFar, cover_so_far, with_row}
 
 abbrev logic_of : List (List ℕ) → List ℕ → CoverData → Part
 logic_of inputs output cover = Logic (record { inputs = inputs; output = output; function = Cover cover })
@@ -253,3 +253,88 @@ closed_fault told (Some o) cause number is = go (limit_of (with_part told.said (
         → tell_parts told 0 (Names o.inputs o.output) (Ok (cover_so_far o)) (unless l (Ok (with_part told.said (cover_part o (cover_so_far o))))) ≡ Err (at number cause)
     go None e = absurd (cc)
     go (Some limit) e = let same : Passed limit ≡ cause = cc in ap (λ k. Err (at number k)) same
+
+-- Statements
+
+module _ (library : List CellData) where
+  abbrev pub on_statement : Told → ℕ → List Line → Result Statement LineFault → Result Told BlifFault
+  on_statement told number later meaning = go_on (tell_statement library told number (cut later).rows meaning) (tell_blocks library (cut later).blocks)
+
+  abbrev pub next : Told → Statement → Said → Told
+  next told statement s = record { place = next_place told.place statement; model = next_model told.model statement; said = s }
+
+  pub took : (told : Told) (number : ℕ) (later : List Line) (statement : Statement) (s : Said) → said_at_once library told.said statement ≡ Ok s → on_statement told number later (Ok statement) ≡ resume library (next told statement s) (opened statement) later
+  took told number later (Names inputs output) s is =
+      let same : told.said ≡ s = cc in
+      at_names library told number later inputs output ∙ ap (λ t. resume library (next told (Names inputs output) t) (opened (Names inputs output)) later) same
+  took told number later (Model name) s is = at_statement library told number later (Model name) s rows is
+    where
+      rows : (ls : List Line) → rows_behind (Model name) ls ≡ lone ls
+      rows [] = refl
+      rows (l ∷ ls) = refl
+  took told number later (Inputs nets) s is = at_statement library told number later (Inputs nets) s rows is
+    where
+      rows : (ls : List Line) → rows_behind (Inputs nets) ls ≡ lone ls
+      rows [] = refl
+      rows (l ∷ ls) = refl
+  took told number later (Outputs nets) s is = at_statement library told number later (Outputs nets) s rows is
+    where
+      rows : (ls : List Line) → rows_behind (Outputs nets) ls ≡ lone ls
+      rows [] = refl
+      rows (l ∷ ls) = refl
+  took told number later (Clocks nets) s is = at_statement library told number later (Clocks nets) s rows is
+    where
+      rows : (ls : List Line) → rows_behind (Clocks nets) ls ≡ lone ls
+      rows [] = refl
+      rows (l ∷ ls) = refl
+  took told number later (Latch input output clock init) s is = at_statement library told number later (Latch input output clock init) s rows is
+    where
+      rows : (ls : List Line) → rows_behind (Latch input output clock init) ls ≡ lone ls
+      rows [] = refl
+      rows (l ∷ ls) = refl
+  took told number later (Gate cell pins) s is = at_statement library told number later (Gate cell pins) s rows is
+    where
+      rows : (ls : List Line) → rows_behind (Gate cell pins) ls ≡ lone ls
+      rows [] = refl
+      rows (l ∷ ls) = refl
+  took told number later Skipped s is = at_statement library told number later Skipped s rows is
+    where
+      rows : (ls : List Line) → rows_behind Skipped ls ≡ lone ls
+      rows [] = refl
+      rows (l ∷ ls) = refl
+  took told number later End s is = at_statement library told number later End s rows is
+    where
+      rows : (ls : List Line) → rows_behind End ls ≡ lone ls
+      rows [] = refl
+      rows (l ∷ ls) = refl
+
+  pub refused : (told : Told) (number : ℕ) (later : List Line) (statement : Statement) (cause : LineFault) → said_at_once library told.said statement ≡ Err cause → on_statement told number later (Ok statement) ≡ Err (at number cause)
+  refused told number later (Names inputs output) cause is = absurd (cc)
+  refused told number later (Model name) cause is = absurd (cc)
+  refused told number later Skipped cause is = absurd (cc)
+  refused told number later End cause is = absurd (cc)
+  refused told number later (Inputs nets) cause is = at_fault library told number later (Inputs nets) cause rows is
+    where
+      rows : (ls : List Line) → rows_behind (Inputs nets) ls ≡ lone ls
+      rows [] = refl
+      rows (l ∷ ls) = refl
+  refused told number later (Outputs nets) cause is = at_fault library told number later (Outputs nets) cause rows is
+    where
+      rows : (ls : List Line) → rows_behind (Outputs nets) ls ≡ lone ls
+      rows [] = refl
+      rows (l ∷ ls) = refl
+  refused told number later (Clocks nets) cause is = at_fault library told number later (Clocks nets) cause rows is
+    where
+      rows : (ls : List Line) → rows_behind (Clocks nets) ls ≡ lone ls
+      rows [] = refl
+      rows (l ∷ ls) = refl
+  refused told number later (Latch input output clock init) cause is = at_fault library told number later (Latch input output clock init) cause rows is
+    where
+      rows : (ls : List Line) → rows_behind (Latch input output clock init) ls ≡ lone ls
+      rows [] = refl
+      rows (l ∷ ls) = refl
+  refused told number later (Gate cell pins) cause is = at_fault library told number later (Gate cell pins) cause rows is
+    where
+      rows : (ls : List Line) → rows_behind (Gate cell pins) ls ≡ lone ls
+      rows [] = refl
+      rows (l ∷ ls) = refl

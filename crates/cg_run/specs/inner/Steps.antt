@@ -1,0 +1,110 @@
+-- The steps of the two halves of a run: the load of one file, one store, all stores, the say.
+use Rattle.std.specs.Prelude.{◌≡◌, ℕ, IsTrue, List, [], ◌∷◌, ◌++◌, Option, None, Some, Result, Ok, Err, IfErr, IfSome, ⊤}
+use Rattle.cg_shelf.specs.World.{World}
+use Rattle.cg_shelf.specs.Shelf.{AppendsFront, SameBut, one_call}
+use Rattle.cg_shelf.specs.declared.faults.Call.TheVariants as calls
+use Rattle.cg_shelf.specs.declared.faults.CallMade.{CallMade}
+use Rattle.cg_shelf.specs.declared.faults.LoadFault.{LoadFault}
+use Rattle.cg_run.specs.declared.output.Text.{Text}
+use Rattle.cg_run.specs.declared.refusal.Refusal.{Refusal}
+use Rattle.cg_run.specs.declared.refusal.Step.{Step}
+use Rattle.cg_run.specs.declared.refusal.Step.TheVariants as steps
+use Rattle.cg_run.specs.declared.role.Role.{Role}
+use Rattle.cg_run.specs.Reads.{Agrees, Untouched, load_calls}
+use Rattle.cg_run.specs.Refusal.{outcome_faults, step_of}
+use Rattle.cg_run.specs.Verdict.{Loaded, brought}
+use Rattle.cg_run.specs.Writes.{IsUpTo, OpenAt, StoresUpTo, is_stored, puts, store_calls}
+
+-- the file is loaded, unless memory was wanting before that
+abbrev pub loaded_role : Role → Loaded → List Role
+loaded_role role None = []
+loaded_role role (Some gave) = role ∷ []
+
+-- The load of one file. `given` is what it gave.
+pub record Loads (gave : List ℕ → Result (List ℕ) LoadFault → Type 0) (names : Role → List ℕ) (role : Role) (before after : World) (answer : Result (List ℕ) Refusal) : Type 0 where
+  pub given : Loaded
+  pub from : IfSome given (gave (names role))
+  pub told : IsTrue before.tells → Agrees (before.held (names role)) given
+  pub is : answer ≡ brought role given
+  pub listed : IsTrue before.tells → after.calls ≡ before.calls ++ load_calls names (loaded_role role given)
+  pub untouched : IsTrue before.tells → Untouched before after
+  pub quiet : IsTrue before.tells → after.complained ≡ before.complained
+  pub tells : after.tells ≡ before.tells
+  pub failed : after.faults ≡ before.faults ++ outcome_faults names answer
+
+-- the bytes stand there where the store was not refused, and what was said grew by the text or by a front part of it
+abbrev pub Holds : {T : Type 0} → Option (List ℕ) → List ℕ → Result T Refusal → Type 0
+Holds held bytes (Ok x) = held ≡ Some bytes
+Holds held bytes (Err refusal) = ⊤
+
+abbrev pub SaidBy : {T : Type 0} → List ℕ → List ℕ → List ℕ → Result T Refusal → Type 0
+SaidBy text before after (Ok x) = after ≡ before ++ text
+SaidBy text before after (Err refusal) = AppendsFront before after text
+
+-- the call was made, or it was refused before it began
+abbrev pub OneCall : {T : Type 0} → List CallMade → Result T Refusal → List CallMade → Type 0
+OneCall call (Ok x) made = made ≡ call
+OneCall call (Err refusal) made = IsUpTo [] call made
+
+-- one store
+pub record StoresOne {T : Type 0} (names : Role → List ℕ) (text : Text) (before after : World) (answer : Result T Refusal) : Type 0 where
+  pub refused : IfErr answer (λ refusal. step_of refusal ≡ steps.Storing text.role)
+  pub made : List CallMade
+  pub by : OneCall (one_call calls.Store (names text.role)) answer made
+  pub listed : IsTrue before.tells → after.calls ≡ before.calls ++ made
+  pub stored : IsTrue before.tells → Holds (after.held (names text.role)) text.bytes answer
+  pub others : IsTrue before.tells → SameBut (names text.role) before.held after.held
+  pub said : IsTrue before.tells → after.said ≡ before.said
+  pub complained : IsTrue before.tells → after.complained ≡ before.complained
+  pub tells : after.tells ≡ before.tells
+  pub failed : after.faults ≡ before.faults ++ outcome_faults names answer
+
+-- all stores
+pub record StoredAll (names : Role → List ℕ) (texts : List Text) (before after : World) : Type 0 where
+  pub held : (name : List ℕ) → after.held name ≡ puts names texts before.held name
+  pub said : after.said ≡ before.said
+
+abbrev pub OpenStep : (Role → List ℕ) → List Text → Step → World → World → Type 0
+OpenStep names texts steps.Reading before after = ⊥
+OpenStep names texts (steps.Storing role) before after = OpenAt names texts role before after
+OpenStep names texts steps.Saying before after = ⊥
+
+abbrev pub StoresStep : List Text → Step → Type 0
+StoresStep texts steps.Reading = ⊥
+StoresStep texts (steps.Storing role) = IsTrue (is_stored role texts)
+StoresStep texts steps.Saying = ⊥
+
+abbrev pub StoreLeaves : {T : Type 0} → (Role → List ℕ) → List Text → World → World → Result T Refusal → Type 0
+StoreLeaves names texts before after (Ok x) = StoredAll names texts before after
+StoreLeaves names texts before after (Err refusal) = OpenStep names texts (step_of refusal) before after
+
+abbrev pub StoresAt : (Role → List ℕ) → List Text → Step → List CallMade → Type 0
+StoresAt names texts steps.Reading made = ⊥
+StoresAt names texts (steps.Storing role) made = StoresUpTo names texts role made
+StoresAt names texts steps.Saying made = ⊥
+
+abbrev pub StoreCalls : {T : Type 0} → (Role → List ℕ) → List Text → Result T Refusal → List CallMade → Type 0
+StoreCalls names texts (Ok x) made = made ≡ store_calls names texts
+StoreCalls names texts (Err refusal) made = StoresAt names texts (step_of refusal) made
+
+pub record StoresAll {T : Type 0} (names : Role → List ℕ) (texts : List Text) (before after : World) (answer : Result T Refusal) : Type 0 where
+  pub refused : IfErr answer (λ refusal. StoresStep texts (step_of refusal))
+  pub leaves : IsTrue before.tells → StoreLeaves names texts before after answer
+  pub made : List CallMade
+  pub by : StoreCalls names texts answer made
+  pub listed : IsTrue before.tells → after.calls ≡ before.calls ++ made
+  pub quiet : IsTrue before.tells → after.complained ≡ before.complained
+  pub tells : after.tells ≡ before.tells
+  pub failed : after.faults ≡ before.faults ++ outcome_faults names answer
+
+-- the say
+pub record SaysAll {T : Type 0} (names : Role → List ℕ) (text : List ℕ) (before after : World) (answer : Result T Refusal) : Type 0 where
+  pub refused : IfErr answer (λ refusal. step_of refusal ≡ steps.Saying)
+  pub made : List CallMade
+  pub by : OneCall (one_call calls.Say []) answer made
+  pub listed : IsTrue before.tells → after.calls ≡ before.calls ++ made
+  pub said : IsTrue before.tells → SaidBy text before.said after.said answer
+  pub held : IsTrue before.tells → after.held ≡ before.held
+  pub complained : IsTrue before.tells → after.complained ≡ before.complained
+  pub tells : after.tells ≡ before.tells
+  pub failed : after.faults ≡ before.faults ++ outcome_faults names answer

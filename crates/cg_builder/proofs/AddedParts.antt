@@ -1,18 +1,19 @@
 -- Parts whose nets are mentioned one after another.
-use Rattle.std.proofs.Common.{◌≡◌, ◌⊎◌, ℕ, zero, suc, ◌+◌, ◌<◌, ◌≤◌, Bool, List, [], ◌∷◌, ◌++◌, Option, Some, None, Bor, map, take, length, slice_get, refl, sym, ap, ◌∙◌, subst, arith, inl, inr, append_assoc}
+use Rattle.std.proofs.Common.{◌≡◌, ℕ, zero, suc, ◌+◌, ◌<◌, ◌≤◌, Bool, List, [], ◌∷◌, ◌++◌, Option, Some, Bor, map, take, length, slice_get, refl, sym, ap, ◌∙◌, subst, arith, inl, inr}
 use Rattle.std.specs.Option.{option_map, option_to_list}
 use Rattle.std.proofs.lemmas.List.{length_push, map-append}
 use Rattle.std.proofs.lemmas.Option.{slice_get-map}
 use Rattle.cg_cell.specs.Cell.{CellData}
+use Rattle.cg_limit.specs.declared.TheConstants.{MOST_REGISTERS}
 use Rattle.cg_netlist.specs.declared.fault.AddFault.{AddFault}
 use Rattle.cg_netlist.specs.declared.parts.LogicFunction.{LogicFunction}
 use Rattle.cg_netlist.specs.declared.parts.RegisterKind.{RegisterKind}
 use Rattle.cg_builder.specs.Calls.{cell_of, gater_of, kind_of, register_of, shows_inverse}
-use Rattle.cg_netlist.specs.Circuit.{GatingCell, LogicCell, RegisterCell, shown_nets}
+use Rattle.cg_netlist.specs.Circuit.{GatingCell, LogicCell, RegisterCell}
 use Rattle.cg_netlist.specs.Names.{with_name, with_names}
 use Rattle.cg_builder.specs.inner.Mentioned.{IsMentioned, IsMentionFault, PutsCell, PutsGater, PutsRegister}
-use Rattle.cg_parts.specs.Part.{Gate, Register, mentioned}
-use Rattle.cg_netlist.specs.Wiring.{NetName, map_cell, map_gater, map_outputs, net_name, map_open}
+use Rattle.cg_parts.specs.Part.{Register, mentioned}
+use Rattle.cg_netlist.specs.Wiring.{NetName, map_outputs, net_name}
 use Rattle.cg_builder.proofs.Mentions.{fault_on_way, still_numbered, with_names-append}
 use Rattle.cg_builder.proofs.Numbering.{given_named, net_named, net_within, nets_named, nets_within, outputs_named}
 use Rattle.cg_netlist.proofs.RankingLemmas.{take_next}
@@ -117,7 +118,7 @@ register_words old cell inputs outputs clock init = ap (λ ws. with_names old ((
 pub puts_register : (cell : Option CellData) (inputs : List NetName) (outputs : List (NetName × ℕ)) (clock : Option NetName) (init : ℕ) (old a b new : List NetName) (is : List ℕ) (os : List (ℕ × Bool)) (k : Option ℕ) (pins : List ℕ) (kind : RegisterKind)
     (registers more : List (RegisterCell ℕ (Option ℕ)))
     → IsMentioned old a inputs is → IsMentioned a b (map (λ o. o.0) outputs) (map (λ o. o.0) os) → map (λ o. o.1) os ≡ map (λ o. shows_inverse cell o.1) outputs → IsMentioned b new (option_to_list clock) (option_to_list k)
-    → pins ≡ map (λ o. o.1) outputs → kind ≡ kind_of cell → more ≡ registers ++ record { inputs = is; outputs = os; pins = pins; clock = k; kind = kind; init = init } ∷ [] → length registers < 65536
+    → pins ≡ map (λ o. o.1) outputs → kind ≡ kind_of cell → more ≡ registers ++ record { inputs = is; outputs = os; pins = pins; clock = k; kind = kind; init = init } ∷ [] → length registers < MOST_REGISTERS
     → PutsRegister old new registers more (register_of cell inputs outputs clock init)
 puts_register cell inputs outputs clock init old a b new is os k pins kind registers more first second inverted third pins_are kind_is put few =
     let at_is = later b new (option_to_list clock) is inputs third.names (later a b (map (λ o. o.0) outputs) is inputs second.names first.numbered) in

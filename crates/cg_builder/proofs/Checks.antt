@@ -1,22 +1,13 @@
 -- What each check finds is the first net that fails it.
-use Rattle.std.proofs.Common.{◌≡◌, ℕ, zero, suc, ◌+◌, ◌<◌, ◌≤◌, Bool, false, not, ◌&&◌, ◌||◌, nat_lt, List, [], ◌∷◌, ◌++◌, Option, Some, None, is_none, length, refl, sym, ap, ◌∙◌, subst, arith, inl, inr, IfOk, Result, Ok, Err}
-use Rattle.std.specs.List.{All, AllByRecursion, list_any, slice_get}
-use Rattle.std.specs.Option.{option_map_or}
-use Rattle.std.proofs.lemmas.Bool.{cases_lt, or_left, or_right}
-use Rattle.std.proofs.lemmas.List.FromFn.{get_or-map-range_with_len, length-map-range_with_len}
-use Rattle.std.proofs.lemmas.Option.{same_Some}
-use Rattle.cg_netlist.specs.Circuit.{GatingCell, LogicCell, is_in}
+use Rattle.std.proofs.Common.{◌≡◌, ℕ, Bool, not, ◌&&◌, ◌||◌, nat_lt, List, [], ◌∷◌, Option, length, ap, ◌∙◌, subst, arith}
+use Rattle.std.specs.List.{AllByRecursion, list_any}
+use Rattle.cg_netlist.specs.Circuit.{GatingCell, is_in}
 use Rattle.cg_netlist.specs.Marks.{AreMarksOf, IsFirst, is_marked, marked_before}
-use Rattle.cg_netlist.specs.Ranking.{IsGraph, entry}
-use Rattle.cg_netlist.specs.Ranks.{driving_cell, rank_of, ranks_of, is_unranked}
 use Rattle.cg_netlist.specs.Chains.{chain}
 use Rattle.cg_netlist.specs.Places.{CellWithin}
 use Rattle.cg_builder.specs.inner.Numbers.{GaterWithin}
 use Rattle.cg_builder.proofs.EarlierNets.{before_is}
-use Rattle.cg_netlist.proofs.Unranked.{first_within}
 use Rattle.cg_builder.proofs.MarkLemmas.{same_first}
-use Rattle.cg_netlist.proofs.TableLemmas.{entry_or, entry_within}
-use Rattle.cg_netlist.proofs.Each.{from_recursion}
 
 -- marks that are shown tell the first net
 pub marked_first : (marks shown : List Bool) (count n : ℕ) (test : ℕ → Bool) (first : Option ℕ) → shown ≡ marks → count ≡ n → AreMarksOf marks count test → IsFirst (length shown) (is_marked shown) first → IsFirst n test first

@@ -1,5 +1,5 @@
 -- What a builder keeps when it is told one more part.
-use Rattle.std.proofs.Common.{[], ◌≡◌, ◌≢◌, ℕ, ◌+◌, ◌<◌, ◌≤◌, ◌^◌, Bool, true, false, IsTrue, if◌then◌else◌, List, ◌∷◌, ◌++◌, Option, Some, None, map, length, refl, sym, ap, ◌∙◌, subst, arith, inl, inr}
+use Rattle.std.proofs.Common.{[], ◌≡◌, ◌≢◌, ℕ, ◌<◌, ◌≤◌, ◌^◌, Bool, true, false, IsTrue, if◌then◌else◌, List, ◌∷◌, ◌++◌, Option, Some, None, map, length, refl, sym, ap, ◌∙◌, subst, arith, inl, inr}
 use Rattle.std.specs.List.{AllByRecursion, AllPairs, count_by}
 use Rattle.std.specs.Option.{option_map, option_to_list}
 use Rattle.std.proofs.lemmas.Bool.{cases_Bool}
@@ -8,6 +8,7 @@ use Rattle.cg_cell.specs.Cell.{CellData, IsCell}
 use Rattle.cg_cell.specs.Name.{is_name}
 use Rattle.cg_cell.specs.Pins.{is_data}
 use Rattle.std.proofs.lemmas.List.Sums.{count_by-le-length}
+use Rattle.cg_limit.specs.declared.TheConstants.{MOST_NETS, MOST_REGISTERS}
 use Rattle.cg_netlist.specs.Circuit.{GatingCell, LogicCell, RegisterCell, is_in, shown_nets}
 use Rattle.cg_netlist.specs.Names.{is_known, with_name, with_names}
 use Rattle.cg_builder.specs.inner.Heard.{IsHeard}
@@ -144,8 +145,8 @@ numbered_keeps n words numbered =
 pub record Hears (n next : Numbers) (part : Part) : Type 0 where
   pub numbered : AreNumbers next
   pub said_is : seen next ≡ with_part (seen n) part
-  pub few_nets : length next.names ≤ 1048576
-  pub few_registers : length next.registers ≤ 65536
+  pub few_nets : length next.names ≤ MOST_NETS
+  pub few_registers : length next.registers ≤ MOST_REGISTERS
 
 pub still_heard : (model : NetName) (n next : Numbers) (part : Part) → IsHeard model n → IsPart part → Hears n next part → IsHeard model next
 still_heard model n next part heard is hears =
@@ -163,7 +164,7 @@ still_heard model n next part heard is hears =
       };
     }
 
-pub few_heard : (model : NetName) (n : Numbers) → IsHeard model n → length n.registers ≤ 65536
+pub few_heard : (model : NetName) (n : Numbers) → IsHeard model n → length n.registers ≤ MOST_REGISTERS
 few_heard model n heard = omega (arith, heard.taken.few_registers, ap (λ s. length s.registers) heard.heard, length-map n.registers (map_open (net_name n.names)))
 
 -- a net that is put among others by its number is put among them by its name
@@ -178,7 +179,7 @@ put_known names different nets net word within lt named =
           ∙ ap (λ b. if b then map (net_name names) nets else map (net_name names) nets ++ word ∷ []) (sym (known ∙ new))))
     ]
 
-module _ (n : Numbers) (word : NetName) (names : List NetName) (few : length names ≤ 1048576) (numbered : AreNumbers n) (few_registers : length n.registers ≤ 65536) where
+module _ (n : Numbers) (word : NetName) (names : List NetName) (few : length names ≤ MOST_NETS) (numbered : AreNumbers n) (few_registers : length n.registers ≤ MOST_REGISTERS) where
   put_said : (nets more : List ℕ) (puts : PutsNet n.names names word nets more) → AllByRecursion (λ net. net < length n.names) nets → map (net_name names) more ≡ with_name (map (net_name n.names) nets) word
   put_said nets more puts within =
       let front = with_names_front n.names (word ∷ []) in
@@ -200,7 +201,7 @@ module _ (n : Numbers) (word : NetName) (names : List NetName) (few : length nam
   hears_input more puts =
       let kept = said_keeps n (word ∷ []) numbered in
       let good = numbered_keeps n (word ∷ []) numbered in
-      let P : List NetName → Type 0 = λ ns. (map (net_name ns) more ≡ with_name (map (net_name n.names) n.inputs) word) → length ns ≤ 1048576 → Hears n (record n { names = ns; inputs = more }) (Input word) in
+      let P : List NetName → Type 0 = λ ns. (map (net_name ns) more ≡ with_name (map (net_name n.names) n.inputs) word) → length ns ≤ MOST_NETS → Hears n (record n { names = ns; inputs = more }) (Input word) in
       let there : P (with_names n.names (word ∷ [])) = λ put few. record {
         numbered = record { different = good.different; inputs = put_within n.inputs more puts numbered.inputs; outputs = good.outputs; clocks = good.clocks; cells = good.cells; gaters = good.gaters; registers = good.registers };
         said_is = ap {A = Said} {B = Said} (λ s. record s { inputs = map (net_name (with_names n.names (word ∷ []))) more }) kept ∙ ap {B = Said} (λ ws. record (seen n) { nets = with_names n.names (word ∷ []); inputs = ws }) put;
@@ -213,7 +214,7 @@ module _ (n : Numbers) (word : NetName) (names : List NetName) (few : length nam
   hears_output more puts =
       let kept = said_keeps n (word ∷ []) numbered in
       let good = numbered_keeps n (word ∷ []) numbered in
-      let P : List NetName → Type 0 = λ ns. (map (net_name ns) more ≡ with_name (map (net_name n.names) n.outputs) word) → length ns ≤ 1048576 → Hears n (record n { names = ns; outputs = more }) (Output word) in
+      let P : List NetName → Type 0 = λ ns. (map (net_name ns) more ≡ with_name (map (net_name n.names) n.outputs) word) → length ns ≤ MOST_NETS → Hears n (record n { names = ns; outputs = more }) (Output word) in
       let there : P (with_names n.names (word ∷ [])) = λ put few. record {
         numbered = record { different = good.different; inputs = good.inputs; outputs = put_within n.outputs more puts numbered.outputs; clocks = good.clocks; cells = good.cells; gaters = good.gaters; registers = good.registers };
         said_is = ap {A = Said} {B = Said} (λ s. record s { outputs = map (net_name (with_names n.names (word ∷ []))) more }) kept ∙ ap {B = Said} (λ ws. record (seen n) { nets = with_names n.names (word ∷ []); outputs = ws }) put;
@@ -226,7 +227,7 @@ module _ (n : Numbers) (word : NetName) (names : List NetName) (few : length nam
   hears_clock more puts =
       let kept = said_keeps n (word ∷ []) numbered in
       let good = numbered_keeps n (word ∷ []) numbered in
-      let P : List NetName → Type 0 = λ ns. (map (net_name ns) more ≡ with_name (map (net_name n.names) n.clocks) word) → length ns ≤ 1048576 → Hears n (record n { names = ns; clocks = more }) (Clock word) in
+      let P : List NetName → Type 0 = λ ns. (map (net_name ns) more ≡ with_name (map (net_name n.names) n.clocks) word) → length ns ≤ MOST_NETS → Hears n (record n { names = ns; clocks = more }) (Clock word) in
       let there : P (with_names n.names (word ∷ [])) = λ put few. record {
         numbered = record { different = good.different; inputs = good.inputs; outputs = good.outputs; clocks = put_within n.clocks more puts numbered.clocks; cells = good.cells; gaters = good.gaters; registers = good.registers };
         said_is = ap {A = Said} {B = Said} (λ s. record s { clocks = map (net_name (with_names n.names (word ∷ []))) more }) kept ∙ ap {B = Said} (λ ws. record (seen n) { nets = with_names n.names (word ∷ []); clocks = ws }) put;
@@ -235,12 +236,12 @@ module _ (n : Numbers) (word : NetName) (names : List NetName) (few : length nam
       } in
       subst P (sym puts.mentioned.names) there (put_said n.clocks more puts numbered.clocks) few
 
-pub hears_cell : (n : Numbers) (names : List NetName) (cells : List (LogicCell ℕ)) (cell : LogicCell NetName) → AreNumbers n → length n.registers ≤ 65536 → PutsCell n.names names n.cells cells cell → Hears n (record n { names = names; cells = cells }) (Logic cell)
+pub hears_cell : (n : Numbers) (names : List NetName) (cells : List (LogicCell ℕ)) (cell : LogicCell NetName) → AreNumbers n → length n.registers ≤ MOST_REGISTERS → PutsCell n.names names n.cells cells cell → Hears n (record n { names = names; cells = cells }) (Logic cell)
 hears_cell n names cells cell numbered few_registers puts =
     let words = mentioned (Logic cell) in
     let kept = said_keeps n words numbered in
     let good = numbered_keeps n words numbered in
-    let P : List NetName → List (LogicCell ℕ) → Type 0 = λ ns ks. (map_cell (net_name ns) puts.cell ≡ cell) → CellWithin (length ns) puts.cell → length ns ≤ 1048576 → Hears n (record n { names = ns; cells = ks }) (Logic cell) in
+    let P : List NetName → List (LogicCell ℕ) → Type 0 = λ ns ks. (map_cell (net_name ns) puts.cell ≡ cell) → CellWithin (length ns) puts.cell → length ns ≤ MOST_NETS → Hears n (record n { names = ns; cells = ks }) (Logic cell) in
     let there : P (with_names n.names words) (n.cells ++ puts.cell ∷ []) = λ named within few. record {
       numbered = record { different = good.different; inputs = good.inputs; outputs = good.outputs; clocks = good.clocks; cells = each_more (CellWithin (length (with_names n.names words))) n.cells puts.cell good.cells within; gaters = good.gaters; registers = good.registers };
       said_is =
@@ -252,12 +253,12 @@ hears_cell n names cells cell numbered few_registers puts =
     } in
     subst (λ ns. P ns cells) (sym puts.names) (subst (P (with_names n.names words)) (sym puts.put) there) puts.named puts.within puts.few
 
-pub hears_gater : (n : Numbers) (names : List NetName) (gaters : List (GatingCell ℕ)) (gater : GatingCell NetName) → AreNumbers n → length n.registers ≤ 65536 → PutsGater n.names names n.gaters gaters gater → Hears n (record n { names = names; gaters = gaters }) (Gate gater)
+pub hears_gater : (n : Numbers) (names : List NetName) (gaters : List (GatingCell ℕ)) (gater : GatingCell NetName) → AreNumbers n → length n.registers ≤ MOST_REGISTERS → PutsGater n.names names n.gaters gaters gater → Hears n (record n { names = names; gaters = gaters }) (Gate gater)
 hears_gater n names gaters gater numbered few_registers puts =
     let words = mentioned (Gate gater) in
     let kept = said_keeps n words numbered in
     let good = numbered_keeps n words numbered in
-    let P : List NetName → List (GatingCell ℕ) → Type 0 = λ ns gs. (map_gater (net_name ns) puts.gater ≡ gater) → GaterWithin (length ns) puts.gater → length ns ≤ 1048576 → Hears n (record n { names = ns; gaters = gs }) (Gate gater) in
+    let P : List NetName → List (GatingCell ℕ) → Type 0 = λ ns gs. (map_gater (net_name ns) puts.gater ≡ gater) → GaterWithin (length ns) puts.gater → length ns ≤ MOST_NETS → Hears n (record n { names = ns; gaters = gs }) (Gate gater) in
     let there : P (with_names n.names words) (n.gaters ++ puts.gater ∷ []) = λ named within few. record {
       numbered = record { different = good.different; inputs = good.inputs; outputs = good.outputs; clocks = good.clocks; cells = good.cells; gaters = each_more (GaterWithin (length (with_names n.names words))) n.gaters puts.gater good.gaters within; registers = good.registers };
       said_is =
@@ -274,7 +275,7 @@ hears_register n names registers r numbered puts =
     let words = mentioned (Register r) in
     let kept = said_keeps n words numbered in
     let good = numbered_keeps n words numbered in
-    let P : List NetName → List (RegisterCell ℕ (Option ℕ)) → Type 0 = λ ns rs. (map_open (net_name ns) puts.register ≡ r) → OpenWithin (length ns) puts.register → length ns ≤ 1048576 → length rs ≤ 65536 → Hears n (record n { names = ns; registers = rs }) (Register r) in
+    let P : List NetName → List (RegisterCell ℕ (Option ℕ)) → Type 0 = λ ns rs. (map_open (net_name ns) puts.register ≡ r) → OpenWithin (length ns) puts.register → length ns ≤ MOST_NETS → length rs ≤ MOST_REGISTERS → Hears n (record n { names = ns; registers = rs }) (Register r) in
     let there : P (with_names n.names words) (n.registers ++ puts.register ∷ []) = λ named within few few_registers. record {
       numbered = record { different = good.different; inputs = good.inputs; outputs = good.outputs; clocks = good.clocks; cells = good.cells; gaters = good.gaters; registers = each_more (OpenWithin (length (with_names n.names words))) n.registers puts.register good.registers within };
       said_is =

@@ -1,13 +1,12 @@
 -- Lemmas on marks, and on the first net that passes a test.
 use Rattle.std.proofs.Math.Bool.{or-false}
 use Rattle.std.proofs.Common.{[], ℕ, zero, suc, add-one, zero-add, ◌+◌, ◌<◌, ◌≡◌, inl, inr, Bool, true, false, not, ◌&&◌, ◌||◌, cond, List, ◌∷◌, ◌++◌, Option, Some, None, length, set, get_or, unwrap_or, refl, sym, ap, ◌∙◌, subst, arith, nat_eq, nat_lt}
-use Rattle.std.specs.List.{All, slice_get, list_any, range_with_len, count_by}
+use Rattle.std.specs.List.{list_any, range_with_len, count_by}
 use Rattle.std.proofs.lemmas.Bool.{cases_Bool, eq-eqb, or_left, or_right, cases_lt, lt-ltb, le-ltb}
 use Rattle.std.proofs.lemmas.Bool.Decides.{eqb_tells}
 use Rattle.std.proofs.lemmas.List.{length-set}
 use Rattle.std.proofs.lemmas.List.Sums.{sum_by_push, sum_by-cons}
-use Rattle.std.proofs.lemmas.Option.{unwrap_or-slice_get, slice_get_within, get_or_from_slice_get}
-use Rattle.std.proofs.lemmas.List.Elements.{All-get_or}
+use Rattle.std.proofs.lemmas.Option.{unwrap_or-slice_get}
 use Rattle.std.proofs.lemmas.List.Folds.{list_any-append}
 use Rattle.cg_netlist.specs.Circuit.{is_in}
 use Rattle.cg_netlist.specs.Marks.{AreMarked, IsFirst, is_marked, marked_before}

@@ -1,16 +1,9 @@
 -- Numbers of nets that were mentioned, and what the parts with these numbers are by name.
-use Rattle.std.proofs.Common.{◌≡◌, ◌≢◌, ℕ, zero, suc, ◌+◌, ◌<◌, ◌≤◌, Bool, List, [], ◌∷◌, ◌++◌, Option, Some, None, map, length, slice_get, unwrap_or, refl, sym, ap, ◌∙◌, subst, arith, append_assoc}
+use Rattle.std.proofs.Common.{◌≡◌, ℕ, ◌<◌, Bool, List, [], ◌∷◌, Option, Some, None, map, length, slice_get, unwrap_or, refl, ap, ◌∙◌}
 use Rattle.std.specs.List.{AllByRecursion}
 use Rattle.std.specs.Option.{option_map, option_to_list}
-use Rattle.std.proofs.lemmas.List.{length-append, map-append, append-nil}
 use Rattle.std.proofs.lemmas.Option.{slice_get_within}
-use Rattle.cg_netlist.specs.Circuit.{GatingCell, LogicCell, RegisterCell, asked_nets, shown_nets}
-use Rattle.cg_builder.specs.inner.Mentioned.{IsMentioned}
-use Rattle.cg_netlist.specs.Places.{CellWithin}
-use Rattle.cg_builder.specs.inner.Numbers.{GaterWithin, OpenWithin}
-use Rattle.cg_netlist.specs.Names.{with_names}
-use Rattle.cg_netlist.specs.Wiring.{NetName, map_cell, map_gater, map_outputs, net_name, map_open}
-use Rattle.cg_builder.proofs.Mentions.{still_numbered}
+use Rattle.cg_netlist.specs.Wiring.{NetName, map_outputs, net_name}
 
 -- nets with these names are within the names, and have them
 pub nets_named : (names : List NetName) (nets : List ℕ) (words : List NetName) → map (slice_get names) nets ≡ map (λ word. Some word) words → map (net_name names) nets ≡ words

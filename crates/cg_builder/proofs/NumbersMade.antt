@@ -1,10 +1,9 @@
 -- The netlist that is made of numbers is the one that the parts say.
-use Rattle.std.specs.Prelude.{◌≡◌, ◌≢◌, ℕ, zero, suc, ◌+◌, ◌<◌, Bool, true, false, not, if◌then◌else◌, List, [], ◌∷◌, ◌++◌, map, length, slice_get, unwrap_or, Option, None, Some, nat_eq}
-use Rattle.std.proofs.Common.{refl, ap, ◌∙◌, sym, subst, inl, inr, arith, cond}
-use Rattle.std.specs.List.{AllByRecursion, AllPairs, filter, position_or_len}
+use Rattle.std.specs.Prelude.{◌≡◌, ℕ, ◌+◌, ◌<◌, Bool, not, List, [], ◌∷◌, ◌++◌, map, length, slice_get, unwrap_or, Option, None, Some, nat_eq}
+use Rattle.std.proofs.Common.{refl, ap, ◌∙◌, sym, cond}
+use Rattle.std.specs.List.{AllByRecursion, filter, position_or_len}
 use Rattle.std.specs.Option.{option_map, option_or, option_to_list}
 use Rattle.std.specs.Str.{bytes_eq}
-use Rattle.cg_netlist.proofs.Clocks.{pins}
 use Rattle.cg_builder.proofs.ChecksTell.{filter_each, map_each, rooted_in, roots_seen}
 use Rattle.cg_netlist.proofs.Each.{each, each_together}
 use Rattle.cg_parts.proofs.Kept.{CellNets, GaterNets, RegisterNets, WiringNets}
@@ -16,7 +15,7 @@ use Rattle.cg_netlist.specs.Names.{is_known}
 use Rattle.cg_builder.specs.inner.Numbers.{AreNumbers, GaterWithin, Numbers, OpenWithin, clock_number, made_of, on_number, ordered_numbers, ordered_place, rooted, seen, wired_numbers}
 use Rattle.cg_netlist.specs.Places.{CellWithin}
 use Rattle.cg_parts.specs.Faults.{HasClock}
-use Rattle.cg_parts.specs.Part.{Part, cells, clock_of, gaters, inputs, on_clock, outputs, registers, wired}
+use Rattle.cg_parts.specs.Part.{Part, clock_of, on_clock, registers, wired}
 use Rattle.cg_parts.specs.Said.{Said, said}
 use Rattle.cg_parts.specs.Says.{netlist_of}
 use Rattle.cg_netlist.specs.Wiring.{NetName, Wiring, circuit, driven_by_cells, driven_by_gaters, driven_by_registers, map_cell, map_gater, map_open, map_outputs, map_register, map_wiring, net_name, numbered, order_of, place_in}

@@ -1,8 +1,9 @@
 -- How a call of a builder answers, and what the builder keeps.
-use Rattle.std.proofs.Common.{◌≡◌, ◌⊎◌, ℕ, ◌+◌, ◌<◌, ◌≤◌, Bool, true, false, nat_lt, if◌then◌else◌, List, [], ◌∷◌, ◌++◌, Option, Some, None, Result, Ok, Err, MatchResult, OnOk, IfErr, length, map, refl, sym, ap, ◌∙◌, subst, arith, inl, inr}
+use Rattle.std.proofs.Common.{◌≡◌, ◌⊎◌, ◌<◌, ◌≤◌, nat_lt, if◌then◌else◌, Option, Some, None, Result, Ok, Err, MatchResult, length, map, refl, sym, ap, ◌∙◌, subst, arith, inl, inr}
 use Rattle.std.proofs.lemmas.Bool.{le-ltb, lt-ltb}
 use Rattle.std.proofs.lemmas.List.{length-map, length_push}
 use Rattle.std.proofs.lemmas.Option.{none-some}
+use Rattle.cg_limit.specs.declared.TheConstants.{MOST_NETS, MOST_REGISTERS}
 use Rattle.cg_limit.specs.declared.Limit.{Limit}
 use Rattle.cg_limit.specs.declared.Limit.TheVariants.{Nets, Registers}
 use Rattle.cg_netlist.specs.declared.fault.AddFault.{AddFault}
@@ -10,7 +11,7 @@ use Rattle.cg_netlist.specs.declared.fault.AddFault.TheVariants.{Limit as Passes
 use Rattle.cg_builder.specs.inner.Heard.{IsHeard, built}
 use Rattle.cg_builder.specs.inner.Mentioned.{IsMentionFault, IsRegisterFault}
 use Rattle.cg_builder.specs.inner.Numbers.{Numbers, seen}
-use Rattle.cg_builder.specs.Building.{Building, IsAnswer, Takes}
+use Rattle.cg_builder.specs.Building.{IsAnswer, Takes}
 use Rattle.cg_parts.specs.Part.{Part, Register, mentioned}
 use Rattle.cg_parts.specs.Said.{Said, limit_of, with_part}
 use Rattle.cg_netlist.specs.Names.{with_names}
@@ -20,18 +21,18 @@ use Rattle.cg_netlist.specs.Circuit.{RegisterCell}
 use Rattle.cg_builder.proofs.Hearing.{Hears, still_heard}
 
 -- the limits
-none_passed : (s : Said) → length s.nets ≤ 1048576 → length s.registers ≤ 65536 → limit_of s ≡ None
+none_passed : (s : Said) → length s.nets ≤ MOST_NETS → length s.registers ≤ MOST_REGISTERS → limit_of s ≡ None
 none_passed s nets registers =
-    ap (λ b. if b then Some Nets else (if nat_lt 65536 (length s.registers) then Some Registers else None)) (le-ltb 1048576 (length s.nets) nets)
-    ∙ ap (λ b. if b then Some Registers else None) (le-ltb 65536 (length s.registers) registers)
+    ap (λ b. if b then Some Nets else (if nat_lt MOST_REGISTERS (length s.registers) then Some Registers else None)) (le-ltb MOST_NETS (length s.nets) nets)
+    ∙ ap (λ b. if b then Some Registers else None) (le-ltb MOST_REGISTERS (length s.registers) registers)
 
-nets_passed : (s : Said) → 1048576 < length s.nets → limit_of s ≡ Some Nets
-nets_passed s more = ap (λ b. if b then Some Nets else (if nat_lt 65536 (length s.registers) then Some Registers else None)) (lt-ltb 1048576 (length s.nets) more)
+nets_passed : (s : Said) → MOST_NETS < length s.nets → limit_of s ≡ Some Nets
+nets_passed s more = ap (λ b. if b then Some Nets else (if nat_lt MOST_REGISTERS (length s.registers) then Some Registers else None)) (lt-ltb MOST_NETS (length s.nets) more)
 
-registers_passed : (s : Said) → length s.nets ≤ 1048576 → 65536 < length s.registers → limit_of s ≡ Some Registers
+registers_passed : (s : Said) → length s.nets ≤ MOST_NETS → MOST_REGISTERS < length s.registers → limit_of s ≡ Some Registers
 registers_passed s nets more =
-    ap (λ b. if b then Some Nets else (if nat_lt 65536 (length s.registers) then Some Registers else None)) (le-ltb 1048576 (length s.nets) nets)
-    ∙ ap (λ b. if b then Some Registers else None) (lt-ltb 65536 (length s.registers) more)
+    ap (λ b. if b then Some Nets else (if nat_lt MOST_REGISTERS (length s.registers) then Some Registers else None)) (le-ltb MOST_NETS (length s.nets) nets)
+    ∙ ap (λ b. if b then Some Registers else None) (lt-ltb MOST_REGISTERS (length s.registers) more)
 
 -- why a part is refused
 pub Fails : Numbers → Part → AddFault → Type 0

@@ -9,19 +9,16 @@ ghost use Rattle.cg_builder.specs.inner.Mentioned.{IsMentioned, IsMentionFault, 
 ghost use Rattle.cg_parts.specs.Part.{Gate, Logic as LogicPart, Register as RegisterPart, mentioned};
 ghost use Rattle.cg_netlist.specs.Names.{with_names};
 
-use crate::mention::{MOST_NETS, mention, mention_each, mention_given, put};
+use crate::mention::{mention, mention_each, mention_given, put};
 use crate::open_register::OpenRegister;
 use cg_cell::cell::{CellType, Role};
-use cg_limit::Limit;
+use cg_limit::{Limit, MOST_NETS, MOST_REGISTERS};
 use cg_netlist::fault::AddFault;
 use cg_netlist::id::NetId;
 use cg_netlist::names::NetNames;
 use cg_netlist::net_set::NetSet;
 use cg_netlist::parts::{Gater, Logic, LogicFunction, RegisterKind};
 use std::alloc::{AllocError, Global};
-
-/// The greatest number of registers.
-const MOST_REGISTERS: usize = 65_536;
 
 /// Mentions a net and puts it into a set.
 pub(crate) fn add_net(

@@ -6,14 +6,11 @@ ghost use Rattle.std.specs.Option.{option_copied, option_to_list};
 ghost use Rattle.cg_builder.specs.inner.Mentioned.{IsMentioned, IsMentionFault};
 ghost use Rattle.cg_netlist.specs.Names.{with_names};
 
-use cg_limit::Limit;
+use cg_limit::{Limit, MOST_NETS};
 use cg_netlist::fault::AddFault;
 use cg_netlist::id::NetId;
 use cg_netlist::names::NetNames;
 use std::alloc::Global;
-
-/// The greatest number of nets.
-pub(crate) const MOST_NETS: usize = 1_048_576;
 
 /// The number of a net, which is mentioned here, perhaps for the first time.
 pub(crate) fn mention(alloc: Global, names: &mut NetNames, name: &[u8]) -> Result<NetId, AddFault>

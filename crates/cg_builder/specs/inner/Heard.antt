@@ -1,6 +1,7 @@
 -- What is true of every builder: it was told some parts, which it took.
 use Rattle.std.specs.Prelude.{◌≡◌, ◌<◌, ◌≤◌, List, length, nat_eq, Option, None}
 use Rattle.std.specs.List.{AllByRecursion, IsDistinct}
+use Rattle.cg_limit.specs.declared.TheConstants.{MOST_NETS}
 use Rattle.cg_netlist.specs.declared.fault.AddFault.{AddFault}
 use Rattle.cg_builder.specs.inner.Numbers.{AreNumbers, Numbers, ordered_numbers, seen, wired_numbers}
 use Rattle.cg_builder.specs.Building.{Building}
@@ -28,5 +29,5 @@ IsBuilder model n refused = refused ≡ None → IsHeard model n
 pub record IsReady (n : Numbers) : Type 0 where
   pub numbers : AreNumbers n
   pub once : IsDistinct nat_eq (ordered_numbers n)
-  pub few : length (ordered_numbers n) ≤ 1048576
+  pub few : length (ordered_numbers n) ≤ MOST_NETS
   pub clocked : AllByRecursion (λ r. r.clock < length n.names) (wired_numbers n).registers

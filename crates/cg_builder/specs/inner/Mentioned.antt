@@ -1,12 +1,13 @@
 -- Nets that are mentioned by their names, and the numbers that they get.
 use Rattle.std.specs.Prelude.{◌≡◌, ◌⊎◌, ℕ, ◌<◌, ◌≤◌, List, [], ◌∷◌, ◌++◌, map, length, slice_get, Option, Some}
+use Rattle.cg_limit.specs.declared.TheConstants.{MOST_NETS, MOST_REGISTERS}
 use Rattle.cg_limit.specs.declared.Limit.TheVariants.{Nets, Registers}
 use Rattle.cg_netlist.specs.declared.fault.AddFault.{AddFault}
 use Rattle.cg_netlist.specs.declared.fault.AddFault.TheVariants.{Limit as Passes, NoMemory}
 use Rattle.cg_netlist.specs.Circuit.{GatingCell, LogicCell, RegisterCell}
 use Rattle.cg_netlist.specs.NetSets.{with_net}
 use Rattle.cg_netlist.specs.Places.{CellWithin}
-use Rattle.cg_parts.specs.Part.{Part, Logic, Gate, Register, mentioned}
+use Rattle.cg_parts.specs.Part.{Logic, Gate, Register, mentioned}
 use Rattle.cg_netlist.specs.Names.{with_names}
 use Rattle.cg_netlist.specs.Wiring.{NetName, map_cell, map_gater, net_name, map_open}
 use Rattle.cg_builder.specs.inner.Numbers.{GaterWithin, OpenWithin}
@@ -14,12 +15,12 @@ use Rattle.cg_builder.specs.inner.Numbers.{GaterWithin, OpenWithin}
 -- the nets of these names were mentioned one after another, and have these numbers
 pub record IsMentioned (old new words : List NetName) (nets : List ℕ) : Type 0 where
   pub names : new ≡ with_names old words
-  pub few : length new ≤ 1048576
+  pub few : length new ≤ MOST_NETS
   pub numbered : map (slice_get new) nets ≡ map (λ word. Some word) words
 
 -- why nets are not mentioned that would leave these names
 abbrev pub IsMentionFault : List NetName → AddFault → Type 0
-IsMentionFault names fault = (fault ≡ NoMemory) ⊎ ((fault ≡ Passes Nets) × (1048576 < length names))
+IsMentionFault names fault = (fault ≡ NoMemory) ⊎ ((fault ≡ Passes Nets) × (MOST_NETS < length names))
 
 -- a net was mentioned and put into a set
 pub record PutsNet (old new : List NetName) (word : NetName) (nets more : List ℕ) : Type 0 where
@@ -30,7 +31,7 @@ pub record PutsNet (old new : List NetName) (word : NetName) (nets more : List �
 -- the nets of a part were mentioned, and the part was put behind the others of its kind, by the numbers of its nets
 pub record PutsCell (old new : List NetName) (cells more : List (LogicCell ℕ)) (said : LogicCell NetName) : Type 0 where
   pub names : new ≡ with_names old (mentioned (Logic said))
-  pub few : length new ≤ 1048576
+  pub few : length new ≤ MOST_NETS
   pub cell : LogicCell ℕ
   pub named : map_cell (net_name new) cell ≡ said
   pub within : CellWithin (length new) cell
@@ -38,7 +39,7 @@ pub record PutsCell (old new : List NetName) (cells more : List (LogicCell ℕ))
 
 pub record PutsGater (old new : List NetName) (gaters more : List (GatingCell ℕ)) (said : GatingCell NetName) : Type 0 where
   pub names : new ≡ with_names old (mentioned (Gate said))
-  pub few : length new ≤ 1048576
+  pub few : length new ≤ MOST_NETS
   pub gater : GatingCell ℕ
   pub named : map_gater (net_name new) gater ≡ said
   pub within : GaterWithin (length new) gater
@@ -46,13 +47,13 @@ pub record PutsGater (old new : List NetName) (gaters more : List (GatingCell �
 
 pub record PutsRegister (old new : List NetName) (registers more : List (RegisterCell ℕ (Option ℕ))) (said : RegisterCell NetName (Option NetName)) : Type 0 where
   pub names : new ≡ with_names old (mentioned (Register said))
-  pub few : length new ≤ 1048576
+  pub few : length new ≤ MOST_NETS
   pub register : RegisterCell ℕ (Option ℕ)
   pub named : map_open (net_name new) register ≡ said
   pub within : OpenWithin (length new) register
   pub put : more ≡ registers ++ register ∷ []
-  pub few_registers : length more ≤ 65536
+  pub few_registers : length more ≤ MOST_REGISTERS
 
 -- why a register is not put behind others
 abbrev pub IsRegisterFault : List NetName → ℕ → AddFault → Type 0
-IsRegisterFault names registers fault = IsMentionFault names fault ⊎ ((fault ≡ Passes Registers) × (length names ≤ 1048576) × (registers ≡ 65536))
+IsRegisterFault names registers fault = IsMentionFault names fault ⊎ ((fault ≡ Passes Registers) × (length names ≤ MOST_NETS) × (registers ≡ MOST_REGISTERS))

@@ -1,7 +1,6 @@
-use Rattle.std.proofs.Common.{◌≡◌, ◌∙◌, ap, [], ◌∷◌, ◌++◌, List, map, inl, length, ◌≤◌}
+use Rattle.std.proofs.Common.{◌∙◌, ap, [], ◌∷◌, ◌++◌, inl}
 use Rattle.std.specs.Option.{option_copied, option_to_list}
 use Rattle.std.proofs.lemmas.Result.{MatchResult-weaker}
-use Rattle.cg_netlist.specs.Wiring.{NetName}
 use Rattle.cg_builder.proofs.AddedParts.{fault_first, fault_then, puts_gater, two_words}
 use Rattle.cg_builder.proofs.Mentions.{with_names_grows}
 use Rattle.cg_builder.proofs.adding.add_gater.Goals as goal

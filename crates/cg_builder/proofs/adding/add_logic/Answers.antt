@@ -1,4 +1,4 @@
-use Rattle.std.proofs.Common.{◌≡◌, [], ◌∷◌, ◌++◌, map, inl}
+use Rattle.std.proofs.Common.{[], ◌∷◌, map, inl}
 use Rattle.std.proofs.lemmas.Result.{MatchResult-weaker}
 use Rattle.cg_builder.proofs.AddedParts.{fault_first, fault_then, puts_cell}
 use Rattle.cg_builder.proofs.Mentions.{with_names_grows}

@@ -1,6 +1,7 @@
-use Rattle.std.proofs.Common.{rules, refl, ◌≡◌, [], ◌∷◌, ◌++◌, ◌<◌, ℕ, Bor, Bool, List, map, length, inl, inr, sym, ◌∙◌, ap, subst, arith}
+use Rattle.std.proofs.Common.{rules, refl, ◌≡◌, ◌++◌, ◌<◌, ℕ, Bor, Bool, List, map, length, inl, inr, ◌∙◌, ap, subst, arith}
 use Rattle.std.specs.Option.{option_copied, option_to_list}
 use Rattle.std.proofs.lemmas.Result.{MatchResult-weaker}
+use Rattle.cg_limit.specs.declared.TheConstants.{MOST_REGISTERS}
 use Rattle.cg_builder.specs.inner.Mentioned.{IsMentionFault, IsMentioned}
 use Rattle.cg_netlist.specs.Names.{with_names}
 use Rattle.cg_netlist.specs.Wiring.{NetName}
@@ -53,7 +54,7 @@ returns-then-len-eq-MOST_REGISTERS c =
     let two : c.mention_outputs.new.names ≡ with_names old (inputs ++ words) = register_names old c.mention_each.new.names c.mention_outputs.new.names inputs words c.in-Ok.ensures.mentions.names mid in
     let all : c.mention_given.new.names ≡ with_names old ((inputs ++ words) ++ clock) = register_names old c.mention_outputs.new.names c.mention_given.new.names (inputs ++ words) clock two c.in-Ok-mention_given.ensures.mentions.names in
     let said = register_words old (option_copied c.args.cell) inputs outputs (option_copied c.args.clock) c.args.init in
-    let full : length c.args.registers.now.items ≡ 65536 = search rules in
+    let full : length c.args.registers.now.items ≡ MOST_REGISTERS = search rules in
     inr (refl, omega (arith, c.in-Ok-mention_given.ensures.mentions.few, ap length all, ap length said), full)
 
 pub returns : goal.returns
@@ -65,7 +66,7 @@ returns c =
     let clock = option_copied c.args.clock in
     let second : IsMentioned c.mention_each.new.names c.mention_outputs.new.names (map (λ (o : NetName × ℕ). o.0) outputs) (map (λ (o : ℕ × Bool). o.0) c.in-Ok-mention_outputs.nets.items) =
     subst (λ ws. IsMentioned c.mention_each.new.names c.mention_outputs.new.names ws (map (λ (o : ℕ × Bool). o.0) c.in-Ok-mention_outputs.nets.items)) (lent_words c.args.outputs.now) c.in-Ok-mention_outputs.ensures.mentions in
-    let few : length c.args.registers.now.items < 65536 = search rules in
+    let few : length c.args.registers.now.items < MOST_REGISTERS = search rules in
     MatchResult-weaker c.put.result c.put.ensures
     (λ x e. puts_register cell inputs outputs clock c.args.init old c.mention_each.new.names c.mention_outputs.new.names c.mention_given.new.names c.in-Ok.nets.items c.in-Ok-mention_outputs.nets.items c.in-Ok-mention_given.net c.in-Ok-places.pins.items c.in-Ok-kind.kind c.args.registers.now.items c.put.new.parts.items
     c.in-Ok.ensures.mentions second (c.in-Ok-mention_outputs.ensures.inverted ∙ lent_inverted cell c.args.outputs.now) c.in-Ok-mention_given.ensures.mentions (c.in-Ok-places.ensures ∙ lent_places c.args.outputs.now) c.in-Ok-kind.ensures e few)

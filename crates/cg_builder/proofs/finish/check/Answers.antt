@@ -1,4 +1,4 @@
-use Rattle.std.proofs.Common.{◌≡◌, length, sym, ◌∙◌, ap, inr, subst}
+use Rattle.std.proofs.Common.{sym, ◌∙◌, inr}
 use Rattle.cg_builder.proofs.FirstFaults.{clock_fault, cycle_fault, driver_fault, no_clock_fault, no_fault_left, use_fault}
 use Rattle.cg_builder.proofs.finish.check.Goals as goal
 

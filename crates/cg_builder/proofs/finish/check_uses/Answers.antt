@@ -1,12 +1,10 @@
-use Rattle.std.proofs.Common.{◌≡◌, ℕ, ◌<◌, ◌&&◌, ◌||◌, not, nat_eq, nat_lt, Bool, List, Some, None, Option, length, inl, inr, refl, sym, ◌∙◌, ap, subst, arith}
-use Rattle.std.specs.List.{count_by}
+use Rattle.std.proofs.Common.{◌&&◌, not, Some, None, length, inr, ◌∙◌, ap, subst}
 use Rattle.cg_netlist.specs.Circuit.{is_in}
-use Rattle.cg_netlist.specs.Marks.{AreMarksOf, IsFirst, is_marked}
-use Rattle.cg_parts.specs.declared.fault.NetFault.TheVariants.{ClockFault, Cycle, NoDriver, TwoDrivers}
-use Rattle.cg_builder.specs.inner.Numbers.{driving, is_driven_twice, is_undriven, used}
-use Rattle.cg_netlist.specs.Ranks.{is_unranked}
-use Rattle.cg_builder.proofs.Checks.{marked_first, undriven_found}
-use Rattle.cg_builder.proofs.ToldNets.{asked_of, order_within, used_within}
+use Rattle.cg_netlist.specs.Marks.{IsFirst}
+use Rattle.cg_parts.specs.declared.fault.NetFault.TheVariants.{NoDriver}
+use Rattle.cg_builder.specs.inner.Numbers.{driving, used}
+use Rattle.cg_builder.proofs.Checks.{undriven_found}
+use Rattle.cg_builder.proofs.ToldNets.{asked_of, order_within}
 use Rattle.cg_builder.proofs.finish.check_uses.Goals as goal
 
 pub marks-requires : goal.marks-requires

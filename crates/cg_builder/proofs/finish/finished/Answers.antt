@@ -1,4 +1,4 @@
-use Rattle.std.proofs.Common.{◌≡◌, sym, ◌∙◌, ap, subst}
+use Rattle.std.proofs.Common.{sym, ◌∙◌, subst}
 use Rattle.cg_netlist.specs.Netlist.{IsNetlist}
 use Rattle.cg_builder.specs.inner.Numbers.{made_of}
 use Rattle.cg_parts.specs.Says.{Says}

@@ -1,8 +1,7 @@
-use Rattle.std.proofs.Common.{◌≡◌, Some, ◌<◌, refl, sym, ◌∙◌, ap, arith}
+use Rattle.std.proofs.Common.{◌≡◌, Some, refl, sym, ◌∙◌, ap, arith}
 use Rattle.std.specs.List.{slice_get}
 use Rattle.std.proofs.lemmas.Option.{slice_get_read}
-use Rattle.cg_netlist.proofs.TableLemmas.{All-at}
-use Rattle.cg_builder.proofs.OrderPlaces.{place_at_end, place_at_start, place_more}
+use Rattle.cg_builder.proofs.OrderPlaces.{place_at_end, place_more}
 use Rattle.cg_builder.proofs.order.places.Goals as goal
 
 pub loop-i-preserved : goal.loop-i-preserved

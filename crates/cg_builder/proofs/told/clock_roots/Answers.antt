@@ -1,4 +1,4 @@
-use Rattle.std.proofs.Common.{◌≡◌, ◌++◌, not, length, sym, ◌∙◌, ap, subst}
+use Rattle.std.proofs.Common.{◌++◌, not, length, sym, ◌∙◌, ap, subst}
 use Rattle.std.specs.List.{filter}
 use Rattle.cg_netlist.specs.Circuit.{is_in}
 use Rattle.cg_netlist.specs.Marks.{AreMarksOf, is_marked}

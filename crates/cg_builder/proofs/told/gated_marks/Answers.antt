@@ -1,4 +1,4 @@
-use Rattle.std.proofs.Common.{◌≡◌, ◌++◌, length, sym, ◌∙◌, ap}
+use Rattle.std.proofs.Common.{◌++◌, length, ◌∙◌, ap}
 use Rattle.cg_builder.specs.inner.Numbers.{gated}
 use Rattle.cg_netlist.specs.Wiring.{driven_by_gaters}
 use Rattle.cg_builder.proofs.ToldNets.{asked_of, gated_within}

@@ -1,10 +1,10 @@
-use Rattle.std.proofs.Common.{◌≡◌, ◌<◌, ◌++◌, not, length, refl, sym, ◌∙◌, ap, subst, arith}
-use Rattle.std.specs.List.{AllByRecursion, filter}
+use Rattle.std.proofs.Common.{◌≡◌, ◌++◌, not, length, sym, ◌∙◌, ap, subst}
+use Rattle.std.specs.List.{filter}
 use Rattle.cg_netlist.specs.Circuit.{is_in}
 use Rattle.cg_netlist.specs.Marks.{AreMarksOf, is_marked}
 use Rattle.cg_builder.specs.inner.Numbers.{Numbers}
 use Rattle.cg_netlist.specs.Wiring.{driven_by_cells, driven_by_gaters, driven_by_registers}
-use Rattle.cg_builder.proofs.ToldNets.{asked_of, left_of}
+use Rattle.cg_builder.proofs.ToldNets.{left_of}
 use Rattle.cg_builder.proofs.told.order.Goals as goal
 
 pub returns : goal.returns

@@ -1,4 +1,4 @@
-use Rattle.std.proofs.Common.{◌≡◌, [], ◌∷◌, Option, None, Some, subst, refl}
+use Rattle.std.proofs.Common.{subst, refl}
 use Rattle.std.proofs.lemmas.Result.{MatchResult-weaker}
 use Rattle.cg_builder.specs.inner.Heard.{built}
 use Rattle.cg_builder.specs.inner.Numbers.{Numbers}

@@ -1,21 +1,14 @@
-use Rattle.std.proofs.Common.{◌≡◌, ◌++◌, [], ◌∷◌, ℕ, Bor, List, Option, None, Some, IsTrue, map, length, subst, refl, sym, ◌∙◌, ap, arith}
-use Rattle.std.specs.List.{AllByRecursion}
-use Rattle.std.specs.Option.{option_copied, option_to_list}
+use Rattle.std.proofs.Common.{subst, refl}
+use Rattle.std.specs.Option.{option_copied}
 use Rattle.std.proofs.lemmas.Result.{MatchResult-weaker}
-use Rattle.std.proofs.lemmas.List.{length-map}
-use Rattle.cg_cell.specs.Cell.{IsCell}
-use Rattle.cg_cell.specs.Cover.{IsCover}
-use Rattle.cg_cell.specs.Name.{is_name}
-use Rattle.cg_netlist.specs.declared.parts.LogicFunction.TheVariants.{Cell, Cover}
-use Rattle.cg_builder.specs.Calls.{cell_of, gater_of, register_of}
+use Rattle.cg_builder.specs.Calls.{gater_of}
 use Rattle.cg_builder.specs.inner.Heard.{built}
 use Rattle.cg_builder.specs.inner.Numbers.{Numbers}
 use Rattle.cg_builder.specs.Building.{Takes}
-use Rattle.cg_parts.specs.Part.{Part, Gate, Logic, Register}
+use Rattle.cg_parts.specs.Part.{Part, Gate}
 use Rattle.cg_parts.specs.Says.{IsPart}
-use Rattle.cg_netlist.specs.Wiring.{NetName}
-use Rattle.cg_builder.proofs.Hearing.{few_heard, hears_cell, hears_gater, hears_register, few_inputs, words_push}
-use Rattle.cg_builder.proofs.Telling.{Told, mention_fails, register_fails, telling}
+use Rattle.cg_builder.proofs.Hearing.{few_heard, hears_gater}
+use Rattle.cg_builder.proofs.Telling.{Told, mention_fails, telling}
 use Rattle.cg_builder.proofs.builder.Builder.gater.Goals as goal
 
 abbrev numbers : goal.After-noted → Numbers

@@ -7,7 +7,8 @@ use Rattle.cg_machine.specs.Claims.{Literal}
 abbrev pub literal_place : Literal → ℕ
 literal_place l = 2 * l.0 + (if l.1 then 1 else 0)
 
--- the number of a literal: its rank, which is less where it is 0 on more rows, before its place
+-- the number of a literal: its rank, which is less where it is 0 on more rows, before its place; 2097152 is twice the nets
+-- that a netlist may have, more than the place of any literal
 abbrev pub packed : IdleData → Literal → ℕ
 packed idle l = (idle.rows - idle_count (Some idle) l) * 2097152 + literal_place l
 

@@ -2,4 +2,3 @@ pub mod Choosing
 pub mod Cycles
 pub mod Known
 pub mod Packed
-pub mod Searching

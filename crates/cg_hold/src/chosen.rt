@@ -7,7 +7,6 @@ ghost use Rattle.cg_hold.specs.inner.Choosing.{AreChosen, FitsChoice, passes_at,
 ghost use Rattle.cg_hold.specs.inner.Cycles.{AreCycles};
 ghost use Rattle.cg_hold.specs.inner.Packed.{literal_place};
 ghost use Rattle.cg_limit.specs.declared.Limit.TheVariants.{ClaimNodes};
-ghost use Rattle.cg_limit.specs.declared.TheConstants.{MOST_NETS};
 ghost use Rattle.cg_lists.specs.HoldList.{hold_passes};
 ghost use Rattle.cg_lists.specs.Literals.{FitsIdle};
 ghost use Rattle.cg_machine.specs.Machine.{enable_of};
@@ -25,22 +24,6 @@ use cg_netlist::fault::AddFault;
 use cg_netlist::id::RegId;
 use std::alloc::{AllocError, Global};
 
-/// What a search for hold stages is over: what each look at a register needs beside the register.
-#[derive(Drop)]
-pub(crate) struct Search<'a> {
-    /// The machine.
-    pub machine: &'a Machine,
-
-    /// Cycles of it.
-    pub cycles: &'a Cycles,
-
-    /// How wide a claim may be.
-    pub width: u32,
-
-    /// How often its nets are 0, where there is a stimulus.
-    pub idle: Option<&'a Idle<'a>>,
-}
-
 /// What came of registers.
 #[derive(Drop)]
 pub(crate) struct Chosen {
@@ -52,8 +35,6 @@ pub(crate) struct Chosen {
 }
 
 impl Chosen {
-    ghost use Rattle.cg_hold.specs.inner.Searching.{AreLookedAt, IsSearch, RefusesAt};
-
     /// What comes of all registers of a machine's netlist that have no enable.
     pub fn of(
         alloc: Global,
@@ -75,39 +56,41 @@ impl Chosen {
         let Ok(cycles) = Cycles::of(alloc, machine) else {
             return Err(AddFault::NoMemory);
         };
-        let search = Search {
-            machine,
-            cycles: &cycles,
-            width,
-            idle,
-        };
-        match chosen.look_at_all(alloc, &search, progress) {
+        let mut trier = Trier::new(alloc);
+        match chosen.look_at_all(alloc, &mut trier, machine, &cycles, width, idle, progress) {
             Ok(()) => Ok(chosen),
             Err(fault) => Err(fault),
         }
     }
 
-    /// Looks at all registers of the machine's netlist, and tells of each.
+    /// Looks at all registers of a machine's netlist, and tells of each.
     fn look_at_all(
         &mut self,
         alloc: Global,
-        search: &Search<'_>,
+        trier: &mut Trier,
+        machine: &Machine,
+        cycles: &Cycles,
+        width: u32,
+        idle: Option<&Idle<'_>>,
         progress: &mut dyn Progress,
     ) -> Result<(), AddFault>
-        requires search { IsSearch search.now }
-        requires chosen { AreLookedAt search.now 0 self.old.lists.items self.old.wide }
-        ensures chosen { OnOk result (AreLookedAt search.now search.now.machine.now.own_registers self.new.lists.items self.new.wide) }
-        ensures refused { IfErr result (λ fault. (fault ≡ NoMemory)
-            ⊎ ((fault ≡ LimitFault ClaimNodes) × (hold_passes search.now.machine.now (option_copied search.now.idle) search.now.width ≡ true))) }
+        requires idle { FitsIdle machine.now (option_copied idle) }
+        requires cycles { AreCycles machine.now cycles.now.cycles }
+        requires chosen { AreChosen machine.now (option_copied idle) width 0 self.old.lists.items self.old.wide }
+        ensures chosen { OnOk result (AreChosen machine.now (option_copied idle.entry) width machine.now.own_registers self.new.lists.items self.new.wide) }
+        ensures refused { IfErr result
+            (λ fault. (fault ≡ NoMemory) ⊎ ((fault ≡ LimitFault ClaimNodes) × (hold_passes machine.now (option_copied idle.entry) width ≡ true))) }
     {
-        let mut trier = Trier::new(alloc);
-        let netlist = search.machine.netlist();
+        let netlist = machine.netlist();
         for reg in 0..netlist.registers() {
             if let Err(fault) = self.look_told(
                 alloc,
-                &mut trier,
-                search,
+                trier,
+                machine,
+                cycles,
                 RegId::new(reg),
+                width,
+                idle,
                 progress,
             ) {
                 return Err(fault);
@@ -118,7 +101,7 @@ impl Chosen {
 
     /// No register for each literal of `nets` nets.
     fn none(alloc: Global, nets: u32) -> Result<Chosen, AllocError>
-        requires { nets ≤ MOST_NETS }
+        requires { nets ≤ 1048576 }
         ensures lists { IfOk result (λ chosen. chosen.lists.items ≡ replicate (2 * nets) []) }
         ensures wide { IfOk result (λ chosen. chosen.wide ≡ 0) }
     {
@@ -134,19 +117,25 @@ impl Chosen {
         &mut self,
         alloc: Global,
         trier: &mut Trier,
-        search: &Search<'_>,
+        machine: &Machine,
+        cycles: &Cycles,
         reg: RegId,
+        width: u32,
+        idle: Option<&Idle<'_>>,
         progress: &mut dyn Progress,
     ) -> Result<(), AddFault>
-        requires register { reg < search.now.machine.now.own_registers }
-        requires search { IsSearch search.now }
-        requires chosen { AreLookedAt search.now reg self.old.lists.items self.old.wide }
-        ensures chosen { OnOk result (AreLookedAt search.now (reg + 1) self.new.lists.items self.new.wide) }
-        ensures refused { IfErr result (RefusesAt search.now reg) }
+        requires register { reg < machine.now.own_registers }
+        requires idle { FitsIdle machine.now (option_copied idle) }
+        requires cycles { AreCycles machine.now cycles.now.cycles }
+        requires chosen { AreChosen machine.now (option_copied idle) width reg self.old.lists.items self.old.wide }
+        ensures chosen { OnOk result (AreChosen machine.now (option_copied idle.entry) width (reg + 1) self.new.lists.items self.new.wide) }
+        ensures refused { IfErr result
+            (λ fault. (fault ≡ NoMemory) ⊎ ((fault ≡ LimitFault ClaimNodes)
+            × ((is_none (enable_of machine.now reg) ≡ true) × (passes_at machine.now (option_copied idle.entry) width reg ≡ true)))) }
     {
-        let registers = search.machine.netlist().registers();
+        let registers = machine.netlist().registers();
         progress.looking(reg.number() as usize + 1, registers as usize);
-        self.look(alloc, trier, search, reg)
+        self.look(alloc, trier, machine, cycles, reg, width, idle)
     }
 
     /// Looks at one register.
@@ -154,29 +143,26 @@ impl Chosen {
         &mut self,
         alloc: Global,
         trier: &mut Trier,
-        search: &Search<'_>,
+        machine: &Machine,
+        cycles: &Cycles,
         reg: RegId,
+        width: u32,
+        idle: Option<&Idle<'_>>,
     ) -> Result<(), AddFault>
-        requires register { reg < search.now.machine.now.own_registers }
-        requires search { IsSearch search.now }
-        requires chosen { AreLookedAt search.now reg self.old.lists.items self.old.wide }
-        ensures chosen { OnOk result (AreLookedAt search.now (reg + 1) self.new.lists.items self.new.wide) }
-        ensures refused { IfErr result (RefusesAt search.now reg) }
+        requires register { reg < machine.now.own_registers }
+        requires idle { FitsIdle machine.now (option_copied idle) }
+        requires cycles { AreCycles machine.now cycles.now.cycles }
+        requires chosen { AreChosen machine.now (option_copied idle) width reg self.old.lists.items self.old.wide }
+        ensures chosen { OnOk result (AreChosen machine.now (option_copied idle.entry) width (reg + 1) self.new.lists.items self.new.wide) }
+        ensures refused { IfErr result
+            (λ fault. (fault ≡ NoMemory) ⊎ ((fault ≡ LimitFault ClaimNodes)
+            × ((is_none (enable_of machine.now reg) ≡ true) × (passes_at machine.now (option_copied idle.entry) width reg ≡ true)))) }
     {
-        let machine = search.machine;
         let _netlist = machine.netlist();
         if machine.enable(reg).is_some() {
             return Ok(());
         }
-        match choose(
-            alloc,
-            trier,
-            machine,
-            search.cycles,
-            reg,
-            search.width,
-            search.idle,
-        ) {
+        match choose(alloc, trier, machine, cycles, reg, width, idle) {
             Ok(choice) => self.note(reg, choice),
             Err(fault) => Err(fault),
         }

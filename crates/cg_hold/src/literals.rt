@@ -9,7 +9,6 @@ ghost use Rattle.cg_lists.specs.Supports.{in_net_order, input_cone};
 ghost use Rattle.cg_netlist.specs.Circuit.{is_in};
 
 use cg_groups::order::rising;
-use cg_limit::MOST_NETS;
 use cg_lists::idle::Idle;
 use cg_machine::machine::Machine;
 use cg_machine::stage::NetLit;
@@ -18,7 +17,7 @@ use cg_support::finder::SupportFinder;
 use std::alloc::{AllocError, Global};
 
 // More than the places of all literals: two for each net that a netlist may have.
-const PLACES: u64 = 2 * MOST_NETS as u64;
+const PLACES: u64 = 2_097_152;
 
 /// The literals of a register in the order in which they are tried: the nets of the cone of its inputs, each plain and
 /// inverted, those before the others that are 0 on more rows of the stimulus.

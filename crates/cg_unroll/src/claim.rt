@@ -59,8 +59,10 @@ pub fn idle_claim(
     ensures refused { IfErr result (IsRefused machine.now (idle_question enables.now) width) }
 {
     let mut unroller = Unroller::new(alloc);
-    unroller.idle(machine, enables, width)?;
-    Ok(unroller.into_claim())
+    match unroller.idle(machine, enables, width) {
+        Ok(()) => Ok(unroller.into_claim()),
+        Err(fault) => Err(fault),
+    }
 }
 
 /// The claim that a register holds its bit where a literal is 0: its goal is 1 at bits of the leaves exactly where the
@@ -80,8 +82,10 @@ pub fn hold_claim(
     ensures refused { IfErr result (IsRefused machine.now (hold_question enable reg) width) }
 {
     let mut unroller = Unroller::new(alloc);
-    unroller.hold(machine, enable, reg, width)?;
-    Ok(unroller.into_claim())
+    match unroller.hold(machine, enable, reg, width) {
+        Ok(()) => Ok(unroller.into_claim()),
+        Err(fault) => Err(fault),
+    }
 }
 
 /// The claim that a register holds its bit a cycle after the joined enable was 0: its goal is 1 at bits of the leaves
@@ -101,8 +105,10 @@ pub fn stable_claim(
     ensures refused { IfErr result (IsRefused machine.now (stable_question enables.now reg) width) }
 {
     let mut unroller = Unroller::new(alloc);
-    unroller.stable(machine, enables, reg, width)?;
-    Ok(unroller.into_claim())
+    match unroller.stable(machine, enables, reg, width) {
+        Ok(()) => Ok(unroller.into_claim()),
+        Err(fault) => Err(fault),
+    }
 }
 
 /// The claim that a target does not show the bits of registers a cycle after the joined enable was 0, where the guards

@@ -30,7 +30,10 @@ pub(crate) fn put_registers(
     for k in 0..registers.len() {
         let reg = registers[k];
         let state = states.get(reg.number() as usize);
-        put_register(machine, reg, state, literals)?;
+        match put_register(machine, reg, state, literals) {
+            Ok(()) => {}
+            Err(fault) => return Err(fault),
+        }
     }
     Ok(())
 }
@@ -69,7 +72,10 @@ fn put_outputs(
     for k in 0..outputs.len() {
         let (net, inverted) = outputs[k];
         let shown = if inverted { state.not() } else { state };
-        literals.put(net.number() as usize, shown)?;
+        match literals.put(net.number() as usize, shown) {
+            Ok(()) => {}
+            Err(fault) => return Err(fault),
+        }
     }
     Ok(())
 }

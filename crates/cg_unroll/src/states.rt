@@ -106,7 +106,10 @@ pub(crate) fn carry_states(
     for k in 0..registers.len() {
         let place = registers[k].number() as usize;
         if others.get(place).number() == 0 {
-            others.put(place, states.get(place))?;
+            match others.put(place, states.get(place)) {
+                Ok(()) => {}
+                Err(fault) => return Err(fault),
+            }
         }
     }
     Ok(())

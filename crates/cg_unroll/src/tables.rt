@@ -168,7 +168,10 @@ pub(crate) fn put_leaves(
     literals.reset(places, zero)?;
     for k in 0..leaves.len() {
         match place_of(leaves[k], copy, sources) {
-            Some(place) => literals.put(place, aig.leaf(k as u32))?,
+            Some(place) => match literals.put(place, aig.leaf(k as u32)) {
+                Ok(()) => {}
+                Err(fault) => return Err(fault),
+            },
             None => {}
         }
     }

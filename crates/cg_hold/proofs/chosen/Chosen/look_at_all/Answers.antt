@@ -8,23 +8,23 @@ use Rattle.cg_hold.proofs.chosen.Chosen.look_at_all.Goals as goal
 
 pub look_told-requires-clause-register : goal.look_told-requires-clause-register
 look_told-requires-clause-register g c =
-    let m = c.args.search.now.machine.now in
+    let m = c.args.machine.now in
     let count : c.registers-reg-end.result ≡ m.own_registers = c.registers-reg-end.ensures.count ∙ (ap (λ (n : Circuit). length n.registers) c.netlist-netlist.ensures.netlist ∙ own_count m c.netlist-netlist.ensures.machine) in
     omega (arith, count, c.new.ensures, c.loop-reg-test.true)
 
 pub returns-in-Err-clause-refused : goal.returns-in-Err-clause-refused
 returns-in-Err-clause-refused g c =
-    let m = c.args.search.now.machine.now in
+    let m = c.args.machine.now in
     let count : c.registers-reg-end.result ≡ m.own_registers = c.registers-reg-end.ensures.count ∙ (ap (λ (n : Circuit). length n.registers) c.netlist-netlist.ensures.netlist ∙ own_count m c.netlist-netlist.ensures.machine) in
-    refused_told m (option_copied c.args.search.now.idle) c.args.search.now.width c.new.result (omega (arith, count, c.new.ensures, c.loop-reg-test.true)) c.in-Err.fault c.in-Err.ensures.refused
+    refused_told m (option_copied c.args.idle) c.args.width c.new.result (omega (arith, count, c.new.ensures, c.loop-reg-test.true)) c.in-Err.fault c.in-Err.ensures.refused
 
 pub loop-reg-preserved : goal.loop-reg-preserved
 loop-reg-preserved g c =
-    subst (λ n. AreChosen c.args.search.now.machine.now (option_copied c.args.search.now.idle) c.args.search.now.width (n + 1) c.look_told.new.self.lists.items c.look_told.new.self.wide) c.new.ensures c.in_default.ensures.chosen
+    subst (λ n. AreChosen c.args.machine.now (option_copied c.args.idle) c.args.width (n + 1) c.look_told.new.self.lists.items c.look_told.new.self.wide) c.new.ensures c.in_default.ensures.chosen
 
 pub returns-clause-chosen : goal.returns-clause-chosen
 returns-clause-chosen g c =
-    let m = c.args.search.now.machine.now in
+    let m = c.args.machine.now in
     let count : c.registers-reg-end.result ≡ m.own_registers = c.registers-reg-end.ensures.count ∙ (ap (λ (n : Circuit). length n.registers) c.netlist-netlist.ensures.netlist ∙ own_count m c.netlist-netlist.ensures.machine) in
     let all : c.loop-reg.reg ≡ m.own_registers = omega (arith, count, c.loop-reg-test.false, c.loop-reg.auto.reg-end) in
-    subst (λ n. AreChosen m (option_copied c.args.search.now.idle) c.args.search.now.width n c.loop-reg.self.lists.items c.loop-reg.self.wide) all c.loop-reg.invariant
+    subst (λ n. AreChosen m (option_copied c.args.idle) c.args.width n c.loop-reg.self.lists.items c.loop-reg.self.wide) all c.loop-reg.invariant

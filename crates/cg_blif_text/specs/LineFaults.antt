@@ -1,10 +1,11 @@
 -- What a line may have wrong: a table of faults, each with when it applies to a line. The fault of a line is the first that
 -- applies; the fault of lines is that of the first line that has one.
-use Rattle.std.specs.Prelude.{◌≡◌, ℕ, ◌-◌, Bool, true, false, ◌==◌, ◌&&◌, ◌||◌, not, if◌then◌else◌, List, [], ◌∷◌, ◌++◌, length, map, slice_index, codes, nat_le, nat_lt, is_none, is_some, Option, None, Some, Result, Ok, Err}
+use Rattle.std.specs.Prelude.{◌≡◌, ℕ, ◌+◌, ◌-◌, Bool, true, false, ◌==◌, ◌&&◌, ◌||◌, not, if◌then◌else◌, List, [], ◌∷◌, ◌++◌, length, map, slice_index, codes, nat_le, nat_lt, is_none, is_some, Option, None, Some, Result, Ok, Err}
 use Rattle.std.specs.List.{find, fold, list_all}
 use Rattle.std.specs.Option.{option_map, option_map_or}
 use Rattle.std.specs.Str.{bytes_eq}
 use Rattle.cg_limit.specs.declared.Limit.TheVariants.{Nets, Registers, CoverInputs}
+use Rattle.cg_limit.specs.declared.TheConstants.{MOST_COVER_INPUTS, MOST_NETS, MOST_REGISTERS}
 use Rattle.cg_cell.specs.Cell.{CellData}
 use Rattle.cg_cell.specs.Name.{is_name}
 use Rattle.cg_cell.specs.declared.cell.CellKind.{CellKind}
@@ -120,9 +121,9 @@ is_second_model (Order Model words) Named = true
 is_second_model (Order Model words) Ended = true
 is_second_model form place = false
 
--- it is a `.names` line of more than 256 inputs
+-- it is a `.names` line of too many inputs; the output is a word more
 abbrev pub has_many_inputs : Form → Bool
-has_many_inputs (Order Names words) = nat_lt 257 (length words)
+has_many_inputs (Order Names words) = nat_lt (1 + MOST_COVER_INPUTS) (length words)
 has_many_inputs form = false
 
 -- what was said with the parts of the line, if nothing of the above is wrong
@@ -152,8 +153,8 @@ form_faults library at_line named form =
     ∷ (PinFault, is_pin_fault library form)
     ∷ (SecondModel, is_second_model form at_line.place)
     ∷ (Limit CoverInputs, has_many_inputs form)
-    ∷ (Limit Nets, nat_lt 1048576 (length (said_with library at_line.said form).nets))
-    ∷ (Limit Registers, nat_lt 65536 (length (said_with library at_line.said form).registers))
+    ∷ (Limit Nets, nat_lt MOST_NETS (length (said_with library at_line.said form).nets))
+    ∷ (Limit Registers, nat_lt MOST_REGISTERS (length (said_with library at_line.said form).registers))
     ∷ []
 
 -- the first fault that applies

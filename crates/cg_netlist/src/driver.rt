@@ -1,9 +1,8 @@
 //! What drives each net.
 
-ghost use Rattle.std.specs.Prelude.{◌≡◌, ◌<◌, ◌+◌, ◌++◌, IfOk, Some, length, replicate, slice_get, drop};
+ghost use Rattle.std.specs.Prelude.{◌≡◌, ◌<◌, ◌+◌, ◌++◌, IfOk, Some, length, replicate, drop};
 ghost use Rattle.std.specs.List.{flat_map};
-ghost use Rattle.std.specs.Option.{option_to_list};
-ghost use Rattle.cg_netlist.specs.Circuit.{Circuit, shown_nets};
+ghost use Rattle.cg_netlist.specs.Circuit.{shown_nets};
 ghost use Rattle.cg_netlist.specs.Drivers.{AreDrivers};
 ghost use Rattle.cg_netlist.specs.Netlist.{IsNetlist};
 ghost use Rattle.cg_netlist.specs.inner.Driving.{IsTold, all_but_inputs, behind_cells, behind_gaters, behind_registers};

@@ -1,8 +1,8 @@
 //! The names of nets, numbered in the order in which they came.
 
-ghost use Rattle.std.specs.Prelude.{◌≡◌, ◌≢◌, ◌∷◌, [], ◌++◌, ◌<◌, ◌^◌, Some, false, true, length};
-ghost use Rattle.std.specs.Prelude.{slice_get, IfOk, MatchOption, OnErr, OnOk, if◌then◌else◌, map};
-ghost use Rattle.std.specs.List.{AllPairs, list_any};
+ghost use Rattle.std.specs.Prelude.{◌≡◌, ◌≢◌, [], ◌<◌, Some, false, length};
+ghost use Rattle.std.specs.Prelude.{slice_get, IfOk, MatchOption, OnErr, OnOk, map};
+ghost use Rattle.std.specs.List.{AllPairs};
 ghost use Rattle.cg_netlist.specs.Names.{is_known, with_name};
 ghost use Rattle.cg_netlist.specs.NamePlaces.{AreOrdered};
 ghost use Rattle.cg_netlist.specs.Wiring.{net_name};

@@ -1,7 +1,5 @@
 //! The parts of a netlist as it keeps them: plain data, of which nothing is asked yet.
 
-ghost use Rattle.std.specs.Prelude.{◌≡◌};
-
 use crate::id::NetId;
 use crate::names::OrderedNames;
 use cg_cell::cell::CellType;

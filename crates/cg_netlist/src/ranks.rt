@@ -5,7 +5,7 @@
 //! when a cell gets its rank, the search goes on with those that waited for it. It looks at each input once,
 //! and what still waits in the end lies under a cycle.
 
-ghost use Rattle.std.specs.Prelude.{◌≡◌, ℕ, ◌+◌, ◌<◌, ◌≤◌, length, slice_get, All, MatchOption, OnOk};
+ghost use Rattle.std.specs.Prelude.{◌≡◌, ℕ, ◌+◌, ◌<◌, length, slice_get, All, MatchOption, OnOk};
 ghost use Rattle.std.specs.Prelude.{None, Some, is_some, true, IfOk, slice_set, [], replicate, unwrap_or};
 ghost use Rattle.cg_netlist.specs.Circuit.{is_in};
 ghost use Rattle.cg_netlist.specs.Ranking.{HasLooked, IsGraph, IsSound, HasReached, Looks, RanksOrWaits, EachRanksOrWaits};

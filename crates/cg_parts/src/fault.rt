@@ -1,6 +1,10 @@
 //! Why parts make no netlist.
 
+ghost use Rattle.std.specs.Prelude.{◌≡◌};
+ghost use Rattle.cg_parts.specs.declared.fault.NetFault.TheVariants.{NoMemory};
+
 use cg_cell::name::Name;
+use std::alloc::AllocError;
 
 /// Why parts make no well-formed netlist. The order is that in which these are looked for, and each names the net that was
 /// mentioned first of those for which it holds.
@@ -24,4 +28,12 @@ pub enum NetFault {
 
     /// There was no memory.
     NoMemory,
+}
+
+impl From<AllocError> for NetFault {
+    ghost from_gives = { λ _ e. e ≡ NoMemory };
+
+    fn from(_refused: AllocError) -> NetFault {
+        NetFault::NoMemory
+    }
 }

@@ -1,6 +1,6 @@
 //! Adding one part: its nets are mentioned, and it goes behind the others of its kind.
 
-ghost use Rattle.std.specs.Prelude.{◌≡◌, ◌≤◌, ◌∷◌, ◌++◌, [], IfOk, MatchResult, length, map};
+ghost use Rattle.std.specs.Prelude.{◌≡◌, ◌≤◌, ◌∷◌, [], IfOk, MatchResult, length, map};
 ghost use Rattle.std.specs.Option.{option_copied};
 ghost use Rattle.cg_cell.specs.Cell.{IsCell};
 ghost use Rattle.cg_builder.specs.Calls.{cell_of, gater_of, kind_of, register_of, shows_inverse};
@@ -32,14 +32,9 @@ pub(crate) fn add_net(
         (λ _. PutsNet names.old names.new name.now nets.old nets.new)
         (λ fault. IsMentionFault (with_names names.old (name.now ∷ [])) fault) }
 {
-    let net = match mention(alloc, names, name) {
-        Ok(net) => net,
-        Err(fault) => return Err(fault),
-    };
-    match nets.insert(net) {
-        Ok(()) => Ok(()),
-        Err(_) => Err(AddFault::NoMemory),
-    }
+    let net = mention(alloc, names, name)?;
+    nets.insert(net)?;
+    Ok(())
 }
 
 /// Mentions the nets of a logic cell, and adds the cell.
@@ -56,14 +51,8 @@ pub(crate) fn add_logic(
         (λ _. PutsCell names.old names.new cells.old.items cells.new.items (cell_of (map (λ name. name.now) inputs.now) output.now function))
         (λ fault. IsMentionFault (with_names names.old (mentioned (LogicPart (cell_of (map (λ name. name.now) inputs.now) output.now function)))) fault) }
 {
-    let inputs = match mention_each(alloc, names, inputs) {
-        Ok(inputs) => inputs,
-        Err(fault) => return Err(fault),
-    };
-    let output = match mention(alloc, names, output) {
-        Ok(output) => output,
-        Err(fault) => return Err(fault),
-    };
+    let inputs = mention_each(alloc, names, inputs)?;
+    let output = mention(alloc, names, output)?;
     put(
         cells,
         Logic {
@@ -99,10 +88,7 @@ pub(crate) fn add_placed(
         (λ fault. IsMentionFault
         (with_names names.old (mentioned (LogicPart (cell_of (map (λ name. name.now) inputs.now) output.now (PlacedCell cell.now))))) fault) }
 {
-    let function = match placed(cell) {
-        Ok(cell) => LogicFunction::Cell(cell),
-        Err(_) => return Err(AddFault::NoMemory),
-    };
+    let function = LogicFunction::Cell(placed(cell)?);
     add_logic(alloc, names, cells, inputs, output, function)
 }
 
@@ -124,26 +110,11 @@ pub(crate) fn add_gater(
         (λ fault. IsMentionFault
         (with_names names.old (mentioned (Gate (gater_of cell.now clock.now enable.now (option_copied test.entry) output.now)))) fault) }
 {
-    let cell = match placed(cell) {
-        Ok(cell) => cell,
-        Err(_) => return Err(AddFault::NoMemory),
-    };
-    let clock = match mention(alloc, names, clock) {
-        Ok(net) => net,
-        Err(fault) => return Err(fault),
-    };
-    let enable = match mention(alloc, names, enable) {
-        Ok(net) => net,
-        Err(fault) => return Err(fault),
-    };
-    let test = match mention_given(alloc, names, test) {
-        Ok(net) => net,
-        Err(fault) => return Err(fault),
-    };
-    let output = match mention(alloc, names, output) {
-        Ok(net) => net,
-        Err(fault) => return Err(fault),
-    };
+    let cell = placed(cell)?;
+    let clock = mention(alloc, names, clock)?;
+    let enable = mention(alloc, names, enable)?;
+    let test = mention_given(alloc, names, test)?;
+    let output = mention(alloc, names, output)?;
     put(
         gaters,
         Gater {
@@ -176,29 +147,14 @@ pub(crate) fn add_register(
         (mentioned (RegisterPart (register_of (option_copied cell.entry) (map (λ name. name.now) inputs.now)
         (map (λ output. (output.0.now, output.1)) outputs.now) (option_copied clock.entry) init)))) (length registers.old.items)) }
 {
-    let inputs = match mention_each(alloc, names, inputs) {
-        Ok(nets) => nets,
-        Err(fault) => return Err(fault),
-    };
-    let nets = match mention_outputs(alloc, names, cell, outputs) {
-        Ok(nets) => nets,
-        Err(fault) => return Err(fault),
-    };
-    let clock = match mention_given(alloc, names, clock) {
-        Ok(net) => net,
-        Err(fault) => return Err(fault),
-    };
+    let inputs = mention_each(alloc, names, inputs)?;
+    let nets = mention_outputs(alloc, names, cell, outputs)?;
+    let clock = mention_given(alloc, names, clock)?;
     if registers.len() == MOST_REGISTERS {
         return Err(AddFault::Limit(Limit::Registers));
     }
-    let pins = match places(alloc, outputs) {
-        Ok(pins) => pins,
-        Err(_) => return Err(AddFault::NoMemory),
-    };
-    let kind = match kind(cell) {
-        Ok(kind) => kind,
-        Err(_) => return Err(AddFault::NoMemory),
-    };
+    let pins = places(alloc, outputs)?;
+    let kind = kind(cell)?;
     put(
         registers,
         OpenRegister {
@@ -247,18 +203,10 @@ fn mention_outputs(
         (λ fault. IsMentionFault (with_names names.old (map (λ output. output.0.now) outputs.now)) fault) }
     ensures inverted { IfOk result (λ nets. map (λ net. net.1) nets.items ≡ map (λ output. shows_inverse (option_copied cell.entry) output.1) outputs.now) }
 {
-    let mut nets = match Vec::with_capacity(alloc, outputs.len()) {
-        Ok(nets) => nets,
-        Err(_) => return Err(AddFault::NoMemory),
-    };
+    let mut nets = Vec::with_capacity(alloc, outputs.len())?;
     for output in outputs {
-        match mention(alloc, names, output.0) {
-            Ok(net) => match put(&mut nets, (net, is_inverse(cell, output.1))) {
-                Ok(()) => (),
-                Err(fault) => return Err(fault),
-            },
-            Err(fault) => return Err(fault),
-        }
+        let net = mention(alloc, names, output.0)?;
+        put(&mut nets, (net, is_inverse(cell, output.1)))?;
     }
     Ok(nets)
 }

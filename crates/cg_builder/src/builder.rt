@@ -1,6 +1,6 @@
 //! Building netlists, part by part, nets by their names.
 
-ghost use Rattle.std.specs.Prelude.{◌≡◌, ◌≤◌, ◌<◌, ◌^◌, ◌⊎◌, ◌∷◌, ◌++◌, [], None, IfErr, IfOk, IsTrue, List, MatchResult, count_by, length, map};
+ghost use Rattle.std.specs.Prelude.{◌≡◌, ◌<◌, ◌^◌, None, IfOk, IsTrue, MatchResult, count_by, length, map};
 ghost use Rattle.std.specs.List.{AllByRecursion};
 ghost use Rattle.std.specs.Option.{option_copied, option_to_list};
 ghost use Rattle.cg_cell.specs.Cover.{CoverFits};

@@ -1,10 +1,10 @@
 //! From parts to a netlist: what parts may get wrong, in order, and else their nets in net order.
 
-ghost use Rattle.std.specs.Prelude.{◌≡◌, ◌⊎◌, ◌<◌, ◌≤◌, ◌&&◌, ◌||◌, not, List, length, slice_get, IfOk, IsTrue, MatchResult};
-ghost use Rattle.std.specs.List.{All, AllByRecursion, list_any};
+ghost use Rattle.std.specs.Prelude.{◌≡◌, ◌⊎◌, ◌<◌, ◌&&◌, ◌||◌, List, length, IfOk, IsTrue, MatchResult};
+ghost use Rattle.std.specs.List.{All};
 ghost use Rattle.cg_cell.specs.Name.{is_name};
 ghost use Rattle.cg_netlist.specs.Circuit.{is_in};
-ghost use Rattle.cg_netlist.specs.Marks.{AreMarksOf, IsFirst, is_marked, marked_before};
+ghost use Rattle.cg_netlist.specs.Marks.{AreMarksOf, IsFirst};
 ghost use Rattle.cg_parts.specs.declared.fault.NetFault.TheVariants.{ClockFault, Cycle, NoDriver, NoMemory, TwoDrivers};
 ghost use Rattle.cg_builder.specs.inner.Finishing.{FindsFirstFault, has_no_clock};
 ghost use Rattle.cg_builder.specs.inner.Heard.{IsHeard};
@@ -34,18 +34,10 @@ pub(crate) fn finished(alloc: Global, model: Name, told: Told) -> Result<Netlist
     ensures { (parts : List Part) → said parts ≡ seen told
         → MatchResult result (λ netlist. Says model parts netlist) (λ fault. (fault ≡ NoMemory) ⊎ IsFault parts fault) }
 {
-    match check(alloc, &told) {
-        Ok(()) => (),
-        Err(fault) => return Err(fault),
-    }
-    let parts = match in_net_order(alloc, model, told) {
-        Ok(parts) => parts,
-        Err(_) => return Err(NetFault::NoMemory),
-    };
-    match Netlist::new(alloc, parts) {
-        Ok(netlist) => Ok(netlist),
-        Err(_) => Err(NetFault::NoMemory),
-    }
+    check(alloc, &told)?;
+    let parts = in_net_order(alloc, model, told)?;
+    let netlist = Netlist::new(alloc, parts)?;
+    Ok(netlist)
 }
 
 /// Looks for the faults of the parts, in their order.
@@ -55,34 +47,13 @@ fn check(alloc: Global, told: &Told) -> Result<(), NetFault>
     ensures { (parts : List Part) → said parts ≡ seen told.now
         → MatchResult result (λ _. IsFaultless parts) (λ fault. (fault ≡ NoMemory) ⊎ IsFault parts fault) }
 {
-    let drivers = match order(alloc, told, &told.clocks) {
-        Ok(drivers) => drivers,
-        Err(_) => return Err(NetFault::NoMemory),
-    };
-    match check_drivers(alloc, told, &drivers) {
-        Ok(()) => (),
-        Err(fault) => return Err(fault),
-    }
-    let used = match used_marks(alloc, told) {
-        Ok(used) => used,
-        Err(_) => return Err(NetFault::NoMemory),
-    };
-    match check_uses(alloc, told, &drivers, &used) {
-        Ok(()) => (),
-        Err(fault) => return Err(fault),
-    }
-    match check_cycles(alloc, told) {
-        Ok(()) => (),
-        Err(fault) => return Err(fault),
-    }
-    let roots = match clock_roots(alloc, told) {
-        Ok(roots) => roots,
-        Err(_) => return Err(NetFault::NoMemory),
-    };
-    match check_clocks(alloc, told, &roots, &used) {
-        Ok(()) => (),
-        Err(fault) => return Err(fault),
-    }
+    let drivers = order(alloc, told, &told.clocks)?;
+    check_drivers(alloc, told, &drivers)?;
+    let used = used_marks(alloc, told)?;
+    check_uses(alloc, told, &drivers, &used)?;
+    check_cycles(alloc, told)?;
+    let roots = clock_roots(alloc, told)?;
+    check_clocks(alloc, told, &roots, &used)?;
     if lacks_clock(told, &roots) {
         return Err(NetFault::NoClock);
     }
@@ -105,16 +76,10 @@ fn check_drivers(alloc: Global, told: &Told, drivers: &[NetId]) -> Result<(), Ne
     requires drivers { drivers.now ≡ driving told.now }
     ensures { FindsFirstFault told.now TwoDrivers (is_driven_twice told.now) result }
 {
-    let twice = match repeated(alloc, told.names.len(), drivers) {
-        Ok(twice) => twice,
-        Err(_) => return Err(NetFault::NoMemory),
-    };
+    let twice = repeated(alloc, told.names.len(), drivers)?;
     match first_marked(&twice) {
         None => Ok(()),
-        Some(net) => match name_of(alloc, told, net) {
-            Ok(name) => Err(NetFault::TwoDrivers(name)),
-            Err(_) => Err(NetFault::NoMemory),
-        },
+        Some(net) => Err(NetFault::TwoDrivers(name_of(alloc, told, net)?)),
     }
 }
 
@@ -126,16 +91,10 @@ fn check_uses(alloc: Global, told: &Told, drivers: &[NetId], used: &[bool]) -> R
     requires used { AreMarksOf used.now (length told.now.names) (is_in (in_use told.now)) }
     ensures { FindsFirstFault told.now NoDriver (is_undriven told.now) result }
 {
-    let driven = match marks(alloc, told.names.len(), drivers) {
-        Ok(driven) => driven,
-        Err(_) => return Err(NetFault::NoMemory),
-    };
+    let driven = marks(alloc, told.names.len(), drivers)?;
     match first_undriven(used, &driven) {
         None => Ok(()),
-        Some(net) => match name_of(alloc, told, net) {
-            Ok(name) => Err(NetFault::NoDriver(name)),
-            Err(_) => Err(NetFault::NoMemory),
-        },
+        Some(net) => Err(NetFault::NoDriver(name_of(alloc, told, net)?)),
     }
 }
 
@@ -145,16 +104,10 @@ fn check_cycles(alloc: Global, told: &Told) -> Result<(), NetFault>
     requires named { All (λ name. IsTrue (is_name name)) told.now.names }
     ensures { FindsFirstFault told.now Cycle (is_behind_cycle told.now) result }
 {
-    let unranked = match unranked_marks(alloc, told.names.len(), &told.cells) {
-        Ok(unranked) => unranked,
-        Err(_) => return Err(NetFault::NoMemory),
-    };
+    let unranked = unranked_marks(alloc, told.names.len(), &told.cells)?;
     match first_marked(&unranked) {
         None => Ok(()),
-        Some(net) => match name_of(alloc, told, net) {
-            Ok(name) => Err(NetFault::Cycle(name)),
-            Err(_) => Err(NetFault::NoMemory),
-        },
+        Some(net) => Err(NetFault::Cycle(name_of(alloc, told, net)?)),
     }
 }
 
@@ -166,20 +119,11 @@ fn check_clocks(alloc: Global, told: &Told, roots: &[NetId], used: &[bool]) -> R
     requires used { AreMarksOf used.now (length told.now.names) (is_in (in_use told.now)) }
     ensures { FindsFirstFault told.now ClockFault (is_bad_clock told.now) result }
 {
-    let root = match bad_root(alloc, told, roots, used) {
-        Ok(root) => root,
-        Err(_) => return Err(NetFault::NoMemory),
-    };
-    let gate = match bad_gate(alloc, told, used) {
-        Ok(gate) => gate,
-        Err(_) => return Err(NetFault::NoMemory),
-    };
+    let root = bad_root(alloc, told, roots, used)?;
+    let gate = bad_gate(alloc, told, used)?;
     match earlier(root, gate) {
         None => Ok(()),
-        Some(net) => match name_of(alloc, told, net) {
-            Ok(name) => Err(NetFault::ClockFault(name)),
-            Err(_) => Err(NetFault::NoMemory),
-        },
+        Some(net) => Err(NetFault::ClockFault(name_of(alloc, told, net)?)),
     }
 }
 

@@ -1,7 +1,5 @@
 //! Registers whose clock is still open.
 
-ghost use Rattle.std.specs.Prelude.{◌≡◌};
-
 use cg_netlist::id::NetId;
 use cg_netlist::parts::RegisterKind;
 use std::marker::Model;

@@ -5,7 +5,7 @@ ghost use Rattle.std.specs.List.{All, AllByRecursion, IsDistinct, position_or_le
 ghost use Rattle.std.specs.Option.{option_map, option_or, option_to_list};
 ghost use Rattle.cg_netlist.specs.Places.{number_in};
 ghost use Rattle.cg_builder.specs.inner.Heard.{IsReady};
-ghost use Rattle.cg_builder.specs.inner.Numbers.{AreNumbers, GaterWithin, clock_number, made_of, on_number, ordered_numbers, rooted, wired_numbers};
+ghost use Rattle.cg_builder.specs.inner.Numbers.{GaterWithin, clock_number, made_of, on_number, wired_numbers};
 ghost use Rattle.cg_netlist.specs.Wiring.{circuit, map_gater, map_wiring, net_name};
 
 use crate::open_register::OpenRegister;

@@ -7,9 +7,9 @@ use Rattle.cg_builder.proofs.finish.check_clocks.Goals as goal
 pub name_of-requires-clause-net : goal.name_of-requires-clause-net
 name_of-requires-clause-net c =
     let n = c.args.told.now in
-    (c.in-Some.ensures (length n.names) (λ net. is_in (rooted n) net && is_bad_root n net) (λ net. is_in (gated n) net && is_bad_gate n net) c.in-Ok.ensures c.in-Ok-bad_gate.ensures).0
+    (c.in-Some.ensures (length n.names) (λ net. is_in (rooted n) net && is_bad_root n net) (λ net. is_in (gated n) net && is_bad_gate n net) c.in_ok-root.ensures c.in_ok-gate.ensures).0
 
-pub returns-in-Ok-name_of : goal.returns-in-Ok-name_of
-returns-in-Ok-name_of c =
+pub returns-in_ok-name_of-in-Some : goal.returns-in_ok-name_of-in-Some
+returns-in_ok-name_of-in-Some c =
     let n = c.args.told.now in
-    inr (c.in-Some.net, ap (λ m. ClockFault m) c.in-Ok-name_of.ensures, c.in-Some.ensures (length n.names) (λ net. is_in (rooted n) net && is_bad_root n net) (λ net. is_in (gated n) net && is_bad_gate n net) c.in-Ok.ensures c.in-Ok-bad_gate.ensures)
+    inr (c.in-Some.net, ap (λ m. ClockFault m) c.in_ok-name_of-in-Some.ensures, c.in-Some.ensures (length n.names) (λ net. is_in (rooted n) net && is_bad_root n net) (λ net. is_in (gated n) net && is_bad_gate n net) c.in_ok-root.ensures c.in_ok-gate.ensures)

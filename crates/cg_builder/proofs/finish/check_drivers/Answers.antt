@@ -16,14 +16,14 @@ pub returns-in-None : goal.returns-in-None
 returns-in-None c =
     let n = c.args.told.now in
     subst (λ ds. IsFirst (length n.names) (λ net. nat_lt 1 (count_by (nat_eq net) ds)) None) c.requires.drivers
-    (marked_first c.in-Ok.twice.items c.deref.result.now c.len.result (length n.names) (λ net. nat_lt 1 (count_by (nat_eq net) c.args.drivers.now)) None c.deref.ensures.value (c.len.ensures.count ∙ ap (λ d. length d.names) c.told.view_is) c.in-Ok.ensures c.in-None.ensures)
+    (marked_first c.in_ok-twice.twice.items c.deref.result.now c.len.result (length n.names) (λ net. nat_lt 1 (count_by (nat_eq net) c.args.drivers.now)) None c.deref.ensures.value (c.len.ensures.count ∙ ap (λ d. length d.names) c.told.view_is) c.in_ok-twice.ensures c.in-None.ensures)
 
-pub returns-in-Ok-name_of : goal.returns-in-Ok-name_of
-returns-in-Ok-name_of c =
+pub returns : goal.returns
+returns c =
     let n = c.args.told.now in
     inr (
       c.in-Some.net,
-      ap (λ m. TwoDrivers m) c.in-Ok-name_of.ensures,
+      ap (λ m. TwoDrivers m) c.in_ok-name_of-in-Some.ensures,
       subst (λ ds. IsFirst (length n.names) (λ net. nat_lt 1 (count_by (nat_eq net) ds)) (Some c.in-Some.net)) c.requires.drivers
-          (marked_first c.in-Ok.twice.items c.deref.result.now c.len.result (length n.names) (λ net. nat_lt 1 (count_by (nat_eq net) c.args.drivers.now)) (Some c.in-Some.net) c.deref.ensures.value (c.len.ensures.count ∙ ap (λ d. length d.names) c.told.view_is) c.in-Ok.ensures c.in-Some.ensures),
+          (marked_first c.in_ok-twice.twice.items c.deref.result.now c.len.result (length n.names) (λ net. nat_lt 1 (count_by (nat_eq net) c.args.drivers.now)) (Some c.in-Some.net) c.deref.ensures.value (c.len.ensures.count ∙ ap (λ d. length d.names) c.told.view_is) c.in_ok-twice.ensures c.in-Some.ensures),
     )

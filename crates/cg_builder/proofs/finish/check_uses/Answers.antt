@@ -16,14 +16,14 @@ pub returns-in-None : goal.returns-in-None
 returns-in-None c =
     let n = c.args.told.now in
     subst (λ ds. IsFirst (length n.names) (λ net. is_in (used n) net && not (is_in ds net)) None) c.requires.drivers
-    (undriven_found c.args.used.now c.in-Ok.driven.items c.deref.result.now (length n.names) c.len.result (used n) c.args.drivers.now None c.deref.ensures.value (c.len.ensures.count ∙ ap (λ d. length d.names) c.told.view_is) c.requires.used c.in-Ok.ensures c.in-None.ensures)
+    (undriven_found c.args.used.now c.in_ok-driven.driven.items c.deref.result.now (length n.names) c.len.result (used n) c.args.drivers.now None c.deref.ensures.value (c.len.ensures.count ∙ ap (λ d. length d.names) c.told.view_is) c.requires.used c.in_ok-driven.ensures c.in-None.ensures)
 
-pub returns-in-Ok-name_of : goal.returns-in-Ok-name_of
-returns-in-Ok-name_of c =
+pub returns : goal.returns
+returns c =
     let n = c.args.told.now in
     inr (
       c.in-Some.net,
-      ap (λ m. NoDriver m) c.in-Ok-name_of.ensures,
+      ap (λ m. NoDriver m) c.in_ok-name_of-in-Some.ensures,
       subst (λ ds. IsFirst (length n.names) (λ net. is_in (used n) net && not (is_in ds net)) (Some c.in-Some.net)) c.requires.drivers
-          (undriven_found c.args.used.now c.in-Ok.driven.items c.deref.result.now (length n.names) c.len.result (used n) c.args.drivers.now (Some c.in-Some.net) c.deref.ensures.value (c.len.ensures.count ∙ ap (λ d. length d.names) c.told.view_is) c.requires.used c.in-Ok.ensures c.in-Some.ensures),
+          (undriven_found c.args.used.now c.in_ok-driven.driven.items c.deref.result.now (length n.names) c.len.result (used n) c.args.drivers.now (Some c.in-Some.net) c.deref.ensures.value (c.len.ensures.count ∙ ap (λ d. length d.names) c.told.view_is) c.requires.used c.in_ok-driven.ensures c.in-Some.ensures),
     )

@@ -214,10 +214,8 @@ impl Machine {
             return Ok(net);
         }
         let output = self.next_net()?;
-        match self.push_gate(kind, inputs, output) {
-            Ok(()) => Ok(output),
-            Err(_) => Err(AddFault::NoMemory),
-        }
+        self.push_gate(kind, inputs, output)?;
+        Ok(output)
     }
 
     /// The output net of the added gate of this kind with these inputs, if there is one.
@@ -275,10 +273,8 @@ impl Machine {
         }
         let output = self.next_net()?;
         self.check_registers()?;
-        match self.push_delay(net, output) {
-            Ok(()) => Ok(output),
-            Err(_) => Err(AddFault::NoMemory),
-        }
+        self.push_delay(net, output)?;
+        Ok(output)
     }
 
     /// The output net of the delay register of a net, if there is one.

@@ -35,10 +35,8 @@ impl Machine {
         for id in cells {
             let inputs = self.inputs_of(*id);
             gather(values, inputs, scratch);
-            match step(state, *id, &scratch[..inputs.len()]) {
-                Ok(answer) => put(values, self.output_of(*id), answer),
-                Err(fault) => return Err(fault),
-            }
+            let answer = step(state, *id, &scratch[..inputs.len()])?;
+            put(values, self.output_of(*id), answer);
         }
         Ok(())
     }

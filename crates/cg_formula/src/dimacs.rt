@@ -1,12 +1,12 @@
 //! The DIMACS CNF text of a formula.
 
-ghost use Rattle.std.specs.Prelude.{◌≡◌, ◌∷◌, ◌++◌, ◌<◌, ◌^◌, Ok, IfOk, OnOk, length};
+ghost use Rattle.std.specs.Prelude.{◌≡◌, ◌++◌, ◌<◌, Ok, IfOk, OnOk};
 ghost use Rattle.cg_limit.specs.Answers.{OrNoMemory};
 ghost use Rattle.cg_text.specs.Written.{line_text};
 ghost use Rattle.cg_formula.specs.Bounds.{IsFormula};
 ghost use Rattle.cg_formula.specs.declared.formula.Formula.{Formula};
 ghost use Rattle.cg_formula.specs.declared.dimacs.DimacsFault.TheVariants.{NoMemory};
-ghost use Rattle.cg_formula.specs.DimacsText.{DimacsText, header_words, clause_words, dimacs_text};
+ghost use Rattle.cg_formula.specs.DimacsText.{DimacsText, header_words, dimacs_text};
 ghost use Rattle.cg_formula.specs.DimacsReading.{counts_of, header_of, clause_at, clauses_at, dimacs};
 
 use crate::formula::{Clause, Formula};

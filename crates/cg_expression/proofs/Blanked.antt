@@ -1,13 +1,14 @@
 -- The faults of a reading do not depend on its terms.
-use Rattle.std.proofs.Common.{◌≡◌, ℕ, ◌+◌, Bool, true, false, cond, ◌&&◌, not, ◌||◌, nat_le, nat_lt, ◌==◌, slice_index, List, [], ◌∷◌, map, Option, None, Some, Result, Ok, Err, refl, ap, sym, ◌∙◌, subst, arith}
+use Rattle.std.proofs.Common.{◌≡◌, ℕ, ◌+◌, Bool, true, false, cond, ◌&&◌, not, ◌||◌, nat_le, nat_lt, ◌==◌, slice_index, List, [], ◌∷◌, map, Option, None, Some, Result, Ok, Err, inl, inr, refl, ap, sym, ◌∙◌, subst, arith}
 use Rattle.std.proofs.lemmas.Bool.Decides.{nat_tests}
 use Rattle.std.specs.List.{list_any, position_from}
 use Rattle.std.specs.Str.{bytes_eq}
+use Rattle.cg_limit.specs.Answers.{OrNoMemory}
 use Rattle.cg_limit.specs.declared.TheConstants.{MOST_NESTING}
 use Rattle.cg_cell.specs.Term.{Term, Bit, Inverse}
 use Rattle.cg_expression.specs.Reading.{Pending, OrLeft, AndLeft, XorLeft, Inversion, Bracket, Ended, Mode, Expects, Has, after, and_end, at_end, begin, closed, complete, constant, finish, go_on, has_leaf, inv_end, join_and, join_or, join_xor, leaf, nesting, opened, or_end, read_on, step, variable, xor_end}
 use Rattle.cg_expression.specs.Tokens.{TokenKind, Token, Word, OrSign, AndSign, XorSign, NotSign, PrimeSign, OpenBracket, CloseBracket, Other, is_digit, is_letter}
-use Rattle.cg_expression.specs.Reads.{ExprOrNoMemory, settled}
+use Rattle.cg_expression.specs.Reads.{settled}
 use Rattle.cg_expression.specs.inner.Blanked.{blank, blanks, blank_mode, blanked, is_known, stand_in, with_constants}
 use Rattle.cg_expression.specs.declared.fault.ExprFault.{ExprFault}
 use Rattle.cg_expression.specs.declared.fault.ExprFault.TheVariants.{BadExpr, UnknownPin, TooDeep, NoMemory}
@@ -174,17 +175,12 @@ pub checked_fault : (pins : List (List ℕ)) (end : ℕ) (mode : Mode) (fault : 
 checked_fault pins end mode fault token tokens h = same_end pins end (step pins mode token) (Err fault) tokens h ∙ ap settled (fault_to_end pins end fault tokens)
 
 -- the fault of a token is the answer, and want of memory may come in place of any
-pub refused : {A B : Type 0} (view : A → Mode) (none : B → Unit {0}) (pins : List (List ℕ)) (end : ℕ) (mode : Mode) (fault : ExprFault) (token : Token) (tokens all : List Token) (whole : Result (Unit {0}) ExprFault) → ExprOrNoMemory view (Err fault) (blanked (step pins mode token)) → all ≡ token ∷ tokens → settled (read_on pins end (Ok mode) all) ≡ whole → ExprOrNoMemory none (Err fault) whole
-refused view none pins end mode fault token tokens all whole h is same = go fault h
+pub refused : {A B : Type 0} (view : A → Mode) (none : B → Unit {0}) (pins : List (List ℕ)) (end : ℕ) (mode : Mode) (fault : ExprFault) (token : Token) (tokens all : List Token) (whole : Result (Unit {0}) ExprFault) → OrNoMemory NoMemory view (Err fault) (blanked (step pins mode token)) → all ≡ token ∷ tokens → settled (read_on pins end (Ok mode) all) ≡ whole → OrNoMemory NoMemory none (Err fault) whole
+refused view none pins end mode fault token tokens all whole (inl none_left) is same = inl none_left
+refused view none pins end mode fault token tokens all whole (inr h) is same = inr (sym whole_is ∙ checked_fault pins end mode fault token tokens h)
   where
     whole_is : settled (read_on pins end (Ok mode) (token ∷ tokens)) ≡ whole
     whole_is = subst (λ (ts : List Token). settled (read_on pins end (Ok mode) ts) ≡ whole) is same
-
-    go : (fault : ExprFault) → ExprOrNoMemory view (Err fault) (blanked (step pins mode token)) → ExprOrNoMemory none (Err fault) whole
-    go NoMemory h = tt
-    go (BadExpr at) h = sym whole_is ∙ checked_fault pins end mode (BadExpr at) token tokens h
-    go (UnknownPin at) h = sym whole_is ∙ checked_fault pins end mode (UnknownPin at) token tokens h
-    go (TooDeep at) h = sym whole_is ∙ checked_fault pins end mode (TooDeep at) token tokens h
 
 -- A constant in the place of a name
 

@@ -1,15 +1,15 @@
 -- A fault that is read stands at the first token with which no expression begins; what stands before it can be completed.
-use Rattle.std.proofs.Common.{◌≡◌, ℕ, ◌+◌, Bool, true, false, cond, List, [], ◌∷◌, ◌++◌, Option, None, Some, Result, Ok, Err, refl, ap, sym, ◌∙◌, subst, length, append_assoc, append-nil}
+use Rattle.std.proofs.Common.{◌≡◌, ℕ, ◌+◌, Bool, true, false, cond, List, [], ◌∷◌, ◌++◌, Option, None, Some, Result, Ok, Err, inl, inr, refl, ap, sym, ◌∙◌, subst, length, append_assoc, append-nil}
 use Rattle.std.specs.Prelude.{IfErr, nat_lt, slice_index}
 use Rattle.std.specs.List.{position_from}
 use Rattle.std.specs.Str.{bytes_eq}
+use Rattle.cg_limit.specs.Answers.{OrNoMemory}
 use Rattle.cg_limit.specs.declared.TheConstants.{MOST_NESTING}
 use Rattle.cg_cell.specs.Expr.{term_of}
 use Rattle.cg_expression.specs.Faults.{CanGoOn, FailsAt, IsFirstExprFault, NoneBegins, first_place}
 use Rattle.cg_expression.specs.Grammar.{Level, AtomLevel, PrimeLevel, NotLevel, XorLevel, AndLevel, OrLevel, ParsesAs, word, brackets, unprimed, upright, inverted, one_of, xor, factor, and, neighbours, summand, or}
 use Rattle.cg_expression.specs.Reading.{Pending, OrLeft, AndLeft, XorLeft, Inversion, Bracket, Ended, Mode, Expects, Has, after, and_end, begin, closed, complete, constant, finish, go_on, has_leaf, leaf, nesting, opened, or_end, read_on, read_text, step, variable}
 use Rattle.cg_expression.specs.Tokens.{TokenKind, Token, Word, OrSign, AndSign, XorSign, NotSign, PrimeSign, OpenBracket, CloseBracket, Other, is_digit, is_letter, tokens_from}
-use Rattle.cg_expression.specs.Reads.{ExprOrNoMemory}
 use Rattle.cg_cell.specs.Term.{Term, Bit, Inverse, Both, Either, Differ}
 use Rattle.cg_cell.specs.declared.expr.Expr.{Expr}
 use Rattle.cg_expression.specs.declared.fault.ExprFault.{ExprFault}
@@ -246,9 +246,7 @@ read_faults pins text fault is = shown fault (locate pins (length text) (Expects
     shown NoMemory found = tt
 
 -- a fault that is answered is the text's first fault, or want of memory
-pub answered_faults : (pins : List (List ℕ)) (text : List ℕ) (r : Result Expr ExprFault) → ExprOrNoMemory term_of r (read_text pins text) → IfErr r (IsFirstExprFault pins text)
+pub answered_faults : (pins : List (List ℕ)) (text : List ℕ) (r : Result Expr ExprFault) → OrNoMemory NoMemory term_of r (read_text pins text) → IfErr r (IsFirstExprFault pins text)
 answered_faults pins text (Ok e) g = tt
-answered_faults pins text (Err (BadExpr at)) g = read_faults pins text (BadExpr at) g
-answered_faults pins text (Err (UnknownPin at)) g = read_faults pins text (UnknownPin at) g
-answered_faults pins text (Err (TooDeep at)) g = read_faults pins text (TooDeep at) g
-answered_faults pins text (Err NoMemory) g = tt
+answered_faults pins text (Err fault) (inl none) = subst (IsFirstExprFault pins text) (sym none) tt
+answered_faults pins text (Err fault) (inr g) = read_faults pins text fault g

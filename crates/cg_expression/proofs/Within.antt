@@ -3,15 +3,15 @@ use Rattle.std.proofs.Common.{◌≡◌, ℕ, ◌+◌, ◌<◌, Bool, true, fals
 use Rattle.std.proofs.lemmas.Bool.Decides.{nat_tests}
 use Rattle.std.specs.List.{position_from}
 use Rattle.std.specs.Str.{bytes_eq}
+use Rattle.cg_limit.specs.Answers.{OrNoMemory}
 use Rattle.cg_limit.specs.declared.TheConstants.{MOST_NESTING}
 use Rattle.cg_expression.specs.Reading.{Pending, OrLeft, AndLeft, XorLeft, Inversion, Bracket, Ended, Mode, Expects, Has, after, and_end, begin, closed, complete, constant, finish, go_on, has_leaf, inv_end, join_and, join_or, join_xor, leaf, nesting, or_end, read_on, read_text, variable, xor_end}
 use Rattle.cg_expression.specs.Tokens.{TokenKind, Token, Word, OrSign, AndSign, XorSign, NotSign, PrimeSign, OpenBracket, CloseBracket, Other, is_digit, is_letter, tokens_from}
 use Rattle.cg_cell.specs.Term.{Term, Bit, Inverse, is_within}
 use Rattle.cg_cell.specs.Expr.{is_over, term_of}
-use Rattle.cg_expression.specs.Reads.{ExprOrNoMemory}
 use Rattle.cg_cell.specs.declared.expr.Expr.{Expr}
 use Rattle.cg_expression.specs.declared.fault.ExprFault.{ExprFault}
-use Rattle.cg_expression.specs.declared.fault.ExprFault.TheVariants.{BadExpr, TooDeep}
+use Rattle.cg_expression.specs.declared.fault.ExprFault.TheVariants.{BadExpr, TooDeep, NoMemory}
 use Rattle.cg_cell.proofs.Terms.{says_term}
 
 module _ (n : ℕ) where
@@ -178,7 +178,7 @@ module _ (pins : List (List ℕ)) where
   read_on-within end reading (token ∷ tokens) h = read_on-within end (after pins reading token) tokens (after-within reading token h)
 
 -- what is read names no input but the pins
-pub read_within : (pins : List (List ℕ)) (text : List ℕ) (r : Result Expr ExprFault) → ExprOrNoMemory term_of r (read_text pins text) → IfOk r (λ e. IsTrue (is_within (length pins) (term_of e)))
+pub read_within : (pins : List (List ℕ)) (text : List ℕ) (r : Result Expr ExprFault) → OrNoMemory NoMemory term_of r (read_text pins text) → IfOk r (λ e. IsTrue (is_within (length pins) (term_of e)))
 read_within pins text (Ok e) g = subst (ReadsWithin (length pins) (Within (length pins))) g (read_on-within pins (length text) (Ok (Expects [])) (tokens_from false 0 text) tt)
 read_within pins text (Err fault) g = tt
 

@@ -3,8 +3,10 @@
 ghost use Rattle.std.specs.Prelude.{◌≡◌, ℕ, List};
 ghost use Rattle.std.specs.List.{list_any};
 ghost use Rattle.std.specs.Str.{bytes_eq};
+ghost use Rattle.cg_limit.specs.Answers.{OrNoMemory};
+ghost use Rattle.cg_expression.specs.declared.fault.ExprFault.TheVariants.{NoMemory};
 ghost use Rattle.cg_expression.specs.Reading.{read_text, step};
-ghost use Rattle.cg_expression.specs.Reads.{ExprOrNoMemory, mode_of, settled};
+ghost use Rattle.cg_expression.specs.Reads.{mode_of, settled};
 ghost use Rattle.cg_expression.specs.inner.Blanked.{blank_mode, blanked, is_known, with_constants};
 ghost use Rattle.cg_expression.specs.inner.TokensSeen.{token_of};
 
@@ -28,7 +30,7 @@ pub trait Names {
 /// It takes no memory that grows with the text, and looks at each word once.
 #[tactic(auto, using(crate::proofs::Blanked::checks))]
 pub fn check_expr<N: Names>(alloc: Global, text: &[u8], names: &N) -> Result<(), ExprFault>
-    ensures { ExprOrNoMemory (λ _. tt) result (settled (read_text (N.names names.now) text.now)) }
+    ensures { OrNoMemory NoMemory (λ _. tt) result (settled (read_text (N.names names.now) text.now)) }
 {
     let mut tokens = Tokens::new(text);
     let mut reading = Reading::new(alloc);
@@ -52,7 +54,7 @@ fn checked<N: Names>(
     reading: Reading,
     token: Token<'_>,
 ) -> Result<Reading, ExprFault>
-    ensures { ExprOrNoMemory (λ r. blank_mode (mode_of r.operand r.stack)) result
+    ensures { OrNoMemory NoMemory (λ r. blank_mode (mode_of r.operand r.stack)) result
         (blanked (step (N.names names.now) (mode_of reading.operand reading.stack) (token_of token.entry))) }
 {
     match after(alloc, &[], reading, known_as_constant(names, token)) {

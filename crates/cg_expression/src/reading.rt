@@ -5,12 +5,14 @@ ghost use Rattle.std.specs.List.{position_from};
 ghost use Rattle.std.specs.Str.{bytes_eq};
 ghost use Rattle.cg_cell.specs.Expr.{is_over, term_of};
 ghost use Rattle.cg_cell.specs.Term.{Term, is_within};
+ghost use Rattle.cg_limit.specs.Answers.{OrNoMemory};
+ghost use Rattle.cg_expression.specs.declared.fault.ExprFault.TheVariants.{NoMemory};
 ghost use Rattle.cg_expression.specs.Faults.{IsFirstExprFault};
 ghost use Rattle.cg_expression.specs.Grammar.{ExprText};
 ghost use Rattle.cg_expression.specs.Reading.{begin, Expects, closed, constant, finish, go_on, complete, leaf};
-ghost use Rattle.cg_expression.specs.Reading.{opened, or_end, read_text, step, variable, Bracket, Inversion};
+ghost use Rattle.cg_expression.specs.Reading.{opened, or_end, read_text, step, Bracket, Inversion};
 ghost use Rattle.cg_expression.specs.inner.TokensSeen.{token_of};
-ghost use Rattle.cg_expression.specs.Reads.{ExprOrNoMemory, mode_of};
+ghost use Rattle.cg_expression.specs.Reads.{mode_of};
 
 use crate::fault::ExprFault;
 use crate::join::inverse;
@@ -54,10 +56,10 @@ impl Reading {
 /// `TooDeep` with the place of the bracket or `!` that would be the 65th open one.
 pub fn read_expr(alloc: Global, text: &[u8], pins: &[Name]) -> Result<Expr, ExprFault>
     requires { length pins.now < 2 ^ 32 }
-    ensures exact { ExprOrNoMemory term_of result (read_text pins.now text.now) }
+    ensures exact { OrNoMemory NoMemory term_of result (read_text pins.now text.now) }
     ensures found { IfOk result (λ e. ExprText pins.now text.now (term_of e)) }
     ensures fault { IfErr result (IsFirstExprFault pins.now text.now) }
-    ensures grammar { (t : Term) → ExprText pins.now text.now t → ExprOrNoMemory term_of result (Ok t) }
+    ensures grammar { (t : Term) → ExprText pins.now text.now t → OrNoMemory NoMemory term_of result (Ok t) }
     ensures over { IfOk result (λ e. IsTrue (is_over (length pins.now) e)) }
     ensures within { IfOk result (λ e. IsTrue (is_within (length pins.now) (term_of e))) }
 {
@@ -68,7 +70,7 @@ pub fn read_expr(alloc: Global, text: &[u8], pins: &[Name]) -> Result<Expr, Expr
 #[tactic(auto, using(crate::proofs::Readings::faults))]
 fn read(alloc: Global, text: &[u8], pins: &[Name]) -> Result<Expr, ExprFault>
     requires { length pins.now < 2 ^ 32 }
-    ensures { ExprOrNoMemory term_of result (read_text pins.now text.now) }
+    ensures { OrNoMemory NoMemory term_of result (read_text pins.now text.now) }
 {
     let mut tokens = Tokens::new(text);
     let mut reading = Reading::new(alloc);
@@ -89,7 +91,7 @@ pub fn after(
     token: Token<'_>,
 ) -> Result<Reading, ExprFault>
     requires { length pins.now < 2 ^ 32 }
-    ensures { ExprOrNoMemory (λ r. mode_of r.operand r.stack) result (step pins.now (mode_of reading.operand reading.stack) (token_of token.entry)) }
+    ensures { OrNoMemory NoMemory (λ r. mode_of r.operand r.stack) result (step pins.now (mode_of reading.operand reading.stack) (token_of token.entry)) }
 {
     let Reading { operand, stack } = reading;
     match operand {
@@ -101,7 +103,7 @@ pub fn after(
 /// A token where an operand begins.
 fn first(pins: &[Name], stack: Stack, token: Token<'_>) -> Result<Reading, ExprFault>
     requires { length pins.now < 2 ^ 32 }
-    ensures { ExprOrNoMemory (λ r. mode_of r.operand r.stack) result (begin pins.now stack (token_of token.entry)) }
+    ensures { OrNoMemory NoMemory (λ r. mode_of r.operand r.stack) result (begin pins.now stack (token_of token.entry)) }
 {
     match token.kind {
         TokenKind::Word(word) => match word_leaf(pins, token.at, word) {
@@ -119,7 +121,7 @@ fn first(pins: &[Name], stack: Stack, token: Token<'_>) -> Result<Reading, ExprF
 
 /// A sign `!` opens.
 fn inversion(stack: Stack, at: usize) -> Result<Reading, ExprFault>
-    ensures { ExprOrNoMemory (λ r. mode_of r.operand r.stack) result (opened at Inversion stack) }
+    ensures { OrNoMemory NoMemory (λ r. mode_of r.operand r.stack) result (opened at Inversion stack) }
 {
     if stack.nesting() < MOST_NESTING {
         let stack = stack.open_inversion()?;
@@ -134,7 +136,7 @@ fn inversion(stack: Stack, at: usize) -> Result<Reading, ExprFault>
 
 /// A bracket opens.
 fn bracket(stack: Stack, at: usize) -> Result<Reading, ExprFault>
-    ensures { ExprOrNoMemory (λ r. mode_of r.operand r.stack) result (opened at Bracket stack) }
+    ensures { OrNoMemory NoMemory (λ r. mode_of r.operand r.stack) result (opened at Bracket stack) }
 {
     if stack.nesting() < MOST_NESTING {
         let stack = stack.open_bracket()?;
@@ -150,7 +152,7 @@ fn bracket(stack: Stack, at: usize) -> Result<Reading, ExprFault>
 /// The constant or the pin that a word is.
 fn word_leaf(pins: &[Name], at: usize, word: &[u8]) -> Result<Expr, ExprFault>
     requires { length pins.now < 2 ^ 32 }
-    ensures { ExprOrNoMemory term_of result (leaf pins.now at word.now) }
+    ensures { OrNoMemory NoMemory term_of result (leaf pins.now at word.now) }
 {
     let first = first_byte(word);
     if is_digit(first) {
@@ -177,7 +179,7 @@ pub fn first_byte(word: &[u8]) -> u8
 
 /// The constant that a word is.
 fn word_constant(at: usize, word: &[u8]) -> Result<Expr, ExprFault>
-    ensures { ExprOrNoMemory term_of result (constant at word.now) }
+    ensures { OrNoMemory NoMemory term_of result (constant at word.now) }
 {
     if word == b"0".as_slice() {
         Ok(Expr::Constant(false))
@@ -218,7 +220,7 @@ fn further(
     token: Token<'_>,
 ) -> Result<Reading, ExprFault>
     requires { length pins.now < 2 ^ 32 }
-    ensures { ExprOrNoMemory (λ r. mode_of r.operand r.stack) result (go_on pins.now (term_of operand) stack (token_of token.entry)) }
+    ensures { OrNoMemory NoMemory (λ r. mode_of r.operand r.stack) result (go_on pins.now (term_of operand) stack (token_of token.entry)) }
 {
     match token.kind {
         TokenKind::Prime => {
@@ -264,7 +266,7 @@ fn further(
 
 /// A bracket closes, where one is open.
 fn close(alloc: Global, operand: Expr, stack: Stack, at: usize) -> Result<Reading, ExprFault>
-    ensures { ExprOrNoMemory (λ r. mode_of r.operand r.stack) result (closed at (or_end (term_of operand) stack)) }
+    ensures { OrNoMemory NoMemory (λ r. mode_of r.operand r.stack) result (closed at (or_end (term_of operand) stack)) }
 {
     let Ended { operand, stack } = end_or(alloc, operand, stack)?;
     if stack.ends_in_bracket() {
@@ -279,7 +281,7 @@ fn close(alloc: Global, operand: Expr, stack: Stack, at: usize) -> Result<Readin
 
 /// The end of the text, which has that many bytes.
 pub fn end(alloc: Global, reading: Reading, length: usize) -> Result<Expr, ExprFault>
-    ensures { ExprOrNoMemory term_of result (finish length (mode_of reading.operand reading.stack)) }
+    ensures { OrNoMemory NoMemory term_of result (finish length (mode_of reading.operand reading.stack)) }
 {
     let Reading { operand, stack } = reading;
     match operand {
@@ -290,7 +292,7 @@ pub fn end(alloc: Global, reading: Reading, length: usize) -> Result<Expr, ExprF
 
 /// The whole expression, where nothing waits any more.
 fn complete(alloc: Global, operand: Expr, stack: Stack, length: usize) -> Result<Expr, ExprFault>
-    ensures { ExprOrNoMemory term_of result (complete length (or_end (term_of operand) stack)) }
+    ensures { OrNoMemory NoMemory term_of result (complete length (or_end (term_of operand) stack)) }
 {
     let Ended { operand, stack } = end_or(alloc, operand, stack)?;
     if stack.is_empty() {

@@ -1,6 +1,6 @@
 //! The words and signs of the text of an expression.
 
-ghost use Rattle.std.specs.Prelude.{◌≡◌, ◌∷◌, [], ◌+◌, ◌≤◌, ◌<◌, false, true, drop, length, MatchOption, slice_index, IsTrue, not};
+ghost use Rattle.std.specs.Prelude.{◌≡◌, ◌∷◌, [], ◌+◌, ◌≤◌, ◌<◌, false, drop, length, MatchOption, slice_index};
 ghost use Rattle.std.specs.List.{prefix_len};
 ghost use Rattle.cg_text.specs.Blanks.{is_white_space};
 ghost use Rattle.cg_expression.specs.Tokens.{is_digit, is_letter, is_word_byte, sign_of, tokens_from};

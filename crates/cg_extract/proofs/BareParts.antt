@@ -4,6 +4,7 @@ use Rattle.std.specs.List.{IsDistinct}
 use Rattle.std.specs.Option.{option_map, option_to_list}
 use Rattle.std.proofs.lemmas.List.{append-nil}
 use Rattle.std.proofs.lemmas.Option.{slice_get-map}
+use Rattle.cg_limit.specs.declared.TheConstants.{MOST_NETS, MOST_REGISTERS}
 use Rattle.cg_netlist.proofs.Used.{output_is_used}
 use Rattle.cg_parts.proofs.AtMostOne.{says_one}
 use Rattle.cg_parts.proofs.SaidByItsParts.{none_left, says_own}
@@ -73,8 +74,8 @@ module _ (c : Circuit) (whole : IsNetlist c) (once : IsDistinct nat_eq c.outputs
     open_yet = refl;
     each = parts_taken.each;
     within = within_limit (with_parts nothing_said (bare_parts c.names c)) (let nets = parts_taken.few_nets in let registers = parts_taken.few_registers in record {
-      nets = subst (λ s. length s.nets ≤ 1048576) (sym told_said) nets;
-      registers = subst (λ s. length s.registers ≤ 65536) (sym told_said) registers;
+      nets = subst (λ s. length s.nets ≤ MOST_NETS) (sym told_said) nets;
+      registers = subst (λ s. length s.registers ≤ MOST_REGISTERS) (sym told_said) registers;
     });
   }
 

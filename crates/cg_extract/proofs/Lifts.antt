@@ -6,6 +6,7 @@ use Rattle.std.specs.Option.{option_to_list}
 use Rattle.std.proofs.lemmas.Bool.{both_ways, eq-eqb, eqb-true, lt-ltb, or_cases, or_left}
 use Rattle.std.proofs.lemmas.List.{length-append, take_all}
 use Rattle.std.proofs.lemmas.Option.{same_Some, slice_get-get_or}
+use Rattle.cg_limit.specs.declared.TheConstants.{MOST_NETS}
 use Rattle.cg_cell.specs.Cover.{cover_value}
 use Rattle.cg_cell.specs.declared.fit.FitKind.TheVariants.{And2}
 use Rattle.cg_limit.specs.declared.Limit.{Limit}
@@ -162,8 +163,8 @@ module _ (c : Circuit) (prefix : List ℕ) (can : CanExtract c prefix) where
   unlimited None limit is = is
   unlimited (Some net) limit is = refl
 
-  has_room : (m : MachineData) → length m.circuit.names < 1048576 → nets_limit m ≡ None
-  has_room m small = ap (λ b. cond b None (Some Nets)) (lt-ltb (length m.circuit.names) 1048576 small)
+  has_room : (m : MachineData) → length m.circuit.names < MOST_NETS → nets_limit m ≡ None
+  has_room m small = ap (λ b. cond b None (Some Nets)) (lt-ltb (length m.circuit.names) MOST_NETS small)
 
   module _ (l : Lifting) (g : GatingCell ℕ) (k : ℕ) (at : slice_get c.gaters k ≡ Some g) (pin : (c.clock ≡ Some g.clock) ⊎ (is_in (taken l.enables) g.clock ≡ true)) (is : Lifts l) (few : length l.enables < length c.gaters) where
     abbrev m : MachineData
@@ -191,7 +192,7 @@ module _ (c : Circuit) (prefix : List ℕ) (can : CanExtract c prefix) where
         ];
       }
 
-      room : length m.circuit.names < 1048576
+      room : length m.circuit.names < MOST_NETS
       room = omega (arith, is.room, few, bare_long c can.netlist, can.netlist.nets)
 
       has : HasGate m And2 (e ∷ own ∷ []) (add_gate m And2 (e ∷ own ∷ []))

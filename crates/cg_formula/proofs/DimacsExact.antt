@@ -4,6 +4,7 @@ use Rattle.std.proofs.lemmas.Bool.{leb-true, le-leb}
 use Rattle.std.proofs.lemmas.Slice.Eq.{bytes_eq-Decides}
 use Rattle.std.specs.List.{flat_map, AllByRecursion}
 use Rattle.std.specs.Str.{bytes_eq}
+use Rattle.cg_limit.specs.Answers.{OrNoMemory}
 use Rattle.cg_limit.specs.declared.TheConstants.{MOST_VARIABLES}
 use Rattle.cg_text.specs.declared.lines.Line.{Line}
 use Rattle.cg_text.specs.declared.number.Number.{Number}
@@ -19,10 +20,10 @@ use Rattle.cg_formula.specs.declared.token.ClauseToken.{ClauseToken}
 use Rattle.cg_formula.specs.declared.token.ClauseToken.TheVariants as tokens
 use Rattle.cg_formula.specs.declared.dimacs.Header.{Header}
 use Rattle.cg_formula.specs.declared.dimacs.DimacsFault.{DimacsFault}
-use Rattle.cg_formula.specs.declared.dimacs.DimacsFault.TheVariants.{BadClause}
+use Rattle.cg_formula.specs.declared.dimacs.DimacsFault.TheVariants.{BadClause, NoMemory}
 use Rattle.cg_formula.specs.Bounds.{IsLit, IsClause}
 use Rattle.cg_formula.specs.Tokens.{clause_token}
-use Rattle.cg_formula.specs.DimacsReading.{layout, DimacsOrNoMemory, ◌>>=◌, counts_of, header_of, clause_at, clauses_at, formula_at, dimacs}
+use Rattle.cg_formula.specs.DimacsReading.{layout, ◌>>=◌, counts_of, header_of, clause_at, clauses_at, formula_at, dimacs}
 use Rattle.cg_formula.specs.DimacsText.{lit_word, clause_words, header_words, DimacsText}
 use Rattle.cg_formula.proofs.Connectives.{and_true}
 use Rattle.cg_formula.proofs.TokenSpelling.{literal_spelled, end_spelled, clause_token-lit, clause_token-zero}
@@ -217,6 +218,6 @@ text_is_read text formula t =
     (header_again formula t.bounds.few t.countable, clauses_again formula.variables (end_line text) (omega (arith, t.bounds.few)) formula.clauses t.bounds.clauses (spots_of t.later) t.body)
     refl
 
-pub given_is_text : (text : List ℕ) (r : Result Formula DimacsFault) → DimacsOrNoMemory (λ (f : Formula). f) r (dimacs text) → IfOk r (DimacsText text)
+pub given_is_text : (text : List ℕ) (r : Result Formula DimacsFault) → OrNoMemory NoMemory (λ (f : Formula). f) r (dimacs text) → IfOk r (DimacsText text)
 given_is_text text (Ok formula) e = read_is_text text formula e
 given_is_text text (Err fault) e = tt

@@ -1,11 +1,12 @@
 -- What was read before the rest of a text, put before what the rest gives.
-use Rattle.std.proofs.Common.{◌≡◌, ℕ, suc, List, [], ◌∷◌, ◌++◌, Result, Ok, Err, refl, sym, ap, ◌∙◌, append_assoc}
+use Rattle.std.proofs.Common.{◌≡◌, ℕ, suc, List, [], ◌∷◌, ◌++◌, Result, Ok, Err, inl, inr, refl, sym, ap, ◌∙◌, append_assoc}
+use Rattle.cg_limit.specs.Answers.{OrNoMemory}
 use Rattle.cg_text.specs.Spots.{Spot}
 use Rattle.cg_formula.specs.declared.formula.Lit.{Lit}
 use Rattle.cg_formula.specs.declared.formula.Clause.{Clause}
 use Rattle.cg_formula.specs.declared.dimacs.DimacsFault.{DimacsFault}
-use Rattle.cg_formula.specs.declared.dimacs.DimacsFault.TheVariants.{BadHeader, BadClause, Limit, NoMemory}
-use Rattle.cg_formula.specs.DimacsReading.{DimacsOrNoMemory, ◌>>=◌, clause_at, clauses_at}
+use Rattle.cg_formula.specs.declared.dimacs.DimacsFault.TheVariants.{NoMemory}
+use Rattle.cg_formula.specs.DimacsReading.{◌>>=◌, clause_at, clauses_at}
 
 abbrev pub lits_before : List Lit → Result (List Lit × List Spot) DimacsFault → Result (List Lit × List Spot) DimacsFault
 lits_before front (Ok r) = Ok (front ++ r.0, r.1)
@@ -35,12 +36,8 @@ clauses_stop front variables end n m left whole fault count e so_far = sym so_fa
 
 pub clauses_fault : (front : List Clause) (variables end n m : ℕ) (left : List Spot) (whole : Result (List Clause) DimacsFault) (fault : DimacsFault)
     {X Y : Type 0} (view : X → List Lit × List Spot) (all : Y → List Clause)
-    → n ≡ suc m → DimacsOrNoMemory view (Err fault) (clause_at variables end left) → clauses_before front (clauses_at variables end n left) ≡ whole
-    → DimacsOrNoMemory all (Err fault) whole
-clauses_fault front variables end n m left whole NoMemory view all count gives so_far = tt
-clauses_fault front variables end n m left whole BadHeader view all count gives so_far =
-    clauses_stop front variables end n m left whole BadHeader count gives so_far
-clauses_fault front variables end n m left whole (BadClause line) view all count gives so_far =
-    clauses_stop front variables end n m left whole (BadClause line) count gives so_far
-clauses_fault front variables end n m left whole (Limit limit) view all count gives so_far =
-    clauses_stop front variables end n m left whole (Limit limit) count gives so_far
+    → n ≡ suc m → OrNoMemory NoMemory view (Err fault) (clause_at variables end left) → clauses_before front (clauses_at variables end n left) ≡ whole
+    → OrNoMemory NoMemory all (Err fault) whole
+clauses_fault front variables end n m left whole fault view all count (inl none) so_far = inl none
+clauses_fault front variables end n m left whole fault view all count (inr e) so_far =
+    inr (clauses_stop front variables end n m left whole fault count e so_far)

@@ -19,7 +19,7 @@ use Rattle.cg_formula.specs.declared.token.ClauseToken.{ClauseToken}
 use Rattle.cg_formula.specs.declared.token.ClauseToken.TheVariants as tokens
 use Rattle.cg_formula.specs.declared.dimacs.Header.{Header}
 use Rattle.cg_formula.specs.declared.dimacs.DimacsFault.{DimacsFault}
-use Rattle.cg_formula.specs.declared.dimacs.DimacsFault.TheVariants.{BadHeader, BadClause, Limit, NoMemory}
+use Rattle.cg_formula.specs.declared.dimacs.DimacsFault.TheVariants.{BadHeader, BadClause, Limit}
 use Rattle.cg_formula.specs.Tokens.{clause_token}
 
 -- lines that begin with `c` are comments; white space separates words
@@ -31,14 +31,6 @@ infixl 10 ◌>>=◌
 abbrev pub ◌>>=◌ : {A B : Type 0} → Result A DimacsFault → (A → Result B DimacsFault) → Result B DimacsFault
 (Ok x) >>= f = f x
 (Err e) >>= f = Err e
-
--- what a function answered, seen by view, is what reading gives, unless memory ran out
-abbrev pub DimacsOrNoMemory : {X Y : Type 0} → (X → Y) → Result X DimacsFault → Result Y DimacsFault → Type 0
-DimacsOrNoMemory view (Ok x) read = read ≡ Ok (view x)
-DimacsOrNoMemory view (Err NoMemory) read = Unit {0}
-DimacsOrNoMemory view (Err BadHeader) read = read ≡ Err BadHeader
-DimacsOrNoMemory view (Err (BadClause line)) read = read ≡ Err (BadClause line)
-DimacsOrNoMemory view (Err (Limit limit)) read = read ≡ Err (Limit limit)
 
 -- how many variables and clauses the header names
 abbrev pub counts_of : Number → Number → Result Header DimacsFault

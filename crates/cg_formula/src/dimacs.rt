@@ -1,11 +1,13 @@
 //! The DIMACS CNF text of a formula.
 
-ghost use Rattle.std.specs.Prelude.{◌≡◌, ◌∷◌, ◌++◌, ◌<◌, ◌^◌, Ok, IfOk, OnOk, length};
+ghost use Rattle.std.specs.Prelude.{◌≡◌, ◌++◌, ◌<◌, Ok, IfOk, OnOk};
+ghost use Rattle.cg_limit.specs.Answers.{OrNoMemory};
 ghost use Rattle.cg_text.specs.Written.{line_text};
 ghost use Rattle.cg_formula.specs.Bounds.{IsFormula};
 ghost use Rattle.cg_formula.specs.declared.formula.Formula.{Formula};
-ghost use Rattle.cg_formula.specs.DimacsText.{DimacsText, header_words, clause_words, dimacs_text};
-ghost use Rattle.cg_formula.specs.DimacsReading.{DimacsOrNoMemory, counts_of, header_of, clause_at, clauses_at, dimacs};
+ghost use Rattle.cg_formula.specs.declared.dimacs.DimacsFault.TheVariants.{NoMemory};
+ghost use Rattle.cg_formula.specs.DimacsText.{DimacsText, header_words, dimacs_text};
+ghost use Rattle.cg_formula.specs.DimacsReading.{counts_of, header_of, clause_at, clauses_at, dimacs};
 
 use crate::formula::{Clause, Formula};
 use crate::token::{ClauseToken, push_clause, read_clause_token};
@@ -69,7 +71,7 @@ struct Header {
 
 /// The numbers of the first line.
 fn read_header(line: Words<'_>) -> Result<Header, DimacsFault>
-    ensures { DimacsOrNoMemory (λ header. header) result (header_of line.entry) }
+    ensures { OrNoMemory NoMemory (λ header. header) result (header_of line.entry) }
 {
     let mut words = line;
     let problem = words.next_word().ok_or(DimacsFault::BadHeader)?;
@@ -84,7 +86,7 @@ fn read_header(line: Words<'_>) -> Result<Header, DimacsFault>
 
 /// The numbers of variables and clauses.
 fn read_counts(variables: Number, clauses: Number) -> Result<Header, DimacsFault>
-    ensures { DimacsOrNoMemory (λ header. header) result (counts_of variables clauses) }
+    ensures { OrNoMemory NoMemory (λ header. header) result (counts_of variables clauses) }
 {
     match (variables, clauses) {
         (Number::Misspelled, _) | (_, Number::Misspelled | Number::Large) => {
@@ -105,7 +107,7 @@ fn read_clause(
     tokens: &mut Tokens<'_>,
     variables: u32,
 ) -> Result<Clause, DimacsFault>
-    ensures clause { DimacsOrNoMemory (λ clause. (clause.lits, tokens.new.left)) result (clause_at variables tokens.old.end tokens.old.left) }
+    ensures clause { OrNoMemory NoMemory (λ clause. (clause.lits, tokens.new.left)) result (clause_at variables tokens.old.end tokens.old.left) }
     ensures end { tokens.new.end ≡ tokens.old.end }
 {
     let mut lits = Vec::new(alloc);
@@ -131,7 +133,7 @@ fn read_clauses(
     tokens: &mut Tokens<'_>,
     header: Header,
 ) -> Result<Seq<Clause>, DimacsFault>
-    ensures { DimacsOrNoMemory (λ clauses. clauses) result (clauses_at header.variables tokens.old.end header.clauses tokens.old.left) }
+    ensures { OrNoMemory NoMemory (λ clauses. clauses) result (clauses_at header.variables tokens.old.end header.clauses tokens.old.left) }
 {
     let mut clauses = Vec::new(alloc);
     for _done in 0..header.clauses {
@@ -145,7 +147,7 @@ fn read_clauses(
 
 /// The formula, or the first fault.
 fn read_text(alloc: Global, text: &[u8]) -> Result<Formula, DimacsFault>
-    ensures { DimacsOrNoMemory (λ formula. formula) result (dimacs text.now) }
+    ensures { OrNoMemory NoMemory (λ formula. formula) result (dimacs text.now) }
 {
     let mut lines = Lines::new(text, LAYOUT);
     let Ok(first) = lines.next_line() else {
@@ -170,8 +172,8 @@ fn read_text(alloc: Global, text: &[u8]) -> Result<Formula, DimacsFault>
 /// on variables.
 pub fn read_dimacs(alloc: Global, text: &[u8]) -> Result<Formula, DimacsFault>
     ensures found { IfOk result (DimacsText text.now) }
-    ensures only { (formula : Formula) → DimacsText text.now formula → DimacsOrNoMemory (λ read. read) result (Ok formula) }
-    ensures exact { DimacsOrNoMemory (λ read. read) result (dimacs text.now) }
+    ensures only { (formula : Formula) → DimacsText text.now formula → OrNoMemory NoMemory (λ read. read) result (Ok formula) }
+    ensures exact { OrNoMemory NoMemory (λ read. read) result (dimacs text.now) }
 {
     read_text(alloc, text)
 }

@@ -2,6 +2,7 @@
 use Rattle.std.proofs.Common.{◌≡◌, ℕ, ◌+◌, ◌<◌, ◌≤◌, ◌^◌, if◌then◌else◌, List, length, take, Option, None, Some, Result, Ok, Err, MatchResult, refl, ap, sym, ◌∙◌, subst, inl, inr}
 use Rattle.std.specs.List.{All, AllByRecursion}
 use Rattle.std.proofs.lemmas.Bool.{le-leb}
+use Rattle.cg_limit.specs.declared.TheConstants.{MOST_NETS}
 use Rattle.cg_cell.specs.Cell.{CellData}
 use Rattle.cg_limit.specs.declared.Limit.{Limit}
 use Rattle.cg_limit.specs.declared.Limit.TheVariants.{Nets}
@@ -26,8 +27,8 @@ use Rattle.cg_insert.specs.Inserting.{IsWhole, RunsAs, StaysWritable, insertion,
 use Rattle.cg_insert.specs.inner.GatedParts.{gated_names, gated_parts}
 use Rattle.cg_insert.specs.inner.Telling.{MayTell, told}
 
-pub no_limit : (test : Option (List ℕ)) (m : MachineData) → first_gate m test + length (enables_of m) ≤ 1048576 → insertion_limit test m ≡ None
-no_limit test m small = ap {B = Option Limit} (λ b. if b then None else Some Nets) (le-leb (first_gate m test + length (enables_of m)) 1048576 small)
+pub no_limit : (test : Option (List ℕ)) (m : MachineData) → first_gate m test + length (enables_of m) ≤ MOST_NETS → insertion_limit test m ≡ None
+no_limit test m small = ap {B = Option Limit} (λ b. if b then None else Some Nets) (le-leb (first_gate m test + length (enables_of m)) MOST_NETS small)
 
 module _ (library : List CellData) (test : Option (List ℕ)) (m : MachineData) (good : IsMachine m) (can : CanInsert library test m) (own : IsNetlist (own_netlist m)) (small : insertion_limit test m ≡ None) where
   narrow : All (λ cell. length cell.inputs < 2 ^ 32) (take m.own_cells m.circuit.cells)

@@ -4,6 +4,7 @@ use Rattle.std.specs.List.{All, filter, filter_map, find, flat_map, range_with_l
 use Rattle.std.specs.Option.{option_to_list, option_flatten}
 use Rattle.std.proofs.lemmas.Bool.{both_ways, cases_Bool, eqb-true, or_cases, or_left, or_right, eq-eqb}
 use Rattle.std.proofs.lemmas.List.Elements.{All-head, All-tail}
+use Rattle.cg_limit.specs.declared.TheConstants.{MOST_REGISTERS}
 use Rattle.cg_cell.specs.Cell.{CellData}
 use Rattle.cg_cell.specs.Cover.{cover_value}
 use Rattle.cg_cell.specs.Fit.{is_fit, is_one}
@@ -105,7 +106,7 @@ few_names m good =
     let b = some_length m.enables in
     omega (arith, a, b, good.enables, good.few_registers, good.added_nets, good.small)
 
-pub few_enables : (m : MachineData) → IsMachine m → length (enables_of m) ≤ 65536
+pub few_enables : (m : MachineData) → IsMachine m → length (enables_of m) ≤ MOST_REGISTERS
 few_enables m good =
     let a = collect_length [] (filter_map (λ enable. enable) m.enables) in
     let b = some_length m.enables in

@@ -4,6 +4,7 @@ use Rattle.std.specs.List.{All, AllByRecursion, IsDistinct}
 use Rattle.std.specs.Option.{option_map, option_to_list}
 use Rattle.std.proofs.lemmas.Bool.{both_ways, cases_Bool, eq-eqb, false_from_ne_true, leb-true, or_left, or_right}
 use Rattle.std.proofs.lemmas.List.{append-nil, length-map, map-append}
+use Rattle.cg_limit.specs.declared.TheConstants.{MOST_NETS, MOST_REGISTERS}
 use Rattle.cg_cell.specs.Cell.{CellData}
 use Rattle.cg_cell.specs.Name.{is_name}
 use Rattle.cg_cell.specs.declared.fit.FitKind.{FitKind}
@@ -87,13 +88,13 @@ module _ (library : List CellData) (test : Option (List ℕ)) (m : MachineData) 
   abbrev both : IsWellFormed (inserted library test m) × IsInNetOrder (inserted library test m)
   both = insertion_is_formed library test m good can
 
-  nets_small : first_gate m test + length (enables_of m) ≤ 1048576
-  nets_small = elim (cases_Bool (nat_le (first_gate m test + length (enables_of m)) 1048576)) [
-    | inl within ↦ leb-true (first_gate m test + length (enables_of m)) 1048576 within
+  nets_small : first_gate m test + length (enables_of m) ≤ MOST_NETS
+  nets_small = elim (cases_Bool (nat_le (first_gate m test + length (enables_of m)) MOST_NETS)) [
+    | inl within ↦ leb-true (first_gate m test + length (enables_of m)) MOST_NETS within
     | inr above ↦ absurd (let e : ◌≡◌ {A = Option Limit} (Some Nets) None = sym (ap {B = Option Limit} (λ b. if b then None else Some Nets) above) ∙ small in cc)
   ]
 
-  few : length (inserted library test m).names ≤ 1048576
+  few : length (inserted library test m).names ≤ MOST_NETS
   few = let a = no_more_nets g both.0 in let b = names_count library test m good can in let c = nets_small in omega (arith, a, b, c, Rattle.std.proofs.Common.length-append m.circuit.names (option_to_list test))
 
   gate_width : (kind : FitKind) (n : ℕ) → HasInputs kind n → n < 2 ^ 32
@@ -173,7 +174,7 @@ module _ (library : List CellData) (test : Option (List ℕ)) (m : MachineData) 
     open_yet = refl;
     each = parts_taken.each;
     within = within_limit (with_parts nothing_said (gated_parts (gated_names test m) library test m)) (let nets = parts_taken.few_nets in let registers = parts_taken.few_registers in record {
-      nets = subst (λ s. length s.nets ≤ 1048576) (sym told_said) nets;
-      registers = subst (λ s. length s.registers ≤ 65536) (sym told_said) registers;
+      nets = subst (λ s. length s.nets ≤ MOST_NETS) (sym told_said) nets;
+      registers = subst (λ s. length s.registers ≤ MOST_REGISTERS) (sym told_said) registers;
     });
   }

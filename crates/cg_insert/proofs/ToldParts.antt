@@ -3,6 +3,7 @@ use Rattle.std.proofs.Common.{◌≡◌, ◌⊎◌, ℕ, zero, suc, ◌+◌, ◌
 use Rattle.std.specs.List.{AllByRecursion}
 use Rattle.std.proofs.lemmas.Bool.{both_ways, false_from_ne_true, lt-ltb, ltb-true}
 use Rattle.std.proofs.lemmas.List.{map-append}
+use Rattle.cg_limit.specs.declared.TheConstants.{MOST_NETS, MOST_REGISTERS}
 use Rattle.cg_limit.specs.declared.Limit.{Limit}
 use Rattle.cg_limit.specs.declared.Limit.TheVariants.{Nets, Registers}
 use Rattle.cg_machine.proofs.Lists.{below_or}
@@ -64,21 +65,21 @@ not_below : (m n : ℕ) → n ≤ m → nat_lt m n ≡ false
 not_below m n le = false_from_ne_true (nat_lt m n) (λ lt. let b = ltb-true m n lt in let none : ⊥ = omega (arith, b, le) in none)
 
 pub record Within (s : Said) : Type 0 where
-  pub nets : length s.nets ≤ 1048576
-  pub registers : length s.registers ≤ 65536
+  pub nets : length s.nets ≤ MOST_NETS
+  pub registers : length s.registers ≤ MOST_REGISTERS
 
 pub limit_within : (s : Said) → limit_of s ≡ None → Within s
-limit_within s is = go (nat_lt 1048576 (length s.nets)) (nat_lt 65536 (length s.registers)) refl refl is
+limit_within s is = go (nat_lt MOST_NETS (length s.nets)) (nat_lt MOST_REGISTERS (length s.registers)) refl refl is
   where
-    go : (a b : Bool) → nat_lt 1048576 (length s.nets) ≡ a → nat_lt 65536 (length s.registers) ≡ b → ◌≡◌ {A = Option Limit} (if a then Some Nets else if b then Some Registers else None) None → Within s
+    go : (a b : Bool) → nat_lt MOST_NETS (length s.nets) ≡ a → nat_lt MOST_REGISTERS (length s.registers) ≡ b → ◌≡◌ {A = Option Limit} (if a then Some Nets else if b then Some Registers else None) None → Within s
     go true b a_is b_is is = absurd (cc)
     go false true a_is b_is is = absurd (cc)
-    go false false a_is b_is is = record { nets = not_above 1048576 (length s.nets) a_is; registers = not_above 65536 (length s.registers) b_is }
+    go false false a_is b_is is = record { nets = not_above MOST_NETS (length s.nets) a_is; registers = not_above MOST_REGISTERS (length s.registers) b_is }
 
 pub within_limit : (s : Said) → Within s → limit_of s ≡ None
 within_limit s within =
-    ap {B = Option Limit} (λ b. if b then Some Nets else if nat_lt 65536 (length s.registers) then Some Registers else None) (not_below 1048576 (length s.nets) within.nets)
-    ∙ ap {B = Option Limit} (λ b. if b then Some Registers else None) (not_below 65536 (length s.registers) within.registers)
+    ap {B = Option Limit} (λ b. if b then Some Nets else if nat_lt MOST_REGISTERS (length s.registers) then Some Registers else None) (not_below MOST_NETS (length s.nets) within.nets)
+    ∙ ap {B = Option Limit} (λ b. if b then Some Registers else None) (not_below MOST_REGISTERS (length s.registers) within.registers)
 
 limit_front : (s : Said) (xs ys : List Part) → limit_of (with_parts s (xs ++ ys)) ≡ None → limit_of (with_parts s xs) ≡ None
 limit_front s xs ys is =

@@ -1,9 +1,10 @@
 -- The texts that stand for a library are those that are read as it.
-use Rattle.std.proofs.Common.{◌≡◌, ℕ, List, [], length, Option, None, Some, Result, Ok, Err, IfOk, MatchResult, refl, ap, ◌∙◌, arith}
+use Rattle.std.proofs.Common.{◌≡◌, ℕ, List, [], length, Option, None, Some, Result, Ok, Err, inl, inr, IfOk, MatchResult, refl, ap, ◌∙◌, arith}
+use Rattle.cg_limit.specs.Answers.{OrNoMemory}
 use Rattle.cg_cell.specs.Cell.{CellData}
 use Rattle.cg_cell.specs.declared.library.Library.{Library}
 use Rattle.cg_liberty.specs.LibText.{LibText}
-use Rattle.cg_liberty.specs.Library.{LibraryOrNoMemory, all_added, by_fault, cell_groups, library_of}
+use Rattle.cg_liberty.specs.Library.{all_added, by_fault, cell_groups, library_of}
 use Rattle.cg_liberty_text.specs.Statement.{Read, statements}
 use Rattle.cg_liberty_text.specs.Statement.Phase.{Start}
 use Rattle.cg_liberty_text.specs.Token.{tokens}
@@ -37,15 +38,11 @@ library_of_text text cells t =
     read ∙ adds (cell_groups t.read) [] cells t.described (record { few = t.few; distinct = t.distinct })
 
 -- an answer that stands for what is read, by the texts of libraries
-pub answer_found : (text : List ℕ) (answer : Result Library LibertyFault) → LibraryOrNoMemory answer (library_of text) → IfOk answer (λ library. LibText text library)
+pub answer_found : (text : List ℕ) (answer : Result Library LibertyFault) → OrNoMemory faults.NoMemory (λ (l : Library). l) answer (library_of text) → IfOk answer (λ library. LibText text library)
 answer_found text (Ok library) stands = text_of_library text library stands
 answer_found text (Err fault) stands = tt
 
-pub answer_only : (text : List ℕ) (answer : Result Library LibertyFault) (cells : List CellData) → LibraryOrNoMemory answer (library_of text) → LibText text cells → MatchResult answer (λ library. library ≡ cells) (λ fault. fault ≡ faults.NoMemory)
+pub answer_only : (text : List ℕ) (answer : Result Library LibertyFault) (cells : List CellData) → OrNoMemory faults.NoMemory (λ (l : Library). l) answer (library_of text) → LibText text cells → MatchResult answer (λ library. library ≡ cells) (λ fault. fault ≡ faults.NoMemory)
 answer_only text (Ok library) cells stands t = let is = library_of_text text cells t in cc
-answer_only text (Err (faults.BadToken at)) cells stands t = let is = library_of_text text cells t in cc
-answer_only text (Err (faults.BadGroup at)) cells stands t = let is = library_of_text text cells t in cc
-answer_only text (Err (faults.BadExpr name at)) cells stands t = let is = library_of_text text cells t in cc
-answer_only text (Err (faults.TwoCells name)) cells stands t = let is = library_of_text text cells t in cc
-answer_only text (Err (faults.Limit which)) cells stands t = let is = library_of_text text cells t in cc
-answer_only text (Err faults.NoMemory) cells stands t = refl
+answer_only text (Err fault) cells (inl none) t = none
+answer_only text (Err fault) cells (inr stands) t = let is = library_of_text text cells t in absurd (cc)

@@ -1,5 +1,5 @@
 -- The whole text of a library is spelled by the grammar exactly where it is read without a fault.
-use Rattle.std.proofs.Common.{◌≡◌, ◌≤◌, ℕ, Bool, true, false, cond, List, [], ◌∷◌, ◌++◌, length, codes, None, Result, Ok, Err, refl, sym, ap, ◌∙◌, subst, append_assoc, append-nil, arith}
+use Rattle.std.proofs.Common.{◌≡◌, ◌≤◌, ◌-◌, ℕ, Bool, true, false, cond, List, [], ◌∷◌, ◌++◌, length, codes, None, Result, Ok, Err, refl, sym, ap, ◌∙◌, subst, append_assoc, append-nil, arith}
 use Rattle.std.specs.Str.{bytes_eq}
 use Rattle.std.proofs.lemmas.Slice.Eq.{bytes_eq-Decides}
 use Rattle.cg_limit.specs.declared.TheConstants.{MOST_NESTING}
@@ -29,9 +29,9 @@ library_read end tokens read library =
     let group = library.group in
     let piece : Piece = record { tokens = tokens; statements = read } in
     let deep : 1 ≤ 1 = omega arith in
-    let row : statements end 1 Start (tokens_of group.pieces ++ group.last ∷ []) ≡ onto (statements_of group.pieces) (statements end 1 Start (group.last ∷ [])) = row_read end 1 (Spells 63) (λ piece rest spelled. spelled_read end 63 1 refl deep piece rest spelled) group.pieces (group.last ∷ []) group.inside in
+    let row : statements end 1 Start (tokens_of group.pieces ++ group.last ∷ []) ≡ onto (statements_of group.pieces) (statements end 1 Start (group.last ∷ [])) = row_read end 1 (Spells (MOST_NESTING - 1)) (λ piece rest spelled. spelled_read end (MOST_NESTING - 1) 1 refl deep piece rest spelled) group.pieces (group.last ∷ []) group.inside in
     ap (statements end 0 Start) (sym (append-nil tokens))
-    ∙ group_opened end 0 MOST_NESTING (SpellsAll 63) piece [] group (λ after. library_named end group.word after group.head.named library.named) refl refl row
+    ∙ group_opened end 0 MOST_NESTING (SpellsAll (MOST_NESTING - 1)) piece [] group (λ after. library_named end group.word after group.head.named library.named) refl refl row
     ∙ ap (λ (r : Read). put_statement (Open group.word.text group.texts) (onto (statements_of group.pieces) r)) (brace_closed end 1 group.last [] deep group.closes)
     ∙ whole group.word.text group.texts (statements_of group.pieces) (as_read [])
     ∙ ap as_read (append-nil (Open group.word.text group.texts ∷ statements_of group.pieces ++ Close ∷ []) ∙ sym group.stands)
@@ -47,7 +47,7 @@ done_end end (token ∷ after) h = faulted (unexpected token) h
 
 at_body : (end : ℕ) (word : Token) (texts : List (List ℕ)) (front : List Token) (brace : Token) (after : List Token) → IsHead word texts front → word.text ≡ codes "library" → brace.kind ≡ kinds.OpenBrace → Fine (statements end 1 Start after) → Spelled (front ++ brace ∷ after)
 at_body end word texts front brace after head named opens h =
-    let inner : Closed end 63 1 after = closed_within end (length after) 63 1 after (omega arith) refl (omega arith) h in
+    let inner : Closed end (MOST_NESTING - 1) 1 after = closed_within end (length after) (MOST_NESTING - 1) 1 after (omega arith) refl (omega arith) h in
     let nothing : inner.rest ≡ [] = done_end end inner.rest inner.fine in
     record {
       read = Open word.text texts ∷ statements_of inner.pieces ++ Close ∷ [];
@@ -62,7 +62,7 @@ at_body end word texts front brace after head named opens h =
           head = head;
           place = λ level cell. absurd (omega arith);
           opens = opens;
-          inside = subst (λ (rest : List Token). SpellsAll 63 inner.pieces (inner.last ∷ rest)) nothing inner.row;
+          inside = subst (λ (rest : List Token). SpellsAll (MOST_NESTING - 1) inner.pieces (inner.last ∷ rest)) nothing inner.row;
           closes = inner.closes;
           is = ap (λ (ts : List Token). front ++ brace ∷ ts) (inner.split ∙ ap (λ (rest : List Token). tokens_of inner.pieces ++ inner.last ∷ rest) nothing);
           stands = refl;

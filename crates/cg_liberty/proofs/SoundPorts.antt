@@ -1,9 +1,13 @@
 -- Ports that are found one by one.
 use Rattle.std.proofs.Common.{◌≡◌, Bool, true, false, cond, List, [], ◌∷◌, ◌++◌, Option, None, Some, refl, sym, ap, append_assoc}
-use Rattle.cg_liberty.specs.Port.{is_sound, prepended, sound_ports}
+use Rattle.cg_liberty.specs.Port.{is_sound, sound_ports}
 use Rattle.std.specs.Option.{option_map}
 use Rattle.cg_liberty.specs.declared.port.PinText.{PinText}
 use Rattle.cg_liberty.specs.declared.port.Port.{Port}
+
+-- ports before others, where these are sound
+abbrev pub prepended : List Port → Option (List Port) → Option (List Port)
+prepended ports later = option_map (λ others. ports ++ others) later
 
 one_more : (front : List Port) (port : Port) (later : Option (List Port)) → prepended front (option_map (λ ports. port ∷ ports) later) ≡ prepended (front ++ port ∷ []) later
 one_more front port None = refl

@@ -3,6 +3,7 @@ use Rattle.std.proofs.Common.{◌≡◌, ◌≤◌, ◌+◌, ◌-◌, ◌==◌, 
 use Rattle.std.specs.Str.{bytes_eq}
 use Rattle.std.proofs.lemmas.Bool.{and_parts, ltb-true}
 use Rattle.std.proofs.lemmas.Slice.Eq.{bytes_eq-Decides}
+use Rattle.cg_limit.specs.Answers.{OrNoMemory}
 use Rattle.cg_limit.specs.declared.TheConstants.{MOST_LIBRARY_CELLS, MOST_NESTING}
 use Rattle.cg_limit.specs.declared.Limit.TheVariants as limits
 use Rattle.cg_cell.specs.declared.library.Library.{Library}
@@ -24,7 +25,7 @@ use Rattle.cg_liberty_text.proofs.ReadIsSpelled.{Fine}
 use Rattle.cg_liberty_text.proofs.SpelledIsRead.{is_misplaced}
 use Rattle.cg_liberty.specs.FirstFault.{CanGoOn, FailsBy, IsFirstLibertyFault, IsTold, NoneBegins}
 use Rattle.cg_liberty.specs.Kinds.{cell_of}
-use Rattle.cg_liberty.specs.Library.{LibraryOrNoMemory, added, all_added, by_fault, cell_groups, library_of, text_refusal, then_add, with_cell}
+use Rattle.cg_liberty.specs.Library.{added, all_added, by_fault, cell_groups, library_of, text_refusal, then_add, with_cell}
 use Rattle.cg_liberty.specs.declared.fault.CellFault.{CellFault}
 use Rattle.cg_liberty.specs.declared.fault.CellFault.TheVariants as cells
 use Rattle.cg_liberty.specs.declared.group.CellGroup.{CellGroup}
@@ -222,25 +223,27 @@ all_for [] library = tt
 all_for (group ∷ groups) library =
     then_for (added library group) (λ next. all_added next groups) (added_for library group.name (cell_of group) (not (is_name group.name)) (nat_le MOST_LIBRARY_CELLS (length library)) (is_some (find_cell group.name library))) (λ next. all_for groups next)
 
-from_text : (text : List ℕ) (found : TextFault) (fault : LibertyFault) → FailsBy (length text) (tokens text) found → LibraryOrNoMemory (Err fault) (Err (text_refusal found)) → IsFirstLibertyFault text fault
-from_text text (texts.BadToken place) (faults.BadToken at) fails h = let same : place ≡ at = cc in subst (λ (q : ℕ). FailsBy (length text) (tokens text) (texts.BadToken q)) same fails
-from_text text (texts.BadGroup place) (faults.BadGroup at) fails h = let same : place ≡ at = cc in subst (λ (q : ℕ). FailsBy (length text) (tokens text) (texts.BadGroup q)) same fails
-from_text text texts.Nesting (faults.Limit which) fails h = inl fails
-from_text text found faults.NoMemory fails h = tt
-from_text text found fault fails h = absurd (cc)
+from_text : (text : List ℕ) (found : TextFault) (fault : LibertyFault) → FailsBy (length text) (tokens text) found → OrNoMemory {A = Library} {B = List CellData} faults.NoMemory (λ (l : Library). l) (Err fault) (Err (text_refusal found)) → IsFirstLibertyFault text fault
+from_text text found fault fails (inl none) = subst (IsFirstLibertyFault text) (sym none) tt
+from_text text (texts.BadToken place) (faults.BadToken at) fails (inr h) = let same : place ≡ at = cc in subst (λ (q : ℕ). FailsBy (length text) (tokens text) (texts.BadToken q)) same fails
+from_text text (texts.BadGroup place) (faults.BadGroup at) fails (inr h) = let same : place ≡ at = cc in subst (λ (q : ℕ). FailsBy (length text) (tokens text) (texts.BadGroup q)) same fails
+from_text text texts.Nesting (faults.Limit which) fails (inr h) = inl fails
+from_text text found faults.NoMemory fails (inr h) = tt
+from_text text found fault fails (inr h) = absurd (cc)
 
-from_cells : (text : List ℕ) (read : List Statement) (fault : LibertyFault) → SpellsLibrary (tokens text) read → LibraryOrNoMemory (Err fault) (all_added [] (cell_groups read)) → IsFirstLibertyFault text fault
-from_cells text read (faults.BadToken at) spelled h = absurd (subst IsForCells h (all_for (cell_groups read) []))
-from_cells text read (faults.BadGroup at) spelled h = absurd (subst IsForCells h (all_for (cell_groups read) []))
-from_cells text read (faults.BadExpr name at) spelled h = (read, spelled)
-from_cells text read (faults.TwoCells name) spelled h = (read, spelled)
-from_cells text read (faults.Limit which) spelled h = inr (read, spelled)
-from_cells text read faults.NoMemory spelled h = tt
+from_cells : (text : List ℕ) (read : List Statement) (fault : LibertyFault) → SpellsLibrary (tokens text) read → OrNoMemory {A = Library} {B = List CellData} faults.NoMemory (λ (l : Library). l) (Err fault) (all_added [] (cell_groups read)) → IsFirstLibertyFault text fault
+from_cells text read fault spelled (inl none) = subst (IsFirstLibertyFault text) (sym none) tt
+from_cells text read (faults.BadToken at) spelled (inr h) = absurd (subst IsForCells h (all_for (cell_groups read) []))
+from_cells text read (faults.BadGroup at) spelled (inr h) = absurd (subst IsForCells h (all_for (cell_groups read) []))
+from_cells text read (faults.BadExpr name at) spelled (inr h) = (read, spelled)
+from_cells text read (faults.TwoCells name) spelled (inr h) = (read, spelled)
+from_cells text read (faults.Limit which) spelled (inr h) = inr (read, spelled)
+from_cells text read faults.NoMemory spelled (inr h) = tt
 
-refused : (text : List ℕ) (read : List Statement) (found : Option TextFault) (fault : LibertyFault) → statements (length text) 0 Start (tokens text) ≡ (read, found) → LibraryOrNoMemory (Err fault) (by_fault found read) → IsFirstLibertyFault text fault
+refused : (text : List ℕ) (read : List Statement) (found : Option TextFault) (fault : LibertyFault) → statements (length text) 0 Start (tokens text) ≡ (read, found) → OrNoMemory {A = Library} {B = List CellData} faults.NoMemory (λ (l : Library). l) (Err fault) (by_fault found read) → IsFirstLibertyFault text fault
 refused text read (Some found) fault is h = from_text text found fault (first_fault (length text) (tokens text) found (ap (λ (r : Read). r.1) is)) h
 refused text read None fault is h = from_cells text read fault (library_spelled (length text) (tokens text) read is) h
 
-pub fault_found : (text : List ℕ) (answer : Result Library LibertyFault) → LibraryOrNoMemory answer (library_of text) → IfErr answer (IsFirstLibertyFault text)
+pub fault_found : (text : List ℕ) (answer : Result Library LibertyFault) → OrNoMemory faults.NoMemory (λ (l : Library). l) answer (library_of text) → IfErr answer (IsFirstLibertyFault text)
 fault_found text (Ok library) h = tt
 fault_found text (Err fault) h = let read = statements (length text) 0 Start (tokens text) in refused text read.0 read.1 fault refl h

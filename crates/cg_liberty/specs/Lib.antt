@@ -6,4 +6,4 @@ pub mod Kinds
 pub mod Library
 pub mod LibText
 pub mod FirstFault
-pub mod Checked
+pub mod inner

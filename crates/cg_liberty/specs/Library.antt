@@ -1,5 +1,5 @@
 -- The library that a text stands for, or its first fault.
-use Rattle.std.specs.Prelude.{◌≡◌, ℕ, nat_le, cond, not, List, [], ◌∷◌, ◌++◌, length, Option, None, Some, Result, Ok, Err}
+use Rattle.std.specs.Prelude.{ℕ, nat_le, cond, not, List, [], ◌∷◌, ◌++◌, length, Option, None, Some, Result, Ok, Err}
 use Rattle.std.specs.Option.{is_some}
 use Rattle.cg_limit.specs.declared.TheConstants.{MOST_LIBRARY_CELLS}
 use Rattle.cg_cell.specs.Cell.{CellData}
@@ -71,24 +71,3 @@ by_fault None read = all_added [] (cell_groups read)
 -- the library that a text stands for, or its first fault
 abbrev pub library_of : List ℕ → Result (List CellData) LibertyFault
 library_of text = let read = statements (length text) 0 Start (tokens text) in by_fault read.1 read.0
-
--- an answer stands for what a definition gives, unless memory was wanting
-abbrev pub LibraryOrNoMemory : Result Library LibertyFault → Result (List CellData) LibertyFault → Type 0
-LibraryOrNoMemory (Ok library) read = read ≡ Ok library
-LibraryOrNoMemory (Err (faults.BadToken at)) read = read ≡ Err (faults.BadToken at)
-LibraryOrNoMemory (Err (faults.BadGroup at)) read = read ≡ Err (faults.BadGroup at)
-LibraryOrNoMemory (Err (faults.BadExpr name at)) read = read ≡ Err (faults.BadExpr name at)
-LibraryOrNoMemory (Err (faults.TwoCells name)) read = read ≡ Err (faults.TwoCells name)
-LibraryOrNoMemory (Err (faults.Limit which)) read = read ≡ Err (faults.Limit which)
-LibraryOrNoMemory (Err faults.NoMemory) read = Unit {0}
-
--- a refusal stays, and memory may be wanting; else the cells of the groups are still to be added
-abbrev pub Remains : Result Library LibertyFault → List CellGroup → Result (List CellData) LibertyFault → Type 0
-Remains (Ok library) groups whole = whole ≡ all_added library groups
-Remains (Err faults.NoMemory) groups whole = Unit {0}
-Remains (Err fault) groups whole = whole ≡ Err fault
-
--- a library that was not refused yet takes the cell of one more group; a refusal stays
-abbrev pub Adds : Result Library LibertyFault → Result Library LibertyFault → CellGroup → Type 0
-Adds (Ok library) after group = LibraryOrNoMemory after (added library group)
-Adds (Err fault) after group = after ≡ Err fault

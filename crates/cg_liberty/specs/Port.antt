@@ -1,5 +1,5 @@
 -- The pins of a cell, from its `pin` groups.
-use Rattle.std.specs.Prelude.{ℕ, ◌≤◌, IsTrue, Bool, true, false, cond, not, ◌&&◌, ◌||◌, nat_le, List, [], ◌∷◌, ◌++◌, map, length, codes, Option, None, Some, option_map}
+use Rattle.std.specs.Prelude.{ℕ, ◌≤◌, IsTrue, Bool, true, false, cond, not, ◌&&◌, ◌||◌, nat_le, List, [], ◌∷◌, map, length, codes, Option, None, Some, option_map}
 use Rattle.std.specs.List.{AllByRecursion}
 use Rattle.std.specs.Str.{bytes_eq}
 use Rattle.cg_cell.specs.Name.{are_distinct, has_no_equals, is_name}
@@ -76,10 +76,6 @@ ports_among (Some pins) = ports_that_fit (sound_ports pins)
 -- the pins of a cell whose kind is to be looked for further
 abbrev pub ports_of : CellGroup → Option (List Port)
 ports_of cell = cond (cell.has_bus || not (has_no_equals cell.name)) None (ports_among cell.pins)
-
--- ports before others, where these are sound
-abbrev pub prepended : List Port → Option (List Port) → Option (List Port)
-prepended ports later = option_map (λ others. ports ++ others) later
 
 -- what is true of the pins of a cell whose kind is to be looked for further
 pub record ArePorts (ports : List Port) : Type 0 where

@@ -1,5 +1,5 @@
 -- The expressions of a cell.
-use Rattle.std.specs.Prelude.{◌≡◌, ℕ, List, [], ◌∷◌, Option, None, Some, Result, Ok, Err}
+use Rattle.std.specs.Prelude.{ℕ, List, [], ◌∷◌, Option, None, Some, Result, Ok, Err}
 use Rattle.cg_cell.specs.Term.{Term}
 use Rattle.cg_expression.specs.Reading.{read_text}
 use Rattle.cg_expression.specs.declared.fault.ExprFault.{ExprFault}
@@ -29,10 +29,3 @@ reading names (Some text) = taken (read_text names text)
 abbrev pub readings : List (List ℕ) → List (Option (List ℕ)) → Result (List (Option Term)) CellFault
 readings names [] = Ok []
 readings names (text ∷ texts) = then_read (reading names text) (λ term. then_read (readings names texts) (λ terms. Ok (term ∷ terms)))
-
--- an answer, seen by a view, is what a definition gives, unless memory was wanting
-abbrev pub CellOrNoMemory : {A B : Type 0} → (A → B) → Result A CellFault → Result B CellFault → Type 0
-CellOrNoMemory view (Ok x) read = read ≡ Ok (view x)
-CellOrNoMemory view (Err (cells.BadExpr at)) read = read ≡ Err (cells.BadExpr at)
-CellOrNoMemory view (Err cells.Nesting) read = read ≡ Err cells.Nesting
-CellOrNoMemory view (Err cells.NoMemory) read = Unit {0}

@@ -6,11 +6,13 @@
 ghost use Rattle.std.specs.Prelude.{◌≡◌, ◌++◌, IsTrue, false};
 ghost use Rattle.std.specs.List.{list_any};
 ghost use Rattle.std.specs.Str.{bytes_eq};
+ghost use Rattle.cg_limit.specs.Answers.{OrNoMemory};
 ghost use Rattle.cg_cell.specs.Name.{is_name};
 ghost use Rattle.cg_expression.specs.Reading.{read_text};
-ghost use Rattle.cg_liberty.specs.Checked.{faults_of, flop_checked, outputs_checked};
+ghost use Rattle.cg_liberty.specs.declared.fault.CellFault.TheVariants.{NoMemory};
+ghost use Rattle.cg_liberty.specs.inner.Checked.{faults_of, flop_checked, outputs_checked};
 ghost use Rattle.cg_liberty.specs.Kinds.{flop_cell, input_names, is_plain_flop, output_texts, state_names};
-ghost use Rattle.cg_liberty.specs.Reading.{CellOrNoMemory, reading, taken};
+ghost use Rattle.cg_liberty.specs.Reading.{reading, taken};
 
 use crate::fault::CellFault;
 use crate::flop::is_name_taken;
@@ -56,7 +58,7 @@ fn is_state(arguments: &IndexedArguments<'_>, word: &[u8]) -> bool
 
 /// Answers the fault of an expression over these names, where it has one.
 fn check_bytes(alloc: Global, bytes: &[u8], names: &Known<'_, '_>) -> Result<(), CellFault>
-    ensures { CellOrNoMemory (λ _. tt) result (faults_of (taken (read_text (names.now.inputs.now ++ state_names names.now.states.now) bytes.now))) }
+    ensures { OrNoMemory NoMemory (λ _. tt) result (faults_of (taken (read_text (names.now.inputs.now ++ state_names names.now.states.now) bytes.now))) }
 {
     match check_expr(alloc, bytes, names) {
         Ok(_) => Ok(()),
@@ -73,7 +75,7 @@ fn check_stated(
     text: &Option<Text<'_>>,
     names: &Known<'_, '_>,
 ) -> Result<(), CellFault>
-    ensures { CellOrNoMemory (λ _. tt) result (faults_of (reading (names.now.inputs.now ++ state_names names.now.states.now) text.now)) }
+    ensures { OrNoMemory NoMemory (λ _. tt) result (faults_of (reading (names.now.inputs.now ++ state_names names.now.states.now) text.now)) }
 {
     let Some(text) = text else {
         return Ok(());
@@ -89,7 +91,7 @@ fn check_stated(
 
 /// Answers the first fault of the functions of the output pins.
 fn check_outputs(alloc: Global, ports: &[Port<'_>], names: &Known<'_, '_>) -> Result<(), CellFault>
-    ensures { CellOrNoMemory (λ _. tt) result (outputs_checked (names.now.inputs.now ++ state_names names.now.states.now) (output_texts ports.now)) }
+    ensures { OrNoMemory NoMemory (λ _. tt) result (outputs_checked (names.now.inputs.now ++ state_names names.now.states.now) (output_texts ports.now)) }
 {
     'ports: for port in ports {
         if port.marks.is_output {
@@ -102,7 +104,7 @@ fn check_outputs(alloc: Global, ports: &[Port<'_>], names: &Known<'_, '_>) -> Re
 /// Answers the first fault of the expressions of a register.
 #[tactic(auto, using(crate::proofs::FaultsAlone::no_more))]
 fn check_register(alloc: Global, ports: &[Port<'_>], flop: &FlopGroup<'_>) -> Result<(), CellFault>
-    ensures { CellOrNoMemory (λ _. tt) result (flop_checked (input_names ports.now) (output_texts ports.now) flop.now) }
+    ensures { OrNoMemory NoMemory (λ _. tt) result (flop_checked (input_names ports.now) (output_texts ports.now) flop.now) }
 {
     let inputs = input_names_of(alloc, ports)?;
     let states = IndexedArguments::new(alloc, flop.names.again())?;
@@ -134,7 +136,7 @@ pub fn checked_cell_of(
 ) -> Result<CellType, CellFault>
     requires named { IsTrue (is_name name) }
     requires odd { is_plain_flop (input_names ports.now) flop.now ≡ false }
-    ensures { CellOrNoMemory (λ cell. cell) result (flop_cell name ports.now flop.now) }
+    ensures { OrNoMemory NoMemory (λ cell. cell) result (flop_cell name ports.now flop.now) }
 {
     check_register(alloc, ports, flop)?;
     Ok(unusable_cell(alloc, name))

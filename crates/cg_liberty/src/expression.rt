@@ -1,10 +1,12 @@
 //! The expressions of a cell.
 
 ghost use Rattle.std.specs.Prelude.{IfOk, IfSome, IsTrue, length, option_map};
+ghost use Rattle.cg_limit.specs.Answers.{OrNoMemory};
 ghost use Rattle.cg_cell.specs.Expr.{is_over, term_of};
 ghost use Rattle.cg_expression.specs.Reading.{read_text};
 ghost use Rattle.cg_cell.specs.Term.{is_within};
-ghost use Rattle.cg_liberty.specs.Reading.{CellOrNoMemory, reading, taken};
+ghost use Rattle.cg_liberty.specs.declared.fault.CellFault.TheVariants.{NoMemory};
+ghost use Rattle.cg_liberty.specs.Reading.{reading, taken};
 
 use crate::fault::CellFault;
 use cg_cell::expr::Expr;
@@ -15,7 +17,7 @@ use std::alloc::Global;
 
 /// Reads an expression over these names; none where it has another name.
 fn read_bytes(alloc: Global, bytes: &[u8], names: &[Name]) -> Result<Option<Expr>, CellFault>
-    ensures read { CellOrNoMemory (λ e. option_map term_of e) result (taken (read_text names.now bytes.now)) }
+    ensures read { OrNoMemory NoMemory (λ e. option_map term_of e) result (taken (read_text names.now bytes.now)) }
     ensures within { IfOk result (λ e. IfSome e (λ e. IsTrue (is_within (length names.now) (term_of e)))) }
     ensures over { IfOk result (λ e. IfSome e (λ e. IsTrue (is_over (length names.now) e))) }
 {
@@ -39,7 +41,7 @@ pub fn read_stated(
     text: &Option<Text<'_>>,
     names: &[Name],
 ) -> Result<Option<Expr>, CellFault>
-    ensures read { CellOrNoMemory (λ e. option_map term_of e) result (reading names.now text.now) }
+    ensures read { OrNoMemory NoMemory (λ e. option_map term_of e) result (reading names.now text.now) }
     ensures within { IfOk result (λ e. IfSome e (λ e. IsTrue (is_within (length names.now) (term_of e)))) }
     ensures over { IfOk result (λ e. IfSome e (λ e. IsTrue (is_over (length names.now) e))) }
 {

@@ -3,14 +3,15 @@
 ghost use Rattle.std.specs.Prelude.{◌≡◌, ◌+◌, ◌≤◌, ◌<◌, ◌++◌, ◌==◌, ◌&&◌, ◌||◌, ℕ, List, IfOk, IfSome, IsTrue, OnOk, Some, count_by, length, not, option_map, true};
 ghost use Rattle.std.specs.List.{list_any};
 ghost use Rattle.std.specs.Str.{bytes_eq};
+ghost use Rattle.cg_limit.specs.Answers.{OrNoMemory};
 ghost use Rattle.cg_cell.specs.Expr.{is_over, term_of};
 ghost use Rattle.cg_cell.specs.Name.{are_distinct, is_name};
 ghost use Rattle.cg_cell.specs.Pins.{is_state};
 ghost use Rattle.cg_cell.specs.Term.{is_within};
+ghost use Rattle.cg_liberty.specs.declared.fault.CellFault.TheVariants.{NoMemory};
 ghost use Rattle.cg_liberty.specs.Kinds.{all_known, are_flop_pins, flop_cell, flop_of, flop_pins, flop_with_parts, input_names, inverse_by};
 ghost use Rattle.cg_liberty.specs.Kinds.{inverses_read, is_inverse, is_plain_flop, output_role, output_texts, rest_of, restated, state_names};
-ghost use Rattle.cg_liberty.specs.Port.{ArePorts, is_there, text_of};
-ghost use Rattle.cg_liberty.specs.Reading.{CellOrNoMemory, reading, readings};
+ghost use Rattle.cg_liberty.specs.Port.{ArePorts, is_there};
 
 use crate::checked::checked_cell_of;
 use crate::expression::read_stated;
@@ -128,7 +129,7 @@ fn read_inverses(
     ports: &[Port<'_>],
     states: &[Name],
 ) -> Result<Seq<Option<bool>>, CellFault>
-    ensures { CellOrNoMemory (λ inverses. inverses) result (inverses_read states.now (output_texts ports.now)) }
+    ensures { OrNoMemory NoMemory (λ inverses. inverses) result (inverses_read states.now (output_texts ports.now)) }
 {
     let mut inverses = Seq::new(alloc);
     'ports: for port in ports {
@@ -334,7 +335,7 @@ fn read_cell_of(
 ) -> Result<CellType, CellFault>
     requires named { IsTrue (is_name name) }
     requires ports { ArePorts ports.now }
-    ensures { CellOrNoMemory (λ cell. cell) result (flop_cell name ports.now flop.now) }
+    ensures { OrNoMemory NoMemory (λ cell. cell) result (flop_cell name ports.now flop.now) }
 {
     let inputs = input_names_of(alloc, ports)?;
     let mut states = Seq::new(alloc);
@@ -369,7 +370,7 @@ pub fn flop_cell_of(
 ) -> Result<CellType, CellFault>
     requires named { IsTrue (is_name name) }
     requires ports { ArePorts ports.now }
-    ensures { CellOrNoMemory (λ cell. cell) result (flop_cell name ports.now flop.now) }
+    ensures { OrNoMemory NoMemory (λ cell. cell) result (flop_cell name ports.now flop.now) }
 {
     if can_be_plain(flop) {
         read_cell_of(alloc, name, ports, flop)

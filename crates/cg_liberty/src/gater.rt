@@ -1,6 +1,6 @@
 //! Gating cells: a clock, an enable, an output, and a test input where the cell has one.
 
-ghost use Rattle.std.specs.Prelude.{◌≡◌, ◌==◌, ◌&&◌, IfOk, IfSome, IsTrue, cond, count_by, None, Some, option_map, true};
+ghost use Rattle.std.specs.Prelude.{◌≡◌, ◌==◌, ◌&&◌, IfOk, IsTrue, count_by, None, Some, option_map, true};
 ghost use Rattle.cg_cell.specs.Name.{is_name};
 ghost use Rattle.cg_cell.specs.Pins.{is_clock, is_enable, is_output, is_test};
 ghost use Rattle.cg_liberty.specs.Kinds.{are_gater_pins, gater_of, gater_pins, gater_role, input_role};

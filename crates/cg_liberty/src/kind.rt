@@ -1,10 +1,11 @@
 //! The cell that a group describes, by the first rule that applies.
 
 ghost use Rattle.std.specs.Prelude.{◌≡◌, IfOk, IsTrue};
+ghost use Rattle.cg_limit.specs.Answers.{OrNoMemory};
 ghost use Rattle.cg_cell.specs.Name.{is_name};
-ghost use Rattle.cg_liberty.specs.Kinds.{cell_by_flops, cell_of, cell_with_ports, gating_cell};
+ghost use Rattle.cg_liberty.specs.declared.fault.CellFault.TheVariants.{NoMemory};
+ghost use Rattle.cg_liberty.specs.Kinds.{cell_by_flops, cell_of, gating_cell};
 ghost use Rattle.cg_liberty.specs.Port.{ArePorts};
-ghost use Rattle.cg_liberty.specs.Reading.{CellOrNoMemory};
 
 use crate::fault::CellFault;
 use crate::flop::flop_cell_of;
@@ -47,7 +48,7 @@ fn cell_by_flop_groups(
     requires named { IsTrue (is_name name) }
     requires ports { ArePorts ports.now }
     requires name { name ≡ cell.now.name }
-    ensures { CellOrNoMemory (λ cell. cell) result (cell_by_flops cell.now ports.now cell.now.flops) }
+    ensures { OrNoMemory NoMemory (λ cell. cell) result (cell_by_flops cell.now ports.now cell.now.flops) }
 {
     match &cell.flops {
         Flops::Absent => logic_cell_of(alloc, name, ports),
@@ -60,7 +61,7 @@ fn cell_by_flop_groups(
 pub fn cell_of_group(alloc: Global, name: Name, cell: &CellGroup<'_>) -> Result<CellType, CellFault>
     requires named { IsTrue (is_name name) }
     requires name { name ≡ cell.now.name }
-    ensures { CellOrNoMemory (λ cell. cell) result (cell_of cell.now) }
+    ensures { OrNoMemory NoMemory (λ cell. cell) result (cell_of cell.now) }
 {
     let Some(ports) = ports_of_cell(alloc, cell)? else {
         return Ok(unusable_cell(alloc, name));

@@ -2,14 +2,16 @@
 
 ghost use Rattle.std.specs.Prelude.{◌≡◌, ◌≤◌, List, [], length, None, IfErr, IfOk, OnOk, Some, MatchResult};
 ghost use Rattle.std.specs.List.{AllByRecursion};
+ghost use Rattle.cg_limit.specs.Answers.{OrNoMemory};
 ghost use Rattle.cg_cell.specs.Cell.{CellData, IsCell};
 ghost use Rattle.cg_cell.specs.Library.{IsFound};
 ghost use Rattle.cg_liberty.specs.Cell.{GivesUp, cell_from, cells_from, first_text, new_cell};
 ghost use Rattle.cg_liberty.specs.FirstFault.{IsFirstLibertyFault};
 ghost use Rattle.cg_liberty.specs.Group.{IsLeft};
 ghost use Rattle.cg_liberty.specs.LibText.{LibText};
-ghost use Rattle.cg_liberty.specs.Library.{Adds, LibraryOrNoMemory, added, all_added, cell_groups, cell_refusal, library_of, text_refusal};
+ghost use Rattle.cg_liberty.specs.Library.{added, all_added, cell_groups, cell_refusal, library_of, text_refusal};
 ghost use Rattle.cg_liberty.specs.declared.fault.LibertyFault.TheVariants.{NoMemory};
+ghost use Rattle.cg_liberty.specs.inner.Adding.{Adds};
 
 use crate::fault::{CellFault, LibertyFault, ReadFault};
 use crate::group::CellGroup;
@@ -53,7 +55,7 @@ fn add_group(
     mut library: Library,
     group: &CellGroup<'_>,
 ) -> Result<Library, LibertyFault>
-    ensures { LibraryOrNoMemory result (added library group.now) }
+    ensures { OrNoMemory NoMemory (λ library. library) result (added library group.now) }
 {
     let bytes = group.name.bytes(alloc)?;
     if !Name::is_name(&bytes) {
@@ -130,7 +132,7 @@ fn read_cells(
     alloc: Global,
     statements: &mut Statements<'_>,
 ) -> Result<Result<Library, LibertyFault>, ReadFault>
-    ensures { MatchResult result (λ library. (statements.old.1 ≡ None) × LibraryOrNoMemory library (all_added [] (cells_from 0 statements.old.0)))
+    ensures { MatchResult result (λ library. (statements.old.1 ≡ None) × OrNoMemory NoMemory (λ read. read) library (all_added [] (cells_from 0 statements.old.0)))
         (GivesUp statements.old) }
 {
     let mut library = Ok(Library::new(alloc));
@@ -158,7 +160,7 @@ fn read_text(
     alloc: Global,
     statements: &mut Statements<'_>,
 ) -> Result<Result<Library, LibertyFault>, ReadFault>
-    ensures { MatchResult result (λ library. (statements.old.1 ≡ None) × LibraryOrNoMemory library (all_added [] (cell_groups statements.old.0)))
+    ensures { MatchResult result (λ library. (statements.old.1 ≡ None) × OrNoMemory NoMemory (λ read. read) library (all_added [] (cell_groups statements.old.0)))
         (GivesUp statements.old) }
 {
     match statements.next()? {
@@ -177,7 +179,7 @@ fn read_text(
 
 /// The library that a text stands for, or its first fault.
 fn library_of_bytes(alloc: Global, bytes: &[u8]) -> Result<Library, LibertyFault>
-    ensures stands { LibraryOrNoMemory result (library_of bytes.now) }
+    ensures stands { OrNoMemory NoMemory (λ library. library) result (library_of bytes.now) }
     ensures cells { IfOk result (λ library. AllByRecursion IsCell library) }
     ensures named { IfOk result (λ library. AllByRecursion (IsFound library) library) }
 {
@@ -203,7 +205,7 @@ fn library_of_bytes(alloc: Global, bytes: &[u8]) -> Result<Library, LibertyFault
 /// 4,096 are there; `TwoCells` where its name is taken; `BadExpr`, or `Limit(Nesting)`, for its first
 /// expression that is none, or that nests deeper than 64.
 pub fn read_library(alloc: Global, bytes: &[u8]) -> Result<Library, LibertyFault>
-    ensures exact { LibraryOrNoMemory result (library_of bytes.now) }
+    ensures exact { OrNoMemory NoMemory (λ library. library) result (library_of bytes.now) }
     ensures found { IfOk result (λ library. LibText bytes.now library) }
     ensures cells { IfOk result (λ library. AllByRecursion IsCell library) }
     ensures named { IfOk result (λ library. AllByRecursion (IsFound library) library) }

@@ -1,12 +1,14 @@
 //! Logic cells: one output, with a function of the inputs.
 
 ghost use Rattle.std.specs.Prelude.{◌≡◌, All, Some, IfOk, IfSome, IsTrue, length, map, option_map, vec_len};
+ghost use Rattle.cg_limit.specs.Answers.{OrNoMemory};
 ghost use Rattle.cg_cell.specs.Expr.{term_of};
 ghost use Rattle.cg_cell.specs.Name.{is_name};
 ghost use Rattle.cg_cell.specs.Term.{is_within};
+ghost use Rattle.cg_liberty.specs.declared.fault.CellFault.TheVariants.{NoMemory};
 ghost use Rattle.cg_liberty.specs.Kinds.{input_names, logic_cell, logic_of, logic_pins, logic_role, output_texts, unusable};
 ghost use Rattle.cg_liberty.specs.Port.{ArePorts};
-ghost use Rattle.cg_liberty.specs.Reading.{CellOrNoMemory, readings};
+ghost use Rattle.cg_liberty.specs.Reading.{readings};
 
 use crate::expression::read_stated;
 use crate::fault::CellFault;
@@ -106,7 +108,7 @@ fn read_functions(
     ports: &[Port<'_>],
     names: &[Name],
 ) -> Result<Vec<Option<Expr>>, CellFault>
-    ensures read { CellOrNoMemory (λ functions. map (λ function. option_map term_of function) functions.items) result
+    ensures read { OrNoMemory NoMemory (λ functions. map (λ function. option_map term_of function) functions.items) result
         (readings names.now (output_texts ports.now)) }
     ensures counted { IfOk result (λ functions. vec_len functions ≡ length (output_texts ports.now)) }
     ensures within { IfOk result (λ functions. All (λ function. IfSome function (λ e. IsTrue (is_within (length names.now) (term_of e)))) functions.items) }
@@ -126,7 +128,7 @@ fn read_functions(
 pub fn logic_cell_of(alloc: Global, name: Name, ports: &[Port<'_>]) -> Result<CellType, CellFault>
     requires named { IsTrue (is_name name) }
     requires ports { ArePorts ports.now }
-    ensures { CellOrNoMemory (λ cell. cell) result (logic_cell name ports.now) }
+    ensures { OrNoMemory NoMemory (λ cell. cell) result (logic_cell name ports.now) }
 {
     let names = input_names_of(alloc, ports)?;
     let functions = read_functions(alloc, ports, names.as_slice())?;

@@ -1,10 +1,10 @@
 //! The pins of a cell, from its `pin` groups.
 
-ghost use Rattle.std.specs.Prelude.{◌≡◌, ◌&&◌, ◌++◌, [], IfOk, IfSome, IsTrue, cond, map, not, None, Some};
+ghost use Rattle.std.specs.Prelude.{◌≡◌, ◌&&◌, ◌++◌, IfOk, IfSome, cond, map, None, Some};
 ghost use Rattle.std.specs.List.{list_any};
 ghost use Rattle.std.specs.Str.{bytes_eq};
 ghost use Rattle.cg_cell.specs.Name.{are_distinct, has_no_equals};
-ghost use Rattle.cg_liberty.specs.Port.{ArePorts, few_pins, fit_together, group_pins, is_pin_name, is_sound};
+ghost use Rattle.cg_liberty.specs.Port.{ArePorts, few_pins, fit_together, group_pins, is_sound};
 ghost use Rattle.cg_liberty.specs.Port.{is_there, marks_of, ports_of, sound_ports, states, text_of};
 ghost use Rattle.cg_liberty.specs.declared.port.PinText.{PinText};
 

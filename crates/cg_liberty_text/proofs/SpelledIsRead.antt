@@ -96,7 +96,7 @@ pub placed_of : (room depth : ℕ) (word : Token) (texts : List (List ℕ)) → 
 placed_of room depth word texts is fits =
     place_step (depth == 1) (bytes_eq word.text (codes "cell")) (length texts == 1) (λ first cell.
     let top : depth ≡ 1 = eqb-true depth 1 first in
-    let level : room ≡ 63 = omega arith in
+    let level : room + 1 ≡ MOST_NESTING = omega arith in
     eq-eqb (length texts) 1 (fits level ((bytes_eq-Decides word.text (codes "cell")).0 cell)))
 
 pub place_of : (room depth : ℕ) (word : Token) (texts : List (List ℕ)) → depth + room ≡ MOST_NESTING → is_misplaced depth word texts ≡ false → FitsPlace room word texts

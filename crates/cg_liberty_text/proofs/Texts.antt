@@ -3,7 +3,8 @@ use Rattle.std.proofs.Common.{◌≡◌, ◌==◌, ◌||◌, ℕ, zero, suc, Boo
 use Rattle.std.specs.List.{list_any}
 use Rattle.std.specs.Option.{option_map_or}
 use Rattle.cg_liberty_text.specs.Lexeme.{join_length}
-use Rattle.cg_liberty_text.specs.Text.{escape, unescaped}
+use Rattle.cg_liberty_text.specs.Text.{unescaped}
+use Rattle.cg_liberty_text.specs.inner.Escapes.{escape}
 
 -- bytes that were read are as good as dropped
 pub unescaped_behind : (behind : ℕ) (bytes : List ℕ) → unescaped behind bytes ≡ unescaped 0 (drop behind bytes)

@@ -1,5 +1,5 @@
 -- The grammar of a Liberty text, over its tokens.
-use Rattle.std.specs.Prelude.{◌≡◌, ◌≢◌, ◌⊎◌, ℕ, zero, suc, cond, false, IsTrue, List, [], ◌∷◌, ◌++◌, length, codes, Option, None, Some}
+use Rattle.std.specs.Prelude.{◌≡◌, ◌≢◌, ◌⊎◌, ◌+◌, ◌-◌, ℕ, zero, suc, cond, false, IsTrue, List, [], ◌∷◌, ◌++◌, length, codes, Option, None, Some}
 use Rattle.std.specs.List.{AllByRecursion, flat_map}
 use Rattle.cg_limit.specs.declared.TheConstants.{MOST_NESTING}
 use Rattle.cg_liberty_text.specs.Argument.{is_in_value, is_text}
@@ -97,9 +97,9 @@ pub record IsComplex (piece : Piece) (rest : List Token) : Type 0 where
   pub apart : HasNoBody rest
   pub stands : piece.statements ≡ Attribute word.text None ∷ []
 
--- directly in the library, where 63 more levels of groups may stand, a `cell` has one argument
+-- directly in the library, whose group is one of the levels that may stand, a `cell` has one argument
 abbrev pub FitsPlace : ℕ → Token → List (List ℕ) → Type 0
-FitsPlace room word texts = room ≡ 63 → word.text ≡ codes "cell" → length texts ≡ 1
+FitsPlace room word texts = room + 1 ≡ MOST_NESTING → word.text ≡ codes "cell" → length texts ≡ 1
 
 -- a group, before what stands behind it: a head, `{`, statements in a row, and `}`
 pub record IsGroup (room : ℕ) (InARow : List Piece → List Token → Type 0) (piece : Piece) (rest : List Token) : Type 0 where
@@ -135,7 +135,7 @@ Spells (suc room) piece rest = IsPlain piece rest ⊎ IsGroup (suc room) (EachBe
 abbrev pub SpellsAll : ℕ → List Piece → List Token → Type 0
 SpellsAll room pieces rest = EachBefore (Spells room) pieces rest
 
--- the whole text: one group `library`, and nothing behind it; with it 64 levels of groups may stand
+-- the whole text: one group `library`, and nothing behind it; it is the first level of groups
 pub record SpellsLibrary (tokens : List Token) (statements : List Statement) : Type 0 where
-  pub group : IsGroup MOST_NESTING (SpellsAll 63) (record { tokens = tokens; statements = statements }) []
+  pub group : IsGroup MOST_NESTING (SpellsAll (MOST_NESTING - 1)) (record { tokens = tokens; statements = statements }) []
   pub named : group.word.text ≡ codes "library"

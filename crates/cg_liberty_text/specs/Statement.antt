@@ -94,10 +94,6 @@ Reads end depth phase tokens left statement = statements end depth phase tokens 
 abbrev pub Refused : ℕ → ℕ → Phase → List Token → TextFault → Type 0
 Refused end depth phase tokens fault = (statements end depth phase tokens).1 ≡ Some fault
 
--- an attribute whose value begins with the tokens, before the statements that are read from those left behind it
-abbrev pub ReadsValue : ℕ → ℕ → Token → List Token → List Token → Statement → Type 0
-ReadsValue end depth word tokens left statement = (statement ≡ Attribute word.text (value_text tokens)) × (statements end depth Valued tokens ≡ statements end depth Start left)
-
 -- how deep a statement may stand
 abbrev pub FitsDepth : ℕ → Statement → Type 0
 FitsDepth depth (Open word texts) = depth < MOST_NESTING

@@ -10,10 +10,6 @@ unescaped (suc behind) (byte ∷ after) = unescaped behind after
 unescaped zero (byte ∷ after) =
     cond (byte == 92) (option_map_or (λ more. 32 ∷ unescaped more after) (join_length after) (take 1 after ++ unescaped 1 after)) (byte ∷ unescaped 0 after)
 
--- what a `\` and the bytes after it stand for
-abbrev pub escape : List ℕ → List ℕ
-escape after = option_map_or (λ more. 32 ∷ unescaped more after) (join_length after) (take 1 after ++ unescaped 1 after)
-
 -- the bytes of a word, as they are, or of a string
 abbrev pub content : Bool → List ℕ → List ℕ
 content false raw = raw

@@ -1,10 +1,10 @@
 //! What begins at a byte of a Liberty text: a blank, a comment, a joined line end, or a token.
 
-ghost use Rattle.std.specs.Prelude.{◌≡◌, ◌+◌, ◌<◌, ◌≤◌, ◌==◌, ℕ, Bool, false, List, [], length, drop, slice_index, Option, IfSome};
+ghost use Rattle.std.specs.Prelude.{◌≡◌, ◌+◌, ◌<◌, ◌≤◌, ◌==◌, false, length, Option, IfSome};
 ghost use Rattle.cg_liberty_text.specs.declared.lexeme.Kind.TheVariants.{Quoted};
 ghost use Rattle.cg_liberty_text.specs.declared.lexeme.Lexeme.TheVariants.{Blank, Token};
 ghost use Rattle.cg_liberty_text.specs.Lexeme.{IsWithin, begins_comment, closed, closes, comment_length, comment_lexeme, ends_word, escapes};
-ghost use Rattle.cg_liberty_text.specs.Lexeme.{is_join_blank, is_mark, join_length, lexeme, line_length, longer, mark_kind, quoted_length, word_length};
+ghost use Rattle.cg_liberty_text.specs.Lexeme.{is_mark, join_length, lexeme, line_length, longer, mark_kind, quoted_length, word_length};
 
 use cg_text::blanks::is_white_space;
 

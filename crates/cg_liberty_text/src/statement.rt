@@ -2,9 +2,10 @@
 
 ghost use Rattle.std.specs.Prelude.{◌≡◌, ◌==◌, ◌≤◌, IfOk, MatchResult};
 ghost use Rattle.cg_liberty_text.specs.Argument.{argument_texts};
-ghost use Rattle.cg_liberty_text.specs.Statement.{FitsDepth, Reads, ReadsValue, Refused};
+ghost use Rattle.cg_liberty_text.specs.Statement.{FitsDepth, Reads, Refused};
 ghost use Rattle.cg_liberty_text.specs.Statement.Phase.{Listed, Listing, Named, Start, Valued};
 ghost use Rattle.cg_liberty_text.specs.declared.lexeme.Kind.TheVariants.{OpenParen};
+ghost use Rattle.cg_liberty_text.specs.inner.Values.{ReadsValue};
 
 use crate::argument::{Arguments, pass_arguments, pass_value, text_of_value};
 use crate::fault::TextFault;

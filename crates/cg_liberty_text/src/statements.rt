@@ -1,6 +1,6 @@
 //! A text read statement by statement.
 
-ghost use Rattle.std.specs.Prelude.{◌≡◌, List, [], length, None, Some, MatchOption, MatchResult};
+ghost use Rattle.std.specs.Prelude.{◌≡◌, [], length, None, Some, MatchOption, MatchResult};
 ghost use Rattle.cg_liberty_text.specs.Statement.{put_statement, statements};
 ghost use Rattle.cg_liberty_text.specs.Statement.Phase.{Start};
 ghost use Rattle.cg_liberty_text.specs.Token.{tokens};

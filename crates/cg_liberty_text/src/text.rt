@@ -1,9 +1,10 @@
 //! The text of a word or a string, without a copy.
 
-ghost use Rattle.std.specs.Prelude.{◌≡◌, ◌==◌, ◌∷◌, ◌++◌, ℕ, List, [], MatchOption, IfOk, IfSome};
+ghost use Rattle.std.specs.Prelude.{◌≡◌, ◌==◌, ◌∷◌, ℕ, List, [], MatchOption, IfOk, IfSome};
 ghost use Rattle.std.specs.List.{list_any};
 ghost use Rattle.std.specs.Str.{bytes_eq};
-ghost use Rattle.cg_liberty_text.specs.Text.{content, escape, unescaped};
+ghost use Rattle.cg_liberty_text.specs.Text.{content, unescaped};
+ghost use Rattle.cg_liberty_text.specs.inner.Escapes.{escape};
 
 use crate::lexeme::join_bytes;
 use std::alloc::{AllocError, Global};

@@ -1,6 +1,6 @@
 //! A text cut into tokens, one by one.
 
-ghost use Rattle.std.specs.Prelude.{◌≡◌, ◌+◌, ◌<◌, ◌≤◌, ◌∷◌, ℕ, List, [], length, false, take, drop, MatchOption};
+ghost use Rattle.std.specs.Prelude.{◌≡◌, ◌+◌, ◌<◌, ◌≤◌, ◌∷◌, ℕ, List, [], length, false, drop, MatchOption};
 ghost use Rattle.cg_liberty_text.specs.Token.{token_text, tokens, tokens_from};
 ghost use Rattle.cg_liberty_text.specs.declared.token.Token.{Token};
 

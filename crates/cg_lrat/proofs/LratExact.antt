@@ -5,6 +5,7 @@ use Rattle.std.proofs.lemmas.Slice.Eq.{bytes_eq-Decides}
 use Rattle.std.specs.Fmt.{decimal}
 use Rattle.std.specs.List.{AllByRecursion}
 use Rattle.std.specs.Str.{bytes_eq}
+use Rattle.cg_limit.specs.Answers.{OrNoMemory}
 use Rattle.cg_text.specs.declared.lines.Line.{Line}
 use Rattle.cg_text.specs.Lines.{text_lines}
 use Rattle.cg_formula.specs.declared.formula.Lit.{Lit}
@@ -16,15 +17,16 @@ use Rattle.cg_lrat.specs.declared.log.Body.{Body}
 use Rattle.cg_lrat.specs.declared.log.Body.TheVariants.{Add, Delete}
 use Rattle.cg_lrat.specs.declared.log.Step.{Step}
 use Rattle.cg_lrat.specs.declared.log.Log.{Log}
+use Rattle.cg_lrat.specs.declared.lrat.TheConstants.{GREATEST_VARIABLE}
 use Rattle.cg_lrat.specs.declared.lrat.LratFault.{LratFault}
-use Rattle.cg_lrat.specs.declared.lrat.LratFault.TheVariants.{BadLine}
+use Rattle.cg_lrat.specs.declared.lrat.LratFault.TheVariants.{BadLine, NoMemory}
 use Rattle.cg_formula.specs.Bounds.{IsLit}
 use Rattle.cg_lrat.specs.Bounds.{IsId, IsBody, IsStep}
 use Rattle.cg_formula.specs.Tokens.{clause_token}
 use Rattle.cg_lrat.specs.Ids.{id_token}
 use Rattle.cg_formula.specs.DimacsReading.{layout}
 use Rattle.cg_formula.specs.DimacsText.{lit_word}
-use Rattle.cg_lrat.specs.LratReading.{LratOrNoMemory, ◌>>=◌, lits_at, put_id, ids_at, addition_of, deletion_of, body_of, words_step, step_of, steps_of, lrat}
+use Rattle.cg_lrat.specs.LratReading.{◌>>=◌, lits_at, put_id, ids_at, addition_of, deletion_of, body_of, words_step, step_of, steps_of, lrat}
 use Rattle.cg_lrat.specs.LratText.{id_words, body_words, step_line, LratText}
 use Rattle.cg_formula.proofs.TokenSpelling.{literal_spelled, end_spelled, clause_token-lit, first_digit}
 use Rattle.cg_lrat.proofs.IdSpelling.{id_spelled, id_end_spelled, id_token-decimal}
@@ -43,8 +45,8 @@ record SpellsLits (ws : List (List ℕ)) (lits : List Lit) (after : List (List �
 lits_spelled : (line : ℕ) (ws : List (List ℕ)) (lits : List Lit) (after : List (List ℕ)) → lits_at line ws ≡ Ok (lits, after)
     → SpellsLits ws lits after
 lits_spelled line [] lits after e = absurd (cc)
-lits_spelled line (w ∷ ws) lits after e = pick (clause_token 2147483647 w) refl (lits_spelled line ws) where
-  pick : (token : ClauseToken) → clause_token 2147483647 w ≡ token
+lits_spelled line (w ∷ ws) lits after e = pick (clause_token GREATEST_VARIABLE w) refl (lits_spelled line ws) where
+  pick : (token : ClauseToken) → clause_token GREATEST_VARIABLE w ≡ token
       → ((lits : List Lit) (after : List (List ℕ)) → lits_at line ws ≡ Ok (lits, after) → SpellsLits ws lits after)
       → SpellsLits (w ∷ ws) lits after
   pick (tokens.Literal lit) f later =
@@ -52,7 +54,7 @@ lits_spelled line (w ∷ ws) lits after e = pick (clause_token 2147483647 w) ref
       let rest = later (read.0).0 (read.0).1 read.1 in
       let made : Ok (lit ∷ (read.0).0, (read.0).1) ≡ Ok (lits, after) = read.2 in
       let pair : (let p : List Lit × List (List ℕ) = (lit ∷ (read.0).0, (read.0).1) in p) ≡ (lits, after) = cc in
-      let one = literal_spelled 2147483647 w lit f in
+      let one = literal_spelled GREATEST_VARIABLE w lit f in
       let Spelled : List Lit × List (List ℕ) → Type 0 = λ p. SpellsLits (w ∷ ws) p.0 p.1 in
       subst Spelled pair (record {
         words = ap (λ text. text ∷ ws) one.spelled ∙ ap (λ words. lit_word lit ∷ words) rest.words;
@@ -62,14 +64,14 @@ lits_spelled line (w ∷ ws) lits after e = pick (clause_token 2147483647 w) ref
       let made : Ok ([], ws) ≡ Ok (lits, after) = rw f at e in
       let pair : (let p : List Lit × List (List ℕ) = ([], ws) in p) ≡ (lits, after) = cc in
       let Spelled : List Lit × List (List ℕ) → Type 0 = λ p. SpellsLits (w ∷ ws) p.0 p.1 in
-      subst Spelled pair (record { words = ap (λ text. text ∷ ws) (end_spelled 2147483647 w f); bounds = tt })
+      subst Spelled pair (record { words = ap (λ text. text ∷ ws) (end_spelled GREATEST_VARIABLE w f); bounds = tt })
   pick tokens.Other f later = let no : Err (BadLine line) ≡ Ok (lits, after) = rw f at e in absurd (cc)
 
 lits_again : (line : ℕ) (lits : List Lit) (after : List (List ℕ)) → AllByRecursion (IsLit (2 ^ 31 - 1)) lits
     → lits_at line (map lit_word lits ++ codes "0" ∷ after) ≡ Ok (lits, after)
 lits_again line [] after bounds = refl
 lits_again line (lit ∷ lits) after bounds =
-    rw (clause_token-lit 2147483647 lit (lit< tt) bounds.0, lits_again line lits after bounds.1) refl
+    rw (clause_token-lit GREATEST_VARIABLE lit (lit< tt) bounds.0, lits_again line lits after bounds.1) refl
 
 -- ids
 
@@ -242,6 +244,6 @@ read_is_text text log e =
 pub text_is_read : (text : List ℕ) (log : Log) → LratText text log → lrat text ≡ Ok log
 text_is_read text log t = rw (t.lines, steps_again log.steps t.bounds) refl
 
-pub given_is_text : (text : List ℕ) (r : Result Log LratFault) → LratOrNoMemory (λ (l : Log). l) r (lrat text) → IfOk r (LratText text)
+pub given_is_text : (text : List ℕ) (r : Result Log LratFault) → OrNoMemory NoMemory (λ (l : Log). l) r (lrat text) → IfOk r (LratText text)
 given_is_text text (Ok log) e = read_is_text text log e
 given_is_text text (Err fault) e = tt

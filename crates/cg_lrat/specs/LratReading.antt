@@ -12,8 +12,9 @@ use Rattle.cg_lrat.specs.declared.log.Body.{Body}
 use Rattle.cg_lrat.specs.declared.log.Body.TheVariants.{Add, Delete}
 use Rattle.cg_lrat.specs.declared.log.Step.{Step}
 use Rattle.cg_lrat.specs.declared.log.Log.{Log}
+use Rattle.cg_lrat.specs.declared.lrat.TheConstants.{GREATEST_VARIABLE}
 use Rattle.cg_lrat.specs.declared.lrat.LratFault.{LratFault}
-use Rattle.cg_lrat.specs.declared.lrat.LratFault.TheVariants.{BadLine, NoMemory}
+use Rattle.cg_lrat.specs.declared.lrat.LratFault.TheVariants.{BadLine}
 use Rattle.cg_formula.specs.Tokens.{clause_token}
 use Rattle.cg_lrat.specs.Ids.{id_token}
 use Rattle.cg_formula.specs.DimacsReading.{layout}
@@ -23,12 +24,6 @@ infixl 10 ◌>>=◌
 abbrev pub ◌>>=◌ : {A B : Type 0} → Result A LratFault → (A → Result B LratFault) → Result B LratFault
 (Ok x) >>= f = f x
 (Err e) >>= f = Err e
-
--- what a function answered, seen by view, is what reading gives, unless memory ran out
-abbrev pub LratOrNoMemory : {X Y : Type 0} → (X → Y) → Result X LratFault → Result Y LratFault → Type 0
-LratOrNoMemory view (Ok x) read = read ≡ Ok (view x)
-LratOrNoMemory view (Err NoMemory) read = Unit {0}
-LratOrNoMemory view (Err (BadLine line)) read = read ≡ Err (BadLine line)
 
 -- a word of a clause, before the rest of the clause and the words behind it
 abbrev pub put_token : ℕ → ClauseToken → List (List ℕ) → Result (List Lit × List (List ℕ)) LratFault
@@ -40,7 +35,7 @@ put_token line tokens.Other after later = Err (BadLine line)
 -- the literals up to a zero, and the words behind it
 abbrev pub lits_at : ℕ → List (List ℕ) → Result (List Lit × List (List ℕ)) LratFault
 lits_at line [] = Err (BadLine line)
-lits_at line (w ∷ ws) = put_token line (clause_token 2147483647 w) ws (lits_at line ws)
+lits_at line (w ∷ ws) = put_token line (clause_token GREATEST_VARIABLE w) ws (lits_at line ws)
 
 -- a word among ids, before the ids behind it; with the zero the line ends
 abbrev pub put_id : ℕ → IdToken → List (List ℕ) → Result (List ℕ) LratFault → Result (List ℕ) LratFault

@@ -1,12 +1,14 @@
 //! The LRAT text of a log.
 
 ghost use Rattle.std.specs.Prelude.{◌≡◌, ◌∷◌, ◌++◌, Ok, IfOk, OnOk, MatchOption, codes};
+ghost use Rattle.cg_limit.specs.Answers.{OrNoMemory};
 ghost use Rattle.cg_text.specs.Written.{joined, line_text};
 ghost use Rattle.cg_lrat.specs.declared.log.Log.{Log};
+ghost use Rattle.cg_lrat.specs.declared.lrat.LratFault.TheVariants.{NoMemory};
 ghost use Rattle.cg_lrat.specs.Bounds.{IsLog};
 ghost use Rattle.cg_lrat.specs.LratText.{LratText, id_words, body_words, step_words, lrat_text, counted};
 ghost use Rattle.cg_formula.specs.DimacsText.{clause_words};
-ghost use Rattle.cg_lrat.specs.LratReading.{LratOrNoMemory, lits_at, ids_at, addition_of, deletion_of, step_of, lrat};
+ghost use Rattle.cg_lrat.specs.LratReading.{lits_at, ids_at, addition_of, deletion_of, step_of, lrat};
 
 use crate::id::{IdToken, push_ids, read_id_token};
 use crate::log::{Body, Log, Step};
@@ -53,7 +55,7 @@ impl<T: Drop> From<AllocFailed<T>> for LratFault {
 
 /// The literals up to the zero that ends them. A fault is at this line.
 fn read_lits(alloc: Global, words: &mut Words<'_>, line: u64) -> Result<Clause, LratFault>
-    ensures { LratOrNoMemory (λ clause. (clause.lits, words.new)) result (lits_at line words.old) }
+    ensures { OrNoMemory NoMemory (λ clause. (clause.lits, words.new)) result (lits_at line words.old) }
 {
     let mut lits = Vec::new(alloc);
     'literals: loop {
@@ -71,7 +73,7 @@ fn read_lits(alloc: Global, words: &mut Words<'_>, line: u64) -> Result<Clause, 
 
 /// The ids up to the zero that ends the line.
 fn read_ids(alloc: Global, words: Words<'_>, line: u64) -> Result<Seq<u64>, LratFault>
-    ensures { LratOrNoMemory (λ ids. ids) result (ids_at line words.entry) }
+    ensures { OrNoMemory NoMemory (λ ids. ids) result (ids_at line words.entry) }
 {
     let mut words = words;
     let mut ids = Vec::new(alloc);
@@ -92,7 +94,7 @@ fn read_ids(alloc: Global, words: Words<'_>, line: u64) -> Result<Seq<u64>, Lrat
 
 /// The clause and the hints of an addition.
 fn read_addition(alloc: Global, words: Words<'_>, line: u64) -> Result<Body, LratFault>
-    ensures { LratOrNoMemory (λ body. body) result (addition_of line words.entry) }
+    ensures { OrNoMemory NoMemory (λ body. body) result (addition_of line words.entry) }
 {
     let mut words = words;
     let clause = read_lits(alloc, &mut words, line)?;
@@ -113,7 +115,7 @@ fn deleted<'a>(words: &Words<'a>) -> Option<Words<'a>>
 
 /// What a line says.
 fn read_step(alloc: Global, line: Line<'_>) -> Result<Step, LratFault>
-    ensures { LratOrNoMemory (λ step. step) result (step_of line.entry) }
+    ensures { OrNoMemory NoMemory (λ step. step) result (step_of line.entry) }
 {
     let number = line.number;
     let mut words = line.words;
@@ -134,7 +136,7 @@ fn read_step(alloc: Global, line: Line<'_>) -> Result<Step, LratFault>
 
 /// The log, or its first bad line.
 fn read_text(alloc: Global, text: &[u8]) -> Result<Log, LratFault>
-    ensures { LratOrNoMemory (λ log. log) result (lrat text.now) }
+    ensures { OrNoMemory NoMemory (λ log. log) result (lrat text.now) }
 {
     let mut lines = Lines::new(text, LAYOUT);
     let mut steps = Vec::new(alloc);
@@ -153,8 +155,8 @@ fn read_text(alloc: Global, text: &[u8]) -> Result<Log, LratFault>
 /// literal may have a minus before them. Hints that are negative are refused.
 pub fn read_lrat(alloc: Global, text: &[u8]) -> Result<Log, LratFault>
     ensures found { IfOk result (LratText text.now) }
-    ensures only { (log : Log) → LratText text.now log → LratOrNoMemory (λ read. read) result (Ok log) }
-    ensures exact { LratOrNoMemory (λ read. read) result (lrat text.now) }
+    ensures only { (log : Log) → LratText text.now log → OrNoMemory NoMemory (λ read. read) result (Ok log) }
+    ensures exact { OrNoMemory NoMemory (λ read. read) result (lrat text.now) }
 {
     read_text(alloc, text)
 }

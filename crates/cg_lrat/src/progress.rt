@@ -1,6 +1,6 @@
 //! The state of a check between two steps of a log.
 
-ghost use Rattle.std.specs.Prelude.{◌≡◌, ◌==◌, Ok, Some, IfOk, OnOk, IsNone, List, length, map, nat_eq};
+ghost use Rattle.std.specs.Prelude.{◌≡◌, ◌==◌, Ok, Some, IfOk, OnOk, IsNone, length, map, nat_eq};
 ghost use Rattle.std.specs.List.{list_any};
 ghost use Rattle.std.specs.Map.{update};
 ghost use Rattle.cg_lrat.specs.Accepted.{with_clauses, clause_fault, addition_fault, deletion_fault, without};

@@ -8,6 +8,7 @@ use Rattle.std.proofs.lemmas.Fmt.{decimal_injective}
 use Rattle.std.proofs.lemmas.List.{append-nil, append_cancel_left, length-append, length-set, length-take-le, map-append, take-append-le}
 use Rattle.std.proofs.lemmas.List.Elements.{All-append}
 use Rattle.std.proofs.lemmas.Option.{none-some, same_Some, slice_get_past, slice_get_within}
+use Rattle.cg_limit.specs.declared.TheConstants.{MOST_NETS, MOST_REGISTERS}
 use Rattle.cg_cell.specs.Name.{is_name}
 use Rattle.cg_cell.specs.declared.fit.FitKind.{FitKind}
 use Rattle.cg_cell.specs.declared.fit.FitKind.TheVariants.{Inv, And2, Or2}
@@ -87,7 +88,7 @@ module _ (m : MachineData) (good : IsMachine m) where
   used_below x among = All-member (λ net. net < n) (used_nets m.circuit) x good.well_formed.used among
 
   -- a gate
-  module _ (kind : FitKind) (inputs : List ℕ) (fits : GateFits m kind inputs) (room : length m.circuit.names < 1048576) where
+  module _ (kind : FitKind) (inputs : List ℕ) (fits : GateFits m kind inputs) (room : length m.circuit.names < MOST_NETS) where
     abbrev g : LogicCell ℕ
     g = gate_cell (next_gate m kind inputs)
 
@@ -169,7 +170,7 @@ module _ (m : MachineData) (good : IsMachine m) where
     }
 
   -- a delay register
-  module _ (net clock : ℕ) (is_net : IsNet m net) (is : m.circuit.clock ≡ Some clock) (room : length m.circuit.names < 1048576) (space : length m.circuit.registers < 65536) where
+  module _ (net clock : ℕ) (is_net : IsNet m net) (is : m.circuit.clock ≡ Some clock) (room : length m.circuit.names < MOST_NETS) (space : length m.circuit.registers < MOST_REGISTERS) where
     abbrev v : MachineData
     v = push_delay m net
 

@@ -6,6 +6,7 @@ use Rattle.std.proofs.lemmas.Bool.{both_ways}
 use Rattle.std.proofs.lemmas.Option.{none-some}
 use Rattle.std.proofs.lemmas.List.{length-append, length-replicate, length-set, take_all}
 use Rattle.std.proofs.Math.Seq.{take-append_seam}
+use Rattle.cg_limit.specs.declared.TheConstants.{MOST_NETS, MOST_REGISTERS}
 use Rattle.cg_cell.specs.declared.fit.FitKind.{FitKind}
 use Rattle.cg_netlist.specs.Circuit.{Circuit}
 use Rattle.cg_machine.specs.Added.{find_delay, next_gate, next_name, next_net, push_delay, push_gate, set_enable}
@@ -62,7 +63,7 @@ module _ (c : Circuit) (prefix : List ℕ) (es : List (Option ℕ)) (gs : List A
   now_machine = subst IsMachine is keeps.machine
 
   -- one more gate
-  module _ (kind : FitKind) (inputs : List ℕ) (output : ℕ) (fits : GateFits now kind inputs) (room : length now.circuit.names < 1048576) (next : output ≡ length now.circuit.names) where
+  module _ (kind : FitKind) (inputs : List ℕ) (output : ℕ) (fits : GateFits now kind inputs) (room : length now.circuit.names < MOST_NETS) (next : output ≡ length now.circuit.names) where
     abbrev gate : AddedGate
     gate = record { kind = kind; inputs = inputs; output = output }
 
@@ -87,7 +88,7 @@ module _ (c : Circuit) (prefix : List ℕ) (es : List (Option ℕ)) (gs : List A
     }
 
   -- after a gate was appended, or refused
-  module _ (kind : FitKind) (inputs items : List ℕ) (output : ℕ) (taken : items ≡ inputs) (fits : GateFits now kind inputs) (room : length now.circuit.names < 1048576) (next : output ≡ length now.circuit.names) (k : ℕ) (last : k ≡ length now.circuit.cells) (new : List AddedGate) where
+  module _ (kind : FitKind) (inputs items : List ℕ) (output : ℕ) (taken : items ≡ inputs) (fits : GateFits now kind inputs) (room : length now.circuit.names < MOST_NETS) (next : output ≡ length now.circuit.names) (k : ℕ) (last : k ≡ length now.circuit.cells) (new : List AddedGate) where
     abbrev pushed : List AddedGate
     pushed = gs ++ record { kind = kind; inputs = items; output = output } ∷ []
 
@@ -110,7 +111,7 @@ module _ (c : Circuit) (prefix : List ℕ) (es : List (Option ℕ)) (gs : List A
   pub not_there : (net : ℕ) → find_delay now net ≡ None → find (λ delay. nat_eq net delay.0) ds ≡ None
   not_there net none = none_under (λ (delay : ℕ × ℕ). delay.1) (find (λ (delay : ℕ × ℕ). nat_eq net delay.0) ds) (sym (kept_find c prefix es gs ds net) ∙ (ap (λ n. find_delay n net) is ∙ none))
 
-  module _ (net output : ℕ) (clock : IsSome now.circuit.clock) (is_net : IsNet now net) (room : length now.circuit.names < 1048576) (space : length now.circuit.registers < 65536) (next : output ≡ length now.circuit.names) where
+  module _ (net output : ℕ) (clock : IsSome now.circuit.clock) (is_net : IsNet now net) (room : length now.circuit.names < MOST_NETS) (space : length now.circuit.registers < MOST_REGISTERS) (next : output ≡ length now.circuit.names) where
     more_delays : kept c prefix es gs (ds ++ (net, output) ∷ []) ≡ push_delay m net
     more_delays =
         let number : output ≡ length m.circuit.names = next ∙ ap (λ (n : MachineData). length n.circuit.names) (sym is) in
@@ -131,7 +132,7 @@ module _ (c : Circuit) (prefix : List ℕ) (es : List (Option ℕ)) (gs : List A
         }
 
   -- after a delay register was appended, or refused
-  module _ (net output : ℕ) (clock : IsSome now.circuit.clock) (is_net : IsNet now net) (room : length now.circuit.names < 1048576) (space : length now.circuit.registers < 65536) (next : output ≡ length now.circuit.names) (reg : ℕ) (last : reg ≡ length now.circuit.registers) (new : List (ℕ × ℕ)) where
+  module _ (net output : ℕ) (clock : IsSome now.circuit.clock) (is_net : IsNet now net) (room : length now.circuit.names < MOST_NETS) (space : length now.circuit.registers < MOST_REGISTERS) (next : output ≡ length now.circuit.names) (reg : ℕ) (last : reg ≡ length now.circuit.registers) (new : List (ℕ × ℕ)) where
     pub delay_after : {E : Type 0} (r : Result (Unit {0}) E) → OnOk r (new ≡ ds ++ (net, output) ∷ []) → OnErr r (new ≡ ds) → (table cut : List Driver) (n : ℕ) → table ≡ ts ++ Register reg false ∷ [] → n ≡ length gs + length new → cut ≡ take n table
         → IsKept c prefix es gs new cut
     delay_after (Ok x) ok err table cut n noted count is =

@@ -6,6 +6,7 @@ use Rattle.std.proofs.lemmas.Bool.{both_ways, eq-eqb, ltb-true, or_left}
 use Rattle.std.proofs.lemmas.Grind.{flat_map-append}
 use Rattle.std.proofs.lemmas.List.{length-take-le, take_all}
 use Rattle.std.proofs.lemmas.Option.{unwrap_or-slice_get, same_Some, slice_get_within}
+use Rattle.cg_limit.specs.declared.TheConstants.{MOST_NETS, MOST_REGISTERS}
 use Rattle.cg_cell.specs.Cover.{cover_value}
 use Rattle.cg_cell.specs.declared.fit.FitKind.{FitKind}
 use Rattle.cg_limit.specs.declared.Limit.{Limit}
@@ -32,18 +33,18 @@ use Rattle.cg_machine.proofs.Lists.{get_front, get_last}
 use Rattle.cg_machine.proofs.Settled.{settled}
 
 -- no limit is passed
-has_room : (m : MachineData) → nets_limit m ≡ None → length m.circuit.names < 1048576
-has_room m none = go (nat_lt (length m.circuit.names) 1048576) refl none
+has_room : (m : MachineData) → nets_limit m ≡ None → length m.circuit.names < MOST_NETS
+has_room m none = go (nat_lt (length m.circuit.names) MOST_NETS) refl none
   where
-    go : (b : Bool) → nat_lt (length m.circuit.names) 1048576 ≡ b → (if b then None else Some Nets) ≡ None → length m.circuit.names < 1048576
-    go true is h = ltb-true (length m.circuit.names) 1048576 is
+    go : (b : Bool) → nat_lt (length m.circuit.names) MOST_NETS ≡ b → (if b then None else Some Nets) ≡ None → length m.circuit.names < MOST_NETS
+    go true is h = ltb-true (length m.circuit.names) MOST_NETS is
     go false is h = absurd (cc)
 
-has_space : (m : MachineData) → registers_limit m ≡ None → length m.circuit.registers < 65536
-has_space m none = go (nat_lt (length m.circuit.registers) 65536) refl none
+has_space : (m : MachineData) → registers_limit m ≡ None → length m.circuit.registers < MOST_REGISTERS
+has_space m none = go (nat_lt (length m.circuit.registers) MOST_REGISTERS) refl none
   where
-    go : (b : Bool) → nat_lt (length m.circuit.registers) 65536 ≡ b → (if b then None else Some Registers) ≡ None → length m.circuit.registers < 65536
-    go true is h = ltb-true (length m.circuit.registers) 65536 is
+    go : (b : Bool) → nat_lt (length m.circuit.registers) MOST_REGISTERS ≡ b → (if b then None else Some Registers) ≡ None → length m.circuit.registers < MOST_REGISTERS
+    go true is h = ltb-true (length m.circuit.registers) MOST_REGISTERS is
     go false is h = absurd (cc)
 
 pub first_none : (a b : Option Limit) → option_or a b ≡ None → a ≡ None
@@ -63,7 +64,7 @@ clock_no_register c driven x is = distinct_apart (data_inputs c ++ option_to_lis
     (is_in_left (data_inputs c ++ option_to_list c.clock) (gate_nets c) x (is_in_right (data_inputs c) (option_to_list c.clock) x (from_option c.clock x is)))
 
 -- what a machine with a gate keeps
-module _ (m : MachineData) (good : IsMachine m) (kind : FitKind) (inputs : List ℕ) (fits : GateFits m kind inputs) (room : length m.circuit.names < 1048576) where
+module _ (m : MachineData) (good : IsMachine m) (kind : FitKind) (inputs : List ℕ) (fits : GateFits m kind inputs) (room : length m.circuit.names < MOST_NETS) where
   pub gate_extends : Extends m (push_gate m kind inputs)
   gate_extends =
       let n : MachineData = push_gate m kind inputs in
@@ -84,7 +85,7 @@ module _ (m : MachineData) (good : IsMachine m) (kind : FitKind) (inputs : List 
       }
 
 -- what a machine with a delay register keeps
-module _ (m : MachineData) (good : IsMachine m) (net clock : ℕ) (is_net : IsNet m net) (is : m.circuit.clock ≡ Some clock) (room : length m.circuit.names < 1048576) (space : length m.circuit.registers < 65536) where
+module _ (m : MachineData) (good : IsMachine m) (net clock : ℕ) (is_net : IsNet m net) (is : m.circuit.clock ≡ Some clock) (room : length m.circuit.names < MOST_NETS) (space : length m.circuit.registers < MOST_REGISTERS) where
   abbrev v : MachineData
   v = push_delay m net
 
@@ -190,8 +191,8 @@ delay_there m net clock good is_net is room = go (find_delay m net) refl room
     go : (o : Option ℕ) → find_delay m net ≡ o → unless_found o (option_or (nets_limit m) (registers_limit m)) ≡ None → HasDelay m net (or_push m (push_delay m net) o)
     go None none there =
         let n : MachineData = push_delay m net in
-        let names : length m.circuit.names < 1048576 = has_room m (first_none (nets_limit m) (registers_limit m) there) in
-        let space : length m.circuit.registers < 65536 = has_space m (second_none (nets_limit m) (registers_limit m) there) in
+        let names : length m.circuit.names < MOST_NETS = has_room m (first_none (nets_limit m) (registers_limit m) there) in
+        let space : length m.circuit.registers < MOST_REGISTERS = has_space m (second_none (nets_limit m) (registers_limit m) there) in
         let good_n : IsMachine n = delay_pushed m good net clock is_net is names space in
         let e : Extends m n = delay_extends m good net clock is_net is names space in
         let k : ℕ = length m.circuit.registers in

@@ -4,6 +4,7 @@ use Rattle.std.specs.List.{IsDistinct, range_with_len}
 use Rattle.std.proofs.lemmas.Bool.{false_from_ne_true}
 use Rattle.std.proofs.lemmas.List.{length-append, length-map, length-take-le}
 use Rattle.std.proofs.lemmas.Map.Steps.{length-le_from_distinct_below}
+use Rattle.cg_limit.specs.declared.TheConstants.{MOST_NETS}
 use Rattle.cg_netlist.specs.Circuit.{Circuit, LogicCell, cell_nets, given_nets, is_in}
 use Rattle.cg_netlist.specs.Netlist.{IsNetlist}
 use Rattle.cg_netlist.specs.Nets.{walk_order}
@@ -92,10 +93,10 @@ module _ (m : MachineData) (good : IsMachine m) where
   pub own_few : length own ≤ length m.circuit.cells
   own_few = omega (arith, own_count, good.own_cells)
 
-  pub cells_small : length m.circuit.cells ≤ 1048576
+  pub cells_small : length m.circuit.cells ≤ MOST_NETS
   cells_small = omega (arith, few_cells, good.small)
 
-  pub walk_small : length (walk_order own) ≤ 1048576
+  pub walk_small : length (walk_order own) ≤ MOST_NETS
   walk_small = omega (arith, own_walk_long, own_few, cells_small)
 
   -- a machine is wired in its walk order

@@ -12,6 +12,7 @@ use Rattle.std.proofs.lemmas.List.Quantifiers.{position-Some}
 use Rattle.std.proofs.lemmas.Option.{slice_get_within, slice_get-get_or, get_or_from_slice_get}
 use Rattle.std.proofs.lemmas.Slice.Eq.{bytes_eq-Decides}
 use lib.Pointwise.{pointwise}
+use Rattle.cg_limit.specs.declared.TheConstants.{MOST_ROWS}
 use Rattle.cg_text.specs.declared.lines.Line.{Line}
 use Rattle.cg_limit.specs.Answers.{OrNoMemory}
 use Rattle.cg_limit.specs.declared.Limit.TheVariants as limits
@@ -265,23 +266,23 @@ word_again number names inputs columns line row once zip says = pick (length nam
 
 record RowsRead (inputs names : List (List ℕ)) (count : ℕ) (ls : List Line) (rows : List (List Bool)) : Type 0 where
   pub say : AllZip (SaysRow inputs names) ls rows
-  pub few : count + length rows ≤ 1048576
+  pub few : count + length rows ≤ MOST_ROWS
 
-rows_spelled : (names inputs : List (List ℕ)) (columns : List ℕ) (count : ℕ) (ls : List Line) (rows : List (List Bool)) → AllZip (IsColumn names) inputs columns → count ≤ 1048576
+rows_spelled : (names inputs : List (List ℕ)) (columns : List ℕ) (count : ℕ) (ls : List Line) (rows : List (List Bool)) → AllZip (IsColumn names) inputs columns → count ≤ MOST_ROWS
     → rows_of (header_with names columns) count ls ≡ Ok rows → RowsRead inputs names count ls rows
 rows_spelled names inputs columns count [] rows zip few e =
     let none : [] ≡ rows = cc in subst (RowsRead inputs names count []) none (record { say = tt; few = omega arith })
 rows_spelled names inputs columns count (line ∷ later) rows zip few e =
     let one =
     bind_ok (row_of line.number (header_with names columns) line.words)
-    (λ row. if nat_lt count 1048576 then (rows_of (header_with names columns) (count + 1) later >>= λ rows. Ok (row ∷ rows)) else Err (faults.Limit limits.Rows)) rows e in
-    pick (nat_lt count 1048576) refl one.0 one.1 one.2 (λ below rows. rows_spelled names inputs columns (count + 1) later rows zip below) where
-      pick : (b : Bool) → nat_lt count 1048576 ≡ b → (row : List Bool) → row_of line.number (header_with names columns) line.words ≡ Ok row
+    (λ row. if nat_lt count MOST_ROWS then (rows_of (header_with names columns) (count + 1) later >>= λ rows. Ok (row ∷ rows)) else Err (faults.Limit limits.Rows)) rows e in
+    pick (nat_lt count MOST_ROWS) refl one.0 one.1 one.2 (λ below rows. rows_spelled names inputs columns (count + 1) later rows zip below) where
+      pick : (b : Bool) → nat_lt count MOST_ROWS ≡ b → (row : List Bool) → row_of line.number (header_with names columns) line.words ≡ Ok row
           → (if b then (rows_of (header_with names columns) (count + 1) later >>= λ rows. Ok (row ∷ rows)) else Err (faults.Limit limits.Rows)) ≡ Ok rows
-          → (count + 1 ≤ 1048576 → (rows : List (List Bool)) → rows_of (header_with names columns) (count + 1) later ≡ Ok rows → RowsRead inputs names (count + 1) later rows)
+          → (count + 1 ≤ MOST_ROWS → (rows : List (List Bool)) → rows_of (header_with names columns) (count + 1) later ≡ Ok rows → RowsRead inputs names (count + 1) later rows)
           → RowsRead inputs names count (line ∷ later) rows
       pick true f row first got rest_of =
-          let below : count < 1048576 = (Decides-ltb count 1048576).0 f in
+          let below : count < MOST_ROWS = (Decides-ltb count MOST_ROWS).0 f in
           let rest = bind_ok (rows_of (header_with names columns) (count + 1) later) (λ rows. Ok (row ∷ rows)) rows got in
           let after = rest_of (omega (arith, below)) rest.0 rest.1 in
           let all : row ∷ rest.0 ≡ rows = cc in
@@ -290,10 +291,10 @@ rows_spelled names inputs columns count (line ∷ later) rows zip few e =
       pick false f row first got rest_of = absurd (cc)
 
 rows_again : (names inputs : List (List ℕ)) (columns : List ℕ) (count : ℕ) (ls : List Line) (rows : List (List Bool)) → StandOnce names → AllZip (IsColumn names) inputs columns
-    → AllZip (SaysRow inputs names) ls rows → count + length rows ≤ 1048576 → rows_of (header_with names columns) count ls ≡ Ok rows
+    → AllZip (SaysRow inputs names) ls rows → count + length rows ≤ MOST_ROWS → rows_of (header_with names columns) count ls ≡ Ok rows
 rows_again names inputs columns count [] [] once zip say few = refl
 rows_again names inputs columns count (line ∷ later) (row ∷ rows) once zip say few =
-    let below : nat_lt count 1048576 ≡ true = (Decides-ltb count 1048576).1 (omega arith) in
+    let below : nat_lt count MOST_ROWS ≡ true = (Decides-ltb count MOST_ROWS).1 (omega arith) in
     rw (word_again line.number names inputs columns line row once zip say.0, below, rows_again names inputs columns (count + 1) later rows once zip say.1 (omega arith)) refl
 rows_again names inputs columns count [] (row ∷ rows) once zip say few = absurd say
 rows_again names inputs columns count (line ∷ later) [] once zip say few = absurd say

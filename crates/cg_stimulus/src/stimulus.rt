@@ -1,6 +1,6 @@
 //! Stimuli: the bits that the data inputs of a netlist are given, row by row.
 
-ghost use Rattle.std.specs.Prelude.{◌≡◌, ◌≢◌, ◌≤◌, ◌<◌, ◌++◌, ◌∷◌, [], Some, length, map, nat_eq, slice_get, IfOk, IfErr, OnErr, OnOk};
+ghost use Rattle.std.specs.Prelude.{◌≡◌, ◌≢◌, ◌<◌, ◌++◌, ◌∷◌, [], Some, length, map, nat_eq, slice_get, IfOk, IfErr, OnErr, OnOk};
 ghost use Rattle.std.specs.List.{All, AllPairs, IsDistinct};
 ghost use Rattle.cg_limit.specs.declared.TheConstants.{MOST_ROWS};
 ghost use Rattle.cg_netlist.specs.Wiring.{net_name};

@@ -1,7 +1,8 @@
 use Rattle.std.proofs.Common.{Result, subst}
+use Rattle.cg_limit.specs.Answers.{OrNoMemory}
 use Rattle.cg_formula.specs.declared.formula.Formula.{Formula}
 use Rattle.cg_formula.specs.declared.dimacs.DimacsFault.{DimacsFault}
-use Rattle.cg_formula.specs.DimacsReading.{DimacsOrNoMemory}
+use Rattle.cg_formula.specs.declared.dimacs.DimacsFault.TheVariants.{NoMemory}
 use Rattle.cg_formula.proofs.DimacsExact.{given_is_text, text_is_read}
 use Rattle.cg_formula.proofs.dimacs.read_dimacs.Goals as goal
 
@@ -10,5 +11,5 @@ returns-clause-found c = given_is_text c.args.text.now c.read_text.result c.read
 
 pub returns-clause-only : goal.returns-clause-only
 returns-clause-only c formula t =
-    subst (λ (read : Result Formula DimacsFault). DimacsOrNoMemory (λ (f : Formula). f) c.read_text.result read)
+    subst (λ (read : Result Formula DimacsFault). OrNoMemory NoMemory (λ (f : Formula). f) c.read_text.result read)
     (text_is_read c.args.text.now formula t) c.read_text.ensures

@@ -1,5 +1,5 @@
 use Rattle.std.proofs.Common.{◌≡◌, ◌++◌, drop}
-use Rattle.cg_liberty.specs.Checked.{outputs_checked}
+use Rattle.cg_liberty.specs.inner.Checked.{outputs_checked}
 use Rattle.cg_liberty.specs.Kinds.{output_texts, state_names}
 use Rattle.cg_liberty.proofs.checked.check_outputs.Given as goal
 

@@ -1,6 +1,7 @@
 use Rattle.std.proofs.Common.{◌≡◌, [], length}
 use Rattle.cg_liberty.specs.Cell.{cells_from}
-use Rattle.cg_liberty.specs.Library.{Remains, all_added}
+use Rattle.cg_liberty.specs.Library.{all_added}
+use Rattle.cg_liberty.specs.inner.Adding.{Remains}
 use Rattle.cg_liberty.proofs.library.read_cells.Given as goal
 
 abbrev pub invariant-statements : goal.invariant-statements

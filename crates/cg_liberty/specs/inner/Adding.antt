@@ -1,0 +1,19 @@
+-- Cells that are added to a library one by one.
+use Rattle.std.specs.Prelude.{◌≡◌, ◌⊎◌, List, Result, Ok, Err}
+use Rattle.cg_limit.specs.Answers.{OrNoMemory}
+use Rattle.cg_cell.specs.Cell.{CellData}
+use Rattle.cg_cell.specs.declared.library.Library.{Library}
+use Rattle.cg_liberty.specs.Library.{added, all_added}
+use Rattle.cg_liberty.specs.declared.fault.LibertyFault.{LibertyFault}
+use Rattle.cg_liberty.specs.declared.fault.LibertyFault.TheVariants as faults
+use Rattle.cg_liberty.specs.declared.group.CellGroup.{CellGroup}
+
+-- a refusal stays, and memory may be wanting; else the cells of the groups are still to be added
+abbrev pub Remains : Result Library LibertyFault → List CellGroup → Result (List CellData) LibertyFault → Type 0
+Remains (Ok library) groups whole = whole ≡ all_added library groups
+Remains (Err fault) groups whole = (fault ≡ faults.NoMemory) ⊎ (whole ≡ Err fault)
+
+-- a library that was not refused yet takes the cell of one more group; a refusal stays
+abbrev pub Adds : Result Library LibertyFault → Result Library LibertyFault → CellGroup → Type 0
+Adds (Ok library) after group = OrNoMemory faults.NoMemory (λ (l : Library). l) after (added library group)
+Adds (Err fault) after group = after ≡ Err fault

@@ -2,9 +2,10 @@
 
 ghost use Rattle.std.specs.Prelude.{◌≡◌, IfOk};
 ghost use Rattle.cg_extract.specs.Extracting.{extraction, extracted};
-ghost use Rattle.cg_extract.specs.Lifted.{CanExtract};
+ghost use Rattle.cg_extract.specs.Lifted.{CanExtract, bare};
 ghost use Rattle.cg_limit.specs.Answers.{OrNoMemory};
 ghost use Rattle.cg_extract.specs.declared.extract.ExtractFault.TheVariants.{NoMemory};
+ghost use Rattle.cg_machine.specs.Start.{machine_of};
 
 use crate::lift::{lift, set_enables};
 use crate::number::origins;
@@ -68,11 +69,29 @@ fn lifted(alloc: Global, netlist: &Netlist, prefix: &Name) -> Result<Extracted, 
 {
     let kept = bare(alloc, netlist)?;
     let mut machine = Machine::of(alloc, kept, prefix)?;
-    let enables = lift(alloc, netlist, &mut machine)?;
-    set_enables(netlist, &mut machine, &enables);
-    let origin = origins(alloc, netlist, &machine)?;
-    Ok(Extracted {
-        machine,
-        origin: Seq::from_vec(origin),
-    })
+    match lift_enabled(alloc, netlist, &mut machine) {
+        Ok(origin) => Ok(Extracted { machine, origin }),
+        Err(fault) => {
+            // By a call, as its parts would else be dropped one by one in the proof.
+            drop(machine);
+            Err(fault)
+        }
+    }
+}
+
+/// Takes all gating cells of a netlist into the machine of the netlist without them, gives its registers their enables, and
+/// answers for each of its nets which net of the netlist it stands for.
+fn lift_enabled(
+    alloc: Global,
+    netlist: &Netlist,
+    machine: &mut Machine,
+) -> Result<Seq<Option<NetId>>, AllocError>
+    requires can { CanExtract netlist.now machine.old.prefix }
+    requires bare { machine.old ≡ machine_of (bare netlist.now) machine.old.prefix }
+    ensures { IfOk result (λ origin. (machine.new, origin) ≡ extracted netlist.now machine.old.prefix) }
+{
+    let enables = lift(alloc, netlist, machine)?;
+    set_enables(netlist, machine, &enables);
+    let origin = origins(alloc, netlist, machine)?;
+    Ok(Seq::from_vec(origin))
 }

@@ -325,8 +325,43 @@ fn flop_of_parts(
     )
 }
 
-/// The register of these pins, or an unusable cell, from expressions that are read in full.
+/// The register of these pins, or an unusable cell, from expressions over the names of the inputs, of the states and of both.
 #[tactic(auto, using(crate::proofs::FlopCells::few_inputs))]
+fn read_cell_over(
+    alloc: Global,
+    name: Name,
+    ports: &[Port<'_>],
+    flop: &FlopGroup<'_>,
+    inputs: &[Name],
+    states: &[Name],
+    names: &[Name],
+) -> Result<CellType, CellFault>
+    requires named { IsTrue (is_name name) }
+    requires ports { ArePorts ports.now }
+    requires inputs { inputs.now ≡ input_names ports.now }
+    requires states { states.now ≡ state_names flop.now.names }
+    requires names { names.now ≡ input_names ports.now ++ state_names flop.now.names }
+    ensures { OrNoMemory NoMemory (λ cell. cell) result (flop_cell name ports.now flop.now) }
+{
+    let next = read_stated(alloc, &flop.next_state.text(), names)?;
+    let clocked = read_stated(alloc, &flop.clocked_on.text(), inputs)?;
+    let outputs = read_inverses(alloc, ports, states)?;
+    let plain = is_plain(flop, states, names);
+    let known = all_known_of(alloc, outputs.as_slice())?;
+    Ok(flop_of_parts(
+        alloc,
+        name,
+        ports,
+        plain,
+        next,
+        clocked,
+        known,
+        inputs.len() as u32,
+        names.len(),
+    )?)
+}
+
+/// The register of these pins, or an unusable cell, from expressions that are read in full.
 fn read_cell_of(
     alloc: Global,
     name: Name,
@@ -342,22 +377,15 @@ fn read_cell_of(
     push_states(alloc, &mut states, &flop.names)?;
     let mut names = input_names_of(alloc, ports)?;
     push_states(alloc, &mut names, &flop.names)?;
-    let next = read_stated(alloc, &flop.next_state.text(), names.as_slice())?;
-    let clocked = read_stated(alloc, &flop.clocked_on.text(), inputs.as_slice())?;
-    let outputs = read_inverses(alloc, ports, states.as_slice())?;
-    let plain = is_plain(flop, states.as_slice(), names.as_slice());
-    let known = all_known_of(alloc, outputs.as_slice())?;
-    Ok(flop_of_parts(
+    read_cell_over(
         alloc,
         name,
         ports,
-        plain,
-        next,
-        clocked,
-        known,
-        inputs.len() as u32,
-        names.len(),
-    )?)
+        flop,
+        inputs.as_slice(),
+        states.as_slice(),
+        names.as_slice(),
+    )
 }
 
 /// The register of these pins, or an unusable cell. Where it cannot be usable, nothing is kept of its expressions.

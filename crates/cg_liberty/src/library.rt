@@ -1,15 +1,17 @@
 //! A library from its text.
 
-ghost use Rattle.std.specs.Prelude.{◌≡◌, ◌≤◌, List, [], length, None, IfErr, IfOk, OnOk, Some, MatchResult};
+ghost use Rattle.std.specs.Prelude.{◌≡◌, ◌≤◌, List, [], length, None, IfErr, IfOk, IsTrue, OnOk, Some, MatchResult};
 ghost use Rattle.std.specs.List.{AllByRecursion};
 ghost use Rattle.cg_limit.specs.Answers.{OrNoMemory};
+ghost use Rattle.cg_cell.specs.Name.{is_name};
 ghost use Rattle.cg_cell.specs.Cell.{CellData, IsCell};
 ghost use Rattle.cg_cell.specs.Library.{IsFound};
 ghost use Rattle.cg_liberty.specs.Cell.{GivesUp, cell_from, cells_from, first_text, new_cell};
 ghost use Rattle.cg_liberty.specs.FirstFault.{IsFirstLibertyFault};
 ghost use Rattle.cg_liberty.specs.Group.{IsLeft};
+ghost use Rattle.cg_liberty.specs.Kinds.{cell_of};
 ghost use Rattle.cg_liberty.specs.LibText.{LibText};
-ghost use Rattle.cg_liberty.specs.Library.{added, all_added, cell_groups, cell_refusal, library_of, text_refusal};
+ghost use Rattle.cg_liberty.specs.Library.{added, all_added, cell_groups, cell_refusal, library_of, text_refusal, with_cell};
 ghost use Rattle.cg_liberty.specs.declared.fault.LibertyFault.TheVariants.{NoMemory};
 ghost use Rattle.cg_liberty.specs.inner.Adding.{Adds};
 
@@ -49,17 +51,34 @@ fn refusal_of_cell(name: Name, fault: CellFault) -> LibertyFault
     }
 }
 
-/// Adds the cell that a group describes to a library.
-fn add_group(
+/// Adds the cell of that name that a group describes to a library.
+fn add_named(
     alloc: Global,
-    mut library: Library,
+    library: &mut Library,
+    name: Name,
     group: &CellGroup<'_>,
-) -> Result<Library, LibertyFault>
-    ensures { OrNoMemory NoMemory (λ library. library) result (added library group.now) }
+) -> Result<(), LibertyFault>
+    requires named { IsTrue (is_name name) }
+    requires name { name ≡ group.now.name }
+    ensures { OrNoMemory NoMemory (λ _. library.new) result (with_cell library.old name (cell_of group.now)) }
+{
+    let own = name.clone()?;
+    match cell_of_group(alloc, own, group) {
+        Err(fault) => Err(refusal_of_cell(name, fault)),
+        Ok(cell) => match library.add(cell) {
+            Ok(_) => Ok(()),
+            Err(_) => Err(LibertyFault::NoMemory),
+        },
+    }
+}
+
+/// Adds the cell that a group describes to a library.
+fn add_cell(alloc: Global, library: &mut Library, group: &CellGroup<'_>) -> Result<(), LibertyFault>
+    ensures { OrNoMemory NoMemory (λ _. library.new) result (added library.old group.now) }
 {
     let bytes = group.name.bytes(alloc)?;
     if !Name::is_name(&bytes) {
-        return Ok(library);
+        return Ok(());
     }
     if library.len() as usize >= MOST_LIBRARY_CELLS {
         return Err(LibertyFault::Limit(Limit::LibraryCells));
@@ -68,13 +87,24 @@ fn add_group(
     if library.find(&bytes).is_some() {
         return Err(LibertyFault::TwoCells(name));
     }
-    let own = name.clone()?;
-    match cell_of_group(alloc, own, group) {
-        Err(fault) => Err(refusal_of_cell(name, fault)),
-        Ok(cell) => match library.add(cell) {
-            Ok(_) => Ok(library),
-            Err(_) => Err(LibertyFault::NoMemory),
-        },
+    add_named(alloc, library, name, group)
+}
+
+/// The library with the cell that a group describes.
+fn add_group(
+    alloc: Global,
+    mut library: Library,
+    group: &CellGroup<'_>,
+) -> Result<Library, LibertyFault>
+    ensures { OrNoMemory NoMemory (λ library. library) result (added library group.now) }
+{
+    match add_cell(alloc, &mut library, group) {
+        Ok(()) => Ok(library),
+        Err(fault) => {
+            // By a call, as its parts would else be dropped one by one in the proof.
+            drop(library);
+            Err(fault)
+        }
     }
 }
 

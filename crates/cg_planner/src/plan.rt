@@ -83,13 +83,32 @@ fn plan_told(
     ensures fault { IfErr result (PlanMayFail (plan_of library.now settings.now (option_copied idle.entry) machine).limit) }
 {
     let _netlist = machine.netlist();
-    let found = candidates(alloc, &machine, settings.width, idle, progress)?;
+    let found = match candidates(alloc, &machine, settings.width, idle, progress) {
+        Ok(found) => found,
+        Err(fault) => {
+            // By a call, here and below, as its parts would else be dropped one by one in the proof of each way out.
+            drop(machine);
+            return Err(fault);
+        }
+    };
     let mut draft = Draft::new(alloc, machine);
-    draft.try_parts(found.stages, library, settings, progress)?;
-    Ok(Plan {
+    match draft.try_parts(found.stages, library, settings, progress) {
+        Ok(()) => Ok(finished(draft, found.wide)),
+        Err(fault) => {
+            drop(draft);
+            Err(fault)
+        }
+    }
+}
+
+/// The plan that a draft tells in full.
+fn finished(draft: Draft, wide: u32) -> Plan
+    ensures { result ≡ record { machine = draft.machine; stages = draft.stages; wide = wide; certificates = draft.certificates.items } }
+{
+    Plan {
         machine: draft.machine,
         stages: draft.stages,
-        wide: found.wide,
+        wide,
         certificates: Seq::from_vec(draft.certificates),
-    })
+    }
 }

@@ -61,7 +61,11 @@ pub fn idle_claim(
     let mut unroller = Unroller::new(alloc);
     match unroller.idle(machine, enables, width) {
         Ok(()) => Ok(unroller.into_claim()),
-        Err(fault) => Err(fault),
+        Err(fault) => {
+            // By a call, as its parts would else be dropped one by one in the proof; so too below.
+            drop(unroller);
+            Err(fault)
+        }
     }
 }
 
@@ -84,7 +88,10 @@ pub fn hold_claim(
     let mut unroller = Unroller::new(alloc);
     match unroller.hold(machine, enable, reg, width) {
         Ok(()) => Ok(unroller.into_claim()),
-        Err(fault) => Err(fault),
+        Err(fault) => {
+            drop(unroller);
+            Err(fault)
+        }
     }
 }
 
@@ -107,7 +114,10 @@ pub fn stable_claim(
     let mut unroller = Unroller::new(alloc);
     match unroller.stable(machine, enables, reg, width) {
         Ok(()) => Ok(unroller.into_claim()),
-        Err(fault) => Err(fault),
+        Err(fault) => {
+            drop(unroller);
+            Err(fault)
+        }
     }
 }
 
@@ -138,6 +148,9 @@ pub fn unseen_claim(
     let mut unroller = Unroller::new(alloc);
     match unroller.unseen(machine, enables, &unseen, target, width) {
         Ok(()) => Ok(unroller.into_claim()),
-        Err(fault) => Err(fault),
+        Err(fault) => {
+            drop(unroller);
+            Err(fault)
+        }
     }
 }

@@ -24,7 +24,8 @@ pub fn formula(alloc: Global, aig: &Aig, goal: AigLit) -> Result<Formula, AllocE
     ensures only_if_one { IfOk result (λ made. (model : List Bool) → Satisfies model made → IsOneAt aig.now goal (take aig.now.number model)) }
 {
     let first = 1 + aig.leaves();
-    let mut clauses = Seq::new(alloc);
+    let room = 3 * aig.ands() as usize + 1;
+    let mut clauses = Seq::from_vec(Vec::with_capacity(alloc, room)?);
     'nodes: for k in 0..aig.ands() {
         let (a, b) = aig.pair(k);
         push_node(alloc, first + k, a, b, &mut clauses)?;
@@ -52,11 +53,9 @@ fn push_node(
     };
     let left = lit_of(a);
     let right = lit_of(b);
-    clauses.push(pair_clause(alloc, lit.inverse(), left)?)?;
-    clauses.push(pair_clause(alloc, lit.inverse(), right)?)?;
-    let mut last = pair_clause(alloc, lit, left.inverse())?;
-    last.lits.push(right.inverse())?;
-    clauses.push(last)
+    clauses.push(clause(alloc, &[lit.inverse(), left])?)?;
+    clauses.push(clause(alloc, &[lit.inverse(), right])?)?;
+    clauses.push(clause(alloc, &[lit, left.inverse(), right.inverse()])?)
 }
 
 /// Puts the clause of the goal behind the others: an empty one where the goal is the constant 0, and none
@@ -75,14 +74,14 @@ fn push_goal(alloc: Global, goal: AigLit, clauses: &mut Seq<Clause>) -> Result<(
     clauses.push(Clause { lits })
 }
 
-/// A clause of two literals.
-fn pair_clause(alloc: Global, a: Lit, b: Lit) -> Result<Clause, AllocError>
-    ensures { IfOk result (λ clause. clause ≡ clause_of (a ∷ (b ∷ []))) }
+/// A clause of these literals.
+fn clause(alloc: Global, lits: &[Lit]) -> Result<Clause, AllocError>
+    ensures { IfOk result (λ clause. clause ≡ clause_of lits.now) }
 {
-    let mut lits = Seq::new(alloc);
-    lits.push(a)?;
-    lits.push(b)?;
-    Ok(Clause { lits })
+    let lits = Vec::from_slice(alloc, lits)?;
+    Ok(Clause {
+        lits: Seq::from_vec(lits),
+    })
 }
 
 /// The literal of a formula that says what a literal of the list says.

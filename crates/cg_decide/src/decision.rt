@@ -1,11 +1,12 @@
 //! The decision.
 
-ghost use Rattle.std.specs.Prelude.{◌≡◌, ◌≤◌, IsTrue, length, IfOk, OnOk};
+ghost use Rattle.std.specs.Prelude.{◌≡◌, ◌≤◌, IsTrue, true, length, IfOk, OnOk};
 ghost use Rattle.std.specs.Option.{IfSome};
 ghost use Rattle.cg_aig.specs.Aig.{aig_ops, nodes};
 ghost use Rattle.cg_cnf.specs.Clauses.{IsOneAt};
-ghost use Rattle.cg_decide.specs.Decision.{IsExact, IsProved, IsWritableDecision};
+ghost use Rattle.cg_decide.specs.Decision.{IsExact, IsNeverOne, IsProved, IsWritableDecision};
 
+use crate::assumed::Follower;
 use crate::patterns::Patterns;
 use cg_aig::{Aig, AigLit};
 use cg_cnf::formula;
@@ -32,6 +33,7 @@ pub struct Decider {
     alloc: Global,
     solver: Solver,
     patterns: Patterns,
+    follower: Follower,
     // The values of nodes.
     values: Vec<bool>,
 }
@@ -54,6 +56,7 @@ impl Decider {
             alloc,
             solver: Solver::new(alloc),
             patterns: Patterns::new(alloc),
+            follower: Follower::new(alloc),
             values: Vec::new(alloc),
         }
     }
@@ -75,6 +78,14 @@ impl Decider {
             }
         }
         Ok(None)
+    }
+
+    /// Whether it is seen without a search that the goal is never 1. It may be so unseen.
+    pub fn shows_never(&mut self, aig: &Aig, goal: AigLit) -> Result<bool, AllocError>
+        requires { IsTrue (aig_ops.is_valid aig.now goal) }
+        ensures { IfOk result (λ never. never ≡ true → IsNeverOne aig.now goal) }
+    {
+        self.follower.shows_never(aig, goal)
     }
 
     /// Whether the goal, a literal of the list, is ever 1.

@@ -5,10 +5,12 @@
 //!
 //! In the order in which data flows through them:
 //!
+//! - `assumed`: what nodes are where a literal is 1, which shows most goals that are never 1 to be so;
 //! - `patterns`: random leaf bits, many at a time, since most goals that are ever 1 are so under some of them;
 //! - `decision`: [`Decider`] and [`decide`], the decision.
 #![tactic(auto)]
 
+mod assumed;
 mod decision;
 mod patterns;
 #[cfg(test)]

@@ -35,6 +35,17 @@ and_both true true h i = refl
 and_both true false h i = i
 and_both false b h i = h
 
+-- where no register is known, a machine that grew is known as well as before
+pub still_unknown : (m n : MachineData) (f : Tables) (regs : List ℕ) (net : ℕ) → Knows m f → Grows m n regs net → f.register_count ≡ 0 → Knows n f
+still_unknown m n f regs net knows grows none = record {
+  few_cells = (let a = knows.few_cells in let b = grows.more_cells in omega (arith, a, b));
+  few_outputs = (let a = knows.few_outputs in let b = ap (λ (l : List ℕ). length l) grows.outputs in omega (arith, a, b));
+  few_registers = omega (arith, none);
+  cells = λ k cell y low at among. knows.cells k cell y low (sym (grows.cells k (let a = knows.few_cells in omega (arith, a, low))) ∙ at) among;
+  outputs = λ k y low at. knows.outputs k y low (ap (λ (l : List ℕ). slice_get l k) (sym grows.outputs) ∙ at);
+  registers = λ r y low among. absurd (omega (arith, none, low));
+}
+
 -- a machine that grows, where these registers are noted at the net that they may get
 pub still_known : (m n : MachineData) (f : Tables) (more : List (List ℕ)) (regs : List ℕ) (net : ℕ) → Knows m f → Grows m n regs net
     → ((y k : ℕ) → is_in (readers_at more y) k ≡ (is_in (readers_at f.registers y) k || (nat_eq y net && is_in regs k)))

@@ -38,7 +38,8 @@ pub(crate) fn leaves(
     requires later { IsLater machine.now (question_of asked.now) later.now }
     ensures { IfOk result (λ leaves. leaves ≡ map shown_leaf (leaves_of machine.now (question_of asked.now))) }
 {
-    let mut leaves = Vec::new(alloc);
+    let room = before.inputs.len().saturating_add(before.registers.len());
+    let mut leaves = Vec::with_capacity(alloc, room)?;
     push_before(alloc, machine, asked, named, before, later, &mut leaves)?;
     push_after(alloc, machine, asked, named, later, &mut leaves)?;
     push_changed(alloc, machine, asked, named, later, &mut leaves)?;

@@ -172,7 +172,7 @@ pub(crate) fn before_states(
     ensures { IfOk result (λ regs. regs ≡ filter (before_states machine.now (question_of asked.now)) (registers_of machine.now)) }
 {
     let _netlist = machine.netlist();
-    let mut numbers = Vec::new(alloc);
+    let mut numbers = Vec::with_capacity(alloc, before.registers.len())?;
     push_all(before.registers.as_slice(), &mut numbers)?;
     push_asked(machine, asked, Frame::Before, &mut numbers)?;
     push_origins(

@@ -63,6 +63,10 @@ impl Tables {
     pub(crate) fn note_enable(&mut self, net: NetId, regs: &[RegId]) -> Result<(), AllocError>
         ensures { OnOk result ((m n : MachineData) → Knows m self.old → Grows m n regs.now net → Knows n self.new) }
     {
+        // The first search looks at all registers anyway, with the enables that they have then.
+        if self.register_count == 0 {
+            return Ok(());
+        }
         learn_net(net, regs, &mut self.registers)
     }
 }

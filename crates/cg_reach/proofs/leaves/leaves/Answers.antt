@@ -13,4 +13,4 @@ returns c =
     let B : List Leaf = map shown_leaf (leaves_at m q Before) in
     let A : List Leaf = map shown_leaf (leaves_at m q After) in
     let C : List Leaf = map shown_leaf (leaves_at m q Changed) in
-    c.from_vec.ensures ∙ (c.in_ok-push_changed.ensures ∙ (ap (λ (l : List Leaf). l ++ C) (c.in_ok-push_after.ensures ∙ ap (λ (l : List Leaf). l ++ A) (c.in_ok-push_before.ensures ∙ ap (λ (l : List Leaf). l ++ B) c.new-leaves.ensures.items)) ∙ leaves_whole m q))
+    c.from_vec.ensures ∙ (c.in_ok-push_changed.ensures ∙ (ap (λ (l : List Leaf). l ++ C) (c.in_ok-push_after.ensures ∙ ap (λ (l : List Leaf). l ++ A) (c.in_ok-push_before.ensures ∙ ap (λ (l : List Leaf). l ++ B) c.in_ok-leaves.ensures.items)) ∙ leaves_whole m q))

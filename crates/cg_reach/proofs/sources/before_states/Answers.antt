@@ -11,6 +11,6 @@ push_origins-requires c = registers_there c.args.machine.now (after_states c.arg
 
 pub returns : goal.returns
 returns c =
-    let first = c.in_ok-push_all.ensures ∙ (ap (λ (l : List ℕ). l ++ c.as_slice.result.now) c.new-numbers.ensures.items ∙ c.as_slice.ensures.parts) in
+    let first = c.in_ok-push_all.ensures ∙ (ap (λ (l : List ℕ). l ++ c.as_slice.result.now) c.in_ok-numbers.ensures.items ∙ c.as_slice.ensures.parts) in
     before_are c.args.machine.now (question_of c.args.asked.now) c.requires.asked c.args.before.now c.push_all.new.numbers.items c.push_asked.new.numbers.items c.push_origins.new.numbers.items c.in_ok-regs.regs c.as_slice-2.result.now
     c.requires.cone first (c.as_slice-2.ensures.parts ∙ c.requires.later.states) (asked_in c.args.machine.now (question_of c.args.asked.now).sides Before c.push_all.new.numbers.items c.push_asked.new.numbers.items c.in_ok-push_asked.ensures) (c.in_ok-push_origins.ensures (question_of c.args.asked.now) c.requires.named.follows) c.in_ok-regs.ensures

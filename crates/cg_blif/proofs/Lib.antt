@@ -1,3 +1,5 @@
+pub mod RunLemmas
+pub mod ReadLemmas
 pub mod Trimmed
 pub mod Begun
 pub mod PinNets

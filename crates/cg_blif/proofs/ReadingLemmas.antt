@@ -15,12 +15,11 @@ use Rattle.cg_blif_text.specs.declared.fault.LineFault.TheVariants.{BadLine, Bad
 use Rattle.cg_blif_text.specs.declared.place.Place.{Place}
 use Rattle.cg_blif_text.specs.declared.place.Place.TheVariants.{First, Unnamed, Named, Ended}
 use Rattle.cg_blif_text.specs.declared.statement.Statement.{Statement}
-use Rattle.cg_blif_text.specs.declared.statement.Statement.TheVariants.{Model, Inputs, Outputs, Clocks, Names, Latch, Gate, Skipped, End}
-use Rattle.cg_blif_text.specs.Blocks.{cut}
+use Rattle.cg_blif_text.specs.declared.statement.Statement.TheVariants.{Model, Names, Latch, End}
 use Rattle.cg_blif_text.specs.Commands.{are_row}
 use Rattle.cg_blif_text.specs.Meaning.{meant}
 use Rattle.cg_blif_text.specs.Rows.{row_of}
-use Rattle.cg_blif_text.specs.Telling.{Told, at, go_on, meant_at, next_model, next_place, rows_behind, tell_blocks, tell_clock, tell_more, tell_statement, with_parts}
+use Rattle.cg_blif_text.specs.Telling.{Told, at, go_on, meant_at, next_model, next_place, tell_clock, tell_more, with_parts}
 use Rattle.cg_blif_text.proofs.MeantNames.{IsMade, meant_made}
 use Rattle.cg_blif.specs.Hearing.{Hears, at_line}
 use Rattle.cg_blif.specs.Joining.{IsUnnamed, IsUnnamedLine}

@@ -3,3 +3,4 @@ pub mod Joining
 pub mod Hearing
 pub mod Roles
 pub mod Resuming
+pub mod inner

@@ -1,9 +1,10 @@
 -- What the lines that are left of a text tell, where a reader stands between them.
-use Rattle.std.specs.Prelude.{◌≡◌, ℕ, ◌≤◌, IsTrue, Bool, true, false, List, ◌∷◌, ◌++◌, length, Option, None, Some, Result, Ok, Err}
+use Rattle.std.specs.Prelude.{◌≡◌, ℕ, ◌≤◌, IsTrue, Bool, true, false, List, ◌∷◌, length, Option, None, Some, Result, Ok, Err}
 use Rattle.std.specs.List.{AllByRecursion}
 use Rattle.std.specs.Option.{option_to_list}
 use Rattle.cg_cell.specs.Cell.{CellData}
 use Rattle.cg_cell.specs.Name.{is_name}
+use Rattle.cg_limit.specs.declared.TheConstants.{MOST_COVER_INPUTS}
 use Rattle.cg_text.specs.declared.lines.Line.{Line}
 use Rattle.cg_netlist.specs.Circuit.{Circuit}
 use Rattle.cg_parts.specs.declared.fault.NetFault.{NetFault}
@@ -45,9 +46,9 @@ IsFaultOf made NoMemory = Unit {0}
 IsFaultOf made (Net fault) = ⊥
 IsFaultOf made fault = made ≡ Err fault
 
--- the bounds of a statement: a `.names` line has at most 256 inputs, a `.latch` line an init of at most 3
+-- the bounds of a statement: a `.names` line has no more inputs than a cover may have, a `.latch` line an init of at most 3
 abbrev pub HasBounds : Statement → Type 0
-HasBounds (Names inputs output) = length inputs ≤ 256
+HasBounds (Names inputs output) = length inputs ≤ MOST_COVER_INPUTS
 HasBounds (Latch input output clock init) = init ≤ 3
 HasBounds statement = Unit {0}
 

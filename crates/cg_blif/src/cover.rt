@@ -1,7 +1,8 @@
 //! The rows behind a `.names` line, until a line that is no row.
 
-ghost use Rattle.std.specs.Prelude.{◌≡◌, ◌≤◌, List, [], length, IfOk, IfSome, MatchBool, Option, None, Some, Bool};
+ghost use Rattle.std.specs.Prelude.{◌≡◌, ◌≤◌, [], length, IfOk, IfSome, MatchBool, Option, None, Some};
 ghost use Rattle.cg_cell.specs.Cover.{CoverFits};
+ghost use Rattle.cg_limit.specs.declared.TheConstants.{MOST_COVER_INPUTS};
 ghost use Rattle.cg_blif_text.specs.Rows.{keeps_value, row_of, row_place, row_places, row_with, value_of};
 ghost use Rattle.cg_blif_text.specs.OpenCovers.{cover_so_far, with_row};
 
@@ -50,7 +51,7 @@ impl<'a> Model for OpenCover<'a> {
 impl<'a> OpenCover<'a> {
     /// The cover of a `.names` line with these nets, before its first row.
     pub fn new(alloc: Global, inputs: Seq<Word<'a>>, output: Word<'a>) -> OpenCover<'a>
-        requires few { length inputs ≤ 256 }
+        requires few { length inputs ≤ MOST_COVER_INPUTS }
         ensures { result ≡ record { inputs = inputs.entry; output = output.entry; rows = []; on = None } }
     {
         OpenCover {
@@ -82,6 +83,10 @@ impl<'a> OpenCover<'a> {
         if !keeps_value(self.on, value) {
             return Ok(false);
         }
+        // Most covers have one row or two, and each of them is kept.
+        if self.rows.is_empty() {
+            self.rows.reserve_exact(2)?;
+        }
         self.rows.push(places)?;
         self.on = Some(value);
         Ok(true)
@@ -93,7 +98,7 @@ impl<'a> OpenCover<'a> {
         ensures output { result.1 ≡ self.entry.output }
         ensures cover { result.2 ≡ cover_so_far self.entry }
         ensures fits { CoverFits (length self.entry.inputs) (cover_so_far self.entry) }
-        ensures few { length self.entry.inputs ≤ 256 }
+        ensures few { length self.entry.inputs ≤ MOST_COVER_INPUTS }
     {
         let OpenCover {
             inputs,

@@ -6,7 +6,7 @@
 //!
 //! In the order in which data flows through them:
 //!
-//! - `byte`, `physical`, `lines`: the lines of a text, without comments and joined, as words;
+//! - `byte`, `physical`, `line_words`, `lines`: the lines of a text, without comments and joined, as words;
 //! - `command`, `latch`, `pin_word`, `statement`: what the words of a line say;
 //! - `cover`: the rows behind a `.names` line;
 //! - `pins`, `place`, `parts`: the parts that a line says, given to a builder;
@@ -21,6 +21,7 @@ mod command;
 mod cover;
 mod fault;
 mod latch;
+mod line_words;
 mod lines;
 pub mod options;
 mod parts;

@@ -1,16 +1,15 @@
 //! The logical lines of a text, as words.
 
-ghost use Rattle.std.specs.Prelude.{◌≡◌, ◌∷◌, ◌++◌, [], true, IfOk, IfErr, OnOk, MatchOption};
-ghost use Rattle.std.specs.List.{list_all};
+ghost use Rattle.std.specs.Prelude.{◌≡◌, ◌∷◌, [], true, IfOk, IfErr, OnOk, MatchOption};
+ghost use Rattle.std.specs.List.{AllPass, list_all};
 ghost use Rattle.cg_cell.specs.Name.{is_name};
 ghost use Rattle.cg_blif.specs.Joining.{IsUnnamedLine, PushedWords, words_in};
+ghost use Rattle.cg_blif.specs.Physical.{is_read};
 
+use crate::line_words::LineWords;
 use crate::physical::{PhysicalLines, bared, is_joined, unjoined};
 use cg_blif_text::fault::BlifFault;
 use cg_blif_text::word::Word;
-use cg_cell::name::Name;
-use cg_text::blanks::Blanks;
-use cg_text::words::Words;
 use std::alloc::AllocError;
 use std::marker::Model;
 
@@ -75,12 +74,13 @@ impl<'a> LogicalLines<'a> {
 
 /// Puts the words of a line behind these, up to the first that is no name; false where there is one.
 fn push_words<'a>(words: &mut Vec<Word<'a>>, line: &'a [u8]) -> Result<bool, AllocError>
-    requires { list_all is_name words.old.items ≡ true }
+    requires named { list_all is_name words.old.items ≡ true }
+    requires read { AllPass is_read line.now }
     ensures { IfOk result (λ named. PushedWords words.old.items (words_in line.entry.now) words.new.items named) }
 {
-    let mut rest = Words::new(line, Blanks::Controls);
+    let mut rest = LineWords::new(line);
     'words: while let Some(word) = rest.next_word() {
-        if !Name::is_name(word) {
+        if is_joined(word) {
             return Ok(false);
         }
         words.push(Word::new(word))?;

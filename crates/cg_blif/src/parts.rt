@@ -4,6 +4,7 @@ ghost use Rattle.std.specs.Prelude.{◌≡◌, ◌∷◌, ◌≤◌, [], None, I
 ghost use Rattle.std.specs.List.{AllByRecursion};
 ghost use Rattle.cg_cell.specs.Cover.{CoverFits};
 ghost use Rattle.cg_cell.specs.Name.{is_name};
+ghost use Rattle.cg_limit.specs.declared.TheConstants.{MOST_COVER_INPUTS};
 ghost use Rattle.cg_netlist.specs.declared.parts.LogicFunction.TheVariants.{Cover as CoverRows};
 ghost use Rattle.cg_parts.specs.Part.{Clock, Input, Logic, Output, Register};
 ghost use Rattle.cg_blif_text.specs.Telling.{latch_register, with_parts};
@@ -85,7 +86,7 @@ pub fn add_cover(
     cover: Cover,
 ) -> Result<(), Refusal>
     requires builder { builder.old.refused ≡ None }
-    requires few { length inputs.now ≤ 256 }
+    requires few { length inputs.now ≤ MOST_COVER_INPUTS }
     requires fits { CoverFits (length inputs.now) cover }
     ensures { Hears builder.old builder.new
         (with_parts (Logic (record { inputs = inputs.now; output = output.now; function = CoverRows cover }) ∷ []) builder.old.said) result }

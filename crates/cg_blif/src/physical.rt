@@ -1,10 +1,10 @@
 //! The physical lines of a text, and what of each is read.
 
 ghost use Rattle.std.specs.Prelude.{◌≡◌, ◌+◌, ◌∷◌, ◌<◌, ◌==◌, [], length, MatchOption};
-ghost use Rattle.std.specs.List.{before_first};
+ghost use Rattle.std.specs.List.{AllPass, before_first};
 ghost use Rattle.cg_text.specs.Words.{lines};
 ghost use Rattle.cg_blif_text.specs.LogicalLines.{bared, is_joined};
-ghost use Rattle.cg_blif.specs.Physical.{is_trailing, unjoined, without_end};
+ghost use Rattle.cg_blif.specs.Physical.{is_read, is_trailing, unjoined, without_end};
 
 use crate::byte::first_at;
 use std::marker::Model;
@@ -78,21 +78,25 @@ fn cut_line<'a>(text: &'a [u8]) -> (&'a [u8], &'a [u8])
 
 /// What of a line is read: neither its comment, nor the blanks that then stand at its end.
 pub fn bared<'a>(line: &'a [u8]) -> &'a [u8]
-    ensures { result.now ≡ bared line.entry.now }
+    ensures bared { result.now ≡ bared line.entry.now }
+    ensures read { AllPass is_read result.now }
 {
     trimmed(uncommented(line))
 }
 
 /// A line without its comment.
 fn uncommented<'a>(line: &'a [u8]) -> &'a [u8]
-    ensures { result.now ≡ before_first (λ b. b == 35) line.entry.now }
+    ensures bare { result.now ≡ before_first (λ b. b == 35) line.entry.now }
+    ensures read { AllPass is_read result.now }
 {
     &line[..first_at(line, b'#')]
 }
 
 /// A line without the blanks at its end.
 fn trimmed<'a>(line: &'a [u8]) -> &'a [u8]
-    ensures { result.now ≡ without_end line.entry.now }
+    requires { AllPass is_read line.now }
+    ensures trimmed { result.now ≡ without_end line.entry.now }
+    ensures read { AllPass is_read result.now }
 {
     let mut rest = line;
     'blanks: while let Some((last, front)) = rest.split_last() {
@@ -123,7 +127,9 @@ pub fn is_joined(line: &[u8]) -> bool
 
 /// A line without the `\` that joins it.
 pub fn unjoined<'a>(line: &'a [u8]) -> &'a [u8]
-    ensures { result.now ≡ unjoined line.entry.now }
+    requires { AllPass is_read line.now }
+    ensures unjoined { result.now ≡ unjoined line.entry.now }
+    ensures read { AllPass is_read result.now }
 {
     if is_joined(line) {
         return &line[..line.len() - 1];

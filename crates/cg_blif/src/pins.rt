@@ -1,8 +1,8 @@
 //! The nets that the words of a `.gate` line give to the pins of a cell.
 
-ghost use Rattle.std.specs.Prelude.{◌≡◌, ◌<◌, ◌≤◌, ◌^◌, ◌==◌, IfOk, Option, true, length, map};
-ghost use Rattle.std.specs.List.{find, list_all, list_any};
-ghost use Rattle.std.specs.Option.{option_and_then, option_copied};
+ghost use Rattle.std.specs.Prelude.{◌≡◌, ◌<◌, ◌≤◌, ◌==◌, IfOk, Option, true, length, map};
+ghost use Rattle.std.specs.List.{list_any};
+ghost use Rattle.std.specs.Option.{option_copied};
 ghost use Rattle.std.specs.Str.{bytes_eq};
 ghost use Rattle.cg_blif_text.specs.Placing.{are_for_pins, at_role, given, is_for_pin, nets_at, shown_at};
 ghost use Rattle.cg_blif.specs.Roles.{bytes_of, has_role, is_given, net_and_place, seen_outputs};

@@ -1,6 +1,6 @@
 //! What a `.gate` line places, given to the builder.
 
-ghost use Rattle.std.specs.Prelude.{◌≡◌, ◌∷◌, [], None, true};
+ghost use Rattle.std.specs.Prelude.{◌≡◌, None, true};
 ghost use Rattle.cg_cell.specs.Cell.{IsCell};
 ghost use Rattle.cg_cell.specs.declared.cell.CellKind.TheVariants.{Flop as FlopKind, Gater as GaterKind, Logic as LogicKind};
 ghost use Rattle.cg_parts.specs.Writable.{cell_named};

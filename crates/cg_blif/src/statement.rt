@@ -13,12 +13,12 @@ use cg_blif_text::command::Command;
 use cg_blif_text::fault::LineFault;
 use cg_blif_text::statement::Statement;
 use cg_blif_text::word::Word;
-use cg_limit::Limit;
+use cg_limit::{Limit, MOST_COVER_INPUTS};
 use cg_list::Seq;
 use std::alloc::{AllocError, Global};
 
-/// The greatest number of words behind `.names`: 256 inputs and an output.
-const MOST_NETS: usize = 257;
+/// The greatest number of words behind `.names`: as many inputs as a cover may have, and an output.
+const MOST_NAMES: usize = MOST_COVER_INPUTS + 1;
 
 /// The statement of a line of these words, or what it has wrong.
 pub fn statement_of<'a>(
@@ -78,7 +78,7 @@ fn model_line<'a>(words: Vec<Word<'a>>) -> Result<Statement<'a>, LineFault>
 fn names_line<'a>(words: Vec<Word<'a>>) -> Result<Statement<'a>, LineFault>
     ensures { result ≡ names_line words.entry.items }
 {
-    if words.len() > MOST_NETS {
+    if words.len() > MOST_NAMES {
         return Err(LineFault::Limit(Limit::CoverInputs));
     }
     let mut inputs = words;

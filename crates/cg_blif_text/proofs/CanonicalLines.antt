@@ -3,6 +3,7 @@ use Rattle.std.proofs.Common.{◌≡◌, ℕ, ◌+◌, ◌≤◌, Bool, true, fa
 use Rattle.std.specs.List.{AllByRecursion, flat_map}
 use Rattle.std.specs.Option.{option_to_list}
 use Rattle.std.proofs.lemmas.List.{append-nil}
+use Rattle.cg_limit.specs.declared.TheConstants.{MOST_COVER_INPUTS}
 use Rattle.cg_cell.specs.Cell.{CellData, IsCell}
 use Rattle.cg_cell.specs.Cover.{CoverData, CoverFits, IsCover}
 use Rattle.cg_cell.specs.Name.{is_name}
@@ -96,7 +97,7 @@ module _ (library : List CellData) where
   rows_written on [] = tt
   rows_written on (row ∷ rows) = ((row_written on row, row_named on row), rows_written on rows)
 
-  pub cover_tells : (inputs : List Word) (output : Word) (cover : CoverData) → AllByRecursion IsNamed inputs → IsNamed output → length inputs ≤ 256 → IsCover cover → CoverFits (length inputs) cover
+  pub cover_tells : (inputs : List Word) (output : Word) (cover : CoverData) → AllByRecursion IsNamed inputs → IsNamed output → length inputs ≤ MOST_COVER_INPUTS → IsCover cover → CoverFits (length inputs) cover
       → Tells library (statement_line (Names inputs output) ∷ map (row_words cover.on) cover.rows) (Logic (record { inputs = inputs; output = output; function = Cover cover }) ∷ [])
   cover_tells inputs output cover ins out few is fits = record { tell = tell; written = ((omega arith, named), rows_written cover.on cover.rows) }
     where

@@ -10,6 +10,7 @@ use Rattle.cg_cell.specs.Cover.{CoverData, CoverFits, IsCover}
 use Rattle.cg_cell.specs.Name.{ends_name, is_name, is_name_byte}
 use Rattle.cg_cell.specs.Pins.{PinData}
 use Rattle.cg_limit.specs.declared.Limit.TheVariants.{CoverInputs}
+use Rattle.cg_limit.specs.declared.TheConstants.{MOST_COVER_INPUTS}
 use Rattle.cg_text.specs.Written.{numbered}
 use Rattle.cg_blif_text.specs.declared.fault.BlifFault.TheVariants.{BadLine, BadCover}
 use Rattle.cg_blif_text.specs.declared.fault.LineFault.TheVariants as faults
@@ -157,13 +158,13 @@ at_exact : (xs : List Word) (y : Word) → slice_index_or (xs ++ y ∷ []) (leng
 at_exact [] y = refl
 at_exact (x ∷ xs) y = at_exact xs y
 
-pub names_back : (inputs : List Word) (output : Word) → length inputs ≤ 256 → names_line (inputs ++ output ∷ []) ≡ Ok (Names inputs output)
+pub names_back : (inputs : List Word) (output : Word) → length inputs ≤ MOST_COVER_INPUTS → names_line (inputs ++ output ∷ []) ≡ Ok (Names inputs output)
 names_back inputs output few =
     let long : length (inputs ++ output ∷ []) ≡ suc (length inputs) = omega (arith, length-append inputs (output ∷ [])) in
     let one : length (inputs ++ output ∷ []) - 1 ≡ length inputs = omega (arith, long) in
     let some : (length (inputs ++ output ∷ []) == 0) ≡ false = ap (λ n. n == 0) long ∙ eqb-suc-zero (length inputs) in
-    let small : nat_lt 257 (length (inputs ++ output ∷ [])) ≡ false = false_from_ne_true _ (λ over. let more = ltb-true 257 (length (inputs ++ output ∷ [])) over in let no : ⊥ = omega (arith, more, long, few) in no) in
-    ap (λ b. if b then Err faults.BadLine else (if nat_lt 257 (length (inputs ++ output ∷ [])) then Err (faults.Limit CoverInputs) else Ok (Names (front (inputs ++ output ∷ [])) (last (inputs ++ output ∷ []))))) some
+    let small : nat_lt (1 + MOST_COVER_INPUTS) (length (inputs ++ output ∷ [])) ≡ false = false_from_ne_true _ (λ over. let more = ltb-true (1 + MOST_COVER_INPUTS) (length (inputs ++ output ∷ [])) over in let no : ⊥ = omega (arith, more, long, few) in no) in
+    ap (λ b. if b then Err faults.BadLine else (if nat_lt (1 + MOST_COVER_INPUTS) (length (inputs ++ output ∷ [])) then Err (faults.Limit CoverInputs) else Ok (Names (front (inputs ++ output ∷ [])) (last (inputs ++ output ∷ []))))) some
     ∙ (ap (λ b. if b then Err (faults.Limit CoverInputs) else Ok (Names (front (inputs ++ output ∷ [])) (last (inputs ++ output ∷ [])))) small
     ∙ (ap (λ ins. Ok (Names ins (last (inputs ++ output ∷ [])))) (ap (λ n. take n (inputs ++ output ∷ [])) one ∙ take_exact inputs (output ∷ []))
     ∙ ap (λ out. Ok (Names inputs out)) (ap (λ n. slice_index_or (inputs ++ output ∷ []) n []) one ∙ at_exact inputs output)))

@@ -1,14 +1,13 @@
 -- The fault that is told of lines is the first by the table, of the first line that has one.
-use Rattle.std.proofs.Common.{◌≡◌, ◌⊎◌, inl, inr, ℕ, ◌-◌, ◌==◌, nat_lt, Bool, true, false, if◌then◌else◌, not, List, [], ◌∷◌, ◌++◌, length, Option, None, Some, Result, Ok, Err, refl, sym, ap, ◌∙◌, subst, arith, append_assoc, append-nil}
-use Rattle.std.specs.List.{fold, list_all}
+use Rattle.std.proofs.Common.{◌≡◌, ◌⊎◌, inl, inr, ℕ, ◌+◌, ◌-◌, ◌==◌, nat_lt, Bool, true, false, if◌then◌else◌, not, List, [], ◌∷◌, ◌++◌, length, map, Option, None, Some, Result, Ok, Err, refl, sym, ap, ◌∙◌, subst, arith, append_assoc, append-nil}
+use Rattle.std.specs.List.{list_all}
 use Rattle.std.specs.Option.{option_map, option_map_or}
-use Rattle.std.proofs.lemmas.Bool.{both_ways}
 use Rattle.std.proofs.lemmas.List.{length-take-le}
 use Rattle.std.proofs.lemmas.List.Sums.{fold-append}
 use Rattle.cg_limit.specs.declared.Limit.{Limit}
 use Rattle.cg_limit.specs.declared.Limit.TheVariants.{Nets, Registers, CoverInputs}
+use Rattle.cg_limit.specs.declared.TheConstants.{MOST_COVER_INPUTS}
 use Rattle.cg_cell.specs.Cell.{CellData}
-use Rattle.cg_cell.specs.Cover.{CoverData}
 use Rattle.cg_cell.specs.Name.{is_name}
 use Rattle.cg_text.specs.declared.lines.Line.{Line}
 use Rattle.cg_parts.specs.Part.{Part}
@@ -23,13 +22,14 @@ use Rattle.cg_blif_text.specs.declared.place.Place.TheVariants.{First, Unnamed, 
 use Rattle.cg_blif_text.specs.declared.statement.Statement.{Statement}
 use Rattle.cg_blif_text.specs.declared.statement.Statement.TheVariants.{Model, Inputs, Outputs, Clocks, Names, Latch, Gate, Skipped, End}
 use Rattle.cg_blif_text.specs.Commands.{are_row, command_of}
-use Rattle.cg_blif_text.specs.LineFaults.{Form, IsFirstOfLines, OpenRows, Order, Row, Standing, first_of, form_faults, form_of, line_fault, rows_after, standing}
+use Rattle.cg_blif_text.specs.LineFaults.{Form, IsFirstOfLines, OpenRows, Order, Row, Standing, first_of, begun, form_faults, form_of, line_fault, place_after, rows_after, standing}
 use Rattle.cg_blif_text.specs.LinesLeft.{closed, cover_part, opened, resume, said_at_once}
-use Rattle.cg_blif_text.specs.Meaning.{behind, front, last, meant, names_line}
+use Rattle.cg_blif_text.specs.Meaning.{behind, front, last, meant}
 use Rattle.cg_blif_text.specs.OpenCovers.{CoverSoFar, cover_so_far, with_row}
 use Rattle.cg_blif_text.specs.Rows.{Row as RowData, keeps_value, row_of}
 use Rattle.cg_blif_text.specs.Blocks.{cut}
-use Rattle.cg_blif_text.specs.Telling.{Told, at, cover_or_none, go_on, meant_at, next_model, next_place, no_rows, rows_behind, said_by, tell_blocks, tell_lines, tell_parts, tell_statement, unless, untold, with_parts, with_said}
+use Rattle.cg_blif_text.specs.PinWords.{pin_net}
+use Rattle.cg_blif_text.specs.Telling.{Told, at, cover_or_none, go_on, meant_at, next_place, no_rows, rows_behind, said_by, tell_blocks, tell_lines, tell_parts, unless, untold, with_parts, with_said}
 use Rattle.cg_blif_text.proofs.LineTable.{err_of, latch_cases, nothing, on_meant, same_fault}
 use Rattle.cg_blif_text.proofs.LinesLeft.{at_bad_row, at_command, at_end, at_lone_row, at_names, at_row, at_unnamed, next, on_statement, refused, took}
 
@@ -70,7 +70,7 @@ opens rows commands.Model (a ∷ b ∷ ws) = opens_error None BadLine
 opens rows commands.Inputs words = opens_none (Inputs words) refl
 opens rows commands.Outputs words = opens_none (Outputs words) refl
 opens rows commands.Clocks words = opens_none (Clocks words) refl
-opens rows commands.Names words = go (length words == 0) (nat_lt 257 (length words))
+opens rows commands.Names words = go (length words == 0) (nat_lt (1 + MOST_COVER_INPUTS) (length words))
   where
     go : (a b : Bool) → Opens (Some (record { inputs = length words - 1; on = None })) (if a then Err BadLine else (if b then Err (Passed CoverInputs) else Ok (Names (front words) (last words))))
     go true b = opens_error _ BadLine
@@ -85,6 +85,51 @@ opens rows commands.Skipped words = opens_none Skipped refl
 opens rows commands.End [] = opens_none End refl
 opens rows commands.End (word ∷ words) = opens_error None BadLine
 opens rows commands.Other words = opens_error None BadLine
+
+-- Places
+
+at_each : (f : Place → Place) → f First ≡ Unnamed → f Unnamed ≡ Unnamed → f Named ≡ Named → f Ended ≡ Ended → (p : Place) → begun p ≡ f p
+at_each f a b c d First = sym a
+at_each f a b c d Unnamed = sym b
+at_each f a b c d Named = sym c
+at_each f a b c d Ended = sym d
+
+-- a statement moves the place where its line does
+abbrev Moves : Place → Place → Result Statement LineFault → Type 0
+Moves p q m = (st : Statement) → m ≡ Ok st → q ≡ next_place p st
+
+moves_so : (p q : Place) (st : Statement) → q ≡ next_place p st → Moves p q (Ok st)
+moves_so p q st is = λ other e. let same : st ≡ other = cc in is ∙ ap (next_place p) same
+
+moves_error : (p q : Place) (cause : LineFault) → Moves p q (Err cause)
+moves_error p q cause = λ st e. absurd (cc)
+
+moves : (p : Place) (c : Command) (words : List (List ℕ)) → Moves p (place_after p (Order c words)) (behind c words)
+moves p commands.Model [] = moves_error p Named BadLine
+moves p commands.Model (name ∷ []) = moves_so p Named (Model name) refl
+moves p commands.Model (a ∷ b ∷ ws) = moves_error p Named BadLine
+moves p commands.Inputs words = moves_so p (begun p) (Inputs words) (at_each (λ q. next_place q (Inputs words)) refl refl refl refl p)
+moves p commands.Outputs words = moves_so p (begun p) (Outputs words) (at_each (λ q. next_place q (Outputs words)) refl refl refl refl p)
+moves p commands.Clocks words = moves_so p (begun p) (Clocks words) (at_each (λ q. next_place q (Clocks words)) refl refl refl refl p)
+moves p commands.Names words = go (length words == 0) (nat_lt (1 + MOST_COVER_INPUTS) (length words))
+  where
+    go : (a b : Bool) → Moves p (begun p) (if a then Err BadLine else (if b then Err (Passed CoverInputs) else Ok (Names (front words) (last words))))
+    go true b = moves_error p (begun p) BadLine
+    go false true = moves_error p (begun p) (Passed CoverInputs)
+    go false false = moves_so p (begun p) (Names (front words) (last words)) (at_each (λ q. next_place q (Names (front words) (last words))) refl refl refl refl p)
+moves p commands.Latch words = latch_cases (λ b m. Moves p (begun p) m) (λ i o c n. moves_so p (begun p) (Latch i o c n) (at_each (λ q. next_place q (Latch i o c n)) refl refl refl refl p)) (moves_error p (begun p) BadLatch) words
+moves p commands.Gate [] = moves_error p (begun p) BadLine
+moves p commands.Gate (cell ∷ words) = moves_so p (begun p) (Gate cell _) (at_each (λ q. next_place q (Gate cell (map pin_net words))) refl refl refl refl p)
+moves p commands.Skipped words = moves_so p (begun p) Skipped (at_each (λ q. next_place q Skipped) refl refl refl refl p)
+moves p commands.End [] = moves_so p Ended End refl
+moves p commands.End (word ∷ words) = moves_error p Ended BadLine
+moves p commands.Other words = moves_error p (begun p) BadLine
+
+place_again : (p : Place) (ins : List (List ℕ)) (out : List ℕ) → next_place p (Names ins out) ≡ next_place (next_place p (Names ins out)) (Names ins out)
+place_again First ins out = refl
+place_again Unnamed ins out = refl
+place_again Named ins out = refl
+place_again Ended ins out = refl
 
 -- Limits of what was said
 
@@ -119,6 +164,13 @@ behind_cover told o = record { place = next_place told.place (Names o.inputs o.o
 closes_so : (told : Told) (o : CoverSoFar) → limit_of (cover_said told.said o) ≡ None → closed told (Some o) ≡ Ok (behind_cover told o)
 closes_so told o none = ap (λ l. tell_parts told 0 (Names o.inputs o.output) (Ok (cover_so_far o)) (unless l (Ok (cover_said told.said o)))) none
 
+closed_place : (told after : Told) (o : CoverSoFar) → closed told (Some o) ≡ Ok after → next_place told.place (Names o.inputs o.output) ≡ after.place
+closed_place told after o is = go (limit_of (cover_said told.said o)) is
+  where
+    go : (l : Option Limit) → tell_parts told 0 (Names o.inputs o.output) (Ok (cover_so_far o)) (unless l (Ok (cover_said told.said o))) ≡ Ok after → next_place told.place (Names o.inputs o.output) ≡ after.place
+    go None rest = let same : behind_cover told o ≡ after = cc in ap (λ t. t.place) same
+    go (Some limit) rest = absurd (cc)
+
 module _ (library : List CellData) where
   -- these lines told this: what is told of them and of later lines
   record IsAfter (lines : List Line) (told : Told) : Type 0 where
@@ -126,11 +178,12 @@ module _ (library : List CellData) where
     pub cover : Option CoverSoFar
     pub goes_on : (later : List Line) → tell_lines library (lines ++ later) ≡ resume library base cover later
     pub closes : closed base cover ≡ Ok told
+    pub place : (standing lines told).place ≡ told.place
     pub rows : (standing lines told).rows ≡ open_rows cover
     pub few : limit_of told.said ≡ None
 
   start : IsAfter [] untold
-  start = record { base = untold; cover = None; goes_on = λ later. refl; closes = refl; rows = refl; few = refl }
+  start = record { base = untold; cover = None; goes_on = λ later. refl; closes = refl; place = refl; rows = refl; few = refl }
 
   tells : (lines : List Line) (told : Told) → IsAfter lines told → tell_lines library lines ≡ Ok told
   tells lines told after = ap (tell_lines library) (sym (append-nil lines)) ∙ (after.goes_on [] ∙ (at_end library after.base after.cover ∙ after.closes))
@@ -155,14 +208,16 @@ module _ (library : List CellData) where
     fault_in named form rows = first_of (form_faults library (here rows) named form)
 
     fault_is : (named : Bool) (form : Form) (rows : Option OpenRows) → list_all is_name line.words ≡ named → form_of line.words ≡ form → (standing lines told).rows ≡ rows → line_fault library (standing lines told) line.words ≡ fault_in named form rows
-    fault_is named form rows n f r = ap (λ b. fault_in b (form_of line.words) (standing lines told).rows) n ∙ (ap (λ g. fault_in named g (standing lines told).rows) f ∙ ap (fault_in named form) r)
+    fault_is named form rows n f r =
+        ap (λ p. first_of (form_faults library (record { place = p; rows = (standing lines told).rows; said = told.said }) (list_all is_name line.words) (form_of line.words))) after.place
+        ∙ (ap (λ b. fault_in b (form_of line.words) (standing lines told).rows) n ∙ (ap (λ g. fault_in named g (standing lines told).rows) f ∙ ap (fault_in named form) r))
 
     failing : (cause : LineFault) → line_fault library (standing lines told) line.words ≡ Some cause → ((later : List Line) → resume library after.base after.cover (line ∷ later) ≡ Err (at line.number cause)) → Fails ⊎ Goes
     failing cause first fails = inl (record { cause = cause; first = first; fails = λ later. after.goes_on (line ∷ later) ∙ fails later })
 
     going : (base more : Told) (cover : Option CoverSoFar) → line_fault library (standing lines told) line.words ≡ None → ((later : List Line) → resume library after.base after.cover (line ∷ later) ≡ resume library base cover later)
-        → closed base cover ≡ Ok more → rows_after (standing lines told).rows (form_of line.words) ≡ open_rows cover → limit_of more.said ≡ None → Fails ⊎ Goes
-    going base more cover faultless goes closes rows few = inr (record {
+        → closed base cover ≡ Ok more → place_after told.place (form_of line.words) ≡ more.place → rows_after (standing lines told).rows (form_of line.words) ≡ open_rows cover → limit_of more.said ≡ None → Fails ⊎ Goes
+    going base more cover faultless goes closes place rows few = inr (record {
       told_more = more;
       faultless = faultless;
       after_more = record {
@@ -170,6 +225,7 @@ module _ (library : List CellData) where
         cover = cover;
         goes_on = λ later. ap (tell_lines library) (append_assoc lines (line ∷ []) later) ∙ (after.goes_on (line ∷ later) ∙ goes later);
         closes = closes;
+        place = fold-append (λ p l. place_after p (form_of l.words)) First lines (line ∷ []) ∙ (ap (λ p. place_after p (form_of line.words)) after.place ∙ place);
         rows = fold-append (λ r l. rows_after r (form_of l.words)) None lines (line ∷ []) ∙ rows;
         few = few;
       };
@@ -216,6 +272,7 @@ module _ (library : List CellData) where
           (row_fault (Some r) is ∙ (ap (λ b. first_of (row_answers (not b))) keeps ∙ nothing library None told.said after.few))
           (λ later. ap (λ c. resume library after.base c (line ∷ later)) some ∙ at_row library after.base o (with_it r) line later row named with)
           (closes_so after.base (with_it r) few)
+          (ap (place_after told.place) form ∙ sym (closed_place after.base told o (ap (closed after.base) (sym some) ∙ after.closes)))
           (ap (λ q. rows_after q (form_of line.words)) rows_are ∙ (ap (rows_after (Some (record { inputs = length o.inputs; on = o.on }))) form
           ∙ ap (λ q. Some (record { inputs = length o.inputs; on = option_map (λ (p : RowData). p.value) q })) is))
           few
@@ -252,6 +309,9 @@ module _ (library : List CellData) where
         fault_said : line_fault library (standing lines told) line.words ≡ err_of (said_of st)
         fault_said = fault_told ∙ ap (λ m. err_of (on_meant m said_of)) is
 
+        place_so : place_after told.place (form_of line.words) ≡ next_place told.place st
+        place_so = ap (place_after told.place) form ∙ moves told.place c words st (in_place told.place (behind c words) st is)
+
         rows_so : rows_after (standing lines told).rows (form_of line.words) ≡ open_rows (opened st)
         rows_so = ap (rows_after (standing lines told).rows) form ∙ opens (standing lines told).rows c words st (in_place told.place (behind c words) st is)
 
@@ -263,7 +323,7 @@ module _ (library : List CellData) where
           go (Ok s) e =
               going (next library told st s) (next library told st s) None (fault_said st is ∙ ap err_of e)
               (λ later. on_line (Ok st) is later ∙ (took library told line.number later st s (once ∙ e) ∙ ap (λ x. resume library (next library told st s) x later) shut)) refl
-              (rows_so st is ∙ ap open_rows shut) (few_said told.said s (said_by library no_rows st) after.few e)
+              (place_so st is) (rows_so st is ∙ ap open_rows shut) (few_said told.said s (said_by library no_rows st) after.few e)
 
       cover_opens : (ins : List (List ℕ)) (out : List ℕ) → meant_at told.place (behind c words) ≡ Ok (Names ins out) → Fails ⊎ Goes
       cover_opens ins out is = go (limit_of (cover_said told.said (record { inputs = ins; output = out; rows = []; on = None }))) refl
@@ -287,7 +347,7 @@ module _ (library : List CellData) where
               (fault_said (Names ins out) is ∙ ap (λ l. err_of (unless l (Ok (cover_said told.said (record { inputs = ins; output = out; rows = []; on = None }))))) e)
               (λ later. on_line (Ok (Names ins out)) is later ∙ at_names library told line.number later ins out)
               (closes_so (record { place = next_place told.place (Names ins out); model = told.model; said = told.said }) (record { inputs = ins; output = out; rows = []; on = None }) e)
-              (rows_so (Names ins out) is) e
+              (place_so (Names ins out) is ∙ place_again told.place ins out) (rows_so (Names ins out) is) e
 
       of_statement : (st : Statement) → meant_at told.place (behind c words) ≡ Ok st → Fails ⊎ Goes
       of_statement (Model name) is = plain (Model name) is refl refl

@@ -1,12 +1,11 @@
 -- The first fault of a command by the table is the one that is told of it.
-use Rattle.std.proofs.Common.{◌≡◌, ◌≤◌, ◌<◌, ℕ, ◌-◌, nat_lt, nat_le, Bool, true, false, ◌==◌, ◌&&◌, ◌||◌, not, if◌then◌else◌, List, [], ◌∷◌, ◌++◌, length, map, slice_index, codes, Option, None, Some, Result, Ok, Err, refl, sym, ap, ◌∙◌, subst, arith}
+use Rattle.std.proofs.Common.{◌≡◌, ℕ, ◌+◌, ◌-◌, nat_lt, Bool, true, false, ◌==◌, ◌&&◌, ◌||◌, not, if◌then◌else◌, List, [], ◌∷◌, length, map, slice_index, Option, None, Some, Result, Ok, Err, refl, sym, ap, ◌∙◌, arith}
 use Rattle.std.specs.Prelude.{is_none, is_some}
 use Rattle.std.specs.List.{fold}
 use Rattle.std.specs.Option.{option_map_or}
-use Rattle.std.specs.Str.{bytes_eq}
 use Rattle.std.proofs.lemmas.Bool.{lt-ltb, ltb-true}
-use Rattle.cg_limit.specs.declared.Limit.{Limit}
 use Rattle.cg_limit.specs.declared.Limit.TheVariants.{Nets, Registers, CoverInputs}
+use Rattle.cg_limit.specs.declared.TheConstants.{MOST_COVER_INPUTS}
 use Rattle.cg_cell.specs.Cell.{CellData}
 use Rattle.cg_cell.specs.declared.cell.CellKind.{CellKind}
 use Rattle.cg_cell.specs.declared.cell.CellKind.TheVariants.{Logic as LogicKind, Flop as FlopKind, Gater as GaterKind, Unusable}
@@ -24,8 +23,8 @@ use Rattle.cg_blif_text.specs.declared.place.Place.TheVariants.{First, Unnamed, 
 use Rattle.cg_blif_text.specs.declared.statement.Statement.{Statement}
 use Rattle.cg_blif_text.specs.declared.statement.Statement.TheVariants.{Model, Names, Latch, Gate, Skipped, End}
 use Rattle.cg_blif_text.specs.Latches.{control_of, latch_line, latch_with}
-use Rattle.cg_blif_text.specs.LineFaults.{Form, OpenRows, Order, Row, Standing, first_of, form_faults, gives_pins, is_init, is_no_kind, is_register, is_rising, parts_meant, parts_or_none}
-use Rattle.cg_blif_text.specs.Meaning.{behind, front, last, names_line}
+use Rattle.cg_blif_text.specs.LineFaults.{OpenRows, Order, Standing, first_of, form_faults, gives_pins, is_init, is_no_kind, is_register, is_rising, parts_meant, parts_or_none}
+use Rattle.cg_blif_text.specs.Meaning.{behind, front, last}
 use Rattle.cg_blif_text.specs.PinWords.{PinNet, pin_net}
 use Rattle.cg_blif_text.specs.Placing.{are_for_pins, nets_at, part_or, placed_as, placed_by, placed_part}
 use Rattle.cg_blif_text.specs.Telling.{meant_at, no_rows, said_by, unless, with_parts, with_said}
@@ -196,25 +195,25 @@ module _ (library : List CellData) (rows : Option OpenRows) (s : Said) (none : l
   cover_answers line a b ins out = answers (a || line || false) false false false false false b (fold with_part s (parts_meant library (said_so a b ins out)))
 
   names : (words : List (List ℕ)) (place : Place) → by_table place commands.Names words ≡ by_telling place commands.Names words
-  names words First = go (length words == 0) (nat_lt 257 (length words)) (front words) (last words)
+  names words First = go (length words == 0) (nat_lt (1 + MOST_COVER_INPUTS) (length words)) (front words) (last words)
     where
       go : (a b : Bool) (ins : List (List ℕ)) (out : List ℕ) → first_of (cover_answers false a b ins out) ≡ err_of (made_of (meant_at First (said_so a b ins out)))
       go true b ins out = refl
       go false true ins out = refl
       go false false ins out = two_limits (fold with_part s (parts_meant library (Ok (Names ins out))))
-  names words Unnamed = go (length words == 0) (nat_lt 257 (length words)) (front words) (last words)
+  names words Unnamed = go (length words == 0) (nat_lt (1 + MOST_COVER_INPUTS) (length words)) (front words) (last words)
     where
       go : (a b : Bool) (ins : List (List ℕ)) (out : List ℕ) → first_of (cover_answers false a b ins out) ≡ err_of (made_of (meant_at Unnamed (said_so a b ins out)))
       go true b ins out = refl
       go false true ins out = refl
       go false false ins out = two_limits (fold with_part s (parts_meant library (Ok (Names ins out))))
-  names words Named = go (length words == 0) (nat_lt 257 (length words)) (front words) (last words)
+  names words Named = go (length words == 0) (nat_lt (1 + MOST_COVER_INPUTS) (length words)) (front words) (last words)
     where
       go : (a b : Bool) (ins : List (List ℕ)) (out : List ℕ) → first_of (cover_answers false a b ins out) ≡ err_of (made_of (meant_at Named (said_so a b ins out)))
       go true b ins out = refl
       go false true ins out = refl
       go false false ins out = two_limits (fold with_part s (parts_meant library (Ok (Names ins out))))
-  names words Ended = go (length words == 0) (nat_lt 257 (length words)) (front words) (last words)
+  names words Ended = go (length words == 0) (nat_lt (1 + MOST_COVER_INPUTS) (length words)) (front words) (last words)
     where
       go : (a b : Bool) (ins : List (List ℕ)) (out : List ℕ) → first_of (cover_answers true a b ins out) ≡ err_of (made_of (meant_at Ended (said_so a b ins out)))
       go true b ins out = refl

@@ -1,5 +1,5 @@
 -- What a line says is made of names, and keeps the bounds of its form.
-use Rattle.std.proofs.Common.{◌≡◌, ◌≢◌, ℕ, ◌-◌, ◌<◌, ◌≤◌, Bool, true, false, ◌&&◌, ◌==◌, if◌then◌else◌, List, [], ◌∷◌, map, length, suc, zero, Option, None, Some, Result, Ok, Err, refl, sym, ap, ◌∙◌, subst, arith, take, codes, nat_le, nat_lt, slice_index, slice_index_or}
+use Rattle.std.proofs.Common.{◌≡◌, ◌≢◌, ℕ, ◌+◌, ◌-◌, ◌<◌, ◌≤◌, Bool, true, false, ◌&&◌, ◌==◌, if◌then◌else◌, List, [], ◌∷◌, map, length, suc, zero, Option, None, Some, Result, Ok, Err, refl, sym, ap, ◌∙◌, subst, arith, take, codes, nat_le, nat_lt, slice_index, slice_index_or}
 use Rattle.std.specs.List.{AllByRecursion, list_all}
 use Rattle.std.specs.Option.{option_to_list}
 use Rattle.std.specs.Str.{bytes_eq}
@@ -14,6 +14,7 @@ use Rattle.cg_blif_text.specs.declared.command.Command.TheVariants as commands
 use Rattle.cg_blif_text.specs.declared.fault.LineFault.{LineFault}
 use Rattle.cg_blif_text.specs.declared.fault.LineFault.TheVariants.{BadLine, BadLatch, Limit}
 use Rattle.cg_limit.specs.declared.Limit.TheVariants.{CoverInputs}
+use Rattle.cg_limit.specs.declared.TheConstants.{MOST_COVER_INPUTS}
 use Rattle.cg_blif_text.specs.declared.statement.Statement.{Statement}
 use Rattle.cg_blif_text.specs.declared.statement.Statement.TheVariants.{Model, Inputs, Outputs, Clocks, Names, Latch, Gate, Skipped, End}
 use Rattle.cg_blif_text.specs.Commands.{command_of}
@@ -23,14 +24,14 @@ use Rattle.cg_blif_text.specs.PinWords.{pin_net}
 use Rattle.cg_blif_text.proofs.PinPairs.{Word}
 use Rattle.cg_blif_text.proofs.PlacedFlop.{IsNamed}
 
--- the words of a statement are names; a `.names` line has at most 256 inputs, a `.latch` line an init of at most 3 and no clock
+-- the words of a statement are names; a `.names` line has no more inputs than a cover may have, a `.latch` line an init of at most 3 and no clock
 -- of the name `NIL`
 abbrev pub IsMade : Statement → Type 0
 IsMade (Model name) = IsNamed name
 IsMade (Inputs nets) = AllByRecursion IsNamed nets
 IsMade (Outputs nets) = AllByRecursion IsNamed nets
 IsMade (Clocks nets) = AllByRecursion IsNamed nets
-IsMade (Names inputs output) = AllByRecursion IsNamed inputs × IsNamed output × (length inputs ≤ 256)
+IsMade (Names inputs output) = AllByRecursion IsNamed inputs × IsNamed output × (length inputs ≤ MOST_COVER_INPUTS)
 IsMade (Latch input output clock init) = IsNamed input × IsNamed output × AllByRecursion IsNamed (option_to_list clock) × (clock ≢ Some NIL) × (init ≤ 3)
 IsMade statement = Unit {0}
 
@@ -60,12 +61,12 @@ take_short (suc n) (w ∷ ws) = let rest = take_short n ws in omega (arith, rest
 
 names_made : (ws : List Word) (s : Statement) → AllByRecursion IsNamed ws → names_line ws ≡ Ok s → IsMade s
 names_made [] s all is = absurd (cc)
-names_made (w ∷ ws) s all is = go (nat_lt 257 (length (w ∷ ws))) refl (sym (ap (λ b. if b then Err BadLine else (if nat_lt 257 (length (w ∷ ws)) then Err (Limit CoverInputs) else Ok (Names (front (w ∷ ws)) (last (w ∷ ws))))) (eqb-suc-zero (length ws))) ∙ is)
+names_made (w ∷ ws) s all is = go (nat_lt (1 + MOST_COVER_INPUTS) (length (w ∷ ws))) refl (sym (ap (λ b. if b then Err BadLine else (if nat_lt (1 + MOST_COVER_INPUTS) (length (w ∷ ws)) then Err (Limit CoverInputs) else Ok (Names (front (w ∷ ws)) (last (w ∷ ws))))) (eqb-suc-zero (length ws))) ∙ is)
   where
-    few : nat_lt 257 (length (w ∷ ws)) ≡ false → length (w ∷ ws) ≤ 257
-    few e = omega (arith, λ (more : 257 < length (w ∷ ws)). let no : ⊥ = both_ways (nat_lt 257 (length (w ∷ ws))) e (lt-ltb 257 (length (w ∷ ws)) more) in no)
+    few : nat_lt (1 + MOST_COVER_INPUTS) (length (w ∷ ws)) ≡ false → length (w ∷ ws) ≤ 1 + MOST_COVER_INPUTS
+    few e = omega (arith, λ (more : 1 + MOST_COVER_INPUTS < length (w ∷ ws)). let no : ⊥ = both_ways (nat_lt (1 + MOST_COVER_INPUTS) (length (w ∷ ws))) e (lt-ltb (1 + MOST_COVER_INPUTS) (length (w ∷ ws)) more) in no)
 
-    go : (b : Bool) → nat_lt 257 (length (w ∷ ws)) ≡ b → (if b then Err (Limit CoverInputs) else Ok (Names (front (w ∷ ws)) (last (w ∷ ws)))) ≡ Ok s → IsMade s
+    go : (b : Bool) → nat_lt (1 + MOST_COVER_INPUTS) (length (w ∷ ws)) ≡ b → (if b then Err (Limit CoverInputs) else Ok (Names (front (w ∷ ws)) (last (w ∷ ws)))) ≡ Ok s → IsMade s
     go true e q = absurd (cc)
     go false e q =
         let short = take_short (length (w ∷ ws) - 1) (w ∷ ws) in

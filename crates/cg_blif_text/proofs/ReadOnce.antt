@@ -19,19 +19,18 @@ use Rattle.cg_parts.specs.Said.{Said, limit_of, said}
 use Rattle.cg_parts.specs.Says.{AreTaken, Says, netlist_of}
 use Rattle.cg_netlist.specs.Wiring.{NetName}
 use Rattle.cg_parts.proofs.AtLeastOne.{says_made}
-use Rattle.cg_parts.proofs.FaultOrNone.{Tells as Decides, fault_or_none, tells_bool}
+use Rattle.cg_parts.proofs.FaultOrNone.{Tells as Decides, fault_or_none}
 use Rattle.cg_parts.proofs.NoneBeside.{faultless}
 use Rattle.cg_parts.proofs.OneFault.{no_fault, one_fault}
 use Rattle.cg_blif_text.specs.declared.fault.BlifFault.{BlifFault}
 use Rattle.cg_blif_text.specs.declared.fault.BlifFault.TheVariants.{Net, NoMemory}
-use Rattle.cg_blif_text.specs.BlifText.{BlifText, HasNetFault, IsFirstBlifFault, TellsParts, told_by}
+use Rattle.cg_blif_text.specs.BlifText.{BlifText, HasNetFault, IsFirstBlifFault, told_by}
 use Rattle.cg_blif_text.specs.ReadAs.{AreProper, IsReadAs, ReadAs}
 use Rattle.cg_blif_text.specs.Telling.{Told}
 use Rattle.cg_blif_text.proofs.CanonicalText.{no_two}
 use Rattle.cg_blif_text.proofs.SameFaults.{fault_alike}
-use Rattle.cg_blif_text.proofs.SameSaid.{says_alike}
 use Rattle.cg_blif_text.proofs.TextFaults.{has_told, told_has}
-use Rattle.cg_blif_text.proofs.ToldIsTaken.{IsTaken, IsToldTaken, told_taken}
+use Rattle.cg_blif_text.proofs.ToldIsTaken.{IsTaken, told_taken}
 
 -- Whether a list of cells is one of cells
 

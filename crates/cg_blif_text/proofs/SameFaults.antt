@@ -7,7 +7,7 @@ use Rattle.cg_netlist.specs.Names.{is_known}
 use Rattle.cg_parts.specs.declared.fault.NetFault.{NetFault}
 use Rattle.cg_parts.specs.declared.fault.NetFault.TheVariants.{TwoDrivers, NoDriver, Cycle, ClockFault, NoClock, NoMemory}
 use Rattle.cg_parts.specs.Faults.{EachNet, HasClock, IsClockProper, IsDrivenIfUsed, IsDrivenOnce, IsEnding, IsFault, IsFirstNot, IsGateProper, IsRootProper, ends_within, reaches}
-use Rattle.cg_parts.specs.Part.{Part, gaters, is_gated, nets}
+use Rattle.cg_parts.specs.Part.{Part, gaters, nets}
 use Rattle.cg_parts.specs.Said.{Said, said}
 use Rattle.cg_netlist.specs.Wiring.{NetName, driven_by_cells, driven_by_gaters, driven_by_registers, used_by}
 use Rattle.cg_netlist.proofs.Each.{each}

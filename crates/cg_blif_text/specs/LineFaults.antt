@@ -20,7 +20,7 @@ use Rattle.cg_blif_text.specs.declared.fault.BlifFault.{BlifFault}
 use Rattle.cg_blif_text.specs.declared.fault.LineFault.{LineFault}
 use Rattle.cg_blif_text.specs.declared.fault.LineFault.TheVariants.{BadLine, BadCover, BadLatch, UnknownCell, UnusableCell, PinFault, SecondModel, Limit}
 use Rattle.cg_blif_text.specs.declared.place.Place.{Place}
-use Rattle.cg_blif_text.specs.declared.place.Place.TheVariants.{Unnamed, Named, Ended}
+use Rattle.cg_blif_text.specs.declared.place.Place.TheVariants.{First, Unnamed, Named, Ended}
 use Rattle.cg_blif_text.specs.declared.statement.Statement.{Statement}
 use Rattle.cg_blif_text.specs.Commands.{are_row, command_of}
 use Rattle.cg_blif_text.specs.Meaning.{behind}
@@ -126,7 +126,7 @@ abbrev pub has_many_inputs : Form → Bool
 has_many_inputs (Order Names words) = nat_lt (1 + MOST_COVER_INPUTS) (length words)
 has_many_inputs form = false
 
--- what was said with the parts of the line, if nothing of the above is wrong
+-- the parts of the line, or none where it is at fault
 abbrev pub parts_or_none : Result (List Part) LineFault → List Part
 parts_or_none (Ok parts) = parts
 parts_or_none (Err cause) = []
@@ -139,6 +139,7 @@ abbrev pub parts_of : List CellData → Form → List Part
 parts_of library (Order command words) = parts_meant library (behind command words)
 parts_of library (Row words) = []
 
+-- what was said with the parts of the line
 abbrev pub said_with : List CellData → Said → Form → Said
 said_with library s form = fold with_part s (parts_of library form)
 
@@ -175,9 +176,24 @@ rows_after (Some rows) (Row words) = Some (with_value rows words)
 rows_after rows (Order Names words) = Some (record { inputs = length words - 1; on = None })
 rows_after rows (Order command words) = None
 
+-- the place behind a line: a line behind a `.model` line, behind another first line, or behind the `.end` line
+abbrev pub begun : Place → Place
+begun First = Unnamed
+begun place = place
+
+abbrev pub place_after : Place → Form → Place
+place_after place (Row words) = place
+place_after place (Order Model words) = Named
+place_after place (Order End words) = Ended
+place_after place (Order command words) = begun place
+
 -- where a line stands behind lines that told this
 abbrev pub standing : List Line → Told → Standing
-standing front told = record { place = told.place; rows = fold (λ rows line. rows_after rows (form_of line.words)) None front; said = told.said }
+standing front told = record {
+  place = fold (λ place line. place_after place (form_of line.words)) First front;
+  rows = fold (λ rows line. rows_after rows (form_of line.words)) None front;
+  said = told.said;
+}
 
 -- the first fault of lines: those before a line have none, and tell what they tell; the line has it
 pub record IsFirstOfLines (library : List CellData) (lines : List Line) (fault : BlifFault) : Type 0 where

@@ -1,6 +1,6 @@
 -- What the lines that are left of a text tell, where some lines were read: what they told, but for the cover of a `.names` line
 -- that the next line may add a row to.
-use Rattle.std.specs.Prelude.{ℕ, Bool, List, [], ◌∷◌, ◌++◌, length, Option, None, Some, Result, Ok, Err}
+use Rattle.std.specs.Prelude.{Bool, List, [], ◌∷◌, ◌++◌, length, Option, None, Some, Result, Ok, Err}
 use Rattle.cg_cell.specs.Cell.{CellData}
 use Rattle.cg_cell.specs.Cover.{CoverData}
 use Rattle.cg_text.specs.declared.lines.Line.{Line}

@@ -1,8 +1,9 @@
 -- What a line says that is a command: a statement, or why it says none.
-use Rattle.std.specs.Prelude.{ℕ, ◌-◌, ◌==◌, if◌then◌else◌, List, [], ◌∷◌, length, map, nat_lt, take, slice_index_or, Result, Ok, Err}
+use Rattle.std.specs.Prelude.{ℕ, ◌+◌, ◌-◌, ◌==◌, if◌then◌else◌, List, [], ◌∷◌, length, map, nat_lt, take, slice_index_or, Result, Ok, Err}
 use Rattle.std.specs.List.{list_all}
 use Rattle.cg_cell.specs.Name.{is_name}
 use Rattle.cg_limit.specs.declared.Limit.TheVariants.{CoverInputs}
+use Rattle.cg_limit.specs.declared.TheConstants.{MOST_COVER_INPUTS}
 use Rattle.cg_blif_text.specs.declared.command.Command.{Command}
 use Rattle.cg_blif_text.specs.declared.command.Command.TheVariants as commands
 use Rattle.cg_blif_text.specs.declared.fault.LineFault.{LineFault}
@@ -20,11 +21,11 @@ front words = take (length words - 1) words
 abbrev pub last : List (List ℕ) → List ℕ
 last words = slice_index_or words (length words - 1) []
 
--- the nets of a `.names` line: the last is the output, and at most 256 stand before it
+-- the nets of a `.names` line: the last is the output, and no more stand before it than a cover may have inputs
 abbrev pub names_line : List (List ℕ) → Result Statement LineFault
 names_line words =
     if length words == 0 then Err BadLine
-    else (if nat_lt 257 (length words) then Err (Limit CoverInputs) else Ok (Names (front words) (last words)))
+    else (if nat_lt (1 + MOST_COVER_INPUTS) (length words) then Err (Limit CoverInputs) else Ok (Names (front words) (last words)))
 
 -- the words behind a command
 abbrev pub behind : Command → List (List ℕ) → Result Statement LineFault

@@ -2,6 +2,7 @@
 use Rattle.std.specs.Prelude.{◌≡◌, ◌≤◌, Bool, true, List, [], ◌∷◌, ◌++◌, length, if◌then◌else◌, unwrap_or, Option, None, Some}
 use Rattle.std.specs.List.{AllByRecursion}
 use Rattle.cg_cell.specs.Cover.{CoverData}
+use Rattle.cg_limit.specs.declared.TheConstants.{MOST_COVER_INPUTS}
 use Rattle.cg_netlist.specs.Wiring.{NetName}
 use Rattle.cg_blif_text.specs.Rows.{Row, keeps_value}
 
@@ -12,9 +13,9 @@ pub record CoverSoFar : Type 0 where
   pub rows : List (List (Option Bool))
   pub on : Option Bool
 
--- there are at most 256 inputs; each row has a place for each of them; there is a value where there are rows
+-- there are no more inputs than a cover may have; each row has a place for each of them; there is a value where there are rows
 pub record IsOpen (o : CoverSoFar) : Type 0 where
-  pub few : length o.inputs ≤ 256
+  pub few : length o.inputs ≤ MOST_COVER_INPUTS
   pub fit : AllByRecursion (λ row. length row ≡ length o.inputs) o.rows
   pub valued : o.rows ≡ [] → o.on ≡ None
 

@@ -14,7 +14,7 @@ pub returns-then-not-branch-clause-bad : goal.returns-then-not-branch-clause-bad
 returns-then-not-branch-clause-bad c =
     let pushed = rw c.if-not-branch.true at c.in_ok-push_words.ensures in
     step_unnamed c.lines.number c.lines.self-inside.physical.number c.lines.words.items c.lines.self-inside.physical.left c.next_line.new.self.left c.in-Some.line.now c.args.self.now c.lines.invariant.left c.in-Some.ensures.0
-    (ap (λ b. list_all is_name (words_in b)) (sym (c.unjoined.ensures ∙ ap unjoined c.bared-line.ensures)) ∙ pushed)
+    (ap (λ b. list_all is_name (words_in b)) (sym (c.unjoined.ensures.unjoined ∙ ap unjoined c.bared-line.ensures.bared)) ∙ pushed)
 
 pub lines-preserved-then-not-is_joined : goal.lines-preserved-then-not-is_joined
 lines-preserved-then-not-is_joined c =
@@ -23,8 +23,8 @@ lines-preserved-then-not-is_joined c =
       left = rw c.number-number-then-not-is_joined.ensures (
           step_empty c.lines.number c.lines.self-inside.physical.number c.next_line.new.self.number c.lines.words.items c.push_words.new.words.items c.lines.self-inside.physical.left c.next_line.new.self.left c.in-Some.line.now c.args.self.now
           c.lines.invariant.left c.in-Some.ensures.0 c.in-Some.ensures.1
-          (ap is_joined (sym c.bared-line.ensures) ∙ (sym c.is_joined.ensures ∙ c.if-not-is_joined.true))
-          (pushed.0 ∙ ap (λ b. c.lines.words.items ++ words_in b) (c.unjoined.ensures ∙ ap unjoined c.bared-line.ensures))
+          (ap is_joined (sym c.bared-line.ensures.bared) ∙ (sym c.is_joined.ensures ∙ c.if-not-is_joined.true))
+          (pushed.0 ∙ ap (λ b. c.lines.words.items ++ words_in b) (c.unjoined.ensures.unjoined ∙ ap unjoined c.bared-line.ensures.bared))
           (ap (λ n. n == 0) (sym c.push_words.new.words.ok.0) ∙ (sym c.is_empty.ensures ∙ c.if-not-is_empty.false)));
       named = pushed.1;
     }
@@ -36,7 +36,7 @@ lines-preserved c =
       left =
           step_joined c.lines.number c.lines.self-inside.physical.number c.next_line.new.self.number c.lines.words.items c.push_words.new.words.items c.lines.self-inside.physical.left c.next_line.new.self.left c.in-Some.line.now c.args.self.now
           c.lines.invariant.left c.in-Some.ensures.0 c.in-Some.ensures.1
-          (ap is_joined (sym c.bared-line.ensures) ∙ (sym c.is_joined.ensures ∙ c.if-not-is_joined.false))
-          (pushed.0 ∙ ap (λ b. c.lines.words.items ++ words_in b) (c.unjoined.ensures ∙ ap unjoined c.bared-line.ensures));
+          (ap is_joined (sym c.bared-line.ensures.bared) ∙ (sym c.is_joined.ensures ∙ c.if-not-is_joined.false))
+          (pushed.0 ∙ ap (λ b. c.lines.words.items ++ words_in b) (c.unjoined.ensures.unjoined ∙ ap unjoined c.bared-line.ensures.bared));
       named = pushed.1;
     }

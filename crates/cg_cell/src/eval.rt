@@ -91,10 +91,10 @@ impl Expr {
         match self {
             Expr::Constant(bit) => Ok(domain.constant(*bit)),
             Expr::Variable(k) => Ok(inputs[*k as usize]),
-            Expr::Not(signs, operand) => match operand.eval(domain, inputs) {
-                Ok(a) => Ok(invert(*signs, a, domain)),
-                Err(fault) => Err(fault),
-            },
+            Expr::Not(signs, operand) => {
+                let a = operand.eval(domain, inputs)?;
+                Ok(invert(*signs, a, domain))
+            }
             Expr::And(operands) => eval_all(Operator::And, operands, domain, inputs),
             Expr::Or(operands) => eval_all(Operator::Or, operands, domain, inputs),
             Expr::Xor(operands) => eval_all(Operator::Xor, operands, domain, inputs),
@@ -121,13 +121,8 @@ fn eval_all<D: Domain>(
 {
     let mut answer = None;
     'operands: for operand in operands {
-        match operand.eval(domain, inputs) {
-            Ok(b) => match join(operator, answer, b, domain) {
-                Ok(next) => answer = Some(next),
-                Err(fault) => return Err(fault),
-            },
-            Err(fault) => return Err(fault),
-        }
+        let b = operand.eval(domain, inputs)?;
+        answer = Some(join(operator, answer, b, domain)?);
     }
     match answer {
         None => Ok(domain.constant(of_none(operator))),

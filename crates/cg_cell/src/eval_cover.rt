@@ -30,10 +30,8 @@ impl Cover {
             (build_term D.ops (map D.number inputs.now) (cover_term self.now) (D.seen domain.old)) fault (D.seen domain.new)) }
         ensures kept { OnErr result (Keeps D.ops (D.seen domain.old) (D.seen domain.new)) }
     {
-        match eval_rows(self.rows(), domain, inputs) {
-            Ok(any) => Ok(eval_on(self.on(), any, domain)),
-            Err(fault) => Err(fault),
-        }
+        let any = eval_rows(self.rows(), domain, inputs)?;
+        Ok(eval_on(self.on(), any, domain))
     }
 }
 
@@ -63,13 +61,8 @@ fn eval_rows<D: Domain>(
 {
     let mut answer = domain.constant(false);
     'rows: for row in rows {
-        match eval_row(&row.bits, domain, inputs) {
-            Ok(next) => match build::or(domain, answer, next) {
-                Ok(more) => answer = more,
-                Err(fault) => return Err(fault),
-            },
-            Err(fault) => return Err(fault),
-        }
+        let next = eval_row(&row.bits, domain, inputs)?;
+        answer = build::or(domain, answer, next)?;
     }
     Ok(answer)
 }
@@ -91,10 +84,7 @@ fn eval_row<D: Domain>(
 {
     let mut answer = domain.constant(true);
     'places: for k in 0..row.len() {
-        match eval_place(row[k], k, answer, domain, inputs) {
-            Ok(more) => answer = more,
-            Err(fault) => return Err(fault),
-        }
+        answer = eval_place(row[k], k, answer, domain, inputs)?;
     }
     Ok(answer)
 }

@@ -43,6 +43,17 @@ pub enum LibraryFault {
     NoMemory,
 }
 
+impl From<AllocError> for LibraryFault {
+    ghost use Rattle.std.specs.Prelude.{◌≡◌};
+    ghost use Rattle.cg_cell.specs.declared.library.LibraryFault.TheVariants.{NoMemory};
+
+    ghost from_gives = { λ _ e. e ≡ NoMemory };
+
+    fn from(_refused: AllocError) -> LibraryFault {
+        LibraryFault::NoMemory
+    }
+}
+
 /// The cells of a library, in the order in which they were added. Clauses see it as that list.
 #[derive(Debug, Drop)]
 pub struct Library {
@@ -107,17 +118,13 @@ impl Library {
         let inv = note(self.inv, id, fits(&cell, FitKind::Inv));
         let and2 = note(self.and2, id, fits(&cell, FitKind::And2));
         let or2 = note(self.or2, id, fits(&cell, FitKind::Or2));
-        match push(&mut self.cells, cell) {
-            Ok(()) => {
-                self.gater = gater;
-                self.test_gater = test_gater;
-                self.inv = inv;
-                self.and2 = and2;
-                self.or2 = or2;
-                Ok(id)
-            }
-            Err(_) => Err(LibraryFault::NoMemory),
-        }
+        push(&mut self.cells, cell)?;
+        self.gater = gater;
+        self.test_gater = test_gater;
+        self.inv = inv;
+        self.and2 = and2;
+        self.or2 = or2;
+        Ok(id)
     }
 
     /// The number of cells. Each of them is the one that stands under its name.

@@ -6,12 +6,12 @@ use Rattle.cg_cell.proofs.DistinctCells.{names_push}
 use Rattle.cg_cell.proofs.Libraries.{cells_push, noted_fit}
 use Rattle.cg_cell.proofs.library.Library.add.Goals as goal
 
-pub invariant_of-self : goal.invariant_of-self
-invariant_of-self c =
+pub invariant_of-self-2 : goal.invariant_of-self-2
+invariant_of-self-2 c =
     let before = values_of c.self.inside.cells.entries in
     let after = values_of c.push.new.cells.entries in
     let counted : length c.self.inside.cells.entries ≡ length before = sym (length-map c.self.inside.cells.entries (λ e. e.1)) in
-    let added : after ≡ before ++ c.args.cell ∷ [] = c.in-Ok.ensures.added in
+    let added : after ≡ before ++ c.args.cell ∷ [] = c.in_ok-push.ensures.added in
     let number : c.len-2.result ≡ length before = c.len-2.ensures.len ∙ counted in
     record {
       names = c.push.ensures.named;

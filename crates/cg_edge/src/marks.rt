@@ -1,8 +1,7 @@
 //! Marks on places, of which the next one is found at once.
 
-ghost use Rattle.std.specs.Prelude.{◌≡◌, ◌≤◌, ◌<◌, ◌*◌, ◌^◌, ℕ, Some, true, false, length, slice_get, slice_index_or, slice_set, IfOk};
-ghost use Rattle.std.specs.Int.{bit_at};
-ghost use Rattle.cg_edge.specs.inner.Bits.{IsLowest, IsNext, is_one};
+ghost use Rattle.std.specs.Prelude.{◌≡◌, ◌<◌, ◌*◌, ℕ, Some, true, false, length, slice_get, slice_set, IfOk};
+ghost use Rattle.cg_edge.specs.inner.Bits.{IsLowest, IsNext};
 
 use std::alloc::{AllocError, Global};
 use std::marker::Model;

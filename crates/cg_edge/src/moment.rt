@@ -1,6 +1,6 @@
 //! From one moment to the next.
 
-ghost use Rattle.std.specs.Prelude.{◌≡◌, ◌≤◌, ℕ, List, Bool, Option, Some, true, false, if◌then◌else◌, length, map, replicate};
+ghost use Rattle.std.specs.Prelude.{◌≡◌, ◌≤◌, List, Bool, false, if◌then◌else◌, length, map, replicate};
 ghost use Rattle.cg_netlist.specs.Circuit.{data_inputs};
 ghost use Rattle.cg_netlist.specs.History.{MomentFollows, next_bit, rises};
 ghost use Rattle.cg_netlist.specs.Moment.{zip_with};

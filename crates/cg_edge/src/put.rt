@@ -5,7 +5,6 @@ ghost use Rattle.std.specs.List.{All, IsDistinct};
 ghost use Rattle.cg_netlist.specs.Circuit.{RegisterCell, cell_nets, data_inputs, is_in, register_nets, shown_nets};
 ghost use Rattle.cg_netlist.specs.Moment.{register_bits, shown_bits, values_at};
 ghost use Rattle.cg_netlist.specs.Netlist.{IsNetlist};
-ghost use Rattle.cg_netlist.specs.Nets.{walk_order};
 ghost use Rattle.cg_edge.specs.inner.Keeping.{AreMarked, AreReaders, IsPut, SameBut, readers_at, walk_of};
 
 use crate::marks::Marks;

@@ -6,7 +6,7 @@ ghost use Rattle.cg_netlist.specs.Moment.{CellsHold, function_value, values_at};
 ghost use Rattle.cg_netlist.specs.Netlist.{IsNetlist, widest_of};
 ghost use Rattle.cg_netlist.specs.Nets.{walk_order};
 ghost use Rattle.cg_edge.specs.inner.Flat.{AreLaid, IsLaidAt};
-ghost use Rattle.cg_edge.specs.inner.Keeping.{AreMarked, AreReaders, AreSettled, IsPut, SameBut, walk_of};
+ghost use Rattle.cg_edge.specs.inner.Keeping.{AreMarked, AreReaders, IsPut, SameBut, walk_of};
 
 use crate::flat::FlatCells;
 use crate::marks::Marks;

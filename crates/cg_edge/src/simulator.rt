@@ -1,11 +1,8 @@
 //! The simulator.
 
-ghost use Rattle.std.specs.Prelude.{◌≡◌, ◌∷◌, ◌++◌, ◌<◌, [], ℕ, List, Some, None, false, length, replicate, slice_get, slice_index_or, IfOk, IsSome};
+ghost use Rattle.std.specs.Prelude.{◌≡◌, ◌<◌, [], Some, false, length, replicate, slice_get, slice_index_or, IfOk, IsSome};
 ghost use Rattle.std.specs.Option.{option_map};
-ghost use Rattle.cg_netlist.specs.Circuit.{data_inputs};
-ghost use Rattle.cg_netlist.specs.History.{Tick};
 ghost use Rattle.cg_netlist.specs.Moment.{bit};
-ghost use Rattle.cg_netlist.specs.Netlist.{IsNetlist};
 ghost use Rattle.cg_edge.specs.Shows.{Shows, ShowsOn};
 ghost use Rattle.cg_edge.specs.Simulated.{MayTick, Simulated, Ticks, fresh};
 

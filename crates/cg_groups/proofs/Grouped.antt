@@ -8,7 +8,7 @@ use Rattle.std.proofs.lemmas.List.Folds.{find-append}
 use Rattle.std.proofs.lemmas.Option.{none-some, same_Some}
 use Rattle.cg_netlist.specs.Circuit.{is_in}
 use Rattle.cg_lists.specs.Groups.{Group, group_of, groups, has_key, is_first}
-use Rattle.cg_groups.specs.Grouping.{extend, with_key, with_member}
+use Rattle.cg_groups.specs.inner.Grouping.{extend, with_key, with_member}
 
 -- the item that was found
 pub found_is : (test : ℕ → Bool) (xs : List ℕ) (x : ℕ) → find test xs ≡ Some x → (is_in xs x ≡ true) × (test x ≡ true)

@@ -5,7 +5,7 @@ use Rattle.std.proofs.lemmas.Bool.{and_parts, both_ways, eqb-true, eq-eqb}
 use Rattle.std.proofs.lemmas.Option.{same_Some, slice_get-get_or}
 use Rattle.cg_groups.specs.contracts.key.KeyPartialEq.TheImpl as key_eq
 use Rattle.cg_groups.specs.declared.key.Key.{Key}
-use Rattle.cg_groups.specs.Grouping.{extend, with_member}
+use Rattle.cg_groups.specs.inner.Grouping.{extend, with_member}
 use Rattle.cg_groups.specs.Keys.{groups_seen, key_seen}
 use Rattle.cg_lists.specs.Groups.{Group}
 use Rattle.cg_lists.specs.Rounds.{same_option}

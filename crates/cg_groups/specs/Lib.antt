@@ -1,3 +1,3 @@
-pub mod Grouping
+pub mod inner
 pub mod Keys
 pub mod Leaving

@@ -3,7 +3,7 @@
 ghost use Rattle.std.specs.Prelude.{◌≡◌, ◌≤◌, ◌^◌, length, IfOk, OnOk};
 ghost use Rattle.std.specs.List.{range_with_len};
 ghost use Rattle.std.specs.Option.{option_map};
-ghost use Rattle.cg_groups.specs.Grouping.{with_key, with_member};
+ghost use Rattle.cg_groups.specs.inner.Grouping.{with_key, with_member};
 ghost use Rattle.cg_groups.specs.Keys.{groups_seen, key_at, key_seen};
 ghost use Rattle.cg_lists.specs.Groups.{groups};
 ghost use Rattle.cg_lists.specs.StableList.{same_stable};

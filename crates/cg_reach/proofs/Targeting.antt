@@ -6,6 +6,7 @@ use Rattle.std.proofs.lemmas.Bool.{both_ways, eqb-true, eq-eqb, ltb-true, lt-ltb
 use Rattle.std.proofs.lemmas.List.Folds.{list_any-append}
 use Rattle.std.proofs.lemmas.Map.Steps.{length-le_from_distinct_below}
 use Rattle.std.proofs.lemmas.Option.{slice_get_within}
+use Rattle.cg_limit.specs.declared.TheConstants.{MOST_NETS}
 use Rattle.cg_netlist.specs.Circuit.{is_in, used_nets}
 use Rattle.cg_netlist.proofs.FoundNets.{same_truth}
 use Rattle.cg_netlist.proofs.Members.{All-member, is_in_cases, is_in_left, is_in_right}
@@ -24,7 +25,7 @@ use Rattle.cg_reach.proofs.Leading.{any_has}
 output_within : (m : MachineData) → IsMachine m → (y : ℕ) → is_in m.circuit.outputs y ≡ true → y < length m.circuit.names
 output_within m good y among = All-member (λ net. net < length m.circuit.names) (used_nets m.circuit) y good.well_formed.used (output_is_used m.circuit y among)
 
-pub few_outputs : (m : MachineData) → IsMachine m → length m.circuit.outputs ≤ 1048576
+pub few_outputs : (m : MachineData) → IsMachine m → length m.circuit.outputs ≤ MOST_NETS
 few_outputs m good = let few = length-le_from_distinct_below m.circuit.outputs (length m.circuit.names) good.outputs_once (output_within m good) in omega (arith, few, good.small)
 
 filter_alike : (f g : ℕ → Bool) (xs : List ℕ) → ((x : ℕ) → is_in xs x ≡ true → f x ≡ g x) → filter f xs ≡ filter g xs

@@ -1,6 +1,6 @@
 //! Rows of a stimulus, played on a netlist.
 
-ghost use Rattle.std.specs.Prelude.{◌≡◌, ◌≤◌, ◌++◌, ◌∷◌, [], ℕ, List, Bool, true, false, Some, Ok, length, drop, replicate, IfOk, OnOk};
+ghost use Rattle.std.specs.Prelude.{◌≡◌, ◌≤◌, ◌++◌, ◌∷◌, [], List, true, false, Ok, length, drop, replicate, IfOk, OnOk};
 ghost use Rattle.std.specs.List.{count_by};
 ghost use Rattle.cg_netlist.specs.Circuit.{data_inputs};
 ghost use Rattle.cg_netlist.specs.History.{Moment, Tick};

@@ -1,6 +1,6 @@
 //! The trusted edge: real files, standard output and standard error.
 
-ghost use Rattle.std.specs.Prelude.{◌≡◌, ◌≤◌, ◌++◌, [], None, false, length, vec_len, OnOk, OnErr};
+ghost use Rattle.std.specs.Prelude.{◌≡◌, ◌≤◌, ◌++◌, [], None, false, length, OnOk, OnErr};
 ghost use Rattle.cg_shelf.specs.Shelf.{load_faults, call_faults, one_fault};
 ghost use Rattle.cg_shelf.specs.declared.faults.Call.TheVariants.{Store, Say, Complain};
 

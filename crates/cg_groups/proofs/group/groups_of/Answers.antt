@@ -3,7 +3,7 @@ use Rattle.std.specs.List.{range_with_len}
 use Rattle.std.specs.Option.{option_flatten, option_map}
 use Rattle.std.proofs.lemmas.Option.{slice_get_read}
 use Rattle.cg_groups.specs.declared.key.Key.{Key}
-use Rattle.cg_groups.specs.Grouping.{with_key}
+use Rattle.cg_groups.specs.inner.Grouping.{with_key}
 use Rattle.cg_groups.specs.Keys.{key_at, key_seen}
 use Rattle.cg_lists.specs.Groups.{Group, groups}
 use Rattle.cg_lists.specs.StableList.{StableKey, same_stable}

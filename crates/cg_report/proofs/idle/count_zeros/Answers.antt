@@ -1,4 +1,5 @@
 use Rattle.std.proofs.Common.{◌<◌, ◌+◌, get_or, subst, sym, arith}
+use Rattle.cg_limit.specs.declared.TheConstants.{MOST_ROWS}
 use Rattle.cg_report.specs.inner.Idling.{AreCounted}
 use Rattle.cg_report.proofs.IdleRows.{counted_one, counted_zero, next_read, none_counted}
 use Rattle.cg_report.proofs.idle.count_zeros.Goals as goal
@@ -10,7 +11,7 @@ loop-net-init c = none_counted c.args.nets.now c.args.zeros.now
 pub overflow_add-zeros : goal.overflow_add-zeros
 overflow_add-zeros c =
     let same = next_read c.loop-net.net c.args.nets.now c.args.zeros.now c.loop-net.zeros c.loop-net-test.true c.loop-net.invariant in
-    let low : get_or c.args.zeros.now c.loop-net.net 0 < 1048576 = c.requires.room c.loop-net.net 0 c.loop-net-test.true in
+    let low : get_or c.args.zeros.now c.loop-net.net 0 < MOST_ROWS = c.requires.room c.loop-net.net 0 c.loop-net-test.true in
     omega (arith, same, low)
 
 pub loop-net-preserved : goal.loop-net-preserved

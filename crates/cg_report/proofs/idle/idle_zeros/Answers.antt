@@ -1,5 +1,6 @@
 use Rattle.std.proofs.Common.{◌≡◌, ◌<◌, ◌+◌, ℕ, List, length, drop, subst, sym, ◌∙◌, ap, arith}
 use Rattle.std.specs.List.{All}
+use Rattle.cg_limit.specs.declared.TheConstants.{MOST_ROWS}
 use Rattle.cg_report.specs.inner.Idling.{CountRows, PlaysRow}
 use Rattle.cg_report.proofs.IdleRows.{counts_all, counts_more, counts_none, few_of, most_of}
 use Rattle.cg_report.proofs.RowOn.{has_row}
@@ -17,9 +18,9 @@ play_row-requires-clause-row c =
 
 pub play_row-requires-clause-room : goal.play_row-requires-clause-room
 play_row-requires-clause-room c =
-    let P : List ℕ → Type 0 = λ zeros. All (λ n. n < 1048576) zeros in
+    let P : List ℕ → Type 0 = λ zeros. All (λ n. n < MOST_ROWS) zeros in
     subst P (sym c.deref_mut.ensures.value)
-    (few_of c.args.netlist.now c.args.stimulus.now.rows c.rows._row 1048576 c.rows.player c.rows.zeros.items c.rows.invariant (omega (arith, c.rows-test.true, c.rows-row-end.ensures.count, c.rows-row-end.ensures.stimulus.few)))
+    (few_of c.args.netlist.now c.args.stimulus.now.rows c.rows._row MOST_ROWS c.rows.player c.rows.zeros.items c.rows.invariant (omega (arith, c.rows-test.true, c.rows-row-end.ensures.count, c.rows-row-end.ensures.stimulus.few)))
 
 pub rows-preserved : goal.rows-preserved
 rows-preserved c =

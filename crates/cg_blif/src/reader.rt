@@ -2,6 +2,7 @@
 
 ghost use Rattle.std.specs.Prelude.{◌≡◌, IfErr, IfOk, MatchResult, None, true};
 ghost use Rattle.std.specs.List.{AllByRecursion, list_all};
+ghost use Rattle.std.specs.Result.{result_map_both};
 ghost use Rattle.cg_cell.specs.Cell.{IsCell};
 ghost use Rattle.cg_cell.specs.Name.{is_name};
 ghost use Rattle.cg_netlist.specs.Circuit.{Circuit};
@@ -10,7 +11,7 @@ ghost use Rattle.cg_blif_text.specs.BlifText.{BlifText};
 ghost use Rattle.cg_blif_text.specs.LogicalLines.{text_lines};
 ghost use Rattle.cg_blif_text.specs.Telling.{tell_lines};
 ghost use Rattle.cg_blif_text.specs.declared.fault.BlifFault.TheVariants.{NoMemory};
-ghost use Rattle.cg_blif.specs.Resuming.{ClosesAt, FinishesAs, IsAt, IsFirstOrNoMemory, IsRead, IsReadAs, IsReadFrom, Resumes, unfinished};
+ghost use Rattle.cg_blif.specs.Resuming.{ClosesAt, FinishesAs, IsAt, IsFirstOrNoMemory, IsRead, IsReadAs, IsReadFrom, Resumes, left_of, unfinished};
 
 use crate::fault::{Refusal, at_line};
 use crate::lines::LogicalLines;
@@ -121,12 +122,33 @@ fn read_lines<'a>(
 ) -> Result<Reading<'a>, BlifFault>
     ensures { IsReadAs (tell_lines library.now (text_lines text.entry.now)) result }
 {
-    let mut lines = LogicalLines::new(text);
     let mut reading = Reading {
         place: Place::First,
         builder: Builder::new(alloc, b"top")?,
         cover: None,
     };
+    match hear_lines(alloc, text, library, &mut reading) {
+        Ok(()) => Ok(reading),
+        Err(fault) => {
+            // By a call, as its parts would else be dropped one by one in the proof.
+            drop(reading);
+            Err(fault)
+        }
+    }
+}
+
+/// Hears all lines of a text, of which nothing was heard before.
+fn hear_lines<'a>(
+    alloc: Global,
+    text: &'a [u8],
+    library: &Library,
+    reading: &mut Reading<'a>,
+) -> Result<(), BlifFault>
+    requires at { IsAt reading.old }
+    requires left { left_of library.now reading.old (text_lines text.now) ≡ tell_lines library.now (text_lines text.now) }
+    ensures { IsReadAs (tell_lines library.now (text_lines text.entry.now)) (result_map_both (λ _. reading.new) (λ fault. fault) result) }
+{
+    let mut lines = LogicalLines::new(text);
     let mut words = Vec::new(alloc);
     'lines: loop {
         match lines.next_line(&mut words) {
@@ -134,7 +156,7 @@ fn read_lines<'a>(
             Err(_) => return Err(BlifFault::NoMemory),
             Ok(None) => break,
             Ok(Some(number)) => {
-                if let Err(refusal) = read_line(alloc, library, &mut reading, &mut words) {
+                if let Err(refusal) = read_line(alloc, library, reading, &mut words) {
                     return Err(at_line(number, refusal));
                 }
             }
@@ -142,17 +164,16 @@ fn read_lines<'a>(
     }
     let cover = reading.cover.take();
     match close(alloc, &mut reading.builder, cover) {
-        Ok(()) => Ok(reading),
+        Ok(()) => Ok(()),
         Err(refusal) => Err(at_line(0, refusal)),
     }
 }
 
 /// The fault of a text whose next line has this number, and a word that is no name: that of the open cover comes first.
-fn close_at(alloc: Global, reading: Reading<'_>, number: u64) -> BlifFault
-    requires { IsAt reading }
-    ensures { ClosesAt reading.entry number result }
+fn close_at(alloc: Global, reading: &mut Reading<'_>, number: u64) -> BlifFault
+    requires { IsAt reading.old }
+    ensures { ClosesAt reading.old number result }
 {
-    let mut reading = reading;
     let cover = reading.cover.take();
     match close(alloc, &mut reading.builder, cover) {
         Ok(()) => BlifFault::BadLine(number),

@@ -9,13 +9,13 @@ use Rattle.cg_blif.proofs.reader.close_at.Goals as goal
 
 pub returns-in-Ok : goal.returns-in-Ok
 returns-in-Ok c = λ library lines line.
-    let r = c.args.reading in
+    let r = c.args.reading.now in
     let cover : c.take-cover.result ≡ r.cover = cc in
     unnamed_fails library r c.requires c.close.new.builder.said c.args.number lines (ap (closed_said r.builder.said) (sym cover) ∙ c.in-Ok.ensures.2) line
 
-pub returns : goal.returns
-returns c = λ library lines line.
-    let r = c.args.reading in
+pub returns-in-Err : goal.returns-in-Err
+returns-in-Err c = λ library lines line.
+    let r = c.args.reading.now in
     let cover : c.take-cover.result ≡ r.cover = cc in
     let F : BlifFault → Type 0 = λ fault. IsFaultOf (left_of library r lines) fault in
     let H : Option CoverSoFar → Type 0 = λ o. Hears r.builder c.close.new.builder (closed_said r.builder.said o) (Err c.in-Err.refusal) in

@@ -7,7 +7,7 @@ use Rattle.cg_blif_text.specs.OpenCovers.{CoverSoFar}
 use Rattle.cg_blif_text.specs.LinesLeft.{closed_said}
 use Rattle.cg_blif.specs.Resuming.{IsFaultOf, left_of}
 use Rattle.cg_blif.proofs.ReadingLemmas.{end_refused, fault_along, unnamed_at}
-use Rattle.cg_blif.proofs.reader.read_lines.Goals as goal
+use Rattle.cg_blif.proofs.reader.hear_lines.Goals as goal
 
 pub returns-in-Err-BadLine : goal.returns-in-Err-BadLine
 returns-in-Err-BadLine c =

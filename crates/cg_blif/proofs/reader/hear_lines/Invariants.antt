@@ -2,7 +2,7 @@ use Rattle.std.proofs.Common.{◌≡◌, length}
 use Rattle.cg_blif_text.specs.LogicalLines.{text_lines}
 use Rattle.cg_blif_text.specs.Telling.{tell_lines}
 use Rattle.cg_blif.specs.Resuming.{IsAt, left_of}
-use Rattle.cg_blif.proofs.reader.read_lines.Given as goal
+use Rattle.cg_blif.proofs.reader.hear_lines.Given as goal
 
 abbrev pub invariant-lines : goal.invariant-lines
 invariant-lines l = record {

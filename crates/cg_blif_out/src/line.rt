@@ -1,7 +1,6 @@
 //! A statement as a line.
 
 ghost use Rattle.std.specs.Prelude.{◌≡◌, ◌++◌, ◌∷◌, ◌≤◌, [], OnOk, Option, unwrap_or};
-ghost use Rattle.std.specs.Option.{option_copied};
 ghost use Rattle.cg_text.specs.Written.{line_text};
 ghost use Rattle.cg_parts.specs.Writable.{NIL};
 ghost use Rattle.cg_blif_text.specs.Canonical.{pin_text, statement_line};

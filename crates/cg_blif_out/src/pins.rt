@@ -1,9 +1,7 @@
 //! The pins of a placed cell, with their nets.
 
-ghost use Rattle.std.specs.Prelude.{◌≡◌, ◌<◌, ◌≤◌, ◌+◌, ◌++◌, ◌∷◌, ℕ, List, true, false, IfOk, OnOk, drop, length, map, slice_index};
-ghost use Rattle.std.specs.List.{AllByRecursion};
+ghost use Rattle.std.specs.Prelude.{◌≡◌, ◌<◌, ◌+◌, ◌++◌, ◌∷◌, List, true, false, IfOk, OnOk, drop, length, map};
 ghost use Rattle.cg_cell.specs.Pins.{PinData, is_clock, is_state};
-ghost use Rattle.cg_netlist.specs.Netlist.{IsNetlist};
 ghost use Rattle.cg_netlist.specs.View.{gater_seen, register_seen};
 ghost use Rattle.cg_netlist.specs.Wiring.{map_gater, net_name};
 ghost use Rattle.cg_blif_text.specs.Canonical.{gater_net, logic_nets, pin_pairs};

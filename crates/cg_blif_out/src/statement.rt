@@ -4,7 +4,7 @@ ghost use Rattle.std.specs.Prelude.{◌≡◌, ◌<◌, ◌≤◌, ℕ, IfOk, So
 ghost use Rattle.cg_netlist.specs.Circuit.{RegisterCell};
 ghost use Rattle.cg_netlist.specs.Netlist.{IsNetlist};
 ghost use Rattle.cg_netlist.specs.View.{cell_seen, function_seen, gater_seen, register_seen};
-ghost use Rattle.cg_netlist.specs.WellFormed.{FitsKind, RegisterFits};
+ghost use Rattle.cg_netlist.specs.WellFormed.{FitsKind};
 ghost use Rattle.cg_netlist.specs.declared.parts.RegisterKind.TheVariants.{Plain, Flop};
 ghost use Rattle.cg_netlist.specs.Wiring.{map_gater, map_register, net_name};
 ghost use Rattle.cg_blif_text.specs.Canonical.{function_statement, gater_statement, kind_statement, register_statement};

@@ -2,6 +2,7 @@
 use Rattle.std.proofs.Common.{◌≡◌, ℕ, zero, suc, ◌+◌, ◌<◌, ◌≤◌, Bool, true, false, not, ◌&&◌, if◌then◌else◌, cond, List, [], ◌∷◌, ◌++◌, map, length, nat_eq, nat_lt, Option, None, Some, refl, sym, ◌∙◌, ap, subst, arith, ◌⊎◌, inl, inr}
 use Rattle.std.specs.List.{filter, list_all}
 use Rattle.std.proofs.lemmas.Bool.{both_ways, eq-eqb, false_from_ne_true, lt-ltb, ltb-true, or_left, or_right}
+use Rattle.cg_limit.specs.declared.TheConstants.{MOST_CLAIM_NODES}
 use Rattle.cg_cell.specs.Cell.{CellData}
 use Rattle.cg_cell.specs.declared.fit.FitKind.{FitKind}
 use Rattle.cg_limit.specs.declared.Limit.TheVariants.{ClaimNodes}
@@ -151,23 +152,23 @@ module _ (m : MachineData) (good : IsMachine m) where
         let bits = some_fails (λ bs. not (violates_at m q bs)) (all_bits (width_of m q)) some in
         some_idle m s.enable (free_of m (leaves_of m q) bits.0) (free_is m q bits.0) (from_not_false (violates_at m q bits.0) bits.1)
 
-    measured_to : (width : ℕ) (claims : List (NamedClaim)) (end : Tried) → ((c : NamedClaim) → Among c claims → (width_of m c.1 ≤ width) × (nodes_of m c.1 ≤ 65536)) → measured m width claims end ≡ end
+    measured_to : (width : ℕ) (claims : List (NamedClaim)) (end : Tried) → ((c : NamedClaim) → Among c claims → (width_of m c.1 ≤ width) × (nodes_of m c.1 ≤ MOST_CLAIM_NODES)) → measured m width claims end ≡ end
     measured_to width [] end narrow = refl
     measured_to width (c ∷ claims) end narrow =
         let n = narrow c (record { place = 0; at = refl }) in
         ap (λ b. if b then Ends (Wide c.0 (width_of m c.1)) else (if is_large m c.1 then Passes ClaimNodes else measured m width claims end)) (at_most width (width_of m c.1) n.0)
-        ∙ (ap (λ b. if b then Passes ClaimNodes else measured m width claims end) (at_most 65536 (nodes_of m c.1) n.1)
+        ∙ (ap (λ b. if b then Passes ClaimNodes else measured m width claims end) (at_most MOST_CLAIM_NODES (nodes_of m c.1) n.1)
         ∙ measured_to width claims end (λ d a. narrow d (later d c claims a)))
 
-    measured_narrow : (width : ℕ) (claims : List (NamedClaim)) (end : Tried) → measured m width claims end ≡ Ends Inserted → (c : NamedClaim) → Among c claims → (width_of m c.1 ≤ width) × (nodes_of m c.1 ≤ 65536)
+    measured_narrow : (width : ℕ) (claims : List (NamedClaim)) (end : Tried) → measured m width claims end ≡ Ends Inserted → (c : NamedClaim) → Among c claims → (width_of m c.1 ≤ width) × (nodes_of m c.1 ≤ MOST_CLAIM_NODES)
     measured_narrow width [] end h c a = absurd (among_none c a)
     measured_narrow width (d ∷ claims) end h c a = go (measured_narrow width claims end) (nat_lt width (width_of m d.1)) refl (is_large m d.1) refl h (among_cons c d claims a)
       where
-        go : (measured m width claims end ≡ Ends Inserted → (e : NamedClaim) → Among e claims → (width_of m e.1 ≤ width) × (nodes_of m e.1 ≤ 65536)) → (x : Bool) → nat_lt width (width_of m d.1) ≡ x → (y : Bool) → is_large m d.1 ≡ y
-            → (if x then Ends (Wide d.0 (width_of m d.1)) else (if y then Passes ClaimNodes else measured m width claims end)) ≡ Ends Inserted → (d ≡ c) ⊎ Among c claims → (width_of m c.1 ≤ width) × (nodes_of m c.1 ≤ 65536)
+        go : (measured m width claims end ≡ Ends Inserted → (e : NamedClaim) → Among e claims → (width_of m e.1 ≤ width) × (nodes_of m e.1 ≤ MOST_CLAIM_NODES)) → (x : Bool) → nat_lt width (width_of m d.1) ≡ x → (y : Bool) → is_large m d.1 ≡ y
+            → (if x then Ends (Wide d.0 (width_of m d.1)) else (if y then Passes ClaimNodes else measured m width claims end)) ≡ Ends Inserted → (d ≡ c) ⊎ Among c claims → (width_of m c.1 ≤ width) × (nodes_of m c.1 ≤ MOST_CLAIM_NODES)
         go rest true is y it k w = absurd (cc)
         go rest false is true it k w = absurd (cc)
-        go rest false is false it k (inl same) = subst (λ (e : NamedClaim). (width_of m e.1 ≤ width) × (nodes_of m e.1 ≤ 65536)) same (not_less width (width_of m d.1) is, not_less 65536 (nodes_of m d.1) it)
+        go rest false is false it k (inl same) = subst (λ (e : NamedClaim). (width_of m e.1 ≤ width) × (nodes_of m e.1 ≤ MOST_CLAIM_NODES)) same (not_less width (width_of m d.1) is, not_less MOST_CLAIM_NODES (nodes_of m d.1) it)
         go rest false is false it k (inr more) = rest k c more
 
     module _ (library : List CellData) (settings : Settings) where

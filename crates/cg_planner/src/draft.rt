@@ -62,6 +62,16 @@ impl Draft {
         }
     }
 
+    /// What it tells: its machine, its stages and their proofs.
+    pub fn into_parts(self) -> (Machine, Seq<(Stage, Outcome)>, Seq<Certificate>)
+        ensures { result ≡ (self.machine, self.stages, self.certificates.items) }
+    {
+        // By calls, as their parts would else be dropped one by one in the proof.
+        drop(self.earlier);
+        drop(self.judge);
+        (self.machine, self.stages, Seq::from_vec(self.certificates))
+    }
+
     /// Tries the hold stages, then what the rounds of stability find, and then what those of unobservability find.
     pub fn try_parts(
         &mut self,

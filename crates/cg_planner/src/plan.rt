@@ -105,10 +105,11 @@ fn plan_told(
 fn finished(draft: Draft, wide: u32) -> Plan
     ensures { result ≡ record { machine = draft.machine; stages = draft.stages; wide = wide; certificates = draft.certificates.items } }
 {
+    let (machine, stages, certificates) = draft.into_parts();
     Plan {
-        machine: draft.machine,
-        stages: draft.stages,
+        machine,
+        stages,
         wide,
-        certificates: Seq::from_vec(draft.certificates),
+        certificates,
     }
 }

@@ -21,7 +21,7 @@ use Rattle.cg_blif_text.specs.declared.fault.LineFault.TheVariants.{BadLine, Bad
 use Rattle.cg_blif_text.specs.declared.place.Place.{Place}
 use Rattle.cg_blif_text.specs.declared.place.Place.TheVariants.{First, Unnamed, Named, Ended}
 use Rattle.cg_blif_text.specs.declared.statement.Statement.{Statement}
-use Rattle.cg_blif_text.specs.declared.statement.Statement.TheVariants.{Model, Names, Latch, Gate, Skipped, End}
+use Rattle.cg_blif_text.specs.declared.statement.Statement.TheVariants.{Names, Latch}
 use Rattle.cg_blif_text.specs.Latches.{control_of, latch_line, latch_with}
 use Rattle.cg_blif_text.specs.LineFaults.{OpenRows, Order, Standing, first_of, form_faults, gives_pins, is_init, is_no_kind, is_register, is_rising, parts_meant, parts_or_none}
 use Rattle.cg_blif_text.specs.Meaning.{behind, front, last}

@@ -6,6 +6,7 @@ use Rattle.std.specs.Ordering.{nat_cmp}
 use Rattle.std.proofs.lemmas.Bool.{both_ways, eq-eqb, leb-false, leb-true, or_left, or_right}
 use Rattle.std.proofs.lemmas.List.Sorted.{list_any-IsPermutation}
 use Rattle.std.proofs.lemmas.Option.{unwrap_or-slice_get}
+use Rattle.cg_limit.specs.declared.TheConstants.{MOST_NETS}
 use Rattle.cg_groups.proofs.Ordered.{range_rises, thinned_in, thinned_rises}
 use Rattle.cg_lists.proofs.FitLists.{filter_in, range_in}
 use Rattle.cg_lists.specs.Literals.{IdleData, IsIdleData, both_literals, by_count, idle_count, insert_literal}
@@ -147,7 +148,7 @@ module _ (idle : IdleData) where
   unpacked_all (l ∷ ls) small = ap (λ k. k ∷ map unpacked (map (packed idle) ls)) (unpacked_is l small.0) ∙ ap (λ ks. l ∷ ks) (unpacked_all ls small.1)
 
   -- each net plain and inverted, where the nets rise
-  pub both_rise : (nets : List ℕ) (a b : ℕ) → Rises a nets → b ≤ 2 * a → ((y : ℕ) → is_in nets y ≡ true → y < 1048576) → ((l : Literal) → count l ≤ idle.rows) → Rise b (both_literals nets)
+  pub both_rise : (nets : List ℕ) (a b : ℕ) → Rises a nets → b ≤ 2 * a → ((y : ℕ) → is_in nets y ≡ true → y < MOST_NETS) → ((l : Literal) → count l ≤ idle.rows) → Rise b (both_literals nets)
   both_rise [] a b rises low small most = tt
   both_rise (y ∷ nets) a b rises low small most =
       let h = rises.0 in
@@ -182,7 +183,7 @@ pub ranked_is : (m : MachineData) (idle : IdleData) → IsMachine m → IsIdleDa
     → thinned ≡ dedup nat_eq sorted → map unpacked thinned ≡ by_count (Some idle) (both_literals nets)
 ranked_is m idle good fits nets order numbers sorted thinned packs moved sorts thins =
     let rises : Rises 0 nets = subst (Rises 0) (sym order) (range_rises (is_in nets) (length m.circuit.names) 0) in
-    let small : (y : ℕ) → is_in nets y ≡ true → y < 1048576 = λ y among.
+    let small : (y : ℕ) → is_in nets y ≡ true → y < MOST_NETS = λ y among.
     let b = range_in (length m.circuit.names) 0 y (filter_in (is_in nets) (all_nets m) y (ap (λ l. is_in l y) (sym order) ∙ among)).0 in
     let s = good.small in
     omega (arith, b.1, s) in

@@ -5,6 +5,7 @@ use Rattle.std.specs.Prelude.{position}
 use Rattle.std.specs.List.{filter, flat_map}
 use Rattle.std.specs.Option.{option_to_list}
 use Rattle.std.proofs.lemmas.Bool.{both_ways, eqb-true, ltb-true, or_cases, or_right}
+use Rattle.cg_limit.specs.declared.TheConstants.{MOST_CLAIM_NODES}
 use Rattle.cg_aig.specs.Aig.{aig_and, aig_ops, and_with, in_order, inverse, pair_node_at, same_pair, simple}
 use Rattle.cg_cell.specs.Build.{Run, build_xor, chain, plain}
 use Rattle.cg_cell.specs.Domain.{Seen}
@@ -128,15 +129,15 @@ module _ (m : MachineData) (good : IsMachine m) (r : ℕ) where
       let q = one_and differs.domain (inverse (literal_of aig_values all_copies.nets0 k)) differs.answer in
       omega (arith, a, b, p.0, q.1)
 
-  pub has_room : (l : Literal) → IsLiteralOf m r l → nodes_of m (hold_question l r) < 65536 → (k : Literal) → IsLiteralOf m r k → is_large m (hold_question k r) ≡ false
-  has_room l of less k there = go (nat_lt 65536 (nodes_of m (hold_question k r))) refl
+  pub has_room : (l : Literal) → IsLiteralOf m r l → nodes_of m (hold_question l r) < MOST_CLAIM_NODES → (k : Literal) → IsLiteralOf m r k → is_large m (hold_question k r) ≡ false
+  has_room l of less k there = go (nat_lt MOST_CLAIM_NODES (nodes_of m (hold_question k r))) refl
     where
-      go : (b : Bool) → nat_lt 65536 (nodes_of m (hold_question k r)) ≡ b → b ≡ false
+      go : (b : Bool) → nat_lt MOST_CLAIM_NODES (nodes_of m (hold_question k r)) ≡ b → b ≡ false
       go false is = refl
-      go true is = let h = ltb-true 65536 (nodes_of m (hold_question k r)) is in let e = one_node l k of there in absurd (omega (arith, h, e, less))
+      go true is = let h = ltb-true MOST_CLAIM_NODES (nodes_of m (hold_question k r)) is in let e = one_node l k of there in absurd (omega (arith, h, e, less))
 
 -- a hold claim that was built, and has fewer leaves and and-nodes than it may have
-pub room_told : HoldWidthsAreOne → (m : MachineData) → IsMachine m → (r : ℕ) (l : Literal) → IsLiteralOf m r l → (width : ℕ) (claim : Claim) → IsClaim m (hold_question l r) width claim → (count : ℕ) → count ≡ claim.aig.number + length claim.aig.pairs → count < 65536 → HasRoom m width r
+pub room_told : HoldWidthsAreOne → (m : MachineData) → IsMachine m → (r : ℕ) (l : Literal) → IsLiteralOf m r l → (width : ℕ) (claim : Claim) → IsClaim m (hold_question l r) width claim → (count : ℕ) → count ≡ claim.aig.number + length claim.aig.pairs → count < MOST_CLAIM_NODES → HasRoom m width r
 room_told widths m good r l of width claim is count counted less =
     let e : claim.aig.number + length claim.aig.pairs ≡ nodes_of m (hold_question l r) = ap size is.list in
     (is_narrow widths m good r l of width is.narrow, has_room m good r l of (omega (arith, e, counted, less)))

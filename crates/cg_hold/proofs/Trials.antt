@@ -3,6 +3,7 @@ use Rattle.std.proofs.Common.{◌≡◌, ◌<◌, ◌≤◌, ℕ, zero, suc, ◌
 use Rattle.std.specs.List.{find, list_any}
 use Rattle.std.proofs.lemmas.Bool.{eqb-true, lt-ltb, ltb-true}
 use Rattle.std.proofs.lemmas.Option.{none-some, same_Some}
+use Rattle.cg_limit.specs.declared.TheConstants.{MOST_CLAIM_NODES}
 use Rattle.cg_claim.specs.Build.{nodes_of}
 use Rattle.cg_claim.specs.LeafBits.{is_never}
 use Rattle.cg_claim.specs.Leaves.{width_of}
@@ -152,15 +153,15 @@ module _ (widths : HoldWidthsAreOne) (m : MachineData) (good : IsMachine m) (r :
   pub is_wide : (n : ℕ) → n ≡ width_of m (hold_question l r) → width < n → nat_lt width (hold_width m r) ≡ true
   is_wide n is wide = lt-ltb width (hold_width m r) (omega (arith, is, wide, same_width))
 
-  pub not_large : nodes_of m (hold_question l r) ≤ 65536 → is_large m (hold_question l r) ≡ false
-  not_large small = go (nat_lt 65536 (nodes_of m (hold_question l r))) refl
+  pub not_large : nodes_of m (hold_question l r) ≤ MOST_CLAIM_NODES → is_large m (hold_question l r) ≡ false
+  not_large small = go (nat_lt MOST_CLAIM_NODES (nodes_of m (hold_question l r))) refl
     where
-      go : (b : Bool) → nat_lt 65536 (nodes_of m (hold_question l r)) ≡ b → b ≡ false
+      go : (b : Bool) → nat_lt MOST_CLAIM_NODES (nodes_of m (hold_question l r)) ≡ b → b ≡ false
       go false is = refl
-      go true is = let h = ltb-true 65536 (nodes_of m (hold_question l r)) is in absurd (omega (arith, h, small))
+      go true is = let h = ltb-true MOST_CLAIM_NODES (nodes_of m (hold_question l r)) is in absurd (omega (arith, h, small))
 
-  pub too_large : 65536 < nodes_of m (hold_question l r) → is_large m (hold_question l r) ≡ true
-  too_large large = lt-ltb 65536 (nodes_of m (hold_question l r)) large
+  pub too_large : MOST_CLAIM_NODES < nodes_of m (hold_question l r) → is_large m (hold_question l r) ≡ true
+  too_large large = lt-ltb MOST_CLAIM_NODES (nodes_of m (hold_question l r)) large
 
 -- a fault of a trial is one of the choice
 pub err_choice : (m : MachineData) (width r : ℕ) (ls : List Literal) (i : ℕ) (l : Literal) → slice_get ls i ≡ Some l → choice_by m width r (drop i ls) ≡ choice_by m width r ls → (f : AddFault)
@@ -199,7 +200,7 @@ no_literals [] n b long is empty = refl
 no_literals (x ∷ xs) n b long is empty = let e : n ≡ 0 = eqb-true n 0 (sym is ∙ empty) in absurd (omega (arith, e, long))
 
 -- at the largest width the fault of a claim that has no more nodes than it may have is want of memory
-pub wants_memory : (m : MachineData) → IsMachine m → (q : Question) (fault : ClaimFault) → nodes_of m q ≤ 65536 → IsRefused m q 4294967295 fault → fault ≡ ClaimMemory
+pub wants_memory : (m : MachineData) → IsMachine m → (q : Question) (fault : ClaimFault) → nodes_of m q ≤ MOST_CLAIM_NODES → IsRefused m q 4294967295 fault → fault ≡ ClaimMemory
 wants_memory m good q (WideFault n) small is = let few = few_leaves m good q in absurd (omega (arith, few, is.0, is.1))
 wants_memory m good q (ClaimLimit which) small is = absurd (omega (arith, small, is.2))
 wants_memory m good q ClaimMemory small is = refl

@@ -7,6 +7,7 @@ ghost use Rattle.cg_hold.specs.inner.Choosing.{AreChosen, FitsChoice, passes_at,
 ghost use Rattle.cg_hold.specs.inner.Cycles.{AreCycles};
 ghost use Rattle.cg_hold.specs.inner.Packed.{literal_place};
 ghost use Rattle.cg_limit.specs.declared.Limit.TheVariants.{ClaimNodes};
+ghost use Rattle.cg_limit.specs.declared.TheConstants.{MOST_NETS};
 ghost use Rattle.cg_lists.specs.HoldList.{hold_passes};
 ghost use Rattle.cg_lists.specs.Literals.{FitsIdle};
 ghost use Rattle.cg_machine.specs.Machine.{enable_of};
@@ -101,7 +102,7 @@ impl Chosen {
 
     /// No register for each literal of `nets` nets.
     fn none(alloc: Global, nets: u32) -> Result<Chosen, AllocError>
-        requires { nets ≤ 1048576 }
+        requires { nets ≤ MOST_NETS }
         ensures lists { IfOk result (λ chosen. chosen.lists.items ≡ replicate (2 * nets) []) }
         ensures wide { IfOk result (λ chosen. chosen.wide ≡ 0) }
     {

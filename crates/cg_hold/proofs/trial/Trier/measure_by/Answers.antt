@@ -1,5 +1,6 @@
 use Rattle.std.proofs.Common.{◌≡◌, ◌+◌, ℕ, Bool, true, false, if◌then◌else◌, length, nat_lt, refl, sym, ◌∙◌, ap, subst}
 use Rattle.std.proofs.lemmas.Bool.{ltb-true}
+use Rattle.cg_limit.specs.declared.TheConstants.{MOST_CLAIM_NODES}
 use Rattle.cg_cell.specs.Domain.{Seen}
 use Rattle.cg_machine.specs.Machine.{MachineData}
 use Rattle.cg_hold.specs.declared.trial.Room.{Room}
@@ -22,7 +23,7 @@ returns-in-Ok c =
     let n = c.nodes.result in
     let count : n ≡ claim.aig.number + length claim.aig.pairs = c.nodes.ensures ∙ ap (λ (s : Seen). s.number + length s.pairs) c.aig.ensures in
     subst (IsRoom m w r) (sym c.room_of.ensures)
-    (room_if m w r (nat_lt n 65536) (λ below. room_told c.list_laws.ensures.widths m c.netlist-netlist.ensures.machine r c.args.literal c.requires.literal w claim c.in-Ok.ensures.claim n count (ltb-true n 65536 below)))
+    (room_if m w r (nat_lt n MOST_CLAIM_NODES) (λ below. room_told c.list_laws.ensures.widths m c.netlist-netlist.ensures.machine r c.args.literal c.requires.literal w claim c.in-Ok.ensures.claim n count (ltb-true n MOST_CLAIM_NODES below)))
 
 pub returns-in-Err : goal.returns-in-Err
 returns-in-Err c =

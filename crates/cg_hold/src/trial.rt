@@ -5,6 +5,7 @@ ghost use Rattle.cg_aig.specs.Aig.{aig_ops};
 ghost use Rattle.cg_claim.specs.LeafBits.{is_never};
 ghost use Rattle.cg_claim.specs.Question.{Question, hold_question, idle_question};
 ghost use Rattle.cg_claim.specs.Violates.{SidesFit};
+ghost use Rattle.cg_decide.specs.Decision.{IsNeverOne};
 ghost use Rattle.cg_hold.specs.inner.Choosing.{HasRoom, IdleFits, IsLiteralOf, IsRoom, refused_room, refused_trial, trial_of};
 ghost use Rattle.cg_hold.specs.inner.Cycles.{AreCycles};
 ghost use Rattle.cg_hold.specs.inner.Known.{IsEverOne};
@@ -227,6 +228,10 @@ impl Trier {
         if known {
             return Ok(false);
         }
+        let shown = is_shown(&mut self.decider, &self.unroller)?;
+        if shown {
+            return Ok(true);
+        }
         let decision = self
             .decider
             .decide(self.unroller.aig(), self.unroller.goal())?;
@@ -247,6 +252,14 @@ impl Trier {
         self.known
             .violate(self.unroller.aig(), self.unroller.goal())
     }
+}
+
+/// Whether it is seen at once that the goal of the claim that was built last is never 1.
+fn is_shown(decider: &mut Decider, unroller: &Unroller) -> Result<bool, AllocError>
+    requires { IsTrue (aig_ops.is_valid unroller.now.aig unroller.now.goal) }
+    ensures { IfOk result (λ never. never ≡ true → IsNeverOne unroller.now.aig unroller.now.goal) }
+{
+    decider.shows_never(unroller.aig(), unroller.goal())
 }
 
 /// How many leaves and and-nodes a list has.

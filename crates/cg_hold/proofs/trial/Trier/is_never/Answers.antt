@@ -7,6 +7,10 @@ returns-then-known c = λ m q width good fits is.
     let found = c.in_ok-known.ensures c.if-known.true in
     decided_sometimes c.claim_laws.ensures.never m q width c.args.self.now.unroller good fits is found.bits found.one
 
+pub returns-then-shown : goal.returns-then-shown
+returns-then-shown c = λ m q width good fits is.
+    decided_never c.claim_laws.ensures.never m q width c.args.self.now.unroller good fits is (c.in_ok-shown.ensures c.if-shown.true)
+
 pub returns-in-Never : goal.returns-in-Never
 returns-in-Never c = λ m q width good fits is.
     let claim = c.args.self.now.unroller in

@@ -1,10 +1,12 @@
 -- What an `and` on a list made, and why it was refused, from what its parts did.
-use Rattle.std.proofs.Common.{◌≡◌, ◌<◌, ℕ, ◌+◌, ◌*◌, ◌/◌, ap, suc, zero, Bool, false, List, [], ◌∷◌, ◌&&◌, sym, ◌∙◌, subst, refl, arith, Some, None, IsTrue, slice_index_or}
+use Rattle.std.proofs.Common.{◌≡◌, ◌<◌, ℕ, ◌+◌, ◌*◌, ◌/◌, ap, suc, zero, Bool, false, List, [], ◌∷◌, ◌&&◌, sym, ◌∙◌, subst, refl}
+use Rattle.std.proofs.Common.{arith, Some, None, IsTrue, slice_index_or}
 use Rattle.std.specs.Prelude.{Err, IfOk, Ok, OnErr, Result}
 use Rattle.cg_cell.specs.Domain.{Makes, Seen, Stands}
 use Rattle.cg_cell.proofs.Building.{and_made}
 use Rattle.cg_aig.specs.declared.fault.AigFault.{AigFault}
-use Rattle.cg_aig.specs.Aig.{IsAig, are_pairs, aig_and, aig_ops, and_with, in_order, is_sound, leaf_bits, lit_bit, node_values, pair_node, simple}
+use Rattle.cg_aig.specs.Aig.{IsAig, are_pairs, aig_and, aig_ops, and_with, in_order, is_sound, leaf_bits, lit_bit, node_values}
+use Rattle.cg_aig.specs.Aig.{pair_node, simple}
 use Rattle.cg_aig.specs.AigLaws.{aig_lawful, is_lit_of, lit_is}
 use Rattle.cg_aig.specs.Limits.{AndRefuses, PutRefuses}
 use Rattle.cg_aig.specs.Values.{lit_even, values_keep, length-leaf_bits}

@@ -1,5 +1,6 @@
 -- The loops that write the values of nodes into a buffer: what one more step adds.
-use Rattle.std.proofs.Common.{◌≡◌, ◌<◌, ◌≤◌, ℕ, ◌+◌, ◌*◌, ◌/◌, suc, zero, Bool, false, List, [], ◌∷◌, ◌++◌, ◌&&◌, sym, ◌∙◌, subst, refl, arith, ap, Some, IsTrue, length, take, set, get_or}
+use Rattle.std.proofs.Common.{◌≡◌, ◌<◌, ◌≤◌, ℕ, ◌+◌, ◌*◌, ◌/◌, suc, zero, Bool, false, List, [], ◌∷◌, ◌++◌, ◌&&◌, sym, ◌∙◌, subst}
+use Rattle.std.proofs.Common.{refl, arith, ap, Some, IsTrue, length, take, set, get_or}
 use Rattle.std.specs.Prelude.{slice_get}
 use Rattle.std.proofs.lemmas.List.{get_or-take, take_more, take_more_set}
 use Rattle.std.proofs.lemmas.Option.{get_or_from_slice_get, slice_get-get_or, slice_get_within}

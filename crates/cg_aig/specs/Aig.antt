@@ -1,7 +1,8 @@
 -- And-inverter lists. Node 0 is the constant 0, the nodes after it are the leaves, and the and-nodes
 -- follow, each with the pair of its operands. A list is seen as its number of leaves and its pairs.
 -- A literal is a number, as in the AIGER format: twice its node, plus 1 where it is inverted.
-use Rattle.std.specs.Prelude.{◌≤◌, ◌==◌, ℕ, zero, suc, ◌+◌, ◌-◌, ◌*◌, ◌/◌, ◌%◌, Bool, true, false, not, ◌&&◌, ◌||◌, nat_lt, if◌then◌else◌, List, [], ◌∷◌, ◌++◌, length, slice_index_or, position, Option, Some, None, IsTrue}
+use Rattle.std.specs.Prelude.{◌≤◌, ◌==◌, ℕ, zero, suc, ◌+◌, ◌-◌, ◌*◌, ◌/◌, ◌%◌, Bool, true, false, not, ◌&&◌, ◌||◌, nat_lt}
+use Rattle.std.specs.Prelude.{if◌then◌else◌, List, [], ◌∷◌, ◌++◌, length, slice_index_or, position, Option, Some, None, IsTrue}
 use Rattle.cg_limit.specs.declared.TheConstants.{MOST_CLAIM_NODES}
 use Rattle.cg_cell.specs.Domain.{Made, Ops, Seen}
 

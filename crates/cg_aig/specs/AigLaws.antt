@@ -1,5 +1,6 @@
 -- The laws of and-inverter lists as a domain.
-use Rattle.std.specs.Prelude.{◌≡◌, ◌≢◌, ◌<◌, ◌==◌, ℕ, ◌+◌, ◌*◌, ◌/◌, Bool, true, false, not, ◌&&◌, ◌||◌, nat_lt, if◌then◌else◌, List, [], ◌∷◌, ◌++◌, length, slice_index_or, slice_get, position, Option, Some, None, IsTrue, refl}
+use Rattle.std.specs.Prelude.{◌≡◌, ◌≢◌, ◌<◌, ◌==◌, ℕ, ◌+◌, ◌*◌, ◌/◌, Bool, true, false, not, ◌&&◌, ◌||◌, nat_lt, if◌then◌else◌}
+use Rattle.std.specs.Prelude.{List, [], ◌∷◌, ◌++◌, length, slice_index_or, slice_get, position, Option, Some, None, IsTrue, refl}
 use Rattle.std.proofs.Common.{◌∙◌, sym, ap, subst, arith, inl, inr, ◌⊎◌, append-nil, length-append, get_or}
 use Rattle.std.proofs.Math.Bool.{and-true}
 use Rattle.std.proofs.lemmas.Bool.{eqb-false, eqb-true, lt-ltb, ltb-true, ltb-false}
@@ -7,8 +8,11 @@ use Rattle.std.proofs.lemmas.Option.{slice_get-get_or}
 use Rattle.std.proofs.Math.Seq.{get_or-append_seam}
 use Rattle.std.proofs.lemmas.List.Quantifiers.{position-Some}
 use Rattle.cg_cell.specs.Domain.{IsDomain, Keeps, Seen, Stands, after}
-use Rattle.cg_aig.specs.Aig.{aig_and, aig_ops, and_with, are_pairs, constant_lit, in_order, inverse, is_pair, is_sound, leaf_bits, lit_bit, node_values, nodes, pair_node, pair_node_at, same_pair, simple, values_from}
-use Rattle.cg_aig.specs.Values.{IsPair, and_both, and_left, and_right, is_pair_of, length-leaf_bits, length-node_values, lit_even, lit_inverse, lit_keep, inverse_even, inverse_odd, node_is, pairs_append, parity, values_append, values_keep}
+use Rattle.cg_aig.specs.Aig.{aig_and, aig_ops, and_with, are_pairs, constant_lit, in_order, inverse, is_pair, is_sound, leaf_bits}
+use Rattle.cg_aig.specs.Aig.{lit_bit, node_values, nodes, pair_node, pair_node_at, same_pair, simple, values_from}
+use Rattle.cg_aig.specs.Values.{IsPair, and_both, and_left, and_right, is_pair_of, length-leaf_bits, length-node_values, lit_even}
+use Rattle.cg_aig.specs.Values.{lit_inverse, lit_keep, inverse_even, inverse_odd, node_is, pairs_append, parity, values_append}
+use Rattle.cg_aig.specs.Values.{values_keep}
 
 -- the list of s with one more and-node
 abbrev pub with_pair : Seen → ℕ × ℕ → Seen
@@ -108,7 +112,9 @@ put_at_stands s p None h pair e =
       valid = is_lit_of (with_pair s p) (2 * nodes s) (record { node = omega arith; sound = sound_put s p h pair });
       bit = λ bits.
           node_bit (with_pair s p) (length s.pairs) p bits (sound_put s p h pair) (last_pair s.pairs p)
-          ∙ (ap (λ b. b && lit_bit (node_values (with_pair s p) bits) p.1) (bits_put s p p.0 bits (let a = pair.ordered in let b = pair.earlier in omega arith))
+          ∙ (ap (λ b. b
+          && lit_bit (node_values (with_pair s p) bits) p.1) (bits_put s p p.0 bits
+          (let a = pair.ordered in let b = pair.earlier in omega arith))
           ∙ ap (λ b. lit_bit (node_values s bits) p.0 && b) (bits_put s p p.1 bits pair.earlier));
     }
 
@@ -208,7 +214,8 @@ tests_of s bits a b =
         | inl h ↦ ap (λ x. v x && v b) (eqb-true a 0 h) ∙ ap (λ x. x && v b) (bit_of_zero s bits)
         | inr h ↦ elim (or_cases (b == 0) _ h) [
           | inl k ↦ ap (λ x. v a && v x) (eqb-true b 0 k) ∙ (ap (λ x. v a && x) (bit_of_zero s bits) ∙ and_false (v a))
-          | inr k ↦ ap (λ x. v x && v b) (eqb-true a (inverse b) k) ∙ (ap (λ x. x && v b) (lit_inverse (node_values s bits) b) ∙ not_and (v b))
+          | inr k ↦ ap (λ x. v x && v b) (eqb-true a (inverse b) k)
+              ∙ (ap (λ x. x && v b) (lit_inverse (node_values s bits) b) ∙ not_and (v b))
         ]
       ];
       left_one = λ t. ap v (eqb-true a 1 t) ∙ bit_of_one s bits;
@@ -246,10 +253,12 @@ and_with_stands : (s : Seen) (a b : ℕ) (found : Option ℕ) → simple a b ≡
 and_with_stands s a b (Some r) e h k = record {
   keeps = keeps_same s;
   valid = is_lit_of s r (record {
-    node = pick_below (2 * nodes s) (a == 0 || (b == 0 || a == inverse b)) (a == 1) (b == 1) (a == b) a b r (omega arith) h.node k.node e;
+    node = pick_below (2 * nodes s) (a == 0 || (b == 0 || a == inverse b)) (a == 1) (b == 1) (a == b) a b r
+        (omega arith) h.node k.node e;
     sound = h.sound;
   });
-  bit = λ bits. pick_bit (lit_bit (node_values s bits)) (a == 0 || (b == 0 || a == inverse b)) (a == 1) (b == 1) (a == b) a b r (tests_of s bits a b) e;
+  bit = λ bits. pick_bit (lit_bit (node_values s bits)) (a == 0 || (b == 0 || a == inverse b)) (a == 1) (b == 1) (a == b) a b r
+      (tests_of s bits a b) e;
 }
 and_with_stands s a b None e h k =
     stands_as s (after s (pair_node s (in_order a b))) (pair_node s (in_order a b)).answer (pair_bit s (in_order a b)) _

@@ -11,7 +11,8 @@ use Rattle.cg_aig.specs.Aig.{in_order, same_pair, simple}
 abbrev pub IsNew : Seen → ℕ × ℕ → Type 0
 IsNew s p = position (same_pair p) s.pairs ≡ None
 
--- Why the node of a pair may be refused: only where it must be appended, at the limit for want of room and below it for want of memory.
+-- Why the node of a pair may be refused: only where it must be appended, at the limit for want of room and below it for want of
+-- memory.
 abbrev pub PutRefuses : Seen → ℕ × ℕ → AigFault → Type 0
 PutRefuses s p NoMemory = IsNew s p × (s.number + length s.pairs < MOST_CLAIM_NODES)
 PutRefuses s p (Limit which) = IsNew s p × (MOST_CLAIM_NODES ≤ s.number + length s.pairs) × (which ≡ ClaimNodes)

@@ -1,5 +1,6 @@
 -- Laws of the values of nodes: how they grow, and what each and-node's value is.
-use Rattle.std.specs.Prelude.{◌≡◌, ◌<◌, ℕ, zero, suc, ◌+◌, ◌-◌, ◌*◌, ◌/◌, ◌%◌, Bool, true, false, not, ◌&&◌, nat_lt, List, [], ◌∷◌, ◌++◌, length, slice_index_or, slice_get, Some, IsTrue, refl}
+use Rattle.std.specs.Prelude.{◌≡◌, ◌<◌, ℕ, zero, suc, ◌+◌, ◌-◌, ◌*◌, ◌/◌, ◌%◌, Bool, true, false, not, ◌&&◌, nat_lt, List, [], ◌∷◌}
+use Rattle.std.specs.Prelude.{◌++◌, length, slice_index_or, slice_get, Some, IsTrue, refl}
 use Rattle.std.proofs.Common.{◌∙◌, sym, ap, subst, arith, inl, inr, ◌⊎◌, length-append}
 use Rattle.std.proofs.lemmas.List.{get_or_append_left}
 use Rattle.std.proofs.lemmas.Bool.{lt-ltb, ltb-true}
@@ -102,7 +103,8 @@ node_is_first values q pairs s =
     let seam = get_or-append_seam values v [] false in
     let left = lit_keep values (q ∷ pairs) q.0 (omega arith) in
     let right = lit_keep values (q ∷ pairs) q.1 h.earlier in
-    first ∙ (seam ∙ sym (ap (λ b. b && lit_bit (values_from values (q ∷ pairs)) q.1) left ∙ ap (λ b. lit_bit values q.0 && b) right))
+    first ∙
+    (seam ∙ sym (ap (λ b. b && lit_bit (values_from values (q ∷ pairs)) q.1) left ∙ ap (λ b. lit_bit values q.0 && b) right))
 
 -- the value of an and-node is the and of its operands' bits
 pub node_is : (values : List Bool) (pairs : List (ℕ × ℕ)) (k : ℕ) (p : ℕ × ℕ) →
@@ -155,10 +157,12 @@ lit_inverse values a = elim (parity a) [
   | inl h ↦
       let half : (a + 1) / 2 ≡ a / 2 = omega arith in
       ap (lit_bit values) (inverse_even a h)
-      ∙ (lit_odd values (a + 1) (omega arith) ∙ (ap (λ k. not (slice_index_or values k false)) half ∙ sym (ap not (lit_even values a h))))
+      ∙ (lit_odd values (a + 1) (omega arith)
+      ∙ (ap (λ k. not (slice_index_or values k false)) half ∙ sym (ap not (lit_even values a h))))
   | inr h ↦
       let half : (a - 1) / 2 ≡ a / 2 = omega arith in
       ap (lit_bit values) (inverse_odd a h)
       ∙ (lit_even values (a - 1) (omega arith)
-      ∙ (ap (λ k. slice_index_or values k false) half ∙ (sym (not_not (slice_index_or values (a / 2) false)) ∙ sym (ap not (lit_odd values a h)))))
+      ∙ (ap (λ k. slice_index_or values k false) half
+      ∙ (sym (not_not (slice_index_or values (a / 2) false)) ∙ sym (ap not (lit_odd values a h)))))
 ]

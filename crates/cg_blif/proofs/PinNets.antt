@@ -1,5 +1,6 @@
 -- Where the first `=` of a word stands tells the pin and the net.
-use Rattle.std.proofs.Common.{◌≡◌, ℕ, ◌+◌, ◌-◌, ◌<◌, true, false, cond, ◌==◌, List, [], ◌∷◌, length, get_or, take, drop, refl, sym, ap, ◌∙◌, suc, zero, arith, Some, None}
+use Rattle.std.proofs.Common.{◌≡◌, ℕ, ◌+◌, ◌-◌, ◌<◌, true, false, cond, ◌==◌, List, [], ◌∷◌, length, get_or, take, drop, refl, sym}
+use Rattle.std.proofs.Common.{ap, ◌∙◌, suc, zero, arith, Some, None}
 use Rattle.std.proofs.lemmas.Grind.{common_steps}
 use Rattle.cg_blif_text.specs.PinWords.{pin_net, put_byte}
 

@@ -1,5 +1,7 @@
 -- What the calls for a placed cell ask for, and which part they say.
-use Rattle.std.proofs.Common.{◌==◌, Bor, get_or, ◌≡◌, ◌+◌, ◌<◌, ◌≤◌, nat_lt, ℕ, suc, Bool, true, false, not, if◌then◌else◌, IsTrue, List, [], ◌∷◌, map, length, count_by, slice_get, Option, None, Some, Result, Ok, Err, refl, sym, ap, ◌∙◌, subst, arith}
+use Rattle.std.proofs.Common.{◌==◌, Bor, get_or, ◌≡◌, ◌+◌, ◌<◌, ◌≤◌, nat_lt, ℕ, suc, Bool, true, false, not, if◌then◌else◌, IsTrue}
+use Rattle.std.proofs.Common.{List, [], ◌∷◌, map, length, count_by, slice_get, Option, None, Some, Result, Ok, Err, refl, sym, ap}
+use Rattle.std.proofs.Common.{◌∙◌, subst, arith}
 use Rattle.std.specs.List.{AllByRecursion, find, position_or_len}
 use Rattle.std.proofs.lemmas.Bool.Decides.{nat_tests}
 use Rattle.std.specs.Option.{option_copied, option_map_or, option_to_list}
@@ -26,7 +28,8 @@ use Rattle.cg_parts.proofs.KnownNames.{itself}
 use Rattle.cg_blif_text.specs.declared.fault.LineFault.{LineFault}
 use Rattle.cg_blif_text.specs.declared.fault.LineFault.TheVariants.{PinFault}
 use Rattle.cg_blif_text.specs.PinWords.{PinNet}
-use Rattle.cg_blif_text.specs.Placing.{Shown, are_for_pins, at_role, flop_part, gater_part, is_bar, nets_at, part_or, placed_as, placed_part, shown_at}
+use Rattle.cg_blif_text.specs.Placing.{Shown, are_for_pins, at_role, flop_part, gater_part, is_bar, nets_at, part_or, placed_as}
+use Rattle.cg_blif_text.specs.Placing.{placed_part, shown_at}
 use Rattle.cg_blif_text.proofs.PinPairs.{Word}
 use Rattle.cg_blif_text.proofs.PlacedFits.{placed_fits, shown_along}
 use Rattle.cg_blif_text.proofs.PlacedFlop.{Along}

@@ -1,5 +1,6 @@
 -- What a reader makes of a line.
-use Rattle.std.proofs.Common.{◌≡◌, ◌<◌, ℕ, true, false, List, [], ◌∷◌, length, Option, None, Some, Result, Ok, Err, refl, sym, ap, ◌∙◌, subst, arith}
+use Rattle.std.proofs.Common.{◌≡◌, ◌<◌, ℕ, true, false, List, [], ◌∷◌, length, Option, None, Some, Result, Ok, Err, refl, sym, ap}
+use Rattle.std.proofs.Common.{◌∙◌, subst, arith}
 use Rattle.std.specs.List.{list_all}
 use Rattle.std.proofs.lemmas.Bool.{both_ways}
 use Rattle.cg_cell.specs.Cell.{CellData}
@@ -11,7 +12,8 @@ use Rattle.cg_parts.specs.Said.{Said, nothing_said}
 use Rattle.cg_blif_text.specs.declared.fault.BlifFault.{BlifFault}
 use Rattle.cg_blif_text.specs.declared.fault.BlifFault.TheVariants as faults
 use Rattle.cg_blif_text.specs.declared.fault.LineFault.{LineFault}
-use Rattle.cg_blif_text.specs.declared.fault.LineFault.TheVariants.{BadLine, BadCover, BadLatch, UnknownCell, UnusableCell, PinFault, SecondModel, Limit}
+use Rattle.cg_blif_text.specs.declared.fault.LineFault.TheVariants.{BadLine, BadCover, BadLatch, UnknownCell, UnusableCell}
+use Rattle.cg_blif_text.specs.declared.fault.LineFault.TheVariants.{PinFault, SecondModel, Limit}
 use Rattle.cg_blif_text.specs.declared.place.Place.{Place}
 use Rattle.cg_blif_text.specs.declared.place.Place.TheVariants.{First, Unnamed, Named, Ended}
 use Rattle.cg_blif_text.specs.declared.statement.Statement.{Statement}
@@ -25,11 +27,13 @@ use Rattle.cg_blif.specs.Hearing.{Hears, at_line}
 use Rattle.cg_blif.specs.Joining.{IsUnnamed, IsUnnamedLine}
 use Rattle.cg_blif_text.specs.OpenCovers.{CoverSoFar, with_row}
 use Rattle.cg_blif_text.specs.LinesLeft.{closed, closed_said, opened, resume, said_at_once}
-use Rattle.cg_blif.specs.Resuming.{HasBounds, IsAt, IsFaultOf, IsFresh, Resumes, TakesStatement, is_model, left_of, misplaced, told_of}
+use Rattle.cg_blif.specs.Resuming.{HasBounds, IsAt, IsFaultOf, IsFresh, Resumes, TakesStatement, is_model, left_of, misplaced}
+use Rattle.cg_blif.specs.Resuming.{told_of}
 use Rattle.cg_blif.specs.declared.fault.Refusal.{Refusal}
 use Rattle.cg_blif.specs.declared.fault.Refusal.TheVariants.{Line as AtLine, NoMemory as NoRoom}
 use Rattle.cg_blif.specs.declared.reading.Reading.{Reading}
-use Rattle.cg_blif_text.proofs.LinesLeft.{at_bad_row, at_command, at_end, at_lone_row, at_row, at_unnamed, closed_fault, closed_told, next, on_statement, refused, took}
+use Rattle.cg_blif_text.proofs.LinesLeft.{at_bad_row, at_command, at_end, at_lone_row, at_row, at_unnamed, closed_fault}
+use Rattle.cg_blif_text.proofs.LinesLeft.{closed_told, next, on_statement, refused, took}
 
 -- a line that is a command has words
 pub some_words : (words : List (List ℕ)) → are_row words ≡ false → 0 < length words

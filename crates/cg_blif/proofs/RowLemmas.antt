@@ -1,5 +1,6 @@
 -- Rows of a cover, read place by place.
-use Rattle.std.proofs.Common.{◌≡◌, ℕ, Bool, ◌+◌, ◌<◌, List, [], ◌∷◌, ◌++◌, length, drop, get_or, Option, None, Some, refl, add-one, drop-cons, append_assoc}
+use Rattle.std.proofs.Common.{◌≡◌, ℕ, Bool, ◌+◌, ◌<◌, List, [], ◌∷◌, ◌++◌, length, drop, get_or, Option, None, Some, refl, add-one}
+use Rattle.std.proofs.Common.{drop-cons, append_assoc}
 use Rattle.std.specs.Option.{option_map, option_and_then}
 use Rattle.cg_blif_text.specs.Rows.{row_place, row_places}
 

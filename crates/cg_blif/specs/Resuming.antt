@@ -66,7 +66,9 @@ misplaced place model = None
 
 -- a statement was given to a builder: what it says at once, and the cover that it opens; or it has this fault; or memory is wanting
 abbrev pub TakesStatement : List CellData → Building → Statement → Building → Result (Option CoverSoFar) Refusal → Type 0
-TakesStatement library old statement new (Ok cover) = (new.refused ≡ None) × (new.model ≡ next_model old.model statement) × (said_at_once library old.said statement ≡ Ok new.said) × (cover ≡ opened statement)
+TakesStatement library old statement new (Ok cover) =
+    (new.refused ≡ None) × (new.model ≡ next_model old.model statement) × (said_at_once library old.said statement ≡ Ok new.said)
+    × (cover ≡ opened statement)
 TakesStatement library old statement new (Err (AtLine cause)) = said_at_once library old.said statement ≡ Err cause
 TakesStatement library old statement new (Err NoRoom) = Unit {0}
 
@@ -81,8 +83,12 @@ left_of library r lines = resume library (told_of r.place r.builder) r.cover lin
 -- A line of these words was read: what is left behind it tells the reader what it told it before with the line; or the line has
 -- this fault; or memory is wanting.
 abbrev pub Resumes : List CellData → Reading → Reading → List (List ℕ) → Result (Unit {0}) Refusal → Type 0
-Resumes library old new words (Ok read) = IsAt new × ((number : ℕ) (later : List Line) → left_of library new later ≡ left_of library old (record { number = number; words = words } ∷ later))
-Resumes library old new words (Err (AtLine cause)) = (number : ℕ) (later : List Line) → left_of library old (record { number = number; words = words } ∷ later) ≡ Err (at number cause)
+Resumes library old new words (Ok read) =
+    IsAt new
+    × ((number : ℕ) (later : List Line) →
+    left_of library new later ≡ left_of library old (record { number = number; words = words } ∷ later))
+Resumes library old new words (Err (AtLine cause)) = (number : ℕ) (later : List Line) →
+    left_of library old (record { number = number; words = words } ∷ later) ≡ Err (at number cause)
 Resumes library old new words (Err NoRoom) = Unit {0}
 
 abbrev pub ResumesAt : Reading → Reading → List (List ℕ) → Result (Unit {0}) Refusal → Type 0
@@ -90,7 +96,8 @@ ResumesAt old new words result = (library : List CellData) → Resumes library o
 
 -- the fault of a reader whose next line has this number, and a word that is no name
 abbrev pub ClosesAt : Reading → ℕ → BlifFault → Type 0
-ClosesAt old number result = (library : List CellData) (lines : List Line) → IsUnnamed lines number → IsFaultOf (left_of library old lines) result
+ClosesAt old number result = (library : List CellData) (lines : List Line) → IsUnnamed lines number →
+    IsFaultOf (left_of library old lines) result
 
 -- all lines were read, and this is what they tell; or this is their first fault; or memory is wanting
 abbrev pub IsReadAs : Result Told BlifFault → Result Reading BlifFault → Type 0
@@ -102,7 +109,8 @@ abbrev pub IsNamedClock : Option NetName → Type 0
 IsNamedClock clock = AllByRecursion (λ net. IsTrue (is_name net)) (option_to_list clock)
 
 abbrev pub IsRead : List CellData → Option NetName → List ℕ → Result Building BlifFault → Type 0
-IsRead library clock text (Ok b) = (b.refused ≡ None) × IsNamedClock clock × ((place : Place) × (told_by library clock text ≡ Ok (told_of place b)))
+IsRead library clock text (Ok b) =
+    (b.refused ≡ None) × IsNamedClock clock × ((place : Place) × (told_by library clock text ≡ Ok (told_of place b)))
 IsRead library clock text (Err fault) = IsFaultOf (told_by library clock text) fault
 
 -- the fault is the first of the text, or memory is wanting

@@ -11,7 +11,8 @@ ghost use Rattle.cg_blif_text.specs.BlifText.{BlifText};
 ghost use Rattle.cg_blif_text.specs.LogicalLines.{text_lines};
 ghost use Rattle.cg_blif_text.specs.Telling.{tell_lines};
 ghost use Rattle.cg_blif_text.specs.declared.fault.BlifFault.TheVariants.{NoMemory};
-ghost use Rattle.cg_blif.specs.Resuming.{ClosesAt, FinishesAs, IsAt, IsFirstOrNoMemory, IsRead, IsReadAs, IsReadFrom, Resumes, left_of, unfinished};
+ghost use Rattle.cg_blif.specs.Resuming.{ClosesAt, FinishesAs, IsAt, IsFirstOrNoMemory, IsRead, IsReadAs, IsReadFrom, Resumes};
+ghost use Rattle.cg_blif.specs.Resuming.{left_of, unfinished};
 
 use crate::fault::{Refusal, at_line};
 use crate::lines::LogicalLines;

@@ -1,5 +1,7 @@
 -- Pins of placed cells, one after another.
-use Rattle.std.proofs.Common.{◌≡◌, ℕ, Bool, true, false, ◌+◌, ◌<◌, ◌≤◌, List, [], ◌∷◌, ◌++◌, length, drop, get_or, map, Option, None, Some, refl, sym, ap, ◌∙◌, add-one, drop-cons, append_assoc, arith, nat_eq, if◌then◌else◌, suc, zero}
+use Rattle.std.proofs.Common.{◌≡◌, ℕ, Bool, true, false, ◌+◌, ◌<◌, ◌≤◌, List, [], ◌∷◌, ◌++◌, length, drop, get_or, map, Option}
+use Rattle.std.proofs.Common.{None, Some, refl, sym, ap, ◌∙◌, add-one, drop-cons, append_assoc, arith, nat_eq, if◌then◌else◌, suc}
+use Rattle.std.proofs.Common.{zero}
 use Rattle.std.specs.List.{slice_get}
 use Rattle.std.proofs.lemmas.Grind.{common_steps}
 use Rattle.cg_cell.specs.Pins.{PinData, is_clock, is_output, is_state}

@@ -1,5 +1,6 @@
 -- The canonical text, piece by piece.
-use Rattle.std.proofs.Common.{◌≡◌, ℕ, zero, suc, ◌+◌, ◌<◌, List, [], ◌∷◌, ◌++◌, length, take, get_or, map, codes, Option, None, Some, Result, Ok, Err, OnOk, IfOk, subst, refl, sym, ap, ◌∙◌, append_assoc, append-nil, arith}
+use Rattle.std.proofs.Common.{◌≡◌, ℕ, zero, suc, ◌+◌, ◌<◌, List, [], ◌∷◌, ◌++◌, length, take, get_or, map, codes, Option, None}
+use Rattle.std.proofs.Common.{Some, Result, Ok, Err, OnOk, IfOk, subst, refl, sym, ap, ◌∙◌, append_assoc, append-nil, arith}
 use Rattle.std.specs.List.{flat_map, slice_get}
 use Rattle.std.specs.Option.{option_map, option_to_list}
 use Rattle.std.proofs.lemmas.Grind.{flat_map-append}
@@ -17,7 +18,8 @@ use Rattle.cg_netlist.specs.declared.parts.LogicFunction.TheVariants.{Cover, Cel
 use Rattle.cg_netlist.specs.Circuit.{Circuit, LogicCell}
 use Rattle.cg_netlist.specs.Wiring.{NetName, map_cell, map_gater, map_register, named, net_name}
 use Rattle.cg_blif_text.specs.declared.statement.Statement.TheVariants.{Model, Inputs, Outputs, Clocks, End}
-use Rattle.cg_blif_text.specs.Canonical.{blif, cell_lines, function_statement, gater_statement, register_statement, row_words, rows_of, statement_line}
+use Rattle.cg_blif_text.specs.Canonical.{blif, cell_lines, function_statement, gater_statement, register_statement, row_words}
+use Rattle.cg_blif_text.specs.Canonical.{rows_of, statement_line}
 use Rattle.cg_blif_out.specs.Writing.{cell_text, clock_text, function_rows, gater_text, header_text, register_text}
 
 -- the parts up to the one at k, and that one

@@ -18,4 +18,5 @@ one_pair pin (Some net) = pin_pair pin net
 -- the nets at the pins of a register from a place on, so many inputs and so many outputs being at pins before it
 abbrev pub seen_nets : List NetName → RegisterCell ℕ ℕ → ℕ → List PinData → ℕ → ℕ → List (Option NetName)
 seen_nets names r place pins inputs outputs =
-    flop_nets place pins (map (net_name names) (drop inputs r.inputs)) (net_name names r.clock) (with_places (map_outputs (net_name names) (drop outputs r.outputs)) (drop outputs r.pins))
+    flop_nets place pins (map (net_name names) (drop inputs r.inputs)) (net_name names r.clock)
+    (with_places (map_outputs (net_name names) (drop outputs r.outputs)) (drop outputs r.pins))

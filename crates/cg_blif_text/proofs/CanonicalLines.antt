@@ -1,5 +1,6 @@
 -- The canonical lines of parts tell the parts.
-use Rattle.std.proofs.Common.{◌≡◌, ℕ, ◌+◌, ◌≤◌, Bool, true, false, if◌then◌else◌, IsTrue, List, [], ◌∷◌, ◌++◌, map, length, Option, None, Some, Ok, Err, refl, ap, ◌∙◌, arith, codes}
+use Rattle.std.proofs.Common.{◌≡◌, ℕ, ◌+◌, ◌≤◌, Bool, true, false, if◌then◌else◌, IsTrue, List, [], ◌∷◌, ◌++◌, map, length, Option}
+use Rattle.std.proofs.Common.{None, Some, Ok, Err, refl, ap, ◌∙◌, arith, codes}
 use Rattle.std.specs.List.{AllByRecursion, flat_map}
 use Rattle.std.specs.Option.{option_to_list}
 use Rattle.std.proofs.lemmas.List.{append-nil}
@@ -24,7 +25,8 @@ use Rattle.cg_blif_text.specs.Meaning.{behind, meant}
 use Rattle.cg_blif_text.specs.PinWords.{pin_net}
 use Rattle.cg_blif_text.specs.Placing.{placed_by}
 use Rattle.cg_blif_text.specs.Telling.{go_on, latch_register, meant_at, no_rows, tell_blocks, tell_statement}
-use Rattle.cg_blif_text.proofs.CanonicalWords.{all_named, init_back, init_named, names_back, pin_words_named, row_named, row_row, rows_back}
+use Rattle.cg_blif_text.proofs.CanonicalWords.{all_named, init_back, init_named, names_back, pin_words_named, row_named, row_row}
+use Rattle.cg_blif_text.proofs.CanonicalWords.{rows_back}
 use Rattle.cg_blif_text.proofs.LinesTell.{Says, Tell, command_told, line_tells, tell_both, tell_none}
 use Rattle.cg_blif_text.specs.Canonical.{pin_pairs}
 use Rattle.cg_blif_text.proofs.PinPairs.{Word, pairs_of_words, pin_words}

@@ -1,5 +1,6 @@
 -- The canonical text of a writable netlist says that netlist, and no text says two netlists.
-use Rattle.std.proofs.Common.{◌≡◌, ℕ, ◌+◌, ◌≤◌, Bool, true, false, ◌&&◌, if◌then◌else◌, IsTrue, List, [], ◌∷◌, ◌++◌, map, length, Option, None, Some, Result, Ok, Err, refl, sym, ap, ◌∙◌, subst, arith, codes}
+use Rattle.std.proofs.Common.{◌≡◌, ℕ, ◌+◌, ◌≤◌, Bool, true, false, ◌&&◌, if◌then◌else◌, IsTrue, List, [], ◌∷◌, ◌++◌, map, length}
+use Rattle.std.proofs.Common.{Option, None, Some, Result, Ok, Err, refl, sym, ap, ◌∙◌, subst, arith, codes}
 use Rattle.std.specs.List.{AllByRecursion, flat_map}
 use Rattle.std.specs.Option.{option_to_list}
 use Rattle.std.specs.Str.{bytes_eq}
@@ -26,12 +27,16 @@ use Rattle.cg_blif_text.specs.declared.fault.LineFault.TheVariants.{BadLine}
 use Rattle.cg_blif_text.specs.declared.place.Place.TheVariants.{Named, Ended, First}
 use Rattle.cg_blif_text.specs.BlifText.{BlifText}
 use Rattle.cg_blif_text.specs.Blocks.{cut, put_in}
-use Rattle.cg_blif_text.specs.Canonical.{blif, canonical_lines, cell_lines, flop_nets, function_statement, gater_statement, kind_statement, logic_nets, plain_statement, register_statement, rows_of, statement_line, with_places}
+use Rattle.cg_blif_text.specs.Canonical.{blif, canonical_lines, cell_lines, flop_nets, function_statement, gater_statement}
+use Rattle.cg_blif_text.specs.Canonical.{kind_statement, logic_nets, plain_statement, register_statement, rows_of, statement_line}
+use Rattle.cg_blif_text.specs.Canonical.{with_places}
 use Rattle.cg_blif_text.specs.Commands.{command_of}
 use Rattle.cg_blif_text.specs.Latches.{control_of}
 use Rattle.cg_blif_text.specs.Meaning.{behind}
-use Rattle.cg_blif_text.specs.Telling.{Told, go_on, meant_at, tell_block, tell_blocks, tell_clock, tell_cut, tell_lines, tell_statement, untold, with_parts}
-use Rattle.cg_blif_text.proofs.CanonicalLines.{Tells, both_tell, clock_tells, cover_tells, each_line_tells, each_tells, gate_tells, inputs_tell, latch_tells, outputs_tell, written_both}
+use Rattle.cg_blif_text.specs.Telling.{Told, go_on, meant_at, tell_block, tell_blocks, tell_clock, tell_cut, tell_lines}
+use Rattle.cg_blif_text.specs.Telling.{tell_statement, untold, with_parts}
+use Rattle.cg_blif_text.proofs.CanonicalLines.{Tells, both_tell, clock_tells, cover_tells, each_line_tells, each_tells, gate_tells}
+use Rattle.cg_blif_text.proofs.CanonicalLines.{inputs_tell, latch_tells, outputs_tell, written_both}
 use Rattle.cg_blif_text.proofs.CanonicalWords.{all_named}
 use Rattle.cg_blif_text.proofs.LinesTell.{numbered-append}
 use Rattle.cg_blif_text.proofs.NetsAtPins.{gater_nets, gater_said}

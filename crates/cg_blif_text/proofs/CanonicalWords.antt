@@ -1,5 +1,7 @@
 -- The words of canonical lines are names, and say what they were made of.
-use Rattle.std.proofs.Common.{◌≡◌, ℕ, ◌+◌, ◌-◌, ◌≤◌, Bool, true, false, not, ◌&&◌, ◌==◌, if◌then◌else◌, IsTrue, List, [], ◌∷◌, ◌++◌, map, length, suc, zero, Option, None, Some, Ok, Err, refl, sym, ap, ◌∙◌, arith, append_assoc, take, slice_index_or, nat_lt}
+use Rattle.std.proofs.Common.{◌≡◌, ℕ, ◌+◌, ◌-◌, ◌≤◌, Bool, true, false, not, ◌&&◌, ◌==◌, if◌then◌else◌, IsTrue, List, [], ◌∷◌, ◌++◌}
+use Rattle.std.proofs.Common.{map, length, suc, zero, Option, None, Some, Ok, Err, refl, sym, ap, ◌∙◌, arith, append_assoc, take}
+use Rattle.std.proofs.Common.{slice_index_or, nat_lt}
 use Rattle.std.specs.List.{AllByRecursion, list_all, slice_get}
 use Rattle.std.specs.Option.{option_and_then, option_map}
 use Rattle.std.proofs.lemmas.Bool.{and_from, eq-eqb, false_from_ne_true, ltb-true}

@@ -1,5 +1,7 @@
 -- The fault that is told of lines is the first by the table, of the first line that has one.
-use Rattle.std.proofs.Common.{◌≡◌, ◌⊎◌, inl, inr, ℕ, ◌+◌, ◌-◌, ◌==◌, nat_lt, Bool, true, false, if◌then◌else◌, not, List, [], ◌∷◌, ◌++◌, length, map, Option, None, Some, Result, Ok, Err, refl, sym, ap, ◌∙◌, subst, arith, append_assoc, append-nil}
+use Rattle.std.proofs.Common.{◌≡◌, ◌⊎◌, inl, inr, ℕ, ◌+◌, ◌-◌, ◌==◌, nat_lt, Bool, true, false, if◌then◌else◌, not, List, [], ◌∷◌}
+use Rattle.std.proofs.Common.{◌++◌, length, map, Option, None, Some, Result, Ok, Err, refl, sym, ap, ◌∙◌, subst, arith}
+use Rattle.std.proofs.Common.{append_assoc, append-nil}
 use Rattle.std.specs.List.{list_all}
 use Rattle.std.specs.Option.{option_map, option_map_or}
 use Rattle.std.proofs.lemmas.List.{length-take-le}
@@ -16,22 +18,27 @@ use Rattle.cg_blif_text.specs.declared.command.Command.{Command}
 use Rattle.cg_blif_text.specs.declared.command.Command.TheVariants as commands
 use Rattle.cg_blif_text.specs.declared.fault.BlifFault.{BlifFault}
 use Rattle.cg_blif_text.specs.declared.fault.LineFault.{LineFault}
-use Rattle.cg_blif_text.specs.declared.fault.LineFault.TheVariants.{BadLine, BadCover, BadLatch, UnknownCell, UnusableCell, PinFault, SecondModel, Limit as Passed}
+use Rattle.cg_blif_text.specs.declared.fault.LineFault.TheVariants.{BadLine, BadCover, BadLatch, UnknownCell, UnusableCell}
+use Rattle.cg_blif_text.specs.declared.fault.LineFault.TheVariants.{PinFault, SecondModel, Limit as Passed}
 use Rattle.cg_blif_text.specs.declared.place.Place.{Place}
 use Rattle.cg_blif_text.specs.declared.place.Place.TheVariants.{First, Unnamed, Named, Ended}
 use Rattle.cg_blif_text.specs.declared.statement.Statement.{Statement}
-use Rattle.cg_blif_text.specs.declared.statement.Statement.TheVariants.{Model, Inputs, Outputs, Clocks, Names, Latch, Gate, Skipped, End}
+use Rattle.cg_blif_text.specs.declared.statement.Statement.TheVariants.{Model, Inputs, Outputs, Clocks, Names, Latch, Gate, Skipped}
+use Rattle.cg_blif_text.specs.declared.statement.Statement.TheVariants.{End}
 use Rattle.cg_blif_text.specs.Commands.{are_row, command_of}
-use Rattle.cg_blif_text.specs.LineFaults.{Form, IsFirstOfLines, OpenRows, Order, Row, Standing, first_of, begun, form_faults, form_of, line_fault, place_after, rows_after, standing}
+use Rattle.cg_blif_text.specs.LineFaults.{Form, IsFirstOfLines, OpenRows, Order, Row, Standing, first_of, begun, form_faults}
+use Rattle.cg_blif_text.specs.LineFaults.{form_of, line_fault, place_after, rows_after, standing}
 use Rattle.cg_blif_text.specs.LinesLeft.{closed, cover_part, opened, resume, said_at_once}
 use Rattle.cg_blif_text.specs.Meaning.{behind, front, last, meant}
 use Rattle.cg_blif_text.specs.OpenCovers.{CoverSoFar, cover_so_far, with_row}
 use Rattle.cg_blif_text.specs.Rows.{Row as RowData, keeps_value, row_of}
 use Rattle.cg_blif_text.specs.Blocks.{cut}
 use Rattle.cg_blif_text.specs.PinWords.{pin_net}
-use Rattle.cg_blif_text.specs.Telling.{Told, at, cover_or_none, go_on, meant_at, next_place, no_rows, rows_behind, said_by, tell_blocks, tell_lines, tell_parts, unless, untold, with_parts, with_said}
+use Rattle.cg_blif_text.specs.Telling.{Told, at, cover_or_none, go_on, meant_at, next_place, no_rows, rows_behind, said_by}
+use Rattle.cg_blif_text.specs.Telling.{tell_blocks, tell_lines, tell_parts, unless, untold, with_parts, with_said}
 use Rattle.cg_blif_text.proofs.LineTable.{err_of, latch_cases, nothing, on_meant, same_fault}
-use Rattle.cg_blif_text.proofs.LinesLeft.{at_bad_row, at_command, at_end, at_lone_row, at_names, at_row, at_unnamed, next, on_statement, refused, took}
+use Rattle.cg_blif_text.proofs.LinesLeft.{at_bad_row, at_command, at_end, at_lone_row, at_names, at_row, at_unnamed, next}
+use Rattle.cg_blif_text.proofs.LinesLeft.{on_statement, refused, took}
 
 -- What a statement leaves open
 

@@ -1,5 +1,6 @@
 -- The first fault of a command by the table is the one that is told of it.
-use Rattle.std.proofs.Common.{◌≡◌, ℕ, ◌+◌, ◌-◌, nat_lt, Bool, true, false, ◌==◌, ◌&&◌, ◌||◌, not, if◌then◌else◌, List, [], ◌∷◌, length, map, slice_index, Option, None, Some, Result, Ok, Err, refl, sym, ap, ◌∙◌, arith}
+use Rattle.std.proofs.Common.{◌≡◌, ℕ, ◌+◌, ◌-◌, nat_lt, Bool, true, false, ◌==◌, ◌&&◌, ◌||◌, not, if◌then◌else◌, List, [], ◌∷◌}
+use Rattle.std.proofs.Common.{length, map, slice_index, Option, None, Some, Result, Ok, Err, refl, sym, ap, ◌∙◌, arith}
 use Rattle.std.specs.Prelude.{is_none, is_some}
 use Rattle.std.specs.List.{fold}
 use Rattle.std.specs.Option.{option_map_or}
@@ -17,13 +18,15 @@ use Rattle.cg_parts.specs.Writable.{cell_named}
 use Rattle.cg_blif_text.specs.declared.command.Command.{Command}
 use Rattle.cg_blif_text.specs.declared.command.Command.TheVariants as commands
 use Rattle.cg_blif_text.specs.declared.fault.LineFault.{LineFault}
-use Rattle.cg_blif_text.specs.declared.fault.LineFault.TheVariants.{BadLine, BadCover, BadLatch, UnknownCell, UnusableCell, PinFault, SecondModel, Limit as Passed}
+use Rattle.cg_blif_text.specs.declared.fault.LineFault.TheVariants.{BadLine, BadCover, BadLatch, UnknownCell, UnusableCell}
+use Rattle.cg_blif_text.specs.declared.fault.LineFault.TheVariants.{PinFault, SecondModel, Limit as Passed}
 use Rattle.cg_blif_text.specs.declared.place.Place.{Place}
 use Rattle.cg_blif_text.specs.declared.place.Place.TheVariants.{First, Unnamed, Named, Ended}
 use Rattle.cg_blif_text.specs.declared.statement.Statement.{Statement}
 use Rattle.cg_blif_text.specs.declared.statement.Statement.TheVariants.{Names, Latch}
 use Rattle.cg_blif_text.specs.Latches.{control_of, latch_line, latch_with}
-use Rattle.cg_blif_text.specs.LineFaults.{OpenRows, Order, Standing, first_of, form_faults, gives_pins, is_init, is_no_kind, is_register, is_rising, parts_meant, parts_or_none}
+use Rattle.cg_blif_text.specs.LineFaults.{OpenRows, Order, Standing, first_of, form_faults, gives_pins, is_init, is_no_kind}
+use Rattle.cg_blif_text.specs.LineFaults.{is_register, is_rising, parts_meant, parts_or_none}
 use Rattle.cg_blif_text.specs.Meaning.{behind, front, last}
 use Rattle.cg_blif_text.specs.PinWords.{PinNet, pin_net}
 use Rattle.cg_blif_text.specs.Placing.{are_for_pins, nets_at, part_or, placed_as, placed_by, placed_part}

@@ -1,5 +1,6 @@
 -- What the lines that are left tell, line by line.
-use Rattle.std.proofs.Common.{◌≡◌, ℕ, Bool, true, false, if◌then◌else◌, List, [], ◌∷◌, ◌++◌, length, unwrap_or, Option, None, Some, Result, Ok, Err, refl, sym, ap, ◌∙◌, append_assoc, append-nil}
+use Rattle.std.proofs.Common.{◌≡◌, ℕ, Bool, true, false, if◌then◌else◌, List, [], ◌∷◌, ◌++◌, length, unwrap_or, Option, None, Some}
+use Rattle.std.proofs.Common.{Result, Ok, Err, refl, sym, ap, ◌∙◌, append_assoc, append-nil}
 use Rattle.std.specs.List.{list_all}
 use Rattle.std.proofs.lemmas.Bool.{both_ways}
 use Rattle.cg_cell.specs.Cell.{CellData}
@@ -17,13 +18,16 @@ use Rattle.cg_blif_text.specs.declared.fault.LineFault.TheVariants.{BadLine, Lim
 use Rattle.cg_blif_text.specs.declared.place.Place.{Place}
 use Rattle.cg_blif_text.specs.declared.place.Place.TheVariants.{First, Unnamed, Named, Ended}
 use Rattle.cg_blif_text.specs.declared.statement.Statement.{Statement}
-use Rattle.cg_blif_text.specs.declared.statement.Statement.TheVariants.{Model, Inputs, Outputs, Clocks, Names, Latch, Gate, Skipped, End}
+use Rattle.cg_blif_text.specs.declared.statement.Statement.TheVariants.{Model, Inputs, Outputs, Clocks, Names, Latch, Gate, Skipped}
+use Rattle.cg_blif_text.specs.declared.statement.Statement.TheVariants.{End}
 use Rattle.cg_blif_text.specs.Blocks.{cut, put_in}
 use Rattle.cg_blif_text.specs.Commands.{are_row, command_of}
 use Rattle.cg_blif_text.specs.Meaning.{behind, meant}
 use Rattle.cg_blif_text.specs.Rows.{Row, cover_from, keeps_value, put_places, put_row, row_of}
-use Rattle.cg_blif_text.specs.Telling.{Told, at, cover_or_none, go_on, meant_at, next_model, next_place, no_rows, rows_behind, said_by, tell_blocks, tell_cut, tell_parts, tell_statement, unless, with_parts, with_said}
-use Rattle.cg_blif_text.specs.LinesLeft.{close_with, closed, closed_said, cover_part, covered, opened, put_rows, resume, said_at_once}
+use Rattle.cg_blif_text.specs.Telling.{Told, at, cover_or_none, go_on, meant_at, next_model, next_place, no_rows, rows_behind}
+use Rattle.cg_blif_text.specs.Telling.{said_by, tell_blocks, tell_cut, tell_parts, tell_statement, unless, with_parts, with_said}
+use Rattle.cg_blif_text.specs.LinesLeft.{close_with, closed, closed_said, cover_part, covered, opened, put_rows, resume}
+use Rattle.cg_blif_text.specs.LinesLeft.{said_at_once}
 use Rattle.cg_blif_text.specs.OpenCovers.{CoverSoFar, cover_so_far, with_row}
 
 abbrev logic_of : List (List ℕ) → List ℕ → CoverData → Part

@@ -12,7 +12,8 @@ use Rattle.cg_blif_text.specs.declared.statement.Statement.{Statement}
 use Rattle.cg_blif_text.specs.Blocks.{cut, put_in}
 use Rattle.cg_blif_text.specs.Commands.{are_row}
 use Rattle.cg_blif_text.specs.Meaning.{meant}
-use Rattle.cg_blif_text.specs.Telling.{Told, cover_or_none, go_on, meant_at, next_model, next_place, rows_behind, said_by, tell_blocks, tell_parts, tell_statement, with_parts, with_said}
+use Rattle.cg_blif_text.specs.Telling.{Told, cover_or_none, go_on, meant_at, next_model, next_place, rows_behind, said_by}
+use Rattle.cg_blif_text.specs.Telling.{tell_blocks, tell_parts, tell_statement, with_parts, with_said}
 use Rattle.cg_blif_text.proofs.PinPairs.{Word}
 use Rattle.cg_blif_text.proofs.WithinLimits.{with_both}
 

@@ -1,5 +1,7 @@
 -- What a line says is made of names, and keeps the bounds of its form.
-use Rattle.std.proofs.Common.{◌≡◌, ◌≢◌, ℕ, ◌+◌, ◌-◌, ◌<◌, ◌≤◌, Bool, true, false, ◌&&◌, ◌==◌, if◌then◌else◌, List, [], ◌∷◌, map, length, suc, zero, Option, None, Some, Result, Ok, Err, refl, sym, ap, ◌∙◌, subst, arith, take, codes, nat_le, nat_lt, slice_index, slice_index_or}
+use Rattle.std.proofs.Common.{◌≡◌, ◌≢◌, ℕ, ◌+◌, ◌-◌, ◌<◌, ◌≤◌, Bool, true, false, ◌&&◌, ◌==◌, if◌then◌else◌, List, [], ◌∷◌, map}
+use Rattle.std.proofs.Common.{length, suc, zero, Option, None, Some, Result, Ok, Err, refl, sym, ap, ◌∙◌, subst, arith, take, codes}
+use Rattle.std.proofs.Common.{nat_le, nat_lt, slice_index, slice_index_or}
 use Rattle.std.specs.List.{AllByRecursion, list_all}
 use Rattle.std.specs.Option.{option_to_list}
 use Rattle.std.specs.Str.{bytes_eq}
@@ -16,7 +18,8 @@ use Rattle.cg_blif_text.specs.declared.fault.LineFault.TheVariants.{BadLine, Bad
 use Rattle.cg_limit.specs.declared.Limit.TheVariants.{CoverInputs}
 use Rattle.cg_limit.specs.declared.TheConstants.{MOST_COVER_INPUTS}
 use Rattle.cg_blif_text.specs.declared.statement.Statement.{Statement}
-use Rattle.cg_blif_text.specs.declared.statement.Statement.TheVariants.{Model, Inputs, Outputs, Clocks, Names, Latch, Gate, Skipped, End}
+use Rattle.cg_blif_text.specs.declared.statement.Statement.TheVariants.{Model, Inputs, Outputs, Clocks, Names, Latch, Gate, Skipped}
+use Rattle.cg_blif_text.specs.declared.statement.Statement.TheVariants.{End}
 use Rattle.cg_blif_text.specs.Commands.{command_of}
 use Rattle.cg_blif_text.specs.Latches.{control_of, init_of, latch_line, latch_typed, latch_with}
 use Rattle.cg_blif_text.specs.Meaning.{behind, front, last, meant, names_line}
@@ -24,7 +27,8 @@ use Rattle.cg_blif_text.specs.PinWords.{pin_net}
 use Rattle.cg_blif_text.proofs.PinPairs.{Word}
 use Rattle.cg_blif_text.proofs.PlacedFlop.{IsNamed}
 
--- the words of a statement are names; a `.names` line has no more inputs than a cover may have, a `.latch` line an init of at most 3 and no clock
+-- the words of a statement are names; a `.names` line has no more inputs than a cover may have, a `.latch` line an init of at most
+-- 3 and no clock
 -- of the name `NIL`
 abbrev pub IsMade : Statement → Type 0
 IsMade (Model name) = IsNamed name

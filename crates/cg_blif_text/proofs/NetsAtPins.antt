@@ -1,5 +1,6 @@
 -- The nets of a cell's pins go into words and come back.
-use Rattle.std.specs.Prelude.{◌≡◌, ◌+◌, Bool, true, false, not, if◌then◌else◌, List, [], ◌∷◌, map, length, count_by, slice_get, Option, None, Some, Ok, Err}
+use Rattle.std.specs.Prelude.{◌≡◌, ◌+◌, Bool, true, false, not, if◌then◌else◌, List, [], ◌∷◌, map, length, count_by, slice_get}
+use Rattle.std.specs.Prelude.{Option, None, Some, Ok, Err}
 use Rattle.std.proofs.Common.{refl, ap, ◌∙◌, sym, subst, arith, cond}
 use Rattle.std.specs.List.{filter, find}
 use Rattle.std.specs.Option.{option_and_then, option_to_list}
@@ -22,7 +23,8 @@ use Rattle.cg_parts.proofs.KnownNames.{itself, same_word}
 use Rattle.cg_blif_text.specs.declared.fault.LineFault.TheVariants.{PinFault}
 use Rattle.cg_blif_text.specs.Canonical.{gater_net}
 use Rattle.cg_blif_text.specs.PinWords.{PinNet}
-use Rattle.cg_blif_text.specs.Placing.{are_for_pins, at_role, gater_part, given, nets_at, part_or, placed_as, placed_by, placed_part, put_net}
+use Rattle.cg_blif_text.specs.Placing.{are_for_pins, at_role, gater_part, given, nets_at, part_or, placed_as, placed_by}
+use Rattle.cg_blif_text.specs.Placing.{placed_part, put_net}
 use Rattle.cg_blif_text.specs.Canonical.{pin_pairs}
 use Rattle.cg_blif_text.proofs.PinPairs.{Word}
 

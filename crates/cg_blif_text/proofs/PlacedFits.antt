@@ -1,5 +1,7 @@
 -- What a `.gate` line says with a cell that is one fits the cell, and is a part that a line can say.
-use Rattle.std.proofs.Common.{◌≡◌, ℕ, ◌+◌, ◌<◌, ◌≤◌, Bool, true, false, cond, if◌then◌else◌, List, [], ◌∷◌, ◌++◌, map, length, count_by, suc, zero, Option, None, Some, Result, Ok, Err, refl, sym, ap, ◌∙◌, subst, arith, slice_index}
+use Rattle.std.proofs.Common.{◌≡◌, ℕ, ◌+◌, ◌<◌, ◌≤◌, Bool, true, false, cond, if◌then◌else◌, List, [], ◌∷◌, ◌++◌, map, length}
+use Rattle.std.proofs.Common.{count_by, suc, zero, Option, None, Some, Result, Ok, Err, refl, sym, ap, ◌∙◌, subst, arith}
+use Rattle.std.proofs.Common.{slice_index}
 use Rattle.std.specs.List.{AllByRecursion, AllZip, find, list_all, slice_get}
 use Rattle.std.specs.List.Sorted.{IsStrictlyIncreasing}
 use Rattle.std.specs.Option.{option_and_then, option_to_list}
@@ -25,7 +27,8 @@ use Rattle.cg_netlist.proofs.Each.{each_together}
 use Rattle.cg_blif_text.specs.declared.fault.LineFault.{LineFault}
 use Rattle.cg_blif_text.specs.declared.fault.LineFault.TheVariants.{PinFault}
 use Rattle.cg_blif_text.specs.PinWords.{PinNet}
-use Rattle.cg_blif_text.specs.Placing.{Shown, are_for_pins, at_role, flop_part, gater_part, given, has_name, is_bar, is_for_pin, logic_part, nets_at, part_or, placed_as, placed_part, put_net, show, shown_at}
+use Rattle.cg_blif_text.specs.Placing.{Shown, are_for_pins, at_role, flop_part, gater_part, given, has_name, is_bar, is_for_pin}
+use Rattle.cg_blif_text.specs.Placing.{logic_part, nets_at, part_or, placed_as, placed_part, put_net, show, shown_at}
 use Rattle.cg_blif_text.proofs.PinPairs.{Word}
 use Rattle.cg_blif_text.proofs.PlacedFlop.{Along, IsNamed}
 use Rattle.cg_blif_text.proofs.WordsForPins.{AreNamed}

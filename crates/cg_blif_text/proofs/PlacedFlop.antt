@@ -1,5 +1,6 @@
 -- The nets of a placed register go to its pins and come back.
-use Rattle.std.specs.Prelude.{◌-◌, nat_eq, drop, slice_get, slice_index, ◌≤◌, ◌<◌, ◌≡◌, ℕ, suc, ◌+◌, Bool, true, false, ◌||◌, if◌then◌else◌, IsTrue, List, [], ◌∷◌, ◌++◌, map, length, count_by, Option, None, Some, Ok, Err}
+use Rattle.std.specs.Prelude.{◌-◌, nat_eq, drop, slice_get, slice_index, ◌≤◌, ◌<◌, ◌≡◌, ℕ, suc, ◌+◌, Bool, true, false, ◌||◌}
+use Rattle.std.specs.Prelude.{if◌then◌else◌, IsTrue, List, [], ◌∷◌, ◌++◌, map, length, count_by, Option, None, Some, Ok, Err}
 use Rattle.std.proofs.Common.{refl, ap, ◌∙◌, sym, subst, inl, inr, arith}
 use Rattle.std.specs.List.{AllByRecursion, filter}
 use Rattle.std.specs.Option.{option_to_list}
@@ -25,7 +26,8 @@ use Rattle.cg_parts.specs.Writable.{KindIsOf, cell_named}
 use Rattle.cg_netlist.proofs.Each.{each_back, each_front}
 use Rattle.cg_blif_text.specs.declared.fault.LineFault.TheVariants.{PinFault}
 use Rattle.cg_blif_text.specs.Canonical.{flop_nets, left_here, net_here, with_places}
-use Rattle.cg_blif_text.specs.Placing.{Shown, at_role, flop_part, is_bar, nets_at, part_or, placed_as, placed_by, placed_part, put_net, show, shown_at}
+use Rattle.cg_blif_text.specs.Placing.{Shown, at_role, flop_part, is_bar, nets_at, part_or, placed_as, placed_by, placed_part}
+use Rattle.cg_blif_text.specs.Placing.{put_net, show, shown_at}
 use Rattle.cg_blif_text.proofs.NetsAtPins.{counted, nets_back, one_left}
 use Rattle.cg_blif_text.specs.Canonical.{pin_pairs}
 use Rattle.cg_blif_text.proofs.PinPairs.{Word}

@@ -1,5 +1,6 @@
 -- The nets of a placed logic cell go to its pins and come back; the nets of a placed gating cell have names.
-use Rattle.std.specs.Prelude.{◌≡◌, suc, Bool, true, false, ◌||◌, if◌then◌else◌, IsTrue, List, [], ◌∷◌, ◌++◌, map, length, count_by, None, Some, Ok, Err}
+use Rattle.std.specs.Prelude.{◌≡◌, suc, Bool, true, false, ◌||◌, if◌then◌else◌, IsTrue, List, [], ◌∷◌, ◌++◌, map, length, count_by}
+use Rattle.std.specs.Prelude.{None, Some, Ok, Err}
 use Rattle.std.proofs.Common.{refl, ap, ◌∙◌, sym, subst, inl, inr, arith}
 use Rattle.std.specs.List.{AllByRecursion, filter}
 use Rattle.std.specs.Option.{option_to_list}

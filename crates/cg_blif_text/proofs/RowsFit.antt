@@ -1,5 +1,6 @@
 -- The cover of rows is one, and has a place for each input.
-use Rattle.std.proofs.Common.{◌≡◌, ℕ, ◌==◌, ◌&&◌, not, Bool, true, false, if◌then◌else◌, List, [], ◌∷◌, length, Option, None, Some, Result, Ok, Err, refl, sym, ap, ◌∙◌, subst, suc, unwrap_or}
+use Rattle.std.proofs.Common.{◌≡◌, ℕ, ◌==◌, ◌&&◌, not, Bool, true, false, if◌then◌else◌, List, [], ◌∷◌, length, Option, None, Some}
+use Rattle.std.proofs.Common.{Result, Ok, Err, refl, sym, ap, ◌∙◌, subst, suc, unwrap_or}
 use Rattle.std.specs.List.{AllByRecursion, list_all}
 use Rattle.std.specs.Option.{option_and_then, option_map}
 use Rattle.std.proofs.lemmas.Bool.{eqb-true}
@@ -9,7 +10,8 @@ use Rattle.cg_cell.specs.Name.{is_name}
 use Rattle.cg_text.specs.declared.lines.Line.{Line}
 use Rattle.cg_blif_text.specs.declared.fault.BlifFault.{BlifFault}
 use Rattle.cg_blif_text.specs.declared.fault.BlifFault.TheVariants.{BadLine, BadCover}
-use Rattle.cg_blif_text.specs.Rows.{Row, cover_from, keeps_value, put_places, put_row, row_of, row_place, row_places, row_with, value_of}
+use Rattle.cg_blif_text.specs.Rows.{Row, cover_from, keeps_value, put_places, put_row, row_of, row_place, row_places, row_with}
+use Rattle.cg_blif_text.specs.Rows.{value_of}
 use Rattle.cg_blif_text.proofs.PinPairs.{Word}
 
 same_length : (n : ℕ) (rows : List (List (Option Bool))) → AllByRecursion (λ row. length row ≡ n) rows → HaveOneLength rows

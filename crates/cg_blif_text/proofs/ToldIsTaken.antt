@@ -1,5 +1,6 @@
 -- What a text tells is said by parts that a builder takes and that lines can say.
-use Rattle.std.proofs.Common.{◌≡◌, ℕ, Bool, true, false, if◌then◌else◌, List, [], ◌∷◌, ◌++◌, map, length, Option, None, Some, Result, Ok, Err, refl, sym, ap, ◌∙◌, subst, arith}
+use Rattle.std.proofs.Common.{◌≡◌, ℕ, Bool, true, false, if◌then◌else◌, List, [], ◌∷◌, ◌++◌, map, length, Option, None, Some}
+use Rattle.std.proofs.Common.{Result, Ok, Err, refl, sym, ap, ◌∙◌, subst, arith}
 use Rattle.std.specs.List.{AllByRecursion, find}
 use Rattle.std.specs.Option.{option_to_list}
 use Rattle.std.specs.Str.{bytes_eq}
@@ -23,14 +24,17 @@ use Rattle.cg_blif_text.specs.declared.fault.LineFault.{LineFault}
 use Rattle.cg_blif_text.specs.declared.place.Place.{Place}
 use Rattle.cg_blif_text.specs.declared.place.Place.TheVariants.{First, Unnamed, Named, Ended}
 use Rattle.cg_blif_text.specs.declared.statement.Statement.{Statement}
-use Rattle.cg_blif_text.specs.declared.statement.Statement.TheVariants.{Model, Inputs, Outputs, Clocks, Names, Latch, Gate, Skipped, End}
+use Rattle.cg_blif_text.specs.declared.statement.Statement.TheVariants.{Model, Inputs, Outputs, Clocks, Names, Latch, Gate, Skipped}
+use Rattle.cg_blif_text.specs.declared.statement.Statement.TheVariants.{End}
 use Rattle.cg_blif_text.specs.BlifText.{BlifText, told_by}
 use Rattle.cg_blif_text.specs.Blocks.{Block, cut}
 use Rattle.cg_blif_text.specs.LogicalLines.{text_lines}
 use Rattle.cg_blif_text.specs.Meaning.{meant}
 use Rattle.cg_blif_text.specs.PinWords.{PinNet}
 use Rattle.cg_blif_text.specs.Placing.{placed_by}
-use Rattle.cg_blif_text.specs.Telling.{Told, cover_or_none, go_on, latch_register, meant_at, next_model, rows_behind, said_by, tell_block, tell_blocks, tell_clock, tell_cut, tell_lines, tell_more, tell_parts, tell_statement, unless, untold, with_parts, with_said}
+use Rattle.cg_blif_text.specs.Telling.{Told, cover_or_none, go_on, latch_register, meant_at, next_model, rows_behind, said_by}
+use Rattle.cg_blif_text.specs.Telling.{tell_block, tell_blocks, tell_clock, tell_cut, tell_lines, tell_more, tell_parts}
+use Rattle.cg_blif_text.specs.Telling.{tell_statement, unless, untold, with_parts, with_said}
 use Rattle.cg_blif_text.proofs.MeantNames.{IsMade, meant_made}
 use Rattle.cg_blif_text.proofs.PinPairs.{Word}
 use Rattle.cg_blif_text.proofs.PlacedFits.{placed_fits}

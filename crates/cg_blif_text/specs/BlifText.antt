@@ -19,7 +19,8 @@ abbrev pub told_by : List CellData → Option NetName → List ℕ → Result To
 told_by library clock text = go_on (tell_lines library (text_lines text)) (tell_clock clock)
 
 -- parts that a text tells
-pub record TellsParts (library : List CellData) (clock : Option NetName) (text : List ℕ) (model : List ℕ) (parts : List Part) : Type 0 where
+pub record TellsParts (library : List CellData) (clock : Option NetName) (text : List ℕ) (model : List ℕ)
+    (parts : List Part) : Type 0 where
   pub told : Told
   pub faultless : told_by library clock text ≡ Ok told
   pub model_is : told.model ≡ model
@@ -50,4 +51,5 @@ HasLineFault text library clock fault = IsFirstOfLines library (text_lines text)
 
 -- the first fault of the text: that of its lines and of the clock, or else that of its parts
 abbrev pub IsFirstBlifFault : List ℕ → List CellData → Option NetName → BlifFault → Type 0
-IsFirstBlifFault text library clock fault = HasLineFault text library clock fault ⊎ ((net : NetFault) × (fault ≡ Net net) × HasNetFault text library clock net)
+IsFirstBlifFault text library clock fault =
+    HasLineFault text library clock fault ⊎ ((net : NetFault) × (fault ≡ Net net) × HasNetFault text library clock net)

@@ -1,5 +1,6 @@
 -- The canonical text of a netlist.
-use Rattle.std.specs.Prelude.{ℕ, ◌+◌, Bool, true, false, if◌then◌else◌, nat_eq, List, [], ◌∷◌, ◌++◌, map, codes, drop, slice_get, slice_index_or, unwrap_or, Option, None, Some}
+use Rattle.std.specs.Prelude.{ℕ, ◌+◌, Bool, true, false, if◌then◌else◌, nat_eq, List, [], ◌∷◌, ◌++◌, map, codes, drop, slice_get}
+use Rattle.std.specs.Prelude.{slice_index_or, unwrap_or, Option, None, Some}
 use Rattle.std.specs.List.{flat_map}
 use Rattle.std.specs.Option.{option_to_list}
 use Rattle.cg_cell.specs.Cell.{CellData}
@@ -13,7 +14,8 @@ use Rattle.cg_netlist.specs.Circuit.{Circuit, LogicCell, GatingCell, RegisterCel
 use Rattle.cg_netlist.specs.Wiring.{NetName, Wiring, named}
 use Rattle.cg_parts.specs.Writable.{NIL}
 use Rattle.cg_blif_text.specs.declared.statement.Statement.{Statement}
-use Rattle.cg_blif_text.specs.declared.statement.Statement.TheVariants.{Model, Inputs, Outputs, Clocks, Names, Latch, Gate, Skipped, End}
+use Rattle.cg_blif_text.specs.declared.statement.Statement.TheVariants.{Model, Inputs, Outputs, Clocks, Names, Latch, Gate, Skipped}
+use Rattle.cg_blif_text.specs.declared.statement.Statement.TheVariants.{End}
 use Rattle.cg_blif_text.specs.PinWords.{PinNet, pin_word}
 use Rattle.cg_blif_text.specs.Placing.{Shown}
 
@@ -49,7 +51,8 @@ statement_line (Inputs nets) = codes ".inputs" ∷ nets
 statement_line (Outputs nets) = codes ".outputs" ∷ nets
 statement_line (Clocks nets) = codes ".clock" ∷ nets
 statement_line (Names inputs output) = codes ".names" ∷ (inputs ++ output ∷ [])
-statement_line (Latch input output clock init) = codes ".latch" ∷ input ∷ output ∷ codes "re" ∷ unwrap_or clock NIL ∷ ((48 + init) ∷ []) ∷ []
+statement_line (Latch input output clock init) =
+    codes ".latch" ∷ input ∷ output ∷ codes "re" ∷ unwrap_or clock NIL ∷ ((48 + init) ∷ []) ∷ []
 statement_line (Gate cell pins) = codes ".gate" ∷ cell ∷ map pin_text pins
 statement_line Skipped = codes ".param" ∷ []
 statement_line End = codes ".end" ∷ []
@@ -62,11 +65,14 @@ gate_statement cell nets = Gate cell.name (pin_pairs cell.pins nets)
 abbrev pub logic_nets : List PinData → List NetName → NetName → List (Option NetName)
 logic_nets [] inputs output = []
 logic_nets (pin ∷ pins) [] output = (if is_output pin then Some output else None) ∷ logic_nets pins [] output
-logic_nets (pin ∷ pins) (input ∷ inputs) output = if is_output pin then Some output ∷ logic_nets pins (input ∷ inputs) output else Some input ∷ logic_nets pins inputs output
+logic_nets (pin ∷ pins) (input ∷ inputs) output =
+    if is_output pin then Some output ∷ logic_nets pins (input ∷ inputs) output else Some input ∷ logic_nets pins inputs output
 
 -- the net at a pin of a gating cell
 abbrev pub gater_net : GatingCell NetName → PinData → Option NetName
-gater_net gater pin = if is_clock pin then Some gater.clock else if is_enable pin then Some gater.enable else if is_test pin then gater.test else if is_output pin then Some gater.output else None
+gater_net gater pin =
+    if is_clock pin then Some gater.clock else if is_enable pin then Some gater.enable else if is_test pin then gater.test
+    else if is_output pin then Some gater.output else None
 
 -- the nets at the pins of a register: the clock at its clock pin, each output that is shown at its pin, and the inputs, in their
 -- order, at the others
@@ -123,8 +129,10 @@ register_statement r = kind_statement r r.kind
 -- cells, the gating cells, the registers, and the end
 abbrev pub wiring_lines : List ℕ → Wiring NetName → List (List (List ℕ))
 wiring_lines model w =
-    statement_line (Model model) ∷ statement_line (Inputs w.inputs) ∷ statement_line (Outputs w.outputs) ∷ (map (λ net. statement_line (Clocks (net ∷ []))) (option_to_list w.clock)
-    ++ flat_map cell_lines w.cells ++ map (λ gater. statement_line (gater_statement gater)) w.gaters ++ map (λ register. statement_line (register_statement register)) w.registers ++ statement_line End ∷ [])
+    statement_line (Model model) ∷ statement_line (Inputs w.inputs) ∷ statement_line (Outputs w.outputs)
+    ∷ (map (λ net. statement_line (Clocks (net ∷ []))) (option_to_list w.clock)
+    ++ flat_map cell_lines w.cells ++ map (λ gater. statement_line (gater_statement gater)) w.gaters
+    ++ map (λ register. statement_line (register_statement register)) w.registers ++ statement_line End ∷ [])
 
 abbrev pub canonical_lines : Circuit → List (List (List ℕ))
 canonical_lines c = wiring_lines c.model (named c)

@@ -2,7 +2,8 @@
 use Rattle.std.specs.Prelude.{ℕ, Bool, true, ◌==◌, ◌||◌, not, if◌then◌else◌, List, [], ◌∷◌, slice_index, codes}
 use Rattle.std.specs.Str.{bytes_eq}
 use Rattle.cg_blif_text.specs.declared.command.Command.{Command}
-use Rattle.cg_blif_text.specs.declared.command.Command.TheVariants.{Model, Inputs, Outputs, Clocks, Names, Latch, Gate, Skipped, End, Other}
+use Rattle.cg_blif_text.specs.declared.command.Command.TheVariants.{Model, Inputs, Outputs, Clocks, Names, Latch, Gate, Skipped}
+use Rattle.cg_blif_text.specs.declared.command.Command.TheVariants.{End, Other}
 
 -- the command of a first word
 abbrev pub is_skipped : List ℕ → Bool

@@ -1,6 +1,8 @@
 -- What a line may have wrong: a table of faults, each with when it applies to a line. The fault of a line is the first that
 -- applies; the fault of lines is that of the first line that has one.
-use Rattle.std.specs.Prelude.{◌≡◌, ℕ, ◌+◌, ◌-◌, Bool, true, false, ◌==◌, ◌&&◌, ◌||◌, not, if◌then◌else◌, List, [], ◌∷◌, ◌++◌, length, map, slice_index, codes, nat_le, nat_lt, is_none, is_some, Option, None, Some, Result, Ok, Err}
+use Rattle.std.specs.Prelude.{◌≡◌, ℕ, ◌+◌, ◌-◌, Bool, true, false, ◌==◌, ◌&&◌, ◌||◌, not, if◌then◌else◌, List, [], ◌∷◌, ◌++◌}
+use Rattle.std.specs.Prelude.{length, map, slice_index, codes, nat_le, nat_lt, is_none, is_some, Option, None, Some, Result, Ok}
+use Rattle.std.specs.Prelude.{Err}
 use Rattle.std.specs.List.{find, fold, list_all}
 use Rattle.std.specs.Option.{option_map, option_map_or}
 use Rattle.std.specs.Str.{bytes_eq}
@@ -18,7 +20,8 @@ use Rattle.cg_blif_text.specs.declared.command.Command.{Command}
 use Rattle.cg_blif_text.specs.declared.command.Command.TheVariants.{Model, Names, Latch, Gate, End, Other}
 use Rattle.cg_blif_text.specs.declared.fault.BlifFault.{BlifFault}
 use Rattle.cg_blif_text.specs.declared.fault.LineFault.{LineFault}
-use Rattle.cg_blif_text.specs.declared.fault.LineFault.TheVariants.{BadLine, BadCover, BadLatch, UnknownCell, UnusableCell, PinFault, SecondModel, Limit}
+use Rattle.cg_blif_text.specs.declared.fault.LineFault.TheVariants.{BadLine, BadCover, BadLatch, UnknownCell, UnusableCell}
+use Rattle.cg_blif_text.specs.declared.fault.LineFault.TheVariants.{PinFault, SecondModel, Limit}
 use Rattle.cg_blif_text.specs.declared.place.Place.{Place}
 use Rattle.cg_blif_text.specs.declared.place.Place.TheVariants.{First, Unnamed, Named, Ended}
 use Rattle.cg_blif_text.specs.declared.statement.Statement.{Statement}
@@ -112,7 +115,8 @@ abbrev pub gives_pins : CellData → List PinNet → Bool
 gives_pins cell words = are_for_pins cell.pins words && is_some (placed_part cell.kind cell (nets_at cell.pins words))
 
 abbrev pub is_pin_fault : List CellData → Form → Bool
-is_pin_fault library (Order Gate (cell ∷ words)) = option_map_or (λ c. not (gives_pins c (map pin_net words))) (cell_named library cell) false
+is_pin_fault library (Order Gate (cell ∷ words)) =
+    option_map_or (λ c. not (gives_pins c (map pin_net words))) (cell_named library cell) false
 is_pin_fault library form = false
 
 -- it is a `.model` line behind another one, or behind the `.end` line

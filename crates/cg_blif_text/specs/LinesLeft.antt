@@ -14,7 +14,8 @@ use Rattle.cg_blif_text.specs.declared.statement.Statement.TheVariants.{Names}
 use Rattle.cg_blif_text.specs.Blocks.{cut}
 use Rattle.cg_blif_text.specs.OpenCovers.{CoverSoFar, cover_so_far}
 use Rattle.cg_blif_text.specs.Rows.{cover_from}
-use Rattle.cg_blif_text.specs.Telling.{Told, cover_or_none, go_on, no_rows, said_by, tell_blocks, tell_cut, tell_parts, with_parts, with_said}
+use Rattle.cg_blif_text.specs.Telling.{Told, cover_or_none, go_on, no_rows, said_by, tell_blocks, tell_cut, tell_parts, with_parts}
+use Rattle.cg_blif_text.specs.Telling.{with_said}
 
 -- rows in front of a cover
 abbrev pub put_rows : List (List (Option Bool)) → Result CoverData BlifFault → Result CoverData BlifFault
@@ -31,7 +32,8 @@ cover_part o cover = Logic (record { inputs = o.inputs; output = o.output; funct
 
 -- what is told behind an open cover whose rows are this cover
 abbrev pub close_with : Told → CoverSoFar → Result CoverData BlifFault → Result Told BlifFault
-close_with told o cover = tell_parts told 0 (Names o.inputs o.output) cover (with_parts (cover_part o (cover_or_none cover) ∷ []) told.said)
+close_with told o cover =
+    tell_parts told 0 (Names o.inputs o.output) cover (with_parts (cover_part o (cover_or_none cover) ∷ []) told.said)
 
 -- what is told where an open cover, if there is one, gets no further row
 abbrev pub closed : Told → Option CoverSoFar → Result Told BlifFault

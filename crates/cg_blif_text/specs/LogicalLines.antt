@@ -1,5 +1,6 @@
 -- The logical lines of a text: physical lines without their comments, joined where one ends in `\`.
-use Rattle.std.specs.Prelude.{ℕ, ◌+◌, ◌-◌, Bool, false, ◌==◌, ◌||◌, if◌then◌else◌, List, [], ◌∷◌, ◌++◌, length, take, reverse, slice_get}
+use Rattle.std.specs.Prelude.{ℕ, ◌+◌, ◌-◌, Bool, false, ◌==◌, ◌||◌, if◌then◌else◌, List, [], ◌∷◌, ◌++◌, length, take, reverse}
+use Rattle.std.specs.Prelude.{slice_get}
 use Rattle.std.specs.List.{before_first}
 use Rattle.std.specs.Option.{option_map_or}
 use Rattle.cg_text.specs.Lines.{put_line}
@@ -32,7 +33,8 @@ joined number front [] = record { number = number; bytes = front } ∷ []
 joined number front (next ∷ later) = record { number = number; bytes = front ++ 32 ∷ next.bytes } ∷ later
 
 abbrev pub put_bared : ℕ → List ℕ → List Logical → List Logical
-put_bared number line later = if is_joined line then joined number (take (length line - 1) line) later else record { number = number; bytes = line } ∷ later
+put_bared number line later =
+    if is_joined line then joined number (take (length line - 1) line) later else record { number = number; bytes = line } ∷ later
 
 -- physical lines as logical lines, the first of them having this number
 abbrev pub logical_lines : ℕ → List (List ℕ) → List Logical

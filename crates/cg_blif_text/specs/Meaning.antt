@@ -1,5 +1,6 @@
 -- What a line says that is a command: a statement, or why it says none.
-use Rattle.std.specs.Prelude.{ℕ, ◌+◌, ◌-◌, ◌==◌, if◌then◌else◌, List, [], ◌∷◌, length, map, nat_lt, take, slice_index_or, Result, Ok, Err}
+use Rattle.std.specs.Prelude.{ℕ, ◌+◌, ◌-◌, ◌==◌, if◌then◌else◌, List, [], ◌∷◌, length, map, nat_lt, take, slice_index_or, Result}
+use Rattle.std.specs.Prelude.{Ok, Err}
 use Rattle.std.specs.List.{list_all}
 use Rattle.cg_cell.specs.Name.{is_name}
 use Rattle.cg_limit.specs.declared.Limit.TheVariants.{CoverInputs}

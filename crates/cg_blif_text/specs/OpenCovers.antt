@@ -26,4 +26,5 @@ cover_so_far o = record { rows = o.rows; on = unwrap_or o.on true }
 -- the cover with one more row, or none where there is no row or it has another value than the rows before
 abbrev pub with_row : CoverSoFar → Option Row → Option CoverSoFar
 with_row o None = None
-with_row o (Some row) = if keeps_value o.on row.value then Some (record o { rows = o.rows ++ row.places ∷ []; on = Some row.value }) else None
+with_row o (Some row) =
+    if keeps_value o.on row.value then Some (record o { rows = o.rows ++ row.places ∷ []; on = Some row.value }) else None

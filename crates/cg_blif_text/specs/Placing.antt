@@ -1,5 +1,6 @@
 -- The part that a `.gate` line says with the cells of a library.
-use Rattle.std.specs.Prelude.{ℕ, ◌+◌, Bool, true, false, ◌&&◌, if◌then◌else◌, List, [], ◌∷◌, map, slice_get, Option, None, Some, Result, Ok, Err}
+use Rattle.std.specs.Prelude.{ℕ, ◌+◌, Bool, true, false, ◌&&◌, if◌then◌else◌, List, [], ◌∷◌, map, slice_get, Option, None, Some}
+use Rattle.std.specs.Prelude.{Result, Ok, Err}
 use Rattle.std.specs.List.{find, list_all, list_any}
 use Rattle.std.specs.Option.{option_and_then}
 use Rattle.std.specs.Str.{bytes_eq}
@@ -64,22 +65,35 @@ shown_at place (pin ∷ pins) (net ∷ nets) = show net pin place (shown_at (pla
 -- a placed cell with these nets at its pins, where each pin that has to be given is: the inputs, clocks, enables, tests, and the
 -- output of a logic or a gating cell; and of a register at least one output
 abbrev pub logic_part : CellData → Option (List NetName) → Option (List NetName) → Option Part
-logic_part cell (Some inputs) (Some (output ∷ [])) = Some (Logic (record { inputs = inputs; output = output; function = Cell cell }))
+logic_part cell (Some inputs) (Some (output ∷ [])) =
+    Some (Logic (record { inputs = inputs; output = output; function = Cell cell }))
 logic_part cell inputs outputs = None
 
-abbrev pub gater_part : CellData → Option (List NetName) → Option (List NetName) → Option (List NetName) → Option (List NetName) → Option Part
-gater_part cell (Some (clock ∷ [])) (Some (enable ∷ [])) (Some tests) (Some (output ∷ [])) = Some (Gate (record { clock = clock; enable = enable; test = slice_get tests 0; output = output; cell = cell }))
+abbrev pub gater_part : CellData → Option (List NetName) → Option (List NetName) → Option (List NetName) → Option (List NetName) →
+    Option Part
+gater_part cell (Some (clock ∷ [])) (Some (enable ∷ [])) (Some tests) (Some (output ∷ [])) =
+    Some (Gate (record { clock = clock; enable = enable; test = slice_get tests 0; output = output; cell = cell }))
 gater_part cell clocks enables tests outputs = None
 
 abbrev pub flop_part : CellData → Option (List NetName) → Option (List NetName) → List Shown → Option Part
 flop_part cell (Some inputs) (Some (clock ∷ [])) (output ∷ outputs) =
-    Some (Register (record { inputs = inputs; outputs = map (λ o. o.0) (output ∷ outputs); pins = map (λ o. o.1) (output ∷ outputs); clock = Some clock; kind = Flop cell; init = 3 }))
+    Some (Register (record {
+      inputs = inputs;
+      outputs = map (λ o. o.0) (output ∷ outputs);
+      pins = map (λ o. o.1) (output ∷ outputs);
+      clock = Some clock;
+      kind = Flop cell;
+      init = 3;
+    }))
 flop_part cell inputs clocks outputs = None
 
 abbrev pub placed_part : CellKind → CellData → List (Option NetName) → Option Part
 placed_part LogicKind cell nets = logic_part cell (at_role is_data cell.pins nets) (at_role is_output cell.pins nets)
-placed_part GaterKind cell nets = gater_part cell (at_role is_clock cell.pins nets) (at_role is_enable cell.pins nets) (at_role is_test cell.pins nets) (at_role is_output cell.pins nets)
-placed_part FlopKind cell nets = flop_part cell (at_role is_data cell.pins nets) (at_role is_clock cell.pins nets) (shown_at 0 cell.pins nets)
+placed_part GaterKind cell nets =
+    gater_part cell (at_role is_clock cell.pins nets) (at_role is_enable cell.pins nets) (at_role is_test cell.pins nets)
+    (at_role is_output cell.pins nets)
+placed_part FlopKind cell nets =
+    flop_part cell (at_role is_data cell.pins nets) (at_role is_clock cell.pins nets) (shown_at 0 cell.pins nets)
 placed_part Unusable cell nets = None
 
 -- the part of a placed cell, or the first of the faults that a `.gate` line may have
@@ -89,7 +103,8 @@ part_or (Some part) = Ok (part ∷ [])
 
 abbrev pub placed_as : CellKind → CellData → List PinNet → Result (List Part) LineFault
 placed_as Unusable cell words = Err UnusableCell
-placed_as kind cell words = if are_for_pins cell.pins words then part_or (placed_part kind cell (nets_at cell.pins words)) else Err PinFault
+placed_as kind cell words =
+    if are_for_pins cell.pins words then part_or (placed_part kind cell (nets_at cell.pins words)) else Err PinFault
 
 abbrev pub placed_by : Option CellData → List PinNet → Result (List Part) LineFault
 placed_by None words = Err UnknownCell

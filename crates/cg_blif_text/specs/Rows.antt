@@ -1,5 +1,6 @@
 -- The rows behind a `.names` line.
-use Rattle.std.specs.Prelude.{ℕ, ◌==◌, ◌&&◌, not, Bool, true, false, if◌then◌else◌, List, [], ◌∷◌, length, slice_index, unwrap_or, Option, None, Some, Result, Ok, Err}
+use Rattle.std.specs.Prelude.{ℕ, ◌==◌, ◌&&◌, not, Bool, true, false, if◌then◌else◌, List, [], ◌∷◌, length, slice_index, unwrap_or}
+use Rattle.std.specs.Prelude.{Option, None, Some, Result, Ok, Err}
 use Rattle.std.specs.List.{list_all}
 use Rattle.std.specs.Option.{option_map, option_and_then}
 use Rattle.cg_cell.specs.Cover.{CoverData}
@@ -36,7 +37,8 @@ row_with places value = None
 -- are no inputs
 abbrev pub row_of : ℕ → List (List ℕ) → Option Row
 row_of inputs (value ∷ []) = if inputs == 0 then row_with (Some []) (value_of value) else None
-row_of inputs (places ∷ value ∷ []) = if not (inputs == 0) && length places == inputs then row_with (row_places places) (value_of value) else None
+row_of inputs (places ∷ value ∷ []) =
+    if not (inputs == 0) && length places == inputs then row_with (row_places places) (value_of value) else None
 row_of inputs words = None
 
 -- all rows of a cover have one value
@@ -52,7 +54,8 @@ put_places places (Err fault) = Err fault
 -- a row, and then the others behind a row of its value
 abbrev pub put_row : ℕ → Option Bool → Option Row → (Option Bool → Result CoverData BlifFault) → Result CoverData BlifFault
 put_row number on None later = Err (BadCover number)
-put_row number on (Some row) later = if keeps_value on row.value then put_places row.places (later (Some row.value)) else Err (BadCover number)
+put_row number on (Some row) later =
+    if keeps_value on row.value then put_places row.places (later (Some row.value)) else Err (BadCover number)
 
 -- The cover that lines say, behind rows of this value if there are some; or the fault of the first line that is no such row.
 -- Without any row the cover is 0, and the value is 1.

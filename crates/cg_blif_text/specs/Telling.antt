@@ -14,7 +14,8 @@ use Rattle.cg_parts.specs.Writable.{cell_named}
 use Rattle.cg_blif_text.specs.declared.fault.BlifFault.{BlifFault}
 use Rattle.cg_blif_text.specs.declared.fault.BlifFault.TheVariants as faults
 use Rattle.cg_blif_text.specs.declared.fault.LineFault.{LineFault}
-use Rattle.cg_blif_text.specs.declared.fault.LineFault.TheVariants.{BadLine, BadCover, BadLatch, UnknownCell, UnusableCell, PinFault, SecondModel, Limit as Passed}
+use Rattle.cg_blif_text.specs.declared.fault.LineFault.TheVariants.{BadLine, BadCover, BadLatch, UnknownCell, UnusableCell}
+use Rattle.cg_blif_text.specs.declared.fault.LineFault.TheVariants.{PinFault, SecondModel, Limit as Passed}
 use Rattle.cg_blif_text.specs.declared.place.Place.{Place}
 use Rattle.cg_blif_text.specs.declared.place.Place.TheVariants.{First, Unnamed, Named, Ended}
 use Rattle.cg_blif_text.specs.declared.statement.Statement.{Statement}
@@ -77,7 +78,8 @@ rows_behind statement (row ∷ rows) = Err (faults.BadLine row.number)
 
 -- a register of a `.latch` line
 abbrev pub latch_register : NetName → NetName → Option NetName → ℕ → RegisterCell NetName (Option NetName)
-latch_register input output clock init = record { inputs = input ∷ []; outputs = (output, false) ∷ []; pins = 0 ∷ []; clock = clock; kind = Plain; init = init }
+latch_register input output clock init =
+    record { inputs = input ∷ []; outputs = (output, false) ∷ []; pins = 0 ∷ []; clock = clock; kind = Plain; init = init }
 
 -- the parts that a statement says with the cells of a library, a `.names` line with this cover
 abbrev pub said_by : List CellData → CoverData → Statement → Result (List Part) LineFault
@@ -112,15 +114,18 @@ cover_or_none (Err fault) = no_rows
 abbrev pub tell_parts : Told → ℕ → Statement → Result CoverData BlifFault → Result Said LineFault → Result Told BlifFault
 tell_parts told number statement rows (Err cause) = Err (at number cause)
 tell_parts told number statement (Err fault) (Ok s) = Err fault
-tell_parts told number statement (Ok cover) (Ok s) = Ok (record { place = next_place told.place statement; model = next_model told.model statement; said = s })
+tell_parts told number statement (Ok cover) (Ok s) =
+    Ok (record { place = next_place told.place statement; model = next_model told.model statement; said = s })
 
 abbrev pub tell_statement : List CellData → Told → ℕ → List Line → Result Statement LineFault → Result Told BlifFault
 tell_statement library told number rows (Err cause) = Err (at number cause)
 tell_statement library told number rows (Ok statement) =
-    tell_parts told number statement (rows_behind statement rows) (with_said told.said (said_by library (cover_or_none (rows_behind statement rows)) statement))
+    tell_parts told number statement (rows_behind statement rows)
+    (with_said told.said (said_by library (cover_or_none (rows_behind statement rows)) statement))
 
 abbrev pub tell_block : List CellData → Told → Block → Result Told BlifFault
-tell_block library told block = tell_statement library told block.head.number block.rows (meant_at told.place (meant block.head.words))
+tell_block library told block =
+    tell_statement library told block.head.number block.rows (meant_at told.place (meant block.head.words))
 
 -- one block after another, as far as none has a fault
 abbrev pub go_on : Result Told BlifFault → (Told → Result Told BlifFault) → Result Told BlifFault

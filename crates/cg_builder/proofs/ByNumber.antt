@@ -1,5 +1,6 @@
 -- What is said by the numbers of nets is said by their names.
-use Rattle.std.specs.Prelude.{◌≡◌, ◌≢◌, ℕ, ◌+◌, ◌<◌, Bool, true, false, not, if◌then◌else◌, List, [], ◌∷◌, ◌++◌, map, length, Option, nat_eq}
+use Rattle.std.specs.Prelude.{◌≡◌, ◌≢◌, ℕ, ◌+◌, ◌<◌, Bool, true, false, not, if◌then◌else◌, List, [], ◌∷◌, ◌++◌, map, length}
+use Rattle.std.specs.Prelude.{Option, nat_eq}
 use Rattle.std.proofs.Common.{refl, ap, ◌∙◌, sym, cond}
 use Rattle.std.specs.List.{AllByRecursion, AllPairs, count_by, filter, flat_map}
 use Rattle.std.specs.Option.{option_to_list}
@@ -7,13 +8,15 @@ use Rattle.std.specs.Str.{bytes_eq}
 use Rattle.std.proofs.lemmas.List.{map-append}
 use Rattle.std.proofs.lemmas.List.Sums.{sum_by-cons}
 use Rattle.cg_parts.proofs.NetLists.{cell_inputs, gater_inputs, register_inputs}
-use Rattle.cg_parts.proofs.OrderMapped.{asks_mapped, cells_driven_mapped, gaters_driven_mapped, ins_mapped, shown_mapped, test_mapped}
+use Rattle.cg_parts.proofs.OrderMapped.{asks_mapped, cells_driven_mapped, gaters_driven_mapped, ins_mapped, shown_mapped}
+use Rattle.cg_parts.proofs.OrderMapped.{test_mapped}
 use Rattle.cg_parts.proofs.ToldByNames.{known_as, told}
 use Rattle.cg_netlist.specs.Circuit.{GatingCell, LogicCell, RegisterCell, is_in, shown_nets}
 use Rattle.cg_netlist.specs.Names.{is_known}
 use Rattle.cg_builder.specs.inner.Numbers.{drivers_by, pins_by, roots_by}
 use Rattle.cg_parts.specs.Part.{cells, gaters, outputs, registers}
-use Rattle.cg_netlist.specs.Wiring.{NetName, driven_by_cells, driven_by_gaters, driven_by_registers, map_cell, map_gater, map_open, net_name, used_by}
+use Rattle.cg_netlist.specs.Wiring.{NetName, driven_by_cells, driven_by_gaters, driven_by_registers, map_cell, map_gater, map_open}
+use Rattle.cg_netlist.specs.Wiring.{net_name, used_by}
 
 module _ {N M : Type 0} (f : N → M) where
   pub open_driven_mapped : (rs : List (RegisterCell N (Option N))) → driven_by_registers (map (map_open f) rs) ≡ map f (driven_by_registers rs)

@@ -1,10 +1,12 @@
 -- What checks of numbers find is the first fault of the parts.
-use Rattle.std.specs.Prelude.{[], ◌≡◌, ◌≢◌, ℕ, zero, suc, ◌+◌, ◌<◌, ◌≤◌, nat_lt, nat_eq, Bool, true, false, not, ◌&&◌, ◌||◌, List, ◌∷◌, ◌++◌, map, length, Option, None, Some, MatchOption, is_none, is_some}
+use Rattle.std.specs.Prelude.{[], ◌≡◌, ◌≢◌, ℕ, zero, suc, ◌+◌, ◌<◌, ◌≤◌, nat_lt, nat_eq, Bool, true, false, not, ◌&&◌, ◌||◌, List}
+use Rattle.std.specs.Prelude.{◌∷◌, ◌++◌, map, length, Option, None, Some, MatchOption, is_none, is_some}
 use Rattle.std.proofs.Common.{refl, ap, ◌∙◌, sym, subst, inl, inr, arith, take, cond}
 use Rattle.std.specs.List.{AllByRecursion, AllPairs, IsDistinct, before_first, count_by, filter, flat_map, list_any}
 use Rattle.std.specs.Option.{option_map_or, option_to_list}
 use Rattle.std.specs.Str.{bytes_eq}
-use Rattle.std.proofs.lemmas.Bool.{and_parts, both_ways, cases_Bool, cases_lt, eqb-true, eq-eqb, false_from_ne_true, lt-ltb, ltb-true, or_cases, or_left, or_parts, or_right}
+use Rattle.std.proofs.lemmas.Bool.{and_parts, both_ways, cases_Bool, cases_lt, eqb-true, eq-eqb, false_from_ne_true, lt-ltb}
+use Rattle.std.proofs.lemmas.Bool.{ltb-true, or_cases, or_left, or_parts, or_right}
 use Rattle.std.proofs.lemmas.List.{length-map, map-append}
 use Rattle.std.proofs.lemmas.List.Sums.{sum_by-cons}
 use Rattle.cg_parts.specs.declared.fault.NetFault.TheVariants.{TwoDrivers, NoDriver, Cycle, ClockFault}
@@ -28,12 +30,16 @@ use Rattle.cg_netlist.specs.Circuit.{GatingCell, LogicCell, RegisterCell, asked_
 use Rattle.cg_netlist.specs.Marks.{IsFirst}
 use Rattle.cg_netlist.specs.Names.{is_known}
 use Rattle.cg_netlist.specs.Ranks.{driving_cell, rank_of}
-use Rattle.cg_builder.specs.inner.Numbers.{AreNumbers, GaterWithin, Numbers, OpenWithin, drivers_by, driving, driving_gater, gate_rank, gated, is_bad_clock, is_bad_gate, is_bad_root, is_behind_cycle, is_driven_twice, is_undriven, pins_by, rooted, roots_by, seen, used}
+use Rattle.cg_builder.specs.inner.Numbers.{AreNumbers, GaterWithin, Numbers, OpenWithin, drivers_by, driving, driving_gater}
+use Rattle.cg_builder.specs.inner.Numbers.{gate_rank, gated, is_bad_clock, is_bad_gate, is_bad_root, is_behind_cycle}
+use Rattle.cg_builder.specs.inner.Numbers.{is_driven_twice, is_undriven, pins_by, rooted, roots_by, seen, used}
 use Rattle.cg_netlist.specs.Places.{CellWithin}
-use Rattle.cg_parts.specs.Faults.{EachNet, HasClock, IsClockProper, IsDrivenIfUsed, IsDrivenOnce, IsEnding, IsFault, IsFirstNot, IsGateProper, IsRootProper, ends_within, reaches}
+use Rattle.cg_parts.specs.Faults.{EachNet, HasClock, IsClockProper, IsDrivenIfUsed, IsDrivenOnce, IsEnding, IsFault, IsFirstNot}
+use Rattle.cg_parts.specs.Faults.{IsGateProper, IsRootProper, ends_within, reaches}
 use Rattle.cg_parts.specs.Part.{Part, cells, clocks, drivers, gaters, inputs, is_gated, nets, roots, uses}
 use Rattle.cg_parts.specs.Said.{Said, said}
-use Rattle.cg_netlist.specs.Wiring.{NetName, driven_by_cells, driven_by_gaters, driven_by_registers, map_cell, map_gater, map_open, net_name, used_by}
+use Rattle.cg_netlist.specs.Wiring.{NetName, driven_by_cells, driven_by_gaters, driven_by_registers, map_cell, map_gater, map_open}
+use Rattle.cg_netlist.specs.Wiring.{net_name, used_by}
 
 -- nets that stand once at most
 counts_distinct : (xs : List ℕ) → ((x : ℕ) → is_in xs x ≡ true → count_by (nat_eq x) xs ≤ 1) → IsDistinct nat_eq xs

@@ -1,7 +1,9 @@
 -- The first fault that checks find is that of the parts.
-use Rattle.std.proofs.Common.{◌≡◌, ◌⊎◌, ℕ, ◌<◌, Bool, true, false, ◌||◌, nat_eq, nat_lt, List, [], ◌∷◌, Some, None, IsTrue, length, refl, sym, ap, subst, arith, inl, inr}
+use Rattle.std.proofs.Common.{◌≡◌, ◌⊎◌, ℕ, ◌<◌, Bool, true, false, ◌||◌, nat_eq, nat_lt, List, [], ◌∷◌, Some, None, IsTrue, length}
+use Rattle.std.proofs.Common.{refl, sym, ap, subst, arith, inl, inr}
 use Rattle.std.specs.List.{All, AllByRecursion, flat_map}
-use Rattle.std.proofs.lemmas.Bool.{and_from, and_parts, both_ways, cases_Bool, or_cases, or_parts, eq-eqb, eqb-true, lt-ltb, ltb-true}
+use Rattle.std.proofs.lemmas.Bool.{and_from, and_parts, both_ways, cases_Bool, or_cases, or_parts, eq-eqb, eqb-true, lt-ltb}
+use Rattle.std.proofs.lemmas.Bool.{ltb-true}
 use Rattle.cg_cell.specs.Name.{is_name}
 use Rattle.cg_parts.specs.declared.fault.NetFault.{NetFault}
 use Rattle.cg_parts.specs.declared.fault.NetFault.TheVariants.{ClockFault, Cycle, NoClock, NoDriver, NoMemory, TwoDrivers}
@@ -9,7 +11,8 @@ use Rattle.cg_netlist.specs.Marks.{IsFirst}
 use Rattle.cg_netlist.specs.Names.{is_known}
 use Rattle.cg_builder.specs.inner.Finishing.{has_no_clock}
 use Rattle.cg_builder.specs.inner.Heard.{IsHeard}
-use Rattle.cg_builder.specs.inner.Numbers.{AreNumbers, Numbers, is_bad_clock, is_behind_cycle, is_driven_twice, is_undriven, rooted, seen}
+use Rattle.cg_builder.specs.inner.Numbers.{AreNumbers, Numbers, is_bad_clock, is_behind_cycle, is_driven_twice, is_undriven, rooted}
+use Rattle.cg_builder.specs.inner.Numbers.{seen}
 use Rattle.cg_parts.specs.Faults.{EachNet, IsClockProper, IsDrivenIfUsed, IsDrivenOnce, IsEnding, IsFault, IsFaultless}
 use Rattle.cg_parts.specs.Part.{Part, mentioned, nets}
 use Rattle.cg_parts.specs.Said.{said}

@@ -1,5 +1,6 @@
 -- The ranks of gating cells tell which chains of clock pins reach where the clock may come from.
-use Rattle.std.specs.Prelude.{◌≡◌, ◌≢◌, ℕ, zero, suc, ◌+◌, ◌-◌, ◌<◌, ◌==◌, Bool, true, false, ◌||◌, List, [], ◌∷◌, map, length, slice_get, Option, None, Some, nat_eq, is_some}
+use Rattle.std.specs.Prelude.{◌≡◌, ◌≢◌, ℕ, zero, suc, ◌+◌, ◌-◌, ◌<◌, ◌==◌, Bool, true, false, ◌||◌, List, [], ◌∷◌, map, length}
+use Rattle.std.specs.Prelude.{slice_get, Option, None, Some, nat_eq, is_some}
 use Rattle.std.proofs.Common.{refl, ap, ◌∙◌, sym, subst, inl, inr, arith, cond}
 use Rattle.std.specs.List.{AllByRecursion, AllPairs, flat_map, position_from}
 use Rattle.std.specs.Option.{option_map, option_map_or, option_to_list}

@@ -1,5 +1,6 @@
 -- A list whose elements are changed in place, one after another.
-use Rattle.std.proofs.Common.{[], ℕ, zero, suc, add-one, ◌+◌, ◌≡◌, List, ◌∷◌, ◌++◌, Some, map, take, drop, set, refl, sym, ap, ◌∙◌, subst}
+use Rattle.std.proofs.Common.{[], ℕ, zero, suc, add-one, ◌+◌, ◌≡◌, List, ◌∷◌, ◌++◌, Some, map, take, drop, set, refl, sym, ap, ◌∙◌}
+use Rattle.std.proofs.Common.{subst}
 use Rattle.std.specs.List.{slice_get, All}
 use Rattle.std.proofs.lemmas.List.Elements.{All-get_or, All-nil, All-cons, All-head, All-tail}
 use Rattle.std.proofs.lemmas.Option.{same_Some, slice_get_within, get_or_from_slice_get}

@@ -1,6 +1,8 @@
 -- Lemmas on marks, and on the first net that passes a test.
 use Rattle.std.proofs.Math.Bool.{or-false}
-use Rattle.std.proofs.Common.{[], ℕ, zero, suc, add-one, zero-add, ◌+◌, ◌<◌, ◌≡◌, inl, inr, Bool, true, false, not, ◌&&◌, ◌||◌, cond, List, ◌∷◌, ◌++◌, Option, Some, None, length, set, get_or, unwrap_or, refl, sym, ap, ◌∙◌, subst, arith, nat_eq, nat_lt}
+use Rattle.std.proofs.Common.{[], ℕ, zero, suc, add-one, zero-add, ◌+◌, ◌<◌, ◌≡◌, inl, inr, Bool, true, false, not, ◌&&◌, ◌||◌}
+use Rattle.std.proofs.Common.{cond, List, ◌∷◌, ◌++◌, Option, Some, None, length, set, get_or, unwrap_or, refl, sym, ap, ◌∙◌, subst}
+use Rattle.std.proofs.Common.{arith, nat_eq, nat_lt}
 use Rattle.std.specs.List.{list_any, range_with_len, count_by}
 use Rattle.std.proofs.lemmas.Bool.{cases_Bool, eq-eqb, or_left, or_right, cases_lt, lt-ltb, le-ltb}
 use Rattle.std.proofs.lemmas.Bool.Decides.{eqb_tells}

@@ -1,5 +1,6 @@
 -- Lemmas on mentioning nets by name.
-use Rattle.std.proofs.Common.{[], ℕ, ◌+◌, ◌≤◌, ◌≡◌, inl, inr, List, ◌∷◌, ◌++◌, Some, map, length, take, drop, refl, sym, ap, ◌∙◌, arith, append_assoc}
+use Rattle.std.proofs.Common.{[], ℕ, ◌+◌, ◌≤◌, ◌≡◌, inl, inr, List, ◌∷◌, ◌++◌, Some, map, length, take, drop, refl, sym, ap, ◌∙◌}
+use Rattle.std.proofs.Common.{arith, append_assoc}
 use Rattle.std.specs.List.{slice_get}
 use Rattle.std.proofs.lemmas.List.{append-nil, length-append, take-append-drop}
 use Rattle.std.proofs.lemmas.Bool.{cases_Bool}

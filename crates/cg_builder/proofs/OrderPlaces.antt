@@ -1,5 +1,7 @@
 -- The places of nets in an order, as they are noted one after another.
-use Rattle.std.proofs.Common.{◌≡◌, ℕ, zero, suc, ◌+◌, ◌<◌, ◌≤◌, Bool, true, false, not, ◌||◌, cond, if◌then◌else◌, nat_eq, List, [], ◌∷◌, Some, length, replicate, set, take, slice_get, unwrap_or, refl, sym, ap, ◌∙◌, subst, arith, inl, inr}
+use Rattle.std.proofs.Common.{◌≡◌, ℕ, zero, suc, ◌+◌, ◌<◌, ◌≤◌, Bool, true, false, not, ◌||◌, cond, if◌then◌else◌, nat_eq, List, []}
+use Rattle.std.proofs.Common.{◌∷◌, Some, length, replicate, set, take, slice_get, unwrap_or, refl, sym, ap, ◌∙◌, subst, arith, inl}
+use Rattle.std.proofs.Common.{inr}
 use Rattle.std.specs.List.{All, IsDistinct, position_or_len}
 use Rattle.std.proofs.lemmas.Bool.{or_parts, or_right}
 use Rattle.std.proofs.lemmas.Bool.Decides.{eqb_tells}

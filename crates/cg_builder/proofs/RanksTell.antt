@@ -1,5 +1,6 @@
 -- The ranks of logic cells tell which ways up end: a cell has a rank where those from its output do.
-use Rattle.std.specs.Prelude.{[], ◌≡◌, ◌≢◌, ℕ, zero, suc, ◌+◌, ◌<◌, ◌==◌, Bool, true, false, not, ◌&&◌, ◌||◌, max, List, ◌∷◌, map, length, slice_get, Option, None, Some, nat_eq, is_some}
+use Rattle.std.specs.Prelude.{[], ◌≡◌, ◌≢◌, ℕ, zero, suc, ◌+◌, ◌<◌, ◌==◌, Bool, true, false, not, ◌&&◌, ◌||◌, max, List, ◌∷◌, map}
+use Rattle.std.specs.Prelude.{length, slice_get, Option, None, Some, nat_eq, is_some}
 use Rattle.std.proofs.Common.{refl, ap, ◌∙◌, sym, subst, inl, inr, arith, cond}
 use Rattle.std.specs.List.{AllByRecursion, AllPairs, IsDistinct, cons_option, filter_map, list_all, position_from}
 use Rattle.std.specs.Option.{option_map, option_map_or}

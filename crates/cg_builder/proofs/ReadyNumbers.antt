@@ -1,5 +1,6 @@
 -- Parts without a fault make a netlist by their numbers.
-use Rattle.std.proofs.Common.{◌≡◌, ◌≢◌, ℕ, zero, suc, ◌+◌, ◌<◌, ◌==◌, true, false, cond, List, [], ◌∷◌, ◌++◌, Option, Some, None, map, length, slice_get, is_none, refl, ap, ◌∙◌, subst, arith}
+use Rattle.std.proofs.Common.{◌≡◌, ◌≢◌, ℕ, zero, suc, ◌+◌, ◌<◌, ◌==◌, true, false, cond, List, [], ◌∷◌, ◌++◌, Option, Some, None}
+use Rattle.std.proofs.Common.{map, length, slice_get, is_none, refl, ap, ◌∙◌, subst, arith}
 use Rattle.std.specs.List.{AllByRecursion, AllPairs, cons_option, filter_map, position_from}
 use Rattle.std.specs.Option.{option_map, option_map_or, option_to_list}
 use Rattle.std.specs.Str.{bytes_eq}
@@ -11,7 +12,8 @@ use Rattle.cg_netlist.specs.Netlist.{IsNetlist}
 use Rattle.cg_netlist.specs.Ranks.{driving_cell, driving_cells, next_rank, rank_of, rank_within, is_unranked}
 use Rattle.cg_netlist.specs.Chains.{chain, chain_cell}
 use Rattle.cg_builder.specs.inner.Heard.{IsHeard, IsReady}
-use Rattle.cg_builder.specs.inner.Numbers.{Numbers, driving_gater, gate_above, gate_rank, made_of, ordered_numbers, roots_by, wired_numbers}
+use Rattle.cg_builder.specs.inner.Numbers.{Numbers, driving_gater, gate_above, gate_rank, made_of, ordered_numbers, roots_by}
+use Rattle.cg_builder.specs.inner.Numbers.{wired_numbers}
 use Rattle.cg_parts.specs.Faults.{IsFaultless}
 use Rattle.cg_parts.specs.Part.{Part, wired}
 use Rattle.cg_parts.specs.Said.{Said, said}

@@ -30,7 +30,8 @@ IsAnswer None (Some limit) result = (result ≡ Err (Passes limit)) ⊎ (result 
 -- how finishing answers a builder that was told this: with the netlist that parts say which have said it, with their first fault,
 -- or for want of memory
 abbrev pub Finishes : Building → Result Circuit NetFault → Type 0
-Finishes b result = (parts : List Part) → said parts ≡ b.said → MatchResult result (λ c. Says b.model parts c) (λ fault. (fault ≡ NoMemory) ⊎ IsFault parts fault)
+Finishes b result = (parts : List Part) → said parts ≡ b.said →
+    MatchResult result (λ c. Says b.model parts c) (λ fault. (fault ≡ NoMemory) ⊎ IsFault parts fault)
 
 -- a call that says a part: a builder that takes it was told one part more, and one that refuses it refuses every later one alike
 pub record Takes (old : Building) (part : Part) (new : Building) (result : Result (Unit {0}) AddFault) : Type 0 where

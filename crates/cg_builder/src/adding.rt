@@ -5,7 +5,8 @@ ghost use Rattle.std.specs.Option.{option_copied};
 ghost use Rattle.cg_cell.specs.Cell.{IsCell};
 ghost use Rattle.cg_builder.specs.Calls.{cell_of, gater_of, kind_of, register_of, shows_inverse};
 ghost use Rattle.cg_netlist.specs.declared.parts.LogicFunction.TheVariants.{Cell as PlacedCell};
-ghost use Rattle.cg_builder.specs.inner.Mentioned.{IsMentioned, IsMentionFault, IsRegisterFault, PutsCell, PutsGater, PutsNet, PutsRegister};
+ghost use Rattle.cg_builder.specs.inner.Mentioned.{IsMentioned, IsMentionFault, IsRegisterFault, PutsCell, PutsGater, PutsNet};
+ghost use Rattle.cg_builder.specs.inner.Mentioned.{PutsRegister};
 ghost use Rattle.cg_parts.specs.Part.{Gate, Logic as LogicPart, Register as RegisterPart, mentioned};
 ghost use Rattle.cg_netlist.specs.Names.{with_names};
 

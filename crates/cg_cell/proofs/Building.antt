@@ -1,5 +1,6 @@
 -- Runs one after another: what holds of each part holds of the chain.
-use Rattle.std.proofs.Common.{◌≡◌, ℕ, Bool, List, [], ◌∷◌, ◌++◌, inl, inr, refl, sym, ◌∙◌, ap, subst, append-nil, append_assoc, IsTrue, not, ◌&&◌}
+use Rattle.std.proofs.Common.{◌≡◌, ℕ, Bool, List, [], ◌∷◌, ◌++◌, inl, inr, refl, sym, ◌∙◌, ap, subst, append-nil, append_assoc}
+use Rattle.std.proofs.Common.{IsTrue, not, ◌&&◌}
 use Rattle.cg_cell.specs.Domain.{GrowsAtEnd, IsDomain, Keeps, Made, Makes, Ops, Seen, Stands, after}
 use Rattle.cg_cell.specs.Build.{Builds, Evaluates, RefusesAt, Run, Somewhere, Stops, build_and, build_not, chain, made, plain}
 

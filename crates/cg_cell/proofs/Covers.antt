@@ -1,5 +1,6 @@
 -- Rows and covers, place by place and row by row.
-use Rattle.std.proofs.Common.{◌≡◌, ℕ, Bool, true, false, ◌+◌, ◌<◌, List, [], ◌∷◌, length, get_or, drop, Option, ◌&&◌, refl, add-one, drop-cons, subst, sym}
+use Rattle.std.proofs.Common.{◌≡◌, ℕ, Bool, true, false, ◌+◌, ◌<◌, List, [], ◌∷◌, length, get_or, drop, Option, ◌&&◌, refl, add-one}
+use Rattle.std.proofs.Common.{drop-cons, subst, sym}
 use Rattle.std.specs.List.{AllByRecursion, list_any}
 use Rattle.cg_cell.specs.Cover.{HaveOneLength, agrees, row_matches}
 

@@ -1,5 +1,6 @@
 -- Cells of different names, one behind the other.
-use Rattle.std.proofs.Common.{◌≡◌, ◌+◌, ℕ, suc, nat_lt, Bool, true, false, cond, not, ◌||◌, List, [], ◌∷◌, ◌++◌, length, find, IsTrue, None, Some, is_some, refl, subst, sym, ap, append_assoc, ◌∙◌, arith}
+use Rattle.std.proofs.Common.{◌≡◌, ◌+◌, ℕ, suc, nat_lt, Bool, true, false, cond, not, ◌||◌, List, [], ◌∷◌, ◌++◌, length, find}
+use Rattle.std.proofs.Common.{IsTrue, None, Some, is_some, refl, subst, sym, ap, append_assoc, ◌∙◌, arith}
 use Rattle.std.specs.List.{AllByRecursion, list_any, position_or_len}
 use Rattle.std.proofs.lemmas.List.{map-append}
 use Rattle.std.specs.Str.{bytes_eq}

@@ -1,5 +1,6 @@
 -- What evaluations of covers make: the places of a row from the left, and the rows from the left.
-use Rattle.std.proofs.Common.{◌≡◌, ◌<◌, ◌≤◌, ℕ, zero, suc, ◌+◌, Bool, List, [], ◌∷◌, ◌++◌, true, false, refl, sym, ◌∙◌, ap, subst, arith, IsTrue, not, ◌&&◌, ◌||◌, length, map, append-nil, append_assoc, drop-cons}
+use Rattle.std.proofs.Common.{◌≡◌, ◌<◌, ◌≤◌, ℕ, zero, suc, ◌+◌, Bool, List, [], ◌∷◌, ◌++◌, true, false, refl, sym, ◌∙◌, ap, subst}
+use Rattle.std.proofs.Common.{arith, IsTrue, not, ◌&&◌, ◌||◌, length, map, append-nil, append_assoc, drop-cons}
 use Rattle.std.specs.Prelude.{Option, Some, None, if◌then◌else◌, slice_index_or, take, drop, get_or}
 use Rattle.std.specs.List.{AllByRecursion, list_any}
 use Rattle.std.proofs.lemmas.List.{length-map, length-take-le, map-append, take_more}
@@ -8,7 +9,8 @@ use Rattle.cg_cell.specs.Build.{Builds, Evaluates, Run, Stops, build_and, build_
 use Rattle.cg_cell.specs.Cover.{CoverData, CoverFits, cover_value, row_matches}
 use Rattle.cg_cell.specs.Term.{Term, Bit, Input, Inverse, Both, Either, join_left, term_value}
 use Rattle.cg_cell.specs.Eval.{bits_at, build_operator, build_term, operator_term}
-use Rattle.cg_cell.specs.EvalCover.{build_on, build_place, cover_term, given_term, given_terms, on_bit, place_bit, place_terms, row_term, rows_term}
+use Rattle.cg_cell.specs.EvalCover.{build_on, build_place, cover_term, given_term, given_terms, on_bit, place_bit, place_terms}
+use Rattle.cg_cell.specs.EvalCover.{row_term, rows_term}
 use Rattle.cg_cell.specs.declared.eval.Operator.{Operator}
 use Rattle.cg_cell.specs.declared.eval.Operator.TheVariants.{And, Or}
 use Rattle.cg_cell.proofs.Building.{evaluates_as, evaluates_then, keeps_then, not_made, stops_first, stops_then}

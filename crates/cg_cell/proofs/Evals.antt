@@ -1,5 +1,6 @@
 -- What evaluations make: inverses one after another, and operands joined from the left.
-use Rattle.std.proofs.Common.{◌≡◌, ◌<◌, ℕ, zero, suc, ◌+◌, Bool, List, [], ◌∷◌, ◌++◌, false, refl, sym, ◌∙◌, ap, subst, arith, IsTrue, not, length, map, length-append}
+use Rattle.std.proofs.Common.{◌≡◌, ◌<◌, ℕ, zero, suc, ◌+◌, Bool, List, [], ◌∷◌, ◌++◌, false, refl, sym, ◌∙◌, ap, subst, arith}
+use Rattle.std.proofs.Common.{IsTrue, not, length, map, length-append}
 use Rattle.std.specs.Prelude.{Option, Some, None, option_map, slice_index_or, take, drop, get_or}
 use Rattle.std.proofs.lemmas.List.{map-append, take_more}
 use Rattle.cg_cell.specs.Domain.{AreValid, IsDomain, Keeps, Makes, Ops, Seen}
@@ -8,10 +9,12 @@ use Rattle.cg_cell.specs.Gates.{inverted}
 use Rattle.cg_cell.specs.Expr.{term_of, terms_of}
 use Rattle.cg_cell.specs.declared.expr.Expr.{Expr}
 use Rattle.cg_cell.specs.Term.{Term, Bit, Input, inverse_times, join_all, join_left, term_value}
-use Rattle.cg_cell.specs.Eval.{bits_at, build_inverses, build_joined, build_operator, build_term, joined_bit, operator_bit, operator_none, operator_term, so_far}
+use Rattle.cg_cell.specs.Eval.{bits_at, build_inverses, build_joined, build_operator, build_term, joined_bit, operator_bit}
+use Rattle.cg_cell.specs.Eval.{operator_none, operator_term, so_far}
 use Rattle.cg_cell.specs.declared.eval.Operator.{Operator}
 use Rattle.cg_cell.specs.declared.eval.Operator.TheVariants.{And, Or, Xor}
-use Rattle.cg_cell.proofs.Building.{builds_then, constant_made, evaluates_as, evaluates_then, keeps_self, keeps_then, not_made, plain_evaluates, stops_first, stops_then}
+use Rattle.cg_cell.proofs.Building.{builds_then, constant_made, evaluates_as, evaluates_then, keeps_self, keeps_then, not_made}
+use Rattle.cg_cell.proofs.Building.{plain_evaluates, stops_first, stops_then}
 
 -- one more sign
 pub inverses_more : (o : Ops) (laws : IsDomain o) (s t u : Seen) (a b r n : ℕ) →

@@ -1,5 +1,6 @@
 -- Operands of a node, one after another.
-use Rattle.std.proofs.Common.{◌≡◌, ℕ, zero, suc, Bool, true, false, not, ◌+◌, ◌%◌, ◌<◌, List, ◌∷◌, length, get_or, drop, map, IsTrue, ◌&&◌, ◌||◌, refl, ap, sym, ◌∙◌, add-one, drop-cons, arith}
+use Rattle.std.proofs.Common.{◌≡◌, ℕ, zero, suc, Bool, true, false, not, ◌+◌, ◌%◌, ◌<◌, List, ◌∷◌, length, get_or, drop, map}
+use Rattle.std.proofs.Common.{IsTrue, ◌&&◌, ◌||◌, refl, ap, sym, ◌∙◌, add-one, drop-cons, arith}
 use Rattle.cg_cell.specs.Gates.{all_of, any_of, exclusive_or, inverted, odd_of}
 use Rattle.cg_cell.specs.Expr.{all_over, is_over}
 use Rattle.cg_cell.specs.declared.expr.Expr.{Expr}

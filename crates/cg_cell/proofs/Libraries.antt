@@ -1,5 +1,6 @@
 -- Cells under their names, in the order of a library.
-use Rattle.std.proofs.Common.{◌≡◌, ℕ, suc, subst, ◌+◌, Bool, true, false, not, cond, List, [], ◌∷◌, ◌++◌, length, map, position, Option, None, Some, refl, ap, sym, ◌∙◌, nat_lt, is_some, ◌<◌, ◌≤◌, IfSome, eqb, length-append, arith}
+use Rattle.std.proofs.Common.{◌≡◌, ℕ, suc, subst, ◌+◌, Bool, true, false, not, cond, List, [], ◌∷◌, ◌++◌, length, map, position}
+use Rattle.std.proofs.Common.{Option, None, Some, refl, ap, sym, ◌∙◌, nat_lt, is_some, ◌<◌, ◌≤◌, IfSome, eqb, length-append, arith}
 use Rattle.std.specs.List.{AllByRecursion, position_or_len}
 use Rattle.std.specs.Str.{bytes_eq}
 use Rattle.std.specs.Map.{lookup}

@@ -1,6 +1,7 @@
 -- What a building comes to, at one assignment: for lawful operations and valid inputs, its run ends in a value that stands for
 -- the bit that it is to compute. No call is made: the run is the definition's.
-use Rattle.std.proofs.Common.{◌≡◌, ℕ, zero, suc, Bool, false, not, ◌&&◌, ◌||◌, if◌then◌else◌, List, [], ◌∷◌, IsTrue, slice_index_or, refl, ◌∙◌, ap}
+use Rattle.std.proofs.Common.{◌≡◌, ℕ, zero, suc, Bool, false, not, ◌&&◌, ◌||◌, if◌then◌else◌, List, [], ◌∷◌, IsTrue, slice_index_or}
+use Rattle.std.proofs.Common.{refl, ◌∙◌, ap}
 use Rattle.cg_cell.specs.Domain.{AreValid, IsDomain, Keeps, Ops, Seen}
 use Rattle.cg_cell.specs.Build.{Run, build_and, build_mux, build_not, build_or, build_xor, chain, plain}
 use Rattle.cg_cell.specs.Eval.{bits_at, build_term}

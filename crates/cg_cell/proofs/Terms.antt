@@ -1,7 +1,8 @@
 -- An expression and its term say the same.
 use Rattle.std.proofs.Common.{◌≡◌, ℕ, zero, suc, Bool, true, false, not, ◌&&◌, ◌||◌, List, [], ◌∷◌, map, refl, ap, sym, ◌∙◌, subst}
 use Rattle.cg_cell.specs.Gates.{all_of, any_of, exclusive_or, inverted, odd_of}
-use Rattle.cg_cell.specs.Term.{Term, Bit, Both, Either, Differ, has_input, inverse_times, is_within, join_all, join_left, term_value}
+use Rattle.cg_cell.specs.Term.{Term, Bit, Both, Either, Differ, has_input, inverse_times, is_within, join_all, join_left}
+use Rattle.cg_cell.specs.Term.{term_value}
 use Rattle.cg_cell.specs.Expr.{expr_value, is_over, names_step, names_variable, over_step, term_of, term_step, value_step}
 use Rattle.cg_cell.specs.declared.expr.Expr.{Expr}
 use Rattle.cg_cell.specs.declared.expr.Expr.TheOpen.{Expr-F, Constant, Variable, Not, And, Or, Xor}

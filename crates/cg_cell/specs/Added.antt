@@ -10,7 +10,9 @@ use Rattle.cg_cell.specs.declared.library.LibraryFault.TheVariants.{TwoCells, Li
 
 -- what refuses a cell of that name: the limit, which is tried first, or a cell of the name
 abbrev pub add_fault : List CellData → List ℕ → Option LibraryFault
-add_fault cells name = if nat_le MOST_LIBRARY_CELLS (length cells) then Some (Limit LibraryCells) else (if is_some (find_cell name cells) then Some TwoCells else None)
+add_fault cells name =
+    if nat_le MOST_LIBRARY_CELLS (length cells) then Some (Limit LibraryCells)
+    else (if is_some (find_cell name cells) then Some TwoCells else None)
 
 -- an answer comes exactly where its cause stands; want of memory may come only where nothing else refuses
 abbrev pub Answers : {T : Type 0} → Result T LibraryFault → Option LibraryFault → Type 0

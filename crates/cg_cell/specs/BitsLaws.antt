@@ -29,5 +29,10 @@ bits_lawful = record {
   sound = λ s a h. refl;
   constant_stands = λ s b h. record { keeps = same s; valid = valid_one_if b; bit = λ bits. bit_one_if b };
   not_stands = λ s a h. record { keeps = same s; valid = valid_one_if (a == 0); bit = λ bits. bit_one_if (a == 0) ∙ not_bit a h };
-  and_stands = λ s a b h k. record { keeps = same s; valid = valid_one_if ((a == 1) && (b == 1)); bit = λ bits. bit_one_if ((a == 1) && (b == 1)) };
+  and_stands =
+      λ s a b h k. record {
+        keeps = same s;
+        valid = valid_one_if ((a == 1) && (b == 1));
+        bit = λ bits. bit_one_if ((a == 1) && (b == 1));
+      };
 }

@@ -60,7 +60,8 @@ HasFunction _ variables _ = ⊥
 abbrev pub has_test : CellData → Bool
 has_test cell = list_any is_test cell.pins
 
--- what is true of every cell: it has a name, its pins have different names that a word `pin=net` can give, and pins and function are those of its kind
+-- what is true of every cell: it has a name, its pins have different names that a word `pin=net` can give, and pins and function
+-- are those of its kind
 pub record IsCell (cell : CellData) : Type 0 where
   pub named : IsTrue (is_name cell.name)
   pub pins_named : AllByRecursion (λ pin. IsTrue (is_name pin.name)) cell.pins

@@ -13,9 +13,12 @@ abbrev pub build_term : Ops → List ℕ → Term → Seen → Run
 build_term o inputs (Bit bit) s = made s (o.constant_of s bit)
 build_term o inputs (Input k) s = plain (slice_index_or inputs k 0) s
 build_term o inputs (Inverse x) s = chain (build_term o inputs x s) (λ a t. build_not o a t)
-build_term o inputs (Both x y) s = chain (build_term o inputs x s) (λ a t. chain (build_term o inputs y t) (λ b u. build_and o a b u))
-build_term o inputs (Either x y) s = chain (build_term o inputs x s) (λ a t. chain (build_term o inputs y t) (λ b u. build_or o a b u))
-build_term o inputs (Differ x y) s = chain (build_term o inputs x s) (λ a t. chain (build_term o inputs y t) (λ b u. build_xor o a b u))
+build_term o inputs (Both x y) s =
+    chain (build_term o inputs x s) (λ a t. chain (build_term o inputs y t) (λ b u. build_and o a b u))
+build_term o inputs (Either x y) s =
+    chain (build_term o inputs x s) (λ a t. chain (build_term o inputs y t) (λ b u. build_or o a b u))
+build_term o inputs (Differ x y) s =
+    chain (build_term o inputs x s) (λ a t. chain (build_term o inputs y t) (λ b u. build_xor o a b u))
 
 -- The bits that values stand for under an assignment.
 abbrev pub bits_at : Ops → Seen → List ℕ → List Bool → List Bool

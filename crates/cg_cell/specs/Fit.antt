@@ -31,7 +31,8 @@ is_inversion f = f (false ∷ []) && not (f (true ∷ []))
 
 -- 1 where both inputs are 1
 abbrev pub is_conjunction : (List Bool → Bool) → Bool
-is_conjunction f = not (f (false ∷ false ∷ [])) && not (f (false ∷ true ∷ [])) && not (f (true ∷ false ∷ [])) && f (true ∷ true ∷ [])
+is_conjunction f =
+    not (f (false ∷ false ∷ [])) && not (f (false ∷ true ∷ [])) && not (f (true ∷ false ∷ [])) && f (true ∷ true ∷ [])
 
 -- 1 where some input is 1
 abbrev pub is_disjunction : (List Bool → Bool) → Bool

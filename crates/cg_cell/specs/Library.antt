@@ -1,5 +1,6 @@
 -- Libraries: lists of cells, and the first cell of a name or of a kind.
-use Rattle.std.specs.Prelude.{◌≡◌, ℕ, ◌≤◌, List, [], ◌∷◌, length, find, map, position, Bool, if◌then◌else◌, IsTrue, Option, None, Some}
+use Rattle.std.specs.Prelude.{◌≡◌, ℕ, ◌≤◌, List, [], ◌∷◌, length, find, map, position, Bool, if◌then◌else◌, IsTrue, Option, None}
+use Rattle.std.specs.Prelude.{Some}
 use Rattle.std.specs.List.{AllByRecursion}
 use Rattle.std.specs.Str.{bytes_eq}
 use Rattle.cg_limit.specs.declared.TheConstants.{MOST_LIBRARY_CELLS}
@@ -36,7 +37,8 @@ AreNamed bytes [] = Unit {0}
 AreNamed bytes (e ∷ es) = (bytes e.0 ≡ e.1.name) × AreNamed bytes es
 
 -- what a library keeps: each cell under its name, at most so many of them, no two of one name, and the first of each kind
-pub record IsLibrary {K : Type 0} (bytes : K → List ℕ) (entries : List (K × CellData)) (cells : List CellData) (gater test_gater inv and2 or2 : Option ℕ) : Type 0 where
+pub record IsLibrary {K : Type 0} (bytes : K → List ℕ) (entries : List (K × CellData)) (cells : List CellData)
+    (gater test_gater inv and2 or2 : Option ℕ) : Type 0 where
   pub names : AreNamed bytes entries
   pub few : length cells ≤ MOST_LIBRARY_CELLS
   pub are_cells : AllByRecursion IsCell cells

@@ -1,5 +1,6 @@
 -- Expressions as plain data: each operator with its two operands, as a text with brackets all round writes it.
-use Rattle.std.specs.Prelude.{ℕ, zero, suc, Bool, true, false, not, ◌&&◌, ◌||◌, ◌==◌, nat_lt, List, [], ◌∷◌, slice_index_or, Option, Some, None}
+use Rattle.std.specs.Prelude.{ℕ, zero, suc, Bool, true, false, not, ◌&&◌, ◌||◌, ◌==◌, nat_lt, List, [], ◌∷◌, slice_index_or, Option}
+use Rattle.std.specs.Prelude.{Some, None}
 use Rattle.cg_cell.specs.Gates.{exclusive_or}
 
 -- a term over numbered inputs

@@ -33,18 +33,28 @@ abbrev pub top_of : List Term → Term
 top_of [] = Bit false
 top_of (t ∷ pile) = t
 
-regroup : (s t : Term) (word : ℕ × ℕ) (later : List (ℕ × ℕ)) → (words s ++ (words t ++ word ∷ [])) ++ later ≡ words s ++ (words t ++ word ∷ later)
-regroup s t word later = append_assoc (words s) (words t ++ word ∷ []) later ∙ ap (λ ws. words s ++ ws) (append_assoc (words t) (word ∷ []) later)
+regroup : (s t : Term) (word : ℕ × ℕ) (later : List (ℕ × ℕ)) →
+    (words s ++ (words t ++ word ∷ [])) ++ later ≡ words s ++ (words t ++ word ∷ later)
+regroup s t word later =
+    append_assoc (words s) (words t ++ word ∷ []) later ∙ ap (λ ws. words s ++ ws) (append_assoc (words t) (word ∷ []) later)
 
 -- the words of a term put that term on the pile
-pub pile_words-words : (t : Term) (later : List (ℕ × ℕ)) (pile : List Term) → pile_words (words t ++ later) pile ≡ pile_words later (t ∷ pile)
+pub pile_words-words : (t : Term) (later : List (ℕ × ℕ)) (pile : List Term) →
+    pile_words (words t ++ later) pile ≡ pile_words later (t ∷ pile)
 pile_words-words (Bit false) later pile = refl
 pile_words-words (Bit true) later pile = refl
 pile_words-words (Input k) later pile = refl
-pile_words-words (Inverse t) later pile = ap (λ ws. pile_words ws pile) (append_assoc (words t) ((2, 0) ∷ []) later) ∙ pile_words-words t ((2, 0) ∷ later) pile
-pile_words-words (Both s t) later pile = ap (λ ws. pile_words ws pile) (regroup s t (3, 0) later) ∙ pile_words-words s (words t ++ (3, 0) ∷ later) pile ∙ pile_words-words t ((3, 0) ∷ later) (s ∷ pile)
-pile_words-words (Either s t) later pile = ap (λ ws. pile_words ws pile) (regroup s t (4, 0) later) ∙ pile_words-words s (words t ++ (4, 0) ∷ later) pile ∙ pile_words-words t ((4, 0) ∷ later) (s ∷ pile)
-pile_words-words (Differ s t) later pile = ap (λ ws. pile_words ws pile) (regroup s t (5, 0) later) ∙ pile_words-words s (words t ++ (5, 0) ∷ later) pile ∙ pile_words-words t ((5, 0) ∷ later) (s ∷ pile)
+pile_words-words (Inverse t) later pile =
+    ap (λ ws. pile_words ws pile) (append_assoc (words t) ((2, 0) ∷ []) later) ∙ pile_words-words t ((2, 0) ∷ later) pile
+pile_words-words (Both s t) later pile =
+    ap (λ ws. pile_words ws pile) (regroup s t (3, 0) later) ∙ pile_words-words s (words t ++ (3, 0) ∷ later) pile
+    ∙ pile_words-words t ((3, 0) ∷ later) (s ∷ pile)
+pile_words-words (Either s t) later pile =
+    ap (λ ws. pile_words ws pile) (regroup s t (4, 0) later) ∙ pile_words-words s (words t ++ (4, 0) ∷ later) pile
+    ∙ pile_words-words t ((4, 0) ∷ later) (s ∷ pile)
+pile_words-words (Differ s t) later pile =
+    ap (λ ws. pile_words ws pile) (regroup s t (5, 0) later) ∙ pile_words-words s (words t ++ (5, 0) ∷ later) pile
+    ∙ pile_words-words t ((5, 0) ∷ later) (s ∷ pile)
 
 pub top_of-words : (t : Term) → top_of (pile_words (words t) []) ≡ t
 top_of-words t = ap (λ ws. top_of (pile_words ws [])) (sym (append-nil (words t))) ∙ ap top_of (pile_words-words t [] [])

@@ -6,7 +6,8 @@ ghost use Rattle.cg_cell.specs.Build.{Evaluates, Stops};
 ghost use Rattle.cg_cell.specs.Gates.{inverted};
 ghost use Rattle.cg_cell.specs.Expr.{all_over, is_over, term_of, terms_of};
 ghost use Rattle.cg_cell.specs.Term.{term_value};
-ghost use Rattle.cg_cell.specs.Eval.{IsValidIfAny, bits_at, build_inverses, build_joined, build_term, joined_bit, operator_none, so_far};
+ghost use Rattle.cg_cell.specs.Eval.{IsValidIfAny, bits_at, build_inverses, build_joined, build_term, joined_bit, operator_none};
+ghost use Rattle.cg_cell.specs.Eval.{so_far};
 
 use crate::build;
 use crate::domain::Domain;

@@ -1,6 +1,7 @@
 //! Libraries: cells in the order of the library's text.
 
-ghost use Rattle.std.specs.Prelude.{◌≡◌, ◌++◌, ◌∷◌, [], ◌<◌, ◌≤◌, length, position, IfOk, IfSome, OnOk, OnErr, None, Some, slice_get, Bool, Option, ℕ};
+ghost use Rattle.std.specs.Prelude.{◌≡◌, ◌++◌, ◌∷◌, [], ◌<◌, ◌≤◌, length, position, IfOk, IfSome, OnOk, OnErr, None, Some};
+ghost use Rattle.std.specs.Prelude.{slice_get, Bool, Option, ℕ};
 ghost use Rattle.std.specs.List.{AllByRecursion};
 ghost use Rattle.cg_cell.specs.Cell.{IsCell};
 ghost use Rattle.cg_cell.specs.Fit.{is_fit};

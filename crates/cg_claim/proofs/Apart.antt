@@ -1,6 +1,7 @@
 -- A target without a register of G in its cone shows none of them: its question has one answer whatever the other bits
 -- of these registers are.
-use Rattle.std.proofs.Common.{◌≡◌, ℕ, Bool, true, false, not, ◌&&◌, List, [], ◌∷◌, map, length, nat_eq, if◌then◌else◌, sym, refl, ◌∙◌, ap, inl, inr, arith}
+use Rattle.std.proofs.Common.{◌≡◌, ℕ, Bool, true, false, not, ◌&&◌, List, [], ◌∷◌, map, length, nat_eq, if◌then◌else◌, sym, refl}
+use Rattle.std.proofs.Common.{◌∙◌, ap, inl, inr, arith}
 use Rattle.std.specs.List.{list_any, range_with_len}
 use Rattle.std.proofs.lemmas.Bool.{both_ways, eqb-true, or_cases, or_left, or_right}
 use Rattle.cg_cell.specs.Gates.{exclusive_or}

@@ -1,5 +1,6 @@
 -- Logic cells and the joined enable, as they are built: their values stand for the bits of the machine's cycle.
-use Rattle.std.proofs.Common.{◌≡◌, ℕ, zero, suc, Bool, true, false, not, ◌||◌, cond, if◌then◌else◌, List, [], ◌∷◌, ◌++◌, map, length, IsTrue, nat_eq, slice_get, slice_index_or, Some, refl, sym, ◌∙◌, ap}
+use Rattle.std.proofs.Common.{◌≡◌, ℕ, zero, suc, Bool, true, false, not, ◌||◌, cond, if◌then◌else◌, List, [], ◌∷◌, ◌++◌, map}
+use Rattle.std.proofs.Common.{length, IsTrue, nat_eq, slice_get, slice_index_or, Some, refl, sym, ◌∙◌, ap}
 use Rattle.std.specs.List.{filter}
 use Rattle.std.proofs.lemmas.Bool.{both_ways, eqb-true, eq-eqb}
 use Rattle.cg_cell.specs.Domain.{AreValid, IsDomain, Keeps, Ops, Seen}

@@ -1,12 +1,14 @@
 -- Each claim holds exactly where its question is never violated.
-use Rattle.std.proofs.Common.{◌≡◌, ℕ, ◌<◌, Bool, true, false, not, ◌&&◌, ◌||◌, if◌then◌else◌, List, [], ◌∷◌, length, slice_get, Option, None, Some, refl, sym, ◌∙◌, ap, subst, arith, inl, inr}
+use Rattle.std.proofs.Common.{◌≡◌, ℕ, ◌<◌, Bool, true, false, not, ◌&&◌, ◌||◌, if◌then◌else◌, List, [], ◌∷◌, length, slice_get}
+use Rattle.std.proofs.Common.{Option, None, Some, refl, sym, ◌∙◌, ap, subst, arith, inl, inr}
 use Rattle.std.proofs.lemmas.Bool.{both_ways}
 use Rattle.std.proofs.lemmas.Option.{slice_get_past, slice_get-get_or}
 use Rattle.cg_cell.specs.Gates.{exclusive_or}
 use Rattle.cg_netlist.specs.Circuit.{RegisterCell, is_in}
 use Rattle.cg_netlist.specs.Moment.{bit}
 use Rattle.cg_netlist.proofs.Values.{same_places}
-use Rattle.cg_machine.specs.Claims.{CanIdle, EqualOutside, Follows, Hold, Joined, Literal, Next as NextTarget, Shown, Stable, Target, Unseen, any_at, followed, followed_bit, literal_bit, mixed, target_bit}
+use Rattle.cg_machine.specs.Claims.{CanIdle, EqualOutside, Follows, Hold, Joined, Literal, Next as NextTarget, Shown, Stable}
+use Rattle.cg_machine.specs.Claims.{Target, Unseen, any_at, followed, followed_bit, literal_bit, mixed, target_bit}
 use Rattle.cg_machine.specs.Machine.{IsState, MachineData, each_register, enable_of, load, next, next_of, step, values}
 use Rattle.cg_machine.proofs.Lists.{below_or}
 use Rattle.cg_machine.proofs.Bits.{bit_past, each_bit, each_get, length-each, same_bit, same_get}

@@ -1,11 +1,14 @@
 -- One and-inverter list in another: its nodes are nodes of the other, apart from one another, with their operands. So it has no
 -- more nodes, and an `and` on both keeps it so.
-use Rattle.std.proofs.Common.{◌≡◌, ◌<◌, ◌≤◌, ℕ, zero, suc, ◌+◌, ◌-◌, ◌*◌, ◌/◌, ◌%◌, Bool, true, false, ◌||◌, if◌then◌else◌, List, [], ◌∷◌, ◌++◌, get_or, length, nat_eq, nat_lt, Option, None, Some, option_map, refl, sym, ◌∙◌, ap, subst, arith, ◌⊎◌, inl, inr, length-append}
+use Rattle.std.proofs.Common.{◌≡◌, ◌<◌, ◌≤◌, ℕ, zero, suc, ◌+◌, ◌-◌, ◌*◌, ◌/◌, ◌%◌, Bool, true, false, ◌||◌, if◌then◌else◌, List}
+use Rattle.std.proofs.Common.{[], ◌∷◌, ◌++◌, get_or, length, nat_eq, nat_lt, Option, None, Some, option_map, refl, sym, ◌∙◌, ap}
+use Rattle.std.proofs.Common.{subst, arith, ◌⊎◌, inl, inr, length-append}
 use Rattle.std.specs.Prelude.{◌≢◌, ◌==◌, position}
 use Rattle.std.specs.List.{AllByRecursion, IsDistinct, list_any, position_or_len}
 use Rattle.std.proofs.Math.ListN.{get_or-append}
 use Rattle.std.proofs.Math.Seq.{get_or-append_seam}
-use Rattle.std.proofs.lemmas.Bool.{and_from, both_ways, cases_lt, eqb-false, eqb-true, eq-eqb, lt-ltb, ltb-false, ltb-true, ne_eqb, or_cases}
+use Rattle.std.proofs.lemmas.Bool.{and_from, both_ways, cases_lt, eqb-false, eqb-true, eq-eqb, lt-ltb, ltb-false, ltb-true, ne_eqb}
+use Rattle.std.proofs.lemmas.Bool.{or_cases}
 use Rattle.std.proofs.lemmas.List.Quantifiers.{position-Some}
 use Rattle.std.proofs.lemmas.Map.Steps.{length-le_from_distinct_below}
 use Rattle.std.proofs.lemmas.List.Sums.{fails_before_first, position_or_len_is}

@@ -1,6 +1,7 @@
 -- The leaves of a claim in those of a claim that reaches more: each has a place of its own there, and a claim of one copy that
 -- reaches more of it has no fewer leaves and and-nodes.
-use Rattle.std.proofs.Common.{◌≡◌, ◌<◌, ◌+◌, ◌*◌, ◌/◌, ◌%◌, ℕ, zero, suc, Bool, true, false, ◌||◌, cond, if◌then◌else◌, List, [], ◌∷◌, map, length, Option, None, Some, option_map, refl, sym, ◌∙◌, ap, subst, arith, inl, inr}
+use Rattle.std.proofs.Common.{◌≡◌, ◌<◌, ◌+◌, ◌*◌, ◌/◌, ◌%◌, ℕ, zero, suc, Bool, true, false, ◌||◌, cond, if◌then◌else◌, List, []}
+use Rattle.std.proofs.Common.{◌∷◌, map, length, Option, None, Some, option_map, refl, sym, ◌∙◌, ap, subst, arith, inl, inr}
 use Rattle.std.specs.List.{filter, list_any}
 use Rattle.std.specs.Option.{option_map_or}
 use Rattle.std.proofs.lemmas.Bool.{both_ways, cases_Bool}

@@ -1,5 +1,6 @@
 -- The bits of a machine's cycle: inputs and registers show them, and cells compute them by their terms.
-use Rattle.std.proofs.Common.{◌≡◌, ℕ, suc, ◌<◌, Bool, true, false, not, ◌||◌, if◌then◌else◌, List, [], ◌∷◌, map, length, IsTrue, nat_eq, slice_get, Option, None, Some, option_map, refl, sym, ◌∙◌, ap, subst, arith, inl, inr}
+use Rattle.std.proofs.Common.{◌≡◌, ℕ, suc, ◌<◌, Bool, true, false, not, ◌||◌, if◌then◌else◌, List, [], ◌∷◌, map, length, IsTrue}
+use Rattle.std.proofs.Common.{nat_eq, slice_get, Option, None, Some, option_map, refl, sym, ◌∙◌, ap, subst, arith, inl, inr}
 use Rattle.std.specs.List.{flat_map, list_any}
 use Rattle.std.specs.Option.{option_map_or}
 use Rattle.std.proofs.lemmas.Bool.{both_ways, eqb-true, or_cases, or_left, or_right}
@@ -8,7 +9,8 @@ use Rattle.std.proofs.lemmas.Option.{slice_get-get_or, same_Some}
 use Rattle.cg_cell.specs.Domain.{Seen}
 use Rattle.cg_cell.specs.Term.{term_value}
 use Rattle.cg_cell.proofs.EvalCovers.{cover_value_is}
-use Rattle.cg_netlist.specs.Circuit.{Circuit, LogicCell, RegisterCell, cell_nets, data_inputs, gate_nets, given_nets, is_in, register_nets, shown_nets, used_nets}
+use Rattle.cg_netlist.specs.Circuit.{Circuit, LogicCell, RegisterCell, cell_nets, data_inputs, gate_nets, given_nets, is_in}
+use Rattle.cg_netlist.specs.Circuit.{register_nets, shown_nets, used_nets}
 use Rattle.cg_netlist.specs.Moment.{Settles, bit, function_value, register_bits, shown_bits, values_at}
 use Rattle.cg_netlist.specs.WellFormed.{IsOver, RegisterFits}
 use Rattle.cg_netlist.specs.declared.parts.LogicFunction.{LogicFunction}

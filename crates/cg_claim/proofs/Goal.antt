@@ -1,5 +1,6 @@
 -- The goal of a question is 1 exactly at the leaf bits that violate the claim.
-use Rattle.std.proofs.Common.{◌≡◌, ℕ, ◌+◌, ◌<◌, Bool, true, false, not, ◌&&◌, ◌||◌, if◌then◌else◌, List, ◌++◌, length, IsTrue, slice_get, Option, None, Some, refl, sym, ◌∙◌, subst, arith, inl, inr}
+use Rattle.std.proofs.Common.{◌≡◌, ℕ, ◌+◌, ◌<◌, Bool, true, false, not, ◌&&◌, ◌||◌, if◌then◌else◌, List, ◌++◌, length, IsTrue}
+use Rattle.std.proofs.Common.{slice_get, Option, None, Some, refl, sym, ◌∙◌, subst, arith, inl, inr}
 use Rattle.std.specs.List.{filter, flat_map}
 use Rattle.std.proofs.lemmas.Bool.{both_ways, cases_Bool, lt-ltb, or_left, or_right}
 use Rattle.cg_cell.specs.Domain.{Keeps, Ops, Seen}
@@ -13,20 +14,26 @@ use Rattle.cg_machine.specs.Claims.{any_at, followed, followed_bit, mixed}
 use Rattle.cg_machine.specs.Machine.{IsInputs, IsMachine, IsState, MachineData, values, walk_of}
 use Rattle.cg_netlist.specs.Nets.{beside, outputs}
 use Rattle.cg_machine.proofs.Bits.{each_bit, length-each}
-use Rattle.cg_claim.specs.Build.{Copies, Table, Values, after_state_table, after_table, before_table, changed_state, changed_table, copies, enable_run, goal_of, goal_run, lay, leaf_value, nets_in, reached_cells, side_run, start_nets, states_in}
+use Rattle.cg_claim.specs.Build.{Copies, Table, Values, after_state_table, after_table, before_table, changed_state, changed_table}
+use Rattle.cg_claim.specs.Build.{copies, enable_run, goal_of, goal_run, lay, leaf_value, nets_in, reached_cells, side_run}
+use Rattle.cg_claim.specs.Build.{start_nets, states_in}
 use Rattle.cg_claim.specs.LeafBits.{source_bit}
 use Rattle.cg_claim.specs.Leaves.{Leaf, is_reached, is_source}
 use Rattle.cg_claim.specs.Question.{Copy, Before, After, Changed, CopyPart, Next, Side, Question}
-use Rattle.cg_claim.specs.Reach.{after_nets, after_states, before_nets, before_states, changed_nets, changed_states, enable_nets, feeds, nets_reached, origin_asks, origin_nets, part_asks, part_nets, registers_of, sides_ask, sides_nets, states_reached}
+use Rattle.cg_claim.specs.Reach.{after_nets, after_states, before_nets, before_states, changed_nets, changed_states, enable_nets}
+use Rattle.cg_claim.specs.Reach.{feeds, nets_reached, origin_asks, origin_nets, part_asks, part_nets, registers_of, sides_ask}
+use Rattle.cg_claim.specs.Reach.{sides_nets, states_reached}
 use Rattle.cg_cone.specs.Cone.{cone_of}
-use Rattle.cg_claim.specs.Violates.{Free, inputs_of, nets_at, side_bit, sides_differ, state_of, violates, IsFree, CopyPartFits, SidesFit}
+use Rattle.cg_claim.specs.Violates.{Free, inputs_of, nets_at, side_bit, sides_differ, state_of, violates, IsFree, CopyPartFits}
+use Rattle.cg_claim.specs.Violates.{SidesFit}
 use Rattle.cg_claim.specs.declared.leaf.LeafSource.{LeafSource}
 use Rattle.cg_claim.specs.declared.leaf.LeafSource.TheVariants.{Input as InputOf, Register as RegisterOf}
 use Rattle.cg_cone.proofs.Cones.{cone_closed}
 use Rattle.cg_claim.proofs.GivenNets.{are_terms, bits_given, given_same, given_valid, registers_are, shown_feeds}
 use Rattle.cg_claim.proofs.CellsLaid.{Holds, IsFit, Laid, enable_gives, holds_later, lay_holds, sound_of}
 use Rattle.cg_cell.proofs.Runs.{Gives, Has, gives_and, gives_as, gives_plain, gives_then, gives_xor, has_later}
-use Rattle.cg_claim.proofs.Reached.{after_within, before_within, both_true, changed_within, enables_in, feeds_within, in_filter, not_of, origins_in, range_in, side_asks_in, side_nets_in, to_filter}
+use Rattle.cg_claim.proofs.Reached.{after_within, before_within, both_true, changed_within, enables_in, feeds_within, in_filter}
+use Rattle.cg_claim.proofs.Reached.{not_of, origins_in, range_in, side_asks_in, side_nets_in, to_filter}
 use Rattle.cg_claim.proofs.NextBits.{lay_states_hold, part_gives, state_gives}
 
 -- all copies hold the bits of their cycles

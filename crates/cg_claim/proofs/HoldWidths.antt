@@ -1,5 +1,6 @@
 -- The Hold claims of one register have the same leaves, whatever the literal of its cone.
-use Rattle.std.proofs.Common.{◌≡◌, ℕ, Bool, true, false, ◌||◌, ◌&&◌, cond, List, [], ◌∷◌, ◌++◌, map, length, slice_get, nat_eq, Option, None, Some, refl, sym, ◌∙◌, ap, subst, inl, inr}
+use Rattle.std.proofs.Common.{◌≡◌, ℕ, Bool, true, false, ◌||◌, ◌&&◌, cond, List, [], ◌∷◌, ◌++◌, map, length, slice_get, nat_eq}
+use Rattle.std.proofs.Common.{Option, None, Some, refl, sym, ◌∙◌, ap, subst, inl, inr}
 use Rattle.std.specs.List.{filter, flat_map, list_any}
 use Rattle.std.specs.Option.{option_map_or, option_to_list}
 use Rattle.std.proofs.lemmas.Bool.{eqb-true, or_cases, or_right}
@@ -12,7 +13,8 @@ use Rattle.cg_claim.specs.declared.leaf.LeafSource.TheVariants.{Input as InputOf
 use Rattle.cg_cone.specs.Cone.{IsInCone, cone_of}
 use Rattle.cg_claim.specs.Leaves.{is_reached, leaves_at, leaves_of, sources, width_of}
 use Rattle.cg_claim.specs.Question.{Before, After, Changed, Question, held_question, hold_question}
-use Rattle.cg_claim.specs.Reach.{after_states, before_nets, inputs_of_register, next_nets, origin_asks, origin_nets, registers_of, sides_ask}
+use Rattle.cg_claim.specs.Reach.{after_states, before_nets, inputs_of_register, next_nets, origin_asks, origin_nets, registers_of}
+use Rattle.cg_claim.specs.Reach.{sides_ask}
 use Rattle.cg_cone.proofs.Cones.{cone_has, cone_is, from_way}
 
 same_test : {T : Type 0} (f g : T → Bool) (xs : List T) → ((x : T) → f x ≡ g x) → filter f xs ≡ filter g xs

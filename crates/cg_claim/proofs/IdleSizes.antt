@@ -1,5 +1,6 @@
 -- The claim that a literal can be 0 is no larger than one that a register holds its bit where that literal is 0.
-use Rattle.std.proofs.Common.{◌≡◌, ◌≤◌, ℕ, Bool, true, false, ◌||◌, ◌&&◌, if◌then◌else◌, List, [], ◌∷◌, ◌++◌, length, nat_eq, slice_get, Option, None, Some, refl, ◌∙◌, ap, subst, arith, inl, inr}
+use Rattle.std.proofs.Common.{◌≡◌, ◌≤◌, ℕ, Bool, true, false, ◌||◌, ◌&&◌, if◌then◌else◌, List, [], ◌∷◌, ◌++◌, length, nat_eq}
+use Rattle.std.proofs.Common.{slice_get, Option, None, Some, refl, ◌∙◌, ap, subst, arith, inl, inr}
 use Rattle.std.specs.List.{filter, flat_map, list_any}
 use Rattle.std.specs.Option.{option_map_or}
 use Rattle.std.proofs.lemmas.Bool.{both_ways, lt-ltb, or_cases, or_left, or_right}
@@ -10,11 +11,13 @@ use Rattle.cg_cone.specs.Cone.{IsInCone}
 use Rattle.cg_cone.proofs.Cones.{cone_closed, cone_has, cone_is, from_way}
 use Rattle.cg_machine.specs.Claims.{Literal}
 use Rattle.cg_machine.specs.Machine.{IsMachine, MachineData, walk_of}
-use Rattle.cg_claim.specs.Build.{aig_values, before_table, copies, from_state, given, goal_run, leaf_list, leaf_value, nodes_of, shown_by, size, start_nets}
+use Rattle.cg_claim.specs.Build.{aig_values, before_table, copies, from_state, given, goal_run, leaf_list, leaf_value, nodes_of}
+use Rattle.cg_claim.specs.Build.{shown_by, size, start_nets}
 use Rattle.cg_claim.specs.Laws.{IdleIsNoLarger}
 use Rattle.cg_claim.specs.Leaves.{Leaf, is_reached, is_source, leaves_at, same_leaf, sources}
 use Rattle.cg_claim.specs.Question.{Before, Question, hold_question, idle_question}
-use Rattle.cg_claim.specs.Reach.{after_states, before_nets, before_states, enable_nets, feeds, origin_asks, origin_nets, registers_of, sides_ask, sides_nets}
+use Rattle.cg_claim.specs.Reach.{after_states, before_nets, before_states, enable_nets, feeds, origin_asks, origin_nets}
+use Rattle.cg_claim.specs.Reach.{registers_of, sides_ask, sides_nets}
 use Rattle.cg_claim.specs.declared.leaf.LeafSource.{LeafSource}
 use Rattle.cg_claim.specs.declared.leaf.LeafSource.TheVariants.{Input as InputOf, Register as RegisterOf}
 use Rattle.cg_claim.proofs.Embedded.{Embeds, IsSent, embedded_fits, inverse_sent, sent_zero}

@@ -1,5 +1,6 @@
 -- A question of the first cycle alone has no other copies.
-use Rattle.std.proofs.Common.{◌≡◌, ℕ, Bool, true, false, ◌||◌, not, ◌&&◌, cond, if◌then◌else◌, List, [], ◌∷◌, ◌++◌, map, slice_get, Option, Some, None, refl, ◌∙◌, ap}
+use Rattle.std.proofs.Common.{◌≡◌, ℕ, Bool, true, false, ◌||◌, not, ◌&&◌, cond, if◌then◌else◌, List, [], ◌∷◌, ◌++◌, map, slice_get}
+use Rattle.std.proofs.Common.{Option, Some, None, refl, ◌∙◌, ap}
 use Rattle.std.specs.List.{filter, list_any}
 use Rattle.std.specs.Option.{option_map_or}
 use Rattle.std.proofs.lemmas.List.{append-nil}
@@ -7,7 +8,8 @@ use Rattle.cg_cell.specs.Domain.{Seen}
 use Rattle.cg_netlist.specs.Circuit.{LogicCell, RegisterCell, is_in, shown_nets}
 use Rattle.cg_machine.specs.Claims.{Literal}
 use Rattle.cg_machine.specs.Machine.{MachineData, walk_of}
-use Rattle.cg_claim.specs.Build.{Values, after_state_table, after_table, before_table, changed_state, changed_table, copies, lay, lay_states, leaf_value, reached_cells, start_nets}
+use Rattle.cg_claim.specs.Build.{Values, after_state_table, after_table, before_table, changed_state, changed_table, copies, lay}
+use Rattle.cg_claim.specs.Build.{lay_states, leaf_value, reached_cells, start_nets}
 use Rattle.cg_claim.specs.Leaves.{Leaf, is_reached, leaves_at, leaves_of, sources}
 use Rattle.cg_claim.specs.Question.{Before, After, Changed, Question, hold_question, idle_question}
 use Rattle.cg_claim.specs.Reach.{after_nets, after_states, changed_nets, changed_states, feeds, registers_of}

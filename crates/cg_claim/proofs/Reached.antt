@@ -1,6 +1,7 @@
 -- What a question reaches: registers that are there, all that its sides ask for, its joined enable, and what the states
 -- after the first cycle come from.
-use Rattle.std.proofs.Common.{◌≡◌, ℕ, zero, suc, ◌+◌, ◌<◌, Bool, true, false, not, ◌&&◌, ◌||◌, cond, if◌then◌else◌, List, [], ◌∷◌, ◌++◌, length, nat_eq, slice_get, Option, None, Some, refl, sym, ◌∙◌, ap, subst, arith, ◌⊎◌, inl, inr}
+use Rattle.std.proofs.Common.{◌≡◌, ℕ, zero, suc, ◌+◌, ◌<◌, Bool, true, false, not, ◌&&◌, ◌||◌, cond, if◌then◌else◌, List, [], ◌∷◌}
+use Rattle.std.proofs.Common.{◌++◌, length, nat_eq, slice_get, Option, None, Some, refl, sym, ◌∙◌, ap, subst, arith, ◌⊎◌, inl, inr}
 use Rattle.std.specs.List.{filter, flat_map, list_any, range_with_len}
 use Rattle.std.specs.Option.{option_map_or}
 use Rattle.std.proofs.lemmas.Bool.{both_ways, eqb-true, eq-eqb, or_cases, or_left, or_right}
@@ -9,7 +10,9 @@ use Rattle.cg_netlist.specs.Circuit.{RegisterCell, is_in, shown_nets}
 use Rattle.cg_netlist.proofs.Members.{is_in_left, is_in_right}
 use Rattle.cg_machine.specs.Machine.{MachineData, walk_of}
 use Rattle.cg_claim.specs.Question.{Copy, Before, After, Changed, CopyPart, Net, Next, State, Enable, Side, Question}
-use Rattle.cg_claim.specs.Reach.{after_nets, after_states, before_nets, before_states, changed_nets, changed_states, enable_nets, feeds, nets_reached, next_asks_own, origin_asks, origin_nets, part_asks, part_nets, registers_of, same_copy, side_asks, side_nets, sides_ask, sides_nets, states_reached}
+use Rattle.cg_claim.specs.Reach.{after_nets, after_states, before_nets, before_states, changed_nets, changed_states, enable_nets}
+use Rattle.cg_claim.specs.Reach.{feeds, nets_reached, next_asks_own, origin_asks, origin_nets, part_asks, part_nets, registers_of}
+use Rattle.cg_claim.specs.Reach.{same_copy, side_asks, side_nets, sides_ask, sides_nets, states_reached}
 use Rattle.cg_claim.specs.Violates.{CopyPartFits, SidesFit}
 use Rattle.cg_cone.proofs.Cones.{cone_has}
 

@@ -1,5 +1,7 @@
 -- What is built depends on what is reached alone: tables that are alike there lead to tables that are alike there.
-use Rattle.std.proofs.Common.{◌≡◌, ℕ, zero, suc, ◌<◌, Bool, true, false, ◌||◌, cond, if◌then◌else◌, List, [], ◌∷◌, ◌++◌, map, length, nat_eq, slice_get, slice_index_or, Option, Some, None, is_some, refl, sym, ◌∙◌, ap, subst, inl, inr}
+use Rattle.std.proofs.Common.{◌≡◌, ℕ, zero, suc, ◌<◌, Bool, true, false, ◌||◌, cond, if◌then◌else◌, List, [], ◌∷◌, ◌++◌, map}
+use Rattle.std.proofs.Common.{length, nat_eq, slice_get, slice_index_or, Option, Some, None, is_some, refl, sym, ◌∙◌, ap, subst}
+use Rattle.std.proofs.Common.{inl, inr}
 use Rattle.std.specs.List.{filter}
 use Rattle.std.specs.Option.{option_map_or, option_to_list}
 use Rattle.std.proofs.lemmas.Bool.{both_ways, cases_Bool, eq-eqb, or_left, or_right}
@@ -15,10 +17,13 @@ use Rattle.cg_netlist.proofs.Members.{is_in_left, is_in_right}
 use Rattle.cg_netlist.proofs.Values.{element_at, map_same}
 use Rattle.cg_machine.specs.Claims.{Literal}
 use Rattle.cg_machine.specs.Machine.{IsMachine, MachineData, enable_of, walk_of}
-use Rattle.cg_claim.specs.Build.{Table, Values, cell_run, enable_run, from_state, function_term, given, join_run, lay, lay_states, literal_of, mux_run, next_run, next_run_of, part_run, put_run, reached_cells, shown_by, start_nets, state_run}
+use Rattle.cg_claim.specs.Build.{Table, Values, cell_run, enable_run, from_state, function_term, given, join_run, lay, lay_states}
+use Rattle.cg_claim.specs.Build.{literal_of, mux_run, next_run, next_run_of, part_run, put_run, reached_cells, shown_by, start_nets}
+use Rattle.cg_claim.specs.Build.{state_run}
 use Rattle.cg_claim.specs.Question.{CopyPart, Net, Next, State, Enable, Question}
 use Rattle.cg_cone.specs.Cone.{cone_of}
-use Rattle.cg_claim.specs.Reach.{feeds, next_asks_own, next_nets, origin_asks, origin_nets, part_asks, part_nets, reads_own, register_term}
+use Rattle.cg_claim.specs.Reach.{feeds, next_asks_own, next_nets, origin_asks, origin_nets, part_asks, part_nets, reads_own}
+use Rattle.cg_claim.specs.Reach.{register_term}
 use Rattle.cg_claim.specs.Tables.{SameOn}
 use Rattle.cg_claim.specs.Violates.{CopyPartFits}
 use Rattle.cg_cone.proofs.Cones.{AreClosed, cone_closed}

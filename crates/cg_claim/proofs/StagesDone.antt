@@ -1,20 +1,26 @@
 -- A claim is built stage by stage: where each stage begins as the definition's does, as far as that is reached, the whole
 -- is the definition's.
-use Rattle.std.proofs.Common.{◌≡◌, ℕ, ◌+◌, Bool, true, false, not, ◌&&◌, ◌||◌, if◌then◌else◌, List, ◌++◌, length, Option, Some, None, refl, ◌∙◌, ap, subst, arith, inl, inr}
+use Rattle.std.proofs.Common.{◌≡◌, ℕ, ◌+◌, Bool, true, false, not, ◌&&◌, ◌||◌, if◌then◌else◌, List, ◌++◌, length, Option, Some}
+use Rattle.std.proofs.Common.{None, refl, ◌∙◌, ap, subst, arith, inl, inr}
 use Rattle.std.specs.List.{filter, flat_map}
 use Rattle.std.proofs.lemmas.Bool.{both_ways, or_left, or_right}
 use Rattle.cg_cell.specs.Build.{Run, build_and, build_xor, chain}
 use Rattle.cg_cell.specs.Domain.{Seen}
 use Rattle.cg_netlist.specs.Circuit.{data_inputs, is_in}
 use Rattle.cg_machine.specs.Machine.{IsMachine, MachineData}
-use Rattle.cg_claim.specs.Build.{Copies, Table, Values, after_state_table, after_table, before_table, changed_state, changed_table, copies, enable_run, goal_of, goal_run, lay, lay_states, leaf_value, nets_in, reached_cells, side_run, start_nets, states_in}
+use Rattle.cg_claim.specs.Build.{Copies, Table, Values, after_state_table, after_table, before_table, changed_state, changed_table}
+use Rattle.cg_claim.specs.Build.{copies, enable_run, goal_of, goal_run, lay, lay_states, leaf_value, nets_in, reached_cells}
+use Rattle.cg_claim.specs.Build.{side_run, start_nets, states_in}
 use Rattle.cg_claim.specs.declared.leaf.LeafSource.TheVariants.{Input as InputOf, Register as RegisterOf}
 use Rattle.cg_claim.specs.Leaves.{Leaf}
 use Rattle.cg_claim.specs.Question.{Copy, Before, After, Changed, Question, Side}
-use Rattle.cg_claim.specs.Reach.{after_nets, after_states, before_nets, before_states, changed_nets, changed_states, enable_nets, feeds, nets_reached, origin_asks, origin_nets, part_asks, part_nets, registers_of, sides_ask, sides_nets, states_reached}
+use Rattle.cg_claim.specs.Reach.{after_nets, after_states, before_nets, before_states, changed_nets, changed_states, enable_nets}
+use Rattle.cg_claim.specs.Reach.{feeds, nets_reached, origin_asks, origin_nets, part_asks, part_nets, registers_of, sides_ask}
+use Rattle.cg_claim.specs.Reach.{sides_nets, states_reached}
 use Rattle.cg_claim.specs.Tables.{SameOn}
 use Rattle.cg_claim.specs.Violates.{CopyPartFits, SidesFit}
-use Rattle.cg_claim.proofs.Reached.{after_within, both_true, enables_in, in_filter, not_of, origins_in, range_in, side_asks_in, side_nets_in, to_filter}
+use Rattle.cg_claim.proofs.Reached.{after_within, both_true, enables_in, in_filter, not_of, origins_in, range_in, side_asks_in}
+use Rattle.cg_claim.proofs.Reached.{side_nets_in, to_filter}
 use Rattle.cg_claim.proofs.ReachedOnly.{copy_laid, enable_same, lay_states_same, part_same}
 
 module _ (d : Values) (m : MachineData) (good : IsMachine m) (q : Question) (fits : SidesFit m q.sides) (leaves : List Leaf) where

@@ -1,5 +1,6 @@
 -- Each stage of a question leaves a list that is no longer than the whole one.
-use Rattle.std.proofs.Common.{ℕ, ◌≤◌, Bool, true, false, if◌then◌else◌, List, [], ◌∷◌, ◌++◌, map, length, slice_get, Option, None, Some, ap, arith, length-append}
+use Rattle.std.proofs.Common.{ℕ, ◌≤◌, Bool, true, false, if◌then◌else◌, List, [], ◌∷◌, ◌++◌, map, length, slice_get, Option, None}
+use Rattle.std.proofs.Common.{Some, ap, arith, length-append}
 use Rattle.std.specs.List.{filter}
 use Rattle.cg_cell.specs.Build.{Run, build_and, build_or, build_xor, chain}
 use Rattle.cg_cell.specs.Domain.{Seen}
@@ -10,7 +11,10 @@ use Rattle.cg_aig.proofs.RunsFit.{aig_growing}
 use Rattle.cg_netlist.specs.Circuit.{LogicCell, RegisterCell, is_in}
 use Rattle.cg_machine.specs.Claims.{Literal}
 use Rattle.cg_machine.specs.Machine.{MachineData, enable_of}
-use Rattle.cg_claim.specs.Build.{Copies, Table, after_state_table, after_table, aig_values, before_table, cell_run, changed_state, copies, enable_run, function_term, goal_of, goal_run, join_run, lay, lay_states, leaf_value, literal_of, mux_run, next_run, next_run_of, part_run, put_run, reached_cells, side_run, size, start_nets, state_run}
+use Rattle.cg_claim.specs.Build.{Copies, Table, after_state_table, after_table, aig_values, before_table, cell_run, changed_state}
+use Rattle.cg_claim.specs.Build.{copies, enable_run, function_term, goal_of, goal_run, join_run, lay, lay_states, leaf_value}
+use Rattle.cg_claim.specs.Build.{literal_of, mux_run, next_run, next_run_of, part_run, put_run, reached_cells, side_run, size}
+use Rattle.cg_claim.specs.Build.{start_nets, state_run}
 use Rattle.cg_claim.specs.declared.leaf.LeafSource.TheVariants.{Input as InputOf, Register as RegisterOf}
 use Rattle.cg_claim.specs.Leaves.{Leaf}
 use Rattle.cg_claim.specs.Question.{Before, After, CopyPart, Net, Next, State, Enable, Question, Side}

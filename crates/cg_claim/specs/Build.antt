@@ -1,7 +1,8 @@
 -- The list and the goal of a question, as one run of a domain's operations in order: the reached cells of the first
 -- copy in walk order, the reached states after the first cycle in register order, the reached cells of the other two
 -- copies in walk order, and the goal.
-use Rattle.std.specs.Prelude.{ℕ, suc, ◌+◌, ◌*◌, Bool, false, if◌then◌else◌, List, [], ◌∷◌, ◌++◌, map, length, slice_get, nat_eq, Option, Some, None}
+use Rattle.std.specs.Prelude.{ℕ, suc, ◌+◌, ◌*◌, Bool, false, if◌then◌else◌, List, [], ◌∷◌, ◌++◌, map, length, slice_get, nat_eq}
+use Rattle.std.specs.Prelude.{Option, Some, None}
 use Rattle.std.specs.List.{filter}
 use Rattle.std.specs.Option.{option_map, option_map_or}
 use Rattle.cg_cell.specs.Domain.{Ops, Seen}
@@ -58,7 +59,8 @@ from_state inverse zero state (Some p) = if p.1 then inverse (state p.0) else st
 
 -- what a net that is no output of a logic cell has: its input, or what its register shows, and zero elsewhere
 abbrev pub given : {T : Type 0} → (T → T) → T → Circuit → (ℕ → T) → (ℕ → T) → ℕ → T
-given inverse zero c input state y = if is_in (data_inputs c) y then input y else from_state inverse zero state (shown_by c.registers y)
+given inverse zero c input state y =
+    if is_in (data_inputs c) y then input y else from_state inverse zero state (shown_by c.registers y)
 
 -- the values of nets or of registers so far, and the domain
 pub record Table : Type 0 where
@@ -103,7 +105,8 @@ state_run d m q nets states free r s =
 -- states of registers after the first cycle, one after another
 abbrev pub lay_states : Values → MachineData → Question → (ℕ → ℕ) → (ℕ → ℕ) → (ℕ → ℕ) → List ℕ → Table → Table
 lay_states d m q nets states free [] t = t
-lay_states d m q nets states free (r ∷ rs) t = lay_states d m q nets states free rs (put_run t r (state_run d m q nets states free r t.domain))
+lay_states d m q nets states free (r ∷ rs) t =
+    lay_states d m q nets states free rs (put_run t r (state_run d m q nets states free r t.domain))
 
 -- the value of a literal
 abbrev pub literal_of : Values → (ℕ → ℕ) → Literal → ℕ
@@ -141,7 +144,10 @@ start_nets d m inputs states = given d.inverse 0 m.circuit inputs states
 abbrev pub before_table : Values → MachineData → Question → List Leaf → Seen → Table
 before_table d m q leaves s =
     lay d (reached_cells m (before_nets m q))
-    (record { domain = s; at = start_nets d m (λ y. leaf_value d leaves Before (Input y)) (λ r. leaf_value d leaves Before (Register r)) })
+    (record {
+      domain = s;
+      at = start_nets d m (λ y. leaf_value d leaves Before (Input y)) (λ r. leaf_value d leaves Before (Register r));
+    })
 
 -- the states after the first cycle, from the nets of the first copy
 abbrev pub after_state_table : Values → MachineData → Question → List Leaf → Table → Table
@@ -152,7 +158,8 @@ after_state_table d m q leaves t =
 -- the nets of the copy after it, from these states
 abbrev pub after_table : Values → MachineData → Question → List Leaf → Table → Table
 after_table d m q leaves t =
-    lay d (reached_cells m (after_nets m q)) (record { domain = t.domain; at = start_nets d m (λ y. leaf_value d leaves After (Input y)) t.at })
+    lay d (reached_cells m (after_nets m q))
+    (record { domain = t.domain; at = start_nets d m (λ y. leaf_value d leaves After (Input y)) t.at })
 
 -- the state of a register in the last copy: a leaf where it may have other bits
 abbrev pub changed_state : Values → Question → List Leaf → (ℕ → ℕ) → ℕ → ℕ
@@ -161,7 +168,8 @@ changed_state d q leaves states r = if is_in q.changes r then leaf_value d leave
 -- the nets of the last copy
 abbrev pub changed_table : Values → MachineData → Question → List Leaf → (ℕ → ℕ) → Seen → Table
 changed_table d m q leaves states s =
-    lay d (reached_cells m (changed_nets m q)) (record { domain = s; at = start_nets d m (λ y. leaf_value d leaves After (Input y)) (changed_state d q leaves states) })
+    lay d (reached_cells m (changed_nets m q))
+    (record { domain = s; at = start_nets d m (λ y. leaf_value d leaves After (Input y)) (changed_state d q leaves states) })
 
 -- the values of states and nets in all copies, and the domain when all are built
 pub record Copies : Type 0 where

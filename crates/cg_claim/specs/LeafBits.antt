@@ -23,7 +23,8 @@ source_bit m w Changed (Register r) = bit w.other r
 
 -- the bit of a leaf among bits of leaves, and 0 where it is none
 abbrev pub leaf_bit : List Leaf → List Bool → Copy → LeafSource → Bool
-leaf_bit leaves bits copy source = option_map_or (λ k. slice_index_or bits k false) (leaf_place leaves (record { copy = copy; source = source })) false
+leaf_bit leaves bits copy source =
+    option_map_or (λ k. slice_index_or bits k false) (leaf_place leaves (record { copy = copy; source = source })) false
 
 -- the free bits of which the leaves have these bits, and all others are 0
 abbrev pub free_of : MachineData → List Leaf → List Bool → Free

@@ -1,5 +1,6 @@
 -- The leaves of a question: what it reaches and takes as given.
-use Rattle.std.specs.Prelude.{ℕ, suc, Bool, false, not, ◌&&◌, ◌||◌, if◌then◌else◌, List, [], ◌∷◌, ◌++◌, length, map, nat_eq, nat_lt, Option, Some, None}
+use Rattle.std.specs.Prelude.{ℕ, suc, Bool, false, not, ◌&&◌, ◌||◌, if◌then◌else◌, List, [], ◌∷◌, ◌++◌, length, map, nat_eq, nat_lt}
+use Rattle.std.specs.Prelude.{Option, Some, None}
 use Rattle.std.specs.List.{filter}
 use Rattle.std.specs.Option.{option_map}
 use Rattle.cg_netlist.specs.Circuit.{data_inputs, is_in}
@@ -8,7 +9,8 @@ use Rattle.cg_claim.specs.declared.leaf.Leaf.{Leaf as ShownLeaf}
 use Rattle.cg_claim.specs.declared.leaf.LeafSource.{LeafSource}
 use Rattle.cg_claim.specs.declared.leaf.LeafSource.TheVariants.{Input, Register}
 use Rattle.cg_claim.specs.Question.{Copy, Before, After, Changed, Question}
-use Rattle.cg_claim.specs.Reach.{after_nets, after_states, before_nets, before_states, changed_nets, changed_states, registers_of, same_copy}
+use Rattle.cg_claim.specs.Reach.{after_nets, after_states, before_nets, before_states, changed_nets, changed_states, registers_of}
+use Rattle.cg_claim.specs.Reach.{same_copy}
 
 -- a leaf: a data input or a register of a copy
 pub record Leaf : Type 0 where

@@ -36,15 +36,33 @@ idle_question E = record { enables = E; follows = []; changes = []; sides = None
 
 -- whether the next bit of register r can differ from its bit where e is 0
 abbrev pub hold_question : Literal → ℕ → Question
-hold_question e r = record { enables = e ∷ []; follows = []; changes = []; sides = Some (record { copy = Before; part = Next r }, record { copy = Before; part = State r }) }
+hold_question e r =
+    record {
+      enables = e ∷ [];
+      follows = [];
+      changes = [];
+      sides = Some (record { copy = Before; part = Next r }, record { copy = Before; part = State r });
+    }
 
 -- whether it can differ at all: what each Hold question of register r reaches beside its literal
 abbrev pub held_question : ℕ → Question
-held_question r = record { enables = []; follows = []; changes = []; sides = Some (record { copy = Before; part = Next r }, record { copy = Before; part = State r }) }
+held_question r =
+    record {
+      enables = [];
+      follows = [];
+      changes = [];
+      sides = Some (record { copy = Before; part = Next r }, record { copy = Before; part = State r });
+    }
 
 -- whether it can differ a cycle after the joined enable was 0
 abbrev pub stable_question : List Literal → ℕ → Question
-stable_question E r = record { enables = E; follows = r ∷ []; changes = []; sides = Some (record { copy = After; part = Next r }, record { copy = After; part = State r }) }
+stable_question E r =
+    record {
+      enables = E;
+      follows = r ∷ [];
+      changes = [];
+      sides = Some (record { copy = After; part = Next r }, record { copy = After; part = State r });
+    }
 
 -- the part that shows a target
 abbrev pub target_part : Target → CopyPart
@@ -54,4 +72,10 @@ target_part Joined = Enable
 
 -- whether a target can differ, a cycle after the joined enable was 0, where the registers of G have other bits
 abbrev pub unseen_question : List Literal → List ℕ → List ℕ → Target → Question
-unseen_question E Q G t = record { enables = E; follows = Q; changes = G; sides = Some (record { copy = After; part = target_part t }, record { copy = Changed; part = target_part t }) }
+unseen_question E Q G t =
+    record {
+      enables = E;
+      follows = Q;
+      changes = G;
+      sides = Some (record { copy = After; part = target_part t }, record { copy = Changed; part = target_part t });
+    }

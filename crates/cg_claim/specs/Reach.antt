@@ -1,6 +1,7 @@
 -- What a question reaches in each copy, by structure alone: each input of each cell and register, each enable and each
 -- state counts, whether or not a function depends on it. A register's own bit counts where its function names it.
-use Rattle.std.specs.Prelude.{ℕ, Bool, true, false, not, ◌&&◌, ◌||◌, if◌then◌else◌, List, [], ◌∷◌, ◌++◌, length, map, slice_get, nat_eq, Option, Some, None, is_some}
+use Rattle.std.specs.Prelude.{ℕ, Bool, true, false, not, ◌&&◌, ◌||◌, if◌then◌else◌, List, [], ◌∷◌, ◌++◌, length, map, slice_get}
+use Rattle.std.specs.Prelude.{nat_eq, Option, Some, None, is_some}
 use Rattle.std.specs.List.{filter, flat_map, list_any, range_with_len}
 use Rattle.std.specs.Option.{option_map_or, option_to_list}
 use Rattle.cg_cell.specs.Term.{Term, Bit, Input, has_input}
@@ -93,7 +94,8 @@ after_nets m q = cone_of (walk_of m) (sides_nets m (enable_nets q) After q.sides
 
 -- a state of the last copy that may have no other bit is that of the copy before it
 abbrev pub after_states : MachineData → Question → ℕ → Bool
-after_states m q r = feeds m (after_nets m q) r || (sides_ask m After q.sides r || (changed_states m q r && not (is_in q.changes r)))
+after_states m q r =
+    feeds m (after_nets m q) r || (sides_ask m After q.sides r || (changed_states m q r && not (is_in q.changes r)))
 
 -- the nets of the first cycle that the state of register r after it asks for: where r holds its next bit those of that
 -- bit, and else its enable
@@ -105,7 +107,10 @@ abbrev pub origin_asks : MachineData → Question → ℕ → Bool
 origin_asks m q r = if is_in q.follows r then next_asks_own m r else is_some (enable_of m r)
 
 abbrev pub before_nets : MachineData → Question → List ℕ
-before_nets m q = cone_of (walk_of m) (enable_nets q ++ sides_nets m (enable_nets q) Before q.sides ++ flat_map (origin_nets m q) (filter (after_states m q) (registers_of m)))
+before_nets m q =
+    cone_of (walk_of m)
+    (enable_nets q ++ sides_nets m (enable_nets q) Before q.sides
+    ++ flat_map (origin_nets m q) (filter (after_states m q) (registers_of m)))
 
 abbrev pub before_states : MachineData → Question → ℕ → Bool
 before_states m q r = feeds m (before_nets m q) r || (sides_ask m Before q.sides r || (after_states m q r && origin_asks m q r))

@@ -1,7 +1,9 @@
 //! What is proved of claims.
 
-ghost use Rattle.cg_claim.specs.Laws.{ApartIsUnseen, ConeIsReached, GatesAreOperations, GoalViolates, HoldIsSaid, HoldLeavesAreSame};
-ghost use Rattle.cg_claim.specs.Laws.{IdleGoal, IdleIsNoLarger, IdleIsSaid, NeverIsTried, StableIsSaid, TargetsSuffice, UnseenIsSaid};
+ghost use Rattle.cg_claim.specs.Laws.{ApartIsUnseen, ConeIsReached, GatesAreOperations, GoalViolates, HoldIsSaid};
+ghost use Rattle.cg_claim.specs.Laws.{HoldLeavesAreSame};
+ghost use Rattle.cg_claim.specs.Laws.{IdleGoal, IdleIsNoLarger, IdleIsSaid, NeverIsTried, StableIsSaid, TargetsSuffice};
+ghost use Rattle.cg_claim.specs.Laws.{UnseenIsSaid};
 
 /// The laws of claims: at bits of its leaves a goal is 1 exactly where these bits violate the claim, so that it is
 /// never 1 exactly where the claim holds over all states and inputs. What a claim reaches is what logic cells lead

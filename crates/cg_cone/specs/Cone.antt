@@ -9,7 +9,8 @@ use Rattle.cg_cone.specs.declared.cone.Cone.{Cone}
 -- cells lead from net y to a net
 pub data Reaches (cells : List (LogicCell ℕ)) (y : ℕ) : ℕ → Type 0 where
   here : Reaches cells y y
-  through : (k : ℕ) (cell : LogicCell ℕ) (z : ℕ) → slice_get cells k ≡ Some cell → is_in cell.inputs z ≡ true → Reaches cells y z → Reaches cells y cell.output
+  through : (k : ℕ) (cell : LogicCell ℕ) (z : ℕ) → slice_get cells k ≡ Some cell → is_in cell.inputs z ≡ true → Reaches cells y z →
+      Reaches cells y cell.output
 
 -- net y is in the cone of one of the roots
 pub record IsInCone (cells : List (LogicCell ℕ)) (roots : List ℕ) (y : ℕ) : Type 0 where

@@ -1,13 +1,16 @@
 -- Literals that are followed keep their bits where the assumed one is 1.
-use Rattle.std.specs.Prelude.{◌≡◌, ◌<◌, ◌==◌, ℕ, ◌+◌, ◌-◌, ◌*◌, ◌/◌, ◌%◌, zero, suc, Bool, true, false, not, ◌&&◌, if◌then◌else◌, List, [], ◌∷◌, ◌++◌, length, nat_lt, slice_index_or, slice_get, Option, Some, None, IsTrue, refl}
+use Rattle.std.specs.Prelude.{◌≡◌, ◌<◌, ◌==◌, ℕ, ◌+◌, ◌-◌, ◌*◌, ◌/◌, ◌%◌, zero, suc, Bool, true, false, not, ◌&&◌, if◌then◌else◌}
+use Rattle.std.specs.Prelude.{List, [], ◌∷◌, ◌++◌, length, nat_lt, slice_index_or, slice_get, Option, Some, None, IsTrue, refl}
 use Rattle.std.proofs.Common.{◌∙◌, sym, ap, subst, arith, inl, inr, ◌⊎◌, length-append}
 use Rattle.std.proofs.lemmas.Bool.{ltb-false, ltb-true}
 use Rattle.std.proofs.lemmas.List.{get_or_append_left}
 use Rattle.std.proofs.Math.Seq.{get_or-append_seam}
 use Rattle.cg_cell.specs.Domain.{Seen, Stands, after}
-use Rattle.cg_aig.specs.Aig.{aig_ops, and_with, are_pairs, in_order, inverse, is_pair, is_sound, lit_bit, node_values, nodes, simple}
+use Rattle.cg_aig.specs.Aig.{aig_ops, and_with, are_pairs, in_order, inverse, is_pair, is_sound, lit_bit, node_values, nodes}
+use Rattle.cg_aig.specs.Aig.{simple}
 use Rattle.cg_aig.specs.AigLaws.{IsLit, and_stands, bit_of_one, bit_of_zero, lit_is, node_bit}
-use Rattle.cg_aig.specs.Values.{IsPair, and_left, and_right, inverse_even, inverse_odd, lit_even, lit_inverse, lit_odd, pair_is, parity}
+use Rattle.cg_aig.specs.Values.{IsPair, and_left, and_right, inverse_even, inverse_odd, lit_even, lit_inverse, lit_odd, pair_is}
+use Rattle.cg_aig.specs.Values.{parity}
 use Rattle.cg_decide.specs.Decision.{IsNeverOne}
 use Rattle.cg_decide.specs.inner.Assumed.{Agree, Excludes, IsSameThere, followed}
 

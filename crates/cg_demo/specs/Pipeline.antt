@@ -41,7 +41,8 @@ latch_lines n input output = each n (latch_line input output)
 
 -- those of the valid bit
 abbrev pub valid_lines : List ℕ
-valid_lines = line (codes ".latch valid v1 re clk 0") ++ line (codes ".latch v1 v2 re clk 0") ++ line (codes ".latch v2 v3 re clk 0")
+valid_lines =
+    line (codes ".latch valid v1 re clk 0") ++ line (codes ".latch v1 v2 re clk 0") ++ line (codes ".latch v2 v3 re clk 0")
 
 -- the netlist: from d to a, by m to b, by n to c, by k to e
 abbrev pub generated : ℕ → List ℕ

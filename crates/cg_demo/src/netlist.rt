@@ -1,7 +1,8 @@
 //! The pipeline.
 
 ghost use Rattle.std.specs.Prelude.{◌≡◌, ◌++◌, codes, decimal, IfOk, OnOk};
-ghost use Rattle.cg_demo.specs.Pipeline.{cell_lines, each, entry_line, exit_line, generated, inverter_line, latch_line, latch_lines, line, nets, valid_lines};
+ghost use Rattle.cg_demo.specs.Pipeline.{cell_lines, each, entry_line, exit_line, generated, inverter_line, latch_line};
+ghost use Rattle.cg_demo.specs.Pipeline.{latch_lines, line, nets, valid_lines};
 
 use crate::pieces::{push_net, push_nets, push_numbered};
 use std::alloc::{AllocError, Global};

@@ -1,5 +1,6 @@
 -- The order of gating cells has each behind the one that drives its clock pin.
-use Rattle.std.proofs.Common.{◌≡◌, ℕ, ◌<◌, false, List, [], ◌∷◌, length, slice_get, get_or, Some, nat_eq, sym, ◌∙◌, ap, subst, arith}
+use Rattle.std.proofs.Common.{◌≡◌, ℕ, ◌<◌, false, List, [], ◌∷◌, length, slice_get, get_or, Some, nat_eq, sym, ◌∙◌, ap, subst}
+use Rattle.std.proofs.Common.{arith}
 use Rattle.std.specs.Option.{option_map}
 use Rattle.std.proofs.lemmas.Bool.{both_ways, eq-eqb, or_left}
 use Rattle.std.proofs.lemmas.List.{length-map}

@@ -1,5 +1,7 @@
 -- Bits that are put at nets, one after another.
-use Rattle.std.proofs.Common.{◌≡◌, ◌≢◌, ℕ, zero, suc, ◌+◌, ◌<◌, ◌≤◌, ◌⊎◌, inl, inr, Bool, true, false, not, ◌||◌, if◌then◌else◌, List, [], ◌∷◌, ◌++◌, map, take, drop, length, slice_get, slice_index_or, slice_set, get_or, Some, nat_eq, refl, sym, ◌∙◌, ap, subst, arith, drop-cons}
+use Rattle.std.proofs.Common.{◌≡◌, ◌≢◌, ℕ, zero, suc, ◌+◌, ◌<◌, ◌≤◌, ◌⊎◌, inl, inr, Bool, true, false, not, ◌||◌, if◌then◌else◌}
+use Rattle.std.proofs.Common.{List, [], ◌∷◌, ◌++◌, map, take, drop, length, slice_get, slice_index_or, slice_set, get_or, Some}
+use Rattle.std.proofs.Common.{nat_eq, refl, sym, ◌∙◌, ap, subst, arith, drop-cons}
 use Rattle.std.specs.List.{IsDistinct, cons_option, flat_map}
 use Rattle.std.proofs.lemmas.Bool.{both_ways, false_from_ne_true, or_cases, or_right}
 use Rattle.std.proofs.lemmas.Grind.{flat_map-append}
@@ -7,7 +9,8 @@ use Rattle.std.proofs.lemmas.List.{take_more}
 use Rattle.std.proofs.lemmas.Option.{same_Some, slice_get-get_or, slice_get_within}
 use Rattle.cg_netlist.specs.Circuit.{RegisterCell, is_in, shown_nets}
 use Rattle.cg_netlist.specs.Moment.{register_bits, shown_bits, values_at}
-use Rattle.cg_netlist.proofs.Members.{distinct_apart, distinct_head, distinct_left, distinct_right, distinct_tail, is_in_left, is_in_right, member_at}
+use Rattle.cg_netlist.proofs.Members.{distinct_apart, distinct_head, distinct_left, distinct_right, distinct_tail, is_in_left}
+use Rattle.cg_netlist.proofs.Members.{is_in_right, member_at}
 use Rattle.cg_netlist.proofs.TableLemmas.{slice_get-set_other, slice_get-set_same}
 use Rattle.cg_netlist.proofs.Values.{same_values, values_at-append}
 use Rattle.cg_edge.specs.inner.Keeping.{SameBut}

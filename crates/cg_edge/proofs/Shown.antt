@@ -1,5 +1,6 @@
 -- A history that a simulator shows goes on by a moment that follows, and by no other.
-use Rattle.std.proofs.Common.{◌≡◌, Bool, false, List, [], ◌∷◌, ◌++◌, length, replicate, Option, None, Some, refl, sym, ◌∙◌, subst, ap}
+use Rattle.std.proofs.Common.{◌≡◌, Bool, false, List, [], ◌∷◌, ◌++◌, length, replicate, Option, None, Some, refl, sym, ◌∙◌, subst}
+use Rattle.std.proofs.Common.{ap}
 use Rattle.cg_netlist.specs.Circuit.{Circuit, data_inputs}
 use Rattle.cg_netlist.specs.History.{AreTicks, BeginsLow, IsLawful, IsWaveform, LawfulFrom, Moment, MomentFollows, Tick}
 use Rattle.cg_netlist.specs.WellFormed.{IsWellFormed}

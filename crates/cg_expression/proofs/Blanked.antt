@@ -1,13 +1,18 @@
 -- The faults of a reading do not depend on its terms.
-use Rattle.std.proofs.Common.{◌≡◌, ℕ, ◌+◌, Bool, true, false, cond, ◌&&◌, not, ◌||◌, nat_le, nat_lt, ◌==◌, slice_index, List, [], ◌∷◌, map, Option, None, Some, Result, Ok, Err, inl, inr, refl, ap, sym, ◌∙◌, subst, arith}
+use Rattle.std.proofs.Common.{◌≡◌, ℕ, ◌+◌, Bool, true, false, cond, ◌&&◌, not, ◌||◌, nat_le, nat_lt, ◌==◌, slice_index, List, []}
+use Rattle.std.proofs.Common.{◌∷◌, map, Option, None, Some, Result, Ok, Err, inl, inr, refl, ap, sym, ◌∙◌, subst, arith}
 use Rattle.std.proofs.lemmas.Bool.Decides.{nat_tests}
 use Rattle.std.specs.List.{list_any, position_from}
 use Rattle.std.specs.Str.{bytes_eq}
 use Rattle.cg_limit.specs.Answers.{OrNoMemory}
 use Rattle.cg_limit.specs.declared.TheConstants.{MOST_NESTING}
 use Rattle.cg_cell.specs.Term.{Term, Bit, Inverse}
-use Rattle.cg_expression.specs.Reading.{Pending, OrLeft, AndLeft, XorLeft, Inversion, Bracket, Ended, Mode, Expects, Has, after, and_end, at_end, begin, closed, complete, constant, finish, go_on, has_leaf, inv_end, join_and, join_or, join_xor, leaf, nesting, opened, or_end, read_on, step, variable, xor_end}
-use Rattle.cg_expression.specs.Tokens.{TokenKind, Token, Word, OrSign, AndSign, XorSign, NotSign, PrimeSign, OpenBracket, CloseBracket, Other, is_digit, is_letter}
+use Rattle.cg_expression.specs.Reading.{Pending, OrLeft, AndLeft, XorLeft, Inversion, Bracket, Ended, Mode, Expects, Has, after}
+use Rattle.cg_expression.specs.Reading.{and_end, at_end, begin, closed, complete, constant, finish, go_on, has_leaf, inv_end}
+use Rattle.cg_expression.specs.Reading.{join_and, join_or, join_xor, leaf, nesting, opened, or_end, read_on, step, variable}
+use Rattle.cg_expression.specs.Reading.{xor_end}
+use Rattle.cg_expression.specs.Tokens.{TokenKind, Token, Word, OrSign, AndSign, XorSign, NotSign, PrimeSign, OpenBracket}
+use Rattle.cg_expression.specs.Tokens.{CloseBracket, Other, is_digit, is_letter}
 use Rattle.cg_expression.specs.Reads.{settled}
 use Rattle.cg_expression.specs.inner.Blanked.{blank, blanks, blank_mode, blanked, is_known, stand_in, with_constants}
 use Rattle.cg_expression.specs.declared.fault.ExprFault.{ExprFault}

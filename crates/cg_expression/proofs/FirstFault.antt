@@ -1,5 +1,6 @@
 -- A fault that is read stands at the first token with which no expression begins; what stands before it can be completed.
-use Rattle.std.proofs.Common.{◌≡◌, ℕ, ◌+◌, Bool, true, false, cond, List, [], ◌∷◌, ◌++◌, Option, None, Some, Result, Ok, Err, inl, inr, refl, ap, sym, ◌∙◌, subst, length, append_assoc, append-nil}
+use Rattle.std.proofs.Common.{◌≡◌, ℕ, ◌+◌, Bool, true, false, cond, List, [], ◌∷◌, ◌++◌, Option, None, Some, Result, Ok, Err, inl}
+use Rattle.std.proofs.Common.{inr, refl, ap, sym, ◌∙◌, subst, length, append_assoc, append-nil}
 use Rattle.std.specs.Prelude.{IfErr, nat_lt, slice_index}
 use Rattle.std.specs.List.{position_from}
 use Rattle.std.specs.Str.{bytes_eq}
@@ -7,16 +8,21 @@ use Rattle.cg_limit.specs.Answers.{OrNoMemory}
 use Rattle.cg_limit.specs.declared.TheConstants.{MOST_NESTING}
 use Rattle.cg_cell.specs.Expr.{term_of}
 use Rattle.cg_expression.specs.Faults.{CanGoOn, FailsAt, IsFirstExprFault, NoneBegins, first_place}
-use Rattle.cg_expression.specs.Grammar.{Level, AtomLevel, PrimeLevel, NotLevel, XorLevel, AndLevel, OrLevel, ParsesAs, word, brackets, unprimed, upright, inverted, one_of, xor, factor, and, neighbours, summand, or}
-use Rattle.cg_expression.specs.Reading.{Pending, OrLeft, AndLeft, XorLeft, Inversion, Bracket, Ended, Mode, Expects, Has, after, and_end, begin, closed, complete, constant, finish, go_on, has_leaf, leaf, nesting, opened, or_end, read_on, read_text, step, variable}
-use Rattle.cg_expression.specs.Tokens.{TokenKind, Token, Word, OrSign, AndSign, XorSign, NotSign, PrimeSign, OpenBracket, CloseBracket, Other, is_digit, is_letter, tokens_from}
+use Rattle.cg_expression.specs.Grammar.{Level, AtomLevel, PrimeLevel, NotLevel, XorLevel, AndLevel, OrLevel, ParsesAs, word}
+use Rattle.cg_expression.specs.Grammar.{brackets, unprimed, upright, inverted, one_of, xor, factor, and, neighbours, summand, or}
+use Rattle.cg_expression.specs.Reading.{Pending, OrLeft, AndLeft, XorLeft, Inversion, Bracket, Ended, Mode, Expects, Has, after}
+use Rattle.cg_expression.specs.Reading.{and_end, begin, closed, complete, constant, finish, go_on, has_leaf, leaf, nesting, opened}
+use Rattle.cg_expression.specs.Reading.{or_end, read_on, read_text, step, variable}
+use Rattle.cg_expression.specs.Tokens.{TokenKind, Token, Word, OrSign, AndSign, XorSign, NotSign, PrimeSign, OpenBracket}
+use Rattle.cg_expression.specs.Tokens.{CloseBracket, Other, is_digit, is_letter, tokens_from}
 use Rattle.cg_cell.specs.Term.{Term, Bit, Inverse, Both, Either, Differ}
 use Rattle.cg_cell.specs.declared.expr.Expr.{Expr}
 use Rattle.cg_expression.specs.declared.fault.ExprFault.{ExprFault}
 use Rattle.cg_expression.specs.declared.fault.ExprFault.TheVariants.{BadExpr, UnknownPin, TooDeep, NoMemory}
 use Rattle.cg_expression.proofs.Grammar.{reads_tokens, waits}
 use Rattle.cg_expression.proofs.Readings.{fault_stays}
-use Rattle.cg_expression.proofs.Sound.{Has_read, Leads, ModeReads, Waited, after-leads, bracket_open, grown, left_and, left_next, left_or, left_xor, not_open, nothing, regroup, sign}
+use Rattle.cg_expression.proofs.Sound.{Has_read, Leads, ModeReads, Waited, after-leads, bracket_open, grown, left_and, left_next}
+use Rattle.cg_expression.proofs.Sound.{left_or, left_xor, not_open, nothing, regroup, sign}
 
 -- the fault has the place
 abbrev HasPlace : ExprFault → ℕ → Type 0

@@ -1,10 +1,16 @@
 -- What the grammar has is read, and as the term that it stands for.
-use Rattle.std.proofs.Common.{◌≡◌, ℕ, ◌+◌, ◌<◌, Bool, true, false, cond, nat_lt, List, [], ◌∷◌, ◌++◌, Result, Ok, Err, refl, length, ap, sym, ◌∙◌, append_assoc, append-nil, arith}
+use Rattle.std.proofs.Common.{◌≡◌, ℕ, ◌+◌, ◌<◌, Bool, true, false, cond, nat_lt, List, [], ◌∷◌, ◌++◌, Result, Ok, Err, refl, length}
+use Rattle.std.proofs.Common.{ap, sym, ◌∙◌, append_assoc, append-nil, arith}
 use Rattle.std.proofs.lemmas.Bool.Decides.{nat_tests}
 use Rattle.cg_limit.specs.declared.TheConstants.{MOST_NESTING}
-use Rattle.cg_expression.specs.Reading.{Pending, OrLeft, AndLeft, XorLeft, Inversion, Bracket, Ended, Mode, Expects, Has, and_end, begin, closed, has_leaf, nesting, opened, or_end, read_on, read_text, xor_end, complete, join_and, join_or}
-use Rattle.cg_expression.specs.Tokens.{TokenKind, Token, Word, OrSign, AndSign, XorSign, NotSign, PrimeSign, OpenBracket, CloseBracket, Other, tokens_from}
-use Rattle.cg_expression.specs.Grammar.{ExprText, Level, AtomLevel, PrimeLevel, NotLevel, XorLevel, AndLevel, OrLevel, ParsesAs, word, brackets, unprimed, primed, upright, inverted, one_of, xor, factor, and, neighbours, summand, or}
+use Rattle.cg_expression.specs.Reading.{Pending, OrLeft, AndLeft, XorLeft, Inversion, Bracket, Ended, Mode, Expects, Has, and_end}
+use Rattle.cg_expression.specs.Reading.{begin, closed, has_leaf, nesting, opened, or_end, read_on, read_text, xor_end, complete}
+use Rattle.cg_expression.specs.Reading.{join_and, join_or}
+use Rattle.cg_expression.specs.Tokens.{TokenKind, Token, Word, OrSign, AndSign, XorSign, NotSign, PrimeSign, OpenBracket}
+use Rattle.cg_expression.specs.Tokens.{CloseBracket, Other, tokens_from}
+use Rattle.cg_expression.specs.Grammar.{ExprText, Level, AtomLevel, PrimeLevel, NotLevel, XorLevel, AndLevel, OrLevel, ParsesAs}
+use Rattle.cg_expression.specs.Grammar.{word, brackets, unprimed, primed, upright, inverted, one_of, xor, factor, and, neighbours}
+use Rattle.cg_expression.specs.Grammar.{summand, or}
 use Rattle.cg_cell.specs.Term.{Term, Inverse, Both, Either, Differ}
 use Rattle.cg_expression.specs.declared.fault.ExprFault.{ExprFault}
 use Rattle.cg_expression.specs.declared.fault.ExprFault.TheVariants.{TooDeep}

@@ -1,5 +1,6 @@
 -- A fault ends a reading; the place of a pin.
-use Rattle.std.proofs.Common.{◌≡◌, ℕ, List, [], ◌∷◌, ◌+◌, ◌<◌, Bool, cond, length, get_or, drop, Some, Err, refl, ap, add-one, drop-cons}
+use Rattle.std.proofs.Common.{◌≡◌, ℕ, List, [], ◌∷◌, ◌+◌, ◌<◌, Bool, cond, length, get_or, drop, Some, Err, refl, ap, add-one}
+use Rattle.std.proofs.Common.{drop-cons}
 use Rattle.std.specs.List.{position_from}
 use Rattle.cg_expression.specs.Reading.{read_on}
 use Rattle.cg_expression.specs.Tokens.{Token}

@@ -1,10 +1,16 @@
 -- What is read is in the grammar, and stands for the term that it is read as.
-use Rattle.std.proofs.Common.{◌≡◌, ℕ, ◌+◌, ◌<◌, Bool, true, false, cond, nat_lt, List, [], ◌∷◌, ◌++◌, Result, Ok, Err, refl, ap, sym, ◌∙◌, subst, length, append_assoc, append-nil, arith}
+use Rattle.std.proofs.Common.{◌≡◌, ℕ, ◌+◌, ◌<◌, Bool, true, false, cond, nat_lt, List, [], ◌∷◌, ◌++◌, Result, Ok, Err, refl, ap}
+use Rattle.std.proofs.Common.{sym, ◌∙◌, subst, length, append_assoc, append-nil, arith}
 use Rattle.std.proofs.lemmas.Bool.Decides.{nat_tests}
 use Rattle.cg_limit.specs.declared.TheConstants.{MOST_NESTING}
-use Rattle.cg_expression.specs.Reading.{Pending, OrLeft, AndLeft, XorLeft, Inversion, Bracket, Ended, Mode, Expects, Has, after, and_end, begin, closed, complete, go_on, has_leaf, inv_end, join_and, join_or, join_xor, leaf, nesting, or_end, read_on, read_text, xor_end}
-use Rattle.cg_expression.specs.Tokens.{TokenKind, Token, Word, OrSign, AndSign, XorSign, NotSign, PrimeSign, OpenBracket, CloseBracket, Other, tokens_from}
-use Rattle.cg_expression.specs.Grammar.{ExprText, Level, PrimeLevel, NotLevel, XorLevel, AndLevel, OrLevel, ParsesAs, word, brackets, unprimed, primed, upright, inverted, one_of, xor, factor, and, neighbours, summand, or}
+use Rattle.cg_expression.specs.Reading.{Pending, OrLeft, AndLeft, XorLeft, Inversion, Bracket, Ended, Mode, Expects, Has, after}
+use Rattle.cg_expression.specs.Reading.{and_end, begin, closed, complete, go_on, has_leaf, inv_end, join_and, join_or, join_xor}
+use Rattle.cg_expression.specs.Reading.{leaf, nesting, or_end, read_on, read_text, xor_end}
+use Rattle.cg_expression.specs.Tokens.{TokenKind, Token, Word, OrSign, AndSign, XorSign, NotSign, PrimeSign, OpenBracket}
+use Rattle.cg_expression.specs.Tokens.{CloseBracket, Other, tokens_from}
+use Rattle.cg_expression.specs.Grammar.{ExprText, Level, PrimeLevel, NotLevel, XorLevel, AndLevel, OrLevel, ParsesAs, word}
+use Rattle.cg_expression.specs.Grammar.{brackets, unprimed, primed, upright, inverted, one_of, xor, factor, and, neighbours}
+use Rattle.cg_expression.specs.Grammar.{summand, or}
 use Rattle.cg_cell.specs.Term.{Term, Inverse}
 use Rattle.cg_expression.specs.declared.fault.ExprFault.{ExprFault}
 use Rattle.cg_expression.specs.declared.fault.ExprFault.TheVariants.{TooDeep}

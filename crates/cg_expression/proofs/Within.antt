@@ -1,12 +1,16 @@
 -- What is read over some pins names no other input.
-use Rattle.std.proofs.Common.{◌≡◌, ℕ, ◌+◌, ◌<◌, Bool, true, false, ◌&&◌, cond, nat_lt, slice_index, List, [], ◌∷◌, length, Option, None, Some, IfSome, IfOk, Result, Ok, Err, IsTrue, refl, ◌∙◌, subst, arith}
+use Rattle.std.proofs.Common.{◌≡◌, ℕ, ◌+◌, ◌<◌, Bool, true, false, ◌&&◌, cond, nat_lt, slice_index, List, [], ◌∷◌, length, Option}
+use Rattle.std.proofs.Common.{None, Some, IfSome, IfOk, Result, Ok, Err, IsTrue, refl, ◌∙◌, subst, arith}
 use Rattle.std.proofs.lemmas.Bool.Decides.{nat_tests}
 use Rattle.std.specs.List.{position_from}
 use Rattle.std.specs.Str.{bytes_eq}
 use Rattle.cg_limit.specs.Answers.{OrNoMemory}
 use Rattle.cg_limit.specs.declared.TheConstants.{MOST_NESTING}
-use Rattle.cg_expression.specs.Reading.{Pending, OrLeft, AndLeft, XorLeft, Inversion, Bracket, Ended, Mode, Expects, Has, after, and_end, begin, closed, complete, constant, finish, go_on, has_leaf, inv_end, join_and, join_or, join_xor, leaf, nesting, or_end, read_on, read_text, variable, xor_end}
-use Rattle.cg_expression.specs.Tokens.{TokenKind, Token, Word, OrSign, AndSign, XorSign, NotSign, PrimeSign, OpenBracket, CloseBracket, Other, is_digit, is_letter, tokens_from}
+use Rattle.cg_expression.specs.Reading.{Pending, OrLeft, AndLeft, XorLeft, Inversion, Bracket, Ended, Mode, Expects, Has, after}
+use Rattle.cg_expression.specs.Reading.{and_end, begin, closed, complete, constant, finish, go_on, has_leaf, inv_end, join_and}
+use Rattle.cg_expression.specs.Reading.{join_or, join_xor, leaf, nesting, or_end, read_on, read_text, variable, xor_end}
+use Rattle.cg_expression.specs.Tokens.{TokenKind, Token, Word, OrSign, AndSign, XorSign, NotSign, PrimeSign, OpenBracket}
+use Rattle.cg_expression.specs.Tokens.{CloseBracket, Other, is_digit, is_letter, tokens_from}
 use Rattle.cg_cell.specs.Term.{Term, Bit, Inverse, is_within}
 use Rattle.cg_cell.specs.Expr.{is_over, term_of}
 use Rattle.cg_cell.specs.declared.expr.Expr.{Expr}

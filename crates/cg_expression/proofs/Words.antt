@@ -1,5 +1,6 @@
 -- Words and blanks of the text of an expression.
-use Rattle.std.proofs.Common.{◌≡◌, ℕ, suc, ◌+◌, ◌-◌, ◌<◌, Bool, true, false, cond, nat_le, nat_eq, List, [], ◌∷◌, length, take, drop, slice_index, refl, ap, sym, ◌∙◌, add-one, add-zero, drop-cons, arith}
+use Rattle.std.proofs.Common.{◌≡◌, ℕ, suc, ◌+◌, ◌-◌, ◌<◌, Bool, true, false, cond, nat_le, nat_eq, List, [], ◌∷◌, length, take}
+use Rattle.std.proofs.Common.{drop, slice_index, refl, ap, sym, ◌∙◌, add-one, add-zero, drop-cons, arith}
 use Rattle.std.proofs.lemmas.Bool.Decides.{nat_tests}
 use Rattle.std.proofs.lemmas.List.{drop-drop}
 use Rattle.std.specs.List.{prefix_len, take_while}

@@ -12,7 +12,8 @@ pub record CanGoOn (pins : List (List ℕ)) (front : List Token) : Type 0 where
   pub term : Term
   pub stands : ParsesAs pins OrLevel 0 (front ++ more) term
 
--- with the first of the later tokens they cannot: no expression begins so, whatever follows; where none is left, they are no expression
+-- with the first of the later tokens they cannot: no expression begins so, whatever follows; where none is left, they are no
+-- expression
 abbrev pub NoneBegins : List (List ℕ) → List Token → List Token → Type 0
 NoneBegins pins front [] = (t : Term) → ParsesAs pins OrLevel 0 front t → ⊥
 NoneBegins pins front (token ∷ later) = (more : List Token) (t : Term) → ParsesAs pins OrLevel 0 (front ++ token ∷ more) t → ⊥

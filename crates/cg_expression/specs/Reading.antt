@@ -1,10 +1,12 @@
 -- How the text of an expression is read, token by token: what is complete, what waits for more, and the first
 -- token at which no reading can go on.
-use Rattle.std.specs.Prelude.{ℕ, ◌+◌, true, false, nat_lt, if◌then◌else◌, List, [], ◌∷◌, length, slice_index, Option, None, Some, Result, Ok, Err}
+use Rattle.std.specs.Prelude.{ℕ, ◌+◌, true, false, nat_lt, if◌then◌else◌, List, [], ◌∷◌, length, slice_index, Option, None, Some}
+use Rattle.std.specs.Prelude.{Result, Ok, Err}
 use Rattle.std.specs.List.{position_from}
 use Rattle.std.specs.Str.{bytes_eq}
 use Rattle.cg_limit.specs.declared.TheConstants.{MOST_NESTING}
-use Rattle.cg_expression.specs.Tokens.{Token, Word, OrSign, AndSign, XorSign, NotSign, PrimeSign, OpenBracket, CloseBracket, Other, is_digit, is_letter, tokens_from}
+use Rattle.cg_expression.specs.Tokens.{Token, Word, OrSign, AndSign, XorSign, NotSign, PrimeSign, OpenBracket, CloseBracket, Other}
+use Rattle.cg_expression.specs.Tokens.{is_digit, is_letter, tokens_from}
 use Rattle.cg_cell.specs.Term.{Term, Bit, Input, Inverse, Both, Either, Differ}
 use Rattle.cg_expression.specs.declared.fault.ExprFault.{ExprFault}
 use Rattle.cg_expression.specs.declared.fault.ExprFault.TheVariants.{BadExpr, UnknownPin, TooDeep}
@@ -59,7 +61,8 @@ pub data Mode : Type 0 where
   Has : Term → List Pending → Mode
 
 abbrev pub constant : ℕ → List ℕ → Result Term ExprFault
-constant at word = if bytes_eq word (48 ∷ []) then Ok (Bit false) else (if bytes_eq word (49 ∷ []) then Ok (Bit true) else Err (BadExpr at))
+constant at word =
+    if bytes_eq word (48 ∷ []) then Ok (Bit false) else (if bytes_eq word (49 ∷ []) then Ok (Bit true) else Err (BadExpr at))
 
 abbrev pub variable : ℕ → Option ℕ → Result Term ExprFault
 variable at None = Err (UnknownPin at)

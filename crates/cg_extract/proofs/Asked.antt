@@ -1,5 +1,6 @@
 -- What lifting adds: an and for a gating cell that stands behind another, and nothing where none does.
-use Rattle.std.proofs.Common.{◌≡◌, ℕ, Bool, true, false, cond, List, [], ◌∷◌, slice_get, nat_eq, is_some, Option, None, Some, refl, ap, sym, ◌∙◌, subst}
+use Rattle.std.proofs.Common.{◌≡◌, ℕ, Bool, true, false, cond, List, [], ◌∷◌, slice_get, nat_eq, is_some, Option, None, Some, refl}
+use Rattle.std.proofs.Common.{ap, sym, ◌∙◌, subst}
 use Rattle.std.specs.List.{All}
 use Rattle.std.specs.Option.{option_flatten, option_map}
 use Rattle.std.proofs.lemmas.Bool.{both_ways, eqb-true, or_parts}
@@ -16,7 +17,8 @@ use Rattle.cg_extract.proofs.Depths.{Ready, ready}
 use Rattle.cg_extract.proofs.Lifts.{enable_gate, lifting_lifts}
 use Rattle.cg_extract.proofs.Renumbered.{none_found}
 use Rattle.cg_extract.specs.Laws.{AsksFor}
-use Rattle.cg_extract.specs.Lifted.{CanExtract, Lifting, by_depth, chained, enable_under, first_refused, is_refused, lift_each, lift_one, lifted, lifting, number_of, unlifted}
+use Rattle.cg_extract.specs.Lifted.{CanExtract, Lifting, by_depth, chained, enable_under, first_refused, is_refused, lift_each}
+use Rattle.cg_extract.specs.Lifted.{lift_one, lifted, lifting, number_of, unlifted}
 
 -- each gate is an and of two nets
 abbrev AreAnds : MachineData → Type 0

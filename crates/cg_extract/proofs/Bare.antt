@@ -1,5 +1,6 @@
 -- The netlist without its gating cells is well formed and in net order, and makes a machine.
-use Rattle.std.proofs.Common.{[], ◌≡◌, ◌≢◌, ℕ, ◌+◌, ◌<◌, ◌^◌, true, not, IsTrue, List, ◌++◌, map, length, slice_get, get_or, unwrap_or, Some, refl, ap, sym, ◌∙◌, subst, arith}
+use Rattle.std.proofs.Common.{[], ◌≡◌, ◌≢◌, ℕ, ◌+◌, ◌<◌, ◌^◌, true, not, IsTrue, List, ◌++◌, map, length, slice_get, get_or}
+use Rattle.std.proofs.Common.{unwrap_or, Some, refl, ap, sym, ◌∙◌, subst, arith}
 use Rattle.std.specs.List.{All, AllPairs, filter, range_with_len}
 use Rattle.std.specs.Option.{option_map, option_to_list}
 use Rattle.std.proofs.lemmas.Bool.{both_ways, false_from_ne_true}
@@ -8,7 +9,8 @@ use Rattle.std.proofs.lemmas.List.Elements.{All-map, All-nil, All-weaker, All-ge
 use Rattle.std.proofs.lemmas.Option.{get_or_from_slice_get, slice_get-get_or, slice_get-map, slice_get_within, unwrap_or-slice_get}
 use Rattle.cg_cell.specs.Name.{is_name}
 use Rattle.cg_netlist.specs.Wiring.{map_cell, map_register, net_name}
-use Rattle.cg_netlist.specs.Circuit.{Circuit, LogicCell, RegisterCell, cell_nets, clock_nets, data_inputs, gate_nets, is_in, register_nets, used_nets}
+use Rattle.cg_netlist.specs.Circuit.{Circuit, LogicCell, RegisterCell, cell_nets, clock_nets, data_inputs, gate_nets, is_in}
+use Rattle.cg_netlist.specs.Circuit.{register_nets, used_nets}
 use Rattle.cg_netlist.specs.Netlist.{IsNetlist}
 use Rattle.cg_netlist.specs.WellFormed.{AreRanks, IsInNetOrder, IsOver, IsWellFormed, RegisterFits}
 use Rattle.cg_netlist.proofs.Driven.{driven_in_order}
@@ -22,8 +24,10 @@ use Rattle.cg_netlist.proofs.Used.{input_is_used, output_is_used}
 use Rattle.cg_machine.proofs.Started.{start_is_machine}
 use Rattle.cg_machine.specs.Machine.{IsMachine}
 use Rattle.cg_machine.specs.Start.{CanStart, begins, machine_of}
-use Rattle.cg_extract.proofs.Kept.{cell_kept, clock_list_kept, clock_there, input_kept, kept_within, order_long, order_once, placed, same_number, still_used, used_kept}
-use Rattle.cg_extract.proofs.Renumbered.{distinct_mapped, filter_mapped, find_none, four_mapped, mapped_same, none_found, option_renumbered}
+use Rattle.cg_extract.proofs.Kept.{cell_kept, clock_list_kept, clock_there, input_kept, kept_within, order_long, order_once, placed}
+use Rattle.cg_extract.proofs.Kept.{same_number, still_used, used_kept}
+use Rattle.cg_extract.proofs.Renumbered.{distinct_mapped, filter_mapped, find_none, four_mapped, mapped_same, none_found}
+use Rattle.cg_extract.proofs.Renumbered.{option_renumbered}
 use Rattle.cg_extract.specs.Lifted.{CanExtract, bare, kept_nets, number_of, on_clock, ungated}
 
 module _ (c : Circuit) (whole : IsNetlist c) where

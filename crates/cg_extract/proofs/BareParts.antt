@@ -1,5 +1,6 @@
 -- The parts that a builder is told say the netlist without its gating cells.
-use Rattle.std.proofs.Common.{[], ◌≡◌, ℕ, ◌≤◌, Bool, false, List, ◌++◌, map, length, slice_get, unwrap_or, Option, None, Some, Ok, nat_eq, refl, ap, sym, ◌∙◌, subst}
+use Rattle.std.proofs.Common.{[], ◌≡◌, ℕ, ◌≤◌, Bool, false, List, ◌++◌, map, length, slice_get, unwrap_or, Option, None, Some, Ok}
+use Rattle.std.proofs.Common.{nat_eq, refl, ap, sym, ◌∙◌, subst}
 use Rattle.std.specs.List.{IsDistinct}
 use Rattle.std.specs.Option.{option_map, option_to_list}
 use Rattle.std.proofs.lemmas.List.{append-nil}

@@ -1,5 +1,6 @@
 -- What gating needs of a netlist with gating cells: of the netlist that is left, and of the machine.
-use Rattle.std.proofs.Common.{[], ◌≡◌, ℕ, true, false, List, ◌∷◌, map, length, get_or, unwrap_or, is_some, nat_eq, Option, None, Some, refl, ap, sym, ◌∙◌, subst}
+use Rattle.std.proofs.Common.{[], ◌≡◌, ℕ, true, false, List, ◌∷◌, map, length, get_or, unwrap_or, is_some, nat_eq, Option, None}
+use Rattle.std.proofs.Common.{Some, refl, ap, sym, ◌∙◌, subst}
 use Rattle.std.specs.Option.{option_map}
 use Rattle.std.proofs.lemmas.Bool.{both_ways, eq-eqb, or_left, or_parts, or_right}
 use Rattle.std.proofs.lemmas.List.{length-map}
@@ -18,7 +19,8 @@ use Rattle.cg_extract.proofs.LiftedOfUngated.{lifted_same}
 use Rattle.cg_extract.proofs.OwnKept.{own_kept}
 use Rattle.cg_extract.proofs.Renumbered.{none_found}
 use Rattle.cg_extract.proofs.BareParts.{outputs_once}
-use Rattle.cg_extract.specs.Laws.{BareIsNetlist, BareIsWritable, LiftedAsks, LiftedOfUngated, LiftedOwn, LiftedShowsNets, UnrefusedHasNoTests}
+use Rattle.cg_extract.specs.Laws.{BareIsNetlist, BareIsWritable, LiftedAsks, LiftedOfUngated, LiftedOwn, LiftedShowsNets}
+use Rattle.cg_extract.specs.Laws.{UnrefusedHasNoTests}
 use Rattle.cg_extract.specs.Lifted.{bare, is_refused, kept_nets, number_of, on_clock, ungated}
 
 no_test : (test : Option ℕ) → is_some test ≡ false → test ≡ None

@@ -1,5 +1,6 @@
 -- The machine that lifting makes: a machine with the netlist's registers and no more nets than it.
-use Rattle.std.proofs.Common.{◌≡◌, ◌⊎◌, ℕ, ◌+◌, ◌<◌, ◌≤◌, Bool, true, List, [], ◌∷◌, length, map, nat_eq, slice_get, Option, None, Some, refl, ap, sym, ◌∙◌, subst, inl, inr, arith}
+use Rattle.std.proofs.Common.{◌≡◌, ◌⊎◌, ℕ, ◌+◌, ◌<◌, ◌≤◌, Bool, true, List, [], ◌∷◌, length, map, nat_eq, slice_get, Option, None}
+use Rattle.std.proofs.Common.{Some, refl, ap, sym, ◌∙◌, subst, inl, inr, arith}
 use Rattle.std.specs.Option.{option_flatten, option_map}
 use Rattle.std.proofs.lemmas.Bool.{or_cases, or_left, or_right}
 use Rattle.std.proofs.lemmas.List.{length-map}
@@ -11,7 +12,8 @@ use Rattle.cg_extract.proofs.Bare.{bare_long}
 use Rattle.cg_extract.proofs.Depths.{all_taken, depths_few}
 use Rattle.cg_extract.proofs.Lifts.{Lifts, enable_net, lifting_lifts, taken}
 use Rattle.cg_extract.specs.Laws.{LiftedIsMachine, LiftedIsSmall}
-use Rattle.cg_extract.specs.Lifted.{CanExtract, Lifting, bare, by_depth, enable_under, lift_each, lift_one, lifted, lifted_enables, lifting, number_of, on_clock, unlifted}
+use Rattle.cg_extract.specs.Lifted.{CanExtract, Lifting, bare, by_depth, enable_under, lift_each, lift_one, lifted, lifted_enables}
+use Rattle.cg_extract.specs.Lifted.{lifting, number_of, on_clock, unlifted}
 
 -- each gating cell that is taken has an entry
 entries_count : (c : Circuit) (l : Lifting) (gs : List (GatingCell ℕ)) → length (lift_each c l gs).enables ≡ length l.enables + length gs

@@ -1,5 +1,6 @@
 -- A moment of the netlist is one of the netlist without its gating cells, and shows what the lifted machine's nets show.
-use Rattle.std.proofs.Common.{[], ◌≡◌, ◌≢◌, ℕ, ◌<◌, Bool, true, false, not, if◌then◌else◌, List, ◌∷◌, ◌++◌, map, length, slice_get, Some, nat_eq, refl, ap, sym, ◌∙◌, subst, arith}
+use Rattle.std.proofs.Common.{[], ◌≡◌, ◌≢◌, ℕ, ◌<◌, Bool, true, false, not, if◌then◌else◌, List, ◌∷◌, ◌++◌, map, length, slice_get}
+use Rattle.std.proofs.Common.{Some, nat_eq, refl, ap, sym, ◌∙◌, subst, arith}
 use Rattle.std.specs.List.{cons_option}
 use Rattle.std.specs.Option.{option_map, option_to_list}
 use Rattle.std.proofs.lemmas.Bool.{both_ways, eq-eqb, or_left, or_right}
@@ -18,7 +19,8 @@ use Rattle.cg_netlist.proofs.Used.{input_is_used}
 use Rattle.cg_machine.specs.Machine.{IsInputs, IsState, values, walk_of}
 use Rattle.std.proofs.lemmas.List.{take_all}
 use Rattle.cg_extract.proofs.Bare.{bare_formed, bare_machine, data_is, number_within}
-use Rattle.cg_extract.proofs.Kept.{cell_kept, clock_kept, data_kept, kept_within, placed, register_kept, same_number, shown_on_clock, used_kept}
+use Rattle.cg_extract.proofs.Kept.{cell_kept, clock_kept, data_kept, kept_within, placed, register_kept, same_number}
+use Rattle.cg_extract.proofs.Kept.{shown_on_clock, used_kept}
 use Rattle.cg_extract.proofs.LiftedMachine.{start_count}
 use Rattle.cg_extract.proofs.Lifts.{lifting_lifts, start}
 use Rattle.cg_extract.specs.Lifted.{CanExtract, bare, kept_nets, lifted, number_of, on_clock, ungated}

@@ -1,11 +1,14 @@
--- What clock nets do from one moment to the next: the output of a gating cell rises where the clock rises and the and of the enables
+-- What clock nets do from one moment to the next: the output of a gating cell rises where the clock rises and the and of the
+-- enables
 -- on its chain was 1 a moment before. A latch behind a gated clock follows its enable wherever that clock stays low.
-use Rattle.std.proofs.Common.{[], ◌≡◌, ℕ, Bool, true, false, not, ◌||◌, ◌&&◌, if◌then◌else◌, cond, List, ◌∷◌, length, slice_get, nat_eq, unwrap_or, Option, None, Some, refl, ap, sym, ◌∙◌, subst, inl, inr, arith}
+use Rattle.std.proofs.Common.{[], ◌≡◌, ℕ, Bool, true, false, not, ◌||◌, ◌&&◌, if◌then◌else◌, cond, List, ◌∷◌, length, slice_get}
+use Rattle.std.proofs.Common.{nat_eq, unwrap_or, Option, None, Some, refl, ap, sym, ◌∙◌, subst, inl, inr, arith}
 use Rattle.std.specs.List.{list_any}
 use Rattle.std.specs.Option.{option_to_list}
 use Rattle.std.proofs.lemmas.Bool.{both_ways, eq-eqb, eqb-true, or_left}
 use Rattle.std.proofs.lemmas.Option.{same_Some, slice_get_within, unwrap_or-slice_get}
-use Rattle.cg_netlist.specs.Circuit.{Circuit, GatingCell, RegisterCell, asked_nets, clock_nets, gate_nets, data_inputs, is_in, used_nets}
+use Rattle.cg_netlist.specs.Circuit.{Circuit, GatingCell, RegisterCell, asked_nets, clock_nets, gate_nets, data_inputs, is_in}
+use Rattle.cg_netlist.specs.Circuit.{used_nets}
 use Rattle.cg_netlist.specs.History.{Moment, MomentFollows, Tick, gate_bit, latches_before, next_latch, rises}
 use Rattle.cg_netlist.specs.Moment.{Settles, bit, zip_with}
 use Rattle.cg_netlist.proofs.Clocks.{Clocked, clocked_from}

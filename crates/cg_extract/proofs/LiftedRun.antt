@@ -1,10 +1,12 @@
 -- The lawful history of the netlist has the states and the outputs of the lifted machine's run.
-use Rattle.std.proofs.Common.{◌≡◌, ℕ, ◌<◌, Bool, true, false, not, ◌&&◌, if◌then◌else◌, List, [], ◌∷◌, length, map, slice_get, Option, None, Some, refl, ap, sym, ◌∙◌, arith}
+use Rattle.std.proofs.Common.{◌≡◌, ℕ, ◌<◌, Bool, true, false, not, ◌&&◌, if◌then◌else◌, List, [], ◌∷◌, length, map, slice_get}
+use Rattle.std.proofs.Common.{Option, None, Some, refl, ap, sym, ◌∙◌, arith}
 use Rattle.std.specs.Option.{option_map}
 use Rattle.std.proofs.lemmas.List.{length-replicate}
 use Rattle.std.proofs.lemmas.Option.{slice_get-map, slice_get_within}
 use Rattle.cg_netlist.specs.Circuit.{Circuit, RegisterCell}
-use Rattle.cg_netlist.specs.History.{AreTicks, IsLawful, LawfulFrom, Moment, MomentFollows, Tick, gate_bit, next_bit, next_value, outputs_of}
+use Rattle.cg_netlist.specs.History.{AreTicks, IsLawful, LawfulFrom, Moment, MomentFollows, Tick, gate_bit, next_bit, next_value}
+use Rattle.cg_netlist.specs.History.{outputs_of}
 use Rattle.cg_netlist.specs.Moment.{bit, values_at, zip_with}
 use Rattle.cg_netlist.specs.Wiring.{map_register}
 use Rattle.cg_netlist.proofs.Used.{data_is_used, output_is_used}

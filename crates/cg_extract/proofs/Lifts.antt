@@ -1,6 +1,7 @@
 -- Gating cells are taken one after another: the machine stays a machine, and the net beside each shows the and of the enables on
 -- its chain.
-use Rattle.std.proofs.Common.{◌≡◌, ◌⊎◌, ℕ, suc, ◌+◌, ◌<◌, ◌≤◌, Bool, true, false, ◌&&◌, cond, List, [], ◌∷◌, length, map, slice_get, nat_eq, Option, None, Some, refl, ap, sym, ◌∙◌, subst, inl, inr, arith}
+use Rattle.std.proofs.Common.{◌≡◌, ◌⊎◌, ℕ, suc, ◌+◌, ◌<◌, ◌≤◌, Bool, true, false, ◌&&◌, cond, List, [], ◌∷◌, length, map, slice_get}
+use Rattle.std.proofs.Common.{nat_eq, Option, None, Some, refl, ap, sym, ◌∙◌, subst, inl, inr, arith}
 use Rattle.std.specs.List.{cons_option}
 use Rattle.std.specs.Option.{option_to_list}
 use Rattle.std.proofs.lemmas.Bool.{both_ways, eq-eqb, eqb-true, lt-ltb, or_cases, or_left}
@@ -32,7 +33,8 @@ use Rattle.cg_machine.proofs.There.{gate_there}
 use Rattle.cg_extract.proofs.Bare.{bare_long, bare_machine, number_within}
 use Rattle.cg_extract.proofs.Depths.{Ready, depths_few, ready}
 use Rattle.cg_extract.proofs.Kept.{clock_kept, same_number, used_kept}
-use Rattle.cg_extract.specs.Lifted.{CanExtract, Lifting, bare, by_depth, chained, enable_under, lift_each, lift_one, lifting, number_of, unlifted, with_entry}
+use Rattle.cg_extract.specs.Lifted.{CanExtract, Lifting, bare, by_depth, chained, enable_under, lift_each, lift_one, lifting}
+use Rattle.cg_extract.specs.Lifted.{number_of, unlifted, with_entry}
 
 -- the nets beside which enables stand
 abbrev pub taken : List (ℕ × ℕ) → List ℕ

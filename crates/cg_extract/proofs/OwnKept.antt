@@ -1,5 +1,6 @@
 -- A gate that is added stands behind the parts of a machine's own netlist, and its name behind their names.
-use Rattle.std.proofs.Common.{◌≡◌, ℕ, ◌+◌, ◌-◌, ◌≤◌, List, [], ◌∷◌, ◌++◌, length, map, take, Option, None, Some, refl, sym, ◌∙◌, ap, append-nil, append_assoc, arith, length-append}
+use Rattle.std.proofs.Common.{◌≡◌, ℕ, ◌+◌, ◌-◌, ◌≤◌, List, [], ◌∷◌, ◌++◌, length, map, take, Option, None, Some, refl, sym, ◌∙◌, ap}
+use Rattle.std.proofs.Common.{append-nil, append_assoc, arith, length-append}
 use Rattle.std.specs.List.{range_with_len}
 use Rattle.std.proofs.Math.Seq.{take-length}
 use Rattle.std.proofs.lemmas.List.{take-append-le}
@@ -12,7 +13,8 @@ use Rattle.cg_machine.specs.Machine.{MachineData, added_name, additions}
 use Rattle.cg_machine.specs.Start.{machine_of}
 use Rattle.cg_netlist.specs.Circuit.{Circuit, GatingCell, LogicCell, RegisterCell}
 use Rattle.cg_extract.specs.Laws.{HasOwn}
-use Rattle.cg_extract.specs.Lifted.{Lifting, bare, by_depth, chained, enable_under, lift_each, lift_one, lifted, number_of, unlifted}
+use Rattle.cg_extract.specs.Lifted.{Lifting, bare, by_depth, chained, enable_under, lift_each, lift_one, lifted, number_of}
+use Rattle.cg_extract.specs.Lifted.{unlifted}
 
 -- the netlist's own parts are the first ones
 pub record IsFront (m : MachineData) : Type 0 where

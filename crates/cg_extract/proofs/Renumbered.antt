@@ -1,5 +1,6 @@
 -- Lists of nets under numbers that no two of some nets share.
-use Rattle.std.proofs.Common.{[], ◌≡◌, ℕ, ◌+◌, Bool, true, false, cond, List, ◌∷◌, ◌++◌, map, slice_get, Option, None, Some, nat_eq, refl, ap, sym, ◌∙◌, inl, inr, zero, suc, arith}
+use Rattle.std.proofs.Common.{[], ◌≡◌, ℕ, ◌+◌, Bool, true, false, cond, List, ◌∷◌, ◌++◌, map, slice_get, Option, None, Some, nat_eq}
+use Rattle.std.proofs.Common.{refl, ap, sym, ◌∙◌, inl, inr, zero, suc, arith}
 use Rattle.std.specs.List.{IsDistinct, filter, position_from}
 use Rattle.std.specs.Option.{option_map, option_to_list}
 use Rattle.std.proofs.lemmas.Bool.{both_ways, cases_Bool, false_from_ne_true, eq-eqb, or_left, or_right}

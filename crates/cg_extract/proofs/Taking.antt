@@ -1,10 +1,12 @@
 -- Gating cells that are taken one after another, with a table of their enables.
-use Rattle.std.proofs.Common.{◌≡◌, ℕ, suc, ◌+◌, ◌-◌, ◌<◌, ◌≤◌, true, cond, List, [], ◌∷◌, ◌++◌, length, take, drop, replicate, set, slice_get, nat_eq, Option, None, Some, refl, ap, sym, ◌∙◌, subst, inl, inr, arith, append_assoc}
+use Rattle.std.proofs.Common.{◌≡◌, ℕ, suc, ◌+◌, ◌-◌, ◌<◌, ◌≤◌, true, cond, List, [], ◌∷◌, ◌++◌, length, take, drop, replicate, set}
+use Rattle.std.proofs.Common.{slice_get, nat_eq, Option, None, Some, refl, ap, sym, ◌∙◌, subst, inl, inr, arith, append_assoc}
 use Rattle.std.specs.List.{cons_option}
 use Rattle.std.specs.Option.{option_flatten}
 use Rattle.std.proofs.Math.Seq.{set-append_seam}
 use Rattle.std.proofs.lemmas.Bool.{both_ways, cases_Bool, eq-eqb, eqb-true}
-use Rattle.std.proofs.lemmas.List.{append-nil, drop_all, length-map, length-replicate, length-set, length-take-le, map-append, take-append-drop, take_all}
+use Rattle.std.proofs.lemmas.List.{append-nil, drop_all, length-map, length-replicate, length-set, length-take-le, map-append}
+use Rattle.std.proofs.lemmas.List.{take-append-drop, take_all}
 use Rattle.std.proofs.lemmas.Option.{slice_get_within}
 use Rattle.cg_netlist.specs.Chains.{chain, chain_cell, gate_order}
 use Rattle.cg_netlist.specs.Circuit.{Circuit, GatingCell, RegisterCell, gate_nets, is_in}
@@ -31,8 +33,10 @@ use Rattle.cg_extract.proofs.Depths.{Ready, depths_few, ready}
 use Rattle.cg_extract.proofs.Kept.{used_kept}
 use Rattle.cg_extract.proofs.LiftedMachine.{start_count}
 use Rattle.cg_extract.proofs.Lifts.{Lifts, enable_is_net, enable_net, net_kept, one_lifts, start, start_lifts, taken}
-use Rattle.cg_extract.specs.Lifted.{CanExtract, Lifting, bare, by_depth, chained, enable_under, kept_nets, lift_each, lift_one, lifting, number_of, unlifted}
-use Rattle.cg_extract.specs.inner.Taking.{CanTake, IsEnableTable, IsSoFar, IsTaken, entry_at, given, table_enables, taken_into, taken_so_far}
+use Rattle.cg_extract.specs.Lifted.{CanExtract, Lifting, bare, by_depth, chained, enable_under, kept_nets, lift_each, lift_one}
+use Rattle.cg_extract.specs.Lifted.{lifting, number_of, unlifted}
+use Rattle.cg_extract.specs.inner.Taking.{CanTake, IsEnableTable, IsSoFar, IsTaken, entry_at, given, table_enables, taken_into}
+use Rattle.cg_extract.specs.inner.Taking.{taken_so_far}
 
 each_append : (c : Circuit) (l : Lifting) (xs ys : List (GatingCell ℕ)) → lift_each c l (xs ++ ys) ≡ lift_each c (lift_each c l xs) ys
 each_append c l [] ys = refl

@@ -23,12 +23,16 @@ LiftedIsMachine = (c : Circuit) (prefix : List ℕ) → CanExtract c prefix → 
 -- one: so no limit is met
 abbrev pub LiftedIsSmall : Type 0
 LiftedIsSmall = (c : Circuit) (prefix : List ℕ) → CanExtract c prefix
-    → (length (lifted c prefix).circuit.names ≤ length c.names) × (length (lifted c prefix).circuit.registers ≡ length c.registers) × ((lifted c prefix).own_registers ≡ length c.registers)
+    → (length (lifted c prefix).circuit.names ≤ length c.names) × (length (lifted c prefix).circuit.registers ≡ length c.registers)
+    × ((lifted c prefix).own_registers ≡ length c.registers)
 
 -- where no gating cell has a test pin, its run is the lawful history of the netlist
 abbrev pub LiftedIsRun : Type 0
-LiftedIsRun = (c : Circuit) (prefix : List ℕ) → CanExtract c prefix → HasNoTests c → (start : List Bool) (wave : List Tick) (history : List Moment) → IsStart c start → IsWaveform c wave → IsLawful c start wave history
-    → (map (λ now. now.state) history ≡ states_from (lifted c prefix) None start wave) × (outputs_of c history ≡ shown_from (lifted c prefix) None start wave)
+LiftedIsRun = (c : Circuit) (prefix : List ℕ) → CanExtract c prefix → HasNoTests c →
+    (start : List Bool) (wave : List Tick) (history : List Moment) → IsStart c start → IsWaveform c wave →
+    IsLawful c start wave history
+    → (map (λ now. now.state) history ≡ states_from (lifted c prefix) None start wave)
+    × (outputs_of c history ≡ shown_from (lifted c prefix) None start wave)
 
 -- The netlist that is left is one, and is writable with the cells with which the netlist is. By the names of their nets, its parts
 -- are those of the netlist without gating cells, and its data inputs are those of the netlist.
@@ -67,7 +71,8 @@ LiftedOfUngated = (c : Circuit) (prefix : List ℕ) → CanExtract c prefix → 
 
 -- while the clock is low each net that is kept has the bit that the machine shows in the cycle
 abbrev pub LiftedShowsNets : Type 0
-LiftedShowsNets = (c : Circuit) (prefix : List ℕ) → CanExtract c prefix → (inputs state gates nets : List Bool) → Settles c false inputs state gates nets
+LiftedShowsNets = (c : Circuit) (prefix : List ℕ) → CanExtract c prefix → (inputs state gates nets : List Bool) →
+    Settles c false inputs state gates nets
     → length state ≡ length c.registers → length inputs ≡ length (data_inputs c) → (x : ℕ) → is_in (kept_nets c) x ≡ true
     → slice_get (values (lifted c prefix) state inputs) (number_of c x) ≡ slice_get nets x
 

@@ -1,5 +1,6 @@
 -- The machine of a netlist with gating cells: the gating cells are lifted to enables.
-use Rattle.std.specs.Prelude.{◌≡◌, ℕ, Bool, ◌||◌, ◌&&◌, not, if◌then◌else◌, List, [], ◌∷◌, ◌++◌, ◌-◌, map, length, replicate, unwrap_or, nat_eq, IsTrue, Option, None, Some, is_some}
+use Rattle.std.specs.Prelude.{◌≡◌, ℕ, Bool, ◌||◌, ◌&&◌, not, if◌then◌else◌, List, [], ◌∷◌, ◌++◌, ◌-◌, map, length, replicate}
+use Rattle.std.specs.Prelude.{unwrap_or, nat_eq, IsTrue, Option, None, Some, is_some}
 use Rattle.std.specs.List.{All, IsDistinct, position_from}
 use Rattle.cg_cell.specs.Name.{is_name}
 use Rattle.cg_cell.specs.declared.fit.FitKind.TheVariants.{And2}
@@ -55,7 +56,8 @@ abbrev pub with_entry : List (ℕ × ℕ) → ℕ → Added → Lifting
 with_entry entries output added = record { machine = added.machine; enables = (output, added.net) ∷ entries }
 
 abbrev pub lift_one : Circuit → Lifting → GatingCell ℕ → Lifting
-lift_one c l gater = with_entry l.enables gater.output (chained l.machine (enable_under l.enables gater.clock) (number_of c gater.enable))
+lift_one c l gater =
+    with_entry l.enables gater.output (chained l.machine (enable_under l.enables gater.clock) (number_of c gater.enable))
 
 -- these gating cells are taken one after another
 abbrev pub lift_each : Circuit → Lifting → List (GatingCell ℕ) → Lifting

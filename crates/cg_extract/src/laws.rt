@@ -7,7 +7,8 @@ ghost use Rattle.cg_extract.specs.Laws.{LiftedIsSmall, LiftedOfUngated, LiftedOw
 /// history of the netlist has the bits of the registers and of the outputs of the machine's run. While the clock is low, each net
 /// that is kept has the bit that the machine shows.
 ///
-/// What is left of the netlist is a netlist with its parts by name, is writable where the netlist is, and is the machine's own. Each
+/// What is left of the netlist is a netlist with its parts by name, is writable where the netlist is, and is the machine's own.
+/// Each
 /// gate is an and of two nets, and there is none where no gating cell stands behind another. Where there is no gating cell, the
 /// machine is the netlist's own; where none is refused, none has a test pin.
 ///

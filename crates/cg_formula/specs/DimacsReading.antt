@@ -37,7 +37,8 @@ abbrev pub counts_of : Number → Number → Result Header DimacsFault
 counts_of Misspelled clauses = Err BadHeader
 counts_of (Small n) Misspelled = Err BadHeader
 counts_of (Small n) Large = Err BadHeader
-counts_of (Small n) (Small m) = if nat_le n MOST_VARIABLES then Ok (record { variables = n; clauses = m }) else Err (Limit Variables)
+counts_of (Small n) (Small m) =
+    if nat_le n MOST_VARIABLES then Ok (record { variables = n; clauses = m }) else Err (Limit Variables)
 counts_of Large Misspelled = Err BadHeader
 counts_of Large Large = Err BadHeader
 counts_of Large (Small m) = Err (Limit Variables)
@@ -53,7 +54,8 @@ header_of (p ∷ cnf ∷ v ∷ c ∷ []) =
 header_of (p ∷ cnf ∷ v ∷ c ∷ w ∷ ws) = Err BadHeader
 
 -- a word of a clause, before the rest of the clause and the words behind it
-abbrev pub put_token : ClauseToken → ℕ → List Spot → Result (List Lit × List Spot) DimacsFault → Result (List Lit × List Spot) DimacsFault
+abbrev pub put_token : ClauseToken → ℕ → List Spot → Result (List Lit × List Spot) DimacsFault →
+    Result (List Lit × List Spot) DimacsFault
 put_token (tokens.Literal lit) line after later = later >>= λ r. Ok (lit ∷ r.0, r.1)
 put_token tokens.End line after later = Ok ([], after)
 put_token tokens.Other line after later = Err (BadClause line)
@@ -67,12 +69,14 @@ clause_at variables end (w ∷ ws) = put_token (clause_token variables w.text) w
 abbrev pub clauses_at : ℕ → ℕ → ℕ → List Spot → Result (List Clause) DimacsFault
 clauses_at variables end zero [] = Ok []
 clauses_at variables end zero (w ∷ ws) = Err (BadClause w.line)
-clauses_at variables end (suc n) ws = clause_at variables end ws >>= λ c. clauses_at variables end n c.1 >>= λ cs. Ok (record { lits = c.0 } ∷ cs)
+clauses_at variables end (suc n) ws =
+    clause_at variables end ws >>= λ c. clauses_at variables end n c.1 >>= λ cs. Ok (record { lits = c.0 } ∷ cs)
 
 abbrev pub formula_at : ℕ → List Line → Result Formula DimacsFault
 formula_at end [] = Err BadHeader
 formula_at end (first ∷ later) =
-    header_of first.words >>= λ h. clauses_at h.variables end h.clauses (spots_of later) >>= λ cs. Ok (record { variables = h.variables; clauses = cs })
+    header_of first.words >>= λ h. clauses_at h.variables end h.clauses (spots_of later) >>= λ cs. Ok
+    (record { variables = h.variables; clauses = cs })
 
 -- the formula that a DIMACS text stands for, or its first fault
 abbrev pub dimacs : List ℕ → Result Formula DimacsFault

@@ -29,7 +29,8 @@ header_words variables clauses = codes "p" ∷ codes "cnf" ∷ decimal variables
 pub record DimacsText (text : List ℕ) (formula : Formula) : Type 0 where
   pub later : List Line
   pub number : ℕ
-  pub lines : text_lines layout text ≡ record { number = number; words = header_words formula.variables (length formula.clauses) } ∷ later
+  pub lines : text_lines layout text ≡ record { number = number; words = header_words formula.variables (length formula.clauses) }
+      ∷ later
   pub body : texts_of (spots_of later) ≡ flat_map clause_words formula.clauses
   pub bounds : IsFormula formula
   pub countable : length formula.clauses < 2 ^ 64

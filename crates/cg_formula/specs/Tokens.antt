@@ -22,4 +22,5 @@ plain_token greatest Misspelled = Other
 -- a word of a clause: a minus before the number inverts the literal
 abbrev pub clause_token : ℕ → List ℕ → ClauseToken
 clause_token greatest [] = Other
-clause_token greatest (x ∷ xs) = if x == 45 then literal_of (number_of xs) greatest true else plain_token greatest (number_of (x ∷ xs))
+clause_token greatest (x ∷ xs) =
+    if x == 45 then literal_of (number_of xs) greatest true else plain_token greatest (number_of (x ∷ xs))

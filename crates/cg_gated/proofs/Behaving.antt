@@ -1,5 +1,6 @@
 -- The gated netlist behaves as the netlist.
-use Rattle.std.proofs.Common.{◌≡◌, ℕ, zero, suc, ◌+◌, ◌-◌, ◌<◌, ◌≤◌, true, List, [], ◌∷◌, ◌++◌, map, length, slice_get, Option, None, Some, refl, sym, ◌∙◌, ap, arith, length-append}
+use Rattle.std.proofs.Common.{◌≡◌, ℕ, zero, suc, ◌+◌, ◌-◌, ◌<◌, ◌≤◌, true, List, [], ◌∷◌, ◌++◌, map, length, slice_get, Option}
+use Rattle.std.proofs.Common.{None, Some, refl, sym, ◌∙◌, ap, arith, length-append}
 use Rattle.std.specs.Option.{option_to_list}
 use Rattle.std.specs.Prelude.{unwrap_or}
 use Rattle.std.proofs.lemmas.List.{length-map, length-replicate, length-take-le, map-append}
@@ -31,7 +32,8 @@ use Rattle.cg_extract.proofs.ForGating.{bare_is_netlist}
 use Rattle.cg_gated.proofs.LiftedShows.{kept_names}
 use Rattle.cg_gated.proofs.NetlistKept.{keeps_netlist}
 use Rattle.cg_gated.proofs.Planned.{can_insert, is_formed}
-use Rattle.cg_gated.proofs.SameOutputs.{back, counts, inputs_count, machine_ticks, own_count, own_inputs, own_low, own_ticks, shows_same}
+use Rattle.cg_gated.proofs.SameOutputs.{back, counts, inputs_count, machine_ticks, own_count, own_inputs, own_low, own_ticks}
+use Rattle.cg_gated.proofs.SameOutputs.{shows_same}
 
 get_front : {X : Type 0} (xs ys : List X) (k : ℕ) → k < length xs → slice_get (xs ++ ys) k ≡ slice_get xs k
 get_front [] ys k below = absurd (omega arith)

@@ -1,5 +1,6 @@
 -- A plan keeps the netlist with which it begins: gates and delay registers stand behind its parts.
-use Rattle.std.proofs.Common.{◌≡◌, ℕ, zero, suc, ◌+◌, ◌-◌, ◌≤◌, Bool, true, false, if◌then◌else◌, List, [], ◌∷◌, ◌++◌, length, map, take, Option, None, Some, refl, sym, ◌∙◌, ap, append_assoc, arith, length-append}
+use Rattle.std.proofs.Common.{◌≡◌, ℕ, zero, suc, ◌+◌, ◌-◌, ◌≤◌, Bool, true, false, if◌then◌else◌, List, [], ◌∷◌, ◌++◌, length, map}
+use Rattle.std.proofs.Common.{take, Option, None, Some, refl, sym, ◌∙◌, ap, append_assoc, arith, length-append}
 use Rattle.std.specs.List.{range_with_len}
 use Rattle.std.proofs.lemmas.List.{take-append-le}
 use Rattle.std.proofs.lemmas.List.FromFn.{map-range_with_len_more}
@@ -9,7 +10,8 @@ use Rattle.cg_cell.specs.declared.fit.FitKind.TheVariants.{And2, Inv, Or2}
 use Rattle.cg_limit.specs.declared.Limit.{Limit}
 use Rattle.cg_lists.specs.HoldList.{hold_list}
 use Rattle.cg_lists.specs.Literals.{IdleData}
-use Rattle.cg_machine.specs.Added.{Added, HasNames, add_delay, add_gate, find_delay, find_gate, next_delay, next_gate, next_name, or_push, own_netlist, push_delay, push_gate}
+use Rattle.cg_machine.specs.Added.{Added, HasNames, add_delay, add_gate, find_delay, find_gate, next_delay, next_gate, next_name}
+use Rattle.cg_machine.specs.Added.{or_push, own_netlist, push_delay, push_gate}
 use Rattle.cg_machine.specs.Gates.{gate_cell}
 use Rattle.cg_machine.specs.Machine.{MachineData, added_name, additions}
 use Rattle.cg_machine.specs.declared.stage.Stage.{Stage}

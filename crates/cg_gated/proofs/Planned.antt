@@ -1,5 +1,6 @@
 -- The plan's machine may be inserted.
-use Rattle.std.proofs.Common.{◌≡◌, ℕ, suc, Bool, true, false, List, [], ◌∷◌, slice_get, is_some, Option, None, Some, refl, sym, ◌∙◌, ap, subst, ◌⊎◌, inl, inr}
+use Rattle.std.proofs.Common.{◌≡◌, ℕ, suc, Bool, true, false, List, [], ◌∷◌, slice_get, is_some, Option, None, Some, refl, sym, ◌∙◌}
+use Rattle.std.proofs.Common.{ap, subst, ◌⊎◌, inl, inr}
 use Rattle.std.specs.List.{All, filter_map}
 use Rattle.std.specs.Option.{option_flatten}
 use Rattle.std.proofs.lemmas.List.Elements.{All-nil, All-weaker}

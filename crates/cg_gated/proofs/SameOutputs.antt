@@ -1,5 +1,6 @@
 -- The gated netlist shows what the netlist shows.
-use Rattle.std.proofs.Common.{◌≡◌, ℕ, ◌+◌, Bool, false, is_some, List, [], ◌∷◌, ◌++◌, map, length, Option, None, Some, refl, sym, ◌∙◌, ap, subst, arith, length-append}
+use Rattle.std.proofs.Common.{◌≡◌, ℕ, ◌+◌, Bool, false, is_some, List, [], ◌∷◌, ◌++◌, map, length, Option, None, Some, refl, sym}
+use Rattle.std.proofs.Common.{◌∙◌, ap, subst, arith, length-append}
 use Rattle.std.specs.Option.{option_to_list}
 use Rattle.std.proofs.lemmas.List.{length-map, length-take-le}
 use Rattle.cg_netlist.specs.Circuit.{Circuit, data_inputs, net_order}

@@ -63,21 +63,28 @@ pub record CanGate (by : Gating) (c : Circuit) : Type 0 where
   pub cells : All IsCell by.library
   pub tested : by.settings.test ≡ is_some by.test
   pub named : All (λ name. IsTrue (is_name name)) (option_to_list by.test)
-  pub new : (name : List ℕ) → by.test ≡ Some name → All (λ other. other ≢ name) ((planned by c).circuit.names ++ gate_names (planned by c))
+  pub new : (name : List ℕ) → by.test ≡ Some name →
+      All (λ other. other ≢ name) ((planned by c).circuit.names ++ gate_names (planned by c))
 
--- The gated netlist behaves as the netlist. It has the registers of that one and the delay registers, which start with 1; the data inputs
--- of that one and, behind them, a test input where there is to be one; and outputs of the same names. From each start of the registers and
--- over each waveform that begins with the clock low it has exactly one lawful history, and at every moment its outputs are those of the
+-- The gated netlist behaves as the netlist. It has the registers of that one and the delay registers, which start with 1; the data
+-- inputs
+-- of that one and, behind them, a test input where there is to be one; and outputs of the same names. From each start of the
+-- registers and
+-- over each waveform that begins with the clock low it has exactly one lawful history, and at every moment its outputs are those of
+-- the
 -- netlist, which sees the same waveform without the test input.
 pub record Behaves (by : Gating) (read written : Circuit) : Type 0 where
   pub registers : length written.registers ≡ length read.registers + length (ones (planned by read))
-  pub inputs : map (net_name written.names) (data_inputs written) ≡ map (net_name read.names) (data_inputs read) ++ option_to_list by.test
+  pub inputs : map (net_name written.names) (data_inputs written) ≡ map (net_name read.names) (data_inputs read)
+      ++ option_to_list by.test
   pub outputs : map (net_name written.names) written.outputs ≡ map (net_name read.names) read.outputs
   pub starts : (start : List Bool) → IsStart read start → IsStart written (start ++ ones (planned by read))
   pub waves : (wave : List Tick) → IsWaveform written wave → IsWaveform read (own_wave (planned by read) wave)
-  pub whole : by.test ≡ None → (wave : List Tick) → IsWaveform read wave → IsWaveform written wave × (own_wave (planned by read) wave ≡ wave)
+  pub whole : by.test ≡ None → (wave : List Tick) → IsWaveform read wave →
+      IsWaveform written wave × (own_wave (planned by read) wave ≡ wave)
   pub some : HasHistory written
   pub one : HasOneHistory written
   pub same : (start : List Bool) (wave : List Tick) (history original : List Moment) → IsStart read start → IsWaveform written wave
-      → IsLawful written (start ++ ones (planned by read)) wave history → IsLawful read start (own_wave (planned by read) wave) original
+      → IsLawful written (start ++ ones (planned by read)) wave history →
+      IsLawful read start (own_wave (planned by read) wave) original
       → outputs_of written history ≡ outputs_of read original

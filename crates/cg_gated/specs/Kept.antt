@@ -7,7 +7,15 @@ use Rattle.cg_netlist.specs.Wiring.{NetName, map_cell, map_outputs, net_name}
 
 -- a register by the names of its nets, but for its clock
 abbrev pub unclocked : Circuit → RegisterCell ℕ ℕ → RegisterCell NetName (Option NetName)
-unclocked c r = record { inputs = map (net_name c.names) r.inputs; outputs = map_outputs (net_name c.names) r.outputs; pins = r.pins; clock = None; kind = r.kind; init = r.init }
+unclocked c r =
+    record {
+      inputs = map (net_name c.names) r.inputs;
+      outputs = map_outputs (net_name c.names) r.outputs;
+      pins = r.pins;
+      clock = None;
+      kind = r.kind;
+      init = r.init;
+    }
 
 -- a logic cell by the names of its nets
 abbrev pub named_cell : Circuit → LogicCell ℕ → LogicCell NetName
@@ -26,4 +34,5 @@ pub record KeepsParts (read written : Circuit) : Type 0 where
   pub clock : option_map (net_name written.names) written.clock ≡ option_map (net_name read.names) read.clock
   pub cells : map (named_cell written) (take (length read.cells) written.cells) ≡ map (named_cell read) read.cells
   pub registers : map (unclocked written) (take (length read.registers) written.registers) ≡ map (unclocked read) read.registers
-  pub delays : (k : ℕ) (r : RegisterCell ℕ ℕ) → length read.registers ≤ k → slice_get written.registers k ≡ Some r → IsDelay written r
+  pub delays : (k : ℕ) (r : RegisterCell ℕ ℕ) → length read.registers ≤ k → slice_get written.registers k ≡ Some r →
+      IsDelay written r

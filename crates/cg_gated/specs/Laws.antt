@@ -13,7 +13,8 @@ use Rattle.cg_gated.specs.Gated.{Behaves, CanGate, Gating, gated_by, own_wave, p
 
 -- the plan's machine is a machine, and the library has what inserting it asks for
 abbrev pub PlannedCanInsert : Type 0
-PlannedCanInsert = (by : Gating) (c : Circuit) → CanGate by c → IsMachine (planned by c) × CanInsert by.library by.test (planned by c)
+PlannedCanInsert = (by : Gating) (c : Circuit) → CanGate by c →
+    IsMachine (planned by c) × CanInsert by.library by.test (planned by c)
 
 -- the gated netlist is well formed, and its nets are in net order
 abbrev pub GatedIsFormed : Type 0

@@ -1,6 +1,7 @@
 //! What is proved of gated netlists.
 
-ghost use Rattle.cg_gated.specs.Laws.{GatedBehaves, GatedIsFormed, GatedKeeps, GatedShowsSame, PlannedCanInsert, PlannedKeeps, PlannedNames};
+ghost use Rattle.cg_gated.specs.Laws.{GatedBehaves, GatedIsFormed, GatedKeeps, GatedShowsSame, PlannedCanInsert, PlannedKeeps};
+ghost use Rattle.cg_gated.specs.Laws.{PlannedNames};
 
 /// The laws of gated netlists: the gated netlist is well formed, and from every start with 1 in the delay registers and over
 /// every waveform, whatever an added test input does, its lawful history has at every moment the outputs of the original's. Data

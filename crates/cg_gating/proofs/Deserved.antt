@@ -1,5 +1,6 @@
 -- The stage of a turn is inserted exactly where it is worth it: a turn has an outcome, so no limit was passed at it.
-use Rattle.std.proofs.Common.{◌≡◌, ◌↔◌, ◌+◌, ◌<◌, ◌≤◌, ℕ, suc, Bool, true, false, if◌then◌else◌, List, [], ◌∷◌, ◌++◌, map, length, nat_lt, slice_get, slice_index_or, Option, None, Some, refl, sym, ◌∙◌, ap, arith}
+use Rattle.std.proofs.Common.{◌≡◌, ◌↔◌, ◌+◌, ◌<◌, ◌≤◌, ℕ, suc, Bool, true, false, if◌then◌else◌, List, [], ◌∷◌, ◌++◌, map, length}
+use Rattle.std.proofs.Common.{nat_lt, slice_get, slice_index_or, Option, None, Some, refl, sym, ◌∙◌, ap, arith}
 use Rattle.std.specs.List.{All}
 use Rattle.std.proofs.lemmas.Bool.{both_ways, false_from_ne_true, le-ltb}
 use Rattle.std.proofs.lemmas.List.Elements.{All-append, All-cons, All-filter, All-head, All-map, All-nil, All-tail}
@@ -11,7 +12,8 @@ use Rattle.cg_claim.specs.Reach.{registers_of}
 use Rattle.cg_claim.specs.Targets.{all_targets, meets, output_targets, unseen_targets}
 use Rattle.cg_claim.specs.Violates.{violates}
 use Rattle.cg_claim.specs.declared.name.ClaimName.{ClaimName}
-use Rattle.cg_claim.specs.declared.name.ClaimName.TheVariants.{Enable, Hold as HoldName, Next as NextName, Output, Stable as StableName}
+use Rattle.cg_claim.specs.declared.name.ClaimName.TheVariants.{Enable, Hold as HoldName, Next as NextName, Output}
+use Rattle.cg_claim.specs.declared.name.ClaimName.TheVariants.{Stable as StableName}
 use Rattle.cg_claim.proofs.ClaimsHold.{hold_never, idle_some, stable_never, unseen_never}
 use Rattle.cg_claim.proofs.Tried.{is_never_says}
 use Rattle.cg_limit.specs.declared.Limit.{Limit}
@@ -28,7 +30,8 @@ use Rattle.cg_netlist.proofs.Members.{All-from_members}
 use Rattle.cg_plan.specs.Laws.{IsInsertable, IsTurn}
 use Rattle.cg_plan.specs.Plan.{Turn}
 use Rattle.cg_plan.specs.StageClaims.{NamedClaim, all_claims, claims_by, claims_of, target_claim}
-use Rattle.cg_plan.specs.Trying.{Ends, Passes, Tried, decided, first_false, measured, tried, unless_false, unless_missing, unless_passed}
+use Rattle.cg_plan.specs.Trying.{Ends, Passes, Tried, decided, first_false, measured, tried, unless_false, unless_missing}
+use Rattle.cg_plan.specs.Trying.{unless_passed}
 use Rattle.cg_plan.specs.declared.outcome.Outcome.{Outcome}
 use Rattle.cg_plan.specs.declared.outcome.Outcome.TheVariants.{Inserted, NeverIdle, Small, Wide}
 use Rattle.cg_plan.specs.declared.settings.Settings.{Settings}

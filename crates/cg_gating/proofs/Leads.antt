@@ -8,7 +8,8 @@ use Rattle.cg_machine.specs.Machine.{MachineData}
 use Rattle.cg_machine.specs.declared.stage.Stage.{Stage}
 use Rattle.cg_machine.specs.declared.stage.StageKind.{StageKind}
 use Rattle.cg_machine.specs.declared.stage.StageKind.TheVariants.{Stable, Unseen}
-use Rattle.cg_plan.specs.Plan.{Plan, Turn, after_outcome, after_try, begin, list_by, plan_of, rounds, try_all, try_one, unless_stopped}
+use Rattle.cg_plan.specs.Plan.{Plan, Turn, after_outcome, after_try, begin, list_by, plan_of, rounds, try_all, try_one}
+use Rattle.cg_plan.specs.Plan.{unless_stopped}
 use Rattle.cg_plan.specs.Trying.{Ends, Passes, Tried, tried}
 use Rattle.cg_plan.specs.declared.settings.Settings.{Settings}
 use Rattle.cg_gating.specs.Turns.{Lead}

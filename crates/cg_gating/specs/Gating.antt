@@ -16,7 +16,8 @@ use Rattle.cg_gating.specs.Played.{AreEdges, IsWhatPlayed, Saying}
 use Rattle.cg_gating.specs.Request.{RequestData, gating_of}
 use Rattle.cg_gating.specs.declared.texts.Texts.{Texts}
 
--- a plan as it is told, whose certificates keep to the bounds of their formats, and the netlist that its machine is written as. Free are the bits that are told of a refuted claim and
+-- a plan as it is told, whose certificates keep to the bounds of their formats, and the netlist that its machine is written as.
+-- Free are the bits that are told of a refuted claim and
 -- the logs of the certificates, as far as their definitions leave them open.
 pub record IsWritten (by : Gating) (c : Circuit) (told : ToldPlan) (written : Circuit) : Type 0 where
   pub plan : IsPlan by.library by.settings by.idle (lifted c by.prefix) told

@@ -1,5 +1,6 @@
 -- What gating a netlist means: the written netlist shows what the one that was read shows, from every state and for all time.
-use Rattle.std.specs.Prelude.{◌≡◌, ◌↔◌, ℕ, ◌+◌, Bool, true, List, [], ◌∷◌, ◌++◌, map, length, replicate, slice_get, Option, None, Some}
+use Rattle.std.specs.Prelude.{◌≡◌, ◌↔◌, ℕ, ◌+◌, Bool, true, List, [], ◌∷◌, ◌++◌, map, length, replicate, slice_get, Option, None}
+use Rattle.std.specs.Prelude.{Some}
 use Rattle.std.specs.Option.{option_to_list}
 use Rattle.cg_blif_text.specs.BlifText.{BlifText}
 use Rattle.cg_blif_text.specs.Canonical.{blif}
@@ -73,22 +74,28 @@ pub record Headline (request : RequestData) (says : Option Saying) (read : Circu
   -- from every state of the original's registers, with 1 in the delay registers, and over every waveform that begins with the
   -- clock low, whatever the test input does, it shows what the original shows
   pub plan : ToldPlan
-  pub shows : (start : List Bool) (wave : List Tick) (bits : List Bool) → IsStart read start → IsWaveform read wave → length bits ≡ length wave
+  pub shows : (start : List Bool) (wave : List Tick) (bits : List Bool) → IsStart read start → IsWaveform read wave →
+      length bits ≡ length wave
       → ShowsSame plan.machine read written start (replicate delays true) wave (with_bits request.test wave bits)
   -- it is what the plan's machine is written as; the plan came to its end, its stages lead there from the machine of the original,
   -- to whose enables the original's gating cells are lifted, and each is inserted exactly where it is worth it on the machine of
   -- its turn
   pub is : written ≡ inserted request.library request.test plan.machine
   pub turns : List Turn
-  pub planned : turns ≡ (plan_of request.library request.settings (idle_of read request.prefix request.stimulus) (lifted read request.prefix)).turns
-  pub whole : (plan_of request.library request.settings (idle_of read request.prefix request.stimulus) (lifted read request.prefix)).limit ≡ None
+  pub planned : turns
+      ≡ (plan_of request.library request.settings (idle_of read request.prefix request.stimulus) (lifted read request.prefix)).turns
+  pub whole :
+      (plan_of request.library request.settings (idle_of read request.prefix request.stimulus) (lifted read request.prefix)).limit
+      ≡ None
   pub lead : Lead turns (lifted read request.prefix) plan.machine
-  pub deserved : (k : ℕ) (turn : Turn) → slice_get turns k ≡ Some turn → (turn.outcome ≡ Inserted) ↔ IsWorthInserting request.library request.settings turn.machine turn.stage
+  pub deserved : (k : ℕ) (turn : Turn) → slice_get turns k ≡ Some turn →
+      (turn.outcome ≡ Inserted) ↔ IsWorthInserting request.library request.settings turn.machine turn.stage
   -- literals are ranked by how often their nets are 0 in the history on which the stimulus is played on the original; a net that
   -- stands for none of the original's counts 0
   pub idle : (stimulus : Rows) → request.stimulus ≡ Some stimulus
       → (history : List Moment) × IsPlayed read stimulus.rows history
-      × ((idle_data read request.prefix stimulus).zeros ≡ map (zeros_by (λ net. zeros_of net (low_moments history))) (origins read (lifted read request.prefix)))
+      × ((idle_data read request.prefix stimulus).zeros
+      ≡ map (zeros_by (λ net. zeros_of net (low_moments history))) (origins read (lifted read request.prefix)))
   -- the stages are told with their outcomes, and bits that are told of a refuted claim violate it
   pub told : AreTold turns plan.stages
   -- and it is told of how many registers the hold claims are too wide

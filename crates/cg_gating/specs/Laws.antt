@@ -23,11 +23,16 @@ pub record IsProper (request : RequestData) : Type 0 where
 
 -- what gating gives of a netlist means what the headline says
 abbrev pub GatedMeans : Type 0
-GatedMeans = (request : RequestData) (says : Option Saying) (read : Circuit) (texts : Texts) → IsProper request → MayGate request read → GivesGated request says read texts → Headline request says read texts
+GatedMeans = (request : RequestData) (says : Option Saying) (read : Circuit) (texts : Texts) → IsProper request →
+    MayGate request read → GivesGated request says read texts → Headline request says read texts
 
 -- With a test input all registers can be loaded: in the lawful history of the written netlist, from every state and over every
 -- waveform, each register rises at each rise of the clock a moment after the test input was 1.
 abbrev pub TestInputLoads : Type 0
-TestInputLoads = (request : RequestData) (says : Option Saying) (read : Circuit) (texts : Texts) (h : Headline request says read texts) → MayGate request read → is_some request.test ≡ true
-    → (start : List Bool) (wave : List Tick) (bits : List Bool) (history : List Moment) → IsStart read start → IsWaveform read wave → length bits ≡ length wave
-    → IsLawful h.written (start ++ replicate h.delays true) (with_bits request.test wave bits) history → LoadsWhere h.written wave bits history
+TestInputLoads =
+    (request : RequestData) (says : Option Saying) (read : Circuit) (texts : Texts) (h : Headline request says read texts) →
+    MayGate request read → is_some request.test ≡ true
+    → (start : List Bool) (wave : List Tick) (bits : List Bool) (history : List Moment) → IsStart read start →
+    IsWaveform read wave → length bits ≡ length wave
+    → IsLawful h.written (start ++ replicate h.delays true) (with_bits request.test wave bits) history →
+    LoadsWhere h.written wave bits history

@@ -54,7 +54,8 @@ gating_of request c = record {
 
 -- the limit at which the plan stops, or else the limit that the written netlist would pass
 abbrev pub stops_by : Gating → Circuit → Option Limit
-stops_by by c = option_or (plan_of by.library by.settings by.idle (lifted c by.prefix)).limit (insertion_limit by.test (planned by c))
+stops_by by c =
+    option_or (plan_of by.library by.settings by.idle (lifted c by.prefix)).limit (insertion_limit by.test (planned by c))
 
 abbrev pub stops_at : RequestData → Circuit → Option Limit
 stops_at request c = stops_by (gating_of request c) c

@@ -5,7 +5,9 @@ use Rattle.cg_aig.proofs.RunsFit.{aig_growing}
 use Rattle.cg_aig.specs.Aig.{aig_ops}
 use Rattle.cg_cell.proofs.RunsGrow.{Grows, grows_term}
 use Rattle.cg_claim.proofs.WholeLists.{goal_grows, state_grows}
-use Rattle.cg_claim.specs.Build.{Table, after_state_table, after_table, aig_values, before_table, cell_run, changed_state, claim_run, copies, function_term, lay, lay_states, leaf_list, leaf_value, put_run, reached_cells, start_nets, state_run}
+use Rattle.cg_claim.specs.Build.{Table, after_state_table, after_table, aig_values, before_table, cell_run, changed_state}
+use Rattle.cg_claim.specs.Build.{claim_run, copies, function_term, lay, lay_states, leaf_list, leaf_value, put_run, reached_cells}
+use Rattle.cg_claim.specs.Build.{start_nets, state_run}
 use Rattle.cg_claim.specs.Leaves.{leaves_of, width_of}
 use Rattle.cg_claim.specs.Question.{After, Before, Question}
 use Rattle.cg_claim.specs.Reach.{after_nets, after_states, before_nets, changed_nets, registers_of}

@@ -1,6 +1,7 @@
 -- The hold claims of one register are lists that differ by one and-node at most, whatever the literal of the cone: all but the
 -- last `and` of the goal is built alike.
-use Rattle.std.proofs.Common.{◌≡◌, ℕ, ◌+◌, ◌<◌, ◌≤◌, Bool, true, false, cond, List, [], ◌∷◌, ◌++◌, length, length-append, nat_eq, nat_lt, Option, None, Some, refl, sym, ◌∙◌, ap, subst, arith, inl, inr}
+use Rattle.std.proofs.Common.{◌≡◌, ℕ, ◌+◌, ◌<◌, ◌≤◌, Bool, true, false, cond, List, [], ◌∷◌, ◌++◌, length, length-append, nat_eq}
+use Rattle.std.proofs.Common.{nat_lt, Option, None, Some, refl, sym, ◌∙◌, ap, subst, arith, inl, inr}
 use Rattle.std.specs.Prelude.{position}
 use Rattle.std.specs.List.{filter, flat_map}
 use Rattle.std.specs.Option.{option_to_list}
@@ -10,7 +11,9 @@ use Rattle.cg_aig.specs.Aig.{aig_and, aig_ops, and_with, in_order, inverse, pair
 use Rattle.cg_cell.specs.Build.{Run, build_xor, chain, plain}
 use Rattle.cg_cell.specs.Domain.{Seen}
 use Rattle.cg_claim.proofs.HoldWidths.{hold_leaves}
-use Rattle.cg_claim.specs.Build.{Copies, Table, aig_values, after_state_table, after_table, before_table, changed_state, changed_table, copies, goal_run, lay, lay_states, leaf_list, leaf_value, literal_of, next_run, nodes_of, put_run, reached_cells, size, start_nets, state_run}
+use Rattle.cg_claim.specs.Build.{Copies, Table, aig_values, after_state_table, after_table, before_table, changed_state}
+use Rattle.cg_claim.specs.Build.{changed_table, copies, goal_run, lay, lay_states, leaf_list, leaf_value, literal_of, next_run}
+use Rattle.cg_claim.specs.Build.{nodes_of, put_run, reached_cells, size, start_nets, state_run}
 use Rattle.cg_claim.specs.Leaves.{Leaf, leaves_of}
 use Rattle.cg_claim.specs.Question.{After, Before, Question, held_question, hold_question}
 use Rattle.cg_claim.specs.Reach.{after_states, before_nets, inputs_of_register, next_nets, origin_nets, registers_of}

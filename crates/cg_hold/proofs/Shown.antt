@@ -1,5 +1,6 @@
 -- What a cycle shows of claims.
-use Rattle.std.proofs.Common.{◌≡◌, ◌<◌, ℕ, zero, suc, Bool, true, false, not, ◌||◌, ◌&&◌, List, [], ◌∷◌, ◌++◌, length, slice_get, Option, Some, refl, sym, ◌∙◌, ap, subst}
+use Rattle.std.proofs.Common.{◌≡◌, ◌<◌, ℕ, zero, suc, Bool, true, false, not, ◌||◌, ◌&&◌, List, [], ◌∷◌, ◌++◌, length, slice_get}
+use Rattle.std.proofs.Common.{Option, Some, refl, sym, ◌∙◌, ap, subst}
 use Rattle.std.proofs.lemmas.Bool.{and_parts, both_ways, false_from_ne_true}
 use Rattle.std.proofs.lemmas.Option.{none-some, same_Some}
 use Rattle.cg_cell.specs.Gates.{exclusive_or}

@@ -1,5 +1,6 @@
 -- Gating cells and registers of the gated netlist by their numbers.
-use Rattle.std.proofs.Common.{◌≡◌, ℕ, ◌+◌, ◌<◌, List, [], ◌∷◌, length, slice_get, unwrap_or, Option, None, Some, refl, ap, sym, ◌∙◌, arith}
+use Rattle.std.proofs.Common.{◌≡◌, ℕ, ◌+◌, ◌<◌, List, [], ◌∷◌, length, slice_get, unwrap_or, Option, None, Some, refl, ap, sym, ◌∙◌}
+use Rattle.std.proofs.Common.{arith}
 use Rattle.std.specs.List.{range_with_len}
 use Rattle.std.specs.Option.{option_flatten, option_map, option_to_list}
 use Rattle.std.proofs.lemmas.Option.{slice_get_within}

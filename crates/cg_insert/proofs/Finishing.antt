@@ -1,5 +1,6 @@
 -- What finishing answers a builder that was told the gated netlist's parts.
-use Rattle.std.proofs.Common.{◌≡◌, ℕ, ◌+◌, ◌<◌, ◌≤◌, ◌^◌, if◌then◌else◌, List, length, take, Option, None, Some, Result, Ok, Err, MatchResult, refl, ap, sym, ◌∙◌, subst, inl, inr}
+use Rattle.std.proofs.Common.{◌≡◌, ℕ, ◌+◌, ◌<◌, ◌≤◌, ◌^◌, if◌then◌else◌, List, length, take, Option, None, Some, Result, Ok, Err}
+use Rattle.std.proofs.Common.{MatchResult, refl, ap, sym, ◌∙◌, subst, inl, inr}
 use Rattle.std.specs.List.{All, AllByRecursion}
 use Rattle.std.proofs.lemmas.Bool.{le-leb}
 use Rattle.cg_limit.specs.declared.TheConstants.{MOST_NETS}

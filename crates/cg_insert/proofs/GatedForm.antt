@@ -1,8 +1,11 @@
 -- The gated netlist is well formed.
-use Rattle.std.proofs.Common.{◌≡◌, ◌≢◌, ◌⊎◌, ℕ, zero, suc, ◌+◌, ◌-◌, ◌<◌, ◌≤◌, Bool, true, false, not, cond, IsTrue, List, [], ◌∷◌, ◌++◌, map, length, slice_get, get_or, take, Option, None, Some, nat_eq, refl, ap, sym, ◌∙◌, subst, inl, inr, arith}
+use Rattle.std.proofs.Common.{◌≡◌, ◌≢◌, ◌⊎◌, ℕ, zero, suc, ◌+◌, ◌-◌, ◌<◌, ◌≤◌, Bool, true, false, not, cond, IsTrue, List, [], ◌∷◌}
+use Rattle.std.proofs.Common.{◌++◌, map, length, slice_get, get_or, take, Option, None, Some, nat_eq, refl, ap, sym, ◌∙◌, subst}
+use Rattle.std.proofs.Common.{inl, inr, arith}
 use Rattle.std.specs.List.{All, AllPairs, IsDistinct, count_by, find, flat_map, list_any, range_with_len, slice_index}
 use Rattle.std.specs.Option.{option_flatten, option_map, option_map_or, option_to_list}
-use Rattle.std.proofs.lemmas.Bool.{both_ways, cases_Bool, cases_lt, false_from_ne_true, eqb-true, eq-eqb, or_cases, or_left, or_right}
+use Rattle.std.proofs.lemmas.Bool.{both_ways, cases_Bool, cases_lt, false_from_ne_true, eqb-true, eq-eqb, or_cases, or_left}
+use Rattle.std.proofs.lemmas.Bool.{or_right}
 use Rattle.std.proofs.lemmas.Fmt.{decimal_injective}
 use Rattle.std.proofs.lemmas.List.{append_cancel_left, get_or-append_right, get_or_append_left, length-append, length-map}
 use Rattle.std.proofs.lemmas.List.Elements.{All-append, All-cons, All-head, All-map, All-nil, All-tail}
@@ -13,18 +16,23 @@ use Rattle.cg_cell.specs.Fit.{is_fit, is_gater}
 use Rattle.cg_cell.specs.Name.{is_name}
 use Rattle.cg_cell.specs.Pins.{is_test}
 use Rattle.cg_cell.specs.declared.cell.CellKind.TheVariants.{Gater as GaterKind}
-use Rattle.cg_netlist.specs.Circuit.{Circuit, GatingCell, LogicCell, RegisterCell, asked_nets, is_in, cell_nets, clock_nets, data_inputs, drivers, gate_nets, given_nets, register_nets, used_nets}
+use Rattle.cg_netlist.specs.Circuit.{Circuit, GatingCell, LogicCell, RegisterCell, asked_nets, is_in, cell_nets, clock_nets}
+use Rattle.cg_netlist.specs.Circuit.{data_inputs, drivers, gate_nets, given_nets, register_nets, used_nets}
 use Rattle.cg_netlist.specs.Moment.{zip_with}
 use Rattle.cg_netlist.specs.WellFormed.{AreRanks, IsDriven, IsOver, IsWellFormed, RegisterFits}
 use Rattle.cg_netlist.specs.declared.parts.LogicFunction.TheVariants.{Cell}
 use Rattle.cg_netlist.proofs.Driven.{distinct_range, in_range, is_in-range}
-use Rattle.cg_netlist.proofs.Given.{clock_given, data_given, distinct_cells, distinct_given, driver_within, from_option, given_driver, given_no_cell, in_option, kind_of, register_given, Data, Clock, Gate, Shown}
-use Rattle.cg_netlist.proofs.Members.{All-from_members, distinct_append, distinct_apart, distinct_left, distinct_right, is_in_cases, is_in_left, is_in_right}
+use Rattle.cg_netlist.proofs.Given.{clock_given, data_given, distinct_cells, distinct_given, driver_within, from_option}
+use Rattle.cg_netlist.proofs.Given.{given_driver, given_no_cell, in_option, kind_of, register_given, Data, Clock, Gate, Shown}
+use Rattle.cg_netlist.proofs.Members.{All-from_members, distinct_append, distinct_apart, distinct_left, distinct_right, is_in_cases}
+use Rattle.cg_netlist.proofs.Members.{is_in_left, is_in_right}
 use Rattle.cg_netlist.proofs.OrderLemmas.{length-range_with_len}
 use Rattle.cg_netlist.proofs.Values.{element_at}
 use Rattle.cg_insert.proofs.GatedMoments.{clock_is, data_is, names_count, register_clock, used_below}
-use Rattle.cg_insert.proofs.GatedParts.{few_names, at_All, cell_stands, enable_from, enable_placed, found_passes, gater_at, gaters_count, gates_are, is_true, shown_is}
-use Rattle.cg_insert.specs.Insert.{CanInsert, clock_under, enables_of, first_gate, fitting, gate_names, gate_outputs, gated, gater_cell, gating_cell, gating_kind, no_cell, placed_gate, reclocked, test_net}
+use Rattle.cg_insert.proofs.GatedParts.{few_names, at_All, cell_stands, enable_from, enable_placed, found_passes, gater_at}
+use Rattle.cg_insert.proofs.GatedParts.{gaters_count, gates_are, is_true, shown_is}
+use Rattle.cg_insert.specs.Insert.{CanInsert, clock_under, enables_of, first_gate, fitting, gate_names, gate_outputs, gated}
+use Rattle.cg_insert.specs.Insert.{gater_cell, gating_cell, gating_kind, no_cell, placed_gate, reclocked, test_net}
 use Rattle.cg_machine.proofs.AddedNames.{name_added}
 use Rattle.cg_machine.specs.Gates.{AddedGate, HasInputs, gate_cell}
 use Rattle.cg_machine.specs.Machine.{IsMachine, MachineData, added_name, additions}

@@ -1,22 +1,29 @@
 -- A moment of the gated netlist tells what the machine's nets are, and which registers rise.
-use Rattle.std.proofs.Common.{◌≡◌, ℕ, zero, suc, ◌+◌, ◌-◌, ◌<◌, ◌≤◌, ◌⊎◌, Bool, true, false, not, ◌||◌, ◌&&◌, if◌then◌else◌, List, [], ◌∷◌, ◌++◌, map, length, slice_get, take, drop, Option, None, Some, refl, ap, sym, ◌∙◌, subst, inl, inr, arith, get_or}
+use Rattle.std.proofs.Common.{◌≡◌, ℕ, zero, suc, ◌+◌, ◌-◌, ◌<◌, ◌≤◌, ◌⊎◌, Bool, true, false, not, ◌||◌, ◌&&◌, if◌then◌else◌, List}
+use Rattle.std.proofs.Common.{[], ◌∷◌, ◌++◌, map, length, slice_get, take, drop, Option, None, Some, refl, ap, sym, ◌∙◌, subst, inl}
+use Rattle.std.proofs.Common.{inr, arith, get_or}
 use Rattle.std.specs.List.{All, filter, list_any, range_with_len}
 use Rattle.std.specs.Option.{option_to_list, option_flatten}
 use Rattle.std.proofs.lemmas.Bool.{both_ways, false_from_ne_true}
-use Rattle.std.proofs.lemmas.List.{length-append, length-map, length-take, length-take-le, length-replicate, take-append-drop, length-drop, get_or-append_right}
+use Rattle.std.proofs.lemmas.List.{length-append, length-map, length-take, length-take-le, length-replicate, take-append-drop}
+use Rattle.std.proofs.lemmas.List.{length-drop, get_or-append_right}
 use Rattle.std.proofs.lemmas.List.Elements.{filter-append}
 use Rattle.std.proofs.lemmas.Option.{slice_get_within, slice_get_past, get_or_from_slice_get, slice_get-get_or}
 use Rattle.cg_cell.specs.Cell.{CellData}
-use Rattle.cg_netlist.specs.Circuit.{Circuit, GatingCell, LogicCell, RegisterCell, asked_nets, is_in, cell_nets, clock_nets, data_inputs, gate_nets, given_nets, register_nets, used_nets}
+use Rattle.cg_netlist.specs.Circuit.{Circuit, GatingCell, LogicCell, RegisterCell, asked_nets, is_in, cell_nets, clock_nets}
+use Rattle.cg_netlist.specs.Circuit.{data_inputs, gate_nets, given_nets, register_nets, used_nets}
 use Rattle.cg_netlist.specs.History.{Moment, MomentFollows, Tick, gate_bit, latches_before, next_latch, rises}
 use Rattle.cg_netlist.specs.Moment.{Settles, bit, function_value, values_at}
 use Rattle.cg_netlist.proofs.Given.{clock_given, data_given, driver_within, given_driver, in_option, register_given}
 use Rattle.cg_netlist.proofs.Members.{All-from_members, All-member, is_in_cases, is_in_left, is_in_right, member_at}
 use Rattle.cg_netlist.proofs.OrderLemmas.{length-range_with_len}
-use Rattle.cg_netlist.proofs.Values.{bit_shown, element_at, length-values_at, length-zip_with, same_values, split_lists, value_at, values_at-append, zip_with_at}
+use Rattle.cg_netlist.proofs.Values.{bit_shown, element_at, length-values_at, length-zip_with, same_values, split_lists, value_at}
+use Rattle.cg_netlist.proofs.Values.{values_at-append, zip_with_at}
 use Rattle.cg_netlist.proofs.Driven.{in_range}
-use Rattle.cg_insert.proofs.GatedParts.{bits_is, cell_stands, enable_from, enable_in, enable_placed, gater_at, gaters_count, gates_are, register_at, registers_count, shown_is}
-use Rattle.cg_insert.specs.Insert.{CanInsert, enables_of, first_gate, gate_names, gate_outputs, gated, gating_cell, own_tick, reclocked, test_net}
+use Rattle.cg_insert.proofs.GatedParts.{bits_is, cell_stands, enable_from, enable_in, enable_placed, gater_at, gaters_count}
+use Rattle.cg_insert.proofs.GatedParts.{gates_are, register_at, registers_count, shown_is}
+use Rattle.cg_insert.specs.Insert.{CanInsert, enables_of, first_gate, gate_names, gate_outputs, gated, gating_cell, own_tick}
+use Rattle.cg_insert.specs.Insert.{reclocked, test_net}
 use Rattle.cg_machine.specs.Machine.{IsMachine, MachineData, additions, enable_of, load}
 use Rattle.cg_netlist.specs.Ordered.{place_in}
 

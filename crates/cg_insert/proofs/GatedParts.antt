@@ -1,5 +1,7 @@
 -- The parts of the gated netlist, in the machine's own order, beside those of the machine.
-use Rattle.std.proofs.Common.{◌≡◌, ℕ, zero, suc, ◌+◌, ◌^◌, ◌<◌, ◌≤◌, ◌⊎◌, Bool, true, false, not, cond, ◌&&◌, if◌then◌else◌, List, [], ◌∷◌, ◌++◌, map, length, slice_get, take, Option, None, Some, nat_eq, refl, ap, sym, ◌∙◌, subst, length-append, inl, inr, arith}
+use Rattle.std.proofs.Common.{◌≡◌, ℕ, zero, suc, ◌+◌, ◌^◌, ◌<◌, ◌≤◌, ◌⊎◌, Bool, true, false, not, cond, ◌&&◌, if◌then◌else◌, List}
+use Rattle.std.proofs.Common.{[], ◌∷◌, ◌++◌, map, length, slice_get, take, Option, None, Some, nat_eq, refl, ap, sym, ◌∙◌, subst}
+use Rattle.std.proofs.Common.{length-append, inl, inr, arith}
 use Rattle.std.specs.List.{All, filter, filter_map, find, flat_map, range_with_len, cons_option}
 use Rattle.std.specs.Option.{option_to_list, option_flatten}
 use Rattle.std.proofs.lemmas.Bool.{both_ways, cases_Bool, eqb-true, or_cases, or_left, or_right, eq-eqb}
@@ -12,7 +14,8 @@ use Rattle.cg_cell.specs.Term.{Term}
 use Rattle.cg_cell.specs.declared.fit.FitKind.{FitKind}
 use Rattle.cg_cell.specs.declared.fit.FitKind.TheVariants.{Inv, And2, Or2}
 use Rattle.cg_netlist.specs.Circuit.{Circuit, GatingCell, LogicCell, RegisterCell, is_in, data_inputs, register_nets, shown_nets}
-use Rattle.cg_insert.specs.Insert.{CanInsert, collect, enables_of, first_gate, fitting, gate_outputs, gated, gating_cell, placed_gate, reclocked, test_net, with_net}
+use Rattle.cg_insert.specs.Insert.{CanInsert, collect, enables_of, first_gate, fitting, gate_outputs, gated, gating_cell}
+use Rattle.cg_insert.specs.Insert.{placed_gate, reclocked, test_net, with_net}
 use Rattle.cg_machine.specs.Gates.{AddedGate, HasInputs, gate_cell, gate_cover}
 use Rattle.cg_machine.specs.Machine.{IsMachine, MachineData, additions, enable_of}
 use Rattle.cg_netlist.specs.Ordered.{place_in}

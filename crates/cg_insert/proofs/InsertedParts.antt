@@ -1,5 +1,7 @@
 -- The inserted netlist is what the parts of the gated netlist say, and a builder may be told them.
-use Rattle.std.proofs.Common.{◌≡◌, ◌≢◌, ℕ, zero, suc, ◌+◌, ◌<◌, ◌≤◌, ◌^◌, Bool, true, false, if◌then◌else◌, IsTrue, List, [], ◌∷◌, ◌++◌, map, length, take, slice_get, unwrap_or, Option, None, Some, nat_eq, nat_le, refl, ap, sym, ◌∙◌, subst, inl, inr, arith, append_assoc}
+use Rattle.std.proofs.Common.{◌≡◌, ◌≢◌, ℕ, zero, suc, ◌+◌, ◌<◌, ◌≤◌, ◌^◌, Bool, true, false, if◌then◌else◌, IsTrue, List, [], ◌∷◌}
+use Rattle.std.proofs.Common.{◌++◌, map, length, take, slice_get, unwrap_or, Option, None, Some, nat_eq, nat_le, refl, ap, sym, ◌∙◌}
+use Rattle.std.proofs.Common.{subst, inl, inr, arith, append_assoc}
 use Rattle.std.specs.List.{All, AllByRecursion, IsDistinct}
 use Rattle.std.specs.Option.{option_map, option_to_list}
 use Rattle.std.proofs.lemmas.Bool.{both_ways, cases_Bool, eq-eqb, false_from_ne_true, leb-true, or_left, or_right}
@@ -40,7 +42,8 @@ use Rattle.cg_insert.proofs.Inserted.{insertion_is_formed}
 use Rattle.cg_insert.proofs.OrderedNames.{named_ordered}
 use Rattle.cg_insert.proofs.ToldParts.{with_parts_more, within_limit}
 use Rattle.cg_insert.specs.Insert.{CanInsert, enables_of, first_gate, gated, inserted, insertion_limit, placed_gate, test_net}
-use Rattle.cg_insert.specs.inner.GatedParts.{clock_parts, clocked_parts, gated_gaters, gated_names, gated_parts, gated_registers, gater_parts, cell_parts, input_parts, output_parts}
+use Rattle.cg_insert.specs.inner.GatedParts.{clock_parts, clocked_parts, gated_gaters, gated_names, gated_parts, gated_registers}
+use Rattle.cg_insert.specs.inner.GatedParts.{gater_parts, cell_parts, input_parts, output_parts}
 use Rattle.cg_insert.specs.inner.Telling.{MayTell, told, with_parts}
 
 -- parts are said one after another

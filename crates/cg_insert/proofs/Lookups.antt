@@ -1,5 +1,6 @@
 -- What is found in a list, by a test or by its place.
-use Rattle.std.proofs.Common.{◌≡◌, ℕ, suc, ◌+◌, ◌<◌, ◌≤◌, Bool, true, false, cond, List, [], ◌∷◌, ◌++◌, map, length, slice_get, take, Option, None, Some, nat_eq, nat_le, nat_lt, refl, ap, sym, ◌∙◌, arith, append_assoc}
+use Rattle.std.proofs.Common.{◌≡◌, ℕ, suc, ◌+◌, ◌<◌, ◌≤◌, Bool, true, false, cond, List, [], ◌∷◌, ◌++◌, map, length, slice_get}
+use Rattle.std.proofs.Common.{take, Option, None, Some, nat_eq, nat_le, nat_lt, refl, ap, sym, ◌∙◌, arith, append_assoc}
 use Rattle.std.specs.List.{cons_option, filter_map, find, position, position_or_len, range_with_len}
 use Rattle.std.proofs.lemmas.Bool.{lt-ltb}
 use Rattle.std.proofs.lemmas.List.{append-nil, map-append}

@@ -1,5 +1,6 @@
 -- By names, a netlist in net order is wired as before.
-use Rattle.std.proofs.Common.{◌≡◌, ℕ, zero, suc, ◌+◌, ◌<◌, ◌≤◌, Bool, true, false, not, cond, List, [], ◌∷◌, ◌++◌, map, length, slice_get, unwrap_or, Option, None, Some, nat_eq, refl, ap, sym, ◌∙◌, inl, inr, arith}
+use Rattle.std.proofs.Common.{◌≡◌, ℕ, zero, suc, ◌+◌, ◌<◌, ◌≤◌, Bool, true, false, not, cond, List, [], ◌∷◌, ◌++◌, map, length}
+use Rattle.std.proofs.Common.{slice_get, unwrap_or, Option, None, Some, nat_eq, refl, ap, sym, ◌∙◌, inl, inr, arith}
 use Rattle.std.specs.List.{AllByRecursion, IsDistinct}
 use Rattle.std.specs.Option.{option_map, option_to_list}
 use Rattle.std.proofs.lemmas.Bool.{cases_Bool, eqb-true}
@@ -12,7 +13,8 @@ use Rattle.cg_netlist.proofs.OrderedForm.{placed}
 use Rattle.cg_parts.proofs.Kept.{CellNets, GaterNets, RegisterNets, WiringNets}
 use Rattle.cg_parts.proofs.SaidByItsParts.{same_wiring}
 use Rattle.cg_parts.proofs.ToldByNames.{wiring_within}
-use Rattle.cg_netlist.specs.Wiring.{NetName, Wiring, map_cell, map_gater, map_outputs, map_register, map_wiring, named, net_name, wiring}
+use Rattle.cg_netlist.specs.Wiring.{NetName, Wiring, map_cell, map_gater, map_outputs, map_register, map_wiring, named, net_name}
+use Rattle.cg_netlist.specs.Wiring.{wiring}
 
 -- parts with other nets twice, where the nets in between are such
 module _ {N M K : Type 0} (f : N → M) (h : M → K) (k : N → K) (P : M → Type 0) (same : (x : N) → P (f x) → h (f x) ≡ k x) where

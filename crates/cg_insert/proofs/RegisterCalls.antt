@@ -1,5 +1,6 @@
 -- The call that says a register says it: the place of an output's pin tells whether it shows the inverse.
-use Rattle.std.proofs.Common.{◌≡◌, ℕ, ◌+◌, Bool, true, false, if◌then◌else◌, Bor, List, [], ◌∷◌, ◌++◌, map, length, take, slice_get, Option, None, Some, refl, ap, sym, ◌∙◌, subst, arith}
+use Rattle.std.proofs.Common.{◌≡◌, ℕ, ◌+◌, Bool, true, false, if◌then◌else◌, Bor, List, [], ◌∷◌, ◌++◌, map, length, take, slice_get}
+use Rattle.std.proofs.Common.{Option, None, Some, refl, ap, sym, ◌∙◌, subst, arith}
 use Rattle.std.specs.List.{AllZip}
 use Rattle.std.specs.Option.{option_map_or}
 use Rattle.std.proofs.lemmas.List.{map-append}

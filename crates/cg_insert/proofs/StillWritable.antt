@@ -1,5 +1,7 @@
 -- The inserted netlist is writable where the machine's own netlist is.
-use Rattle.std.proofs.Common.{◌≡◌, ◌≢◌, ℕ, zero, suc, ◌+◌, ◌-◌, ◌<◌, ◌≤◌, ◌^◌, Bool, true, false, List, [], ◌∷◌, ◌++◌, map, length, take, slice_get, unwrap_or, codes, Option, None, Some, nat_eq, refl, ap, sym, ◌∙◌, subst, inl, inr, arith, length-append}
+use Rattle.std.proofs.Common.{◌≡◌, ◌≢◌, ℕ, zero, suc, ◌+◌, ◌-◌, ◌<◌, ◌≤◌, ◌^◌, Bool, true, false, List, [], ◌∷◌, ◌++◌, map, length}
+use Rattle.std.proofs.Common.{take, slice_get, unwrap_or, codes, Option, None, Some, nat_eq, refl, ap, sym, ◌∙◌, subst, inl, inr}
+use Rattle.std.proofs.Common.{arith, length-append}
 use Rattle.std.specs.List.{All, AllByRecursion, IsDistinct, find, range_with_len}
 use Rattle.std.specs.Option.{option_map, option_to_list}
 use Rattle.std.proofs.lemmas.Bool.{both_ways}
@@ -31,7 +33,8 @@ use Rattle.cg_insert.proofs.GatedCells.{found_All}
 use Rattle.cg_insert.proofs.GatedForm.{gated_formed, inputs_once}
 use Rattle.cg_insert.proofs.GatedParts.{at_All, few_names, gates_are}
 use Rattle.cg_insert.proofs.OrderedNames.{named_at}
-use Rattle.cg_insert.specs.Insert.{CanInsert, enables_of, first_gate, fitting, gate_names, gate_outputs, gated, gater_cell, gating_cell, gating_kind, inserted, no_cell, placed_gate, reclocked}
+use Rattle.cg_insert.specs.Insert.{CanInsert, enables_of, first_gate, fitting, gate_names, gate_outputs, gated, gater_cell}
+use Rattle.cg_insert.specs.Insert.{gating_cell, gating_kind, inserted, no_cell, placed_gate, reclocked}
 
 -- what holds of each place holds of each
 each_place : {X : Type 0} (P : X → Type 0) (xs : List X) → ((k : ℕ) (x : X) → slice_get xs k ≡ Some x → P x) → AllByRecursion P xs

@@ -9,7 +9,8 @@ use Rattle.cg_parts.specs.Part.{Part}
 use Rattle.cg_netlist.specs.Wiring.{NetName}
 use Rattle.cg_insert.proofs.ToldParts.{call_may, call_told, may_front}
 use Rattle.cg_insert.specs.Insert.{placed_gate, test_net}
-use Rattle.cg_insert.specs.inner.GatedParts.{cell_parts, clock_parts, clocked_parts, gated_gaters, gated_parts, gated_registers, gater_parts, input_parts, output_parts}
+use Rattle.cg_insert.specs.inner.GatedParts.{cell_parts, clock_parts, clocked_parts, gated_gaters, gated_parts, gated_registers}
+use Rattle.cg_insert.specs.inner.GatedParts.{gater_parts, input_parts, output_parts}
 use Rattle.cg_insert.specs.inner.Telling.{MayTell, told}
 
 module _ (names : List NetName) (library : List CellData) (test : Option (List ℕ)) (m : MachineData) where

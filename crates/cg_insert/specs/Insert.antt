@@ -1,5 +1,6 @@
 -- The netlist that a machine's enables make: a gating cell for each, whose output is the clock of its registers.
-use Rattle.std.specs.Prelude.{◌≡◌, ◌≢◌, ℕ, ◌+◌, Bool, false, if◌then◌else◌, List, [], ◌∷◌, ◌++◌, map, length, nat_le, take, slice_index_or, unwrap_or, IsTrue, Option, Some, None}
+use Rattle.std.specs.Prelude.{◌≡◌, ◌≢◌, ℕ, ◌+◌, Bool, false, if◌then◌else◌, List, [], ◌∷◌, ◌++◌, map, length, nat_le, take}
+use Rattle.std.specs.Prelude.{slice_index_or, unwrap_or, IsTrue, Option, Some, None}
 use Rattle.std.specs.List.{All, filter_map, find, range_with_len}
 use Rattle.std.specs.Option.{option_map, option_to_list}
 use Rattle.cg_cell.specs.Cell.{CellData, IsCell}
@@ -60,7 +61,13 @@ placed_gate library gate = record { inputs = gate.inputs; output = gate.output; 
 
 abbrev pub gating_cell : List CellData → Option (List ℕ) → MachineData → ℕ → ℕ → GatingCell ℕ
 gating_cell library test m enable output =
-    record { clock = unwrap_or m.circuit.clock 0; enable = enable; test = test_net m test; output = output; cell = gater_cell library test }
+    record {
+      clock = unwrap_or m.circuit.clock 0;
+      enable = enable;
+      test = test_net m test;
+      output = output;
+      cell = gater_cell library test;
+    }
 
 -- a register with an enable is clocked by the gating cell of that enable
 abbrev pub clock_under : Option (List ℕ) → MachineData → RegisterCell ℕ ℕ → Option ℕ → ℕ
@@ -107,4 +114,10 @@ pub record CanInsert (library : List CellData) (test : Option (List ℕ)) (m : M
 
 -- a moment of the gated netlist as one of the machine: its inputs without the test input, and that one's bit
 abbrev pub own_tick : MachineData → Tick → Tick × Bool
-own_tick m tick = (record { clock = tick.clock; inputs = take (length (data_inputs m.circuit)) tick.inputs }, slice_index_or tick.inputs (length (data_inputs m.circuit)) false)
+own_tick m tick = (
+  record {
+    clock = tick.clock;
+    inputs = take (length (data_inputs m.circuit)) tick.inputs;
+  },
+  slice_index_or tick.inputs (length (data_inputs m.circuit)) false,
+)

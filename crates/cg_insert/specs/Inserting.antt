@@ -29,7 +29,8 @@ pub record IsWhole (c : Circuit) : Type 0 where
 
 -- each lawful history of it is the machine's run, or its test run over the bits of the test input, from the same start
 abbrev pub RunsAs : List CellData → Option (List ℕ) → MachineData → Circuit → Type 0
-RunsAs library test m c = (start : List Bool) (wave : List Tick) (history : List Moment) → IsState m start → IsWaveform c wave → IsLawful c start wave history → IsRunOf library test m start wave history
+RunsAs library test m c = (start : List Bool) (wave : List Tick) (history : List Moment) → IsState m start → IsWaveform c wave →
+    IsLawful c start wave history → IsRunOf library test m start wave history
 
 -- it is writable with the library if the machine's own netlist is
 abbrev pub StaysWritable : List CellData → MachineData → Circuit → Type 0

@@ -1,5 +1,6 @@
 -- What stands before the first fault can go on to a library: tokens that complete it, whatever is open.
-use Rattle.std.proofs.Common.{◌≡◌, ◌≤◌, ◌+◌, ◌-◌, ◌==◌, ℕ, zero, suc, nat_lt, Bool, true, false, cond, List, [], ◌∷◌, ◌++◌, codes, Option, Some, refl, sym, ap, ◌∙◌, subst, lt-ltb, ne_eqb, arith}
+use Rattle.std.proofs.Common.{◌≡◌, ◌≤◌, ◌+◌, ◌-◌, ◌==◌, ℕ, zero, suc, nat_lt, Bool, true, false, cond, List, [], ◌∷◌, ◌++◌, codes}
+use Rattle.std.proofs.Common.{Option, Some, refl, sym, ap, ◌∙◌, subst, lt-ltb, ne_eqb, arith}
 use Rattle.cg_liberty_text.specs.Statement.{Phase}
 use Rattle.cg_liberty_text.specs.Statement.Phase.{Done, Listed, Listing, Named, Start, Valued}
 use Rattle.cg_liberty_text.specs.declared.lexeme.Kind.{Kind}

@@ -1,5 +1,6 @@
 -- Where a register cannot be usable, only the faults of its expressions count; the names among its arguments.
-use Rattle.std.proofs.Common.{◌≡◌, ℕ, Bool, true, false, cond, ◌&&◌, ◌||◌, ◌==◌, not, List, [], ◌∷◌, ◌++◌, length, Option, None, Some, Result, Ok, Err, refl, ap, sym, ◌∙◌}
+use Rattle.std.proofs.Common.{◌≡◌, ℕ, Bool, true, false, cond, ◌&&◌, ◌||◌, ◌==◌, not, List, [], ◌∷◌, ◌++◌, length, Option, None}
+use Rattle.std.proofs.Common.{Some, Result, Ok, Err, refl, ap, sym, ◌∙◌}
 use Rattle.std.specs.List.{list_any}
 use Rattle.std.specs.Str.{bytes_eq}
 use Rattle.std.proofs.lemmas.List.Folds.{list_any-append}
@@ -8,7 +9,8 @@ use Rattle.cg_cell.specs.Cell.{CellData}
 use Rattle.cg_cell.specs.Name.{are_distinct, is_name}
 use Rattle.cg_cell.specs.Term.{Term}
 use Rattle.cg_liberty.specs.inner.Checked.{faults_of, flop_checked, outputs_checked}
-use Rattle.cg_liberty.specs.Kinds.{all_known, flop_cell, flop_of, input_names, inverses_read, is_inverse, is_plain_flop, own_state, output_texts, state_names, unusable}
+use Rattle.cg_liberty.specs.Kinds.{all_known, flop_cell, flop_of, input_names, inverses_read, is_inverse, is_plain_flop, own_state}
+use Rattle.cg_liberty.specs.Kinds.{output_texts, state_names, unusable}
 use Rattle.cg_liberty.specs.Port.{is_there, text_of}
 use Rattle.cg_liberty.specs.Reading.{reading, then_read}
 use Rattle.cg_liberty.specs.declared.fault.CellFault.{CellFault}

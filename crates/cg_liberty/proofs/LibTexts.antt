@@ -1,5 +1,6 @@
 -- The texts that stand for a library are those that are read as it.
-use Rattle.std.proofs.Common.{◌≡◌, ℕ, List, [], length, Option, None, Some, Result, Ok, Err, inl, inr, IfOk, MatchResult, refl, ap, ◌∙◌, arith}
+use Rattle.std.proofs.Common.{◌≡◌, ℕ, List, [], length, Option, None, Some, Result, Ok, Err, inl, inr, IfOk, MatchResult, refl, ap}
+use Rattle.std.proofs.Common.{◌∙◌, arith}
 use Rattle.cg_limit.specs.Answers.{OrNoMemory}
 use Rattle.cg_cell.specs.Cell.{CellData}
 use Rattle.cg_cell.specs.declared.library.Library.{Library}

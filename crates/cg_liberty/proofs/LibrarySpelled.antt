@@ -1,5 +1,6 @@
 -- The whole text of a library is spelled by the grammar exactly where it is read without a fault.
-use Rattle.std.proofs.Common.{◌≡◌, ◌≤◌, ◌-◌, ℕ, Bool, true, false, cond, List, [], ◌∷◌, ◌++◌, length, codes, None, Result, Ok, Err, refl, sym, ap, ◌∙◌, subst, append_assoc, append-nil, arith}
+use Rattle.std.proofs.Common.{◌≡◌, ◌≤◌, ◌-◌, ℕ, Bool, true, false, cond, List, [], ◌∷◌, ◌++◌, length, codes, None, Result, Ok, Err}
+use Rattle.std.proofs.Common.{refl, sym, ap, ◌∙◌, subst, append_assoc, append-nil, arith}
 use Rattle.std.specs.Str.{bytes_eq}
 use Rattle.std.proofs.lemmas.Slice.Eq.{bytes_eq-Decides}
 use Rattle.cg_limit.specs.declared.TheConstants.{MOST_NESTING}
@@ -16,7 +17,8 @@ use Rattle.cg_liberty_text.specs.declared.statement.Statement.TheVariants.{Open,
 use Rattle.cg_liberty_text.specs.declared.token.Token.{Token}
 use Rattle.cg_liberty_text.proofs.ArgumentLists.{arguments_of, token_of}
 use Rattle.cg_liberty_text.proofs.Phases.{go_on}
-use Rattle.cg_liberty_text.proofs.SpelledIsRead.{brace_closed, group_opened, library_named, onto, paren_listing, row_read, spelled_read, whole}
+use Rattle.cg_liberty_text.proofs.SpelledIsRead.{brace_closed, group_opened, library_named, onto, paren_listing, row_read}
+use Rattle.cg_liberty_text.proofs.SpelledIsRead.{spelled_read, whole}
 use Rattle.cg_liberty_text.proofs.ReadIsSpelled.{Closed, Fine, closed_within, faulted, fine_by}
 
 as_read : List Statement → Read

@@ -1,9 +1,12 @@
 -- The cell that a group describes has the group's name.
-use Rattle.std.proofs.Common.{◌≡◌, ℕ, Bool, true, false, cond, List, [], ◌∷◌, ◌++◌, Option, None, Some, Result, Ok, Err, refl, subst}
+use Rattle.std.proofs.Common.{◌≡◌, ℕ, Bool, true, false, cond, List, [], ◌∷◌, ◌++◌, Option, None, Some, Result, Ok, Err, refl}
+use Rattle.std.proofs.Common.{subst}
 use Rattle.cg_cell.specs.Cell.{CellData}
 use Rattle.cg_cell.specs.Term.{Term}
 use Rattle.cg_cell.specs.Pins.{PinData}
-use Rattle.cg_liberty.specs.Kinds.{all_known, cell_by_flops, cell_of, cell_with_ports, flop_clocked, flop_of, gater_pins, gater_with, gating_cell, input_names, inverses_read, is_plain_flop, logic_of, output_texts, state_names, unusable}
+use Rattle.cg_liberty.specs.Kinds.{all_known, cell_by_flops, cell_of, cell_with_ports, flop_clocked, flop_of, gater_pins}
+use Rattle.cg_liberty.specs.Kinds.{gater_with, gating_cell, input_names, inverses_read, is_plain_flop, logic_of, output_texts}
+use Rattle.cg_liberty.specs.Kinds.{state_names, unusable}
 use Rattle.cg_liberty.specs.Port.{is_there, ports_of, text_of}
 use Rattle.cg_liberty.specs.Reading.{reading, readings, then_read}
 use Rattle.cg_liberty.specs.declared.fault.CellFault.{CellFault}

@@ -1,5 +1,6 @@
 -- What is true of the pins of a cell.
-use Rattle.std.proofs.Common.{◌≡◌, ◌≤◌, ℕ, Bool, true, false, cond, not, ◌&&◌, ◌||◌, IfSome, IsTrue, nat_le, List, [], ◌∷◌, length, map, Option, None, Some, refl, arith}
+use Rattle.std.proofs.Common.{◌≡◌, ◌≤◌, ℕ, Bool, true, false, cond, not, ◌&&◌, ◌||◌, IfSome, IsTrue, nat_le, List, [], ◌∷◌, length}
+use Rattle.std.proofs.Common.{map, Option, None, Some, refl, arith}
 use Rattle.std.specs.List.{AllByRecursion}
 use Rattle.std.specs.Option.{option_map}
 use Rattle.std.proofs.lemmas.Bool.Decides.{nat_tests}

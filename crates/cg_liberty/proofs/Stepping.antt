@@ -1,8 +1,11 @@
 -- The tokens of a library one by one, without a look ahead: what may come behind each, and the fault where nothing may.
-use Rattle.std.proofs.Common.{◌≡◌, ◌+◌, ◌-◌, ◌==◌, ℕ, nat_lt, Bool, true, false, cond, not, ◌&&◌, ◌||◌, List, [], ◌∷◌, ◌++◌, codes, Option, None, Some, refl, sym, ap, ◌∙◌, subst, append_assoc, append-nil}
+use Rattle.std.proofs.Common.{◌≡◌, ◌+◌, ◌-◌, ◌==◌, ℕ, nat_lt, Bool, true, false, cond, not, ◌&&◌, ◌||◌, List, [], ◌∷◌, ◌++◌, codes}
+use Rattle.std.proofs.Common.{Option, None, Some, refl, sym, ap, ◌∙◌, subst, append_assoc, append-nil}
 use Rattle.std.specs.Str.{bytes_eq}
 use Rattle.cg_limit.specs.declared.TheConstants.{MOST_NESTING}
-use Rattle.cg_liberty_text.specs.Argument.{argument_texts, ends_value, is_close_brace, is_close_paren, is_colon, is_in_value, is_open_brace, is_open_paren, is_semicolon, is_text, is_word, may_follow, unexpected, value_text}
+use Rattle.cg_liberty_text.specs.Argument.{argument_texts, ends_value, is_close_brace, is_close_paren, is_colon, is_in_value}
+use Rattle.cg_liberty_text.specs.Argument.{is_open_brace, is_open_paren, is_semicolon, is_text, is_word, may_follow, unexpected}
+use Rattle.cg_liberty_text.specs.Argument.{value_text}
 use Rattle.cg_liberty_text.specs.Statement.{Phase, begun, ended, faulty, put_statement, statements}
 use Rattle.cg_liberty_text.specs.Statement.Phase.{Done, Listed, Listing, Named, Start, Valued}
 use Rattle.cg_liberty_text.specs.declared.fault.TextFault.{TextFault}

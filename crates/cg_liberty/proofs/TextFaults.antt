@@ -1,5 +1,7 @@
 -- The fault that is told of a text is its first one.
-use Rattle.std.proofs.Common.{◌≡◌, ◌≤◌, ◌+◌, ◌-◌, ◌==◌, ℕ, nat_le, nat_lt, is_some, Bool, true, false, cond, not, ◌&&◌, ◌||◌, List, [], ◌∷◌, ◌++◌, length, codes, Option, None, Some, Result, Ok, Err, IfErr, refl, sym, ap, ◌∙◌, subst, inl, inr, append_assoc}
+use Rattle.std.proofs.Common.{◌≡◌, ◌≤◌, ◌+◌, ◌-◌, ◌==◌, ℕ, nat_le, nat_lt, is_some, Bool, true, false, cond, not, ◌&&◌, ◌||◌, List}
+use Rattle.std.proofs.Common.{[], ◌∷◌, ◌++◌, length, codes, Option, None, Some, Result, Ok, Err, IfErr, refl, sym, ap, ◌∙◌, subst}
+use Rattle.std.proofs.Common.{inl, inr, append_assoc}
 use Rattle.std.specs.Str.{bytes_eq}
 use Rattle.std.proofs.lemmas.Bool.{and_parts, ltb-true}
 use Rattle.std.proofs.lemmas.Slice.Eq.{bytes_eq-Decides}
@@ -10,7 +12,8 @@ use Rattle.cg_cell.specs.declared.library.Library.{Library}
 use Rattle.cg_cell.specs.Cell.{CellData}
 use Rattle.cg_cell.specs.Library.{find_cell}
 use Rattle.cg_cell.specs.Name.{is_name}
-use Rattle.cg_liberty_text.specs.Argument.{ends_value, is_close_brace, is_close_paren, is_colon, is_in_value, is_open_brace, is_open_paren, is_semicolon, is_text, is_word, may_follow, unexpected}
+use Rattle.cg_liberty_text.specs.Argument.{ends_value, is_close_brace, is_close_paren, is_colon, is_in_value, is_open_brace}
+use Rattle.cg_liberty_text.specs.Argument.{is_open_paren, is_semicolon, is_text, is_word, may_follow, unexpected}
 use Rattle.cg_liberty_text.specs.Grammar.{SpellsLibrary}
 use Rattle.cg_liberty_text.specs.Statement.{Phase, Read, ended, statements}
 use Rattle.cg_liberty_text.specs.Statement.Phase.{Done, Listed, Listing, Named, Start, Valued}
@@ -33,7 +36,8 @@ use Rattle.cg_liberty.specs.declared.fault.LibertyFault.{LibertyFault}
 use Rattle.cg_liberty.specs.declared.fault.LibertyFault.TheVariants as faults
 use Rattle.cg_liberty.proofs.Completing.{Completes, IsInside, completed}
 use Rattle.cg_liberty.proofs.LibrarySpelled.{library_read, library_spelled}
-use Rattle.cg_liberty.proofs.Stepping.{IsDone, State, ahead, at, behind, begins, next_fault, reads, refusal, run, run-append, run_none, runs, step}
+use Rattle.cg_liberty.proofs.Stepping.{IsDone, State, ahead, at, behind, begins, next_fault, reads, refusal, run, run-append}
+use Rattle.cg_liberty.proofs.Stepping.{run_none, runs, step}
 
 -- a word stands among tokens
 abbrev Has : List Token → Token → Type 0

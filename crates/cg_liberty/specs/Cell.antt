@@ -22,7 +22,9 @@ is_bus word = bytes_eq word (codes "bus") || bytes_eq word (codes "bundle")
 
 -- groups of states other than one flip-flop
 abbrev pub is_bank : List ℕ → Bool
-is_bank word = bytes_eq word (codes "latch") || (bytes_eq word (codes "statetable") || (bytes_eq word (codes "ff_bank") || bytes_eq word (codes "latch_bank")))
+is_bank word =
+    bytes_eq word (codes "latch")
+    || (bytes_eq word (codes "statetable") || (bytes_eq word (codes "ff_bank") || bytes_eq word (codes "latch_bank")))
 
 -- a cell of which nothing is stated yet
 abbrev pub new_cell : List ℕ → CellGroup
@@ -34,7 +36,8 @@ cell_with cell word text = cond (bytes_eq word (codes "clock_gating_integrated_c
 
 -- a cell with one more group that is neither a `pin` nor an `ff` group
 abbrev pub cell_with_other : CellGroup → List ℕ → CellGroup
-cell_with_other cell word = cond (is_bus word) (record cell { has_bus = true }) (cond (is_bank word) (record cell { has_bank = true }) cell)
+cell_with_other cell word =
+    cond (is_bus word) (record cell { has_bus = true }) (cond (is_bank word) (record cell { has_bank = true }) cell)
 
 -- pins with those of one more `pin` group, unless there are more than a usable cell has
 abbrev pub with_pins : Option (List PinText) → List PinText → Option (List PinText)

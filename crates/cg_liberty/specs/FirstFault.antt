@@ -24,11 +24,14 @@ NoneBegins front (token ∷ later) = (more : List Token) (read : List Statement)
 
 -- a word `cell` among the tokens stands at the place
 abbrev pub HasCellAt : List Token → ℕ → Type 0
-HasCellAt front at = (ahead : List Token) × (word : Token) × (behind : List Token) × (front ≡ ahead ++ word ∷ behind) × (word.text ≡ codes "cell") × (word.at ≡ at)
+HasCellAt front at =
+    (ahead : List Token) × (word : Token) × (behind : List Token) × (front ≡ ahead ++ word ∷ behind) × (word.text ≡ codes "cell")
+    × (word.at ≡ at)
 
 -- a `{` opens too deep, or it opens a `cell` group that may not stand there, which is told at the group's word
 abbrev pub IsRefusedOpening : List Token → Token → TextFault → Type 0
-IsRefusedOpening front token fault = (token.kind ≡ kinds.OpenBrace) × ((fault ≡ texts.Nesting) ⊎ ((at : ℕ) × (fault ≡ texts.BadGroup at) × HasCellAt front at))
+IsRefusedOpening front token fault =
+    (token.kind ≡ kinds.OpenBrace) × ((fault ≡ texts.Nesting) ⊎ ((at : ℕ) × (fault ≡ texts.BadGroup at) × HasCellAt front at))
 
 -- the fault that is told of the first later token, by its own place but for openings, or of the end of a text of so many bytes
 abbrev pub IsTold : ℕ → List Token → List Token → TextFault → Type 0
@@ -50,5 +53,6 @@ IsFirstLibertyFault text (faults.BadToken at) = FailsBy (length text) (tokens te
 IsFirstLibertyFault text (faults.BadGroup at) = FailsBy (length text) (tokens text) (texts.BadGroup at)
 IsFirstLibertyFault text (faults.BadExpr name at) = (read : List Statement) × SpellsLibrary (tokens text) read
 IsFirstLibertyFault text (faults.TwoCells name) = (read : List Statement) × SpellsLibrary (tokens text) read
-IsFirstLibertyFault text (faults.Limit which) = FailsBy (length text) (tokens text) texts.Nesting ⊎ ((read : List Statement) × SpellsLibrary (tokens text) read)
+IsFirstLibertyFault text (faults.Limit which) =
+    FailsBy (length text) (tokens text) texts.Nesting ⊎ ((read : List Statement) × SpellsLibrary (tokens text) read)
 IsFirstLibertyFault text faults.NoMemory = Unit {0}

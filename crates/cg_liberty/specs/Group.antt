@@ -28,7 +28,17 @@ IsLeft old new = (behind 0 old.0 ≡ new.0) × (old.1 ≡ new.1)
 
 -- a `pin` group of which nothing is stated yet
 abbrev pub new_pin : List (List ℕ) → PinGroup
-new_pin names = record { names = names; direction = Missing; function = Missing; three_state = Missing; clock_pin = Missing; enable_pin = Missing; test_pin = Missing; out_pin = Missing }
+new_pin names =
+    record {
+      names = names;
+      direction = Missing;
+      function = Missing;
+      three_state = Missing;
+      clock_pin = Missing;
+      enable_pin = Missing;
+      test_pin = Missing;
+      out_pin = Missing;
+    }
 
 -- a `pin` group behind one more attribute, which takes the place of an earlier one of its name
 abbrev pub pin_with : PinGroup → List ℕ → Option (List ℕ) → PinGroup
@@ -53,7 +63,15 @@ pin_from (suc inside) pin (Attribute word text ∷ after) = pin_from (suc inside
 
 -- an `ff` group of which nothing is stated yet
 abbrev pub new_flop : List (List ℕ) → FlopGroup
-new_flop names = record { names = names; next_state = Missing; clocked_on = Missing; clear = Missing; preset = Missing; clocked_on_also = Missing }
+new_flop names =
+    record {
+      names = names;
+      next_state = Missing;
+      clocked_on = Missing;
+      clear = Missing;
+      preset = Missing;
+      clocked_on_also = Missing;
+    }
 
 -- an `ff` group behind one more attribute
 abbrev pub flop_with : FlopGroup → List ℕ → Option (List ℕ) → FlopGroup

@@ -1,5 +1,6 @@
 -- The kind of a cell, and with it its pins and its function.
-use Rattle.std.specs.Prelude.{ℕ, ◌+◌, ◌-◌, ◌==◌, nat_lt, nat_le, Bool, true, false, cond, not, ◌&&◌, ◌||◌, List, [], ◌∷◌, ◌++◌, map, length, count_by, codes, Option, None, Some, option_map, Result, Ok}
+use Rattle.std.specs.Prelude.{ℕ, ◌+◌, ◌-◌, ◌==◌, nat_lt, nat_le, Bool, true, false, cond, not, ◌&&◌, ◌||◌, List, [], ◌∷◌, ◌++◌, map}
+use Rattle.std.specs.Prelude.{length, count_by, codes, Option, None, Some, option_map, Result, Ok}
 use Rattle.cg_cell.specs.Cell.{CellData}
 use Rattle.cg_cell.specs.Name.{are_distinct, is_name}
 use Rattle.cg_cell.specs.Pins.{PinData, is_clock, is_enable, is_output, is_state, is_test}
@@ -61,17 +62,21 @@ gater_pins tested (port ∷ ports) = with_role port (gater_role tested port) (ga
 
 -- exactly one clock, one enable and one output, and one test input where the cell has one
 abbrev pub are_gater_pins : Bool → List PinData → Bool
-are_gater_pins tested pins = count_by is_clock pins == 1 && (count_by is_enable pins == 1 && (count_by is_output pins == 1 && count_by is_test pins == cond tested 1 0))
+are_gater_pins tested pins =
+    count_by is_clock pins == 1
+    && (count_by is_enable pins == 1 && (count_by is_output pins == 1 && count_by is_test pins == cond tested 1 0))
 
 abbrev pub gater_with : List ℕ → Bool → Option (List PinData) → CellData
 gater_with name tested None = unusable name
-gater_with name tested (Some pins) = cond (are_gater_pins tested pins) (record { name = name; kind = kinds.Gater; pins = pins; function = None }) (unusable name)
+gater_with name tested (Some pins) =
+    cond (are_gater_pins tested pins) (record { name = name; kind = kinds.Gater; pins = pins; function = None }) (unusable name)
 
 -- the gating cell of these pins, with a test input or without, or an unusable cell
 abbrev pub gater_of : List ℕ → Bool → List Port → CellData
 gater_of name tested ports = gater_with name tested (gater_pins tested ports)
 
--- the cell of an attribute that says which gating cell it is: a latch that is transparent while the clock is low, in front of an and, without a test input or with one before the latch; others are unusable
+-- the cell of an attribute that says which gating cell it is: a latch that is transparent while the clock is low, in front of an
+-- and, without a test input or with one before the latch; others are unusable
 abbrev pub gating_cell : CellGroup → List Port → CellData
 gating_cell cell ports =
     cond (states cell.gating (codes "latch_posedge")) (gater_of cell.name false ports)
@@ -88,11 +93,13 @@ logic_pins ports = map (λ port. record { name = port.name; role = logic_role po
 
 -- a logic cell has one output, with a function of the inputs
 abbrev pub logic_of : List ℕ → List Port → List (Option Term) → CellData
-logic_of name ports (Some function ∷ []) = record { name = name; kind = kinds.Logic; pins = logic_pins ports; function = Some function }
+logic_of name ports (Some function ∷ []) =
+    record { name = name; kind = kinds.Logic; pins = logic_pins ports; function = Some function }
 logic_of name ports _ = unusable name
 
 abbrev pub logic_cell : List ℕ → List Port → Result CellData CellFault
-logic_cell name ports = then_read (readings (input_names ports) (output_texts ports)) (λ functions. Ok (logic_of name ports functions))
+logic_cell name ports =
+    then_read (readings (input_names ports) (output_texts ports)) (λ functions. Ok (logic_of name ports functions))
 
 -- Registers
 
@@ -110,7 +117,8 @@ is_plain_flop inputs flop =
     length flop.names == 2 && (length (state_names flop.names) == 2 && (are_distinct (inputs ++ state_names flop.names)
     && not (is_there flop.clear || (is_there flop.preset || is_there flop.clocked_on_also))))
 
--- whether a function gives the inverse of the state, by its values where the state is 1 and where it is 0; none where it is constant
+-- whether a function gives the inverse of the state, by its values where the state is 1 and where it is 0; none where it is
+-- constant
 abbrev pub inverse_by : Bool → Bool → Option Bool
 inverse_by true false = Some false
 inverse_by false true = Some true
@@ -125,7 +133,9 @@ is_inverse count (Some function) =
 -- the functions of outputs, read over the names of the states, each with whether it gives the inverse
 abbrev pub inverses_read : List (List ℕ) → List (Option (List ℕ)) → Result (List (Option Bool)) CellFault
 inverses_read names [] = Ok []
-inverses_read names (text ∷ texts) = then_read (reading names text) (λ term. then_read (inverses_read names texts) (λ later. Ok (is_inverse (length names) term ∷ later)))
+inverses_read names (text ∷ texts) =
+    then_read (reading names text)
+    (λ term. then_read (inverses_read names texts) (λ later. Ok (is_inverse (length names) term ∷ later)))
 
 -- the outputs, each with whether it gives the inverse, where each gives the state or the inverse
 abbrev pub all_known : List (Option Bool) → Option (List Bool)
@@ -133,7 +143,8 @@ all_known [] = Some []
 all_known (None ∷ later) = None
 all_known (Some inverse ∷ later) = option_map (λ inverses. inverse ∷ inverses) (all_known later)
 
--- what an input of a register's function stands for in its cell, whose function is over the other inputs and its own bit behind them: `next_state` is over the inputs, the clock among them, then the state, then the inverse
+-- what an input of a register's function stands for in its cell, whose function is over the other inputs and its own bit behind
+-- them: `next_state` is over the inputs, the clock among them, then the state, then the inverse
 abbrev pub slot : ℕ → ℕ → ℕ → Term
 slot inputs clock k = cond (k == inputs + 1) (Inverse (Input (inputs - 1))) (cond (nat_lt clock k) (Input (k - 1)) (Input k))
 
@@ -158,7 +169,8 @@ rest_of (inverse ∷ later) = later
 abbrev pub flop_pins : ℕ → ℕ → List Bool → List Port → List PinData
 flop_pins clock k inverses [] = []
 flop_pins clock k inverses (port ∷ ports) =
-    cond port.marks.is_output (record { name = port.name; role = output_role inverses } ∷ flop_pins clock k (rest_of inverses) ports)
+    cond port.marks.is_output
+    (record { name = port.name; role = output_role inverses } ∷ flop_pins clock k (rest_of inverses) ports)
     (record { name = port.name; role = cond (k == clock) roles.Clock roles.Data } ∷ flop_pins clock (k + 1) inverses ports)
 
 -- the pins of a register: one clock, one or more outputs
@@ -169,7 +181,12 @@ are_flop_pins pins = count_by is_clock pins == 1 && nat_le 1 (count_by is_state 
 abbrev pub flop_with_parts : List ℕ → List Port → Term → ℕ → List Bool → CellData
 flop_with_parts name ports next clock inverses =
     cond (not (has_input clock next) && are_flop_pins (flop_pins clock 0 inverses ports))
-    (record { name = name; kind = kinds.Flop; pins = flop_pins clock 0 inverses ports; function = Some (restated (length (input_names ports)) clock next) })
+    (record {
+      name = name;
+      kind = kinds.Flop;
+      pins = flop_pins clock 0 inverses ports;
+      function = Some (restated (length (input_names ports)) clock next);
+    })
     (unusable name)
 
 abbrev pub flop_clocked : List ℕ → List Port → Term → Option ℕ → List Bool → CellData
@@ -177,7 +194,8 @@ flop_clocked name ports next None inverses = unusable name
 flop_clocked name ports next (Some clock) inverses = flop_with_parts name ports next clock inverses
 
 abbrev pub flop_of : List ℕ → List Port → Bool → Option Term → Option Term → Option (List Bool) → CellData
-flop_of name ports plain (Some next) (Some clocked) (Some inverses) = cond plain (flop_clocked name ports next (lone_input clocked) inverses) (unusable name)
+flop_of name ports plain (Some next) (Some clocked) (Some inverses) =
+    cond plain (flop_clocked name ports next (lone_input clocked) inverses) (unusable name)
 flop_of name ports plain _ _ _ = unusable name
 
 abbrev pub flop_cell : List ℕ → List Port → FlopGroup → Result CellData CellFault

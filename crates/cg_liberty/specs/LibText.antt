@@ -20,7 +20,8 @@ named_groups groups = filter (λ group. is_name group.name) groups
 abbrev pub Describe : List CellGroup → List CellData → Type 0
 Describe groups cells = AllZip (λ group cell. cell_of group ≡ Ok cell) groups cells
 
--- the text stands for the library of these cells: its tokens are one group `library`, the `cell` groups directly in it whose argument is a name describe the cells in order, and these are at most 4,096, no two of one name
+-- the text stands for the library of these cells: its tokens are one group `library`, the `cell` groups directly in it whose
+-- argument is a name describe the cells in order, and these are at most 4,096, no two of one name
 pub record LibText (text : List ℕ) (cells : List CellData) : Type 0 where
   pub read : List Statement
   pub spelled : SpellsLibrary (tokens text) read

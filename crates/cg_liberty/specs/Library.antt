@@ -38,7 +38,8 @@ abbrev pub with_cell : List CellData → List ℕ → Result CellData CellFault 
 with_cell library name (Ok cell) = Ok (library ++ cell ∷ [])
 with_cell library name (Err fault) = Err (cell_refusal name fault)
 
--- the library with the cell of one more group: one whose argument is no name is skipped, there are at most 4,096, no two have one name, and the expressions are looked at last
+-- the library with the cell of one more group: one whose argument is no name is skipped, there are at most 4,096, no two have one
+-- name, and the expressions are looked at last
 abbrev pub added : List CellData → CellGroup → Result (List CellData) LibertyFault
 added library group =
     cond (not (is_name group.name)) (Ok library)
@@ -47,7 +48,8 @@ added library group =
     (with_cell library group.name (cell_of group))))
 
 -- what is made of a library that was not refused
-abbrev pub then_add : Result (List CellData) LibertyFault → (List CellData → Result (List CellData) LibertyFault) → Result (List CellData) LibertyFault
+abbrev pub then_add : Result (List CellData) LibertyFault → (List CellData → Result (List CellData) LibertyFault) →
+    Result (List CellData) LibertyFault
 then_add (Ok library) later = later library
 then_add (Err fault) later = Err fault
 

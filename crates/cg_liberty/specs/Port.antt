@@ -1,5 +1,6 @@
 -- The pins of a cell, from its `pin` groups.
-use Rattle.std.specs.Prelude.{ℕ, ◌≤◌, IsTrue, Bool, true, false, cond, not, ◌&&◌, ◌||◌, nat_le, List, [], ◌∷◌, map, length, codes, Option, None, Some, option_map}
+use Rattle.std.specs.Prelude.{ℕ, ◌≤◌, IsTrue, Bool, true, false, cond, not, ◌&&◌, ◌||◌, nat_le, List, [], ◌∷◌, map, length, codes}
+use Rattle.std.specs.Prelude.{Option, None, Some, option_map}
 use Rattle.std.specs.List.{AllByRecursion}
 use Rattle.std.specs.Str.{bytes_eq}
 use Rattle.cg_cell.specs.Name.{are_distinct, has_no_equals, is_name}
@@ -42,7 +43,8 @@ marks_of group = record {
 
 -- the pins of a group, one for each argument; those of an internal group are left out
 abbrev pub group_pins : PinGroup → List PinText
-group_pins group = cond (states group.direction (codes "internal")) [] (map (λ name. record { name = name; marks = marks_of group }) group.names)
+group_pins group =
+    cond (states group.direction (codes "internal")) [] (map (λ name. record { name = name; marks = marks_of group }) group.names)
 
 -- pins, unless there are more than a usable cell has
 abbrev pub few_pins : List PinText → Option (List PinText)
@@ -59,7 +61,8 @@ is_sound pin = is_pin_name pin.name && ((pin.marks.is_input || pin.marks.is_outp
 -- the pins, where all of them are sound
 abbrev pub sound_ports : List PinText → Option (List Port)
 sound_ports [] = Some []
-sound_ports (pin ∷ pins) = cond (is_sound pin) (option_map (λ ports. record { name = pin.name; marks = pin.marks } ∷ ports) (sound_ports pins)) None
+sound_ports (pin ∷ pins) =
+    cond (is_sound pin) (option_map (λ ports. record { name = pin.name; marks = pin.marks } ∷ ports) (sound_ports pins)) None
 
 -- pins that one cell may have together: at most 16, of different names
 abbrev pub fit_together : List Port → Bool

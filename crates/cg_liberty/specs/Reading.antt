@@ -28,4 +28,5 @@ reading names (Some text) = taken (read_text names text)
 -- the expressions over these names, in order
 abbrev pub readings : List (List ℕ) → List (Option (List ℕ)) → Result (List (Option Term)) CellFault
 readings names [] = Ok []
-readings names (text ∷ texts) = then_read (reading names text) (λ term. then_read (readings names texts) (λ terms. Ok (term ∷ terms)))
+readings names (text ∷ texts) =
+    then_read (reading names text) (λ term. then_read (readings names texts) (λ terms. Ok (term ∷ terms)))

@@ -1,6 +1,7 @@
 //! Registers: an `ff` group with a next state, a clock and outputs that give the state or its inverse.
 
-ghost use Rattle.std.specs.Prelude.{◌≡◌, ◌+◌, ◌≤◌, ◌<◌, ◌++◌, ◌==◌, ◌&&◌, ◌||◌, ℕ, List, IfOk, IfSome, IsTrue, OnOk, Some, count_by, length, not, option_map, true};
+ghost use Rattle.std.specs.Prelude.{◌≡◌, ◌+◌, ◌≤◌, ◌<◌, ◌++◌, ◌==◌, ◌&&◌, ◌||◌, ℕ, List, IfOk, IfSome, IsTrue, OnOk, Some};
+ghost use Rattle.std.specs.Prelude.{count_by, length, not, option_map, true};
 ghost use Rattle.std.specs.List.{list_any};
 ghost use Rattle.std.specs.Str.{bytes_eq};
 ghost use Rattle.cg_limit.specs.Answers.{OrNoMemory};
@@ -9,8 +10,10 @@ ghost use Rattle.cg_cell.specs.Name.{are_distinct, is_name};
 ghost use Rattle.cg_cell.specs.Pins.{is_state};
 ghost use Rattle.cg_cell.specs.Term.{is_within};
 ghost use Rattle.cg_liberty.specs.declared.fault.CellFault.TheVariants.{NoMemory};
-ghost use Rattle.cg_liberty.specs.Kinds.{all_known, are_flop_pins, flop_cell, flop_of, flop_pins, flop_with_parts, input_names, inverse_by};
-ghost use Rattle.cg_liberty.specs.Kinds.{inverses_read, is_inverse, is_plain_flop, output_role, output_texts, rest_of, restated, state_names};
+ghost use Rattle.cg_liberty.specs.Kinds.{all_known, are_flop_pins, flop_cell, flop_of, flop_pins, flop_with_parts, input_names};
+ghost use Rattle.cg_liberty.specs.Kinds.{inverse_by};
+ghost use Rattle.cg_liberty.specs.Kinds.{inverses_read, is_inverse, is_plain_flop, output_role, output_texts, rest_of, restated};
+ghost use Rattle.cg_liberty.specs.Kinds.{state_names};
 ghost use Rattle.cg_liberty.specs.Port.{ArePorts, is_there};
 
 use crate::checked::checked_cell_of;

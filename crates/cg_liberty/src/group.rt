@@ -1,7 +1,8 @@
 //! What is looked at of a cell, and of the groups that stand in it.
 
 ghost use Rattle.std.specs.Prelude.{◌≡◌, OnOk};
-ghost use Rattle.cg_liberty.specs.Cell.{cell_with, cell_with_flop, cell_with_other, cell_with_pin, is_bank, is_bus, new_cell, with_flop};
+ghost use Rattle.cg_liberty.specs.Cell.{cell_with, cell_with_flop, cell_with_other, cell_with_pin, is_bank, is_bus, new_cell};
+ghost use Rattle.cg_liberty.specs.Cell.{with_flop};
 ghost use Rattle.cg_liberty.specs.Group.{flop_with, new_flop, new_pin, pin_with, stated};
 
 use crate::port::{PinText, add_pins};

@@ -1,6 +1,7 @@
 -- Arguments and values are read up to where they end.
 use Rattle.std.proofs.Common.{◌≡◌, ℕ, Bool, true, false, cond, not, ◌&&◌, List, [], ◌∷◌, refl, Result, Ok, Err}
-use Rattle.cg_liberty_text.specs.Argument.{behind_arguments, behind_value, ends_value, is_close_paren, is_in_value, is_semicolon, may_follow, unexpected}
+use Rattle.cg_liberty_text.specs.Argument.{behind_arguments, behind_value, ends_value, is_close_paren, is_in_value, is_semicolon}
+use Rattle.cg_liberty_text.specs.Argument.{may_follow, unexpected}
 use Rattle.cg_liberty_text.specs.Statement.{Read, begun, faulty, statements}
 use Rattle.cg_liberty_text.specs.Statement.Phase.{Listed, Listing, Start, Valued}
 use Rattle.cg_liberty_text.specs.declared.fault.TextFault.{TextFault}

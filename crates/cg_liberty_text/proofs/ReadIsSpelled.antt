@@ -1,9 +1,12 @@
 -- Statements that are read without a fault are spelled by the grammar.
-use Rattle.std.proofs.Common.{◌≡◌, ◌≢◌, ◌≤◌, ◌+◌, ◌-◌, ◌==◌, ℕ, zero, suc, Bool, true, false, cond, List, [], ◌∷◌, ◌++◌, length, None, Result, Ok, Err, refl, sym, ap, ◌∙◌, subst, inl, inr, append_assoc, length-append, ne_eqb, arith}
+use Rattle.std.proofs.Common.{◌≡◌, ◌≢◌, ◌≤◌, ◌+◌, ◌-◌, ◌==◌, ℕ, zero, suc, Bool, true, false, cond, List, [], ◌∷◌, ◌++◌, length}
+use Rattle.std.proofs.Common.{None, Result, Ok, Err, refl, sym, ap, ◌∙◌, subst, inl, inr, append_assoc, length-append, ne_eqb}
+use Rattle.std.proofs.Common.{arith}
 use Rattle.std.proofs.lemmas.Bool.{eqb-false}
 use Rattle.cg_limit.specs.declared.TheConstants.{MOST_NESTING}
 use Rattle.cg_liberty_text.specs.Argument.{argument_texts, behind_arguments, behind_value}
-use Rattle.cg_liberty_text.specs.Grammar.{EachBefore, IsGroup, IsHead, IsPlain, Piece, Spells, SpellsAll, lone_text, statements_of, tokens_of}
+use Rattle.cg_liberty_text.specs.Grammar.{EachBefore, IsGroup, IsHead, IsPlain, Piece, Spells, SpellsAll, lone_text, statements_of}
+use Rattle.cg_liberty_text.specs.Grammar.{tokens_of}
 use Rattle.cg_liberty_text.specs.Statement.{Read, faulty, put_statement, statements}
 use Rattle.cg_liberty_text.specs.Statement.Phase.{Done, Listed, Named, Start}
 use Rattle.cg_liberty_text.specs.declared.fault.TextFault.{TextFault}
@@ -15,7 +18,8 @@ use Rattle.cg_liberty_text.specs.declared.token.Token.{Token}
 use Rattle.cg_liberty_text.proofs.ArgumentLists.{arguments_of, token_of}
 use Rattle.cg_liberty_text.proofs.AttributeValues.{ValueUpTo, value_of}
 use Rattle.cg_liberty_text.proofs.Phases.{go_on}
-use Rattle.cg_liberty_text.proofs.SpelledIsRead.{brace_closed, colon_valued, is_misplaced, mark_passed, no_body, paren_listing, place_of, word_named}
+use Rattle.cg_liberty_text.proofs.SpelledIsRead.{brace_closed, colon_valued, is_misplaced, mark_passed, no_body, paren_listing}
+use Rattle.cg_liberty_text.proofs.SpelledIsRead.{place_of, word_named}
 
 -- nothing was refused
 abbrev pub Fine : Read → Type 0

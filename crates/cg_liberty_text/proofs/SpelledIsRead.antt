@@ -1,11 +1,14 @@
 -- Statements that the grammar spells are read.
-use Rattle.std.proofs.Common.{◌≡◌, ◌≢◌, ◌≤◌, ◌+◌, ◌-◌, ◌==◌, ℕ, zero, suc, nat_lt, Bool, true, false, cond, not, ◌&&◌, List, [], ◌∷◌, ◌++◌, length, codes, Option, None, Result, Ok, refl, sym, ap, ◌∙◌, inl, inr, append_assoc, lt-ltb, eq-eqb, ne_eqb, eqb-true, arith}
+use Rattle.std.proofs.Common.{◌≡◌, ◌≢◌, ◌≤◌, ◌+◌, ◌-◌, ◌==◌, ℕ, zero, suc, nat_lt, Bool, true, false, cond, not, ◌&&◌, List, []}
+use Rattle.std.proofs.Common.{◌∷◌, ◌++◌, length, codes, Option, None, Result, Ok, refl, sym, ap, ◌∙◌, inl, inr, append_assoc}
+use Rattle.std.proofs.Common.{lt-ltb, eq-eqb, ne_eqb, eqb-true, arith}
 use Rattle.std.specs.Str.{bytes_eq}
 use Rattle.std.proofs.lemmas.Bool.{false≢true}
 use Rattle.std.proofs.lemmas.Slice.Eq.{bytes_eq-Decides}
 use Rattle.cg_limit.specs.declared.TheConstants.{MOST_NESTING}
 use Rattle.cg_liberty_text.specs.Argument.{argument_texts, behind_arguments, behind_value, is_open_brace, value_text}
-use Rattle.cg_liberty_text.specs.Grammar.{EachBefore, FitsPlace, HasNoBody, IsComplex, IsGroup, IsHead, IsLone, IsPlain, IsSimple, Piece, Spells, lone_text, statements_of, tokens_of}
+use Rattle.cg_liberty_text.specs.Grammar.{EachBefore, FitsPlace, HasNoBody, IsComplex, IsGroup, IsHead, IsLone, IsPlain, IsSimple}
+use Rattle.cg_liberty_text.specs.Grammar.{Piece, Spells, lone_text, statements_of, tokens_of}
 use Rattle.cg_liberty_text.specs.Statement.{Read, put_statement, statements}
 use Rattle.cg_liberty_text.specs.Statement.Phase.{Done, Listed, Listing, Named, Start, Valued}
 use Rattle.cg_liberty_text.specs.declared.fault.TextFault.{TextFault}

@@ -55,7 +55,8 @@ unexpected token = cond (is_bad token.kind) (BadToken token.at) (BadGroup token.
 -- the texts of the arguments that begin behind a `(`
 abbrev pub argument_texts : List Token → List (List ℕ)
 argument_texts [] = []
-argument_texts (token ∷ after) = cond (is_close_paren token.kind) [] (cond (is_text token.kind) (token.text ∷ argument_texts after) (argument_texts after))
+argument_texts (token ∷ after) =
+    cond (is_close_paren token.kind) [] (cond (is_text token.kind) (token.text ∷ argument_texts after) (argument_texts after))
 
 -- whether a token may follow another among arguments: a `,` only behind a word or string, a `)` not behind a `,`
 abbrev pub may_follow : Kind → Kind → Bool
@@ -64,7 +65,9 @@ may_follow before kind = is_text kind || (is_comma kind && is_text before || is_
 -- what stands behind the `)` of the arguments that go on here behind a token of a kind
 abbrev pub behind_arguments : ℕ → Kind → List Token → Result (List Token) TextFault
 behind_arguments end before [] = Err (BadGroup end)
-behind_arguments end before (token ∷ after) = cond (may_follow before token.kind) (cond (is_close_paren token.kind) (Ok after) (behind_arguments end token.kind after)) (Err (unexpected token))
+behind_arguments end before (token ∷ after) =
+    cond (may_follow before token.kind) (cond (is_close_paren token.kind) (Ok after) (behind_arguments end token.kind after))
+    (Err (unexpected token))
 
 -- whether a value ends before a token: at a line end, a `;` or a `}`
 abbrev pub ends_value : Token → Bool

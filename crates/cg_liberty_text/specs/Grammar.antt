@@ -1,5 +1,6 @@
 -- The grammar of a Liberty text, over its tokens.
-use Rattle.std.specs.Prelude.{◌≡◌, ◌≢◌, ◌⊎◌, ◌+◌, ◌-◌, ℕ, zero, suc, cond, false, IsTrue, List, [], ◌∷◌, ◌++◌, length, codes, Option, None, Some}
+use Rattle.std.specs.Prelude.{◌≡◌, ◌≢◌, ◌⊎◌, ◌+◌, ◌-◌, ℕ, zero, suc, cond, false, IsTrue, List, [], ◌∷◌, ◌++◌, length, codes}
+use Rattle.std.specs.Prelude.{Option, None, Some}
 use Rattle.std.specs.List.{AllByRecursion, flat_map}
 use Rattle.cg_limit.specs.declared.TheConstants.{MOST_NESTING}
 use Rattle.cg_liberty_text.specs.Argument.{is_in_value, is_text}
@@ -29,12 +30,16 @@ IsGap (token ∷ another ∷ more) = ⊥
 -- arguments behind another one: words and strings with these texts, a gap before each
 abbrev pub AreFurther : List (List ℕ) → List Token → Type 0
 AreFurther [] tokens = tokens ≡ []
-AreFurther (text ∷ texts) tokens = (gap : List Token) × (token : Token) × (after : List Token) × (tokens ≡ gap ++ token ∷ after) × IsGap gap × IsTrue (is_text token.kind) × (token.text ≡ text) × AreFurther texts after
+AreFurther (text ∷ texts) tokens =
+    (gap : List Token) × (token : Token) × (after : List Token) × (tokens ≡ gap ++ token ∷ after) × IsGap gap
+    × IsTrue (is_text token.kind) × (token.text ≡ text) × AreFurther texts after
 
 -- arguments: words and strings with these texts, one comma between two or none, and none before the first or behind the last
 abbrev pub AreArguments : List (List ℕ) → List Token → Type 0
 AreArguments [] tokens = tokens ≡ []
-AreArguments (text ∷ texts) tokens = (token : Token) × (after : List Token) × (tokens ≡ token ∷ after) × IsTrue (is_text token.kind) × (token.text ≡ text) × AreFurther texts after
+AreArguments (text ∷ texts) tokens =
+    (token : Token) × (after : List Token) × (tokens ≡ token ∷ after) × IsTrue (is_text token.kind) × (token.text ≡ text)
+    × AreFurther texts after
 
 -- the head of a group, or a complex attribute: a word, `(`, arguments and `)`
 pub record IsHead (word : Token) (texts : List (List ℕ)) (tokens : List Token) : Type 0 where

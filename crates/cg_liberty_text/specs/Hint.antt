@@ -16,4 +16,5 @@ stands_at bytes place text = begin_with (argument_texts (tokens (drop place byte
 
 -- a place in the bytes, other than 0, is one of these arguments
 abbrev pub IsHint : List (List ℕ) → List ℕ → ℕ → Type 0
-IsHint arguments bytes place = (text : List ℕ) → 0 < place → stands_at bytes place text ≡ true → list_any (bytes_eq text) arguments ≡ true
+IsHint arguments bytes place = (text : List ℕ) → 0 < place → stands_at bytes place text ≡ true →
+    list_any (bytes_eq text) arguments ≡ true

@@ -1,8 +1,10 @@
 -- What begins at a byte of a Liberty text, and how long it is.
-use Rattle.std.specs.Prelude.{ℕ, ◌+◌, ◌==◌, Bool, false, cond, not, ◌&&◌, ◌||◌, List, [], ◌∷◌, slice_index, ◌≤◌, Option, None, Some, option_map}
+use Rattle.std.specs.Prelude.{ℕ, ◌+◌, ◌==◌, Bool, false, cond, not, ◌&&◌, ◌||◌, List, [], ◌∷◌, slice_index, ◌≤◌, Option, None, Some}
+use Rattle.std.specs.Prelude.{option_map}
 use Rattle.cg_text.specs.Blanks.{is_white_space}
 use Rattle.cg_liberty_text.specs.declared.lexeme.Kind.{Kind}
-use Rattle.cg_liberty_text.specs.declared.lexeme.Kind.TheVariants.{OpenBrace, CloseBrace, OpenParen, CloseParen, Colon, Semicolon, Comma, Quoted, Word}
+use Rattle.cg_liberty_text.specs.declared.lexeme.Kind.TheVariants.{OpenBrace, CloseBrace, OpenParen, CloseParen, Colon, Semicolon}
+use Rattle.cg_liberty_text.specs.declared.lexeme.Kind.TheVariants.{Comma, Quoted, Word}
 use Rattle.cg_liberty_text.specs.declared.lexeme.Lexeme.{Lexeme}
 use Rattle.cg_liberty_text.specs.declared.lexeme.Lexeme.TheVariants.{Blank, LineEnd, Token, Bad}
 
@@ -69,7 +71,8 @@ closed lexeme (Some more) = lexeme more
 -- the comment behind its first `/`
 abbrev pub comment_lexeme : List ℕ → Lexeme
 comment_lexeme [] = Bad
-comment_lexeme (byte ∷ after) = cond (byte == 42) (closed Blank (longer 1 (comment_length false after))) (Blank (1 + line_length after))
+comment_lexeme (byte ∷ after) =
+    cond (byte == 42) (closed Blank (longer 1 (comment_length false after))) (Blank (1 + line_length after))
 
 -- what begins at a byte, with the number of its bytes after the first
 abbrev pub lexeme : ℕ → List ℕ → Lexeme

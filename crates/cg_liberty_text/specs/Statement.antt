@@ -1,8 +1,10 @@
 -- The statements of a Liberty text, from its tokens.
-use Rattle.std.specs.Prelude.{◌≡◌, ℕ, ◌+◌, ◌-◌, ◌==◌, ◌<◌, nat_lt, cond, not, ◌&&◌, ◌||◌, List, [], ◌∷◌, length, codes, Option, None, Some}
+use Rattle.std.specs.Prelude.{◌≡◌, ℕ, ◌+◌, ◌-◌, ◌==◌, ◌<◌, nat_lt, cond, not, ◌&&◌, ◌||◌, List, [], ◌∷◌, length, codes, Option}
+use Rattle.std.specs.Prelude.{None, Some}
 use Rattle.std.specs.Str.{bytes_eq}
 use Rattle.cg_limit.specs.declared.TheConstants.{MOST_NESTING}
-use Rattle.cg_liberty_text.specs.Argument.{argument_texts, ends_value, is_close_brace, is_close_paren, is_colon, is_in_value, is_open_brace, is_open_paren, is_semicolon, is_word, may_follow, unexpected, value_text}
+use Rattle.cg_liberty_text.specs.Argument.{argument_texts, ends_value, is_close_brace, is_close_paren, is_colon, is_in_value}
+use Rattle.cg_liberty_text.specs.Argument.{is_open_brace, is_open_paren, is_semicolon, is_word, may_follow, unexpected, value_text}
 use Rattle.cg_liberty_text.specs.declared.fault.TextFault.{TextFault}
 use Rattle.cg_liberty_text.specs.declared.fault.TextFault.TheVariants.{BadGroup, Nesting}
 use Rattle.cg_liberty_text.specs.declared.lexeme.Kind.{Kind}
@@ -31,7 +33,8 @@ put_statement statement later = (statement ∷ later.0, later.1)
 abbrev pub faulty : TextFault → Read
 faulty fault = ([], Some fault)
 
--- the group that a `{` opens inside so many others: at most 64 nest, the file is a group `library`, and a `cell` directly in it has one argument
+-- the group that a `{` opens inside so many others: at most 64 nest, the file is a group `library`, and a `cell` directly in it has
+-- one argument
 abbrev pub opened : ℕ → Token → List (List ℕ) → Read → Read
 opened depth word texts later =
     cond (depth == MOST_NESTING) (faulty Nesting)
@@ -54,7 +57,8 @@ follow depth (Named word) token after later =
     (cond (is_colon token.kind && nat_lt 0 depth) (put_statement (Attribute word.text (value_text after)) (later depth Valued))
     (faulty (unexpected token)))
 follow depth (Listing word texts before) token after later =
-    cond (may_follow before token.kind) (later depth (cond (is_close_paren token.kind) (Listed word texts) (Listing word texts token.kind)))
+    cond (may_follow before token.kind)
+    (later depth (cond (is_close_paren token.kind) (Listed word texts) (Listing word texts token.kind)))
     (faulty (unexpected token))
 follow depth (Listed word texts) token after later =
     cond (is_open_brace token.kind) (opened depth word texts (later (depth + 1) Start))
@@ -89,7 +93,9 @@ phase_behind depth (Attribute word text) = Start
 
 -- the statements from one on that is read from some tokens, where `left` are those behind it
 abbrev pub Reads : ℕ → ℕ → Phase → List Token → List Token → Statement → Type 0
-Reads end depth phase tokens left statement = statements end depth phase tokens ≡ put_statement statement (statements end (depth_behind depth statement) (phase_behind depth statement) left)
+Reads end depth phase tokens left statement =
+    statements end depth phase tokens
+    ≡ put_statement statement (statements end (depth_behind depth statement) (phase_behind depth statement) left)
 
 abbrev pub Refused : ℕ → ℕ → Phase → List Token → TextFault → Type 0
 Refused end depth phase tokens fault = (statements end depth phase tokens).1 ≡ Some fault

@@ -3,7 +3,8 @@
 ghost use Rattle.std.specs.Prelude.{◌≡◌, ◌==◌, ◌∷◌, ℕ, List, [], length, Ok, Err, MatchOption, MatchResult};
 ghost use Rattle.std.specs.List.{list_any};
 ghost use Rattle.std.specs.Str.{bytes_eq};
-ghost use Rattle.cg_liberty_text.specs.Argument.{argument_texts, behind_arguments, behind_value, ends_value, is_bad, is_close_brace};
+ghost use Rattle.cg_liberty_text.specs.Argument.{argument_texts, behind_arguments, behind_value, ends_value, is_bad};
+ghost use Rattle.cg_liberty_text.specs.Argument.{is_close_brace};
 ghost use Rattle.cg_liberty_text.specs.Argument.{is_close_paren, is_colon, is_comma, is_in_value, is_open_brace, is_open_paren};
 ghost use Rattle.cg_liberty_text.specs.Argument.{is_semicolon, is_text, is_value_over, is_word, may_follow, unexpected, value_text};
 ghost use Rattle.cg_liberty_text.specs.declared.lexeme.Kind.TheVariants.{OpenParen};

@@ -3,8 +3,10 @@
 ghost use Rattle.std.specs.Prelude.{◌≡◌, ◌+◌, ◌<◌, ◌≤◌, ◌==◌, false, length, Option, IfSome};
 ghost use Rattle.cg_liberty_text.specs.declared.lexeme.Kind.TheVariants.{Quoted};
 ghost use Rattle.cg_liberty_text.specs.declared.lexeme.Lexeme.TheVariants.{Blank, Token};
-ghost use Rattle.cg_liberty_text.specs.Lexeme.{IsWithin, begins_comment, closed, closes, comment_length, comment_lexeme, ends_word, escapes};
-ghost use Rattle.cg_liberty_text.specs.Lexeme.{is_mark, join_length, lexeme, line_length, longer, mark_kind, quoted_length, word_length};
+ghost use Rattle.cg_liberty_text.specs.Lexeme.{IsWithin, begins_comment, closed, closes, comment_length, comment_lexeme, ends_word};
+ghost use Rattle.cg_liberty_text.specs.Lexeme.{escapes};
+ghost use Rattle.cg_liberty_text.specs.Lexeme.{is_mark, join_length, lexeme, line_length, longer, mark_kind, quoted_length};
+ghost use Rattle.cg_liberty_text.specs.Lexeme.{word_length};
 
 use cg_text::blanks::is_white_space;
 

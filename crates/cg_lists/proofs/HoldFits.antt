@@ -1,5 +1,6 @@
 -- The list of hold stages fits.
-use Rattle.std.proofs.Common.{◌≡◌, ◌≢◌, ℕ, zero, suc, ◌+◌, ◌<◌, Bool, true, false, if◌then◌else◌, cond, List, [], ◌∷◌, map, length, nat_eq, nat_lt, nat_le, is_none, Option, None, Some, refl, sym, ◌∙◌, ap, subst, arith, ◌⊎◌, inl, inr}
+use Rattle.std.proofs.Common.{◌≡◌, ◌≢◌, ℕ, zero, suc, ◌+◌, ◌<◌, Bool, true, false, if◌then◌else◌, cond, List, [], ◌∷◌, map, length}
+use Rattle.std.proofs.Common.{nat_eq, nat_lt, nat_le, is_none, Option, None, Some, refl, sym, ◌∙◌, ap, subst, arith, ◌⊎◌, inl, inr}
 use Rattle.std.specs.List.{IsDistinct, filter, find, range_with_len}
 use Rattle.std.specs.Option.{option_map_or}
 use Rattle.std.proofs.lemmas.Bool.{and_parts, both_ways, eqb-true, eq-eqb, false_from_ne_true, or_cases, or_left, or_right}
@@ -12,7 +13,8 @@ use Rattle.cg_claim.specs.Reach.{inputs_of_register}
 use Rattle.cg_stage.specs.Stages.{Fits}
 use Rattle.cg_lists.specs.Fit.{AllFit}
 use Rattle.cg_lists.specs.HoldList.{choices, chosen, chosen_regs, hold_list, hold_stage, hold_width, serves, unless_empty}
-use Rattle.cg_lists.specs.Literals.{IdleData, both_literals, by_count, idle_count, insert_literal, literals_of, same_bool, same_literal}
+use Rattle.cg_lists.specs.Literals.{IdleData, both_literals, by_count, idle_count, insert_literal, literals_of, same_bool}
+use Rattle.cg_lists.specs.Literals.{same_literal}
 use Rattle.cg_lists.specs.Supports.{all_nets, free_registers, in_net_order, input_cone, own_registers_of}
 use Rattle.cg_lists.proofs.Among.{Among, among_cons, among_none, later}
 use Rattle.cg_lists.proofs.FitLists.{Differ, all_fit, filter_distinct, filter_in, range_distinct, range_in}

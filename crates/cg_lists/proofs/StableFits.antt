@@ -1,5 +1,6 @@
 -- The list of a round of stability fits.
-use Rattle.std.proofs.Common.{◌≡◌, ◌≢◌, ℕ, ◌<◌, true, false, not, ◌&&◌, List, length, nat_eq, bytes_eq, option_map, option_and_then, Option, None, Some, refl, sym, ◌∙◌, ap, subst, arith}
+use Rattle.std.proofs.Common.{◌≡◌, ◌≢◌, ℕ, ◌<◌, true, false, not, ◌&&◌, List, length, nat_eq, bytes_eq, option_map, option_and_then}
+use Rattle.std.proofs.Common.{Option, None, Some, refl, sym, ◌∙◌, ap, subst, arith}
 use Rattle.std.specs.List.{IsDistinct, filter_map, list_all}
 use Rattle.std.proofs.lemmas.Bool.{and_parts, both_ways, eqb-true}
 use Rattle.std.proofs.lemmas.Slice.Eq.{bytes_eq-Decides}
@@ -14,8 +15,10 @@ use Rattle.cg_lists.specs.Groups.{Group, group_of, has_key}
 use Rattle.cg_lists.specs.Rounds.{is_empty, kept_key, same_option}
 use Rattle.cg_lists.specs.StableList.{StableKey, had_stable, same_stable, stable_key, stable_list, stable_stage}
 use Rattle.cg_lists.specs.Supports.{all_nets, has_enable, has_input, in_net_order, others_of, own_registers_of}
-use Rattle.cg_lists.proofs.FitLists.{BeginsGroup, all_fit, begins_group, filter_distinct, filter_in, group_has, groups_apart, map_maps, member_key, range_differs, range_distinct, range_in}
-use Rattle.cg_lists.proofs.Mapped.{all_member, is_some_of, kept, length_plain, mapped_from, mapped_in, mapped_option, nonempty_member, not_true, ordered_some, plain_nets, plain_plain, some_length, when_true}
+use Rattle.cg_lists.proofs.FitLists.{BeginsGroup, all_fit, begins_group, filter_distinct, filter_in, group_has, groups_apart}
+use Rattle.cg_lists.proofs.FitLists.{map_maps, member_key, range_differs, range_distinct, range_in}
+use Rattle.cg_lists.proofs.Mapped.{all_member, is_some_of, kept, length_plain, mapped_from, mapped_in, mapped_option}
+use Rattle.cg_lists.proofs.Mapped.{nonempty_member, not_true, ordered_some, plain_nets, plain_plain, some_length, when_true}
 
 module _ (m : MachineData) (good : IsMachine m) where
   option_is : (a b : Option ℕ) → same_option a b ≡ true → a ≡ b

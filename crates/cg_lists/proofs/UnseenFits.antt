@@ -1,5 +1,6 @@
 -- The list of a round of unobservability fits.
-use Rattle.std.proofs.Common.{◌≡◌, ◌≢◌, ℕ, ◌<◌, Bool, true, false, not, ◌&&◌, List, [], ◌∷◌, length, slice_get, nat_eq, bytes_eq, is_some, option_and_then, Option, None, Some, refl, sym, ◌∙◌, ap, subst, arith}
+use Rattle.std.proofs.Common.{◌≡◌, ◌≢◌, ℕ, ◌<◌, Bool, true, false, not, ◌&&◌, List, [], ◌∷◌, length, slice_get, nat_eq, bytes_eq}
+use Rattle.std.proofs.Common.{is_some, option_and_then, Option, None, Some, refl, sym, ◌∙◌, ap, subst, arith}
 use Rattle.std.specs.List.{IsDistinct, filter_map}
 use Rattle.std.proofs.lemmas.Bool.{and_parts, both_ways, eq-eqb, false_from_ne_true}
 use Rattle.std.proofs.lemmas.Option.{none-some, same_Some}
@@ -18,10 +19,13 @@ use Rattle.cg_lists.specs.Groups.{Group, group_of, has_key}
 use Rattle.cg_lists.specs.HoldList.{unless_empty}
 use Rattle.cg_lists.specs.Rounds.{is_empty, kept_key}
 use Rattle.cg_lists.specs.Supports.{all_nets, has_enable, in_net_order, own_registers_of}
-use Rattle.cg_lists.specs.UnseenList.{enables_some, fan_out, guards_kept, guards_of, had_unseen, is_guard, taken_at, taken_net, unseen_groups, unseen_key, unseen_list, unseen_stage, without_guards}
-use Rattle.cg_lists.proofs.FitLists.{BeginsGroup, all_fit, begins_group, filter_distinct, filter_in, group_has, groups_apart, maps_maps, member_key, range_differs, range_distinct, range_in}
+use Rattle.cg_lists.specs.UnseenList.{enables_some, fan_out, guards_kept, guards_of, had_unseen, is_guard, taken_at, taken_net}
+use Rattle.cg_lists.specs.UnseenList.{unseen_groups, unseen_key, unseen_list, unseen_stage, without_guards}
+use Rattle.cg_lists.proofs.FitLists.{BeginsGroup, all_fit, begins_group, filter_distinct, filter_in, group_has, groups_apart}
+use Rattle.cg_lists.proofs.FitLists.{maps_maps, member_key, range_differs, range_distinct, range_in}
 use Rattle.cg_lists.proofs.UsedNets.{register_used, used_net}
-use Rattle.cg_lists.proofs.Mapped.{is_some_of, kept, length_plain, mapped_from, mapped_in, none_option, nonempty_member, not_true, ordered_some, plain_nets, plain_plain, some_length, then_option, when_true}
+use Rattle.cg_lists.proofs.Mapped.{is_some_of, kept, length_plain, mapped_from, mapped_in, none_option, nonempty_member, not_true}
+use Rattle.cg_lists.proofs.Mapped.{ordered_some, plain_nets, plain_plain, some_length, then_option, when_true}
 
 module _ (m : MachineData) (good : IsMachine m) where
   module _ (earlier : List Earlier) where

@@ -19,7 +19,8 @@ is_first (Some first) r = nat_eq first r
 
 -- the group of a key at the first register that has it
 abbrev pub group_of : {K : Type 0} → (K → K → Bool) → (ℕ → Option K) → List ℕ → ℕ → K → Option (Group K)
-group_of same key regs r k = if is_first (find (has_key same key k) regs) r then Some (record { key = k; regs = filter (has_key same key k) regs }) else None
+group_of same key regs r k =
+    if is_first (find (has_key same key k) regs) r then Some (record { key = k; regs = filter (has_key same key k) regs }) else None
 
 abbrev pub groups : {K : Type 0} → (K → K → Bool) → (ℕ → Option K) → List ℕ → List (Group K)
 groups same key regs = filter_map (λ r. option_and_then (group_of same key regs r) (key r)) regs

@@ -67,4 +67,5 @@ abbrev pub is_large : MachineData → Question → Bool
 is_large m q = nat_lt MOST_CLAIM_NODES (nodes_of m q)
 
 abbrev pub hold_passes : MachineData → Option IdleData → ℕ → Bool
-hold_passes m idle width = list_any (λ r. list_any (λ l. is_large m (hold_question l r)) (looked_at m idle width r)) (free_registers m)
+hold_passes m idle width =
+    list_any (λ r. list_any (λ l. is_large m (hold_question l r)) (looked_at m idle width r)) (free_registers m)

@@ -25,4 +25,5 @@ UnseenListFits = (m : MachineData) (test : Bool) (earlier : List Earlier) → Is
 
 -- the hold claims of a register are all as wide as its width says
 abbrev pub HoldWidthsAreOne : Type 0
-HoldWidthsAreOne = (m : MachineData) (e : Literal) (r : ℕ) → IsMachine m → is_in (input_cone m r) e.0 ≡ true → width_of m (hold_question e r) ≡ hold_width m r
+HoldWidthsAreOne = (m : MachineData) (e : Literal) (r : ℕ) → IsMachine m → is_in (input_cone m r) e.0 ≡ true →
+    width_of m (hold_question e r) ≡ hold_width m r

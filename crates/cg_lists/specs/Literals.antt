@@ -1,5 +1,6 @@
 -- The literals that may hold a register, those first that are 0 most often.
-use Rattle.std.specs.Prelude.{◌≡◌, ◌≤◌, ℕ, ◌-◌, Bool, true, false, not, ◌&&◌, if◌then◌else◌, List, [], ◌∷◌, length, slice_index_or, nat_eq, nat_le, Option, Some, None}
+use Rattle.std.specs.Prelude.{◌≡◌, ◌≤◌, ℕ, ◌-◌, Bool, true, false, not, ◌&&◌, if◌then◌else◌, List, [], ◌∷◌, length, slice_index_or}
+use Rattle.std.specs.Prelude.{nat_eq, nat_le, Option, Some, None}
 use Rattle.std.specs.List.{All, flat_map}
 use Rattle.cg_cell.specs.Gates.{exclusive_or}
 use Rattle.cg_machine.specs.Claims.{Literal}

@@ -1,5 +1,6 @@
 -- Which registers a round leaves out, by the stages that were tried before.
-use Rattle.std.specs.Prelude.{ℕ, Bool, true, false, ◌&&◌, ◌||◌, if◌then◌else◌, List, [], ◌∷◌, map, nat_eq, Option, Some, None, option_and_then}
+use Rattle.std.specs.Prelude.{ℕ, Bool, true, false, ◌&&◌, ◌||◌, if◌then◌else◌, List, [], ◌∷◌, map, nat_eq, Option, Some, None}
+use Rattle.std.specs.Prelude.{option_and_then}
 use Rattle.std.specs.List.{list_any}
 use Rattle.cg_netlist.specs.Circuit.{is_in}
 use Rattle.cg_machine.specs.Claims.{Literal}
@@ -32,7 +33,8 @@ plain_literals nets = map (λ y. (y, false)) nets
 
 -- a register is left out where it stood in an earlier stage of the kind that was inserted, or that had the key it has now
 abbrev pub left_out : {K : Type 0} → StageKind → (K → Stage → Bool) → List Earlier → ℕ → K → Bool
-left_out kind had earlier r key = list_any (λ e. same_kind e.stage.kind kind && is_in e.stage.regs r && (e.inserted || had key e.stage)) earlier
+left_out kind had earlier r key =
+    list_any (λ e. same_kind e.stage.kind kind && is_in e.stage.regs r && (e.inserted || had key e.stage)) earlier
 
 -- the key of a register that is not left out
 abbrev pub kept_key : {K : Type 0} → StageKind → (K → Stage → Bool) → List Earlier → (ℕ → Option K) → ℕ → Option K

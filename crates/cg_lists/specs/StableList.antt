@@ -34,4 +34,5 @@ abbrev pub stable_stage : Group StableKey → Stage
 stable_stage g = record { kind = Stable; enable = plain_literals g.key.enables; regs = g.regs; own = g.key.own; guards = [] }
 
 abbrev pub stable_list : MachineData → List Earlier → List Stage
-stable_list m earlier = map stable_stage (groups same_stable (kept_key Stable had_stable earlier (stable_key m)) (own_registers_of m))
+stable_list m earlier =
+    map stable_stage (groups same_stable (kept_key Stable had_stable earlier (stable_key m)) (own_registers_of m))

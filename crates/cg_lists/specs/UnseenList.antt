@@ -1,5 +1,6 @@
 -- The list of a round of unobservability: registers that are seen only where a register that guards them is 1, by their guards.
-use Rattle.std.specs.Prelude.{ℕ, Bool, not, ◌&&◌, ◌++◌, if◌then◌else◌, List, [], map, slice_get, nat_eq, Option, Some, None, is_some, bytes_eq, option_and_then}
+use Rattle.std.specs.Prelude.{ℕ, Bool, not, ◌&&◌, ◌++◌, if◌then◌else◌, List, [], map, slice_get, nat_eq, Option, Some, None}
+use Rattle.std.specs.Prelude.{is_some, bytes_eq, option_and_then}
 use Rattle.std.specs.List.{filter, filter_map, flat_map, list_any}
 use Rattle.std.specs.Option.{option_map_or}
 use Rattle.cg_cell.specs.Term.{lone_input}
@@ -31,7 +32,9 @@ plain_outputs cell = map (λ o. o.0) (filter (λ o. not o.1) cell.outputs)
 
 -- whether one of them is the enable of one of these registers
 abbrev pub enables_some : MachineData → List ℕ → ℕ → Bool
-enables_some m regs q = list_any (λ y. list_any (λ k. same_option (enable_of m k) (Some y)) regs) (option_map_or plain_outputs (slice_get m.circuit.registers q) [])
+enables_some m regs q =
+    list_any (λ y. list_any (λ k. same_option (enable_of m k) (Some y)) regs)
+    (option_map_or plain_outputs (slice_get m.circuit.registers q) [])
 
 -- whether q guards g, of which this is the fan-out
 abbrev pub is_guard : MachineData → ℕ → List ℕ → ℕ → Bool
@@ -50,7 +53,14 @@ had_unseen guards s = bytes_eq guards s.guards
 
 -- the stage of registers with these guards: its enables are the nets that the guards take
 abbrev pub unseen_stage : MachineData → List ℕ → List ℕ → Stage
-unseen_stage m guards regs = record { kind = Unseen; enable = plain_literals (in_net_order m (filter_map (taken_at m) guards)); regs = regs; own = None; guards = guards }
+unseen_stage m guards regs =
+    record {
+      kind = Unseen;
+      enable = plain_literals (in_net_order m (filter_map (taken_at m) guards));
+      regs = regs;
+      own = None;
+      guards = guards;
+    }
 
 abbrev pub unseen_groups : MachineData → List Earlier → List (Group (List ℕ))
 unseen_groups m earlier = groups bytes_eq (kept_key Unseen had_unseen earlier (unseen_key m)) (own_registers_of m)
@@ -58,7 +68,8 @@ unseen_groups m earlier = groups bytes_eq (kept_key Unseen had_unseen earlier (u
 -- with a test input no register that guards may be gated: neither a guard of a group of this round, as the groups are
 -- before any register is taken out, nor one of a stage that was inserted
 abbrev pub guards_kept : List (Group (List ℕ)) → List Earlier → List ℕ
-guards_kept all earlier = flat_map (λ g. g.key) all ++ flat_map (λ e. if same_kind e.stage.kind Unseen && e.inserted then e.stage.guards else []) earlier
+guards_kept all earlier =
+    flat_map (λ g. g.key) all ++ flat_map (λ e. if same_kind e.stage.kind Unseen && e.inserted then e.stage.guards else []) earlier
 
 abbrev pub without_guards : Bool → List (Group (List ℕ)) → List Earlier → List ℕ → List ℕ
 without_guards test all earlier regs = if test then filter (λ r. not (is_in (guards_kept all earlier) r)) regs else regs

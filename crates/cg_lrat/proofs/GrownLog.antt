@@ -1,5 +1,7 @@
 -- A step that is accepted, put behind a log, keeps the log leading to its state; one that adds the empty clause ends it.
-use Rattle.std.proofs.Common.{◌≡◌, ℕ, ◌+◌, zero, suc, ◌<◌, Bool, true, false, List, [], ◌∷◌, ◌++◌, Some, None, refl, sym, ap, ◌∙◌, subst, map, length, length-append, append_assoc, append-nil, add-one, nat_eq, nat_le, arith, rules, ◌==◌, ◌-◌, ◌^◌, if◌then◌else◌}
+use Rattle.std.proofs.Common.{◌≡◌, ℕ, ◌+◌, zero, suc, ◌<◌, Bool, true, false, List, [], ◌∷◌, ◌++◌, Some, None, refl, sym, ap, ◌∙◌}
+use Rattle.std.proofs.Common.{subst, map, length, length-append, append_assoc, append-nil, add-one, nat_eq, nat_le, arith, rules}
+use Rattle.std.proofs.Common.{◌==◌, ◌-◌, ◌^◌, if◌then◌else◌}
 use Rattle.std.specs.List.{slice_get, AllByRecursion}
 use Rattle.std.specs.Map.{update}
 use Rattle.std.proofs.lemmas.Bool.{eqb-true, leb-true}
@@ -10,7 +12,8 @@ use Rattle.cg_formula.specs.declared.formula.Formula.{Formula}
 use Rattle.cg_lrat.specs.declared.log.Body.TheVariants.{Add}
 use Rattle.cg_lrat.specs.declared.log.Step.{Step}
 use Rattle.cg_lrat.specs.declared.log.Log.{Log}
-use Rattle.cg_lrat.specs.Accepted.{Live, State, with_clauses, first_state, fault_of, state_after, adds_empty, clause_fault, hints_fault, is_tautology}
+use Rattle.cg_lrat.specs.Accepted.{Live, State, with_clauses, first_state, fault_of, state_after, adds_empty, clause_fault}
+use Rattle.cg_lrat.specs.Accepted.{hints_fault, is_tautology}
 use Rattle.cg_lrat.specs.AcceptedLog.{LeadsTo, IsAccepted}
 use Rattle.cg_formula.specs.Lits.{inverse, same_lit, is_in}
 use Rattle.cg_formula.specs.Bounds.{IsLit}

@@ -1,5 +1,6 @@
 -- What is read is in the grammar of LRAT, and nothing in it is refused.
-use Rattle.std.proofs.Common.{◌≡◌, ℕ, ◌-◌, ◌^◌, Bool, true, false, List, [], ◌∷◌, ◌++◌, map, get_or, Result, Ok, Err, IfOk, Option, Some, None, inr, lit<, refl, sym, ap, subst, ◌∙◌, codes, append_assoc, arith}
+use Rattle.std.proofs.Common.{◌≡◌, ℕ, ◌-◌, ◌^◌, Bool, true, false, List, [], ◌∷◌, ◌++◌, map, get_or, Result, Ok, Err, IfOk, Option}
+use Rattle.std.proofs.Common.{Some, None, inr, lit<, refl, sym, ap, subst, ◌∙◌, codes, append_assoc, arith}
 use Rattle.std.proofs.lemmas.Bool.{ne_eqb}
 use Rattle.std.proofs.lemmas.Slice.Eq.{bytes_eq-Decides}
 use Rattle.std.specs.Fmt.{decimal}
@@ -26,7 +27,8 @@ use Rattle.cg_formula.specs.Tokens.{clause_token}
 use Rattle.cg_lrat.specs.Ids.{id_token}
 use Rattle.cg_formula.specs.DimacsReading.{layout}
 use Rattle.cg_formula.specs.DimacsText.{lit_word}
-use Rattle.cg_lrat.specs.LratReading.{◌>>=◌, lits_at, put_id, ids_at, addition_of, deletion_of, body_of, words_step, step_of, steps_of, lrat}
+use Rattle.cg_lrat.specs.LratReading.{◌>>=◌, lits_at, put_id, ids_at, addition_of, deletion_of, body_of, words_step, step_of}
+use Rattle.cg_lrat.specs.LratReading.{steps_of, lrat}
 use Rattle.cg_lrat.specs.LratText.{id_words, body_words, step_line, LratText}
 use Rattle.cg_formula.proofs.TokenSpelling.{literal_spelled, end_spelled, clause_token-lit, first_digit}
 use Rattle.cg_lrat.proofs.IdSpelling.{id_spelled, id_end_spelled, id_token-decimal}

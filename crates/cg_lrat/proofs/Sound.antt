@@ -1,5 +1,6 @@
 -- An accepted log proves its formula unsatisfiable: bits that satisfy the formula satisfy each live clause.
-use Rattle.std.proofs.Common.{◌≡◌, ℕ, ◌+◌, suc, Bool, true, false, ◌||◌, ◌==◌, List, [], ◌∷◌, ◌++◌, length, map, Option, Some, None, inl, inr, refl, sym, ap, ◌∙◌, if◌then◌else◌, nat_eq, nat_le}
+use Rattle.std.proofs.Common.{◌≡◌, ℕ, ◌+◌, suc, Bool, true, false, ◌||◌, ◌==◌, List, [], ◌∷◌, ◌++◌, length, map, Option, Some, None}
+use Rattle.std.proofs.Common.{inl, inr, refl, sym, ap, ◌∙◌, if◌then◌else◌, nat_eq, nat_le}
 use Rattle.std.proofs.lemmas.Bool.{eqb-true}
 use Rattle.std.specs.List.{list_any, list_all}
 use Rattle.std.specs.Map.{update}
@@ -17,7 +18,9 @@ use Rattle.cg_lrat.specs.declared.hint.NonFalse.{NonFalse}
 use Rattle.cg_lrat.specs.declared.hint.NonFalse.TheVariants as left
 use Rattle.cg_formula.specs.Lits.{inverse, same_lit, is_in}
 use Rattle.cg_formula.specs.Satisfiable.{lit_bit, clause_bit, IsUnsatisfiable}
-use Rattle.cg_lrat.specs.Accepted.{Live, State, with_clauses, first_state, non_false_lits, non_false_of, unit_then, false_at, known_then, hints_fault, is_tautology, clause_fault, addition_fault, fault_of, without, state_after, adds_empty, step_verdict, verdict_from, verdict}
+use Rattle.cg_lrat.specs.Accepted.{Live, State, with_clauses, first_state, non_false_lits, non_false_of, unit_then, false_at}
+use Rattle.cg_lrat.specs.Accepted.{known_then, hints_fault, is_tautology, clause_fault, addition_fault, fault_of, without}
+use Rattle.cg_lrat.specs.Accepted.{state_after, adds_empty, step_verdict, verdict_from, verdict}
 use Rattle.cg_formula.proofs.Connectives.{and_true, or_true, or_right, not_true}
 use Rattle.cg_formula.proofs.Members.{same_lit_equal}
 use Rattle.cg_formula.proofs.TrueLiterals.{lit_bit-inverse, found_true, all_false, all_more}

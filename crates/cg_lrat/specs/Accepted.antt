@@ -1,5 +1,6 @@
 -- When a log is accepted (as in LRAT: reverse unit propagation along hints).
-use Rattle.std.specs.Prelude.{ℕ, ◌+◌, Bool, false, not, List, [], ◌∷◌, ◌++◌, ◌==◌, length, map, Option, Some, None, if◌then◌else◌, nat_le, nat_eq}
+use Rattle.std.specs.Prelude.{ℕ, ◌+◌, Bool, false, not, List, [], ◌∷◌, ◌++◌, ◌==◌, length, map, Option, Some, None, if◌then◌else◌}
+use Rattle.std.specs.Prelude.{nat_le, nat_eq}
 use Rattle.std.specs.List.{list_any, list_all, filter}
 use Rattle.std.specs.Map.{update}
 use Rattle.cg_formula.specs.declared.formula.Lit.{Lit}
@@ -67,7 +68,8 @@ hints_fault live trues [] = Some NoHint
 hints_fault live trues (hint ∷ []) = known_then (live hint) hint (λ lits. false_at (non_false_of (non_false_lits trues lits)) hint)
 hints_fault live trues (hint ∷ next ∷ later) =
     known_then (live hint) hint
-    (λ lits. unit_then (non_false_of (non_false_lits trues lits)) trues hint (λ lit. hints_fault live (trues ++ lit ∷ []) (next ∷ later)))
+    (λ lits. unit_then (non_false_of (non_false_lits trues lits)) trues hint (λ lit. hints_fault live (trues
+    ++ lit ∷ []) (next ∷ later)))
 
 -- a literal stands there and its inverse too
 abbrev pub is_tautology : List Lit → Bool

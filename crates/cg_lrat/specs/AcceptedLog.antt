@@ -13,7 +13,8 @@ use Rattle.cg_lrat.specs.Accepted.{State, first_state, fault_of, state_after, ad
 abbrev pub LeadsTo : State → List Step → State → Type 0
 LeadsTo state [] end = state ≡ end
 LeadsTo state (step ∷ later) end =
-    (fault_of state step.body step.id ≡ None) × (adds_empty step.body ≡ false) × LeadsTo (state_after state step.body step.id) later end
+    (fault_of state step.body step.id ≡ None) × (adds_empty step.body ≡ false)
+    × LeadsTo (state_after state step.body step.id) later end
 
 -- some step adds the empty clause and is not refused, and no step before it is refused
 pub record IsAccepted (formula : Formula) (log : Log) : Type 0 where

@@ -1,5 +1,6 @@
 -- A machine with gates and delay registers added, some of them or none: what it keeps of the machine before.
-use Rattle.std.proofs.Common.{◌≡◌, ℕ, ◌+◌, ◌-◌, ◌<◌, ◌≤◌, Bool, true, ◌||◌, not, if◌then◌else◌, List, [], ◌∷◌, ◌++◌, map, length, slice_get, take, Option, None, Some, nat_eq, refl, sym, ◌∙◌, ap, inl, inr, arith, length-append}
+use Rattle.std.proofs.Common.{◌≡◌, ℕ, ◌+◌, ◌-◌, ◌<◌, ◌≤◌, Bool, true, ◌||◌, not, if◌then◌else◌, List, [], ◌∷◌, ◌++◌, map, length}
+use Rattle.std.proofs.Common.{slice_get, take, Option, None, Some, nat_eq, refl, sym, ◌∙◌, ap, inl, inr, arith, length-append}
 use Rattle.std.proofs.lemmas.Bool.{eq-eqb, or_left, or_right}
 use Rattle.std.proofs.lemmas.List.{length-replicate, length-take-le, take-replicate, take_all}
 use Rattle.std.proofs.lemmas.Option.{slice_get_past}
@@ -10,8 +11,10 @@ use Rattle.cg_netlist.specs.Moment.{bit, values_at}
 use Rattle.cg_netlist.proofs.Members.{All-member}
 use Rattle.cg_netlist.proofs.Used.{data_is_used, output_is_used}
 use Rattle.cg_netlist.proofs.Values.{same_places, same_values}
-use Rattle.cg_machine.specs.Claims.{EqualOutside, Follows, Hold, Joined, Literal, Next, Shown, Stable, Target, Unseen, any_at, literal_bit, target_bit}
-use Rattle.cg_machine.specs.Machine.{IsInputs, IsMachine, IsState, MachineData, enable_of, load, next, next_of, outputs_at, step, values}
+use Rattle.cg_machine.specs.Claims.{EqualOutside, Follows, Hold, Joined, Literal, Next, Shown, Stable, Target, Unseen, any_at}
+use Rattle.cg_machine.specs.Claims.{literal_bit, target_bit}
+use Rattle.cg_machine.specs.Machine.{IsInputs, IsMachine, IsState, MachineData, enable_of, load, next, next_of, outputs_at, step}
+use Rattle.cg_machine.specs.Machine.{values}
 use Rattle.cg_machine.proofs.Bits.{each_get, length-each, same_bit}
 use Rattle.cg_machine.specs.Extends.{Extends, old}
 use Rattle.cg_machine.specs.Run.{Same, Simulates, ones}

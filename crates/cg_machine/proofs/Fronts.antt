@@ -1,9 +1,11 @@
 -- In a machine with more nets, logic cells and registers behind the others, the old nets have their old bits.
-use Rattle.std.proofs.Common.{◌≡◌, ℕ, zero, suc, ◌<◌, ◌≤◌, Bool, true, false, not, if◌then◌else◌, List, [], ◌∷◌, ◌++◌, map, length, slice_get, take, Option, None, Some, refl, sym, ◌∙◌, ap, arith, length-append, append_assoc}
+use Rattle.std.proofs.Common.{◌≡◌, ℕ, zero, suc, ◌<◌, ◌≤◌, Bool, true, false, not, if◌then◌else◌, List, [], ◌∷◌, ◌++◌, map, length}
+use Rattle.std.proofs.Common.{slice_get, take, Option, None, Some, refl, sym, ◌∙◌, ap, arith, length-append, append_assoc}
 use Rattle.std.specs.List.{cons_option, flat_map}
 use Rattle.std.proofs.lemmas.List.{length-map, length-take-le}
 use Rattle.std.proofs.lemmas.Option.{none-some, same_Some}
-use Rattle.cg_netlist.specs.Circuit.{GatingCell, LogicCell, RegisterCell, cell_nets, data_inputs, given_nets, is_in, register_nets, shown_nets}
+use Rattle.cg_netlist.specs.Circuit.{GatingCell, LogicCell, RegisterCell, cell_nets, data_inputs, given_nets, is_in, register_nets}
+use Rattle.cg_netlist.specs.Circuit.{shown_nets}
 use Rattle.cg_netlist.specs.Moment.{Settles, function_value, register_bits, shown_bits, values_at}
 use Rattle.cg_netlist.proofs.Given.{clock_given, data_given, driver_within, given_driver, register_given}
 use Rattle.cg_netlist.proofs.Members.{All-from_members, is_in_left, is_in_right, member_at}

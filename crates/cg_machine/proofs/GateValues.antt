@@ -1,5 +1,6 @@
 -- The gates of a machine, one after another.
-use Rattle.std.proofs.Common.{◌≡◌, ℕ, zero, suc, ◌+◌, ◌<◌, ◌≤◌, Bool, true, false, not, ◌&&◌, ◌||◌, max, List, [], ◌∷◌, drop, get_or, length, map, set, slice_get, Some, refl, ap, sym, ◌∙◌, arith, add-one, drop-cons}
+use Rattle.std.proofs.Common.{◌≡◌, ℕ, zero, suc, ◌+◌, ◌<◌, ◌≤◌, Bool, true, false, not, ◌&&◌, ◌||◌, max, List, [], ◌∷◌, drop}
+use Rattle.std.proofs.Common.{get_or, length, map, set, slice_get, Some, refl, ap, sym, ◌∙◌, arith, add-one, drop-cons}
 use Rattle.std.specs.List.{All, cons_option}
 use Rattle.std.proofs.lemmas.Option.{get_or_from_slice_get, slice_get_within}
 use Rattle.cg_cell.specs.Cover.{cover_value}

@@ -1,5 +1,7 @@
 -- What is kept goes on to make a machine: at the start, and after each addition.
-use Rattle.std.proofs.Common.{◌≡◌, ℕ, ◌+◌, ◌<◌, false, List, [], ◌∷◌, ◌++◌, length, replicate, slice_set, nat_eq, IsSome, Option, None, Some, OnErr, OnOk, Result, Ok, Err, is_ok, if◌then◌else◌, slice_get, take, unwrap_or, refl, ap, sym, ◌∙◌, subst, arith}
+use Rattle.std.proofs.Common.{◌≡◌, ℕ, ◌+◌, ◌<◌, false, List, [], ◌∷◌, ◌++◌, length, replicate, slice_set, nat_eq, IsSome, Option}
+use Rattle.std.proofs.Common.{None, Some, OnErr, OnOk, Result, Ok, Err, is_ok, if◌then◌else◌, slice_get, take, unwrap_or, refl, ap}
+use Rattle.std.proofs.Common.{sym, ◌∙◌, subst, arith}
 use Rattle.std.specs.List.{find}
 use Rattle.std.specs.Option.{option_map}
 use Rattle.std.proofs.lemmas.Bool.{both_ways}

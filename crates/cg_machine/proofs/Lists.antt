@@ -1,5 +1,6 @@
 -- Lists: one more element behind all others, and fronts of lists.
-use Rattle.std.proofs.Common.{◌≡◌, ℕ, zero, suc, ◌+◌, ◌-◌, ◌<◌, ◌≤◌, ◌⊎◌, Bool, true, false, cond, List, [], ◌∷◌, ◌++◌, length, slice_get, take, drop, None, Some, nat_eq, refl, sym, ◌∙◌, ap, subst, inl, inr, arith, get_or}
+use Rattle.std.proofs.Common.{◌≡◌, ℕ, zero, suc, ◌+◌, ◌-◌, ◌<◌, ◌≤◌, ◌⊎◌, Bool, true, false, cond, List, [], ◌∷◌, ◌++◌, length}
+use Rattle.std.proofs.Common.{slice_get, take, drop, None, Some, nat_eq, refl, sym, ◌∙◌, ap, subst, inl, inr, arith, get_or}
 use Rattle.std.specs.List.{All, AllPairs, position_from, range_with_len}
 use Rattle.std.proofs.lemmas.Bool.{both_ways, cases_lt, eqb-true, or_cases}
 use Rattle.std.proofs.lemmas.List.{get_or_append_left, get_or-append_right, length-append}

@@ -1,5 +1,7 @@
 -- Bits that are put at nets, and cells that are put one after another.
-use Rattle.std.proofs.Common.{◌≡◌, ◌≢◌, ℕ, zero, suc, ◌+◌, ◌<◌, ◌≤◌, ◌⊎◌, Bool, true, false, not, ◌||◌, if◌then◌else◌, max, List, [], ◌∷◌, ◌++◌, drop, get_or, length, map, nat_eq, set, slice_get, Some, refl, ap, sym, ◌∙◌, subst, inl, inr, arith, add-one, drop-cons}
+use Rattle.std.proofs.Common.{◌≡◌, ◌≢◌, ℕ, zero, suc, ◌+◌, ◌<◌, ◌≤◌, ◌⊎◌, Bool, true, false, not, ◌||◌, if◌then◌else◌, max, List}
+use Rattle.std.proofs.Common.{[], ◌∷◌, ◌++◌, drop, get_or, length, map, nat_eq, set, slice_get, Some, refl, ap, sym, ◌∙◌, subst}
+use Rattle.std.proofs.Common.{inl, inr, arith, add-one, drop-cons}
 use Rattle.std.specs.List.{cons_option, flat_map, range_with_len}
 use Rattle.std.proofs.lemmas.Bool.{both_ways, cases_Bool, eqb-true, or_cases, or_parts}
 use Rattle.std.proofs.lemmas.List.{length-map, length-set}

@@ -1,10 +1,12 @@
 -- The run of the machine of a netlist is the lawful history of the netlist.
-use Rattle.std.proofs.Common.{◌≡◌, ℕ, ◌<◌, Bool, true, false, not, ◌&&◌, if◌then◌else◌, List, [], ◌∷◌, length, map, slice_get, Option, None, Some, refl, sym, ◌∙◌, ap, subst, inl, inr, arith}
+use Rattle.std.proofs.Common.{◌≡◌, ℕ, ◌<◌, Bool, true, false, not, ◌&&◌, if◌then◌else◌, List, [], ◌∷◌, length, map, slice_get}
+use Rattle.std.proofs.Common.{Option, None, Some, refl, sym, ◌∙◌, ap, subst, inl, inr, arith}
 use Rattle.std.specs.Option.{option_to_list}
 use Rattle.std.proofs.lemmas.Bool.{both_ways}
 use Rattle.std.proofs.lemmas.Option.{slice_get-get_or}
 use Rattle.cg_netlist.specs.Circuit.{Circuit, GatingCell, RegisterCell, clock_nets, gate_nets, is_in}
-use Rattle.cg_netlist.specs.History.{LawfulFrom, Moment, Tick, gate_bit, next_bit, next_value, outputs_of, rises, state_now as state_of_history}
+use Rattle.cg_netlist.specs.History.{LawfulFrom, Moment, Tick, gate_bit, next_bit, next_value, outputs_of, rises}
+use Rattle.cg_netlist.specs.History.{state_now as state_of_history}
 use Rattle.cg_netlist.specs.Moment.{Settles, bit, values_at, zip_with}
 use Rattle.cg_netlist.proofs.Given.{in_option}
 use Rattle.cg_netlist.proofs.NetsOf.{nets_only}

@@ -1,5 +1,6 @@
 -- A gate or a delay register that is added is there, found again or appended.
-use Rattle.std.proofs.Common.{◌≡◌, ℕ, ◌<◌, Bool, true, false, if◌then◌else◌, List, [], ◌∷◌, ◌++◌, length, slice_get, slice_index_or, IsSome, Option, None, Some, unwrap_or, nat_eq, nat_lt, refl, sym, ◌∙◌, ap, subst, arith}
+use Rattle.std.proofs.Common.{◌≡◌, ℕ, ◌<◌, Bool, true, false, if◌then◌else◌, List, [], ◌∷◌, ◌++◌, length, slice_get, slice_index_or}
+use Rattle.std.proofs.Common.{IsSome, Option, None, Some, unwrap_or, nat_eq, nat_lt, refl, sym, ◌∙◌, ap, subst, arith}
 use Rattle.std.specs.List.{All}
 use Rattle.std.specs.Option.{option_or, option_to_list}
 use Rattle.std.proofs.lemmas.Bool.{both_ways, eq-eqb, ltb-true, or_left}
@@ -11,18 +12,22 @@ use Rattle.cg_cell.specs.Cover.{cover_value}
 use Rattle.cg_cell.specs.declared.fit.FitKind.{FitKind}
 use Rattle.cg_limit.specs.declared.Limit.{Limit}
 use Rattle.cg_limit.specs.declared.Limit.TheVariants.{Nets, Registers}
-use Rattle.cg_netlist.specs.Circuit.{Circuit, LogicCell, RegisterCell, cell_nets, data_inputs, gate_nets, given_nets, is_in, register_nets, shown_nets}
+use Rattle.cg_netlist.specs.Circuit.{Circuit, LogicCell, RegisterCell, cell_nets, data_inputs, gate_nets, given_nets, is_in}
+use Rattle.cg_netlist.specs.Circuit.{register_nets, shown_nets}
 use Rattle.cg_netlist.specs.History.{next_value}
 use Rattle.cg_netlist.specs.Moment.{Settles, bit, register_bits, values_at}
 use Rattle.cg_netlist.specs.WellFormed.{IsDriven}
-use Rattle.cg_netlist.proofs.Given.{clock_given, distinct_given, driver_within, from_option, given_driver, given_no_cell, register_given}
+use Rattle.cg_netlist.proofs.Given.{clock_given, distinct_given, driver_within, from_option, given_driver, given_no_cell}
+use Rattle.cg_netlist.proofs.Given.{register_given}
 use Rattle.cg_netlist.proofs.Members.{All-from_members, distinct_apart, is_in_left, is_in_right, member_at}
 use Rattle.cg_netlist.proofs.Used.{in_flat, input_is_used}
 use Rattle.cg_netlist.proofs.Values.{at_map, bit_shown, length-values_at, split_lists, values_at-append}
-use Rattle.cg_machine.specs.Added.{add_delay, add_gate, delay_limit, find_delay, find_gate, first_output, gate_limit, next_delay, next_gate, nets_limit, or_push, push_delay, push_gate, registers_limit, unless_found}
+use Rattle.cg_machine.specs.Added.{add_delay, add_gate, delay_limit, find_delay, find_gate, first_output, gate_limit, next_delay}
+use Rattle.cg_machine.specs.Added.{next_gate, nets_limit, or_push, push_delay, push_gate, registers_limit, unless_found}
 use Rattle.cg_machine.specs.Extends.{Extends, GateFits, HasDelay, HasGate, old}
 use Rattle.cg_machine.specs.Gates.{AddedGate, gate_cell, gate_cover}
-use Rattle.cg_machine.specs.Machine.{IsDelay, IsInputs, IsMachine, IsNet, IsState, MachineData, enable_of, next, next_of, step, values}
+use Rattle.cg_machine.specs.Machine.{IsDelay, IsInputs, IsMachine, IsNet, IsState, MachineData, enable_of, next, next_of, step}
+use Rattle.cg_machine.specs.Machine.{values}
 use Rattle.cg_machine.proofs.Bits.{each_bit}
 use Rattle.cg_machine.proofs.Extended.{extends_self}
 use Rattle.cg_machine.proofs.FewValues.{values_one}

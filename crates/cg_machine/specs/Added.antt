@@ -1,6 +1,7 @@
 -- Gates, delay registers and enables that a machine gets, as functions of the machine. What was added before is found
 -- again; else it is appended, with a net of its own.
-use Rattle.std.specs.Prelude.{◌≡◌, ℕ, ◌-◌, Bool, ◌&&◌, if◌then◌else◌, List, [], ◌∷◌, ◌++◌, map, length, slice_set, take, drop, nat_lt, Option, Some, None, Result, Ok, Err, unwrap_or, bytes_eq}
+use Rattle.std.specs.Prelude.{◌≡◌, ℕ, ◌-◌, Bool, ◌&&◌, if◌then◌else◌, List, [], ◌∷◌, ◌++◌, map, length, slice_set, take, drop}
+use Rattle.std.specs.Prelude.{nat_lt, Option, Some, None, Result, Ok, Err, unwrap_or, bytes_eq}
 use Rattle.std.specs.List.{find, range_with_len}
 use Rattle.std.specs.Option.{option_and_then, option_map, option_or}
 use Rattle.cg_cell.specs.declared.fit.FitKind.{FitKind}
@@ -53,7 +54,11 @@ abbrev pub next_gate : MachineData → FitKind → List ℕ → AddedGate
 next_gate m kind inputs = record { kind = kind; inputs = inputs; output = next_net m }
 
 abbrev pub push_gate : MachineData → FitKind → List ℕ → MachineData
-push_gate m kind inputs = record m { circuit = push_cell m.circuit (next_name m) (gate_cell (next_gate m kind inputs)); gates = m.gates ++ next_gate m kind inputs ∷ [] }
+push_gate m kind inputs =
+    record m {
+      circuit = push_cell m.circuit (next_name m) (gate_cell (next_gate m kind inputs));
+      gates = m.gates ++ next_gate m kind inputs ∷ [];
+    }
 
 -- the delay register that would be next; a machine with it behind all others
 abbrev pub next_delay : MachineData → ℕ → RegisterCell ℕ ℕ
@@ -122,7 +127,12 @@ abbrev pub own_nets : MachineData → ℕ
 own_nets m = length m.circuit.names - additions m
 
 abbrev pub own_netlist : MachineData → Circuit
-own_netlist m = record m.circuit { names = take (own_nets m) m.circuit.names; cells = take m.own_cells m.circuit.cells; registers = take m.own_registers m.circuit.registers }
+own_netlist m =
+    record m.circuit {
+      names = take (own_nets m) m.circuit.names;
+      cells = take m.own_cells m.circuit.cells;
+      registers = take m.own_registers m.circuit.registers;
+    }
 
 -- the names of the nets are those of the netlist, and behind them those of the added nets
 abbrev pub HasNames : MachineData → Type 0

@@ -43,7 +43,8 @@ target_bit m E Joined s x = any_at (values m s x) E
 
 -- where e is 0, register r keeps its bit
 abbrev pub Hold : MachineData → Literal → ℕ → Type 0
-Hold m e r = (s x : List Bool) → IsState m s → IsInputs m x → literal_bit (bit (values m s x)) e ≡ false → next m (values m s x) s r ≡ bit s r
+Hold m e r = (s x : List Bool) → IsState m s → IsInputs m x → literal_bit (bit (values m s x)) e ≡ false →
+    next m (values m s x) s r ≡ bit s r
 
 -- a cycle after E was 0, register r keeps its bit
 abbrev pub Stable : MachineData → List Literal → ℕ → Type 0

@@ -48,5 +48,7 @@ pub record HasDelay (m : MachineData) (net : ℕ) (a : Added) : Type 0 where
   pub register : ℕ
   pub added : a.machine.own_registers ≤ register
   pub below : register < length a.machine.circuit.registers
-  pub shows : (state x : List Bool) → IsState a.machine state → IsInputs a.machine x → bit (values a.machine state x) a.net ≡ bit state register
-  pub takes : (state x : List Bool) → IsState a.machine state → IsInputs a.machine x → bit (step a.machine state x) register ≡ bit (values a.machine state x) net
+  pub shows : (state x : List Bool) → IsState a.machine state → IsInputs a.machine x →
+      bit (values a.machine state x) a.net ≡ bit state register
+  pub takes : (state x : List Bool) → IsState a.machine state → IsInputs a.machine x →
+      bit (step a.machine state x) register ≡ bit (values a.machine state x) net

@@ -12,17 +12,21 @@ use Rattle.cg_machine.specs.Start.{CanStart, machine_of}
 
 -- the bits of a machine's nets settle, and no others do
 abbrev pub ValuesSettle : Type 0
-ValuesSettle = (m : MachineData) → IsMachine m → (state inputs : List Bool) → IsState m state → IsInputs m inputs → Settles m.circuit false inputs state [] (values m state inputs)
+ValuesSettle = (m : MachineData) → IsMachine m → (state inputs : List Bool) → IsState m state → IsInputs m inputs →
+    Settles m.circuit false inputs state [] (values m state inputs)
 
 abbrev pub ValuesAreAll : Type 0
-ValuesAreAll = (m : MachineData) → IsMachine m → (state inputs nets : List Bool) → Settles m.circuit false inputs state [] nets → nets ≡ values m state inputs
+ValuesAreAll = (m : MachineData) → IsMachine m → (state inputs nets : List Bool) → Settles m.circuit false inputs state [] nets →
+    nets ≡ values m state inputs
 
 -- a gate and a delay register that pass no limit are there, found again or appended, in a machine that keeps what it had
 abbrev pub GateIsThere : Type 0
-GateIsThere = (m : MachineData) (kind : FitKind) (inputs : List ℕ) → IsMachine m → GateFits m kind inputs → gate_limit m kind inputs ≡ None → HasGate m kind inputs (add_gate m kind inputs)
+GateIsThere = (m : MachineData) (kind : FitKind) (inputs : List ℕ) → IsMachine m → GateFits m kind inputs →
+    gate_limit m kind inputs ≡ None → HasGate m kind inputs (add_gate m kind inputs)
 
 abbrev pub DelayIsThere : Type 0
-DelayIsThere = (m : MachineData) (net clock : ℕ) → IsMachine m → IsNet m net → m.circuit.clock ≡ Some clock → delay_limit m net ≡ None → HasDelay m net (add_delay m net)
+DelayIsThere = (m : MachineData) (net clock : ℕ) → IsMachine m → IsNet m net → m.circuit.clock ≡ Some clock →
+    delay_limit m net ≡ None → HasDelay m net (add_delay m net)
 
 -- what is added shows nothing
 abbrev pub ExtendsShowsSame : Type 0
@@ -42,5 +46,8 @@ StartIsMachine = (c : Circuit) (prefix : List ℕ) → CanStart c prefix → IsM
 
 -- and the run of that machine is the lawful history of the netlist
 abbrev pub NetlistIsRun : Type 0
-NetlistIsRun = (c : Circuit) (prefix : List ℕ) → CanStart c prefix → (start : List Bool) (wave : List Tick) (history : List Moment) → IsStart c start → IsWaveform c wave → IsLawful c start wave history
-    → (map (λ now. now.state) history ≡ states_from (machine_of c prefix) None start wave) × (outputs_of c history ≡ shown_from (machine_of c prefix) None start wave)
+NetlistIsRun = (c : Circuit) (prefix : List ℕ) → CanStart c prefix →
+    (start : List Bool) (wave : List Tick) (history : List Moment) → IsStart c start → IsWaveform c wave →
+    IsLawful c start wave history
+    → (map (λ now. now.state) history ≡ states_from (machine_of c prefix) None start wave)
+    × (outputs_of c history ≡ shown_from (machine_of c prefix) None start wave)

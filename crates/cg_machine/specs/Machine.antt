@@ -1,5 +1,6 @@
 -- Machines: a netlist without gating cells as a map from cycle to cycle, with an enable for some registers.
-use Rattle.std.specs.Prelude.{◌≡◌, ◌≢◌, ◌<◌, ◌≤◌, IsTrue, ℕ, ◌+◌, ◌-◌, ◌^◌, nat_eq, Bool, true, false, if◌then◌else◌, List, [], ◌∷◌, ◌++◌, map, length, slice_get, take, Option, Some, None}
+use Rattle.std.specs.Prelude.{◌≡◌, ◌≢◌, ◌<◌, ◌≤◌, IsTrue, ℕ, ◌+◌, ◌-◌, ◌^◌, nat_eq, Bool, true, false, if◌then◌else◌, List, [], ◌∷◌}
+use Rattle.std.specs.Prelude.{◌++◌, map, length, slice_get, take, Option, Some, None}
 use Rattle.std.specs.List.{All, IsDistinct, range_with_len}
 use Rattle.std.specs.Fmt.{decimal}
 use Rattle.std.specs.Option.{option_flatten}
@@ -82,7 +83,8 @@ added_name m k = m.prefix ++ decimal k
 
 -- a delay register of a net: it is plain, starts with 1, and its one output shows its bit
 abbrev pub delay_cell : ℕ → ℕ → ℕ → RegisterCell ℕ ℕ
-delay_cell clock net output = record { inputs = net ∷ []; outputs = (output, false) ∷ []; pins = 0 ∷ []; clock = clock; kind = Plain; init = 1 }
+delay_cell clock net output =
+    record { inputs = net ∷ []; outputs = (output, false) ∷ []; pins = 0 ∷ []; clock = clock; kind = Plain; init = 1 }
 
 -- a register of a machine is a delay register, on the netlist's clock and without an enable
 pub record IsDelay (m : MachineData) (r : ℕ) (cell : RegisterCell ℕ ℕ) : Type 0 where
@@ -118,7 +120,8 @@ pub record IsMachine (m : MachineData) : Type 0 where
   pub gates_fit : All (λ gate. HasInputs gate.kind (length gate.inputs)) m.gates
   -- the registers behind the netlist's own ones are delay registers
   pub own_registers : m.own_registers ≤ length m.circuit.registers
-  pub delays : (r : ℕ) (cell : RegisterCell ℕ ℕ) → m.own_registers ≤ r → slice_get m.circuit.registers r ≡ Some cell → IsDelay m r cell
+  pub delays : (r : ℕ) (cell : RegisterCell ℕ ℕ) → m.own_registers ≤ r → slice_get m.circuit.registers r ≡ Some cell →
+      IsDelay m r cell
   -- each addition has its net, and the names of those to come are new
   pub added_nets : additions m ≤ length m.circuit.names
   pub prefix : IsTrue (is_name m.prefix)

@@ -1,5 +1,6 @@
 -- What a machine does over a waveform, and when two machines show the same.
-use Rattle.std.specs.Prelude.{◌≡◌, ℕ, ◌-◌, Bool, true, not, ◌&&◌, if◌then◌else◌, List, [], ◌∷◌, ◌++◌, map, length, replicate, Option, Some, None}
+use Rattle.std.specs.Prelude.{◌≡◌, ℕ, ◌-◌, Bool, true, not, ◌&&◌, if◌then◌else◌, List, [], ◌∷◌, ◌++◌, map, length, replicate}
+use Rattle.std.specs.Prelude.{Option, Some, None}
 use Rattle.cg_netlist.specs.Circuit.{data_inputs}
 use Rattle.cg_netlist.specs.History.{AreTicks, Tick}
 use Rattle.cg_machine.specs.Machine.{IsInputs, MachineData, outputs_at, step}
@@ -16,7 +17,8 @@ states_from m before state (tick ∷ wave) = let now = state_now m before state 
 
 abbrev pub shown_from : MachineData → Option Tick → List Bool → List Tick → List (List Bool)
 shown_from m before state [] = []
-shown_from m before state (tick ∷ wave) = let now = state_now m before state tick in outputs_at m now tick.inputs ∷ shown_from m (Some tick) now wave
+shown_from m before state (tick ∷ wave) =
+    let now = state_now m before state tick in outputs_at m now tick.inputs ∷ shown_from m (Some tick) now wave
 
 -- a 1 for each delay register
 abbrev pub ones : MachineData → List Bool
@@ -30,7 +32,8 @@ shown m start wave = shown_from m None (start ++ ones m) wave
 pub record Same (m n : MachineData) : Type 0 where
   pub own : n.own_registers ≡ m.own_registers
   pub inputs : data_inputs n.circuit ≡ data_inputs m.circuit
-  pub shows : (start : List Bool) (wave : List Tick) → length start ≡ m.own_registers → AreTicks m.circuit wave → shown n start wave ≡ shown m start wave
+  pub shows : (start : List Bool) (wave : List Tick) → length start ≡ m.own_registers → AreTicks m.circuit wave →
+      shown n start wave ≡ shown m start wave
 
 -- a relation of the states of two machines that their steps keep, and at which they show the same
 pub record Simulates (m n : MachineData) (R : List Bool → List Bool → Type 0) : Type 0 where
@@ -52,12 +55,15 @@ test_step m test state inputs = if test then step (freed m) state inputs else st
 -- The test run: the run over a waveform and a test bit beside each of its moments.
 abbrev pub test_state_now : MachineData → Option (Tick × Bool) → List Bool → Tick → List Bool
 test_state_now m None state tick = state
-test_state_now m (Some before) state tick = if not before.0.clock && tick.clock then test_step m before.1 state before.0.inputs else state
+test_state_now m (Some before) state tick =
+    if not before.0.clock && tick.clock then test_step m before.1 state before.0.inputs else state
 
 abbrev pub test_states_from : MachineData → Option (Tick × Bool) → List Bool → List (Tick × Bool) → List (List Bool)
 test_states_from m before state [] = []
-test_states_from m before state (tick ∷ wave) = let now = test_state_now m before state tick.0 in now ∷ test_states_from m (Some tick) now wave
+test_states_from m before state (tick ∷ wave) =
+    let now = test_state_now m before state tick.0 in now ∷ test_states_from m (Some tick) now wave
 
 abbrev pub test_shown_from : MachineData → Option (Tick × Bool) → List Bool → List (Tick × Bool) → List (List Bool)
 test_shown_from m before state [] = []
-test_shown_from m before state (tick ∷ wave) = let now = test_state_now m before state tick.0 in outputs_at m now tick.0.inputs ∷ test_shown_from m (Some tick) now wave
+test_shown_from m before state (tick ∷ wave) =
+    let now = test_state_now m before state tick.0 in outputs_at m now tick.0.inputs ∷ test_shown_from m (Some tick) now wave

@@ -8,7 +8,15 @@ use Rattle.cg_machine.specs.Machine.{MachineData}
 
 -- no register has an enable, and nothing is added
 abbrev pub machine_of : Circuit → List ℕ → MachineData
-machine_of c prefix = record { circuit = c; enables = replicate (length c.registers) None; gates = []; own_cells = length c.cells; own_registers = length c.registers; prefix = prefix }
+machine_of c prefix =
+    record {
+      circuit = c;
+      enables = replicate (length c.registers) None;
+      gates = [];
+      own_cells = length c.cells;
+      own_registers = length c.registers;
+      prefix = prefix;
+    }
 
 -- a name begins with a prefix
 abbrev pub begins : List ℕ → List ℕ → Bool

@@ -33,18 +33,23 @@ module _ {F S T E : Type 0} (g : Trial F S T E) (f : F) where
     abbrev pub TakesEach : List ℕ → S → List T → Type 0
     TakesEach [] s values = Unit {0}
     TakesEach (k ∷ ks) s values = (cell : LogicCell ℕ) → slice_get cells k ≡ Some cell
-        → TakesCell s k (values_at values cell.inputs) × ((y : T) (s' : S) → AnswersAtCell s k (values_at values cell.inputs) (Ok y) s' → TakesEach ks s' (slice_set values cell.output y))
+        → TakesCell s k (values_at values cell.inputs)
+        × ((y : T) (s' : S) → AnswersAtCell s k (values_at values cell.inputs) (Ok y) s' →
+        TakesEach ks s' (slice_set values cell.output y))
 
     -- it was called at these cells one after another, up to the end or to the first fault: that came of it, and that is left
     abbrev pub TriesEach : List ℕ → S → List T → Result (Unit {0}) E → S → List T → Type 0
     TriesEach [] s values result last left = (result ≡ Ok tt) × (last ≡ s) × (left ≡ values)
     TriesEach (k ∷ ks) s values result last left = (cell : LogicCell ℕ) × (slice_get cells k ≡ Some cell)
-        × (((y : T) × (s' : S) × AnswersAtCell s k (values_at values cell.inputs) (Ok y) s' × TriesEach ks s' (slice_set values cell.output y) result last left)
-        ⊎ ((fault : E) × AnswersAtCell s k (values_at values cell.inputs) (Err fault) last × (result ≡ Err fault) × (left ≡ values)))
+        × (((y : T) × (s' : S) × AnswersAtCell s k (values_at values cell.inputs) (Ok y) s'
+        × TriesEach ks s' (slice_set values cell.output y) result last left)
+        ⊎ ((fault : E) × AnswersAtCell s k (values_at values cell.inputs) (Err fault) last × (result ≡ Err fault)
+        × (left ≡ values)))
 
     -- a walk over these cells may be tried, and was tried
     pub record MayTry (ks : List ℕ) (s : S) (values : List T) : Type 0 where
       pub takes : TakesEach ks s values
 
-    pub record Tries (ks : List ℕ) (s : S) (values : List T) (result : Result (Unit {0}) E) (last : S) (left : List T) : Type 0 where
+    pub record Tries (ks : List ℕ) (s : S) (values : List T) (result : Result (Unit {0}) E) (last : S)
+        (left : List T) : Type 0 where
       pub tried : TriesEach ks s values result last left

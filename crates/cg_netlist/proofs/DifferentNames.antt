@@ -1,5 +1,6 @@
 -- Names that differ still do where more are mentioned.
-use Rattle.std.proofs.Common.{[], ℕ, zero, suc, ◌<◌, ◌≡◌, ◌≢◌, inl, inr, true, false, List, ◌∷◌, Some, length, get_or, refl, sym, ap, subst, arith, nat_eq}
+use Rattle.std.proofs.Common.{[], ℕ, zero, suc, ◌<◌, ◌≡◌, ◌≢◌, inl, inr, true, false, List, ◌∷◌, Some, length, get_or, refl, sym}
+use Rattle.std.proofs.Common.{ap, subst, arith, nat_eq}
 use Rattle.std.specs.List.{slice_get, AllPairs}
 use Rattle.std.specs.Cmp.Lexicographic.{same_text, other_text}
 use Rattle.std.proofs.lemmas.Bool.{cases_Bool, or_cases, or_parts, both_ways}

@@ -1,11 +1,14 @@
 -- Where nets are numbered in net order, every net has exactly one driver.
-use Rattle.std.proofs.Common.{◌≡◌, ℕ, zero, suc, ◌+◌, ◌<◌, ◌≤◌, Bool, true, false, ◌||◌, ◌&&◌, not, cond, List, [], ◌∷◌, ◌++◌, length, Option, None, Some, nat_eq, refl, ap, sym, ◌∙◌, subst, inl, inr, arith}
+use Rattle.std.proofs.Common.{◌≡◌, ℕ, zero, suc, ◌+◌, ◌<◌, ◌≤◌, Bool, true, false, ◌||◌, ◌&&◌, not, cond, List, [], ◌∷◌, ◌++◌}
+use Rattle.std.proofs.Common.{length, Option, None, Some, nat_eq, refl, ap, sym, ◌∙◌, subst, inl, inr, arith}
 use Rattle.std.specs.List.{IsDistinct, filter, range_with_len}
 use Rattle.std.specs.Option.{option_to_list}
-use Rattle.std.proofs.lemmas.Bool.{eqb-true, eq-eqb, or_cases, or_left, or_right, and_parts, both_ways, cases_eq, cases_Bool, false_from_ne_true, not-true}
+use Rattle.std.proofs.lemmas.Bool.{eqb-true, eq-eqb, or_cases, or_left, or_right, and_parts, both_ways, cases_eq, cases_Bool}
+use Rattle.std.proofs.lemmas.Bool.{false_from_ne_true, not-true}
 use Rattle.cg_netlist.specs.Circuit.{Circuit, is_in, data_inputs, cell_nets, gate_nets, register_nets, drivers, net_order}
 use Rattle.cg_netlist.specs.WellFormed.{IsDriven, IsInNetOrder}
-use Rattle.cg_netlist.proofs.Members.{All-from_members, is_in-append, is_in_left, is_in_right, is_in_cases, distinct_cons, distinct_head, distinct_tail, distinct_left, distinct_right, distinct_apart, distinct_append}
+use Rattle.cg_netlist.proofs.Members.{All-from_members, is_in-append, is_in_left, is_in_right, is_in_cases, distinct_cons}
+use Rattle.cg_netlist.proofs.Members.{distinct_head, distinct_tail, distinct_left, distinct_right, distinct_apart, distinct_append}
 
 -- the numbers from a on
 pub is_in-range : (n a x : ℕ) → a ≤ x → x < a + n → is_in (range_with_len a n) x ≡ true

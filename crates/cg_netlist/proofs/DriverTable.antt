@@ -1,11 +1,14 @@
 -- The table of what drives each net, as it is filled in.
-use Rattle.std.proofs.Common.{◌≡◌, ℕ, zero, suc, ◌+◌, ◌<◌, ◌≤◌, Bool, true, false, List, ◌∷◌, ◌++◌, drop, length, map, nat_eq, replicate, set, slice_get, Some, refl, sym, ◌∙◌, ap, subst, inl, inr, arith, add-one, drop-cons, append_assoc}
+use Rattle.std.proofs.Common.{◌≡◌, ℕ, zero, suc, ◌+◌, ◌<◌, ◌≤◌, Bool, true, false, List, ◌∷◌, ◌++◌, drop, length, map, nat_eq}
+use Rattle.std.proofs.Common.{replicate, set, slice_get, Some, refl, sym, ◌∙◌, ap, subst, inl, inr, arith, add-one, drop-cons}
+use Rattle.std.proofs.Common.{append_assoc}
 use Rattle.std.specs.List.{flat_map}
 use Rattle.std.specs.Option.{option_to_list}
 use Rattle.std.proofs.lemmas.Bool.{both_ways}
 use Rattle.std.proofs.lemmas.List.{drop_all, length-replicate, length-set}
 use Rattle.std.proofs.lemmas.Option.{get_or_from_slice_get, none-some, same_Some, slice_get_within}
-use Rattle.cg_netlist.specs.Circuit.{Circuit, GatingCell, LogicCell, RegisterCell, cell_nets, data_inputs, gate_nets, given_nets, is_in, register_nets, shown_nets}
+use Rattle.cg_netlist.specs.Circuit.{Circuit, GatingCell, LogicCell, RegisterCell, cell_nets, data_inputs, gate_nets, given_nets}
+use Rattle.cg_netlist.specs.Circuit.{is_in, register_nets, shown_nets}
 use Rattle.cg_netlist.specs.Drivers.{IsDriver}
 use Rattle.cg_netlist.specs.WellFormed.{IsDriven}
 use Rattle.cg_netlist.specs.declared.driver.Driver.{Driver}

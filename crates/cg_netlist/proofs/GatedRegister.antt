@@ -1,7 +1,8 @@
 -- The definitions at work: a register behind a gating cell, from a library, over four moments. It takes its data where
 -- the gated clock rises, and the latch of the gating cell does not see the enable while the clock is high. The netlist
 -- is well formed, so that this history is the only one that is lawful over this waveform.
-use Rattle.std.proofs.Common.{◌≡◌, ◌≢◌, ◌⊎◌, ℕ, zero, suc, ◌<◌, Bool, true, false, not, ◌||◌, IsTrue, List, [], ◌∷◌, length, slice_get, slice_index, None, Some, nat_eq, codes, refl, ap, subst, inl, inr, arith}
+use Rattle.std.proofs.Common.{◌≡◌, ◌≢◌, ◌⊎◌, ℕ, zero, suc, ◌<◌, Bool, true, false, not, ◌||◌, IsTrue, List, [], ◌∷◌, length}
+use Rattle.std.proofs.Common.{slice_get, slice_index, None, Some, nat_eq, codes, refl, ap, subst, inl, inr, arith}
 use Rattle.std.specs.List.{AllPairs, IsDistinct, count_by}
 use Rattle.std.specs.List.Sorted.{IsStrictlyIncreasing}
 use Rattle.std.specs.Option.{option_map, option_to_list}

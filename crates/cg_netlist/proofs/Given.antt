@@ -1,11 +1,13 @@
 -- The given nets, one kind after another: the data inputs, the clock, the outputs of gating cells and those of registers.
-use Rattle.std.proofs.Common.{◌≡◌, ℕ, ◌<◌, true, false, List, ◌++◌, length, Option, None, Some, nat_eq, refl, ap, sym, inl, inr, arith}
+use Rattle.std.proofs.Common.{◌≡◌, ℕ, ◌<◌, true, false, List, ◌++◌, length, Option, None, Some, nat_eq, refl, ap, sym, inl, inr}
+use Rattle.std.proofs.Common.{arith}
 use Rattle.std.specs.List.{All, IsDistinct}
 use Rattle.std.specs.Option.{option_to_list}
 use Rattle.std.proofs.lemmas.Bool.{eqb-true, eq-eqb, or_cases, or_left, both_ways}
 use Rattle.cg_netlist.specs.Circuit.{Circuit, is_in, data_inputs, cell_nets, gate_nets, register_nets, given_nets, drivers}
 use Rattle.cg_netlist.specs.WellFormed.{IsDriven}
-use Rattle.cg_netlist.proofs.Members.{All-from_members, All-member, is_in_left, is_in_right, is_in_cases, distinct_left, distinct_right, distinct_apart}
+use Rattle.cg_netlist.proofs.Members.{All-from_members, All-member, is_in_left, is_in_right, is_in_cases, distinct_left}
+use Rattle.cg_netlist.proofs.Members.{distinct_right, distinct_apart}
 
 -- the net of the one that may be there
 pub in_option : (o : Option ℕ) (x : ℕ) → is_in (option_to_list o) x ≡ true → o ≡ Some x

@@ -1,12 +1,15 @@
 -- A well-formed netlist has exactly one lawful history for each start and waveform.
-use Rattle.std.proofs.Common.{◌≡◌, ℕ, Bool, true, false, not, ◌&&◌, if◌then◌else◌, List, [], ◌∷◌, map, length, replicate, slice_get, Option, None, Some, refl, ap, sym, ◌∙◌, subst}
+use Rattle.std.proofs.Common.{◌≡◌, ℕ, Bool, true, false, not, ◌&&◌, if◌then◌else◌, List, [], ◌∷◌, map, length, replicate, slice_get}
+use Rattle.std.proofs.Common.{Option, None, Some, refl, ap, sym, ◌∙◌, subst}
 use Rattle.std.proofs.lemmas.List.{length-replicate, length-map}
 use Rattle.std.proofs.lemmas.Option.{slice_get_within, get_or_from_slice_get}
 use Rattle.cg_netlist.specs.Circuit.{Circuit, RegisterCell, is_in, data_inputs, gate_nets, clock_nets}
 use Rattle.cg_netlist.specs.WellFormed.{IsWellFormed}
 use Rattle.cg_netlist.specs.Moment.{Settles, bit, values_at, zip_with}
-use Rattle.cg_netlist.specs.History.{Tick, Moment, AreTicks, IsStart, MomentFollows, LawfulFrom, HasHistory, HasOneHistory, next_bit, next_value, next_latch, gate_bit, state_now, latches_before}
-use Rattle.cg_netlist.proofs.Clocks.{Clocked, clocked_from, held_gates, pin_clocked, same_clock_nets, pins, pins_shown, pins_are_gates}
+use Rattle.cg_netlist.specs.History.{Tick, Moment, AreTicks, IsStart, MomentFollows, LawfulFrom, HasHistory, HasOneHistory}
+use Rattle.cg_netlist.specs.History.{next_bit, next_value, next_latch, gate_bit, state_now, latches_before}
+use Rattle.cg_netlist.proofs.Clocks.{Clocked, clocked_from, held_gates, pin_clocked, same_clock_nets, pins, pins_shown}
+use Rattle.cg_netlist.proofs.Clocks.{pins_are_gates}
 use Rattle.cg_netlist.proofs.Settle.{settles_once, settles_some}
 use Rattle.cg_netlist.proofs.Values.{length-zip_with, zip_with_same}
 

@@ -1,5 +1,6 @@
 -- Lists of nets that get other numbers, and the places of nets in an order.
-use Rattle.std.proofs.Common.{[], ℕ, ◌≡◌, inl, inr, Bool, true, false, List, ◌∷◌, ◌++◌, Some, map, length, get_or, refl, sym, ap, ◌∙◌, nat_eq}
+use Rattle.std.proofs.Common.{[], ℕ, ◌≡◌, inl, inr, Bool, true, false, List, ◌∷◌, ◌++◌, Some, map, length, get_or, refl, sym, ap}
+use Rattle.std.proofs.Common.{◌∙◌, nat_eq}
 use Rattle.std.specs.List.{slice_get, IsDistinct, flat_map, position_or_len, range_with_len}
 use Rattle.std.specs.Option.{option_map}
 use Rattle.std.proofs.lemmas.Bool.{both_ways, or_cases, or_left, or_right, eqb-true, eq-eqb}

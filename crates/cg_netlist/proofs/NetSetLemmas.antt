@@ -1,5 +1,6 @@
 -- Lemmas on nets that are taken once, and their marks.
-use Rattle.std.proofs.Common.{[], ℕ, zero, suc, arith, subst, ◌<◌, ◌≡◌, inl, inr, Bool, true, false, ◌||◌, List, ◌∷◌, ◌++◌, length, set, get_or, unwrap_or, refl, sym, ap, ◌∙◌, if◌then◌else◌}
+use Rattle.std.proofs.Common.{[], ℕ, zero, suc, arith, subst, ◌<◌, ◌≡◌, inl, inr, Bool, true, false, ◌||◌, List, ◌∷◌, ◌++◌, length}
+use Rattle.std.proofs.Common.{set, get_or, unwrap_or, refl, sym, ap, ◌∙◌, if◌then◌else◌}
 use Rattle.std.proofs.lemmas.Bool.{both_ways}
 use Rattle.std.proofs.lemmas.List.{length-set}
 use Rattle.std.proofs.lemmas.Option.{slice_get-get_or}

@@ -1,11 +1,13 @@
 -- The two laws that tie the bits of all nets, as a function, to the nets that settle.
-use Rattle.std.proofs.Common.{◌≡◌, ℕ, zero, suc, ◌+◌, ◌<◌, ◌≤◌, ◌⊎◌, Bool, true, false, ◌||◌, List, [], ◌∷◌, ◌++◌, map, length, slice_get, slice_set, Some, nat_eq, if◌then◌else◌, refl, ap, sym, ◌∙◌, subst, inl, inr, arith}
+use Rattle.std.proofs.Common.{◌≡◌, ℕ, zero, suc, ◌+◌, ◌<◌, ◌≤◌, ◌⊎◌, Bool, true, false, ◌||◌, List, [], ◌∷◌, ◌++◌, map, length}
+use Rattle.std.proofs.Common.{slice_get, slice_set, Some, nat_eq, if◌then◌else◌, refl, ap, sym, ◌∙◌, subst, inl, inr, arith}
 use Rattle.std.specs.List.{All, range_with_len}
 use Rattle.std.specs.Option.{option_to_list}
 use Rattle.std.proofs.lemmas.Bool.{eqb-true, both_ways, false_from_ne_true}
 use Rattle.std.proofs.lemmas.List.{length-map, map-append, length-set}
 use Rattle.std.proofs.lemmas.Option.{slice_get_past, slice_get_within, slice_get-get_or}
-use Rattle.cg_netlist.specs.Circuit.{Circuit, LogicCell, is_in, cell_nets, data_inputs, gate_nets, given_nets, register_nets, used_nets}
+use Rattle.cg_netlist.specs.Circuit.{Circuit, LogicCell, is_in, cell_nets, data_inputs, gate_nets, given_nets, register_nets}
+use Rattle.cg_netlist.specs.Circuit.{used_nets}
 use Rattle.cg_netlist.specs.Moment.{CellsHold, Settles, bit, function_value, register_bits, values_at}
 use Rattle.cg_netlist.specs.WellFormed.{AreRanks, IsDriven}
 use Rattle.cg_netlist.proofs.Given.{data_given, driver_within, gate_given, given_driver, in_option, register_given}

@@ -1,25 +1,32 @@
 -- A well-formed netlist is well formed in net order.
-use Rattle.std.proofs.Common.{[], ◌≡◌, ◌≢◌, ◌⊎◌, ℕ, suc, ◌+◌, ◌<◌, Bool, true, false, not, cond, IsTrue, List, ◌∷◌, ◌++◌, map, length, slice_get, get_or, Option, None, Some, nat_eq, refl, ap, sym, ◌∙◌, subst, inl, inr, arith}
+use Rattle.std.proofs.Common.{[], ◌≡◌, ◌≢◌, ◌⊎◌, ℕ, suc, ◌+◌, ◌<◌, Bool, true, false, not, cond, IsTrue, List, ◌∷◌, ◌++◌, map}
+use Rattle.std.proofs.Common.{length, slice_get, get_or, Option, None, Some, nat_eq, refl, ap, sym, ◌∙◌, subst, inl, inr, arith}
 use Rattle.std.specs.List.{All, AllPairs, IsDistinct, count_by, filter, flat_map, range_with_len, slice_index}
 use Rattle.std.specs.Option.{option_map, option_to_list}
 use Rattle.std.proofs.lemmas.Bool.{both_ways, cases_Bool, false_from_ne_true, eqb-true, eq-eqb, or_cases, or_left, or_right}
 use Rattle.std.proofs.lemmas.List.{length-map, map-append}
 use Rattle.std.proofs.lemmas.List.Elements.{All-map, All-weaker, All-get_or}
-use Rattle.std.proofs.lemmas.Option.{get_or_from_slice_get, slice_get-get_or, slice_get-map, slice_get_within, same_Some, unwrap_or-slice_get}
+use Rattle.std.proofs.lemmas.Option.{get_or_from_slice_get, slice_get-get_or, slice_get-map, slice_get_within, same_Some}
+use Rattle.std.proofs.lemmas.Option.{unwrap_or-slice_get}
 use Rattle.cg_cell.specs.Cell.{IsCell}
 use Rattle.cg_cell.specs.Name.{is_name}
 use Rattle.cg_cell.specs.Pins.{is_test}
 use Rattle.cg_cell.specs.declared.cell.CellKind.TheVariants.{Gater as GaterKind}
 use Rattle.cg_netlist.specs.Wiring.{net_name}
-use Rattle.cg_netlist.specs.Circuit.{Circuit, GatingCell, LogicCell, asked_nets, is_in, cell_nets, clock_nets, data_inputs, gate_nets, given_nets, net_order, register_nets, used_nets}
+use Rattle.cg_netlist.specs.Circuit.{Circuit, GatingCell, LogicCell, asked_nets, is_in, cell_nets, clock_nets, data_inputs}
+use Rattle.cg_netlist.specs.Circuit.{gate_nets, given_nets, net_order, register_nets, used_nets}
 use Rattle.cg_netlist.specs.Wiring.{map_cell, map_register}
 use Rattle.cg_netlist.specs.WellFormed.{AreRanks, IsInNetOrder, IsOver, IsWellFormed, RegisterFits}
 use Rattle.cg_netlist.proofs.Driven.{driven_in_order}
 use Rattle.cg_netlist.proofs.PlaceLemmas.{mapped_at}
 use Rattle.cg_netlist.proofs.RegisterKept.{register_kept}
-use Rattle.cg_netlist.proofs.Given.{clock_given, distinct_cells, distinct_gates, distinct_given, driver_within, from_option, given_no_cell, in_option, register_given, gate_given, given_driver, kind_of, Data, Clock, Gate, Shown}
-use Rattle.cg_netlist.proofs.Members.{All-from_members, All-member, distinct_append, distinct_apart, distinct_left, distinct_right, is_in_cases, is_in_left, is_in_right, member_at, one_place}
-use Rattle.cg_netlist.proofs.NetOrder.{data_renumbered, from_mapped, in_mapped, inputs_renumbered, outputs_renumbered, places_in_order, registers_renumbered}
+use Rattle.cg_netlist.proofs.Given.{clock_given, distinct_cells, distinct_gates, distinct_given, driver_within, from_option}
+use Rattle.cg_netlist.proofs.Given.{given_no_cell, in_option, register_given, gate_given, given_driver, kind_of, Data, Clock, Gate}
+use Rattle.cg_netlist.proofs.Given.{Shown}
+use Rattle.cg_netlist.proofs.Members.{All-from_members, All-member, distinct_append, distinct_apart, distinct_left, distinct_right}
+use Rattle.cg_netlist.proofs.Members.{is_in_cases, is_in_left, is_in_right, member_at, one_place}
+use Rattle.cg_netlist.proofs.NetOrder.{data_renumbered, from_mapped, in_mapped, inputs_renumbered, outputs_renumbered}
+use Rattle.cg_netlist.proofs.NetOrder.{places_in_order, registers_renumbered}
 use Rattle.cg_netlist.proofs.PlaceLemmas.{same_net}
 use Rattle.cg_netlist.proofs.Values.{at_map}
 use Rattle.cg_netlist.specs.Ordered.{ordered, place_in, with_numbers}

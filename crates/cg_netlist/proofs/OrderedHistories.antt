@@ -1,13 +1,16 @@
 -- A netlist in net order has the same lawful histories, with its nets in that order.
-use Rattle.std.proofs.Common.{[], ◌≡◌, ℕ, ◌+◌, ◌<◌, Bool, true, false, not, ◌&&◌, ◌||◌, if◌then◌else◌, List, ◌∷◌, ◌++◌, map, length, slice_get, Option, None, Some, nat_eq, refl, ap, sym, ◌∙◌, subst, arith}
+use Rattle.std.proofs.Common.{[], ◌≡◌, ℕ, ◌+◌, ◌<◌, Bool, true, false, not, ◌&&◌, ◌||◌, if◌then◌else◌, List, ◌∷◌, ◌++◌, map, length}
+use Rattle.std.proofs.Common.{slice_get, Option, None, Some, nat_eq, refl, ap, sym, ◌∙◌, subst, arith}
 use Rattle.std.specs.List.{IsDistinct, cons_option, list_any, range_with_len}
 use Rattle.std.specs.Option.{option_map, option_to_list}
 use Rattle.std.proofs.lemmas.Bool.{eq-eqb, or_left, or_right}
 use Rattle.std.proofs.lemmas.List.{length-map}
 use Rattle.std.proofs.lemmas.Option.{get_or_from_slice_get, slice_get-get_or, slice_get-map, slice_get_within}
-use Rattle.cg_netlist.specs.Circuit.{Circuit, GatingCell, LogicCell, RegisterCell, asked_nets, is_in, cell_nets, clock_nets, data_inputs, gate_nets, given_nets, register_nets}
+use Rattle.cg_netlist.specs.Circuit.{Circuit, GatingCell, LogicCell, RegisterCell, asked_nets, is_in, cell_nets, clock_nets}
+use Rattle.cg_netlist.specs.Circuit.{data_inputs, gate_nets, given_nets, register_nets}
 use Rattle.cg_netlist.specs.Wiring.{map_cell, map_register}
-use Rattle.cg_netlist.specs.History.{AreTicks, IsLawful, IsStart, IsWaveform, LawfulFrom, Moment, MomentFollows, Tick, gate_bit, latches_before, next_bit, next_latch, next_value, outputs_of, state_now}
+use Rattle.cg_netlist.specs.History.{AreTicks, IsLawful, IsStart, IsWaveform, LawfulFrom, Moment, MomentFollows, Tick, gate_bit}
+use Rattle.cg_netlist.specs.History.{latches_before, next_bit, next_latch, next_value, outputs_of, state_now}
 use Rattle.cg_netlist.specs.Moment.{Settles, bit, function_value, register_bits, shown_bits, values_at, zip_with}
 use Rattle.cg_netlist.specs.WellFormed.{IsWellFormed}
 use Rattle.cg_netlist.proofs.Clocks.{pin_clocked}
@@ -20,7 +23,8 @@ use Rattle.cg_netlist.proofs.Values.{at_map, by_place, zip_with_same}
 use Rattle.cg_netlist.specs.Ordered.{ordered, place_in, pulled, pulled_moment}
 use Rattle.cg_netlist.specs.Wiring.{map_gater}
 use Rattle.cg_netlist.proofs.Used.{asked_is_used, data_is_used, input_is_used, output_is_used}
-use Rattle.cg_netlist.proofs.OrderedForm.{clock_nets_within, clock_within, data_is, gates_renumbered, number_within, ordered_formed, used_within}
+use Rattle.cg_netlist.proofs.OrderedForm.{clock_nets_within, clock_within, data_is, gates_renumbered, number_within, ordered_formed}
+use Rattle.cg_netlist.proofs.OrderedForm.{used_within}
 
 zip_mapped : {A B C D : Type 0} (g : B → C → D) (h : A → B) (xs : List A) (ys : List C) → zip_with g (map h xs) ys ≡ zip_with (λ x y. g (h x) y) xs ys
 zip_mapped g h [] ys = refl

@@ -1,5 +1,6 @@
 -- Lemmas on the places of nets in an order.
-use Rattle.std.proofs.Common.{map, [], ℕ, zero, suc, ◌+◌, ◌<◌, ◌≡◌, ◌≢◌, inl, inr, false, not, cond, List, ◌∷◌, Option, Some, None, length, take, get_or, unwrap_or, refl, sym, ap, ◌∙◌, arith, nat_eq}
+use Rattle.std.proofs.Common.{map, [], ℕ, zero, suc, ◌+◌, ◌<◌, ◌≡◌, ◌≢◌, inl, inr, false, not, cond, List, ◌∷◌, Option, Some, None}
+use Rattle.std.proofs.Common.{length, take, get_or, unwrap_or, refl, sym, ap, ◌∙◌, arith, nat_eq}
 use Rattle.std.specs.List.{slice_get, All, AllPairs, IsDistinct, position_or_len}
 use Rattle.std.specs.Option.{option_map}
 use Rattle.std.proofs.lemmas.Bool.{cases_Bool, eqb-true, eq-eqb, both_ways, cases_lt}

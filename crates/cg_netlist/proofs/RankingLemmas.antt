@@ -1,6 +1,7 @@
 -- Lemmas on the steps of the search for ranks.
 use Rattle.std.proofs.lemmas.Bool.{or_left, or_right, or_cases}
-use Rattle.std.proofs.Common.{ℕ, zero, suc, add-one, ◌+◌, ◌≡◌, List, [], ◌∷◌, ◌++◌, Option, Some, None, map, max, length, take, refl, sym, ap, ◌∙◌, subst, arith, slice_get, true, false, nat_eq, ◌⊎◌, inl, inr, eq-eqb}
+use Rattle.std.proofs.Common.{ℕ, zero, suc, add-one, ◌+◌, ◌≡◌, List, [], ◌∷◌, ◌++◌, Option, Some, None, map, max, length, take}
+use Rattle.std.proofs.Common.{refl, sym, ap, ◌∙◌, subst, arith, slice_get, true, false, nat_eq, ◌⊎◌, inl, inr, eq-eqb}
 use Rattle.std.specs.List.{slice_set}
 use Rattle.std.specs.Option.{MatchOption}
 use Rattle.cg_netlist.specs.Circuit.{LogicCell, is_in}

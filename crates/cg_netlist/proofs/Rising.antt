@@ -1,5 +1,6 @@
 -- Where ranks rise from each driving cell to the driven one, every cell has a rank.
-use Rattle.std.proofs.Common.{[], ℕ, zero, suc, ◌+◌, ◌<◌, ◌≤◌, ◌≡◌, inl, inr, Bool, true, false, cond, List, ◌∷◌, Option, Some, None, map, max, length, is_none, refl, sym, ap, ◌∙◌, arith, nat_eq, nat_lt}
+use Rattle.std.proofs.Common.{[], ℕ, zero, suc, ◌+◌, ◌<◌, ◌≤◌, ◌≡◌, inl, inr, Bool, true, false, cond, List, ◌∷◌, Option, Some}
+use Rattle.std.proofs.Common.{None, map, max, length, is_none, refl, sym, ap, ◌∙◌, arith, nat_eq, nat_lt}
 use Rattle.std.specs.List.{slice_get, slice_index, count_by, filter_map, cons_option, position_from}
 use Rattle.std.specs.Option.{option_map, option_map_or}
 use Rattle.std.proofs.lemmas.Bool.{both_ways, or_cases, or_right, eqb-true, ltb-true, lt-ltb, le-ltb}

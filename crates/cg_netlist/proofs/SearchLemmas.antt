@@ -1,5 +1,7 @@
 -- From step to step of the search for ranks, and what it has found in the end.
-use Rattle.std.proofs.Common.{ℕ, zero, suc, ◌+◌, ◌<◌, ◌≤◌, ◌≡◌, ◌≢◌, ◌⊎◌, inl, inr, List, [], ◌∷◌, ◌++◌, Option, Some, None, true, false, cond, is_none, is_some, map, length, take, drop, replicate, refl, sym, ap, ◌∙◌, subst, arith, append_assoc, nat_eq}
+use Rattle.std.proofs.Common.{ℕ, zero, suc, ◌+◌, ◌<◌, ◌≤◌, ◌≡◌, ◌≢◌, ◌⊎◌, inl, inr, List, [], ◌∷◌, ◌++◌, Option, Some, None, true}
+use Rattle.std.proofs.Common.{false, cond, is_none, is_some, map, length, take, drop, replicate, refl, sym, ap, ◌∙◌, subst, arith}
+use Rattle.std.proofs.Common.{append_assoc, nat_eq}
 use Rattle.std.specs.List.{slice_get, slice_set, All, AllByRecursion, count_by, filter_map, cons_option}
 use Rattle.std.specs.Option.{option_map_or}
 use Rattle.std.proofs.lemmas.List.{length-set, append-nil, drop-append-le, drop_all, drop_more, length-append, length-replicate}
@@ -10,7 +12,8 @@ use Rattle.std.proofs.lemmas.List.FromFn.{fill_by_all}
 use Rattle.std.proofs.lemmas.Option.{same_Some, slice_get_within, get_or_from_slice_get}
 use Rattle.cg_netlist.specs.Circuit.{LogicCell, is_in}
 use Rattle.cg_netlist.specs.Ranks.{next_rank, rank_of, ranks_of, driving_cell, driving_cells}
-use Rattle.cg_netlist.specs.Ranking.{HasLooked, HasReached, IsGraph, IsSound, HasRankOrWaits, Grows, Search, RanksOrWaits, EachRanksOrWaits, Waits, entry, drivers_at, inputs_of, rank_under, unsearched}
+use Rattle.cg_netlist.specs.Ranking.{HasLooked, HasReached, IsGraph, IsSound, HasRankOrWaits, Grows, Search, RanksOrWaits}
+use Rattle.cg_netlist.specs.Ranking.{EachRanksOrWaits, Waits, entry, drivers_at, inputs_of, rank_under, unsearched}
 use Rattle.cg_netlist.proofs.RankLemmas.{rank_is, under_none}
 use Rattle.cg_netlist.proofs.RankingLemmas.{in_left, in_right, in_cases, take_next}
 use Rattle.cg_netlist.proofs.TableLemmas.{slice_get-set_other, set_cases, entry_or, same_or_not}

@@ -1,5 +1,6 @@
 -- What each step of the search for ranks keeps.
-use Rattle.std.proofs.Common.{[], ℕ, ◌+◌, ◌<◌, ◌≡◌, inl, inr, List, ◌∷◌, ◌++◌, Option, Some, None, Bool, true, false, cond, is_none, length, take, set, get_or, refl, sym, ap, ◌∙◌, subst, arith, unwrap_or, is_some, nat_eq}
+use Rattle.std.proofs.Common.{[], ℕ, ◌+◌, ◌<◌, ◌≡◌, inl, inr, List, ◌∷◌, ◌++◌, Option, Some, None, Bool, true, false, cond, is_none}
+use Rattle.std.proofs.Common.{length, take, set, get_or, refl, sym, ap, ◌∙◌, subst, arith, unwrap_or, is_some, nat_eq}
 use Rattle.std.proofs.lemmas.Bool.{or_cases, eqb-true}
 use Rattle.std.specs.List.{cons_option, slice_get, slice_set, All, count_by}
 use Rattle.std.proofs.lemmas.List.{length-set, append-nil, length_push, take_all}
@@ -8,10 +9,12 @@ use Rattle.std.proofs.lemmas.List.Sums.{sum_by-set}
 use Rattle.std.proofs.lemmas.List.Elements.{All-push}
 use Rattle.cg_netlist.specs.declared.ranks.Progress.{Progress}
 use Rattle.cg_netlist.specs.Circuit.{LogicCell, is_in}
-use Rattle.cg_netlist.specs.Ranking.{HasLooked, IsGraph, IsSound, Grows, Looks, Search, RanksOrWaits, entry, drivers_at, inputs_of, rank_under, with_rank, with_waiter}
+use Rattle.cg_netlist.specs.Ranking.{HasLooked, IsGraph, IsSound, Grows, Looks, Search, RanksOrWaits, entry, drivers_at, inputs_of}
+use Rattle.cg_netlist.specs.Ranking.{rank_under, with_rank, with_waiter}
 use Rattle.cg_netlist.proofs.RankLemmas.{next_rank-bound, next_rank-more}
 use Rattle.cg_netlist.proofs.RankingLemmas.{in_left, in_right, in_alone}
-use Rattle.cg_netlist.proofs.TableLemmas.{slice_get-set_same, slice_get-set_other, set_cases, entry-set_same, entry-set_other, entry_or, same_or_not}
+use Rattle.cg_netlist.proofs.TableLemmas.{slice_get-set_same, slice_get-set_other, set_cases, entry-set_same, entry-set_other}
+use Rattle.cg_netlist.proofs.TableLemmas.{entry_or, same_or_not}
 
 take_whole : (xs : List ℕ) (n : ℕ) → n ≡ length xs → take n xs ≡ xs
 take_whole xs n all = take_all n xs (omega arith)

@@ -1,6 +1,8 @@
 -- Bits by steps: the bits that stand beside nets, the place of a net, and a function of nets in which each net asks
 -- only for nets of a lower rank.
-use Rattle.std.proofs.Common.{◌≡◌, ℕ, zero, suc, ◌<◌, ◌≤◌, max, Bool, true, false, List, [], ◌∷◌, map, length, slice_get, slice_index, Option, None, Some, nat_eq, ◌||◌, if◌then◌else◌, refl, ap, sym, ◌∙◌, subst, inl, inr, arith}
+use Rattle.std.proofs.Common.{◌≡◌, ℕ, zero, suc, ◌<◌, ◌≤◌, max, Bool, true, false, List, [], ◌∷◌, map, length, slice_get}
+use Rattle.std.proofs.Common.{slice_index, Option, None, Some, nat_eq, ◌||◌, if◌then◌else◌, refl, ap, sym, ◌∙◌, subst, inl, inr}
+use Rattle.std.proofs.Common.{arith}
 use Rattle.std.specs.List.{IsDistinct}
 use Rattle.std.specs.Option.{option_map}
 use Rattle.std.proofs.lemmas.Bool.{eqb-true, eq-eqb, or_cases, or_parts, both_ways, cases_Bool}

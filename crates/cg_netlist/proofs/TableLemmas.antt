@@ -1,5 +1,6 @@
 -- Lemmas on tables: lists that are read and written at a place.
-use Rattle.std.proofs.Common.{ℕ, zero, suc, ◌<◌, ◌≡◌, ◌≢◌, ◌⊎◌, inl, inr, List, [], ◌∷◌, Option, Some, None, length, set, get_or, ◌++◌, refl, sym, ap, arith}
+use Rattle.std.proofs.Common.{ℕ, zero, suc, ◌<◌, ◌≡◌, ◌≢◌, ◌⊎◌, inl, inr, List, [], ◌∷◌, Option, Some, None, length, set, get_or}
+use Rattle.std.proofs.Common.{◌++◌, refl, sym, ap, arith}
 use Rattle.std.specs.List.{All, slice_get}
 use Rattle.std.specs.Option.{option_flatten}
 use Rattle.std.proofs.lemmas.List.Elements.{All-get_or}

@@ -1,5 +1,6 @@
 -- The laws of walk order and of the bits that a walk leaves.
-use Rattle.std.proofs.Common.{◌≡◌, ◌≢◌, ℕ, zero, suc, ◌+◌, ◌<◌, ◌≤◌, ◌⊎◌, Bool, true, false, List, [], ◌∷◌, ◌++◌, length, map, nat_eq, slice_get, slice_index, Option, Some, None, refl, ap, sym, ◌∙◌, subst, inl, inr, arith}
+use Rattle.std.proofs.Common.{◌≡◌, ◌≢◌, ℕ, zero, suc, ◌+◌, ◌<◌, ◌≤◌, ◌⊎◌, Bool, true, false, List, [], ◌∷◌, ◌++◌, length, map}
+use Rattle.std.proofs.Common.{nat_eq, slice_get, slice_index, Option, Some, None, refl, ap, sym, ◌∙◌, subst, inl, inr, arith}
 use Rattle.std.specs.List.{All, IsDistinct}
 use Rattle.std.proofs.lemmas.Bool.{both_ways, eqb-true, or_cases}
 use Rattle.std.proofs.lemmas.List.{length-map}
@@ -14,7 +15,8 @@ use Rattle.cg_netlist.specs.inner.Walking.{IsLevelled}
 use Rattle.cg_netlist.proofs.ClockFree.{lowers}
 use Rattle.cg_netlist.proofs.Clocks.{pin_clocked}
 use Rattle.cg_netlist.proofs.DriverTable.{gater_net_within}
-use Rattle.cg_netlist.proofs.Given.{clock_given, clock_no_gate, distinct_cells, distinct_gates, driver_within, gate_given, given_driver, in_option}
+use Rattle.cg_netlist.proofs.Given.{clock_given, clock_no_gate, distinct_cells, distinct_gates, driver_within, gate_given}
+use Rattle.cg_netlist.proofs.Given.{given_driver, in_option}
 use Rattle.cg_netlist.proofs.Members.{is_in_cases, member_at, one_place}
 use Rattle.cg_netlist.proofs.NetsOf.{nets_only, nets_settle, put_same}
 use Rattle.cg_netlist.proofs.OrderLemmas.{gaters_within}

@@ -86,9 +86,12 @@ asked_nets gater = gater.enable ∷ option_to_list gater.test
 -- the nets that are used for their bits, elsewhere than at a clock pin: at inputs of logic cells, at enables and test
 -- pins, at inputs of registers, and as outputs of the netlist
 abbrev pub used_nets : Circuit → List ℕ
-used_nets c = flat_map (λ cell. cell.inputs) c.cells ++ flat_map asked_nets c.gaters ++ flat_map (λ register. register.inputs) c.registers ++ c.outputs
+used_nets c =
+    flat_map (λ cell. cell.inputs) c.cells ++ flat_map asked_nets c.gaters ++ flat_map (λ register. register.inputs) c.registers
+    ++ c.outputs
 
 -- the nets in net order: the inputs, the clock where it is no input, and then the outputs of the logic cells, of
 -- the gating cells and of the registers, each kind in its own order
 abbrev pub net_order : Circuit → List ℕ
-net_order c = c.inputs ++ filter (λ net. not (is_in c.inputs net)) (option_to_list c.clock) ++ cell_nets c ++ gate_nets c ++ register_nets c
+net_order c =
+    c.inputs ++ filter (λ net. not (is_in c.inputs net)) (option_to_list c.clock) ++ cell_nets c ++ gate_nets c ++ register_nets c

@@ -11,7 +11,9 @@ IsDriver c net Input = is_in (data_inputs c) net ≡ true
 IsDriver c net Clock = c.clock ≡ Some net
 IsDriver c net (Cell k) = (cell : LogicCell ℕ) × (slice_get c.cells k ≡ Some cell) × (cell.output ≡ net)
 IsDriver c net (Gater k) = (gater : GatingCell ℕ) × (slice_get c.gaters k ≡ Some gater) × (gater.output ≡ net)
-IsDriver c net (Register r inverted) = (register : RegisterCell ℕ ℕ) × (place : ℕ) × (slice_get c.registers r ≡ Some register) × (slice_get register.outputs place ≡ Some (net, inverted))
+IsDriver c net (Register r inverted) =
+    (register : RegisterCell ℕ ℕ) × (place : ℕ) × (slice_get c.registers r ≡ Some register)
+    × (slice_get register.outputs place ≡ Some (net, inverted))
 
 -- what drives each net, in the order of the nets
 pub record AreDrivers (c : Circuit) (drivers : List Driver) : Type 0 where

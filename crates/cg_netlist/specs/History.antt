@@ -1,6 +1,7 @@
 -- What a netlist does over time: waveforms, and the histories that are lawful over them. Delays are zero: within a
 -- moment everything settles, and a rising clock net is the only thing that moves a register.
-use Rattle.std.specs.Prelude.{◌≡◌, ℕ, ◌+◌, Bool, false, not, ◌&&◌, if◌then◌else◌, List, [], ◌∷◌, ◌++◌, map, length, slice_index_or, replicate, Option, None, Some}
+use Rattle.std.specs.Prelude.{◌≡◌, ℕ, ◌+◌, Bool, false, not, ◌&&◌, if◌then◌else◌, List, [], ◌∷◌, ◌++◌, map, length, slice_index_or}
+use Rattle.std.specs.Prelude.{replicate, Option, None, Some}
 use Rattle.std.specs.List.{count_by, list_any}
 use Rattle.cg_netlist.specs.declared.parts.RegisterKind.{RegisterKind}
 use Rattle.cg_netlist.specs.declared.parts.RegisterKind.TheVariants.{Plain, Flop}
@@ -59,7 +60,8 @@ state_now c start (Some before) nets = zip_with (next_bit before.nets nets) c.re
 abbrev pub next_latch : List Bool → GatingCell ℕ → Bool → Bool
 next_latch nets gater own = if bit nets gater.clock then own else list_any (bit nets) (asked_nets gater)
 
--- the latches' bits a moment ago. Before the first moment, where the clock is low and no latch is asked for what it had, they count as 0.
+-- the latches' bits a moment ago. Before the first moment, where the clock is low and no latch is asked for what it had, they count
+-- as 0.
 abbrev pub latches_before : Circuit → Option Moment → List Bool
 latches_before c None = replicate (length c.gaters) false
 latches_before c (Some before) = before.latches
@@ -77,7 +79,8 @@ pub record MomentFollows (c : Circuit) (start : List Bool) (before : Option Mome
 -- a history has a moment for each of the waveform's, and each follows
 abbrev pub LawfulFrom : Circuit → List Bool → Option Moment → List Tick → List Moment → Type 0
 LawfulFrom c start before [] [] = Unit {0}
-LawfulFrom c start before (tick ∷ wave) (now ∷ history) = MomentFollows c start before tick now × LawfulFrom c start (Some now) wave history
+LawfulFrom c start before (tick ∷ wave) (now ∷ history) =
+    MomentFollows c start before tick now × LawfulFrom c start (Some now) wave history
 LawfulFrom c start before [] (now ∷ history) = ⊥
 LawfulFrom c start before (tick ∷ wave) [] = ⊥
 
@@ -100,7 +103,9 @@ edges c history = edges_from c None history
 
 -- from each start and over each waveform there is a lawful history, and no other
 abbrev pub HasHistory : Circuit → Type 0
-HasHistory c = (start : List Bool) (wave : List Tick) → IsStart c start → IsWaveform c wave → (history : List Moment) × IsLawful c start wave history
+HasHistory c = (start : List Bool) (wave : List Tick) → IsStart c start → IsWaveform c wave →
+    (history : List Moment) × IsLawful c start wave history
 
 abbrev pub HasOneHistory : Circuit → Type 0
-HasOneHistory c = (start : List Bool) (wave : List Tick) → IsStart c start → IsWaveform c wave → (history other : List Moment) → IsLawful c start wave history → IsLawful c start wave other → history ≡ other
+HasOneHistory c = (start : List Bool) (wave : List Tick) → IsStart c start → IsWaveform c wave → (history other : List Moment) →
+    IsLawful c start wave history → IsLawful c start wave other → history ≡ other

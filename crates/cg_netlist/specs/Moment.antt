@@ -1,5 +1,6 @@
 -- The bits of a netlist's nets at one moment.
-use Rattle.std.specs.Prelude.{◌≡◌, ℕ, Bool, false, not, if◌then◌else◌, List, [], ◌∷◌, ◌++◌, map, length, slice_get, slice_index_or, Some}
+use Rattle.std.specs.Prelude.{◌≡◌, ℕ, Bool, false, not, if◌then◌else◌, List, [], ◌∷◌, ◌++◌, map, length, slice_get, slice_index_or}
+use Rattle.std.specs.Prelude.{Some}
 use Rattle.std.specs.List.{filter_map}
 use Rattle.std.specs.Option.{option_map_or}
 use Rattle.cg_cell.specs.Cell.{CellData}
@@ -44,7 +45,8 @@ register_bits (r ∷ rs) (stored ∷ state) = shown_bits r stored ++ register_bi
 
 -- each logic cell's output is its function of its inputs
 abbrev pub CellsHold : List (LogicCell ℕ) → List Bool → Type 0
-CellsHold cells nets = (k : ℕ) (cell : LogicCell ℕ) → slice_get cells k ≡ Some cell → slice_get nets cell.output ≡ Some (function_value cell.function (values_at nets cell.inputs))
+CellsHold cells nets = (k : ℕ) (cell : LogicCell ℕ) → slice_get cells k ≡ Some cell →
+    slice_get nets cell.output ≡ Some (function_value cell.function (values_at nets cell.inputs))
 
 -- `nets` has a bit for each net: those of the clock, the data inputs, the registers and the outputs of gating
 -- cells are the given ones, and the logic cells hold

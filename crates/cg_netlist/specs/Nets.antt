@@ -1,5 +1,6 @@
 -- The bits of a netlist's nets as a function: logic cells are put one after another, in walk order.
-use Rattle.std.specs.Prelude.{◌≡◌, ℕ, ◌==◌, Bool, true, false, if◌then◌else◌, List, [], ◌∷◌, ◌++◌, map, length, slice_get, slice_set, Some, nat_eq}
+use Rattle.std.specs.Prelude.{◌≡◌, ℕ, ◌==◌, Bool, true, false, if◌then◌else◌, List, [], ◌∷◌, ◌++◌, map, length, slice_get}
+use Rattle.std.specs.Prelude.{slice_set, Some, nat_eq}
 use Rattle.std.specs.List.{filter, flat_map, range_with_len}
 use Rattle.std.specs.Option.{option_map_or, option_to_list}
 use Rattle.cg_netlist.specs.Circuit.{Circuit, LogicCell, given_nets, is_in}
@@ -42,7 +43,8 @@ beside other (n ∷ nets) (i ∷ items) x = if nat_eq x n then i else beside oth
 
 -- the bits of the given nets
 abbrev pub given_bits : Circuit → Bool → List Bool → List Bool → List Bool → List Bool
-given_bits c clock inputs state gates = inputs ++ map (λ _. clock) (option_to_list c.clock) ++ gates ++ register_bits c.registers state
+given_bits c clock inputs state gates =
+    inputs ++ map (λ _. clock) (option_to_list c.clock) ++ gates ++ register_bits c.registers state
 
 -- a cell's output gets its function of its inputs
 abbrev pub put_cell : LogicCell ℕ → List Bool → List Bool

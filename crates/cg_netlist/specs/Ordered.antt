@@ -42,9 +42,13 @@ OrderedIsFormed = (c : Circuit) → IsWellFormed c → IsDistinct nat_eq c.input
 
 -- and its histories are those of before, net by net
 abbrev pub OrderedIsLawful : Type 0
-OrderedIsLawful = (c : Circuit) → IsWellFormed c → IsDistinct nat_eq c.inputs → (start : List Bool) (wave : List Tick) (history : List Moment) → IsLawful (ordered c) start wave history
-    → IsLawful c start wave (map (pulled_moment c) history) × (outputs_of (ordered c) history ≡ outputs_of c (map (pulled_moment c) history))
+OrderedIsLawful = (c : Circuit) → IsWellFormed c → IsDistinct nat_eq c.inputs →
+    (start : List Bool) (wave : List Tick) (history : List Moment) → IsLawful (ordered c) start wave history
+    → IsLawful c start wave (map (pulled_moment c) history)
+    × (outputs_of (ordered c) history ≡ outputs_of c (map (pulled_moment c) history))
 
 abbrev pub OrderedHasAll : Type 0
-OrderedHasAll = (c : Circuit) → IsWellFormed c → IsDistinct nat_eq c.inputs → (start : List Bool) (wave : List Tick) (history : List Moment) → IsStart c start → IsWaveform c wave → IsLawful c start wave history
+OrderedHasAll = (c : Circuit) → IsWellFormed c → IsDistinct nat_eq c.inputs →
+    (start : List Bool) (wave : List Tick) (history : List Moment) → IsStart c start → IsWaveform c wave →
+    IsLawful c start wave history
     → (there : List Moment) × IsLawful (ordered c) start wave there × (map (pulled_moment c) there ≡ history)

@@ -1,5 +1,6 @@
 -- What the search for ranks keeps from step to step.
-use Rattle.std.specs.Prelude.{◌≡◌, ℕ, ◌+◌, ◌<◌, ◌≤◌, ◌⊎◌, true, List, [], ◌++◌, map, length, take, drop, slice_get, Option, Some, None, is_none, IsSome, MatchOption, unwrap_or, slice_set, ◌∷◌, replicate}
+use Rattle.std.specs.Prelude.{◌≡◌, ℕ, ◌+◌, ◌<◌, ◌≤◌, ◌⊎◌, true, List, [], ◌++◌, map, length, take, drop, slice_get, Option, Some}
+use Rattle.std.specs.Prelude.{None, is_none, IsSome, MatchOption, unwrap_or, slice_set, ◌∷◌, replicate}
 use Rattle.std.specs.List.{filter_map, count_by, All}
 use Rattle.std.specs.Option.{option_flatten, option_map_or}
 use Rattle.cg_netlist.specs.Circuit.{LogicCell, is_in}
@@ -37,7 +38,13 @@ pub record Search : Type 0 where
 
 -- before the search, with this many cells
 abbrev pub unsearched : ℕ → Search
-unsearched n = record { ranks = replicate n None; progress = replicate n (record { place = 0; rank = 0 }); waiting = replicate n []; found = [] }
+unsearched n =
+    record {
+      ranks = replicate n None;
+      progress = replicate n (record { place = 0; rank = 0 });
+      waiting = replicate n [];
+      found = [];
+    }
 
 -- the tables have a place for each cell, and name cells alone; the ranks are those that the cells above give
 pub record IsSound (drivers : List (Option ℕ)) (cells : List (LogicCell ℕ)) (s : Search) : Type 0 where
@@ -52,7 +59,8 @@ pub record IsSound (drivers : List (Option ℕ)) (cells : List (LogicCell ℕ)) 
   pub ranked : (k rank : ℕ) → entry s.ranks k ≡ Some rank → rank_under drivers s.ranks (inputs_of cells k) ≡ Some rank
 
 -- the search has looked on at the inputs of cell k, to the answered cell above it without a rank, or to their end
-pub record Looks (drivers : List (Option ℕ)) (cells : List (LogicCell ℕ)) (old new : Search) (k : ℕ) (above : Option ℕ) : Type 0 where
+pub record Looks (drivers : List (Option ℕ)) (cells : List (LogicCell ℕ)) (old new : Search) (k : ℕ)
+    (above : Option ℕ) : Type 0 where
   pub progress : Progress
   pub progress_set : new ≡ record old { progress = slice_set old.progress k progress }
   pub looked : HasLooked drivers old.ranks (inputs_of cells k) progress
@@ -95,7 +103,8 @@ pub record RanksOrWaits (drivers : List (Option ℕ)) (cells : List (LogicCell �
   pub settled : (turn : ℕ) → HasRankOrWaits drivers cells new turn k
 
 -- steps of the search on each of these cells
-pub record EachRanksOrWaits (drivers : List (Option ℕ)) (cells : List (LogicCell ℕ)) (old new : Search) (which : List ℕ) : Type 0 where
+pub record EachRanksOrWaits (drivers : List (Option ℕ)) (cells : List (LogicCell ℕ)) (old new : Search)
+    (which : List ℕ) : Type 0 where
   pub sound : IsSound drivers cells new
   pub grows : Grows old new
   pub settled : (k turn : ℕ) → turn ≤ length old.found → is_in which k ≡ true → HasRankOrWaits drivers cells new turn k

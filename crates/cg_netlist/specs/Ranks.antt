@@ -1,6 +1,7 @@
 -- How deep the logic cells of a netlist lie, in the words of levelised simulation: the rank of a cell is the length
 -- of the longest way up from it through logic cells.
-use Rattle.std.specs.Prelude.{ℕ, zero, suc, ◌+◌, ◌==◌, max, Bool, false, List, [], ◌∷◌, map, length, slice_get, Option, Some, None, is_none}
+use Rattle.std.specs.Prelude.{ℕ, zero, suc, ◌+◌, ◌==◌, max, Bool, false, List, [], ◌∷◌, map, length, slice_get, Option, Some, None}
+use Rattle.std.specs.Prelude.{is_none}
 use Rattle.std.specs.List.{position_from, filter_map, range_with_len}
 use Rattle.std.specs.Option.{option_map, option_map_or}
 use Rattle.cg_netlist.specs.Circuit.{LogicCell}

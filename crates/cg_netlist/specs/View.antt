@@ -28,7 +28,15 @@ abbrev pub cell_seen : CellView → LogicCell ℕ
 cell_seen view = record { inputs = view.inputs.now; output = view.output; function = function_seen view.function }
 
 abbrev pub register_seen : RegView → RegisterCell ℕ ℕ
-register_seen view = record { inputs = view.inputs.now; outputs = view.outputs.now; pins = view.pins.now; clock = view.clock; kind = kind_seen view.kind; init = view.init }
+register_seen view =
+    record {
+      inputs = view.inputs.now;
+      outputs = view.outputs.now;
+      pins = view.pins.now;
+      clock = view.clock;
+      kind = kind_seen view.kind;
+      init = view.init;
+    }
 
 abbrev pub gater_seen : GaterView → GatingCell ℕ
 gater_seen view = record { clock = view.clock; enable = view.enable; test = view.test; output = view.output; cell = view.cell.now }

@@ -25,7 +25,9 @@ pub record CalledAtCell {F T : Type 0} (g : Step F T) (f : F) (k : ℕ) (xs : Li
 abbrev pub TakesEach : {F T : Type 0} → Step F T → List (LogicCell ℕ) → List ℕ → F → List T → Type 0
 TakesEach g cells [] f values = Unit {0}
 TakesEach {F} {T} g cells (k ∷ ks) f values = (cell : LogicCell ℕ) → slice_get cells k ≡ Some cell
-    → TakesCell g f k (values_at values cell.inputs) × ((y : T) (f' : F) → CalledAtCell g f k (values_at values cell.inputs) y f' → TakesEach g cells ks f' (slice_set values cell.output y))
+    → TakesCell g f k (values_at values cell.inputs)
+    × ((y : T) (f' : F) → CalledAtCell g f k (values_at values cell.inputs) y f' →
+    TakesEach g cells ks f' (slice_set values cell.output y))
 
 -- The closure was called at these cells one after another. It went from the state f to `last`, and the values of the
 -- nets from `values` to `left`.
@@ -38,7 +40,8 @@ CalledEach {F} {T} g cells (k ∷ ks) f values last left = (cell : LogicCell ℕ
 pub record MayWalk {F T : Type 0} (g : Step F T) (cells : List (LogicCell ℕ)) (ks : List ℕ) (f : F) (values : List T) : Type 0 where
   pub takes : TakesEach g cells ks f values
 
-pub record Walks {F T : Type 0} (g : Step F T) (cells : List (LogicCell ℕ)) (ks : List ℕ) (f : F) (values : List T) (last : F) (left : List T) : Type 0 where
+pub record Walks {F T : Type 0} (g : Step F T) (cells : List (LogicCell ℕ)) (ks : List ℕ) (f : F) (values : List T) (last : F)
+    (left : List T) : Type 0 where
   pub called : CalledEach g cells ks f values last left
 
 -- k is a logic cell, and there are as many values as it has inputs

@@ -22,20 +22,25 @@ pub record AreGiven (c : Circuit) (inputs state gates : List Bool) : Type 0 wher
 
 -- the bits of all nets, as a function, settle
 abbrev pub NetsSettle : Type 0
-NetsSettle = (c : Circuit) (walk : List (LogicCell ℕ)) (clock : Bool) (inputs state gates : List Bool) → IsWellFormed c → IsWalk c.cells walk → AreGiven c inputs state gates
+NetsSettle = (c : Circuit) (walk : List (LogicCell ℕ)) (clock : Bool) (inputs state gates : List Bool) → IsWellFormed c →
+    IsWalk c.cells walk → AreGiven c inputs state gates
     → Settles c clock inputs state gates (nets_of c walk clock inputs state gates)
 
 -- and no others do
 abbrev pub NetsAreAll : Type 0
-NetsAreAll = (c : Circuit) (walk : List (LogicCell ℕ)) (clock : Bool) (inputs state gates nets : List Bool) → IsWellFormed c → IsWalk c.cells walk → Settles c clock inputs state gates nets
+NetsAreAll = (c : Circuit) (walk : List (LogicCell ℕ)) (clock : Bool) (inputs state gates nets : List Bool) → IsWellFormed c →
+    IsWalk c.cells walk → Settles c clock inputs state gates nets
     → nets_of c walk clock inputs state gates ≡ nets
 
 -- putting the cells over a table that shows the given nets of a moment leaves that moment, whatever else stood there
 abbrev pub WalkLeavesMoment : Type 0
-WalkLeavesMoment = (c : Circuit) (walk : List (LogicCell ℕ)) (clock : Bool) (inputs state gates nets table : List Bool) → IsWellFormed c → IsWalk c.cells walk → Settles c clock inputs state gates nets
-    → length table ≡ length c.names → ((net : ℕ) → is_in (given_nets c) net ≡ true → slice_get table net ≡ slice_get nets net) → put_cells walk table ≡ nets
+WalkLeavesMoment = (c : Circuit) (walk : List (LogicCell ℕ)) (clock : Bool) (inputs state gates nets table : List Bool) →
+    IsWellFormed c → IsWalk c.cells walk → Settles c clock inputs state gates nets
+    → length table ≡ length c.names → ((net : ℕ) → is_in (given_nets c) net ≡ true → slice_get table net ≡ slice_get nets net) →
+    put_cells walk table ≡ nets
 
 -- nets other than the clock do not depend on its bit, but through gating cells and registers
 abbrev pub ClockIsApart : Type 0
-ClockIsApart = (c : Circuit) (walk : List (LogicCell ℕ)) (inputs state gates : List Bool) → IsWellFormed c → IsWalk c.cells walk → AreGiven c inputs state gates → (net : ℕ) → c.clock ≢ Some net
+ClockIsApart = (c : Circuit) (walk : List (LogicCell ℕ)) (inputs state gates : List Bool) → IsWellFormed c → IsWalk c.cells walk →
+    AreGiven c inputs state gates → (net : ℕ) → c.clock ≢ Some net
     → slice_get (nets_of c walk true inputs state gates) net ≡ slice_get (nets_of c walk false inputs state gates) net

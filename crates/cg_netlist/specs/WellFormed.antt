@@ -1,5 +1,6 @@
 -- When a netlist is well formed.
-use Rattle.std.specs.Prelude.{◌≡◌, ◌≢◌, ℕ, ◌<◌, ◌≤◌, Bool, if◌then◌else◌, true, false, ◌⊎◌, IsTrue, List, map, length, slice_get, slice_index, Some, nat_eq, [], ◌∷◌}
+use Rattle.std.specs.Prelude.{◌≡◌, ◌≢◌, ℕ, ◌<◌, ◌≤◌, Bool, if◌then◌else◌, true, false, ◌⊎◌, IsTrue, List, map, length, slice_get}
+use Rattle.std.specs.Prelude.{slice_index, Some, nat_eq, [], ◌∷◌}
 use Rattle.std.specs.List.{All, AllPairs, AllZip, IsDistinct, count_by, range_with_len}
 use Rattle.std.specs.Option.{option_to_list}
 use Rattle.std.specs.List.Sorted.{IsStrictlyIncreasing}
@@ -22,13 +23,16 @@ IsOver inputs (Cell cell) = IsCell cell × (cell.kind ≡ Logic) × (count_by is
 
 -- an output shows the inverse of a register's bit exactly where its pin is an output of the inverse
 abbrev pub ShowsAsPin : {N : Type 0} → List PinData → N × Bool → ℕ → Type 0
-ShowsAsPin pins output place = (pin : PinData) × (slice_get pins place ≡ Some pin) × (pin.role ≡ (if output.1 then StateBar else State))
+ShowsAsPin pins output place =
+    (pin : PinData) × (slice_get pins place ≡ Some pin) × (pin.role ≡ (if output.1 then StateBar else State))
 
 -- a plain register has one input and one output, which shows its bit and not the inverse; a register of a library
 -- has an input for each data pin, and outputs at one or more of its output pins, in pin order
 abbrev pub FitsKind : {N K : Type 0} → RegisterKind → RegisterCell N K → Type 0
 FitsKind Plain r = (length r.inputs ≡ 1) × (map (λ output. output.1) r.outputs ≡ false ∷ []) × (r.pins ≡ 0 ∷ [])
-FitsKind (Flop cell) r = IsCell cell × (cell.kind ≡ FlopKind) × (count_by is_data cell.pins ≡ length r.inputs) × (1 ≤ length r.outputs) × AllZip (ShowsAsPin cell.pins) r.outputs r.pins × IsStrictlyIncreasing r.pins
+FitsKind (Flop cell) r =
+    IsCell cell × (cell.kind ≡ FlopKind) × (count_by is_data cell.pins ≡ length r.inputs) × (1 ≤ length r.outputs)
+    × AllZip (ShowsAsPin cell.pins) r.outputs r.pins × IsStrictlyIncreasing r.pins
 
 -- a register has the inputs and outputs of its kind, a pin for each output, and an init from 0 to 3
 pub record RegisterFits {N K : Type 0} (r : RegisterCell N K) : Type 0 where
@@ -45,13 +49,16 @@ pub record IsDriven (c : Circuit) : Type 0 where
 -- each logic cell's rank is above those of the logic cells that drive its inputs, so that no cell waits for itself
 pub record AreRanks (cells : List (LogicCell ℕ)) (ranks : List ℕ) : Type 0 where
   pub count : length ranks ≡ length cells
-  pub rising : (j k : ℕ) (driver cell : LogicCell ℕ) → slice_get cells j ≡ Some driver → slice_get cells k ≡ Some cell → is_in cell.inputs driver.output ≡ true → slice_index ranks j < slice_index ranks k
+  pub rising : (j k : ℕ) (driver cell : LogicCell ℕ) → slice_get cells j ≡ Some driver → slice_get cells k ≡ Some cell →
+      is_in cell.inputs driver.output ≡ true → slice_index ranks j < slice_index ranks k
 
 -- the clock pin of each gating cell is on the clock, or on the output of a gating cell with a lower number
 pub record AreChained (c : Circuit) (numbers : List ℕ) : Type 0 where
   pub count : length numbers ≡ length c.gaters
   pub chained : (k : ℕ) (gater : GatingCell ℕ) → slice_get c.gaters k ≡ Some gater
-      → (c.clock ≡ Some gater.clock) ⊎ ((j : ℕ) × (before : GatingCell ℕ) × (slice_get c.gaters j ≡ Some before) × (before.output ≡ gater.clock) × (slice_index numbers j < slice_index numbers k))
+      → (c.clock ≡ Some gater.clock) ⊎
+      ((j : ℕ) × (before : GatingCell ℕ) × (slice_get c.gaters j ≡ Some before) × (before.output ≡ gater.clock)
+      × (slice_index numbers j < slice_index numbers k))
 
 -- Well formed, as a netlist of synchronous logic on one clock is. "There is a list of numbers" is a field.
 pub record IsWellFormed (c : Circuit) : Type 0 where
@@ -62,7 +69,9 @@ pub record IsWellFormed (c : Circuit) : Type 0 where
   -- each part has as many inputs and outputs as it is made for, and each net that is used is there
   pub functions : All (λ cell. IsOver (length cell.inputs) cell.function) c.cells
   pub fitting : All RegisterFits c.registers
-  pub gating : All (λ gater. IsCell gater.cell × (gater.cell.kind ≡ GaterKind) × (count_by is_test gater.cell.pins ≡ length (option_to_list gater.test))) c.gaters
+  pub gating : All
+      (λ gater. IsCell gater.cell × (gater.cell.kind ≡ GaterKind)
+      × (count_by is_test gater.cell.pins ≡ length (option_to_list gater.test))) c.gaters
   pub used : All (λ net. net < length c.names) (used_nets c)
   -- every net has exactly one driver
   pub driven : IsDriven c

@@ -1,6 +1,7 @@
 //! What is true of walk order, and of the bits that a walk leaves.
 
-ghost use Rattle.cg_netlist.specs.WalkLaws.{ClockIsApart, GateOrderIsWalk, NetsAreAll, NetsSettle, WalkLeavesMoment, WalkOrderIsWalk};
+ghost use Rattle.cg_netlist.specs.WalkLaws.{ClockIsApart, GateOrderIsWalk, NetsAreAll, NetsSettle, WalkLeavesMoment};
+ghost use Rattle.cg_netlist.specs.WalkLaws.{WalkOrderIsWalk};
 
 /// The laws of walks: walk order puts each logic cell behind those that drive its inputs, and the order of gating cells
 /// each behind the one that drives its clock pin; the bits of all nets, as a function of the given ones, settle, and no

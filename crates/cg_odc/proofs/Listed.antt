@@ -1,5 +1,7 @@
 -- The groups by guards that the keys of a round make, and the list of their stages.
-use Rattle.std.proofs.Common.{◌≡◌, ℕ, zero, suc, ◌+◌, ◌<◌, Bool, true, false, not, ◌||◌, ◌&&◌, cond, List, [], ◌∷◌, ◌++◌, map, length, take, slice_get, bytes_eq, option_and_then, Option, Some, None, refl, sym, ◌∙◌, ap, arith, append_assoc}
+use Rattle.std.proofs.Common.{◌≡◌, ℕ, zero, suc, ◌+◌, ◌<◌, Bool, true, false, not, ◌||◌, ◌&&◌, cond, List, [], ◌∷◌, ◌++◌, map}
+use Rattle.std.proofs.Common.{length, take, slice_get, bytes_eq, option_and_then, Option, Some, None, refl, sym, ◌∙◌, ap, arith}
+use Rattle.std.proofs.Common.{append_assoc}
 use Rattle.std.specs.List.{cons_option, filter, filter_map, flat_map, range_with_len}
 use Rattle.std.specs.Option.{option_map}
 use Rattle.std.proofs.lemmas.List.{length-take-le}
@@ -18,7 +20,8 @@ use Rattle.cg_lists.specs.HoldList.{unless_empty}
 use Rattle.cg_lists.specs.Rounds.{is_empty, kept_key, plain_literals}
 use Rattle.cg_lists.specs.StableList.{StableKey, same_stable}
 use Rattle.cg_lists.specs.Supports.{has_enable, in_net_order, own_registers_of}
-use Rattle.cg_lists.specs.UnseenList.{fan_out, guards_kept, guards_of, had_unseen, is_guard, taken_at, taken_net, unseen_groups, unseen_key, unseen_list, unseen_stage, without_guards}
+use Rattle.cg_lists.specs.UnseenList.{fan_out, guards_kept, guards_of, had_unseen, is_guard, taken_at, taken_net, unseen_groups}
+use Rattle.cg_lists.specs.UnseenList.{unseen_key, unseen_list, unseen_stage, without_guards}
 use Rattle.cg_cell.specs.Term.{lone_input}
 use Rattle.cg_claim.specs.Reach.{register_term}
 use Rattle.cg_machine.specs.Claims.{Literal}

@@ -20,15 +20,19 @@ use Rattle.cg_parts.proofs.NamePlaces.{from_places, same_place}
 use Rattle.cg_parts.proofs.NetLists.{carried_by, used_in}
 use Rattle.cg_parts.proofs.NoneBeside.{uses_wired}
 use Rattle.cg_parts.proofs.OrderMapped.{gaters_driven_mapped, used_mapped}
-use Rattle.cg_parts.proofs.OrderedParts.{clock_holds, clocks_there, different, gate_ordered, in_order, ordered_mentioned, root_clock, root_first, root_is, root_ordered, rooted, use_ordered, used_numbered, wired_back}
+use Rattle.cg_parts.proofs.OrderedParts.{clock_holds, clocks_there, different, gate_ordered, in_order, ordered_mentioned}
+use Rattle.cg_parts.proofs.OrderedParts.{root_clock, root_first, root_is, root_ordered, rooted, use_ordered, used_numbered}
+use Rattle.cg_parts.proofs.OrderedParts.{wired_back}
 use Rattle.cg_parts.proofs.RankedParts.{all_end, ranks_long, ranks_of, rising}
 use Rattle.cg_netlist.specs.Circuit.{RegisterCell, is_in}
 use Rattle.cg_netlist.specs.Names.{is_known}
 use Rattle.cg_netlist.specs.WellFormed.{IsWellFormed}
 use Rattle.cg_parts.specs.Faults.{IsFaultless}
-use Rattle.cg_parts.specs.Part.{Gate, Logic, Part, Register, cell_in, cells, clock_of, clock_pins, gater_in, gaters, mentioned, on_clock, register_in, registers, roots, uses, wired}
+use Rattle.cg_parts.specs.Part.{Gate, Logic, Part, Register, cell_in, cells, clock_of, clock_pins, gater_in, gaters, mentioned}
+use Rattle.cg_parts.specs.Part.{on_clock, register_in, registers, roots, uses, wired}
 use Rattle.cg_parts.specs.Says.{AreTaken, IsPart, PartFits, Says, netlist_of}
-use Rattle.cg_netlist.specs.Wiring.{NetName, Wiring, driven_by_gaters, map_cell, map_gater, map_register, map_wiring, order_of, place_in}
+use Rattle.cg_netlist.specs.Wiring.{NetName, Wiring, driven_by_gaters, map_cell, map_gater, map_register, map_wiring, order_of}
+use Rattle.cg_netlist.specs.Wiring.{place_in}
 
 module _ (model : List ℕ) (parts : List Part) (taken : AreTaken model parts) (fine : IsFaultless parts) where
   abbrev w : Wiring NetName

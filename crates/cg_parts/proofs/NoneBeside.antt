@@ -1,5 +1,6 @@
 -- Parts that say a netlist have no fault.
-use Rattle.std.specs.Prelude.{◌≡◌, ℕ, zero, suc, ◌<◌, ◌≤◌, max, Bool, true, false, not, ◌||◌, ◌&&◌, if◌then◌else◌, List, [], ◌∷◌, ◌++◌, map, length, slice_get, slice_index, unwrap_or, Option, None, Some, nat_eq}
+use Rattle.std.specs.Prelude.{◌≡◌, ℕ, zero, suc, ◌<◌, ◌≤◌, max, Bool, true, false, not, ◌||◌, ◌&&◌, if◌then◌else◌, List, [], ◌∷◌}
+use Rattle.std.specs.Prelude.{◌++◌, map, length, slice_get, slice_index, unwrap_or, Option, None, Some, nat_eq}
 use Rattle.std.proofs.Common.{refl, ap, ◌∙◌, sym, subst, inl, inr, arith}
 use Rattle.std.specs.List.{AllByRecursion, before_first, count_by, filter, filter_map, flat_map, list_all, list_any}
 use Rattle.std.specs.Option.{option_map, option_to_list}
@@ -18,10 +19,13 @@ use Rattle.cg_parts.proofs.ToldByNames.{cell_net_within, clock_net_within, each_
 use Rattle.cg_netlist.specs.Circuit.{Circuit, GatingCell, LogicCell, RegisterCell, is_in, shown_nets}
 use Rattle.cg_netlist.specs.Names.{is_known}
 use Rattle.cg_netlist.specs.WellFormed.{IsWellFormed}
-use Rattle.cg_parts.specs.Faults.{HasClock, IsClockProper, IsDrivenIfUsed, IsDrivenOnce, IsEnding, IsFaultless, IsGateProper, IsRootProper, ends_within, reaches}
-use Rattle.cg_parts.specs.Part.{Part, cells, clock_in, clock_of, clock_pins, clocks, drivers, each_once, gaters, inputs, nets, on_clock, outputs, registers, roots, uses, wired}
+use Rattle.cg_parts.specs.Faults.{HasClock, IsClockProper, IsDrivenIfUsed, IsDrivenOnce, IsEnding, IsFaultless, IsGateProper}
+use Rattle.cg_parts.specs.Faults.{IsRootProper, ends_within, reaches}
+use Rattle.cg_parts.specs.Part.{Part, cells, clock_in, clock_of, clock_pins, clocks, drivers, each_once, gaters, inputs, nets}
+use Rattle.cg_parts.specs.Part.{on_clock, outputs, registers, roots, uses, wired}
 use Rattle.cg_parts.specs.Says.{IsClockOf, Says}
-use Rattle.cg_netlist.specs.Wiring.{NetName, Wiring, driven_by_cells, driven_by_gaters, driven_by_registers, map_cell, map_gater, map_register, net_name, order_of, wiring}
+use Rattle.cg_netlist.specs.Wiring.{NetName, Wiring, driven_by_cells, driven_by_gaters, driven_by_registers, map_cell, map_gater}
+use Rattle.cg_netlist.specs.Wiring.{map_register, net_name, order_of, wiring}
 
 -- registers on a clock show the nets, and use the nets, that they have without one
 pub shown_on : (k : Option NetName) (rs : List (RegisterCell NetName (Option NetName))) → driven_by_registers (map (on_clock k) rs) ≡ driven_by_registers rs

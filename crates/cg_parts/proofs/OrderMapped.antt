@@ -7,7 +7,8 @@ use Rattle.std.proofs.lemmas.List.{map-append}
 use Rattle.cg_parts.proofs.NetLists.{cell_inputs, gater_inputs, register_inputs, used_in}
 use Rattle.cg_netlist.specs.Circuit.{GatingCell, LogicCell, RegisterCell, asked_nets, shown_nets}
 use Rattle.cg_parts.specs.Part.{cells, gaters, inputs}
-use Rattle.cg_netlist.specs.Wiring.{Wiring, among, driven_by_cells, driven_by_gaters, driven_by_registers, map_cell, map_gater, map_outputs, map_register, map_wiring, order_of}
+use Rattle.cg_netlist.specs.Wiring.{Wiring, among, driven_by_cells, driven_by_gaters, driven_by_registers, map_cell, map_gater}
+use Rattle.cg_netlist.specs.Wiring.{map_outputs, map_register, map_wiring, order_of}
 
 module _ {N M : Type 0} (f : N → M) where
   pub cells_driven_mapped : (cells : List (LogicCell N)) → driven_by_cells (map (map_cell f) cells) ≡ map f (driven_by_cells cells)

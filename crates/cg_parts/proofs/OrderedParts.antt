@@ -1,5 +1,6 @@
 -- Parts without a fault: each net that they speak of is driven once, and has a place in net order.
-use Rattle.std.specs.Prelude.{[], ◌≡◌, ◌≢◌, ℕ, ◌<◌, true, not, List, ◌∷◌, ◌++◌, map, length, slice_get, unwrap_or, Option, None, Some, nat_eq}
+use Rattle.std.specs.Prelude.{[], ◌≡◌, ◌≢◌, ℕ, ◌<◌, true, not, List, ◌∷◌, ◌++◌, map, length, slice_get, unwrap_or, Option, None}
+use Rattle.std.specs.Prelude.{Some, nat_eq}
 use Rattle.std.proofs.Common.{refl, ap, ◌∙◌, sym, subst, inl, inr, arith, get_or}
 use Rattle.std.specs.List.{All, AllByRecursion, AllPairs, before_first, filter, filter_map, flat_map, list_any, range_with_len}
 use Rattle.std.specs.Option.{option_or, option_to_list}
@@ -12,9 +13,11 @@ use Rattle.cg_parts.proofs.Counted.{one_place}
 use Rattle.cg_netlist.proofs.Each.{each}
 use Rattle.cg_parts.proofs.GatedNets.{before, pin_cases}
 use Rattle.cg_parts.proofs.Kept.{CellNets, GaterNets, RegisterNets, WiringNets, wiring_kept}
-use Rattle.cg_parts.proofs.KnownNames.{each_known, known_cases, known_each, known_head, known_left, known_right, known_tail, same_word, word_at}
+use Rattle.cg_parts.proofs.KnownNames.{each_known, known_cases, known_each, known_head, known_left, known_right, known_tail}
+use Rattle.cg_parts.proofs.KnownNames.{same_word, word_at}
 use Rattle.cg_parts.proofs.Mentioned.{driver_mentioned, root_mentioned, use_mentioned}
-use Rattle.cg_parts.proofs.NamePlaces.{any_known, either_first, first_of_one, from_places, name_back, place_below, placed_as, places_are}
+use Rattle.cg_parts.proofs.NamePlaces.{any_known, either_first, first_of_one, from_places, name_back, place_below, placed_as}
+use Rattle.cg_parts.proofs.NamePlaces.{places_are}
 use Rattle.cg_parts.proofs.NetLists.{cell_inputs, gater_inputs, register_inputs, used_in}
 use Rattle.cg_parts.proofs.NoneBeside.{one_declared, shown_on, uses_wired}
 use Rattle.cg_parts.proofs.OrderMapped.{order_mapped, used_mapped}
@@ -22,9 +25,11 @@ use Rattle.cg_parts.proofs.ToldByNames.{nets_weaker}
 use Rattle.cg_netlist.specs.Circuit.{GatingCell, LogicCell, RegisterCell, asked_nets, is_in, shown_nets}
 use Rattle.cg_netlist.specs.Names.{is_known}
 use Rattle.cg_parts.specs.Faults.{IsClockProper, IsDrivenIfUsed, IsDrivenOnce, IsFaultless, IsRootProper}
-use Rattle.cg_parts.specs.Part.{Part, cells, clock_in, clock_of, clock_pins, clocks, drivers, gaters, inputs, nets, on_clock, outputs, registers, roots, uses, wired}
+use Rattle.cg_parts.specs.Part.{Part, cells, clock_in, clock_of, clock_pins, clocks, drivers, gaters, inputs, nets, on_clock}
+use Rattle.cg_parts.specs.Part.{outputs, registers, roots, uses, wired}
 use Rattle.cg_parts.specs.Says.{IsClockOf}
-use Rattle.cg_netlist.specs.Wiring.{NetName, Wiring, driven_by_cells, driven_by_gaters, driven_by_registers, map_wiring, net_name, order_of, place_in}
+use Rattle.cg_netlist.specs.Wiring.{NetName, Wiring, driven_by_cells, driven_by_gaters, driven_by_registers, map_wiring, net_name}
+use Rattle.cg_netlist.specs.Wiring.{order_of, place_in}
 
 module _ (parts : List Part) (fine : IsFaultless parts) where
   abbrev w : Wiring NetName

@@ -1,5 +1,6 @@
 -- The canonical parts of a netlist say it.
-use Rattle.std.specs.Prelude.{[], ◌≡◌, ℕ, suc, ◌<◌, ◌≤◌, Bool, true, false, not, if◌then◌else◌, List, ◌∷◌, ◌++◌, map, length, slice_get, unwrap_or, Option, None, Some, nat_eq}
+use Rattle.std.specs.Prelude.{[], ◌≡◌, ℕ, suc, ◌<◌, ◌≤◌, Bool, true, false, not, if◌then◌else◌, List, ◌∷◌, ◌++◌, map, length}
+use Rattle.std.specs.Prelude.{slice_get, unwrap_or, Option, None, Some, nat_eq}
 use Rattle.std.proofs.Common.{refl, ap, ◌∙◌, sym, subst, inl, inr, arith}
 use Rattle.std.specs.List.{AllByRecursion, IsDistinct, cons_option, filter, filter_map, flat_map}
 use Rattle.std.specs.Option.{option_map, option_or, option_to_list}
@@ -14,7 +15,8 @@ use Rattle.cg_parts.proofs.ByKind.{filter_has, has_once}
 use Rattle.cg_parts.proofs.Different.{Apart, apart_from, apart_left, apart_once, no_more, once_apart}
 use Rattle.cg_netlist.proofs.Each.{by_recursion, each_together}
 use Rattle.cg_parts.proofs.Kept.{CellNets, GaterNets, RegisterNets, WiringNets, mapped_nets}
-use Rattle.cg_parts.proofs.KnownNames.{each_known, known_cases, known_each, known_head, known_left, known_right, known_tail, same_word, word_at}
+use Rattle.cg_parts.proofs.KnownNames.{each_known, known_cases, known_each, known_head, known_left, known_right, known_tail}
+use Rattle.cg_parts.proofs.KnownNames.{same_word, word_at}
 use Rattle.cg_parts.proofs.NetLists.{carried_by}
 use Rattle.cg_parts.proofs.NoneBeside.{from_names}
 use Rattle.cg_parts.proofs.OrderMapped.{gaters_driven_mapped}
@@ -23,7 +25,9 @@ use Rattle.cg_netlist.specs.Circuit.{Circuit, GatingCell, LogicCell, RegisterCel
 use Rattle.cg_netlist.specs.Names.{is_known}
 use Rattle.cg_netlist.specs.Netlist.{IsNetlist}
 use Rattle.cg_netlist.specs.WellFormed.{IsInNetOrder, IsWellFormed}
-use Rattle.cg_parts.specs.Part.{Clock, Gate, Input, Logic, Output, Part, cell_in, cells, clock_in, clock_of, clock_pins, clocks, each_once, gater_in, gaters, input_in, inputs, mentioned, nets, on_clock, output_in, outputs, register_in, registers, roots, wired}
+use Rattle.cg_parts.specs.Part.{Clock, Gate, Input, Logic, Output, Part, cell_in, cells, clock_in, clock_of, clock_pins, clocks}
+use Rattle.cg_parts.specs.Part.{each_once, gater_in, gaters, input_in, inputs, mentioned, nets, on_clock, output_in, outputs}
+use Rattle.cg_parts.specs.Part.{register_in, registers, roots, wired}
 use Rattle.cg_parts.specs.Says.{IsClockOf, Says, parts_from, register_part}
 use Rattle.cg_netlist.specs.Wiring.{NetName, Wiring, driven_by_gaters, map_gater, map_register, named, net_name, order_of, wiring}
 

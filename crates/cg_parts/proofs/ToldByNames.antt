@@ -1,5 +1,6 @@
 -- A well-formed netlist is the one that its own wiring by names says: the names tell the numbers.
-use Rattle.std.specs.Prelude.{◌≡◌, ◌≢◌, ℕ, zero, suc, ◌<◌, true, false, not, ◌||◌, if◌then◌else◌, List, [], ◌∷◌, ◌++◌, map, length, slice_get, unwrap_or, Option, None, Some, nat_eq}
+use Rattle.std.specs.Prelude.{◌≡◌, ◌≢◌, ℕ, zero, suc, ◌<◌, true, false, not, ◌||◌, if◌then◌else◌, List, [], ◌∷◌, ◌++◌, map, length}
+use Rattle.std.specs.Prelude.{slice_get, unwrap_or, Option, None, Some, nat_eq}
 use Rattle.std.proofs.Common.{refl, ap, ◌∙◌, sym, subst, inl, inr, arith}
 use Rattle.std.specs.List.{AllByRecursion, AllPairs, filter, flat_map, range_with_len}
 use Rattle.std.specs.Option.{option_to_list}
@@ -22,7 +23,8 @@ use Rattle.cg_netlist.specs.Names.{is_known}
 use Rattle.cg_netlist.specs.Ordered.{ordered}
 use Rattle.cg_netlist.specs.WellFormed.{IsInNetOrder, IsWellFormed}
 use Rattle.cg_parts.specs.Part.{clocks, gaters}
-use Rattle.cg_netlist.specs.Wiring.{NetName, Wiring, among, circuit, driven_by_cells, driven_by_gaters, driven_by_registers, map_wiring, named, net_name, numbered, order_of, place_in, wiring}
+use Rattle.cg_netlist.specs.Wiring.{NetName, Wiring, among, circuit, driven_by_cells, driven_by_gaters, driven_by_registers}
+use Rattle.cg_netlist.specs.Wiring.{map_wiring, named, net_name, numbered, order_of, place_in, wiring}
 
 -- what holds of each net of a list holds of those of its elements
 pub each_in : (P : ℕ → Type 0) (xs : List ℕ) → ((x : ℕ) → is_in xs x ≡ true → P x) → AllByRecursion P xs

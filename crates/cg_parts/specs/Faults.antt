@@ -21,7 +21,8 @@ IsDrivenIfUsed parts net = is_known (uses parts) net ≡ true → is_known (driv
 -- whether no way up from the net, from driven to driving logic cell, passes more than n logic cells
 abbrev pub ends_within : List (LogicCell NetName) → ℕ → NetName → Bool
 ends_within cells zero net = not (is_known (driven_by_cells cells) net)
-ends_within cells (suc n) net = list_all (λ cell. not (bytes_eq net cell.output) || list_all (ends_within cells n) cell.inputs) cells
+ends_within cells (suc n) net =
+    list_all (λ cell. not (bytes_eq net cell.output) || list_all (ends_within cells n) cell.inputs) cells
 
 -- the ways up from the net end: there is no cycle of logic cells in its cone
 abbrev pub IsEnding : List Part → NetName → Type 0
@@ -69,9 +70,14 @@ pub record IsFirstNot (parts : List Part) (P : NetName → Type 0) (net : NetNam
 abbrev pub IsFault : List Part → NetFault → Type 0
 IsFault parts (TwoDrivers net) = IsFirstNot parts (IsDrivenOnce parts) net
 IsFault parts (NoDriver net) = EachNet parts (IsDrivenOnce parts) × IsFirstNot parts (IsDrivenIfUsed parts) net
-IsFault parts (Cycle net) = EachNet parts (IsDrivenOnce parts) × EachNet parts (IsDrivenIfUsed parts) × IsFirstNot parts (IsEnding parts) net
-IsFault parts (ClockFault net) = EachNet parts (IsDrivenOnce parts) × EachNet parts (IsDrivenIfUsed parts) × EachNet parts (IsEnding parts) × IsFirstNot parts (IsClockProper parts) net
-IsFault parts NoClock = EachNet parts (IsDrivenOnce parts) × EachNet parts (IsDrivenIfUsed parts) × EachNet parts (IsEnding parts) × EachNet parts (IsClockProper parts) × (HasClock parts → ⊥)
+IsFault parts (Cycle net) =
+    EachNet parts (IsDrivenOnce parts) × EachNet parts (IsDrivenIfUsed parts) × IsFirstNot parts (IsEnding parts) net
+IsFault parts (ClockFault net) =
+    EachNet parts (IsDrivenOnce parts) × EachNet parts (IsDrivenIfUsed parts) × EachNet parts (IsEnding parts)
+    × IsFirstNot parts (IsClockProper parts) net
+IsFault parts NoClock =
+    EachNet parts (IsDrivenOnce parts) × EachNet parts (IsDrivenIfUsed parts) × EachNet parts (IsEnding parts)
+    × EachNet parts (IsClockProper parts) × (HasClock parts → ⊥)
 IsFault parts NoMemory = ⊥
 
 -- the parts have no fault

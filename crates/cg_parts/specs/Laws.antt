@@ -22,7 +22,8 @@ NoneBeside = (model : List ℕ) (parts : List Part) (c : Circuit) → Says model
 
 -- parts that a builder took and that have no fault say a netlist
 abbrev pub AtLeastOne : Type 0
-AtLeastOne = (model : List ℕ) (parts : List Part) → AreTaken model parts → IsFaultless parts → Says model parts (netlist_of model parts)
+AtLeastOne = (model : List ℕ) (parts : List Part) → AreTaken model parts → IsFaultless parts →
+    Says model parts (netlist_of model parts)
 
 -- parts have no fault, or they have a first one
 abbrev pub FaultOrNone : Type 0
@@ -37,7 +38,8 @@ NoFault = (parts : List Part) (fault : NetFault) → IsFaultless parts → IsFau
 
 -- a netlist that taken parts say is what every netlist is
 abbrev pub SaidIsNetlist : Type 0
-SaidIsNetlist = (model : List ℕ) (parts : List Part) (c : Circuit) → AreTaken model parts → Says model parts c → IsNetlist c × IsDistinct nat_eq c.outputs
+SaidIsNetlist = (model : List ℕ) (parts : List Part) (c : Circuit) → AreTaken model parts → Says model parts c →
+    IsNetlist c × IsDistinct nat_eq c.outputs
 
 -- a netlist is said by its own parts, which are such as a builder takes
 abbrev pub OwnParts : Type 0
@@ -46,12 +48,14 @@ OwnParts = (c : Circuit) → IsNetlist c → IsDistinct nat_eq c.outputs → Are
 -- and also where registers that are on its clock leave that out
 abbrev pub SaidByItsParts : Type 0
 SaidByItsParts =
-    (c : Circuit) (leaves : RegisterCell NetName NetName → Bool) → IsNetlist c → IsDistinct nat_eq c.outputs → AllByRecursion (λ r. leaves r ≡ true → (named c).clock ≡ Some r.clock) (named c).registers
+    (c : Circuit) (leaves : RegisterCell NetName NetName → Bool) → IsNetlist c → IsDistinct nat_eq c.outputs →
+    AllByRecursion (λ r. leaves r ≡ true → (named c).clock ≡ Some r.clock) (named c).registers
     → AreTaken c.model (parts_from leaves (named c)) × Says c.model (parts_from leaves (named c)) c
 
 -- a netlist that taken parts say is writable, if each of the parts is one that a line can say
 abbrev pub SaidIsWritable : Type 0
-SaidIsWritable = (library : List CellData) (model : List ℕ) (parts : List Part) (c : Circuit) → AreTaken model parts → AllByRecursion (IsLine library) parts → Says model parts c → IsWritable library c
+SaidIsWritable = (library : List CellData) (model : List ℕ) (parts : List Part) (c : Circuit) → AreTaken model parts →
+    AllByRecursion (IsLine library) parts → Says model parts c → IsWritable library c
 
 -- and a writable netlist is said by parts that lines can say
 abbrev pub WritableIsSaid : Type 0

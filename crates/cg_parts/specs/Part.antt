@@ -110,7 +110,15 @@ clock_of parts = slice_get (roots parts) 0
 
 -- a register on this clock, where it names none itself; where there is no clock, on the empty name, which no net has
 abbrev pub on_clock : Option NetName → RegisterCell NetName (Option NetName) → RegisterCell NetName NetName
-on_clock clock r = record { inputs = r.inputs; outputs = r.outputs; pins = r.pins; clock = unwrap_or (option_or r.clock clock) []; kind = r.kind; init = r.init }
+on_clock clock r =
+    record {
+      inputs = r.inputs;
+      outputs = r.outputs;
+      pins = r.pins;
+      clock = unwrap_or (option_or r.clock clock) [];
+      kind = r.kind;
+      init = r.init;
+    }
 
 -- the wiring that the parts say
 abbrev pub wired : List Part → Wiring NetName

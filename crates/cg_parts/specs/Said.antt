@@ -6,7 +6,8 @@ use Rattle.cg_limit.specs.declared.Limit.{Limit}
 use Rattle.cg_limit.specs.declared.Limit.TheVariants.{Nets, Registers}
 use Rattle.cg_netlist.specs.Names.{with_name, with_names}
 use Rattle.cg_netlist.specs.Circuit.{LogicCell, GatingCell, RegisterCell}
-use Rattle.cg_parts.specs.Part.{Part, Input, Output, Clock, Logic, Gate, Register, cells, clocks, gaters, inputs, mentioned, nets, outputs, registers}
+use Rattle.cg_parts.specs.Part.{Part, Input, Output, Clock, Logic, Gate, Register, cells, clocks, gaters, inputs, mentioned, nets}
+use Rattle.cg_parts.specs.Part.{outputs, registers}
 use Rattle.cg_netlist.specs.Wiring.{NetName}
 
 -- the nets in the order of their first mention; the inputs, outputs and declared clocks, each once; the cells of each kind
@@ -21,7 +22,16 @@ pub record Said : Type 0 where
 
 -- what a list of parts has said
 abbrev pub said : List Part → Said
-said parts = record { nets = nets parts; inputs = inputs parts; outputs = outputs parts; clocks = clocks parts; cells = cells parts; gaters = gaters parts; registers = registers parts }
+said parts =
+    record {
+      nets = nets parts;
+      inputs = inputs parts;
+      outputs = outputs parts;
+      clocks = clocks parts;
+      cells = cells parts;
+      gaters = gaters parts;
+      registers = registers parts;
+    }
 
 -- nothing
 abbrev pub nothing_said : Said
@@ -42,4 +52,6 @@ with_part s part = record (with_kind part s) { nets = with_names s.nets (mention
 
 -- the limit that this passes, if it passes one: 1,048,576 nets, and then 65,536 registers
 abbrev pub limit_of : Said → Option Limit
-limit_of s = if nat_lt MOST_NETS (length s.nets) then Some Nets else if nat_lt MOST_REGISTERS (length s.registers) then Some Registers else None
+limit_of s =
+    if nat_lt MOST_NETS (length s.nets) then Some Nets else if nat_lt MOST_REGISTERS (length s.registers) then Some Registers
+    else None

@@ -11,7 +11,8 @@ use Rattle.cg_netlist.specs.Names.{is_known}
 use Rattle.cg_netlist.specs.WellFormed.{IsOver}
 use Rattle.cg_netlist.specs.Circuit.{Circuit, LogicCell, GatingCell, RegisterCell}
 use Rattle.cg_netlist.specs.WellFormed.{IsInNetOrder, IsWellFormed, RegisterFits}
-use Rattle.cg_parts.specs.Part.{Part, Input, Output, Clock, Logic, Gate, Register, clock_of, clocks, inputs, mentioned, nets, registers, roots, wired}
+use Rattle.cg_parts.specs.Part.{Part, Input, Output, Clock, Logic, Gate, Register, clock_of, clocks, inputs, mentioned, nets}
+use Rattle.cg_parts.specs.Part.{registers, roots, wired}
 use Rattle.cg_netlist.specs.Wiring.{NetName, Wiring, named, numbered}
 
 -- a net is the clock of the parts, and is an input or a declared clock
@@ -36,7 +37,8 @@ pub record CellFits {N : Type 0} (cell : LogicCell N) : Type 0 where
 
 -- a gating cell is placed as one of a library that is one, and has a test net exactly where that has a test pin
 abbrev pub GaterFits : {N : Type 0} → GatingCell N → Type 0
-GaterFits gater = IsCell gater.cell × (gater.cell.kind ≡ GaterKind) × (count_by is_test gater.cell.pins ≡ length (option_to_list gater.test))
+GaterFits gater =
+    IsCell gater.cell × (gater.cell.kind ≡ GaterKind) × (count_by is_test gater.cell.pins ≡ length (option_to_list gater.test))
 
 -- a part has as many nets as its cell is made for
 abbrev pub PartFits : Part → Type 0
@@ -63,7 +65,16 @@ netlist_of model parts = numbered model (wired parts)
 
 -- a register as a part; one that passes the test does not name its clock
 abbrev pub register_part : (RegisterCell NetName NetName → Bool) → RegisterCell NetName NetName → Part
-register_part leaves r = Register (record { inputs = r.inputs; outputs = r.outputs; pins = r.pins; clock = (if leaves r then None else Some r.clock); kind = r.kind; init = r.init })
+register_part leaves r =
+    Register
+    (record {
+      inputs = r.inputs;
+      outputs = r.outputs;
+      pins = r.pins;
+      clock = (if leaves r then None else Some r.clock);
+      kind = r.kind;
+      init = r.init;
+    })
 
 -- a wiring as parts: its inputs, its outputs, its clock, and then the logic cells, the gating cells and the registers
 abbrev pub parts_from : (RegisterCell NetName NetName → Bool) → Wiring NetName → List Part

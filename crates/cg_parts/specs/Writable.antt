@@ -66,4 +66,6 @@ pub record IsWritable (library : List CellData) (c : Circuit) : Type 0 where
   pub functions : All (λ cell. FunctionIsOf library (length cell.inputs) cell.function) c.cells
   pub gating : All (λ gater. IsOf library gater.cell) c.gaters
   pub kinds : All (λ register. KindIsOf library register.init register.kind) c.registers
-  pub clocks : All (λ register. register.kind ≡ Plain → is_in (gate_nets c) register.clock ≡ true → net_name c.names register.clock ≢ NIL) c.registers
+  pub clocks : All
+      (λ register. register.kind ≡ Plain → is_in (gate_nets c) register.clock ≡ true →
+      net_name c.names register.clock ≢ NIL) c.registers

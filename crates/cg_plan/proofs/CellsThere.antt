@@ -1,5 +1,6 @@
 -- An inserted stage adds gates of which the library has cells.
-use Rattle.std.proofs.Common.{◌≡◌, ℕ, zero, suc, ◌<◌, Bool, true, false, not, cond, if◌then◌else◌, List, [], ◌∷◌, map, length, get_or, nat_lt, is_some, Option, None, Some, refl, sym, arith}
+use Rattle.std.proofs.Common.{◌≡◌, ℕ, zero, suc, ◌<◌, Bool, true, false, not, cond, if◌then◌else◌, List, [], ◌∷◌, map, length}
+use Rattle.std.proofs.Common.{get_or, nat_lt, is_some, Option, None, Some, refl, sym, arith}
 use Rattle.std.specs.List.{All, find}
 use Rattle.std.proofs.lemmas.Bool.{both_ways, lt-ltb, or_left}
 use Rattle.std.proofs.lemmas.List.{length-map}

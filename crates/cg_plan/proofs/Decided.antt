@@ -1,5 +1,6 @@
 -- What is known where a stage is inserted: its claims hold, and no limit is passed.
-use Rattle.std.proofs.Common.{◌≡◌, ℕ, zero, suc, ◌+◌, ◌<◌, ◌≤◌, Bool, true, false, if◌then◌else◌, List, [], ◌∷◌, ◌++◌, map, length, nat_eq, nat_lt, Option, None, Some, refl, sym, ◌∙◌, ap, arith, ◌⊎◌, inl, inr}
+use Rattle.std.proofs.Common.{◌≡◌, ℕ, zero, suc, ◌+◌, ◌<◌, ◌≤◌, Bool, true, false, if◌then◌else◌, List, [], ◌∷◌, ◌++◌, map, length}
+use Rattle.std.proofs.Common.{nat_eq, nat_lt, Option, None, Some, refl, sym, ◌∙◌, ap, arith, ◌⊎◌, inl, inr}
 use Rattle.std.specs.List.{range_with_len}
 use Rattle.std.proofs.lemmas.Bool.{both_ways, cases_Bool, eqb-true, eq-eqb, or_cases, or_left, or_right}
 use Rattle.cg_cell.specs.Cell.{CellData}
@@ -19,7 +20,8 @@ use Rattle.cg_claim.specs.Reach.{registers_of}
 use Rattle.cg_claim.specs.Targets.{all_targets, meets, output_targets, unseen_targets}
 use Rattle.cg_claim.specs.Violates.{CopyPartFits}
 use Rattle.cg_claim.specs.declared.name.ClaimName.{ClaimName}
-use Rattle.cg_claim.specs.declared.name.ClaimName.TheVariants.{Enable, Hold as HoldName, Next as NextName, Output, Stable as StableName}
+use Rattle.cg_claim.specs.declared.name.ClaimName.TheVariants.{Enable, Hold as HoldName, Next as NextName, Output}
+use Rattle.cg_claim.specs.declared.name.ClaimName.TheVariants.{Stable as StableName}
 use Rattle.cg_claim.proofs.Apart.{apart_unseen}
 use Rattle.cg_claim.proofs.ClaimsHold.{never_hold, never_stable, never_unseen}
 use Rattle.cg_claim.proofs.Tried.{is_never_says}
@@ -29,7 +31,8 @@ use Rattle.cg_stage.specs.Stages.{ClaimsHold, IsTarget, first_literal}
 use Rattle.cg_lists.specs.HoldList.{is_large}
 use Rattle.cg_lists.proofs.Among.{Among, among_cons, among_none, in_back, in_filter, in_front, in_map, later}
 use Rattle.cg_plan.specs.StageClaims.{NamedClaim, all_claims, claims_by, claims_of, target_claim}
-use Rattle.cg_plan.specs.Trying.{Ends, Passes, Tried, decided, first_false, measured, tried, unless_false, unless_missing, unless_passed}
+use Rattle.cg_plan.specs.Trying.{Ends, Passes, Tried, decided, first_false, measured, tried, unless_false, unless_missing}
+use Rattle.cg_plan.specs.Trying.{unless_passed}
 use Rattle.cg_plan.specs.declared.outcome.Outcome.TheVariants.{Inserted, NeverIdle, Small, Wide}
 use Rattle.cg_plan.specs.declared.settings.Settings.{Settings}
 

@@ -1,5 +1,7 @@
 -- A stage is inserted exactly where it deserves it.
-use Rattle.std.proofs.Common.{◌≡◌, ℕ, zero, suc, ◌+◌, ◌<◌, ◌≤◌, Bool, true, false, not, ◌&&◌, if◌then◌else◌, cond, List, [], ◌∷◌, ◌++◌, map, length, nat_eq, nat_lt, Option, None, Some, refl, sym, ◌∙◌, ap, subst, arith, ◌⊎◌, inl, inr}
+use Rattle.std.proofs.Common.{◌≡◌, ℕ, zero, suc, ◌+◌, ◌<◌, ◌≤◌, Bool, true, false, not, ◌&&◌, if◌then◌else◌, cond, List, [], ◌∷◌}
+use Rattle.std.proofs.Common.{◌++◌, map, length, nat_eq, nat_lt, Option, None, Some, refl, sym, ◌∙◌, ap, subst, arith, ◌⊎◌, inl}
+use Rattle.std.proofs.Common.{inr}
 use Rattle.std.specs.List.{filter, list_all}
 use Rattle.std.proofs.lemmas.Bool.{both_ways, eq-eqb, false_from_ne_true, lt-ltb, ltb-true, or_left, or_right}
 use Rattle.cg_limit.specs.declared.TheConstants.{MOST_CLAIM_NODES}
@@ -19,7 +21,8 @@ use Rattle.cg_claim.specs.Question.{Question, hold_question, idle_question, stab
 use Rattle.cg_claim.specs.Reach.{registers_of}
 use Rattle.cg_claim.specs.Targets.{all_targets, meets, output_targets, unseen_targets}
 use Rattle.cg_claim.specs.declared.name.ClaimName.{ClaimName}
-use Rattle.cg_claim.specs.declared.name.ClaimName.TheVariants.{Enable, Hold as HoldName, Next as NextName, Output, Stable as StableName}
+use Rattle.cg_claim.specs.declared.name.ClaimName.TheVariants.{Enable, Hold as HoldName, Next as NextName, Output}
+use Rattle.cg_claim.specs.declared.name.ClaimName.TheVariants.{Stable as StableName}
 use Rattle.cg_claim.proofs.ClaimsHold.{hold_never, idle_some, some_idle, stable_never, unseen_never}
 use Rattle.cg_claim.proofs.GoalBits.{free_is}
 use Rattle.cg_claim.proofs.Tried.{is_never_says}
@@ -29,7 +32,8 @@ use Rattle.cg_lists.specs.HoldList.{is_large}
 use Rattle.cg_lists.proofs.Among.{Among, among_cons, among_none, later}
 use Rattle.cg_lists.proofs.FitLists.{range_in}
 use Rattle.cg_plan.specs.StageClaims.{NamedClaim, all_claims, claims_by, claims_of, target_claim}
-use Rattle.cg_plan.specs.Trying.{Ends, Passes, Tried, decided, first_false, measured, tried, unless_false, unless_missing, unless_passed}
+use Rattle.cg_plan.specs.Trying.{Ends, Passes, Tried, decided, first_false, measured, tried, unless_false, unless_missing}
+use Rattle.cg_plan.specs.Trying.{unless_passed}
 use Rattle.cg_plan.specs.declared.outcome.Outcome.TheVariants.{Inserted, NeverIdle, Small, Wide}
 use Rattle.cg_plan.specs.declared.settings.Settings.{Settings}
 use Rattle.cg_claim.specs.Violates.{violates}

@@ -1,5 +1,6 @@
 -- Stages compose: the machine of a plan shows what the machine shows that it begins with.
-use Rattle.std.proofs.Common.{◌≡◌, ℕ, zero, suc, ◌<◌, true, false, List, [], ◌∷◌, length, Option, None, Some, refl, sym, ◌∙◌, subst, arith, slice_get, ◌++◌, inl, inr}
+use Rattle.std.proofs.Common.{◌≡◌, ℕ, zero, suc, ◌<◌, true, false, List, [], ◌∷◌, length, Option, None, Some, refl, sym, ◌∙◌, subst}
+use Rattle.std.proofs.Common.{arith, slice_get, ◌++◌, inl, inr}
 use Rattle.cg_cell.specs.Cell.{CellData}
 use Rattle.cg_limit.specs.declared.Limit.{Limit}
 use Rattle.cg_netlist.specs.Circuit.{is_in}
@@ -16,7 +17,8 @@ use Rattle.cg_stage.proofs.StageSafe.{stage_safe}
 use Rattle.cg_lists.specs.Fit.{AllFit, AreApart}
 use Rattle.cg_lists.specs.HoldList.{hold_list}
 use Rattle.cg_lists.specs.Literals.{IdleData}
-use Rattle.cg_plan.specs.Plan.{Turn, Plan, after_outcome, after_try, begin, list_by, plan_of, rounds, try_all, try_one, unless_stopped}
+use Rattle.cg_plan.specs.Plan.{Turn, Plan, after_outcome, after_try, begin, list_by, plan_of, rounds, try_all, try_one}
+use Rattle.cg_plan.specs.Plan.{unless_stopped}
 use Rattle.cg_plan.specs.Trying.{Ends, Passes, Tried, tried}
 use Rattle.cg_plan.specs.declared.outcome.Outcome.{Outcome}
 use Rattle.cg_plan.specs.declared.outcome.Outcome.TheVariants.{Inserted, NeverIdle, NoCell, Refuted, Small, Wide}

@@ -32,18 +32,21 @@ use Rattle.cg_stage.specs.Effects.{effect}
 pub record IsInsertable (library : List CellData) (settings : Settings) (m : MachineData) (s : Stage) : Type 0 where
   pub large : settings.min ≤ length s.regs
   pub cells : missing library (needs settings.test s) ≡ None
-  pub narrow : (k : ℕ) (c : NamedClaim) → slice_get (all_claims m s) k ≡ Some c → (width_of m c.1 ≤ settings.width) × (nodes_of m c.1 ≤ MOST_CLAIM_NODES)
+  pub narrow : (k : ℕ) (c : NamedClaim) → slice_get (all_claims m s) k ≡ Some c →
+      (width_of m c.1 ≤ settings.width) × (nodes_of m c.1 ≤ MOST_CLAIM_NODES)
   pub idles : CanIdle m s.enable
   pub holds : ClaimsHold s.kind m s
   pub room : limit_by s.kind m s ≡ None
 
 -- a stage that fits is inserted exactly where it deserves it
 abbrev pub InsertedExactly : Type 0
-InsertedExactly = (library : List CellData) (settings : Settings) (m : MachineData) (s : Stage) → IsMachine m → Fits m s → (tried library settings m s ≡ Ends Inserted) ↔ IsInsertable library settings m s
+InsertedExactly = (library : List CellData) (settings : Settings) (m : MachineData) (s : Stage) → IsMachine m → Fits m s →
+    (tried library settings m s ≡ Ends Inserted) ↔ IsInsertable library settings m s
 
 -- and then the machine after it shows what the machine before it shows
 abbrev pub InsertedIsSafe : Type 0
-InsertedIsSafe = (library : List CellData) (settings : Settings) (m : MachineData) (s : Stage) → IsMachine m → Fits m s → tried library settings m s ≡ Ends Inserted → After m s (effect m s)
+InsertedIsSafe = (library : List CellData) (settings : Settings) (m : MachineData) (s : Stage) → IsMachine m → Fits m s →
+    tried library settings m s ≡ Ends Inserted → After m s (effect m s)
 
 -- the turn of a stage: it is tried on a machine that it fits, and its outcome is what comes of it there
 pub record IsTurn (library : List CellData) (settings : Settings) (turn : Turn) : Type 0 where
@@ -58,28 +61,36 @@ EachFits = (library : List CellData) (settings : Settings) (idle : Option IdleDa
 
 -- the machine of a plan is a machine, and shows what the machine shows that the plan begins with
 abbrev pub PlanIsSafe : Type 0
-PlanIsSafe = (library : List CellData) (settings : Settings) (idle : Option IdleData) (m : MachineData) → IsMachine m → IsMachine (plan_of library settings idle m).machine × Same m (plan_of library settings idle m).machine
+PlanIsSafe = (library : List CellData) (settings : Settings) (idle : Option IdleData) (m : MachineData) → IsMachine m →
+    IsMachine (plan_of library settings idle m).machine × Same m (plan_of library settings idle m).machine
 
 -- where the library has the cells that the machine asks for with which a plan begins, it has those for the plan's machine
 abbrev pub PlanHasCells : Type 0
-PlanHasCells = (library : List CellData) (settings : Settings) (idle : Option IdleData) (m : MachineData) → IsMachine m → HasCells library settings.test m → HasCells library settings.test (plan_of library settings idle m).machine
+PlanHasCells = (library : List CellData) (settings : Settings) (idle : Option IdleData) (m : MachineData) → IsMachine m →
+    HasCells library settings.test m → HasCells library settings.test (plan_of library settings idle m).machine
 
 -- begun with the machine of a netlist, it shows what the netlist shows in its lawful history
 abbrev pub PlanShowsNetlist : Type 0
-PlanShowsNetlist = (library : List CellData) (settings : Settings) (idle : Option IdleData) (c : Circuit) (prefix : List ℕ) → CanStart c prefix
-    → (start : List Bool) (wave : List Tick) (history : List Moment) → IsStart c start → IsWaveform c wave → IsLawful c start wave history
+PlanShowsNetlist = (library : List CellData) (settings : Settings) (idle : Option IdleData) (c : Circuit) (prefix : List ℕ) →
+    CanStart c prefix
+    → (start : List Bool) (wave : List Tick) (history : List Moment) → IsStart c start → IsWaveform c wave →
+    IsLawful c start wave history
     → shown (plan_of library settings idle (machine_of c prefix)).machine start wave ≡ outputs_of c history
 
 -- the same of a plan as it is told
 abbrev pub ToldIsSafe : Type 0
-ToldIsSafe = (library : List CellData) (settings : Settings) (idle : Option IdleData) (m : MachineData) (told : ToldPlan) → IsMachine m → IsPlan library settings idle m told → IsMachine told.machine × Same m told.machine
+ToldIsSafe = (library : List CellData) (settings : Settings) (idle : Option IdleData) (m : MachineData) (told : ToldPlan) →
+    IsMachine m → IsPlan library settings idle m told → IsMachine told.machine × Same m told.machine
 
 -- What is told of a plan may be told turn by turn: of one more turn its stage with its outcome behind the others, and the
 -- certificates of its claims behind the others.
 abbrev pub StagesAreTold : Type 0
-StagesAreTold = (turns : List Turn) (told : List (Stage × Outcome)) (turn : Turn) (outcome : Outcome) → AreTold turns told → TellsOutcome turn.machine turn.stage (Ends turn.outcome) outcome
+StagesAreTold = (turns : List Turn) (told : List (Stage × Outcome)) (turn : Turn) (outcome : Outcome) → AreTold turns told →
+    TellsOutcome turn.machine turn.stage (Ends turn.outcome) outcome
     → AreTold (turns ++ turn ∷ []) (told ++ (turn.stage, outcome) ∷ [])
 
 abbrev pub CertificatesAreTold : Type 0
-CertificatesAreTold = (turns : List Turn) (turn : Turn) (before after : List Certificate) → AreCertified (plan_claims 1 turns) before
-    → AreAppended (claims_for (1 + length turns) turn.machine turn.stage turn.outcome) before after → AreCertified (plan_claims 1 (turns ++ turn ∷ [])) after
+CertificatesAreTold = (turns : List Turn) (turn : Turn) (before after : List Certificate) →
+    AreCertified (plan_claims 1 turns) before
+    → AreAppended (claims_for (1 + length turns) turn.machine turn.stage turn.outcome) before after →
+    AreCertified (plan_claims 1 (turns ++ turn ∷ [])) after

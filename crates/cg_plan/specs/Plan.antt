@@ -41,7 +41,12 @@ after_outcome m s outcome = if is_inserted outcome then effect m s else m
 -- a plan after one more turn
 abbrev pub after_try : Plan → Stage → Tried → Plan
 after_try p s (Passes limit) = record { machine = p.machine; turns = p.turns; limit = Some limit }
-after_try p s (Ends outcome) = record { machine = after_outcome p.machine s outcome; turns = p.turns ++ record { machine = p.machine; stage = s; outcome = outcome } ∷ []; limit = None }
+after_try p s (Ends outcome) =
+    record {
+      machine = after_outcome p.machine s outcome;
+      turns = p.turns ++ record { machine = p.machine; stage = s; outcome = outcome } ∷ [];
+      limit = None;
+    }
 
 abbrev pub try_one : List CellData → Settings → Plan → Stage → Plan
 try_one library settings p s = after_try p s (tried library settings p.machine s)
@@ -54,7 +59,8 @@ unless_stopped (Some limit) stopped on = stopped
 -- stages one after the other
 abbrev pub try_all : List CellData → Settings → Plan → List Stage → Plan
 try_all library settings p [] = p
-try_all library settings p (s ∷ stages) = let q = try_one library settings p s in unless_stopped q.limit q (try_all library settings q stages)
+try_all library settings p (s ∷ stages) =
+    let q = try_one library settings p s in unless_stopped q.limit q (try_all library settings q stages)
 
 -- the stages that were tried
 abbrev pub earlier_of : Plan → List Earlier
@@ -69,11 +75,13 @@ list_by _ settings p = []
 -- this many rounds of a kind
 abbrev pub rounds : List CellData → Settings → StageKind → ℕ → Plan → Plan
 rounds library settings kind zero p = p
-rounds library settings kind (suc n) p = let q = try_all library settings p (list_by kind settings p) in unless_stopped q.limit q (rounds library settings kind n q)
+rounds library settings kind (suc n) p =
+    let q = try_all library settings p (list_by kind settings p) in unless_stopped q.limit q (rounds library settings kind n q)
 
 -- a plan before its first stage; it stops there where a claim of the hold list passes the limit on nodes
 abbrev pub begin : MachineData → Option IdleData → Settings → Plan
-begin m idle settings = record { machine = m; turns = []; limit = if hold_passes m idle settings.width then Some ClaimNodes else None }
+begin m idle settings =
+    record { machine = m; turns = []; limit = if hold_passes m idle settings.width then Some ClaimNodes else None }
 
 -- the plan of a machine
 abbrev pub plan_of : List CellData → Settings → Option IdleData → MachineData → Plan

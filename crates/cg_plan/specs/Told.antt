@@ -96,7 +96,8 @@ pub record AreAppended (claims : List StageClaim) (before after : List Certifica
 abbrev pub AreTold : List Turn → List (Stage × Outcome) → Type 0
 AreTold [] told = told ≡ []
 AreTold (turn ∷ turns) [] = ⊥
-AreTold (turn ∷ turns) (t ∷ told) = (t.0 ≡ turn.stage) × TellsOutcome turn.machine turn.stage (Ends turn.outcome) t.1 × AreTold turns told
+AreTold (turn ∷ turns) (t ∷ told) =
+    (t.0 ≡ turn.stage) × TellsOutcome turn.machine turn.stage (Ends turn.outcome) t.1 × AreTold turns told
 
 -- a plan as it is told: the machine at its end, its stages with their outcomes, of how many registers the hold claims are
 -- too wide on the machine that it begins with, and the certificates
@@ -107,7 +108,8 @@ pub record ToldPlan : Type 0 where
   pub certificates : List Certificate
 
 -- it is the plan of a machine, with a certificate for each claim of each inserted stage
-pub record IsPlan (library : List CellData) (settings : Settings) (idle : Option IdleData) (m : MachineData) (told : ToldPlan) : Type 0 where
+pub record IsPlan (library : List CellData) (settings : Settings) (idle : Option IdleData) (m : MachineData)
+    (told : ToldPlan) : Type 0 where
   pub whole : (plan_of library settings idle m).limit ≡ None
   pub machine : told.machine ≡ (plan_of library settings idle m).machine
   pub stages : AreTold (plan_of library settings idle m).turns told.stages

@@ -29,7 +29,8 @@ pub data Tried : Type 0 where
 abbrev pub measured : MachineData → ℕ → List NamedClaim → Tried → Tried
 measured m width [] later = later
 measured m width (c ∷ claims) later =
-    if nat_lt width (width_of m c.1) then Ends (Wide c.0 (width_of m c.1)) else (if is_large m c.1 then Passes ClaimNodes else measured m width claims later)
+    if nat_lt width (width_of m c.1) then Ends (Wide c.0 (width_of m c.1))
+    else (if is_large m c.1 then Passes ClaimNodes else measured m width claims later)
 
 -- the first claim that some bits violate
 abbrev pub first_false : MachineData → List NamedClaim → Option ClaimName
@@ -54,4 +55,6 @@ unless_missing m settings s (Some kind) = Ends (NoCell kind)
 unless_missing m settings s None = measured m settings.width (all_claims m s) (decided m s)
 
 abbrev pub tried : List CellData → Settings → MachineData → Stage → Tried
-tried library settings m s = if nat_lt (length s.regs) settings.min then Ends (Small (length s.regs)) else unless_missing m settings s (missing library (needs settings.test s))
+tried library settings m s =
+    if nat_lt (length s.regs) settings.min then Ends (Small (length s.regs))
+    else unless_missing m settings s (missing library (needs settings.test s))

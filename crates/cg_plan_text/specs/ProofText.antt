@@ -19,7 +19,9 @@ abbrev pub log_words : List Word
 log_words = codes "c" ∷ codes "lrat" ∷ []
 
 abbrev pub certificate_text : MachineData → Certificate → List ℕ
-certificate_text m certificate = line_text (heading_words m certificate) ++ (dimacs_text certificate.formula ++ (line_text log_words ++ lrat_text certificate.log))
+certificate_text m certificate =
+    line_text (heading_words m certificate)
+    ++ (dimacs_text certificate.formula ++ (line_text log_words ++ lrat_text certificate.log))
 
 abbrev pub proof_text : ToldPlan → List ℕ
 proof_text plan = flat_map (certificate_text plan.machine) plan.certificates

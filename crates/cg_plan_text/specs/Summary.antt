@@ -14,7 +14,8 @@ use Rattle.cg_plan_text.specs.declared.summary.Played.{Played}
 
 -- how many stages were tried, and how many were inserted
 abbrev pub summary_of : List (Stage × Outcome) → List Word
-summary_of stages = codes "stages" ∷ decimal (length stages) ∷ codes "inserted" ∷ decimal (count_by (λ told. is_inserted told.1) stages) ∷ []
+summary_of stages =
+    codes "stages" ∷ decimal (length stages) ∷ codes "inserted" ∷ decimal (count_by (λ told. is_inserted told.1) stages) ∷ []
 
 abbrev pub summary_words : ToldPlan → List Word
 summary_words plan = summary_of plan.stages
@@ -24,7 +25,9 @@ abbrev pub difference_word : ℕ → ℕ → Word
 difference_word a b = if nat_le b a then decimal (a - b) else 45 ∷ decimal (b - a)
 
 abbrev pub edges_words : Edges → List Word
-edges_words edges = codes "edges" ∷ codes "original" ∷ decimal edges.original ∷ codes "written" ∷ decimal edges.written ∷ codes "saved" ∷ difference_word edges.original edges.written ∷ []
+edges_words edges =
+    codes "edges" ∷ codes "original" ∷ decimal edges.original ∷ codes "written" ∷ decimal edges.written ∷ codes "saved"
+    ∷ difference_word edges.original edges.written ∷ []
 
 -- what came of a stimulus: the line of the edges where there is a stimulus, and that of a watcher where one is asked for
 abbrev pub edges_line : Option Edges → List ℕ
@@ -44,9 +47,11 @@ said_text plan played = line_text (summary_words plan) ++ played_lines played
 
 -- the report: the model's name, the plan with so many gating cells, and what came of the stimulus
 abbrev pub report_text : ToldPlan → ℕ → Played → List ℕ
-report_text plan gates played = line_text (codes "model" ∷ plan.machine.circuit.model ∷ []) ++ (stage_lines plan gates ++ played_lines played)
+report_text plan gates played =
+    line_text (codes "model" ∷ plan.machine.circuit.model ∷ []) ++ (stage_lines plan gates ++ played_lines played)
 
 -- what `demo` says of a pipeline of this size
 abbrev pub demo_text : ℕ → ToldPlan → ℕ → Edges → List ℕ
 demo_text size plan gates edges =
-    line_text (codes "demo" ∷ decimal size ∷ []) ++ (line_text (counts_words plan.machine gates) ++ (line_text (summary_words plan) ++ line_text (edges_words edges)))
+    line_text (codes "demo" ∷ decimal size ∷ [])
+    ++ (line_text (counts_words plan.machine gates) ++ (line_text (summary_words plan) ++ line_text (edges_words edges)))

@@ -1,5 +1,6 @@
 -- The names of a stage's claims name them, and what they name is there.
-use Rattle.std.proofs.Common.{◌≡◌, ℕ, zero, suc, ◌+◌, ◌<◌, true, List, [], ◌∷◌, ◌++◌, map, length, slice_get, take, drop, nat_eq, Some, Result, Ok, Err, IfOk, refl, sym, ◌∙◌, ap, subst, arith, ◌⊎◌, inl, inr}
+use Rattle.std.proofs.Common.{◌≡◌, ℕ, zero, suc, ◌+◌, ◌<◌, true, List, [], ◌∷◌, ◌++◌, map, length, slice_get, take, drop, nat_eq}
+use Rattle.std.proofs.Common.{Some, Result, Ok, Err, IfOk, refl, sym, ◌∙◌, ap, subst, arith, ◌⊎◌, inl, inr}
 use Rattle.std.specs.List.{All, range_with_len}
 use Rattle.std.proofs.lemmas.List.{map-append}
 use Rattle.std.proofs.lemmas.List.Elements.{All-append, All-cons, All-filter, All-from_get_or, All-head, All-map, All-nil, All-tail}
@@ -17,7 +18,8 @@ use Rattle.cg_claim.specs.Reach.{registers_of}
 use Rattle.cg_claim.specs.Targets.{all_targets, meets, output_targets, unseen_targets}
 use Rattle.cg_claim.specs.Violates.{SidesFit}
 use Rattle.cg_claim.specs.declared.name.ClaimName.{ClaimName}
-use Rattle.cg_claim.specs.declared.name.ClaimName.TheVariants.{Enable, Hold as HoldName, Idle, Next as NextName, Output, Stable as StableName}
+use Rattle.cg_claim.specs.declared.name.ClaimName.TheVariants.{Enable, Hold as HoldName, Idle, Next as NextName, Output}
+use Rattle.cg_claim.specs.declared.name.ClaimName.TheVariants.{Stable as StableName}
 use Rattle.cg_plan.specs.StageClaims.{NamedClaim, claims_by, target_claim}
 use Rattle.cg_stage.specs.Stages.{Fits, enable_nets, first_literal}
 use Rattle.cg_unroll.specs.Claims.{target_of}

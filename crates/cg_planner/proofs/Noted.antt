@@ -1,11 +1,13 @@
 -- A machine in which a stage is inserted has all that it had, with another enable for the stage's registers.
-use Rattle.std.proofs.Common.{◌≡◌, ℕ, true, false, List, [], ◌∷◌, ◌++◌, length, nat_eq, slice_get, slice_set, Option, None, Some, refl, sym, ◌∙◌, ap, arith, ◌⊎◌, inl, inr, length-append}
+use Rattle.std.proofs.Common.{◌≡◌, ℕ, true, false, List, [], ◌∷◌, ◌++◌, length, nat_eq, slice_get, slice_set, Option, None, Some}
+use Rattle.std.proofs.Common.{refl, sym, ◌∙◌, ap, arith, ◌⊎◌, inl, inr, length-append}
 use Rattle.std.specs.Option.{option_flatten}
 use Rattle.std.proofs.lemmas.Bool.{eq-eqb, or_left, or_right}
 use Rattle.std.proofs.lemmas.List.{append-nil, append_assoc}
 use Rattle.cg_cell.specs.declared.fit.FitKind.{FitKind}
 use Rattle.cg_cell.specs.declared.fit.FitKind.TheVariants.{And2, Inv, Or2}
-use Rattle.cg_machine.specs.Added.{Added, add_delay, add_gate, find_delay, find_gate, give, next_gate, or_push, push_delay, push_gate}
+use Rattle.cg_machine.specs.Added.{Added, add_delay, add_gate, find_delay, find_gate, give, next_gate, or_push, push_delay}
+use Rattle.cg_machine.specs.Added.{push_gate}
 use Rattle.cg_machine.specs.Claims.{Literal}
 use Rattle.cg_machine.specs.Gates.{gate_cell}
 use Rattle.cg_machine.specs.Machine.{MachineData}

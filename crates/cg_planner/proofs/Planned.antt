@@ -1,5 +1,6 @@
 -- The plan of a machine from its parts.
-use Rattle.std.proofs.Common.{◌≡◌, ℕ, Bool, true, false, if◌then◌else◌, List, [], Option, Some, None, Result, Ok, Err, refl, sym, ◌∙◌, ap, subst, ◌⊎◌, inl, inr}
+use Rattle.std.proofs.Common.{◌≡◌, ℕ, Bool, true, false, if◌then◌else◌, List, [], Option, Some, None, Result, Ok, Err, refl, sym}
+use Rattle.std.proofs.Common.{◌∙◌, ap, subst, ◌⊎◌, inl, inr}
 use Rattle.cg_cell.specs.Cell.{CellData}
 use Rattle.cg_hold.specs.HoldAnswer.{hold_answer}
 use Rattle.cg_hold.specs.declared.candidates.HoldFound.{HoldFound}

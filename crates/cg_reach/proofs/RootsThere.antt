@@ -1,5 +1,6 @@
 -- The nets that a question asks for are there.
-use Rattle.std.proofs.Common.{◌≡◌, ℕ, ◌+◌, ◌<◌, Bool, true, false, ◌&&◌, if◌then◌else◌, List, [], ◌∷◌, ◌++◌, length, map, slice_get, Option, Some, None, refl, sym, ◌∙◌, ap, subst, arith, inl, inr}
+use Rattle.std.proofs.Common.{◌≡◌, ℕ, ◌+◌, ◌<◌, Bool, true, false, ◌&&◌, if◌then◌else◌, List, [], ◌∷◌, ◌++◌, length, map, slice_get}
+use Rattle.std.proofs.Common.{Option, Some, None, refl, sym, ◌∙◌, ap, subst, arith, inl, inr}
 use Rattle.std.specs.List.{All, filter, flat_map}
 use Rattle.std.specs.Option.{option_map_or, option_to_list}
 use Rattle.std.proofs.lemmas.Bool.{both_ways}
@@ -11,7 +12,8 @@ use Rattle.cg_machine.specs.Claims.{Literal}
 use Rattle.cg_machine.specs.Machine.{IsMachine, MachineData, enable_of}
 use Rattle.cg_machine.proofs.Lists.{below_range, in_one}
 use Rattle.cg_claim.specs.Question.{Copy, Before, CopyPart, Net, Next, State, Enable, Side, Question}
-use Rattle.cg_claim.specs.Reach.{after_states, enable_nets, inputs_of_register, next_nets, origin_nets, part_nets, registers_of, same_copy, side_nets, sides_nets}
+use Rattle.cg_claim.specs.Reach.{after_states, enable_nets, inputs_of_register, next_nets, origin_nets, part_nets, registers_of}
+use Rattle.cg_claim.specs.Reach.{same_copy, side_nets, sides_nets}
 use Rattle.cg_reach.specs.Asking.{AsksThere, PartThere, SidesThere}
 use Rattle.cg_reach.proofs.Filtering.{in_filtered}
 

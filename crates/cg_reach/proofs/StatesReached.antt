@@ -1,5 +1,6 @@
 -- The registers whose states a question reaches, from the registers of its cones and those that it asks for.
-use Rattle.std.proofs.Common.{◌≡◌, ℕ, ◌+◌, ◌<◌, Bool, true, false, ◌||◌, ◌&&◌, not, cond, if◌then◌else◌, nat_eq, List, [], ◌∷◌, ◌++◌, length, Option, Some, None, refl, sym, ◌∙◌, ap, subst, arith}
+use Rattle.std.proofs.Common.{◌≡◌, ℕ, ◌+◌, ◌<◌, Bool, true, false, ◌||◌, ◌&&◌, not, cond, if◌then◌else◌, nat_eq, List, [], ◌∷◌}
+use Rattle.std.proofs.Common.{◌++◌, length, Option, Some, None, refl, sym, ◌∙◌, ap, subst, arith}
 use Rattle.std.specs.List.{filter, range_with_len}
 use Rattle.std.proofs.Math.Bool.{or_assoc}
 use Rattle.std.proofs.lemmas.Bool.{eqb-true}
@@ -8,7 +9,8 @@ use Rattle.cg_cone.specs.declared.cone.Cone.{Cone}
 use Rattle.cg_netlist.proofs.Members.{is_in-append}
 use Rattle.cg_machine.specs.Machine.{MachineData}
 use Rattle.cg_claim.specs.Question.{Copy, Question, Before, After, Changed, Side}
-use Rattle.cg_claim.specs.Reach.{after_nets, after_states, before_nets, before_states, changed_nets, changed_states, feeds, next_asks_own, origin_asks, part_asks, registers_of, same_copy, side_asks, sides_ask}
+use Rattle.cg_claim.specs.Reach.{after_nets, after_states, before_nets, before_states, changed_nets, changed_states, feeds}
+use Rattle.cg_claim.specs.Reach.{next_asks_own, origin_asks, part_asks, registers_of, same_copy, side_asks, sides_ask}
 use Rattle.cg_claim.specs.Violates.{CopyPartFits, SidesFit}
 use Rattle.cg_claim.specs.Question.{CopyPart, Net, Next, State, Enable}
 use Rattle.cg_claim.proofs.Reached.{after_within, before_within, changed_within, feeds_within}

@@ -1,5 +1,7 @@
 -- The outputs and registers that stand among the readers of nets found, and the names of targets.
-use Rattle.std.proofs.Common.{◌≡◌, ℕ, zero, suc, ◌+◌, ◌<◌, ◌≤◌, Bool, true, false, ◌||◌, ◌&&◌, cond, if◌then◌else◌, List, [], ◌∷◌, ◌++◌, length, map, take, nat_eq, nat_lt, slice_get, Option, Some, None, refl, sym, ◌∙◌, ap, subst, arith, inl, inr}
+use Rattle.std.proofs.Common.{◌≡◌, ℕ, zero, suc, ◌+◌, ◌<◌, ◌≤◌, Bool, true, false, ◌||◌, ◌&&◌, cond, if◌then◌else◌, List, [], ◌∷◌}
+use Rattle.std.proofs.Common.{◌++◌, length, map, take, nat_eq, nat_lt, slice_get, Option, Some, None, refl, sym, ◌∙◌, ap, subst}
+use Rattle.std.proofs.Common.{arith, inl, inr}
 use Rattle.std.specs.List.{filter, flat_map, list_any, range_with_len}
 use Rattle.std.specs.Option.{option_map_or, option_to_list}
 use Rattle.std.proofs.lemmas.Bool.{both_ways, eqb-true, eq-eqb, ltb-true, lt-ltb, or_cases, or_left, or_right}
@@ -17,7 +19,8 @@ use Rattle.cg_claim.specs.Reach.{inputs_of_register, next_asks_own, next_nets, r
 use Rattle.cg_claim.specs.declared.name.ClaimName.{ClaimName}
 use Rattle.cg_claim.specs.declared.name.ClaimName.TheVariants.{Output}
 use Rattle.cg_reach.specs.Fanout.{readers_at}
-use Rattle.cg_reach.specs.inner.Spreading.{AreOutputReaders, AreRegisterReaders, is_next_marked, is_output_marked, is_register_marked, marked_outputs}
+use Rattle.cg_reach.specs.inner.Spreading.{AreOutputReaders, AreRegisterReaders, is_next_marked, is_output_marked}
+use Rattle.cg_reach.specs.inner.Spreading.{is_register_marked, marked_outputs}
 use Rattle.cg_reach.proofs.Filtering.{in_filtered, take_whole}
 use Rattle.cg_reach.proofs.Leading.{any_has}
 

@@ -7,7 +7,8 @@ use Rattle.cg_claim.specs.Question.{Copy, Before, After, Changed, CopyPart, Net,
 use Rattle.cg_reach.specs.declared.asked.Frame.{Frame}
 use Rattle.cg_reach.specs.declared.asked.Frame.TheVariants.{Before as BeforeFrame, After as AfterFrame, Changed as ChangedFrame}
 use Rattle.cg_reach.specs.declared.asked.Part.{Part as AskedPart}
-use Rattle.cg_reach.specs.declared.asked.Part.TheVariants.{Net as NetPart, Next as NextPart, State as StatePart, Enable as EnablePart}
+use Rattle.cg_reach.specs.declared.asked.Part.TheVariants.{Net as NetPart, Next as NextPart, State as StatePart}
+use Rattle.cg_reach.specs.declared.asked.Part.TheVariants.{Enable as EnablePart}
 use Rattle.cg_reach.specs.declared.asked.Side.{Side as AskedSide}
 use Rattle.cg_reach.specs.declared.asked.Asked.{Asked}
 
@@ -26,7 +27,13 @@ abbrev pub side_of : AskedSide → Side
 side_of side = record { copy = copy_of side.frame; part = part_of side.part }
 
 abbrev pub question_of : Asked → Question
-question_of asked = record { enables = asked.enables.now; follows = asked.follows.now; changes = asked.changes.now; sides = option_map (λ s. (side_of s.0, side_of s.1)) asked.sides }
+question_of asked =
+    record {
+      enables = asked.enables.now;
+      follows = asked.follows.now;
+      changes = asked.changes.now;
+      sides = option_map (λ s. (side_of s.0, side_of s.1)) asked.sides;
+    }
 
 -- the nets and registers that a part names are there
 abbrev pub PartThere : MachineData → CopyPart → Type 0

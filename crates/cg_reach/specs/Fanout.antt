@@ -15,7 +15,8 @@ pub record Knows (m : MachineData) (f : Tables) : Type 0 where
   pub few_cells : f.cell_count ≤ length m.circuit.cells
   pub few_outputs : f.output_count ≤ length m.circuit.outputs
   pub few_registers : f.register_count ≤ length m.circuit.registers
-  pub cells : (k : ℕ) (cell : LogicCell ℕ) (y : ℕ) → k < f.cell_count → slice_get m.circuit.cells k ≡ Some cell → is_in cell.inputs y ≡ true → is_in (readers_at f.cells y) k ≡ true
+  pub cells : (k : ℕ) (cell : LogicCell ℕ) (y : ℕ) → k < f.cell_count → slice_get m.circuit.cells k ≡ Some cell →
+      is_in cell.inputs y ≡ true → is_in (readers_at f.cells y) k ≡ true
   pub outputs : (k y : ℕ) → k < f.output_count → slice_get m.circuit.outputs k ≡ Some y → is_in (readers_at f.outputs y) k ≡ true
   pub registers : (r y : ℕ) → r < f.register_count → is_in (next_nets m r) y ≡ true → is_in (readers_at f.registers y) r ≡ true
 
@@ -26,4 +27,5 @@ pub record Grows (m n : MachineData) (regs : List ℕ) (net : ℕ) : Type 0 wher
   pub outputs : n.circuit.outputs ≡ m.circuit.outputs
   pub registers : (r : ℕ) → r < length m.circuit.registers → slice_get n.circuit.registers r ≡ slice_get m.circuit.registers r
   pub more_registers : length m.circuit.registers ≤ length n.circuit.registers
-  pub enables : (r e : ℕ) → r < length m.circuit.registers → enable_of n r ≡ Some e → (enable_of m r ≡ Some e) ⊎ ((is_in regs r ≡ true) × (e ≡ net))
+  pub enables : (r e : ℕ) → r < length m.circuit.registers → enable_of n r ≡ Some e →
+      (enable_of m r ≡ Some e) ⊎ ((is_in regs r ≡ true) × (e ≡ net))

@@ -6,7 +6,8 @@ ghost use Rattle.std.specs.Option.{option_to_list};
 ghost use Rattle.cg_netlist.specs.Circuit.{is_in};
 ghost use Rattle.cg_machine.specs.Machine.{enable_of};
 ghost use Rattle.cg_claim.specs.Question.{Question};
-ghost use Rattle.cg_claim.specs.Reach.{enable_nets, inputs_of_register, next_nets, origin_nets, part_nets, same_copy, side_nets, sides_nets};
+ghost use Rattle.cg_claim.specs.Reach.{enable_nets, inputs_of_register, next_nets, origin_nets, part_nets, same_copy, side_nets};
+ghost use Rattle.cg_claim.specs.Reach.{sides_nets};
 ghost use Rattle.cg_reach.specs.Asking.{AsksThere, PartThere, copy_of, part_of, question_of, side_of};
 
 use crate::asked::{Asked, Frame, Part, Side};

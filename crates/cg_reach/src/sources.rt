@@ -1,6 +1,7 @@
 //! The registers whose states a claim asks for in each copy.
 
-ghost use Rattle.std.specs.Prelude.{◌≡◌, ◌<◌, ◌++◌, ◌∷◌, [], not, ℕ, true, length, slice_get, OnOk, IfOk, Some, false, if◌then◌else◌};
+ghost use Rattle.std.specs.Prelude.{◌≡◌, ◌<◌, ◌++◌, ◌∷◌, [], not, ℕ, true, length, slice_get, OnOk, IfOk, Some, false};
+ghost use Rattle.std.specs.Prelude.{if◌then◌else◌};
 ghost use Rattle.std.specs.List.{All, count_by, filter, range_with_len};
 ghost use Rattle.std.specs.Option.{option_map_or};
 ghost use Rattle.cg_cell.specs.Pins.{is_data};

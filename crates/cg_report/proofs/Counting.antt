@@ -1,5 +1,6 @@
 -- Counting goes on with the next place, and with the next moment.
-use Rattle.std.proofs.Common.{◌≡◌, ℕ, zero, suc, ◌+◌, ◌∷◌, ◌++◌, [], List, Bool, Option, Some, None, drop, slice_get, refl, sym, ap, ◌∙◌, arith}
+use Rattle.std.proofs.Common.{◌≡◌, ℕ, zero, suc, ◌+◌, ◌∷◌, ◌++◌, [], List, Bool, Option, Some, None, drop, slice_get, refl, sym, ap}
+use Rattle.std.proofs.Common.{◌∙◌, arith}
 use Rattle.cg_report.specs.Counts.{capped, differs, differing, toggled, toggles, toggles_from, last_from, last_nets}
 use Rattle.cg_report.specs.Shown.{Shown}
 

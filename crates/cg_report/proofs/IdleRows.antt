@@ -1,5 +1,6 @@
 -- The zeros of the rows are counted while they are played.
-use Rattle.std.proofs.Common.{◌≡◌, ℕ, zero, suc, ◌+◌, ◌<◌, ◌≤◌, Bool, true, false, inl, inr, cond, if◌then◌else◌, not, List, [], ◌∷◌, ◌++◌, length, replicate, slice_get, slice_set, get_or, Some, refl, sym, ap, ◌∙◌, arith}
+use Rattle.std.proofs.Common.{◌≡◌, ℕ, zero, suc, ◌+◌, ◌<◌, ◌≤◌, Bool, true, false, inl, inr, cond, if◌then◌else◌, not, List, []}
+use Rattle.std.proofs.Common.{◌∷◌, ◌++◌, length, replicate, slice_get, slice_set, get_or, Some, refl, sym, ap, ◌∙◌, arith}
 use Rattle.std.specs.List.{All}
 use Rattle.std.proofs.lemmas.List.{length-replicate, length-set}
 use Rattle.std.proofs.lemmas.List.Sums.{count_by-le-length, sum_by-append, sum_by-cons}

@@ -1,5 +1,6 @@
 -- The lines of the rows are put behind a text while they are played.
-use Rattle.std.proofs.Common.{◌≡◌, ℕ, suc, ◌+◌, ◌<◌, ◌≤◌, Bool, List, [], ◌∷◌, ◌++◌, length, decimal, map, Result, Ok, Err, refl, sym, ap, ◌∙◌, append_assoc, append-nil, arith}
+use Rattle.std.proofs.Common.{◌≡◌, ℕ, suc, ◌+◌, ◌<◌, ◌≤◌, Bool, List, [], ◌∷◌, ◌++◌, length, decimal, map, Result, Ok, Err, refl}
+use Rattle.std.proofs.Common.{sym, ap, ◌∙◌, append_assoc, append-nil, arith}
 use Rattle.std.specs.List.{All, flat_map}
 use Rattle.std.specs.Result.{OnOk}
 use Rattle.cg_netlist.specs.Circuit.{Circuit, LogicCell, RegisterCell, asked_nets, used_nets}

@@ -11,7 +11,8 @@ use Rattle.cg_report.specs.Shown.{Shown}
 abbrev pub shown_from : Circuit → Option Moment → List Tick → List Moment → List Shown
 shown_from c before [] history = []
 shown_from c before (tick ∷ wave) [] = []
-shown_from c before (tick ∷ wave) (now ∷ history) = record { clock = tick.clock; nets = now.nets; rose = rises_at c before now } ∷ shown_from c (Some now) wave history
+shown_from c before (tick ∷ wave) (now ∷ history) =
+    record { clock = tick.clock; nets = now.nets; rose = rises_at c before now } ∷ shown_from c (Some now) wave history
 
 -- a player: the simulator, the rows that are played, the moments that are left, the edges of those that were played
 pub record Place : Type 0 where
@@ -55,13 +56,15 @@ pub record Gives (old_stands new_stands : Circuit → List Shown → Type 0) (ol
   pub present : new.simulated.present ≡ Some now
   pub given : (before : List Shown) → old_stands old.simulated.circuit before
       → new_stands old.simulated.circuit (before ++ record { clock = tick.clock; nets = now.nets; rose = new.simulated.rose } ∷ [])
-  pub further : (wave : List Tick) (played : List Moment) → IsAt old wave played → old_stands old.simulated.circuit (shown_from old.simulated.circuit None wave played)
+  pub further : (wave : List Tick) (played : List Moment) → IsAt old wave played →
+      old_stands old.simulated.circuit (shown_from old.simulated.circuit None wave played)
       → new_stands old.simulated.circuit (shown_from old.simulated.circuit None (wave ++ tick ∷ []) (played ++ now ∷ []))
 
 -- a step is shown; where no moment is left, nothing is
 abbrev pub GivesStep : Bool → (Circuit → List Shown → Type 0) → (Circuit → List Shown → Type 0) → Place → Place → Type 0
 GivesStep true old_stands new_stands old new = Gives old_stands new_stands old new
-GivesStep false old_stands new_stands old new = (moments : List Shown) → old_stands old.simulated.circuit moments → new_stands old.simulated.circuit moments
+GivesStep false old_stands new_stands old new = (moments : List Shown) → old_stands old.simulated.circuit moments →
+    new_stands old.simulated.circuit moments
 
 -- a watcher may be shown a step where it stands for moments of the player's netlist
 abbrev pub MayWatch : (Circuit → List Shown → Type 0) → Place → Type 0

@@ -12,9 +12,11 @@ output_word (output ∷ outputs) nets = map (λ net. bit_byte (bit nets net)) (o
 
 -- a row's line: its number, the outputs at its low moment and the outputs at its high moment
 abbrev pub row_line : Circuit → ℕ → Moment → Moment → List ℕ
-row_line c number low high = decimal number ++ 32 ∷ output_word c.outputs low.nets ++ 32 ∷ output_word c.outputs high.nets ++ 10 ∷ []
+row_line c number low high =
+    decimal number ++ 32 ∷ output_word c.outputs low.nets ++ 32 ∷ output_word c.outputs high.nets ++ 10 ∷ []
 
--- the lines of the rows of a played history, the first having this number: of each row its two moments; the last moment is of no row
+-- the lines of the rows of a played history, the first having this number: of each row its two moments; the last moment is of no
+-- row
 abbrev pub row_lines : Circuit → ℕ → List Moment → List ℕ
 row_lines c number [] = []
 row_lines c number (last ∷ []) = []

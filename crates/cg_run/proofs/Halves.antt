@@ -12,7 +12,8 @@ use Rattle.cg_run.specs.declared.role.Role.{Role}
 use Rattle.cg_run.specs.declared.status.Status.{Status}
 use Rattle.cg_run.specs.Reads.{Collects, Reads}
 use Rattle.cg_run.specs.Run.{Attempts, PutsOut, Runs, Tries, finished_as}
-use Rattle.cg_run.specs.Verdict.{Comes, Concludes, Given, Halts, reached, refusal_in, stopped, taken, task_of, troubled, unstopped, ◌>>=◌}
+use Rattle.cg_run.specs.Verdict.{Comes, Concludes, Given, Halts, reached, refusal_in, stopped, taken, task_of, troubled, unstopped}
+use Rattle.cg_run.specs.Verdict.{◌>>=◌}
 use Rattle.cg_run.specs.Writes.{Writes}
 use Rattle.cg_run.proofs.Attempted.{attempts_unread, attempts_unreserved, attempts_unwritten, attempts_written}
 use Rattle.cg_run.proofs.ReadHalf.{halts_bind, trouble_faults}

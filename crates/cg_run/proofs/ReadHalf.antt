@@ -1,5 +1,6 @@
 -- The reading half of a run, from its loads and what the mode made of them.
-use Rattle.std.proofs.Common.{◌≡◌, inl, inr, ℕ, Bool, not, IsTrue, List, [], ◌∷◌, ◌++◌, Option, None, Some, Result, Ok, Err, refl, sym, ◌∙◌, ap, subst, append_assoc, append-nil}
+use Rattle.std.proofs.Common.{◌≡◌, inl, inr, ℕ, Bool, not, IsTrue, List, [], ◌∷◌, ◌++◌, Option, None, Some, Result, Ok, Err, refl}
+use Rattle.std.proofs.Common.{sym, ◌∙◌, ap, subst, append_assoc, append-nil}
 use Rattle.std.specs.Prelude.{IfSome, IsOkAnd, ⊤}
 use Rattle.cg_shelf.specs.World.{World}
 use Rattle.cg_shelf.specs.Shelf.{Listed, ListsLoad, load_faults, one_call}
@@ -16,8 +17,10 @@ use Rattle.cg_run.specs.Reads.{Agrees, Reads, Untouched, load_calls}
 use Rattle.cg_run.specs.inner.Steps.{Loads, loaded_role}
 use Rattle.cg_run.specs.Refusal.{outcome_faults, refusal_of}
 use Rattle.cg_run.specs.Roles.{are_distinct, is_among}
-use Rattle.cg_run.specs.Verdict.{Answers, Comes, Given, Halts, Loaded, asked, asked_from, brought, onward, reached, refusal_in, stopped, taken, troubled, ◌>>=◌}
-use Rattle.cg_run.proofs.RoleLaws.{and_parts, asked_none, asked_same, asked_with, bind_same, given_each, given_here, given_with, none_given, reached_with}
+use Rattle.cg_run.specs.Verdict.{Answers, Comes, Given, Halts, Loaded, asked, asked_from, brought, onward, reached, refusal_in}
+use Rattle.cg_run.specs.Verdict.{stopped, taken, troubled, ◌>>=◌}
+use Rattle.cg_run.proofs.RoleLaws.{and_parts, asked_none, asked_same, asked_with, bind_same, given_each, given_here, given_with}
+use Rattle.cg_run.proofs.RoleLaws.{none_given, reached_with}
 
 -- a shelf that told before tells on
 pub tells_on : (before after : Bool) → after ≡ before → IsTrue before → IsTrue after

@@ -1,5 +1,6 @@
 -- The writes of a run, from its stores and its say.
-use Rattle.std.proofs.Common.{◌≡◌, ◌≢◌, inl, inr, append_assoc, ℕ, Bool, true, false, ◌||◌, IsTrue, List, [], ◌∷◌, ◌++◌, Option, Some, Result, Ok, Err, refl, sym, ◌∙◌, ap, subst, if◌then◌else◌}
+use Rattle.std.proofs.Common.{◌≡◌, ◌≢◌, inl, inr, append_assoc, ℕ, Bool, true, false, ◌||◌, IsTrue, List, [], ◌∷◌, ◌++◌, Option}
+use Rattle.std.proofs.Common.{Some, Result, Ok, Err, refl, sym, ◌∙◌, ap, subst, if◌then◌else◌}
 use Rattle.std.specs.Prelude.{IfErr, OnOk}
 use Rattle.std.specs.Str.{bytes_eq}
 use Rattle.std.proofs.lemmas.List.{append-nil}
@@ -20,8 +21,10 @@ use Rattle.cg_run.specs.declared.refusal.Step.TheVariants as steps
 use Rattle.cg_run.specs.declared.role.Role.{Role}
 use Rattle.cg_run.specs.Refusal.{outcome_faults, step_of}
 use Rattle.cg_run.specs.Roles.{is_role}
-use Rattle.cg_run.specs.Writes.{CallsAt, HasStep, IsUpTo, LeavesAt, WriteCalls, WriteLeaves, Writes, is_stored, put_under, puts, store_calls}
-use Rattle.cg_run.specs.inner.Steps.{Holds, OneCall, OpenStep, SaidBy, SaysAll, StoreCalls, StoreLeaves, StoredAll, StoresAll, StoresAt, StoresOne, StoresStep}
+use Rattle.cg_run.specs.Writes.{CallsAt, HasStep, IsUpTo, LeavesAt, WriteCalls, WriteLeaves, Writes, is_stored, put_under, puts}
+use Rattle.cg_run.specs.Writes.{store_calls}
+use Rattle.cg_run.specs.inner.Steps.{Holds, OneCall, OpenStep, SaidBy, SaysAll, StoreCalls, StoreLeaves, StoredAll, StoresAll}
+use Rattle.cg_run.specs.inner.Steps.{StoresAt, StoresOne, StoresStep}
 use Rattle.cg_run.proofs.RoleLaws.{is_its_role}
 use Rattle.cg_run.proofs.ReadHalf.{faults_join, joined, tells_on}
 

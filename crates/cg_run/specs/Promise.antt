@@ -1,5 +1,6 @@
 -- What every run keeps, whatever its mode.
-use Rattle.std.specs.Prelude.{◌≡◌, ◌≢◌, ◌⊎◌, ℕ, Bool, true, false, IsTrue, List, [], ◌∷◌, ◌++◌, length, nat_lt, if◌then◌else◌, Option, None, Some, Result, Ok, Err, IfSome, IsSomeAnd, ⊤}
+use Rattle.std.specs.Prelude.{◌≡◌, ◌≢◌, ◌⊎◌, ℕ, Bool, true, false, IsTrue, List, [], ◌∷◌, ◌++◌, length, nat_lt, if◌then◌else◌}
+use Rattle.std.specs.Prelude.{Option, None, Some, Result, Ok, Err, IfSome, IsSomeAnd, ⊤}
 use Rattle.cg_limit.specs.declared.TheConstants.{MOST_FILE_BYTES}
 use Rattle.cg_shelf.specs.World.{World}
 use Rattle.cg_shelf.specs.Shelf.{AppendsFront, one_fault}
@@ -38,7 +39,9 @@ pub record Complained (names : Role → List ℕ) (refusal : Refusal) (before af
 -- refusal or of that of want of memory.
 pub record RanShort (names : Role → List ℕ) (refusal : Refusal) (before after : World) : Type 0 where
   pub own : Bool
-  pub line : IsTrue before.tells → AppendsFront before.complained after.complained (complaint_text names (if own then refusal else refusals.NoMemory (step_of refusal)))
+  pub line : IsTrue before.tells →
+      AppendsFront before.complained after.complained
+      (complaint_text names (if own then refusal else refusals.NoMemory (step_of refusal)))
   pub complaint : List Fault
   pub failed : after.faults ≡ before.faults ++ faults_of names refusal ++ complaint
   pub at_most : (complaint ≡ []) ⊎ (complaint ≡ one_fault calls.Complain [])
@@ -46,12 +49,16 @@ pub record RanShort (names : Role → List ℕ) (refusal : Refusal) (before afte
 -- Status, complaint and failed calls of a run, by its outcome. A refusal is never silent, and no status but that of want
 -- of memory has want of memory.
 abbrev pub VoiceBy : (Role → List ℕ) → Result Finish Refusal → World → World → Status → Type 0
-VoiceBy names (Ok finish) before after result = (result ≡ finish_status finish) × (IsTrue before.tells → after.complained ≡ before.complained) × (after.faults ≡ before.faults)
-VoiceBy names (Err refusal) before after result = ((result ≡ status_of refusal) × Complained names refusal before after) ⊎ ((result ≡ statuses.NoMemory) × RanShort names refusal before after)
+VoiceBy names (Ok finish) before after result =
+    (result ≡ finish_status finish) × (IsTrue before.tells → after.complained ≡ before.complained) × (after.faults ≡ before.faults)
+VoiceBy names (Err refusal) before after result =
+    ((result ≡ status_of refusal) × Complained names refusal before after) ⊎
+    ((result ≡ statuses.NoMemory) × RanShort names refusal before after)
 
 -- How a run ended, and why: `given` is what its loads gave, and the outcome has its cause in what these files are refused for
 -- or in the one output that they come to. What stands goes by the outcome.
-pub record Ended (gave : List ℕ → Result (List ℕ) LoadFault → Type 0) (task : Task) (names : Role → List ℕ) (before after : World) (result : Status) : Type 0 where
+pub record Ended (gave : List ℕ → Result (List ℕ) LoadFault → Type 0) (task : Task) (names : Role → List ℕ) (before after : World)
+    (result : Status) : Type 0 where
   pub given : Given
   pub from : (role : Role) → IfSome (given role) (gave (names role))
   pub told : IsTrue before.tells → (role : Role) → Agrees (before.held (names role)) (given role)
@@ -73,7 +80,8 @@ abbrev pub StandsBy : (Role → List ℕ) → Option Output → World → World 
 StandsBy names out before after statuses.Done = IsSomeAnd out (λ output. Written names output before after)
 StandsBy names out before after statuses.Rejected = IsSomeAnd out (λ output. Written names output before after)
 StandsBy names out before after statuses.WriteFault = IsSomeAnd out (λ output. Broken names output before after)
-StandsBy names out before after statuses.NoMemory = Untouched before after ⊎ IsSomeAnd out (λ output. Broken names output before after)
+StandsBy names out before after statuses.NoMemory =
+    Untouched before after ⊎ IsSomeAnd out (λ output. Broken names output before after)
 StandsBy names out before after other = Untouched before after
 
 pub record LeavesShelf (task : Task) (names : Role → List ℕ) (before after : World) (result : Status) : Type 0 where
@@ -86,8 +94,12 @@ pub record LeavesShelf (task : Task) (names : Role → List ℕ) (before after :
 -- The failed calls of a run that are no complaint, by the status: at most one. A load that failed is that of a file which
 -- the mode loads, and a store that failed is that of a file which it stores.
 abbrev pub CallBy : (Role → List ℕ) → List Role → Option Output → List Fault → Status → Type 0
-CallBy names loads out made statuses.ReadFault = (role : Role) × (IsTrue (is_among role loads) × (made ≡ one_fault calls.Load (names role)))
-CallBy names loads out made statuses.WriteFault = ((role : Role) × (IsSomeAnd out (λ output. IsTrue (is_stored role output.stores)) × (made ≡ one_fault calls.Store (names role)))) ⊎ (made ≡ one_fault calls.Say [])
+CallBy names loads out made statuses.ReadFault =
+    (role : Role) × (IsTrue (is_among role loads) × (made ≡ one_fault calls.Load (names role)))
+CallBy names loads out made statuses.WriteFault =
+    ((role : Role)
+    × (IsSomeAnd out (λ output. IsTrue (is_stored role output.stores)) × (made ≡ one_fault calls.Store (names role)))) ⊎ (made
+    ≡ one_fault calls.Say [])
 CallBy names loads out made statuses.NoMemory = (made ≡ []) ⊎ ((fault : Fault) × (made ≡ fault ∷ []))
 CallBy names loads out made other = made ≡ []
 
@@ -107,7 +119,8 @@ abbrev pub IsApart : (Role → List ℕ) → Output → List ℕ → Type 0
 IsApart names output name = (role : Role) → IsTrue (is_stored role output.stores) → name ≢ names role
 
 abbrev pub KeepsOthers : Task → (Role → List ℕ) → World → World → Type 0
-KeepsOthers task names before after = (name : List ℕ) → ((given : Given) (output : Output) → ComesTo task given output → IsApart names output name) → after.held name ≡ before.held name
+KeepsOthers task names before after = (name : List ℕ) →
+    ((given : Given) (output : Output) → ComesTo task given output → IsApart names output name) → after.held name ≡ before.held name
 
 -- what a load gives of the bytes that are held, where it does not fail
 abbrev pub loaded_of : Option (List ℕ) → Loaded

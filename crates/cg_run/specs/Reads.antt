@@ -1,5 +1,6 @@
 -- What the reading half of a run does.
-use Rattle.std.specs.Prelude.{◌≡◌, ◌≤◌, ◌<◌, ℕ, IsTrue, List, [], ◌∷◌, ◌++◌, length, Option, None, Some, Result, Ok, Err, IfSome, IsSomeAnd, ⊤}
+use Rattle.std.specs.Prelude.{◌≡◌, ◌≤◌, ◌<◌, ℕ, IsTrue, List, [], ◌∷◌, ◌++◌, length, Option, None, Some, Result, Ok, Err, IfSome}
+use Rattle.std.specs.Prelude.{IsSomeAnd, ⊤}
 use Rattle.cg_limit.specs.declared.TheConstants.{MOST_FILE_BYTES}
 use Rattle.cg_shelf.specs.World.{World}
 use Rattle.cg_shelf.specs.Shelf.{one_call}
@@ -38,7 +39,9 @@ load_calls names (role ∷ rest) = one_call calls.Load (names role) ++ load_call
 
 -- The reading half of a run. `given` is what its loads gave; a load gave it, and where the shelf tells, it agrees with what
 -- was held. These loads are the calls that were made. Nothing is stored, said or complained.
-pub record Reads {M T : Type 0} (gave : List ℕ → Result (List ℕ) LoadFault → Type 0) (takes : M → Role → List ℕ → Result M Trouble) (stops : M → Option Trouble) (gives : M → T → Type 0) (names : Role → List ℕ) (state : M) (loads : List Role) (before after : World) (answer : Result T Refusal) : Type 0 where
+pub record Reads {M T : Type 0} (gave : List ℕ → Result (List ℕ) LoadFault → Type 0) (takes : M → Role → List ℕ → Result M Trouble)
+    (stops : M → Option Trouble) (gives : M → T → Type 0) (names : Role → List ℕ) (state : M) (loads : List Role)
+    (before after : World) (answer : Result T Refusal) : Type 0 where
   pub given : Given
   pub from : (role : Role) → IfSome (given role) (gave (names role))
   pub told : IsTrue before.tells → (role : Role) → Agrees (before.held (names role)) (given role)
@@ -50,5 +53,7 @@ pub record Reads {M T : Type 0} (gave : List ℕ → Result (List ℕ) LoadFault
   pub failed : after.faults ≡ before.faults ++ outcome_faults names answer
 
 -- The files are loaded and taken, and what was found in them is what they come to: nothing stops it yet.
-abbrev pub Collects : {M : Type 0} → (List ℕ → Result (List ℕ) LoadFault → Type 0) → (M → Role → List ℕ → Result M Trouble) → (Role → List ℕ) → M → List Role → World → World → Result M Refusal → Type 0
-Collects gave takes names state loads before after answer = Reads gave takes unstopped (λ found end. found ≡ end) names state loads before after answer
+abbrev pub Collects : {M : Type 0} → (List ℕ → Result (List ℕ) LoadFault → Type 0) → (M → Role → List ℕ → Result M Trouble) →
+    (Role → List ℕ) → M → List Role → World → World → Result M Refusal → Type 0
+Collects gave takes names state loads before after answer =
+    Reads gave takes unstopped (λ found end. found ≡ end) names state loads before after answer

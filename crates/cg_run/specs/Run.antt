@@ -36,7 +36,8 @@ Cause refused out (Err refusal) = CauseAt refused out refusal (step_of refusal)
 -- what stands: nothing new, a part of the writes, or all
 abbrev pub StandsAt : (Role → List ℕ) → Option Output → Step → World → World → Type 0
 StandsAt names out steps.Reading before after = Untouched before after
-StandsAt names out (steps.Storing role) before after = IsSomeAnd out (λ output. LeavesAt names output (steps.Storing role) before after)
+StandsAt names out (steps.Storing role) before after =
+    IsSomeAnd out (λ output. LeavesAt names output (steps.Storing role) before after)
 StandsAt names out steps.Saying before after = IsSomeAnd out (λ output. LeavesAt names output steps.Saying before after)
 
 abbrev pub Leaves : (Role → List ℕ) → Option Output → World → World → Result Finish Refusal → Type 0
@@ -57,7 +58,8 @@ Made names out (Err refusal) made = MadeAt names out (step_of refusal) made
 -- was held. `out` is the one output that it put out or began to: nothing was refused and the files come to it, and finish,
 -- what stands and the calls of the writes are its. The calls are the loads of the files that were asked for, in order, and
 -- then the writes.
-pub record Attempts (gave : List ℕ → Result (List ℕ) LoadFault → Type 0) (task : Task) (names : Role → List ℕ) (before after : World) (outcome : Result Finish Refusal) : Type 0 where
+pub record Attempts (gave : List ℕ → Result (List ℕ) LoadFault → Type 0) (task : Task) (names : Role → List ℕ)
+    (before after : World) (outcome : Result Finish Refusal) : Type 0 where
   pub given : Given
   pub from : (role : Role) → IfSome (given role) (gave (names role))
   pub told : IsTrue before.tells → (role : Role) → Agrees (before.held (names role)) (given role)
@@ -102,7 +104,8 @@ Closes names (Ok finish) before after result = (result ≡ finish_status finish)
 Closes names (Err refusal) before after result = Refuses names refusal before after result
 
 -- What a run did: it attempted its task, and then closed. `between` is the shelf before the line of complaint.
-pub record Runs (gave : List ℕ → Result (List ℕ) LoadFault → Type 0) (task : Task) (names : Role → List ℕ) (before after : World) (result : Status) : Type 0 where
+pub record Runs (gave : List ℕ → Result (List ℕ) LoadFault → Type 0) (task : Task) (names : Role → List ℕ) (before after : World)
+    (result : Status) : Type 0 where
   pub outcome : Result Finish Refusal
   pub between : World
   pub attempts : Attempts gave task names before between outcome
@@ -114,7 +117,8 @@ finished_as output (Ok x) = Ok output.finish
 finished_as output (Err refusal) = Err refusal
 
 -- an output was written, as far as its writes came
-pub record WritesOut (names : Role → List ℕ) (output : Output) (before after : World) (outcome : Result Finish Refusal) : Type 0 where
+pub record WritesOut (names : Role → List ℕ) (output : Output) (before after : World)
+    (outcome : Result Finish Refusal) : Type 0 where
   pub answer : Result (Unit {0}) Refusal
   pub writes : Writes names output before after answer
   pub is : outcome ≡ finished_as output answer
@@ -122,7 +126,8 @@ pub record WritesOut (names : Role → List ℕ) (output : Output) (before after
 -- What reading came to, up to the complaint: an output is written, unless there is no memory for what may have to be
 -- complained of its writes; and of a refusal nothing is written.
 abbrev pub Tries : (Role → List ℕ) → Result Output Refusal → World → World → Result Finish Refusal → Type 0
-Tries names (Ok output) before after outcome = ((outcome ≡ Err (refusals.NoMemory steps.Reading)) × (after ≡ before)) ⊎ WritesOut names output before after outcome
+Tries names (Ok output) before after outcome =
+    ((outcome ≡ Err (refusals.NoMemory steps.Reading)) × (after ≡ before)) ⊎ WritesOut names output before after outcome
 Tries names (Err refusal) before after outcome = (outcome ≡ Err refusal) × (after ≡ before)
 
 -- The writing half of a run: what reading came to was put out, and then the run closed.

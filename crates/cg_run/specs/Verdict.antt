@@ -54,7 +54,8 @@ stopped (Some trouble) state = Err (refusal_of trouble)
 
 -- What a mode finds: it takes the files of these roles one after another, each before the next is loaded, and the first
 -- refusal ends it; at the end what was found may itself be refused.
-abbrev pub reached : {M : Type 0} → (M → Role → List ℕ → Result M Trouble) → (M → Option Trouble) → M → List Role → Given → Result M Refusal
+abbrev pub reached : {M : Type 0} → (M → Role → List ℕ → Result M Trouble) → (M → Option Trouble) → M → List Role → Given →
+    Result M Refusal
 reached takes stops state [] given = stopped (stops state) state
 reached takes stops state (role ∷ rest) given = taken takes state role (given role) >>= λ next. reached takes stops next rest given
 
@@ -69,7 +70,8 @@ asked_from role (Some gave) next more = role ∷ onward next more
 
 abbrev pub asked : {M : Type 0} → (M → Role → List ℕ → Result M Trouble) → M → List Role → Given → List Role
 asked takes state [] given = []
-asked takes state (role ∷ rest) given = asked_from role (given role) (taken takes state role (given role)) (λ next. asked takes next rest given)
+asked takes state (role ∷ rest) given =
+    asked_from role (given role) (taken takes state role (given role)) (λ next. asked takes next rest given)
 
 -- the refusal, where there is one
 abbrev pub refusal_in : {T : Type 0} → Result T Refusal → Option Refusal
@@ -84,7 +86,8 @@ pub record Task : Type 1 where
   pub refused : Given → Option Refusal
   pub comes : Given → Output → Type 0
 
-abbrev pub task_of : {M : Type 0} → (M → Role → List ℕ → Result M Trouble) → (M → Option Trouble) → (M → Output → Type 0) → M → List Role → Task
+abbrev pub task_of : {M : Type 0} → (M → Role → List ℕ → Result M Trouble) → (M → Option Trouble) → (M → Output → Type 0) → M →
+    List Role → Task
 task_of takes stops gives state loads = record {
   loads = loads;
   asks = asked takes state loads;

@@ -1,5 +1,6 @@
 -- What the writes of a run do: the stores in order, then the say; the first that is refused ends them.
-use Rattle.std.specs.Prelude.{◌≡◌, ◌≢◌, ◌⊎◌, ℕ, Bool, IsTrue, if◌then◌else◌, List, [], ◌∷◌, ◌++◌, map, Option, Some, Result, Ok, Err, IfErr, ⊤}
+use Rattle.std.specs.Prelude.{◌≡◌, ◌≢◌, ◌⊎◌, ℕ, Bool, IsTrue, if◌then◌else◌, List, [], ◌∷◌, ◌++◌, map, Option, Some, Result, Ok}
+use Rattle.std.specs.Prelude.{Err, IfErr, ⊤}
 use Rattle.std.specs.Str.{bytes_eq}
 use Rattle.cg_shelf.specs.World.{World}
 use Rattle.cg_shelf.specs.Shelf.{AppendsFront, one_call}
@@ -94,7 +95,8 @@ WriteLeaves names output before after (Ok x) = Written names output before after
 WriteLeaves names output before after (Err refusal) = LeavesAt names output (step_of refusal) before after
 
 -- the writes of an output
-pub record Writes {T : Type 0} (names : Role → List ℕ) (output : Output) (before after : World) (answer : Result T Refusal) : Type 0 where
+pub record Writes {T : Type 0} (names : Role → List ℕ) (output : Output) (before after : World)
+    (answer : Result T Refusal) : Type 0 where
   pub refused : IfErr answer (λ refusal. HasStep output (step_of refusal))
   pub leaves : IsTrue before.tells → WriteLeaves names output before after answer
   pub made : List CallMade

@@ -1,5 +1,6 @@
 -- Reasons taken as hints, from the last entry of a trail to the first.
-use Rattle.std.proofs.Common.{◌≡◌, ℕ, Bool, true, false, not, ◌||◌, ◌&&◌, List, [], ◌∷◌, ◌++◌, Option, Some, None, ◌⊎◌, inl, inr, refl, sym, ap, ◌∙◌, subst, map, if◌then◌else◌}
+use Rattle.std.proofs.Common.{◌≡◌, ℕ, Bool, true, false, not, ◌||◌, ◌&&◌, List, [], ◌∷◌, ◌++◌, Option, Some, None, ◌⊎◌, inl, inr}
+use Rattle.std.proofs.Common.{refl, sym, ap, ◌∙◌, subst, map, if◌then◌else◌}
 use Rattle.std.specs.List.{list_any, list_all}
 use Rattle.cg_formula.specs.declared.formula.Lit.{Lit}
 use Rattle.cg_lrat.specs.declared.verdict.Why.{Why}
@@ -10,7 +11,8 @@ use Rattle.cg_formula.proofs.Members.{same_lit_equal}
 use Rattle.cg_formula.specs.Assignments.{IsFalsified, IsUnit, IsUnassigned}
 use Rattle.cg_lrat.proofs.UnitHints.{unit_hint, last_hint}
 use Rattle.cg_sat.specs.inner.Derive.{Suits, Refutes, IsApart}
-use Rattle.cg_formula.proofs.Members.{same_lit_self, inverse_twice, inverses_twice, here, pushed_in, in_pushed, last_in, not_in, own_inverse}
+use Rattle.cg_formula.proofs.Members.{same_lit_self, inverse_twice, inverses_twice, here, pushed_in, in_pushed, last_in, not_in}
+use Rattle.cg_formula.proofs.Members.{own_inverse}
 
 -- a clause that is false where the trail is true
 pub conflict_refutes : (live : Live) (before : List Lit) (needs : Lit → Bool) (id : ℕ) (clause : List Lit) → live id ≡ Some clause → IsFalsified before clause

@@ -1,5 +1,7 @@
 -- Logs that grow by a step.
-use Rattle.std.proofs.Common.{◌≡◌, ℕ, ◌+◌, zero, suc, ◌<◌, ◌≤◌, Bool, true, false, List, [], ◌∷◌, ◌++◌, Option, Some, None, inl, inr, refl, sym, ap, ◌∙◌, subst, map, length, length-append, nat_eq, nat_le, arith, rules, ◌==◌, ◌-◌, ◌^◌, if◌then◌else◌}
+use Rattle.std.proofs.Common.{◌≡◌, ℕ, ◌+◌, zero, suc, ◌<◌, ◌≤◌, Bool, true, false, List, [], ◌∷◌, ◌++◌, Option, Some, None, inl}
+use Rattle.std.proofs.Common.{inr, refl, sym, ap, ◌∙◌, subst, map, length, length-append, nat_eq, nat_le, arith, rules, ◌==◌, ◌-◌}
+use Rattle.std.proofs.Common.{◌^◌, if◌then◌else◌}
 use Rattle.std.specs.List.{slice_get, AllByRecursion}
 use Rattle.std.specs.Map.{update}
 use Rattle.std.proofs.lemmas.Bool.{leb-true}
@@ -10,7 +12,8 @@ use Rattle.cg_lrat.specs.declared.log.Body.{Body}
 use Rattle.cg_lrat.specs.declared.log.Body.TheVariants.{Add, Delete}
 use Rattle.cg_lrat.specs.declared.log.Step.{Step}
 use Rattle.cg_lrat.specs.declared.log.Log.{Log}
-use Rattle.cg_lrat.specs.Accepted.{Live, State, first_state, fault_of, state_after, adds_empty, clause_fault, hints_fault, is_tautology, deletion_fault}
+use Rattle.cg_lrat.specs.Accepted.{Live, State, first_state, fault_of, state_after, adds_empty, clause_fault, hints_fault}
+use Rattle.cg_lrat.specs.Accepted.{is_tautology, deletion_fault}
 use Rattle.cg_lrat.specs.AcceptedLog.{LeadsTo, IsAccepted}
 use Rattle.cg_formula.specs.Lits.{inverse, same_lit, is_in}
 use Rattle.cg_formula.specs.Bounds.{IsLit, IsClause}

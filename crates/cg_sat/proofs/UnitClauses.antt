@@ -1,5 +1,6 @@
 -- Unit clauses that follow from unit clauses.
-use Rattle.std.proofs.Common.{◌≡◌, ◌≢◌, ℕ, ◌+◌, suc, ◌<◌, Bool, true, false, not, List, [], ◌∷◌, ◌++◌, Option, Some, None, ◌⊎◌, inl, inr, refl, sym, ap, ◌∙◌, subst, map, length, take, get_or, add-one, append_assoc, arith}
+use Rattle.std.proofs.Common.{◌≡◌, ◌≢◌, ℕ, ◌+◌, suc, ◌<◌, Bool, true, false, not, List, [], ◌∷◌, ◌++◌, Option, Some, None, ◌⊎◌, inl}
+use Rattle.std.proofs.Common.{inr, refl, sym, ap, ◌∙◌, subst, map, length, take, get_or, add-one, append_assoc, arith}
 use Rattle.std.proofs.Math.Seq.{take-suc}
 use Rattle.cg_formula.specs.declared.formula.Lit.{Lit}
 use Rattle.cg_formula.specs.Lits.{inverse, same_lit, is_in}

@@ -1,5 +1,7 @@
 -- Steps of the walk down the trail.
-use Rattle.std.proofs.Common.{◌≡◌, ℕ, ◌+◌, zero, suc, ◌<◌, ◌≤◌, Bool, true, false, List, [], ◌∷◌, ◌++◌, Option, Some, None, ◌⊎◌, inl, inr, refl, sym, ap, ◌∙◌, subst, map, length, take, set, add-one, add-zero, add-suc, reverse, arith, ◌-◌, get_or, append-nil, append_assoc}
+use Rattle.std.proofs.Common.{◌≡◌, ℕ, ◌+◌, zero, suc, ◌<◌, ◌≤◌, Bool, true, false, List, [], ◌∷◌, ◌++◌, Option, Some, None, ◌⊎◌}
+use Rattle.std.proofs.Common.{inl, inr, refl, sym, ap, ◌∙◌, subst, map, length, take, set, add-one, add-zero, add-suc, reverse}
+use Rattle.std.proofs.Common.{arith, ◌-◌, get_or, append-nil, append_assoc}
 use Rattle.std.specs.List.{slice_get}
 use Rattle.std.proofs.lemmas.Option.{slice_get-get_or, get_or_from_slice_get}
 use Rattle.cg_formula.specs.declared.formula.Lit.{Lit}
@@ -13,7 +15,8 @@ use Rattle.cg_sat.specs.inner.Derive.{Refutes, IsApart}
 use Rattle.cg_sat.specs.inner.Learn.{is_marked, Derives, AreClear, Gathered, Asserts, IsTop}
 use Rattle.cg_lrat.specs.Accepted.{clause_fault}
 use Rattle.std.proofs.Math.Seq.{take-length}
-use Rattle.cg_sat.proofs.Derive.{conflict_refutes, skip_refutes, keep_refutes, resolve_refutes, none_apart, fewer_apart, keep_apart, derived}
+use Rattle.cg_sat.proofs.Derive.{conflict_refutes, skip_refutes, keep_refutes, resolve_refutes, none_apart, fewer_apart, keep_apart}
+use Rattle.cg_sat.proofs.Derive.{derived}
 use Rattle.cg_formula.specs.Lits.{same_lit}
 use Rattle.cg_formula.proofs.Connectives.{or_true, or_right}
 use Rattle.cg_formula.proofs.Members.{same_lit_equal}

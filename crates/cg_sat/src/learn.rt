@@ -9,7 +9,8 @@ ghost use Rattle.cg_formula.specs.Lits.{inverse, is_in};
 ghost use Rattle.cg_sat.specs.inner.Trail.{lits_of, IsTrail, IsImplied};
 ghost use Rattle.cg_sat.specs.declared.trail.Entry.{Entry};
 ghost use Rattle.cg_sat.specs.inner.Search.{IsConflict};
-ghost use Rattle.cg_sat.specs.inner.Learn.{is_marked, VariablesBelow, Derives, AreClear, IsDecided, AreImplied, Gathered, IsTop, IsLevel, IsPoint, Teaches};
+ghost use Rattle.cg_sat.specs.inner.Learn.{is_marked, VariablesBelow, Derives, AreClear, IsDecided, AreImplied, Gathered, IsTop};
+ghost use Rattle.cg_sat.specs.inner.Learn.{IsLevel, IsPoint, Teaches};
 
 use crate::clauses::Clauses;
 use crate::guide::Guide;

@@ -1,6 +1,7 @@
 //! The trail: the literals that are true, in the order in which they became so.
 
-ghost use Rattle.std.specs.Prelude.{◌≡◌, ℕ, List, true, false, slice_index_or, ◌+◌, ◌<◌, ◌≤◌, [], ◌∷◌, ◌++◌, length, take, MatchOption, OnOk, OnErr, IfOk};
+ghost use Rattle.std.specs.Prelude.{◌≡◌, ℕ, List, true, false, slice_index_or, ◌+◌, ◌<◌, ◌≤◌, [], ◌∷◌, ◌++◌, length, take};
+ghost use Rattle.std.specs.Prelude.{MatchOption, OnOk, OnErr, IfOk};
 ghost use Rattle.std.specs.Option.{option_to_list};
 ghost use Rattle.cg_formula.specs.declared.formula.Lit.{Lit};
 ghost use Rattle.cg_formula.specs.Lits.{is_in, lit_number};

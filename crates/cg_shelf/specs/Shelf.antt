@@ -1,5 +1,6 @@
 -- What the four calls of a shelf answer and change.
-use Rattle.std.specs.Prelude.{◌≡◌, ◌≢◌, ◌⊎◌, ℕ, ◌<◌, IsTrue, List, [], ◌∷◌, ◌++◌, length, Option, Some, Result, Ok, Err, IsSomeAnd, ⊤}
+use Rattle.std.specs.Prelude.{◌≡◌, ◌≢◌, ◌⊎◌, ℕ, ◌<◌, IsTrue, List, [], ◌∷◌, ◌++◌, length, Option, Some, Result, Ok, Err, IsSomeAnd}
+use Rattle.std.specs.Prelude.{⊤}
 use Rattle.cg_shelf.specs.World.{World}
 use Rattle.cg_shelf.specs.declared.faults.Call.{Call}
 use Rattle.cg_shelf.specs.declared.faults.Call.TheVariants.{Load}

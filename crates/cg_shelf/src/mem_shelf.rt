@@ -1,8 +1,11 @@
 //! A shelf in memory, which fails where it is told to.
 
-ghost use Rattle.std.specs.Prelude.{◌≡◌, ◌-◌, ◌+◌, ◌^◌, ◌≤◌, ◌++◌, ◌||◌, [], Some, None, length, min, is_none, IfOk, OnOk, OnErr, option_copied};
-ghost use Rattle.cg_shelf.specs.MemShelf.{held_by, world_of, count_of, failing_of, next_fails, GivesHeld, LoadFailsWhere, FailsWhere};
-ghost use Rattle.cg_shelf.specs.Shelf.{LoadAnswers, Appends, Lists, ListsLoad, SameBut, call_faults, load_faults, load_given, one_call, one_fault};
+ghost use Rattle.std.specs.Prelude.{◌≡◌, ◌-◌, ◌+◌, ◌^◌, ◌≤◌, ◌++◌, ◌||◌, [], Some, None, length, min, is_none, IfOk, OnOk, OnErr};
+ghost use Rattle.std.specs.Prelude.{option_copied};
+ghost use Rattle.cg_shelf.specs.MemShelf.{held_by, world_of, count_of, failing_of, next_fails, GivesHeld, LoadFailsWhere};
+ghost use Rattle.cg_shelf.specs.MemShelf.{FailsWhere};
+ghost use Rattle.cg_shelf.specs.Shelf.{LoadAnswers, Appends, Lists, ListsLoad, SameBut, call_faults, load_faults, load_given};
+ghost use Rattle.cg_shelf.specs.Shelf.{one_call, one_fault};
 ghost use Rattle.cg_shelf.specs.declared.faults.Call.TheVariants.{Store, Say, Complain};
 
 use crate::calls::Shelf;

@@ -1,5 +1,6 @@
 -- A stability stage that fits may be inserted where its claims hold.
-use Rattle.std.proofs.Common.{◌≡◌, ℕ, ◌-◌, ◌<◌, ◌≤◌, Bool, true, false, ◌&&◌, List, [], ◌∷◌, map, length, slice_get, nat_eq, Option, None, Some, refl, sym, ◌∙◌, ap, subst, arith, inl, inr}
+use Rattle.std.proofs.Common.{◌≡◌, ℕ, ◌-◌, ◌<◌, ◌≤◌, Bool, true, false, ◌&&◌, List, [], ◌∷◌, map, length, slice_get, nat_eq, Option}
+use Rattle.std.proofs.Common.{None, Some, refl, sym, ◌∙◌, ap, subst, arith, inl, inr}
 use Rattle.std.specs.Option.{option_or, option_to_list}
 use Rattle.std.proofs.lemmas.Bool.{both_ways, eq-eqb, or_left}
 use Rattle.std.proofs.lemmas.Option.{get_or_from_slice_get}
@@ -18,7 +19,8 @@ use Rattle.cg_machine.specs.Gates.{and_cover}
 use Rattle.cg_machine.specs.Machine.{IsInputs, IsMachine, IsNet, IsState, MachineData, enable_of, load, step, values}
 use Rattle.cg_machine.specs.declared.stage.Stage.{Stage}
 use Rattle.cg_machine.specs.declared.stage.StageKind.TheVariants.{Stable}
-use Rattle.cg_machine.proofs.Extended.{any_old, extends_same, extends_self, extends_then, front_bit, old_bit, old_inputs, old_long, stable_kept, step_old}
+use Rattle.cg_machine.proofs.Extended.{any_old, extends_same, extends_self, extends_then, front_bit, old_bit, old_inputs, old_long}
+use Rattle.cg_machine.proofs.Extended.{stable_kept, step_old}
 use Rattle.cg_machine.proofs.FewValues.{values_two}
 use Rattle.cg_machine.proofs.Settled.{wide}
 use Rattle.cg_machine.proofs.Simulation.{same_then}
@@ -27,7 +29,8 @@ use Rattle.cg_stage.specs.Effects.{delayed, limit_by, own_limit, with_own}
 use Rattle.cg_stage.specs.Joined.{enabled, join_all, join_all_limit}
 use Rattle.cg_stage.specs.Laws.{After}
 use Rattle.cg_stage.specs.Stages.{ClaimsHold, Fits, enable_nets, has_inverted}
-use Rattle.cg_stage.proofs.Fitting.{Keeps, after_of, any_plain, below_old, enabled_good, given, had_old, ones_bit, regs_old, starts_long}
+use Rattle.cg_stage.proofs.Fitting.{Keeps, after_of, any_plain, below_old, enabled_good, given, had_old, ones_bit, regs_old}
+use Rattle.cg_stage.proofs.Fitting.{starts_long}
 use Rattle.cg_stage.proofs.Joins.{Joins, and_value, net_kept, two_nets}
 use Rattle.cg_stage.proofs.Enables.{joined_there}
 use Rattle.cg_stage.proofs.StableStage.{stable_same}

@@ -1,5 +1,6 @@
 -- Stable: in a machine that delays E, the delay may become the enable of registers, joined with one that they have.
-use Rattle.std.proofs.Common.{◌≡◌, ℕ, Bool, true, false, ◌&&◌, List, [], ◌∷◌, ◌++◌, length, slice_get, Option, refl, sym, ◌∙◌, ap, subst, inl, inr, ◌⊎◌, ◌<◌, ◌≤◌, arith}
+use Rattle.std.proofs.Common.{◌≡◌, ℕ, Bool, true, false, ◌&&◌, List, [], ◌∷◌, ◌++◌, length, slice_get, Option, refl, sym, ◌∙◌, ap}
+use Rattle.std.proofs.Common.{subst, inl, inr, ◌⊎◌, ◌<◌, ◌≤◌, arith}
 use Rattle.std.proofs.lemmas.Bool.{both_ways, cases_Bool}
 use Rattle.cg_netlist.specs.Circuit.{is_in}
 use Rattle.cg_netlist.specs.Moment.{bit}

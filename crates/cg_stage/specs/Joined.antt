@@ -20,7 +20,8 @@ join_all m (y ∷ ys) = join (record { machine = m; net = y }) ys
 -- the first limit that one of these gates passes
 abbrev pub join_limit : Added → List ℕ → Option Limit
 join_limit a [] = None
-join_limit a (y ∷ ys) = option_or (gate_limit a.machine Or2 (a.net ∷ y ∷ [])) (join_limit (add_gate a.machine Or2 (a.net ∷ y ∷ [])) ys)
+join_limit a (y ∷ ys) =
+    option_or (gate_limit a.machine Or2 (a.net ∷ y ∷ [])) (join_limit (add_gate a.machine Or2 (a.net ∷ y ∷ [])) ys)
 
 abbrev pub join_all_limit : MachineData → List ℕ → Option Limit
 join_all_limit m [] = None

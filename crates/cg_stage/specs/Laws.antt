@@ -21,7 +21,8 @@ pub record After (m : MachineData) (s : Stage) (n : MachineData) : Type 0 where
 
 -- a stage of this kind that fits, of which the claims hold and which passes no limit, may be inserted
 abbrev pub IsSafe : StageKind → Type 0
-IsSafe kind = (m : MachineData) (s : Stage) → IsMachine m → Fits m s → s.kind ≡ kind → limit_by kind m s ≡ None → ClaimsHold kind m s → After m s (effect m s)
+IsSafe kind = (m : MachineData) (s : Stage) → IsMachine m → Fits m s → s.kind ≡ kind → limit_by kind m s ≡ None →
+    ClaimsHold kind m s → After m s (effect m s)
 
 -- Where the literal is 0, the registers hold their bits. So both machines are in the same state in every cycle.
 abbrev pub HoldIsSafe : Type 0

@@ -26,7 +26,10 @@ joins_own _ own = false
 -- what a stage needs, in order: a gating cell, an inverter for an inverted literal, an or for more than one literal,
 -- an and for an enable that is joined with the delay register
 abbrev pub needs : Bool → Stage → List FitKind
-needs test s = gater_kind test ∷ where_needed (has_inverted s.enable) Inv (where_needed (nat_lt 1 (length s.enable)) Or2 (where_needed (joins_own s.kind s.own) And2 []))
+needs test s =
+    gater_kind test
+    ∷ where_needed (has_inverted s.enable) Inv
+    (where_needed (nat_lt 1 (length s.enable)) Or2 (where_needed (joins_own s.kind s.own) And2 []))
 
 -- the first of these kinds of which the library has no cell
 abbrev pub missing : List CellData → List FitKind → Option FitKind

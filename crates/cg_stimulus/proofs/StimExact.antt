@@ -1,5 +1,7 @@
 -- What is read is in the grammar of stimulus texts, and nothing in it is refused.
-use Rattle.std.proofs.Common.{◌≡◌, ℕ, zero, suc, ◌+◌, ◌<◌, ◌≤◌, ◌==◌, Bool, true, false, not, cond, ◌||◌, List, [], ◌∷◌, ◌++◌, map, length, slice_get, slice_index_or, nat_eq, nat_lt, Result, Ok, Err, IfOk, Option, Some, None, inl, inr, ◌⊎◌, refl, sym, ap, subst, ◌∙◌, codes, append_assoc, arith, if◌then◌else◌}
+use Rattle.std.proofs.Common.{◌≡◌, ℕ, zero, suc, ◌+◌, ◌<◌, ◌≤◌, ◌==◌, Bool, true, false, not, cond, ◌||◌, List, [], ◌∷◌, ◌++◌, map}
+use Rattle.std.proofs.Common.{length, slice_get, slice_index_or, nat_eq, nat_lt, Result, Ok, Err, IfOk, Option, Some, None, inl}
+use Rattle.std.proofs.Common.{inr, ◌⊎◌, refl, sym, ap, subst, ◌∙◌, codes, append_assoc, arith, if◌then◌else◌}
 use Rattle.std.specs.Cmp.Lexicographic.{same_text}
 use Rattle.std.specs.List.{AllByRecursion, AllZip, list_all, position_or_len}
 use Rattle.std.specs.Str.{bytes_eq}
@@ -23,7 +25,8 @@ use Rattle.cg_stimulus.specs.declared.fault.StimulusFault.TheVariants as faults
 use Rattle.cg_stimulus.specs.declared.header.Header.{Header}
 use Rattle.cg_stimulus.specs.Comments.{stimulus_lines}
 use Rattle.cg_stimulus.specs.Fault.{◌>>=◌}
-use Rattle.cg_stimulus.specs.Reading.{column_of, names_from, columns_of, header_of, is_bit_byte, says_row, bits_of, row_of, rows_of, rows_in, stimulus}
+use Rattle.cg_stimulus.specs.Reading.{column_of, names_from, columns_of, header_of, is_bit_byte, says_row, bits_of, row_of, rows_of}
+use Rattle.cg_stimulus.specs.Reading.{rows_in, stimulus}
 use Rattle.cg_stimulus.specs.StimText.{bit_byte, StandOnce, ShowsBit, SaysRow, StimText}
 
 bind_ok : {A B : Type 0} (r : Result A StimulusFault) (f : A → Result B StimulusFault) (y : B) → ◌>>=◌ {B = B} r f ≡ Ok y

@@ -1,5 +1,6 @@
 -- Reading a stimulus text: the rows, or the first fault.
-use Rattle.std.specs.Prelude.{ℕ, ◌+◌, ◌==◌, ◌&&◌, ◌||◌, not, Bool, List, [], ◌∷◌, ◌++◌, map, length, nat_eq, nat_lt, slice_index_or, Result, Ok, Err, Option, Some, None, codes, if◌then◌else◌}
+use Rattle.std.specs.Prelude.{ℕ, ◌+◌, ◌==◌, ◌&&◌, ◌||◌, not, Bool, List, [], ◌∷◌, ◌++◌, map, length, nat_eq, nat_lt, slice_index_or}
+use Rattle.std.specs.Prelude.{Result, Ok, Err, Option, Some, None, codes, if◌then◌else◌}
 use Rattle.std.specs.List.{list_all, position}
 use Rattle.std.specs.Str.{bytes_eq}
 use lib.Pointwise.{pointwise}
@@ -20,7 +21,8 @@ column_of names name = position (pointwise nat_eq name) names
 -- the names behind `inputs`, each a data input that stands among them once; those before were read already
 abbrev pub names_from : ℕ → List (List ℕ) → List (List ℕ) → List (List ℕ) → Result (List (List ℕ)) StimulusFault
 names_from line inputs before [] = Ok before
-names_from line inputs before (w ∷ ws) = if is_known inputs w && not (is_known before w) then names_from line inputs (before ++ w ∷ []) ws else Err (BadName line)
+names_from line inputs before (w ∷ ws) =
+    if is_known inputs w && not (is_known before w) then names_from line inputs (before ++ w ∷ []) ws else Err (BadName line)
 
 -- a column before later ones, or the input that has none
 abbrev pub put_column : List ℕ → Option ℕ → Result (List ℕ) StimulusFault → Result (List ℕ) StimulusFault
@@ -36,7 +38,10 @@ columns_of names (input ∷ later) = put_column input (column_of names input) (c
 abbrev pub header_of : ℕ → List (List ℕ) → List (List ℕ) → Result Header StimulusFault
 header_of line inputs [] = Err (BadRow line)
 header_of line inputs (w ∷ ws) = if bytes_eq w (codes "inputs")
-    then (names_from line inputs [] ws >>= λ names. columns_of names inputs >>= λ columns. Ok (record { count = length names; columns = columns }))
+    then (names_from line inputs [] ws >>= λ names. columns_of names inputs >>= λ columns. Ok (record {
+      count = length names;
+      columns = columns;
+    }))
     else Err (BadRow line)
 
 abbrev pub is_bit_byte : ℕ → Bool
@@ -44,7 +49,8 @@ is_bit_byte b = b == 48 || b == 49
 
 -- a word says a row: a `0` or `1` for each name, or `-` where there is none
 abbrev pub says_row : Header → List ℕ → Bool
-says_row header word = if header.count == 0 then bytes_eq word (codes "-") else length word == header.count && list_all is_bit_byte word
+says_row header word =
+    if header.count == 0 then bytes_eq word (codes "-") else length word == header.count && list_all is_bit_byte word
 
 -- the bits of a row, in the order of the data inputs
 abbrev pub bits_of : Header → List ℕ → List Bool

@@ -1,5 +1,6 @@
 -- The test run of a plan shows what the machine shows that it began with.
-use Rattle.std.proofs.Common.{◌≡◌, ℕ, zero, suc, ◌-◌, true, List, [], ◌∷◌, ◌++◌, length, replicate, Option, None, Some, refl, sym, ◌∙◌, ap, inl, arith}
+use Rattle.std.proofs.Common.{◌≡◌, ℕ, zero, suc, ◌-◌, true, List, [], ◌∷◌, ◌++◌, length, replicate, Option, None, Some, refl, sym}
+use Rattle.std.proofs.Common.{◌∙◌, ap, inl, arith}
 use Rattle.std.proofs.lemmas.List.{append-nil}
 use Rattle.cg_machine.proofs.Bits.{each_get}
 use Rattle.cg_machine.proofs.Extended.{extends_self}

@@ -1,5 +1,6 @@
 -- The lists of unobservability with a test input: no guard of a stage of them, and of one that was inserted, is in a group.
-use Rattle.std.proofs.Common.{◌≡◌, ℕ, ◌<◌, true, false, ◌&&◌, not, if◌then◌else◌, List, [], ◌∷◌, None, Some, nat_eq, bytes_eq, is_some, option_and_then, refl, sym, ◌∙◌, ap, subst, inl, inr, arith}
+use Rattle.std.proofs.Common.{◌≡◌, ℕ, ◌<◌, true, false, ◌&&◌, not, if◌then◌else◌, List, [], ◌∷◌, None, Some, nat_eq, bytes_eq}
+use Rattle.std.proofs.Common.{is_some, option_and_then, refl, sym, ◌∙◌, ap, subst, inl, inr, arith}
 use Rattle.std.proofs.lemmas.Bool.{and_parts, both_ways}
 use Rattle.std.proofs.lemmas.Option.{none-some, same_Some}
 use Rattle.std.proofs.lemmas.Slice.Eq.{bytes_eq-Decides}
@@ -10,7 +11,8 @@ use Rattle.cg_lists.specs.Groups.{Group, group_of}
 use Rattle.cg_lists.specs.HoldList.{unless_empty}
 use Rattle.cg_lists.specs.Rounds.{is_empty, kept_key, same_kind}
 use Rattle.cg_lists.specs.Supports.{has_enable, in_net_order, all_nets, own_registers_of}
-use Rattle.cg_lists.specs.UnseenList.{enables_some, fan_out, guards_kept, guards_of, had_unseen, is_guard, taken_at, unseen_groups, unseen_key, unseen_list, unseen_stage, without_guards}
+use Rattle.cg_lists.specs.UnseenList.{enables_some, fan_out, guards_kept, guards_of, had_unseen, is_guard, taken_at, unseen_groups}
+use Rattle.cg_lists.specs.UnseenList.{unseen_key, unseen_list, unseen_stage, without_guards}
 use Rattle.cg_machine.specs.Machine.{MachineData, enable_of, IsMachine}
 use Rattle.cg_machine.specs.declared.stage.Earlier.{Earlier}
 use Rattle.cg_machine.specs.declared.stage.Stage.{Stage}

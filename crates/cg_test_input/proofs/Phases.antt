@@ -1,6 +1,7 @@
 -- The inserted stages of a plan: first stages of holding and stability, then stages of unobservability, of which no guard ever
 -- gets an enable.
-use Rattle.std.proofs.Common.{◌≡◌, ℕ, zero, suc, ◌≤◌, Bool, true, false, ◌&&◌, if◌then◌else◌, List, [], ◌∷◌, ◌++◌, map, length, Option, None, Some, option_and_then, refl, sym, ◌∙◌, ap, subst, inl, inr, ◌⊎◌, arith}
+use Rattle.std.proofs.Common.{◌≡◌, ℕ, zero, suc, ◌≤◌, Bool, true, false, ◌&&◌, if◌then◌else◌, List, [], ◌∷◌, ◌++◌, map, length}
+use Rattle.std.proofs.Common.{Option, None, Some, option_and_then, refl, sym, ◌∙◌, ap, subst, inl, inr, ◌⊎◌, arith}
 use Rattle.std.proofs.lemmas.Bool.{both_ways, false_from_ne_true}
 use Rattle.std.proofs.lemmas.Option.{none-some, same_Some, slice_get_past}
 use Rattle.std.specs.List.{flat_map}
@@ -37,7 +38,8 @@ use Rattle.cg_stage.specs.Effects.{effect}
 use Rattle.cg_stage.specs.Laws.{After}
 use Rattle.cg_stage.specs.Stages.{enable_nets}
 use Rattle.cg_test_input.proofs.Guards.{UnseenIn, group_guards, list_asked}
-use Rattle.cg_test_input.proofs.Path.{Grows, Every, IsPath, Step, all_inv, every_map, every_mapped, every_one, path_grows, step_after, turn_of}
+use Rattle.cg_test_input.proofs.Path.{Grows, Every, IsPath, Step, all_inv, every_map, every_mapped, every_one, path_grows}
+use Rattle.cg_test_input.proofs.Path.{step_after, turn_of}
 
 -- registers beyond the netlist's own have no enable
 pub beyond_none : (m : MachineData) → IsMachine m → (r : ℕ) → m.own_registers ≤ r → enable_of m r ≡ None

@@ -1,5 +1,6 @@
 -- More digits make no smaller number.
-use Rattle.std.proofs.Common.{◌≡◌, ℕ, ◌+◌, ◌-◌, ◌*◌, ◌<◌, ◌≤◌, List, [], ◌∷◌, length, get_or, drop, drop-cons, add-one, arith, sym, ◌∙◌, refl, ap}
+use Rattle.std.proofs.Common.{◌≡◌, ℕ, ◌+◌, ◌-◌, ◌*◌, ◌<◌, ◌≤◌, List, [], ◌∷◌, length, get_or, drop, drop-cons, add-one, arith, sym}
+use Rattle.std.proofs.Common.{◌∙◌, refl, ap}
 use Rattle.std.proofs.Math.ListN.{drop_of_length-le}
 use Rattle.cg_text.specs.Numbers.{digits_after}
 

@@ -24,7 +24,8 @@ use Rattle.cg_stimulus.specs.Reading.{stimulus}
 use Rattle.cg_stimulus.specs.StimText.{StimText}
 use Rattle.cg_stimulus.proofs.StimExact.{read_is_text}
 use Rattle.cg_tool.specs.Complaints.{library_found, library_trouble, stimulus_found, stimulus_trouble}
-use Rattle.cg_tool.specs.Demo.{IsDemo, PutsDemo, cells_text, lines_text, rows_text, demo_gives, demo_stops, demo_takes, demo_task, demo_wanted, pipeline_found, pipeline_request}
+use Rattle.cg_tool.specs.Demo.{IsDemo, PutsDemo, cells_text, lines_text, rows_text, demo_gives, demo_stops, demo_takes, demo_task}
+use Rattle.cg_tool.specs.Demo.{demo_wanted, pipeline_found, pipeline_request}
 use Rattle.cg_tool.specs.Gate.{gateable_found, request_by}
 use Rattle.cg_tool.specs.Refused.{refused_as, then_found}
 use Rattle.cg_tool.specs.declared.modes.demo.Demo.{Demo}

@@ -1,5 +1,6 @@
 -- What a finished run of `gate` means, from what its files come to.
-use Rattle.std.proofs.Common.{◌≡◌, ℕ, Bool, true, false, IsTrue, List, ◌++◌, Option, Some, Result, Ok, Err, refl, sym, ◌∙◌, ap, subst, None}
+use Rattle.std.proofs.Common.{◌≡◌, ℕ, Bool, true, false, IsTrue, List, ◌++◌, Option, Some, Result, Ok, Err, refl, sym, ◌∙◌, ap}
+use Rattle.std.proofs.Common.{subst, None}
 use Rattle.std.specs.Prelude.{IfSome, IsOkAnd, IsSomeAnd}
 use Rattle.cg_blif_text.specs.BlifText.{BlifText}
 use Rattle.cg_gating.specs.Gating.{where_asked}
@@ -24,7 +25,8 @@ use Rattle.cg_stimulus.proofs.StimExact.{read_is_text}
 use Rattle.cg_words.specs.declared.options.Asked.{Asked}
 use Rattle.cg_words.specs.declared.options.Options.{Options}
 use Rattle.cg_tool.specs.Complaints.{library_trouble, stimulus_found, stimulus_trouble}
-use Rattle.cg_tool.specs.Gate.{GatesAs, gate_output, gate_gives, gate_loads, gate_start, gate_stops, gate_takes, gate_task, request_by, stimulus_asked, wanted_by}
+use Rattle.cg_tool.specs.Gate.{GatesAs, gate_output, gate_gives, gate_loads, gate_start, gate_stops, gate_takes, gate_task}
+use Rattle.cg_tool.specs.Gate.{request_by, stimulus_asked, wanted_by}
 use Rattle.cg_tool.specs.Gated.{AreApart, IsDriven, IsGated, Stand}
 use Rattle.cg_tool.specs.Refused.{refused_as}
 use Rattle.cg_tool.specs.Watching.{Kind}

@@ -1,5 +1,6 @@
 -- What the mode `gate` has read when all files are taken.
-use Rattle.std.proofs.Common.{◌≡◌, ℕ, Bool, true, false, ◌||◌, IsTrue, if◌then◌else◌, List, [], ◌∷◌, Option, None, Some, is_some, Result, Ok, Err, refl, sym, ◌∙◌, ap, subst}
+use Rattle.std.proofs.Common.{◌≡◌, ℕ, Bool, true, false, ◌||◌, IsTrue, if◌then◌else◌, List, [], ◌∷◌, Option, None, Some, is_some}
+use Rattle.std.proofs.Common.{Result, Ok, Err, refl, sym, ◌∙◌, ap, subst}
 use Rattle.std.specs.Prelude.{IsOkAnd}
 use Rattle.cg_cell.specs.Cell.{CellData}
 use Rattle.cg_cell.specs.Name.{is_name}
@@ -19,7 +20,8 @@ use Rattle.cg_run.proofs.Steps.{found_ok, step_end, step_of}
 use Rattle.cg_stimulus.specs.Inputs.{IsFor, Rows}
 use Rattle.cg_words.specs.declared.options.Options.{Options}
 use Rattle.cg_tool.specs.Complaints.{library_found, netlist_read, netlist_trouble}
-use Rattle.cg_tool.specs.Gate.{gate_loads, gate_start, gate_takes, gateable, gateable_found, request_by, unlifted, unprefixed, untested, wanted_by}
+use Rattle.cg_tool.specs.Gate.{gate_loads, gate_start, gate_takes, gateable, gateable_found, request_by, unlifted, unprefixed}
+use Rattle.cg_tool.specs.Gate.{untested, wanted_by}
 use Rattle.cg_tool.specs.NetlistSaid.{netlist_said}
 use Rattle.cg_tool.specs.inner.GateReads.{IsRead}
 use Rattle.cg_tool.specs.Refused.{then_found}

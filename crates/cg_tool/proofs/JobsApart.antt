@@ -1,5 +1,6 @@
 -- The files that a job of `gate` stores have different names.
-use Rattle.std.proofs.Common.{◌≡◌, ◌≢◌, ℕ, Bool, true, false, not, ◌&&◌, IsTrue, if◌then◌else◌, List, [], ◌∷◌, ◌++◌, codes, Option, None, Some, is_some, refl, sym, ◌∙◌, ap, subst, append_assoc}
+use Rattle.std.proofs.Common.{◌≡◌, ◌≢◌, ℕ, Bool, true, false, not, ◌&&◌, IsTrue, if◌then◌else◌, List, [], ◌∷◌, ◌++◌, codes, Option}
+use Rattle.std.proofs.Common.{None, Some, is_some, refl, sym, ◌∙◌, ap, subst, append_assoc}
 use Rattle.std.specs.Prelude.{IfSome, unwrap_or}
 use Rattle.std.specs.List.{list_any}
 use Rattle.std.specs.Option.{option_and_then, option_map, option_to_list}
@@ -9,8 +10,10 @@ use Rattle.clap.specs.Words.{Kinds, Row, all_of, fault_of, first_of, matches_of}
 use Rattle.cg_plan.specs.declared.settings.Settings.{Settings}
 use Rattle.cg_run.specs.Names.{Files, file_of, no_files}
 use Rattle.cg_words.specs.CommandLine.{Values, command_line, values_in}
-use Rattle.cg_words.specs.Jobs.{JobWords, demo_job, gate_files, gate_job, job_in, job_of, job_of_options, job_with, job_without, lrat_job, sim_job}
-use Rattle.cg_words.specs.Options.{are_different, asked_in, gate_options, gate_options_with, has_options, no_options, number_in, option_files, settings_in, watch_in}
+use Rattle.cg_words.specs.Jobs.{JobWords, demo_job, gate_files, gate_job, job_in, job_of, job_of_options, job_with, job_without}
+use Rattle.cg_words.specs.Jobs.{lrat_job, sim_job}
+use Rattle.cg_words.specs.Options.{are_different, asked_in, gate_options, gate_options_with, has_options, no_options, number_in}
+use Rattle.cg_words.specs.Options.{option_files, settings_in, watch_in}
 use Rattle.cg_words.specs.declared.job.Mode.{Mode}
 use Rattle.cg_words.specs.declared.job.Mode.TheVariants.{Demo, Gate, Lrat, Sim}
 use Rattle.cg_words.specs.declared.options.Asked.{Asked}

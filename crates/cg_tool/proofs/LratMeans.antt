@@ -24,7 +24,8 @@ use Rattle.cg_run.specs.declared.role.Role.TheVariants as roles
 use Rattle.cg_run.specs.Writes.{Written, puts}
 use Rattle.cg_run.proofs.Finished.{Finishes}
 use Rattle.cg_run.proofs.Steps.{came, found_ok, held_so, step_end, step_of}
-use Rattle.cg_tool.specs.Lrat.{IsChecked, check_finish, check_output, formula_of, formula_trouble, log_of, log_trouble, lrat_gives, lrat_start, lrat_stops, lrat_takes, lrat_task}
+use Rattle.cg_tool.specs.Lrat.{IsChecked, check_finish, check_output, formula_of, formula_trouble, log_of, log_trouble, lrat_gives}
+use Rattle.cg_tool.specs.Lrat.{lrat_start, lrat_stops, lrat_takes, lrat_task}
 use Rattle.cg_tool.specs.Refused.{refused_as}
 use Rattle.cg_tool.specs.declared.modes.lrat.Lrat.{Lrat}
 

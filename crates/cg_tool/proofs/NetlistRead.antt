@@ -6,7 +6,8 @@ use Rattle.cg_netlist.specs.Circuit.{Circuit}
 use Rattle.cg_netlist.specs.Wiring.{NetName}
 use Rattle.cg_blif.specs.Resuming.{IsFirstOrNoMemory}
 use Rattle.cg_blif_text.specs.declared.fault.BlifFault.{BlifFault}
-use Rattle.cg_blif_text.specs.declared.fault.BlifFault.TheVariants.{BadLine, BadCover, BadLatch, UnknownCell, UnusableCell, PinFault, SecondModel, Net, Limit, NoMemory}
+use Rattle.cg_blif_text.specs.declared.fault.BlifFault.TheVariants.{BadLine, BadCover, BadLatch, UnknownCell, UnusableCell}
+use Rattle.cg_blif_text.specs.declared.fault.BlifFault.TheVariants.{PinFault, SecondModel, Net, Limit, NoMemory}
 use Rattle.cg_blif_text.specs.BlifText.{BlifText}
 use Rattle.cg_blif_text.specs.ReadAs.{AreProper, IsReadAs}
 use Rattle.cg_blif_text.proofs.ReadOnce.{read_as, read_once}

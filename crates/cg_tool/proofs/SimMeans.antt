@@ -1,5 +1,6 @@
 -- What a finished run of `sim` means, from what its files come to.
-use Rattle.std.proofs.Common.{◌≡◌, ℕ, Bool, List, [], ◌∷◌, ◌++◌, length, Option, Some, Result, Ok, Err, refl, sym, ◌∙◌, ap, subst, append-nil}
+use Rattle.std.proofs.Common.{◌≡◌, ℕ, Bool, List, [], ◌∷◌, ◌++◌, length, Option, Some, Result, Ok, Err, refl, sym, ◌∙◌, ap, subst}
+use Rattle.std.proofs.Common.{append-nil}
 use Rattle.std.specs.Prelude.{IsOkAnd, IsSomeAnd}
 use Rattle.std.specs.List.{AllByRecursion, AllZip}
 use Rattle.std.proofs.lemmas.Slice.Zip.{AllZip-long}
@@ -27,7 +28,8 @@ use Rattle.cg_stimulus.specs.Reading.{stimulus}
 use Rattle.cg_stimulus.specs.StimText.{SaysRow, StimText}
 use Rattle.cg_stimulus.proofs.Playing.{start_is, wave_is}
 use Rattle.cg_stimulus.proofs.StimExact.{read_is_text}
-use Rattle.cg_tool.specs.Complaints.{library_found, library_trouble, netlist_read, netlist_trouble, stimulus_found, stimulus_trouble}
+use Rattle.cg_tool.specs.Complaints.{library_found, library_trouble, netlist_read, netlist_trouble, stimulus_found}
+use Rattle.cg_tool.specs.Complaints.{stimulus_trouble}
 use Rattle.cg_tool.specs.NetlistSaid.{netlist_said}
 use Rattle.cg_tool.specs.Refused.{refused_as}
 use Rattle.cg_tool.specs.Sim.{IsSimulated, PlaysAs, sim_gives, sim_start, sim_stops, sim_takes, sim_task}

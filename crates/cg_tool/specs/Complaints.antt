@@ -23,38 +23,55 @@ use Rattle.cg_tool.specs.Refused.{refused_as}
 
 -- why a netlist or a library is refused, as its complaint says it
 abbrev pub net_trouble : NetFault → Trouble
-net_trouble (net_faults.TwoDrivers net) = troubles.Content (record { owner = owners.Netlist; text = codes "netlist: two drivers " ++ net })
-net_trouble (net_faults.NoDriver net) = troubles.Content (record { owner = owners.Netlist; text = codes "netlist: no driver " ++ net })
+net_trouble (net_faults.TwoDrivers net) =
+    troubles.Content (record { owner = owners.Netlist; text = codes "netlist: two drivers " ++ net })
+net_trouble (net_faults.NoDriver net) =
+    troubles.Content (record { owner = owners.Netlist; text = codes "netlist: no driver " ++ net })
 net_trouble (net_faults.Cycle net) = troubles.Content (record { owner = owners.Netlist; text = codes "netlist: cycle " ++ net })
-net_trouble (net_faults.ClockFault net) = troubles.Content (record { owner = owners.Netlist; text = codes "netlist: clock fault " ++ net })
+net_trouble (net_faults.ClockFault net) =
+    troubles.Content (record { owner = owners.Netlist; text = codes "netlist: clock fault " ++ net })
 net_trouble net_faults.NoClock = troubles.Content (record { owner = owners.Netlist; text = codes "netlist: no clock" })
 net_trouble net_faults.NoMemory = troubles.NoMemory
 
 abbrev pub netlist_trouble : BlifFault → Trouble
-netlist_trouble (blif_faults.BadLine line) = troubles.Content (record { owner = owners.Netlist; text = codes "netlist: bad line " ++ decimal line })
-netlist_trouble (blif_faults.BadCover line) = troubles.Content (record { owner = owners.Netlist; text = codes "netlist: bad cover " ++ decimal line })
-netlist_trouble (blif_faults.BadLatch line) = troubles.Content (record { owner = owners.Netlist; text = codes "netlist: bad latch " ++ decimal line })
-netlist_trouble (blif_faults.UnknownCell line) = troubles.Content (record { owner = owners.Netlist; text = codes "netlist: unknown cell " ++ decimal line })
-netlist_trouble (blif_faults.UnusableCell line) = troubles.Content (record { owner = owners.Netlist; text = codes "netlist: unusable cell " ++ decimal line })
-netlist_trouble (blif_faults.PinFault line) = troubles.Content (record { owner = owners.Netlist; text = codes "netlist: pin fault " ++ decimal line })
-netlist_trouble (blif_faults.SecondModel line) = troubles.Content (record { owner = owners.Netlist; text = codes "netlist: second model " ++ decimal line })
+netlist_trouble (blif_faults.BadLine line) =
+    troubles.Content (record { owner = owners.Netlist; text = codes "netlist: bad line " ++ decimal line })
+netlist_trouble (blif_faults.BadCover line) =
+    troubles.Content (record { owner = owners.Netlist; text = codes "netlist: bad cover " ++ decimal line })
+netlist_trouble (blif_faults.BadLatch line) =
+    troubles.Content (record { owner = owners.Netlist; text = codes "netlist: bad latch " ++ decimal line })
+netlist_trouble (blif_faults.UnknownCell line) =
+    troubles.Content (record { owner = owners.Netlist; text = codes "netlist: unknown cell " ++ decimal line })
+netlist_trouble (blif_faults.UnusableCell line) =
+    troubles.Content (record { owner = owners.Netlist; text = codes "netlist: unusable cell " ++ decimal line })
+netlist_trouble (blif_faults.PinFault line) =
+    troubles.Content (record { owner = owners.Netlist; text = codes "netlist: pin fault " ++ decimal line })
+netlist_trouble (blif_faults.SecondModel line) =
+    troubles.Content (record { owner = owners.Netlist; text = codes "netlist: second model " ++ decimal line })
 netlist_trouble (blif_faults.Net fault) = net_trouble fault
 netlist_trouble (blif_faults.Limit limit) = troubles.Limit limit
 netlist_trouble blif_faults.NoMemory = troubles.NoMemory
 
 abbrev pub library_trouble : LibertyFault → Trouble
-library_trouble (liberty_faults.BadToken at) = troubles.Content (record { owner = owners.Library; text = codes "library: bad token " ++ decimal at })
-library_trouble (liberty_faults.BadGroup at) = troubles.Content (record { owner = owners.Library; text = codes "library: bad group " ++ decimal at })
-library_trouble (liberty_faults.BadExpr cell at) = troubles.Content (record { owner = owners.Library; text = codes "library: bad expression " ++ cell ++ 32 ∷ [] ++ decimal at })
-library_trouble (liberty_faults.TwoCells cell) = troubles.Content (record { owner = owners.Library; text = codes "library: two cells " ++ cell })
+library_trouble (liberty_faults.BadToken at) =
+    troubles.Content (record { owner = owners.Library; text = codes "library: bad token " ++ decimal at })
+library_trouble (liberty_faults.BadGroup at) =
+    troubles.Content (record { owner = owners.Library; text = codes "library: bad group " ++ decimal at })
+library_trouble (liberty_faults.BadExpr cell at) =
+    troubles.Content (record { owner = owners.Library; text = codes "library: bad expression " ++ cell ++ 32 ∷ [] ++ decimal at })
+library_trouble (liberty_faults.TwoCells cell) =
+    troubles.Content (record { owner = owners.Library; text = codes "library: two cells " ++ cell })
 library_trouble (liberty_faults.Limit limit) = troubles.Limit limit
 library_trouble liberty_faults.NoMemory = troubles.NoMemory
 
 -- why a stimulus is refused
 abbrev pub stimulus_trouble : StimulusFault → Trouble
-stimulus_trouble (stimulus_faults.BadName line) = troubles.Content (record { owner = owners.Stimulus; text = codes "stimulus: bad name " ++ decimal line })
-stimulus_trouble (stimulus_faults.MissingInput input) = troubles.Content (record { owner = owners.Stimulus; text = codes "stimulus: missing input " ++ input })
-stimulus_trouble (stimulus_faults.BadRow line) = troubles.Content (record { owner = owners.Stimulus; text = codes "stimulus: bad row " ++ decimal line })
+stimulus_trouble (stimulus_faults.BadName line) =
+    troubles.Content (record { owner = owners.Stimulus; text = codes "stimulus: bad name " ++ decimal line })
+stimulus_trouble (stimulus_faults.MissingInput input) =
+    troubles.Content (record { owner = owners.Stimulus; text = codes "stimulus: missing input " ++ input })
+stimulus_trouble (stimulus_faults.BadRow line) =
+    troubles.Content (record { owner = owners.Stimulus; text = codes "stimulus: bad row " ++ decimal line })
 stimulus_trouble (stimulus_faults.Limit limit) = troubles.Limit limit
 stimulus_trouble stimulus_faults.NoMemory = troubles.NoMemory
 
@@ -67,4 +84,5 @@ netlist_read library clock text = refused_as netlist_trouble (netlist_said libra
 
 -- the stimulus that a text is read as for a netlist, or why it is refused
 abbrev pub stimulus_found : Circuit → List ℕ → Result Rows Trouble
-stimulus_found c text = found_as (λ rows. record { inputs = input_names c; rows = rows }) (refused_as stimulus_trouble (stimulus (input_names c) text))
+stimulus_found c text =
+    found_as (λ rows. record { inputs = input_names c; rows = rows }) (refused_as stimulus_trouble (stimulus (input_names c) text))

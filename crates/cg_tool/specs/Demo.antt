@@ -70,13 +70,15 @@ abbrev pub demo_stops : Demo → Option Trouble
 demo_stops state = pipeline_stops (pipeline_found state.size)
 
 abbrev pub demo_gives : Demo → Output → Type 0
-demo_gives state output = IsOkAnd (pipeline_found state.size) (λ pipeline. PutsDemo state.size (pipeline_request pipeline) pipeline.netlist output)
+demo_gives state output =
+    IsOkAnd (pipeline_found state.size) (λ pipeline. PutsDemo state.size (pipeline_request pipeline) pipeline.netlist output)
 
 -- what a run of `demo` does: it loads nothing
 abbrev pub demo_task : ℕ → Task
 demo_task size = task_of demo_takes demo_stops demo_gives (record { size = size }) []
 
--- A pipeline was gated: the generated texts stand for a library, a netlist with its cells, and a stimulus of its data inputs. What is
+-- A pipeline was gated: the generated texts stand for a library, a netlist with its cells, and a stimulus of its data inputs. What
+-- is
 -- said is the summary of the gated netlist on which this stimulus is played. Nothing is stored.
 pub record IsDemo (size : ℕ) (before after : World) (finish : Finish) : Type 0 where
   pub library : List CellData

@@ -25,7 +25,8 @@ use Rattle.cg_tool.specs.Watching.{Kind}
 -- the stimulus that is asked for is the one that the text says for the netlist
 abbrev pub IsDriven : Bool → Option (List ℕ) → Circuit → Option Rows → Type 0
 IsDriven true held c None = ⊥
-IsDriven true held c (Some stimulus) = (stimulus.inputs ≡ input_names c) × IsSomeAnd held (λ text. StimText (input_names c) text stimulus.rows)
+IsDriven true held c (Some stimulus) =
+    (stimulus.inputs ≡ input_names c) × IsSomeAnd held (λ text. StimText (input_names c) text stimulus.rows)
 IsDriven false held c stimulus = stimulus ≡ None
 
 -- the files that are stored have different names
@@ -42,9 +43,11 @@ pub record Stand (names : Role → List ℕ) (texts : Texts) (after : World) : T
 
 -- A netlist was gated: the bytes under LIB are a text that stands for a library, and those under NETLIST are a BLIF text that says
 -- a well-formed netlist with this library and the clock of the words, of which no gating cell is refused and in which no net's name
--- begins with the prefix. Those under the stimulus's name, where one is asked for, stand for rows of its data inputs. What is stored and said
+-- begins with the prefix. Those under the stimulus's name, where one is asked for, stand for rows of its data inputs. What is
+-- stored and said
 -- are the texts that gating gives of it, and they mean what the headline says. Files of different names each hold their text.
-pub record IsGated (options : Options) (kind : Option Kind) (names : Role → List ℕ) (before after : World) (finish : Finish) : Type 0 where
+pub record IsGated (options : Options) (kind : Option Kind) (names : Role → List ℕ) (before after : World)
+    (finish : Finish) : Type 0 where
   pub library : List CellData
   pub read : Circuit
   pub stimulus : Option Rows

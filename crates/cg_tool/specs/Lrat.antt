@@ -56,12 +56,14 @@ check_output v = record { stores = []; said = check_text v; finish = check_finis
 -- why a formula's text and a log's text are refused
 abbrev pub formula_trouble : DimacsFault → Trouble
 formula_trouble dimacs_faults.BadHeader = troubles.Content (record { owner = owners.Stimulus; text = codes "cnf: bad header" })
-formula_trouble (dimacs_faults.BadClause line) = troubles.Content (record { owner = owners.Stimulus; text = codes "cnf: bad clause " ++ decimal line })
+formula_trouble (dimacs_faults.BadClause line) =
+    troubles.Content (record { owner = owners.Stimulus; text = codes "cnf: bad clause " ++ decimal line })
 formula_trouble (dimacs_faults.Limit limit) = troubles.Limit limit
 formula_trouble dimacs_faults.NoMemory = troubles.NoMemory
 
 abbrev pub log_trouble : LratFault → Trouble
-log_trouble (lrat_faults.BadLine line) = troubles.Content (record { owner = owners.Stimulus; text = codes "proof: bad line " ++ decimal line })
+log_trouble (lrat_faults.BadLine line) =
+    troubles.Content (record { owner = owners.Stimulus; text = codes "proof: bad line " ++ decimal line })
 log_trouble lrat_faults.NoMemory = troubles.NoMemory
 
 abbrev pub formula_of : List ℕ → Result Formula Trouble

@@ -32,7 +32,8 @@ task_by kinds job = task_in kinds job.mode job.options
 -- Words that ask for nothing are complained of, and nothing else is done. Want of memory may come in their place.
 pub record RefusesWords (before after : World) (result : Status) : Type 0 where
   pub has_memory : Bool
-  pub complains : Complains (complaint_line (if has_memory then codes "usage" else codes "no memory")) (if has_memory then statuses.Usage else statuses.NoMemory) before after result
+  pub complains : Complains (complaint_line (if has_memory then codes "usage" else codes "no memory"))
+      (if has_memory then statuses.Usage else statuses.NoMemory) before after result
 
 abbrev pub RunsWords : (List ℕ → Result (List ℕ) LoadFault → Type 0) → List Kind → Option JobWords → World → World → Status → Type 0
 RunsWords gave kinds None before after result = RefusesWords before after result

@@ -50,7 +50,8 @@ trouble_in (Err trouble) = Some trouble
 -- all are taken, and a fault of it stops the mode.
 abbrev pub sim_takes : Sim → Role → List ℕ → Result Sim Trouble
 sim_takes state roles.Library text = found_as (λ library. record state { library = library }) (library_found text)
-sim_takes state roles.Netlist text = found_as (λ netlist. record state { netlist = Some netlist }) (netlist_read state.library (state.options).clock text)
+sim_takes state roles.Netlist text =
+    found_as (λ netlist. record state { netlist = Some netlist }) (netlist_read state.library (state.options).clock text)
 sim_takes state roles.Stimulus text = Ok (record state { stimulus = text })
 sim_takes state role text = Ok state
 
@@ -58,7 +59,8 @@ abbrev pub sim_stops : Sim → Option Trouble
 sim_stops state = option_and_then (λ c. trouble_in (stimulus_found c state.stimulus)) state.netlist
 
 abbrev pub sim_gives : Option Kind → Sim → Output → Type 0
-sim_gives kind state output = IsSomeAnd state.netlist (λ c. IsOkAnd (stimulus_found c state.stimulus) (λ stimulus. PlaysAs kind c stimulus output))
+sim_gives kind state output =
+    IsSomeAnd state.netlist (λ c. IsOkAnd (stimulus_found c state.stimulus) (λ stimulus. PlaysAs kind c stimulus output))
 
 -- nothing is read yet; the words may name a clock
 abbrev pub sim_start : Option NetName → Sim
@@ -66,12 +68,14 @@ sim_start clock = record { options = record { clock = clock }; library = []; net
 
 -- what a run of `sim` does: the library is loaded and read, then the netlist, then the stimulus
 abbrev pub sim_task : Option NetName → Option Kind → Task
-sim_task clock kind = task_of sim_takes sim_stops (sim_gives kind) (sim_start clock) (roles.Library ∷ roles.Netlist ∷ roles.Stimulus ∷ [])
+sim_task clock kind =
+    task_of sim_takes sim_stops (sim_gives kind) (sim_start clock) (roles.Library ∷ roles.Netlist ∷ roles.Stimulus ∷ [])
 
 -- A stimulus was played: the bytes under LIB are a text that stands for a library, those under NETLIST are a BLIF text that says
 -- a well-formed netlist with this library and the clock of the words, and those under STIM are a text that stands for rows of
 -- its data inputs. There is one history on which these rows are played, and what is said is its lines. Nothing is stored.
-pub record IsSimulated (clock : Option NetName) (kind : Option Kind) (names : Role → List ℕ) (before after : World) (finish : Finish) : Type 0 where
+pub record IsSimulated (clock : Option NetName) (kind : Option Kind) (names : Role → List ℕ) (before after : World)
+    (finish : Finish) : Type 0 where
   pub library : List CellData
   pub netlist : Circuit
   pub rows : List (List Bool)

@@ -1,5 +1,6 @@
 -- Runs made one after another, and faults on their way.
-use Rattle.std.proofs.Common.{◌≡◌, ℕ, ◌<◌, ◌≤◌, Bool, List, [], ◌∷◌, map, slice_index_or, Result, Ok, Err, IfErr, IfOk, refl, sym, ap, subst, arith, inl, inr, length}
+use Rattle.std.proofs.Common.{◌≡◌, ℕ, ◌<◌, ◌≤◌, Bool, List, [], ◌∷◌, map, slice_index_or, Result, Ok, Err, IfErr, IfOk, refl, sym}
+use Rattle.std.proofs.Common.{ap, subst, arith, inl, inr, length}
 use Rattle.std.specs.List.{All}
 use Rattle.std.proofs.lemmas.List.Elements.{All-head, All-tail}
 use Rattle.cg_cell.specs.Build.{AndCall, Evaluates, RefusesAt, Run, Somewhere, Stops, chain}

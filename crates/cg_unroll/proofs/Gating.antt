@@ -1,5 +1,6 @@
 -- What an added gate is, as operations of the list.
-use Rattle.std.proofs.Common.{◌≡◌, ℕ, ◌&&◌, List, [], ◌∷◌, length, slice_index_or, Result, Ok, Err, IfOk, IsTrue, refl, sym, ◌∙◌, subst, arith}
+use Rattle.std.proofs.Common.{◌≡◌, ℕ, ◌&&◌, List, [], ◌∷◌, length, slice_index_or, Result, Ok, Err, IfOk, IsTrue, refl, sym, ◌∙◌}
+use Rattle.std.proofs.Common.{subst, arith}
 use Rattle.cg_cell.specs.Build.{Run, build_and, build_or}
 use Rattle.cg_cell.specs.Domain.{Makes, Seen, Stands}
 use Rattle.cg_cell.specs.Eval.{build_term}

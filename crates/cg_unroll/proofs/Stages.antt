@@ -1,16 +1,19 @@
 -- A claim is built stage by stage: what the program's tables hold leads to the claim's list and goal.
-use Rattle.std.proofs.Common.{◌≡◌, ℕ, ◌+◌, ◌≤◌, Bool, true, false, not, ◌&&◌, ◌||◌, if◌then◌else◌, List, ◌++◌, length, nat_eq, slice_index_or, refl, sym, ◌∙◌, ap, subst, arith}
+use Rattle.std.proofs.Common.{◌≡◌, ℕ, ◌+◌, ◌≤◌, Bool, true, false, not, ◌&&◌, ◌||◌, if◌then◌else◌, List, ◌++◌, length, nat_eq}
+use Rattle.std.proofs.Common.{slice_index_or, refl, sym, ◌∙◌, ap, subst, arith}
 use Rattle.std.specs.List.{filter, flat_map}
 use Rattle.std.proofs.lemmas.Bool.{lt-ltb, or_right}
 use Rattle.cg_cell.specs.Domain.{Seen}
 use Rattle.cg_aig.specs.declared.fault.AigFault.{AigFault}
 use Rattle.cg_netlist.specs.Circuit.{data_inputs, is_in}
 use Rattle.cg_machine.specs.Machine.{IsMachine, MachineData}
-use Rattle.cg_claim.specs.Build.{Table, after_state_table, after_table, aig_values, before_table, changed_state, changed_table, copies, goal_run, lay_states, leaf_value, question_run, reached_cells, size, start_nets}
+use Rattle.cg_claim.specs.Build.{Table, after_state_table, after_table, aig_values, before_table, changed_state, changed_table}
+use Rattle.cg_claim.specs.Build.{copies, goal_run, lay_states, leaf_value, question_run, reached_cells, size, start_nets}
 use Rattle.cg_claim.specs.declared.leaf.LeafSource.TheVariants.{Input as InputOf, Register as RegisterOf}
 use Rattle.cg_claim.specs.Leaves.{Leaf, is_reached, leaves_of}
 use Rattle.cg_claim.specs.Question.{After, Before, Changed, Copy, Question}
-use Rattle.cg_claim.specs.Reach.{after_nets, after_states, before_nets, changed_nets, changed_states, enable_nets, feeds, origin_nets, registers_of, sides_ask, sides_nets}
+use Rattle.cg_claim.specs.Reach.{after_nets, after_states, before_nets, changed_nets, changed_states, enable_nets, feeds}
+use Rattle.cg_claim.specs.Reach.{origin_nets, registers_of, sides_ask, sides_nets}
 use Rattle.cg_claim.specs.Tables.{SameOn}
 use Rattle.cg_claim.specs.Violates.{SidesFit}
 use Rattle.cg_claim.proofs.LeafOrder.{leaf_unreached}

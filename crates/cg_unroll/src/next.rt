@@ -1,6 +1,7 @@
 //! The next bit of a register in one copy.
 
-ghost use Rattle.std.specs.Prelude.{◌≡◌, ◌<◌, ◌≤◌, ◌+◌, ◌++◌, ◌∷◌, [], ℕ, Some, count_by, length, map, slice_get, slice_index_or, IfErr, IfOk, IsTrue, OnOk};
+ghost use Rattle.std.specs.Prelude.{◌≡◌, ◌<◌, ◌≤◌, ◌+◌, ◌++◌, ◌∷◌, [], ℕ, Some, count_by, length, map, slice_get, slice_index_or};
+ghost use Rattle.std.specs.Prelude.{IfErr, IfOk, IsTrue, OnOk};
 ghost use Rattle.cg_cell.specs.Domain.{AreValid};
 ghost use Rattle.cg_cell.specs.Eval.{build_term};
 ghost use Rattle.cg_cell.specs.Pins.{is_data};

@@ -7,8 +7,11 @@ use Rattle.clap.specs.Words.{Kinds, Text, all_of, fault_of, first_of, matches_of
 use Rattle.cg_plan.specs.declared.settings.Settings.{Settings}
 use Rattle.cg_run.specs.Names.{Files, no_files}
 use Rattle.cg_words.specs.CommandLine.{Values, command_line, values_in}
-use Rattle.cg_words.specs.Jobs.{JobWords, demo_job, gate_files, gate_job, job_in, job_of, job_of_options, job_with, job_without, lrat_job, sim_job}
-use Rattle.cg_words.specs.Options.{NamesTest, are_different, asked_in, default_prefix, gate_options, gate_options_with, has_gate_options, has_options, is_apart, is_named, no_options, number_in, number_or, option_files, settings_in, settings_with, sim_options, sim_options_with, watch_in}
+use Rattle.cg_words.specs.Jobs.{JobWords, demo_job, gate_files, gate_job, job_in, job_of, job_of_options, job_with, job_without}
+use Rattle.cg_words.specs.Jobs.{lrat_job, sim_job}
+use Rattle.cg_words.specs.Options.{NamesTest, are_different, asked_in, default_prefix, gate_options, gate_options_with}
+use Rattle.cg_words.specs.Options.{has_gate_options, has_options, is_apart, is_named, no_options, number_in, number_or}
+use Rattle.cg_words.specs.Options.{option_files, settings_in, settings_with, sim_options, sim_options_with, watch_in}
 use Rattle.cg_words.specs.declared.job.Mode.{Mode}
 use Rattle.cg_words.specs.declared.job.Mode.TheVariants.{Demo, Gate, Lrat, Sim}
 use Rattle.cg_words.specs.declared.options.Options.{Options}

@@ -1,5 +1,6 @@
 -- The words of a line, by what clap says of them.
-use Rattle.std.proofs.Common.{◌≡◌, ℕ, true, false, List, [], ◌∷◌, codes, Option, None, Some, Result, Ok, Err, refl, sym, ◌∙◌, ap, subst}
+use Rattle.std.proofs.Common.{◌≡◌, ℕ, true, false, List, [], ◌∷◌, codes, Option, None, Some, Result, Ok, Err, refl, sym, ◌∙◌, ap}
+use Rattle.std.proofs.Common.{subst}
 use Rattle.std.specs.Prelude.{IfOk, IsSomeAnd, unwrap_or}
 use Rattle.std.specs.Option.{option_and_then, option_map}
 use Rattle.clap.specs.Built.{AddsArg}

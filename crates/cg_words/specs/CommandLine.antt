@@ -22,7 +22,9 @@ with_options app [] = app
 with_options app (name ∷ names) = with_options (with_option app name) names
 
 abbrev pub option_names : List Text
-option_names = codes "stim" ∷ codes "proof" ∷ codes "report" ∷ codes "min" ∷ codes "width" ∷ codes "rounds" ∷ codes "clock" ∷ codes "prefix" ∷ codes "test" ∷ codes "watch" ∷ []
+option_names =
+    codes "stim" ∷ codes "proof" ∷ codes "report" ∷ codes "min" ∷ codes "width" ∷ codes "rounds" ∷ codes "clock" ∷ codes "prefix"
+    ∷ codes "test" ∷ codes "watch" ∷ []
 
 abbrev pub command_line : App
 command_line = with_options (with_rule (with_rule (new_app (codes "clockgate")) mode_rule) files_rule) option_names

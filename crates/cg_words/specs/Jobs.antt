@@ -25,33 +25,47 @@ job_words job = record { mode = job.mode; files = files_of job.names; options = 
 abbrev pub job_of_options : Mode → Files → Option Options → Option JobWords
 job_of_options mode files options = option_map (λ options. record { mode = mode; files = files; options = options }) options
 
--- `gate LIB NETLIST OUT` with `--stim F`, `--proof F`, `--report F`, `--min N`, `--width N`, `--rounds N`, `--clock NAME`, `--prefix P`,
+-- `gate LIB NETLIST OUT` with `--stim F`, `--proof F`, `--report F`, `--min N`, `--width N`, `--rounds N`, `--clock NAME`,
+-- `--prefix P`,
 -- `--test NAME` and `--watch NAME`, where all files are different
 abbrev pub gate_files : Text → Text → Text → Values → Files
 gate_files library netlist out values =
-    record no_files { library = library; netlist = netlist; stimulus = unwrap_or values.stim []; out = out; proof = unwrap_or values.proof []; report = unwrap_or values.report [] }
+    record no_files {
+      library = library;
+      netlist = netlist;
+      stimulus = unwrap_or values.stim [];
+      out = out;
+      proof = unwrap_or values.proof [];
+      report = unwrap_or values.report [];
+    }
 
 abbrev pub gate_job : List Text → List Text → Values → Option JobWords
 gate_job watchers (library ∷ netlist ∷ out ∷ []) values =
-    if are_different (library ∷ netlist ∷ out ∷ option_files values) then job_of_options Gate (gate_files library netlist out values) (gate_options watchers values) else None
+    if are_different (library ∷ netlist ∷ out ∷ option_files values)
+    then job_of_options Gate (gate_files library netlist out values) (gate_options watchers values) else None
 gate_job watchers files values = None
 
 -- `sim LIB NETLIST STIM` with `--clock NAME` and `--watch NAME`, where all files are different
 abbrev pub sim_job : List Text → List Text → Values → Option JobWords
 sim_job watchers (library ∷ netlist ∷ stimulus ∷ []) values =
-    if are_different (library ∷ netlist ∷ stimulus ∷ []) then job_of_options Sim (record no_files { library = library; netlist = netlist; stimulus = stimulus }) (sim_options watchers values) else None
+    if are_different (library ∷ netlist ∷ stimulus ∷ [])
+    then job_of_options Sim (record no_files { library = library; netlist = netlist; stimulus = stimulus })
+    (sim_options watchers values) else None
 sim_job watchers files values = None
 
 -- `lrat CNF PROOF`, with two different files and no option
 abbrev pub lrat_job : List Text → Values → Option JobWords
 lrat_job (formula ∷ log ∷ []) values =
-    if are_different (formula ∷ log ∷ []) then job_of_options Lrat (record no_files { formula = formula; log = log }) (if has_options values then None else Some no_options) else None
+    if are_different (formula ∷ log ∷ [])
+    then job_of_options Lrat (record no_files { formula = formula; log = log })
+    (if has_options values then None else Some no_options) else None
 lrat_job files values = None
 
 -- `demo N`, with a number from 1 to 4,096 and no option
 abbrev pub demo_job : List Text → Values → Option JobWords
 demo_job (size ∷ []) values =
-    option_and_then (λ size. job_of_options (Demo size) no_files (if has_options values then None else Some no_options)) (number_in 1 4096 size)
+    option_and_then (λ size. job_of_options (Demo size) no_files (if has_options values then None else Some no_options))
+    (number_in 1 4096 size)
 demo_job files values = None
 
 -- the job that a mode's word, the files and the options ask for, with the names of the watchers that there are
@@ -65,7 +79,8 @@ job_with watchers files values word =
 
 -- the job that the matches of the command ask for
 abbrev pub job_in : List Text → List Row → Option JobWords
-job_in watchers rows = option_and_then (job_with watchers (unwrap_or (all_of (codes "FILES") rows) []) (values_in rows)) (first_of (codes "MODE") rows)
+job_in watchers rows =
+    option_and_then (job_with watchers (unwrap_or (all_of (codes "FILES") rows) []) (values_in rows)) (first_of (codes "MODE") rows)
 
 -- the job of words in which the command finds these faults
 abbrev pub job_without : Kinds → Option JobWords → Option JobWords

@@ -1,5 +1,6 @@
 -- What the options of a line say.
-use Rattle.std.specs.Prelude.{◌≡◌, ℕ, nat_eq, Bool, true, false, not, ◌&&◌, ◌||◌, if◌then◌else◌, List, [], ◌∷◌, ◌++◌, nat_le, codes, Option, None, Some, is_none, is_some, unwrap_or}
+use Rattle.std.specs.Prelude.{◌≡◌, ℕ, nat_eq, Bool, true, false, not, ◌&&◌, ◌||◌, if◌then◌else◌, List, [], ◌∷◌, ◌++◌, nat_le, codes}
+use Rattle.std.specs.Prelude.{Option, None, Some, is_none, is_some, unwrap_or}
 use Rattle.std.specs.List.{list_any, position_from, starts_with}
 use Rattle.std.specs.Option.{option_map, option_to_list}
 use Rattle.std.specs.Str.{bytes_eq}
@@ -33,7 +34,9 @@ settings_with test (Some min) (Some width) (Some rounds) = Some (record { min = 
 settings_with test _ _ _ = None
 
 abbrev pub settings_in : Values → Option Settings
-settings_in values = settings_with (is_some values.test) (number_or 1 1 1024 values.min) (number_or 32 1 256 values.width) (number_or 4 0 16 values.rounds)
+settings_in values =
+    settings_with (is_some values.test) (number_or 1 1 1024 values.min) (number_or 32 1 256 values.width)
+    (number_or 4 0 16 values.rounds)
 
 abbrev pub default_settings : Settings
 default_settings = record { min = 1; width = 32; rounds = 4; test = false }
@@ -72,21 +75,43 @@ asked_in values = record { stimulus = is_some values.stim; proof = is_some value
 
 -- whether options are given that `gate` alone has; and options of any mode
 abbrev pub has_gate_options : Values → Bool
-has_gate_options values = is_some values.stim || is_some values.proof || is_some values.report || is_some values.min || is_some values.width || is_some values.rounds || is_some values.prefix || is_some values.test
+has_gate_options values =
+    is_some values.stim || is_some values.proof || is_some values.report || is_some values.min || is_some values.width
+    || is_some values.rounds || is_some values.prefix || is_some values.test
 
 abbrev pub has_options : Values → Bool
 has_options values = is_some values.clock || is_some values.watch || has_gate_options values
 
 -- what a mode is done with that has no options
 abbrev pub no_options : Options
-no_options = record { clock = None; prefix = default_prefix; test = None; settings = default_settings; watch = None; asked = record { stimulus = false; proof = false; report = false } }
+no_options =
+    record {
+      clock = None;
+      prefix = default_prefix;
+      test = None;
+      settings = default_settings;
+      watch = None;
+      asked = record { stimulus = false; proof = false; report = false };
+    }
 
--- What the options of `gate` say. The values of `--clock`, `--prefix` and `--test` are names, that of `--test` does not begin with the
+-- What the options of `gate` say. The values of `--clock`, `--prefix` and `--test` are names, that of `--test` does not begin with
+-- the
 -- prefix, whether this is given or is the default, and there is a watcher only with a stimulus.
 abbrev pub gate_options_with : Values → Option Settings → Option (Option ℕ) → Option Options
 gate_options_with values (Some settings) (Some watch) =
-    if is_named values.clock && (is_named values.prefix && (is_named values.test && (is_apart (unwrap_or values.prefix default_prefix) values.test && (is_none values.watch || is_some values.stim))))
-    then Some (record { clock = values.clock; prefix = unwrap_or values.prefix default_prefix; test = values.test; settings = settings; watch = watch; asked = asked_in values })
+    if is_named values.clock
+    && (is_named values.prefix
+    && (is_named values.test
+    && (is_apart (unwrap_or values.prefix default_prefix) values.test && (is_none values.watch || is_some values.stim))))
+    then Some
+    (record {
+      clock = values.clock;
+      prefix = unwrap_or values.prefix default_prefix;
+      test = values.test;
+      settings = settings;
+      watch = watch;
+      asked = asked_in values;
+    })
     else None
 gate_options_with values _ _ = None
 
@@ -95,7 +120,9 @@ gate_options watchers values = gate_options_with values (settings_in values) (wa
 
 -- what those of `sim` say
 abbrev pub sim_options_with : Values → Option (Option ℕ) → Option Options
-sim_options_with values (Some watch) = if is_named values.clock && not (has_gate_options values) then Some (record no_options { clock = values.clock; watch = watch }) else None
+sim_options_with values (Some watch) =
+    if is_named values.clock && not (has_gate_options values) then Some (record no_options { clock = values.clock; watch = watch })
+    else None
 sim_options_with values None = None
 
 abbrev pub sim_options : List Text → Values → Option Options

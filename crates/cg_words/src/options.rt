@@ -4,8 +4,10 @@ ghost use Rattle.std.specs.Prelude.{◌≡◌, ◌++◌, ◌<◌, ◌^◌, [], c
 ghost use Rattle.std.specs.List.{list_any, position_from};
 ghost use Rattle.std.specs.Str.{bytes_eq};
 ghost use Rattle.std.specs.Option.{option_map, option_to_list};
-ghost use Rattle.cg_words.specs.Options.{are_different, asked_in, default_prefix, gate_options, has_gate_options, has_options, is_apart};
-ghost use Rattle.cg_words.specs.Options.{is_named, no_options, number_in, number_or, option_files, settings_in, sim_options, watch_in};
+ghost use Rattle.cg_words.specs.Options.{are_different, asked_in, default_prefix, gate_options, has_gate_options, has_options};
+ghost use Rattle.cg_words.specs.Options.{is_apart};
+ghost use Rattle.cg_words.specs.Options.{is_named, no_options, number_in, number_or, option_files, settings_in, sim_options};
+ghost use Rattle.cg_words.specs.Options.{watch_in};
 ghost use Rattle.cg_words.specs.Seen.{values_of};
 
 use crate::values::OptionWords;

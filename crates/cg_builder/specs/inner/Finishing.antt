@@ -12,4 +12,6 @@ has_no_clock n = nat_eq (length (rooted n)) 0 && (nat_lt 0 (length n.registers) 
 
 -- of the nets that fail a test the first is answered with its fault, or none where none fails, or want of memory
 abbrev pub FindsFirstFault : Numbers → (NetName → NetFault) → (ℕ → Bool) → Result (Unit {0}) NetFault → Type 0
-FindsFirstFault n fault test result = MatchResult result (λ _. IsFirst (length n.names) test None) (λ found. (found ≡ NoMemory) ⊎ ((net : ℕ) × (found ≡ fault (net_name n.names net)) × IsFirst (length n.names) test (Some net)))
+FindsFirstFault n fault test result =
+    MatchResult result (λ _. IsFirst (length n.names) test None)
+    (λ found. (found ≡ NoMemory) ⊎ ((net : ℕ) × (found ≡ fault (net_name n.names net)) × IsFirst (length n.names) test (Some net)))

@@ -45,7 +45,8 @@ pub record PutsGater (old new : List NetName) (gaters more : List (GatingCell �
   pub within : GaterWithin (length new) gater
   pub put : more ≡ gaters ++ gater ∷ []
 
-pub record PutsRegister (old new : List NetName) (registers more : List (RegisterCell ℕ (Option ℕ))) (said : RegisterCell NetName (Option NetName)) : Type 0 where
+pub record PutsRegister (old new : List NetName) (registers more : List (RegisterCell ℕ (Option ℕ)))
+    (said : RegisterCell NetName (Option NetName)) : Type 0 where
   pub names : new ≡ with_names old (mentioned (Register said))
   pub few : length new ≤ MOST_NETS
   pub register : RegisterCell ℕ (Option ℕ)
@@ -56,4 +57,5 @@ pub record PutsRegister (old new : List NetName) (registers more : List (Registe
 
 -- why a register is not put behind others
 abbrev pub IsRegisterFault : List NetName → ℕ → AddFault → Type 0
-IsRegisterFault names registers fault = IsMentionFault names fault ⊎ ((fault ≡ Passes Registers) × (length names ≤ MOST_NETS) × (registers ≡ MOST_REGISTERS))
+IsRegisterFault names registers fault =
+    IsMentionFault names fault ⊎ ((fault ≡ Passes Registers) × (length names ≤ MOST_NETS) × (registers ≡ MOST_REGISTERS))

@@ -1,13 +1,15 @@
 -- What a builder keeps: what parts have said, by the numbers of their nets. The number of a net is its place in the order of
 -- first mention. These definitions tie code to what is said by name; no contract of a public call cites them.
-use Rattle.std.specs.Prelude.{◌≢◌, ℕ, ◌<◌, ◌==◌, nat_lt, nat_eq, Bool, false, not, ◌&&◌, ◌||◌, List, [], ◌++◌, map, length, slice_get, unwrap_or, Option, is_none}
+use Rattle.std.specs.Prelude.{◌≢◌, ℕ, ◌<◌, ◌==◌, nat_lt, nat_eq, Bool, false, not, ◌&&◌, ◌||◌, List, [], ◌++◌, map, length}
+use Rattle.std.specs.Prelude.{slice_get, unwrap_or, Option, is_none}
 use Rattle.std.specs.List.{AllByRecursion, AllPairs, count_by, filter, flat_map, list_any, position_from, position_or_len}
 use Rattle.std.specs.Option.{option_map_or, option_or, option_to_list}
 use Rattle.cg_netlist.specs.Circuit.{Circuit, LogicCell, GatingCell, RegisterCell, asked_nets, is_in, shown_nets}
 use Rattle.cg_netlist.specs.Places.{CellWithin}
 use Rattle.cg_netlist.specs.Ranks.{driving_cell, rank_of, rank_within}
 use Rattle.cg_parts.specs.Said.{Said}
-use Rattle.cg_netlist.specs.Wiring.{NetName, Wiring, among, circuit, driven_by_cells, driven_by_gaters, driven_by_registers, map_cell, map_gater, map_open, map_wiring, net_name, order_of, used_by}
+use Rattle.cg_netlist.specs.Wiring.{NetName, Wiring, among, circuit, driven_by_cells, driven_by_gaters, driven_by_registers}
+use Rattle.cg_netlist.specs.Wiring.{map_cell, map_gater, map_open, map_wiring, net_name, order_of, used_by}
 
 pub record Numbers : Type 0 where
   pub names : List NetName
@@ -51,14 +53,18 @@ pub record AreNumbers (n : Numbers) : Type 0 where
   pub registers : AllByRecursion (OpenWithin (length n.names)) n.registers
 
 -- what drives nets, what uses them, what gating cells drive, what stands at clock pins, and where the clock may come from
-abbrev pub drivers_by : {N K : Type 0} → (N → N → Bool) → List N → List N → List (LogicCell N) → List (GatingCell N) → List (RegisterCell N K) → List N
-drivers_by same inputs clocks cells gaters registers = inputs ++ filter (λ net. not (among same inputs net)) clocks ++ driven_by_cells cells ++ driven_by_gaters gaters ++ driven_by_registers registers
+abbrev pub drivers_by : {N K : Type 0} → (N → N → Bool) → List N → List N → List (LogicCell N) → List (GatingCell N) →
+    List (RegisterCell N K) → List N
+drivers_by same inputs clocks cells gaters registers =
+    inputs ++ filter (λ net. not (among same inputs net)) clocks ++ driven_by_cells cells ++ driven_by_gaters gaters
+    ++ driven_by_registers registers
 
 abbrev pub pins_by : {N : Type 0} → List (GatingCell N) → List (RegisterCell N (Option N)) → List N
 pins_by gaters registers = map (λ gater. gater.clock) gaters ++ flat_map (λ r. option_to_list r.clock) registers
 
 abbrev pub roots_by : {N : Type 0} → (N → N → Bool) → List N → List (GatingCell N) → List (RegisterCell N (Option N)) → List N
-roots_by same clocks gaters registers = clocks ++ filter (λ net. not (among same (driven_by_gaters gaters) net)) (pins_by gaters registers)
+roots_by same clocks gaters registers =
+    clocks ++ filter (λ net. not (among same (driven_by_gaters gaters) net)) (pins_by gaters registers)
 
 abbrev pub driving : Numbers → List ℕ
 driving n = drivers_by nat_eq n.inputs n.clocks n.cells n.gaters n.registers
@@ -97,7 +103,8 @@ is_behind_cycle n net = option_map_or (λ k. is_none (rank_of n.cells k)) (drivi
 
 -- a place where the clock may come from is neither input nor declared, or comes behind another such place, or is used for its bit
 abbrev pub is_bad_root : Numbers → ℕ → Bool
-is_bad_root n net = (not (is_in (n.inputs ++ n.clocks) net) || list_any (λ other. nat_lt other net) (rooted n)) || is_in (used n) net
+is_bad_root n net =
+    (not (is_in (n.inputs ++ n.clocks) net) || list_any (λ other. nat_lt other net) (rooted n)) || is_in (used n) net
 
 -- the output of a gating cell is used for its bit, or the chain of clock pins up from it goes round
 abbrev pub is_bad_gate : Numbers → ℕ → Bool
@@ -112,10 +119,26 @@ abbrev pub clock_number : Numbers → Option ℕ
 clock_number n = slice_get (rooted n) 0
 
 abbrev pub on_number : Option ℕ → RegisterCell ℕ (Option ℕ) → RegisterCell ℕ ℕ
-on_number clock r = record { inputs = r.inputs; outputs = r.outputs; pins = r.pins; clock = unwrap_or (option_or r.clock clock) 0; kind = r.kind; init = r.init }
+on_number clock r =
+    record {
+      inputs = r.inputs;
+      outputs = r.outputs;
+      pins = r.pins;
+      clock = unwrap_or (option_or r.clock clock) 0;
+      kind = r.kind;
+      init = r.init;
+    }
 
 abbrev pub wired_numbers : Numbers → Wiring ℕ
-wired_numbers n = record { inputs = n.inputs; clock = clock_number n; outputs = n.outputs; cells = n.cells; gaters = n.gaters; registers = map (on_number (clock_number n)) n.registers }
+wired_numbers n =
+    record {
+      inputs = n.inputs;
+      clock = clock_number n;
+      outputs = n.outputs;
+      cells = n.cells;
+      gaters = n.gaters;
+      registers = map (on_number (clock_number n)) n.registers;
+    }
 
 -- the nets in net order, the place of a net there, and the netlist with its nets numbered so
 abbrev pub ordered_numbers : Numbers → List ℕ

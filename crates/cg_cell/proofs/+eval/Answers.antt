@@ -1,4 +1,5 @@
-use Rattle.std.proofs.Common.{◌≡◌, ◌<◌, ◌+◌, ℕ, Bool, ◌∙◌, ◌∷◌, ◌++◌, [], IsTrue, List, arith, drop, length, take, map, rules, ap, subst, sym}
+use Rattle.std.proofs.Common.{◌≡◌, ◌<◌, ◌+◌, ℕ, Bool, ◌∙◌, ◌∷◌, ◌++◌, [], IsTrue, List, arith, drop, length, take, map, rules, ap}
+use Rattle.std.proofs.Common.{subst, sym}
 use Rattle.std.specs.Prelude.{Option, Some, nat_lt, option_map}
 use Rattle.std.proofs.lemmas.List.{length-map, take_all}
 use Rattle.std.proofs.lemmas.Bool.{ltb-true}
@@ -15,7 +16,8 @@ use Rattle.cg_cell.specs.Term.{Term, Input, inverse_times, term_value}
 use Rattle.cg_cell.specs.Eval.{bits_at, build_term, so_far}
 use Rattle.cg_cell.proofs.Building.{keeps_then}
 use Rattle.cg_cell.proofs.Operations.{on_err}
-use Rattle.cg_cell.proofs.Evals.{Going, going_more, input_evaluates, inverses_evaluate, inverses_stop, join_stops, none_stands, number_at, operand_stops, terms_more, terms_split, valid_then}
+use Rattle.cg_cell.proofs.Evals.{Going, going_more, input_evaluates, inverses_evaluate, inverses_stop, join_stops, none_stands}
+use Rattle.cg_cell.proofs.Evals.{number_at, operand_stops, terms_more, terms_split, valid_then}
 use Rattle.cg_cell.proofs.+eval.Goals as goal
 
 pub expr::Expr::eval-returns-in-Variable-clause-built : goal.expr::Expr::eval-returns-in-Variable-clause-built

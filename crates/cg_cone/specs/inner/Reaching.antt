@@ -19,7 +19,8 @@ pub record IsReached (c : Circuit) (roots : List ℕ) (next : ℕ) (found : List
 
 -- the cell at place p of an order has net y as its output; register r shows its bit at net y
 abbrev pub cell_shows : Circuit → List ℕ → ℕ → ℕ → Bool
-cell_shows c order p y = option_map_or (λ k. option_map_or (λ cell. nat_eq cell.output y) (slice_get c.cells k) false) (slice_get order p) false
+cell_shows c order p y =
+    option_map_or (λ k. option_map_or (λ cell. nat_eq cell.output y) (slice_get c.cells k) false) (slice_get order p) false
 
 abbrev pub register_shows : Circuit → ℕ → ℕ → Bool
 register_shows c r y = option_map_or (λ cell. is_in (shown_nets cell) y) (slice_get c.registers r) false

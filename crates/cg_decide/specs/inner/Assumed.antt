@@ -6,7 +6,8 @@ use Rattle.cg_aig.specs.Aig.{inverse, lit_bit, node_values, nodes}
 -- a literal of the list that is equal to a node where the assumed literal is 1
 pub record IsSameThere (s : Seen) (assumed node a : ℕ) : Type 0 where
   pub valid : a < 2 * nodes s
-  pub same : (bits : List Bool) → lit_bit (node_values s bits) assumed ≡ true → lit_bit (node_values s bits) a ≡ slice_index_or (node_values s bits) node false
+  pub same : (bits : List Bool) → lit_bit (node_values s bits) assumed ≡ true →
+      lit_bit (node_values s bits) a ≡ slice_index_or (node_values s bits) node false
 
 -- the first nodes, each with such a literal
 abbrev pub Agree : Seen → ℕ → List ℕ → Type 0
@@ -18,4 +19,5 @@ followed same a = if a % 2 == 0 then slice_index_or same (a / 2) 0 else inverse 
 
 -- one literal is 0 wherever another is 1
 abbrev pub Excludes : Seen → ℕ → ℕ → Type 0
-Excludes s assumed other = (bits : List Bool) → lit_bit (node_values s bits) assumed ≡ true → lit_bit (node_values s bits) other ≡ false
+Excludes s assumed other = (bits : List Bool) → lit_bit (node_values s bits) assumed ≡ true →
+    lit_bit (node_values s bits) other ≡ false

@@ -14,7 +14,8 @@ row_of (b ∷ bits) = one_if b + 2 * row_of bits
 
 -- a truth table of a function of n bits: each row's bit is the function's value at the bits that stand there
 abbrev pub IsTruthTable : LogicFunction → ℕ → ℕ → Type 0
-IsTruthTable function n table = (bits : List Bool) → length bits ≡ n → bit_at table (row_of bits) ≡ one_if (function_value function bits)
+IsTruthTable function n table = (bits : List Bool) → length bits ≡ n →
+    bit_at table (row_of bits) ≡ one_if (function_value function bits)
 
 -- the cells that are laid out, and the inputs of one behind those of the other
 pub record Layout : Type 0 where
@@ -31,7 +32,8 @@ pub record IsLaid (all : List ℕ) (laid : FlatCell) (cell : LogicCell ℕ) : Ty
 
 -- the k-th logic cell is laid out at the place p
 abbrev pub IsLaidAt : Circuit → ℕ → Layout → ℕ → Type 0
-IsLaidAt c k layout p = (laid : FlatCell) (cell : LogicCell ℕ) → slice_get layout.cells p ≡ Some laid → slice_get c.cells k ≡ Some cell → IsLaid layout.inputs laid cell
+IsLaidAt c k layout p = (laid : FlatCell) (cell : LogicCell ℕ) → slice_get layout.cells p ≡ Some laid →
+    slice_get c.cells k ≡ Some cell → IsLaid layout.inputs laid cell
 
 -- the cells at the places below n of an order are laid out, in that order
 pub record AreLaid (c : Circuit) (order : List ℕ) (n : ℕ) (layout : Layout) : Type 0 where

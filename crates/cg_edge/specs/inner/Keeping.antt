@@ -1,5 +1,6 @@
 -- What a simulator keeps between ticks, and what each part of a tick does to the bits of the nets.
-use Rattle.std.specs.Prelude.{◌≡◌, ◌≢◌, ℕ, ◌<◌, ◌≤◌, ◌⊎◌, Bool, true, false, ◌&&◌, List, [], length, slice_get, slice_index_or, replicate, Option, None, Some, if◌then◌else◌}
+use Rattle.std.specs.Prelude.{◌≡◌, ◌≢◌, ℕ, ◌<◌, ◌≤◌, ◌⊎◌, Bool, true, false, ◌&&◌, List, [], length, slice_get, slice_index_or}
+use Rattle.std.specs.Prelude.{replicate, Option, None, Some, if◌then◌else◌}
 use Rattle.cg_netlist.specs.Circuit.{Circuit, GatingCell, LogicCell, is_in}
 use Rattle.cg_netlist.specs.History.{Moment}
 use Rattle.cg_netlist.specs.Moment.{bit, function_value, values_at}
@@ -16,16 +17,19 @@ pub record SameBut (touched : List ℕ) (old new : List Bool) : Type 0 where
 pub record IsChain (c : Circuit) (chain : List ℕ) : Type 0 where
   pub within : (j k : ℕ) → slice_get chain j ≡ Some k → k < length c.gaters
   pub placed : (k : ℕ) → k < length c.gaters → (j : ℕ) × (slice_get chain j ≡ Some k)
-  pub ordered : (i j k l : ℕ) (a b : GatingCell ℕ) → i ≤ j → slice_get chain i ≡ Some k → slice_get chain j ≡ Some l → slice_get c.gaters k ≡ Some a → slice_get c.gaters l ≡ Some b → a.clock ≢ b.output
+  pub ordered : (i j k l : ℕ) (a b : GatingCell ℕ) → i ≤ j → slice_get chain i ≡ Some k → slice_get chain j ≡ Some l →
+      slice_get c.gaters k ≡ Some a → slice_get c.gaters l ≡ Some b → a.clock ≢ b.output
 
 -- the gating cells at the first places of the chain show the AND of their latch and their clock pin
 abbrev pub AreDriven : Circuit → List ℕ → List Bool → List Bool → ℕ → Type 0
-AreDriven c chain latches nets n = (j k : ℕ) (a : GatingCell ℕ) → j < n → slice_get chain j ≡ Some k → slice_get c.gaters k ≡ Some a → bit nets a.output ≡ (slice_index_or latches k false && bit nets a.clock)
+AreDriven c chain latches nets n = (j k : ℕ) (a : GatingCell ℕ) → j < n → slice_get chain j ≡ Some k →
+    slice_get c.gaters k ≡ Some a → bit nets a.output ≡ (slice_index_or latches k false && bit nets a.clock)
 
 -- the clock shows this bit, and each gating cell the AND of its latch and its clock pin
 pub record ShowClocks (c : Circuit) (clock : Bool) (latches nets : List Bool) : Type 0 where
   pub on_clock : (net : ℕ) → c.clock ≡ Some net → bit nets net ≡ clock
-  pub on_gates : (k : ℕ) (a : GatingCell ℕ) → slice_get c.gaters k ≡ Some a → bit nets a.output ≡ (slice_index_or latches k false && bit nets a.clock)
+  pub on_gates : (k : ℕ) (a : GatingCell ℕ) → slice_get c.gaters k ≡ Some a →
+      bit nets a.output ≡ (slice_index_or latches k false && bit nets a.clock)
 
 -- the logic cells in walk order
 abbrev pub walk_of : Circuit → List (LogicCell ℕ)
@@ -37,7 +41,8 @@ readers_at readers x = slice_index_or readers x []
 
 pub record AreReaders (nets n : ℕ) (walk : List (LogicCell ℕ)) (readers : List (List ℕ)) : Type 0 where
   pub long : length readers ≡ nets
-  pub whole : (p x : ℕ) (cell : LogicCell ℕ) → p < n → slice_get walk p ≡ Some cell → is_in cell.inputs x ≡ true → is_in (readers_at readers x) p ≡ true
+  pub whole : (p x : ℕ) (cell : LogicCell ℕ) → p < n → slice_get walk p ≡ Some cell → is_in cell.inputs x ≡ true →
+      is_in (readers_at readers x) p ≡ true
   pub within : (x p : ℕ) → is_in (readers_at readers x) p ≡ true → p < n
 
 -- the place was added to the readers of these nets
@@ -53,11 +58,13 @@ Holds cell nets = slice_get nets cell.output ≡ Some (function_value cell.funct
 
 -- each cell holds, or is marked to be looked at
 abbrev pub AreMarked : List (LogicCell ℕ) → List Bool → List Bool → Type 0
-AreMarked walk marks nets = (p : ℕ) (cell : LogicCell ℕ) → slice_get walk p ≡ Some cell → (slice_get marks p ≡ Some true) ⊎ Holds cell nets
+AreMarked walk marks nets = (p : ℕ) (cell : LogicCell ℕ) → slice_get walk p ≡ Some cell →
+    (slice_get marks p ≡ Some true) ⊎ Holds cell nets
 
 -- the same where the places below n were looked at
 abbrev pub AreSettled : List (LogicCell ℕ) → ℕ → List Bool → List Bool → Type 0
-AreSettled walk n marks nets = (p : ℕ) (cell : LogicCell ℕ) → slice_get walk p ≡ Some cell → ((n ≤ p) × (slice_get marks p ≡ Some true)) ⊎ Holds cell nets
+AreSettled walk n marks nets = (p : ℕ) (cell : LogicCell ℕ) → slice_get walk p ≡ Some cell →
+    ((n ≤ p) × (slice_get marks p ≡ Some true)) ⊎ Holds cell nets
 
 -- what was marked is marked still
 pub record MarksMore (old new : List Bool) : Type 0 where
@@ -75,7 +82,8 @@ present_of ticked nets state latches = if ticked then Some (record { nets = nets
 
 -- what is true of a simulator: each list has its length, each cell holds or is marked, and before the first tick the
 -- registers have their start bits, no latch is 1 and no register rose
-pub record IsKept (c : Circuit) (start : List Bool) (chain order : List ℕ) (cells : Layout) (readers : List (List ℕ)) (ticked : Bool) (nets before state latches rose marks scratch : List Bool) : Type 0 where
+pub record IsKept (c : Circuit) (start : List Bool) (chain order : List ℕ) (cells : Layout) (readers : List (List ℕ))
+    (ticked : Bool) (nets before state latches rose marks scratch : List Bool) : Type 0 where
   pub netlist : IsNetlist c
   pub started : length start ≡ length c.registers
   pub chained : IsChain c chain
@@ -90,4 +98,5 @@ pub record IsKept (c : Circuit) (start : List Bool) (chain order : List ℕ) (ce
   pub marks_long : length marks ≡ length order
   pub marked : AreMarked (walk_of c) marks nets
   pub room : widest_of c.cells ≤ length scratch
-  pub first : ticked ≡ false → (state ≡ start) × (latches ≡ replicate (length c.gaters) false) × (rose ≡ replicate (length c.registers) false)
+  pub first : ticked ≡ false →
+      (state ≡ start) × (latches ≡ replicate (length c.gaters) false) × (rose ≡ replicate (length c.registers) false)

@@ -9,4 +9,5 @@ use Rattle.cg_extract.specs.Lifted.{ungated}
 -- these names are given to the nets of the netlist as it was
 abbrev pub bare_parts : List NetName → Circuit → List Part
 bare_parts names c =
-    input_parts names c.inputs ++ output_parts names c.outputs ++ clock_parts names c.clock ++ cell_parts names c.cells ++ clocked_parts names (ungated c).registers
+    input_parts names c.inputs ++ output_parts names c.outputs ++ clock_parts names c.clock ++ cell_parts names c.cells
+    ++ clocked_parts names (ungated c).registers

@@ -32,7 +32,8 @@ pub record CanTake (c : Circuit) (m : MachineData) (table : List (Option ℕ)) (
 abbrev pub taken_into : Circuit → MachineData → List (Option ℕ) → GatingCell ℕ → Added
 taken_into c m table gater = chained m (entry_at table gater.clock) (number_of c gater.enable)
 
-pub record IsTaken (c : Circuit) (m : MachineData) (table : List (Option ℕ)) (k : ℕ) (n : MachineData) (new : List (Option ℕ)) : Type 0 where
+pub record IsTaken (c : Circuit) (m : MachineData) (table : List (Option ℕ)) (k : ℕ) (n : MachineData)
+    (new : List (Option ℕ)) : Type 0 where
   pub gater : GatingCell ℕ
   pub at : slice_get c.gaters k ≡ Some gater
   pub made : n ≡ (taken_into c m table gater).machine

@@ -9,7 +9,8 @@ extend same k r g = if same g.key k then record { key = g.key; regs = g.regs ++ 
 
 -- groups with a register in the group of its key, which stands behind the others where it is new
 abbrev pub with_member : {K : Type 0} → (K → K → Bool) → List (Group K) → K → ℕ → List (Group K)
-with_member {K} same gs k r = map (extend same k r) gs ++ (if list_any (λ (g : Group K). same g.key k) gs then [] else record { key = k; regs = r ∷ [] } ∷ [])
+with_member {K} same gs k r =
+    map (extend same k r) gs ++ (if list_any (λ (g : Group K). same g.key k) gs then [] else record { key = k; regs = r ∷ [] } ∷ [])
 
 -- a register without a key is in no group
 abbrev pub with_key : {K : Type 0} → (K → K → Bool) → List (Group K) → Option K → ℕ → List (Group K)

@@ -1,5 +1,6 @@
 -- What is known of the first registers.
-use Rattle.std.specs.Prelude.{◌≡◌, ◌<◌, ◌≤◌, ℕ, ◌*◌, Bool, true, false, if◌then◌else◌, List, [], ◌∷◌, ◌++◌, length, map, slice_index_or, slice_set, nat_lt, slice_get, is_none, Option, Some, None, Result, Ok, Err}
+use Rattle.std.specs.Prelude.{◌≡◌, ◌<◌, ◌≤◌, ℕ, ◌*◌, Bool, true, false, if◌then◌else◌, List, [], ◌∷◌, ◌++◌, length, map}
+use Rattle.std.specs.Prelude.{slice_index_or, slice_set, nat_lt, slice_get, is_none, Option, Some, None, Result, Ok, Err}
 use Rattle.std.specs.List.{count_by, filter, find, list_any, range_with_len}
 use Rattle.std.specs.Option.{option_map_or}
 use Rattle.cg_limit.specs.declared.Limit.TheVariants.{ClaimNodes}
@@ -31,7 +32,8 @@ IsLiteralOf m r l = (is_in (input_cone m r) l.0 ≡ true) × (l.0 < length m.cir
 
 -- no hold claim of a register is refused
 abbrev pub HasRoom : MachineData → ℕ → ℕ → Type 0
-HasRoom m width r = (nat_lt width (hold_width m r) ≡ false) × ((l : Literal) → IsLiteralOf m r l → is_large m (hold_question l r) ≡ false)
+HasRoom m width r =
+    (nat_lt width (hold_width m r) ≡ false) × ((l : Literal) → IsLiteralOf m r l → is_large m (hold_question l r) ≡ false)
 
 -- what is known of the hold claims of a register
 abbrev pub IsRoom : MachineData → ℕ → ℕ → Room → Type 0
@@ -89,7 +91,8 @@ list_at lists k = option_map_or (λ l. l) (slice_get lists k) []
 -- are too wide; and none that is looked at passes the limit
 pub record AreChosen (m : MachineData) (idle : Option IdleData) (width n : ℕ) (lists : List (List ℕ)) (wide : ℕ) : Type 0 where
   pub count : length lists ≡ 2 * length m.circuit.names
-  pub each : (l : Literal) → l.0 < length m.circuit.names → list_at lists (literal_place l) ≡ chosen_regs (choices_to m idle width n) l
+  pub each : (l : Literal) → l.0 < length m.circuit.names →
+      list_at lists (literal_place l) ≡ chosen_regs (choices_to m idle width n) l
   pub wide_is : wide ≡ count_by (λ r. nat_lt width (hold_width m r)) (free_to m n)
   pub within : list_any (passes_at m idle width) (free_to m n) ≡ false
 

@@ -9,4 +9,5 @@ use Rattle.cg_liberty_text.specs.declared.token.Token.{Token}
 
 -- an attribute whose value begins with the tokens, before the statements that are read from those left behind it
 abbrev pub ReadsValue : ℕ → ℕ → Token → List Token → List Token → Statement → Type 0
-ReadsValue end depth word tokens left statement = (statement ≡ Attribute word.text (value_text tokens)) × (statements end depth Valued tokens ≡ statements end depth Start left)
+ReadsValue end depth word tokens left statement =
+    (statement ≡ Attribute word.text (value_text tokens)) × (statements end depth Valued tokens ≡ statements end depth Start left)

@@ -6,7 +6,8 @@ use Rattle.cg_lrat.specs.Accepted.{Live, non_false_of, non_false_lits, unit_then
 
 abbrev pub hint_then : Live → List Lit → ℕ → (List Lit → Option Why) → Option Why
 hint_then live trues hint later =
-    known_then (live hint) hint (λ lits. unit_then (non_false_of (non_false_lits trues lits)) trues hint (λ lit. later (trues ++ lit ∷ [])))
+    known_then (live hint) hint
+    (λ lits. unit_then (non_false_of (non_false_lits trues lits)) trues hint (λ lit. later (trues ++ lit ∷ [])))
 
 abbrev pub last_fault : Live → List Lit → ℕ → Option Why
 last_fault live trues hint = known_then (live hint) hint (λ lits. false_at (non_false_of (non_false_lits trues lits)) hint)
@@ -18,4 +19,5 @@ fault_or None later = later
 
 -- a hint before the last has this fault, or leads to where these literals are true, whatever comes later
 abbrev pub Propagates : Live → List Lit → ℕ → Option Why → List Lit → Type 0
-Propagates live trues hint fault after = (later : List Lit → Option Why) → hint_then live trues hint later ≡ fault_or fault (later after)
+Propagates live trues hint fault after = (later : List Lit → Option Why) →
+    hint_then live trues hint later ≡ fault_or fault (later after)

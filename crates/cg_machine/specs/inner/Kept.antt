@@ -1,5 +1,6 @@
 -- What a machine keeps: its netlist, and beside it what was added.
-use Rattle.std.specs.Prelude.{◌≡◌, ℕ, ◌+◌, ◌++◌, List, length, map, replicate, slice_get, slice_index, unwrap_or, Option, None, Some}
+use Rattle.std.specs.Prelude.{◌≡◌, ℕ, ◌+◌, ◌++◌, List, length, map, replicate, slice_get, slice_index, unwrap_or, Option, None}
+use Rattle.std.specs.Prelude.{Some}
 use Rattle.std.specs.List.{AllByRecursion, range_with_len}
 use Rattle.std.specs.Fmt.{decimal}
 use Rattle.cg_cell.specs.declared.fit.FitKind.{FitKind}
@@ -42,7 +43,8 @@ pub record AreAdded (c : Circuit) (n : ℕ) (drivers : List Driver) : Type 0 whe
   pub each : (k : ℕ) (driver : Driver) → slice_get drivers k ≡ Some driver → IsDriver c (n + k) driver
 
 -- what is kept makes a machine, and tells what drives each added net
-pub record IsKept (c : Circuit) (name : List ℕ) (enables : List (Option ℕ)) (gates : List AddedGate) (delays : List (ℕ × ℕ)) (drivers : List Driver) : Type 0 where
+pub record IsKept (c : Circuit) (name : List ℕ) (enables : List (Option ℕ)) (gates : List AddedGate) (delays : List (ℕ × ℕ))
+    (drivers : List Driver) : Type 0 where
   pub netlist : IsNetlist c
   pub enables_long : length enables ≡ length c.registers
   pub machine : IsMachine (kept c name enables gates delays)

@@ -1,5 +1,6 @@
 -- Guards, told by the registers that they enable, and the keys of registers by their guards.
-use Rattle.std.specs.Prelude.{◌≡◌, ℕ, ◌<◌, Bool, false, not, ◌&&◌, List, [], length, slice_get, nat_eq, nat_lt, Option, None, is_some}
+use Rattle.std.specs.Prelude.{◌≡◌, ℕ, ◌<◌, Bool, false, not, ◌&&◌, List, [], length, slice_get, nat_eq, nat_lt, Option, None}
+use Rattle.std.specs.Prelude.{is_some}
 use Rattle.std.specs.List.{list_any, range_with_len}
 use Rattle.std.specs.Option.{option_map, option_map_or}
 use Rattle.cg_groups.specs.Keys.{key_at}

@@ -34,4 +34,5 @@ left_stage m kept g = unless_empty (unseen_stage m g.key.enables) (not_among kep
 
 -- the numbers of keys are those of registers of the netlist
 abbrev pub AreOwnKeys : MachineData → List Key → Type 0
-AreOwnKeys m keys = (k : ℕ) (key : Key) → slice_get keys k ≡ Some key → (q : ℕ) → is_in key.numbers.items q ≡ true → q < m.own_registers
+AreOwnKeys m keys = (k : ℕ) (key : Key) → slice_get keys k ≡ Some key → (q : ℕ) → is_in key.numbers.items q ≡ true →
+    q < m.own_registers

@@ -45,6 +45,8 @@ pub record IsViolated (m : MachineData) (claims : List NamedClaim) (claim : Clai
   pub violate : DoViolate m question bits
 
 -- claims are decided one after the other: all are certified, or this is the first that is false
-abbrev pub AreDecided : MachineData → ℕ → List NamedClaim → List Certificate → List Certificate → Option (ClaimName × List LeafBit) → Type 0
+abbrev pub AreDecided : MachineData → ℕ → List NamedClaim → List Certificate → List Certificate →
+    Option (ClaimName × List LeafBit) → Type 0
 AreDecided m number claims before after None = (first_false m claims ≡ None) × AllCertified m number claims before after
-AreDecided m number claims before after (Some refuted) = (first_false m claims ≡ Some refuted.0) × IsViolated m claims refuted.0 refuted.1
+AreDecided m number claims before after (Some refuted) =
+    (first_false m claims ≡ Some refuted.0) × IsViolated m claims refuted.0 refuted.1

@@ -51,7 +51,8 @@ in_turn f g p = let q = f p in unless_stopped q.limit q (g q)
 -- the parts of a plan with this hold list
 abbrev pub all_parts : List CellData → Settings → List Stage → Plan → Plan
 all_parts library settings stages =
-    in_turn (in_turn (λ p. try_all library settings p stages) (rounds library settings Stable settings.rounds)) (rounds library settings Unseen settings.rounds)
+    in_turn (in_turn (λ p. try_all library settings p stages) (rounds library settings Stable settings.rounds))
+    (rounds library settings Unseen settings.rounds)
 
 -- a plan of which nothing was tried
 abbrev pub unbegun : MachineData → Plan

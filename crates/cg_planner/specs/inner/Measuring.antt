@@ -17,11 +17,14 @@ use Rattle.cg_stage.specs.Needs.{missing, needs}
 
 -- how a stage ends by its registers and its cells alone
 abbrev pub early_end : List CellData → Settings → Stage → Option Outcome
-early_end library settings s = if nat_lt (length s.regs) settings.min then Some (Small (length s.regs)) else option_map NoCell (missing library (needs settings.test s))
+early_end library settings s =
+    if nat_lt (length s.regs) settings.min then Some (Small (length s.regs))
+    else option_map NoCell (missing library (needs settings.test s))
 
 -- how it ends by the measures of claims, one after the other: at the first that is too wide, or at the limit that the first
 -- too large one passes
 abbrev pub wide_end : MachineData → ℕ → List NamedClaim → Result (Option Outcome) AddFault
 wide_end m width [] = Ok None
 wide_end m width (c ∷ claims) =
-    if nat_lt width (width_of m c.1) then Ok (Some (Wide c.0 (width_of m c.1))) else (if is_large m c.1 then Err (LimitFault ClaimNodes) else wide_end m width claims)
+    if nat_lt width (width_of m c.1) then Ok (Some (Wide c.0 (width_of m c.1)))
+    else (if is_large m c.1 then Err (LimitFault ClaimNodes) else wide_end m width claims)

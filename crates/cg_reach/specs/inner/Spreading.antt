@@ -1,5 +1,6 @@
 -- The nets at which registers can show in the same cycle.
-use Rattle.std.specs.Prelude.{◌≡◌, ℕ, ◌+◌, Bool, true, false, ◌&&◌, ◌||◌, if◌then◌else◌, List, [], ◌∷◌, length, nat_eq, nat_lt, slice_get, take, Some, ◌<◌}
+use Rattle.std.specs.Prelude.{◌≡◌, ℕ, ◌+◌, Bool, true, false, ◌&&◌, ◌||◌, if◌then◌else◌, List, [], ◌∷◌, length, nat_eq, nat_lt}
+use Rattle.std.specs.Prelude.{slice_get, take, Some, ◌<◌}
 use Rattle.std.specs.List.{list_any}
 use Rattle.std.specs.Option.{option_map_or, option_to_list}
 use Rattle.cg_netlist.specs.Circuit.{LogicCell, is_in, shown_nets}
@@ -29,11 +30,13 @@ spread (cell ∷ cells) marked y = spread cells (with_cell cell marked) y
 -- the names of the outputs with a mark, counted from k
 abbrev pub marked_outputs : (ℕ → Bool) → ℕ → List ℕ → List ClaimName
 marked_outputs marked k [] = []
-marked_outputs marked k (y ∷ ys) = if marked y then Output k ∷ marked_outputs marked (k + 1) ys else marked_outputs marked (k + 1) ys
+marked_outputs marked k (y ∷ ys) =
+    if marked y then Output k ∷ marked_outputs marked (k + 1) ys else marked_outputs marked (k + 1) ys
 
 -- whether the next bit of a register asks for a marked net, or, where the register is inside, for its own bit
 abbrev pub is_next_marked : MachineData → (ℕ → Bool) → Bool → ℕ → Bool
-is_next_marked m marked inside r = (inside && next_asks_own m r) || (list_any marked (inputs_of_register m r) || list_any marked (option_to_list (enable_of m r)))
+is_next_marked m marked inside r =
+    (inside && next_asks_own m r) || (list_any marked (inputs_of_register m r) || list_any marked (option_to_list (enable_of m r)))
 
 -- whether a register of the machine is such a one
 abbrev pub is_register_marked : MachineData → (ℕ → Bool) → (ℕ → Bool) → ℕ → Bool
@@ -45,13 +48,15 @@ is_output_marked m marked k = option_map_or marked (slice_get m.circuit.outputs 
 
 -- among the readers of each net are all cells, outputs, registers of the machine that read it
 abbrev pub AreCellReaders : MachineData → List (List ℕ) → Type 0
-AreCellReaders m lists = (k : ℕ) (cell : LogicCell ℕ) (y : ℕ) → slice_get m.circuit.cells k ≡ Some cell → is_in cell.inputs y ≡ true → is_in (readers_at lists y) k ≡ true
+AreCellReaders m lists = (k : ℕ) (cell : LogicCell ℕ) (y : ℕ) → slice_get m.circuit.cells k ≡ Some cell →
+    is_in cell.inputs y ≡ true → is_in (readers_at lists y) k ≡ true
 
 abbrev pub AreOutputReaders : MachineData → List (List ℕ) → Type 0
 AreOutputReaders m lists = (k y : ℕ) → slice_get m.circuit.outputs k ≡ Some y → is_in (readers_at lists y) k ≡ true
 
 abbrev pub AreRegisterReaders : MachineData → List (List ℕ) → Type 0
-AreRegisterReaders m lists = (r y : ℕ) → r < length m.circuit.registers → is_in (next_nets m r) y ≡ true → is_in (readers_at lists y) r ≡ true
+AreRegisterReaders m lists = (r y : ℕ) → r < length m.circuit.registers → is_in (next_nets m r) y ≡ true →
+    is_in (readers_at lists y) r ≡ true
 
 -- nets found, and where an input of a cell is among them its output
 abbrev pub led_on : LogicCell ℕ → List ℕ → List ℕ
@@ -70,4 +75,5 @@ led_by_all m found (k ∷ ks) = led_by_all m (led_by m found k) ks
 pub record IsSpreading (m : MachineData) (G : List ℕ) (next : ℕ) (found : List ℕ) : Type 0 where
   pub starts : (y : ℕ) → is_shown m G y ≡ true → is_in found y ≡ true
   pub only : (y : ℕ) → is_in found y ≡ true → spread (walk_of m) (is_shown m G) y ≡ true
-  pub closed : (k : ℕ) (cell : LogicCell ℕ) (x : ℕ) → slice_get m.circuit.cells k ≡ Some cell → is_in (take next found) x ≡ true → is_in cell.inputs x ≡ true → is_in found cell.output ≡ true
+  pub closed : (k : ℕ) (cell : LogicCell ℕ) (x : ℕ) → slice_get m.circuit.cells k ≡ Some cell → is_in (take next found) x ≡ true →
+      is_in cell.inputs x ≡ true → is_in found cell.output ≡ true

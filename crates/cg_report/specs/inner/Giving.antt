@@ -13,5 +13,6 @@ pub record MayGive (stands : Circuit → List Shown → Type 0) (simulated : Sim
 
 -- whatever the watcher stood for, it stands for the present moment more, with this bit of the clock
 abbrev pub Given : (Circuit → List Shown → Type 0) → (Circuit → List Shown → Type 0) → Simulated → Bool → Type 0
-Given old_stands new_stands simulated clock = (now : Moment) → simulated.present ≡ Some now → (before : List Shown) → old_stands simulated.circuit before
+Given old_stands new_stands simulated clock = (now : Moment) → simulated.present ≡ Some now → (before : List Shown) →
+    old_stands simulated.circuit before
     → new_stands simulated.circuit (before ++ record { clock = clock; nets = now.nets; rose = simulated.rose } ∷ [])

@@ -1,5 +1,6 @@
 -- How a player keeps its place.
-use Rattle.std.specs.Prelude.{◌≡◌, ◌≤◌, ◌<◌, ◌+◌, ◌-◌, ◌*◌, ℕ, Bool, true, false, List, [], ◌∷◌, ◌++◌, length, drop, replicate, Option, IsSome}
+use Rattle.std.specs.Prelude.{◌≡◌, ◌≤◌, ◌<◌, ◌+◌, ◌-◌, ◌*◌, ℕ, Bool, true, false, List, [], ◌∷◌, ◌++◌, length, drop, replicate}
+use Rattle.std.specs.Prelude.{Option, IsSome}
 use Rattle.cg_limit.specs.declared.TheConstants.{MOST_REGISTERS}
 use Rattle.cg_netlist.specs.Circuit.{data_inputs}
 use Rattle.cg_netlist.specs.History.{Moment, Tick}
@@ -16,7 +17,9 @@ padded width row = row ++ replicate (width - length row) false
 -- the moments from the low one of the next row on, behind these inputs
 abbrev pub low_from : ℕ → List Bool → List (List Bool) → List Tick
 low_from width inputs [] = record { clock = false; inputs = inputs } ∷ []
-low_from width inputs (row ∷ rows) = record { clock = false; inputs = padded width row } ∷ record { clock = true; inputs = padded width row } ∷ low_from width (padded width row) rows
+low_from width inputs (row ∷ rows) =
+    record { clock = false; inputs = padded width row } ∷ record { clock = true; inputs = padded width row }
+    ∷ low_from width (padded width row) rows
 
 -- the moments that are left
 abbrev pub left_of : ℕ → Next → List Bool → ℕ → List (List Bool) → List Tick
@@ -31,10 +34,12 @@ IsNext Low rows row present edges = (row ≤ rows) × (edges ≤ 2 * MOST_REGIST
 IsNext High rows row present edges = (row < rows) × (edges ≤ 2 * MOST_REGISTERS * row + MOST_REGISTERS) × IsSome present
 IsNext Ended rows row present edges = (row ≤ rows) × (edges ≤ 2 * MOST_REGISTERS * row + MOST_REGISTERS)
 
-pub record IsPlayer (simulated : Simulated) (stimulus : Rows) (inputs : List Bool) (row : ℕ) (next : Next) (edges : ℕ) : Type 0 where
+pub record IsPlayer (simulated : Simulated) (stimulus : Rows) (inputs : List Bool) (row : ℕ) (next : Next)
+    (edges : ℕ) : Type 0 where
   pub netlist : IsNetlist simulated.circuit
   pub lawful : IsStimulus stimulus
   pub wide : length inputs ≡ length (data_inputs simulated.circuit)
   pub fits : length stimulus.inputs ≤ length (data_inputs simulated.circuit)
-  pub zeros : drop (length stimulus.inputs) inputs ≡ replicate (length (data_inputs simulated.circuit) - length stimulus.inputs) false
+  pub zeros : drop (length stimulus.inputs) inputs
+      ≡ replicate (length (data_inputs simulated.circuit) - length stimulus.inputs) false
   pub place : IsNext next (length stimulus.rows) row simulated.present edges

@@ -20,7 +20,8 @@ pub record PlaysPair (old new : Place) (now later : Moment) : Type 0 where
   pub low : Tick
   pub high : Tick
   pub left : old.left ≡ low ∷ high ∷ new.left
-  pub further : (wave : List Tick) (played : List Moment) → IsAt old wave played → IsAt new (wave ++ low ∷ high ∷ []) (played ++ now ∷ later ∷ [])
+  pub further : (wave : List Tick) (played : List Moment) → IsAt old wave played →
+      IsAt new (wave ++ low ∷ high ∷ []) (played ++ now ∷ later ∷ [])
 
 -- moments in pairs
 abbrev pub IsPairs : List Moment → Type 0

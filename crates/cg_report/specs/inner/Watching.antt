@@ -21,7 +21,8 @@ pub record ShowsRow (old_stands new_stands : Circuit → List Shown → Type 0) 
   pub shown : GoesOn old_stands new_stands old (pair.low ∷ pair.high ∷ []) (now ∷ later ∷ [])
 
 -- the same, and the row's line was put behind the text
-pub record WatchesRow (old_stands new_stands : Circuit → List Shown → Type 0) (number : ℕ) (old new : Place) (text more : List ℕ) : Type 0 where
+pub record WatchesRow (old_stands new_stands : Circuit → List Shown → Type 0) (number : ℕ) (old new : Place)
+    (text more : List ℕ) : Type 0 where
   pub says : SaysRow number old new text more
   pub shown : GoesOn old_stands new_stands old (says.pair.low ∷ says.pair.high ∷ []) (says.now ∷ says.later ∷ [])
 
@@ -30,12 +31,14 @@ abbrev pub StandsBehind : (Circuit → List Shown → Type 0) → (c : Circuit) 
 StandsBehind stands c wave played = stands c (shown_from c None wave played)
 
 -- this many rows were played and shown
-pub record ShowRows (stands : Circuit → List Shown → Type 0) (c : Circuit) (rows : List (List Bool)) (row : ℕ) (place : Place) : Type 0 where
+pub record ShowRows (stands : Circuit → List Shown → Type 0) (c : Circuit) (rows : List (List Bool)) (row : ℕ)
+    (place : Place) : Type 0 where
   pub played : List Moment
   pub behind : IsBehind c rows row place played
   pub stands_for : StandsBehind stands c behind.wave played
 
 -- the same, and their lines were put behind the text
-pub record WatchRows (stands : Circuit → List Shown → Type 0) (c : Circuit) (rows : List (List Bool)) (row : ℕ) (place : Place) (text more : List ℕ) : Type 0 where
+pub record WatchRows (stands : Circuit → List Shown → Type 0) (c : Circuit) (rows : List (List Bool)) (row : ℕ) (place : Place)
+    (text more : List ℕ) : Type 0 where
   pub said : SayRows c rows row place text more
   pub stands_for : StandsBehind stands c said.behind.wave said.played

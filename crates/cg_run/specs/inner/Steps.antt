@@ -21,7 +21,8 @@ loaded_role role None = []
 loaded_role role (Some gave) = role ∷ []
 
 -- The load of one file. `given` is what it gave.
-pub record Loads (gave : List ℕ → Result (List ℕ) LoadFault → Type 0) (names : Role → List ℕ) (role : Role) (before after : World) (answer : Result (List ℕ) Refusal) : Type 0 where
+pub record Loads (gave : List ℕ → Result (List ℕ) LoadFault → Type 0) (names : Role → List ℕ) (role : Role) (before after : World)
+    (answer : Result (List ℕ) Refusal) : Type 0 where
   pub given : Loaded
   pub from : IfSome given (gave (names role))
   pub told : IsTrue before.tells → Agrees (before.held (names role)) given
@@ -47,7 +48,8 @@ OneCall call (Ok x) made = made ≡ call
 OneCall call (Err refusal) made = IsUpTo [] call made
 
 -- one store
-pub record StoresOne {T : Type 0} (names : Role → List ℕ) (text : Text) (before after : World) (answer : Result T Refusal) : Type 0 where
+pub record StoresOne {T : Type 0} (names : Role → List ℕ) (text : Text) (before after : World)
+    (answer : Result T Refusal) : Type 0 where
   pub refused : IfErr answer (λ refusal. step_of refusal ≡ steps.Storing text.role)
   pub made : List CallMade
   pub by : OneCall (one_call calls.Store (names text.role)) answer made
@@ -87,7 +89,8 @@ abbrev pub StoreCalls : {T : Type 0} → (Role → List ℕ) → List Text → R
 StoreCalls names texts (Ok x) made = made ≡ store_calls names texts
 StoreCalls names texts (Err refusal) made = StoresAt names texts (step_of refusal) made
 
-pub record StoresAll {T : Type 0} (names : Role → List ℕ) (texts : List Text) (before after : World) (answer : Result T Refusal) : Type 0 where
+pub record StoresAll {T : Type 0} (names : Role → List ℕ) (texts : List Text) (before after : World)
+    (answer : Result T Refusal) : Type 0 where
   pub refused : IfErr answer (λ refusal. StoresStep texts (step_of refusal))
   pub leaves : IsTrue before.tells → StoreLeaves names texts before after answer
   pub made : List CallMade
@@ -98,7 +101,8 @@ pub record StoresAll {T : Type 0} (names : Role → List ℕ) (texts : List Text
   pub failed : after.faults ≡ before.faults ++ outcome_faults names answer
 
 -- the say
-pub record SaysAll {T : Type 0} (names : Role → List ℕ) (text : List ℕ) (before after : World) (answer : Result T Refusal) : Type 0 where
+pub record SaysAll {T : Type 0} (names : Role → List ℕ) (text : List ℕ) (before after : World)
+    (answer : Result T Refusal) : Type 0 where
   pub refused : IfErr answer (λ refusal. step_of refusal ≡ steps.Saying)
   pub made : List CallMade
   pub by : OneCall (one_call calls.Say []) answer made

@@ -22,4 +22,5 @@ pub record IsApart (before kept : List Lit) : Type 0 where
 
 -- once these hints are taken the last literals are true, where at first the first were
 abbrev pub Follows : Live → List Lit → List ℕ → List Lit → Type 0
-Follows live first hints last = (next : ℕ) (later : List ℕ) → hints_fault live first (hints ++ next ∷ later) ≡ hints_fault live last (next ∷ later)
+Follows live first hints last = (next : ℕ) (later : List ℕ) →
+    hints_fault live first (hints ++ next ∷ later) ≡ hints_fault live last (next ∷ later)

@@ -20,5 +20,6 @@ IsEnd formula clauses (Refuted hints) = clause_fault (live_of clauses) [] hints.
 -- the bits satisfy the formula; or a clause is false, and the trail is the same; or the trail is worth more
 abbrev pub IsTurn : Formula → ℕ → Store → List Entry → List Entry → Turn → Type 0
 IsTurn formula count clauses old new (turns.Satisfied bits) = Satisfies bits.items formula
-IsTurn formula count clauses old new (turns.Conflict place) = (new ≡ old) × IsSearch count clauses new × IsConflict clauses new place
+IsTurn formula count clauses old new (turns.Conflict place) =
+    (new ≡ old) × IsSearch count clauses new × IsConflict clauses new place
 IsTurn formula count clauses old new turns.Decided = (worth (count + 1) old < worth (count + 1) new) × IsSearch count clauses new

@@ -1,5 +1,6 @@
 -- What is known of a derivation while the trail is walked down.
-use Rattle.std.specs.Prelude.{◌≡◌, ℕ, ◌+◌, ◌<◌, ◌≤◌, Bool, true, false, List, [], ◌∷◌, ◌++◌, length, take, reverse, Option, Some, None}
+use Rattle.std.specs.Prelude.{◌≡◌, ℕ, ◌+◌, ◌<◌, ◌≤◌, Bool, true, false, List, [], ◌∷◌, ◌++◌, length, take, reverse, Option, Some}
+use Rattle.std.specs.Prelude.{None}
 use Rattle.std.specs.List.{slice_get, slice_index_or}
 use Rattle.std.specs.Option.{IsSome}
 use Rattle.cg_formula.specs.declared.formula.Lit.{Lit}
@@ -19,7 +20,8 @@ is_marked marks lit = slice_index_or marks lit.variable false
 
 -- each variable has a mark
 pub record VariablesBelow (count : ℕ) (clauses : Store) (trail : List Entry) : Type 0 where
-  pub in_clauses : (k : ℕ) (clause : List Lit) (lit : Lit) → clause_at clauses k ≡ Some clause → is_in lit clause ≡ true → lit.variable < count
+  pub in_clauses : (k : ℕ) (clause : List Lit) (lit : Lit) → clause_at clauses k ≡ Some clause → is_in lit clause ≡ true →
+      lit.variable < count
   pub in_trail : (k : ℕ) (entry : Entry) → slice_get trail k ≡ Some entry → entry.lit.variable < count
 
 -- the hints, gathered last first, refute what is marked of these literals and what is kept
@@ -29,7 +31,8 @@ pub record Derives (clauses : Store) (before : List Lit) (marks : List Bool) (ke
 
 -- no entry of these places is marked
 abbrev pub AreClear : List Bool → List Entry → ℕ → ℕ → Type 0
-AreClear marks trail from to = (k : ℕ) (entry : Entry) → from ≤ k → k < to → slice_get trail k ≡ Some entry → is_marked marks entry.lit ≡ false
+AreClear marks trail from to = (k : ℕ) (entry : Entry) → from ≤ k → k < to → slice_get trail k ≡ Some entry →
+    is_marked marks entry.lit ≡ false
 
 -- a decision stands at this place
 abbrev pub IsDecided : List Entry → ℕ → Type 0
@@ -78,4 +81,5 @@ pub record Gathered (trail : List Entry) (from cut : ℕ) (old kept : List Lit) 
 -- the lesson's clause has no fault under its hints, and asserts a literal where the trail is cut
 abbrev pub Teaches : Store → List Entry → Lesson → Type 0
 Teaches clauses trail (Empty hints) = clause_fault (live_of clauses) [] hints.items ≡ None
-Teaches clauses trail (Clause lits hints cut) = (clause_fault (live_of clauses) lits.items hints.items ≡ None) × Asserts clauses trail cut lits.items
+Teaches clauses trail (Clause lits hints cut) =
+    (clause_fault (live_of clauses) lits.items hints.items ≡ None) × Asserts clauses trail cut lits.items

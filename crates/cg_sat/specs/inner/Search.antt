@@ -19,7 +19,8 @@ use Rattle.cg_sat.specs.inner.Worth.{worth}
 
 -- variables are counted from one
 pub record AreFromOne (clauses : Store) (trail : List Entry) : Type 0 where
-  pub in_clauses : (k : ℕ) (clause : List Lit) (lit : Lit) → clause_at clauses k ≡ Some clause → is_in lit clause ≡ true → 0 < lit.variable
+  pub in_clauses : (k : ℕ) (clause : List Lit) (lit : Lit) → clause_at clauses k ≡ Some clause → is_in lit clause ≡ true →
+      0 < lit.variable
   pub in_trail : (k : ℕ) (entry : Entry) → slice_get trail k ≡ Some entry → 0 < entry.lit.variable
 
 -- a trail over these clauses, whose variables are below the count
@@ -47,7 +48,8 @@ IsLook clauses trail (Conflict place) = IsConflict clauses trail place
 
 -- the bits of the variables that are true
 abbrev pub ShowsBits : List Lit → List Bool → Type 0
-ShowsBits trues bits = (v : ℕ) → v < length bits → slice_index_or bits v false ≡ is_in (record { variable = v + 1; inverted = false }) trues
+ShowsBits trues bits = (v : ℕ) → v < length bits →
+    slice_index_or bits v false ≡ is_in (record { variable = v + 1; inverted = false }) trues
 
 -- a literal that is not false, or none
 abbrev pub FindsOpen : List Lit → List Lit → Option Lit → Type 0
@@ -72,4 +74,5 @@ IsChoice formula count clauses trail (Refute place) = IsConflict clauses trail p
 
 -- a reason of the trail is marked, if its place has a mark
 abbrev pub MarksReasons : List Entry → List Bool → Type 0
-MarksReasons trail used = (k : ℕ) (entry : Entry) (reason : ℕ) → slice_get trail k ≡ Some entry → entry.reason ≡ Some reason → reason < length used → slice_index_or used reason false ≡ true
+MarksReasons trail used = (k : ℕ) (entry : Entry) (reason : ℕ) → slice_get trail k ≡ Some entry → entry.reason ≡ Some reason →
+    reason < length used → slice_index_or used reason false ≡ true

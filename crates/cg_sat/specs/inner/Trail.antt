@@ -23,7 +23,8 @@ HasReason clauses before lit (Some reason) = IsImplied clauses before lit reason
 -- each literal was unassigned when it was made true, and its reason was unit
 pub record IsTrail (clauses : Store) (trail : List Entry) : Type 0 where
   pub open_at : (i : ℕ) (entry : Entry) → slice_get trail i ≡ Some entry → IsUnassigned (lits_of (take i trail)) entry.lit
-  pub reason_at : (i : ℕ) (entry : Entry) → slice_get trail i ≡ Some entry → HasReason clauses (lits_of (take i trail)) entry.lit entry.reason
+  pub reason_at : (i : ℕ) (entry : Entry) → slice_get trail i ≡ Some entry →
+      HasReason clauses (lits_of (take i trail)) entry.lit entry.reason
 
 -- no entry has the clause at this place as its reason
 abbrev pub IsUnused : ℕ → List Entry → Type 0

@@ -10,7 +10,8 @@ use Rattle.cg_tool.specs.declared.modes.wanted.Wanted.{Wanted}
 
 -- the netlist may be gated, with any stimulus for it
 abbrev pub MayBeGated : List CellData → Wanted → Circuit → Type 0
-MayBeGated library wanted c = (stimulus : Option Rows) → ((rows : Rows) → stimulus ≡ Some rows → IsFor c rows) → MayGate (request_by library wanted stimulus) c
+MayBeGated library wanted c = (stimulus : Option Rows) → ((rows : Rows) → stimulus ≡ Some rows → IsFor c rows) →
+    MayGate (request_by library wanted stimulus) c
 
 -- so may the one that was read
 abbrev pub IsRead : Gate → Type 0

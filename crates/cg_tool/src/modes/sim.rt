@@ -10,7 +10,8 @@ ghost use Rattle.cg_run.specs.Verdict.{Concludes};
 ghost use Rattle.cg_run.specs.declared.role.Role.TheVariants as roles;
 ghost use Rattle.cg_stimulus.specs.Inputs.{IsFor};
 ghost use Rattle.cg_tool.specs.Complaints.{stimulus_found};
-ghost use Rattle.cg_tool.specs.Sim.{IsSimulated, PlaysAs, SaysPlayed, sim_gives, sim_start, sim_stops, sim_takes, sim_task, trouble_in};
+ghost use Rattle.cg_tool.specs.Sim.{IsSimulated, PlaysAs, SaysPlayed, sim_gives, sim_start, sim_stops, sim_takes, sim_task};
+ghost use Rattle.cg_tool.specs.Sim.{trouble_in};
 
 use crate::modes::complaints::{take_library, take_netlist, take_stimulus};
 use cg_blif::BlifOptions;

@@ -19,7 +19,9 @@ HoldsInputs m inputs nets = (y : ℕ) → slice_index_or nets y 0 ≡ (if is_in 
 
 -- the copy of these nets, from literals of its data inputs and of its states
 abbrev pub copy_table : MachineData → List ℕ → (ℕ → ℕ) → List ℕ → Seen → Table
-copy_table m cone inputs states s = lay aig_values (reached_cells m cone) (record { domain = s; at = start_nets aig_values m inputs (λ r. slice_index_or states r 0) })
+copy_table m cone inputs states s =
+    lay aig_values (reached_cells m cone)
+    (record { domain = s; at = start_nets aig_values m inputs (λ r. slice_index_or states r 0) })
 
 -- the copy of a cone was laid
 pub record LaysCopy (m : MachineData) (cone : Cone) (states : List ℕ) (s t : Seen) (old new : List ℕ) : Type 0 where
@@ -30,5 +32,6 @@ pub record LaysCopy (m : MachineData) (cone : Cone) (states : List ℕ) (s t : S
 
 -- or a fault came on the way
 abbrev pub CopyFails : MachineData → Cone → List ℕ → Seen → List ℕ → AigFault → Type 0
-CopyFails m cone states s old fault = (roots : List ℕ) (inputs : ℕ → ℕ) → IsConeOf m (cone_of (walk_of m) roots) cone → HoldsInputs m inputs old
+CopyFails m cone states s old fault = (roots : List ℕ) (inputs : ℕ → ℕ) → IsConeOf m (cone_of (walk_of m) roots) cone →
+    HoldsInputs m inputs old
     → MayFail (copy_table m (cone_of (walk_of m) roots) inputs states s).domain fault

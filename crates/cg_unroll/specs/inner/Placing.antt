@@ -1,5 +1,6 @@
 -- The literals of leaves, put at the places of data inputs and registers.
-use Rattle.std.specs.Prelude.{◌≡◌, ◌<◌, ◌≤◌, ℕ, ◌+◌, ◌*◌, if◌then◌else◌, List, length, nat_eq, slice_get, slice_index_or, Option, Some, None}
+use Rattle.std.specs.Prelude.{◌≡◌, ◌<◌, ◌≤◌, ℕ, ◌+◌, ◌*◌, if◌then◌else◌, List, length, nat_eq, slice_get, slice_index_or, Option}
+use Rattle.std.specs.Prelude.{Some, None}
 use Rattle.cg_cell.specs.Domain.{AreValid, Seen}
 use Rattle.cg_aig.specs.Aig.{aig_ops}
 use Rattle.cg_claim.specs.declared.leaf.Leaf.{Leaf}
@@ -30,7 +31,8 @@ AgreesLeaves place leaves g = (j y : ℕ) (l : Leaf) → slice_get leaves j ≡ 
 -- the literals of the first k leaves stand at their places, and all other places have 0
 pub record FillsLeaves (place : Leaf → Option ℕ) (leaves : List Leaf) (k : ℕ) (values : List ℕ) : Type 0 where
   pub keeps : (g : ℕ → ℕ) → AgreesLeaves place leaves g → (y : ℕ) → 0 ≡ g y → slice_index_or values y 0 ≡ g y
-  pub fills : (g : ℕ → ℕ) → AgreesLeaves place leaves g → (j y : ℕ) (l : Leaf) → j < k → slice_get leaves j ≡ Some l → place l ≡ Some y → slice_index_or values y 0 ≡ g y
+  pub fills : (g : ℕ → ℕ) → AgreesLeaves place leaves g → (j y : ℕ) (l : Leaf) → j < k → slice_get leaves j ≡ Some l →
+      place l ≡ Some y → slice_index_or values y 0 ≡ g y
 
 -- a literal of the list stands at each of at least so many places
 pub record IsLiteralTable (places : ℕ) (s : Seen) (values : List ℕ) : Type 0 where

@@ -12,7 +12,8 @@ use Rattle.cg_unroll.specs.inner.Building.{table_of}
 
 -- the state of a register: that of its leaf where that is not the constant 0, and else its next bit
 abbrev pub state_step : MachineData → (ℕ → ℕ) → (ℕ → ℕ) → (ℕ → ℕ) → ℕ → Seen → Run
-state_step m nets own free r s = if nat_eq (free r) 0 then next_run aig_values m nets own r s else mux_run aig_values (enable_of m r) nets (free r) (own r) s
+state_step m nets own free r s =
+    if nat_eq (free r) 0 then next_run aig_values m nets own r s else mux_run aig_values (enable_of m r) nets (free r) (own r) s
 
 -- of these registers, those that hold their next bits have the constant 0 for a leaf, and the others have not
 abbrev pub TellsFollows : List ℕ → (ℕ → ℕ) → List ℕ → Type 0
@@ -20,14 +21,18 @@ TellsFollows follows free registers = (r : ℕ) → is_in registers r ≡ true �
 
 -- the states of these registers were laid
 pub record LaysStates (m : MachineData) (nets own free : ℕ → ℕ) (registers : List ℕ) (s t : Seen) (old new : List ℕ) : Type 0 where
-  pub same : (q : Question) → TellsFollows q.follows free registers → SameOn (λ _. true) (table_of t new) (lay_states aig_values m q nets own free registers (table_of s old))
+  pub same : (q : Question) → TellsFollows q.follows free registers →
+      SameOn (λ _. true) (table_of t new) (lay_states aig_values m q nets own free registers (table_of s old))
   pub keeps : Keeps aig_ops s t
   pub valid : AreValid aig_ops t new
   pub long : length new ≡ length old
 
 -- states are being laid: those that are left lead from here to where all lead from the start
-pub record IsLayingStates (m : MachineData) (nets own free : ℕ → ℕ) (all left : List ℕ) (s t : Seen) (old now : List ℕ) : Type 0 where
-  pub leads : (q : Question) → TellsFollows q.follows free all → SameOn (λ _. true) (lay_states aig_values m q nets own free left (table_of t now)) (lay_states aig_values m q nets own free all (table_of s old))
+pub record IsLayingStates (m : MachineData) (nets own free : ℕ → ℕ) (all left : List ℕ) (s t : Seen)
+    (old now : List ℕ) : Type 0 where
+  pub leads : (q : Question) → TellsFollows q.follows free all →
+      SameOn (λ _. true) (lay_states aig_values m q nets own free left (table_of t now))
+      (lay_states aig_values m q nets own free all (table_of s old))
   pub keeps : Keeps aig_ops s t
   pub valid : AreValid aig_ops t now
   pub long : length now ≡ length old
@@ -38,6 +43,8 @@ carried own other = if nat_eq own 0 then other else own
 
 -- literals of states were put at these registers where there were none
 pub record Carries (registers states old new : List ℕ) : Type 0 where
-  pub at : (r : ℕ) → slice_index_or new r 0 ≡ (if is_in registers r then carried (slice_index_or old r 0) (slice_index_or states r 0) else slice_index_or old r 0)
+  pub at : (r : ℕ) →
+      slice_index_or new r 0
+      ≡ (if is_in registers r then carried (slice_index_or old r 0) (slice_index_or states r 0) else slice_index_or old r 0)
   pub valid : (s : Seen) → AreValid aig_ops s states → AreValid aig_ops s old → AreValid aig_ops s new
   pub long : length new ≡ length old

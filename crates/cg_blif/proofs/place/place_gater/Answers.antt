@@ -8,7 +8,8 @@ use Rattle.cg_builder.specs.Calls.{gater_of}
 use Rattle.cg_parts.specs.Part.{Gate, mentioned}
 use Rattle.cg_blif_text.specs.Placing.{at_role, nets_at, part_or, placed_part}
 use Rattle.cg_blif_text.specs.Telling.{with_said}
-use Rattle.cg_blif.proofs.PlaceLemmas.{first_net, gater_named, gater_said, gater_test, hears_part, no_clock, no_enable, no_output, one_at}
+use Rattle.cg_blif.proofs.PlaceLemmas.{first_net, gater_named, gater_said, gater_test, hears_part, no_clock, no_enable, no_output}
+use Rattle.cg_blif.proofs.PlaceLemmas.{one_at}
 use Rattle.cg_blif.proofs.place.place_gater.Goals as goal
 
 abbrev bytes : List (Bor (List ℕ)) → List (List ℕ)

@@ -5,7 +5,8 @@ use Rattle.cg_limit.specs.declared.TheConstants.{MOST_REGISTERS}
 use Rattle.cg_builder.specs.inner.Mentioned.{IsMentionFault, IsMentioned}
 use Rattle.cg_netlist.specs.Names.{with_names}
 use Rattle.cg_netlist.specs.Wiring.{NetName}
-use Rattle.cg_builder.proofs.AddedParts.{fault_first, fault_then, lent_inverted, lent_places, lent_words, puts_register, register_names, register_words}
+use Rattle.cg_builder.proofs.AddedParts.{fault_first, fault_then, lent_inverted, lent_places, lent_words, puts_register}
+use Rattle.cg_builder.proofs.AddedParts.{register_names, register_words}
 use Rattle.cg_builder.proofs.Mentions.{with_names_grows}
 use Rattle.cg_builder.proofs.adding.add_register.Goals as goal
 

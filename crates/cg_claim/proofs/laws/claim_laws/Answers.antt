@@ -1,6 +1,8 @@
 use Rattle.cg_claim.proofs.IdleSizes.{idle_is_no_larger}
 use Rattle.cg_claim.proofs.laws.claim_laws.Goals as goal
-use Rattle.cg_claim.proofs.ClaimsSaid.{apart_is_unseen, cone_is_reached, gates_are_operations, goal_violates, hold_is_said, hold_leaves_are_same, idle_goal, idle_is_said, never_is_tried, stable_is_said, targets_suffice, unseen_is_said}
+use Rattle.cg_claim.proofs.ClaimsSaid.{apart_is_unseen, cone_is_reached, gates_are_operations, goal_violates, hold_is_said}
+use Rattle.cg_claim.proofs.ClaimsSaid.{hold_leaves_are_same, idle_goal, idle_is_said, never_is_tried, stable_is_said}
+use Rattle.cg_claim.proofs.ClaimsSaid.{targets_suffice, unseen_is_said}
 
 pub returns : goal.returns
 returns c = record {

@@ -1,4 +1,5 @@
-use Rattle.std.proofs.Common.{◌≡◌, ◌+◌, ◌<◌, ℕ, List, length, map, slice_get, slice_index_or, slice_set, Some, sym, subst, ap, ◌∙◌, arith, if◌then◌else◌, false}
+use Rattle.std.proofs.Common.{◌≡◌, ◌+◌, ◌<◌, ℕ, List, length, map, slice_get, slice_index_or, slice_set, Some, sym, subst, ap, ◌∙◌}
+use Rattle.std.proofs.Common.{arith, if◌then◌else◌, false}
 use Rattle.std.specs.Option.{option_map}
 use Rattle.std.proofs.lemmas.List.{length-map}
 use Rattle.std.proofs.lemmas.Bool.{both_ways}

@@ -1,5 +1,6 @@
 use Rattle.cg_extract.proofs.laws.extract_laws.Goals as goal
-use Rattle.cg_extract.proofs.ForGating.{bare_is_netlist, bare_is_writable, lifted_asks, lifted_of_ungated, lifted_own, lifted_shows_nets, unrefused_untested}
+use Rattle.cg_extract.proofs.ForGating.{bare_is_netlist, bare_is_writable, lifted_asks, lifted_of_ungated, lifted_own}
+use Rattle.cg_extract.proofs.ForGating.{lifted_shows_nets, unrefused_untested}
 use Rattle.cg_extract.proofs.LiftedMachine.{lifted_is_machine, lifted_is_small}
 use Rattle.cg_extract.proofs.LiftedRun.{lifted_is_run}
 

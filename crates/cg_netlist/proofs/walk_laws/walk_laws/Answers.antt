@@ -1,4 +1,5 @@
-use Rattle.cg_netlist.proofs.WalkLawsHold.{clock_is_apart, gate_order_is_walk, nets_are_all, nets_do_settle, walk_leaves_moment, walk_order_is_walk}
+use Rattle.cg_netlist.proofs.WalkLawsHold.{clock_is_apart, gate_order_is_walk, nets_are_all, nets_do_settle, walk_leaves_moment}
+use Rattle.cg_netlist.proofs.WalkLawsHold.{walk_order_is_walk}
 use Rattle.cg_netlist.proofs.walk_laws.walk_laws.Goals as goal
 
 pub returns : goal.returns

@@ -6,7 +6,8 @@ use Rattle.cg_machine.specs.Claims.{Literal}
 use Rattle.cg_machine.specs.Machine.{IsNet}
 use Rattle.cg_stage.specs.Joined.{join, join_limit}
 use Rattle.cg_stage.proofs.Joins.{net_kept}
-use Rattle.cg_planner.proofs.Adding.{gate_fits, join_on, keeps_then, limit_on, net_among, nets_at, nets_of, passes_first, passes_same}
+use Rattle.cg_planner.proofs.Adding.{gate_fits, join_on, keeps_then, limit_on, net_among, nets_at, nets_of, passes_first}
+use Rattle.cg_planner.proofs.Adding.{passes_same}
 use Rattle.cg_planner.proofs.insert.join.Goals as goal
 
 pub add_gate-requires : goal.add_gate-requires

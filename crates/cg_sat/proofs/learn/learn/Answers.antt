@@ -1,4 +1,5 @@
-use Rattle.std.proofs.Common.{◌≡◌, ◌+◌, ◌-◌, ◌≤◌, ◌<◌, [], ◌∷◌, ◌++◌, ◌∙◌, true, sym, subst, ap, refl, arith, length, Some, get_or, take, map}
+use Rattle.std.proofs.Common.{◌≡◌, ◌+◌, ◌-◌, ◌≤◌, ◌<◌, [], ◌∷◌, ◌++◌, ◌∙◌, true, sym, subst, ap, refl, arith, length, Some, get_or}
+use Rattle.std.proofs.Common.{take, map}
 use Rattle.std.specs.List.{slice_get}
 use Rattle.cg_formula.specs.Assignments.{IsFalsified}
 use Rattle.cg_sat.specs.inner.Store.{clause_at}

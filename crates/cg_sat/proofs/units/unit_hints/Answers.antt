@@ -1,4 +1,5 @@
-use Rattle.std.proofs.Common.{◌≡◌, ◌+◌, ◌≤◌, [], ◌∷◌, ◌++◌, ◌∙◌, true, Some, sym, subst, ap, refl, arith, rules, get_or, take, length}
+use Rattle.std.proofs.Common.{◌≡◌, ◌+◌, ◌≤◌, [], ◌∷◌, ◌++◌, ◌∙◌, true, Some, sym, subst, ap, refl, arith, rules, get_or, take}
+use Rattle.std.proofs.Common.{length}
 use Rattle.std.proofs.lemmas.List.{take_all}
 use Rattle.cg_formula.specs.declared.formula.Lit.{Lit}
 use Rattle.cg_formula.specs.Lits.{inverse, is_in}

@@ -18,7 +18,8 @@ use Rattle.cg_unroll.specs.inner.Copying.{AreLeavesPlaced, Starts}
 use Rattle.cg_unroll.specs.inner.Laid.{LaysCopy}
 use Rattle.cg_unroll.specs.inner.States.{Carries, LaysStates, TellsFollows}
 use Rattle.cg_unroll.proofs.Building.{if_err, if_ok}
-use Rattle.cg_unroll.proofs.Kept.{after_table, all_tables, changed_table, four, free_table, others_table, own_table, places_there, registers_there, sides_fit, states_table, zero_table}
+use Rattle.cg_unroll.proofs.Kept.{after_table, all_tables, changed_table, four, free_table, others_table, own_table, places_there}
+use Rattle.cg_unroll.proofs.Kept.{registers_there, sides_fit, states_table, zero_table}
 use Rattle.cg_unroll.proofs.LeafTables.{leaves_placed}
 use Rattle.cg_unroll.proofs.Stages.{after_fails, before_fails, changed_fails, goal_is, states_fail_whole}
 use Rattle.cg_unroll.proofs.build.build_claim.Goals as goal

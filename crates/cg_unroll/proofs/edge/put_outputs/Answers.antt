@@ -1,4 +1,5 @@
-use Rattle.std.proofs.Common.{◌≡◌, ◌<◌, ◌+◌, ℕ, Bool, List, Some, get_or, length, slice_get, slice_set, take, sym, ◌∙◌, ap, subst, arith}
+use Rattle.std.proofs.Common.{◌≡◌, ◌<◌, ◌+◌, ℕ, Bool, List, Some, get_or, length, slice_get, slice_set, take, sym, ◌∙◌, ap, subst}
+use Rattle.std.proofs.Common.{arith}
 use Rattle.std.proofs.lemmas.Option.{slice_get-get_or}
 use Rattle.cg_unroll.specs.inner.Filling.{AgreesAt, IsValid, Puts, shown_of}
 use Rattle.cg_unroll.proofs.Filling.{firsts, outputs_more, puts_none, take_firsts}

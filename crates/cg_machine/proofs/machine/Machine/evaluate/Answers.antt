@@ -7,7 +7,8 @@ use Rattle.cg_netlist.specs.Netlist.{widest_of}
 use Rattle.cg_machine.specs.inner.Putting.{put_bits}
 use Rattle.cg_machine.specs.Gates.{AddedGate}
 use Rattle.cg_machine.specs.Machine.{IsInputs, IsMachine, IsState, MachineData, values}
-use Rattle.cg_machine.proofs.Cycles.{clock_below, delays_below, evaluated, gate_inputs_below, gate_outputs_below, inputs_below, widest_kept}
+use Rattle.cg_machine.proofs.Cycles.{clock_below, delays_below, evaluated, gate_inputs_below, gate_outputs_below, inputs_below}
+use Rattle.cg_machine.proofs.Cycles.{widest_kept}
 use Rattle.cg_machine.proofs.machine.Machine.evaluate.Goals as goal
 
 pub put_bits-requires-clause-nets : goal.put_bits-requires-clause-nets

@@ -1,4 +1,5 @@
-use Rattle.std.proofs.Common.{◌≡◌, ◌<◌, ◌≤◌, ℕ, Bool, false, List, Some, get_or, length, map, slice_get, unwrap_or, refl, sym, ◌∙◌, ap, subst, arith}
+use Rattle.std.proofs.Common.{◌≡◌, ◌<◌, ◌≤◌, ℕ, Bool, false, List, Some, get_or, length, map, slice_get, unwrap_or, refl, sym, ◌∙◌}
+use Rattle.std.proofs.Common.{ap, subst, arith}
 use Rattle.std.proofs.lemmas.Bool.{leb-false, leb-true}
 use Rattle.cg_netlist.specs.Circuit.{RegisterCell}
 use Rattle.cg_netlist.specs.History.{next_value}

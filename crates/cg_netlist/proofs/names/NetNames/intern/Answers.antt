@@ -1,6 +1,7 @@
 use Rattle.std.proofs.Common.{◌≡◌, true, false, Some, ◌++◌, ◌∷◌, [], length, slice_get, subst, sym, ap, ◌∙◌}
 use Rattle.cg_netlist.specs.Names.{is_known, with_name, bytes_of}
-use Rattle.cg_netlist.proofs.NameLemmas.{name_at, unknown_name, inserted_name, is_known-bytes_of, with_name-known, with_name-unknown, last_name}
+use Rattle.cg_netlist.proofs.NameLemmas.{name_at, unknown_name, inserted_name, is_known-bytes_of, with_name-known}
+use Rattle.cg_netlist.proofs.NameLemmas.{with_name-unknown, last_name}
 use Rattle.std.proofs.lemmas.List.{length-map}
 use Rattle.cg_netlist.proofs.names.NetNames.intern.Goals as goal
 

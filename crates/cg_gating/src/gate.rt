@@ -41,9 +41,13 @@ pub fn gate(
 {
     let gated = gate_netlist(alloc, netlist, request, progress)?;
     let Ok(played) = play_both(alloc, netlist, &gated.netlist, request.stimulus) else {
+        // By a call, here and below, as its parts would else be dropped one by one in the proof.
+        drop(gated);
         return Err(AddFault::NoMemory);
     };
-    finish(alloc, request, &gated, &played)
+    let texts = finish(alloc, request, &gated, &played);
+    drop(gated);
+    texts
 }
 
 /// Gates a netlist as [`gate`] does, and shows the history on which the stimulus is played on the written netlist to a watcher,
@@ -65,9 +69,12 @@ pub fn gate_watched(
 {
     let gated = gate_netlist(alloc, netlist, request, progress)?;
     let Ok(played) = watch_both(alloc, netlist, &gated.netlist, request.stimulus, watcher) else {
+        drop(gated);
         return Err(AddFault::NoMemory);
     };
-    finish(alloc, request, &gated, &played)
+    let texts = finish(alloc, request, &gated, &played);
+    drop(gated);
+    texts
 }
 
 /// Gates a generated pipeline of a size, and answers what is said of it. The stimulus that stands in the request is played.
@@ -86,10 +93,12 @@ pub fn gate_demo(
 {
     let stimulus = request.stimulus.unwrap();
     let gated = gate_netlist(alloc, netlist, request, progress)?;
-    let Ok(text) = demo_said(alloc, size, netlist, &gated, stimulus) else {
-        return Err(AddFault::NoMemory);
-    };
-    Ok(text)
+    let said = demo_said(alloc, size, netlist, &gated, stimulus);
+    drop(gated);
+    match said {
+        Ok(text) => Ok(text),
+        Err(_) => Err(AddFault::NoMemory),
+    }
 }
 
 /// What is said of a generated pipeline that was gated.

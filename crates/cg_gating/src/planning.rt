@@ -60,7 +60,11 @@ pub fn gate_netlist(
     let plan = plan_netlist(alloc, netlist, request, progress)?;
     match write_plan(alloc, &plan, request) {
         Ok(netlist) => Ok(Gated { plan, netlist }),
-        Err(fault) => Err(fault),
+        Err(fault) => {
+            // By a call, as its parts would else be dropped one by one in the proof; so too below.
+            drop(plan);
+            Err(fault)
+        }
     }
 }
 
@@ -121,6 +125,7 @@ fn plan_netlist(
         None => plan_machine(alloc, made.machine, request, None, progress),
         Some(stimulus) => {
             let Ok(zeros) = machine_zeros(alloc, netlist, made.origin.as_slice(), stimulus) else {
+                drop(made);
                 return Err(AddFault::NoMemory);
             };
             let idle = Idle {

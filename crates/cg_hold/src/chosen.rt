@@ -55,12 +55,20 @@ impl Chosen {
             return Err(AddFault::NoMemory);
         };
         let Ok(cycles) = Cycles::of(alloc, machine) else {
+            // By calls, here and below, as their parts would else be dropped one by one in the proof of each way out.
+            drop(chosen);
             return Err(AddFault::NoMemory);
         };
         let mut trier = Trier::new(alloc);
-        match chosen.look_at_all(alloc, &mut trier, machine, &cycles, width, idle, progress) {
+        let looked = chosen.look_at_all(alloc, &mut trier, machine, &cycles, width, idle, progress);
+        drop(trier);
+        drop(cycles);
+        match looked {
             Ok(()) => Ok(chosen),
-            Err(fault) => Err(fault),
+            Err(fault) => {
+                drop(chosen);
+                Err(fault)
+            }
         }
     }
 

@@ -20,8 +20,8 @@ returns-clause-gives g c =
     let read = c.args.netlist.now in
     let gated = c.in_ok-gated.gated in
     let what = subst (λ (r : RequestData). IsWhatPlayed None r.stimulus read gated.netlist c.in-Ok.played) c.request.view_is c.in-Ok.ensures in
-    if_ok (AreTexts request (told gated.plan) gated.netlist c.in-Ok.played) (GivesGated request None read) c.finish.result
-    (gives_all request None read gated.netlist (told gated.plan) c.in-Ok.played c.in_ok-gated.ensures.gated what) c.finish.ensures.texts
+    if_ok (AreTexts request (told gated.plan) gated.netlist c.in-Ok.played) (GivesGated request None read) c.finish-texts.result
+    (gives_all request None read gated.netlist (told gated.plan) c.in-Ok.played c.in_ok-gated.ensures.gated what) c.finish-texts.ensures.texts
 
 pub returns-clause-headline : goal.returns-clause-headline
 returns-clause-headline g c =
@@ -29,15 +29,15 @@ returns-clause-headline g c =
     let read = c.args.netlist.now in
     let gated = c.in_ok-gated.gated in
     let what = subst (λ (r : RequestData). IsWhatPlayed None r.stimulus read gated.netlist c.in-Ok.played) c.request.view_is c.in-Ok.ensures in
-    if_ok (AreTexts request (told gated.plan) gated.netlist c.in-Ok.played) (Headline request None read) c.finish.result
-    (means_all request None read gated.netlist (told gated.plan) c.in-Ok.played c.in_ok-gated.ensures.gated what c.in_ok-gated.ensures.proper c.requires) c.finish.ensures.texts
+    if_ok (AreTexts request (told gated.plan) gated.netlist c.in-Ok.played) (Headline request None read) c.finish-texts.result
+    (means_all request None read gated.netlist (told gated.plan) c.in-Ok.played c.in_ok-gated.ensures.gated what c.in_ok-gated.ensures.proper c.requires) c.finish-texts.ensures.texts
 
 pub returns-clause-unstopped : goal.returns-clause-unstopped
 returns-clause-unstopped g c =
     let request = c.args.request.now in
     let read = c.args.netlist.now in
     let gated = c.in_ok-gated.gated in
-    on_ok (stops_at request read ≡ None) c.finish.result (unstopped request read c.in_ok-gated.ensures.proper c.requires (told gated.plan) c.in_ok-gated.ensures.gated.plan gated.netlist c.in_ok-gated.ensures.gated)
+    on_ok (stops_at request read ≡ None) c.finish-texts.result (unstopped request read c.in_ok-gated.ensures.proper c.requires (told gated.plan) c.in_ok-gated.ensures.gated.plan gated.netlist c.in_ok-gated.ensures.gated)
 
 pub returns-clause-fault : goal.returns-clause-fault
-returns-clause-fault g c = wanting (stops_at c.args.request.now c.args.netlist.now) c.finish.result c.finish.ensures.fault
+returns-clause-fault g c = wanting (stops_at c.args.request.now c.args.netlist.now) c.finish-texts.result c.finish-texts.ensures.fault

@@ -1,6 +1,8 @@
 pub mod Asked
 pub mod Bare
+pub mod BareOfUngated
 pub mod BareParts
+pub mod Copied
 pub mod Depths
 pub mod Extracted
 pub mod ForGating

@@ -1,6 +1,5 @@
 -- What clock nets do from one moment to the next: the output of a gating cell rises where the clock rises and the and of the
--- enables
--- on its chain was 1 a moment before. A latch behind a gated clock follows its enable wherever that clock stays low.
+-- enables on its chain was 1 a moment before. A latch behind a gated clock follows its enable wherever that clock stays low.
 use Rattle.std.proofs.Common.{[], ◌≡◌, ℕ, Bool, true, false, not, ◌||◌, ◌&&◌, if◌then◌else◌, cond, List, ◌∷◌, length, slice_get}
 use Rattle.std.proofs.Common.{nat_eq, unwrap_or, Option, None, Some, refl, ap, sym, ◌∙◌, subst, inl, inr, arith}
 use Rattle.std.specs.List.{list_any}

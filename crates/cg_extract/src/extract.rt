@@ -38,6 +38,14 @@ pub enum ExtractFault {
     NoMemory,
 }
 
+impl From<AllocError> for ExtractFault {
+    ghost from_gives = { λ _ e. e ≡ NoMemory };
+
+    fn from(_refused: AllocError) -> ExtractFault {
+        ExtractFault::NoMemory
+    }
+}
+
 /// The machine of a netlist with gating cells.
 ///
 /// No output of the netlist may stand twice, and no net may have a name that begins with the prefix of the names of added nets.
@@ -56,10 +64,8 @@ pub fn extract(
     if let Some(gater) = first_refused(netlist, and2) {
         return Err(ExtractFault::Gater(gater));
     }
-    match lifted(alloc, netlist, prefix) {
-        Ok(extracted) => Ok(extracted),
-        Err(_) => Err(ExtractFault::NoMemory),
-    }
+    let extracted = lifted(alloc, netlist, prefix)?;
+    Ok(extracted)
 }
 
 /// The machine of a netlist no gating cell of which is refused.

@@ -8,9 +8,8 @@ ghost use Rattle.cg_extract.specs.Laws.{LiftedIsSmall, LiftedOfUngated, LiftedOw
 /// that is kept has the bit that the machine shows.
 ///
 /// What is left of the netlist is a netlist with its parts by name, is writable where the netlist is, and is the machine's own.
-/// Each
-/// gate is an and of two nets, and there is none where no gating cell stands behind another. Where there is no gating cell, the
-/// machine is the netlist's own; where none is refused, none has a test pin.
+/// Each gate is an and of two nets, and there is none where no gating cell stands behind another. Where there is no gating cell,
+/// the machine is the netlist's own; where none is refused, none has a test pin.
 ///
 /// The call does nothing; callers use what it ensures.
 pub fn extract_laws()

@@ -9,6 +9,7 @@ ghost use Rattle.cg_insert.specs.inner.GatedParts.{clocked_parts, with_clock};
 ghost use Rattle.cg_insert.specs.inner.Telling.{MayTell, WasTold, told};
 ghost use Rattle.cg_builder.specs.Building.{fresh};
 
+use crate::copy::copy;
 use cg_builder::builder::Builder;
 use cg_insert::clocked::tell_register;
 use cg_insert::logic::tell_cells;
@@ -23,6 +24,19 @@ use std::alloc::{AllocError, Global};
 /// The netlist without its gating cells: its logic cells and registers in their order, every register on the clock, and all its
 /// nets but the outputs of gating cells.
 pub(crate) fn bare(alloc: Global, netlist: &Netlist) -> Result<Netlist, AllocError>
+    requires { IsDistinct nat_eq netlist.now.outputs }
+    ensures { IfOk result (λ kept. kept ≡ bare netlist.now) }
+{
+    if netlist.gaters() == 0 {
+        // Nothing is left out, and no net gets another number.
+        copy(alloc, netlist)
+    } else {
+        stripped(alloc, netlist)
+    }
+}
+
+/// The netlist without its gating cells, made of its parts.
+fn stripped(alloc: Global, netlist: &Netlist) -> Result<Netlist, AllocError>
     requires { IsDistinct nat_eq netlist.now.outputs }
     ensures { IfOk result (λ kept. kept ≡ bare netlist.now) }
 {
@@ -43,9 +57,7 @@ fn told_builder(alloc: Global, netlist: &Netlist) -> Result<Builder, AddFault>
     ensures { IfOk result (λ builder. builder ≡ told (fresh netlist.now.model) (bare_parts netlist.now.names netlist.now)) }
 {
     let _nets = netlist.nets();
-    let Ok(mut builder) = Builder::new(alloc, netlist.model()) else {
-        return Err(AddFault::NoMemory);
-    };
+    let mut builder = Builder::new(alloc, netlist.model())?;
     let names = GatedNames::of_netlist(alloc, netlist);
     tell(alloc, &mut builder, &names, netlist)?;
     Ok(builder)

@@ -1,6 +1,13 @@
-use Rattle.cg_extract.proofs.BareParts.{finished}
+use Rattle.std.proofs.Common.{◌≡◌, IfOk, sym, subst, arith}
+use Rattle.cg_netlist.specs.Circuit.{Circuit}
+use Rattle.cg_extract.proofs.BareOfUngated.{bare_same, nothing}
 use Rattle.cg_extract.proofs.strip.bare.Goals as goal
 
-pub returns-in-Ok-finish : goal.returns-in-Ok-finish
-returns-in-Ok-finish c =
-    finished c.args.netlist.now c.nets-nets.ensures.netlist c.requires c.in-Ok.builder c.in-Ok.ensures c.in-Ok-finish.kept c.in-Ok-finish.ensures
+pub copy-requires : goal.copy-requires
+copy-requires c = nothing c.args.netlist.now.gaters (omega (arith, c.gaters.ensures.count, c.if-gaters-eq0.true))
+
+pub returns-then-gaters-eq0 : goal.returns-then-gaters-eq0
+returns-then-gaters-eq0 c =
+    let d : Circuit = c.args.netlist.now in
+    let none = nothing d.gaters (omega (arith, c.gaters.ensures.count, c.if-gaters-eq0.true)) in
+    subst (λ (kept : Circuit). IfOk c.copy.result (λ made. made ≡ kept)) (sym (bare_same d c.gaters.ensures.netlist none c.requires)) c.copy.ensures

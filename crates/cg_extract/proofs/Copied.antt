@@ -1,0 +1,72 @@
+-- Lists that are copied one by one, and a table of names that is filled so, in which each net stands at its own place.
+use Rattle.std.proofs.Common.{◌≡◌, ◌≢◌, ℕ, zero, suc, ◌+◌, ◌<◌, true, false, List, [], ◌∷◌, ◌++◌, map, length, take, get_or, nat_eq}
+use Rattle.std.proofs.Common.{slice_get, unwrap_or, Some, refl, sym, ◌∙◌, ap, inl, inr, arith}
+use Rattle.std.specs.List.{AllPairs, position_or_len, range_with_len}
+use Rattle.std.proofs.lemmas.Bool.{cases_Bool}
+use Rattle.std.proofs.lemmas.List.{map-id}
+use Rattle.std.proofs.lemmas.List.FromFn.{fill_by_all, get_or-range_with_len, length-range_with_len, map-range_with_len_more}
+use Rattle.std.proofs.lemmas.Option.{none-some, slice_get-get_or, slice_get_within, unwrap_or-slice_get}
+use Rattle.cg_netlist.specs.NamePlaces.{AreOrdered}
+use Rattle.cg_netlist.specs.Names.{is_known, with_name}
+use Rattle.cg_netlist.specs.Places.{number_in}
+use Rattle.cg_netlist.specs.Wiring.{net_name}
+use Rattle.cg_netlist.proofs.DifferentNames.{known_at}
+use Rattle.cg_netlist.proofs.Driven.{distinct_range}
+use Rattle.cg_netlist.proofs.NameLemmas.{with_name-unknown}
+use Rattle.cg_netlist.proofs.PlaceLemmas.{place_is, same_net}
+use Rattle.cg_netlist.proofs.RankingLemmas.{take_next}
+
+-- one element more is copied
+pub copied_more : {X : Type 0} (xs before after : List X) (k : ℕ) (x : X) → before ≡ take k xs → slice_get xs k ≡ Some x → after ≡ before ++ x ∷ [] → after ≡ take (k + 1) xs
+copied_more xs before after k x copied at pushed = pushed ∙ (ap (λ ys. ys ++ x ∷ []) copied ∙ sym (take_next xs k x at))
+
+-- what is among the first of a list is there in the list
+among_first : {X : Type 0} (xs : List X) (k i : ℕ) (x : X) → slice_get (take k xs) i ≡ Some x → (i < k) × (slice_get xs i ≡ Some x)
+among_first xs zero i x at = absurd (none-some x at)
+among_first [] (suc k) i x at = absurd (none-some x at)
+among_first (y ∷ xs) (suc k) zero x at = (omega arith, at)
+among_first (y ∷ xs) (suc k) (suc i) x at = let more = among_first xs k i x at in (omega (arith, more.0), more.1)
+
+-- one number more
+pub range_more : (n : ℕ) → range_with_len 0 (n + 1) ≡ range_with_len 0 n ++ n ∷ []
+range_more n = sym (map-id (range_with_len 0 (n + 1))) ∙ (map-range_with_len_more (λ k. k) 0 n n (omega arith) ∙ ap (λ ks. ks ++ n ∷ []) (map-id (range_with_len 0 n)))
+
+-- the net of a number below n stands at its own place
+pub own_place : (n net : ℕ) → net < n → slice_get (range_with_len 0 n) net ≡ Some net
+own_place n net below =
+    let long = length-range_with_len 0 n in
+    let is : get_or (range_with_len 0 n) net 0 ≡ net = omega (arith, get_or-range_with_len 0 n net 0 below) in
+    slice_get-get_or (range_with_len 0 n) net 0 (omega (arith, long, below)) ∙ ap Some is
+
+module _ (names : List (List ℕ)) (different : AllPairs (λ name other. name ≢ other) names) where
+  abbrev n : ℕ
+  n = length names
+
+  -- a name is none of those before it
+  unknown_yet : (k : ℕ) (name : List ℕ) → slice_get names k ≡ Some name → is_known (take k names) name ≡ false
+  unknown_yet k name at = elim (cases_Bool (is_known (take k names) name)) [
+    | inr none ↦ none
+    | inl known ↦
+        let found = known_at (take k names) name known in
+        let there = among_first names k found.0 name found.1 in
+        let same : found.0 ≡ k = same_net names found.0 k different (slice_get_within names found.0 name there.1) (slice_get_within names k name at) (ap (λ o. unwrap_or o []) (there.1 ∙ sym at)) in
+        absurd (let none : ⊥ = omega (arith, there.0, same) in none)
+  ]
+
+  -- so it goes behind them
+  pub name_more : (k : ℕ) (name : List ℕ) → slice_get names k ≡ Some name → with_name (take k names) name ≡ take (k + 1) names
+  name_more k name at = with_name-unknown (take k names) name (unknown_yet k name at) ∙ sym (take_next names k name at)
+
+  -- in the order of the numbers the names are these
+  pub names_in_order : map (net_name names) (range_with_len 0 n) ≡ names
+  names_in_order = sym (fill_by_all (net_name names) names n [] refl (λ k below. sym (unwrap_or-slice_get names k [])))
+
+  -- and the place of a net is its number
+  pub ordered_by_number : AreOrdered names (range_with_len 0 n) (range_with_len 0 n)
+  ordered_by_number = record {
+    within = λ k d below. let long = length-range_with_len 0 n in let is = get_or-range_with_len 0 n k d (omega (arith, long, below)) in omega (arith, is, long, below);
+    once = distinct_range n 0;
+    different = different;
+    long = length-range_with_len 0 n;
+    tells = λ net below. ap (λ o. unwrap_or o 0) (own_place n net below) ∙ sym (place_is (range_with_len 0 n) net net (distinct_range n 0) (own_place n net below));
+  }

@@ -1,14 +1,13 @@
 -- Lists that are copied one by one, and a table of names that is filled so, in which each net stands at its own place.
-use Rattle.std.proofs.Common.{◌≡◌, ◌≢◌, ℕ, zero, suc, ◌+◌, ◌<◌, true, false, List, [], ◌∷◌, ◌++◌, map, length, take, get_or, nat_eq}
+use Rattle.std.proofs.Common.{◌≡◌, ◌≢◌, ℕ, zero, suc, ◌+◌, ◌<◌, false, List, [], ◌∷◌, ◌++◌, map, length, take, get_or}
 use Rattle.std.proofs.Common.{slice_get, unwrap_or, Some, refl, sym, ◌∙◌, ap, inl, inr, arith}
-use Rattle.std.specs.List.{AllPairs, position_or_len, range_with_len}
+use Rattle.std.specs.List.{AllPairs, range_with_len}
 use Rattle.std.proofs.lemmas.Bool.{cases_Bool}
 use Rattle.std.proofs.lemmas.List.{map-id}
 use Rattle.std.proofs.lemmas.List.FromFn.{fill_by_all, get_or-range_with_len, length-range_with_len, map-range_with_len_more}
 use Rattle.std.proofs.lemmas.Option.{none-some, slice_get-get_or, slice_get_within, unwrap_or-slice_get}
 use Rattle.cg_netlist.specs.NamePlaces.{AreOrdered}
 use Rattle.cg_netlist.specs.Names.{is_known, with_name}
-use Rattle.cg_netlist.specs.Places.{number_in}
 use Rattle.cg_netlist.specs.Wiring.{net_name}
 use Rattle.cg_netlist.proofs.DifferentNames.{known_at}
 use Rattle.cg_netlist.proofs.Driven.{distinct_range}

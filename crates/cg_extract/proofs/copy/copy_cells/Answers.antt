@@ -1,4 +1,4 @@
-use Rattle.std.proofs.Common.{◌≡◌, Some, slice_get, ap, sym, ◌∙◌}
+use Rattle.std.proofs.Common.{slice_get, ap, sym, ◌∙◌}
 use Rattle.cg_extract.proofs.Copied.{copied_more}
 use Rattle.cg_extract.proofs.copy.copy_cells.Goals as goal
 

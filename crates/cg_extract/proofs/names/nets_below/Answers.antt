@@ -1,4 +1,4 @@
-use Rattle.std.proofs.Common.{◌≡◌, ◌+◌, ◌++◌, ◌∷◌, [], ap, sym, ◌∙◌, arith}
+use Rattle.std.proofs.Common.{◌++◌, ◌∷◌, [], ap, sym, ◌∙◌}
 use Rattle.std.specs.List.{range_with_len}
 use Rattle.cg_extract.proofs.Copied.{range_more}
 use Rattle.cg_extract.proofs.names.nets_below.Goals as goal

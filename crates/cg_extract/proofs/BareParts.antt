@@ -1,6 +1,6 @@
 -- The parts that a builder is told say the netlist without its gating cells.
-use Rattle.std.proofs.Common.{[], ◌≡◌, ℕ, ◌≤◌, Bool, false, List, ◌++◌, map, length, slice_get, unwrap_or, Option, None, Some, Ok}
-use Rattle.std.proofs.Common.{nat_eq, refl, ap, sym, ◌∙◌, subst}
+use Rattle.std.proofs.Common.{[], ◌≡◌, ℕ, ◌≤◌, Bool, false, List, ◌++◌, map, length, slice_get, unwrap_or, Option, None, Some, Result, Ok, Err}
+use Rattle.std.proofs.Common.{nat_eq, refl, ap, sym, ◌∙◌, subst, IfOk, MatchResult, IsErrAnd}
 use Rattle.std.specs.List.{IsDistinct}
 use Rattle.std.specs.Option.{option_map, option_to_list}
 use Rattle.std.proofs.lemmas.List.{append-nil}
@@ -13,6 +13,7 @@ use Rattle.cg_parts.proofs.TakenFromNetlist.{taken_own}
 use Rattle.cg_netlist.specs.Circuit.{Circuit, RegisterCell}
 use Rattle.cg_netlist.specs.Netlist.{IsNetlist}
 use Rattle.cg_builder.specs.Building.{Building, Finishes, fresh}
+use Rattle.cg_parts.specs.declared.fault.NetFault.{NetFault}
 use Rattle.cg_parts.specs.Part.{Clock, Input, Logic, Output}
 use Rattle.cg_parts.specs.Said.{nothing_said, said}
 use Rattle.cg_parts.specs.Says.{AreTaken, Says, parts_from, register_part}
@@ -81,7 +82,14 @@ module _ (c : Circuit) (whole : IsNetlist c) (once : IsDistinct nat_eq c.outputs
   }
 
   -- and then makes that netlist
-  pub finished : (b : Building) → b ≡ told (fresh c.model) (bare_parts c.names c) → (netlist : Circuit) → Finishes b (Ok netlist) → netlist ≡ bare c
-  finished b is netlist finishes =
+  netlist_finished : (b : Building) → b ≡ told (fresh c.model) (bare_parts c.names c) → (netlist : Circuit) → Finishes b (Ok netlist) → netlist ≡ bare c
+  netlist_finished b is netlist finishes =
       let its_said : said (bare_parts c.names c) ≡ b.said = sym told_said ∙ ap (λ (d : Building). d.said) (sym is) in
       says_one c.model (bare_parts c.names c) netlist (bare c) (subst (λ model. Says model (bare_parts c.names c) netlist) (ap (λ (d : Building). d.model) is) (finishes (bare_parts c.names c) its_said)) parts_say
+
+  -- whatever its faults are mapped to
+  pub finished : {E : Type 0} (Q : NetFault → E → Type 0) (b : Building) (made : Result Circuit NetFault) (kept : Result Circuit E) → b ≡ told (fresh c.model) (bare_parts c.names c) → Finishes b made
+      → MatchResult made (λ netlist. kept ≡ Ok netlist) (λ fault. IsErrAnd kept (Q fault)) → IfOk kept (λ netlist. netlist ≡ bare c)
+  finished Q b (Ok netlist) kept is finishes mapped = subst (λ r. IfOk r (λ n. n ≡ bare c)) (sym mapped) (netlist_finished b is netlist finishes)
+  finished Q b (Err fault) (Ok netlist) is finishes mapped = absurd mapped
+  finished Q b (Err fault) (Err e) is finishes mapped = tt

@@ -72,10 +72,9 @@ fn chained(machine: &mut Machine, parent: Option<NetId>, own: NetId) -> Result<N
     let Some(parent) = parent else {
         return Ok(own);
     };
-    match machine.add_gate(FitKind::And2, &[parent, own]) {
-        Ok(net) => Ok(net),
-        Err(_) => Err(AllocError),
-    }
+    machine
+        .add_gate(FitKind::And2, &[parent, own])
+        .map_err(|_| AllocError)
 }
 
 /// Takes a gating cell: its enable is put beside its output net.

@@ -45,10 +45,7 @@ fn stripped(alloc: Global, netlist: &Netlist) -> Result<Netlist, AllocError>
     let Ok(builder) = told_builder(alloc, netlist) else {
         return Err(AllocError);
     };
-    match builder.finish() {
-        Ok(kept) => Ok(kept),
-        Err(_) => Err(AllocError),
-    }
+    builder.finish().map_err(|_| AllocError)
 }
 
 /// A builder that was told all parts.

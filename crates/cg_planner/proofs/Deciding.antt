@@ -1,9 +1,7 @@
 -- What a decision says of a claim, and what decisions of claims one after another say.
-use Rattle.std.proofs.Common.{◌≡◌, ℕ, Bool, true, false, if◌then◌else◌, List, [], ◌∷◌, ◌++◌, map, length, slice_get, take, None}
+use Rattle.std.proofs.Common.{◌≡◌, ℕ, Bool, true, false, if◌then◌else◌, List, [], ◌∷◌, ◌++◌, map, length, take, None}
 use Rattle.std.proofs.Common.{Some, refl, sym, ◌∙◌, ap, subst, append_assoc}
-use Rattle.std.specs.Option.{option_map}
 use Rattle.std.proofs.lemmas.List.Elements.{All-append, All-cons, All-nil}
-use Rattle.std.proofs.lemmas.Option.{slice_get-map}
 use Rattle.cg_aig.specs.Aig.{aig_ops}
 use Rattle.cg_claim.specs.Build.{claim_run}
 use Rattle.cg_claim.specs.Laws.{GoalViolates, NeverIsTried}
@@ -27,14 +25,12 @@ use Rattle.cg_hold.proofs.Decided.{decided_never, decided_sometimes}
 use Rattle.cg_hold.proofs.ListNumber.{claim_number}
 use Rattle.cg_lrat.specs.AcceptedLog.{IsAccepted}
 use Rattle.cg_machine.specs.Machine.{IsMachine, MachineData}
-use Rattle.cg_machine.specs.declared.stage.Stage.{Stage}
 use Rattle.cg_plan.specs.StageClaims.{NamedClaim}
 use Rattle.cg_plan.specs.Told.{AreCertified, Certifies, DoViolate, StageClaim}
 use Rattle.cg_plan.specs.Trying.{first_false}
 use Rattle.cg_plan.specs.declared.certificate.Certificate.{Certificate}
 use Rattle.cg_planner.specs.Planning.{AreWritable, IsWritableCertificate}
-use Rattle.cg_planner.specs.inner.Deciding.{AllCertified, Grow, IsCertified, IsDecided, IsViolated, numbered}
-use Rattle.cg_planner.specs.inner.Naming.{claims_named, named}
+use Rattle.cg_planner.specs.inner.Deciding.{AllCertified, Grow, IsCertified, IsDecided, numbered}
 use Rattle.cg_planner.proofs.Naming.{length_map}
 use Rattle.cg_unroll.specs.Claims.{IsClaim}
 use Rattle.cg_unroll.specs.declared.claim.Claim.{Claim}
@@ -119,11 +115,6 @@ false_on m c claims never = ap (λ b. if b then first_false m claims else Some c
 pub false_here : (m : MachineData) (c : NamedClaim) (claims : List NamedClaim) → is_never m c.1 ≡ false → first_false m (c ∷ claims) ≡ Some c.0
 false_here m c claims some = ap (λ b. if b then first_false m claims else Some c.0) some
 
-module _ (m : MachineData) (s : Stage) where
-  pub violated_at : (names : List ClaimName) (i : ℕ) (name : ClaimName) (bits : List LeafBit) → slice_get names i ≡ Some name → DoViolate m (named m s name).1 bits → IsViolated m (claims_named m s names) name bits
-  violated_at names i name bits at violate = record {
-    place = i;
-    question = (named m s name).1;
-    named = slice_get-map (named m s) names i ∙ ap (option_map (named m s)) at;
-    violate = violate;
-  }
+-- more and yet more
+pub grow_on : (before middle after : List Certificate) → Grow before middle → Grow middle after → Grow before after
+grow_on before middle after g h = record { more = g.more ++ h.more; whole = h.whole ∙ (ap (λ l. l ++ h.more) g.whole ∙ append_assoc before g.more h.more) }

@@ -1,25 +1,28 @@
 //! What tries stages one after another.
 
-ghost use Rattle.std.specs.Prelude.{◌≡◌, IfOk, IfErr, OnErr, OnOk};
+ghost use Rattle.std.specs.Prelude.{◌≡◌, ℕ, IsTrue, IfOk, IfErr, OnErr, OnOk};
+ghost use Rattle.cg_aig.specs.Aig.{aig_ops};
+ghost use Rattle.cg_claim.specs.Question.{Question, idle_question};
+ghost use Rattle.cg_claim.specs.Violates.{SidesFit};
 ghost use Rattle.cg_machine.specs.Extends.{Extends};
-ghost use Rattle.cg_machine.specs.Machine.{IsMachine};
-ghost use Rattle.cg_netlist.specs.declared.fault.AddFault.TheVariants.{NoMemory};
+ghost use Rattle.cg_machine.specs.Machine.{IsMachine, MachineData};
 ghost use Rattle.cg_plan.specs.Plan.{after_outcome, is_inserted};
-ghost use Rattle.cg_plan.specs.StageClaims.{all_claims};
+ghost use Rattle.cg_plan.specs.StageClaims.{all_claims, claims_of};
 ghost use Rattle.cg_plan.specs.Told.{AreAppended, MayFail, TellsOutcome, claims_for};
 ghost use Rattle.cg_plan.specs.Trying.{decided, measured, tried};
 ghost use Rattle.cg_planner.specs.Planning.{StayWritable};
 ghost use Rattle.cg_planner.specs.Trial.{WhereInserted};
-ghost use Rattle.cg_planner.specs.inner.Deciding.{Grow};
+ghost use Rattle.cg_planner.specs.inner.Deciding.{Grow, IsIdleDecided, Settles};
 ghost use Rattle.cg_planner.specs.inner.Judging.{Certifying, IsJudged, Pushes};
 ghost use Rattle.cg_planner.specs.inner.Naming.{AreNames};
 ghost use Rattle.cg_reach.specs.Fanout.{Knows};
 ghost use Rattle.cg_stage.specs.Stages.{Fits};
+ghost use Rattle.cg_unroll.specs.Claims.{IsClaim};
 
 use crate::cells::early_end;
 use crate::claims::claim_names;
 use crate::insert::insert;
-use crate::measure::wide_end;
+use crate::measure::measure;
 use crate::sets::StageSets;
 use cg_cell::library::Library;
 use cg_claim::name::ClaimName;
@@ -33,7 +36,7 @@ use cg_plan::outcome::Outcome;
 use cg_plan::settings::Settings;
 use cg_reach::fanout::Fanout;
 use cg_unroll::unroller::Unroller;
-use std::alloc::Global;
+use std::alloc::{AllocError, Global};
 
 /// What tries stages, in buffers that are kept, so that a claim costs what it reaches.
 #[derive(Drop)]
@@ -183,7 +186,7 @@ impl Judge {
         self.judge_named(machine, number, &sets, names.as_slice(), width, into)
     }
 
-    /// How a stage ends by its claims, which have these names beside that it can idle.
+    /// How a stage ends by its claims, which have these names beside that it can idle. Each is built once.
     fn judge_named(
         &mut self,
         machine: &Machine,
@@ -201,40 +204,63 @@ impl Judge {
         ensures fault { IfErr result (MayFail (measured machine.now width (all_claims machine.now stage.now) (decided machine.now stage.now))) }
         ensures grown { Grow into.old.items into.new.items }
     {
-        match wide_end(&mut self.unroller, machine, stage, names, width) {
-            Ok(None) => self.decide_claims(machine, number, stage, names, width, into),
-            Ok(Some(outcome)) => Ok(Some(outcome)),
-            Err(fault) => Err(fault),
+        let _netlist = machine.netlist();
+        if let Some(end) = measure(&mut self.unroller, machine, stage, &ClaimName::Idle, width)? {
+            return Ok(Some(end));
         }
+        let settled = self.decide_idle()?;
+        self.judge_each(machine, number, stage, names, width, settled, into)
     }
 
-    /// How a stage ends of which all claims are narrow, by what is decided of them.
-    fn decide_claims(
+    /// How a stage ends by its claims of these names, of which that it can idle has settled this. Once more is settled, the
+    /// claims left are measured alone: one of them may yet be too wide.
+    fn judge_each(
         &mut self,
         machine: &Machine,
         number: u32,
         stage: &StageSets<'_>,
         names: &[ClaimName],
         width: u32,
+        settled: Option<Outcome>,
         into: &mut Vec<Certificate>,
     ) -> Result<Option<Outcome>, AddFault>
         requires fits { Fits machine.now stage.now }
         requires names { AreNames machine.now stage.now names.now }
-        ensures judged { IfOk result (IsJudged machine.now stage.now (decided machine.now stage.now)) }
+        requires settled { IsIdleDecided machine.now (idle_question stage.now.enable) settled }
+        ensures judged { IfOk result
+            (IsJudged machine.now stage.now (measured machine.now width (claims_of machine.now stage.now) (decided machine.now stage.now))) }
         ensures certificates { IfOk result (Certifying machine.now number stage.now into.old.items into.new.items) }
-        ensures fault { IfErr result (λ fault. fault ≡ NoMemory) }
+        ensures fault { IfErr result (MayFail (measured machine.now width (claims_of machine.now stage.now) (decided machine.now stage.now))) }
         ensures grown { Grow into.old.items into.new.items }
     {
-        let Ok(never_idle) = self.is_never_idle(machine, stage, width) else {
-            return Err(AddFault::NoMemory);
-        };
-        if never_idle {
-            return Ok(Some(Outcome::NeverIdle));
+        let _netlist = machine.netlist();
+        let mut settled = settled;
+        for name in names {
+            if let Some(end) = measure(&mut self.unroller, machine, stage, name, width)? {
+                return Ok(Some(end));
+            }
+            settled = self.settle(number, name, settled, into)?;
         }
-        match self.decide_each(machine, number, stage, names, width, into) {
-            Ok(None) => Ok(None),
-            Ok(Some((name, bits))) => Ok(Some(Outcome::Refuted(name, bits))),
-            Err(_) => Err(AddFault::NoMemory),
+        Ok(settled)
+    }
+
+    /// What is settled once the claim of this name, which was built last, has its turn: it is decided where nothing was settled
+    /// before.
+    fn settle(
+        &mut self,
+        number: u32,
+        name: &ClaimName,
+        settled: Option<Outcome>,
+        into: &mut Vec<Certificate>,
+    ) -> Result<Option<Outcome>, AllocError>
+        requires { IsTrue (aig_ops.is_valid self.old.unroller.aig self.old.unroller.goal) }
+        ensures settles { IfOk result (λ now. (m : MachineData) (q : Question) (width : ℕ) → IsMachine m → SidesFit m q.sides
+            → IsClaim m q width self.old.unroller → Settles m number (name.now, q) into.old.items into.new.items settled now) }
+        ensures grown { Grow into.old.items into.new.items }
+    {
+        match settled {
+            Some(outcome) => Ok(Some(outcome)),
+            None => self.decide(number, name, into),
         }
     }
 }

@@ -9,8 +9,8 @@
 //! - `cells`: how a stage ends by its registers and its cells alone.
 //! - `claims`: the claims of a stage, by their names.
 //! - `sets`: a stage whose claims are built.
-//! - `measure`: how a stage ends by the measures of its claims.
-//! - `decide`: the decision of claims, one after the other.
+//! - `measure`: how a stage ends by the measure of a claim.
+//! - `decide`: the decision of a claim that is built.
 //! - `insert`: what a stage adds to a machine.
 //! - `judge`: what tries stages one after another.
 //! - `trial`: a stage that is tried on a machine.

@@ -1,13 +1,10 @@
-//! How a stage ends by the measures of its claims.
+//! How a stage ends by the measure of a claim.
 
-ghost use Rattle.std.specs.Prelude.{◌≡◌, ◌∷◌, []};
-ghost use Rattle.std.specs.List.{All};
-ghost use Rattle.cg_claim.specs.declared.name.ClaimName.TheVariants.{Idle};
+ghost use Rattle.std.specs.Prelude.{◌≡◌, IfOk};
 ghost use Rattle.cg_limit.specs.Answers.{OrNoMemory};
 ghost use Rattle.cg_netlist.specs.declared.fault.AddFault.TheVariants.{NoMemory};
-ghost use Rattle.cg_plan.specs.StageClaims.{all_claims};
-ghost use Rattle.cg_planner.specs.inner.Measuring.{wide_end};
-ghost use Rattle.cg_planner.specs.inner.Naming.{AreNames, NameFits, claims_named};
+ghost use Rattle.cg_planner.specs.inner.Measuring.{IsBuilt, wide_end};
+ghost use Rattle.cg_planner.specs.inner.Naming.{NameFits, named, question_of};
 ghost use Rattle.cg_stage.specs.Stages.{Fits};
 
 use crate::claims::build_claim;
@@ -19,50 +16,9 @@ use cg_plan::outcome::Outcome;
 use cg_unroll::claim::ClaimFault;
 use cg_unroll::unroller::Unroller;
 
-/// How a stage ends of which these are the claims, beside that it can idle: at the first claim that is too wide. It is refused
-/// where a claim before that has too many nodes.
-pub(crate) fn wide_end(
-    unroller: &mut Unroller,
-    machine: &Machine,
-    stage: &StageSets<'_>,
-    names: &[ClaimName],
-    width: u32,
-) -> Result<Option<Outcome>, AddFault>
-    requires fits { Fits machine.now stage.now }
-    requires names { AreNames machine.now stage.now names.now }
-    ensures { OrNoMemory NoMemory (λ end. end) result (wide_end machine.now width (all_claims machine.now stage.now)) }
-{
-    match measure(unroller, machine, stage, &ClaimName::Idle, width) {
-        Ok(None) => measure_each(unroller, machine, stage, names, width),
-        Ok(Some(end)) => Ok(Some(end)),
-        Err(fault) => Err(fault),
-    }
-}
-
-/// The same by these claims alone.
-fn measure_each(
-    unroller: &mut Unroller,
-    machine: &Machine,
-    stage: &StageSets<'_>,
-    names: &[ClaimName],
-    width: u32,
-) -> Result<Option<Outcome>, AddFault>
-    requires fits { Fits machine.now stage.now }
-    requires names { All (NameFits machine.now) names.now }
-    ensures { OrNoMemory NoMemory (λ end. end) result (wide_end machine.now width (claims_named machine.now stage.now names.now)) }
-{
-    for name in names {
-        match measure(unroller, machine, stage, name, width) {
-            Ok(None) => {}
-            Ok(Some(end)) => return Ok(Some(end)),
-            Err(fault) => return Err(fault),
-        }
-    }
-    Ok(None)
-}
-
-/// The same by one claim alone.
-fn measure(
+/// Builds the claim of this name; where it is too wide, the answer is that the stage ends so. It is refused where it has too
+/// many nodes.
+pub(crate) fn measure(
     unroller: &mut Unroller,
     machine: &Machine,
     stage: &StageSets<'_>,
@@ -71,7 +27,8 @@ fn measure(
 ) -> Result<Option<Outcome>, AddFault>
     requires fits { Fits machine.now stage.now }
     requires name { NameFits machine.now name.now }
-    ensures { OrNoMemory NoMemory (λ end. end) result (wide_end machine.now width (claims_named machine.now stage.now (name.now ∷ []))) }
+    ensures end { OrNoMemory NoMemory (λ end. end) result (wide_end machine.now width (named machine.now stage.now name.now)) }
+    ensures built { IfOk result (IsBuilt machine.now (question_of machine.now stage.now name.now) width unroller.new) }
 {
     match build_claim(unroller, machine, stage, name, width) {
         Ok(()) => Ok(None),

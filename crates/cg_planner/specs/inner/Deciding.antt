@@ -1,14 +1,14 @@
 -- What is decided of claims, and the certificates that come of it.
-use Rattle.std.specs.Prelude.{◌≡◌, ℕ, true, false, List, [], ◌∷◌, ◌++◌, map, slice_get, Option, Some, None}
+use Rattle.std.specs.Prelude.{◌≡◌, ℕ, true, false, List, [], ◌∷◌, ◌++◌, map, Option, Some, None}
 use Rattle.cg_machine.specs.Machine.{MachineData}
 use Rattle.cg_claim.specs.LeafBits.{is_never}
 use Rattle.cg_claim.specs.Question.{Question}
 use Rattle.cg_claim.specs.declared.leaf.LeafBit.{LeafBit}
-use Rattle.cg_claim.specs.declared.name.ClaimName.{ClaimName}
 use Rattle.cg_plan.specs.StageClaims.{NamedClaim}
 use Rattle.cg_plan.specs.Told.{AreAppended, Certifies, DoViolate, StageClaim}
-use Rattle.cg_plan.specs.Trying.{first_false}
 use Rattle.cg_plan.specs.declared.certificate.Certificate.{Certificate}
+use Rattle.cg_plan.specs.declared.outcome.Outcome.{Outcome}
+use Rattle.cg_plan.specs.declared.outcome.Outcome.TheVariants.{NeverIdle, Refuted}
 use Rattle.cg_planner.specs.Planning.{IsWritableCertificate, StayWritable}
 
 -- claims of the stage of this number
@@ -27,26 +27,29 @@ pub record IsCertified (m : MachineData) (number : ℕ) (c : NamedClaim) (before
   pub certifies : Certifies (record { machine = m; number = number; claim = c }) certificate
   pub writable : IsWritableCertificate certificate
 
--- a claim is decided: it is never violated and certified, or these bits violate it
-abbrev pub IsDecided : MachineData → ℕ → NamedClaim → List Certificate → List Certificate → Option (List LeafBit) → Type 0
+-- a stage is refuted by this claim, with bits that violate it
+pub record IsRefuting (m : MachineData) (c : NamedClaim) (end : Outcome) : Type 0 where
+  pub bits : List LeafBit
+  pub is : end ≡ Refuted c.0 bits
+  pub violate : DoViolate m c.1 bits
+
+-- a claim is decided: it is never violated and certified, or its stage ends refuted by it
+abbrev pub IsDecided : MachineData → ℕ → NamedClaim → List Certificate → List Certificate → Option Outcome → Type 0
 IsDecided m number c before after None = (is_never m c.1 ≡ true) × IsCertified m number c before after
-IsDecided m number c before after (Some bits) = (is_never m c.1 ≡ false) × DoViolate m c.1 bits
+IsDecided m number c before after (Some end) = (is_never m c.1 ≡ false) × IsRefuting m c end
+
+-- the claim that a stage can idle, which has this question, is decided: where it is never violated the stage is never idle
+abbrev pub IsIdleDecided : MachineData → Question → Option Outcome → Type 0
+IsIdleDecided m q None = is_never m q ≡ false
+IsIdleDecided m q (Some end) = (is_never m q ≡ true) × (end ≡ NeverIdle)
+
+-- a claim has its turn: it is decided where nothing was settled before
+abbrev pub Settles : MachineData → ℕ → NamedClaim → List Certificate → List Certificate → Option Outcome →
+    Option Outcome → Type 0
+Settles m number c before after None settled = IsDecided m number c before after settled
+Settles m number c before after (Some end) settled = settled ≡ Some end
 
 -- claims of which all are certified
 pub record AllCertified (m : MachineData) (number : ℕ) (claims : List NamedClaim) (before after : List Certificate) : Type 0 where
   pub appended : AreAppended (numbered m number claims) before after
   pub writable : StayWritable before after
-
--- these bits violate a claim of this name
-pub record IsViolated (m : MachineData) (claims : List NamedClaim) (claim : ClaimName) (bits : List LeafBit) : Type 0 where
-  pub place : ℕ
-  pub question : Question
-  pub named : slice_get claims place ≡ Some (claim, question)
-  pub violate : DoViolate m question bits
-
--- claims are decided one after the other: all are certified, or this is the first that is false
-abbrev pub AreDecided : MachineData → ℕ → List NamedClaim → List Certificate → List Certificate →
-    Option (ClaimName × List LeafBit) → Type 0
-AreDecided m number claims before after None = (first_false m claims ≡ None) × AllCertified m number claims before after
-AreDecided m number claims before after (Some refuted) =
-    (first_false m claims ≡ Some refuted.0) × IsViolated m claims refuted.0 refuted.1

@@ -1,5 +1,5 @@
 -- What comes of a stage by its claims, one after the other, and of one that is not inserted.
-use Rattle.std.proofs.Common.{◌≡◌, ℕ, Bool, true, false, if◌then◌else◌, List, [], ◌∷◌, ◌++◌, length, slice_get, take, drop, Option}
+use Rattle.std.proofs.Common.{◌≡◌, ℕ, Bool, true, false, if◌then◌else◌, List, [], ◌∷◌, ◌++◌, slice_get, Option}
 use Rattle.std.proofs.Common.{None, Some, Ok, refl, sym, ◌∙◌, ap, subst}
 use Rattle.std.proofs.lemmas.List.{append-nil}
 use Rattle.cg_machine.specs.Machine.{MachineData}

@@ -101,9 +101,7 @@ impl Draft {
         ensures fault { IfErr result (MayStop (rounds library.now settings.now kind settings.now.rounds) self.old) }
     {
         for _ in 0..settings.rounds {
-            let Ok(stages) = self.candidates(kind, settings) else {
-                return Err(AddFault::NoMemory);
-            };
+            let stages = self.candidates(kind, settings)?;
             // A round without stages leaves all as it is, and so do those after it.
             if stages.is_empty() {
                 return Ok(());
@@ -217,10 +215,8 @@ impl Draft {
             settings,
             &mut self.certificates,
         )?;
-        match self.keep(stage, outcome) {
-            Ok(()) => Ok(()),
-            Err(_) => Err(AddFault::NoMemory),
-        }
+        self.keep(stage, outcome)?;
+        Ok(())
     }
 
     /// The number of the next stage, counted from 1.

@@ -38,13 +38,9 @@ pub(crate) fn insert(
 {
     let net = add_net(machine, stage)?;
     let regs = stage.regs.as_slice();
-    match fanout.note_enable(net, regs) {
-        Ok(()) => {
-            give_enable(machine, regs, net);
-            Ok(())
-        }
-        Err(_) => Err(AddFault::NoMemory),
-    }
+    fanout.note_enable(net, regs)?;
+    give_enable(machine, regs, net);
+    Ok(())
 }
 
 /// Gives registers this net as their enable.
@@ -137,10 +133,7 @@ fn join(machine: &mut Machine, first: NetId, rest: &[NetLit]) -> Result<NetId, A
     let _netlist = machine.netlist();
     let mut net = first;
     for literal in rest {
-        match add_gate(machine, FitKind::Or2, &[net, literal.net]) {
-            Ok(joined) => net = joined,
-            Err(fault) => return Err(fault),
-        }
+        net = add_gate(machine, FitKind::Or2, &[net, literal.net])?;
     }
     Ok(net)
 }

@@ -148,14 +148,11 @@ impl Judge {
         ensures kept { OnErr result (Extends machine.old machine.new) }
         ensures grown { Grow into.old.items into.new.items }
     {
-        match self.judge_claims(machine, fanout, number, stage, width, into) {
-            Ok(Some(outcome)) => Ok(outcome),
-            Ok(None) => match insert(machine, fanout, stage) {
-                Ok(()) => Ok(Outcome::Inserted),
-                Err(fault) => Err(fault),
-            },
-            Err(fault) => Err(fault),
+        if let Some(end) = self.judge_claims(machine, fanout, number, stage, width, into)? {
+            return Ok(end);
         }
+        insert(machine, fanout, stage)?;
+        Ok(Outcome::Inserted)
     }
 
     /// How a stage ends by its claims; where it does not, their certificates are put behind `into`.
@@ -177,12 +174,8 @@ impl Judge {
         ensures fault { IfErr result (MayFail (measured machine.now width (all_claims machine.now stage.now) (decided machine.now stage.now))) }
         ensures grown { Grow into.old.items into.new.items }
     {
-        let Ok(names) = claim_names(self.alloc, machine, fanout, stage) else {
-            return Err(AddFault::NoMemory);
-        };
-        let Ok(sets) = StageSets::new(self.alloc, stage) else {
-            return Err(AddFault::NoMemory);
-        };
+        let names = claim_names(self.alloc, machine, fanout, stage)?;
+        let sets = StageSets::new(self.alloc, stage)?;
         self.judge_named(machine, number, &sets, names.as_slice(), width, into)
     }
 

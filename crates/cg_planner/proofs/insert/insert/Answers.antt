@@ -13,10 +13,10 @@ give_enable-requires-clause-registers c =
     let own = c.in_ok-net.ensures.keeps.extends.own in
     subst (All (λ r. r < n.own_registers)) (sym c.as_slice-regs.ensures.parts) (All-from_members (λ r. r < n.own_registers) c.args.stage.now.regs (λ r among. let b = c.requires.fits.registers r among in omega (arith, b, own)))
 
-pub returns-in-Ok-clause-knows : goal.returns-in-Ok-clause-knows
-returns-in-Ok-clause-knows c =
+pub returns-clause-knows : goal.returns-clause-knows
+returns-clause-knows c =
     let m = c.args.machine.now in
     let n = c.add_net.new.machine in
     let regs : List ℕ = c.as_slice-regs.result.now in
     subst (λ (o : MachineData). Knows o c.note_enable.new.self) (sym c.give_enable.ensures)
-    (c.in-Ok.ensures m (enabled (record { machine = n; net = c.in_ok-net.net }) regs) c.requires.knows (grown m c.args.stage.now regs n c.in_ok-net.net c.in_ok-net.ensures.added c.in_ok-net.ensures.keeps))
+    (c.in_ok-note_enable.ensures m (enabled (record { machine = n; net = c.in_ok-net.net }) regs) c.requires.knows (grown m c.args.stage.now regs n c.in_ok-net.net c.in_ok-net.ensures.added c.in_ok-net.ensures.keeps))

@@ -6,21 +6,21 @@ use Rattle.cg_planner.proofs.Growing.{leads_one, still_fit}
 use Rattle.cg_reach.specs.Fanout.{Knows}
 use Rattle.cg_planner.proofs.draft.Draft.try_one.Goals as goal
 
-pub returns-in-Ok-clause-leads : goal.returns-in-Ok-clause-leads
-returns-in-Ok-clause-leads c =
+pub returns-clause-leads : goal.returns-clause-leads
+returns-clause-leads c =
     let d = c.args.self.now in
     let e : Draft = record d { machine = c.try_stage.new.machine; certificates = c.try_stage.new.into; judge = c.try_stage.new.self } in
     let done = c.in_ok-outcome.ensures in
-    subst (Leads (λ p. try_one c.args.library.now c.args.settings.now p c.args.stage) d) (sym c.in-Ok.ensures)
+    subst (Leads (λ p. try_one c.args.library.now c.args.settings.now p c.args.stage) d) (sym c.in_ok-keep.ensures)
     (leads_one c.args.library.now c.args.settings.now d e c.in_ok-number.number c.args.stage c.in_ok-outcome.outcome
     (record { count = c.in_ok-number.ensures; tells = done.outcome; machine = done.machine; stages = refl; earlier = refl; certificates = done.certificates; writable = done.writable }))
 
-pub returns-in-Ok-clause-rest : goal.returns-in-Ok-clause-rest
-returns-in-Ok-clause-rest c =
+pub returns-clause-rest : goal.returns-clause-rest
+returns-clause-rest c =
     let m = c.args.self.now.machine in
     let done = c.in_ok-outcome.ensures in
-    subst (StillFit c.args.stage m) (sym (ap (λ (d : Draft). d.machine) c.in-Ok.ensures ∙ done.machine))
+    subst (StillFit c.args.stage m) (sym (ap (λ (d : Draft). d.machine) c.in_ok-keep.ensures ∙ done.machine))
     (still_fit c.args.library.now c.args.settings.now m c.args.stage c.in_ok-outcome.outcome c.netlist-netlist.ensures.machine c.requires.fits done.outcome.0)
 
-pub returns-in-Ok-clause-knows : goal.returns-in-Ok-clause-knows
-returns-in-Ok-clause-knows c = subst (λ (d : Draft). Knows d.machine c.try_stage.new.fanout) (sym c.in-Ok.ensures) c.in_ok-outcome.ensures.knows
+pub returns-clause-knows : goal.returns-clause-knows
+returns-clause-knows c = subst (λ (d : Draft). Knows d.machine c.try_stage.new.fanout) (sym c.in_ok-keep.ensures) c.in_ok-outcome.ensures.knows

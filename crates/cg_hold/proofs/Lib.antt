@@ -1,6 +1,7 @@
 pub mod Alone
 pub mod Decided
 pub mod ListNumber
+pub mod Moved
 pub mod OfRegister
 pub mod Ranked
 pub mod Room

@@ -1,6 +1,6 @@
 -- What comes of literals, one after another.
 use Rattle.std.proofs.Common.{◌≡◌, ◌<◌, ◌≤◌, ℕ, zero, suc, ◌+◌, Bool, true, false, not, ◌||◌, ◌&&◌, cond, if◌then◌else◌, List, []}
-use Rattle.std.proofs.Common.{◌∷◌, drop, length, nat_eq, nat_lt, slice_get, Option, Some, None, Result, Ok, Err, MatchResult, refl}
+use Rattle.std.proofs.Common.{◌∷◌, drop, length, nat_eq, nat_lt, slice_get, Option, Some, None, Result, Ok, Err, refl}
 use Rattle.std.proofs.Common.{sym, ◌∙◌, ap, subst, arith, ◌⊎◌, inl, inr}
 use Rattle.std.specs.List.{find, list_any}
 use Rattle.std.proofs.lemmas.Bool.{eqb-true, lt-ltb, ltb-true}
@@ -25,6 +25,7 @@ use Rattle.cg_unroll.specs.declared.claim.ClaimFault.TheVariants.{Wide as WideFa
 use Rattle.cg_unroll.proofs.FewLeaves.{few_leaves}
 use Rattle.cg_hold.specs.declared.choice.Choice.{Choice}
 use Rattle.cg_hold.specs.declared.choice.Choice.TheVariants.{Wide, Takes}
+use Rattle.cg_hold.specs.declared.trial.Room.TheVariants.{Ample}
 use Rattle.cg_hold.specs.declared.trial.Trial.{Trial}
 use Rattle.cg_hold.specs.declared.trial.Trial.TheVariants.{TooWide, Serves, Fails}
 use Rattle.cg_hold.specs.inner.Choosing.{IsLiteralOf, IsRoom, choice_by, refused_room, refused_trial, trial_of}
@@ -119,26 +120,11 @@ pub judged_large : (m : MachineData) (width r : ℕ) (l : Literal) → nat_lt wi
 judged_large m width r l narrow large = ap (λ w. by_parts m width r w (is_large m (hold_question l r)) (serves m r l)) narrow ∙ ap (λ a. by_parts m width r false a (serves m r l)) large
 
 -- a literal serves where both claims say so
-pub fails_hold : (m : MachineData) (r : ℕ) (l : Literal) → false ≡ is_never m (hold_question l r) → Fails ≡ (if serves m r l then Serves else Fails)
-fails_hold m r l moves = ap (λ b. if (b && not (is_never m (idle_question (l ∷ [])))) then Serves else Fails) moves
+pub fails_moved : (m : MachineData) (r : ℕ) (l : Literal) → false ≡ is_never m (hold_question l r) → false ≡ serves m r l
+fails_moved m r l moves = ap (λ b. b && not (is_never m (idle_question (l ∷ [])))) moves
 
-pub fails_idle : (m : MachineData) (r : ℕ) (l : Literal) → true ≡ is_never m (idle_question (l ∷ [])) → Fails ≡ (if serves m r l then Serves else Fails)
-fails_idle m r l stays = neither (is_never m (hold_question l r)) ∙ ap (λ b. if (is_never m (hold_question l r) && not b) then Serves else Fails) stays
-  where
-    neither : (b : Bool) → Fails ≡ (if (b && false) then Serves else Fails)
-    neither true = refl
-    neither false = refl
-
-pub both_serve : (m : MachineData) (r : ℕ) (l : Literal) → true ≡ is_never m (hold_question l r) → false ≡ is_never m (idle_question (l ∷ [])) → Serves ≡ (if serves m r l then Serves else Fails)
-both_serve m r l holds idles = ap (λ b. if (b && true) then Serves else Fails) holds ∙ ap (λ b. if (is_never m (hold_question l r) && not b) then Serves else Fails) idles
-
--- a trial as the call answers it
-pub told_trial : (r given : Result Trial AddFault) (x : Trial) → MatchResult r (λ t. t ≡ x) (λ f. f ≡ NoMemory) → given ≡ Ok x → OrNoMemory NoMemory (λ (t : Trial). t) r given
-told_trial (Ok t) given x is all = all ∙ ap (λ y. ok y) (sym is)
-  where
-    ok : Trial → Result Trial AddFault
-    ok y = Ok y
-told_trial (Err f) given x is all = inl is
+pub serves_held : (m : MachineData) (r : ℕ) (l : Literal) (stays : Bool) → true ≡ is_never m (hold_question l r) → stays ≡ is_never m (idle_question (l ∷ [])) → not stays ≡ serves m r l
+serves_held m r l stays holds is = ap not is ∙ ap (λ b. b && not (is_never m (idle_question (l ∷ [])))) holds
 
 -- the hold claims of a literal of the cone are as wide as the register says
 module _ (widths : HoldWidthsAreOne) (m : MachineData) (good : IsMachine m) (r : ℕ) (l : Literal) (of : IsLiteralOf m r l) (width : ℕ) where
@@ -188,6 +174,11 @@ pub refused_room_is : HoldWidthsAreOne → (m : MachineData) → IsMachine m →
 refused_room_is widths m good r l of width (WideFault n) is = is_wide widths m good r l of width n is.0 is.1
 refused_room_is widths m good r l of width (ClaimLimit which) is = tt
 refused_room_is widths m good r l of width ClaimMemory is = tt
+
+pub not_ample : (fault : ClaimFault) → refused_room fault ≡ Ample → ⊥
+not_ample (WideFault n) is = cc
+not_ample (ClaimLimit which) is = cc
+not_ample ClaimMemory is = cc
 
 -- where they are too wide, so much comes of the register, whatever its literals
 pub all_wide : (m : MachineData) (width r : ℕ) (ls : List Literal) → nat_lt width (hold_width m r) ≡ true → choice_by m width r ls ≡ Ok Wide

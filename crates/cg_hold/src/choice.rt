@@ -1,18 +1,20 @@
 //! The literal that a register takes.
 
-ghost use Rattle.std.specs.Prelude.{◌≡◌, ◌<◌, ℕ, Some, None, true, if◌then◌else◌, length, nat_lt, slice_get};
+ghost use Rattle.std.specs.Prelude.{◌≡◌, ◌<◌, ℕ, Some, None, true, false, if◌then◌else◌, length, nat_lt, slice_get};
 ghost use Rattle.std.specs.Option.{option_copied};
-ghost use Rattle.cg_hold.specs.inner.Choosing.{HasRoom, IsLiteralOf, choice_by};
+ghost use Rattle.cg_claim.specs.Question.{hold_question};
+ghost use Rattle.cg_hold.specs.inner.Choosing.{AreMoved, HasRoom, IsLiteralOf, choice_by};
 ghost use Rattle.cg_hold.specs.inner.Cycles.{AreCycles};
 ghost use Rattle.cg_limit.specs.Answers.{OrNoMemory};
 ghost use Rattle.cg_lists.specs.Literals.{FitsIdle, literals_of};
 ghost use Rattle.cg_machine.specs.Claims.{Literal};
 ghost use Rattle.cg_machine.specs.Machine.{enable_of};
 ghost use Rattle.cg_netlist.specs.declared.fault.AddFault.TheVariants.{NoMemory};
+ghost use Rattle.cg_unroll.specs.Claims.{IsClaim};
 
 use crate::cycles::Cycles;
 use crate::literals::literals_of;
-use crate::trial::{Trial, Trier, is_ample, is_too_wide};
+use crate::trial::{Room, Trial, Trier};
 use cg_lists::idle::Idle;
 use cg_machine::machine::Machine;
 use cg_machine::stage::NetLit;
@@ -47,48 +49,14 @@ pub(crate) fn choose(
     ensures { OrNoMemory NoMemory (λ choice. choice) result (choice_by machine.now width reg (literals_of machine.now (option_copied idle.entry) reg)) }
 {
     let _netlist = machine.netlist();
-    let room = trier.measure(machine, reg, width);
-    if is_too_wide(room) {
+    if trier.shows_wide(machine, reg, width) {
         return Ok(Choice::Wide);
     }
-    choose_by_literals(
-        alloc,
-        trier,
-        machine,
-        cycles,
-        reg,
-        width,
-        idle,
-        is_ample(room),
-    )
-}
-
-/// The same by the literals of the register, none of which is refused where there is room.
-fn choose_by_literals(
-    alloc: Global,
-    trier: &mut Trier,
-    machine: &Machine,
-    cycles: &Cycles,
-    reg: RegId,
-    width: u32,
-    idle: Option<&Idle<'_>>,
-    room: bool,
-) -> Result<Choice, AddFault>
-    requires register { reg < machine.now.own_registers }
-    requires free { enable_of machine.now reg ≡ None }
-    requires idle { FitsIdle machine.now (option_copied idle) }
-    requires cycles { AreCycles machine.now cycles.now.cycles }
-    requires room { room ≡ true → HasRoom machine.now width reg }
-    ensures { OrNoMemory NoMemory (λ choice. choice) result (choice_by machine.now width reg (literals_of machine.now (option_copied idle.entry) reg)) }
-{
-    let _netlist = machine.netlist();
-    let Ok(literals) = literals_of(alloc, machine, reg, idle, &mut trier.finder) else {
-        return Err(AddFault::NoMemory);
-    };
+    let literals = literals_of(alloc, machine, reg, idle, &mut trier.finder)?;
     if literals.is_empty() {
         return Ok(without_literals(width));
     }
-    first_that_serves(trier, machine, cycles, &literals, reg, width, room)
+    choose_among(trier, machine, cycles, &literals, reg, width)
 }
 
 /// What comes of a register without literals: its claims have one leaf, its own bit.
@@ -102,7 +70,101 @@ fn without_literals(width: u32) -> Choice
     }
 }
 
-/// What comes of a register with these literals, of which there is one at least.
+/// What comes of a register with these literals, of which there is one at least. One claim tells whether any is refused: that
+/// of the first literal that no cycle settles, where there is one, as it is asked next.
+fn choose_among(
+    trier: &mut Trier,
+    machine: &Machine,
+    cycles: &Cycles,
+    literals: &[NetLit],
+    reg: RegId,
+    width: u32,
+) -> Result<Choice, AddFault>
+    requires register { reg < machine.now.own_registers }
+    requires nets { (k : ℕ) (l : Literal) → slice_get literals.now k ≡ Some l → IsLiteralOf machine.now reg l }
+    requires some { 0 < length literals.now }
+    requires cycles { AreCycles machine.now cycles.now.cycles }
+    ensures { OrNoMemory NoMemory (λ choice. choice) result (choice_by machine.now width reg literals.now) }
+{
+    let _netlist = machine.netlist();
+    let place = first_unmoved(machine, cycles, literals, reg);
+    match trier.measure(machine, literal_at(literals, place), reg, width) {
+        Room::TooWide => Ok(Choice::Wide),
+        Room::Ample => choose_from(trier, machine, cycles, literals, place, reg, width),
+        Room::Unknown => first_that_serves(trier, machine, cycles, literals, reg, width, false),
+    }
+}
+
+/// The place of the first literal where no cycle shows that it does not hold a register; behind the last where there is none.
+fn first_unmoved(machine: &Machine, cycles: &Cycles, literals: &[NetLit], reg: RegId) -> usize
+    requires register { reg < machine.now.own_registers }
+    requires nets { (k : ℕ) (l : Literal) → slice_get literals.now k ≡ Some l → IsLiteralOf machine.now reg l }
+    requires cycles { AreCycles machine.now cycles.now.cycles }
+    ensures { AreMoved machine.now reg literals.now result }
+{
+    let _netlist = machine.netlist();
+    let mut place = 0;
+    for literal in literals {
+        if !cycles.show_move(machine, *literal, reg) {
+            return place;
+        }
+        place += 1;
+    }
+    place
+}
+
+/// The literal at a place, and the first behind the last place.
+fn literal_at(literals: &[NetLit], place: usize) -> NetLit
+    requires { 0 < length literals.now }
+    ensures { slice_get literals.now (if nat_lt place (length literals.now) then place else 0) ≡ Some result }
+{
+    if place < literals.len() {
+        literals[place]
+    } else {
+        literals[0]
+    }
+}
+
+/// What comes of a register none of whose hold claims is refused, where that of the literal at a place was built last, and
+/// those before it do not hold the register.
+fn choose_from(
+    trier: &mut Trier,
+    machine: &Machine,
+    cycles: &Cycles,
+    literals: &[NetLit],
+    place: usize,
+    reg: RegId,
+    width: u32,
+) -> Result<Choice, AddFault>
+    requires register { reg < machine.now.own_registers }
+    requires nets { (k : ℕ) (l : Literal) → slice_get literals.now k ≡ Some l → IsLiteralOf machine.now reg l }
+    requires cycles { AreCycles machine.now cycles.now.cycles }
+    requires room { HasRoom machine.now width reg }
+    requires moved { AreMoved machine.now reg literals.now place }
+    requires claim { (l : Literal) → slice_get literals.now place ≡ Some l → IsClaim machine.now (hold_question l reg) width trier.old.unroller }
+    ensures { OrNoMemory NoMemory (λ choice. choice) result (choice_by machine.now width reg literals.now) }
+{
+    let _netlist = machine.netlist();
+    if place >= literals.len() {
+        return Ok(Choice::Takes(None));
+    }
+    let literal = literals[place];
+    let good = trier.serves(machine, cycles, literal, reg, width)?;
+    if good {
+        return Ok(Choice::Takes(Some(literal)));
+    }
+    first_that_serves(
+        trier,
+        machine,
+        cycles,
+        &literals[place + 1..],
+        reg,
+        width,
+        true,
+    )
+}
+
+/// What comes of a register with these literals, none of which is refused where there is room.
 fn first_that_serves(
     trier: &mut Trier,
     machine: &Machine,
@@ -114,7 +176,7 @@ fn first_that_serves(
 ) -> Result<Choice, AddFault>
     requires register { reg < machine.now.own_registers }
     requires nets { (k : ℕ) (l : Literal) → slice_get literals.now k ≡ Some l → IsLiteralOf machine.now reg l }
-    requires some { 0 < length literals.now }
+    requires some { room ≡ false → 0 < length literals.now }
     requires cycles { AreCycles machine.now cycles.now.cycles }
     requires room { room ≡ true → HasRoom machine.now width reg }
     ensures { OrNoMemory NoMemory (λ choice. choice) result (choice_by machine.now width reg literals.now) }

@@ -1,6 +1,6 @@
 //! What comes of one literal, by its claims.
 
-ghost use Rattle.std.specs.Prelude.{◌≡◌, ◌<◌, ◌+◌, ◌∷◌, [], ℕ, true, if◌then◌else◌, IsTrue, IfOk, MatchResult, length, nat_lt};
+ghost use Rattle.std.specs.Prelude.{◌≡◌, ◌<◌, ◌+◌, ◌∷◌, [], ℕ, true, if◌then◌else◌, IsTrue, IfOk, length, nat_lt};
 ghost use Rattle.cg_aig.specs.Aig.{aig_ops};
 ghost use Rattle.cg_claim.specs.LeafBits.{is_never};
 ghost use Rattle.cg_claim.specs.Question.{Question, hold_question, idle_question};
@@ -10,7 +10,7 @@ ghost use Rattle.cg_hold.specs.inner.Choosing.{HasRoom, IdleFits, IsLiteralOf, I
 ghost use Rattle.cg_hold.specs.inner.Cycles.{AreCycles};
 ghost use Rattle.cg_hold.specs.inner.Known.{IsEverOne};
 ghost use Rattle.cg_limit.specs.Answers.{OrNoMemory};
-ghost use Rattle.cg_lists.specs.HoldList.{serves};
+ghost use Rattle.cg_lists.specs.HoldList.{hold_width, serves};
 ghost use Rattle.cg_machine.specs.Machine.{IsMachine, MachineData};
 ghost use Rattle.cg_limit.specs.declared.TheConstants.{MOST_CLAIM_NODES};
 ghost use Rattle.cg_netlist.specs.Circuit.{is_in};
@@ -68,6 +68,9 @@ pub(crate) struct Trier {
     unroller: Unroller,
     decider: Decider,
     known: Known,
+
+    /// Whether the hold claims that were measured last were too wide.
+    wide: bool,
 }
 
 impl Trier {
@@ -78,34 +81,49 @@ impl Trier {
             unroller: Unroller::new(alloc),
             decider: Decider::new(alloc),
             known: Known::new(alloc),
+            wide: false,
         }
     }
 
-    /// What is known of the hold claims of a register by that of its first input: they are equally wide, and differ by one
-    /// and-node at most.
-    pub fn measure(&mut self, machine: &Machine, reg: RegId, width: u32) -> Room
+    /// Whether the hold claim of its first input shows that those of a register are too wide. It is only built where those
+    /// that were measured last were: such registers mostly stand together, and their literals need not be found then.
+    pub fn shows_wide(&mut self, machine: &Machine, reg: RegId, width: u32) -> bool
         requires { reg < machine.now.own_registers }
-        ensures { IsRoom machine.now width reg result }
+        ensures { result ≡ true → nat_lt width (hold_width machine.now reg) ≡ true }
     {
         let netlist = machine.netlist();
         let _registers = netlist.registers();
         let register = netlist.register(reg);
-        if register.inputs.is_empty() {
-            return Room::Unknown;
+        if !self.wide || register.inputs.is_empty() {
+            return false;
         }
         let net = first(register.inputs);
         let literal = NetLit {
             net,
             inverted: false,
         };
-        self.measure_by(machine, literal, reg, width)
+        is_too_wide(self.measure(machine, literal, reg, width))
     }
 
-    /// The same by the claim of a literal of the cone of the register's inputs.
-    fn measure_by(&mut self, machine: &Machine, literal: NetLit, reg: RegId, width: u32) -> Room
+    /// What is known of the hold claims of a register by that of a literal of the cone of its inputs: they are equally wide,
+    /// and differ by one and-node at most. Where none of them is refused, that of the literal stands.
+    pub fn measure(&mut self, machine: &Machine, literal: NetLit, reg: RegId, width: u32) -> Room
         requires register { reg < machine.now.own_registers }
         requires literal { IsLiteralOf machine.now reg literal }
-        ensures { IsRoom machine.now width reg result }
+        ensures room { IsRoom machine.now width reg result }
+        ensures stands { result ≡ Room.Ample → IsClaim machine.now (hold_question literal reg) width self.new.unroller }
+    {
+        let room = self.find_room(machine, literal, reg, width);
+        self.wide = is_too_wide(room);
+        room
+    }
+
+    /// The same, without a note of it.
+    fn find_room(&mut self, machine: &Machine, literal: NetLit, reg: RegId, width: u32) -> Room
+        requires register { reg < machine.now.own_registers }
+        requires literal { IsLiteralOf machine.now reg literal }
+        ensures room { IsRoom machine.now width reg result }
+        ensures stands { result ≡ Room.Ample → IsClaim machine.now (hold_question literal reg) width self.new.unroller }
     {
         list_laws();
         let _netlist = machine.netlist();
@@ -156,42 +174,37 @@ impl Trier {
         list_laws();
         let _netlist = machine.netlist();
         match self.unroller.hold(machine, literal, reg, width) {
-            Ok(()) => self.judge(machine, cycles, literal, reg, width),
+            Ok(()) => {
+                let good = self.serves(machine, cycles, literal, reg, width)?;
+                Ok(tried(good))
+            }
             Err(fault) => refused(fault),
         }
     }
 
-    /// What comes of a literal whose hold claim was built.
-    fn judge(
+    /// Whether a literal serves whose hold claim was built last.
+    pub fn serves(
         &mut self,
         machine: &Machine,
         cycles: &Cycles,
         literal: NetLit,
         reg: RegId,
         width: u32,
-    ) -> Result<Trial, AddFault>
+    ) -> Result<bool, AllocError>
         requires register { reg < machine.now.own_registers }
         requires net { literal.0 < length machine.now.circuit.names }
         requires cycles { AreCycles machine.now cycles.now.cycles }
         requires claim { IsClaim machine.now (hold_question literal reg) width self.old.unroller }
-        ensures { MatchResult result (λ trial. trial ≡ (if serves machine.now reg literal then Trial.Serves else Trial.Fails)) (λ fault. fault ≡ NoMemory) }
+        ensures { IfOk result (λ good. good ≡ serves machine.now reg literal) }
     {
         claim_laws();
         let _netlist = machine.netlist();
-        let Ok(holds) = self.is_never() else {
-            return Err(AddFault::NoMemory);
-        };
+        let holds = self.is_never()?;
         if !holds {
-            return Ok(Trial::Fails);
+            return Ok(false);
         }
-        let Ok(stays) = self.is_never_idle(machine, cycles, literal) else {
-            return Err(AddFault::NoMemory);
-        };
-        if stays {
-            Ok(Trial::Fails)
-        } else {
-            Ok(Trial::Serves)
-        }
+        let stays = self.is_never_idle(machine, cycles, literal)?;
+        Ok(!stays)
     }
 
     /// Whether a literal is never 0, where the claim that it can be is within its limit.
@@ -277,6 +290,16 @@ fn first(nets: &[NetId]) -> NetId
     nets[0]
 }
 
+/// Whether the hold claims of a register are known to be too wide.
+fn is_too_wide(room: Room) -> bool
+    ensures { result ≡ true → room ≡ Room.TooWide }
+{
+    match room {
+        Room::TooWide => true,
+        _ => false,
+    }
+}
+
 /// What is known of the hold claims of a register where one of them has so many leaves and and-nodes.
 fn room_of(nodes: u32) -> Room
     ensures { result ≡ (if nat_lt nodes MOST_CLAIM_NODES then Room.Ample else Room.Unknown) }
@@ -299,24 +322,11 @@ fn refused_room(fault: ClaimFault) -> Room
     }
 }
 
-/// Whether the hold claims of a register are known to be too wide.
-pub(crate) fn is_too_wide(room: Room) -> bool
-    ensures { result ≡ true → room ≡ Room.TooWide }
+/// What comes of a literal that serves or not.
+fn tried(good: bool) -> Trial
+    ensures { result ≡ (if good then Trial.Serves else Trial.Fails) }
 {
-    match room {
-        Room::TooWide => true,
-        _ => false,
-    }
-}
-
-/// Whether it is known that no hold claim of a register is refused.
-pub(crate) fn is_ample(room: Room) -> bool
-    ensures { result ≡ true → room ≡ Room.Ample }
-{
-    match room {
-        Room::Ample => true,
-        _ => false,
-    }
+    if good { Trial::Serves } else { Trial::Fails }
 }
 
 /// What comes of a literal whose hold claim is refused so.

@@ -11,6 +11,7 @@ use Rattle.cg_machine.specs.Claims.{Literal}
 use Rattle.cg_machine.specs.Machine.{MachineData, enable_of}
 use Rattle.cg_machine.specs.declared.stage.Stage.{Stage}
 use Rattle.cg_claim.specs.Build.{nodes_of}
+use Rattle.cg_claim.specs.LeafBits.{is_never}
 use Rattle.cg_claim.specs.Question.{hold_question, idle_question}
 use Rattle.cg_lists.specs.HoldList.{chosen, chosen_regs, hold_stage, hold_width, is_large, looked_at, serves, unless_empty, up_to}
 use Rattle.cg_lists.specs.Literals.{IdleData}
@@ -34,6 +35,11 @@ IsLiteralOf m r l = (is_in (input_cone m r) l.0 ≡ true) × (l.0 < length m.cir
 abbrev pub HasRoom : MachineData → ℕ → ℕ → Type 0
 HasRoom m width r =
     (nat_lt width (hold_width m r) ≡ false) × ((l : Literal) → IsLiteralOf m r l → is_large m (hold_question l r) ≡ false)
+
+-- the literals before a place do not hold a register
+abbrev pub AreMoved : MachineData → ℕ → List Literal → ℕ → Type 0
+AreMoved m r literals place =
+    (k : ℕ) (l : Literal) → k < place → slice_get literals k ≡ Some l → is_never m (hold_question l r) ≡ false
 
 -- what is known of the hold claims of a register
 abbrev pub IsRoom : MachineData → ℕ → ℕ → Room → Type 0

@@ -1,4 +1,5 @@
-use Rattle.std.proofs.Common.{◌≡◌, ◌+◌, Some, Result, Ok, Err, slice_get, drop, rules, refl, sym, ◌∙◌, ap, subst}
+use Rattle.std.proofs.Common.{◌≡◌, ◌+◌, Some, Result, Ok, Err, slice_get, drop, length, rules, refl, sym, ◌∙◌, ap, subst}
+use Rattle.std.proofs.lemmas.List.{drop_all}
 use Rattle.std.proofs.lemmas.Option.{slice_get_read}
 use Rattle.cg_limit.specs.Answers.{OrNoMemory}
 use Rattle.cg_netlist.specs.declared.fault.AddFault.{AddFault}
@@ -6,7 +7,8 @@ use Rattle.cg_netlist.specs.declared.fault.AddFault.TheVariants.{NoMemory}
 use Rattle.cg_hold.specs.declared.choice.Choice.{Choice}
 use Rattle.cg_hold.specs.declared.trial.Trial.{Trial}
 use Rattle.cg_hold.specs.inner.Choosing.{choice_by, trial_of}
-use Rattle.cg_hold.proofs.Trials.{drop_at, err_choice, front_fails, front_serves, front_wide}
+use Rattle.cg_hold.proofs.Moved.{narrow_behind}
+use Rattle.cg_hold.proofs.Trials.{drop_at, err_choice, front_fails, front_serves, front_wide, none_left}
 use Rattle.cg_hold.proofs.choice.first_that_serves.Goals as goal
 
 pub returns-in_err-settle : goal.returns-in_err-settle
@@ -52,3 +54,14 @@ loop-literal-preserved c =
     let at : slice_get literals i ≡ Some l = slice_get_read literals _ i l refl c.loop-literal-test.true c.literal-item.is in
     let step = front_fails m w r l (drop (i + 1) literals) (subst (λ (z : Trial). trial_of m w r l ≡ Ok z) c.in-Fails.is c.in_ok-settle.ensures) in
     record { left = sym (sym c.loop-literal.invariant.left ∙ (ap (choice_by m w r) (drop_at literals i l at) ∙ step.0)); narrow = λ some. step.1 }
+
+pub returns : goal.returns
+returns c =
+    let m = c.args.machine.now in
+    let w = c.args.width in
+    let r = c.args.reg in
+    let literals = c.args.literals.now in
+    let i = c.loop-literal.literal-index in
+    sym c.loop-literal.invariant.left
+    ∙ (ap (choice_by m w r) (drop_all i literals c.loop-literal-test.false)
+    ∙ none_left m w r (narrow_behind m w r (length literals) i c.args.room c.requires.room c.requires.some c.loop-literal-test.false c.loop-literal.invariant.narrow))

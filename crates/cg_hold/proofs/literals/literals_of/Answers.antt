@@ -1,4 +1,4 @@
-use Rattle.std.proofs.Common.{◌≡◌, ℕ, IfOk, List, None, ap, sym, ◌∙◌, subst}
+use Rattle.std.proofs.Common.{◌≡◌, IfOk, List, ap, sym, ◌∙◌, subst}
 use Rattle.std.specs.Option.{option_copied}
 use Rattle.cg_lists.specs.Literals.{both_literals, literals_of}
 use Rattle.cg_lists.specs.Supports.{in_net_order, input_cone}

@@ -1,10 +1,7 @@
-use Rattle.std.proofs.Common.{◌≡◌, ◌<◌, ◌≤◌, ℕ, List, true, Some, length, slice_get, sym, ◌∙◌, ap, subst, arith}
-use Rattle.std.specs.List.{filter}
-use Rattle.std.proofs.lemmas.List.{length-take-le}
-use Rattle.cg_lists.specs.Supports.{all_nets}
-use Rattle.cg_machine.specs.Added.{own_netlist, own_nets}
+use Rattle.std.proofs.Common.{◌≡◌, Some, length, slice_get, ◌∙◌, subst}
+use Rattle.cg_machine.specs.Added.{own_netlist}
 use Rattle.cg_netlist.proofs.Used.{data_is_used}
-use Rattle.cg_netlist.specs.Circuit.{Circuit, is_in}
+use Rattle.cg_netlist.specs.Circuit.{Circuit}
 use Rattle.cg_netlist.specs.Netlist.{IsNetlist}
 use Rattle.cg_netlist.specs.View.{register_seen}
 use Rattle.cg_support.proofs.Nets.{take_some}

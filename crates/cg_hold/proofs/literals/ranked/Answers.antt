@@ -1,7 +1,6 @@
-use Rattle.std.proofs.Common.{◌≡◌, ◌<◌, ℕ, IfOk, List, Some, length, map, nat_eq, ap, sym, ◌∙◌, subst, arith}
+use Rattle.std.proofs.Common.{◌≡◌, IfOk, List, length, map, nat_eq, ap, sym, ◌∙◌, subst, arith}
 use Rattle.std.proofs.lemmas.List.Filters.{dedup_is}
 use Rattle.cg_lists.proofs.FitLists.{filter_in, range_in}
-use Rattle.cg_lists.specs.Literals.{both_literals, by_count}
 use Rattle.cg_lists.specs.Supports.{all_nets}
 use Rattle.cg_machine.specs.Claims.{Literal}
 use Rattle.cg_netlist.specs.Circuit.{is_in}

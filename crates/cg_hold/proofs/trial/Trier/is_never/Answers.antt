@@ -1,4 +1,3 @@
-use Rattle.std.proofs.Common.{◌≡◌, sym, ◌∙◌, ap}
 use Rattle.cg_hold.proofs.Decided.{decided_never, decided_sometimes, told_never, told_sometimes}
 use Rattle.cg_hold.proofs.trial.Trier.is_never.Goals as goal
 

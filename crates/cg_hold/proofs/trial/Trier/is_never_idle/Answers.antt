@@ -1,4 +1,4 @@
-use Rattle.std.proofs.Common.{◌≡◌, [], ◌∷◌}
+use Rattle.std.proofs.Common.{[], ◌∷◌}
 use Rattle.cg_claim.specs.Question.{idle_question}
 use Rattle.cg_hold.proofs.Decided.{of_claim}
 use Rattle.cg_hold.proofs.Trials.{wants_memory}

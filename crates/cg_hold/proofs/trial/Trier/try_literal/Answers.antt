@@ -1,16 +1,18 @@
-use Rattle.std.proofs.Common.{◌≡◌, Result, if◌then◌else◌, sym, subst}
+use Rattle.std.proofs.Common.{◌≡◌, Bool, Result, Ok, if◌then◌else◌, sym, ◌∙◌, ap, subst}
 use Rattle.cg_limit.specs.Answers.{OrNoMemory}
-use Rattle.cg_lists.specs.HoldList.{serves}
 use Rattle.cg_netlist.specs.declared.fault.AddFault.{AddFault}
 use Rattle.cg_netlist.specs.declared.fault.AddFault.TheVariants.{NoMemory}
 use Rattle.cg_hold.specs.declared.trial.Trial.{Trial}
 use Rattle.cg_hold.specs.declared.trial.Trial.TheVariants.{Serves, Fails}
 use Rattle.cg_hold.specs.inner.Choosing.{trial_of}
-use Rattle.cg_hold.proofs.Trials.{is_narrow, judged, not_large, refused_is, told_trial}
+use Rattle.cg_hold.proofs.Trials.{is_narrow, judged, not_large, refused_is}
 use Rattle.cg_hold.proofs.trial.Trier.try_literal.Goals as goal
 
-pub returns-in-Ok : goal.returns-in-Ok
-returns-in-Ok c =
+abbrev okay : Trial → Result Trial AddFault
+okay t = Ok t
+
+pub returns-in_ok-good-in-Ok : goal.returns-in_ok-good-in-Ok
+returns-in_ok-good-in-Ok c =
     let m = c.args.machine.now in
     let r = c.args.reg in
     let l = c.args.literal in
@@ -18,8 +20,8 @@ returns-in-Ok c =
     let widths = c.list_laws.ensures.widths in
     let good = c.netlist-netlist.ensures.machine in
     let is = c.in-Ok.ensures.claim in
-    told_trial c.judge.result (trial_of m w r l) (if serves m r l then Serves else Fails) c.judge.ensures
-    (judged m w r l (is_narrow widths m good r l c.requires.literal w is.narrow) (not_large widths m good r l c.requires.literal w is.small))
+    judged m w r l (is_narrow widths m good r l c.requires.literal w is.narrow) (not_large widths m good r l c.requires.literal w is.small)
+    ∙ ap okay (ap (λ (b : Bool). if b then Serves else Fails) (sym c.in_ok-good-in-Ok.ensures) ∙ sym c.tried.ensures)
 
 pub returns-in-Err : goal.returns-in-Err
 returns-in-Err c =

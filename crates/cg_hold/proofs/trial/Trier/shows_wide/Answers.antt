@@ -1,4 +1,4 @@
-use Rattle.std.proofs.Common.{◌≡◌, ◌<◌, ℕ, List, true, Some, [], length, slice_get, sym, ◌∙◌, ap, subst}
+use Rattle.std.proofs.Common.{◌≡◌, ℕ, true, Some, [], slice_get, ◌∙◌, ap, subst}
 use Rattle.std.specs.Option.{option_map_or}
 use Rattle.cg_hold.proofs.OfRegister.{own_below}
 use Rattle.cg_lists.specs.Supports.{input_cone}
@@ -12,10 +12,11 @@ use Rattle.cg_netlist.specs.Netlist.{IsNetlist}
 use Rattle.cg_netlist.specs.View.{register_seen}
 use Rattle.cg_support.proofs.Nets.{take_some}
 use Rattle.cg_support.proofs.Steps.{used_within}
-use Rattle.cg_hold.proofs.trial.Trier.measure.Goals as goal
+use Rattle.cg_hold.specs.inner.Choosing.{IsRoom}
+use Rattle.cg_hold.proofs.trial.Trier.shows_wide.Goals as goal
 
-pub measure_by-requires-clause-literal : goal.measure_by-requires-clause-literal
-measure_by-requires-clause-literal c =
+pub measure-requires-clause-literal : goal.measure-requires-clause-literal
+measure-requires-clause-literal c =
     let m = c.args.machine.now in
     let r = c.args.reg in
     let net = c.first-net.result in
@@ -26,3 +27,7 @@ measure_by-requires-clause-literal c =
     let among : is_in cell.inputs net ≡ true = c.first-net.ensures in
     let here : is_in (input_cone m r) net ≡ true = ap (λ o. is_in (cone_of (walk_of m) (option_map_or (λ (k : RegisterCell ℕ ℕ). k.inputs) o [])) net) at ∙ cone_has (walk_of m) cell.inputs net among in
     (here, own_below m net (used_within (own_netlist m) good net (data_is_used (own_netlist m) r net cell own among)))
+
+pub returns : goal.returns
+returns c = λ wide.
+    subst (IsRoom c.args.machine.now c.args.width c.args.reg) (c.is_too_wide.ensures wide) c.measure.ensures.room

@@ -55,10 +55,8 @@ pub fn candidates(
     let _netlist = machine.netlist();
     let chosen = Chosen::of(alloc, machine, width, idle, progress)?;
     let wide = chosen.wide;
-    match stages(alloc, machine.nets(), &chosen.lists) {
-        Ok(stages) => Ok(HoldFound { stages, wide }),
-        Err(_) => Err(AddFault::NoMemory),
-    }
+    let stages = stages(alloc, machine.nets(), &chosen.lists)?;
+    Ok(HoldFound { stages, wide })
 }
 
 /// The stages of the registers that took each literal of `nets` nets, net by net, plain before inverted.

@@ -51,9 +51,7 @@ impl Chosen {
             (λ fault. (fault ≡ NoMemory) ⊎ ((fault ≡ LimitFault ClaimNodes) × (hold_passes machine.now (option_copied idle.entry) width ≡ true))) }
     {
         let _netlist = machine.netlist();
-        let Ok(mut chosen) = Chosen::none(alloc, machine.nets()) else {
-            return Err(AddFault::NoMemory);
-        };
+        let mut chosen = Chosen::none(alloc, machine.nets())?;
         let Ok(cycles) = Cycles::of(alloc, machine) else {
             // By calls, here and below, as their parts would else be dropped one by one in the proof of each way out.
             drop(chosen);
@@ -92,7 +90,7 @@ impl Chosen {
     {
         let netlist = machine.netlist();
         for reg in 0..netlist.registers() {
-            if let Err(fault) = self.look_told(
+            self.look_told(
                 alloc,
                 trier,
                 machine,
@@ -101,9 +99,7 @@ impl Chosen {
                 width,
                 idle,
                 progress,
-            ) {
-                return Err(fault);
-            }
+            )?;
         }
         Ok(())
     }
@@ -203,10 +199,8 @@ impl Chosen {
         ensures wide { OnOk result (self.new.wide ≡ self.old.wide) }
         ensures failed { IfErr result (λ fault. fault ≡ NoMemory) }
     {
-        match self.lists[place_of(literal)].push(reg) {
-            Ok(()) => Ok(()),
-            Err(_) => Err(AddFault::NoMemory),
-        }
+        self.lists[place_of(literal)].push(reg)?;
+        Ok(())
     }
 }
 

@@ -6,13 +6,13 @@ use Rattle.cg_hold.specs.inner.Choosing.{stage_at}
 use Rattle.cg_hold.proofs.Taken.{answered}
 use Rattle.cg_hold.proofs.candidates.candidates.Goals as goal
 
-pub returns-in-Ok : goal.returns-in-Ok
-returns-in-Ok g c =
+pub returns : goal.returns
+returns g c =
     let m = c.args.machine.now in
     let lists = c.in_ok-chosen.chosen.lists.items in
     record {
-      answer = answered m (option_copied c.args.idle) c.args.width lists c.in_ok-chosen.chosen.wide c.in-Ok.stages c.in_ok-chosen.ensures.chosen
-          (c.in-Ok.ensures
+      answer = answered m (option_copied c.args.idle) c.args.width lists c.in_ok-chosen.chosen.wide c.in_ok-stages.stages c.in_ok-chosen.ensures.chosen
+          (c.in_ok-stages.ensures
           ∙ (ap (λ (ls : List (List ℕ)). filter_map (stage_at ls) (both_literals (range_with_len 0 c.nets.result))) c.deref.ensures.value
           ∙ ap (λ n. filter_map (stage_at lists) (both_literals (range_with_len 0 n))) c.nets.ensures));
     }

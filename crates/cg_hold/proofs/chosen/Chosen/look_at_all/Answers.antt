@@ -1,4 +1,4 @@
-use Rattle.std.proofs.Common.{◌≡◌, ◌<◌, ◌+◌, ℕ, length, ◌∙◌, ap, subst, arith}
+use Rattle.std.proofs.Common.{◌≡◌, ◌<◌, ◌+◌, ℕ, Err, length, rules, ◌∙◌, ap, subst, arith}
 use Rattle.std.specs.Option.{option_copied}
 use Rattle.cg_groups.proofs.Listed.{own_count}
 use Rattle.cg_netlist.specs.Circuit.{Circuit}
@@ -12,15 +12,17 @@ look_told-requires-clause-register g c =
     let count : c.registers-reg-end.result ≡ m.own_registers = c.registers-reg-end.ensures.count ∙ (ap (λ (n : Circuit). length n.registers) c.netlist-netlist.ensures.netlist ∙ own_count m c.netlist-netlist.ensures.machine) in
     omega (arith, count, c.new.ensures, c.loop-reg-test.true)
 
-pub returns-in-Err-clause-refused : goal.returns-in-Err-clause-refused
-returns-in-Err-clause-refused g c =
+pub returns-in_err-look_told-clause-refused : goal.returns-in_err-look_told-clause-refused
+returns-in_err-look_told-clause-refused g c =
     let m = c.args.machine.now in
     let count : c.registers-reg-end.result ≡ m.own_registers = c.registers-reg-end.ensures.count ∙ (ap (λ (n : Circuit). length n.registers) c.netlist-netlist.ensures.netlist ∙ own_count m c.netlist-netlist.ensures.machine) in
-    refused_told m (option_copied c.args.idle) c.args.width c.new.result (omega (arith, count, c.new.ensures, c.loop-reg-test.true)) c.in-Err.fault c.in-Err.ensures.refused
+    let fault = c.in_err-look_told.field-0.0 in
+    let same : c.from_residual.result ≡ Err fault = search rules in
+    rw same (refused_told m (option_copied c.args.idle) c.args.width c.new.result (omega (arith, count, c.new.ensures, c.loop-reg-test.true)) fault c.in_err-look_told.ensures.refused)
 
 pub loop-reg-preserved : goal.loop-reg-preserved
 loop-reg-preserved g c =
-    subst (λ n. AreChosen c.args.machine.now (option_copied c.args.idle) c.args.width (n + 1) c.look_told.new.self.lists.items c.look_told.new.self.wide) c.new.ensures c.in_default.ensures.chosen
+    subst (λ n. AreChosen c.args.machine.now (option_copied c.args.idle) c.args.width (n + 1) c.look_told.new.self.lists.items c.look_told.new.self.wide) c.new.ensures c.in_ok-look_told.ensures.chosen
 
 pub returns-clause-chosen : goal.returns-clause-chosen
 returns-clause-chosen g c =

@@ -1,7 +1,12 @@
 pub mod Alone
+pub mod Cycled
 pub mod Decided
+pub mod GateWords
+pub mod Lanes
+pub mod Layings
 pub mod ListNumber
 pub mod Moved
+pub mod MovedInWords
 pub mod OfRegister
 pub mod Ranked
 pub mod Room

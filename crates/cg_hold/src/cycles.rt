@@ -4,37 +4,37 @@
 //! in some cycle can be 0. What no cycle shows is left to the claims.
 
 ghost use Rattle.std.specs.Prelude.{◌≡◌, ◌<◌, ◌∷◌, [], true, false, not, IfOk, length};
-ghost use Rattle.cg_cell.specs.Gates.{exclusive_or};
 ghost use Rattle.cg_claim.specs.LeafBits.{is_never};
 ghost use Rattle.cg_claim.specs.Question.{hold_question, idle_question};
-ghost use Rattle.cg_hold.specs.inner.Cycles.{AreCycles, IsCycle};
+ghost use Rattle.cg_hold.specs.inner.Cycles.{AreCycles};
+ghost use Rattle.cg_hold.specs.inner.Words.{IsWord, lane};
 ghost use Rattle.cg_machine.specs.Claims.{literal_bit};
-ghost use Rattle.cg_machine.specs.Machine.{next};
 ghost use Rattle.cg_netlist.specs.Moment.{bit};
 
+use crate::moves::move_words;
+use crate::nets::{lay_cells, start_words};
+use crate::random::Random;
+use crate::words::{has_one, inverse};
 use cg_list::Seq;
 use cg_machine::machine::Machine;
 use cg_machine::stage::NetLit;
 use cg_netlist::id::RegId;
 use std::alloc::{AllocError, Global};
 
-// How many cycles there are. Each takes a place for each net.
-const CYCLES: u32 = 24;
-
-// Where the pseudo-random numbers begin: any number but 0 (xorshift, Marsaglia 2003).
-const SEED: u64 = 0x9e37_79b9_7f4a_7c15;
-
-/// One cycle of a machine: the bits of its registers, and those of its nets.
+/// 64 cycles of a machine, each in a lane of these words.
 #[derive(Drop)]
-pub(crate) struct Cycle {
-    state: Seq<bool>,
-    nets: Seq<bool>,
+pub(crate) struct CycleWords {
+    /// The bits of the nets.
+    nets: Seq<u64>,
+
+    /// Whether the registers take another bit.
+    moves: Seq<u64>,
 }
 
 /// Cycles of one machine.
 #[derive(Drop)]
 pub(crate) struct Cycles {
-    cycles: Seq<Cycle>,
+    cycles: CycleWords,
 }
 
 impl Cycles {
@@ -42,12 +42,19 @@ impl Cycles {
     pub fn of(alloc: Global, machine: &Machine) -> Result<Cycles, AllocError>
         ensures { IfOk result (λ made. AreCycles machine.now made.cycles) }
     {
-        let mut bits = Bits { state: SEED };
-        let mut cycles = Seq::new(alloc);
-        for _ in 0..CYCLES {
-            cycles.push(Cycle::draw(alloc, machine, &mut bits)?)?;
-        }
-        Ok(Cycles { cycles })
+        let _netlist = machine.netlist();
+        let mut random = Random::new();
+        let state = random.draw(alloc, machine.registers() as usize)?;
+        let mut nets = start_words(alloc, machine, &state, &mut random)?;
+        let mut scratch = vec![in alloc; 0; machine.widest() as usize]?;
+        lay_cells(machine, &mut nets, &mut scratch);
+        let moves = move_words(alloc, machine, &state, &nets)?;
+        Ok(Cycles {
+            cycles: CycleWords {
+                nets: Seq::from_vec(nets),
+                moves: Seq::from_vec(moves),
+            },
+        })
     }
 
     /// Whether some cycle shows that a register does not hold its bit where a literal is 0.
@@ -57,12 +64,9 @@ impl Cycles {
         requires net { literal.0 < length machine.now.circuit.names }
         ensures { result ≡ true → is_never machine.now (hold_question literal reg) ≡ false }
     {
-        for cycle in self.cycles.as_slice() {
-            if cycle.moves(machine, literal, reg) {
-                return true;
-            }
-        }
-        false
+        let _netlist = machine.netlist();
+        let moves = self.cycles.moves.as_slice()[reg.number() as usize];
+        has_one(self.cycles.zeros(machine, literal) & moves)
     }
 
     /// Whether some cycle shows that a literal can be 0.
@@ -71,107 +75,24 @@ impl Cycles {
         requires net { literal.0 < length machine.now.circuit.names }
         ensures { result ≡ true → is_never machine.now (idle_question (literal ∷ [])) ≡ false }
     {
-        for cycle in self.cycles.as_slice() {
-            if cycle.idles(machine, literal) {
-                return true;
-            }
+        let _netlist = machine.netlist();
+        has_one(self.cycles.zeros(machine, literal))
+    }
+}
+
+impl CycleWords {
+    /// The cycles in which a literal is 0.
+    fn zeros(&self, machine: &Machine, literal: NetLit) -> u64
+        requires cycles { AreCycles machine.now self.now }
+        requires net { literal.0 < length machine.now.circuit.names }
+        ensures { IsWord result (λ i. not (literal_bit (bit (lane i self.now.nets)) literal)) }
+    {
+        let _netlist = machine.netlist();
+        let word = self.nets.as_slice()[literal.net.number() as usize];
+        if literal.inverted {
+            word
+        } else {
+            inverse(word)
         }
-        false
-    }
-}
-
-impl Cycle {
-    /// A cycle of a machine, from random bits.
-    fn draw(alloc: Global, machine: &Machine, bits: &mut Bits) -> Result<Cycle, AllocError>
-        ensures { IfOk result (IsCycle machine.now) }
-    {
-        let netlist = machine.netlist();
-        let state = bits.draw(alloc, machine.registers() as usize)?;
-        let inputs = bits.draw(alloc, netlist.data_inputs().len())?;
-        let mut nets = zeros(alloc, machine.nets() as usize)?;
-        let mut scratch = zeros(alloc, machine.widest() as usize)?;
-        machine.evaluate(&state, &inputs, &mut nets, &mut scratch);
-        Ok(Cycle {
-            state: Seq::from_vec(state),
-            nets: Seq::from_vec(nets),
-        })
-    }
-
-    /// Whether a literal is 0, and a register takes another bit.
-    fn moves(&self, machine: &Machine, literal: NetLit, reg: RegId) -> bool
-        requires cycle { IsCycle machine.now self.now }
-        requires register { reg < length machine.now.circuit.registers }
-        requires net { literal.0 < length machine.now.circuit.names }
-        ensures { result ≡ true → is_never machine.now (hold_question literal reg) ≡ false }
-    {
-        let _netlist = machine.netlist();
-        self.is_zero(machine, literal) && self.takes_other(machine, reg)
-    }
-
-    /// Whether a literal is 0.
-    fn idles(&self, machine: &Machine, literal: NetLit) -> bool
-        requires cycle { IsCycle machine.now self.now }
-        requires net { literal.0 < length machine.now.circuit.names }
-        ensures { result ≡ true → is_never machine.now (idle_question (literal ∷ [])) ≡ false }
-    {
-        let _netlist = machine.netlist();
-        self.is_zero(machine, literal)
-    }
-
-    /// Whether a literal is 0.
-    fn is_zero(&self, machine: &Machine, literal: NetLit) -> bool
-        requires cycle { IsCycle machine.now self.now }
-        requires net { literal.0 < length machine.now.circuit.names }
-        ensures { result ≡ not (literal_bit (bit self.now.nets) literal) }
-    {
-        let _netlist = machine.netlist();
-        let bit = self.nets.as_slice()[literal.net.number() as usize];
-        if literal.inverted { bit } else { !bit }
-    }
-
-    /// Whether a register takes another bit.
-    fn takes_other(&self, machine: &Machine, reg: RegId) -> bool
-        requires cycle { IsCycle machine.now self.now }
-        requires register { reg < length machine.now.circuit.registers }
-        ensures { result ≡ exclusive_or (next machine.now self.now.nets self.now.state reg) (bit self.now.state reg) }
-    {
-        let _netlist = machine.netlist();
-        let state = self.state.as_slice();
-        let own = state[reg.number() as usize];
-        machine.next_value(reg, state, self.nets.as_slice()) != own
-    }
-}
-
-/// That many zeros.
-pub(crate) fn zeros(alloc: Global, count: usize) -> Result<Vec<bool>, AllocError>
-    ensures { IfOk result (λ bits. length bits.items ≡ count) }
-{
-    vec![in alloc; false; count]
-}
-
-/// Pseudo-random bits. No answer rests on which they are.
-#[derive(Drop)]
-struct Bits {
-    state: u64,
-}
-
-impl Bits {
-    /// The next bit.
-    fn next(&mut self) -> bool {
-        self.state ^= self.state << 13;
-        self.state ^= self.state >> 7;
-        self.state ^= self.state << 17;
-        self.state >> 63 == 1
-    }
-
-    /// The next bits.
-    fn draw(&mut self, alloc: Global, count: usize) -> Result<Vec<bool>, AllocError>
-        ensures { IfOk result (λ bits. length bits.items ≡ count) }
-    {
-        let mut bits = Vec::new(alloc);
-        for _ in 0..count {
-            bits.push(self.next())?;
-        }
-        Ok(bits)
     }
 }

@@ -8,7 +8,6 @@ ghost use Rattle.cg_aig.specs.Aig.{aig_ops, nodes};
 ghost use Rattle.cg_cnf.specs.Clauses.{IsOneAt};
 ghost use Rattle.cg_hold.specs.inner.Known.{IsEverOne};
 
-use crate::cycles::zeros;
 use cg_aig::{Aig, AigLit};
 use std::alloc::{AllocError, Global};
 
@@ -84,4 +83,11 @@ fn is_one_at(aig: &Aig, goal: AigLit, bits: &[bool], values: &mut [bool]) -> boo
         return false;
     }
     aig.value(goal, bits, values)
+}
+
+/// That many zeros.
+fn zeros(alloc: Global, count: usize) -> Result<Vec<bool>, AllocError>
+    ensures { IfOk result (λ bits. length bits.items ≡ count) }
+{
+    vec![in alloc; false; count]
 }

@@ -6,6 +6,10 @@
 //! The modules:
 //!
 //! - `literals`: the literals of a register in the order in which they are tried.
+//! - `random`: pseudo-random words.
+//! - `words`: words of 64 bits, each bit that of a cycle of its own.
+//! - `nets`: the words of nets in 64 cycles.
+//! - `moves`: in which cycles registers take another bit.
 //! - `cycles`: a few cycles with random bits, which settle most literals.
 //! - `known`: leaf bits at which goals were 1.
 //! - `trial`: what comes of one literal, by the cycles and by its claims.
@@ -21,5 +25,9 @@ mod chosen;
 mod cycles;
 mod known;
 mod literals;
+mod moves;
+mod nets;
 pub mod progress;
+mod random;
 mod trial;
+mod words;

@@ -1,14 +1,15 @@
 -- Cycles of a machine.
-use Rattle.std.specs.Prelude.{◌≡◌, ℕ, Bool, List, slice_get, Some}
-use Rattle.cg_machine.specs.Machine.{IsInputs, IsState, MachineData, values}
-use Rattle.cg_hold.specs.declared.cycles.Cycle.{Cycle}
+use Rattle.std.specs.Prelude.{◌≡◌, ◌<◌, ℕ, Bool, List, length}
+use Rattle.cg_hold.specs.inner.Laying.{AreMoves}
+use Rattle.cg_hold.specs.inner.Words.{LANES, lane}
+use Rattle.cg_machine.specs.Machine.{IsInputs, MachineData, values}
+use Rattle.cg_hold.specs.declared.cycles.CycleWords.{CycleWords}
 
--- with these bits of the registers, and some inputs, the nets have these bits
-pub record IsCycle (m : MachineData) (cycle : Cycle) : Type 0 where
-  pub inputs : List Bool
-  pub is_state : IsState m cycle.state
-  pub is_inputs : IsInputs m inputs
-  pub nets : cycle.nets ≡ values m cycle.state inputs
-
-abbrev pub AreCycles : MachineData → List Cycle → Type 0
-AreCycles m cycles = (k : ℕ) (cycle : Cycle) → slice_get cycles k ≡ Some cycle → IsCycle m cycle
+-- with some words of the registers, and some inputs in each lane, the nets have these words, and these registers move
+pub record AreCycles (m : MachineData) (words : CycleWords) : Type 0 where
+  pub state : List ℕ
+  pub is_state : length state ≡ length m.circuit.registers
+  pub inputs : ℕ → List Bool
+  pub are_inputs : (i : ℕ) → IsInputs m (inputs i)
+  pub nets : (i : ℕ) → i < LANES → lane i words.nets ≡ values m (lane i state) (inputs i)
+  pub moves : AreMoves m state words.nets words.moves

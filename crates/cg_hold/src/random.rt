@@ -1,0 +1,40 @@
+//! Pseudo-random words. No answer rests on which they are.
+
+ghost use Rattle.std.specs.Prelude.{◌≡◌, IfOk, length};
+
+use std::alloc::{AllocError, Global};
+
+// Where the words begin: any number but 0 (xorshift, Marsaglia 2003).
+const SEED: u64 = 0x9e37_79b9_7f4a_7c15;
+
+/// Words to come, the same each time.
+#[derive(Drop)]
+pub(crate) struct Random {
+    state: u64,
+}
+
+impl Random {
+    /// All words, from the first on.
+    pub fn new() -> Random {
+        Random { state: SEED }
+    }
+
+    /// The next word.
+    pub fn next(&mut self) -> u64 {
+        self.state ^= self.state << 13;
+        self.state ^= self.state >> 7;
+        self.state ^= self.state << 17;
+        self.state
+    }
+
+    /// The next words.
+    pub fn draw(&mut self, alloc: Global, count: usize) -> Result<Vec<u64>, AllocError>
+        ensures { IfOk result (λ words. length words.items ≡ count) }
+    {
+        let mut words = Vec::new(alloc);
+        for _ in 0..count {
+            words.push(self.next())?;
+        }
+        Ok(words)
+    }
+}

@@ -1,17 +1,16 @@
 -- A register without an enable and without inputs: its hold claims have one leaf, its own bit.
 use Rattle.std.proofs.Common.{◌≡◌, ℕ, zero, suc, ◌+◌, ◌<◌, ◌≤◌, Bool, true, false, ◌||◌, ◌&&◌, cond, List, [], ◌∷◌, ◌++◌, map}
-use Rattle.std.proofs.Common.{length, slice_get, nat_eq, Option, None, Some, refl, sym, ◌∙◌, ap, subst, arith}
+use Rattle.std.proofs.Common.{length, slice_get, nat_eq, Option, None, Some, refl, ◌∙◌, ap, arith}
 use Rattle.std.specs.List.{filter, flat_map, list_any, range_with_len}
 use Rattle.std.specs.Option.{option_map_or, option_to_list}
 use Rattle.std.proofs.lemmas.Bool.{both_ways, eq-eqb, eqb-true}
-use Rattle.cg_claim.specs.Leaves.{Leaf, is_reached, leaves_at, leaves_of, sources, width_of}
+use Rattle.cg_claim.specs.Leaves.{Leaf, is_reached, leaves_at, sources}
 use Rattle.cg_claim.specs.Question.{Copy, Before, After, Changed, Question, held_question}
-use Rattle.cg_claim.specs.Reach.{after_nets, after_states, before_nets, before_states, changed_nets, changed_states, feeds}
+use Rattle.cg_claim.specs.Reach.{after_states, before_nets, before_states, changed_nets, changed_states, feeds}
 use Rattle.cg_claim.specs.Reach.{inputs_of_register, next_asks_own, next_nets, origin_asks, origin_nets, registers_of, sides_ask}
 use Rattle.cg_claim.specs.declared.leaf.LeafSource.{LeafSource}
 use Rattle.cg_claim.specs.declared.leaf.LeafSource.TheVariants.{Input as InputOf, Register as RegisterOf}
 use Rattle.cg_lists.specs.HoldList.{hold_width}
-use Rattle.cg_lists.specs.Supports.{input_cone}
 use Rattle.cg_machine.specs.Machine.{MachineData, enable_of, walk_of}
 use Rattle.cg_netlist.specs.Circuit.{LogicCell, RegisterCell, data_inputs, is_in, shown_nets}
 use Rattle.cg_cone.specs.Cone.{cone_of}

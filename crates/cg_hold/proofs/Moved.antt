@@ -45,7 +45,7 @@ module _ (m : MachineData) (width r : ℕ) (room : HasRoom m width r) where
   by_serving : (l : Literal) (b : Bool) → IsLiteralOf m r l → serves m r l ≡ b → trial_of m width r l ≡ tried b
   by_serving l b of is = judged m width r l room.0 (room.1 l of) ∙ ap tried is
 
-  pub skip : (l : Literal) (ls : List Literal) → IsLiteralOf m r l → serves m r l ≡ false → choice_by m width r (l ∷ ls) ≡ choice_by m width r ls
+  skip : (l : Literal) (ls : List Literal) → IsLiteralOf m r l → serves m r l ≡ false → choice_by m width r (l ∷ ls) ≡ choice_by m width r ls
   skip l ls of is = (front_fails m width r l ls (by_serving l false of is)).0
 
   skipped : (place : ℕ) (ls : List Literal) → AreOf m r ls → AreMoved m r ls place → choice_by m width r ls ≡ choice_by m width r (drop place ls)

@@ -2,7 +2,7 @@
 use Rattle.std.proofs.Common.{◌≡◌, ℕ, zero, suc, ◌*◌, ◌+◌, ◌<◌, ◌≤◌, Bool, true, false, cond, if◌then◌else◌, List, [], ◌∷◌, length}
 use Rattle.std.proofs.Common.{take, nat_eq, nat_le, nat_lt, slice_get, Option, Some, None, Result, Ok, Err, refl, sym, ◌∙◌, ap}
 use Rattle.std.proofs.Common.{subst, arith}
-use Rattle.std.specs.List.{filter, find, list_any, range_with_len}
+use Rattle.std.specs.List.{filter, find, list_any}
 use Rattle.std.specs.Option.{option_map_or}
 use Rattle.std.proofs.lemmas.Bool.{both_ways, eq-eqb, or_left, or_right}
 use Rattle.std.proofs.lemmas.Option.{none-some, same_Some}
@@ -27,7 +27,6 @@ use Rattle.cg_netlist.specs.declared.fault.AddFault.TheVariants.{Limit as LimitF
 use Rattle.cg_hold.specs.declared.choice.Choice.{Choice}
 use Rattle.cg_hold.specs.declared.choice.Choice.TheVariants.{Wide, Takes}
 use Rattle.cg_hold.specs.inner.Choosing.{FitsChoice, IsLiteralOf, choice_by}
-use Rattle.cg_hold.specs.inner.Packed.{literal_place}
 
 module _ (m : MachineData) (r : ℕ) where
   -- all are literals of the register

@@ -5,20 +5,19 @@ use Rattle.std.proofs.Common.{nat_lt, Option, None, Some, refl, sym, ◌∙◌, 
 use Rattle.std.specs.Prelude.{position}
 use Rattle.std.specs.List.{filter, flat_map}
 use Rattle.std.specs.Option.{option_to_list}
-use Rattle.std.proofs.lemmas.Bool.{both_ways, eqb-true, ltb-true, or_cases, or_right}
+use Rattle.std.proofs.lemmas.Bool.{eqb-true, ltb-true, or_cases, or_right}
 use Rattle.cg_limit.specs.declared.TheConstants.{MOST_CLAIM_NODES}
 use Rattle.cg_aig.specs.Aig.{aig_and, aig_ops, and_with, in_order, inverse, pair_node_at, same_pair, simple}
-use Rattle.cg_cell.specs.Build.{Run, build_xor, chain, plain}
+use Rattle.cg_cell.specs.Build.{Run, build_xor, chain}
 use Rattle.cg_cell.specs.Domain.{Seen}
 use Rattle.cg_claim.proofs.HoldWidths.{hold_leaves}
-use Rattle.cg_claim.specs.Build.{Copies, Table, aig_values, after_state_table, after_table, before_table, changed_state}
+use Rattle.cg_claim.specs.Build.{Copies, Table, aig_values, after_state_table, after_table, changed_state}
 use Rattle.cg_claim.specs.Build.{changed_table, copies, goal_run, lay, lay_states, leaf_list, leaf_value, literal_of, next_run}
 use Rattle.cg_claim.specs.Build.{nodes_of, put_run, reached_cells, size, start_nets, state_run}
 use Rattle.cg_claim.specs.Leaves.{Leaf, leaves_of}
-use Rattle.cg_claim.specs.Question.{After, Before, Question, held_question, hold_question}
+use Rattle.cg_claim.specs.Question.{After, Before, held_question, hold_question}
 use Rattle.cg_claim.specs.Reach.{after_states, before_nets, inputs_of_register, next_nets, origin_nets, registers_of}
 use Rattle.cg_claim.specs.declared.leaf.LeafSource.TheVariants.{Input as InputOf, Register as RegisterOf}
-use Rattle.cg_groups.proofs.Same.{same_filter}
 use Rattle.cg_lists.specs.HoldList.{is_large}
 use Rattle.cg_machine.specs.Claims.{Literal}
 use Rattle.cg_machine.specs.Machine.{IsMachine, MachineData, enable_of, walk_of}

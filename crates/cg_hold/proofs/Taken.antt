@@ -1,9 +1,9 @@
 -- What came of the first registers, one register after another.
-use Rattle.std.proofs.Common.{◌≡◌, ℕ, zero, suc, ◌+◌, ◌*◌, ◌<◌, ◌≤◌, ◌^◌, Bool, true, false, not, ◌||◌, ◌&&◌, cond, if◌then◌else◌}
+use Rattle.std.proofs.Common.{◌≡◌, ℕ, zero, suc, ◌+◌, ◌*◌, ◌<◌, ◌≤◌, Bool, true, false, ◌||◌, ◌&&◌, cond, if◌then◌else◌}
 use Rattle.std.proofs.Common.{List, [], ◌∷◌, ◌++◌, map, length, replicate, nat_eq, nat_lt, slice_get, slice_index_or, slice_set}
 use Rattle.std.proofs.Common.{is_none, is_some, OnOk, unwrap_or, append_assoc, Option, Some, None, Result, Ok, Err, refl, sym, ◌∙◌}
-use Rattle.std.proofs.Common.{ap, subst, arith, ◌⊎◌, inl, inr}
-use Rattle.std.specs.List.{cons_option, count_by, filter, filter_map, find, flat_map, list_any, range_with_len}
+use Rattle.std.proofs.Common.{ap, arith, ◌⊎◌, inl, inr}
+use Rattle.std.specs.List.{cons_option, count_by, filter, filter_map, find, list_any, range_with_len}
 use Rattle.std.specs.Option.{option_map_or}
 use Rattle.std.proofs.lemmas.Bool.{and_parts, both_ways, eqb-true, eq-eqb, or_cases, or_left, or_right}
 use Rattle.std.proofs.lemmas.Bool.Decides.{eqb_tells}
@@ -18,10 +18,10 @@ use Rattle.cg_limit.specs.declared.Limit.TheVariants.{ClaimNodes}
 use Rattle.cg_claim.specs.Question.{hold_question}
 use Rattle.cg_lists.proofs.FitLists.{in_filtered}
 use Rattle.cg_netlist.proofs.Driven.{is_in-range}
-use Rattle.cg_lists.specs.HoldList.{choices, chosen, chosen_regs, hold_by, hold_list, hold_passes, hold_stage, hold_wide}
-use Rattle.cg_lists.specs.HoldList.{hold_width, is_large, looked_at, serves, unless_empty, up_to}
+use Rattle.cg_lists.specs.HoldList.{choices, chosen, chosen_regs, hold_list, hold_passes, hold_stage, hold_wide}
+use Rattle.cg_lists.specs.HoldList.{hold_width, is_large, serves, unless_empty, up_to}
 use Rattle.cg_lists.specs.Literals.{IdleData, both_literals, literals_of, same_bool, same_literal}
-use Rattle.cg_lists.specs.Supports.{all_nets, free_registers}
+use Rattle.cg_lists.specs.Supports.{free_registers}
 use Rattle.cg_machine.specs.Claims.{Literal}
 use Rattle.cg_machine.specs.Machine.{MachineData, enable_of}
 use Rattle.cg_machine.specs.declared.stage.Stage.{Stage}
@@ -33,7 +33,7 @@ use Rattle.cg_hold.specs.declared.choice.Choice.{Choice}
 use Rattle.cg_hold.specs.declared.choice.Choice.TheVariants.{Wide, Takes}
 use Rattle.cg_hold.specs.HoldAnswer.{hold_answer}
 use Rattle.cg_hold.specs.declared.candidates.HoldFound.{HoldFound}
-use Rattle.cg_hold.specs.inner.Choosing.{AreChosen, FitsChoice, choice_by, choices_to, free_to, list_at, passes_at, stage_at}
+use Rattle.cg_hold.specs.inner.Choosing.{AreChosen, FitsChoice, choice_by, free_to, list_at, passes_at, stage_at}
 use Rattle.cg_hold.specs.inner.Choosing.{wide_by, with_choice}
 use Rattle.cg_hold.specs.inner.Packed.{literal_place}
 

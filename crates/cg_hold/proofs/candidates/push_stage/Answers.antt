@@ -1,4 +1,4 @@
-use Rattle.std.proofs.Common.{◌≡◌, ◌<◌, ℕ, List, length, nat_eq, not, refl, sym, ◌∙◌, ap, subst, arith}
+use Rattle.std.proofs.Common.{arith}
 use Rattle.cg_hold.proofs.Taken.{empty_stage}
 use Rattle.cg_hold.proofs.candidates.push_stage.Goals as goal
 

@@ -1,4 +1,4 @@
-use Rattle.std.proofs.Common.{◌≡◌, ◌++◌, [], false, true, ap, sym, ◌∙◌}
+use Rattle.std.proofs.Common.{◌++◌, [], false, true, ap, ◌∙◌}
 use Rattle.std.specs.List.{cons_option}
 use Rattle.cg_hold.specs.inner.Choosing.{stage_at}
 use Rattle.cg_hold.proofs.Taken.{both_more}

@@ -1,4 +1,4 @@
-use Rattle.std.proofs.Common.{◌≡◌, length, nat_lt, if◌then◌else◌, subst}
+use Rattle.std.proofs.Common.{length, nat_lt, if◌then◌else◌, subst}
 use Rattle.cg_claim.specs.Question.{hold_question}
 use Rattle.cg_machine.specs.Claims.{Literal}
 use Rattle.cg_unroll.specs.Claims.{IsClaim}

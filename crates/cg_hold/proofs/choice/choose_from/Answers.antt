@@ -1,7 +1,6 @@
-use Rattle.std.proofs.Common.{◌≡◌, ◌+◌, Some, Result, false, true, refl, slice_get, sym, ◌∙◌, ap, subst}
+use Rattle.std.proofs.Common.{◌≡◌, ◌+◌, Some, Result, refl, slice_get, sym, ◌∙◌, ap, subst}
 use Rattle.std.proofs.lemmas.Option.{slice_get_read}
 use Rattle.cg_limit.specs.Answers.{OrNoMemory}
-use Rattle.cg_lists.specs.HoldList.{serves}
 use Rattle.cg_netlist.specs.declared.fault.AddFault.{AddFault}
 use Rattle.cg_netlist.specs.declared.fault.AddFault.TheVariants.{NoMemory}
 use Rattle.cg_hold.specs.declared.choice.Choice.{Choice}

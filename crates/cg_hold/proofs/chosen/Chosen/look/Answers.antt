@@ -1,9 +1,9 @@
-use Rattle.std.proofs.Common.{◌≡◌, ◌<◌, ◌+◌, ℕ, OnOk, false, is_some, is_none, length, refl, sym, ◌∙◌, ap, subst, arith}
+use Rattle.std.proofs.Common.{◌≡◌, false, is_some, length, sym, ◌∙◌, ap, arith}
 use Rattle.std.specs.Option.{option_copied}
 use Rattle.cg_lists.specs.Literals.{literals_of}
 use Rattle.cg_machine.specs.Machine.{enable_of}
 use Rattle.cg_hold.proofs.OfRegister.{choice_fits, literals_all}
-use Rattle.cg_hold.proofs.Taken.{chosen_next, chosen_same, none_is, none_of_none, none_of_some, on_ok_both, refused_one, wide_small}
+use Rattle.cg_hold.proofs.Taken.{chosen_next, chosen_same, none_is, none_of_none, none_of_some, on_ok_both, wide_small}
 use Rattle.cg_hold.proofs.chosen.Chosen.look.Goals as goal
 
 pub enable-requires : goal.enable-requires

@@ -1,4 +1,4 @@
-use Rattle.std.proofs.Common.{◌≤◌, ◌*◌, ℕ, List, [], replicate, ◌∙◌, ap, arith}
+use Rattle.std.proofs.Common.{◌*◌, ℕ, List, [], replicate, ◌∙◌, ap, arith}
 use Rattle.std.specs.Option.{option_copied}
 use Rattle.cg_hold.proofs.Taken.{chosen_none}
 use Rattle.cg_hold.proofs.chosen.Chosen.of.Goals as goal

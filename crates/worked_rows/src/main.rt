@@ -14,8 +14,7 @@
 //! - `fail N WORD..` is a command line of which the calls of these numbers (from 0, with commas between them) fail. It is run over
 //!   files of its own; a file that it stored is compared with the one of that name that stands in memory.
 //! - `folder WORD..` is a command line over the files of the folder itself, and `read NAME` says what the file NAME of it holds.
-//! What
-//!   it complains goes to standard output too.
+//!   What it complains goes to standard output too.
 //! - Any other line is a command line. A file of the folder that it names is brought into memory first, unless it is there.
 //!
 //! A command line may name two watchers beside those of the program, `highs` and `few`.

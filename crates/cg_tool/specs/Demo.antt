@@ -78,8 +78,7 @@ abbrev pub demo_task : ℕ → Task
 demo_task size = task_of demo_takes demo_stops demo_gives (record { size = size }) []
 
 -- A pipeline was gated: the generated texts stand for a library, a netlist with its cells, and a stimulus of its data inputs. What
--- is
--- said is the summary of the gated netlist on which this stimulus is played. Nothing is stored.
+-- is said is the summary of the gated netlist on which this stimulus is played. Nothing is stored.
 pub record IsDemo (size : ℕ) (before after : World) (finish : Finish) : Type 0 where
   pub library : List CellData
   pub netlist : Circuit

@@ -88,8 +88,7 @@ request_by library wanted stimulus = record {
 }
 
 -- what `gate` puts out of the texts of a gated netlist: it stores the netlist, and the proof file and the report where they are
--- asked
--- for
+-- asked for
 abbrev pub text_for : Role → Option (List ℕ) → List Text
 text_for role None = []
 text_for role (Some bytes) = record { role = role; bytes = bytes } ∷ []
@@ -128,11 +127,14 @@ stops_with library wanted c (Ok stimulus) = option_map troubles.Limit (stops_at 
 abbrev pub gate_stops : Gate → Option Trouble
 gate_stops state =
     option_and_then
-    (λ c. stops_with state.library state.wanted c (stimulus_asked (state.wanted).asked.stimulus c state.stimulus)) state.netlist
+    (λ c. stops_with state.library state.wanted c (stimulus_asked (state.wanted).asked.stimulus c state.stimulus))
+    state.netlist
 
 abbrev pub gate_gives : Option Kind → Gate → Output → Type 0
 gate_gives kind state output =
-    IsSomeAnd state.netlist (λ c. IsOkAnd (stimulus_asked (state.wanted).asked.stimulus c state.stimulus) (λ stimulus. GatesAs kind (request_by state.library state.wanted stimulus) c output))
+    IsSomeAnd state.netlist
+    (λ c. IsOkAnd (stimulus_asked (state.wanted).asked.stimulus c state.stimulus)
+    (λ stimulus. GatesAs kind (request_by state.library state.wanted stimulus) c output))
 
 -- nothing is read yet
 abbrev pub gate_start : Options → Gate

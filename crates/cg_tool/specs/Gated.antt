@@ -44,8 +44,8 @@ pub record Stand (names : Role → List ℕ) (texts : Texts) (after : World) : T
 -- A netlist was gated: the bytes under LIB are a text that stands for a library, and those under NETLIST are a BLIF text that says
 -- a well-formed netlist with this library and the clock of the words, of which no gating cell is refused and in which no net's name
 -- begins with the prefix. Those under the stimulus's name, where one is asked for, stand for rows of its data inputs. What is
--- stored and said
--- are the texts that gating gives of it, and they mean what the headline says. Files of different names each hold their text.
+-- stored and said are the texts that gating gives of it, and they mean what the headline says. Files of different names each hold
+-- their text.
 pub record IsGated (options : Options) (kind : Option Kind) (names : Role → List ℕ) (before after : World)
     (finish : Finish) : Type 0 where
   pub library : List CellData

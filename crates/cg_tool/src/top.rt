@@ -28,8 +28,7 @@ use std::alloc::{AllocError, Global};
 /// Does what the words of a command line ask for, over the shelf, and answers how that ended.
 ///
 /// The words may ask for one of the watchers by its name; of two with one name the first is taken. While stages are tried
-/// `progress` is
-/// told how far that is.
+/// `progress` is told how far that is.
 pub fn run<S: Shelf>(
     alloc: Global,
     words: &[String],

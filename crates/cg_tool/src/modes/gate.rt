@@ -114,8 +114,7 @@ pub fn run<S: Shelf>(
         (S.world shelf.new) result }
 
     // A finished run read a library, a netlist and the stimulus that was asked for, and wrote a netlist that shows what the one
-    // that
-    // was read shows.
+    // that was read shows.
     ensures gated { IsTrue (S.world shelf.old).tells
         → FinishBy (IsGated options (option_map (λ watcher. says watcher) watcher) (name_of names.now) (S.world shelf.old) (S.world shelf.new)) result }
 {

@@ -8,7 +8,7 @@ use Rattle.cg_netlist.proofs.Values.{element_at}
 use Rattle.cg_stimulus.specs.Played.{IsPlayed, played_start, played_wave, row_tick, wave_from}
 use Rattle.cg_report.specs.Idle.{low_moments}
 use Rattle.cg_report.specs.Place.{IsAt, Place, Plays, Steps}
-use Rattle.cg_report.specs.inner.RowByRow.{HasRow, IsBehind, IsPairs, PlaysPair}
+use Rattle.cg_report.specs.inner.RowByRow.{HasRow, IsBehind, IsFirst, IsPairs, PlaysPair}
 use Rattle.cg_report.proofs.Counting.{next_at}
 
 -- where a moment is left, a step plays it
@@ -64,6 +64,23 @@ behind_none c rows place circuit same left at = record {
   pairs = tt;
   lows = refl;
 }
+
+-- what holds of the player's netlist and rows, where they are known
+pub of_player : (P : Circuit → List (List Bool) → Type 0) (c d : Circuit) (rows more : List (List Bool)) → d ≡ c → more ≡ rows → P d more → P c rows
+of_player P c d rows more circuit same holds = subst (λ e. P e rows) circuit (subst (P d) same holds)
+
+-- a player that was just made is before the first row
+pub is_first : (c : Circuit) (rows : List (List Bool)) (place : Place) (count : ℕ) → place.simulated.circuit ≡ c → place.rows ≡ rows → place.left ≡ played_wave c rows → IsAt place [] [] → count ≡ length rows
+    → ((history other : List Moment) → IsPlayed c rows history → IsPlayed c rows other → history ≡ other) → IsFirst count place
+is_first c rows place count circuit same left at long one =
+    let Left : Circuit → List (List Bool) → Type 0 = λ d r. place.left ≡ played_wave d r in
+    let One : Circuit → List (List Bool) → Type 0 = λ d r. (history other : List Moment) → IsPlayed d r history → IsPlayed d r other → history ≡ other in
+    record {
+      count = long ∙ ap length (sym same);
+      left = of_player Left place.simulated.circuit c place.rows rows (sym circuit) (sym same) left;
+      at = at;
+      one = of_player One place.simulated.circuit c place.rows rows (sym circuit) (sym same) one;
+    }
 
 -- a row is left where not all were played
 pub rows_left : (width : ℕ) (before row : List Bool) (later : List (List Bool)) (left : List Tick) (rest : List (List Bool)) → rest ≡ row ∷ later → left ≡ wave_from width before rest

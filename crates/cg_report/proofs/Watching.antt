@@ -118,6 +118,10 @@ stands_all c rows row old new went played os ns behind all steps gives for' one 
     let stands : ns c (shown_from c None wave mine) = subst (λ d. ns d (shown_from d None wave mine)) behind.circuit (shown_step went old new os ns plays steps gives behind.wave played behind.at stood) in
     subst (λ h. ns c (shown_from c None (played_wave c rows) h)) (one mine history whole.1 is) (subst (λ w. ns c (shown_from c None w mine)) whole.0 stands)
 
+-- the line behind a text
+pub line_on : (text more line other : List ℕ) → more ≡ (text ++ line) ++ 10 ∷ [] → line ≡ other → more ≡ text ++ (other ++ 10 ∷ [])
+line_on text more line other is same = is ∙ (append_assoc text line (10 ∷ []) ∙ ap (λ l. text ++ (l ++ 10 ∷ [])) same)
+
 -- the edges behind the last moment
 pub edges_all : (c : Circuit) (rows : List (List Bool)) (row : ℕ) (old new : Place) (went : Bool) (played : List Moment) (count : ℕ) → IsBehind c rows row old played → length rows ≤ row → Steps went old new
     → count ≡ new.edges → ((history other : List Moment) → IsPlayed c rows history → IsPlayed c rows other → history ≡ other) → (history : List Moment) → IsPlayed c rows history → count ≡ edges c history

@@ -1,10 +1,11 @@
 //! The edges of rows that are played.
 
-ghost use Rattle.std.specs.Prelude.{◌≡◌, ◌++◌, List, IfOk, OnOk};
+ghost use Rattle.std.specs.Prelude.{◌≡◌, ◌++◌, [], List, IfOk, OnOk};
 ghost use Rattle.cg_netlist.specs.History.{Moment, edges};
 ghost use Rattle.cg_stimulus.specs.Inputs.{IsFor};
 ghost use Rattle.cg_stimulus.specs.Played.{IsPlayed};
 ghost use Rattle.cg_report.specs.Watched.{watched_line};
+ghost use Rattle.cg_report.specs.inner.RowByRow.{IsFirst};
 
 use crate::player::Player;
 use crate::showing::{begin, push_line, show_row};
@@ -52,8 +53,27 @@ pub fn watch_edges(
     one_played_history(netlist, stimulus);
     begin(netlist, watcher)?;
     let mut player = Player::new(alloc, netlist, stimulus)?;
-    'rows: for _row in 0..stimulus.rows() {
-        show_row(&mut player, watcher)?;
+    watch_all(&mut player, stimulus.rows(), watcher, text)
+}
+
+/// Plays all rows and shows them to a watcher that has begun; answers their edges, and puts the watcher's line behind the text.
+fn watch_all(
+    player: &mut Player<'_>,
+    rows: u32,
+    watcher: &mut Box<dyn Watcher>,
+    text: &mut Vec<u8>,
+) -> Result<u64, AllocError>
+    requires first { IsFirst rows player.old }
+    requires begun { stands watcher.old player.old.simulated.circuit [] }
+    ensures edges { IfOk result (λ count. (history : List Moment) → IsPlayed player.old.simulated.circuit player.old.rows history
+        → count ≡ edges player.old.simulated.circuit history) }
+    ensures said { OnOk result ((history : List Moment) → IsPlayed player.old.simulated.circuit player.old.rows history
+        → text.new.items ≡ text.old.items ++ watched_line (says watcher.old) player.old.simulated.circuit player.old.rows history) }
+    ensures same_name { called watcher.new ≡ called watcher.old }
+    ensures same_kind { says watcher.new ≡ says watcher.old }
+{
+    'rows: for _row in 0..rows {
+        show_row(player, watcher)?;
     }
     player.show(watcher)?;
     push_line(watcher, text)?;

@@ -84,9 +84,9 @@ impl<'a> Player<'a> {
         ensures left { IfOk result (λ player. player.left ≡ played_wave netlist.entry.now stimulus.entry.now.rows) }
         ensures at { IfOk result (λ player. IsAt player [] []) }
     {
+        let inputs = zeros(alloc, netlist)?;
         let start = start_of(alloc, netlist)?;
         let simulator = Simulator::new(alloc, netlist, &start)?;
-        let inputs = zeros(alloc, netlist)?;
         let _ = netlist.nets();
         let _ = stimulus.rows();
         Ok(Player {

@@ -8,7 +8,7 @@ ghost use Rattle.cg_stimulus.specs.Inputs.{IsFor};
 ghost use Rattle.cg_stimulus.specs.Played.{IsPlayed};
 ghost use Rattle.cg_stimulus.specs.StimText.{bit_byte};
 ghost use Rattle.cg_report.specs.RowLines.{edges_line, output_word, rows_text};
-ghost use Rattle.cg_report.specs.inner.RowByRow.{HasRow};
+ghost use Rattle.cg_report.specs.inner.RowByRow.{HasRow, IsFirst};
 ghost use Rattle.cg_report.specs.inner.Saying.{SaysRow};
 
 use crate::player::Player;
@@ -35,8 +35,17 @@ pub fn push_rows(
 {
     one_played_history(netlist, stimulus);
     let mut player = Player::new(alloc, netlist, stimulus)?;
-    'rows: for row in 0..stimulus.rows() {
-        push_row(&mut player, row, text)?;
+    push_all(&mut player, stimulus.rows(), text)
+}
+
+/// Plays all rows, and puts their lines and that of the edges behind the text.
+fn push_all(player: &mut Player<'_>, rows: u32, text: &mut Vec<u8>) -> Result<(), AllocError>
+    requires { IsFirst rows player.old }
+    ensures { OnOk result ((history : List Moment) → IsPlayed player.old.simulated.circuit player.old.rows history
+        → text.new.items ≡ text.old.items ++ rows_text player.old.simulated.circuit history) }
+{
+    'rows: for row in 0..rows {
+        push_row(player, row, text)?;
     }
     player.step();
     push_edges(player.edges(), text)

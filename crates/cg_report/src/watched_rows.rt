@@ -1,13 +1,13 @@
 //! What is said of the rows that are played while a watcher looks on: a line for each, the edges, and the watcher's line.
 
-ghost use Rattle.std.specs.Prelude.{◌≡◌, ◌+◌, ◌++◌, List, OnOk};
+ghost use Rattle.std.specs.Prelude.{◌≡◌, ◌+◌, ◌++◌, [], List, OnOk};
 ghost use Rattle.cg_netlist.specs.History.{Moment};
 ghost use Rattle.cg_stimulus.specs.Inputs.{IsFor};
 ghost use Rattle.cg_stimulus.specs.Played.{IsPlayed};
 ghost use Rattle.cg_report.specs.Place.{MayWatch};
 ghost use Rattle.cg_report.specs.RowLines.{rows_text};
 ghost use Rattle.cg_report.specs.Watched.{watched_line};
-ghost use Rattle.cg_report.specs.inner.RowByRow.{HasRow};
+ghost use Rattle.cg_report.specs.inner.RowByRow.{HasRow, IsFirst};
 ghost use Rattle.cg_report.specs.inner.Watching.{WatchesRow};
 
 use crate::player::Player;
@@ -40,8 +40,27 @@ pub fn push_watched_rows(
     one_played_history(netlist, stimulus);
     begin(netlist, watcher)?;
     let mut player = Player::new(alloc, netlist, stimulus)?;
-    'rows: for row in 0..stimulus.rows() {
-        push_watched_row(&mut player, row, watcher, text)?;
+    push_all(&mut player, stimulus.rows(), watcher, text)
+}
+
+/// Plays all rows, shows them to a watcher that has begun, and puts their lines, that of the edges and that of the watcher behind
+/// the text.
+fn push_all(
+    player: &mut Player<'_>,
+    rows: u32,
+    watcher: &mut Box<dyn Watcher>,
+    text: &mut Vec<u8>,
+) -> Result<(), AllocError>
+    requires first { IsFirst rows player.old }
+    requires begun { stands watcher.old player.old.simulated.circuit [] }
+    ensures said { OnOk result ((history : List Moment) → IsPlayed player.old.simulated.circuit player.old.rows history
+        → text.new.items ≡ text.old.items ++ rows_text player.old.simulated.circuit history
+        ++ watched_line (says watcher.old) player.old.simulated.circuit player.old.rows history) }
+    ensures same_name { called watcher.new ≡ called watcher.old }
+    ensures same_kind { says watcher.new ≡ says watcher.old }
+{
+    'rows: for row in 0..rows {
+        push_watched_row(player, row, watcher, text)?;
     }
     player.show(watcher)?;
     push_edges(player.edges(), text)?;

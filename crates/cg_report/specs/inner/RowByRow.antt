@@ -2,7 +2,7 @@
 use Rattle.std.specs.Prelude.{◌≡◌, ℕ, Bool, List, [], ◌∷◌, ◌++◌, length, drop}
 use Rattle.cg_netlist.specs.Circuit.{Circuit, data_inputs}
 use Rattle.cg_netlist.specs.History.{Moment, Tick}
-use Rattle.cg_stimulus.specs.Played.{wave_from}
+use Rattle.cg_stimulus.specs.Played.{IsPlayed, played_wave, wave_from}
 use Rattle.cg_report.specs.Idle.{low_moments}
 use Rattle.cg_report.specs.Place.{IsAt, Place}
 
@@ -22,6 +22,14 @@ pub record PlaysPair (old new : Place) (now later : Moment) : Type 0 where
   pub left : old.left ≡ low ∷ high ∷ new.left
   pub further : (wave : List Tick) (played : List Moment) → IsAt old wave played →
       IsAt new (wave ++ low ∷ high ∷ []) (played ++ now ∷ later ∷ [])
+
+-- no moment was played, of so many rows, and there is one history on which they are played
+pub record IsFirst (rows : ℕ) (place : Place) : Type 0 where
+  pub count : rows ≡ length place.rows
+  pub left : place.left ≡ played_wave place.simulated.circuit place.rows
+  pub at : IsAt place [] []
+  pub one : (history other : List Moment) → IsPlayed place.simulated.circuit place.rows history →
+      IsPlayed place.simulated.circuit place.rows other → history ≡ other
 
 -- moments in pairs
 abbrev pub IsPairs : List Moment → Type 0

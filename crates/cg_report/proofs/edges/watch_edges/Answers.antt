@@ -1,43 +1,33 @@
-use Rattle.std.proofs.Common.{◌++◌, ◌∷◌, [], ap, ◌∙◌, append_assoc, arith}
-use Rattle.cg_report.specs.Place.{played_moments}
-use Rattle.cg_report.proofs.RowOn.{has_row}
-use Rattle.cg_report.proofs.Watching.{edges_all, shows_more, shows_none, stands_all}
+use Rattle.std.proofs.Common.{◌≡◌, ◌++◌, ℕ, Bool, List, ap, [], subst, sym}
+use Rattle.std.specs.Prelude.{IfOk}
+use Rattle.std.specs.Result.{OnOk}
+use Rattle.cg_netlist.specs.Circuit.{Circuit}
+use Rattle.cg_netlist.specs.History.{Moment, edges}
+use Rattle.cg_stimulus.specs.Played.{IsPlayed}
+use Rattle.cg_report.specs.Shown.{Shown}
+use Rattle.cg_report.specs.Watched.{watched_line}
+use Rattle.cg_report.proofs.RowOn.{is_first, of_player}
 use Rattle.cg_report.proofs.edges.watch_edges.Goals as goal
 
-pub rows-init : goal.rows-init
-rows-init g c = record {
-  shows = shows_none c.args.netlist.now c.args.stimulus.now.rows c.in_ok-player.player _ (ap (λ s. s.circuit) c.in_ok-player.ensures.simulated) c.in_ok-player.ensures.rows c.in_ok-player.ensures.left c.in_ok-player.ensures.at c.in_ok-begin.ensures.begun;
-  name = c.in_ok-begin.ensures.same_name;
-  kind = c.in_ok-begin.ensures.same_kind;
-}
+pub watch_all-requires-clause-first : goal.watch_all-requires-clause-first
+watch_all-requires-clause-first g c =
+    is_first c.args.netlist.now c.args.stimulus.now.rows c.in_ok-player.player c.rows.result (ap (λ s. s.circuit) c.in_ok-player.ensures.simulated) c.in_ok-player.ensures.rows c.in_ok-player.ensures.left c.in_ok-player.ensures.at
+    c.rows.ensures.count c.one_played_history.ensures.one
 
-pub show_row-requires-clause-row : goal.show_row-requires-clause-row
-show_row-requires-clause-row g c =
-    has_row c.args.netlist.now c.args.stimulus.now.rows c.rows._row c.rows.player c.rows.invariant.shows.played c.rows.invariant.shows.behind (omega (arith, c.rows-test.true, c.rows-row-end.ensures.count))
-
-pub rows-preserved : goal.rows-preserved
-rows-preserved g c =
-    let os = (goal.Watcher-dyn g (c.rows.watcher.vtable, c.rows.watcher.value)).stands c.rows.watcher.value in
-    let ns = (goal.Watcher-dyn g (c.show_row.new.watcher.vtable, c.show_row.new.watcher.value)).stands c.show_row.new.watcher.value in
-    record {
-      shows = shows_more c.args.netlist.now c.args.stimulus.now.rows c.rows._row c.rows.player c.show_row.new.player os ns c.rows.invariant.shows (omega (arith, c.rows-test.true, c.rows-row-end.ensures.count)) c.in_ok-show_row.ensures.shows;
-      name = c.in_ok-show_row.ensures.same_name ∙ c.rows.invariant.name;
-      kind = c.in_ok-show_row.ensures.same_kind ∙ c.rows.invariant.kind;
-    }
+pub watch_all-requires-clause-begun : goal.watch_all-requires-clause-begun
+watch_all-requires-clause-begun g c =
+    let S : Circuit → Type 0 = λ d. (goal.Watcher-dyn g (c.begin.new.watcher.vtable, c.begin.new.watcher.value)).stands c.begin.new.watcher.value d [] in
+    subst S (sym (ap (λ s. s.circuit) c.in_ok-player.ensures.simulated)) c.in_ok-begin.ensures.begun
 
 pub returns-clause-edges : goal.returns-clause-edges
 returns-clause-edges g c =
-    edges_all c.args.netlist.now c.args.stimulus.now.rows c.rows._row c.rows.player c.show.new.self c.in_ok-show.field-0 c.rows.invariant.shows.played c.edges.result c.rows.invariant.shows.behind
-    (omega (arith, c.rows-test.false, c.rows-row-end.ensures.count)) c.in_ok-show.ensures.steps c.edges.ensures.edges c.one_played_history.ensures.one
+    let P : Circuit → List (List Bool) → Type 0 = λ d rows. IfOk c.watch_all.result (λ count. (history : List Moment) → IsPlayed d rows history → count ≡ edges d history) in
+    of_player P c.args.netlist.now c.in_ok-player.player.simulated.circuit c.args.stimulus.now.rows c.in_ok-player.player.rows (ap (λ s. s.circuit) c.in_ok-player.ensures.simulated) c.in_ok-player.ensures.rows c.watch_all.ensures.edges
 
 pub returns-clause-said : goal.returns-clause-said
-returns-clause-said g c history played =
-    let netlist = c.args.netlist.now in
-    let rows = c.args.stimulus.now.rows in
-    let os = (goal.Watcher-dyn g (c.rows.watcher.vtable, c.rows.watcher.value)).stands c.rows.watcher.value in
-    let ns = (goal.Watcher-dyn g (c.show.new.watcher.vtable, c.show.new.watcher.value)).stands c.show.new.watcher.value in
-    let moments = played_moments netlist rows history in
-    let stands = stands_all netlist rows c.rows._row c.rows.player c.show.new.self c.in_ok-show.field-0 c.rows.invariant.shows.played os ns c.rows.invariant.shows.behind
-    (omega (arith, c.rows-test.false, c.rows-row-end.ensures.count)) c.in_ok-show.ensures.steps c.in_ok-show.ensures.given c.rows.invariant.shows.stands_for c.one_played_history.ensures.one history played in
-    let kind = c.in_ok-show.ensures.same_kind ∙ c.rows.invariant.kind in
-    c.in_ok-push_line.ensures netlist moments stands ∙ (append_assoc c.args.text.now.items _ (10 ∷ []) ∙ ap (λ says. c.args.text.now.items ++ (says netlist moments ++ 10 ∷ [])) kind)
+returns-clause-said g c =
+    let text = c.args.text.now.items in
+    let K : (Circuit → List Shown → List ℕ) → Circuit → List (List Bool) → Type 0 = λ says d rows. OnOk c.watch_all.result ((history : List Moment) → IsPlayed d rows history → c.watch_all.new.text.items ≡ text ++ watched_line says d rows history) in
+    let P : Circuit → List (List Bool) → Type 0 = K ((goal.Watcher-dyn g (c.args.watcher.now.vtable, c.args.watcher.now.value)).says c.args.watcher.now.value) in
+    let known = subst (λ says. K says c.in_ok-player.player.simulated.circuit c.in_ok-player.player.rows) c.in_ok-begin.ensures.same_kind c.watch_all.ensures.said in
+    of_player P c.args.netlist.now c.in_ok-player.player.simulated.circuit c.args.stimulus.now.rows c.in_ok-player.player.rows (ap (λ s. s.circuit) c.in_ok-player.ensures.simulated) c.in_ok-player.ensures.rows known

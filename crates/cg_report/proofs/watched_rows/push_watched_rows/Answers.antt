@@ -1,53 +1,29 @@
-use Rattle.std.proofs.Common.{◌+◌, ◌≤◌, ◌++◌, ◌∷◌, [], length, ap, ◌∙◌, append_assoc, arith}
-use Rattle.cg_report.specs.Place.{played_moments}
-use Rattle.cg_report.proofs.RowOn.{has_row}
-use Rattle.cg_report.proofs.SaidRows.{on_ok, said_all}
-use Rattle.cg_report.proofs.Watching.{stands_all, watches_more, watches_none}
+use Rattle.std.proofs.Common.{◌≡◌, ◌++◌, ℕ, Bool, List, ap, [], subst, sym}
+use Rattle.std.specs.Result.{OnOk}
+use Rattle.cg_netlist.specs.Circuit.{Circuit}
+use Rattle.cg_netlist.specs.History.{Moment}
+use Rattle.cg_stimulus.specs.Played.{IsPlayed}
+use Rattle.cg_report.specs.RowLines.{rows_text}
+use Rattle.cg_report.specs.Shown.{Shown}
+use Rattle.cg_report.specs.Watched.{watched_line}
+use Rattle.cg_report.proofs.RowOn.{is_first, of_player}
 use Rattle.cg_report.proofs.watched_rows.push_watched_rows.Goals as goal
 
-pub rows-init : goal.rows-init
-rows-init g c = record {
-  watches = watches_none c.args.netlist.now c.args.stimulus.now.rows c.in_ok-player.player c.args.text.now.items _ (ap (λ s. s.circuit) c.in_ok-player.ensures.simulated) c.in_ok-player.ensures.rows c.in_ok-player.ensures.left c.in_ok-player.ensures.at
-      c.in_ok-begin.ensures.begun;
-  name = c.in_ok-begin.ensures.same_name;
-  kind = c.in_ok-begin.ensures.same_kind;
-}
+pub push_all-requires-clause-first : goal.push_all-requires-clause-first
+push_all-requires-clause-first g c =
+    is_first c.args.netlist.now c.args.stimulus.now.rows c.in_ok-player.player c.rows.result (ap (λ s. s.circuit) c.in_ok-player.ensures.simulated) c.in_ok-player.ensures.rows c.in_ok-player.ensures.left c.in_ok-player.ensures.at
+    c.rows.ensures.count c.one_played_history.ensures.one
 
-pub push_watched_row-requires-clause-row : goal.push_watched_row-requires-clause-row
-push_watched_row-requires-clause-row g c =
-    has_row c.args.netlist.now c.args.stimulus.now.rows c.rows.row c.rows.player c.rows.invariant.watches.said.played c.rows.invariant.watches.said.behind (omega (arith, c.rows-test.true, c.rows-row-end.ensures.count))
-
-pub rows-preserved : goal.rows-preserved
-rows-preserved g c =
-    let os = (goal.Watcher-dyn g (c.rows.watcher.vtable, c.rows.watcher.value)).stands c.rows.watcher.value in
-    let ns = (goal.Watcher-dyn g (c.push_watched_row.new.watcher.vtable, c.push_watched_row.new.watcher.value)).stands c.push_watched_row.new.watcher.value in
-    record {
-      watches = watches_more c.args.netlist.now c.args.stimulus.now.rows c.rows.row (c.rows.row + 1) c.rows.player c.push_watched_row.new.player c.args.text.now.items c.rows.text.items c.push_watched_row.new.text.items os ns
-          c.rows.invariant.watches (omega (arith, c.rows-test.true, c.rows-row-end.ensures.count)) (omega arith) c.in_ok-push_watched_row.ensures.watches;
-      name = c.in_ok-push_watched_row.ensures.same_name ∙ c.rows.invariant.name;
-      kind = c.in_ok-push_watched_row.ensures.same_kind ∙ c.rows.invariant.kind;
-    }
+pub push_all-requires-clause-begun : goal.push_all-requires-clause-begun
+push_all-requires-clause-begun g c =
+    let S : Circuit → Type 0 = λ d. (goal.Watcher-dyn g (c.begin.new.watcher.vtable, c.begin.new.watcher.value)).stands c.begin.new.watcher.value d [] in
+    subst S (sym (ap (λ s. s.circuit) c.in_ok-player.ensures.simulated)) c.in_ok-begin.ensures.begun
 
 pub returns-clause-said : goal.returns-clause-said
 returns-clause-said g c =
-    let netlist = c.args.netlist.now in
-    let rows = c.args.stimulus.now.rows in
     let text = c.args.text.now.items in
-    let os = (goal.Watcher-dyn g (c.rows.watcher.vtable, c.rows.watcher.value)).stands c.rows.watcher.value in
-    let ns = (goal.Watcher-dyn g (c.show.new.watcher.vtable, c.show.new.watcher.value)).stands c.show.new.watcher.value in
-    let past : length rows ≤ c.rows.row = omega (arith, c.rows-test.false, c.rows-row-end.ensures.count) in
-    on_ok _ _ c.push_line.result
-    (λ line history played.
-    let moments = played_moments netlist rows history in
-    let stands = stands_all netlist rows c.rows.row c.rows.player c.show.new.self c.in_ok-show.field-0 c.rows.invariant.watches.said.played os ns c.rows.invariant.watches.said.behind past c.in_ok-show.ensures.steps c.in_ok-show.ensures.given
-    c.rows.invariant.watches.stands_for c.one_played_history.ensures.one history played in
-    let said = said_all netlist rows c.rows.row c.rows.player c.show.new.self c.in_ok-show.field-0 text c.rows.text.items c.push_edges.new.text.items c.edges.result c.rows.invariant.watches.said past c.in_ok-show.ensures.steps c.edges.ensures.edges
-    c.in_ok-push_edges.ensures c.one_played_history.ensures.one history played in
-    let said_line = (goal.Watcher-dyn g (c.args.watcher.now.vtable, c.args.watcher.now.value)).says c.args.watcher.now.value netlist moments ++ 10 ∷ [] in
-    let before = c.push_edges.new.text.items in
-    let kind = c.in_ok-show.ensures.same_kind ∙ c.rows.invariant.kind in
-    line netlist moments stands
-    ∙ (append_assoc before _ (10 ∷ [])
-    ∙ (ap (λ says. before ++ (says netlist moments ++ 10 ∷ [])) kind
-    ∙ ap (λ first. first ++ said_line) said)))
-    c.push_line.ensures
+    let K : (Circuit → List Shown → List ℕ) → Circuit → List (List Bool) → Type 0 =
+    λ says d rows. OnOk c.push_all.result ((history : List Moment) → IsPlayed d rows history → c.push_all.new.text.items ≡ text ++ rows_text d history ++ watched_line says d rows history) in
+    let P : Circuit → List (List Bool) → Type 0 = K ((goal.Watcher-dyn g (c.args.watcher.now.vtable, c.args.watcher.now.value)).says c.args.watcher.now.value) in
+    let known = subst (λ says. K says c.in_ok-player.player.simulated.circuit c.in_ok-player.player.rows) c.in_ok-begin.ensures.same_kind c.push_all.ensures.said in
+    of_player P c.args.netlist.now c.in_ok-player.player.simulated.circuit c.args.stimulus.now.rows c.in_ok-player.player.rows (ap (λ s. s.circuit) c.in_ok-player.ensures.simulated) c.in_ok-player.ensures.rows known

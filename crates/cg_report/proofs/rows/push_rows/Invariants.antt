@@ -1,5 +1,0 @@
-use Rattle.cg_report.specs.inner.Saying.{SayRows}
-use Rattle.cg_report.proofs.rows.push_rows.Given as goal
-
-abbrev pub invariant-rows : goal.invariant-rows
-invariant-rows l = SayRows l.netlist l.stimulus.rows l.row l.player l.fn.text.items l.text.items

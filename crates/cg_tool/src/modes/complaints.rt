@@ -5,7 +5,8 @@ ghost use Rattle.std.specs.List.{AllByRecursion};
 ghost use Rattle.std.specs.Option.{option_to_list};
 ghost use Rattle.cg_cell.specs.Name.{is_name};
 ghost use Rattle.cg_run.specs.Verdict.{Answers};
-ghost use Rattle.cg_tool.specs.Complaints.{library_found, library_trouble, net_trouble, netlist_read, stimulus_found};
+ghost use Rattle.cg_tool.specs.Complaints.{library_found, library_trouble, net_trouble, netlist_read, netlist_trouble};
+ghost use Rattle.cg_tool.specs.Complaints.{stimulus_found, stimulus_trouble};
 ghost use Rattle.cg_tool.specs.NetlistSaid.{IsFaultOf, netlist_said};
 
 use cg_blif::{BlifFault, BlifOptions, read_blif};
@@ -29,27 +30,27 @@ pub fn take_library(alloc: Global, text: &Seq<u8>) -> Result<Library, Trouble>
 {
     match read_library(alloc, text.as_slice()) {
         Ok(library) => Ok(library),
-        Err(LibertyFault::BadToken(at)) => Err(at_place(
-            alloc,
-            Owner::Library,
-            b"library: bad token ",
-            at,
-        )?),
-        Err(LibertyFault::BadGroup(at)) => Err(at_place(
-            alloc,
-            Owner::Library,
-            b"library: bad group ",
-            at,
-        )?),
-        Err(LibertyFault::BadExpr(cell, at)) => Err(bad_expression(alloc, &cell, at)?),
-        Err(LibertyFault::TwoCells(cell)) => Err(with_name(
-            alloc,
-            Owner::Library,
-            b"library: two cells ",
-            cell.bytes(),
-        )?),
-        Err(LibertyFault::Limit(limit)) => Err(Trouble::Limit(limit)),
-        Err(LibertyFault::NoMemory) => Err(Trouble::NoMemory),
+        Err(fault) => Err(library_trouble(alloc, fault)?),
+    }
+}
+
+/// Why a library is refused.
+fn library_trouble(alloc: Global, fault: LibertyFault) -> Result<Trouble, AllocError>
+    ensures { IfOk result (λ trouble. trouble ≡ library_trouble fault) }
+{
+    match fault {
+        LibertyFault::BadToken(at) => {
+            at_place(alloc, Owner::Library, b"library: bad token ", at)
+        }
+        LibertyFault::BadGroup(at) => {
+            at_place(alloc, Owner::Library, b"library: bad group ", at)
+        }
+        LibertyFault::BadExpr(cell, at) => bad_expression(alloc, &cell, at),
+        LibertyFault::TwoCells(cell) => {
+            with_name(alloc, Owner::Library, b"library: two cells ", cell.bytes())
+        }
+        LibertyFault::Limit(limit) => Ok(Trouble::Limit(limit)),
+        LibertyFault::NoMemory => Ok(Trouble::NoMemory),
     }
 }
 
@@ -89,51 +90,31 @@ pub fn take_netlist(
 {
     match read_netlist(alloc, text.as_slice(), library, options) {
         Ok(netlist) => Ok(netlist),
-        Err(BlifFault::BadLine(line)) => Err(at_place(
-            alloc,
-            Owner::Netlist,
-            b"netlist: bad line ",
-            line,
-        )?),
-        Err(BlifFault::BadCover(line)) => Err(at_place(
-            alloc,
-            Owner::Netlist,
-            b"netlist: bad cover ",
-            line,
-        )?),
-        Err(BlifFault::BadLatch(line)) => Err(at_place(
-            alloc,
-            Owner::Netlist,
-            b"netlist: bad latch ",
-            line,
-        )?),
-        Err(BlifFault::UnknownCell(line)) => Err(at_place(
-            alloc,
-            Owner::Netlist,
-            b"netlist: unknown cell ",
-            line,
-        )?),
-        Err(BlifFault::UnusableCell(line)) => Err(at_place(
-            alloc,
-            Owner::Netlist,
-            b"netlist: unusable cell ",
-            line,
-        )?),
-        Err(BlifFault::PinFault(line)) => Err(at_place(
-            alloc,
-            Owner::Netlist,
-            b"netlist: pin fault ",
-            line,
-        )?),
-        Err(BlifFault::SecondModel(line)) => Err(at_place(
-            alloc,
-            Owner::Netlist,
-            b"netlist: second model ",
-            line,
-        )?),
-        Err(BlifFault::Net(fault)) => Err(net_trouble(alloc, fault)?),
-        Err(BlifFault::Limit(limit)) => Err(Trouble::Limit(limit)),
-        Err(BlifFault::NoMemory) => Err(Trouble::NoMemory),
+        Err(fault) => Err(netlist_trouble(alloc, fault)?),
+    }
+}
+
+/// Why the text of a netlist is refused.
+fn netlist_trouble(alloc: Global, fault: BlifFault) -> Result<Trouble, AllocError>
+    ensures { IfOk result (λ trouble. trouble ≡ netlist_trouble fault) }
+{
+    match fault {
+        BlifFault::BadLine(line) => at_place(alloc, Owner::Netlist, b"netlist: bad line ", line),
+        BlifFault::BadCover(line) => at_place(alloc, Owner::Netlist, b"netlist: bad cover ", line),
+        BlifFault::BadLatch(line) => at_place(alloc, Owner::Netlist, b"netlist: bad latch ", line),
+        BlifFault::UnknownCell(line) => {
+            at_place(alloc, Owner::Netlist, b"netlist: unknown cell ", line)
+        }
+        BlifFault::UnusableCell(line) => {
+            at_place(alloc, Owner::Netlist, b"netlist: unusable cell ", line)
+        }
+        BlifFault::PinFault(line) => at_place(alloc, Owner::Netlist, b"netlist: pin fault ", line),
+        BlifFault::SecondModel(line) => {
+            at_place(alloc, Owner::Netlist, b"netlist: second model ", line)
+        }
+        BlifFault::Net(fault) => net_trouble(alloc, fault),
+        BlifFault::Limit(limit) => Ok(Trouble::Limit(limit)),
+        BlifFault::NoMemory => Ok(Trouble::NoMemory),
     }
 }
 
@@ -143,26 +124,29 @@ pub fn take_stimulus(alloc: Global, text: &Seq<u8>, netlist: &Netlist) -> Result
 {
     match read_stimulus(alloc, text.as_slice(), netlist) {
         Ok(stimulus) => Ok(stimulus),
-        Err(StimulusFault::BadName(line)) => Err(at_place(
-            alloc,
-            Owner::Stimulus,
-            b"stimulus: bad name ",
-            line,
-        )?),
-        Err(StimulusFault::MissingInput(input)) => Err(with_name(
+        Err(fault) => Err(stimulus_trouble(alloc, fault)?),
+    }
+}
+
+/// Why the text of a stimulus is refused.
+fn stimulus_trouble(alloc: Global, fault: StimulusFault) -> Result<Trouble, AllocError>
+    ensures { IfOk result (λ trouble. trouble ≡ stimulus_trouble fault) }
+{
+    match fault {
+        StimulusFault::BadName(line) => {
+            at_place(alloc, Owner::Stimulus, b"stimulus: bad name ", line)
+        }
+        StimulusFault::MissingInput(input) => with_name(
             alloc,
             Owner::Stimulus,
             b"stimulus: missing input ",
             input.bytes(),
-        )?),
-        Err(StimulusFault::BadRow(line)) => Err(at_place(
-            alloc,
-            Owner::Stimulus,
-            b"stimulus: bad row ",
-            line,
-        )?),
-        Err(StimulusFault::Limit(limit)) => Err(Trouble::Limit(limit)),
-        Err(StimulusFault::NoMemory) => Err(Trouble::NoMemory),
+        ),
+        StimulusFault::BadRow(line) => {
+            at_place(alloc, Owner::Stimulus, b"stimulus: bad row ", line)
+        }
+        StimulusFault::Limit(limit) => Ok(Trouble::Limit(limit)),
+        StimulusFault::NoMemory => Ok(Trouble::NoMemory),
     }
 }
 

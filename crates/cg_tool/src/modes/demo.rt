@@ -93,7 +93,10 @@ fn finish(alloc: Global, demo: Demo, progress: &mut dyn Progress) -> Result<Outp
 {
     let wanted = wanted(alloc)?;
     let pipeline = read_pipeline(alloc, demo.size, &wanted)?;
-    gate_pipeline(alloc, demo.size, pipeline, &wanted, progress)
+    let result = gate_pipeline(alloc, demo.size, &pipeline, &wanted, progress);
+    // By a call, as its parts would else be dropped one by one in the proof.
+    drop(pipeline);
+    result
 }
 
 /// How the pipeline is gated: as the defaults say.
@@ -161,21 +164,24 @@ fn read_pipeline(alloc: Global, size: u32, wanted: &Wanted) -> Result<Pipeline, 
 fn gate_pipeline(
     alloc: Global,
     size: u32,
-    pipeline: Pipeline,
+    pipeline: &Pipeline,
     wanted: &Wanted,
     progress: &mut dyn Progress,
 ) -> Result<Output, Trouble>
     requires wanted { wanted.now ≡ demo_wanted }
-    requires read { pipeline_found size ≡ Ok pipeline }
-    ensures { Concludes (pipeline_stops (Ok pipeline)) (PutsDemo size (pipeline_request pipeline) pipeline.netlist) result }
+    requires read { pipeline_found size ≡ Ok pipeline.now }
+    ensures { Concludes (pipeline_stops (Ok pipeline.now)) (PutsDemo size (pipeline_request pipeline.now) pipeline.now.netlist) result }
 {
-    let Pipeline {
-        library,
-        netlist,
-        stimulus,
-    } = pipeline;
     let _ = wanted.prefix.bytes();
-    gate_with(alloc, size, &library, &netlist, &stimulus, wanted, progress)
+    gate_with(
+        alloc,
+        size,
+        &pipeline.library,
+        &pipeline.netlist,
+        &pipeline.stimulus,
+        wanted,
+        progress,
+    )
 }
 
 /// What is put out of the pipeline, gated with this library.

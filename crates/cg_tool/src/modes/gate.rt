@@ -11,7 +11,7 @@ ghost use Rattle.cg_run.specs.Promise.{FinishBy};
 ghost use Rattle.cg_run.specs.Reads.{Gave, Reads};
 ghost use Rattle.cg_run.specs.Roles.{are_distinct};
 ghost use Rattle.cg_run.specs.Run.{Runs};
-ghost use Rattle.cg_run.specs.Verdict.{Concludes};
+ghost use Rattle.cg_run.specs.Verdict.{Answers, Concludes};
 ghost use Rattle.cg_tool.specs.Gate.{GatesAs, gate_gives, gate_loads, gate_output, gate_start, gate_stops, gate_takes};
 ghost use Rattle.cg_tool.specs.Gate.{gate_task, request_by, stimulus_asked, stops_with, text_for, wanted_by};
 ghost use Rattle.cg_tool.specs.Gated.{IsGated};
@@ -36,6 +36,7 @@ use cg_shelf::Shelf;
 use cg_stimulus::stimulus::Stimulus;
 use cg_words::Options;
 use std::alloc::{AllocError, Global};
+use std::mem::replace;
 
 /// What the mode was told, and what it has read so far.
 #[derive(Drop)]
@@ -68,6 +69,41 @@ impl Gate {
             stimulus: Seq::new(alloc),
         }
     }
+
+    /// With the library of a text in place of its own.
+    fn with_library(self, alloc: Global, text: &Seq<u8>) -> Result<Gate, Trouble>
+        ensures { Answers (gate_takes self Role.Library text.now) result }
+    {
+        let mut next = self;
+        match take_library(alloc, text) {
+            Ok(library) => {
+                // By a call, here and below, as its parts would else be dropped one by one in the proof.
+                drop(replace(&mut next.library, library));
+                Ok(next)
+            }
+            Err(trouble) => {
+                drop(next);
+                Err(trouble)
+            }
+        }
+    }
+
+    /// With the netlist of a text in place of its own, where it may be gated.
+    fn with_netlist(self, alloc: Global, text: &Seq<u8>) -> Result<Gate, Trouble>
+        ensures { Answers (gate_takes self Role.Netlist text.now) result }
+    {
+        let mut next = self;
+        match take_gateable(alloc, text, &next.library, &next.options, &next.wanted) {
+            Ok(netlist) => {
+                drop(replace(&mut next.netlist, Some(netlist)));
+                Ok(next)
+            }
+            Err(trouble) => {
+                drop(next);
+                Err(trouble)
+            }
+        }
+    }
 }
 
 impl Reader for Gate {
@@ -75,28 +111,15 @@ impl Reader for Gate {
 
     /// Takes the library, the netlist and the stimulus, where one is asked for, as each is loaded.
     fn take(self, alloc: Global, role: Role, bytes: Seq<u8>) -> Result<Gate, Trouble> {
-        let mut next = self;
         match role {
-            Role::Library => {
-                next.library = take_library(alloc, &bytes)?;
-                Ok(next)
-            }
-            Role::Netlist => {
-                let netlist = take_gateable(
-                    alloc,
-                    &bytes,
-                    &next.library,
-                    &next.options,
-                    &next.wanted,
-                )?;
-                next.netlist = Some(netlist);
-                Ok(next)
-            }
+            Role::Library => self.with_library(alloc, &bytes),
+            Role::Netlist => self.with_netlist(alloc, &bytes),
             Role::Stimulus => {
-                next.stimulus = bytes;
+                let mut next = self;
+                drop(replace(&mut next.stimulus, bytes));
                 Ok(next)
             }
-            _ => Ok(next),
+            _ => Ok(self),
         }
     }
 }
@@ -162,17 +185,31 @@ fn finish(
     requires { IsRead found }
     ensures { Concludes (gate_stops found) (gate_gives (option_map (λ watcher. says watcher) watcher) found) result }
 {
-    let Gate {
-        options: _options,
-        wanted,
-        library,
-        netlist,
-        stimulus,
-    } = found;
-    match netlist {
+    let result = gate_read(alloc, &found, watcher, progress);
+    drop(found);
+    result
+}
+
+/// What is put out of what was read.
+fn gate_read(
+    alloc: Global,
+    found: &Gate,
+    watcher: Option<Box<dyn Watcher>>,
+    progress: &mut dyn Progress,
+) -> Result<Output, Trouble>
+    requires { IsRead found.now }
+    ensures { Concludes (gate_stops found.now) (gate_gives (option_map (λ watcher. says watcher) watcher) found.now) result }
+{
+    match &found.netlist {
         None => Err(Trouble::NoMemory),
         Some(netlist) => gate_on(
-            alloc, &library, &netlist, &wanted, &stimulus, watcher, progress,
+            alloc,
+            &found.library,
+            netlist,
+            &found.wanted,
+            &found.stimulus,
+            watcher,
+            progress,
         ),
     }
 }

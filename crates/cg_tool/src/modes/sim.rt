@@ -6,7 +6,7 @@ ghost use Rattle.cg_run.specs.Names.{name_of};
 ghost use Rattle.cg_run.specs.Promise.{FinishBy};
 ghost use Rattle.cg_run.specs.Reads.{Gave, Reads};
 ghost use Rattle.cg_run.specs.Run.{Runs};
-ghost use Rattle.cg_run.specs.Verdict.{Concludes};
+ghost use Rattle.cg_run.specs.Verdict.{Answers, Concludes};
 ghost use Rattle.cg_run.specs.declared.role.Role.TheVariants as roles;
 ghost use Rattle.cg_stimulus.specs.Inputs.{IsFor};
 ghost use Rattle.cg_tool.specs.Complaints.{stimulus_found};
@@ -26,6 +26,7 @@ use cg_run::{Finish, Names, Output, Reader, Refusal, Role, Status, Trouble, coll
 use cg_shelf::Shelf;
 use cg_stimulus::stimulus::Stimulus;
 use std::alloc::{AllocError, Global};
+use std::mem::replace;
 
 /// What the mode was told, and what it has read so far.
 #[derive(Drop)]
@@ -49,6 +50,41 @@ impl Sim {
             stimulus: Seq::new(alloc),
         }
     }
+
+    /// With the library of a text in place of its own.
+    fn with_library(self, alloc: Global, text: &Seq<u8>) -> Result<Sim, Trouble>
+        ensures { Answers (sim_takes self Role.Library text.now) result }
+    {
+        let mut next = self;
+        match take_library(alloc, text) {
+            Ok(library) => {
+                // By a call, here and below, as its parts would else be dropped one by one in the proof.
+                drop(replace(&mut next.library, library));
+                Ok(next)
+            }
+            Err(trouble) => {
+                drop(next);
+                Err(trouble)
+            }
+        }
+    }
+
+    /// With the netlist of a text in place of its own.
+    fn with_netlist(self, alloc: Global, text: &Seq<u8>) -> Result<Sim, Trouble>
+        ensures { Answers (sim_takes self Role.Netlist text.now) result }
+    {
+        let mut next = self;
+        match take_netlist(alloc, text, &next.library, &next.options) {
+            Ok(netlist) => {
+                drop(replace(&mut next.netlist, Some(netlist)));
+                Ok(next)
+            }
+            Err(trouble) => {
+                drop(next);
+                Err(trouble)
+            }
+        }
+    }
 }
 
 impl Reader for Sim {
@@ -56,22 +92,15 @@ impl Reader for Sim {
 
     /// Takes the library, the netlist and the stimulus, as each is loaded.
     fn take(self, alloc: Global, role: Role, bytes: Seq<u8>) -> Result<Sim, Trouble> {
-        let mut next = self;
         match role {
-            Role::Library => {
-                next.library = take_library(alloc, &bytes)?;
-                Ok(next)
-            }
-            Role::Netlist => {
-                let netlist = take_netlist(alloc, &bytes, &next.library, &next.options)?;
-                next.netlist = Some(netlist);
-                Ok(next)
-            }
+            Role::Library => self.with_library(alloc, &bytes),
+            Role::Netlist => self.with_netlist(alloc, &bytes),
             Role::Stimulus => {
-                next.stimulus = bytes;
+                let mut next = self;
+                drop(replace(&mut next.stimulus, bytes));
                 Ok(next)
             }
-            _ => Ok(next),
+            _ => Ok(self),
         }
     }
 }
@@ -120,15 +149,18 @@ fn read<S: Shelf>(
 fn play(alloc: Global, sim: Sim, watcher: Option<Box<dyn Watcher>>) -> Result<Output, Trouble>
     ensures { Concludes (sim_stops sim) (sim_gives (option_map (λ watcher. says watcher) watcher) sim) result }
 {
-    let Sim {
-        options: _options,
-        library: _library,
-        netlist,
-        stimulus,
-    } = sim;
-    match netlist {
+    let result = play_read(alloc, &sim, watcher);
+    drop(sim);
+    result
+}
+
+/// What is put out of what was read.
+fn play_read(alloc: Global, sim: &Sim, watcher: Option<Box<dyn Watcher>>) -> Result<Output, Trouble>
+    ensures { Concludes (sim_stops sim.now) (sim_gives (option_map (λ watcher. says watcher) watcher) sim.now) result }
+{
+    match &sim.netlist {
         None => Err(Trouble::NoMemory),
-        Some(netlist) => play_on(alloc, &netlist, &stimulus, watcher),
+        Some(netlist) => play_on(alloc, netlist, &sim.stimulus, watcher),
     }
 }
 

@@ -113,12 +113,13 @@ fn unprefixed(alloc: Global, netlist: Netlist, prefix: &Name) -> Result<Netlist,
 {
     match prefix_clash(&netlist, prefix) {
         None => Ok(netlist),
-        Some(net) => Err(with_name(
-            alloc,
-            Owner::Netlist,
-            b"netlist: prefix taken ",
-            netlist.name(net),
-        )?),
+        Some(net) => {
+            let name = netlist.name(net);
+            let result = with_name(alloc, Owner::Netlist, b"netlist: prefix taken ", name);
+            // By a call, here and below, as its parts would else be dropped one by one in the proof.
+            drop(netlist);
+            Err(result?)
+        }
     }
 }
 
@@ -201,10 +202,8 @@ fn unlifted(
         return Ok(netlist);
     };
     let output = netlist.gater(gater).output;
-    Err(with_name(
-        alloc,
-        Owner::Netlist,
-        b"netlist: gating cell ",
-        netlist.name(output),
-    )?)
+    let name = netlist.name(output);
+    let result = with_name(alloc, Owner::Netlist, b"netlist: gating cell ", name);
+    drop(netlist);
+    Err(result?)
 }

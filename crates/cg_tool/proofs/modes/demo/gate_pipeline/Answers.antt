@@ -12,13 +12,13 @@ use Rattle.cg_tool.proofs.modes.demo.gate_pipeline.Goals as goal
 
 pub gate_with-requires : goal.gate_with-requires
 gate_with-requires g c =
-    let p = c.args.pipeline in
+    let p = c.args.pipeline.now in
     let N : Wanted → Type 0 = λ w. IsTrue (is_name w.prefix) in
     let M : Wanted → Type 0 = λ w. MayGate (request_by p.library w (Some p.stimulus)) p.netlist in
     subst M (sym c.requires.wanted) (demo_may c.args.size p (subst N c.requires.wanted c.bytes.ensures.name) c.requires.read)
 
 pub returns : goal.returns
 returns g c =
-    let p = c.args.pipeline in
+    let p = c.args.pipeline.now in
     let P : Wanted → Type 0 = λ w. Concludes (option_map troubles.Limit (stops_at (request_by p.library w (Some p.stimulus)) p.netlist)) (PutsDemo c.args.size (request_by p.library w (Some p.stimulus)) p.netlist) c.gate_with.result in
     subst P c.requires.wanted c.gate_with.ensures

@@ -19,6 +19,7 @@ use cg_run::{Content, Finish, Mode, Names, Output, Owner, Reader, Role, Status, 
 use cg_shelf::Shelf;
 use cg_text::number::push_number;
 use std::alloc::{AllocError, Global};
+use std::mem::replace;
 
 /// What the mode has read so far.
 #[derive(Debug, Drop)]
@@ -42,6 +43,41 @@ impl Lrat {
             },
         }
     }
+
+    /// With the formula of a text in place of its own.
+    fn with_formula(self, alloc: Global, text: &Seq<u8>) -> Result<Lrat, Trouble>
+        ensures { Answers (lrat_takes self Role.Formula text.now) result }
+    {
+        let mut next = self;
+        match read_formula(alloc, text) {
+            Ok(formula) => {
+                // By a call, here and below, as its parts would else be dropped one by one in the proof.
+                drop(replace(&mut next.formula, formula));
+                Ok(next)
+            }
+            Err(trouble) => {
+                drop(next);
+                Err(trouble)
+            }
+        }
+    }
+
+    /// With the log of a text in place of its own.
+    fn with_log(self, alloc: Global, text: &Seq<u8>) -> Result<Lrat, Trouble>
+        ensures { Answers (lrat_takes self Role.Log text.now) result }
+    {
+        let mut next = self;
+        match read_log(alloc, text) {
+            Ok(log) => {
+                drop(replace(&mut next.log, log));
+                Ok(next)
+            }
+            Err(trouble) => {
+                drop(next);
+                Err(trouble)
+            }
+        }
+    }
 }
 
 impl Reader for Lrat {
@@ -49,17 +85,10 @@ impl Reader for Lrat {
 
     /// Takes the formula and then the log, as each is loaded.
     fn take(self, alloc: Global, role: Role, bytes: Seq<u8>) -> Result<Lrat, Trouble> {
-        let mut next = self;
         match role {
-            Role::Formula => {
-                next.formula = read_formula(alloc, &bytes)?;
-                Ok(next)
-            }
-            Role::Log => {
-                next.log = read_log(alloc, &bytes)?;
-                Ok(next)
-            }
-            _ => Ok(next),
+            Role::Formula => self.with_formula(alloc, &bytes),
+            Role::Log => self.with_log(alloc, &bytes),
+            _ => Ok(self),
         }
     }
 }

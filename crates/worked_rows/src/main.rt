@@ -20,11 +20,13 @@
 //! A command line may name two watchers beside those of the program, `highs` and `few`.
 #![tactic(auto)]
 
+mod failed;
 mod highs;
 mod long;
 mod player;
 mod solver;
 
+use crate::failed::Failed;
 use crate::player::Player;
 use cg_shelf::{DirShelf, Shelf};
 use std::alloc::Global;
@@ -38,18 +40,21 @@ fn main(rt: HostRuntime) -> ExitCode {
     let mut folder = DirShelf::new(rt, rt.stdout(), alloc);
     match play(alloc, &mut folder) {
         Ok(()) => ExitCode::SUCCESS,
-        Err(()) => ExitCode::FAILURE,
+        Err(Failed) => ExitCode::FAILURE,
     }
 }
 
-/// Plays the script line by line.
-fn play<S: Shelf>(alloc: Global, folder: &mut S) -> Result<(), ()> {
+/// Plays the script of the folder.
+fn play<S: Shelf>(alloc: Global, folder: &mut S) -> Result<(), Failed> {
     let mut script = Vec::new(alloc);
-    folder
-        .load("script", MOST_BYTES, &mut script)
-        .map_err(|_| ())?;
-    let script = String::from_utf8(script).map_err(|_| ())?;
+    folder.load("script", MOST_BYTES, &mut script)?;
+    let script = String::from_utf8(script)?;
     let mut player = Player::new(alloc)?;
+    play_lines(&mut player, folder, &script)
+}
+
+/// Plays a script line by line.
+fn play_lines<S: Shelf>(player: &mut Player, folder: &mut S, script: &str) -> Result<(), Failed> {
     for line in script.lines() {
         player.line(folder, line)?;
     }

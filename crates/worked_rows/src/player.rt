@@ -1,6 +1,7 @@
 //! Who plays a script.
 
 use crate::MOST_BYTES;
+use crate::failed::Failed;
 use crate::highs::Highs;
 use crate::long::{cells, latches, nets};
 use crate::solver::{Answer, solved};
@@ -28,78 +29,123 @@ pub struct Player {
 
 impl Player {
     /// With no file.
-    pub fn new(alloc: Global) -> Result<Player, ()> {
-        let files = MemShelf::new(alloc, &[]).map_err(|_| ())?;
+    pub fn new(alloc: Global) -> Result<Player, AllocError> {
+        Player::failing(alloc, &[])
+    }
+
+    /// With no file; the calls of these numbers fail.
+    fn failing(alloc: Global, numbers: &[u64]) -> Result<Player, AllocError> {
+        let files = MemShelf::new(alloc, numbers)?;
         Ok(Player { alloc, files })
     }
 
     /// Plays one line, and says on the folder's shelf what comes of it.
-    pub fn line<S: Shelf>(&mut self, folder: &mut S, line: &str) -> Result<(), ()> {
-        let words = line
-            .split_whitespace()
-            .collect::<Vec<&str>>(self.alloc)
-            .map_err(|_| ())?;
-        match words.as_slice() {
+    pub fn line<S: Shelf>(&mut self, folder: &mut S, line: &str) -> Result<(), Failed> {
+        let words = line.split_whitespace().collect::<Vec<&str>>(self.alloc)?;
+        self.words(folder, line, words.as_slice())
+    }
+
+    /// Plays the words of a line.
+    fn words<S: Shelf>(
+        &mut self,
+        folder: &mut S,
+        line: &str,
+        words: &[&str],
+    ) -> Result<(), Failed> {
+        match words {
             [] | ["#", ..] => say(folder, line.as_bytes(), b"\n"),
             ["show", name] => self.show(folder, name),
-            ["latches", count, name] => self.make(name, latches(self.alloc, number(count)?)),
-            ["nets", count, name] => self.make(name, nets(self.alloc, number(count)?)),
-            ["cells", count, name] => self.make(name, cells(self.alloc, number(count)?)),
+            ["latches", count, name] => self.latches(count, name),
+            ["nets", count, name] => self.nets(count, name),
+            ["cells", count, name] => self.cells(count, name),
             ["cases", name, words @ ..] => self.cases(folder, name, line, words),
             ["solve", formula, log] => self.solve(folder, formula, log),
             ["proof", proof, formula, log] => self.split(proof, formula, log),
             ["folder", words @ ..] => self.in_folder(folder, line, words),
             ["read", name] => self.read(folder, name),
-            ["fail", numbers, words @ ..] => self.failing(folder, numbers, line, words),
+            ["fail", numbers, words @ ..] => self.fail(folder, numbers, line, words),
             words => self.command(folder, line, words),
         }
     }
 
     /// Says what a file holds.
-    fn show<S: Shelf>(&mut self, folder: &mut S, name: &str) -> Result<(), ()> {
+    fn show<S: Shelf>(&mut self, folder: &mut S, name: &str) -> Result<(), Failed> {
         say(folder, b"$ cat ", name.as_bytes())?;
         say(folder, b"\n", self.files.held(name).unwrap_or(NO_FILE))
     }
 
-    /// Makes a file of a text.
-    fn make(&mut self, name: &str, text: Result<Vec<u8>, AllocError>) -> Result<(), ()> {
-        let text = text.map_err(|_| ())?;
-        self.files.put(name, text.as_slice()).map_err(|_| ())
+    /// Makes a netlist of so many registers.
+    fn latches(&mut self, count: &str, name: &str) -> Result<(), Failed> {
+        let text = latches(self.alloc, count.parse::<u32>()?)?;
+        Ok(self.files.put(name, text.as_slice())?)
+    }
+
+    /// Makes a netlist of so many nets.
+    fn nets(&mut self, count: &str, name: &str) -> Result<(), Failed> {
+        let text = nets(self.alloc, count.parse::<u32>()?)?;
+        Ok(self.files.put(name, text.as_slice())?)
+    }
+
+    /// Makes a library of so many cells.
+    fn cells(&mut self, count: &str, name: &str) -> Result<(), Failed> {
+        let text = cells(self.alloc, count.parse::<u32>()?)?;
+        Ok(self.files.put(name, text.as_slice())?)
     }
 
     /// Solves a formula of the folder, and says whether bits satisfy it or makes a file of the log.
-    fn solve<S: Shelf>(&mut self, folder: &mut S, formula: &str, log: &str) -> Result<(), ()> {
+    fn solve<S: Shelf>(&mut self, folder: &mut S, formula: &str, log: &str) -> Result<(), Failed> {
         say(folder, b"$ solve ", formula.as_bytes())?;
         self.bring(folder, formula)?;
-        match solved(self.alloc, self.files.held(formula).ok_or(())?)? {
+        let answer = solved(self.alloc, self.files.held(formula).ok_or(Failed)?)?;
+        self.answer(folder, &answer, log)
+    }
+
+    /// Says whether bits satisfy a formula, or makes a file of the log.
+    fn answer<S: Shelf>(
+        &mut self,
+        folder: &mut S,
+        answer: &Answer,
+        log: &str,
+    ) -> Result<(), Failed> {
+        match answer {
             Answer::Satisfied => say(folder, b"\nsatisfied", b"\n"),
             Answer::ModelFails => say(folder, b"\nthe model fails", b"\n"),
             Answer::Refuted(text) => {
                 say(folder, b"\nnever satisfied", b"\n")?;
-                self.files.put(log, text.as_slice()).map_err(|_| ())
+                Ok(self.files.put(log, text.as_slice())?)
             }
         }
     }
 
     /// Makes files of the first formula of a proof file and of what stands behind it.
-    fn split(&mut self, proof: &str, formula: &str, log: &str) -> Result<(), ()> {
-        let held = self.files.held(proof).ok_or(())?;
-        let text = Vec::from_slice(self.alloc, held).map_err(|_| ())?;
-        let text = String::from_utf8(text).map_err(|_| ())?;
-        let (first, rest) = text.split_once("c lrat\n").ok_or(())?;
-        self.files.put(formula, first.as_bytes()).map_err(|_| ())?;
-        self.files.put(log, rest.as_bytes()).map_err(|_| ())
+    fn split(&mut self, proof: &str, formula: &str, log: &str) -> Result<(), Failed> {
+        let held = self.files.held(proof).ok_or(Failed)?;
+        let text = Vec::from_slice(self.alloc, held)?;
+        let text = String::from_utf8(text)?;
+        self.split_text(&text, formula, log)
+    }
+
+    /// Makes files of the first formula of the text of a proof file and of what stands behind it.
+    fn split_text(&mut self, text: &str, formula: &str, log: &str) -> Result<(), Failed> {
+        let (first, rest) = text.split_once("c lrat\n").ok_or(Failed)?;
+        self.files.put(formula, first.as_bytes())?;
+        Ok(self.files.put(log, rest.as_bytes())?)
     }
 
     /// Runs the program on a command line.
-    fn command<S: Shelf>(&mut self, folder: &mut S, line: &str, words: &[&str]) -> Result<(), ()> {
+    fn command<S: Shelf>(
+        &mut self,
+        folder: &mut S,
+        line: &str,
+        words: &[&str],
+    ) -> Result<(), Failed> {
         say(folder, b"$ clockgate ", line.as_bytes())?;
         say(folder, b"\n", b"")?;
         self.play(folder, words)
     }
 
     /// Runs the program on words, and says what it said and complained and how it ended.
-    fn play<S: Shelf>(&mut self, folder: &mut S, words: &[&str]) -> Result<(), ()> {
+    fn play<S: Shelf>(&mut self, folder: &mut S, words: &[&str]) -> Result<(), Failed> {
         for word in words {
             self.bring(folder, word)?;
         }
@@ -115,29 +161,31 @@ impl Player {
         self.end(folder, status)
     }
 
-    /// Runs the program on words for each case of a file, over new files in which the case is the file `case`. Says the case, what
-    /// comes of it, and the file `out` that it stored.
+    /// Runs the program on words for each case of a file, over new files in which the case is the file `case`.
     fn cases<S: Shelf>(
         &mut self,
         folder: &mut S,
         name: &str,
         line: &str,
         words: &[&str],
-    ) -> Result<(), ()> {
+    ) -> Result<(), Failed> {
         say(folder, b"$ ", line.as_bytes())?;
         say(folder, b"\n", b"")?;
         self.bring(folder, name)?;
-        let held = self.files.held(name).ok_or(())?;
-        let text = str::from_utf8(held).map_err(|_| ())?;
-        let text = text.strip_suffix(CASE_END).ok_or(())?;
+        let text = str::from_utf8(self.files.held(name).ok_or(Failed)?)?;
+        let text = text.strip_suffix(CASE_END).ok_or(Failed)?;
         for case in text.split(CASE_END) {
-            say(folder, case.as_bytes(), CASE_END.as_bytes())?;
-            let mut player = Player::new(self.alloc)?;
-            player.files.put("case", case.as_bytes()).map_err(|_| ())?;
-            player.play(folder, words)?;
-            say(folder, player.files.held("out").unwrap_or(b""), b"")?;
+            play_case(self.alloc, folder, case, words)?;
         }
         Ok(())
+    }
+
+    /// Plays a case of a file, with no other file: says it, what comes of it, and the file `out` that it stored.
+    fn case<S: Shelf>(&mut self, folder: &mut S, case: &str, words: &[&str]) -> Result<(), Failed> {
+        say(folder, case.as_bytes(), CASE_END.as_bytes())?;
+        self.files.put("case", case.as_bytes())?;
+        self.play(folder, words)?;
+        say(folder, self.files.held("out").unwrap_or(b""), b"")
     }
 
     /// Runs the program on a command line over the folder itself, where what it says goes out as it is said.
@@ -146,7 +194,7 @@ impl Player {
         folder: &mut S,
         line: &str,
         words: &[&str],
-    ) -> Result<(), ()> {
+    ) -> Result<(), Failed> {
         say(folder, b"$ clockgate ", line.as_bytes())?;
         say(folder, b"\n", b"")?;
         let status = run_over(self.alloc, folder, words)?;
@@ -154,7 +202,7 @@ impl Player {
     }
 
     /// Says what a file of the folder holds.
-    fn read<S: Shelf>(&mut self, folder: &mut S, name: &str) -> Result<(), ()> {
+    fn read<S: Shelf>(&mut self, folder: &mut S, name: &str) -> Result<(), Failed> {
         say(folder, b"$ cat ", name.as_bytes())?;
         say(folder, b"\n", b"")?;
         let mut bytes = Vec::new(self.alloc);
@@ -166,23 +214,26 @@ impl Player {
 
     /// Runs the program over new files of which calls with these numbers fail, and says which calls it made and whether each
     /// file that it was to store is there, and holds what the file of that name holds that was stored before.
-    fn failing<S: Shelf>(
+    fn fail<S: Shelf>(
         &mut self,
         folder: &mut S,
         numbers: &str,
         line: &str,
         words: &[&str],
-    ) -> Result<(), ()> {
-        let mut failing = Vec::new(self.alloc);
-        for number in numbers.split(',') {
-            let number = number.parse::<u64>().map_err(|_| ())?;
-            failing.push(number).map_err(|_| ())?;
-        }
-        let files = MemShelf::new(self.alloc, failing.as_slice()).map_err(|_| ())?;
-        let mut player = Player {
-            alloc: self.alloc,
-            files,
-        };
+    ) -> Result<(), Failed> {
+        let numbers = numbers_of(self.alloc, numbers)?;
+        let mut player = Player::failing(self.alloc, numbers.as_slice())?;
+        self.compare(folder, &mut player, line, words)
+    }
+
+    /// Has another player run the program, and compares its files with these.
+    fn compare<S: Shelf>(
+        &mut self,
+        folder: &mut S,
+        player: &mut Player,
+        line: &str,
+        words: &[&str],
+    ) -> Result<(), Failed> {
         player.command(folder, line, words)?;
         for made in player.files.calls() {
             self.call(folder, made, &player.files)?;
@@ -191,7 +242,12 @@ impl Player {
     }
 
     /// Says a call that was made over these files.
-    fn call<S: Shelf>(&self, folder: &mut S, made: &CallMade, files: &MemShelf) -> Result<(), ()> {
+    fn call<S: Shelf>(
+        &self,
+        folder: &mut S,
+        made: &CallMade,
+        files: &MemShelf,
+    ) -> Result<(), Failed> {
         let name = made.name.bytes();
         match made.call {
             Call::Load => say(folder, b"load ", name)?,
@@ -202,7 +258,7 @@ impl Player {
         if made.call != Call::Store {
             return say(folder, b"\n", b"");
         }
-        let name = str::from_utf8(name).map_err(|_| ())?;
+        let name = str::from_utf8(name)?;
         match (files.held(name), self.files.held(name)) {
             (None, _) => say(folder, b", which is not there", b"\n"),
             (Some(held), Some(whole)) if held == whole => say(folder, b", whole", b"\n"),
@@ -211,54 +267,82 @@ impl Player {
     }
 
     /// Brings a file of the folder into memory, where the word names one that is not there yet.
-    fn bring<S: Shelf>(&mut self, folder: &mut S, word: &str) -> Result<(), ()> {
+    fn bring<S: Shelf>(&mut self, folder: &mut S, word: &str) -> Result<(), Failed> {
         let mut bytes = Vec::new(self.alloc);
         if self.files.held(word).is_some() || folder.load(word, MOST_BYTES, &mut bytes).is_err() {
             return Ok(());
         }
-        self.files.put(word, bytes.as_slice()).map_err(|_| ())
+        Ok(self.files.put(word, bytes.as_slice())?)
     }
 
     /// Says the number of a status that is not 0.
-    fn end<S: Shelf>(&mut self, folder: &mut S, status: Status) -> Result<(), ()> {
+    fn end<S: Shelf>(&mut self, folder: &mut S, status: Status) -> Result<(), Failed> {
         if status == Status::Done {
             return Ok(());
         }
         let mut text = Vec::new(self.alloc);
-        push_number(&mut text, u64::from(status.number())).map_err(|_| ())?;
+        push_number(&mut text, u64::from(status.number()))?;
         say(folder, b"status ", text.as_slice())?;
         say(folder, b"\n", b"")
     }
 }
 
-/// Runs the program with its two watchers, and two of a kind of their own, over a shelf.
-fn run_over<S: Shelf>(alloc: Global, shelf: &mut S, words: &[&str]) -> Result<Status, ()> {
-    let mut all = Vec::new(alloc);
-    all.push(String::from_str(alloc, "clockgate").map_err(|_| ())?)
-        .map_err(|_| ())?;
-    for word in words {
-        all.push(String::from_str(alloc, word).map_err(|_| ())?)
-            .map_err(|_| ())?;
-    }
-    let mut watchers = Vec::new(alloc);
-    let edges: Box<dyn Watcher> = Box::new(alloc, EdgeCount::new()).map_err(|_| ())?;
-    watchers.push(edges).map_err(|_| ())?;
-    let toggles: Box<dyn Watcher> = Box::new(alloc, ToggleCount::new(alloc)).map_err(|_| ())?;
-    watchers.push(toggles).map_err(|_| ())?;
-    let highs: Box<dyn Watcher> = Box::new(alloc, Highs::new()).map_err(|_| ())?;
-    watchers.push(highs).map_err(|_| ())?;
-    let few: Box<dyn Watcher> = Box::new(alloc, Highs::few()).map_err(|_| ())?;
-    watchers.push(few).map_err(|_| ())?;
-    Ok(run(alloc, all.as_slice(), shelf, watchers, &mut Silent))
+/// Plays a case of a file, over files of its own.
+fn play_case<S: Shelf>(
+    alloc: Global,
+    folder: &mut S,
+    case: &str,
+    words: &[&str],
+) -> Result<(), Failed> {
+    let mut player = Player::new(alloc)?;
+    player.case(folder, case, words)
 }
 
-/// The number that a word is.
-fn number(word: &str) -> Result<u32, ()> {
-    word.parse::<u32>().map_err(|_| ())
+/// Runs the program on words over a shelf.
+fn run_over<S: Shelf>(alloc: Global, shelf: &mut S, words: &[&str]) -> Result<Status, AllocError> {
+    let mut all = Vec::new(alloc);
+    put_words(alloc, &mut all, words)?;
+    run_words(alloc, shelf, all.as_slice())
+}
+
+/// Puts the name of the program and its words behind the others.
+fn put_words(alloc: Global, all: &mut Vec<String>, words: &[&str]) -> Result<(), AllocError> {
+    all.push(String::from_str(alloc, "clockgate")?)?;
+    for word in words {
+        all.push(String::from_str(alloc, word)?)?;
+    }
+    Ok(())
+}
+
+/// Runs the program on a command line with its two watchers, and two of a kind of their own.
+fn run_words<S: Shelf>(
+    alloc: Global,
+    shelf: &mut S,
+    words: &[String],
+) -> Result<Status, AllocError> {
+    let mut watchers = Vec::new(alloc);
+    let edges: Box<dyn Watcher> = Box::new(alloc, EdgeCount::new())?;
+    watchers.push(edges)?;
+    let toggles: Box<dyn Watcher> = Box::new(alloc, ToggleCount::new(alloc))?;
+    watchers.push(toggles)?;
+    let highs: Box<dyn Watcher> = Box::new(alloc, Highs::new())?;
+    watchers.push(highs)?;
+    let few: Box<dyn Watcher> = Box::new(alloc, Highs::few())?;
+    watchers.push(few)?;
+    Ok(run(alloc, words, shelf, watchers, &mut Silent))
+}
+
+/// The numbers of a list with commas.
+fn numbers_of(alloc: Global, list: &str) -> Result<Vec<u64>, Failed> {
+    let mut numbers = Vec::new(alloc);
+    for number in list.split(',') {
+        numbers.push(number.parse::<u64>()?)?;
+    }
+    Ok(numbers)
 }
 
 /// Says two texts.
-fn say<S: Shelf>(folder: &mut S, first: &[u8], second: &[u8]) -> Result<(), ()> {
-    folder.say(first).map_err(|_| ())?;
-    folder.say(second).map_err(|_| ())
+fn say<S: Shelf>(folder: &mut S, first: &[u8], second: &[u8]) -> Result<(), Failed> {
+    folder.say(first)?;
+    Ok(folder.say(second)?)
 }

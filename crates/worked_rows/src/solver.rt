@@ -3,6 +3,7 @@
 ghost use Rattle.std.specs.Prelude.{IfOk};
 ghost use Rattle.std.specs.Option.{IfSome};
 
+use crate::failed::Failed;
 use cg_formula::{Formula, Lit, read_dimacs};
 use cg_lrat::write_lrat;
 use cg_sat::{Solved, solve};
@@ -20,12 +21,20 @@ pub enum Answer {
 }
 
 /// Solves the formula of a text.
-pub fn solved(alloc: Global, text: &[u8]) -> Result<Answer, ()> {
-    let formula = read_dimacs(alloc, text).map_err(|_| ())?;
-    match solve(alloc, &formula).map_err(|_| ())? {
-        Solved::Sat(bits) if is_model(&formula, bits.as_slice()) => Ok(Answer::Satisfied),
-        Solved::Sat(_) => Ok(Answer::ModelFails),
-        Solved::Unsat(log) => Ok(Answer::Refuted(write_lrat(alloc, &log).map_err(|_| ())?)),
+pub fn solved(alloc: Global, text: &[u8]) -> Result<Answer, Failed> {
+    let formula = read_dimacs(alloc, text)?;
+    match solve(alloc, &formula)? {
+        Solved::Sat(bits) => Ok(tried(&formula, bits.as_slice())),
+        Solved::Unsat(log) => Ok(Answer::Refuted(write_lrat(alloc, &log)?)),
+    }
+}
+
+/// What is said of bits that are to satisfy a formula.
+fn tried(formula: &Formula, bits: &[bool]) -> Answer {
+    if is_model(formula, bits) {
+        Answer::Satisfied
+    } else {
+        Answer::ModelFails
     }
 }
 

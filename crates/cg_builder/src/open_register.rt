@@ -5,7 +5,7 @@ use cg_netlist::parts::RegisterKind;
 use std::marker::Model;
 
 /// A register as a builder keeps it: one with no clock of its own is on the one clock of the netlist.
-#[derive(Debug, Drop)]
+#[derive(Drop)]
 pub(crate) struct OpenRegister {
     pub(crate) inputs: Vec<NetId>,
     pub(crate) outputs: Vec<(NetId, bool)>,

@@ -8,7 +8,7 @@ use cg_cell::name::Name;
 use std::marker::Model;
 
 /// The function of a logic cell, over its inputs in their order.
-#[derive(Debug, Drop)]
+#[derive(Drop)]
 pub enum LogicFunction {
     /// The rows of a `.names` line.
     Cover(Cover),
@@ -18,7 +18,7 @@ pub enum LogicFunction {
 }
 
 /// What a register is made of.
-#[derive(Debug, Drop)]
+#[derive(Drop)]
 pub enum RegisterKind {
     /// A `.latch` line: the next bit is the bit of the one input.
     Plain,
@@ -28,7 +28,7 @@ pub enum RegisterKind {
 }
 
 /// A logic cell.
-#[derive(Debug, Drop)]
+#[derive(Drop)]
 pub struct Logic {
     /// The input nets, in the order of the function's variables.
     pub inputs: Vec<NetId>,
@@ -54,7 +54,7 @@ impl Model for Logic {
 }
 
 /// A gating cell: a latch that follows the enable while the clock is low, and the AND of latch and clock.
-#[derive(Debug, Drop)]
+#[derive(Drop)]
 pub struct Gater {
     /// The net at the clock pin.
     pub clock: NetId,
@@ -86,7 +86,7 @@ impl Model for Gater {
 }
 
 /// A register.
-#[derive(Debug, Drop)]
+#[derive(Drop)]
 pub struct Register {
     /// The input nets.
     pub inputs: Vec<NetId>,

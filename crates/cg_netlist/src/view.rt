@@ -11,7 +11,7 @@ use cg_cell::cell::CellType;
 use cg_cell::cover::Cover;
 
 /// The function of a logic cell, over its inputs in their order.
-#[derive(Clone, Copy, Debug)]
+#[derive(Clone, Copy)]
 pub enum Function<'a> {
     /// The rows of a `.names` line, with a place for each input.
     Cover(&'a Cover),
@@ -21,7 +21,7 @@ pub enum Function<'a> {
 }
 
 /// What a register is made of.
-#[derive(Clone, Copy, Debug)]
+#[derive(Clone, Copy)]
 pub enum RegKind<'a> {
     /// A `.latch` line: the next bit is the bit of the one input.
     Plain,
@@ -31,7 +31,7 @@ pub enum RegKind<'a> {
 }
 
 /// A logic cell: `output` is `function` of `inputs`, all at one moment.
-#[derive(Clone, Copy, Debug)]
+#[derive(Clone, Copy)]
 pub struct CellView<'a> {
     /// The input nets, in the order of the function's variables.
     pub inputs: &'a [NetId],
@@ -44,7 +44,7 @@ pub struct CellView<'a> {
 }
 
 /// A register: it takes its function of `inputs` and its own bit where `clock` rises.
-#[derive(Clone, Copy, Debug)]
+#[derive(Clone, Copy)]
 pub struct RegView<'a> {
     /// The input nets.
     pub inputs: &'a [NetId],
@@ -68,7 +68,7 @@ pub struct RegView<'a> {
 
 /// A gating cell: a latch that takes the bit of `enable` while `clock` is 0, and `output` is the AND of latch and
 /// clock.
-#[derive(Clone, Copy, Debug)]
+#[derive(Clone, Copy)]
 pub struct GaterView<'a> {
     /// The net at the clock pin.
     pub clock: NetId,

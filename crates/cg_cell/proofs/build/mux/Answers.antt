@@ -48,3 +48,14 @@ returns-clause-kept g c =
     let pq = keeps_then _ _ _ _ p.stands.keeps q.stands.keeps in
     let k = and_made _ g.met.D.Domain.lawful _ _ _ _ _ q.stands.valid (pq.valid _ c.requires.right) c.in_ok-right.ensures.made in
     on_err_weaker _ (λ m. keeps_then _ _ _ _ (keeps_then _ _ _ _ pq k.stands.keeps) m) c.or.ensures.kept
+
+pub not-not_c-requires : goal.not-not_c-requires
+not-not_c-requires g c =
+    let p = and_made _ g.met.D.Domain.lawful _ _ _ _ _ c.requires.choice c.requires.left c.in_ok-left.ensures.made in
+    p.stands.keeps.valid _ c.requires.choice
+
+pub and-requires-2-clause-left : goal.and-requires-2-clause-left
+and-requires-2-clause-left g c =
+    let p = and_made _ g.met.D.Domain.lawful _ _ _ _ _ c.requires.choice c.requires.left c.in_ok-left.ensures.made in
+    let q = not_made _ g.met.D.Domain.lawful _ _ _ _ (p.stands.keeps.valid _ c.requires.choice) c.not-not_c.ensures in
+    q.stands.valid

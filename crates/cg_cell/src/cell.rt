@@ -14,7 +14,7 @@ use std::marker::Model;
 use std::rc::Rc;
 
 /// What a cell is used as.
-#[derive(Clone, Copy, Debug, PartialEq, Eq)]
+#[derive(Clone, Copy, PartialEq, Eq)]
 pub enum CellKind {
     /// One output that is a function of the inputs.
     Logic,
@@ -30,7 +30,7 @@ pub enum CellKind {
 }
 
 /// What a pin of a cell is for.
-#[derive(Clone, Copy, Debug, PartialEq, Eq)]
+#[derive(Clone, Copy, PartialEq, Eq)]
 pub enum Role {
     /// An input of the function.
     Data,
@@ -55,7 +55,7 @@ pub enum Role {
 }
 
 /// A pin of a cell. Clauses see it as its name and its role.
-#[derive(Debug, Drop)]
+#[derive(Drop)]
 pub struct Pin {
     name: Name,
     role: Role,
@@ -154,7 +154,7 @@ impl Pin {
 /// 16 pins, of different names without the byte `=`.
 ///
 /// A clone of a cell that a library has taken shares what the cell is made of.
-#[derive(Debug, Drop)]
+#[derive(Drop)]
 pub struct CellType {
     parts: Holder,
 }
@@ -175,7 +175,7 @@ impl Model for CellType {
 }
 
 /// What a cell is made of.
-#[derive(Debug, Drop)]
+#[derive(Drop)]
 struct Parts {
     name: Name,
     kind: CellKind,
@@ -184,7 +184,7 @@ struct Parts {
 }
 
 /// Where the parts of a cell are: with the cell alone, or with all clones of a cell of a library.
-#[derive(Debug, Drop)]
+#[derive(Drop)]
 enum Holder {
     Own(Parts),
     Shared(Rc<Parts>),
@@ -228,7 +228,7 @@ impl Parts {
         ensures { IfOk result (λ copy. seen copy ≡ seen self.now) }
     {
         let name = self.name.clone()?;
-        let pins = clone_pins(&self.pins, *self.pins.allocator())?;
+        let pins = self.pins.clone()?;
         let function = clone_function(&self.function)?;
         Ok(Parts {
             name,
@@ -246,18 +246,6 @@ impl Clone for CellType {
         let parts = self.parts.again()?;
         Ok(CellType { parts })
     }
-}
-
-/// Clones of the pins, in their order.
-fn clone_pins(pins: &[Pin], alloc: Global) -> Result<Vec<Pin>, AllocError>
-    ensures { IfOk result (λ copies. copies.items ≡ pins.now) }
-{
-    let mut copies = Vec::with_capacity(alloc, pins.len())?;
-    'pins: for pin in pins {
-        let copy = pin.clone()?;
-        copies.push(copy)?;
-    }
-    Ok(copies)
 }
 
 /// A clone of the function, where there is one.

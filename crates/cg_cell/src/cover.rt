@@ -4,13 +4,13 @@ ghost use Rattle.std.specs.Prelude.{◌≡◌, List, [], Option, Bool, true, len
 ghost use Rattle.cg_cell.specs.Cover.{CoverData, CoverFits, HaveOneLength, IsCover, agrees, cover_value, row_matches};
 ghost use Rattle.std.specs.List.{AllByRecursion, list_any};
 
-use std::alloc::{AllocError, Global};
+use std::alloc::AllocError;
 use std::marker::Model;
 
 /// One row of a cover: a given bit for each input, or `None` where the row leaves the input open.
 ///
 /// Clauses see a row as the list of its places.
-#[derive(Debug, Drop)]
+#[derive(Drop)]
 pub struct CoverRow {
     pub bits: Vec<Option<bool>>,
 }
@@ -60,7 +60,7 @@ fn is_met(given: Option<bool>, bit: bool) -> bool
 /// A function as rows, and the value that it has where some row matches.
 ///
 /// Clauses see a cover as its rows and that value.
-#[derive(Debug, Drop)]
+#[derive(Drop)]
 pub struct Cover {
     rows: Vec<CoverRow>,
     on: bool,
@@ -78,21 +78,9 @@ impl Clone for Cover {
     ghost is_clone = { λ x y. y ≡ x };
 
     fn clone(&self) -> Result<Cover, AllocError> {
-        let rows = clone_rows(&self.rows, *self.rows.allocator())?;
+        let rows = self.rows.clone()?;
         Ok(Cover { rows, on: self.on })
     }
-}
-
-/// Clones of the rows, in their order.
-fn clone_rows(rows: &[CoverRow], alloc: Global) -> Result<Vec<CoverRow>, AllocError>
-    ensures { IfOk result (λ copies. copies.items ≡ rows.now) }
-{
-    let mut copies = Vec::with_capacity(alloc, rows.len())?;
-    'rows: for row in rows {
-        let copy = row.clone()?;
-        copies.push(copy)?;
-    }
-    Ok(copies)
 }
 
 impl Cover {

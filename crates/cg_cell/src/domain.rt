@@ -49,7 +49,7 @@ pub trait Domain {
 }
 
 /// Truth values as a domain. Nothing is kept, and nothing is ever refused.
-#[derive(Clone, Copy, Debug, Default, Drop)]
+#[derive(Clone, Copy, Default, Drop)]
 pub struct Bits;
 
 impl Domain for Bits {

@@ -12,7 +12,7 @@ use std::alloc::{AllocError, Global};
 /// The operands of one level of operators stand in one list, and a run of signs of inversion in one
 /// node with its length, so an expression is at most as deep as its brackets and `!` are nested,
 /// times a constant. Calls that go down an expression recurse no deeper than that.
-#[derive(Debug, Drop)]
+#[derive(Drop)]
 pub enum Expr {
     /// The constant 0 or 1.
     Constant(bool),

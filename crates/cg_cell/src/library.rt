@@ -18,7 +18,7 @@ use std::marker::Model;
 
 /// A cell of a library, by its number in the order of the text. It stays the number of that cell for
 /// as long as the library lives, and means nothing to another library.
-#[derive(Clone, Copy, Debug, PartialEq, Eq)]
+#[derive(Clone, Copy, PartialEq, Eq)]
 pub struct LibId(u32);
 
 impl Model for LibId {
@@ -56,7 +56,7 @@ impl From<AllocError> for LibraryFault {
 }
 
 /// The cells of a library, in the order in which they were added. Clauses see it as that list.
-#[derive(Debug, Drop)]
+#[derive(Drop)]
 pub struct Library {
     cells: IndexMap<Vec<u8>, CellType>,
     gater: Option<LibId>,
@@ -107,12 +107,7 @@ impl Library {
         ensures cause { Answers result (add_fault self.old cell.name) }
         ensures unchanged { OnErr result (self.new ≡ self.old) }
     {
-        if self.cells.len() >= MOST_LIBRARY_CELLS {
-            return Err(LibraryFault::Limit(Limit::LibraryCells));
-        }
-        if self.find(cell.name().bytes()).is_some() {
-            return Err(LibraryFault::TwoCells);
-        }
+        self.may_take(cell.name().bytes())?;
         let id = LibId(self.cells.len() as u32);
         let gater = note(self.gater, id, fits(&cell, FitKind::Gater));
         let test_gater = note(self.test_gater, id, fits(&cell, FitKind::TestGater));
@@ -126,6 +121,21 @@ impl Library {
         self.and2 = and2;
         self.or2 = or2;
         Ok(id)
+    }
+
+    /// Whether a cell of that name may be added, or what refuses it.
+    fn may_take(&self, name: &[u8]) -> Result<(), LibraryFault>
+        ensures cause { Answers result (add_fault self.now name.now) }
+        ensures few { OnOk result (length self.now < MOST_LIBRARY_CELLS) }
+        ensures absent { OnOk result (find_cell name.now self.now ≡ None) }
+    {
+        if self.cells.len() >= MOST_LIBRARY_CELLS {
+            return Err(LibraryFault::Limit(Limit::LibraryCells));
+        }
+        if self.find(name).is_some() {
+            return Err(LibraryFault::TwoCells);
+        }
+        Ok(())
     }
 
     /// The number of cells. Each of them is the one that stands under its name.

@@ -20,10 +20,7 @@ pub(crate) fn mention(alloc: Global, names: &mut NetNames, name: &[u8]) -> Resul
         (λ net. IsMentioned names.old names.new (name.now ∷ []) (net ∷ []))
         (λ fault. IsMentionFault (with_names names.old (name.now ∷ [])) fault) }
 {
-    let number = match names.intern(alloc, name) {
-        Ok(number) => number,
-        Err(_) => return Err(AddFault::NoMemory),
-    };
+    let number = names.intern(alloc, name)?;
     if names.len() > MOST_NETS {
         return Err(AddFault::Limit(Limit::Nets));
     }
@@ -41,18 +38,10 @@ pub(crate) fn mention_each(
         (λ nets. IsMentioned names.old names.new (map (λ name. name.now) mentioned.now) nets.items)
         (λ fault. IsMentionFault (with_names names.old (map (λ name. name.now) mentioned.now)) fault) }
 {
-    let mut nets = match Vec::with_capacity(alloc, mentioned.len()) {
-        Ok(nets) => nets,
-        Err(_) => return Err(AddFault::NoMemory),
-    };
+    let mut nets = Vec::with_capacity(alloc, mentioned.len())?;
     for name in mentioned {
-        match mention(alloc, names, name) {
-            Ok(net) => match put(&mut nets, net) {
-                Ok(()) => (),
-                Err(fault) => return Err(fault),
-            },
-            Err(fault) => return Err(fault),
-        }
+        let net = mention(alloc, names, name)?;
+        put(&mut nets, net)?;
     }
     Ok(nets)
 }
@@ -70,10 +59,7 @@ pub(crate) fn mention_given(
 {
     match given {
         None => Ok(None),
-        Some(name) => match mention(alloc, names, name) {
-            Ok(net) => Ok(Some(net)),
-            Err(fault) => Err(fault),
-        },
+        Some(name) => Ok(Some(mention(alloc, names, name)?)),
     }
 }
 

@@ -1,9 +1,7 @@
 pub mod Added
 pub mod Bits
-pub mod BitsLaws
 pub mod Build
 pub mod Cell
-pub mod CellParts
 pub mod Cover
 pub mod Domain
 pub mod Eval
@@ -17,3 +15,4 @@ pub mod Name
 pub mod Pins
 pub mod Term
 pub mod TermCode
+pub mod inner

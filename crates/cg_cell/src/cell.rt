@@ -4,7 +4,7 @@ ghost use Rattle.std.specs.Prelude.{◌≡◌, IfOk, IfSome, IsTrue, count_by};
 ghost use Rattle.std.specs.Option.{option_copied, option_map};
 ghost use Rattle.cg_cell.specs.Expr.{is_over, term_of};
 ghost use Rattle.cg_cell.specs.Cell.{IsCell, has_test, variables_of};
-ghost use Rattle.cg_cell.specs.CellParts.{held, seen};
+ghost use Rattle.cg_cell.specs.inner.CellParts.{held, seen};
 ghost use Rattle.cg_cell.specs.Pins.{is_clock, is_data, is_enable, is_output, is_state, is_test};
 
 use crate::expr::Expr;
@@ -162,7 +162,7 @@ pub struct CellType {
 impl Model for CellType {
     ghost use Rattle.std.specs.Coded.{codes};
     ghost use Rattle.cg_cell.specs.Cell.{CellData, IsCell};
-    ghost use Rattle.cg_cell.specs.CellParts.{held};
+    ghost use Rattle.cg_cell.specs.inner.CellParts.{held};
     ghost use Rattle.cg_cell.specs.TermCode.{term_code};
 
     ghost Value = { CellData };

@@ -54,7 +54,7 @@ pub struct Bits;
 
 impl Domain for Bits {
     ghost use Rattle.cg_cell.specs.Bits.{bits_ops, no_pairs, one_if};
-    ghost use Rattle.cg_cell.specs.BitsLaws.{bits_lawful};
+    ghost use Rattle.cg_cell.specs.inner.BitsLaws.{bits_lawful};
 
     type Value = bool;
 

@@ -1,7 +1,7 @@
 use Rattle.std.proofs.Common.{ap, subst, sym, ◌∙◌, IfSome, IsTrue}
 use Rattle.std.specs.Option.{option_map}
 use Rattle.cg_cell.specs.Cell.{CellData, IsCell, variables_of}
-use Rattle.cg_cell.specs.CellParts.{seen}
+use Rattle.cg_cell.specs.inner.CellParts.{seen}
 use Rattle.cg_cell.specs.Expr.{is_over, term_of}
 use Rattle.cg_cell.proofs.Functions.{function_over}
 use Rattle.cg_cell.proofs.cell.CellType.function.Goals as goal

@@ -11,7 +11,7 @@ pub fn is_white_space(byte: u8) -> bool
 }
 
 /// The bytes that stand between words.
-#[derive(Clone, Copy, Debug)]
+#[derive(Clone, Copy)]
 pub enum Blanks {
     /// Space, tab, line feed, vertical tab, form feed and carriage return, as in DIMACS and LRAT.
     Whitespace,

@@ -9,7 +9,7 @@ use crate::words::Words;
 use std::marker::Model;
 
 /// What of a line is not read.
-#[derive(Clone, Copy, Debug)]
+#[derive(Clone, Copy)]
 pub enum Comments {
     /// Each line is read whole.
     Never,
@@ -18,7 +18,7 @@ pub enum Comments {
 }
 
 /// How a format cuts its text into lines of words.
-#[derive(Clone, Copy, Debug)]
+#[derive(Clone, Copy)]
 pub struct Layout {
     /// The bytes between words.
     pub blanks: Blanks,

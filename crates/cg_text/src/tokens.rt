@@ -8,7 +8,7 @@ use crate::words::Words;
 use std::marker::Model;
 
 /// A word with the number of its line.
-#[derive(Clone, Copy, Debug)]
+#[derive(Clone, Copy)]
 pub struct Token<'a> {
     /// The number of its line, counted from 1.
     pub line: u64,

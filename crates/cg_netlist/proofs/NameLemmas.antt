@@ -2,58 +2,48 @@
 use Rattle.std.proofs.Common.{◌≡◌, ◌≢◌, ℕ, ◌<◌, true, false, List, [], ◌∷◌, ◌++◌, ◌||◌, length, slice_get, get_or, Option, None}
 use Rattle.std.proofs.Common.{Some, MatchOption, is_some, nat_eq, refl, ap, sym, ◌∙◌, inl, inr, arith, IfSome, if◌then◌else◌}
 use Rattle.std.specs.List.{list_any, position, AllPairs, IsDistinct}
-use Rattle.std.specs.declared.vec.Vec.{Vec}
-use Rattle.std.specs.Option.{option_map}
 use Rattle.std.specs.Cmp.Lexicographic.{same_text, other_text}
-use Rattle.std.proofs.lemmas.Option.{slice_get-map, slice_get_cases}
+use Rattle.std.proofs.lemmas.Option.{slice_get_cases}
 use Rattle.std.proofs.lemmas.List.Quantifiers.{position-Some}
-use Rattle.std.proofs.lemmas.List.{map_push, length-map, get_or-map}
+use Rattle.std.proofs.lemmas.List.{get_or_default}
 use Rattle.std.proofs.lemmas.Map.Keys.{apart_from_distinct}
 use lib.Pointwise.{pointwise}
-use Rattle.cg_netlist.specs.Names.{bytes_of, is_known, with_name}
+use Rattle.cg_netlist.specs.Names.{is_known, with_name}
 
-module _ {Z : Type 0} where
-  -- a test of the bytes passes a name of the table as it passes the list of bytes
-  pub is_known-bytes_of : (ks : List (Vec ℕ Z)) (name : List ℕ) → is_known (bytes_of ks) name ≡ list_any (λ k. pointwise nat_eq name k.items) ks
-  is_known-bytes_of [] name = refl
-  is_known-bytes_of (k ∷ ks) name = ap (λ b. pointwise nat_eq name k.items || b) (is_known-bytes_of ks name)
+-- the place of a name in the table has this name
+pub name_at : (names : List (List ℕ)) (name : List ℕ) (i : ℕ) → i < length names → position (pointwise nat_eq name) names ≡ Some i → slice_get names i ≡ Some name
+name_at names name i within at =
+    elim ((slice_get_cases names i).1) [
+      | inl e ↦
+          let passes : pointwise nat_eq name e.0 ≡ true = ap (pointwise nat_eq name) (sym e.3) ∙ (position-Some (pointwise nat_eq name) names i e.0 at).1 in
+          e.2 ∙ ap (λ n. Some n) (sym (same_text name e.0 (sym passes)))
+      | inr past ↦ let none : ⊥ = omega arith in absurd none
+    ]
 
-  -- the place of a name in the table has this name
-  pub name_at : (ks : List (Vec ℕ Z)) (name : List ℕ) (i : ℕ) → i < length ks → position (λ k. pointwise nat_eq name k.items) ks ≡ Some i → slice_get (bytes_of ks) i ≡ Some name
-  name_at ks name i within at =
-      elim ((slice_get_cases ks i).1) [
-        | inl e ↦
-            let passes : pointwise nat_eq name e.0.items ≡ true = ap (λ k. pointwise nat_eq name k.items) (sym e.3) ∙ (position-Some (λ k. pointwise nat_eq name k.items) ks i e.0 at).1 in
-            slice_get-map (λ k. k.items) ks i ∙ (ap (option_map (λ k. k.items)) e.2 ∙ ap (λ n. Some n) (sym (same_text name e.0.items (sym passes))))
-        | inr past ↦ let none : ⊥ = omega arith in absurd none
-      ]
+pub found_name : (names : List (List ℕ)) (name : List ℕ) (r : Option ℕ) → r ≡ position (pointwise nat_eq name) names → is_some r ≡ is_known names name → IfSome r (λ i. i < length names) → MatchOption r (is_known names name ≡ false) (λ i. slice_get names i ≡ Some name)
+found_name names name None is found within = sym found
+found_name names name (Some i) is found within = name_at names name i within (sym is)
 
-  pub found_name : (ks : List (Vec ℕ Z)) (name : List ℕ) (r : Option ℕ) → r ≡ position (λ k. pointwise nat_eq name k.items) ks → is_some r ≡ list_any (λ k. pointwise nat_eq name k.items) ks → IfSome r (λ i. i < length ks) → MatchOption r (is_known (bytes_of ks) name ≡ false) (λ i. slice_get (bytes_of ks) i ≡ Some name)
-  found_name ks name None is found within = is_known-bytes_of ks name ∙ sym found
-  found_name ks name (Some i) is found within = name_at ks name i within (sym is)
+-- two keys of a set are two names
+pub different_names : (names : List (List ℕ)) → IsDistinct (pointwise nat_eq) names → AllPairs (λ name other. name ≢ other) names
+different_names names distinct i j d before within same =
+    elim ((slice_get_cases names j).1) [
+      | inl e ↦
+          let first : i < length names = omega arith in
+          other_text (get_or names i e.0) (get_or names j e.0) (sym (apart_from_distinct (pointwise nat_eq) names i j e.0 distinct before within))
+          (get_or_default names i e.0 d first ∙ (same ∙ get_or_default names j d e.0 within))
+      | inr past ↦ let none : ⊥ = omega arith in absurd none
+    ]
 
-  -- two keys of a set are two names
-  pub different_names : (ks : List (Vec ℕ Z)) → IsDistinct (λ k l. pointwise nat_eq k.items l.items) ks → AllPairs (λ name other. name ≢ other) (bytes_of ks)
-  different_names ks distinct i j d before within same =
-      let below : j < length ks = omega (arith, length-map ks (λ k. k.items)) in
-      elim ((slice_get_cases ks j).1) [
-        | inl e ↦
-            let first : i < length ks = omega arith in
-            other_text (get_or ks i e.0).items (get_or ks j e.0).items (sym (apart_from_distinct (λ k l. pointwise nat_eq k.items l.items) ks i j e.0 distinct before below))
-            (sym (get_or-map (λ k. k.items) ks i e.0 d first) ∙ (same ∙ get_or-map (λ k. k.items) ks j e.0 d below))
-        | inr past ↦ let none : ⊥ = omega arith in absurd none
-      ]
+-- a name that was not found is not known
+pub unknown_name : (names : List (List ℕ)) (name : List ℕ) (r : Option ℕ) → ((i : ℕ) → r ≡ Some i → ⊥) → is_some r ≡ is_known names name → is_known names name ≡ false
+unknown_name names name None not_found found = sym found
+unknown_name names name (Some i) not_found found = absurd (not_found i refl)
 
-  -- a name that was not found is not known
-  pub unknown_name : (ks : List (Vec ℕ Z)) (name : List ℕ) (r : Option ℕ) → ((i : ℕ) → r ≡ Some i → ⊥) → is_some r ≡ list_any (λ k. pointwise nat_eq name k.items) ks → is_known (bytes_of ks) name ≡ false
-  unknown_name ks name None not_found found = is_known-bytes_of ks name ∙ sym found
-  unknown_name ks name (Some i) not_found found = absurd (not_found i refl)
-
-  -- a set that takes a key of a name that is not known has the name behind the others
-  pub inserted_name : (ks new : List (Vec ℕ Z)) (key : Vec ℕ Z) (name : List ℕ) → key.items ≡ name → is_known (bytes_of ks) name ≡ false → new ≡ (if list_any (λ k. pointwise nat_eq key.items k.items) ks then ks else ks ++ key ∷ []) → bytes_of new ≡ bytes_of ks ++ name ∷ []
-  inserted_name ks new key name is unknown keys =
-      let none : list_any (λ k. pointwise nat_eq key.items k.items) ks ≡ false = sym (is_known-bytes_of ks key.items) ∙ (ap (is_known (bytes_of ks)) is ∙ unknown) in
-      ap bytes_of (keys ∙ ap (λ b. if b then ks else ks ++ key ∷ []) none) ∙ (map_push (λ k. k.items) ks key ∙ ap (λ n. bytes_of ks ++ n ∷ []) is)
+-- a set that takes a key that is not known has it behind the others
+pub inserted_name : (names new : List (List ℕ)) (key name : List ℕ) → key ≡ name → is_known names name ≡ false → new ≡ (if is_known names key then names else names ++ key ∷ []) → new ≡ names ++ name ∷ []
+inserted_name names new key name is unknown keys =
+    keys ∙ (ap (λ k. if is_known names k then names else names ++ k ∷ []) is ∙ ap (λ b. if b then names else names ++ name ∷ []) unknown)
 
 -- with a name that is known the table stays, and another goes behind the others
 pub with_name-known : (names : List (List ℕ)) (name : List ℕ) → is_known names name ≡ true → with_name names name ≡ names

@@ -1,15 +1,17 @@
 -- What the search for ranks asks of the logic cells of a well-formed netlist.
 use Rattle.std.proofs.Common.{◌≡◌, ℕ, ◌+◌, ◌<◌, Bool, true, false, cond, List, [], ◌∷◌, length, slice_get, Option, Some, None}
 use Rattle.std.proofs.Common.{get_or, refl, sym, ◌∙◌, subst, arith}
-use Rattle.std.specs.List.{All, position_from}
+use Rattle.std.specs.List.{All, AllByRecursion, position_from}
 use Rattle.std.proofs.lemmas.List.Elements.{All-get_or}
 use Rattle.std.proofs.lemmas.Option.{get_or_from_slice_get, same_Some, slice_get-get_or, slice_get_within}
 use Rattle.cg_netlist.specs.Circuit.{Circuit, LogicCell}
 use Rattle.cg_netlist.specs.Netlist.{IsNetlist}
+use Rattle.cg_netlist.specs.Places.{CellWithin}
 use Rattle.cg_netlist.specs.Ranking.{IsGraph, entry}
 use Rattle.cg_netlist.specs.Ranks.{driving_cell}
 use Rattle.cg_netlist.specs.inner.Walking.{IsLevelled}
 use Rattle.cg_netlist.proofs.CellFits.{cell_fits}
+use Rattle.cg_netlist.proofs.Each.{by_recursion}
 use Rattle.cg_netlist.proofs.OrderLemmas.{cells_within}
 
 first_within : (test : LogicCell ℕ → Bool) (a : ℕ) (cells : List (LogicCell ℕ)) (k : ℕ) → position_from test a cells ≡ Some k → k < a + length cells
@@ -42,3 +44,10 @@ cells_levelled c good n is = record {
   outputs = λ k d below. let fits = cell_fits c good k (get_or c.cells k d) (slice_get-get_or c.cells k d below) in omega (arith, fits.output, is);
   inputs = λ k d below. let fits = cell_fits c good k (get_or c.cells k d) (slice_get-get_or c.cells k d below) in subst (λ m. All (λ net. net < m) (get_or c.cells k d).inputs) (sym is) fits.inputs;
 }
+
+pub levelled_within : (n : ℕ) (cells : List (LogicCell ℕ)) → IsLevelled n cells → AllByRecursion (CellWithin n) cells
+levelled_within n cells levelled =
+    by_recursion (CellWithin n) cells (λ k d below. record {
+      inputs = by_recursion (λ net. net < n) (get_or cells k d).inputs (levelled.inputs k d below);
+      output = levelled.outputs k d below;
+    })

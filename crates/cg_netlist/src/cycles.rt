@@ -1,4 +1,4 @@
-//! Logic cells whose cone holds a cycle.
+//! The ranks of logic cells, and which nets those without one drive.
 
 ghost use Rattle.std.specs.Prelude.{◌≡◌, ◌<◌, ℕ, Some, false, length, IfOk, is_none};
 ghost use Rattle.std.specs.List.{AllByRecursion};
@@ -6,20 +6,38 @@ ghost use Rattle.std.specs.Option.{option_map_or};
 ghost use Rattle.cg_netlist.specs.Marks.{AreMarksOf};
 ghost use Rattle.cg_netlist.specs.Places.{CellWithin};
 ghost use Rattle.cg_netlist.specs.Ranking.{entry};
-ghost use Rattle.cg_netlist.specs.Ranks.{is_unranked};
+ghost use Rattle.cg_netlist.specs.Ranks.{is_unranked, ranks_of};
 
 use crate::parts::Logic;
 use crate::ranks::{driving_cells, entry, ranks};
 use std::alloc::{AllocError, Global};
 
-/// Of `count` nets, marks on the outputs of cells without a rank: those whose cone holds a cycle of cells.
-pub fn unranked_marks(alloc: Global, count: usize, cells: &[Logic]) -> Result<Vec<bool>, AllocError>
+/// The rank of each of these logic cells over `count` nets; `None` for those whose cone holds a cycle of cells.
+pub fn cell_ranks(
+    alloc: Global,
+    count: usize,
+    cells: &[Logic],
+) -> Result<Vec<Option<usize>>, AllocError>
     requires { AllByRecursion (CellWithin count) cells.now }
+    ensures { IfOk result (λ ranks. ranks.items ≡ ranks_of cells.now) }
+{
+    let drivers = driving_cells(alloc, count, cells)?;
+    ranks(alloc, cells, &drivers)
+}
+
+/// Of `count` nets, marks on the outputs of cells without a rank: those whose cone holds a cycle of cells.
+pub fn unranked_marks(
+    alloc: Global,
+    count: usize,
+    cells: &[Logic],
+    ranks: &[Option<usize>],
+) -> Result<Vec<bool>, AllocError>
+    requires cells { AllByRecursion (CellWithin count) cells.now }
+    requires ranks { ranks.now ≡ ranks_of cells.now }
     ensures { IfOk result (λ marks. AreMarksOf marks.items count (is_unranked cells.now)) }
 {
     let drivers = driving_cells(alloc, count, cells)?;
-    let ranks = ranks(alloc, cells, &drivers)?;
-    unranked(alloc, &drivers, &ranks)
+    unranked(alloc, &drivers, ranks)
 }
 
 /// Marks on the nets that are driven by cells without a rank.

@@ -7,6 +7,7 @@
 //!
 //! - `id`: the numbers of nets, logic cells, registers and gating cells.
 //! - `fault`: why a part is not taken.
+//! - `key`: names as the keys of a table.
 //! - `names`: the names of nets in their order.
 //! - `net_set`: nets that are taken once.
 //! - `parts`: logic cells, gating cells and registers as a netlist keeps them.
@@ -29,6 +30,7 @@ pub mod driver;
 pub mod fault;
 pub mod history;
 pub mod id;
+mod key;
 mod levels;
 pub mod names;
 pub mod net_set;

@@ -8,6 +8,7 @@ ghost use Rattle.cg_netlist.specs.NamePlaces.{AreOrdered};
 ghost use Rattle.cg_netlist.specs.Wiring.{net_name};
 
 use crate::id::NetId;
+use crate::key::{Key, Sought};
 use indexmap::IndexSet;
 use std::alloc::{AllocError, Global};
 use std::marker::Model;
@@ -18,16 +19,15 @@ use std::marker::Model;
 /// Clauses see the list of names.
 #[derive(Drop)]
 pub struct NetNames {
-    set: IndexSet<Vec<u8>>,
+    set: IndexSet<Key>,
 }
 
 impl Model for NetNames {
     ghost use Rattle.std.specs.Prelude.{List, ℕ};
-    ghost use Rattle.cg_netlist.specs.Names.{bytes_of};
 
     ghost Value = { List (List ℕ) };
 
-    ghost view = { λ n. bytes_of n.set.keys };
+    ghost view = { λ n. n.set.keys };
 }
 
 impl NetNames {
@@ -53,14 +53,14 @@ impl NetNames {
         requires { number < length self.now }
         ensures { slice_get self.now number ≡ Some result.now }
     {
-        &self.set[number]
+        self.set[number].bytes()
     }
 
     /// The number of a name, or `None` where it is none of these.
     pub fn find(&self, name: &[u8]) -> Option<usize>
         ensures { MatchOption result (is_known self.now name.now ≡ false) (λ i. slice_get self.now i ≡ Some name.now) }
     {
-        self.set.get_index_of(name)
+        self.set.get_index_of(Sought { name })
     }
 
     /// The number of a name, which goes behind the others where it is none of them yet.
@@ -69,12 +69,12 @@ impl NetNames {
         ensures number { IfOk result (λ i. slice_get self.new i ≡ Some name.now) }
         ensures err { OnErr result (self.new ≡ self.old) }
     {
-        if let Some(number) = self.set.get_index_of(name) {
+        if let Some(number) = self.set.get_index_of(Sought { name }) {
             return Ok(number);
         }
         let number = self.set.len();
-        let owned = Vec::from_slice(alloc, name)?;
-        self.set.insert(owned)?;
+        let key = Key::new(alloc, name)?;
+        self.set.insert(key)?;
         Ok(number)
     }
 }

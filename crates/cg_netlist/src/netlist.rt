@@ -9,12 +9,14 @@ ghost use Rattle.cg_netlist.specs.Moment.{function_value};
 ghost use Rattle.cg_netlist.specs.Names.{is_known};
 ghost use Rattle.cg_netlist.specs.Netlist.{IsNetlist, widest_of};
 ghost use Rattle.cg_netlist.specs.Nets.{walk_order};
+ghost use Rattle.cg_netlist.specs.Ranks.{ranks_of};
 ghost use Rattle.cg_netlist.specs.Walk.{IsCellCall};
 ghost use Rattle.cg_netlist.specs.View.{cell_seen, gater_seen, register_seen};
 
+use crate::cycles::cell_ranks;
 use crate::driver::{Driver, drivers};
 use crate::id::{CellId, GateClockId, NetId, RegId};
-use crate::levels::{places, walk_order};
+use crate::levels::{places, walk_by_ranks};
 use crate::parts::{Gater, Logic, Parts};
 use crate::view::{CellView, GaterView, RegView};
 use std::alloc::{AllocError, Global};
@@ -57,9 +59,23 @@ impl Netlist {
         requires { IsNetlist parts }
         ensures { IfOk result (λ netlist. netlist ≡ parts) }
     {
+        let ranks = cell_ranks(alloc, parts.names.len(), &parts.cells)?;
+        Netlist::with_ranks(alloc, parts, &ranks)
+    }
+
+    /// The same, for whoever knows the ranks of the logic cells.
+    pub fn with_ranks(
+        alloc: Global,
+        parts: Parts,
+        ranks: &[Option<usize>],
+    ) -> Result<Netlist, AllocError>
+        requires netlist { IsNetlist parts }
+        requires ranks { ranks.now ≡ ranks_of parts.cells }
+        ensures { IfOk result (λ netlist. netlist ≡ parts) }
+    {
         let data_inputs = inputs_without(alloc, &parts.inputs, &parts.clock)?;
         let widest = widest(&parts.cells);
-        let order = walk_order(alloc, parts.names.len(), &parts.cells)?;
+        let order = walk_by_ranks(alloc, &parts.cells, ranks)?;
         let places = places(alloc, parts.cells.len(), &order)?;
         let drivers = drivers(alloc, &parts)?;
         Ok(Netlist {

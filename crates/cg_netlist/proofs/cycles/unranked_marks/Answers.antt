@@ -7,18 +7,15 @@ use Rattle.cg_netlist.proofs.ByRank.{if_ok}
 use Rattle.cg_netlist.proofs.Unranked.{is_graph_of, ranked_under, unranked_table}
 use Rattle.cg_netlist.proofs.cycles.unranked_marks.Goals as goal
 
-pub ranks-requires-clause-graph : goal.ranks-requires-clause-graph
-ranks-requires-clause-graph c = is_graph_of c.args.count c.deref.result.now c.args.cells.now c.requires (ap length c.deref.ensures.value ∙ c.in_ok-drivers.ensures.fits) (λ net lt. ap (λ ds. entry ds net) c.deref.ensures.value ∙ c.in_ok-drivers.ensures.tells net lt)
-
 pub unranked-requires : goal.unranked-requires
 unranked-requires c =
-    let graph = is_graph_of c.args.count c.deref-2.result.now c.args.cells.now c.requires (ap length c.deref-2.ensures.value ∙ c.in_ok-drivers.ensures.fits) (λ net lt. ap (λ ds. entry ds net) c.deref-2.ensures.value ∙ c.in_ok-drivers.ensures.tells net lt) in
-    ranked_under c.deref-2.result.now c.deref-3.result.now c.args.cells.now graph (c.deref-3.ensures.value ∙ c.in_ok-ranks.ensures)
+    let graph = is_graph_of c.args.count c.deref.result.now c.args.cells.now c.requires.cells (ap length c.deref.ensures.value ∙ c.in_ok-drivers.ensures.fits) (λ net lt. ap (λ ds. entry ds net) c.deref.ensures.value ∙ c.in_ok-drivers.ensures.tells net lt) in
+    ranked_under c.deref.result.now c.args.ranks.now c.args.cells.now graph c.requires.ranks
 
 pub returns : goal.returns
 returns c =
-    let fits = ap length c.deref-2.ensures.value ∙ c.in_ok-drivers.ensures.fits in
-    let tells : (net : ℕ) → net < c.args.count → entry c.deref-2.result.now net ≡ driving_cell c.args.cells.now net = λ net lt. ap (λ ds. entry ds net) c.deref-2.ensures.value ∙ c.in_ok-drivers.ensures.tells net lt in
-    let graph = is_graph_of c.args.count c.deref-2.result.now c.args.cells.now c.requires fits tells in
-    if_ok (λ marks. AreMarksOf marks.items (length c.deref-2.result.now) (λ net. option_map_or (λ k. is_none (entry c.deref-3.result.now k)) (entry c.deref-2.result.now net) false)) (λ marks. AreMarksOf marks.items c.args.count (is_unranked c.args.cells.now)) c.unranked.result
-    (λ marks table. unranked_table c.args.count marks.items c.deref-2.result.now c.deref-3.result.now c.args.cells.now graph fits tells (c.deref-3.ensures.value ∙ c.in_ok-ranks.ensures) table) c.unranked.ensures
+    let fits = ap length c.deref.ensures.value ∙ c.in_ok-drivers.ensures.fits in
+    let tells : (net : ℕ) → net < c.args.count → entry c.deref.result.now net ≡ driving_cell c.args.cells.now net = λ net lt. ap (λ ds. entry ds net) c.deref.ensures.value ∙ c.in_ok-drivers.ensures.tells net lt in
+    let graph = is_graph_of c.args.count c.deref.result.now c.args.cells.now c.requires.cells fits tells in
+    if_ok (λ marks. AreMarksOf marks.items (length c.deref.result.now) (λ net. option_map_or (λ k. is_none (entry c.args.ranks.now k)) (entry c.deref.result.now net) false)) (λ marks. AreMarksOf marks.items c.args.count (is_unranked c.args.cells.now)) c.unranked.result
+    (λ marks table. unranked_table c.args.count marks.items c.deref.result.now c.args.ranks.now c.args.cells.now graph fits tells c.requires.ranks table) c.unranked.ensures

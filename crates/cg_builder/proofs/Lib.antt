@@ -14,6 +14,7 @@ pub mod Mentions
 pub mod Numbering
 pub mod NumbersMade
 pub mod OrderPlaces
+pub mod RanksKept
 pub mod RanksTell
 pub mod ReadyNumbers
 pub mod Telling

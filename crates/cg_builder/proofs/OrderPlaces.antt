@@ -17,7 +17,7 @@ use Rattle.cg_netlist.proofs.RankingLemmas.{in_alone, take_next}
 abbrev pub place_so_far : List ℕ → ℕ → ℕ → ℕ
 place_so_far order i net = if is_in (take i order) net then position_or_len (nat_eq net) order else length order
 
-absent : (order : List ℕ) (net : ℕ) → is_in order net ≡ false → position_or_len (nat_eq net) order ≡ length order
+pub absent : (order : List ℕ) (net : ℕ) → is_in order net ≡ false → position_or_len (nat_eq net) order ≡ length order
 absent [] net none = refl
 absent (x ∷ order) net none =
     let both = or_parts (nat_eq net x) (is_in order net) none in

@@ -5,6 +5,7 @@ ghost use Rattle.std.specs.List.{All};
 ghost use Rattle.cg_cell.specs.Name.{is_name};
 ghost use Rattle.cg_netlist.specs.Circuit.{is_in};
 ghost use Rattle.cg_netlist.specs.Marks.{AreMarksOf, IsFirst};
+ghost use Rattle.cg_netlist.specs.Ranks.{ranks_of};
 ghost use Rattle.cg_parts.specs.declared.fault.NetFault.TheVariants.{ClockFault, Cycle, NoDriver, NoMemory, TwoDrivers};
 ghost use Rattle.cg_builder.specs.inner.Finishing.{FindsFirstFault, has_no_clock};
 ghost use Rattle.cg_builder.specs.inner.Heard.{IsHeard};
@@ -22,7 +23,7 @@ use crate::marks::{
 use crate::order::in_net_order;
 use crate::told::{Told, chain_cells, clock_roots, gated_marks, order, uses};
 use cg_cell::name::Name;
-use cg_netlist::cycles::unranked_marks;
+use cg_netlist::cycles::{cell_ranks, unranked_marks};
 use cg_netlist::id::NetId;
 use cg_netlist::netlist::Netlist;
 use cg_parts::fault::NetFault;
@@ -34,16 +35,18 @@ pub(crate) fn finished(alloc: Global, model: Name, told: Told) -> Result<Netlist
     ensures { (parts : List Part) → said parts ≡ seen told
         → MatchResult result (λ netlist. Says model parts netlist) (λ fault. (fault ≡ NoMemory) ⊎ IsFault parts fault) }
 {
-    check(alloc, &told)?;
+    let ranks = cell_ranks(alloc, told.names.len(), &told.cells)?;
+    check(alloc, &told, &ranks)?;
     let parts = in_net_order(alloc, model, told)?;
-    let netlist = Netlist::new(alloc, parts)?;
+    let netlist = Netlist::with_ranks(alloc, parts, &ranks)?;
     Ok(netlist)
 }
 
 /// Looks for the faults of the parts, in their order.
-fn check(alloc: Global, told: &Told) -> Result<(), NetFault>
+fn check(alloc: Global, told: &Told, ranks: &[Option<usize>]) -> Result<(), NetFault>
     requires numbers { AreNumbers told.now }
     requires named { All (λ name. IsTrue (is_name name)) told.now.names }
+    requires ranks { ranks.now ≡ ranks_of told.now.cells }
     ensures { (parts : List Part) → said parts ≡ seen told.now
         → MatchResult result (λ _. IsFaultless parts) (λ fault. (fault ≡ NoMemory) ⊎ IsFault parts fault) }
 {
@@ -51,7 +54,7 @@ fn check(alloc: Global, told: &Told) -> Result<(), NetFault>
     check_drivers(alloc, told, &drivers)?;
     let used = used_marks(alloc, told)?;
     check_uses(alloc, told, &drivers, &used)?;
-    check_cycles(alloc, told)?;
+    check_cycles(alloc, told, ranks)?;
     let roots = clock_roots(alloc, told)?;
     check_clocks(alloc, told, &roots, &used)?;
     if lacks_clock(told, &roots) {
@@ -99,12 +102,13 @@ fn check_uses(alloc: Global, told: &Told, drivers: &[NetId], used: &[bool]) -> R
 }
 
 /// Looks for a net that is the output of a logic cell without a rank.
-fn check_cycles(alloc: Global, told: &Told) -> Result<(), NetFault>
+fn check_cycles(alloc: Global, told: &Told, ranks: &[Option<usize>]) -> Result<(), NetFault>
     requires numbers { AreNumbers told.now }
     requires named { All (λ name. IsTrue (is_name name)) told.now.names }
+    requires ranks { ranks.now ≡ ranks_of told.now.cells }
     ensures { FindsFirstFault told.now Cycle (is_behind_cycle told.now) result }
 {
-    let unranked = unranked_marks(alloc, told.names.len(), &told.cells)?;
+    let unranked = unranked_marks(alloc, told.names.len(), &told.cells, ranks)?;
     match first_marked(&unranked) {
         None => Ok(()),
         Some(net) => Err(NetFault::Cycle(name_of(alloc, told, net)?)),
@@ -156,7 +160,8 @@ fn bad_gate(alloc: Global, told: &Told, used: &[bool]) -> Result<Option<usize>, 
 {
     let gated = gated_marks(alloc, told)?;
     let chain = chain_cells(alloc, told)?;
-    let unreached = unranked_marks(alloc, told.names.len(), &chain)?;
+    let ranks = cell_ranks(alloc, told.names.len(), &chain)?;
+    let unreached = unranked_marks(alloc, told.names.len(), &chain, &ranks)?;
     Ok(first_bad_gate(&gated, used, &unreached))
 }
 

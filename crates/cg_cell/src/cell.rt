@@ -4,7 +4,6 @@ ghost use Rattle.std.specs.Prelude.{◌≡◌, IfOk, IfSome, IsTrue, count_by};
 ghost use Rattle.std.specs.Option.{option_copied, option_map};
 ghost use Rattle.cg_cell.specs.Expr.{is_over, term_of};
 ghost use Rattle.cg_cell.specs.Cell.{IsCell, has_test, variables_of};
-ghost use Rattle.cg_cell.specs.inner.CellParts.{held, seen};
 ghost use Rattle.cg_cell.specs.Pins.{is_clock, is_data, is_enable, is_output, is_state, is_test};
 
 use crate::expr::Expr;
@@ -153,25 +152,25 @@ impl Pin {
 /// Clock, one Enable, one Output and at most one Test; an Unusable cell has no pins. There are at most
 /// 16 pins, of different names without the byte `=`.
 ///
-/// A clone of a cell that a library has taken shares what the cell is made of.
+/// Clones of a cell share what it is made of.
 #[derive(Drop)]
 pub struct CellType {
-    parts: Holder,
+    parts: Rc<Parts>,
 }
 
 impl Model for CellType {
     ghost use Rattle.std.specs.Coded.{codes};
     ghost use Rattle.cg_cell.specs.Cell.{CellData, IsCell};
-    ghost use Rattle.cg_cell.specs.inner.CellParts.{held};
+    ghost use Rattle.cg_cell.specs.inner.CellParts.{seen};
     ghost use Rattle.cg_cell.specs.TermCode.{term_code};
 
     ghost Value = { CellData };
 
     ghost coded = { Prim.hlevel (codes, term_code) };
 
-    ghost view = { λ c. held c.parts };
+    ghost view = { λ c. seen c.parts.value };
 
-    ghost invariant = { λ c. IsCell (held c.parts) };
+    ghost invariant = { λ c. IsCell (seen c.parts.value) };
 }
 
 /// What a cell is made of.
@@ -183,103 +182,37 @@ struct Parts {
     function: Option<Expr>,
 }
 
-/// Where the parts of a cell are: with the cell alone, or with all clones of a cell of a library.
-#[derive(Drop)]
-enum Holder {
-    Own(Parts),
-    Shared(Rc<Parts>),
-}
-
-impl Holder {
-    /// The parts.
-    fn get(&self) -> &Parts
-        ensures { seen result.now ≡ held self.now }
-    {
-        match self {
-            Holder::Own(parts) => parts,
-            Holder::Shared(parts) => parts.as_ref(),
-        }
-    }
-
-    /// The same parts, held once more.
-    fn again(&self) -> Result<Holder, AllocError>
-        ensures { IfOk result (λ again. held again ≡ held self.now) }
-    {
-        match self {
-            Holder::Own(parts) => Ok(Holder::Own(parts.again()?)),
-            Holder::Shared(parts) => Ok(Holder::Shared(parts.clone()?)),
-        }
-    }
-
-    /// The parts, to be shared from now on.
-    fn shared(self, alloc: Global) -> Result<Holder, AllocError>
-        ensures { IfOk result (λ shared. held shared ≡ held self) }
-    {
-        match self {
-            Holder::Own(parts) => Ok(Holder::Shared(Rc::new(alloc, parts)?)),
-            shared => Ok(shared),
-        }
-    }
-}
-
-impl Parts {
-    /// A copy of the parts.
-    fn again(&self) -> Result<Parts, AllocError>
-        ensures { IfOk result (λ copy. seen copy ≡ seen self.now) }
-    {
-        let name = self.name.clone()?;
-        let pins = self.pins.clone()?;
-        let function = clone_function(&self.function)?;
-        Ok(Parts {
-            name,
-            kind: self.kind,
-            pins,
-            function,
-        })
-    }
-}
-
 impl Clone for CellType {
     ghost is_clone = { λ x y. y ≡ x };
 
     fn clone(&self) -> Result<CellType, AllocError> {
-        let parts = self.parts.again()?;
+        let parts = self.parts.clone()?;
         Ok(CellType { parts })
-    }
-}
-
-/// A clone of the function, where there is one.
-fn clone_function(function: &Option<Expr>) -> Result<Option<Expr>, AllocError>
-    ensures { IfOk result (λ copy. option_map term_of copy ≡ option_map term_of function.now) }
-{
-    match function {
-        None => Ok(None),
-        Some(function) => Ok(Some(function.clone()?)),
     }
 }
 
 impl CellType {
     /// A cell of these parts, which meet the conditions of its kind.
-    pub fn new(name: Name, kind: CellKind, pins: Vec<Pin>, function: Option<Expr>) -> CellType
+    pub fn new(
+        name: Name,
+        kind: CellKind,
+        pins: Vec<Pin>,
+        function: Option<Expr>,
+    ) -> Result<CellType, AllocError>
         requires { IsCell (record { name = name; kind = kind; pins = pins.items; function = option_map term_of function }) }
-        ensures { result ≡ record { name = name; kind = kind; pins = pins.items; function = option_map term_of function } }
+        ensures { IfOk result
+            (λ cell. cell ≡ record { name = name; kind = kind; pins = pins.items; function = option_map term_of function }) }
     {
-        CellType {
-            parts: Holder::Own(Parts {
-                name,
-                kind,
-                pins,
-                function,
-            }),
-        }
-    }
-
-    /// The same cell. From now on its clones share what it is made of.
-    pub(crate) fn shared(self, alloc: Global) -> Result<CellType, AllocError>
-        ensures { IfOk result (λ cell. cell ≡ self) }
-    {
-        let parts = self.parts.shared(alloc)?;
-        Ok(CellType { parts })
+        let alloc = *pins.allocator();
+        let parts = Parts {
+            name,
+            kind,
+            pins,
+            function,
+        };
+        Ok(CellType {
+            parts: Rc::new(alloc, parts)?,
+        })
     }
 
     /// The name of the cell.
@@ -287,14 +220,14 @@ impl CellType {
         ensures name { result.now ≡ self.now.name }
         ensures cell { IsCell self.now }
     {
-        &self.parts.get().name
+        &self.parts.name
     }
 
     /// What the cell is used as.
     pub fn kind(&self) -> CellKind
         ensures { result ≡ self.now.kind }
     {
-        self.parts.get().kind
+        self.parts.kind
     }
 
     /// The pins in the order of the library's text.
@@ -302,14 +235,14 @@ impl CellType {
         ensures pins { result.now ≡ self.now.pins }
         ensures cell { IsCell self.now }
     {
-        &self.parts.get().pins
+        &self.parts.pins
     }
 
     /// Whether the cell has a test input.
     pub fn has_test(&self) -> bool
         ensures { result ≡ has_test self.now }
     {
-        self.parts.get().pins.iter().any(|pin| pin.is_test())
+        self.parts.pins.iter().any(|pin| pin.is_test())
     }
 
     /// The number of Data pins: the inputs of the function.
@@ -317,7 +250,6 @@ impl CellType {
         ensures { result ≡ count_by is_data self.now.pins }
     {
         self.parts
-            .get()
             .pins
             .iter()
             .filter(|pin| pin.is_data())
@@ -331,6 +263,6 @@ impl CellType {
         ensures over { IfSome result (λ function. IsTrue (is_over (variables_of self.now) function.now)) }
         ensures cell { IsCell self.now }
     {
-        self.parts.get().function.as_ref()
+        self.parts.function.as_ref()
     }
 }

@@ -214,7 +214,7 @@ fn note(first: Option<LibId>, id: LibId, fits: bool) -> Option<LibId>
     }
 }
 
-/// Puts a cell under its name, where no cell stands. From then on its clones share what it is made of.
+/// Puts a cell under its name, where no cell stands.
 fn push(cells: &mut IndexMap<Vec<u8>, CellType>, cell: CellType) -> Result<(), AllocError>
     requires named { AreNamed (λ k. k.items) cells.old.entries }
     requires absent { find_cell cell.name (values cells.old) ≡ None }
@@ -224,7 +224,6 @@ fn push(cells: &mut IndexMap<Vec<u8>, CellType>, cell: CellType) -> Result<(), A
 {
     let alloc = *cells.allocator();
     let key = Vec::from_slice(alloc, cell.name().bytes())?;
-    let cell = cell.shared(alloc)?;
     cells.insert(key, cell)?;
     Ok(())
 }

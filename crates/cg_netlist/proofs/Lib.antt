@@ -26,6 +26,7 @@ pub mod RankLemmas
 pub mod RankingLemmas
 pub mod RegisterKept
 pub mod RegisterNext
+pub mod RenumberedRanks
 pub mod Rising
 pub mod RisingNumbers
 pub mod RisingPlaces

@@ -249,11 +249,7 @@ impl CellType {
     pub fn inputs(&self) -> usize
         ensures { result ≡ count_by is_data self.now.pins }
     {
-        self.parts
-            .pins
-            .iter()
-            .filter(|pin| pin.is_data())
-            .count()
+        self.parts.pins.iter().filter(|pin| pin.is_data()).count()
     }
 
     /// The function of a Logic cell over its Data pins in pin order, that of a Flop over its Data pins

@@ -10,7 +10,7 @@ use Rattle.cg_netlist.specs.Wiring.{map_cell}
 
 module _ (f : ℕ → ℕ) where
   -- a net is told from the outputs of the cells by its other number as it is by its own
-  pub TellsApart : List (LogicCell ℕ) → Type 0
+  abbrev pub TellsApart : List (LogicCell ℕ) → Type 0
   TellsApart cells = (net : ℕ) → AllByRecursion (λ cell. (f cell.output == f net) ≡ (cell.output == net)) cells
 
   same_first : (cells : List (LogicCell ℕ)) (a net : ℕ) → AllByRecursion (λ cell. (f cell.output == f net) ≡ (cell.output == net)) cells → position_from (λ (cell : LogicCell ℕ). cell.output == f net) a (map (map_cell f) cells) ≡ position_from (λ (cell : LogicCell ℕ). cell.output == net) a cells

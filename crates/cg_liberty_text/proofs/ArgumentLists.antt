@@ -1,11 +1,20 @@
 -- The arguments of the grammar are those that are read.
-use Rattle.std.proofs.Common.{◌≡◌, ℕ, Bool, true, false, List, [], ◌∷◌, ◌++◌, Ok, refl, sym, ap, ◌∙◌, subst, append_assoc}
+use Rattle.std.proofs.Common.{◌≡◌, ℕ, Bool, true, false, List, [], ◌∷◌, ◌++◌, Result, Ok, Err, refl, sym, ap, ◌∙◌, subst}
+use Rattle.std.proofs.Common.{append_assoc}
 use Rattle.std.proofs.lemmas.Bool.{false≢true}
-use Rattle.cg_liberty_text.specs.Argument.{argument_texts, behind_arguments, is_close_paren, is_comma, is_text}
+use Rattle.cg_liberty_text.specs.Argument.{argument_texts, behind_arguments, is_close_paren, is_comma, is_text, unexpected}
 use Rattle.cg_liberty_text.specs.Grammar.{AreArguments, AreFurther, IsGap}
+use Rattle.cg_liberty_text.specs.declared.fault.TextFault.{TextFault}
+use Rattle.cg_liberty_text.specs.declared.fault.TextFault.TheVariants.{BadGroup}
 use Rattle.cg_liberty_text.specs.declared.lexeme.Kind.{Kind}
 use Rattle.cg_liberty_text.specs.declared.lexeme.Kind.TheVariants as kinds
 use Rattle.cg_liberty_text.specs.declared.token.Token.{Token}
+
+pub refused : {A : Type 0} (fault : TextFault) (left : List Token) → ◌≡◌ {A = Result (List Token) TextFault} (Err fault) (Ok left) → A
+refused fault left h = absurd (cc)
+
+pub same_rest : (xs ys : List Token) → ◌≡◌ {A = Result (List Token) TextFault} (Ok xs) (Ok ys) → xs ≡ ys
+same_rest xs ys h = cc
 
 -- a token by its parts
 abbrev pub token_of : Kind → ℕ → List ℕ → Bool → Token
@@ -139,17 +148,16 @@ from_text end left kinds.Word at text fresh after later h = as_further (token_of
 from_text end left kinds.Quoted at text fresh after later h = as_further (token_of kinds.Quoted at text fresh ∷ after) left (cons_text (token_of kinds.Quoted at text fresh) after left refl (later.0 (sym (string_alike end after) ∙ h)))
 from_text end left kinds.Comma at text fresh after later h = cons_comma (token_of kinds.Comma at text fresh) after left refl (later.1 h)
 from_text end left kinds.CloseParen at text fresh after later h =
-    let same : after ≡ left = cc in
-    record { arguments = []; closing = token_of kinds.CloseParen at text fresh; split = ap (λ (ts : List Token). token_of kinds.CloseParen at text fresh ∷ ts) same; closes = refl; are = refl }
-from_text end left _ at text fresh after later h = absurd (cc)
+    record { arguments = []; closing = token_of kinds.CloseParen at text fresh; split = ap (λ (ts : List Token). token_of kinds.CloseParen at text fresh ∷ ts) (same_rest after left h); closes = refl; are = refl }
+from_text end left kind at text fresh after later h = refused (unexpected (token_of kind at text fresh)) left h
 
 from_comma : (end : ℕ) (left : List Token) (kind : Kind) (at : ℕ) (text : List ℕ) (fresh : Bool) (after : List Token) → GoOn end left after → behind_arguments end kinds.Comma (token_of kind at text fresh ∷ after) ≡ Ok left → UpTo AreSome (token_of kind at text fresh ∷ after) left
 from_comma end left kinds.Word at text fresh after later h = cons_text (token_of kinds.Word at text fresh) after left refl (later.0 h)
 from_comma end left kinds.Quoted at text fresh after later h = cons_text (token_of kinds.Quoted at text fresh) after left refl (later.0 (sym (string_alike end after) ∙ h))
-from_comma end left _ at text fresh after later h = absurd (cc)
+from_comma end left kind at text fresh after later h = refused (unexpected (token_of kind at text fresh)) left h
 
 go_on : (end : ℕ) (left tokens : List Token) → GoOn end left tokens
-go_on end left [] = (λ h. absurd (cc), λ h. absurd (cc))
+go_on end left [] = (refused (BadGroup end) left, refused (BadGroup end) left)
 go_on end left (token ∷ after) =
     (λ h. from_text end left token.kind token.at token.text token.fresh after (go_on end left after) h, λ h. from_comma end left token.kind token.at token.text token.fresh after (go_on end left after) h)
 
@@ -157,11 +165,10 @@ from_open : (end : ℕ) (left : List Token) (kind : Kind) (at : ℕ) (text : Lis
 from_open end left kinds.Word at text fresh after h = as_arguments (token_of kinds.Word at text fresh ∷ after) left (cons_text (token_of kinds.Word at text fresh) after left refl ((go_on end left after).0 h))
 from_open end left kinds.Quoted at text fresh after h = as_arguments (token_of kinds.Quoted at text fresh ∷ after) left (cons_text (token_of kinds.Quoted at text fresh) after left refl ((go_on end left after).0 (sym (string_alike end after) ∙ h)))
 from_open end left kinds.CloseParen at text fresh after h =
-    let same : after ≡ left = cc in
-    record { arguments = []; closing = token_of kinds.CloseParen at text fresh; split = ap (λ (ts : List Token). token_of kinds.CloseParen at text fresh ∷ ts) same; closes = refl; are = refl }
-from_open end left _ at text fresh after h = absurd (cc)
+    record { arguments = []; closing = token_of kinds.CloseParen at text fresh; split = ap (λ (ts : List Token). token_of kinds.CloseParen at text fresh ∷ ts) (same_rest after left h); closes = refl; are = refl }
+from_open end left kind at text fresh after h = refused (unexpected (token_of kind at text fresh)) left h
 
 -- what is passed as arguments are arguments
 pub arguments_of : (end : ℕ) (left tokens : List Token) → behind_arguments end kinds.OpenParen tokens ≡ Ok left → UpTo AreArguments tokens left
-arguments_of end left [] h = absurd (cc)
+arguments_of end left [] h = refused (BadGroup end) left h
 arguments_of end left (token ∷ after) h = from_open end left token.kind token.at token.text token.fresh after h

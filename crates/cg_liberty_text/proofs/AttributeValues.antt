@@ -3,14 +3,14 @@ use Rattle.std.proofs.Common.{◌≡◌, ℕ, Bool, true, false, cond, not, ◌&
 use Rattle.std.proofs.Common.{refl, ap, inl, inr, ◌⊎◌}
 use Rattle.std.specs.List.{AllByRecursion}
 use Rattle.std.proofs.lemmas.Bool.{false≢true}
-use Rattle.cg_liberty_text.specs.Argument.{behind_value, ends_value, is_close_brace, is_in_value, is_semicolon, is_text}
+use Rattle.cg_liberty_text.specs.Argument.{behind_value, ends_value, is_close_brace, is_in_value, is_semicolon, is_text, unexpected}
 use Rattle.cg_liberty_text.specs.Argument.{is_value_over, value_text}
 use Rattle.cg_liberty_text.specs.Grammar.{EndsValue, IsOfValue, lone_text}
 use Rattle.cg_liberty_text.specs.declared.fault.TextFault.{TextFault}
 use Rattle.cg_liberty_text.specs.declared.lexeme.Kind.{Kind}
 use Rattle.cg_liberty_text.specs.declared.lexeme.Kind.TheVariants as kinds
 use Rattle.cg_liberty_text.specs.declared.token.Token.{Token}
-use Rattle.cg_liberty_text.proofs.ArgumentLists.{token_of}
+use Rattle.cg_liberty_text.proofs.ArgumentLists.{refused, same_rest, token_of}
 
 no_end_kind : (kind : Kind) → is_in_value kind ≡ true → (is_semicolon kind || is_close_brace kind) ≡ false
 no_end_kind kinds.Semicolon is = absurd (false≢true is)
@@ -83,9 +83,6 @@ one_more token next after later is found = record {
   ends = found.ends;
 }
 
-same_rest : (xs ys : List Token) → ◌≡◌ {A = Result (List Token) TextFault} (Ok xs) (Ok ys) → xs ≡ ys
-same_rest xs ys h = cc
-
 from_value : (kind : Kind) (at : ℕ) (text : List ℕ) (fresh : Bool) (after : List Token) (next : Token) (later : List Token) → (behind_value after ≡ Ok (next ∷ later) → ValueUpTo after (next ∷ later)) → behind_value (token_of kind at text fresh ∷ after) ≡ Ok (next ∷ later) → ValueUpTo (token_of kind at text fresh ∷ after) (next ∷ later)
 from_value kind at text true after next later found h = at_line (token_of kind at text true) next after later (same_rest (token_of kind at text true ∷ after) (next ∷ later) h) (inl refl)
 from_value kinds.CloseBrace at text false after next later found h = at_line (token_of kinds.CloseBrace at text false) next after later (same_rest (token_of kinds.CloseBrace at text false ∷ after) (next ∷ later) h) (inr refl)
@@ -102,8 +99,8 @@ from_value kinds.OpenParen at text false after next later found h = one_more (to
 from_value kinds.CloseParen at text false after next later found h = one_more (token_of kinds.CloseParen at text false) next after later (refl, refl) (found h)
 from_value kinds.Comma at text false after next later found h = one_more (token_of kinds.Comma at text false) next after later (refl, refl) (found h)
 from_value kinds.Colon at text false after next later found h = one_more (token_of kinds.Colon at text false) next after later (refl, refl) (found h)
-from_value kinds.OpenBrace at text false after next later found h = absurd (cc)
-from_value kinds.Bad at text false after next later found h = absurd (cc)
+from_value kinds.OpenBrace at text false after next later found h = refused (unexpected (token_of kinds.OpenBrace at text false)) (next ∷ later) h
+from_value kinds.Bad at text false after next later found h = refused (unexpected (token_of kinds.Bad at text false)) (next ∷ later) h
 
 -- what is passed as a value is one, where something stands behind it
 pub value_of : (tokens : List Token) (next : Token) (later : List Token) → behind_value tokens ≡ Ok (next ∷ later) → ValueUpTo tokens (next ∷ later)

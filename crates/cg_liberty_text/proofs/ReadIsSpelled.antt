@@ -2,9 +2,9 @@
 use Rattle.std.proofs.Common.{◌≡◌, ◌≢◌, ◌≤◌, ◌+◌, ◌-◌, ◌==◌, ℕ, zero, suc, Bool, true, false, cond, List, [], ◌∷◌, ◌++◌, length}
 use Rattle.std.proofs.Common.{None, Result, Ok, Err, refl, sym, ap, ◌∙◌, subst, inl, inr, append_assoc, length-append, ne_eqb}
 use Rattle.std.proofs.Common.{arith}
-use Rattle.std.proofs.lemmas.Bool.{eqb-false}
+use Rattle.std.proofs.lemmas.Bool.{eqb-false, false≢true}
 use Rattle.cg_limit.specs.declared.TheConstants.{MOST_NESTING}
-use Rattle.cg_liberty_text.specs.Argument.{argument_texts, behind_arguments, behind_value}
+use Rattle.cg_liberty_text.specs.Argument.{argument_texts, behind_arguments, behind_value, is_open_brace, unexpected}
 use Rattle.cg_liberty_text.specs.Grammar.{EachBefore, IsGroup, IsHead, IsPlain, Piece, Spells, SpellsAll, lone_text, statements_of}
 use Rattle.cg_liberty_text.specs.Grammar.{tokens_of}
 use Rattle.cg_liberty_text.specs.Statement.{Read, faulty, put_statement, statements}
@@ -30,6 +30,38 @@ faulted fault h = absurd (cc)
 
 pub fine_by : (r s : Read) → r ≡ s → Fine r → Fine s
 fine_by r s same h = subst Fine same h
+
+no_brace : (kind : Kind) → is_open_brace kind ≡ false → kind ≢ kinds.OpenBrace
+no_brace kind is = λ same. false≢true (sym is ∙ ap is_open_brace same)
+
+-- Lengths and depths, where nothing else is known
+
+behind_one : (token : Token) (after : List Token) (n : ℕ) → length (token ∷ after) ≤ n → length after ≤ n
+behind_one token after n long = omega arith
+
+behind_first : (token : Token) (after : List Token) (n : ℕ) → length (token ∷ after) ≤ suc n → length after ≤ n
+behind_first token after n long = omega arith
+
+too_long : {A : Type 0} (token : Token) (after : List Token) → length (token ∷ after) ≤ zero → A
+too_long token after long = absurd (omega arith)
+
+length_behind : (whole front later : List Token) (n : ℕ) → whole ≡ front ++ later → length whole ≤ n → length later ≤ n
+length_behind whole front later n split long = let a = length-append front later in let c = ap length split in omega arith
+
+no_room : (depth : ℕ) → depth + zero ≡ MOST_NESTING → depth ≡ MOST_NESTING
+no_room depth is = omega arith
+
+one_deeper : (depth room : ℕ) → depth + suc room ≡ MOST_NESTING → depth + 1 + room ≡ MOST_NESTING
+one_deeper depth room is = omega arith
+
+within : (depth : ℕ) → 1 ≤ depth + 1
+within depth = omega arith
+
+back_out : (depth : ℕ) → depth + 1 - 1 ≡ depth
+back_out depth = omega arith
+
+not_outermost : (depth : ℕ) → 1 ≤ depth → (depth + 1 == 1) ≡ false
+not_outermost depth inside = ne_eqb (depth + 1) 1 (λ same. omega arith)
 
 -- tokens that are statements in a row up to a `}`, and what is read behind it
 pub record Closed (end room depth : ℕ) (tokens : List Token) : Type 0 where
@@ -75,7 +107,7 @@ at_value_end end n room depth law word colon after (Ok (next ∷ later)) long is
     let found : ValueUpTo after (next ∷ later) = value_of after next later passes in
     let piece : Piece = record { tokens = word ∷ colon ∷ found.value ++ found.end; statements = Attribute word.text (lone_text found.value) ∷ [] } in
     let spelled : Spells room piece (next ∷ later) = plain_spelled room piece (next ∷ later) (inr (inl (record { word = word; colon = colon; value = found.value; end = found.end; named = named; marks = marks; inside = found.inside; ends = found.ends; is = refl; stands = refl }))) in
-    let short : length (next ∷ later) ≤ n = let a = length-append (found.value ++ found.end) (next ∷ later) in let c = ap length found.split in omega arith in
+    let short : length (next ∷ later) ≤ n = length_behind after (found.value ++ found.end) (next ∷ later) n found.split long in
     one_more end room depth piece (word ∷ colon ∷ after) (next ∷ later) (ap (λ (ts : List Token). word ∷ colon ∷ ts) found.split) spelled (law room depth (next ∷ later) short is inside h)
 
 at_colon : (end n room depth : ℕ) → UpToLength end n → (word colon : Token) (after : List Token) → length after ≤ n → depth + room ≡ MOST_NESTING → 1 ≤ depth → word.kind ≡ kinds.Word → colon.kind ≡ kinds.Colon → Fine (statements end depth (Named word) (colon ∷ after)) → Closed end room depth (word ∷ colon ∷ after)
@@ -107,21 +139,17 @@ brace_tested end depth word texts brace after is h =
 
 closed_inside : (end room depth : ℕ) (tokens : List Token) → 1 ≤ depth → (inner : Closed end room (depth + 1) tokens) → Fine (statements end depth Start inner.rest)
 closed_inside end room depth tokens inside inner =
-    let back : depth + 1 - 1 ≡ depth = omega arith in
-    let more : (depth + 1 == 1) ≡ false = ne_eqb (depth + 1) 1 (λ same. omega arith) in
-    fine_by _ _ (ap (λ (d : ℕ). statements end d (cond (depth + 1 == 1) Done Start) inner.rest) back ∙ ap (λ (b : Bool). statements end depth (cond b Done Start) inner.rest) more) inner.fine
+    fine_by _ _ (ap (λ (d : ℕ). statements end d (cond (depth + 1 == 1) Done Start) inner.rest) (back_out depth) ∙ ap (λ (b : Bool). statements end depth (cond b Done Start) inner.rest) (not_outermost depth inside)) inner.fine
 
 group_piece : Token → List (List ℕ) → List Token → Token → List Piece → Token → Piece
 group_piece word texts front brace pieces last = record { tokens = front ++ (brace ∷ tokens_of pieces ++ last ∷ []); statements = Open word.text texts ∷ statements_of pieces ++ Close ∷ [] }
 
 at_brace : (end n room depth : ℕ) → UpToLength end n → (word : Token) (texts : List (List ℕ)) (front : List Token) (brace : Token) (after : List Token) → IsHead word texts front → length after ≤ n → depth + room ≡ MOST_NESTING → 1 ≤ depth → brace.kind ≡ kinds.OpenBrace → Opened depth word texts (statements end (depth + 1) Start after) → Closed end room depth (front ++ brace ∷ after)
 unfolding group_piece
-at_brace end n zero depth law word texts front brace after head long is inside opens tested = absurd (eqb-false depth MOST_NESTING tested.shallow (omega arith))
+at_brace end n zero depth law word texts front brace after head long is inside opens tested = absurd (eqb-false depth MOST_NESTING tested.shallow (no_room depth is))
 at_brace end n (suc room) depth law word texts front brace after head long is inside opens tested =
-    let level : depth + 1 + room ≡ MOST_NESTING = omega arith in
-    let deep : 1 ≤ depth + 1 = omega arith in
-    let inner : Closed end room (depth + 1) after = law room (depth + 1) after long level deep tested.fine in
-    let short : length inner.rest ≤ n = let a = length-append (tokens_of inner.pieces) (inner.last ∷ inner.rest) in let b = ap length inner.split in omega arith in
+    let inner : Closed end room (depth + 1) after = law room (depth + 1) after long (one_deeper depth room is) (within depth) tested.fine in
+    let short : length inner.rest ≤ n = behind_one inner.last inner.rest n (length_behind after (tokens_of inner.pieces) (inner.last ∷ inner.rest) n inner.split long) in
     let later : Closed end (suc room) depth inner.rest = law (suc room) depth inner.rest short is inside (closed_inside end room depth after inside inner) in
     let piece : Piece = group_piece word texts front brace inner.pieces inner.last in
     let spelled : Spells (suc room) piece inner.rest = group_spelled room piece inner.rest (record { word = word; texts = texts; front = front; brace = brace; pieces = inner.pieces; last = inner.last; head = head; place = place_of (suc room) depth word texts is tested.placed; opens = opens; inside = inner.row; closes = inner.closes; is = refl; stands = refl }) in
@@ -135,10 +163,10 @@ at_brace end n (suc room) depth law word texts front brace after head long is in
 at_next : (end n room depth : ℕ) → UpToLength end n → (word : Token) (texts : List (List ℕ)) (front : List Token) (kind : Kind) (at : ℕ) (text : List ℕ) (fresh : Bool) (later : List Token) → IsHead word texts front → length (token_of kind at text fresh ∷ later) ≤ n → depth + room ≡ MOST_NESTING → 1 ≤ depth → Fine (statements end depth (Listed word texts) (token_of kind at text fresh ∷ later)) → Closed end room depth (front ++ token_of kind at text fresh ∷ later)
 at_next end n room depth law word texts front kinds.OpenBrace at text fresh later head long is inside h =
     let brace : Token = token_of kinds.OpenBrace at text fresh in
-    let short : length later ≤ n = omega arith in
+    let short : length later ≤ n = behind_one brace later n long in
     at_brace end n room depth law word texts front brace later head short is inside refl (brace_tested end depth word texts brace later refl h)
 at_next end n room depth law word texts front kind at text fresh later head long is inside h =
-    at_complex end n room depth law word texts front (token_of kind at text fresh) later head long is inside (λ same. cc) h
+    at_complex end n room depth law word texts front (token_of kind at text fresh) later head long is inside (no_brace kind refl) h
 
 at_listed : (end n room depth : ℕ) → UpToLength end n → (word opening : Token) (after : List Token) (passed : Result (List Token) TextFault) → length after ≤ n → depth + room ≡ MOST_NESTING → 1 ≤ depth → word.kind ≡ kinds.Word → opening.kind ≡ kinds.OpenParen → behind_arguments end kinds.OpenParen after ≡ passed → Fine (go_on passed (statements end depth (Listed word (argument_texts after)))) → Closed end room depth (word ∷ opening ∷ after)
 at_listed end n room depth law word opening after (Err fault) long is inside named opens passes h = faulted fault h
@@ -147,7 +175,7 @@ at_listed end n room depth law word opening after (Ok (next ∷ later)) long is 
     let found = arguments_of end (next ∷ later) after passes in
     let front : List Token = word ∷ opening ∷ found.arguments ++ found.closing ∷ [] in
     let head : IsHead word (argument_texts after) front = record { opening = opening; arguments = found.arguments; closing = found.closing; named = named; opens = opens; lists = found.are; closes = found.closes; is = refl } in
-    let short : length (next ∷ later) ≤ n = let a = length-append found.arguments (found.closing ∷ next ∷ later) in let c = ap length found.split in omega arith in
+    let short : length (next ∷ later) ≤ n = behind_one found.closing (next ∷ later) n (length_behind after found.arguments (found.closing ∷ next ∷ later) n found.split long) in
     let split : front ++ next ∷ later ≡ word ∷ opening ∷ after = ap (λ (ts : List Token). word ∷ opening ∷ ts) (append_assoc found.arguments (found.closing ∷ []) (next ∷ later) ∙ sym found.split) in
     subst (Closed end room depth) split (at_next end n room depth law word (argument_texts after) front next.kind next.at next.text next.fresh later head short is inside h)
 
@@ -158,12 +186,12 @@ at_paren end n room depth law word opening after long is inside named opens h =
 at_second : (end n room depth : ℕ) → UpToLength end n → (word : Token) (kind : Kind) (at : ℕ) (text : List ℕ) (fresh : Bool) (after : List Token) → length after ≤ n → depth + room ≡ MOST_NESTING → 1 ≤ depth → word.kind ≡ kinds.Word → Fine (statements end depth (Named word) (token_of kind at text fresh ∷ after)) → Closed end room depth (word ∷ token_of kind at text fresh ∷ after)
 at_second end n room depth law word kinds.OpenParen at text fresh after long is inside named h = at_paren end n room depth law word (token_of kinds.OpenParen at text fresh) after long is inside named refl h
 at_second end n room depth law word kinds.Colon at text fresh after long is inside named h = at_colon end n room depth law word (token_of kinds.Colon at text fresh) after long is inside named refl h
-at_second end n room depth law word kind at text fresh after long is inside named h = absurd (cc)
+at_second end n room depth law word kind at text fresh after long is inside named h = faulted (unexpected (token_of kind at text fresh)) h
 
 at_word : (end n room depth : ℕ) → UpToLength end n → (word : Token) (after : List Token) → length after ≤ n → depth + room ≡ MOST_NESTING → 1 ≤ depth → word.kind ≡ kinds.Word → Fine (statements end depth (Named word) after) → Closed end room depth (word ∷ after)
 at_word end n room depth law word [] long is inside named h = faulted (BadGroup end) h
 at_word end n room depth law word (second ∷ after) long is inside named h =
-    let short : length after ≤ n = omega arith in
+    let short : length after ≤ n = behind_one second after n long in
     at_second end n room depth law word second.kind second.at second.text second.fresh after short is inside named h
 
 at_first : (end n room depth : ℕ) → UpToLength end n → (kind : Kind) (at : ℕ) (text : List ℕ) (fresh : Bool) (after : List Token) → length after ≤ n → depth + room ≡ MOST_NESTING → 1 ≤ depth → Fine (statements end depth Start (token_of kind at text fresh ∷ after)) → Closed end room depth (token_of kind at text fresh ∷ after)
@@ -177,11 +205,11 @@ at_first end n room depth law kinds.Semicolon at text fresh after long is inside
 at_first end n room depth law kinds.CloseBrace at text fresh after long is inside h =
     let last : Token = token_of kinds.CloseBrace at text fresh in
     record { pieces = []; last = last; rest = after; split = refl; closes = refl; row = tt; fine = fine_by _ _ (brace_closed end depth last after inside refl) h }
-at_first end n room depth law kind at text fresh after long is inside h = absurd (cc)
+at_first end n room depth law kind at text fresh after long is inside h = faulted (unexpected (token_of kind at text fresh)) h
 
 pub closed_within : (end n : ℕ) → UpToLength end n
 closed_within end n room depth [] long is inside h = faulted (BadGroup end) h
-closed_within end zero room depth (token ∷ after) long is inside h = absurd (omega arith)
+closed_within end zero room depth (token ∷ after) long is inside h = too_long token after long
 closed_within end (suc n) room depth (token ∷ after) long is inside h =
-    let short : length after ≤ n = omega arith in
+    let short : length after ≤ n = behind_first token after n long in
     at_first end n room depth (closed_within end n) token.kind token.at token.text token.fresh after short is inside h

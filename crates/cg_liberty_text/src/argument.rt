@@ -131,7 +131,7 @@ impl<'a> Token<'a> {
 /// The arguments of a statement, which are read when they are asked for.
 ///
 /// Clauses see the texts that are left.
-#[derive(Debug, Drop)]
+#[derive(Drop)]
 pub struct Arguments<'a> {
     /// What stands behind the `(`, or behind an argument.
     tokens: Tokens<'a>,

@@ -1,7 +1,7 @@
 //! What a text may be refused for.
 
 /// The first fault of a text that is no group `library`.
-#[derive(Clone, Copy, Debug, PartialEq, Eq)]
+#[derive(Clone, Copy, Debug)]
 pub enum TextFault {
     /// At this place no token begins, or a string or comment begins that is not closed.
     BadToken(usize),

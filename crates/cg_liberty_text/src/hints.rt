@@ -15,7 +15,7 @@ use crate::tokens::Tokens;
 use std::alloc::{AllocError, Global};
 
 /// What looking for a text in a table gave.
-#[derive(Clone, Copy, Debug, PartialEq, Eq)]
+#[derive(Clone, Copy)]
 pub enum Looked {
     /// The text stands where a hint says.
     Found,

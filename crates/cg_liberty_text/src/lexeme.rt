@@ -11,7 +11,7 @@ ghost use Rattle.cg_liberty_text.specs.Lexeme.{word_length};
 use cg_text::blanks::is_white_space;
 
 /// The kinds of tokens.
-#[derive(Clone, Copy, Debug, PartialEq, Eq)]
+#[derive(Clone, Copy)]
 pub enum Kind {
     /// `{`
     OpenBrace,
@@ -45,7 +45,7 @@ pub enum Kind {
 }
 
 /// What begins at a byte, each with the number of its bytes after the first.
-#[derive(Clone, Copy, Debug)]
+#[derive(Clone, Copy)]
 pub enum Lexeme {
     /// A blank other than a line end, a comment, or a `\` that joins the next line.
     Blank(usize),

@@ -15,7 +15,7 @@ use crate::tokens::Tokens;
 use cg_limit::MOST_NESTING;
 
 /// The beginning of a group, its end, or an attribute.
-#[derive(Debug, Drop)]
+#[derive(Drop)]
 pub enum Statement<'a> {
     /// A group's name and arguments, up to its `{`.
     Open(Text<'a>, Arguments<'a>),

@@ -13,7 +13,7 @@ use std::marker::Model;
 /// A place in a text, from which its statements are read.
 ///
 /// Clauses see the statements that are left, up to the first fault, and that fault where there is one.
-#[derive(Debug, Drop)]
+#[derive(Drop)]
 pub struct Statements<'a> {
     /// What is left of the text.
     tokens: Tokens<'a>,

@@ -14,7 +14,7 @@ use std::marker::Model;
 ///
 /// It keeps the bytes of the file between the quotes and takes them apart when they are read, so
 /// making one takes no memory. Clauses see the bytes that it stands for.
-#[derive(Debug, Drop)]
+#[derive(Drop)]
 pub struct Text<'a> {
     raw: &'a [u8],
     quoted: bool,

@@ -4,7 +4,7 @@ use crate::lexeme::Kind;
 use crate::text::Text;
 
 /// A token, of which only the range of its bytes is kept.
-#[derive(Debug, Drop)]
+#[derive(Drop)]
 pub struct Token<'a> {
     /// What it is.
     pub kind: Kind,

@@ -12,7 +12,7 @@ use std::marker::Model;
 /// A place in a text, from which its tokens are read.
 ///
 /// Clauses see the tokens that are left, and the place where the text ends.
-#[derive(Debug, Drop)]
+#[derive(Drop)]
 pub struct Tokens<'a> {
     /// The bytes that are left.
     rest: &'a [u8],

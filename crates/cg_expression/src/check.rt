@@ -35,15 +35,10 @@ pub fn check_expr<N: Names>(alloc: Global, text: &[u8], names: &N) -> Result<(),
     let mut tokens = Tokens::new(text);
     let mut reading = Reading::new(alloc);
     'tokens: while let Some(token) = tokens.next() {
-        match checked(alloc, names, reading, token) {
-            Ok(next) => reading = next,
-            Err(fault) => return Err(fault),
-        }
+        reading = checked(alloc, names, reading, token)?;
     }
-    match end(alloc, reading, text.len()) {
-        Ok(_) => Ok(()),
-        Err(fault) => Err(fault),
-    }
+    end(alloc, reading, text.len())?;
+    Ok(())
 }
 
 /// The reading behind one more token, without what was read.
@@ -57,10 +52,8 @@ fn checked<N: Names>(
     ensures { OrNoMemory NoMemory (λ r. blank_mode (mode_of r.operand r.stack)) result
         (blanked (step (N.names names.now) (mode_of reading.operand reading.stack) (token_of token.entry))) }
 {
-    match after(alloc, &[], reading, known_as_constant(names, token)) {
-        Ok(next) => Ok(without_operands(next)),
-        Err(fault) => Err(fault),
-    }
+    let next = after(alloc, &[], reading, known_as_constant(names, token))?;
+    Ok(without_operands(next))
 }
 
 /// The token, or the constant 1 where it is one of the names.

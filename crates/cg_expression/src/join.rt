@@ -88,8 +88,5 @@ fn filled(operands: Vec<Expr>, none: bool) -> Result<Vec<Expr>, AllocError>
 fn pair(alloc: Global, left: Expr, right: Expr) -> Result<Vec<Expr>, AllocError>
     ensures { IfOk result (λ v. v.items ≡ left ∷ right ∷ []) }
 {
-    let mut operands = Vec::with_capacity(alloc, 2)?;
-    operands.push(left)?;
-    operands.push(right)?;
-    Ok(operands)
+    Ok(Vec::from_array(alloc, [left, right])?)
 }

@@ -4,7 +4,7 @@ ghost use Rattle.std.specs.Prelude.{◌≡◌, ◌∷◌, [], ◌<◌, IfOk, tru
 ghost use Rattle.cg_expression.specs.Reading.{AndLeft as AndWaits, Bracket as BracketWaits, Inversion as InversionWaits};
 ghost use Rattle.cg_expression.specs.Reading.{OrLeft as OrWaits, XorLeft as XorWaits, and_end, inv_end, nesting, or_end, xor_end};
 ghost use Rattle.cg_cell.specs.Expr.{term_of};
-ghost use Rattle.cg_expression.specs.inner.Blanked.{blanks};
+ghost use Rattle.cg_expression.specs.inner.Blanked.{blank, blanks};
 ghost use Rattle.cg_expression.specs.inner.PendingSeen.{ends_in_bracket, ends_in_inversion, is_bottom, pending_of, seen};
 
 use crate::join::{both, either, inverse, one_of};
@@ -61,6 +61,21 @@ impl Model for Stack {
     ghost invariant = { λ s. IsStack s.top s.below.items s.depth };
 }
 
+impl Pending {
+    /// The same with a constant for its operand, where it has one.
+    fn without_operand(self) -> Pending
+        ensures { blank (pending_of result) ≡ blank (pending_of self) }
+    {
+        match self {
+            Pending::OrLeft(_) => Pending::OrLeft(Expr::Constant(false)),
+            Pending::AndLeft(_) => Pending::AndLeft(Expr::Constant(false)),
+            Pending::XorLeft(_) => Pending::XorLeft(Expr::Constant(false)),
+            Pending::Inversion => Pending::Inversion,
+            Pending::Bracket => Pending::Bracket,
+        }
+    }
+}
+
 impl Stack {
     /// Nothing that waits.
     pub fn new(alloc: Global) -> Stack
@@ -106,60 +121,48 @@ impl Stack {
         ensures { blanks result ≡ blanks self }
     {
         let Stack { top, below, depth } = self;
-        match top {
-            Some(Pending::OrLeft(_)) => Stack {
-                top: Some(Pending::OrLeft(Expr::Constant(false))),
-                below,
-                depth,
-            },
-            Some(Pending::AndLeft(_)) => Stack {
-                top: Some(Pending::AndLeft(Expr::Constant(false))),
-                below,
-                depth,
-            },
-            Some(Pending::XorLeft(_)) => Stack {
-                top: Some(Pending::XorLeft(Expr::Constant(false))),
-                below,
-                depth,
-            },
-            top => Stack { top, below, depth },
-        }
+        let top = match top {
+            Some(last) => Some(last.without_operand()),
+            None => None,
+        };
+        Stack { top, below, depth }
+    }
+
+    /// The same with one more that waits last, where so many brackets and signs `!` are open.
+    fn followed_by(self, last: Pending, depth: usize) -> Result<Stack, AllocError>
+        requires { depth ≡ nesting (pending_of last ∷ self) }
+        ensures { IfOk result (λ s. s ≡ pending_of last ∷ self) }
+    {
+        let below = sunk(self.top, self.below)?;
+        Ok(Stack {
+            top: Some(last),
+            below,
+            depth,
+        })
     }
 
     /// A left operand of an or waits.
     pub fn wait_or(self, left: Expr) -> Result<Stack, AllocError>
         ensures { IfOk result (λ s. s ≡ OrWaits (term_of left) ∷ self) }
     {
-        let below = sunk(self.top, self.below)?;
-        Ok(Stack {
-            top: Some(Pending::OrLeft(left)),
-            below,
-            depth: self.depth,
-        })
+        let depth = self.depth;
+        self.followed_by(Pending::OrLeft(left), depth)
     }
 
     /// A left operand of an and waits.
     pub fn wait_and(self, left: Expr) -> Result<Stack, AllocError>
         ensures { IfOk result (λ s. s ≡ AndWaits (term_of left) ∷ self) }
     {
-        let below = sunk(self.top, self.below)?;
-        Ok(Stack {
-            top: Some(Pending::AndLeft(left)),
-            below,
-            depth: self.depth,
-        })
+        let depth = self.depth;
+        self.followed_by(Pending::AndLeft(left), depth)
     }
 
     /// A left operand of an exclusive or waits.
     pub fn wait_xor(self, left: Expr) -> Result<Stack, AllocError>
         ensures { IfOk result (λ s. s ≡ XorWaits (term_of left) ∷ self) }
     {
-        let below = sunk(self.top, self.below)?;
-        Ok(Stack {
-            top: Some(Pending::XorLeft(left)),
-            below,
-            depth: self.depth,
-        })
+        let depth = self.depth;
+        self.followed_by(Pending::XorLeft(left), depth)
     }
 
     /// A sign `!` opens.
@@ -167,12 +170,8 @@ impl Stack {
         requires { nesting self < MOST_NESTING }
         ensures { IfOk result (λ s. s ≡ InversionWaits ∷ self) }
     {
-        let below = sunk(self.top, self.below)?;
-        Ok(Stack {
-            top: Some(Pending::Inversion),
-            below,
-            depth: self.depth + 1,
-        })
+        let depth = self.depth + 1;
+        self.followed_by(Pending::Inversion, depth)
     }
 
     /// A bracket opens.
@@ -180,12 +179,8 @@ impl Stack {
         requires { nesting self < MOST_NESTING }
         ensures { IfOk result (λ s. s ≡ BracketWaits ∷ self) }
     {
-        let below = sunk(self.top, self.below)?;
-        Ok(Stack {
-            top: Some(Pending::Bracket),
-            below,
-            depth: self.depth + 1,
-        })
+        let depth = self.depth + 1;
+        self.followed_by(Pending::Bracket, depth)
     }
 
     /// The bracket that waits last closes.
@@ -193,7 +188,10 @@ impl Stack {
         requires { ends_in_bracket self ≡ true }
         ensures { self ≡ BracketWaits ∷ result }
     {
-        raised(self.below, self.depth - 1)
+        let Stack { top, below, depth } = self;
+        // By a call, as its parts would else be dropped one by one in the proof.
+        drop(top);
+        raised(below, depth - 1)
     }
 
     /// The sign `!` that waits last has its operand.
@@ -201,7 +199,9 @@ impl Stack {
         requires { ends_in_inversion self ≡ true }
         ensures { self ≡ InversionWaits ∷ result }
     {
-        raised(self.below, self.depth - 1)
+        let Stack { top, below, depth } = self;
+        drop(top);
+        raised(below, depth - 1)
     }
 }
 

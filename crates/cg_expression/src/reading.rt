@@ -1,14 +1,15 @@
 //! Reading the text of an expression, token by token.
 
-ghost use Rattle.std.specs.Prelude.{◌≡◌, [], ◌<◌, ◌^◌, IfErr, IfOk, IsTrue, length, slice_index};
+ghost use Rattle.std.specs.Prelude.{◌≡◌, ◌∷◌, [], ◌<◌, ◌^◌, IfErr, IfOk, IsTrue, length, slice_index};
 ghost use Rattle.std.specs.List.{position_from};
 ghost use Rattle.std.specs.Str.{bytes_eq};
 ghost use Rattle.cg_cell.specs.Expr.{is_over, term_of};
-ghost use Rattle.cg_cell.specs.Term.{Term, is_within};
+ghost use Rattle.cg_cell.specs.Term.{Inverse, Term, is_within};
 ghost use Rattle.cg_limit.specs.Answers.{OrNoMemory};
 ghost use Rattle.cg_expression.specs.declared.fault.ExprFault.TheVariants.{NoMemory};
 ghost use Rattle.cg_expression.specs.Faults.{IsFirstExprFault};
 ghost use Rattle.cg_expression.specs.Grammar.{ExprText};
+ghost use Rattle.cg_expression.specs.Reading.{AndLeft, OrLeft, XorLeft, Has, and_end, xor_end};
 ghost use Rattle.cg_expression.specs.Reading.{begin, Expects, closed, constant, finish, go_on, complete, leaf};
 ghost use Rattle.cg_expression.specs.Reading.{opened, or_end, read_text, step, Bracket, Inversion};
 ghost use Rattle.cg_expression.specs.inner.TokensSeen.{token_of};
@@ -21,7 +22,7 @@ use crate::tokens::{Token, TokenKind, Tokens, is_digit, is_letter};
 use cg_cell::expr::Expr;
 use cg_cell::name::Name;
 use cg_limit::MOST_NESTING;
-use std::alloc::Global;
+use std::alloc::{AllocError, Global};
 
 /// Where a reading stands: the operand that may be complete, where there is one, and what waits before it.
 #[derive(Drop)]
@@ -75,10 +76,7 @@ fn read(alloc: Global, text: &[u8], pins: &[Name]) -> Result<Expr, ExprFault>
     let mut tokens = Tokens::new(text);
     let mut reading = Reading::new(alloc);
     'tokens: while let Some(token) = tokens.next() {
-        match after(alloc, pins, reading, token) {
-            Ok(next) => reading = next,
-            Err(fault) => return Err(fault),
-        }
+        reading = after(alloc, pins, reading, token)?;
     }
     end(alloc, reading, text.len())
 }
@@ -100,22 +98,36 @@ pub fn after(
     }
 }
 
+/// The reading where an operand must come.
+fn expecting(stack: Stack) -> Reading
+    ensures { mode_of result.operand result.stack ≡ Expects stack }
+{
+    Reading {
+        operand: None,
+        stack,
+    }
+}
+
 /// A token where an operand begins.
 fn first(pins: &[Name], stack: Stack, token: Token<'_>) -> Result<Reading, ExprFault>
     requires { length pins.now < 2 ^ 32 }
     ensures { OrNoMemory NoMemory (λ r. mode_of r.operand r.stack) result (begin pins.now stack (token_of token.entry)) }
 {
     match token.kind {
-        TokenKind::Word(word) => match word_leaf(pins, token.at, word) {
-            Ok(leaf) => Ok(Reading {
+        TokenKind::Word(word) => {
+            let leaf = word_leaf(pins, token.at, word)?;
+            Ok(Reading {
                 operand: Some(leaf),
                 stack,
-            }),
-            Err(fault) => Err(fault),
-        },
+            })
+        }
         TokenKind::Not => inversion(stack, token.at),
         TokenKind::Open => bracket(stack, token.at),
-        _ => Err(ExprFault::BadExpr(token.at as u64)),
+        _ => {
+            // By a call, here and below, as its parts would else be dropped one by one in the proof.
+            drop(stack);
+            Err(ExprFault::BadExpr(token.at as u64))
+        }
     }
 }
 
@@ -123,30 +135,22 @@ fn first(pins: &[Name], stack: Stack, token: Token<'_>) -> Result<Reading, ExprF
 fn inversion(stack: Stack, at: usize) -> Result<Reading, ExprFault>
     ensures { OrNoMemory NoMemory (λ r. mode_of r.operand r.stack) result (opened at Inversion stack) }
 {
-    if stack.nesting() < MOST_NESTING {
-        let stack = stack.open_inversion()?;
-        Ok(Reading {
-            operand: None,
-            stack,
-        })
-    } else {
-        Err(ExprFault::TooDeep(at as u64))
+    if stack.nesting() >= MOST_NESTING {
+        drop(stack);
+        return Err(ExprFault::TooDeep(at as u64));
     }
+    Ok(expecting(stack.open_inversion()?))
 }
 
 /// A bracket opens.
 fn bracket(stack: Stack, at: usize) -> Result<Reading, ExprFault>
     ensures { OrNoMemory NoMemory (λ r. mode_of r.operand r.stack) result (opened at Bracket stack) }
 {
-    if stack.nesting() < MOST_NESTING {
-        let stack = stack.open_bracket()?;
-        Ok(Reading {
-            operand: None,
-            stack,
-        })
-    } else {
-        Err(ExprFault::TooDeep(at as u64))
+    if stack.nesting() >= MOST_NESTING {
+        drop(stack);
+        return Err(ExprFault::TooDeep(at as u64));
     }
+    Ok(expecting(stack.open_bracket()?))
 }
 
 /// The constant or the pin that a word is.
@@ -223,60 +227,69 @@ fn further(
     ensures { OrNoMemory NoMemory (λ r. mode_of r.operand r.stack) result (go_on pins.now (term_of operand) stack (token_of token.entry)) }
 {
     match token.kind {
-        TokenKind::Prime => {
-            let operand = inverse(alloc, operand)?;
-            Ok(Reading {
-                operand: Some(operand),
-                stack,
-            })
-        }
-        TokenKind::Xor => {
-            let left = end_xor(alloc, operand, stack)?;
-            let stack = left.stack.wait_xor(left.operand)?;
-            Ok(Reading {
-                operand: None,
-                stack,
-            })
-        }
-        TokenKind::And => {
-            let left = end_and(alloc, operand, stack)?;
-            let stack = left.stack.wait_and(left.operand)?;
-            Ok(Reading {
-                operand: None,
-                stack,
-            })
-        }
-        TokenKind::Or => {
-            let left = end_or(alloc, operand, stack)?;
-            let stack = left.stack.wait_or(left.operand)?;
-            Ok(Reading {
-                operand: None,
-                stack,
-            })
-        }
+        TokenKind::Prime => Ok(primed(alloc, operand, stack)?),
+        TokenKind::Xor => Ok(expecting(left_of_xor(alloc, operand, stack)?)),
+        TokenKind::And => Ok(expecting(left_of_and(alloc, operand, stack)?)),
+        TokenKind::Or => Ok(expecting(left_of_or(alloc, operand, stack)?)),
         TokenKind::Close => close(alloc, operand, stack, token.at),
-        TokenKind::Other => Err(ExprFault::BadExpr(token.at as u64)),
-        _ => {
-            let left = end_and(alloc, operand, stack)?;
-            let stack = left.stack.wait_and(left.operand)?;
-            first(pins, stack, token)
+        TokenKind::Other => {
+            drop(operand);
+            drop(stack);
+            Err(ExprFault::BadExpr(token.at as u64))
         }
+        _ => first(pins, left_of_and(alloc, operand, stack)?, token),
     }
+}
+
+/// A sign `'` inverts the operand before it.
+fn primed(alloc: Global, operand: Expr, stack: Stack) -> Result<Reading, AllocError>
+    ensures { IfOk result (λ r. mode_of r.operand r.stack ≡ Has (Inverse (term_of operand)) stack) }
+{
+    let operand = inverse(alloc, operand)?;
+    Ok(Reading {
+        operand: Some(operand),
+        stack,
+    })
+}
+
+/// What waits behind an exclusive or whose left operand ends with this one.
+fn left_of_xor(alloc: Global, operand: Expr, stack: Stack) -> Result<Stack, AllocError>
+    ensures { IfOk result (λ s. s ≡ XorLeft (xor_end (term_of operand) stack).term ∷ (xor_end (term_of operand) stack).pending) }
+{
+    let Ended { operand, stack } = end_xor(alloc, operand, stack)?;
+    stack.wait_xor(operand)
+}
+
+/// What waits behind an and whose left operand ends with this one.
+fn left_of_and(alloc: Global, operand: Expr, stack: Stack) -> Result<Stack, AllocError>
+    ensures { IfOk result (λ s. s ≡ AndLeft (and_end (term_of operand) stack).term ∷ (and_end (term_of operand) stack).pending) }
+{
+    let Ended { operand, stack } = end_and(alloc, operand, stack)?;
+    stack.wait_and(operand)
+}
+
+/// What waits behind an or whose left operand ends with this one.
+fn left_of_or(alloc: Global, operand: Expr, stack: Stack) -> Result<Stack, AllocError>
+    ensures { IfOk result (λ s. s ≡ OrLeft (or_end (term_of operand) stack).term ∷ (or_end (term_of operand) stack).pending) }
+{
+    let Ended { operand, stack } = end_or(alloc, operand, stack)?;
+    stack.wait_or(operand)
 }
 
 /// A bracket closes, where one is open.
 fn close(alloc: Global, operand: Expr, stack: Stack, at: usize) -> Result<Reading, ExprFault>
     ensures { OrNoMemory NoMemory (λ r. mode_of r.operand r.stack) result (closed at (or_end (term_of operand) stack)) }
 {
-    let Ended { operand, stack } = end_or(alloc, operand, stack)?;
-    if stack.ends_in_bracket() {
-        Ok(Reading {
-            operand: Some(operand),
-            stack: stack.close_bracket(),
-        })
-    } else {
-        Err(ExprFault::BadExpr(at as u64))
+    let ended = end_or(alloc, operand, stack)?;
+    if !ended.stack.ends_in_bracket() {
+        drop(ended);
+        return Err(ExprFault::BadExpr(at as u64));
     }
+    let Ended { operand, stack } = ended;
+    Ok(Reading {
+        operand: Some(operand),
+        stack: stack.close_bracket(),
+    })
 }
 
 /// The end of the text, which has that many bytes.
@@ -285,7 +298,10 @@ pub fn end(alloc: Global, reading: Reading, length: usize) -> Result<Expr, ExprF
 {
     let Reading { operand, stack } = reading;
     match operand {
-        None => Err(ExprFault::BadExpr(length as u64)),
+        None => {
+            drop(stack);
+            Err(ExprFault::BadExpr(length as u64))
+        }
         Some(operand) => complete(alloc, operand, stack, length),
     }
 }
@@ -294,10 +310,12 @@ pub fn end(alloc: Global, reading: Reading, length: usize) -> Result<Expr, ExprF
 fn complete(alloc: Global, operand: Expr, stack: Stack, length: usize) -> Result<Expr, ExprFault>
     ensures { OrNoMemory NoMemory term_of result (complete length (or_end (term_of operand) stack)) }
 {
-    let Ended { operand, stack } = end_or(alloc, operand, stack)?;
-    if stack.is_empty() {
-        Ok(operand)
-    } else {
-        Err(ExprFault::BadExpr(length as u64))
+    let ended = end_or(alloc, operand, stack)?;
+    if !ended.stack.is_empty() {
+        drop(ended);
+        return Err(ExprFault::BadExpr(length as u64));
     }
+    let Ended { operand, stack } = ended;
+    drop(stack);
+    Ok(operand)
 }

@@ -1,12 +1,11 @@
 -- The values of the grammar are those that are read.
-use Rattle.std.proofs.Common.{◌≡◌, ℕ, Bool, true, false, cond, not, ◌&&◌, ◌||◌, IsTrue, List, [], ◌∷◌, ◌++◌, Some, None, Result, Ok}
+use Rattle.std.proofs.Common.{◌≡◌, ℕ, Bool, true, false, cond, not, ◌&&◌, ◌||◌, IsTrue, List, [], ◌∷◌, ◌++◌, Some, None, Ok}
 use Rattle.std.proofs.Common.{refl, ap, inl, inr, ◌⊎◌}
 use Rattle.std.specs.List.{AllByRecursion}
 use Rattle.std.proofs.lemmas.Bool.{false≢true}
 use Rattle.cg_liberty_text.specs.Argument.{behind_value, ends_value, is_close_brace, is_in_value, is_semicolon, is_text, unexpected}
 use Rattle.cg_liberty_text.specs.Argument.{is_value_over, value_text}
 use Rattle.cg_liberty_text.specs.Grammar.{EndsValue, IsOfValue, lone_text}
-use Rattle.cg_liberty_text.specs.declared.fault.TextFault.{TextFault}
 use Rattle.cg_liberty_text.specs.declared.lexeme.Kind.{Kind}
 use Rattle.cg_liberty_text.specs.declared.lexeme.Kind.TheVariants as kinds
 use Rattle.cg_liberty_text.specs.declared.token.Token.{Token}

@@ -1,11 +1,9 @@
 -- Hints lead to arguments.
-use Rattle.std.proofs.Common.{◌≡◌, ◌<◌, ℕ, Bool, true, false, List, [], ◌∷◌, ◌∙◌, refl, sym, subst, All}
+use Rattle.std.proofs.Common.{◌≡◌, ℕ, Bool, true, false, List, [], ◌∷◌, ◌∙◌, refl, sym, subst}
 use Rattle.std.specs.List.{list_any}
 use Rattle.std.specs.Str.{bytes_eq}
 use Rattle.std.proofs.lemmas.Slice.Eq.{bytes_eq-Decides}
-use Rattle.cg_liberty_text.specs.Argument.{argument_texts}
 use Rattle.cg_liberty_text.specs.Hint.{IsHint, begin_with, stands_at}
-use Rattle.cg_liberty_text.specs.Token.{tokens}
 
 -- texts begin with one text alone
 one_first : (texts : List (List ℕ)) (a b : List ℕ) → begin_with texts a ≡ true → begin_with texts b ≡ true → a ≡ b

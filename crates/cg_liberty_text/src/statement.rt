@@ -1,10 +1,11 @@
 //! One statement of a Liberty text.
 
-ghost use Rattle.std.specs.Prelude.{◌≡◌, ◌==◌, ◌≤◌, IfOk, MatchResult};
+ghost use Rattle.std.specs.Prelude.{◌≡◌, ◌==◌, ◌<◌, ◌≤◌, IfOk, MatchResult, None, cond, true};
 ghost use Rattle.cg_liberty_text.specs.Argument.{argument_texts};
 ghost use Rattle.cg_liberty_text.specs.Statement.{FitsDepth, Reads, Refused};
 ghost use Rattle.cg_liberty_text.specs.Statement.Phase.{Listed, Listing, Named, Start, Valued};
 ghost use Rattle.cg_liberty_text.specs.declared.lexeme.Kind.TheVariants.{OpenParen};
+ghost use Rattle.cg_liberty_text.specs.declared.statement.Statement.TheVariants.{Attribute, Open};
 ghost use Rattle.cg_liberty_text.specs.inner.Values.{ReadsValue};
 
 use crate::argument::{Arguments, pass_arguments, pass_value, text_of_value};
@@ -108,7 +109,43 @@ fn statement_listed<'a>(
     statement_opened(tokens, depth, word, arguments)
 }
 
-/// Reads the `{` of a group behind its arguments; without one, the statement is a complex attribute.
+/// Passes over the `{` of a group behind its arguments, and answers whether there is one; without one, the statement is a
+/// complex attribute.
+fn pass_brace(
+    tokens: &mut Tokens<'_>,
+    depth: usize,
+    word: &Token<'_>,
+    arguments: &Arguments<'_>,
+) -> Result<bool, TextFault>
+    requires { depth ≤ MOST_NESTING }
+    ensures statement { MatchResult result
+        (λ opens. Reads tokens.old.1 depth (Listed word.now arguments.now) tokens.old.0 tokens.new.0
+        (cond opens (Open word.now.text arguments.now) (Attribute word.now.text None)))
+        (Refused tokens.old.1 depth (Listed word.now arguments.now) tokens.old.0) }
+    ensures depth { IfOk result (λ opens. opens ≡ true → depth < MOST_NESTING) }
+    ensures end { tokens.new.1 ≡ tokens.old.1 }
+{
+    let mut ahead = tokens.again();
+    let Some(token) = ahead.next() else {
+        return Err(TextFault::BadGroup(tokens.end()));
+    };
+    if !token.kind.is_open_brace() {
+        if depth == 0 {
+            return Err(token.unexpected());
+        }
+        return Ok(false);
+    }
+    if depth == MOST_NESTING {
+        return Err(TextFault::Nesting);
+    }
+    if depth == 1 && word.text.is(b"cell") && !arguments.is_one() {
+        return Err(TextFault::BadGroup(word.at));
+    }
+    *tokens = ahead;
+    Ok(true)
+}
+
+/// Reads what stands behind the arguments of a statement: the `{` of a group, or nothing of a complex attribute.
 fn statement_opened<'a>(
     tokens: &mut Tokens<'a>,
     depth: usize,
@@ -121,22 +158,9 @@ fn statement_opened<'a>(
     ensures depth { IfOk result (FitsDepth depth) }
     ensures end { tokens.new.1 ≡ tokens.old.1 }
 {
-    let mut ahead = tokens.again();
-    let Some(token) = ahead.next() else {
-        return Err(TextFault::BadGroup(tokens.end()));
-    };
-    if !token.kind.is_open_brace() {
-        if depth == 0 {
-            return Err(token.unexpected());
-        }
-        return Ok(Statement::Attribute(word.text, None));
+    if pass_brace(tokens, depth, &word, &arguments)? {
+        Ok(Statement::Open(word.text, arguments))
+    } else {
+        Ok(Statement::Attribute(word.text, None))
     }
-    if depth == MOST_NESTING {
-        return Err(TextFault::Nesting);
-    }
-    if depth == 1 && word.text.is(b"cell") && !arguments.is_one() {
-        return Err(TextFault::BadGroup(word.at));
-    }
-    *tokens = ahead;
-    Ok(Statement::Open(word.text, arguments))
 }

@@ -1,23 +1,31 @@
 -- Registers meet the conditions of cells.
 use Rattle.std.proofs.Common.{◌≡◌, ◌≤◌, ◌<◌, ◌+◌, ◌==◌, ℕ, suc, nat_le, nat_lt, Bool, true, false, cond, ◌&&◌, ◌||◌, IsTrue, List}
-use Rattle.std.proofs.Common.{[], ◌∷◌, ◌++◌, length, map, Some, refl, ap, ◌∙◌, subst, count_by, arith}
+use Rattle.std.proofs.Common.{[], ◌∷◌, ◌++◌, length, map, Option, Some, Result, Ok, Err, refl, ap, ◌∙◌, subst, count_by, arith}
 use Rattle.std.specs.List.{AllByRecursion}
 use Rattle.std.proofs.lemmas.Bool.Decides.{nat_tests}
-use Rattle.cg_cell.specs.Cell.{IsCell}
+use Rattle.cg_cell.specs.Cell.{CellData, IsCell}
 use Rattle.cg_cell.specs.Name.{has_no_equals, is_name}
 use Rattle.cg_cell.specs.Pins.{PinData, is_clock, is_data, is_state}
 use Rattle.cg_cell.specs.Term.{Term, Bit, Input, Inverse, Both, Either, Differ, is_within, lone_input}
 use Rattle.cg_cell.specs.declared.cell.CellKind.TheVariants as kinds
 use Rattle.cg_cell.specs.declared.cell.Role.{Role}
 use Rattle.cg_cell.specs.declared.cell.Role.TheVariants as roles
-use Rattle.cg_liberty.specs.Kinds.{are_flop_pins, flop_pins, input_names, output_role, rest_of, restated}
-use Rattle.cg_liberty.specs.Port.{ArePorts}
+use Rattle.cg_liberty.specs.Kinds.{all_known, are_flop_pins, flop_cell, flop_of, flop_pins, input_names, inverses_read, is_plain_flop}
+use Rattle.cg_liberty.specs.Kinds.{output_role, output_texts, rest_of, restated, state_names}
+use Rattle.cg_liberty.specs.Port.{ArePorts, text_of}
+use Rattle.cg_liberty.specs.Reading.{reading, then_read}
+use Rattle.cg_liberty.specs.inner.Parts.{Parts, parts_read}
+use Rattle.cg_liberty.specs.declared.fault.CellFault.{CellFault}
+use Rattle.cg_liberty.specs.declared.group.FlopGroup.{FlopGroup}
 use Rattle.cg_liberty.specs.declared.port.Port.{Port}
 use Rattle.cg_liberty.proofs.Counts.{count_by-cons}
 use Rattle.cg_liberty.proofs.Restated.{restated_within}
 
 abbrev pub pin : List ℕ → Role → PinData
 pin name role = record { name = name; role = role }
+
+abbrev parts_are : Option Term → Option Term → Option (List Bool) → Result Parts CellFault
+parts_are next clocked known = Ok (record { next = next; clocked = clocked; known = known })
 
 -- what is true of the pins that are made of ports
 record Made (ports : List Port) (pins : List PinData) : Type 0 where
@@ -126,3 +134,15 @@ few_more name names n false h = omega arith
 pub few_inputs : (ports : List Port) → length (input_names ports) ≤ length ports
 few_inputs [] = omega arith
 few_inputs (port ∷ ports) = few_more port.name (input_names ports) (length ports) port.marks.is_output (few_inputs ports)
+
+-- the cell of a register, from the parts that are read of it
+pub cell_by_parts : (name : List ℕ) (ports : List Port) (flop : FlopGroup) → flop_cell name ports flop ≡ then_read (parts_read (input_names ports) (output_texts ports) flop) (λ parts. Ok (flop_of name ports (is_plain_flop (input_names ports) flop) parts.next parts.clocked parts.known))
+cell_by_parts name ports flop = by_cases (reading (input_names ports ++ state_names flop.names) (text_of flop.next_state)) (reading (input_names ports) (text_of flop.clocked_on)) (inverses_read (state_names flop.names) (output_texts ports)) (λ next clocked known. flop_of name ports (is_plain_flop (input_names ports) flop) next clocked known)
+  where
+    by_cases : (next clocked : Result (Option Term) CellFault) (outputs : Result (List (Option Bool)) CellFault) (made : Option Term → Option Term → Option (List Bool) → CellData)
+        → then_read next (λ a. then_read clocked (λ b. then_read outputs (λ c. Ok (made a b (all_known c)))))
+        ≡ then_read (then_read next (λ a. then_read clocked (λ b. then_read outputs (λ c. parts_are a b (all_known c))))) (λ parts. Ok (made parts.next parts.clocked parts.known))
+    by_cases (Ok a) (Ok b) (Ok c) made = refl
+    by_cases (Ok a) (Ok b) (Err fault) made = refl
+    by_cases (Ok a) (Err fault) outputs made = refl
+    by_cases (Err fault) clocked outputs made = refl

@@ -1,5 +1,5 @@
 -- The whole text of a library is spelled by the grammar exactly where it is read without a fault.
-use Rattle.std.proofs.Common.{◌≡◌, ◌≤◌, ◌-◌, ℕ, Bool, true, false, cond, List, [], ◌∷◌, ◌++◌, length, codes, None, Result, Ok, Err}
+use Rattle.std.proofs.Common.{◌≡◌, ◌≤◌, ◌+◌, ◌-◌, ℕ, Bool, true, false, cond, List, [], ◌∷◌, ◌++◌, length, codes, None, Result, Ok, Err}
 use Rattle.std.proofs.Common.{refl, sym, ap, ◌∙◌, subst, append_assoc, append-nil, arith}
 use Rattle.std.specs.Str.{bytes_eq}
 use Rattle.std.proofs.lemmas.Slice.Eq.{bytes_eq-Decides}
@@ -24,17 +24,27 @@ use Rattle.cg_liberty_text.proofs.ReadIsSpelled.{Closed, Fine, closed_within, fa
 as_read : List Statement → Read
 as_read read = (read, None)
 
+-- Depths and lengths, where nothing else is known
+
+outermost : 1 ≤ 1
+outermost = omega arith
+
+no_longer : (n : ℕ) → n ≤ n
+no_longer n = omega arith
+
+no_level : {A : Type 0} → MOST_NESTING + 1 ≡ MOST_NESTING → A
+no_level level = absurd (omega arith)
+
 -- a library of the grammar is read
 pub library_read : (end : ℕ) (tokens : List Token) (read : List Statement) → SpellsLibrary tokens read → statements end 0 Start tokens ≡ (read, None)
 unfolding as_read
 library_read end tokens read library =
     let group = library.group in
     let piece : Piece = record { tokens = tokens; statements = read } in
-    let deep : 1 ≤ 1 = omega arith in
-    let row : statements end 1 Start (tokens_of group.pieces ++ group.last ∷ []) ≡ onto (statements_of group.pieces) (statements end 1 Start (group.last ∷ [])) = row_read end 1 (Spells (MOST_NESTING - 1)) (λ piece rest spelled. spelled_read end (MOST_NESTING - 1) 1 refl deep piece rest spelled) group.pieces (group.last ∷ []) group.inside in
+    let row : statements end 1 Start (tokens_of group.pieces ++ group.last ∷ []) ≡ onto (statements_of group.pieces) (statements end 1 Start (group.last ∷ [])) = row_read end 1 (Spells (MOST_NESTING - 1)) (λ piece rest spelled. spelled_read end (MOST_NESTING - 1) 1 refl outermost piece rest spelled) group.pieces (group.last ∷ []) group.inside in
     ap (statements end 0 Start) (sym (append-nil tokens))
     ∙ group_opened end 0 MOST_NESTING (SpellsAll (MOST_NESTING - 1)) piece [] group (λ after. library_named end group.word after group.head.named library.named) refl refl row
-    ∙ ap (λ (r : Read). put_statement (Open group.word.text group.texts) (onto (statements_of group.pieces) r)) (brace_closed end 1 group.last [] deep group.closes)
+    ∙ ap (λ (r : Read). put_statement (Open group.word.text group.texts) (onto (statements_of group.pieces) r)) (brace_closed end 1 group.last [] outermost group.closes)
     ∙ whole group.word.text group.texts (statements_of group.pieces) (as_read [])
     ∙ ap as_read (append-nil (Open group.word.text group.texts ∷ statements_of group.pieces ++ Close ∷ []) ∙ sym group.stands)
 
@@ -49,7 +59,7 @@ done_end end (token ∷ after) h = faulted (unexpected token) h
 
 at_body : (end : ℕ) (word : Token) (texts : List (List ℕ)) (front : List Token) (brace : Token) (after : List Token) → IsHead word texts front → word.text ≡ codes "library" → brace.kind ≡ kinds.OpenBrace → Fine (statements end 1 Start after) → Spelled (front ++ brace ∷ after)
 at_body end word texts front brace after head named opens h =
-    let inner : Closed end (MOST_NESTING - 1) 1 after = closed_within end (length after) (MOST_NESTING - 1) 1 after (omega arith) refl (omega arith) h in
+    let inner : Closed end (MOST_NESTING - 1) 1 after = closed_within end (length after) (MOST_NESTING - 1) 1 after (no_longer (length after)) refl outermost h in
     let nothing : inner.rest ≡ [] = done_end end inner.rest inner.fine in
     record {
       read = Open word.text texts ∷ statements_of inner.pieces ++ Close ∷ [];
@@ -62,7 +72,7 @@ at_body end word texts front brace after head named opens h =
           pieces = inner.pieces;
           last = inner.last;
           head = head;
-          place = λ level cell. absurd (omega arith);
+          place = λ level cell. no_level level;
           opens = opens;
           inside = subst (λ (rest : List Token). SpellsAll (MOST_NESTING - 1) inner.pieces (inner.last ∷ rest)) nothing inner.row;
           closes = inner.closes;
@@ -75,7 +85,7 @@ at_body end word texts front brace after head named opens h =
 
 at_next : (end : ℕ) (word : Token) (texts : List (List ℕ)) (front : List Token) (kind : Kind) (at : ℕ) (text : List ℕ) (fresh : Bool) (after : List Token) → IsHead word texts front → word.text ≡ codes "library" → Fine (statements end 0 (Listed word texts) (token_of kind at text fresh ∷ after)) → Spelled (front ++ token_of kind at text fresh ∷ after)
 at_next end word texts front kinds.OpenBrace at text fresh after head named h = at_body end word texts front (token_of kinds.OpenBrace at text fresh) after head named refl h
-at_next end word texts front kind at text fresh after head named h = absurd (cc)
+at_next end word texts front kind at text fresh after head named h = faulted (unexpected (token_of kind at text fresh)) h
 
 at_listed : (end : ℕ) (word opening : Token) (after : List Token) (passed : Result (List Token) TextFault) → word.kind ≡ kinds.Word → word.text ≡ codes "library" → opening.kind ≡ kinds.OpenParen → behind_arguments end kinds.OpenParen after ≡ passed → Fine (go_on passed (statements end 0 (Listed word (argument_texts after)))) → Spelled (word ∷ opening ∷ after)
 at_listed end word opening after (Err fault) is named opens passes h = faulted fault h
@@ -91,7 +101,7 @@ at_second : (end : ℕ) (word : Token) (kind : Kind) (at : ℕ) (text : List ℕ
 at_second end word kinds.OpenParen at text fresh after is named h =
     let opening : Token = token_of kinds.OpenParen at text fresh in
     at_listed end word opening after (behind_arguments end kinds.OpenParen after) is named refl refl (fine_by _ _ (paren_listing end 0 word opening after refl) h)
-at_second end word kind at text fresh after is named h = absurd (cc)
+at_second end word kind at text fresh after is named h = faulted (unexpected (token_of kind at text fresh)) h
 
 at_word : (end : ℕ) (word : Token) (after : List Token) → word.kind ≡ kinds.Word → word.text ≡ codes "library" → Fine (statements end 0 (Named word) after) → Spelled (word ∷ after)
 at_word end word [] is named h = faulted (BadGroup end) h
@@ -103,7 +113,7 @@ is_library end word after false is named h = faulted (unexpected word) h
 
 at_first : (end : ℕ) (kind : Kind) (at : ℕ) (text : List ℕ) (fresh : Bool) (after : List Token) → Fine (statements end 0 Start (token_of kind at text fresh ∷ after)) → Spelled (token_of kind at text fresh ∷ after)
 at_first end kinds.Word at text fresh after h = is_library end (token_of kinds.Word at text fresh) after (bytes_eq text (codes "library")) refl refl h
-at_first end kind at text fresh after h = absurd (cc)
+at_first end kind at text fresh after h = faulted (unexpected (token_of kind at text fresh)) h
 
 spelled : (end : ℕ) (tokens : List Token) → Fine (statements end 0 Start tokens) → Spelled tokens
 spelled end [] h = faulted (BadGroup end) h

@@ -1,2 +1,4 @@
 pub mod Checked
 pub mod Adding
+pub mod Parts
+pub mod Refusals

@@ -12,6 +12,7 @@ ghost use Rattle.cg_expression.specs.Reading.{read_text};
 ghost use Rattle.cg_liberty.specs.declared.fault.CellFault.TheVariants.{NoMemory};
 ghost use Rattle.cg_liberty.specs.inner.Checked.{faults_of, flop_checked, outputs_checked};
 ghost use Rattle.cg_liberty.specs.Kinds.{flop_cell, input_names, is_plain_flop, output_texts, state_names};
+ghost use Rattle.cg_liberty.specs.Port.{text_of};
 ghost use Rattle.cg_liberty.specs.Reading.{reading, taken};
 
 use crate::fault::CellFault;
@@ -101,29 +102,47 @@ fn check_outputs(alloc: Global, ports: &[Port<'_>], names: &Known<'_, '_>) -> Re
     Ok(())
 }
 
-/// Answers the first fault of the expressions of a register.
+/// Answers the fault of the expression of the clock, over the names of the inputs.
 #[tactic(auto, using(crate::proofs::FaultsAlone::no_more))]
+fn check_clock(alloc: Global, flop: &FlopGroup<'_>, inputs: &[Name]) -> Result<(), CellFault>
+    ensures { OrNoMemory NoMemory (λ _. tt) result (faults_of (reading inputs.now (text_of flop.now.clocked_on))) }
+{
+    let none = IndexedArguments::new(alloc, Arguments::new(Tokens::new(&[])))?;
+    let known = Known {
+        inputs,
+        states: &none,
+    };
+    check_stated(alloc, &flop.clocked_on.text(), &known)
+}
+
+/// Answers the first fault of the expressions of a register, over the names of the inputs and the states.
+fn check_expressions(
+    alloc: Global,
+    ports: &[Port<'_>],
+    flop: &FlopGroup<'_>,
+    inputs: &[Name],
+    states: &IndexedArguments<'_>,
+) -> Result<(), CellFault>
+    requires { states.now ≡ flop.now.names }
+    ensures { OrNoMemory NoMemory (λ _. tt) result (flop_checked inputs.now (output_texts ports.now) flop.now) }
+{
+    let of_next = Known { inputs, states };
+    check_stated(alloc, &flop.next_state.text(), &of_next)?;
+    check_clock(alloc, flop, inputs)?;
+    let of_outputs = Known {
+        inputs: &[],
+        states,
+    };
+    check_outputs(alloc, ports, &of_outputs)
+}
+
+/// Answers the first fault of the expressions of a register.
 fn check_register(alloc: Global, ports: &[Port<'_>], flop: &FlopGroup<'_>) -> Result<(), CellFault>
     ensures { OrNoMemory NoMemory (λ _. tt) result (flop_checked (input_names ports.now) (output_texts ports.now) flop.now) }
 {
     let inputs = input_names_of(alloc, ports)?;
     let states = IndexedArguments::new(alloc, flop.names.again())?;
-    let none = IndexedArguments::new(alloc, Arguments::new(Tokens::new(&[])))?;
-    let of_next = Known {
-        inputs: inputs.as_slice(),
-        states: &states,
-    };
-    check_stated(alloc, &flop.next_state.text(), &of_next)?;
-    let of_clock = Known {
-        inputs: inputs.as_slice(),
-        states: &none,
-    };
-    check_stated(alloc, &flop.clocked_on.text(), &of_clock)?;
-    let of_outputs = Known {
-        inputs: &[],
-        states: &states,
-    };
-    check_outputs(alloc, ports, &of_outputs)
+    check_expressions(alloc, ports, flop, inputs.as_slice(), &states)
 }
 
 /// The cell of a register that cannot be usable.

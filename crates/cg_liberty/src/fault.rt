@@ -1,12 +1,15 @@
 //! What a text may be refused for.
 
+ghost use Rattle.std.specs.Prelude.{◌≡◌};
+ghost use Rattle.cg_liberty.specs.Library.{text_refusal};
+
 use cg_cell::name::Name;
 use cg_liberty_text::fault::TextFault;
 use cg_limit::Limit;
 use std::alloc::{AllocError, AllocFailed};
 
 /// Why the reading of a group was given up.
-#[derive(Clone, Copy, Debug, PartialEq, Eq)]
+#[derive(Clone, Copy)]
 pub enum ReadFault {
     /// The text has a fault.
     Text(TextFault),
@@ -38,7 +41,7 @@ impl From<AllocError> for ReadFault {
 }
 
 /// Why a cell is refused.
-#[derive(Clone, Copy, Debug, PartialEq, Eq)]
+#[derive(Clone, Copy)]
 pub enum CellFault {
     /// One of its expressions is none, at this byte of its text.
     BadExpr(u64),
@@ -102,5 +105,30 @@ impl From<AllocError> for LibertyFault {
 
     fn from(_cause: AllocError) -> LibertyFault {
         LibertyFault::NoMemory
+    }
+}
+
+/// The refusal for a fault of the text.
+fn refusal_of_text(fault: TextFault) -> LibertyFault
+    ensures { result ≡ text_refusal fault }
+{
+    match fault {
+        TextFault::BadToken(at) => LibertyFault::BadToken(at as u64),
+        TextFault::BadGroup(at) => LibertyFault::BadGroup(at as u64),
+        TextFault::Nesting => LibertyFault::Limit(Limit::Nesting),
+    }
+}
+
+impl From<ReadFault> for LibertyFault {
+    ghost use Rattle.std.specs.Prelude.{◌≡◌};
+    ghost use Rattle.cg_liberty.specs.inner.Refusals.{read_refusal};
+
+    ghost from_gives = { λ fault refusal. refusal ≡ read_refusal fault };
+
+    fn from(fault: ReadFault) -> LibertyFault {
+        match fault {
+            ReadFault::Text(fault) => refusal_of_text(fault),
+            ReadFault::NoMemory => LibertyFault::NoMemory,
+        }
     }
 }

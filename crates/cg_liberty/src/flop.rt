@@ -1,6 +1,6 @@
 //! Registers: an `ff` group with a next state, a clock and outputs that give the state or its inverse.
 
-ghost use Rattle.std.specs.Prelude.{◌≡◌, ◌+◌, ◌≤◌, ◌<◌, ◌++◌, ◌==◌, ◌&&◌, ◌||◌, ℕ, List, IfOk, IfSome, IsTrue, OnOk, Some};
+ghost use Rattle.std.specs.Prelude.{◌≡◌, ◌+◌, ◌≤◌, ◌<◌, ◌++◌, ◌==◌, ◌&&◌, ◌||◌, ℕ, List, IfOk, IfSome, IsTrue, Ok, OnOk, Some};
 ghost use Rattle.std.specs.Prelude.{count_by, length, not, option_map, true};
 ghost use Rattle.std.specs.List.{list_any};
 ghost use Rattle.std.specs.Str.{bytes_eq};
@@ -15,6 +15,8 @@ ghost use Rattle.cg_liberty.specs.Kinds.{inverse_by};
 ghost use Rattle.cg_liberty.specs.Kinds.{inverses_read, is_inverse, is_plain_flop, output_role, output_texts, rest_of, restated};
 ghost use Rattle.cg_liberty.specs.Kinds.{state_names};
 ghost use Rattle.cg_liberty.specs.Port.{ArePorts, is_there};
+ghost use Rattle.cg_liberty.specs.Reading.{then_read};
+ghost use Rattle.cg_liberty.specs.inner.Parts.{parts_of, parts_read};
 
 use crate::checked::checked_cell_of;
 use crate::expression::read_stated;
@@ -30,6 +32,28 @@ use cg_cell::name::Name;
 use cg_liberty_text::argument::Arguments;
 use cg_list::Seq;
 use std::alloc::{AllocError, Global};
+
+/// What is read of a register before its cell is made.
+#[derive(Drop)]
+struct FlopParts {
+    /// Whether it has two states of names of their own, and no other way to be set than by its clock.
+    plain: bool,
+
+    /// Its next state, where that is over the names.
+    next: Option<Expr>,
+
+    /// What its clock is, where that is over the inputs.
+    clocked: Option<Expr>,
+
+    /// Of each output whether it gives the inverse of the state, where each gives the state or the inverse.
+    known: Option<Vec<bool>>,
+
+    /// How many inputs there are.
+    inputs: u32,
+
+    /// How many names a next state may have.
+    names: usize,
+}
 
 /// Puts the arguments that are names behind the other names.
 fn push_states(
@@ -286,85 +310,147 @@ fn flop_of_parts(
     alloc: Global,
     name: Name,
     ports: &[Port<'_>],
-    plain: bool,
-    next: Option<Expr>,
-    clocked: Option<Expr>,
-    known: Option<Vec<bool>>,
-    inputs: u32,
-    names: usize,
+    parts: &FlopParts,
 ) -> Result<CellType, AllocError>
     requires named { IsTrue (is_name name) }
     requires ports { ArePorts ports.now }
-    requires inputs { inputs ≡ length (input_names ports.now) }
-    requires few { inputs ≤ 16 }
-    requires two { plain ≡ true → names ≡ inputs + 2 }
-    requires next { IfSome next (λ e. IsTrue (is_within names (term_of e))) }
-    requires clocked { IfSome clocked (λ e. IsTrue (is_within inputs (term_of e))) }
+    requires inputs { parts.now.inputs ≡ length (input_names ports.now) }
+    requires few { parts.now.inputs ≤ 16 }
+    requires two { parts.now.plain ≡ true → parts.now.names ≡ parts.now.inputs + 2 }
+    requires next { IfSome parts.now.next (λ e. IsTrue (is_within parts.now.names (term_of e))) }
+    requires clocked { IfSome parts.now.clocked (λ e. IsTrue (is_within parts.now.inputs (term_of e))) }
     ensures { IfOk result
-        (λ cell. cell ≡ flop_of name ports.now plain (option_map term_of next) (option_map term_of clocked) (option_map (λ known. known.items) known)) }
+        (λ cell. cell ≡ flop_of name ports.now parts.now.plain (parts_of parts.now).next (parts_of parts.now).clocked (parts_of parts.now).known) }
 {
-    let Some(next) = next else {
+    let Some(next) = &parts.next else {
         return Ok(unusable_cell(alloc, name));
     };
-    let Some(clocked) = clocked else {
+    let Some(clocked) = &parts.clocked else {
         return Ok(unusable_cell(alloc, name));
     };
-    let Some(known) = known else {
+    let Some(known) = &parts.known else {
         return Ok(unusable_cell(alloc, name));
     };
-    if !plain {
+    if !parts.plain {
         return Ok(unusable_cell(alloc, name));
     }
     let Some(clock) = clocked.only() else {
         return Ok(unusable_cell(alloc, name));
     };
-    flop_with(
-        alloc,
-        name,
-        ports,
-        Numbering { inputs, clock },
-        &known,
-        &next,
-    )
+    let numbering = Numbering {
+        inputs: parts.inputs,
+        clock,
+    };
+    flop_with(alloc, name, ports, numbering, known, next)
 }
 
-/// The register of these pins, or an unusable cell, from expressions over the names of the inputs, of the states and of both.
-#[tactic(auto, using(crate::proofs::FlopCells::few_inputs))]
-fn read_cell_over(
+/// Of each output whether it gives the inverse of the state, where each gives the state or the inverse.
+fn known_of(
     alloc: Global,
-    name: Name,
+    ports: &[Port<'_>],
+    states: &[Name],
+) -> Result<Option<Vec<bool>>, CellFault>
+    ensures { OrNoMemory NoMemory (λ known. option_map (λ known. known.items) known) result
+        (then_read (inverses_read states.now (output_texts ports.now)) (λ found. Ok (all_known found))) }
+{
+    let inverses = read_inverses(alloc, ports, states)?;
+    Ok(all_known_of(alloc, inverses.as_slice())?)
+}
+
+/// Reads the parts of a register over the names of the inputs, of the states and of both.
+#[tactic(auto, using(crate::proofs::FlopCells::few_inputs))]
+fn read_parts(
+    alloc: Global,
     ports: &[Port<'_>],
     flop: &FlopGroup<'_>,
     inputs: &[Name],
     states: &[Name],
     names: &[Name],
-) -> Result<CellType, CellFault>
-    requires named { IsTrue (is_name name) }
+) -> Result<FlopParts, CellFault>
     requires ports { ArePorts ports.now }
     requires inputs { inputs.now ≡ input_names ports.now }
     requires states { states.now ≡ state_names flop.now.names }
     requires names { names.now ≡ input_names ports.now ++ state_names flop.now.names }
-    ensures { OrNoMemory NoMemory (λ cell. cell) result (flop_cell name ports.now flop.now) }
+    ensures read { OrNoMemory NoMemory parts_of result (parts_read (input_names ports.now) (output_texts ports.now) flop.now) }
+    ensures plain { IfOk result (λ parts. parts.plain ≡ is_plain_flop (input_names ports.now) flop.now) }
+    ensures inputs { IfOk result (λ parts. parts.inputs ≡ length (input_names ports.now)) }
+    ensures few { IfOk result (λ parts. parts.inputs ≤ 16) }
+    ensures two { IfOk result (λ parts. parts.plain ≡ true → parts.names ≡ parts.inputs + 2) }
+    ensures next { IfOk result (λ parts. IfSome parts.next (λ e. IsTrue (is_within parts.names (term_of e)))) }
+    ensures clocked { IfOk result (λ parts. IfSome parts.clocked (λ e. IsTrue (is_within parts.inputs (term_of e)))) }
 {
     let next = read_stated(alloc, &flop.next_state.text(), names)?;
     let clocked = read_stated(alloc, &flop.clocked_on.text(), inputs)?;
-    let outputs = read_inverses(alloc, ports, states)?;
-    let plain = is_plain(flop, states, names);
-    let known = all_known_of(alloc, outputs.as_slice())?;
-    Ok(flop_of_parts(
-        alloc,
-        name,
-        ports,
-        plain,
+    let known = known_of(alloc, ports, states)?;
+    Ok(FlopParts {
+        plain: is_plain(flop, states, names),
         next,
         clocked,
         known,
-        inputs.len() as u32,
-        names.len(),
-    )?)
+        inputs: inputs.len() as u32,
+        names: names.len(),
+    })
+}
+
+/// The names of the inputs, and behind them those of the states.
+fn all_names_of(
+    alloc: Global,
+    ports: &[Port<'_>],
+    texts: &Arguments<'_>,
+) -> Result<Seq<Name>, AllocError>
+    ensures { IfOk result (λ names. names ≡ input_names ports.now ++ state_names texts.now) }
+{
+    let mut names = input_names_of(alloc, ports)?;
+    push_states(alloc, &mut names, texts)?;
+    Ok(names)
+}
+
+/// Reads the parts of a register over the names of the inputs and of the states.
+fn parts_over(
+    alloc: Global,
+    ports: &[Port<'_>],
+    flop: &FlopGroup<'_>,
+    inputs: &[Name],
+    states: &[Name],
+) -> Result<FlopParts, CellFault>
+    requires ports { ArePorts ports.now }
+    requires inputs { inputs.now ≡ input_names ports.now }
+    requires states { states.now ≡ state_names flop.now.names }
+    ensures read { OrNoMemory NoMemory parts_of result (parts_read (input_names ports.now) (output_texts ports.now) flop.now) }
+    ensures plain { IfOk result (λ parts. parts.plain ≡ is_plain_flop (input_names ports.now) flop.now) }
+    ensures inputs { IfOk result (λ parts. parts.inputs ≡ length (input_names ports.now)) }
+    ensures few { IfOk result (λ parts. parts.inputs ≤ 16) }
+    ensures two { IfOk result (λ parts. parts.plain ≡ true → parts.names ≡ parts.inputs + 2) }
+    ensures next { IfOk result (λ parts. IfSome parts.next (λ e. IsTrue (is_within parts.names (term_of e)))) }
+    ensures clocked { IfOk result (λ parts. IfSome parts.clocked (λ e. IsTrue (is_within parts.inputs (term_of e)))) }
+{
+    let names = all_names_of(alloc, ports, &flop.names)?;
+    read_parts(alloc, ports, flop, inputs, states, names.as_slice())
+}
+
+/// Reads the parts of a register.
+fn flop_parts_of(
+    alloc: Global,
+    ports: &[Port<'_>],
+    flop: &FlopGroup<'_>,
+) -> Result<FlopParts, CellFault>
+    requires ports { ArePorts ports.now }
+    ensures read { OrNoMemory NoMemory parts_of result (parts_read (input_names ports.now) (output_texts ports.now) flop.now) }
+    ensures plain { IfOk result (λ parts. parts.plain ≡ is_plain_flop (input_names ports.now) flop.now) }
+    ensures inputs { IfOk result (λ parts. parts.inputs ≡ length (input_names ports.now)) }
+    ensures few { IfOk result (λ parts. parts.inputs ≤ 16) }
+    ensures two { IfOk result (λ parts. parts.plain ≡ true → parts.names ≡ parts.inputs + 2) }
+    ensures next { IfOk result (λ parts. IfSome parts.next (λ e. IsTrue (is_within parts.names (term_of e)))) }
+    ensures clocked { IfOk result (λ parts. IfSome parts.clocked (λ e. IsTrue (is_within parts.inputs (term_of e)))) }
+{
+    let inputs = input_names_of(alloc, ports)?;
+    let mut states = Seq::new(alloc);
+    push_states(alloc, &mut states, &flop.names)?;
+    parts_over(alloc, ports, flop, inputs.as_slice(), states.as_slice())
 }
 
 /// The register of these pins, or an unusable cell, from expressions that are read in full.
+#[tactic(auto, using(crate::proofs::FlopCells::cell_by_parts))]
 fn read_cell_of(
     alloc: Global,
     name: Name,
@@ -375,20 +461,8 @@ fn read_cell_of(
     requires ports { ArePorts ports.now }
     ensures { OrNoMemory NoMemory (λ cell. cell) result (flop_cell name ports.now flop.now) }
 {
-    let inputs = input_names_of(alloc, ports)?;
-    let mut states = Seq::new(alloc);
-    push_states(alloc, &mut states, &flop.names)?;
-    let mut names = input_names_of(alloc, ports)?;
-    push_states(alloc, &mut names, &flop.names)?;
-    read_cell_over(
-        alloc,
-        name,
-        ports,
-        flop,
-        inputs.as_slice(),
-        states.as_slice(),
-        names.as_slice(),
-    )
+    let parts = flop_parts_of(alloc, ports, flop)?;
+    Ok(flop_of_parts(alloc, name, ports, &parts)?)
 }
 
 /// The register of these pins, or an unusable cell. Where it cannot be usable, nothing is kept of its expressions.

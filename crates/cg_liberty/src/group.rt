@@ -236,11 +236,11 @@ impl<'a> CellGroup<'a> {
     pub fn note_pin(&mut self, pin: &PinGroup<'a>) -> Result<(), AllocError>
         ensures { OnOk result (self.new ≡ cell_with_pin self.old pin.now) }
     {
-        let pins = self.pins.take();
-        self.pins = match pins {
-            Some(pins) => add_pins(pins, pin)?,
-            None => None,
-        };
+        if let Some(pins) = &mut self.pins {
+            if !add_pins(pins, pin)? {
+                self.pins = None;
+            }
+        }
         Ok(())
     }
 

@@ -1,7 +1,7 @@
 //! The groups of a cell, read statement by statement.
 
 ghost use Rattle.std.specs.Prelude.{◌≡◌, ◌≤◌, length, Some, MatchResult, OnOk};
-ghost use Rattle.cg_liberty.specs.Cell.{GivesUp, cell_from, cell_with_group, new_cell};
+ghost use Rattle.cg_liberty.specs.Cell.{GivesUp, cell_from, cell_with_flop, cell_with_group, cell_with_pin, new_cell};
 ghost use Rattle.cg_liberty.specs.Group.{IsLeft, flop_from, new_flop, new_pin, pin_from};
 
 use crate::fault::ReadFault;
@@ -29,46 +29,71 @@ pub fn pass_group(statements: &mut Statements<'_>) -> Result<(), TextFault>
     Ok(())
 }
 
-/// Reads the rest of a `pin` group that describes these pins.
+/// Reads the rest of a `pin` group, and takes note of its attributes.
 #[tactic(auto, using(crate::proofs::Inside::behind_inside, crate::proofs::Inside::pin_inside))]
-fn read_pin<'a>(
-    statements: &mut Statements<'a>,
-    names: Arguments<'a>,
-) -> Result<PinGroup<'a>, TextFault>
-    ensures pin { MatchResult result (λ pin. (pin ≡ pin_from 0 (new_pin names.entry) statements.old.0) × IsLeft statements.old statements.new)
+fn read_pin<'a>(statements: &mut Statements<'a>, pin: &mut PinGroup<'a>) -> Result<(), TextFault>
+    ensures pin { MatchResult result (λ _. (pin.new ≡ pin_from 0 pin.old statements.old.0) × IsLeft statements.old statements.new)
         (λ fault. statements.old.1 ≡ Some fault) }
     ensures shorter { OnOk result (length statements.new.0 ≤ length statements.old.0) }
 {
-    let mut pin = PinGroup::new(names);
     'statements: while let Some(statement) = statements.next()? {
         match statement {
             Statement::Open(_, _) => pass_group(statements)?,
-            Statement::Close => return Ok(pin),
+            Statement::Close => return Ok(()),
             Statement::Attribute(word, text) => pin.note(&word, text),
         }
     }
-    Ok(pin)
+    Ok(())
 }
 
-/// Reads the rest of an `ff` group with these arguments.
+/// Reads the rest of an `ff` group, and takes note of its attributes.
 #[tactic(auto, using(crate::proofs::Inside::behind_inside, crate::proofs::Inside::flop_inside))]
-fn read_flop<'a>(
+fn read_flop<'a>(statements: &mut Statements<'a>, flop: &mut FlopGroup<'a>) -> Result<(), TextFault>
+    ensures flop { MatchResult result (λ _. (flop.new ≡ flop_from 0 flop.old statements.old.0) × IsLeft statements.old statements.new)
+        (λ fault. statements.old.1 ≡ Some fault) }
+    ensures shorter { OnOk result (length statements.new.0 ≤ length statements.old.0) }
+{
+    'statements: while let Some(statement) = statements.next()? {
+        match statement {
+            Statement::Open(_, _) => pass_group(statements)?,
+            Statement::Close => return Ok(()),
+            Statement::Attribute(word, text) => flop.note(&word, text),
+        }
+    }
+    Ok(())
+}
+
+/// Reads the rest of a `pin` group of a cell that describes these pins.
+fn take_pin<'a>(
     statements: &mut Statements<'a>,
+    cell: &mut CellGroup<'a>,
     names: Arguments<'a>,
-) -> Result<FlopGroup<'a>, TextFault>
-    ensures flop { MatchResult result (λ flop. (flop ≡ flop_from 0 (new_flop names.entry) statements.old.0) × IsLeft statements.old statements.new)
+) -> Result<(), ReadFault>
+    ensures pin { MatchResult result
+        (λ _. (cell.new ≡ cell_with_pin cell.old (pin_from 0 (new_pin names.entry) statements.old.0)) × IsLeft statements.old statements.new)
+        (GivesUp statements.old) }
+    ensures shorter { OnOk result (length statements.new.0 ≤ length statements.old.0) }
+{
+    let mut pin = PinGroup::new(names);
+    read_pin(statements, &mut pin)?;
+    Ok(cell.note_pin(&pin)?)
+}
+
+/// Reads the rest of an `ff` group of a cell with these arguments.
+fn take_flop<'a>(
+    statements: &mut Statements<'a>,
+    cell: &mut CellGroup<'a>,
+    names: Arguments<'a>,
+) -> Result<(), TextFault>
+    ensures flop { MatchResult result
+        (λ _. (cell.new ≡ cell_with_flop cell.old (flop_from 0 (new_flop names.entry) statements.old.0)) × IsLeft statements.old statements.new)
         (λ fault. statements.old.1 ≡ Some fault) }
     ensures shorter { OnOk result (length statements.new.0 ≤ length statements.old.0) }
 {
     let mut flop = FlopGroup::new(names);
-    'statements: while let Some(statement) = statements.next()? {
-        match statement {
-            Statement::Open(_, _) => pass_group(statements)?,
-            Statement::Close => return Ok(flop),
-            Statement::Attribute(word, text) => flop.note(&word, text),
-        }
-    }
-    Ok(flop)
+    read_flop(statements, &mut flop)?;
+    cell.note_flop(flop);
+    Ok(())
 }
 
 /// Reads the rest of a group that stands in a cell, and takes note of it.
@@ -84,11 +109,9 @@ fn read_group<'a>(
     ensures shorter { OnOk result (length statements.new.0 ≤ length statements.old.0) }
 {
     if word.is(b"pin") {
-        let pin = read_pin(statements, arguments)?;
-        cell.note_pin(&pin)?;
+        take_pin(statements, cell, arguments)?;
     } else if word.is(b"ff") {
-        let flop = read_flop(statements, arguments)?;
-        cell.note_flop(flop);
+        take_flop(statements, cell, arguments)?;
     } else {
         cell.note_group(word);
         pass_group(statements)?;
@@ -96,8 +119,24 @@ fn read_group<'a>(
     Ok(())
 }
 
-/// Reads the rest of a `cell` group.
+/// Reads the rest of a `cell` group, and takes note of what stands in it.
 #[tactic(auto, using(crate::proofs::Inside::behind_inside, crate::proofs::Inside::cell_inside))]
+fn fill_cell<'a>(statements: &mut Statements<'a>, cell: &mut CellGroup<'a>) -> Result<(), ReadFault>
+    ensures cell { MatchResult result (λ _. (cell.new ≡ cell_from 0 cell.old statements.old.0) × IsLeft statements.old statements.new)
+        (GivesUp statements.old) }
+    ensures shorter { OnOk result (length statements.new.0 ≤ length statements.old.0) }
+{
+    'statements: while let Some(statement) = statements.next()? {
+        match statement {
+            Statement::Open(word, arguments) => read_group(statements, cell, &word, arguments)?,
+            Statement::Close => return Ok(()),
+            Statement::Attribute(word, text) => cell.note(&word, text),
+        }
+    }
+    Ok(())
+}
+
+/// Reads the rest of a `cell` group.
 pub fn read_cell<'a>(
     alloc: Global,
     statements: &mut Statements<'a>,
@@ -108,14 +147,6 @@ pub fn read_cell<'a>(
     ensures shorter { OnOk result (length statements.new.0 ≤ length statements.old.0) }
 {
     let mut cell = CellGroup::new(alloc, name);
-    'statements: while let Some(statement) = statements.next()? {
-        match statement {
-            Statement::Open(word, arguments) => read_group(
-                statements, &mut cell, &word, arguments,
-            )?,
-            Statement::Close => return Ok(cell),
-            Statement::Attribute(word, text) => cell.note(&word, text),
-        }
-    }
+    fill_cell(statements, &mut cell)?;
     Ok(cell)
 }

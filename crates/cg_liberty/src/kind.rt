@@ -1,10 +1,10 @@
 //! The cell that a group describes, by the first rule that applies.
 
-ghost use Rattle.std.specs.Prelude.{◌≡◌, IfOk, IsTrue};
+ghost use Rattle.std.specs.Prelude.{◌≡◌, IfOk, IsTrue, Some};
 ghost use Rattle.cg_limit.specs.Answers.{OrNoMemory};
 ghost use Rattle.cg_cell.specs.Name.{is_name};
 ghost use Rattle.cg_liberty.specs.declared.fault.CellFault.TheVariants.{NoMemory};
-ghost use Rattle.cg_liberty.specs.Kinds.{cell_by_flops, cell_of, gating_cell};
+ghost use Rattle.cg_liberty.specs.Kinds.{cell_by_flops, cell_of, cell_with_ports, gating_cell};
 ghost use Rattle.cg_liberty.specs.Port.{ArePorts};
 
 use crate::fault::CellFault;
@@ -57,6 +57,27 @@ fn cell_by_flop_groups(
     }
 }
 
+/// The cell of these pins, by what its group says.
+fn cell_with_ports(
+    alloc: Global,
+    name: Name,
+    cell: &CellGroup<'_>,
+    ports: &[Port<'_>],
+) -> Result<CellType, CellFault>
+    requires named { IsTrue (is_name name) }
+    requires ports { ArePorts ports.now }
+    requires name { name ≡ cell.now.name }
+    ensures { OrNoMemory NoMemory (λ cell. cell) result (cell_with_ports cell.now (Some ports.now)) }
+{
+    if cell.gating.is_there() {
+        return Ok(cell_by_gating(alloc, name, cell, ports)?);
+    }
+    if cell.has_bank {
+        return Ok(unusable_cell(alloc, name));
+    }
+    cell_by_flop_groups(alloc, name, cell, ports)
+}
+
 /// The cell that a group describes, under its name.
 pub fn cell_of_group(alloc: Global, name: Name, cell: &CellGroup<'_>) -> Result<CellType, CellFault>
     requires named { IsTrue (is_name name) }
@@ -66,11 +87,5 @@ pub fn cell_of_group(alloc: Global, name: Name, cell: &CellGroup<'_>) -> Result<
     let Some(ports) = ports_of_cell(alloc, cell)? else {
         return Ok(unusable_cell(alloc, name));
     };
-    if cell.gating.is_there() {
-        return Ok(cell_by_gating(alloc, name, cell, ports.as_slice())?);
-    }
-    if cell.has_bank {
-        return Ok(unusable_cell(alloc, name));
-    }
-    cell_by_flop_groups(alloc, name, cell, ports.as_slice())
+    cell_with_ports(alloc, name, cell, ports.as_slice())
 }

@@ -1,6 +1,6 @@
 //! A library from its text.
 
-ghost use Rattle.std.specs.Prelude.{◌≡◌, ◌≤◌, List, [], length, None, IfErr, IfOk, IsTrue, OnOk, Some, MatchResult};
+ghost use Rattle.std.specs.Prelude.{◌≡◌, ◌≤◌, List, [], length, None, IfErr, IfOk, IsTrue, OnOk, Some, MatchResult, Ok};
 ghost use Rattle.std.specs.List.{AllByRecursion};
 ghost use Rattle.cg_limit.specs.Answers.{OrNoMemory};
 ghost use Rattle.cg_cell.specs.Name.{is_name};
@@ -11,7 +11,7 @@ ghost use Rattle.cg_liberty.specs.FirstFault.{IsFirstLibertyFault};
 ghost use Rattle.cg_liberty.specs.Group.{IsLeft};
 ghost use Rattle.cg_liberty.specs.Kinds.{cell_of};
 ghost use Rattle.cg_liberty.specs.LibText.{LibText};
-ghost use Rattle.cg_liberty.specs.Library.{added, all_added, cell_groups, cell_refusal, library_of, text_refusal, with_cell};
+ghost use Rattle.cg_liberty.specs.Library.{added, all_added, cell_groups, cell_refusal, library_of, with_cell};
 ghost use Rattle.cg_liberty.specs.declared.fault.LibertyFault.TheVariants.{NoMemory};
 ghost use Rattle.cg_liberty.specs.inner.Adding.{Adds};
 
@@ -19,7 +19,7 @@ use crate::fault::{CellFault, LibertyFault, ReadFault};
 use crate::group::CellGroup;
 use crate::groups::{pass_group, read_cell};
 use crate::kind::cell_of_group;
-use cg_cell::library::{Library, LibraryFault};
+use cg_cell::library::Library;
 use cg_cell::name::Name;
 use cg_liberty_text::argument::Arguments;
 use cg_liberty_text::fault::TextFault;
@@ -28,17 +28,6 @@ use cg_liberty_text::statements::Statements;
 use cg_liberty_text::text::Text;
 use cg_limit::{Limit, MOST_LIBRARY_CELLS};
 use std::alloc::Global;
-
-/// The refusal for a fault of the text.
-fn refusal_of_text(fault: TextFault) -> LibertyFault
-    ensures { result ≡ text_refusal fault }
-{
-    match fault {
-        TextFault::BadToken(at) => LibertyFault::BadToken(at as u64),
-        TextFault::BadGroup(at) => LibertyFault::BadGroup(at as u64),
-        TextFault::Nesting => LibertyFault::Limit(Limit::Nesting),
-    }
-}
 
 /// The refusal for the fault of an expression of a cell.
 fn refusal_of_cell(name: Name, fault: CellFault) -> LibertyFault
@@ -72,53 +61,45 @@ fn add_named(
     }
 }
 
-/// Adds the cell that a group describes to a library.
-fn add_cell(alloc: Global, library: &mut Library, group: &CellGroup<'_>) -> Result<(), LibertyFault>
+/// Adds the cell that a group describes to a library, by the bytes of its name.
+fn add_spelled(
+    alloc: Global,
+    library: &mut Library,
+    bytes: &[u8],
+    group: &CellGroup<'_>,
+) -> Result<(), LibertyFault>
+    requires { bytes.now ≡ group.now.name }
     ensures { OrNoMemory NoMemory (λ _. library.new) result (added library.old group.now) }
 {
-    let bytes = group.name.bytes(alloc)?;
-    if !Name::is_name(&bytes) {
+    if !Name::is_name(bytes) {
         return Ok(());
     }
     if library.len() as usize >= MOST_LIBRARY_CELLS {
         return Err(LibertyFault::Limit(Limit::LibraryCells));
     }
-    let name = Name::new(alloc, &bytes)?;
-    if library.find(&bytes).is_some() {
+    let name = Name::new(alloc, bytes)?;
+    if library.find(bytes).is_some() {
         return Err(LibertyFault::TwoCells(name));
     }
     add_named(alloc, library, name, group)
 }
 
-/// The library with the cell that a group describes.
-fn add_group(
-    alloc: Global,
-    mut library: Library,
-    group: &CellGroup<'_>,
-) -> Result<Library, LibertyFault>
-    ensures { OrNoMemory NoMemory (λ library. library) result (added library group.now) }
+/// Adds the cell that a group describes to a library.
+fn add_cell(alloc: Global, library: &mut Library, group: &CellGroup<'_>) -> Result<(), LibertyFault>
+    ensures { OrNoMemory NoMemory (λ _. library.new) result (added library.old group.now) }
 {
-    match add_cell(alloc, &mut library, group) {
-        Ok(()) => Ok(library),
-        Err(fault) => {
-            // By a call, as its parts would else be dropped one by one in the proof.
-            drop(library);
-            Err(fault)
-        }
-    }
+    let bytes = group.name.bytes(alloc)?;
+    add_spelled(alloc, library, &bytes, group)
 }
 
 /// Adds the cell that a group describes to a library that was not refused yet.
-fn add_to<'a>(
-    alloc: Global,
-    library: Result<Library, LibertyFault>,
-    group: &CellGroup<'a>,
-) -> Result<Library, LibertyFault>
-    ensures { Adds library result group.now }
+fn add_to(alloc: Global, library: &mut Result<Library, LibertyFault>, group: &CellGroup<'_>)
+    ensures { Adds library.old library.new group.now }
 {
-    match library {
-        Ok(library) => add_group(alloc, library, group),
-        Err(fault) => Err(fault),
+    if let Ok(cells) = library {
+        if let Err(fault) = add_cell(alloc, cells, group) {
+            *library = Err(fault);
+        }
     }
 }
 
@@ -136,15 +117,16 @@ fn first_argument(mut arguments: Arguments<'_>) -> Text<'_>
 fn take_cell<'a>(
     alloc: Global,
     statements: &mut Statements<'a>,
-    library: Result<Library, LibertyFault>,
+    library: &mut Result<Library, LibertyFault>,
     arguments: Arguments<'a>,
-) -> Result<Result<Library, LibertyFault>, ReadFault>
-    ensures taken { MatchResult result (λ after. Adds library after (cell_from 0 (new_cell (first_text arguments.entry)) statements.old.0)
+) -> Result<(), ReadFault>
+    ensures taken { MatchResult result (λ _. Adds library.old library.new (cell_from 0 (new_cell (first_text arguments.entry)) statements.old.0)
         × IsLeft statements.old statements.new) (GivesUp statements.old) }
     ensures shorter { OnOk result (length statements.new.0 ≤ length statements.old.0) }
 {
     let group = read_cell(alloc, statements, first_argument(arguments))?;
-    Ok(add_to(alloc, library, &group))
+    add_to(alloc, library, &group);
+    Ok(())
 }
 
 /// Reads what is left of a text, of which nothing counts but a fault.
@@ -155,17 +137,18 @@ fn pass_rest(statements: &mut Statements<'_>) -> Result<(), TextFault>
     Ok(())
 }
 
-/// Reads the cells of a library behind its `{`. A refusal of a cell waits for the end of the text,
-/// whose own faults come before it.
+/// Reads the cells of a library behind its `{`, and adds them to those that are there. A refusal of a cell waits for the
+/// end of the text, whose own faults come before it.
 #[tactic(auto, using(crate::proofs::Inside::cells_inside, crate::proofs::Adding::remains_more))]
 fn read_cells(
     alloc: Global,
     statements: &mut Statements<'_>,
-) -> Result<Result<Library, LibertyFault>, ReadFault>
-    ensures { MatchResult result (λ library. (statements.old.1 ≡ None) × OrNoMemory NoMemory (λ read. read) library (all_added [] (cells_from 0 statements.old.0)))
+    library: &mut Result<Library, LibertyFault>,
+) -> Result<(), ReadFault>
+    requires { library.now ≡ Ok [] }
+    ensures { MatchResult result (λ _. (statements.old.1 ≡ None) × OrNoMemory NoMemory (λ read. read) library.new (all_added [] (cells_from 0 statements.old.0)))
         (GivesUp statements.old) }
 {
-    let mut library = Ok(Library::new(alloc));
     'statements: while let Some(statement) = statements.next()? {
         match statement {
             Statement::Open(word, arguments) => {
@@ -173,37 +156,29 @@ fn read_cells(
                     pass_group(statements)?;
                     continue;
                 }
-                library = take_cell(alloc, statements, library, arguments)?;
+                take_cell(alloc, statements, library, arguments)?;
             }
-            Statement::Close => {
-                pass_rest(statements)?;
-                return Ok(library);
-            }
+            Statement::Close => return Ok(pass_rest(statements)?),
             Statement::Attribute(_, _) => {}
         }
     }
-    Ok(library)
+    Ok(())
 }
 
-/// Reads the cells of a text.
+/// Reads the cells of a text into a library without cells.
 fn read_text(
     alloc: Global,
     statements: &mut Statements<'_>,
-) -> Result<Result<Library, LibertyFault>, ReadFault>
-    ensures { MatchResult result (λ library. (statements.old.1 ≡ None) × OrNoMemory NoMemory (λ read. read) library (all_added [] (cell_groups statements.old.0)))
+    library: &mut Result<Library, LibertyFault>,
+) -> Result<(), ReadFault>
+    requires { library.now ≡ Ok [] }
+    ensures { MatchResult result (λ _. (statements.old.1 ≡ None) × OrNoMemory NoMemory (λ read. read) library.new (all_added [] (cell_groups statements.old.0)))
         (GivesUp statements.old) }
 {
     match statements.next()? {
-        Some(Statement::Open(_, _)) => read_cells(alloc, statements),
-        Some(Statement::Close) => {
-            pass_rest(statements)?;
-            Ok(Ok(Library::new(alloc)))
-        }
-        Some(Statement::Attribute(_, _)) => {
-            pass_rest(statements)?;
-            Ok(Ok(Library::new(alloc)))
-        }
-        None => Ok(Ok(Library::new(alloc))),
+        Some(Statement::Open(_, _)) => read_cells(alloc, statements, library),
+        Some(_) => Ok(pass_rest(statements)?),
+        None => Ok(()),
     }
 }
 
@@ -214,16 +189,12 @@ fn library_of_bytes(alloc: Global, bytes: &[u8]) -> Result<Library, LibertyFault
     ensures named { IfOk result (λ library. AllByRecursion (IsFound library) library) }
 {
     let mut statements = Statements::new(bytes);
-    match read_text(alloc, &mut statements) {
-        Ok(Ok(library)) => {
-            // What a library keeps is known of each.
-            prove!(library.len() as usize <= MOST_LIBRARY_CELLS);
-            Ok(library)
-        }
-        Ok(Err(fault)) => Err(fault),
-        Err(ReadFault::Text(fault)) => Err(refusal_of_text(fault)),
-        Err(ReadFault::NoMemory) => Err(LibertyFault::NoMemory),
-    }
+    let mut library = Ok(Library::new(alloc));
+    read_text(alloc, &mut statements, &mut library)?;
+    let library = library?;
+    // What a library keeps is known of each.
+    prove!(library.len() as usize <= MOST_LIBRARY_CELLS);
+    Ok(library)
 }
 
 /// Reads the text of a library.

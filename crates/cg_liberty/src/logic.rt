@@ -1,6 +1,6 @@
 //! Logic cells: one output, with a function of the inputs.
 
-ghost use Rattle.std.specs.Prelude.{◌≡◌, All, Some, IfOk, IfSome, IsTrue, length, map, option_map, vec_len};
+ghost use Rattle.std.specs.Prelude.{◌≡◌, ◌++◌, All, Some, IfOk, IfSome, IsTrue, OnOk, length, map, option_map, vec_len};
 ghost use Rattle.cg_limit.specs.Answers.{OrNoMemory};
 ghost use Rattle.cg_cell.specs.Expr.{term_of};
 ghost use Rattle.cg_cell.specs.Name.{is_name};
@@ -27,18 +27,24 @@ pub fn unusable_cell(alloc: Global, name: Name) -> CellType
     CellType::new(name, CellKind::Unusable, Vec::new(alloc), None)
 }
 
+/// Puts the names of the input pins behind the other names, in order.
+fn push_inputs(names: &mut Seq<Name>, ports: &[Port<'_>]) -> Result<(), AllocError>
+    ensures { OnOk result (names.new ≡ names.old ++ input_names ports.now) }
+{
+    'ports: for port in ports {
+        if !port.marks.is_output {
+            names.push(port.name.clone()?)?;
+        }
+    }
+    Ok(())
+}
+
 /// The names of the input pins, in order.
 pub fn input_names_of(alloc: Global, ports: &[Port<'_>]) -> Result<Seq<Name>, AllocError>
     ensures { IfOk result (λ names. names ≡ input_names ports.now) }
 {
     let mut names = Seq::new(alloc);
-    'ports: for port in ports {
-        if port.marks.is_output {
-            continue;
-        }
-        let name = port.name.clone()?;
-        names.push(name)?;
-    }
+    push_inputs(&mut names, ports)?;
     Ok(names)
 }
 

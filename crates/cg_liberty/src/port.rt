@@ -1,11 +1,11 @@
 //! The pins of a cell, from its `pin` groups.
 
-ghost use Rattle.std.specs.Prelude.{◌≡◌, ◌&&◌, ◌++◌, IfOk, IfSome, cond, map, None, Some};
+ghost use Rattle.std.specs.Prelude.{◌≡◌, ◌&&◌, ◌||◌, ◌++◌, IfOk, IfSome, cond, map, not, None, Some};
 ghost use Rattle.std.specs.List.{list_any};
 ghost use Rattle.std.specs.Str.{bytes_eq};
 ghost use Rattle.cg_cell.specs.Name.{are_distinct, has_no_equals};
 ghost use Rattle.cg_liberty.specs.Port.{ArePorts, few_pins, fit_together, group_pins, is_sound};
-ghost use Rattle.cg_liberty.specs.Port.{is_there, marks_of, ports_of, sound_ports, states, text_of};
+ghost use Rattle.cg_liberty.specs.Port.{is_there, marks_of, ports_of, ports_that_fit, sound_ports, states, text_of};
 ghost use Rattle.cg_liberty.specs.declared.port.PinText.{PinText};
 
 use crate::group::{CellGroup, PinGroup, Stated};
@@ -140,38 +140,24 @@ impl<'a> PinGroup<'a> {
     }
 }
 
-/// The pins, unless there are more than a usable cell has.
-fn unless_many<'a>(pins: Seq<PinText<'a>>) -> Option<Seq<PinText<'a>>>
-    ensures { result ≡ few_pins pins.entry }
-{
-    if pins.len() <= MOST_PINS {
-        Some(pins)
-    } else {
-        None
-    }
-}
-
-/// The pins with those of a group behind them, unless there are more than a usable cell has; those of an
-/// internal group are left out. No more are kept than that, however many the group names.
+/// Puts the pins of a group behind the others, and answers whether there are no more than a usable cell has; those of an
+/// internal group are left out. No more are put there than that, however many the group names.
 #[tactic(auto, using(crate::proofs::FewPins::one_too_many))]
-pub fn add_pins<'a>(
-    mut pins: Seq<PinText<'a>>,
-    group: &PinGroup<'a>,
-) -> Result<Option<Seq<PinText<'a>>>, AllocError>
-    ensures { IfOk result (λ kept. kept ≡ few_pins (pins.entry ++ group_pins group.now)) }
+pub fn add_pins<'a>(pins: &mut Seq<PinText<'a>>, group: &PinGroup<'a>) -> Result<bool, AllocError>
+    ensures { IfOk result (λ few. cond few (Some pins.new) None ≡ few_pins (pins.old ++ group_pins group.now)) }
 {
     if group.direction.states(b"internal") {
-        return Ok(unless_many(pins));
+        return Ok(pins.len() <= MOST_PINS);
     }
     let mut names = group.names.again();
     'names: while let Some(name) = names.next() {
         if pins.len() >= MOST_PINS {
-            return Ok(None);
+            return Ok(false);
         }
         let marks = group.marks();
         pins.push(PinText { name, marks })?;
     }
-    Ok(unless_many(pins))
+    Ok(pins.len() <= MOST_PINS)
 }
 
 /// Whether the byte `=` is not among the bytes.
@@ -181,21 +167,29 @@ fn lacks_equals(bytes: &[u8]) -> bool
     bytes.iter().all(|byte| *byte != b'=')
 }
 
+/// Whether a usable cell may have a pin of this name with these marks.
+fn can_be_port(name: &[u8], marks: &Marks<'_>) -> bool
+    ensures { result ≡ is_sound (record { name = name.now; marks = marks.now }) }
+{
+    Name::is_name(name)
+        && lacks_equals(name)
+        && (marks.is_input || marks.is_output)
+        && !marks.is_three_state
+}
+
 /// The pin with its name, where a usable cell may have it.
 fn sound_port<'a>(alloc: Global, pin: &PinText<'a>) -> Result<Option<Port<'a>>, AllocError>
     ensures { IfOk result (λ port. port ≡ cond (is_sound pin.now) (Some (record { name = pin.now.name; marks = pin.now.marks })) None) }
 {
     let bytes = pin.name.bytes(alloc)?;
-    let marks = pin.marks.again();
-    if !Name::is_name(&bytes)
-        || !lacks_equals(&bytes)
-        || !(marks.is_input || marks.is_output)
-        || marks.is_three_state
-    {
+    if !can_be_port(&bytes, &pin.marks) {
         return Ok(None);
     }
     let name = Name::new(alloc, &bytes)?;
-    Ok(Some(Port { name, marks }))
+    Ok(Some(Port {
+        name,
+        marks: pin.marks.again(),
+    }))
 }
 
 /// The pins with their names, where a usable cell may have all of them.
@@ -261,25 +255,35 @@ pub fn ports_of_cell<'a>(
     Ok(ports)
 }
 
+/// Whether a cell may have ports at all, by its name and its buses.
+fn may_have_ports(alloc: Global, cell: &CellGroup<'_>) -> Result<bool, AllocError>
+    ensures { IfOk result (λ may. may ≡ not (cell.now.has_bus || not (has_no_equals cell.now.name))) }
+{
+    let name = cell.name.bytes(alloc)?;
+    Ok(!cell.has_bus && lacks_equals(&name))
+}
+
+/// The ports, where one cell may have them together.
+fn ports_that_fit<'a>(ports: Option<Seq<Port<'a>>>) -> Option<Seq<Port<'a>>>
+    ensures { result ≡ ports_that_fit ports.entry }
+{
+    let ports = ports?;
+    if are_together(ports.as_slice()) {
+        Some(ports)
+    } else {
+        None
+    }
+}
+
 /// The pins that one cell may have.
 fn find_ports<'a>(alloc: Global, cell: &CellGroup<'a>) -> Result<Option<Seq<Port<'a>>>, AllocError>
     ensures { IfOk result (λ ports. ports ≡ ports_of cell.now) }
 {
-    let name = cell.name.bytes(alloc)?;
-    if cell.has_bus || !lacks_equals(&name) {
+    if !may_have_ports(alloc, cell)? {
         return Ok(None);
     }
-    let Some(pins) = &cell.pins else {
-        return Ok(None);
-    };
-    match sound_ports_of(alloc, pins.as_slice())? {
+    match &cell.pins {
+        Some(pins) => Ok(ports_that_fit(sound_ports_of(alloc, pins.as_slice())?)),
         None => Ok(None),
-        Some(ports) => {
-            if are_together(ports.as_slice()) {
-                Ok(Some(ports))
-            } else {
-                Ok(None)
-            }
-        }
     }
 }

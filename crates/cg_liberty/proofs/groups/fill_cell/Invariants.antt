@@ -1,11 +1,11 @@
 use Rattle.std.proofs.Common.{◌≡◌, ◌≤◌, length}
-use Rattle.cg_liberty.specs.Cell.{cell_from, new_cell}
+use Rattle.cg_liberty.specs.Cell.{cell_from}
 use Rattle.cg_liberty.specs.Group.{behind}
-use Rattle.cg_liberty.proofs.groups.read_cell.Given as goal
+use Rattle.cg_liberty.proofs.groups.fill_cell.Given as goal
 
 abbrev pub invariant-statements : goal.invariant-statements
 invariant-statements l = record {
-  cell : cell_from 0 (new_cell l.fn.name) l.fn.statements.0 ≡ cell_from 0 l.cell l.statements.0;
+  cell : cell_from 0 l.fn.cell l.fn.statements.0 ≡ cell_from 0 l.cell l.statements.0;
   left : behind 0 l.fn.statements.0 ≡ behind 0 l.statements.0;
   fault : l.fn.statements.1 ≡ l.statements.1;
   shorter : length l.statements.0 ≤ length l.fn.statements.0;

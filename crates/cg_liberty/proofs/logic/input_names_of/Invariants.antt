@@ -1,6 +1,0 @@
-use Rattle.std.proofs.Common.{◌≡◌, ◌++◌, drop}
-use Rattle.cg_liberty.specs.Kinds.{input_names}
-use Rattle.cg_liberty.proofs.logic.input_names_of.Given as goal
-
-abbrev pub invariant-ports : goal.invariant-ports
-invariant-ports l = l.names ++ input_names (drop l.port-index l.ports) ≡ input_names l.ports

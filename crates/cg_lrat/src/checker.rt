@@ -2,11 +2,12 @@
 
 ghost use Rattle.std.specs.Prelude.{◌≡◌, Ok, IfOk};
 ghost use Rattle.cg_lrat.specs.declared.verdict.Verdict.{Verdict};
-ghost use Rattle.cg_lrat.specs.Accepted.{verdict};
+ghost use Rattle.cg_lrat.specs.Accepted.{verdict, verdict_from};
 ghost use Rattle.cg_lrat.specs.AcceptedLog.{IsVerdict};
+ghost use Rattle.cg_lrat.specs.inner.Progress.{state_of};
 ghost use Rattle.cg_formula.specs.Satisfiable.{IsUnsatisfiable};
 
-use crate::log::Log;
+use crate::log::{Log, Step};
 use crate::progress::{Next, Progress};
 use crate::verdict::{Verdict, Why};
 use cg_formula::Formula;
@@ -16,12 +17,11 @@ use std::alloc::{AllocError, Global};
 /// addition along its own hints alone.
 pub struct Checker;
 
-/// The verdict.
-fn run<'a>(alloc: Global, formula: &'a Formula, log: &'a Log) -> Result<Verdict, AllocError>
-    ensures { IfOk result (λ found. found ≡ verdict formula.entry.now log.entry.now) }
+/// The verdict that the steps give.
+fn take_all<'a>(progress: &mut Progress<'a>, steps: &'a [Step]) -> Result<Verdict, AllocError>
+    ensures { IfOk result (λ found. found ≡ verdict_from (state_of progress.old) steps.entry.now) }
 {
-    let mut progress = Progress::start(alloc, formula)?;
-    for step in log.steps.as_slice() {
+    for step in steps {
         match progress.take(step)? {
             Next::Refused(why) => return Ok(Verdict::Rejected(step.line, why)),
             Next::Accepted => return Ok(Verdict::Accepted),
@@ -29,6 +29,14 @@ fn run<'a>(alloc: Global, formula: &'a Formula, log: &'a Log) -> Result<Verdict,
         }
     }
     Ok(Verdict::Rejected(0, Why::NoEmpty))
+}
+
+/// The verdict.
+fn run<'a>(alloc: Global, formula: &'a Formula, log: &'a Log) -> Result<Verdict, AllocError>
+    ensures { IfOk result (λ found. found ≡ verdict formula.entry.now log.entry.now) }
+{
+    let mut progress = Progress::start(alloc, formula)?;
+    take_all(&mut progress, log.steps.as_slice())
 }
 
 impl Checker {

@@ -1,7 +1,0 @@
-use Rattle.std.proofs.Common.{◌≡◌, drop}
-use Rattle.cg_lrat.specs.Accepted.{verdict, verdict_from}
-use Rattle.cg_lrat.specs.inner.Progress.{state_of}
-use Rattle.cg_lrat.proofs.checker.run.Given as goal
-
-abbrev pub invariant-loop-step : goal.invariant-loop-step
-invariant-loop-step l = verdict_from (state_of l.progress) (drop l.step-index l.log.steps) ≡ verdict l.formula l.log

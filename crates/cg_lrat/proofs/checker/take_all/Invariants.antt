@@ -1,0 +1,7 @@
+use Rattle.std.proofs.Common.{◌≡◌, drop}
+use Rattle.cg_lrat.specs.Accepted.{verdict_from}
+use Rattle.cg_lrat.specs.inner.Progress.{state_of}
+use Rattle.cg_lrat.proofs.checker.take_all.Given as goal
+
+abbrev pub invariant-loop-step : goal.invariant-loop-step
+invariant-loop-step l = verdict_from (state_of l.progress) (drop l.step-index l.steps) ≡ verdict_from (state_of l.fn.progress) l.fn.steps

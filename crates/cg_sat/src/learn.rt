@@ -166,6 +166,41 @@ fn is_clear(marks: &[bool], trail: &[Entry], from: usize, to: usize) -> bool
     true
 }
 
+/// Takes the reason of an entry that is needed, or keeps its literal. Answers whether it was kept.
+fn settle(
+    work: &mut Work,
+    guide: &mut Guide,
+    clauses: &Clauses,
+    trail: &[Entry],
+    at: usize,
+) -> Result<bool, AllocError>
+    requires within { at < length trail.now }
+    requires trail { IsTrail clauses.now trail.now }
+    requires named { VariablesBelow (length work.old.marks.items) clauses.now trail.now }
+    requires derives { Derives clauses.now (lits_of (take (at + 1) trail.now)) work.old.marks.items work.old.kept.items work.old.hints.items }
+    ensures derives { OnOk result (Derives clauses.now (lits_of (take at trail.now)) work.new.marks.items work.new.kept.items work.new.hints.items) }
+    ensures marks { length work.new.marks.items ≡ length work.old.marks.items }
+    ensures kept { (entry : Entry) → slice_get trail.now at ≡ Some entry →
+        IfOk result (λ kept. work.new.kept.items ≡ (if kept then work.old.kept.items ++ entry.lit ∷ [] else work.old.kept.items)) }
+{
+    let entry = trail[at];
+    if !work.marks[entry.lit.variable as usize] {
+        return Ok(false);
+    }
+    match entry.reason {
+        Some(reason)
+            if at < guide.fixed
+                || is_redundant(work.marks.as_slice(), guide, clauses, reason, entry.lit) => {
+            resolve(work, guide, clauses, trail, at, reason)?;
+            Ok(false)
+        }
+        _ => {
+            keep(work, clauses, trail, at)?;
+            Ok(true)
+        }
+    }
+}
+
 /// Goes down the trail from a decision: what is needed there is kept, or its reason is taken. Answers where the trail
 /// is to be cut: at the lowest decision above all that is kept.
 fn gather(
@@ -187,19 +222,9 @@ fn gather(
     let mut cut = from;
     let mut settled = false;
     for at in (0..from).rev() {
-        let entry = trail[at];
-        if work.marks[entry.lit.variable as usize] {
-            match entry.reason {
-                Some(reason)
-                    if at < guide.fixed
-                        || is_redundant(work.marks.as_slice(), guide, clauses, reason, entry.lit) =>
-                    resolve(work, guide, clauses, trail, at, reason)?,
-                _ => {
-                    settled = true;
-                    keep(work, clauses, trail, at)?;
-                }
-            }
-        } else if !settled && entry.reason.is_none() {
+        if settle(work, guide, clauses, trail, at)? {
+            settled = true;
+        } else if !settled && trail[at].reason.is_none() {
             cut = at;
         }
     }
@@ -232,6 +257,42 @@ fn level_of(trail: &[Entry], top: usize) -> Option<usize>
     None
 }
 
+/// Takes the reason of an entry, if its literal is needed.
+fn resolve_at(
+    work: &mut Work,
+    guide: &mut Guide,
+    clauses: &Clauses,
+    trail: &[Entry],
+    at: usize,
+) -> Result<(), AllocError>
+    requires within { at < length trail.now }
+    requires implied { AreImplied trail.now at (at + 1) }
+    requires trail { IsTrail clauses.now trail.now }
+    requires named { VariablesBelow (length work.old.marks.items) clauses.now trail.now }
+    requires derives { Derives clauses.now (lits_of (take (at + 1) trail.now)) work.old.marks.items work.old.kept.items work.old.hints.items }
+    ensures derives { OnOk result (Derives clauses.now (lits_of (take at trail.now)) work.new.marks.items work.new.kept.items work.new.hints.items) }
+    ensures marks { length work.new.marks.items ≡ length work.old.marks.items }
+    ensures kept { work.new.kept.items ≡ work.old.kept.items }
+{
+    let entry = trail[at];
+    if !work.marks[entry.lit.variable as usize] {
+        return Ok(());
+    }
+    let Some(reason) = entry.reason else {
+        unreachable!();
+    };
+    resolve(work, guide, clauses, trail, at, reason)
+}
+
+/// Whether an entry is needed, and nothing else of its level, which begins at this place.
+fn is_point(marks: &[bool], trail: &[Entry], from: usize, at: usize) -> bool
+    requires within { at < length trail.now }
+    requires named { (k : ℕ) (entry : Entry) → slice_get trail.now k ≡ Some entry → entry.lit.variable < length marks.now }
+    ensures { IsTrue result → AreClear marks.now trail.now from at }
+{
+    marks[trail[at].lit.variable as usize] && is_clear(marks, trail, from, at)
+}
+
 /// Takes reasons in place of what is needed last, until nothing else of the level is needed.
 fn first_point(
     work: &mut Work,
@@ -253,16 +314,10 @@ fn first_point(
     ensures kept { work.new.kept.items ≡ work.old.kept.items }
 {
     for at in (from + 1..top + 1).rev() {
-        let entry = trail[at];
-        if work.marks[entry.lit.variable as usize] {
-            if is_clear(work.marks.as_slice(), trail, from, at) {
-                return Ok(at);
-            }
-            match entry.reason {
-                Some(reason) => resolve(work, guide, clauses, trail, at, reason)?,
-                None => unreachable!(),
-            }
+        if is_point(work.marks.as_slice(), trail, from, at) {
+            return Ok(at);
         }
+        resolve_at(work, guide, clauses, trail, at)?;
     }
     Ok(from)
 }
@@ -285,13 +340,7 @@ fn refute(
     ensures kept { work.new.kept.items ≡ work.old.kept.items }
 {
     for at in (0..top + 1).rev() {
-        let entry = trail[at];
-        if work.marks[entry.lit.variable as usize] {
-            match entry.reason {
-                Some(reason) => resolve(work, guide, clauses, trail, at, reason)?,
-                None => unreachable!(),
-            }
-        }
+        resolve_at(work, guide, clauses, trail, at)?;
     }
     Ok(())
 }

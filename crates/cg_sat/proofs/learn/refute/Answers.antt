@@ -1,18 +1,23 @@
-use Rattle.std.proofs.Common.{◌≡◌, ◌+◌, ◌-◌, ◌≤◌, take, length, arith, subst, get_or}
-use Rattle.std.proofs.lemmas.Option.{slice_get-get_or}
-use Rattle.cg_sat.proofs.Marks.{blank, read_off, not_none}
-use Rattle.cg_sat.proofs.Walk.{loop_skip}
+use Rattle.std.proofs.Common.{◌≡◌, ◌+◌, ◌-◌, ◌≤◌, ◌∙◌, take, length, arith, subst, sym}
+use Rattle.cg_sat.specs.inner.Trail.{lits_of}
+use Rattle.cg_sat.specs.inner.Learn.{Derives, VariablesBelow}
 use Rattle.cg_sat.proofs.learn.refute.Goals as goal
 
-pub unreachable-requires : goal.unreachable-requires
-unreachable-requires c =
-    not_none (get_or c.args.trail.now (c.loop-at.at - 1) blank).reason c.in-None.is
-    (c.requires.implied (c.loop-at.at - 1) (get_or c.args.trail.now (c.loop-at.at - 1) blank) (omega arith) (omega arith) (slice_get-get_or c.args.trail.now (c.loop-at.at - 1) blank (omega arith)))
+pub resolve_at-requires : goal.resolve_at-requires
+resolve_at-requires c =
+    let back : c.loop-at.at ≡ c.loop-at.at - 1 + 1 = omega arith in
+    record {
+      within = omega arith;
+      implied = λ k entry low high is. c.requires.implied k entry (omega arith) (omega arith) is;
+      trail = c.requires.trail;
+      named = subst (λ n. VariablesBelow n c.args.clauses.now c.args.trail.now) (sym c.loop-at.invariant.long) c.requires.named;
+      derives = subst (λ k. Derives c.args.clauses.now (lits_of (take k c.args.trail.now)) c.loop-at.work.marks.items c.loop-at.work.kept.items c.loop-at.work.hints.items) back
+          c.loop-at.invariant.derives;
+    }
 
 pub loop-at-preserved : goal.loop-at-preserved
 loop-at-preserved c = record {
-  derives = loop_skip c.args.clauses.now c.args.trail.now c.loop-at.work.marks.items c.loop-at.work.kept.items c.loop-at.work.hints.items c.loop-at.at (omega arith) (omega arith)
-      (read_off c.loop-at.work.marks.items _ c.index.result.now c.index.ensures c.if-index.false) c.loop-at.invariant.derives;
-  long = c.loop-at.invariant.long;
-  kept = c.loop-at.invariant.kept;
+  derives = c.in_ok-resolve_at.ensures.derives;
+  long = c.resolve_at.ensures.marks ∙ c.loop-at.invariant.long;
+  kept = c.resolve_at.ensures.kept ∙ c.loop-at.invariant.kept;
 }

@@ -1,5 +1,5 @@
 -- Reading a DIMACS text: the formula, or the first fault.
-use Rattle.std.specs.Prelude.{◌≡◌, ℕ, ◌&&◌, List, [], ◌∷◌, Result, Ok, Err, codes, if◌then◌else◌, nat_le, zero, suc}
+use Rattle.std.specs.Prelude.{ℕ, ◌&&◌, List, [], ◌∷◌, Result, Ok, Err, codes, if◌then◌else◌, nat_le, zero, suc}
 use Rattle.std.specs.Str.{bytes_eq}
 use Rattle.cg_limit.specs.declared.TheConstants.{MOST_VARIABLES}
 use Rattle.cg_limit.specs.declared.Limit.TheVariants.{Variables}

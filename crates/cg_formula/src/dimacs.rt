@@ -1,12 +1,13 @@
 //! The DIMACS CNF text of a formula.
 
-ghost use Rattle.std.specs.Prelude.{◌≡◌, ◌++◌, ◌<◌, Ok, IfOk, OnOk};
+ghost use Rattle.std.specs.Prelude.{◌≡◌, ◌++◌, ◌<◌, ◌&&◌, Ok, IfOk, OnOk, codes, map};
+ghost use Rattle.std.specs.Str.{bytes_eq};
 ghost use Rattle.cg_limit.specs.Answers.{OrNoMemory};
-ghost use Rattle.cg_text.specs.Written.{line_text};
+ghost use Rattle.cg_text.specs.Written.{line_text, text_of};
 ghost use Rattle.cg_formula.specs.Bounds.{IsFormula};
 ghost use Rattle.cg_formula.specs.declared.formula.Formula.{Formula};
 ghost use Rattle.cg_formula.specs.declared.dimacs.DimacsFault.TheVariants.{NoMemory};
-ghost use Rattle.cg_formula.specs.DimacsText.{DimacsText, header_words, dimacs_text};
+ghost use Rattle.cg_formula.specs.DimacsText.{DimacsText, header_words, clause_words, dimacs_text};
 ghost use Rattle.cg_formula.specs.DimacsReading.{counts_of, header_of, clause_at, clauses_at, dimacs};
 
 use crate::formula::{Clause, Formula};
@@ -78,10 +79,18 @@ fn read_header(line: Words<'_>) -> Result<Header, DimacsFault>
     let format = words.next_word().ok_or(DimacsFault::BadHeader)?;
     let variables = words.next_word().ok_or(DimacsFault::BadHeader)?;
     let clauses = words.next_word().ok_or(DimacsFault::BadHeader)?;
-    if !words.is_empty() || problem != b"p".as_slice() || format != b"cnf".as_slice() {
-        return Err(DimacsFault::BadHeader);
+    if words.is_empty() && is_cnf(problem, format) {
+        read_counts(read_number(variables), read_number(clauses))
+    } else {
+        Err(DimacsFault::BadHeader)
     }
-    read_counts(read_number(variables), read_number(clauses))
+}
+
+/// Whether these are the words `p cnf`.
+fn is_cnf(problem: &[u8], format: &[u8]) -> bool
+    ensures { result ≡ (bytes_eq problem.now (codes "p") && bytes_eq format.now (codes "cnf")) }
+{
+    problem == b"p".as_slice() && format == b"cnf".as_slice()
 }
 
 /// The numbers of variables and clauses.
@@ -187,11 +196,19 @@ pub fn write_dimacs(alloc: Global, formula: &Formula) -> Result<Vec<u8>, AllocEr
     let mut text = Vec::new(alloc);
     let count = formula.clauses.len();
     push_header(&mut text, formula.variables, count)?;
-    for clause in formula.clauses.as_slice() {
-        push_clause(&mut text, clause)?;
+    push_clauses(&mut text, formula.clauses.as_slice())?;
+    Ok(text)
+}
+
+/// Puts the lines of clauses behind the text.
+fn push_clauses(text: &mut Vec<u8>, clauses: &[Clause]) -> Result<(), AllocError>
+    ensures { OnOk result (text.new.items ≡ text.old.items ++ text_of (map clause_words clauses.now)) }
+{
+    for clause in clauses {
+        push_clause(text, clause)?;
         text.push(b'\n')?;
     }
-    Ok(text)
+    Ok(())
 }
 
 /// Puts the header line behind the text.

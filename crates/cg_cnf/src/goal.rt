@@ -53,9 +53,9 @@ fn push_node(
     };
     let left = lit_of(a);
     let right = lit_of(b);
-    clauses.push(clause(alloc, &[lit.inverse(), left])?)?;
-    clauses.push(clause(alloc, &[lit.inverse(), right])?)?;
-    clauses.push(clause(alloc, &[lit, left.inverse(), right.inverse()])?)
+    push(alloc, &[lit.inverse(), left], clauses)?;
+    push(alloc, &[lit.inverse(), right], clauses)?;
+    push(alloc, &[lit, left.inverse(), right.inverse()], clauses)
 }
 
 /// Puts the clause of the goal behind the others: an empty one where the goal is the constant 0, and none
@@ -63,23 +63,19 @@ fn push_node(
 fn push_goal(alloc: Global, goal: AigLit, clauses: &mut Seq<Clause>) -> Result<(), AllocError>
     ensures { OnOk result (clauses.new ≡ clauses.old ++ goal_clauses goal) }
 {
-    let number = goal.number();
-    if number == 1 {
-        return Ok(());
+    match goal.number() {
+        0 => push(alloc, &[], clauses),
+        1 => Ok(()),
+        _ => push(alloc, &[lit_of(goal)], clauses),
     }
-    let mut lits = Seq::new(alloc);
-    if number != 0 {
-        lits.push(lit_of(goal))?;
-    }
-    clauses.push(Clause { lits })
 }
 
-/// A clause of these literals.
-fn clause(alloc: Global, lits: &[Lit]) -> Result<Clause, AllocError>
-    ensures { IfOk result (λ clause. clause ≡ clause_of lits.now) }
+/// Puts a clause of these literals behind the others.
+fn push(alloc: Global, lits: &[Lit], clauses: &mut Seq<Clause>) -> Result<(), AllocError>
+    ensures { OnOk result (clauses.new ≡ clauses.old ++ clause_of lits.now ∷ []) }
 {
     let lits = Vec::from_slice(alloc, lits)?;
-    Ok(Clause {
+    clauses.push(Clause {
         lits: Seq::from_vec(lits),
     })
 }

@@ -1,4 +1,4 @@
-use Rattle.std.proofs.Common.{◌≡◌, ◌+◌, ◌-◌, ◌≤◌, ◌∙◌, take, length, arith, subst, sym}
+use Rattle.std.proofs.Common.{◌≡◌, ◌+◌, ◌-◌, ◌∙◌, take, arith, subst, sym}
 use Rattle.cg_sat.specs.inner.Trail.{lits_of}
 use Rattle.cg_sat.specs.inner.Learn.{Derives, VariablesBelow}
 use Rattle.cg_sat.proofs.learn.first_point.Goals as goal

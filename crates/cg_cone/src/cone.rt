@@ -8,7 +8,7 @@ use cg_netlist::netlist::Netlist;
 
 /// What some nets depend on at the same moment: logic cells in walk order, and the data inputs and registers at their edge,
 /// each in order.
-#[derive(Debug, Drop)]
+#[derive(Drop)]
 pub struct Cone {
     /// The logic cells, in walk order.
     pub cells: Seq<CellId>,

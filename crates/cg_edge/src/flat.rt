@@ -16,7 +16,7 @@ use std::alloc::{AllocError, Global};
 use std::marker::Model;
 
 /// A logic cell: its output, where its inputs stand, and its table, where it has few inputs.
-#[derive(Clone, Copy, Debug)]
+#[derive(Clone, Copy)]
 pub(crate) struct FlatCell {
     output: NetId,
     first: usize,

@@ -22,7 +22,7 @@ use cg_netlist::id::{NetId, RegId};
 use std::alloc::{AllocError, Global};
 
 /// The hold stages of a machine.
-#[derive(Debug, Drop)]
+#[derive(Drop)]
 pub struct HoldFound {
     /// The stages, in net order of their literals, plain before inverted.
     pub stages: Seq<Stage>,

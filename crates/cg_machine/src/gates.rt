@@ -20,7 +20,7 @@ use std::alloc::{AllocError, Global};
 use std::marker::Model;
 
 /// An added gate: what it computes, its input nets in the order of its pins, and its output net.
-#[derive(Debug, Drop)]
+#[derive(Drop)]
 pub(crate) struct Gate {
     pub(crate) kind: FitKind,
     pub(crate) inputs: Vec<NetId>,
@@ -96,7 +96,7 @@ fn either(first: bool, second: bool) -> bool
 }
 
 /// What a gate computes of which nets, by their numbers.
-#[derive(Clone, Copy, Debug, PartialEq, Eq, Hash)]
+#[derive(Clone, Copy, PartialEq, Eq, Hash)]
 pub(crate) enum GateKey {
     /// The inverse of a net.
     Inverter(u32),

@@ -7,7 +7,7 @@ use cg_netlist::id::{NetId, RegId};
 use std::marker::Model;
 
 /// A literal: a net, plain or inverted. A contract sees the pair of both.
-#[derive(Clone, Copy, Debug, PartialEq, Eq)]
+#[derive(Clone, Copy)]
 pub struct NetLit {
     /// The net.
     pub net: NetId,
@@ -25,7 +25,7 @@ impl Model for NetLit {
 }
 
 /// Why the registers of a stage need no clock where its joined enable is 0.
-#[derive(Clone, Copy, Debug, PartialEq, Eq)]
+#[derive(Clone, Copy)]
 pub enum StageKind {
     /// They hold their bits in that cycle.
     Hold,
@@ -38,7 +38,7 @@ pub enum StageKind {
 }
 
 /// Registers that may get one enable.
-#[derive(Debug, Drop)]
+#[derive(Drop)]
 pub struct Stage {
     /// Why they may.
     pub kind: StageKind,
@@ -57,7 +57,7 @@ pub struct Stage {
 }
 
 /// A stage that was tried, and whether it was inserted.
-#[derive(Debug, Drop)]
+#[derive(Drop)]
 pub struct Earlier {
     /// The stage.
     pub stage: Stage,

@@ -4,7 +4,7 @@ use cg_cell::fit::FitKind;
 use cg_netlist::id::NetId;
 
 /// An added gate: its input nets in the order of its pins, and its output net.
-#[derive(Clone, Copy, Debug)]
+#[derive(Clone, Copy)]
 pub struct GateView<'a> {
     /// What it computes.
     pub kind: FitKind,

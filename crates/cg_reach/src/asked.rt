@@ -4,7 +4,7 @@ use cg_machine::stage::NetLit;
 use cg_netlist::id::{NetId, RegId};
 
 /// A copy of the machine.
-#[derive(Clone, Copy, Debug, PartialEq, Eq)]
+#[derive(Clone, Copy)]
 pub enum Frame {
     /// The first cycle.
     Before,
@@ -17,7 +17,7 @@ pub enum Frame {
 }
 
 /// What one side of a goal shows of a copy.
-#[derive(Clone, Copy, Debug, PartialEq, Eq)]
+#[derive(Clone, Copy)]
 pub enum Part {
     /// The bit of a net.
     Net(NetId),
@@ -33,7 +33,7 @@ pub enum Part {
 }
 
 /// A side of a goal: a part of a copy.
-#[derive(Clone, Copy, Debug, PartialEq, Eq)]
+#[derive(Clone, Copy)]
 pub struct Side {
     /// The copy.
     pub frame: Frame,
@@ -44,7 +44,7 @@ pub struct Side {
 
 /// What a claim asks: whether, where the joined enable is 0 in the first cycle, two sides can differ. Without sides it is
 /// whether the joined enable can be 0.
-#[derive(Clone, Copy, Debug)]
+#[derive(Clone, Copy)]
 pub struct Asked<'a> {
     /// The literals of the joined enable.
     pub enables: &'a [NetLit],

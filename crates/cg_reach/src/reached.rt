@@ -23,7 +23,7 @@ use cg_netlist::id::RegId;
 use std::alloc::{AllocError, Global};
 
 /// What a claim reaches.
-#[derive(Debug, Drop)]
+#[derive(Drop)]
 pub struct Reached {
     /// The cone of the first copy.
     pub before: Cone,

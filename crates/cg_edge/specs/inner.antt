@@ -3,3 +3,4 @@ pub mod Bits
 pub mod Flat
 pub mod Keeping
 pub mod Spans
+pub mod Starting

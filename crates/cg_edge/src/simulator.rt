@@ -5,6 +5,8 @@ ghost use Rattle.std.specs.Option.{option_map};
 ghost use Rattle.cg_netlist.specs.Moment.{bit};
 ghost use Rattle.cg_edge.specs.Shows.{Shows, ShowsOn};
 ghost use Rattle.cg_edge.specs.Simulated.{MayTick, Simulated, Ticks, fresh};
+ghost use Rattle.cg_edge.specs.inner.Starting.{AreZeros, IsWalk};
+ghost use Rattle.cg_netlist.specs.Nets.{walk_order};
 
 use crate::flat::FlatCells;
 use crate::marks::Marks;
@@ -70,29 +72,28 @@ impl<'a> Simulator<'a> {
         ensures fresh { IfOk result (λ simulator. simulator ≡ fresh netlist.entry.now start.now) }
         ensures shows { IfOk result (λ simulator. Shows simulator [] []) }
     {
-        let nets = netlist.nets() as usize;
-        let registers = netlist.registers() as usize;
-        let gaters = netlist.gaters() as usize;
+        let _nets = netlist.nets();
         let order = netlist.order();
-        let room = netlist.widest() as usize;
-        let cells = FlatCells::new(alloc, netlist, order)?;
-        let readers = Readers::new(alloc, netlist, order)?;
-        let marks = Marks::all(alloc, order.len())?;
+        let state = Vec::from_slice(alloc, start)?;
+        let start = Vec::from_slice(alloc, start)?;
+        let chain = netlist.gate_order(alloc)?;
+        let zeros = Zeros::new(alloc, netlist)?;
+        let walk = Walk::new(alloc, netlist, order)?;
         Ok(Simulator {
             netlist,
-            start: Vec::from_slice(alloc, start)?,
-            chain: netlist.gate_order(alloc)?,
+            start,
+            chain,
             order,
-            cells,
-            readers,
+            cells: walk.cells,
+            readers: walk.readers,
             ticked: false,
-            nets: bits(alloc, false, nets)?,
-            before: bits(alloc, false, nets)?,
-            state: Vec::from_slice(alloc, start)?,
-            latches: bits(alloc, false, gaters)?,
-            rose: bits(alloc, false, registers)?,
-            marks,
-            scratch: bits(alloc, false, room)?,
+            nets: zeros.nets,
+            before: zeros.before,
+            state,
+            latches: zeros.latches,
+            rose: zeros.rose,
+            marks: walk.marks,
+            scratch: zeros.scratch,
         })
     }
 
@@ -182,9 +183,63 @@ impl<'a> Simulator<'a> {
     }
 }
 
-/// So many equal bits.
-fn bits(alloc: Global, bit: bool, count: usize) -> Result<Vec<bool>, AllocError>
-    ensures { IfOk result (λ bits. bits.items ≡ replicate count bit) }
+/// The logic cells in walk order, what reads each net, and a mark for each cell.
+#[derive(Drop)]
+struct Walk {
+    cells: FlatCells,
+    readers: Readers,
+    marks: Marks,
+}
+
+impl Walk {
+    /// Those of a netlist, with all cells marked.
+    fn new(alloc: Global, netlist: &Netlist, order: &[CellId]) -> Result<Walk, AllocError>
+        requires { order.now ≡ walk_order netlist.now.cells }
+        ensures { IfOk result (IsWalk netlist.now order.now) }
+    {
+        let cells = FlatCells::new(alloc, netlist, order)?;
+        let readers = Readers::new(alloc, netlist, order)?;
+        let marks = Marks::all(alloc, order.len())?;
+        Ok(Walk {
+            cells,
+            readers,
+            marks,
+        })
+    }
+}
+
+/// The bits that are 0 before the first tick.
+#[derive(Drop)]
+struct Zeros {
+    nets: Vec<bool>,
+    before: Vec<bool>,
+    latches: Vec<bool>,
+    rose: Vec<bool>,
+    scratch: Vec<bool>,
+}
+
+impl Zeros {
+    /// Those of a netlist.
+    fn new(alloc: Global, netlist: &Netlist) -> Result<Zeros, AllocError>
+        ensures { IfOk result (AreZeros netlist.now) }
+    {
+        let nets = netlist.nets() as usize;
+        let registers = netlist.registers() as usize;
+        let gaters = netlist.gaters() as usize;
+        let room = netlist.widest() as usize;
+        Ok(Zeros {
+            nets: zero_bits(alloc, nets)?,
+            before: zero_bits(alloc, nets)?,
+            latches: zero_bits(alloc, gaters)?,
+            rose: zero_bits(alloc, registers)?,
+            scratch: zero_bits(alloc, room)?,
+        })
+    }
+}
+
+/// So many bits that are 0.
+fn zero_bits(alloc: Global, count: usize) -> Result<Vec<bool>, AllocError>
+    ensures { IfOk result (λ bits. bits.items ≡ replicate count false) }
 {
-    vec![in alloc; bit; count]
+    vec![in alloc; false; count]
 }

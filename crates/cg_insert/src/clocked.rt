@@ -210,12 +210,8 @@ pub fn tell_register(
     requires { MayTell builder.old (clocked_part names.now (record (register_seen register) { clock = clock }) ∷ []) }
     ensures { WasTold builder.old (clocked_part names.now (record (register_seen register.entry) { clock = clock }) ∷ []) builder.new result }
 {
-    let Ok(inputs) = names.each(alloc, register.inputs) else {
-        return Err(AddFault::NoMemory);
-    };
-    let Ok(outputs) = placed_outputs(alloc, names, register.outputs, register.pins) else {
-        return Err(AddFault::NoMemory);
-    };
+    let inputs = names.each(alloc, register.inputs)?;
+    let outputs = placed_outputs(alloc, names, register.outputs, register.pins)?;
     let clock = Some(names.name(clock));
     builder.register(
         cell_of(register.kind),

@@ -7,7 +7,7 @@ ghost use Rattle.cg_limit.specs.declared.Limit.TheVariants.{Nets};
 ghost use Rattle.cg_insert.specs.Insert.{CanInsert, enables_of, first_gate, inserted, insertion_limit};
 ghost use Rattle.cg_insert.specs.Inserting.{IsWhole, RunsAs, StaysWritable, insertion};
 ghost use Rattle.cg_insert.specs.inner.GatedParts.{gated_names, gated_parts};
-ghost use Rattle.cg_insert.specs.inner.Telling.{told};
+ghost use Rattle.cg_insert.specs.inner.Telling.{WasTold, told};
 ghost use Rattle.cg_netlist.specs.declared.fault.AddFault.TheVariants.{Limit as LimitFault, NoMemory};
 ghost use Rattle.cg_builder.specs.Building.{fresh};
 
@@ -47,9 +47,7 @@ pub fn insert(
     let netlist = machine.netlist();
     let _own = netlist.nets();
     let _cells = library.len();
-    let Ok(enables) = Enables::of(alloc, machine) else {
-        return Err(AddFault::NoMemory);
-    };
+    let enables = Enables::of(alloc, machine)?;
     if first_gate(machine, test) as usize + enables.len() > MOST_NETS {
         return Err(AddFault::Limit(Limit::Nets));
     }
@@ -76,16 +74,37 @@ fn told_builder(
         (gated_parts (gated_names (option_copied test.entry) machine.now) library.now (option_copied test.entry) machine.now))
         (λ fault. fault ≡ NoMemory) }
 {
-    let Ok(names) = GatedNames::of(alloc, machine, test, enables.len()) else {
-        return Err(AddFault::NoMemory);
-    };
+    let mut builder = Builder::new(alloc, machine.netlist().model())?;
+    match tell_named(alloc, &mut builder, machine, library, test, enables) {
+        Ok(()) => Ok(builder),
+        Err(fault) => {
+            // By a call, as its parts would else be dropped one by one in the proof.
+            drop(builder);
+            Err(fault)
+        }
+    }
+}
+
+/// Tells all parts to a builder that was told nothing, by names that are made for them.
+fn tell_named(
+    alloc: Global,
+    builder: &mut Builder,
+    machine: &Machine,
+    library: &Library,
+    test: Option<&Name>,
+    enables: &Enables,
+) -> Result<(), AddFault>
+    requires can { CanInsert library.now (option_copied test) machine.now }
+    requires enables { enables.now ≡ enables_of machine.now }
+    requires small { insertion_limit (option_copied test) machine.now ≡ None }
+    requires empty { builder.old ≡ fresh machine.now.circuit.model }
+    ensures { WasTold builder.old
+        (gated_parts (gated_names (option_copied test.entry) machine.now) library.now (option_copied test.entry) machine.now) builder.new result }
+{
     let netlist = machine.netlist();
     let _own = netlist.nets();
-    let Ok(mut builder) = Builder::new(alloc, netlist.model()) else {
-        return Err(AddFault::NoMemory);
-    };
-    tell(alloc, &mut builder, machine, library, test, &names, enables)?;
-    Ok(builder)
+    let names = GatedNames::of(alloc, machine, test, enables.len())?;
+    tell(alloc, builder, machine, library, test, &names, enables)
 }
 
 /// Want of memory, where a fault stands for nothing else.

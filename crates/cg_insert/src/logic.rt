@@ -53,16 +53,14 @@ fn tell_cell(
     ensures { WasTold builder.old (cell_parts names.now (option_to_list (slice_get netlist.now.cells id))) builder.new result }
 {
     let cell = netlist.cell(id);
-    let Ok(inputs) = names.each(alloc, cell.inputs) else {
-        return Err(AddFault::NoMemory);
-    };
+    let inputs = names.each(alloc, cell.inputs)?;
     let output = names.name(cell.output);
     match cell.function {
         Function::Cell(placed) => builder.logic(placed, &inputs, output),
-        Function::Cover(cover) => match copy_cover(alloc, cover) {
-            Ok(copy) => builder.cover(&inputs, output, copy),
-            Err(_) => Err(AddFault::NoMemory),
-        },
+        Function::Cover(cover) => {
+            let copy = copy_cover(alloc, cover)?;
+            builder.cover(&inputs, output, copy)
+        }
     }
 }
 
@@ -96,9 +94,7 @@ fn tell_gate(
     requires parts { MayTell builder.old (cell_part names.now (placed_gate library.now (gate_seen gate)) ∷ []) }
     ensures { WasTold builder.old (cell_part names.now (placed_gate library.now (gate_seen gate.entry)) ∷ []) builder.new result }
 {
-    let Ok(inputs) = names.each(alloc, gate.inputs) else {
-        return Err(AddFault::NoMemory);
-    };
+    let inputs = names.each(alloc, gate.inputs)?;
     let cell = fitting(library, gate.kind);
     builder.logic(cell, &inputs, names.name(gate.output))
 }

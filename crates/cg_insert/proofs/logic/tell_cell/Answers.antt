@@ -19,7 +19,7 @@ logic-requires-clause-inputs c =
     let cell : LogicCell ℕ = cell_seen c.cell-cell.result in
     let names = c.args.names.now in
     let part : IsPart (cell_part names cell) = (subst (MayTell c.args.builder.now) (ap (λ o. cell_parts names (option_to_list o)) c.cell-cell.ensures) c.requires.part).each.0 in
-    subst (AllByRecursion Named) (sym (ap (map name) c.deref.ensures.value ∙ c.in-Ok.ensures)) (each_front Named (map (net_name names) cell.inputs) (net_name names cell.output ∷ []) part.named)
+    subst (AllByRecursion Named) (sym (ap (map name) c.deref.ensures.value ∙ c.in_ok-inputs.ensures)) (each_front Named (map (net_name names) cell.inputs) (net_name names cell.output ∷ []) part.named)
 
 pub logic-requires-clause-output : goal.logic-requires-clause-output
 logic-requires-clause-output c =
@@ -37,7 +37,7 @@ cover-requires-clause-inputs c =
     let cell : LogicCell ℕ = cell_seen c.cell-cell.result in
     let names = c.args.names.now in
     let part : IsPart (cell_part names cell) = (subst (MayTell c.args.builder.now) (ap (λ o. cell_parts names (option_to_list o)) c.cell-cell.ensures) c.requires.part).each.0 in
-    subst (AllByRecursion Named) (sym (ap (map name) c.deref-in-Ok-copy_cover.ensures.value ∙ c.in-Ok.ensures)) (each_front Named (map (net_name names) cell.inputs) (net_name names cell.output ∷ []) part.named)
+    subst (AllByRecursion Named) (sym (ap (map name) c.deref-in-Cover.ensures.value ∙ c.in_ok-inputs.ensures)) (each_front Named (map (net_name names) cell.inputs) (net_name names cell.output ∷ []) part.named)
 
 pub cover-requires-clause-output : goal.cover-requires-clause-output
 cover-requires-clause-output c =

@@ -158,5 +158,5 @@ pub fn checked_cell_of(
     ensures { OrNoMemory NoMemory (λ cell. cell) result (flop_cell name ports.now flop.now) }
 {
     check_register(alloc, ports, flop)?;
-    Ok(unusable_cell(alloc, name))
+    Ok(unusable_cell(alloc, name)?)
 }

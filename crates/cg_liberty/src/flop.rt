@@ -262,7 +262,7 @@ fn make_flop(
     pins: Vec<Pin>,
     next: &Expr,
     function: Expr,
-) -> CellType
+) -> Result<CellType, AllocError>
     requires named { IsTrue (is_name name) }
     requires ports { ArePorts ports.now }
     requires pins { pins.items ≡ flop_pins numbering.clock 0 inverses.now ports.now }
@@ -271,7 +271,7 @@ fn make_flop(
     requires clock { numbering.clock < numbering.inputs }
     requires within { IsTrue (is_within (numbering.inputs + 2) (term_of next.now)) }
     requires function { term_of function ≡ restated numbering.inputs numbering.clock (term_of next.now) }
-    ensures { result ≡ record { name = name; kind = CellKind.Flop; pins = pins.items; function = Some (term_of function) } }
+    ensures { IfOk result (λ cell. cell ≡ record { name = name; kind = CellKind.Flop; pins = pins.items; function = Some (term_of function) }) }
 {
     CellType::new(name, CellKind::Flop, pins, Some(function))
 }
@@ -294,14 +294,14 @@ fn flop_with(
     ensures { IfOk result (λ cell. cell ≡ flop_with_parts name ports.now (term_of next.now) numbering.clock inverses.now) }
 {
     if next.names(numbering.clock) {
-        return Ok(unusable_cell(alloc, name));
+        return unusable_cell(alloc, name);
     }
     let pins = flop_pins_of(alloc, ports, numbering.clock as usize, inverses)?;
     if !are_pins_of_flop(&pins) {
-        return Ok(unusable_cell(alloc, name));
+        return unusable_cell(alloc, name);
     }
     let function = restate(alloc, next, numbering)?;
-    Ok(make_flop(name, ports, numbering, inverses, pins, next, function))
+    make_flop(name, ports, numbering, inverses, pins, next, function)
 }
 
 /// The register of these parts where all of them are there, or an unusable cell.
@@ -323,19 +323,19 @@ fn flop_of_parts(
         (λ cell. cell ≡ flop_of name ports.now parts.now.plain (parts_of parts.now).next (parts_of parts.now).clocked (parts_of parts.now).known) }
 {
     let Some(next) = &parts.next else {
-        return Ok(unusable_cell(alloc, name));
+        return unusable_cell(alloc, name);
     };
     let Some(clocked) = &parts.clocked else {
-        return Ok(unusable_cell(alloc, name));
+        return unusable_cell(alloc, name);
     };
     let Some(known) = &parts.known else {
-        return Ok(unusable_cell(alloc, name));
+        return unusable_cell(alloc, name);
     };
     if !parts.plain {
-        return Ok(unusable_cell(alloc, name));
+        return unusable_cell(alloc, name);
     }
     let Some(clock) = clocked.only() else {
-        return Ok(unusable_cell(alloc, name));
+        return unusable_cell(alloc, name);
     };
     let numbering = Numbering {
         inputs: parts.inputs,

@@ -103,12 +103,17 @@ fn are_pins_of_gater(pins: &[Pin], tested: bool) -> bool
 }
 
 /// The gating cell of these pins.
-fn make_gater(name: Name, ports: &[Port<'_>], tested: bool, pins: Vec<Pin>) -> CellType
+fn make_gater(
+    name: Name,
+    ports: &[Port<'_>],
+    tested: bool,
+    pins: Vec<Pin>,
+) -> Result<CellType, AllocError>
     requires named { IsTrue (is_name name) }
     requires ports { ArePorts ports.now }
     requires found { Some pins.items ≡ gater_pins tested ports.now }
     requires fit { are_gater_pins tested pins.items ≡ true }
-    ensures { result ≡ record { name = name; kind = CellKind.Gater; pins = pins.items; function = None } }
+    ensures { IfOk result (λ cell. cell ≡ record { name = name; kind = CellKind.Gater; pins = pins.items; function = None }) }
 {
     CellType::new(name, CellKind::Gater, pins, None)
 }
@@ -125,12 +130,12 @@ pub fn gater_cell_of(
     ensures { IfOk result (λ cell. cell ≡ gater_of name tested ports.now) }
 {
     match gater_pins_of(alloc, ports, tested)? {
-        None => Ok(unusable_cell(alloc, name)),
+        None => unusable_cell(alloc, name),
         Some(pins) => {
             if are_pins_of_gater(&pins, tested) {
-                Ok(make_gater(name, ports, tested, pins))
+                make_gater(name, ports, tested, pins)
             } else {
-                Ok(unusable_cell(alloc, name))
+                unusable_cell(alloc, name)
             }
         }
     }

@@ -35,7 +35,7 @@ fn cell_by_gating(
     if cell.gating.states(b"latch_posedge_precontrol") {
         return gater_cell_of(alloc, name, ports, true);
     }
-    Ok(unusable_cell(alloc, name))
+    unusable_cell(alloc, name)
 }
 
 /// The cell of these pins without a gating attribute or other states than flip-flops.
@@ -53,7 +53,7 @@ fn cell_by_flop_groups(
     match &cell.flops {
         Flops::Absent => logic_cell_of(alloc, name, ports),
         Flops::One(flop) => flop_cell_of(alloc, name, ports, flop),
-        Flops::Several => Ok(unusable_cell(alloc, name)),
+        Flops::Several => Ok(unusable_cell(alloc, name)?),
     }
 }
 
@@ -73,7 +73,7 @@ fn cell_with_ports(
         return Ok(cell_by_gating(alloc, name, cell, ports)?);
     }
     if cell.has_bank {
-        return Ok(unusable_cell(alloc, name));
+        return Ok(unusable_cell(alloc, name)?);
     }
     cell_by_flop_groups(alloc, name, cell, ports)
 }
@@ -85,7 +85,7 @@ pub fn cell_of_group(alloc: Global, name: Name, cell: &CellGroup<'_>) -> Result<
     ensures { OrNoMemory NoMemory (λ cell. cell) result (cell_of cell.now) }
 {
     let Some(ports) = ports_of_cell(alloc, cell)? else {
-        return Ok(unusable_cell(alloc, name));
+        return Ok(unusable_cell(alloc, name)?);
     };
     cell_with_ports(alloc, name, cell, ports.as_slice())
 }

@@ -20,9 +20,9 @@ use cg_list::Seq;
 use std::alloc::{AllocError, Global};
 
 /// A cell that is known by name alone.
-pub fn unusable_cell(alloc: Global, name: Name) -> CellType
+pub fn unusable_cell(alloc: Global, name: Name) -> Result<CellType, AllocError>
     requires { IsTrue (is_name name) }
-    ensures { result ≡ unusable name }
+    ensures { IfOk result (λ cell. cell ≡ unusable name) }
 {
     CellType::new(name, CellKind::Unusable, Vec::new(alloc), None)
 }
@@ -72,13 +72,19 @@ fn logic_pins_of(alloc: Global, ports: &[Port<'_>]) -> Result<Vec<Pin>, AllocErr
 }
 
 /// The logic cell of these pins and this function of its inputs.
-fn make_logic(name: Name, ports: &[Port<'_>], pins: Vec<Pin>, function: Expr) -> CellType
+fn make_logic(
+    name: Name,
+    ports: &[Port<'_>],
+    pins: Vec<Pin>,
+    function: Expr,
+) -> Result<CellType, AllocError>
     requires named { IsTrue (is_name name) }
     requires ports { ArePorts ports.now }
     requires pins { pins.items ≡ logic_pins ports.now }
     requires one { length (output_texts ports.now) ≡ 1 }
     requires within { IsTrue (is_within (length (input_names ports.now)) (term_of function)) }
-    ensures { result ≡ record { name = name; kind = CellKind.Logic; pins = logic_pins ports.now; function = Some (term_of function) } }
+    ensures { IfOk result
+        (λ cell. cell ≡ record { name = name; kind = CellKind.Logic; pins = logic_pins ports.now; function = Some (term_of function) }) }
 {
     CellType::new(name, CellKind::Logic, pins, Some(function))
 }
@@ -97,14 +103,14 @@ fn logic_with(
     ensures { IfOk result (λ cell. cell ≡ logic_of name ports.now (map (λ function. option_map term_of function) functions.items)) }
 {
     if functions.len() != 1 {
-        return Ok(unusable_cell(alloc, name));
+        return unusable_cell(alloc, name);
     }
     match functions.pop() {
         Some(Some(function)) => {
             let pins = logic_pins_of(alloc, ports)?;
-            Ok(make_logic(name, ports, pins, function))
+            make_logic(name, ports, pins, function)
         }
-        _ => Ok(unusable_cell(alloc, name)),
+        _ => unusable_cell(alloc, name),
     }
 }
 

@@ -4,7 +4,6 @@ use Rattle.std.proofs.Common.{take, get_or, refl, sym, ap, ◌∙◌, arith, inl
 use Rattle.std.specs.List.{AllPass, list_all}
 use Rattle.std.specs.Option.{option_map_or}
 use Rattle.std.proofs.lemmas.Bool.{and_from, both_ways}
-use Rattle.std.proofs.lemmas.Grind.{common_steps}
 use Rattle.std.proofs.lemmas.Option.{slice_get_cases}
 use Rattle.std.proofs.lemmas.List.Sums.{list_all-from_AllPass}
 use Rattle.cg_cell.specs.Name.{ends_name, is_name, is_name_byte}

@@ -7,25 +7,11 @@ ghost use Rattle.cg_blif_text.specs.Rows.{keeps_value, row_of, row_place, row_pl
 ghost use Rattle.cg_blif_text.specs.OpenCovers.{cover_so_far, with_row};
 
 use cg_blif_text::word::Word;
-use cg_cell::cover::{Cover, CoverRow};
+use cg_cell::cover::Cover;
+use cg_cell::rows::CoverRows;
 use cg_list::Seq;
 use std::alloc::{AllocError, Global};
 use std::marker::Model;
-
-/// A row of a cover.
-#[derive(Drop)]
-pub struct CoverLine {
-    places: CoverRow,
-    value: bool,
-}
-
-impl Model for CoverLine {
-    ghost use Rattle.cg_blif_text.specs.Rows.{Row};
-
-    ghost Value = { Row };
-
-    ghost view = { λ l. record { places = l.places; value = l.value } };
-}
 
 /// The nets of a `.names` line, and what the rows behind it said so far.
 ///
@@ -34,7 +20,7 @@ impl Model for CoverLine {
 pub struct OpenCover<'a> {
     inputs: Seq<Word<'a>>,
     output: Word<'a>,
-    rows: Vec<CoverRow>,
+    rows: CoverRows,
     on: Option<bool>,
 }
 
@@ -43,9 +29,9 @@ impl<'a> Model for OpenCover<'a> {
 
     ghost Value = { CoverSoFar };
 
-    ghost view = { λ o. record { inputs = o.inputs; output = o.output; rows = o.rows.items; on = o.on } };
+    ghost view = { λ o. record { inputs = o.inputs; output = o.output; rows = o.rows; on = o.on } };
 
-    ghost invariant = { λ o. IsOpen (record { inputs = o.inputs; output = o.output; rows = o.rows.items; on = o.on }) };
+    ghost invariant = { λ o. IsOpen (record { inputs = o.inputs; output = o.output; rows = o.rows; on = o.on }) };
 }
 
 impl<'a> OpenCover<'a> {
@@ -57,35 +43,36 @@ impl<'a> OpenCover<'a> {
         OpenCover {
             inputs,
             output,
-            rows: Vec::new(alloc),
+            rows: CoverRows::new(alloc),
             on: None,
         }
     }
 
-    /// Reads a line of these words as the next row; false where it is none, and then nothing changes.
-    pub fn read_row(&mut self, alloc: Global, words: &[Word<'_>]) -> Result<bool, AllocError>
+    /// Reads a line of these words as the next row; false where it is none or has another value than the rows before, and
+    /// then the cover stays. `places` is taken for the row's places, whatever is in it.
+    pub fn read_row(
+        &mut self,
+        places: &mut Vec<Option<bool>>,
+        words: &[Word<'_>],
+    ) -> Result<bool, AllocError>
         ensures { IfOk result (λ read. MatchBool read (with_row self.old (row_of (length self.old.inputs) words.now) ≡ Some self.new)
             ((with_row self.old (row_of (length self.old.inputs) words.now) ≡ None) × (self.new ≡ self.old))) }
     {
-        match row_of(alloc, self.inputs.len(), words)? {
+        match row_of(self.inputs.len(), words, places)? {
             None => Ok(false),
-            Some(row) => self.add_row(row),
+            Some(value) => self.add_row(places, value),
         }
     }
 
     /// Adds a row with a place for each input; false where its value is another than that of the rows before.
-    fn add_row(&mut self, row: CoverLine) -> Result<bool, AllocError>
-        requires { length row.places ≡ length self.old.inputs }
-        ensures { IfOk result
-            (λ added. MatchBool added (with_row self.old (Some row) ≡ Some self.new) ((with_row self.old (Some row) ≡ None) × (self.new ≡ self.old))) }
+    fn add_row(&mut self, places: &[Option<bool>], value: bool) -> Result<bool, AllocError>
+        requires { length places.now ≡ length self.old.inputs }
+        ensures { IfOk result (λ added. MatchBool added
+            (with_row self.old (Some (record { places = places.now; value = value })) ≡ Some self.new)
+            ((with_row self.old (Some (record { places = places.now; value = value })) ≡ None) × (self.new ≡ self.old))) }
     {
-        let CoverLine { places, value } = row;
         if !keeps_value(self.on, value) {
             return Ok(false);
-        }
-        // Most covers have one row or two, and each of them is kept.
-        if self.rows.is_empty() {
-            self.rows.reserve_exact(2)?;
         }
         self.rows.push(places)?;
         self.on = Some(value);
@@ -111,46 +98,40 @@ impl<'a> OpenCover<'a> {
     }
 }
 
-/// The row of a cover with so many inputs that words say.
-fn row_of(alloc: Global, inputs: usize, words: &[Word<'_>]) -> Result<Option<CoverLine>, AllocError>
-    ensures row { IfOk result (λ row. row ≡ row_of inputs words.now) }
-    ensures long { IfOk result (λ row. IfSome row (λ row. length row.places ≡ inputs)) }
+/// The value of the row of a cover with so many inputs that words say; its places are put into `places`.
+fn row_of(
+    inputs: usize,
+    words: &[Word<'_>],
+    places: &mut Vec<Option<bool>>,
+) -> Result<Option<bool>, AllocError>
+    ensures row { IfOk result (λ read. row_with (Some places.new.items) read ≡ row_of inputs words.now) }
+    ensures long { IfOk result (λ read. IfSome read (λ _. length places.new.items ≡ inputs)) }
 {
     match words {
-        [value] if inputs == 0 => Ok(value_row(alloc, value.bytes())),
-        [places, value] if inputs != 0 && places.bytes().len() == inputs => {
-            places_row(alloc, places.bytes(), value.bytes())
+        [value] if inputs == 0 => {
+            places.clear();
+            Ok(value_of(value.bytes()))
+        }
+        [row, value] if inputs != 0 && row.bytes().len() == inputs => {
+            places_row(row.bytes(), value.bytes(), places)
         }
         _ => Ok(None),
     }
 }
 
-/// The row of this value, without places.
-fn value_row(alloc: Global, value: &[u8]) -> Option<CoverLine>
-    ensures row { result ≡ row_with (Some []) (value_of value.now) }
-    ensures long { IfSome result (λ row. length row.places ≡ 0) }
+/// The value of the row of these places and this value.
+fn places_row(
+    row: &[u8],
+    value: &[u8],
+    places: &mut Vec<Option<bool>>,
+) -> Result<Option<bool>, AllocError>
+    ensures row { IfOk result (λ read. row_with (Some places.new.items) read ≡ row_with (row_places row.now) (value_of value.now)) }
+    ensures long { IfOk result (λ read. IfSome read (λ _. length places.new.items ≡ length row.now)) }
 {
-    let value = value_of(value)?;
-    Some(CoverLine {
-        places: CoverRow {
-            bits: Vec::new(alloc),
-        },
-        value,
-    })
-}
-
-/// The row of these places and this value.
-fn places_row(alloc: Global, places: &[u8], value: &[u8]) -> Result<Option<CoverLine>, AllocError>
-    ensures row { IfOk result (λ row. row ≡ row_with (row_places places.now) (value_of value.now)) }
-    ensures long { IfOk result (λ row. IfSome row (λ row. length row.places ≡ length places.now)) }
-{
-    let places = match read_places(alloc, places)? {
-        None => return Ok(None),
-        Some(places) => places,
-    };
-    match value_of(value) {
-        None => Ok(None),
-        Some(value) => Ok(Some(CoverLine { places, value })),
+    if read_places(row, places)? {
+        Ok(value_of(value))
+    } else {
+        Ok(None)
     }
 }
 
@@ -190,18 +171,17 @@ fn place_of(byte: u8) -> Option<Option<bool>>
     }
 }
 
-/// The places that a word says; `None` where a byte is none of `0`, `1`, `-`.
+/// Puts the places that a word says in place of those that are there; false where a byte is none of `0`, `1`, `-`.
 #[tactic(auto, using(crate::proofs::RowLemmas::rows))]
-fn read_places(alloc: Global, word: &[u8]) -> Result<Option<CoverRow>, AllocError>
-    ensures row { IfOk result (λ row. row ≡ row_places word.now) }
-    ensures long { IfOk result (λ row. IfSome row (λ places. length places ≡ length word.now)) }
+fn read_places(word: &[u8], places: &mut Vec<Option<bool>>) -> Result<bool, AllocError>
+    ensures { IfOk result (λ read. MatchBool read ((row_places word.now ≡ Some places.new.items) × (length places.new.items ≡ length word.now)) (row_places word.now ≡ None)) }
 {
-    let mut bits = Vec::with_capacity(alloc, word.len())?;
+    places.clear();
     'places: for byte in word {
         match place_of(*byte) {
-            None => return Ok(None),
-            Some(place) => bits.push(place)?,
+            None => return Ok(false),
+            Some(place) => places.push(place)?,
         }
     }
-    Ok(Some(CoverRow { bits }))
+    Ok(true)
 }

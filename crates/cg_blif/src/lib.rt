@@ -8,6 +8,7 @@
 //!
 //! - `byte`, `physical`, `line_words`, `lines`: the lines of a text, without comments and joined, as words;
 //! - `command`, `latch`, `pin_word`, `statement`: what the words of a line say;
+//! - `buffers`: lists that serve one line after another;
 //! - `cover`: the rows behind a `.names` line;
 //! - `pins`, `place`, `parts`: the parts that a line says, given to a builder;
 //! - `reading`: what was read of a text so far, and one line more;
@@ -16,6 +17,7 @@
 //! - `fault`: why a line is not taken.
 #![tactic(auto)]
 
+mod buffers;
 mod byte;
 mod command;
 mod cover;

@@ -1,11 +1,11 @@
 //! What a line says, given to the builder.
 
-ghost use Rattle.std.specs.Prelude.{◌≡◌, ◌∷◌, ◌≤◌, [], None, IfOk, IsTrue, length, map};
+ghost use Rattle.std.specs.Prelude.{◌≡◌, ◌∷◌, ◌≤◌, [], None, IsTrue, OnOk, length, map};
 ghost use Rattle.std.specs.List.{AllByRecursion};
 ghost use Rattle.cg_cell.specs.Cover.{CoverFits};
 ghost use Rattle.cg_cell.specs.Name.{is_name};
 ghost use Rattle.cg_limit.specs.declared.TheConstants.{MOST_COVER_INPUTS};
-ghost use Rattle.cg_netlist.specs.declared.parts.LogicFunction.TheVariants.{Cover as CoverRows};
+ghost use Rattle.cg_netlist.specs.declared.parts.LogicFunction.TheVariants.{Cover as CoverFunction};
 ghost use Rattle.cg_parts.specs.Part.{Clock, Input, Logic, Output, Register};
 ghost use Rattle.cg_blif_text.specs.Telling.{latch_register, with_parts};
 ghost use Rattle.cg_blif.specs.Hearing.{Hears};
@@ -14,7 +14,7 @@ use crate::fault::{Refusal, heard};
 use cg_blif_text::word::Word;
 use cg_builder::builder::Builder;
 use cg_cell::cover::Cover;
-use std::alloc::{AllocError, Global};
+use std::alloc::AllocError;
 
 /// Makes nets inputs.
 #[tactic(auto, using(crate::proofs::HearingLemmas::lists))]
@@ -77,34 +77,34 @@ pub fn add_clock(builder: &mut Builder, net: &[u8]) -> Result<(), Refusal>
     heard(builder.clock(net))
 }
 
-/// Adds a logic cell of this cover.
-pub fn add_cover(
-    alloc: Global,
+/// Adds a logic cell of this cover. `names` is taken for its inputs, whatever is in it.
+pub fn add_cover<'a>(
     builder: &mut Builder,
-    inputs: &[Word<'_>],
-    output: &Word<'_>,
+    names: &mut Vec<&'a [u8]>,
+    inputs: &[Word<'a>],
+    output: &Word<'a>,
     cover: Cover,
 ) -> Result<(), Refusal>
     requires builder { builder.old.refused ≡ None }
     requires few { length inputs.now ≤ MOST_COVER_INPUTS }
     requires fits { CoverFits (length inputs.now) cover }
     ensures { Hears builder.old builder.new
-        (with_parts (Logic (record { inputs = inputs.now; output = output.now; function = CoverRows cover }) ∷ []) builder.old.said) result }
+        (with_parts (Logic (record { inputs = inputs.now; output = output.now; function = CoverFunction cover }) ∷ []) builder.old.said) result }
 {
-    let inputs = names(alloc, inputs)?;
-    heard(builder.cover(&inputs, output.bytes(), cover))
+    put_names(names, inputs)?;
+    heard(builder.cover(names, output.bytes(), cover))
 }
 
-/// The bytes of words.
-fn names<'a>(alloc: Global, words: &[Word<'a>]) -> Result<Vec<&'a [u8]>, AllocError>
-    ensures bytes { IfOk result (λ names. map (λ name. name.now) names.items ≡ words.now) }
-    ensures named { IfOk result (λ names. AllByRecursion (λ name. IsTrue (is_name name)) (map (λ name. name.now) names.items)) }
+/// Puts the bytes of words in place of the names that are there.
+fn put_names<'a>(names: &mut Vec<&'a [u8]>, words: &[Word<'a>]) -> Result<(), AllocError>
+    ensures bytes { OnOk result (map (λ name. name.now) names.new.items ≡ words.now) }
+    ensures named { OnOk result (AllByRecursion (λ name. IsTrue (is_name name)) (map (λ name. name.now) names.new.items)) }
 {
-    let mut names = Vec::with_capacity(alloc, words.len())?;
+    names.clear();
     'words: for word in words {
         names.push(word.bytes())?;
     }
-    Ok(names)
+    Ok(())
 }
 
 /// Adds a plain register.

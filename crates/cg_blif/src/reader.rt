@@ -14,6 +14,7 @@ ghost use Rattle.cg_blif_text.specs.declared.fault.BlifFault.TheVariants.{NoMemo
 ghost use Rattle.cg_blif.specs.Resuming.{ClosesAt, FinishesAs, IsAt, IsFirstOrNoMemory, IsRead, IsReadAs, IsReadFrom, Resumes};
 ghost use Rattle.cg_blif.specs.Resuming.{left_of, unfinished};
 
+use crate::buffers::Buffers;
 use crate::fault::{Refusal, at_line};
 use crate::lines::LogicalLines;
 use crate::options::BlifOptions;
@@ -21,7 +22,6 @@ use crate::parts::add_clock;
 use crate::reading::{Reading, close, is_row};
 use cg_blif_text::fault::BlifFault;
 use cg_blif_text::place::Place;
-use cg_blif_text::word::Word;
 use cg_builder::builder::Builder;
 use cg_cell::library::Library;
 use cg_netlist::netlist::Netlist;
@@ -150,33 +150,33 @@ fn hear_lines<'a>(
     ensures { IsReadAs (tell_lines library.now (text_lines text.entry.now)) (result_map_both (λ _. reading.new) (λ fault. fault) result) }
 {
     let mut lines = LogicalLines::new(text);
-    let mut words = Vec::new(alloc);
+    let mut buffers = Buffers::new(alloc);
     'lines: loop {
-        match lines.next_line(&mut words) {
-            Err(BlifFault::BadLine(number)) => return Err(close_at(alloc, reading, number)),
+        match lines.next_line(&mut buffers.words) {
+            Err(BlifFault::BadLine(number)) => return Err(close_at(reading, &mut buffers, number)),
             Err(_) => return Err(BlifFault::NoMemory),
             Ok(None) => break,
             Ok(Some(number)) => {
-                if let Err(refusal) = read_line(alloc, library, reading, &mut words) {
+                if let Err(refusal) = read_line(alloc, library, reading, &mut buffers) {
                     return Err(at_line(number, refusal));
                 }
             }
         }
     }
     let cover = reading.cover.take();
-    match close(alloc, &mut reading.builder, cover) {
+    match close(&mut reading.builder, &mut buffers.names, cover) {
         Ok(()) => Ok(()),
         Err(refusal) => Err(at_line(0, refusal)),
     }
 }
 
 /// The fault of a text whose next line has this number, and a word that is no name: that of the open cover comes first.
-fn close_at(alloc: Global, reading: &mut Reading<'_>, number: u64) -> BlifFault
+fn close_at<'a>(reading: &mut Reading<'a>, buffers: &mut Buffers<'a>, number: u64) -> BlifFault
     requires { IsAt reading.old }
     ensures { ClosesAt reading.old number result }
 {
     let cover = reading.cover.take();
-    match close(alloc, &mut reading.builder, cover) {
+    match close(&mut reading.builder, &mut buffers.names, cover) {
         Ok(()) => BlifFault::BadLine(number),
         Err(refusal) => at_line(0, refusal),
     }
@@ -187,16 +187,16 @@ fn read_line<'a>(
     alloc: Global,
     library: &Library,
     reading: &mut Reading<'a>,
-    words: &mut Vec<Word<'a>>,
+    buffers: &mut Buffers<'a>,
 ) -> Result<(), Refusal>
     requires at { IsAt reading.old }
-    requires named { list_all is_name words.old.items ≡ true }
-    ensures { Resumes library.now reading.old reading.new words.old.items result }
+    requires named { list_all is_name buffers.old.words.items ≡ true }
+    ensures { Resumes library.now reading.old reading.new buffers.old.words.items result }
 {
-    if is_row(words) {
-        reading.read_row(alloc, words)
+    if is_row(&buffers.words) {
+        reading.read_row(buffers)
     } else {
-        let words = mem::replace(words, Vec::new(alloc));
-        reading.read_command(alloc, library, words)
+        let words = mem::replace(&mut buffers.words, Vec::new(alloc));
+        reading.read_command(alloc, library, words, &mut buffers.names)
     }
 }

@@ -10,6 +10,7 @@ ghost use Rattle.cg_blif.specs.Hearing.{Hears};
 ghost use Rattle.cg_blif_text.specs.LinesLeft.{closed_said};
 ghost use Rattle.cg_blif.specs.Resuming.{HasBounds, IsAt, Resumes, ResumesAt, TakesStatement, is_model, misplaced};
 
+use crate::buffers::Buffers;
 use crate::cover::OpenCover;
 use crate::fault::Refusal;
 use crate::parts::{add_clocks, add_cover, add_inputs, add_latch, add_outputs};
@@ -21,7 +22,7 @@ use cg_blif_text::statement::Statement;
 use cg_blif_text::word::Word;
 use cg_builder::builder::Builder;
 use cg_cell::library::Library;
-use std::alloc::{AllocError, Global};
+use std::alloc::Global;
 
 /// What was read of a text so far: where the next line stands, the parts of all lines but an open cover, and the cover
 /// of the last `.names` line, which the next line may add a row to.
@@ -39,6 +40,7 @@ impl<'a> Reading<'a> {
         alloc: Global,
         library: &Library,
         words: Vec<Word<'a>>,
+        names: &mut Vec<&'a [u8]>,
     ) -> Result<(), Refusal>
         requires at { IsAt self.old }
         requires named { list_all is_name words.items ≡ true }
@@ -46,7 +48,7 @@ impl<'a> Reading<'a> {
         ensures { Resumes library.now self.old self.new words.entry.items result }
     {
         let cover = self.cover.take();
-        close(alloc, &mut self.builder, cover)?;
+        close(&mut self.builder, names, cover)?;
         let meaning = statement_of(alloc, words)?;
         if let Some(cause) = misplaced(self.place, is_model(&meaning)) {
             return Err(Refusal::Line(cause));
@@ -61,22 +63,22 @@ impl<'a> Reading<'a> {
         }
     }
 
-    /// Reads a line of these words as a row.
-    pub fn read_row(&mut self, alloc: Global, words: &[Word<'_>]) -> Result<(), Refusal>
+    /// Reads a line of the words in the buffers as a row.
+    pub fn read_row(&mut self, buffers: &mut Buffers<'a>) -> Result<(), Refusal>
         requires at { IsAt self.old }
-        requires named { list_all is_name words.now ≡ true }
-        requires row { are_row words.now ≡ true }
-        ensures { ResumesAt self.old self.new words.now result }
+        requires named { list_all is_name buffers.old.words.items ≡ true }
+        requires row { are_row buffers.old.words.items ≡ true }
+        ensures { ResumesAt self.old self.new buffers.old.words.items result }
     {
         match self.cover.take() {
             None => Err(Refusal::Line(LineFault::BadLine)),
             Some(cover) => {
                 let mut cover = cover;
-                if cover.read_row(alloc, words)? {
+                if cover.read_row(&mut buffers.places, &buffers.words)? {
                     self.cover = Some(cover);
                     return Ok(());
                 }
-                close(alloc, &mut self.builder, Some(cover))?;
+                close(&mut self.builder, &mut buffers.names, Some(cover))?;
                 Err(Refusal::Line(LineFault::BadCover))
             }
         }
@@ -93,11 +95,11 @@ pub fn is_row(words: &[Word<'_>]) -> bool
     }
 }
 
-/// Gives the logic cell of an open cover, where there is one, to the builder.
-pub fn close(
-    alloc: Global,
+/// Gives the logic cell of an open cover, where there is one, to the builder. `names` is taken for its inputs.
+pub fn close<'a>(
     builder: &mut Builder,
-    cover: Option<OpenCover<'_>>,
+    names: &mut Vec<&'a [u8]>,
+    cover: Option<OpenCover<'a>>,
 ) -> Result<(), Refusal>
     requires { builder.old.refused ≡ None }
     ensures { Hears builder.old builder.new (closed_said builder.old.said cover.entry) result }
@@ -106,7 +108,7 @@ pub fn close(
         None => Ok(()),
         Some(cover) => {
             let (inputs, output, cover) = cover.close();
-            add_cover(alloc, builder, inputs.as_slice(), &output, cover)
+            add_cover(builder, names, inputs.as_slice(), &output, cover)
         }
     }
 }

@@ -5,7 +5,8 @@ ghost use Rattle.cg_text.specs.Written.{line_text};
 ghost use Rattle.cg_blif_text.specs.Canonical.{bit_byte, place_byte, row_words};
 ghost use Rattle.cg_blif_out.specs.Writing.{rows_text};
 
-use cg_cell::cover::{Cover, CoverRow};
+use cg_cell::cover::Cover;
+use cg_cell::rows::CoverRows;
 use std::alloc::AllocError;
 
 /// Appends the rows of a cover, each as a line.
@@ -17,22 +18,22 @@ pub fn push_rows(out: &mut Vec<u8>, cover: &Cover) -> Result<(), AllocError>
 
 /// Appends rows of this value, each as a line.
 #[tactic(auto, using(crate::proofs::WritingLemmas::turns))]
-fn push_rows_on(out: &mut Vec<u8>, rows: &[CoverRow], on: bool) -> Result<(), AllocError>
+fn push_rows_on(out: &mut Vec<u8>, rows: &CoverRows, on: bool) -> Result<(), AllocError>
     ensures { OnOk result (out.new.items ≡ out.old.items ++ rows_text on rows.now) }
 {
-    'rows: for row in rows {
-        push_row(out, row, on)?;
+    'rows: for k in 0..rows.len() {
+        push_row(out, rows.row(k), on)?;
     }
     Ok(())
 }
 
 /// Appends a row as a line: the places, if there are inputs, and the value.
 #[tactic(auto, using(crate::proofs::WritingLemmas::rows))]
-fn push_row(out: &mut Vec<u8>, row: &CoverRow, on: bool) -> Result<(), AllocError>
+fn push_row(out: &mut Vec<u8>, row: &[Option<bool>], on: bool) -> Result<(), AllocError>
     ensures { OnOk result (out.new.items ≡ out.old.items ++ line_text (row_words on row.now)) }
 {
-    push_places(out, &row.bits)?;
-    if !row.bits.is_empty() {
+    push_places(out, row)?;
+    if !row.is_empty() {
         out.push(b' ')?;
     }
     out.push(bit_byte(on))?;

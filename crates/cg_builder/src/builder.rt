@@ -9,7 +9,7 @@ ghost use Rattle.cg_cell.specs.Pins.{is_data, is_test};
 ghost use Rattle.cg_cell.specs.declared.cell.CellKind.TheVariants.{Gater as GaterKind, Logic as LogicKind};
 ghost use Rattle.cg_builder.specs.Calls.{cell_of, gater_of, register_of};
 ghost use Rattle.cg_netlist.specs.WellFormed.{RegisterFits};
-ghost use Rattle.cg_netlist.specs.declared.parts.LogicFunction.TheVariants.{Cell as PlacedCell, Cover as CoverRows};
+ghost use Rattle.cg_netlist.specs.declared.parts.LogicFunction.TheVariants.{Cell as PlacedCell, Cover as CoverFunction};
 ghost use Rattle.cg_builder.specs.Building.{Finishes, Takes, fresh};
 ghost use Rattle.cg_parts.specs.Part.{Clock, Gate, Input, Logic as LogicPart, Output, Register as RegisterPart, mentioned};
 
@@ -147,7 +147,7 @@ impl Builder {
         requires output { IsTrue (is_name output.now) }
         requires few { length inputs.now < 2 ^ 32 }
         requires fits { CoverFits (length inputs.now) cover }
-        ensures { Takes self.old (LogicPart (cell_of (map (λ name. name.now) inputs.now) output.now (CoverRows cover))) self.new result }
+        ensures { Takes self.old (LogicPart (cell_of (map (λ name. name.now) inputs.now) output.now (CoverFunction cover))) self.new result }
     {
         if let Some(fault) = self.refused {
             return Err(fault);

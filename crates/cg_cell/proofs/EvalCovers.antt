@@ -248,9 +248,3 @@ pub cover_stops : {F : Type 0} (refuses : Seen → ℕ → ℕ → F → Type 0)
     Stops refuses (build_term o inputs x s) f v → Stops refuses (build_term o inputs (if on then x else Inverse x) s) f v
 cover_stops refuses o inputs x s v f true h = h
 cover_stops refuses o inputs x s v f false h = stops_first refuses (build_term o inputs x s) (λ a t. build_not o a t) f v h
-
--- what stands at a place, whatever is said of places past the end
-pub same_at : {X : Type 0} (xs : List X) (i : ℕ) (d e : X) → i < length xs → get_or xs i d ≡ get_or xs i e
-same_at [] i d e h = absurd (omega arith)
-same_at (x ∷ xs) zero d e h = refl
-same_at (x ∷ xs) (suc i) d e h = same_at xs i d e (omega arith)

@@ -1,6 +1,7 @@
 pub mod BitsEvals
 pub mod Building
 pub mod Covers
+pub mod CutRows
 pub mod DistinctCells
 pub mod EvalCovers
 pub mod Evals

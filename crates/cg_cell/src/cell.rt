@@ -192,7 +192,7 @@ impl Clone for CellType {
 }
 
 impl CellType {
-    /// A cell of these parts, which meet the conditions of its kind.
+    /// A cell of these parts, which meet the conditions of its kind; an error where memory is wanting.
     pub fn new(
         name: Name,
         kind: CellKind,

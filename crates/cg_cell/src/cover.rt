@@ -1,77 +1,28 @@
 //! Covers: functions as rows of given bits, as `.names` lines of BLIF write them.
 
-ghost use Rattle.std.specs.Prelude.{◌≡◌, List, [], Option, Bool, true, length, IfOk};
-ghost use Rattle.cg_cell.specs.Cover.{CoverData, CoverFits, HaveOneLength, IsCover, agrees, cover_value, row_matches};
+ghost use Rattle.std.specs.Prelude.{◌≡◌, [], true, length};
+ghost use Rattle.cg_cell.specs.Cover.{CoverData, CoverFits, IsCover, agrees, cover_value, row_matches};
 ghost use Rattle.std.specs.List.{AllByRecursion, list_any};
 
+use crate::rows::CoverRows;
 use std::alloc::AllocError;
 use std::marker::Model;
-
-/// One row of a cover: a given bit for each input, or `None` where the row leaves the input open.
-///
-/// Clauses see a row as the list of its places.
-#[derive(Drop)]
-pub struct CoverRow {
-    pub bits: Vec<Option<bool>>,
-}
-
-impl Model for CoverRow {
-    ghost Value = { List (Option Bool) };
-
-    ghost view = { λ row. row.bits.items };
-}
-
-impl Clone for CoverRow {
-    ghost is_clone = { λ x y. y ≡ x };
-
-    fn clone(&self) -> Result<CoverRow, AllocError> {
-        let bits = Vec::from_slice(*self.bits.allocator(), &self.bits)?;
-        Ok(CoverRow { bits })
-    }
-}
-
-impl CoverRow {
-    /// Whether each given bit of the row equals the input's bit. `bits` has one bit per place.
-    #[tactic(auto, using(crate::proofs::Covers::steps))]
-    fn matches(&self, bits: &[bool]) -> bool
-        requires { length self.now ≡ length bits.now }
-        ensures { result ≡ row_matches self.now bits.now }
-    {
-        'places: for i in 0..bits.len() {
-            if !is_met(self.bits[i], bits[i]) {
-                return false;
-            }
-        }
-        true
-    }
-}
-
-/// Whether a place of a row agrees with the input's bit.
-fn is_met(given: Option<bool>, bit: bool) -> bool
-    ensures { result ≡ agrees given bit }
-{
-    match given {
-        None => true,
-        Some(true) => bit,
-        Some(false) => !bit,
-    }
-}
 
 /// A function as rows, and the value that it has where some row matches.
 ///
 /// Clauses see a cover as its rows and that value.
 #[derive(Drop)]
 pub struct Cover {
-    rows: Vec<CoverRow>,
+    rows: CoverRows,
     on: bool,
 }
 
 impl Model for Cover {
     ghost Value = { CoverData };
 
-    ghost view = { λ cover. record { rows = cover.rows.items; on = cover.on } };
+    ghost view = { λ cover. record { rows = cover.rows; on = cover.on } };
 
-    ghost invariant = { λ cover. IsCover (record { rows = cover.rows.items; on = cover.on }) };
+    ghost invariant = { λ cover. IsCover (record { rows = cover.rows; on = cover.on }) };
 }
 
 impl Clone for Cover {
@@ -84,18 +35,18 @@ impl Clone for Cover {
 }
 
 impl Cover {
-    /// A cover of the rows, which have one length, with the value `on` where some row matches.
+    /// A cover of the rows, with the value `on` where some row matches.
     /// Without rows the cover is 0, and `on` must be true.
-    pub fn new(rows: Vec<CoverRow>, on: bool) -> Cover
-        requires even { HaveOneLength rows.items }
-        requires on { rows.items ≡ [] → on ≡ true }
-        ensures { result ≡ record { rows = rows.items; on = on } }
+    pub fn new(rows: CoverRows, on: bool) -> Cover
+        requires { rows ≡ [] → on ≡ true }
+        ensures { result ≡ record { rows = rows; on = on } }
     {
+        let _ = rows.len();
         Cover { rows, on }
     }
 
     /// The rows in their order.
-    pub fn rows(&self) -> &[CoverRow]
+    pub fn rows(&self) -> &CoverRows
         ensures rows { result.now ≡ self.now.rows }
         ensures cover { IsCover self.now }
     {
@@ -126,14 +77,39 @@ impl Cover {
 
 /// Whether some row matches the bits.
 #[tactic(auto, using(crate::proofs::Covers::steps))]
-fn any_matches(rows: &[CoverRow], bits: &[bool]) -> bool
+fn any_matches(rows: &CoverRows, bits: &[bool]) -> bool
     requires { AllByRecursion (λ row. length row ≡ length bits.now) rows.now }
     ensures { result ≡ list_any (λ row. row_matches row bits.now) rows.now }
 {
-    'rows: for row in rows {
-        if row.matches(bits) {
+    'rows: for k in 0..rows.len() {
+        if matches_row(rows.row(k), bits) {
             return true;
         }
     }
     false
+}
+
+/// Whether each given bit of a row equals the input's bit. `bits` has one bit per place.
+#[tactic(auto, using(crate::proofs::Covers::steps))]
+fn matches_row(row: &[Option<bool>], bits: &[bool]) -> bool
+    requires { length row.now ≡ length bits.now }
+    ensures { result ≡ row_matches row.now bits.now }
+{
+    'places: for i in 0..bits.len() {
+        if !is_met(row[i], bits[i]) {
+            return false;
+        }
+    }
+    true
+}
+
+/// Whether a place of a row agrees with the input's bit.
+fn is_met(given: Option<bool>, bit: bool) -> bool
+    ensures { result ≡ agrees given bit }
+{
+    match given {
+        None => true,
+        Some(true) => bit,
+        Some(false) => !bit,
+    }
 }

@@ -10,8 +10,9 @@ ghost use Rattle.cg_cell.specs.Eval.{bits_at, build_term};
 ghost use Rattle.cg_cell.specs.EvalCover.{build_on, build_place, cover_term, given_term, on_bit, place_bit, row_term, rows_term};
 
 use crate::build;
-use crate::cover::{Cover, CoverRow};
+use crate::cover::Cover;
 use crate::domain::Domain;
+use crate::rows::CoverRows;
 
 impl Cover {
     /// The value of the cover over a domain, where `inputs` has a value for each of its inputs.
@@ -46,7 +47,7 @@ fn eval_on<D: Domain>(on: bool, any: D::Value, domain: &mut D) -> D::Value
 
 /// The or of rows, beginning with 0.
 fn eval_rows<D: Domain>(
-    rows: &[CoverRow],
+    rows: &CoverRows,
     domain: &mut D,
     inputs: &[D::Value],
 ) -> Result<D::Value, D::Fault>
@@ -60,8 +61,8 @@ fn eval_rows<D: Domain>(
     ensures kept { OnErr result (Keeps D.ops (D.seen domain.old) (D.seen domain.new)) }
 {
     let mut answer = domain.constant(false);
-    'rows: for row in rows {
-        let next = eval_row(&row.bits, domain, inputs)?;
+    'rows: for k in 0..rows.len() {
+        let next = eval_row(rows.row(k), domain, inputs)?;
         answer = build::or(domain, answer, next)?;
     }
     Ok(answer)

@@ -7,7 +7,7 @@
 //! In the order in which data flows through them:
 //!
 //! - [`name`]: the names of nets, cells and pins;
-//! - [`cover`]: a function as rows of given bits;
+//! - [`rows`], [`cover`]: a function as rows of given bits;
 //! - [`expr`]: a function as an expression over numbered variables;
 //! - [`lone`]: expressions that are one variable;
 //! - [`cell`]: cells of a library, with their kind, their pins and their function;
@@ -31,3 +31,4 @@ pub mod fit;
 pub mod library;
 pub mod lone;
 pub mod name;
+pub mod rows;

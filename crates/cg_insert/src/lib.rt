@@ -7,7 +7,6 @@
 //!
 //! - `enables`: the enables of a machine, each once.
 //! - `names`: the names of the nets, those of the added ones made of the prefix and a number.
-//! - `copy`: a copy of a cover.
 //! - `logic`: logic cells and added gates, told to a builder.
 //! - `clocked`: gating cells and registers, told to a builder.
 //! - `telling`: all parts, told to a builder.
@@ -18,7 +17,6 @@
 #![tactic(auto)]
 
 pub mod clocked;
-mod copy;
 mod enables;
 pub mod insert;
 pub mod laws;

@@ -10,7 +10,6 @@ ghost use Rattle.cg_insert.specs.inner.GatedParts.{cell_part, cell_parts};
 ghost use Rattle.cg_insert.specs.inner.Telling.{MayTell, WasTold};
 ghost use Rattle.cg_machine.specs.View.{gate_seen};
 
-use crate::copy::copy_cover;
 use crate::names::GatedNames;
 use cg_builder::builder::Builder;
 use cg_cell::cell::CellType;
@@ -58,7 +57,7 @@ fn tell_cell(
     match cell.function {
         Function::Cell(placed) => builder.logic(placed, &inputs, output),
         Function::Cover(cover) => {
-            let copy = copy_cover(alloc, cover)?;
+            let copy = cover.clone()?;
             builder.cover(&inputs, output, copy)
         }
     }

@@ -5,6 +5,6 @@ use Rattle.cg_blif.proofs.cover.read_places.Given as goal
 
 abbrev pub invariant-places : goal.invariant-places
 invariant-places l = record {
-  read : places_behind l.bits.items (row_places (drop l.byte-index l.word)) ≡ row_places l.fn.word;
-  long : length l.bits.items ≡ l.byte-index;
+  read : places_behind l.places.items (row_places (drop l.byte-index l.word)) ≡ row_places l.fn.word;
+  long : length l.places.items ≡ l.byte-index;
 }

@@ -1,7 +1,7 @@
 use Rattle.std.proofs.Common.{◌≡◌, IsTrue, map, take}
 use Rattle.std.specs.List.{AllByRecursion}
 use Rattle.cg_cell.specs.Name.{is_name}
-use Rattle.cg_blif.proofs.parts.names.Given as goal
+use Rattle.cg_blif.proofs.parts.put_names.Given as goal
 
 abbrev pub invariant-words : goal.invariant-words
 invariant-words l = record {

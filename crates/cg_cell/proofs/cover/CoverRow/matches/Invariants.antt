@@ -1,6 +1,0 @@
-use Rattle.std.proofs.Common.{◌≡◌, drop}
-use Rattle.cg_cell.specs.Cover.{row_matches}
-use Rattle.cg_cell.proofs.cover.CoverRow.matches.Given as goal
-
-abbrev pub invariant-places : goal.invariant-places
-invariant-places l = row_matches (drop l.i l.self-inside.bits.items) (drop l.i l.bits) ≡ row_matches l.fn.self l.fn.bits

@@ -1,0 +1,95 @@
+//! The rows of a cover, in one list.
+
+ghost use Rattle.std.specs.Prelude.{◌≡◌, ◌<◌, ◌++◌, ◌∷◌, [], length, get_or, IfOk, ◌+◌, if◌then◌else◌, is_ok};
+ghost use Rattle.cg_cell.specs.Cover.{HaveOneLength};
+
+use std::alloc::{AllocError, Global};
+use std::marker::Model;
+
+/// Rows that have a place for each of the same inputs: a given bit, or `None` where the row leaves the input open.
+///
+/// Clauses see the list of the rows. In memory their places stand in one list, those of a row behind those of the row before.
+#[derive(Drop)]
+pub struct CoverRows {
+    places: Vec<Option<bool>>,
+    /// How many places a row has.
+    width: usize,
+    /// How many rows there are: places don't tell where there are no inputs.
+    count: usize,
+}
+
+impl Model for CoverRows {
+    ghost use Rattle.std.specs.Prelude.{◌≡◌, List, Option, Bool, length, ◌*◌};
+    ghost use Rattle.cg_cell.specs.inner.CutRows.{cut_rows};
+
+    ghost Value = { List (List (Option Bool)) };
+
+    ghost view = { λ r. cut_rows r.width r.count r.places.items };
+
+    ghost invariant = { λ r. length r.places.items ≡ r.count * r.width };
+}
+
+impl Clone for CoverRows {
+    ghost is_clone = { λ x y. y ≡ x };
+
+    fn clone(&self) -> Result<CoverRows, AllocError> {
+        let places = Vec::from_slice(*self.places.allocator(), &self.places)?;
+        Ok(CoverRows {
+            places,
+            width: self.width,
+            count: self.count,
+        })
+    }
+}
+
+impl CoverRows {
+    /// No rows yet; takes no memory.
+    pub fn new(alloc: Global) -> CoverRows
+        ensures { result ≡ [] }
+    {
+        CoverRows {
+            places: Vec::new(alloc),
+            width: 0,
+            count: 0,
+        }
+    }
+
+    /// How many rows there are.
+    pub fn len(&self) -> usize
+        ensures count { result ≡ length self.now }
+        ensures even { HaveOneLength self.now }
+    {
+        self.count
+    }
+
+    /// The places of a row.
+    pub fn row(&self, number: usize) -> &[Option<bool>]
+        requires { number < length self.now }
+        ensures { result.now ≡ get_or self.now number [] }
+    {
+        let start = number * self.width;
+        &self.places[start..start + self.width]
+    }
+
+    /// Puts a row behind the others, or leaves them as they are where memory is wanting.
+    pub fn push(&mut self, row: &[Option<bool>]) -> Result<(), AllocError>
+        requires { HaveOneLength (self.old ++ row.now ∷ []) }
+        ensures { self.new ≡ (if is_ok result then self.old ++ row.now ∷ [] else self.old) }
+    {
+        let count = one_more(self.count)?;
+        self.places.extend_from_slice(row)?;
+        self.width = row.len();
+        self.count = count;
+        Ok(())
+    }
+}
+
+/// The next number; where there is none, as after 2^64 - 1 rows without places, memory counts as wanting.
+fn one_more(count: usize) -> Result<usize, AllocError>
+    ensures { IfOk result (λ more. more ≡ count + 1) }
+{
+    match count.checked_add(1) {
+        None => Err(AllocError),
+        Some(more) => Ok(more),
+    }
+}

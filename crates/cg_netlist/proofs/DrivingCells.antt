@@ -7,7 +7,7 @@ use Rattle.std.proofs.lemmas.Bool.{cases_Bool, eqb-true, eq-eqb}
 use Rattle.std.proofs.lemmas.Bool.Decides.{eqb_tells}
 use Rattle.std.proofs.lemmas.List.{length-set}
 use Rattle.cg_netlist.specs.Circuit.{LogicCell}
-use Rattle.cg_netlist.specs.Ranking.{entry}
+use Rattle.cg_netlist.specs.inner.Ranking.{entry}
 use Rattle.cg_netlist.specs.Ranks.{driving_cell}
 use Rattle.cg_netlist.proofs.TableLemmas.{entry-set_same, entry-set_other}
 

@@ -2,13 +2,16 @@ pub mod ByRank
 pub mod CellFits
 pub mod ClockFree
 pub mod Clocks
+pub mod CutAtPlaces
 pub mod DifferentNames
 pub mod Driven
+pub mod DriverGraph
 pub mod DriverTable
 pub mod DrivingCells
 pub mod Each
 pub mod Filtered
 pub mod GatedRegister
+pub mod FanInLemmas
 pub mod FoundNets
 pub mod Given
 pub mod Histories
@@ -32,7 +35,7 @@ pub mod RisingNumbers
 pub mod RisingPlaces
 pub mod SearchLemmas
 pub mod Settle
-pub mod SettleSteps
+pub mod SearchSteps
 pub mod Solve
 pub mod TableLemmas
 pub mod Unranked

@@ -1,7 +1,7 @@
 -- A table of names as a list of lists of bytes.
-use Rattle.std.proofs.Common.{◌≡◌, ◌≢◌, ℕ, ◌<◌, true, false, List, [], ◌∷◌, ◌++◌, ◌||◌, length, slice_get, get_or, Option, None}
+use Rattle.std.proofs.Common.{◌≡◌, ◌≢◌, ℕ, ◌<◌, true, false, List, [], ◌∷◌, ◌++◌, length, slice_get, get_or, Option, None}
 use Rattle.std.proofs.Common.{Some, MatchOption, is_some, nat_eq, refl, ap, sym, ◌∙◌, inl, inr, arith, IfSome, if◌then◌else◌}
-use Rattle.std.specs.List.{list_any, position, AllPairs, IsDistinct}
+use Rattle.std.specs.List.{position, AllPairs, IsDistinct}
 use Rattle.std.specs.Cmp.Lexicographic.{same_text, other_text}
 use Rattle.std.proofs.lemmas.Option.{slice_get_cases}
 use Rattle.std.proofs.lemmas.List.Quantifiers.{position-Some}

@@ -1,11 +1,11 @@
 -- Logic cells have the ranks that they had when their nets get other numbers.
-use Rattle.std.proofs.Common.{◌≡◌, ℕ, ◌+◌, ◌==◌, cond, List, [], ◌∷◌, map, length, slice_get, Option, Some, None, refl, sym, ap, ◌∙◌}
+use Rattle.std.proofs.Common.{◌≡◌, ℕ, ◌+◌, ◌==◌, cond, List, [], ◌∷◌, map, length, slice_get, Option, Some, None, refl, ap, ◌∙◌}
 use Rattle.std.specs.List.{AllByRecursion, cons_option, filter_map, position_from, range_with_len}
 use Rattle.std.specs.Option.{option_map_or}
 use Rattle.std.proofs.lemmas.List.{length-map}
 use Rattle.std.proofs.lemmas.Option.{slice_get-map}
 use Rattle.cg_netlist.specs.Circuit.{LogicCell}
-use Rattle.cg_netlist.specs.Ranks.{driving_cell, driving_cells, rank_of, rank_within, ranks_of}
+use Rattle.cg_netlist.specs.Ranks.{driving_cell, driving_cells, rank_within, ranks_of}
 use Rattle.cg_netlist.specs.Wiring.{map_cell}
 
 module _ (f : ℕ → ℕ) where

@@ -8,7 +8,7 @@ use Rattle.std.proofs.lemmas.Option.{same_Some}
 use Rattle.cg_netlist.specs.Circuit.{LogicCell}
 use Rattle.cg_netlist.specs.Marks.{AreMarksOf}
 use Rattle.cg_netlist.specs.Places.{CellWithin}
-use Rattle.cg_netlist.specs.Ranking.{IsGraph, entry}
+use Rattle.cg_netlist.specs.inner.Ranking.{IsGraph, entry}
 use Rattle.cg_netlist.specs.Ranks.{driving_cell, is_unranked, rank_of, ranks_of}
 use Rattle.cg_netlist.proofs.TableLemmas.{entry_or, entry_within}
 use Rattle.cg_netlist.proofs.Each.{from_recursion}

@@ -11,7 +11,6 @@ pub mod Netlist
 pub mod Nets
 pub mod Ordered
 pub mod Places
-pub mod Ranking
 pub mod Ranks
 pub mod View
 pub mod Walk

@@ -12,7 +12,7 @@ next_rank [] = Some 0
 next_rank (None ∷ ranks) = None
 next_rank (Some rank ∷ ranks) = option_map (max (rank + 1)) (next_rank ranks)
 
--- the rank of cell k where no way up from it, from driven to driving cell, passes n cells, k among them; else none
+-- the rank of cell k where no way up from it, from driven to driving cell, passes more than n cells, k among them; else none
 abbrev pub rank_within : (ℕ → List ℕ) → ℕ → ℕ → Option ℕ
 rank_within above zero k = None
 rank_within above (suc n) k = next_rank (map (rank_within above n) (above k))
@@ -33,6 +33,6 @@ rank_of cells = rank_within (driving_cells cells) (length cells)
 abbrev pub ranks_of : List (LogicCell ℕ) → List (Option ℕ)
 ranks_of cells = map (rank_of cells) (range_with_len 0 (length cells))
 
--- a net is the output of a cell without a rank
+-- the first cell that drives a net has no rank
 abbrev pub is_unranked : List (LogicCell ℕ) → ℕ → Bool
 is_unranked cells net = option_map_or (λ k. is_none (rank_of cells k)) (driving_cell cells net) false

@@ -46,7 +46,7 @@ pub record IsDriven (c : Circuit) : Type 0 where
   pub once : IsDistinct nat_eq (drivers c)
   pub nets : All (λ net. net < length c.names) (drivers c)
 
--- each logic cell's rank is above those of the logic cells that drive its inputs, so that no cell waits for itself
+-- each logic cell's rank is above those of the logic cells that drive its inputs, so that there is no cycle of cells
 pub record AreRanks (cells : List (LogicCell ℕ)) (ranks : List ℕ) : Type 0 where
   pub count : length ranks ≡ length cells
   pub rising : (j k : ℕ) (driver cell : LogicCell ℕ) → slice_get cells j ≡ Some driver → slice_get cells k ≡ Some cell →

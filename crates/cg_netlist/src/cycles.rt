@@ -5,11 +5,12 @@ ghost use Rattle.std.specs.List.{AllByRecursion};
 ghost use Rattle.std.specs.Option.{option_map_or};
 ghost use Rattle.cg_netlist.specs.Marks.{AreMarksOf};
 ghost use Rattle.cg_netlist.specs.Places.{CellWithin};
-ghost use Rattle.cg_netlist.specs.Ranking.{entry};
+ghost use Rattle.cg_netlist.specs.inner.Ranking.{entry};
 ghost use Rattle.cg_netlist.specs.Ranks.{is_unranked, ranks_of};
 
+use crate::net_driver::{entry, net_drivers};
 use crate::parts::Logic;
-use crate::ranks::{driving_cells, entry, ranks};
+use crate::ranks::ranks;
 use std::alloc::{AllocError, Global};
 
 /// The rank of each of these logic cells over `count` nets; `None` for those whose cone holds a cycle of cells.
@@ -21,11 +22,11 @@ pub fn cell_ranks(
     requires { AllByRecursion (CellWithin count) cells.now }
     ensures { IfOk result (λ ranks. ranks.items ≡ ranks_of cells.now) }
 {
-    let drivers = driving_cells(alloc, count, cells)?;
+    let drivers = net_drivers(alloc, count, cells)?;
     ranks(alloc, cells, &drivers)
 }
 
-/// Of `count` nets, marks on the outputs of cells without a rank: those whose cone holds a cycle of cells.
+/// Of `count` nets, marks on those whose first driving cell has no rank, since its cone holds a cycle of cells.
 pub fn unranked_marks(
     alloc: Global,
     count: usize,
@@ -36,11 +37,11 @@ pub fn unranked_marks(
     requires ranks { ranks.now ≡ ranks_of cells.now }
     ensures { IfOk result (λ marks. AreMarksOf marks.items count (is_unranked cells.now)) }
 {
-    let drivers = driving_cells(alloc, count, cells)?;
+    let drivers = net_drivers(alloc, count, cells)?;
     unranked(alloc, &drivers, ranks)
 }
 
-/// Marks on the nets that are driven by cells without a rank.
+/// Marks on the nets whose first driving cell has no rank.
 fn unranked(
     alloc: Global,
     drivers: &[Option<usize>],

@@ -11,8 +11,10 @@
 //! - `names`: the names of nets in their order.
 //! - `net_set`: nets that are taken once.
 //! - `parts`: logic cells, gating cells and registers as a netlist keeps them.
-//! - `ranks`: how deep each logic cell lies under the registers and inputs, and which ones lie on a cycle.
-//! - `cycles`: marks on the nets that logic cells behind a cycle drive.
+//! - `net_driver`: which logic cell drives each net.
+//! - `fan_in`: the logic cells that drive the inputs of each logic cell.
+//! - `ranks`: how deep each logic cell lies under the registers and inputs, and whose cones hold a cycle.
+//! - `cycles`: the ranks of logic cells, and marks on the nets that those behind a cycle drive.
 //! - `view`: what a netlist shows of one of its parts.
 //! - `levels`: the logic cells in an order in which each stands behind those that drive its inputs.
 //! - `driver`: what drives each net.
@@ -27,12 +29,14 @@
 pub mod chains;
 pub mod cycles;
 pub mod driver;
+mod fan_in;
 pub mod fault;
 pub mod history;
 pub mod id;
 mod key;
 mod levels;
 pub mod names;
+mod net_driver;
 pub mod net_set;
 pub mod netlist;
 mod next;

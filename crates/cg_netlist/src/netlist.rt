@@ -25,7 +25,7 @@ use std::marker::Model;
 /// A well-formed netlist whose nets are numbered in net order.
 ///
 /// It is an arena: the parts lie in lists and name each other by number, and it is never changed. Clauses see the
-/// plain data. `IsNetlist` holds of it: every net has exactly one driver, no logic cell waits for itself, and each
+/// plain data. `IsNetlist` holds of it: every net has exactly one driver, no cycle of logic cells, and each
 /// clock pin is reached from the clock through gating cells alone.
 #[derive(Drop)]
 pub struct Netlist {

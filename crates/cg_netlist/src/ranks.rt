@@ -1,28 +1,28 @@
 //! How deep each logic cell lies.
 //!
-//! A cell has a rank as soon as all cells above it, those that drive its inputs, have one. So the search
-//! looks at the inputs of a cell until it meets a cell without a rank, and lets the first wait for that one;
-//! when a cell gets its rank, the search goes on with those that waited for it. It looks at each input once,
-//! and what still waits in the end lies under a cycle.
+//! A cell has a rank as soon as all cells above it, those that drive its inputs, have one. So the search goes up
+//! from a cell, depth first: it looks at the cells above it until it meets one without a rank, goes on with that one,
+//! and comes back when that has its rank. The cells on the way up wait on a stack. Where the search meets a cell that
+//! it has seen and that has no rank, the way up leads into a cycle, and no cell on the stack will ever have one.
 
-ghost use Rattle.std.specs.Prelude.{◌≡◌, ℕ, ◌+◌, ◌<◌, length, slice_get, All, MatchOption, OnOk};
-ghost use Rattle.std.specs.Prelude.{None, Some, is_some, true, IfOk, slice_set, [], replicate, unwrap_or};
+ghost use Rattle.std.specs.Prelude.{◌≡◌, ℕ, ◌+◌, ◌<◌, length, All, MatchOption, OnOk};
+ghost use Rattle.std.specs.Prelude.{None, Some, [], true, IfOk, unwrap_or};
 ghost use Rattle.cg_netlist.specs.Circuit.{is_in};
-ghost use Rattle.cg_netlist.specs.Ranking.{HasLooked, IsGraph, IsSound, HasReached, Looks, RanksOrWaits, EachRanksOrWaits};
-ghost use Rattle.cg_netlist.specs.Ranking.{drivers_at, entry, inputs_of, unsearched, with_rank, with_waiter};
+ghost use Rattle.cg_netlist.specs.inner.Ranking.{Advances, HasLooked, HasVisited, IsGraph, IsSound, Looks, NamesCells};
+ghost use Rattle.cg_netlist.specs.inner.Ranking.{entered, entry, met, ranks_in, unsearched, was_seen, with_rank, with_top};
 ghost use Rattle.cg_netlist.specs.Ranks.{driving_cell, ranks_of};
 ghost use Rattle.cg_netlist.specs.declared.ranks.Progress.{Progress};
 
-use crate::id::NetId;
+use crate::fan_in::FanIn;
+use crate::net_driver::entry;
 use crate::parts::Logic;
-use cg_list::Seq;
 use std::alloc::{AllocError, Global};
 use std::marker::Model;
-use std::mem;
 
-/// How many inputs of a cell the search has looked at, and the rank that these alone would give the cell.
-#[derive(Clone, Copy, Debug)]
+/// How many of the cells above a cell the search has looked at, and the rank that these alone would give the cell.
+#[derive(Clone, Copy)]
 struct Progress {
+    cell: usize,
     place: usize,
     rank: usize,
 }
@@ -38,125 +38,153 @@ pub(crate) fn ranks(
     requires drivers { (net : ℕ) → net < length drivers.now → entry drivers.now net ≡ driving_cell cells.now net }
     ensures { IfOk result (λ ranks. ranks.items ≡ ranks_of cells.now) }
 {
-    let mut ranking = Ranking::new(alloc, cells.len())?;
-    ranking.begin(cells, drivers)?;
-    ranking.follow(alloc, cells, drivers)?;
+    let fan_in = FanIn::new(alloc, cells, drivers)?;
+    search(alloc, &fan_in)
+}
+
+/// The rank of each cell, by the cells above each.
+fn search(alloc: Global, fan_in: &FanIn) -> Result<Vec<Option<usize>>, AllocError>
+    requires { NamesCells fan_in.now }
+    ensures { IfOk result (λ ranks. ranks.items ≡ ranks_in fan_in.now) }
+{
+    let mut ranking = Ranking::new(alloc, fan_in.len())?;
+    for cell in 0..fan_in.len() {
+        ranking.visit(fan_in, cell)?;
+    }
     Ok(ranking.into_ranks())
 }
 
-/// The search at a moment: for each cell its rank, if it has one, how far its inputs were looked at, and the
-/// cells that wait for it; and the cells that have a rank, in the order in which they got it.
+/// The search at a moment: the rank of each cell that has one, which cells were seen, and the cells on the way up
+/// from the first of the stack.
 #[derive(Drop)]
 struct Ranking {
     ranks: Vec<Option<usize>>,
-    progress: Vec<Progress>,
-    waiting: Vec<Seq<usize>>,
-    found: Vec<usize>,
+    seen: Vec<bool>,
+    stack: Vec<Progress>,
 }
 
 impl Model for Ranking {
-    ghost use Rattle.cg_netlist.specs.Ranking.{Search};
+    ghost use Rattle.cg_netlist.specs.inner.Ranking.{Search};
 
     ghost Value = { Search };
 
-    ghost view = { λ r. record { ranks = r.ranks.items; progress = r.progress.items; waiting = r.waiting.items; found = r.found.items } };
+    ghost view = { λ r. record { ranks = r.ranks.items; seen = r.seen.items; stack = r.stack.items } };
 }
 
 impl Ranking {
-    /// Of `cells` cells, of which nothing is known yet.
+    /// Of `cells` cells, none of which was seen.
     fn new(alloc: Global, cells: usize) -> Result<Ranking, AllocError>
         ensures { IfOk result (λ ranking. ranking ≡ unsearched cells) }
     {
         Ok(Ranking {
             ranks: vec![in alloc; None; cells]?,
-            progress: vec![in alloc; Progress { place: 0, rank: 0 }; cells]?,
-            waiting: none_waiting(alloc, cells)?,
-            found: Vec::with_capacity(alloc, cells)?,
+            seen: vec![in alloc; false; cells]?,
+            stack: Vec::new(alloc),
         })
     }
 
-    /// Looks at each cell for the first time.
-    fn begin(&mut self, cells: &[Logic], drivers: &[Option<usize>]) -> Result<(), AllocError>
-        requires graph { IsGraph drivers.now cells.now }
-        requires sound { IsSound drivers.now cells.now self.old }
-        ensures { OnOk result (HasReached drivers.now cells.now self.new 0) }
+    /// Goes up from a cell, if it was not seen before.
+    fn visit(&mut self, fan_in: &FanIn, cell: usize) -> Result<(), AllocError>
+        requires names { NamesCells fan_in.now }
+        requires visited { HasVisited fan_in.now self.old cell }
+        requires cell { cell < length fan_in.now }
+        ensures { OnOk result (HasVisited fan_in.now self.new (cell + 1)) }
     {
-        for cell in 0..cells.len() {
-            self.settle(cells, drivers, cell)?;
+        if self.has_seen(cell) {
+            return Ok(());
+        }
+        self.enter(cell)?;
+        self.climb(fan_in)
+    }
+
+    /// Goes on until the stack is empty.
+    fn climb(&mut self, fan_in: &FanIn) -> Result<(), AllocError>
+        requires names { NamesCells fan_in.now }
+        requires sound { IsSound fan_in.now self.old }
+        ensures sound { OnOk result (IsSound fan_in.now self.new) }
+        ensures back { OnOk result (self.new.stack ≡ []) }
+        ensures seen { OnOk result ((k : ℕ) → was_seen self.old k ≡ true → was_seen self.new k ≡ true) }
+    {
+        'stack: while let Some(top) = self.leave() {
+            self.step(fan_in, top)?;
         }
         Ok(())
     }
 
-    /// Goes on with the cells that wait, as long as there is a cell with a rank that has not had its turn.
-    fn follow(
-        &mut self,
-        alloc: Global,
-        cells: &[Logic],
-        drivers: &[Option<usize>],
-    ) -> Result<(), AllocError>
-        requires graph { IsGraph drivers.now cells.now }
-        requires begun { HasReached drivers.now cells.now self.old 0 }
-        ensures { OnOk result (HasReached drivers.now cells.now self.new (length self.new.found)) }
+    /// Goes on with the cell that was on top of the stack: gives it its rank, or goes up from it.
+    fn step(&mut self, fan_in: &FanIn, mut top: Progress) -> Result<(), AllocError>
+        requires names { NamesCells fan_in.now }
+        requires sound { IsSound fan_in.now (with_top self.old top) }
+        ensures { OnOk result (Advances fan_in.now (with_top self.old top) self.new) }
     {
-        for turn in 0..cells.len() {
-            if turn == self.found_count() {
-                break;
+        match self.look(fan_in, &mut top) {
+            None => {
+                self.rank(top);
+                Ok(())
             }
-            self.take_turn(alloc, cells, drivers, turn)?;
+            Some(above) => self.meet(top, above),
         }
+    }
+
+    /// Looks on at the cells above a cell.
+    fn look(&self, fan_in: &FanIn, progress: &mut Progress) -> Option<usize>
+        requires names { NamesCells fan_in.now }
+        requires sound { IsSound fan_in.now (with_top self.now progress.old) }
+        ensures { Looks fan_in.now self.now.ranks progress.old progress.new result }
+    {
+        look_on(fan_in.of(progress.cell), &self.ranks, progress)
+    }
+
+    /// Gives a cell the rank that the cells above it were found to give it.
+    fn rank(&mut self, progress: Progress)
+        requires { progress.cell < length self.old.ranks }
+        ensures { self.new ≡ with_rank self.old progress }
+    {
+        self.ranks[progress.cell] = Some(progress.rank);
+    }
+
+    /// Goes up from the top to a cell without a rank, or gives the stack up where that was seen before.
+    fn meet(&mut self, top: Progress, above: usize) -> Result<(), AllocError>
+        requires { above < length self.old.seen }
+        ensures { OnOk result (self.new ≡ met self.old top above) }
+    {
+        if self.has_seen(above) {
+            self.stack.clear();
+            return Ok(());
+        }
+        self.stack.push(top)?;
+        self.enter(above)
+    }
+
+    /// Whether a cell was seen.
+    fn has_seen(&self, cell: usize) -> bool
+        requires { cell < length self.now.seen }
+        ensures { result ≡ was_seen self.now cell }
+    {
+        self.seen[cell]
+    }
+
+    /// Puts a cell that is now seen on top of the stack.
+    fn enter(&mut self, cell: usize) -> Result<(), AllocError>
+        requires { cell < length self.old.seen }
+        ensures { OnOk result (self.new ≡ entered self.old cell) }
+    {
+        self.seen[cell] = true;
+        self.stack.push(Progress {
+            cell,
+            place: 0,
+            rank: 0,
+        })?;
         Ok(())
     }
 
-    /// How many cells have their rank.
-    fn found_count(&self) -> usize
-        ensures { result ≡ length self.now.found }
+    /// Takes the cell on top off the stack.
+    fn leave(&mut self) -> Option<Progress>
+        ensures { MatchOption result
+            ((self.new ≡ self.old) × (self.old.stack ≡ []))
+            (λ top. self.old ≡ with_top self.new top) }
     {
-        self.found.len()
-    }
-
-    /// Gives the cell that was the next to get its rank its turn: settles those that wait for it.
-    fn take_turn(
-        &mut self,
-        alloc: Global,
-        cells: &[Logic],
-        drivers: &[Option<usize>],
-        turn: usize,
-    ) -> Result<(), AllocError>
-        requires graph { IsGraph drivers.now cells.now }
-        requires reached { HasReached drivers.now cells.now self.old turn }
-        requires turn { turn < length self.old.found }
-        ensures { OnOk result (HasReached drivers.now cells.now self.new (turn + 1)) }
-    {
-        let cell = self.found[turn];
-        let waiting = self.take_waiting(alloc, cell);
-        self.settle_each(cells, drivers, waiting.as_slice())
-    }
-
-    /// Takes out the cells that wait for a cell.
-    fn take_waiting(&mut self, alloc: Global, cell: usize) -> Seq<usize>
-        requires { cell < length self.old.waiting }
-        ensures taken { slice_get self.old.waiting cell ≡ Some result }
-        ensures left { self.new ≡ record self.old { waiting = slice_set self.old.waiting cell [] } }
-    {
-        mem::replace(&mut self.waiting[cell], Seq::new(alloc))
-    }
-
-    /// Settles these cells.
-    fn settle_each(
-        &mut self,
-        cells: &[Logic],
-        drivers: &[Option<usize>],
-        which: &[usize],
-    ) -> Result<(), AllocError>
-        requires graph { IsGraph drivers.now cells.now }
-        requires sound { IsSound drivers.now cells.now self.old }
-        requires cells { All (λ cell. cell < length cells.now) which.now }
-        ensures { OnOk result (EachRanksOrWaits drivers.now cells.now self.old self.new which.now) }
-    {
-        for cell in which {
-            self.settle(cells, drivers, *cell)?;
-        }
-        Ok(())
+        self.stack.pop()
     }
 
     /// The ranks that were found.
@@ -165,156 +193,31 @@ impl Ranking {
     {
         let Ranking {
             ranks,
-            progress: _,
-            waiting: _,
-            found: _,
+            seen: _,
+            stack: _,
         } = self;
         ranks
     }
-
-    /// Gives a cell its rank, if those above it all have theirs, or else lets it wait for one that has none.
-    fn settle(
-        &mut self,
-        cells: &[Logic],
-        drivers: &[Option<usize>],
-        cell: usize,
-    ) -> Result<(), AllocError>
-        requires graph { IsGraph drivers.now cells.now }
-        requires sound { IsSound drivers.now cells.now self.old }
-        requires cell { cell < length cells.now }
-        ensures { OnOk result (RanksOrWaits drivers.now cells.now self.old self.new cell) }
-    {
-        if self.is_ranked(cell) {
-            return Ok(());
-        }
-        match self.look(cells, drivers, cell) {
-            Some(above) => self.wait(above, cell),
-            None => self.rank(cell),
-        }
-    }
-
-    /// Whether a cell has its rank.
-    fn is_ranked(&self, cell: usize) -> bool
-        requires { cell < length self.now.ranks }
-        ensures { result ≡ is_some (entry self.now.ranks cell) }
-    {
-        self.ranks[cell].is_some()
-    }
-
-    /// Looks on at the inputs of a cell.
-    fn look(&mut self, cells: &[Logic], drivers: &[Option<usize>], cell: usize) -> Option<usize>
-        requires graph { IsGraph drivers.now cells.now }
-        requires sound { IsSound drivers.now cells.now self.old }
-        requires cell { cell < length cells.now }
-        ensures { Looks drivers.now cells.now self.old self.new cell result }
-    {
-        let mut progress = self.progress[cell];
-        let above = look_on(inputs_of(cells, cell), drivers, &self.ranks, &mut progress);
-        self.progress[cell] = progress;
-        above
-    }
-
-    /// Puts a cell among those that wait for another.
-    fn wait(&mut self, above: usize, cell: usize) -> Result<(), AllocError>
-        requires { above < length self.old.waiting }
-        ensures { OnOk result (self.new ≡ with_waiter self.old above cell) }
-    {
-        self.waiting[above].push(cell)
-    }
-
-    /// Gives a cell the rank that its inputs were found to give it.
-    fn rank(&mut self, cell: usize) -> Result<(), AllocError>
-        requires ranks { cell < length self.old.ranks }
-        requires progress { cell < length self.old.progress }
-        ensures { OnOk result ((p : Progress) → slice_get self.old.progress cell ≡ Some p → self.new ≡ with_rank self.old cell p.rank) }
-    {
-        self.found.push(cell)?;
-        self.ranks[cell] = Some(self.progress[cell].rank);
-        Ok(())
-    }
 }
 
-/// For each of `cells` cells the empty list of those that wait for it.
-fn none_waiting(alloc: Global, cells: usize) -> Result<Vec<Seq<usize>>, AllocError>
-    ensures { IfOk result (λ waiting. waiting.items ≡ replicate cells []) }
-{
-    let mut waiting = Vec::with_capacity(alloc, cells)?;
-    for cell in 0..cells {
-        waiting.push(Seq::new(alloc))?;
-    }
-    Ok(waiting)
-}
-
-/// The nets at the inputs of a cell.
-fn inputs_of(cells: &[Logic], cell: usize) -> &[NetId]
-    requires { cell < length cells.now }
-    ensures { result.now ≡ inputs_of cells.now cell }
-{
-    let logic = &cells[cell];
-    &logic.inputs
-}
-
-/// Goes on over the inputs of a cell, to the first that is driven by a cell without a rank; answers that cell.
-fn look_on(
-    inputs: &[NetId],
-    drivers: &[Option<usize>],
-    ranks: &[Option<usize>],
-    progress: &mut Progress,
-) -> Option<usize>
-    requires nets { All (λ net. net < length drivers.now) inputs.now }
-    requires cells { (net k : ℕ) → entry drivers.now net ≡ Some k → k < length ranks.now }
+/// Goes on over the cells above a cell, to the first without a rank; answers that one.
+fn look_on(above: &[usize], ranks: &[Option<usize>], progress: &mut Progress) -> Option<usize>
+    requires cells { All (λ k. k < length ranks.now) above.now }
     requires ranks { (k rank : ℕ) → entry ranks.now k ≡ Some rank → rank < length ranks.now }
-    requires looked { HasLooked drivers.now ranks.now inputs.now progress.old }
-    ensures looks { HasLooked drivers.now ranks.now inputs.now progress.new }
+    requires looked { HasLooked ranks.now above.now progress.old }
+    ensures cell { progress.new.cell ≡ progress.old.cell }
+    ensures looks { HasLooked ranks.now above.now progress.new }
     ensures stops { MatchOption result
-        (progress.new.place ≡ length inputs.now)
-        (λ k. (is_in (drivers_at drivers.now inputs.now) k ≡ true) × (entry ranks.now k ≡ None)) }
+        (progress.new.place ≡ length above.now)
+        (λ k. (is_in above.now k ≡ true) × (entry ranks.now k ≡ None)) }
 {
-    while progress.place < inputs.len() {
-        if let Some(driver) = entry(drivers, inputs[progress.place].number() as usize) {
-            let Some(rank) = entry(ranks, driver) else {
-                return Some(driver);
-            };
-            progress.rank = progress.rank.max(rank + 1);
-        }
+    while progress.place < above.len() {
+        let cell = above[progress.place];
+        let Some(rank) = entry(ranks, cell) else {
+            return Some(cell);
+        };
+        progress.rank = progress.rank.max(rank + 1);
         progress.place += 1;
     }
     None
-}
-
-/// The entry of a table at a place.
-pub(crate) fn entry(table: &[Option<usize>], place: usize) -> Option<usize>
-    requires { place < length table.now }
-    ensures { result ≡ entry table.now place }
-{
-    table[place]
-}
-
-/// For each of `count` nets the first logic cell that drives it, if one does.
-pub(crate) fn driving_cells(
-    alloc: Global,
-    count: usize,
-    cells: &[Logic],
-) -> Result<Vec<Option<usize>>, AllocError>
-    requires { All (λ cell. cell.output < count) cells.now }
-    ensures fits { IfOk result (λ drivers. length drivers.items ≡ count) }
-    ensures tells { IfOk result (λ drivers. (net : ℕ) → net < count → entry drivers.items net ≡ driving_cell cells.now net) }
-{
-    let mut drivers = vec![in alloc; None; count]?;
-    for i in 0..cells.len() {
-        let cell = &cells[i];
-        let net = cell.output.number() as usize;
-        drivers[net] = first(drivers[net], i);
-    }
-    Ok(drivers)
-}
-
-/// The first of a driver that was found before and one that is found now.
-fn first(before: Option<usize>, now: usize) -> Option<usize>
-    ensures { result ≡ Some (unwrap_or before now) }
-{
-    match before {
-        Some(driver) => Some(driver),
-        None => Some(now),
-    }
 }

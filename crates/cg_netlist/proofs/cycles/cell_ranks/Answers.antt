@@ -1,5 +1,5 @@
 use Rattle.std.proofs.Common.{length, ◌∙◌, ap}
-use Rattle.cg_netlist.specs.Ranking.{entry}
+use Rattle.cg_netlist.specs.inner.Ranking.{entry}
 use Rattle.cg_netlist.proofs.Unranked.{is_graph_of}
 use Rattle.cg_netlist.proofs.cycles.cell_ranks.Goals as goal
 

@@ -1,7 +1,7 @@
 use Rattle.std.proofs.Common.{false, is_none}
 use Rattle.std.specs.Option.{option_map_or}
 use Rattle.cg_netlist.specs.Marks.{AreMarksOf}
-use Rattle.cg_netlist.specs.Ranking.{entry}
+use Rattle.cg_netlist.specs.inner.Ranking.{entry}
 use Rattle.cg_netlist.proofs.cycles.unranked.Given as goal
 
 abbrev pub invariant-loop-net : goal.invariant-loop-net

@@ -1,10 +1,17 @@
-use Rattle.std.proofs.Common.{sym, ◌∙◌, subst}
-use Rattle.cg_netlist.specs.Ranking.{IsSound}
-use Rattle.cg_netlist.proofs.SearchLemmas.{ranks_found, unsearched_sound}
+use Rattle.std.proofs.Common.{◌≡◌, sym, ◌∙◌, ap, subst}
+use Rattle.std.proofs.lemmas.Result.{IfOk-weaker}
+use Rattle.cg_netlist.specs.inner.Ranking.{NamesCells, ranks_in}
+use Rattle.cg_netlist.specs.Ranks.{ranks_of}
+use Rattle.cg_netlist.proofs.DriverGraph.{names_cells, ranks_are}
 use Rattle.cg_netlist.proofs.ranks.ranks.Goals as goal
 
-pub begin-requires-clause-sound : goal.begin-requires-clause-sound
-begin-requires-clause-sound c = subst (λ s. IsSound c.args.drivers.now c.args.cells.now s) (sym c.in_ok-ranking.ensures) (unsearched_sound c.args.drivers.now c.args.cells.now)
+pub search-requires : goal.search-requires
+search-requires c =
+    subst NamesCells (sym c.in_ok-fan_in.ensures) (names_cells c.args.drivers.now c.args.cells.now c.requires.graph)
 
 pub returns : goal.returns
-returns c = c.into_ranks.ensures ∙ ranks_found c.args.drivers.now c.args.cells.now c.follow.new.self c.requires.graph c.requires.drivers c.in_ok-follow.ensures
+returns c =
+    let same : ranks_in c.in_ok-fan_in.fan_in ≡ ranks_of c.args.cells.now =
+    ap ranks_in c.in_ok-fan_in.ensures ∙ ranks_are c.args.drivers.now c.args.cells.now c.requires.graph c.requires.drivers in
+    IfOk-weaker c.search.result (λ ranks. ranks.items ≡ ranks_in c.in_ok-fan_in.fan_in) (λ ranks. ranks.items ≡ ranks_of c.args.cells.now)
+    (λ ranks found. found ∙ same) c.search.ensures

@@ -4,11 +4,11 @@ use Rattle.std.specs.Option.{option_flatten}
 use Rattle.std.proofs.lemmas.List.{length-take}
 use Rattle.std.proofs.lemmas.List.Elements.{All-get_or}
 use Rattle.std.proofs.lemmas.Option.{slice_get_read}
-use Rattle.cg_netlist.specs.Ranking.{entry}
+use Rattle.cg_netlist.specs.inner.Ranking.{entry}
 use Rattle.cg_netlist.specs.Ranks.{driving_cell}
 use Rattle.cg_netlist.proofs.DrivingCells.{driver_more}
 use Rattle.cg_netlist.proofs.RankingLemmas.{take_next}
-use Rattle.cg_netlist.proofs.ranks.driving_cells.Goals as goal
+use Rattle.cg_netlist.proofs.net_driver.net_drivers.Goals as goal
 
 pub loop-i-preserved : goal.loop-i-preserved
 loop-i-preserved c =

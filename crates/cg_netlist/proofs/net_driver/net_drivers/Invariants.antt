@@ -1,7 +1,7 @@
 use Rattle.std.proofs.Common.{◌≡◌, ℕ, ◌<◌, take, length}
-use Rattle.cg_netlist.specs.Ranking.{entry}
+use Rattle.cg_netlist.specs.inner.Ranking.{entry}
 use Rattle.cg_netlist.specs.Ranks.{driving_cell}
-use Rattle.cg_netlist.proofs.ranks.driving_cells.Given as goal
+use Rattle.cg_netlist.proofs.net_driver.net_drivers.Given as goal
 
 abbrev pub invariant-loop-i : goal.invariant-loop-i
 invariant-loop-i l = record {

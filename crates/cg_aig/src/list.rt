@@ -1,6 +1,6 @@
 //! The list of nodes.
 
-ghost use Rattle.std.specs.Prelude.{false, if◌then◌else◌, ◌≡◌, ◌≤◌, ◌<◌, ◌+◌, ◌*◌, ◌&&◌, ◌||◌, ℕ, Bool, List, []};
+ghost use Rattle.std.specs.Prelude.{false, if◌then◌else◌, ◌≡◌, ◌≤◌, ◌<◌, ◌+◌, ◌*◌, ◌&&◌, ◌||◌, Bool, List, []};
 ghost use Rattle.std.specs.Prelude.{length, slice_get, slice_index_or, Some, Err, IsTrue, IfOk, IfErr, OnOk, OnErr};
 ghost use Rattle.cg_cell.specs.Build.{Evaluates, Stops, build_mux, build_or, build_xor};
 ghost use Rattle.cg_cell.specs.Domain.{Keeps, Makes, Stands};
@@ -299,8 +299,6 @@ fn put_pair(
     if leaves as usize + pairs.len() >= MOST_CLAIM_NODES as usize {
         return Err(AigFault::Limit(Limit::ClaimNodes));
     }
-    match pairs.insert_full(pair) {
-        Ok((k, _)) => Ok(AigLit::of(2 * (1 + leaves + k as u32))),
-        Err(_) => Err(AigFault::NoMemory),
-    }
+    let (k, _) = pairs.insert_full(pair)?;
+    Ok(AigLit::of(2 * (1 + leaves + k as u32)))
 }

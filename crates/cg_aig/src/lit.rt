@@ -10,7 +10,7 @@ use std::marker::Model;
 ///
 /// Clauses see a literal as its number: twice its node, plus 1 where it is inverted. So 0 and 1 are the
 /// constants, and the leaves of a list are 2, 4 and so on.
-#[derive(Clone, Copy, Debug, PartialEq, Eq)]
+#[derive(Clone, Copy, PartialEq, Eq)]
 pub struct AigLit {
     number: u32,
 }

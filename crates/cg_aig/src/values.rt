@@ -1,6 +1,6 @@
 //! The values of nodes, where the leaves have given bits.
 
-ghost use Rattle.std.specs.Prelude.{◌≡◌, ◌≤◌, ◌<◌, ◌+◌, ◌*◌, ◌&&◌, ℕ, false, List, ◌∷◌, length, take, IsTrue};
+ghost use Rattle.std.specs.Prelude.{◌≡◌, ◌≤◌, ◌<◌, ◌+◌, ◌*◌, ◌&&◌, false, ◌∷◌, length, take, IsTrue};
 ghost use Rattle.cg_aig.specs.Aig.{are_pairs, lit_bit, values_from};
 
 /// Writes the values of all nodes in order: 0, the bits of the leaves, and the value of each and-node.

@@ -14,12 +14,14 @@ use Rattle.cg_machine.proofs.Bits.{each_bit}
 use Rattle.cg_machine.proofs.Lists.{below_range}
 use Rattle.cg_claim.specs.declared.leaf.LeafSource.{LeafSource}
 use Rattle.cg_claim.specs.declared.leaf.LeafSource.TheVariants.{Input as InputOf, Register as RegisterOf}
-use Rattle.cg_claim.specs.LeafBits.{leaf_bit, source_bit}
+use Rattle.cg_claim.specs.LeafBits.{leaf_bit}
 use Rattle.cg_claim.specs.Leaves.{Leaf, is_reached, is_source, leaves_of}
 use Rattle.cg_claim.specs.Question.{After, Before, Changed, Copy, Question, target_part, unseen_question}
 use Rattle.cg_claim.specs.Reach.{changed_states}
 use Rattle.cg_claim.specs.Targets.{meets}
-use Rattle.cg_claim.specs.Violates.{CopyPartFits, Free, IsNeverViolated, part_bit, violates}
+use Rattle.cg_claim.specs.Violates.{CopyPartFits, Free, part_bit, violates}
+use Rattle.cg_claim.specs.inner.Copies.{source_bit}
+use Rattle.cg_claim.specs.inner.Never.{IsNeverViolated}
 use Rattle.cg_claim.proofs.ClaimsHold.{never_unseen}
 use Rattle.cg_claim.proofs.GoalBits.{goal_at}
 use Rattle.cg_claim.proofs.LeavesFound.{found_bit, leaf_among}

@@ -13,7 +13,8 @@ use Rattle.cg_machine.specs.Machine.{IsState, MachineData, each_register, enable
 use Rattle.cg_machine.proofs.Lists.{below_or}
 use Rattle.cg_machine.proofs.Bits.{bit_past, each_bit, each_get, length-each, same_bit, same_get}
 use Rattle.cg_claim.specs.Question.{hold_question, idle_question, stable_question, target_part, unseen_question}
-use Rattle.cg_claim.specs.Violates.{Free, IsFree, IsNeverViolated, part_bit, violates}
+use Rattle.cg_claim.specs.Violates.{Free, IsFree, part_bit, violates}
+use Rattle.cg_claim.specs.inner.Never.{IsNeverViolated}
 
 no_clash : (E a b : Bool) → (E ≡ false → a ≡ b) → (not E && exclusive_or a b) ≡ false
 no_clash true a b same = refl

@@ -12,10 +12,11 @@ use Rattle.cg_claim.specs.Build.{aig_values, cell_run}
 use Rattle.cg_claim.specs.Laws.{ApartIsUnseen, ConeIsReached, EndAlike, GatesAreOperations, GoalViolates, HoldIsSaid}
 use Rattle.cg_claim.specs.Laws.{HoldLeavesAreSame, IdleGoal, IdleIsSaid, IsSometimesOne, NeverIsTried, StableIsSaid, TargetsSuffice}
 use Rattle.cg_claim.specs.Laws.{UnseenIsSaid, gate_run}
-use Rattle.cg_claim.specs.LeafBits.{free_of, source_bit}
+use Rattle.cg_claim.specs.LeafBits.{free_of}
 use Rattle.cg_claim.specs.Leaves.{Leaf, leaves_of}
 use Rattle.cg_claim.specs.Question.{hold_question, idle_question, stable_question, unseen_question}
 use Rattle.cg_claim.specs.Violates.{Free}
+use Rattle.cg_claim.specs.inner.Copies.{source_bit}
 use Rattle.cg_claim.proofs.AllTargets.{all_unseen}
 use Rattle.cg_claim.proofs.Apart.{apart_unseen}
 use Rattle.cg_claim.proofs.ClaimsHold.{hold_never, idle_some, never_hold, never_stable, never_unseen, some_idle, stable_never}

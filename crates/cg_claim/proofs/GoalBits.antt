@@ -11,12 +11,14 @@ use Rattle.cg_machine.specs.Machine.{IsMachine, MachineData}
 use Rattle.cg_machine.proofs.Bits.{each_bit, length-each}
 use Rattle.cg_netlist.proofs.NetsOf.{beside_at}
 use Rattle.cg_claim.specs.Build.{aig_values, claim_run, copies, leaf_list, leaf_value}
-use Rattle.cg_claim.specs.LeafBits.{free_of, leaf_bit, source_bit}
+use Rattle.cg_claim.specs.LeafBits.{free_of, leaf_bit}
 use Rattle.cg_claim.specs.Leaves.{is_source, Leaf, is_reached, leaf_place, leaves_of}
 use Rattle.cg_claim.specs.Question.{Copy, Before, After, Changed, Question}
-use Rattle.cg_claim.specs.Violates.{IsNeverViolated, IsFree, SidesFit, Free, violates}
+use Rattle.cg_claim.specs.Violates.{IsFree, SidesFit, Free, violates}
 use Rattle.cg_claim.specs.declared.leaf.LeafSource.{LeafSource}
 use Rattle.cg_claim.specs.declared.leaf.LeafSource.TheVariants.{Input as InputOf, Register as RegisterOf}
+use Rattle.cg_claim.specs.inner.Copies.{source_bit}
+use Rattle.cg_claim.specs.inner.Never.{IsNeverViolated}
 use Rattle.cg_claim.proofs.Goal.{copies_hold, goal_is}
 use Rattle.cg_claim.proofs.LeavesFound.{found_bit, leaf_among, place_below}
 use Rattle.cg_claim.proofs.CellsLaid.{IsFit}

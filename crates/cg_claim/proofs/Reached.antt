@@ -11,9 +11,10 @@ use Rattle.cg_netlist.proofs.Members.{is_in_left, is_in_right}
 use Rattle.cg_machine.specs.Machine.{MachineData, walk_of}
 use Rattle.cg_claim.specs.Question.{Copy, Before, After, Changed, CopyPart, Net, Next, State, Enable, Side, Question}
 use Rattle.cg_claim.specs.Reach.{after_nets, after_states, before_nets, before_states, changed_nets, changed_states, enable_nets}
-use Rattle.cg_claim.specs.Reach.{feeds, nets_reached, next_asks_own, origin_asks, origin_nets, part_asks, part_nets, registers_of}
-use Rattle.cg_claim.specs.Reach.{same_copy, side_asks, side_nets, sides_ask, sides_nets, states_reached}
+use Rattle.cg_claim.specs.Reach.{feeds, next_asks_own, origin_asks, origin_nets, part_asks, part_nets, registers_of}
+use Rattle.cg_claim.specs.Reach.{same_copy, side_asks, side_nets, sides_ask, sides_nets}
 use Rattle.cg_claim.specs.Violates.{CopyPartFits, SidesFit}
+use Rattle.cg_claim.specs.inner.Copies.{nets_reached, states_reached}
 use Rattle.cg_cone.proofs.Cones.{cone_has}
 
 pub both_true : (a b : Bool) → a ≡ true → b ≡ true → (a && b) ≡ true

@@ -15,10 +15,11 @@ use Rattle.cg_claim.specs.declared.leaf.LeafSource.TheVariants.{Input as InputOf
 use Rattle.cg_claim.specs.Leaves.{Leaf}
 use Rattle.cg_claim.specs.Question.{Copy, Before, After, Changed, Question, Side}
 use Rattle.cg_claim.specs.Reach.{after_nets, after_states, before_nets, before_states, changed_nets, changed_states, enable_nets}
-use Rattle.cg_claim.specs.Reach.{feeds, nets_reached, origin_asks, origin_nets, part_asks, part_nets, registers_of, sides_ask}
-use Rattle.cg_claim.specs.Reach.{sides_nets, states_reached}
+use Rattle.cg_claim.specs.Reach.{feeds, origin_asks, origin_nets, part_asks, part_nets, registers_of, sides_ask}
+use Rattle.cg_claim.specs.Reach.{sides_nets}
 use Rattle.cg_claim.specs.Tables.{SameOn}
 use Rattle.cg_claim.specs.Violates.{CopyPartFits, SidesFit}
+use Rattle.cg_claim.specs.inner.Copies.{nets_reached, states_reached}
 use Rattle.cg_claim.proofs.Reached.{after_within, both_true, enables_in, in_filter, not_of, origins_in, range_in, side_asks_in}
 use Rattle.cg_claim.proofs.Reached.{side_nets_in, to_filter}
 use Rattle.cg_claim.proofs.ReachedOnly.{copy_laid, enable_same, lay_states_same, part_same}

@@ -7,7 +7,8 @@ use Rattle.cg_machine.specs.Machine.{IsMachine, MachineData}
 use Rattle.cg_claim.specs.LeafBits.{all_bits, free_of, is_never, violates_at}
 use Rattle.cg_claim.specs.Leaves.{leaves_of, width_of}
 use Rattle.cg_claim.specs.Question.{Question}
-use Rattle.cg_claim.specs.Violates.{IsNeverViolated, SidesFit}
+use Rattle.cg_claim.specs.Violates.{SidesFit}
+use Rattle.cg_claim.specs.inner.Never.{IsNeverViolated}
 use Rattle.cg_claim.proofs.GoalBits.{claim_says, free_agrees, free_is, goal_at}
 
 pub trying_says : (m : MachineData) (q : Question) → IsMachine m → SidesFit m q.sides

@@ -3,23 +3,12 @@ use Rattle.std.specs.Prelude.{ℕ, zero, suc, Bool, true, false, not, List, [], 
 use Rattle.std.specs.List.{list_all}
 use Rattle.std.specs.Option.{option_map_or}
 use Rattle.cg_netlist.specs.Circuit.{data_inputs}
-use Rattle.cg_netlist.specs.Moment.{bit}
-use Rattle.cg_netlist.specs.Nets.{beside}
 use Rattle.cg_machine.specs.Machine.{MachineData, each_register}
 use Rattle.cg_claim.specs.declared.leaf.LeafSource.{LeafSource}
 use Rattle.cg_claim.specs.declared.leaf.LeafSource.TheVariants.{Input, Register}
 use Rattle.cg_claim.specs.Leaves.{Leaf, leaf_place, leaves_of, width_of}
 use Rattle.cg_claim.specs.Question.{Copy, Before, After, Changed, Question}
 use Rattle.cg_claim.specs.Violates.{Free, violates}
-
--- the free bit that a leaf stands for
-abbrev pub source_bit : MachineData → Free → Copy → LeafSource → Bool
-source_bit m w Before (Input y) = beside false (data_inputs m.circuit) w.x0 y
-source_bit m w Before (Register r) = bit w.s0 r
-source_bit m w After (Input y) = beside false (data_inputs m.circuit) w.x1 y
-source_bit m w After (Register r) = bit w.free r
-source_bit m w Changed (Input y) = false
-source_bit m w Changed (Register r) = bit w.other r
 
 -- the bit of a leaf among bits of leaves, and 0 where it is none
 abbrev pub leaf_bit : List Leaf → List Bool → Copy → LeafSource → Bool

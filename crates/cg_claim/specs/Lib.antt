@@ -7,3 +7,4 @@ pub mod Reach
 pub mod Tables
 pub mod Targets
 pub mod Violates
+pub mod inner

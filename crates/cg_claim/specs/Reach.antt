@@ -2,7 +2,7 @@
 -- state counts, whether or not a function depends on it. A register's own bit counts where its function names it.
 use Rattle.std.specs.Prelude.{ℕ, Bool, true, false, not, ◌&&◌, ◌||◌, if◌then◌else◌, List, [], ◌∷◌, ◌++◌, length, map, slice_get}
 use Rattle.std.specs.Prelude.{nat_eq, Option, Some, None, is_some}
-use Rattle.std.specs.List.{filter, flat_map, list_any, range_with_len}
+use Rattle.std.specs.List.{filter, flat_map, range_with_len}
 use Rattle.std.specs.Option.{option_map_or, option_to_list}
 use Rattle.cg_cell.specs.Term.{Term, Bit, Input, has_input}
 use Rattle.cg_netlist.specs.Circuit.{RegisterCell, is_in}
@@ -114,15 +114,3 @@ before_nets m q =
 
 abbrev pub before_states : MachineData → Question → ℕ → Bool
 before_states m q r = feeds m (before_nets m q) r || (sides_ask m Before q.sides r || (after_states m q r && origin_asks m q r))
-
--- the nets that are reached in a copy
-abbrev pub nets_reached : MachineData → Question → Copy → List ℕ
-nets_reached m q Before = before_nets m q
-nets_reached m q After = after_nets m q
-nets_reached m q Changed = changed_nets m q
-
--- whether the state of a register is reached in a copy
-abbrev pub states_reached : MachineData → Question → Copy → ℕ → Bool
-states_reached m q Before = before_states m q
-states_reached m q After = after_states m q
-states_reached m q Changed = changed_states m q

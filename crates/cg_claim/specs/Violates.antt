@@ -1,5 +1,5 @@
 -- When bits of a machine violate a claim.
-use Rattle.std.specs.Prelude.{◌≡◌, ◌<◌, Bool, true, false, not, ◌&&◌, List, length, Option, Some, None}
+use Rattle.std.specs.Prelude.{◌<◌, Bool, true, not, ◌&&◌, List, length, Option, Some, None}
 use Rattle.cg_cell.specs.Gates.{exclusive_or}
 use Rattle.cg_netlist.specs.Moment.{bit}
 use Rattle.cg_machine.specs.Machine.{IsInputs, IsState, MachineData, next, values}
@@ -56,10 +56,6 @@ sides_differ m q w (Some s) = exclusive_or (side_bit m q w s.0) (side_bit m q w 
 -- whether free bits violate a claim: the joined enable is 0 in the first cycle, and the sides differ
 abbrev pub violates : MachineData → Question → Free → Bool
 violates m q w = not (any_at (values m w.s0 w.x0) q.enables) && sides_differ m q w q.sides
-
--- no free bits violate a claim
-abbrev pub IsNeverViolated : MachineData → Question → Type 0
-IsNeverViolated m q = (w : Free) → IsFree m w → violates m q w ≡ false
 
 -- the registers that a part names are there
 abbrev pub CopyPartFits : MachineData → CopyPart → Type 0

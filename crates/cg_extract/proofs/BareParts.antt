@@ -29,6 +29,12 @@ use Rattle.cg_extract.proofs.Renumbered.{distinct_mapped}
 use Rattle.cg_extract.specs.Lifted.{bare, kept_nets, number_of, on_clock, ungated}
 use Rattle.cg_extract.specs.inner.BareParts.{bare_parts}
 
+-- what a value has that is there, it has where the faults are mapped
+pub mapped : {T F E : Type 0} (P : T → Type 0) (Q : F → E → Type 0) (r : Result T F) (k : Result T E) → MatchResult r (λ x. k ≡ Ok x) (λ fault. IsErrAnd k (Q fault)) → IfOk r P → IfOk k P
+mapped P Q (Ok x) k is h = subst (λ z. IfOk z P) (sym is) h
+mapped P Q (Err fault) (Ok y) is h = absurd is
+mapped P Q (Err fault) (Err e) is h = tt
+
 -- the register of a number, on the clock
 pub register_at : (c : Circuit) (k : ℕ) (r : RegisterCell ℕ ℕ) (clock : ℕ) → slice_get c.registers k ≡ Some r → clock ≡ unwrap_or c.clock 0 → slice_get (ungated c).registers k ≡ Some (record r { clock = clock })
 register_at c k r clock at is = slice_get-map (on_clock c) c.registers k ∙ (ap (option_map (on_clock c)) at ∙ ap (λ n. Some (record r { clock = n })) (sym is))

@@ -29,7 +29,7 @@ pub struct Extracted {
 }
 
 /// Why no machine is made.
-#[derive(Clone, Copy, Debug, PartialEq, Eq)]
+#[derive(Clone, Copy, PartialEq, Eq)]
 pub enum ExtractFault {
     /// The gating cell has a test pin, or it stands behind another while there is no cell for the and of two nets.
     Gater(GateClockId),

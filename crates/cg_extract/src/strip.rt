@@ -42,9 +42,7 @@ fn stripped(alloc: Global, netlist: &Netlist) -> Result<Netlist, AllocError>
 {
     let _nets = netlist.nets();
     // Its parts are those of a netlist, and no more than before: only memory can be wanting.
-    let Ok(builder) = told_builder(alloc, netlist) else {
-        return Err(AllocError);
-    };
+    let builder = told_builder(alloc, netlist).map_err(|_| AllocError)?;
     builder.finish().map_err(|_| AllocError)
 }
 
@@ -56,8 +54,14 @@ fn told_builder(alloc: Global, netlist: &Netlist) -> Result<Builder, AddFault>
     let _nets = netlist.nets();
     let mut builder = Builder::new(alloc, netlist.model())?;
     let names = GatedNames::of_netlist(alloc, netlist);
-    tell(alloc, &mut builder, &names, netlist)?;
-    Ok(builder)
+    match tell(alloc, &mut builder, &names, netlist) {
+        Ok(()) => Ok(builder),
+        Err(fault) => {
+            // By a call, as its parts would else be dropped one by one in the proof.
+            drop(builder);
+            Err(fault)
+        }
+    }
 }
 
 /// Tells the parts in the order in which they are written.

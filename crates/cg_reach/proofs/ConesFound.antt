@@ -1,7 +1,7 @@
 -- A cone that was found, as a claim has it.
-use Rattle.std.proofs.Common.{◌≡◌, ℕ, ◌+◌, ◌-◌, ◌<◌, ◌≤◌, Bool, true, false, ◌&&◌, cond, List, [], ◌∷◌, ◌++◌, length, take}
+use Rattle.std.proofs.Common.{◌≡◌, ℕ, ◌-◌, ◌<◌, Bool, true, false, ◌&&◌, cond, List, [], ◌∷◌, length, take}
 use Rattle.std.proofs.Common.{slice_get, Option, Some, None, refl, sym, ◌∙◌, ap, subst, arith, inl, inr}
-use Rattle.std.specs.List.{All, cons_option, filter, range_with_len}
+use Rattle.std.specs.List.{cons_option, filter, range_with_len}
 use Rattle.std.specs.Option.{option_map_or}
 use Rattle.cg_netlist.specs.Circuit.{LogicCell, is_in}
 use Rattle.cg_cone.specs.Cone.{cell_feeds, cone_at, cone_of}

@@ -10,7 +10,7 @@ use Rattle.cg_netlist.specs.Circuit.{LogicCell, is_in}
 use Rattle.cg_cone.specs.Cone.{IsInCone, Reaches, cone_of, through}
 use Rattle.cg_netlist.specs.NetSets.{with_net}
 use Rattle.cg_cone.proofs.Cones.{cone_is}
-use Rattle.cg_netlist.proofs.FoundNets.{front, in_one, kept_one, one_more, put_one, same_truth, take_end, take_front}
+use Rattle.cg_netlist.proofs.FoundNets.{front, in_one, one_more, put_one, same_truth, take_end, take_front}
 use Rattle.cg_netlist.proofs.Members.{is_in_cases, is_in_left}
 use Rattle.cg_machine.specs.Machine.{IsMachine, MachineData, walk_of}
 use Rattle.cg_reach.specs.Fanout.{readers_at}

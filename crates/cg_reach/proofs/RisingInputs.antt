@@ -1,10 +1,8 @@
 -- The data inputs of a machine rise in their order, so the inputs of two cones together do where they are put in order.
-use Rattle.std.proofs.Common.{◌≡◌, ℕ, zero, suc, ◌+◌, ◌<◌, ◌≤◌, Bool, true, false, ◌||◌, ◌&&◌, not, cond, List, [], ◌∷◌, ◌++◌}
-use Rattle.std.proofs.Common.{length, refl, sym, ◌∙◌, ap, subst, arith}
+use Rattle.std.proofs.Common.{◌≡◌, ℕ, suc, ◌<◌, ◌≤◌, Bool, true, false, ◌||◌, ◌&&◌, cond, List, [], ◌∷◌, ◌++◌}
+use Rattle.std.proofs.Common.{length, refl, sym, ◌∙◌, ap, arith}
 use Rattle.std.specs.List.{filter, range_with_len}
-use Rattle.std.specs.Option.{option_to_list}
-use Rattle.cg_netlist.specs.Circuit.{Circuit, cell_nets, data_inputs, drivers, gate_nets, given_nets, is_in, net_order}
-use Rattle.cg_netlist.specs.Circuit.{register_nets}
+use Rattle.cg_netlist.specs.Circuit.{cell_nets, data_inputs, drivers, given_nets, is_in}
 use Rattle.cg_netlist.proofs.Given.{data_given}
 use Rattle.cg_netlist.proofs.Members.{All-member, is_in-append, is_in_left}
 use Rattle.cg_netlist.specs.inner.Rising.{Rises}

@@ -1,6 +1,6 @@
 -- The nets at which registers can show are those with one of them in their cone.
-use Rattle.std.proofs.Common.{◌≡◌, ℕ, zero, suc, ◌+◌, Bool, true, false, ◌||◌, ◌&&◌, cond, List, [], ◌∷◌, ◌++◌, map, take, nat_eq}
-use Rattle.std.proofs.Common.{slice_get, Option, Some, None, refl, sym, ◌∙◌, ap, subst}
+use Rattle.std.proofs.Common.{◌≡◌, ℕ, ◌+◌, Bool, true, false, ◌||◌, ◌&&◌, cond, List, [], ◌∷◌, ◌++◌, map, take, nat_eq}
+use Rattle.std.proofs.Common.{slice_get, Option, Some, None, refl, sym, ◌∙◌, ap}
 use Rattle.std.specs.List.{filter, list_any}
 use Rattle.std.specs.Option.{option_map_or, option_to_list}
 use Rattle.std.proofs.lemmas.Bool.{both_ways, eqb-true, eq-eqb}
@@ -13,8 +13,8 @@ use Rattle.cg_machine.specs.Machine.{MachineData, enable_of, walk_of}
 use Rattle.cg_claim.specs.declared.name.ClaimName.{ClaimName}
 use Rattle.cg_claim.specs.declared.name.ClaimName.TheVariants.{Output, Next as NextName, Enable as EnableName}
 use Rattle.cg_claim.specs.Reach.{feeds, inputs_of_register, next_asks_own, next_nets, registers_of}
-use Rattle.cg_claim.specs.Targets.{all_targets, meets, output_targets, unseen_targets}
-use Rattle.cg_reach.proofs.Filtering.{filter_same, take_more}
+use Rattle.cg_claim.specs.Targets.{meets, output_targets, unseen_targets}
+use Rattle.cg_reach.proofs.Filtering.{take_more}
 use Rattle.cg_reach.specs.inner.Spreading.{is_next_marked, is_shown, marked_outputs, shows, spread, with_cell}
 
 map_append : {X Y : Type 0} (f : X → Y) (xs ys : List X) → map f (xs ++ ys) ≡ map f xs ++ map f ys
@@ -174,15 +174,13 @@ module _ (m : MachineData) (G : List ℕ) where
         ∙ ap (λ l. (marked_outputs marked 0 m.circuit.outputs ++ map NextName (filter (λ r. is_next_marked m marked (is_in G r) r) (registers_of m))) ++ l) (enable_named E))))))
 
     -- the names as they are put together
-    pub all_named : (E : List Literal) (keys : List ℕ) (first second third last : List ClaimName) (joined : Bool) → ((r : ℕ) → is_in G r ≡ is_in keys r)
-        → first ≡ [] → second ≡ first ++ marked_outputs marked 0 m.circuit.outputs → third ≡ second ++ map NextName (filter (λ r. is_next_marked m marked (is_in keys r) r) (registers_of m))
+    pub all_named : (E : List Literal) (first second third last : List ClaimName) (joined : Bool)
+        → first ≡ [] → second ≡ first ++ marked_outputs marked 0 m.circuit.outputs → third ≡ second ++ map NextName (filter (λ r. is_next_marked m marked (is_in G r) r) (registers_of m))
         → joined ≡ list_any (λ (l : Literal). marked l.0) E → last ≡ third ++ cond joined (EnableName ∷ []) [] → last ≡ map (λ (t : ClaimName × Target). t.0) (unseen_targets m E G)
-    all_named E keys first second third last joined known none outs nexts is enables =
+    all_named E first second third last joined none outs nexts is enables =
         let O : List ClaimName = marked_outputs marked 0 m.circuit.outputs in
         let N : List ClaimName = map NextName (filter (λ r. is_next_marked m marked (is_in G r) r) (registers_of m)) in
-        let same : map NextName (filter (λ r. is_next_marked m marked (is_in keys r) r) (registers_of m)) ≡ N =
-        ap (map NextName) (filter_same (λ r. is_next_marked m marked (is_in keys r) r) (λ r. is_next_marked m marked (is_in G r) r) (registers_of m) (λ r. ap (λ b. is_next_marked m marked b r) (sym (known r)))) in
-        enables ∙ (ap (λ l. l ++ cond joined (EnableName ∷ []) []) (nexts ∙ (ap (λ l. second ++ l) same ∙ ap (λ l. l ++ N) (outs ∙ ap (λ l. l ++ O) none)))
+        enables ∙ (ap (λ l. l ++ cond joined (EnableName ∷ []) []) (nexts ∙ ap (λ l. l ++ N) (outs ∙ ap (λ l. l ++ O) none))
         ∙ (ap (λ b. (O ++ N) ++ cond b (EnableName ∷ []) []) (is ∙ mapped E) ∙ targets_named E))
       where
         mapped : (ls : List Literal) → list_any (λ (l : Literal). marked l.0) ls ≡ list_any marked (map (λ (l : Literal). l.0) ls)

@@ -1,6 +1,6 @@
 -- The registers whose states a question reaches, from the registers of its cones and those that it asks for.
-use Rattle.std.proofs.Common.{◌≡◌, ℕ, ◌+◌, ◌<◌, Bool, true, false, ◌||◌, ◌&&◌, not, cond, if◌then◌else◌, nat_eq, List, [], ◌∷◌}
-use Rattle.std.proofs.Common.{◌++◌, length, Option, Some, None, refl, sym, ◌∙◌, ap, subst, arith}
+use Rattle.std.proofs.Common.{◌≡◌, ℕ, ◌<◌, Bool, true, false, ◌||◌, ◌&&◌, not, cond, if◌then◌else◌, nat_eq, List, [], ◌∷◌}
+use Rattle.std.proofs.Common.{◌++◌, length, Option, Some, None, refl, sym, ◌∙◌, ap}
 use Rattle.std.specs.List.{filter, range_with_len}
 use Rattle.std.proofs.Math.Bool.{or_assoc}
 use Rattle.std.proofs.lemmas.Bool.{eqb-true}
@@ -17,7 +17,7 @@ use Rattle.cg_claim.proofs.Reached.{after_within, before_within, changed_within,
 use Rattle.cg_reach.specs.Asking.{AsksThere, PartThere, SidesThere}
 use Rattle.cg_reach.specs.inner.Sources.{part_states, side_states, sides_states, with_number, with_numbers}
 use Rattle.cg_reach.specs.Reached.{IsConeOf}
-use Rattle.cg_reach.proofs.Filtering.{filter_same, in_filtered, in_order_are, in_ranged}
+use Rattle.cg_reach.proofs.Filtering.{in_filtered, in_order_are, in_ranged}
 
 set_within : (found xs : List ℕ) (r : ℕ) → is_in (with_numbers found xs) r ≡ (is_in found r || is_in xs r)
 set_within found [] r = sym (or_none (is_in found r))

@@ -1,6 +1,6 @@
 -- The outputs and registers that stand among the readers of nets found, and the names of targets.
-use Rattle.std.proofs.Common.{◌≡◌, ℕ, zero, suc, ◌+◌, ◌<◌, ◌≤◌, Bool, true, false, ◌||◌, ◌&&◌, cond, if◌then◌else◌, List, [], ◌∷◌}
-use Rattle.std.proofs.Common.{◌++◌, length, map, take, nat_eq, nat_lt, slice_get, Option, Some, None, refl, sym, ◌∙◌, ap, subst}
+use Rattle.std.proofs.Common.{◌≡◌, ℕ, ◌+◌, ◌<◌, ◌≤◌, Bool, true, false, ◌||◌, ◌&&◌, cond, if◌then◌else◌, List, [], ◌∷◌}
+use Rattle.std.proofs.Common.{◌++◌, length, map, take, nat_eq, nat_lt, slice_get, Option, Some, None, refl, sym, ◌∙◌, ap}
 use Rattle.std.proofs.Common.{arith, inl, inr}
 use Rattle.std.specs.List.{filter, flat_map, list_any, range_with_len}
 use Rattle.std.specs.Option.{option_map_or, option_to_list}
@@ -16,7 +16,6 @@ use Rattle.cg_netlist.proofs.Used.{output_is_used}
 use Rattle.cg_machine.specs.Machine.{IsMachine, MachineData, enable_of}
 use Rattle.cg_machine.proofs.Lists.{below_range}
 use Rattle.cg_claim.specs.Reach.{inputs_of_register, next_asks_own, next_nets, registers_of}
-use Rattle.cg_claim.specs.declared.name.ClaimName.{ClaimName}
 use Rattle.cg_claim.specs.declared.name.ClaimName.TheVariants.{Output}
 use Rattle.cg_reach.specs.Fanout.{readers_at}
 use Rattle.cg_reach.specs.inner.Spreading.{AreOutputReaders, AreRegisterReaders, is_next_marked, is_output_marked}

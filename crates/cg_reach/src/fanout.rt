@@ -7,12 +7,9 @@ ghost use Rattle.cg_machine.specs.Machine.{MachineData};
 ghost use Rattle.cg_reach.specs.Fanout.{Grows, Knows};
 ghost use Rattle.cg_reach.specs.inner.Learning.{KnowsAll};
 
-use crate::sources::set_of;
 use crate::spread::spread;
 use crate::tables::Tables;
-use crate::targets::{
-    is_joined_found, outputs_found, push_name_if, push_nexts, push_outputs, registers_found,
-};
+use crate::targets::{is_joined_found, push_name_if, push_next_names, push_output_names};
 use cg_claim::name::ClaimName;
 use cg_machine::machine::Machine;
 use cg_machine::stage::NetLit;
@@ -106,13 +103,10 @@ fn names(
     ensures { IfOk result (λ names. names.items ≡ map (λ t. t.0) (unseen_targets machine.now enables.now regs.now)) }
 {
     spread(machine, &tables.cells, regs, found)?;
-    let set = set_of(alloc, regs)?;
-    let outputs = outputs_found(alloc, machine, &tables.outputs, found)?;
-    let registers = registers_found(alloc, machine, &tables.registers, found, regs, &set)?;
     let joined = is_joined_found(enables, found);
     let mut names = Vec::new(alloc);
-    push_outputs(&outputs, &mut names)?;
-    push_nexts(&registers, &mut names)?;
+    push_output_names(alloc, machine, &tables.outputs, found, &mut names)?;
+    push_next_names(alloc, machine, &tables.registers, found, regs, &mut names)?;
     push_name_if(joined, ClaimName::Enable, &mut names)?;
     Ok(names)
 }

@@ -1,8 +1,9 @@
 //! What a claim reaches in each copy of the machine, and its leaves.
 
-ghost use Rattle.std.specs.Prelude.{◌≡◌, IfOk};
+ghost use Rattle.std.specs.Prelude.{◌≡◌, map, IfOk};
 ghost use Rattle.cg_cone.specs.Cone.{cone_of};
 ghost use Rattle.cg_machine.specs.Machine.{walk_of};
+ghost use Rattle.cg_claim.specs.Leaves.{leaves_of, shown_leaf};
 ghost use Rattle.cg_claim.specs.Reach.{before_nets, enable_nets, sides_nets};
 ghost use Rattle.cg_reach.specs.Asking.{AsksThere, copy_of, question_of};
 ghost use Rattle.cg_reach.specs.inner.Found.{AreSetsOf, IsLater};
@@ -79,8 +80,7 @@ impl Reacher {
         ensures { IfOk result (IsReached machine.now (question_of asked.now)) }
     {
         let named = Named::new(self.alloc, asked.follows, asked.changes)?;
-        let reached = self.reach_named(machine, asked, &named)?;
-        Ok(reached)
+        self.reach_named(machine, asked, &named)
     }
 
     /// What a claim reaches that says something of these registers, at the cost of that, however many they are.
@@ -111,8 +111,7 @@ impl Reacher {
         ensures { IfOk result (IsReached machine.now (question_of asked.now)) }
     {
         let later = self.later_copies(machine, asked, named)?;
-        let before = self.first_cone(machine, asked, named, &later)?;
-        let leaves = leaves(self.alloc, machine, asked, named, &before, &later)?;
+        let (before, leaves) = self.first_copy(machine, asked, named, &later)?;
         Ok(Reached {
             before,
             after: later.after,
@@ -161,6 +160,25 @@ impl Reacher {
         push_sides(machine, asked, frame, &mut roots)?;
         let cone = self.cones.find(machine, &roots)?;
         Ok(cone)
+    }
+
+    /// The cone of the first copy, and the leaves of all copies.
+    fn first_copy(
+        &mut self,
+        machine: &Machine,
+        asked: &Asked<'_>,
+        named: &Named,
+        later: &Later,
+    ) -> Result<(Cone, Seq<Leaf>), AllocError>
+        requires asked { AsksThere machine.now (question_of asked.now) }
+        requires named { AreSetsOf asked.now.follows.now asked.now.changes.now named.now }
+        requires later { IsLater machine.now (question_of asked.now) later.now }
+        ensures before { IfOk result (λ first. IsConeOf machine.now (before_nets machine.now (question_of asked.now)) first.0) }
+        ensures leaves { IfOk result (λ first. first.1 ≡ map shown_leaf (leaves_of machine.now (question_of asked.now))) }
+    {
+        let before = self.first_cone(machine, asked, named, later)?;
+        let leaves = leaves(self.alloc, machine, asked, named, &before, later)?;
+        Ok((before, leaves))
     }
 
     /// The cone of what is asked for in the first cycle: the joined enable, what the sides ask for, and what the states

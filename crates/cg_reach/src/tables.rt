@@ -1,6 +1,6 @@
 //! The readers of the nets of a machine that grows.
 
-ghost use Rattle.std.specs.Prelude.{◌≡◌, OnOk};
+ghost use Rattle.std.specs.Prelude.{OnOk};
 ghost use Rattle.cg_machine.specs.Machine.{MachineData};
 ghost use Rattle.cg_reach.specs.Fanout.{Grows, Knows};
 ghost use Rattle.cg_reach.specs.inner.Learning.{KnowsAll};

@@ -8,10 +8,10 @@ ghost use Rattle.cg_claim.specs.Reach.{inputs_of_register, registers_of};
 ghost use Rattle.cg_claim.specs.declared.name.ClaimName.TheVariants.{Next, Output};
 ghost use Rattle.cg_netlist.specs.Circuit.{is_in};
 ghost use Rattle.cg_reach.specs.inner.Spreading.{AreOutputReaders, AreRegisterReaders, is_next_marked, is_output_marked};
-ghost use Rattle.cg_reach.specs.inner.Spreading.{is_register_marked};
+ghost use Rattle.cg_reach.specs.inner.Spreading.{is_register_marked, marked_outputs};
 
 use crate::readers::Readers;
-use crate::sources::{asks_own, push_all};
+use crate::sources::{asks_own, push_all, set_of};
 use crate::spread::is_any_found;
 use cg_claim::name::ClaimName;
 use cg_cone::ascending::ascending;
@@ -22,8 +22,23 @@ use cg_netlist::net_set::NetSet;
 use indexmap::IndexSet;
 use std::alloc::{AllocError, Global};
 
+/// Puts the names of the outputs that stand at nets found behind the others, in order.
+pub(crate) fn push_output_names(
+    alloc: Global,
+    machine: &Machine,
+    readers: &Readers,
+    found: &NetSet,
+    names: &mut Vec<ClaimName>,
+) -> Result<(), AllocError>
+    requires { AreOutputReaders machine.now readers.now }
+    ensures { OnOk result (names.new.items ≡ names.old.items ++ marked_outputs (is_in found.now) 0 machine.now.circuit.outputs) }
+{
+    let outputs = outputs_found(alloc, machine, readers, found)?;
+    push_outputs(&outputs, names)
+}
+
 /// The outputs that stand at nets found, in order, by the readers of these nets.
-pub(crate) fn outputs_found(
+fn outputs_found(
     alloc: Global,
     machine: &Machine,
     readers: &Readers,
@@ -65,9 +80,28 @@ fn is_output_found(machine: &Machine, output: u32, found: &NetSet) -> bool
     }
 }
 
+/// Puts the names of the next bits that ask for a net found, or for the bit of one of these registers, behind the others, in
+/// order.
+pub(crate) fn push_next_names(
+    alloc: Global,
+    machine: &Machine,
+    readers: &Readers,
+    found: &NetSet,
+    regs: &[RegId],
+    names: &mut Vec<ClaimName>,
+) -> Result<(), AllocError>
+    requires { AreRegisterReaders machine.now readers.now }
+    ensures { OnOk result (names.new.items ≡ names.old.items
+        ++ map Next (filter (λ r. is_next_marked machine.now (is_in found.now) (is_in regs.now r) r) (registers_of machine.now))) }
+{
+    let set = set_of(alloc, regs)?;
+    let registers = registers_found(alloc, machine, readers, found, regs, &set)?;
+    push_nexts(&registers, names)
+}
+
 /// The registers, in order, whose next bits ask for a net found, or for the bit of a register of the set, which has these
 /// registers; by the readers of the nets found.
-pub(crate) fn registers_found(
+fn registers_found(
     alloc: Global,
     machine: &Machine,
     readers: &Readers,
@@ -183,7 +217,7 @@ pub(crate) fn is_joined_found(enables: &[NetLit], found: &NetSet) -> bool
 }
 
 /// Puts the names of these outputs behind the others.
-pub(crate) fn push_outputs(outputs: &[u32], names: &mut Vec<ClaimName>) -> Result<(), AllocError>
+fn push_outputs(outputs: &[u32], names: &mut Vec<ClaimName>) -> Result<(), AllocError>
     ensures { OnOk result (names.new.items ≡ names.old.items ++ map Output outputs.now) }
 {
     for output in outputs {
@@ -193,7 +227,7 @@ pub(crate) fn push_outputs(outputs: &[u32], names: &mut Vec<ClaimName>) -> Resul
 }
 
 /// Puts the names of the next bits of these registers behind the others.
-pub(crate) fn push_nexts(registers: &[u32], names: &mut Vec<ClaimName>) -> Result<(), AllocError>
+fn push_nexts(registers: &[u32], names: &mut Vec<ClaimName>) -> Result<(), AllocError>
     ensures { OnOk result (names.new.items ≡ names.old.items ++ map Next registers.now) }
 {
     for register in registers {

@@ -1,7 +1,8 @@
 -- Runs made one after another, and faults on their way.
-use Rattle.std.proofs.Common.{◌≡◌, ℕ, ◌<◌, ◌≤◌, Bool, List, [], ◌∷◌, map, slice_index_or, Result, Ok, Err, IfErr, IfOk, refl, sym}
+use Rattle.std.proofs.Common.{◌≡◌, ℕ, ◌<◌, ◌≤◌, Bool, false, List, [], ◌∷◌, map, slice_index_or, Result, Ok, Err, IfErr, IfOk, IsOk, OnOk, refl, sym}
 use Rattle.std.proofs.Common.{ap, subst, arith, inl, inr, length}
 use Rattle.std.specs.List.{All}
+use Rattle.std.proofs.lemmas.Bool.{both_ways}
 use Rattle.std.proofs.lemmas.List.Elements.{All-head, All-tail}
 use Rattle.cg_cell.specs.Build.{AndCall, Evaluates, RefusesAt, Run, Somewhere, Stops, chain}
 use Rattle.cg_cell.specs.Domain.{AreValid, Seen}
@@ -52,6 +53,10 @@ built_of s t v r value e = record { builds = e.builds; keeps = e.stands.keeps; v
 pub if_err : {T E : Type 0} (P Q : E → Type 0) (r : Result T E) → ((e : E) → P e → Q e) → IfErr r P → IfErr r Q
 if_err P Q (Ok x) f h = tt
 if_err P Q (Err e) f h = f e h
+
+pub on_ok : {T E P : Type 0} (r : Result T E) → IsOk r → OnOk r P → P
+on_ok (Ok x) is h = h
+on_ok (Err e) is h = absurd (both_ways false refl is)
 
 pub if_ok : {T E : Type 0} (P Q : T → Type 0) (r : Result T E) → ((x : T) → P x → Q x) → IfOk r P → IfOk r Q
 if_ok P Q (Ok x) f h = f x h

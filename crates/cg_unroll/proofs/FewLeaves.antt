@@ -1,5 +1,5 @@
 -- A claim has few leaves.
-use Rattle.std.proofs.Common.{◌≡◌, ℕ, ◌+◌, ◌<◌, ◌≤◌, Bool, true, false, cond, List, [], ◌∷◌, ◌++◌, map, length, refl, arith}
+use Rattle.std.proofs.Common.{◌≡◌, ℕ, ◌+◌, ◌<◌, ◌≤◌, Bool, true, false, cond, List, [], ◌∷◌, ◌++◌, map, length, arith}
 use Rattle.std.specs.List.{filter}
 use Rattle.std.specs.Option.{option_to_list}
 use Rattle.std.proofs.lemmas.List.{length-append, length-map}
@@ -11,7 +11,7 @@ use Rattle.cg_netlist.proofs.Members.{All-member, distinct_left, is_in_left}
 use Rattle.cg_machine.specs.Machine.{IsMachine, MachineData}
 use Rattle.cg_claim.specs.declared.leaf.LeafSource.{LeafSource}
 use Rattle.cg_claim.specs.declared.leaf.LeafSource.TheVariants.{Input as InputOf, Register as RegisterOf}
-use Rattle.cg_claim.specs.Leaves.{Leaf, is_reached, leaves_at, sources, width_of}
+use Rattle.cg_claim.specs.Leaves.{is_reached, leaves_at, sources, width_of}
 use Rattle.cg_claim.specs.Question.{Copy, Before, After, Changed, Question}
 use Rattle.cg_claim.specs.Reach.{registers_of}
 

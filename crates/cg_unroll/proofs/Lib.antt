@@ -10,6 +10,7 @@ pub mod Kept
 pub mod Laying
 pub mod LeafSources
 pub mod LeafTables
+pub mod Refusals
 pub mod Registers
 pub mod Sides
 pub mod Stages

@@ -1,7 +1,7 @@
 -- States after the first cycle are laid, one after another.
 use Rattle.std.proofs.Common.{◌≡◌, ℕ, ◌<◌, Bool, true, false, ◌||◌, if◌then◌else◌, List, [], ◌∷◌, ◌++◌, length, nat_eq, slice_set}
-use Rattle.std.proofs.Common.{slice_index_or, refl, sym, ◌∙◌, ap, subst}
-use Rattle.std.proofs.lemmas.Bool.{both_ways, eqb-true}
+use Rattle.std.proofs.Common.{slice_index_or, refl, sym, ◌∙◌, ap, subst, inl, inr}
+use Rattle.std.proofs.lemmas.Bool.{both_ways, cases_Bool, eq-eqb, eqb-true}
 use Rattle.std.proofs.Math.ListN.{length-set}
 use Rattle.cg_cell.specs.Build.{Builds, Run}
 use Rattle.cg_cell.specs.Domain.{AreValid, Seen}
@@ -21,6 +21,22 @@ use Rattle.cg_unroll.specs.inner.Building.{Built, MayFail, table_of}
 use Rattle.cg_unroll.specs.inner.States.{IsLayingStates, LaysStates, TellsFollows, carried, state_step}
 use Rattle.cg_unroll.proofs.Building.{fails_longer}
 use Rattle.cg_unroll.proofs.Laying.{everywhere, valid_set, written}
+
+-- a register that is no leaf gets its next bit
+pub step_next : (m : MachineData) (nets own free : ℕ → ℕ) (r : ℕ) (s : Seen) → free r ≡ 0 → state_step m nets own free r s ≡ next_run aig_values m nets own r s
+step_next m nets own free r s none =
+    ap (λ b. if b then next_run aig_values m nets own r s else mux_run aig_values (enable_of m r) nets (free r) (own r) s) (eq-eqb (free r) 0 none)
+
+-- one that is a leaf gets that where it is loaded, and else its own bit
+pub step_loaded : (m : MachineData) (nets own free : ℕ → ℕ) (r leaf state : ℕ) (s : Seen) → leaf ≡ free r → state ≡ own r → (leaf ≡ 0 → ⊥)
+    → state_step m nets own free r s ≡ mux_run aig_values (enable_of m r) nets leaf state s
+step_loaded m nets own free r leaf state s leaf_is state_is some =
+    let other : nat_eq (free r) 0 ≡ false = elim (cases_Bool (nat_eq (free r) 0)) [
+      | inl zero ↦ absurd (some (leaf_is ∙ eqb-true (free r) 0 zero))
+      | inr unequal ↦ unequal
+    ] in
+    ap (λ b. if b then next_run aig_values m nets own r s else mux_run aig_values (enable_of m r) nets (free r) (own r) s) other
+    ∙ (ap (λ a. mux_run aig_values (enable_of m r) nets a (own r) s) (sym leaf_is) ∙ ap (λ a. mux_run aig_values (enable_of m r) nets leaf a s) (sym state_is))
 
 lay_everywhere : (m : MachineData) (q : Question) (nets own free : ℕ → ℕ) (rs : List ℕ) (t u : Table) → SameOn everywhere t u
     → SameOn everywhere (lay_states aig_values m q nets own free rs t) (lay_states aig_values m q nets own free rs u)

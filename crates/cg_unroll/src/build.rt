@@ -3,8 +3,7 @@
 ghost use Rattle.std.specs.Prelude.{◌≡◌, IfErr, IfOk, IsTrue, OnOk, length};
 ghost use Rattle.cg_aig.specs.Aig.{aig_ops};
 ghost use Rattle.cg_cell.specs.Build.{Builds};
-ghost use Rattle.cg_claim.specs.Build.{aig_values, claim_run, leaf_list, question_run};
-ghost use Rattle.cg_claim.specs.Leaves.{width_of};
+ghost use Rattle.cg_claim.specs.Build.{aig_values, claim_run, question_run};
 ghost use Rattle.cg_reach.specs.Asking.{AsksThere, question_of};
 ghost use Rattle.cg_unroll.specs.inner.Building.{Built, MayFail};
 ghost use Rattle.cg_reach.specs.Reached.{IsReached};

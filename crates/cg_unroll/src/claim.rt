@@ -1,11 +1,14 @@
 //! Claims, and calls that build one each.
 
-ghost use Rattle.std.specs.Prelude.{◌<◌, length, IfErr, IfOk};
+ghost use Rattle.std.specs.Prelude.{◌≡◌, ◌<◌, Err, length, IfErr, IfOk, IsOk};
 ghost use Rattle.std.specs.List.{All};
 ghost use Rattle.cg_claim.specs.Question.{hold_question, idle_question, stable_question, unseen_question};
 ghost use Rattle.cg_unroll.specs.Claims.{IsClaim, IsRefused, IsTargetName, target_of};
+ghost use Rattle.cg_unroll.specs.declared.claim.ClaimFault.TheVariants.{NoMemory};
+ghost use Rattle.cg_unroll.specs.inner.Faults.{fault_of};
 
 use crate::unroller::Unroller;
+use cg_aig::fault::AigFault;
 use cg_aig::list::Aig;
 use cg_aig::lit::AigLit;
 use cg_claim::leaf::Leaf;
@@ -16,7 +19,7 @@ use cg_machine::machine::Machine;
 use cg_machine::stage::NetLit;
 use cg_netlist::id::RegId;
 use cg_reach::unseen::UnseenRegs;
-use std::alloc::Global;
+use std::alloc::{AllocError, Global};
 
 /// A claim: an and-inverter list with a goal, which is 1 at bits of the leaves exactly where these bits violate the claim.
 #[derive(Drop)]
@@ -32,7 +35,7 @@ pub struct Claim {
 }
 
 /// Why a call that builds a claim is refused.
-#[derive(Clone, Copy, Debug, PartialEq, Eq)]
+#[derive(Clone, Copy, PartialEq, Eq)]
 pub enum ClaimFault {
     /// The claim has this many leaves, more than the width.
     Wide(u32),
@@ -42,6 +45,25 @@ pub enum ClaimFault {
 
     /// There is no memory.
     NoMemory,
+}
+
+impl From<AllocError> for ClaimFault {
+    ghost from_gives = { λ _ fault. fault ≡ NoMemory };
+
+    fn from(_refused: AllocError) -> ClaimFault {
+        ClaimFault::NoMemory
+    }
+}
+
+impl From<AigFault> for ClaimFault {
+    ghost from_gives = { λ list fault. fault ≡ fault_of list };
+
+    fn from(fault: AigFault) -> ClaimFault {
+        match fault {
+            AigFault::Limit(which) => ClaimFault::Limit(which),
+            AigFault::NoMemory => ClaimFault::NoMemory,
+        }
+    }
 }
 
 /// The claim that the joined enable of a stage can be 0: its goal is 1 at bits of the leaves exactly where it is.
@@ -59,14 +81,8 @@ pub fn idle_claim(
     ensures refused { IfErr result (IsRefused machine.now (idle_question enables.now) width) }
 {
     let mut unroller = Unroller::new(alloc);
-    match unroller.idle(machine, enables, width) {
-        Ok(()) => Ok(unroller.into_claim()),
-        Err(fault) => {
-            // By a call, as its parts would else be dropped one by one in the proof; so too below.
-            drop(unroller);
-            Err(fault)
-        }
-    }
+    let built = unroller.idle(machine, enables, width);
+    claim_of(built, unroller)
 }
 
 /// The claim that a register holds its bit where a literal is 0: its goal is 1 at bits of the leaves exactly where the
@@ -86,13 +102,8 @@ pub fn hold_claim(
     ensures refused { IfErr result (IsRefused machine.now (hold_question enable reg) width) }
 {
     let mut unroller = Unroller::new(alloc);
-    match unroller.hold(machine, enable, reg, width) {
-        Ok(()) => Ok(unroller.into_claim()),
-        Err(fault) => {
-            drop(unroller);
-            Err(fault)
-        }
-    }
+    let built = unroller.hold(machine, enable, reg, width);
+    claim_of(built, unroller)
 }
 
 /// The claim that a register holds its bit a cycle after the joined enable was 0: its goal is 1 at bits of the leaves
@@ -112,13 +123,8 @@ pub fn stable_claim(
     ensures refused { IfErr result (IsRefused machine.now (stable_question enables.now reg) width) }
 {
     let mut unroller = Unroller::new(alloc);
-    match unroller.stable(machine, enables, reg, width) {
-        Ok(()) => Ok(unroller.into_claim()),
-        Err(fault) => {
-            drop(unroller);
-            Err(fault)
-        }
-    }
+    let built = unroller.stable(machine, enables, reg, width);
+    claim_of(built, unroller)
 }
 
 /// The claim that a target does not show the bits of registers a cycle after the joined enable was 0, where the guards
@@ -142,11 +148,20 @@ pub fn unseen_claim(
     ensures claim { IfOk result (IsClaim machine.now (unseen_question enables.now guards.now regs.now (target_of machine.now target)) width) }
     ensures refused { IfErr result (IsRefused machine.now (unseen_question enables.now guards.now regs.now (target_of machine.now target)) width) }
 {
-    let Ok(unseen) = UnseenRegs::new(alloc, guards, regs) else {
-        return Err(ClaimFault::NoMemory);
-    };
+    let unseen = UnseenRegs::new(alloc, guards, regs)?;
     let mut unroller = Unroller::new(alloc);
-    match unroller.unseen(machine, enables, &unseen, target, width) {
+    let built = unroller.unseen(machine, enables, &unseen, target, width);
+    // By a call, as its parts would else be dropped one by one in the proof; so too below.
+    drop(unseen);
+    claim_of(built, unroller)
+}
+
+/// The claim that was built, taken out of what built it, or why none was.
+fn claim_of(built: Result<(), ClaimFault>, unroller: Unroller) -> Result<Claim, ClaimFault>
+    ensures claim { IfOk result (λ claim. IsOk built × (claim ≡ unroller)) }
+    ensures refused { IfErr result (λ fault. built ≡ Err fault) }
+{
+    match built {
         Ok(()) => Ok(unroller.into_claim()),
         Err(fault) => {
             drop(unroller);

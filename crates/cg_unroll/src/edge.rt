@@ -30,10 +30,7 @@ pub(crate) fn put_registers(
     for k in 0..registers.len() {
         let reg = registers[k];
         let state = states.get(reg.number() as usize);
-        match put_register(machine, reg, state, literals) {
-            Ok(()) => {}
-            Err(fault) => return Err(fault),
-        }
+        put_register(machine, reg, state, literals)?;
     }
     Ok(())
 }
@@ -72,10 +69,7 @@ fn put_outputs(
     for k in 0..outputs.len() {
         let (net, inverted) = outputs[k];
         let shown = if inverted { state.not() } else { state };
-        match literals.put(net.number() as usize, shown) {
-            Ok(()) => {}
-            Err(fault) => return Err(fault),
-        }
+        literals.put(net.number() as usize, shown)?;
     }
     Ok(())
 }

@@ -1,6 +1,6 @@
 //! The goal of a claim.
 
-ghost use Rattle.std.specs.Prelude.{◌≡◌, ◌<◌, ◌≤◌, ℕ, length, slice_index_or, IfErr, IfOk, IsTrue};
+ghost use Rattle.std.specs.Prelude.{◌≡◌, ◌<◌, length, slice_index_or, IfErr, IfOk, IsTrue};
 ghost use Rattle.std.specs.List.{All};
 ghost use Rattle.cg_cell.specs.Build.{build_and, build_xor, chain};
 ghost use Rattle.cg_cell.specs.Domain.{AreValid};
@@ -18,7 +18,7 @@ use cg_aig::list::Aig;
 use cg_aig::lit::AigLit;
 use cg_machine::machine::Machine;
 use cg_machine::stage::NetLit;
-use cg_reach::asked::{Asked, Frame, Part, Side};
+use cg_reach::asked::{Asked, Part, Side};
 
 /// The literal of the goal of a claim: the inverse of the joined enable, and, where the claim has sides, 1 where in
 /// addition they differ. The joined enable is built first, then the sides from the left, and then what joins them.
@@ -36,21 +36,19 @@ pub(crate) fn goal_literal(
     ensures failed { IfErr result (λ fault. MayFail
         (goal_run aig_values machine.now (question_of asked.now) (copies_of tables.now aig.old)).domain fault) }
 {
-    match enable_literal(asked.enables, &tables.before.nets, aig) {
-        Ok(joined) => match asked.sides {
-            Some((one, other)) => differing(
-                machine,
-                asked.enables,
-                joined,
-                one,
-                other,
-                tables,
-                aig,
-                buffer,
-            ),
-            None => Ok(joined.not()),
-        },
-        Err(fault) => Err(fault),
+    let joined = enable_literal(asked.enables, &tables.before.nets, aig)?;
+    match asked.sides {
+        Some((one, other)) => differing(
+            machine,
+            asked.enables,
+            joined,
+            one,
+            other,
+            tables,
+            aig,
+            buffer,
+        ),
+        None => Ok(joined.not()),
     }
 }
 
@@ -73,27 +71,23 @@ fn differing(
     ensures built { IfOk result (λ v. Built aig.old aig.new v (sides_run machine.now enables.now tables.now joined one other aig.old)) }
     ensures failed { IfErr result (λ fault. MayFail (sides_run machine.now enables.now tables.now joined one other aig.old).domain fault) }
 {
-    match part_literal(
+    let left = part_literal(
         machine,
         one.part,
         enables,
         tables.copy(one.frame),
         aig,
         buffer,
-    ) {
-        Ok(left) => match part_literal(
-            machine,
-            other.part,
-            enables,
-            tables.copy(other.frame),
-            aig,
-            buffer,
-        ) {
-            Ok(right) => differing_literal(joined, left, right, aig),
-            Err(fault) => Err(fault),
-        },
-        Err(fault) => Err(fault),
-    }
+    )?;
+    let right = part_literal(
+        machine,
+        other.part,
+        enables,
+        tables.copy(other.frame),
+        aig,
+        buffer,
+    )?;
+    differing_literal(joined, left, right, aig)
 }
 
 /// The literal of a part of a copy.
@@ -140,10 +134,7 @@ fn enable_literal(
     }
     let mut joined = net_literal(enables[0], literals);
     for k in 1..enables.len() {
-        match aig.or(joined, net_literal(enables[k], literals)) {
-            Ok(more) => joined = more,
-            Err(fault) => return Err(fault),
-        }
+        joined = aig.or(joined, net_literal(enables[k], literals))?;
     }
     Ok(joined)
 }
@@ -172,8 +163,6 @@ fn differing_literal(
     ensures failed { IfErr result (λ fault. MayFail
         (chain (build_xor aig_ops one other aig.old) (λ x s. build_and aig_ops (inverse joined) x s)).domain fault) }
 {
-    match aig.xor(one, other) {
-        Ok(differ) => aig.and(joined.not(), differ),
-        Err(fault) => Err(fault),
-    }
+    let differ = aig.xor(one, other)?;
+    aig.and(joined.not(), differ)
 }

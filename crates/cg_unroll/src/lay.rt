@@ -41,10 +41,7 @@ pub(crate) fn lay_cells(
         (λ fault. MayFail (lay aig_values (values_at machine.now.circuit.cells cells.now) (table_of aig.old literals.old)).domain fault) }
 {
     for k in 0..cells.len() {
-        match lay_cell(machine, cells[k], aig, literals, buffer) {
-            Ok(()) => {}
-            Err(fault) => return Err(fault),
-        }
+        lay_cell(machine, cells[k], aig, literals, buffer)?;
     }
     Ok(())
 }
@@ -66,38 +63,10 @@ fn lay_cell(
         → MayFail (lay aig_values (cell ∷ []) (table_of aig.old literals.old)).domain fault) }
 {
     let _netlist = machine.netlist();
-    read_literals(inputs_of(machine, id), literals, buffer)?;
+    read_literals(machine.inputs_of(id), literals, buffer)?;
     let answer = build_cell(machine, id, aig, buffer)?;
-    let output = output_of(machine, id);
+    let output = machine.output_of(id);
     literals.put(output.number() as usize, answer)
-}
-
-/// The input nets of a logic cell or an added gate.
-fn inputs_of(machine: &Machine, id: CellId) -> &[NetId]
-    requires { id < length machine.now.circuit.cells }
-    ensures { (cell : LogicCell ℕ) → slice_get machine.now.circuit.cells id ≡ Some cell → result.now ≡ cell.inputs }
-{
-    let netlist = machine.netlist();
-    let own = netlist.cells();
-    if id.number() < own {
-        netlist.cell(id).inputs
-    } else {
-        machine.gate(id.number() - own).inputs
-    }
-}
-
-/// The output net of a logic cell or an added gate.
-fn output_of(machine: &Machine, id: CellId) -> NetId
-    requires { id < length machine.now.circuit.cells }
-    ensures { (cell : LogicCell ℕ) → slice_get machine.now.circuit.cells id ≡ Some cell → result ≡ cell.output }
-{
-    let netlist = machine.netlist();
-    let own = netlist.cells();
-    if id.number() < own {
-        netlist.cell(id).output
-    } else {
-        machine.gate(id.number() - own).output
-    }
 }
 
 /// Reads the literals of these nets into the buffer, in place of what it holds.
@@ -112,10 +81,7 @@ pub(crate) fn read_literals(
 {
     buffer.clear();
     for k in 0..nets.len() {
-        match buffer.push(literals.get(nets[k].number() as usize)) {
-            Ok(()) => {}
-            Err(_) => return Err(AigFault::NoMemory),
-        }
+        buffer.push(literals.get(nets[k].number() as usize))?;
     }
     Ok(())
 }

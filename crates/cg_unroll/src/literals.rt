@@ -57,10 +57,7 @@ impl Literals {
         ensures put { OnOk result (self.new ≡ slice_set self.old place literal) }
         ensures failed { IfErr result (λ fault. fault ≡ NoMemory) }
     {
-        match self.written.push(place) {
-            Ok(()) => {}
-            Err(_) => return Err(AigFault::NoMemory),
-        }
+        self.written.push(place)?;
         self.literals[place] = literal;
         Ok(())
     }
@@ -95,10 +92,7 @@ impl Literals {
         ensures failed { IfErr result (λ fault. fault ≡ NoMemory) }
     {
         'places: while self.literals.len() < places {
-            match self.literals.push(zero) {
-                Ok(()) => {}
-                Err(_) => return Err(AigFault::NoMemory),
-            }
+            self.literals.push(zero)?;
         }
         Ok(())
     }

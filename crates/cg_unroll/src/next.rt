@@ -1,13 +1,12 @@
 //! The next bit of a register in one copy.
 
 ghost use Rattle.std.specs.Prelude.{◌≡◌, ◌<◌, ◌≤◌, ◌+◌, ◌++◌, ◌∷◌, [], ℕ, Some, count_by, length, map, slice_get, slice_index_or};
-ghost use Rattle.std.specs.Prelude.{IfErr, IfOk, IsTrue, OnOk};
+ghost use Rattle.std.specs.Prelude.{IfErr, IfOk, IsTrue};
 ghost use Rattle.cg_cell.specs.Domain.{AreValid};
 ghost use Rattle.cg_cell.specs.Eval.{build_term};
 ghost use Rattle.cg_cell.specs.Pins.{is_data};
 ghost use Rattle.cg_cell.specs.declared.cell.CellKind.TheVariants.{Flop};
 ghost use Rattle.cg_aig.specs.Aig.{aig_ops};
-ghost use Rattle.cg_aig.specs.declared.fault.AigFault.TheVariants.{NoMemory};
 ghost use Rattle.cg_netlist.specs.Circuit.{RegisterCell};
 ghost use Rattle.cg_netlist.specs.declared.parts.RegisterKind.TheVariants.{Flop as FlopOf};
 ghost use Rattle.cg_claim.specs.Build.{aig_values, mux_run, next_run};
@@ -47,10 +46,8 @@ pub(crate) fn next_literal(
 {
     let _netlist = machine.netlist();
     let own = states.get(reg.number() as usize);
-    match data_literal(machine, reg, own, literals, aig, buffer) {
-        Ok(loaded) => loaded_literal(machine, reg, loaded, own, literals, aig),
-        Err(fault) => Err(fault),
-    }
+    let loaded = data_literal(machine, reg, own, literals, aig, buffer)?;
+    loaded_literal(machine, reg, loaded, own, literals, aig)
 }
 
 /// The first literal where the register's enable is 1, and else the second; the first where it has no enable.
@@ -107,20 +104,9 @@ fn data_literal(
         RegKind::Plain => Ok(literals.get(register.inputs[0].number() as usize)),
         RegKind::Cell(cell) => {
             read_literals(register.inputs, literals, buffer)?;
-            push_literal(own, buffer)?;
+            buffer.push(own)?;
             build_register(cell, aig, buffer)
         }
-    }
-}
-
-/// Puts a literal behind those of the buffer.
-fn push_literal(literal: AigLit, buffer: &mut Vec<AigLit>) -> Result<(), AigFault>
-    ensures pushed { OnOk result (buffer.new.items ≡ buffer.old.items ++ literal ∷ []) }
-    ensures failed { IfErr result (λ fault. fault ≡ NoMemory) }
-{
-    match buffer.push(literal) {
-        Ok(()) => Ok(()),
-        Err(_) => Err(AigFault::NoMemory),
     }
 }
 

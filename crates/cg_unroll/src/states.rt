@@ -1,13 +1,12 @@
 //! The states of registers after the first cycle.
 
-ghost use Rattle.std.specs.Prelude.{◌≡◌, ◌<◌, ◌≤◌, if◌then◌else◌, length, nat_eq, slice_index_or, IfErr, IfOk, OnOk};
+ghost use Rattle.std.specs.Prelude.{◌≡◌, ◌<◌, ◌≤◌, length, slice_index_or, IfErr, IfOk, OnOk};
 ghost use Rattle.std.specs.List.{All};
 ghost use Rattle.cg_cell.specs.Domain.{AreValid};
 ghost use Rattle.cg_aig.specs.Aig.{aig_ops};
 ghost use Rattle.cg_aig.specs.declared.fault.AigFault.TheVariants.{NoMemory};
-ghost use Rattle.cg_claim.specs.Build.{aig_values, lay_states, mux_run, next_run};
+ghost use Rattle.cg_claim.specs.Build.{aig_values, lay_states};
 ghost use Rattle.cg_claim.specs.Question.{Question};
-ghost use Rattle.cg_machine.specs.Machine.{enable_of};
 ghost use Rattle.cg_unroll.specs.inner.Building.{Built, MayFail, table_of};
 ghost use Rattle.cg_unroll.specs.inner.States.{Carries, LaysStates, TellsFollows, state_step};
 
@@ -49,13 +48,8 @@ pub(crate) fn put_states(
 {
     for k in 0..registers.len() {
         let reg = registers[k];
-        match state_literal(machine, reg, own, free, nets, aig, buffer) {
-            Ok(state) => match states.put(reg.number() as usize, state) {
-                Ok(()) => {}
-                Err(fault) => return Err(fault),
-            },
-            Err(fault) => return Err(fault),
-        }
+        let state = state_literal(machine, reg, own, free, nets, aig, buffer)?;
+        states.put(reg.number() as usize, state)?;
     }
     Ok(())
 }
@@ -106,10 +100,7 @@ pub(crate) fn carry_states(
     for k in 0..registers.len() {
         let place = registers[k].number() as usize;
         if others.get(place).number() == 0 {
-            match others.put(place, states.get(place)) {
-                Ok(()) => {}
-                Err(fault) => return Err(fault),
-            }
+            others.put(place, states.get(place))?;
         }
     }
     Ok(())

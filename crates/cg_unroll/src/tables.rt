@@ -1,6 +1,6 @@
 //! The literals of the nets and of the states of the copies.
 
-ghost use Rattle.std.specs.Prelude.{◌≡◌, ◌<◌, ◌≤◌, length, IfErr, OnOk};
+ghost use Rattle.std.specs.Prelude.{◌≡◌, ◌<◌, length, IfErr, OnOk};
 ghost use Rattle.cg_aig.specs.declared.fault.AigFault.TheVariants.{NoMemory};
 ghost use Rattle.cg_unroll.specs.inner.Copying.{AreLeavesPlaced, Starts, copy_tables};
 ghost use Rattle.cg_unroll.specs.inner.Placing.{ArePlaced, HoldsLeaves, place_in, source_place};
@@ -138,7 +138,7 @@ impl CopyTables {
 }
 
 /// What leaves stand for.
-#[derive(Clone, Copy, Debug, PartialEq, Eq)]
+#[derive(Clone, Copy)]
 pub(crate) enum Sources {
     /// Data inputs.
     Inputs,
@@ -168,10 +168,7 @@ pub(crate) fn put_leaves(
     literals.reset(places, zero)?;
     for k in 0..leaves.len() {
         match place_of(leaves[k], copy, sources) {
-            Some(place) => match literals.put(place, aig.leaf(k as u32)) {
-                Ok(()) => {}
-                Err(fault) => return Err(fault),
-            },
+            Some(place) => literals.put(place, aig.leaf(k as u32))?,
             None => {}
         }
     }

@@ -5,12 +5,10 @@ ghost use Rattle.std.specs.List.{All};
 ghost use Rattle.cg_claim.specs.Question.{hold_question, idle_question, stable_question, target_part, unseen_question};
 ghost use Rattle.cg_unroll.specs.Claims.{IsClaim, IsRefused, IsTargetName, target_of};
 ghost use Rattle.cg_reach.specs.Asking.{AsksThere, PartThere, part_of, question_of};
-ghost use Rattle.cg_unroll.specs.inner.Faults.{fault_of};
 ghost use Rattle.cg_reach.specs.Reached.{IsReached};
 
 use crate::build::Builder;
 use crate::claim::{Claim, ClaimFault};
-use cg_aig::fault::AigFault;
 use cg_aig::list::Aig;
 use cg_aig::lit::AigLit;
 use cg_claim::leaf::Leaf;
@@ -187,10 +185,8 @@ impl Unroller {
             changes: unseen.regs(),
             sides: Some((after, changed)),
         };
-        match self.reacher.reach_with(machine, &asked, unseen) {
-            Ok(reached) => self.build(machine, &asked, reached, width),
-            Err(_) => Err(ClaimFault::NoMemory),
-        }
+        let reached = self.reacher.reach_with(machine, &asked, unseen)?;
+        self.build(machine, &asked, reached, width)
     }
 
     /// Builds the claim of a question that says something of few registers.
@@ -199,10 +195,8 @@ impl Unroller {
         ensures claim { OnOk result (IsClaim machine.now (question_of asked.now) width self.new) }
         ensures refused { IfErr result (IsRefused machine.now (question_of asked.now) width) }
     {
-        match self.reacher.reach(machine, asked) {
-            Ok(reached) => self.build(machine, asked, reached, width),
-            Err(_) => Err(ClaimFault::NoMemory),
-        }
+        let reached = self.reacher.reach(machine, asked)?;
+        self.build(machine, asked, reached, width)
     }
 
     /// Builds the claim of a question that reaches this, if it is narrow.
@@ -218,30 +212,41 @@ impl Unroller {
         ensures claim { OnOk result (IsClaim machine.now (question_of asked.now) width self.new) }
         ensures refused { IfErr result (IsRefused machine.now (question_of asked.now) width) }
     {
+        let built = self.build_narrow(machine, asked, &reached, width);
+        self.leaves = leaves_alone(reached);
+        built
+    }
+
+    /// Builds the list and the goal of a question that reaches this, if it is narrow. The leaves are not put yet.
+    fn build_narrow(
+        &mut self,
+        machine: &Machine,
+        asked: &Asked<'_>,
+        reached: &Reached,
+        width: u32,
+    ) -> Result<(), ClaimFault>
+        requires asked { AsksThere machine.now (question_of asked.now) }
+        requires reached { IsReached machine.now (question_of asked.now) reached.now }
+        ensures claim { OnOk result (IsClaim machine.now (question_of asked.now) width
+            (record { aig = self.new.aig; goal = self.new.goal; leaves = reached.now.leaves })) }
+        ensures refused { IfErr result (IsRefused machine.now (question_of asked.now) width) }
+    {
         let _netlist = machine.netlist();
         let count = reached.leaves.len();
         if count > width as usize {
             return Err(ClaimFault::Wide(count as u32));
         }
-        match self.builder.build(machine, asked, &reached) {
-            Ok(()) => {
-                let _leaves = self.builder.aig.leaves();
-                self.leaves = reached.leaves;
-                Ok(())
-            }
-            Err(fault) => Err(fault_of(fault)),
-        }
+        self.builder.build(machine, asked, reached)?;
+        let _leaves = self.builder.aig.leaves();
+        Ok(())
     }
 }
 
-/// The fault of a list as that of a claim.
-fn fault_of(fault: AigFault) -> ClaimFault
-    ensures { result ≡ fault_of fault }
+/// The leaves of what a claim reaches, without the rest.
+fn leaves_alone(reached: Reached) -> Seq<Leaf>
+    ensures { result ≡ reached.leaves }
 {
-    match fault {
-        AigFault::Limit(which) => ClaimFault::Limit(which),
-        AigFault::NoMemory => ClaimFault::NoMemory,
-    }
+    reached.leaves
 }
 
 /// That the next bit of a register, and its bit, differ in a copy.

@@ -1,7 +1,5 @@
-use Rattle.std.proofs.Common.{◌≡◌, ℕ, List, [], ◌++◌, length, sym, ◌∙◌, ap, subst}
-use Rattle.std.specs.List.{range_with_len}
+use Rattle.std.proofs.Common.{ℕ, List, ◌++◌, ◌∙◌, ap, subst}
 use Rattle.cg_netlist.specs.Circuit.{Circuit, data_inputs}
-use Rattle.cg_netlist.specs.Netlist.{IsNetlist}
 use Rattle.cg_netlist.specs.inner.Rising.{Rises}
 use Rattle.cg_cone.proofs.ConeEdge.{data_rises}
 use Rattle.cg_reach.proofs.RisingInputs.{both_inputs_are}

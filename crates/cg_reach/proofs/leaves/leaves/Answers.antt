@@ -1,4 +1,4 @@
-use Rattle.std.proofs.Common.{◌≡◌, List, [], ◌++◌, map, ◌∙◌, ap}
+use Rattle.std.proofs.Common.{List, ◌++◌, map, ◌∙◌, ap}
 use Rattle.cg_claim.specs.declared.leaf.Leaf.{Leaf}
 use Rattle.cg_claim.specs.Leaves.{leaves_at, shown_leaf}
 use Rattle.cg_claim.specs.Question.{Before, After, Changed}

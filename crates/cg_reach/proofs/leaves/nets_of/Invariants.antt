@@ -1,4 +1,4 @@
-use Rattle.std.proofs.Common.{◌≡◌, ◌++◌, take}
+use Rattle.std.proofs.Common.{◌≡◌, take}
 use Rattle.cg_reach.proofs.leaves.nets_of.Given as goal
 
 abbrev pub invariant-loop-number : goal.invariant-loop-number

@@ -1,4 +1,4 @@
-use Rattle.std.proofs.Common.{◌≡◌, ℕ, List, [], ◌++◌, not, ◌∙◌, ap}
+use Rattle.std.proofs.Common.{◌≡◌, ℕ, List, ◌++◌, not, ◌∙◌, ap}
 use Rattle.std.specs.List.{filter}
 use Rattle.cg_netlist.specs.Circuit.{is_in}
 use Rattle.cg_claim.specs.Question.{After}

@@ -1,4 +1,4 @@
-use Rattle.std.proofs.Common.{◌≡◌, ℕ, List, [], ◌++◌, ◌∙◌, ap}
+use Rattle.std.proofs.Common.{ℕ, List, ◌++◌, ◌∙◌, ap}
 use Rattle.cg_claim.specs.Question.{Before}
 use Rattle.cg_claim.specs.Reach.{after_states}
 use Rattle.cg_reach.specs.Asking.{question_of}

@@ -1,4 +1,4 @@
-use Rattle.std.proofs.Common.{◌≡◌, ℕ, List, [], ◌++◌, ◌∙◌, ap}
+use Rattle.std.proofs.Common.{ℕ, List, ◌++◌, ◌∙◌, ap}
 use Rattle.cg_claim.specs.Question.{Changed}
 use Rattle.cg_reach.specs.Asking.{question_of}
 use Rattle.cg_reach.proofs.StatesReached.{asked_in, changed_are}

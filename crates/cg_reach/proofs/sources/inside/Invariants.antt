@@ -1,4 +1,4 @@
-use Rattle.std.proofs.Common.{◌≡◌, [], ◌++◌, not, take}
+use Rattle.std.proofs.Common.{◌≡◌, [], ◌++◌, take}
 use Rattle.std.specs.List.{filter}
 use Rattle.cg_netlist.specs.Circuit.{is_in}
 use Rattle.cg_reach.proofs.sources.inside.Given as goal

@@ -1,4 +1,4 @@
-use Rattle.std.proofs.Common.{◌≡◌, ◌<◌, ◌≤◌, ℕ, length, arith}
+use Rattle.std.proofs.Common.{arith}
 use Rattle.cg_reach.proofs.Leading.{spreading_done, spreading_first, spreading_more}
 use Rattle.cg_reach.proofs.spread.spread.Goals as goal
 

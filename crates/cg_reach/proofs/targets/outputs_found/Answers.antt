@@ -1,4 +1,4 @@
-use Rattle.std.proofs.Common.{◌≡◌, ◌≤◌, ◌<◌, ◌++◌, [], ℕ, List, length, ◌∙◌, ap, arith}
+use Rattle.std.proofs.Common.{◌++◌, [], ℕ, List, ◌∙◌, ap, arith}
 use Rattle.std.specs.List.{filter}
 use Rattle.cg_netlist.specs.Circuit.{is_in}
 use Rattle.cg_reach.specs.Fanout.{readers_at}

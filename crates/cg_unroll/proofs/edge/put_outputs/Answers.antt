@@ -26,7 +26,7 @@ loop-k-preserved c =
       | else-inverted w ↦ w.shown-is ∙ sym (ap (shown_of state) (ap (λ (z : ℕ × Bool). z.1) same ∙ w.if-inverted.false))
     ] in
     subst (Puts (AgreesAt outputs state) (IsValid state) (take (k + 1) (firsts outputs)) c.args.literals.now)
-    (sym (c.in-Ok.ensures.put ∙ ap (slice_set c.loop-k.literals c.number.result) value))
+    (sym (c.in_ok-put.ensures.put ∙ ap (slice_set c.loop-k.literals c.number.result) value))
     (outputs_more outputs state k c.number.result o.1 c.args.literals.now c.loop-k.literals at below c.loop-k.invariant)
 
 pub returns-clause-put : goal.returns-clause-put

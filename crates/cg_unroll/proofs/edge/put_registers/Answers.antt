@@ -24,7 +24,7 @@ loop-k-preserved c =
     let is : c.get-state.result ≡ slice_index_or states r 0 = c.get-state.ensures ∙ ap (λ n. slice_index_or states n 0) c.number.ensures.number in
     registers_more c.args.machine.now registers states k r c.get-state.result c.args.literals.now c.loop-k.literals c.put_register.new.literals at is
     (λ s valid. subst (λ a. IsTrue (aig_ops.is_valid s a)) (sym is) (valid_at aig_ops s states r valid below))
-    c.loop-k.invariant c.in-Ok.ensures.put
+    c.loop-k.invariant c.in_ok-put_register.ensures.put
 
 pub returns-clause-put : goal.returns-clause-put
 returns-clause-put c =

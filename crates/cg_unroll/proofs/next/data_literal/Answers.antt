@@ -60,7 +60,7 @@ build_register-requires-clause-fits c =
     let view : RegisterCell ℕ ℕ = register_seen c.register-register.result in
     let at = own_register m c.netlist-netlist.result.now c.args.reg view c.netlist-netlist.ensures.netlist (leb-false m.own_registers c.args.reg (sym c.if-is_delay.ensures)) c.register-register.ensures in
     let pins = flop_inputs m.circuit c.netlist-netlist.ensures.machine.well_formed c.args.reg view at c.in-Cell.cell.now (ap kind_seen c.in-Cell.is) in
-    let whole = ap length (c.deref.ensures.value ∙ (c.in_ok-push_literal-in-Cell.ensures.pushed ∙ ap (λ l. l ++ c.args.own ∷ []) c.in_ok-read_literals-in-Cell.ensures.read)) in
+    let whole = ap length (c.deref.ensures.value ∙ (c.in_ok-push-in-Cell.ensures.items ∙ ap (λ l. l ++ c.args.own ∷ []) c.in_ok-read_literals-in-Cell.ensures.read)) in
     let read : List ℕ = map (λ x. slice_index_or c.args.literals.now x 0) view.inputs in
     omega (arith, pins, whole, length-append read (c.args.own ∷ []), length-map view.inputs (λ x. slice_index_or c.args.literals.now x 0))
 
@@ -70,7 +70,7 @@ build_register-requires-clause-valid c =
     let view : RegisterCell ℕ ℕ = register_seen c.register-register.result in
     let at = own_register m c.netlist-netlist.result.now c.args.reg view c.netlist-netlist.ensures.netlist (leb-false m.own_registers c.args.reg (sym c.if-is_delay.ensures)) c.register-register.ensures in
     let within = register_inputs_within m.circuit c.netlist-netlist.ensures.machine.well_formed c.args.reg view at (length c.args.literals.now) (omega (arith, c.requires.literals)) in
-    subst (AreValid aig_ops c.args.aig.now) (sym (c.deref.ensures.value ∙ (c.in_ok-push_literal-in-Cell.ensures.pushed ∙ ap (λ l. l ++ c.args.own ∷ []) c.in_ok-read_literals-in-Cell.ensures.read)))
+    subst (AreValid aig_ops c.args.aig.now) (sym (c.deref.ensures.value ∙ (c.in_ok-push-in-Cell.ensures.items ∙ ap (λ l. l ++ c.args.own ∷ []) c.in_ok-read_literals-in-Cell.ensures.read)))
     (valid_append c.args.aig.now (map (λ x. slice_index_or c.args.literals.now x 0) view.inputs) c.args.own (valid_read c.args.aig.now c.args.literals.now view.inputs c.requires.valid within) c.requires.own)
 
 pub get-requires-in-Plain : goal.get-requires-in-Plain
@@ -99,28 +99,28 @@ returns-in-Plain-clause-built c = λ cell stands.
     subst (λ (z : RegisterCell ℕ ℕ). Built s s v (data_run (λ x. slice_index_or literals x 0) c.args.own z s)) (same_Some view cell (sym at ∙ stands))
     (plain_data (λ x. slice_index_or literals x 0) c.args.own view net v s (ap kind_seen c.in-Plain.is) first is (subst (λ a. IsTrue (aig_ops.is_valid s a)) (sym is) (valid_at aig_ops s literals net c.requires.valid below)))
 
-pub returns-in_ok-push_literal-in-Cell-clause-built : goal.returns-in_ok-push_literal-in-Cell-clause-built
-returns-in_ok-push_literal-in-Cell-clause-built c =
+pub returns-in_ok-push-in-Cell-clause-built : goal.returns-in_ok-push-in-Cell-clause-built
+returns-in_ok-push-in-Cell-clause-built c =
     let m : MachineData = c.args.machine.now in
     let s : Seen = c.args.aig.now in
     let t : Seen = c.build_register.new.aig in
     let nets : ℕ → ℕ = λ x. slice_index_or c.args.literals.now x 0 in
     let view : RegisterCell ℕ ℕ = register_seen c.register-register.result in
     let at = own_register m c.netlist-netlist.result.now c.args.reg view c.netlist-netlist.ensures.netlist (leb-false m.own_registers c.args.reg (sym c.if-is_delay.ensures)) c.register-register.ensures in
-    let ins : c.deref.result.now ≡ map nets view.inputs ++ c.args.own ∷ [] = c.deref.ensures.value ∙ (c.in_ok-push_literal-in-Cell.ensures.pushed ∙ ap (λ l. l ++ c.args.own ∷ []) c.in_ok-read_literals-in-Cell.ensures.read) in
+    let ins : c.deref.result.now ≡ map nets view.inputs ++ c.args.own ∷ [] = c.deref.ensures.value ∙ (c.in_ok-push-in-Cell.ensures.items ∙ ap (λ l. l ++ c.args.own ∷ []) c.in_ok-read_literals-in-Cell.ensures.read) in
     if_ok _ _ c.build_register.result (λ v h cell stands.
     subst (λ (z : RegisterCell ℕ ℕ). Built s t v (data_run nets c.args.own z s)) (same_Some view cell (sym at ∙ stands))
     (subst (λ k. Built s t v (build_term aig_ops (map nets view.inputs ++ c.args.own ∷ []) (register_term k) s)) (sym (ap kind_seen c.in-Cell.is))
     (subst (λ l. Built s t v (build_term aig_ops l (register_term (Flop c.in-Cell.cell.now)) s)) ins h))) c.build_register.ensures.built
 
-pub returns-in_ok-push_literal-in-Cell-clause-failed : goal.returns-in_ok-push_literal-in-Cell-clause-failed
-returns-in_ok-push_literal-in-Cell-clause-failed c =
+pub returns-in_ok-push-in-Cell-clause-failed : goal.returns-in_ok-push-in-Cell-clause-failed
+returns-in_ok-push-in-Cell-clause-failed c =
     let m : MachineData = c.args.machine.now in
     let s : Seen = c.args.aig.now in
     let nets : ℕ → ℕ = λ x. slice_index_or c.args.literals.now x 0 in
     let view : RegisterCell ℕ ℕ = register_seen c.register-register.result in
     let at = own_register m c.netlist-netlist.result.now c.args.reg view c.netlist-netlist.ensures.netlist (leb-false m.own_registers c.args.reg (sym c.if-is_delay.ensures)) c.register-register.ensures in
-    let ins : c.deref.result.now ≡ map nets view.inputs ++ c.args.own ∷ [] = c.deref.ensures.value ∙ (c.in_ok-push_literal-in-Cell.ensures.pushed ∙ ap (λ l. l ++ c.args.own ∷ []) c.in_ok-read_literals-in-Cell.ensures.read) in
+    let ins : c.deref.result.now ≡ map nets view.inputs ++ c.args.own ∷ [] = c.deref.ensures.value ∙ (c.in_ok-push-in-Cell.ensures.items ∙ ap (λ l. l ++ c.args.own ∷ []) c.in_ok-read_literals-in-Cell.ensures.read) in
     if_err _ _ c.build_register.result (λ fault h cell stands.
     subst (λ (z : RegisterCell ℕ ℕ). MayFail (data_run nets c.args.own z s).domain fault) (same_Some view cell (sym at ∙ stands))
     (subst (λ k. MayFail (build_term aig_ops (map nets view.inputs ++ c.args.own ∷ []) (register_term k) s).domain fault) (sym (ap kind_seen c.in-Cell.is))

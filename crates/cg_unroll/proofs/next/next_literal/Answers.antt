@@ -1,4 +1,5 @@
 use Rattle.std.proofs.Common.{◌≡◌, ◌<◌, ℕ, List, length, slice_index_or, IsTrue, sym, ◌∙◌, ap, subst, arith}
+use Rattle.std.proofs.lemmas.Result.{err_from_is_err_and}
 use Rattle.cg_cell.specs.Build.{Run}
 use Rattle.cg_cell.specs.Domain.{Seen}
 use Rattle.cg_cell.proofs.Evals.{valid_at, valid_then}
@@ -15,12 +16,12 @@ use Rattle.cg_unroll.proofs.next.next_literal.Goals as goal
 pub loaded_literal-requires-clause-valid : goal.loaded_literal-requires-clause-valid
 loaded_literal-requires-clause-valid c =
     let p = element_at c.args.machine.now.circuit.registers c.args.reg c.requires.register in
-    valid_then aig_ops c.args.aig.now c.data_literal.new.aig c.args.literals.now (c.in-Ok.ensures.built p.0 p.1).keeps c.requires.valid
+    valid_then aig_ops c.args.aig.now c.data_literal.new.aig c.args.literals.now (c.in_ok-loaded.ensures.built p.0 p.1).keeps c.requires.valid
 
 pub loaded_literal-requires-clause-loaded : goal.loaded_literal-requires-clause-loaded
 loaded_literal-requires-clause-loaded c =
     let p = element_at c.args.machine.now.circuit.registers c.args.reg c.requires.register in
-    (c.in-Ok.ensures.built p.0 p.1).valid
+    (c.in_ok-loaded.ensures.built p.0 p.1).valid
 
 pub loaded_literal-requires-clause-own : goal.loaded_literal-requires-clause-own
 loaded_literal-requires-clause-own c =
@@ -29,10 +30,10 @@ loaded_literal-requires-clause-own c =
     let v : ℕ = c.get-own.result in
     let below : c.args.reg < length states = omega (arith, c.requires.register, c.requires.states) in
     let is : v ≡ slice_index_or states c.args.reg 0 = c.get-own.ensures ∙ ap (λ n. slice_index_or states n 0) c.number.ensures.number in
-    (c.in-Ok.ensures.built p.0 p.1).keeps.valid v (subst (λ a. IsTrue (aig_ops.is_valid c.args.aig.now a)) (sym is) (valid_at aig_ops c.args.aig.now states c.args.reg c.requires.own below))
+    (c.in_ok-loaded.ensures.built p.0 p.1).keeps.valid v (subst (λ a. IsTrue (aig_ops.is_valid c.args.aig.now a)) (sym is) (valid_at aig_ops c.args.aig.now states c.args.reg c.requires.own below))
 
-pub returns-in-Ok-clause-built : goal.returns-in-Ok-clause-built
-returns-in-Ok-clause-built c =
+pub returns-clause-built : goal.returns-clause-built
+returns-clause-built c =
     let m : MachineData = c.args.machine.now in
     let s : Seen = c.args.aig.now in
     let t : Seen = c.data_literal.new.aig in
@@ -44,10 +45,10 @@ returns-in-Ok-clause-built c =
     let is : v ≡ slice_index_or states r 0 = c.get-own.ensures ∙ ap (λ n. slice_index_or states n 0) c.number.ensures.number in
     let after : ℕ → Seen → Run = λ a u. mux_run aig_values (enable_of m r) nets a v u in
     if_ok _ _ c.loaded_literal.result (λ w h. subst (λ run. Built s c.loaded_literal.new.aig w run) (sym (next_is m nets (λ k. slice_index_or states k 0) r v s p.0 p.1 is))
-    (built_then s t c.loaded_literal.new.aig (data_run nets v p.0 s) c.in-Ok.loaded w after (c.in-Ok.ensures.built p.0 p.1) h)) c.loaded_literal.ensures.built
+    (built_then s t c.loaded_literal.new.aig (data_run nets v p.0 s) c.in_ok-loaded.loaded w after (c.in_ok-loaded.ensures.built p.0 p.1) h)) c.loaded_literal.ensures.built
 
-pub returns-in-Ok-clause-failed : goal.returns-in-Ok-clause-failed
-returns-in-Ok-clause-failed c =
+pub returns-clause-failed : goal.returns-clause-failed
+returns-clause-failed c =
     let m : MachineData = c.args.machine.now in
     let s : Seen = c.args.aig.now in
     let t : Seen = c.data_literal.new.aig in
@@ -59,10 +60,10 @@ returns-in-Ok-clause-failed c =
     let is : v ≡ slice_index_or states r 0 = c.get-own.ensures ∙ ap (λ n. slice_index_or states n 0) c.number.ensures.number in
     let after : ℕ → Seen → Run = λ a u. mux_run aig_values (enable_of m r) nets a v u in
     if_err _ _ c.loaded_literal.result (λ fault h. subst (λ (run : Run). MayFail run.domain fault) (sym (next_is m nets (λ k. slice_index_or states k 0) r v s p.0 p.1 is))
-    (fails_then s t (data_run nets v p.0 s) c.in-Ok.loaded after fault (c.in-Ok.ensures.built p.0 p.1) h)) c.loaded_literal.ensures.failed
+    (fails_then s t (data_run nets v p.0 s) c.in_ok-loaded.loaded after fault (c.in_ok-loaded.ensures.built p.0 p.1) h)) c.loaded_literal.ensures.failed
 
-pub returns-in-Err-clause-failed : goal.returns-in-Err-clause-failed
-returns-in-Err-clause-failed c =
+pub returns-in_err-loaded-clause-failed : goal.returns-in_err-loaded-clause-failed
+returns-in_err-loaded-clause-failed c =
     let m : MachineData = c.args.machine.now in
     let s : Seen = c.args.aig.now in
     let nets : ℕ → ℕ = λ x. slice_index_or c.args.literals.now x 0 in
@@ -73,5 +74,6 @@ returns-in-Err-clause-failed c =
     let is : v ≡ slice_index_or states r 0 = c.get-own.ensures ∙ ap (λ n. slice_index_or states n 0) c.number.ensures.number in
     let after : ℕ → Seen → Run = λ a u. mux_run aig_values (enable_of m r) nets a v u in
     let run : Run = data_run nets v p.0 s in
-    subst (λ (q : Run). MayFail q.domain c.in-Err.fault) (sym (next_is m nets (λ k. slice_index_or states k 0) r v s p.0 p.1 is))
-    (fails_first run after c.in-Err.fault (mux_run_grows (enable_of m r) nets run.answer v run.domain) (c.in-Err.ensures.failed p.0 p.1))
+    let passed = err_from_is_err_and c.from_residual.result c.from_residual.ensures.1 in
+    rw (passed.1, passed.2) (subst (λ (q : Run). MayFail q.domain c.in_err-loaded.field-0.0) (sym (next_is m nets (λ k. slice_index_or states k 0) r v s p.0 p.1 is))
+    (fails_first run after c.in_err-loaded.field-0.0 (mux_run_grows (enable_of m r) nets run.answer v run.domain) (c.in_err-loaded.ensures.failed p.0 p.1)))

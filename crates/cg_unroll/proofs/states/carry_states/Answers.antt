@@ -11,7 +11,7 @@ use Rattle.cg_unroll.proofs.Fronts.{take_end}
 use Rattle.cg_unroll.proofs.Laying.{valid_set}
 use Rattle.cg_unroll.proofs.StatesLaid.{carry_keeps, carry_more, carry_takes, so_far}
 use Rattle.cg_unroll.proofs.states.carry_states.Goals as goal
-use Rattle.cg_unroll.proofs.states.carry_states.Goals.{then-number-eq0+in-Ok, else-number-eq0}
+use Rattle.cg_unroll.proofs.states.carry_states.Goals.{then-number-eq0+in_ok-put, else-number-eq0}
 
 pub loop-k-preserved : goal.loop-k-preserved
 loop-k-preserved c =
@@ -32,10 +32,10 @@ loop-k-preserved c =
     let here : c.number.result ≡ so_far (take k registers) r (slice_index_or old r 0) (slice_index_or states r 0) =
     c.number.ensures ∙ (c.get.ensures ∙ (ap (λ n. slice_index_or now n 0) is ∙ c.loop-k.invariant.at r)) in
     subst (λ l. Carries l states old c.if-number-eq0.others) more (elim c.if-number-eq0.branch [
-      | then-number-eq0+in-Ok w ↦
+      | then-number-eq0+in_ok-put w ↦
           let v : ℕ = w.get-then-number-eq0.result in
           let v_is : v ≡ slice_index_or states r 0 = w.get-then-number-eq0.ensures ∙ ap (λ n. slice_index_or states n 0) is in
-          let new : c.if-number-eq0.others ≡ slice_set now r v = w.others-is ∙ (w.in-Ok.ensures.put ∙ ap (λ n. slice_set now n v) is) in
+          let new : c.if-number-eq0.others ≡ slice_set now r v = w.others-is ∙ (w.in_ok-put.ensures.put ∙ ap (λ n. slice_set now n v) is) in
           let none : nat_eq (so_far (take k registers) r (slice_index_or old r 0) (slice_index_or states r 0)) 0 ≡ true = eq-eqb (so_far (take k registers) r (slice_index_or old r 0) (slice_index_or states r 0)) 0 (sym here ∙ w.if-number-eq0.true) in
           subst (Carries (take k registers ++ r ∷ []) states old) (sym new) (record {
             at = carry_more (take k registers) r old states now (slice_set now r v) c.loop-k.invariant.at

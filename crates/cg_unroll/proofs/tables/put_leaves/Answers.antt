@@ -8,7 +8,7 @@ use Rattle.cg_unroll.specs.inner.Placing.{FillsLeaves, place_in}
 use Rattle.cg_unroll.proofs.Laying.{valid_set}
 use Rattle.cg_unroll.proofs.Tabling.{leaves_on, leaves_skip}
 use Rattle.cg_unroll.proofs.tables.put_leaves.Goals as goal
-use Rattle.cg_unroll.proofs.tables.put_leaves.Goals.{in-Some+in-Ok, in-None}
+use Rattle.cg_unroll.proofs.tables.put_leaves.Goals.{in-Some+in_ok-put-in-Some, in-None}
 
 pub loop-k-preserved : goal.loop-k-preserved
 loop-k-preserved c =
@@ -19,13 +19,13 @@ loop-k-preserved c =
     let l : Leaf = c.index-leaves-k.result in
     let at : slice_get leaves k ≡ Some l = slice_get-get_or leaves k l c.loop-k-test.true ∙ ap Some (sym c.index-leaves-k.is) in
     elim c.match-place_of.branch [
-      | in-Some+in-Ok w ↦
+      | in-Some+in_ok-put-in-Some w ↦
           let y : ℕ = w.in-Some.place in
           let v : ℕ = w.leaf.result in
           let placed : place l ≡ Some y = sym w.in-Some.ensures in
           let inside = c.requires.placed k y l at placed in
           let below : y < length now = omega (arith, inside, c.loop-k.invariant.long) in
-          let new : c.match-place_of.literals ≡ slice_set now y v = w.literals-is ∙ w.in-Ok.ensures.put in
+          let new : c.match-place_of.literals ≡ slice_set now y v = w.literals-is ∙ w.in_ok-put-in-Some.ensures.put in
           record {
             filled = subst (FillsLeaves place leaves (k + 1)) (sym new) (leaves_on place leaves k l at now c.loop-k.invariant.filled y v placed below w.leaf.ensures.number);
             valid = subst (AreValid aig_ops c.args.aig.now) (sym new) (valid_set c.args.aig.now now y v c.loop-k.invariant.valid w.leaf.ensures.valid);

@@ -1,4 +1,4 @@
-use Rattle.std.proofs.Common.{◌≡◌, ℕ, List, [], ◌++◌, sym, ◌∙◌, ap, subst}
+use Rattle.std.proofs.Common.{◌≡◌, ℕ, List, ◌++◌, sym, ◌∙◌, ap, subst}
 use Rattle.cg_cone.specs.Cone.{cone_of}
 use Rattle.cg_machine.specs.Machine.{walk_of}
 use Rattle.cg_claim.specs.Reach.{enable_nets, sides_nets}

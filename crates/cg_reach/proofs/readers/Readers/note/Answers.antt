@@ -1,4 +1,4 @@
-use Rattle.std.proofs.Common.{◌≡◌, ◌<◌, ◌||◌, ◌&&◌, ◌++◌, ◌∷◌, [], ℕ, nat_eq, sym, ◌∙◌, ap, arith}
+use Rattle.std.proofs.Common.{◌||◌, ◌&&◌, nat_eq, ◌∙◌, ap}
 use Rattle.cg_netlist.specs.Circuit.{is_in}
 use Rattle.cg_reach.specs.Fanout.{readers_at}
 use Rattle.cg_reach.proofs.Noting.{noted_at}

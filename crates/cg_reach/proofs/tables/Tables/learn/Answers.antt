@@ -1,4 +1,4 @@
-use Rattle.std.proofs.Common.{◌≡◌, ◌≤◌, ◌<◌, ℕ, List, length, ◌∙◌, ap, arith}
+use Rattle.std.proofs.Common.{◌≡◌, ℕ, List, length, ◌∙◌, ap, arith}
 use Rattle.cg_netlist.specs.Circuit.{Circuit}
 use Rattle.cg_reach.proofs.Targeting.{few_outputs}
 use Rattle.cg_reach.proofs.tables.Tables.learn.Goals as goal

@@ -1,5 +1,3 @@
-use Rattle.std.proofs.Common.{◌≡◌, ℕ}
-use Rattle.cg_machine.specs.Machine.{MachineData}
 use Rattle.cg_cone.proofs.ConeEdge.{ok_then}
 use Rattle.cg_reach.proofs.Noting.{still_known}
 use Rattle.cg_reach.proofs.tables.Tables.note_enable.Goals as goal

@@ -27,9 +27,8 @@ use Rattle.cg_blif_text.specs.PinWords.{pin_net}
 use Rattle.cg_blif_text.proofs.PinPairs.{Word}
 use Rattle.cg_blif_text.proofs.PlacedFlop.{IsNamed}
 
--- the words of a statement are names; a `.names` line has no more inputs than a cover may have, a `.latch` line an init of at most
--- 3 and no clock
--- of the name `NIL`
+-- the words of a statement are names; a `.names` line has no more inputs than a cover may have, a `.latch` line an init of at
+-- most 3 and no clock of the name `NIL`
 abbrev pub IsMade : Statement → Type 0
 IsMade (Model name) = IsNamed name
 IsMade (Inputs nets) = AllByRecursion IsNamed nets

@@ -13,7 +13,8 @@ pub record CoverSoFar : Type 0 where
   pub rows : List (List (Option Bool))
   pub on : Option Bool
 
--- there are no more inputs than a cover may have; each row has a place for each of them; there is a value where there are rows
+-- there are no more inputs than a cover may have; each row has a place for each of them; without rows there is no
+-- value
 pub record IsOpen (o : CoverSoFar) : Type 0 where
   pub few : length o.inputs ≤ MOST_COVER_INPUTS
   pub fit : AllByRecursion (λ row. length row ≡ length o.inputs) o.rows

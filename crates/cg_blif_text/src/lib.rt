@@ -7,9 +7,8 @@
 //! project's own profile, which docs/FORMATS.md writes out.
 //!
 //! Modules, as data flows: [`word`] (a word of a line), [`command`] (what a line is by its first word), [`statement`] (what a
-//! line says), [`place`] (where a line stands), [`fault`] (why a line says nothing, and why a text is no netlist), [`laws`] (what
-//! is
-//! true of texts).
+//! line says), [`place`] (where a line stands), [`fault`] (why a line says nothing, and why a text is no netlist), [`laws`]
+//! (what is true of texts).
 #![tactic(auto)]
 
 pub mod command;

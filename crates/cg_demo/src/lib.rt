@@ -1,8 +1,7 @@
 //! A generated pipeline, its stimulus and the library of its cells, as texts.
 //!
-//! A size goes in, from which each text is made: a netlist with a valid bit that goes along with four ranks of data registers, on
-//! which
-//! every kind of stage is found, and 100 rows of a stimulus.
+//! A size goes in, from which each text is made: a netlist with a valid bit that goes along with four ranks of data registers,
+//! on which every kind of stage is found, and 100 rows of a stimulus.
 //!
 //! The modules:
 //!

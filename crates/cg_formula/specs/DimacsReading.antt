@@ -75,8 +75,8 @@ clauses_at variables end (suc n) ws =
 abbrev pub formula_at : ℕ → List Line → Result Formula DimacsFault
 formula_at end [] = Err BadHeader
 formula_at end (first ∷ later) =
-    header_of first.words >>= λ h. clauses_at h.variables end h.clauses (spots_of later) >>= λ cs. Ok
-    (record { variables = h.variables; clauses = cs })
+    header_of first.words >>= λ h. clauses_at h.variables end h.clauses (spots_of later) >>= λ cs.
+    Ok (record { variables = h.variables; clauses = cs })
 
 -- the formula that a DIMACS text stands for, or its first fault
 abbrev pub dimacs : List ℕ → Result Formula DimacsFault

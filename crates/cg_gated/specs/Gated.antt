@@ -66,13 +66,10 @@ pub record CanGate (by : Gating) (c : Circuit) : Type 0 where
   pub new : (name : List ℕ) → by.test ≡ Some name →
       All (λ other. other ≢ name) ((planned by c).circuit.names ++ gate_names (planned by c))
 
--- The gated netlist behaves as the netlist. It has the registers of that one and the delay registers, which start with 1; the data
--- inputs
--- of that one and, behind them, a test input where there is to be one; and outputs of the same names. From each start of the
--- registers and
--- over each waveform that begins with the clock low it has exactly one lawful history, and at every moment its outputs are those of
--- the
--- netlist, which sees the same waveform without the test input.
+-- The gated netlist behaves as the netlist. It has the registers of that one and the delay registers, which start with 1; the
+-- data inputs of that one and, behind them, a test input where there is to be one; and outputs of the same names. From each
+-- start of the registers and over each waveform that begins with the clock low it has exactly one lawful history, and at every
+-- moment its outputs are those of the netlist, which sees the same waveform without the test input.
 pub record Behaves (by : Gating) (read written : Circuit) : Type 0 where
   pub registers : length written.registers ≡ length read.registers + length (ones (planned by read))
   pub inputs : map (net_name written.names) (data_inputs written) ≡ map (net_name read.names) (data_inputs read)

@@ -1,6 +1,5 @@
--- The nets of a netlist have at the low moments of the rows the bits that the nets of its machine, which come from them, have in
--- its
--- cycles. So the counts of a netlist's nets, carried to these, are those of the machine's nets.
+-- The nets of a netlist have at the low moments of the rows the bits that the nets of its machine, which come from them, have
+-- in its cycles. So the counts of a netlist's nets, carried to these, are those of the machine's nets.
 use Rattle.std.proofs.Common.{◌≡◌, ℕ, zero, suc, ◌+◌, ◌-◌, ◌<◌, ◌≤◌, Bool, true, false, not, cond, List, [], ◌∷◌, ◌++◌, map, length}
 use Rattle.std.proofs.Common.{replicate, slice_get, unwrap_or, nat_eq, Option, None, Some, IfSome, refl, sym, ◌∙◌, ap, arith}
 use Rattle.std.specs.List.{All, AllByRecursion}

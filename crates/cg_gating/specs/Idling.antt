@@ -1,7 +1,6 @@
--- How often each net of the machine of a netlist is 0 at the low moments of rows that are played on the netlist, as a function: at
--- a
--- low moment the nets of the netlist have the bits of its machine's cycle, and each row is a step. A net that was added with the
--- machine counts 0.
+-- How often each net of the machine of a netlist is 0 at the low moments of rows that are played on the netlist, as a function:
+-- at a low moment the nets of the netlist have the bits of its machine's cycle, and each row is a step. A net that was added
+-- with the machine counts 0.
 use Rattle.std.specs.Prelude.{ℕ, ◌-◌, Bool, false, not, List, [], ◌∷◌, ◌++◌, map, length, replicate, Option, None, Some}
 use Rattle.std.specs.List.{count_by}
 use Rattle.cg_extract.specs.Lifted.{lifted, number_of, origins}

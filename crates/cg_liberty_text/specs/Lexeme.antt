@@ -13,7 +13,9 @@ abbrev pub is_mark : ℕ → Bool
 is_mark byte = byte == 123 || (byte == 125 || (byte == 40 || (byte == 41 || (byte == 58 || (byte == 59 || byte == 44)))))
 
 abbrev pub mark_kind : ℕ → Kind
-mark_kind byte = cond (byte == 123) OpenBrace (cond (byte == 125) CloseBrace (cond (byte == 40) OpenParen (cond (byte == 41) CloseParen (cond (byte == 58) Colon (cond (byte == 59) Semicolon Comma)))))
+mark_kind byte =
+    cond (byte == 123) OpenBrace (cond (byte == 125) CloseBrace (cond (byte == 40) OpenParen (cond (byte == 41) CloseParen
+    (cond (byte == 58) Colon (cond (byte == 59) Semicolon Comma)))))
 
 -- one of the bytes that a join may have between its `\` and its line end: a space, tab or CR
 abbrev pub is_join_blank : ℕ → Bool

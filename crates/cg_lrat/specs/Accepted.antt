@@ -68,8 +68,8 @@ hints_fault live trues [] = Some NoHint
 hints_fault live trues (hint ∷ []) = known_then (live hint) hint (λ lits. false_at (non_false_of (non_false_lits trues lits)) hint)
 hints_fault live trues (hint ∷ next ∷ later) =
     known_then (live hint) hint
-    (λ lits. unit_then (non_false_of (non_false_lits trues lits)) trues hint (λ lit. hints_fault live (trues
-    ++ lit ∷ []) (next ∷ later)))
+    (λ lits. unit_then (non_false_of (non_false_lits trues lits)) trues hint (λ lit.
+    hints_fault live (trues ++ lit ∷ []) (next ∷ later)))
 
 -- a literal stands there and its inverse too
 abbrev pub is_tautology : List Lit → Bool

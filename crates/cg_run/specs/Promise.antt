@@ -98,8 +98,8 @@ CallBy names loads out made statuses.ReadFault =
     (role : Role) × (IsTrue (is_among role loads) × (made ≡ one_fault calls.Load (names role)))
 CallBy names loads out made statuses.WriteFault =
     ((role : Role)
-    × (IsSomeAnd out (λ output. IsTrue (is_stored role output.stores)) × (made ≡ one_fault calls.Store (names role)))) ⊎ (made
-    ≡ one_fault calls.Say [])
+    × (IsSomeAnd out (λ output. IsTrue (is_stored role output.stores)) × (made ≡ one_fault calls.Store (names role))))
+    ⊎ (made ≡ one_fault calls.Say [])
 CallBy names loads out made statuses.NoMemory = (made ≡ []) ⊎ ((fault : Fault) × (made ≡ fault ∷ []))
 CallBy names loads out made other = made ≡ []
 

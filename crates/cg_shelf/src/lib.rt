@@ -1,10 +1,9 @@
 //! Files and texts in and out.
 //!
-//! The rest of `clockgate` reaches the outside only through the four calls of [`Shelf`]: it loads and
-//! stores files by name, says text and complains. What goes in are names and bytes, and what comes out
-//! are bytes, a list of the calls that were made and a list of those that failed. A `Shelf` has a written meaning, so that a claim
-//! about
-//! a whole run can speak of the bytes under a name before and after it.
+//! The rest of `clockgate` reaches the outside only through the four calls of [`Shelf`]: it loads and stores files by name,
+//! says text and complains. What goes in are names and bytes, and what comes out are bytes, a list of the calls that were made
+//! and a list of those that failed. A `Shelf` has a written meaning, so that a claim about a whole run can speak of the bytes
+//! under a name before and after it.
 //!
 //! The modules, in the order in which data flows through them:
 //!

@@ -37,8 +37,8 @@ columns_of names (input ∷ later) = put_column input (column_of names input) (c
 -- what the first line says: how many names stand in it, and the column of each data input
 abbrev pub header_of : ℕ → List (List ℕ) → List (List ℕ) → Result Header StimulusFault
 header_of line inputs [] = Err (BadRow line)
-header_of line inputs (w ∷ ws) = if bytes_eq w (codes "inputs")
-    then (names_from line inputs [] ws >>= λ names. columns_of names inputs >>= λ columns. Ok (record {
+header_of line inputs (w ∷ ws) =
+    if bytes_eq w (codes "inputs") then (names_from line inputs [] ws >>= λ names. columns_of names inputs >>= λ columns. Ok (record {
       count = length names;
       columns = columns;
     }))

@@ -6,9 +6,7 @@
 //!
 //! Modules, as data flows: [`line`] (lines without comments), [`names`] (the names of the data inputs), [`header`] (the first
 //! line), [`row`] (a row's bits), [`read`] (the whole text), [`stimulus`] (rows, read or pushed one by one), [`played`] (the
-//! history on which they are
-//! played), [`fault`] (why a
-//! text is refused).
+//! history on which they are played), [`fault`] (why a text is refused).
 #![tactic(auto)]
 
 pub mod fault;

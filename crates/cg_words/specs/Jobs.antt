@@ -26,8 +26,7 @@ abbrev pub job_of_options : Mode → Files → Option Options → Option JobWord
 job_of_options mode files options = option_map (λ options. record { mode = mode; files = files; options = options }) options
 
 -- `gate LIB NETLIST OUT` with `--stim F`, `--proof F`, `--report F`, `--min N`, `--width N`, `--rounds N`, `--clock NAME`,
--- `--prefix P`,
--- `--test NAME` and `--watch NAME`, where all files are different
+-- `--prefix P`, `--test NAME` and `--watch NAME`, where all files are different
 abbrev pub gate_files : Text → Text → Text → Values → Files
 gate_files library netlist out values =
     record no_files {

@@ -94,9 +94,8 @@ no_options =
       asked = record { stimulus = false; proof = false; report = false };
     }
 
--- What the options of `gate` say. The values of `--clock`, `--prefix` and `--test` are names, that of `--test` does not begin with
--- the
--- prefix, whether this is given or is the default, and there is a watcher only with a stimulus.
+-- What the options of `gate` say. The values of `--clock`, `--prefix` and `--test` are names, that of `--test` does not begin
+-- with the prefix, whether this is given or is the default, and there is a watcher only with a stimulus.
 abbrev pub gate_options_with : Values → Option Settings → Option (Option ℕ) → Option Options
 gate_options_with values (Some settings) (Some watch) =
     if is_named values.clock

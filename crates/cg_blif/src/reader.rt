@@ -63,10 +63,8 @@ fn read(
     requires { AllByRecursion IsCell library.now }
     ensures { IsReadFrom text.now library.now options.now.clock result }
 {
-    match tell(alloc, text, library, options) {
-        Ok(builder) => finish(builder),
-        Err(fault) => Err(fault),
-    }
+    let builder = tell(alloc, text, library, options)?;
+    finish(builder)
 }
 
 /// The netlist of the parts that a builder was told.

@@ -95,10 +95,7 @@ pub fn gate_demo(
     let gated = gate_netlist(alloc, netlist, request, progress)?;
     let said = demo_said(alloc, size, netlist, &gated, stimulus);
     drop(gated);
-    match said {
-        Ok(text) => Ok(text),
-        Err(_) => Err(AddFault::NoMemory),
-    }
+    Ok(said?)
 }
 
 /// What is said of a generated pipeline that was gated.
@@ -129,8 +126,5 @@ fn finish(
     ensures texts { IfOk result (λ texts. AreTexts request.now (told gated.now.plan) gated.now.netlist played.now texts) }
     ensures fault { IfErr result (λ fault. fault ≡ AddFault.NoMemory) }
 {
-    match write_texts(alloc, request, gated, played) {
-        Ok(texts) => Ok(texts),
-        Err(_) => Err(AddFault::NoMemory),
-    }
+    Ok(write_texts(alloc, request, gated, played)?)
 }

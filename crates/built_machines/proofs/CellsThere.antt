@@ -11,7 +11,7 @@ use Rattle.cg_cell.specs.Library.{first_fit}
 use Rattle.cg_cell.specs.declared.cell.CellKind.TheVariants.{Unusable}
 use Rattle.cg_cell.specs.declared.fit.FitKind.{FitKind}
 use Rattle.cg_machine.specs.Gates.{AddedGate}
-use Rattle.cg_netlist.proofs.RankingLemmas.{take_next}
+use Rattle.cg_net.proofs.TableLemmas.{take_next}
 use Rattle.built_machines.specs.Cells.{HasCell, HaveCells}
 
 -- a cell that passes is found, or one before it

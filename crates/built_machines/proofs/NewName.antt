@@ -9,7 +9,7 @@ use Rattle.cg_insert.specs.Insert.{enables_of, gate_names}
 use Rattle.cg_machine.specs.Added.{HasNames, own_netlist}
 use Rattle.cg_machine.specs.Machine.{MachineData, added_name, additions}
 use Rattle.cg_machine.specs.Start.{begins}
-use Rattle.cg_netlist.specs.Names.{is_known}
+use Rattle.cg_net.specs.Names.{is_known}
 use Rattle.cg_netlist.proofs.Each.{each_together, from_recursion}
 
 -- none of the names is this one

@@ -13,7 +13,7 @@ use cg_cell::name::Name;
 use cg_liberty::library::read_library;
 use cg_machine::machine::Machine;
 use cg_machine::prefix::prefix_clash;
-use cg_netlist::id::NetId;
+use cg_net::id::NetId;
 use cg_netlist::netlist::Netlist;
 use cg_text::number::push_number;
 use std::alloc::Global;

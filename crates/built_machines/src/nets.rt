@@ -4,7 +4,7 @@ ghost use Rattle.std.specs.Prelude.{◌≡◌, ◌≢◌, Some, IfOk, true};
 ghost use Rattle.cg_machine.specs.Machine.{IsNet};
 
 use cg_machine::machine::Machine;
-use cg_netlist::id::NetId;
+use cg_net::id::NetId;
 
 /// The net of a machine that has this name, where it is not the clock. That of an added net is the prefix and its place.
 pub fn net_named(machine: &Machine, name: &str) -> Result<NetId, ()>

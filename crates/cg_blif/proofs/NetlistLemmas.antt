@@ -10,7 +10,7 @@ use Rattle.cg_builder.specs.Building.{Building, Finishes}
 use Rattle.cg_parts.specs.Part.{Part}
 use Rattle.cg_parts.specs.Said.{said}
 use Rattle.cg_parts.specs.Says.{Says}
-use Rattle.cg_netlist.specs.Wiring.{NetName}
+use Rattle.cg_net.specs.Names.{NetName}
 use Rattle.cg_parts.specs.Writable.{IsWritable}
 use Rattle.cg_parts.proofs.NoneBeside.{faultless}
 use Rattle.cg_parts.proofs.OneFault.{no_fault}

@@ -24,7 +24,7 @@ use Rattle.cg_blif_text.specs.declared.statement.Statement.TheVariants.{Model, N
 use Rattle.cg_blif_text.specs.LinesLeft.{opened, resume, said_at_once}
 use Rattle.cg_blif_text.specs.BlifText.{BlifText, IsFirstBlifFault, told_by}
 use Rattle.cg_blif_text.specs.Telling.{Told, at, next_model}
-use Rattle.cg_netlist.specs.Wiring.{NetName}
+use Rattle.cg_net.specs.Names.{NetName}
 use Rattle.cg_blif.specs.Joining.{IsUnnamed}
 use Rattle.cg_blif_text.specs.OpenCovers.{CoverSoFar}
 use Rattle.cg_blif.specs.declared.fault.Refusal.{Refusal}

@@ -8,7 +8,7 @@ use Rattle.std.specs.declared.vec.Vec.{Vec}
 use Rattle.cg_cell.specs.Pins.{PinData, is_clock, is_data, is_enable, is_output, is_state, is_test}
 use Rattle.cg_cell.specs.declared.cell.Role.{Role}
 use Rattle.cg_cell.specs.declared.cell.Role.TheVariants.{Data, Clock, Enable, Test, Output, State, StateBar}
-use Rattle.cg_netlist.specs.Wiring.{NetName}
+use Rattle.cg_net.specs.Names.{NetName}
 use Rattle.cg_blif_text.specs.PinWords.{PinNet}
 use Rattle.cg_blif_text.specs.Placing.{Shown}
 use Rattle.cg_blif_text.specs.declared.fault.LineFault.TheVariants.{PinFault}

@@ -6,7 +6,8 @@ use Rattle.std.specs.List.{slice_get}
 use Rattle.std.proofs.lemmas.Grind.{common_steps}
 use Rattle.cg_cell.specs.Pins.{PinData, is_clock, is_output, is_state}
 use Rattle.cg_netlist.specs.Circuit.{GatingCell, RegisterCell}
-use Rattle.cg_netlist.specs.Wiring.{NetName, map_outputs, net_name}
+use Rattle.cg_net.specs.Names.{NetName, net_name}
+use Rattle.cg_netlist.specs.Wiring.{map_outputs}
 use Rattle.cg_blif_text.specs.Canonical.{flop_nets, gater_net, left_here, logic_nets, net_here, pin_pairs, with_places}
 use Rattle.cg_blif_text.specs.Placing.{Shown}
 use Rattle.cg_blif_out.specs.Pins.{one_pair, pin_pair, seen_nets}

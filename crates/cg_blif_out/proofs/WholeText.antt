@@ -16,7 +16,8 @@ use Rattle.cg_blif_text.proofs.CanonicalText.{says_itself}
 use Rattle.cg_netlist.specs.declared.parts.LogicFunction.{LogicFunction}
 use Rattle.cg_netlist.specs.declared.parts.LogicFunction.TheVariants.{Cover, Cell}
 use Rattle.cg_netlist.specs.Circuit.{Circuit, LogicCell}
-use Rattle.cg_netlist.specs.Wiring.{NetName, map_cell, map_gater, map_register, named, net_name}
+use Rattle.cg_net.specs.Names.{NetName, net_name}
+use Rattle.cg_netlist.specs.Wiring.{map_cell, map_gater, map_register, named}
 use Rattle.cg_blif_text.specs.declared.statement.Statement.TheVariants.{Model, Inputs, Outputs, Clocks, End}
 use Rattle.cg_blif_text.specs.Canonical.{blif, cell_lines, function_statement, gater_statement, register_statement, row_words}
 use Rattle.cg_blif_text.specs.Canonical.{rows_of, statement_line}

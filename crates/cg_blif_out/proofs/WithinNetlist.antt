@@ -11,7 +11,8 @@ use Rattle.cg_netlist.specs.declared.parts.RegisterKind.{RegisterKind}
 use Rattle.cg_netlist.specs.declared.parts.RegisterKind.TheVariants.{Plain, Flop}
 use Rattle.cg_netlist.specs.Netlist.{IsNetlist}
 use Rattle.cg_netlist.specs.WellFormed.{RegisterFits}
-use Rattle.cg_netlist.specs.Wiring.{map_register, net_name, wiring}
+use Rattle.cg_netlist.specs.Wiring.{map_register, wiring}
+use Rattle.cg_net.specs.Names.{net_name}
 use Rattle.cg_netlist.proofs.Each.{by_recursion}
 use Rattle.cg_parts.proofs.Kept as kept
 use Rattle.cg_parts.proofs.ToldByNames.{wiring_within}

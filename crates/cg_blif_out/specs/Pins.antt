@@ -2,7 +2,8 @@
 use Rattle.std.specs.Prelude.{ℕ, List, [], ◌∷◌, drop, map, Option, None, Some}
 use Rattle.cg_cell.specs.Pins.{PinData}
 use Rattle.cg_netlist.specs.Circuit.{RegisterCell}
-use Rattle.cg_netlist.specs.Wiring.{NetName, map_outputs, net_name}
+use Rattle.cg_net.specs.Names.{NetName, net_name}
+use Rattle.cg_netlist.specs.Wiring.{map_outputs}
 use Rattle.cg_blif_text.specs.Canonical.{flop_nets, with_places}
 use Rattle.cg_blif_text.specs.PinWords.{PinNet}
 

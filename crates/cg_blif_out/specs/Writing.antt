@@ -5,7 +5,8 @@ use Rattle.cg_text.specs.Written.{line_text, text_of}
 use Rattle.cg_netlist.specs.declared.parts.LogicFunction.{LogicFunction}
 use Rattle.cg_netlist.specs.declared.parts.LogicFunction.TheVariants.{Cover, Cell}
 use Rattle.cg_netlist.specs.Circuit.{Circuit, LogicCell, GatingCell, RegisterCell}
-use Rattle.cg_netlist.specs.Wiring.{NetName, map_cell, map_gater, map_register, net_name}
+use Rattle.cg_net.specs.Names.{NetName, net_name}
+use Rattle.cg_netlist.specs.Wiring.{map_cell, map_gater, map_register}
 use Rattle.cg_blif_text.specs.declared.statement.Statement.{Statement}
 use Rattle.cg_blif_text.specs.declared.statement.Statement.TheVariants.{Model, Inputs, Outputs, Clocks, Latch}
 use Rattle.cg_blif_text.specs.Canonical.{cell_lines, gater_statement, pin_text, register_statement, row_words, statement_line}

@@ -9,7 +9,7 @@ ghost use Rattle.cg_blif_out.specs.Writing.{cell_text, function_rows, gater_text
 use crate::line::push_statement;
 use crate::rows::push_rows;
 use crate::statement::{cell_statement, gater_statement, register_statement};
-use cg_netlist::id::{CellId, GateClockId, RegId};
+use cg_net::id::{CellId, GateClockId, RegId};
 use cg_netlist::netlist::Netlist;
 use cg_netlist::view::Function;
 use std::alloc::{AllocError, Global};

@@ -3,14 +3,15 @@
 ghost use Rattle.std.specs.Prelude.{◌≡◌, ◌<◌, ◌+◌, ◌++◌, ◌∷◌, List, true, false, IfOk, OnOk, drop, length, map};
 ghost use Rattle.cg_cell.specs.Pins.{PinData, is_clock, is_state};
 ghost use Rattle.cg_netlist.specs.View.{gater_seen, register_seen};
-ghost use Rattle.cg_netlist.specs.Wiring.{map_gater, net_name};
+ghost use Rattle.cg_netlist.specs.Wiring.{map_gater};
+ghost use Rattle.cg_net.specs.Names.{net_name};
 ghost use Rattle.cg_blif_text.specs.Canonical.{gater_net, logic_nets, pin_pairs};
 ghost use Rattle.cg_blif_out.specs.Pins.{one_pair, pin_pair, seen_nets};
 ghost use Rattle.cg_blif_out.specs.Within.{AreNets, GaterNets, IsNet, RegisterNets};
 
 use cg_blif_text::statement::PinWord;
 use cg_cell::cell::{Pin, Role};
-use cg_netlist::id::NetId;
+use cg_net::id::NetId;
 use cg_netlist::netlist::Netlist;
 use cg_netlist::view::{GaterView, RegView};
 use std::alloc::{AllocError, Global};

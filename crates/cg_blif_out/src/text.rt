@@ -15,7 +15,7 @@ use crate::words::{word, words};
 use cg_blif_text::statement::Statement;
 use cg_blif_text::word::Word;
 use cg_list::Seq;
-use cg_netlist::id::{CellId, GateClockId, RegId};
+use cg_net::id::{CellId, GateClockId, RegId};
 use cg_netlist::netlist::Netlist;
 use std::alloc::{AllocError, Global};
 

@@ -2,10 +2,10 @@
 
 ghost use Rattle.std.specs.Prelude.{◌≡◌, ◌<◌, ℕ, IfOk, length, map, slice_index};
 ghost use Rattle.cg_netlist.specs.Netlist.{IsNetlist};
-ghost use Rattle.cg_netlist.specs.Wiring.{net_name};
+ghost use Rattle.cg_net.specs.Names.{net_name};
 
 use cg_blif_text::word::Word;
-use cg_netlist::id::NetId;
+use cg_net::id::NetId;
 use cg_netlist::netlist::Netlist;
 use std::alloc::{AllocError, Global};
 

@@ -14,7 +14,7 @@ use Rattle.cg_cell.specs.Pins.{PinData, is_clock, is_enable, is_output, is_test}
 use Rattle.cg_cell.specs.declared.cell.CellKind.TheVariants.{Gater as GaterKind}
 use Rattle.cg_cell.specs.declared.cell.Role.{Role}
 use Rattle.cg_cell.specs.declared.cell.Role.TheVariants.{Clock, Enable, Test, Output}
-use Rattle.cg_netlist.specs.Names.{is_known}
+use Rattle.cg_net.specs.Names.{is_known}
 use Rattle.cg_netlist.specs.Circuit.{GatingCell}
 use Rattle.cg_parts.specs.Part.{Gate}
 use Rattle.cg_parts.specs.Says.{GaterFits}

@@ -18,7 +18,7 @@ use Rattle.cg_parts.specs.Faults.{IsFault, IsFaultless}
 use Rattle.cg_parts.specs.Part.{Part}
 use Rattle.cg_parts.specs.Said.{Said, limit_of, said}
 use Rattle.cg_parts.specs.Says.{AreTaken, Says, netlist_of}
-use Rattle.cg_netlist.specs.Wiring.{NetName}
+use Rattle.cg_net.specs.Names.{NetName}
 use Rattle.cg_parts.proofs.AtLeastOne.{says_made}
 use Rattle.cg_parts.proofs.FaultOrNone.{Tells as Decides, fault_or_none}
 use Rattle.cg_parts.proofs.NoneBeside.{faultless}

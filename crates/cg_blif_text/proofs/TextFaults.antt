@@ -1,7 +1,7 @@
 -- The fault that a text tells is that of the first line that has one, or else that of the clock of the option.
 use Rattle.std.proofs.Common.{◌≡◌, inl, inr, ℕ, List, Option, Result, Ok, Err, refl, ap, ◌∙◌}
 use Rattle.cg_cell.specs.Cell.{CellData}
-use Rattle.cg_netlist.specs.Wiring.{NetName}
+use Rattle.cg_net.specs.Names.{NetName}
 use Rattle.cg_blif_text.specs.declared.fault.BlifFault.{BlifFault}
 use Rattle.cg_blif_text.specs.BlifText.{HasLineFault, told_by}
 use Rattle.cg_blif_text.specs.LogicalLines.{text_lines}

@@ -11,7 +11,7 @@ use Rattle.cg_cell.specs.Name.{are_distinct, is_name}
 use Rattle.cg_cell.specs.Pins.{PinData, is_data}
 use Rattle.cg_blif_text.specs.Placing.{are_for_pins, at_role, has_name, put_net}
 use Rattle.cg_blif_text.specs.PinWords.{PinNet}
-use Rattle.cg_netlist.specs.Names.{is_known}
+use Rattle.cg_net.specs.Names.{is_known}
 use Rattle.cg_blif_text.specs.Canonical.{pin_pairs}
 use Rattle.cg_blif_text.proofs.PinPairs.{Word}
 use Rattle.cg_blif_text.proofs.NetsAtPins.{names}

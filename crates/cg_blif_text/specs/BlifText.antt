@@ -7,7 +7,7 @@ use Rattle.cg_parts.specs.Faults.{IsFault}
 use Rattle.cg_parts.specs.Part.{Part}
 use Rattle.cg_parts.specs.Said.{said}
 use Rattle.cg_parts.specs.Says.{Says}
-use Rattle.cg_netlist.specs.Wiring.{NetName}
+use Rattle.cg_net.specs.Names.{NetName}
 use Rattle.cg_blif_text.specs.declared.fault.BlifFault.{BlifFault}
 use Rattle.cg_blif_text.specs.declared.fault.BlifFault.TheVariants.{Net}
 use Rattle.cg_blif_text.specs.LineFaults.{IsFirstOfLines}

@@ -3,7 +3,7 @@ use Rattle.std.specs.Prelude.{◌≡◌, ◌≤◌, Bool, true, List, [], ◌∷
 use Rattle.std.specs.List.{AllByRecursion}
 use Rattle.cg_cell.specs.Cover.{CoverData}
 use Rattle.cg_limit.specs.declared.TheConstants.{MOST_COVER_INPUTS}
-use Rattle.cg_netlist.specs.Wiring.{NetName}
+use Rattle.cg_net.specs.Names.{NetName}
 use Rattle.cg_blif_text.specs.Rows.{Row, keeps_value}
 
 -- the nets of the line, the rows so far, and the value of these rows

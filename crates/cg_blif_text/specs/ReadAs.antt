@@ -5,7 +5,7 @@ use Rattle.std.specs.Option.{option_to_list}
 use Rattle.cg_cell.specs.Cell.{CellData, IsCell}
 use Rattle.cg_cell.specs.Name.{is_name}
 use Rattle.cg_netlist.specs.Circuit.{Circuit}
-use Rattle.cg_netlist.specs.Wiring.{NetName}
+use Rattle.cg_net.specs.Names.{NetName}
 use Rattle.cg_blif_text.specs.declared.fault.BlifFault.{BlifFault}
 use Rattle.cg_blif_text.specs.BlifText.{BlifText, IsFirstBlifFault}
 

@@ -11,13 +11,13 @@ use Rattle.cg_netlist.specs.declared.parts.LogicFunction.{LogicFunction}
 use Rattle.cg_netlist.specs.declared.parts.RegisterKind.{RegisterKind}
 use Rattle.cg_builder.specs.Calls.{cell_of, gater_of, kind_of, register_of, shows_inverse}
 use Rattle.cg_netlist.specs.Circuit.{GatingCell, LogicCell, RegisterCell}
-use Rattle.cg_netlist.specs.Names.{with_name, with_names}
+use Rattle.cg_net.specs.Names.{NetName, net_name, with_name, with_names}
 use Rattle.cg_builder.specs.inner.Mentioned.{IsMentioned, IsMentionFault, PutsCell, PutsGater, PutsRegister}
 use Rattle.cg_parts.specs.Part.{Register, mentioned}
-use Rattle.cg_netlist.specs.Wiring.{NetName, map_outputs, net_name}
+use Rattle.cg_netlist.specs.Wiring.{map_outputs}
 use Rattle.cg_builder.proofs.Mentions.{fault_on_way, still_numbered, with_names-append}
 use Rattle.cg_builder.proofs.Numbering.{given_named, net_named, net_within, nets_named, nets_within, outputs_named}
-use Rattle.cg_netlist.proofs.RankingLemmas.{take_next}
+use Rattle.cg_net.proofs.TableLemmas.{take_next}
 
 -- one more net of a list, mapped from other things
 module _ {X : Type 0} (f : X → NetName) (xs : List X) (i : ℕ) (x : X) (at : slice_get xs i ≡ Some x) where

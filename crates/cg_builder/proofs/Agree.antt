@@ -6,7 +6,8 @@ use Rattle.std.specs.Option.{option_map, option_to_list}
 use Rattle.cg_netlist.proofs.OrderedForm.{names}
 use Rattle.cg_parts.proofs.Kept.{CellNets, GaterNets}
 use Rattle.cg_netlist.specs.Circuit.{GatingCell, LogicCell}
-use Rattle.cg_netlist.specs.Wiring.{NetName, map_cell, map_gater, net_name}
+use Rattle.cg_net.specs.Names.{NetName, net_name}
+use Rattle.cg_netlist.specs.Wiring.{map_cell, map_gater}
 
 module _ {N M : Type 0} (f g : N → M) where
   abbrev Agree : N → Type 0

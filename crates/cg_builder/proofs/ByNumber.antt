@@ -11,12 +11,13 @@ use Rattle.cg_parts.proofs.NetLists.{cell_inputs, gater_inputs, register_inputs}
 use Rattle.cg_parts.proofs.OrderMapped.{asks_mapped, cells_driven_mapped, gaters_driven_mapped, ins_mapped, shown_mapped}
 use Rattle.cg_parts.proofs.OrderMapped.{test_mapped}
 use Rattle.cg_parts.proofs.ToldByNames.{known_as, told}
-use Rattle.cg_netlist.specs.Circuit.{GatingCell, LogicCell, RegisterCell, is_in, shown_nets}
-use Rattle.cg_netlist.specs.Names.{is_known}
+use Rattle.cg_netlist.specs.Circuit.{GatingCell, LogicCell, RegisterCell, shown_nets}
+use Rattle.cg_net.specs.NetSets.{is_in}
+use Rattle.cg_net.specs.Names.{NetName, is_known, net_name}
 use Rattle.cg_builder.specs.inner.Numbers.{drivers_by, pins_by, roots_by}
 use Rattle.cg_parts.specs.Part.{cells, gaters, outputs, registers}
-use Rattle.cg_netlist.specs.Wiring.{NetName, driven_by_cells, driven_by_gaters, driven_by_registers, map_cell, map_gater, map_open}
-use Rattle.cg_netlist.specs.Wiring.{net_name, used_by}
+use Rattle.cg_netlist.specs.Wiring.{driven_by_cells, driven_by_gaters, driven_by_registers, map_cell, map_gater, map_open}
+use Rattle.cg_netlist.specs.Wiring.{used_by}
 
 module _ {N M : Type 0} (f : N → M) where
   pub open_driven_mapped : (rs : List (RegisterCell N (Option N))) → driven_by_registers (map (map_open f) rs) ≡ map f (driven_by_registers rs)

@@ -1,8 +1,9 @@
 -- What each check finds is the first net that fails it.
 use Rattle.std.proofs.Common.{◌≡◌, ℕ, Bool, not, ◌&&◌, ◌||◌, nat_lt, List, [], ◌∷◌, Option, length, ap, ◌∙◌, subst, arith}
 use Rattle.std.specs.List.{AllByRecursion, list_any}
-use Rattle.cg_netlist.specs.Circuit.{GatingCell, is_in}
-use Rattle.cg_netlist.specs.Marks.{AreMarksOf, IsFirst, is_marked, marked_before}
+use Rattle.cg_netlist.specs.Circuit.{GatingCell}
+use Rattle.cg_net.specs.NetSets.{is_in}
+use Rattle.cg_net.specs.Marks.{AreMarksOf, IsFirst, is_marked, marked_before}
 use Rattle.cg_netlist.specs.Chains.{chain}
 use Rattle.cg_netlist.specs.Places.{CellWithin}
 use Rattle.cg_builder.specs.inner.Numbers.{GaterWithin}

@@ -11,7 +11,7 @@ use Rattle.std.proofs.lemmas.List.{length-map, map-append}
 use Rattle.std.proofs.lemmas.List.Sums.{sum_by-cons}
 use Rattle.cg_parts.specs.declared.fault.NetFault.TheVariants.{TwoDrivers, NoDriver, Cycle, ClockFault}
 use Rattle.cg_builder.proofs.MarkLemmas.{in_counts}
-use Rattle.cg_netlist.proofs.Members.{distinct_cons, distinct_left, distinct_right}
+use Rattle.cg_net.proofs.Members.{distinct_cons, distinct_left, distinct_right}
 use Rattle.cg_netlist.proofs.OrderedForm.{names}
 use Rattle.cg_netlist.proofs.RankLemmas.{ranked, unranked}
 use Rattle.cg_builder.proofs.ByNumber.{count_as, drivers_as, roots_as, uses_mapped}
@@ -26,9 +26,10 @@ use Rattle.cg_parts.proofs.NetLists.{cell_inputs, gater_inputs, register_inputs}
 use Rattle.cg_builder.proofs.RanksTell.{driven_as, driven_by_none, driven_by_some, rank_ends}
 use Rattle.cg_parts.proofs.ToldByNames.{known_as, place_back}
 use Rattle.cg_parts.proofs.WaysEnd.{ends_bounded, not_false, undriven_ends}
-use Rattle.cg_netlist.specs.Circuit.{GatingCell, LogicCell, RegisterCell, asked_nets, is_in, shown_nets}
-use Rattle.cg_netlist.specs.Marks.{IsFirst}
-use Rattle.cg_netlist.specs.Names.{is_known}
+use Rattle.cg_netlist.specs.Circuit.{GatingCell, LogicCell, RegisterCell, asked_nets, shown_nets}
+use Rattle.cg_net.specs.NetSets.{is_in}
+use Rattle.cg_net.specs.Marks.{IsFirst}
+use Rattle.cg_net.specs.Names.{NetName, is_known, net_name}
 use Rattle.cg_netlist.specs.Ranks.{driving_cell, rank_of}
 use Rattle.cg_builder.specs.inner.Numbers.{AreNumbers, GaterWithin, Numbers, OpenWithin, drivers_by, driving, driving_gater}
 use Rattle.cg_builder.specs.inner.Numbers.{gate_rank, gated, is_bad_clock, is_bad_gate, is_bad_root, is_behind_cycle}
@@ -38,8 +39,8 @@ use Rattle.cg_parts.specs.Faults.{EachNet, HasClock, IsClockProper, IsDrivenIfUs
 use Rattle.cg_parts.specs.Faults.{IsGateProper, IsRootProper, ends_within, reaches}
 use Rattle.cg_parts.specs.Part.{Part, cells, clocks, drivers, gaters, inputs, is_gated, nets, roots, uses}
 use Rattle.cg_parts.specs.Said.{Said, said}
-use Rattle.cg_netlist.specs.Wiring.{NetName, driven_by_cells, driven_by_gaters, driven_by_registers, map_cell, map_gater, map_open}
-use Rattle.cg_netlist.specs.Wiring.{net_name, used_by}
+use Rattle.cg_netlist.specs.Wiring.{driven_by_cells, driven_by_gaters, driven_by_registers, map_cell, map_gater, map_open}
+use Rattle.cg_netlist.specs.Wiring.{used_by}
 
 -- nets that stand once at most
 counts_distinct : (xs : List ℕ) → ((x : ℕ) → is_in xs x ≡ true → count_by (nat_eq x) xs ≤ 1) → IsDistinct nat_eq xs

@@ -9,7 +9,7 @@ use Rattle.cg_parts.proofs.KnownNames.{word_at}
 use Rattle.cg_parts.proofs.ToldByNames.{place_back}
 use Rattle.cg_parts.specs.Faults.{IsFirstNot}
 use Rattle.cg_parts.specs.Part.{Part, nets}
-use Rattle.cg_netlist.specs.Wiring.{NetName, net_name}
+use Rattle.cg_net.specs.Names.{NetName, net_name}
 
 pub name_at : (names : List NetName) (x : ℕ) → x < length names → slice_get names x ≡ Some (net_name names x)
 name_at names x lt = slice_get-get_or names x [] lt ∙ ap (λ o. Some (unwrap_or o [])) (sym (slice_get-get_or names x [] lt))

@@ -7,8 +7,8 @@ use Rattle.std.proofs.lemmas.Bool.{ltb-true}
 use Rattle.cg_cell.specs.Name.{is_name}
 use Rattle.cg_parts.specs.declared.fault.NetFault.{NetFault}
 use Rattle.cg_parts.specs.declared.fault.NetFault.TheVariants.{ClockFault, Cycle, NoClock, NoDriver, NoMemory, TwoDrivers}
-use Rattle.cg_netlist.specs.Marks.{IsFirst}
-use Rattle.cg_netlist.specs.Names.{is_known}
+use Rattle.cg_net.specs.Marks.{IsFirst}
+use Rattle.cg_net.specs.Names.{NetName, is_known, net_name}
 use Rattle.cg_builder.specs.inner.Finishing.{has_no_clock}
 use Rattle.cg_builder.specs.inner.Heard.{IsHeard}
 use Rattle.cg_builder.specs.inner.Numbers.{AreNumbers, Numbers, is_bad_clock, is_behind_cycle, is_driven_twice, is_undriven, rooted}
@@ -17,7 +17,6 @@ use Rattle.cg_parts.specs.Faults.{EachNet, IsClockProper, IsDrivenIfUsed, IsDriv
 use Rattle.cg_parts.specs.Part.{Part, mentioned, nets}
 use Rattle.cg_parts.specs.Said.{said}
 use Rattle.cg_parts.specs.Says.{IsPart}
-use Rattle.cg_netlist.specs.Wiring.{NetName, net_name}
 use Rattle.cg_parts.proofs.ByKind.{has_once}
 use Rattle.cg_builder.proofs.ChecksTell.{clock_first, clocked_if, clockless_if, cycle_first, twice_first, undriven_first}
 use Rattle.cg_netlist.proofs.Each.{from_recursion}

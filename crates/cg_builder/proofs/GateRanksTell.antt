@@ -14,13 +14,14 @@ use Rattle.cg_parts.proofs.KnownNames.{known_head, known_left, known_tail}
 use Rattle.cg_parts.proofs.NamePlaces.{mapped_at}
 use Rattle.cg_parts.proofs.OrderMapped.{gaters_driven_mapped}
 use Rattle.cg_parts.proofs.ToldByNames.{known_as}
-use Rattle.cg_netlist.specs.Circuit.{GatingCell, RegisterCell, is_in}
-use Rattle.cg_netlist.specs.Names.{is_known}
+use Rattle.cg_netlist.specs.Circuit.{GatingCell, RegisterCell}
+use Rattle.cg_net.specs.NetSets.{is_in}
+use Rattle.cg_net.specs.Names.{NetName, is_known, net_name}
 use Rattle.cg_netlist.specs.Ranks.{next_rank, rank_within}
 use Rattle.cg_builder.specs.inner.Numbers.{GaterWithin, driving_gater, gate_above, gate_rank}
 use Rattle.cg_parts.specs.Faults.{EachNet, IsDrivenOnce, reaches}
 use Rattle.cg_parts.specs.Part.{Part, gaters, is_gated, registers, roots}
-use Rattle.cg_netlist.specs.Wiring.{NetName, driven_by_gaters, map_gater, net_name}
+use Rattle.cg_netlist.specs.Wiring.{driven_by_gaters, map_gater}
 
 -- the gating cell that drives a net, if one does
 pub gated_none : (gs : List (GatingCell ℕ)) (a x : ℕ) → position_from (λ g. g.output == x) a gs ≡ None → is_in (driven_by_gaters gs) x ≡ false

@@ -10,18 +10,18 @@ use Rattle.cg_cell.specs.Name.{is_name}
 use Rattle.cg_cell.specs.Pins.{is_data}
 use Rattle.std.proofs.lemmas.List.Sums.{count_by-le-length}
 use Rattle.cg_limit.specs.declared.TheConstants.{MOST_NETS, MOST_REGISTERS}
-use Rattle.cg_netlist.specs.Circuit.{GatingCell, LogicCell, RegisterCell, is_in, shown_nets}
-use Rattle.cg_netlist.specs.Names.{is_known, with_name, with_names}
+use Rattle.cg_netlist.specs.Circuit.{GatingCell, LogicCell, RegisterCell, shown_nets}
+use Rattle.cg_net.specs.NetSets.{is_in, with_net}
+use Rattle.cg_net.specs.Names.{NetName, is_known, net_name, with_name, with_names}
 use Rattle.cg_builder.specs.inner.Heard.{IsHeard}
 use Rattle.cg_builder.specs.inner.Mentioned.{PutsCell, PutsGater, PutsNet, PutsRegister}
-use Rattle.cg_netlist.specs.NetSets.{with_net}
 use Rattle.cg_netlist.specs.Places.{CellWithin}
 use Rattle.cg_builder.specs.inner.Numbers.{GaterWithin, AreNumbers, Numbers, OpenWithin, seen}
 use Rattle.cg_parts.specs.Part.{Part, Input, Output, Clock, Logic, Gate, Register, mentioned}
 use Rattle.cg_parts.specs.Said.{Said, said, with_part}
 use Rattle.cg_parts.specs.Says.{IsPart}
-use Rattle.cg_netlist.specs.Wiring.{NetName, map_cell, map_gater, map_outputs, net_name, map_open}
-use Rattle.cg_netlist.proofs.DifferentNames.{with_names_different}
+use Rattle.cg_netlist.specs.Wiring.{map_cell, map_gater, map_open, map_outputs}
+use Rattle.cg_net.proofs.DifferentNames.{with_names_different}
 use Rattle.cg_builder.proofs.Mentions.{with_names_front, with_names_grows}
 use Rattle.cg_builder.proofs.Numbering.{net_named, net_within}
 use Rattle.cg_builder.proofs.Agree.{all_agree, name_kept}

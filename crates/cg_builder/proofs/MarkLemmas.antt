@@ -10,10 +10,10 @@ use Rattle.std.proofs.lemmas.List.{length-set}
 use Rattle.std.proofs.lemmas.List.Sums.{sum_by_push, sum_by-cons}
 use Rattle.std.proofs.lemmas.Option.{unwrap_or-slice_get}
 use Rattle.std.proofs.lemmas.List.Folds.{list_any-append}
-use Rattle.cg_netlist.specs.Circuit.{is_in}
-use Rattle.cg_netlist.specs.Marks.{AreMarked, IsFirst, is_marked, marked_before}
-use Rattle.cg_netlist.proofs.NetSetLemmas.{marked_more}
-use Rattle.cg_netlist.proofs.TableLemmas.{slice_get-set_same, slice_get-set_other}
+use Rattle.cg_net.specs.NetSets.{is_in}
+use Rattle.cg_net.specs.Marks.{AreMarked, IsFirst, is_marked, marked_before}
+use Rattle.cg_net.proofs.NetSetLemmas.{marked_more}
+use Rattle.cg_net.proofs.TableLemmas.{slice_get-set_other, slice_get-set_same}
 
 -- marks of the nets so far, and of those that came again
 pub record HasCounted (once twice : List Bool) (n : ℕ) (nets : List ℕ) : Type 0 where

@@ -5,11 +5,10 @@ use Rattle.std.specs.List.{slice_get}
 use Rattle.std.proofs.lemmas.List.{append-nil, length-append, take-append-drop}
 use Rattle.std.proofs.lemmas.Bool.{cases_Bool}
 use Rattle.cg_netlist.specs.declared.fault.AddFault.{AddFault}
-use Rattle.cg_netlist.specs.Names.{is_known, with_name, with_names}
+use Rattle.cg_net.specs.Names.{is_known, with_name, with_names}
 use Rattle.cg_builder.specs.inner.Mentioned.{IsMentionFault}
-use Rattle.cg_netlist.proofs.NameLemmas.{with_name-known, with_name-unknown}
-use Rattle.cg_netlist.proofs.RankingLemmas.{take_next}
-use Rattle.cg_netlist.proofs.TableLemmas.{front_get}
+use Rattle.cg_net.proofs.NameLemmas.{with_name-known, with_name-unknown}
+use Rattle.cg_net.proofs.TableLemmas.{front_get, take_next}
 
 pub with_names-append : (names xs ys : List (List ℕ)) → with_names names (xs ++ ys) ≡ with_names (with_names names xs) ys
 with_names-append names [] ys = refl

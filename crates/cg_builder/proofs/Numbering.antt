@@ -4,7 +4,8 @@ use Rattle.std.proofs.Common.{◌∙◌}
 use Rattle.std.specs.List.{AllByRecursion}
 use Rattle.std.specs.Option.{option_map, option_to_list}
 use Rattle.std.proofs.lemmas.Option.{slice_get_within}
-use Rattle.cg_netlist.specs.Wiring.{NetName, map_outputs, net_name}
+use Rattle.cg_net.specs.Names.{NetName, net_name}
+use Rattle.cg_netlist.specs.Wiring.{map_outputs}
 
 -- nets with these names are within the names, and have them
 pub nets_named : (names : List NetName) (nets : List ℕ) (words : List NetName) → map (slice_get names) nets ≡ map (λ word. Some word) words → map (net_name names) nets ≡ words

@@ -11,8 +11,9 @@ use Rattle.cg_parts.proofs.Kept.{CellNets, GaterNets, RegisterNets, WiringNets}
 use Rattle.cg_parts.proofs.OrderMapped.{order_mapped}
 use Rattle.cg_parts.proofs.SaidByItsParts.{same_wiring}
 use Rattle.cg_parts.proofs.ToldByNames.{known_as, nets_weaker, told}
-use Rattle.cg_netlist.specs.Circuit.{GatingCell, LogicCell, RegisterCell, is_in, shown_nets}
-use Rattle.cg_netlist.specs.Names.{is_known}
+use Rattle.cg_netlist.specs.Circuit.{GatingCell, LogicCell, RegisterCell, shown_nets}
+use Rattle.cg_net.specs.NetSets.{is_in}
+use Rattle.cg_net.specs.Names.{NetName, is_known, net_name, place_in}
 use Rattle.cg_builder.specs.inner.Numbers.{AreNumbers, GaterWithin, Numbers, OpenWithin, clock_number, made_of, on_number}
 use Rattle.cg_builder.specs.inner.Numbers.{ordered_numbers, ordered_place, rooted, seen, wired_numbers}
 use Rattle.cg_netlist.specs.Places.{CellWithin}
@@ -20,9 +21,8 @@ use Rattle.cg_parts.specs.Faults.{HasClock}
 use Rattle.cg_parts.specs.Part.{Part, clock_of, on_clock, registers, wired}
 use Rattle.cg_parts.specs.Said.{Said, said}
 use Rattle.cg_parts.specs.Says.{netlist_of}
-use Rattle.cg_netlist.specs.Wiring.{NetName, Wiring, circuit, driven_by_cells, driven_by_gaters, driven_by_registers, map_cell}
-use Rattle.cg_netlist.specs.Wiring.{map_gater, map_open, map_outputs, map_register, map_wiring, net_name, numbered, order_of}
-use Rattle.cg_netlist.specs.Wiring.{place_in}
+use Rattle.cg_netlist.specs.Wiring.{Wiring, circuit, driven_by_cells, driven_by_gaters, driven_by_registers, map_cell}
+use Rattle.cg_netlist.specs.Wiring.{map_gater, map_open, map_outputs, map_register, map_wiring, numbered, order_of}
 
 -- a map after a map is one map, where the nets agree
 module _ {N M K : Type 0} (f : N → M) (g : M → K) (h : N → K) where

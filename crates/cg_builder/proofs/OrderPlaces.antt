@@ -6,12 +6,11 @@ use Rattle.std.specs.List.{All, IsDistinct, position_or_len}
 use Rattle.std.proofs.lemmas.Bool.{or_parts, or_right}
 use Rattle.std.proofs.lemmas.Bool.Decides.{eqb_tells}
 use Rattle.std.proofs.lemmas.List.{length-set, take_all}
-use Rattle.cg_netlist.specs.Circuit.{is_in}
-use Rattle.cg_netlist.specs.Places.{number_in}
-use Rattle.cg_netlist.proofs.TableLemmas.{All-at, slice_get-set_same, slice_get-set_other}
-use Rattle.cg_netlist.proofs.Members.{is_in-append}
-use Rattle.cg_netlist.proofs.PlaceLemmas.{place_is}
-use Rattle.cg_netlist.proofs.RankingLemmas.{in_alone, take_next}
+use Rattle.cg_net.specs.NetSets.{is_in}
+use Rattle.cg_net.specs.NamePlaces.{number_in}
+use Rattle.cg_net.proofs.TableLemmas.{All-at, slice_get-set_other, slice_get-set_same, take_next}
+use Rattle.cg_net.proofs.Members.{in_alone, is_in-append}
+use Rattle.cg_net.proofs.PlaceLemmas.{place_is}
 
 -- the place of a net in the order, once it was noted, and before that the length of the order
 abbrev pub place_so_far : List ℕ → ℕ → ℕ → ℕ

@@ -6,13 +6,14 @@ use Rattle.std.specs.Option.{option_to_list}
 use Rattle.std.proofs.lemmas.Bool.{or_left, or_right}
 use Rattle.std.proofs.lemmas.Bool.Decides.{eqb_tells}
 use Rattle.std.proofs.lemmas.Option.{same_Some, slice_get_within}
-use Rattle.cg_netlist.specs.Circuit.{LogicCell, is_in}
+use Rattle.cg_netlist.specs.Circuit.{LogicCell}
+use Rattle.cg_net.specs.NetSets.{is_in}
 use Rattle.cg_netlist.specs.Ranks.{ranks_of}
 use Rattle.cg_netlist.specs.Wiring.{among, driven_by_cells, driven_by_gaters, driven_by_registers}
 use Rattle.cg_builder.specs.inner.Heard.{IsReady}
 use Rattle.cg_builder.specs.inner.Numbers.{Numbers, made_of, ordered_numbers, ordered_place, wired_numbers}
-use Rattle.cg_netlist.proofs.Members.{is_in_left, is_in_right, place_of_member}
-use Rattle.cg_netlist.proofs.PlaceLemmas.{place_is}
+use Rattle.cg_net.proofs.Members.{is_in_left, is_in_right, place_of_member}
+use Rattle.cg_net.proofs.PlaceLemmas.{place_is}
 use Rattle.cg_netlist.proofs.RenumberedRanks.{renumbered_ranks}
 use Rattle.cg_builder.proofs.OrderPlaces.{absent}
 

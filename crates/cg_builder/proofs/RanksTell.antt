@@ -6,18 +6,19 @@ use Rattle.std.specs.List.{AllByRecursion, AllPairs, IsDistinct, cons_option, fi
 use Rattle.std.specs.Option.{option_map, option_map_or}
 use Rattle.std.specs.Str.{bytes_eq}
 use Rattle.std.proofs.lemmas.Bool.{both_ways, cases_Bool, or_left, or_right, eqb-true, eq-eqb}
-use Rattle.cg_netlist.proofs.Members.{distinct_head, distinct_tail}
+use Rattle.cg_net.proofs.Members.{distinct_head, distinct_tail}
 use Rattle.cg_parts.proofs.Kept.{CellNets}
 use Rattle.cg_parts.proofs.KnownNames.{itself}
 use Rattle.cg_parts.proofs.OrderMapped.{cells_driven_mapped}
 use Rattle.cg_parts.proofs.ToldByNames.{known_as, told}
 use Rattle.cg_parts.proofs.WaysEnd.{undriven_ends, unknown_all}
-use Rattle.cg_netlist.specs.Circuit.{LogicCell, is_in}
-use Rattle.cg_netlist.specs.Names.{is_known}
+use Rattle.cg_netlist.specs.Circuit.{LogicCell}
+use Rattle.cg_net.specs.NetSets.{is_in}
+use Rattle.cg_net.specs.Names.{NetName, is_known, net_name}
 use Rattle.cg_netlist.specs.Ranks.{driving_cell, driving_cells, next_rank, rank_within}
 use Rattle.cg_parts.specs.Faults.{ends_within}
 use Rattle.cg_parts.specs.Part.{cells}
-use Rattle.cg_netlist.specs.Wiring.{NetName, driven_by_cells, map_cell, net_name}
+use Rattle.cg_netlist.specs.Wiring.{driven_by_cells, map_cell}
 
 -- there is a rank under cells if each of them has one
 next_there : (rs : List (Option ℕ)) → is_some (next_rank rs) ≡ list_all (λ r. is_some r) rs

@@ -7,7 +7,7 @@ use Rattle.std.specs.Str.{bytes_eq}
 use Rattle.std.proofs.lemmas.List.{length-map}
 use Rattle.std.proofs.lemmas.Option.{slice_get-map}
 use Rattle.cg_netlist.specs.Circuit.{Circuit, GatingCell, LogicCell}
-use Rattle.cg_netlist.specs.Names.{is_known}
+use Rattle.cg_net.specs.Names.{NetName, is_known, net_name}
 use Rattle.cg_netlist.specs.Netlist.{IsNetlist}
 use Rattle.cg_netlist.specs.Ranks.{driving_cell, driving_cells, next_rank, rank_of, rank_within, is_unranked}
 use Rattle.cg_netlist.specs.Chains.{chain, chain_cell}
@@ -18,7 +18,7 @@ use Rattle.cg_parts.specs.Faults.{IsFaultless}
 use Rattle.cg_parts.specs.Part.{Part, wired}
 use Rattle.cg_parts.specs.Said.{Said, said}
 use Rattle.cg_parts.specs.Says.{Says, netlist_of}
-use Rattle.cg_netlist.specs.Wiring.{NetName, Wiring, net_name}
+use Rattle.cg_netlist.specs.Wiring.{Wiring}
 use Rattle.cg_parts.specs.Part as parts_of
 use Rattle.cg_netlist.proofs.RankLemmas.{next_rank-agree}
 use Rattle.cg_parts.proofs.AtLeastOne.{says_made}

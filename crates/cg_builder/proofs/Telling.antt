@@ -15,9 +15,9 @@ use Rattle.cg_builder.specs.inner.Numbers.{Numbers, seen}
 use Rattle.cg_builder.specs.Building.{IsAnswer, Takes}
 use Rattle.cg_parts.specs.Part.{Part, Register, mentioned}
 use Rattle.cg_parts.specs.Said.{Said, limit_of, with_part}
-use Rattle.cg_netlist.specs.Names.{with_names}
+use Rattle.cg_net.specs.Names.{NetName, net_name, with_names}
 use Rattle.cg_parts.specs.Says.{IsPart}
-use Rattle.cg_netlist.specs.Wiring.{NetName, net_name, map_open}
+use Rattle.cg_netlist.specs.Wiring.{map_open}
 use Rattle.cg_netlist.specs.Circuit.{RegisterCell}
 use Rattle.cg_builder.proofs.Hearing.{Hears, still_heard}
 

@@ -3,15 +3,16 @@ use Rattle.std.proofs.Common.{[], ◌≡◌, ℕ, ◌+◌, ◌<◌, Bool, true, 
 use Rattle.std.proofs.Common.{take, slice_get, map, Option, None, append_assoc, subst, refl, sym, ap, ◌∙◌}
 use Rattle.std.specs.List.{All, AllByRecursion, filter, flat_map}
 use Rattle.std.specs.Option.{option_map, option_to_list}
-use Rattle.cg_netlist.specs.Circuit.{GatingCell, LogicCell, RegisterCell, asked_nets, is_in, shown_nets}
+use Rattle.cg_netlist.specs.Circuit.{GatingCell, LogicCell, RegisterCell, asked_nets, shown_nets}
+use Rattle.cg_net.specs.NetSets.{is_in}
 use Rattle.cg_builder.specs.inner.Renumbering.{CellAmong, RegisterAmong}
-use Rattle.cg_netlist.specs.Marks.{AreMarksOf, is_marked}
+use Rattle.cg_net.specs.Marks.{AreMarksOf, is_marked}
 use Rattle.cg_builder.specs.inner.Numbers.{AreNumbers, GaterWithin, Numbers, OpenWithin, clock_number, drivers_by, gated, on_number}
 use Rattle.cg_builder.specs.inner.Numbers.{ordered_numbers, pins_by, rooted, used, wired_numbers}
 use Rattle.cg_netlist.specs.Places.{CellWithin}
 use Rattle.cg_netlist.specs.Wiring.{Wiring, driven_by_cells, driven_by_gaters, driven_by_registers, map_cell, map_gater}
 use Rattle.cg_netlist.specs.Wiring.{map_outputs, map_register, map_wiring}
-use Rattle.cg_netlist.proofs.RankingLemmas.{take_next}
+use Rattle.cg_net.proofs.TableLemmas.{take_next}
 use Rattle.cg_builder.proofs.ChecksTell.{filter_each, map_each}
 use Rattle.cg_builder.proofs.Agree.{all_agree, cell_agrees, gater_agrees, nets_agree}
 use Rattle.cg_netlist.proofs.Each.{each, each_together, from_recursion}

@@ -8,16 +8,16 @@ ghost use Rattle.cg_netlist.specs.declared.parts.LogicFunction.TheVariants.{Cell
 ghost use Rattle.cg_builder.specs.inner.Mentioned.{IsMentioned, IsMentionFault, IsRegisterFault, PutsCell, PutsGater, PutsNet};
 ghost use Rattle.cg_builder.specs.inner.Mentioned.{PutsRegister};
 ghost use Rattle.cg_parts.specs.Part.{Gate, Logic as LogicPart, Register as RegisterPart, mentioned};
-ghost use Rattle.cg_netlist.specs.Names.{with_names};
+ghost use Rattle.cg_net.specs.Names.{with_names};
 
 use crate::mention::{mention, mention_each, mention_given, put};
 use crate::open_register::OpenRegister;
 use cg_cell::cell::{CellType, Role};
 use cg_limit::{Limit, MOST_NETS, MOST_REGISTERS};
 use cg_netlist::fault::AddFault;
-use cg_netlist::id::NetId;
-use cg_netlist::names::NetNames;
-use cg_netlist::net_set::NetSet;
+use cg_net::id::NetId;
+use cg_net::names::NetNames;
+use cg_net::net_set::NetSet;
 use cg_netlist::parts::{Gater, Logic, LogicFunction, RegisterKind};
 use std::alloc::{AllocError, Global};
 

@@ -3,8 +3,8 @@
 ghost use Rattle.std.specs.Prelude.{◌≡◌, ◌⊎◌, ◌<◌, ◌&&◌, ◌||◌, List, length, IfOk, IsTrue, MatchResult};
 ghost use Rattle.std.specs.List.{All};
 ghost use Rattle.cg_cell.specs.Name.{is_name};
-ghost use Rattle.cg_netlist.specs.Circuit.{is_in};
-ghost use Rattle.cg_netlist.specs.Marks.{AreMarksOf, IsFirst};
+ghost use Rattle.cg_net.specs.NetSets.{is_in};
+ghost use Rattle.cg_net.specs.Marks.{AreMarksOf, IsFirst};
 ghost use Rattle.cg_netlist.specs.Ranks.{ranks_of};
 ghost use Rattle.cg_parts.specs.declared.fault.NetFault.TheVariants.{ClockFault, Cycle, NoDriver, NoMemory, TwoDrivers};
 ghost use Rattle.cg_builder.specs.inner.Finishing.{FindsFirstFault, has_no_clock};
@@ -15,7 +15,7 @@ ghost use Rattle.cg_parts.specs.Faults.{IsFault, IsFaultless};
 ghost use Rattle.cg_parts.specs.Part.{Part};
 ghost use Rattle.cg_parts.specs.Said.{said};
 ghost use Rattle.cg_parts.specs.Says.{Says};
-ghost use Rattle.cg_netlist.specs.Wiring.{net_name};
+ghost use Rattle.cg_net.specs.Names.{net_name};
 
 use crate::marks::{
     earlier, first_bad_clock, first_bad_gate, first_marked, first_undriven, marks, repeated,
@@ -24,7 +24,7 @@ use crate::order::in_net_order;
 use crate::told::{Told, chain_cells, clock_roots, gated_marks, order, uses};
 use cg_cell::name::Name;
 use cg_netlist::cycles::{cell_ranks, unranked_marks};
-use cg_netlist::id::NetId;
+use cg_net::id::NetId;
 use cg_netlist::netlist::Netlist;
 use cg_parts::fault::NetFault;
 use std::alloc::{AllocError, Global};

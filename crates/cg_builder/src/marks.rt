@@ -2,10 +2,10 @@
 
 ghost use Rattle.std.specs.Prelude.{◌≡◌, ◌<◌, ◌&&◌, ◌||◌, ℕ, Bool, Some, not, nat_eq, nat_lt, length, IfOk};
 ghost use Rattle.std.specs.List.{All, count_by};
-ghost use Rattle.cg_netlist.specs.Circuit.{is_in};
-ghost use Rattle.cg_netlist.specs.Marks.{AreMarksOf, IsFirst, is_marked, marked_before};
+ghost use Rattle.cg_net.specs.NetSets.{is_in};
+ghost use Rattle.cg_net.specs.Marks.{AreMarksOf, IsFirst, is_marked, marked_before};
 
-use cg_netlist::id::NetId;
+use cg_net::id::NetId;
 use std::alloc::{AllocError, Global};
 
 /// Of `count` nets, marks on these.

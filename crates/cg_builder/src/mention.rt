@@ -4,12 +4,12 @@ ghost use Rattle.std.specs.Prelude.{◌≡◌, ◌≢◌, ◌<◌, ◌≤◌, �
 ghost use Rattle.std.specs.List.{AllPairs};
 ghost use Rattle.std.specs.Option.{option_copied, option_to_list};
 ghost use Rattle.cg_builder.specs.inner.Mentioned.{IsMentioned, IsMentionFault};
-ghost use Rattle.cg_netlist.specs.Names.{with_names};
+ghost use Rattle.cg_net.specs.Names.{with_names};
 
 use cg_limit::{Limit, MOST_NETS};
 use cg_netlist::fault::AddFault;
-use cg_netlist::id::NetId;
-use cg_netlist::names::NetNames;
+use cg_net::id::NetId;
+use cg_net::names::NetNames;
 use std::alloc::Global;
 
 /// The number of a net, which is mentioned here, perhaps for the first time.

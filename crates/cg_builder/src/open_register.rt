@@ -1,6 +1,6 @@
 //! Registers whose clock is still open.
 
-use cg_netlist::id::NetId;
+use cg_net::id::NetId;
 use cg_netlist::parts::RegisterKind;
 use std::marker::Model;
 

@@ -3,17 +3,18 @@
 ghost use Rattle.std.specs.Prelude.{◌≡◌, ◌<◌, ◌^◌, ℕ, nat_eq, length, map, slice_get, unwrap_or, IfOk};
 ghost use Rattle.std.specs.List.{All, AllByRecursion, IsDistinct, position_or_len};
 ghost use Rattle.std.specs.Option.{option_map, option_or, option_to_list};
-ghost use Rattle.cg_netlist.specs.Places.{number_in};
+ghost use Rattle.cg_net.specs.NamePlaces.{number_in};
 ghost use Rattle.cg_builder.specs.inner.Heard.{IsReady};
 ghost use Rattle.cg_builder.specs.inner.Numbers.{GaterWithin, clock_number, made_of, on_number, wired_numbers};
-ghost use Rattle.cg_netlist.specs.Wiring.{circuit, map_gater, map_wiring, net_name};
+ghost use Rattle.cg_netlist.specs.Wiring.{circuit, map_gater, map_wiring};
+ghost use Rattle.cg_net.specs.Names.{net_name};
 
 use crate::open_register::OpenRegister;
 use crate::renumber::{number, renumber, renumber_cells, renumber_registers};
 use crate::told::{Told, clock_roots, order};
 use cg_cell::name::Name;
-use cg_netlist::id::NetId;
-use cg_netlist::names::OrderedNames;
+use cg_net::id::NetId;
+use cg_net::names::OrderedNames;
 use cg_netlist::parts::{Gater, Parts, Register};
 use std::alloc::{AllocError, Global};
 

@@ -3,10 +3,10 @@
 ghost use Rattle.std.specs.Prelude.{◌≡◌, ◌<◌, map, length};
 ghost use Rattle.std.specs.List.{All};
 ghost use Rattle.cg_builder.specs.inner.Renumbering.{CellAmong, RegisterAmong};
-ghost use Rattle.cg_netlist.specs.Places.{number_in};
+ghost use Rattle.cg_net.specs.NamePlaces.{number_in};
 ghost use Rattle.cg_netlist.specs.Wiring.{map_cell, map_outputs, map_register};
 
-use cg_netlist::id::NetId;
+use cg_net::id::NetId;
 use cg_netlist::parts::{Logic, Register};
 
 /// The number that a net gets.

@@ -3,8 +3,9 @@
 ghost use Rattle.std.specs.Prelude.{◌≡◌, ◌<◌, ◌++◌, ◌∷◌, [], if◌then◌else◌, nat_eq, not, length, map, IfOk, OnOk};
 ghost use Rattle.std.specs.List.{All, AllByRecursion, filter, flat_map};
 ghost use Rattle.std.specs.Option.{option_to_list};
-ghost use Rattle.cg_netlist.specs.Circuit.{asked_nets, is_in};
-ghost use Rattle.cg_netlist.specs.Marks.{AreMarksOf, is_marked};
+ghost use Rattle.cg_netlist.specs.Circuit.{asked_nets};
+ghost use Rattle.cg_net.specs.NetSets.{is_in};
+ghost use Rattle.cg_net.specs.Marks.{AreMarksOf, is_marked};
 ghost use Rattle.cg_netlist.specs.Chains.{chain};
 ghost use Rattle.cg_builder.specs.inner.Numbers.{AreNumbers, drivers_by, gated, pins_by, rooted, used};
 ghost use Rattle.cg_netlist.specs.Wiring.{driven_by_cells, driven_by_gaters, driven_by_registers};
@@ -12,8 +13,8 @@ ghost use Rattle.cg_netlist.specs.Wiring.{driven_by_cells, driven_by_gaters, dri
 use crate::marks::marks;
 use crate::open_register::OpenRegister;
 use cg_netlist::chains::chain_of;
-use cg_netlist::id::NetId;
-use cg_netlist::names::NetNames;
+use cg_net::id::NetId;
+use cg_net::names::NetNames;
 use cg_netlist::parts::{Gater, Logic};
 use std::alloc::{AllocError, Global};
 use std::marker::Model;

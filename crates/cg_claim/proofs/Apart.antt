@@ -5,7 +5,7 @@ use Rattle.std.proofs.Common.{◌∙◌, ap, inl, inr, arith}
 use Rattle.std.specs.List.{list_any, range_with_len}
 use Rattle.std.proofs.lemmas.Bool.{both_ways, eqb-true, or_cases, or_left, or_right}
 use Rattle.cg_cell.specs.Gates.{exclusive_or}
-use Rattle.cg_netlist.specs.Circuit.{is_in}
+use Rattle.cg_net.specs.NetSets.{is_in}
 use Rattle.cg_netlist.specs.Moment.{bit}
 use Rattle.cg_netlist.proofs.Values.{map_same}
 use Rattle.cg_machine.specs.Claims.{Literal, Target, Unseen, any_at, followed, followed_bit, mixed}

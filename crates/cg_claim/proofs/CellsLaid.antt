@@ -9,7 +9,8 @@ use Rattle.cg_cell.specs.Eval.{bits_at}
 use Rattle.cg_cell.specs.Gates.{any_of}
 use Rattle.cg_cell.specs.Term.{Term, Bit, Input, Inverse, Both, Either, Differ, has_input, term_value}
 use Rattle.cg_cell.proofs.Building.{keeps_self, keeps_then}
-use Rattle.cg_netlist.specs.Circuit.{LogicCell, is_in}
+use Rattle.cg_netlist.specs.Circuit.{LogicCell}
+use Rattle.cg_net.specs.NetSets.{is_in}
 use Rattle.cg_machine.specs.Claims.{Literal, literal_bit}
 use Rattle.cg_netlist.specs.Nets.{IsOrdered, outputs}
 use Rattle.cg_cone.proofs.Cones.{AreClosed}

@@ -4,7 +4,8 @@ use Rattle.std.proofs.Common.{Option, None, Some, refl, sym, ◌∙◌, ap, subs
 use Rattle.std.proofs.lemmas.Bool.{both_ways}
 use Rattle.std.proofs.lemmas.Option.{slice_get_past, slice_get-get_or}
 use Rattle.cg_cell.specs.Gates.{exclusive_or}
-use Rattle.cg_netlist.specs.Circuit.{RegisterCell, is_in}
+use Rattle.cg_netlist.specs.Circuit.{RegisterCell}
+use Rattle.cg_net.specs.NetSets.{is_in}
 use Rattle.cg_netlist.specs.Moment.{bit}
 use Rattle.cg_netlist.proofs.Values.{same_places}
 use Rattle.cg_machine.specs.Claims.{CanIdle, EqualOutside, Follows, Hold, Joined, Literal, Next as NextTarget, Shown, Stable}

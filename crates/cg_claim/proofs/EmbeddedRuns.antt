@@ -10,7 +10,8 @@ use Rattle.cg_cell.specs.Term.{Term, Bit, Input, Inverse, Both, Either, Differ}
 use Rattle.cg_cell.proofs.RunsGrow.{grows_term}
 use Rattle.cg_aig.specs.Aig.{aig_ops, inverse}
 use Rattle.cg_aig.proofs.RunsFit.{aig_growing}
-use Rattle.cg_netlist.specs.Circuit.{LogicCell, is_in}
+use Rattle.cg_netlist.specs.Circuit.{LogicCell}
+use Rattle.cg_net.specs.NetSets.{is_in}
 use Rattle.cg_netlist.specs.Nets.{IsOrdered, outputs}
 use Rattle.cg_cone.proofs.Cones.{AreClosed}
 use Rattle.cg_netlist.proofs.NetsOf.{or_none, other_eqb}

@@ -9,14 +9,15 @@ use Rattle.std.proofs.lemmas.Option.{slice_get-get_or, same_Some}
 use Rattle.cg_cell.specs.Domain.{Seen}
 use Rattle.cg_cell.specs.Term.{term_value}
 use Rattle.cg_cell.proofs.EvalCovers.{cover_value_is}
-use Rattle.cg_netlist.specs.Circuit.{Circuit, LogicCell, RegisterCell, cell_nets, data_inputs, gate_nets, given_nets, is_in}
+use Rattle.cg_netlist.specs.Circuit.{Circuit, LogicCell, RegisterCell, cell_nets, data_inputs, gate_nets, given_nets}
+use Rattle.cg_net.specs.NetSets.{is_in}
 use Rattle.cg_netlist.specs.Circuit.{register_nets, shown_nets, used_nets}
 use Rattle.cg_netlist.specs.Moment.{Settles, bit, function_value, register_bits, shown_bits, values_at}
 use Rattle.cg_netlist.specs.WellFormed.{IsOver, RegisterFits}
 use Rattle.cg_netlist.specs.declared.parts.LogicFunction.{LogicFunction}
 use Rattle.cg_netlist.specs.declared.parts.LogicFunction.TheVariants.{Cover, Cell}
 use Rattle.cg_netlist.proofs.Given.{Data, Clock, Gate, Shown, data_given, driver_within, given_driver, kind_of, register_given}
-use Rattle.cg_netlist.proofs.Members.{All-member, is_in_cases}
+use Rattle.cg_net.proofs.Members.{All-member, is_in_cases}
 use Rattle.cg_netlist.proofs.Values.{bit_shown, split_lists, values_by}
 use Rattle.cg_machine.specs.Machine.{IsInputs, IsMachine, IsState, MachineData, values, walk_of}
 use Rattle.cg_netlist.specs.Nets.{beside}

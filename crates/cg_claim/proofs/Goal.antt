@@ -7,7 +7,8 @@ use Rattle.cg_cell.specs.Domain.{Keeps, Ops, Seen}
 use Rattle.cg_cell.specs.Build.{build_and, build_xor, chain, plain}
 use Rattle.cg_cell.specs.Gates.{exclusive_or}
 use Rattle.cg_cell.proofs.Building.{keeps_self, keeps_then}
-use Rattle.cg_netlist.specs.Circuit.{RegisterCell, cell_nets, data_inputs, is_in}
+use Rattle.cg_netlist.specs.Circuit.{RegisterCell, cell_nets, data_inputs}
+use Rattle.cg_net.specs.NetSets.{is_in}
 use Rattle.cg_netlist.specs.Moment.{bit}
 use Rattle.cg_netlist.proofs.Values.{element_at}
 use Rattle.cg_machine.specs.Claims.{any_at, followed, followed_bit, mixed}

@@ -6,7 +6,8 @@ use Rattle.std.specs.Option.{option_map_or}
 use Rattle.std.proofs.lemmas.Bool.{both_ways, lt-ltb, or_cases, or_left, or_right}
 use Rattle.cg_cell.specs.Domain.{Seen}
 use Rattle.cg_aig.specs.Aig.{nodes}
-use Rattle.cg_netlist.specs.Circuit.{Circuit, RegisterCell, data_inputs, is_in, shown_nets}
+use Rattle.cg_netlist.specs.Circuit.{Circuit, RegisterCell, data_inputs, shown_nets}
+use Rattle.cg_net.specs.NetSets.{is_in}
 use Rattle.cg_cone.specs.Cone.{IsInCone}
 use Rattle.cg_cone.proofs.Cones.{cone_closed, cone_has, cone_is, from_way}
 use Rattle.cg_machine.specs.Claims.{Literal}

@@ -10,9 +10,10 @@ use Rattle.std.proofs.lemmas.List.{append_assoc}
 use Rattle.std.proofs.lemmas.List.Elements.{filter-append}
 use Rattle.std.proofs.lemmas.List.Folds.{list_any-append}
 use Rattle.std.proofs.lemmas.Option.{none-some, same_Some}
-use Rattle.cg_netlist.specs.Circuit.{data_inputs, gate_nets, is_in, register_nets}
+use Rattle.cg_netlist.specs.Circuit.{data_inputs, gate_nets, register_nets}
+use Rattle.cg_net.specs.NetSets.{is_in}
 use Rattle.cg_netlist.specs.Moment.{values_at}
-use Rattle.cg_netlist.proofs.Members.{distinct_head, distinct_left, distinct_tail}
+use Rattle.cg_net.proofs.Members.{distinct_head, distinct_left, distinct_tail}
 use Rattle.cg_netlist.proofs.Driven.{distinct_range}
 use Rattle.cg_netlist.proofs.Given.{distinct_given}
 use Rattle.cg_machine.specs.Machine.{IsMachine, MachineData}

@@ -9,14 +9,15 @@ use Rattle.cg_cell.specs.Build.{Run}
 use Rattle.cg_cell.specs.Eval.{bits_at, build_term}
 use Rattle.cg_cell.specs.Term.{Term, Bit, has_input, term_value}
 use Rattle.cg_cell.proofs.Building.{keeps_self, keeps_then}
-use Rattle.cg_netlist.specs.Circuit.{RegisterCell, is_in}
+use Rattle.cg_netlist.specs.Circuit.{RegisterCell}
+use Rattle.cg_net.specs.NetSets.{is_in}
 use Rattle.cg_netlist.specs.History.{next_value}
 use Rattle.cg_netlist.specs.Moment.{bit, values_at}
 use Rattle.cg_netlist.specs.WellFormed.{FitsKind, RegisterFits}
 use Rattle.cg_netlist.specs.declared.parts.RegisterKind.{RegisterKind}
 use Rattle.cg_netlist.specs.declared.parts.RegisterKind.TheVariants.{Plain, Flop}
 use Rattle.cg_netlist.proofs.Given.{from_option}
-use Rattle.cg_netlist.proofs.Members.{is_in_left, is_in_right}
+use Rattle.cg_net.proofs.Members.{is_in_left, is_in_right}
 use Rattle.cg_machine.specs.Claims.{Literal, followed_bit}
 use Rattle.cg_machine.specs.Machine.{MachineData, enable_of, load, next, next_of}
 use Rattle.cg_claim.specs.Build.{Table, Values, lay_states, mux_run, next_run, next_run_of, part_run, put_run, state_run}

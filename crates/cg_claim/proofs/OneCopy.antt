@@ -5,7 +5,8 @@ use Rattle.std.specs.List.{filter, list_any}
 use Rattle.std.specs.Option.{option_map_or}
 use Rattle.std.proofs.lemmas.List.{append-nil}
 use Rattle.cg_cell.specs.Domain.{Seen}
-use Rattle.cg_netlist.specs.Circuit.{LogicCell, RegisterCell, is_in, shown_nets}
+use Rattle.cg_netlist.specs.Circuit.{LogicCell, RegisterCell, shown_nets}
+use Rattle.cg_net.specs.NetSets.{is_in}
 use Rattle.cg_machine.specs.Claims.{Literal}
 use Rattle.cg_machine.specs.Machine.{MachineData, walk_of}
 use Rattle.cg_claim.specs.Build.{Values, after_state_table, after_table, before_table, changed_state, changed_table, copies, lay}

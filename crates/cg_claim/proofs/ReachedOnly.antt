@@ -11,9 +11,10 @@ use Rattle.cg_cell.specs.Build.{Run, build_and, build_mux, build_not, build_or, 
 use Rattle.cg_cell.specs.Domain.{Seen}
 use Rattle.cg_cell.specs.Eval.{build_term}
 use Rattle.cg_cell.specs.Term.{Term, Bit, Input, Inverse, Both, Either, Differ, has_input}
-use Rattle.cg_netlist.specs.Circuit.{Circuit, LogicCell, RegisterCell, data_inputs, is_in}
+use Rattle.cg_netlist.specs.Circuit.{Circuit, LogicCell, RegisterCell, data_inputs}
+use Rattle.cg_net.specs.NetSets.{is_in}
 use Rattle.cg_netlist.proofs.Given.{from_option}
-use Rattle.cg_netlist.proofs.Members.{is_in_left, is_in_right}
+use Rattle.cg_net.proofs.Members.{is_in_left, is_in_right}
 use Rattle.cg_netlist.proofs.Values.{element_at, map_same}
 use Rattle.cg_machine.specs.Claims.{Literal}
 use Rattle.cg_machine.specs.Machine.{IsMachine, MachineData, enable_of, walk_of}

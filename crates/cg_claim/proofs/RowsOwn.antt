@@ -5,7 +5,8 @@ use Rattle.std.specs.List.{filter, range_with_len}
 use Rattle.cg_cell.specs.Cover.{CoverData}
 use Rattle.cg_cell.specs.Term.{Both, Either, Input, Inverse, Term}
 use Rattle.cg_cell.specs.declared.cell.CellKind.TheVariants.{Flop as FlopKind}
-use Rattle.cg_netlist.specs.Circuit.{LogicCell, RegisterCell, is_in}
+use Rattle.cg_netlist.specs.Circuit.{LogicCell, RegisterCell}
+use Rattle.cg_net.specs.NetSets.{is_in}
 use Rattle.cg_cone.specs.Cone.{cone_of}
 use Rattle.cg_netlist.specs.declared.parts.LogicFunction.TheVariants.{Cover}
 use Rattle.cg_netlist.specs.declared.parts.RegisterKind.TheVariants.{Flop, Plain}

@@ -6,7 +6,8 @@ use Rattle.std.specs.List.{filter, flat_map}
 use Rattle.std.proofs.lemmas.Bool.{both_ways, or_left, or_right}
 use Rattle.cg_cell.specs.Build.{Run, build_and, build_xor, chain}
 use Rattle.cg_cell.specs.Domain.{Seen}
-use Rattle.cg_netlist.specs.Circuit.{data_inputs, is_in}
+use Rattle.cg_netlist.specs.Circuit.{data_inputs}
+use Rattle.cg_net.specs.NetSets.{is_in}
 use Rattle.cg_machine.specs.Machine.{IsMachine, MachineData}
 use Rattle.cg_claim.specs.Build.{Copies, Table, Values, after_state_table, after_table, before_table, changed_state, changed_table}
 use Rattle.cg_claim.specs.Build.{copies, enable_run, goal_of, goal_run, lay, lay_states, leaf_value, nets_in, reached_cells}

@@ -8,7 +8,8 @@ use Rattle.cg_cell.specs.Eval.{build_term}
 use Rattle.cg_cell.proofs.RunsGrow.{Grows, grows_and, grows_mux, grows_or, grows_plain, grows_term, grows_then, grows_xor}
 use Rattle.cg_aig.specs.Aig.{aig_ops}
 use Rattle.cg_aig.proofs.RunsFit.{aig_growing}
-use Rattle.cg_netlist.specs.Circuit.{LogicCell, RegisterCell, is_in}
+use Rattle.cg_netlist.specs.Circuit.{LogicCell, RegisterCell}
+use Rattle.cg_net.specs.NetSets.{is_in}
 use Rattle.cg_machine.specs.Claims.{Literal}
 use Rattle.cg_machine.specs.Machine.{MachineData, enable_of}
 use Rattle.cg_claim.specs.Build.{Copies, Table, after_state_table, after_table, aig_values, before_table, cell_run, changed_state}

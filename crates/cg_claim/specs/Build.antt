@@ -11,7 +11,8 @@ use Rattle.cg_cell.specs.Eval.{build_term}
 use Rattle.cg_cell.specs.EvalCover.{cover_term}
 use Rattle.cg_cell.specs.Term.{Term, Bit}
 use Rattle.cg_aig.specs.Aig.{aig_ops, inverse}
-use Rattle.cg_netlist.specs.Circuit.{Circuit, LogicCell, RegisterCell, data_inputs, is_in}
+use Rattle.cg_netlist.specs.Circuit.{Circuit, LogicCell, RegisterCell, data_inputs}
+use Rattle.cg_net.specs.NetSets.{is_in}
 use Rattle.cg_netlist.specs.declared.parts.LogicFunction.{LogicFunction}
 use Rattle.cg_netlist.specs.declared.parts.LogicFunction.TheVariants.{Cover, Cell}
 use Rattle.cg_machine.specs.Machine.{MachineData, enable_of, walk_of}

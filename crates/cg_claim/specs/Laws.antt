@@ -5,7 +5,7 @@ use Rattle.cg_cell.specs.Domain.{Seen}
 use Rattle.cg_cell.specs.declared.fit.FitKind.{FitKind}
 use Rattle.cg_cell.specs.declared.fit.FitKind.TheVariants.{Inv, And2, Or2}
 use Rattle.cg_aig.specs.Aig.{aig_ops}
-use Rattle.cg_netlist.specs.Circuit.{is_in}
+use Rattle.cg_net.specs.NetSets.{is_in}
 use Rattle.cg_machine.specs.Claims.{CanIdle, Hold, Literal, Stable, Target, Unseen, any_at}
 use Rattle.cg_machine.specs.Gates.{AddedGate, HasInputs, gate_cell}
 use Rattle.cg_machine.specs.Machine.{IsMachine, MachineData, values, walk_of}

@@ -3,7 +3,8 @@ use Rattle.std.specs.Prelude.{ℕ, suc, Bool, false, not, ◌&&◌, ◌||◌, if
 use Rattle.std.specs.Prelude.{Option, Some, None}
 use Rattle.std.specs.List.{filter}
 use Rattle.std.specs.Option.{option_map}
-use Rattle.cg_netlist.specs.Circuit.{data_inputs, is_in}
+use Rattle.cg_netlist.specs.Circuit.{data_inputs}
+use Rattle.cg_net.specs.NetSets.{is_in}
 use Rattle.cg_machine.specs.Machine.{MachineData}
 use Rattle.cg_claim.specs.declared.leaf.Leaf.{Leaf as ShownLeaf}
 use Rattle.cg_claim.specs.declared.leaf.LeafSource.{LeafSource}

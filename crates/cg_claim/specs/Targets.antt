@@ -1,7 +1,7 @@
 -- The targets of a claim that registers are unseen: those with one of these registers in their cone.
 use Rattle.std.specs.Prelude.{◌≡◌, ◌<◌, ℕ, ◌+◌, Bool, true, List, [], ◌∷◌, ◌++◌, length, map}
 use Rattle.std.specs.List.{filter, list_any}
-use Rattle.cg_netlist.specs.Circuit.{is_in}
+use Rattle.cg_net.specs.NetSets.{is_in}
 use Rattle.cg_machine.specs.Claims.{Literal, Target, Shown, Next, Joined}
 use Rattle.cg_machine.specs.Machine.{MachineData}
 use Rattle.cg_claim.specs.declared.name.ClaimName.{ClaimName}

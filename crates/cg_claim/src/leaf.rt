@@ -1,6 +1,6 @@
 //! The leaves of a claim.
 
-use cg_netlist::id::{NetId, RegId};
+use cg_net::id::{NetId, RegId};
 
 /// What a leaf stands for in its copy of the machine.
 #[derive(Clone, Copy, Debug, PartialEq, Eq)]

@@ -1,6 +1,6 @@
 //! What a claim is about.
 
-use cg_netlist::id::RegId;
+use cg_net::id::RegId;
 
 /// The name of a claim of a stage.
 #[derive(Clone, Copy, Debug, PartialEq, Eq)]

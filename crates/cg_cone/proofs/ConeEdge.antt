@@ -8,7 +8,8 @@ use Rattle.std.proofs.lemmas.Bool.{both_ways, eqb-true, eq-eqb, or_cases, or_lef
 use Rattle.std.proofs.lemmas.List.Folds.{list_any-append}
 use Rattle.std.proofs.lemmas.Option.{slice_get_within}
 use Rattle.std.proofs.Math.Bool.{or-false}
-use Rattle.cg_netlist.specs.Circuit.{Circuit, LogicCell, RegisterCell, cell_nets, data_inputs, gate_nets, is_in, net_order}
+use Rattle.cg_netlist.specs.Circuit.{Circuit, LogicCell, RegisterCell, cell_nets, data_inputs, gate_nets, net_order}
+use Rattle.cg_net.specs.NetSets.{is_in}
 use Rattle.cg_netlist.specs.Circuit.{register_nets, shown_nets}
 use Rattle.cg_cone.specs.Cone.{cell_feeds, cone_at, cone_of, register_feeds}
 use Rattle.cg_netlist.specs.Drivers.{IsDriver}
@@ -23,9 +24,10 @@ use Rattle.cg_cone.specs.inner.Reaching.{IsEdge, IsWired, cell_shows, register_s
 use Rattle.cg_netlist.specs.inner.Rising.{Rises}
 use Rattle.cg_netlist.proofs.Driven.{in_range}
 use Rattle.cg_netlist.proofs.Filtered.{in_filter, range_in, to_filter}
-use Rattle.cg_netlist.proofs.FoundNets.{same_truth, take_end}
+use Rattle.cg_net.proofs.FoundNets.{same_truth}
+use Rattle.cg_net.proofs.TableLemmas.{take_end}
 use Rattle.cg_netlist.proofs.Given.{data_given, distinct_cells, driver_within, given_driver}
-use Rattle.cg_netlist.proofs.Members.{member_at}
+use Rattle.cg_net.proofs.Members.{member_at}
 use Rattle.cg_cone.proofs.OneDriver.{cell_driver, cell_number, input_driver, is_input, is_register, register_driver}
 use Rattle.cg_netlist.proofs.RisingNumbers.{range_rises, rises_later}
 use Rattle.cg_netlist.proofs.RisingPlaces.{places_filter, rising_same}

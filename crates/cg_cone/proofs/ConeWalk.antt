@@ -3,7 +3,8 @@ use Rattle.std.proofs.Common.{◌≡◌, ℕ, zero, suc, ◌+◌, ◌<◌, ◌�
 use Rattle.std.proofs.Common.{Some, refl, sym, ◌∙◌, ap, subst, arith, ◌⊎◌, inl, inr}
 use Rattle.std.proofs.lemmas.Bool.{both_ways, eqb-true, or_cases}
 use Rattle.std.proofs.lemmas.Option.{same_Some}
-use Rattle.cg_netlist.specs.Circuit.{Circuit, LogicCell, is_in, used_nets}
+use Rattle.cg_netlist.specs.Circuit.{Circuit, LogicCell, used_nets}
+use Rattle.cg_net.specs.NetSets.{is_in, with_nets}
 use Rattle.cg_cone.specs.Cone.{Reaches, cone_of, here, through}
 use Rattle.cg_netlist.specs.Drivers.{IsDriver}
 use Rattle.cg_netlist.specs.Nets.{IsWalk}
@@ -11,11 +12,10 @@ use Rattle.cg_netlist.specs.WellFormed.{IsWellFormed}
 use Rattle.cg_netlist.specs.declared.driver.Driver.{Driver}
 use Rattle.cg_netlist.specs.declared.driver.Driver.TheVariants.{Cell}
 use Rattle.cg_cone.specs.inner.Reaching.{IsReached}
-use Rattle.cg_netlist.specs.NetSets.{with_nets}
 use Rattle.cg_cone.proofs.Cones.{cone_is, longer}
-use Rattle.cg_netlist.proofs.FoundNets.{front, kept_all, only_these, put_all, same_truth, take_end, take_front}
-use Rattle.cg_netlist.proofs.TableLemmas.{All-at}
-use Rattle.cg_netlist.proofs.Members.{is_in_cases, member_at, place_of_member}
+use Rattle.cg_net.proofs.FoundNets.{front, kept_all, only_these, put_all, same_truth, take_front}
+use Rattle.cg_net.proofs.TableLemmas.{All-at, take_end}
+use Rattle.cg_net.proofs.Members.{is_in_cases, member_at, place_of_member}
 use Rattle.cg_cone.proofs.OneDriver.{cell_driver, cell_number}
 use Rattle.cg_netlist.proofs.Used.{input_is_used}
 

@@ -4,10 +4,11 @@ use Rattle.std.proofs.Common.{◌≡◌, ℕ, zero, suc, Bool, true, false, if�
 use Rattle.std.proofs.Common.{◌∙◌, ap, subst, inl, inr}
 use Rattle.std.proofs.lemmas.Bool.{both_ways}
 use Rattle.std.proofs.lemmas.Option.{none-some}
-use Rattle.cg_netlist.specs.Circuit.{LogicCell, is_in}
+use Rattle.cg_netlist.specs.Circuit.{LogicCell}
+use Rattle.cg_net.specs.NetSets.{is_in}
 use Rattle.cg_cone.specs.Cone.{IsInCone, Reaches, cone_of, here, through}
 use Rattle.cg_netlist.specs.Nets.{IsOrdered, IsWalk, outputs}
-use Rattle.cg_netlist.proofs.Members.{is_in_cases, is_in_left, is_in_right, member_at}
+use Rattle.cg_net.proofs.Members.{is_in_cases, is_in_left, is_in_right, member_at}
 use Rattle.cg_netlist.proofs.Values.{at_map}
 
 -- with the output of a cell its inputs pass the test

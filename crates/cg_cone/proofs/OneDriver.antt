@@ -5,17 +5,18 @@ use Rattle.std.specs.List.{IsDistinct, flat_map}
 use Rattle.std.specs.Option.{option_map_or, option_to_list}
 use Rattle.std.proofs.lemmas.Bool.{both_ways, eqb-true, eq-eqb, false_from_ne_true}
 use Rattle.std.proofs.lemmas.Option.{none-some, same_Some}
-use Rattle.cg_netlist.specs.Circuit.{Circuit, GatingCell, LogicCell, RegisterCell, cell_nets, data_inputs, gate_nets, is_in}
+use Rattle.cg_netlist.specs.Circuit.{Circuit, GatingCell, LogicCell, RegisterCell, cell_nets, data_inputs, gate_nets}
+use Rattle.cg_net.specs.NetSets.{is_in}
 use Rattle.cg_netlist.specs.Circuit.{register_nets, shown_nets}
 use Rattle.cg_netlist.specs.Drivers.{IsDriver}
 use Rattle.cg_netlist.specs.WellFormed.{IsDriven}
 use Rattle.cg_netlist.specs.declared.driver.Driver.{Driver}
 use Rattle.cg_netlist.specs.declared.driver.Driver.TheVariants.{Input, Clock, Cell, Gater, Register}
 use Rattle.cg_cone.specs.inner.Reaching.{register_shows}
-use Rattle.cg_netlist.proofs.FoundNets.{same_truth}
+use Rattle.cg_net.proofs.FoundNets.{same_truth}
 use Rattle.cg_netlist.proofs.Given.{clock_given, data_given, distinct_cells, distinct_given, from_option, gate_given, given_no_cell}
 use Rattle.cg_netlist.proofs.Given.{register_given}
-use Rattle.cg_netlist.proofs.Members.{distinct_apart, distinct_left, distinct_right, is_in_left, is_in_right, member_at, one_place}
+use Rattle.cg_net.proofs.Members.{distinct_apart, distinct_left, distinct_right, is_in_left, is_in_right, member_at, one_place}
 use Rattle.cg_netlist.proofs.Used.{in_flat}
 use Rattle.cg_netlist.proofs.Values.{at_map}
 

@@ -2,7 +2,7 @@
 
 ghost use Rattle.std.specs.Prelude.{◌≡◌, ◌<◌, ◌+◌, ◌++◌, ◌∷◌, [], ℕ, List, true, length, IfOk, OnOk};
 ghost use Rattle.std.specs.List.{All, filter, range_with_len};
-ghost use Rattle.cg_netlist.specs.Circuit.{is_in};
+ghost use Rattle.cg_net.specs.NetSets.{is_in};
 ghost use Rattle.cg_cone.specs.Cone.{cone_at, cone_of};
 ghost use Rattle.cg_netlist.specs.Moment.{values_at};
 ghost use Rattle.cg_cone.specs.inner.Reaching.{IsEdge, IsReached};
@@ -13,8 +13,8 @@ use crate::edge::Edge;
 use crate::wiring::Wiring;
 use cg_list::Seq;
 use cg_netlist::driver::Driver;
-use cg_netlist::id::{CellId, NetId};
-use cg_netlist::net_set::NetSet;
+use cg_net::id::{CellId, NetId};
+use cg_net::net_set::NetSet;
 use std::alloc::{AllocError, Global};
 
 /// The cone of these nets, with an empty set for the nets that are found. It costs what it reaches, beside the set's marks.

@@ -6,7 +6,7 @@ ghost use Rattle.cg_netlist.specs.Drivers.{IsDriver};
 ghost use Rattle.cg_cone.specs.inner.Reaching.{IsWired};
 
 use cg_netlist::driver::Driver;
-use cg_netlist::id::{CellId, NetId};
+use cg_net::id::{CellId, NetId};
 
 /// Logic cells with what drives them: a netlist, or one with more cells behind its own.
 ///

@@ -12,7 +12,7 @@ use Rattle.std.proofs.lemmas.Nat.Bits.{bit_at-zero, bit_at_above, bit_at_clear_o
 use Rattle.std.proofs.lemmas.Nat.Bits.{bit_at_set_same}
 use Rattle.std.proofs.lemmas.Option.{same_Some, slice_get_within}
 use Rattle.cg_cell.specs.Bits.{one_if}
-use Rattle.cg_netlist.proofs.TableLemmas.{same_or_not, slice_get-set_other, slice_get-set_same}
+use Rattle.cg_net.proofs.TableLemmas.{same_or_not, slice_get-set_other, slice_get-set_same}
 use Rattle.cg_netlist.proofs.Values.{by_place, same_places}
 use Rattle.cg_edge.specs.inner.Bits.{AreWords, IsLowestAt, IsNext, IsNextAt, bits_of, is_one}
 use Rattle.cg_edge.proofs.Laid.{looked_up}

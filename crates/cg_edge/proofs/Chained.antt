@@ -5,12 +5,13 @@ use Rattle.std.specs.Option.{option_map_or, option_to_list}
 use Rattle.std.proofs.lemmas.Bool.{both_ways, cases_Bool}
 use Rattle.std.proofs.lemmas.List.{length-set}
 use Rattle.std.proofs.lemmas.Option.{get_or_from_slice_get, same_Some, unwrap_or-slice_get, slice_get_within}
-use Rattle.cg_netlist.specs.Circuit.{Circuit, GatingCell, clock_nets, gate_nets, is_in}
+use Rattle.cg_netlist.specs.Circuit.{Circuit, GatingCell, clock_nets, gate_nets}
+use Rattle.cg_net.specs.NetSets.{is_in}
 use Rattle.cg_netlist.specs.Moment.{bit}
 use Rattle.cg_netlist.specs.WellFormed.{IsWellFormed}
 use Rattle.cg_netlist.proofs.Given.{clock_no_gate, distinct_gates, from_option}
-use Rattle.cg_netlist.proofs.Members.{is_in_left, is_in_right, one_place}
-use Rattle.cg_netlist.proofs.TableLemmas.{same_or_not, slice_get-set_other, slice_get-set_same}
+use Rattle.cg_net.proofs.Members.{is_in_left, is_in_right, one_place}
+use Rattle.cg_net.proofs.TableLemmas.{same_or_not, slice_get-set_other, slice_get-set_same}
 use Rattle.cg_netlist.proofs.Values.{at_map}
 use Rattle.cg_edge.specs.inner.Keeping.{AreDriven, IsChain, SameBut, ShowClocks}
 use Rattle.cg_edge.proofs.Facts.{gater_among, gater_output}

@@ -4,13 +4,14 @@ use Rattle.std.specs.List.{All, IsDistinct}
 use Rattle.std.specs.Option.{option_to_list}
 use Rattle.std.proofs.lemmas.Option.{get_or_from_slice_get, slice_get-get_or, slice_get_within}
 use Rattle.cg_netlist.specs.Circuit.{Circuit, GatingCell, LogicCell, RegisterCell, asked_nets, cell_nets, clock_nets, data_inputs}
-use Rattle.cg_netlist.specs.Circuit.{gate_nets, given_nets, is_in, register_nets, shown_nets, used_nets}
+use Rattle.cg_netlist.specs.Circuit.{gate_nets, given_nets, register_nets, shown_nets, used_nets}
+use Rattle.cg_net.specs.NetSets.{is_in}
 use Rattle.cg_netlist.specs.WellFormed.{IsOver, IsWellFormed, RegisterFits}
 use Rattle.cg_netlist.proofs.Clocks.{pin_clocked}
 use Rattle.cg_netlist.proofs.Given.{clock_given, data_given, distinct_given, driver_within, gate_given, given_driver, given_no_cell}
 use Rattle.cg_netlist.proofs.Given.{in_option, register_given}
-use Rattle.cg_netlist.proofs.Members.{All-from_members, All-member, distinct_left, distinct_right, is_in_cases, is_in_right}
-use Rattle.cg_netlist.proofs.Members.{member_at}
+use Rattle.cg_net.proofs.Members.{All-from_members, All-member, distinct_left, distinct_right, is_in_cases, is_in_right}
+use Rattle.cg_net.proofs.Members.{member_at}
 use Rattle.cg_netlist.proofs.Used.{asked_is_used, data_is_used, in_flat, input_is_used}
 use Rattle.cg_netlist.proofs.Values.{at_map}
 

@@ -5,7 +5,8 @@ use Rattle.std.specs.Option.{option_to_list}
 use Rattle.std.proofs.lemmas.Bool.{both_ways, false_from_ne_true}
 use Rattle.std.proofs.lemmas.List.{length-map}
 use Rattle.std.proofs.lemmas.Option.{get_or_from_slice_get, slice_get-get_or}
-use Rattle.cg_netlist.specs.Circuit.{Circuit, GatingCell, RegisterCell, cell_nets, clock_nets, data_inputs, gate_nets, is_in}
+use Rattle.cg_netlist.specs.Circuit.{Circuit, GatingCell, RegisterCell, cell_nets, clock_nets, data_inputs, gate_nets}
+use Rattle.cg_net.specs.NetSets.{is_in}
 use Rattle.cg_netlist.specs.Circuit.{register_nets}
 use Rattle.cg_netlist.specs.History.{Moment, MomentFollows, Tick, gate_bit, latches_before, next_bit, next_latch, next_value, rises}
 use Rattle.cg_netlist.specs.History.{state_now}
@@ -13,7 +14,7 @@ use Rattle.cg_netlist.specs.Moment.{CellsHold, Settles, bit, register_bits, valu
 use Rattle.cg_netlist.specs.WellFormed.{IsWellFormed}
 use Rattle.cg_netlist.proofs.Clocks.{held_gates, pin_clocked}
 use Rattle.cg_netlist.proofs.Given.{clock_given, distinct_given, from_option, gate_given, given_no_cell, given_within, in_option}
-use Rattle.cg_netlist.proofs.Members.{distinct_apart, distinct_left, is_in_cases, is_in_left, is_in_right}
+use Rattle.cg_net.proofs.Members.{distinct_apart, distinct_left, is_in_cases, is_in_left, is_in_right}
 use Rattle.cg_netlist.proofs.Values.{at_map, element_at, length-values_at, length-zip_with, same_places, same_values, value_at}
 use Rattle.cg_netlist.proofs.Values.{zip_with_at, zip_with_same}
 use Rattle.cg_edge.specs.Simulated.{rises_at}

@@ -6,11 +6,12 @@ use Rattle.std.proofs.lemmas.Bool.{both_ways, eq-eqb, or_left}
 use Rattle.std.proofs.lemmas.List.{length-map}
 use Rattle.std.proofs.lemmas.Option.{get_or_from_slice_get, same_Some, slice_get-map, slice_get_within}
 use Rattle.cg_netlist.specs.Chains.{chain, chain_cell, gate_order}
-use Rattle.cg_netlist.specs.Circuit.{Circuit, GatingCell, LogicCell, gate_nets, is_in}
+use Rattle.cg_netlist.specs.Circuit.{Circuit, GatingCell, LogicCell, gate_nets}
+use Rattle.cg_net.specs.NetSets.{is_in}
 use Rattle.cg_netlist.specs.Moment.{values_at}
 use Rattle.cg_netlist.specs.WellFormed.{IsWellFormed}
 use Rattle.cg_netlist.proofs.Given.{distinct_gates}
-use Rattle.cg_netlist.proofs.Members.{one_place}
+use Rattle.cg_net.proofs.Members.{one_place}
 use Rattle.cg_netlist.proofs.Values.{at_map, element_at, value_at}
 use Rattle.cg_netlist.proofs.WalkLawsHold.{gate_order_is_walk}
 use Rattle.cg_edge.specs.inner.Keeping.{IsChain}

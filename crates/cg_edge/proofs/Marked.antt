@@ -3,11 +3,12 @@ use Rattle.std.proofs.Common.{◌≡◌, ◌≢◌, ℕ, ◌+◌, ◌<◌, ◌�
 use Rattle.std.proofs.Common.{Some, sym, ◌∙◌, ap, subst, arith}
 use Rattle.std.proofs.lemmas.Bool.{both_ways, cases_Bool, false_from_ne_true}
 use Rattle.std.proofs.lemmas.Option.{same_Some, slice_get_within}
-use Rattle.cg_netlist.specs.Circuit.{Circuit, LogicCell, cell_nets, clock_nets, is_in, used_nets}
+use Rattle.cg_netlist.specs.Circuit.{Circuit, LogicCell, cell_nets, clock_nets, used_nets}
+use Rattle.cg_net.specs.NetSets.{is_in}
 use Rattle.cg_netlist.specs.Moment.{CellsHold, function_value, values_at}
 use Rattle.cg_netlist.specs.WellFormed.{IsWellFormed}
-use Rattle.cg_netlist.proofs.Members.{member_at}
-use Rattle.cg_netlist.proofs.TableLemmas.{same_or_not, slice_get-set_other, slice_get-set_same}
+use Rattle.cg_net.proofs.Members.{member_at}
+use Rattle.cg_net.proofs.TableLemmas.{same_or_not, slice_get-set_other, slice_get-set_same}
 use Rattle.cg_netlist.proofs.Used.{input_is_used}
 use Rattle.cg_netlist.proofs.Values.{at_map, same_values}
 use Rattle.cg_edge.specs.inner.Keeping.{AreMarked, AreReaders, AreSettled, Holds, IsPut, SameBut, readers_at, walk_of}

@@ -7,11 +7,12 @@ use Rattle.std.proofs.lemmas.Bool.{both_ways, false_from_ne_true, or_cases, or_r
 use Rattle.std.proofs.lemmas.Grind.{flat_map-append}
 use Rattle.std.proofs.lemmas.List.{take_more}
 use Rattle.std.proofs.lemmas.Option.{same_Some, slice_get-get_or, slice_get_within}
-use Rattle.cg_netlist.specs.Circuit.{RegisterCell, is_in, shown_nets}
+use Rattle.cg_netlist.specs.Circuit.{RegisterCell, shown_nets}
+use Rattle.cg_net.specs.NetSets.{is_in}
 use Rattle.cg_netlist.specs.Moment.{register_bits, shown_bits, values_at}
-use Rattle.cg_netlist.proofs.Members.{distinct_apart, distinct_head, distinct_left, distinct_right, distinct_tail, is_in_left}
-use Rattle.cg_netlist.proofs.Members.{is_in_right, member_at}
-use Rattle.cg_netlist.proofs.TableLemmas.{slice_get-set_other, slice_get-set_same}
+use Rattle.cg_net.proofs.Members.{distinct_apart, distinct_head, distinct_left, distinct_right, distinct_tail, is_in_left}
+use Rattle.cg_net.proofs.Members.{is_in_right, member_at}
+use Rattle.cg_net.proofs.TableLemmas.{slice_get-set_other, slice_get-set_same}
 use Rattle.cg_netlist.proofs.Values.{same_values, values_at-append}
 use Rattle.cg_edge.specs.inner.Keeping.{SameBut}
 
@@ -38,7 +39,7 @@ shown_more cur xs bits k x b distinct below at is shown =
 pub flat_apart : {X : Type 0} (f : X → List ℕ) (xs : List X) (k : ℕ) (x : X) → IsDistinct nat_eq (flat_map f xs) → slice_get xs k ≡ Some x → (y : ℕ) → is_in (flat_map f (take k xs)) y ≡ true → is_in (f x) y ≡ false
 flat_apart f [] k x distinct at y among = absurd (cc)
 flat_apart f (z ∷ xs) zero x distinct at y among = absurd (both_ways false refl among)
-flat_apart f (z ∷ xs) (suc k) x distinct at y among = elim (Rattle.cg_netlist.proofs.Members.is_in_cases (f z) (flat_map f (take k xs)) y among) [
+flat_apart f (z ∷ xs) (suc k) x distinct at y among = elim (Rattle.cg_net.proofs.Members.is_in_cases (f z) (flat_map f (take k xs)) y among) [
   | inl here ↦ false_from_ne_true (is_in (f x) y) (λ inside. both_ways (is_in (flat_map f xs) y) (distinct_apart (f z) (flat_map f xs) distinct y here) (Rattle.cg_netlist.proofs.Used.in_flat f xs k x y at inside))
   | inr later ↦ flat_apart f xs k x (distinct_right (f z) (flat_map f xs) distinct) at y later
 ]

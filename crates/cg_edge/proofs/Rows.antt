@@ -14,7 +14,7 @@ use Rattle.std.proofs.lemmas.Nat.Bits.{bit_at-zero, bit_at_set_other, bit_at_set
 use Rattle.cg_cell.specs.Bits.{one_if}
 use Rattle.cg_netlist.specs.declared.parts.LogicFunction.{LogicFunction}
 use Rattle.cg_netlist.specs.Moment.{function_value, values_at}
-use Rattle.cg_netlist.proofs.TableLemmas.{same_or_not}
+use Rattle.cg_net.proofs.TableLemmas.{same_or_not}
 use Rattle.cg_netlist.proofs.Walks.{drop_at}
 use Rattle.cg_edge.specs.inner.Flat.{IsTruthTable, row_of}
 

@@ -4,13 +4,14 @@ use Rattle.std.proofs.Common.{get_or, Some, nat_eq, refl, sym, ◌∙◌, ap, su
 use Rattle.std.specs.List.{All, filter, flat_map, range_with_len}
 use Rattle.std.proofs.lemmas.Bool.{both_ways, false_from_ne_true, or_cases, or_left, or_right}
 use Rattle.std.proofs.lemmas.Option.{same_Some}
-use Rattle.cg_netlist.specs.Circuit.{Circuit, LogicCell, cell_nets, is_in}
+use Rattle.cg_netlist.specs.Circuit.{Circuit, LogicCell, cell_nets}
+use Rattle.cg_net.specs.NetSets.{is_in}
 use Rattle.cg_netlist.specs.Netlist.{widest_of}
 use Rattle.cg_netlist.specs.Nets.{IsOrdered, IsWalk, has_rank, outputs, walk_order}
 use Rattle.cg_netlist.specs.WellFormed.{IsWellFormed}
 use Rattle.cg_netlist.proofs.Driven.{in_range}
 use Rattle.cg_netlist.proofs.Given.{distinct_cells}
-use Rattle.cg_netlist.proofs.Members.{All-from_members, is_in_cases, member_at, one_place}
+use Rattle.cg_net.proofs.Members.{All-from_members, is_in_cases, member_at, one_place}
 use Rattle.cg_netlist.proofs.Values.{at_map, length-values_at, value_at}
 use Rattle.cg_netlist.proofs.WalkOrder.{walk_is}
 use Rattle.cg_edge.specs.inner.Keeping.{walk_of}

@@ -7,7 +7,7 @@ ghost use Rattle.cg_netlist.specs.Moment.{bit};
 ghost use Rattle.cg_netlist.specs.Netlist.{IsNetlist};
 ghost use Rattle.cg_edge.specs.inner.Keeping.{AreDriven, IsChain, SameBut, ShowClocks};
 
-use cg_netlist::id::GateClockId;
+use cg_net::id::GateClockId;
 use cg_netlist::netlist::Netlist;
 
 /// Puts the clock's bit at the clock, where the netlist has one, and at the output of each gating cell the AND of its

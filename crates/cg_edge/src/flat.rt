@@ -9,7 +9,7 @@ ghost use Rattle.cg_netlist.specs.Netlist.{IsNetlist, widest_of};
 ghost use Rattle.cg_edge.specs.inner.Flat.{AreLaid, IsLaidAt, IsPushed, row_of};
 
 use crate::table::{FEW, row, table};
-use cg_netlist::id::{CellId, NetId};
+use cg_net::id::{CellId, NetId};
 use cg_netlist::netlist::Netlist;
 use cg_netlist::walk::gather;
 use std::alloc::{AllocError, Global};

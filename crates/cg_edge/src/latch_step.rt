@@ -6,7 +6,7 @@ ghost use Rattle.cg_netlist.specs.History.{next_latch};
 ghost use Rattle.cg_netlist.specs.Moment.{zip_with};
 ghost use Rattle.cg_netlist.specs.Netlist.{IsNetlist};
 
-use cg_netlist::id::GateClockId;
+use cg_net::id::GateClockId;
 use cg_netlist::netlist::Netlist;
 
 /// Moves the latches to the present bits of nets: where the clock pin is low, a latch follows the enable or the test net.

@@ -18,7 +18,7 @@ use crate::put::{put_inputs, put_registers};
 use crate::readers::Readers;
 use crate::register_step::step;
 use crate::settle::settle;
-use cg_netlist::id::{CellId, GateClockId};
+use cg_net::id::{CellId, GateClockId};
 use cg_netlist::netlist::Netlist;
 
 /// Moves each register whose clock net rose, and tells which rose; at a first moment, where nothing `ticked` yet, none does.

@@ -2,14 +2,15 @@
 
 ghost use Rattle.std.specs.Prelude.{◌≡◌, ◌<◌, ℕ, false, true, if◌then◌else◌, map, nat_eq, not, length, slice_get, slice_set, Some};
 ghost use Rattle.std.specs.List.{All, IsDistinct};
-ghost use Rattle.cg_netlist.specs.Circuit.{RegisterCell, cell_nets, data_inputs, is_in, register_nets, shown_nets};
+ghost use Rattle.cg_netlist.specs.Circuit.{RegisterCell, cell_nets, data_inputs, register_nets, shown_nets};
+ghost use Rattle.cg_net.specs.NetSets.{is_in};
 ghost use Rattle.cg_netlist.specs.Moment.{register_bits, shown_bits, values_at};
 ghost use Rattle.cg_netlist.specs.Netlist.{IsNetlist};
 ghost use Rattle.cg_edge.specs.inner.Keeping.{AreMarked, AreReaders, IsPut, SameBut, readers_at, walk_of};
 
 use crate::marks::Marks;
 use crate::readers::Readers;
-use cg_netlist::id::{NetId, RegId};
+use cg_net::id::{NetId, RegId};
 use cg_netlist::netlist::Netlist;
 
 /// Puts a bit at a net, and marks the cells that read it where that is another bit than it had.

@@ -2,13 +2,13 @@
 
 ghost use Rattle.std.specs.Prelude.{◌≡◌, ◌<◌, ◌++◌, ◌∷◌, ℕ, [], true, length, slice_get, replicate, Some, IfOk, OnOk};
 ghost use Rattle.std.specs.List.{All};
-ghost use Rattle.cg_netlist.specs.Circuit.{is_in};
+ghost use Rattle.cg_net.specs.NetSets.{is_in};
 ghost use Rattle.cg_netlist.specs.Nets.{walk_order};
 ghost use Rattle.cg_edge.specs.inner.Keeping.{AreReaders, IsAdded, MarksMore, readers_at, walk_of};
 
 use crate::marks::Marks;
 use cg_list::Seq;
-use cg_netlist::id::{CellId, NetId};
+use cg_net::id::{CellId, NetId};
 use cg_netlist::netlist::Netlist;
 use std::alloc::{AllocError, Global};
 use std::marker::Model;

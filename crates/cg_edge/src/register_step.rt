@@ -6,7 +6,7 @@ ghost use Rattle.cg_netlist.specs.History.{next_bit, rises};
 ghost use Rattle.cg_netlist.specs.Moment.{zip_with};
 ghost use Rattle.cg_netlist.specs.Netlist.{IsNetlist};
 
-use cg_netlist::id::RegId;
+use cg_net::id::RegId;
 use cg_netlist::netlist::Netlist;
 
 /// Whether a register's clock net rises from the bits of nets `before` to those of `nets`.

@@ -12,7 +12,7 @@ use crate::flat::FlatCells;
 use crate::marks::Marks;
 use crate::put::put;
 use crate::readers::Readers;
-use cg_netlist::id::CellId;
+use cg_net::id::CellId;
 use cg_netlist::netlist::Netlist;
 
 /// Looks at the marked cells in walk order, so that each cell's output is its function of its inputs.

@@ -12,7 +12,7 @@ use crate::flat::FlatCells;
 use crate::marks::Marks;
 use crate::moment::advance;
 use crate::readers::Readers;
-use cg_netlist::id::{CellId, GateClockId, NetId, RegId};
+use cg_net::id::{CellId, GateClockId, NetId, RegId};
 use cg_netlist::netlist::Netlist;
 use std::alloc::{AllocError, Global};
 use std::marker::Model;

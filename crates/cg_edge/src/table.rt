@@ -8,7 +8,7 @@ ghost use Rattle.cg_netlist.specs.Circuit.{LogicCell};
 ghost use Rattle.cg_netlist.specs.Moment.{values_at};
 ghost use Rattle.cg_edge.specs.inner.Flat.{IsTruthTable, row_of};
 
-use cg_netlist::id::{CellId, NetId};
+use cg_net::id::{CellId, NetId};
 use cg_netlist::netlist::Netlist;
 
 /// The most inputs of a cell that has a table: one of 64 rows.

@@ -10,9 +10,10 @@ use Rattle.cg_cell.specs.declared.fit.FitKind.TheVariants.{And2}
 use Rattle.cg_machine.specs.Added.{find_gate, next_gate, or_push, push_gate}
 use Rattle.cg_machine.specs.Gates.{AddedGate}
 use Rattle.cg_machine.specs.Machine.{MachineData}
-use Rattle.cg_netlist.proofs.Members.{member_at, place_of_member}
+use Rattle.cg_net.proofs.Members.{member_at, place_of_member}
 use Rattle.cg_netlist.proofs.Values.{at_map, under_map}
-use Rattle.cg_netlist.specs.Circuit.{Circuit, GatingCell, RegisterCell, gate_nets, is_in}
+use Rattle.cg_netlist.specs.Circuit.{Circuit, GatingCell, RegisterCell, gate_nets}
+use Rattle.cg_net.specs.NetSets.{is_in}
 use Rattle.cg_extract.proofs.Depths.{Ready, ready}
 use Rattle.cg_extract.proofs.Lifts.{enable_gate, lifting_lifts}
 use Rattle.cg_extract.proofs.Renumbered.{none_found}

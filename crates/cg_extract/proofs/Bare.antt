@@ -8,16 +8,18 @@ use Rattle.std.proofs.lemmas.List.{append-nil, length-map, map-append}
 use Rattle.std.proofs.lemmas.List.Elements.{All-map, All-nil, All-weaker, All-get_or}
 use Rattle.std.proofs.lemmas.Option.{get_or_from_slice_get, slice_get-get_or, slice_get-map, slice_get_within, unwrap_or-slice_get}
 use Rattle.cg_cell.specs.Name.{is_name}
-use Rattle.cg_netlist.specs.Wiring.{map_cell, map_register, net_name}
-use Rattle.cg_netlist.specs.Circuit.{Circuit, LogicCell, RegisterCell, cell_nets, clock_nets, data_inputs, gate_nets, is_in}
+use Rattle.cg_netlist.specs.Wiring.{map_cell, map_register}
+use Rattle.cg_net.specs.Names.{net_name}
+use Rattle.cg_netlist.specs.Circuit.{Circuit, LogicCell, RegisterCell, cell_nets, clock_nets, data_inputs, gate_nets}
+use Rattle.cg_net.specs.NetSets.{is_in}
 use Rattle.cg_netlist.specs.Circuit.{register_nets, used_nets}
 use Rattle.cg_netlist.specs.Netlist.{IsNetlist}
 use Rattle.cg_netlist.specs.WellFormed.{AreRanks, IsInNetOrder, IsOver, IsWellFormed, RegisterFits}
 use Rattle.cg_netlist.proofs.Driven.{driven_in_order}
-use Rattle.cg_netlist.proofs.PlaceLemmas.{mapped_at, same_net}
+use Rattle.cg_net.proofs.PlaceLemmas.{mapped_at, same_net}
 use Rattle.cg_netlist.proofs.RegisterKept.{register_kept}
 use Rattle.cg_netlist.proofs.Given.{from_option}
-use Rattle.cg_netlist.proofs.Members.{All-from_members, is_in_left, member_at, one_place}
+use Rattle.cg_net.proofs.Members.{All-from_members, is_in_left, member_at, one_place}
 use Rattle.cg_netlist.proofs.NetOrder.{from_mapped, in_mapped, outputs_renumbered, places_in_order, registers_renumbered}
 use Rattle.cg_netlist.proofs.OrderedForm.{clock_nets_is, used_is}
 use Rattle.cg_netlist.proofs.Used.{input_is_used, output_is_used}

@@ -17,7 +17,8 @@ use Rattle.cg_parts.specs.declared.fault.NetFault.{NetFault}
 use Rattle.cg_parts.specs.Part.{Clock, Input, Logic, Output}
 use Rattle.cg_parts.specs.Said.{nothing_said, said}
 use Rattle.cg_parts.specs.Says.{AreTaken, Says, parts_from, register_part}
-use Rattle.cg_netlist.specs.Wiring.{NetName, map_cell, map_register, named, net_name}
+use Rattle.cg_net.specs.Names.{NetName, net_name}
+use Rattle.cg_netlist.specs.Wiring.{map_cell, map_register, named}
 use Rattle.cg_insert.proofs.InsertedParts.{map_twice, said_all}
 use Rattle.cg_insert.proofs.OrderedNames.{named_ordered}
 use Rattle.cg_insert.proofs.ToldParts.{within_limit}

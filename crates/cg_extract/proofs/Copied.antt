@@ -6,14 +6,13 @@ use Rattle.std.proofs.lemmas.Bool.{cases_Bool}
 use Rattle.std.proofs.lemmas.List.{map-id}
 use Rattle.std.proofs.lemmas.List.FromFn.{fill_by_all, get_or-range_with_len, length-range_with_len, map-range_with_len_more}
 use Rattle.std.proofs.lemmas.Option.{none-some, slice_get-get_or, slice_get_within, unwrap_or-slice_get}
-use Rattle.cg_netlist.specs.NamePlaces.{AreOrdered}
-use Rattle.cg_netlist.specs.Names.{is_known, with_name}
-use Rattle.cg_netlist.specs.Wiring.{net_name}
-use Rattle.cg_netlist.proofs.DifferentNames.{known_at}
+use Rattle.cg_net.specs.NamePlaces.{AreOrdered}
+use Rattle.cg_net.specs.Names.{is_known, net_name, with_name}
+use Rattle.cg_net.proofs.DifferentNames.{known_at}
 use Rattle.cg_netlist.proofs.Driven.{distinct_range}
-use Rattle.cg_netlist.proofs.NameLemmas.{with_name-unknown}
-use Rattle.cg_netlist.proofs.PlaceLemmas.{place_is, same_net}
-use Rattle.cg_netlist.proofs.RankingLemmas.{take_next}
+use Rattle.cg_net.proofs.NameLemmas.{with_name-unknown}
+use Rattle.cg_net.proofs.PlaceLemmas.{place_is, same_net}
+use Rattle.cg_net.proofs.TableLemmas.{take_next}
 
 -- one element more is copied
 pub copied_more : {X : Type 0} (xs before after : List X) (k : ℕ) (x : X) → before ≡ take k xs → slice_get xs k ≡ Some x → after ≡ before ++ x ∷ [] → after ≡ take (k + 1) xs

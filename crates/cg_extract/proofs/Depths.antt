@@ -7,11 +7,12 @@ use Rattle.std.proofs.lemmas.Bool.{both_ways, eq-eqb, or_cases, or_left, or_righ
 use Rattle.std.proofs.lemmas.List.{length-map}
 use Rattle.std.proofs.lemmas.Option.{slice_get-map}
 use Rattle.cg_netlist.specs.Chains.{chain, chain_cell, gate_order}
-use Rattle.cg_netlist.specs.Circuit.{Circuit, GatingCell, gate_nets, is_in}
+use Rattle.cg_netlist.specs.Circuit.{Circuit, GatingCell, gate_nets}
+use Rattle.cg_net.specs.NetSets.{is_in}
 use Rattle.cg_netlist.specs.Moment.{values_at}
 use Rattle.cg_netlist.specs.Nets.{IsOrdered, outputs}
 use Rattle.cg_netlist.specs.WellFormed.{IsWellFormed}
-use Rattle.cg_netlist.proofs.Members.{member_at}
+use Rattle.cg_net.proofs.Members.{member_at}
 use Rattle.cg_netlist.proofs.Values.{at_map}
 use Rattle.cg_netlist.proofs.WalkLawsHold.{gate_order_is_walk}
 use Rattle.cg_netlist.proofs.WalkPlaces.{walk_long}

@@ -5,7 +5,7 @@ use Rattle.std.specs.Option.{option_flatten}
 use Rattle.std.proofs.lemmas.List.{length-map}
 use Rattle.std.proofs.lemmas.Option.{slice_get_past}
 use Rattle.cg_netlist.specs.Circuit.{Circuit, RegisterCell}
-use Rattle.cg_netlist.specs.Wiring.{net_name}
+use Rattle.cg_net.specs.Names.{net_name}
 use Rattle.cg_machine.specs.Machine.{IsNet, MachineData}
 use Rattle.cg_machine.specs.Run.{with_enables}
 use Rattle.cg_extract.proofs.LiftedMachine.{start_count}

@@ -7,9 +7,11 @@ use Rattle.std.proofs.lemmas.List.{length-map}
 use Rattle.std.proofs.lemmas.List.Elements.{All-map, All-nil, All-weaker}
 use Rattle.std.proofs.lemmas.Option.{slice_get-get_or, slice_get-map}
 use Rattle.cg_insert.proofs.OrderedNames.{named_ordered}
-use Rattle.cg_netlist.specs.Circuit.{Circuit, GatingCell, LogicCell, RegisterCell, data_inputs, is_in}
+use Rattle.cg_netlist.specs.Circuit.{Circuit, GatingCell, LogicCell, RegisterCell, data_inputs}
+use Rattle.cg_net.specs.NetSets.{is_in}
 use Rattle.cg_netlist.specs.Netlist.{IsNetlist}
-use Rattle.cg_netlist.specs.Wiring.{map_cell, map_register, net_name}
+use Rattle.cg_netlist.specs.Wiring.{map_cell, map_register}
+use Rattle.cg_net.specs.Names.{net_name}
 use Rattle.cg_parts.specs.Writable.{FunctionIsOf, IsOf, KindIsOf}
 use Rattle.cg_extract.proofs.Asked.{asked}
 use Rattle.cg_extract.proofs.Bare.{bare_formed, bare_netlist, data_is, in_order}

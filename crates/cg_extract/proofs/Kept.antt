@@ -7,13 +7,14 @@ use Rattle.std.proofs.lemmas.Bool.{both_ways, false_from_ne_true}
 use Rattle.std.proofs.lemmas.List.{append-nil, length-append, length-map}
 use Rattle.std.proofs.lemmas.Option.{same_Some}
 use Rattle.cg_netlist.specs.Circuit.{Circuit, GatingCell, LogicCell, RegisterCell, asked_nets, cell_nets, clock_nets, data_inputs}
-use Rattle.cg_netlist.specs.Circuit.{gate_nets, is_in, net_order, register_nets, shown_nets, used_nets}
+use Rattle.cg_netlist.specs.Circuit.{gate_nets, net_order, register_nets, shown_nets, used_nets}
+use Rattle.cg_net.specs.NetSets.{is_in}
 use Rattle.cg_netlist.specs.Netlist.{IsNetlist}
 use Rattle.cg_netlist.specs.WellFormed.{IsWellFormed}
 use Rattle.cg_netlist.proofs.Driven.{distinct_range, in_range, is_in-range}
 use Rattle.cg_netlist.proofs.Given.{clock_given, clock_no_gate, data_given, distinct_given, driver_within, given_driver, in_option}
-use Rattle.cg_netlist.proofs.Members.{All-member, distinct_append, distinct_apart, distinct_left, distinct_right, is_in_cases}
-use Rattle.cg_netlist.proofs.Members.{is_in_left, is_in_right, member_at, place_of_member}
+use Rattle.cg_net.proofs.Members.{All-member, distinct_apart, distinct_append, distinct_left, distinct_right, is_in_cases}
+use Rattle.cg_net.proofs.Members.{is_in_left, is_in_right, member_at, place_of_member}
 use Rattle.cg_netlist.proofs.OrderLemmas.{length-range_with_len}
 use Rattle.cg_netlist.proofs.OrderedForm.{place_found}
 use Rattle.cg_netlist.proofs.Values.{at_map, under_map}

@@ -6,15 +6,17 @@ use Rattle.std.specs.Option.{option_map, option_to_list}
 use Rattle.std.proofs.lemmas.Bool.{both_ways, eq-eqb, or_left, or_right}
 use Rattle.std.proofs.lemmas.List.{length-map}
 use Rattle.std.proofs.lemmas.Option.{slice_get-get_or, slice_get-map}
-use Rattle.cg_netlist.specs.Circuit.{Circuit, LogicCell, RegisterCell, data_inputs, gate_nets, is_in, register_nets, used_nets}
+use Rattle.cg_netlist.specs.Circuit.{Circuit, LogicCell, RegisterCell, data_inputs, gate_nets, register_nets, used_nets}
+use Rattle.cg_net.specs.NetSets.{is_in}
 use Rattle.cg_netlist.specs.Moment.{Settles, bit, function_value, register_bits, shown_bits, values_at}
-use Rattle.cg_netlist.specs.Wiring.{map_cell, map_register, net_name}
+use Rattle.cg_netlist.specs.Wiring.{map_cell, map_register}
+use Rattle.cg_net.specs.Names.{net_name}
 use Rattle.cg_netlist.proofs.ClockFree.{lowers}
 use Rattle.cg_netlist.proofs.Given.{from_option}
-use Rattle.cg_netlist.proofs.Members.{is_in_left}
+use Rattle.cg_net.proofs.Members.{is_in_left}
 use Rattle.cg_netlist.proofs.NetOrder.{registers_renumbered}
 use Rattle.cg_netlist.proofs.NetsOf.{nets_only}
-use Rattle.cg_netlist.proofs.PlaceLemmas.{mapped_at}
+use Rattle.cg_net.proofs.PlaceLemmas.{mapped_at}
 use Rattle.cg_netlist.proofs.Used.{input_is_used}
 use Rattle.cg_machine.specs.Machine.{IsInputs, IsState, values, walk_of}
 use Rattle.std.proofs.lemmas.List.{take_all}

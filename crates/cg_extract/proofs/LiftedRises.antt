@@ -6,13 +6,14 @@ use Rattle.std.specs.List.{list_any}
 use Rattle.std.specs.Option.{option_to_list}
 use Rattle.std.proofs.lemmas.Bool.{both_ways, eq-eqb, eqb-true, or_left}
 use Rattle.std.proofs.lemmas.Option.{same_Some, slice_get_within, unwrap_or-slice_get}
-use Rattle.cg_netlist.specs.Circuit.{Circuit, GatingCell, RegisterCell, asked_nets, clock_nets, gate_nets, data_inputs, is_in}
+use Rattle.cg_netlist.specs.Circuit.{Circuit, GatingCell, RegisterCell, asked_nets, clock_nets, data_inputs, gate_nets}
+use Rattle.cg_net.specs.NetSets.{is_in}
 use Rattle.cg_netlist.specs.Circuit.{used_nets}
 use Rattle.cg_netlist.specs.History.{Moment, MomentFollows, Tick, gate_bit, latches_before, next_latch, rises}
 use Rattle.cg_netlist.specs.Moment.{Settles, bit, zip_with}
 use Rattle.cg_netlist.proofs.Clocks.{Clocked, clocked_from}
 use Rattle.cg_netlist.proofs.Given.{clock_no_gate, in_option}
-use Rattle.cg_netlist.proofs.Members.{is_in_cases}
+use Rattle.cg_net.proofs.Members.{is_in_cases}
 use Rattle.cg_netlist.proofs.Values.{element_at, length-zip_with, zip_with_at}
 use Rattle.cg_machine.proofs.Lists.{all_at}
 use Rattle.cg_machine.specs.Machine.{load, values}

@@ -12,12 +12,13 @@ use Rattle.cg_cell.specs.Cover.{cover_value}
 use Rattle.cg_cell.specs.declared.fit.FitKind.TheVariants.{And2}
 use Rattle.cg_limit.specs.declared.Limit.{Limit}
 use Rattle.cg_limit.specs.declared.Limit.TheVariants.{Nets}
-use Rattle.cg_netlist.specs.Circuit.{Circuit, GatingCell, gate_nets, is_in, used_nets}
+use Rattle.cg_netlist.specs.Circuit.{Circuit, GatingCell, gate_nets, used_nets}
+use Rattle.cg_net.specs.NetSets.{is_in}
 use Rattle.cg_netlist.specs.Moment.{bit, values_at}
 use Rattle.cg_netlist.specs.WellFormed.{IsWellFormed}
 use Rattle.cg_netlist.proofs.Given.{from_option}
-use Rattle.cg_netlist.proofs.Members.{is_in_left, member_at}
-use Rattle.cg_netlist.proofs.PlaceLemmas.{mapped_at}
+use Rattle.cg_net.proofs.Members.{is_in_left, member_at}
+use Rattle.cg_net.proofs.PlaceLemmas.{mapped_at}
 use Rattle.cg_netlist.proofs.Used.{asked_is_used}
 use Rattle.cg_netlist.proofs.Values.{at_map}
 use Rattle.cg_machine.specs.Added.{add_gate, find_gate, nets_limit, next_name, or_push, push_gate, unless_found}

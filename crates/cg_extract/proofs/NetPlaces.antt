@@ -6,13 +6,14 @@ use Rattle.std.specs.Option.{option_to_list}
 use Rattle.std.proofs.lemmas.Bool.{both_ways, false_from_ne_true}
 use Rattle.std.proofs.lemmas.List.{length-append, length-map}
 use Rattle.std.proofs.lemmas.Option.{slice_get_past}
-use Rattle.cg_netlist.specs.Circuit.{Circuit, GatingCell, RegisterCell, cell_nets, clock_nets, gate_nets, is_in, register_nets}
+use Rattle.cg_netlist.specs.Circuit.{Circuit, GatingCell, RegisterCell, cell_nets, clock_nets, gate_nets, register_nets}
+use Rattle.cg_net.specs.NetSets.{is_in}
 use Rattle.cg_netlist.specs.Netlist.{IsNetlist}
 use Rattle.cg_netlist.proofs.Driven.{in_range}
 use Rattle.cg_netlist.proofs.Given.{clock_given, clock_no_gate, driver_within, from_option, gate_given, given_driver, in_option}
-use Rattle.cg_netlist.proofs.Members.{is_in_cases, member_at}
+use Rattle.cg_net.proofs.Members.{is_in_cases, member_at}
 use Rattle.cg_netlist.proofs.OrderLemmas.{length-range_with_len}
-use Rattle.cg_netlist.proofs.PlaceLemmas.{place_is}
+use Rattle.cg_net.proofs.PlaceLemmas.{place_is}
 use Rattle.cg_netlist.proofs.Values.{at_map, split_lists}
 use Rattle.cg_machine.proofs.Lists.{all_at, get_front}
 use Rattle.cg_extract.proofs.Kept.{order_is, order_long, order_once}

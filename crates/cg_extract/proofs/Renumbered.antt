@@ -5,8 +5,8 @@ use Rattle.std.specs.List.{IsDistinct, filter, position_from}
 use Rattle.std.specs.Option.{option_map, option_to_list}
 use Rattle.std.proofs.lemmas.Bool.{both_ways, cases_Bool, false_from_ne_true, eq-eqb, or_left, or_right}
 use Rattle.std.proofs.lemmas.List.{map-append}
-use Rattle.cg_netlist.specs.Circuit.{is_in}
-use Rattle.cg_netlist.proofs.Members.{distinct_cons, distinct_head, distinct_tail}
+use Rattle.cg_net.specs.NetSets.{is_in}
+use Rattle.cg_net.proofs.Members.{distinct_cons, distinct_head, distinct_tail}
 use Rattle.cg_netlist.proofs.NetOrder.{from_mapped, in_mapped}
 
 pub option_renumbered : (f : ℕ → ℕ) (o : Option ℕ) → option_to_list (option_map f o) ≡ map f (option_to_list o)

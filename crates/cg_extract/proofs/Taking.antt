@@ -9,15 +9,15 @@ use Rattle.std.proofs.lemmas.List.{append-nil, drop_all, length-map, length-repl
 use Rattle.std.proofs.lemmas.List.{take-append-drop, take_all}
 use Rattle.std.proofs.lemmas.Option.{slice_get_within}
 use Rattle.cg_netlist.specs.Chains.{chain, chain_cell, gate_order}
-use Rattle.cg_netlist.specs.Circuit.{Circuit, GatingCell, RegisterCell, gate_nets, is_in}
+use Rattle.cg_netlist.specs.Circuit.{Circuit, GatingCell, RegisterCell, gate_nets}
+use Rattle.cg_net.specs.NetSets.{is_in}
 use Rattle.cg_netlist.specs.Moment.{values_at}
 use Rattle.cg_netlist.proofs.CellFits.{walk_within}
 use Rattle.cg_netlist.proofs.Clocks.{pin_clocked}
 use Rattle.cg_netlist.proofs.DriverTable.{gater_net_within}
 use Rattle.cg_netlist.proofs.Given.{clock_given, driver_within, gate_given, given_driver, in_option}
-use Rattle.cg_netlist.proofs.Members.{is_in_cases, member_at}
-use Rattle.cg_netlist.proofs.RankingLemmas.{take_next}
-use Rattle.cg_netlist.proofs.TableLemmas.{slice_get-set_other, slice_get-set_same}
+use Rattle.cg_net.proofs.Members.{is_in_cases, member_at}
+use Rattle.cg_net.proofs.TableLemmas.{slice_get-set_other, slice_get-set_same, take_next}
 use Rattle.cg_netlist.proofs.Used.{asked_is_used}
 use Rattle.cg_netlist.proofs.Values.{element_at, values_at-append}
 use Rattle.cg_netlist.proofs.Walks.{drop_at}

@@ -4,7 +4,7 @@ use Rattle.std.proofs.Common.{◌++◌, List}
 use Rattle.cg_netlist.specs.Circuit.{Circuit}
 use Rattle.cg_builder.specs.Building.{Building}
 use Rattle.cg_parts.specs.Part.{Part}
-use Rattle.cg_netlist.specs.Wiring.{NetName}
+use Rattle.cg_net.specs.Names.{NetName}
 use Rattle.cg_insert.proofs.ToldParts.{may_front}
 use Rattle.cg_insert.specs.inner.GatedParts.{cell_parts, clock_parts, clocked_parts, input_parts, output_parts}
 use Rattle.cg_insert.specs.inner.Telling.{MayTell}

@@ -3,11 +3,13 @@ use Rattle.std.specs.Prelude.{◌≡◌, ℕ, ◌≤◌, Bool, false, true, List
 use Rattle.std.specs.List.{All}
 use Rattle.cg_cell.specs.Cell.{CellData}
 use Rattle.cg_cell.specs.declared.fit.FitKind.TheVariants.{And2}
-use Rattle.cg_netlist.specs.Circuit.{Circuit, GatingCell, data_inputs, is_in}
+use Rattle.cg_netlist.specs.Circuit.{Circuit, GatingCell, data_inputs}
+use Rattle.cg_net.specs.NetSets.{is_in}
 use Rattle.cg_netlist.specs.History.{IsLawful, IsStart, IsWaveform, Moment, Tick, outputs_of}
 use Rattle.cg_netlist.specs.Moment.{Settles}
 use Rattle.cg_netlist.specs.Netlist.{IsNetlist}
-use Rattle.cg_netlist.specs.Wiring.{named, net_name}
+use Rattle.cg_netlist.specs.Wiring.{named}
+use Rattle.cg_net.specs.Names.{net_name}
 use Rattle.cg_parts.specs.Writable.{IsWritable}
 use Rattle.cg_machine.specs.Added.{HasNames, own_netlist}
 use Rattle.cg_machine.specs.Machine.{IsMachine, MachineData, enable_of, values}

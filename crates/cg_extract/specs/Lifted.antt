@@ -5,7 +5,8 @@ use Rattle.std.specs.List.{All, IsDistinct, position_from}
 use Rattle.cg_cell.specs.Name.{is_name}
 use Rattle.cg_cell.specs.declared.fit.FitKind.TheVariants.{And2}
 use Rattle.cg_netlist.specs.Chains.{gate_order}
-use Rattle.cg_netlist.specs.Circuit.{Circuit, GatingCell, RegisterCell, gate_nets, is_in, net_order}
+use Rattle.cg_netlist.specs.Circuit.{Circuit, GatingCell, RegisterCell, gate_nets, net_order}
+use Rattle.cg_net.specs.NetSets.{is_in}
 use Rattle.cg_netlist.specs.Moment.{values_at}
 use Rattle.cg_netlist.specs.Netlist.{IsNetlist}
 use Rattle.cg_netlist.specs.Ordered.{ordered, place_in}

@@ -5,7 +5,7 @@ ghost use Rattle.cg_netlist.specs.View.{function_seen, kind_seen};
 
 use crate::names::copy_names;
 use cg_cell::name::Name;
-use cg_netlist::id::{CellId, RegId};
+use cg_net::id::{CellId, RegId};
 use cg_netlist::netlist::Netlist;
 use cg_netlist::parts::{Logic, LogicFunction, Parts, Register, RegisterKind};
 use cg_netlist::view::{Function, RegKind};

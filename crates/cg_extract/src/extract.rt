@@ -14,7 +14,7 @@ use crate::strip::bare;
 use cg_cell::name::Name;
 use cg_list::Seq;
 use cg_machine::machine::Machine;
-use cg_netlist::id::{GateClockId, NetId};
+use cg_net::id::{GateClockId, NetId};
 use cg_netlist::netlist::Netlist;
 use std::alloc::{AllocError, Global};
 

@@ -11,7 +11,7 @@ ghost use Rattle.cg_machine.specs.Start.{machine_of};
 use crate::number::number;
 use cg_cell::fit::FitKind;
 use cg_machine::machine::Machine;
-use cg_netlist::id::{GateClockId, NetId, RegId};
+use cg_net::id::{GateClockId, NetId, RegId};
 use cg_netlist::netlist::Netlist;
 use std::alloc::{AllocError, Global};
 

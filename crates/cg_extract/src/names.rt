@@ -3,8 +3,8 @@
 ghost use Rattle.std.specs.Prelude.{◌≡◌, IfOk};
 ghost use Rattle.std.specs.List.{range_with_len};
 
-use cg_netlist::id::NetId;
-use cg_netlist::names::{NetNames, OrderedNames};
+use cg_net::id::NetId;
+use cg_net::names::{NetNames, OrderedNames};
 use cg_netlist::netlist::Netlist;
 use std::alloc::{AllocError, Global};
 

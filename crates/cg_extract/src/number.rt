@@ -2,11 +2,12 @@
 
 ghost use Rattle.std.specs.Prelude.{◌≡◌, ◌<◌, ◌≤◌, ◌+◌, ◌^◌, true, length, slice_get, slice_index_or, IfOk};
 ghost use Rattle.cg_extract.specs.Lifted.{kept_nets, number_of, origins};
-ghost use Rattle.cg_netlist.specs.Circuit.{gate_nets, is_in};
+ghost use Rattle.cg_netlist.specs.Circuit.{gate_nets};
+ghost use Rattle.cg_net.specs.NetSets.{is_in};
 ghost use Rattle.cg_netlist.specs.Netlist.{IsNetlist};
 
 use cg_machine::machine::Machine;
-use cg_netlist::id::{GateClockId, NetId};
+use cg_net::id::{GateClockId, NetId};
 use cg_netlist::netlist::Netlist;
 use std::alloc::{AllocError, Global};
 

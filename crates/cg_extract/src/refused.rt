@@ -3,9 +3,10 @@
 ghost use Rattle.std.specs.Prelude.{◌≡◌, ◌<◌, ℕ, Some, length, not, slice_get};
 ghost use Rattle.std.specs.Option.{option_to_list};
 ghost use Rattle.cg_extract.specs.Lifted.{first_refused, is_refused};
-ghost use Rattle.cg_netlist.specs.Circuit.{GatingCell, is_in};
+ghost use Rattle.cg_netlist.specs.Circuit.{GatingCell};
+ghost use Rattle.cg_net.specs.NetSets.{is_in};
 
-use cg_netlist::id::{GateClockId, NetId};
+use cg_net::id::{GateClockId, NetId};
 use cg_netlist::netlist::Netlist;
 
 /// The first gating cell that has a test pin, or whose clock pin is driven by a gating cell while there is no cell for the and of

@@ -16,7 +16,7 @@ use cg_insert::logic::tell_cells;
 use cg_insert::names::GatedNames;
 use cg_insert::telling::{tell_clock, tell_inputs, tell_outputs};
 use cg_netlist::fault::AddFault;
-use cg_netlist::id::{NetId, RegId};
+use cg_net::id::{NetId, RegId};
 use cg_netlist::netlist::Netlist;
 use cg_netlist::view::RegView;
 use std::alloc::{AllocError, Global};

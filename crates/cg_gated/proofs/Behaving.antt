@@ -13,14 +13,16 @@ use Rattle.cg_insert.proofs.OrderedNames.{named_at}
 use Rattle.cg_machine.specs.Added.{own_nets}
 use Rattle.cg_machine.specs.Machine.{IsMachine, MachineData}
 use Rattle.cg_machine.specs.Run.{ones}
-use Rattle.cg_netlist.specs.Circuit.{Circuit, data_inputs, is_in, net_order, used_nets}
+use Rattle.cg_netlist.specs.Circuit.{Circuit, data_inputs, net_order, used_nets}
+use Rattle.cg_net.specs.NetSets.{is_in}
 use Rattle.cg_netlist.specs.History.{AreTicks, IsWaveform, Tick}
 use Rattle.cg_netlist.specs.Ordered.{place_in}
 use Rattle.cg_netlist.specs.WellFormed.{IsWellFormed}
-use Rattle.cg_netlist.specs.Wiring.{NetName, Wiring, map_register, net_name}
+use Rattle.cg_net.specs.Names.{NetName, net_name}
+use Rattle.cg_netlist.specs.Wiring.{Wiring, map_register}
 use Rattle.cg_netlist.proofs.Given.{data_given, driver_within, given_driver}
 use Rattle.cg_netlist.proofs.Histories.{has_history, has_one_history}
-use Rattle.cg_netlist.proofs.Members.{All-member}
+use Rattle.cg_net.proofs.Members.{All-member}
 use Rattle.cg_netlist.proofs.OrderedForm.{data_is as data_ordered}
 use Rattle.cg_netlist.proofs.Values.{length-zip_with, map_same}
 use Rattle.cg_test_input.specs.TestRun.{ticks_of}

@@ -9,14 +9,16 @@ use Rattle.std.proofs.lemmas.Option.{none-some, same_Some}
 use Rattle.cg_insert.specs.Insert.{gated, placed_gate, reclocked}
 use Rattle.cg_insert.proofs.OrderedNames.{named_ordered}
 use Rattle.cg_machine.specs.Machine.{IsDelay as MachineDelay, MachineData}
-use Rattle.cg_netlist.specs.Circuit.{Circuit, LogicCell, RegisterCell, cell_nets, given_nets, is_in, net_order, shown_nets}
+use Rattle.cg_netlist.specs.Circuit.{Circuit, LogicCell, RegisterCell, cell_nets, given_nets, net_order, shown_nets}
+use Rattle.cg_net.specs.NetSets.{is_in}
 use Rattle.cg_netlist.specs.Circuit.{used_nets}
 use Rattle.cg_netlist.specs.Moment.{zip_with}
 use Rattle.cg_netlist.specs.Ordered.{place_in}
 use Rattle.cg_netlist.specs.WellFormed.{IsWellFormed}
-use Rattle.cg_netlist.specs.Wiring.{NetName, Wiring, map_cell, map_outputs, map_register, named, net_name}
+use Rattle.cg_net.specs.Names.{NetName, net_name}
+use Rattle.cg_netlist.specs.Wiring.{Wiring, map_cell, map_outputs, map_register, named}
 use Rattle.cg_netlist.proofs.Given.{clock_given, driver_within, given_driver, register_given}
-use Rattle.cg_netlist.proofs.Members.{All-member, is_in_right, member_at}
+use Rattle.cg_net.proofs.Members.{All-member, is_in_right, member_at}
 use Rattle.cg_netlist.proofs.Used.{data_is_used, in_flat, input_is_used}
 use Rattle.cg_netlist.proofs.Values.{at_map, map_same}
 use Rattle.cg_extract.specs.Lifted.{bare, number_of, on_clock, ungated}

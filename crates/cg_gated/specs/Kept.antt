@@ -3,7 +3,8 @@ use Rattle.std.specs.Prelude.{◌≡◌, ◌≤◌, ℕ, length, map, slice_get,
 use Rattle.std.specs.Option.{option_map}
 use Rattle.cg_netlist.specs.Circuit.{Circuit, LogicCell, RegisterCell}
 use Rattle.cg_netlist.specs.declared.parts.RegisterKind.TheVariants.{Plain}
-use Rattle.cg_netlist.specs.Wiring.{NetName, map_cell, map_outputs, net_name}
+use Rattle.cg_net.specs.Names.{NetName, net_name}
+use Rattle.cg_netlist.specs.Wiring.{map_cell, map_outputs}
 
 -- a register by the names of its nets, but for its clock
 abbrev pub unclocked : Circuit → RegisterCell ℕ ℕ → RegisterCell NetName (Option NetName)

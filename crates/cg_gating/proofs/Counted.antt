@@ -18,10 +18,11 @@ use Rattle.cg_lists.specs.Literals.{IdleData, IsIdleData}
 use Rattle.cg_machine.proofs.Bits.{length-each}
 use Rattle.cg_machine.specs.Machine.{MachineData, next, step, values}
 use Rattle.cg_machine.specs.Run.{state_now, states_from}
-use Rattle.cg_netlist.specs.Circuit.{Circuit, data_inputs, is_in}
+use Rattle.cg_netlist.specs.Circuit.{Circuit, data_inputs}
+use Rattle.cg_net.specs.NetSets.{is_in}
 use Rattle.cg_netlist.specs.History.{AreTicks, LawfulFrom, Moment, Tick, gate_bit}
 use Rattle.cg_netlist.specs.Moment.{bit, zip_with}
-use Rattle.cg_netlist.specs.Wiring.{net_name}
+use Rattle.cg_net.specs.Names.{net_name}
 use Rattle.cg_netlist.proofs.Each.{from_recursion}
 use Rattle.cg_report.specs.Idle.{CountZeros, low_moments, zeros_of}
 use Rattle.cg_stimulus.specs.Inputs.{IsFor, IsStimulus, Rows}

@@ -25,8 +25,8 @@ use Rattle.cg_machine.specs.Machine.{IsMachine, MachineData}
 use Rattle.cg_machine.specs.declared.stage.Stage.{Stage}
 use Rattle.cg_machine.specs.declared.stage.StageKind.{StageKind}
 use Rattle.cg_machine.specs.declared.stage.StageKind.TheVariants.{Hold, Stable, Unseen}
-use Rattle.cg_netlist.specs.Circuit.{is_in}
-use Rattle.cg_netlist.proofs.Members.{All-from_members}
+use Rattle.cg_net.specs.NetSets.{is_in}
+use Rattle.cg_net.proofs.Members.{All-from_members}
 use Rattle.cg_plan.specs.Laws.{IsInsertable, IsTurn}
 use Rattle.cg_plan.specs.Plan.{Turn}
 use Rattle.cg_plan.specs.StageClaims.{NamedClaim, all_claims, claims_by, claims_of, target_claim}

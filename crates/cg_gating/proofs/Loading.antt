@@ -11,7 +11,7 @@ use Rattle.cg_insert.specs.Insertion.{RisesAre}
 use Rattle.cg_machine.specs.Machine.{MachineData, enable_of, load, values}
 use Rattle.cg_netlist.specs.Circuit.{Circuit, RegisterCell, data_inputs}
 use Rattle.cg_netlist.specs.History.{AreTicks, IsLawful, IsStart, IsWaveform, Moment, Tick, rises}
-use Rattle.cg_netlist.specs.Wiring.{NetName}
+use Rattle.cg_net.specs.Names.{NetName}
 use Rattle.cg_plan.specs.Plan.{Plan, Turn, after_outcome, plan_of}
 use Rattle.cg_plan.proofs.AllSafe.{plans_safe}
 use Rattle.cg_gating.specs.Headline.{Headline, ShowsSame, with_bit, with_bits}

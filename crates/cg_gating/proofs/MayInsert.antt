@@ -20,8 +20,8 @@ use Rattle.cg_machine.specs.Added.{own_netlist}
 use Rattle.cg_machine.specs.Machine.{MachineData, added_name, additions}
 use Rattle.cg_machine.specs.Start.{begins}
 use Rattle.cg_netlist.specs.Circuit.{Circuit}
-use Rattle.cg_netlist.specs.Wiring.{net_name}
-use Rattle.cg_netlist.proofs.Members.{All-from_members}
+use Rattle.cg_net.specs.Names.{net_name}
+use Rattle.cg_net.proofs.Members.{All-from_members}
 use Rattle.cg_netlist.proofs.Each.{by_recursion, each_together, from_recursion}
 use Rattle.cg_gating.specs.Laws.{IsProper}
 use Rattle.cg_gating.specs.Request.{IsFree, MayGate, RequestData, gating_of}

@@ -8,7 +8,7 @@ use Rattle.cg_gated.specs.Gated.{Behaves, Gating, own_wave, planned}
 use Rattle.cg_machine.specs.Machine.{MachineData}
 use Rattle.cg_netlist.specs.Circuit.{Circuit, data_inputs}
 use Rattle.cg_netlist.specs.History.{AreTicks, BeginsLow, IsWaveform, Tick}
-use Rattle.cg_netlist.specs.Wiring.{NetName, net_name}
+use Rattle.cg_net.specs.Names.{NetName, net_name}
 use Rattle.cg_gating.specs.Headline.{with_bits}
 
 plain_wave : (wave : List Tick) (bits : List Bool) → length bits ≡ length wave → with_bits None wave bits ≡ wave

@@ -13,7 +13,7 @@ use Rattle.cg_netlist.specs.Circuit.{Circuit}
 use Rattle.cg_netlist.specs.History.{IsLawful, IsStart, IsWaveform, Moment, Tick, outputs_of}
 use Rattle.cg_netlist.specs.Moment.{zip_with}
 use Rattle.cg_netlist.specs.WellFormed.{IsWellFormed}
-use Rattle.cg_netlist.specs.Wiring.{NetName, net_name}
+use Rattle.cg_net.specs.Names.{NetName, net_name}
 use Rattle.cg_plan.specs.Plan.{Turn, plan_of, wide_of}
 use Rattle.cg_plan.specs.Told.{AreCertified, AreTold, ToldPlan, plan_claims}
 use Rattle.cg_plan.specs.declared.outcome.Outcome.TheVariants.{Inserted}

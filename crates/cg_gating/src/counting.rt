@@ -8,7 +8,7 @@ ghost use Rattle.cg_report.specs.Idle.{low_moments, zeros_of};
 ghost use Rattle.cg_stimulus.specs.Inputs.{IsFor};
 ghost use Rattle.cg_stimulus.specs.Played.{IsPlayed};
 
-use cg_netlist::id::NetId;
+use cg_net::id::NetId;
 use cg_netlist::netlist::Netlist;
 use cg_report::idle::idle_zeros;
 use cg_stimulus::played::one_played_history;

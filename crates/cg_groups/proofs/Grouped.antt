@@ -7,7 +7,7 @@ use Rattle.std.proofs.lemmas.Bool.{both_ways, cases_Bool, eqb-true, eq-eqb, or_c
 use Rattle.std.proofs.lemmas.List.Elements.{filter-append, filter_map-append}
 use Rattle.std.proofs.lemmas.List.Folds.{find-append}
 use Rattle.std.proofs.lemmas.Option.{none-some, same_Some}
-use Rattle.cg_netlist.specs.Circuit.{is_in}
+use Rattle.cg_net.specs.NetSets.{is_in}
 use Rattle.cg_lists.specs.Groups.{Group, group_of, groups, has_key, is_first}
 use Rattle.cg_groups.specs.inner.Grouping.{extend, with_key, with_member}
 

@@ -11,22 +11,14 @@ use Rattle.std.proofs.lemmas.Option.{none-some, same_Some}
 use Rattle.cg_groups.specs.declared.key.Key.{Key}
 use Rattle.cg_groups.specs.Keys.{key_at, key_seen}
 use Rattle.cg_groups.specs.Leaving.{leaves, without}
-use Rattle.cg_netlist.specs.Circuit.{is_in}
-use Rattle.cg_netlist.proofs.Members.{is_in-append}
-use Rattle.cg_netlist.proofs.TableLemmas.{slice_get-set_other, slice_get-set_same}
+use Rattle.cg_net.specs.NetSets.{is_in}
+use Rattle.cg_net.proofs.Members.{is_in-append}
+use Rattle.cg_net.proofs.TableLemmas.{slice_get-set_other, slice_get-set_same}
 use Rattle.cg_lists.specs.Rounds.{kept_key, left_out, same_kind}
 use Rattle.cg_lists.specs.StableList.{StableKey}
 use Rattle.cg_machine.specs.declared.stage.Earlier.{Earlier}
 use Rattle.cg_machine.specs.declared.stage.Stage.{Stage}
 use Rattle.cg_machine.specs.declared.stage.StageKind.{StageKind}
-
-pub take_end : {X : Type 0} (xs : List X) (i : ℕ) (x : X) → slice_get xs i ≡ Some x → take (i + 1) xs ≡ take i xs ++ x ∷ []
-take_end {X = X} xs i x at = let e : i + 1 ≡ suc i = omega arith in ap (λ n. take n xs) e ∙ go xs i at
-  where
-    go : (ys : List X) (k : ℕ) → slice_get ys k ≡ Some x → take (suc k) ys ≡ take k ys ++ x ∷ []
-    go [] k is = absurd (none-some x is)
-    go (y ∷ ys) zero is = ap (λ z. z ∷ []) (same_Some y x is)
-    go (y ∷ ys) (suc k) is = ap (λ l. y ∷ l) (go ys k is)
 
 or-none : (b : Bool) → (b || false) ≡ b
 or-none true = refl
@@ -37,7 +29,7 @@ module _ {K : Type 0} (kind : StageKind) (had : K → Stage → Bool) (earlier :
   more_out : (k : K) → left_out kind had (take (i + 1) earlier) r k ≡ (left_out kind had (take i earlier) r k || (same_kind e.stage.kind kind && is_in e.stage.regs r && (e.inserted || had k e.stage)))
   more_out k =
       let test : Earlier → Bool = λ e. same_kind e.stage.kind kind && is_in e.stage.regs r && (e.inserted || had k e.stage) in
-      ap (list_any test) (take_end earlier i e at) ∙ (list_any-append test (take i earlier) (e ∷ []) ∙ ap (λ b. left_out kind had (take i earlier) r k || b) (or-none (test e)))
+      ap (list_any test) (take_next earlier i e at) ∙ (list_any-append test (take i earlier) (e ∷ []) ∙ ap (λ b. left_out kind had (take i earlier) r k || b) (or-none (test e)))
 
   -- the key of a register that stood in the stage, unless the stage leaves it out
   abbrev pub after : Option K → Option K
@@ -124,7 +116,7 @@ module _ (inserted : Bool) (tried : StableKey) where
   one_more regs i p r old now new at before is =
       is ∙ (ap (λ o. if nat_eq r p then without inserted tried o else o) before
       ∙ (go (is_in (take i regs) r) (nat_eq r p)
-      ∙ ap (λ b. if b then without inserted tried old else old) (sym (ap (λ l. is_in l r) (take_end regs i p at) ∙ (is_in-append (take i regs) (p ∷ []) r ∙ ap (λ b. is_in (take i regs) r || b) (or-none (nat_eq r p)))))))
+      ∙ ap (λ b. if b then without inserted tried old else old) (sym (ap (λ l. is_in l r) (take_next regs i p at) ∙ (is_in-append (take i regs) (p ∷ []) r ∙ ap (λ b. is_in (take i regs) r || b) (or-none (nat_eq r p)))))))
     where
       go : (b c : Bool) → (if c then without inserted tried (if b then without inserted tried old else old) else (if b then without inserted tried old else old)) ≡ (if (b || c) then without inserted tried old else old)
       go true true = twice old

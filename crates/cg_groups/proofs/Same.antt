@@ -4,7 +4,7 @@ use Rattle.std.proofs.Common.{option_and_then, refl, ◌∙◌, ap}
 use Rattle.std.specs.List.{cons_option, filter, filter_map, find}
 use Rattle.std.specs.Option.{option_map_or}
 use Rattle.std.proofs.lemmas.Bool.{eq-eqb, or_left, or_right}
-use Rattle.cg_netlist.specs.Circuit.{is_in}
+use Rattle.cg_net.specs.NetSets.{is_in}
 use Rattle.cg_lists.specs.Groups.{Group, group_of, groups, has_key, is_first}
 
 pub same_filter : (p q : ℕ → Bool) (xs : List ℕ) → ((x : ℕ) → is_in xs x ≡ true → p x ≡ q x) → filter p xs ≡ filter q xs

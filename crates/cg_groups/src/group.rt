@@ -10,7 +10,7 @@ ghost use Rattle.cg_lists.specs.StableList.{same_stable};
 
 use crate::key::Key;
 use cg_list::Seq;
-use cg_netlist::id::RegId;
+use cg_net::id::RegId;
 use indexmap::IndexSet;
 use std::alloc::{AllocError, Global};
 

@@ -4,10 +4,10 @@ ghost use Rattle.std.specs.Prelude.{◌≡◌, ℕ, false, nat_eq, if◌then◌e
 ghost use Rattle.std.specs.Option.{option_map, option_map_or};
 ghost use Rattle.cg_groups.specs.Keys.{key_at, key_seen};
 ghost use Rattle.cg_groups.specs.Leaving.{leaves, without};
-ghost use Rattle.cg_netlist.specs.Circuit.{is_in};
+ghost use Rattle.cg_net.specs.NetSets.{is_in};
 
 use crate::key::Key;
-use cg_netlist::id::RegId;
+use cg_net::id::RegId;
 
 /// Takes out the keys of the registers of a stage that was tried, where it was inserted, or they have the key that it had.
 pub fn take_out(regs: &[RegId], inserted: bool, tried: &Key, keys: &mut [Option<Key>])

@@ -2,7 +2,7 @@
 
 ghost use Rattle.std.specs.Prelude.{◌≡◌, ℕ, ◌<◌, true};
 ghost use Rattle.std.specs.List.{filter, range_with_len};
-ghost use Rattle.cg_netlist.specs.Circuit.{is_in};
+ghost use Rattle.cg_net.specs.NetSets.{is_in};
 
 /// The numbers in rising order, each once.
 pub fn rising(numbers: Vec<u32>) -> Vec<u32>

@@ -12,7 +12,8 @@ use Rattle.cg_claim.specs.declared.leaf.LeafSource.{LeafSource}
 use Rattle.cg_claim.specs.declared.leaf.LeafSource.TheVariants.{Input as InputOf, Register as RegisterOf}
 use Rattle.cg_lists.specs.HoldList.{hold_width}
 use Rattle.cg_machine.specs.Machine.{MachineData, enable_of, walk_of}
-use Rattle.cg_netlist.specs.Circuit.{LogicCell, RegisterCell, data_inputs, is_in, shown_nets}
+use Rattle.cg_netlist.specs.Circuit.{LogicCell, RegisterCell, data_inputs, shown_nets}
+use Rattle.cg_net.specs.NetSets.{is_in}
 use Rattle.cg_cone.specs.Cone.{cone_of}
 
 cone_none : (cells : List (LogicCell ℕ)) → cone_of cells [] ≡ []

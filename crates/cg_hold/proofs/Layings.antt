@@ -17,14 +17,16 @@ use Rattle.cg_machine.specs.Machine.{IsInputs, IsMachine, IsState, MachineData, 
 use Rattle.cg_netlist.proofs.Driven.{in_range}
 use Rattle.cg_netlist.proofs.CellFits.{walk_within}
 use Rattle.cg_netlist.proofs.Given.{driver_within, given_driver, given_no_cell, given_within, data_given}
-use Rattle.cg_netlist.proofs.Members.{is_in_cases, member_at}
+use Rattle.cg_net.proofs.Members.{is_in_cases, member_at}
 use Rattle.cg_netlist.proofs.NetsOf.{beside_at}
 use Rattle.cg_netlist.proofs.Values.{bit_shown, element_at, length-values_at, values_at-append, values_by}
 use Rattle.cg_netlist.proofs.WalkLawsHold.{walk_leaves_moment}
-use Rattle.cg_netlist.specs.Circuit.{Circuit, LogicCell, data_inputs, given_nets, is_in}
+use Rattle.cg_netlist.specs.Circuit.{Circuit, LogicCell, data_inputs, given_nets}
+use Rattle.cg_net.specs.NetSets.{is_in}
 use Rattle.cg_netlist.specs.Moment.{bit, function_value, values_at}
 use Rattle.cg_netlist.specs.Nets.{beside, put_cells, walk_order}
-use Rattle.cg_unroll.proofs.Fronts.{take_end, take_whole}
+use Rattle.cg_net.proofs.TableLemmas.{take_end}
+use Rattle.cg_unroll.proofs.Fronts.{take_whole}
 
 -- no cell, one, and some behind others
 pub lays_none : (words : List ℕ) → Lays [] words words

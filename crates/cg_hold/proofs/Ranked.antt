@@ -15,9 +15,9 @@ use Rattle.cg_lists.specs.Literals.{IdleData, IsIdleData, both_literals, by_coun
 use Rattle.cg_lists.specs.Supports.{all_nets, in_net_order}
 use Rattle.cg_machine.specs.Claims.{Literal}
 use Rattle.cg_machine.specs.Machine.{IsMachine, MachineData}
-use Rattle.cg_netlist.proofs.Members.{All-member, member_at}
+use Rattle.cg_net.proofs.Members.{All-member, member_at}
 use Rattle.cg_netlist.proofs.RisingPlaces.{Rises, rising_same}
-use Rattle.cg_netlist.specs.Circuit.{is_in}
+use Rattle.cg_net.specs.NetSets.{is_in}
 use Rattle.cg_hold.specs.inner.Packed.{literal_place, packed, unpacked}
 
 -- without a stimulus the order is that of the nets

@@ -22,8 +22,9 @@ use Rattle.cg_lists.specs.HoldList.{is_large}
 use Rattle.cg_machine.specs.Claims.{Literal}
 use Rattle.cg_machine.specs.Machine.{IsMachine, MachineData, enable_of, walk_of}
 use Rattle.cg_cone.proofs.Cones.{cone_has, cone_is, from_way}
-use Rattle.cg_netlist.proofs.Members.{is_in_left}
-use Rattle.cg_netlist.specs.Circuit.{LogicCell, is_in}
+use Rattle.cg_net.proofs.Members.{is_in_left}
+use Rattle.cg_netlist.specs.Circuit.{LogicCell}
+use Rattle.cg_net.specs.NetSets.{is_in}
 use Rattle.cg_cone.specs.Cone.{IsInCone, cone_of}
 use Rattle.cg_lists.specs.Laws.{HoldWidthsAreOne}
 use Rattle.cg_unroll.specs.Claims.{IsClaim}

@@ -25,8 +25,8 @@ use Rattle.cg_lists.specs.Supports.{free_registers}
 use Rattle.cg_machine.specs.Claims.{Literal}
 use Rattle.cg_machine.specs.Machine.{MachineData, enable_of}
 use Rattle.cg_machine.specs.declared.stage.Stage.{Stage}
-use Rattle.cg_netlist.proofs.TableLemmas.{slice_get-set_other, slice_get-set_same}
-use Rattle.cg_netlist.specs.Circuit.{is_in}
+use Rattle.cg_net.proofs.TableLemmas.{slice_get-set_other, slice_get-set_same}
+use Rattle.cg_net.specs.NetSets.{is_in}
 use Rattle.cg_netlist.specs.declared.fault.AddFault.{AddFault}
 use Rattle.cg_netlist.specs.declared.fault.AddFault.TheVariants.{Limit as LimitFault, NoMemory}
 use Rattle.cg_hold.specs.declared.choice.Choice.{Choice}

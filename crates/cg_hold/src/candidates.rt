@@ -18,7 +18,7 @@ use cg_lists::idle::Idle;
 use cg_machine::machine::Machine;
 use cg_machine::stage::{NetLit, Stage, StageKind};
 use cg_netlist::fault::AddFault;
-use cg_netlist::id::{NetId, RegId};
+use cg_net::id::{NetId, RegId};
 use std::alloc::{AllocError, Global};
 
 /// The hold stages of a machine.

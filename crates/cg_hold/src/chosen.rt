@@ -22,7 +22,7 @@ use cg_lists::idle::Idle;
 use cg_machine::machine::Machine;
 use cg_machine::stage::NetLit;
 use cg_netlist::fault::AddFault;
-use cg_netlist::id::RegId;
+use cg_net::id::RegId;
 use std::alloc::{AllocError, Global};
 
 /// What came of registers.

@@ -18,7 +18,7 @@ use crate::words::{has_one, inverse};
 use cg_list::Seq;
 use cg_machine::machine::Machine;
 use cg_machine::stage::NetLit;
-use cg_netlist::id::RegId;
+use cg_net::id::RegId;
 use std::alloc::{AllocError, Global};
 
 /// 64 cycles of a machine, each in a lane of these words.

@@ -6,13 +6,13 @@ ghost use Rattle.std.specs.Option.{option_copied};
 ghost use Rattle.cg_hold.specs.inner.Packed.{packed, unpacked};
 ghost use Rattle.cg_lists.specs.Literals.{FitsIdle, IsIdleData, both_literals, by_count, literals_of};
 ghost use Rattle.cg_lists.specs.Supports.{in_net_order, input_cone};
-ghost use Rattle.cg_netlist.specs.Circuit.{is_in};
+ghost use Rattle.cg_net.specs.NetSets.{is_in};
 
 use cg_groups::order::rising;
 use cg_lists::idle::Idle;
 use cg_machine::machine::Machine;
 use cg_machine::stage::NetLit;
-use cg_netlist::id::{NetId, RegId};
+use cg_net::id::{NetId, RegId};
 use cg_support::finder::SupportFinder;
 use std::alloc::{AllocError, Global};
 

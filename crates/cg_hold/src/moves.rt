@@ -14,7 +14,7 @@ ghost use Rattle.cg_netlist.specs.Moment.{cell_value, values_at};
 use crate::words::{cell_word, inverse};
 use cg_cell::cell::CellType;
 use cg_machine::machine::Machine;
-use cg_netlist::id::{NetId, RegId};
+use cg_net::id::{NetId, RegId};
 use cg_netlist::netlist::Netlist;
 use cg_netlist::view::RegKind;
 use cg_netlist::walk::gather;

@@ -13,7 +13,7 @@ ghost use Rattle.cg_limit.specs.Answers.{OrNoMemory};
 ghost use Rattle.cg_lists.specs.HoldList.{hold_width, serves};
 ghost use Rattle.cg_machine.specs.Machine.{IsMachine, MachineData};
 ghost use Rattle.cg_limit.specs.declared.TheConstants.{MOST_CLAIM_NODES};
-ghost use Rattle.cg_netlist.specs.Circuit.{is_in};
+ghost use Rattle.cg_net.specs.NetSets.{is_in};
 ghost use Rattle.cg_netlist.specs.declared.fault.AddFault.TheVariants.{NoMemory};
 ghost use Rattle.cg_unroll.specs.Claims.{IsClaim};
 
@@ -27,7 +27,7 @@ use cg_lists::laws::list_laws;
 use cg_machine::machine::Machine;
 use cg_machine::stage::NetLit;
 use cg_netlist::fault::AddFault;
-use cg_netlist::id::{NetId, RegId};
+use cg_net::id::{NetId, RegId};
 use cg_support::finder::SupportFinder;
 use cg_unroll::claim::ClaimFault;
 use cg_unroll::unroller::Unroller;

@@ -11,7 +11,7 @@ use Rattle.cg_netlist.proofs.Values.{element_at, length-zip_with, zip_with_at}
 use Rattle.cg_netlist.specs.Circuit.{GatingCell, RegisterCell}
 use Rattle.cg_netlist.specs.Ordered.{place_in}
 use Rattle.cg_parts.specs.Part.{Part}
-use Rattle.cg_netlist.specs.Wiring.{NetName}
+use Rattle.cg_net.specs.Names.{NetName}
 use Rattle.cg_insert.proofs.GatedParts.{range_at}
 use Rattle.cg_insert.specs.Insert.{enables_of, first_gate, gate_outputs, gater_cell, gating_cell, reclocked, test_net}
 use Rattle.cg_insert.specs.inner.GatedParts.{clocked_part, clocked_parts, gated_gaters, gated_registers, on_gate, with_clock}

@@ -16,7 +16,8 @@ use Rattle.cg_cell.specs.Fit.{is_fit, is_gater}
 use Rattle.cg_cell.specs.Name.{is_name}
 use Rattle.cg_cell.specs.Pins.{is_test}
 use Rattle.cg_cell.specs.declared.cell.CellKind.TheVariants.{Gater as GaterKind}
-use Rattle.cg_netlist.specs.Circuit.{Circuit, GatingCell, LogicCell, RegisterCell, asked_nets, is_in, cell_nets, clock_nets}
+use Rattle.cg_netlist.specs.Circuit.{Circuit, GatingCell, LogicCell, RegisterCell, asked_nets, cell_nets, clock_nets}
+use Rattle.cg_net.specs.NetSets.{is_in}
 use Rattle.cg_netlist.specs.Circuit.{data_inputs, drivers, gate_nets, given_nets, register_nets, used_nets}
 use Rattle.cg_netlist.specs.Moment.{zip_with}
 use Rattle.cg_netlist.specs.WellFormed.{AreRanks, IsDriven, IsOver, IsWellFormed, RegisterFits}
@@ -24,8 +25,8 @@ use Rattle.cg_netlist.specs.declared.parts.LogicFunction.TheVariants.{Cell}
 use Rattle.cg_netlist.proofs.Driven.{distinct_range, in_range, is_in-range}
 use Rattle.cg_netlist.proofs.Given.{clock_given, data_given, distinct_cells, distinct_given, driver_within, from_option}
 use Rattle.cg_netlist.proofs.Given.{given_driver, given_no_cell, in_option, kind_of, register_given, Data, Clock, Gate, Shown}
-use Rattle.cg_netlist.proofs.Members.{All-from_members, distinct_append, distinct_apart, distinct_left, distinct_right, is_in_cases}
-use Rattle.cg_netlist.proofs.Members.{is_in_left, is_in_right}
+use Rattle.cg_net.proofs.Members.{All-from_members, distinct_apart, distinct_append, distinct_left, distinct_right, is_in_cases}
+use Rattle.cg_net.proofs.Members.{is_in_left, is_in_right}
 use Rattle.cg_netlist.proofs.OrderLemmas.{length-range_with_len}
 use Rattle.cg_netlist.proofs.Values.{element_at}
 use Rattle.cg_insert.proofs.GatedMoments.{clock_is, data_is, names_count, register_clock, used_below}

@@ -10,12 +10,13 @@ use Rattle.std.proofs.lemmas.List.{length-drop, get_or-append_right}
 use Rattle.std.proofs.lemmas.List.Elements.{filter-append}
 use Rattle.std.proofs.lemmas.Option.{slice_get_within, slice_get_past, get_or_from_slice_get, slice_get-get_or}
 use Rattle.cg_cell.specs.Cell.{CellData}
-use Rattle.cg_netlist.specs.Circuit.{Circuit, GatingCell, LogicCell, RegisterCell, asked_nets, is_in, cell_nets, clock_nets}
+use Rattle.cg_netlist.specs.Circuit.{Circuit, GatingCell, LogicCell, RegisterCell, asked_nets, cell_nets, clock_nets}
+use Rattle.cg_net.specs.NetSets.{is_in}
 use Rattle.cg_netlist.specs.Circuit.{data_inputs, gate_nets, given_nets, register_nets, used_nets}
 use Rattle.cg_netlist.specs.History.{Moment, MomentFollows, Tick, gate_bit, latches_before, next_latch, rises}
 use Rattle.cg_netlist.specs.Moment.{Settles, bit, function_value, values_at}
 use Rattle.cg_netlist.proofs.Given.{clock_given, data_given, driver_within, given_driver, in_option, register_given}
-use Rattle.cg_netlist.proofs.Members.{All-from_members, All-member, is_in_cases, is_in_left, is_in_right, member_at}
+use Rattle.cg_net.proofs.Members.{All-from_members, All-member, is_in_cases, is_in_left, is_in_right, member_at}
 use Rattle.cg_netlist.proofs.OrderLemmas.{length-range_with_len}
 use Rattle.cg_netlist.proofs.Values.{bit_shown, element_at, length-values_at, length-zip_with, same_values, split_lists, value_at}
 use Rattle.cg_netlist.proofs.Values.{values_at-append, zip_with_at}

@@ -13,14 +13,15 @@ use Rattle.cg_cell.specs.Fit.{is_fit, is_one}
 use Rattle.cg_cell.specs.Term.{Term}
 use Rattle.cg_cell.specs.declared.fit.FitKind.{FitKind}
 use Rattle.cg_cell.specs.declared.fit.FitKind.TheVariants.{Inv, And2, Or2}
-use Rattle.cg_netlist.specs.Circuit.{Circuit, GatingCell, LogicCell, RegisterCell, is_in, data_inputs, register_nets, shown_nets}
+use Rattle.cg_netlist.specs.Circuit.{Circuit, GatingCell, LogicCell, RegisterCell, data_inputs, register_nets, shown_nets}
+use Rattle.cg_net.specs.NetSets.{is_in}
 use Rattle.cg_insert.specs.Insert.{CanInsert, collect, enables_of, first_gate, fitting, gate_outputs, gated, gating_cell}
 use Rattle.cg_insert.specs.Insert.{placed_gate, reclocked, test_net, with_net}
 use Rattle.cg_machine.specs.Gates.{AddedGate, HasInputs, gate_cell, gate_cover}
 use Rattle.cg_machine.specs.Machine.{IsMachine, MachineData, additions, enable_of}
 use Rattle.cg_netlist.specs.Ordered.{place_in}
 use Rattle.cg_netlist.specs.Moment.{cell_value, function_value, register_bits, shown_bits, zip_with}
-use Rattle.cg_netlist.proofs.Members.{is_in_left, is_in_right, is_in_cases, member_at}
+use Rattle.cg_net.proofs.Members.{is_in_cases, is_in_left, is_in_right, member_at}
 use Rattle.cg_netlist.proofs.OrderLemmas.{length-range_with_len}
 use Rattle.cg_netlist.proofs.Values.{zip_with_at, length-zip_with}
 

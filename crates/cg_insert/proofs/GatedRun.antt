@@ -6,7 +6,8 @@ use Rattle.std.specs.Option.{option_flatten}
 use Rattle.std.proofs.lemmas.List.{length-replicate}
 use Rattle.std.proofs.lemmas.Option.{slice_get_within, get_or_from_slice_get, slice_get-map}
 use Rattle.cg_cell.specs.Cell.{CellData}
-use Rattle.cg_netlist.specs.Circuit.{Circuit, RegisterCell, is_in, data_inputs, used_nets}
+use Rattle.cg_netlist.specs.Circuit.{Circuit, RegisterCell, data_inputs, used_nets}
+use Rattle.cg_net.specs.NetSets.{is_in}
 use Rattle.cg_netlist.specs.History.{AreTicks, IsLawful, LawfulFrom, Moment, MomentFollows, Tick, next_bit, next_value, outputs_of}
 use Rattle.cg_netlist.specs.Moment.{Settles, bit, values_at, zip_with}
 use Rattle.cg_netlist.proofs.Values.{element_at, length-zip_with, same_places, same_values, zip_with_at}

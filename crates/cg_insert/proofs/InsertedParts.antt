@@ -15,7 +15,7 @@ use Rattle.cg_limit.specs.declared.Limit.{Limit}
 use Rattle.cg_limit.specs.declared.Limit.TheVariants.{Nets}
 use Rattle.cg_machine.specs.Gates.{AddedGate, HasInputs}
 use Rattle.cg_machine.specs.Machine.{IsMachine, MachineData}
-use Rattle.cg_netlist.proofs.Members.{distinct_cons, distinct_head, distinct_tail}
+use Rattle.cg_net.proofs.Members.{distinct_cons, distinct_head, distinct_tail}
 use Rattle.cg_netlist.proofs.NetOrder.{from_mapped}
 use Rattle.cg_netlist.proofs.OrderedForm.{same_number, used_within}
 use Rattle.cg_netlist.proofs.Used.{output_is_used}
@@ -25,8 +25,9 @@ use Rattle.cg_parts.proofs.KnownNames.{known_each, known_head, known_tail, word_
 use Rattle.cg_parts.proofs.SaidByItsParts.{none_left, says_own}
 use Rattle.cg_parts.proofs.SaidMore.{said_more}
 use Rattle.cg_parts.proofs.TakenFromNetlist.{taken_own}
-use Rattle.cg_netlist.specs.Circuit.{Circuit, GatingCell, LogicCell, RegisterCell, is_in, net_order}
-use Rattle.cg_netlist.specs.Names.{is_known}
+use Rattle.cg_netlist.specs.Circuit.{Circuit, GatingCell, LogicCell, RegisterCell, net_order}
+use Rattle.cg_net.specs.NetSets.{is_in}
+use Rattle.cg_net.specs.Names.{NetName, is_known, net_name}
 use Rattle.cg_netlist.specs.Netlist.{IsNetlist}
 use Rattle.cg_netlist.specs.Ordered.{ordered, place_in}
 use Rattle.cg_netlist.specs.WellFormed.{IsInNetOrder, IsWellFormed}
@@ -34,7 +35,7 @@ use Rattle.cg_builder.specs.Building.{Building, fresh}
 use Rattle.cg_parts.specs.Part.{Clock, Gate, Input, Logic, Output, Part}
 use Rattle.cg_parts.specs.Said.{nothing_said, said}
 use Rattle.cg_parts.specs.Says.{AreTaken, Says, parts_from, register_part}
-use Rattle.cg_netlist.specs.Wiring.{NetName, map_cell, map_gater, map_register, named, net_name}
+use Rattle.cg_netlist.specs.Wiring.{map_cell, map_gater, map_register, named}
 use Rattle.cg_insert.proofs.GatedForm.{gated_formed, inputs_once}
 use Rattle.cg_insert.proofs.GatedMoments.{names_count}
 use Rattle.cg_insert.proofs.GatedParts.{registers_count}

@@ -13,7 +13,8 @@ use Rattle.cg_netlist.proofs.OrderedForm.{placed}
 use Rattle.cg_parts.proofs.Kept.{CellNets, GaterNets, RegisterNets, WiringNets}
 use Rattle.cg_parts.proofs.SaidByItsParts.{same_wiring}
 use Rattle.cg_parts.proofs.ToldByNames.{wiring_within}
-use Rattle.cg_netlist.specs.Wiring.{NetName, Wiring, map_cell, map_gater, map_outputs, map_register, map_wiring, named, net_name}
+use Rattle.cg_net.specs.Names.{NetName, net_name}
+use Rattle.cg_netlist.specs.Wiring.{Wiring, map_cell, map_gater, map_outputs, map_register, map_wiring, named}
 use Rattle.cg_netlist.specs.Wiring.{wiring}
 
 -- parts with other nets twice, where the nets in between are such

@@ -6,7 +6,7 @@ use Rattle.std.specs.Option.{option_map_or}
 use Rattle.std.proofs.lemmas.List.{map-append}
 use Rattle.std.proofs.lemmas.Option.{slice_get_within}
 use Rattle.std.proofs.lemmas.List.{length-take-le}
-use Rattle.cg_netlist.proofs.RankingLemmas.{take_next}
+use Rattle.cg_net.proofs.TableLemmas.{take_next}
 use Rattle.cg_cell.specs.Cell.{CellData}
 use Rattle.cg_cell.specs.Pins.{PinData}
 use Rattle.cg_cell.specs.declared.cell.Role.{Role}
@@ -19,7 +19,8 @@ use Rattle.cg_netlist.specs.declared.parts.RegisterKind.{RegisterKind}
 use Rattle.cg_netlist.specs.declared.parts.RegisterKind.TheVariants.{Plain, Flop}
 use Rattle.cg_parts.specs.Part.{Part, Register}
 use Rattle.cg_parts.specs.Says.{IsPart}
-use Rattle.cg_netlist.specs.Wiring.{NetName, map_outputs, net_name}
+use Rattle.cg_net.specs.Names.{NetName, net_name}
+use Rattle.cg_netlist.specs.Wiring.{map_outputs}
 use Rattle.cg_insert.specs.inner.GatedParts.{clocked_part, placed_outputs}
 
 -- each output with the place of its pin

@@ -19,15 +19,17 @@ use Rattle.cg_machine.specs.Machine.{IsMachine, MachineData, added_name, additio
 use Rattle.cg_netlist.proofs.Driven.{in_range}
 use Rattle.cg_netlist.proofs.NetOrder.{from_mapped}
 use Rattle.cg_netlist.proofs.OrderedForm.{clock_nets_within, gates_renumbered}
-use Rattle.cg_netlist.proofs.Members.{is_in_right}
+use Rattle.cg_net.proofs.Members.{is_in_right}
 use Rattle.cg_netlist.proofs.Each.{by_recursion, each_together, from_recursion}
-use Rattle.cg_netlist.specs.Circuit.{Circuit, GatingCell, LogicCell, RegisterCell, gate_nets, is_in, net_order}
+use Rattle.cg_netlist.specs.Circuit.{Circuit, GatingCell, LogicCell, RegisterCell, gate_nets, net_order}
+use Rattle.cg_net.specs.NetSets.{is_in}
 use Rattle.cg_netlist.specs.Moment.{zip_with}
 use Rattle.cg_netlist.specs.Netlist.{IsNetlist}
 use Rattle.cg_netlist.specs.Ordered.{ordered, place_in}
 use Rattle.cg_netlist.specs.WellFormed.{IsWellFormed}
 use Rattle.cg_netlist.specs.declared.parts.RegisterKind.TheVariants.{Plain}
-use Rattle.cg_netlist.specs.Wiring.{NetName, map_cell, map_gater, map_register, net_name}
+use Rattle.cg_net.specs.Names.{NetName, net_name}
+use Rattle.cg_netlist.specs.Wiring.{map_cell, map_gater, map_register}
 use Rattle.cg_parts.specs.Writable.{FunctionIsOf, IsOf, IsWritable, KindIsOf, NIL}
 use Rattle.cg_insert.proofs.GatedCells.{found_All}
 use Rattle.cg_insert.proofs.GatedForm.{gated_formed, inputs_once}

@@ -6,7 +6,7 @@ use Rattle.cg_machine.specs.Machine.{MachineData}
 use Rattle.cg_netlist.specs.declared.fault.AddFault.{AddFault}
 use Rattle.cg_builder.specs.Building.{Building}
 use Rattle.cg_parts.specs.Part.{Part}
-use Rattle.cg_netlist.specs.Wiring.{NetName}
+use Rattle.cg_net.specs.Names.{NetName}
 use Rattle.cg_insert.proofs.ToldParts.{call_may, call_told, may_front}
 use Rattle.cg_insert.specs.Insert.{placed_gate, test_net}
 use Rattle.cg_insert.specs.inner.GatedParts.{cell_parts, clock_parts, clocked_parts, gated_gaters, gated_parts, gated_registers}

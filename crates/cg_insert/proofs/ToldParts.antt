@@ -9,16 +9,15 @@ use Rattle.cg_limit.specs.declared.TheConstants.{MOST_NETS, MOST_REGISTERS}
 use Rattle.cg_limit.specs.declared.Limit.{Limit}
 use Rattle.cg_limit.specs.declared.Limit.TheVariants.{Nets, Registers}
 use Rattle.cg_machine.proofs.Lists.{below_or}
-use Rattle.cg_netlist.proofs.RankingLemmas.{take_next}
+use Rattle.cg_net.proofs.TableLemmas.{take_next}
 use Rattle.cg_netlist.proofs.Each.{each_back, each_front}
-use Rattle.cg_netlist.specs.Names.{is_known, with_name, with_names}
+use Rattle.cg_net.specs.Names.{NetName, is_known, with_name, with_names}
 use Rattle.cg_netlist.specs.declared.fault.AddFault.{AddFault}
 use Rattle.cg_netlist.specs.declared.fault.AddFault.TheVariants.{Limit as Passes, NoMemory}
 use Rattle.cg_builder.specs.Building.{Building, IsAnswer, Takes}
 use Rattle.cg_parts.specs.Part.{Clock, Gate, Input, Logic, Output, Part, Register, mentioned}
 use Rattle.cg_parts.specs.Said.{Said, limit_of, with_kind, with_part}
 use Rattle.cg_parts.specs.Says.{IsPart}
-use Rattle.cg_netlist.specs.Wiring.{NetName}
 use Rattle.cg_insert.specs.inner.Telling.{MayTell, WasTold, told, with_parts}
 
 pub with_parts_more : (s : Said) (xs ys : List Part) → with_parts s (xs ++ ys) ≡ with_parts (with_parts s xs) ys

@@ -24,7 +24,7 @@ use cg_cell::library::Library;
 use cg_cell::name::Name;
 use cg_machine::machine::Machine;
 use cg_netlist::fault::AddFault;
-use cg_netlist::id::{NetId, RegId};
+use cg_net::id::{NetId, RegId};
 use cg_netlist::view::{RegKind, RegView};
 use std::alloc::{AllocError, Global};
 

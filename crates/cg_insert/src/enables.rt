@@ -5,7 +5,7 @@ ghost use Rattle.cg_insert.specs.Insert.{enables_of};
 ghost use Rattle.cg_netlist.specs.Ordered.{place_in};
 
 use cg_machine::machine::Machine;
-use cg_netlist::id::{NetId, RegId};
+use cg_net::id::{NetId, RegId};
 use indexmap::IndexSet;
 use std::alloc::{AllocError, Global};
 use std::marker::Model;

@@ -18,7 +18,7 @@ use cg_cell::library::Library;
 use cg_machine::machine::Machine;
 use cg_machine::view::GateView;
 use cg_netlist::fault::AddFault;
-use cg_netlist::id::CellId;
+use cg_net::id::CellId;
 use cg_netlist::netlist::Netlist;
 use cg_netlist::view::Function;
 use std::alloc::Global;

@@ -5,12 +5,11 @@ ghost use Rattle.std.specs.List.{range_with_len};
 ghost use Rattle.std.specs.Option.{option_copied, option_to_list};
 ghost use Rattle.cg_insert.specs.inner.GatedParts.{gated_names};
 ghost use Rattle.cg_insert.specs.Insert.{enables_of};
-ghost use Rattle.cg_netlist.specs.Names.{bytes_of};
-ghost use Rattle.cg_netlist.specs.Wiring.{net_name};
+ghost use Rattle.cg_net.specs.Names.{bytes_of, net_name};
 
 use cg_cell::name::Name;
 use cg_machine::machine::Machine;
-use cg_netlist::id::NetId;
+use cg_net::id::NetId;
 use cg_netlist::netlist::Netlist;
 use cg_text::number::push_number;
 use std::alloc::{AllocError, Global};
@@ -28,7 +27,7 @@ pub struct GatedNames<'a> {
 
 impl<'a> Model for GatedNames<'a> {
     ghost use Rattle.std.specs.Prelude.{List, ℕ, ◌++◌};
-    ghost use Rattle.cg_netlist.specs.Names.{bytes_of};
+    ghost use Rattle.cg_net.specs.Names.{bytes_of};
 
     ghost Value = { List (List ℕ) };
 

@@ -6,8 +6,8 @@ use Rattle.std.specs.List.{IsDistinct, cons_option, filter, filter_map, find, ra
 use Rattle.std.specs.Option.{option_map_or}
 use Rattle.std.proofs.lemmas.Bool.{both_ways, eqb-true, eq-eqb, false_from_ne_true, or_cases, or_left, or_right}
 use Rattle.std.proofs.lemmas.Option.{none-some, same_Some}
-use Rattle.cg_netlist.specs.Circuit.{is_in}
-use Rattle.cg_netlist.proofs.Members.{distinct_cons, distinct_head, distinct_tail}
+use Rattle.cg_net.specs.NetSets.{is_in}
+use Rattle.cg_net.proofs.Members.{distinct_cons, distinct_head, distinct_tail}
 use Rattle.cg_machine.specs.Machine.{MachineData}
 use Rattle.cg_machine.specs.declared.stage.Stage.{Stage}
 use Rattle.cg_stage.specs.Stages.{Fits}

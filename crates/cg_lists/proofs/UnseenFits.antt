@@ -6,8 +6,9 @@ use Rattle.std.proofs.lemmas.Bool.{and_parts, both_ways, eq-eqb, false_from_ne_t
 use Rattle.std.proofs.lemmas.Option.{none-some, same_Some}
 use Rattle.std.proofs.lemmas.Slice.Eq.{bytes_eq-Decides}
 use Rattle.cg_cell.specs.Term.{lone_input}
-use Rattle.cg_netlist.specs.Circuit.{is_in, used_nets}
-use Rattle.cg_netlist.proofs.Members.{member_at}
+use Rattle.cg_net.specs.NetSets.{is_in}
+use Rattle.cg_netlist.specs.Circuit.{used_nets}
+use Rattle.cg_net.proofs.Members.{member_at}
 use Rattle.cg_machine.specs.Machine.{IsMachine, MachineData, enable_of}
 use Rattle.cg_machine.specs.declared.stage.Earlier.{Earlier}
 use Rattle.cg_machine.specs.declared.stage.Stage.{Stage}

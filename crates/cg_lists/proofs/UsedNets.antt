@@ -3,9 +3,10 @@ use Rattle.std.proofs.Common.{◌≡◌, ℕ, suc, Bool, true, false, if◌then�
 use Rattle.std.proofs.Common.{refl, inl, inr}
 use Rattle.std.specs.Option.{option_map_or, option_to_list}
 use Rattle.std.proofs.lemmas.Bool.{both_ways}
-use Rattle.cg_netlist.specs.Circuit.{LogicCell, RegisterCell, gate_nets, is_in, used_nets}
+use Rattle.cg_netlist.specs.Circuit.{LogicCell, RegisterCell, gate_nets, used_nets}
+use Rattle.cg_net.specs.NetSets.{is_in}
 use Rattle.cg_netlist.proofs.Given.{from_option}
-use Rattle.cg_netlist.proofs.Members.{is_in_cases, is_in_left}
+use Rattle.cg_net.proofs.Members.{is_in_cases, is_in_left}
 use Rattle.cg_netlist.proofs.Used.{data_is_used, input_is_used}
 use Rattle.cg_machine.specs.Machine.{IsMachine, IsNet, MachineData}
 use Rattle.cg_machine.proofs.Grown.{used_below}

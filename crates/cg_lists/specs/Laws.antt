@@ -1,6 +1,6 @@
 -- What is proved of lists of stages.
 use Rattle.std.specs.Prelude.{◌≡◌, ℕ, Bool, true, List, Option}
-use Rattle.cg_netlist.specs.Circuit.{is_in}
+use Rattle.cg_net.specs.NetSets.{is_in}
 use Rattle.cg_machine.specs.Claims.{Literal}
 use Rattle.cg_machine.specs.Machine.{IsMachine, MachineData}
 use Rattle.cg_machine.specs.declared.stage.Earlier.{Earlier}

@@ -2,7 +2,8 @@
 use Rattle.std.specs.Prelude.{ℕ, Bool, false, not, ◌&&◌, ◌||◌, List, length, slice_get, nat_eq, is_none, is_some}
 use Rattle.std.specs.List.{filter, list_any, range_with_len}
 use Rattle.std.specs.Option.{option_map_or}
-use Rattle.cg_netlist.specs.Circuit.{data_inputs, is_in}
+use Rattle.cg_netlist.specs.Circuit.{data_inputs}
+use Rattle.cg_net.specs.NetSets.{is_in}
 use Rattle.cg_machine.specs.Machine.{MachineData, enable_of, walk_of}
 use Rattle.cg_cone.specs.Cone.{cone_of}
 use Rattle.cg_claim.specs.Reach.{feeds, inputs_of_register, reads_own, registers_of}

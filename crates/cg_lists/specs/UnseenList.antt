@@ -4,7 +4,8 @@ use Rattle.std.specs.Prelude.{is_some, bytes_eq, option_and_then}
 use Rattle.std.specs.List.{filter, filter_map, flat_map, list_any}
 use Rattle.std.specs.Option.{option_map_or}
 use Rattle.cg_cell.specs.Term.{lone_input}
-use Rattle.cg_netlist.specs.Circuit.{RegisterCell, is_in}
+use Rattle.cg_netlist.specs.Circuit.{RegisterCell}
+use Rattle.cg_net.specs.NetSets.{is_in}
 use Rattle.cg_machine.specs.Machine.{MachineData, enable_of}
 use Rattle.cg_machine.specs.declared.stage.Earlier.{Earlier}
 use Rattle.cg_machine.specs.declared.stage.Stage.{Stage}

@@ -6,7 +6,7 @@ use Rattle.cg_netlist.specs.Circuit.{Circuit, LogicCell, RegisterCell}
 use Rattle.cg_netlist.specs.Drivers.{IsDriver}
 use Rattle.cg_netlist.specs.declared.driver.Driver.{Driver}
 use Rattle.cg_netlist.specs.declared.driver.Driver.TheVariants.{Input, Clock, Cell, Gater, Register}
-use Rattle.cg_netlist.proofs.TableLemmas.{front_get}
+use Rattle.cg_net.proofs.TableLemmas.{front_get}
 use Rattle.cg_machine.specs.Added.{push_cell, push_register}
 use Rattle.cg_machine.specs.Gates.{AddedGate}
 use Rattle.cg_machine.specs.Machine.{delay_cell}

@@ -8,7 +8,8 @@ use Rattle.std.proofs.Math.Seq.{take-append_seam}
 use Rattle.std.proofs.lemmas.List.{append-nil, length-map}
 use Rattle.std.proofs.lemmas.List.Elements.{All-get_or}
 use Rattle.std.proofs.lemmas.Option.{get_or_from_slice_get, slice_get-get_or, slice_get_within, unwrap_or-slice_get}
-use Rattle.cg_netlist.specs.Circuit.{Circuit, GatingCell, LogicCell, RegisterCell, data_inputs, gate_nets, given_nets, is_in}
+use Rattle.cg_netlist.specs.Circuit.{Circuit, GatingCell, LogicCell, RegisterCell, data_inputs, gate_nets, given_nets}
+use Rattle.cg_net.specs.NetSets.{is_in}
 use Rattle.cg_netlist.specs.Circuit.{register_nets, shown_nets, used_nets}
 use Rattle.cg_netlist.specs.History.{next_value}
 use Rattle.cg_netlist.specs.Moment.{Settles, bit, register_bits, shown_bits, values_at}
@@ -17,7 +18,7 @@ use Rattle.cg_netlist.specs.Nets.{put_cells, walk_order, walked}
 use Rattle.cg_netlist.proofs.CellFits.{walk_within}
 use Rattle.cg_netlist.proofs.DriverTable.{cell_net_within}
 use Rattle.cg_netlist.proofs.Given.{clock_given, driver_within, given_driver, given_within}
-use Rattle.cg_netlist.proofs.Members.{All-member, is_in_left, is_in_right, member_at}
+use Rattle.cg_net.proofs.Members.{All-member, is_in_left, is_in_right, member_at}
 use Rattle.cg_netlist.proofs.RegisterNext.{register_inputs_within}
 use Rattle.cg_netlist.proofs.Used.{input_is_used}
 use Rattle.cg_netlist.proofs.Values.{at_map, value_at, values_at-append}
@@ -107,7 +108,7 @@ module _ (c : Circuit) (prefix : List ℕ) (es : List (Option ℕ)) (gs : List A
     gate_at k d below = get_back c.cells (map gate_cell gs) k ∙ (Rattle.std.proofs.lemmas.Option.slice_get-map gate_cell gs k ∙ ap (Rattle.std.specs.Option.option_map gate_cell) (slice_get-get_or gs k d below))
 
     pub gate_inputs_below : (n : ℕ) → n ≡ length m.circuit.names → All (λ (g : AddedGate). All (λ net. net < n) g.inputs) gs
-    gate_inputs_below n is = λ k d below. Rattle.cg_netlist.proofs.Members.All-from_members (λ net. net < n) (get_or gs k d).inputs (λ net among.
+    gate_inputs_below n is = λ k d below. Rattle.cg_net.proofs.Members.All-from_members (λ net. net < n) (get_or gs k d).inputs (λ net among.
         let small = All-member (λ x. x < length m.circuit.names) (used_nets m.circuit) net good.well_formed.used (input_is_used m.circuit (length c.cells + k) net (gate_cell (get_or gs k d)) (gate_at k d below) among) in
         omega (arith, small, is))
 

@@ -5,10 +5,11 @@ use Rattle.std.proofs.lemmas.Bool.{eq-eqb, or_left, or_right}
 use Rattle.std.proofs.lemmas.List.{length-replicate, length-take-le, take-replicate, take_all}
 use Rattle.std.proofs.lemmas.Option.{slice_get_past}
 use Rattle.std.proofs.Math.Seq.{take-append-add}
-use Rattle.cg_netlist.specs.Circuit.{RegisterCell, is_in, used_nets}
+use Rattle.cg_netlist.specs.Circuit.{RegisterCell, used_nets}
+use Rattle.cg_net.specs.NetSets.{is_in}
 use Rattle.cg_netlist.specs.History.{next_value}
 use Rattle.cg_netlist.specs.Moment.{bit, values_at}
-use Rattle.cg_netlist.proofs.Members.{All-member}
+use Rattle.cg_net.proofs.Members.{All-member}
 use Rattle.cg_netlist.proofs.Used.{data_is_used, output_is_used}
 use Rattle.cg_netlist.proofs.Values.{same_places, same_values}
 use Rattle.cg_machine.specs.Claims.{EqualOutside, Follows, Hold, Joined, Literal, Next, Shown, Stable, Target, Unseen, any_at}

@@ -4,11 +4,12 @@ use Rattle.std.proofs.Common.{slice_get, take, Option, None, Some, refl, sym, â—
 use Rattle.std.specs.List.{cons_option, flat_map}
 use Rattle.std.proofs.lemmas.List.{length-map, length-take-le}
 use Rattle.std.proofs.lemmas.Option.{none-some, same_Some}
-use Rattle.cg_netlist.specs.Circuit.{GatingCell, LogicCell, RegisterCell, cell_nets, data_inputs, given_nets, is_in, register_nets}
+use Rattle.cg_netlist.specs.Circuit.{GatingCell, LogicCell, RegisterCell, cell_nets, data_inputs, given_nets, register_nets}
+use Rattle.cg_net.specs.NetSets.{is_in}
 use Rattle.cg_netlist.specs.Circuit.{shown_nets}
 use Rattle.cg_netlist.specs.Moment.{Settles, function_value, register_bits, shown_bits, values_at}
 use Rattle.cg_netlist.proofs.Given.{clock_given, data_given, driver_within, given_driver, register_given}
-use Rattle.cg_netlist.proofs.Members.{All-from_members, is_in_left, is_in_right, member_at}
+use Rattle.cg_net.proofs.Members.{All-from_members, is_in_left, is_in_right, member_at}
 use Rattle.cg_netlist.proofs.NetsOf.{nets_only}
 use Rattle.cg_netlist.proofs.Values.{at_map, length-values_at, same_values, split_lists, values_at-append}
 use Rattle.cg_machine.specs.Extends.{old}

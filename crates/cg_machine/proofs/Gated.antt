@@ -6,9 +6,10 @@ use Rattle.std.specs.Option.{option_flatten}
 use Rattle.std.proofs.lemmas.Bool.{both_ways, cases_Bool, eqb-true, eq-eqb, or_cases, or_left, or_right}
 use Rattle.std.proofs.lemmas.List.{length-set}
 use Rattle.std.proofs.lemmas.Option.{slice_get_past}
-use Rattle.cg_netlist.specs.Circuit.{RegisterCell, is_in}
+use Rattle.cg_netlist.specs.Circuit.{RegisterCell}
+use Rattle.cg_net.specs.NetSets.{is_in}
 use Rattle.cg_netlist.specs.Moment.{bit}
-use Rattle.cg_netlist.proofs.TableLemmas.{slice_get-set_other, slice_get-set_same, same_or_not}
+use Rattle.cg_net.proofs.TableLemmas.{same_or_not, slice_get-set_other, slice_get-set_same}
 use Rattle.cg_netlist.proofs.Values.{map_same}
 use Rattle.cg_machine.specs.Machine.{MachineData, enable_of, load, next, next_of, step, values}
 use Rattle.cg_machine.specs.Claims.{EqualOutside}

@@ -15,14 +15,15 @@ use Rattle.cg_limit.specs.declared.TheConstants.{MOST_NETS, MOST_REGISTERS}
 use Rattle.cg_cell.specs.Name.{is_name}
 use Rattle.cg_cell.specs.declared.fit.FitKind.{FitKind}
 use Rattle.cg_cell.specs.declared.fit.FitKind.TheVariants.{Inv, And2, Or2}
-use Rattle.cg_netlist.specs.Circuit.{GatingCell, LogicCell, RegisterCell, is_in, clock_nets, used_nets}
+use Rattle.cg_netlist.specs.Circuit.{GatingCell, LogicCell, RegisterCell, clock_nets, used_nets}
+use Rattle.cg_net.specs.NetSets.{is_in}
 use Rattle.cg_netlist.specs.Moment.{values_at}
 use Rattle.cg_netlist.specs.Nets.{IsWalk, has_rank, outputs, walk_order}
 use Rattle.cg_netlist.specs.WellFormed.{IsOver}
 use Rattle.cg_netlist.specs.declared.parts.LogicFunction.TheVariants.{Cover}
 use Rattle.cg_netlist.proofs.Given.{from_option, in_option}
-use Rattle.cg_netlist.proofs.Members.{All-member, is_in_cases, is_in_left, is_in_right}
-use Rattle.cg_netlist.proofs.TableLemmas.{set_cases, slice_get-set_other}
+use Rattle.cg_net.proofs.Members.{All-member, is_in_cases, is_in_left, is_in_right}
+use Rattle.cg_net.proofs.TableLemmas.{set_cases, slice_get-set_other}
 use Rattle.cg_netlist.proofs.Used.{input_is_used}
 use Rattle.cg_netlist.proofs.Values.{same_values, values_at-append}
 use Rattle.cg_netlist.proofs.WalkOrder.{ordered_push}

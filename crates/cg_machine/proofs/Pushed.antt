@@ -9,12 +9,13 @@ use Rattle.std.proofs.lemmas.List.{append-nil, get_or_append_left, get_or-append
 use Rattle.std.proofs.lemmas.List.Elements.{All-append, All-cons, All-nil}
 use Rattle.std.proofs.lemmas.Option.{slice_get_within}
 use Rattle.cg_cell.specs.Name.{is_name}
-use Rattle.cg_netlist.specs.Circuit.{Circuit, LogicCell, RegisterCell, asked_nets, is_in, cell_nets, clock_nets, data_inputs}
+use Rattle.cg_netlist.specs.Circuit.{Circuit, LogicCell, RegisterCell, asked_nets, cell_nets, clock_nets, data_inputs}
+use Rattle.cg_net.specs.NetSets.{is_in}
 use Rattle.cg_netlist.specs.Circuit.{drivers, gate_nets, given_nets, register_nets, shown_nets, used_nets}
 use Rattle.cg_netlist.specs.WellFormed.{IsDriven, IsOver, IsWellFormed, RegisterFits}
 use Rattle.cg_netlist.proofs.Given.{clock_given, distinct_cells, distinct_given, driver_within, given_driver, given_no_cell}
 use Rattle.cg_netlist.proofs.Given.{in_option, gate_given}
-use Rattle.cg_netlist.proofs.Members.{All-from_members, All-member, distinct_append, is_in_cases, is_in_left, is_in_right}
+use Rattle.cg_net.proofs.Members.{All-from_members, All-member, distinct_append, is_in_cases, is_in_left, is_in_right}
 use Rattle.cg_netlist.proofs.Solve.{greatest, greatest_bounds}
 use Rattle.cg_machine.specs.Added.{push_cell, push_register}
 use Rattle.cg_netlist.proofs.Used.{input_is_used}

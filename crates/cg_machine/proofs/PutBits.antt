@@ -6,12 +6,13 @@ use Rattle.std.specs.List.{cons_option, flat_map, range_with_len}
 use Rattle.std.proofs.lemmas.Bool.{both_ways, cases_Bool, eqb-true, or_cases, or_parts}
 use Rattle.std.proofs.lemmas.List.{length-map, length-set}
 use Rattle.std.proofs.lemmas.Option.{get_or_from_slice_get, slice_get_within}
-use Rattle.cg_netlist.specs.Circuit.{LogicCell, RegisterCell, is_in, shown_nets}
+use Rattle.cg_netlist.specs.Circuit.{LogicCell, RegisterCell, shown_nets}
+use Rattle.cg_net.specs.NetSets.{is_in}
 use Rattle.cg_netlist.specs.Moment.{function_value, register_bits, shown_bits, values_at}
 use Rattle.cg_netlist.specs.Netlist.{widest_of}
 use Rattle.cg_netlist.specs.Nets.{put_cells}
-use Rattle.cg_netlist.proofs.Members.{member_at}
-use Rattle.cg_netlist.proofs.TableLemmas.{slice_get-set_other, slice_get-set_same}
+use Rattle.cg_net.proofs.Members.{member_at}
+use Rattle.cg_net.proofs.TableLemmas.{slice_get-set_other, slice_get-set_same}
 use Rattle.cg_machine.specs.inner.Putting.{put_bits}
 use Rattle.cg_machine.proofs.Lists.{get_front}
 

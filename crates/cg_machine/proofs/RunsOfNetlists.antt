@@ -4,7 +4,8 @@ use Rattle.std.proofs.Common.{Option, None, Some, refl, sym, ◌∙◌, ap, subs
 use Rattle.std.specs.Option.{option_to_list}
 use Rattle.std.proofs.lemmas.Bool.{both_ways}
 use Rattle.std.proofs.lemmas.Option.{slice_get-get_or}
-use Rattle.cg_netlist.specs.Circuit.{Circuit, GatingCell, RegisterCell, clock_nets, gate_nets, is_in}
+use Rattle.cg_netlist.specs.Circuit.{Circuit, GatingCell, RegisterCell, clock_nets, gate_nets}
+use Rattle.cg_net.specs.NetSets.{is_in}
 use Rattle.cg_netlist.specs.History.{LawfulFrom, Moment, Tick, gate_bit, next_bit, next_value, outputs_of, rises}
 use Rattle.cg_netlist.specs.History.{state_now as state_of_history}
 use Rattle.cg_netlist.specs.Moment.{Settles, bit, values_at, zip_with}
@@ -12,7 +13,7 @@ use Rattle.cg_netlist.proofs.Given.{in_option}
 use Rattle.cg_netlist.proofs.NetsOf.{nets_only}
 use Rattle.cg_netlist.proofs.Used.{output_is_used}
 use Rattle.cg_netlist.proofs.ClockFree.{lowers}
-use Rattle.cg_netlist.proofs.Members.{is_in_cases}
+use Rattle.cg_net.proofs.Members.{is_in_cases}
 use Rattle.cg_netlist.proofs.Values.{bit_shown, element_at, length-zip_with, same_places, same_values, zip_with_at}
 use Rattle.cg_machine.specs.Machine.{IsMachine, IsState, MachineData, enable_of, next, next_of, outputs_at, step, values, walk_of}
 use Rattle.cg_machine.specs.Run.{shown_from, state_now, states_from}

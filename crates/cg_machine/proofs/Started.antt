@@ -10,13 +10,14 @@ use Rattle.std.proofs.Math.Seq.{take-append_seam}
 use Rattle.std.proofs.lemmas.List.{append-nil, length-replicate, take_all}
 use Rattle.std.proofs.lemmas.List.Elements.{All-cons, All-nil}
 use Rattle.std.proofs.lemmas.Option.{none-some, slice_get_within}
-use Rattle.cg_netlist.specs.Circuit.{Circuit, cell_nets, gate_nets, is_in, register_nets}
+use Rattle.cg_netlist.specs.Circuit.{Circuit, cell_nets, gate_nets, register_nets}
+use Rattle.cg_net.specs.NetSets.{is_in}
 use Rattle.cg_netlist.specs.Moment.{values_at}
 use Rattle.cg_netlist.specs.Nets.{IsWalk, walk_order}
 use Rattle.cg_netlist.specs.WellFormed.{IsInNetOrder}
 use Rattle.cg_netlist.proofs.Driven.{distinct_range}
 use Rattle.cg_netlist.proofs.Given.{distinct_cells}
-use Rattle.cg_netlist.proofs.Members.{distinct_left}
+use Rattle.cg_net.proofs.Members.{distinct_left}
 use Rattle.cg_netlist.proofs.WalkOrder.{walk_is}
 use Rattle.cg_machine.specs.Laws.{NetlistIsRun, StartIsMachine}
 use Rattle.cg_machine.specs.Machine.{MachineData, enable_of, walk_of}

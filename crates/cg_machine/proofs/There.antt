@@ -12,14 +12,15 @@ use Rattle.cg_cell.specs.Cover.{cover_value}
 use Rattle.cg_cell.specs.declared.fit.FitKind.{FitKind}
 use Rattle.cg_limit.specs.declared.Limit.{Limit}
 use Rattle.cg_limit.specs.declared.Limit.TheVariants.{Nets, Registers}
-use Rattle.cg_netlist.specs.Circuit.{Circuit, LogicCell, RegisterCell, cell_nets, data_inputs, gate_nets, given_nets, is_in}
+use Rattle.cg_netlist.specs.Circuit.{Circuit, LogicCell, RegisterCell, cell_nets, data_inputs, gate_nets, given_nets}
+use Rattle.cg_net.specs.NetSets.{is_in}
 use Rattle.cg_netlist.specs.Circuit.{register_nets, shown_nets}
 use Rattle.cg_netlist.specs.History.{next_value}
 use Rattle.cg_netlist.specs.Moment.{Settles, bit, register_bits, values_at}
 use Rattle.cg_netlist.specs.WellFormed.{IsDriven}
 use Rattle.cg_netlist.proofs.Given.{clock_given, distinct_given, driver_within, from_option, given_driver, given_no_cell}
 use Rattle.cg_netlist.proofs.Given.{register_given}
-use Rattle.cg_netlist.proofs.Members.{All-from_members, distinct_apart, is_in_left, is_in_right, member_at}
+use Rattle.cg_net.proofs.Members.{All-from_members, distinct_apart, is_in_left, is_in_right, member_at}
 use Rattle.cg_netlist.proofs.Used.{in_flat, input_is_used}
 use Rattle.cg_netlist.proofs.Values.{at_map, bit_shown, length-values_at, split_lists, values_at-append}
 use Rattle.cg_machine.specs.Added.{add_delay, add_gate, delay_limit, find_delay, find_gate, first_output, gate_limit, next_delay}

@@ -9,7 +9,7 @@ use Rattle.cg_netlist.specs.Moment.{values_at}
 use Rattle.cg_netlist.specs.Netlist.{widest_of}
 use Rattle.cg_netlist.proofs.CellFits.{widest_at}
 use Rattle.cg_netlist.proofs.DriverTable.{cell_net_within}
-use Rattle.cg_netlist.proofs.Members.{All-from_members, All-member}
+use Rattle.cg_net.proofs.Members.{All-from_members, All-member}
 use Rattle.cg_netlist.proofs.Used.{input_is_used}
 use Rattle.cg_machine.specs.Gates.{AddedGate, gate_cell}
 use Rattle.cg_machine.specs.Machine.{IsMachine, MachineData}

@@ -6,15 +6,16 @@ use Rattle.std.proofs.lemmas.Bool.{false_from_ne_true}
 use Rattle.std.proofs.lemmas.List.{length-append, length-map, length-take-le}
 use Rattle.std.proofs.lemmas.Map.Steps.{length-le_from_distinct_below}
 use Rattle.cg_limit.specs.declared.TheConstants.{MOST_NETS}
-use Rattle.cg_netlist.specs.Circuit.{Circuit, LogicCell, cell_nets, given_nets, is_in}
+use Rattle.cg_netlist.specs.Circuit.{Circuit, LogicCell, cell_nets, given_nets}
+use Rattle.cg_net.specs.NetSets.{is_in}
 use Rattle.cg_netlist.specs.Netlist.{IsNetlist}
 use Rattle.cg_netlist.specs.Nets.{walk_order}
 use Rattle.cg_netlist.proofs.CellFits.{walk_within}
 use Rattle.cg_cone.proofs.ConeEdge.{data_rises}
 use Rattle.cg_netlist.proofs.Driven.{in_range}
 use Rattle.cg_netlist.proofs.Given.{distinct_cells, driver_within}
-use Rattle.cg_netlist.proofs.Members.{distinct_append, is_in_right, one_place}
-use Rattle.cg_netlist.proofs.TableLemmas.{front_get}
+use Rattle.cg_net.proofs.Members.{distinct_append, is_in_right, one_place}
+use Rattle.cg_net.proofs.TableLemmas.{front_get}
 use Rattle.cg_netlist.proofs.RisingNumbers.{range_rises}
 use Rattle.cg_cone.specs.inner.Reaching.{IsWired}
 use Rattle.cg_netlist.specs.inner.Rising.{Rises}

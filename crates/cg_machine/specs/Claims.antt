@@ -3,7 +3,7 @@
 -- cycles, as the literature on sequential clock gating has them.
 use Rattle.std.specs.Prelude.{◌≡◌, ℕ, Bool, true, false, not, if◌then◌else◌, List, [], ◌∷◌, map, length, slice_get}
 use Rattle.cg_cell.specs.Gates.{any_of}
-use Rattle.cg_netlist.specs.Circuit.{is_in}
+use Rattle.cg_net.specs.NetSets.{is_in}
 use Rattle.cg_netlist.specs.Moment.{bit}
 use Rattle.cg_machine.specs.Machine.{MachineData, IsState, IsInputs, enable_of, each_register, load, next, step, values}
 

@@ -11,7 +11,7 @@ ghost use Rattle.cg_netlist.specs.Netlist.{widest_of};
 ghost use Rattle.std.specs.Prelude.{false};
 
 use crate::machine::Machine;
-use cg_netlist::id::{NetId, RegId};
+use cg_net::id::{NetId, RegId};
 use cg_netlist::netlist::Netlist;
 
 impl Machine {

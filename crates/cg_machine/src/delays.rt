@@ -5,7 +5,7 @@ ghost use Rattle.cg_machine.specs.inner.Putting.{put_bits};
 ghost use Rattle.std.specs.List.{All, find};
 ghost use Rattle.std.specs.Option.{option_map};
 
-use cg_netlist::id::NetId;
+use cg_net::id::NetId;
 use indexmap::IndexMap;
 use std::alloc::{AllocError, Global};
 use std::marker::Model;

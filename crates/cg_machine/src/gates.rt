@@ -14,7 +14,7 @@ ghost use Rattle.cg_machine.specs.View.{gate_seen};
 
 use crate::view::GateView;
 use cg_cell::fit::FitKind;
-use cg_netlist::id::NetId;
+use cg_net::id::NetId;
 use indexmap::IndexMap;
 use std::alloc::{AllocError, Global};
 use std::marker::Model;

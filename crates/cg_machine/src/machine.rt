@@ -27,7 +27,7 @@ use cg_cell::name::Name;
 use cg_limit::{Limit, MOST_NETS, MOST_REGISTERS};
 use cg_netlist::driver::Driver;
 use cg_netlist::fault::AddFault;
-use cg_netlist::id::{CellId, NetId, RegId};
+use cg_net::id::{CellId, NetId, RegId};
 use cg_netlist::netlist::Netlist;
 use std::alloc::{AllocError, Global};
 use std::marker::Model;

@@ -4,7 +4,7 @@ ghost use Rattle.std.specs.Prelude.{◌≡◌, ◌<◌, Some, length, slice_get}
 ghost use Rattle.cg_machine.specs.Machine.{order_of};
 
 use crate::machine::Machine;
-use cg_netlist::id::CellId;
+use cg_net::id::CellId;
 
 impl Machine {
     /// The place in walk order of a logic cell or an added gate.

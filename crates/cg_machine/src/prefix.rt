@@ -4,7 +4,7 @@ ghost use Rattle.std.specs.Prelude.{◌≡◌};
 ghost use Rattle.cg_machine.specs.Start.{first_clash};
 
 use cg_cell::name::Name;
-use cg_netlist::id::NetId;
+use cg_net::id::NetId;
 use cg_netlist::netlist::Netlist;
 
 /// The first net whose name begins with the prefix, or `None` where none does. It takes no memory.

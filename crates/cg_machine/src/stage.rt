@@ -3,7 +3,7 @@
 ghost use Rattle.std.specs.Prelude.{ℕ, Bool};
 
 use cg_list::Seq;
-use cg_netlist::id::{NetId, RegId};
+use cg_net::id::{NetId, RegId};
 use std::marker::Model;
 
 /// A literal: a net, plain or inverted. A contract sees the pair of both.

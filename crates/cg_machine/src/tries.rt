@@ -8,7 +8,7 @@ ghost use Rattle.cg_machine.specs.Tries.{MayTry, Tries};
 
 use crate::machine::Machine;
 use cg_cone::cone::Cone;
-use cg_netlist::id::{CellId, NetId};
+use cg_net::id::{CellId, NetId};
 use cg_netlist::walk::{gather, put};
 
 impl Machine {

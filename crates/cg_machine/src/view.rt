@@ -1,7 +1,7 @@
 //! What a machine shows of an added gate.
 
 use cg_cell::fit::FitKind;
-use cg_netlist::id::NetId;
+use cg_net::id::NetId;
 
 /// An added gate: its input nets in the order of its pins, and its output net.
 #[derive(Clone, Copy)]

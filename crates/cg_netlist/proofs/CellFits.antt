@@ -4,12 +4,13 @@ use Rattle.std.proofs.Common.{refl, ap, inl, inr, arith}
 use Rattle.std.specs.List.{All, filter, flat_map, range_with_len}
 use Rattle.std.proofs.lemmas.Bool.{both_ways, or_cases, or_left, or_right}
 use Rattle.std.proofs.lemmas.Option.{none-some, same_Some}
-use Rattle.cg_netlist.specs.Circuit.{Circuit, LogicCell, cell_nets, given_nets, is_in, used_nets}
+use Rattle.cg_netlist.specs.Circuit.{Circuit, LogicCell, cell_nets, given_nets, used_nets}
+use Rattle.cg_net.specs.NetSets.{is_in}
 use Rattle.cg_netlist.specs.Netlist.{IsNetlist, widest_of}
 use Rattle.cg_netlist.specs.Nets.{has_rank, walk_order}
 use Rattle.cg_netlist.proofs.Driven.{in_range}
 use Rattle.cg_netlist.proofs.Given.{driver_within}
-use Rattle.cg_netlist.proofs.Members.{All-from_members, All-member, is_in_cases, is_in_right, member_at}
+use Rattle.cg_net.proofs.Members.{All-from_members, All-member, is_in_cases, is_in_right, member_at}
 use Rattle.cg_netlist.proofs.Used.{input_is_used}
 use Rattle.cg_netlist.proofs.Values.{at_map}
 

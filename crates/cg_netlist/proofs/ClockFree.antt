@@ -6,12 +6,13 @@ use Rattle.std.proofs.lemmas.Bool.{both_ways}
 use Rattle.std.proofs.lemmas.List.{length-set}
 use Rattle.std.proofs.lemmas.Option.{same_Some}
 use Rattle.std.specs.Option.{option_to_list}
-use Rattle.cg_netlist.specs.Circuit.{Circuit, is_in, cell_nets, data_inputs, gate_nets, register_nets, used_nets}
+use Rattle.cg_netlist.specs.Circuit.{Circuit, cell_nets, data_inputs, gate_nets, register_nets, used_nets}
+use Rattle.cg_net.specs.NetSets.{is_in}
 use Rattle.cg_netlist.specs.Moment.{Settles, function_value, values_at}
 use Rattle.cg_netlist.specs.WellFormed.{IsWellFormed}
 use Rattle.cg_netlist.proofs.Given.{clock_given, driver_within, given_driver, given_no_cell, distinct_given, from_option}
-use Rattle.cg_netlist.proofs.Members.{distinct_apart, distinct_left, is_in_left, is_in_right, member_at}
-use Rattle.cg_netlist.proofs.TableLemmas.{slice_get-set_other, slice_get-set_same}
+use Rattle.cg_net.proofs.Members.{distinct_apart, distinct_left, is_in_left, is_in_right, member_at}
+use Rattle.cg_net.proofs.TableLemmas.{slice_get-set_other, slice_get-set_same}
 use Rattle.cg_netlist.proofs.Values.{at_map, same_values}
 use Rattle.cg_netlist.proofs.Used.{input_is_used}
 

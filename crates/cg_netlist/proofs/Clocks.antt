@@ -5,11 +5,12 @@ use Rattle.std.specs.List.{All, list_any}
 use Rattle.std.specs.Option.{option_map, option_map_or, option_to_list}
 use Rattle.std.proofs.lemmas.List.{length-map}
 use Rattle.std.proofs.lemmas.Option.{slice_get-map, slice_get_within, get_or_from_slice_get}
-use Rattle.cg_netlist.specs.Circuit.{Circuit, GatingCell, asked_nets, is_in, gate_nets, clock_nets}
+use Rattle.cg_netlist.specs.Circuit.{Circuit, GatingCell, asked_nets, clock_nets, gate_nets}
+use Rattle.cg_net.specs.NetSets.{is_in}
 use Rattle.cg_netlist.specs.WellFormed.{IsWellFormed}
 use Rattle.cg_netlist.specs.Moment.{Settles, bit, zip_with}
 use Rattle.cg_netlist.specs.History.{next_latch, gate_bit}
-use Rattle.cg_netlist.proofs.Members.{is_in_left, is_in_right, is_in_cases, place_of_member, member_at}
+use Rattle.cg_net.proofs.Members.{is_in_cases, is_in_left, is_in_right, member_at, place_of_member}
 use Rattle.cg_netlist.proofs.Given.{in_option, from_option, gate_given, given_within, distinct_gates, clock_no_gate}
 use Rattle.cg_netlist.proofs.Solve.{place_of, place_of-None, place_of-Some, place_of-at, solved, fixed, greatest, greatest_bounds}
 use Rattle.cg_netlist.proofs.Values.{at_map, under_map, element_at, same_places, value_at, bit_shown, length-zip_with, zip_with_at}

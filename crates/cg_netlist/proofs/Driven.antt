@@ -5,10 +5,11 @@ use Rattle.std.specs.List.{IsDistinct, filter, range_with_len}
 use Rattle.std.specs.Option.{option_to_list}
 use Rattle.std.proofs.lemmas.Bool.{eqb-true, eq-eqb, or_cases, or_left, or_right, and_parts, both_ways, cases_eq, cases_Bool}
 use Rattle.std.proofs.lemmas.Bool.{false_from_ne_true, not-true}
-use Rattle.cg_netlist.specs.Circuit.{Circuit, is_in, data_inputs, cell_nets, gate_nets, register_nets, drivers, net_order}
+use Rattle.cg_netlist.specs.Circuit.{Circuit, cell_nets, data_inputs, drivers, gate_nets, net_order, register_nets}
+use Rattle.cg_net.specs.NetSets.{is_in}
 use Rattle.cg_netlist.specs.WellFormed.{IsDriven, IsInNetOrder}
-use Rattle.cg_netlist.proofs.Members.{All-from_members, is_in-append, is_in_left, is_in_right, is_in_cases, distinct_cons}
-use Rattle.cg_netlist.proofs.Members.{distinct_head, distinct_tail, distinct_left, distinct_right, distinct_apart, distinct_append}
+use Rattle.cg_net.proofs.Members.{All-from_members, distinct_cons, is_in-append, is_in_cases, is_in_left, is_in_right}
+use Rattle.cg_net.proofs.Members.{distinct_apart, distinct_append, distinct_head, distinct_left, distinct_right, distinct_tail}
 
 -- the numbers from a on
 pub is_in-range : (n a x : ℕ) → a ≤ x → x < a + n → is_in (range_with_len a n) x ≡ true

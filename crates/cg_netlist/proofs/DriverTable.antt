@@ -8,16 +8,17 @@ use Rattle.std.proofs.lemmas.Bool.{both_ways}
 use Rattle.std.proofs.lemmas.List.{drop_all, length-replicate, length-set}
 use Rattle.std.proofs.lemmas.Option.{get_or_from_slice_get, none-some, same_Some, slice_get_within}
 use Rattle.cg_netlist.specs.Circuit.{Circuit, GatingCell, LogicCell, RegisterCell, cell_nets, data_inputs, gate_nets, given_nets}
-use Rattle.cg_netlist.specs.Circuit.{is_in, register_nets, shown_nets}
+use Rattle.cg_net.specs.NetSets.{is_in}
+use Rattle.cg_netlist.specs.Circuit.{register_nets, shown_nets}
 use Rattle.cg_netlist.specs.Drivers.{IsDriver}
 use Rattle.cg_netlist.specs.WellFormed.{IsDriven}
 use Rattle.cg_netlist.specs.declared.driver.Driver.{Driver}
 use Rattle.cg_netlist.specs.declared.driver.Driver.TheVariants.{Input, Cell, Gater, Register}
 use Rattle.cg_netlist.specs.inner.Driving.{IsTold, all_but_inputs, behind_cells, behind_gaters, behind_registers}
 use Rattle.cg_netlist.proofs.Given.{driver_within, gate_given, given_driver, register_given}
-use Rattle.cg_netlist.proofs.Members.{is_in_cases, is_in_left, is_in_right, member_at}
+use Rattle.cg_net.proofs.Members.{is_in_cases, is_in_left, is_in_right, member_at}
 use Rattle.cg_netlist.proofs.NetsOf.{or_none, other_eqb}
-use Rattle.cg_netlist.proofs.TableLemmas.{set_cases}
+use Rattle.cg_net.proofs.TableLemmas.{set_cases}
 use Rattle.cg_netlist.proofs.Used.{in_flat}
 use Rattle.cg_netlist.proofs.Values.{at_map}
 

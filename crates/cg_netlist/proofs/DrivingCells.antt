@@ -9,7 +9,7 @@ use Rattle.std.proofs.lemmas.List.{length-set}
 use Rattle.cg_netlist.specs.Circuit.{LogicCell}
 use Rattle.cg_netlist.specs.inner.Ranking.{entry}
 use Rattle.cg_netlist.specs.Ranks.{driving_cell}
-use Rattle.cg_netlist.proofs.TableLemmas.{entry-set_same, entry-set_other}
+use Rattle.cg_netlist.proofs.EntryLemmas.{entry-set_other, entry-set_same}
 
 -- the first cell that drives a net, with one more cell
 first_push : (test : LogicCell ℕ → Bool) (a : ℕ) (cells : List (LogicCell ℕ)) (cell : LogicCell ℕ) → position_from test a (cells ++ cell ∷ []) ≡ option_or (position_from test a cells) (cond (test cell) (Some (a + length cells)) None)

@@ -9,7 +9,7 @@ use Rattle.cg_netlist.specs.Circuit.{LogicCell}
 use Rattle.cg_netlist.specs.inner.Ranking.{drivers_at, entry}
 use Rattle.cg_netlist.specs.inner.CutAt.{EndsAt, cut_at}
 use Rattle.cg_netlist.proofs.CutAtPlaces.{IsPart, ends_more, part_is, part_more, part_within, parts}
-use Rattle.cg_netlist.proofs.RankingLemmas.{take_next}
+use Rattle.cg_net.proofs.TableLemmas.{take_next}
 
 single : (o : Option ℕ) → cons_option o [] ≡ option_to_list o
 single None = refl

@@ -18,7 +18,8 @@ use Rattle.cg_cell.specs.Term.{Input}
 use Rattle.cg_cell.specs.declared.cell.CellKind.TheVariants.{Flop as FlopKind, Gater as GaterKind}
 use Rattle.cg_cell.specs.declared.cell.Role.TheVariants.{Data, Clock, Enable, Output, State, StateBar}
 use Rattle.cg_netlist.specs.declared.parts.RegisterKind.TheVariants.{Flop}
-use Rattle.cg_netlist.specs.Circuit.{Circuit, GatingCell, is_in, clock_nets, used_nets}
+use Rattle.cg_netlist.specs.Circuit.{Circuit, GatingCell, clock_nets, used_nets}
+use Rattle.cg_net.specs.NetSets.{is_in}
 use Rattle.cg_netlist.specs.WellFormed.{IsInNetOrder, IsWellFormed, IsOver, RegisterFits}
 use Rattle.cg_netlist.specs.Moment.{Settles}
 use Rattle.cg_netlist.proofs.Driven.{driven_in_order}

@@ -4,10 +4,11 @@ use Rattle.std.proofs.Common.{arith}
 use Rattle.std.specs.List.{All, IsDistinct}
 use Rattle.std.specs.Option.{option_to_list}
 use Rattle.std.proofs.lemmas.Bool.{eqb-true, eq-eqb, or_cases, or_left, both_ways}
-use Rattle.cg_netlist.specs.Circuit.{Circuit, is_in, data_inputs, cell_nets, gate_nets, register_nets, given_nets, drivers}
+use Rattle.cg_netlist.specs.Circuit.{Circuit, cell_nets, data_inputs, drivers, gate_nets, given_nets, register_nets}
+use Rattle.cg_net.specs.NetSets.{is_in}
 use Rattle.cg_netlist.specs.WellFormed.{IsDriven}
-use Rattle.cg_netlist.proofs.Members.{All-from_members, All-member, is_in_left, is_in_right, is_in_cases, distinct_left}
-use Rattle.cg_netlist.proofs.Members.{distinct_right, distinct_apart}
+use Rattle.cg_net.proofs.Members.{All-from_members, All-member, distinct_left, is_in_cases, is_in_left, is_in_right}
+use Rattle.cg_net.proofs.Members.{distinct_apart, distinct_right}
 
 -- the net of the one that may be there
 pub in_option : (o : Option ℕ) (x : ℕ) → is_in (option_to_list o) x ≡ true → o ≡ Some x

@@ -3,7 +3,8 @@ use Rattle.std.proofs.Common.{◌≡◌, ℕ, Bool, true, false, not, ◌&&◌, 
 use Rattle.std.proofs.Common.{Option, None, Some, refl, ap, sym, ◌∙◌, subst}
 use Rattle.std.proofs.lemmas.List.{length-replicate, length-map}
 use Rattle.std.proofs.lemmas.Option.{slice_get_within, get_or_from_slice_get}
-use Rattle.cg_netlist.specs.Circuit.{Circuit, RegisterCell, is_in, data_inputs, gate_nets, clock_nets}
+use Rattle.cg_netlist.specs.Circuit.{Circuit, RegisterCell, clock_nets, data_inputs, gate_nets}
+use Rattle.cg_net.specs.NetSets.{is_in}
 use Rattle.cg_netlist.specs.WellFormed.{IsWellFormed}
 use Rattle.cg_netlist.specs.Moment.{Settles, bit, values_at, zip_with}
 use Rattle.cg_netlist.specs.History.{Tick, Moment, AreTicks, IsStart, MomentFollows, LawfulFrom, HasHistory, HasOneHistory}

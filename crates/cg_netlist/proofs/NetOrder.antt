@@ -7,9 +7,10 @@ use Rattle.std.proofs.lemmas.Bool.{both_ways, or_cases, or_left, or_right, eqb-t
 use Rattle.std.proofs.lemmas.List.{map-append, map-id, length-map}
 use Rattle.std.proofs.lemmas.List.FromFn.{fill_by_all}
 use Rattle.std.proofs.lemmas.Option.{get_or_from_slice_get, slice_get-map, slice_get-get_or}
-use Rattle.cg_netlist.specs.Circuit.{LogicCell, RegisterCell, is_in, shown_nets}
+use Rattle.cg_netlist.specs.Circuit.{LogicCell, RegisterCell, shown_nets}
+use Rattle.cg_net.specs.NetSets.{is_in}
 use Rattle.cg_netlist.specs.Wiring.{map_cell, map_register}
-use Rattle.cg_netlist.proofs.PlaceLemmas.{place_is}
+use Rattle.cg_net.proofs.PlaceLemmas.{place_is}
 
 -- a net that is in a list stands in the mapped list under its number
 pub in_mapped : (f : ℕ → ℕ) (xs : List ℕ) (x : ℕ) → is_in xs x ≡ true → is_in (map f xs) (f x) ≡ true

@@ -6,15 +6,16 @@ use Rattle.std.specs.Option.{option_to_list}
 use Rattle.std.proofs.lemmas.Bool.{eqb-true, both_ways, false_from_ne_true}
 use Rattle.std.proofs.lemmas.List.{length-map, map-append, length-set}
 use Rattle.std.proofs.lemmas.Option.{slice_get_past, slice_get_within, slice_get-get_or}
-use Rattle.cg_netlist.specs.Circuit.{Circuit, LogicCell, is_in, cell_nets, data_inputs, gate_nets, given_nets, register_nets}
+use Rattle.cg_netlist.specs.Circuit.{Circuit, LogicCell, cell_nets, data_inputs, gate_nets, given_nets, register_nets}
+use Rattle.cg_net.specs.NetSets.{is_in}
 use Rattle.cg_netlist.specs.Circuit.{used_nets}
 use Rattle.cg_netlist.specs.Moment.{CellsHold, Settles, bit, function_value, register_bits, values_at}
 use Rattle.cg_netlist.specs.WellFormed.{AreRanks, IsDriven}
 use Rattle.cg_netlist.proofs.Given.{data_given, driver_within, gate_given, given_driver, in_option, register_given}
-use Rattle.cg_netlist.proofs.Members.{is_in_cases}
+use Rattle.cg_net.proofs.Members.{is_in_cases}
 use Rattle.cg_netlist.proofs.OrderLemmas.{length-range_with_len}
 use Rattle.cg_netlist.proofs.Settle.{settles_some}
-use Rattle.cg_netlist.proofs.TableLemmas.{slice_get-set_other, slice_get-set_same, same_or_not}
+use Rattle.cg_net.proofs.TableLemmas.{same_or_not, slice_get-set_other, slice_get-set_same}
 use Rattle.cg_netlist.proofs.Values.{bit_shown, by_place, map_same, same_places, same_values, values_by}
 use Rattle.cg_netlist.specs.Nets.{IsOrdered, IsWalk, beside, given_bits, nets_of, outputs, put_cells}
 

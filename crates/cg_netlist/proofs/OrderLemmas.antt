@@ -3,7 +3,8 @@ use Rattle.std.proofs.Common.{◌≡◌, ℕ, zero, suc, ◌+◌, ◌≤◌, not
 use Rattle.std.specs.List.{filter, range_with_len}
 use Rattle.std.specs.Option.{option_to_list}
 use Rattle.std.proofs.lemmas.List.{length-map}
-use Rattle.cg_netlist.specs.Circuit.{Circuit, is_in, cell_nets, gate_nets, register_nets}
+use Rattle.cg_netlist.specs.Circuit.{Circuit, cell_nets, gate_nets, register_nets}
+use Rattle.cg_net.specs.NetSets.{is_in}
 use Rattle.cg_netlist.specs.WellFormed.{IsInNetOrder}
 
 -- numbers from a on are as many as asked for

@@ -12,22 +12,22 @@ use Rattle.cg_cell.specs.Cell.{IsCell}
 use Rattle.cg_cell.specs.Name.{is_name}
 use Rattle.cg_cell.specs.Pins.{is_test}
 use Rattle.cg_cell.specs.declared.cell.CellKind.TheVariants.{Gater as GaterKind}
-use Rattle.cg_netlist.specs.Wiring.{net_name}
-use Rattle.cg_netlist.specs.Circuit.{Circuit, GatingCell, LogicCell, asked_nets, is_in, cell_nets, clock_nets, data_inputs}
+use Rattle.cg_net.specs.Names.{net_name}
+use Rattle.cg_netlist.specs.Circuit.{Circuit, GatingCell, LogicCell, asked_nets, cell_nets, clock_nets, data_inputs}
+use Rattle.cg_net.specs.NetSets.{is_in}
 use Rattle.cg_netlist.specs.Circuit.{gate_nets, given_nets, net_order, register_nets, used_nets}
 use Rattle.cg_netlist.specs.Wiring.{map_cell, map_register}
 use Rattle.cg_netlist.specs.WellFormed.{AreRanks, IsInNetOrder, IsOver, IsWellFormed, RegisterFits}
 use Rattle.cg_netlist.proofs.Driven.{driven_in_order}
-use Rattle.cg_netlist.proofs.PlaceLemmas.{mapped_at}
+use Rattle.cg_net.proofs.PlaceLemmas.{mapped_at, same_net}
 use Rattle.cg_netlist.proofs.RegisterKept.{register_kept}
 use Rattle.cg_netlist.proofs.Given.{clock_given, distinct_cells, distinct_gates, distinct_given, driver_within, from_option}
 use Rattle.cg_netlist.proofs.Given.{given_no_cell, in_option, register_given, gate_given, given_driver, kind_of, Data, Clock, Gate}
 use Rattle.cg_netlist.proofs.Given.{Shown}
-use Rattle.cg_netlist.proofs.Members.{All-from_members, All-member, distinct_append, distinct_apart, distinct_left, distinct_right}
-use Rattle.cg_netlist.proofs.Members.{is_in_cases, is_in_left, is_in_right, member_at, one_place}
+use Rattle.cg_net.proofs.Members.{All-from_members, All-member, distinct_apart, distinct_append, distinct_left, distinct_right}
+use Rattle.cg_net.proofs.Members.{is_in_cases, is_in_left, is_in_right, member_at, one_place}
 use Rattle.cg_netlist.proofs.NetOrder.{data_renumbered, from_mapped, in_mapped, inputs_renumbered, outputs_renumbered}
 use Rattle.cg_netlist.proofs.NetOrder.{places_in_order, registers_renumbered}
-use Rattle.cg_netlist.proofs.PlaceLemmas.{same_net}
 use Rattle.cg_netlist.proofs.Values.{at_map}
 use Rattle.cg_netlist.specs.Ordered.{ordered, place_in, with_numbers}
 use Rattle.cg_netlist.specs.Wiring.{map_gater}

@@ -6,7 +6,8 @@ use Rattle.std.specs.Option.{option_map, option_to_list}
 use Rattle.std.proofs.lemmas.Bool.{eq-eqb, or_left, or_right}
 use Rattle.std.proofs.lemmas.List.{length-map}
 use Rattle.std.proofs.lemmas.Option.{get_or_from_slice_get, slice_get-get_or, slice_get-map, slice_get_within}
-use Rattle.cg_netlist.specs.Circuit.{Circuit, GatingCell, LogicCell, RegisterCell, asked_nets, is_in, cell_nets, clock_nets}
+use Rattle.cg_netlist.specs.Circuit.{Circuit, GatingCell, LogicCell, RegisterCell, asked_nets, cell_nets, clock_nets}
+use Rattle.cg_net.specs.NetSets.{is_in}
 use Rattle.cg_netlist.specs.Circuit.{data_inputs, gate_nets, given_nets, register_nets}
 use Rattle.cg_netlist.specs.Wiring.{map_cell, map_register}
 use Rattle.cg_netlist.specs.History.{AreTicks, IsLawful, IsStart, IsWaveform, LawfulFrom, Moment, MomentFollows, Tick, gate_bit}
@@ -16,7 +17,7 @@ use Rattle.cg_netlist.specs.WellFormed.{IsWellFormed}
 use Rattle.cg_netlist.proofs.Clocks.{pin_clocked}
 use Rattle.cg_netlist.proofs.Given.{data_given, driver_within, gate_given, given_driver, register_given}
 use Rattle.cg_netlist.proofs.Histories.{has_history, has_one_history}
-use Rattle.cg_netlist.proofs.Members.{is_in_right, member_at}
+use Rattle.cg_net.proofs.Members.{is_in_right, member_at}
 use Rattle.cg_netlist.proofs.NetOrder.{registers_renumbered}
 use Rattle.cg_netlist.proofs.OrderLemmas.{length-range_with_len}
 use Rattle.cg_netlist.proofs.Values.{at_map, by_place, zip_with_same}

@@ -13,7 +13,7 @@ use Rattle.cg_netlist.specs.Moment.{values_at}
 use Rattle.cg_netlist.specs.WellFormed.{FitsKind, IsWellFormed, RegisterFits}
 use Rattle.cg_netlist.specs.declared.parts.RegisterKind.{RegisterKind}
 use Rattle.cg_netlist.specs.declared.parts.RegisterKind.TheVariants.{Flop, Plain}
-use Rattle.cg_netlist.proofs.Members.{All-from_members, All-member}
+use Rattle.cg_net.proofs.Members.{All-from_members, All-member}
 use Rattle.cg_netlist.proofs.Used.{data_is_used}
 use Rattle.cg_netlist.proofs.Values.{value_at}
 

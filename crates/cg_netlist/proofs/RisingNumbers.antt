@@ -8,9 +8,9 @@ use Rattle.std.proofs.lemmas.List.Kept.{AllPairs-from_increasing}
 use Rattle.std.proofs.lemmas.List.Sorted.{list_any-IsPermutation}
 use Rattle.std.proofs.lemmas.Map.Keys.{IsStrictlyIncreasing-dedup}
 use Rattle.std.proofs.lemmas.Bool.{eqb-true}
-use Rattle.cg_netlist.specs.Circuit.{is_in}
+use Rattle.cg_net.specs.NetSets.{is_in}
 use Rattle.cg_netlist.proofs.Filtered.{in_filter, range_in, to_filter}
-use Rattle.cg_netlist.proofs.FoundNets.{same_truth}
+use Rattle.cg_net.proofs.FoundNets.{same_truth}
 use Rattle.cg_netlist.specs.inner.Rising.{Rises}
 use Rattle.cg_netlist.proofs.RisingPlaces.{rising_same}
 

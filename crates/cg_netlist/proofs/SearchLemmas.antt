@@ -6,14 +6,15 @@ use Rattle.std.proofs.lemmas.List.{length-replicate}
 use Rattle.std.proofs.lemmas.List.Sums.{count_by-le-length}
 use Rattle.std.proofs.lemmas.Bool.{or_cases, eqb-true}
 use Rattle.std.proofs.lemmas.List.FromFn.{fill_by_all}
-use Rattle.cg_netlist.specs.Circuit.{is_in}
+use Rattle.cg_net.specs.NetSets.{is_in}
 use Rattle.cg_netlist.specs.Ranks.{next_rank, rank_within}
 use Rattle.cg_netlist.specs.inner.Ranking.{Advances, HasVisited, IsSound, NamesCells, Search}
 use Rattle.cg_netlist.specs.inner.Ranking.{cells_above, entered, entry, rank_under, ranks_in, unsearched, was_seen}
 use Rattle.cg_netlist.proofs.Each.{by_recursion}
 use Rattle.cg_netlist.proofs.RankLemmas.{rank_is, under_none}
 use Rattle.cg_netlist.proofs.SearchSteps.{IsOff, none_on, one_entered, seen_now}
-use Rattle.cg_netlist.proofs.TableLemmas.{entry_or, same_or_not}
+use Rattle.cg_netlist.proofs.EntryLemmas.{entry_or}
+use Rattle.cg_net.proofs.TableLemmas.{same_or_not}
 
 no_entry : (n k r : ℕ) → entry (replicate n None) k ≡ Some r → ⊥
 no_entry zero k r is = cc

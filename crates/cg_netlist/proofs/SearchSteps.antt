@@ -8,12 +8,12 @@ use Rattle.std.proofs.lemmas.Option.{same_Some, none-some, slice_get_within, sli
 use Rattle.std.proofs.lemmas.List.Elements.{All-head, All-tail}
 use Rattle.std.proofs.lemmas.List.Sums.{sum_by-set}
 use Rattle.cg_netlist.specs.declared.ranks.Progress.{Progress}
-use Rattle.cg_netlist.specs.Circuit.{is_in}
+use Rattle.cg_net.specs.NetSets.{is_in}
 use Rattle.cg_netlist.specs.inner.Ranking.{Advances, HasLooked, IsAbove, IsStacked, IsLost, IsPending, IsSound, Looks, NamesCells, Search}
 use Rattle.cg_netlist.specs.inner.Ranking.{cells_above, entered, entry, given_up, met, rank_under, was_seen, with_rank, with_top}
 use Rattle.cg_netlist.proofs.RankLemmas.{next_rank-bound, next_rank-more}
-use Rattle.cg_netlist.proofs.TableLemmas.{entry_or, entry-set_same, entry-set_other, front_get, same_or_not}
-use Rattle.cg_netlist.proofs.TableLemmas.{slice_get-set_same, slice_get-set_other}
+use Rattle.cg_netlist.proofs.EntryLemmas.{entry-set_other, entry-set_same, entry_or}
+use Rattle.cg_net.proofs.TableLemmas.{front_get, same_or_not, slice_get-set_other, slice_get-set_same}
 
 -- a list with one more element
 

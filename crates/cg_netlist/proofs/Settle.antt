@@ -5,13 +5,14 @@ use Rattle.std.proofs.Common.{slice_get, slice_index, Option, None, Some, refl, 
 use Rattle.std.specs.List.{All, flat_map, range_with_len}
 use Rattle.std.specs.Option.{option_map_or, option_to_list}
 use Rattle.std.proofs.lemmas.List.{length-map, length-append, map-append}
-use Rattle.cg_netlist.specs.Circuit.{Circuit, LogicCell, RegisterCell, is_in, data_inputs, cell_nets, gate_nets, register_nets}
+use Rattle.cg_netlist.specs.Circuit.{Circuit, LogicCell, RegisterCell, cell_nets, data_inputs, gate_nets, register_nets}
+use Rattle.cg_net.specs.NetSets.{is_in}
 use Rattle.cg_netlist.specs.Circuit.{given_nets, drivers, used_nets, shown_nets, asked_nets}
 use Rattle.cg_netlist.specs.WellFormed.{IsDriven, AreRanks}
 use Rattle.cg_netlist.specs.Moment.{Settles, CellsHold, values_at, function_value, register_bits, shown_bits}
 use Rattle.cg_netlist.proofs.Given.{Data, Clock, Gate, Shown, kind_of, data_given, clock_given, gate_given, register_given}
 use Rattle.cg_netlist.proofs.Given.{given_driver, distinct_given, distinct_cells, given_no_cell, driver_within, given_within}
-use Rattle.cg_netlist.proofs.Members.{is_in_left, is_in_right, is_in_cases, place_of_member, member_at, All-member}
+use Rattle.cg_net.proofs.Members.{All-member, is_in_cases, is_in_left, is_in_right, member_at, place_of_member}
 use Rattle.cg_netlist.proofs.OrderLemmas.{length-range_with_len}
 use Rattle.cg_netlist.proofs.Solve.{bit_beside, bits_beside, place_of, place_of-None, place_of-Some, place_of-at, solved, fixed}
 use Rattle.cg_netlist.proofs.Solve.{greatest, greatest_bounds}

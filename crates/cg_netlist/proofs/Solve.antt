@@ -6,8 +6,8 @@ use Rattle.std.proofs.Common.{arith}
 use Rattle.std.specs.List.{IsDistinct}
 use Rattle.std.specs.Option.{option_map}
 use Rattle.std.proofs.lemmas.Bool.{eqb-true, eq-eqb, or_cases, or_parts, both_ways, cases_Bool}
-use Rattle.cg_netlist.specs.Circuit.{is_in}
-use Rattle.cg_netlist.proofs.Members.{member_at, distinct_head, distinct_tail, one_place}
+use Rattle.cg_net.specs.NetSets.{is_in}
+use Rattle.cg_net.proofs.Members.{distinct_head, distinct_tail, member_at, one_place}
 use Rattle.cg_netlist.proofs.Values.{map_same}
 
 -- the bit that stands beside a net, where one does

@@ -6,11 +6,11 @@ use Rattle.std.specs.Option.{option_map_or}
 use Rattle.std.proofs.lemmas.List.FromFn.{get_or-map-range_with_len, length-map-range_with_len}
 use Rattle.std.proofs.lemmas.Option.{same_Some}
 use Rattle.cg_netlist.specs.Circuit.{LogicCell}
-use Rattle.cg_netlist.specs.Marks.{AreMarksOf}
+use Rattle.cg_net.specs.Marks.{AreMarksOf}
 use Rattle.cg_netlist.specs.Places.{CellWithin}
 use Rattle.cg_netlist.specs.inner.Ranking.{IsGraph, entry}
 use Rattle.cg_netlist.specs.Ranks.{driving_cell, is_unranked, rank_of, ranks_of}
-use Rattle.cg_netlist.proofs.TableLemmas.{entry_or, entry_within}
+use Rattle.cg_netlist.proofs.EntryLemmas.{entry_or, entry_within}
 use Rattle.cg_netlist.proofs.Each.{from_recursion}
 
 -- the number of a driving cell is that of a cell

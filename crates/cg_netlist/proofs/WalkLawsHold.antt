@@ -6,7 +6,8 @@ use Rattle.std.proofs.lemmas.Bool.{both_ways, eqb-true, or_cases}
 use Rattle.std.proofs.lemmas.List.{length-map}
 use Rattle.std.proofs.lemmas.Option.{same_Some, slice_get-get_or, slice_get_past}
 use Rattle.cg_netlist.specs.Chains.{chain, chain_cell}
-use Rattle.cg_netlist.specs.Circuit.{Circuit, GatingCell, LogicCell, cell_nets, clock_nets, gate_nets, given_nets, is_in}
+use Rattle.cg_netlist.specs.Circuit.{Circuit, GatingCell, LogicCell, cell_nets, clock_nets, gate_nets, given_nets}
+use Rattle.cg_net.specs.NetSets.{is_in}
 use Rattle.cg_netlist.specs.Netlist.{IsNetlist}
 use Rattle.cg_netlist.specs.Nets.{nets_of, outputs}
 use Rattle.cg_netlist.specs.WalkLaws.{ClockIsApart, GateOrderIsWalk, NetsAreAll, NetsSettle, WalkLeavesMoment, WalkOrderIsWalk}
@@ -17,7 +18,7 @@ use Rattle.cg_netlist.proofs.Clocks.{pin_clocked}
 use Rattle.cg_netlist.proofs.DriverTable.{gater_net_within}
 use Rattle.cg_netlist.proofs.Given.{clock_given, clock_no_gate, distinct_cells, distinct_gates, driver_within, gate_given}
 use Rattle.cg_netlist.proofs.Given.{given_driver, in_option}
-use Rattle.cg_netlist.proofs.Members.{is_in_cases, member_at, one_place}
+use Rattle.cg_net.proofs.Members.{is_in_cases, member_at, one_place}
 use Rattle.cg_netlist.proofs.NetsOf.{nets_only, nets_settle, put_same}
 use Rattle.cg_netlist.proofs.OrderLemmas.{gaters_within}
 use Rattle.cg_netlist.proofs.Values.{at_map}
@@ -75,7 +76,7 @@ chain_levelled c good n is =
           subst (λ (x : LogicCell ℕ). x.output < n) g.2 (let small = gater_net_within c good.well_formed.driven k g.0 g.1 in omega (arith, small, is));
       inputs = λ k d below.
           let g = gater k d below in
-          subst (λ (x : LogicCell ℕ). All (λ net. net < n) x.inputs) g.2 (Rattle.cg_netlist.proofs.Members.All-from_members (λ net. net < n) (g.0.clock ∷ []) (λ net among.
+          subst (λ (x : LogicCell ℕ). All (λ net. net < n) x.inputs) g.2 (Rattle.cg_net.proofs.Members.All-from_members (λ net. net < n) (g.0.clock ∷ []) (λ net among.
           let same : net ≡ g.0.clock = lone g.0.clock net among in
           let small = clock_within c good.well_formed g.0.clock (pin_clocked c good.well_formed k g.0 g.1) in
           omega (arith, small, is, same)));

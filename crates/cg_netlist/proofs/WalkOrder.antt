@@ -6,12 +6,12 @@ use Rattle.std.specs.List.{IsDistinct, cons_option, filter, filter_map, flat_map
 use Rattle.std.specs.Option.{option_map_or}
 use Rattle.std.proofs.lemmas.Bool.{both_ways, cases_Bool, eqb-true, eq-eqb, or_cases, or_left, or_parts, or_right}
 use Rattle.std.proofs.lemmas.Option.{none-some, same_Some, slice_get_within}
-use Rattle.cg_netlist.specs.Circuit.{LogicCell, is_in}
+use Rattle.cg_netlist.specs.Circuit.{LogicCell}
+use Rattle.cg_net.specs.NetSets.{is_in}
 use Rattle.cg_netlist.specs.Moment.{values_at}
 use Rattle.cg_netlist.specs.Ranks.{driving_cell, driving_cells, rank_of, rank_within}
 use Rattle.cg_netlist.specs.WellFormed.{AreRanks}
-use Rattle.cg_netlist.proofs.Members.{distinct_head, distinct_tail, is_in_cases, is_in_left, is_in_right, member_at}
-use Rattle.cg_netlist.proofs.Members.{place_of_member}
+use Rattle.cg_net.proofs.Members.{distinct_head, distinct_tail, is_in_cases, is_in_left, is_in_right, member_at, place_of_member}
 use Rattle.cg_netlist.proofs.RankLemmas.{next_rank-below, next_rank-bound, next_rank-more}
 use Rattle.cg_netlist.proofs.Values.{at_map, under_map}
 use Rattle.cg_netlist.proofs.Rising.{every_rank_found}

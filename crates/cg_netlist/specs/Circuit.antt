@@ -1,9 +1,10 @@
 -- Netlists as plain data. A net is its number, which is its place in the list of names; cells, gating cells and
 -- registers are their places in their lists.
-use Rattle.std.specs.Prelude.{ℕ, Bool, not, List, ◌∷◌, ◌++◌, map, Option, nat_eq}
-use Rattle.std.specs.List.{list_any, filter, flat_map}
+use Rattle.std.specs.Prelude.{ℕ, Bool, not, List, ◌∷◌, ◌++◌, map, Option}
+use Rattle.std.specs.List.{filter, flat_map}
 use Rattle.std.specs.Option.{option_to_list}
 use Rattle.cg_cell.specs.Cell.{CellData}
+use Rattle.cg_net.specs.NetSets.{is_in}
 use Rattle.cg_netlist.specs.declared.parts.LogicFunction.{LogicFunction}
 use Rattle.cg_netlist.specs.declared.parts.RegisterKind.{RegisterKind}
 
@@ -44,10 +45,6 @@ pub record Circuit : Type 0 where
   pub cells : List (LogicCell ℕ)
   pub gaters : List (GatingCell ℕ)
   pub registers : List (RegisterCell ℕ ℕ)
-
--- whether a net is among these
-abbrev pub is_in : List ℕ → ℕ → Bool
-is_in nets net = list_any (nat_eq net) nets
 
 -- the inputs without the clock
 abbrev pub data_inputs : Circuit → List ℕ

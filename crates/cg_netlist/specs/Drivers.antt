@@ -1,6 +1,7 @@
 -- What drives the nets of a netlist.
 use Rattle.std.specs.Prelude.{◌≡◌, ℕ, true, List, length, slice_get, Some}
-use Rattle.cg_netlist.specs.Circuit.{Circuit, GatingCell, LogicCell, RegisterCell, data_inputs, is_in}
+use Rattle.cg_netlist.specs.Circuit.{Circuit, GatingCell, LogicCell, RegisterCell, data_inputs}
+use Rattle.cg_net.specs.NetSets.{is_in}
 use Rattle.cg_netlist.specs.declared.driver.Driver.{Driver}
 use Rattle.cg_netlist.specs.declared.driver.Driver.TheVariants.{Input, Clock, Cell, Gater, Register}
 

@@ -2,11 +2,7 @@ pub mod Chains
 pub mod Circuit
 pub mod Drivers
 pub mod History
-pub mod Marks
 pub mod Moment
-pub mod NamePlaces
-pub mod Names
-pub mod NetSets
 pub mod Netlist
 pub mod Nets
 pub mod Ordered

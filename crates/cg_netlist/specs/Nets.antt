@@ -3,7 +3,8 @@ use Rattle.std.specs.Prelude.{◌≡◌, ℕ, ◌==◌, Bool, true, false, if◌
 use Rattle.std.specs.Prelude.{slice_set, Some, nat_eq}
 use Rattle.std.specs.List.{filter, flat_map, range_with_len}
 use Rattle.std.specs.Option.{option_map_or, option_to_list}
-use Rattle.cg_netlist.specs.Circuit.{Circuit, LogicCell, given_nets, is_in}
+use Rattle.cg_netlist.specs.Circuit.{Circuit, LogicCell, given_nets}
+use Rattle.cg_net.specs.NetSets.{is_in}
 use Rattle.cg_netlist.specs.Moment.{function_value, register_bits, values_at}
 use Rattle.cg_netlist.specs.Ranks.{rank_of}
 

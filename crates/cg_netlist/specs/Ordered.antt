@@ -5,7 +5,8 @@ use Rattle.std.specs.Option.{option_map}
 use Rattle.cg_netlist.specs.Circuit.{Circuit, net_order}
 use Rattle.cg_netlist.specs.History.{IsLawful, IsStart, IsWaveform, Moment, Tick, outputs_of}
 use Rattle.cg_netlist.specs.Moment.{bit}
-use Rattle.cg_netlist.specs.Wiring.{map_cell, map_gater, map_register, net_name}
+use Rattle.cg_netlist.specs.Wiring.{map_cell, map_gater, map_register}
+use Rattle.cg_net.specs.Names.{net_name}
 use Rattle.cg_netlist.specs.WellFormed.{IsInNetOrder, IsWellFormed}
 
 -- all parts with their nets numbered anew, and these names for them

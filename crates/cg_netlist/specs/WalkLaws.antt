@@ -1,7 +1,8 @@
 -- What is true of walk order, and of the bits that a walk leaves.
 use Rattle.std.specs.Prelude.{◌≡◌, ◌≢◌, ℕ, Bool, true, false, List, length, slice_get, Some}
 use Rattle.cg_netlist.specs.Chains.{chain, gate_order}
-use Rattle.cg_netlist.specs.Circuit.{Circuit, LogicCell, data_inputs, given_nets, is_in}
+use Rattle.cg_netlist.specs.Circuit.{Circuit, LogicCell, data_inputs, given_nets}
+use Rattle.cg_net.specs.NetSets.{is_in}
 use Rattle.cg_netlist.specs.Moment.{Settles, values_at}
 use Rattle.cg_netlist.specs.Nets.{IsWalk, nets_of, put_cells, walked}
 use Rattle.cg_netlist.specs.WellFormed.{IsWellFormed}

@@ -14,7 +14,8 @@ use Rattle.cg_netlist.specs.declared.parts.LogicFunction.{LogicFunction}
 use Rattle.cg_netlist.specs.declared.parts.LogicFunction.TheVariants.{Cover, Cell}
 use Rattle.cg_netlist.specs.declared.parts.RegisterKind.{RegisterKind}
 use Rattle.cg_netlist.specs.declared.parts.RegisterKind.TheVariants.{Plain, Flop}
-use Rattle.cg_netlist.specs.Circuit.{Circuit, LogicCell, GatingCell, RegisterCell, is_in, drivers, clock_nets, used_nets, net_order}
+use Rattle.cg_netlist.specs.Circuit.{Circuit, GatingCell, LogicCell, RegisterCell, clock_nets, drivers, net_order, used_nets}
+use Rattle.cg_net.specs.NetSets.{is_in}
 
 -- a function is one of this many inputs: a row of a cover has a place for each, a logic cell a data pin
 abbrev pub IsOver : ℕ → LogicFunction → Type 0

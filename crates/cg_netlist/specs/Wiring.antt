@@ -1,13 +1,10 @@
 -- How a netlist is wired: one form for nets that are given by their numbers and for nets that are given by their names.
-use Rattle.std.specs.Prelude.{ℕ, Bool, not, List, [], ◌++◌, map, slice_get, unwrap_or, Option}
-use Rattle.std.specs.List.{list_any, filter, flat_map, position_or_len}
+use Rattle.std.specs.Prelude.{ℕ, Bool, not, List, ◌++◌, map, Option}
+use Rattle.std.specs.List.{list_any, filter, flat_map}
 use Rattle.std.specs.Option.{option_map, option_to_list}
 use Rattle.std.specs.Str.{bytes_eq}
+use Rattle.cg_net.specs.Names.{NetName, net_name, place_in}
 use Rattle.cg_netlist.specs.Circuit.{Circuit, LogicCell, GatingCell, RegisterCell, asked_nets, shown_nets}
-
--- the name of a net
-abbrev pub NetName : Type 0
-NetName = List ℕ
 
 -- what a netlist has but for the names of its model and of its nets
 pub record Wiring (N : Type 0) : Type 0 where
@@ -115,14 +112,6 @@ circuit model names w =
       gaters = w.gaters;
       registers = w.registers;
     }
-
--- the name of the net with a number
-abbrev pub net_name : List NetName → ℕ → NetName
-net_name names net = unwrap_or (slice_get names net) []
-
--- the place of a name among names
-abbrev pub place_in : List NetName → NetName → ℕ
-place_in names name = position_or_len (bytes_eq name) names
 
 -- the wiring of a netlist, by the names of its nets
 abbrev pub named : Circuit → Wiring NetName

@@ -3,10 +3,10 @@
 ghost use Rattle.std.specs.Prelude.{◌≡◌, IfOk};
 ghost use Rattle.cg_netlist.specs.Chains.{chain, chain_cell, gate_order};
 
-use crate::id::{CellId, GateClockId};
 use crate::levels::walk_order;
 use crate::netlist::Netlist;
 use crate::parts::{Gater, Logic, LogicFunction};
+use cg_net::id::{CellId, GateClockId};
 use std::alloc::{AllocError, Global};
 
 impl Netlist {

@@ -3,7 +3,7 @@
 ghost use Rattle.std.specs.Prelude.{◌≡◌, ◌<◌, ℕ, Some, false, length, IfOk, is_none};
 ghost use Rattle.std.specs.List.{AllByRecursion};
 ghost use Rattle.std.specs.Option.{option_map_or};
-ghost use Rattle.cg_netlist.specs.Marks.{AreMarksOf};
+ghost use Rattle.cg_net.specs.Marks.{AreMarksOf};
 ghost use Rattle.cg_netlist.specs.Places.{CellWithin};
 ghost use Rattle.cg_netlist.specs.inner.Ranking.{entry};
 ghost use Rattle.cg_netlist.specs.Ranks.{is_unranked, ranks_of};

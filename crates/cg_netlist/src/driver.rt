@@ -7,8 +7,8 @@ ghost use Rattle.cg_netlist.specs.Drivers.{AreDrivers};
 ghost use Rattle.cg_netlist.specs.Netlist.{IsNetlist};
 ghost use Rattle.cg_netlist.specs.inner.Driving.{IsTold, all_but_inputs, behind_cells, behind_gaters, behind_registers};
 
-use crate::id::{CellId, GateClockId, RegId};
 use crate::parts::Parts;
+use cg_net::id::{CellId, GateClockId, RegId};
 use std::alloc::{AllocError, Global};
 
 /// What drives a net.

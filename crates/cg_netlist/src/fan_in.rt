@@ -4,9 +4,9 @@ ghost use Rattle.std.specs.Prelude.{◌≡◌, ◌++◌, ◌<◌, [], map, lengt
 ghost use Rattle.std.specs.Option.{option_to_list};
 ghost use Rattle.cg_netlist.specs.inner.Ranking.{IsGraph, drivers_at};
 
-use crate::id::NetId;
 use crate::net_driver::entry;
 use crate::parts::Logic;
+use cg_net::id::NetId;
 use std::alloc::{AllocError, Global};
 use std::marker::Model;
 

@@ -1,15 +1,12 @@
 //! Netlists as plain data, and what they mean.
 //!
 //! `Netlist::new` makes a netlist of parts that are one: well formed, with their nets in net order. Who has parts by the
-//! names of their nets makes it by the crate `cg_builder`; what such parts say stands in `cg_parts`.
+//! names of their nets makes it by the crate `cg_builder`; what such parts say stands in `cg_parts`. The numbers and the
+//! names of nets stand in `cg_net`.
 //!
 //! The modules, in the order in which data flows through them:
 //!
-//! - `id`: the numbers of nets, logic cells, registers and gating cells.
 //! - `fault`: why a part is not taken.
-//! - `key`: names as the keys of a table.
-//! - `names`: the names of nets in their order.
-//! - `net_set`: nets that are taken once.
 //! - `parts`: logic cells, gating cells and registers as a netlist keeps them.
 //! - `net_driver`: which logic cell drives each net.
 //! - `fan_in`: the logic cells that drive the inputs of each logic cell.
@@ -32,12 +29,8 @@ pub mod driver;
 mod fan_in;
 pub mod fault;
 pub mod history;
-pub mod id;
-mod key;
 mod levels;
-pub mod names;
 mod net_driver;
-pub mod net_set;
 pub mod netlist;
 mod next;
 pub mod parts;

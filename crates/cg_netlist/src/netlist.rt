@@ -3,10 +3,11 @@
 ghost use Rattle.std.specs.Prelude.{◌≡◌, ◌<◌, ◌^◌, ℕ, Some, false, not, length, slice_get, IfOk, MatchOption};
 ghost use Rattle.std.specs.List.{All, filter};
 ghost use Rattle.std.specs.Option.{option_to_list};
-ghost use Rattle.cg_netlist.specs.Circuit.{LogicCell, data_inputs, is_in};
+ghost use Rattle.cg_netlist.specs.Circuit.{LogicCell, data_inputs};
+ghost use Rattle.cg_net.specs.NetSets.{is_in};
 ghost use Rattle.cg_netlist.specs.Drivers.{IsDriver};
 ghost use Rattle.cg_netlist.specs.Moment.{function_value};
-ghost use Rattle.cg_netlist.specs.Names.{is_known};
+ghost use Rattle.cg_net.specs.Names.{is_known};
 ghost use Rattle.cg_netlist.specs.Netlist.{IsNetlist, widest_of};
 ghost use Rattle.cg_netlist.specs.Nets.{walk_order};
 ghost use Rattle.cg_netlist.specs.Ranks.{ranks_of};
@@ -15,10 +16,10 @@ ghost use Rattle.cg_netlist.specs.View.{cell_seen, gater_seen, register_seen};
 
 use crate::cycles::cell_ranks;
 use crate::driver::{Driver, drivers};
-use crate::id::{CellId, GateClockId, NetId, RegId};
 use crate::levels::{places, walk_by_ranks};
 use crate::parts::{Gater, Logic, Parts};
 use crate::view::{CellView, GaterView, RegView};
+use cg_net::id::{CellId, GateClockId, NetId, RegId};
 use std::alloc::{AllocError, Global};
 use std::marker::Model;
 

@@ -8,11 +8,11 @@ ghost use Rattle.cg_netlist.specs.Circuit.{RegisterCell};
 ghost use Rattle.cg_netlist.specs.History.{next_value};
 ghost use Rattle.cg_netlist.specs.Moment.{cell_value, values_at};
 
-use crate::id::{NetId, RegId};
 use crate::netlist::Netlist;
 use crate::view::RegKind;
 use crate::walk::gather;
 use cg_cell::cell::CellType;
+use cg_net::id::{NetId, RegId};
 
 /// The bits that a register's function reads at most: its inputs and its own bit. A cell of a library has at most 16
 /// pins.

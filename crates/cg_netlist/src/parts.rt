@@ -1,10 +1,10 @@
 //! The parts of a netlist as it keeps them: plain data, of which nothing is asked yet.
 
-use crate::id::NetId;
-use crate::names::OrderedNames;
 use cg_cell::cell::CellType;
 use cg_cell::cover::Cover;
 use cg_cell::name::Name;
+use cg_net::id::NetId;
+use cg_net::names::OrderedNames;
 use std::marker::Model;
 
 /// The function of a logic cell, over its inputs in their order.

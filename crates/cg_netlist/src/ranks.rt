@@ -7,7 +7,7 @@
 
 ghost use Rattle.std.specs.Prelude.{◌≡◌, ℕ, ◌+◌, ◌<◌, length, All, MatchOption, OnOk};
 ghost use Rattle.std.specs.Prelude.{None, Some, [], true, IfOk, unwrap_or};
-ghost use Rattle.cg_netlist.specs.Circuit.{is_in};
+ghost use Rattle.cg_net.specs.NetSets.{is_in};
 ghost use Rattle.cg_netlist.specs.inner.Ranking.{Advances, HasLooked, HasVisited, IsGraph, IsSound, Looks, NamesCells};
 ghost use Rattle.cg_netlist.specs.inner.Ranking.{entered, entry, met, ranks_in, unsearched, was_seen, with_rank, with_top};
 ghost use Rattle.cg_netlist.specs.Ranks.{driving_cell, ranks_of};

@@ -5,10 +5,10 @@ ghost use Rattle.cg_netlist.specs.Moment.{function_value};
 ghost use Rattle.cg_netlist.specs.View.{cell_seen, function_seen, gater_seen, kind_seen, register_seen};
 ghost use Rattle.cg_netlist.specs.WellFormed.{IsOver};
 
-use crate::id::NetId;
 use crate::parts::{Gater, Logic, LogicFunction, Register, RegisterKind};
 use cg_cell::cell::CellType;
 use cg_cell::cover::Cover;
+use cg_net::id::NetId;
 
 /// The function of a logic cell, over its inputs in their order.
 #[derive(Clone, Copy)]

@@ -10,7 +10,7 @@ use Rattle.cg_lists.specs.Rounds.{same_option}
 use Rattle.cg_lists.specs.Supports.{has_enable, own_registers_of, supports}
 use Rattle.cg_lists.specs.UnseenList.{enables_some, fan_out, is_guard, plain_outputs, taken_at}
 use Rattle.cg_machine.specs.Machine.{MachineData, enable_of}
-use Rattle.cg_netlist.specs.Circuit.{is_in}
+use Rattle.cg_net.specs.NetSets.{is_in}
 use Rattle.cg_odc.specs.inner.Guarding.{guards_by, may_guard, shows_plain}
 use Rattle.cg_odc.proofs.Any.{any_beside, any_filter, any_same, any_swap}
 

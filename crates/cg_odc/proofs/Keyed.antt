@@ -15,7 +15,7 @@ use Rattle.cg_machine.specs.Machine.{MachineData}
 use Rattle.cg_machine.specs.declared.stage.Earlier.{Earlier}
 use Rattle.cg_machine.specs.declared.stage.StageKind.TheVariants.{Unseen}
 use Rattle.cg_netlist.proofs.Driven.{is_in-range}
-use Rattle.cg_netlist.specs.Circuit.{is_in}
+use Rattle.cg_net.specs.NetSets.{is_in}
 use Rattle.cg_odc.specs.inner.Guarding.{guard_key, guards_by, had_guards}
 use Rattle.cg_odc.proofs.Any.{any_same}
 use Rattle.cg_odc.proofs.Guarded.{guard_is, guard_own}

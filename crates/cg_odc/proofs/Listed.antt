@@ -30,8 +30,8 @@ use Rattle.cg_machine.specs.declared.stage.Earlier.{Earlier}
 use Rattle.cg_machine.specs.declared.stage.Stage.{Stage}
 use Rattle.cg_machine.specs.declared.stage.StageKind.TheVariants.{Unseen}
 use Rattle.cg_netlist.proofs.Driven.{in_range}
-use Rattle.cg_netlist.proofs.Members.{is_in-append, member_at}
-use Rattle.cg_netlist.specs.Circuit.{is_in}
+use Rattle.cg_net.proofs.Members.{is_in-append, member_at}
+use Rattle.cg_net.specs.NetSets.{is_in}
 use Rattle.cg_odc.specs.inner.Guarding.{AreKeys, guard_key, had_guards}
 use Rattle.cg_odc.specs.inner.Kept.{AreOwnKeys, inserted_guards, key_numbers, left_stage, not_among}
 use Rattle.cg_odc.proofs.Keyed.{groups_lifted, guard_group, kept_lifted}

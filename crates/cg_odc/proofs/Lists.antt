@@ -6,10 +6,9 @@ use Rattle.std.specs.Option.{option_map_or}
 use Rattle.std.proofs.lemmas.Bool.{both_ways, eqb-true, eq-eqb}
 use Rattle.std.proofs.lemmas.Bool.Decides.{eqb_tells}
 use Rattle.std.proofs.lemmas.Option.{slice_get-get_or}
-use Rattle.cg_groups.proofs.Left.{take_end}
-use Rattle.cg_netlist.specs.Circuit.{is_in}
-use Rattle.cg_netlist.proofs.Members.{is_in-append}
-use Rattle.cg_netlist.proofs.TableLemmas.{slice_get-set_other, slice_get-set_same}
+use Rattle.cg_net.proofs.TableLemmas.{slice_get-set_other, slice_get-set_same, take_next}
+use Rattle.cg_net.specs.NetSets.{is_in}
+use Rattle.cg_net.proofs.Members.{is_in-append}
 use Rattle.cg_odc.specs.inner.Guarding.{list_at}
 
 or_none : (b : Bool) → (b || false) ≡ b
@@ -21,7 +20,7 @@ in_end xs x y = is_in-append xs (x ∷ []) y ∙ ap (λ b. is_in xs y || b) (or_
 
 -- one item more of those that were put
 pub in_taken : (xs : List ℕ) (i x y : ℕ) → slice_get xs i ≡ Some x → is_in (take (i + 1) xs) y ≡ (is_in (take i xs) y || nat_eq y x)
-in_taken xs i x y at = ap (λ l. is_in l y) (take_end xs i x at) ∙ in_end (take i xs) x y
+in_taken xs i x y at = ap (λ l. is_in l y) (take_next xs i x at) ∙ in_end (take i xs) x y
 
 -- a number that is put behind others, unless it is there
 pub put_once : (keys after : List ℕ) (x y : ℕ) → after ≡ (if is_in keys x then keys else keys ++ x ∷ []) → is_in after y ≡ (is_in keys y || nat_eq y x)

@@ -8,7 +8,8 @@ use Rattle.std.proofs.lemmas.Bool.{and_parts, both_ways, eqb-true, eq-eqb, false
 use Rattle.std.proofs.lemmas.Bool.{or_right}
 use Rattle.std.proofs.lemmas.List.{length-take-le}
 use Rattle.std.proofs.lemmas.Option.{none-some, same_Some, slice_get_within}
-use Rattle.cg_netlist.specs.Circuit.{RegisterCell, is_in}
+use Rattle.cg_netlist.specs.Circuit.{RegisterCell}
+use Rattle.cg_net.specs.NetSets.{is_in}
 use Rattle.cg_netlist.specs.Drivers.{IsDriver}
 use Rattle.cg_netlist.specs.WellFormed.{IsDriven}
 use Rattle.cg_netlist.specs.declared.driver.Driver.{Driver}

@@ -6,7 +6,7 @@ ghost use Rattle.cg_groups.specs.Keys.{groups_seen};
 ghost use Rattle.cg_lists.specs.HoldList.{unless_empty};
 ghost use Rattle.cg_lists.specs.Rounds.{plain_literals};
 ghost use Rattle.cg_lists.specs.UnseenList.{taken_at, unseen_list, unseen_stage};
-ghost use Rattle.cg_netlist.specs.Circuit.{is_in};
+ghost use Rattle.cg_net.specs.NetSets.{is_in};
 ghost use Rattle.cg_odc.specs.inner.Kept.{AreOwnKeys, left_stage, not_among};
 
 use crate::guard::taken_net;
@@ -18,7 +18,7 @@ use cg_groups::order::rising;
 use cg_list::Seq;
 use cg_machine::machine::Machine;
 use cg_machine::stage::{Earlier, NetLit, Stage, StageKind};
-use cg_netlist::id::{NetId, RegId};
+use cg_net::id::{NetId, RegId};
 use indexmap::IndexSet;
 use std::alloc::{AllocError, Global};
 

@@ -1,13 +1,13 @@
 //! The guards of each register.
 
 ghost use Rattle.std.specs.Prelude.{◌≡◌, ◌<◌, ◌+◌, ◌||◌, ◌&&◌, [], ℕ, not, nat_eq, length, replicate, IfOk, OnOk};
-ghost use Rattle.cg_netlist.specs.Circuit.{is_in};
+ghost use Rattle.cg_net.specs.NetSets.{is_in};
 ghost use Rattle.cg_odc.specs.inner.Guarding.{AreGuards, list_at};
 
 use crate::guard::guard_of;
 use cg_list::Seq;
 use cg_machine::machine::Machine;
-use cg_netlist::id::RegId;
+use cg_net::id::RegId;
 use cg_support::finder::SupportFinder;
 use std::alloc::{AllocError, Global};
 

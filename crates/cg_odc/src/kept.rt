@@ -1,14 +1,14 @@
 //! The guards that may not be gated where there is a test input.
 
 ghost use Rattle.std.specs.Prelude.{◌≡◌, ◌||◌, ◌&&◌, ◌++◌, ℕ, IfOk, OnOk};
-ghost use Rattle.cg_netlist.specs.Circuit.{is_in};
+ghost use Rattle.cg_net.specs.NetSets.{is_in};
 ghost use Rattle.cg_odc.specs.inner.Kept.{guards_in, inserted_guards, key_numbers, not_among};
 
 use crate::round::is_unseen;
 use cg_groups::group::Groups;
 use cg_list::Seq;
 use cg_machine::stage::Earlier;
-use cg_netlist::id::RegId;
+use cg_net::id::RegId;
 use indexmap::IndexSet;
 use std::alloc::{AllocError, Global};
 

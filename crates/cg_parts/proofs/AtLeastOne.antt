@@ -9,7 +9,7 @@ use Rattle.std.proofs.lemmas.List.{length-map}
 use Rattle.std.proofs.lemmas.List.Elements.{All-nil, All-cons}
 use Rattle.cg_cell.specs.Name.{is_name}
 use Rattle.cg_netlist.proofs.Driven.{driven_in_order}
-use Rattle.cg_netlist.proofs.Members.{is_in_cases, is_in_left, is_in_right}
+use Rattle.cg_net.proofs.Members.{is_in_cases, is_in_left, is_in_right}
 use Rattle.cg_parts.proofs.ByKind.{has_once, kind_each, picks_cell, picks_gater, picks_register}
 use Rattle.cg_parts.proofs.ChainedParts.{all_reach, chained, chains_long, chains_of, gate_is}
 use Rattle.cg_netlist.proofs.Each.{each, from_recursion}
@@ -24,15 +24,15 @@ use Rattle.cg_parts.proofs.OrderedParts.{clock_holds, clocks_there, different, g
 use Rattle.cg_parts.proofs.OrderedParts.{root_clock, root_first, root_is, root_ordered, rooted, use_ordered, used_numbered}
 use Rattle.cg_parts.proofs.OrderedParts.{wired_back}
 use Rattle.cg_parts.proofs.RankedParts.{all_end, ranks_long, ranks_of, rising}
-use Rattle.cg_netlist.specs.Circuit.{RegisterCell, is_in}
-use Rattle.cg_netlist.specs.Names.{is_known}
+use Rattle.cg_netlist.specs.Circuit.{RegisterCell}
+use Rattle.cg_net.specs.NetSets.{is_in}
+use Rattle.cg_net.specs.Names.{NetName, is_known, place_in}
 use Rattle.cg_netlist.specs.WellFormed.{IsWellFormed}
 use Rattle.cg_parts.specs.Faults.{IsFaultless}
 use Rattle.cg_parts.specs.Part.{Gate, Logic, Part, Register, cell_in, cells, clock_of, clock_pins, gater_in, gaters, mentioned}
 use Rattle.cg_parts.specs.Part.{on_clock, register_in, registers, roots, uses, wired}
 use Rattle.cg_parts.specs.Says.{AreTaken, IsPart, PartFits, Says, netlist_of}
-use Rattle.cg_netlist.specs.Wiring.{NetName, Wiring, driven_by_gaters, map_cell, map_gater, map_register, map_wiring, order_of}
-use Rattle.cg_netlist.specs.Wiring.{place_in}
+use Rattle.cg_netlist.specs.Wiring.{Wiring, driven_by_gaters, map_cell, map_gater, map_register, map_wiring, order_of}
 
 module _ (model : List ℕ) (parts : List Part) (taken : AreTaken model parts) (fine : IsFaultless parts) where
   abbrev w : Wiring NetName

@@ -5,7 +5,8 @@ use Rattle.cg_parts.proofs.ToldByNames.{recovered}
 use Rattle.cg_netlist.specs.Circuit.{Circuit}
 use Rattle.cg_parts.specs.Part.{Part}
 use Rattle.cg_parts.specs.Says.{Says, netlist_of}
-use Rattle.cg_netlist.specs.Wiring.{NetName, numbered}
+use Rattle.cg_net.specs.Names.{NetName}
+use Rattle.cg_netlist.specs.Wiring.{numbered}
 
 pub says_only : (model : NetName) (parts : List Part) (c : Circuit) → Says model parts c → c ≡ netlist_of model parts
 says_only model parts c says = recovered c says.formed says.ordered ∙ (ap (numbered c.model) says.wired_is ∙ ap (λ m. netlist_of m parts) says.model_is)

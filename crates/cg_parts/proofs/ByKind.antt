@@ -5,10 +5,9 @@ use Rattle.std.specs.List.{AllByRecursion, cons_option, filter, filter_map, flat
 use Rattle.std.specs.Str.{bytes_eq}
 use Rattle.std.proofs.lemmas.Bool.{both_ways, cases_Bool, or_cases, or_left}
 use Rattle.cg_parts.proofs.KnownNames.{known_cases, known_left, known_right, known_tail, same_word}
-use Rattle.cg_netlist.specs.Names.{is_known}
+use Rattle.cg_net.specs.Names.{NetName, is_known}
 use Rattle.cg_parts.specs.Part.{Clock, Gate, Input, Logic, Output, Part, Register, cell_in, clock_in, each_once, gater_in, input_in}
 use Rattle.cg_parts.specs.Part.{mentioned, output_in, register_in}
-use Rattle.cg_netlist.specs.Wiring.{NetName}
 
 -- a part of which something of a kind is picked is that thing wrapped
 abbrev pub Picks : {X : Type 0} → (Part → Option X) → (X → Part) → Type 0

@@ -13,10 +13,10 @@ use Rattle.cg_parts.proofs.Mentioned.{gate_net_mentioned}
 use Rattle.cg_parts.proofs.NamePlaces.{mapped_at}
 use Rattle.cg_parts.proofs.OrderedParts.{root_clock}
 use Rattle.cg_netlist.specs.Circuit.{GatingCell}
-use Rattle.cg_netlist.specs.Names.{is_known}
+use Rattle.cg_net.specs.Names.{NetName, is_known, place_in}
 use Rattle.cg_parts.specs.Faults.{IsClockProper, IsFaultless, IsGateProper, reaches}
 use Rattle.cg_parts.specs.Part.{Part, clock_of, gaters, nets, roots, wired}
-use Rattle.cg_netlist.specs.Wiring.{NetName, Wiring, driven_by_gaters, map_gater, order_of, place_in}
+use Rattle.cg_netlist.specs.Wiring.{Wiring, driven_by_gaters, map_gater, order_of}
 
 module _ (parts : List Part) (fine : IsFaultless parts) where
   abbrev w : Wiring NetName

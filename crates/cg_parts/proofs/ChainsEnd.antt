@@ -10,10 +10,10 @@ use Rattle.cg_netlist.proofs.Each.{each}
 use Rattle.cg_parts.proofs.KnownNames.{itself, known_each, known_head, known_tail, same_word}
 use Rattle.cg_parts.proofs.Least.{least, least_first, least_passes}
 use Rattle.cg_netlist.specs.Circuit.{GatingCell}
-use Rattle.cg_netlist.specs.Names.{is_known}
+use Rattle.cg_net.specs.Names.{NetName, is_known}
 use Rattle.cg_parts.specs.Faults.{reaches}
 use Rattle.cg_parts.specs.Part.{Part, gaters, is_gated}
-use Rattle.cg_netlist.specs.Wiring.{NetName, driven_by_gaters}
+use Rattle.cg_netlist.specs.Wiring.{driven_by_gaters}
 
 -- what passes a test among elements
 pub any_at : {X : Type 0} (p : X → Bool) (xs : List X) → list_any p xs ≡ true → (k : ℕ) × (x : X) × (slice_get xs k ≡ Some x) × (p x ≡ true)

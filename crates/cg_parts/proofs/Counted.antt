@@ -7,8 +7,7 @@ use Rattle.std.proofs.lemmas.Bool.{both_ways, cases_Bool, or_parts}
 use Rattle.std.proofs.lemmas.List.Sums.{sum_by-cons}
 use Rattle.cg_parts.proofs.Different.{Apart}
 use Rattle.cg_parts.proofs.KnownNames.{itself, same_word, word_at}
-use Rattle.cg_netlist.specs.Names.{is_known}
-use Rattle.cg_netlist.specs.Wiring.{NetName}
+use Rattle.cg_net.specs.Names.{NetName, is_known}
 
 count-cons : (x y : NetName) (ys : List NetName) → count_by (bytes_eq x) (y ∷ ys) ≡ cond (bytes_eq x y) 1 0 + count_by (bytes_eq x) ys
 count-cons x y ys = sum_by-cons (λ z. cond (bytes_eq x z) 1 0) y ys

@@ -8,14 +8,13 @@ use Rattle.std.proofs.lemmas.Bool.{both_ways, cases_Bool, false_from_ne_true, or
 use Rattle.std.proofs.lemmas.List.{length-map}
 use Rattle.std.proofs.lemmas.Map.Steps.{length-le_from_distinct_below}
 use Rattle.std.proofs.lemmas.Option.{get_or_from_slice_get}
-use Rattle.cg_netlist.proofs.Members.{distinct_cons}
+use Rattle.cg_net.proofs.Members.{distinct_cons}
 use Rattle.cg_parts.proofs.ByKind.{filter_has}
 use Rattle.cg_parts.proofs.KnownNames.{itself, known_head, known_left, known_tail, same_word}
 use Rattle.cg_parts.proofs.NamePlaces.{place_at, place_below, same_place}
-use Rattle.cg_netlist.specs.Circuit.{is_in}
-use Rattle.cg_netlist.specs.Names.{is_known}
+use Rattle.cg_net.specs.NetSets.{is_in}
+use Rattle.cg_net.specs.Names.{NetName, is_known, place_in}
 use Rattle.cg_parts.specs.Part.{each_once}
-use Rattle.cg_netlist.specs.Wiring.{NetName, place_in}
 
 -- lists in which no name stands twice
 abbrev pub Apart : List NetName → Type 0

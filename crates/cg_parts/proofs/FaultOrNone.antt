@@ -9,11 +9,10 @@ use Rattle.cg_parts.specs.declared.fault.NetFault.TheVariants.{TwoDrivers, NoDri
 use Rattle.cg_parts.proofs.ChainsEnd.{bounded_chains, chains_bounded, reaches_within}
 use Rattle.cg_parts.proofs.KnownNames.{first_step, itself, known_head, known_tail}
 use Rattle.cg_parts.proofs.WaysEnd.{ends_bounded}
-use Rattle.cg_netlist.specs.Names.{is_known}
+use Rattle.cg_net.specs.Names.{NetName, is_known}
 use Rattle.cg_parts.specs.Faults.{HasClock, IsClockProper, IsDrivenIfUsed, IsDrivenOnce, IsEnding, IsFault, IsFaultless, IsFirstNot}
 use Rattle.cg_parts.specs.Faults.{IsGateProper, IsRootProper, ends_within}
 use Rattle.cg_parts.specs.Part.{Part, cells, clocks, drivers, gaters, inputs, is_gated, nets, registers, roots, uses}
-use Rattle.cg_netlist.specs.Wiring.{NetName}
 
 -- a fact holds, or does not
 abbrev pub Tells : Type 0 → Type 0

@@ -14,7 +14,8 @@ use Rattle.cg_netlist.specs.Circuit.{GatingCell, LogicCell, RegisterCell}
 use Rattle.cg_netlist.specs.WellFormed.{FitsKind, IsOver, RegisterFits, ShowsAsPin}
 use Rattle.cg_parts.specs.Part.{on_clock}
 use Rattle.cg_parts.specs.Says.{CellFits, GaterFits}
-use Rattle.cg_netlist.specs.Wiring.{NetName, map_cell, map_gater, map_outputs, map_register}
+use Rattle.cg_net.specs.Names.{NetName}
+use Rattle.cg_netlist.specs.Wiring.{map_cell, map_gater, map_outputs, map_register}
 
 -- two registers that differ in their nets alone
 pub record SameButNets {N K M L : Type 0} (r : RegisterCell N K) (s : RegisterCell M L) : Type 0 where

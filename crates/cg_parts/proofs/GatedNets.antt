@@ -12,10 +12,10 @@ use Rattle.cg_parts.proofs.KnownNames.{known_cases, known_each, known_left, know
 use Rattle.cg_parts.proofs.Mentioned.{gate_net_mentioned}
 use Rattle.cg_parts.proofs.NamePlaces.{place_at}
 use Rattle.cg_netlist.specs.Circuit.{GatingCell}
-use Rattle.cg_netlist.specs.Names.{is_known}
+use Rattle.cg_net.specs.Names.{NetName, is_known, place_in}
 use Rattle.cg_parts.specs.Faults.{EachNet, IsDrivenOnce}
 use Rattle.cg_parts.specs.Part.{Part, cells, clock_pins, clocks, drivers, gaters, inputs, nets, registers, roots}
-use Rattle.cg_netlist.specs.Wiring.{NetName, driven_by_cells, driven_by_gaters, driven_by_registers, place_in}
+use Rattle.cg_netlist.specs.Wiring.{driven_by_cells, driven_by_gaters, driven_by_registers}
 
 module _ (parts : List Part) where
   -- a clock pin is a root, or a gating cell drives it

@@ -8,11 +8,11 @@ use Rattle.cg_parts.proofs.ByKind.{picks_input, picks_output, picks_register}
 use Rattle.cg_parts.proofs.KnownNames.{known_cases, known_left, known_right, known_tail}
 use Rattle.cg_parts.proofs.NetLists.{cell_inputs, gater_inputs, register_inputs}
 use Rattle.cg_netlist.specs.Circuit.{GatingCell, LogicCell, RegisterCell, asked_nets, shown_nets}
-use Rattle.cg_netlist.specs.Names.{is_known}
+use Rattle.cg_net.specs.Names.{NetName, is_known}
 use Rattle.cg_parts.specs.Part.{Clock, Gate, Input, Logic, Output, Part, Register, cell_in, cells, clock_in, clock_pins, clocks}
 use Rattle.cg_parts.specs.Part.{drivers, each_once, gater_in, gaters, input_in, inputs, mentioned, nets, output_in, outputs}
 use Rattle.cg_parts.specs.Part.{register_in, registers, roots, uses}
-use Rattle.cg_netlist.specs.Wiring.{NetName, driven_by_cells, driven_by_gaters, driven_by_registers}
+use Rattle.cg_netlist.specs.Wiring.{driven_by_cells, driven_by_gaters, driven_by_registers}
 
 single : (xs : List NetName) → flat_map (λ v. v ∷ []) xs ≡ xs
 single [] = refl

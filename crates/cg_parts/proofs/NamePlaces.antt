@@ -14,9 +14,8 @@ use Rattle.std.proofs.lemmas.Option.{slice_get-get_or, slice_get-map, slice_get_
 use Rattle.std.proofs.lemmas.Option.{unwrap_or-slice_get}
 use Rattle.cg_netlist.proofs.OrderedForm.{names}
 use Rattle.cg_parts.proofs.KnownNames.{first_step, itself, known_head, known_tail, same_word}
-use Rattle.cg_netlist.specs.Circuit.{is_in}
-use Rattle.cg_netlist.specs.Names.{is_known}
-use Rattle.cg_netlist.specs.Wiring.{NetName, net_name, place_in}
+use Rattle.cg_net.specs.NetSets.{is_in}
+use Rattle.cg_net.specs.Names.{NetName, is_known, net_name, place_in}
 
 -- the place of a name in a list in which it stands once
 pub number_is : (names : List NetName) (i : ℕ) (name : NetName) → AllPairs (λ n other. n ≢ other) names → slice_get names i ≡ Some name → place_in names name ≡ i

@@ -7,7 +7,7 @@ use Rattle.std.specs.Option.{option_map, option_to_list}
 use Rattle.std.specs.Str.{bytes_eq}
 use Rattle.std.proofs.lemmas.Bool.{both_ways, cases_Bool, false_from_ne_true, or_cases, or_left, or_right, eqb-true, eq-eqb}
 use Rattle.std.proofs.lemmas.Option.{slice_get-get_or, same_Some, none-some}
-use Rattle.cg_netlist.proofs.Members.{All-member, is_in_left, is_in_right}
+use Rattle.cg_net.proofs.Members.{All-member, is_in_left, is_in_right}
 use Rattle.cg_parts.proofs.Counted.{apart_counts}
 use Rattle.cg_parts.proofs.Different.{apart_from}
 use Rattle.cg_netlist.proofs.Each.{by_recursion, each}
@@ -16,16 +16,17 @@ use Rattle.cg_parts.proofs.KnownNames.{each_known, first_step, itself, known_cas
 use Rattle.cg_parts.proofs.NetLists.{carried_by, cell_inputs, gater_inputs, used_in}
 use Rattle.cg_parts.proofs.OrderMapped.{cells_driven_mapped, gaters_driven_mapped, used_mapped}
 use Rattle.cg_parts.proofs.ToldByNames.{cell_net_within, clock_net_within, each_in, known_as, names_are, told, wiring_within}
-use Rattle.cg_netlist.specs.Circuit.{Circuit, GatingCell, LogicCell, RegisterCell, is_in, shown_nets}
-use Rattle.cg_netlist.specs.Names.{is_known}
+use Rattle.cg_netlist.specs.Circuit.{Circuit, GatingCell, LogicCell, RegisterCell, shown_nets}
+use Rattle.cg_net.specs.NetSets.{is_in}
+use Rattle.cg_net.specs.Names.{NetName, is_known, net_name}
 use Rattle.cg_netlist.specs.WellFormed.{IsWellFormed}
 use Rattle.cg_parts.specs.Faults.{HasClock, IsClockProper, IsDrivenIfUsed, IsDrivenOnce, IsEnding, IsFaultless, IsGateProper}
 use Rattle.cg_parts.specs.Faults.{IsRootProper, ends_within, reaches}
 use Rattle.cg_parts.specs.Part.{Part, cells, clock_in, clock_of, clock_pins, clocks, drivers, each_once, gaters, inputs, nets}
 use Rattle.cg_parts.specs.Part.{on_clock, outputs, registers, roots, uses, wired}
 use Rattle.cg_parts.specs.Says.{IsClockOf, Says}
-use Rattle.cg_netlist.specs.Wiring.{NetName, Wiring, driven_by_cells, driven_by_gaters, driven_by_registers, map_cell, map_gater}
-use Rattle.cg_netlist.specs.Wiring.{map_register, net_name, order_of, wiring}
+use Rattle.cg_netlist.specs.Wiring.{Wiring, driven_by_cells, driven_by_gaters, driven_by_registers, map_cell, map_gater}
+use Rattle.cg_netlist.specs.Wiring.{map_register, order_of, wiring}
 
 -- registers on a clock show the nets, and use the nets, that they have without one
 pub shown_on : (k : Option NetName) (rs : List (RegisterCell NetName (Option NetName))) → driven_by_registers (map (on_clock k) rs) ≡ driven_by_registers rs

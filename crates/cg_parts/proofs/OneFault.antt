@@ -10,7 +10,7 @@ use Rattle.cg_parts.proofs.KnownNames.{known_each, same_word}
 use Rattle.cg_parts.proofs.NamePlaces.{either_first}
 use Rattle.cg_parts.specs.Faults.{EachNet, IsClockProper, IsDrivenIfUsed, IsDrivenOnce, IsEnding, IsFault, IsFaultless, IsFirstNot}
 use Rattle.cg_parts.specs.Part.{Part, nets}
-use Rattle.cg_netlist.specs.Wiring.{NetName}
+use Rattle.cg_net.specs.Names.{NetName}
 
 module _ (parts : List Part) where
   no : (P : NetName → Type 0) (net : NetName) → EachNet parts P → IsFirstNot parts P net → ⊥

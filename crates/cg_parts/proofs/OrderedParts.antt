@@ -7,7 +7,7 @@ use Rattle.std.specs.Option.{option_or, option_to_list}
 use Rattle.std.specs.Str.{bytes_eq}
 use Rattle.std.proofs.lemmas.Bool.{both_ways, cases_Bool}
 use Rattle.std.proofs.lemmas.Option.{slice_get-get_or}
-use Rattle.cg_netlist.proofs.Members.{All-from_members}
+use Rattle.cg_net.proofs.Members.{All-from_members}
 use Rattle.cg_parts.proofs.ByKind.{filter_known}
 use Rattle.cg_parts.proofs.Counted.{one_place}
 use Rattle.cg_netlist.proofs.Each.{each}
@@ -22,14 +22,15 @@ use Rattle.cg_parts.proofs.NetLists.{cell_inputs, gater_inputs, register_inputs,
 use Rattle.cg_parts.proofs.NoneBeside.{one_declared, shown_on, uses_wired}
 use Rattle.cg_parts.proofs.OrderMapped.{order_mapped, used_mapped}
 use Rattle.cg_parts.proofs.ToldByNames.{nets_weaker}
-use Rattle.cg_netlist.specs.Circuit.{GatingCell, LogicCell, RegisterCell, asked_nets, is_in, shown_nets}
-use Rattle.cg_netlist.specs.Names.{is_known}
+use Rattle.cg_netlist.specs.Circuit.{GatingCell, LogicCell, RegisterCell, asked_nets, shown_nets}
+use Rattle.cg_net.specs.NetSets.{is_in}
+use Rattle.cg_net.specs.Names.{NetName, is_known, net_name, place_in}
 use Rattle.cg_parts.specs.Faults.{IsClockProper, IsDrivenIfUsed, IsDrivenOnce, IsFaultless, IsRootProper}
 use Rattle.cg_parts.specs.Part.{Part, cells, clock_in, clock_of, clock_pins, clocks, drivers, gaters, inputs, nets, on_clock}
 use Rattle.cg_parts.specs.Part.{outputs, registers, roots, uses, wired}
 use Rattle.cg_parts.specs.Says.{IsClockOf}
-use Rattle.cg_netlist.specs.Wiring.{NetName, Wiring, driven_by_cells, driven_by_gaters, driven_by_registers, map_wiring, net_name}
-use Rattle.cg_netlist.specs.Wiring.{order_of, place_in}
+use Rattle.cg_netlist.specs.Wiring.{Wiring, driven_by_cells, driven_by_gaters, driven_by_registers, map_wiring}
+use Rattle.cg_netlist.specs.Wiring.{order_of}
 
 module _ (parts : List Part) (fine : IsFaultless parts) where
   abbrev w : Wiring NetName

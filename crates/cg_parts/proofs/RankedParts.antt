@@ -11,11 +11,12 @@ use Rattle.cg_parts.proofs.Least.{least, least_first, least_passes}
 use Rattle.cg_parts.proofs.Mentioned.{cell_net_mentioned}
 use Rattle.cg_parts.proofs.NamePlaces.{from_places, mapped_at, same_place}
 use Rattle.cg_parts.proofs.OrderedParts.{cell_ordered, use_a}
-use Rattle.cg_netlist.specs.Circuit.{LogicCell, is_in}
-use Rattle.cg_netlist.specs.Names.{is_known}
+use Rattle.cg_netlist.specs.Circuit.{LogicCell}
+use Rattle.cg_net.specs.NetSets.{is_in}
+use Rattle.cg_net.specs.Names.{NetName, is_known, place_in}
 use Rattle.cg_parts.specs.Faults.{IsEnding, IsFaultless, ends_within}
 use Rattle.cg_parts.specs.Part.{Part, cells, nets, wired}
-use Rattle.cg_netlist.specs.Wiring.{NetName, Wiring, driven_by_cells, map_cell, order_of, place_in}
+use Rattle.cg_netlist.specs.Wiring.{Wiring, driven_by_cells, map_cell, order_of}
 
 module _ (parts : List Part) (fine : IsFaultless parts) where
   abbrev w : Wiring NetName

@@ -10,7 +10,7 @@ use Rattle.std.proofs.lemmas.List.{append-nil, length-map, map-append}
 use Rattle.std.proofs.lemmas.Grind.{flat_map-append}
 use Rattle.std.proofs.lemmas.List.Elements.{filter_map-append}
 use Rattle.std.proofs.lemmas.Option.{none-some, slice_get-get_or}
-use Rattle.cg_netlist.proofs.Members.{distinct_head, distinct_tail, is_in_cases}
+use Rattle.cg_net.proofs.Members.{distinct_head, distinct_tail, is_in_cases}
 use Rattle.cg_parts.proofs.ByKind.{filter_has, has_once}
 use Rattle.cg_parts.proofs.Different.{Apart, apart_from, apart_left, apart_once, no_more, once_apart}
 use Rattle.cg_netlist.proofs.Each.{by_recursion, each_together}
@@ -21,15 +21,16 @@ use Rattle.cg_parts.proofs.NetLists.{carried_by}
 use Rattle.cg_parts.proofs.NoneBeside.{from_names}
 use Rattle.cg_parts.proofs.OrderMapped.{gaters_driven_mapped}
 use Rattle.cg_parts.proofs.ToldByNames.{gate_clocked, known_as, names_are, wiring_within}
-use Rattle.cg_netlist.specs.Circuit.{Circuit, GatingCell, LogicCell, RegisterCell, is_in, shown_nets}
-use Rattle.cg_netlist.specs.Names.{is_known}
+use Rattle.cg_netlist.specs.Circuit.{Circuit, GatingCell, LogicCell, RegisterCell, shown_nets}
+use Rattle.cg_net.specs.NetSets.{is_in}
+use Rattle.cg_net.specs.Names.{NetName, is_known, net_name}
 use Rattle.cg_netlist.specs.Netlist.{IsNetlist}
 use Rattle.cg_netlist.specs.WellFormed.{IsInNetOrder, IsWellFormed}
 use Rattle.cg_parts.specs.Part.{Clock, Gate, Input, Logic, Output, Part, cell_in, cells, clock_in, clock_of, clock_pins, clocks}
 use Rattle.cg_parts.specs.Part.{each_once, gater_in, gaters, input_in, inputs, mentioned, nets, on_clock, output_in, outputs}
 use Rattle.cg_parts.specs.Part.{register_in, registers, roots, wired}
 use Rattle.cg_parts.specs.Says.{IsClockOf, Says, parts_from, register_part}
-use Rattle.cg_netlist.specs.Wiring.{NetName, Wiring, driven_by_gaters, map_gater, map_register, named, net_name, order_of, wiring}
+use Rattle.cg_netlist.specs.Wiring.{Wiring, driven_by_gaters, map_gater, map_register, named, order_of, wiring}
 
 -- a wiring is its six lists
 pub same_wiring : {N : Type 0} (v w : Wiring N) → v.inputs ≡ w.inputs → v.clock ≡ w.clock → v.outputs ≡ w.outputs → v.cells ≡ w.cells → v.gaters ≡ w.gaters → v.registers ≡ w.registers → v ≡ w

@@ -5,19 +5,20 @@ use Rattle.std.specs.List.{All, AllByRecursion, IsDistinct, filter_map}
 use Rattle.std.proofs.lemmas.Bool.{both_ways, false_from_ne_true, or_cases, eqb-true}
 use Rattle.std.proofs.lemmas.List.{length-map}
 use Rattle.cg_limit.specs.declared.TheConstants.{MOST_NETS, MOST_REGISTERS}
-use Rattle.cg_netlist.proofs.Members.{distinct_cons}
+use Rattle.cg_net.proofs.Members.{distinct_cons}
 use Rattle.cg_parts.proofs.ByKind.{kind_each, picks_cell}
 use Rattle.cg_parts.proofs.Different.{Apart, apart_from, apart_once, no_more}
 use Rattle.cg_netlist.proofs.Each.{each, from_recursion}
 use Rattle.cg_parts.proofs.KnownNames.{known_head, known_tail}
 use Rattle.cg_parts.proofs.Mentioned.{driver_mentioned}
 use Rattle.cg_parts.proofs.NoneBeside.{cells_are, drivers_are}
-use Rattle.cg_netlist.specs.Circuit.{Circuit, LogicCell, is_in}
-use Rattle.cg_netlist.specs.Names.{is_known}
+use Rattle.cg_netlist.specs.Circuit.{Circuit, LogicCell}
+use Rattle.cg_net.specs.NetSets.{is_in}
+use Rattle.cg_net.specs.Names.{NetName, is_known, net_name}
 use Rattle.cg_netlist.specs.Netlist.{IsNetlist}
 use Rattle.cg_parts.specs.Part.{Logic, Part, cell_in, clock_of, nets, on_clock, output_in, registers}
 use Rattle.cg_parts.specs.Says.{AreTaken, CellFits, IsPart, PartFits, Says}
-use Rattle.cg_netlist.specs.Wiring.{NetName, map_cell, map_register, net_name}
+use Rattle.cg_netlist.specs.Wiring.{map_cell, map_register}
 
 -- a net that is among others is under its name among their names
 pub named_among : (name : ℕ → NetName) (xs : List ℕ) (x : ℕ) → is_in xs x ≡ true → is_known (map name xs) (name x) ≡ true

@@ -8,17 +8,19 @@ use Rattle.std.proofs.lemmas.List.{length-map}
 use Rattle.cg_cell.specs.Cell.{CellData}
 use Rattle.cg_netlist.specs.declared.parts.RegisterKind.TheVariants.{Plain}
 use Rattle.cg_netlist.proofs.Given.{clock_no_gate}
-use Rattle.cg_netlist.proofs.Members.{is_in_left, is_in_right}
+use Rattle.cg_net.proofs.Members.{is_in_left, is_in_right}
 use Rattle.cg_parts.proofs.ByKind.{kind_each, picks_cell, picks_gater, picks_register}
 use Rattle.cg_netlist.proofs.Each.{each, from_recursion}
 use Rattle.cg_parts.proofs.NamePlaces.{same_net}
 use Rattle.cg_parts.proofs.NoneBeside.{cells_are, clock_is, gaters_are}
 use Rattle.cg_parts.proofs.SaidIsNetlist.{each_under, said_is_netlist, said_outputs_once}
 use Rattle.cg_parts.proofs.ToldByNames.{clock_net_within}
-use Rattle.cg_netlist.specs.Circuit.{Circuit, GatingCell, LogicCell, RegisterCell, gate_nets, is_in}
+use Rattle.cg_netlist.specs.Circuit.{Circuit, GatingCell, LogicCell, RegisterCell, gate_nets}
+use Rattle.cg_net.specs.NetSets.{is_in}
 use Rattle.cg_parts.specs.Part.{Gate, Logic, Part, Register, cell_in, clock_of, gater_in, on_clock, register_in, registers}
 use Rattle.cg_parts.specs.Says.{AreTaken, Says}
-use Rattle.cg_netlist.specs.Wiring.{NetName, map_cell, map_gater, map_register, net_name}
+use Rattle.cg_net.specs.Names.{NetName, net_name}
+use Rattle.cg_netlist.specs.Wiring.{map_cell, map_gater, map_register}
 use Rattle.cg_parts.specs.Writable.{FunctionIsOf, IsLine, IsOf, IsWritable, KindIsOf, NIL}
 
 module _ (library : List CellData) (model : List ℕ) (parts : List Part) (c : Circuit) (taken : AreTaken model parts) (lines : AllByRecursion (IsLine library) parts) (says : Says model parts c) where

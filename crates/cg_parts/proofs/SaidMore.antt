@@ -8,11 +8,10 @@ use Rattle.std.proofs.lemmas.Grind.{flat_map-append}
 use Rattle.std.proofs.lemmas.List.{append-nil, append_assoc}
 use Rattle.std.proofs.lemmas.List.Elements.{filter_map-append}
 use Rattle.cg_parts.proofs.ByKind.{has_once, once_has}
-use Rattle.cg_netlist.specs.Names.{is_known, with_name, with_names}
+use Rattle.cg_net.specs.Names.{NetName, is_known, with_name, with_names}
 use Rattle.cg_parts.specs.Part.{Clock, Gate, Input, Logic, Output, Part, Register, cell_in, clock_in, each_once, gater_in, input_in}
 use Rattle.cg_parts.specs.Part.{mentioned, nets, output_in, register_in}
 use Rattle.cg_parts.specs.Said.{Said, said, with_part}
-use Rattle.cg_netlist.specs.Wiring.{NetName}
 
 -- a word more, each once
 filter_more : (p : NetName → Bool) (xs : List NetName) (y : NetName) → filter p (xs ++ y ∷ []) ≡ filter p xs ++ (if p y then y ∷ [] else [])

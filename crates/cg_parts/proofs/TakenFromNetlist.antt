@@ -9,12 +9,12 @@ use Rattle.cg_parts.proofs.Fitting.{cell_fits, fits_alike, gater_fits, register_
 use Rattle.cg_parts.proofs.KnownNames.{known_each}
 use Rattle.cg_parts.proofs.SaidByItsParts.{all_mentioned, opened, p1, p2, p3, p4, p5, p6, says_own}
 use Rattle.cg_netlist.specs.Circuit.{Circuit, GatingCell, LogicCell, RegisterCell}
-use Rattle.cg_netlist.specs.Names.{is_known}
+use Rattle.cg_net.specs.Names.{NetName, is_known, net_name}
 use Rattle.cg_netlist.specs.Netlist.{IsNetlist}
 use Rattle.cg_netlist.specs.WellFormed.{IsOver, RegisterFits}
 use Rattle.cg_parts.specs.Part.{Clock, Gate, Input, Logic, Output, Part, mentioned}
 use Rattle.cg_parts.specs.Says.{AreTaken, CellFits, GaterFits, IsPart, PartFits, parts_from, register_part}
-use Rattle.cg_netlist.specs.Wiring.{NetName, map_cell, map_gater, map_register, named, net_name}
+use Rattle.cg_netlist.specs.Wiring.{map_cell, map_gater, map_register, named}
 
 module _ (c : Circuit) (leaves : RegisterCell NetName NetName → Bool) (is : IsNetlist c) (outputs_once : IsDistinct nat_eq c.outputs) (left : AllByRecursion (λ r. leaves r ≡ true → (named c).clock ≡ Some r.clock) (named c).registers) where
   abbrev name : ℕ → NetName

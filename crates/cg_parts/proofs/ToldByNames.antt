@@ -10,7 +10,7 @@ use Rattle.std.proofs.lemmas.List.FromFn.{fill_by_all}
 use Rattle.std.proofs.lemmas.Option.{slice_get-get_or, unwrap_or-slice_get}
 use Rattle.std.specs.Cmp.Lexicographic.{same_text}
 use Rattle.cg_netlist.proofs.Driven.{in_range}
-use Rattle.cg_netlist.proofs.Members.{All-member, is_in_cases, is_in_left, is_in_right}
+use Rattle.cg_net.proofs.Members.{All-member, is_in_cases, is_in_left, is_in_right}
 use Rattle.cg_netlist.proofs.OrderedForm.{names}
 use Rattle.cg_netlist.proofs.Each.{by_recursion, each}
 use Rattle.cg_parts.proofs.Kept.{CellNets, GaterNets, RegisterNets, WiringNets, wiring_kept}
@@ -18,13 +18,14 @@ use Rattle.cg_parts.proofs.KnownNames.{itself}
 use Rattle.cg_parts.proofs.NamePlaces.{number_is, same_net}
 use Rattle.cg_parts.proofs.NetLists.{carried_by, cell_inputs, gater_inputs, register_inputs, used_in}
 use Rattle.cg_parts.proofs.OrderMapped.{order_mapped}
-use Rattle.cg_netlist.specs.Circuit.{Circuit, GatingCell, LogicCell, RegisterCell, asked_nets, is_in, shown_nets}
-use Rattle.cg_netlist.specs.Names.{is_known}
+use Rattle.cg_netlist.specs.Circuit.{Circuit, GatingCell, LogicCell, RegisterCell, asked_nets, shown_nets}
+use Rattle.cg_net.specs.NetSets.{is_in}
+use Rattle.cg_net.specs.Names.{NetName, is_known, net_name, place_in}
 use Rattle.cg_netlist.specs.Ordered.{ordered}
 use Rattle.cg_netlist.specs.WellFormed.{IsInNetOrder, IsWellFormed}
 use Rattle.cg_parts.specs.Part.{clocks, gaters}
-use Rattle.cg_netlist.specs.Wiring.{NetName, Wiring, among, circuit, driven_by_cells, driven_by_gaters, driven_by_registers}
-use Rattle.cg_netlist.specs.Wiring.{map_wiring, named, net_name, numbered, order_of, place_in, wiring}
+use Rattle.cg_netlist.specs.Wiring.{Wiring, among, circuit, driven_by_cells, driven_by_gaters, driven_by_registers}
+use Rattle.cg_netlist.specs.Wiring.{map_wiring, named, numbered, order_of, wiring}
 
 -- what holds of each net of a list holds of those of its elements
 pub each_in : (P : ℕ → Type 0) (xs : List ℕ) → ((x : ℕ) → is_in xs x ≡ true → P x) → AllByRecursion P xs

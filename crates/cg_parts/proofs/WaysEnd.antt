@@ -8,10 +8,10 @@ use Rattle.std.proofs.lemmas.List.{length-map}
 use Rattle.cg_parts.proofs.Different.{Apart, no_more}
 use Rattle.cg_parts.proofs.KnownNames.{known_each}
 use Rattle.cg_netlist.specs.Circuit.{LogicCell}
-use Rattle.cg_netlist.specs.Names.{is_known}
+use Rattle.cg_net.specs.Names.{NetName, is_known}
 use Rattle.cg_parts.specs.Faults.{ends_within}
 use Rattle.cg_parts.specs.Part.{cells}
-use Rattle.cg_netlist.specs.Wiring.{NetName, driven_by_cells}
+use Rattle.cg_netlist.specs.Wiring.{driven_by_cells}
 
 -- of tests that do not all pass, one fails
 one_fails : {X : Type 0} (p : X → Bool) (xs : List X) → list_all p xs ≡ false → (x : X) × ((q : X → Bool) → list_all q xs ≡ true → q x ≡ true) × (p x ≡ false)

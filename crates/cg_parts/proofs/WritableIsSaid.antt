@@ -10,15 +10,17 @@ use Rattle.std.proofs.lemmas.List.{length-map}
 use Rattle.cg_cell.specs.Cell.{CellData}
 use Rattle.cg_netlist.specs.declared.parts.RegisterKind.{RegisterKind}
 use Rattle.cg_netlist.specs.declared.parts.RegisterKind.TheVariants.{Plain, Flop}
-use Rattle.cg_netlist.proofs.Members.{is_in_cases}
+use Rattle.cg_net.proofs.Members.{is_in_cases}
 use Rattle.cg_netlist.proofs.Each.{by_recursion, each_together}
 use Rattle.cg_parts.proofs.KnownNames.{itself, same_word}
 use Rattle.cg_parts.proofs.SaidByItsParts.{p1, p2, p3, p4, p5, p6, says_own}
 use Rattle.cg_parts.proofs.TakenFromNetlist.{taken_own}
-use Rattle.cg_netlist.specs.Circuit.{Circuit, GatingCell, LogicCell, RegisterCell, clock_nets, gate_nets, is_in}
+use Rattle.cg_netlist.specs.Circuit.{Circuit, GatingCell, LogicCell, RegisterCell, clock_nets, gate_nets}
+use Rattle.cg_net.specs.NetSets.{is_in}
 use Rattle.cg_parts.specs.Part.{Clock, Gate, Input, Logic, Output, Part}
 use Rattle.cg_parts.specs.Says.{AreTaken, Says, register_part}
-use Rattle.cg_netlist.specs.Wiring.{NetName, map_cell, map_gater, map_register, named, net_name}
+use Rattle.cg_net.specs.Names.{NetName, net_name}
+use Rattle.cg_netlist.specs.Wiring.{map_cell, map_gater, map_register, named}
 use Rattle.cg_parts.specs.Writable.{FunctionIsOf, IsLine, IsOf, IsWritable, KindIsOf, NIL, is_on_nil, is_plain, line_parts}
 
 plain_is : (kind : RegisterKind) → is_plain kind ≡ true → kind ≡ Plain

@@ -3,12 +3,12 @@
 use Rattle.std.specs.Prelude.{◌≡◌, ℕ, zero, suc, ◌≤◌, Bool, true, false, not, ◌&&◌, ◌||◌, List, [], ◌++◌}
 use Rattle.std.specs.List.{AllByRecursion, before_first, count_by, list_all, list_any}
 use Rattle.std.specs.Str.{bytes_eq}
-use Rattle.cg_netlist.specs.Names.{is_known}
+use Rattle.cg_net.specs.Names.{NetName, is_known}
 use Rattle.cg_parts.specs.declared.fault.NetFault.{NetFault}
 use Rattle.cg_parts.specs.declared.fault.NetFault.TheVariants.{TwoDrivers, NoDriver, Cycle, ClockFault, NoClock, NoMemory}
 use Rattle.cg_netlist.specs.Circuit.{LogicCell}
 use Rattle.cg_parts.specs.Part.{Part, cells, clocks, drivers, gaters, inputs, is_gated, nets, registers, roots, uses}
-use Rattle.cg_netlist.specs.Wiring.{NetName, driven_by_cells}
+use Rattle.cg_netlist.specs.Wiring.{driven_by_cells}
 
 -- at most one of the inputs, the declared clocks and the outputs of cells drives the net
 abbrev pub IsDrivenOnce : List Part → NetName → Type 0

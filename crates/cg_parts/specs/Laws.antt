@@ -9,7 +9,8 @@ use Rattle.cg_parts.specs.Faults.{IsFault, IsFaultless}
 use Rattle.cg_parts.specs.Part.{Part}
 use Rattle.cg_parts.specs.Said.{said, with_part}
 use Rattle.cg_parts.specs.Says.{AreTaken, Says, netlist_of, parts_from, parts_of}
-use Rattle.cg_netlist.specs.Wiring.{NetName, named}
+use Rattle.cg_net.specs.Names.{NetName}
+use Rattle.cg_netlist.specs.Wiring.{named}
 use Rattle.cg_parts.specs.Writable.{IsLine, IsWritable, line_parts}
 
 -- parts say at most one netlist

@@ -3,9 +3,9 @@ use Rattle.std.specs.Prelude.{Bool, not, List, [], ◌∷◌, ◌++◌, map, sli
 use Rattle.std.specs.List.{filter, filter_map, flat_map}
 use Rattle.std.specs.Option.{option_or, option_to_list}
 use Rattle.std.specs.Str.{bytes_eq}
-use Rattle.cg_netlist.specs.Names.{is_known}
+use Rattle.cg_net.specs.Names.{NetName, is_known}
 use Rattle.cg_netlist.specs.Circuit.{LogicCell, GatingCell, RegisterCell, shown_nets}
-use Rattle.cg_netlist.specs.Wiring.{NetName, Wiring, driven_by_cells, driven_by_gaters, driven_by_registers, used_by}
+use Rattle.cg_netlist.specs.Wiring.{Wiring, driven_by_cells, driven_by_gaters, driven_by_registers, used_by}
 
 -- a part: an input, an output or a clock of the netlist, a logic cell, a gating cell, or a register. A register that names no
 -- clock is on the one clock of the netlist.

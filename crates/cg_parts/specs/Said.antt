@@ -4,11 +4,10 @@ use Rattle.std.specs.Prelude.{nat_lt, if◌then◌else◌, List, [], ◌∷◌, 
 use Rattle.cg_limit.specs.declared.TheConstants.{MOST_NETS, MOST_REGISTERS}
 use Rattle.cg_limit.specs.declared.Limit.{Limit}
 use Rattle.cg_limit.specs.declared.Limit.TheVariants.{Nets, Registers}
-use Rattle.cg_netlist.specs.Names.{with_name, with_names}
+use Rattle.cg_net.specs.Names.{NetName, with_name, with_names}
 use Rattle.cg_netlist.specs.Circuit.{LogicCell, GatingCell, RegisterCell}
 use Rattle.cg_parts.specs.Part.{Part, Input, Output, Clock, Logic, Gate, Register, cells, clocks, gaters, inputs, mentioned, nets}
 use Rattle.cg_parts.specs.Part.{outputs, registers}
-use Rattle.cg_netlist.specs.Wiring.{NetName}
 
 -- the nets in the order of their first mention; the inputs, outputs and declared clocks, each once; the cells of each kind
 pub record Said : Type 0 where

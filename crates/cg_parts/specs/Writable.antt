@@ -8,11 +8,13 @@ use Rattle.cg_netlist.specs.declared.parts.LogicFunction.{LogicFunction}
 use Rattle.cg_netlist.specs.declared.parts.LogicFunction.TheVariants.{Cover, Cell}
 use Rattle.cg_netlist.specs.declared.parts.RegisterKind.{RegisterKind}
 use Rattle.cg_netlist.specs.declared.parts.RegisterKind.TheVariants.{Plain, Flop}
-use Rattle.cg_netlist.specs.Circuit.{Circuit, RegisterCell, gate_nets, is_in}
+use Rattle.cg_netlist.specs.Circuit.{Circuit, RegisterCell, gate_nets}
+use Rattle.cg_net.specs.NetSets.{is_in}
 use Rattle.cg_netlist.specs.Netlist.{IsNetlist}
 use Rattle.cg_parts.specs.Part.{Part, Logic, Gate, Register}
 use Rattle.cg_parts.specs.Says.{parts_from}
-use Rattle.cg_netlist.specs.Wiring.{NetName, named, net_name}
+use Rattle.cg_net.specs.Names.{NetName, net_name}
+use Rattle.cg_netlist.specs.Wiring.{named}
 
 -- the cell that a library has under a name, if it has one
 abbrev pub cell_named : List CellData → List ℕ → Option CellData

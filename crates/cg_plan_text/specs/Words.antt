@@ -16,7 +16,7 @@ use Rattle.cg_machine.specs.Machine.{MachineData}
 use Rattle.cg_machine.specs.declared.stage.Stage.{Stage}
 use Rattle.cg_machine.specs.declared.stage.StageKind.{StageKind}
 use Rattle.cg_machine.specs.declared.stage.StageKind.TheVariants.{Hold, Stable, Unseen}
-use Rattle.cg_netlist.specs.Wiring.{net_name}
+use Rattle.cg_net.specs.Names.{net_name}
 use Rattle.cg_plan.specs.declared.outcome.Outcome.{Outcome}
 use Rattle.cg_plan.specs.declared.outcome.Outcome.TheVariants.{Inserted, NeverIdle, NoCell, Refuted, Small, Wide}
 

@@ -8,7 +8,7 @@ use crate::names::{push_net, push_output, push_register, push_word};
 use cg_claim::leaf::{LeafBit, LeafSource};
 use cg_claim::name::ClaimName;
 use cg_machine::machine::Machine;
-use cg_netlist::id::RegId;
+use cg_net::id::RegId;
 use cg_text::number::push_number;
 use std::alloc::AllocError;
 

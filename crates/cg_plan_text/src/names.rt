@@ -6,7 +6,7 @@ ghost use Rattle.cg_plan_text.specs.Words.{literal_word, named_word, net_word, o
 
 use cg_machine::machine::Machine;
 use cg_machine::stage::NetLit;
-use cg_netlist::id::{NetId, RegId};
+use cg_net::id::{NetId, RegId};
 use cg_text::number::push_number;
 use std::alloc::AllocError;
 

@@ -9,7 +9,7 @@ use crate::names::{push_count, push_literal, push_register, push_word};
 use crate::outcome::push_outcome;
 use cg_machine::machine::Machine;
 use cg_machine::stage::{NetLit, Stage, StageKind};
-use cg_netlist::id::RegId;
+use cg_net::id::RegId;
 use cg_plan::outcome::Outcome;
 use std::alloc::AllocError;
 

@@ -16,10 +16,10 @@ use Rattle.cg_machine.specs.Gates.{HasInputs}
 use Rattle.cg_machine.specs.Machine.{IsMachine, IsNet, MachineData, enable_of}
 use Rattle.cg_machine.specs.declared.stage.Stage.{Stage}
 use Rattle.cg_machine.proofs.Extended.{extends_self, extends_then}
-use Rattle.cg_netlist.specs.Circuit.{is_in}
+use Rattle.cg_net.specs.NetSets.{is_in}
 use Rattle.cg_netlist.specs.declared.fault.AddFault.{AddFault}
 use Rattle.cg_netlist.specs.declared.fault.AddFault.TheVariants.{Limit as LimitFault, NoMemory}
-use Rattle.cg_netlist.proofs.Members.{member_at}
+use Rattle.cg_net.proofs.Members.{member_at}
 use Rattle.cg_stage.specs.Effects.{delayed, own_limit}
 use Rattle.cg_stage.specs.Joined.{join, join_all, join_all_limit, join_limit}
 use Rattle.cg_stage.specs.Stages.{Fits}

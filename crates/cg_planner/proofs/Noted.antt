@@ -15,8 +15,9 @@ use Rattle.cg_machine.specs.declared.stage.Stage.{Stage}
 use Rattle.cg_machine.specs.declared.stage.StageKind.{StageKind}
 use Rattle.cg_machine.specs.declared.stage.StageKind.TheVariants.{Hold, Stable, Unseen}
 use Rattle.cg_machine.proofs.Lists.{get_front}
-use Rattle.cg_netlist.specs.Circuit.{LogicCell, is_in}
-use Rattle.cg_netlist.proofs.TableLemmas.{set_cases}
+use Rattle.cg_netlist.specs.Circuit.{LogicCell}
+use Rattle.cg_net.specs.NetSets.{is_in}
+use Rattle.cg_net.proofs.TableLemmas.{set_cases}
 use Rattle.cg_reach.specs.Fanout.{Grows}
 use Rattle.cg_stage.specs.Effects.{delayed, limit_by, literal_net, net_by, with_own}
 use Rattle.cg_stage.specs.Joined.{enabled, join, join_all}

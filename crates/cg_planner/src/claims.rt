@@ -11,7 +11,7 @@ use crate::sets::StageSets;
 use cg_claim::name::ClaimName;
 use cg_machine::machine::Machine;
 use cg_machine::stage::{NetLit, Stage, StageKind};
-use cg_netlist::id::RegId;
+use cg_net::id::RegId;
 use cg_reach::fanout::Fanout;
 use cg_unroll::claim::ClaimFault;
 use cg_unroll::unroller::Unroller;

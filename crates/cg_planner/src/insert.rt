@@ -6,7 +6,7 @@ ghost use Rattle.cg_cell.specs.declared.fit.FitKind.TheVariants.{And2};
 ghost use Rattle.cg_machine.specs.Added.{add_delay, add_gate, delay_limit, gate_limit};
 ghost use Rattle.cg_machine.specs.Extends.{Extends, GateFits};
 ghost use Rattle.cg_machine.specs.Machine.{IsMachine, IsNet};
-ghost use Rattle.cg_netlist.specs.Circuit.{is_in};
+ghost use Rattle.cg_net.specs.NetSets.{is_in};
 ghost use Rattle.cg_planner.specs.inner.Inserting.{AddsNet, Keeps, MayPass, delayed_limit, literal_limit};
 ghost use Rattle.cg_reach.specs.Fanout.{Knows};
 ghost use Rattle.cg_stage.specs.Effects.{delayed, effect, limit_by, literal_net, net_by, with_own};
@@ -18,7 +18,7 @@ use cg_cell::fit::FitKind;
 use cg_machine::machine::Machine;
 use cg_machine::stage::{NetLit, Stage, StageKind};
 use cg_netlist::fault::AddFault;
-use cg_netlist::id::{NetId, RegId};
+use cg_net::id::{NetId, RegId};
 use cg_reach::fanout::Fanout;
 
 /// Adds what a stage adds, and gives its registers the enable, which what reads the nets is told of before. No register gets

@@ -3,13 +3,14 @@ use Rattle.std.proofs.Common.{◌≡◌, ℕ, ◌-◌, ◌<◌, Bool, true, fals
 use Rattle.std.proofs.Common.{slice_get, Option, Some, None, refl, sym, ◌∙◌, ap, subst, arith, inl, inr}
 use Rattle.std.specs.List.{cons_option, filter, range_with_len}
 use Rattle.std.specs.Option.{option_map_or}
-use Rattle.cg_netlist.specs.Circuit.{LogicCell, is_in}
+use Rattle.cg_netlist.specs.Circuit.{LogicCell}
+use Rattle.cg_net.specs.NetSets.{is_in}
 use Rattle.cg_cone.specs.Cone.{cell_feeds, cone_at, cone_of}
 use Rattle.cg_netlist.specs.Moment.{values_at}
 use Rattle.cg_netlist.specs.Nets.{walk_order}
 use Rattle.std.proofs.lemmas.List.{length-take-le}
 use Rattle.cg_cone.specs.declared.cone.Cone.{Cone}
-use Rattle.cg_netlist.proofs.Members.{All-from_members, is_in_cases}
+use Rattle.cg_net.proofs.Members.{All-from_members, is_in_cases}
 use Rattle.cg_netlist.proofs.CellFits.{walk_within}
 use Rattle.cg_machine.specs.Machine.{IsMachine, MachineData, order_of, walk_of}
 use Rattle.cg_machine.proofs.Lists.{below_range}

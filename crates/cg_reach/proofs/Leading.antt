@@ -6,12 +6,13 @@ use Rattle.std.specs.Option.{option_map_or}
 use Rattle.std.proofs.lemmas.Bool.{both_ways, eqb-true, eq-eqb, or_cases, or_left, or_right}
 use Rattle.std.proofs.lemmas.Option.{none-some, same_Some}
 use Rattle.std.proofs.lemmas.List.{append-nil, append_assoc}
-use Rattle.cg_netlist.specs.Circuit.{LogicCell, is_in}
+use Rattle.cg_netlist.specs.Circuit.{LogicCell}
+use Rattle.cg_net.specs.NetSets.{is_in, with_net}
 use Rattle.cg_cone.specs.Cone.{IsInCone, Reaches, cone_of, through}
-use Rattle.cg_netlist.specs.NetSets.{with_net}
 use Rattle.cg_cone.proofs.Cones.{cone_is}
-use Rattle.cg_netlist.proofs.FoundNets.{front, in_one, one_more, put_one, same_truth, take_end, take_front}
-use Rattle.cg_netlist.proofs.Members.{is_in_cases, is_in_left}
+use Rattle.cg_net.proofs.FoundNets.{front, one_more, put_one, same_truth, take_front}
+use Rattle.cg_net.proofs.Members.{in_alone, is_in_cases, is_in_left}
+use Rattle.cg_net.proofs.TableLemmas.{take_end}
 use Rattle.cg_machine.specs.Machine.{IsMachine, MachineData, walk_of}
 use Rattle.cg_reach.specs.Fanout.{readers_at}
 use Rattle.cg_reach.specs.inner.Spreading.{AreCellReaders, IsSpreading, is_shown, led_by, led_by_all, led_on, spread, with_cell}
@@ -148,7 +149,7 @@ module _ (m : MachineData) (good : IsMachine m) (G : List ℕ) where
       let way : IsInCone m.circuit.cells (x ∷ []) some.0 = (cone_is m.circuit.cells walk good.walk (x ∷ []) some.0).0 some.1.0 in
       let to : Reaches m.circuit.cells some.0 x = subst (λ z. Reaches m.circuit.cells some.0 z) (alone x way.root way.among) way.reaches in
       let on : is_in (cone_of walk (cell.output ∷ [])) some.0 ≡ true =
-      (cone_is m.circuit.cells walk good.walk (cell.output ∷ []) some.0).1 (record { root = cell.output; among = in_one cell.output; reaches = through k cell x at input to }) in
+      (cone_is m.circuit.cells walk good.walk (cell.output ∷ []) some.0).1 (record { root = cell.output; among = in_alone cell.output; reaches = through k cell x at input to }) in
       elim (or_cases (spread walk shown cell.output) false (spread_cone walk shown (cell.output ∷ []) ∙ any_by shown (cone_of walk (cell.output ∷ [])) some.0 on some.1.1)) [
         | inl h ↦ h
         | inr none ↦ absurd (both_ways false refl none)

@@ -6,9 +6,8 @@ use Rattle.std.proofs.lemmas.Bool.{eqb-true}
 use Rattle.std.proofs.lemmas.List.Folds.{list_any-append}
 use Rattle.std.proofs.lemmas.Option.{none-some, same_Some}
 use Rattle.std.proofs.Math.Bool.{or_assoc}
-use Rattle.cg_netlist.specs.Circuit.{is_in}
-use Rattle.cg_netlist.specs.NetSets.{with_net}
-use Rattle.cg_netlist.proofs.Members.{is_in-append}
+use Rattle.cg_net.specs.NetSets.{is_in, with_net}
+use Rattle.cg_net.proofs.Members.{is_in-append}
 use Rattle.cg_machine.specs.Machine.{MachineData}
 use Rattle.cg_reach.specs.inner.Spreading.{is_shown, shows}
 use Rattle.cg_reach.proofs.Filtering.{take_more}

@@ -5,9 +5,9 @@ use Rattle.std.specs.Option.{option_map_or, option_to_list}
 use Rattle.std.proofs.lemmas.Bool.{both_ways, eqb-true, eq-eqb, or_cases, or_left, or_right}
 use Rattle.std.proofs.lemmas.Bool.Decides.{eqb_tells}
 use Rattle.std.proofs.lemmas.Option.{same_Some, slice_get-get_or}
-use Rattle.cg_netlist.specs.Circuit.{is_in}
-use Rattle.cg_netlist.proofs.Members.{is_in-append, is_in_cases, is_in_left, is_in_right}
-use Rattle.cg_netlist.proofs.TableLemmas.{slice_get-set_other, slice_get-set_same}
+use Rattle.cg_net.specs.NetSets.{is_in}
+use Rattle.cg_net.proofs.Members.{is_in-append, is_in_cases, is_in_left, is_in_right}
+use Rattle.cg_net.proofs.TableLemmas.{slice_get-set_other, slice_get-set_same}
 use Rattle.cg_machine.specs.Machine.{MachineData, enable_of}
 use Rattle.cg_claim.specs.Reach.{inputs_of_register, next_nets}
 use Rattle.cg_reach.specs.Fanout.{Grows, Knows, readers_at}

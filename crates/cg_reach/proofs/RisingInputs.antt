@@ -2,9 +2,10 @@
 use Rattle.std.proofs.Common.{◌≡◌, ℕ, suc, ◌<◌, ◌≤◌, Bool, true, false, ◌||◌, ◌&&◌, cond, List, [], ◌∷◌, ◌++◌}
 use Rattle.std.proofs.Common.{length, refl, sym, ◌∙◌, ap, arith}
 use Rattle.std.specs.List.{filter, range_with_len}
-use Rattle.cg_netlist.specs.Circuit.{cell_nets, data_inputs, drivers, given_nets, is_in}
+use Rattle.cg_netlist.specs.Circuit.{cell_nets, data_inputs, drivers, given_nets}
+use Rattle.cg_net.specs.NetSets.{is_in}
 use Rattle.cg_netlist.proofs.Given.{data_given}
-use Rattle.cg_netlist.proofs.Members.{All-member, is_in-append, is_in_left}
+use Rattle.cg_net.proofs.Members.{All-member, is_in-append, is_in_left}
 use Rattle.cg_netlist.specs.inner.Rising.{Rises}
 use Rattle.cg_netlist.proofs.RisingNumbers.{range_rises}
 use Rattle.cg_netlist.proofs.RisingPlaces.{rising_same}

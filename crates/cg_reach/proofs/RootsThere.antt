@@ -5,8 +5,9 @@ use Rattle.std.specs.List.{All, filter, flat_map}
 use Rattle.std.specs.Option.{option_map_or, option_to_list}
 use Rattle.std.proofs.lemmas.Bool.{both_ways}
 use Rattle.std.proofs.lemmas.List.Elements.{All-head, All-tail}
-use Rattle.cg_netlist.specs.Circuit.{RegisterCell, is_in, used_nets}
-use Rattle.cg_netlist.proofs.Members.{All-from_members, All-member, is_in_cases}
+use Rattle.cg_netlist.specs.Circuit.{RegisterCell, used_nets}
+use Rattle.cg_net.specs.NetSets.{is_in}
+use Rattle.cg_net.proofs.Members.{All-from_members, All-member, is_in_cases}
 use Rattle.cg_netlist.proofs.Used.{data_is_used}
 use Rattle.cg_machine.specs.Claims.{Literal}
 use Rattle.cg_machine.specs.Machine.{IsMachine, MachineData, enable_of}

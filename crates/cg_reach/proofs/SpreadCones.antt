@@ -6,7 +6,8 @@ use Rattle.std.specs.Option.{option_map_or, option_to_list}
 use Rattle.std.proofs.lemmas.Bool.{both_ways, eqb-true, eq-eqb}
 use Rattle.std.proofs.lemmas.List.Elements.{filter-append}
 use Rattle.std.proofs.lemmas.List.Folds.{list_any-append}
-use Rattle.cg_netlist.specs.Circuit.{LogicCell, RegisterCell, is_in, shown_nets}
+use Rattle.cg_netlist.specs.Circuit.{LogicCell, RegisterCell, shown_nets}
+use Rattle.cg_net.specs.NetSets.{is_in}
 use Rattle.cg_cone.specs.Cone.{cone_of}
 use Rattle.cg_machine.specs.Claims.{Literal, Target, Shown, Next as NextTarget, Joined}
 use Rattle.cg_machine.specs.Machine.{MachineData, enable_of, walk_of}

@@ -4,9 +4,9 @@ use Rattle.std.proofs.Common.{◌++◌, length, Option, Some, None, refl, sym, �
 use Rattle.std.specs.List.{filter, range_with_len}
 use Rattle.std.proofs.Math.Bool.{or_assoc}
 use Rattle.std.proofs.lemmas.Bool.{eqb-true}
-use Rattle.cg_netlist.specs.Circuit.{is_in}
+use Rattle.cg_net.specs.NetSets.{is_in}
 use Rattle.cg_cone.specs.declared.cone.Cone.{Cone}
-use Rattle.cg_netlist.proofs.Members.{is_in-append}
+use Rattle.cg_net.proofs.Members.{is_in-append}
 use Rattle.cg_machine.specs.Machine.{MachineData}
 use Rattle.cg_claim.specs.Question.{Copy, Question, Before, After, Changed, Side}
 use Rattle.cg_claim.specs.Reach.{after_nets, after_states, before_nets, before_states, changed_nets, changed_states, feeds}

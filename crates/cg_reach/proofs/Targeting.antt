@@ -9,9 +9,10 @@ use Rattle.std.proofs.lemmas.List.Folds.{list_any-append}
 use Rattle.std.proofs.lemmas.Map.Steps.{length-le_from_distinct_below}
 use Rattle.std.proofs.lemmas.Option.{slice_get_within}
 use Rattle.cg_limit.specs.declared.TheConstants.{MOST_NETS}
-use Rattle.cg_netlist.specs.Circuit.{is_in, used_nets}
-use Rattle.cg_netlist.proofs.FoundNets.{same_truth}
-use Rattle.cg_netlist.proofs.Members.{All-member, is_in_cases, is_in_left, is_in_right}
+use Rattle.cg_net.specs.NetSets.{is_in}
+use Rattle.cg_netlist.specs.Circuit.{used_nets}
+use Rattle.cg_net.proofs.FoundNets.{same_truth}
+use Rattle.cg_net.proofs.Members.{All-member, is_in_cases, is_in_left, is_in_right}
 use Rattle.cg_netlist.proofs.Used.{output_is_used}
 use Rattle.cg_machine.specs.Machine.{IsMachine, MachineData, enable_of}
 use Rattle.cg_machine.proofs.Lists.{below_range}

@@ -1,7 +1,8 @@
 -- What reads the nets of a machine, as far as it is known.
 use Rattle.std.specs.Prelude.{◌≡◌, ◌<◌, ◌≤◌, ◌⊎◌, ℕ, true, List, [], length, slice_get, Some}
 use Rattle.std.specs.Option.{option_map_or}
-use Rattle.cg_netlist.specs.Circuit.{LogicCell, is_in}
+use Rattle.cg_netlist.specs.Circuit.{LogicCell}
+use Rattle.cg_net.specs.NetSets.{is_in}
 use Rattle.cg_machine.specs.Machine.{MachineData, enable_of}
 use Rattle.cg_claim.specs.Reach.{next_nets}
 use Rattle.cg_reach.specs.declared.tables.Tables.{Tables}

@@ -1,7 +1,8 @@
 -- What a question reaches, as the program holds it.
 use Rattle.std.specs.Prelude.{◌≡◌, ◌<◌, ℕ, List, length, map}
 use Rattle.std.specs.List.{All, filter}
-use Rattle.cg_netlist.specs.Circuit.{data_inputs, is_in}
+use Rattle.cg_netlist.specs.Circuit.{data_inputs}
+use Rattle.cg_net.specs.NetSets.{is_in}
 use Rattle.cg_netlist.specs.Moment.{values_at}
 use Rattle.cg_cone.specs.declared.cone.Cone.{Cone}
 use Rattle.cg_machine.specs.Machine.{MachineData}

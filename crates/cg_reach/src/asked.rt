@@ -1,7 +1,7 @@
 //! What a claim asks of a machine, as data.
 
 use cg_machine::stage::NetLit;
-use cg_netlist::id::{NetId, RegId};
+use cg_net::id::{NetId, RegId};
 
 /// A copy of the machine.
 #[derive(Clone, Copy)]

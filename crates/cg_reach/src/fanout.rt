@@ -13,8 +13,8 @@ use crate::targets::{is_joined_found, push_name_if, push_next_names, push_output
 use cg_claim::name::ClaimName;
 use cg_machine::machine::Machine;
 use cg_machine::stage::NetLit;
-use cg_netlist::id::{NetId, RegId};
-use cg_netlist::net_set::NetSet;
+use cg_net::id::{NetId, RegId};
+use cg_net::net_set::NetSet;
 use std::alloc::{AllocError, Global};
 use std::marker::Model;
 

@@ -4,13 +4,14 @@ ghost use Rattle.std.specs.Prelude.{◌≡◌, ◌<◌, ◌≤◌, ◌||◌, ◌
 ghost use Rattle.std.specs.Option.{option_to_list};
 ghost use Rattle.cg_claim.specs.Reach.{inputs_of_register, next_nets};
 ghost use Rattle.cg_machine.specs.Machine.{enable_of};
-ghost use Rattle.cg_netlist.specs.Circuit.{LogicCell, is_in};
+ghost use Rattle.cg_netlist.specs.Circuit.{LogicCell};
+ghost use Rattle.cg_net.specs.NetSets.{is_in};
 ghost use Rattle.cg_reach.specs.Fanout.{readers_at};
 ghost use Rattle.cg_reach.specs.inner.Learning.{Keeps};
 
 use crate::readers::Readers;
 use cg_machine::machine::Machine;
-use cg_netlist::id::{CellId, NetId, RegId};
+use cg_net::id::{CellId, NetId, RegId};
 use std::alloc::AllocError;
 
 /// Notes what the cells of a machine read, from this one on.

@@ -2,7 +2,8 @@
 
 ghost use Rattle.std.specs.Prelude.{◌≡◌, ◌++◌, ◌||◌, ℕ, List, map, OnOk, IfOk};
 ghost use Rattle.std.specs.List.{filter};
-ghost use Rattle.cg_netlist.specs.Circuit.{data_inputs, is_in};
+ghost use Rattle.cg_netlist.specs.Circuit.{data_inputs};
+ghost use Rattle.cg_net.specs.NetSets.{is_in};
 ghost use Rattle.cg_claim.specs.Leaves.{leaves_at, leaves_of, shown_leaf};
 ghost use Rattle.cg_claim.specs.Question.{Before, After, Changed};
 ghost use Rattle.cg_claim.specs.Reach.{before_nets};
@@ -20,7 +21,7 @@ use cg_cone::ascending::ascending;
 use cg_cone::cone::Cone;
 use cg_list::Seq;
 use cg_machine::machine::Machine;
-use cg_netlist::id::{NetId, RegId};
+use cg_net::id::{NetId, RegId};
 use std::alloc::{AllocError, Global};
 
 /// The leaves of a claim.

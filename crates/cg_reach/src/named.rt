@@ -4,7 +4,7 @@ ghost use Rattle.std.specs.Prelude.{IfOk};
 ghost use Rattle.cg_reach.specs.inner.Found.{AreSetsOf};
 
 use crate::sources::set_of;
-use cg_netlist::id::RegId;
+use cg_net::id::RegId;
 use indexmap::IndexSet;
 use std::alloc::{AllocError, Global};
 

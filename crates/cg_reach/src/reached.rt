@@ -20,7 +20,7 @@ use cg_cone::cone::Cone;
 use cg_list::Seq;
 use cg_machine::cone::ConeFinder;
 use cg_machine::machine::Machine;
-use cg_netlist::id::RegId;
+use cg_net::id::RegId;
 use std::alloc::{AllocError, Global};
 
 /// What a claim reaches.

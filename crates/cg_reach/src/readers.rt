@@ -1,11 +1,11 @@
 //! What reads each net, by its number.
 
 ghost use Rattle.std.specs.Prelude.{◌≡◌, ◌<◌, ◌^◌, ◌||◌, ◌&&◌, [], ℕ, nat_eq, length, OnOk};
-ghost use Rattle.cg_netlist.specs.Circuit.{is_in};
+ghost use Rattle.cg_net.specs.NetSets.{is_in};
 ghost use Rattle.cg_reach.specs.Fanout.{readers_at};
 
 use cg_list::Seq;
-use cg_netlist::id::NetId;
+use cg_net::id::NetId;
 use std::alloc::{AllocError, Global};
 use std::marker::Model;
 

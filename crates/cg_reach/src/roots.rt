@@ -3,7 +3,7 @@
 ghost use Rattle.std.specs.Prelude.{◌≡◌, ◌<◌, ◌++◌, ◌∷◌, [], ℕ, length, map, OnOk};
 ghost use Rattle.std.specs.List.{All, flat_map};
 ghost use Rattle.std.specs.Option.{option_to_list};
-ghost use Rattle.cg_netlist.specs.Circuit.{is_in};
+ghost use Rattle.cg_net.specs.NetSets.{is_in};
 ghost use Rattle.cg_machine.specs.Machine.{enable_of};
 ghost use Rattle.cg_claim.specs.Question.{Question};
 ghost use Rattle.cg_claim.specs.Reach.{enable_nets, inputs_of_register, next_nets, origin_nets, part_nets, same_copy, side_nets};
@@ -13,7 +13,7 @@ ghost use Rattle.cg_reach.specs.Asking.{AsksThere, PartThere, copy_of, part_of, 
 use crate::asked::{Asked, Frame, Part, Side};
 use cg_machine::machine::Machine;
 use cg_machine::stage::NetLit;
-use cg_netlist::id::{NetId, RegId};
+use cg_net::id::{NetId, RegId};
 use indexmap::IndexSet;
 use std::alloc::AllocError;
 

@@ -3,13 +3,14 @@
 ghost use Rattle.std.specs.Prelude.{◌≡◌, ◌<◌, ◌||◌, ◌∷◌, [], ℕ, Some, length, map, slice_get, OnOk};
 ghost use Rattle.std.specs.List.{All, list_any};
 ghost use Rattle.cg_machine.specs.Machine.{walk_of};
-ghost use Rattle.cg_netlist.specs.Circuit.{LogicCell, is_in};
+ghost use Rattle.cg_netlist.specs.Circuit.{LogicCell};
+ghost use Rattle.cg_net.specs.NetSets.{is_in};
 ghost use Rattle.cg_reach.specs.inner.Spreading.{AreCellReaders, is_shown, led_by, led_by_all, led_on, shows, spread};
 
 use crate::readers::Readers;
 use cg_machine::machine::Machine;
-use cg_netlist::id::{CellId, NetId, RegId};
-use cg_netlist::net_set::NetSet;
+use cg_net::id::{CellId, NetId, RegId};
+use cg_net::net_set::NetSet;
 use std::alloc::AllocError;
 
 /// Finds the nets at which these registers can show in the same cycle: those that show their bits, and with an input of a

@@ -8,7 +8,7 @@ ghost use Rattle.cg_reach.specs.inner.Learning.{KnowsAll};
 use crate::learn::{learn_cells, learn_net, learn_outputs, learn_registers};
 use crate::readers::Readers;
 use cg_machine::machine::Machine;
-use cg_netlist::id::{NetId, RegId};
+use cg_net::id::{NetId, RegId};
 use std::alloc::{AllocError, Global};
 
 /// The readers of each net, and how many parts of the machine they were noted of: the first ones, since a machine grows

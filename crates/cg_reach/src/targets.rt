@@ -6,7 +6,7 @@ ghost use Rattle.std.specs.Option.{option_to_list};
 ghost use Rattle.cg_machine.specs.Machine.{enable_of};
 ghost use Rattle.cg_claim.specs.Reach.{inputs_of_register, registers_of};
 ghost use Rattle.cg_claim.specs.declared.name.ClaimName.TheVariants.{Next, Output};
-ghost use Rattle.cg_netlist.specs.Circuit.{is_in};
+ghost use Rattle.cg_net.specs.NetSets.{is_in};
 ghost use Rattle.cg_reach.specs.inner.Spreading.{AreOutputReaders, AreRegisterReaders, is_next_marked, is_output_marked};
 ghost use Rattle.cg_reach.specs.inner.Spreading.{is_register_marked, marked_outputs};
 
@@ -17,8 +17,8 @@ use cg_claim::name::ClaimName;
 use cg_cone::ascending::ascending;
 use cg_machine::machine::Machine;
 use cg_machine::stage::NetLit;
-use cg_netlist::id::RegId;
-use cg_netlist::net_set::NetSet;
+use cg_net::id::RegId;
+use cg_net::net_set::NetSet;
 use indexmap::IndexSet;
 use std::alloc::{AllocError, Global};
 

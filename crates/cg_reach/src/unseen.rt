@@ -3,7 +3,7 @@
 ghost use Rattle.std.specs.Prelude.{◌≡◌, IfOk};
 
 use crate::named::Named;
-use cg_netlist::id::RegId;
+use cg_net::id::RegId;
 use std::alloc::{AllocError, Global};
 use std::marker::Model;
 

@@ -8,10 +8,10 @@ use Rattle.std.proofs.lemmas.List.Sums.{sum_by-cons}
 use Rattle.std.proofs.lemmas.Option.{slice_get-map, same_Some}
 use Rattle.cg_netlist.specs.Circuit.{Circuit, RegisterCell, data_inputs}
 use Rattle.cg_netlist.specs.History.{Moment, Tick, edges_from, rises}
-use Rattle.cg_netlist.proofs.RankingLemmas.{take_next}
+use Rattle.cg_net.proofs.TableLemmas.{take_next}
 use Rattle.cg_edge.specs.Shows.{Shows, ShowsOn, last_moment}
 use Rattle.cg_netlist.specs.Netlist.{IsNetlist}
-use Rattle.cg_netlist.specs.Wiring.{net_name}
+use Rattle.cg_net.specs.Names.{net_name}
 use Rattle.cg_edge.specs.Simulated.{Simulated, Ticks, fresh, rises_at}
 use Rattle.cg_stimulus.specs.Inputs.{Rows, IsStimulus, IsFor, input_names}
 use Rattle.cg_stimulus.specs.Played.{played_start, played_wave, wave_from}

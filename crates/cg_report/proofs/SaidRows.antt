@@ -5,7 +5,7 @@ use Rattle.std.specs.List.{All, flat_map}
 use Rattle.std.specs.Result.{OnOk}
 use Rattle.cg_netlist.specs.Circuit.{Circuit, LogicCell, RegisterCell, asked_nets, used_nets}
 use Rattle.cg_netlist.specs.WellFormed.{IsWellFormed}
-use Rattle.cg_netlist.proofs.Members.{All-from_members, All-member, is_in_right}
+use Rattle.cg_net.proofs.Members.{All-from_members, All-member, is_in_right}
 use Rattle.cg_netlist.specs.History.{Moment}
 use Rattle.cg_netlist.specs.Moment.{bit}
 use Rattle.cg_stimulus.specs.Played.{IsPlayed, played_wave}

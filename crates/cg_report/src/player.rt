@@ -15,7 +15,7 @@ ghost use Rattle.cg_report.specs.Place.{GivesStep, IsAt, MayWatch, Place, Steps}
 
 use crate::watcher::Watcher;
 use cg_edge::simulator::Simulator;
-use cg_netlist::id::RegId;
+use cg_net::id::RegId;
 use cg_netlist::netlist::Netlist;
 use cg_stimulus::stimulus::Stimulus;
 use std::alloc::{AllocError, Global};

@@ -13,7 +13,7 @@ ghost use Rattle.cg_report.specs.inner.Saying.{SaysRow};
 
 use crate::player::Player;
 use cg_edge::simulator::Simulator;
-use cg_netlist::id::NetId;
+use cg_net::id::NetId;
 use cg_netlist::netlist::Netlist;
 use cg_stimulus::played::one_played_history;
 use cg_stimulus::stimulus::Stimulus;

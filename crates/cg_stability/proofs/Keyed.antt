@@ -5,7 +5,8 @@ use Rattle.std.specs.List.{filter, filter_map, list_all, list_any, range_with_le
 use Rattle.std.specs.Option.{option_map_or}
 use Rattle.std.proofs.lemmas.Bool.{and_parts, both_ways, cases_Bool, eqb-true, eq-eqb, or_cases, or_left, or_right}
 use Rattle.std.proofs.lemmas.Option.{slice_get_within}
-use Rattle.cg_netlist.specs.Circuit.{RegisterCell, is_in, shown_nets}
+use Rattle.cg_netlist.specs.Circuit.{RegisterCell, shown_nets}
+use Rattle.cg_net.specs.NetSets.{is_in}
 use Rattle.cg_machine.specs.Machine.{IsMachine, MachineData, enable_of}
 use Rattle.cg_claim.specs.Reach.{feeds, registers_of}
 use Rattle.cg_claim.proofs.Reached.{and_first, both_true, in_filter, range_in, to_filter}

@@ -11,7 +11,7 @@ use cg_groups::key::Key;
 use cg_list::Seq;
 use cg_machine::machine::Machine;
 use cg_machine::stage::{Earlier, NetLit, Stage, StageKind};
-use cg_netlist::id::{NetId, RegId};
+use cg_net::id::{NetId, RegId};
 use std::alloc::{AllocError, Global};
 
 /// The stages that a round of stability tries on a machine, where these stages were tried before.

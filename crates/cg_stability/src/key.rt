@@ -13,7 +13,7 @@ ghost use Rattle.cg_support.specs.Support.{IsSupport};
 use cg_groups::key::Key;
 use cg_groups::order::rising;
 use cg_machine::machine::Machine;
-use cg_netlist::id::RegId;
+use cg_net::id::RegId;
 use cg_support::finder::SupportFinder;
 use cg_support::support::Support;
 use std::alloc::{AllocError, Global};

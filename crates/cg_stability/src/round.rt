@@ -6,7 +6,7 @@ ghost use Rattle.cg_groups.specs.Leaving.{without};
 ghost use Rattle.cg_lists.specs.Rounds.{kept_key, same_kind};
 ghost use Rattle.cg_lists.specs.StableList.{had_stable};
 ghost use Rattle.cg_machine.specs.declared.stage.StageKind.TheVariants.{Stable};
-ghost use Rattle.cg_netlist.specs.Circuit.{is_in};
+ghost use Rattle.cg_net.specs.NetSets.{is_in};
 ghost use Rattle.cg_stability.specs.inner.Leaving.{AreKeys, stage_key};
 
 use crate::key::key_of;
@@ -14,7 +14,7 @@ use cg_groups::key::Key;
 use cg_groups::leaving::take_out;
 use cg_machine::machine::Machine;
 use cg_machine::stage::{Earlier, NetLit, Stage, StageKind};
-use cg_netlist::id::{NetId, RegId};
+use cg_net::id::{NetId, RegId};
 use cg_support::finder::SupportFinder;
 use std::alloc::{AllocError, Global};
 

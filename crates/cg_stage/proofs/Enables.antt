@@ -1,7 +1,7 @@
 -- The joined enable of a stage that fits is there.
 use Rattle.std.proofs.Common.{◌≡◌, ℕ, ◌<◌, true, List, [], ◌∷◌, map, length, nat_eq, None, refl, arith}
 use Rattle.std.proofs.lemmas.Bool.{eq-eqb, or_left, or_right}
-use Rattle.cg_netlist.specs.Circuit.{is_in}
+use Rattle.cg_net.specs.NetSets.{is_in}
 use Rattle.cg_machine.specs.Claims.{Literal}
 use Rattle.cg_machine.specs.Machine.{IsMachine, IsNet, MachineData}
 use Rattle.cg_machine.specs.declared.stage.Stage.{Stage}

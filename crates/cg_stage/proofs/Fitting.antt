@@ -4,7 +4,7 @@ use Rattle.std.proofs.Common.{◌++◌, map, length, nat_eq, Option, refl, ◌�
 use Rattle.std.proofs.lemmas.Bool.{both_ways, eq-eqb, or_left, or_right}
 use Rattle.std.proofs.lemmas.List.{length-replicate}
 use Rattle.cg_cell.specs.Gates.{any_of}
-use Rattle.cg_netlist.specs.Circuit.{is_in}
+use Rattle.cg_net.specs.NetSets.{is_in}
 use Rattle.cg_netlist.specs.Moment.{bit}
 use Rattle.cg_machine.specs.Added.{Added, give, set_enable}
 use Rattle.cg_machine.specs.Claims.{Literal, any_at}

@@ -1,7 +1,7 @@
 -- Hold: the net of a held literal may become the enable of registers without one.
 use Rattle.std.proofs.Common.{◌≡◌, ℕ, Bool, true, List, ◌++◌, length, Option, None, refl, sym, ◌∙◌, ap, inl, inr}
 use Rattle.std.proofs.lemmas.Bool.{cases_Bool}
-use Rattle.cg_netlist.specs.Circuit.{is_in}
+use Rattle.cg_net.specs.NetSets.{is_in}
 use Rattle.cg_netlist.specs.Moment.{bit}
 use Rattle.cg_machine.specs.Claims.{Hold, Literal, literal_bit}
 use Rattle.cg_machine.specs.Machine.{IsInputs, IsState, MachineData, next, outputs_at, step, values}

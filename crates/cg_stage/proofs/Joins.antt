@@ -5,7 +5,7 @@ use Rattle.std.proofs.lemmas.Bool.{both_ways, eqb-true, eq-eqb, or_cases, or_lef
 use Rattle.cg_cell.specs.Cover.{cover_value}
 use Rattle.cg_cell.specs.Gates.{any_of}
 use Rattle.cg_cell.specs.declared.fit.FitKind.TheVariants.{Or2}
-use Rattle.cg_netlist.specs.Circuit.{is_in}
+use Rattle.cg_net.specs.NetSets.{is_in}
 use Rattle.cg_netlist.specs.Moment.{bit}
 use Rattle.cg_machine.specs.Added.{Added, add_gate, gate_limit}
 use Rattle.cg_machine.specs.Extends.{Extends, HasGate, old}

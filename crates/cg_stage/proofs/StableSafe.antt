@@ -7,10 +7,11 @@ use Rattle.std.proofs.lemmas.Option.{get_or_from_slice_get}
 use Rattle.cg_cell.specs.Cover.{cover_value}
 use Rattle.cg_cell.specs.declared.fit.FitKind.TheVariants.{And2}
 use Rattle.cg_limit.specs.declared.Limit.{Limit}
-use Rattle.cg_netlist.specs.Circuit.{GatingCell, RegisterCell, clock_nets, gate_nets, is_in}
+use Rattle.cg_netlist.specs.Circuit.{GatingCell, RegisterCell, clock_nets, gate_nets}
+use Rattle.cg_net.specs.NetSets.{is_in}
 use Rattle.cg_netlist.specs.Moment.{bit}
 use Rattle.cg_netlist.proofs.Given.{in_option}
-use Rattle.cg_netlist.proofs.Members.{is_in_cases}
+use Rattle.cg_net.proofs.Members.{is_in_cases}
 use Rattle.cg_netlist.proofs.Values.{element_at}
 use Rattle.cg_machine.specs.Added.{Added, add_gate, delay_limit, give}
 use Rattle.cg_machine.specs.Claims.{any_at}

@@ -1,6 +1,6 @@
 -- An unobservability stage that fits may be inserted where its claims hold.
 use Rattle.std.proofs.Common.{◌≡◌, ℕ, ◌<◌, true, false, length, None, sym, ◌∙◌, ap, arith}
-use Rattle.cg_netlist.specs.Circuit.{is_in}
+use Rattle.cg_net.specs.NetSets.{is_in}
 use Rattle.cg_machine.specs.Added.{Added, give}
 use Rattle.cg_machine.specs.Claims.{Joined, Next, Shown, Target, Unseen as IsUnseen}
 use Rattle.cg_machine.specs.Extends.{Extends}

@@ -1,6 +1,6 @@
 -- What is proved of stages.
 use Rattle.std.specs.Prelude.{◌≡◌, ◌<◌, ◌≤◌, ℕ, false, length, None}
-use Rattle.cg_netlist.specs.Circuit.{is_in}
+use Rattle.cg_net.specs.NetSets.{is_in}
 use Rattle.cg_machine.specs.Machine.{IsMachine, MachineData, enable_of}
 use Rattle.cg_machine.specs.Run.{Same}
 use Rattle.cg_machine.specs.declared.stage.Stage.{Stage}

@@ -1,7 +1,7 @@
 -- Stages of a machine: when one fits, and what it claims.
 use Rattle.std.specs.Prelude.{◌≡◌, ◌<◌, ℕ, nat_eq, Bool, true, false, List, [], ◌∷◌, map, length, None}
 use Rattle.std.specs.List.{IsDistinct, list_any}
-use Rattle.cg_netlist.specs.Circuit.{is_in}
+use Rattle.cg_net.specs.NetSets.{is_in}
 use Rattle.cg_machine.specs.Claims.{Joined, Literal, Next, Shown, Target, Hold as Holds, Stable as IsStable, Unseen as IsUnseen}
 use Rattle.cg_machine.specs.Machine.{IsNet, MachineData, enable_of}
 use Rattle.cg_machine.specs.declared.stage.Stage.{Stage}

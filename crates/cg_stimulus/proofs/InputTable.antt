@@ -6,8 +6,8 @@ use Rattle.std.specs.declared.vec.Vec.{Vec}
 use Rattle.std.proofs.lemmas.Bool.{cases_Bool}
 use Rattle.std.proofs.lemmas.List.{length-map, map_push}
 use lib.Pointwise.{pointwise}
-use Rattle.cg_netlist.specs.Names.{bytes_of, is_known, with_name}
-use Rattle.cg_netlist.proofs.NameLemmas.{with_name-known, with_name-unknown}
+use Rattle.cg_net.specs.Names.{bytes_of, is_known, with_name}
+use Rattle.cg_net.proofs.NameLemmas.{with_name-known, with_name-unknown}
 
 module _ {Z : Type 0} where
   places_map : (p : List ℕ → Bool) (ks : List (Vec ℕ Z)) → position_or_len p (bytes_of ks) ≡ position_or_len (λ k. p k.items) ks

@@ -5,11 +5,11 @@ use Rattle.std.specs.Option.{option_to_list}
 use Rattle.std.proofs.lemmas.List.Elements.{recursion_from_All}
 use Rattle.std.proofs.lemmas.Option.{unwrap_or-slice_get}
 use Rattle.cg_cell.specs.Name.{is_name}
-use Rattle.cg_netlist.specs.Wiring.{net_name}
+use Rattle.cg_net.specs.Names.{net_name}
 use Rattle.cg_netlist.specs.Circuit.{Circuit, data_inputs, gate_nets, register_nets}
 use Rattle.cg_netlist.specs.Netlist.{IsNetlist}
 use Rattle.cg_netlist.proofs.Given.{data_given, given_within, distinct_given}
-use Rattle.cg_netlist.proofs.Members.{distinct_left}
+use Rattle.cg_net.proofs.Members.{distinct_left}
 use Rattle.cg_stimulus.specs.Inputs.{input_names}
 
 pub inputs_within : (c : Circuit) → IsNetlist c → All (λ net. net < length c.names) (data_inputs c)

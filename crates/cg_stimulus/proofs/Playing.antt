@@ -3,7 +3,7 @@ use Rattle.std.proofs.Common.{◌≡◌, ◌==◌, ℕ, ◌+◌, ◌-◌, ◌≤
 use Rattle.std.proofs.Common.{arith}
 use Rattle.std.specs.List.{AllByRecursion}
 use Rattle.std.proofs.lemmas.List.{length-append, length-map, length-replicate}
-use Rattle.cg_netlist.specs.Wiring.{net_name}
+use Rattle.cg_net.specs.Names.{net_name}
 use Rattle.cg_netlist.specs.Circuit.{Circuit, data_inputs}
 use Rattle.cg_netlist.specs.History.{AreTicks, BeginsLow, IsStart, IsWaveform}
 use Rattle.cg_stimulus.specs.Inputs.{Rows, IsStimulus, IsFor, input_names}

@@ -18,8 +18,8 @@ use Rattle.cg_limit.specs.declared.TheConstants.{MOST_ROWS}
 use Rattle.cg_text.specs.declared.lines.Line.{Line}
 use Rattle.cg_limit.specs.Answers.{OrNoMemory}
 use Rattle.cg_limit.specs.declared.Limit.TheVariants as limits
-use Rattle.cg_netlist.specs.Names.{is_known}
-use Rattle.cg_netlist.proofs.DifferentNames.{known_at}
+use Rattle.cg_net.specs.Names.{is_known}
+use Rattle.cg_net.proofs.DifferentNames.{known_at}
 use Rattle.cg_stimulus.specs.declared.fault.StimulusFault.{StimulusFault}
 use Rattle.cg_stimulus.specs.declared.fault.StimulusFault.TheVariants as faults
 use Rattle.cg_stimulus.specs.declared.header.Header.{Header}

@@ -2,7 +2,7 @@
 use Rattle.std.specs.Prelude.{◌≡◌, ◌≤◌, ℕ, Bool, List, ◌++◌, length, map}
 use Rattle.std.specs.List.{AllByRecursion}
 use Rattle.cg_limit.specs.declared.TheConstants.{MOST_ROWS}
-use Rattle.cg_netlist.specs.Wiring.{net_name}
+use Rattle.cg_net.specs.Names.{net_name}
 use Rattle.cg_netlist.specs.Circuit.{Circuit, data_inputs}
 
 -- the names of the data inputs, in their order

@@ -7,7 +7,7 @@ use lib.Pointwise.{pointwise}
 use Rattle.cg_text.specs.declared.lines.Line.{Line}
 use Rattle.cg_limit.specs.declared.Limit.TheVariants as limits
 use Rattle.cg_limit.specs.declared.TheConstants.{MOST_ROWS}
-use Rattle.cg_netlist.specs.Names.{is_known}
+use Rattle.cg_net.specs.Names.{is_known}
 use Rattle.cg_stimulus.specs.declared.fault.StimulusFault.{StimulusFault}
 use Rattle.cg_stimulus.specs.declared.header.Header.{Header}
 use Rattle.cg_stimulus.specs.declared.fault.StimulusFault.TheVariants.{BadName, MissingInput, BadRow, Limit}

@@ -1,7 +1,7 @@
 //! Names in their order, each of which stands there once.
 
 ghost use Rattle.std.specs.Prelude.{◌≡◌, ◌<◌, [], Some, length, slice_get, OnOk};
-ghost use Rattle.cg_netlist.specs.Names.{is_known, with_name};
+ghost use Rattle.cg_net.specs.Names.{is_known, with_name};
 ghost use Rattle.cg_stimulus.specs.Reading.{column_of};
 
 use indexmap::IndexSet;
@@ -18,7 +18,7 @@ pub(crate) struct InputNames {
 
 impl Model for InputNames {
     ghost use Rattle.std.specs.Prelude.{List, ℕ};
-    ghost use Rattle.cg_netlist.specs.Names.{bytes_of};
+    ghost use Rattle.cg_net.specs.Names.{bytes_of};
 
     ghost Value = { List (List ℕ) };
 

@@ -3,7 +3,7 @@
 ghost use Rattle.std.specs.Prelude.{◌≡◌, ◌≢◌, ◌<◌, ◌++◌, ◌∷◌, [], Some, length, map, nat_eq, slice_get, IfOk, IfErr, OnErr, OnOk};
 ghost use Rattle.std.specs.List.{All, AllPairs, IsDistinct};
 ghost use Rattle.cg_limit.specs.declared.TheConstants.{MOST_ROWS};
-ghost use Rattle.cg_netlist.specs.Wiring.{net_name};
+ghost use Rattle.cg_net.specs.Names.{net_name};
 ghost use Rattle.cg_stimulus.specs.Inputs.{IsStimulus, input_names};
 ghost use Rattle.cg_stimulus.specs.Pushing.{PushRefuses};
 
@@ -11,7 +11,7 @@ use crate::fault::StimulusFault;
 use crate::names::InputNames;
 use cg_limit::{Limit, MOST_ROWS};
 use cg_list::Seq;
-use cg_netlist::id::NetId;
+use cg_net::id::NetId;
 use cg_netlist::netlist::Netlist;
 use std::alloc::{AllocError, Global};
 use std::marker::Model;

@@ -4,13 +4,14 @@ use Rattle.std.proofs.Common.{take, nat_eq, slice_get, Option, Some, None, refl,
 use Rattle.std.specs.Option.{option_map_or}
 use Rattle.std.proofs.lemmas.Bool.{both_ways, eqb-true, eq-eqb}
 use Rattle.std.proofs.lemmas.Option.{none-some, same_Some}
-use Rattle.cg_netlist.specs.Circuit.{LogicCell, RegisterCell, cell_nets, data_inputs, is_in, shown_nets}
+use Rattle.cg_netlist.specs.Circuit.{LogicCell, RegisterCell, cell_nets, data_inputs, shown_nets}
+use Rattle.cg_net.specs.NetSets.{is_in}
 use Rattle.cg_netlist.specs.Drivers.{IsDriver}
 use Rattle.cg_netlist.specs.WellFormed.{IsDriven}
 use Rattle.cg_netlist.specs.declared.driver.Driver.{Driver}
 use Rattle.cg_netlist.specs.declared.driver.Driver.TheVariants.{Input, Clock, Cell, Gater, Register}
 use Rattle.cg_netlist.proofs.Given.{clock_given, data_given, distinct_cells, given_no_cell, register_given}
-use Rattle.cg_netlist.proofs.Members.{member_at, one_place, place_of_member}
+use Rattle.cg_net.proofs.Members.{member_at, one_place, place_of_member}
 use Rattle.cg_netlist.proofs.Used.{in_flat}
 use Rattle.cg_netlist.proofs.Values.{at_map, under_map}
 use Rattle.cg_machine.specs.Added.{own_netlist}

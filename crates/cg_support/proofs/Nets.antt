@@ -5,9 +5,8 @@ use Rattle.std.proofs.Common.{append_assoc}
 use Rattle.std.specs.List.{list_any}
 use Rattle.std.proofs.lemmas.Bool.{both_ways, cases_Bool, eqb-true, eq-eqb, or_cases, or_left, or_right}
 use Rattle.std.proofs.lemmas.Option.{none-some, same_Some}
-use Rattle.cg_netlist.specs.Circuit.{is_in}
-use Rattle.cg_netlist.proofs.Members.{is_in_cases, is_in_left, is_in_right}
-use Rattle.cg_netlist.specs.NetSets.{with_net, with_nets}
+use Rattle.cg_net.specs.NetSets.{is_in, with_net, with_nets}
+use Rattle.cg_net.proofs.Members.{is_in_cases, is_in_left, is_in_right}
 
 -- a truth value that holds exactly where another does
 pub same_truth : (a b : Bool) → (a ≡ true → b ≡ true) → (b ≡ true → a ≡ true) → a ≡ b

@@ -3,17 +3,17 @@ use Rattle.std.proofs.Common.{◌≡◌, ℕ, zero, suc, ◌+◌, ◌<◌, ◌�
 use Rattle.std.proofs.Common.{slice_get, Option, Some, None, refl, sym, ◌∙◌, ap, subst, arith, ◌⊎◌, inl, inr}
 use Rattle.std.proofs.lemmas.Bool.{both_ways, eqb-true, or_cases}
 use Rattle.std.proofs.lemmas.Option.{none-some}
-use Rattle.cg_netlist.specs.Circuit.{LogicCell, is_in}
+use Rattle.cg_netlist.specs.Circuit.{LogicCell}
+use Rattle.cg_net.specs.NetSets.{is_in, with_nets}
 use Rattle.cg_netlist.specs.Drivers.{IsDriver}
 use Rattle.cg_netlist.specs.declared.driver.Driver.{Driver}
 use Rattle.cg_netlist.specs.declared.driver.Driver.TheVariants.{Cell}
-use Rattle.cg_netlist.proofs.Members.{is_in_cases, member_at}
+use Rattle.cg_net.proofs.Members.{is_in_cases, member_at}
 use Rattle.cg_netlist.proofs.Used.{input_is_used}
 use Rattle.cg_machine.specs.Added.{own_netlist}
 use Rattle.cg_machine.specs.Machine.{IsMachine, MachineData, walk_of}
 use Rattle.cg_cone.specs.Cone.{IsInCone, Reaches, cone_of, here, through}
 use Rattle.cg_cone.proofs.Cones.{cone_is, longer}
-use Rattle.cg_netlist.specs.NetSets.{with_nets}
 use Rattle.cg_support.specs.inner.Reaching.{AreOwn, IsReached}
 use Rattle.cg_support.proofs.Driving.{cell_driver}
 use Rattle.cg_support.proofs.Nets.{front, kept_all, only_these, put_all, same_truth, take_end, take_front, take_some}

@@ -5,19 +5,19 @@ use Rattle.std.specs.List.{All, list_any}
 use Rattle.std.proofs.lemmas.List.Folds.{list_any-append}
 use Rattle.std.proofs.lemmas.Option.{same_Some}
 use Rattle.std.proofs.Math.Bool.{or-false}
-use Rattle.cg_netlist.specs.Circuit.{Circuit, LogicCell, data_inputs, is_in, used_nets}
+use Rattle.cg_netlist.specs.Circuit.{Circuit, LogicCell, data_inputs, used_nets}
+use Rattle.cg_net.specs.NetSets.{is_in, with_nets}
 use Rattle.cg_netlist.specs.Drivers.{IsDriver}
 use Rattle.cg_netlist.specs.Netlist.{IsNetlist}
 use Rattle.cg_netlist.specs.declared.driver.Driver.{Driver}
 use Rattle.cg_netlist.specs.declared.driver.Driver.TheVariants.{Cell}
-use Rattle.cg_netlist.proofs.TableLemmas.{All-at}
-use Rattle.cg_netlist.proofs.Members.{place_of_member}
+use Rattle.cg_net.proofs.TableLemmas.{All-at}
+use Rattle.cg_net.proofs.Members.{place_of_member}
 use Rattle.cg_netlist.proofs.Used.{input_is_used}
 use Rattle.cg_machine.specs.Added.{own_netlist}
 use Rattle.cg_machine.specs.Machine.{IsMachine, MachineData}
 use Rattle.cg_support.specs.declared.support.Support.{Support}
 use Rattle.cg_support.specs.inner.Edge.{IsEdge, is_input, is_register, shows_at}
-use Rattle.cg_netlist.specs.NetSets.{with_nets}
 use Rattle.cg_support.specs.inner.Reaching.{AreOwn, IsReached}
 use Rattle.cg_support.proofs.Driving.{cell_driver, input_driver, register_driver}
 use Rattle.cg_support.proofs.Nets.{take_end}

@@ -4,8 +4,9 @@ use Rattle.std.proofs.Common.{Some, None, refl, sym, ◌∙◌, ap, subst, inl, 
 use Rattle.std.specs.List.{list_any}
 use Rattle.std.specs.Option.{option_map_or}
 use Rattle.std.proofs.lemmas.Bool.{both_ways, eqb-true, eq-eqb, or_cases, or_left, or_right}
-use Rattle.cg_netlist.specs.Circuit.{RegisterCell, data_inputs, is_in, shown_nets}
-use Rattle.cg_netlist.proofs.Members.{is_in-append}
+use Rattle.cg_netlist.specs.Circuit.{RegisterCell, data_inputs, shown_nets}
+use Rattle.cg_net.specs.NetSets.{is_in}
+use Rattle.cg_net.proofs.Members.{is_in-append}
 use Rattle.cg_machine.specs.Machine.{MachineData, walk_of}
 use Rattle.cg_cone.specs.Cone.{cone_of}
 use Rattle.cg_claim.specs.Reach.{feeds, reads_own}

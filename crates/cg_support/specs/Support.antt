@@ -2,7 +2,7 @@
 use Rattle.std.specs.Prelude.{◌≡◌, ℕ}
 use Rattle.cg_lists.specs.Supports.{has_input, supports}
 use Rattle.cg_machine.specs.Machine.{MachineData}
-use Rattle.cg_netlist.specs.Circuit.{is_in}
+use Rattle.cg_net.specs.NetSets.{is_in}
 use Rattle.cg_support.specs.declared.support.Support.{Support}
 
 -- it tells whether a data input is in the support of register r, and has the registers that are

@@ -3,13 +3,13 @@
 ghost use Rattle.std.specs.Prelude.{◌≡◌, ◌<◌, ◌+◌, ℕ, List, [], true, length, OnOk};
 ghost use Rattle.cg_cone.specs.Cone.{cone_of};
 ghost use Rattle.cg_machine.specs.Machine.{walk_of};
-ghost use Rattle.cg_netlist.specs.Circuit.{is_in};
+ghost use Rattle.cg_net.specs.NetSets.{is_in};
 ghost use Rattle.cg_support.specs.inner.Reaching.{AreOwn, IsReached};
 
 use cg_machine::machine::Machine;
 use cg_netlist::driver::Driver;
-use cg_netlist::id::NetId;
-use cg_netlist::net_set::NetSet;
+use cg_net::id::NetId;
+use cg_net::net_set::NetSet;
 use std::alloc::AllocError;
 
 /// Finds the nets of the cone of these nets of a machine's netlist: these nets, and with the output of a logic cell its

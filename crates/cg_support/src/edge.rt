@@ -1,7 +1,7 @@
 //! What drives the nets of a cone from outside.
 
 ghost use Rattle.std.specs.Prelude.{◌≡◌, ◌||◌, ℕ, length, IfOk, OnOk};
-ghost use Rattle.cg_netlist.specs.Circuit.{is_in};
+ghost use Rattle.cg_net.specs.NetSets.{is_in};
 ghost use Rattle.cg_support.specs.inner.Edge.{IsEdge, is_input, is_register};
 ghost use Rattle.cg_support.specs.inner.Reaching.{AreOwn};
 
@@ -9,7 +9,7 @@ use crate::support::Support;
 use cg_list::Seq;
 use cg_machine::machine::Machine;
 use cg_netlist::driver::Driver;
-use cg_netlist::net_set::NetSet;
+use cg_net::net_set::NetSet;
 use std::alloc::{AllocError, Global};
 
 /// Whether a data input is among these nets of a machine's netlist, and the registers that show their bits at one.

@@ -2,7 +2,7 @@
 
 ghost use Rattle.std.specs.Prelude.{◌≡◌, ◌<◌, ℕ, [], length, slice_get, IfOk};
 ghost use Rattle.cg_machine.specs.Machine.{walk_of};
-ghost use Rattle.cg_netlist.specs.Circuit.{is_in};
+ghost use Rattle.cg_net.specs.NetSets.{is_in};
 ghost use Rattle.cg_cone.specs.Cone.{cone_of};
 ghost use Rattle.cg_support.specs.Support.{IsSupport};
 ghost use Rattle.cg_support.specs.inner.Reaching.{AreOwn};
@@ -10,8 +10,8 @@ ghost use Rattle.cg_support.specs.inner.Reaching.{AreOwn};
 use crate::cone::cone;
 use crate::support::{Support, support_of};
 use cg_machine::machine::Machine;
-use cg_netlist::id::{NetId, RegId};
-use cg_netlist::net_set::NetSet;
+use cg_net::id::{NetId, RegId};
+use cg_net::net_set::NetSet;
 use std::alloc::{AllocError, Global};
 
 /// Finds cones and supports, one after another, each at the cost of what it reaches.

@@ -9,7 +9,8 @@ use Rattle.cg_machine.proofs.Started.{none_anywhere, netlist_is_run, start_is_ma
 use Rattle.cg_machine.specs.Machine.{IsState, MachineData, enable_of, next, next_of, values, IsMachine}
 use Rattle.cg_machine.specs.Run.{ones, freed, shown_from}
 use Rattle.cg_machine.specs.Start.{machine_of}
-use Rattle.cg_netlist.specs.Circuit.{data_inputs, RegisterCell, is_in, Circuit}
+use Rattle.cg_netlist.specs.Circuit.{Circuit, RegisterCell, data_inputs}
+use Rattle.cg_net.specs.NetSets.{is_in}
 use Rattle.cg_netlist.specs.History.{AreTicks, Tick}
 use Rattle.cg_netlist.specs.Moment.{bit}
 use Rattle.cg_plan.proofs.AllSafe.{plans_safe}

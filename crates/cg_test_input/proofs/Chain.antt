@@ -9,7 +9,8 @@ use Rattle.cg_machine.specs.Claims.{Follows, Target, any_at, mixed, target_bit}
 use Rattle.cg_machine.specs.Machine.{IsInputs, IsState, MachineData, enable_of, load, next, next_of, step, values}
 use Rattle.cg_machine.specs.Run.{with_enables}
 use Rattle.cg_netlist.proofs.Values.{same_places}
-use Rattle.cg_netlist.specs.Circuit.{RegisterCell, is_in}
+use Rattle.cg_netlist.specs.Circuit.{RegisterCell}
+use Rattle.cg_net.specs.NetSets.{is_in}
 use Rattle.cg_netlist.specs.Moment.{bit}
 use Rattle.cg_stage.proofs.StableStage.{follows_step}
 use Rattle.cg_stage.specs.Stages.{IsTarget}

@@ -13,7 +13,7 @@ use Rattle.cg_machine.specs.Run.{with_enables}
 use Rattle.cg_machine.specs.declared.stage.Stage.{Stage}
 use Rattle.cg_machine.specs.declared.stage.StageKind.{StageKind}
 use Rattle.cg_machine.specs.declared.stage.StageKind.TheVariants.{Hold, Stable, Unseen}
-use Rattle.cg_netlist.specs.Circuit.{is_in}
+use Rattle.cg_net.specs.NetSets.{is_in}
 use Rattle.cg_netlist.specs.Moment.{bit}
 use Rattle.cg_stage.proofs.Fitting.{given}
 use Rattle.cg_stage.proofs.HoldSafe.{Holds, hold_both}

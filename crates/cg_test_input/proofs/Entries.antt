@@ -1,6 +1,6 @@
 -- What is true of the inserted stages of unobservability, in the machine at the end of a plan.
 use Rattle.std.specs.Prelude.{◌≡◌, ◌<◌, ℕ, Bool, true, false, not, ◌&&◌, ◌||◌, List, [], ◌∷◌, length, slice_get, Option, Some, None}
-use Rattle.cg_netlist.specs.Circuit.{is_in}
+use Rattle.cg_net.specs.NetSets.{is_in}
 use Rattle.cg_netlist.specs.Moment.{bit}
 use Rattle.cg_machine.specs.Claims.{Target, Unseen, any_at}
 use Rattle.cg_machine.specs.Machine.{IsInputs, IsState, MachineData, enable_of, next, step, values}

@@ -17,8 +17,8 @@ use Rattle.cg_machine.specs.Machine.{MachineData, enable_of, IsMachine}
 use Rattle.cg_machine.specs.declared.stage.Earlier.{Earlier}
 use Rattle.cg_machine.specs.declared.stage.Stage.{Stage}
 use Rattle.cg_machine.specs.declared.stage.StageKind.TheVariants.{Unseen}
-use Rattle.cg_netlist.proofs.Members.{is_in_cases, is_in_left, is_in_right}
-use Rattle.cg_netlist.specs.Circuit.{is_in}
+use Rattle.cg_net.proofs.Members.{is_in_cases, is_in_left, is_in_right}
+use Rattle.cg_net.specs.NetSets.{is_in}
 use Rattle.cg_stage.specs.Stages.{enable_nets}
 use Rattle.cg_test_input.proofs.Path.{Every, every_map, every_mapped, every_one}
 

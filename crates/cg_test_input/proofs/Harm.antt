@@ -10,7 +10,7 @@ use Rattle.cg_machine.specs.Claims.{Follows}
 use Rattle.cg_machine.specs.Machine.{IsInputs, IsState, MachineData, enable_of, load, next, step, values, IsMachine}
 use Rattle.cg_machine.specs.Run.{with_enables, freed}
 use Rattle.cg_machine.specs.declared.stage.Stage.{Stage}
-use Rattle.cg_netlist.specs.Circuit.{is_in}
+use Rattle.cg_net.specs.NetSets.{is_in}
 use Rattle.cg_netlist.specs.Moment.{bit}
 use Rattle.cg_stage.proofs.StableStage.{follows_step}
 use Rattle.cg_stage.specs.Effects.{effect}

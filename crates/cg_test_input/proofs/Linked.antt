@@ -19,9 +19,10 @@ use Rattle.cg_machine.specs.Machine.{IsInputs, IsMachine, IsState, MachineData, 
 use Rattle.cg_machine.specs.Run.{with_enables}
 use Rattle.cg_machine.specs.declared.stage.Stage.{Stage}
 use Rattle.cg_machine.specs.declared.stage.StageKind.TheVariants.{Unseen}
-use Rattle.cg_netlist.proofs.Members.{All-from_members}
+use Rattle.cg_net.proofs.Members.{All-from_members}
 use Rattle.cg_netlist.proofs.Values.{length-values_at, map_same, value_at}
-use Rattle.cg_netlist.specs.Circuit.{RegisterCell, is_in}
+use Rattle.cg_netlist.specs.Circuit.{RegisterCell}
+use Rattle.cg_net.specs.NetSets.{is_in}
 use Rattle.cg_netlist.specs.History.{next_value}
 use Rattle.cg_netlist.specs.Moment.{bit, values_at}
 use Rattle.cg_netlist.specs.declared.parts.RegisterKind.{RegisterKind}

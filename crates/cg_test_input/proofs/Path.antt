@@ -14,7 +14,8 @@ use Rattle.cg_machine.specs.Machine.{IsInputs, IsState, MachineData, enable_of, 
 use Rattle.cg_machine.specs.declared.stage.Stage.{Stage}
 use Rattle.cg_machine.specs.declared.stage.StageKind.{StageKind}
 use Rattle.cg_machine.specs.declared.stage.StageKind.TheVariants.{Hold, Stable, Unseen}
-use Rattle.cg_netlist.specs.Circuit.{is_in, data_inputs}
+use Rattle.cg_net.specs.NetSets.{is_in}
+use Rattle.cg_netlist.specs.Circuit.{data_inputs}
 use Rattle.cg_plan.proofs.Decided.{inserted_claims, inserted_free}
 use Rattle.cg_plan.proofs.PlanSafe.{IsSafe, Next, one_safe}
 use Rattle.cg_plan.specs.Plan.{Plan, after_try, is_inserted, try_all, try_one, unless_stopped, Turn}

@@ -26,9 +26,9 @@ use Rattle.cg_machine.specs.Machine.{MachineData, enable_of, IsMachine}
 use Rattle.cg_machine.specs.declared.stage.Earlier.{Earlier}
 use Rattle.cg_machine.specs.declared.stage.Stage.{Stage}
 use Rattle.cg_machine.specs.declared.stage.StageKind.TheVariants.{Stable, Unseen}
-use Rattle.cg_netlist.proofs.Members.{is_in_cases, is_in_left, is_in_right}
+use Rattle.cg_net.proofs.Members.{is_in_cases, is_in_left, is_in_right}
 use Rattle.cg_netlist.proofs.Values.{element_at}
-use Rattle.cg_netlist.specs.Circuit.{is_in}
+use Rattle.cg_net.specs.NetSets.{is_in}
 use Rattle.cg_plan.proofs.PlanSafe.{IsSafe, all_safe, rounds_safe, unless}
 use Rattle.cg_plan.specs.Plan.{Plan, begin, earlier_of, is_inserted, plan_of, rounds, try_all, unless_stopped, Turn}
 use Rattle.cg_plan.specs.declared.outcome.Outcome.{Outcome}

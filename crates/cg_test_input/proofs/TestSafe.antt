@@ -10,7 +10,7 @@ use Rattle.cg_machine.specs.Claims.{Next, Shown, Target, any_at, target_bit}
 use Rattle.cg_machine.specs.Machine.{IsInputs, IsState, MachineData, enable_of, load, next, outputs_at, step, values}
 use Rattle.cg_machine.specs.Run.{shown_from, state_now, ones, shown, freed, test_shown_from, test_state_now, test_step}
 use Rattle.cg_netlist.proofs.Values.{same_values}
-use Rattle.cg_netlist.specs.Circuit.{is_in}
+use Rattle.cg_net.specs.NetSets.{is_in}
 use Rattle.cg_netlist.specs.History.{AreTicks, Tick}
 use Rattle.cg_stage.specs.Stages.{IsTarget}
 use Rattle.cg_test_input.proofs.Chain.{chain, next_enables, next_loads, none_or_some, or_none, some_none}

@@ -9,8 +9,7 @@ use Rattle.cg_gated.specs.Gated.{refused_gater}
 use Rattle.cg_gating.specs.Request.{IsFree, MayGate}
 use Rattle.cg_machine.specs.Start.{begins, first_clash}
 use Rattle.cg_netlist.specs.Circuit.{Circuit}
-use Rattle.cg_netlist.specs.Names.{is_known}
-use Rattle.cg_netlist.specs.Wiring.{NetName}
+use Rattle.cg_net.specs.Names.{NetName, is_known}
 use Rattle.cg_run.specs.Verdict.{Given, reached, unstopped}
 use Rattle.cg_run.specs.declared.refusal.Refusal.{Refusal}
 use Rattle.cg_run.specs.declared.refusal.Trouble.{Trouble}

@@ -5,7 +5,7 @@ use Rattle.std.specs.List.{All, position_from}
 use Rattle.std.proofs.lemmas.Bool.{eq-eqb}
 use Rattle.std.proofs.lemmas.List.Elements.{All-cons, All-nil}
 use lib.Pointwise.{pointwise}
-use Rattle.cg_netlist.specs.Names.{is_known}
+use Rattle.cg_net.specs.Names.{is_known}
 
 all_same : (xs : List ℕ) → pointwise nat_eq xs xs ≡ true
 all_same [] = refl

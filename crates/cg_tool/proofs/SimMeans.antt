@@ -10,7 +10,7 @@ use Rattle.cg_liberty.specs.LibText.{LibText}
 use Rattle.cg_liberty.specs.Library.{library_of}
 use Rattle.cg_blif_text.specs.BlifText.{BlifText}
 use Rattle.cg_netlist.specs.Circuit.{Circuit}
-use Rattle.cg_netlist.specs.Wiring.{NetName}
+use Rattle.cg_net.specs.Names.{NetName}
 use Rattle.cg_netlist.proofs.Histories.{has_history, has_one_history}
 use Rattle.cg_text.specs.declared.lines.Line.{Line}
 use Rattle.cg_shelf.specs.World.{World}

@@ -10,8 +10,7 @@ use Rattle.cg_gating.specs.Request.{MayGate, RequestData, stops_at}
 use Rattle.cg_gating.specs.declared.texts.Texts.{Texts}
 use Rattle.cg_machine.specs.Start.{begins, first_clash}
 use Rattle.cg_netlist.specs.Circuit.{Circuit, GatingCell}
-use Rattle.cg_netlist.specs.Names.{is_known}
-use Rattle.cg_netlist.specs.Wiring.{NetName, net_name}
+use Rattle.cg_net.specs.Names.{NetName, is_known, net_name}
 use Rattle.cg_run.specs.Verdict.{Task, found_as, task_of}
 use Rattle.cg_run.specs.declared.output.Finish.TheVariants as finishes
 use Rattle.cg_run.specs.declared.output.Output.{Output}

@@ -7,7 +7,7 @@ use Rattle.cg_blif_text.specs.BlifText.{BlifText}
 use Rattle.cg_netlist.specs.Circuit.{Circuit}
 use Rattle.cg_netlist.specs.History.{Moment}
 use Rattle.cg_netlist.specs.WellFormed.{IsWellFormed}
-use Rattle.cg_netlist.specs.Wiring.{NetName}
+use Rattle.cg_net.specs.Names.{NetName}
 use Rattle.cg_report.specs.RowLines.{rows_text}
 use Rattle.cg_report.specs.Watched.{watched_line}
 use Rattle.cg_run.specs.Verdict.{Task, found_as, task_of}

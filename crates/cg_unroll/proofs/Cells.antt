@@ -8,13 +8,13 @@ use Rattle.cg_netlist.specs.Circuit.{Circuit, LogicCell, used_nets}
 use Rattle.cg_netlist.specs.Moment.{values_at}
 use Rattle.cg_netlist.specs.WellFormed.{IsOver}
 use Rattle.cg_netlist.proofs.DriverTable.{cell_net_within}
-use Rattle.cg_netlist.proofs.Members.{All-from_members, All-member}
+use Rattle.cg_net.proofs.Members.{All-from_members, All-member}
 use Rattle.cg_netlist.proofs.Used.{input_is_used}
 use Rattle.cg_machine.specs.Added.{own_netlist}
 use Rattle.cg_machine.specs.Gates.{AddedGate, gate_cell}
 use Rattle.cg_machine.specs.Machine.{IsMachine, MachineData}
 use Rattle.cg_machine.proofs.Lists.{all_at, take_get}
-use Rattle.cg_unroll.proofs.Fronts.{drop_cons}
+use Rattle.cg_net.proofs.TableLemmas.{drop_cons}
 
 get_back : {X : Type 0} (xs ys : List X) (k : ℕ) → slice_get (xs ++ ys) (length xs + k) ≡ slice_get ys k
 get_back [] ys k = let e : 0 + k ≡ k = omega arith in ap (slice_get ys) e

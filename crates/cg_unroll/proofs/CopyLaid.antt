@@ -7,7 +7,8 @@ use Rattle.std.proofs.lemmas.Option.{slice_get_within}
 use Rattle.cg_cell.specs.Domain.{AreValid, Seen}
 use Rattle.cg_aig.specs.Aig.{aig_ops, inverse}
 use Rattle.cg_aig.specs.declared.fault.AigFault.{AigFault}
-use Rattle.cg_netlist.specs.Circuit.{RegisterCell, data_inputs, is_in, shown_nets}
+use Rattle.cg_netlist.specs.Circuit.{RegisterCell, data_inputs, shown_nets}
+use Rattle.cg_net.specs.NetSets.{is_in}
 use Rattle.cg_cone.specs.Cone.{cone_of}
 use Rattle.cg_netlist.specs.Moment.{values_at}
 use Rattle.cg_cone.specs.declared.cone.Cone.{Cone}

@@ -7,7 +7,7 @@ use Rattle.std.proofs.lemmas.List.FromFn.{length-range_with_len}
 use Rattle.std.proofs.lemmas.Map.Steps.{length-le_from_distinct_below}
 use Rattle.cg_netlist.specs.Circuit.{cell_nets, data_inputs, drivers, gate_nets, given_nets, register_nets}
 use Rattle.cg_netlist.proofs.Given.{data_given}
-use Rattle.cg_netlist.proofs.Members.{All-member, distinct_left, is_in_left}
+use Rattle.cg_net.proofs.Members.{All-member, distinct_left, is_in_left}
 use Rattle.cg_machine.specs.Machine.{IsMachine, MachineData}
 use Rattle.cg_claim.specs.declared.leaf.LeafSource.{LeafSource}
 use Rattle.cg_claim.specs.declared.leaf.LeafSource.TheVariants.{Input as InputOf, Register as RegisterOf}

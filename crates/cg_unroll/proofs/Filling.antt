@@ -11,12 +11,13 @@ use Rattle.std.specs.Option.{option_map_or}
 use Rattle.cg_cell.specs.Domain.{AreValid, Seen}
 use Rattle.cg_aig.specs.Aig.{aig_ops}
 use Rattle.cg_machine.specs.Machine.{MachineData}
-use Rattle.cg_netlist.specs.Circuit.{RegisterCell, is_in, shown_nets}
-use Rattle.cg_netlist.proofs.Members.{is_in_cases}
+use Rattle.cg_netlist.specs.Circuit.{RegisterCell, shown_nets}
+use Rattle.cg_net.specs.NetSets.{is_in}
+use Rattle.cg_net.proofs.Members.{is_in_cases}
 use Rattle.cg_unroll.specs.inner.Filling.{AgreesAt, AgreesWith, AgreesWithAll, Fills, IsValid, Puts, nets_shown, shown_of}
 use Rattle.cg_unroll.proofs.Gating.{inverse_valid}
 use Rattle.cg_unroll.proofs.Laying.{valid_set}
-use Rattle.cg_unroll.proofs.Fronts.{take_end}
+use Rattle.cg_net.proofs.TableLemmas.{take_end}
 
 pub fills_none : (g : ℕ → ℕ) (old : List ℕ) → Fills g [] old old
 fills_none g old = record { keeps = λ y is. is; fills = λ y among. absurd (both_ways false refl among) }

@@ -3,17 +3,6 @@ use Rattle.std.proofs.Common.{◌≡◌, ℕ, zero, suc, ◌<◌, ◌≤◌, Lis
 use Rattle.std.proofs.Common.{refl, ap, arith}
 use Rattle.std.proofs.lemmas.Option.{none-some, same_Some}
 
--- one more element
-pub take_end : {X : Type 0} (xs : List X) (i : ℕ) (x : X) → slice_get xs i ≡ Some x → take (suc i) xs ≡ take i xs ++ x ∷ []
-take_end [] i x at = absurd (none-some x at)
-take_end (y ∷ xs) zero x at = ap (λ z. z ∷ []) (same_Some y x at)
-take_end (y ∷ xs) (suc i) x at = ap (λ l. y ∷ l) (take_end xs i x at)
-
-pub drop_cons : {X : Type 0} (xs : List X) (i : ℕ) (x : X) → slice_get xs i ≡ Some x → drop i xs ≡ x ∷ drop (suc i) xs
-drop_cons [] i x at = absurd (none-some x at)
-drop_cons (y ∷ xs) zero x at = ap (λ z. z ∷ xs) (same_Some y x at)
-drop_cons (y ∷ xs) (suc i) x at = drop_cons xs i x at
-
 -- all elements, and none
 pub take_whole : {X : Type 0} (xs : List X) (n : ℕ) → length xs ≤ n → take n xs ≡ xs
 take_whole [] zero past = refl

@@ -5,7 +5,7 @@ use Rattle.std.specs.List.{filter}
 use Rattle.std.proofs.lemmas.Bool.{lt-ltb}
 use Rattle.std.proofs.lemmas.Option.{none-some, same_Some}
 use Rattle.cg_netlist.specs.Circuit.{data_inputs}
-use Rattle.cg_netlist.proofs.Members.{member_at}
+use Rattle.cg_net.proofs.Members.{member_at}
 use Rattle.cg_machine.specs.Machine.{MachineData}
 use Rattle.cg_machine.proofs.Lists.{below_range}
 use Rattle.cg_claim.specs.declared.leaf.LeafSource.TheVariants.{Input, Register}

@@ -5,7 +5,8 @@ use Rattle.std.specs.List.{filter, flat_map}
 use Rattle.std.proofs.lemmas.Bool.{lt-ltb, or_right}
 use Rattle.cg_cell.specs.Domain.{Seen}
 use Rattle.cg_aig.specs.declared.fault.AigFault.{AigFault}
-use Rattle.cg_netlist.specs.Circuit.{data_inputs, is_in}
+use Rattle.cg_netlist.specs.Circuit.{data_inputs}
+use Rattle.cg_net.specs.NetSets.{is_in}
 use Rattle.cg_machine.specs.Machine.{IsMachine, MachineData}
 use Rattle.cg_claim.specs.Build.{Table, after_state_table, after_table, aig_values, before_table, changed_state, changed_table}
 use Rattle.cg_claim.specs.Build.{copies, goal_run, lay_states, leaf_value, question_run, reached_cells, size, start_nets}

@@ -10,8 +10,8 @@ use Rattle.cg_cell.proofs.Evals.{valid_then}
 use Rattle.cg_aig.specs.Aig.{aig_ops}
 use Rattle.cg_aig.specs.declared.fault.AigFault.{AigFault}
 use Rattle.cg_machine.specs.Machine.{MachineData, enable_of}
-use Rattle.cg_netlist.specs.Circuit.{is_in}
-use Rattle.cg_netlist.proofs.Members.{is_in-append}
+use Rattle.cg_net.specs.NetSets.{is_in}
+use Rattle.cg_net.proofs.Members.{is_in-append}
 use Rattle.cg_claim.specs.Build.{Table, aig_values, lay_states, mux_run, next_run, put_run, state_run}
 use Rattle.cg_claim.specs.Question.{Question}
 use Rattle.cg_claim.specs.Tables.{SameOn}

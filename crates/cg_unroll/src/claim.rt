@@ -17,7 +17,7 @@ use cg_limit::Limit;
 use cg_list::Seq;
 use cg_machine::machine::Machine;
 use cg_machine::stage::NetLit;
-use cg_netlist::id::RegId;
+use cg_net::id::RegId;
 use cg_reach::unseen::UnseenRegs;
 use std::alloc::{AllocError, Global};
 

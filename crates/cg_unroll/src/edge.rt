@@ -11,7 +11,7 @@ use crate::literals::Literals;
 use cg_aig::fault::AigFault;
 use cg_aig::lit::AigLit;
 use cg_machine::machine::Machine;
-use cg_netlist::id::{NetId, RegId};
+use cg_net::id::{NetId, RegId};
 
 /// Puts at the outputs of these registers the literals of their states, or the inverse where an output shows that.
 pub(crate) fn put_registers(

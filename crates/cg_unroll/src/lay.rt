@@ -21,7 +21,7 @@ use cg_aig::list::Aig;
 use cg_aig::lit::AigLit;
 use cg_cell::fit::FitKind;
 use cg_machine::machine::Machine;
-use cg_netlist::id::{CellId, NetId};
+use cg_net::id::{CellId, NetId};
 use cg_netlist::view::Function;
 
 /// Puts these cells into the list, one after another: the output of each gets the literal of its function. There is a

@@ -21,7 +21,7 @@ use cg_aig::list::Aig;
 use cg_aig::lit::AigLit;
 use cg_cell::cell::CellType;
 use cg_machine::machine::Machine;
-use cg_netlist::id::RegId;
+use cg_net::id::RegId;
 use cg_netlist::view::RegKind;
 
 /// The literal of the next bit of a register, whose own bit has this literal: its function, or, where it has an enable,

@@ -16,7 +16,7 @@ use cg_aig::fault::AigFault;
 use cg_aig::list::Aig;
 use cg_aig::lit::AigLit;
 use cg_machine::machine::Machine;
-use cg_netlist::id::RegId;
+use cg_net::id::RegId;
 
 /// Puts the literals of the states that these registers have after the first cycle, one after another. `own` has their
 /// literals in that cycle, and `free` those of the leaves of the registers that nothing is said of. A register that holds

@@ -16,7 +16,7 @@ use cg_claim::name::ClaimName;
 use cg_list::Seq;
 use cg_machine::machine::Machine;
 use cg_machine::stage::NetLit;
-use cg_netlist::id::RegId;
+use cg_net::id::RegId;
 use cg_reach::asked::{Asked, Frame, Part, Side};
 use cg_reach::reached::{Reached, Reacher};
 use cg_reach::unseen::UnseenRegs;

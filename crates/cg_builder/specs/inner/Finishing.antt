@@ -2,9 +2,9 @@
 use Rattle.std.specs.Prelude.{◌≡◌, ◌⊎◌, ℕ, nat_eq, nat_lt, Bool, ◌&&◌, ◌||◌, length, None, Some, Result, MatchResult}
 use Rattle.cg_parts.specs.declared.fault.NetFault.{NetFault}
 use Rattle.cg_parts.specs.declared.fault.NetFault.TheVariants.{NoMemory}
-use Rattle.cg_netlist.specs.Marks.{IsFirst}
+use Rattle.cg_net.specs.Marks.{IsFirst}
 use Rattle.cg_builder.specs.inner.Numbers.{Numbers, rooted}
-use Rattle.cg_netlist.specs.Wiring.{NetName, net_name}
+use Rattle.cg_net.specs.Names.{NetName, net_name}
 
 -- there is a register or a gating cell, and no place where the clock may come from
 abbrev pub has_no_clock : Numbers → Bool

@@ -8,7 +8,7 @@ use Rattle.cg_builder.specs.Building.{Building}
 use Rattle.cg_parts.specs.Part.{Part}
 use Rattle.cg_parts.specs.Said.{said}
 use Rattle.cg_parts.specs.Says.{AreTaken}
-use Rattle.cg_netlist.specs.Wiring.{NetName}
+use Rattle.cg_net.specs.Names.{NetName}
 
 -- a builder by its numbers
 abbrev pub built : NetName → Numbers → Option AddFault → Building

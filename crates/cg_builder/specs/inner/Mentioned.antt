@@ -5,11 +5,11 @@ use Rattle.cg_limit.specs.declared.Limit.TheVariants.{Nets, Registers}
 use Rattle.cg_netlist.specs.declared.fault.AddFault.{AddFault}
 use Rattle.cg_netlist.specs.declared.fault.AddFault.TheVariants.{Limit as Passes, NoMemory}
 use Rattle.cg_netlist.specs.Circuit.{GatingCell, LogicCell, RegisterCell}
-use Rattle.cg_netlist.specs.NetSets.{with_net}
+use Rattle.cg_net.specs.NetSets.{with_net}
 use Rattle.cg_netlist.specs.Places.{CellWithin}
 use Rattle.cg_parts.specs.Part.{Logic, Gate, Register, mentioned}
-use Rattle.cg_netlist.specs.Names.{with_names}
-use Rattle.cg_netlist.specs.Wiring.{NetName, map_cell, map_gater, net_name, map_open}
+use Rattle.cg_net.specs.Names.{NetName, net_name, with_names}
+use Rattle.cg_netlist.specs.Wiring.{map_cell, map_gater, map_open}
 use Rattle.cg_builder.specs.inner.Numbers.{GaterWithin, OpenWithin}
 
 -- the nets of these names were mentioned one after another, and have these numbers

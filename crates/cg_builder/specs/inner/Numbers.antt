@@ -4,12 +4,14 @@ use Rattle.std.specs.Prelude.{◌≢◌, ℕ, ◌<◌, ◌==◌, nat_lt, nat_eq,
 use Rattle.std.specs.Prelude.{slice_get, unwrap_or, Option, is_none}
 use Rattle.std.specs.List.{AllByRecursion, AllPairs, count_by, filter, flat_map, list_any, position_from, position_or_len}
 use Rattle.std.specs.Option.{option_map_or, option_or, option_to_list}
-use Rattle.cg_netlist.specs.Circuit.{Circuit, LogicCell, GatingCell, RegisterCell, asked_nets, is_in, shown_nets}
+use Rattle.cg_netlist.specs.Circuit.{Circuit, GatingCell, LogicCell, RegisterCell, asked_nets, shown_nets}
+use Rattle.cg_net.specs.NetSets.{is_in}
 use Rattle.cg_netlist.specs.Places.{CellWithin}
 use Rattle.cg_netlist.specs.Ranks.{driving_cell, rank_of, rank_within}
 use Rattle.cg_parts.specs.Said.{Said}
-use Rattle.cg_netlist.specs.Wiring.{NetName, Wiring, among, circuit, driven_by_cells, driven_by_gaters, driven_by_registers}
-use Rattle.cg_netlist.specs.Wiring.{map_cell, map_gater, map_open, map_wiring, net_name, order_of, used_by}
+use Rattle.cg_net.specs.Names.{NetName, net_name}
+use Rattle.cg_netlist.specs.Wiring.{Wiring, among, circuit, driven_by_cells, driven_by_gaters, driven_by_registers}
+use Rattle.cg_netlist.specs.Wiring.{map_cell, map_gater, map_open, map_wiring, order_of, used_by}
 
 pub record Numbers : Type 0 where
   pub names : List NetName

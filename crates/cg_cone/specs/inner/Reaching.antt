@@ -2,7 +2,8 @@
 use Rattle.std.specs.Prelude.{◌≡◌, ℕ, ◌<◌, Bool, true, false, ◌&&◌, List, length, slice_get, take, nat_eq, Some}
 use Rattle.std.specs.List.{IsDistinct, list_any}
 use Rattle.std.specs.Option.{option_map_or}
-use Rattle.cg_netlist.specs.Circuit.{Circuit, LogicCell, data_inputs, is_in, shown_nets}
+use Rattle.cg_netlist.specs.Circuit.{Circuit, LogicCell, data_inputs, shown_nets}
+use Rattle.cg_net.specs.NetSets.{is_in}
 use Rattle.cg_cone.specs.Cone.{IsInCone}
 use Rattle.cg_netlist.specs.Moment.{values_at}
 use Rattle.cg_netlist.specs.Nets.{IsWalk}

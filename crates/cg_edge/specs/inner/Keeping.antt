@@ -1,7 +1,8 @@
 -- What a simulator keeps between ticks, and what each part of a tick does to the bits of the nets.
 use Rattle.std.specs.Prelude.{◌≡◌, ◌≢◌, ℕ, ◌<◌, ◌≤◌, ◌⊎◌, Bool, true, false, ◌&&◌, List, [], length, slice_get, slice_index_or}
 use Rattle.std.specs.Prelude.{replicate, Option, None, Some, if◌then◌else◌}
-use Rattle.cg_netlist.specs.Circuit.{Circuit, GatingCell, LogicCell, is_in}
+use Rattle.cg_netlist.specs.Circuit.{Circuit, GatingCell, LogicCell}
+use Rattle.cg_net.specs.NetSets.{is_in}
 use Rattle.cg_netlist.specs.History.{Moment}
 use Rattle.cg_netlist.specs.Moment.{bit, function_value, values_at}
 use Rattle.cg_netlist.specs.Netlist.{IsNetlist, widest_of}

@@ -2,7 +2,8 @@
 use Rattle.std.specs.Prelude.{◌≡◌, ℕ, ◌<◌, true, List, map, length, slice_get, slice_set, Option, None, Some}
 use Rattle.std.specs.Option.{option_flatten}
 use Rattle.cg_limit.specs.declared.TheConstants.{MOST_NETS}
-use Rattle.cg_netlist.specs.Circuit.{Circuit, GatingCell, RegisterCell, is_in}
+use Rattle.cg_netlist.specs.Circuit.{Circuit, GatingCell, RegisterCell}
+use Rattle.cg_net.specs.NetSets.{is_in}
 use Rattle.cg_netlist.specs.Moment.{values_at}
 use Rattle.cg_machine.specs.Added.{Added}
 use Rattle.cg_machine.specs.Machine.{IsNet, MachineData}

@@ -7,7 +7,8 @@ use Rattle.cg_netlist.specs.Circuit.{GatingCell, LogicCell, RegisterCell}
 use Rattle.cg_netlist.specs.Moment.{zip_with}
 use Rattle.cg_parts.specs.Part.{Clock, Gate, Input, Logic, Output, Part}
 use Rattle.cg_parts.specs.Says.{register_part}
-use Rattle.cg_netlist.specs.Wiring.{NetName, map_cell, map_gater, map_register, net_name}
+use Rattle.cg_net.specs.Names.{NetName, net_name}
+use Rattle.cg_netlist.specs.Wiring.{map_cell, map_gater, map_register}
 use Rattle.cg_insert.specs.Insert.{enables_of, gate_names, gate_outputs, gating_cell, placed_gate, reclocked, test_net}
 
 -- the names of the gated netlist, in the machine's own order

@@ -2,7 +2,8 @@
 -- by gating cell, register by register, and at the clock.
 use Rattle.std.specs.Prelude.{◌≡◌, ℕ, false, List, ◌++◌, length, slice_get, Some}
 use Rattle.std.specs.Option.{option_to_list}
-use Rattle.cg_netlist.specs.Circuit.{Circuit, cell_nets, gate_nets, is_in, register_nets}
+use Rattle.cg_netlist.specs.Circuit.{Circuit, cell_nets, gate_nets, register_nets}
+use Rattle.cg_net.specs.NetSets.{is_in}
 use Rattle.cg_netlist.specs.Drivers.{IsDriver}
 use Rattle.cg_netlist.specs.declared.driver.Driver.{Driver}
 

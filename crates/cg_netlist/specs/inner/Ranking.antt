@@ -5,7 +5,8 @@ use Rattle.std.specs.Prelude.{length, take, get_or, slice_get, slice_set, Option
 use Rattle.std.specs.Prelude.{replicate}
 use Rattle.std.specs.List.{filter_map, count_by, range_with_len, All}
 use Rattle.std.specs.Option.{option_flatten}
-use Rattle.cg_netlist.specs.Circuit.{LogicCell, is_in}
+use Rattle.cg_netlist.specs.Circuit.{LogicCell}
+use Rattle.cg_net.specs.NetSets.{is_in}
 use Rattle.cg_netlist.specs.Ranks.{next_rank, rank_within}
 use Rattle.cg_netlist.specs.declared.ranks.Progress.{Progress}
 

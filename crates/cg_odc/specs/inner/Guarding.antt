@@ -10,7 +10,7 @@ use Rattle.cg_lists.specs.Supports.{has_enable, supports}
 use Rattle.cg_lists.specs.UnseenList.{plain_outputs, taken_at, unseen_key}
 use Rattle.cg_machine.specs.Machine.{MachineData, enable_of}
 use Rattle.cg_machine.specs.declared.stage.Stage.{Stage}
-use Rattle.cg_netlist.specs.Circuit.{is_in}
+use Rattle.cg_net.specs.NetSets.{is_in}
 use Rattle.cg_netlist.specs.declared.driver.Driver.{Driver}
 use Rattle.cg_netlist.specs.declared.driver.Driver.TheVariants.{Register}
 

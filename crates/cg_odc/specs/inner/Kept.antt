@@ -11,7 +11,7 @@ use Rattle.cg_machine.specs.Machine.{MachineData}
 use Rattle.cg_machine.specs.declared.stage.Earlier.{Earlier}
 use Rattle.cg_machine.specs.declared.stage.Stage.{Stage}
 use Rattle.cg_machine.specs.declared.stage.StageKind.TheVariants.{Unseen}
-use Rattle.cg_netlist.specs.Circuit.{is_in}
+use Rattle.cg_net.specs.NetSets.{is_in}
 
 -- the numbers of keys
 abbrev pub key_numbers : List Key → List ℕ

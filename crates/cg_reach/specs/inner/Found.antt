@@ -1,7 +1,7 @@
 -- What the program finds on the way to what a question reaches.
 use Rattle.std.specs.Prelude.{◌≡◌, ℕ, List}
 use Rattle.std.specs.List.{filter}
-use Rattle.cg_netlist.specs.Circuit.{is_in}
+use Rattle.cg_net.specs.NetSets.{is_in}
 use Rattle.cg_machine.specs.Machine.{MachineData}
 use Rattle.cg_claim.specs.Question.{Question}
 use Rattle.cg_claim.specs.Reach.{after_nets, after_states, changed_nets, changed_states, registers_of}

@@ -1,6 +1,6 @@
 -- Readers that are noted.
 use Rattle.std.specs.Prelude.{◌≡◌, ℕ, true, List}
-use Rattle.cg_netlist.specs.Circuit.{is_in}
+use Rattle.cg_net.specs.NetSets.{is_in}
 use Rattle.cg_machine.specs.Machine.{MachineData}
 use Rattle.cg_reach.specs.Fanout.{Knows, readers_at}
 use Rattle.cg_reach.specs.declared.tables.Tables.{Tables}

@@ -3,7 +3,7 @@ use Rattle.std.specs.Prelude.{ℕ, if◌then◌else◌, List, [], ◌∷◌, ◌
 use Rattle.cg_machine.specs.Machine.{MachineData}
 use Rattle.cg_claim.specs.Question.{Copy, CopyPart, Net, Next, State, Enable, Side}
 use Rattle.cg_claim.specs.Reach.{next_asks_own, same_copy}
-use Rattle.cg_netlist.specs.Circuit.{is_in}
+use Rattle.cg_net.specs.NetSets.{is_in}
 
 -- the registers whose states a part asks for in its copy, a side, both sides ask for in a copy
 abbrev pub part_states : MachineData → CopyPart → List ℕ

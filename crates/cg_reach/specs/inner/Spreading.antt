@@ -3,9 +3,9 @@ use Rattle.std.specs.Prelude.{◌≡◌, ℕ, ◌+◌, Bool, true, false, ◌&&�
 use Rattle.std.specs.Prelude.{slice_get, take, Some, ◌<◌}
 use Rattle.std.specs.List.{list_any}
 use Rattle.std.specs.Option.{option_map_or, option_to_list}
-use Rattle.cg_netlist.specs.Circuit.{LogicCell, is_in, shown_nets}
+use Rattle.cg_netlist.specs.Circuit.{LogicCell, shown_nets}
+use Rattle.cg_net.specs.NetSets.{is_in, with_net}
 use Rattle.cg_machine.specs.Machine.{MachineData, enable_of, walk_of}
-use Rattle.cg_netlist.specs.NetSets.{with_net}
 use Rattle.cg_claim.specs.Reach.{inputs_of_register, next_asks_own, next_nets}
 use Rattle.cg_claim.specs.declared.name.ClaimName.{ClaimName}
 use Rattle.cg_claim.specs.declared.name.ClaimName.TheVariants.{Output}

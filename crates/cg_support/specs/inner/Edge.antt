@@ -3,7 +3,8 @@ use Rattle.std.specs.Prelude.{◌≡◌, ℕ, Bool, true, false, List, slice_get
 use Rattle.std.specs.List.{list_any}
 use Rattle.std.specs.Option.{option_map_or}
 use Rattle.cg_machine.specs.Machine.{MachineData}
-use Rattle.cg_netlist.specs.Circuit.{data_inputs, is_in, shown_nets}
+use Rattle.cg_netlist.specs.Circuit.{data_inputs, shown_nets}
+use Rattle.cg_net.specs.NetSets.{is_in}
 use Rattle.cg_netlist.specs.declared.driver.Driver.{Driver}
 use Rattle.cg_netlist.specs.declared.driver.Driver.TheVariants.{Input, Register}
 use Rattle.cg_support.specs.declared.support.Support.{Support}

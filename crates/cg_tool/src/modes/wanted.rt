@@ -5,7 +5,7 @@ ghost use Rattle.std.specs.Option.{option_copied};
 ghost use Rattle.cg_gated.specs.Gated.{first_gater, has_and, refused_gater};
 ghost use Rattle.cg_run.specs.Verdict.{Answers};
 ghost use Rattle.cg_machine.specs.Start.{begins, first_clash};
-ghost use Rattle.cg_netlist.specs.Names.{is_known};
+ghost use Rattle.cg_net.specs.Names.{is_known};
 ghost use Rattle.cg_tool.specs.Gate.{gateable, gateable_found, request_by, unlifted, unprefixed, untested};
 
 use crate::modes::complaints::{take_netlist, with_name};
@@ -17,7 +17,7 @@ use cg_extract::refused::first_refused;
 use cg_gating::request::Request;
 use cg_list::Seq;
 use cg_machine::prefix::prefix_clash;
-use cg_netlist::id::GateClockId;
+use cg_net::id::GateClockId;
 use cg_netlist::netlist::Netlist;
 use cg_plan::settings::Settings;
 use cg_run::{Owner, Trouble};

@@ -3,7 +3,8 @@ use Rattle.std.specs.Prelude.{◌≡◌, ℕ, Bool, true, if◌then◌else◌, L
 use Rattle.std.specs.Option.{option_map_or}
 use Rattle.cg_cell.specs.Domain.{AreValid, Seen}
 use Rattle.cg_aig.specs.Aig.{aig_ops, inverse}
-use Rattle.cg_netlist.specs.Circuit.{RegisterCell, is_in, shown_nets}
+use Rattle.cg_netlist.specs.Circuit.{RegisterCell, shown_nets}
+use Rattle.cg_net.specs.NetSets.{is_in}
 use Rattle.cg_machine.specs.Machine.{MachineData}
 
 -- literals were put at these nets: there they are those of g, and what was that of g elsewhere still is

@@ -3,7 +3,8 @@ use Rattle.std.specs.Prelude.{◌≡◌, ℕ, if◌then◌else◌, List, length,
 use Rattle.cg_cell.specs.Domain.{Keeps, Seen}
 use Rattle.cg_aig.specs.Aig.{aig_ops}
 use Rattle.cg_aig.specs.declared.fault.AigFault.{AigFault}
-use Rattle.cg_netlist.specs.Circuit.{data_inputs, is_in}
+use Rattle.cg_netlist.specs.Circuit.{data_inputs}
+use Rattle.cg_net.specs.NetSets.{is_in}
 use Rattle.cg_cone.specs.Cone.{cone_of}
 use Rattle.cg_cone.specs.declared.cone.Cone.{Cone}
 use Rattle.cg_machine.specs.Machine.{MachineData, walk_of}

@@ -1,7 +1,7 @@
 -- Values that are 0 but where one was put.
 use Rattle.std.specs.Prelude.{◌≡◌, ◌<◌, ℕ, false, List, length, slice_index_or}
 use Rattle.std.specs.List.{All}
-use Rattle.cg_netlist.specs.Circuit.{is_in}
+use Rattle.cg_net.specs.NetSets.{is_in}
 
 -- each value is 0
 abbrev pub AreZero : List ℕ → Type 0

@@ -4,7 +4,7 @@ use Rattle.cg_cell.specs.Build.{Run}
 use Rattle.cg_cell.specs.Domain.{AreValid, Keeps, Seen}
 use Rattle.cg_aig.specs.Aig.{aig_ops}
 use Rattle.cg_machine.specs.Machine.{MachineData, enable_of}
-use Rattle.cg_netlist.specs.Circuit.{is_in}
+use Rattle.cg_net.specs.NetSets.{is_in}
 use Rattle.cg_claim.specs.Build.{aig_values, lay_states, mux_run, next_run}
 use Rattle.cg_claim.specs.Question.{Question}
 use Rattle.cg_claim.specs.Tables.{SameOn}

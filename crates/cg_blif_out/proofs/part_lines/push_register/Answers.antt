@@ -1,4 +1,4 @@
-use Rattle.cg_netlist.specs.Wiring.{net_name}
+use Rattle.cg_net.specs.Names.{net_name}
 use Rattle.cg_blif_out.proofs.WholeText.{on_ok}
 use Rattle.cg_blif_out.proofs.WithinNetlist.{register_digit, register_text_is}
 use Rattle.cg_blif_out.proofs.part_lines.push_register.Goals as goal

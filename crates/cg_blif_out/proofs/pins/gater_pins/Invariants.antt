@@ -1,6 +1,7 @@
 use Rattle.std.proofs.Common.{◌≡◌, ◌++◌, drop, map}
 use Rattle.cg_netlist.specs.View.{gater_seen}
-use Rattle.cg_netlist.specs.Wiring.{map_gater, net_name}
+use Rattle.cg_netlist.specs.Wiring.{map_gater}
+use Rattle.cg_net.specs.Names.{net_name}
 use Rattle.cg_blif_text.specs.Canonical.{gater_net, pin_pairs}
 use Rattle.cg_blif_out.proofs.pins.gater_pins.Given as goal
 

@@ -1,5 +1,5 @@
 use Rattle.std.proofs.Common.{◌≡◌, ◌++◌, drop, map}
-use Rattle.cg_netlist.specs.Wiring.{net_name}
+use Rattle.cg_net.specs.Names.{net_name}
 use Rattle.cg_blif_text.specs.Canonical.{logic_nets, pin_pairs}
 use Rattle.cg_blif_out.proofs.pins.logic_pins.Given as goal
 

@@ -1,7 +1,7 @@
 use Rattle.std.proofs.Common.{ap, subst}
 use Rattle.cg_netlist.specs.View.{kind_seen, register_seen}
 use Rattle.cg_netlist.specs.WellFormed.{FitsKind}
-use Rattle.cg_netlist.specs.Wiring.{net_name}
+use Rattle.cg_net.specs.Names.{net_name}
 use Rattle.cg_netlist.specs.declared.parts.RegisterKind.TheVariants.{Plain, Flop}
 use Rattle.cg_blif_out.proofs.WholeText.{if_ok}
 use Rattle.cg_blif_out.proofs.WithinNetlist.{register_fits, register_nets, register_said}

@@ -3,8 +3,7 @@ use Rattle.std.specs.Option.{option_copied, option_to_list}
 use Rattle.std.proofs.lemmas.Result.{MatchResult-weaker, err_from_is_err_and}
 use Rattle.cg_limit.specs.declared.TheConstants.{MOST_REGISTERS}
 use Rattle.cg_builder.specs.inner.Mentioned.{IsMentionFault, IsMentioned}
-use Rattle.cg_netlist.specs.Names.{with_names}
-use Rattle.cg_netlist.specs.Wiring.{NetName}
+use Rattle.cg_net.specs.Names.{NetName, with_names}
 use Rattle.cg_builder.proofs.AddedParts.{fault_first, fault_then, lent_inverted, lent_places, lent_words, puts_register}
 use Rattle.cg_builder.proofs.AddedParts.{register_names, register_words}
 use Rattle.cg_builder.proofs.Mentions.{with_names_grows}

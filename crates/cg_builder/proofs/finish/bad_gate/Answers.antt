@@ -1,8 +1,9 @@
 use Rattle.std.proofs.Common.{◌&&◌, ◌||◌, ℕ, List, false, length, is_none, sym, ◌∙◌, ap, subst}
 use Rattle.std.specs.List.{AllByRecursion}
 use Rattle.std.specs.Option.{option_map_or}
-use Rattle.cg_netlist.specs.Circuit.{LogicCell, is_in}
-use Rattle.cg_netlist.specs.Marks.{AreMarksOf}
+use Rattle.cg_netlist.specs.Circuit.{LogicCell}
+use Rattle.cg_net.specs.NetSets.{is_in}
+use Rattle.cg_net.specs.Marks.{AreMarksOf}
 use Rattle.cg_netlist.specs.Chains.{chain}
 use Rattle.cg_netlist.specs.Ranks.{is_unranked, ranks_of}
 use Rattle.cg_netlist.specs.Places.{CellWithin}

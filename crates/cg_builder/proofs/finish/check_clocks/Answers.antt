@@ -1,5 +1,5 @@
 use Rattle.std.proofs.Common.{◌&&◌, length, inr, ap}
-use Rattle.cg_netlist.specs.Circuit.{is_in}
+use Rattle.cg_net.specs.NetSets.{is_in}
 use Rattle.cg_parts.specs.declared.fault.NetFault.TheVariants.{ClockFault}
 use Rattle.cg_builder.specs.inner.Numbers.{gated, is_bad_gate, is_bad_root, rooted}
 use Rattle.cg_builder.proofs.finish.check_clocks.Goals as goal

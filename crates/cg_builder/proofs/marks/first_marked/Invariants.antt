@@ -1,5 +1,5 @@
 use Rattle.std.proofs.Common.{ℕ, ◌<◌, ◌≡◌, false}
-use Rattle.cg_netlist.specs.Marks.{is_marked}
+use Rattle.cg_net.specs.Marks.{is_marked}
 use Rattle.cg_builder.proofs.marks.first_marked.Given as goal
 
 abbrev pub invariant-loop-net : goal.invariant-loop-net

@@ -1,5 +1,5 @@
 use Rattle.std.proofs.Common.{◌≡◌, length, take}
-use Rattle.cg_netlist.specs.Marks.{AreMarked}
+use Rattle.cg_net.specs.Marks.{AreMarked}
 use Rattle.cg_builder.proofs.marks.marks.Given as goal
 
 abbrev pub invariant-loop-net : goal.invariant-loop-net

@@ -1,11 +1,10 @@
 use Rattle.std.proofs.Common.{◌≡◌, ◌||◌, ◌<◌, ◌+◌, Some, true, refl, sym, ◌∙◌, ap, subst, take, arith}
 use Rattle.std.specs.List.{slice_get, slice_set}
 use Rattle.std.proofs.lemmas.Option.{slice_get_read}
-use Rattle.cg_netlist.specs.Marks.{is_marked}
-use Rattle.cg_netlist.proofs.TableLemmas.{All-at}
+use Rattle.cg_net.specs.Marks.{is_marked}
+use Rattle.cg_net.proofs.TableLemmas.{All-at, take_next}
 use Rattle.cg_builder.proofs.MarkLemmas.{HasCounted, counted_more}
-use Rattle.cg_netlist.proofs.NetSetLemmas.{mark_at}
-use Rattle.cg_netlist.proofs.RankingLemmas.{take_next}
+use Rattle.cg_net.proofs.NetSetLemmas.{mark_at}
 use Rattle.cg_builder.proofs.marks.repeated.Goals as goal
 
 pub loop-net-preserved : goal.loop-net-preserved

@@ -1,9 +1,10 @@
 use Rattle.std.proofs.Common.{◌≡◌, ◌<◌, ℕ, nat_eq, length, map, slice_get, refl, sym, ◌∙◌, ap, subst, arith}
 use Rattle.std.specs.List.{AllByRecursion, IsDistinct, position_or_len}
 use Rattle.std.specs.Option.{option_to_list}
-use Rattle.cg_netlist.specs.Places.{number_in}
+use Rattle.cg_net.specs.NamePlaces.{number_in}
 use Rattle.cg_builder.specs.inner.Numbers.{Numbers, drivers_by, made_of, ordered_numbers, ordered_place, wired_numbers}
-use Rattle.cg_netlist.specs.Wiring.{circuit, map_wiring, net_name}
+use Rattle.cg_netlist.specs.Wiring.{circuit, map_wiring}
+use Rattle.cg_net.specs.Names.{net_name}
 use Rattle.cg_netlist.proofs.ByRank.{if_ok}
 use Rattle.cg_builder.proofs.ToldNets.{asked_of, clock_within, ordered_is, ordered_within, wired_within, wiring_agrees}
 use Rattle.cg_parts.proofs.ToldByNames.{nets_weaker}

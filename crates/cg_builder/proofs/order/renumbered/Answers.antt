@@ -2,9 +2,10 @@ use Rattle.std.proofs.Common.{◌≡◌, ◌<◌, ℕ, length, map, nat_eq, sym,
 use Rattle.std.specs.List.{All, IsDistinct, position_or_len}
 use Rattle.std.specs.Option.{option_map}
 use Rattle.std.proofs.lemmas.List.{length-map, with_items_is}
-use Rattle.cg_netlist.specs.Places.{number_in}
+use Rattle.cg_net.specs.NamePlaces.{number_in}
 use Rattle.cg_builder.specs.inner.Numbers.{clock_number, on_number, wired_numbers}
-use Rattle.cg_netlist.specs.Wiring.{map_cell, map_gater, map_register, net_name}
+use Rattle.cg_netlist.specs.Wiring.{map_cell, map_gater, map_register}
+use Rattle.cg_net.specs.Names.{net_name}
 use Rattle.cg_builder.proofs.ToldNets.{cells_asked, clock_asked, registers_asked}
 use Rattle.cg_builder.proofs.order.renumbered.Goals as goal
 

@@ -1,6 +1,6 @@
 use Rattle.std.proofs.Common.{◌≡◌, ◌++◌, not, take}
 use Rattle.std.specs.List.{filter}
-use Rattle.cg_netlist.specs.Marks.{is_marked}
+use Rattle.cg_net.specs.Marks.{is_marked}
 use Rattle.cg_builder.proofs.told.add_unmarked.Given as goal
 
 abbrev pub invariant-loop-net : goal.invariant-loop-net

@@ -1,7 +1,7 @@
 use Rattle.std.proofs.Common.{◌++◌, not, length, sym, ◌∙◌, ap, subst}
 use Rattle.std.specs.List.{filter}
-use Rattle.cg_netlist.specs.Circuit.{is_in}
-use Rattle.cg_netlist.specs.Marks.{AreMarksOf, is_marked}
+use Rattle.cg_net.specs.NetSets.{is_in}
+use Rattle.cg_net.specs.Marks.{AreMarksOf, is_marked}
 use Rattle.cg_builder.specs.inner.Numbers.{gated, pins_by}
 use Rattle.cg_builder.proofs.ToldNets.{asked_of, left_of, pins_within}
 use Rattle.cg_builder.proofs.told.clock_roots.Goals as goal

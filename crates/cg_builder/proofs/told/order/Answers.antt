@@ -1,7 +1,7 @@
 use Rattle.std.proofs.Common.{◌≡◌, ◌++◌, not, length, sym, ◌∙◌, ap, subst}
 use Rattle.std.specs.List.{filter}
-use Rattle.cg_netlist.specs.Circuit.{is_in}
-use Rattle.cg_netlist.specs.Marks.{AreMarksOf, is_marked}
+use Rattle.cg_net.specs.NetSets.{is_in}
+use Rattle.cg_net.specs.Marks.{AreMarksOf, is_marked}
 use Rattle.cg_builder.specs.inner.Numbers.{Numbers}
 use Rattle.cg_netlist.specs.Wiring.{driven_by_cells, driven_by_gaters, driven_by_registers}
 use Rattle.cg_builder.proofs.ToldNets.{left_of}

@@ -1,8 +1,8 @@
 use Rattle.std.proofs.Common.{◌≡◌, ℕ, ◌+◌, ◌∷◌, ◌++◌, suc, [], List, take, sym, ◌∙◌, ap, subst, arith}
 use Rattle.std.proofs.lemmas.List.{take_all}
 use Rattle.cg_cone.specs.inner.Reaching.{IsEdge}
-use Rattle.cg_netlist.proofs.FoundNets.{take_end}
-use Rattle.cg_netlist.proofs.Members.{member_at}
+use Rattle.cg_net.proofs.TableLemmas.{take_end}
+use Rattle.cg_net.proofs.Members.{member_at}
 use Rattle.cg_cone.proofs.reach.edge.Goals as goal
 
 pub meet-requires : goal.meet-requires

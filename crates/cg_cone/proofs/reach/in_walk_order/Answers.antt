@@ -1,5 +1,5 @@
 use Rattle.std.proofs.Common.{◌≡◌, ℕ, true, List, length, ◌∙◌, subst}
-use Rattle.cg_netlist.specs.Circuit.{is_in}
+use Rattle.cg_net.specs.NetSets.{is_in}
 use Rattle.cg_cone.proofs.ConeEdge.{kept_below, walked_more}
 use Rattle.cg_cone.proofs.reach.in_walk_order.Goals as goal
 

@@ -1,7 +1,7 @@
 use Rattle.std.proofs.Common.{ℕ, List, [], ◌∷◌, ◌++◌, sym, subst}
 use Rattle.cg_cone.specs.inner.Reaching.{IsEdge}
 use Rattle.cg_cone.proofs.ConeEdge.{edge_cell, edge_clock, edge_gater, edge_input, edge_register, pushed_ok}
-use Rattle.cg_netlist.proofs.Members.{one_place}
+use Rattle.cg_net.proofs.Members.{one_place}
 use Rattle.std.proofs.lemmas.Option.{slice_get_within}
 use Rattle.cg_cone.proofs.reach.meet.Goals as goal
 

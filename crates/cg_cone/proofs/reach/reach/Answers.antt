@@ -1,8 +1,8 @@
 use Rattle.std.proofs.Common.{◌≡◌, ◌<◌, [], length, sym, ◌∙◌, ap, subst, arith}
 use Rattle.cg_cone.specs.inner.Reaching.{IsReached}
-use Rattle.cg_netlist.specs.NetSets.{with_nets}
+use Rattle.cg_net.specs.NetSets.{with_nets}
 use Rattle.cg_cone.proofs.ConeWalk.{reached_all, reached_first}
-use Rattle.cg_netlist.proofs.Members.{All-member}
+use Rattle.cg_net.proofs.Members.{All-member}
 use Rattle.cg_cone.proofs.reach.reach.Goals as goal
 
 pub loop-next-init : goal.loop-next-init

@@ -1,7 +1,7 @@
 use Rattle.std.proofs.lemmas.Option.{slice_get_within}
 use Rattle.cg_cone.proofs.ConeEdge.{ok_then}
 use Rattle.cg_cone.proofs.ConeWalk.{reached_cell, reached_edge}
-use Rattle.cg_netlist.proofs.Members.{member_at}
+use Rattle.cg_net.proofs.Members.{member_at}
 use Rattle.cg_cone.proofs.reach.spread.Goals as goal
 
 pub net_driver-requires : goal.net_driver-requires

@@ -2,7 +2,7 @@ use Rattle.std.proofs.Common.{length, sym, ◌∙◌, arith}
 use Rattle.std.specs.Option.{option_to_list}
 use Rattle.cg_netlist.specs.Circuit.{gate_nets}
 use Rattle.cg_netlist.proofs.Given.{from_option}
-use Rattle.cg_netlist.proofs.Members.{is_in_left}
+use Rattle.cg_net.proofs.Members.{is_in_left}
 use Rattle.cg_edge.proofs.Facts.{clock_net_within}
 use Rattle.cg_edge.proofs.clock_nets.put_clock.Goals as goal
 

@@ -1,7 +1,7 @@
 use Rattle.std.proofs.Common.{length, nat_eq, refl, arith}
 use Rattle.std.specs.Option.{option_to_list}
 use Rattle.std.proofs.lemmas.Bool.{eq-eqb, or_left, or_right}
-use Rattle.cg_netlist.specs.Circuit.{is_in}
+use Rattle.cg_net.specs.NetSets.{is_in}
 use Rattle.cg_netlist.specs.View.{gater_seen}
 use Rattle.cg_netlist.proofs.Given.{from_option}
 use Rattle.cg_edge.proofs.Facts.{gater_asked, gater_clock}

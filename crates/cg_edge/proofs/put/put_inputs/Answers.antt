@@ -4,7 +4,7 @@ use Rattle.std.proofs.lemmas.Option.{slice_get-get_or}
 use Rattle.cg_netlist.specs.Circuit.{data_inputs}
 use Rattle.cg_netlist.specs.Moment.{values_at}
 use Rattle.cg_netlist.proofs.Given.{data_given}
-use Rattle.cg_netlist.proofs.Members.{member_at}
+use Rattle.cg_net.proofs.Members.{member_at}
 use Rattle.cg_edge.specs.inner.Keeping.{SameBut}
 use Rattle.cg_edge.proofs.Chained.{same_set}
 use Rattle.cg_edge.proofs.Facts.{data_no_cell, distinct_data, given_net}

@@ -4,7 +4,7 @@ use Rattle.std.specs.Option.{option_map}
 use Rattle.std.proofs.lemmas.List.{length-map, take_all}
 use Rattle.std.proofs.lemmas.Option.{slice_get-get_or, slice_get-map}
 use Rattle.cg_netlist.specs.Moment.{values_at}
-use Rattle.cg_netlist.proofs.Members.{All-member, member_at}
+use Rattle.cg_net.proofs.Members.{All-member, member_at}
 use Rattle.cg_edge.specs.inner.Keeping.{SameBut}
 use Rattle.cg_edge.proofs.Chained.{same_set}
 use Rattle.cg_edge.proofs.Puts.{same_none, shown_more}

@@ -3,7 +3,7 @@ use Rattle.std.proofs.lemmas.List.{length-set}
 use Rattle.std.proofs.lemmas.Option.{slice_get-get_or, slice_get_within}
 use Rattle.cg_netlist.specs.Circuit.{LogicCell, cell_nets}
 use Rattle.cg_netlist.specs.Moment.{function_value, values_at}
-use Rattle.cg_netlist.proofs.Members.{member_at}
+use Rattle.cg_net.proofs.Members.{member_at}
 use Rattle.cg_netlist.proofs.Values.{at_map, element_at}
 use Rattle.cg_edge.specs.inner.Keeping.{IsPut, SameBut, walk_of}
 use Rattle.cg_edge.proofs.Chained.{same_set}

@@ -1,7 +1,7 @@
 use Rattle.std.proofs.Common.{◌≡◌, ℕ, List, map, length, ap, sym, ◌∙◌, subst}
 use Rattle.std.specs.List.{range_with_len}
-use Rattle.cg_netlist.specs.NamePlaces.{AreOrdered}
-use Rattle.cg_netlist.specs.Wiring.{net_name}
+use Rattle.cg_net.specs.NamePlaces.{AreOrdered}
+use Rattle.cg_net.specs.Names.{net_name}
 use Rattle.cg_extract.proofs.Copied.{names_in_order, ordered_by_number}
 use Rattle.cg_extract.proofs.names.copy_names.Goals as goal
 

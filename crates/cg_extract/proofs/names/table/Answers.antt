@@ -1,5 +1,5 @@
 use Rattle.std.proofs.Common.{◌≡◌, ℕ, List, Some, slice_get, ap, sym, ◌∙◌}
-use Rattle.cg_netlist.specs.Names.{with_name}
+use Rattle.cg_net.specs.Names.{with_name}
 use Rattle.cg_extract.proofs.Copied.{name_more}
 use Rattle.cg_extract.proofs.names.table.Goals as goal
 

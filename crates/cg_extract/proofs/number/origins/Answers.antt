@@ -1,6 +1,6 @@
 use Rattle.std.proofs.Common.{◌≡◌, ◌++◌, ◌∷◌, [], ℕ, List, Option, Some, slice_get, ap, sym, ◌∙◌, arith}
 use Rattle.std.proofs.lemmas.List.{take_all}
-use Rattle.cg_netlist.proofs.RankingLemmas.{take_next}
+use Rattle.cg_net.proofs.TableLemmas.{take_next}
 use Rattle.cg_extract.specs.Lifted.{origins}
 use Rattle.cg_extract.proofs.Origins.{origin_at, origins_long}
 use Rattle.cg_extract.proofs.number.origins.Goals as goal

@@ -2,7 +2,8 @@ use Rattle.std.proofs.Common.{◌≡◌, ◌||◌, ◌&&◌, not, Bool, ℕ, fal
 use Rattle.std.specs.Option.{option_to_list}
 use Rattle.std.proofs.lemmas.Option.{same_Some}
 use Rattle.cg_extract.specs.Lifted.{is_refused}
-use Rattle.cg_netlist.specs.Circuit.{GatingCell, gate_nets, is_in}
+use Rattle.cg_netlist.specs.Circuit.{GatingCell, gate_nets}
+use Rattle.cg_net.specs.NetSets.{is_in}
 use Rattle.cg_netlist.specs.View.{gater_seen}
 use Rattle.cg_extract.proofs.NetPlaces.{pin_gated}
 use Rattle.cg_extract.proofs.refused.is_refused.Goals as goal

@@ -1,7 +1,7 @@
 use Rattle.std.proofs.Common.{◌≡◌, ℕ, List, if◌then◌else◌, Some, slice_get, take, refl, sym, ◌∙◌, ap}
 use Rattle.std.proofs.lemmas.List.{take_all}
 use Rattle.std.proofs.lemmas.Option.{slice_get_read}
-use Rattle.cg_netlist.specs.Circuit.{is_in}
+use Rattle.cg_net.specs.NetSets.{is_in}
 use Rattle.cg_groups.specs.Keys.{key_at, key_seen}
 use Rattle.cg_groups.specs.Leaving.{without}
 use Rattle.cg_groups.proofs.Left.{one_more}

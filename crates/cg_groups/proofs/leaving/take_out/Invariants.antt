@@ -1,5 +1,5 @@
 use Rattle.std.proofs.Common.{◌≡◌, ℕ, if◌then◌else◌, take}
-use Rattle.cg_netlist.specs.Circuit.{is_in}
+use Rattle.cg_net.specs.NetSets.{is_in}
 use Rattle.cg_groups.specs.Keys.{key_at, key_seen}
 use Rattle.cg_groups.specs.Leaving.{without}
 use Rattle.cg_groups.proofs.leaving.take_out.Given as goal

@@ -3,7 +3,7 @@ use Rattle.std.proofs.lemmas.List.Filters.{dedup_is}
 use Rattle.cg_lists.proofs.FitLists.{filter_in, range_in}
 use Rattle.cg_lists.specs.Supports.{all_nets}
 use Rattle.cg_machine.specs.Claims.{Literal}
-use Rattle.cg_netlist.specs.Circuit.{is_in}
+use Rattle.cg_net.specs.NetSets.{is_in}
 use Rattle.cg_hold.specs.inner.Packed.{unpacked}
 use Rattle.cg_hold.proofs.Ranked.{ranked_is}
 use Rattle.cg_hold.proofs.literals.ranked.Goals as goal

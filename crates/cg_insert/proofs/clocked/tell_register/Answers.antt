@@ -5,7 +5,7 @@ use Rattle.cg_netlist.specs.View.{register_seen}
 use Rattle.cg_builder.specs.Building.{Takes}
 use Rattle.cg_parts.specs.Part.{Part}
 use Rattle.cg_parts.specs.Says.{IsPart}
-use Rattle.cg_netlist.specs.Wiring.{NetName}
+use Rattle.cg_net.specs.Names.{NetName}
 use Rattle.cg_insert.proofs.RegisterCalls.{register_call}
 use Rattle.cg_insert.proofs.ToldParts.{tells_one}
 use Rattle.cg_insert.specs.inner.GatedParts.{clocked_part, placed_outputs}

@@ -1,6 +1,6 @@
 use Rattle.std.proofs.Common.{false, is_none}
 use Rattle.std.specs.Option.{option_map_or}
-use Rattle.cg_netlist.specs.Marks.{AreMarksOf}
+use Rattle.cg_net.specs.Marks.{AreMarksOf}
 use Rattle.cg_netlist.specs.inner.Ranking.{entry}
 use Rattle.cg_netlist.proofs.cycles.unranked.Given as goal
 

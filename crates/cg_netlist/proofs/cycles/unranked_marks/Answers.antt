@@ -1,6 +1,6 @@
 use Rattle.std.proofs.Common.{◌≡◌, ℕ, ◌<◌, length, false, is_none, ◌∙◌, ap}
 use Rattle.std.specs.Option.{option_map_or}
-use Rattle.cg_netlist.specs.Marks.{AreMarksOf}
+use Rattle.cg_net.specs.Marks.{AreMarksOf}
 use Rattle.cg_netlist.specs.inner.Ranking.{entry}
 use Rattle.cg_netlist.specs.Ranks.{driving_cell, is_unranked}
 use Rattle.cg_netlist.proofs.ByRank.{if_ok}

@@ -7,7 +7,7 @@ use Rattle.std.proofs.lemmas.Option.{slice_get_read}
 use Rattle.cg_netlist.specs.inner.Ranking.{entry}
 use Rattle.cg_netlist.specs.Ranks.{driving_cell}
 use Rattle.cg_netlist.proofs.DrivingCells.{driver_more}
-use Rattle.cg_netlist.proofs.RankingLemmas.{take_next}
+use Rattle.cg_net.proofs.TableLemmas.{take_next}
 use Rattle.cg_netlist.proofs.net_driver.net_drivers.Goals as goal
 
 pub loop-i-preserved : goal.loop-i-preserved

@@ -1,5 +1,5 @@
 use Rattle.std.proofs.Common.{◌||◌, ◌∙◌, ap}
-use Rattle.cg_netlist.specs.Circuit.{is_in}
+use Rattle.cg_net.specs.NetSets.{is_in}
 use Rattle.cg_odc.proofs.Listed.{numbers_more}
 use Rattle.cg_odc.proofs.kept.keep_groups.Goals as goal
 

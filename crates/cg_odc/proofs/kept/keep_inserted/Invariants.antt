@@ -1,5 +1,5 @@
 use Rattle.std.proofs.Common.{◌≡◌, ◌||◌, ℕ, take}
-use Rattle.cg_netlist.specs.Circuit.{is_in}
+use Rattle.cg_net.specs.NetSets.{is_in}
 use Rattle.cg_odc.specs.inner.Kept.{inserted_guards}
 use Rattle.cg_odc.proofs.kept.keep_inserted.Given as goal
 

@@ -6,7 +6,7 @@ use Rattle.cg_groups.specs.Leaving.{without}
 use Rattle.cg_lists.specs.Rounds.{same_kind}
 use Rattle.cg_lists.specs.StableList.{StableKey}
 use Rattle.cg_machine.specs.declared.stage.StageKind.TheVariants.{Unseen}
-use Rattle.cg_netlist.specs.Circuit.{is_in}
+use Rattle.cg_net.specs.NetSets.{is_in}
 use Rattle.cg_odc.specs.inner.Guarding.{guard_key, had_guards}
 use Rattle.cg_odc.proofs.round.leave_out.Goals as goal
 

@@ -2,7 +2,7 @@ use Rattle.std.proofs.Common.{List, IfErr, IfOk, is_some, sym, ◌∙◌, ap, su
 use Rattle.cg_machine.specs.Claims.{Literal}
 use Rattle.cg_machine.specs.Machine.{IsNet}
 use Rattle.cg_machine.specs.declared.stage.StageKind.{StageKind}
-use Rattle.cg_netlist.specs.Circuit.{is_in}
+use Rattle.cg_net.specs.NetSets.{is_in}
 use Rattle.cg_stage.specs.Effects.{delayed, limit_by, net_by, with_own}
 use Rattle.cg_stage.specs.Joined.{join_all, join_all_limit}
 use Rattle.cg_stage.specs.Stages.{first_literal}

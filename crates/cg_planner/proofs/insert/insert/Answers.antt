@@ -1,7 +1,7 @@
 use Rattle.std.proofs.Common.{◌<◌, ℕ, List, sym, subst, arith}
 use Rattle.std.specs.List.{All}
 use Rattle.cg_machine.specs.Machine.{MachineData}
-use Rattle.cg_netlist.proofs.Members.{All-from_members}
+use Rattle.cg_net.proofs.Members.{All-from_members}
 use Rattle.cg_reach.specs.Fanout.{Knows}
 use Rattle.cg_stage.specs.Joined.{enabled}
 use Rattle.cg_planner.proofs.Noted.{grown}

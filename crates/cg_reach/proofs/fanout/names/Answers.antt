@@ -1,5 +1,5 @@
 use Rattle.std.proofs.Common.{ℕ, List}
-use Rattle.cg_netlist.specs.Circuit.{is_in}
+use Rattle.cg_net.specs.NetSets.{is_in}
 use Rattle.cg_reach.proofs.SpreadCones.{all_named}
 use Rattle.cg_reach.proofs.fanout.names.Goals as goal
 

@@ -1,7 +1,8 @@
 use Rattle.std.proofs.Common.{◌≡◌, ◌&&◌, ℕ, Some, List, nat_eq, length, slice_get, sym, ◌∙◌, ap, arith}
 use Rattle.std.proofs.lemmas.Bool.{or_left}
 use Rattle.std.proofs.lemmas.Option.{slice_get-get_or, slice_get_within}
-use Rattle.cg_netlist.specs.Circuit.{Circuit, is_in}
+use Rattle.cg_netlist.specs.Circuit.{Circuit}
+use Rattle.cg_net.specs.NetSets.{is_in}
 use Rattle.cg_reach.specs.Fanout.{readers_at}
 use Rattle.cg_reach.proofs.Noting.{noted_more, noted_one}
 use Rattle.cg_reach.proofs.Targeting.{few_outputs}

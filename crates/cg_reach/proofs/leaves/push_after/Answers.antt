@@ -1,5 +1,5 @@
 use Rattle.std.proofs.Common.{◌∙◌}
-use Rattle.cg_netlist.specs.Circuit.{is_in}
+use Rattle.cg_net.specs.NetSets.{is_in}
 use Rattle.cg_claim.specs.Reach.{after_nets, changed_nets}
 use Rattle.cg_reach.specs.Asking.{question_of}
 use Rattle.cg_reach.proofs.LeavesReached.{after_leaves}

@@ -1,6 +1,6 @@
 use Rattle.std.proofs.Common.{◌≡◌, ℕ, List, ◌++◌, not, ◌∙◌, ap}
 use Rattle.std.specs.List.{filter}
-use Rattle.cg_netlist.specs.Circuit.{is_in}
+use Rattle.cg_net.specs.NetSets.{is_in}
 use Rattle.cg_claim.specs.Question.{After}
 use Rattle.cg_reach.specs.Asking.{question_of}
 use Rattle.cg_reach.proofs.StatesReached.{after_are, asked_in}

@@ -1,6 +1,6 @@
 use Rattle.std.proofs.Common.{◌≡◌, ℕ, [], List, Some, slice_get, refl, ◌∙◌, ap}
 use Rattle.std.proofs.lemmas.Option.{slice_get_read}
-use Rattle.cg_netlist.specs.Circuit.{is_in}
+use Rattle.cg_net.specs.NetSets.{is_in}
 use Rattle.cg_reach.proofs.Filtering.{filter_on}
 use Rattle.cg_reach.proofs.sources.inside.Goals as goal
 

@@ -2,8 +2,8 @@ use Rattle.std.proofs.Common.{◌≡◌, ℕ, ◌<◌, ◌++◌, List, Some, len
 use Rattle.std.specs.List.{filter}
 use Rattle.std.proofs.lemmas.Option.{slice_get_read}
 use Rattle.cg_claim.specs.Reach.{origin_asks}
-use Rattle.cg_netlist.specs.Circuit.{is_in}
-use Rattle.cg_netlist.proofs.Members.{member_at, All-member}
+use Rattle.cg_net.specs.NetSets.{is_in}
+use Rattle.cg_net.proofs.Members.{All-member, member_at}
 use Rattle.cg_reach.proofs.Filtering.{filter_on, take_whole}
 use Rattle.cg_reach.proofs.sources.push_origins.Goals as goal
 

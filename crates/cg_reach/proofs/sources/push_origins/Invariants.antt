@@ -1,6 +1,6 @@
 use Rattle.std.proofs.Common.{◌≡◌, ℕ, ◌++◌, take}
 use Rattle.std.specs.List.{filter}
-use Rattle.cg_netlist.specs.Circuit.{is_in}
+use Rattle.cg_net.specs.NetSets.{is_in}
 use Rattle.cg_claim.specs.Question.{Question}
 use Rattle.cg_claim.specs.Reach.{origin_asks}
 use Rattle.cg_reach.proofs.sources.push_origins.Given as goal

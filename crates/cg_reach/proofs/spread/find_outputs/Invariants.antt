@@ -1,5 +1,5 @@
 use Rattle.std.proofs.Common.{◌≡◌, ◌||◌, ℕ, Bool, map, take}
-use Rattle.cg_netlist.specs.Circuit.{is_in}
+use Rattle.cg_net.specs.NetSets.{is_in}
 use Rattle.cg_reach.proofs.spread.find_outputs.Given as goal
 
 abbrev pub invariant-loop-place : goal.invariant-loop-place

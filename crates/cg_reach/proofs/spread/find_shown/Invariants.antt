@@ -1,5 +1,5 @@
 use Rattle.std.proofs.Common.{◌≡◌, ◌||◌, ℕ, take}
-use Rattle.cg_netlist.specs.Circuit.{is_in}
+use Rattle.cg_net.specs.NetSets.{is_in}
 use Rattle.cg_reach.specs.inner.Spreading.{is_shown}
 use Rattle.cg_reach.proofs.spread.find_shown.Given as goal
 

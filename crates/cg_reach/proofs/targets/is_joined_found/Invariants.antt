@@ -1,7 +1,7 @@
 use Rattle.std.proofs.Common.{◌≡◌, take}
 use Rattle.std.specs.List.{list_any}
 use Rattle.cg_machine.specs.Claims.{Literal}
-use Rattle.cg_netlist.specs.Circuit.{is_in}
+use Rattle.cg_net.specs.NetSets.{is_in}
 use Rattle.cg_reach.proofs.targets.is_joined_found.Given as goal
 
 abbrev pub invariant-loop-k : goal.invariant-loop-k

@@ -1,7 +1,7 @@
 use Rattle.std.proofs.Common.{◌≡◌, ℕ, List, ◌++◌, OnOk, map, sym, ◌∙◌, ap, subst}
 use Rattle.cg_claim.specs.Reach.{registers_of}
 use Rattle.cg_claim.specs.declared.name.ClaimName.TheVariants.{Next}
-use Rattle.cg_netlist.specs.Circuit.{is_in}
+use Rattle.cg_net.specs.NetSets.{is_in}
 use Rattle.cg_reach.specs.inner.Spreading.{is_next_marked}
 use Rattle.cg_reach.proofs.Filtering.{filter_same}
 use Rattle.cg_reach.proofs.StatesReached.{set_has}

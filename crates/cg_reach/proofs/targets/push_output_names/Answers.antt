@@ -1,6 +1,6 @@
 use Rattle.std.proofs.Common.{◌≡◌, ◌++◌, OnOk, map, ◌∙◌, ap, subst}
 use Rattle.cg_claim.specs.declared.name.ClaimName.TheVariants.{Output}
-use Rattle.cg_netlist.specs.Circuit.{is_in}
+use Rattle.cg_net.specs.NetSets.{is_in}
 use Rattle.cg_reach.proofs.Targeting.{outputs_mapped}
 use Rattle.cg_reach.proofs.targets.push_output_names.Goals as goal
 

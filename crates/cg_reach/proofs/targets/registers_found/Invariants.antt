@@ -1,6 +1,6 @@
 use Rattle.std.proofs.Common.{◌≡◌, ◌++◌, take}
 use Rattle.std.specs.List.{filter, flat_map}
-use Rattle.cg_netlist.specs.Circuit.{is_in}
+use Rattle.cg_net.specs.NetSets.{is_in}
 use Rattle.cg_reach.specs.Fanout.{readers_at}
 use Rattle.cg_reach.specs.inner.Spreading.{is_register_marked}
 use Rattle.cg_reach.proofs.targets.registers_found.Given as goal

@@ -1,6 +1,6 @@
 use Rattle.std.proofs.Common.{refl}
 use Rattle.std.proofs.lemmas.Option.{slice_get_read}
-use Rattle.cg_netlist.proofs.Members.{member_at}
+use Rattle.cg_net.proofs.Members.{member_at}
 use Rattle.cg_stability.proofs.key.are_enabled.Goals as goal
 
 pub enable-requires : goal.enable-requires

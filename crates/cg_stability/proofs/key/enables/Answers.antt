@@ -1,6 +1,6 @@
 use Rattle.std.proofs.Common.{◌≡◌, Some, slice_get, refl, ap, sym, ◌∙◌}
 use Rattle.std.proofs.lemmas.Option.{slice_get_read}
-use Rattle.cg_netlist.proofs.Members.{member_at}
+use Rattle.cg_net.proofs.Members.{member_at}
 use Rattle.cg_stability.proofs.Keyed.{other_enable}
 use Rattle.cg_groups.proofs.Listed.{enables_none, enables_some}
 use Rattle.cg_stability.proofs.key.enables.Goals as goal

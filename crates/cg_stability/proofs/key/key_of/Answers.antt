@@ -1,6 +1,6 @@
 use Rattle.std.proofs.Common.{◌≡◌, ◌<◌, ℕ, true, List, length, sym, ◌∙◌, ap, subst, arith}
 use Rattle.std.specs.List.{filter_map}
-use Rattle.cg_netlist.specs.Circuit.{is_in}
+use Rattle.cg_net.specs.NetSets.{is_in}
 use Rattle.cg_stability.proofs.Keyed.{enables_below, key_there, other_enable}
 use Rattle.cg_stability.proofs.key.key_of.Goals as goal
 

@@ -6,7 +6,7 @@ use Rattle.cg_groups.specs.Leaving.{without}
 use Rattle.cg_lists.specs.Rounds.{same_kind}
 use Rattle.cg_lists.specs.StableList.{StableKey, had_stable}
 use Rattle.cg_machine.specs.declared.stage.StageKind.TheVariants.{Stable}
-use Rattle.cg_netlist.specs.Circuit.{is_in}
+use Rattle.cg_net.specs.NetSets.{is_in}
 use Rattle.cg_stability.specs.inner.Leaving.{stage_key}
 use Rattle.cg_stability.proofs.round.leave_out.Goals as goal
 

@@ -1,5 +1,5 @@
 use Rattle.std.proofs.Common.{◌≡◌, map, take}
-use Rattle.cg_netlist.specs.Wiring.{net_name}
+use Rattle.cg_net.specs.Names.{net_name}
 use Rattle.cg_stimulus.proofs.stimulus.names_at.Given as goal
 
 abbrev pub invariant-loop-net : goal.invariant-loop-net

@@ -1,5 +1,5 @@
 use Rattle.std.proofs.Common.{◌≡◌, [], ◌≤◌, length, sym, ◌∙◌, ap, subst, arith}
-use Rattle.cg_netlist.specs.NetSets.{with_nets}
+use Rattle.cg_net.specs.NetSets.{with_nets}
 use Rattle.cg_support.specs.inner.Reaching.{IsReached}
 use Rattle.cg_support.proofs.Reached.{reached_all, reached_first}
 use Rattle.cg_support.proofs.cone.cone.Goals as goal

@@ -5,7 +5,7 @@ use Rattle.cg_netlist.specs.Drivers.{IsDriver}
 use Rattle.cg_netlist.specs.Netlist.{IsNetlist}
 use Rattle.cg_netlist.specs.View.{cell_seen}
 use Rattle.cg_netlist.specs.declared.driver.Driver.TheVariants.{Cell}
-use Rattle.cg_netlist.proofs.Members.{member_at}
+use Rattle.cg_net.proofs.Members.{member_at}
 use Rattle.cg_machine.specs.Added.{own_netlist}
 use Rattle.cg_support.proofs.Steps.{step_cell, step_edge}
 use Rattle.cg_support.proofs.cone.spread.Goals as goal

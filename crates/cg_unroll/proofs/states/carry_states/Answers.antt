@@ -7,7 +7,7 @@ use Rattle.std.proofs.Math.ListN.{length-set}
 use Rattle.cg_cell.proofs.Evals.{valid_at}
 use Rattle.cg_aig.specs.Aig.{aig_ops}
 use Rattle.cg_unroll.specs.inner.States.{Carries}
-use Rattle.cg_unroll.proofs.Fronts.{take_end}
+use Rattle.cg_net.proofs.TableLemmas.{take_end}
 use Rattle.cg_unroll.proofs.Laying.{valid_set}
 use Rattle.cg_unroll.proofs.StatesLaid.{carry_keeps, carry_more, carry_takes, so_far}
 use Rattle.cg_unroll.proofs.states.carry_states.Goals as goal

@@ -4,10 +4,11 @@ use Rattle.std.proofs.lemmas.Option.{slice_get-get_or}
 use Rattle.std.proofs.lemmas.Result.{err_from_is_err_and}
 use Rattle.cg_cell.proofs.Evals.{valid_then}
 use Rattle.cg_aig.specs.Aig.{aig_ops}
-use Rattle.cg_netlist.proofs.Members.{member_at}
+use Rattle.cg_net.proofs.Members.{member_at}
 use Rattle.cg_machine.specs.Machine.{MachineData}
 use Rattle.cg_unroll.specs.inner.States.{IsLayingStates}
-use Rattle.cg_unroll.proofs.Fronts.{drop_cons, drop_whole}
+use Rattle.cg_unroll.proofs.Fronts.{drop_whole}
+use Rattle.cg_net.proofs.TableLemmas.{drop_cons}
 use Rattle.cg_unroll.proofs.StatesLaid.{states_end, states_fail, states_on, states_start}
 use Rattle.cg_unroll.proofs.states.put_states.Goals as goal
 

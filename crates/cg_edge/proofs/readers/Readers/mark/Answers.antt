@@ -1,6 +1,6 @@
 use Rattle.std.proofs.Common.{◌<◌, length, sym, subst}
 use Rattle.std.specs.List.{All}
-use Rattle.cg_netlist.proofs.Members.{All-from_members}
+use Rattle.cg_net.proofs.Members.{All-from_members}
 use Rattle.cg_edge.specs.inner.Keeping.{readers_at}
 use Rattle.cg_edge.proofs.readers.Readers.mark.Goals as goal
 

@@ -6,7 +6,8 @@ use Rattle.cg_machine.specs.Added.{own_netlist}
 use Rattle.cg_machine.specs.Machine.{walk_of}
 use Rattle.cg_cone.proofs.Cones.{cone_has}
 use Rattle.cg_netlist.proofs.Used.{data_is_used}
-use Rattle.cg_netlist.specs.Circuit.{Circuit, RegisterCell, is_in}
+use Rattle.cg_netlist.specs.Circuit.{Circuit, RegisterCell}
+use Rattle.cg_net.specs.NetSets.{is_in}
 use Rattle.cg_cone.specs.Cone.{cone_of}
 use Rattle.cg_netlist.specs.Netlist.{IsNetlist}
 use Rattle.cg_netlist.specs.View.{register_seen}

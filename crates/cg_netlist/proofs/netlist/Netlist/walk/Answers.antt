@@ -1,13 +1,14 @@
 use Rattle.std.proofs.Common.{◌≡◌, ℕ, true, List, ◌∷◌, ◌+◌, Some, drop, length, slice_get, refl, sym, subst, arith}
 use Rattle.std.proofs.lemmas.List.{drop_all, length-take}
 use Rattle.std.proofs.lemmas.Option.{slice_get_read}
-use Rattle.cg_netlist.specs.Circuit.{LogicCell, is_in}
+use Rattle.cg_netlist.specs.Circuit.{LogicCell}
+use Rattle.cg_net.specs.NetSets.{is_in}
 use Rattle.cg_netlist.specs.Moment.{values_at}
 use Rattle.cg_netlist.specs.Nets.{walk_order}
 use Rattle.cg_netlist.specs.View.{cell_seen}
 use Rattle.cg_netlist.specs.Walk.{CalledAtCell, TakesEach}
 use Rattle.cg_netlist.proofs.CellFits.{cell_fits, walk_within}
-use Rattle.cg_netlist.proofs.Members.{member_at}
+use Rattle.cg_net.proofs.Members.{member_at}
 use Rattle.cg_netlist.proofs.Walks.{GoesOn, called_at_cell, drop_at, goes_on, within_more}
 use Rattle.cg_netlist.proofs.netlist.Netlist.walk.Goals as goal
 

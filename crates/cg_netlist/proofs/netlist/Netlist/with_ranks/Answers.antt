@@ -1,12 +1,13 @@
 use Rattle.std.proofs.Common.{◌≡◌, ◌<◌, true, not, length, sym, ◌∙◌, ap, subst, arith}
 use Rattle.std.specs.List.{filter}
 use Rattle.std.specs.Option.{option_to_list}
-use Rattle.cg_netlist.specs.Circuit.{Circuit, data_inputs, is_in}
+use Rattle.cg_netlist.specs.Circuit.{Circuit, data_inputs}
+use Rattle.cg_net.specs.NetSets.{is_in}
 use Rattle.cg_netlist.specs.Netlist.{widest_of}
 use Rattle.cg_netlist.specs.Nets.{walk_order}
 use Rattle.cg_netlist.specs.Ranks.{ranks_of}
 use Rattle.cg_netlist.proofs.CellFits.{walk_within}
-use Rattle.cg_netlist.proofs.Members.{All-from_members}
+use Rattle.cg_net.proofs.Members.{All-from_members}
 use Rattle.cg_netlist.proofs.OrderLemmas.{cells_within}
 use Rattle.cg_netlist.proofs.WalkPlaces.{few_walked, placed_as, whole_walk}
 use Rattle.cg_netlist.proofs.netlist.Netlist.with_ranks.Goals as goal

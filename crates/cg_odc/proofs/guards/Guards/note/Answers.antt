@@ -1,6 +1,6 @@
 use Rattle.std.proofs.Common.{◌||◌, ◌&&◌, false, not, nat_eq, ◌∙◌, ap, arith}
 use Rattle.std.specs.Option.{option_map_or}
-use Rattle.cg_netlist.specs.Circuit.{is_in}
+use Rattle.cg_net.specs.NetSets.{is_in}
 use Rattle.cg_odc.specs.inner.Guarding.{guards_by}
 use Rattle.cg_odc.proofs.Guarded.{by_none, by_some}
 use Rattle.cg_odc.proofs.guards.Guards.note.Goals as goal

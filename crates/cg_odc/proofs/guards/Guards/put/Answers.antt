@@ -1,5 +1,5 @@
 use Rattle.std.proofs.Common.{◌≡◌, ◌||◌, ◌&&◌, ◌++◌, ◌∷◌, [], nat_eq, ◌∙◌, ap, arith}
-use Rattle.cg_netlist.specs.Circuit.{is_in}
+use Rattle.cg_net.specs.NetSets.{is_in}
 use Rattle.cg_odc.specs.inner.Guarding.{list_at}
 use Rattle.cg_odc.proofs.Lists.{put_at}
 use Rattle.cg_odc.proofs.guards.Guards.put.Goals as goal

@@ -1,6 +1,6 @@
 use Rattle.std.proofs.Common.{◌≡◌, ◌+◌, ◌&&◌, Some, not, nat_eq, take, slice_get, refl, ◌∙◌, arith}
 use Rattle.std.proofs.lemmas.Option.{slice_get_read}
-use Rattle.cg_netlist.specs.Circuit.{is_in}
+use Rattle.cg_net.specs.NetSets.{is_in}
 use Rattle.cg_odc.specs.inner.Guarding.{list_at}
 use Rattle.cg_odc.proofs.Lists.{in_taken, spread_three}
 use Rattle.cg_odc.proofs.guards.Guards.spread.Goals as goal

@@ -1,5 +1,5 @@
 use Rattle.std.proofs.Common.{◌||◌, ◌&&◌, nat_eq, ◌∙◌, ap}
-use Rattle.cg_netlist.specs.Circuit.{is_in}
+use Rattle.cg_net.specs.NetSets.{is_in}
 use Rattle.cg_reach.specs.Fanout.{readers_at}
 use Rattle.cg_reach.proofs.Noting.{noted_at}
 use Rattle.cg_reach.proofs.readers.Readers.note.Goals as goal

@@ -1,5 +1,5 @@
 use Rattle.std.proofs.Common.{◌≡◌, subst}
-use Rattle.cg_netlist.specs.Names.{bytes_of, with_name}
+use Rattle.cg_net.specs.Names.{bytes_of, with_name}
 use Rattle.cg_stimulus.proofs.InputTable.{added_name}
 use Rattle.cg_stimulus.proofs.names.InputNames.add.Goals as goal
 

@@ -1,5 +1,5 @@
 use Rattle.std.proofs.Common.{◌≡◌, subst, sym, ◌∙◌}
-use Rattle.cg_netlist.specs.Names.{is_known}
+use Rattle.cg_net.specs.Names.{is_known}
 use Rattle.cg_stimulus.proofs.InputTable.{is_known-bytes_of}
 use Rattle.cg_stimulus.proofs.names.InputNames.has.Goals as goal
 

@@ -1,0 +1,4 @@
+pub mod Marks
+pub mod NamePlaces
+pub mod Names
+pub mod NetSets

@@ -1,0 +1,146 @@
+//! The names of nets, numbered in the order in which they came.
+
+ghost use Rattle.std.specs.Prelude.{◌≡◌, ◌≢◌, [], ◌<◌, Some, false, length};
+ghost use Rattle.std.specs.Prelude.{slice_get, IfOk, MatchOption, OnErr, OnOk, map};
+ghost use Rattle.std.specs.List.{AllPairs};
+ghost use Rattle.cg_net.specs.Names.{is_known, net_name, with_name};
+ghost use Rattle.cg_net.specs.NamePlaces.{AreOrdered};
+
+use crate::id::NetId;
+use crate::key::{Key, Sought};
+use indexmap::IndexSet;
+use std::alloc::{AllocError, Global};
+use std::marker::Model;
+
+/// A table of names, each of which stands in it once. A name is found by its bytes, or by its number: the place at
+/// which it came in.
+///
+/// Clauses see the list of names.
+#[derive(Drop)]
+pub struct NetNames {
+    set: IndexSet<Key>,
+}
+
+impl Model for NetNames {
+    ghost use Rattle.std.specs.Prelude.{List, ℕ};
+
+    ghost Value = { List (List ℕ) };
+
+    ghost view = { λ n. n.set.keys };
+}
+
+impl NetNames {
+    /// No names yet.
+    pub fn new(alloc: Global) -> NetNames
+        ensures { result ≡ [] }
+    {
+        NetNames {
+            set: IndexSet::new(alloc),
+        }
+    }
+
+    /// How many names there are.
+    pub fn len(&self) -> usize
+        ensures count { result ≡ length self.now }
+        ensures different { AllPairs (λ name other. name ≢ other) self.now }
+    {
+        self.set.len()
+    }
+
+    /// The name of this number.
+    pub fn name(&self, number: usize) -> &[u8]
+        requires { number < length self.now }
+        ensures { slice_get self.now number ≡ Some result.now }
+    {
+        self.set[number].bytes()
+    }
+
+    /// The number of a name, or `None` where it is none of these.
+    pub fn find(&self, name: &[u8]) -> Option<usize>
+        ensures { MatchOption result (is_known self.now name.now ≡ false) (λ i. slice_get self.now i ≡ Some name.now) }
+    {
+        self.set.get_index_of(Sought { name })
+    }
+
+    /// The number of a name, which goes behind the others where it is none of them yet.
+    pub fn intern(&mut self, alloc: Global, name: &[u8]) -> Result<usize, AllocError>
+        ensures names { OnOk result (self.new ≡ with_name self.old name.now) }
+        ensures number { IfOk result (λ i. slice_get self.new i ≡ Some name.now) }
+        ensures err { OnErr result (self.new ≡ self.old) }
+    {
+        if let Some(number) = self.set.get_index_of(Sought { name }) {
+            return Ok(number);
+        }
+        let number = self.set.len();
+        let key = Key::new(alloc, name)?;
+        self.set.insert(key)?;
+        Ok(number)
+    }
+}
+
+/// The names of the nets of an order. They stay in the table in which they came: beside it lie the net of each place, and
+/// the place of each net, which is the length of the order for a net that has none.
+///
+/// Clauses see the list of names.
+#[derive(Drop)]
+pub struct OrderedNames {
+    names: NetNames,
+    order: Vec<NetId>,
+    places: Vec<NetId>,
+}
+
+impl Model for OrderedNames {
+    ghost use Rattle.std.specs.Prelude.{List, ℕ, map};
+    ghost use Rattle.cg_net.specs.NamePlaces.{AreOrdered};
+    ghost use Rattle.cg_net.specs.Names.{net_name};
+
+    ghost Value = { List (List ℕ) };
+
+    ghost view = { λ n. map (net_name n.names) n.order.items };
+
+    ghost invariant = { λ n. AreOrdered n.names n.order.items n.places.items };
+}
+
+impl OrderedNames {
+    /// The names of an order in which each net stands once at most, with the places of all nets.
+    pub fn new(names: NetNames, order: Vec<NetId>, places: Vec<NetId>) -> OrderedNames
+        requires { AreOrdered names order.items places.items }
+        ensures { result ≡ map (net_name names) order.items }
+    {
+        OrderedNames {
+            names,
+            order,
+            places,
+        }
+    }
+
+    /// How many names there are.
+    pub fn len(&self) -> usize
+        ensures count { result ≡ length self.now }
+    {
+        self.order.len()
+    }
+
+    /// The name at this place.
+    pub fn name(&self, place: usize) -> &[u8]
+        requires { place < length self.now }
+        ensures { slice_get self.now place ≡ Some result.now }
+    {
+        self.names.name(self.order[place].number() as usize)
+    }
+
+    /// The place of a name, or `None` where it is none of these.
+    pub fn find(&self, name: &[u8]) -> Option<usize>
+        ensures { MatchOption result (is_known self.now name.now ≡ false) (λ i. slice_get self.now i ≡ Some name.now) }
+    {
+        let place = match self.names.find(name) {
+            Some(number) => self.places[number].number() as usize,
+            None => return None,
+        };
+        if place < self.order.len() {
+            Some(place)
+        } else {
+            None
+        }
+    }
+}

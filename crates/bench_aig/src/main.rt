@@ -6,7 +6,7 @@
 //! It says how many and-nodes the list has at the end, or that a node has another number than its place in the order.
 #![tactic(auto)]
 
-use cg_aig::list::Aig;
+use cg_aig::Aig;
 use std::alloc::Global;
 use std::{env, io};
 

@@ -6,8 +6,7 @@ ghost use Rattle.cg_machine.specs.Start.{CanStart};
 
 use crate::inserting::inserted_text;
 use crate::steps::step;
-use cg_blif::options::BlifOptions;
-use cg_blif::reader::read_blif;
+use cg_blif::{BlifOptions, read_blif};
 use cg_cell::library::Library;
 use cg_cell::name::Name;
 use cg_liberty::library::read_library;

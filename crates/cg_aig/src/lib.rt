@@ -8,17 +8,17 @@
 //!
 //! In the order in which data flows through them:
 //!
-//! - [`lit`]: literals;
-//! - [`fault`]: why a call is refused;
-//! - [`list`]: the list of nodes;
-//! - [`function`]: expressions and covers, built into a list;
+//! - `lit`: literals;
+//! - `fault`: why a call is refused;
+//! - `list`: the list of nodes;
+//! - `function`: expressions and covers, built into a list;
 //! - `values`: the values of nodes, where the leaves have given bits.
 #![tactic(auto)]
 
-pub mod fault;
-pub mod function;
-pub mod list;
-pub mod lit;
+mod fault;
+mod function;
+mod list;
+mod lit;
 mod values;
 
 pub use fault::AigFault;

@@ -174,7 +174,10 @@ fn place_of(byte: u8) -> Option<Option<bool>>
 /// Puts the places that a word says in place of those that are there; false where a byte is none of `0`, `1`, `-`.
 #[tactic(auto, using(crate::proofs::RowLemmas::rows))]
 fn read_places(word: &[u8], places: &mut Vec<Option<bool>>) -> Result<bool, AllocError>
-    ensures { IfOk result (λ read. MatchBool read ((row_places word.now ≡ Some places.new.items) × (length places.new.items ≡ length word.now)) (row_places word.now ≡ None)) }
+    ensures { IfOk result
+        (λ read. MatchBool read
+            ((row_places word.now ≡ Some places.new.items) × (length places.new.items ≡ length word.now))
+            (row_places word.now ≡ None)) }
 {
     places.clear();
     'places: for byte in word {

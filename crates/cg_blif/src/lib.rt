@@ -12,8 +12,8 @@
 //! - `cover`: the rows behind a `.names` line;
 //! - `pins`, `place`, `parts`: the parts that a line says, given to a builder;
 //! - `reading`: what was read of a text so far, and one line more;
-//! - [`options`]: what a reader is told beside the text;
-//! - [`reader`]: the netlist of a whole text;
+//! - `options`: what a reader is told beside the text;
+//! - `reader`: the netlist of a whole text;
 //! - `fault`: why a line is not taken.
 #![tactic(auto)]
 
@@ -25,13 +25,13 @@ mod fault;
 mod latch;
 mod line_words;
 mod lines;
-pub mod options;
+mod options;
 mod parts;
 mod physical;
 mod pin_word;
 mod pins;
 mod place;
-pub mod reader;
+mod reader;
 mod reading;
 mod statement;
 

@@ -7,16 +7,16 @@
 //!
 //! - `tokens`: the words and signs of the text;
 //! - `pending`, `join`: what waits for the operand that comes, and operators on expressions;
-//! - [`fault`]: why a text is no expression;
-//! - [`reading`]: reading token by token;
-//! - [`check`]: the first fault alone, without the expression.
+//! - `fault`: why a text is no expression;
+//! - `reading`: reading token by token;
+//! - `check`: the first fault alone, without the expression.
 #![tactic(auto)]
 
-pub mod check;
-pub mod fault;
+mod check;
+mod fault;
 mod join;
 mod pending;
-pub mod reading;
+mod reading;
 mod tokens;
 
 pub use check::{Names, check_expr};

@@ -21,14 +21,14 @@
 #![tactic(auto)]
 
 mod assignment;
-pub mod checker;
+mod checker;
 mod hint;
 mod id;
 mod live;
-pub mod log;
-pub mod lrat;
+mod log;
+mod lrat;
 mod progress;
-pub mod verdict;
+mod verdict;
 
 pub use checker::Checker;
 pub use log::{Body, Log, Step};

@@ -7,30 +7,30 @@
 //!
 //! The modules, in the order in which data flows through them:
 //!
-//! - [`role`]: what a file is to a run, and [`names`]: which file that is;
-//! - [`refusal`]: why a run was not done, and its line of complaint;
-//! - [`content`]: what is complained of a file's content, with a number or a name;
-//! - [`status`]: how a run ends;
-//! - [`output`]: what a mode puts out;
-//! - [`mode`]: what a run asks of a mode;
-//! - [`reading`]: the reading half of a run, [`collect`];
-//! - `writing`: the writes, and [`closing`]: the writing half of a run, [`put_out`];
-//! - [`driver`]: a run of both halves, with what a mode makes of its files between.
+//! - `role`: what a file is to a run, and `names`: which file that is;
+//! - `refusal`: why a run was not done, and its line of complaint;
+//! - `content`: what is complained of a file's content, with a number or a name;
+//! - `status`: how a run ends;
+//! - `output`: what a mode puts out;
+//! - `mode`: what a run asks of a mode;
+//! - `reading`: the reading half of a run, [`collect`];
+//! - `writing`: the writes, and `closing`: the writing half of a run, [`put_out`];
+//! - `driver`: a run of both halves, with what a mode makes of its files between.
 #![tactic(auto)]
 
-pub mod closing;
-pub mod content;
-pub mod driver;
-pub mod mode;
-pub mod names;
-pub mod output;
-pub mod reading;
-pub mod refusal;
-pub mod role;
-pub mod status;
+mod closing;
+mod content;
+mod driver;
+mod mode;
+mod names;
+mod output;
+mod reading;
+mod refusal;
+mod role;
+mod status;
 mod writing;
 
-pub use closing::put_out;
+pub use closing::{complain, put_out};
 pub use driver::drive;
 pub use mode::{Mode, Reader};
 pub use names::Names;

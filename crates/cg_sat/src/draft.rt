@@ -13,7 +13,7 @@ ghost use Rattle.cg_sat.specs.inner.Store.{live_of, given, IsWithout, Draft};
 use crate::clauses::Clauses;
 use cg_formula::{Clause, Formula, Lit};
 use cg_list::Seq;
-use cg_lrat::log::{Body, Log, Step};
+use cg_lrat::{Body, Log, Step};
 use std::alloc::{AllocError, Global};
 use std::marker::Model;
 

@@ -27,7 +27,7 @@ use crate::trail::{Entry, Trail};
 use crate::undo::cut_to;
 use crate::units::add_units;
 use cg_formula::{Formula, Lit};
-use cg_lrat::log::Log;
+use cg_lrat::Log;
 use std::alloc::{AllocError, Global};
 
 /// What a formula is found to be.

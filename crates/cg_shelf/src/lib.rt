@@ -7,17 +7,17 @@
 //!
 //! The modules, in the order in which data flows through them:
 //!
-//! - [`faults`]: the refusals of a call, and the records of a call that was made and of one that failed;
-//! - [`calls`]: the trait [`Shelf`];
-//! - [`mem_shelf`]: a shelf in memory that tells everything and fails where it is told to;
+//! - `faults`: the refusals of a call, and the records of a call that was made and of one that failed;
+//! - `calls`: the trait [`Shelf`];
+//! - `mem_shelf`: a shelf in memory that tells everything and fails where it is told to;
 //! - `transfer`: whole texts through readers and writers that give or take a part at a time;
-//! - [`dir_shelf`]: the trusted edge over real files, standard output and standard error.
+//! - `dir_shelf`: the trusted edge over real files, standard output and standard error.
 #![tactic(auto)]
 
-pub mod calls;
-pub mod dir_shelf;
-pub mod faults;
-pub mod mem_shelf;
+mod calls;
+mod dir_shelf;
+mod faults;
+mod mem_shelf;
 mod transfer;
 
 pub use calls::Shelf;

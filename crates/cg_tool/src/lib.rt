@@ -5,14 +5,14 @@
 //!
 //! The modules, in the order in which data flows through them:
 //!
-//! - [`watching`]: the watchers, of which the words may ask for one;
-//! - [`modes`]: `gate`, `sim`, `lrat` and `demo`, each from its files, of which `demo` has none, to what is to be put out;
-//! - [`top`]: the top call, [`run`].
+//! - `watching`: the watchers, of which the words may ask for one;
+//! - `modes`: `gate`, `sim`, `lrat` and `demo`, each from its files, of which `demo` has none, to what is to be put out;
+//! - `top`: the top call, [`run`].
 #![tactic(auto)]
 
-pub mod modes;
-pub mod top;
-pub mod watching;
+mod modes;
+mod top;
+mod watching;
 
 pub use cg_run::Status;
 pub use top::run;

@@ -8,9 +8,7 @@ ghost use Rattle.cg_unroll.specs.declared.claim.ClaimFault.TheVariants.{NoMemory
 ghost use Rattle.cg_unroll.specs.inner.Faults.{fault_of};
 
 use crate::unroller::Unroller;
-use cg_aig::fault::AigFault;
-use cg_aig::list::Aig;
-use cg_aig::lit::AigLit;
+use cg_aig::{Aig, AigFault, AigLit};
 use cg_claim::leaf::Leaf;
 use cg_claim::name::ClaimName;
 use cg_limit::Limit;

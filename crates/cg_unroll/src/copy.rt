@@ -8,9 +8,7 @@ ghost use Rattle.cg_unroll.specs.inner.Placing.{IsLiteralTable};
 use crate::edge::put_registers;
 use crate::lay::lay_cells;
 use crate::literals::Literals;
-use cg_aig::fault::AigFault;
-use cg_aig::list::Aig;
-use cg_aig::lit::AigLit;
+use cg_aig::{Aig, AigFault, AigLit};
 use cg_cone::cone::Cone;
 use cg_machine::machine::Machine;
 

@@ -8,8 +8,7 @@ ghost use Rattle.cg_cell.specs.Domain.{AreValid};
 ghost use Rattle.cg_unroll.specs.inner.Filling.{AgreesAt, AgreesWith, AgreesWithAll, IsValid, Puts, nets_shown};
 
 use crate::literals::Literals;
-use cg_aig::fault::AigFault;
-use cg_aig::lit::AigLit;
+use cg_aig::{AigFault, AigLit};
 use cg_machine::machine::Machine;
 use cg_net::id::{NetId, RegId};
 

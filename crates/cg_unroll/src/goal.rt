@@ -13,9 +13,7 @@ ghost use Rattle.cg_unroll.specs.inner.Copying.{AreTables, IsCopy, copies_of, si
 use crate::literals::Literals;
 use crate::next::next_literal;
 use crate::tables::{CopyTables, Tables};
-use cg_aig::fault::AigFault;
-use cg_aig::list::Aig;
-use cg_aig::lit::AigLit;
+use cg_aig::{Aig, AigFault, AigLit};
 use cg_machine::machine::Machine;
 use cg_machine::stage::NetLit;
 use cg_reach::asked::{Asked, Part, Side};

@@ -16,9 +16,7 @@ ghost use Rattle.cg_claim.specs.Build.{aig_values, function_term, lay};
 ghost use Rattle.cg_unroll.specs.inner.Building.{Built, LaysCells, MayFail, table_of};
 
 use crate::literals::Literals;
-use cg_aig::fault::AigFault;
-use cg_aig::list::Aig;
-use cg_aig::lit::AigLit;
+use cg_aig::{Aig, AigFault, AigLit};
 use cg_cell::fit::FitKind;
 use cg_machine::machine::Machine;
 use cg_net::id::{CellId, NetId};

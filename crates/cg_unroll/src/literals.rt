@@ -4,8 +4,7 @@ ghost use Rattle.std.specs.Prelude.{◌≡◌, ◌<◌, ◌≤◌, [], length, s
 ghost use Rattle.cg_aig.specs.declared.fault.AigFault.TheVariants.{NoMemory};
 ghost use Rattle.cg_unroll.specs.inner.Sparse.{AreZero};
 
-use cg_aig::fault::AigFault;
-use cg_aig::lit::AigLit;
+use cg_aig::{AigFault, AigLit};
 use std::alloc::Global;
 use std::marker::Model;
 

@@ -16,9 +16,7 @@ ghost use Rattle.cg_unroll.specs.inner.Building.{Built, MayFail};
 
 use crate::lay::read_literals;
 use crate::literals::Literals;
-use cg_aig::fault::AigFault;
-use cg_aig::list::Aig;
-use cg_aig::lit::AigLit;
+use cg_aig::{Aig, AigFault, AigLit};
 use cg_cell::cell::CellType;
 use cg_machine::machine::Machine;
 use cg_net::id::RegId;

@@ -12,9 +12,7 @@ ghost use Rattle.cg_unroll.specs.inner.States.{Carries, LaysStates, TellsFollows
 
 use crate::literals::Literals;
 use crate::next::{loaded_literal, next_literal};
-use cg_aig::fault::AigFault;
-use cg_aig::list::Aig;
-use cg_aig::lit::AigLit;
+use cg_aig::{Aig, AigFault, AigLit};
 use cg_machine::machine::Machine;
 use cg_net::id::RegId;
 

@@ -6,9 +6,7 @@ ghost use Rattle.cg_unroll.specs.inner.Copying.{AreLeavesPlaced, Starts, copy_ta
 ghost use Rattle.cg_unroll.specs.inner.Placing.{ArePlaced, HoldsLeaves, place_in, source_place};
 
 use crate::literals::Literals;
-use cg_aig::fault::AigFault;
-use cg_aig::list::Aig;
-use cg_aig::lit::AigLit;
+use cg_aig::{Aig, AigFault, AigLit};
 use cg_claim::leaf::{Leaf, LeafSource};
 use cg_machine::machine::Machine;
 use cg_reach::asked::Frame;

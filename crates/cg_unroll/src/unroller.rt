@@ -9,8 +9,7 @@ ghost use Rattle.cg_reach.specs.Reached.{IsReached};
 
 use crate::build::Builder;
 use crate::claim::{Claim, ClaimFault};
-use cg_aig::list::Aig;
-use cg_aig::lit::AigLit;
+use cg_aig::{Aig, AigLit};
 use cg_claim::leaf::Leaf;
 use cg_claim::name::ClaimName;
 use cg_list::Seq;

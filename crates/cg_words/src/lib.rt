@@ -7,14 +7,14 @@
 //!
 //! - `command`: the one command that all words are read as;
 //! - `values`: the values of its options;
-//! - [`options`]: what they say;
-//! - [`job`]: what is to be done.
+//! - `options`: what they say;
+//! - `job`: what is to be done.
 #![tactic(auto)]
 
 mod command;
-pub mod job;
-pub mod options;
+mod job;
+mod options;
 mod values;
 
 pub use job::{Job, Mode, read_words};
-pub use options::{Asked, Options};
+pub use options::{Asked, Options, no_options};

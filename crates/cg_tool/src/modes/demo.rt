@@ -29,7 +29,7 @@ use cg_planner::progress::Progress;
 use cg_run::{Finish, Names, Output, Reader, Refusal, Role, Status, Trouble, collect, put_out};
 use cg_shelf::Shelf;
 use cg_stimulus::stimulus::Stimulus;
-use cg_words::options::no_options;
+use cg_words::no_options;
 use std::alloc::{AllocError, Global};
 
 /// The size of the pipeline that is to be gated.

@@ -11,10 +11,7 @@ ghost use Rattle.cg_tool.specs.Lrat.{log_of, lrat_gives, lrat_start, lrat_stops,
 
 use cg_formula::{DimacsFault, Formula, read_dimacs};
 use cg_list::Seq;
-use cg_lrat::checker::Checker;
-use cg_lrat::log::Log;
-use cg_lrat::lrat::{LratFault, read_lrat};
-use cg_lrat::verdict::{Verdict, Why};
+use cg_lrat::{Checker, Log, LratFault, Verdict, Why, read_lrat};
 use cg_run::{Content, Finish, Mode, Names, Output, Owner, Reader, Role, Status, Trouble, drive};
 use cg_shelf::Shelf;
 use cg_text::number::push_number;

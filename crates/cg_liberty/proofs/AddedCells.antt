@@ -10,13 +10,13 @@ use Rattle.cg_cell.specs.Cell.{CellData}
 use Rattle.cg_cell.specs.Library.{find_cell, names_of}
 use Rattle.cg_cell.specs.Name.{are_distinct, is_name}
 use Rattle.cg_limit.specs.declared.Limit.TheVariants as limits
+use Rattle.cg_liberty_group.specs.declared.group.CellGroup.{CellGroup}
 use Rattle.cg_liberty.specs.Kinds.{cell_of}
 use Rattle.cg_liberty.specs.LibText.{Describe, named_groups}
 use Rattle.cg_liberty.specs.Library.{all_added, then_add, with_cell}
 use Rattle.cg_liberty.specs.declared.fault.CellFault.{CellFault}
 use Rattle.cg_liberty.specs.declared.fault.LibertyFault.{LibertyFault}
 use Rattle.cg_liberty.specs.declared.fault.LibertyFault.TheVariants as faults
-use Rattle.cg_liberty.specs.declared.group.CellGroup.{CellGroup}
 use Rattle.cg_cell.proofs.DistinctCells.{distinct_before, distinct_push, find_some}
 use Rattle.cg_liberty.proofs.NamedCells.{cell_name}
 

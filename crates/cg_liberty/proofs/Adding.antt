@@ -3,11 +3,11 @@ use Rattle.std.proofs.Common.{◌≡◌, List, [], ◌∷◌, Result, Ok, Err, i
 use Rattle.cg_limit.specs.Answers.{OrNoMemory}
 use Rattle.cg_cell.specs.Cell.{CellData}
 use Rattle.cg_cell.specs.declared.library.Library.{Library}
+use Rattle.cg_liberty_group.specs.declared.group.CellGroup.{CellGroup}
 use Rattle.cg_liberty.specs.Library.{added, all_added, then_add}
 use Rattle.cg_liberty.specs.inner.Adding.{Adds, Remains}
 use Rattle.cg_liberty.specs.declared.fault.LibertyFault.{LibertyFault}
 use Rattle.cg_liberty.specs.declared.fault.LibertyFault.TheVariants as faults
-use Rattle.cg_liberty.specs.declared.group.CellGroup.{CellGroup}
 
 from_added : (after : Result Library LibertyFault) (step whole : Result (List CellData) LibertyFault) (groups : List CellGroup) → OrNoMemory faults.NoMemory (λ (l : Library). l) after step → whole ≡ then_add step (λ next. all_added next groups) → Remains after groups whole
 from_added (Ok library) step whole groups stands is = is ∙ ap (λ (r : Result (List CellData) LibertyFault). then_add r (λ next. all_added next groups)) stands

@@ -8,13 +8,13 @@ use Rattle.std.proofs.lemmas.Slice.Eq.{bytes_eq-Decides}
 use Rattle.cg_cell.specs.Cell.{CellData}
 use Rattle.cg_cell.specs.Name.{are_distinct, is_name}
 use Rattle.cg_cell.specs.Term.{Term}
+use Rattle.cg_liberty_group.specs.Group.{is_there, text_of}
+use Rattle.cg_liberty_group.specs.declared.group.FlopGroup.{FlopGroup}
 use Rattle.cg_liberty.specs.inner.Checked.{faults_of, flop_checked, outputs_checked}
-use Rattle.cg_liberty.specs.Kinds.{all_known, flop_cell, flop_of, input_names, inverses_read, is_inverse, is_plain_flop, own_state}
+use Rattle.cg_liberty.specs.Kinds.{all_known, flop_cell, flop_of, input_names, inverses_read, is_inverse, is_plain_flop}
 use Rattle.cg_liberty.specs.Kinds.{output_texts, state_names, unusable}
-use Rattle.cg_liberty.specs.Port.{is_there, text_of}
 use Rattle.cg_liberty.specs.Reading.{reading, then_read}
 use Rattle.cg_liberty.specs.declared.fault.CellFault.{CellFault}
-use Rattle.cg_liberty.specs.declared.group.FlopGroup.{FlopGroup}
 use Rattle.cg_liberty.specs.declared.port.Port.{Port}
 
 -- a word is among the arguments that are names where it is a name and among the arguments

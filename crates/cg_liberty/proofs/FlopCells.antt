@@ -10,13 +10,14 @@ use Rattle.cg_cell.specs.Term.{Term, Bit, Input, Inverse, Both, Either, Differ, 
 use Rattle.cg_cell.specs.declared.cell.CellKind.TheVariants as kinds
 use Rattle.cg_cell.specs.declared.cell.Role.{Role}
 use Rattle.cg_cell.specs.declared.cell.Role.TheVariants as roles
+use Rattle.cg_liberty_group.specs.Group.{text_of}
+use Rattle.cg_liberty_group.specs.declared.group.FlopGroup.{FlopGroup}
 use Rattle.cg_liberty.specs.Kinds.{all_known, are_flop_pins, flop_cell, flop_of, flop_pins, input_names, inverses_read, is_plain_flop}
 use Rattle.cg_liberty.specs.Kinds.{output_role, output_texts, rest_of, restated, state_names}
-use Rattle.cg_liberty.specs.Port.{ArePorts, text_of}
+use Rattle.cg_liberty.specs.Port.{ArePorts}
 use Rattle.cg_liberty.specs.Reading.{reading, then_read}
 use Rattle.cg_liberty.specs.inner.Parts.{Parts, parts_read}
 use Rattle.cg_liberty.specs.declared.fault.CellFault.{CellFault}
-use Rattle.cg_liberty.specs.declared.group.FlopGroup.{FlopGroup}
 use Rattle.cg_liberty.specs.declared.port.Port.{Port}
 use Rattle.cg_liberty.proofs.Counts.{count_by-cons}
 use Rattle.cg_liberty.proofs.Restated.{restated_within}

@@ -1,4 +1,3 @@
-pub mod FewPins
 pub mod Inside
 pub mod SoundPorts
 pub mod PortFacts

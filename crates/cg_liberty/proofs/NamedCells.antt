@@ -4,15 +4,16 @@ use Rattle.std.proofs.Common.{subst}
 use Rattle.cg_cell.specs.Cell.{CellData}
 use Rattle.cg_cell.specs.Term.{Term}
 use Rattle.cg_cell.specs.Pins.{PinData}
+use Rattle.cg_liberty_group.specs.Group.{is_there, text_of}
+use Rattle.cg_liberty_group.specs.declared.group.CellGroup.{CellGroup}
+use Rattle.cg_liberty_group.specs.declared.group.Flops.{Flops}
+use Rattle.cg_liberty_group.specs.declared.group.Flops.TheVariants.{Absent, One, Several}
 use Rattle.cg_liberty.specs.Kinds.{all_known, cell_by_flops, cell_of, cell_with_ports, flop_clocked, flop_of, gater_pins}
 use Rattle.cg_liberty.specs.Kinds.{gater_with, gating_cell, input_names, inverses_read, is_plain_flop, logic_of, output_texts}
 use Rattle.cg_liberty.specs.Kinds.{state_names, unusable}
-use Rattle.cg_liberty.specs.Port.{is_there, ports_of, text_of}
+use Rattle.cg_liberty.specs.Port.{ports_of}
 use Rattle.cg_liberty.specs.Reading.{reading, readings, then_read}
 use Rattle.cg_liberty.specs.declared.fault.CellFault.{CellFault}
-use Rattle.cg_liberty.specs.declared.group.CellGroup.{CellGroup}
-use Rattle.cg_liberty.specs.declared.group.Flops.{Flops}
-use Rattle.cg_liberty.specs.declared.group.Flops.TheVariants.{Absent, One, Several}
 use Rattle.cg_liberty.specs.declared.port.Port.{Port}
 
 -- a cell that was made has the name

@@ -5,9 +5,9 @@ use Rattle.std.specs.List.{AllByRecursion}
 use Rattle.std.specs.Option.{option_map}
 use Rattle.std.proofs.lemmas.Bool.Decides.{nat_tests}
 use Rattle.cg_cell.specs.Name.{are_distinct, has_no_equals, is_name}
+use Rattle.cg_liberty_group.specs.declared.group.CellGroup.{CellGroup}
+use Rattle.cg_liberty_group.specs.declared.pin_text.PinText.{PinText}
 use Rattle.cg_liberty.specs.Port.{ArePorts, fit_together, is_sound, ports_among, ports_of, ports_that_fit, sound_ports}
-use Rattle.cg_liberty.specs.declared.group.CellGroup.{CellGroup}
-use Rattle.cg_liberty.specs.declared.port.PinText.{PinText}
 use Rattle.cg_liberty.specs.declared.port.Port.{Port}
 
 -- each port has a name that a word `pin=net` can give

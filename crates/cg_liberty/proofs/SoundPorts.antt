@@ -1,8 +1,8 @@
 -- Ports that are found one by one.
 use Rattle.std.proofs.Common.{◌≡◌, Bool, true, false, cond, List, [], ◌∷◌, ◌++◌, Option, None, Some, refl, sym, ap, append_assoc}
+use Rattle.cg_liberty_group.specs.declared.pin_text.PinText.{PinText}
 use Rattle.cg_liberty.specs.Port.{is_sound, sound_ports}
 use Rattle.std.specs.Option.{option_map}
-use Rattle.cg_liberty.specs.declared.port.PinText.{PinText}
 use Rattle.cg_liberty.specs.declared.port.Port.{Port}
 
 -- ports before others, where these are sound

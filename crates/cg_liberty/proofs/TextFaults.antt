@@ -26,12 +26,12 @@ use Rattle.cg_liberty_text.specs.declared.statement.Statement.{Statement}
 use Rattle.cg_liberty_text.specs.declared.token.Token.{Token}
 use Rattle.cg_liberty_text.proofs.ReadIsSpelled.{Fine}
 use Rattle.cg_liberty_text.proofs.SpelledIsRead.{is_misplaced}
+use Rattle.cg_liberty_group.specs.declared.group.CellGroup.{CellGroup}
 use Rattle.cg_liberty.specs.FirstFault.{CanGoOn, FailsBy, IsFirstLibertyFault, IsTold, NoneBegins}
 use Rattle.cg_liberty.specs.Kinds.{cell_of}
 use Rattle.cg_liberty.specs.Library.{added, all_added, by_fault, cell_groups, library_of, text_refusal, then_add, with_cell}
 use Rattle.cg_liberty.specs.declared.fault.CellFault.{CellFault}
 use Rattle.cg_liberty.specs.declared.fault.CellFault.TheVariants as cells
-use Rattle.cg_liberty.specs.declared.group.CellGroup.{CellGroup}
 use Rattle.cg_liberty.specs.declared.fault.LibertyFault.{LibertyFault}
 use Rattle.cg_liberty.specs.declared.fault.LibertyFault.TheVariants as faults
 use Rattle.cg_liberty.proofs.Completing.{Completes, IsInside, completed}

@@ -8,13 +8,14 @@ use Rattle.cg_cell.specs.Term.{Term, Bit, Input, Inverse, Both, Either, Differ, 
 use Rattle.cg_cell.specs.declared.cell.CellKind.TheVariants as kinds
 use Rattle.cg_cell.specs.declared.cell.Role.{Role}
 use Rattle.cg_cell.specs.declared.cell.Role.TheVariants as roles
-use Rattle.cg_liberty.specs.Port.{is_there, ports_of, states, text_of}
+use Rattle.cg_liberty_group.specs.Group.{is_there, states, text_of}
+use Rattle.cg_liberty_group.specs.declared.group.CellGroup.{CellGroup}
+use Rattle.cg_liberty_group.specs.declared.group.FlopGroup.{FlopGroup}
+use Rattle.cg_liberty_group.specs.declared.group.Flops.{Flops}
+use Rattle.cg_liberty_group.specs.declared.group.Flops.TheVariants.{Absent, One, Several}
+use Rattle.cg_liberty.specs.Port.{ports_of}
 use Rattle.cg_liberty.specs.Reading.{reading, readings, then_read}
 use Rattle.cg_liberty.specs.declared.fault.CellFault.{CellFault}
-use Rattle.cg_liberty.specs.declared.group.CellGroup.{CellGroup}
-use Rattle.cg_liberty.specs.declared.group.FlopGroup.{FlopGroup}
-use Rattle.cg_liberty.specs.declared.group.Flops.{Flops}
-use Rattle.cg_liberty.specs.declared.group.Flops.TheVariants.{Absent, One, Several}
 use Rattle.cg_liberty.specs.declared.port.Port.{Port}
 
 -- a cell that is known by name alone

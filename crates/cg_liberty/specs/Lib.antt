@@ -1,5 +1,3 @@
-pub mod Group
-pub mod Cell
 pub mod Port
 pub mod Reading
 pub mod Kinds

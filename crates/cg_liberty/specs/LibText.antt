@@ -6,10 +6,10 @@ use Rattle.cg_cell.specs.Cell.{CellData}
 use Rattle.cg_cell.specs.Library.{names_of}
 use Rattle.cg_cell.specs.Name.{are_distinct, is_name}
 use Rattle.cg_liberty_text.specs.Grammar.{SpellsLibrary}
+use Rattle.cg_liberty_group.specs.declared.group.CellGroup.{CellGroup}
 use Rattle.cg_liberty.specs.Kinds.{cell_of}
 use Rattle.cg_liberty.specs.Library.{cell_groups}
 use Rattle.cg_liberty_text.specs.Token.{tokens}
-use Rattle.cg_liberty.specs.declared.group.CellGroup.{CellGroup}
 use Rattle.cg_liberty_text.specs.declared.statement.Statement.{Statement}
 
 -- the groups whose argument is a name

@@ -1,13 +1,15 @@
 -- The library that a text stands for, or its first fault.
-use Rattle.std.specs.Prelude.{ℕ, nat_le, cond, not, List, [], ◌∷◌, ◌++◌, length, Option, None, Some, Result, Ok, Err}
+use Rattle.std.specs.Prelude.{ℕ, zero, suc, nat_le, cond, not, List, [], ◌∷◌, ◌++◌, length, codes, Option, None, Some, Result, Ok}
+use Rattle.std.specs.Prelude.{Err}
 use Rattle.std.specs.Option.{is_some}
+use Rattle.std.specs.Str.{bytes_eq}
 use Rattle.cg_limit.specs.declared.TheConstants.{MOST_LIBRARY_CELLS}
 use Rattle.cg_cell.specs.Cell.{CellData}
 use Rattle.cg_cell.specs.Library.{find_cell}
 use Rattle.cg_cell.specs.Name.{is_name}
 use Rattle.cg_limit.specs.declared.Limit.TheVariants as limits
-use Rattle.cg_cell.specs.declared.library.Library.{Library}
-use Rattle.cg_liberty.specs.Cell.{cells_from}
+use Rattle.cg_liberty_group.specs.Cell.{cell_from, new_cell}
+use Rattle.cg_liberty_group.specs.declared.group.CellGroup.{CellGroup}
 use Rattle.cg_liberty.specs.Kinds.{cell_of}
 use Rattle.cg_liberty_text.specs.Statement.{statements}
 use Rattle.cg_liberty_text.specs.Statement.Phase.{Start}
@@ -16,7 +18,6 @@ use Rattle.cg_liberty.specs.declared.fault.CellFault.{CellFault}
 use Rattle.cg_liberty.specs.declared.fault.CellFault.TheVariants as cells
 use Rattle.cg_liberty_text.specs.declared.fault.TextFault.{TextFault}
 use Rattle.cg_liberty_text.specs.declared.fault.TextFault.TheVariants as texts
-use Rattle.cg_liberty.specs.declared.group.CellGroup.{CellGroup}
 use Rattle.cg_liberty.specs.declared.fault.LibertyFault.{LibertyFault}
 use Rattle.cg_liberty.specs.declared.fault.LibertyFault.TheVariants as faults
 use Rattle.cg_liberty_text.specs.declared.statement.Statement.{Statement}
@@ -57,6 +58,21 @@ then_add (Err fault) later = Err fault
 abbrev pub all_added : List CellData → List CellGroup → Result (List CellData) LibertyFault
 all_added library [] = Ok library
 all_added library (group ∷ groups) = then_add (added library group) (λ next. all_added next groups)
+
+-- the first of the arguments, or nothing
+abbrev pub first_text : List (List ℕ) → List ℕ
+first_text [] = []
+first_text (text ∷ more) = text
+
+-- the cells of a library whose statements go on here inside so many further groups
+abbrev pub cells_from : ℕ → List Statement → List CellGroup
+cells_from inside [] = []
+cells_from zero (Open word texts ∷ after) =
+    cond (bytes_eq word (codes "cell")) (cell_from 0 (new_cell (first_text texts)) after ∷ cells_from 1 after) (cells_from 1 after)
+cells_from (suc inside) (Open word texts ∷ after) = cells_from (suc (suc inside)) after
+cells_from zero (Close ∷ after) = []
+cells_from (suc inside) (Close ∷ after) = cells_from inside after
+cells_from inside (Attribute word text ∷ after) = cells_from inside after
 
 -- the cells that stand directly in the library's group
 abbrev pub cell_groups : List Statement → List CellGroup

@@ -4,41 +4,10 @@ ghost use Rattle.std.specs.Prelude.{◌≡◌};
 ghost use Rattle.cg_liberty.specs.Library.{text_refusal};
 
 use cg_cell::name::Name;
+use cg_liberty_group::fault::ReadFault;
 use cg_liberty_text::fault::TextFault;
 use cg_limit::Limit;
 use std::alloc::{AllocError, AllocFailed};
-
-/// Why the reading of a group was given up.
-#[derive(Clone, Copy)]
-pub enum ReadFault {
-    /// The text has a fault.
-    Text(TextFault),
-
-    /// There was not enough memory.
-    NoMemory,
-}
-
-impl From<TextFault> for ReadFault {
-    ghost use Rattle.std.specs.Prelude.{◌≡◌};
-    ghost use Rattle.cg_liberty.specs.declared.fault.ReadFault.TheVariants as reads;
-
-    ghost from_gives = { λ fault read. read ≡ reads.Text fault };
-
-    fn from(fault: TextFault) -> ReadFault {
-        ReadFault::Text(fault)
-    }
-}
-
-impl From<AllocError> for ReadFault {
-    ghost use Rattle.std.specs.Prelude.{◌≡◌};
-    ghost use Rattle.cg_liberty.specs.declared.fault.ReadFault.TheVariants as reads;
-
-    ghost from_gives = { λ _ read. read ≡ reads.NoMemory };
-
-    fn from(_cause: AllocError) -> ReadFault {
-        ReadFault::NoMemory
-    }
-}
 
 /// Why a cell is refused.
 #[derive(Clone, Copy)]

@@ -10,11 +10,11 @@ ghost use Rattle.cg_liberty.specs.Port.{ArePorts};
 use crate::fault::CellFault;
 use crate::flop::flop_cell_of;
 use crate::gater::gater_cell_of;
-use crate::group::{CellGroup, Flops};
 use crate::logic::{logic_cell_of, unusable_cell};
 use crate::port::{Port, ports_of_cell};
 use cg_cell::cell::CellType;
 use cg_cell::name::Name;
+use cg_liberty_group::group::{CellGroup, Flops};
 use std::alloc::{AllocError, Global};
 
 /// The cell of these pins whose attribute says which gating cell it is.

@@ -4,9 +4,9 @@
 //! or the first fault of the text with its place. Groups and attributes that no rule here names are
 //! passed over and cost no memory.
 //!
-//! The text is cut into statements by `cg_liberty_text`. In the order in which data flows through them:
+//! The text is cut into statements by `cg_liberty_text`, and what its `cell` groups say is read by `cg_liberty_group`.
+//! In the order in which data flows through them:
 //!
-//! - `group`, `groups`: what is looked at of a cell and of the groups in it, and how these are read;
 //! - `port`: the pins of a cell;
 //! - `expression`: the expressions of a cell;
 //! - `logic`, `gater`, `flop`: cells of each kind, with `restate` for the function of a register
@@ -22,8 +22,6 @@ mod expression;
 pub mod fault;
 mod flop;
 mod gater;
-mod group;
-mod groups;
 mod kind;
 pub mod library;
 mod logic;

@@ -3,10 +3,10 @@ use Rattle.std.specs.Prelude.{◌≡◌, ◌⊎◌, List, Result, Ok, Err}
 use Rattle.cg_limit.specs.Answers.{OrNoMemory}
 use Rattle.cg_cell.specs.Cell.{CellData}
 use Rattle.cg_cell.specs.declared.library.Library.{Library}
+use Rattle.cg_liberty_group.specs.declared.group.CellGroup.{CellGroup}
 use Rattle.cg_liberty.specs.Library.{added, all_added}
 use Rattle.cg_liberty.specs.declared.fault.LibertyFault.{LibertyFault}
 use Rattle.cg_liberty.specs.declared.fault.LibertyFault.TheVariants as faults
-use Rattle.cg_liberty.specs.declared.group.CellGroup.{CellGroup}
 
 -- a refusal stays, and memory may be wanting; else the cells of the groups are still to be added
 abbrev pub Remains : Result Library LibertyFault → List CellGroup → Result (List CellData) LibertyFault → Type 0

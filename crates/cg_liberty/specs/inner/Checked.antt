@@ -1,10 +1,10 @@
 -- The faults of a register's expressions, without what they stand for.
 use Rattle.std.specs.Prelude.{List, [], ◌∷◌, ◌++◌, ℕ, Option, Result, Ok, Err}
+use Rattle.cg_liberty_group.specs.Group.{text_of}
+use Rattle.cg_liberty_group.specs.declared.group.FlopGroup.{FlopGroup}
 use Rattle.cg_liberty.specs.Kinds.{state_names}
-use Rattle.cg_liberty.specs.Port.{text_of}
 use Rattle.cg_liberty.specs.Reading.{reading, then_read}
 use Rattle.cg_liberty.specs.declared.fault.CellFault.{CellFault}
-use Rattle.cg_liberty.specs.declared.group.FlopGroup.{FlopGroup}
 
 -- the fault of what was read, where it has one
 abbrev pub faults_of : {A : Type 0} → Result A CellFault → Result (Unit {0}) CellFault

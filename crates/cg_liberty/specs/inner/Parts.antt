@@ -3,12 +3,12 @@ use Rattle.std.specs.Prelude.{Bool, List, ◌++◌, ℕ, Option, Result, Ok}
 use Rattle.std.specs.Option.{option_map}
 use Rattle.cg_cell.specs.Expr.{term_of}
 use Rattle.cg_cell.specs.Term.{Term}
+use Rattle.cg_liberty_group.specs.Group.{text_of}
+use Rattle.cg_liberty_group.specs.declared.group.FlopGroup.{FlopGroup}
 use Rattle.cg_liberty.specs.Kinds.{all_known, inverses_read, state_names}
-use Rattle.cg_liberty.specs.Port.{text_of}
 use Rattle.cg_liberty.specs.Reading.{reading, then_read}
 use Rattle.cg_liberty.specs.declared.fault.CellFault.{CellFault}
 use Rattle.cg_liberty.specs.declared.flop.FlopParts.{FlopParts}
-use Rattle.cg_liberty.specs.declared.group.FlopGroup.{FlopGroup}
 
 -- the next state, the clock, and of each output whether it gives the inverse, where each gives the state or the inverse
 pub record Parts : Type 0 where

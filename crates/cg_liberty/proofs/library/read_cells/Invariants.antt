@@ -1,5 +1,5 @@
 use Rattle.std.proofs.Common.{◌≡◌, [], length}
-use Rattle.cg_liberty.specs.Cell.{cells_from}
+use Rattle.cg_liberty.specs.Library.{cells_from}
 use Rattle.cg_liberty.specs.Library.{all_added}
 use Rattle.cg_liberty.specs.inner.Adding.{Remains}
 use Rattle.cg_liberty.proofs.library.read_cells.Given as goal

@@ -1,8 +1,8 @@
 //! The groups of a cell, read statement by statement.
 
 ghost use Rattle.std.specs.Prelude.{◌≡◌, ◌≤◌, length, Some, MatchResult, OnOk};
-ghost use Rattle.cg_liberty.specs.Cell.{GivesUp, cell_from, cell_with_flop, cell_with_group, cell_with_pin, new_cell};
-ghost use Rattle.cg_liberty.specs.Group.{IsLeft, flop_from, new_flop, new_pin, pin_from};
+ghost use Rattle.cg_liberty_group.specs.Cell.{GivesUp, cell_from, cell_with_flop, cell_with_group, cell_with_pin, new_cell};
+ghost use Rattle.cg_liberty_group.specs.Group.{IsLeft, flop_from, new_flop, new_pin, pin_from};
 
 use crate::fault::ReadFault;
 use crate::group::{CellGroup, FlopGroup, PinGroup};
@@ -14,6 +14,8 @@ use cg_liberty_text::text::Text;
 use std::alloc::Global;
 
 /// Passes over the rest of a group, with its `}`. It calls itself no deeper than groups nest.
+///
+/// Errs with the fault of the text, where that stands in what is passed over.
 #[tactic(auto, using(crate::proofs::Inside::behind_inside))]
 pub fn pass_group(statements: &mut Statements<'_>) -> Result<(), TextFault>
     ensures left { MatchResult result (λ _. IsLeft statements.old statements.new) (λ fault. statements.old.1 ≡ Some fault) }
@@ -136,7 +138,10 @@ fn fill_cell<'a>(statements: &mut Statements<'a>, cell: &mut CellGroup<'a>) -> R
     Ok(())
 }
 
-/// Reads the rest of a `cell` group.
+/// Reads the rest of a `cell` group of this name, with its `}`.
+///
+/// Errs with the fault of the text, where that stands in the group, and where there is not enough memory. That there are
+/// more pins than a usable cell has, or several `ff` groups, is no fault.
 pub fn read_cell<'a>(
     alloc: Global,
     statements: &mut Statements<'a>,

@@ -1,18 +1,18 @@
--- The cells of a library text.
+-- The `cell` groups of a library text.
 use Rattle.std.specs.Prelude.{◌≡◌, ℕ, zero, suc, Bool, true, false, cond, ◌||◌, List, [], ◌∷◌, ◌++◌, codes, Option, None, Some}
 use Rattle.std.specs.Str.{bytes_eq}
-use Rattle.cg_liberty.specs.Group.{flop_from, new_flop, new_pin, pin_from, stated}
-use Rattle.cg_liberty.specs.Port.{few_pins, group_pins}
+use Rattle.cg_liberty_group.specs.Group.{flop_from, new_flop, new_pin, pin_from, stated}
+use Rattle.cg_liberty_group.specs.PinText.{few_pins, group_pins}
 use Rattle.cg_liberty_text.specs.Statement.{Read}
-use Rattle.cg_liberty.specs.declared.fault.ReadFault.{ReadFault}
-use Rattle.cg_liberty.specs.declared.fault.ReadFault.TheVariants as reads
-use Rattle.cg_liberty.specs.declared.group.CellGroup.{CellGroup}
-use Rattle.cg_liberty.specs.declared.group.FlopGroup.{FlopGroup}
-use Rattle.cg_liberty.specs.declared.group.Flops.{Flops}
-use Rattle.cg_liberty.specs.declared.group.Flops.TheVariants.{Absent, One, Several}
-use Rattle.cg_liberty.specs.declared.group.PinGroup.{PinGroup}
-use Rattle.cg_liberty.specs.declared.group.Stated.TheVariants.{Missing}
-use Rattle.cg_liberty.specs.declared.port.PinText.{PinText}
+use Rattle.cg_liberty_group.specs.declared.fault.ReadFault.{ReadFault}
+use Rattle.cg_liberty_group.specs.declared.fault.ReadFault.TheVariants as reads
+use Rattle.cg_liberty_group.specs.declared.group.CellGroup.{CellGroup}
+use Rattle.cg_liberty_group.specs.declared.group.FlopGroup.{FlopGroup}
+use Rattle.cg_liberty_group.specs.declared.group.Flops.{Flops}
+use Rattle.cg_liberty_group.specs.declared.group.Flops.TheVariants.{Absent, One, Several}
+use Rattle.cg_liberty_group.specs.declared.group.PinGroup.{PinGroup}
+use Rattle.cg_liberty_group.specs.declared.group.Stated.TheVariants.{Missing}
+use Rattle.cg_liberty_group.specs.declared.pin_text.PinText.{PinText}
 use Rattle.cg_liberty_text.specs.declared.statement.Statement.{Statement}
 use Rattle.cg_liberty_text.specs.declared.statement.Statement.TheVariants.{Open, Close, Attribute}
 
@@ -72,21 +72,6 @@ cell_from zero cell (Close ∷ after) = cell
 cell_from (suc inside) cell (Close ∷ after) = cell_from inside cell after
 cell_from zero cell (Attribute word text ∷ after) = cell_from 0 (cell_with cell word text) after
 cell_from (suc inside) cell (Attribute word text ∷ after) = cell_from (suc inside) cell after
-
--- the first of the arguments, or nothing
-abbrev pub first_text : List (List ℕ) → List ℕ
-first_text [] = []
-first_text (text ∷ more) = text
-
--- the cells of a library whose statements go on here inside so many further groups
-abbrev pub cells_from : ℕ → List Statement → List CellGroup
-cells_from inside [] = []
-cells_from zero (Open word texts ∷ after) =
-    cond (bytes_eq word (codes "cell")) (cell_from 0 (new_cell (first_text texts)) after ∷ cells_from 1 after) (cells_from 1 after)
-cells_from (suc inside) (Open word texts ∷ after) = cells_from (suc (suc inside)) after
-cells_from zero (Close ∷ after) = []
-cells_from (suc inside) (Close ∷ after) = cells_from inside after
-cells_from inside (Attribute word text ∷ after) = cells_from inside after
 
 -- a group is read up to a fault of the text, or until memory is wanting
 abbrev pub GivesUp : Read → ReadFault → Type 0

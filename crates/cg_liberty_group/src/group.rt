@@ -1,11 +1,11 @@
 //! What is looked at of a cell, and of the groups that stand in it.
 
 ghost use Rattle.std.specs.Prelude.{◌≡◌, OnOk};
-ghost use Rattle.cg_liberty.specs.Cell.{cell_with, cell_with_flop, cell_with_other, cell_with_pin, is_bank, is_bus, new_cell};
-ghost use Rattle.cg_liberty.specs.Cell.{with_flop};
-ghost use Rattle.cg_liberty.specs.Group.{flop_with, new_flop, new_pin, pin_with, stated};
+ghost use Rattle.cg_liberty_group.specs.Cell.{cell_with, cell_with_flop, cell_with_other, cell_with_pin, is_bank, is_bus, new_cell};
+ghost use Rattle.cg_liberty_group.specs.Cell.{with_flop};
+ghost use Rattle.cg_liberty_group.specs.Group.{flop_with, is_there, new_flop, new_pin, pin_with, stated, states, text_of};
 
-use crate::port::{PinText, add_pins};
+use crate::pin_text::{PinText, add_pins};
 use cg_liberty_text::argument::Arguments;
 use cg_liberty_text::text::Text;
 use cg_list::Seq;
@@ -26,12 +26,45 @@ pub enum Stated<'a> {
 
 impl<'a> Stated<'a> {
     /// What an attribute with this value states.
-    pub fn new(text: Option<Text<'a>>) -> Stated<'a>
+    pub(crate) fn new(text: Option<Text<'a>>) -> Stated<'a>
         ensures { result ≡ stated text.entry }
     {
         match text {
             Some(text) => Stated::Text(text),
             None => Stated::Bare,
+        }
+    }
+
+    /// Whether the attribute is there.
+    pub fn is_there(&self) -> bool
+        ensures { result ≡ is_there self.now }
+    {
+        match self {
+            Stated::Missing => false,
+            Stated::Bare => true,
+            Stated::Text(_) => true,
+        }
+    }
+
+    /// Whether the attribute has this text.
+    pub fn states(&self, word: &[u8]) -> bool
+        ensures { result ≡ states self.now word.now }
+    {
+        match self {
+            Stated::Missing => false,
+            Stated::Bare => false,
+            Stated::Text(text) => text.is(word),
+        }
+    }
+
+    /// The text of the attribute, where it has one.
+    pub fn text(&self) -> Option<Text<'a>>
+        ensures { result ≡ text_of self.now }
+    {
+        match self {
+            Stated::Missing => None,
+            Stated::Bare => None,
+            Stated::Text(text) => Some(text.again()),
         }
     }
 }
@@ -66,7 +99,7 @@ pub struct PinGroup<'a> {
 
 impl<'a> PinGroup<'a> {
     /// A group of which nothing is stated yet.
-    pub fn new(names: Arguments<'a>) -> PinGroup<'a>
+    pub(crate) fn new(names: Arguments<'a>) -> PinGroup<'a>
         ensures { result ≡ new_pin names.entry }
     {
         PinGroup {
@@ -82,7 +115,7 @@ impl<'a> PinGroup<'a> {
     }
 
     /// Takes note of an attribute; of two with one name the later one counts.
-    pub fn note(&mut self, word: &Text<'_>, text: Option<Text<'a>>)
+    pub(crate) fn note(&mut self, word: &Text<'_>, text: Option<Text<'a>>)
         ensures { self.new ≡ pin_with self.old word.now text.entry }
     {
         let stated = Stated::new(text);
@@ -128,7 +161,7 @@ pub struct FlopGroup<'a> {
 
 impl<'a> FlopGroup<'a> {
     /// A group of which nothing is stated yet.
-    pub fn new(names: Arguments<'a>) -> FlopGroup<'a>
+    pub(crate) fn new(names: Arguments<'a>) -> FlopGroup<'a>
         ensures { result ≡ new_flop names.entry }
     {
         FlopGroup {
@@ -142,7 +175,7 @@ impl<'a> FlopGroup<'a> {
     }
 
     /// Takes note of an attribute; of two with one name the later one counts.
-    pub fn note(&mut self, word: &Text<'_>, text: Option<Text<'a>>)
+    pub(crate) fn note(&mut self, word: &Text<'_>, text: Option<Text<'a>>)
         ensures { self.new ≡ flop_with self.old word.now text.entry }
     {
         let stated = Stated::new(text);
@@ -210,7 +243,7 @@ pub struct CellGroup<'a> {
 
 impl<'a> CellGroup<'a> {
     /// A cell of which nothing is stated yet.
-    pub fn new(alloc: Global, name: Text<'a>) -> CellGroup<'a>
+    pub(crate) fn new(alloc: Global, name: Text<'a>) -> CellGroup<'a>
         ensures { result ≡ new_cell name.entry }
     {
         CellGroup {
@@ -224,7 +257,7 @@ impl<'a> CellGroup<'a> {
     }
 
     /// Takes note of an attribute; of two with one name the later one counts.
-    pub fn note(&mut self, word: &Text<'_>, text: Option<Text<'a>>)
+    pub(crate) fn note(&mut self, word: &Text<'_>, text: Option<Text<'a>>)
         ensures { self.new ≡ cell_with self.old word.now text.entry }
     {
         if word.is(b"clock_gating_integrated_cell") {
@@ -233,7 +266,7 @@ impl<'a> CellGroup<'a> {
     }
 
     /// Takes note of the pins that a `pin` group describes.
-    pub fn note_pin(&mut self, pin: &PinGroup<'a>) -> Result<(), AllocError>
+    pub(crate) fn note_pin(&mut self, pin: &PinGroup<'a>) -> Result<(), AllocError>
         ensures { OnOk result (self.new ≡ cell_with_pin self.old pin.now) }
     {
         if let Some(pins) = &mut self.pins {
@@ -245,7 +278,7 @@ impl<'a> CellGroup<'a> {
     }
 
     /// Takes note of an `ff` group.
-    pub fn note_flop(&mut self, flop: FlopGroup<'a>)
+    pub(crate) fn note_flop(&mut self, flop: FlopGroup<'a>)
         ensures { self.new ≡ cell_with_flop self.old flop.entry }
     {
         let flops = std::mem::replace(&mut self.flops, Flops::Several);
@@ -253,7 +286,7 @@ impl<'a> CellGroup<'a> {
     }
 
     /// Takes note of a group that is neither a `pin` nor an `ff` group.
-    pub fn note_group(&mut self, word: &Text<'_>)
+    pub(crate) fn note_group(&mut self, word: &Text<'_>)
         ensures { self.new ≡ cell_with_other self.old word.now }
     {
         if is_bus_word(word) {

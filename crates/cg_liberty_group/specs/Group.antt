@@ -1,11 +1,11 @@
 -- Groups of a library text, from the statements behind their `{`.
-use Rattle.std.specs.Prelude.{◌≡◌, ℕ, zero, suc, cond, List, [], ◌∷◌, codes, Option, None, Some}
+use Rattle.std.specs.Prelude.{◌≡◌, ℕ, zero, suc, Bool, true, false, cond, List, [], ◌∷◌, codes, Option, None, Some}
 use Rattle.std.specs.Str.{bytes_eq}
 use Rattle.cg_liberty_text.specs.Statement.{Read}
-use Rattle.cg_liberty.specs.declared.group.FlopGroup.{FlopGroup}
-use Rattle.cg_liberty.specs.declared.group.PinGroup.{PinGroup}
-use Rattle.cg_liberty.specs.declared.group.Stated.{Stated}
-use Rattle.cg_liberty.specs.declared.group.Stated.TheVariants.{Missing, Bare, Text}
+use Rattle.cg_liberty_group.specs.declared.group.FlopGroup.{FlopGroup}
+use Rattle.cg_liberty_group.specs.declared.group.PinGroup.{PinGroup}
+use Rattle.cg_liberty_group.specs.declared.group.Stated.{Stated}
+use Rattle.cg_liberty_group.specs.declared.group.Stated.TheVariants.{Missing, Bare, Text}
 use Rattle.cg_liberty_text.specs.declared.statement.Statement.{Statement}
 use Rattle.cg_liberty_text.specs.declared.statement.Statement.TheVariants.{Open, Close, Attribute}
 
@@ -13,6 +13,22 @@ use Rattle.cg_liberty_text.specs.declared.statement.Statement.TheVariants.{Open,
 abbrev pub stated : Option (List ℕ) → Stated
 stated None = Bare
 stated (Some text) = Text text
+
+-- whether an attribute is there, and whether it has a text and which
+abbrev pub is_there : Stated → Bool
+is_there Missing = false
+is_there Bare = true
+is_there (Text text) = true
+
+abbrev pub states : Stated → List ℕ → Bool
+states Missing word = false
+states Bare word = false
+states (Text text) word = bytes_eq text word
+
+abbrev pub text_of : Stated → Option (List ℕ)
+text_of Missing = None
+text_of Bare = None
+text_of (Text text) = Some text
 
 -- the statements behind the `}` of the group whose statements go on here inside so many further groups
 abbrev pub behind : ℕ → List Statement → List Statement

@@ -1,8 +1,8 @@
 -- Pins that are too many.
 use Rattle.std.proofs.Common.{◌≡◌, ◌+◌, ◌≤◌, ℕ, nat_le, false, List, ◌∷◌, ◌++◌, length, None, refl, suc, arith, length-append}
 use Rattle.std.proofs.lemmas.Bool.Decides.{nat_tests}
-use Rattle.cg_liberty.specs.Port.{few_pins}
-use Rattle.cg_liberty.specs.declared.port.PinText.{PinText}
+use Rattle.cg_liberty_group.specs.PinText.{few_pins}
+use Rattle.cg_liberty_group.specs.declared.pin_text.PinText.{PinText}
 
 above : (n : ℕ) → 17 ≤ n → nat_le n 16 ≡ false
 above n h = grind (arith, nat_tests)

@@ -1,7 +1,7 @@
 use Rattle.std.proofs.Common.{◌≡◌, ◌≤◌, length}
-use Rattle.cg_liberty.specs.Cell.{cell_from}
-use Rattle.cg_liberty.specs.Group.{behind}
-use Rattle.cg_liberty.proofs.groups.fill_cell.Given as goal
+use Rattle.cg_liberty_group.specs.Cell.{cell_from}
+use Rattle.cg_liberty_group.specs.Group.{behind}
+use Rattle.cg_liberty_group.proofs.groups.fill_cell.Given as goal
 
 abbrev pub invariant-statements : goal.invariant-statements
 invariant-statements l = record {

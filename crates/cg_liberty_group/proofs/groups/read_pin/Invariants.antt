@@ -1,10 +1,10 @@
 use Rattle.std.proofs.Common.{◌≡◌, ◌≤◌, length}
-use Rattle.cg_liberty.specs.Group.{behind, flop_from}
-use Rattle.cg_liberty.proofs.groups.read_flop.Given as goal
+use Rattle.cg_liberty_group.specs.Group.{behind, pin_from}
+use Rattle.cg_liberty_group.proofs.groups.read_pin.Given as goal
 
 abbrev pub invariant-statements : goal.invariant-statements
 invariant-statements l = record {
-  flop : flop_from 0 l.fn.flop l.fn.statements.0 ≡ flop_from 0 l.flop l.statements.0;
+  pin : pin_from 0 l.fn.pin l.fn.statements.0 ≡ pin_from 0 l.pin l.statements.0;
   left : behind 0 l.fn.statements.0 ≡ behind 0 l.statements.0;
   fault : l.fn.statements.1 ≡ l.statements.1;
   shorter : length l.statements.0 ≤ length l.fn.statements.0;

@@ -1,0 +1,2 @@
+pub mod FewPins
+pub mod Inside

@@ -7,8 +7,8 @@ ghost use Rattle.cg_machine.specs.Machine.{IsNet};
 use crate::nets::net_named;
 use cg_cell::fit::FitKind;
 use cg_machine::machine::Machine;
-use cg_netlist::driver::Driver;
 use cg_net::id::NetId;
+use cg_netlist::driver::Driver;
 
 /// Plays the step that these words say, and answers the net that it adds, or finds again, if it adds one.
 pub fn step(machine: &mut Machine, words: &[&str]) -> Result<Option<NetId>, ()> {

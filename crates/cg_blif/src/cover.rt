@@ -176,8 +176,8 @@ fn place_of(byte: u8) -> Option<Option<bool>>
 fn read_places(word: &[u8], places: &mut Vec<Option<bool>>) -> Result<bool, AllocError>
     ensures { IfOk result
         (λ read. MatchBool read
-            ((row_places word.now ≡ Some places.new.items) × (length places.new.items ≡ length word.now))
-            (row_places word.now ≡ None)) }
+        ((row_places word.now ≡ Some places.new.items) × (length places.new.items ≡ length word.now))
+        (row_places word.now ≡ None)) }
 {
     places.clear();
     'places: for byte in word {

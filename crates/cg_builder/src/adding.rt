@@ -14,10 +14,10 @@ use crate::mention::{mention, mention_each, mention_given, put};
 use crate::open_register::OpenRegister;
 use cg_cell::cell::{CellType, Role};
 use cg_limit::{Limit, MOST_NETS, MOST_REGISTERS};
-use cg_netlist::fault::AddFault;
 use cg_net::id::NetId;
 use cg_net::names::NetNames;
 use cg_net::net_set::NetSet;
+use cg_netlist::fault::AddFault;
 use cg_netlist::parts::{Gater, Logic, LogicFunction, RegisterKind};
 use std::alloc::{AllocError, Global};
 

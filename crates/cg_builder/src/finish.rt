@@ -23,8 +23,8 @@ use crate::marks::{
 use crate::order::in_net_order;
 use crate::told::{Told, chain_cells, clock_roots, gated_marks, order, uses};
 use cg_cell::name::Name;
-use cg_netlist::cycles::{cell_ranks, unranked_marks};
 use cg_net::id::NetId;
+use cg_netlist::cycles::{cell_ranks, unranked_marks};
 use cg_netlist::netlist::Netlist;
 use cg_parts::fault::NetFault;
 use std::alloc::{AllocError, Global};

@@ -7,9 +7,9 @@ ghost use Rattle.cg_builder.specs.inner.Mentioned.{IsMentioned, IsMentionFault};
 ghost use Rattle.cg_net.specs.Names.{with_names};
 
 use cg_limit::{Limit, MOST_NETS};
-use cg_netlist::fault::AddFault;
 use cg_net::id::NetId;
 use cg_net::names::NetNames;
+use cg_netlist::fault::AddFault;
 use std::alloc::Global;
 
 /// The number of a net, which is mentioned here, perhaps for the first time.

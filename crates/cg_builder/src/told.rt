@@ -12,9 +12,9 @@ ghost use Rattle.cg_netlist.specs.Wiring.{driven_by_cells, driven_by_gaters, dri
 
 use crate::marks::marks;
 use crate::open_register::OpenRegister;
-use cg_netlist::chains::chain_of;
 use cg_net::id::NetId;
 use cg_net::names::NetNames;
+use cg_netlist::chains::chain_of;
 use cg_netlist::parts::{Gater, Logic};
 use std::alloc::{AllocError, Global};
 use std::marker::Model;

@@ -2,8 +2,8 @@
 
 use crate::wiring::Wiring;
 use cg_list::Seq;
-use cg_netlist::driver::Driver;
 use cg_net::id::{CellId, NetId, RegId};
+use cg_netlist::driver::Driver;
 use cg_netlist::netlist::Netlist;
 
 /// What some nets depend on at the same moment: logic cells in walk order, and the data inputs and registers at their edge,

@@ -12,9 +12,9 @@ use crate::cone::Cone;
 use crate::edge::Edge;
 use crate::wiring::Wiring;
 use cg_list::Seq;
-use cg_netlist::driver::Driver;
 use cg_net::id::{CellId, NetId};
 use cg_net::net_set::NetSet;
+use cg_netlist::driver::Driver;
 use std::alloc::{AllocError, Global};
 
 /// The cone of these nets, with an empty set for the nets that are found. It costs what it reaches, beside the set's marks.

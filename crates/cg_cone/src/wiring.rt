@@ -5,8 +5,8 @@ ghost use Rattle.cg_netlist.specs.Circuit.{Circuit, LogicCell};
 ghost use Rattle.cg_netlist.specs.Drivers.{IsDriver};
 ghost use Rattle.cg_cone.specs.inner.Reaching.{IsWired};
 
-use cg_netlist::driver::Driver;
 use cg_net::id::{CellId, NetId};
+use cg_netlist::driver::Driver;
 
 /// Logic cells with what drives them: a netlist, or one with more cells behind its own.
 ///

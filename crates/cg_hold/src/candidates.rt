@@ -17,8 +17,8 @@ use cg_list::Seq;
 use cg_lists::idle::Idle;
 use cg_machine::machine::Machine;
 use cg_machine::stage::{NetLit, Stage, StageKind};
-use cg_netlist::fault::AddFault;
 use cg_net::id::{NetId, RegId};
+use cg_netlist::fault::AddFault;
 use std::alloc::{AllocError, Global};
 
 /// The hold stages of a machine.

@@ -18,8 +18,8 @@ use crate::trial::{Room, Trial, Trier};
 use cg_lists::idle::Idle;
 use cg_machine::machine::Machine;
 use cg_machine::stage::NetLit;
-use cg_netlist::fault::AddFault;
 use cg_net::id::RegId;
+use cg_netlist::fault::AddFault;
 use std::alloc::Global;
 
 /// What comes of a register.

@@ -21,8 +21,8 @@ use cg_list::Seq;
 use cg_lists::idle::Idle;
 use cg_machine::machine::Machine;
 use cg_machine::stage::NetLit;
-use cg_netlist::fault::AddFault;
 use cg_net::id::RegId;
+use cg_netlist::fault::AddFault;
 use std::alloc::{AllocError, Global};
 
 /// What came of registers.

@@ -11,8 +11,8 @@ ghost use Rattle.cg_netlist.specs.Netlist.{widest_of};
 use crate::random::Random;
 use crate::words::{function_word, gate_word, inverse};
 use cg_machine::machine::Machine;
-use cg_netlist::driver::Driver;
 use cg_net::id::{CellId, NetId};
+use cg_netlist::driver::Driver;
 use cg_netlist::walk::{gather, put};
 use std::alloc::{AllocError, Global};
 

@@ -23,8 +23,8 @@ use cg_cell::fit::FitKind;
 use cg_cell::library::Library;
 use cg_cell::name::Name;
 use cg_machine::machine::Machine;
-use cg_netlist::fault::AddFault;
 use cg_net::id::{NetId, RegId};
+use cg_netlist::fault::AddFault;
 use cg_netlist::view::{RegKind, RegView};
 use std::alloc::{AllocError, Global};
 

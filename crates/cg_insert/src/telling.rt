@@ -14,8 +14,8 @@ use cg_builder::builder::Builder;
 use cg_cell::library::Library;
 use cg_cell::name::Name;
 use cg_machine::machine::Machine;
-use cg_netlist::fault::AddFault;
 use cg_net::id::NetId;
+use cg_netlist::fault::AddFault;
 use std::alloc::Global;
 
 /// Tells the parts in the order in which they are written: the inputs with the test input last, the outputs, the clock, the

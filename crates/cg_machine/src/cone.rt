@@ -9,9 +9,9 @@ use crate::machine::Machine;
 use cg_cone::cone::Cone;
 use cg_cone::reach::reached_cone;
 use cg_cone::wiring::Wiring;
-use cg_netlist::driver::Driver;
 use cg_net::id::{CellId, NetId};
 use cg_net::net_set::NetSet;
+use cg_netlist::driver::Driver;
 use std::alloc::{AllocError, Global};
 
 /// Finds cones, one after another, each at the cost of what it reaches.

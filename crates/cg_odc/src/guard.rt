@@ -10,8 +10,8 @@ ghost use Rattle.cg_odc.specs.inner.Guarding.{is_plain, may_guard, shows_plain};
 
 use cg_cell::cell::CellType;
 use cg_machine::machine::Machine;
-use cg_netlist::driver::Driver;
 use cg_net::id::{NetId, RegId};
+use cg_netlist::driver::Driver;
 use cg_netlist::view::RegKind;
 
 /// The register whose bit is the enable of a register, where it has no enable and takes one net alone.

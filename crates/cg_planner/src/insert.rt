@@ -17,8 +17,8 @@ use crate::claims::first_literal;
 use cg_cell::fit::FitKind;
 use cg_machine::machine::Machine;
 use cg_machine::stage::{NetLit, Stage, StageKind};
-use cg_netlist::fault::AddFault;
 use cg_net::id::{NetId, RegId};
+use cg_netlist::fault::AddFault;
 use cg_reach::fanout::Fanout;
 
 /// Adds what a stage adds, and gives its registers the enable, which what reads the nets is told of before. No register gets

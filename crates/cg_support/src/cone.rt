@@ -7,9 +7,9 @@ ghost use Rattle.cg_net.specs.NetSets.{is_in};
 ghost use Rattle.cg_support.specs.inner.Reaching.{AreOwn, IsReached};
 
 use cg_machine::machine::Machine;
-use cg_netlist::driver::Driver;
 use cg_net::id::NetId;
 use cg_net::net_set::NetSet;
+use cg_netlist::driver::Driver;
 use std::alloc::AllocError;
 
 /// Finds the nets of the cone of these nets of a machine's netlist: these nets, and with the output of a logic cell its

@@ -8,8 +8,8 @@ ghost use Rattle.cg_support.specs.inner.Reaching.{AreOwn};
 use crate::support::Support;
 use cg_list::Seq;
 use cg_machine::machine::Machine;
-use cg_netlist::driver::Driver;
 use cg_net::net_set::NetSet;
+use cg_netlist::driver::Driver;
 use std::alloc::{AllocError, Global};
 
 /// Whether a data input is among these nets of a machine's netlist, and the registers that show their bits at one.

@@ -1,6 +1,6 @@
 -- Bits and the clauses that they satisfy.
-use Rattle.std.proofs.Common.{◌≡◌, ℕ, ◌+◌, ◌-◌, zero, suc, ◌<◌, ◌≤◌, Bool, true, false, not, ◌||◌, List, [], ◌∷◌, ◌++◌, Option}
-use Rattle.std.proofs.Common.{Some, None, ◌⊎◌, inl, inr, refl, sym, ap, ◌∙◌, subst, length, map, get_or, append-nil, arith}
+use Rattle.std.proofs.Common.{◌≡◌, ℕ, ◌+◌, ◌-◌, zero, suc, ◌<◌, ◌≤◌, Bool, true, false, not, List, [], ◌∷◌}
+use Rattle.std.proofs.Common.{Some, inl, inr, refl, sym, ap, ◌∙◌, subst, length, map, arith}
 use Rattle.std.proofs.Common.{if◌then◌else◌}
 use Rattle.std.specs.List.{slice_get, list_any, AllByRecursion, slice_index_or}
 use Rattle.cg_formula.specs.declared.formula.Lit.{Lit}
@@ -8,12 +8,12 @@ use Rattle.cg_formula.specs.declared.formula.Clause.{Clause}
 use Rattle.cg_formula.specs.declared.formula.Formula.{Formula}
 use Rattle.cg_formula.specs.Lits.{inverse, same_lit, is_in}
 use Rattle.cg_formula.specs.Bounds.{IsLit, IsClause, IsFormula}
-use Rattle.cg_formula.specs.Satisfiable.{lit_bit, clause_bit}
+use Rattle.cg_formula.specs.Satisfiable.{lit_bit}
 use Rattle.cg_formula.proofs.Connectives.{or_true}
 use Rattle.cg_formula.proofs.Members.{same_lit_equal}
 use Rattle.cg_formula.specs.Assignments.{IsUnassigned}
-use Rattle.cg_sat.specs.declared.trail.Entry.{Entry}
-use Rattle.cg_sat.specs.inner.Store.{Store, clause_at, given}
+use Rattle.cg_sat_state.specs.declared.trail.Entry.{Entry}
+use Rattle.cg_sat_state.specs.Store.{Store, clause_at, given}
 use Rattle.cg_sat.specs.inner.Search.{ShowsBits, IsSearch, HasPrefix}
 
 all_at : {X : Type 0} (P : X → Type 0) (xs : List X) (k : ℕ) (x : X) → AllByRecursion P xs → slice_get xs k ≡ Some x → P x

@@ -1,17 +1,15 @@
 -- Reasons taken as hints, from the last entry of a trail to the first.
-use Rattle.std.proofs.Common.{◌≡◌, ℕ, Bool, true, false, not, ◌||◌, ◌&&◌, List, [], ◌∷◌, ◌++◌, Option, Some, None, ◌⊎◌, inl, inr}
-use Rattle.std.proofs.Common.{refl, sym, ap, ◌∙◌, subst, map, if◌then◌else◌}
-use Rattle.std.specs.List.{list_any, list_all}
+use Rattle.std.proofs.Common.{◌≡◌, ℕ, Bool, true, false, List, [], ◌∷◌, ◌++◌, Some, None, ◌⊎◌, inl, inr}
+use Rattle.std.proofs.Common.{refl, sym, ap, ◌∙◌, subst, map}
+use Rattle.std.specs.List.{list_any}
 use Rattle.cg_formula.specs.declared.formula.Lit.{Lit}
-use Rattle.cg_lrat.specs.declared.verdict.Why.{Why}
 use Rattle.cg_formula.specs.Lits.{inverse, same_lit, is_in}
 use Rattle.cg_lrat.specs.Accepted.{Live, hints_fault, is_tautology, clause_fault}
-use Rattle.cg_formula.proofs.Connectives.{and_true, or_true, or_right}
-use Rattle.cg_formula.proofs.Members.{same_lit_equal}
+use Rattle.cg_formula.proofs.Connectives.{or_right}
 use Rattle.cg_formula.specs.Assignments.{IsFalsified, IsUnit, IsUnassigned}
 use Rattle.cg_lrat.proofs.UnitHints.{unit_hint, last_hint}
 use Rattle.cg_sat.specs.inner.Derive.{Suits, Refutes, IsApart}
-use Rattle.cg_formula.proofs.Members.{same_lit_self, inverse_twice, inverses_twice, here, pushed_in, in_pushed, last_in, not_in}
+use Rattle.cg_formula.proofs.Members.{inverse_twice, inverses_twice, here, pushed_in, in_pushed, last_in, not_in}
 use Rattle.cg_formula.proofs.Members.{own_inverse}
 
 -- a clause that is false where the trail is true

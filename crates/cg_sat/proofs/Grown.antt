@@ -1,6 +1,6 @@
 -- Searches that go on.
-use Rattle.std.proofs.Common.{◌≡◌, ℕ, ◌+◌, ◌-◌, ◌^◌, suc, ◌<◌, ◌≤◌, Bool, true, false, List, [], ◌∷◌, ◌++◌, Option, Some, None, ◌⊎◌}
-use Rattle.std.proofs.Common.{inl, inr, refl, sym, ap, ◌∙◌, subst, length, take, drop, add-one, arith}
+use Rattle.std.proofs.Common.{◌≡◌, ℕ, ◌+◌, ◌-◌, ◌^◌, suc, ◌<◌, ◌≤◌, true, List, [], ◌∷◌, ◌++◌, Some}
+use Rattle.std.proofs.Common.{inl, inr, refl, sym, ap, ◌∙◌, subst, length, take, drop, arith}
 use Rattle.std.specs.List.{slice_get}
 use Rattle.std.proofs.lemmas.Option.{slice_get_within}
 use Rattle.cg_formula.specs.declared.formula.Lit.{Lit}
@@ -9,17 +9,17 @@ use Rattle.cg_formula.specs.Lits.{inverse, same_lit, is_in}
 use Rattle.cg_formula.specs.Bounds.{IsLit}
 use Rattle.cg_formula.proofs.Connectives.{or_true}
 use Rattle.cg_formula.proofs.Members.{same_lit_equal}
-use Rattle.cg_sat.specs.declared.trail.Entry.{Entry}
+use Rattle.cg_sat_state.specs.declared.trail.Entry.{Entry}
 use Rattle.cg_formula.specs.Assignments.{IsUnassigned, IsUnit}
-use Rattle.cg_sat.specs.inner.Trail.{lits_of, IsTrail, IsImplied, HasReason, IsUnused}
+use Rattle.cg_sat_state.specs.Trail.{lits_of, IsImplied, HasReason, IsUnused}
 use Rattle.cg_sat.specs.inner.Learn.{Asserts, VariablesBelow}
-use Rattle.cg_sat.specs.inner.Store.{Store, clause_at, IsWithout}
-use Rattle.cg_sat.proofs.Store.{get_last, get_kept, clause_pushed, found_before}
+use Rattle.cg_sat_state.specs.Store.{Store, IsWithout}
+use Rattle.cg_sat_state.proofs.Store.{get_last, get_kept, clause_pushed, found_before}
 use Rattle.cg_sat.proofs.Walk.{entry_at}
 use Rattle.std.proofs.Math.ListN.{length-take}
 use Rattle.cg_sat.specs.inner.Worth.{worth}
 use Rattle.cg_sat.specs.inner.Search.{IsSearch, Grows, HasPrefix}
-use Rattle.cg_sat.proofs.TrailLaws.{trail_pushed, trail_cut, trail_kept, trail_without, pushed_at, cut_at, split_at}
+use Rattle.cg_sat_state.proofs.TrailLaws.{trail_pushed, trail_cut, trail_kept, trail_without, pushed_at, cut_at, split_at}
 use Rattle.cg_sat.proofs.Worth.{worth_pushed, worth_raised}
 use Rattle.cg_sat.proofs.Short.{trail_short, named_in}
 

@@ -1,16 +1,11 @@
-pub mod Store
-pub mod Arena
 pub mod Derive
-pub mod Log
 pub mod Worth
 pub mod Marks
 pub mod Walk
 pub mod Scanned
-pub mod TrailLaws
 pub mod Short
 pub mod Grown
 pub mod Chosen
 pub mod Exact
-pub mod Ids
 pub mod UnitClauses
 pub mod Reasons

@@ -1,6 +1,6 @@
 -- Marks of variables, and the trail taken entry by entry.
-use Rattle.std.proofs.Common.{◌≡◌, ◌≢◌, ℕ, ◌+◌, zero, suc, ◌<◌, ◌≤◌, Bool, true, false, not, List, [], ◌∷◌, ◌++◌, Option, Some}
-use Rattle.std.proofs.Common.{None, ◌⊎◌, inl, inr, refl, sym, ap, ◌∙◌, subst, map, length, take, get_or, set, add-one, reverse}
+use Rattle.std.proofs.Common.{◌≡◌, ◌≢◌, ℕ, ◌+◌, zero, suc, ◌<◌, Bool, true, false, not, List, [], ◌∷◌, ◌++◌, Option, Some}
+use Rattle.std.proofs.Common.{None, ◌⊎◌, inl, inr, refl, sym, ap, ◌∙◌, subst, length, take, get_or, set, add-one, reverse}
 use Rattle.std.proofs.Common.{arith, rules, nat_eq}
 use Rattle.std.specs.List.{slice_get}
 use Rattle.std.specs.Option.{is_some}
@@ -8,14 +8,14 @@ use Rattle.std.proofs.lemmas.List.{get_or-set_other, get_or-set_same, reverse-ap
 use Rattle.std.proofs.lemmas.Bool.{eqb-true}
 use Rattle.cg_formula.specs.declared.formula.Lit.{Lit}
 use Rattle.cg_formula.specs.Lits.{inverse, is_in}
-use Rattle.cg_sat.specs.declared.trail.Entry.{Entry}
+use Rattle.cg_sat_state.specs.declared.trail.Entry.{Entry}
 use Rattle.cg_formula.specs.Assignments.{IsUnassigned, IsUnit}
-use Rattle.cg_sat.specs.inner.Trail.{lits_of}
+use Rattle.cg_sat_state.specs.Trail.{lits_of}
 use Rattle.cg_sat.specs.inner.Learn.{is_marked}
 use Rattle.std.proofs.Math.Seq.{take-suc}
 use Rattle.cg_formula.specs.Lits.{same_lit}
 use Rattle.cg_formula.proofs.Connectives.{or_right}
-use Rattle.cg_formula.proofs.Members.{inverse_twice, here, pushed_in}
+use Rattle.cg_formula.proofs.Members.{here, pushed_in}
 
 -- one more entry
 pub take_lits : (trail : List Entry) (at : ℕ) (entry : Entry) → slice_get trail at ≡ Some entry → lits_of (take (at + 1) trail) ≡ lits_of (take at trail) ++ entry.lit ∷ []

@@ -1,13 +1,13 @@
 -- Marks of the reasons of a trail.
-use Rattle.std.proofs.Common.{◌≡◌, ◌≢◌, ℕ, ◌+◌, ◌<◌, ◌≤◌, Bool, true, false, List, Option, Some, None, ◌⊎◌, inl, inr, refl, sym, ap}
+use Rattle.std.proofs.Common.{◌≡◌, ◌≢◌, ℕ, ◌+◌, ◌<◌, Bool, true, false, List, Some, refl, sym}
 use Rattle.std.proofs.Common.{◌∙◌, subst, length, get_or, set, nat_eq, arith, rules}
 use Rattle.std.specs.List.{slice_get}
 use Rattle.std.proofs.lemmas.Bool.{eqb-true}
 use Rattle.std.proofs.lemmas.List.{get_or-set_other, get_or-set_same}
 use Rattle.std.proofs.lemmas.Option.{slice_get_within}
 use Rattle.std.proofs.Math.ListN.{length-set}
-use Rattle.cg_sat.specs.declared.trail.Entry.{Entry}
-use Rattle.cg_sat.specs.inner.Trail.{IsUnused}
+use Rattle.cg_sat_state.specs.declared.trail.Entry.{Entry}
+use Rattle.cg_sat_state.specs.Trail.{IsUnused}
 use Rattle.cg_sat.specs.inner.Search.{MarksReasons}
 
 -- the reasons of the entries before a place are marked

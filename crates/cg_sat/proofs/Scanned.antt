@@ -1,6 +1,6 @@
 -- A clause looked at literal by literal.
-use Rattle.std.proofs.Common.{◌≡◌, ℕ, ◌+◌, suc, ◌<◌, ◌≤◌, Bool, true, false, List, [], ◌∷◌, ◌++◌, ◌⊎◌, inl, inr, refl, sym, ap, ◌∙◌}
-use Rattle.std.proofs.Common.{subst, length, take, get_or, add-one, arith}
+use Rattle.std.proofs.Common.{◌≡◌, ℕ, ◌+◌, ◌<◌, true, List, [], ◌∷◌, ◌++◌, inl, inr, refl, sym, ap, ◌∙◌}
+use Rattle.std.proofs.Common.{subst, length, take, get_or, add-one}
 use Rattle.std.proofs.Math.Seq.{take-suc}
 use Rattle.cg_formula.specs.declared.formula.Lit.{Lit}
 use Rattle.cg_formula.specs.Lits.{inverse, same_lit, is_in}
@@ -8,7 +8,6 @@ use Rattle.cg_formula.proofs.Members.{same_lit_equal}
 use Rattle.cg_sat.proofs.Marks.{blank_lit}
 use Rattle.cg_sat.specs.declared.scan.Found.{Found}
 use Rattle.cg_sat.specs.declared.scan.Found.TheVariants.{Another, One, Nothing}
-use Rattle.cg_formula.specs.Assignments.{IsFalsified, IsUnit}
 use Rattle.cg_sat.specs.inner.Scan.{Finds}
 use Rattle.cg_formula.proofs.Members.{pushed_in, in_pushed, last_in}
 

@@ -1,6 +1,6 @@
 -- A trail has each variable once at most.
-use Rattle.std.proofs.Common.{◌≡◌, ◌≢◌, ℕ, ◌+◌, zero, suc, ◌<◌, ◌≤◌, Bool, true, false, ◌||◌, List, [], ◌∷◌, ◌++◌, Option, Some}
-use Rattle.std.proofs.Common.{None, ◌⊎◌, inl, inr, refl, sym, ap, ◌∙◌, subst, map, length, take, nat_eq, add-one, arith, rules}
+use Rattle.std.proofs.Common.{◌≡◌, ℕ, zero, suc, ◌<◌, ◌≤◌, Bool, true, false, List, [], ◌∷◌, ◌++◌, Some}
+use Rattle.std.proofs.Common.{inl, inr, refl, sym, ap, ◌∙◌, subst, map, length, take, nat_eq, add-one, arith, rules}
 use Rattle.std.specs.List.{slice_get, list_any, IsDistinct}
 use Rattle.std.specs.Cmp.{nat_eq_equiv}
 use Rattle.std.proofs.lemmas.Bool.{eqb-true}
@@ -11,10 +11,10 @@ use Rattle.cg_formula.specs.declared.formula.Lit.{Lit}
 use Rattle.cg_formula.specs.Lits.{same_lit, is_in}
 use Rattle.cg_formula.proofs.Connectives.{or_true, or_right}
 use Rattle.cg_formula.proofs.Members.{same_lit_equal}
-use Rattle.cg_sat.specs.declared.trail.Entry.{Entry}
-use Rattle.cg_sat.specs.inner.Store.{Store}
+use Rattle.cg_sat_state.specs.declared.trail.Entry.{Entry}
+use Rattle.cg_sat_state.specs.Store.{Store}
 use Rattle.cg_formula.specs.Assignments.{IsUnassigned}
-use Rattle.cg_sat.specs.inner.Trail.{lits_of, IsTrail}
+use Rattle.cg_sat_state.specs.Trail.{lits_of, IsTrail}
 use Rattle.cg_sat.specs.inner.Learn.{VariablesBelow}
 use Rattle.cg_formula.proofs.Members.{here}
 use Rattle.cg_sat.proofs.Marks.{take_lits, other_variable}

@@ -1,16 +1,16 @@
 -- Unit clauses that follow from unit clauses.
-use Rattle.std.proofs.Common.{◌≡◌, ◌≢◌, ℕ, ◌+◌, suc, ◌<◌, Bool, true, false, not, List, [], ◌∷◌, ◌++◌, Option, Some, None, ◌⊎◌, inl}
-use Rattle.std.proofs.Common.{inr, refl, sym, ap, ◌∙◌, subst, map, length, take, get_or, add-one, append_assoc, arith}
+use Rattle.std.proofs.Common.{◌≡◌, ℕ, ◌+◌, ◌<◌, Bool, true, false, List, [], ◌∷◌, ◌++◌, Some, None, inl}
+use Rattle.std.proofs.Common.{inr, refl, sym, ap, ◌∙◌, subst, length, take, get_or, add-one, append_assoc}
 use Rattle.std.proofs.Math.Seq.{take-suc}
 use Rattle.cg_formula.specs.declared.formula.Lit.{Lit}
 use Rattle.cg_formula.specs.Lits.{inverse, same_lit, is_in}
 use Rattle.cg_formula.specs.Assignments.{IsFalsified, IsUnit, IsUnassigned}
 use Rattle.cg_formula.proofs.Connectives.{or_true}
-use Rattle.cg_formula.proofs.Members.{same_lit_equal, own_inverse, here, pushed_in, in_pushed, last_in}
+use Rattle.cg_formula.proofs.Members.{same_lit_equal, own_inverse, here, pushed_in}
 use Rattle.cg_lrat.specs.Accepted.{Live, hints_fault, clause_fault, is_tautology}
 use Rattle.cg_lrat.proofs.UnitHints.{unit_hint, last_hint}
-use Rattle.cg_sat.specs.declared.trail.Entry.{Entry}
-use Rattle.cg_sat.specs.inner.Trail.{lits_of}
+use Rattle.cg_sat_state.specs.declared.trail.Entry.{Entry}
+use Rattle.cg_sat_state.specs.Trail.{lits_of}
 use Rattle.cg_sat.specs.inner.Derive.{Follows}
 use Rattle.cg_sat.proofs.Marks.{blank_lit}
 

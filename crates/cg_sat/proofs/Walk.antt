@@ -1,17 +1,16 @@
 -- Steps of the walk down the trail.
-use Rattle.std.proofs.Common.{◌≡◌, ℕ, ◌+◌, zero, suc, ◌<◌, ◌≤◌, Bool, true, false, List, [], ◌∷◌, ◌++◌, Option, Some, None, ◌⊎◌}
-use Rattle.std.proofs.Common.{inl, inr, refl, sym, ap, ◌∙◌, subst, map, length, take, set, add-one, add-zero, add-suc, reverse}
+use Rattle.std.proofs.Common.{◌≡◌, ℕ, ◌+◌, zero, suc, ◌<◌, ◌≤◌, Bool, true, false, List, [], ◌∷◌, ◌++◌, Some, None}
+use Rattle.std.proofs.Common.{inl, inr, refl, sym, ap, ◌∙◌, subst, map, length, take, set, reverse}
 use Rattle.std.proofs.Common.{arith, ◌-◌, get_or, append-nil, append_assoc}
 use Rattle.std.specs.List.{slice_get}
 use Rattle.std.proofs.lemmas.Option.{slice_get-get_or, get_or_from_slice_get}
 use Rattle.cg_formula.specs.declared.formula.Lit.{Lit}
 use Rattle.cg_formula.specs.Lits.{inverse, is_in}
-use Rattle.cg_sat.specs.declared.trail.Entry.{Entry}
+use Rattle.cg_sat_state.specs.declared.trail.Entry.{Entry}
 use Rattle.cg_formula.specs.Assignments.{IsUnassigned, IsUnit, IsFalsified}
-use Rattle.cg_sat.specs.inner.Trail.{lits_of, IsTrail, IsImplied, HasReason}
-use Rattle.cg_sat.specs.inner.Store.{Store, clause_at, live_of}
-use Rattle.cg_sat.proofs.Store.{live_at}
-use Rattle.cg_sat.specs.inner.Derive.{Refutes, IsApart}
+use Rattle.cg_sat_state.specs.Trail.{lits_of, IsTrail, IsImplied, HasReason}
+use Rattle.cg_sat_state.specs.Store.{Store, clause_at, live_of}
+use Rattle.cg_sat_state.proofs.Store.{live_at}
 use Rattle.cg_sat.specs.inner.Learn.{is_marked, Derives, AreClear, Gathered, Asserts, IsTop}
 use Rattle.cg_lrat.specs.Accepted.{clause_fault}
 use Rattle.std.proofs.Math.Seq.{take-length}
@@ -21,7 +20,7 @@ use Rattle.cg_formula.specs.Lits.{same_lit}
 use Rattle.cg_formula.proofs.Connectives.{or_true, or_right}
 use Rattle.cg_formula.proofs.Members.{same_lit_equal}
 use Rattle.cg_formula.proofs.Members.{last_in, here, not_in, inverse_twice, pushed_in}
-use Rattle.cg_sat.proofs.TrailLaws.{lit_at}
+use Rattle.cg_sat_state.proofs.TrailLaws.{lit_at}
 use Rattle.cg_sat.proofs.Marks.{take_lits, stays_marked, reason_marked, one_more_hint, blank}
 
 pub entry_at : (trail : List Entry) (k : ℕ) → k < length trail → (entry : Entry) × (slice_get trail k ≡ Some entry)

@@ -1,6 +1,6 @@
 -- Appending raises what a trail is worth, and so does an implied literal in a decision's place.
 use Rattle.std.proofs.Common.{◌≡◌, ℕ, zero, suc, ◌+◌, ◌<◌, ◌≤◌, List, [], ◌∷◌, ◌++◌, Option, Some, None, length, arith}
-use Rattle.cg_sat.specs.declared.trail.Entry.{Entry}
+use Rattle.cg_sat_state.specs.declared.trail.Entry.{Entry}
 use Rattle.cg_sat.specs.inner.Worth.{weight, digit, worth}
 
 weight_positive : (n : ℕ) → 0 < weight n

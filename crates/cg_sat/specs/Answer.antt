@@ -1,12 +1,9 @@
 -- What an answer of the solver says of the formula.
-use Rattle.std.specs.Prelude.{◌≡◌, ℕ, ◌+◌, List, Some}
-use Rattle.std.specs.List.{slice_get}
 use Rattle.cg_formula.specs.declared.formula.Formula.{Formula}
-use Rattle.cg_lrat.specs.declared.log.Step.{Step}
-use Rattle.cg_lrat.specs.declared.log.Log.{Log}
 use Rattle.cg_formula.specs.Satisfiable.{Satisfies, IsSatisfiable, IsUnsatisfiable}
 use Rattle.cg_lrat.specs.AcceptedLog.{IsAccepted}
 use Rattle.cg_lrat.specs.Bounds.{IsLog}
+use Rattle.cg_sat_state.specs.Answer.{AreNumbered}
 use Rattle.cg_sat.specs.declared.search.Solved.{Solved}
 use Rattle.cg_sat.specs.declared.search.Solved.TheVariants.{Sat, Unsat}
 
@@ -19,10 +16,6 @@ IsExact formula (Unsat log) = IsUnsatisfiable formula
 abbrev pub IsShown : Formula → Solved → Type 0
 IsShown formula (Sat bits) = Satisfies bits.items formula
 IsShown formula (Unsat log) = IsAccepted formula log
-
--- the steps stand on the lines from 1 on
-abbrev pub AreNumbered : List Step → Type 0
-AreNumbered steps = (k : ℕ) (step : Step) → slice_get steps k ≡ Some step → step.line ≡ k + 1
 
 -- the log can be written: its ids and variables are within the bounds, and its lines are counted from 1
 abbrev pub IsWritableAnswer : Solved → Type 0

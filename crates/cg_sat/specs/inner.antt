@@ -1,6 +1,3 @@
-pub mod Store
-pub mod Arena
-pub mod Trail
 pub mod Derive
 pub mod Worth
 pub mod Learn

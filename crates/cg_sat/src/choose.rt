@@ -8,13 +8,13 @@ ghost use Rattle.cg_formula.specs.Bounds.{IsFormula};
 ghost use Rattle.cg_formula.specs.Lits.{inverse, is_in};
 ghost use Rattle.cg_formula.specs.Satisfiable.{lit_bit, clause_bit, formula_bit};
 ghost use Rattle.cg_formula.specs.Assignments.{IsFalsified};
-ghost use Rattle.cg_sat.specs.inner.Trail.{lits_of};
+ghost use Rattle.cg_sat_state.specs.Trail.{lits_of};
 ghost use Rattle.cg_sat.specs.inner.Search.{IsSearch, ShowsBits, FindsOpen, HasPrefix, IsUnsatisfied, IsChoice};
 
-use crate::clauses::Clauses;
 use crate::guide::Guide;
-use crate::trail::Trail;
 use cg_formula::{Formula, Lit};
+use cg_sat_state::clauses::Clauses;
+use cg_sat_state::trail::Trail;
 use std::alloc::{AllocError, Global};
 
 /// What is done next.

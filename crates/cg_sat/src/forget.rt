@@ -2,13 +2,13 @@
 
 ghost use Rattle.std.specs.Prelude.{◌≡◌, ◌<◌, ℕ, true, false, Some, length, slice_index_or, OnOk, IfOk};
 ghost use Rattle.std.specs.List.{slice_get};
-ghost use Rattle.cg_sat.specs.declared.trail.Entry.{Entry};
+ghost use Rattle.cg_sat_state.specs.declared.trail.Entry.{Entry};
 ghost use Rattle.cg_sat.specs.inner.Search.{IsSearch, HasPrefix, MarksReasons};
 
-use crate::draft::LogDraft;
 use crate::guide::Guide;
-use crate::trail::Entry;
 use cg_formula::Formula;
+use cg_sat_state::draft::LogDraft;
+use cg_sat_state::trail::Entry;
 use std::alloc::{AllocError, Global};
 
 /// Marks the places of the clauses that are reasons.

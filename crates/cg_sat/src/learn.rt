@@ -6,17 +6,17 @@ ghost use Rattle.std.specs.List.{slice_get};
 ghost use Rattle.std.specs.Bool.{IsTrue};
 ghost use Rattle.cg_formula.specs.declared.formula.Lit.{Lit};
 ghost use Rattle.cg_formula.specs.Lits.{inverse, is_in};
-ghost use Rattle.cg_sat.specs.inner.Trail.{lits_of, IsTrail, IsImplied};
-ghost use Rattle.cg_sat.specs.declared.trail.Entry.{Entry};
+ghost use Rattle.cg_sat_state.specs.Trail.{lits_of, IsTrail, IsImplied};
+ghost use Rattle.cg_sat_state.specs.declared.trail.Entry.{Entry};
 ghost use Rattle.cg_sat.specs.inner.Search.{IsConflict};
 ghost use Rattle.cg_sat.specs.inner.Learn.{is_marked, VariablesBelow, Derives, AreClear, IsDecided, AreImplied, Gathered, IsTop};
 ghost use Rattle.cg_sat.specs.inner.Learn.{IsLevel, IsPoint, Teaches};
 
-use crate::clauses::Clauses;
 use crate::guide::Guide;
-use crate::trail::Entry;
 use crate::units::is_unit;
 use cg_formula::Lit;
+use cg_sat_state::clauses::Clauses;
+use cg_sat_state::trail::Entry;
 use std::alloc::{AllocError, Global};
 
 /// What a conflict teaches.

@@ -2,13 +2,11 @@
 //! clauses, each with its hints, that ends with the empty clause.
 //!
 //! It learns a clause from each conflict (conflict-driven clause learning, Marques-Silva and Sakallah 1996), looks at
-//! two literals of each clause, and never restarts. It shares no code with the checker of logs.
+//! two literals of each clause, and never restarts. Its clauses, its log so far and the literals that are true stand in
+//! `cg_sat_state`. It shares no code with the checker of logs.
 //!
 //! In the order in which data flows through them:
 //!
-//! - `clauses`: the clauses of the formula and those that were learnt, by place;
-//! - `draft`: the log so far, with the clauses that are live;
-//! - `trail`: the literals that are true, each with its reason;
 //! - `watches`, `order`, `merits`, `guide`: what to look at, to decide and to delete; no answer rests on them;
 //! - `scan`, `propagate`: what follows from the literals that are true;
 //! - `learn`: the clause that a conflict teaches, with its hints;
@@ -18,8 +16,6 @@
 #![tactic(auto)]
 
 mod choose;
-mod clauses;
-mod draft;
 mod forget;
 mod guide;
 mod learn;
@@ -28,7 +24,6 @@ mod order;
 mod propagate;
 mod scan;
 mod search;
-mod trail;
 mod undo;
 mod units;
 mod watches;

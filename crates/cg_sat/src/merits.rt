@@ -2,7 +2,7 @@
 //!
 //! Nothing of an answer rests on it: a clause may be deleted at any time.
 
-use crate::clauses::Clauses;
+use cg_sat_state::clauses::Clauses;
 use std::alloc::{AllocError, Global};
 
 /// What a use of a clause adds to its merit, at first and at most.

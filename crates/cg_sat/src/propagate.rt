@@ -3,16 +3,16 @@
 ghost use Rattle.std.specs.Prelude.{◌≡◌, ◌+◌, ◌<◌, ◌≤◌, [], ◌∷◌, ◌++◌, length, OnOk, IfOk};
 ghost use Rattle.std.specs.Option.{IfSome};
 ghost use Rattle.cg_formula.specs.Assignments.{IsUnassigned};
-ghost use Rattle.cg_sat.specs.inner.Trail.{lits_of, IsTrail, IsImplied};
+ghost use Rattle.cg_sat_state.specs.Trail.{lits_of, IsImplied};
 ghost use Rattle.cg_sat.specs.inner.Scan.{Finds};
 ghost use Rattle.cg_sat.specs.inner.Search.{IsSearch, Grows, IsConflict, IsLook};
 
-use crate::clauses::Clauses;
 use crate::guide::Guide;
 use crate::scan::{Found, scan};
-use crate::trail::{Entry, Trail};
 use crate::watches::{Watch, Watches};
 use cg_formula::Lit;
+use cg_sat_state::clauses::Clauses;
+use cg_sat_state::trail::{Entry, Trail};
 use std::alloc::AllocError;
 
 /// What comes of a clause on a list.

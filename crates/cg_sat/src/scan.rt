@@ -1,11 +1,11 @@
 //! What the trail makes of a clause.
 
 ghost use Rattle.std.specs.Prelude.{◌≡◌};
-ghost use Rattle.cg_sat.specs.inner.Trail.{lits_of};
+ghost use Rattle.cg_sat_state.specs.Trail.{lits_of};
 ghost use Rattle.cg_sat.specs.inner.Scan.{Finds};
 
-use crate::trail::Trail;
 use cg_formula::Lit;
+use cg_sat_state::trail::Trail;
 
 /// What is found in a clause, beside a given literal.
 #[derive(Clone, Copy)]

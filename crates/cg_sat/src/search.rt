@@ -9,25 +9,25 @@ ghost use Rattle.cg_formula.specs.Bounds.{IsFormula};
 ghost use Rattle.cg_formula.specs.Lits.{is_in};
 ghost use Rattle.cg_lrat.specs.Accepted.{clause_fault};
 ghost use Rattle.cg_sat.specs.Answer.{IsShown, IsExact, IsWritableAnswer};
-ghost use Rattle.cg_sat.specs.inner.Store.{given, live_of};
+ghost use Rattle.cg_sat_state.specs.Store.{given, live_of};
 ghost use Rattle.cg_sat.specs.inner.Learn.{Asserts};
 ghost use Rattle.cg_sat.specs.inner.Worth.{worth};
 ghost use Rattle.cg_sat.specs.inner.Search.{IsSearch, Grows, HasPrefix, IsConflict};
 ghost use Rattle.cg_sat.specs.inner.End.{IsEnd, IsTurn};
 
 use crate::choose::{Choice, choose, open_lit};
-use crate::clauses::Clauses;
-use crate::draft::LogDraft;
 use crate::forget::forget;
 use crate::guide::Guide;
 use crate::learn::{Lesson, Work, learn};
 use crate::propagate::{imply, propagate};
 use crate::scan::{Found, scan};
-use crate::trail::{Entry, Trail};
 use crate::undo::cut_to;
 use crate::units::add_units;
 use cg_formula::{Formula, Lit};
 use cg_lrat::Log;
+use cg_sat_state::clauses::Clauses;
+use cg_sat_state::draft::LogDraft;
+use cg_sat_state::trail::{Entry, Trail};
 use std::alloc::{AllocError, Global};
 
 /// What a formula is found to be.

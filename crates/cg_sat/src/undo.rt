@@ -2,12 +2,12 @@
 
 ghost use Rattle.std.specs.Prelude.{◌≡◌, ℕ, ◌≤◌, length, take, Some, OnOk};
 ghost use Rattle.std.specs.List.{slice_get};
-ghost use Rattle.cg_sat.specs.declared.trail.Entry.{Entry};
+ghost use Rattle.cg_sat_state.specs.declared.trail.Entry.{Entry};
 ghost use Rattle.cg_formula.specs.Assignments.{IsUnassigned};
-ghost use Rattle.cg_sat.specs.inner.Trail.{lits_of};
+ghost use Rattle.cg_sat_state.specs.Trail.{lits_of};
 
 use crate::order::Order;
-use crate::trail::Trail;
+use cg_sat_state::trail::Trail;
 use std::alloc::AllocError;
 
 /// Takes back the literals behind a place.

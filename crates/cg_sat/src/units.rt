@@ -9,16 +9,16 @@ ghost use Rattle.cg_formula.specs.declared.formula.Lit.{Lit};
 ghost use Rattle.cg_formula.specs.declared.formula.Formula.{Formula};
 ghost use Rattle.cg_formula.specs.Lits.{inverse, is_in};
 ghost use Rattle.cg_lrat.specs.Accepted.{clause_fault};
-ghost use Rattle.cg_sat.specs.inner.Trail.{lits_of};
+ghost use Rattle.cg_sat_state.specs.Trail.{lits_of};
 ghost use Rattle.cg_sat.specs.inner.Derive.{Follows};
-ghost use Rattle.cg_sat.specs.inner.Store.{clause_at, live_of};
+ghost use Rattle.cg_sat_state.specs.Store.{clause_at, live_of};
 ghost use Rattle.cg_sat.specs.inner.Search.{IsSearch, HasPrefix};
 
-use crate::clauses::Clauses;
-use crate::draft::LogDraft;
 use crate::guide::Guide;
-use crate::trail::{Entry, Trail};
 use cg_formula::Lit;
+use cg_sat_state::clauses::Clauses;
+use cg_sat_state::draft::LogDraft;
+use cg_sat_state::trail::{Entry, Trail};
 use std::alloc::{AllocError, Global};
 
 /// Whether the clause at a place is the literal alone.

@@ -4,8 +4,8 @@
 
 ghost use Rattle.std.specs.Prelude.{◌≤◌, length};
 
-use crate::trail::Trail;
 use cg_formula::Lit;
+use cg_sat_state::trail::Trail;
 use std::alloc::{AllocError, Global};
 
 /// A clause on the list of a literal.

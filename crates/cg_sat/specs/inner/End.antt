@@ -7,8 +7,8 @@ use Rattle.cg_sat.specs.declared.search.End.{End}
 use Rattle.cg_sat.specs.declared.search.End.TheVariants.{Satisfied, Refuted}
 use Rattle.cg_sat.specs.declared.search.Turn.{Turn}
 use Rattle.cg_sat.specs.declared.search.Turn.TheVariants as turns
-use Rattle.cg_sat.specs.declared.trail.Entry.{Entry}
-use Rattle.cg_sat.specs.inner.Store.{Store, live_of}
+use Rattle.cg_sat_state.specs.declared.trail.Entry.{Entry}
+use Rattle.cg_sat_state.specs.Store.{Store, live_of}
 use Rattle.cg_sat.specs.inner.Search.{IsSearch, IsConflict}
 use Rattle.cg_sat.specs.inner.Worth.{worth}
 

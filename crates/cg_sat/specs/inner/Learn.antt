@@ -1,18 +1,18 @@
 -- What is known of a derivation while the trail is walked down.
-use Rattle.std.specs.Prelude.{◌≡◌, ℕ, ◌+◌, ◌<◌, ◌≤◌, Bool, true, false, List, [], ◌∷◌, ◌++◌, length, take, reverse, Option, Some}
+use Rattle.std.specs.Prelude.{◌≡◌, ℕ, ◌+◌, ◌<◌, ◌≤◌, Bool, true, false, List, [], ◌∷◌, ◌++◌, length, take, reverse, Some}
 use Rattle.std.specs.Prelude.{None}
 use Rattle.std.specs.List.{slice_get, slice_index_or}
 use Rattle.std.specs.Option.{IsSome}
 use Rattle.cg_formula.specs.declared.formula.Lit.{Lit}
 use Rattle.cg_formula.specs.Lits.{inverse, is_in}
 use Rattle.cg_lrat.specs.Accepted.{clause_fault}
-use Rattle.cg_sat.specs.declared.trail.Entry.{Entry}
+use Rattle.cg_sat_state.specs.declared.trail.Entry.{Entry}
 use Rattle.cg_sat.specs.declared.learn.Lesson.{Lesson}
 use Rattle.cg_sat.specs.declared.learn.Lesson.TheVariants.{Empty, Clause}
-use Rattle.cg_formula.specs.Assignments.{IsUnit, IsUnassigned, IsFalsified}
-use Rattle.cg_sat.specs.inner.Trail.{lits_of}
+use Rattle.cg_formula.specs.Assignments.{IsUnit, IsUnassigned}
+use Rattle.cg_sat_state.specs.Trail.{lits_of}
 use Rattle.cg_sat.specs.inner.Derive.{Refutes, IsApart}
-use Rattle.cg_sat.specs.inner.Store.{Store, clause_at, live_of}
+use Rattle.cg_sat_state.specs.Store.{Store, clause_at, live_of}
 
 -- whether the literal's variable is marked
 abbrev pub is_marked : List Bool → Lit → Bool

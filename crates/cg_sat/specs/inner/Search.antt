@@ -1,19 +1,19 @@
 -- What holds between the turns of the search.
-use Rattle.std.specs.Prelude.{◌≡◌, ℕ, ◌+◌, ◌<◌, ◌≤◌, Bool, true, false, List, ◌++◌, length, Option, Some, None}
+use Rattle.std.specs.Prelude.{◌≡◌, ℕ, ◌+◌, ◌<◌, ◌≤◌, Bool, true, false, List, length, Option, Some, None}
 use Rattle.std.specs.List.{slice_get, slice_index_or}
 use Rattle.cg_formula.specs.declared.formula.Clause.{Clause}
 use Rattle.cg_sat.specs.declared.choose.Choice.{Choice}
 use Rattle.cg_sat.specs.declared.choose.Choice.TheVariants.{Decide, Done, Refute}
-use Rattle.cg_sat.specs.inner.Store.{Store, clause_at}
+use Rattle.cg_sat_state.specs.Store.{Store, clause_at}
 use Rattle.cg_formula.specs.declared.formula.Lit.{Lit}
 use Rattle.cg_formula.specs.declared.formula.Formula.{Formula}
 use Rattle.cg_formula.specs.Lits.{inverse, is_in}
 use Rattle.cg_formula.specs.Satisfiable.{Satisfies, clause_bit}
-use Rattle.cg_sat.specs.declared.trail.Entry.{Entry}
+use Rattle.cg_sat_state.specs.declared.trail.Entry.{Entry}
 use Rattle.cg_sat.specs.declared.propagate.Look.{Look}
 use Rattle.cg_sat.specs.declared.propagate.Look.TheVariants.{Stays, Moved, Conflict}
 use Rattle.cg_formula.specs.Assignments.{IsFalsified, IsUnassigned}
-use Rattle.cg_sat.specs.inner.Trail.{lits_of, IsTrail}
+use Rattle.cg_sat_state.specs.Trail.{lits_of, IsTrail}
 use Rattle.cg_sat.specs.inner.Learn.{VariablesBelow}
 use Rattle.cg_sat.specs.inner.Worth.{worth}
 

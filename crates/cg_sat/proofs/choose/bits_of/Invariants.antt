@@ -1,5 +1,5 @@
 use Rattle.std.proofs.Common.{◌≡◌, length}
-use Rattle.cg_sat.specs.inner.Trail.{lits_of}
+use Rattle.cg_sat_state.specs.Trail.{lits_of}
 use Rattle.cg_sat.specs.inner.Search.{ShowsBits}
 use Rattle.cg_sat.proofs.choose.bits_of.Given as goal
 

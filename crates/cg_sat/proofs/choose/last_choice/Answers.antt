@@ -1,14 +1,13 @@
-use Rattle.std.proofs.Common.{◌≡◌, ◌≤◌, ◌<◌, ◌∙◌, true, false, Some, arith, length, subst, sym, ap, refl}
+use Rattle.std.proofs.Common.{◌≡◌, ◌<◌, ◌∙◌, true, false, Some, arith, length, subst, sym, ap, refl}
 use Rattle.std.specs.List.{slice_get}
 use Rattle.std.proofs.lemmas.Option.{slice_get_read, slice_get_within}
-use Rattle.cg_formula.specs.declared.formula.Lit.{Lit}
 use Rattle.cg_formula.specs.declared.formula.Clause.{Clause}
 use Rattle.cg_formula.specs.Lits.{is_in}
 use Rattle.cg_formula.specs.Satisfiable.{clause_bit}
 use Rattle.cg_formula.specs.Assignments.{IsFalsified}
-use Rattle.cg_sat.specs.inner.Trail.{lits_of}
+use Rattle.cg_sat_state.specs.Trail.{lits_of}
 use Rattle.cg_sat.specs.inner.Search.{IsUnsatisfied}
-use Rattle.cg_sat.specs.inner.Store.{clause_at}
+use Rattle.cg_sat_state.specs.Store.{clause_at}
 use Rattle.cg_sat.proofs.Chosen.{clause_named, open_by_bits}
 use Rattle.cg_sat.proofs.choose.last_choice.Goals as goal
 

@@ -1,10 +1,7 @@
-use Rattle.std.proofs.Common.{◌≡◌, ◌≤◌, ◌<◌, ◌∙◌, true, false, Some, arith, length, subst, sym, ap, refl}
+use Rattle.std.proofs.Common.{◌≡◌, true, Some, arith, length, subst, refl}
 use Rattle.std.specs.List.{slice_get}
 use Rattle.std.proofs.lemmas.Option.{slice_get_read}
-use Rattle.cg_formula.specs.declared.formula.Clause.{Clause}
 use Rattle.cg_formula.specs.Lits.{is_in}
-use Rattle.cg_formula.specs.Satisfiable.{clause_bit}
-use Rattle.cg_formula.proofs.Connectives.{not_true}
 use Rattle.cg_sat.proofs.Chosen.{clause_named}
 use Rattle.cg_sat.proofs.choose.unsatisfied.Goals as goal
 

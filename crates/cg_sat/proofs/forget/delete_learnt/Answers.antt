@@ -1,5 +1,5 @@
-use Rattle.std.proofs.Common.{◌≡◌, ◌≤◌, false, get_or, length, arith, rules}
-use Rattle.cg_sat.specs.inner.Trail.{IsUnused}
+use Rattle.std.proofs.Common.{◌≡◌, false, get_or, arith, rules}
+use Rattle.cg_sat_state.specs.Trail.{IsUnused}
 use Rattle.cg_sat.proofs.Grown.{search_without, prefix_without}
 use Rattle.cg_sat.proofs.Reasons.{unmarked_unused}
 use Rattle.cg_sat.proofs.forget.delete_learnt.Goals as goal

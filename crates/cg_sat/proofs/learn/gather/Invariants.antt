@@ -1,5 +1,5 @@
-use Rattle.std.proofs.Common.{◌≡◌, ◌≤◌, Bool, false, take, length}
-use Rattle.cg_sat.specs.inner.Trail.{lits_of}
+use Rattle.std.proofs.Common.{◌≡◌, ◌≤◌, false, take, length}
+use Rattle.cg_sat_state.specs.Trail.{lits_of}
 use Rattle.cg_sat.specs.inner.Learn.{Derives, Gathered}
 use Rattle.cg_sat.proofs.learn.gather.Given as goal
 

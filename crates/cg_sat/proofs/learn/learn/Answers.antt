@@ -1,16 +1,14 @@
-use Rattle.std.proofs.Common.{◌≡◌, ◌+◌, ◌-◌, ◌≤◌, ◌<◌, [], ◌∷◌, ◌++◌, ◌∙◌, true, sym, subst, ap, refl, arith, length, Some, get_or}
-use Rattle.std.proofs.Common.{take, map}
+use Rattle.std.proofs.Common.{◌≡◌, ◌+◌, ◌-◌, ◌<◌, [], ◌∷◌, ◌∙◌, sym, subst, ap, refl, arith, length, Some, get_or}
+use Rattle.std.proofs.Common.{map}
 use Rattle.std.specs.List.{slice_get}
 use Rattle.cg_formula.specs.Assignments.{IsFalsified}
-use Rattle.cg_sat.specs.inner.Store.{clause_at}
-use Rattle.cg_sat.specs.inner.Trail.{lits_of}
-use Rattle.std.proofs.lemmas.Option.{slice_get-get_or, slice_get_read}
-use Rattle.cg_formula.specs.declared.formula.Lit.{Lit}
-use Rattle.cg_formula.specs.Lits.{inverse, is_in}
-use Rattle.cg_sat.specs.declared.trail.Entry.{Entry}
+use Rattle.cg_sat_state.specs.Store.{clause_at}
+use Rattle.cg_sat_state.specs.Trail.{lits_of}
+use Rattle.std.proofs.lemmas.Option.{slice_get-get_or}
+use Rattle.cg_formula.specs.Lits.{inverse}
 use Rattle.cg_sat.specs.inner.Learn.{AreClear, IsTop, Gathered, Asserts}
 use Rattle.cg_sat.proofs.Marks.{blank}
-use Rattle.cg_sat.proofs.Store.{clause_within}
+use Rattle.cg_sat_state.proofs.Store.{clause_within}
 use Rattle.cg_sat.proofs.Walk.{start_at, start_none, skip_clear, ends, asserted}
 use Rattle.cg_sat.proofs.learn.learn.Goals as goal
 

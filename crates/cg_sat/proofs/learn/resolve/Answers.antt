@@ -1,9 +1,8 @@
-use Rattle.std.proofs.Common.{◌≡◌, ◌<◌, [], ◌∷◌, ◌++◌, ◌∙◌, sym, subst, ap, arith, length, Some, None, get_or, take, refl, true}
+use Rattle.std.proofs.Common.{◌≡◌, ◌<◌, arith, length, None, get_or}
 use Rattle.std.proofs.lemmas.Option.{slice_get-get_or}
-use Rattle.cg_sat.specs.inner.Store.{clause_at}
-use Rattle.cg_sat.specs.inner.Trail.{lits_of, IsImplied}
+use Rattle.cg_sat_state.specs.Store.{clause_at}
 use Rattle.cg_sat.proofs.Marks.{blank}
-use Rattle.cg_sat.proofs.Store.{clause_within}
+use Rattle.cg_sat_state.proofs.Store.{clause_within}
 use Rattle.cg_sat.proofs.Walk.{derives_resolve, implied_at}
 use Rattle.cg_sat.proofs.learn.resolve.Goals as goal
 

@@ -1,6 +1,6 @@
 use Rattle.std.proofs.Common.{◌≡◌, ◌∙◌, false, get_or, ap, sym, rules}
 use Rattle.std.proofs.lemmas.Option.{slice_get-get_or, get_or_from_slice_get}
-use Rattle.cg_sat.specs.declared.trail.Entry.{Entry}
+use Rattle.cg_sat_state.specs.declared.trail.Entry.{Entry}
 use Rattle.cg_sat.proofs.Marks.{blank, read_off}
 use Rattle.cg_sat.proofs.Walk.{derives_skip}
 use Rattle.cg_sat.proofs.learn.settle.Goals as goal

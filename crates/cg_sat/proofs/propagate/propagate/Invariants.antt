@@ -1,4 +1,4 @@
-use Rattle.std.proofs.Common.{◌-◌, length}
+use Rattle.std.proofs.Common.{◌-◌}
 use Rattle.cg_sat.specs.inner.Search.{Grows}
 use Rattle.cg_sat.proofs.propagate.propagate.Given as goal
 

@@ -1,7 +1,5 @@
-use Rattle.std.proofs.Common.{◌≡◌, ◌+◌, true, false, take, length, arith, rules, sym, subst, ◌∙◌, refl}
-use Rattle.cg_formula.specs.declared.formula.Lit.{Lit}
-use Rattle.cg_formula.specs.Lits.{inverse, same_lit, is_in}
-use Rattle.cg_sat.specs.inner.Trail.{lits_of}
+use Rattle.std.proofs.Common.{arith, sym, ◌∙◌}
+use Rattle.cg_sat_state.specs.Trail.{lits_of}
 use Rattle.cg_sat.proofs.Scanned.{more_given, more_false}
 use Rattle.cg_sat.proofs.scan.scan.Goals as goal
 use Rattle.cg_sat.proofs.scan.scan.Goals.{then-not-has+then-is, else-not-has}

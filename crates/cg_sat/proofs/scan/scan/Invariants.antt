@@ -1,7 +1,7 @@
 use Rattle.std.proofs.Common.{◌≡◌, take}
 use Rattle.cg_formula.specs.declared.formula.Lit.{Lit}
 use Rattle.cg_sat.specs.declared.scan.Found.TheVariants.{Another}
-use Rattle.cg_sat.specs.inner.Trail.{lits_of}
+use Rattle.cg_sat_state.specs.Trail.{lits_of}
 use Rattle.cg_sat.specs.inner.Scan.{Finds}
 use Rattle.cg_sat.proofs.scan.scan.Given as goal
 

@@ -1,6 +1,6 @@
-use Rattle.std.proofs.Common.{◌≡◌, ◌+◌, ◌<◌, ◌∷◌, [], ◌++◌, None, arith, ap, rules}
-use Rattle.cg_sat.specs.declared.trail.Entry.{Entry}
-use Rattle.cg_sat.specs.inner.Search.{IsSearch, IsChoice}
+use Rattle.std.proofs.Common.{◌+◌, ◌<◌, ◌∷◌, [], ◌++◌, None, rules}
+use Rattle.cg_sat_state.specs.declared.trail.Entry.{Entry}
+use Rattle.cg_sat.specs.inner.Search.{IsSearch}
 use Rattle.cg_sat.specs.inner.Worth.{worth}
 use Rattle.cg_sat.proofs.Grown.{search_pushed, worth_more}
 use Rattle.cg_sat.proofs.search.decide.Goals as goal

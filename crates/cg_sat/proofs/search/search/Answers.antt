@@ -1,4 +1,4 @@
-use Rattle.std.proofs.Common.{◌≡◌, ◌+◌, ◌<◌, ◌≤◌, ◌∙◌, refl, sym, subst, arith}
+use Rattle.std.proofs.Common.{◌+◌, ◌<◌, ◌∙◌, refl, sym, subst, arith}
 use Rattle.std.specs.Option.{is_some, IfSome}
 use Rattle.cg_sat.specs.inner.Search.{IsSearch, IsConflict}
 use Rattle.cg_sat.specs.inner.Worth.{weight, worth}

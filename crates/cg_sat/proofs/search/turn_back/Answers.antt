@@ -1,7 +1,6 @@
-use Rattle.std.proofs.Common.{◌≡◌, List, ◌∷◌, [], ◌++◌, ◌∙◌, Some, ap, length, take, get_or, arith}
-use Rattle.cg_formula.specs.declared.formula.Lit.{Lit}
-use Rattle.cg_sat.specs.declared.trail.Entry.{Entry}
-use Rattle.cg_sat.specs.inner.Store.{Store}
+use Rattle.std.proofs.Common.{◌≡◌, ◌∷◌, [], ◌++◌, ◌∙◌, Some, ap, length, get_or}
+use Rattle.cg_sat_state.specs.declared.trail.Entry.{Entry}
+use Rattle.cg_sat_state.specs.Store.{Store}
 use Rattle.cg_sat.proofs.Grown.{turned, turned_worth, lits_fit, prefix_pushed}
 use Rattle.cg_sat.proofs.search.turn_back.Goals as goal
 

@@ -1,4 +1,4 @@
-use Rattle.std.proofs.Common.{◌≡◌, ◌<◌, [], ◌∷◌, sym, subst, arith}
+use Rattle.std.proofs.Common.{◌<◌, sym, subst, arith}
 use Rattle.cg_formula.specs.declared.formula.Lit.{Lit}
 use Rattle.cg_sat.proofs.UnitClauses.{one_in}
 use Rattle.cg_sat.proofs.Grown.{prefix_pushed, search_more}

@@ -1,12 +1,12 @@
-use Rattle.std.proofs.Common.{◌≡◌, ◌+◌, [], ◌∷◌, ◌++◌, ◌∙◌, true, false, Some, None, sym, subst, ap, refl, rules}
+use Rattle.std.proofs.Common.{◌≡◌, ◌+◌, [], ◌∷◌, ◌++◌, ◌∙◌, false, Some, None, sym, subst, ap, rules}
 use Rattle.cg_formula.specs.declared.formula.Lit.{Lit}
 use Rattle.cg_formula.specs.Lits.{inverse, is_in}
 use Rattle.cg_formula.specs.Assignments.{IsUnassigned}
 use Rattle.cg_formula.proofs.Members.{inverse_twice, in_pushed, last_in}
-use Rattle.cg_sat.specs.declared.trail.Entry.{Entry}
-use Rattle.cg_sat.specs.inner.Store.{clause_at, live_of}
-use Rattle.cg_sat.specs.inner.Trail.{lits_of}
-use Rattle.cg_sat.proofs.Store.{clause_within, live_at}
+use Rattle.cg_sat_state.specs.declared.trail.Entry.{Entry}
+use Rattle.cg_sat_state.specs.Store.{clause_at, live_of}
+use Rattle.cg_sat_state.specs.Trail.{lits_of}
+use Rattle.cg_sat_state.proofs.Store.{clause_within, live_at}
 use Rattle.cg_sat.proofs.UnitClauses.{lits_pushed, follows_more}
 use Rattle.cg_sat.proofs.units.take_unit.Goals as goal
 

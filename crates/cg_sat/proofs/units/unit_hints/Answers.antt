@@ -1,13 +1,11 @@
-use Rattle.std.proofs.Common.{◌≡◌, ◌+◌, ◌≤◌, [], ◌∷◌, ◌++◌, ◌∙◌, true, Some, sym, subst, ap, refl, arith, rules, get_or, take}
-use Rattle.std.proofs.Common.{length}
+use Rattle.std.proofs.Common.{◌≡◌, ◌+◌, [], ◌∷◌, ◌++◌, ◌∙◌, true, subst, ap, arith, rules, get_or, take}
 use Rattle.std.proofs.lemmas.List.{take_all}
-use Rattle.cg_formula.specs.declared.formula.Lit.{Lit}
 use Rattle.cg_formula.specs.Lits.{inverse, is_in}
 use Rattle.cg_formula.specs.Assignments.{IsFalsified}
-use Rattle.cg_sat.specs.inner.Store.{live_of}
-use Rattle.cg_sat.specs.inner.Trail.{lits_of}
+use Rattle.cg_sat_state.specs.Store.{live_of}
+use Rattle.cg_sat_state.specs.Trail.{lits_of}
 use Rattle.cg_sat.proofs.Marks.{blank_lit}
-use Rattle.cg_sat.proofs.Store.{clause_within, live_at}
+use Rattle.cg_sat_state.proofs.Store.{clause_within, live_at}
 use Rattle.cg_sat.proofs.UnitClauses.{follows_ends, falsified_more, falsified_kept}
 use Rattle.cg_sat.proofs.units.unit_hints.Goals as goal
 

@@ -1,8 +1,8 @@
 use Rattle.std.proofs.Common.{[], ◌∷◌, take}
 use Rattle.cg_formula.specs.Lits.{inverse}
 use Rattle.cg_formula.specs.Assignments.{IsFalsified}
-use Rattle.cg_sat.specs.inner.Store.{live_of}
-use Rattle.cg_sat.specs.inner.Trail.{lits_of}
+use Rattle.cg_sat_state.specs.Store.{live_of}
+use Rattle.cg_sat_state.specs.Trail.{lits_of}
 use Rattle.cg_sat.specs.inner.Derive.{Follows}
 use Rattle.cg_sat.proofs.units.unit_hints.Given as goal
 

@@ -1,5 +1,0 @@
-use Rattle.cg_sat.proofs.Log.{draft_new}
-use Rattle.cg_sat.proofs.draft.LogDraft.new.Goals as goal
-
-pub invariant_of-result : goal.invariant_of-result
-invariant_of-result c = draft_new c.args.formula.now c.put_clauses.new.clauses c.new.result.items c.in_ok-put_clauses.ensures c.new.ensures.items

@@ -1,0 +1,5 @@
+pub mod Store
+pub mod Arena
+pub mod Ids
+pub mod TrailLaws
+pub mod Log

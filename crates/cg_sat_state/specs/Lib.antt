@@ -1,0 +1,4 @@
+pub mod Store
+pub mod Trail
+pub mod Answer
+pub mod inner

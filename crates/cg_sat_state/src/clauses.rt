@@ -1,0 +1,116 @@
+//! The clauses that a search works with.
+
+ghost use Rattle.std.specs.Prelude.{◌≡◌, ◌+◌, ◌<◌, ◌^◌, Some, None, [], ◌∷◌, ◌++◌, length, MatchOption, OnOk, OnErr};
+ghost use Rattle.cg_sat_state.specs.Store.{clause_at, IsWithout};
+
+use cg_formula::Lit;
+use std::alloc::{AllocError, Global};
+use std::marker::Model;
+
+/// Where the literals of a clause stand.
+#[derive(Clone, Copy)]
+struct Span {
+    from: usize,
+    to: usize,
+    // Whether the clause was not taken away.
+    live: bool,
+}
+
+/// Clauses by place, their literals one behind the other in one buffer that is kept when they are cleared.
+///
+/// A clause that was taken away leaves its place empty, so that places and the ids of a log go together. Contracts
+/// see a list with a clause or none at each place.
+#[derive(Drop)]
+pub struct Clauses {
+    lits: Vec<Lit>,
+    spans: Vec<Span>,
+}
+
+impl Model for Clauses {
+    ghost use Rattle.std.specs.Prelude.{length};
+    ghost use Rattle.std.specs.List.{AllByRecursion};
+    ghost use Rattle.cg_sat_state.specs.Store.{Store};
+    ghost use Rattle.cg_sat_state.specs.inner.Arena.{store_of, IsWithin};
+
+    ghost Value = { Store };
+
+    ghost view = { λ s. store_of s.lits.items s.spans.items };
+
+    ghost invariant = { λ s. AllByRecursion (IsWithin (length s.lits.items)) s.spans.items };
+}
+
+impl Clauses {
+    /// No clause.
+    pub fn new(alloc: Global) -> Self
+        ensures { result ≡ [] }
+    {
+        Clauses {
+            lits: Vec::new(alloc),
+            spans: Vec::new(alloc),
+        }
+    }
+
+    /// How many places there are.
+    pub fn len(&self) -> usize
+        ensures count { result ≡ length self.now }
+        ensures few { result + 1 < 2 ^ 63 }
+    {
+        self.spans.as_slice().len()
+    }
+
+    /// The id in a log of the clause at a place.
+    pub fn id(&self, place: usize) -> u64
+        requires { place < length self.now }
+        ensures { result ≡ place + 1 }
+    {
+        let _ = self.len();
+        place as u64 + 1
+    }
+
+    /// The clause at a place.
+    pub fn get(&self, place: usize) -> Option<&[Lit]>
+        ensures { MatchOption result (clause_at self.now place ≡ None) (λ lits. clause_at self.now place ≡ Some lits.now) }
+    {
+        if place >= self.spans.len() {
+            return None;
+        }
+        let span = self.spans[place];
+        if !span.live {
+            return None;
+        }
+        Some(&self.lits.as_slice()[span.from..span.to])
+    }
+
+    /// Puts a clause behind the others. Where memory is wanting nothing changes.
+    pub fn push(&mut self, lits: &[Lit]) -> Result<(), AllocError>
+        ensures added { OnOk result (self.new ≡ self.old ++ Some lits.now ∷ []) }
+        ensures same { OnErr result (self.new ≡ self.old) }
+    {
+        let from = self.lits.len();
+        self.lits.extend_from_slice(lits)?;
+        let span = Span {
+            from,
+            to: self.lits.len(),
+            live: true,
+        };
+        self.spans.push(span)?;
+        Ok(())
+    }
+
+    /// Takes the clause at a place away.
+    pub fn remove(&mut self, place: usize)
+        ensures { IsWithout self.old place self.new }
+    {
+        if place < self.spans.len() {
+            self.spans[place].live = false;
+        }
+    }
+
+    /// Takes all clauses away, and their places. The buffers stay.
+    pub fn clear(&mut self)
+        ensures { self.new ≡ [] }
+    {
+        self.spans.clear();
+        self.lits.clear();
+    }
+}

@@ -3,7 +3,8 @@ use Rattle.std.proofs.Common.{◌≡◌, ℕ, Bool, not, ◌&&◌, ◌||◌, nat
 use Rattle.std.specs.List.{AllByRecursion, list_any}
 use Rattle.cg_netlist.specs.Circuit.{GatingCell}
 use Rattle.cg_net.specs.NetSets.{is_in}
-use Rattle.cg_net.specs.Marks.{AreMarksOf, IsFirst, is_marked, marked_before}
+use Rattle.cg_net.specs.Marks.{AreMarksOf, is_marked}
+use Rattle.cg_builder.specs.inner.FirstNet.{IsFirst, marked_before}
 use Rattle.cg_netlist.specs.Chains.{chain}
 use Rattle.cg_netlist.specs.Places.{CellWithin}
 use Rattle.cg_builder.specs.inner.Numbers.{GaterWithin}

@@ -28,7 +28,7 @@ use Rattle.cg_parts.proofs.ToldByNames.{known_as, place_back}
 use Rattle.cg_parts.proofs.WaysEnd.{ends_bounded, not_false, undriven_ends}
 use Rattle.cg_netlist.specs.Circuit.{GatingCell, LogicCell, RegisterCell, asked_nets, shown_nets}
 use Rattle.cg_net.specs.NetSets.{is_in}
-use Rattle.cg_net.specs.Marks.{IsFirst}
+use Rattle.cg_builder.specs.inner.FirstNet.{IsFirst}
 use Rattle.cg_net.specs.Names.{NetName, is_known, net_name}
 use Rattle.cg_netlist.specs.Ranks.{driving_cell, rank_of}
 use Rattle.cg_builder.specs.inner.Numbers.{AreNumbers, GaterWithin, Numbers, OpenWithin, drivers_by, driving, driving_gater}

@@ -4,7 +4,8 @@ use Rattle.std.proofs.Common.{arith, nat_eq, nat_lt}
 use Rattle.std.specs.List.{list_any, range_with_len}
 use Rattle.std.proofs.lemmas.Bool.{eqb-true, eq-eqb, both_ways, or_cases, or_left, or_right, ltb-true, lt-ltb, cases_Bool}
 use Rattle.cg_net.specs.NetSets.{is_in}
-use Rattle.cg_net.specs.Marks.{AreMarksOf, is_marked, marked_before}
+use Rattle.cg_net.specs.Marks.{AreMarksOf, is_marked}
+use Rattle.cg_builder.specs.inner.FirstNet.{marked_before}
 
 -- a net at a clock pin comes after none that is before it
 pub any_before : (pins : List ℕ) (a b : ℕ) → is_in pins a ≡ true → a < b → list_any (λ other. nat_lt other b) pins ≡ true

@@ -7,7 +7,7 @@ use Rattle.std.proofs.lemmas.Bool.{ltb-true}
 use Rattle.cg_cell.specs.Name.{is_name}
 use Rattle.cg_parts.specs.declared.fault.NetFault.{NetFault}
 use Rattle.cg_parts.specs.declared.fault.NetFault.TheVariants.{ClockFault, Cycle, NoClock, NoDriver, NoMemory, TwoDrivers}
-use Rattle.cg_net.specs.Marks.{IsFirst}
+use Rattle.cg_builder.specs.inner.FirstNet.{IsFirst}
 use Rattle.cg_net.specs.Names.{NetName, is_known, net_name}
 use Rattle.cg_builder.specs.inner.Finishing.{has_no_clock}
 use Rattle.cg_builder.specs.inner.Heard.{IsHeard}

@@ -11,7 +11,8 @@ use Rattle.std.proofs.lemmas.List.Sums.{sum_by_push, sum_by-cons}
 use Rattle.std.proofs.lemmas.Option.{unwrap_or-slice_get}
 use Rattle.std.proofs.lemmas.List.Folds.{list_any-append}
 use Rattle.cg_net.specs.NetSets.{is_in}
-use Rattle.cg_net.specs.Marks.{AreMarked, IsFirst, is_marked, marked_before}
+use Rattle.cg_net.specs.Marks.{AreMarked, is_marked}
+use Rattle.cg_builder.specs.inner.FirstNet.{IsFirst, marked_before}
 use Rattle.cg_net.proofs.NetSetLemmas.{marked_more}
 use Rattle.cg_net.proofs.TableLemmas.{slice_get-set_other, slice_get-set_same}
 

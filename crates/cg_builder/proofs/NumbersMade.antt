@@ -13,7 +13,7 @@ use Rattle.cg_parts.proofs.SaidByItsParts.{same_wiring}
 use Rattle.cg_parts.proofs.ToldByNames.{known_as, nets_weaker, told}
 use Rattle.cg_netlist.specs.Circuit.{GatingCell, LogicCell, RegisterCell, shown_nets}
 use Rattle.cg_net.specs.NetSets.{is_in}
-use Rattle.cg_net.specs.Names.{NetName, is_known, net_name, place_in}
+use Rattle.cg_net.specs.Names.{NetName, is_known, net_name, name_place}
 use Rattle.cg_builder.specs.inner.Numbers.{AreNumbers, GaterWithin, Numbers, OpenWithin, clock_number, made_of, on_number}
 use Rattle.cg_builder.specs.inner.Numbers.{ordered_numbers, ordered_place, rooted, seen, wired_numbers}
 use Rattle.cg_netlist.specs.Places.{CellWithin}
@@ -134,9 +134,9 @@ module _ (parts : List Part) (n : Numbers) (ok : AreNumbers n) (same : said part
       (each Is (λ x. is_known (map name n.inputs) (name x) ≡ is_in n.inputs x) (λ x lt. known_as n.names ok.different n.inputs x ok.inputs lt) (option_to_list (clock_number n)) clock_within)
 
   -- the places of names are those of numbers
-  place_as : (xs : List ℕ) (x : ℕ) → AllByRecursion Is xs → Is x → place_in (map name xs) (name x) ≡ position_or_len (nat_eq x) xs
+  place_as : (xs : List ℕ) (x : ℕ) → AllByRecursion Is xs → Is x → name_place (map name xs) (name x) ≡ position_or_len (nat_eq x) xs
   place_as [] x all lt = refl
-  place_as (y ∷ ys) x all lt = ap (λ b. cond (not b) (1 + place_in (map name ys) (name x)) 0) (told n.names ok.different x y lt all.0) ∙ ap (λ m. cond (not (nat_eq x y)) (1 + m) 0) (place_as ys x all.1 lt)
+  place_as (y ∷ ys) x all lt = ap (λ b. cond (not b) (1 + name_place (map name ys) (name x)) 0) (told n.names ok.different x y lt all.0) ∙ ap (λ m. cond (not (nat_eq x y)) (1 + m) 0) (place_as ys x all.1 lt)
 
   -- the nets of the wiring are nets
   cells_nets : AllByRecursion (CellNets Is) n.cells
@@ -177,12 +177,12 @@ module _ (parts : List Part) (n : Numbers) (ok : AreNumbers n) (same : said part
       more : List ℕ
       more = filter (λ net. not (is_in n.inputs net)) (option_to_list (clock_number n))
 
-  places_go : WiringNets (λ x. place_in (map name (ordered_numbers n)) (name x) ≡ ordered_place n x) (wired_numbers n)
-  places_go = nets_weaker Is (λ x. place_in (map name (ordered_numbers n)) (name x) ≡ ordered_place n x) (λ x lt. place_as (ordered_numbers n) x order_within lt) (wired_numbers n) wired_within
+  places_go : WiringNets (λ x. name_place (map name (ordered_numbers n)) (name x) ≡ ordered_place n x) (wired_numbers n)
+  places_go = nets_weaker Is (λ x. name_place (map name (ordered_numbers n)) (name x) ≡ ordered_place n x) (λ x lt. place_as (ordered_numbers n) x order_within lt) (wired_numbers n) wired_within
 
   -- so the netlist of the parts is that of the numbers
   pub made_is : (model : List ℕ) → netlist_of model parts ≡ made_of model n
   made_is model =
       ap (numbered model) wired_named
-      ∙ (ap (λ order. circuit model order (map_wiring (place_in order) (map_wiring name (wired_numbers n)))) order_named
-      ∙ ap (circuit model (map name (ordered_numbers n))) (wiring_goes name (place_in (map name (ordered_numbers n))) (ordered_place n) (wired_numbers n) places_go))
+      ∙ (ap (λ order. circuit model order (map_wiring (name_place order) (map_wiring name (wired_numbers n)))) order_named
+      ∙ ap (circuit model (map name (ordered_numbers n))) (wiring_goes name (name_place (map name (ordered_numbers n))) (ordered_place n) (wired_numbers n) places_go))

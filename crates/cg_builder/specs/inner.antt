@@ -1,4 +1,5 @@
 pub mod Finishing
+pub mod FirstNet
 pub mod Heard
 pub mod Mentioned
 pub mod Numbers

@@ -4,7 +4,8 @@ ghost use Rattle.std.specs.Prelude.{◌≡◌, ◌⊎◌, ◌<◌, ◌&&◌, ◌
 ghost use Rattle.std.specs.List.{All};
 ghost use Rattle.cg_cell.specs.Name.{is_name};
 ghost use Rattle.cg_net.specs.NetSets.{is_in};
-ghost use Rattle.cg_net.specs.Marks.{AreMarksOf, IsFirst};
+ghost use Rattle.cg_net.specs.Marks.{AreMarksOf};
+ghost use Rattle.cg_builder.specs.inner.FirstNet.{IsFirst};
 ghost use Rattle.cg_netlist.specs.Ranks.{ranks_of};
 ghost use Rattle.cg_parts.specs.declared.fault.NetFault.TheVariants.{ClockFault, Cycle, NoDriver, NoMemory, TwoDrivers};
 ghost use Rattle.cg_builder.specs.inner.Finishing.{FindsFirstFault, has_no_clock};

@@ -3,7 +3,8 @@
 ghost use Rattle.std.specs.Prelude.{◌≡◌, ◌<◌, ◌&&◌, ◌||◌, ℕ, Bool, Some, not, nat_eq, nat_lt, length, IfOk};
 ghost use Rattle.std.specs.List.{All, count_by};
 ghost use Rattle.cg_net.specs.NetSets.{is_in};
-ghost use Rattle.cg_net.specs.Marks.{AreMarksOf, IsFirst, is_marked, marked_before};
+ghost use Rattle.cg_net.specs.Marks.{AreMarksOf, is_marked};
+ghost use Rattle.cg_builder.specs.inner.FirstNet.{IsFirst, marked_before};
 
 use cg_net::id::NetId;
 use std::alloc::{AllocError, Global};

@@ -5,8 +5,7 @@ use Rattle.cg_aig.specs.Aig.{aig_ops}
 use Rattle.cg_formula.specs.Bounds.{IsFormula}
 use Rattle.cg_cnf.specs.Clauses.{IsOneAt, formula_of}
 use Rattle.cg_lrat.specs.AcceptedLog.{IsAccepted}
-use Rattle.cg_lrat.specs.Bounds.{IsLog}
-use Rattle.cg_sat_state.specs.Answer.{AreNumbered}
+use Rattle.cg_lrat.specs.Bounds.{AreNumbered, IsLog}
 use Rattle.cg_decide.specs.declared.decision.Decision.{Decision}
 use Rattle.cg_decide.specs.declared.decision.Decision.TheVariants.{Never, Sometimes}
 

@@ -5,6 +5,7 @@ use Rattle.std.specs.List.{AllByRecursion}
 use Rattle.std.specs.Option.{option_map}
 use Rattle.std.proofs.lemmas.Bool.Decides.{nat_tests}
 use Rattle.cg_cell.specs.Name.{are_distinct, has_no_equals, is_name}
+use Rattle.cg_limit.specs.declared.TheConstants.{MOST_PINS}
 use Rattle.cg_liberty_group.specs.declared.group.CellGroup.{CellGroup}
 use Rattle.cg_liberty_group.specs.declared.pin_text.PinText.{PinText}
 use Rattle.cg_liberty.specs.Port.{ArePorts, fit_together, is_sound, ports_among, ports_of, ports_that_fit, sound_ports}
@@ -37,15 +38,15 @@ all_named [] = record { named = tt; unsplit = tt }
 all_named (pin ∷ pins) = one_named (record { name = pin.name; marks = pin.marks }) (sound_ports pins) (is_sound pin) (both (is_name pin.name) (has_no_equals pin.name) ((pin.marks.is_input || pin.marks.is_output) && not pin.marks.is_three_state)) (all_named pins)
 
 -- ports that fit together are the pins of a cell
-together : (ports : List Port) → AreNamed ports → (nat_le (length ports) 16 && are_distinct (map (λ port. port.name) ports)) ≡ true → ArePorts ports
+together : (ports : List Port) → AreNamed ports → (nat_le (length ports) MOST_PINS && are_distinct (map (λ port. port.name) ports)) ≡ true → ArePorts ports
 together ports names fits = record {
   few = few_of (length ports) (are_distinct (map (λ port. port.name) ports)) fits;
-  distinct = distinct_of (nat_le (length ports) 16) (are_distinct (map (λ port. port.name) ports)) fits;
+  distinct = distinct_of (nat_le (length ports) MOST_PINS) (are_distinct (map (λ port. port.name) ports)) fits;
   named = names.named;
   unsplit = names.unsplit;
 }
   where
-    few_of : (n : ℕ) (b : Bool) → (nat_le n 16 && b) ≡ true → n ≤ 16
+    few_of : (n : ℕ) (b : Bool) → (nat_le n MOST_PINS && b) ≡ true → n ≤ MOST_PINS
     few_of n b e = grind (arith, nat_tests)
 
     distinct_of : (a b : Bool) → (a && b) ≡ true → b ≡ true

@@ -3,6 +3,7 @@ use Rattle.std.specs.Prelude.{ℕ, ◌≤◌, IsTrue, Bool, cond, not, ◌&&◌,
 use Rattle.std.specs.Prelude.{Option, None, Some, option_map}
 use Rattle.std.specs.List.{AllByRecursion}
 use Rattle.cg_cell.specs.Name.{are_distinct, has_no_equals, is_name}
+use Rattle.cg_limit.specs.declared.TheConstants.{MOST_PINS}
 use Rattle.cg_liberty_group.specs.declared.group.CellGroup.{CellGroup}
 use Rattle.cg_liberty_group.specs.declared.pin_text.PinText.{PinText}
 use Rattle.cg_liberty.specs.declared.port.Port.{Port}
@@ -21,9 +22,9 @@ sound_ports [] = Some []
 sound_ports (pin ∷ pins) =
     cond (is_sound pin) (option_map (λ ports. record { name = pin.name; marks = pin.marks } ∷ ports) (sound_ports pins)) None
 
--- pins that one cell may have together: at most 16, of different names
+-- pins that one usable cell may have together: not too many, of different names
 abbrev pub fit_together : List Port → Bool
-fit_together ports = nat_le (length ports) 16 && are_distinct (map (λ port. port.name) ports)
+fit_together ports = nat_le (length ports) MOST_PINS && are_distinct (map (λ port. port.name) ports)
 
 abbrev pub ports_that_fit : Option (List Port) → Option (List Port)
 ports_that_fit None = None
@@ -39,7 +40,7 @@ ports_of cell = cond (cell.has_bus || not (has_no_equals cell.name)) None (ports
 
 -- what is true of the pins of a cell whose kind is to be looked for further
 pub record ArePorts (ports : List Port) : Type 0 where
-  pub few : length ports ≤ 16
+  pub few : length ports ≤ MOST_PINS
   pub distinct : IsTrue (are_distinct (map (λ port. port.name) ports))
   pub named : AllByRecursion (λ port. IsTrue (is_name port.name)) ports
   pub unsplit : AllByRecursion (λ port. IsTrue (has_no_equals port.name)) ports

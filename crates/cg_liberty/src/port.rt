@@ -9,7 +9,8 @@ ghost use Rattle.cg_liberty.specs.Port.{ArePorts, fit_together, is_sound, ports_
 
 use cg_cell::name::Name;
 use cg_liberty_group::group::CellGroup;
-use cg_liberty_group::pin_text::{MOST_PINS, Marks, PinText};
+use cg_liberty_group::pin_text::{Marks, PinText};
+use cg_limit::MOST_PINS;
 use cg_list::Seq;
 use std::alloc::{AllocError, Global};
 

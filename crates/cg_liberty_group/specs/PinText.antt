@@ -1,5 +1,6 @@
 -- The pins that a `pin` group describes, as the text has them.
 use Rattle.std.specs.Prelude.{cond, nat_le, List, [], map, length, codes, Option, None, Some}
+use Rattle.cg_limit.specs.declared.TheConstants.{MOST_PINS}
 use Rattle.cg_liberty_group.specs.Group.{is_there, states, text_of}
 use Rattle.cg_liberty_group.specs.declared.group.PinGroup.{PinGroup}
 use Rattle.cg_liberty_group.specs.declared.pin_text.Marks.{Marks}
@@ -25,4 +26,4 @@ group_pins group =
 
 -- pins, unless there are more than a usable cell has
 abbrev pub few_pins : List PinText → Option (List PinText)
-few_pins pins = cond (nat_le (length pins) 16) (Some pins) None
+few_pins pins = cond (nat_le (length pins) MOST_PINS) (Some pins) None

@@ -17,7 +17,7 @@ pub enum Stated<'a> {
     /// The attribute is not there.
     Missing,
 
-    /// It is there, and its value is neither one word nor one string.
+    /// It is there, and has no value of one word or one string: its value is another, or it is a complex attribute.
     Bare,
 
     /// It is there with this text.
@@ -140,7 +140,7 @@ impl<'a> PinGroup<'a> {
 /// What is looked at of an `ff` group.
 #[derive(Drop)]
 pub struct FlopGroup<'a> {
-    /// The names of the state and of its inverse.
+    /// Its arguments: the names of the state and of its inverse, where they are two.
     pub names: Arguments<'a>,
 
     /// `next_state`
@@ -193,7 +193,7 @@ impl<'a> FlopGroup<'a> {
     }
 }
 
-/// The `ff` groups of a cell. A cell with several is unusable, so none of them is kept then.
+/// The `ff` groups of a cell. No rule looks into several, so none of them is kept then.
 #[derive(Drop)]
 pub enum Flops<'a> {
     /// There is none.
@@ -234,7 +234,8 @@ pub struct CellGroup<'a> {
     /// Whether a `latch`, `statetable`, `ff_bank` or `latch_bank` group stands in it.
     pub has_bank: bool,
 
-    /// The pins that its `pin` groups describe, in order; None where there are more than a usable cell has.
+    /// The pins that its `pin` groups describe, in order, but those of internal ones; None where there are more than a usable
+    /// cell has.
     pub pins: Option<Seq<PinText<'a>>>,
 
     /// Its `ff` groups.

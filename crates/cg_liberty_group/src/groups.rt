@@ -15,7 +15,7 @@ use std::alloc::Global;
 
 /// Passes over the rest of a group, with its `}`. It calls itself no deeper than groups nest.
 ///
-/// Errs with the fault of the text, where that stands in what is passed over.
+/// Errs with the first fault of what is left of the text.
 #[tactic(auto, using(crate::proofs::Inside::behind_inside))]
 pub fn pass_group(statements: &mut Statements<'_>) -> Result<(), TextFault>
     ensures left { MatchResult result (λ _. IsLeft statements.old statements.new) (λ fault. statements.old.1 ≡ Some fault) }
@@ -140,8 +140,8 @@ fn fill_cell<'a>(statements: &mut Statements<'a>, cell: &mut CellGroup<'a>) -> R
 
 /// Reads the rest of a `cell` group of this name, with its `}`.
 ///
-/// Errs with the fault of the text, where that stands in the group, and where there is not enough memory. That there are
-/// more pins than a usable cell has, or several `ff` groups, is no fault.
+/// Errs with the first fault of what is left of the text, and where there is not enough memory. That there are more pins
+/// than a usable cell has, or several `ff` groups, is no fault.
 pub fn read_cell<'a>(
     alloc: Global,
     statements: &mut Statements<'a>,

@@ -5,11 +5,9 @@ ghost use Rattle.cg_liberty_group.specs.PinText.{few_pins, group_pins, marks_of}
 
 use crate::group::PinGroup;
 use cg_liberty_text::text::Text;
+use cg_limit::MOST_PINS;
 use cg_list::Seq;
 use std::alloc::AllocError;
-
-/// The most pins that a usable cell has.
-pub const MOST_PINS: usize = 16;
 
 /// What a `pin` group says of each of its pins.
 #[derive(Drop)]
@@ -90,7 +88,7 @@ impl<'a> PinGroup<'a> {
 }
 
 /// Puts the pins of a group behind the others, and answers whether there are no more than a usable cell has; those of an
-/// internal group are left out. No more are put there than that, however many the group names.
+/// internal group are left out. It stops at the first that is too many.
 #[tactic(auto, using(crate::proofs::FewPins::one_too_many))]
 pub(crate) fn add_pins<'a>(
     pins: &mut Seq<PinText<'a>>,

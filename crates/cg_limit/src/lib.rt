@@ -1,6 +1,7 @@
 //! The limits of what is read and built, each with its number, and what every refusal has in common.
 //!
-//! A text or a circuit at a limit is taken; one past it is refused with the [`Limit`] that it passes.
+//! A text or a circuit at a limit is taken; one past it is refused with the [`Limit`] that it passes. The pins of a cell alone
+//! have a limit that nothing is refused for: [`MOST_PINS`].
 #![tactic(auto)]
 
 /// A quantity that has a limit. A refusal that names it says that the limit would be passed.
@@ -54,6 +55,9 @@ pub const MOST_NESTING: usize = 64;
 
 /// The leaves and and-nodes that one claim may have.
 pub const MOST_CLAIM_NODES: u32 = 65_536;
+
+/// The pins that a usable cell of a library may have. A cell with more is not refused: it is unusable.
+pub const MOST_PINS: usize = 16;
 
 /// The rows that a stimulus may have.
 pub const MOST_ROWS: usize = 1_048_576;

@@ -1,6 +1,6 @@
--- The bounds of logs: which variables and ids their steps may name.
-use Rattle.std.specs.Prelude.{ℕ, ◌-◌, ◌^◌, ◌<◌, ◌≤◌}
-use Rattle.std.specs.List.{AllByRecursion}
+-- The bounds of logs: which variables and ids their steps may name, and on which lines they stand.
+use Rattle.std.specs.Prelude.{◌≡◌, ℕ, ◌+◌, ◌-◌, ◌^◌, ◌<◌, ◌≤◌, List, Some}
+use Rattle.std.specs.List.{AllByRecursion, slice_get}
 use Rattle.cg_formula.specs.Bounds.{IsClause}
 use Rattle.cg_lrat.specs.declared.log.Body.{Body}
 use Rattle.cg_lrat.specs.declared.log.Body.TheVariants.{Add, Delete}
@@ -23,3 +23,7 @@ pub record IsStep (step : Step) : Type 0 where
 
 abbrev pub IsLog : Log → Type 0
 IsLog log = AllByRecursion IsStep log.steps
+
+-- the steps stand on the lines from 1 on
+abbrev pub AreNumbered : List Step → Type 0
+AreNumbered steps = (k : ℕ) (step : Step) → slice_get steps k ≡ Some step → step.line ≡ k + 1

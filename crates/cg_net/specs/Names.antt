@@ -31,5 +31,5 @@ abbrev pub net_name : List NetName → ℕ → NetName
 net_name names net = unwrap_or (slice_get names net) []
 
 -- the place of a name among names
-abbrev pub place_in : List NetName → NetName → ℕ
-place_in names name = position_or_len (bytes_eq name) names
+abbrev pub name_place : List NetName → NetName → ℕ
+name_place names name = position_or_len (bytes_eq name) names

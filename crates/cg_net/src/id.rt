@@ -1,13 +1,14 @@
 //! The numbers by which the parts of a netlist refer to each other.
 //!
-//! A number is the place of the part in its list, and means nothing without the netlist that it is used with. They
-//! are 32 bits wide, so that the lists of a large netlist stay small.
+//! A number is the place of the part in its list, and means nothing without the lists that it is used with: those of a
+//! netlist, or those of parts that are still told. They are 32 bits wide, so that the lists of a large netlist stay small.
 
 ghost use Rattle.std.specs.Prelude.{◌≡◌, ◌<◌, ◌^◌};
 
 use std::marker::Model;
 
-/// The number of a net: its place in net order.
+/// The number of a net: its place in net order, where a netlist has it; while parts are told, the place at which its name
+/// came.
 #[derive(Clone, Copy, Debug, PartialEq, Eq)]
 pub struct NetId {
     number: u32,

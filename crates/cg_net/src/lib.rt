@@ -1,6 +1,8 @@
-//! Nets: their numbers, their names, and sets of them. What drives a net and what a netlist is stand in `cg_netlist`.
+//! The numbers of nets and of other parts of a netlist, the names of nets, and sets of nets. What drives a net and what a
+//! netlist is stand in `cg_netlist`.
 //!
-//! In go names as bytes. Out come numbers: the place at which a name came, or its place in an order of the nets.
+//! A name goes in as bytes, and out comes a number: the place at which the name came, or its place in an order of the nets.
+//! A set takes nets, and tells which are there.
 //!
 //! The modules, in the order in which data flows through them:
 //!

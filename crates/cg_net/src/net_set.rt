@@ -1,6 +1,6 @@
 //! Nets that are taken once.
 
-ghost use Rattle.std.specs.Prelude.{◌≡◌, ◌<◌, ◌^◌, ℕ, [], Some, false, OnOk, length, slice_get};
+ghost use Rattle.std.specs.Prelude.{◌≡◌, ◌<◌, ◌^◌, ℕ, [], Some, false, OnErr, OnOk, length, slice_get};
 ghost use Rattle.cg_net.specs.NetSets.{is_in, with_net, with_nets};
 ghost use Rattle.cg_net.specs.Marks.{AreMarked, is_marked};
 
@@ -8,7 +8,8 @@ use crate::id::NetId;
 use std::alloc::{AllocError, Global};
 use std::marker::Model;
 
-/// Nets in the order in which they came, each once. A mark for each net tells at once whether it is there.
+/// Nets in the order in which they came; one that is there is not put in again. A mark for each net tells at once whether
+/// it is there.
 ///
 /// Clauses see the list of the nets.
 #[derive(Drop)]
@@ -46,9 +47,10 @@ impl NetSet {
         mark_at(&self.marks, net.number() as usize)
     }
 
-    /// Puts a net behind the others, if it is not among them.
+    /// Puts a net behind the others, if it is not among them. Where memory is wanting nothing changes.
     pub fn insert(&mut self, net: NetId) -> Result<(), AllocError>
-        ensures { OnOk result (self.new ≡ with_net self.old net) }
+        ensures put { OnOk result (self.new ≡ with_net self.old net) }
+        ensures same { OnErr result (self.new ≡ self.old) }
     {
         let place = net.number() as usize;
         reach(&mut self.marks, place)?;
@@ -60,7 +62,7 @@ impl NetSet {
         Ok(())
     }
 
-    /// Puts each of these nets that is not among the others behind them.
+    /// Puts each of these nets that is not among the others behind them. Where memory is wanting some may be there.
     pub fn extend(&mut self, nets: &[NetId]) -> Result<(), AllocError>
         ensures { OnOk result (self.new ≡ with_nets self.old nets.now) }
     {

@@ -3,7 +3,7 @@ use Rattle.std.specs.Prelude.{ℕ, Bool, not, List, ◌++◌, map, Option}
 use Rattle.std.specs.List.{list_any, filter, flat_map}
 use Rattle.std.specs.Option.{option_map, option_to_list}
 use Rattle.std.specs.Str.{bytes_eq}
-use Rattle.cg_net.specs.Names.{NetName, net_name, place_in}
+use Rattle.cg_net.specs.Names.{NetName, net_name, name_place}
 use Rattle.cg_netlist.specs.Circuit.{Circuit, LogicCell, GatingCell, RegisterCell, asked_nets, shown_nets}
 
 -- what a netlist has but for the names of its model and of its nets
@@ -119,4 +119,4 @@ named c = map_wiring (net_name c.names) (wiring c)
 
 -- the netlist of a wiring by names: the nets are numbered in net order
 abbrev pub numbered : List ℕ → Wiring NetName → Circuit
-numbered model w = circuit model (order_of bytes_eq w) (map_wiring (place_in (order_of bytes_eq w)) w)
+numbered model w = circuit model (order_of bytes_eq w) (map_wiring (name_place (order_of bytes_eq w)) w)

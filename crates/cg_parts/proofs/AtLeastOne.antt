@@ -26,7 +26,7 @@ use Rattle.cg_parts.proofs.OrderedParts.{wired_back}
 use Rattle.cg_parts.proofs.RankedParts.{all_end, ranks_long, ranks_of, rising}
 use Rattle.cg_netlist.specs.Circuit.{RegisterCell}
 use Rattle.cg_net.specs.NetSets.{is_in}
-use Rattle.cg_net.specs.Names.{NetName, is_known, place_in}
+use Rattle.cg_net.specs.Names.{NetName, is_known, name_place}
 use Rattle.cg_netlist.specs.WellFormed.{IsWellFormed}
 use Rattle.cg_parts.specs.Faults.{IsFaultless}
 use Rattle.cg_parts.specs.Part.{Gate, Logic, Part, Register, cell_in, cells, clock_of, clock_pins, gater_in, gaters, mentioned}
@@ -42,7 +42,7 @@ module _ (model : List ℕ) (parts : List Part) (taken : AreTaken model parts) (
   order = order_of bytes_eq w
 
   abbrev place : NetName → ℕ
-  place = place_in order
+  place = name_place order
 
   abbrev On : NetName → Type 0
   On x = is_known order x ≡ true

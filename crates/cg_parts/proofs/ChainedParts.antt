@@ -13,7 +13,7 @@ use Rattle.cg_parts.proofs.Mentioned.{gate_net_mentioned}
 use Rattle.cg_parts.proofs.NamePlaces.{mapped_at}
 use Rattle.cg_parts.proofs.OrderedParts.{root_clock}
 use Rattle.cg_netlist.specs.Circuit.{GatingCell}
-use Rattle.cg_net.specs.Names.{NetName, is_known, place_in}
+use Rattle.cg_net.specs.Names.{NetName, is_known, name_place}
 use Rattle.cg_parts.specs.Faults.{IsClockProper, IsFaultless, IsGateProper, reaches}
 use Rattle.cg_parts.specs.Part.{Part, clock_of, gaters, nets, roots, wired}
 use Rattle.cg_netlist.specs.Wiring.{Wiring, driven_by_gaters, map_gater, order_of}
@@ -26,7 +26,7 @@ module _ (parts : List Part) (fine : IsFaultless parts) where
   order = order_of bytes_eq w
 
   abbrev place : NetName → ℕ
-  place = place_in order
+  place = name_place order
 
   abbrev Reached : GatingCell NetName → Type 0
   Reached g = (n : ℕ) × (reaches parts n g.output ≡ true)

@@ -13,7 +13,7 @@ use Rattle.cg_parts.proofs.ByKind.{filter_has}
 use Rattle.cg_parts.proofs.KnownNames.{itself, known_head, known_left, known_tail, same_word}
 use Rattle.cg_parts.proofs.NamePlaces.{place_at, place_below, same_place}
 use Rattle.cg_net.specs.NetSets.{is_in}
-use Rattle.cg_net.specs.Names.{NetName, is_known, place_in}
+use Rattle.cg_net.specs.Names.{NetName, is_known, name_place}
 use Rattle.cg_parts.specs.Part.{each_once}
 
 -- lists in which no name stands twice
@@ -26,8 +26,8 @@ apart_from [] different = tt
 apart_from (x ∷ xs) different = (
   false_from_ne_true (is_known xs x) (λ again.
       let at = place_at xs x again in
-      let lt : place_in xs x < length xs = place_below xs x again in
-      different 0 (suc (place_in xs x)) [] (omega arith) (omega (arith, lt)) (sym (get_or_from_slice_get xs (place_in xs x) x [] at))),
+      let lt : name_place xs x < length xs = place_below xs x again in
+      different 0 (suc (name_place xs x)) [] (omega arith) (omega (arith, lt)) (sym (get_or_from_slice_get xs (name_place xs x) x [] at))),
   apart_from xs (λ i j d before within. different (suc i) (suc j) d (omega (arith, before)) (omega (arith, within))),
 )
 
@@ -67,23 +67,23 @@ apart_once (x ∷ xs) = (
 pub no_more : (xs ys : List NetName) → Apart xs → ((x : NetName) → is_known xs x ≡ true → is_known ys x ≡ true) → length xs ≤ length ys
 unfolding IsDistinct
 no_more xs ys apart within =
-    let places : length (map (place_in ys) xs) ≤ length ys = length-le_from_distinct_below (map (place_in ys) xs) (length ys) (distinct xs apart within) (λ n i. below xs n within i) in
-    omega (arith, places, length-map xs (place_in ys))
+    let places : length (map (name_place ys) xs) ≤ length ys = length-le_from_distinct_below (map (name_place ys) xs) (length ys) (distinct xs apart within) (λ n i. below xs n within i) in
+    omega (arith, places, length-map xs (name_place ys))
   where
-    back : (zs : List NetName) (n : ℕ) → is_in (map (place_in ys) zs) n ≡ true → (z : NetName) × (is_known zs z ≡ true) × (n ≡ place_in ys z)
+    back : (zs : List NetName) (n : ℕ) → is_in (map (name_place ys) zs) n ≡ true → (z : NetName) × (is_known zs z ≡ true) × (n ≡ name_place ys z)
     back [] n i = absurd (both_ways false refl i)
-    back (z ∷ zs) n i = elim (or_cases (nat_eq n (place_in ys z)) (is_in (map (place_in ys) zs) n) i) [
-      | inl here ↦ (z, known_head z zs, eqb-true n (place_in ys z) here)
+    back (z ∷ zs) n i = elim (or_cases (nat_eq n (name_place ys z)) (is_in (map (name_place ys) zs) n) i) [
+      | inl here ↦ (z, known_head z zs, eqb-true n (name_place ys z) here)
       | inr later ↦ let more = back zs n later in (more.0, known_tail z more.0 zs more.1, more.2)
     ]
 
-    below : (zs : List NetName) (n : ℕ) → ((x : NetName) → is_known zs x ≡ true → is_known ys x ≡ true) → is_in (map (place_in ys) zs) n ≡ true → n < length ys
+    below : (zs : List NetName) (n : ℕ) → ((x : NetName) → is_known zs x ≡ true → is_known ys x ≡ true) → is_in (map (name_place ys) zs) n ≡ true → n < length ys
     below zs n in' i = let z = back zs n i in subst (λ m. m < length ys) (sym z.2) (place_below ys z.0 (in' z.0 z.1))
 
-    distinct : (zs : List NetName) → Apart zs → ((x : NetName) → is_known zs x ≡ true → is_known ys x ≡ true) → IsDistinct nat_eq (map (place_in ys) zs)
+    distinct : (zs : List NetName) → Apart zs → ((x : NetName) → is_known zs x ≡ true → is_known ys x ≡ true) → IsDistinct nat_eq (map (name_place ys) zs)
     distinct [] apart' in' = tt
-    distinct (z ∷ zs) apart' in' = distinct_cons (place_in ys z) (map (place_in ys) zs)
-        (false_from_ne_true (is_in (map (place_in ys) zs) (place_in ys z)) (λ again.
-        let y = back zs (place_in ys z) again in
+    distinct (z ∷ zs) apart' in' = distinct_cons (name_place ys z) (map (name_place ys) zs)
+        (false_from_ne_true (is_in (map (name_place ys) zs) (name_place ys z)) (λ again.
+        let y = back zs (name_place ys z) again in
         both_ways (is_known zs z) apart'.0 (ap (is_known zs) (same_place ys z y.0 (in' z (known_head z zs)) (in' y.0 (known_tail z y.0 zs y.1)) y.2) ∙ y.1)))
         (distinct zs apart'.1 (λ x i. in' x (known_tail z x zs i)))

@@ -12,7 +12,7 @@ use Rattle.cg_parts.proofs.KnownNames.{known_cases, known_each, known_left, know
 use Rattle.cg_parts.proofs.Mentioned.{gate_net_mentioned}
 use Rattle.cg_parts.proofs.NamePlaces.{place_at}
 use Rattle.cg_netlist.specs.Circuit.{GatingCell}
-use Rattle.cg_net.specs.Names.{NetName, is_known, place_in}
+use Rattle.cg_net.specs.Names.{NetName, is_known, name_place}
 use Rattle.cg_parts.specs.Faults.{EachNet, IsDrivenOnce}
 use Rattle.cg_parts.specs.Part.{Part, cells, clock_pins, clocks, drivers, gaters, inputs, nets, registers, roots}
 use Rattle.cg_netlist.specs.Wiring.{driven_by_cells, driven_by_gaters, driven_by_registers}
@@ -50,14 +50,14 @@ module _ (parts : List Part) (once : EachNet parts (IsDrivenOnce parts)) where
 
   pub front_apart : (x : NetName) → is_known front x ≡ true → is_known (driven_by_gaters (gaters parts)) x ≡ true → ⊥
   front_apart x front_in gate =
-      let i = place_in front x in
-      let k = place_in (driven_by_gaters (gaters parts)) x in
+      let i = name_place front x in
+      let k = name_place (driven_by_gaters (gaters parts)) x in
       let at = place_at front x front_in in
-      let within : place_in front x < length front = slice_get_within front (place_in front x) x at in
-      let one : place_in front x ≡ length front + place_in (driven_by_gaters (gaters parts)) x =
-      one_place (drivers parts) x (once_gated x gate) (place_in front x) (length front + place_in (driven_by_gaters (gaters parts)) x)
-      (before (front ++ driven_by_gaters (gaters parts)) (driven_by_registers (registers parts)) (place_in front x) x (before front (driven_by_gaters (gaters parts)) (place_in front x) x at))
-      (gate_place (place_in (driven_by_gaters (gaters parts)) x) x (place_at (driven_by_gaters (gaters parts)) x gate)) in
+      let within : name_place front x < length front = slice_get_within front (name_place front x) x at in
+      let one : name_place front x ≡ length front + name_place (driven_by_gaters (gaters parts)) x =
+      one_place (drivers parts) x (once_gated x gate) (name_place front x) (length front + name_place (driven_by_gaters (gaters parts)) x)
+      (before (front ++ driven_by_gaters (gaters parts)) (driven_by_registers (registers parts)) (name_place front x) x (before front (driven_by_gaters (gaters parts)) (name_place front x) x at))
+      (gate_place (name_place (driven_by_gaters (gaters parts)) x) x (place_at (driven_by_gaters (gaters parts)) x gate)) in
       omega (arith, within, one)
 
   -- a gating cell's output is no root

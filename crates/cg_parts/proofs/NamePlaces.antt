@@ -15,10 +15,10 @@ use Rattle.std.proofs.lemmas.Option.{unwrap_or-slice_get}
 use Rattle.cg_netlist.proofs.OrderedForm.{names}
 use Rattle.cg_parts.proofs.KnownNames.{first_step, itself, known_head, known_tail, same_word}
 use Rattle.cg_net.specs.NetSets.{is_in}
-use Rattle.cg_net.specs.Names.{NetName, is_known, net_name, place_in}
+use Rattle.cg_net.specs.Names.{NetName, is_known, net_name, name_place}
 
 -- the place of a name in a list in which it stands once
-pub number_is : (names : List NetName) (i : ℕ) (name : NetName) → AllPairs (λ n other. n ≢ other) names → slice_get names i ≡ Some name → place_in names name ≡ i
+pub number_is : (names : List NetName) (i : ℕ) (name : NetName) → AllPairs (λ n other. n ≢ other) names → slice_get names i ≡ Some name → name_place names name ≡ i
 number_is names i name different at =
     let here : get_or names i [] ≡ name = get_or_from_slice_get names i name [] at in
     let within = slice_get_within names i name at in
@@ -75,47 +75,47 @@ first_of_one [] x is one = absurd (both_ways false refl is)
 first_of_one (y ∷ ys) x is one = ap (λ z. Some z) (one y (known_head y ys))
 
 -- the place of a word
-pub place_at : (xs : List NetName) (x : NetName) → is_known xs x ≡ true → slice_get xs (place_in xs x) ≡ Some x
+pub place_at : (xs : List NetName) (x : NetName) → is_known xs x ≡ true → slice_get xs (name_place xs x) ≡ Some x
 place_at [] x is = absurd (both_ways false refl is)
 place_at (y ∷ ys) x is = go (bytes_eq x y) refl (λ more. place_at ys x more)
   where
-    go : (b : Bool) → bytes_eq x y ≡ b → (is_known ys x ≡ true → slice_get ys (place_in ys x) ≡ Some x) → slice_get (y ∷ ys) (cond (not b) (1 + place_in ys x) 0) ≡ Some x
+    go : (b : Bool) → bytes_eq x y ≡ b → (is_known ys x ≡ true → slice_get ys (name_place ys x) ≡ Some x) → slice_get (y ∷ ys) (cond (not b) (1 + name_place ys x) 0) ≡ Some x
     go true e more = ap (λ z. Some z) (sym (same_word x y e))
     go false e more =
-        let next : 1 + place_in ys x ≡ suc (place_in ys x) = omega arith in
+        let next : 1 + name_place ys x ≡ suc (name_place ys x) = omega arith in
         ap (slice_get (y ∷ ys)) next ∙ more (elim (or_cases (bytes_eq x y) (is_known ys x) is) [ inl here ↦ absurd (both_ways (bytes_eq x y) e here) | inr later ↦ later ])
 
-pub name_back : (xs : List NetName) (x : NetName) → is_known xs x ≡ true → net_name xs (place_in xs x) ≡ x
+pub name_back : (xs : List NetName) (x : NetName) → is_known xs x ≡ true → net_name xs (name_place xs x) ≡ x
 name_back xs x is = ap (λ o. unwrap_or o []) (place_at xs x is)
 
-pub place_below : (xs : List NetName) (x : NetName) → is_known xs x ≡ true → place_in xs x < length xs
-place_below xs x is = slice_get_within xs (place_in xs x) x (place_at xs x is)
+pub place_below : (xs : List NetName) (x : NetName) → is_known xs x ≡ true → name_place xs x < length xs
+place_below xs x is = slice_get_within xs (name_place xs x) x (place_at xs x is)
 
-pub same_place : (xs : List NetName) (x y : NetName) → is_known xs x ≡ true → is_known xs y ≡ true → place_in xs x ≡ place_in xs y → x ≡ y
+pub same_place : (xs : List NetName) (x y : NetName) → is_known xs x ≡ true → is_known xs y ≡ true → name_place xs x ≡ name_place xs y → x ≡ y
 same_place xs x y x_in y_in same = sym (name_back xs x x_in) ∙ (ap (net_name xs) same ∙ name_back xs y y_in)
 
-pub places_are : (xs : List NetName) → AllPairs (λ name other. name ≢ other) xs → map (place_in xs) xs ≡ range_with_len 0 (length xs)
+pub places_are : (xs : List NetName) → AllPairs (λ name other. name ≢ other) xs → map (name_place xs) xs ≡ range_with_len 0 (length xs)
 places_are xs different =
-    fill_by_all (λ k. k) (map (place_in xs) xs) (length xs) 0 (length-map xs (place_in xs)) (λ k lt.
+    fill_by_all (λ k. k) (map (name_place xs) xs) (length xs) 0 (length-map xs (name_place xs)) (λ k lt.
     let at : slice_get xs k ≡ Some (get_or xs k []) = slice_get-get_or xs k [] lt in
-    get_or_from_slice_get (map (place_in xs) xs) k k 0 (slice_get-map (place_in xs) xs k ∙ (ap (option_map (place_in xs)) at ∙ ap (λ m. Some m) (number_is xs k (get_or xs k []) different at))))
+    get_or_from_slice_get (map (name_place xs) xs) k k 0 (slice_get-map (name_place xs) xs k ∙ (ap (option_map (name_place xs)) at ∙ ap (λ m. Some m) (number_is xs k (get_or xs k []) different at))))
     ∙ map-id (range_with_len 0 (length xs))
 
 -- a net is among numbered ones as its name is among the names
-pub placed_as : (order xs : List NetName) (x : NetName) → AllByRecursion (λ y. is_known order y ≡ true) xs → is_known order x ≡ true → is_in (map (place_in order) xs) (place_in order x) ≡ is_known xs x
+pub placed_as : (order xs : List NetName) (x : NetName) → AllByRecursion (λ y. is_known order y ≡ true) xs → is_known order x ≡ true → is_in (map (name_place order) xs) (name_place order x) ≡ is_known xs x
 placed_as order [] x all is = refl
-placed_as order (y ∷ ys) x all is = ap (λ b. b || is_in (map (place_in order) ys) (place_in order x)) one ∙ ap (λ b. bytes_eq x y || b) (placed_as order ys x all.1 is)
+placed_as order (y ∷ ys) x all is = ap (λ b. b || is_in (map (name_place order) ys) (name_place order x)) one ∙ ap (λ b. bytes_eq x y || b) (placed_as order ys x all.1 is)
   where
-    one : nat_eq (place_in order x) (place_in order y) ≡ bytes_eq x y
+    one : nat_eq (name_place order x) (name_place order y) ≡ bytes_eq x y
     one = elim (cases_Bool (bytes_eq x y)) [
-      | inl same ↦ eq-eqb (place_in order x) (place_in order y) (ap (place_in order) (same_word x y same)) ∙ sym same
-      | inr other ↦ false_from_ne_true (nat_eq (place_in order x) (place_in order y)) (λ same.
-          both_ways (bytes_eq x y) other (ap (bytes_eq x) (sym (same_place order x y is all.0 (eqb-true (place_in order x) (place_in order y) same))) ∙ itself x)) ∙ sym other
+      | inl same ↦ eq-eqb (name_place order x) (name_place order y) (ap (name_place order) (same_word x y same)) ∙ sym same
+      | inr other ↦ false_from_ne_true (nat_eq (name_place order x) (name_place order y)) (λ same.
+          both_ways (bytes_eq x y) other (ap (bytes_eq x) (sym (same_place order x y is all.0 (eqb-true (name_place order x) (name_place order y) same))) ∙ itself x)) ∙ sym other
     ]
 
-pub from_places : (order xs : List NetName) (n : ℕ) → is_in (map (place_in order) xs) n ≡ true → (x : NetName) × (is_known xs x ≡ true) × (n ≡ place_in order x)
+pub from_places : (order xs : List NetName) (n : ℕ) → is_in (map (name_place order) xs) n ≡ true → (x : NetName) × (is_known xs x ≡ true) × (n ≡ name_place order x)
 from_places order [] n is = absurd (both_ways false refl is)
-from_places order (x ∷ xs) n is = elim (or_cases (nat_eq n (place_in order x)) (is_in (map (place_in order) xs) n) is) [
-  | inl here ↦ (x, known_head x xs, eqb-true n (place_in order x) here)
+from_places order (x ∷ xs) n is = elim (or_cases (nat_eq n (name_place order x)) (is_in (map (name_place order) xs) n) is) [
+  | inl here ↦ (x, known_head x xs, eqb-true n (name_place order x) here)
   | inr later ↦ let more = from_places order xs n later in (more.0, known_tail x more.0 xs more.1, more.2)
 ]

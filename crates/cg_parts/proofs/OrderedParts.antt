@@ -24,7 +24,7 @@ use Rattle.cg_parts.proofs.OrderMapped.{order_mapped, used_mapped}
 use Rattle.cg_parts.proofs.ToldByNames.{nets_weaker}
 use Rattle.cg_netlist.specs.Circuit.{GatingCell, LogicCell, RegisterCell, asked_nets, shown_nets}
 use Rattle.cg_net.specs.NetSets.{is_in}
-use Rattle.cg_net.specs.Names.{NetName, is_known, net_name, place_in}
+use Rattle.cg_net.specs.Names.{NetName, is_known, net_name, name_place}
 use Rattle.cg_parts.specs.Faults.{IsClockProper, IsDrivenIfUsed, IsDrivenOnce, IsFaultless, IsRootProper}
 use Rattle.cg_parts.specs.Part.{Part, cells, clock_in, clock_of, clock_pins, clocks, drivers, gaters, inputs, nets, on_clock}
 use Rattle.cg_parts.specs.Part.{outputs, registers, roots, uses, wired}
@@ -40,7 +40,7 @@ module _ (parts : List Part) (fine : IsFaultless parts) where
   order = order_of bytes_eq w
 
   abbrev place : NetName → ℕ
-  place = place_in order
+  place = name_place order
 
   -- roots
   pub root_is : (x : NetName) → is_known (roots parts) x ≡ true → IsRootProper parts x

@@ -13,7 +13,7 @@ use Rattle.cg_parts.proofs.NamePlaces.{from_places, mapped_at, same_place}
 use Rattle.cg_parts.proofs.OrderedParts.{cell_ordered, use_a}
 use Rattle.cg_netlist.specs.Circuit.{LogicCell}
 use Rattle.cg_net.specs.NetSets.{is_in}
-use Rattle.cg_net.specs.Names.{NetName, is_known, place_in}
+use Rattle.cg_net.specs.Names.{NetName, is_known, name_place}
 use Rattle.cg_parts.specs.Faults.{IsEnding, IsFaultless, ends_within}
 use Rattle.cg_parts.specs.Part.{Part, cells, nets, wired}
 use Rattle.cg_netlist.specs.Wiring.{Wiring, driven_by_cells, map_cell, order_of}
@@ -26,7 +26,7 @@ module _ (parts : List Part) (fine : IsFaultless parts) where
   order = order_of bytes_eq w
 
   abbrev place : NetName → ℕ
-  place = place_in order
+  place = name_place order
 
   abbrev On : NetName → Type 0
   On x = is_known order x ≡ true

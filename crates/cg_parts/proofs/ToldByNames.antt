@@ -20,7 +20,7 @@ use Rattle.cg_parts.proofs.NetLists.{carried_by, cell_inputs, gater_inputs, regi
 use Rattle.cg_parts.proofs.OrderMapped.{order_mapped}
 use Rattle.cg_netlist.specs.Circuit.{Circuit, GatingCell, LogicCell, RegisterCell, asked_nets, shown_nets}
 use Rattle.cg_net.specs.NetSets.{is_in}
-use Rattle.cg_net.specs.Names.{NetName, is_known, net_name, place_in}
+use Rattle.cg_net.specs.Names.{NetName, is_known, net_name, name_place}
 use Rattle.cg_netlist.specs.Ordered.{ordered}
 use Rattle.cg_netlist.specs.WellFormed.{IsInNetOrder, IsWellFormed}
 use Rattle.cg_parts.specs.Part.{clocks, gaters}
@@ -37,7 +37,7 @@ names_all names = fill_by_all (net_name names) names (length names) [] refl (λ 
 
 -- nets with different names are told apart by their names
 module _ (names : List NetName) (different : AllPairs (λ name other. name ≢ other) names) where
-  pub place_back : (x : ℕ) → x < length names → place_in names (net_name names x) ≡ x
+  pub place_back : (x : ℕ) → x < length names → name_place names (net_name names x) ≡ x
   place_back x lt = number_is names x (net_name names x) different (slice_get-get_or names x [] lt ∙ ap (λ o. Some (unwrap_or o [])) (sym (slice_get-get_or names x [] lt)))
 
   pub told : (x y : ℕ) → x < length names → y < length names → bytes_eq (net_name names x) (net_name names y) ≡ nat_eq x y
@@ -203,6 +203,6 @@ module _ {N : Type 0} (P Q : N → Type 0) (f : (x : N) → P x → Q x) where
 -- a well-formed netlist is told by its names
 pub recovered : (c : Circuit) → IsWellFormed c → IsInNetOrder c → c ≡ numbered c.model (named c)
 recovered c formed ordered =
-    ap (circuit c.model c.names) (sym (wiring_kept (net_name c.names) (place_in c.names) (wiring c)
-    (nets_weaker (λ x. x < length c.names) (λ x. place_in c.names (net_name c.names x) ≡ x) (place_back c.names formed.different) (wiring c) (wiring_within c formed ordered))))
-    ∙ ap (λ ns. circuit c.model ns (map_wiring (place_in ns) (named c))) (sym (names_are c formed ordered))
+    ap (circuit c.model c.names) (sym (wiring_kept (net_name c.names) (name_place c.names) (wiring c)
+    (nets_weaker (λ x. x < length c.names) (λ x. name_place c.names (net_name c.names x) ≡ x) (place_back c.names formed.different) (wiring c) (wiring_within c formed ordered))))
+    ∙ ap (λ ns. circuit c.model ns (map_wiring (name_place ns) (named c))) (sym (names_are c formed ordered))

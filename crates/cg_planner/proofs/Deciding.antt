@@ -18,9 +18,8 @@ use Rattle.cg_decide.specs.declared.decision.Decision.{Decision}
 use Rattle.cg_decide.specs.declared.decision.Decision.TheVariants.{Never}
 use Rattle.cg_formula.specs.Bounds.{IsFormula}
 use Rattle.cg_formula.specs.declared.formula.Formula.{Formula}
-use Rattle.cg_lrat.specs.Bounds.{IsLog}
+use Rattle.cg_lrat.specs.Bounds.{AreNumbered, IsLog}
 use Rattle.cg_lrat.specs.declared.log.Log.{Log}
-use Rattle.cg_sat_state.specs.Answer.{AreNumbered}
 use Rattle.cg_hold.proofs.Decided.{decided_never, decided_sometimes}
 use Rattle.cg_hold.proofs.ListNumber.{claim_number}
 use Rattle.cg_lrat.specs.AcceptedLog.{IsAccepted}

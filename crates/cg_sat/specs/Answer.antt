@@ -2,8 +2,7 @@
 use Rattle.cg_formula.specs.declared.formula.Formula.{Formula}
 use Rattle.cg_formula.specs.Satisfiable.{Satisfies, IsSatisfiable, IsUnsatisfiable}
 use Rattle.cg_lrat.specs.AcceptedLog.{IsAccepted}
-use Rattle.cg_lrat.specs.Bounds.{IsLog}
-use Rattle.cg_sat_state.specs.Answer.{AreNumbered}
+use Rattle.cg_lrat.specs.Bounds.{AreNumbered, IsLog}
 use Rattle.cg_sat.specs.declared.search.Solved.{Solved}
 use Rattle.cg_sat.specs.declared.search.Solved.TheVariants.{Sat, Unsat}
 

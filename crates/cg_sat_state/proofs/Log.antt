@@ -16,10 +16,9 @@ use Rattle.cg_lrat.specs.Accepted.{is_tautology}
 use Rattle.cg_lrat.specs.AcceptedLog.{LeadsTo, IsAccepted}
 use Rattle.cg_formula.specs.Lits.{inverse, same_lit, is_in}
 use Rattle.cg_formula.specs.Bounds.{IsLit}
-use Rattle.cg_lrat.specs.Bounds.{IsId, IsBody, IsStep, IsLog}
+use Rattle.cg_lrat.specs.Bounds.{AreNumbered, IsBody, IsId, IsLog, IsStep}
 use Rattle.cg_formula.proofs.Connectives.{or_right}
 use Rattle.cg_lrat.proofs.GrownLog.{leads_pushed, accepted_pushed}
-use Rattle.cg_sat_state.specs.Answer.{AreNumbered}
 use Rattle.cg_sat_state.specs.Store.{Store, clause_at, live_of, state_of, given, IsWithout}
 use Rattle.cg_sat_state.specs.inner.Draft.{IsDraft}
 use Rattle.cg_formula.proofs.Members.{here}

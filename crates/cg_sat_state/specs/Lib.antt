@@ -1,4 +1,3 @@
 pub mod Store
 pub mod Trail
-pub mod Answer
 pub mod inner

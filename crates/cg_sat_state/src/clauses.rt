@@ -82,7 +82,7 @@ impl Clauses {
     }
 
     /// Puts a clause behind the others. Where memory is wanting nothing changes.
-    pub fn push(&mut self, lits: &[Lit]) -> Result<(), AllocError>
+    pub(crate) fn push(&mut self, lits: &[Lit]) -> Result<(), AllocError>
         ensures added { OnOk result (self.new ≡ self.old ++ Some lits.now ∷ []) }
         ensures same { OnErr result (self.new ≡ self.old) }
     {
@@ -98,7 +98,7 @@ impl Clauses {
     }
 
     /// Takes the clause at a place away.
-    pub fn remove(&mut self, place: usize)
+    pub(crate) fn remove(&mut self, place: usize)
         ensures { IsWithout self.old place self.new }
     {
         if place < self.spans.len() {
@@ -107,7 +107,7 @@ impl Clauses {
     }
 
     /// Takes all clauses away, and their places. The buffers stay.
-    pub fn clear(&mut self)
+    pub(crate) fn clear(&mut self)
         ensures { self.new ≡ [] }
     {
         self.spans.clear();

@@ -4,10 +4,9 @@ ghost use Rattle.std.specs.Prelude.{◌≡◌, ◌==◌, ◌-◌, ◌^◌, true,
 ghost use Rattle.cg_formula.specs.declared.formula.Lit.{Lit};
 ghost use Rattle.cg_formula.specs.Lits.{is_in};
 ghost use Rattle.cg_formula.specs.Bounds.{IsLit};
-ghost use Rattle.cg_lrat.specs.Bounds.{IsLog};
+ghost use Rattle.cg_lrat.specs.Bounds.{AreNumbered, IsLog};
 ghost use Rattle.cg_lrat.specs.Accepted.{clause_fault};
 ghost use Rattle.cg_lrat.specs.AcceptedLog.{IsAccepted};
-ghost use Rattle.cg_sat_state.specs.Answer.{AreNumbered};
 ghost use Rattle.cg_sat_state.specs.Store.{live_of, given, IsWithout, Draft};
 
 use crate::clauses::Clauses;
@@ -99,7 +98,7 @@ impl<'a> LogDraft<'a> {
         Ok(())
     }
 
-    /// The log that ends with the empty clause, and the buffer, of which nothing is said.
+    /// The log that adds the empty clause, and the buffer, of which nothing is said.
     pub fn finish(self, hints: Vec<u64>) -> Result<(Log, Clauses), AllocError>
         requires fine { clause_fault (live_of self.clauses) [] hints.items ≡ None }
         ensures accepted { IfOk result (λ made. IsAccepted self.entry.formula made.0) }

@@ -2,7 +2,7 @@
 //!
 //! A formula goes in, with the clauses that are learnt, their hints, and the literals that are made true and taken back.
 //! Out come the clause at a place, whether a literal is true and since when, and at the end the log, which is accepted
-//! and ends with the empty clause. What to learn, to decide and to delete is not known here. It shares no code with the
+//! and adds the empty clause. What to learn, to decide and to delete is not known here. It shares no code with the
 //! checker of logs.
 //!
 //! In the order in which data flows through them:

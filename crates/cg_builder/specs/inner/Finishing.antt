@@ -2,7 +2,7 @@
 use Rattle.std.specs.Prelude.{◌≡◌, ◌⊎◌, ℕ, nat_eq, nat_lt, Bool, ◌&&◌, ◌||◌, length, None, Some, Result, MatchResult}
 use Rattle.cg_parts.specs.declared.fault.NetFault.{NetFault}
 use Rattle.cg_parts.specs.declared.fault.NetFault.TheVariants.{NoMemory}
-use Rattle.cg_net.specs.Marks.{IsFirst}
+use Rattle.cg_builder.specs.inner.FirstNet.{IsFirst}
 use Rattle.cg_builder.specs.inner.Numbers.{Numbers, rooted}
 use Rattle.cg_net.specs.Names.{NetName, net_name}
 

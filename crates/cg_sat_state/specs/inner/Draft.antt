@@ -5,8 +5,7 @@ use Rattle.cg_formula.specs.declared.formula.Formula.{Formula}
 use Rattle.cg_lrat.specs.declared.log.Step.{Step}
 use Rattle.cg_lrat.specs.Accepted.{first_state}
 use Rattle.cg_lrat.specs.AcceptedLog.{LeadsTo}
-use Rattle.cg_lrat.specs.Bounds.{IsStep}
-use Rattle.cg_sat_state.specs.Answer.{AreNumbered}
+use Rattle.cg_lrat.specs.Bounds.{AreNumbered, IsStep}
 use Rattle.cg_sat_state.specs.Store.{Store, state_of}
 
 -- the steps lead to these clauses, and are those of a log

@@ -1,7 +1,7 @@
 use Rattle.std.proofs.Common.{◌≡◌, ◌++◌, ◌&&◌, ◌||◌, ℕ, List, not, nat_lt, length, ◌∙◌, ap, subst}
 use Rattle.std.specs.List.{list_any}
 use Rattle.cg_net.specs.NetSets.{is_in}
-use Rattle.cg_net.specs.Marks.{IsFirst}
+use Rattle.cg_builder.specs.inner.FirstNet.{IsFirst}
 use Rattle.cg_builder.specs.inner.Numbers.{rooted, used}
 use Rattle.cg_builder.proofs.Checks.{roots_found}
 use Rattle.cg_builder.proofs.ToldNets.{asked_of, rooted_within}

@@ -1,6 +1,6 @@
 use Rattle.std.proofs.Common.{nat_eq, nat_lt, Some, None, length, inr, ◌∙◌, ap, subst}
 use Rattle.std.specs.List.{count_by}
-use Rattle.cg_net.specs.Marks.{IsFirst}
+use Rattle.cg_builder.specs.inner.FirstNet.{IsFirst}
 use Rattle.cg_parts.specs.declared.fault.NetFault.TheVariants.{TwoDrivers}
 use Rattle.cg_builder.specs.inner.Numbers.{driving}
 use Rattle.cg_builder.proofs.Checks.{marked_first}

@@ -1,6 +1,6 @@
 use Rattle.std.proofs.Common.{◌&&◌, not, Some, None, length, inr, ◌∙◌, ap, subst}
 use Rattle.cg_net.specs.NetSets.{is_in}
-use Rattle.cg_net.specs.Marks.{IsFirst}
+use Rattle.cg_builder.specs.inner.FirstNet.{IsFirst}
 use Rattle.cg_parts.specs.declared.fault.NetFault.TheVariants.{NoDriver}
 use Rattle.cg_builder.specs.inner.Numbers.{driving, used}
 use Rattle.cg_builder.proofs.Checks.{undriven_found}

@@ -1,5 +1,5 @@
 use Rattle.std.proofs.Common.{◌||◌, get_or, false, sym, ◌∙◌, ap}
-use Rattle.cg_net.specs.Marks.{marked_before}
+use Rattle.cg_builder.specs.inner.FirstNet.{marked_before}
 use Rattle.cg_builder.proofs.MarkLemmas.{before_more, good_more, marked_or}
 use Rattle.cg_builder.proofs.marks.first_bad_clock.Goals as goal
 

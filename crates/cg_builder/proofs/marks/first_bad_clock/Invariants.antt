@@ -1,5 +1,6 @@
 use Rattle.std.proofs.Common.{ℕ, ◌<◌, ◌≡◌, ◌&&◌, ◌||◌, not, false}
-use Rattle.cg_net.specs.Marks.{is_marked, marked_before}
+use Rattle.cg_net.specs.Marks.{is_marked}
+use Rattle.cg_builder.specs.inner.FirstNet.{marked_before}
 use Rattle.cg_builder.proofs.marks.first_bad_clock.Given as goal
 
 abbrev pub invariant-loop-net : goal.invariant-loop-net

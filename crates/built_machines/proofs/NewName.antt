@@ -1,9 +1,8 @@
 -- A name that no net of the netlist has, and that does not begin as those of added nets do, is new.
-use Rattle.std.proofs.Common.{◌≡◌, ◌≢◌, ℕ, true, false, ◌&&◌, nat_eq, List, [], ◌∷◌, ◌++◌, map, length, refl, sym, ◌∙◌, ap, subst}
+use Rattle.std.proofs.Common.{◌≡◌, ◌≢◌, ℕ, false, nat_eq, List, [], ◌∷◌, ◌++◌, map, length, sym, ◌∙◌, ap, subst}
 use Rattle.std.specs.Fmt.{decimal}
 use Rattle.std.specs.List.{All, AllByRecursion, range_with_len}
-use Rattle.std.proofs.lemmas.Bool.{both_ways, eq-eqb, or_parts}
-use Rattle.std.proofs.Math.Seq.{take-append_seam}
+use Rattle.std.proofs.lemmas.Bool.{both_ways, or_parts}
 use lib.Pointwise.{pointwise}
 use Rattle.cg_insert.specs.Insert.{enables_of, gate_names}
 use Rattle.cg_machine.specs.Added.{HasNames, own_netlist}
@@ -11,17 +10,11 @@ use Rattle.cg_machine.specs.Machine.{MachineData, added_name, additions}
 use Rattle.cg_machine.specs.Start.{begins}
 use Rattle.cg_net.specs.Names.{is_known}
 use Rattle.cg_netlist.proofs.Each.{each_together, from_recursion}
+use Rattle.cg_machine.proofs.Started.{all_same, begun}
 
 -- none of the names is this one
 abbrev AreOther : List ℕ → List (List ℕ) → Type 0
 AreOther name names = AllByRecursion (λ (other : List ℕ). other ≢ name) names
-
-all_same : (xs : List ℕ) → pointwise nat_eq xs xs ≡ true
-all_same [] = refl
-all_same (x ∷ xs) = ap (λ b. b && pointwise nat_eq xs xs) (eq-eqb x x refl) ∙ all_same xs
-
-begun : (prefix rest : List ℕ) → begins prefix (prefix ++ rest) ≡ true
-begun prefix rest = ap (λ front. pointwise nat_eq prefix front) (take-append_seam prefix rest) ∙ all_same prefix
 
 unknown : (names : List (List ℕ)) (name : List ℕ) → is_known names name ≡ false → AreOther name names
 unknown [] name none = tt

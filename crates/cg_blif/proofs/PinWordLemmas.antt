@@ -1,5 +1,5 @@
 -- Words of `.gate` lines and pins, one after another.
-use Rattle.std.proofs.Common.{◌≡◌, ℕ, zero, suc, Bool, true, false, not, ◌&&◌, ◌||◌, ◌+◌, ◌-◌, ◌<◌, List, [], ◌∷◌, ◌++◌, length}
+use Rattle.std.proofs.Common.{◌≡◌, ℕ, suc, Bool, true, false, not, ◌&&◌, ◌||◌, ◌+◌, ◌-◌, ◌<◌, List, [], ◌∷◌, ◌++◌, length}
 use Rattle.std.proofs.Common.{take, drop, get_or, map, Option, None, Some, refl, sym, ap, ◌∙◌, add-one, drop-cons, append_assoc}
 use Rattle.std.proofs.Common.{arith, if◌then◌else◌}
 use Rattle.std.specs.List.{find, list_all, list_any}
@@ -57,10 +57,6 @@ distinct_more (w ∷ ws) word =
     ∙ (ap (λ b. not b && are_distinct (map (λ (v : PinNet). v.pin) (ws ++ word ∷ []))) (list_any-append (bytes_eq w.pin) (map (λ (v : PinNet). v.pin) ws) (word.pin ∷ []))
     ∙ (ap (λ b. not (list_any (bytes_eq w.pin) (map (λ (v : PinNet). v.pin) ws) || (bytes_eq w.pin word.pin || false)) && b) (distinct_more ws word)
     ∙ bools (list_any (bytes_eq w.pin) (map (λ (v : PinNet). v.pin) ws)) (are_distinct (map (λ (v : PinNet). v.pin) ws)) (bytes_eq w.pin word.pin) (is_given ws word.pin)))
-
-not_false : (b : Bool) → not b ≡ true → b ≡ false
-not_false true is = absurd (both_ways false refl is)
-not_false false is = refl
 
 not_known : (w : List ℕ) (xs ys : List PinNet) → not (list_any (bytes_eq w) (map (λ (v : PinNet). v.pin) (xs ++ ys))) ≡ true → not (list_any (bytes_eq w) (map (λ (v : PinNet). v.pin) xs)) ≡ true
 not_known w [] ys is = refl

@@ -11,6 +11,7 @@ use Rattle.cg_text.specs.Blanks.{is_blank}
 use Rattle.cg_text.specs.declared.blanks.Blanks.TheVariants.{Controls}
 use Rattle.cg_blif_text.specs.LogicalLines.{is_joined}
 use Rattle.cg_blif.specs.Physical.{is_read}
+use Rattle.std.proofs.Math.Bool.{and-true}
 
 -- a byte behind which no comment begins, and that is no blank
 name_byte : (b : ℕ) → is_blank Controls b ≡ false → is_read b ≡ true → is_name_byte b ≡ true
@@ -37,10 +38,6 @@ without_blank (x ∷ xs) zero all before read k d inside = absurd (omega arith)
 without_blank (x ∷ xs) (suc n) all before read zero d inside = name_byte x (before 0 (omega arith)) (read 0 d (omega arith))
 without_blank (x ∷ xs) (suc n) all before read (suc k) d inside = without_blank xs n (omega arith) (λ j l. before (suc j) (omega arith)) (λ j e l. read (suc j) e (omega arith)) k d (omega arith)
 
-kept_true : (b : Bool) → (b && true) ≡ b
-kept_true true = refl
-kept_true false = refl
-
 some_byte : (w : List ℕ) → (length w == 0) ≡ false → 0 < length w
 some_byte [] none = absurd (both_ways true none refl)
 some_byte (x ∷ xs) some = omega arith
@@ -51,6 +48,6 @@ name_unless_joined w some named = elim ((slice_get_cases w (length w - 1)).1) [
   | inl e ↦
       ap (λ last. ends_name last && list_all is_name_byte w) e.2
       ∙ (ap (λ b. not (e.0 == 92) && b) (list_all-from_AllPass is_name_byte w named)
-      ∙ (kept_true (not (e.0 == 92)) ∙ sym (ap (λ last. not (option_map_or (λ b. b == 92) last false)) e.2)))
+      ∙ (and-true (not (e.0 == 92)) ∙ sym (ap (λ last. not (option_map_or (λ b. b == 92) last false)) e.2)))
   | inr past ↦ let none : ⊥ = omega (arith, past, some_byte w some) in absurd none
 ]

@@ -22,6 +22,7 @@ use Rattle.cg_blif_text.specs.declared.statement.Statement.TheVariants.{Model, I
 use Rattle.cg_blif_text.specs.Canonical.{blif, cell_lines, function_statement, gater_statement, register_statement, row_words}
 use Rattle.cg_blif_text.specs.Canonical.{rows_of, statement_line}
 use Rattle.cg_blif_out.specs.Writing.{cell_text, clock_text, function_rows, gater_text, header_text, register_text}
+use Rattle.cg_text.proofs.Written.{text_of-map}
 
 -- the parts up to the one at k, and that one
 flat_map-take_next : {Part : Type 0} (f : Part → List ℕ) (parts : List Part) (k : ℕ) (part : Part) → slice_get parts k ≡ Some part → flat_map f (take (k + 1) parts) ≡ flat_map f (take k parts) ++ f part
@@ -50,10 +51,6 @@ text_each : {X : Type 0} (lines : X → List (List (List ℕ))) (xs : List X) �
 text_each lines [] = refl
 text_each lines (x ∷ xs) = text_both (lines x) (flat_map lines xs) ∙ ap (λ later. text_of (lines x) ++ later) (text_each lines xs)
 
-text_lines : {X : Type 0} (line : X → List (List ℕ)) (xs : List X) → text_of (map line xs) ≡ flat_map (λ x. line_text (line x)) xs
-text_lines line [] = refl
-text_lines line (x ∷ xs) = ap (λ later. line_text (line x) ++ later) (text_lines line xs)
-
 under_map : {X Y A : Type 0} (f : Y → List A) (g : X → Y) (xs : List X) → flat_map f (map g xs) ≡ flat_map (λ x. f (g x)) xs
 under_map f g [] = refl
 under_map f g (x ∷ xs) = ap (λ later. f (g x) ++ later) (under_map f g xs)
@@ -72,8 +69,8 @@ whole_text c =
     let r : List (List (List ℕ)) = map (λ register. statement_line (register_statement register)) w.registers in
     let e : List (List (List ℕ)) = statement_line End ∷ [] in
     let cells : text_of l ≡ flat_map (cell_text c.names) c.cells = text_each cell_lines w.cells ∙ under_map (λ cell. text_of (cell_lines cell)) (map_cell n) c.cells in
-    let gaters : text_of g ≡ flat_map (gater_text c.names) c.gaters = text_lines (λ gater. statement_line (gater_statement gater)) w.gaters ∙ under_map (λ gater. line_text (statement_line (gater_statement gater))) (map_gater n) c.gaters in
-    let registers : text_of r ≡ flat_map (register_text c.names) c.registers = text_lines (λ register. statement_line (register_statement register)) w.registers ∙ under_map (λ register. line_text (statement_line (register_statement register))) (map_register n) c.registers in
+    let gaters : text_of g ≡ flat_map (gater_text c.names) c.gaters = text_of-map (λ gater. statement_line (gater_statement gater)) w.gaters ∙ under_map (λ gater. line_text (statement_line (gater_statement gater))) (map_gater n) c.gaters in
+    let registers : text_of r ≡ flat_map (register_text c.names) c.registers = text_of-map (λ register. statement_line (register_statement register)) w.registers ∙ under_map (λ register. line_text (statement_line (register_statement register))) (map_register n) c.registers in
     let rest : text_of (k ++ l ++ g ++ r ++ e) ≡ (((text_of k ++ text_of l) ++ text_of g) ++ text_of r) ++ text_of e =
     text_both (k ++ l ++ g ++ r) e ∙ ap (λ t. t ++ text_of e) (text_both (k ++ l ++ g) r ∙ ap (λ t. t ++ text_of r) (text_both (k ++ l) g ∙ ap (λ t. t ++ text_of g) (text_both k l))) in
     let pieces : (((text_of k ++ text_of l) ++ text_of g) ++ text_of r) ++ text_of e ≡ clock_text c.names c.clock ++ (flat_map (cell_text c.names) c.cells ++ (flat_map (gater_text c.names) c.gaters ++ (flat_map (register_text c.names) c.registers ++ codes ".end\n"))) =

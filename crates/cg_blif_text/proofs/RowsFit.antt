@@ -1,11 +1,11 @@
 -- The cover of rows is one, and has a place for each input.
 use Rattle.std.proofs.Common.{◌≡◌, ℕ, ◌==◌, ◌&&◌, not, Bool, true, false, if◌then◌else◌, List, [], ◌∷◌, length, Option, None, Some}
 use Rattle.std.proofs.Common.{Result, Ok, Err, refl, sym, ap, ◌∙◌, subst, suc, unwrap_or}
-use Rattle.std.specs.List.{AllByRecursion, list_all}
+use Rattle.std.specs.List.{list_all}
 use Rattle.std.specs.Option.{option_and_then, option_map}
 use Rattle.std.proofs.lemmas.Bool.{eqb-true}
 use Rattle.std.proofs.lemmas.Option.{same_Some}
-use Rattle.cg_cell.specs.Cover.{CoverData, CoverFits, HaveOneLength, IsCover}
+use Rattle.cg_cell.specs.Cover.{CoverData, CoverFits, IsCover}
 use Rattle.cg_cell.specs.Name.{is_name}
 use Rattle.cg_text.specs.declared.lines.Line.{Line}
 use Rattle.cg_blif_text.specs.declared.fault.BlifFault.{BlifFault}
@@ -13,14 +13,7 @@ use Rattle.cg_blif_text.specs.declared.fault.BlifFault.TheVariants.{BadLine, Bad
 use Rattle.cg_blif_text.specs.Rows.{Row, cover_from, keeps_value, put_places, put_row, row_of, row_place, row_places, row_with}
 use Rattle.cg_blif_text.specs.Rows.{value_of}
 use Rattle.cg_blif_text.proofs.PinPairs.{Word}
-
-same_length : (n : ℕ) (rows : List (List (Option Bool))) → AllByRecursion (λ row. length row ≡ n) rows → HaveOneLength rows
-same_length n [] all = tt
-same_length n (row ∷ rows) all = others rows all.1
-  where
-    others : (rs : List (List (Option Bool))) → AllByRecursion (λ r. length r ≡ n) rs → AllByRecursion (λ r. length r ≡ length row) rs
-    others [] each = tt
-    others (r ∷ rs) each = (each.0 ∙ sym all.0, others rs each.1)
+use Rattle.cg_cell.proofs.Covers.{have_one_length}
 
 places_long : (word : Word) (places : List (Option Bool)) → row_places word ≡ Some places → length places ≡ length word
 places_long [] places is = ap length (sym (same_Some [] places is))
@@ -80,4 +73,4 @@ rows_fit inputs (line ∷ later) on cover is = go (list_all is_name line.words) 
 pub cover_fits : (inputs : ℕ) (lines : List Line) (cover : CoverData) → cover_from inputs lines None ≡ Ok cover → IsCover cover × CoverFits inputs cover
 cover_fits inputs lines cover is =
     let rows = rows_fit inputs lines None cover is in
-    (record { even = same_length inputs cover.rows rows.fits; on_without_rows = rows.without }, rows.fits)
+    (record { even = have_one_length inputs cover.rows rows.fits; on_without_rows = rows.without }, rows.fits)

@@ -1,9 +1,9 @@
 -- Lines of names that are written are read as these lines: they hold no comment, and none is joined with the next.
-use Rattle.std.proofs.Common.{◌≡◌, ℕ, ◌+◌, ◌-◌, ◌<◌, ◌≤◌, Bool, true, false, not, ◌||◌, ◌==◌, cond, IsTrue, List, [], ◌∷◌, ◌++◌}
+use Rattle.std.proofs.Common.{◌≡◌, ℕ, ◌+◌, ◌-◌, ◌<◌, ◌≤◌, true, false, not, ◌||◌, ◌==◌, cond, IsTrue, List, [], ◌∷◌, ◌++◌}
 use Rattle.std.proofs.Common.{map, length, Some, refl, sym, ap, ◌∙◌, append_assoc, reverse, take, arith, nat_lt, nat_le}
 use Rattle.std.specs.List.{AllByRecursion, before_first, list_all, onto_first, position_or_len, slice_get}
 use Rattle.std.specs.Option.{option_map_or}
-use Rattle.std.proofs.lemmas.Bool.{and_parts, both_ways, eqb-true, false_from_ne_true, leb-true, ltb-true}
+use Rattle.std.proofs.lemmas.Bool.{and_parts, both_ways, eqb-true, false_from_ne_true, leb-true, ltb-true, not-true}
 use Rattle.std.proofs.lemmas.List.{length-append, reverse-append, reverse-reverse, take_all}
 use Rattle.std.proofs.Math.Dec.{eqb-suc-zero}
 use Rattle.cg_cell.specs.Name.{ends_name, is_name, is_name_byte}
@@ -34,14 +34,10 @@ pub record IsFine (b : ℕ) : Type 0 where
 low : (b k : ℕ) → 32 < b → k ≤ 32 → (b == k) ≡ false
 low b k high small = false_from_ne_true (b == k) (λ same. let e : b ≡ k = eqb-true b k same in let none : ⊥ = omega (arith, e, high, small) in none)
 
-was_not : (b : Bool) → not b ≡ true → b ≡ false
-was_not true is = absurd (both_ways false refl is)
-was_not false is = refl
-
 fine_byte : (b : ℕ) → is_name_byte b ≡ true → IsFine b
 fine_byte b name =
     let parts = and_parts (nat_lt 32 b) (not (b == 35)) name in
-    record { comment = was_not (b == 35) parts.1; line = low b 10 (ltb-true 32 b parts.0) (omega arith) }
+    record { comment = not-true (b == 35) parts.1; line = low b 10 (ltb-true 32 b parts.0) (omega arith) }
 
 fine_bytes : (w : Word) → list_all is_name_byte w ≡ true → AllByRecursion IsFine w
 fine_bytes [] name = tt
@@ -93,7 +89,7 @@ name_ends (x ∷ xs) name =
     let cut = cut_last x xs in
     let parts = and_parts (ends_name (slice_get (x ∷ xs) (length (x ∷ xs) - 1))) (list_all is_name_byte (x ∷ xs)) name in
     let at : ends_name (Some cut.1) ≡ true = ap ends_name (sym (ap (λ l. slice_get l (length l - 1)) cut.2 ∙ last_of cut.0 cut.1)) ∙ parts.0 in
-    record { front = cut.0; last = cut.1; is = cut.2; high = last_named cut.0 cut.1 (ap (list_all is_name_byte) (sym cut.2) ∙ parts.1); other = was_not (cut.1 == 92) at }
+    record { front = cut.0; last = cut.1; is = cut.2; high = last_named cut.0 cut.1 (ap (list_all is_name_byte) (sym cut.2) ∙ parts.1); other = not-true (cut.1 == 92) at }
 
 line_ends : (w : Word) (ws : List Word) → AllByRecursion (λ word. IsTrue (is_name word)) (w ∷ ws) → EndsWell (joined (w ∷ ws))
 line_ends w [] names = name_ends w names.0

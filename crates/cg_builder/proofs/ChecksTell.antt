@@ -6,7 +6,7 @@ use Rattle.std.specs.List.{AllByRecursion, AllPairs, IsDistinct, before_first, c
 use Rattle.std.specs.Option.{option_map_or, option_to_list}
 use Rattle.std.specs.Str.{bytes_eq}
 use Rattle.std.proofs.lemmas.Bool.{and_parts, both_ways, cases_Bool, cases_lt, eqb-true, eq-eqb, false_from_ne_true, lt-ltb}
-use Rattle.std.proofs.lemmas.Bool.{ltb-true, or_cases, or_left, or_parts, or_right}
+use Rattle.std.proofs.lemmas.Bool.{ltb-true, not-false, or_cases, or_left, or_parts, or_right}
 use Rattle.std.proofs.lemmas.List.{length-map, map-append}
 use Rattle.std.proofs.lemmas.List.Sums.{sum_by-cons}
 use Rattle.cg_parts.specs.declared.fault.NetFault.TheVariants.{TwoDrivers, NoDriver, Cycle, ClockFault}
@@ -25,7 +25,7 @@ use Rattle.cg_parts.proofs.NamePlaces.{any_known}
 use Rattle.cg_parts.proofs.NetLists.{cell_inputs, gater_inputs, register_inputs}
 use Rattle.cg_builder.proofs.RanksTell.{driven_as, driven_by_none, driven_by_some, rank_ends}
 use Rattle.cg_parts.proofs.ToldByNames.{known_as, place_back}
-use Rattle.cg_parts.proofs.WaysEnd.{ends_bounded, not_false, undriven_ends}
+use Rattle.cg_parts.proofs.WaysEnd.{ends_bounded, undriven_ends}
 use Rattle.cg_netlist.specs.Circuit.{GatingCell, LogicCell, RegisterCell, asked_nets, shown_nets}
 use Rattle.cg_net.specs.NetSets.{is_in}
 use Rattle.cg_builder.specs.inner.FirstNet.{IsFirst}
@@ -41,6 +41,7 @@ use Rattle.cg_parts.specs.Part.{Part, cells, clocks, drivers, gaters, inputs, is
 use Rattle.cg_parts.specs.Said.{Said, said}
 use Rattle.cg_netlist.specs.Wiring.{driven_by_cells, driven_by_gaters, driven_by_registers, map_cell, map_gater, map_open}
 use Rattle.cg_netlist.specs.Wiring.{used_by}
+use Rattle.std.specs.Cmp.{both_ways as same_truth}
 
 -- nets that stand once at most
 counts_distinct : (xs : List ℕ) → ((x : ℕ) → is_in xs x ≡ true → count_by (nat_eq x) xs ≤ 1) → IsDistinct nat_eq xs
@@ -56,11 +57,6 @@ counts_distinct (x ∷ xs) few =
     let count : count_by (nat_eq y) (x ∷ xs) ≡ cond (nat_eq y x) 1 0 + count_by (nat_eq y) xs = sum_by-cons (λ z. cond (nat_eq y z) 1 0) x xs in
     let one : count_by (nat_eq y) (x ∷ xs) ≤ 1 = few y (or_right (nat_eq y x) (is_in xs y) i) in
     omega (arith, count, one)))
-
-same_truth : (a b : Bool) → (a ≡ true → b ≡ true) → (b ≡ true → a ≡ true) → a ≡ b
-same_truth true b there back = sym (there refl)
-same_truth false true there back = back refl
-same_truth false false there back = refl
 
 -- a name among those that pass
 known_passing : (q : NetName → Bool) (xs : List NetName) → list_any q xs ≡ true → (x : NetName) × (is_known xs x ≡ true) × (q x ≡ true)
@@ -350,7 +346,7 @@ module _ (parts : List Part) (n : Numbers) (ok : AreNumbers n) (same : said part
     root_if x lt good =
         let rest = or_parts (not (is_in (n.inputs ++ n.clocks) x) || list_any (λ other. nat_lt other x) (rooted n)) (is_in (used n) x) good in
         let front = or_parts (not (is_in (n.inputs ++ n.clocks) x)) (list_any (λ other. nat_lt other x) (rooted n)) rest.0 in
-        record { given = given_at x lt ∙ not_false (is_in (n.inputs ++ n.clocks) x) front.0; first = earlier_at x lt ∙ front.1; unused = use_at x lt ∙ rest.1 }
+        record { given = given_at x lt ∙ not-false (is_in (n.inputs ++ n.clocks) x) front.0; first = earlier_at x lt ∙ front.1; unused = use_at x lt ∙ rest.1 }
 
     bad_root_if : (x : ℕ) → Is x → is_bad_root n x ≡ true → IsRootProper parts (name x) → ⊥
     bad_root_if x lt bad proper = elim (or_cases (not (is_in (n.inputs ++ n.clocks) x) || list_any (λ other. nat_lt other x) (rooted n)) (is_in (used n) x) bad) [

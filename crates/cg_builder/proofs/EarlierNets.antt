@@ -6,6 +6,7 @@ use Rattle.std.proofs.lemmas.Bool.{eqb-true, eq-eqb, both_ways, or_cases, or_lef
 use Rattle.cg_net.specs.NetSets.{is_in}
 use Rattle.cg_net.specs.Marks.{AreMarksOf, is_marked}
 use Rattle.cg_builder.specs.inner.FirstNet.{marked_before}
+use Rattle.std.specs.Cmp.{both_ways as same_truth}
 
 -- a net at a clock pin comes after none that is before it
 pub any_before : (pins : List ℕ) (a b : ℕ) → is_in pins a ≡ true → a < b → list_any (λ other. nat_lt other b) pins ≡ true
@@ -14,12 +15,6 @@ any_before (pin ∷ pins) a b in' lt = elim (or_cases (nat_eq a pin) (is_in pins
   | inl here ↦ or_left (nat_lt pin b) (list_any (λ other. nat_lt other b) pins) (ap (λ x. nat_lt x b) (sym (eqb-true a pin here)) ∙ lt-ltb a b lt)
   | inr later ↦ or_right (nat_lt pin b) (list_any (λ other. nat_lt other b) pins) (any_before pins a b later lt)
 ]
-
--- two tests that tell the same are one
-same_truth : (a b : Bool) → (a ≡ true → b ≡ true) → (b ≡ true → a ≡ true) → a ≡ b
-same_truth true b there back = sym (there refl)
-same_truth false true there back = back refl
-same_truth false false there back = refl
 
 any_in_range : (test : ℕ → Bool) (n a y : ℕ) → a ≤ y → y < a + n → test y ≡ true → list_any test (range_with_len a n) ≡ true
 any_in_range test zero a y low high is = absurd (omega arith)

@@ -11,7 +11,6 @@ use Rattle.cg_netlist.proofs.RankLemmas.{ranked}
 use Rattle.cg_parts.proofs.ChainsEnd.{at_step, short_chain, step_at}
 use Rattle.cg_parts.proofs.GatedNets.{not_root, one_gate, pin_cases}
 use Rattle.cg_parts.proofs.KnownNames.{known_head, known_left, known_tail}
-use Rattle.cg_parts.proofs.NamePlaces.{mapped_at}
 use Rattle.cg_parts.proofs.OrderMapped.{gaters_driven_mapped}
 use Rattle.cg_parts.proofs.ToldByNames.{known_as}
 use Rattle.cg_netlist.specs.Circuit.{GatingCell, RegisterCell}
@@ -22,6 +21,7 @@ use Rattle.cg_builder.specs.inner.Numbers.{GaterWithin, driving_gater, gate_abov
 use Rattle.cg_parts.specs.Faults.{EachNet, IsDrivenOnce, reaches}
 use Rattle.cg_parts.specs.Part.{Part, gaters, is_gated, registers, roots}
 use Rattle.cg_netlist.specs.Wiring.{driven_by_gaters, map_gater}
+use Rattle.cg_net.proofs.PlaceLemmas.{mapped_at}
 
 -- the gating cell that drives a net, if one does
 pub gated_none : (gs : List (GatingCell ℕ)) (a x : ℕ) → position_from (λ g. g.output == x) a gs ≡ None → is_in (driven_by_gaters gs) x ≡ false

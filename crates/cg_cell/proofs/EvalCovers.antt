@@ -15,6 +15,7 @@ use Rattle.cg_cell.specs.declared.eval.Operator.{Operator}
 use Rattle.cg_cell.specs.declared.eval.Operator.TheVariants.{And, Or}
 use Rattle.cg_cell.proofs.Building.{evaluates_as, evaluates_then, keeps_then, not_made, stops_first, stops_then}
 use Rattle.cg_cell.proofs.Evals.{bits_then, join_left-append, join_left-more, join_left-stops, next_operand, operator_built}
+use Rattle.std.proofs.Math.Bool.{and-true, or-false, or_assoc}
 
 -- an input of a row, inverted
 pub given_inverse : (o : Ops) (laws : IsDomain o) (inputs : List ℕ) (s t : Seen) (k a r : ℕ) →
@@ -161,21 +162,9 @@ and_assoc : (a b c : Bool) → ((a && b) && c) ≡ (a && (b && c))
 and_assoc true b c = refl
 and_assoc false b c = refl
 
-or_assoc : (a b c : Bool) → ((a || b) || c) ≡ (a || (b || c))
-or_assoc true b c = refl
-or_assoc false b c = refl
-
-and_true : (a : Bool) → (a && true) ≡ a
-and_true true = refl
-and_true false = refl
-
-or_false : (a : Bool) → (a || false) ≡ a
-or_false true = refl
-or_false false = refl
-
 row_value : (bits : List Bool) (k : ℕ) (t : Term) (places : List (Option Bool)) → k + length places ≤ length bits →
     term_value bits (join_left Both t (given_terms k places)) ≡ (term_value bits t && row_matches places (drop k bits))
-row_value bits k t [] h = sym (and_true (term_value bits t))
+row_value bits k t [] h = sym (and-true (term_value bits t))
 row_value bits k t (None ∷ places) h =
     let cut : drop k bits ≡ slice_index_or bits k false ∷ drop (suc k) bits = drop-cons bits k false (omega arith) in
     let n : k + 1 ≡ suc k = omega arith in
@@ -199,7 +188,7 @@ row_value bits k t (Some false ∷ places) h =
 
 rows_value : (bits : List Bool) (t : Term) (rows : List (List (Option Bool))) → AllByRecursion (λ row. length row ≡ length bits) rows →
     term_value bits (join_left Either t (map row_term rows)) ≡ (term_value bits t || list_any (λ row. row_matches row bits) rows)
-rows_value bits t [] h = sym (or_false (term_value bits t))
+rows_value bits t [] h = sym (or-false (term_value bits t))
 rows_value bits t (row ∷ rows) h =
     let long = h.0 in
     rows_value bits (Either t (row_term row)) rows h.1

@@ -4,6 +4,7 @@ use Rattle.std.proofs.Common.{IsTrue, ◌&&◌, ◌||◌, refl, ap, sym, ◌∙�
 use Rattle.cg_cell.specs.Gates.{all_of, any_of, exclusive_or, inverted, odd_of}
 use Rattle.cg_cell.specs.Expr.{all_over, is_over}
 use Rattle.cg_cell.specs.declared.expr.Expr.{Expr}
+use Rattle.cg_cell.proofs.Terms.{not_not}
 
 -- what a function gives at what is left of a list
 map-drop : {X Y : Type 0} (f : X → Y) (xs : List X) (i : ℕ) (d : X) → i < length xs → map f (drop i xs) ≡ f (get_or xs i d) ∷ map f (drop (i + 1) xs)
@@ -33,19 +34,6 @@ all_over-next n es i d h over = both-first (is_over n (get_or es i d)) (all_over
 
 pub all_over-later : (n : ℕ) (es : List Expr) (i : ℕ) (d : Expr) → i < length es → IsTrue (all_over n (drop i es)) → IsTrue (all_over n (drop (i + 1) es))
 all_over-later n es i d h over = both-second (is_over n (get_or es i d)) (all_over n (drop (i + 1) es)) (sym (all_of-drop (is_over n) es i d h) ∙ over)
-
-not_not : (bit : Bool) → not (not bit) ≡ bit
-not_not true = refl
-not_not false = refl
-
-pub exclusive_or-none : (a : Bool) → exclusive_or a false ≡ a
-exclusive_or-none true = refl
-exclusive_or-none false = refl
-
-pub exclusive_or-next : (a b c : Bool) → exclusive_or (exclusive_or a b) c ≡ exclusive_or a (exclusive_or b c)
-exclusive_or-next true true c = sym (not_not c)
-exclusive_or-next true false c = refl
-exclusive_or-next false b c = refl
 
 -- an even number of inversions is none, and an odd number is one
 pub record Parity (n : ℕ) (bit : Bool) : Type 0 where

@@ -7,6 +7,7 @@ use Rattle.cg_cell.specs.Expr.{expr_value, is_over, names_step, names_variable, 
 use Rattle.cg_cell.specs.declared.expr.Expr.{Expr}
 use Rattle.cg_cell.specs.declared.expr.Expr.TheOpen.{Expr-F, Constant, Variable, Not, And, Or, Xor}
 use Rattle.cg_cell.specs.declared.expr.Expr.TheFolds.{fold-roll-Expr, ind-Expr, map-Expr}
+use Rattle.std.proofs.Math.Bool.{and-true, or-false}
 
 abbrev from_left : (Bool → Bool → Bool) → Bool → List Bool → Bool
 from_left f a [] = a
@@ -26,33 +27,25 @@ or_assoc : (a b c : Bool) → (a || b) || c ≡ (a || (b || c))
 or_assoc true b c = refl
 or_assoc false b c = refl
 
-and_true : (a : Bool) → (a && true) ≡ a
-and_true true = refl
-and_true false = refl
-
-or_false : (a : Bool) → (a || false) ≡ a
-or_false true = refl
-or_false false = refl
-
-not_not : (a : Bool) → not (not a) ≡ a
+pub not_not : (a : Bool) → not (not a) ≡ a
 not_not true = refl
 not_not false = refl
 
-differ_assoc : (a b c : Bool) → exclusive_or (exclusive_or a b) c ≡ exclusive_or a (exclusive_or b c)
+pub differ_assoc : (a b c : Bool) → exclusive_or (exclusive_or a b) c ≡ exclusive_or a (exclusive_or b c)
 differ_assoc true true c = sym (not_not c)
 differ_assoc true false c = refl
 differ_assoc false b c = refl
 
-differ_false : (a : Bool) → exclusive_or a false ≡ a
+pub differ_false : (a : Bool) → exclusive_or a false ≡ a
 differ_false true = refl
 differ_false false = refl
 
 from_left-all : (a : Bool) (bs : List Bool) → from_left (λ x y. x && y) a bs ≡ (a && all_of bs)
-from_left-all a [] = sym (and_true a)
+from_left-all a [] = sym (and-true a)
 from_left-all a (b ∷ bs) = from_left-all (a && b) bs ∙ and_assoc a b (all_of bs)
 
 from_left-any : (a : Bool) (bs : List Bool) → from_left (λ x y. x || y) a bs ≡ (a || any_of bs)
-from_left-any a [] = sym (or_false a)
+from_left-any a [] = sym (or-false a)
 from_left-any a (b ∷ bs) = from_left-any (a || b) bs ∙ or_assoc a b (any_of bs)
 
 from_left-odd : (a : Bool) (bs : List Bool) → from_left exclusive_or a bs ≡ exclusive_or a (odd_of bs)

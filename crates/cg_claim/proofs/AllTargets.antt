@@ -16,8 +16,8 @@ use Rattle.cg_claim.specs.Targets.{IsTarget, all_targets, meets, output_targets,
 use Rattle.cg_claim.specs.Violates.{CopyPartFits}
 use Rattle.cg_claim.proofs.Apart.{apart_unseen}
 use Rattle.cg_claim.proofs.ClaimsHold.{never_unseen}
-use Rattle.cg_claim.proofs.Reached.{range_in}
 use Rattle.cg_claim.proofs.GoalBits.{claim_says}
+use Rattle.cg_netlist.proofs.Filtered.{range_in}
 
 -- an item stands in a list
 record Among {T : Type 0} (x : T) (xs : List T) : Type 0 where

@@ -1,9 +1,9 @@
 -- A target without a register of G in its cone shows none of them: its question has one answer whatever the other bits
 -- of these registers are.
-use Rattle.std.proofs.Common.{◌≡◌, ℕ, Bool, true, false, not, ◌&&◌, List, [], ◌∷◌, map, length, nat_eq, if◌then◌else◌, sym, refl}
-use Rattle.std.proofs.Common.{◌∙◌, ap, inl, inr, arith}
-use Rattle.std.specs.List.{list_any, range_with_len}
-use Rattle.std.proofs.lemmas.Bool.{both_ways, eqb-true, or_cases, or_left, or_right}
+use Rattle.std.proofs.Common.{◌≡◌, ℕ, Bool, true, false, not, ◌&&◌, List, [], map, length, if◌then◌else◌, sym, refl}
+use Rattle.std.proofs.Common.{◌∙◌, ap, arith}
+use Rattle.std.specs.List.{range_with_len}
+use Rattle.std.proofs.lemmas.Bool.{and_parts, both_ways}
 use Rattle.cg_cell.specs.Gates.{exclusive_or}
 use Rattle.cg_net.specs.NetSets.{is_in}
 use Rattle.cg_netlist.specs.Moment.{bit}
@@ -25,17 +25,7 @@ use Rattle.cg_claim.specs.inner.Never.{IsNeverViolated}
 use Rattle.cg_claim.proofs.ClaimsHold.{never_unseen}
 use Rattle.cg_claim.proofs.GoalBits.{goal_at}
 use Rattle.cg_claim.proofs.LeavesFound.{found_bit, leaf_among}
-
-any_member : (test : ℕ → Bool) (xs : List ℕ) (x : ℕ) → is_in xs x ≡ true → test x ≡ true → list_any test xs ≡ true
-any_member test [] x among is = absurd (both_ways false refl among)
-any_member test (y ∷ xs) x among is = elim (or_cases (nat_eq x y) (is_in xs x) among) [
-  | inl same ↦ or_left (test y) (list_any test xs) (ap test (sym (eqb-true x y same)) ∙ is)
-  | inr later ↦ or_right (test y) (list_any test xs) (any_member test xs x later is)
-]
-
-both_parts : (a b : Bool) → (a && b) ≡ true → (a ≡ true) × (b ≡ true)
-both_parts true b is = (refl, is)
-both_parts false b is = absurd (both_ways false refl is)
+use Rattle.cg_cone.proofs.ConeEdge.{any_in}
 
 module _ (m : MachineData) (E : List Literal) (Q G : List ℕ) (t : Target) (good : IsMachine m) (fit : CopyPartFits m (target_part t)) (none : meets m E G t ≡ false) where
   -- its question
@@ -47,7 +37,7 @@ module _ (m : MachineData) (E : List Literal) (Q G : List ℕ) (t : Target) (goo
   still w = record { s0 = w.s0; x0 = w.x0; free = w.free; x1 = w.x1; other = followed m Q w.s0 w.x0 w.free }
 
   no_changed : (r : ℕ) → (changed_states m q r && is_in G r) ≡ true → ⊥
-  no_changed r h = let p = both_parts (changed_states m q r) (is_in G r) h in both_ways (meets m E G t) none (any_member (changed_states m (unseen_question E [] G t)) G r p.1 p.0)
+  no_changed r h = let p = and_parts (changed_states m q r) (is_in G r) h in both_ways (meets m E G t) none (any_in (changed_states m (unseen_question E [] G t)) G r p.1 p.0)
 
   agree : (w : Free) (copy : Copy) (source : LeafSource) → is_reached m q copy source ≡ true → source_bit m w copy source ≡ source_bit m (still w) copy source
   agree w Before (InputOf y) reached = refl

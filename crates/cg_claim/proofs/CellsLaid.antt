@@ -2,7 +2,7 @@
 use Rattle.std.proofs.Common.{◌≡◌, ℕ, zero, suc, Bool, true, false, not, ◌||◌, cond, if◌then◌else◌, List, [], ◌∷◌, ◌++◌, map}
 use Rattle.std.proofs.Common.{length, IsTrue, nat_eq, slice_get, slice_index_or, Some, refl, sym, ◌∙◌, ap}
 use Rattle.std.specs.List.{filter}
-use Rattle.std.proofs.lemmas.Bool.{both_ways, eqb-true, eq-eqb}
+use Rattle.std.proofs.lemmas.Bool.{both_ways, eq-eqb, eqb-true, or_from}
 use Rattle.cg_cell.specs.Domain.{AreValid, IsDomain, Keeps, Ops, Seen}
 use Rattle.cg_cell.specs.Build.{Run, build_or, plain}
 use Rattle.cg_cell.specs.Eval.{bits_at}
@@ -14,7 +14,7 @@ use Rattle.cg_net.specs.NetSets.{is_in}
 use Rattle.cg_machine.specs.Claims.{Literal, literal_bit}
 use Rattle.cg_netlist.specs.Nets.{IsOrdered, outputs}
 use Rattle.cg_cone.proofs.Cones.{AreClosed}
-use Rattle.cg_netlist.proofs.NetsOf.{or_none, other_eqb}
+use Rattle.cg_netlist.proofs.NetsOf.{other_eqb}
 use Rattle.cg_netlist.proofs.RisingPlaces.{in_head, in_tail}
 use Rattle.cg_claim.specs.Build.{Table, Values, cell_run, enable_run, function_term, join_run, lay, literal_of, put_run, table_with}
 use Rattle.cg_cell.proofs.Runs.{Gives, Has, IsZero, gives_as, gives_or, gives_plain, gives_term, gives_then, has_later}
@@ -85,7 +85,7 @@ module _ (d : Values) (bits : List Bool) (fit : IsFit d bits) where
     where
       go : ((u : Table) → ((x : ℕ) → IsTrue (d.ops.is_valid u.domain (u.at x))) → ((x : ℕ) → test x ≡ true → is_in (outputs cells) x ≡ false → d.ops.bit u.domain bits (u.at x) ≡ value x) → Laid d.ops bits test value u.domain (lay d (filter (λ cell. test cell.output) cells) u))
           → (b : Bool) → test cell.output ≡ b → Laid d.ops bits test value t.domain (lay d (cond b (cell ∷ filter (λ cell. test cell.output) cells) (filter (λ cell. test cell.output) cells)) t)
-      go rest false is = rest t valid (λ x passes out. same x passes (or_none (nat_eq x cell.output) (is_in (outputs cells) x) (other_eqb x cell.output (λ e. both_ways (test x) (ap test e ∙ is) passes)) out))
+      go rest false is = rest t valid (λ x passes out. same x passes (or_from (nat_eq x cell.output) (is_in (outputs cells) x) (other_eqb x cell.output (λ e. both_ways (test x) (ap test e ∙ is) passes)) out))
       go rest true is =
           let r : Run = cell_run d cell t in
           let ins : bits_at d.ops t.domain (map t.at cell.inputs) bits ≡ map value cell.inputs = bits_map t.domain t.at value cell.inputs (λ x among. same x (closed 0 cell refl is x among) (ordered.0 x among)) in
@@ -95,7 +95,7 @@ module _ (d : Values) (bits : List Bool) (fit : IsFit d bits) where
           (ap (λ bs. term_value bs (function_term cell.function)) ins ∙ sym (terms 0 cell refl)) in
           let u : Table = put_run t cell.output r in
           let l = rest u (put_valid t.domain t cell.output r (value cell.output) valid g)
-          (λ x passes out. put_same t cell.output r value valid g x (λ other. same x passes (or_none (nat_eq x cell.output) (is_in (outputs cells) x) other out))) in
+          (λ x passes out. put_same t cell.output r value valid g x (λ other. same x passes (or_from (nat_eq x cell.output) (is_in (outputs cells) x) other out))) in
           record { keeps = keeps_then d.ops t.domain r.domain (lay d (filter (λ cell. test cell.output) cells) u).domain g.keeps l.keeps; holds = l.holds }
 
   -- E

@@ -1,5 +1,5 @@
 -- Each claim holds exactly where its question is never violated.
-use Rattle.std.proofs.Common.{◌≡◌, ℕ, ◌<◌, Bool, true, false, not, ◌&&◌, ◌||◌, if◌then◌else◌, List, [], ◌∷◌, length, slice_get}
+use Rattle.std.proofs.Common.{◌≡◌, ℕ, ◌<◌, Bool, true, false, not, ◌&&◌, if◌then◌else◌, List, [], ◌∷◌, length, slice_get}
 use Rattle.std.proofs.Common.{Option, None, Some, refl, sym, ◌∙◌, ap, subst, arith, inl, inr}
 use Rattle.std.proofs.lemmas.Bool.{both_ways}
 use Rattle.std.proofs.lemmas.Option.{slice_get_past, slice_get-get_or}
@@ -16,6 +16,7 @@ use Rattle.cg_machine.proofs.Bits.{bit_past, each_bit, each_get, length-each, sa
 use Rattle.cg_claim.specs.Question.{hold_question, idle_question, stable_question, target_part, unseen_question}
 use Rattle.cg_claim.specs.Violates.{Free, IsFree, part_bit, violates}
 use Rattle.cg_claim.specs.inner.Never.{IsNeverViolated}
+use Rattle.std.proofs.Math.Bool.{or-false}
 
 no_clash : (E a b : Bool) → (E ≡ false → a ≡ b) → (not E && exclusive_or a b) ≡ false
 no_clash true a b same = refl
@@ -34,21 +35,17 @@ from_clash false true false none idle = absurd (both_ways true none refl)
 from_clash false false true none idle = absurd (both_ways true none refl)
 from_clash false false false none idle = refl
 
-or_end : (b : Bool) → (b || false) ≡ b
-or_end true = refl
-or_end false = refl
-
 module _ (m : MachineData) where
   pub hold_never : (e : Literal) (r : ℕ) → Hold m e r → IsNeverViolated m (hold_question e r)
   hold_never e r hold w free =
       no_clash (any_at (values m w.s0 w.x0) (e ∷ [])) (next m (values m w.s0 w.x0) w.s0 r) (bit w.s0 r)
-      (λ idle. hold w.s0 w.x0 free.s0 free.x0 (sym (or_end (literal_bit (bit (values m w.s0 w.x0)) e)) ∙ idle))
+      (λ idle. hold w.s0 w.x0 free.s0 free.x0 (sym (or-false (literal_bit (bit (values m w.s0 w.x0)) e)) ∙ idle))
 
   pub never_hold : (e : Literal) (r : ℕ) → IsNeverViolated m (hold_question e r) → Hold m e r
   never_hold e r never s x long ins idle =
       let w : Free = record { s0 = s; x0 = x; free = []; x1 = x; other = [] } in
       from_clash (any_at (values m s x) (e ∷ [])) (next m (values m s x) s r) (bit s r) (never w (record { s0 = long; x0 = ins; x1 = ins }))
-      (or_end (literal_bit (bit (values m s x)) e) ∙ idle)
+      (or-false (literal_bit (bit (values m s x)) e) ∙ idle)
 
   -- for Idle the answer 1 shows that the stage idles
   pub idle_some : (E : List Literal) → CanIdle m E → (w : Free) × IsFree m w × (violates m (idle_question E) w ≡ true)

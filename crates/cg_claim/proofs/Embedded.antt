@@ -17,6 +17,7 @@ use Rattle.cg_cell.specs.Domain.{GrowsAtEnd, Made, Seen, after}
 use Rattle.cg_cell.proofs.Building.{extends_self}
 use Rattle.cg_aig.specs.Aig.{aig_and, and_with, in_order, inverse, nodes, pair_node, pair_node_at, same_pair, simple}
 use Rattle.cg_aig.specs.Values.{and_left, and_right, inverse_even, inverse_odd, parity}
+use Rattle.std.specs.Cmp.{both_ways as same_bools}
 
 -- the literal of the image of a literal's node, inverted where the literal is
 abbrev pub sent : (ℕ → ℕ) → ℕ → ℕ
@@ -56,11 +57,6 @@ pub record Grown (g : ℕ → ℕ) (s s' t' : Seen) (a b : ℕ) : Type 0 where
   pub longer : nodes s ≤ nodes s'
   pub same : (k : ℕ) → k < nodes s → to k ≡ g k
   pub answer : IsSent to s' a b
-
-same_bools : (a b : Bool) → (a ≡ true → b ≡ true) → (b ≡ true → a ≡ true) → a ≡ b
-same_bools true b f g = sym (f refl)
-same_bools false true f g = g refl
-same_bools false false f g = refl
 
 -- two tests whether numbers are the same
 same_test : (x y u v : ℕ) → (u ≡ v → x ≡ y) → (x ≡ y → u ≡ v) → (x == y) ≡ (u == v)

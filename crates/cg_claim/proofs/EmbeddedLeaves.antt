@@ -22,7 +22,7 @@ step false true f k = suc (f k)
 step false false f k = f k
 
 -- the first place of a leaf that is there
-place_there : (leaves : List Leaf) (l : Leaf) → list_any (same_leaf l) leaves ≡ true → (i : ℕ) × (leaf_place leaves l ≡ Some i)
+pub place_there : (leaves : List Leaf) (l : Leaf) → list_any (same_leaf l) leaves ≡ true → (i : ℕ) × (leaf_place leaves l ≡ Some i)
 place_there [] l among = absurd (both_ways false refl among)
 place_there (x ∷ leaves) l among = go (place_there leaves l) (same_leaf l x) among
   where

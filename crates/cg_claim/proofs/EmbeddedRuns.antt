@@ -2,7 +2,7 @@
 use Rattle.std.proofs.Common.{◌≡◌, ◌+◌, ◌*◌, ◌/◌, ◌%◌, ℕ, zero, suc, Bool, true, false, cond, if◌then◌else◌, List, [], ◌∷◌, map}
 use Rattle.std.proofs.Common.{nat_eq, slice_index_or, refl, sym, ◌∙◌, ap, subst, arith}
 use Rattle.std.specs.List.{filter}
-use Rattle.std.proofs.lemmas.Bool.{both_ways}
+use Rattle.std.proofs.lemmas.Bool.{both_ways, or_from}
 use Rattle.cg_cell.specs.Build.{Run, build_and, build_not, build_or, build_xor, chain}
 use Rattle.cg_cell.specs.Domain.{Seen}
 use Rattle.cg_cell.specs.Eval.{build_term}
@@ -14,7 +14,7 @@ use Rattle.cg_netlist.specs.Circuit.{LogicCell}
 use Rattle.cg_net.specs.NetSets.{is_in}
 use Rattle.cg_netlist.specs.Nets.{IsOrdered, outputs}
 use Rattle.cg_cone.proofs.Cones.{AreClosed}
-use Rattle.cg_netlist.proofs.NetsOf.{or_none, other_eqb}
+use Rattle.cg_netlist.proofs.NetsOf.{other_eqb}
 use Rattle.cg_netlist.proofs.RisingPlaces.{in_head, in_tail}
 use Rattle.cg_claim.specs.Build.{Table, aig_values, cell_run, function_term, lay, put_run}
 use Rattle.cg_claim.proofs.Embedded.{Embeds, Grown, IsSent, and_grown, embeds_later, inverse_sent, sent_one, sent_zero}
@@ -138,7 +138,7 @@ module _ (A B : ℕ → Bool) (within : (x : ℕ) → A x ≡ true → B x ≡ t
     where
       -- a net that is the output of no cell that is left
       out_of : (x : ℕ) → nat_eq x cell.output ≡ false → is_in (outputs cells) x ≡ false → is_in (outputs (cell ∷ cells)) x ≡ false
-      out_of x other out = or_none (nat_eq x cell.output) (is_in (outputs cells) x) other out
+      out_of x other out = or_from (nat_eq x cell.output) (is_in (outputs cells) x) other out
 
       elsewhere : A cell.output ≡ false → (x : ℕ) → A x ≡ true → nat_eq x cell.output ≡ false
       elsewhere is x passes = other_eqb x cell.output (λ same. both_ways (A x) (ap A same ∙ is) passes)

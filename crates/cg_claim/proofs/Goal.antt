@@ -2,7 +2,7 @@
 use Rattle.std.proofs.Common.{◌≡◌, ℕ, ◌+◌, ◌<◌, Bool, true, false, not, ◌&&◌, ◌||◌, if◌then◌else◌, List, ◌++◌, length, IsTrue}
 use Rattle.std.proofs.Common.{slice_get, Option, None, Some, refl, sym, ◌∙◌, subst, arith, inl, inr}
 use Rattle.std.specs.List.{filter, flat_map}
-use Rattle.std.proofs.lemmas.Bool.{both_ways, cases_Bool, lt-ltb, or_left, or_right}
+use Rattle.std.proofs.lemmas.Bool.{and_from, both_ways, cases_Bool, lt-ltb, not_from_false, or_left, or_right}
 use Rattle.cg_cell.specs.Domain.{Keeps, Ops, Seen}
 use Rattle.cg_cell.specs.Build.{build_and, build_xor, chain, plain}
 use Rattle.cg_cell.specs.Gates.{exclusive_or}
@@ -33,9 +33,10 @@ use Rattle.cg_cone.proofs.Cones.{cone_closed}
 use Rattle.cg_claim.proofs.GivenNets.{are_terms, bits_given, given_same, given_valid, registers_are, shown_feeds}
 use Rattle.cg_claim.proofs.CellsLaid.{Holds, IsFit, Laid, enable_gives, holds_later, lay_holds, sound_of}
 use Rattle.cg_cell.proofs.Runs.{Gives, Has, gives_and, gives_as, gives_plain, gives_then, gives_xor, has_later}
-use Rattle.cg_claim.proofs.Reached.{after_within, before_within, both_true, changed_within, enables_in, feeds_within, in_filter}
-use Rattle.cg_claim.proofs.Reached.{not_of, origins_in, range_in, side_asks_in, side_nets_in, to_filter}
+use Rattle.cg_claim.proofs.Reached.{after_within, before_within, changed_within, enables_in, feeds_within}
+use Rattle.cg_claim.proofs.Reached.{origins_in, side_asks_in, side_nets_in}
 use Rattle.cg_claim.proofs.NextBits.{lay_states_hold, part_gives, state_gives}
+use Rattle.cg_netlist.proofs.Filtered.{in_filter, range_in, to_filter}
 
 -- all copies hold the bits of their cycles
 pub record CopiesHold (o : Ops) (bits : List Bool) (m : MachineData) (q : Question) (w : Free) (s : Seen) (c : Copies) : Type 0 where
@@ -121,8 +122,8 @@ module _ (d : Values) (bits : List Bool) (fit : IsFit d bits) (m : MachineData) 
         (leaf_valid u all Before (RegisterOf r))
         (λ asks. leaf_same u all Before (RegisterOf r) (is_register r below)
         (or_right (feeds m (before_nets m q) r) (sides_ask m Before q.sides r || (after_states m q r && origin_asks m q r))
-        (or_right (sides_ask m Before q.sides r) (after_states m q r && origin_asks m q r) (both_true (after_states m q r) (origin_asks m q r) passes asks))))
-        (λ free'. record { valid = leaf_valid u all After (RegisterOf r); bit = leaf_same u all After (RegisterOf r) (is_register r below) (both_true (after_states m q r) (not (is_in q.follows r)) passes (not_of (is_in q.follows r) free')) }))
+        (or_right (sides_ask m Before q.sides r) (after_states m q r && origin_asks m q r) (and_from (after_states m q r) (origin_asks m q r) passes asks))))
+        (λ free'. record { valid = leaf_valid u all After (RegisterOf r); bit = leaf_same u all After (RegisterOf r) (is_register r below) (and_from (after_states m q r) (not (is_in q.follows r)) passes (not_from_false (is_in q.follows r) free')) }))
         (sym (s1_bit r below)))
         (λ r. (fit.zero.has t.domain (sound_at t.domain before.keeps)).valid)
         (λ r passes out.
@@ -153,10 +154,10 @@ module _ (d : Values) (bits : List Bool) (fit : IsFit d bits) (m : MachineData) 
 
         choose : (r : ℕ) → changed_states m q r ≡ true → (b : Bool) → is_in q.changes r ≡ b
             → d.ops.bit u bits (if b then leaf_value d leaves Changed (RegisterOf r) else at r) ≡ (if b then bit w.other r else bit s1 r)
-        choose r passes true is = leaf_same u keeps Changed (RegisterOf r) (is_register r (changed_within m q fits r passes)) (both_true (changed_states m q r) (is_in q.changes r) passes is)
+        choose r passes true is = leaf_same u keeps Changed (RegisterOf r) (is_register r (changed_within m q fits r passes)) (and_from (changed_states m q r) (is_in q.changes r) passes is)
         choose r passes false is = states.same r
             (or_right (feeds m (after_nets m q) r) (sides_ask m After q.sides r || (changed_states m q r && not (is_in q.changes r)))
-            (or_right (sides_ask m After q.sides r) (changed_states m q r && not (is_in q.changes r)) (both_true (changed_states m q r) (not (is_in q.changes r)) passes (not_of (is_in q.changes r) is))))
+            (or_right (sides_ask m After q.sides r) (changed_states m q r && not (is_in q.changes r)) (and_from (changed_states m q r) (not (is_in q.changes r)) passes (not_from_false (is_in q.changes r) is))))
 
     changed_holds : (u : Seen) (at : ℕ → ℕ) → Keeps d.ops s u → Holds d.ops bits (after_states m q) (bit s1) u at
         → Laid d.ops bits (is_in (changed_nets m q)) (bit (values m (mixed m q.changes w.other s1) w.x1)) u (changed_table d m q leaves at u)

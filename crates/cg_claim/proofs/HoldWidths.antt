@@ -17,19 +17,15 @@ use Rattle.cg_claim.specs.Question.{Before, After, Changed, Question, held_quest
 use Rattle.cg_claim.specs.Reach.{after_states, before_nets, inputs_of_register, next_nets, origin_asks, origin_nets, registers_of}
 use Rattle.cg_claim.specs.Reach.{sides_ask}
 use Rattle.cg_cone.proofs.Cones.{cone_has, cone_is, from_way}
+use Rattle.std.specs.Cmp.{both_ways as same_bools}
 
-same_test : {T : Type 0} (f g : T → Bool) (xs : List T) → ((x : T) → f x ≡ g x) → filter f xs ≡ filter g xs
+pub same_test : {T : Type 0} (f g : T → Bool) (xs : List T) → ((x : T) → f x ≡ g x) → filter f xs ≡ filter g xs
 same_test f g [] same = refl
 same_test f g (x ∷ xs) same = ap (λ b. cond b (x ∷ filter f xs) (filter f xs)) (same x) ∙ ap (λ l. cond (g x) (x ∷ l) l) (same_test f g xs same)
 
 same_any : (f g : ℕ → Bool) (xs : List ℕ) → ((x : ℕ) → f x ≡ g x) → list_any f xs ≡ list_any g xs
 same_any f g [] same = refl
 same_any f g (x ∷ xs) same = ap (λ b. b || list_any f xs) (same x) ∙ ap (λ b. g x || b) (same_any f g xs same)
-
-same_bools : (a b : Bool) → (a ≡ true → b ≡ true) → (b ≡ true → a ≡ true) → a ≡ b
-same_bools true b f g = sym (f refl)
-same_bools false true f g = g refl
-same_bools false false f g = refl
 
 module _ (m : MachineData) (good : IsMachine m) (l : Literal) (r : ℕ) (among : is_in (cone_of (walk_of m) (inputs_of_register m r)) l.0 ≡ true) where
   abbrev q : Question

@@ -5,7 +5,7 @@ use Rattle.std.proofs.Common.{map, length, nat_eq, slice_get, Option, Some, None
 use Rattle.std.proofs.Common.{arith}
 use Rattle.std.specs.List.{IsDistinct, filter, list_any, range_with_len}
 use Rattle.std.specs.Option.{option_map_or, option_to_list}
-use Rattle.std.proofs.lemmas.Bool.{both_ways, cases_Bool, or_cases, or_left, or_right}
+use Rattle.std.proofs.lemmas.Bool.{and_from, and_parts, both_ways, cases_Bool, or_cases, or_left, or_right}
 use Rattle.std.proofs.lemmas.List.{append_assoc}
 use Rattle.std.proofs.lemmas.List.Elements.{filter-append}
 use Rattle.std.proofs.lemmas.List.Folds.{list_any-append}
@@ -24,8 +24,9 @@ use Rattle.cg_claim.specs.Leaves.{Leaf, is_reached, leaf_place, leaves_at, leave
 use Rattle.cg_claim.specs.Question.{After, Before, Changed, Copy, Question}
 use Rattle.cg_claim.specs.Reach.{registers_of, same_copy}
 use Rattle.cg_netlist.proofs.RisingPlaces.{Rises, in_head, places_filter}
-use Rattle.cg_claim.proofs.LeavesFound.{and_parts, copy_is, leaf_is, source_is, source_self}
-use Rattle.cg_claim.proofs.Reached.{both_true, same_copy_self}
+use Rattle.cg_claim.proofs.LeavesFound.{copy_is, leaf_is, source_is, source_self}
+use Rattle.cg_claim.proofs.Reached.{same_copy_self}
+use Rattle.cg_machine.proofs.WalkPlaces.{range_at}
 
 -- the leaf of a source in a copy
 abbrev pub leaf : Copy → LeafSource → Leaf
@@ -58,11 +59,6 @@ pub inputs_by_place : (m : MachineData) (q : Question) (copy : Copy) (places : L
 inputs_by_place m q copy places rises within is = places_filter (λ y. is_reached m q copy (InputOf y)) (data_inputs m.circuit) places rises within is
 
 -- a number below n is its own place
-range_at : (n a p : ℕ) → p < n → slice_get (range_with_len a n) p ≡ Some (a + p)
-range_at zero a p below = absurd (omega arith)
-range_at (suc n) a zero below = let e : a ≡ a + 0 = omega arith in ap Some e
-range_at (suc n) a (suc p) below = let e : a + 1 + p ≡ a + suc p = omega arith in range_at n (a + 1) p (omega arith) ∙ ap Some e
-
 range_values : (n : ℕ) (rs : List ℕ) → ((r : ℕ) → is_in rs r ≡ true → r < n) → values_at (range_with_len 0 n) rs ≡ rs
 range_values n [] within = refl
 range_values n (r ∷ rs) within =
@@ -108,7 +104,7 @@ AreApart (l ∷ leaves) = (list_any (same_leaf l) leaves ≡ false) × AreApart 
 
 -- the place of a leaf is the one where it stands, and one that does not stand there has none
 pub leaf_self : (l : Leaf) → same_leaf l l ≡ true
-leaf_self l = both_true (same_copy l.copy l.copy) (same_source l.source l.source) (same_copy_self l.copy) (source_self l.source)
+leaf_self l = and_from (same_copy l.copy l.copy) (same_source l.source l.source) (same_copy_self l.copy) (source_self l.source)
 
 stands : (leaves : List Leaf) (k : ℕ) (l x : Leaf) → slice_get leaves k ≡ Some l → same_leaf x l ≡ true → list_any (same_leaf x) leaves ≡ true
 stands [] k l x at same = absurd (none-some l at)

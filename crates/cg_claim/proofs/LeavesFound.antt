@@ -5,7 +5,7 @@ use Rattle.std.proofs.Common.{length, nat_eq, slice_index_or, Option, None, Some
 use Rattle.std.proofs.Common.{inl, inr}
 use Rattle.std.specs.List.{filter, list_any}
 use Rattle.std.specs.Option.{option_map_or}
-use Rattle.std.proofs.lemmas.Bool.{both_ways, eqb-true, eq-eqb, ltb-true, or_cases, or_left, or_right}
+use Rattle.std.proofs.lemmas.Bool.{and_parts, both_ways, eq-eqb, eqb-true, ltb-true, or_cases, or_left, or_right}
 use Rattle.std.proofs.lemmas.Option.{same_Some}
 use Rattle.cg_netlist.specs.Circuit.{data_inputs}
 use Rattle.cg_net.specs.NetSets.{is_in}
@@ -15,7 +15,8 @@ use Rattle.cg_claim.specs.Question.{Copy, Before, After, Changed, Question}
 use Rattle.cg_claim.specs.Reach.{registers_of, same_copy}
 use Rattle.cg_claim.specs.declared.leaf.LeafSource.{LeafSource}
 use Rattle.cg_claim.specs.declared.leaf.LeafSource.TheVariants.{Input as InputOf, Register as RegisterOf}
-use Rattle.cg_claim.proofs.Reached.{range_in, same_copy_self}
+use Rattle.cg_claim.proofs.Reached.{same_copy_self}
+use Rattle.cg_netlist.proofs.Filtered.{range_in}
 
 pub place_below : (leaves : List Leaf) (l : Leaf) (k : ℕ) → leaf_place leaves l ≡ Some k → k < length leaves
 place_below [] l k at = absurd (cc)
@@ -50,10 +51,6 @@ source_is (RegisterOf x) (InputOf y) h = absurd (both_ways false refl h)
 pub source_self : (a : LeafSource) → same_source a a ≡ true
 source_self (InputOf x) = eq-eqb x x refl
 source_self (RegisterOf x) = eq-eqb x x refl
-
-pub and_parts : (a b : Bool) → (a && b) ≡ true → (a ≡ true) × (b ≡ true)
-and_parts true b h = (refl, h)
-and_parts false b h = absurd (both_ways false refl h)
 
 pub leaf_is : (l k : Leaf) → same_leaf l k ≡ true → l ≡ k
 leaf_is l k h =

@@ -17,12 +17,13 @@ use Rattle.cg_claim.specs.Reach.{after_nets, after_states, changed_nets, changed
 use Rattle.cg_cone.specs.Cone.{cone_of}
 use Rattle.cg_claim.specs.declared.leaf.LeafSource.{LeafSource}
 use Rattle.cg_claim.specs.declared.leaf.LeafSource.TheVariants.{Input as InputOf, Register as RegisterOf}
+use Rattle.std.proofs.lemmas.Bool.{or_from}
 
-cone_nil : (cells : List (LogicCell ℕ)) → cone_of cells [] ≡ []
+pub cone_nil : (cells : List (LogicCell ℕ)) → cone_of cells [] ≡ []
 cone_nil [] = refl
 cone_nil (cell ∷ cells) = ap (λ l. if is_in l cell.output then l ++ cell.inputs else l) (cone_nil cells)
 
-none_any : (ys : List ℕ) → list_any (is_in []) ys ≡ false
+pub none_any : (ys : List ℕ) → list_any (is_in []) ys ≡ false
 none_any [] = refl
 none_any (y ∷ ys) = none_any ys
 
@@ -53,26 +54,22 @@ and_off : (a b : Bool) → a ≡ false → (a && b) ≡ false
 and_off true b e = absurd (cc)
 and_off false b e = refl
 
-or_two : (a b : Bool) → a ≡ false → b ≡ false → (a || b) ≡ false
-or_two true b x y = x
-or_two false b x y = y
-
 pub hold_one : (m : MachineData) (e : Literal) (r : ℕ) → IsOneCopy m (hold_question e r)
 hold_one m e r =
     let none = cone_nil (walk_of m) in
     let fed : (k : ℕ) → feeds m (cone_of (walk_of m) []) k ≡ false = λ k. ap (λ l. feeds m l k) none ∙ feeds_nil m k in
-    record { after = none; changed = none; states = λ k. or_off _ _ _ (fed k) refl (and_off _ _ (or_two _ _ (fed k) refl)); moved = λ k. or_two _ _ (fed k) refl }
+    record { after = none; changed = none; states = λ k. or_off _ _ _ (fed k) refl (and_off _ _ (or_from _ _ (fed k) refl)); moved = λ k. or_from _ _ (fed k) refl }
 
 pub idle_one : (m : MachineData) (E : List Literal) → IsOneCopy m (idle_question E)
 idle_one m E =
     let none = cone_nil (walk_of m) in
     let fed : (k : ℕ) → feeds m (cone_of (walk_of m) []) k ≡ false = λ k. ap (λ l. feeds m l k) none ∙ feeds_nil m k in
-    record { after = none; changed = none; states = λ k. or_off _ _ _ (fed k) refl (and_off _ _ (or_two _ _ (fed k) refl)); moved = λ k. or_two _ _ (fed k) refl }
+    record { after = none; changed = none; states = λ k. or_off _ _ _ (fed k) refl (and_off _ _ (or_from _ _ (fed k) refl)); moved = λ k. or_from _ _ (fed k) refl }
 
 module _ (m : MachineData) (q : Question) (one : IsOneCopy m q) where
   -- the leaves are of the first copy
   no_after : (source : LeafSource) → is_reached m q After source ≡ false
-  no_after (InputOf y) = or_two (is_in (after_nets m q) y) (is_in (changed_nets m q) y) (ap (λ l. is_in l y) one.after) (ap (λ l. is_in l y) one.changed)
+  no_after (InputOf y) = or_from (is_in (after_nets m q) y) (is_in (changed_nets m q) y) (ap (λ l. is_in l y) one.after) (ap (λ l. is_in l y) one.changed)
   no_after (RegisterOf r) = and_off (after_states m q r) (not (is_in q.follows r)) (one.states r)
 
   no_changed : (source : LeafSource) → is_reached m q Changed source ≡ false

@@ -1,10 +1,10 @@
 -- What a question reaches: registers that are there, all that its sides ask for, its joined enable, and what the states
 -- after the first cycle come from.
-use Rattle.std.proofs.Common.{◌≡◌, ℕ, zero, suc, ◌+◌, ◌<◌, Bool, true, false, not, ◌&&◌, ◌||◌, cond, if◌then◌else◌, List, [], ◌∷◌}
-use Rattle.std.proofs.Common.{◌++◌, length, nat_eq, slice_get, Option, None, Some, refl, sym, ◌∙◌, ap, subst, arith, ◌⊎◌, inl, inr}
-use Rattle.std.specs.List.{filter, flat_map, list_any, range_with_len}
+use Rattle.std.proofs.Common.{◌≡◌, ℕ, ◌+◌, ◌<◌, Bool, true, false, not, ◌&&◌, ◌||◌, if◌then◌else◌, List, []}
+use Rattle.std.proofs.Common.{◌++◌, length, nat_eq, slice_get, Option, None, Some, refl, sym, subst, arith, ◌⊎◌, inl, inr}
+use Rattle.std.specs.List.{filter, flat_map, list_any}
 use Rattle.std.specs.Option.{option_map_or}
-use Rattle.std.proofs.lemmas.Bool.{both_ways, eqb-true, eq-eqb, or_cases, or_left, or_right}
+use Rattle.std.proofs.lemmas.Bool.{and_from, both_ways, eqb-true, or_cases, or_left, or_right}
 use Rattle.std.proofs.lemmas.Option.{slice_get_within}
 use Rattle.cg_netlist.specs.Circuit.{RegisterCell, shown_nets}
 use Rattle.cg_net.specs.NetSets.{is_in}
@@ -17,57 +17,11 @@ use Rattle.cg_claim.specs.Reach.{same_copy, side_asks, side_nets, sides_ask, sid
 use Rattle.cg_claim.specs.Violates.{CopyPartFits, SidesFit}
 use Rattle.cg_claim.specs.inner.Copies.{nets_reached, states_reached}
 use Rattle.cg_cone.proofs.Cones.{cone_has}
-
-pub both_true : (a b : Bool) → a ≡ true → b ≡ true → (a && b) ≡ true
-both_true true b h k = k
-both_true false b h k = h
+use Rattle.cg_netlist.proofs.WalkOrder.{in_each}
 
 pub and_first : (a b : Bool) → (a && b) ≡ true → a ≡ true
 and_first true b h = refl
 and_first false b h = h
-
-pub not_of : (b : Bool) → b ≡ false → not b ≡ true
-not_of true h = sym h
-not_of false h = refl
-
-pub in_filter : (test : ℕ → Bool) (xs : List ℕ) (x : ℕ) → is_in (filter test xs) x ≡ true → (is_in xs x ≡ true) × (test x ≡ true)
-in_filter test [] x among = absurd (both_ways false refl among)
-in_filter test (y ∷ xs) x among = go (in_filter test xs x) (test y) refl among
-  where
-    go : (is_in (filter test xs) x ≡ true → (is_in xs x ≡ true) × (test x ≡ true)) → (b : Bool) → test y ≡ b → is_in (cond b (y ∷ filter test xs) (filter test xs)) x ≡ true → ((nat_eq x y || is_in xs x) ≡ true) × (test x ≡ true)
-    go known false is inside = let k = known inside in (or_right (nat_eq x y) (is_in xs x) k.0, k.1)
-    go known true is inside = elim (or_cases (nat_eq x y) (is_in (filter test xs) x) inside) [
-      | inl same ↦ (or_left (nat_eq x y) (is_in xs x) same, ap test (eqb-true x y same) ∙ is)
-      | inr later ↦ let k = known later in (or_right (nat_eq x y) (is_in xs x) k.0, k.1)
-    ]
-
-pub to_filter : (test : ℕ → Bool) (xs : List ℕ) (x : ℕ) → is_in xs x ≡ true → test x ≡ true → is_in (filter test xs) x ≡ true
-to_filter test [] x among passes = absurd (both_ways false refl among)
-to_filter test (y ∷ xs) x among passes = go (λ later. to_filter test xs x later passes) (test y) refl
-  where
-    go : (is_in xs x ≡ true → is_in (filter test xs) x ≡ true) → (b : Bool) → test y ≡ b → is_in (cond b (y ∷ filter test xs) (filter test xs)) x ≡ true
-    go rest true is = elim (or_cases (nat_eq x y) (is_in xs x) among) [
-      | inl same ↦ or_left (nat_eq x y) (is_in (filter test xs) x) same
-      | inr later ↦ or_right (nat_eq x y) (is_in (filter test xs) x) (rest later)
-    ]
-    go rest false is = elim (or_cases (nat_eq x y) (is_in xs x) among) [
-      | inl same ↦ absurd (both_ways (test x) (ap test (eqb-true x y same) ∙ is) passes)
-      | inr later ↦ rest later
-    ]
-
-pub range_in : (n a x : ℕ) → x < n → is_in (range_with_len a n) (a + x) ≡ true
-range_in zero a x below = absurd (omega arith)
-range_in (suc n) a zero below = or_left (nat_eq (a + 0) a) (is_in (range_with_len (a + 1) n) (a + 0)) (eq-eqb (a + 0) a (omega arith))
-range_in (suc n) a (suc x) below =
-    let e : a + 1 + x ≡ a + suc x = omega arith in
-    or_right (nat_eq (a + suc x) a) (is_in (range_with_len (a + 1) n) (a + suc x)) (subst (λ y. is_in (range_with_len (a + 1) n) y ≡ true) e (range_in n (a + 1) x (omega arith)))
-
-pub in_each : (f : ℕ → List ℕ) (xs : List ℕ) (x y : ℕ) → is_in xs x ≡ true → is_in (f x) y ≡ true → is_in (flat_map f xs) y ≡ true
-in_each f [] x y among inside = absurd (both_ways false refl among)
-in_each f (z ∷ xs) x y among inside = elim (or_cases (nat_eq x z) (is_in xs x) among) [
-  | inl same ↦ is_in_left (f z) (flat_map f xs) y (subst (λ w. is_in (f w) y ≡ true) (eqb-true x z same) inside)
-  | inr later ↦ is_in_right (f z) (flat_map f xs) y (in_each f xs x y later inside)
-]
 
 pub same_copy_self : (copy : Copy) → same_copy copy copy ≡ true
 same_copy_self Before = refl
@@ -163,7 +117,7 @@ module _ (m : MachineData) (q : Question) (fits : SidesFit m q.sides) where
   pub side_asks_in : (sides : Side × Side) → q.sides ≡ Some sides → (side : Side) → (side ≡ sides.0) ⊎ (side ≡ sides.1)
       → (r : ℕ) → part_asks m side.part r ≡ true → states_reached m q side.copy r ≡ true
   side_asks_in sides is side one r asks =
-      let asked : side_asks m side.copy side r ≡ true = both_true (same_copy side.copy side.copy) (part_asks m side.part r) (same_copy_self side.copy) asks in
+      let asked : side_asks m side.copy side r ≡ true = and_from (same_copy side.copy side.copy) (part_asks m side.part r) (same_copy_self side.copy) asks in
       sides_ask_in side.copy r (subst (λ o. sides_ask m side.copy o r ≡ true) (sym is) (elim one [
         | inl first ↦ or_left (side_asks m side.copy sides.0 r) (side_asks m side.copy sides.1 r) (subst (λ z. side_asks m side.copy z r ≡ true) first asked)
         | inr other ↦ or_right (side_asks m side.copy sides.0 r) (side_asks m side.copy sides.1 r) (subst (λ z. side_asks m side.copy z r ≡ true) other asked)

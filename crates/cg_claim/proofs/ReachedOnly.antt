@@ -4,7 +4,7 @@ use Rattle.std.proofs.Common.{length, nat_eq, slice_get, slice_index_or, Option,
 use Rattle.std.proofs.Common.{inl, inr}
 use Rattle.std.specs.List.{filter}
 use Rattle.std.specs.Option.{option_map_or, option_to_list}
-use Rattle.std.proofs.lemmas.Bool.{both_ways, cases_Bool, eq-eqb, or_left, or_right}
+use Rattle.std.proofs.lemmas.Bool.{and_from, both_ways, cases_Bool, eq-eqb, or_left, or_right}
 use Rattle.std.proofs.lemmas.List.{length-map}
 use Rattle.std.proofs.lemmas.Option.{none-some, same_Some}
 use Rattle.cg_cell.specs.Build.{Run, build_and, build_mux, build_not, build_or, build_xor, chain, plain}
@@ -30,7 +30,6 @@ use Rattle.cg_claim.specs.Violates.{CopyPartFits}
 use Rattle.cg_cone.proofs.Cones.{AreClosed, cone_closed}
 use Rattle.cg_netlist.proofs.RisingPlaces.{in_head, in_tail}
 use Rattle.cg_claim.proofs.GivenNets.{shown_feeds}
-use Rattle.cg_claim.proofs.Reached.{both_true}
 
 -- the inputs of each cell pass a test
 abbrev pub ReadOn : (ℕ → Bool) → List (LogicCell ℕ) → Type 0
@@ -245,6 +244,6 @@ module _ (d : Values) where
       → part_run d m E nets states part s ≡ part_run d m E nets' states' part s
   part_same m E nets nets' states states' (Net y) s fits same own = ap (λ a. plain a s) (same y (in_head y []))
   part_same m E nets nets' states states' (Next r) s fits same own =
-      next_same m nets nets' states states' r s fits same (λ asks. own r (both_true (nat_eq r r) (next_asks_own m r) (eq-eqb r r refl) asks))
+      next_same m nets nets' states states' r s fits same (λ asks. own r (and_from (nat_eq r r) (next_asks_own m r) (eq-eqb r r refl) asks))
   part_same m E nets nets' states states' (State r) s fits same own = ap (λ a. plain a s) (own r (eq-eqb r r refl))
   part_same m E nets nets' states states' Enable s fits same own = enable_same nets nets' E s same

@@ -3,7 +3,7 @@
 use Rattle.std.proofs.Common.{◌≡◌, ℕ, ◌+◌, Bool, true, false, not, ◌&&◌, ◌||◌, if◌then◌else◌, List, ◌++◌, length, Option, Some}
 use Rattle.std.proofs.Common.{None, refl, ◌∙◌, ap, subst, arith, inl, inr}
 use Rattle.std.specs.List.{filter, flat_map}
-use Rattle.std.proofs.lemmas.Bool.{both_ways, or_left, or_right}
+use Rattle.std.proofs.lemmas.Bool.{and_from, both_ways, not_from_false, or_left, or_right}
 use Rattle.cg_cell.specs.Build.{Run, build_and, build_xor, chain}
 use Rattle.cg_cell.specs.Domain.{Seen}
 use Rattle.cg_netlist.specs.Circuit.{data_inputs}
@@ -21,9 +21,10 @@ use Rattle.cg_claim.specs.Reach.{sides_nets}
 use Rattle.cg_claim.specs.Tables.{SameOn}
 use Rattle.cg_claim.specs.Violates.{CopyPartFits, SidesFit}
 use Rattle.cg_claim.specs.inner.Copies.{nets_reached, states_reached}
-use Rattle.cg_claim.proofs.Reached.{after_within, both_true, enables_in, in_filter, not_of, origins_in, range_in, side_asks_in}
-use Rattle.cg_claim.proofs.Reached.{side_nets_in, to_filter}
+use Rattle.cg_claim.proofs.Reached.{after_within, enables_in, origins_in, side_asks_in}
+use Rattle.cg_claim.proofs.Reached.{side_nets_in}
 use Rattle.cg_claim.proofs.ReachedOnly.{copy_laid, enable_same, lay_states_same, part_same}
+use Rattle.cg_netlist.proofs.Filtered.{in_filter, range_in, to_filter}
 
 module _ (d : Values) (m : MachineData) (good : IsMachine m) (q : Question) (fits : SidesFit m q.sides) (leaves : List Leaf) where
   -- the first copy, from literals of its inputs and states
@@ -76,7 +77,7 @@ module _ (d : Values) (m : MachineData) (good : IsMachine m) (q : Question) (fit
       go : (b : Bool) → is_in q.changes r ≡ b → (if b then leaf_value d leaves Changed (RegisterOf r) else u.at r) ≡ (if b then leaf_value d leaves Changed (RegisterOf r) else U.at r)
       go true is = refl
       go false is = same.at r (or_right (feeds m (after_nets m q) r) (sides_ask m After q.sides r || (changed_states m q r && not (is_in q.changes r)))
-          (or_right (sides_ask m After q.sides r) (changed_states m q r && not (is_in q.changes r)) (both_true (changed_states m q r) (not (is_in q.changes r)) passes (not_of (is_in q.changes r) is))))
+          (or_right (sides_ask m After q.sides r) (changed_states m q r && not (is_in q.changes r)) (and_from (changed_states m q r) (not (is_in q.changes r)) passes (not_from_false (is_in q.changes r) is))))
 
   -- the last copy, from its states
   pub changed_done : (u U t : Table) (s : Seen) (inputs states : ℕ → ℕ) → SameOn (after_states m q) u U → t.domain ≡ s

@@ -2,7 +2,7 @@
 use Rattle.std.proofs.Common.{◌≡◌, ◌↔◌, ℕ, zero, suc, Bool, true, false, not, ◌&&◌, List, [], ◌∷◌, ◌++◌, map, length, refl, sym, ap}
 use Rattle.std.proofs.Common.{◌∙◌, arith}
 use Rattle.std.specs.List.{list_all}
-use Rattle.std.proofs.lemmas.Bool.{both_ways}
+use Rattle.std.proofs.lemmas.Bool.{both_ways, not-true}
 use Rattle.cg_machine.specs.Machine.{IsMachine, MachineData}
 use Rattle.cg_claim.specs.LeafBits.{all_bits, free_of, is_never, violates_at}
 use Rattle.cg_claim.specs.Leaves.{leaves_of, width_of}
@@ -60,15 +60,11 @@ pass_all_bits (suc n) test each =
     (all_mapped test (λ bs. false ∷ bs) (all_bits n) ∙ pass_all_bits n (λ bs. test (false ∷ bs)) (λ bits long. each (false ∷ bits) (ap suc long)))
     (all_mapped test (λ bs. true ∷ bs) (all_bits n) ∙ pass_all_bits n (λ bs. test (true ∷ bs)) (λ bits long. each (true ∷ bits) (ap suc long)))
 
-from_not : (b : Bool) → not b ≡ true → b ≡ false
-from_not true h = sym h
-from_not false h = refl
-
 -- trying says what is claimed
 pub is_never_says : (m : MachineData) (q : Question) → IsMachine m → SidesFit m q.sides → (is_never m q ≡ true) ↔ IsNeverViolated m q
 unfolding is_never
 is_never_says m q good fits =
     let says = trying_says m q good fits in (
-      (λ all. says.0 (λ bits long. from_not (violates_at m q bits) (all_bits_pass (width_of m q) (λ bs. not (violates_at m q bs)) all bits long))),
+      (λ all. says.0 (λ bits long. not-true (violates_at m q bits) (all_bits_pass (width_of m q) (λ bs. not (violates_at m q bs)) all bits long))),
       (λ never. pass_all_bits (width_of m q) (λ bs. not (violates_at m q bs)) (λ bits long. ap not (says.1 never bits long))),
     )

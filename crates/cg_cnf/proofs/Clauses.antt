@@ -9,10 +9,10 @@ use Rattle.cg_aig.specs.Aig.{are_pairs, is_pair, values_from}
 use Rattle.cg_aig.specs.Values.{IsPair, and_left, and_right, node_is, pair_is, parity}
 use Rattle.cg_aig.proofs.Fills.{bit_of_first}
 use Rattle.cg_formula.specs.declared.formula.Clause.{Clause}
-use Rattle.cg_formula.specs.declared.formula.Lit.{Lit}
 use Rattle.cg_formula.specs.Lits.{inverse}
 use Rattle.cg_formula.specs.Satisfiable.{clause_bit, lit_bit}
 use Rattle.cg_cnf.specs.Clauses.{clauses_from, lit_of, node_lit}
+use Rattle.cg_formula.proofs.TrueLiterals.{lit_bit-inverse}
 
 pub lit_same : (model : List Bool) (a : ℕ) → 1 < a → lit_bit model (lit_of a) ≡ aig.lit_bit (false ∷ model) a
 lit_same model a h = elim (parity a) [
@@ -25,14 +25,6 @@ lit_same model a h = elim (parity a) [
 pub node_same : (model : List Bool) (c : ℕ) → 0 < c → lit_bit model (node_lit c) ≡ slice_index_or (false ∷ model) c false
 node_same model zero h = absurd (omega arith)
 node_same model (suc c) h = let e : suc c - 1 ≡ c = omega arith in ap (λ k. slice_index_or model k false) e
-
-inverse_choice : (i b : Bool) → (if not i then not b else b) ≡ not (if i then not b else b)
-inverse_choice true true = refl
-inverse_choice true false = refl
-inverse_choice false b = refl
-
-pub inverse_bit : (model : List Bool) (lit : Lit) → lit_bit model (inverse lit) ≡ not (lit_bit model lit)
-inverse_bit model lit = inverse_choice lit.inverted (slice_index_or model (lit.variable - 1) false)
 
 -- the three clauses of a gate m of x and y, and what follows them
 abbrev pub gate : Bool → Bool → Bool → Bool → Bool
@@ -66,9 +58,9 @@ node_bits model c p rest h pair =
     let x = lit_same model p.0 low in
     let y = lit_same model p.1 right in
     let m = node_same model c h in
-    let nm = inverse_bit model (node_lit c) ∙ ap not m in
-    let nx = inverse_bit model (lit_of p.0) ∙ ap not x in
-    let ny = inverse_bit model (lit_of p.1) ∙ ap not y in
+    let nm = lit_bit-inverse model (node_lit c) ∙ ap not m in
+    let nx = lit_bit-inverse model (lit_of p.0) ∙ ap not x in
+    let ny = lit_bit-inverse model (lit_of p.1) ∙ ap not y in
     let W = false ∷ model in
     ap
     (λ b. (b || (lit_bit model (lit_of p.0) || false)) && ((b || (lit_bit model (lit_of p.1) || false)) && ((lit_bit model (node_lit c) || (lit_bit model (inverse (lit_of p.0)) || (lit_bit model (inverse (lit_of p.1)) || false))) && rest)))

@@ -24,7 +24,6 @@ use Rattle.cg_cone.specs.inner.Reaching.{IsEdge, IsWired, cell_shows, register_s
 use Rattle.cg_netlist.specs.inner.Rising.{Rises}
 use Rattle.cg_netlist.proofs.Driven.{in_range}
 use Rattle.cg_netlist.proofs.Filtered.{in_filter, range_in, to_filter}
-use Rattle.cg_net.proofs.FoundNets.{same_truth}
 use Rattle.cg_net.proofs.TableLemmas.{take_end}
 use Rattle.cg_netlist.proofs.Given.{data_given, distinct_cells, driver_within, given_driver}
 use Rattle.cg_net.proofs.Members.{member_at}
@@ -34,21 +33,22 @@ use Rattle.cg_netlist.proofs.RisingPlaces.{places_filter, rising_same}
 use Rattle.cg_netlist.proofs.Values.{values_at-append}
 use Rattle.cg_netlist.proofs.WalkOrder.{walk_is}
 use Rattle.cg_netlist.proofs.WalkPlaces.{walk_once}
+use Rattle.std.specs.Cmp.{both_ways as same_truth}
 
 any_more : (test : ℕ → Bool) (nets : List ℕ) (y : ℕ) → list_any test (nets ++ y ∷ []) ≡ (list_any test nets || test y)
 any_more test nets y = list_any-append test nets (y ∷ []) ∙ ap (λ b. list_any test nets || b) (or-false (test y))
 
-in_more : (nets : List ℕ) (y x : ℕ) → is_in (nets ++ y ∷ []) x ≡ (is_in nets x || nat_eq x y)
+pub in_more : (nets : List ℕ) (y x : ℕ) → is_in (nets ++ y ∷ []) x ≡ (is_in nets x || nat_eq x y)
 in_more nets y x = any_more (nat_eq x) nets y
 
-any_in : (test : ℕ → Bool) (xs : List ℕ) (x : ℕ) → is_in xs x ≡ true → test x ≡ true → list_any test xs ≡ true
+pub any_in : (test : ℕ → Bool) (xs : List ℕ) (x : ℕ) → is_in xs x ≡ true → test x ≡ true → list_any test xs ≡ true
 any_in test [] x among passes = absurd (both_ways false refl among)
 any_in test (y ∷ xs) x among passes = elim (or_cases (nat_eq x y) (is_in xs x) among) [
   | inl same ↦ or_left (test y) (list_any test xs) (ap test (sym (eqb-true x y same)) ∙ passes)
   | inr later ↦ or_right (test y) (list_any test xs) (any_in test xs x later passes)
 ]
 
-from_any : (test : ℕ → Bool) (xs : List ℕ) → list_any test xs ≡ true → (x : ℕ) × (is_in xs x ≡ true) × (test x ≡ true)
+pub from_any : (test : ℕ → Bool) (xs : List ℕ) → list_any test xs ≡ true → (x : ℕ) × (is_in xs x ≡ true) × (test x ≡ true)
 from_any test [] any = absurd (both_ways false refl any)
 from_any test (y ∷ xs) any = elim (or_cases (test y) (list_any test xs) any) [
   | inl here ↦ (y, or_left (nat_eq y y) (is_in xs y) (eq-eqb y y refl), here)
@@ -56,12 +56,12 @@ from_any test (y ∷ xs) any = elim (or_cases (test y) (list_any test xs) any) [
 ]
 
 -- a common member, looked for from either side
-common : (xs ys zs : List ℕ) → ((y : ℕ) → is_in xs y ≡ is_in zs y) → list_any (is_in ys) xs ≡ list_any (is_in zs) ys
+pub common : (xs ys zs : List ℕ) → ((y : ℕ) → is_in xs y ≡ is_in zs y) → list_any (is_in ys) xs ≡ list_any (is_in zs) ys
 common xs ys zs same = same_truth (list_any (is_in ys) xs) (list_any (is_in zs) ys)
     (λ any. let r = from_any (is_in ys) xs any in any_in (is_in zs) ys r.0 r.2 (sym (same r.0) ∙ r.1))
     (λ any. let r = from_any (is_in zs) ys any in any_in (is_in ys) xs r.0 (same r.0 ∙ r.2) r.1)
 
-never : (xs : List ℕ) → list_any (λ x. false) xs ≡ false
+pub never : (xs : List ℕ) → list_any (λ x. false) xs ≡ false
 never [] = refl
 never (x ∷ xs) = never xs
 
@@ -70,7 +70,7 @@ filter_same f g same [] = refl
 filter_same f g same (x ∷ xs) = ap (λ b. cond b (x ∷ filter f xs) (filter f xs)) (same x) ∙ ap (λ ys. cond (g x) (x ∷ ys) ys) (filter_same f g same xs)
 
 -- what is kept of rising numbers rises
-kept_rises : (test : ℕ → Bool) (a : ℕ) (xs : List ℕ) → Rises a xs → Rises a (filter test xs)
+pub kept_rises : (test : ℕ → Bool) (a : ℕ) (xs : List ℕ) → Rises a xs → Rises a (filter test xs)
 kept_rises test a [] rises = tt
 kept_rises test a (x ∷ xs) rises = go (kept_rises test (suc x) xs rises.1) (test x)
   where

@@ -13,14 +13,15 @@ use Rattle.cg_netlist.specs.declared.driver.Driver.{Driver}
 use Rattle.cg_netlist.specs.declared.driver.Driver.TheVariants.{Cell}
 use Rattle.cg_cone.specs.inner.Reaching.{IsReached}
 use Rattle.cg_cone.proofs.Cones.{cone_is, longer}
-use Rattle.cg_net.proofs.FoundNets.{front, kept_all, only_these, put_all, same_truth, take_front}
+use Rattle.cg_net.proofs.FoundNets.{front, kept_all, only_these, put_all, take_front}
 use Rattle.cg_net.proofs.TableLemmas.{All-at, take_end}
 use Rattle.cg_net.proofs.Members.{is_in_cases, member_at, place_of_member}
 use Rattle.cg_cone.proofs.OneDriver.{cell_driver, cell_number}
 use Rattle.cg_netlist.proofs.Used.{input_is_used}
+use Rattle.std.specs.Cmp.{both_ways as same_truth}
 
 -- the first nets, with one more
-in_next : (found more : List ℕ) (next net y : ℕ) → slice_get found next ≡ Some net → next < length found → is_in (take (next + 1) (found ++ more)) y ≡ true → (is_in (take next found) y ≡ true) ⊎ (y ≡ net)
+pub in_next : (found more : List ℕ) (next net y : ℕ) → slice_get found next ≡ Some net → next < length found → is_in (take (next + 1) (found ++ more)) y ≡ true → (is_in (take next found) y ≡ true) ⊎ (y ≡ net)
 in_next found more next net y at below among =
     let e : next + 1 ≡ suc next = omega arith in
     let whole : take (next + 1) (found ++ more) ≡ take next found ++ net ∷ [] = take_front (next + 1) found more (omega arith) ∙ (ap (λ n. take n found) e ∙ take_end found next net at) in

@@ -13,12 +13,12 @@ use Rattle.cg_netlist.specs.WellFormed.{IsDriven}
 use Rattle.cg_netlist.specs.declared.driver.Driver.{Driver}
 use Rattle.cg_netlist.specs.declared.driver.Driver.TheVariants.{Input, Clock, Cell, Gater, Register}
 use Rattle.cg_cone.specs.inner.Reaching.{register_shows}
-use Rattle.cg_net.proofs.FoundNets.{same_truth}
 use Rattle.cg_netlist.proofs.Given.{clock_given, data_given, distinct_cells, distinct_given, from_option, gate_given, given_no_cell}
 use Rattle.cg_netlist.proofs.Given.{register_given}
 use Rattle.cg_net.proofs.Members.{distinct_apart, distinct_left, distinct_right, is_in_left, is_in_right, member_at, one_place}
 use Rattle.cg_netlist.proofs.Used.{in_flat}
 use Rattle.cg_netlist.proofs.Values.{at_map}
+use Rattle.std.specs.Cmp.{both_ways as same_truth}
 
 -- a driver is a data input, is register k
 abbrev pub is_input : Driver → Bool

@@ -1,15 +1,15 @@
 -- Literals that are followed keep their bits where the assumed one is 1.
-use Rattle.std.specs.Prelude.{◌≡◌, ◌<◌, ◌==◌, ℕ, ◌+◌, ◌-◌, ◌*◌, ◌/◌, ◌%◌, zero, suc, Bool, true, false, not, ◌&&◌, if◌then◌else◌}
-use Rattle.std.specs.Prelude.{List, [], ◌∷◌, ◌++◌, length, nat_lt, slice_index_or, slice_get, Option, Some, None, IsTrue, refl}
-use Rattle.std.proofs.Common.{◌∙◌, sym, ap, subst, arith, inl, inr, ◌⊎◌, length-append}
-use Rattle.std.proofs.lemmas.Bool.{ltb-false, ltb-true}
+use Rattle.std.specs.Prelude.{◌≡◌, ◌<◌, ℕ, ◌+◌, ◌-◌, ◌*◌, ◌/◌, ◌%◌, Bool, true, false, not, ◌&&◌, if◌then◌else◌}
+use Rattle.std.specs.Prelude.{List, [], ◌∷◌, ◌++◌, length, nat_lt, slice_index_or, slice_get, Some, IsTrue, refl}
+use Rattle.std.proofs.Common.{◌∙◌, sym, ap, subst, arith, inl, inr, length-append}
+use Rattle.std.proofs.lemmas.Bool.{ltb-false, ltb-true, not-true}
 use Rattle.std.proofs.lemmas.List.{get_or_append_left}
 use Rattle.std.proofs.Math.Seq.{get_or-append_seam}
 use Rattle.cg_cell.specs.Domain.{Seen, Stands, after}
-use Rattle.cg_aig.specs.Aig.{aig_ops, and_with, are_pairs, in_order, inverse, is_pair, is_sound, lit_bit, node_values, nodes}
+use Rattle.cg_aig.specs.Aig.{aig_ops, and_with, in_order, inverse, is_sound, lit_bit, node_values, nodes}
 use Rattle.cg_aig.specs.Aig.{simple}
 use Rattle.cg_aig.specs.AigLaws.{IsLit, and_stands, bit_of_one, bit_of_zero, lit_is, node_bit}
-use Rattle.cg_aig.specs.Values.{IsPair, and_left, and_right, inverse_even, inverse_odd, lit_even, lit_inverse, lit_odd, pair_is}
+use Rattle.cg_aig.specs.Values.{inverse_even, inverse_odd, lit_even, lit_inverse, lit_odd}
 use Rattle.cg_aig.specs.Values.{parity}
 use Rattle.cg_decide.specs.Decision.{IsNeverOne}
 use Rattle.cg_decide.specs.inner.Assumed.{Agree, Excludes, IsSameThere, followed}
@@ -62,10 +62,6 @@ own_is s z node h = record {
       lit_even (node_values s bits) (2 * node) (omega arith) ∙ ap (λ k. slice_index_or (node_values s bits) k false) half;
 }
 
-not_true : (b : Bool) → not b ≡ true → b ≡ false
-not_true true h = absurd cc
-not_true false h = refl
-
 -- the node of the assumed literal
 pub assumed_is : (s : Seen) (z node : ℕ) → z / 2 ≡ node → IsSameThere s z node (1 - z % 2)
 assumed_is s z node h = elim (parity z) [
@@ -80,7 +76,7 @@ assumed_is s z node h = elim (parity z) [
       subst (IsSameThere s z node) r (record {
         valid = omega arith;
         same = λ bits one. bit_of_zero s bits
-            ∙ sym (sym (ap (λ k. slice_index_or (node_values s bits) k false) h) ∙ not_true (slice_index_or (node_values s bits) (z / 2) false) (sym (lit_odd (node_values s bits) z e) ∙ one));
+            ∙ sym (sym (ap (λ k. slice_index_or (node_values s bits) k false) h) ∙ not-true (slice_index_or (node_values s bits) (z / 2) false) (sym (lit_odd (node_values s bits) z e) ∙ one));
       })
 ]
 
@@ -100,17 +96,6 @@ pair_is_same s z k p a b r sound at left right e =
           ∙ (sym (node_bit s k p bits sound at)
           ∙ (lit_even (node_values s bits) (2 * (1 + s.number + k)) (omega arith) ∙ ap (λ i. slice_index_or (node_values s bits) i false) half))));
     }
-
--- the operands of an and-node are of earlier nodes
-pub pair_at : (n : ℕ) (pairs : List (ℕ × ℕ)) (k : ℕ) (p : ℕ × ℕ) → IsTrue (are_pairs n pairs) → slice_get pairs k ≡ Some p → IsPair (n + k) p
-pair_at n [] k p s e = absurd cc
-pair_at n (q ∷ pairs) zero p s e =
-    let same : q ≡ p = cc in
-    let at : n ≡ n + 0 = omega arith in
-    subst (λ i. IsPair i p) at (subst (IsPair n) same (pair_is n q (and_left (is_pair n q) _ s)))
-pair_at n (q ∷ pairs) (suc k) p s e =
-    let at : (n + 1) + k ≡ n + suc k = omega arith in
-    subst (λ i. IsPair i p) at (pair_at (n + 1) pairs k p (and_right (is_pair n q) _ s) e)
 
 -- one more node
 pub agree_push : (s : Seen) (z a : ℕ) (same : List ℕ) → Agree s z same → IsSameThere s z (length same) a → Agree s z (same ++ a ∷ [])

@@ -1,6 +1,6 @@
 -- Logic cells that are laid out, one behind the other.
-use Rattle.std.proofs.Common.{◌≡◌, ℕ, zero, suc, ◌+◌, ◌<◌, ◌≤◌, ◌⊎◌, inl, inr, Bool, true, false, nat_eq, List, [], ◌∷◌, ◌++◌, take}
-use Rattle.std.proofs.Common.{drop, length, get_or, slice_get, Some, refl, sym, ◌∙◌, ap, subst, arith}
+use Rattle.std.proofs.Common.{◌≡◌, ℕ, ◌+◌, ◌<◌, ◌≤◌, inl, inr, Bool, true, false, nat_eq, List, [], ◌∷◌, ◌++◌, take}
+use Rattle.std.proofs.Common.{drop, length, get_or, slice_get, Some, sym, ◌∙◌, ap, subst, arith}
 use Rattle.std.specs.List.{All}
 use Rattle.std.proofs.lemmas.List.{drop-append-le, drop_at, length-append, length-drop, take-append-le, take_all}
 use Rattle.std.proofs.lemmas.Option.{same_Some, slice_get-get_or, slice_get_within}
@@ -10,13 +10,7 @@ use Rattle.cg_netlist.specs.Nets.{walk_order}
 use Rattle.cg_edge.specs.declared.flat.FlatCell.{FlatCell}
 use Rattle.cg_edge.specs.inner.Flat.{AreLaid, IsLaid, IsLaidAt, IsPushed, IsTruthTable, Layout}
 use Rattle.cg_edge.proofs.Walk.{walk_within}
-
--- what stands at a place after a push
-at_push : {X : Type 0} (xs : List X) (y z : X) (p : ℕ) → slice_get (xs ++ y ∷ []) p ≡ Some z → (slice_get xs p ≡ Some z) ⊎ ((p ≡ length xs) × (y ≡ z))
-at_push [] y z zero at = inr (refl, same_Some y z at)
-at_push [] y z (suc p) at = absurd (cc)
-at_push (x ∷ xs) y z zero at = inl at
-at_push (x ∷ xs) y z (suc p) at = elim (at_push xs y z p at) [ inl e ↦ inl e | inr e ↦ inr (ap suc e.0, e.1) ]
+use Rattle.cg_netlist.proofs.SearchSteps.{push_cases}
 
 -- more inputs behind the others change no laid out cell
 laid_grown : (inputs more : List ℕ) (laid : FlatCell) (cell : LogicCell ℕ) → IsLaid inputs laid cell → IsLaid (inputs ++ more) laid cell
@@ -51,7 +45,7 @@ laid_none c order layout none = record {
 pub laid_more : (c : Circuit) (order : List ℕ) (n k : ℕ) (cell : LogicCell ℕ) (old new : Layout) → slice_get order n ≡ Some k → slice_get c.cells k ≡ Some cell → IsPushed cell old new → AreLaid c order n old → AreLaid c order (n + 1) new
 laid_more c order n k cell old new at is pushed are = record {
   long = ap length pushed.cells ∙ (length-append old.cells (pushed.laid ∷ []) ∙ ap (λ m. m + 1) are.long);
-  laid = λ p j ordered laid other here there. elim (at_push old.cells pushed.laid laid p (ap (λ cells. slice_get cells p) (sym pushed.cells) ∙ here)) [
+  laid = λ p j ordered laid other here there. elim (push_cases old.cells pushed.laid laid p (ap (λ cells. slice_get cells p) (sym pushed.cells) ∙ here)) [
     | inl earlier ↦ subst (λ inputs. IsLaid inputs laid other) (sym pushed.inputs) (laid_grown old.inputs cell.inputs laid other (are.laid p j ordered laid other earlier there))
     | inr last ↦
         let number : k ≡ j = same_Some k j (sym at ∙ (ap (slice_get order) (sym (last.0 ∙ are.long)) ∙ ordered)) in

@@ -19,7 +19,7 @@ last_moment-push : (before : Option Moment) (history : List Moment) (now : Momen
 last_moment-push before [] now = refl
 last_moment-push before (m ∷ history) now = last_moment-push (Some m) history now
 
-last_rises-push : (c : Circuit) (before : Option Moment) (rose : List Bool) (history : List Moment) (now : Moment) → last_rises c before rose (history ++ now ∷ []) ≡ rises_at c (last_moment before history) now
+pub last_rises-push : (c : Circuit) (before : Option Moment) (rose : List Bool) (history : List Moment) (now : Moment) → last_rises c before rose (history ++ now ∷ []) ≡ rises_at c (last_moment before history) now
 last_rises-push c before rose [] now = refl
 last_rises-push c before rose (m ∷ history) now = last_rises-push c (Some m) (rises_at c before m) history now
 

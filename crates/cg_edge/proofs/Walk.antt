@@ -1,12 +1,11 @@
 -- The logic cells in walk order, each at its place.
-use Rattle.std.proofs.Common.{◌≡◌, ℕ, zero, suc, ◌+◌, ◌<◌, ◌≤◌, inl, inr, Bool, true, false, cond, List, [], ◌∷◌, length, slice_get}
-use Rattle.std.proofs.Common.{get_or, Some, nat_eq, refl, sym, ◌∙◌, ap, subst, arith}
+use Rattle.std.proofs.Common.{◌≡◌, ℕ, zero, suc, ◌+◌, ◌<◌, ◌≤◌, inl, inr, true, false, List, [], ◌∷◌, length, slice_get}
+use Rattle.std.proofs.Common.{get_or, Some, refl, sym, ◌∙◌, ap, subst, arith}
 use Rattle.std.specs.List.{All, filter, flat_map, range_with_len}
-use Rattle.std.proofs.lemmas.Bool.{both_ways, false_from_ne_true, or_cases, or_left, or_right}
+use Rattle.std.proofs.lemmas.Bool.{both_ways, false_from_ne_true}
 use Rattle.std.proofs.lemmas.Option.{same_Some}
 use Rattle.cg_netlist.specs.Circuit.{Circuit, LogicCell, cell_nets}
 use Rattle.cg_net.specs.NetSets.{is_in}
-use Rattle.cg_netlist.specs.Netlist.{widest_of}
 use Rattle.cg_netlist.specs.Nets.{IsOrdered, IsWalk, has_rank, outputs, walk_order}
 use Rattle.cg_netlist.specs.WellFormed.{IsWellFormed}
 use Rattle.cg_netlist.proofs.Driven.{in_range}
@@ -15,14 +14,7 @@ use Rattle.cg_net.proofs.Members.{All-from_members, is_in_cases, member_at, one_
 use Rattle.cg_netlist.proofs.Values.{at_map, length-values_at, value_at}
 use Rattle.cg_netlist.proofs.WalkOrder.{walk_is}
 use Rattle.cg_edge.specs.inner.Keeping.{walk_of}
-
-kept_in : (p : ℕ → Bool) (xs : List ℕ) (x : ℕ) → is_in (filter p xs) x ≡ true → is_in xs x ≡ true
-kept_in p [] x among = absurd (both_ways false refl among)
-kept_in p (y ∷ xs) x among = go (kept_in p xs x) (p y) refl among
-  where
-    go : (is_in (filter p xs) x ≡ true → is_in xs x ≡ true) → (b : Bool) → p y ≡ b → is_in (cond b (y ∷ filter p xs) (filter p xs)) x ≡ true → is_in (y ∷ xs) x ≡ true
-    go known true is inside = elim (or_cases (nat_eq x y) (is_in (filter p xs) x) inside) [ inl same ↦ or_left (nat_eq x y) (is_in xs x) same | inr later ↦ or_right (nat_eq x y) (is_in xs x) (known later) ]
-    go known false is inside = or_right (nat_eq x y) (is_in xs x) (known inside)
+use Rattle.cg_netlist.proofs.CellFits.{from_filter}
 
 each_in : (f : ℕ → List ℕ) (xs : List ℕ) (y : ℕ) → is_in (flat_map f xs) y ≡ true → (x : ℕ) × (is_in (f x) y ≡ true)
 each_in f [] y among = absurd (both_ways false refl among)
@@ -33,7 +25,7 @@ pub walk_within : (cells : List (LogicCell ℕ)) → All (λ k. k < length cells
 walk_within cells = All-from_members (λ k. k < length cells) (walk_order cells) (λ k among.
     let numbers = range_with_len 0 (length cells) in
     let found : (r : ℕ) × (is_in (filter (has_rank cells r) numbers) k ≡ true) = each_in (λ r. filter (has_rank cells r) numbers) numbers k among in
-    let range : (0 ≤ k) × (k < 0 + length cells) = in_range (length cells) 0 k (kept_in (has_rank cells found.0) numbers k found.1) in
+    let range : (0 ≤ k) × (k < 0 + length cells) = in_range (length cells) 0 k (from_filter (has_rank cells found.0) numbers k found.1) in
     let below : k < 0 + length cells = range.1 in
     omega arith)
 
@@ -71,9 +63,3 @@ order_within cells order is i x at below =
     let small = walk_within cells i x (let long = ap length is in omega (arith, below, long)) in
     let same : x ≡ get_or (walk_order cells) i x = at ∙ ap (λ ks. get_or ks i x) is in
     omega (arith, small, same)
-
--- no cell has more inputs than the widest
-pub inputs_least : (cells : List (LogicCell ℕ)) (k : ℕ) (cell : LogicCell ℕ) → slice_get cells k ≡ Some cell → length cell.inputs ≤ widest_of cells
-inputs_least [] k cell at = absurd (cc)
-inputs_least (a ∷ cells) zero cell at = let same : length a.inputs ≡ length cell.inputs = ap (λ (x : LogicCell ℕ). length x.inputs) (same_Some a cell at) in omega (arith, same)
-inputs_least (a ∷ cells) (suc k) cell at = let least = inputs_least cells k cell at in omega (arith, least)

@@ -21,15 +21,14 @@ use Rattle.cg_netlist.proofs.RegisterKept.{register_kept}
 use Rattle.cg_netlist.proofs.Given.{from_option}
 use Rattle.cg_net.proofs.Members.{All-from_members, is_in_left, member_at, one_place}
 use Rattle.cg_netlist.proofs.NetOrder.{from_mapped, in_mapped, outputs_renumbered, places_in_order, registers_renumbered}
-use Rattle.cg_netlist.proofs.OrderedForm.{clock_nets_is, used_is}
+use Rattle.cg_netlist.proofs.OrderedForm.{clock_nets_is, filter_mapped, four_mapped, option_renumbered, used_is}
 use Rattle.cg_netlist.proofs.Used.{input_is_used, output_is_used}
 use Rattle.cg_machine.proofs.Started.{start_is_machine}
 use Rattle.cg_machine.specs.Machine.{IsMachine}
 use Rattle.cg_machine.specs.Start.{CanStart, begins, machine_of}
 use Rattle.cg_extract.proofs.Kept.{cell_kept, clock_list_kept, clock_there, input_kept, kept_within, order_long, order_once, placed}
 use Rattle.cg_extract.proofs.Kept.{same_number, still_used, used_kept}
-use Rattle.cg_extract.proofs.Renumbered.{distinct_mapped, filter_mapped, find_none, four_mapped, mapped_same, none_found}
-use Rattle.cg_extract.proofs.Renumbered.{option_renumbered}
+use Rattle.cg_extract.proofs.Renumbered.{distinct_mapped, find_none, mapped_same, none_found}
 use Rattle.cg_extract.specs.Lifted.{CanExtract, bare, kept_nets, number_of, on_clock, ungated}
 
 module _ (c : Circuit) (whole : IsNetlist c) where

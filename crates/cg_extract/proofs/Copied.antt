@@ -1,29 +1,22 @@
 -- Lists that are copied one by one, and a table of names that is filled so, in which each net stands at its own place.
-use Rattle.std.proofs.Common.{◌≡◌, ◌≢◌, ℕ, zero, suc, ◌+◌, ◌<◌, false, List, [], ◌∷◌, ◌++◌, map, length, take, get_or}
+use Rattle.std.proofs.Common.{◌≡◌, ◌≢◌, ℕ, ◌+◌, ◌<◌, false, List, [], ◌∷◌, ◌++◌, map, length, take, get_or}
 use Rattle.std.proofs.Common.{slice_get, unwrap_or, Some, refl, sym, ◌∙◌, ap, inl, inr, arith}
 use Rattle.std.specs.List.{AllPairs, range_with_len}
 use Rattle.std.proofs.lemmas.Bool.{cases_Bool}
 use Rattle.std.proofs.lemmas.List.{map-id}
 use Rattle.std.proofs.lemmas.List.FromFn.{fill_by_all, get_or-range_with_len, length-range_with_len, map-range_with_len_more}
-use Rattle.std.proofs.lemmas.Option.{none-some, slice_get-get_or, slice_get_within, unwrap_or-slice_get}
+use Rattle.std.proofs.lemmas.Option.{slice_get-get_or, slice_get_within, unwrap_or-slice_get}
 use Rattle.cg_net.specs.NamePlaces.{AreOrdered}
 use Rattle.cg_net.specs.Names.{is_known, net_name, with_name}
 use Rattle.cg_net.proofs.DifferentNames.{known_at}
 use Rattle.cg_netlist.proofs.Driven.{distinct_range}
 use Rattle.cg_net.proofs.NameLemmas.{with_name-unknown}
-use Rattle.cg_net.proofs.PlaceLemmas.{place_is, same_net}
+use Rattle.cg_net.proofs.PlaceLemmas.{place_is, same_net, take_get}
 use Rattle.cg_net.proofs.TableLemmas.{take_next}
 
 -- one element more is copied
 pub copied_more : {X : Type 0} (xs before after : List X) (k : ℕ) (x : X) → before ≡ take k xs → slice_get xs k ≡ Some x → after ≡ before ++ x ∷ [] → after ≡ take (k + 1) xs
 copied_more xs before after k x copied at pushed = pushed ∙ (ap (λ ys. ys ++ x ∷ []) copied ∙ sym (take_next xs k x at))
-
--- what is among the first of a list is there in the list
-among_first : {X : Type 0} (xs : List X) (k i : ℕ) (x : X) → slice_get (take k xs) i ≡ Some x → (i < k) × (slice_get xs i ≡ Some x)
-among_first xs zero i x at = absurd (none-some x at)
-among_first [] (suc k) i x at = absurd (none-some x at)
-among_first (y ∷ xs) (suc k) zero x at = (omega arith, at)
-among_first (y ∷ xs) (suc k) (suc i) x at = let more = among_first xs k i x at in (omega (arith, more.0), more.1)
 
 -- one number more
 pub range_more : (n : ℕ) → range_with_len 0 (n + 1) ≡ range_with_len 0 n ++ n ∷ []
@@ -46,7 +39,7 @@ module _ (names : List (List ℕ)) (different : AllPairs (λ name other. name �
     | inr none ↦ none
     | inl known ↦
         let found = known_at (take k names) name known in
-        let there = among_first names k found.0 name found.1 in
+        let there = take_get names k found.0 name found.1 in
         let same : found.0 ≡ k = same_net names found.0 k different (slice_get_within names found.0 name there.1) (slice_get_within names k name at) (ap (λ o. unwrap_or o []) (there.1 ∙ sym at)) in
         absurd (let none : ⊥ = omega (arith, there.0, same) in none)
   ]

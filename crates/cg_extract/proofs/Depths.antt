@@ -14,7 +14,7 @@ use Rattle.cg_netlist.specs.Nets.{IsOrdered, outputs}
 use Rattle.cg_netlist.specs.WellFormed.{IsWellFormed}
 use Rattle.cg_net.proofs.Members.{member_at}
 use Rattle.cg_netlist.proofs.Values.{at_map}
-use Rattle.cg_netlist.proofs.WalkLawsHold.{gate_order_is_walk}
+use Rattle.cg_netlist.proofs.WalkLawsHold.{chain_outputs, gate_order_is_walk}
 use Rattle.cg_netlist.proofs.WalkPlaces.{walk_long}
 use Rattle.cg_extract.specs.Lifted.{by_depth}
 
@@ -48,10 +48,6 @@ values_few {X} xs (k ∷ ks) = go (slice_get xs k) (values_few xs ks)
     go : (o : Option X) → length (values_at xs ks) ≤ length ks → length (cons_option o (values_at xs ks)) ≤ suc (length ks)
     go None few = omega (arith, few)
     go (Some x) few = omega (arith, few)
-
-chain_outputs : (gs : List (GatingCell ℕ)) → outputs (chain gs) ≡ map (λ (g : GatingCell ℕ). g.output) gs
-chain_outputs [] = refl
-chain_outputs (g ∷ gs) = ap (λ l. g.output ∷ l) (chain_outputs gs)
 
 module _ (c : Circuit) (good : IsWellFormed c) where
   ready_by : (taken : List ℕ) (gs : List (GatingCell ℕ)) → IsOrdered (chain gs) → ((x : ℕ) → is_in (gate_nets c) x ≡ true → (is_in taken x ≡ true) ⊎ (is_in (outputs (chain gs)) x ≡ true))

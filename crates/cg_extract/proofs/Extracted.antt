@@ -10,10 +10,11 @@ use Rattle.cg_machine.specs.Machine.{IsNet, MachineData}
 use Rattle.cg_machine.specs.Run.{with_enables}
 use Rattle.cg_extract.proofs.LiftedMachine.{start_count}
 use Rattle.cg_extract.proofs.Lifts.{enable_net, lifting_lifts}
-use Rattle.cg_extract.proofs.NetPlaces.{below_or, clock_within}
+use Rattle.cg_extract.proofs.NetPlaces.{clock_within}
 use Rattle.cg_extract.proofs.Taking.{lifting_free}
 use Rattle.cg_extract.specs.Lifted.{CanExtract, enable_under, kept_nets, lifted, lifting}
 use Rattle.cg_extract.specs.inner.Taking.{IsEnableTable, entry_at, table_enables}
+use Rattle.cg_machine.proofs.Lists.{below_or}
 
 module _ (c : Circuit) (prefix : List ℕ) (can : CanExtract c prefix) (old : MachineData) (named : old.prefix ≡ prefix) (m : MachineData) (made : m ≡ (lifting c old.prefix).machine) (table : List (Option ℕ)) (tells : IsEnableTable c (lifting c old.prefix).enables table) where
   machine_is : m ≡ (lifting c prefix).machine

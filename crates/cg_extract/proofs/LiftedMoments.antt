@@ -1,5 +1,5 @@
 -- A moment of the netlist is one of the netlist without its gating cells, and shows what the lifted machine's nets show.
-use Rattle.std.proofs.Common.{[], ◌≡◌, ◌≢◌, ℕ, ◌<◌, Bool, true, false, not, if◌then◌else◌, List, ◌∷◌, ◌++◌, map, length, slice_get}
+use Rattle.std.proofs.Common.{[], ◌≡◌, ◌≢◌, ℕ, ◌<◌, Bool, true, false, if◌then◌else◌, List, ◌∷◌, ◌++◌, map, length, slice_get}
 use Rattle.std.proofs.Common.{Some, nat_eq, refl, ap, sym, ◌∙◌, subst, arith}
 use Rattle.std.specs.List.{cons_option}
 use Rattle.std.specs.Option.{option_map, option_to_list}
@@ -26,16 +26,13 @@ use Rattle.cg_extract.proofs.Kept.{shown_on_clock, used_kept}
 use Rattle.cg_extract.proofs.LiftedMachine.{start_count}
 use Rattle.cg_extract.proofs.Lifts.{lifting_lifts, start}
 use Rattle.cg_extract.specs.Lifted.{CanExtract, bare, kept_nets, lifted, number_of, on_clock, ungated}
+use Rattle.cg_netlist.proofs.OrderedHistories.{shown_bits_same}
 
 -- what registers show does not depend on their numbers, nor on their clocks
-shown_same : (f : ℕ → ℕ) (outputs : List (ℕ × Bool)) (b : Bool) → map {A = ℕ × Bool} (λ output. if output.1 then not b else b) (map (λ output. (f output.0, output.1)) outputs) ≡ map (λ output. if output.1 then not b else b) outputs
-shown_same f [] b = refl
-shown_same f (o ∷ os) b = ap (λ l. (if o.1 then not b else b) ∷ l) (shown_same f os b)
-
 bits_same : (c : Circuit) (f : ℕ → ℕ) (rs : List (RegisterCell ℕ ℕ)) (s : List Bool) → register_bits (map (map_register f) (map (on_clock c) rs)) s ≡ register_bits rs s
 bits_same c f [] s = refl
 bits_same c f (r ∷ rs) [] = refl
-bits_same c f (r ∷ rs) (b ∷ s) = ap (λ l. l ++ register_bits (map (map_register f) (map (on_clock c) rs)) s) (shown_same f r.outputs b) ∙ ap (λ l. shown_bits r b ++ l) (bits_same c f rs s)
+bits_same c f (r ∷ rs) (b ∷ s) = ap (λ l. l ++ register_bits (map (map_register f) (map (on_clock c) rs)) s) (shown_bits_same f r.outputs b) ∙ ap (λ l. shown_bits r b ++ l) (bits_same c f rs s)
 
 -- the bits of the nets that are kept
 abbrev pub moved : Circuit → List Bool → List Bool

@@ -6,9 +6,8 @@ use Rattle.std.specs.List.{list_any}
 use Rattle.std.specs.Option.{option_to_list}
 use Rattle.std.proofs.lemmas.Bool.{both_ways, eq-eqb, eqb-true, or_left}
 use Rattle.std.proofs.lemmas.Option.{same_Some, slice_get_within, unwrap_or-slice_get}
-use Rattle.cg_netlist.specs.Circuit.{Circuit, GatingCell, RegisterCell, asked_nets, clock_nets, data_inputs, gate_nets}
+use Rattle.cg_netlist.specs.Circuit.{Circuit, GatingCell, RegisterCell, asked_nets, clock_nets, data_inputs, gate_nets, used_nets}
 use Rattle.cg_net.specs.NetSets.{is_in}
-use Rattle.cg_netlist.specs.Circuit.{used_nets}
 use Rattle.cg_netlist.specs.History.{Moment, MomentFollows, Tick, gate_bit, latches_before, next_latch, rises}
 use Rattle.cg_netlist.specs.Moment.{Settles, bit, zip_with}
 use Rattle.cg_netlist.proofs.Clocks.{Clocked, clocked_from}
@@ -22,21 +21,17 @@ use Rattle.cg_extract.proofs.Lifts.{AreLifted, IsLifted, enable_gate, lifting_li
 use Rattle.cg_extract.proofs.LiftedMachine.{gate_taken}
 use Rattle.cg_extract.proofs.LiftedMoments.{is_inputs, is_state, shown}
 use Rattle.cg_extract.specs.Lifted.{CanExtract, HasNoTests, enable_under, lifted, lifting, number_of}
-
--- four bits at a time
-and_false : (b : Bool) → (b && false) ≡ false
-and_false true = refl
-and_false false = refl
+use Rattle.std.proofs.Math.Bool.{and-false}
 
 -- a gating cell whose clock pin stays as it was, and one whose clock pin was low
 same_gate : (a b lp lq : Bool) → b ≡ a → (b ≡ true → lq ≡ lp) → (lq && b) ≡ (lp && a)
 same_gate true b lp lq is held = ap (λ z. lq && z) is ∙ ap (λ l. l && true) (held is)
-same_gate false b lp lq is held = ap (λ z. lq && z) is ∙ (and_false lq ∙ sym (and_false lp))
+same_gate false b lp lq is held = ap (λ z. lq && z) is ∙ (and-false lq ∙ sym (and-false lp))
 
 risen_gate : (b lq enable : Bool) → (b ≡ true → lq ≡ enable) → (lq && b) ≡ (b && enable)
 risen_gate true true enable held = held refl
 risen_gate true false enable held = held refl
-risen_gate false lq enable held = and_false lq
+risen_gate false lq enable held = and-false lq
 
 -- a clock net at two moments running
 rise_bit : (a z was now loads : Bool) → (a ≡ false → was ≡ false) → (z ≡ false → now ≡ false) → (a ≡ true → z ≡ true → now ≡ was) → (a ≡ false → z ≡ true → now ≡ loads) → (not was && now) ≡ ((not a && z) && loads)
@@ -45,8 +40,8 @@ rise_bit true true was now loads low low_now stays rises = ap (λ b. not was && 
     go : (b : Bool) → (not b && b) ≡ false
     go true = refl
     go false = refl
-rise_bit true false was now loads low low_now stays rises = ap (λ b. not was && b) (low_now refl) ∙ and_false (not was)
-rise_bit false false was now loads low low_now stays rises = ap (λ b. not was && b) (low_now refl) ∙ and_false (not was)
+rise_bit true false was now loads low low_now stays rises = ap (λ b. not was && b) (low_now refl) ∙ and-false (not was)
+rise_bit false false was now loads low low_now stays rises = ap (λ b. not was && b) (low_now refl) ∙ and-false (not was)
 rise_bit false true was now loads low low_now stays rises = ap (λ b. not b && now) (low refl) ∙ rises refl refl
 
 module _ (c : Circuit) (prefix : List ℕ) (can : CanExtract c prefix) (untested : HasNoTests c) where
@@ -135,8 +130,8 @@ module _ (c : Circuit) (prefix : List ℕ) (can : CanExtract c prefix) (untested
         let enable : bit vs (number_of c g.enable) ≡ bit p.nets g.enable =
         shown_bit (number_of c g.enable) g.enable (shown c prefix can kp.clock kp.inputs p.state (zip_with (gate_bit p.nets) c.gaters p.latches) p.nets before.settles before.state_long before.inputs_long g.enable used) in
         record {
-          low = λ low. was ∙ (ap (λ b. lp.0 && b) (pin.low low) ∙ and_false lp.0);
-          low_now = λ low. here ∙ (ap (λ b. lq.0 && b) (pin.low_now low) ∙ and_false lq.0);
+          low = λ low. was ∙ (ap (λ b. lp.0 && b) (pin.low low) ∙ and-false lp.0);
+          low_now = λ low. here ∙ (ap (λ b. lq.0 && b) (pin.low_now low) ∙ and-false lq.0);
           stays = λ high high_now. here ∙ (same_gate (bit p.nets g.clock) (bit q.nets g.clock) lp.0 lq.0 (pin.stays high high_now) held ∙ sym was);
           rises = λ low high.
               here ∙ (risen_gate (bit q.nets g.clock) lq.0 (bit p.nets g.enable) (λ up. held up ∙ before.follows j g lp.0 at lp.1 (pin.low low))

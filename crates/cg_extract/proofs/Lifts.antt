@@ -2,11 +2,10 @@
 -- its chain.
 use Rattle.std.proofs.Common.{◌≡◌, ◌⊎◌, ℕ, suc, ◌+◌, ◌<◌, ◌≤◌, Bool, true, false, ◌&&◌, cond, List, [], ◌∷◌, length, map, slice_get}
 use Rattle.std.proofs.Common.{nat_eq, Option, None, Some, refl, ap, sym, ◌∙◌, subst, inl, inr, arith}
-use Rattle.std.specs.List.{cons_option}
 use Rattle.std.specs.Option.{option_to_list}
 use Rattle.std.proofs.lemmas.Bool.{both_ways, eq-eqb, eqb-true, lt-ltb, or_cases, or_left}
 use Rattle.std.proofs.lemmas.List.{length-append, take_all}
-use Rattle.std.proofs.lemmas.Option.{same_Some, slice_get-get_or}
+use Rattle.std.proofs.lemmas.Option.{same_Some}
 use Rattle.cg_limit.specs.declared.TheConstants.{MOST_NETS}
 use Rattle.cg_cell.specs.Cover.{cover_value}
 use Rattle.cg_cell.specs.declared.fit.FitKind.TheVariants.{And2}
@@ -14,7 +13,7 @@ use Rattle.cg_limit.specs.declared.Limit.{Limit}
 use Rattle.cg_limit.specs.declared.Limit.TheVariants.{Nets}
 use Rattle.cg_netlist.specs.Circuit.{Circuit, GatingCell, gate_nets, used_nets}
 use Rattle.cg_net.specs.NetSets.{is_in}
-use Rattle.cg_netlist.specs.Moment.{bit, values_at}
+use Rattle.cg_netlist.specs.Moment.{bit}
 use Rattle.cg_netlist.specs.WellFormed.{IsWellFormed}
 use Rattle.cg_netlist.proofs.Given.{from_option}
 use Rattle.cg_net.proofs.Members.{is_in_left, member_at}
@@ -36,6 +35,7 @@ use Rattle.cg_extract.proofs.Depths.{Ready, depths_few, ready}
 use Rattle.cg_extract.proofs.Kept.{clock_kept, same_number, used_kept}
 use Rattle.cg_extract.specs.Lifted.{CanExtract, Lifting, bare, by_depth, chained, enable_under, lift_each, lift_one, lifting}
 use Rattle.cg_extract.specs.Lifted.{number_of, unlifted, with_entry}
+use Rattle.cg_machine.proofs.FewValues.{values_two}
 
 -- the nets beside which enables stand
 abbrev pub taken : List (ℕ × ℕ) → List ℕ
@@ -57,9 +57,6 @@ and_value true true = refl
 and_value true false = refl
 and_value false true = refl
 and_value false false = refl
-
-values_two : (vs : List Bool) (a b : ℕ) → a < length vs → b < length vs → values_at vs (a ∷ b ∷ []) ≡ bit vs a ∷ bit vs b ∷ []
-values_two vs a b a_in b_in = ap (λ o. cons_option o (values_at vs (b ∷ []))) (slice_get-get_or vs a false a_in) ∙ ap (λ o. bit vs a ∷ cons_option o []) (slice_get-get_or vs b false b_in)
 
 -- nets of a machine show in a machine with more gates what they show in it
 pub same_front : (m n : MachineData) → Extends m n → length n.circuit.registers ≡ length m.circuit.registers → (s x : List Bool) → IsState n s → IsInputs n x → (y : ℕ) → y < length m.circuit.names → bit (values n s x) y ≡ bit (values m s x) y

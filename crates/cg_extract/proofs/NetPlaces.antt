@@ -1,5 +1,5 @@
 -- Where nets stand in net order: the outputs of gating cells side by side, and the nets of registers behind them.
-use Rattle.std.proofs.Common.{[], ◌≡◌, ◌⊎◌, ℕ, zero, suc, ◌+◌, ◌-◌, ◌<◌, ◌≤◌, true, not, List, ◌∷◌, ◌++◌, length, slice_get}
+use Rattle.std.proofs.Common.{◌≡◌, ◌⊎◌, ℕ, zero, suc, ◌+◌, ◌-◌, ◌<◌, ◌≤◌, true, not, List, ◌∷◌, ◌++◌, length, slice_get}
 use Rattle.std.proofs.Common.{slice_index_or, None, Some, refl, ap, sym, ◌∙◌, subst, inl, inr, arith}
 use Rattle.std.specs.List.{filter, range_with_len}
 use Rattle.std.specs.Option.{option_to_list}
@@ -15,22 +15,15 @@ use Rattle.cg_net.proofs.Members.{is_in_cases, member_at}
 use Rattle.cg_netlist.proofs.OrderLemmas.{length-range_with_len}
 use Rattle.cg_net.proofs.PlaceLemmas.{place_is}
 use Rattle.cg_netlist.proofs.Values.{at_map, split_lists}
-use Rattle.cg_machine.proofs.Lists.{all_at, get_front}
+use Rattle.cg_machine.proofs.Lists.{all_at, below_or, get_front}
 use Rattle.cg_extract.proofs.Kept.{order_is, order_long, order_once}
 use Rattle.cg_extract.specs.Lifted.{kept_nets, number_of}
+use Rattle.cg_machine.proofs.Cycles.{get_back}
+use Rattle.cg_machine.proofs.WalkPlaces.{range_at}
 
 range_append : (s x y : ℕ) → range_with_len s (x + y) ≡ range_with_len s x ++ range_with_len (s + x) y
 range_append s zero y = ap (range_with_len s) (let z : 0 + y ≡ y = omega arith in z) ∙ ap (λ a. range_with_len a y) (let e : s ≡ s + 0 = omega arith in e)
 range_append s (suc x) y = ap (range_with_len s) (let z : suc x + y ≡ suc (x + y) = omega arith in z) ∙ ap (λ l. s ∷ l) (range_append (s + 1) x y ∙ ap (λ a. range_with_len (s + 1) x ++ range_with_len a y) (let e : s + 1 + x ≡ s + suc x = omega arith in e))
-
-range_at : (n a k : ℕ) → k < n → slice_get (range_with_len a n) k ≡ Some (a + k)
-range_at zero a k below = absurd (omega arith)
-range_at (suc n) a zero below = ap (λ m. Some m) (let e : a ≡ a + 0 = omega arith in e)
-range_at (suc n) a (suc k) below = range_at n (a + 1) k (omega arith) ∙ ap (λ m. Some m) (let e : a + 1 + k ≡ a + suc k = omega arith in e)
-
-pub get_back : {X : Type 0} (xs ys : List X) (k : ℕ) → slice_get (xs ++ ys) (length xs + k) ≡ slice_get ys k
-get_back [] ys k = ap (slice_get ys) (let z : 0 + k ≡ k = omega arith in z)
-get_back (x ∷ xs) ys k = ap (slice_get (x ∷ xs ++ ys)) (let z : suc (length xs) + k ≡ suc (length xs + k) = omega arith in z) ∙ get_back xs ys k
 
 first_of : (a k : ℕ) → 0 < k → slice_index_or (range_with_len a k) 0 0 ≡ a
 first_of a zero some = absurd (omega arith)
@@ -43,11 +36,6 @@ first_none a (suc k) none = absurd (omega (arith, none))
 none_or_some : (k : ℕ) → (k ≡ 0) ⊎ (0 < k)
 none_or_some zero = inl refl
 none_or_some (suc k) = inr (omega arith)
-
-pub below_or : (n x : ℕ) → (x < n) ⊎ (n ≤ x)
-below_or zero x = inr (omega arith)
-below_or (suc n) zero = inl (omega arith)
-below_or (suc n) (suc x) = elim (below_or n x) [ inl h ↦ inl (omega arith) | inr h ↦ inr (omega arith) ]
 
 module _ (c : Circuit) (whole : IsNetlist c) where
   abbrev front : List ℕ

@@ -6,10 +6,10 @@ use Rattle.std.proofs.lemmas.List.{length-append, length-map, length-replicate}
 use Rattle.std.proofs.lemmas.Option.{slice_get-map, slice_get_past}
 use Rattle.cg_netlist.specs.Circuit.{Circuit}
 use Rattle.cg_netlist.proofs.Values.{element_at}
-use Rattle.cg_machine.proofs.Lists.{get_front}
+use Rattle.cg_machine.proofs.Lists.{below_or, get_front}
 use Rattle.cg_machine.specs.Machine.{MachineData}
-use Rattle.cg_extract.proofs.NetPlaces.{below_or, get_back}
 use Rattle.cg_extract.specs.Lifted.{kept_nets, origins}
+use Rattle.cg_machine.proofs.Cycles.{get_back}
 
 none_at : (n k : ℕ) → k < n → slice_get (replicate {A = Option ℕ} n None) k ≡ Some None
 none_at zero k below = absurd (omega arith)

@@ -1,32 +1,11 @@
 -- Lists of nets under numbers that no two of some nets share.
-use Rattle.std.proofs.Common.{[], ◌≡◌, ℕ, ◌+◌, Bool, true, false, cond, List, ◌∷◌, ◌++◌, map, slice_get, Option, None, Some, nat_eq}
+use Rattle.std.proofs.Common.{[], ◌≡◌, ℕ, ◌+◌, Bool, true, false, cond, List, ◌∷◌, map, slice_get, None, Some, nat_eq}
 use Rattle.std.proofs.Common.{refl, ap, sym, ◌∙◌, inl, inr, zero, suc, arith}
-use Rattle.std.specs.List.{IsDistinct, filter, position_from}
-use Rattle.std.specs.Option.{option_map, option_to_list}
+use Rattle.std.specs.List.{IsDistinct, position_from}
 use Rattle.std.proofs.lemmas.Bool.{both_ways, cases_Bool, false_from_ne_true, eq-eqb, or_left, or_right}
-use Rattle.std.proofs.lemmas.List.{map-append}
 use Rattle.cg_net.specs.NetSets.{is_in}
 use Rattle.cg_net.proofs.Members.{distinct_cons, distinct_head, distinct_tail}
 use Rattle.cg_netlist.proofs.NetOrder.{from_mapped, in_mapped}
-
-pub option_renumbered : (f : ℕ → ℕ) (o : Option ℕ) → option_to_list (option_map f o) ≡ map f (option_to_list o)
-option_renumbered f None = refl
-option_renumbered f (Some x) = refl
-
-pub four_mapped : (f : ℕ → ℕ) (as' bs cs ds : List ℕ) → map f (as' ++ bs ++ cs ++ ds) ≡ map f as' ++ map f bs ++ map f cs ++ map f ds
-four_mapped f as' bs cs ds = map-append f (as' ++ bs ++ cs) ds ∙ ap (λ xs. xs ++ map f ds) (map-append f (as' ++ bs) cs ∙ ap (λ xs. xs ++ map f cs) (map-append f as' bs))
-
--- a filter over renumbered nets
-pub filter_mapped : (f : ℕ → ℕ) (p q : ℕ → Bool) (xs : List ℕ) → ((x : ℕ) → is_in xs x ≡ true → q (f x) ≡ p x) → filter q (map f xs) ≡ map f (filter p xs)
-filter_mapped f p q [] same = refl
-filter_mapped f p q (x ∷ xs) same =
-    let rest : filter q (map f xs) ≡ map f (filter p xs) = filter_mapped f p q xs (λ y among. same y (or_right (nat_eq y x) (is_in xs y) among)) in
-    ap (λ b. cond b (f x ∷ filter q (map f xs)) (filter q (map f xs))) (same x (or_left (nat_eq x x) (is_in xs x) (eq-eqb x x refl)))
-    ∙ (ap (λ ys. cond (p x) (f x ∷ ys) ys) rest ∙ go (p x))
-  where
-    go : (b : Bool) → cond b (f x ∷ map f (filter p xs)) (map f (filter p xs)) ≡ map f (cond b (x ∷ filter p xs) (filter p xs))
-    go true = refl
-    go false = refl
 
 -- where no two nets of `own` have one number
 module _ (f : ℕ → ℕ) (own : List ℕ) (apart : (x y : ℕ) → is_in own x ≡ true → is_in own y ≡ true → f x ≡ f y → x ≡ y) where

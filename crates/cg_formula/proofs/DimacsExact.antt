@@ -1,7 +1,7 @@
 -- What is read is in the grammar of DIMACS, nothing in it is refused, and what is written is in it.
 use Rattle.std.proofs.Common.{◌≡◌, ℕ, ◌^◌, ◌<◌, ◌≤◌, zero, suc, Bool, true, false, ◌&&◌, List, [], ◌∷◌, ◌++◌, length, map, Result}
 use Rattle.std.proofs.Common.{Ok, Err, IfOk, refl, sym, ap, subst, ◌∙◌, nat_le, codes, append_assoc, arith}
-use Rattle.std.proofs.lemmas.Bool.{leb-true, le-leb}
+use Rattle.std.proofs.lemmas.Bool.{and_parts, le-leb, leb-true}
 use Rattle.std.proofs.lemmas.Slice.Eq.{bytes_eq-Decides}
 use Rattle.std.specs.List.{flat_map, AllByRecursion}
 use Rattle.std.specs.Str.{bytes_eq}
@@ -26,7 +26,6 @@ use Rattle.cg_formula.specs.Bounds.{IsLit, IsClause}
 use Rattle.cg_formula.specs.Tokens.{clause_token}
 use Rattle.cg_formula.specs.DimacsReading.{layout, ◌>>=◌, counts_of, header_of, clause_at, clauses_at, formula_at, dimacs}
 use Rattle.cg_formula.specs.DimacsText.{lit_word, clause_words, header_words, DimacsText}
-use Rattle.cg_formula.proofs.Connectives.{and_true}
 use Rattle.cg_formula.proofs.TokenSpelling.{literal_spelled, end_spelled, clause_token-lit, clause_token-zero}
 
 bind_ok : {A B : Type 0} (r : Result A DimacsFault) (f : A → Result B DimacsFault) (y : B) → ◌>>=◌ {B = B} r f ≡ Ok y
@@ -71,7 +70,7 @@ header_spelled (p ∷ cnf ∷ v ∷ []) header e = absurd (cc)
 header_spelled (p ∷ cnf ∷ v ∷ c ∷ []) header e = pick (bytes_eq p (codes "p") && bytes_eq cnf (codes "cnf")) refl where
   pick : (b : Bool) → (bytes_eq p (codes "p") && bytes_eq cnf (codes "cnf")) ≡ b → SpellsHeader (p ∷ cnf ∷ v ∷ c ∷ []) header
   pick true f =
-      let parts = and_true (bytes_eq p (codes "p")) (bytes_eq cnf (codes "cnf")) f in
+      let parts = and_parts (bytes_eq p (codes "p")) (bytes_eq cnf (codes "cnf")) f in
       let counts = counts_found (number_of v) (number_of c) header (rw f at e) in
       let first : p ≡ codes "p" = (bytes_eq-Decides p (codes "p")).0 parts.0 in
       let second : cnf ≡ codes "cnf" = (bytes_eq-Decides cnf (codes "cnf")).0 parts.1 in

@@ -1,11 +1,11 @@
 -- Literals among literals.
 use Rattle.std.proofs.Common.{◌≡◌, ℕ, Bool, true, false, not, ◌==◌, List, [], ◌∷◌, ◌++◌, ◌⊎◌, inl, inr, refl, sym, ap, ◌∙◌, map}
 use Rattle.std.proofs.Common.{rules}
-use Rattle.std.proofs.lemmas.Bool.{eqb-true}
+use Rattle.std.proofs.lemmas.Bool.{and_parts, eqb-true, or_cases}
 use Rattle.std.proofs.lemmas.List.Folds.{list_any-append}
 use Rattle.cg_formula.specs.declared.formula.Lit.{Lit}
 use Rattle.cg_formula.specs.Lits.{inverse, same_sign, same_lit, is_in}
-use Rattle.cg_formula.proofs.Connectives.{and_true, or_true, or_right}
+use Rattle.cg_formula.proofs.Connectives.{or_right}
 
 same_sign_equal : (a b : Bool) → same_sign a b ≡ true → a ≡ b
 same_sign_equal true true e = refl
@@ -18,7 +18,7 @@ make variable inverted = record { variable = variable; inverted = inverted }
 
 pub same_lit_equal : (a b : Lit) → same_lit a b ≡ true → a ≡ b
 same_lit_equal a b e =
-    let both = and_true (a.variable == b.variable) (same_sign a.inverted b.inverted) e in
+    let both = and_parts (a.variable == b.variable) (same_sign a.inverted b.inverted) e in
     let variable : a.variable ≡ b.variable = eqb-true a.variable b.variable both.0 in
     let sign : a.inverted ≡ b.inverted = same_sign_equal a.inverted b.inverted both.1 in
     let first : make a.variable a.inverted ≡ make b.variable a.inverted = ap (λ v. make v a.inverted) variable in
@@ -49,9 +49,9 @@ here lit lits = rw (same_lit_self lit) refl
 -- in a list with one more at its end
 pub pushed_in : (lit one : Lit) (lits : List Lit) → is_in lit (lits ++ one ∷ []) ≡ true → (is_in lit lits ≡ true) ⊎ (lit ≡ one)
 pushed_in lit one lits e =
-    elim (or_true (is_in lit lits) (is_in lit (one ∷ [])) (sym (list_any-append (same_lit lit) lits (one ∷ [])) ∙ e)) [
+    elim (or_cases (is_in lit lits) (is_in lit (one ∷ [])) (sym (list_any-append (same_lit lit) lits (one ∷ [])) ∙ e)) [
       | inl before ↦ inl before
-      | inr last ↦ elim (or_true (same_lit lit one) false last) [ inl same ↦ inr (same_lit_equal lit one same) | inr none ↦ absurd (cc) ]
+      | inr last ↦ elim (or_cases (same_lit lit one) false last) [ inl same ↦ inr (same_lit_equal lit one same) | inr none ↦ absurd (cc) ]
     ]
 
 pub in_pushed : (lit one : Lit) (lits : List Lit) → is_in lit lits ≡ true → is_in lit (lits ++ one ∷ []) ≡ true

@@ -1,7 +1,7 @@
 -- What words of clauses are read as, and how they are spelled.
 use Rattle.std.proofs.Common.{◌≡◌, ℕ, ◌^◌, ◌<◌, ◌≤◌, Bool, true, false, ◌&&◌, ◌==◌, List, [], ◌∷◌, length, get_or, refl, sym, ap}
 use Rattle.std.proofs.Common.{◌∙◌, if◌then◌else◌, nat_lt, nat_le, codes, ◌⊎◌, inl, inr, lit<, arith}
-use Rattle.std.proofs.lemmas.Bool.{eqb-true, ne_eqb, ltb-true, lt-ltb, leb-true, le-leb}
+use Rattle.std.proofs.lemmas.Bool.{and_parts, eqb-true, le-leb, leb-true, lt-ltb, ltb-true, ne_eqb}
 use Rattle.std.proofs.lemmas.Fmt.{decimal_digit}
 use Rattle.std.specs.Fmt.{decimal}
 use Rattle.std.specs.List.{AllByRecursion}
@@ -15,7 +15,6 @@ use Rattle.cg_formula.specs.declared.token.ClauseToken.TheVariants as tokens
 use Rattle.cg_formula.specs.Bounds.{IsLit}
 use Rattle.cg_formula.specs.Tokens.{literal_of, plain_token, clause_token}
 use Rattle.cg_formula.specs.DimacsText.{lit_word}
-use Rattle.cg_formula.proofs.Connectives.{and_true}
 
 -- read as a literal
 
@@ -36,7 +35,7 @@ literal_of_found (Small n) greatest inverted lit e = pick (nat_lt 0 n && nat_le 
   pick true f =
       let made : tokens.Literal (record { variable = n; inverted = inverted }) ≡ tokens.Literal lit = rw f at e in
       let same : (let l : Lit = record { variable = n; inverted = inverted } in l) ≡ lit = cc in
-      let parts = and_true (nat_lt 0 n) (nat_le n greatest) f in
+      let parts = and_parts (nat_lt 0 n) (nat_le n greatest) f in
       let variable : n ≡ lit.variable = ap (λ (l : Lit). l.variable) same in
       let positive : 0 < n = ltb-true 0 n parts.0 in
       let within : n ≤ greatest = leb-true n greatest parts.1 in

@@ -4,8 +4,8 @@ use Rattle.std.specs.List.{list_any, list_all, slice_index_or}
 use Rattle.cg_formula.specs.declared.formula.Lit.{Lit}
 use Rattle.cg_formula.specs.Lits.{inverse, same_lit, is_in}
 use Rattle.cg_formula.specs.Satisfiable.{lit_bit}
-use Rattle.cg_formula.proofs.Connectives.{and_true, or_true}
 use Rattle.cg_formula.proofs.Members.{same_lit_equal}
+use Rattle.std.proofs.lemmas.Bool.{and_parts, or_cases}
 
 flipped : (bit inverted : Bool) → (if not inverted then not bit else bit) ≡ not (if inverted then not bit else bit)
 flipped true true = refl
@@ -21,8 +21,8 @@ pub found_true : (bits : List Bool) (lit : Lit) (trues : List Lit) → is_in lit
     → lit_bit bits lit ≡ true
 found_true bits lit [] e all = absurd (cc)
 found_true bits lit (t ∷ ts) e all =
-    let parts = and_true (lit_bit bits t) (list_all (lit_bit bits) ts) all in
-    elim (or_true (same_lit lit t) (is_in lit ts) e)
+    let parts = and_parts (lit_bit bits t) (list_all (lit_bit bits) ts) all in
+    elim (or_cases (same_lit lit t) (is_in lit ts) e)
     [ inl same ↦ ap (lit_bit bits) (same_lit_equal lit t same) ∙ parts.0 | inr later ↦ found_true bits lit ts later parts.1 ]
 
 -- one more true literal
@@ -30,7 +30,7 @@ pub all_more : (bits : List Bool) (trues : List Lit) (lit : Lit) → list_all (l
     → list_all (lit_bit bits) (trues ++ lit ∷ []) ≡ true
 all_more bits [] lit all e = rw e refl
 all_more bits (t ∷ ts) lit all e =
-    let parts = and_true (lit_bit bits t) (list_all (lit_bit bits) ts) all in
+    let parts = and_parts (lit_bit bits t) (list_all (lit_bit bits) ts) all in
     rw (parts.0, all_more bits ts lit parts.1 e) refl
 
 -- where no literal is true, each inverse is

@@ -1,5 +1,5 @@
 -- The gated netlist behaves as the netlist.
-use Rattle.std.proofs.Common.{◌≡◌, ℕ, zero, suc, ◌+◌, ◌-◌, ◌<◌, ◌≤◌, true, List, [], ◌∷◌, ◌++◌, map, length, slice_get, Option}
+use Rattle.std.proofs.Common.{◌≡◌, ℕ, ◌+◌, ◌-◌, ◌<◌, ◌≤◌, true, List, [], ◌∷◌, ◌++◌, map, length, slice_get, Option}
 use Rattle.std.proofs.Common.{None, Some, refl, sym, ◌∙◌, ap, arith, length-append}
 use Rattle.std.specs.Option.{option_to_list}
 use Rattle.std.specs.Prelude.{unwrap_or}
@@ -36,11 +36,7 @@ use Rattle.cg_gated.proofs.NetlistKept.{keeps_netlist}
 use Rattle.cg_gated.proofs.Planned.{can_insert, is_formed}
 use Rattle.cg_gated.proofs.SameOutputs.{back, counts, inputs_count, machine_ticks, own_count, own_inputs, own_low, own_ticks}
 use Rattle.cg_gated.proofs.SameOutputs.{shows_same}
-
-get_front : {X : Type 0} (xs ys : List X) (k : ℕ) → k < length xs → slice_get (xs ++ ys) k ≡ slice_get xs k
-get_front [] ys k below = absurd (omega arith)
-get_front (x ∷ xs) ys zero below = refl
-get_front (x ∷ xs) ys (suc k) below = get_front xs ys k (omega arith)
+use Rattle.cg_machine.proofs.Lists.{get_front}
 
 get_behind : {X : Type 0} (xs ys : List X) (y : X) → slice_get (xs ++ y ∷ ys) (length xs) ≡ Some y
 get_behind [] ys y = refl

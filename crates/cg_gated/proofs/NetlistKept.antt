@@ -1,9 +1,7 @@
 -- A plan keeps the netlist with which it begins: gates and delay registers stand behind its parts.
-use Rattle.std.proofs.Common.{◌≡◌, ℕ, zero, suc, ◌+◌, ◌-◌, ◌≤◌, Bool, true, false, if◌then◌else◌, List, [], ◌∷◌, ◌++◌, length, map}
-use Rattle.std.proofs.Common.{take, Option, None, Some, refl, sym, ◌∙◌, ap, append_assoc, arith, length-append}
-use Rattle.std.specs.List.{range_with_len}
+use Rattle.std.proofs.Common.{◌≡◌, ℕ, zero, suc, ◌+◌, ◌-◌, ◌≤◌, Bool, true, false, if◌then◌else◌, List, [], ◌∷◌, ◌++◌, length}
+use Rattle.std.proofs.Common.{Option, None, Some, refl, ◌∙◌, arith, length-append}
 use Rattle.std.proofs.lemmas.List.{take-append-le}
-use Rattle.std.proofs.lemmas.List.FromFn.{map-range_with_len_more}
 use Rattle.cg_cell.specs.Cell.{CellData}
 use Rattle.cg_cell.specs.declared.fit.FitKind.{FitKind}
 use Rattle.cg_cell.specs.declared.fit.FitKind.TheVariants.{And2, Inv, Or2}
@@ -13,7 +11,7 @@ use Rattle.cg_lists.specs.Literals.{IdleData}
 use Rattle.cg_machine.specs.Added.{Added, HasNames, add_delay, add_gate, find_delay, find_gate, next_delay, next_gate, next_name}
 use Rattle.cg_machine.specs.Added.{or_push, own_netlist, push_delay, push_gate}
 use Rattle.cg_machine.specs.Gates.{gate_cell}
-use Rattle.cg_machine.specs.Machine.{MachineData, added_name, additions}
+use Rattle.cg_machine.specs.Machine.{MachineData, additions}
 use Rattle.cg_machine.specs.declared.stage.Stage.{Stage}
 use Rattle.cg_machine.specs.declared.stage.StageKind.{StageKind}
 use Rattle.cg_machine.specs.declared.stage.StageKind.TheVariants.{Hold, Stable, Unseen}
@@ -30,6 +28,7 @@ use Rattle.cg_extract.specs.Lifted.{CanExtract, lifted}
 use Rattle.cg_extract.proofs.ForGating.{lifted_own}
 use Rattle.cg_gated.specs.Gated.{Gating, planned}
 use Rattle.cg_gated.specs.Laws.{PlannedKeeps, PlannedNames}
+use Rattle.cg_extract.proofs.OwnKept.{front_names, more_names, same_parts}
 
 -- the netlist's own parts are the first ones
 record IsFront (m : MachineData) : Type 0 where
@@ -48,26 +47,6 @@ stays m front = record { front = front; same = refl; prefix = refl; names = λ n
 
 onward : (m n o : MachineData) → Keeps m n → Keeps n o → Keeps m o
 onward m n o first second = record { front = second.front; same = second.same ∙ first.same; prefix = second.prefix ∙ first.prefix; names = λ named. second.names (first.names named) }
-
-same_parts : (c : Circuit) (n1 n2 : List (List ℕ)) (c1 c2 : List (LogicCell ℕ)) (r1 r2 : List (RegisterCell ℕ ℕ)) → n1 ≡ n2 → c1 ≡ c2 → r1 ≡ r2
-    → let a : Circuit = record c { names = n1; cells = c1; registers = r1 } in let b : Circuit = record c { names = n2; cells = c2; registers = r2 } in a ≡ b
-same_parts c n1 n2 c1 c2 r1 r2 names cells registers = λ i. record c { names = names i; cells = cells i; registers = registers i }
-
-front_names : (names : List (List ℕ)) (name : List ℕ) (more fewer : ℕ) → more ≡ fewer + 1 → take (length (names ++ name ∷ []) - more) (names ++ name ∷ []) ≡ take (length names - fewer) names
-front_names names name more fewer one =
-    let long : length (names ++ name ∷ []) ≡ length names + 1 = length-append names (name ∷ []) in
-    let same : length (names ++ name ∷ []) - more ≡ length names - fewer = omega (arith, long, one) in
-    ap (λ k. take k (names ++ name ∷ [])) same ∙ take-append-le (length names - fewer) names (name ∷ []) (omega arith)
-
--- one name more
-more_names : (m : MachineData) (own : List (List ℕ)) (count : ℕ) → count ≡ additions m + 1 → own ≡ (own_netlist m).names → HasNames m → m.circuit.names ++ next_name m ∷ [] ≡ own ++ map (added_name m) (range_with_len 0 count)
-more_names m own count one same named =
-    let added : List (List ℕ) = map (added_name m) (range_with_len 0 (additions m)) in
-    ap (λ names. names ++ next_name m ∷ []) named
-    ∙ (append_assoc (own_netlist m).names added (next_name m ∷ [])
-    ∙ (ap (λ later. (own_netlist m).names ++ later) (sym (map-range_with_len_more (added_name m) 0 (additions m) (additions m) (omega arith)))
-    ∙ (ap (λ n. (own_netlist m).names ++ map (added_name m) (range_with_len 0 n)) (sym one)
-    ∙ ap (λ names. names ++ map (added_name m) (range_with_len 0 count)) (sym same))))
 
 pushed_gate : (m : MachineData) (kind : FitKind) (inputs : List ℕ) → IsFront m → Keeps m (push_gate m kind inputs)
 pushed_gate m kind inputs front =

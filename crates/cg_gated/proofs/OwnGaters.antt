@@ -15,12 +15,12 @@ use Rattle.cg_cell.specs.declared.fit.FitKind.TheVariants.{And2, Gater}
 use Rattle.cg_netlist.specs.Circuit.{Circuit, GatingCell}
 use Rattle.cg_parts.specs.Writable.{IsOf}
 use Rattle.cg_insert.proofs.GatedCells.{some_pass}
-use Rattle.cg_insert.proofs.GatedParts.{at_All}
 use Rattle.cg_plan.specs.Cells.{HasCell}
 use Rattle.cg_stage.specs.Needs.{gater_kind}
 use Rattle.cg_extract.specs.Lifted.{HasNoTests, first_refused, is_refused}
 use Rattle.cg_extract.proofs.ForGating.{unrefused_untested}
 use Rattle.cg_gated.specs.Gated.{CanGate, Gating, first_gater, has_and, refused_gater}
+use Rattle.cg_machine.proofs.Lists.{all_at}
 
 -- where a test finds an element that passes another test, that one finds one
 found_too : {X : Type 0} (p q : X → Bool) (xs : List X) (x : X) → find q xs ≡ Some x → p x ≡ true → (y : X) × (find p xs ≡ Some y)
@@ -85,9 +85,9 @@ module _ (by : Gating) (c : Circuit) (can : CanGate by c) where
     where
       go : (t : Option (List ℕ)) → by.test ≡ t → HasCell by.library (gater_kind by.settings.test)
       go None is =
-          let its = at_All (λ (gater : GatingCell ℕ). IsCell gater.cell × (gater.cell.kind ≡ GaterKind) × (count_by is_test gater.cell.pins ≡ length (option_to_list gater.test))) c.gaters k g can.start.netlist.well_formed.gating at in
-          let free : g.test ≡ None = at_All (λ (gater : GatingCell ℕ). gater.test ≡ None) c.gaters k g (untested is) at in
-          let own : IsOf by.library g.cell = at_All (λ (gater : GatingCell ℕ). IsOf by.library gater.cell) c.gaters k g can.own at in
+          let its = all_at (λ (gater : GatingCell ℕ). IsCell gater.cell × (gater.cell.kind ≡ GaterKind) × (count_by is_test gater.cell.pins ≡ length (option_to_list gater.test))) c.gaters k g can.start.netlist.well_formed.gating at in
+          let free : g.test ≡ None = all_at (λ (gater : GatingCell ℕ). gater.test ≡ None) c.gaters k g (untested is) at in
+          let own : IsOf by.library g.cell = all_at (λ (gater : GatingCell ℕ). IsOf by.library gater.cell) c.gaters k g can.own at in
           let fits : is_fit Gater g.cell ≡ true = gater_fits g.cell its.1 (its.2 ∙ ap (λ (o : Option ℕ). length (option_to_list o)) free) in
           subst (λ b. HasCell by.library (gater_kind b)) (sym (can.tested ∙ ap is_some is)) (found_too (is_fit Gater) (λ cell. bytes_eq g.cell.name cell.name) by.library g.cell own fits)
       go (Some name) is = absurd (none-some g (ap (λ (gs : List (GatingCell ℕ)). slice_get gs k) (sym (ungated_tested name is)) ∙ at))

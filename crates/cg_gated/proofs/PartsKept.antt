@@ -9,9 +9,8 @@ use Rattle.std.proofs.lemmas.Option.{none-some, same_Some}
 use Rattle.cg_insert.specs.Insert.{gated, placed_gate, reclocked}
 use Rattle.cg_insert.proofs.OrderedNames.{named_ordered}
 use Rattle.cg_machine.specs.Machine.{IsDelay as MachineDelay, MachineData}
-use Rattle.cg_netlist.specs.Circuit.{Circuit, LogicCell, RegisterCell, cell_nets, given_nets, net_order, shown_nets}
+use Rattle.cg_netlist.specs.Circuit.{Circuit, LogicCell, RegisterCell, cell_nets, given_nets, net_order, shown_nets, used_nets}
 use Rattle.cg_net.specs.NetSets.{is_in}
-use Rattle.cg_netlist.specs.Circuit.{used_nets}
 use Rattle.cg_netlist.specs.Moment.{zip_with}
 use Rattle.cg_netlist.specs.Ordered.{place_in}
 use Rattle.cg_netlist.specs.WellFormed.{IsWellFormed}
@@ -31,15 +30,13 @@ use Rattle.cg_gated.proofs.LiftedShows.{kept_names}
 use Rattle.cg_gated.proofs.NetlistKept.{keeps_netlist}
 use Rattle.cg_gated.proofs.Planned.{is_formed}
 use Rattle.cg_gated.proofs.SameOutputs.{good, own_count}
+use Rattle.cg_insert.proofs.InsertedParts.{map_twice}
+use Rattle.cg_insert.proofs.StillWritable.{each_place}
 
 take_mapped : {X Y : Type 0} (f : X → Y) (n : ℕ) (xs : List X) → map f (take n xs) ≡ take n (map f xs)
 take_mapped f zero xs = refl
 take_mapped f (suc n) [] = refl
 take_mapped f (suc n) (x ∷ xs) = ap (λ l. f x ∷ l) (take_mapped f n xs)
-
-twice : {X Y Z : Type 0} (f : Y → Z) (g : X → Y) (xs : List X) → map f (map g xs) ≡ map (λ x. f (g x)) xs
-twice f g [] = refl
-twice f g (x ∷ xs) = ap (λ l. f (g x) ∷ l) (twice f g xs)
 
 outputs_same : (f g : ℕ → NetName) (outputs : List (ℕ × Bool)) → ((x : ℕ) → is_in (map (λ (o : ℕ × Bool). o.0) outputs) x ≡ true → f x ≡ g x) → map_outputs f outputs ≡ map_outputs g outputs
 outputs_same f g [] same = refl
@@ -78,10 +75,6 @@ front_named f g t m (suc n) (r ∷ rs) (e ∷ es) long all =
     let head : as_named f (reclocked t m r e) ≡ as_named g r = one_named f g r all.0 in
     let tail : map (as_named f) (take n (zip_with (reclocked t m) rs es)) ≡ map (as_named g) (take n rs) = front_named f g t m n rs es (omega (arith, long)) all.1 in
     ap (λ h. h ∷ map (as_named f) (take n (zip_with (reclocked t m) rs es))) head ∙ ap (λ l. as_named g r ∷ l) tail
-
-each_of : {X : Type 0} (P : X → Type 0) (xs : List X) → ((k : ℕ) (x : X) → slice_get xs k ≡ Some x → P x) → AllByRecursion P xs
-each_of P [] all = tt
-each_of P (x ∷ xs) all = (all 0 x refl, each_of P xs (λ k y at. all (suc k) y at))
 
 cells_same : (f g : ℕ → NetName) (cells : List (LogicCell ℕ)) → ((k : ℕ) (cell : LogicCell ℕ) → slice_get cells k ≡ Some cell → SameNets f g cell.inputs × (f cell.output ≡ g cell.output)) → map (map_cell f) cells ≡ map (map_cell g) cells
 cells_same f g [] same = refl
@@ -170,17 +163,17 @@ module _ (by : Gating) (c : Circuit) (can : CanGate by c) where
 
   named_registers : map (as_named own_name) o.registers ≡ map (unclocked c) c.registers
   named_registers =
-      sym (twice without_clock (map_register own_name) o.registers)
+      sym (map_twice without_clock (map_register own_name) o.registers)
       ∙ (ap (λ (v : Wiring NetName). map without_clock v.registers) same_parts
-      ∙ (twice without_clock (map_register old_name) (map (on_clock c) c.registers) ∙ twice (as_named old_name) (on_clock c) c.registers))
+      ∙ (map_twice without_clock (map_register old_name) (map (on_clock c) c.registers) ∙ map_twice (as_named old_name) (on_clock c) c.registers))
 
   registers_kept : map (unclocked w) (take (length c.registers) w.registers) ≡ map (unclocked c) c.registers
   registers_kept =
       let k : ℕ = length c.registers in
-      sym (twice without_clock (map_register (net_name w.names)) (take k w.registers))
+      sym (map_twice without_clock (map_register (net_name w.names)) (take k w.registers))
       ∙ (ap (map without_clock) (take_mapped (map_register (net_name w.names)) k w.registers ∙ (ap (λ (v : Wiring NetName). take k v.registers) ordered_same ∙ sym (take_mapped (map_register new_name) k g.registers)))
-      ∙ (twice without_clock (map_register new_name) (take k g.registers)
-      ∙ (front_named new_name own_name by.test n k n.circuit.registers n.enables (good by c can).enables (subst (AllByRecursion (SameNamed new_name own_name)) (sym own_registers) (each_of (SameNamed new_name own_name) o.registers register_same))
+      ∙ (map_twice without_clock (map_register new_name) (take k g.registers)
+      ∙ (front_named new_name own_name by.test n k n.circuit.registers n.enables (good by c can).enables (subst (AllByRecursion (SameNamed new_name own_name)) (sym own_registers) (each_place (SameNamed new_name own_name) o.registers register_same))
       ∙ (ap (map (as_named own_name)) own_registers ∙ named_registers))))
 
   cell_same : (k : ℕ) (cell : LogicCell ℕ) → slice_get o.cells k ≡ Some cell → SameNets new_name own_name cell.inputs × (new_name cell.output ≡ own_name cell.output)

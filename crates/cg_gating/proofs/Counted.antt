@@ -1,12 +1,11 @@
 -- The nets of a netlist have at the low moments of the rows the bits that the nets of its machine, which come from them, have
 -- in its cycles. So the counts of a netlist's nets, carried to these, are those of the machine's nets.
 use Rattle.std.proofs.Common.{◌≡◌, ℕ, zero, suc, ◌+◌, ◌-◌, ◌<◌, ◌≤◌, Bool, true, false, not, cond, List, [], ◌∷◌, ◌++◌, map, length}
-use Rattle.std.proofs.Common.{replicate, slice_get, unwrap_or, nat_eq, Option, None, Some, IfSome, refl, sym, ◌∙◌, ap, arith}
+use Rattle.std.proofs.Common.{replicate, slice_get, nat_eq, Option, None, Some, IfSome, refl, sym, ◌∙◌, ap, arith}
 use Rattle.std.specs.List.{All, AllByRecursion}
 use Rattle.std.proofs.lemmas.Bool.{eq-eqb, or_left, or_right}
 use Rattle.std.proofs.lemmas.List.Sums.{sum_by-cons}
 use Rattle.std.proofs.lemmas.List.{length-map}
-use Rattle.std.proofs.lemmas.Option.{get_or_from_slice_get, unwrap_or-slice_get}
 use Rattle.cg_extract.proofs.Kept.{kept_within}
 use Rattle.cg_extract.proofs.LiftedMachine.{lifted_is_small}
 use Rattle.cg_extract.proofs.LiftedRun.{lifted_is_run}
@@ -24,12 +23,13 @@ use Rattle.cg_netlist.specs.History.{AreTicks, LawfulFrom, Moment, Tick, gate_bi
 use Rattle.cg_netlist.specs.Moment.{bit, zip_with}
 use Rattle.cg_net.specs.Names.{net_name}
 use Rattle.cg_netlist.proofs.Each.{from_recursion}
-use Rattle.cg_report.specs.Idle.{CountZeros, low_moments, zeros_of}
+use Rattle.cg_report.specs.Idle.{low_moments, zeros_of}
 use Rattle.cg_stimulus.specs.Inputs.{IsFor, IsStimulus, Rows}
 use Rattle.cg_stimulus.proofs.Playing.{start_is, wave_is}
 use Rattle.cg_stimulus.specs.Played.{IsPlayed, played_start, played_wave, row_tick, wave_from}
 use Rattle.cg_gating.specs.Idling.{idle_data, idle_of, lows_from, row_inputs, zeros_at, zeros_by}
 use Rattle.cg_extract.proofs.ForGating.{lifted_shows_nets}
+use Rattle.cg_machine.proofs.There.{same_bits}
 
 -- where nets come from
 abbrev come_from : List ℕ → ℕ → List (Option ℕ)
@@ -55,9 +55,6 @@ more_lows nets lows k = sum_by-cons (λ (v : List Bool). cond (not (bit v k)) 1 
 
 more_moments : (now : Moment) (moments : List Moment) (x : ℕ) → zeros_of x (now ∷ moments) ≡ cond (not (bit now.nets x)) 1 0 + zeros_of x moments
 more_moments now moments x = sum_by-cons (λ (q : Moment). cond (not (bit q.nets x)) 1 0) now moments
-
-bit_moved : (s t : List Bool) (j k : ℕ) → slice_get s j ≡ slice_get t k → bit s j ≡ bit t k
-bit_moved s t j k same = sym (unwrap_or-slice_get s j false) ∙ (ap (λ o. unwrap_or o false) same ∙ unwrap_or-slice_get t k false)
 
 module _ (c : Circuit) (prefix : List ℕ) (can : CanExtract c prefix) where
   abbrev m : MachineData
@@ -102,7 +99,7 @@ module _ (c : Circuit) (prefix : List ℕ) (can : CanExtract c prefix) where
         let rest : map (λ (q : Moment). q.state) history ≡ states_from m (Some high) two (wave_from width row rows) = cc in
         let same : now.state ≡ s = first ∙ stays low refl in
         let shown : slice_get (values m now.state inputs) k ≡ slice_get now.nets x = lifted_shows_nets c prefix can inputs now.state (zip_with (gate_bit now.nets) c.gaters now.latches) now.nets lawful.0.nets (ap length same ∙ long) ticks.0 x kept in
-        let here : bit (values m s (row_inputs m row)) k ≡ bit now.nets x = ap (λ i. bit (values m s i) k) (row_is row) ∙ (ap (λ z. bit (values m z inputs) k) (sym same) ∙ bit_moved (values m now.state inputs) now.nets k x shown) in
+        let here : bit (values m s (row_inputs m row)) k ≡ bit now.nets x = ap (λ i. bit (values m s i) k) (row_is row) ∙ (ap (λ z. bit (values m z inputs) k) (sym same) ∙ same_bits (values m now.state inputs) now.nets k x shown) in
         let steps : step m s (row_inputs m row) ≡ two = ap (step m s) (row_is row) ∙ ap (λ z. step m z inputs) (sym (stays low refl)) in
         let tail : zeros_at (lows_from m two rows) k ≡ zeros_of x (low_moments history) = lows_count start (Some later) (Some high) two row rows history (λ tick low. refl) (step_long one inputs) ticks.1.1 lawful.1.1 rest in
         more_lows (values m s (row_inputs m row)) (lows_from m (step m s (row_inputs m row)) rows) k

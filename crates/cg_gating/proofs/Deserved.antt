@@ -19,7 +19,6 @@ use Rattle.cg_claim.proofs.Tried.{is_never_says}
 use Rattle.cg_limit.specs.declared.Limit.{Limit}
 use Rattle.cg_limit.specs.declared.Limit.TheVariants.{ClaimNodes}
 use Rattle.cg_lists.specs.HoldList.{is_large}
-use Rattle.cg_lists.proofs.FitLists.{range_in}
 use Rattle.cg_machine.specs.Claims.{CanIdle, Joined, Next, Shown, Target}
 use Rattle.cg_machine.specs.Machine.{IsMachine, MachineData}
 use Rattle.cg_machine.specs.declared.stage.Stage.{Stage}
@@ -41,6 +40,7 @@ use Rattle.cg_stage.specs.Effects.{limit_by}
 use Rattle.cg_stage.specs.Needs.{missing, needs}
 use Rattle.cg_stage.specs.Stages.{ClaimsHold, Fits, IsTarget, first_literal}
 use Rattle.cg_gating.specs.WorthInserting.{IsWorthInserting}
+use Rattle.cg_netlist.proofs.Driven.{in_range}
 
 abbrev IsNever : MachineData → NamedClaim → Type 0
 IsNever m c = is_never m c.1 ≡ true
@@ -57,7 +57,7 @@ module _ (m : MachineData) where
       All-cons IsThere (Output k, Shown y) (output_targets (k + 1) ys) (All-head Q y ys all) (outputs_there ys (k + 1) (All-tail Q y ys all))
 
   registers_there : All (λ r. r < length m.circuit.registers) (registers_of m)
-  registers_there = All-from_members (λ r. r < length m.circuit.registers) (registers_of m) (λ r among. let b = range_in (length m.circuit.registers) 0 r among in omega (arith, b.1))
+  registers_there = All-from_members (λ r. r < length m.circuit.registers) (registers_of m) (λ r among. let b = in_range (length m.circuit.registers) 0 r among in omega (arith, b.1))
 
   targets_there : All IsThere (all_targets m)
   targets_there =

@@ -1,14 +1,12 @@
 -- The plan's machine of what may be gated may be inserted.
-use Rattle.std.proofs.Common.{◌≡◌, ◌≢◌, ℕ, true, ◌&&◌, nat_eq, IsTrue, List, [], ◌∷◌, ◌++◌, map, length, Option, None, Some, refl}
+use Rattle.std.proofs.Common.{◌≡◌, ◌≢◌, ℕ, IsTrue, List, [], ◌∷◌, ◌++◌, map, length, Option, None, Some, refl}
 use Rattle.std.proofs.Common.{sym, ◌∙◌, ap, subst}
 use Rattle.std.specs.Fmt.{decimal}
 use Rattle.std.specs.List.{All, AllByRecursion, range_with_len}
 use Rattle.std.specs.Option.{option_to_list}
-use Rattle.std.proofs.lemmas.Bool.{both_ways, eq-eqb}
+use Rattle.std.proofs.lemmas.Bool.{both_ways}
 use Rattle.std.proofs.lemmas.List.Elements.{All-get_or, All-map}
 use Rattle.std.proofs.lemmas.Option.{unwrap_or-slice_get}
-use Rattle.std.proofs.Math.Seq.{take-append_seam}
-use lib.Pointwise.{pointwise}
 use Rattle.cg_cell.specs.Cell.{IsCell}
 use Rattle.cg_cell.specs.Name.{is_name}
 use Rattle.cg_extract.proofs.Kept.{kept_within}
@@ -25,14 +23,7 @@ use Rattle.cg_net.proofs.Members.{All-from_members}
 use Rattle.cg_netlist.proofs.Each.{by_recursion, each_together, from_recursion}
 use Rattle.cg_gating.specs.Laws.{IsProper}
 use Rattle.cg_gating.specs.Request.{IsFree, MayGate, RequestData, gating_of}
-
--- what begins with the prefix
-all_same : (xs : List ℕ) → pointwise nat_eq xs xs ≡ true
-all_same [] = refl
-all_same (x ∷ xs) = ap (λ b. b && pointwise nat_eq xs xs) (eq-eqb x x refl) ∙ all_same xs
-
-begun : (prefix rest : List ℕ) → begins prefix (prefix ++ rest) ≡ true
-begun prefix rest = ap (λ front. pointwise nat_eq prefix front) (take-append_seam prefix rest) ∙ all_same prefix
+use Rattle.cg_machine.proofs.Started.{begun}
 
 module _ (request : RequestData) (c : Circuit) (proper : IsProper request) (may : MayGate request c) where
   abbrev by : Gating

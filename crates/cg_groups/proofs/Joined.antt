@@ -12,6 +12,7 @@ use Rattle.cg_groups.specs.Keys.{groups_seen, key_seen}
 use Rattle.cg_lists.specs.Groups.{Group}
 use Rattle.cg_lists.specs.Rounds.{same_option}
 use Rattle.cg_lists.specs.StableList.{StableKey, same_stable}
+use Rattle.std.specs.Cmp.{both_ways as same_truth}
 
 abbrev pub same : Key → Key → Bool
 same = (key_eq.ghosts).eq
@@ -46,11 +47,6 @@ pub stable_is : (j k : StableKey) → same_stable j k ≡ true → j ≡ k
 stable_is j k h =
     let p = and_parts (bytes_eq j.enables k.enables) (same_option j.own k.own) h in
     ap (λ l. let z : StableKey = record { enables = l; own = j.own } in z) (list_is j.enables k.enables p.0) ∙ ap (λ o. let z : StableKey = record { enables = k.enables; own = o } in z) (option_is j.own k.own p.1)
-
-same_truth : (a b : Bool) → (a ≡ true → b ≡ true) → (b ≡ true → a ≡ true) → a ≡ b
-same_truth true b there back = sym (there refl)
-same_truth false true there back = back refl
-same_truth false false there back = refl
 
 same_key : (a b : Key) → same a b ≡ same_stable (key_seen a) (key_seen b)
 same_key a b = go a.own b.own

@@ -1,5 +1,5 @@
 -- Keys that a stage leaves of its registers, one register after another, and that stages leave, one after another.
-use Rattle.std.proofs.Common.{◌≡◌, ℕ, zero, suc, ◌+◌, ◌<◌, ◌≤◌, Bool, true, false, ◌||◌, ◌&&◌, if◌then◌else◌, List, [], ◌∷◌, ◌++◌}
+use Rattle.std.proofs.Common.{◌≡◌, ℕ, zero, suc, ◌+◌, ◌<◌, ◌≤◌, Bool, true, false, ◌||◌, ◌&&◌, if◌then◌else◌, List, [], ◌∷◌}
 use Rattle.std.proofs.Common.{length, take, nat_eq, slice_get, slice_set, Option, Some, None, option_and_then, refl, sym, ◌∙◌, ap}
 use Rattle.std.proofs.Common.{subst, arith, inl, inr}
 use Rattle.std.specs.List.{list_any}
@@ -7,29 +7,25 @@ use Rattle.std.specs.Option.{option_flatten, option_map, option_map_or}
 use Rattle.std.proofs.lemmas.Bool.{eqb-true}
 use Rattle.std.proofs.lemmas.Bool.Decides.{eqb_tells}
 use Rattle.std.proofs.lemmas.List.Folds.{list_any-append}
-use Rattle.std.proofs.lemmas.Option.{none-some, same_Some}
 use Rattle.cg_groups.specs.declared.key.Key.{Key}
 use Rattle.cg_groups.specs.Keys.{key_at, key_seen}
 use Rattle.cg_groups.specs.Leaving.{leaves, without}
 use Rattle.cg_net.specs.NetSets.{is_in}
 use Rattle.cg_net.proofs.Members.{is_in-append}
-use Rattle.cg_net.proofs.TableLemmas.{slice_get-set_other, slice_get-set_same}
+use Rattle.cg_net.proofs.TableLemmas.{slice_get-set_other, slice_get-set_same, take_next}
 use Rattle.cg_lists.specs.Rounds.{kept_key, left_out, same_kind}
 use Rattle.cg_lists.specs.StableList.{StableKey}
 use Rattle.cg_machine.specs.declared.stage.Earlier.{Earlier}
 use Rattle.cg_machine.specs.declared.stage.Stage.{Stage}
 use Rattle.cg_machine.specs.declared.stage.StageKind.{StageKind}
-
-or-none : (b : Bool) → (b || false) ≡ b
-or-none true = refl
-or-none false = refl
+use Rattle.std.proofs.Math.Bool.{or-false}
 
 -- one more stage: of the kind, and of another kind
 module _ {K : Type 0} (kind : StageKind) (had : K → Stage → Bool) (earlier : List Earlier) (i : ℕ) (e : Earlier) (at : slice_get earlier i ≡ Some e) (key : ℕ → Option K) (r : ℕ) where
   more_out : (k : K) → left_out kind had (take (i + 1) earlier) r k ≡ (left_out kind had (take i earlier) r k || (same_kind e.stage.kind kind && is_in e.stage.regs r && (e.inserted || had k e.stage)))
   more_out k =
       let test : Earlier → Bool = λ e. same_kind e.stage.kind kind && is_in e.stage.regs r && (e.inserted || had k e.stage) in
-      ap (list_any test) (take_next earlier i e at) ∙ (list_any-append test (take i earlier) (e ∷ []) ∙ ap (λ b. left_out kind had (take i earlier) r k || b) (or-none (test e)))
+      ap (list_any test) (take_next earlier i e at) ∙ (list_any-append test (take i earlier) (e ∷ []) ∙ ap (λ b. left_out kind had (take i earlier) r k || b) (or-false (test e)))
 
   -- the key of a register that stood in the stage, unless the stage leaves it out
   abbrev pub after : Option K → Option K
@@ -116,7 +112,7 @@ module _ (inserted : Bool) (tried : StableKey) where
   one_more regs i p r old now new at before is =
       is ∙ (ap (λ o. if nat_eq r p then without inserted tried o else o) before
       ∙ (go (is_in (take i regs) r) (nat_eq r p)
-      ∙ ap (λ b. if b then without inserted tried old else old) (sym (ap (λ l. is_in l r) (take_next regs i p at) ∙ (is_in-append (take i regs) (p ∷ []) r ∙ ap (λ b. is_in (take i regs) r || b) (or-none (nat_eq r p)))))))
+      ∙ ap (λ b. if b then without inserted tried old else old) (sym (ap (λ l. is_in l r) (take_next regs i p at) ∙ (is_in-append (take i regs) (p ∷ []) r ∙ ap (λ b. is_in (take i regs) r || b) (or-false (nat_eq r p)))))))
     where
       go : (b c : Bool) → (if c then without inserted tried (if b then without inserted tried old else old) else (if b then without inserted tried old else old)) ≡ (if (b || c) then without inserted tried old else old)
       go true true = twice old

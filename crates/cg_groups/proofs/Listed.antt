@@ -5,13 +5,13 @@ use Rattle.std.specs.List.{cons_option, filter_map}
 use Rattle.std.specs.Option.{option_map}
 use Rattle.std.proofs.lemmas.List.{append-nil, length-take-le, take_all}
 use Rattle.std.proofs.lemmas.List.Elements.{filter_map-append}
-use Rattle.std.proofs.lemmas.Option.{none-some, same_Some}
 use Rattle.cg_groups.specs.declared.key.Key.{Key}
 use Rattle.cg_groups.specs.Keys.{groups_seen, key_at, key_seen}
 use Rattle.cg_lists.specs.Groups.{Group}
 use Rattle.cg_lists.specs.StableList.{StableKey}
 use Rattle.cg_machine.specs.Added.{own_netlist}
 use Rattle.cg_machine.specs.Machine.{IsMachine, MachineData}
+use Rattle.cg_net.proofs.TableLemmas.{take_end}
 
 -- the netlist's own registers
 pub own_count : (m : MachineData) → IsMachine m → length (own_netlist m).registers ≡ m.own_registers
@@ -41,11 +41,6 @@ pub map-push : {X Y : Type 0} (f : X → Y) (xs : List X) (x : X) → map f (xs 
 map-push f [] x = refl
 map-push f (y ∷ xs) x = ap (λ l. f y ∷ l) (map-push f xs x)
 
-pub take_next : {X : Type 0} (xs : List X) (i : ℕ) (x : X) → slice_get xs i ≡ Some x → take (suc i) xs ≡ take i xs ++ x ∷ []
-take_next [] i x at = absurd (none-some x at)
-take_next (y ∷ xs) zero x at = ap (λ z. z ∷ []) (same_Some y x at)
-take_next (y ∷ xs) (suc i) x at = ap (λ l. y ∷ l) (take_next xs i x at)
-
 -- one register more, with an enable or without
 pub enables_some : (f : ℕ → Option ℕ) (regs : List ℕ) (i k e : ℕ) (before after : List ℕ) → slice_get regs i ≡ Some k → before ≡ filter_map f (take i regs) → f k ≡ Some e → after ≡ before ++ e ∷ [] → after ≡ filter_map f (take (i + 1) regs)
 enables_some f regs i k e before after at so_far is pushed =
@@ -53,7 +48,7 @@ enables_some f regs i k e before after at so_far is pushed =
     pushed
     ∙ (ap (λ l. l ++ e ∷ []) so_far
     ∙ (ap (λ o. filter_map f (take i regs) ++ cons_option o []) (sym is)
-    ∙ (sym (filter_map-append f (take i regs) (k ∷ [])) ∙ ap (filter_map f) (sym (ap (λ m. take m regs) n ∙ take_next regs i k at)))))
+    ∙ (sym (filter_map-append f (take i regs) (k ∷ [])) ∙ ap (filter_map f) (sym (ap (λ m. take m regs) n ∙ take_end regs i k at)))))
 
 pub enables_none : (f : ℕ → Option ℕ) (regs : List ℕ) (i k : ℕ) (before after : List ℕ) → slice_get regs i ≡ Some k → before ≡ filter_map f (take i regs) → f k ≡ None → after ≡ before → after ≡ filter_map f (take (i + 1) regs)
 enables_none f regs i k before after at so_far is same =
@@ -62,7 +57,7 @@ enables_none f regs i k before after at so_far is same =
     ∙ (so_far
     ∙ (sym (append-nil (filter_map f (take i regs)))
     ∙ (ap (λ o. filter_map f (take i regs) ++ cons_option o []) (sym is)
-    ∙ (sym (filter_map-append f (take i regs) (k ∷ [])) ∙ ap (filter_map f) (sym (ap (λ m. take m regs) n ∙ take_next regs i k at))))))
+    ∙ (sym (filter_map-append f (take i regs) (k ∷ [])) ∙ ap (filter_map f) (sym (ap (λ m. take m regs) n ∙ take_end regs i k at))))))
 
 -- a slice of a whole list, put back
 pub put_back : {X : Type 0} (n : ℕ) (xs ys : List X) → length xs ≡ length ys → length xs ≤ n → take n (xs ++ drop (length xs) ys) ≡ xs

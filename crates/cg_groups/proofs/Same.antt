@@ -6,12 +6,7 @@ use Rattle.std.specs.Option.{option_map_or}
 use Rattle.std.proofs.lemmas.Bool.{eq-eqb, or_left, or_right}
 use Rattle.cg_net.specs.NetSets.{is_in}
 use Rattle.cg_lists.specs.Groups.{Group, group_of, groups, has_key, is_first}
-
-pub same_filter : (p q : ℕ → Bool) (xs : List ℕ) → ((x : ℕ) → is_in xs x ≡ true → p x ≡ q x) → filter p xs ≡ filter q xs
-same_filter p q [] same = refl
-same_filter p q (x ∷ xs) same =
-    ap (λ b. cond b (x ∷ filter p xs) (filter p xs)) (same x (or_left (nat_eq x x) (is_in xs x) (eq-eqb x x refl)))
-    ∙ ap (λ l. cond (q x) (x ∷ l) l) (same_filter p q xs (λ y among. same y (or_right (nat_eq y x) (is_in xs y) among)))
+use Rattle.cg_netlist.proofs.ByRank.{filter_same}
 
 same_find : (p q : ℕ → Bool) (xs : List ℕ) → ((x : ℕ) → is_in xs x ≡ true → p x ≡ q x) → find p xs ≡ find q xs
 same_find p q [] same = refl
@@ -36,4 +31,4 @@ same_groups {K = K} same key other regs alike = same_filter_map (λ r. option_an
     go r None = refl
     go r (Some k) =
         ap (λ f. if is_first f r then Some (let g : Group K = record { key = k; regs = filter (has_key same key k) regs } in g) else None) (same_find (has_key same key k) (has_key same other k) regs (tests k))
-        ∙ ap (λ l. if is_first (find (has_key same other k) regs) r then Some (let g : Group K = record { key = k; regs = l } in g) else None) (same_filter (has_key same key k) (has_key same other k) regs (tests k))
+        ∙ ap (λ l. if is_first (find (has_key same other k) regs) r then Some (let g : Group K = record { key = k; regs = l } in g) else None) (filter_same (has_key same key k) (has_key same other k) regs (tests k))

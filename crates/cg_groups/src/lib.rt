@@ -5,7 +5,6 @@
 //!
 //! The modules:
 //!
-//! - `order`: numbers in rising order.
 //! - `key`: keys of registers.
 //! - `leaving`: registers that a round leaves out.
 //! - `group`: the groups of registers by their keys.
@@ -14,4 +13,3 @@
 pub mod group;
 pub mod key;
 pub mod leaving;
-pub mod order;

@@ -12,21 +12,11 @@ use Rattle.cg_claim.specs.declared.leaf.LeafSource.{LeafSource}
 use Rattle.cg_claim.specs.declared.leaf.LeafSource.TheVariants.{Input as InputOf, Register as RegisterOf}
 use Rattle.cg_lists.specs.HoldList.{hold_width}
 use Rattle.cg_machine.specs.Machine.{MachineData, enable_of, walk_of}
-use Rattle.cg_netlist.specs.Circuit.{LogicCell, RegisterCell, data_inputs, shown_nets}
+use Rattle.cg_netlist.specs.Circuit.{RegisterCell, data_inputs, shown_nets}
 use Rattle.cg_net.specs.NetSets.{is_in}
 use Rattle.cg_cone.specs.Cone.{cone_of}
-
-cone_none : (cells : List (LogicCell ℕ)) → cone_of cells [] ≡ []
-cone_none [] = refl
-cone_none (cell ∷ cells) = ap (λ later. cond (is_in later cell.output) (later ++ cell.inputs) later) (cone_none cells)
-
-none_any : (xs : List ℕ) → list_any (is_in []) xs ≡ false
-none_any [] = refl
-none_any (x ∷ xs) = none_any xs
-
-none_filter : {T : Type 0} (test : T → Bool) (xs : List T) → ((x : T) → test x ≡ false) → filter test xs ≡ []
-none_filter test [] none = refl
-none_filter test (x ∷ xs) none = ap (λ b. cond b (x ∷ filter test xs) (filter test xs)) (none x) ∙ none_filter test xs none
+use Rattle.cg_claim.proofs.OneCopy.{cone_nil, filter_none, none_any}
+use Rattle.cg_claim.proofs.HoldWidths.{same_test}
 
 -- one number of a range passes
 one_of : (r n a : ℕ) → a ≤ r → r < a + n → length (filter (λ k. nat_eq k r) (range_with_len a n)) ≡ 1
@@ -64,10 +54,6 @@ one_of r (suc n) a low high = go (λ next. one_of r n (a + 1) next (omega arith)
 abbrev at_copy : Copy → LeafSource → Leaf
 at_copy copy s = record { copy = copy; source = s }
 
-same_filter : {T : Type 0} (f g : T → Bool) (xs : List T) → ((x : T) → f x ≡ g x) → filter f xs ≡ filter g xs
-same_filter f g [] same = refl
-same_filter f g (x ∷ xs) same = ap (λ b. cond b (x ∷ filter f xs) (filter f xs)) (same x) ∙ ap (λ l. cond (g x) (x ∷ l) l) (same_filter f g xs same)
-
 split_filter : {T : Type 0} (f : T → Bool) (xs ys : List T) → filter f (xs ++ ys) ≡ filter f xs ++ filter f ys
 split_filter f [] ys = refl
 split_filter {T = T} f (x ∷ xs) ys = ap (λ l. cond (f x) (x ∷ l) l) (split_filter f xs ys) ∙ go (f x)
@@ -84,7 +70,7 @@ mapped_length {T = T} {U = U} f g (x ∷ xs) = go (f (g x)) (mapped_length f g x
     go true rest = ap suc rest
     go false rest = rest
 
-map_length : {T U : Type 0} (g : T → U) (xs : List T) → length (map g xs) ≡ length xs
+pub map_length : {T U : Type 0} (g : T → U) (xs : List T) → length (map g xs) ≡ length xs
 map_length g [] = refl
 map_length g (x ∷ xs) = ap suc (map_length g xs)
 
@@ -104,13 +90,13 @@ module _ (m : MachineData) (r : ℕ) (below : r < length m.circuit.registers) (f
 
   after_none : (k : ℕ) → after_states m (held_question r) k ≡ false
   after_none k =
-      ap (λ b. b || (false || (changed_states m (held_question r) k && true))) (no_feed (cone_of (walk_of m) []) (cone_none (walk_of m)) k)
-      ∙ ap (λ b. (b || false) && true) (no_feed (cone_of (walk_of m) []) (cone_none (walk_of m)) k)
+      ap (λ b. b || (false || (changed_states m (held_question r) k && true))) (no_feed (cone_of (walk_of m) []) (cone_nil (walk_of m)) k)
+      ∙ ap (λ b. (b || false) && true) (no_feed (cone_of (walk_of m) []) (cone_nil (walk_of m)) k)
 
   before_none : before_nets m (held_question r) ≡ []
   before_none =
-      ap (λ l. cone_of (walk_of m) ((next_nets m r ++ []) ++ flat_map (origin_nets m (held_question r)) l)) (none_filter (after_states m (held_question r)) (registers_of m) after_none)
-      ∙ (ap (λ l. cone_of (walk_of m) ((l ++ []) ++ [])) next_none ∙ cone_none (walk_of m))
+      ap (λ l. cone_of (walk_of m) ((next_nets m r ++ []) ++ flat_map (origin_nets m (held_question r)) l)) (filter_none (after_states m (held_question r)) (registers_of m) after_none)
+      ∙ (ap (λ l. cone_of (walk_of m) ((l ++ []) ++ [])) next_none ∙ cone_nil (walk_of m))
 
   own_only : (k : ℕ) → before_states m (held_question r) k ≡ nat_eq k r
   own_only k =
@@ -132,7 +118,7 @@ module _ (m : MachineData) (r : ℕ) (below : r < length m.circuit.registers) (f
       ∙ (ap length (split_filter (is_reached m (held_question r) Before) (map InputOf (data_inputs m.circuit)) (map RegisterOf (registers_of m)))
       ∙ (ap (λ l. length (l ++ filter (is_reached m (held_question r) Before) (map RegisterOf (registers_of m)))) (no_inputs (data_inputs m.circuit))
       ∙ (mapped_length (is_reached m (held_question r) Before) RegisterOf (registers_of m)
-      ∙ (ap length (same_filter (λ k. before_states m (held_question r) k) (λ k. nat_eq k r) (registers_of m) own_only)
+      ∙ (ap length (same_test (λ k. before_states m (held_question r) k) (λ k. nat_eq k r) (registers_of m) own_only)
       ∙ one_of r (length m.circuit.registers) 0 (omega arith) (omega arith)))))
     where
       no_inputs : (ys : List ℕ) → filter (is_reached m (held_question r) Before) (map InputOf ys) ≡ []
@@ -140,14 +126,14 @@ module _ (m : MachineData) (r : ℕ) (below : r < length m.circuit.registers) (f
       no_inputs (y ∷ ys) = ap (λ l. cond (is_in l y) (InputOf y ∷ filter (is_reached m (held_question r) Before) (map InputOf ys)) (filter (is_reached m (held_question r) Before) (map InputOf ys))) before_none ∙ no_inputs ys
 
   later_none : filter (is_reached m (held_question r) After) (sources m) ≡ []
-  later_none = none_filter (is_reached m (held_question r) After) (sources m) none
+  later_none = filter_none (is_reached m (held_question r) After) (sources m) none
     where
       none : (s : LeafSource) → is_reached m (held_question r) After s ≡ false
-      none (InputOf y) = ap (λ l. is_in l y || is_in (changed_nets m (held_question r)) y) (cone_none (walk_of m)) ∙ ap (λ l. is_in l y) (cone_none (walk_of m))
+      none (InputOf y) = ap (λ l. is_in l y || is_in (changed_nets m (held_question r)) y) (cone_nil (walk_of m)) ∙ ap (λ l. is_in l y) (cone_nil (walk_of m))
       none (RegisterOf k) = ap (λ b. b && true) (after_none k)
 
   changed_none : filter (is_reached m (held_question r) Changed) (sources m) ≡ []
-  changed_none = none_filter (is_reached m (held_question r) Changed) (sources m) none
+  changed_none = filter_none (is_reached m (held_question r) Changed) (sources m) none
     where
       none : (s : LeafSource) → is_reached m (held_question r) Changed s ≡ false
       none (InputOf y) = refl

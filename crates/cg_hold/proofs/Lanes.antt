@@ -20,6 +20,7 @@ use Rattle.cg_cell.specs.Gates.{exclusive_or}
 use Rattle.cg_netlist.specs.Moment.{bit, values_at}
 use Rattle.cg_hold.specs.inner.Words.{HasOne, IsWord, LANES, WORDS, lane, lane_bit, word_not, words_ops}
 use Rattle.cg_hold.specs.inner.WordsLaws.{and_bit, not_bit}
+use Rattle.cg_aig.proofs.Inputs.{numbers_same}
 
 pub zero_bit : (i : ℕ) → lane_bit i 0 ≡ false
 zero_bit i = ap (λ n. n == 1) (bit_at-zero i)
@@ -73,10 +74,6 @@ lane_values i words (net ∷ nets) =
 pub lane_set : (i : ℕ) (words : List ℕ) (k word : ℕ) → lane i (set words k word) ≡ set (lane i words) k (lane_bit i word)
 lane_set i words k word = map-set (lane_bit i) words k word
 
-same_words : (words : List ℕ) → map (λ a. a) words ≡ words
-same_words [] = refl
-same_words (word ∷ words) = ap (λ l. word ∷ l) (same_words words)
-
 -- an evaluation over words gives in each lane the value at the bits of that lane
 pub evaluated : (word : ℕ) (inputs : List ℕ) (value : List Bool → Bool) (t : Seen) (run : Run)
     → Evaluates words_ops no_pairs t word run (λ bits. value (bits_at words_ops no_pairs (map (λ a. a) inputs) bits)) → IsWord word (λ i. value (lane i inputs))
@@ -85,7 +82,7 @@ evaluated word inputs value t run h = record {
       let bits : List Bool = replicate i false in
       let long : length bits ≡ i = length-replicate i false in
       let is : length bits % LANES ≡ i = ap (λ n. n % LANES) long ∙ small i below in
-      subst (λ j. lane_bit j word ≡ value (lane j (map (λ a. a) inputs))) is (h.stands.bit bits) ∙ ap (λ words. value (lane i words)) (same_words inputs);
+      subst (λ j. lane_bit j word ≡ value (lane j (map (λ a. a) inputs))) is (h.stands.bit bits) ∙ ap (λ words. value (lane i words)) (numbers_same inputs);
 }
   where
     small : (n : ℕ) → n < LANES → n % LANES ≡ n

@@ -3,14 +3,13 @@ use Rattle.std.proofs.Common.{◌≡◌, ℕ, suc, ◌+◌, ◌-◌, ◌<◌, �
 use Rattle.std.proofs.Common.{length, set, slice_get, slice_index_or, take, Option, Some, None, refl, sym, ◌∙◌, ap, subst, arith, inl, inr}
 use Rattle.std.specs.List.{cons_option, range_with_len}
 use Rattle.std.proofs.lemmas.List.{length-append, length-map, length-take-le}
-use Rattle.std.proofs.lemmas.Option.{get_or_from_slice_get, slice_get-get_or, slice_get_within}
+use Rattle.std.proofs.lemmas.Option.{slice_get-get_or}
 use Rattle.cg_claim.proofs.GivenNets.{bits_given}
 use Rattle.cg_claim.specs.Build.{from_state, given, shown_by}
 use Rattle.cg_hold.proofs.Lanes.{lane_get, lane_or, lane_set, lane_values, zero_bit}
 use Rattle.cg_hold.specs.inner.Laying.{IsStart, Lays, StartsAt}
 use Rattle.cg_hold.specs.inner.Words.{IsWord, LANES, lane, lane_bit, word_not}
 use Rattle.cg_hold.specs.inner.WordsLaws.{not_bit}
-use Rattle.cg_machine.proofs.Lists.{push_cases}
 use Rattle.cg_machine.proofs.PutBits.{put_cells-append}
 use Rattle.cg_machine.proofs.Settled.{settled}
 use Rattle.cg_machine.specs.Machine.{IsInputs, IsMachine, IsState, MachineData, order_of, values, walk_of}
@@ -26,7 +25,8 @@ use Rattle.cg_net.specs.NetSets.{is_in}
 use Rattle.cg_netlist.specs.Moment.{bit, function_value, values_at}
 use Rattle.cg_netlist.specs.Nets.{beside, put_cells, walk_order}
 use Rattle.cg_net.proofs.TableLemmas.{take_end}
-use Rattle.cg_unroll.proofs.Fronts.{take_whole}
+use Rattle.cg_netlist.proofs.SearchSteps.{push_cases}
+use Rattle.cg_reach.proofs.Filtering.{take_whole}
 
 -- no cell, one, and some behind others
 pub lays_none : (words : List ℕ) → Lays [] words words

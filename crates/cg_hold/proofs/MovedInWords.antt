@@ -9,11 +9,11 @@ use Rattle.cg_hold.proofs.Lanes.{lane_or, xor_bit}
 use Rattle.cg_hold.specs.inner.Laying.{AreMoves}
 use Rattle.cg_hold.specs.inner.Words.{IsWord, LANES, lane, lane_bit}
 use Rattle.cg_machine.proofs.Cycles.{delay_net_below, delay_next}
-use Rattle.cg_machine.proofs.Lists.{push_cases}
 use Rattle.cg_machine.specs.Machine.{IsMachine, MachineData, delay_cell, enable_of, next, next_of}
 use Rattle.cg_netlist.specs.Circuit.{RegisterCell}
 use Rattle.cg_netlist.specs.History.{next_value}
 use Rattle.cg_netlist.specs.Moment.{bit, values_at}
+use Rattle.cg_netlist.proofs.SearchSteps.{push_cases}
 
 -- the net of a delay register has a word
 pub net_below : (m : MachineData) → IsMachine m → (nets : List ℕ) → length nets ≡ length m.circuit.names → (r : ℕ) (cell : RegisterCell ℕ ℕ) (net : ℕ)

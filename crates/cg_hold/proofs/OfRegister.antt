@@ -8,9 +8,7 @@ use Rattle.std.proofs.lemmas.Bool.{both_ways, eq-eqb, or_left, or_right}
 use Rattle.std.proofs.lemmas.Option.{none-some, same_Some}
 use Rattle.cg_claim.specs.Question.{hold_question}
 use Rattle.cg_claim.specs.Reach.{inputs_of_register}
-use Rattle.cg_groups.proofs.Same.{same_filter}
 use Rattle.cg_limit.specs.declared.Limit.TheVariants.{ClaimNodes}
-use Rattle.cg_lists.proofs.FitLists.{filter_in, in_filtered, range_in}
 use Rattle.cg_lists.proofs.Mapped.{ordered_some}
 use Rattle.cg_lists.proofs.UsedNets.{inputs_used, used_net}
 use Rattle.cg_lists.specs.HoldList.{hold_width, is_large, serves, up_to}
@@ -28,6 +26,9 @@ use Rattle.cg_netlist.specs.declared.fault.AddFault.TheVariants.{Limit as LimitF
 use Rattle.cg_hold.specs.declared.choice.Choice.{Choice}
 use Rattle.cg_hold.specs.declared.choice.Choice.TheVariants.{Wide, Takes}
 use Rattle.cg_hold.specs.inner.Choosing.{FitsChoice, IsLiteralOf, choice_by}
+use Rattle.cg_netlist.proofs.ByRank.{filter_same}
+use Rattle.cg_netlist.proofs.Filtered.{in_filter, to_filter}
+use Rattle.cg_netlist.proofs.Driven.{in_range}
 
 module _ (m : MachineData) (r : ℕ) where
   -- all are literals of the register
@@ -55,8 +56,8 @@ module _ (m : MachineData) (r : ℕ) where
 
   pub literals_all : (idle : Option IdleData) → AllOf (literals_of m idle r)
   literals_all idle = order_all idle (both_literals (in_net_order m (input_cone m r))) (both_all (in_net_order m (input_cone m r)) (λ y among.
-      let p = filter_in (is_in (input_cone m r)) (all_nets m) y among in
-      let b = range_in (length m.circuit.names) 0 y p.0 in
+      let p = in_filter (is_in (input_cone m r)) (all_nets m) y among in
+      let b = in_range (length m.circuit.names) 0 y p.0 in
       (p.1, omega (arith, b.1))))
 
   pub literal_at : (ls : List Literal) (k : ℕ) (l : Literal) → AllOf ls → slice_get ls k ≡ Some l → IsLiteralOf m r l
@@ -118,7 +119,7 @@ module _ (m : MachineData) (r : ℕ) where
 
   -- the nets of the cone, in net order
   pub nets_are : (cell : RegisterCell ℕ ℕ) → slice_get m.circuit.registers r ≡ Some cell → (found : List ℕ) → ((y : ℕ) → is_in found y ≡ is_in (cone_of (walk_of m) cell.inputs) y) → filter (is_in found) (all_nets m) ≡ in_net_order m (input_cone m r)
-  nets_are cell at found same = same_filter (is_in found) (is_in (input_cone m r)) (all_nets m) (λ y among. same y ∙ ap (λ o. is_in (cone_of (walk_of m) (option_map_or (λ (c : RegisterCell ℕ ℕ). c.inputs) o [])) y) (sym at))
+  nets_are cell at found same = filter_same (is_in found) (is_in (input_cone m r)) (all_nets m) (λ y among. same y ∙ ap (λ o. is_in (cone_of (walk_of m) (option_map_or (λ (c : RegisterCell ℕ ℕ). c.inputs) o [])) y) (sym at))
 
 -- a net of the netlist is one of the machine
 pub own_below : (m : MachineData) (y : ℕ) → y < length (own_netlist m).names → y < length m.circuit.names
@@ -132,8 +133,8 @@ own_below m y below = let h = short (own_nets m) m.circuit.names in omega (arith
 
 -- nets in net order stay so
 pub ordered_twice : (m : MachineData) (xs : List ℕ) → in_net_order m xs ≡ in_net_order m (in_net_order m xs)
-ordered_twice m xs = same_filter (is_in xs) (is_in (in_net_order m xs)) (all_nets m) (λ x among.
-    truth (is_in xs x) (is_in (in_net_order m xs) x) (λ h. in_filtered (is_in xs) (all_nets m) x among h) (λ h. (filter_in (is_in xs) (all_nets m) x h).1))
+ordered_twice m xs = filter_same (is_in xs) (is_in (in_net_order m xs)) (all_nets m) (λ x among.
+    truth (is_in xs x) (is_in (in_net_order m xs) x) (λ h. to_filter (is_in xs) (all_nets m) x among h) (λ h. (in_filter (is_in xs) (all_nets m) x h).1))
   where
     truth : (x y : Bool) → (x ≡ true → y ≡ true) → (y ≡ true → x ≡ true) → x ≡ y
     truth true y there back = sym (there refl)

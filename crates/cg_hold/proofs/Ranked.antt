@@ -9,8 +9,7 @@ use Rattle.std.proofs.lemmas.Bool.{eq-eqb, leb-false, leb-true, or_left, or_righ
 use Rattle.std.proofs.lemmas.List.Sorted.{list_any-IsPermutation}
 use Rattle.std.proofs.lemmas.Option.{unwrap_or-slice_get}
 use Rattle.cg_limit.specs.declared.TheConstants.{MOST_NETS}
-use Rattle.cg_groups.proofs.Ordered.{range_rises, thinned_in, thinned_rises}
-use Rattle.cg_lists.proofs.FitLists.{filter_in, range_in}
+use Rattle.cg_netlist.proofs.RisingNumbers.{range_rises, thinned_in, thinned_rises}
 use Rattle.cg_lists.specs.Literals.{IdleData, IsIdleData, both_literals, by_count, idle_count, insert_literal}
 use Rattle.cg_lists.specs.Supports.{all_nets, in_net_order}
 use Rattle.cg_machine.specs.Claims.{Literal}
@@ -19,6 +18,8 @@ use Rattle.cg_net.proofs.Members.{All-member, member_at}
 use Rattle.cg_netlist.proofs.RisingPlaces.{Rises, rising_same}
 use Rattle.cg_net.specs.NetSets.{is_in}
 use Rattle.cg_hold.specs.inner.Packed.{literal_place, packed, unpacked}
+use Rattle.cg_netlist.proofs.Filtered.{in_filter}
+use Rattle.cg_netlist.proofs.Driven.{in_range}
 
 -- without a stimulus the order is that of the nets
 pub by_none : (ls : List Literal) → by_count None ls ≡ ls
@@ -186,7 +187,7 @@ pub ranked_is : (m : MachineData) (idle : IdleData) → IsMachine m → IsIdleDa
 ranked_is m idle good fits nets order numbers sorted thinned packs moved sorts thins =
     let rises : Rises 0 nets = subst (Rises 0) (sym order) (range_rises (is_in nets) (length m.circuit.names) 0) in
     let small : (y : ℕ) → is_in nets y ≡ true → y < MOST_NETS = λ y among.
-    let b = range_in (length m.circuit.names) 0 y (filter_in (is_in nets) (all_nets m) y (ap (λ l. is_in l y) (sym order) ∙ among)).0 in
+    let b = in_range (length m.circuit.names) 0 y (in_filter (is_in nets) (all_nets m) y (ap (λ l. is_in l y) (sym order) ∙ among)).0 in
     let s = good.small in
     omega (arith, b.1, s) in
     let rise = both_rise idle nets 0 0 rises (omega arith) small (count_most idle fits.most) in

@@ -31,6 +31,7 @@ use Rattle.cg_unroll.specs.Claims.{IsClaim}
 use Rattle.cg_unroll.specs.declared.claim.Claim.{Claim}
 use Rattle.cg_hold.proofs.Trials.{is_narrow}
 use Rattle.cg_hold.specs.inner.Choosing.{HasRoom, IsLiteralOf}
+use Rattle.std.specs.Cmp.{both_ways as same_bools}
 
 -- an `and` adds one pair or none
 put_one : (s : Seen) (p : ℕ × ℕ) (found : Option ℕ) → (length s.pairs ≤ length (pair_node_at found s p).pairs) × (length (pair_node_at found s p).pairs ≤ length s.pairs + 1)
@@ -43,11 +44,6 @@ and_one s p None = put_one s p (position (same_pair p) s.pairs)
 
 one_and : (s : Seen) (a b : ℕ) → (length s.pairs ≤ length (aig_and s a b).pairs) × (length (aig_and s a b).pairs ≤ length s.pairs + 1)
 one_and s a b = and_one s (in_order a b) (simple a b)
-
-same_bools : (a b : Bool) → (a ≡ true → b ≡ true) → (b ≡ true → a ≡ true) → a ≡ b
-same_bools true b f g = sym (f refl)
-same_bools false true f g = g refl
-same_bools false false f g = refl
 
 same_cells : (f g : LogicCell ℕ → Bool) (cells : List (LogicCell ℕ)) → ((cell : LogicCell ℕ) → f cell ≡ g cell) → filter f cells ≡ filter g cells
 same_cells f g [] same = refl

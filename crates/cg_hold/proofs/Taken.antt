@@ -16,7 +16,6 @@ use Rattle.std.proofs.lemmas.Option.{slice_get-get_or, unwrap_or-slice_get}
 use Rattle.cg_groups.proofs.Ordered.{range_more}
 use Rattle.cg_limit.specs.declared.Limit.TheVariants.{ClaimNodes}
 use Rattle.cg_claim.specs.Question.{hold_question}
-use Rattle.cg_lists.proofs.FitLists.{in_filtered}
 use Rattle.cg_netlist.proofs.Driven.{is_in-range}
 use Rattle.cg_lists.specs.HoldList.{choices, chosen, chosen_regs, hold_list, hold_passes, hold_stage, hold_wide}
 use Rattle.cg_lists.specs.HoldList.{hold_width, is_large, serves, unless_empty, up_to}
@@ -36,6 +35,8 @@ use Rattle.cg_hold.specs.declared.candidates.HoldFound.{HoldFound}
 use Rattle.cg_hold.specs.inner.Choosing.{AreChosen, FitsChoice, choice_by, free_to, list_at, passes_at, stage_at}
 use Rattle.cg_hold.specs.inner.Choosing.{wide_by, with_choice}
 use Rattle.cg_hold.specs.inner.Packed.{literal_place}
+use Rattle.std.proofs.Math.Bool.{or-false}
+use Rattle.cg_netlist.proofs.Filtered.{to_filter}
 
 -- what a choice takes, and whether it is too wide
 abbrev option_of : Choice → Option Literal
@@ -108,10 +109,6 @@ pub with_length : (lists : List (List ℕ)) (choice : Choice) (r : ℕ) → leng
 with_length lists Wide r = refl
 with_length lists (Takes None) r = refl
 with_length lists (Takes (Some k)) r = length-set lists (literal_place k) (slice_index_or lists (literal_place k) [] ++ r ∷ [])
-
-or_none : (b : Bool) → (b || false) ≡ b
-or_none true = refl
-or_none false = refl
 
 module _ (m : MachineData) (idle : Option IdleData) (width : ℕ) where
   -- what a choice says of a register
@@ -211,7 +208,7 @@ module _ (m : MachineData) (idle : Option IdleData) (width : ℕ) where
             ∙ (sym (count_one n (free_to m n)) ∙ ap (count_by (λ r. nat_lt width (hold_width m r))) (sym (free_next n free)))));
         within =
             ap (list_any (passes_at m idle width)) (free_next n free)
-            ∙ (list_any-append (passes_at m idle width) (free_to m n) (n ∷ []) ∙ (ap (λ b. b || (passes_at m idle width n || false)) are.within ∙ (or_none (passes_at m idle width n) ∙ s.within)));
+            ∙ (list_any-append (passes_at m idle width) (free_to m n) (n ∷ []) ∙ (ap (λ b. b || (passes_at m idle width n || false)) are.within ∙ (or-false (passes_at m idle width n) ∙ s.within)));
       }
 
   -- the number of those that are too wide is small
@@ -257,7 +254,7 @@ module _ (m : MachineData) (idle : Option IdleData) (width : ℕ) where
   ]
 
   pub passing : (r : ℕ) → r < m.own_registers → is_none (enable_of m r) ≡ true → passes_at m idle width r ≡ true → hold_passes m idle width ≡ true
-  passing r own free passes = any_in (passes_at m idle width) (free_registers m) r (in_filtered (λ k. is_none (enable_of m k)) (range_with_len 0 m.own_registers) r (is_in-range m.own_registers 0 r (omega arith) (omega arith)) free) passes
+  passing r own free passes = any_in (passes_at m idle width) (free_registers m) r (to_filter (λ k. is_none (enable_of m k)) (range_with_len 0 m.own_registers) r (is_in-range m.own_registers 0 r (omega arith) (omega arith)) free) passes
 
   -- the stages
   same_maps : (lists : List (List ℕ)) (n a : ℕ) → ((l : Literal) → l.0 < a + n → list_at lists (literal_place l) ≡ chosen_regs (choices m idle width) l)
@@ -325,10 +322,6 @@ none_of_some (Some x) h = refl
 pub none_of_none : (o : Option ℕ) → is_some o ≡ false → is_none o ≡ true
 none_of_none None h = refl
 none_of_none (Some x) h = absurd (both_ways true h refl)
-
-pub none_is : (o : Option ℕ) → is_some o ≡ false → o ≡ None
-none_is None h = refl
-none_is (Some x) h = absurd (both_ways true h refl)
 
 -- what holds where an answer is there
 pub on_ok_both : {X A B C : Type 0} (r : Result X AddFault) → (A → B → C) → OnOk r A → OnOk r B → OnOk r C

@@ -8,7 +8,7 @@ ghost use Rattle.cg_lists.specs.Literals.{FitsIdle, IsIdleData, both_literals, b
 ghost use Rattle.cg_lists.specs.Supports.{in_net_order, input_cone};
 ghost use Rattle.cg_net.specs.NetSets.{is_in};
 
-use cg_groups::order::rising;
+use cg_cone::ascending::ascending;
 use cg_lists::idle::Idle;
 use cg_machine::machine::Machine;
 use cg_machine::stage::NetLit;
@@ -51,7 +51,7 @@ fn nets_of(
     let netlist = machine.netlist();
     let _registers = netlist.registers();
     let found = finder.cone(machine, netlist.register(reg).inputs)?;
-    Ok(rising(found))
+    Ok(ascending(found))
 }
 
 /// Each net plain and then inverted.

@@ -1,20 +1,18 @@
 -- Gating cells and registers of the gated netlist by their numbers.
 use Rattle.std.proofs.Common.{◌≡◌, ℕ, ◌+◌, ◌<◌, List, [], ◌∷◌, length, slice_get, unwrap_or, Option, None, Some, refl, ap, sym, ◌∙◌}
 use Rattle.std.proofs.Common.{arith}
-use Rattle.std.specs.List.{range_with_len}
 use Rattle.std.specs.Option.{option_flatten, option_map, option_to_list}
 use Rattle.std.proofs.lemmas.Option.{slice_get_within}
 use Rattle.cg_cell.specs.Cell.{CellData}
 use Rattle.cg_machine.specs.Machine.{IsMachine, MachineData, enable_of}
 use Rattle.cg_netlist.proofs.OrderLemmas.{length-range_with_len}
 use Rattle.cg_netlist.proofs.Values.{element_at, length-zip_with, zip_with_at}
-use Rattle.cg_netlist.specs.Circuit.{GatingCell, RegisterCell}
+use Rattle.cg_netlist.specs.Circuit.{RegisterCell}
 use Rattle.cg_netlist.specs.Ordered.{place_in}
-use Rattle.cg_parts.specs.Part.{Part}
 use Rattle.cg_net.specs.Names.{NetName}
-use Rattle.cg_insert.proofs.GatedParts.{range_at}
 use Rattle.cg_insert.specs.Insert.{enables_of, first_gate, gate_outputs, gater_cell, gating_cell, reclocked, test_net}
 use Rattle.cg_insert.specs.inner.GatedParts.{clocked_part, clocked_parts, gated_gaters, gated_registers, on_gate, with_clock}
+use Rattle.cg_machine.proofs.WalkPlaces.{range_at}
 
 pub gaters_long : (library : List CellData) (test : Option (List ℕ)) (m : MachineData) → length (gated_gaters library test m) ≡ length (enables_of m)
 gaters_long library test m = length-zip_with (gating_cell library test m) (enables_of m) (gate_outputs test m) (sym (length-range_with_len (length (enables_of m)) (first_gate m test)))

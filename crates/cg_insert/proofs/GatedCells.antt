@@ -1,9 +1,9 @@
 -- Lists of parts, and cells that fit a kind of gate or gate a clock.
 use Rattle.std.proofs.Common.{◌≡◌, ℕ, ◌+◌, ◌≤◌, Bool, true, false, not, cond, ◌||◌, ◌&&◌, List, [], ◌∷◌, Option, None, Some, nat_eq}
 use Rattle.std.proofs.Common.{refl, ap, sym, ◌∙◌, subst, inl, inr, arith}
-use Rattle.std.specs.List.{All, AllPairs, IsDistinct, count_by, find, flat_map, list_any, range_with_len, slice_index}
-use Rattle.std.specs.Option.{option_flatten, option_map, option_map_or, option_to_list}
-use Rattle.std.proofs.lemmas.Bool.{both_ways, eqb-true, or_cases}
+use Rattle.std.specs.List.{All, AllPairs, count_by, find, list_any}
+use Rattle.std.specs.Option.{option_map_or, option_to_list}
+use Rattle.std.proofs.lemmas.Bool.{and_parts, both_ways, eqb-true, or_cases}
 use Rattle.std.proofs.lemmas.List.Elements.{All-head, All-tail}
 use Rattle.std.proofs.lemmas.List.Sums.{sum_by-cons}
 use Rattle.std.proofs.lemmas.Option.{same_Some}
@@ -19,7 +19,6 @@ use Rattle.cg_netlist.specs.Circuit.{RegisterCell}
 use Rattle.cg_netlist.specs.WellFormed.{FitsKind}
 use Rattle.cg_netlist.specs.declared.parts.RegisterKind.{RegisterKind}
 use Rattle.cg_netlist.specs.declared.parts.RegisterKind.TheVariants.{Plain, Flop}
-use Rattle.cg_insert.proofs.GatedParts.{is_true}
 use Rattle.cg_machine.specs.Gates.{HasInputs}
 
 -- an option has no two
@@ -71,12 +70,12 @@ fit_over kind cell k has fits = go kind has fits
     logic Unusable h = absurd (both_ways false refl h)
 
     gate : (n : ℕ) → k ≡ n → is_gate n cell ≡ true → (cell.kind ≡ Logic) × (count_by is_data cell.pins ≡ k)
-    gate n is h = let both = is_true (is_logic cell.kind) (Rattle.std.specs.Prelude.nat_eq (count_by is_data cell.pins) n) h in (logic cell.kind both.0, eqb-true (count_by is_data cell.pins) n both.1 ∙ sym is)
+    gate n is h = let both = and_parts (is_logic cell.kind) (Rattle.std.specs.Prelude.nat_eq (count_by is_data cell.pins) n) h in (logic cell.kind both.0, eqb-true (count_by is_data cell.pins) n both.1 ∙ sym is)
 
     go : (kind : FitKind) → HasInputs kind k → is_fit kind cell ≡ true → (cell.kind ≡ Logic) × (count_by is_data cell.pins ≡ k)
-    go Inv has fits = gate 1 has (is_true (is_gate 1 cell) (Rattle.cg_cell.specs.Fit.is_inversion (Rattle.cg_cell.specs.Fit.is_one cell.function)) fits).0
-    go And2 has fits = gate 2 has (is_true (is_gate 2 cell) (Rattle.cg_cell.specs.Fit.is_conjunction (Rattle.cg_cell.specs.Fit.is_one cell.function)) fits).0
-    go Or2 has fits = gate 2 has (is_true (is_gate 2 cell) (Rattle.cg_cell.specs.Fit.is_disjunction (Rattle.cg_cell.specs.Fit.is_one cell.function)) fits).0
+    go Inv has fits = gate 1 has (and_parts (is_gate 1 cell) (Rattle.cg_cell.specs.Fit.is_inversion (Rattle.cg_cell.specs.Fit.is_one cell.function)) fits).0
+    go And2 has fits = gate 2 has (and_parts (is_gate 2 cell) (Rattle.cg_cell.specs.Fit.is_conjunction (Rattle.cg_cell.specs.Fit.is_one cell.function)) fits).0
+    go Or2 has fits = gate 2 has (and_parts (is_gate 2 cell) (Rattle.cg_cell.specs.Fit.is_disjunction (Rattle.cg_cell.specs.Fit.is_one cell.function)) fits).0
     go _ has fits = absurd has
 
 pub gater_kind : (kind : CellKind) → is_gater kind ≡ true → kind ≡ GaterKind

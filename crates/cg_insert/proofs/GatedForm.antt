@@ -2,10 +2,10 @@
 use Rattle.std.proofs.Common.{◌≡◌, ◌≢◌, ◌⊎◌, ℕ, zero, suc, ◌+◌, ◌-◌, ◌<◌, ◌≤◌, Bool, true, false, not, cond, IsTrue, List, [], ◌∷◌}
 use Rattle.std.proofs.Common.{◌++◌, map, length, slice_get, get_or, take, Option, None, Some, nat_eq, refl, ap, sym, ◌∙◌, subst}
 use Rattle.std.proofs.Common.{inl, inr, arith}
-use Rattle.std.specs.List.{All, AllPairs, IsDistinct, count_by, find, flat_map, list_any, range_with_len, slice_index}
-use Rattle.std.specs.Option.{option_flatten, option_map, option_map_or, option_to_list}
+use Rattle.std.specs.List.{All, AllPairs, IsDistinct, count_by, find, flat_map, list_any, range_with_len}
+use Rattle.std.specs.Option.{option_flatten, option_map_or, option_to_list}
 use Rattle.std.proofs.lemmas.Bool.{both_ways, cases_Bool, cases_lt, false_from_ne_true, eqb-true, eq-eqb, or_cases, or_left}
-use Rattle.std.proofs.lemmas.Bool.{or_right}
+use Rattle.std.proofs.lemmas.Bool.{and_parts, or_right}
 use Rattle.std.proofs.lemmas.Fmt.{decimal_injective}
 use Rattle.std.proofs.lemmas.List.{append_cancel_left, get_or-append_right, get_or_append_left, length-append, length-map}
 use Rattle.std.proofs.lemmas.List.Elements.{All-append, All-cons, All-head, All-map, All-nil, All-tail}
@@ -30,15 +30,15 @@ use Rattle.cg_net.proofs.Members.{is_in_left, is_in_right}
 use Rattle.cg_netlist.proofs.OrderLemmas.{length-range_with_len}
 use Rattle.cg_netlist.proofs.Values.{element_at}
 use Rattle.cg_insert.proofs.GatedMoments.{clock_is, data_is, names_count, register_clock, used_below}
-use Rattle.cg_insert.proofs.GatedParts.{few_names, at_All, cell_stands, enable_from, enable_placed, found_passes, gater_at}
-use Rattle.cg_insert.proofs.GatedParts.{gaters_count, gates_are, is_true, shown_is}
+use Rattle.cg_insert.proofs.GatedParts.{few_names, cell_stands, enable_from, enable_placed, found_passes, gater_at}
+use Rattle.cg_insert.proofs.GatedParts.{gaters_count, gates_are, shown_is}
 use Rattle.cg_insert.specs.Insert.{CanInsert, clock_under, enables_of, first_gate, fitting, gate_names, gate_outputs, gated}
 use Rattle.cg_insert.specs.Insert.{gater_cell, gating_cell, gating_kind, no_cell, placed_gate, reclocked, test_net}
 use Rattle.cg_machine.proofs.AddedNames.{name_added}
 use Rattle.cg_machine.specs.Gates.{AddedGate, HasInputs, gate_cell}
 use Rattle.cg_machine.specs.Machine.{IsMachine, MachineData, added_name, additions}
 use Rattle.cg_netlist.specs.Ordered.{place_in}
-use Rattle.cg_machine.proofs.Lists.{pairs_append}
+use Rattle.cg_machine.proofs.Lists.{all_at, pairs_append}
 use Rattle.cg_insert.proofs.GatedCells.{gates_by, counts, fit_over, found_All, gater_kind, kind_kept, pairs_option}
 
 module _ (library : List CellData) (test : Option (List ℕ)) (m : MachineData) where
@@ -367,9 +367,9 @@ module _ (library : List CellData) (test : Option (List ℕ)) (m : MachineData) 
     -- the cells
     placed_over : (g : AddedGate) (j : ℕ) → slice_get m.gates j ≡ Some g → IsOver (length g.inputs) (Cell (fitting library g.kind))
     placed_over g j at =
-        let fit = at_All (λ gate. (cell : CellData) × (find (is_fit gate.kind) library ≡ Some cell)) m.gates j g can.gates at in
+        let fit = all_at (λ gate. (cell : CellData) × (find (is_fit gate.kind) library ≡ Some cell)) m.gates j g can.gates at in
         let is : fitting library g.kind ≡ fit.0 = ap (λ o. Rattle.std.specs.Prelude.unwrap_or o no_cell) fit.1 in
-        let over = fit_over g.kind fit.0 (length g.inputs) (at_All (λ gate. HasInputs gate.kind (length gate.inputs)) m.gates j g good.gates_fit at) (found_passes (is_fit g.kind) library fit.0 fit.1) in
+        let over = fit_over g.kind fit.0 (length g.inputs) (all_at (λ gate. HasInputs gate.kind (length gate.inputs)) m.gates j g good.gates_fit at) (found_passes (is_fit g.kind) library fit.0 fit.1) in
         subst (λ x. IsOver (length g.inputs) (Cell x)) (sym is) (found_All IsCell (is_fit g.kind) library fit.0 can.cells fit.1, over.0, over.1)
 
     functions : All (λ cell. IsOver (length cell.inputs) cell.function) c.cells
@@ -425,7 +425,7 @@ module _ (library : List CellData) (test : Option (List ℕ)) (m : MachineData) 
             let found = can.gater some in
             let is : gater_cell library test ≡ found.0 = ap (λ o. Rattle.std.specs.Prelude.unwrap_or o no_cell) found.1 in
             let passes = sym (gates_by test found.0) ∙ found_passes (is_fit (gating_kind test)) library found.0 found.1 in
-            let both = is_true (is_gater found.0.kind) (cond (option_map_or (λ _. true) test false) (list_any is_test found.0.pins) (not (list_any is_test found.0.pins))) passes in
+            let both = and_parts (is_gater found.0.kind) (cond (option_map_or (λ _. true) test false) (list_any is_test found.0.pins) (not (list_any is_test found.0.pins))) passes in
             let cell : IsCell found.0 = found_All IsCell (is_fit (gating_kind test)) library found.0 can.cells found.1 in
             let kind : found.0.kind ≡ GaterKind = gater_kind found.0.kind both.0 in
             subst (λ x. IsCell x × (x.kind ≡ GaterKind) × (count_by is_test x.pins ≡ length (option_to_list (test_net m test)))) (sym is)

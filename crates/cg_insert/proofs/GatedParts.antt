@@ -1,11 +1,10 @@
 -- The parts of the gated netlist, in the machine's own order, beside those of the machine.
-use Rattle.std.proofs.Common.{◌≡◌, ℕ, zero, suc, ◌+◌, ◌^◌, ◌<◌, ◌≤◌, ◌⊎◌, Bool, true, false, not, cond, ◌&&◌, if◌then◌else◌, List}
+use Rattle.std.proofs.Common.{◌≡◌, ℕ, zero, suc, ◌+◌, ◌^◌, ◌≤◌, ◌⊎◌, Bool, true, false, not, cond, ◌&&◌, if◌then◌else◌, List}
 use Rattle.std.proofs.Common.{[], ◌∷◌, ◌++◌, map, length, slice_get, take, Option, None, Some, nat_eq, refl, ap, sym, ◌∙◌, subst}
 use Rattle.std.proofs.Common.{length-append, inl, inr, arith}
-use Rattle.std.specs.List.{All, filter, filter_map, find, flat_map, range_with_len, cons_option}
-use Rattle.std.specs.Option.{option_to_list, option_flatten}
-use Rattle.std.proofs.lemmas.Bool.{both_ways, cases_Bool, eqb-true, or_cases, or_left, or_right, eq-eqb}
-use Rattle.std.proofs.lemmas.List.Elements.{All-head, All-tail}
+use Rattle.std.specs.List.{filter_map, find, flat_map, cons_option}
+use Rattle.std.specs.Option.{option_flatten}
+use Rattle.std.proofs.lemmas.Bool.{and_parts, both_ways, eq-eqb, eqb-true, not-true, or_cases, or_left, or_right}
 use Rattle.cg_limit.specs.declared.TheConstants.{MOST_REGISTERS}
 use Rattle.cg_cell.specs.Cell.{CellData}
 use Rattle.cg_cell.specs.Cover.{cover_value}
@@ -13,10 +12,10 @@ use Rattle.cg_cell.specs.Fit.{is_fit, is_one}
 use Rattle.cg_cell.specs.Term.{Term}
 use Rattle.cg_cell.specs.declared.fit.FitKind.{FitKind}
 use Rattle.cg_cell.specs.declared.fit.FitKind.TheVariants.{Inv, And2, Or2}
-use Rattle.cg_netlist.specs.Circuit.{Circuit, GatingCell, LogicCell, RegisterCell, data_inputs, register_nets, shown_nets}
+use Rattle.cg_netlist.specs.Circuit.{Circuit, LogicCell, RegisterCell, register_nets, shown_nets}
 use Rattle.cg_net.specs.NetSets.{is_in}
 use Rattle.cg_insert.specs.Insert.{CanInsert, collect, enables_of, first_gate, fitting, gate_outputs, gated, gating_cell}
-use Rattle.cg_insert.specs.Insert.{placed_gate, reclocked, test_net, with_net}
+use Rattle.cg_insert.specs.Insert.{placed_gate, reclocked, with_net}
 use Rattle.cg_machine.specs.Gates.{AddedGate, HasInputs, gate_cell, gate_cover}
 use Rattle.cg_machine.specs.Machine.{IsMachine, MachineData, additions, enable_of}
 use Rattle.cg_netlist.specs.Ordered.{place_in}
@@ -24,24 +23,9 @@ use Rattle.cg_netlist.specs.Moment.{cell_value, function_value, register_bits, s
 use Rattle.cg_net.proofs.Members.{is_in_cases, is_in_left, is_in_right, member_at}
 use Rattle.cg_netlist.proofs.OrderLemmas.{length-range_with_len}
 use Rattle.cg_netlist.proofs.Values.{zip_with_at, length-zip_with}
-
--- a net that is in a list stands at its place
-pub place_found : (xs : List ℕ) (x : ℕ) → is_in xs x ≡ true → slice_get xs (place_in xs x) ≡ Some x
-place_found [] x among = absurd (both_ways false refl among)
-place_found (y ∷ ys) x among = elim (cases_Bool (nat_eq x y)) [
-  | inl here ↦
-      let at : place_in (y ∷ ys) x ≡ 0 = ap (λ b. cond (not b) (1 + place_in ys x) 0) here in
-      ap (slice_get (y ∷ ys)) at ∙ ap (λ n. Some n) (sym (eqb-true x y here))
-  | inr other ↦
-      let at : place_in (y ∷ ys) x ≡ 1 + place_in ys x = ap (λ b. cond (not b) (1 + place_in ys x) 0) other in
-      let next : place_in (y ∷ ys) x ≡ suc (place_in ys x) = omega (arith, at) in
-      ap (slice_get (y ∷ ys)) next ∙ place_found ys x (elim (or_cases (nat_eq x y) (is_in ys x) among) [ inl here ↦ absurd (both_ways (nat_eq x y) other here) | inr later ↦ later ])
-]
-
-pub range_at : (n a k : ℕ) → k < n → slice_get (range_with_len a n) k ≡ Some (a + k)
-range_at zero a k below = absurd (omega arith)
-range_at (suc n) a zero below = let same : a ≡ a + 0 = omega arith in ap (λ m. Some m) same
-range_at (suc n) a (suc k) below = let same : a + 1 + k ≡ a + suc k = omega arith in range_at n (a + 1) k (omega arith) ∙ ap (λ m. Some m) same
+use Rattle.cg_machine.proofs.WalkPlaces.{range_at}
+use Rattle.cg_netlist.proofs.OrderedForm.{place_found}
+use Rattle.cg_machine.proofs.Lists.{all_at}
 
 -- The enables
 
@@ -155,14 +139,6 @@ same_bits test m (r ∷ rs) (e ∷ es) (b ∷ s) long = ap (λ xs. shown_bits r 
 
 -- Cells: an added gate computes the same as a placed cell
 
-pub is_true : (a b : Bool) → (a && b) ≡ true → (a ≡ true) × (b ≡ true)
-is_true true b h = (refl, h)
-is_true false b h = absurd (both_ways false refl h)
-
-pub not_true : (b : Bool) → not b ≡ true → b ≡ false
-not_true true h = absurd (both_ways false refl h)
-not_true false h = refl
-
 value_is_one : (cell : CellData) (bits : List Bool) → cell_value cell bits ≡ is_one cell.function bits
 value_is_one cell bits = go cell.function
   where
@@ -171,14 +147,14 @@ value_is_one cell bits = go cell.function
     go (Some f) = refl
 
 fit_value : (kind : FitKind) (cell : CellData) (bits : List Bool) → HasInputs kind (length bits) → is_fit kind cell ≡ true → cell_value cell bits ≡ cover_value (gate_cover kind) bits
-fit_value Inv cell bits has fits = value_is_one cell bits ∙ go (is_one cell.function) bits has (is_true (Rattle.cg_cell.specs.Fit.is_gate 1 cell) (Rattle.cg_cell.specs.Fit.is_inversion (is_one cell.function)) fits).1
+fit_value Inv cell bits has fits = value_is_one cell bits ∙ go (is_one cell.function) bits has (and_parts (Rattle.cg_cell.specs.Fit.is_gate 1 cell) (Rattle.cg_cell.specs.Fit.is_inversion (is_one cell.function)) fits).1
   where
     go : (f : List Bool → Bool) (bits : List Bool) → length bits ≡ 1 → Rattle.cg_cell.specs.Fit.is_inversion f ≡ true → f bits ≡ cover_value (gate_cover Inv) bits
     go f [] has fits = absurd (omega arith)
     go f (a ∷ b ∷ bits) has fits = absurd (omega arith)
-    go f (true ∷ []) has fits = not_true (f (true ∷ [])) (is_true (f (false ∷ [])) (not (f (true ∷ []))) fits).1
-    go f (false ∷ []) has fits = (is_true (f (false ∷ [])) (not (f (true ∷ []))) fits).0
-fit_value And2 cell bits has fits = value_is_one cell bits ∙ go (is_one cell.function) bits has (is_true (Rattle.cg_cell.specs.Fit.is_gate 2 cell) (Rattle.cg_cell.specs.Fit.is_conjunction (is_one cell.function)) fits).1
+    go f (true ∷ []) has fits = not-true (f (true ∷ [])) (and_parts (f (false ∷ [])) (not (f (true ∷ []))) fits).1
+    go f (false ∷ []) has fits = (and_parts (f (false ∷ [])) (not (f (true ∷ []))) fits).0
+fit_value And2 cell bits has fits = value_is_one cell bits ∙ go (is_one cell.function) bits has (and_parts (Rattle.cg_cell.specs.Fit.is_gate 2 cell) (Rattle.cg_cell.specs.Fit.is_conjunction (is_one cell.function)) fits).1
   where
     go : (f : List Bool → Bool) (bits : List Bool) → length bits ≡ 2 → Rattle.cg_cell.specs.Fit.is_conjunction f ≡ true → f bits ≡ cover_value (gate_cover And2) bits
     go f [] has fits = absurd (omega arith)
@@ -189,17 +165,17 @@ fit_value And2 cell bits has fits = value_is_one cell bits ∙ go (is_one cell.f
         let y = f (false ∷ true ∷ []) in
         let z = f (true ∷ false ∷ []) in
         let w = f (true ∷ true ∷ []) in
-        let one = is_true ((not x && not y) && not z) w fits in
-        let two = is_true (not x && not y) (not z) one.0 in
-        let three = is_true (not x) (not y) two.0 in
-        at a b (not_true x three.0) (not_true y three.1) (not_true z two.1) one.1
+        let one = and_parts ((not x && not y) && not z) w fits in
+        let two = and_parts (not x && not y) (not z) one.0 in
+        let three = and_parts (not x) (not y) two.0 in
+        at a b (not-true x three.0) (not-true y three.1) (not-true z two.1) one.1
       where
         at : (a b : Bool) → f (false ∷ false ∷ []) ≡ false → f (false ∷ true ∷ []) ≡ false → f (true ∷ false ∷ []) ≡ false → f (true ∷ true ∷ []) ≡ true → f (a ∷ b ∷ []) ≡ cover_value (gate_cover And2) (a ∷ b ∷ [])
         at true true p q r s = s
         at true false p q r s = r
         at false true p q r s = q
         at false false p q r s = p
-fit_value Or2 cell bits has fits = value_is_one cell bits ∙ go (is_one cell.function) bits has (is_true (Rattle.cg_cell.specs.Fit.is_gate 2 cell) (Rattle.cg_cell.specs.Fit.is_disjunction (is_one cell.function)) fits).1
+fit_value Or2 cell bits has fits = value_is_one cell bits ∙ go (is_one cell.function) bits has (and_parts (Rattle.cg_cell.specs.Fit.is_gate 2 cell) (Rattle.cg_cell.specs.Fit.is_disjunction (is_one cell.function)) fits).1
   where
     go : (f : List Bool → Bool) (bits : List Bool) → length bits ≡ 2 → Rattle.cg_cell.specs.Fit.is_disjunction f ≡ true → f bits ≡ cover_value (gate_cover Or2) bits
     go f [] has fits = absurd (omega arith)
@@ -210,10 +186,10 @@ fit_value Or2 cell bits has fits = value_is_one cell bits ∙ go (is_one cell.fu
         let y = f (false ∷ true ∷ []) in
         let z = f (true ∷ false ∷ []) in
         let w = f (true ∷ true ∷ []) in
-        let one = is_true ((not x && y) && z) w fits in
-        let two = is_true (not x && y) z one.0 in
-        let three = is_true (not x) y two.0 in
-        at a b (not_true x three.0) three.1 two.1 one.1
+        let one = and_parts ((not x && y) && z) w fits in
+        let two = and_parts (not x && y) z one.0 in
+        let three = and_parts (not x) y two.0 in
+        at a b (not-true x three.0) three.1 two.1 one.1
       where
         at : (a b : Bool) → f (false ∷ false ∷ []) ≡ false → f (false ∷ true ∷ []) ≡ true → f (true ∷ false ∷ []) ≡ true → f (true ∷ true ∷ []) ≡ true → f (a ∷ b ∷ []) ≡ cover_value (gate_cover Or2) (a ∷ b ∷ [])
         at true true p q r s = s
@@ -245,24 +221,19 @@ stands [] (g ∷ gates) library same (suc k) cell at = stands [] gates library (
 stands (o ∷ own) gates library same zero cell at = (o, refl, subst (λ x. SameCell x o) (let e : o ≡ cell = cc in e) (record { inputs = refl; output = refl; value = λ bits long. refl }))
 stands (o ∷ own) gates library same (suc k) cell at = stands own gates library same k cell at
 
-pub at_All : {X : Type 0} (P : X → Type 0) (xs : List X) (k : ℕ) (x : X) → All P xs → slice_get xs k ≡ Some x → P x
-at_All P [] k x all at = absurd (cc)
-at_All P (y ∷ ys) zero x all at = subst P (let e : y ≡ x = cc in e) (All-head P y ys all)
-at_All P (y ∷ ys) (suc k) x all at = at_All P ys k x (All-tail P y ys all) at
-
 module _ (library : List CellData) (test : Option (List ℕ)) (m : MachineData) (good : IsMachine m) (can : CanInsert library test m) where
   abbrev c : Circuit
   c = gated library test m
 
   pub gate_stands : (j : ℕ) (g : AddedGate) → slice_get m.gates j ≡ Some g → SameCell (gate_cell g) (placed_gate library g)
   gate_stands j g at =
-      let fit = at_All (λ gate. (cell : CellData) × (find (is_fit gate.kind) library ≡ Some cell)) m.gates j g can.gates at in
+      let fit = all_at (λ gate. (cell : CellData) × (find (is_fit gate.kind) library ≡ Some cell)) m.gates j g can.gates at in
       let is : fitting library g.kind ≡ fit.0 = ap (λ o. Rattle.std.specs.Prelude.unwrap_or o Rattle.cg_insert.specs.Insert.no_cell) fit.1 in
       record {
         inputs = refl;
         output = refl;
         value = λ bits long.
-            ap (λ x. cell_value x bits) is ∙ fit_value g.kind fit.0 bits (subst (HasInputs g.kind) (sym long) (at_All (λ gate. HasInputs gate.kind (length gate.inputs)) m.gates j g good.gates_fit at)) (found_passes (is_fit g.kind) library fit.0 fit.1);
+            ap (λ x. cell_value x bits) is ∙ fit_value g.kind fit.0 bits (subst (HasInputs g.kind) (sym long) (all_at (λ gate. HasInputs gate.kind (length gate.inputs)) m.gates j g good.gates_fit at)) (found_passes (is_fit g.kind) library fit.0 fit.1);
       }
 
   pub cell_stands : (k : ℕ) (cell : LogicCell ℕ) → slice_get m.circuit.cells k ≡ Some cell → (placed : LogicCell ℕ) × (slice_get c.cells k ≡ Some placed) × SameCell cell placed

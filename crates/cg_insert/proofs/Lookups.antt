@@ -1,15 +1,15 @@
 -- What is found in a list, by a test or by its place.
 use Rattle.std.proofs.Common.{◌≡◌, ℕ, suc, ◌+◌, ◌<◌, ◌≤◌, Bool, true, false, cond, List, [], ◌∷◌, ◌++◌, map, length, slice_get}
-use Rattle.std.proofs.Common.{take, Option, None, Some, nat_eq, nat_le, nat_lt, refl, ap, sym, ◌∙◌, arith, append_assoc}
+use Rattle.std.proofs.Common.{take, Option, None, Some, nat_le, nat_lt, refl, ap, sym, ◌∙◌, arith, append_assoc}
 use Rattle.std.specs.List.{cons_option, filter_map, find, position, position_or_len, range_with_len}
 use Rattle.std.proofs.lemmas.Bool.{lt-ltb}
 use Rattle.std.proofs.lemmas.List.{append-nil, map-append}
 use Rattle.std.proofs.lemmas.List.Elements.{filter_map-append}
 use Rattle.std.proofs.lemmas.List.Folds.{find_at}
-use Rattle.std.proofs.lemmas.Option.{none-some, same_Some, slice_get_within}
-use Rattle.cg_machine.proofs.Lists.{range_more}
+use Rattle.std.proofs.lemmas.Option.{same_Some, slice_get_within}
 use Rattle.cg_net.proofs.TableLemmas.{take_next}
 use Rattle.cg_insert.specs.Insert.{collect, with_net}
+use Rattle.cg_netlist.proofs.ByRank.{range_more}
 
 -- the first that passes a test stands at the first place
 pub found_at : {X : Type 0} (p : X → Bool) (xs : List X) (x : X) → find p xs ≡ Some x → slice_get xs (position_or_len p xs) ≡ Some x

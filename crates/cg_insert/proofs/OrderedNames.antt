@@ -1,21 +1,20 @@
 -- By names, a netlist in net order is wired as before.
-use Rattle.std.proofs.Common.{◌≡◌, ℕ, zero, suc, ◌+◌, ◌<◌, ◌≤◌, Bool, true, false, not, cond, List, [], ◌∷◌, ◌++◌, map, length}
+use Rattle.std.proofs.Common.{◌≡◌, ℕ, suc, ◌+◌, ◌<◌, ◌≤◌, Bool, true, false, not, cond, List, [], ◌∷◌, map, length}
 use Rattle.std.proofs.Common.{slice_get, unwrap_or, Option, None, Some, nat_eq, refl, ap, sym, ◌∙◌, inl, inr, arith}
 use Rattle.std.specs.List.{AllByRecursion, IsDistinct}
 use Rattle.std.specs.Option.{option_map, option_to_list}
 use Rattle.std.proofs.lemmas.Bool.{cases_Bool, eqb-true}
 use Rattle.std.proofs.lemmas.List.{length-map}
 use Rattle.std.proofs.lemmas.Option.{slice_get-map}
-use Rattle.cg_netlist.specs.Circuit.{Circuit, GatingCell, LogicCell, RegisterCell, asked_nets, net_order, shown_nets}
+use Rattle.cg_netlist.specs.Circuit.{Circuit, GatingCell, LogicCell, RegisterCell, net_order}
 use Rattle.cg_netlist.specs.Ordered.{ordered, place_in}
 use Rattle.cg_netlist.specs.WellFormed.{IsInNetOrder, IsWellFormed}
 use Rattle.cg_netlist.proofs.OrderedForm.{placed}
 use Rattle.cg_parts.proofs.Kept.{CellNets, GaterNets, RegisterNets, WiringNets}
 use Rattle.cg_parts.proofs.SaidByItsParts.{same_wiring}
 use Rattle.cg_parts.proofs.ToldByNames.{wiring_within}
-use Rattle.cg_net.specs.Names.{NetName, net_name}
-use Rattle.cg_netlist.specs.Wiring.{Wiring, map_cell, map_gater, map_outputs, map_register, map_wiring, named}
-use Rattle.cg_netlist.specs.Wiring.{wiring}
+use Rattle.cg_net.specs.Names.{net_name}
+use Rattle.cg_netlist.specs.Wiring.{Wiring, map_cell, map_gater, map_outputs, map_register, map_wiring, named, wiring}
 
 -- parts with other nets twice, where the nets in between are such
 module _ {N M K : Type 0} (f : N → M) (h : M → K) (k : N → K) (P : M → Type 0) (same : (x : N) → P (f x) → h (f x) ≡ k x) where

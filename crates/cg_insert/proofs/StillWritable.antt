@@ -1,9 +1,9 @@
 -- The inserted netlist is writable where the machine's own netlist is.
-use Rattle.std.proofs.Common.{◌≡◌, ◌≢◌, ℕ, zero, suc, ◌+◌, ◌-◌, ◌<◌, ◌≤◌, ◌^◌, Bool, true, false, List, [], ◌∷◌, ◌++◌, map, length}
-use Rattle.std.proofs.Common.{take, slice_get, unwrap_or, codes, Option, None, Some, nat_eq, refl, ap, sym, ◌∙◌, subst, inl, inr}
+use Rattle.std.proofs.Common.{◌≡◌, ◌≢◌, ℕ, suc, ◌+◌, ◌-◌, ◌<◌, Bool, true, false, List, [], ◌∷◌, ◌++◌, map, length}
+use Rattle.std.proofs.Common.{take, slice_get, unwrap_or, Option, Some, nat_eq, refl, ap, sym, ◌∙◌, subst, inl, inr}
 use Rattle.std.proofs.Common.{arith, length-append}
-use Rattle.std.specs.List.{All, AllByRecursion, IsDistinct, find, range_with_len}
-use Rattle.std.specs.Option.{option_map, option_to_list}
+use Rattle.std.specs.List.{AllByRecursion, IsDistinct, find}
+use Rattle.std.specs.Option.{option_to_list}
 use Rattle.std.proofs.lemmas.Bool.{both_ways}
 use Rattle.std.proofs.lemmas.List.{get_or-append_right, length-map}
 use Rattle.std.proofs.lemmas.List.FromFn.{get_or-map-range_with_len}
@@ -12,7 +12,7 @@ use Rattle.cg_cell.specs.Cell.{CellData}
 use Rattle.cg_cell.specs.Fit.{is_fit}
 use Rattle.cg_cell.specs.declared.fit.FitKind.{FitKind}
 use Rattle.cg_machine.proofs.AddedNames.{never_nil}
-use Rattle.cg_machine.proofs.Lists.{below_or, take_get}
+use Rattle.cg_machine.proofs.Lists.{all_at, below_or, take_get}
 use Rattle.cg_machine.specs.Added.{own_netlist}
 use Rattle.cg_machine.specs.Gates.{AddedGate}
 use Rattle.cg_machine.specs.Machine.{IsMachine, MachineData, added_name, additions}
@@ -33,13 +33,13 @@ use Rattle.cg_netlist.specs.Wiring.{map_cell, map_gater, map_register}
 use Rattle.cg_parts.specs.Writable.{FunctionIsOf, IsOf, IsWritable, KindIsOf, NIL}
 use Rattle.cg_insert.proofs.GatedCells.{found_All}
 use Rattle.cg_insert.proofs.GatedForm.{gated_formed, inputs_once}
-use Rattle.cg_insert.proofs.GatedParts.{at_All, few_names, gates_are}
+use Rattle.cg_insert.proofs.GatedParts.{few_names, gates_are}
 use Rattle.cg_insert.proofs.OrderedNames.{named_at}
 use Rattle.cg_insert.specs.Insert.{CanInsert, enables_of, first_gate, fitting, gate_names, gate_outputs, gated, gater_cell}
 use Rattle.cg_insert.specs.Insert.{gating_cell, gating_kind, inserted, no_cell, placed_gate, reclocked}
 
 -- what holds of each place holds of each
-each_place : {X : Type 0} (P : X → Type 0) (xs : List X) → ((k : ℕ) (x : X) → slice_get xs k ≡ Some x → P x) → AllByRecursion P xs
+pub each_place : {X : Type 0} (P : X → Type 0) (xs : List X) → ((k : ℕ) (x : X) → slice_get xs k ≡ Some x → P x) → AllByRecursion P xs
 each_place P [] at = tt
 each_place P (x ∷ xs) at = (at 0 x refl, each_place P xs (λ k y y_at. at (suc k) y y_at))
 
@@ -62,7 +62,7 @@ module _ (library : List CellData) (test : Option (List ℕ)) (m : MachineData) 
   Of cell = FunctionIsOf library (length cell.inputs) cell.function
 
   gates_of : AllByRecursion Of (map (placed_gate library) m.gates)
-  gates_of = go m.gates (λ j gate at. found_of gate.kind (at_All (λ (gate : AddedGate). (cell : CellData) × (find (is_fit gate.kind) library ≡ Some cell)) m.gates j gate can.gates at))
+  gates_of = go m.gates (λ j gate at. found_of gate.kind (all_at (λ (gate : AddedGate). (cell : CellData) × (find (is_fit gate.kind) library ≡ Some cell)) m.gates j gate can.gates at))
     where
       go : (gs : List AddedGate) → ((j : ℕ) (gate : AddedGate) → slice_get gs j ≡ Some gate → IsOf library (fitting library gate.kind)) → AllByRecursion Of (map (placed_gate library) gs)
       go [] at = tt
@@ -88,7 +88,7 @@ module _ (library : List CellData) (test : Option (List ℕ)) (m : MachineData) 
 
   own_kind : (k : ℕ) (r : RegisterCell ℕ ℕ) → slice_get m.circuit.registers k ≡ Some r → Kind r
   own_kind k r at = elim (below_or m.own_registers k) [
-    | inl below ↦ at_All Kind (take m.own_registers m.circuit.registers) k r own.kinds (take_get m.own_registers m.circuit.registers k below ∙ at)
+    | inl below ↦ all_at Kind (take m.own_registers m.circuit.registers) k r own.kinds (take_get m.own_registers m.circuit.registers k below ∙ at)
     | inr past ↦ subst Kind (sym (good.delays k r past at).is) tt
   ]
 

@@ -16,6 +16,7 @@ use Rattle.cg_liberty.specs.Kinds.{output_texts, state_names, unusable}
 use Rattle.cg_liberty.specs.Reading.{reading, then_read}
 use Rattle.cg_liberty.specs.declared.fault.CellFault.{CellFault}
 use Rattle.cg_liberty.specs.declared.port.Port.{Port}
+use Rattle.std.proofs.Math.Bool.{and-false}
 
 -- a word is among the arguments that are names where it is a name and among the arguments
 own_any : (f : List ℕ → Bool) (text : List ℕ) (later : List (List ℕ)) (named : Bool) → list_any f (cond named (text ∷ []) [] ++ later) ≡ (named && f text || list_any f later)
@@ -32,12 +33,8 @@ one_more true false false among h = refl
 one_more false true false among h = refl
 one_more false false false among h = refl
 
-none_named : (named : Bool) → (named && false) ≡ false
-none_named true = refl
-none_named false = refl
-
 state_any : (word : List ℕ) (texts : List (List ℕ)) → (is_name word && list_any (bytes_eq word) texts) ≡ list_any (bytes_eq word) (state_names texts)
-state_any word [] = none_named (is_name word)
+state_any word [] = and-false (is_name word)
 state_any word (text ∷ texts) =
     one_more (is_name word) (is_name text) (bytes_eq word text) (list_any (bytes_eq word) texts) (λ same. ap is_name ((bytes_eq-Decides word text).0 same))
     ∙ ap (λ (later : Bool). is_name text && bytes_eq word text || later) (state_any word texts)

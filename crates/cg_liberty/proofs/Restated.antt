@@ -4,6 +4,7 @@ use Rattle.std.proofs.Common.{◌∷◌, map, refl, ap, arith}
 use Rattle.std.proofs.lemmas.Bool.Decides.{nat_tests}
 use Rattle.cg_cell.specs.Term.{Term, Bit, Input, Inverse, Both, Either, Differ, inverse_times, is_within, join_all, join_left}
 use Rattle.cg_liberty.specs.Kinds.{restated, slot}
+use Rattle.std.proofs.lemmas.Bool.{and_from}
 
 -- signs of inversion stay
 pub restated-inverse_times : (inputs clock signs : ℕ) (t : Term) → restated inputs clock (inverse_times signs t) ≡ inverse_times signs (restated inputs clock t)
@@ -57,13 +58,10 @@ right_of false b e = absurd_of e
     absurd_of : false ≡ true → b ≡ true
     absurd_of e = cc
 
-both_of : (a b : Bool) → a ≡ true → b ≡ true → (a && b) ≡ true
-both_of a b e f = rw (e, f) refl
-
 pub restated_within : (inputs clock : ℕ) (t : Term) → clock < inputs → IsTrue (is_within (inputs + 2) t) → IsTrue (is_within inputs (restated inputs clock t))
 restated_within inputs clock (Bit bit) inside range = refl
 restated_within inputs clock (Input k) inside range = slot_within inputs clock k inside range
 restated_within inputs clock (Inverse t) inside range = restated_within inputs clock t inside range
-restated_within inputs clock (Both s t) inside range = both_of (is_within inputs (restated inputs clock s)) (is_within inputs (restated inputs clock t)) (restated_within inputs clock s inside (left_of (is_within (inputs + 2) s) (is_within (inputs + 2) t) range)) (restated_within inputs clock t inside (right_of (is_within (inputs + 2) s) (is_within (inputs + 2) t) range))
-restated_within inputs clock (Either s t) inside range = both_of (is_within inputs (restated inputs clock s)) (is_within inputs (restated inputs clock t)) (restated_within inputs clock s inside (left_of (is_within (inputs + 2) s) (is_within (inputs + 2) t) range)) (restated_within inputs clock t inside (right_of (is_within (inputs + 2) s) (is_within (inputs + 2) t) range))
-restated_within inputs clock (Differ s t) inside range = both_of (is_within inputs (restated inputs clock s)) (is_within inputs (restated inputs clock t)) (restated_within inputs clock s inside (left_of (is_within (inputs + 2) s) (is_within (inputs + 2) t) range)) (restated_within inputs clock t inside (right_of (is_within (inputs + 2) s) (is_within (inputs + 2) t) range))
+restated_within inputs clock (Both s t) inside range = and_from (is_within inputs (restated inputs clock s)) (is_within inputs (restated inputs clock t)) (restated_within inputs clock s inside (left_of (is_within (inputs + 2) s) (is_within (inputs + 2) t) range)) (restated_within inputs clock t inside (right_of (is_within (inputs + 2) s) (is_within (inputs + 2) t) range))
+restated_within inputs clock (Either s t) inside range = and_from (is_within inputs (restated inputs clock s)) (is_within inputs (restated inputs clock t)) (restated_within inputs clock s inside (left_of (is_within (inputs + 2) s) (is_within (inputs + 2) t) range)) (restated_within inputs clock t inside (right_of (is_within (inputs + 2) s) (is_within (inputs + 2) t) range))
+restated_within inputs clock (Differ s t) inside range = and_from (is_within inputs (restated inputs clock s)) (is_within inputs (restated inputs clock t)) (restated_within inputs clock s inside (left_of (is_within (inputs + 2) s) (is_within (inputs + 2) t) range)) (restated_within inputs clock t inside (right_of (is_within (inputs + 2) s) (is_within (inputs + 2) t) range))

@@ -1,9 +1,10 @@
 -- Hints lead to arguments.
-use Rattle.std.proofs.Common.{◌≡◌, ℕ, Bool, true, false, List, [], ◌∷◌, ◌∙◌, refl, sym, subst}
+use Rattle.std.proofs.Common.{◌≡◌, ℕ, true, List, [], ◌∷◌, ◌∙◌, sym, subst}
 use Rattle.std.specs.List.{list_any}
 use Rattle.std.specs.Str.{bytes_eq}
 use Rattle.std.proofs.lemmas.Slice.Eq.{bytes_eq-Decides}
 use Rattle.cg_liberty_text.specs.Hint.{IsHint, begin_with, stands_at}
+use Rattle.std.specs.Cmp.{both_ways as both}
 
 -- texts begin with one text alone
 one_first : (texts : List (List ℕ)) (a b : List ℕ) → begin_with texts a ≡ true → begin_with texts b ≡ true → a ≡ b
@@ -17,11 +18,6 @@ hint_of arguments bytes place text stands among other positive seen = subst (λ 
 -- which text is compared with which does not count
 turned : (a b : List ℕ) → bytes_eq a b ≡ true → bytes_eq b a ≡ true
 turned a b h = (bytes_eq-Decides b a).1 (sym ((bytes_eq-Decides a b).0 h))
-
-both : (p q : Bool) → (p ≡ true → q ≡ true) → (q ≡ true → p ≡ true) → p ≡ q
-both true q f g = sym (f refl)
-both false true f g = g refl
-both false false f g = refl
 
 pub bytes_eq-turned : (a b : List ℕ) → bytes_eq a b ≡ bytes_eq b a
 bytes_eq-turned a b = both (bytes_eq a b) (bytes_eq b a) (turned a b) (turned b a)

@@ -1,19 +1,19 @@
 -- Stages of a list fit where each fits and no two share a register; groups of registers.
-use Rattle.std.proofs.Common.{◌≡◌, ◌≢◌, ℕ, zero, suc, ◌+◌, ◌<◌, ◌≤◌, Bool, true, false, ◌||◌, if◌then◌else◌, cond, List, [], ◌∷◌}
-use Rattle.std.proofs.Common.{map, nat_eq, option_map, option_and_then, Option, None, Some, refl, sym, ◌∙◌, ap, subst, arith, ◌⊎◌}
+use Rattle.std.proofs.Common.{◌≡◌, ◌≢◌, ℕ, zero, suc, ◌+◌, ◌<◌, ◌≤◌, Bool, true, false, if◌then◌else◌, cond, List, [], ◌∷◌}
+use Rattle.std.proofs.Common.{map, nat_eq, option_map, option_and_then, Option, None, Some, refl, sym, ◌∙◌, ap, subst, arith}
 use Rattle.std.proofs.Common.{inl, inr}
-use Rattle.std.specs.List.{IsDistinct, cons_option, filter, filter_map, find, range_with_len}
+use Rattle.std.specs.List.{cons_option, filter, filter_map, find, range_with_len}
 use Rattle.std.specs.Option.{option_map_or}
-use Rattle.std.proofs.lemmas.Bool.{both_ways, eqb-true, eq-eqb, false_from_ne_true, or_cases, or_left, or_right}
+use Rattle.std.proofs.lemmas.Bool.{both_ways, eqb-true, eq-eqb, false_from_ne_true, or_left}
 use Rattle.std.proofs.lemmas.Option.{none-some, same_Some}
 use Rattle.cg_net.specs.NetSets.{is_in}
-use Rattle.cg_net.proofs.Members.{distinct_cons, distinct_head, distinct_tail}
 use Rattle.cg_machine.specs.Machine.{MachineData}
 use Rattle.cg_machine.specs.declared.stage.Stage.{Stage}
 use Rattle.cg_stage.specs.Stages.{Fits}
 use Rattle.cg_lists.specs.Fit.{AllFit, AreApart}
 use Rattle.cg_lists.specs.Groups.{Group, group_of, has_key, is_first}
 use Rattle.cg_lists.proofs.Among.{Among, among_cons, among_none, later}
+use Rattle.cg_netlist.proofs.Filtered.{in_filter}
 
 -- items of which none is one behind it
 abbrev pub Differ : {X : Type 0} → List X → Type 0
@@ -67,47 +67,6 @@ pub range_differs : (n a : ℕ) → Differ (range_with_len a n)
 range_differs zero a = tt
 range_differs (suc n) a = ((λ y h same. let b = range_above n (a + 1) y h in omega (arith, b.0, same)), range_differs n (a + 1))
 
-pub filter_in : (test : ℕ → Bool) (xs : List ℕ) (y : ℕ) → is_in (filter test xs) y ≡ true → (is_in xs y ≡ true) × (test y ≡ true)
-filter_in test [] y among = absurd (both_ways false refl among)
-filter_in test (x ∷ xs) y among = go (filter_in test xs y) (test x) refl among
-  where
-    go : (is_in (filter test xs) y ≡ true → (is_in xs y ≡ true) × (test y ≡ true)) → (b : Bool) → test x ≡ b → is_in (cond b (x ∷ filter test xs) (filter test xs)) y ≡ true → ((nat_eq y x || is_in xs y) ≡ true) × (test y ≡ true)
-    go rest true is h = elim (or_cases (nat_eq y x) (is_in (filter test xs) y) h) [
-      | inl same ↦ (or_left (nat_eq y x) (is_in xs y) same, ap test (eqb-true y x same) ∙ is)
-      | inr more ↦ (or_right (nat_eq y x) (is_in xs y) (rest more).0, (rest more).1)
-    ]
-    go rest false is h = (or_right (nat_eq y x) (is_in xs y) (rest h).0, (rest h).1)
-
-pub in_filtered : (test : ℕ → Bool) (xs : List ℕ) (y : ℕ) → is_in xs y ≡ true → test y ≡ true → is_in (filter test xs) y ≡ true
-in_filtered test [] y among passes = absurd (both_ways false refl among)
-in_filtered test (x ∷ xs) y among passes = go (λ h. in_filtered test xs y h passes) (test x) refl (or_cases (nat_eq y x) (is_in xs y) among)
-  where
-    go : (is_in xs y ≡ true → is_in (filter test xs) y ≡ true) → (b : Bool) → test x ≡ b → (nat_eq y x ≡ true) ⊎ (is_in xs y ≡ true) → is_in (cond b (x ∷ filter test xs) (filter test xs)) y ≡ true
-    go rest true is (inl same) = or_left (nat_eq y x) (is_in (filter test xs) y) same
-    go rest true is (inr more) = or_right (nat_eq y x) (is_in (filter test xs) y) (rest more)
-    go rest false is (inl same) = absurd (both_ways (test x) is (ap test (sym (eqb-true y x same)) ∙ passes))
-    go rest false is (inr more) = rest more
-
-pub filter_distinct : (test : ℕ → Bool) (xs : List ℕ) → IsDistinct nat_eq xs → IsDistinct nat_eq (filter test xs)
-filter_distinct test [] distinct = distinct
-filter_distinct test (x ∷ xs) distinct = go (test x) (filter_distinct test xs (distinct_tail x xs distinct))
-  where
-    go : (b : Bool) → IsDistinct nat_eq (filter test xs) → IsDistinct nat_eq (cond b (x ∷ filter test xs) (filter test xs))
-    go true rest = distinct_cons x (filter test xs) (false_from_ne_true (is_in (filter test xs) x) (λ among. both_ways (is_in xs x) (distinct_head x xs distinct) (filter_in test xs x among).0)) rest
-    go false rest = rest
-
-pub range_in : (n a x : ℕ) → is_in (range_with_len a n) x ≡ true → (a ≤ x) × (x < a + n)
-range_in zero a x among = absurd (both_ways false refl among)
-range_in (suc n) a x among = elim (or_cases (nat_eq x a) (is_in (range_with_len (a + 1) n) x) among) [
-  | inl same ↦ let e = eqb-true x a same in (omega (arith, e), omega (arith, e))
-  | inr more ↦ let b = range_in n (a + 1) x more in (omega (arith, b.0), omega (arith, b.1))
-]
-
-pub range_distinct : (n a : ℕ) → IsDistinct nat_eq (range_with_len a n)
-unfolding IsDistinct
-range_distinct zero a = tt
-range_distinct (suc n) a = distinct_cons a (range_with_len (a + 1) n) (false_from_ne_true (is_in (range_with_len (a + 1) n) a) (λ among. let b = range_in n (a + 1) a among in omega (arith, b.0))) (range_distinct n (a + 1))
-
 -- groups
 module _ {K : Type 0} (same : K → K → Bool) (same_is : (a b : K) → same a b ≡ true → a ≡ b) (key : ℕ → Option K) (regs : List ℕ) where
   -- the group that begins with a register
@@ -143,8 +102,8 @@ module _ {K : Type 0} (same : K → K → Bool) (same_is : (a b : K) → same a 
 
   pub groups_apart : (a b : ℕ) (g h : Group K) → a ≢ b → BeginsGroup a g → BeginsGroup b h → (r : ℕ) → is_in h.regs r ≡ true → is_in g.regs r ≡ false
   groups_apart a b g h other ga gb r among = false_from_ne_true (is_in g.regs r) (λ there.
-      let ka = key_in g.key r (filter_in (has_key same key g.key) regs r (ap (λ l. is_in l r) (sym ga.are) ∙ there)).1 in
-      let kb = key_in h.key r (filter_in (has_key same key h.key) regs r (ap (λ l. is_in l r) (sym gb.are) ∙ among)).1 in
+      let ka = key_in g.key r (in_filter (has_key same key g.key) regs r (ap (λ l. is_in l r) (sym ga.are) ∙ there)).1 in
+      let kb = key_in h.key r (in_filter (has_key same key h.key) regs r (ap (λ l. is_in l r) (sym gb.are) ∙ among)).1 in
       let e : g.key ≡ h.key = same_Some g.key h.key (sym ka ∙ kb) in
       other (first_is (find (has_key same key g.key) regs) a b ga.first (ap (λ k. is_first (find (has_key same key k) regs) b) e ∙ gb.first)))
 
@@ -169,5 +128,5 @@ module _ {K : Type 0} (same : K → K → Bool) (same_is : (a b : K) → same a 
 
   pub member_key : (r : ℕ) (g : Group K) → BeginsGroup r g → (q : ℕ) → is_in g.regs q ≡ true → (is_in regs q ≡ true) × (key q ≡ Some g.key)
   member_key r g b q among =
-      let p = filter_in (has_key same key g.key) regs q (ap (λ l. is_in l q) (sym b.are) ∙ among) in
+      let p = in_filter (has_key same key g.key) regs q (ap (λ l. is_in l q) (sym b.are) ∙ among) in
       (p.0, key_in g.key q p.1)

@@ -17,8 +17,10 @@ use Rattle.cg_lists.specs.Literals.{IdleData, both_literals, by_count, idle_coun
 use Rattle.cg_lists.specs.Literals.{same_literal}
 use Rattle.cg_lists.specs.Supports.{all_nets, free_registers, in_net_order, input_cone, own_registers_of}
 use Rattle.cg_lists.proofs.Among.{Among, among_cons, among_none, later}
-use Rattle.cg_lists.proofs.FitLists.{Differ, all_fit, filter_distinct, filter_in, range_distinct, range_in}
+use Rattle.cg_lists.proofs.FitLists.{Differ, all_fit}
 use Rattle.cg_lists.proofs.UsedNets.{cone_used, inputs_used, used_net}
+use Rattle.cg_netlist.proofs.Driven.{distinct_filter, distinct_range, in_range}
+use Rattle.cg_netlist.proofs.Filtered.{in_filter}
 
 bool_is : (a b : Bool) → same_bool a b ≡ true → a ≡ b
 bool_is true true h = refl
@@ -50,9 +52,9 @@ module _ (m : MachineData) (good : IsMachine m) where
   both_differ (suc n) a = (
     (λ l h same. elim (among_cons l (a, true) (both_literals (range_with_len (a + 1) n)) h) [
       | inl e ↦ bits (ap (λ (k : Literal). k.1) (same ∙ sym e))
-      | inr more ↦ let b = range_in n (a + 1) l.0 (both_among (range_with_len (a + 1) n) l more) in let z = ap (λ (k : Literal). k.0) same in omega (arith, b.0, z)
+      | inr more ↦ let b = in_range n (a + 1) l.0 (both_among (range_with_len (a + 1) n) l more) in let z = ap (λ (k : Literal). k.0) same in omega (arith, b.0, z)
     ]),
-    ((λ l h same. let b = range_in n (a + 1) l.0 (both_among (range_with_len (a + 1) n) l h) in let z = ap (λ (k : Literal). k.0) same in omega (arith, b.0, z)), both_differ n (a + 1)),
+    ((λ l h same. let b = in_range n (a + 1) l.0 (both_among (range_with_len (a + 1) n) l h) in let z = ap (λ (k : Literal). k.0) same in omega (arith, b.0, z)), both_differ n (a + 1)),
   )
     where
       bits : false ≡ true → ⊥
@@ -92,7 +94,7 @@ module _ (m : MachineData) (good : IsMachine m) where
       go true h = absurd (none-some l h)
       go false h =
           let among = both_among (in_net_order m (input_cone m r)) l (sorted_among idle (both_literals (in_net_order m (input_cone m r))) l (found_among (serves m r) (literals_of m idle r) l h)) in
-          let cone = (filter_in (is_in (input_cone m r)) (all_nets m) l.0 among).1 in
+          let cone = (in_filter (is_in (input_cone m r)) (all_nets m) l.0 among).1 in
           (used_net m good) l.0 ((cone_used m good) (walk_of m) good.walk.of_cells (inputs_of_register m r) ((inputs_used m good) r) l.0 cone)
 
   module _ (idle : Option IdleData) (width : ℕ) where
@@ -139,13 +141,13 @@ module _ (m : MachineData) (good : IsMachine m) where
 
     among_free : (l : Literal) (s : Stage) → HoldAt l s → (r : ℕ) → is_in s.regs r ≡ true → (is_in (free_registers m) r ≡ true) × (chosen m idle width r ≡ Some l)
     among_free l s at r among =
-        let p = filter_in (chose l) (free_registers m) r (ap (λ q. is_in q r) (sym at.regs) ∙ among) in
+        let p = in_filter (chose l) (free_registers m) r (ap (λ q. is_in q r) (sym at.regs) ∙ among) in
         (p.0, chose_is l r p.1)
 
     free_is : (r : ℕ) → is_in (free_registers m) r ≡ true → (r < m.own_registers) × (enable_of m r ≡ None)
     free_is r among =
-        let p = filter_in (λ q. is_none (enable_of m q)) (own_registers_of m) r among in
-        let b = range_in m.own_registers 0 r p.0 in
+        let p = in_filter (λ q. is_none (enable_of m q)) (own_registers_of m) r among in
+        let b = in_range m.own_registers 0 r p.0 in
         (omega (arith, b.1), none_is (enable_of m r) p.1)
       where
         none_is : (o : Option ℕ) → is_none o ≡ true → o ≡ None
@@ -164,7 +166,7 @@ module _ (m : MachineData) (good : IsMachine m) where
         let free : (r : ℕ) → is_in s.regs r ≡ true → (r < m.own_registers) × (enable_of m r ≡ None) = λ r among. free_is r (among_free l s at r among).0 in
         subst (Fits m) (sym at.is) (record {
           registers = λ r among. (free r among).0;
-          distinct = subst (IsDistinct nat_eq) (sym at.regs) (filter_distinct (chose l) (free_registers m) (filter_distinct (λ q. is_none (enable_of m q)) (own_registers_of m) (range_distinct m.own_registers 0)));
+          distinct = subst (IsDistinct nat_eq) (sym at.regs) (distinct_filter (chose l) (free_registers m) (distinct_filter (λ q. is_none (enable_of m q)) (own_registers_of m) (distinct_range m.own_registers 0)));
           some = at.some;
           enabled = omega arith;
           nets = λ y among. elim (or_cases (nat_eq y l.0) false among) [ inl same ↦ subst (IsNet m) (sym (eqb-true y l.0 same)) net | inr none ↦ absurd (both_ways false refl none) ];

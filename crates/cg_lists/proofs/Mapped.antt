@@ -1,8 +1,8 @@
 -- What is mapped of the items of a list, and nets as plain literals.
-use Rattle.std.proofs.Common.{◌≡◌, ℕ, zero, suc, ◌+◌, ◌<◌, ◌≤◌, Bool, true, false, not, if◌then◌else◌, List, [], ◌∷◌, map, length}
-use Rattle.std.proofs.Common.{nat_eq, is_some, option_map, option_and_then, Option, None, Some, refl, sym, ◌∙◌, ap, subst, arith}
+use Rattle.std.proofs.Common.{◌≡◌, ℕ, zero, suc, ◌+◌, ◌<◌, ◌≤◌, Bool, true, false, if◌then◌else◌, List, [], ◌∷◌, map, length}
+use Rattle.std.proofs.Common.{nat_eq, is_some, option_and_then, Option, None, Some, refl, ◌∙◌, ap, arith}
 use Rattle.std.proofs.Common.{◌⊎◌, inl, inr}
-use Rattle.std.specs.List.{cons_option, filter_map, list_all, range_with_len}
+use Rattle.std.specs.List.{list_all, range_with_len}
 use Rattle.std.proofs.lemmas.Bool.{and_parts, both_ways, cases_Bool, eqb-true, eq-eqb, or_cases, or_left, or_right}
 use Rattle.std.proofs.lemmas.Option.{none-some, same_Some}
 use Rattle.cg_net.specs.NetSets.{is_in}
@@ -14,7 +14,7 @@ use Rattle.cg_machine.specs.declared.stage.StageKind.{StageKind}
 use Rattle.cg_stage.specs.Stages.{has_inverted}
 use Rattle.cg_lists.specs.Rounds.{is_empty, kept_key, left_out, plain_literals}
 use Rattle.cg_lists.specs.Supports.{all_nets, in_net_order}
-use Rattle.cg_lists.proofs.FitLists.{in_filtered}
+use Rattle.cg_netlist.proofs.Filtered.{to_filter}
 
 -- plain literals of nets
 pub plain_nets : (nets : List ℕ) → map (λ (l : Literal). l.0) (plain_literals nets) ≡ nets
@@ -32,33 +32,6 @@ some_length (y ∷ xs) x among = omega arith
 pub nonempty_member : (xs : List ℕ) → is_empty xs ≡ false → (x : ℕ) × (is_in xs x ≡ true)
 nonempty_member [] h = absurd (both_ways true h refl)
 nonempty_member (x ∷ xs) h = (x, or_left (nat_eq x x) (is_in xs x) (eq-eqb x x refl))
-
--- what is mapped of members
-pub mapped_in : (g : ℕ → Option ℕ) (xs : List ℕ) (x y : ℕ) → is_in xs x ≡ true → g x ≡ Some y → is_in (filter_map g xs) y ≡ true
-mapped_in g [] x y among is = absurd (both_ways false refl among)
-mapped_in g (z ∷ xs) x y among is = elim (or_cases (nat_eq x z) (is_in xs x) among) [
-  | inl same ↦ subst (λ o. is_in (cons_option o (filter_map g xs)) y ≡ true) (sym (ap g (sym (eqb-true x z same)) ∙ is)) (or_left (nat_eq y y) (is_in (filter_map g xs) y) (eq-eqb y y refl))
-  | inr more ↦ behind (g z) (mapped_in g xs x y more is)
-]
-  where
-    behind : (o : Option ℕ) → is_in (filter_map g xs) y ≡ true → is_in (cons_option o (filter_map g xs)) y ≡ true
-    behind None h = h
-    behind (Some w) h = or_right (nat_eq y w) (is_in (filter_map g xs) y) h
-
-pub mapped_from : (g : ℕ → Option ℕ) (xs : List ℕ) (y : ℕ) → is_in (filter_map g xs) y ≡ true → (x : ℕ) × (is_in xs x ≡ true) × (g x ≡ Some y)
-mapped_from g [] y among = absurd (both_ways false refl among)
-mapped_from g (z ∷ xs) y among = go (g z) refl (mapped_from g xs y) among
-  where
-    go : (o : Option ℕ) → g z ≡ o → (is_in (filter_map g xs) y ≡ true → (x : ℕ) × (is_in xs x ≡ true) × (g x ≡ Some y)) → is_in (cons_option o (filter_map g xs)) y ≡ true → (x : ℕ) × (is_in (z ∷ xs) x ≡ true) × (g x ≡ Some y)
-    go None at rest h = let r = rest h in (r.0, or_right (nat_eq r.0 z) (is_in xs r.0) r.1, r.2)
-    go (Some w) at rest h = elim (or_cases (nat_eq y w) (is_in (filter_map g xs) y) h) [
-      | inl same ↦ (z, or_left (nat_eq z z) (is_in xs z) (eq-eqb z z refl), at ∙ ap Some (sym (eqb-true y w same)))
-      | inr more ↦ let r = rest more in (r.0, or_right (nat_eq r.0 z) (is_in xs r.0) r.1, r.2)
-    ]
-
-pub mapped_option : {X Y : Type 0} (f : X → Y) (o : Option X) (y : Y) → option_map f o ≡ Some y → (x : X) × (o ≡ Some x) × (f x ≡ y)
-mapped_option f None y is = absurd (none-some y is)
-mapped_option f (Some x) y is = (x, refl, same_Some (f x) y is)
 
 pub then_option : {X Y : Type 0} (f : X → Option Y) (o : Option X) (y : Y) → option_and_then f o ≡ Some y → (x : X) × (o ≡ Some x) × (f x ≡ Some y)
 then_option f None y is = absurd (none-some y is)
@@ -87,10 +60,6 @@ pub is_some_of : (o : Option ℕ) → is_some o ≡ true → (x : ℕ) × (o ≡
 is_some_of None h = absurd (both_ways false refl h)
 is_some_of (Some x) h = (x, refl)
 
-pub not_true : (b : Bool) → not b ≡ true → b ≡ false
-not_true true h = sym h
-not_true false h = refl
-
 pub length_plain : (nets : List ℕ) → length (plain_literals nets) ≡ length nets
 length_plain [] = refl
 length_plain (y ∷ nets) = ap suc (length_plain nets)
@@ -102,7 +71,7 @@ none_option (Some x) h = absurd (both_ways true h refl)
 module _ (m : MachineData) where
   -- some net is there, and each is a net
   pub ordered_some : (nets : List ℕ) (y : ℕ) → is_in nets y ≡ true → y < length m.circuit.names → is_in (in_net_order m nets) y ≡ true
-  ordered_some nets y among below = in_filtered (is_in nets) (all_nets m) y (range_there (length m.circuit.names) 0 y (omega arith) (omega arith)) among
+  ordered_some nets y among below = to_filter (is_in nets) (all_nets m) y (range_there (length m.circuit.names) 0 y (omega arith) (omega arith)) among
     where
       range_there : (n a x : ℕ) → a ≤ x → x < a + n → is_in (range_with_len a n) x ≡ true
       range_there zero a x low high = absurd (omega arith)

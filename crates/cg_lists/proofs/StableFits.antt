@@ -2,7 +2,7 @@
 use Rattle.std.proofs.Common.{◌≡◌, ◌≢◌, ℕ, ◌<◌, true, false, not, ◌&&◌, List, length, nat_eq, bytes_eq, option_map, option_and_then}
 use Rattle.std.proofs.Common.{Option, None, Some, refl, sym, ◌∙◌, ap, subst, arith}
 use Rattle.std.specs.List.{IsDistinct, filter_map, list_all}
-use Rattle.std.proofs.lemmas.Bool.{and_parts, both_ways, eqb-true}
+use Rattle.std.proofs.lemmas.Bool.{and_parts, both_ways, eqb-true, not-true}
 use Rattle.std.proofs.lemmas.Slice.Eq.{bytes_eq-Decides}
 use Rattle.cg_net.specs.NetSets.{is_in}
 use Rattle.cg_machine.specs.Machine.{IsMachine, IsNet, MachineData, enable_of}
@@ -15,10 +15,15 @@ use Rattle.cg_lists.specs.Groups.{Group, group_of, has_key}
 use Rattle.cg_lists.specs.Rounds.{is_empty, kept_key, same_option}
 use Rattle.cg_lists.specs.StableList.{StableKey, had_stable, same_stable, stable_key, stable_list, stable_stage}
 use Rattle.cg_lists.specs.Supports.{all_nets, has_enable, has_input, in_net_order, others_of, own_registers_of}
-use Rattle.cg_lists.proofs.FitLists.{BeginsGroup, all_fit, begins_group, filter_distinct, filter_in, group_has, groups_apart}
-use Rattle.cg_lists.proofs.FitLists.{map_maps, member_key, range_differs, range_distinct, range_in}
-use Rattle.cg_lists.proofs.Mapped.{all_member, is_some_of, kept, length_plain, mapped_from, mapped_in, mapped_option}
-use Rattle.cg_lists.proofs.Mapped.{nonempty_member, not_true, ordered_some, plain_nets, plain_plain, some_length, when_true}
+use Rattle.cg_lists.proofs.FitLists.{BeginsGroup, all_fit, begins_group, group_has, groups_apart}
+use Rattle.cg_lists.proofs.FitLists.{map_maps, member_key, range_differs}
+use Rattle.cg_lists.proofs.Mapped.{all_member, is_some_of, kept, length_plain}
+use Rattle.cg_lists.proofs.Mapped.{nonempty_member, ordered_some, plain_nets, plain_plain, some_length, when_true}
+use Rattle.cg_netlist.proofs.Driven.{distinct_filter, distinct_range, in_range}
+use Rattle.cg_netlist.proofs.Filtered.{in_filter}
+use Rattle.cg_netlist.proofs.Rising.{in_made}
+use Rattle.cg_netlist.proofs.WalkOrder.{in_driving}
+use Rattle.cg_net.proofs.PlaceLemmas.{mapped_at}
 
 module _ (m : MachineData) (good : IsMachine m) where
   option_is : (a b : Option ℕ) → same_option a b ≡ true → a ≡ b
@@ -46,7 +51,7 @@ module _ (m : MachineData) (good : IsMachine m) where
       let w = when_true (not (has_input m q) && not (is_empty (others_of m q)) && list_all (has_enable m) (others_of m q)) (record { enables = in_net_order m (filter_map (enable_of m) (others_of m q)); own = enable_of m q }) k is in
       let p = and_parts (not (has_input m q) && not (is_empty (others_of m q))) (list_all (has_enable m) (others_of m q)) w.0 in
       let i = and_parts (not (has_input m q)) (not (is_empty (others_of m q))) p.0 in
-      record { some = not_true (is_empty (others_of m q)) i.1; each = p.1; enables = ap (λ (j : StableKey). j.enables) w.1; own = ap (λ (j : StableKey). j.own) w.1 }
+      record { some = not-true (is_empty (others_of m q)) i.1; each = p.1; enables = ap (λ (j : StableKey). j.enables) w.1; own = ap (λ (j : StableKey). j.own) w.1 }
 
   module _ (earlier : List Earlier) where
     abbrev skey : ℕ → Option StableKey
@@ -62,7 +67,7 @@ module _ (m : MachineData) (good : IsMachine m) where
 
     stable_stage_at : (r : ℕ) (s : Stage) → SF r ≡ Some s → StableStageAt r s
     stable_stage_at r s h =
-        let g = mapped_option stable_stage (option_and_then (group_of same_stable skey (own_registers_of m) r) (skey r)) s h in
+        let g = mapped_at stable_stage (option_and_then (group_of same_stable skey (own_registers_of m) r) (skey r)) s h in
         record { group = g.0; begins = begins_group same_stable stable_is skey (own_registers_of m) r g.0 g.1; is = g.2 }
 
     stable_fit : (r : ℕ) (s : Stage) → SF r ≡ Some s → Fits m s
@@ -74,16 +79,16 @@ module _ (m : MachineData) (good : IsMachine m) where
         let has : is_in g.regs r ≡ true = group_has same_stable stable_is skey (own_registers_of m) r g at.begins in
         let own : StableAt r g.key = facts r has in
         let enables_at : (y : ℕ) → is_in g.key.enables y ≡ true → IsNet m y = λ y among.
-        let p = filter_in (is_in (filter_map (enable_of m) (others_of m r))) (all_nets m) y (ap (λ l. is_in l y) own.enables ∙ among) in
-        let k = mapped_from (enable_of m) (others_of m r) y p.1 in
+        let p = in_filter (is_in (filter_map (enable_of m) (others_of m r))) (all_nets m) y (ap (λ l. is_in l y) own.enables ∙ among) in
+        let k = in_made (enable_of m) (others_of m r) y p.1 in
         good.enabled k.0 y k.2 in
         let first = nonempty_member (others_of m r) own.some in
         let e = is_some_of (enable_of m first.0) (all_member (has_enable m) (others_of m r) first.0 own.each first.1) in
-        let there : is_in g.key.enables e.0 ≡ true = ap (λ l. is_in l e.0) (sym own.enables) ∙ (ordered_some m) (filter_map (enable_of m) (others_of m r)) e.0 (mapped_in (enable_of m) (others_of m r) first.0 e.0 first.1 e.1) (good.enabled first.0 e.0 e.1).below in
+        let there : is_in g.key.enables e.0 ≡ true = ap (λ l. is_in l e.0) (sym own.enables) ∙ (ordered_some m) (filter_map (enable_of m) (others_of m r)) e.0 (in_driving (enable_of m) (others_of m r) first.0 e.0 first.1 e.1) (good.enabled first.0 e.0 e.1).below in
         let many : 0 < length g.key.enables = some_length g.key.enables e.0 there in
         subst (Fits m) at.is (record {
-          registers = λ q among. let b = range_in m.own_registers 0 q (member q among).0 in omega (arith, b.1);
-          distinct = subst (IsDistinct nat_eq) (sym at.begins.are) (filter_distinct (has_key same_stable skey g.key) (own_registers_of m) (range_distinct m.own_registers 0));
+          registers = λ q among. let b = in_range m.own_registers 0 q (member q among).0 in omega (arith, b.1);
+          distinct = subst (IsDistinct nat_eq) (sym at.begins.are) (distinct_filter (has_key same_stable skey g.key) (own_registers_of m) (distinct_range m.own_registers 0));
           some = some_length g.regs r has;
           enabled = omega (arith, many, length_plain g.key.enables);
           nets = λ y among. enables_at y (ap (λ l. is_in l y) (sym (plain_nets g.key.enables)) ∙ among);

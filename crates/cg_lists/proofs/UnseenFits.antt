@@ -2,7 +2,7 @@
 use Rattle.std.proofs.Common.{◌≡◌, ◌≢◌, ℕ, ◌<◌, Bool, true, false, not, ◌&&◌, List, [], ◌∷◌, length, slice_get, nat_eq, bytes_eq}
 use Rattle.std.proofs.Common.{is_some, option_and_then, Option, None, Some, refl, sym, ◌∙◌, ap, subst, arith}
 use Rattle.std.specs.List.{IsDistinct, filter_map}
-use Rattle.std.proofs.lemmas.Bool.{and_parts, both_ways, eq-eqb, false_from_ne_true}
+use Rattle.std.proofs.lemmas.Bool.{and_parts, both_ways, eq-eqb, false_from_ne_true, not-true}
 use Rattle.std.proofs.lemmas.Option.{none-some, same_Some}
 use Rattle.std.proofs.lemmas.Slice.Eq.{bytes_eq-Decides}
 use Rattle.cg_cell.specs.Term.{lone_input}
@@ -22,11 +22,15 @@ use Rattle.cg_lists.specs.Rounds.{is_empty, kept_key}
 use Rattle.cg_lists.specs.Supports.{all_nets, has_enable, in_net_order, own_registers_of}
 use Rattle.cg_lists.specs.UnseenList.{enables_some, fan_out, guards_kept, guards_of, had_unseen, is_guard, taken_at, taken_net}
 use Rattle.cg_lists.specs.UnseenList.{unseen_groups, unseen_key, unseen_list, unseen_stage, without_guards}
-use Rattle.cg_lists.proofs.FitLists.{BeginsGroup, all_fit, begins_group, filter_distinct, filter_in, group_has, groups_apart}
-use Rattle.cg_lists.proofs.FitLists.{maps_maps, member_key, range_differs, range_distinct, range_in}
+use Rattle.cg_lists.proofs.FitLists.{BeginsGroup, all_fit, begins_group, group_has, groups_apart}
+use Rattle.cg_lists.proofs.FitLists.{maps_maps, member_key, range_differs}
 use Rattle.cg_lists.proofs.UsedNets.{register_used, used_net}
-use Rattle.cg_lists.proofs.Mapped.{is_some_of, kept, length_plain, mapped_from, mapped_in, none_option, nonempty_member, not_true}
+use Rattle.cg_lists.proofs.Mapped.{is_some_of, kept, length_plain, none_option, nonempty_member}
 use Rattle.cg_lists.proofs.Mapped.{ordered_some, plain_nets, plain_plain, some_length, then_option, when_true}
+use Rattle.cg_netlist.proofs.Driven.{distinct_filter, distinct_range, in_range}
+use Rattle.cg_netlist.proofs.Filtered.{in_filter}
+use Rattle.cg_netlist.proofs.Rising.{in_made}
+use Rattle.cg_netlist.proofs.WalkOrder.{in_driving}
 
 module _ (m : MachineData) (good : IsMachine m) where
   module _ (earlier : List Earlier) where
@@ -45,7 +49,7 @@ module _ (m : MachineData) (good : IsMachine m) where
     unseen_at q k is =
         let w = when_true (not (has_enable m q) && not (is_empty (guards_of m q))) (guards_of m q) k is in
         let p = and_parts (not (has_enable m q)) (not (is_empty (guards_of m q))) w.0 in
-        record { free = none_option (enable_of m q) (not_true (has_enable m q) p.0); some = ap is_empty (sym w.1) ∙ not_true (is_empty (guards_of m q)) p.1; guards = w.1 }
+        record { free = none_option (enable_of m q) (not-true (has_enable m q) p.0); some = ap is_empty (sym w.1) ∙ not-true (is_empty (guards_of m q)) p.1; guards = w.1 }
 
     module _ (test : Bool) where
       abbrev all : List (Group (List ℕ))
@@ -67,11 +71,11 @@ module _ (m : MachineData) (good : IsMachine m) where
         is : unseen_stage m group.key regs ≡ s
 
       within_guards : (b : Bool) (xs : List ℕ) (q : ℕ) → is_in (without_guards b all earlier xs) q ≡ true → is_in xs q ≡ true
-      within_guards true xs q h = (filter_in (λ r. not (is_in (guards_kept all earlier) r)) xs q h).0
+      within_guards true xs q h = (in_filter (λ r. not (is_in (guards_kept all earlier) r)) xs q h).0
       within_guards false xs q h = h
 
       once_guards : (b : Bool) (xs : List ℕ) → IsDistinct nat_eq xs → IsDistinct nat_eq (without_guards b all earlier xs)
-      once_guards true xs h = filter_distinct (λ r. not (is_in (guards_kept all earlier) r)) xs h
+      once_guards true xs h = distinct_filter (λ r. not (is_in (guards_kept all earlier) r)) xs h
       once_guards false xs h = h
 
       unseen_stage_at : (r : ℕ) (s : Stage) → UF r ≡ Some s → UnseenStageAt r s
@@ -99,32 +103,32 @@ module _ (m : MachineData) (good : IsMachine m) where
           let has : is_in g.regs r ≡ true = group_has bytes_eq lists_are ukey (own_registers_of m) r g at.begins in
           let own : UnseenAt r g.key = facts r has in
           let guard_of : (z : ℕ) → UnseenAt z g.key → (q : ℕ) → is_in g.key q ≡ true → (is_in (own_registers_of m) q ≡ true) × (is_guard m z (fan_out m z) q ≡ true) = λ z (u : UnseenAt z g.key) q among.
-          filter_in (is_guard m z (fan_out m z)) (own_registers_of m) q (ap (λ l. is_in l q) u.guards ∙ among) in
+          in_filter (is_guard m z (fan_out m z)) (own_registers_of m) q (ap (λ l. is_in l q) u.guards ∙ among) in
           let guard_parts : (q : ℕ) → is_in g.key q ≡ true → is_some (taken_at m q) ≡ true = λ q among.
           let p = and_parts (not (nat_eq q r) && not (has_enable m q) && is_some (taken_at m q)) (enables_some m (fan_out m r) q) (guard_of r own q among).1 in
           (and_parts (not (nat_eq q r) && not (has_enable m q)) (is_some (taken_at m q)) p.0).1 in
           let first = nonempty_member g.key own.some in
           let y = is_some_of (taken_at m first.0) (guard_parts first.0 first.1) in
           let nets : List ℕ = in_net_order m (filter_map (taken_at m) g.key) in
-          let there : is_in nets y.0 ≡ true = (ordered_some m) (filter_map (taken_at m) g.key) y.0 (mapped_in (taken_at m) g.key first.0 y.0 first.1 y.1) ((used_net m good) y.0 (taken_used first.0 y.0 y.1)).below in
+          let there : is_in nets y.0 ≡ true = (ordered_some m) (filter_map (taken_at m) g.key) y.0 (in_driving (taken_at m) g.key first.0 y.0 first.1 y.1) ((used_net m good) y.0 (taken_used first.0 y.0 y.1)).below in
           let many : 0 < length nets = some_length nets y.0 there in
           subst (Fits m) at.is (record {
-            registers = λ q among. let b = range_in m.own_registers 0 q (member q (at.within q among)).0 in omega (arith, b.1);
-            distinct = at.once (subst (IsDistinct nat_eq) (sym at.begins.are) (filter_distinct (has_key bytes_eq ukey g.key) (own_registers_of m) (range_distinct m.own_registers 0)));
+            registers = λ q among. let b = in_range m.own_registers 0 q (member q (at.within q among)).0 in omega (arith, b.1);
+            distinct = at.once (subst (IsDistinct nat_eq) (sym at.begins.are) (distinct_filter (has_key bytes_eq ukey g.key) (own_registers_of m) (distinct_range m.own_registers 0)));
             some = at.some;
             enabled = omega (arith, many, length_plain nets);
             nets = λ z among.
-                let p = filter_in (is_in (filter_map (taken_at m) g.key)) (all_nets m) z (ap (λ l. is_in l z) (sym (plain_nets nets)) ∙ among) in
-                let k = mapped_from (taken_at m) g.key z p.1 in
+                let p = in_filter (is_in (filter_map (taken_at m) g.key)) (all_nets m) z (ap (λ l. is_in l z) (sym (plain_nets nets)) ∙ among) in
+                let k = in_made (taken_at m) g.key z p.1 in
                 (used_net m good) z (taken_used k.0 z k.2);
             own = λ q among. (facts q (at.within q among)).free;
-            guards = λ q among. let b = range_in m.own_registers 0 q (guard_of r own q among).0 in omega (arith, b.1, good.own_registers);
+            guards = λ q among. let b = in_range m.own_registers 0 q (guard_of r own q among).0 in omega (arith, b.1, good.own_registers);
             apart = λ q among. false_from_ne_true (is_in at.regs q) (λ inside.
                 let w = (guard_of q (facts q (at.within q inside)) q among).1 in
                 let p = and_parts (not (nat_eq q q) && not (has_enable m q) && is_some (taken_at m q)) (enables_some m (fan_out m q) q) w in
                 let i = and_parts (not (nat_eq q q) && not (has_enable m q)) (is_some (taken_at m q)) p.0 in
                 let j = and_parts (not (nat_eq q q)) (not (has_enable m q)) i.0 in
-                both_ways (nat_eq q q) (not_true (nat_eq q q) j.0) (eq-eqb q q refl));
+                both_ways (nat_eq q q) (not-true (nat_eq q q) j.0) (eq-eqb q q refl));
             kind = (plain_plain nets, refl);
           })
 

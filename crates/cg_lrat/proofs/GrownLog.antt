@@ -129,11 +129,11 @@ addition_leads clauses clause hints id e =
     let long : id ≡ length (clauses ++ clause.lits ∷ []) = omega (arith, e, length-append clauses (clause.lits ∷ [])) in
     ap (λ l. make l id) live ∙ ap (λ n. make (live_of (clauses ++ clause.lits ∷ [])) n) long
 
-all_pushed : {X : Type 0} (P : X → Type 0) (xs : List X) (x : X) → AllByRecursion P xs → P x → AllByRecursion P (xs ++ x ∷ [])
+pub all_pushed : {X : Type 0} (P : X → Type 0) (xs : List X) (x : X) → AllByRecursion P xs → P x → AllByRecursion P (xs ++ x ∷ [])
 all_pushed P [] x all p = (p, tt)
 all_pushed P (y ∷ ys) x all p = (all.0, all_pushed P ys x all.1 p)
 
-all_lits : (P : Lit → Type 0) (lits : List Lit) → ((lit : Lit) → is_in lit lits ≡ true → P lit) → AllByRecursion P lits
+pub all_lits : (P : Lit → Type 0) (lits : List Lit) → ((lit : Lit) → is_in lit lits ≡ true → P lit) → AllByRecursion P lits
 all_lits P [] each = tt
 all_lits P (l ∷ ls) each = (each l (here l ls), all_lits P ls (λ lit e. each lit (or_right (same_lit lit l) e)))
 
@@ -142,7 +142,7 @@ all_ids count [] small all = tt
 all_ids count (h ∷ hs) small all =
     let low = all.0.0 in let high = all.0.1 in (record { from_one = omega arith; within = omega arith }, all_ids count hs small all.1)
 
-clause_hints : (live : Live) (lits : List Lit) (hints : List ℕ) → clause_fault live lits hints ≡ None
+pub clause_hints : (live : Live) (lits : List Lit) (hints : List ℕ) → clause_fault live lits hints ≡ None
     → hints_fault live (map inverse lits) hints ≡ None
 clause_hints live lits hints e = pick (is_tautology lits) refl where
   pick : (b : Bool) → is_tautology lits ≡ b → hints_fault live (map inverse lits) hints ≡ None

@@ -8,8 +8,9 @@ use Rattle.cg_lrat.specs.declared.verdict.Why.{Why}
 use Rattle.cg_lrat.specs.declared.hint.NonFalse.{NonFalse}
 use Rattle.cg_lrat.specs.declared.hint.NonFalse.TheVariants as left
 use Rattle.cg_formula.specs.Lits.{is_in}
-use Rattle.cg_lrat.specs.Accepted.{known_then, unit_then, non_false_of, non_false_lits, false_at, hints_fault}
+use Rattle.cg_lrat.specs.Accepted.{unit_then, non_false_of, non_false_lits, false_at, hints_fault}
 use Rattle.cg_lrat.specs.GrownLog.{live_of}
+use Rattle.cg_lrat.proofs.Sound.{known_found}
 
 -- the id of one of so many clauses
 abbrev pub IsAmong : ℕ → ℕ → Type 0
@@ -19,12 +20,7 @@ live_within : (clauses : List (List Lit)) (id : ℕ) (lits : List Lit) → live_
 live_within clauses zero lits e = absurd (cc)
 live_within clauses (suc k) lits e = let within : k < length clauses = slice_get_within clauses k lits e in (omega arith, omega arith)
 
-known : (o : Option (List Lit)) (hint : ℕ) (later : List Lit → Option Why) → known_then o hint later ≡ None
-    → (lits : List Lit) × (o ≡ Some lits) × (later lits ≡ None)
-known None hint later e = absurd (cc)
-known (Some lits) hint later e = (lits, refl, e)
-
-unit : (o : NonFalse) (trues : List Lit) (hint : ℕ) (later : Lit → Option Why) → unit_then o trues hint later ≡ None
+pub unit : (o : NonFalse) (trues : List Lit) (hint : ℕ) (later : Lit → Option Why) → unit_then o trues hint later ≡ None
     → (lit : Lit) × (later lit ≡ None)
 unit left.Nothing trues hint later e = absurd (cc)
 unit (left.One lit) trues hint later e = pick (is_in lit trues) refl where
@@ -37,11 +33,11 @@ pub hints_are_ids : (clauses : List (List Lit)) (trues : List Lit) (hints : List
     → AllByRecursion (IsAmong (length clauses)) hints
 hints_are_ids clauses trues [] e = tt
 hints_are_ids clauses trues (hint ∷ []) e =
-    let found = known (live_of clauses hint) hint (λ lits. false_at (non_false_of (non_false_lits trues lits)) hint) e in
+    let found = known_found (live_of clauses hint) hint (λ lits. false_at (non_false_of (non_false_lits trues lits)) hint) e in
     (live_within clauses hint found.0 found.1, tt)
 hints_are_ids clauses trues (hint ∷ next ∷ later) e =
     let found =
-    known (live_of clauses hint) hint
+    known_found (live_of clauses hint) hint
     (λ lits. unit_then (non_false_of (non_false_lits trues lits)) trues hint (λ lit. hints_fault (live_of clauses) (trues ++ lit ∷ []) (next ∷ later)))
     e in
     let one =

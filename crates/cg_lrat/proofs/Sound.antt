@@ -1,7 +1,7 @@
 -- An accepted log proves its formula unsatisfiable: bits that satisfy the formula satisfy each live clause.
 use Rattle.std.proofs.Common.{◌≡◌, ℕ, ◌+◌, suc, Bool, true, false, ◌||◌, ◌==◌, List, [], ◌∷◌, ◌++◌, length, map, Option, Some, None}
 use Rattle.std.proofs.Common.{inl, inr, refl, sym, ap, ◌∙◌, if◌then◌else◌, nat_eq, nat_le}
-use Rattle.std.proofs.lemmas.Bool.{eqb-true}
+use Rattle.std.proofs.lemmas.Bool.{and_parts, eqb-true, not-true, or_cases}
 use Rattle.std.specs.List.{list_any, list_all}
 use Rattle.std.specs.Map.{update}
 use Rattle.cg_formula.specs.declared.formula.Lit.{Lit}
@@ -21,7 +21,7 @@ use Rattle.cg_formula.specs.Satisfiable.{lit_bit, clause_bit, IsUnsatisfiable}
 use Rattle.cg_lrat.specs.Accepted.{Live, State, with_clauses, first_state, non_false_lits, non_false_of, unit_then, false_at}
 use Rattle.cg_lrat.specs.Accepted.{known_then, hints_fault, is_tautology, clause_fault, addition_fault, fault_of, without}
 use Rattle.cg_lrat.specs.Accepted.{state_after, adds_empty, step_verdict, verdict_from, verdict}
-use Rattle.cg_formula.proofs.Connectives.{and_true, or_true, or_right, not_true}
+use Rattle.cg_formula.proofs.Connectives.{or_right}
 use Rattle.cg_formula.proofs.Members.{same_lit_equal}
 use Rattle.cg_formula.proofs.TrueLiterals.{lit_bit-inverse, found_true, all_false, all_more}
 
@@ -36,20 +36,20 @@ non_false_holds bits trues (l ∷ ls) all e = pick (non_false_holds bits trues l
       → (b : Bool) → is_in (inverse l) trues ≡ b → list_any (lit_bit bits) (non_false_lits trues (l ∷ ls)) ≡ true
   pick later true f =
       let inverse_true : lit_bit bits (inverse l) ≡ true = found_true bits (inverse l) trues f all in
-      let no : lit_bit bits l ≡ false = not_true (lit_bit bits l) (sym (lit_bit-inverse bits l) ∙ inverse_true) in
-      elim (or_true (lit_bit bits l) (list_any (lit_bit bits) ls) e) [ inl held ↦ absurd (cc) | inr rest ↦ rw f (later rest) ]
+      let no : lit_bit bits l ≡ false = not-true (lit_bit bits l) (sym (lit_bit-inverse bits l) ∙ inverse_true) in
+      elim (or_cases (lit_bit bits l) (list_any (lit_bit bits) ls) e) [ inl held ↦ absurd (cc) | inr rest ↦ rw f (later rest) ]
   pick later false f =
-      elim (or_true (lit_bit bits l) (list_any (lit_bit bits) ls) e)
+      elim (or_cases (lit_bit bits l) (list_any (lit_bit bits) ls) e)
       [ inl here ↦ rw (f, here) refl | inr rest ↦ rw f (or_right (lit_bit bits l) (later rest)) ]
 
 all_same : (bits : List Bool) (l : Lit) (ls : List Lit) → list_all (same_lit l) ls ≡ true → list_any (lit_bit bits) (l ∷ ls) ≡ true
     → lit_bit bits l ≡ true
-all_same bits l [] same e = elim (or_true (lit_bit bits l) false e) [ inl here ↦ here | inr none ↦ absurd (cc) ]
+all_same bits l [] same e = elim (or_cases (lit_bit bits l) false e) [ inl here ↦ here | inr none ↦ absurd (cc) ]
 all_same bits l (m ∷ ms) same e =
-    let parts = and_true (same_lit l m) (list_all (same_lit l) ms) same in
-    elim (or_true (lit_bit bits l) (lit_bit bits m || list_any (lit_bit bits) ms) e) [
+    let parts = and_parts (same_lit l m) (list_all (same_lit l) ms) same in
+    elim (or_cases (lit_bit bits l) (lit_bit bits m || list_any (lit_bit bits) ms) e) [
       | inl here ↦ here
-      | inr rest ↦ elim (or_true (lit_bit bits m) (list_any (lit_bit bits) ms) rest) [
+      | inr rest ↦ elim (or_cases (lit_bit bits m) (list_any (lit_bit bits) ms) rest) [
         | inl next ↦ ap (lit_bit bits) (same_lit_equal l m parts.0) ∙ next
         | inr later ↦ all_same bits l ms parts.1 (or_right (lit_bit bits l) later)
       ]
@@ -90,7 +90,7 @@ unit_found trues hint ls later e = pick (non_false_of ls) refl e where
       ] e
   pick left.Many f e = absurd (cc)
 
-known_found : (o : Option (List Lit)) (hint : ℕ) (later : List Lit → Option Why) → known_then o hint later ≡ None
+pub known_found : (o : Option (List Lit)) (hint : ℕ) (later : List Lit → Option Why) → known_then o hint later ≡ None
     → (lits : List Lit) × (o ≡ Some lits) × (later lits ≡ None)
 known_found None hint later e = absurd (cc)
 known_found (Some lits) hint later e = (lits, refl, e)
@@ -189,7 +189,7 @@ first_holds : (bits : List Bool) (id : ℕ) (clauses : List Clause) (live : Live
     → list_all (clause_bit bits) clauses ≡ true → LiveHolds bits (with_clauses id clauses live)
 first_holds bits id [] live holds all = holds
 first_holds bits id (c ∷ cs) live holds all =
-    let parts = and_true (clause_bit bits c) (list_all (clause_bit bits) cs) all in
+    let parts = and_parts (clause_bit bits c) (list_all (clause_bit bits) cs) all in
     first_holds bits (id + 1) cs (update nat_eq live id (Some c.lits)) (put_holds bits live holds id c.lits parts.0) parts.1
 
 nothing_live : (bits : List Bool) → LiveHolds bits (λ _. None)

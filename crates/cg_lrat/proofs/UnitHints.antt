@@ -4,10 +4,11 @@ use Rattle.std.specs.List.{list_all}
 use Rattle.cg_formula.specs.declared.formula.Lit.{Lit}
 use Rattle.cg_formula.specs.Lits.{inverse, same_lit, is_in}
 use Rattle.cg_formula.specs.Assignments.{IsFalsified, IsUnit, IsUnassigned}
-use Rattle.cg_formula.proofs.Connectives.{and_true, or_true, or_right}
+use Rattle.cg_formula.proofs.Connectives.{or_right}
 use Rattle.cg_formula.proofs.Members.{same_lit_equal, same_lit_self, here}
 use Rattle.cg_lrat.specs.declared.hint.NonFalse.TheVariants as left
 use Rattle.cg_lrat.specs.Accepted.{Live, non_false_lits, non_false_of, hints_fault}
+use Rattle.std.proofs.lemmas.Bool.{and_parts, or_cases}
 
 -- what of a clause is not false
 
@@ -34,7 +35,7 @@ one_stays : (trues clause : List Lit) (one : Lit) → is_in one clause ≡ true 
     → is_in one (non_false_lits trues clause) ≡ true
 one_stays trues [] one among off = absurd (cc)
 one_stays trues (lit ∷ lits) one among off =
-    pick (one_stays trues lits one) (or_true (same_lit one lit) (is_in one lits) among) (is_in (inverse lit) trues) refl where
+    pick (one_stays trues lits one) (or_cases (same_lit one lit) (is_in one lits) among) (is_in (inverse lit) trues) refl where
       pick : (is_in one lits ≡ true → is_in (inverse one) trues ≡ false → is_in one (non_false_lits trues lits) ≡ true)
           → (same_lit one lit ≡ true) ⊎ (is_in one lits ≡ true)
           → (b : Bool) → is_in (inverse lit) trues ≡ b → is_in one (non_false_lits trues (lit ∷ lits)) ≡ true
@@ -47,7 +48,7 @@ non_false_of_one : (lits : List Lit) (one : Lit) → is_in one lits ≡ true →
     → non_false_of lits ≡ left.One one
 non_false_of_one [] one among all = absurd (cc)
 non_false_of_one (lit ∷ lits) one among all =
-    let parts = and_true (same_lit one lit) (list_all (same_lit one) lits) all in
+    let parts = and_parts (same_lit one lit) (list_all (same_lit one) lits) all in
     let e : one ≡ lit = same_lit_equal one lit parts.0 in
     let rest : list_all (same_lit lit) lits ≡ true = subst (λ l. list_all (same_lit l) lits ≡ true) e parts.1 in
     rw rest (ap left.One (sym e))

@@ -1,5 +1,5 @@
 -- What drives the nets of a machine: the netlist's drivers stay, and each added net has one more.
-use Rattle.std.proofs.Common.{◌≡◌, ℕ, ◌+◌, ◌<◌, ◌≤◌, Bool, false, List, [], ◌∷◌, ◌++◌, length, slice_get, Some, refl, sym, ◌∙◌, ap}
+use Rattle.std.proofs.Common.{◌≡◌, ℕ, ◌+◌, false, List, [], ◌∷◌, ◌++◌, length, slice_get, Some, ◌∙◌, ap}
 use Rattle.std.proofs.Common.{subst, arith, inl, inr}
 use Rattle.std.proofs.lemmas.List.{length-append}
 use Rattle.cg_netlist.specs.Circuit.{Circuit, LogicCell, RegisterCell}
@@ -11,7 +11,7 @@ use Rattle.cg_machine.specs.Added.{push_cell, push_register}
 use Rattle.cg_machine.specs.Gates.{AddedGate}
 use Rattle.cg_machine.specs.Machine.{delay_cell}
 use Rattle.cg_machine.specs.inner.Kept.{AreAdded, grown}
-use Rattle.cg_machine.proofs.Lists.{get_last, push_cases}
+use Rattle.cg_netlist.proofs.SearchSteps.{get_last, push_cases}
 
 -- a driver of the netlist is one of the machine
 pub grown_driver : (c : Circuit) (prefix : List ℕ) (gs : List AddedGate) (ds : List (ℕ × ℕ)) (y : ℕ) (d : Driver) → IsDriver c y d → IsDriver (grown c prefix gs ds) y d

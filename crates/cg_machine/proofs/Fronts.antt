@@ -1,6 +1,6 @@
 -- In a machine with more nets, logic cells and registers behind the others, the old nets have their old bits.
 use Rattle.std.proofs.Common.{◌≡◌, ℕ, zero, suc, ◌<◌, ◌≤◌, Bool, true, false, not, if◌then◌else◌, List, [], ◌∷◌, ◌++◌, map, length}
-use Rattle.std.proofs.Common.{slice_get, take, Option, None, Some, refl, sym, ◌∙◌, ap, arith, length-append, append_assoc}
+use Rattle.std.proofs.Common.{slice_get, take, Option, None, Some, refl, sym, ◌∙◌, ap, arith, append_assoc}
 use Rattle.std.specs.List.{cons_option, flat_map}
 use Rattle.std.proofs.lemmas.List.{length-map, length-take-le}
 use Rattle.std.proofs.lemmas.Option.{none-some, same_Some}
@@ -56,12 +56,6 @@ module _ (m n : MachineData) (good : IsMachine m) (good_n : IsMachine n) (names 
       ∙ ap (λ vs. slice_get vs y) (sym (nets_only m.circuit good.well_formed.driven (walk_of m) good.walk false x (old m t) [] (take N (values n t x)) (front_settles t x long ins)))
 
 -- what registers show
-pub length-shown : (registers : List (RegisterCell ℕ ℕ)) (state : List Bool) → length state ≡ length registers → length (register_bits registers state) ≡ length (flat_map shown_nets registers)
-length-shown [] state long = refl
-length-shown (r ∷ rs) [] long = absurd (omega arith)
-length-shown (r ∷ rs) (b ∷ bs) long =
-    omega (arith, length-append (shown_bits r b) (register_bits rs bs), length-append (shown_nets r) (flat_map shown_nets rs), length-map r.outputs (λ output. output.0), length-map r.outputs (λ output. if output.1 then not b else b), length-shown rs bs (omega arith))
-
 pub bits_push : (rs : List (RegisterCell ℕ ℕ)) (d : RegisterCell ℕ ℕ) (t : List Bool) → length t ≡ suc (length rs) → (rest : List Bool) × (register_bits (rs ++ d ∷ []) t ≡ register_bits rs (take (length rs) t) ++ rest)
 bits_push [] d [] long = absurd (omega arith)
 bits_push [] d (b ∷ t) long = (shown_bits d b ++ register_bits [] t, refl)

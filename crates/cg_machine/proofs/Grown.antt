@@ -1,11 +1,11 @@
 -- A machine with one more gate, one more delay register or another enable is a machine.
-use Rattle.std.proofs.Common.{◌≡◌, ◌≢◌, ◌⊎◌, ℕ, suc, ◌+◌, ◌-◌, ◌^◌, ◌<◌, ◌≤◌, Bool, true, false, cond, IsTrue, List, [], ◌∷◌, ◌++◌}
-use Rattle.std.proofs.Common.{map, length, slice_get, slice_set, take, unwrap_or, Option, None, Some, nat_eq, refl, ap, sym, ◌∙◌}
+use Rattle.std.proofs.Common.{◌≡◌, ◌≢◌, ◌⊎◌, ℕ, suc, ◌+◌, ◌-◌, ◌^◌, ◌<◌, ◌≤◌, true, false, IsTrue, List, [], ◌∷◌, ◌++◌}
+use Rattle.std.proofs.Common.{map, length, slice_get, slice_set, take, unwrap_or, Option, None, Some, refl, ap, sym, ◌∙◌}
 use Rattle.std.proofs.Common.{subst, inl, inr, arith, append_assoc}
 use Rattle.std.specs.Fmt.{decimal}
-use Rattle.std.specs.List.{All, filter, flat_map, range_with_len, cons_option}
+use Rattle.std.specs.List.{All, range_with_len, cons_option}
 use Rattle.std.specs.Option.{option_flatten, option_to_list}
-use Rattle.std.proofs.lemmas.Bool.{both_ways, false_from_ne_true, or_cases, or_left, or_right}
+use Rattle.std.proofs.lemmas.Bool.{false_from_ne_true}
 use Rattle.std.proofs.lemmas.Fmt.{decimal_injective}
 use Rattle.std.proofs.lemmas.List.{append-nil, append_cancel_left, length-append, length-set, length-take-le, map-append}
 use Rattle.std.proofs.lemmas.List.{take-append-le}
@@ -18,7 +18,7 @@ use Rattle.cg_cell.specs.declared.fit.FitKind.TheVariants.{Inv, And2, Or2}
 use Rattle.cg_netlist.specs.Circuit.{GatingCell, LogicCell, RegisterCell, clock_nets, used_nets}
 use Rattle.cg_net.specs.NetSets.{is_in}
 use Rattle.cg_netlist.specs.Moment.{values_at}
-use Rattle.cg_netlist.specs.Nets.{IsWalk, has_rank, outputs, walk_order}
+use Rattle.cg_netlist.specs.Nets.{IsWalk, outputs, walk_order}
 use Rattle.cg_netlist.specs.WellFormed.{IsOver}
 use Rattle.cg_netlist.specs.declared.parts.LogicFunction.TheVariants.{Cover}
 use Rattle.cg_netlist.proofs.Given.{from_option, in_option}
@@ -32,8 +32,11 @@ use Rattle.cg_machine.specs.Extends.{GateFits}
 use Rattle.cg_machine.specs.Gates.{AddedGate, HasInputs, gate_cell, gate_cover}
 use Rattle.cg_machine.specs.Machine.{IsDelay, IsMachine, IsNet, MachineData, added_name, additions, enable_of, order_of, walk_of}
 use Rattle.cg_machine.proofs.AddedNames.{name_added}
-use Rattle.cg_machine.proofs.Lists.{all_one, below_or, below_range, get_front, get_last, in_one, push_cases, range_more}
+use Rattle.cg_machine.proofs.Lists.{all_one, below_or, below_range, get_front, in_one}
 use Rattle.cg_machine.proofs.Pushed.{cell_pushed, register_pushed}
+use Rattle.cg_netlist.proofs.CellFits.{walk_within}
+use Rattle.cg_netlist.proofs.SearchSteps.{get_last, push_cases}
+use Rattle.cg_netlist.proofs.ByRank.{range_more}
 
 -- the cover of a gate is one of its inputs
 pub gate_over : (kind : FitKind) (k : ℕ) → HasInputs kind k → IsOver k (Cover (gate_cover kind))
@@ -41,24 +44,6 @@ gate_over Inv k has = (record { even = tt; on_without_rows = λ none. refl }, (s
 gate_over And2 k has = (record { even = tt; on_without_rows = λ none. refl }, (sym has, tt))
 gate_over Or2 k has = (record { even = (refl, tt); on_without_rows = λ none. refl }, (sym has, (sym has, tt)))
 gate_over _ k has = absurd has
-
-filtered : (p : ℕ → Bool) (xs : List ℕ) (x : ℕ) → is_in (filter p xs) x ≡ true → is_in xs x ≡ true
-filtered p [] x among = among
-filtered p (y ∷ ys) x among = go (p y) among (filtered p ys x)
-  where
-    go : (b : Bool) → is_in (cond b (y ∷ filter p ys) (filter p ys)) x ≡ true → (is_in (filter p ys) x ≡ true → is_in ys x ≡ true) → is_in (y ∷ ys) x ≡ true
-    go true among rest = elim (or_cases (nat_eq x y) (is_in (filter p ys) x) among) [ inl here ↦ or_left (nat_eq x y) (is_in ys x) here | inr later ↦ or_right (nat_eq x y) (is_in ys x) (rest later) ]
-    go false among rest = or_right (nat_eq x y) (is_in ys x) (rest among)
-
-walk_below : (cells : List (LogicCell ℕ)) (k : ℕ) → is_in (walk_order cells) k ≡ true → k < length cells
-walk_below cells k among = let found = below_range (length cells) 0 k (go (range_with_len 0 (length cells)) among) in omega (arith, found)
-  where
-    go : (ranks : List ℕ) → is_in (flat_map (λ rank. filter (has_rank cells rank) (range_with_len 0 (length cells))) ranks) k ≡ true → is_in (range_with_len 0 (length cells)) k ≡ true
-    go [] among = absurd (both_ways false refl among)
-    go (r ∷ ranks) among = elim (is_in_cases (filter (has_rank cells r) (range_with_len 0 (length cells))) (flat_map (λ rank. filter (has_rank cells rank) (range_with_len 0 (length cells))) ranks) k among) [
-      | inl here ↦ filtered (has_rank cells r) (range_with_len 0 (length cells)) k here
-      | inr later ↦ go ranks later
-    ]
 
 module _ (m : MachineData) (good : IsMachine m) where
   abbrev n : ℕ
@@ -116,7 +101,7 @@ module _ (m : MachineData) (good : IsMachine m) where
 
     order_below : (k : ℕ) → is_in (order_of m) k ≡ true → k < length m.circuit.cells
     order_below k among = elim (is_in_cases (walk_order (take m.own_cells m.circuit.cells)) (range_with_len m.own_cells (length m.circuit.cells - m.own_cells)) k among) [
-      | inl own ↦ let below = walk_below (take m.own_cells m.circuit.cells) k own in omega (arith, below, length-take-le m.own_cells m.circuit.cells own_fits, own_fits)
+      | inl own ↦ let below = walk_within (take m.own_cells m.circuit.cells) k own in omega (arith, below, length-take-le m.own_cells m.circuit.cells own_fits, own_fits)
       | inr later ↦ let found = below_range (length m.circuit.cells - m.own_cells) m.own_cells k later in omega (arith, found, own_fits)
     ]
 

@@ -17,7 +17,7 @@ use Rattle.cg_machine.specs.Added.{HasNames, added_place, own_netlist, own_nets}
 use Rattle.cg_machine.specs.Machine.{MachineData, additions}
 use Rattle.cg_machine.specs.Run.{with_enables}
 use Rattle.cg_machine.specs.Start.{machine_of}
-use Rattle.cg_machine.proofs.Lists.{range_more}
+use Rattle.cg_netlist.proofs.ByRank.{range_more}
 
 abbrev nones : ℕ → List (Option ℕ)
 nones n = replicate n None

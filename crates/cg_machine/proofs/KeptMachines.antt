@@ -4,7 +4,6 @@ use Rattle.std.proofs.Common.{None, Some, OnErr, OnOk, Result, Ok, Err, is_ok, i
 use Rattle.std.proofs.Common.{sym, ◌∙◌, subst, arith}
 use Rattle.std.specs.List.{find}
 use Rattle.std.specs.Option.{option_map}
-use Rattle.std.proofs.lemmas.Bool.{both_ways}
 use Rattle.std.proofs.lemmas.Option.{none-some}
 use Rattle.std.proofs.lemmas.List.{length-append, length-replicate, length-set, take_all}
 use Rattle.std.proofs.Math.Seq.{take-append_seam}
@@ -23,6 +22,7 @@ use Rattle.cg_machine.specs.Start.{CanStart, machine_of}
 use Rattle.cg_machine.proofs.Grown.{delay_pushed, enable_set, gate_pushed}
 use Rattle.cg_machine.proofs.Keeping.{kept_delay, kept_enable, kept_find, kept_gate, kept_start, names_count}
 use Rattle.cg_machine.proofs.Started.{start_is_machine}
+use Rattle.cg_machine.proofs.There.{some_clock}
 
 module _ (c : Circuit) (name prefix : List ℕ) (es : List (Option ℕ)) (gs : List AddedGate) (ds : List (ℕ × ℕ)) (ts : List Driver) (named : name ≡ prefix) (none : es ≡ replicate (length c.registers) None) (no_gates : gs ≡ []) (no_delays : ds ≡ []) (no_drivers : ts ≡ []) where
   pub start_view : kept c name es gs ds ≡ machine_of c prefix
@@ -43,10 +43,6 @@ module _ (c : Circuit) (name prefix : List ℕ) (es : List (Option ℕ)) (gs : L
 none_under : {A B : Type 0} (f : A → B) (o : Option A) → option_map f o ≡ None → o ≡ None
 none_under f None none = refl
 none_under f (Some a) none = absurd (cc)
-
-some_is : (o : Option ℕ) → IsSome o → (x : ℕ) × (o ≡ Some x)
-some_is None some = absurd (both_ways false refl some)
-some_is (Some x) some = (x, refl)
 
 module _ (c : Circuit) (prefix : List ℕ) (es : List (Option ℕ)) (gs : List AddedGate) (ds : List (ℕ × ℕ)) (ts : List Driver) (keeps : IsKept c prefix es gs ds ts) (now : MachineData) (is : kept c prefix es gs ds ≡ now) where
   abbrev m : MachineData
@@ -124,7 +120,7 @@ module _ (c : Circuit) (prefix : List ℕ) (es : List (Option ℕ)) (gs : List A
 
     pub delay_kept : (r : ℕ) → r ≡ length now.circuit.registers → IsKept c prefix es gs (ds ++ (net, output) ∷ []) (ts ++ Register r false ∷ [])
     delay_kept r last =
-        let some = some_is now.circuit.clock clock in
+        let some = some_clock now.circuit.clock clock in
         record {
           netlist = keeps.netlist;
           enables_long = keeps.enables_long;

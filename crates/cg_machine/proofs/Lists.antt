@@ -13,16 +13,6 @@ get_front [] ys k below = absurd (omega arith)
 get_front (x ∷ xs) ys zero below = refl
 get_front (x ∷ xs) ys (suc k) below = get_front xs ys k (omega arith)
 
-pub get_last : {X : Type 0} (xs : List X) (y : X) → slice_get (xs ++ y ∷ []) (length xs) ≡ Some y
-get_last [] y = refl
-get_last (x ∷ xs) y = get_last xs y
-
-pub push_cases : {X : Type 0} (xs : List X) (y z : X) (k : ℕ) → slice_get (xs ++ y ∷ []) k ≡ Some z → (slice_get xs k ≡ Some z) ⊎ ((k ≡ length xs) × (y ≡ z))
-push_cases [] y z zero at = inr (refl, same_Some y z at)
-push_cases [] y z (suc k) at = absurd (none-some z at)
-push_cases (x ∷ xs) y z zero at = inl at
-push_cases (x ∷ xs) y z (suc k) at = elim (push_cases xs y z k at) [ inl h ↦ inl h | inr h ↦ inr (ap suc h.0, h.1) ]
-
 pub get_drop : {X : Type 0} (n : ℕ) (xs : List X) (k : ℕ) → slice_get (drop n xs) k ≡ slice_get xs (n + k)
 get_drop zero xs k = let e : 0 + k ≡ k = omega arith in ap (slice_get xs) (sym e)
 get_drop (suc n) [] k = sym (slice_get_past [] (suc n + k) (omega arith))
@@ -31,10 +21,6 @@ get_drop (suc n) (x ∷ xs) k = let e : suc n + k ≡ suc (n + k) = omega arith 
 pub all_one : {X : Type 0} (P : X → Type 0) (x : X) → P x → All P (x ∷ [])
 all_one P x is zero d below = is
 all_one P x is (suc k) d below = absurd (omega arith)
-
-pub range_more : (n a : ℕ) → range_with_len a (suc n) ≡ range_with_len a n ++ (a + n) ∷ []
-range_more zero a = let e : a + 0 ≡ a = omega arith in ap (λ x. x ∷ []) (sym e)
-range_more (suc n) a = let e : a + 1 + n ≡ a + suc n = omega arith in ap (λ l. a ∷ l) (range_more n (a + 1) ∙ ap (λ x. range_with_len (a + 1) n ++ x ∷ []) e)
 
 pub in_one : (x y : ℕ) → is_in (y ∷ []) x ≡ true → x ≡ y
 in_one x y among = elim (or_cases (nat_eq x y) false among) [ inl same ↦ eqb-true x y same | inr none ↦ absurd (both_ways false refl none) ]

@@ -19,7 +19,8 @@ use Rattle.cg_net.proofs.Members.{All-from_members, All-member, distinct_append,
 use Rattle.cg_netlist.proofs.Solve.{greatest, greatest_bounds}
 use Rattle.cg_machine.specs.Added.{push_cell, push_register}
 use Rattle.cg_netlist.proofs.Used.{input_is_used}
-use Rattle.cg_machine.proofs.Lists.{in_one, pairs_append, push_cases}
+use Rattle.cg_machine.proofs.Lists.{in_one, pairs_append}
+use Rattle.cg_netlist.proofs.SearchSteps.{push_cases}
 
 alone : (y : ℕ) → IsDistinct nat_eq (y ∷ [])
 unfolding IsDistinct

@@ -40,7 +40,7 @@ same_by m n R sim own inputs starts = record {
 pub same_self : (m : MachineData) → Same m m
 same_self m = record { own = refl; inputs = refl; shows = λ start wave long ticks. refl }
 
-ticks_same : (m n : MachineData) → data_inputs n.circuit ≡ data_inputs m.circuit → (wave : List Tick) → AreTicks m.circuit wave → AreTicks n.circuit wave
+pub ticks_same : (m n : MachineData) → data_inputs n.circuit ≡ data_inputs m.circuit → (wave : List Tick) → AreTicks m.circuit wave → AreTicks n.circuit wave
 ticks_same m n same [] ticks = tt
 ticks_same m n same (tick ∷ wave) ticks = (ticks.0 ∙ ap length (sym same), ticks_same m n same wave ticks.1)
 

@@ -43,11 +43,11 @@ inputs_distinct c ordered =
     (subst (IsDistinct nat_eq) (sym ordered) (distinct_range (length c.names) 0)))))
 
 -- no name that begins with the prefix is one of these
-all_same : (xs : List ℕ) → pointwise nat_eq xs xs ≡ true
+pub all_same : (xs : List ℕ) → pointwise nat_eq xs xs ≡ true
 all_same [] = refl
 all_same (x ∷ xs) = ap (λ b. b && pointwise nat_eq xs xs) (eq-eqb x x refl) ∙ all_same xs
 
-begun : (prefix rest : List ℕ) → begins prefix (prefix ++ rest) ≡ true
+pub begun : (prefix rest : List ℕ) → begins prefix (prefix ++ rest) ≡ true
 begun prefix rest = ap (λ front. pointwise nat_eq prefix front) (take-append_seam prefix rest) ∙ all_same prefix
 
 none_begins : (prefix : List ℕ) (names : List (List ℕ)) (a : ℕ) → position_from (begins prefix) a names ≡ None → (rest : List ℕ) → All (λ name. name ≢ prefix ++ rest) names

@@ -33,10 +33,12 @@ use Rattle.cg_machine.proofs.Bits.{each_bit}
 use Rattle.cg_machine.proofs.Extended.{extends_self}
 use Rattle.cg_machine.proofs.FewValues.{values_one}
 use Rattle.cg_machine.proofs.Found.{FoundDelay, FoundGate, found_delay, found_gate}
-use Rattle.cg_machine.proofs.Fronts.{bits_push, fronts_are, length-shown, shows_bit}
+use Rattle.cg_machine.proofs.Fronts.{bits_push, fronts_are, shows_bit}
 use Rattle.cg_machine.proofs.Grown.{delay_pushed, enable_front, enable_last, gate_pushed, more_long, more_registers, used_below}
-use Rattle.cg_machine.proofs.Lists.{get_front, get_last}
+use Rattle.cg_machine.proofs.Lists.{get_front}
 use Rattle.cg_machine.proofs.Settled.{settled}
+use Rattle.cg_netlist.proofs.Settle.{length-register_bits}
+use Rattle.cg_netlist.proofs.SearchSteps.{get_last}
 
 -- no limit is passed
 has_room : (m : MachineData) → nets_limit m ≡ None → length m.circuit.names < MOST_NETS
@@ -61,7 +63,7 @@ pub second_none : (a b : Option Limit) → option_or a b ≡ None → b ≡ None
 second_none None b h = h
 second_none (Some l) b h = absurd (cc)
 
-same_bits : (vs s : List Bool) (y k : ℕ) → slice_get vs y ≡ slice_get s k → bit vs y ≡ bit s k
+pub same_bits : (vs s : List Bool) (y k : ℕ) → slice_get vs y ≡ slice_get s k → bit vs y ≡ bit s k
 same_bits vs s y k same = sym (unwrap_or-slice_get vs y false) ∙ (ap (λ o. unwrap_or o false) same ∙ unwrap_or-slice_get s k false)
 
 -- the clock is no output of a register
@@ -104,7 +106,7 @@ module _ (m : MachineData) (good : IsMachine m) (net clock : ℕ) (is_net : IsNe
       let more = bits_push rs (next_delay m net) t (omega (arith, long, more_registers m good net clock is_net is room space)) in
       let below : All (λ x. x < length vs) (register_nets m.circuit) = All-from_members (λ x. x < length vs) (register_nets m.circuit) (λ x among. let b = driver_within m.circuit good.well_formed.driven x (given_driver m.circuit x (register_given m.circuit x among)) in omega (arith, b, wide, more_long m good)) in
       let count : length (values_at vs (register_nets m.circuit)) ≡ length (register_bits rs (old m t)) =
-      length-values_at vs (register_nets m.circuit) below ∙ sym (length-shown rs (old m t) (length-take-le (length rs) t (omega (arith, long, more_registers m good net clock is_net is room space)))) in
+      length-values_at vs (register_nets m.circuit) below ∙ sym (length-register_bits rs (old m t) (length-take-le (length rs) t (omega (arith, long, more_registers m good net clock is_net is room space)))) in
       (split_lists (values_at vs (register_nets m.circuit)) (register_bits rs (old m t)) (values_at vs (length m.circuit.names ∷ [])) more.0 count
       (sym (values_at-append vs (register_nets m.circuit) (length m.circuit.names ∷ [])) ∙ (ap (values_at vs) (sym pushed_nets) ∙ (shows ∙ more.1)))).0
 
@@ -244,7 +246,7 @@ gate_new m kind inputs good fits none room n net is number =
     let added : add_gate m kind inputs ≡ record { machine = n; net = net } = ap (or_push m (push_gate m kind inputs)) none ∙ (λ i. record { machine = sym is i; net = sym number i }) in
     subst (HasGate m kind inputs) added (gate_there m kind inputs good fits (ap (λ o. unless_found o (nets_limit m)) none ∙ room))
 
-some_clock : (o : Option ℕ) → IsSome o → (x : ℕ) × (o ≡ Some x)
+pub some_clock : (o : Option ℕ) → IsSome o → (x : ℕ) × (o ≡ Some x)
 some_clock None some = absurd (both_ways false refl some)
 some_clock (Some x) some = (x, refl)
 

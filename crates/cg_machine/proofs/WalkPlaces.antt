@@ -1,6 +1,6 @@
 -- The places of a machine's walk order: those of the netlist, and behind them the added gates.
-use Rattle.std.proofs.Common.{◌≡◌, ℕ, zero, suc, ◌+◌, ◌-◌, ◌<◌, ◌≤◌, true, false, List, [], ◌∷◌, ◌++◌, length, map, nat_eq}
-use Rattle.std.proofs.Common.{slice_get, take, Option, Some, refl, sym, ◌∙◌, ap, subst, arith}
+use Rattle.std.proofs.Common.{◌≡◌, ℕ, zero, suc, ◌+◌, ◌-◌, ◌<◌, ◌≤◌, List, ◌++◌, length, map, nat_eq}
+use Rattle.std.proofs.Common.{slice_get, take, Option, Some, sym, ◌∙◌, ap, arith}
 use Rattle.std.specs.List.{IsDistinct, range_with_len}
 use Rattle.std.proofs.lemmas.Bool.{false_from_ne_true}
 use Rattle.std.proofs.lemmas.List.{length-append, length-map, length-take-le}
@@ -12,34 +12,22 @@ use Rattle.cg_netlist.specs.Netlist.{IsNetlist}
 use Rattle.cg_netlist.specs.Nets.{walk_order}
 use Rattle.cg_netlist.proofs.CellFits.{walk_within}
 use Rattle.cg_cone.proofs.ConeEdge.{data_rises}
-use Rattle.cg_netlist.proofs.Driven.{in_range}
+use Rattle.cg_netlist.proofs.Driven.{distinct_range, in_range}
 use Rattle.cg_netlist.proofs.Given.{distinct_cells, driver_within}
 use Rattle.cg_net.proofs.Members.{distinct_append, is_in_right, one_place}
 use Rattle.cg_net.proofs.TableLemmas.{front_get}
-use Rattle.cg_netlist.proofs.RisingNumbers.{range_rises}
 use Rattle.cg_cone.specs.inner.Reaching.{IsWired}
-use Rattle.cg_netlist.specs.inner.Rising.{Rises}
-use Rattle.cg_netlist.proofs.WalkPlaces.{rises_once, walk_long, walk_once}
+use Rattle.cg_netlist.proofs.WalkPlaces.{walk_long, walk_once}
 use Rattle.cg_machine.specs.Added.{own_netlist}
 use Rattle.cg_machine.specs.Machine.{IsMachine, MachineData, order_of}
 use Rattle.cg_machine.specs.Gates.{AddedGate, gate_cell}
 use Rattle.cg_machine.proofs.Cycles.{get_back}
+use Rattle.cg_netlist.proofs.OrderLemmas.{length-range_with_len}
 
-range_at : (n a k : ℕ) → k < n → slice_get (range_with_len a n) k ≡ Some (a + k)
+pub range_at : (n a k : ℕ) → k < n → slice_get (range_with_len a n) k ≡ Some (a + k)
 range_at zero a k below = absurd (omega arith)
 range_at (suc n) a zero below = let e : a ≡ a + 0 = omega arith in ap Some e
 range_at (suc n) a (suc k) below = let e : a + 1 + k ≡ a + suc k = omega arith in range_at n (a + 1) k (omega arith) ∙ ap Some e
-
-range_long : (n a : ℕ) → length (range_with_len a n) ≡ n
-range_long zero a = refl
-range_long (suc n) a = let rest = range_long n (a + 1) in omega (arith, rest)
-
-range_once : (n a : ℕ) → IsDistinct nat_eq (range_with_len a n)
-range_once n a = rises_once a (range_with_len a n) (rises n a)
-  where
-    rises : (n a : ℕ) → Rises a (range_with_len a n)
-    rises zero a = tt
-    rises (suc n) a = let e : a + 1 ≡ suc a = omega arith in (omega arith, subst (λ b. Rises b (range_with_len (a + 1) n)) e (rises n (a + 1)))
 
 module _ (m : MachineData) (good : IsMachine m) where
   abbrev own : List (LogicCell ℕ)
@@ -62,7 +50,7 @@ module _ (m : MachineData) (good : IsMachine m) where
       ∙ (range_at added m.own_cells (id - length own) (omega (arith, own_count, past, below)) ∙ ap Some e))
 
   pub order_long : length (order_of m) ≡ length (walk_order own) + added
-  order_long = length-append (walk_order own) (range_with_len m.own_cells added) ∙ ap (λ n. length (walk_order own) + n) (range_long added m.own_cells)
+  order_long = length-append (walk_order own) (range_with_len m.own_cells added) ∙ ap (λ n. length (walk_order own) + n) (length-range_with_len added m.own_cells)
 
   pub cell_added : (id place : ℕ) → length (walk_order own) ≤ place → place < length (order_of m) → id ≡ length own + (place - length (walk_order own)) → slice_get (order_of m) place ≡ Some id
   cell_added id place past below is =
@@ -74,7 +62,7 @@ module _ (m : MachineData) (good : IsMachine m) where
 
   -- no cell stands twice
   pub order_once : IsDistinct nat_eq (order_of m)
-  order_once = distinct_append (walk_order own) (range_with_len m.own_cells added) (walk_once own) (range_once added m.own_cells) (λ x among.
+  order_once = distinct_append (walk_order own) (range_with_len m.own_cells added) (walk_once own) (distinct_range added m.own_cells) (λ x among.
       false_from_ne_true (is_in (range_with_len m.own_cells added) x) (λ later.
       let low = walk_within own x among in
       let high = (in_range added m.own_cells x later).0 in

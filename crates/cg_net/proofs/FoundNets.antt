@@ -6,12 +6,6 @@ use Rattle.std.proofs.lemmas.Option.{none-some}
 use Rattle.cg_net.specs.NetSets.{is_in, with_net, with_nets}
 use Rattle.cg_net.proofs.Members.{in_alone, is_in_cases, is_in_left, is_in_right}
 
--- a truth value that holds exactly where another does
-pub same_truth : (a b : Bool) → (a ≡ true → b ≡ true) → (b ≡ true → a ≡ true) → a ≡ b
-same_truth true b there back = sym (there refl)
-same_truth false true there back = back refl
-same_truth false false there back = refl
-
 -- one more net
 pub one_more : (found : List ℕ) (x y : ℕ) → is_in (with_net found x) y ≡ true → (is_in found y ≡ true) ⊎ (y ≡ x)
 one_more found x y among = go (is_in found x) among

@@ -29,7 +29,7 @@ pub placed_number : (places : List ℕ) (number place : ℕ) → number < length
 placed_number places number place within is = is ∙ sym (ap (λ o. unwrap_or o 0) (slice_get-get_or places number place within))
 
 -- a name of the table is known
-known_there : (names : List (List ℕ)) (k : ℕ) (name : List ℕ) → slice_get names k ≡ Some name → is_known names name ≡ true
+pub known_there : (names : List (List ℕ)) (k : ℕ) (name : List ℕ) → slice_get names k ≡ Some name → is_known names name ≡ true
 known_there [] k name at = absurd (none-some name at)
 known_there (n ∷ names) zero name at = or_left (pointwise nat_eq name n) (is_known names name) ((bytes_eq-Decides name n).1 (sym (same_Some n name at)))
 known_there (n ∷ names) (suc k) name at = or_right (pointwise nat_eq name n) (is_known names name) (known_there names k name at)

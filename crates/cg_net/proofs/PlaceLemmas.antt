@@ -36,7 +36,7 @@ same_net names a b different a_in b_in same =
       ]
     ]
 
-take_get : {X : Type 0} (xs : List X) (i j : ℕ) (x : X) → slice_get (take i xs) j ≡ Some x → (j < i) × (slice_get xs j ≡ Some x)
+pub take_get : {X : Type 0} (xs : List X) (i j : ℕ) (x : X) → slice_get (take i xs) j ≡ Some x → (j < i) × (slice_get xs j ≡ Some x)
 take_get xs zero j x at = absurd (cc)
 take_get [] (suc i) j x at = absurd (cc)
 take_get (y ∷ xs) (suc i) zero x at = (omega arith, at)

@@ -14,7 +14,7 @@ use Rattle.cg_net.proofs.Members.{All-from_members, All-member, is_in_cases, is_
 use Rattle.cg_netlist.proofs.Used.{input_is_used}
 use Rattle.cg_netlist.proofs.Values.{at_map}
 
-from_filter : (test : ℕ → Bool) (xs : List ℕ) (x : ℕ) → is_in (filter test xs) x ≡ true → is_in xs x ≡ true
+pub from_filter : (test : ℕ → Bool) (xs : List ℕ) (x : ℕ) → is_in (filter test xs) x ≡ true → is_in xs x ≡ true
 from_filter test [] x among = among
 from_filter test (y ∷ xs) x among = go (from_filter test xs x) (test y) among
   where

@@ -49,7 +49,7 @@ is_in-filter p (y ∷ ys) x = go (is_in-filter p ys x) (p y) refl
       | inr other ↦ rw (other, rest) refl
     ]
 
-distinct_filter : (p : ℕ → Bool) (xs : List ℕ) → IsDistinct nat_eq xs → IsDistinct nat_eq (filter p xs)
+pub distinct_filter : (p : ℕ → Bool) (xs : List ℕ) → IsDistinct nat_eq xs → IsDistinct nat_eq (filter p xs)
 distinct_filter p [] distinct = distinct
 distinct_filter p (y ∷ ys) distinct = go (distinct_filter p ys (distinct_tail y ys distinct)) (p y) refl
   where

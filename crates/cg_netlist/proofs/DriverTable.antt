@@ -4,7 +4,7 @@ use Rattle.std.proofs.Common.{replicate, set, slice_get, Some, refl, sym, ◌∙
 use Rattle.std.proofs.Common.{append_assoc}
 use Rattle.std.specs.List.{flat_map}
 use Rattle.std.specs.Option.{option_to_list}
-use Rattle.std.proofs.lemmas.Bool.{both_ways}
+use Rattle.std.proofs.lemmas.Bool.{both_ways, or_from}
 use Rattle.std.proofs.lemmas.List.{drop_all, length-replicate, length-set}
 use Rattle.std.proofs.lemmas.Option.{get_or_from_slice_get, none-some, same_Some, slice_get_within}
 use Rattle.cg_netlist.specs.Circuit.{Circuit, GatingCell, LogicCell, RegisterCell, cell_nets, data_inputs, gate_nets, given_nets}
@@ -17,7 +17,7 @@ use Rattle.cg_netlist.specs.declared.driver.Driver.TheVariants.{Input, Cell, Gat
 use Rattle.cg_netlist.specs.inner.Driving.{IsTold, all_but_inputs, behind_cells, behind_gaters, behind_registers}
 use Rattle.cg_netlist.proofs.Given.{driver_within, gate_given, given_driver, register_given}
 use Rattle.cg_net.proofs.Members.{is_in_cases, is_in_left, is_in_right, member_at}
-use Rattle.cg_netlist.proofs.NetsOf.{or_none, other_eqb}
+use Rattle.cg_netlist.proofs.NetsOf.{other_eqb}
 use Rattle.cg_net.proofs.TableLemmas.{set_cases}
 use Rattle.cg_netlist.proofs.Used.{in_flat}
 use Rattle.cg_netlist.proofs.Values.{at_map}
@@ -28,7 +28,7 @@ told_next c x left table d told is = record {
   long = length-set table x d ∙ told.long;
   right = λ net e at out. elim (set_cases table x net d e at) [
     | inl here ↦ subst (λ n. IsDriver c n e) (sym here.0) (subst (IsDriver c x) (sym here.1) is)
-    | inr there ↦ told.right net e there.1 (or_none (nat_eq net x) (is_in left net) (other_eqb net x there.0) out)
+    | inr there ↦ told.right net e there.1 (or_from (nat_eq net x) (is_in left net) (other_eqb net x there.0) out)
   ];
 }
 

@@ -3,12 +3,11 @@ use Rattle.std.proofs.Common.{◌≡◌, ℕ, zero, suc, ◌+◌, ◌<◌, ◌�
 use Rattle.std.proofs.Common.{slice_get, slice_set, Some, nat_eq, if◌then◌else◌, refl, ap, sym, ◌∙◌, subst, inl, inr, arith}
 use Rattle.std.specs.List.{All, range_with_len}
 use Rattle.std.specs.Option.{option_to_list}
-use Rattle.std.proofs.lemmas.Bool.{eqb-true, both_ways, false_from_ne_true}
+use Rattle.std.proofs.lemmas.Bool.{both_ways, eqb-true, false_from_ne_true, or_from}
 use Rattle.std.proofs.lemmas.List.{length-map, map-append, length-set}
 use Rattle.std.proofs.lemmas.Option.{slice_get_past, slice_get_within, slice_get-get_or}
-use Rattle.cg_netlist.specs.Circuit.{Circuit, LogicCell, cell_nets, data_inputs, gate_nets, given_nets, register_nets}
+use Rattle.cg_netlist.specs.Circuit.{Circuit, LogicCell, cell_nets, data_inputs, gate_nets, given_nets, register_nets, used_nets}
 use Rattle.cg_net.specs.NetSets.{is_in}
-use Rattle.cg_netlist.specs.Circuit.{used_nets}
 use Rattle.cg_netlist.specs.Moment.{CellsHold, Settles, bit, function_value, register_bits, values_at}
 use Rattle.cg_netlist.specs.WellFormed.{AreRanks, IsDriven}
 use Rattle.cg_netlist.proofs.Given.{data_given, driver_within, gate_given, given_driver, in_option, register_given}
@@ -18,10 +17,6 @@ use Rattle.cg_netlist.proofs.Settle.{settles_some}
 use Rattle.cg_net.proofs.TableLemmas.{same_or_not, slice_get-set_other, slice_get-set_same}
 use Rattle.cg_netlist.proofs.Values.{bit_shown, by_place, map_same, same_places, same_values, values_by}
 use Rattle.cg_netlist.specs.Nets.{IsOrdered, IsWalk, beside, given_bits, nets_of, outputs, put_cells}
-
-pub or_none : (a b : Bool) → a ≡ false → b ≡ false → (a || b) ≡ false
-or_none true b h k = h
-or_none false b h k = k
 
 pub other_eqb : (x y : ℕ) → (x ≡ y → ⊥) → nat_eq x y ≡ false
 other_eqb x y other = false_from_ne_true (nat_eq x y) (λ same. other (eqb-true x y same))
@@ -45,7 +40,7 @@ put_same (cell ∷ cells) table vs long holds ordered same =
     let within : cell.output < length table = omega (arith, slice_get_within vs cell.output v is, long) in
     put_same cells (slice_set table cell.output v) vs (length-set table cell.output v ∙ long) (λ k. holds (suc k)) ordered.1 (λ x out. elim (same_or_not x cell.output) [
       | inl e ↦ ap (slice_get (slice_set table cell.output v)) e ∙ (slice_get-set_same table cell.output v within ∙ (sym is ∙ ap (slice_get vs) (sym e)))
-      | inr e ↦ slice_get-set_other table cell.output x v e ∙ same x (or_none (nat_eq x cell.output) (is_in (outputs cells) x) (other_eqb x cell.output e) out)
+      | inr e ↦ slice_get-set_other table cell.output x v e ∙ same x (or_from (nat_eq x cell.output) (is_in (outputs cells) x) (other_eqb x cell.output e) out)
     ])
 
 module _ (c : Circuit) (driven : IsDriven c) (walk : List (LogicCell ℕ)) (good : IsWalk c.cells walk) (clock : Bool) (inputs state gates : List Bool) where

@@ -16,7 +16,7 @@ use Rattle.cg_net.specs.Names.{net_name}
 use Rattle.cg_netlist.specs.Circuit.{Circuit, GatingCell, LogicCell, asked_nets, cell_nets, clock_nets, data_inputs}
 use Rattle.cg_net.specs.NetSets.{is_in}
 use Rattle.cg_netlist.specs.Circuit.{gate_nets, given_nets, net_order, register_nets, used_nets}
-use Rattle.cg_netlist.specs.Wiring.{map_cell, map_register}
+use Rattle.cg_netlist.specs.Wiring.{map_cell, map_gater, map_register}
 use Rattle.cg_netlist.specs.WellFormed.{AreRanks, IsInNetOrder, IsOver, IsWellFormed, RegisterFits}
 use Rattle.cg_netlist.proofs.Driven.{driven_in_order}
 use Rattle.cg_net.proofs.PlaceLemmas.{mapped_at, same_net}
@@ -30,7 +30,6 @@ use Rattle.cg_netlist.proofs.NetOrder.{data_renumbered, from_mapped, in_mapped, 
 use Rattle.cg_netlist.proofs.NetOrder.{places_in_order, registers_renumbered}
 use Rattle.cg_netlist.proofs.Values.{at_map}
 use Rattle.cg_netlist.specs.Ordered.{ordered, place_in, with_numbers}
-use Rattle.cg_netlist.specs.Wiring.{map_gater}
 use Rattle.cg_netlist.proofs.Used.{input_is_used}
 
 -- a net that is in a list stands at its place
@@ -51,7 +50,7 @@ pub gates_renumbered : (f : ℕ → ℕ) (gs : List (GatingCell ℕ)) → map (�
 gates_renumbered f [] = refl
 gates_renumbered f (g ∷ gs) = ap (λ xs. f g.output ∷ xs) (gates_renumbered f gs)
 
-option_renumbered : (f : ℕ → ℕ) (o : Option ℕ) → option_to_list (option_map f o) ≡ map f (option_to_list o)
+pub option_renumbered : (f : ℕ → ℕ) (o : Option ℕ) → option_to_list (option_map f o) ≡ map f (option_to_list o)
 option_renumbered f None = refl
 option_renumbered f (Some x) = refl
 
@@ -61,7 +60,7 @@ asked_renumbered f (g ∷ gs) =
     ap (λ xs. (f g.enable ∷ xs) ++ flat_map asked_nets (map (map_gater f) gs)) (option_renumbered f g.test)
     ∙ (ap (λ xs. map f (asked_nets g) ++ xs) (asked_renumbered f gs) ∙ sym (map-append f (asked_nets g) (flat_map asked_nets gs)))
 
-four_mapped : (f : ℕ → ℕ) (as' bs cs ds : List ℕ) → map f (as' ++ bs ++ cs ++ ds) ≡ map f as' ++ map f bs ++ map f cs ++ map f ds
+pub four_mapped : (f : ℕ → ℕ) (as' bs cs ds : List ℕ) → map f (as' ++ bs ++ cs ++ ds) ≡ map f as' ++ map f bs ++ map f cs ++ map f ds
 four_mapped f as' bs cs ds = map-append f (as' ++ bs ++ cs) ds ∙ ap (λ xs. xs ++ map f ds) (map-append f (as' ++ bs) cs ∙ ap (λ xs. xs ++ map f cs) (map-append f as' bs))
 
 pub used_is : (f : ℕ → ℕ) (names : List (List ℕ)) (c : Circuit) → used_nets (with_numbers f names c) ≡ map f (used_nets c)
@@ -80,7 +79,7 @@ clock_nets_is f names c =
     ∙ (ap (λ xs. map f (option_to_list c.clock) ++ xs) (gates_renumbered f c.gaters) ∙ sym (map-append f (option_to_list c.clock) (gate_nets c)))
 
 -- a filter over renumbered nets
-filter_mapped : (f : ℕ → ℕ) (p q : ℕ → Bool) (xs : List ℕ) → ((x : ℕ) → is_in xs x ≡ true → q (f x) ≡ p x) → filter q (map f xs) ≡ map f (filter p xs)
+pub filter_mapped : (f : ℕ → ℕ) (p q : ℕ → Bool) (xs : List ℕ) → ((x : ℕ) → is_in xs x ≡ true → q (f x) ≡ p x) → filter q (map f xs) ≡ map f (filter p xs)
 filter_mapped f p q [] same = refl
 filter_mapped f p q (x ∷ xs) same =
     let rest : filter q (map f xs) ≡ map f (filter p xs) = filter_mapped f p q xs (λ y among. same y (or_right (nat_eq y x) (is_in xs y) among)) in

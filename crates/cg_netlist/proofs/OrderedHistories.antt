@@ -9,7 +9,7 @@ use Rattle.std.proofs.lemmas.Option.{get_or_from_slice_get, slice_get-get_or, sl
 use Rattle.cg_netlist.specs.Circuit.{Circuit, GatingCell, LogicCell, RegisterCell, asked_nets, cell_nets, clock_nets}
 use Rattle.cg_net.specs.NetSets.{is_in}
 use Rattle.cg_netlist.specs.Circuit.{data_inputs, gate_nets, given_nets, register_nets}
-use Rattle.cg_netlist.specs.Wiring.{map_cell, map_register}
+use Rattle.cg_netlist.specs.Wiring.{map_cell, map_gater, map_register}
 use Rattle.cg_netlist.specs.History.{AreTicks, IsLawful, IsStart, IsWaveform, LawfulFrom, Moment, MomentFollows, Tick, gate_bit}
 use Rattle.cg_netlist.specs.History.{latches_before, next_bit, next_latch, next_value, outputs_of, state_now}
 use Rattle.cg_netlist.specs.Moment.{Settles, bit, function_value, register_bits, shown_bits, values_at, zip_with}
@@ -22,7 +22,6 @@ use Rattle.cg_netlist.proofs.NetOrder.{registers_renumbered}
 use Rattle.cg_netlist.proofs.OrderLemmas.{length-range_with_len}
 use Rattle.cg_netlist.proofs.Values.{at_map, by_place, zip_with_same}
 use Rattle.cg_netlist.specs.Ordered.{ordered, place_in, pulled, pulled_moment}
-use Rattle.cg_netlist.specs.Wiring.{map_gater}
 use Rattle.cg_netlist.proofs.Used.{asked_is_used, data_is_used, input_is_used, output_is_used}
 use Rattle.cg_netlist.proofs.OrderedForm.{clock_nets_within, clock_within, data_is, gates_renumbered, number_within, ordered_formed}
 use Rattle.cg_netlist.proofs.OrderedForm.{used_within}
@@ -33,7 +32,7 @@ zip_mapped g h (x ∷ xs) [] = refl
 zip_mapped g h (x ∷ xs) (y ∷ ys) = ap (λ l. g (h x) y ∷ l) (zip_mapped g h xs ys)
 
 -- what a register shows does not depend on the numbers
-shown_bits_same : (f : ℕ → ℕ) (outputs : List (ℕ × Bool)) (b : Bool) → map {A = ℕ × Bool} (λ output. if output.1 then not b else b) (map (λ output. (f output.0, output.1)) outputs) ≡ map (λ output. if output.1 then not b else b) outputs
+pub shown_bits_same : (f : ℕ → ℕ) (outputs : List (ℕ × Bool)) (b : Bool) → map {A = ℕ × Bool} (λ output. if output.1 then not b else b) (map (λ output. (f output.0, output.1)) outputs) ≡ map (λ output. if output.1 then not b else b) outputs
 shown_bits_same f [] b = refl
 shown_bits_same f (o ∷ os) b = ap (λ l. (if o.1 then not b else b) ∷ l) (shown_bits_same f os b)
 

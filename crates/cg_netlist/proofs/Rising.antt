@@ -54,7 +54,7 @@ found_within above height falls zero k small = absurd (omega arith)
 found_within above height falls (suc m) k small = next_rank-found (rank_within above m) (above k) (λ j among. found_within above height falls m j (omega (arith, small, falls j k among)))
 
 -- a cell among those that drive a cell drives one of its inputs
-in_made : (f : ℕ → Option ℕ) (nets : List ℕ) (k : ℕ) → is_in (filter_map f nets) k ≡ true → (net : ℕ) × (is_in nets net ≡ true) × (f net ≡ Some k)
+pub in_made : (f : ℕ → Option ℕ) (nets : List ℕ) (k : ℕ) → is_in (filter_map f nets) k ≡ true → (net : ℕ) × (is_in nets net ≡ true) × (f net ≡ Some k)
 in_made f [] k among = absurd (both_ways false refl among)
 in_made f (x ∷ nets) k among = go (f x) refl among (in_made f nets k)
   where

@@ -10,9 +10,9 @@ use Rattle.std.proofs.lemmas.Map.Keys.{IsStrictlyIncreasing-dedup}
 use Rattle.std.proofs.lemmas.Bool.{eqb-true}
 use Rattle.cg_net.specs.NetSets.{is_in}
 use Rattle.cg_netlist.proofs.Filtered.{in_filter, range_in, to_filter}
-use Rattle.cg_net.proofs.FoundNets.{same_truth}
 use Rattle.cg_netlist.specs.inner.Rising.{Rises}
 use Rattle.cg_netlist.proofs.RisingPlaces.{rising_same}
+use Rattle.std.specs.Cmp.{both_ways as same_truth}
 
 pub rises_later : (a b : ℕ) (xs : List ℕ) → b ≤ a → Rises a xs → Rises b xs
 rises_later a b [] h rises = tt
@@ -38,7 +38,7 @@ rising_range xs ys n rises members below =
     (λ among. members x ∙ (in_filter (is_in xs) (range_with_len 0 n) x among).1))
 
 -- what a sort and a thinning leave has the members of the list, and rises
-dedup_in : (k : ℕ) (xs : List ℕ) (x : ℕ) → is_in (dedup_from nat_eq k xs) x ≡ is_in (k ∷ xs) x
+pub dedup_in : (k : ℕ) (xs : List ℕ) (x : ℕ) → is_in (dedup_from nat_eq k xs) x ≡ is_in (k ∷ xs) x
 dedup_in k [] x = refl
 dedup_in k (y ∷ xs) x = go (dedup_in k xs x) (dedup_in y xs x) (nat_eq y k) refl
   where

@@ -27,7 +27,7 @@ inputs_used (first ∷ cells) zero x cell at among =
 inputs_used (first ∷ cells) (suc k) x cell at among = is_in_right first.inputs (flat_map (λ cell. cell.inputs) cells) x (inputs_used cells k x cell at among)
 
 -- what the registers show is as long as the list of their nets
-length-register_bits : (registers : List (RegisterCell ℕ ℕ)) (state : List Bool) → length state ≡ length registers → length (register_bits registers state) ≡ length (flat_map shown_nets registers)
+pub length-register_bits : (registers : List (RegisterCell ℕ ℕ)) (state : List Bool) → length state ≡ length registers → length (register_bits registers state) ≡ length (flat_map shown_nets registers)
 length-register_bits [] state long = refl
 length-register_bits (r ∷ rs) [] long = absurd (omega arith)
 length-register_bits (r ∷ rs) (b ∷ bs) long =

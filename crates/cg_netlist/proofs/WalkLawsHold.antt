@@ -1,6 +1,6 @@
 -- The laws of walk order and of the bits that a walk leaves.
-use Rattle.std.proofs.Common.{◌≡◌, ◌≢◌, ℕ, zero, suc, ◌+◌, ◌<◌, ◌≤◌, ◌⊎◌, Bool, true, false, List, [], ◌∷◌, ◌++◌, length, map}
-use Rattle.std.proofs.Common.{nat_eq, slice_get, slice_index, Option, Some, None, refl, ap, sym, ◌∙◌, subst, inl, inr, arith}
+use Rattle.std.proofs.Common.{◌≡◌, ℕ, zero, suc, ◌<◌, ◌≤◌, ◌⊎◌, Bool, true, false, List, [], ◌∷◌, length, map}
+use Rattle.std.proofs.Common.{nat_eq, slice_get, slice_index, Some, refl, ap, sym, ◌∙◌, subst, inl, inr, arith}
 use Rattle.std.specs.List.{All, IsDistinct}
 use Rattle.std.proofs.lemmas.Bool.{both_ways, eqb-true, or_cases}
 use Rattle.std.proofs.lemmas.List.{length-map}
@@ -34,11 +34,11 @@ chain_at [] k cell at = absurd (cc)
 chain_at (g ∷ gs) zero cell at = (g, refl, same_Some (chain_cell g) cell at)
 chain_at (g ∷ gs) (suc k) cell at = chain_at gs k cell at
 
-chain_outputs : (gs : List (GatingCell ℕ)) → outputs (chain gs) ≡ map (λ (g : GatingCell ℕ). g.output) gs
+pub chain_outputs : (gs : List (GatingCell ℕ)) → outputs (chain gs) ≡ map (λ (g : GatingCell ℕ). g.output) gs
 chain_outputs [] = refl
 chain_outputs (g ∷ gs) = ap (λ l. g.output ∷ l) (chain_outputs gs)
 
-lone : (x y : ℕ) → is_in (x ∷ []) y ≡ true → y ≡ x
+pub lone : (x y : ℕ) → is_in (x ∷ []) y ≡ true → y ≡ x
 lone x y among = elim (or_cases (nat_eq y x) false among) [ inl same ↦ eqb-true y x same | inr never ↦ absurd (both_ways false refl never) ]
 
 chain_ranked : (c : Circuit) → IsWellFormed c → (numbers : List ℕ) → length numbers ≡ length c.gaters

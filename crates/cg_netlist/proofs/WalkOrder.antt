@@ -1,5 +1,5 @@
 -- Walk order puts each cell behind those that drive its inputs.
-use Rattle.std.proofs.Common.{◌≡◌, ℕ, zero, suc, ◌+◌, ◌<◌, ◌≤◌, ◌⊎◌, Bool, true, false, ◌||◌, cond, List, [], ◌∷◌, ◌++◌, length}
+use Rattle.std.proofs.Common.{◌≡◌, ℕ, zero, suc, ◌+◌, ◌<◌, ◌≤◌, Bool, true, false, ◌||◌, cond, List, [], ◌∷◌, ◌++◌, length}
 use Rattle.std.proofs.Common.{slice_get, Option, None, Some, nat_eq, ◌==◌, is_none, unwrap_or, refl, ap, sym, ◌∙◌, subst, inl, inr}
 use Rattle.std.proofs.Common.{arith}
 use Rattle.std.specs.List.{IsDistinct, cons_option, filter, filter_map, flat_map, position_from, range_with_len}
@@ -17,6 +17,7 @@ use Rattle.cg_netlist.proofs.Values.{at_map, under_map}
 use Rattle.cg_netlist.proofs.Rising.{every_rank_found}
 use Rattle.std.specs.List.{AllByRecursion}
 use Rattle.cg_netlist.specs.Nets.{IsOrdered, IsWalk, has_rank, outputs, walk_order}
+use Rattle.cg_netlist.proofs.Filtered.{range_in, to_filter}
 
 -- the first cell that drives a net, where no net is driven twice
 found_at : (x : ℕ) (cells : List (LogicCell ℕ)) (a j : ℕ) (c : LogicCell ℕ) → IsDistinct nat_eq (outputs cells) → slice_get cells j ≡ Some c → c.output ≡ x → position_from (λ cell. cell.output == x) a cells ≡ Some (a + j)
@@ -39,7 +40,7 @@ in_some : (o : Option ℕ) (ks : List ℕ) (k : ℕ) → is_in ks k ≡ true →
 in_some None ks k among = among
 in_some (Some j) ks k among = or_right (nat_eq k j) (is_in ks k) among
 
-in_driving : (f : ℕ → Option ℕ) (nets : List ℕ) (net k : ℕ) → is_in nets net ≡ true → f net ≡ Some k → is_in (filter_map f nets) k ≡ true
+pub in_driving : (f : ℕ → Option ℕ) (nets : List ℕ) (net k : ℕ) → is_in nets net ≡ true → f net ≡ Some k → is_in (filter_map f nets) k ≡ true
 in_driving f [] net k among is = absurd (both_ways false refl among)
 in_driving f (x ∷ nets) net k among is = elim (or_cases (nat_eq net x) (is_in nets net) among) [
   | inl here ↦ subst (λ o. is_in (cons_option o (filter_map f nets)) k ≡ true) (sym (ap f (sym (eqb-true net x here)) ∙ is)) (or_left (nat_eq k k) (is_in (filter_map f nets) k) (eq-eqb k k refl))
@@ -90,27 +91,10 @@ in_filter test (y ∷ xs) x among = go (in_filter test xs x) (test y) refl among
     go known false is inside = known inside
     go known true is inside = elim (or_cases (nat_eq x y) (is_in (filter test xs) x) inside) [ inl same ↦ ap test (eqb-true x y same) ∙ is | inr later ↦ known later ]
 
-to_filter : (test : ℕ → Bool) (xs : List ℕ) (x : ℕ) → is_in xs x ≡ true → test x ≡ true → is_in (filter test xs) x ≡ true
-to_filter test [] x among passes = absurd (both_ways false refl among)
-to_filter test (y ∷ xs) x among passes = go (λ later. to_filter test xs x later passes) (test y) refl (or_cases (nat_eq x y) (is_in xs x) among)
-  where
-    go : (is_in xs x ≡ true → is_in (filter test xs) x ≡ true) → (b : Bool) → test y ≡ b → (nat_eq x y ≡ true) ⊎ (is_in xs x ≡ true) → is_in (cond b (y ∷ filter test xs) (filter test xs)) x ≡ true
-    go rest true is (inl same) = or_left (nat_eq x y) (is_in (filter test xs) x) same
-    go rest true is (inr later) = or_right (nat_eq x y) (is_in (filter test xs) x) (rest later)
-    go rest false is (inl same) = absurd (both_ways (test x) (ap test (eqb-true x y same) ∙ is) passes)
-    go rest false is (inr later) = rest later
-
-range_in : (n a x : ℕ) → x < n → is_in (range_with_len a n) (a + x) ≡ true
-range_in zero a x below = absurd (omega arith)
-range_in (suc n) a zero below = or_left (nat_eq (a + 0) a) (is_in (range_with_len (a + 1) n) (a + 0)) (eq-eqb (a + 0) a (omega arith))
-range_in (suc n) a (suc x) below =
-    let e : a + 1 + x ≡ a + suc x = omega arith in
-    or_right (nat_eq (a + suc x) a) (is_in (range_with_len (a + 1) n) (a + suc x)) (subst (λ y. is_in (range_with_len (a + 1) n) y ≡ true) e (range_in n (a + 1) x (omega arith)))
-
 in_range : (n x : ℕ) → x < n → is_in (range_with_len 0 n) x ≡ true
 in_range n x below = let e : 0 + x ≡ x = omega arith in subst (λ y. is_in (range_with_len 0 n) y ≡ true) e (range_in n 0 x below)
 
-in_each : (f : ℕ → List ℕ) (xs : List ℕ) (x y : ℕ) → is_in xs x ≡ true → is_in (f x) y ≡ true → is_in (flat_map f xs) y ≡ true
+pub in_each : (f : ℕ → List ℕ) (xs : List ℕ) (x y : ℕ) → is_in xs x ≡ true → is_in (f x) y ≡ true → is_in (flat_map f xs) y ≡ true
 in_each f [] x y among inside = absurd (both_ways false refl among)
 in_each f (z ∷ xs) x y among inside = elim (or_cases (nat_eq x z) (is_in xs x) among) [
   | inl same ↦ is_in_left (f z) (flat_map f xs) y (subst (λ w. is_in (f w) y ≡ true) (eqb-true x z same) inside)

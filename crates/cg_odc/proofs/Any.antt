@@ -12,10 +12,6 @@ pub any_never : {X : Type 0} (xs : List X) → list_any (λ x. false) xs ≡ fal
 any_never [] = refl
 any_never (x ∷ xs) = any_never xs
 
-or_none : (b : Bool) → (b || false) ≡ b
-or_none true = refl
-or_none false = refl
-
 -- either of two tests
 any_either : {X : Type 0} (p q : X → Bool) (xs : List X) → list_any (λ x. p x || q x) xs ≡ (list_any p xs || list_any q xs)
 any_either p q [] = refl

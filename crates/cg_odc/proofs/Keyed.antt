@@ -4,8 +4,6 @@ use Rattle.std.proofs.Common.{nat_eq, bytes_eq, option_and_then, Option, Some, N
 use Rattle.std.specs.List.{cons_option, filter, filter_map, find}
 use Rattle.std.specs.Option.{option_map, option_map_or}
 use Rattle.std.proofs.lemmas.Bool.{both_ways, eq-eqb, eqb-true, lt-ltb, ltb-true, or_left}
-use Rattle.cg_groups.proofs.Same.{same_filter}
-use Rattle.cg_lists.proofs.FitLists.{in_filtered, range_in}
 use Rattle.cg_lists.specs.Groups.{Group, group_of, groups, has_key, is_first}
 use Rattle.cg_lists.specs.Rounds.{is_empty, kept_key, left_out, same_kind}
 use Rattle.cg_lists.specs.StableList.{StableKey, same_stable}
@@ -14,21 +12,20 @@ use Rattle.cg_lists.specs.UnseenList.{fan_out, guards_of, had_unseen, is_guard, 
 use Rattle.cg_machine.specs.Machine.{MachineData}
 use Rattle.cg_machine.specs.declared.stage.Earlier.{Earlier}
 use Rattle.cg_machine.specs.declared.stage.StageKind.TheVariants.{Unseen}
-use Rattle.cg_netlist.proofs.Driven.{is_in-range}
+use Rattle.cg_netlist.proofs.Driven.{in_range, is_in-range}
 use Rattle.cg_net.specs.NetSets.{is_in}
 use Rattle.cg_odc.specs.inner.Guarding.{guard_key, guards_by, had_guards}
 use Rattle.cg_odc.proofs.Any.{any_same}
 use Rattle.cg_odc.proofs.Guarded.{guard_is, guard_own}
-
-and_true : (b : Bool) → (b && true) ≡ b
-and_true true = refl
-and_true false = refl
+use Rattle.std.proofs.Math.Bool.{and-true}
+use Rattle.cg_netlist.proofs.ByRank.{filter_same}
+use Rattle.cg_netlist.proofs.Filtered.{to_filter}
 
 module _ (m : MachineData) (g : ℕ) (numbers : List ℕ) (are : (q : ℕ) → is_in numbers q ≡ guards_by m m.own_registers g q) where
   -- numbers of guards, in register order
   pub guards_are : filter (is_in numbers) (own_registers_of m) ≡ guards_of m g
-  guards_are = same_filter (is_in numbers) (is_guard m g (fan_out m g)) (own_registers_of m) (λ q among.
-      let b = range_in m.own_registers 0 q among in
+  guards_are = filter_same (is_in numbers) (is_guard m g (fan_out m g)) (own_registers_of m) (λ q among.
+      let b = in_range m.own_registers 0 q among in
       are q ∙ sym (guard_is m g q (lt-ltb q m.own_registers (omega (arith, b.1)))))
 
   pub below : (q : ℕ) → is_in numbers q ≡ true → q < m.own_registers
@@ -41,7 +38,7 @@ module _ (m : MachineData) (g : ℕ) (numbers : List ℕ) (are : (q : ℕ) → i
   pub key_some : is_empty numbers ≡ false → has_enable m g ≡ false → (ordered : List ℕ) → ordered ≡ filter (is_in numbers) (own_registers_of m) → Some (guard_key ordered) ≡ option_map guard_key (unseen_key m g)
   key_some some free ordered is =
       let q = first numbers some in
-      let there : is_in (filter (is_in numbers) (own_registers_of m)) q.0 ≡ true = in_filtered (is_in numbers) (own_registers_of m) q.0 (is_in-range m.own_registers 0 q.0 (omega arith) (let h = below q.0 q.1 in omega (arith, h))) q.1 in
+      let there : is_in (filter (is_in numbers) (own_registers_of m)) q.0 ≡ true = to_filter (is_in numbers) (own_registers_of m) q.0 (is_in-range m.own_registers 0 q.0 (omega arith) (let h = below q.0 q.1 in omega (arith, h))) q.1 in
       let full : is_empty (guards_of m g) ≡ false = ap is_empty (sym guards_are) ∙ some_left q.0 (filter (is_in numbers) (own_registers_of m)) there in
       ap (λ l. Some (guard_key l)) (is ∙ guards_are) ∙ sym (ap (λ b. option_map guard_key (if (not b && not (is_empty (guards_of m g))) then Some (guards_of m g) else None)) free
       ∙ ap (λ b. option_map guard_key (if not b then Some (guards_of m g) else None)) full)
@@ -68,7 +65,7 @@ key_enabled m g enabled = sym (ap (λ b. option_map guard_key (if (not b && not 
 -- what earlier stages leave out
 same_left : (earlier : List Earlier) (r : ℕ) (guards : List ℕ) → left_out Unseen had_guards earlier r (guard_key guards) ≡ left_out Unseen had_unseen earlier r guards
 same_left earlier r guards = any_same (λ (e : Earlier). same_kind e.stage.kind Unseen && is_in e.stage.regs r && (e.inserted || had_guards (guard_key guards) e.stage)) (λ (e : Earlier). same_kind e.stage.kind Unseen && is_in e.stage.regs r && (e.inserted || had_unseen guards e.stage)) earlier
-    (λ e. ap (λ b. same_kind e.stage.kind Unseen && is_in e.stage.regs r && (e.inserted || b)) (and_true (bytes_eq guards e.stage.guards)))
+    (λ e. ap (λ b. same_kind e.stage.kind Unseen && is_in e.stage.regs r && (e.inserted || b)) (and-true (bytes_eq guards e.stage.guards)))
 
 pub kept_lifted : (earlier : List Earlier) (key : ℕ → Option (List ℕ)) (r : ℕ) → kept_key Unseen had_guards earlier (λ q. option_map guard_key (key q)) r ≡ option_map guard_key (kept_key Unseen had_unseen earlier key r)
 kept_lifted earlier key r = go (key r)
@@ -94,7 +91,7 @@ module _ (key : ℕ → Option (List ℕ)) where
     where
       go : (o : Option (List ℕ)) → option_map_or (same_stable (guard_key l)) (option_map guard_key o) false ≡ option_map_or (bytes_eq l) o false
       go None = refl
-      go (Some j) = and_true (bytes_eq l j)
+      go (Some j) = and-true (bytes_eq l j)
 
   find_same : (p q : ℕ → Bool) (xs : List ℕ) → ((x : ℕ) → p x ≡ q x) → find p xs ≡ find q xs
   find_same p q [] same = refl
@@ -111,7 +108,7 @@ module _ (key : ℕ → Option (List ℕ)) where
       go None = refl
       go (Some l) =
           ap (λ f. if is_first f r then Some (let g : Group StableKey = record { key = guard_key l; regs = filter (has_key same_stable lifted (guard_key l)) regs } in g) else None) (find_same (has_key same_stable lifted (guard_key l)) (has_key bytes_eq key l) regs (same_has l))
-          ∙ (ap (λ rs. if is_first (find (has_key bytes_eq key l) regs) r then Some (let g : Group StableKey = record { key = guard_key l; regs = rs } in g) else None) (same_filter (has_key same_stable lifted (guard_key l)) (has_key bytes_eq key l) regs (λ x among. same_has l x))
+          ∙ (ap (λ rs. if is_first (find (has_key bytes_eq key l) regs) r then Some (let g : Group StableKey = record { key = guard_key l; regs = rs } in g) else None) (filter_same (has_key same_stable lifted (guard_key l)) (has_key bytes_eq key l) regs (λ x among. same_has l x))
           ∙ two (is_first (find (has_key bytes_eq key l) regs) r) (record { key = l; regs = filter (has_key bytes_eq key l) regs }))
 
   maps_lifted : (regs rs : List ℕ) → filter_map (λ r. option_and_then (group_of same_stable lifted regs r) (lifted r)) rs ≡ map guard_group (filter_map (λ r. option_and_then (group_of bytes_eq key regs r) (key r)) rs)

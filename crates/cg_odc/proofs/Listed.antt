@@ -8,12 +8,12 @@ use Rattle.std.proofs.lemmas.List.{length-take-le}
 use Rattle.std.proofs.lemmas.List.Elements.{filter-append, filter_map-append}
 use Rattle.std.proofs.lemmas.Option.{none-some, same_Some}
 use Rattle.std.proofs.lemmas.Slice.Eq.{bytes_eq-Decides}
-use Rattle.cg_groups.proofs.Listed.{seen_push, take_next}
-use Rattle.cg_groups.proofs.Same.{same_filter, same_groups}
+use Rattle.cg_groups.proofs.Listed.{seen_push}
+use Rattle.cg_groups.proofs.Same.{same_groups}
 use Rattle.cg_groups.specs.Keys.{groups_seen, key_at, key_seen}
 use Rattle.cg_groups.specs.declared.key.Key.{Key}
-use Rattle.cg_lists.proofs.FitLists.{begins_group, filter_in, range_in}
-use Rattle.cg_lists.proofs.Mapped.{kept, mapped_from, then_option, when_true}
+use Rattle.cg_lists.proofs.FitLists.{begins_group}
+use Rattle.cg_lists.proofs.Mapped.{kept, then_option, when_true}
 use Rattle.cg_lists.proofs.UsedNets.{register_used, used_net}
 use Rattle.cg_lists.specs.Groups.{Group, group_of, groups}
 use Rattle.cg_lists.specs.HoldList.{unless_empty}
@@ -35,6 +35,10 @@ use Rattle.cg_net.specs.NetSets.{is_in}
 use Rattle.cg_odc.specs.inner.Guarding.{AreKeys, guard_key, had_guards}
 use Rattle.cg_odc.specs.inner.Kept.{AreOwnKeys, inserted_guards, key_numbers, left_stage, not_among}
 use Rattle.cg_odc.proofs.Keyed.{groups_lifted, guard_group, kept_lifted}
+use Rattle.cg_net.proofs.TableLemmas.{take_end}
+use Rattle.cg_netlist.proofs.ByRank.{filter_same}
+use Rattle.cg_netlist.proofs.Filtered.{in_filter}
+use Rattle.cg_netlist.proofs.Rising.{in_made}
 
 -- the keys that are left make the groups
 pub groups_are : (m : MachineData) (earlier : List Earlier) (keys left : List (Option Key)) → AreKeys m keys → length left ≡ length keys → ((r : ℕ) → key_at left r ≡ kept_key Unseen had_guards earlier (key_at keys) r)
@@ -77,8 +81,8 @@ stages_are m test earlier keys regs held even are kept =
     all (r ∷ rs) = ap (λ l. r ∷ l) (all rs)
 
     left : (rs : List ℕ) (b : Bool) → ((y : ℕ) → is_in held y ≡ (b && is_in (key_numbers keys ++ inserted_guards earlier) y)) → not_among held rs ≡ without_guards b (unseen_groups m earlier) earlier rs
-    left rs false kept = same_filter (λ r. not (is_in held r)) (λ r. true) rs (λ r among. ap not (kept r)) ∙ all rs
-    left rs true kept = same_filter (λ r. not (is_in held r)) (λ r. not (is_in (guards_kept (unseen_groups m earlier) earlier) r)) rs (λ r among. ap not (kept r ∙ ap (λ l. is_in (l ++ inserted_guards earlier) r) names))
+    left rs false kept = filter_same (λ r. not (is_in held r)) (λ r. true) rs (λ r among. ap not (kept r)) ∙ all rs
+    left rs true kept = filter_same (λ r. not (is_in held r)) (λ r. not (is_in (guards_kept (unseen_groups m earlier) earlier) r)) rs (λ r among. ap not (kept r ∙ ap (λ l. is_in (l ++ inserted_guards earlier) r) names))
 
 -- guards are registers of the netlist
 seen_at : (keys : List Key) (regs : List (List ℕ)) (k : ℕ) (key : Key) → length regs ≡ length keys → slice_get keys k ≡ Some key → (g : Group StableKey) × (slice_get (groups_seen keys regs) k ≡ Some g) × (g.key ≡ key_seen key)
@@ -110,8 +114,8 @@ keys_own m earlier keys regs even are k key at q among =
     let begins = begins_group bytes_eq (λ a b. (bytes_eq-Decides a b).0) (kept_key Unseen had_unseen earlier (unseen_key m)) (own_registers_of m) r.0 h.0 r.1 in
     let guards = (when_true (not (has_enable m r.0) && not (is_empty (guards_of m r.0))) (guards_of m r.0) h.0.key (kept Unseen had_unseen earlier (unseen_key m) r.0 h.0.key begins.is_key)).1 in
     let same : key.numbers.items ≡ guards_of m r.0 = ap (λ (z : StableKey). z.enables) (sym seen.2 ∙ ap (λ (g : Group StableKey). g.key) (sym h.2)) ∙ sym guards in
-    let there = filter_in (is_guard m r.0 (fan_out m r.0)) (own_registers_of m) q (ap (λ l. is_in l q) (sym same) ∙ among) in
-    let b = range_in m.own_registers 0 q there.0 in
+    let there = in_filter (is_guard m r.0 (fan_out m r.0)) (own_registers_of m) q (ap (λ l. is_in l q) (sym same) ∙ among) in
+    let b = in_range m.own_registers 0 q there.0 in
     omega (arith, b.1)
 
 -- one group more, of which a stage is left or not
@@ -123,19 +127,19 @@ stages_more m held keys regs i k rs even below at_key at_regs =
     let long : length (take i regs) ≡ length (take i keys) = length-take-le i regs (omega (arith, even, below)) ∙ sym (length-take-le i keys (omega (arith, below))) in
     ap (λ l. filter_map (left_stage m held) l)
     (ap (λ n. groups_seen (take n keys) (take n regs)) e
-    ∙ (ap (λ l. groups_seen l (take (suc i) regs)) (take_next keys i k at_key) ∙ (ap (λ l. groups_seen (take i keys ++ k ∷ []) l) (take_next regs i rs at_regs) ∙ seen_push (take i keys) (take i regs) k rs long)))
+    ∙ (ap (λ l. groups_seen l (take (suc i) regs)) (take_end keys i k at_key) ∙ (ap (λ l. groups_seen (take i keys ++ k ∷ []) l) (take_end regs i rs at_regs) ∙ seen_push (take i keys) (take i regs) k rs long)))
     ∙ filter_map-append (left_stage m held) (groups_seen (take i keys) (take i regs)) (g ∷ [])
 
 -- items that pass a test, and flat lists, with one item more
 pub among_more : (held : List ℕ) (regs : List ℕ) (i r : ℕ) → slice_get regs i ≡ Some r → not_among held (take (i + 1) regs) ≡ not_among held (take i regs) ++ cond (not (is_in held r)) (r ∷ []) []
 among_more held regs i r at =
     let e : i + 1 ≡ suc i = omega arith in
-    ap (not_among held) (ap (λ n. take n regs) e ∙ take_next regs i r at) ∙ filter-append (λ x. not (is_in held x)) (take i regs) (r ∷ [])
+    ap (not_among held) (ap (λ n. take n regs) e ∙ take_end regs i r at) ∙ filter-append (λ x. not (is_in held x)) (take i regs) (r ∷ [])
 
 pub flat_more : {X : Type 0} (f : X → List ℕ) (xs : List X) (i : ℕ) (x : X) → slice_get xs i ≡ Some x → flat_map f (take (i + 1) xs) ≡ flat_map f (take i xs) ++ f x
 flat_more {X = X} f xs i x at =
     let e : i + 1 ≡ suc i = omega arith in
-    ap (flat_map f) (ap (λ n. take n xs) e ∙ take_next xs i x at) ∙ go (take i xs)
+    ap (flat_map f) (ap (λ n. take n xs) e ∙ take_end xs i x at) ∙ go (take i xs)
   where
     none : (l : List ℕ) → l ++ [] ≡ l
     none [] = refl
@@ -164,7 +168,7 @@ numbers_more keys i k y first before after at so_far is =
 -- the nets that guards take are nets of the machine
 pub taken_below : (m : MachineData) → IsMachine m → (guards : List ℕ) (y : ℕ) → is_in (filter_map (taken_at m) guards) y ≡ true → y < length m.circuit.names
 taken_below m good guards y among =
-    let q = mapped_from (taken_at m) guards y among in
+    let q = in_made (taken_at m) guards y among in
     let c = then_option taken_net (slice_get m.circuit.registers q.0) y q.2 in
     let i = then_option (slice_get c.0.inputs) (lone_input (register_term c.0.kind)) y c.2 in
     (used_net m good y (register_used m good q.0 c.0 y c.1 (member_at c.0.inputs i.0 y i.2))).below

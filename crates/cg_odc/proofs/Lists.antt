@@ -8,26 +8,20 @@ use Rattle.std.proofs.lemmas.Bool.Decides.{eqb_tells}
 use Rattle.std.proofs.lemmas.Option.{slice_get-get_or}
 use Rattle.cg_net.proofs.TableLemmas.{slice_get-set_other, slice_get-set_same, take_next}
 use Rattle.cg_net.specs.NetSets.{is_in}
-use Rattle.cg_net.proofs.Members.{is_in-append}
 use Rattle.cg_odc.specs.inner.Guarding.{list_at}
-
-or_none : (b : Bool) → (b || false) ≡ b
-or_none true = refl
-or_none false = refl
-
-pub in_end : (xs : List ℕ) (x y : ℕ) → is_in (xs ++ x ∷ []) y ≡ (is_in xs y || nat_eq y x)
-in_end xs x y = is_in-append xs (x ∷ []) y ∙ ap (λ b. is_in xs y || b) (or_none (nat_eq y x))
+use Rattle.cg_cone.proofs.ConeEdge.{in_more}
+use Rattle.std.proofs.Math.Bool.{or-false}
 
 -- one item more of those that were put
 pub in_taken : (xs : List ℕ) (i x y : ℕ) → slice_get xs i ≡ Some x → is_in (take (i + 1) xs) y ≡ (is_in (take i xs) y || nat_eq y x)
-in_taken xs i x y at = ap (λ l. is_in l y) (take_next xs i x at) ∙ in_end (take i xs) x y
+in_taken xs i x y at = ap (λ l. is_in l y) (take_next xs i x at) ∙ in_more (take i xs) x y
 
 -- a number that is put behind others, unless it is there
 pub put_once : (keys after : List ℕ) (x y : ℕ) → after ≡ (if is_in keys x then keys else keys ++ x ∷ []) → is_in after y ≡ (is_in keys y || nat_eq y x)
 put_once keys after x y is = ap (λ l. is_in l y) is ∙ go (is_in keys x) refl
   where
     go : (b : Bool) → is_in keys x ≡ b → is_in (if b then keys else keys ++ x ∷ []) y ≡ (is_in keys y || nat_eq y x)
-    go false there = in_end keys x y
+    go false there = in_more keys x y
     go true there = inner (nat_eq y x) refl
       where
         all : (b : Bool) → b ≡ true → b ≡ (b || true)
@@ -35,7 +29,7 @@ put_once keys after x y is = ap (λ l. is_in l y) is ∙ go (is_in keys x) refl
         all false h = h
 
         inner : (c : Bool) → nat_eq y x ≡ c → is_in keys y ≡ (is_in keys y || c)
-        inner false same = sym (or_none (is_in keys y))
+        inner false same = sym (or-false (is_in keys y))
         inner true same = all (is_in keys y) (ap (is_in keys) (eqb-true y x same) ∙ there)
 
 -- a list with one more number
@@ -46,12 +40,12 @@ put_at lists p h old list below read is g within q = elim (eqb_tells g p) [
       ap (λ z. is_in (list_at (slice_set lists p list) z) q) same.1
       ∙ (ap (λ o. is_in (option_map_or (λ (l : List ℕ). l) o []) q) (slice_get-set_same lists p list below)
       ∙ (ap (λ l. is_in l q) is
-      ∙ (in_end old h q
+      ∙ (in_more old h q
       ∙ (ap (λ l. is_in l q || nat_eq q h) (sym (ap (λ o. option_map_or (λ (l : List ℕ). l) o []) (ap (slice_get lists) same.1 ∙ (slice_get-get_or lists p old below ∙ ap Some (sym read)))))
       ∙ ap (λ b. is_in (list_at lists g) q || (b && nat_eq q h)) (sym same.0)))))
   | inr other ↦
       ap (λ o. is_in (option_map_or (λ (l : List ℕ). l) o []) q) (slice_get-set_other lists p g list other.1)
-      ∙ (sym (or_none (is_in (list_at lists g) q)) ∙ ap (λ b. is_in (list_at lists g) q || (b && nat_eq q h)) (sym other.0))
+      ∙ (sym (or-false (is_in (list_at lists g) q)) ∙ ap (λ b. is_in (list_at lists g) q || (b && nat_eq q h)) (sym other.0))
 ]
 
 pub none_at : (n g q : ℕ) → is_in (list_at (replicate n []) g) q ≡ false
@@ -69,7 +63,7 @@ turned a b = truth (nat_eq a b) (nat_eq b a) (λ h. eq-eqb b a (sym (eqb-true a 
     truth false false there back = refl
 
 pub put_none : (old : Bool) (g under reg h q : ℕ) → (nat_eq under reg || nat_eq under h) ≡ true → old ≡ (old || (nat_eq g under && (not (nat_eq g reg) && not (nat_eq g h)) && nat_eq q h))
-put_none old g under reg h q one = sym (ap (λ b. old || b) (go (nat_eq g under) refl) ∙ or_none old)
+put_none old g under reg h q one = sym (ap (λ b. old || b) (go (nat_eq g under) refl) ∙ or-false old)
   where
     closed : (a b c : Bool) → (a || b) ≡ true → (true && (not a && not b) && c) ≡ false
     closed true b c is = refl

@@ -22,7 +22,7 @@ use Rattle.cg_claim.proofs.DriversTell.{driven_value, driver_tells}
 use Rattle.cg_lists.specs.UnseenList.{plain_outputs}
 use Rattle.cg_odc.specs.inner.Guarding.{is_plain, shows_plain}
 use Rattle.cg_support.proofs.Driving.{lifted}
-use Rattle.cg_support.proofs.Nets.{same_truth}
+use Rattle.std.specs.Cmp.{both_ways as same_truth}
 
 -- an output that is not inverted, by its place
 plain_place : (outs : List (ℕ × Bool)) (y : ℕ) → is_in (map (λ o. o.0) (filter (λ o. not o.1) outs)) y ≡ true → (place : ℕ) × (slice_get outs place ≡ Some (y, false))

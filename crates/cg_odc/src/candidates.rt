@@ -13,8 +13,8 @@ use crate::guard::taken_net;
 use crate::kept::{kept_guards, left_of};
 use crate::key::keys_of;
 use crate::round::leave_out;
+use cg_cone::ascending::ascending;
 use cg_groups::group::{Groups, groups_of};
-use cg_groups::order::rising;
 use cg_list::Seq;
 use cg_machine::machine::Machine;
 use cg_machine::stage::{Earlier, NetLit, Stage, StageKind};
@@ -95,7 +95,7 @@ fn stage(
     ensures { IfOk result (λ stage. stage ≡ unseen_stage machine.now guards.now regs) }
 {
     let _netlist = machine.netlist();
-    let nets = rising(taken_nets(alloc, machine, guards)?);
+    let nets = ascending(taken_nets(alloc, machine, guards)?);
     Ok(Stage {
         kind: StageKind::Unseen,
         enable: literals(alloc, &nets)?,

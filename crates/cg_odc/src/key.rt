@@ -8,8 +8,8 @@ ghost use Rattle.cg_net.specs.NetSets.{is_in};
 ghost use Rattle.cg_odc.specs.inner.Guarding.{AreKeys, guard_key, guards_by};
 
 use crate::guards::Guards;
+use cg_cone::ascending::ascending;
 use cg_groups::key::Key;
-use cg_groups::order::rising;
 use cg_machine::machine::Machine;
 use cg_net::id::RegId;
 use std::alloc::{AllocError, Global};
@@ -45,7 +45,7 @@ fn key_of(
         return Ok(None);
     }
     Ok(Some(Key {
-        numbers: rising(Vec::from_slice(alloc, guards)?),
+        numbers: ascending(Vec::from_slice(alloc, guards)?),
         own: None,
     }))
 }

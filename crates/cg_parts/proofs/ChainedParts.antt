@@ -10,13 +10,13 @@ use Rattle.cg_parts.proofs.GatedNets.{gate_at, not_root, one_gate}
 use Rattle.cg_parts.proofs.KnownNames.{known_each, known_head, known_tail, word_at}
 use Rattle.cg_parts.proofs.Least.{least, least_first, least_passes}
 use Rattle.cg_parts.proofs.Mentioned.{gate_net_mentioned}
-use Rattle.cg_parts.proofs.NamePlaces.{mapped_at}
 use Rattle.cg_parts.proofs.OrderedParts.{root_clock}
 use Rattle.cg_netlist.specs.Circuit.{GatingCell}
 use Rattle.cg_net.specs.Names.{NetName, is_known, name_place}
 use Rattle.cg_parts.specs.Faults.{IsClockProper, IsFaultless, IsGateProper, reaches}
 use Rattle.cg_parts.specs.Part.{Part, clock_of, gaters, nets, roots, wired}
 use Rattle.cg_netlist.specs.Wiring.{Wiring, driven_by_gaters, map_gater, order_of}
+use Rattle.cg_net.proofs.PlaceLemmas.{mapped_at}
 
 module _ (parts : List Part) (fine : IsFaultless parts) where
   abbrev w : Wiring NetName

@@ -1,6 +1,6 @@
 -- The places of names in a list.
 use Rattle.std.specs.Prelude.{◌≡◌, ◌≢◌, ◌⊎◌, ℕ, suc, ◌+◌, ◌<◌, Bool, true, false, not, ◌||◌, if◌then◌else◌, List, [], ◌∷◌, map}
-use Rattle.std.specs.Prelude.{length, slice_get, unwrap_or, Option, None, Some, nat_eq}
+use Rattle.std.specs.Prelude.{length, slice_get, unwrap_or, Some, nat_eq}
 use Rattle.std.proofs.Common.{refl, ap, ◌∙◌, sym, inl, inr, arith, get_or, cond}
 use Rattle.std.specs.List.{AllByRecursion, AllPairs, before_first, list_any, range_with_len}
 use Rattle.std.specs.Option.{option_map}
@@ -10,7 +10,7 @@ use Rattle.std.proofs.lemmas.Bool.{eq-eqb}
 use Rattle.std.proofs.lemmas.List.{length-map, map-id}
 use Rattle.std.proofs.lemmas.List.Sums.{prefix_len_is}
 use Rattle.std.proofs.lemmas.List.FromFn.{fill_by_all}
-use Rattle.std.proofs.lemmas.Option.{slice_get-get_or, slice_get-map, slice_get_within, get_or_from_slice_get, same_Some}
+use Rattle.std.proofs.lemmas.Option.{slice_get-get_or, slice_get-map, slice_get_within, get_or_from_slice_get}
 use Rattle.std.proofs.lemmas.Option.{unwrap_or-slice_get}
 use Rattle.cg_netlist.proofs.OrderedForm.{names}
 use Rattle.cg_parts.proofs.KnownNames.{first_step, itself, known_head, known_tail, same_word}
@@ -37,11 +37,6 @@ same_net names a b different a_in b_in same =
         | inr ge ↦ omega arith
       ]
     ]
-
--- what stands where a mapped element stands
-pub mapped_at : {X Y : Type 0} (f : X → Y) (o : Option X) (y : Y) → option_map f o ≡ Some y → (x : X) × (o ≡ Some x) × (f x ≡ y)
-mapped_at f None y is = absurd (cc)
-mapped_at f (Some x) y is = (x, refl, same_Some (f x) y is)
 
 -- of two names of a list one is first
 pub either_first : (xs : List NetName) (x y : NetName) → is_known xs x ≡ true → is_known xs y ≡ true → bytes_eq x y ≡ false → (is_known (before_first (bytes_eq x) xs) y ≡ true) ⊎ (is_known (before_first (bytes_eq y) xs) x ≡ true)

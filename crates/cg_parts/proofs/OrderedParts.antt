@@ -29,8 +29,7 @@ use Rattle.cg_parts.specs.Faults.{IsClockProper, IsDrivenIfUsed, IsDrivenOnce, I
 use Rattle.cg_parts.specs.Part.{Part, cells, clock_in, clock_of, clock_pins, clocks, drivers, gaters, inputs, nets, on_clock}
 use Rattle.cg_parts.specs.Part.{outputs, registers, roots, uses, wired}
 use Rattle.cg_parts.specs.Says.{IsClockOf}
-use Rattle.cg_netlist.specs.Wiring.{Wiring, driven_by_cells, driven_by_gaters, driven_by_registers, map_wiring}
-use Rattle.cg_netlist.specs.Wiring.{order_of}
+use Rattle.cg_netlist.specs.Wiring.{Wiring, driven_by_cells, driven_by_gaters, driven_by_registers, map_wiring, order_of}
 
 module _ (parts : List Part) (fine : IsFaultless parts) where
   abbrev w : Wiring NetName

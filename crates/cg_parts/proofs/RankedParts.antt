@@ -9,7 +9,7 @@ use Rattle.std.proofs.lemmas.Option.{slice_get-map}
 use Rattle.cg_parts.proofs.KnownNames.{itself, known_each, known_head, known_left, known_right, known_tail, same_word}
 use Rattle.cg_parts.proofs.Least.{least, least_first, least_passes}
 use Rattle.cg_parts.proofs.Mentioned.{cell_net_mentioned}
-use Rattle.cg_parts.proofs.NamePlaces.{from_places, mapped_at, same_place}
+use Rattle.cg_parts.proofs.NamePlaces.{from_places, same_place}
 use Rattle.cg_parts.proofs.OrderedParts.{cell_ordered, use_a}
 use Rattle.cg_netlist.specs.Circuit.{LogicCell}
 use Rattle.cg_net.specs.NetSets.{is_in}
@@ -17,6 +17,7 @@ use Rattle.cg_net.specs.Names.{NetName, is_known, name_place}
 use Rattle.cg_parts.specs.Faults.{IsEnding, IsFaultless, ends_within}
 use Rattle.cg_parts.specs.Part.{Part, cells, nets, wired}
 use Rattle.cg_netlist.specs.Wiring.{Wiring, driven_by_cells, map_cell, order_of}
+use Rattle.cg_net.proofs.PlaceLemmas.{mapped_at}
 
 module _ (parts : List Part) (fine : IsFaultless parts) where
   abbrev w : Wiring NetName

@@ -3,7 +3,7 @@ use Rattle.std.specs.Prelude.{◌≡◌, ℕ, zero, suc, ◌+◌, ◌-◌, ◌�
 use Rattle.std.proofs.Common.{refl, ap, ◌∙◌, sym, inl, inr, arith}
 use Rattle.std.specs.List.{AllByRecursion, list_all}
 use Rattle.std.specs.Str.{bytes_eq}
-use Rattle.std.proofs.lemmas.Bool.{and_from, and_parts, both_ways, cases_Bool, false_from_ne_true, or_left, or_parts}
+use Rattle.std.proofs.lemmas.Bool.{and_from, and_parts, both_ways, cases_Bool, false_from_ne_true, not-true, or_left, or_parts}
 use Rattle.std.proofs.lemmas.List.{length-map}
 use Rattle.cg_parts.proofs.Different.{Apart, no_more}
 use Rattle.cg_parts.proofs.KnownNames.{known_each}
@@ -12,6 +12,7 @@ use Rattle.cg_net.specs.Names.{NetName, is_known}
 use Rattle.cg_parts.specs.Faults.{ends_within}
 use Rattle.cg_parts.specs.Part.{cells}
 use Rattle.cg_netlist.specs.Wiring.{driven_by_cells}
+use Rattle.std.proofs.lemmas.Bool.{not-false}
 
 -- of tests that do not all pass, one fails
 one_fails : {X : Type 0} (p : X → Bool) (xs : List X) → list_all p xs ≡ false → (x : X) × ((q : X → Bool) → list_all q xs ≡ true → q x ≡ true) × (p x ≡ false)
@@ -36,14 +37,6 @@ unknown_all q (k ∷ ks) x none =
     let parts = or_parts (bytes_eq x k.output) (is_known (driven_by_cells ks) x) none in
     and_from (not (bytes_eq x k.output) || q k) (list_all (λ (m : LogicCell NetName). not (bytes_eq x m.output) || q m) ks) (or_left (not (bytes_eq x k.output)) (q k) (ap not parts.0)) (unknown_all q ks x parts.1)
 
-not_true : (b : Bool) → not b ≡ true → b ≡ false
-not_true true is = absurd (both_ways false refl is)
-not_true false is = refl
-
-pub not_false : (b : Bool) → not b ≡ false → b ≡ true
-not_false true is = refl
-not_false false is = absurd (both_ways true is refl)
-
 -- the ways up from a net that no logic cell drives end at once
 pub undriven_ends : (cells : List (LogicCell NetName)) (n : ℕ) (x : NetName) → is_known (driven_by_cells cells) x ≡ false → ends_within cells n x ≡ true
 undriven_ends cells zero x none = ap not none
@@ -52,7 +45,7 @@ undriven_ends cells (suc n) x none = unknown_all (λ k. list_all (ends_within ce
 module _ (cells : List (LogicCell NetName)) where
   -- ways that end within some cells end within more
   ends_more : (n : ℕ) (x : NetName) → ends_within cells n x ≡ true → ends_within cells (suc n) x ≡ true
-  ends_more zero x ends = unknown_all (λ k. list_all (ends_within cells 0) k.inputs) cells x (not_true (is_known (driven_by_cells cells) x) ends)
+  ends_more zero x ends = unknown_all (λ k. list_all (ends_within cells 0) k.inputs) cells x (not-true (is_known (driven_by_cells cells) x) ends)
   ends_more (suc n) x ends =
       all_more (λ (k : LogicCell NetName). not (bytes_eq x k.output) || list_all (ends_within cells n) k.inputs) (λ (k : LogicCell NetName). not (bytes_eq x k.output) || list_all (ends_within cells (suc n)) k.inputs)
       (λ k is. or_more (not (bytes_eq x k.output)) (list_all (ends_within cells n) k.inputs) (list_all (ends_within cells (suc n)) k.inputs) (all_more (ends_within cells n) (ends_within cells (suc n)) (λ y y_ends. ends_more n y y_ends) k.inputs) is) cells ends
@@ -89,11 +82,11 @@ module _ (cells : List (LogicCell NetName)) where
   ]
 
   way_up : (n : ℕ) (x : NetName) → ends_within cells (suc n) x ≡ true → ends_within cells n x ≡ false → Way (suc n)
-  way_up zero x ends not_yet = longer 0 x ends not_yet (not_false (is_known (driven_by_cells cells) x) not_yet) (record { nets = []; long = refl; apart = tt; outputs = tt; end = tt })
+  way_up zero x ends not_yet = longer 0 x ends not_yet (not-false (is_known (driven_by_cells cells) x) not_yet) (record { nets = []; long = refl; apart = tt; outputs = tt; end = tt })
   way_up (suc n) x ends not_yet =
       let k = one_fails (λ (m : LogicCell NetName). not (bytes_eq x m.output) || list_all (ends_within cells n) m.inputs) cells not_yet in
       let parts = or_parts (not (bytes_eq x k.0.output)) (list_all (ends_within cells n) k.0.inputs) k.2 in
-      let same : bytes_eq x k.0.output ≡ true = not_false (bytes_eq x k.0.output) parts.0 in
+      let same : bytes_eq x k.0.output ≡ true = not-false (bytes_eq x k.0.output) parts.0 in
       let y = one_fails (ends_within cells n) k.0.inputs parts.1 in
       let here : (not (bytes_eq x k.0.output) || list_all (ends_within cells (suc n)) k.0.inputs) ≡ true = k.1 (λ (m : LogicCell NetName). not (bytes_eq x m.output) || list_all (ends_within cells (suc n)) m.inputs) ends in
       let up : list_all (ends_within cells (suc n)) k.0.inputs ≡ true = sym (ap (λ b. not b || list_all (ends_within cells (suc n)) k.0.inputs) same) ∙ here in

@@ -8,9 +8,8 @@ use Rattle.cg_cell.specs.Pins.{is_test}
 use Rattle.cg_cell.specs.declared.cell.CellKind.TheVariants.{Gater as GaterKind}
 use Rattle.cg_limit.specs.declared.TheConstants.{MOST_NETS, MOST_REGISTERS}
 use Rattle.cg_net.specs.Names.{NetName, is_known}
-use Rattle.cg_netlist.specs.WellFormed.{IsOver}
+use Rattle.cg_netlist.specs.WellFormed.{IsInNetOrder, IsOver, IsWellFormed, RegisterFits}
 use Rattle.cg_netlist.specs.Circuit.{Circuit, LogicCell, GatingCell, RegisterCell}
-use Rattle.cg_netlist.specs.WellFormed.{IsInNetOrder, IsWellFormed, RegisterFits}
 use Rattle.cg_parts.specs.Part.{Part, Input, Output, Clock, Logic, Gate, Register, clock_of, clocks, inputs, mentioned, nets}
 use Rattle.cg_parts.specs.Part.{registers, roots, wired}
 use Rattle.cg_netlist.specs.Wiring.{Wiring, named, numbered}

@@ -31,7 +31,7 @@ plans_safe library settings idle m good =
     (λ p g. stable_fits p.machine g (earlier_of p)) (λ p g. unseen_fits p.machine g (earlier_of p) settings.test) in
     (safe.good, safe.same)
 
-none_more : (c : Circuit) (prefix : List ℕ) → ones (machine_of c prefix) ≡ []
+pub none_more : (c : Circuit) (prefix : List ℕ) → ones (machine_of c prefix) ≡ []
 none_more c prefix = go (length c.registers - length c.registers) (omega arith)
   where
     go : (n : ℕ) → n ≡ 0 → replicate n true ≡ []

@@ -1,8 +1,7 @@
 -- What is known where a stage is inserted: its claims hold, and no limit is passed.
-use Rattle.std.proofs.Common.{◌≡◌, ℕ, zero, suc, ◌+◌, ◌<◌, ◌≤◌, Bool, true, false, if◌then◌else◌, List, [], ◌∷◌, ◌++◌, map, length}
+use Rattle.std.proofs.Common.{◌≡◌, ℕ, ◌+◌, ◌<◌, Bool, true, false, if◌then◌else◌, List, [], ◌∷◌, ◌++◌, map, length}
 use Rattle.std.proofs.Common.{nat_eq, nat_lt, Option, None, Some, refl, sym, ◌∙◌, ap, arith, ◌⊎◌, inl, inr}
-use Rattle.std.specs.List.{range_with_len}
-use Rattle.std.proofs.lemmas.Bool.{both_ways, cases_Bool, eqb-true, eq-eqb, or_cases, or_left, or_right}
+use Rattle.std.proofs.lemmas.Bool.{both_ways, cases_Bool, eqb-true, or_cases}
 use Rattle.cg_cell.specs.Cell.{CellData}
 use Rattle.cg_cell.specs.declared.fit.FitKind.{FitKind}
 use Rattle.cg_limit.specs.declared.Limit.{Limit}
@@ -35,23 +34,7 @@ use Rattle.cg_plan.specs.Trying.{Ends, Passes, Tried, decided, first_false, meas
 use Rattle.cg_plan.specs.Trying.{unless_passed}
 use Rattle.cg_plan.specs.declared.outcome.Outcome.TheVariants.{Inserted, NeverIdle, Small, Wide}
 use Rattle.cg_plan.specs.declared.settings.Settings.{Settings}
-
-range_among : (n a x : ℕ) → a ≤ x → x < a + n → is_in (range_with_len a n) x ≡ true
-range_among zero a x low high = absurd (omega (arith, low, high))
-range_among (suc n) a x low high = elim (cases_Bool (nat_eq x a)) [
-  | inl same ↦ or_left (nat_eq x a) (is_in (range_with_len (a + 1) n) x) same
-  | inr other ↦ or_right (nat_eq x a) (is_in (range_with_len (a + 1) n) x) (range_among n (a + 1) x (above other (apart_or a x low)) (omega (arith, high)))
-]
-  where
-    apart_or : (b y : ℕ) → b ≤ y → (y ≡ b) ⊎ (b + 1 ≤ y)
-    apart_or zero zero h = inl refl
-    apart_or zero (suc y) h = inr (omega arith)
-    apart_or (suc b) zero h = absurd (omega (arith, h))
-    apart_or (suc b) (suc y) h = elim (apart_or b y (omega (arith, h))) [ inl e ↦ inl (ap suc e) | inr l ↦ inr (omega (arith, l)) ]
-
-    above : nat_eq x a ≡ false → (x ≡ a) ⊎ (a + 1 ≤ x) → a + 1 ≤ x
-    above other (inl e) = absurd (both_ways (nat_eq x a) other (eq-eqb x a e))
-    above other (inr h) = h
+use Rattle.cg_netlist.proofs.Driven.{is_in-range}
 
 module _ (m : MachineData) where
   none_false : (claims : List (NamedClaim)) → first_false m claims ≡ None → (c : NamedClaim) → Among c claims → is_never m c.1 ≡ true
@@ -88,7 +71,7 @@ module _ (m : MachineData) where
   target_among (Next r) is = (
     NextName r,
     in_front (NextName r, Next r) (output_targets 0 m.circuit.outputs ++ map (λ q. (NextName q, Next q)) (registers_of m)) ((Enable, Joined) ∷ [])
-        (in_back (NextName r, Next r) (output_targets 0 m.circuit.outputs) (map (λ q. (NextName q, Next q)) (registers_of m)) (in_map (λ q. (NextName q, Next q)) r (registers_of m) (range_among (length m.circuit.registers) 0 r (omega arith) (omega (arith, is))))),
+        (in_back (NextName r, Next r) (output_targets 0 m.circuit.outputs) (map (λ q. (NextName q, Next q)) (registers_of m)) (in_map (λ q. (NextName q, Next q)) r (registers_of m) (is_in-range (length m.circuit.registers) 0 r (omega arith) (omega (arith, is))))),
   )
   target_among Joined is = (Enable, in_back (Enable, Joined) (output_targets 0 m.circuit.outputs ++ map (λ q. (NextName q, Next q)) (registers_of m)) ((Enable, Joined) ∷ []) (record { place = 0; at = refl }))
 

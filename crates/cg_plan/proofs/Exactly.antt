@@ -3,7 +3,7 @@ use Rattle.std.proofs.Common.{◌≡◌, ℕ, zero, suc, ◌+◌, ◌<◌, ◌�
 use Rattle.std.proofs.Common.{◌++◌, map, length, nat_eq, nat_lt, Option, None, Some, refl, sym, ◌∙◌, ap, subst, arith, ◌⊎◌, inl}
 use Rattle.std.proofs.Common.{inr}
 use Rattle.std.specs.List.{filter, list_all}
-use Rattle.std.proofs.lemmas.Bool.{both_ways, eq-eqb, false_from_ne_true, lt-ltb, ltb-true, or_left, or_right}
+use Rattle.std.proofs.lemmas.Bool.{both_ways, eq-eqb, false_from_ne_true, lt-ltb, ltb-true, not-false, or_left, or_right}
 use Rattle.cg_limit.specs.declared.TheConstants.{MOST_CLAIM_NODES}
 use Rattle.cg_cell.specs.Cell.{CellData}
 use Rattle.cg_cell.specs.declared.fit.FitKind.{FitKind}
@@ -30,7 +30,6 @@ use Rattle.cg_stage.specs.Needs.{missing, needs}
 use Rattle.cg_stage.specs.Stages.{ClaimsHold, IsTarget, first_literal}
 use Rattle.cg_lists.specs.HoldList.{is_large}
 use Rattle.cg_lists.proofs.Among.{Among, among_cons, among_none, later}
-use Rattle.cg_lists.proofs.FitLists.{range_in}
 use Rattle.cg_plan.specs.StageClaims.{NamedClaim, all_claims, claims_by, claims_of, target_claim}
 use Rattle.cg_plan.specs.Trying.{Ends, Passes, Tried, decided, first_false, measured, tried, unless_false, unless_missing}
 use Rattle.cg_plan.specs.Trying.{unless_passed}
@@ -39,6 +38,7 @@ use Rattle.cg_plan.specs.declared.settings.Settings.{Settings}
 use Rattle.cg_claim.specs.Violates.{violates}
 use Rattle.cg_plan.specs.Laws.{InsertedExactly, IsInsertable}
 use Rattle.cg_plan.proofs.Decided.{fits_part, inserted_claims, inserted_decided, inserted_free}
+use Rattle.cg_netlist.proofs.Driven.{in_range}
 
 not_less : (a b : ℕ) → nat_lt a b ≡ false → b ≤ a
 not_less a b h = go (less_or a b)
@@ -64,10 +64,6 @@ some_fails {T = T} test (x ∷ xs) h = go (some_fails test xs) (test x) refl h
     go : (list_all test xs ≡ false → (y : T) × (test y ≡ false)) → (b : Bool) → test x ≡ b → (b && list_all test xs) ≡ false → (y : T) × (test y ≡ false)
     go rest true is k = rest k
     go rest false is k = (x, is)
-
-from_not_false : (b : Bool) → not b ≡ false → b ≡ true
-from_not_false true h = refl
-from_not_false false h = sym h
 
 mapped_in : {T : Type 0} (f : ℕ → T) (xs : List ℕ) (y : T) → Among y (map f xs) → (x : ℕ) × (is_in xs x ≡ true) × (f x ≡ y)
 mapped_in f [] y a = absurd (among_none y a)
@@ -119,7 +115,7 @@ module _ (m : MachineData) (good : IsMachine m) where
       | inl out ↦ let y = outputs_of m.circuit.outputs 0 t out in subst (IsTarget m) (sym y.2) y.1
       | inr reg ↦
           let r = mapped_in (λ r. (NextName r, Next r)) (registers_of m) t reg in
-          let b = range_in (length m.circuit.registers) 0 r.0 r.1 in
+          let b = in_range (length m.circuit.registers) 0 r.0 r.1 in
           subst (IsTarget m) (ap (λ (u : ClaimName × Target). u.1) r.2) (omega (arith, b.1))
     ]
   ]
@@ -154,7 +150,7 @@ module _ (m : MachineData) (good : IsMachine m) where
     can_idle some =
         let q : Question = idle_question s.enable in
         let bits = some_fails (λ bs. not (violates_at m q bs)) (all_bits (width_of m q)) some in
-        some_idle m s.enable (free_of m (leaves_of m q) bits.0) (free_is m q bits.0) (from_not_false (violates_at m q bits.0) bits.1)
+        some_idle m s.enable (free_of m (leaves_of m q) bits.0) (free_is m q bits.0) (not-false (violates_at m q bits.0) bits.1)
 
     measured_to : (width : ℕ) (claims : List (NamedClaim)) (end : Tried) → ((c : NamedClaim) → Among c claims → (width_of m c.1 ≤ width) × (nodes_of m c.1 ≤ MOST_CLAIM_NODES)) → measured m width claims end ≡ end
     measured_to width [] end narrow = refl

@@ -25,11 +25,11 @@ use Rattle.cg_plan.specs.declared.outcome.Outcome.TheVariants.{Inserted, NeverId
 use Rattle.cg_plan.specs.declared.settings.Settings.{Settings}
 use Rattle.cg_plan.proofs.Decided.{inserted_claims, inserted_free}
 use Rattle.std.proofs.lemmas.Option.{none-some}
-use Rattle.cg_machine.proofs.Lists.{push_cases}
 use Rattle.cg_plan.specs.Cells.{HasCells}
 use Rattle.cg_plan.specs.Laws.{IsTurn}
 use Rattle.cg_plan.proofs.CellsThere.{effect_there}
 use Rattle.cg_plan.proofs.Exactly.{inserted_exactly}
+use Rattle.cg_netlist.proofs.SearchSteps.{push_cases}
 
 -- a stage that fits still fits after one that shares no register with it
 still_fits : (m n : MachineData) (s0 : Stage) (s : Stage) → IsMachine m → After m s0 n → ((r : ℕ) → is_in s.regs r ≡ true → is_in s0.regs r ≡ false) → Fits m s → Fits n s

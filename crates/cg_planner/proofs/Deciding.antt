@@ -30,9 +30,9 @@ use Rattle.cg_plan.specs.Trying.{first_false}
 use Rattle.cg_plan.specs.declared.certificate.Certificate.{Certificate}
 use Rattle.cg_planner.specs.Planning.{AreWritable, IsWritableCertificate}
 use Rattle.cg_planner.specs.inner.Deciding.{AllCertified, Grow, IsCertified, IsDecided, numbered}
-use Rattle.cg_planner.proofs.Naming.{length_map}
 use Rattle.cg_unroll.specs.Claims.{IsClaim}
 use Rattle.cg_unroll.specs.declared.claim.Claim.{Claim}
+use Rattle.cg_hold.proofs.Alone.{map_length}
 
 module _ (goals : GoalViolates) (law : NeverIsTried) (m : MachineData) (q : Question) (width : ℕ) (claim : Claim) (good : IsMachine m) (fits : SidesFit m q.sides) (is : IsClaim m q width claim) where
   -- bits at which the goal is 1
@@ -48,7 +48,7 @@ module _ (goals : GoalViolates) (law : NeverIsTried) (m : MachineData) (q : Ques
   )
     where
       long : length bits ≡ length claim.leaves
-      long = one.each_leaf ∙ (ap (λ s. s.number) is.list ∙ (claim_number m q ∙ (sym (length_map shown_leaf (leaves_of m q)) ∙ ap length (sym is.leaves))))
+      long = one.each_leaf ∙ (ap (λ s. s.number) is.list ∙ (claim_number m q ∙ (sym (map_length shown_leaf (leaves_of m q)) ∙ ap length (sym is.leaves))))
 
   -- a certificate that the goal is never 1
   pub settled_never : (number : ℕ) (name : ClaimName) (before after : List Certificate) (certificate : Certificate) → IsNeverOne claim.aig claim.goal

@@ -144,10 +144,6 @@ pub if_ok : {T E : Type 0} (r : Result T E) (P Q : T → Type 0) → ((x : T) �
 if_ok (Ok x) P Q then_ h = then_ x h
 if_ok (Err e) P Q then_ h = tt
 
-pub length_map : {A B : Type 0} (f : A → B) (xs : List A) → length (map f xs) ≡ length xs
-length_map f [] = refl
-length_map f (x ∷ xs) = ap suc (length_map f xs)
-
 -- names from a place on, and up to the next
 pub names_at : (names : List ClaimName) (i : ℕ) (name : ClaimName) → slice_get names i ≡ Some name → drop i names ≡ name ∷ drop (i + 1) names
 names_at names i name at = let e : i + 1 ≡ suc i = omega arith in go names i at ∙ ap (λ n. name ∷ drop n names) (sym e)

@@ -1,5 +1,5 @@
 -- A cone that was found, as a claim has it.
-use Rattle.std.proofs.Common.{◌≡◌, ℕ, ◌-◌, ◌<◌, Bool, true, false, ◌&&◌, cond, List, [], ◌∷◌, length, take}
+use Rattle.std.proofs.Common.{◌≡◌, ℕ, ◌-◌, ◌<◌, Bool, true, false, cond, List, [], ◌∷◌, length, take}
 use Rattle.std.proofs.Common.{slice_get, Option, Some, None, refl, sym, ◌∙◌, ap, subst, arith, inl, inr}
 use Rattle.std.specs.List.{cons_option, filter, range_with_len}
 use Rattle.std.specs.Option.{option_map_or}
@@ -16,6 +16,7 @@ use Rattle.cg_machine.specs.Machine.{IsMachine, MachineData, order_of, walk_of}
 use Rattle.cg_machine.proofs.Lists.{below_range}
 use Rattle.cg_reach.specs.Reached.{IsConeOf}
 use Rattle.cg_reach.proofs.Filtering.{in_filtered}
+use Rattle.cg_claim.proofs.Reached.{and_first}
 
 -- the cells at the places that pass are the cells that pass
 fed_cells : (cells : List (LogicCell ℕ)) (nets order : List ℕ)
@@ -31,10 +32,6 @@ fed_cells cells nets (k ∷ order) = go (filter (λ k. option_map_or (λ cell. i
         chosen : (b : Bool) → values_at cells (cond b (k ∷ places) places) ≡ cond b (cell ∷ filter (λ cell. is_in nets cell.output) walk) (filter (λ cell. is_in nets cell.output) walk)
         chosen true = ap (λ o. cons_option o (values_at cells places)) at ∙ ap (λ l. cell ∷ l) rest
         chosen false = rest
-
-left_true : (a b : Bool) → (a && b) ≡ true → a ≡ true
-left_true true b is = refl
-left_true false b is = is
 
 module _ (m : MachineData) (good : IsMachine m) where
   abbrev own : List ℕ
@@ -53,7 +50,7 @@ module _ (m : MachineData) (good : IsMachine m) where
   pub found_cone : (roots : List ℕ) (cone : Cone) → cone ≡ cone_at m.circuit (order_of m) roots → IsConeOf m (cone_of (walk_of m) roots) cone
   found_cone roots cone is = subst (IsConeOf m (cone_of (walk_of m) roots)) (sym is) (record {
     within = All-from_members (λ k. k < length m.circuit.cells) (filter (cell_feeds m.circuit (cone_of (walk_of m) roots)) (order_of m)) (λ k among.
-        order_within k (left_true (is_in (order_of m) k) (cell_feeds m.circuit (cone_of (walk_of m) roots) k) (sym (in_filtered (cell_feeds m.circuit (cone_of (walk_of m) roots)) (order_of m) k) ∙ among)));
+        order_within k (and_first (is_in (order_of m) k) (cell_feeds m.circuit (cone_of (walk_of m) roots) k) (sym (in_filtered (cell_feeds m.circuit (cone_of (walk_of m) roots)) (order_of m) k) ∙ among)));
     cells = fed_cells m.circuit.cells (cone_of (walk_of m) roots) (order_of m);
     inputs = refl;
     registers = refl;

@@ -4,17 +4,12 @@ use Rattle.std.proofs.Common.{◌++◌, length, take, slice_get, Some, nat_eq, r
 use Rattle.std.specs.List.{filter, flat_map, range_with_len}
 use Rattle.std.proofs.lemmas.List.{append-nil, append_assoc}
 use Rattle.std.proofs.lemmas.List.Elements.{filter-append}
-use Rattle.std.proofs.lemmas.Option.{none-some, same_Some}
-use Rattle.std.proofs.lemmas.Bool.{eqb-true, eq-eqb, or_left, or_right}
+use Rattle.std.proofs.lemmas.Bool.{eqb-true}
 use Rattle.cg_net.specs.NetSets.{is_in}
-
-pub filter_none : {X : Type 0} (test : X → Bool) (xs : List X) → ((x : X) → test x ≡ false) → filter test xs ≡ []
-filter_none test [] none = refl
-filter_none test (x ∷ xs) none = ap (λ b. cond b (x ∷ filter test xs) (filter test xs)) (none x) ∙ filter_none test xs none
-
-pub filter_same : {X : Type 0} (f g : X → Bool) (xs : List X) → ((x : X) → f x ≡ g x) → filter f xs ≡ filter g xs
-filter_same f g [] same = refl
-filter_same f g (x ∷ xs) same = ap (λ b. cond b (x ∷ filter f xs) (filter f xs)) (same x) ∙ ap (λ l. cond (g x) (x ∷ l) l) (filter_same f g xs same)
+use Rattle.cg_claim.proofs.HoldWidths.{same_test}
+use Rattle.cg_netlist.proofs.Filtered.{range_in}
+use Rattle.std.proofs.Math.Bool.{and-false}
+use Rattle.cg_net.proofs.TableLemmas.{take_next}
 
 -- what passes one test and then another passes both
 pub filter_twice : {X : Type 0} (f g : X → Bool) (xs : List X) → filter g (filter f xs) ≡ filter (λ x. f x && g x) xs
@@ -25,10 +20,6 @@ filter_twice f g (x ∷ xs) = go (filter f xs) (filter (λ y. f y && g y) xs) (f
     go rest both same true true is = ap (λ b. cond b (x ∷ filter g rest) (filter g rest)) is ∙ ap (λ l. x ∷ l) same
     go rest both same true false is = ap (λ b. cond b (x ∷ filter g rest) (filter g rest)) is ∙ same
     go rest both same false b is = same
-
-and_false : (b : Bool) → (b && false) ≡ false
-and_false true = refl
-and_false false = refl
 
 -- an element of what a filter leaves is one of the list that passes
 pub in_filtered : (test : ℕ → Bool) (xs : List ℕ) (k : ℕ) → is_in (filter test xs) k ≡ (is_in xs k && test k)
@@ -43,39 +34,26 @@ in_filtered test (x ∷ xs) k = go (in_filtered test xs k) (test x) refl
     kept passes false c is = refl
 
     dropped : test x ≡ false → (b c : Bool) → nat_eq k x ≡ b → (c && test k) ≡ ((b || c) && test k)
-    dropped passes true c is = ap (λ t. c && t) (passes_here false passes is) ∙ (and_false c ∙ sym (passes_here false passes is))
+    dropped passes true c is = ap (λ t. c && t) (passes_here false passes is) ∙ (and-false c ∙ sym (passes_here false passes is))
     dropped passes false c is = refl
 
     go : is_in (filter test xs) k ≡ (is_in xs k && test k) → (a : Bool) → test x ≡ a → is_in (cond a (x ∷ filter test xs) (filter test xs)) k ≡ ((nat_eq k x || is_in xs k) && test k)
     go rest true passes = ap (λ b. nat_eq k x || b) rest ∙ kept passes (nat_eq k x) (is_in xs k) refl
     go rest false passes = rest ∙ dropped passes (nat_eq k x) (is_in xs k) refl
 
-range_has : (n a x : ℕ) → x < n → is_in (range_with_len a n) (a + x) ≡ true
-range_has zero a x below = absurd (omega arith)
-range_has (suc n) a zero below = let e : a + 0 ≡ a = omega arith in or_left (nat_eq (a + 0) a) (is_in (range_with_len (a + 1) n) (a + 0)) (eq-eqb (a + 0) a e)
-range_has (suc n) a (suc x) below =
-    let e : a + 1 + x ≡ a + suc x = omega arith in
-    or_right (nat_eq (a + suc x) a) (is_in (range_with_len (a + 1) n) (a + suc x)) (subst (λ y. is_in (range_with_len (a + 1) n) y ≡ true) e (range_has n (a + 1) x (omega arith)))
-
 -- a number is among those of a range that pass where it passes, if only numbers of the range do
 pub in_ranged : (test : ℕ → Bool) (n k : ℕ) → ((j : ℕ) → test j ≡ true → j < n) → is_in (filter test (range_with_len 0 n)) k ≡ test k
 in_ranged test n k within = in_filtered test (range_with_len 0 n) k ∙ go (test k) refl
   where
     go : (b : Bool) → test k ≡ b → (is_in (range_with_len 0 n) k && b) ≡ b
-    go true is = let e : 0 + k ≡ k = omega arith in ap (λ a. a && true) (subst (λ y. is_in (range_with_len 0 n) y ≡ true) e (range_has n 0 k (within k is)))
-    go false is = and_false (is_in (range_with_len 0 n) k)
+    go true is = let e : 0 + k ≡ k = omega arith in ap (λ a. a && true) (subst (λ y. is_in (range_with_len 0 n) y ≡ true) e (range_in n 0 k (within k is)))
+    go false is = and-false (is_in (range_with_len 0 n) k)
 
 -- numbers in order are those that pass a test
 pub in_order_are : (test : ℕ → Bool) (n : ℕ) (numbers regs : List ℕ) → ((j : ℕ) → test j ≡ true → j < n) → ((k : ℕ) → is_in numbers k ≡ test k)
     → ((n : ℕ) → ((x : ℕ) → is_in numbers x ≡ true → x < n) → regs ≡ filter (is_in numbers) (range_with_len 0 n)) → regs ≡ filter test (range_with_len 0 n)
 in_order_are test n numbers regs within same ordered =
-    ordered n (λ x among. within x (sym (same x) ∙ among)) ∙ filter_same (is_in numbers) test (range_with_len 0 n) same
-
--- one element more
-pub take_more : {X : Type 0} (xs : List X) (i : ℕ) (x : X) → slice_get xs i ≡ Some x → take (i + 1) xs ≡ take i xs ++ x ∷ []
-take_more [] i x at = absurd (none-some x at)
-take_more (y ∷ xs) zero x at = let e : 0 + 1 ≡ suc 0 = omega arith in ap (λ n. take n (y ∷ xs)) e ∙ ap (λ z. z ∷ []) (same_Some y x at)
-take_more (y ∷ xs) (suc i) x at = let e : suc i + 1 ≡ suc (i + 1) = omega arith in ap (λ n. take n (y ∷ xs)) e ∙ ap (λ l. y ∷ l) (take_more xs i x at)
+    ordered n (λ x among. within x (sym (same x) ∙ among)) ∙ same_test (is_in numbers) test (range_with_len 0 n) same
 
 pub take_whole : {X : Type 0} (xs : List X) (n : ℕ) → length xs ≤ n → take n xs ≡ xs
 take_whole [] zero past = refl
@@ -89,13 +67,13 @@ filter_on test xs start old new i x b at is pushed so_far =
     pushed ∙ (ap (λ l. l ++ (if b then x ∷ [] else [])) so_far
     ∙ (append_assoc start (filter test (take i xs)) (if b then x ∷ [] else [])
     ∙ ap (λ l. start ++ l) (ap (λ c. filter test (take i xs) ++ (if c then x ∷ [] else [])) is
-    ∙ (sym (filter-append test (take i xs) (x ∷ [])) ∙ ap (filter test) (sym (take_more xs i x at))))))
+    ∙ (sym (filter-append test (take i xs) (x ∷ [])) ∙ ap (filter test) (sym (take_next xs i x at))))))
 
 pub flat_on : (f : ℕ → List ℕ) (xs start old new : List ℕ) (i x : ℕ) → slice_get xs i ≡ Some x → new ≡ old ++ f x → old ≡ start ++ flat_map f (take i xs) → new ≡ start ++ flat_map f (take (i + 1) xs)
 flat_on f xs start old new i x at pushed so_far =
     pushed ∙ (ap (λ l. l ++ f x) so_far
     ∙ (append_assoc start (flat_map f (take i xs)) (f x)
-    ∙ ap (λ l. start ++ l) (sym (ap (flat_map f) (take_more xs i x at) ∙ flat_end (take i xs)))))
+    ∙ ap (λ l. start ++ l) (sym (ap (flat_map f) (take_next xs i x at) ∙ flat_end (take i xs)))))
   where
     flat_end : (ys : List ℕ) → flat_map f (ys ++ x ∷ []) ≡ flat_map f ys ++ f x
     flat_end [] = append-nil (f x)

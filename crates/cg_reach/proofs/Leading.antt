@@ -1,6 +1,6 @@
 -- A search from net to net along the cells that read them: at its end all nets at which registers can show were found.
 use Rattle.std.proofs.Common.{◌≡◌, ℕ, zero, suc, ◌+◌, ◌<◌, ◌≤◌, Bool, true, false, ◌||◌, ◌&&◌, if◌then◌else◌, List, [], ◌∷◌, ◌++◌}
-use Rattle.std.proofs.Common.{length, take, nat_eq, slice_get, Option, Some, None, refl, sym, ◌∙◌, ap, subst, arith, ◌⊎◌, inl, inr}
+use Rattle.std.proofs.Common.{length, take, nat_eq, slice_get, Option, Some, None, refl, sym, ◌∙◌, ap, subst, inl, inr}
 use Rattle.std.specs.List.{list_any}
 use Rattle.std.specs.Option.{option_map_or}
 use Rattle.std.proofs.lemmas.Bool.{both_ways, eqb-true, eq-eqb, or_cases, or_left, or_right}
@@ -10,14 +10,18 @@ use Rattle.cg_netlist.specs.Circuit.{LogicCell}
 use Rattle.cg_net.specs.NetSets.{is_in, with_net}
 use Rattle.cg_cone.specs.Cone.{IsInCone, Reaches, cone_of, through}
 use Rattle.cg_cone.proofs.Cones.{cone_is}
-use Rattle.cg_net.proofs.FoundNets.{front, one_more, put_one, same_truth, take_front}
-use Rattle.cg_net.proofs.Members.{in_alone, is_in_cases, is_in_left}
-use Rattle.cg_net.proofs.TableLemmas.{take_end}
+use Rattle.cg_net.proofs.FoundNets.{front, one_more, put_one}
+use Rattle.cg_net.proofs.Members.{in_alone, is_in_left}
 use Rattle.cg_machine.specs.Machine.{IsMachine, MachineData, walk_of}
 use Rattle.cg_reach.specs.Fanout.{readers_at}
 use Rattle.cg_reach.specs.inner.Spreading.{AreCellReaders, IsSpreading, is_shown, led_by, led_by_all, led_on, spread, with_cell}
 use Rattle.cg_reach.proofs.Filtering.{take_whole}
 use Rattle.cg_reach.proofs.SpreadCones.{spread_cone}
+use Rattle.cg_claim.proofs.Reached.{and_first}
+use Rattle.cg_cone.proofs.ConeEdge.{any_in}
+use Rattle.cg_netlist.proofs.WalkLawsHold.{lone}
+use Rattle.cg_cone.proofs.ConeWalk.{in_next}
+use Rattle.std.specs.Cmp.{both_ways as same_truth}
 
 -- some of a list pass where one does
 pub any_has : (test : ℕ → Bool) (xs : List ℕ) → list_any test xs ≡ true → (x : ℕ) × ((is_in xs x ≡ true) × (test x ≡ true))
@@ -27,27 +31,13 @@ any_has test (x ∷ xs) some = elim (or_cases (test x) (list_any test xs) some) 
   | inr later ↦ let y = any_has test xs later in (y.0, (or_right (nat_eq y.0 x) (is_in xs y.0) y.1.0, y.1.1))
 ]
 
-pub any_by : (test : ℕ → Bool) (xs : List ℕ) (x : ℕ) → is_in xs x ≡ true → test x ≡ true → list_any test xs ≡ true
-any_by test [] x among is = absurd (both_ways false refl among)
-any_by test (y ∷ ys) x among is = elim (or_cases (nat_eq x y) (is_in ys x) among) [
-  | inl same ↦ or_left (test y) (list_any test ys) (ap test (sym (eqb-true x y same)) ∙ is)
-  | inr later ↦ or_right (test y) (list_any test ys) (any_by test ys x later is)
-]
-
-alone : (x y : ℕ) → is_in (x ∷ []) y ≡ true → y ≡ x
-alone x y among = elim (or_cases (nat_eq y x) false among) [ inl same ↦ eqb-true y x same | inr none ↦ absurd (both_ways false refl none) ]
-
 -- a mark stays
 spread_has : (cells : List (LogicCell ℕ)) (marked : ℕ → Bool) (y : ℕ) → marked y ≡ true → spread cells marked y ≡ true
 spread_has [] marked y is = is
 spread_has (cell ∷ cells) marked y is = spread_has cells (with_cell cell marked) y (or_left (marked y) (nat_eq y cell.output && list_any marked cell.inputs) is)
 
 -- marks stay within what has the starts and with an input of a cell its output
-and_first : (a b : Bool) → (a && b) ≡ true → a ≡ true
-and_first true b h = refl
-and_first false b h = h
-
-and_second : (a b : Bool) → (a && b) ≡ true → b ≡ true
+pub and_second : (a b : Bool) → (a && b) ≡ true → b ≡ true
 and_second true b h = h
 and_second false b h = absurd (both_ways false refl h)
 
@@ -96,7 +86,7 @@ all_kept m found ks y among = let f = all_front m found ks in ap (λ l. is_in l 
 -- the output of one of the cells that reads a net found is found
 on_put : (cell : LogicCell ℕ) (found : List ℕ) (x : ℕ) → is_in found x ≡ true → is_in cell.inputs x ≡ true → is_in (led_on cell found) cell.output ≡ true
 on_put cell found x there input =
-    ap (λ b. is_in (if b then with_net found cell.output else found) cell.output) (any_by (is_in found) cell.inputs x input there) ∙ put_one found cell.output
+    ap (λ b. is_in (if b then with_net found cell.output else found) cell.output) (any_in (is_in found) cell.inputs x input there) ∙ put_one found cell.output
 
 all_put : (m : MachineData) (found ks : List ℕ) (k : ℕ) (cell : LogicCell ℕ) (x : ℕ) → is_in ks k ≡ true → slice_get m.circuit.cells k ≡ Some cell → is_in found x ≡ true → is_in cell.inputs x ≡ true
     → is_in (led_by_all m found ks) cell.output ≡ true
@@ -128,16 +118,6 @@ module _ (m : MachineData) (test : ℕ → Bool)
   all_only found [] only y among = only y among
   all_only found (k ∷ ks) only y among = all_only (led_by m found k) ks (led_only found k only) y among
 
--- the first nets, with one more
-in_next : (found more : List ℕ) (next net y : ℕ) → slice_get found next ≡ Some net → next < length found → is_in (take (next + 1) (found ++ more)) y ≡ true → (is_in (take next found) y ≡ true) ⊎ (y ≡ net)
-in_next found more next net y at below among =
-    let e : next + 1 ≡ suc next = omega arith in
-    let whole : take (next + 1) (found ++ more) ≡ take next found ++ net ∷ [] = take_front (next + 1) found more (omega arith) ∙ (ap (λ n. take n found) e ∙ take_end found next net at) in
-    elim (is_in_cases (take next found) (net ∷ []) y (subst (λ l. is_in l y ≡ true) whole among)) [
-      | inl before ↦ inl before
-      | inr last ↦ inr (alone net y last)
-    ]
-
 module _ (m : MachineData) (good : IsMachine m) (G : List ℕ) where
   -- with an input of a cell its output
   spread_closed : (k : ℕ) (cell : LogicCell ℕ) (x : ℕ) → slice_get m.circuit.cells k ≡ Some cell → spread (walk_of m) (is_shown m G) x ≡ true → is_in cell.inputs x ≡ true
@@ -147,10 +127,10 @@ module _ (m : MachineData) (good : IsMachine m) (G : List ℕ) where
       let shown : ℕ → Bool = is_shown m G in
       let some = any_has shown (cone_of walk (x ∷ [])) (sym (spread_cone walk shown (x ∷ [])) ∙ or_left (spread walk shown x) false is) in
       let way : IsInCone m.circuit.cells (x ∷ []) some.0 = (cone_is m.circuit.cells walk good.walk (x ∷ []) some.0).0 some.1.0 in
-      let to : Reaches m.circuit.cells some.0 x = subst (λ z. Reaches m.circuit.cells some.0 z) (alone x way.root way.among) way.reaches in
+      let to : Reaches m.circuit.cells some.0 x = subst (λ z. Reaches m.circuit.cells some.0 z) (lone x way.root way.among) way.reaches in
       let on : is_in (cone_of walk (cell.output ∷ [])) some.0 ≡ true =
       (cone_is m.circuit.cells walk good.walk (cell.output ∷ []) some.0).1 (record { root = cell.output; among = in_alone cell.output; reaches = through k cell x at input to }) in
-      elim (or_cases (spread walk shown cell.output) false (spread_cone walk shown (cell.output ∷ []) ∙ any_by shown (cone_of walk (cell.output ∷ [])) some.0 on some.1.1)) [
+      elim (or_cases (spread walk shown cell.output) false (spread_cone walk shown (cell.output ∷ []) ∙ any_in shown (cone_of walk (cell.output ∷ [])) some.0 on some.1.1)) [
         | inl h ↦ h
         | inr none ↦ absurd (both_ways false refl none)
       ]

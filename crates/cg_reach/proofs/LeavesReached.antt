@@ -15,11 +15,10 @@ use Rattle.cg_claim.specs.Reach.{after_nets, after_states, before_nets, before_s
 use Rattle.cg_claim.proofs.LeafOrder.{inputs_at, leaf, leaves_are, registers_at}
 use Rattle.cg_reach.specs.inner.Leaves.{input_leaf, register_leaf}
 use Rattle.cg_reach.specs.Reached.{IsConeOf}
-use Rattle.cg_reach.proofs.Filtering.{filter_none, filter_same, filter_twice}
-
-map_append : {X Y : Type 0} (f : X → Y) (xs ys : List X) → map f (xs ++ ys) ≡ map f xs ++ map f ys
-map_append f [] ys = refl
-map_append f (x ∷ xs) ys = ap (λ l. f x ∷ l) (map_append f xs ys)
+use Rattle.cg_reach.proofs.Filtering.{filter_twice}
+use Rattle.cg_reach.proofs.SpreadCones.{map_append}
+use Rattle.cg_claim.proofs.OneCopy.{filter_none}
+use Rattle.cg_claim.proofs.HoldWidths.{same_test}
 
 map_map : {X Y Z : Type 0} (f : Y → Z) (g : X → Y) (xs : List X) → map f (map g xs) ≡ map (λ x. f (g x)) xs
 map_map f g [] = refl
@@ -54,7 +53,7 @@ module _ (m : MachineData) (q : Question) where
   after_leaves old first new inputs registers states follows inputs_are known states_are registers_are one two =
       pushed After old first new inputs registers inputs_are
       (registers_are ∙ (ap (filter (λ r. not (follows r))) states_are ∙ (filter_twice (after_states m q) (λ r. not (follows r)) (registers_of m)
-      ∙ filter_same (λ r. after_states m q r && not (follows r)) (λ r. after_states m q r && not (is_in q.follows r)) (registers_of m) (λ r. ap (λ b. after_states m q r && not b) (sym (known r)))))) one two
+      ∙ same_test (λ r. after_states m q r && not (follows r)) (λ r. after_states m q r && not (is_in q.follows r)) (registers_of m) (λ r. ap (λ b. after_states m q r && not b) (sym (known r)))))) one two
 
   pub changed_leaves : (old new : List ShownLeaf) (registers states : List ℕ) (changes : ℕ → Bool)
       → ((r : ℕ) → is_in q.changes r ≡ changes r) → states ≡ filter (changed_states m q) (registers_of m) → registers ≡ filter changes states
@@ -62,7 +61,7 @@ module _ (m : MachineData) (q : Question) where
   changed_leaves old new registers states changes known states_are registers_are two =
       pushed Changed old old new [] registers (sym (filter_none (λ y. false) (data_inputs m.circuit) (λ y. refl)))
       (registers_are ∙ (ap (filter changes) states_are ∙ (filter_twice (changed_states m q) changes (registers_of m)
-      ∙ filter_same (λ r. changed_states m q r && changes r) (λ r. changed_states m q r && is_in q.changes r) (registers_of m) (λ r. ap (λ b. changed_states m q r && b) (sym (known r)))))) (sym (append_nil old)) two
+      ∙ same_test (λ r. changed_states m q r && changes r) (λ r. changed_states m q r && is_in q.changes r) (registers_of m) (λ r. ap (λ b. changed_states m q r && b) (sym (known r)))))) (sym (append_nil old)) two
     where
       append_nil : {X : Type 0} (xs : List X) → xs ++ [] ≡ xs
       append_nil [] = refl

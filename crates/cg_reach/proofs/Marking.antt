@@ -5,16 +5,12 @@ use Rattle.std.specs.List.{list_any}
 use Rattle.std.proofs.lemmas.Bool.{eqb-true}
 use Rattle.std.proofs.lemmas.List.Folds.{list_any-append}
 use Rattle.std.proofs.lemmas.Option.{none-some, same_Some}
-use Rattle.std.proofs.Math.Bool.{or_assoc}
+use Rattle.std.proofs.Math.Bool.{or-false, or_assoc}
 use Rattle.cg_net.specs.NetSets.{is_in, with_net}
 use Rattle.cg_net.proofs.Members.{is_in-append}
 use Rattle.cg_machine.specs.Machine.{MachineData}
 use Rattle.cg_reach.specs.inner.Spreading.{is_shown, shows}
-use Rattle.cg_reach.proofs.Filtering.{take_more}
-
-pub or_none : (b : Bool) → (b || false) ≡ b
-or_none true = refl
-or_none false = refl
+use Rattle.cg_net.proofs.TableLemmas.{take_next}
 
 pub or_true : (b : Bool) → (b || true) ≡ true
 or_true true = refl
@@ -37,7 +33,7 @@ in_with found net y = go (is_in found net) refl
   where
     there : (b : Bool) → nat_eq y net ≡ b → is_in found net ≡ true → is_in found y ≡ (is_in found y || (b || false))
     there true same is = let here : is_in found y ≡ true = ap (is_in found) (eqb-true y net same) ∙ is in here ∙ ap (λ b. b || true) (sym here)
-    there false same is = sym (or_none (is_in found y))
+    there false same is = sym (or-false (is_in found y))
 
     go : (b : Bool) → is_in found net ≡ b → is_in (if b then found else found ++ net ∷ []) y ≡ (is_in found y || is_in (net ∷ []) y)
     go true is = there (nat_eq y net) refl is
@@ -54,7 +50,7 @@ outputs_more old found new outputs i net inverted at one so_far x =
     ∙ (or_assoc (is_in old x) (is_in (map (λ (o : ℕ × Bool). o.0) (take i outputs)) x) (is_in (net ∷ []) x)
     ∙ ap (λ b. is_in old x || b)
     (sym (list_any-append (nat_eq x) (map (λ (o : ℕ × Bool). o.0) (take i outputs)) (net ∷ []))
-    ∙ ap (λ l. is_in l x) (sym (ap (map (λ (o : ℕ × Bool). o.0)) (take_more outputs i (net, inverted) at) ∙ mapped (take i outputs))))))
+    ∙ ap (λ l. is_in l x) (sym (ap (map (λ (o : ℕ × Bool). o.0)) (take_next outputs i (net, inverted) at) ∙ mapped (take i outputs))))))
   where
     mapped : (xs : List (ℕ × Bool)) → map (λ (o : ℕ × Bool). o.0) (xs ++ (net, inverted) ∷ []) ≡ map (λ (o : ℕ × Bool). o.0) xs ++ net ∷ []
     mapped [] = refl
@@ -69,5 +65,5 @@ shown_more m old found new regs i reg at so_far one y =
     one y ∙ (ap (λ b. b || shows m y reg) (so_far y)
     ∙ (or_assoc (is_in old y) (is_shown m (take i regs) y) (shows m y reg)
     ∙ ap (λ b. is_in old y || b)
-    (ap (λ b. is_shown m (take i regs) y || b) (sym (or_none (shows m y reg)))
-    ∙ (sym (list_any-append (shows m y) (take i regs) (reg ∷ [])) ∙ ap (list_any (shows m y)) (sym (take_more regs i reg at))))))
+    (ap (λ b. is_shown m (take i regs) y || b) (sym (or-false (shows m y reg)))
+    ∙ (sym (list_any-append (shows m y) (take i regs) (reg ∷ [])) ∙ ap (list_any (shows m y)) (sym (take_next regs i reg at))))))

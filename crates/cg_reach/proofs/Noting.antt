@@ -1,8 +1,8 @@
 -- Readers that are noted, and what they then tell of a machine.
-use Rattle.std.proofs.Common.{◌≡◌, ℕ, ◌+◌, ◌<◌, ◌≤◌, Bool, true, false, ◌||◌, ◌&&◌, List, [], ◌∷◌, ◌++◌, length, nat_eq, slice_get}
+use Rattle.std.proofs.Common.{◌≡◌, ℕ, ◌+◌, ◌<◌, ◌≤◌, true, false, ◌||◌, ◌&&◌, List, [], ◌∷◌, ◌++◌, length, nat_eq, slice_get}
 use Rattle.std.proofs.Common.{slice_set, slice_index_or, Option, Some, None, refl, sym, ◌∙◌, ap, subst, arith, inl, inr}
 use Rattle.std.specs.Option.{option_map_or, option_to_list}
-use Rattle.std.proofs.lemmas.Bool.{both_ways, eqb-true, eq-eqb, or_cases, or_left, or_right}
+use Rattle.std.proofs.lemmas.Bool.{and_from, both_ways, eq-eqb, eqb-true, or_cases, or_left, or_right}
 use Rattle.std.proofs.lemmas.Bool.Decides.{eqb_tells}
 use Rattle.std.proofs.lemmas.Option.{same_Some, slice_get-get_or}
 use Rattle.cg_net.specs.NetSets.{is_in}
@@ -12,7 +12,7 @@ use Rattle.cg_machine.specs.Machine.{MachineData, enable_of}
 use Rattle.cg_claim.specs.Reach.{inputs_of_register, next_nets}
 use Rattle.cg_reach.specs.Fanout.{Grows, Knows, readers_at}
 use Rattle.cg_reach.specs.declared.tables.Tables.{Tables}
-use Rattle.cg_reach.proofs.Marking.{or_none}
+use Rattle.std.proofs.Math.Bool.{or-false}
 
 -- a list with one more reader
 pub noted_at : (lists : List (List ℕ)) (p h : ℕ) (old list : List ℕ) → p < length lists → old ≡ slice_index_or lists p old → list ≡ old ++ h ∷ [] → (y k : ℕ)
@@ -23,18 +23,13 @@ noted_at lists p h old list below read is y k = elim (eqb_tells y p) [
       ∙ (ap (λ o. is_in (option_map_or (λ (l : List ℕ). l) o []) k) (slice_get-set_same lists p list below)
       ∙ (ap (λ l. is_in l k) is
       ∙ (is_in-append old (h ∷ []) k
-      ∙ (ap (λ b. is_in old k || b) (or_none (nat_eq k h))
+      ∙ (ap (λ b. is_in old k || b) (or-false (nat_eq k h))
       ∙ (ap (λ l. is_in l k || nat_eq k h) (sym (ap (λ o. option_map_or (λ (l : List ℕ). l) o []) (ap (slice_get lists) same.1 ∙ (slice_get-get_or lists p old below ∙ ap Some (sym read)))))
       ∙ ap (λ b. is_in (readers_at lists y) k || (b && nat_eq k h)) (sym same.0))))))
   | inr other ↦
       ap (λ o. is_in (option_map_or (λ (l : List ℕ). l) o []) k) (slice_get-set_other lists p y list other.1)
-      ∙ (sym (or_none (is_in (readers_at lists y) k)) ∙ ap (λ b. is_in (readers_at lists y) k || (b && nat_eq k h)) (sym other.0))
+      ∙ (sym (or-false (is_in (readers_at lists y) k)) ∙ ap (λ b. is_in (readers_at lists y) k || (b && nat_eq k h)) (sym other.0))
 ]
-
-and_both : (a b : Bool) → a ≡ true → b ≡ true → (a && b) ≡ true
-and_both true true h i = refl
-and_both true false h i = i
-and_both false b h i = h
 
 -- where no register is known, a machine that grew is known as well as before
 pub still_unknown : (m n : MachineData) (f : Tables) (regs : List ℕ) (net : ℕ) → Knows m f → Grows m n regs net → f.register_count ≡ 0 → Knows n f
@@ -64,7 +59,7 @@ still_known m n f more regs net knows grows noted = record {
     old r y there = noted y r ∙ or_left (is_in (readers_at f.registers y) r) (nat_eq y net && is_in regs r) there
 
     new : (r y : ℕ) → is_in regs r ≡ true → y ≡ net → is_in (readers_at more y) r ≡ true
-    new r y among same = noted y r ∙ or_right (is_in (readers_at f.registers y) r) (nat_eq y net && is_in regs r) (and_both (nat_eq y net) (is_in regs r) (eq-eqb y net same) among)
+    new r y among same = noted y r ∙ or_right (is_in (readers_at f.registers y) r) (nat_eq y net && is_in regs r) (and_from (nat_eq y net) (is_in regs r) (eq-eqb y net same) among)
 
     one : (e y : ℕ) → is_in (e ∷ []) y ≡ true → y ≡ e
     one e y among = elim (or_cases (nat_eq y e) false among) [ inl same ↦ eqb-true y e same | inr none ↦ absurd (both_ways false refl none) ]
@@ -100,4 +95,4 @@ noted_more reads lists new first i kept here so_far k y from below read = elim (
 pub noted_one : (outputs : List ℕ) (lists new : List (List ℕ)) (i net : ℕ) → slice_get outputs i ≡ Some net
     → ((y k : ℕ) → is_in (readers_at new y) k ≡ (is_in (readers_at lists y) k || (nat_eq y net && nat_eq k i))) → (y : ℕ) → slice_get outputs i ≡ Some y → is_in (readers_at new y) i ≡ true
 noted_one outputs lists new i net at noted y here =
-    noted y i ∙ or_right (is_in (readers_at lists y) i) (nat_eq y net && nat_eq i i) (and_both (nat_eq y net) (nat_eq i i) (eq-eqb y net (same_Some y net (sym here ∙ at))) (eq-eqb i i refl))
+    noted y i ∙ or_right (is_in (readers_at lists y) i) (nat_eq y net && nat_eq i i) (and_from (nat_eq y net) (nat_eq i i) (eq-eqb y net (same_Some y net (sym here ∙ at))) (eq-eqb i i refl))

@@ -1,6 +1,6 @@
 -- The data inputs of a machine rise in their order, so the inputs of two cones together do where they are put in order.
-use Rattle.std.proofs.Common.{◌≡◌, ℕ, suc, ◌<◌, ◌≤◌, Bool, true, false, ◌||◌, ◌&&◌, cond, List, [], ◌∷◌, ◌++◌}
-use Rattle.std.proofs.Common.{length, refl, sym, ◌∙◌, ap, arith}
+use Rattle.std.proofs.Common.{◌≡◌, ℕ, ◌<◌, Bool, true, false, ◌||◌, ◌&&◌, List, ◌++◌}
+use Rattle.std.proofs.Common.{length, refl, sym, ◌∙◌, ap}
 use Rattle.std.specs.List.{filter, range_with_len}
 use Rattle.cg_netlist.specs.Circuit.{cell_nets, data_inputs, drivers, given_nets}
 use Rattle.cg_net.specs.NetSets.{is_in}
@@ -11,22 +11,8 @@ use Rattle.cg_netlist.proofs.RisingNumbers.{range_rises}
 use Rattle.cg_netlist.proofs.RisingPlaces.{rising_same}
 use Rattle.cg_machine.specs.Machine.{IsMachine, MachineData}
 use Rattle.cg_reach.proofs.Filtering.{in_filtered, in_ranged}
-
-rises_later : (a b : ℕ) (xs : List ℕ) → b ≤ a → Rises a xs → Rises b xs
-rises_later a b [] h rises = tt
-rises_later a b (x ∷ xs) h rises = (omega (arith, h, rises.0), rises.1)
-
-rises_filter : (test : ℕ → Bool) (a : ℕ) (xs : List ℕ) → Rises a xs → Rises a (filter test xs)
-rises_filter test a [] rises = tt
-rises_filter test a (x ∷ xs) rises = go (rises_filter test (suc x) xs rises.1) (test x)
-  where
-    go : Rises (suc x) (filter test xs) → (b : Bool) → Rises a (cond b (x ∷ filter test xs) (filter test xs))
-    go rest true = (rises.0, rest)
-    go rest false = rises_later (suc x) a (filter test xs) (omega (arith, rises.0)) rest
-
-fst : (a b : Bool) → (a && b) ≡ true → a ≡ true
-fst true b is = refl
-fst false b is = is
+use Rattle.cg_cone.proofs.ConeEdge.{kept_rises}
+use Rattle.cg_claim.proofs.Reached.{and_first}
 
 snd_or : (d a b : Bool) → ((d && a) || (d && b)) ≡ (d && (a || b))
 snd_or true a b = refl
@@ -49,12 +35,12 @@ module _ (m : MachineData) (good : IsMachine m) (nets more : List ℕ) where
 
     within : (x : ℕ) → is_in numbers x ≡ true → x < length m.circuit.names
     within x among =
-        let input : is_in data_ins x ≡ true = fst (is_in data_ins x) (both x) (sym (in_filtered both data_ins x) ∙ (sym (members x) ∙ among)) in
+        let input : is_in data_ins x ≡ true = and_first (is_in data_ins x) (both x) (sym (in_filtered both data_ins x) ∙ (sym (members x) ∙ among)) in
         All-member (λ net. net < length m.circuit.names) (drivers m.circuit) x good.well_formed.driven.nets (is_in_left (given_nets m.circuit) (cell_nets m.circuit) x (data_given m.circuit x input))
 
     -- the inputs of two cones, put in order
     pub both_inputs_are : Rises 0 data_ins → (inputs : List ℕ) → ((n : ℕ) → ((x : ℕ) → is_in numbers x ≡ true → x < n) → inputs ≡ filter (is_in numbers) (range_with_len 0 n)) → inputs ≡ filter both data_ins
     both_inputs_are rises inputs ordered =
         let n = length m.circuit.names in
-        ordered n within ∙ rising_same (filter (is_in numbers) (range_with_len 0 n)) (filter both data_ins) 0 0 (range_rises (is_in numbers) n 0) (rises_filter both 0 data_ins rises)
+        ordered n within ∙ rising_same (filter (is_in numbers) (range_with_len 0 n)) (filter both data_ins) 0 0 (range_rises (is_in numbers) n 0) (kept_rises both 0 data_ins rises)
         (λ x. in_ranged (is_in numbers) n x within ∙ members x)

@@ -15,16 +15,13 @@ use Rattle.cg_claim.specs.declared.name.ClaimName.{ClaimName}
 use Rattle.cg_claim.specs.declared.name.ClaimName.TheVariants.{Output, Next as NextName, Enable as EnableName}
 use Rattle.cg_claim.specs.Reach.{feeds, inputs_of_register, next_asks_own, next_nets, registers_of}
 use Rattle.cg_claim.specs.Targets.{meets, output_targets, unseen_targets}
-use Rattle.cg_reach.proofs.Filtering.{take_more}
 use Rattle.cg_reach.specs.inner.Spreading.{is_next_marked, is_shown, marked_outputs, shows, spread, with_cell}
+use Rattle.std.proofs.Math.Bool.{or-false}
+use Rattle.cg_net.proofs.TableLemmas.{take_next}
 
-map_append : {X Y : Type 0} (f : X → Y) (xs ys : List X) → map f (xs ++ ys) ≡ map f xs ++ map f ys
+pub map_append : {X Y : Type 0} (f : X → Y) (xs ys : List X) → map f (xs ++ ys) ≡ map f xs ++ map f ys
 map_append f [] ys = refl
 map_append f (x ∷ xs) ys = ap (λ l. f x ∷ l) (map_append f xs ys)
-
-or_none : (b : Bool) → (b || false) ≡ b
-or_none true = refl
-or_none false = refl
 
 -- some of a list pass one of two tests where some pass one, or some the other
 regroup : (a b c d : Bool) → ((a || b) || (c || d)) ≡ ((a || c) || (b || d))
@@ -44,7 +41,7 @@ any_same f g (x ∷ xs) same = ap (λ b. b || list_any f xs) (same x) ∙ ap (λ
 -- one element more
 pub any_on : {X : Type 0} (test : X → Bool) (xs : List X) (i : ℕ) (x : X) (old b : Bool) → slice_get xs i ≡ Some x → b ≡ test x → old ≡ list_any test (take i xs) → (old || b) ≡ list_any test (take (i + 1) xs)
 any_on test xs i x old b at is so_far =
-    ap (λ c. c || b) so_far ∙ (ap (λ c. list_any test (take i xs) || c) (is ∙ sym (or_none (test x))) ∙ (sym (list_any-append test (take i xs) (x ∷ [])) ∙ ap (list_any test) (sym (take_more xs i x at))))
+    ap (λ c. c || b) so_far ∙ (ap (λ c. list_any test (take i xs) || c) (is ∙ sym (or-false (test x))) ∙ (sym (list_any-append test (take i xs) (x ∷ [])) ∙ ap (list_any test) (sym (take_next xs i x at))))
 
 any_false : {X : Type 0} (xs : List X) → list_any (λ x. false) xs ≡ false
 any_false [] = refl
@@ -95,7 +92,7 @@ spread_cone (cell ∷ cells) marked roots =
   where
     go : (b : Bool) → (list_any marked (cone_of cells roots) || (b && list_any marked cell.inputs)) ≡ list_any marked (cond b (cone_of cells roots ++ cell.inputs) (cone_of cells roots))
     go true = sym (list_any-append marked (cone_of cells roots) cell.inputs)
-    go false = or_none (list_any marked (cone_of cells roots))
+    go false = or-false (list_any marked (cone_of cells roots))
 
 module _ (m : MachineData) (G : List ℕ) where
   -- registers feed nets where they show their bits at one
@@ -112,7 +109,7 @@ module _ (m : MachineData) (G : List ℕ) where
     roots_marked roots = any_same marked (spread (walk_of m) (is_shown m G)) roots is ∙ (spread_cone (walk_of m) (is_shown m G) roots ∙ fed (cone_of (walk_of m) roots))
 
     output_meets : (E : List Literal) (y : ℕ) → marked y ≡ meets m E G (Shown y)
-    output_meets E y = sym (or_none (marked y)) ∙ (roots_marked (y ∷ []) ∙ any_same (feeds m (cone_of (walk_of m) (y ∷ []))) _ G (λ r. sym (or_none (feeds m (cone_of (walk_of m) (y ∷ [])) r))))
+    output_meets E y = sym (or-false (marked y)) ∙ (roots_marked (y ∷ []) ∙ any_same (feeds m (cone_of (walk_of m) (y ∷ []))) _ G (λ r. sym (or-false (feeds m (cone_of (walk_of m) (y ∷ [])) r))))
 
     next_meets : (E : List Literal) (r : ℕ) → is_next_marked m marked (is_in G r) r ≡ meets m E G (NextTarget r)
     next_meets E r =
@@ -129,7 +126,7 @@ module _ (m : MachineData) (G : List ℕ) where
         turned false false = refl
 
     joined_meets : (E : List Literal) → list_any marked (map (λ (l : Literal). l.0) E) ≡ meets m E G Joined
-    joined_meets E = roots_marked (map (λ (l : Literal). l.0) E) ∙ any_same (feeds m (cone_of (walk_of m) (map (λ (l : Literal). l.0) E))) _ G (λ r. sym (or_none (feeds m (cone_of (walk_of m) (map (λ (l : Literal). l.0) E)) r)))
+    joined_meets E = roots_marked (map (λ (l : Literal). l.0) E) ∙ any_same (feeds m (cone_of (walk_of m) (map (λ (l : Literal). l.0) E))) _ G (λ r. sym (or-false (feeds m (cone_of (walk_of m) (map (λ (l : Literal). l.0) E)) r)))
 
     outputs_named : (E : List Literal) (k : ℕ) (ys : List ℕ) → map (λ (t : ClaimName × Target). t.0) (filter (λ (t : ClaimName × Target). meets m E G t.1) (output_targets k ys)) ≡ marked_outputs marked k ys
     outputs_named E k [] = refl

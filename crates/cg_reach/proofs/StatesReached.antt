@@ -80,13 +80,13 @@ sides_in m copy (Some s) k = is_in-append (side_states m copy s.0) (side_states 
 pub asked_in : (m : MachineData) (sides : Option (Side × Side)) (copy : Copy) (first second : List ℕ) → second ≡ first ++ sides_states m copy sides → (k : ℕ) → is_in second k ≡ (is_in first k || sides_ask m copy sides k)
 asked_in m sides copy first second is k = ap (λ l. is_in l k) is ∙ (is_in-append first (sides_states m copy sides) k ∙ ap (λ b. is_in first k || b) (sides_in m copy sides k))
 
-part_fits : (m : MachineData) (part : CopyPart) → PartThere m part → CopyPartFits m part
+pub part_fits : (m : MachineData) (part : CopyPart) → PartThere m part → CopyPartFits m part
 part_fits m (Net y) is = tt
 part_fits m (Next r) is = is
 part_fits m (State r) is = is
 part_fits m Enable is = tt
 
-fits : (m : MachineData) (sides : Option (Side × Side)) → SidesThere m sides → SidesFit m sides
+pub fits : (m : MachineData) (sides : Option (Side × Side)) → SidesThere m sides → SidesFit m sides
 fits m None is = tt
 fits m (Some s) is = (part_fits m s.0.part is.0, part_fits m s.1.part is.1)
 

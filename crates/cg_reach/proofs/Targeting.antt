@@ -4,14 +4,13 @@ use Rattle.std.proofs.Common.{◌++◌, length, map, take, nat_eq, nat_lt, slice
 use Rattle.std.proofs.Common.{arith, inl, inr}
 use Rattle.std.specs.List.{filter, flat_map, list_any, range_with_len}
 use Rattle.std.specs.Option.{option_map_or, option_to_list}
-use Rattle.std.proofs.lemmas.Bool.{both_ways, eqb-true, eq-eqb, ltb-true, lt-ltb, or_cases, or_left, or_right}
+use Rattle.std.proofs.lemmas.Bool.{and_from, both_ways, eqb-true, lt-ltb, ltb-true, or_cases}
 use Rattle.std.proofs.lemmas.List.Folds.{list_any-append}
 use Rattle.std.proofs.lemmas.Map.Steps.{length-le_from_distinct_below}
 use Rattle.std.proofs.lemmas.Option.{slice_get_within}
 use Rattle.cg_limit.specs.declared.TheConstants.{MOST_NETS}
 use Rattle.cg_net.specs.NetSets.{is_in}
 use Rattle.cg_netlist.specs.Circuit.{used_nets}
-use Rattle.cg_net.proofs.FoundNets.{same_truth}
 use Rattle.cg_net.proofs.Members.{All-member, is_in_cases, is_in_left, is_in_right}
 use Rattle.cg_netlist.proofs.Used.{output_is_used}
 use Rattle.cg_machine.specs.Machine.{IsMachine, MachineData, enable_of}
@@ -22,7 +21,10 @@ use Rattle.cg_reach.specs.Fanout.{readers_at}
 use Rattle.cg_reach.specs.inner.Spreading.{AreOutputReaders, AreRegisterReaders, is_next_marked, is_output_marked}
 use Rattle.cg_reach.specs.inner.Spreading.{is_register_marked, marked_outputs}
 use Rattle.cg_reach.proofs.Filtering.{in_filtered, take_whole}
-use Rattle.cg_reach.proofs.Leading.{any_has}
+use Rattle.cg_reach.proofs.Leading.{and_second, any_has}
+use Rattle.cg_netlist.proofs.ByRank.{filter_same}
+use Rattle.cg_claim.proofs.Reached.{and_first}
+use Rattle.std.specs.Cmp.{both_ways as same_truth}
 
 -- an output of a machine is one of its nets, and there are no more outputs than nets
 output_within : (m : MachineData) → IsMachine m → (y : ℕ) → is_in m.circuit.outputs y ≡ true → y < length m.circuit.names
@@ -30,24 +32,6 @@ output_within m good y among = All-member (λ net. net < length m.circuit.names)
 
 pub few_outputs : (m : MachineData) → IsMachine m → length m.circuit.outputs ≤ MOST_NETS
 few_outputs m good = let few = length-le_from_distinct_below m.circuit.outputs (length m.circuit.names) good.outputs_once (output_within m good) in omega (arith, few, good.small)
-
-filter_alike : (f g : ℕ → Bool) (xs : List ℕ) → ((x : ℕ) → is_in xs x ≡ true → f x ≡ g x) → filter f xs ≡ filter g xs
-filter_alike f g [] same = refl
-filter_alike f g (x ∷ xs) same =
-    ap (λ b. cond b (x ∷ filter f xs) (filter f xs)) (same x (or_left (nat_eq x x) (is_in xs x) (eq-eqb x x refl)))
-    ∙ ap (λ l. cond (g x) (x ∷ l) l) (filter_alike f g xs (λ y among. same y (or_right (nat_eq y x) (is_in xs y) among)))
-
-and_second : (a b : Bool) → (a && b) ≡ true → b ≡ true
-and_second true b h = h
-and_second false b h = absurd (both_ways false refl h)
-
-and_first : (a b : Bool) → (a && b) ≡ true → a ≡ true
-and_first true b h = refl
-and_first false b h = h
-
-and_both : (a b : Bool) → a ≡ true → b ≡ true → (a && b) ≡ true
-and_both true b h i = i
-and_both false b h i = h
 
 -- of several lists only those pass that are wanted, and those that are in one
 module _ (test : ℕ → Bool) (lists : ℕ → List ℕ) where
@@ -62,7 +46,7 @@ module _ (test : ℕ → Bool) (lists : ℕ → List ℕ) where
   flat_has [] y k among there is = absurd (both_ways false refl among)
   flat_has (x ∷ xs) y k among there is = elim (or_cases (nat_eq y x) (is_in xs y) among) [
     | inl same ↦ is_in_left (filter test (lists x)) (flat_map (λ z. filter test (lists z)) xs) k
-        (in_filtered test (lists x) k ∙ and_both (is_in (lists x) k) (test k) (ap (λ z. is_in (lists z) k) (sym (eqb-true y x same)) ∙ there) is)
+        (in_filtered test (lists x) k ∙ and_from (is_in (lists x) k) (test k) (ap (λ z. is_in (lists z) k) (sym (eqb-true y x same)) ∙ there) is)
     | inr later ↦ is_in_right (filter test (lists x)) (flat_map (λ z. filter test (lists z)) xs) k (flat_has xs y k later there is)
   ]
 
@@ -74,7 +58,7 @@ module _ (m : MachineData) (found : List ℕ) (lists : List (List ℕ)) (place :
   outputs_are numbers ordered known is in_order =
       let outputs : List ℕ = m.circuit.outputs in
       in_order (length outputs) (λ x among. within x (only x among))
-      ∙ filter_alike (is_in numbers) test (range_with_len 0 (length outputs)) (λ x among. same_truth (is_in numbers x) (test x) (only x) (has x))
+      ∙ filter_same (is_in numbers) test (range_with_len 0 (length outputs)) (λ x among. same_truth (is_in numbers x) (test x) (only x) (has x))
     where
       test : ℕ → Bool
       test = is_output_marked m (is_in found)
@@ -103,7 +87,7 @@ module _ (m : MachineData) (found : List ℕ) (lists : List (List ℕ)) (place :
       → ordered ≡ filter (λ r. is_next_marked m (is_in found) (is_in keys r) r) (registers_of m)
   registers_are regs keys numbers ordered known set is in_order =
       in_order (length m.circuit.registers) (λ x among. within x (only x among))
-      ∙ filter_alike (is_in numbers) (λ r. is_next_marked m (is_in found) (is_in keys r) r) (registers_of m)
+      ∙ filter_same (is_in numbers) (λ r. is_next_marked m (is_in found) (is_in keys r) r) (registers_of m)
       (λ x among. same_truth (is_in numbers x) (is_next_marked m (is_in found) (is_in keys x) x) (λ h. and_second (nat_lt x (length m.circuit.registers)) (is_next_marked m (is_in found) (is_in keys x) x) (only x h))
       (λ h. let below = below_range (length m.circuit.registers) 0 x among in has x (omega (arith, below)) h))
     where
@@ -123,7 +107,7 @@ module _ (m : MachineData) (found : List ℕ) (lists : List (List ℕ)) (place :
       has : (k : ℕ) → k < length m.circuit.registers → is_next_marked m (is_in found) (is_in keys k) k ≡ true → is_in numbers k ≡ true
       has k below h = ap (λ l. is_in l k) whole ∙ elim (or_cases (is_in keys k && next_asks_own m k) (list_any (is_in found) (inputs_of_register m k) || list_any (is_in found) (option_to_list (enable_of m k))) h) [
         | inl own ↦ is_in_left (filter (is_register_marked m (is_in found) (is_in keys)) regs) (flat_map (λ y. filter (is_register_marked m (is_in found) (is_in keys)) (readers_at lists y)) found) k
-            (in_filtered (is_register_marked m (is_in found) (is_in keys)) regs k ∙ and_both (is_in regs k) (is_register_marked m (is_in found) (is_in keys) k) (set k ∙ and_first (is_in keys k) (next_asks_own m k) own) marked)
+            (in_filtered (is_register_marked m (is_in found) (is_in keys)) regs k ∙ and_from (is_in regs k) (is_register_marked m (is_in found) (is_in keys) k) (set k ∙ and_first (is_in keys k) (next_asks_own m k) own) marked)
         | inr net ↦
             let y = any_has (is_in found) (next_nets m k) (list_any-append (is_in found) (inputs_of_register m k) (option_to_list (enable_of m k)) ∙ net) in
             is_in_right (filter (is_register_marked m (is_in found) (is_in keys)) regs) (flat_map (λ z. filter (is_register_marked m (is_in found) (is_in keys)) (readers_at lists z)) found) k
@@ -131,7 +115,7 @@ module _ (m : MachineData) (found : List ℕ) (lists : List (List ℕ)) (place :
       ]
         where
           marked : is_register_marked m (is_in found) (is_in keys) k ≡ true
-          marked = and_both (nat_lt k (length m.circuit.registers)) (is_next_marked m (is_in found) (is_in keys k) k) (lt-ltb k (length m.circuit.registers) below) h
+          marked = and_from (nat_lt k (length m.circuit.registers)) (is_next_marked m (is_in found) (is_in keys k) k) (lt-ltb k (length m.circuit.registers) below) h
 
 -- the outputs with a mark by their names
 pub outputs_mapped : (m : MachineData) (marked : ℕ → Bool) → map Output (filter (is_output_marked m marked) (range_with_len 0 (length m.circuit.outputs))) ≡ marked_outputs marked 0 m.circuit.outputs

@@ -1,13 +1,9 @@
 -- Counting goes on with the next place, and with the next moment.
-use Rattle.std.proofs.Common.{◌≡◌, ℕ, zero, suc, ◌+◌, ◌∷◌, ◌++◌, [], List, Bool, Option, Some, None, drop, slice_get, refl, sym, ap}
+use Rattle.std.proofs.Common.{◌≡◌, ℕ, ◌+◌, ◌∷◌, ◌++◌, [], List, Bool, Option, Some, None, drop, slice_get, refl, sym, ap}
 use Rattle.std.proofs.Common.{◌∙◌, arith}
 use Rattle.cg_report.specs.Counts.{capped, differs, differing, toggled, toggles, toggles_from, last_from, last_nets}
 use Rattle.cg_report.specs.Shown.{Shown}
-
-pub next_at : {X : Type 0} (xs : List X) (i : ℕ) (x : X) → slice_get xs i ≡ Some x → drop i xs ≡ x ∷ drop (i + 1) xs
-next_at [] i x at = absurd (cc)
-next_at (y ∷ ys) zero x at = let same : y ≡ x = cc in ap (λ z. z ∷ ys) same
-next_at (y ∷ ys) (suc i) x at = let e : suc i + 1 ≡ suc (i + 1) = omega arith in next_at ys i x at ∙ ap (λ k. x ∷ drop k (y ∷ ys)) (sym e)
+use Rattle.cg_stimulus.proofs.ReadingOn.{next_at}
 
 pub differing_on : (before now : List Bool) (i : ℕ) (b n : Bool) → slice_get before i ≡ Some b → slice_get now i ≡ Some n
     → differing (drop i before) (drop i now) ≡ differs b n + differing (drop (i + 1) before) (drop (i + 1) now)

@@ -3,7 +3,7 @@ use Rattle.std.proofs.Common.{◌≡◌, ℕ, Bool, false, List, [], ◌∷◌, 
 use Rattle.std.proofs.Common.{subst, ◌∙◌}
 use Rattle.cg_netlist.specs.Circuit.{Circuit}
 use Rattle.cg_netlist.specs.History.{LawfulFrom, Moment, Tick}
-use Rattle.cg_edge.specs.Shows.{last_moment, last_rises}
+use Rattle.cg_edge.specs.Shows.{last_moment}
 use Rattle.cg_edge.specs.Simulated.{Simulated, rises_at}
 use Rattle.cg_report.specs.Place.{Gives, Place, Plays, shown_from}
 use Rattle.cg_report.specs.Shown.{Shown}
@@ -11,6 +11,7 @@ use Rattle.cg_report.specs.declared.player.Next.{Next}
 use Rattle.cg_report.specs.declared.player.Next.TheVariants.{Low, High, Ended}
 use Rattle.cg_report.specs.inner.Giving.{Given}
 use Rattle.cg_report.specs.inner.Playing.{left_of, low_from, padded}
+use Rattle.cg_edge.proofs.Shown.{last_rises-push}
 
 low_first : (width : ℕ) (inputs : List Bool) (rows : List (List Bool)) (tick : Tick) (later : List Tick) → low_from width inputs rows ≡ tick ∷ later → false ≡ tick.clock
 low_first width inputs [] tick later is = let first : record { clock = false; inputs = inputs } ≡ tick = cc in ap (λ (t : Tick). t.clock) first
@@ -30,10 +31,6 @@ shown_on c start before (t ∷ wave) (m ∷ played) tick now lawful = ap (λ lat
 shown_on c start before [] (m ∷ played) tick now lawful = absurd lawful
 shown_on c start before (t ∷ wave) [] tick now lawful = absurd lawful
 
-last_rises_on : (c : Circuit) (before : Option Moment) (rose : List Bool) (played : List Moment) (now : Moment) → last_rises c before rose (played ++ now ∷ []) ≡ rises_at c (last_moment before played) now
-last_rises_on c before rose [] now = refl
-last_rises_on c before rose (m ∷ played) now = last_rises_on c (Some m) (rises_at c before m) played now
-
 gives_on : (old new : Place) (old_stands new_stands : Circuit → List Shown → Type 0) (clock : Bool) → Plays old new → ((tick : Tick) (later : List Tick) → old.left ≡ tick ∷ later → clock ≡ tick.clock)
     → Given old_stands new_stands new.simulated clock → Gives old_stands new_stands old new
 gives_on old new old_stands new_stands clock plays high given =
@@ -51,7 +48,7 @@ gives_on old new old_stands new_stands clock plays high given =
       further = λ wave played at stands.
           let on = (plays.further wave played at).shows in
           let rose : new.simulated.rose ≡ rises_at c (last_moment None played) plays.now =
-          on.rose ∙ (last_rises_on new.simulated.circuit None (replicate (length (new.simulated.circuit).registers) false) played plays.now ∙ ap (λ d. rises_at d (last_moment None played) plays.now) plays.circuit) in
+          on.rose ∙ (last_rises-push new.simulated.circuit None (replicate (length (new.simulated.circuit).registers) false) played plays.now ∙ ap (λ d. rises_at d (last_moment None played) plays.now) plays.circuit) in
           let S : List Bool → Type 0 = λ bits. new_stands c (shown_from c None wave played ++ record { clock = plays.tick.clock; nets = plays.now.nets; rose = bits } ∷ []) in
           subst (λ shown. new_stands c shown) (sym (shown_on c old.simulated.start None wave played plays.tick plays.now at.shows.lawful)) (subst S rose (more (shown_from c None wave played) stands));
     }

@@ -19,7 +19,7 @@ use Rattle.cg_report.specs.Place.{Place, Plays}
 use Rattle.cg_report.specs.declared.player.Next.{Next}
 use Rattle.cg_report.specs.declared.player.Next.TheVariants.{Low, High, Ended}
 use Rattle.cg_report.specs.inner.Playing.{padded, low_from, left_of, IsPlayer}
-use Rattle.cg_report.proofs.Counting.{next_at}
+use Rattle.cg_stimulus.proofs.ReadingOn.{next_at}
 
 count_map : {X : Type 0} (f : X → Bool) (xs : List X) → count_by (λ (b : Bool). b) (map f xs) ≡ count_by f xs
 count_map f [] = refl

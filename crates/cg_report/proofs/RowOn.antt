@@ -9,7 +9,7 @@ use Rattle.cg_stimulus.specs.Played.{IsPlayed, played_start, played_wave, row_ti
 use Rattle.cg_report.specs.Idle.{low_moments}
 use Rattle.cg_report.specs.Place.{IsAt, Place, Plays, Steps}
 use Rattle.cg_report.specs.inner.RowByRow.{HasRow, IsBehind, IsFirst, IsPairs, PlaysPair}
-use Rattle.cg_report.proofs.Counting.{next_at}
+use Rattle.cg_stimulus.proofs.ReadingOn.{next_at}
 
 -- where a moment is left, a step plays it
 pub stepped : (went : Bool) (old new : Place) (tick : Tick) (later : List Tick) → old.left ≡ tick ∷ later → Steps went old new → Plays old new

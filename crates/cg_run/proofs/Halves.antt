@@ -32,7 +32,7 @@ reached_then takes stops state (role ∷ rest) given =
     (λ next. reached_then takes stops next rest given)
     ∙ sym (bind_twice (taken takes state role (given role)) (λ next. reached takes unstopped next rest given) (λ end. stopped (stops end) end))
 
-found_is : {M : Type 0} (v : Result M Refusal) (found : M) → IsOkAnd v (λ end. end ≡ found) → v ≡ Ok found
+pub found_is : {M : Type 0} (v : Result M Refusal) (found : M) → IsOkAnd v (λ end. end ≡ found) → v ≡ Ok found
 found_is (Ok end) found same = ap Ok same
 found_is (Err refusal) found same = absurd same
 

@@ -9,12 +9,12 @@ use Rattle.cg_formula.specs.declared.formula.Formula.{Formula}
 use Rattle.cg_formula.specs.Lits.{inverse, same_lit, is_in}
 use Rattle.cg_formula.specs.Bounds.{IsLit, IsClause, IsFormula}
 use Rattle.cg_formula.specs.Satisfiable.{lit_bit}
-use Rattle.cg_formula.proofs.Connectives.{or_true}
 use Rattle.cg_formula.proofs.Members.{same_lit_equal}
 use Rattle.cg_formula.specs.Assignments.{IsUnassigned}
 use Rattle.cg_sat_state.specs.declared.trail.Entry.{Entry}
 use Rattle.cg_sat_state.specs.Store.{Store, clause_at, given}
 use Rattle.cg_sat.specs.inner.Search.{ShowsBits, IsSearch, HasPrefix}
+use Rattle.std.proofs.lemmas.Bool.{or_cases}
 
 all_at : {X : Type 0} (P : X → Type 0) (xs : List X) (k : ℕ) (x : X) → AllByRecursion P xs → slice_get xs k ≡ Some x → P x
 all_at P [] k x all e = absurd (cc)
@@ -23,7 +23,7 @@ all_at P (y ∷ ys) (suc k) x all e = all_at P ys k x all.1 e
 
 in_all : (P : Lit → Type 0) (lits : List Lit) (lit : Lit) → AllByRecursion P lits → is_in lit lits ≡ true → P lit
 in_all P [] lit all e = absurd (cc)
-in_all P (l ∷ ls) lit all e = elim (or_true (same_lit lit l) (is_in lit ls) e) [
+in_all P (l ∷ ls) lit all e = elim (or_cases (same_lit lit l) (is_in lit ls) e) [
   | inl same ↦ subst P (sym (same_lit_equal lit l same)) all.0
   | inr later ↦ in_all P ls lit all.1 later
 ]
@@ -39,7 +39,7 @@ any_false bits [] lit off e = absurd (cc)
 any_false bits (l ∷ ls) lit off e = pick (lit_bit bits l) refl (any_false bits ls lit) where
   pick : (b : Bool) → lit_bit bits l ≡ b → (list_any (lit_bit bits) ls ≡ false → is_in lit ls ≡ true → lit_bit bits lit ≡ false) → lit_bit bits lit ≡ false
   pick true f later = let bad : true ≡ false = rw f at off in absurd (cc)
-  pick false f later = elim (or_true (same_lit lit l) (is_in lit ls) e) [
+  pick false f later = elim (or_cases (same_lit lit l) (is_in lit ls) e) [
     | inl same ↦ ap (lit_bit bits) (same_lit_equal lit l same) ∙ f
     | inr rest ↦ later (rw f at off) rest
   ]

@@ -7,7 +7,6 @@ use Rattle.cg_formula.specs.declared.formula.Lit.{Lit}
 use Rattle.cg_formula.specs.declared.formula.Formula.{Formula}
 use Rattle.cg_formula.specs.Lits.{inverse, same_lit, is_in}
 use Rattle.cg_formula.specs.Bounds.{IsLit}
-use Rattle.cg_formula.proofs.Connectives.{or_true}
 use Rattle.cg_formula.proofs.Members.{same_lit_equal}
 use Rattle.cg_sat_state.specs.declared.trail.Entry.{Entry}
 use Rattle.cg_formula.specs.Assignments.{IsUnassigned, IsUnit}
@@ -22,6 +21,7 @@ use Rattle.cg_sat.specs.inner.Search.{IsSearch, Grows, HasPrefix}
 use Rattle.cg_sat_state.proofs.TrailLaws.{trail_pushed, trail_cut, trail_kept, trail_without, pushed_at, cut_at, split_at}
 use Rattle.cg_sat.proofs.Worth.{worth_pushed, worth_raised}
 use Rattle.cg_sat.proofs.Short.{trail_short, named_in}
+use Rattle.std.proofs.lemmas.Bool.{or_cases}
 
 pub grows_same : (count : ℕ) (clauses : Store) (trail : List Entry) → IsSearch count clauses trail → Grows count clauses trail trail
 grows_same count clauses trail s = record { search = s; worth = omega arith }
@@ -78,7 +78,7 @@ lits_named count clauses trail cut lits s a lit e = elim (a.unit.others lit e) [
 
 ones_in : (trail : List Entry) → ((k : ℕ) (entry : Entry) → slice_get trail k ≡ Some entry → 0 < entry.lit.variable) → (lit : Lit) → is_in lit (lits_of trail) ≡ true → 0 < lit.variable
 ones_in [] ones lit e = absurd (cc)
-ones_in (t ∷ ts) ones lit e = elim (or_true (same_lit lit t.lit) (is_in lit (lits_of ts)) e) [
+ones_in (t ∷ ts) ones lit e = elim (or_cases (same_lit lit t.lit) (is_in lit (lits_of ts)) e) [
   | inl same ↦ subst (λ (l : Lit). 0 < l.variable) (sym (same_lit_equal lit t.lit same)) (ones 0 t refl)
   | inr later ↦ ones_in ts (λ k entry is. ones (suc k) entry is) lit later
 ]

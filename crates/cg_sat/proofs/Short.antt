@@ -3,13 +3,13 @@ use Rattle.std.proofs.Common.{◌≡◌, ℕ, zero, suc, ◌<◌, ◌≤◌, Boo
 use Rattle.std.proofs.Common.{inl, inr, refl, sym, ap, ◌∙◌, subst, map, length, take, nat_eq, add-one, arith, rules}
 use Rattle.std.specs.List.{slice_get, list_any, IsDistinct}
 use Rattle.std.specs.Cmp.{nat_eq_equiv}
-use Rattle.std.proofs.lemmas.Bool.{eqb-true}
+use Rattle.std.proofs.lemmas.Bool.{eqb-true, or_cases}
 use Rattle.std.proofs.lemmas.Map.Keys.{IsDistinct-push}
 use Rattle.std.proofs.lemmas.Map.Steps.{length-le_from_distinct_below}
 use Rattle.std.proofs.Math.Seq.{take-length}
 use Rattle.cg_formula.specs.declared.formula.Lit.{Lit}
 use Rattle.cg_formula.specs.Lits.{same_lit, is_in}
-use Rattle.cg_formula.proofs.Connectives.{or_true, or_right}
+use Rattle.cg_formula.proofs.Connectives.{or_right}
 use Rattle.cg_formula.proofs.Members.{same_lit_equal}
 use Rattle.cg_sat_state.specs.declared.trail.Entry.{Entry}
 use Rattle.cg_sat_state.specs.Store.{Store}
@@ -26,7 +26,7 @@ variables lits = map (λ (lit : Lit). lit.variable) lits
 -- a literal of each variable that is there
 lit_of : (v : ℕ) (lits : List Lit) → list_any (nat_eq v) (variables lits) ≡ true → (lit : Lit) × (is_in lit lits ≡ true) × (lit.variable ≡ v)
 lit_of v [] e = absurd (cc)
-lit_of v (lit ∷ lits) e = elim (or_true (nat_eq v lit.variable) (list_any (nat_eq v) (variables lits)) e) [
+lit_of v (lit ∷ lits) e = elim (or_cases (nat_eq v lit.variable) (list_any (nat_eq v) (variables lits)) e) [
   | inl same ↦ (lit, here lit lits, sym (eqb-true v lit.variable same))
   | inr later ↦ let found = lit_of v lits later in (found.0, or_right (same_lit found.0 lit) found.1, found.2)
 ]
@@ -56,7 +56,7 @@ distinct_to trail free (suc n) within =
 -- a literal of the trail is one of its entries'
 pub named_in : (count : ℕ) (trail : List Entry) → ((k : ℕ) (entry : Entry) → slice_get trail k ≡ Some entry → entry.lit.variable < count) → (lit : Lit) → is_in lit (lits_of trail) ≡ true → lit.variable < count
 named_in count [] named lit e = absurd (cc)
-named_in count (t ∷ ts) named lit e = elim (or_true (same_lit lit t.lit) (is_in lit (lits_of ts)) e) [
+named_in count (t ∷ ts) named lit e = elim (or_cases (same_lit lit t.lit) (is_in lit (lits_of ts)) e) [
   | inl same ↦ subst (λ (l : Lit). l.variable < count) (sym (same_lit_equal lit t.lit same)) (named 0 t refl)
   | inr later ↦ named_in count ts (λ k entry is. named (suc k) entry is) lit later
 ]

@@ -5,7 +5,6 @@ use Rattle.std.proofs.Math.Seq.{take-suc}
 use Rattle.cg_formula.specs.declared.formula.Lit.{Lit}
 use Rattle.cg_formula.specs.Lits.{inverse, same_lit, is_in}
 use Rattle.cg_formula.specs.Assignments.{IsFalsified, IsUnit, IsUnassigned}
-use Rattle.cg_formula.proofs.Connectives.{or_true}
 use Rattle.cg_formula.proofs.Members.{same_lit_equal, own_inverse, here, pushed_in}
 use Rattle.cg_lrat.specs.Accepted.{Live, hints_fault, clause_fault, is_tautology}
 use Rattle.cg_lrat.proofs.UnitHints.{unit_hint, last_hint}
@@ -13,6 +12,7 @@ use Rattle.cg_sat_state.specs.declared.trail.Entry.{Entry}
 use Rattle.cg_sat_state.specs.Trail.{lits_of}
 use Rattle.cg_sat.specs.inner.Derive.{Follows}
 use Rattle.cg_sat.proofs.Marks.{blank_lit}
+use Rattle.std.proofs.lemmas.Bool.{or_cases}
 
 pub lits_pushed : (trail : List Entry) (entry : Entry) → lits_of (trail ++ entry ∷ []) ≡ lits_of trail ++ entry.lit ∷ []
 lits_pushed [] entry = refl
@@ -22,7 +22,7 @@ lits_pushed (t ∷ ts) entry = ap (λ ls. t.lit ∷ ls) (lits_pushed ts entry)
 pub alone_unit : (trues : List Lit) (one : Lit) → IsUnit trues (one ∷ []) one
 alone_unit trues one = record {
   among = here one [];
-  others = λ lit e. elim (or_true (same_lit lit one) false e) [ inl same ↦ inl (same_lit_equal lit one same) | inr none ↦ absurd (cc) ];
+  others = λ lit e. elim (or_cases (same_lit lit one) false e) [ inl same ↦ inl (same_lit_equal lit one same) | inr none ↦ absurd (cc) ];
 }
 
 pub follows_none : (live : Live) (first : List Lit) → Follows live first [] first
@@ -64,4 +64,4 @@ pub falsified_kept : (old new clause : List Lit) → ((lit : Lit) → is_in lit 
 falsified_kept old new clause kept off = record { all = λ lit e. kept (inverse lit) (off.all lit e) }
 
 pub one_in : (lits : List Lit) (one lit : Lit) → lits ≡ one ∷ [] → is_in lit lits ≡ true → lit ≡ one
-one_in lits one lit e among = elim (or_true (same_lit lit one) false (subst (λ ls. is_in lit ls ≡ true) e among)) [ inl same ↦ same_lit_equal lit one same | inr none ↦ absurd (cc) ]
+one_in lits one lit e among = elim (or_cases (same_lit lit one) false (subst (λ ls. is_in lit ls ≡ true) e among)) [ inl same ↦ same_lit_equal lit one same | inr none ↦ absurd (cc) ]

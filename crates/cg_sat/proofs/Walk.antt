@@ -17,11 +17,12 @@ use Rattle.std.proofs.Math.Seq.{take-length}
 use Rattle.cg_sat.proofs.Derive.{conflict_refutes, skip_refutes, keep_refutes, resolve_refutes, none_apart, fewer_apart, keep_apart}
 use Rattle.cg_sat.proofs.Derive.{derived}
 use Rattle.cg_formula.specs.Lits.{same_lit}
-use Rattle.cg_formula.proofs.Connectives.{or_true, or_right}
+use Rattle.cg_formula.proofs.Connectives.{or_right}
 use Rattle.cg_formula.proofs.Members.{same_lit_equal}
 use Rattle.cg_formula.proofs.Members.{last_in, here, not_in, inverse_twice, pushed_in}
 use Rattle.cg_sat_state.proofs.TrailLaws.{lit_at}
 use Rattle.cg_sat.proofs.Marks.{take_lits, stays_marked, reason_marked, one_more_hint, blank}
+use Rattle.std.proofs.lemmas.Bool.{or_cases}
 
 pub entry_at : (trail : List Entry) (k : ℕ) → k < length trail → (entry : Entry) × (slice_get trail k ≡ Some entry)
 entry_at [] k within = absurd (omega arith)
@@ -97,7 +98,7 @@ derives_conflict clauses trail marks conflict clause is off marked = record {
 -- the clause asserts its first literal where the trail is cut
 map_in : (lit : Lit) (lits : List Lit) → is_in lit (map inverse lits) ≡ true → is_in (inverse lit) lits ≡ true
 map_in lit [] e = absurd (cc)
-map_in lit (one ∷ lits) e = elim (or_true (same_lit lit (inverse one)) (is_in lit (map inverse lits)) e) [
+map_in lit (one ∷ lits) e = elim (or_cases (same_lit lit (inverse one)) (is_in lit (map inverse lits)) e) [
   | inl same ↦ let back : inverse lit ≡ one = ap inverse (same_lit_equal lit (inverse one) same) ∙ inverse_twice one in subst (λ l. is_in l (one ∷ lits) ≡ true) (sym back) (here one lits)
   | inr later ↦ or_right (same_lit (inverse lit) one) (map_in lit lits later)
 ]
@@ -109,7 +110,7 @@ in_longer lit [] m n le e = absurd (nothing m e) where
   nothing (suc k) f = cc
 in_longer lit (t ∷ ts) zero n le e = absurd (cc)
 in_longer lit (t ∷ ts) (suc m) zero le e = absurd (omega arith)
-in_longer lit (t ∷ ts) (suc m) (suc n) le e = elim (or_true (same_lit lit t.lit) (is_in lit (lits_of (take m ts))) e) [
+in_longer lit (t ∷ ts) (suc m) (suc n) le e = elim (or_cases (same_lit lit t.lit) (is_in lit (lits_of (take m ts))) e) [
   | inl same ↦ rw same refl
   | inr later ↦ or_right (same_lit lit t.lit) (in_longer lit ts m n (omega arith) later)
 ]
@@ -127,7 +128,7 @@ asserted clauses trail from cut at point kept stands is low within g = record {
     among = subst (λ ls. is_in (inverse point.lit) (map inverse ls) ≡ true) (sym g.whole) (here (inverse point.lit) (map inverse g.more));
     others = λ lit e.
         let f : is_in lit (inverse point.lit ∷ map inverse g.more) ≡ true = subst (λ ls. is_in lit (map inverse ls) ≡ true) g.whole e in
-        elim (or_true (same_lit lit (inverse point.lit)) (is_in lit (map inverse g.more)) f) [
+        elim (or_cases (same_lit lit (inverse point.lit)) (is_in lit (map inverse g.more)) f) [
           | inl same ↦ inl (same_lit_equal lit (inverse point.lit) same)
           | inr later ↦ inr (g.inside (inverse lit) (map_in lit g.more later))
         ];

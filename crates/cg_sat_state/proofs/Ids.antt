@@ -1,15 +1,14 @@
 -- Hints without a fault are ids of clauses.
-use Rattle.std.proofs.Common.{◌≡◌, ℕ, zero, suc, ◌<◌, ◌≤◌, Bool, true, false, List, [], ◌∷◌, ◌++◌, Option, Some, None, refl}
+use Rattle.std.proofs.Common.{◌≡◌, ℕ, zero, suc, ◌<◌, ◌≤◌, List, [], ◌∷◌, ◌++◌, Some, None}
 use Rattle.std.proofs.Common.{length, arith}
 use Rattle.std.specs.List.{AllByRecursion}
 use Rattle.cg_formula.specs.declared.formula.Lit.{Lit}
-use Rattle.cg_lrat.specs.declared.verdict.Why.{Why}
-use Rattle.cg_lrat.specs.declared.hint.NonFalse.{NonFalse}
 use Rattle.cg_lrat.specs.declared.hint.NonFalse.TheVariants as left
-use Rattle.cg_formula.specs.Lits.{is_in}
-use Rattle.cg_lrat.specs.Accepted.{known_then, unit_then, non_false_of, non_false_lits, false_at, hints_fault}
+use Rattle.cg_lrat.specs.Accepted.{unit_then, non_false_of, non_false_lits, false_at, hints_fault}
 use Rattle.cg_sat_state.specs.Store.{Store, live_of}
 use Rattle.cg_sat_state.proofs.Store.{clause_within}
+use Rattle.cg_lrat.proofs.HintIds.{unit}
+use Rattle.cg_lrat.proofs.Sound.{known_found}
 
 abbrev pub IsPlace : ℕ → ℕ → Type 0
 IsPlace count id = (1 ≤ id) × (id ≤ count)
@@ -18,24 +17,12 @@ live_within : (clauses : Store) (id : ℕ) (lits : List Lit) → live_of clauses
 live_within clauses zero lits e = absurd (cc)
 live_within clauses (suc k) lits e = let within : k < length clauses = clause_within clauses k lits e in (omega arith, omega arith)
 
-known : (o : Option (List Lit)) (hint : ℕ) (later : List Lit → Option Why) → known_then o hint later ≡ None → (lits : List Lit) × (o ≡ Some lits) × (later lits ≡ None)
-known None hint later e = absurd (cc)
-known (Some lits) hint later e = (lits, refl, e)
-
-unit : (o : NonFalse) (trues : List Lit) (hint : ℕ) (later : Lit → Option Why) → unit_then o trues hint later ≡ None → (lit : Lit) × (later lit ≡ None)
-unit left.Nothing trues hint later e = absurd (cc)
-unit (left.One lit) trues hint later e = pick (is_in lit trues) refl where
-  pick : (b : Bool) → is_in lit trues ≡ b → (l : Lit) × (later l ≡ None)
-  pick true f = absurd (cc (rw f at e))
-  pick false f = (lit, rw f at e)
-unit left.Many trues hint later e = absurd (cc)
-
 pub hints_are_ids : (clauses : Store) (trues : List Lit) (hints : List ℕ) → hints_fault (live_of clauses) trues hints ≡ None → AllByRecursion (IsPlace (length clauses)) hints
 hints_are_ids clauses trues [] e = tt
 hints_are_ids clauses trues (hint ∷ []) e =
-    let found = known (live_of clauses hint) hint (λ lits. false_at (non_false_of (non_false_lits trues lits)) hint) e in
+    let found = known_found (live_of clauses hint) hint (λ lits. false_at (non_false_of (non_false_lits trues lits)) hint) e in
     (live_within clauses hint found.0 found.1, tt)
 hints_are_ids clauses trues (hint ∷ next ∷ later) e =
-    let found = known (live_of clauses hint) hint (λ lits. unit_then (non_false_of (non_false_lits trues lits)) trues hint (λ lit. hints_fault (live_of clauses) (trues ++ lit ∷ []) (next ∷ later))) e in
+    let found = known_found (live_of clauses hint) hint (λ lits. unit_then (non_false_of (non_false_lits trues lits)) trues hint (λ lit. hints_fault (live_of clauses) (trues ++ lit ∷ []) (next ∷ later))) e in
     let one = unit (non_false_of (non_false_lits trues found.0)) trues hint (λ lit. hints_fault (live_of clauses) (trues ++ lit ∷ []) (next ∷ later)) found.2 in
     (live_within clauses hint found.0 found.1, hints_are_ids clauses (trues ++ one.0 ∷ []) (next ∷ later) one.1)

@@ -11,17 +11,14 @@ use Rattle.cg_formula.specs.declared.formula.Formula.{Formula}
 use Rattle.cg_lrat.specs.declared.log.Body.TheVariants.{Add, Delete}
 use Rattle.cg_lrat.specs.declared.log.Step.{Step}
 use Rattle.cg_lrat.specs.declared.log.Log.{Log}
-use Rattle.cg_lrat.specs.Accepted.{Live, first_state, fault_of, state_after, adds_empty, clause_fault, hints_fault}
-use Rattle.cg_lrat.specs.Accepted.{is_tautology}
+use Rattle.cg_lrat.specs.Accepted.{first_state, fault_of, state_after, adds_empty, clause_fault}
 use Rattle.cg_lrat.specs.AcceptedLog.{LeadsTo, IsAccepted}
-use Rattle.cg_formula.specs.Lits.{inverse, same_lit, is_in}
+use Rattle.cg_formula.specs.Lits.{inverse, is_in}
 use Rattle.cg_formula.specs.Bounds.{IsLit}
 use Rattle.cg_lrat.specs.Bounds.{AreNumbered, IsBody, IsId, IsLog, IsStep}
-use Rattle.cg_formula.proofs.Connectives.{or_right}
-use Rattle.cg_lrat.proofs.GrownLog.{leads_pushed, accepted_pushed}
+use Rattle.cg_lrat.proofs.GrownLog.{accepted_pushed, all_lits, all_pushed, clause_hints, leads_pushed}
 use Rattle.cg_sat_state.specs.Store.{Store, clause_at, live_of, state_of, given, IsWithout}
 use Rattle.cg_sat_state.specs.inner.Draft.{IsDraft}
-use Rattle.cg_formula.proofs.Members.{here}
 use Rattle.cg_sat_state.proofs.Ids.{IsPlace, hints_are_ids}
 use Rattle.cg_sat_state.proofs.Store.{live_pushed, live_without, live_at, clause_within, first_is, make_state}
 use Rattle.cg_sat_state.proofs.TrailLaws.{pushed_at}
@@ -51,23 +48,9 @@ addition_leads clauses clause hints id e =
 
 -- steps within the bounds
 
-all_pushed : {X : Type 0} (P : X → Type 0) (xs : List X) (x : X) → AllByRecursion P xs → P x → AllByRecursion P (xs ++ x ∷ [])
-all_pushed P [] x all p = (p, tt)
-all_pushed P (y ∷ ys) x all p = (all.0, all_pushed P ys x all.1 p)
-
-all_lits : (P : Lit → Type 0) (lits : List Lit) → ((lit : Lit) → is_in lit lits ≡ true → P lit) → AllByRecursion P lits
-all_lits P [] each = tt
-all_lits P (l ∷ ls) each = (each l (here l ls), all_lits P ls (λ lit e. each lit (or_right (same_lit lit l) e)))
-
 all_ids : (count : ℕ) (hints : List ℕ) → count < 2 ^ 63 → AllByRecursion (IsPlace count) hints → AllByRecursion IsId hints
 all_ids count [] small all = tt
 all_ids count (h ∷ hs) small all = let low = all.0.0 in let high = all.0.1 in (record { from_one = omega arith; within = omega arith }, all_ids count hs small all.1)
-
-clause_hints : (live : Live) (lits : List Lit) (hints : List ℕ) → clause_fault live lits hints ≡ None → hints_fault live (map inverse lits) hints ≡ None
-clause_hints live lits hints e = pick (is_tautology lits) refl where
-  pick : (b : Bool) → is_tautology lits ≡ b → hints_fault live (map inverse lits) hints ≡ None
-  pick true f = absurd (cc (rw f at e))
-  pick false f = rw f at e
 
 step_fits : (clauses : Store) (clause : Clause) (hints : List ℕ) (step : Step) → step.body ≡ Add clause hints → step.id ≡ length clauses + 1 → length clauses + 1 < 2 ^ 63
     → ((lit : Lit) → is_in lit clause.lits ≡ true → IsLit (2 ^ 31 - 1) lit) → clause_fault (live_of clauses) clause.lits hints ≡ None → IsStep step

@@ -3,57 +3,30 @@ use Rattle.std.proofs.Common.{◌≡◌, ℕ, ◌+◌, ◌<◌, Bool, true, fals
 use Rattle.std.proofs.Common.{nat_eq, slice_get, is_some, Option, Some, None, refl, sym, ◌∙◌, ap, subst, arith, inl, inr}
 use Rattle.std.specs.List.{filter, filter_map, list_all, list_any, range_with_len}
 use Rattle.std.specs.Option.{option_map_or}
-use Rattle.std.proofs.lemmas.Bool.{and_parts, both_ways, cases_Bool, eqb-true, eq-eqb, or_cases, or_left, or_right}
+use Rattle.std.proofs.lemmas.Bool.{and_from, and_parts, both_ways, cases_Bool, eq-eqb, eqb-true, or_cases, or_left, or_right}
 use Rattle.std.proofs.lemmas.Option.{slice_get_within}
 use Rattle.cg_netlist.specs.Circuit.{RegisterCell, shown_nets}
 use Rattle.cg_net.specs.NetSets.{is_in}
 use Rattle.cg_machine.specs.Machine.{IsMachine, MachineData, enable_of}
 use Rattle.cg_claim.specs.Reach.{feeds, registers_of}
-use Rattle.cg_claim.proofs.Reached.{and_first, both_true, in_filter, range_in, to_filter}
+use Rattle.cg_claim.proofs.Reached.{and_first}
 use Rattle.cg_lists.specs.Rounds.{is_empty}
 use Rattle.cg_lists.specs.StableList.{StableKey, stable_key}
 use Rattle.cg_lists.specs.Supports.{all_nets, has_enable, in_net_order, input_cone, others_of, reads_own_at, supports}
-use Rattle.cg_lists.proofs.Mapped.{mapped_from, mapped_in, not_true}
 use Rattle.cg_stability.specs.inner.Leaving.{AreRegisters, is_keyed}
 use Rattle.cg_support.specs.Support.{IsSupport}
 use Rattle.cg_support.specs.declared.support.Support.{Support}
-
-same_truth : (a b : Bool) → (a ≡ true → b ≡ true) → (b ≡ true → a ≡ true) → a ≡ b
-same_truth true b there back = sym (there refl)
-same_truth false true there back = back refl
-same_truth false false there back = refl
-
-is_not : (b : Bool) → b ≡ false → not b ≡ true
-is_not true h = sym h
-is_not false h = refl
-
-any_in : (test : ℕ → Bool) (xs : List ℕ) (x : ℕ) → is_in xs x ≡ true → test x ≡ true → list_any test xs ≡ true
-any_in test [] x among passes = absurd (both_ways false refl among)
-any_in test (y ∷ xs) x among passes = elim (or_cases (nat_eq x y) (is_in xs x) among) [
-  | inl same ↦ or_left (test y) (list_any test xs) (ap test (sym (eqb-true x y same)) ∙ passes)
-  | inr later ↦ or_right (test y) (list_any test xs) (any_in test xs x later passes)
-]
-
-from_any : (test : ℕ → Bool) (xs : List ℕ) → list_any test xs ≡ true → (x : ℕ) × (is_in xs x ≡ true) × (test x ≡ true)
-from_any test [] any = absurd (both_ways false refl any)
-from_any test (y ∷ xs) any = elim (or_cases (test y) (list_any test xs) any) [
-  | inl here ↦ (y, or_left (nat_eq y y) (is_in xs y) (eq-eqb y y refl), here)
-  | inr later ↦ let r = from_any test xs later in (r.0, or_right (nat_eq r.0 y) (is_in xs r.0) r.1, r.2)
-]
-
-from_all : (test : ℕ → Bool) (xs : List ℕ) (x : ℕ) → list_all test xs ≡ true → is_in xs x ≡ true → test x ≡ true
-from_all test [] x all among = absurd (both_ways false refl among)
-from_all test (y ∷ xs) x all among =
-    let p = and_parts (test y) (list_all test xs) all in
-    elim (or_cases (nat_eq x y) (is_in xs x) among) [ inl same ↦ ap test (eqb-true x y same) ∙ p.0 | inr later ↦ from_all test xs x p.1 later ]
+use Rattle.std.specs.Cmp.{both_ways as same_truth}
+use Rattle.cg_lists.proofs.Mapped.{all_member, nonempty_member}
+use Rattle.cg_cone.proofs.ConeEdge.{any_in, from_any}
+use Rattle.std.proofs.lemmas.Bool.{not-true, not_from_false}
+use Rattle.cg_netlist.proofs.Filtered.{in_filter, range_in, to_filter}
+use Rattle.cg_netlist.proofs.Rising.{in_made}
+use Rattle.cg_netlist.proofs.WalkOrder.{in_driving}
 
 to_all : (test : ℕ → Bool) (xs : List ℕ) → ((x : ℕ) → is_in xs x ≡ true → test x ≡ true) → list_all test xs ≡ true
 to_all test [] each = refl
-to_all test (y ∷ xs) each = both_true (test y) (list_all test xs) (each y (or_left (nat_eq y y) (is_in xs y) (eq-eqb y y refl))) (to_all test xs (λ x among. each x (or_right (nat_eq x y) (is_in xs x) among)))
-
-some_in : (xs : List ℕ) → is_empty xs ≡ false → (x : ℕ) × (is_in xs x ≡ true)
-some_in [] h = absurd (both_ways true h refl)
-some_in (x ∷ xs) h = (x, or_left (nat_eq x x) (is_in xs x) (eq-eqb x x refl))
+to_all test (y ∷ xs) each = and_from (test y) (list_all test xs) (each y (or_left (nat_eq y y) (is_in xs y) (eq-eqb y y refl))) (to_all test xs (λ x among. each x (or_right (nat_eq x y) (is_in xs x) among)))
 
 none_in : (xs : List ℕ) (x : ℕ) → is_in xs x ≡ true → is_empty xs ≡ false
 none_in [] x among = absurd (both_ways false refl among)
@@ -89,27 +62,27 @@ module _ (m : MachineData) (r : ℕ) (below : r < length m.circuit.registers) (s
       let within = supports_within m r k below asked in
       let e : 0 + k ≡ k = omega arith in
       to_filter (λ k. supports m r k && not (nat_eq k r)) (registers_of m) k (subst (λ y. is_in (registers_of m) y ≡ true) e (range_in (length m.circuit.registers) 0 k within))
-      (both_true (supports m r k) (not (nat_eq k r)) asked (is_not (nat_eq k r) apart))
+      (and_from (supports m r k) (not (nat_eq k r)) asked (not_from_false (nat_eq k r) apart))
 
   from_other : (k : ℕ) → is_in (others_of m r) k ≡ true → (is_in s.registers k ≡ true) × (nat_eq k r ≡ false)
   from_other k among =
       let p = and_parts (supports m r k) (not (nat_eq k r)) (in_filter (λ k. supports m r k && not (nat_eq k r)) (registers_of m) k among).1 in
-      (is.registers k ∙ p.0, not_true (nat_eq k r) p.1)
+      (is.registers k ∙ p.0, not-true (nat_eq k r) p.1)
 
   pub has_others : not (is_empty (others_of m r)) ≡ list_any (λ k. not (nat_eq k r)) s.registers
   has_others = same_truth (not (is_empty (others_of m r))) (list_any (λ k. not (nat_eq k r)) s.registers)
-      (λ some. let k = some_in (others_of m r) (not_true (is_empty (others_of m r)) some) in let p = from_other k.0 k.1 in any_in (λ k. not (nat_eq k r)) s.registers k.0 p.0 (is_not (nat_eq k.0 r) p.1))
-      (λ any. let k = from_any (λ k. not (nat_eq k r)) s.registers any in is_not (is_empty (others_of m r)) (none_in (others_of m r) k.0 (to_other k.0 k.1 (not_true (nat_eq k.0 r) k.2))))
+      (λ some. let k = nonempty_member (others_of m r) (not-true (is_empty (others_of m r)) some) in let p = from_other k.0 k.1 in any_in (λ k. not (nat_eq k r)) s.registers k.0 p.0 (not_from_false (nat_eq k.0 r) p.1))
+      (λ any. let k = from_any (λ k. not (nat_eq k r)) s.registers any in not_from_false (is_empty (others_of m r)) (none_in (others_of m r) k.0 (to_other k.0 k.1 (not-true (nat_eq k.0 r) k.2))))
 
   pub all_enabled : list_all (has_enable m) (others_of m r) ≡ list_all (λ k. nat_eq k r || has_enable m k) s.registers
   all_enabled = same_truth (list_all (has_enable m) (others_of m r)) (list_all (λ k. nat_eq k r || has_enable m k) s.registers)
       (λ all. to_all (λ k. nat_eq k r || has_enable m k) s.registers (λ k among. elim (cases_Bool (nat_eq k r)) [
         | inl same ↦ or_left (nat_eq k r) (has_enable m k) same
-        | inr apart ↦ or_right (nat_eq k r) (has_enable m k) (from_all (has_enable m) (others_of m r) k all (to_other k among apart))
+        | inr apart ↦ or_right (nat_eq k r) (has_enable m k) (all_member (has_enable m) (others_of m r) k all (to_other k among apart))
       ]))
       (λ all. to_all (has_enable m) (others_of m r) (λ k among.
       let p = from_other k among in
-      elim (or_cases (nat_eq k r) (has_enable m k) (from_all (λ k. nat_eq k r || has_enable m k) s.registers k all p.0)) [
+      elim (or_cases (nat_eq k r) (has_enable m k) (all_member (λ k. nat_eq k r || has_enable m k) s.registers k all p.0)) [
         | inl same ↦ absurd (both_ways (nat_eq k r) p.1 same)
         | inr enabled ↦ enabled
       ]))
@@ -123,15 +96,15 @@ module _ (m : MachineData) (r : ℕ) (below : r < length m.circuit.registers) (s
 
   same_enables : (y : ℕ) → is_in (filter_map (other_enable m r) s.registers) y ≡ is_in (filter_map (enable_of m) (others_of m r)) y
   same_enables y = same_truth (is_in (filter_map (other_enable m r) s.registers) y) (is_in (filter_map (enable_of m) (others_of m r)) y)
-      (λ among. let k = mapped_from (other_enable m r) s.registers y among in let o = other_is k.0 y k.2 in mapped_in (enable_of m) (others_of m r) k.0 y (to_other k.0 k.1 o.0) o.1)
+      (λ among. let k = in_made (other_enable m r) s.registers y among in let o = other_is k.0 y k.2 in in_driving (enable_of m) (others_of m r) k.0 y (to_other k.0 k.1 o.0) o.1)
       (λ among.
-      let k = mapped_from (enable_of m) (others_of m r) y among in
+      let k = in_made (enable_of m) (others_of m r) y among in
       let p = from_other k.0 k.1 in
-      mapped_in (other_enable m r) s.registers k.0 y p.0 (ap (λ b. if b then None else enable_of m k.0) p.1 ∙ k.2))
+      in_driving (other_enable m r) s.registers k.0 y p.0 (ap (λ b. if b then None else enable_of m k.0) p.1 ∙ k.2))
 
   -- the enables are nets
   pub enables_below : IsMachine m → (y : ℕ) → is_in (filter_map (other_enable m r) s.registers) y ≡ true → y < length m.circuit.names
-  enables_below good y among = let k = mapped_from (other_enable m r) s.registers y among in (good.enabled k.0 y (other_is k.0 y k.2).1).below
+  enables_below good y among = let k = in_made (other_enable m r) s.registers y among in (good.enabled k.0 y (other_is k.0 y k.2).1).below
 
   pub keyed_is : is_keyed m r ≡ (not s.has_input && list_any (λ k. not (nat_eq k r)) s.registers && list_all (λ k. nat_eq k r || has_enable m k) s.registers)
   keyed_is =

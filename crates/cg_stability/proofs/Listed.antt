@@ -3,7 +3,7 @@ use Rattle.std.proofs.Common.{◌≡◌, ℕ, suc, ◌+◌, ◌<◌, List, [], �
 use Rattle.std.proofs.Common.{arith}
 use Rattle.std.specs.List.{range_with_len}
 use Rattle.std.proofs.lemmas.List.{length-take-le}
-use Rattle.cg_groups.proofs.Listed.{map-push, seen_push, take_next}
+use Rattle.cg_groups.proofs.Listed.{map-push, seen_push}
 use Rattle.cg_groups.proofs.Same.{same_groups}
 use Rattle.cg_groups.specs.declared.key.Key.{Key}
 use Rattle.cg_groups.specs.Keys.{groups_seen, key_at, key_seen}
@@ -16,6 +16,7 @@ use Rattle.cg_machine.specs.declared.stage.Stage.{Stage}
 use Rattle.cg_machine.specs.declared.stage.StageKind.TheVariants.{Stable}
 use Rattle.cg_netlist.proofs.Driven.{in_range}
 use Rattle.cg_stability.specs.inner.Leaving.{AreKeys}
+use Rattle.cg_net.proofs.TableLemmas.{take_end}
 
 pub stages_more : (keys : List Key) (regs : List (List ℕ)) (i : ℕ) (k : Key) (rs : List ℕ) (stage : Stage) (before after : List Stage) → length regs ≡ length keys → i < length keys → slice_get keys i ≡ Some k → slice_get regs i ≡ Some rs
     → before ≡ map stable_stage (groups_seen (take i keys) (take i regs)) → stage ≡ stable_stage (record { key = key_seen k; regs = rs }) → after ≡ before ++ stage ∷ []
@@ -29,7 +30,7 @@ stages_more keys regs i k rs stage before after even below at_key at_regs so_far
     ∙ (ap (λ s. map stable_stage (groups_seen (take i keys) (take i regs)) ++ s ∷ []) is
     ∙ (sym (map-push stable_stage (groups_seen (take i keys) (take i regs)) g)
     ∙ (ap (map stable_stage) (sym (seen_push (take i keys) (take i regs) k rs long))
-    ∙ ap (λ l. map stable_stage l) (ap (λ l. groups_seen l (take i regs ++ rs ∷ [])) (sym (take_next keys i k at_key)) ∙ (ap (λ l. groups_seen (take (suc i) keys) l) (sym (take_next regs i rs at_regs)) ∙ ap (λ n. groups_seen (take n keys) (take n regs)) (sym e)))))))
+    ∙ ap (λ l. map stable_stage l) (ap (λ l. groups_seen l (take i regs ++ rs ∷ [])) (sym (take_end keys i k at_key)) ∙ (ap (λ l. groups_seen (take (suc i) keys) l) (sym (take_end regs i rs at_regs)) ∙ ap (λ n. groups_seen (take n keys) (take n regs)) (sym e)))))))
 
 -- the keys that are left make the list
 pub list_is : (m : MachineData) (earlier : List Earlier) (keys left : List (Option Key)) → AreKeys m keys → length left ≡ length keys → ((r : ℕ) → key_at left r ≡ kept_key Stable had_stable earlier (key_at keys) r)

@@ -10,8 +10,8 @@ ghost use Rattle.cg_machine.specs.Machine.{enable_of};
 ghost use Rattle.cg_stability.specs.inner.Leaving.{AreRegisters, is_keyed};
 ghost use Rattle.cg_support.specs.Support.{IsSupport};
 
+use cg_cone::ascending::ascending;
 use cg_groups::key::Key;
-use cg_groups::order::rising;
 use cg_machine::machine::Machine;
 use cg_net::id::RegId;
 use cg_support::finder::SupportFinder;
@@ -37,7 +37,7 @@ pub(crate) fn key_of(
     }
     let enables = enables(alloc, machine, reg, registers)?;
     Ok(Some(Key {
-        numbers: rising(enables),
+        numbers: ascending(enables),
         own: own_enable(machine, reg),
     }))
 }

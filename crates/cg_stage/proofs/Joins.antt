@@ -16,6 +16,7 @@ use Rattle.cg_machine.proofs.FewValues.{values_two}
 use Rattle.cg_machine.proofs.Settled.{wide}
 use Rattle.cg_machine.proofs.There.{first_none, gate_there, second_none}
 use Rattle.cg_stage.specs.Joined.{join, join_limit}
+use Rattle.std.proofs.Math.Bool.{or_assoc}
 
 pub inverter_value : (b : Bool) → cover_value inverter_cover (b ∷ []) ≡ not b
 inverter_value true = refl
@@ -57,10 +58,6 @@ pub record Joins (m : MachineData) (nets : List ℕ) (a : Added) : Type 0 where
 or_none : (b : Bool) → b ≡ (b || false)
 or_none true = refl
 or_none false = refl
-
-or_assoc : (a b c : Bool) → ((a || b) || c) ≡ (a || (b || c))
-or_assoc true b c = refl
-or_assoc false b c = refl
 
 pub join_there : (a : Added) → IsMachine a.machine → IsNet a.machine a.net → (ys : List ℕ) → ((y : ℕ) → is_in ys y ≡ true → IsNet a.machine y) → join_limit a ys ≡ None → Joins a.machine (a.net ∷ ys) (join a ys)
 join_there a good net [] nets room = record {

@@ -5,7 +5,7 @@ use Rattle.std.proofs.Common.{inr, ◌⊎◌, refl, sym, ap, subst, ◌∙◌, c
 use Rattle.std.specs.Cmp.Lexicographic.{same_text}
 use Rattle.std.specs.List.{AllByRecursion, AllZip, list_all, position_or_len}
 use Rattle.std.specs.Str.{bytes_eq}
-use Rattle.std.proofs.lemmas.Bool.{cases_Bool, both_ways, or_cases, or_left, or_right, and_parts, eqb-true, eq-eqb}
+use Rattle.std.proofs.lemmas.Bool.{and_parts, both_ways, cases_Bool, eq-eqb, eqb-true, or_cases, or_parts}
 use Rattle.std.proofs.lemmas.Bool.Decides.{Decides-ltb}
 use Rattle.std.proofs.lemmas.Cmp.{nat_list_eq_equiv}
 use Rattle.std.proofs.lemmas.List.{append-nil}
@@ -28,6 +28,8 @@ use Rattle.cg_stimulus.specs.Fault.{◌>>=◌}
 use Rattle.cg_stimulus.specs.Reading.{column_of, names_from, columns_of, header_of, is_bit_byte, says_row, bits_of, row_of, rows_of}
 use Rattle.cg_stimulus.specs.Reading.{rows_in, stimulus}
 use Rattle.cg_stimulus.specs.StimText.{bit_byte, StandOnce, ShowsBit, SaysRow, StimText}
+use Rattle.std.proofs.lemmas.Bool.{or_from}
+use Rattle.cg_net.proofs.NamesInOrder.{known_there}
 
 bind_ok : {A B : Type 0} (r : Result A StimulusFault) (f : A → Result B StimulusFault) (y : B) → ◌>>=◌ {B = B} r f ≡ Ok y
     → (x : A) × (r ≡ Ok x) × (f x ≡ Ok y)
@@ -45,24 +47,12 @@ same_sym a b e = sym (nat_list_eq_equiv.symm a b) ∙ e
 same_self : (a : List ℕ) → same a a ≡ true
 same_self a = nat_list_eq_equiv.refl a
 
-known_if : (names : List (List ℕ)) (i : ℕ) (name : List ℕ) → slice_get names i ≡ Some name → is_known names name ≡ true
-known_if [] i name at = absurd (cc)
-known_if (n ∷ names) zero name at = let is : n ≡ name = cc in or_left (same name n) (is_known names name) (ap (same name) is ∙ same_self name)
-known_if (n ∷ names) (suc i) name at = or_right (same name n) (is_known names name) (known_if names i name at)
-
-either : (a b : Bool) → a ≡ false → b ≡ false → (a || b) ≡ false
-either a b e f = rw (e, f) refl
-
-neither : (a b : Bool) → (a || b) ≡ false → (a ≡ false) × (b ≡ false)
-neither false b e = (refl, e)
-neither true b e = absurd (cc)
-
 -- a name that is new goes behind names that stand once
 once_more : (before : List (List ℕ)) (w : List ℕ) → StandOnce before → is_known before w ≡ false → StandOnce (before ++ w ∷ [])
 once_more [] w once new = (refl, tt)
 once_more (b ∷ bs) w once new =
-    let apart = neither (same w b) (is_known bs w) new in (
-      list_any-append (same b) bs (w ∷ []) ∙ either (is_known bs b) (same b w || false) once.0 (either (same b w) false (same_sym w b apart.0) refl),
+    let apart = or_parts (same w b) (is_known bs w) new in (
+      list_any-append (same b) bs (w ∷ []) ∙ or_from (is_known bs b) (same b w || false) once.0 (or_from (same b w) false (same_sym w b apart.0) refl),
       once_more bs w once.1 apart.1,
     )
 
@@ -70,8 +60,8 @@ once_more (b ∷ bs) w once new =
 once_before : (before : List (List ℕ)) (w : List ℕ) (ws : List (List ℕ)) → StandOnce (before ++ w ∷ ws) → is_known before w ≡ false
 once_before [] w ws once = refl
 once_before (b ∷ bs) w ws once =
-    let apart = neither (is_known bs b) (same b w || is_known ws b) (sym (list_any-append (same b) bs (w ∷ ws)) ∙ once.0) in
-    either (same w b) (is_known bs w) (same_sym b w (neither (same b w) (is_known ws b) apart.1).0) (once_before bs w ws once.1)
+    let apart = or_parts (is_known bs b) (same b w || is_known ws b) (sym (list_any-append (same b) bs (w ∷ ws)) ∙ once.0) in
+    or_from (same w b) (is_known bs w) (same_sym b w (or_parts (same b w) (is_known ws b) apart.1).0) (once_before bs w ws once.1)
 
 record NamesRead (inputs before ws all : List (List ℕ)) : Type 0 where
   pub whole : all ≡ before ++ ws
@@ -107,7 +97,7 @@ first_place (n ∷ names) zero name once at =
     ap (λ b. cond (not b) (1 + position_or_len (same name) names) 0) (ap (same name) is ∙ same_self name)
 first_place (n ∷ names) (suc i) name once at =
     let other : same name n ≡ false = elim (cases_Bool (same name n)) [
-      | inl is ↦ absurd (both_ways (is_known names n) once.0 (ap (is_known names) (sym (same_text name n (sym is))) ∙ known_if names i name at))
+      | inl is ↦ absurd (both_ways (is_known names n) once.0 (ap (is_known names) (sym (same_text name n (sym is))) ∙ known_there names i name at))
       | inr no' ↦ no'
     ] in
     ap (λ b. cond (not b) (1 + position_or_len (same name) names) 0) other ∙ (ap (λ m. 1 + m) (first_place names i name once.1 at) ∙ omega arith)
@@ -165,7 +155,7 @@ columns_again names (input ∷ inputs) all = pick (column_of names input) refl (
 
 all_known : (names inputs : List (List ℕ)) (columns : List ℕ) → AllZip (IsColumn names) inputs columns → AllByRecursion (λ input. is_known names input ≡ true) inputs
 all_known names [] [] zip = tt
-all_known names (input ∷ inputs) (column ∷ columns) zip = (known_if names column input zip.0, all_known names inputs columns zip.1)
+all_known names (input ∷ inputs) (column ∷ columns) zip = (known_there names column input zip.0, all_known names inputs columns zip.1)
 all_known names [] (column ∷ columns) zip = absurd zip
 all_known names (input ∷ inputs) [] zip = absurd zip
 

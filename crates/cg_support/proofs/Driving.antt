@@ -1,6 +1,6 @@
 -- What drives a net of a machine's netlist drives it in the machine too, and nothing else does.
-use Rattle.std.proofs.Common.{◌≡◌, ℕ, zero, suc, ◌+◌, ◌<◌, ◌≤◌, Bool, true, false, if◌then◌else◌, List, [], ◌∷◌, ◌++◌, length, map}
-use Rattle.std.proofs.Common.{take, nat_eq, slice_get, Option, Some, None, refl, sym, ◌∙◌, ap, subst, arith}
+use Rattle.std.proofs.Common.{◌≡◌, ℕ, Bool, true, false, if◌then◌else◌}
+use Rattle.std.proofs.Common.{slice_get, Option, Some, None, refl, sym, ◌∙◌, ap}
 use Rattle.std.specs.Option.{option_map_or}
 use Rattle.std.proofs.lemmas.Bool.{both_ways, eqb-true, eq-eqb}
 use Rattle.std.proofs.lemmas.Option.{none-some, same_Some}
@@ -16,10 +16,10 @@ use Rattle.cg_netlist.proofs.Used.{in_flat}
 use Rattle.cg_netlist.proofs.Values.{at_map, under_map}
 use Rattle.cg_machine.specs.Added.{own_netlist}
 use Rattle.cg_machine.specs.Machine.{IsMachine, MachineData}
-use Rattle.cg_claim.specs.Build.{given}
 use Rattle.cg_claim.proofs.DriversTell.{driven_value, driver_tells}
 use Rattle.cg_support.specs.inner.Edge.{is_input, is_register, shows_at}
-use Rattle.cg_support.proofs.Nets.{same_truth, take_some}
+use Rattle.std.specs.Cmp.{both_ways as same_truth}
+use Rattle.cg_net.proofs.FoundNets.{take_some}
 
 module _ (m : MachineData) (good : IsMachine m) where
   -- a driver of the netlist is one of the machine

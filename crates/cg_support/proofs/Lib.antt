@@ -1,4 +1,3 @@
-pub mod Nets
 pub mod Reached
 pub mod Driving
 pub mod Steps

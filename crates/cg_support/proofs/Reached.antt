@@ -1,32 +1,18 @@
 -- A walk back from some nets, one net at a time.
-use Rattle.std.proofs.Common.{◌≡◌, ℕ, zero, suc, ◌+◌, ◌<◌, ◌≤◌, Bool, true, false, List, [], ◌∷◌, ◌++◌, length, take, nat_eq}
-use Rattle.std.proofs.Common.{slice_get, Option, Some, None, refl, sym, ◌∙◌, ap, subst, arith, ◌⊎◌, inl, inr}
-use Rattle.std.proofs.lemmas.Bool.{both_ways, eqb-true, or_cases}
-use Rattle.std.proofs.lemmas.Option.{none-some}
+use Rattle.std.proofs.Common.{◌≡◌, ℕ, zero, suc, ◌+◌, ◌<◌, ◌≤◌, true, false, List, [], ◌∷◌, ◌++◌, length, take}
+use Rattle.std.proofs.Common.{slice_get, Some, refl, sym, ap, subst, arith, inl, inr}
+use Rattle.std.proofs.lemmas.Bool.{both_ways}
 use Rattle.cg_netlist.specs.Circuit.{LogicCell}
 use Rattle.cg_net.specs.NetSets.{is_in, with_nets}
-use Rattle.cg_netlist.specs.Drivers.{IsDriver}
-use Rattle.cg_netlist.specs.declared.driver.Driver.{Driver}
-use Rattle.cg_netlist.specs.declared.driver.Driver.TheVariants.{Cell}
-use Rattle.cg_net.proofs.Members.{is_in_cases, member_at}
-use Rattle.cg_netlist.proofs.Used.{input_is_used}
+use Rattle.cg_net.proofs.Members.{member_at}
 use Rattle.cg_machine.specs.Added.{own_netlist}
 use Rattle.cg_machine.specs.Machine.{IsMachine, MachineData, walk_of}
-use Rattle.cg_cone.specs.Cone.{IsInCone, Reaches, cone_of, here, through}
+use Rattle.cg_cone.specs.Cone.{Reaches, cone_of, here, through}
 use Rattle.cg_cone.proofs.Cones.{cone_is, longer}
 use Rattle.cg_support.specs.inner.Reaching.{AreOwn, IsReached}
-use Rattle.cg_support.proofs.Driving.{cell_driver}
-use Rattle.cg_support.proofs.Nets.{front, kept_all, only_these, put_all, same_truth, take_end, take_front, take_some}
-
--- the first nets, with one more
-in_next : (found more : List ℕ) (next net y : ℕ) → slice_get found next ≡ Some net → next < length found → is_in (take (next + 1) (found ++ more)) y ≡ true → (is_in (take next found) y ≡ true) ⊎ (y ≡ net)
-in_next found more next net y at below among =
-    let e : next + 1 ≡ suc next = omega arith in
-    let whole : take (next + 1) (found ++ more) ≡ take next found ++ net ∷ [] = take_front (next + 1) found more (omega arith) ∙ (ap (λ n. take n found) e ∙ take_end found next net at) in
-    elim (is_in_cases (take next found) (net ∷ []) y (subst (λ l. is_in l y ≡ true) whole among)) [
-      | inl before ↦ inl before
-      | inr last ↦ elim (or_cases (nat_eq y net) false last) [ inl same ↦ inr (eqb-true y net same) | inr none ↦ absurd (both_ways false refl none) ]
-    ]
+use Rattle.cg_cone.proofs.ConeWalk.{in_next}
+use Rattle.cg_net.proofs.FoundNets.{front, kept_all, only_these, put_all, take_some}
+use Rattle.std.specs.Cmp.{both_ways as same_truth}
 
 module _ (m : MachineData) (good : IsMachine m) (roots : List ℕ) where
   -- at the start the roots

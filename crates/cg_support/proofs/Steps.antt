@@ -1,26 +1,25 @@
 -- A step of the walk, told by what drives the net that is looked at.
-use Rattle.std.proofs.Common.{◌≡◌, ℕ, suc, ◌+◌, ◌<◌, Bool, true, false, ◌||◌, List, [], ◌∷◌, ◌++◌, length, take, slice_get, Option}
-use Rattle.std.proofs.Common.{Some, None, refl, sym, ◌∙◌, ap, subst, arith}
-use Rattle.std.specs.List.{All, list_any}
+use Rattle.std.proofs.Common.{◌≡◌, ℕ, suc, ◌+◌, ◌<◌, Bool, ◌||◌, List, [], ◌∷◌, length, take, slice_get}
+use Rattle.std.proofs.Common.{Some, sym, ◌∙◌, ap, subst, arith}
+use Rattle.std.specs.List.{list_any}
 use Rattle.std.proofs.lemmas.List.Folds.{list_any-append}
 use Rattle.std.proofs.lemmas.Option.{same_Some}
 use Rattle.std.proofs.Math.Bool.{or-false}
-use Rattle.cg_netlist.specs.Circuit.{Circuit, LogicCell, data_inputs, used_nets}
+use Rattle.cg_netlist.specs.Circuit.{LogicCell, data_inputs, used_nets}
 use Rattle.cg_net.specs.NetSets.{is_in, with_nets}
 use Rattle.cg_netlist.specs.Drivers.{IsDriver}
 use Rattle.cg_netlist.specs.Netlist.{IsNetlist}
 use Rattle.cg_netlist.specs.declared.driver.Driver.{Driver}
 use Rattle.cg_netlist.specs.declared.driver.Driver.TheVariants.{Cell}
-use Rattle.cg_net.proofs.TableLemmas.{All-at}
+use Rattle.cg_net.proofs.TableLemmas.{All-at, take_end}
 use Rattle.cg_net.proofs.Members.{place_of_member}
 use Rattle.cg_netlist.proofs.Used.{input_is_used}
 use Rattle.cg_machine.specs.Added.{own_netlist}
 use Rattle.cg_machine.specs.Machine.{IsMachine, MachineData}
 use Rattle.cg_support.specs.declared.support.Support.{Support}
 use Rattle.cg_support.specs.inner.Edge.{IsEdge, is_input, is_register, shows_at}
-use Rattle.cg_support.specs.inner.Reaching.{AreOwn, IsReached}
+use Rattle.cg_support.specs.inner.Reaching.{IsReached}
 use Rattle.cg_support.proofs.Driving.{cell_driver, input_driver, register_driver}
-use Rattle.cg_support.proofs.Nets.{take_end}
 use Rattle.cg_support.proofs.Reached.{reached_cell, reached_edge}
 
 -- a used net of a netlist is one of its nets

@@ -1,48 +1,20 @@
 -- The support of a register from the edge of the cone of its inputs.
-use Rattle.std.proofs.Common.{◌≡◌, ℕ, Bool, true, false, ◌||◌, ◌&&◌, List, [], ◌∷◌, ◌++◌, length, take, nat_eq, slice_get, Option}
-use Rattle.std.proofs.Common.{Some, None, refl, sym, ◌∙◌, ap, subst, inl, inr}
+use Rattle.std.proofs.Common.{◌≡◌, ℕ, Bool, true, false, ◌||◌, ◌&&◌, List, [], ◌∷◌, ◌++◌, nat_eq, slice_get, Option}
+use Rattle.std.proofs.Common.{Some, None, refl, sym, ◌∙◌, ap}
 use Rattle.std.specs.List.{list_any}
 use Rattle.std.specs.Option.{option_map_or}
-use Rattle.std.proofs.lemmas.Bool.{both_ways, eqb-true, eq-eqb, or_cases, or_left, or_right}
 use Rattle.cg_netlist.specs.Circuit.{RegisterCell, data_inputs, shown_nets}
 use Rattle.cg_net.specs.NetSets.{is_in}
 use Rattle.cg_net.proofs.Members.{is_in-append}
 use Rattle.cg_machine.specs.Machine.{MachineData, walk_of}
 use Rattle.cg_cone.specs.Cone.{cone_of}
 use Rattle.cg_claim.specs.Reach.{feeds, reads_own}
-use Rattle.cg_lists.specs.Supports.{has_input, input_cone, reads_own_at, supports}
+use Rattle.cg_lists.specs.Supports.{has_input, input_cone, reads_own_at}
 use Rattle.cg_support.specs.Support.{IsSupport}
 use Rattle.cg_support.specs.declared.support.Support.{Support}
-use Rattle.cg_support.specs.inner.Edge.{IsEdge, shows_at}
-use Rattle.cg_support.proofs.Nets.{same_truth}
-
-any_in : (test : ℕ → Bool) (xs : List ℕ) (x : ℕ) → is_in xs x ≡ true → test x ≡ true → list_any test xs ≡ true
-any_in test [] x among passes = absurd (both_ways false refl among)
-any_in test (y ∷ xs) x among passes = elim (or_cases (nat_eq x y) (is_in xs x) among) [
-  | inl same ↦ or_left (test y) (list_any test xs) (ap test (sym (eqb-true x y same)) ∙ passes)
-  | inr later ↦ or_right (test y) (list_any test xs) (any_in test xs x later passes)
-]
-
-from_any : (test : ℕ → Bool) (xs : List ℕ) → list_any test xs ≡ true → (x : ℕ) × (is_in xs x ≡ true) × (test x ≡ true)
-from_any test [] any = absurd (both_ways false refl any)
-from_any test (y ∷ xs) any = elim (or_cases (test y) (list_any test xs) any) [
-  | inl here ↦ (y, or_left (nat_eq y y) (is_in xs y) (eq-eqb y y refl), here)
-  | inr later ↦ let r = from_any test xs later in (r.0, or_right (nat_eq r.0 y) (is_in xs r.0) r.1, r.2)
-]
-
--- a common member, looked for from either side
-pub common : (xs ys zs : List ℕ) → ((y : ℕ) → is_in xs y ≡ is_in zs y) → list_any (is_in ys) xs ≡ list_any (is_in zs) ys
-common xs ys zs same = same_truth (list_any (is_in ys) xs) (list_any (is_in zs) ys)
-    (λ any. let r = from_any (is_in ys) xs any in any_in (is_in zs) ys r.0 r.2 (sym (same r.0) ∙ r.1))
-    (λ any. let r = from_any (is_in zs) ys any in any_in (is_in ys) xs r.0 (same r.0 ∙ r.2) r.1)
-
-never : (xs : List ℕ) → list_any (λ x. false) xs ≡ false
-never [] = refl
-never (x ∷ xs) = never xs
-
-or_none : (b : Bool) → (b || false) ≡ b
-or_none true = refl
-or_none false = refl
+use Rattle.cg_support.specs.inner.Edge.{IsEdge}
+use Rattle.cg_cone.proofs.ConeEdge.{common, never}
+use Rattle.std.proofs.Math.Bool.{or-false}
 
 module _ (m : MachineData) (r : ℕ) (cell : RegisterCell ℕ ℕ) (at : slice_get m.circuit.registers r ≡ Some cell) (nets : List ℕ) (same : (y : ℕ) → is_in nets y ≡ is_in (cone_of (walk_of m) cell.inputs) y) (s : Support) (edge : IsEdge m nets s) where
   in_cone : (y : ℕ) → is_in nets y ≡ is_in (input_cone m r) y
@@ -61,7 +33,7 @@ module _ (m : MachineData) (r : ℕ) (cell : RegisterCell ℕ ℕ) (at : slice_g
   pub support_plain : reads_own cell ≡ false → IsSupport m r s
   support_plain lacks = record {
     input = edge.input ∙ common nets (data_inputs m.circuit) (input_cone m r) in_cone;
-    registers = λ k. fed k ∙ (sym (or_none (feeds m (input_cone m r) k)) ∙ ap (λ b. feeds m (input_cone m r) k || b) (sym (ap (λ b. nat_eq k r && b) (own_is ∙ lacks) ∙ and_none (nat_eq k r))));
+    registers = λ k. fed k ∙ (sym (or-false (feeds m (input_cone m r) k)) ∙ ap (λ b. feeds m (input_cone m r) k || b) (sym (ap (λ b. nat_eq k r && b) (own_is ∙ lacks) ∙ and_none (nat_eq k r))));
   }
     where
       and_none : (b : Bool) → (b && false) ≡ false
@@ -72,7 +44,7 @@ module _ (m : MachineData) (r : ℕ) (cell : RegisterCell ℕ ℕ) (at : slice_g
   support_own reads t input registers = record {
     input = input ∙ (edge.input ∙ common nets (data_inputs m.circuit) (input_cone m r) in_cone);
     registers = λ k. ap (λ l. is_in l k) registers ∙ (is_in-append s.registers (r ∷ []) k ∙ (ap (λ b. b || (nat_eq k r || false)) (fed k)
-        ∙ ap (λ b. feeds m (input_cone m r) k || b) (or_none (nat_eq k r) ∙ sym (ap (λ b. nat_eq k r && b) (own_is ∙ reads) ∙ and_all (nat_eq k r)))));
+        ∙ ap (λ b. feeds m (input_cone m r) k || b) (or-false (nat_eq k r) ∙ sym (ap (λ b. nat_eq k r && b) (own_is ∙ reads) ∙ and_all (nat_eq k r)))));
   }
     where
       and_all : (b : Bool) → (b && true) ≡ b

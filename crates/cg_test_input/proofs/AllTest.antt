@@ -1,5 +1,5 @@
 -- The test run of a plan shows what the machine shows that it began with.
-use Rattle.std.proofs.Common.{◌≡◌, ℕ, zero, suc, ◌-◌, true, List, [], ◌∷◌, ◌++◌, length, replicate, Option, None, Some, refl, sym}
+use Rattle.std.proofs.Common.{◌≡◌, ℕ, ◌-◌, true, List, ◌++◌, length, Option, None, Some, refl, sym}
 use Rattle.std.proofs.Common.{◌∙◌, ap, inl, arith}
 use Rattle.std.proofs.lemmas.List.{append-nil}
 use Rattle.cg_machine.proofs.Bits.{each_get}
@@ -9,11 +9,10 @@ use Rattle.cg_machine.proofs.Started.{none_anywhere, netlist_is_run, start_is_ma
 use Rattle.cg_machine.specs.Machine.{IsState, MachineData, enable_of, next, next_of, values, IsMachine}
 use Rattle.cg_machine.specs.Run.{ones, freed, shown_from}
 use Rattle.cg_machine.specs.Start.{machine_of}
-use Rattle.cg_netlist.specs.Circuit.{Circuit, RegisterCell, data_inputs}
+use Rattle.cg_netlist.specs.Circuit.{RegisterCell}
 use Rattle.cg_net.specs.NetSets.{is_in}
-use Rattle.cg_netlist.specs.History.{AreTicks, Tick}
 use Rattle.cg_netlist.specs.Moment.{bit}
-use Rattle.cg_plan.proofs.AllSafe.{plans_safe}
+use Rattle.cg_plan.proofs.AllSafe.{none_more, plans_safe}
 use Rattle.cg_plan.specs.Plan.{Plan, plan_of}
 use Rattle.cg_stage.proofs.Fitting.{ones_bit, starts_long}
 use Rattle.cg_test_input.proofs.Entries.{Chain, Entry}
@@ -24,10 +23,7 @@ use Rattle.cg_test_input.proofs.Phases.{Phases, Second, old_of, phases}
 use Rattle.cg_test_input.proofs.TestSafe.{no_enable, test_same}
 use Rattle.cg_test_input.specs.Laws.{PlansAreTestSafe, TestLoadsAll, TestRunShowsNetlist}
 use Rattle.cg_test_input.specs.TestRun.{ticks_of}
-
-ticks_same : (m n : MachineData) → data_inputs n.circuit ≡ data_inputs m.circuit → (wave : List Tick) → AreTicks m.circuit wave → AreTicks n.circuit wave
-ticks_same m n same [] ticks = tt
-ticks_same m n same (tick ∷ wave) ticks = (ticks.0 ∙ ap length (sym same), ticks_same m n same wave ticks.1)
+use Rattle.cg_machine.proofs.Simulation.{ticks_same}
 
 pub plans_test_safe : PlansAreTestSafe
 plans_test_safe library settings idle m good free test start wave long ticks =
@@ -51,13 +47,6 @@ plans_test_safe library settings idle m good free test start wave long ticks =
     start wave long_s (ticks_same m n whole.1.inputs (ticks_of wave) ticks)
     (inl (λ k past below. ones_bit start (length n.circuit.registers - n.own_registers) k (omega (arith, past, long_n)) (omega (arith, below, long_n, good_n.own_registers))))
     ∙ whole.1.shows start (ticks_of wave) long ticks
-
-none_more : (c : Circuit) (prefix : List ℕ) → ones (machine_of c prefix) ≡ []
-none_more c prefix = go (length c.registers - length c.registers) (omega arith)
-  where
-    go : (n : ℕ) → n ≡ 0 → replicate n true ≡ []
-    go zero is = refl
-    go (suc n) is = absurd (omega (arith, is))
 
 pub test_shows_netlist : TestRunShowsNetlist
 test_shows_netlist library settings idle c prefix can test start wave history started waves lawful =

@@ -16,10 +16,6 @@ use Rattle.cg_stage.proofs.StableStage.{follows_step}
 use Rattle.cg_stage.specs.Stages.{IsTarget}
 use Rattle.cg_test_input.proofs.Entries.{Chain, Entry, Facts, before, may_differ}
 
-pub or_none : (a b : Bool) → (a || b) ≡ false → (a ≡ false) × (b ≡ false)
-or_none true b is = absurd (both_ways true is refl)
-or_none false b is = (refl, is)
-
 pub none_or_some : (o : Option ℕ) → (o ≡ None) ⊎ ((y : ℕ) × (o ≡ Some y))
 none_or_some None = inl refl
 none_or_some (Some y) = inr (y, refl)

@@ -1,12 +1,12 @@
 -- The lists of unobservability with a test input: no guard of a stage of them, and of one that was inserted, is in a group.
 use Rattle.std.proofs.Common.{◌≡◌, ℕ, ◌<◌, true, false, ◌&&◌, not, if◌then◌else◌, List, [], ◌∷◌, None, Some, nat_eq, bytes_eq}
 use Rattle.std.proofs.Common.{is_some, option_and_then, refl, sym, ◌∙◌, ap, subst, inl, inr, arith}
-use Rattle.std.proofs.lemmas.Bool.{and_parts, both_ways}
+use Rattle.std.proofs.lemmas.Bool.{and_parts, both_ways, not-true}
 use Rattle.std.proofs.lemmas.Option.{none-some, same_Some}
 use Rattle.std.proofs.lemmas.Slice.Eq.{bytes_eq-Decides}
 use Rattle.std.specs.List.{filter_map, flat_map}
-use Rattle.cg_lists.proofs.FitLists.{BeginsGroup, begins_group, filter_in, range_in}
-use Rattle.cg_lists.proofs.Mapped.{kept, mapped_from, none_option, not_true, plain_nets, when_true}
+use Rattle.cg_lists.proofs.FitLists.{BeginsGroup, begins_group}
+use Rattle.cg_lists.proofs.Mapped.{kept, none_option, plain_nets, when_true}
 use Rattle.cg_lists.specs.Groups.{Group, group_of}
 use Rattle.cg_lists.specs.HoldList.{unless_empty}
 use Rattle.cg_lists.specs.Rounds.{is_empty, kept_key, same_kind}
@@ -21,6 +21,9 @@ use Rattle.cg_net.proofs.Members.{is_in_cases, is_in_left, is_in_right}
 use Rattle.cg_net.specs.NetSets.{is_in}
 use Rattle.cg_stage.specs.Stages.{enable_nets}
 use Rattle.cg_test_input.proofs.Path.{Every, every_map, every_mapped, every_one}
+use Rattle.cg_netlist.proofs.Filtered.{in_filter}
+use Rattle.cg_netlist.proofs.Driven.{in_range}
+use Rattle.cg_netlist.proofs.Rising.{in_made}
 
 -- what a stage of the list is, beside a list of guards
 pub record UnseenIn (m : MachineData) (K : List ℕ) (s : Stage) : Type 0 where
@@ -53,13 +56,13 @@ module _ (m : MachineData) (good : IsMachine m) (earlier : List Earlier) where
           let begins : BeginsGroup bytes_eq lists_are (kept_key Unseen had_unseen earlier (unseen_key m)) (own_registers_of m) r g = begins_group bytes_eq lists_are (kept_key Unseen had_unseen earlier (unseen_key m)) (own_registers_of m) r g is in
           let key : unseen_key m r ≡ Some g.key = kept Unseen had_unseen earlier (unseen_key m) r g.key begins.is_key in
           let w = when_true (not (has_enable m r) && not (is_empty (guards_of m r))) (guards_of m r) g.key key in
-          let f = filter_in (is_guard m r (fan_out m r)) (own_registers_of m) q (ap (λ l. is_in l q) w.1 ∙ among) in
+          let f = in_filter (is_guard m r (fan_out m r)) (own_registers_of m) q (ap (λ l. is_in l q) w.1 ∙ among) in
           let a = and_parts (not (nat_eq q r) && not (has_enable m q) && is_some (taken_at m q)) (enables_some m (fan_out m r) q) f.1 in
           let b = and_parts (not (nat_eq q r) && not (has_enable m q)) (is_some (taken_at m q)) a.0 in
           let c = and_parts (not (nat_eq q r)) (not (has_enable m q)) b.0 in
           record {
-            below = let d = range_in m.own_registers 0 q f.0 in omega (arith, d.1);
-            none = none_option (enable_of m q) (not_true (has_enable m q) c.1);
+            below = let d = in_range m.own_registers 0 q f.0 in omega (arith, d.1);
+            none = none_option (enable_of m q) (not-true (has_enable m q) c.1);
           }
 
   keys_free : (gs : List (Group (List ℕ))) → Every Free gs → (q : ℕ) → is_in (keys gs) q ≡ true → IsFree q
@@ -87,7 +90,7 @@ module _ (m : MachineData) (good : IsMachine m) (earlier : List Earlier) where
   pub list_asked : Every (UnseenIn m (guards_kept (unseen_groups m earlier) earlier)) (unseen_list m true earlier)
   list_asked = every_mapped (λ (g : Group (List ℕ)). unless_empty (unseen_stage m g.key) (without_guards true (unseen_groups m earlier) earlier g.regs))
       (λ (g : Group (List ℕ)). (q : ℕ) → is_in g.key q ≡ true → is_in (keys (unseen_groups m earlier)) q ≡ true) (UnseenIn m K) (λ g s inside is. go g inside (without_guards true (unseen_groups m earlier) earlier g.regs)
-      (λ r among. not_true (is_in K r) (filter_in (λ k. not (is_in K k)) g.regs r among).1) s is)
+      (λ r among. not-true (is_in K r) (in_filter (λ k. not (is_in K k)) g.regs r among).1) s is)
       (unseen_groups m earlier) (in_keys (unseen_groups m earlier))
     where
       go : (g : Group (List ℕ)) → ((q : ℕ) → is_in g.key q ≡ true → is_in (keys (unseen_groups m earlier)) q ≡ true) → (regs : List ℕ) → ((r : ℕ) → is_in regs r ≡ true → is_in K r ≡ false)
@@ -99,6 +102,6 @@ module _ (m : MachineData) (good : IsMachine m) (earlier : List Earlier) where
         below = λ k among. (group_guards k (inside k among)).below;
         out = out;
         decides = λ y among.
-            let p = filter_in (is_in (filter_map (taken_at m) g.key)) (all_nets m) y (ap (λ l. is_in l y) (sym (plain_nets (in_net_order m (filter_map (taken_at m) g.key)))) ∙ among) in
-            mapped_from (taken_at m) g.key y p.1;
+            let p = in_filter (is_in (filter_map (taken_at m) g.key)) (all_nets m) y (ap (λ l. is_in l y) (sym (plain_nets (in_net_order m (filter_map (taken_at m) g.key)))) ∙ among) in
+            in_made (taken_at m) g.key y p.1;
       })

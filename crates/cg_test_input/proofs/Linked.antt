@@ -1,8 +1,8 @@
 -- The stages of the second phase make a chain.
 use Rattle.std.proofs.Common.{◌≡◌, ℕ, zero, suc, ◌<◌, Bool, true, false, ◌||◌, List, [], ◌∷◌, ◌++◌, map, length, slice_get, Option}
-use Rattle.std.proofs.Common.{None, Some, unwrap_or, option_and_then, refl, sym, ◌∙◌, ap, subst, inl, inr, arith}
+use Rattle.std.proofs.Common.{None, Some, option_and_then, refl, sym, ◌∙◌, ap, subst, inl, inr, arith}
 use Rattle.std.proofs.lemmas.Bool.{both_ways, cases_Bool, false_from_ne_true, or_left, or_right}
-use Rattle.std.proofs.lemmas.Option.{none-some, same_Some, slice_get_within, unwrap_or-slice_get}
+use Rattle.std.proofs.lemmas.Option.{none-some, same_Some, slice_get_within}
 use Rattle.std.specs.List.{All}
 use Rattle.std.specs.Option.{option_map_or}
 use Rattle.cg_cell.specs.Gates.{any_of}
@@ -37,13 +37,11 @@ use Rattle.cg_stage.specs.Stages.{ClaimsHold, FitsKind, IsTarget, enable_nets}
 use Rattle.cg_test_input.proofs.Entries.{Chain, Entry, Facts, grouped}
 use Rattle.cg_test_input.proofs.Path.{Grows, Every, IsPath, Step, grows_then, step_after, step_grows}
 use Rattle.cg_test_input.proofs.Phases.{IsDone, beyond_none}
+use Rattle.cg_machine.proofs.There.{same_bits}
 
 -- a machine with the enables of one that it grew from
 pub extends_by : (m n : MachineData) → Grows m n → Extends m (with_enables n m.enables)
 extends_by m n g = record { own = g.own; clock = g.clock; inputs = g.inputs; outputs = g.outputs; names = g.names; count = g.count; registers = g.registers; enables = λ r below. refl; fronts = g.fronts }
-
-same_bits : (vs ws : List Bool) (y k : ℕ) → slice_get vs y ≡ slice_get ws k → bit vs y ≡ bit ws k
-same_bits vs ws y k same = sym (unwrap_or-slice_get vs y false) ∙ (ap (λ o. unwrap_or o false) same ∙ unwrap_or-slice_get ws k false)
 
 front_get : (xs ys : List Bool) (k : ℕ) → k < length xs → slice_get (xs ++ ys) k ≡ slice_get xs k
 front_get [] ys k below = absurd (omega arith)

@@ -40,6 +40,7 @@ use Rattle.cg_stage.specs.Stages.{enable_nets}
 use Rattle.cg_test_input.proofs.Guards.{UnseenIn, group_guards, list_asked}
 use Rattle.cg_test_input.proofs.Path.{Grows, Every, IsPath, Step, all_inv, every_map, every_mapped, every_one, path_grows}
 use Rattle.cg_test_input.proofs.Path.{step_after, turn_of}
+use Rattle.std.proofs.Math.Bool.{and-false}
 
 -- registers beyond the netlist's own have no enable
 pub beyond_none : (m : MachineData) → IsMachine m → (r : ℕ) → m.own_registers ≤ r → enable_of m r ≡ None
@@ -122,10 +123,6 @@ pub record Second (b : MachineData) (K : List ℕ) (p : Plan) : Type 0 where
   pub free : (q : ℕ) → is_in K q ≡ true → enable_of p.machine q ≡ None
   pub within : (q : ℕ) → is_in (old_of p.turns) q ≡ true → is_in K q ≡ true
 
-and_false : (a : Bool) → (a && false) ≡ false
-and_false true = refl
-and_false false = refl
-
 module _ (library : List CellData) (settings : Settings) (m : MachineData) where
   first_all : (p : Plan) (stages : List Stage) → IsSafe library settings m p → AllFit p.machine stages → Every IsEarly stages → First m p → First m (try_all library settings p stages)
   first_all p stages safe fit early first = all_inv library settings m IsEarly (First m)
@@ -139,7 +136,7 @@ module _ (library : List CellData) (settings : Settings) (m : MachineData) where
         path = inv.path;
         is = inv.is;
         kinds = inv.kinds;
-        none = λ q among. elim (old_cases p.turns (turn_of p s o) q among) [ inl before ↦ inv.none q before | inr last ↦ not_there p s o q (ap (λ b. same_kind s.kind Unseen && b) off ∙ and_false (same_kind s.kind Unseen)) last ];
+        none = λ q among. elim (old_cases p.turns (turn_of p s o) q among) [ inl before ↦ inv.none q before | inr last ↦ not_there p s o q (ap (λ b. same_kind s.kind Unseen && b) off ∙ and-false (same_kind s.kind Unseen)) last ];
       })
       (λ p limit inv. record { path = inv.path; is = inv.is; kinds = inv.kinds; none = inv.none })
       p stages safe fit early first
@@ -161,7 +158,7 @@ module _ (library : List CellData) (settings : Settings) (m : MachineData) where
         is = inv.is;
         done = more b p (turn_of p s o) inv.path inv.done;
         free = inv.free;
-        within = λ q among. elim (old_cases p.turns (turn_of p s o) q among) [ inl before ↦ inv.within q before | inr last ↦ absurd (not_there p s o q (ap (λ b. same_kind s.kind Unseen && b) off ∙ and_false (same_kind s.kind Unseen)) last) ];
+        within = λ q among. elim (old_cases p.turns (turn_of p s o) q among) [ inl before ↦ inv.within q before | inr last ↦ absurd (not_there p s o q (ap (λ b. same_kind s.kind Unseen && b) off ∙ and-false (same_kind s.kind Unseen)) last) ];
       })
       (λ p limit inv. record { path = inv.path; is = inv.is; done = inv.done; free = inv.free; within = inv.within })
       p stages safe fit asked second

@@ -1,7 +1,7 @@
 -- The test run shows what the run shows.
 use Rattle.std.proofs.Common.{◌≡◌, ℕ, zero, suc, ◌<◌, Bool, true, false, ◌||◌, ◌&&◌, not, if◌then◌else◌, List, [], ◌∷◌, ◌++◌, map}
 use Rattle.std.proofs.Common.{length, slice_get, Option, None, Some, refl, sym, ◌∙◌, ap, subst, inl, inr, ◌⊎◌, arith}
-use Rattle.std.proofs.lemmas.Bool.{both_ways, cases_Bool}
+use Rattle.std.proofs.lemmas.Bool.{both_ways, cases_Bool, or_parts}
 use Rattle.std.proofs.lemmas.Option.{slice_get_past}
 use Rattle.std.specs.Option.{option_flatten}
 use Rattle.cg_machine.proofs.Bits.{each_get, length-each, same_get}
@@ -13,7 +13,7 @@ use Rattle.cg_netlist.proofs.Values.{same_values}
 use Rattle.cg_net.specs.NetSets.{is_in}
 use Rattle.cg_netlist.specs.History.{AreTicks, Tick}
 use Rattle.cg_stage.specs.Stages.{IsTarget}
-use Rattle.cg_test_input.proofs.Chain.{chain, next_enables, next_loads, none_or_some, or_none, some_none}
+use Rattle.cg_test_input.proofs.Chain.{chain, next_enables, next_loads, none_or_some, some_none}
 use Rattle.cg_test_input.proofs.Entries.{Chain, Entry, Facts, IsHarmless, before, grouped, may_differ}
 use Rattle.cg_test_input.specs.TestRun.{TestTick, test_shown, ticks_of}
 
@@ -56,7 +56,7 @@ module _ (n : MachineData) (all : List Entry) (Reached : List Bool → Type 0)
   in_group : (nets : List Bool) (r : ℕ) (es : List (Option ℕ)) (us : List Entry) → Chain n all es us → may_differ us nets r ≡ false → grouped us r ≡ true → InGroup nets r
   in_group nets r es [] c none some = absurd (both_ways false refl some)
   in_group nets r es (u ∷ us) c none some =
-      let parts = or_none (not (any_at nets u.stage.enable) && is_in u.stage.regs r) (may_differ us nets r) none in
+      let parts = or_parts (not (any_at nets u.stage.enable) && is_in u.stage.regs r) (may_differ us nets r) none in
       elim (cases_Bool (is_in u.stage.regs r)) [
         | inl among ↦ record { entry = u; facts = c.0; among = among; on = is_on (any_at nets u.stage.enable) (is_in u.stage.regs r) among parts.0 }
         | inr out ↦ in_group nets r u.es us c.2 parts.1 (sym (ap (λ b. b || grouped us r) out) ∙ some)
@@ -69,7 +69,7 @@ module _ (n : MachineData) (all : List Entry) (Reached : List Bool → Type 0)
   no_group : (nets : List Bool) (us : List Entry) (r : ℕ) → grouped us r ≡ false → may_differ us nets r ≡ false
   no_group nets [] r none = refl
   no_group nets (u ∷ us) r none =
-      let parts = or_none (is_in u.stage.regs r) (grouped us r) none in
+      let parts = or_parts (is_in u.stage.regs r) (grouped us r) none in
       ap (λ b. (not (any_at nets u.stage.enable) && b) || may_differ us nets r) parts.0 ∙ (skip (not (any_at nets u.stage.enable)) (may_differ us nets r) ∙ no_group nets us r parts.1)
     where
       skip : (a b : Bool) → ((a && false) || b) ≡ b

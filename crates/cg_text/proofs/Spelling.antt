@@ -1,9 +1,9 @@
 -- A number below 2 ^ 64 has one spelling.
 use Rattle.std.proofs.Common.{◌≡◌, ℕ, ◌<◌, ◌^◌, Bool, true, false, not, ◌&&◌, ◌||◌, ◌==◌, List, [], ◌∷◌, length, get_or}
-use Rattle.std.proofs.Common.{slice_index, suc, zero, ◌≤◌, nat_le, ◌⊎◌, inl, inr, refl, sym, ap, ◌∙◌, nat_lt, rules, arith}
+use Rattle.std.proofs.Common.{slice_index, suc, zero, ◌≤◌, nat_le, inl, inr, refl, sym, ap, ◌∙◌, nat_lt, rules, arith}
 use Rattle.std.proofs.lemmas.Fmt.{digits_decimal, digits_value-decimal, decimal-digits_value, first_decimal, decimal_nonempty}
 use Rattle.std.proofs.lemmas.Fmt.{decimal_digit}
-use Rattle.std.proofs.lemmas.Bool.{eqb-true, eqb-false, ne_eqb, ltb-true, lt-ltb, leb-true}
+use Rattle.std.proofs.lemmas.Bool.{and_parts, eqb-false, eqb-true, leb-true, lt-ltb, ltb-true, ne_eqb, not-true, or_cases}
 use Rattle.std.proofs.lemmas.Bool.Decides.{nat_tests}
 use Rattle.std.proofs.lemmas.Str.Parse.{IsNumeralModel, numerals_by_fold}
 use Rattle.std.specs.Str.{all_ascii_digits}
@@ -20,30 +20,18 @@ use Rattle.cg_text.specs.Numbers.{is_number, digits_after, number_of}
 own : IsNumeralModel (λ ds. all_ascii_digits ds ≡ true) (digits_after 0)
 own = numerals_by_fold _ (search rules) digits_after (search rules)
 
-and_parts : (a b : Bool) → (a && b) ≡ true → (a ≡ true) × (b ≡ true)
-and_parts true b e = (refl, e)
-and_parts false b e = absurd (cc)
-
-or_parts : (a b : Bool) → (a || b) ≡ true → (a ≡ true) ⊎ (b ≡ true)
-or_parts true b e = inl refl
-or_parts false b e = inr e
-
-not_parts : (a : Bool) → not a ≡ true → a ≡ false
-not_parts true e = absurd (cc)
-not_parts false e = refl
-
 -- a word that is read as a number is that number's spelling
 spelling : (word : List ℕ) → is_number word ≡ true → digits_after 0 word < 2 ^ 64 → decimal (digits_after 0 word) ≡ word
 spelling word e small =
     let parts = and_parts (not (length word == 0) && (not (slice_index word 0 == 48) || length word == 1)) (all_ascii_digits word) e in
     let front = and_parts (not (length word == 0)) (not (slice_index word 0 == 48) || length word == 1) parts.0 in
-    let some : length word ≡ 0 → ⊥ = eqb-false (length word) 0 (not_parts (length word == 0) front.0) in
+    let some : length word ≡ 0 → ⊥ = eqb-false (length word) 0 (not-true (length word == 0) front.0) in
     let full : 0 < length word = omega arith in
     decimal-digits_value own word parts.1 full (leads front.1) small where
       leads : (not (slice_index word 0 == 48) || length word == 1) ≡ true → get_or word 0 0 ≡ 48 → length word ≡ 1
       leads h zero_first =
-          elim (or_parts (not (slice_index word 0 == 48)) (length word == 1) h) [
-            | inl other ↦ absurd (eqb-false (get_or word 0 0) 48 (not_parts (slice_index word 0 == 48) other) zero_first)
+          elim (or_cases (not (slice_index word 0 == 48)) (length word == 1) h) [
+            | inl other ↦ absurd (eqb-false (get_or word 0 0) 48 (not-true (slice_index word 0 == 48) other) zero_first)
             | inr alone ↦ eqb-true (length word) 1 alone
           ]
 

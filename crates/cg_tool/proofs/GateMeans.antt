@@ -1,7 +1,7 @@
 -- What a finished run of `gate` means, from what its files come to.
 use Rattle.std.proofs.Common.{◌≡◌, ℕ, Bool, true, false, IsTrue, List, ◌++◌, Option, Some, Result, Ok, Err, refl, sym, ◌∙◌, ap}
 use Rattle.std.proofs.Common.{subst, None}
-use Rattle.std.specs.Prelude.{IfSome, IsOkAnd, IsSomeAnd}
+use Rattle.std.specs.Prelude.{IfSome, IsOkAnd}
 use Rattle.cg_blif_text.specs.BlifText.{BlifText}
 use Rattle.cg_gating.specs.Gating.{where_asked}
 use Rattle.cg_gating.specs.declared.texts.Texts.{Texts}
@@ -36,6 +36,7 @@ use Rattle.cg_tool.proofs.GateReads.{Read, found_so, read_so}
 use Rattle.cg_tool.proofs.LratMeans.{refused_ok, some_and}
 use Rattle.cg_tool.proofs.NetlistRead.{netlist_says}
 use Rattle.cg_tool.proofs.Standing.{asked_so, out_stands, proof_stands, report_stands}
+use Rattle.cg_tool.proofs.SimMeans.{given_so}
 
 -- a stimulus that is found is what its text says
 found_text : (held : Option (List ℕ)) (c : Circuit) (text : List ℕ) (found : Rows) → stimulus_found c text ≡ Ok found → held ≡ Some text → IsDriven true held c (Some found)
@@ -55,9 +56,6 @@ driven true held c text found is loaded =
 ok_and : (found : Result (Option Rows) Trouble) (P : Option Rows → Type 0) → IsOkAnd found P → (stimulus : Option Rows) × (found ≡ Ok stimulus) × P stimulus
 ok_and (Ok stimulus) P h = (stimulus, refl, h)
 ok_and (Err trouble) P h = absurd h
-
-given_so : (netlist : Option Circuit) (c : Circuit) (P : Circuit → Type 0) → netlist ≡ Some c → IsSomeAnd netlist P → P c
-given_so netlist c P is h = let Q : Option Circuit → Type 0 = λ n. IsSomeAnd n P in subst Q is h
 
 -- what was put out, of the options that the mode was told
 gates_so : (options : Options) (kind : Option Kind) (end : Gate) (c : Circuit) (output : Output) → end.netlist ≡ Some c → end.wanted ≡ wanted_by options → gate_gives kind end output

@@ -11,7 +11,6 @@ use Rattle.cg_machine.specs.Start.{begins, first_clash}
 use Rattle.cg_netlist.specs.Circuit.{Circuit}
 use Rattle.cg_net.specs.Names.{NetName, is_known}
 use Rattle.cg_run.specs.Verdict.{Given, reached, unstopped}
-use Rattle.cg_run.specs.declared.refusal.Refusal.{Refusal}
 use Rattle.cg_run.specs.declared.refusal.Trouble.{Trouble}
 use Rattle.cg_run.specs.declared.role.Role.{Role}
 use Rattle.cg_run.specs.declared.role.Role.TheVariants as roles
@@ -27,8 +26,10 @@ use Rattle.cg_tool.specs.Refused.{then_found}
 use Rattle.cg_tool.specs.declared.modes.gate.Gate.{Gate}
 use Rattle.cg_tool.specs.declared.modes.wanted.Wanted.{Wanted}
 use Rattle.cg_tool.proofs.LratMeans.{refused_ok}
-use Rattle.cg_tool.proofs.Names.{or_none, unknown_apart}
+use Rattle.cg_tool.proofs.Names.{unknown_apart}
 use Rattle.cg_tool.proofs.NetlistRead.{netlist_proper, netlist_says}
+use Rattle.cg_run.proofs.Halves.{found_is}
+use Rattle.std.proofs.lemmas.Bool.{or_parts}
 
 -- what was found where nothing is refused
 pub then_ok : {A B : Type 0} (r : Result A Trouble) (next : A → Result B Trouble) (y : B) → then_found r next ≡ Ok y → (x : A) × (r ≡ Ok x) × (next x ≡ Ok y)
@@ -42,7 +43,7 @@ unprefixed_ok c d (Some net) is = absurd (cc)
 untaken : (prefix test : List ℕ) (c d : Circuit) (trouble : Trouble) (taken : Bool) → (is_known c.names test || begins prefix test) ≡ taken → (if taken then Err trouble else Ok c) ≡ Ok d → (c ≡ d) × IsFree c prefix test
 untaken prefix test c d trouble true taken is = absurd (cc)
 untaken prefix test c d trouble false taken is =
-    let parts = or_none (is_known c.names test) (begins prefix test) taken in (cc, record { new = unknown_apart c.names test parts.0; apart = parts.1 })
+    let parts = or_parts (is_known c.names test) (begins prefix test) taken in (cc, record { new = unknown_apart c.names test parts.0; apart = parts.1 })
 
 AreFree : List ℕ → Option NetName → Circuit → Type 0
 AreFree prefix test c = (name : List ℕ) → test ≡ Some name → IsFree c prefix name
@@ -175,14 +176,10 @@ module _ (options : Options) (stops : Gate → Option Trouble) (given : Given) (
           let R : Gate → Type 0 = λ g. Read options true given g in
           subst R (step_end gate_takes stops three.next given end three.later).1 (read_three options given three.bytes two three.next read three.loaded (ok_is (record two { stimulus = three.bytes }) three.next three.takes_it))
 
--- what was collected may be gated
-collected : {M : Type 0} (v : Result M Refusal) (found : M) → IsOkAnd v (λ end. end ≡ found) → v ≡ Ok found
-collected (Ok end) found same = ap Ok same
-collected (Err refusal) found same = absurd same
-
+-- what was found_is may be gated
 pub read_may : (options : Options) (given : Given) (gate : Gate) → IsTrue (is_name options.prefix) → IsOkAnd (reached gate_takes unstopped (gate_start options) (gate_loads options.asked.stimulus) given) (λ end. end ≡ gate) → IsRead gate
 read_may options given gate named is c has stimulus played =
-    let read = read_so options unstopped given gate options.asked.stimulus (collected (reached gate_takes unstopped (gate_start options) (gate_loads options.asked.stimulus) given) gate is) in
+    let read = read_so options unstopped given gate options.asked.stimulus (found_is (reached gate_takes unstopped (gate_start options) (gate_loads options.asked.stimulus) given) gate is) in
     let same : read.netlist ≡ c = cc in
     let P : Circuit → Type 0 = λ d. (rows : Rows) → stimulus ≡ Some rows → IsFor d rows in
     let M : Circuit → Type 0 = λ d. MayGate (request_by gate.library (wanted_by options) stimulus) d in

@@ -1,9 +1,9 @@
 -- The files that a job of `gate` stores have different names.
-use Rattle.std.proofs.Common.{◌≡◌, ◌≢◌, ℕ, Bool, true, false, not, ◌&&◌, IsTrue, if◌then◌else◌, List, [], ◌∷◌, ◌++◌, codes, Option}
+use Rattle.std.proofs.Common.{◌≡◌, ◌≢◌, ℕ, Bool, true, false, not, IsTrue, if◌then◌else◌, List, [], ◌∷◌, ◌++◌, codes, Option}
 use Rattle.std.proofs.Common.{None, Some, is_some, refl, sym, ◌∙◌, ap, subst, append_assoc}
 use Rattle.std.specs.Prelude.{IfSome, unwrap_or}
 use Rattle.std.specs.List.{list_any}
-use Rattle.std.specs.Option.{option_and_then, option_map, option_to_list}
+use Rattle.std.specs.Option.{option_and_then, option_to_list}
 use Rattle.std.specs.Str.{bytes_eq}
 use Rattle.std.proofs.lemmas.Slice.Eq.{bytes_eq-Decides}
 use Rattle.clap.specs.Words.{Kinds, Row, all_of, fault_of, first_of, matches_of}
@@ -19,24 +19,22 @@ use Rattle.cg_words.specs.declared.job.Mode.TheVariants.{Demo, Gate, Lrat, Sim}
 use Rattle.cg_words.specs.declared.options.Asked.{Asked}
 use Rattle.cg_words.specs.declared.options.Options.{Options}
 use Rattle.cg_tool.specs.Gated.{AreApart}
-use Rattle.cg_tool.proofs.Names.{or_none}
+use Rattle.cg_run.proofs.RoleLaws.{and_parts}
+use Rattle.cg_net.proofs.PlaceLemmas.{mapped_at}
+use Rattle.std.proofs.lemmas.Bool.{or_parts}
 
 -- different names
-and_both : (a b : Bool) → IsTrue (a && b) → IsTrue a × IsTrue b
-and_both true b h = (refl, h)
-and_both false b h = absurd (cc)
-
 is_false : (a : Bool) → IsTrue (not a) → a ≡ false
 is_false true h = absurd (cc)
 is_false false h = refl
 
 any_back : (test : List ℕ → Bool) (front rest : List (List ℕ)) → list_any test (front ++ rest) ≡ false → list_any test rest ≡ false
 any_back test [] rest none = none
-any_back test (x ∷ front) rest none = any_back test front rest (or_none (test x) (list_any test (front ++ rest)) none).1
+any_back test (x ∷ front) rest none = any_back test front rest (or_parts (test x) (list_any test (front ++ rest)) none).1
 
 different_back : (front rest : List (List ℕ)) → IsTrue (are_different (front ++ rest)) → IsTrue (are_different rest)
 different_back [] rest different = different
-different_back (x ∷ front) rest different = different_back front rest (and_both (not (list_any (λ other. bytes_eq other x) (front ++ rest))) (are_different (front ++ rest)) different).1
+different_back (x ∷ front) rest different = different_back front rest (and_parts (not (list_any (λ other. bytes_eq other x) (front ++ rest))) (are_different (front ++ rest)) different).1
 
 unequal : (name other : List ℕ) → bytes_eq other name ≡ false → name ≢ other
 unequal name other apart same = let both : false ≡ true = sym apart ∙ (bytes_eq-Decides other name).1 (sym same) in absurd (cc)
@@ -44,11 +42,11 @@ unequal name other apart same = let both : false ≡ true = sym apart ∙ (bytes
 -- a name differs from the one behind these
 differs : (name other : List ℕ) (front rest : List (List ℕ)) → list_any (λ o. bytes_eq o name) (front ++ other ∷ rest) ≡ false → name ≢ other
 differs name other front rest none =
-    unequal name other (or_none (bytes_eq other name) (list_any (λ o. bytes_eq o name) rest) (any_back (λ o. bytes_eq o name) front (other ∷ rest) none)).0
+    unequal name other (or_parts (bytes_eq other name) (list_any (λ o. bytes_eq o name) rest) (any_back (λ o. bytes_eq o name) front (other ∷ rest) none)).0
 
 module _ (out : List ℕ) (stim : Option (List ℕ)) where
   none_of : (rest : List (List ℕ)) → IsTrue (are_different (out ∷ rest)) → list_any (λ o. bytes_eq o out) rest ≡ false
-  none_of rest different = is_false (list_any (λ o. bytes_eq o out) rest) (and_both (not (list_any (λ o. bytes_eq o out) rest)) (are_different rest) different).0
+  none_of rest different = is_false (list_any (λ o. bytes_eq o out) rest) (and_parts (not (list_any (λ o. bytes_eq o out) rest)) (are_different rest) different).0
 
   out_proof : (proof report : Option (List ℕ)) → IsTrue (are_different (out ∷ (option_to_list stim ++ (option_to_list proof ++ option_to_list report)))) → IsTrue (is_some proof) → out ≢ unwrap_or proof []
   out_proof None report different asked = absurd (cc)
@@ -64,7 +62,7 @@ module _ (out : List ℕ) (stim : Option (List ℕ)) where
   proof_report (Some p) None different asked also = absurd (cc)
   proof_report (Some p) (Some r) different asked also =
       let behind = different_back (out ∷ option_to_list stim) (p ∷ r ∷ []) different in
-      differs p r [] [] (is_false (list_any (λ o. bytes_eq o p) (r ∷ [])) (and_both (not (list_any (λ o. bytes_eq o p) (r ∷ []))) (are_different (r ∷ [])) behind).0)
+      differs p r [] [] (is_false (list_any (λ o. bytes_eq o p) (r ∷ [])) (and_parts (not (list_any (λ o. bytes_eq o p) (r ∷ []))) (are_different (r ∷ [])) behind).0)
 
 files_apart : (library netlist out : List ℕ) (values : Values) → IsTrue (are_different (library ∷ netlist ∷ out ∷ option_files values)) → AreApart (asked_in values) (file_of (gate_files library netlist out values))
 files_apart library netlist out values different =
@@ -77,10 +75,6 @@ files_apart library netlist out values different =
     }
 
 -- what a job was made of
-made_of : {A B : Type 0} (make : A → B) (o : Option A) (y : B) → option_map make o ≡ Some y → (x : A) × (o ≡ Some x) × (make x ≡ y)
-made_of make None y is = absurd (cc)
-made_of make (Some x) y is = (x, refl, cc)
-
 asked_so : (values : Values) (settings : Option Settings) (watch : Option (Option ℕ)) (options : Options) → gate_options_with values settings watch ≡ Some options → options.asked ≡ asked_in values
 asked_so values None watch options is = absurd (cc)
 asked_so values (Some settings) None options is = absurd (cc)
@@ -101,7 +95,7 @@ gate_apart watchers (library ∷ netlist ∷ out ∷ []) values job is = go (are
     go : (different : Bool) → are_different (library ∷ netlist ∷ out ∷ option_files values) ≡ different → (if different then job_of_options Gate (gate_files library netlist out values) (gate_options watchers values) else None) ≡ Some job → AreApart job.options.asked (file_of job.files)
     go false different is = absurd (cc)
     go true different is =
-        let made = made_of (λ (options : Options). record { mode = Gate; files = gate_files library netlist out values; options = options }) (gate_options watchers values) job is in
+        let made = mapped_at (λ (options : Options). record { mode = Gate; files = gate_files library netlist out values; options = options }) (gate_options watchers values) job is in
         let asked = asked_so values (settings_in values) (watch_in watchers values.watch) made.0 made.1 in
         let A : Asked → Type 0 = λ a. AreApart a (file_of (gate_files library netlist out values)) in
         let J : JobWords → Type 0 = λ j. AreApart j.options.asked (file_of j.files) in
@@ -110,7 +104,7 @@ gate_apart watchers (library ∷ netlist ∷ out ∷ []) values job is = go (are
 -- jobs of other modes
 mode_so : (mode : Mode) (files : Files) (options : Option Options) (job : JobWords) → job_of_options mode files options ≡ Some job → job.mode ≡ mode
 mode_so mode files options job is =
-    let made = made_of (λ (options : Options). record { mode = mode; files = files; options = options }) options job is in sym (ap (λ (j : JobWords). j.mode) made.2)
+    let made = mapped_at (λ (options : Options). record { mode = mode; files = files; options = options }) options job is in sym (ap (λ (j : JobWords). j.mode) made.2)
 
 mode_if : (taken : Bool) (mode : Mode) (files : Files) (options : Option Options) (job : JobWords) → (if taken then job_of_options mode files options else None) ≡ Some job → job.mode ≡ mode
 mode_if true mode files options job is = mode_so mode files options job is

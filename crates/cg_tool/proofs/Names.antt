@@ -1,19 +1,12 @@
 -- Names that a netlist has, and where.
-use Rattle.std.proofs.Common.{◌≡◌, ◌≢◌, ℕ, zero, suc, ◌+◌, ◌<◌, Bool, true, false, ◌||◌, ◌&&◌, if◌then◌else◌, List, [], ◌∷◌, length}
+use Rattle.std.proofs.Common.{◌≡◌, ◌≢◌, ℕ, zero, suc, ◌+◌, ◌<◌, Bool, true, false, ◌||◌, if◌then◌else◌, List, [], ◌∷◌, length}
 use Rattle.std.proofs.Common.{slice_get, Some, nat_eq, refl, sym, ◌∙◌, ap, arith}
 use Rattle.std.specs.List.{All, position_from}
-use Rattle.std.proofs.lemmas.Bool.{eq-eqb}
+use Rattle.std.proofs.lemmas.Bool.{or_parts}
 use Rattle.std.proofs.lemmas.List.Elements.{All-cons, All-nil}
 use lib.Pointwise.{pointwise}
 use Rattle.cg_net.specs.Names.{is_known}
-
-all_same : (xs : List ℕ) → pointwise nat_eq xs xs ≡ true
-all_same [] = refl
-all_same (x ∷ xs) = ap (λ b. b && pointwise nat_eq xs xs) (eq-eqb x x refl) ∙ all_same xs
-
-pub or_none : (a b : Bool) → (a || b) ≡ false → (a ≡ false) × (b ≡ false)
-or_none true b none = cc
-or_none false b none = (refl, none)
+use Rattle.cg_machine.proofs.Started.{all_same}
 
 or_second : (a b : Bool) → b ≡ true → (a || b) ≡ true
 or_second true b h = refl
@@ -23,7 +16,7 @@ or_second false b h = h
 pub unknown_apart : (names : List (List ℕ)) (name : List ℕ) → is_known names name ≡ false → All (λ other. other ≢ name) names
 unknown_apart [] name unknown = All-nil (λ other. other ≢ name)
 unknown_apart (n ∷ names) name unknown =
-    let parts = or_none (pointwise nat_eq name n) (is_known names name) unknown in
+    let parts = or_parts (pointwise nat_eq name n) (is_known names name) unknown in
     All-cons (λ other. other ≢ name) n names (λ same. let both : false ≡ true = sym parts.0 ∙ (ap (pointwise nat_eq name) same ∙ all_same name) in absurd (cc)) (unknown_apart names name parts.1)
 
 -- one that has a place is known
@@ -33,7 +26,7 @@ placed_known (n ∷ names) name zero is = let same : n ≡ name = cc in ap (λ m
 placed_known (n ∷ names) name (suc k) is = or_second (pointwise nat_eq name n) (is_known names name) (placed_known names name k is)
 
 -- the first place at which a test passes is one of the list
-place_within : {A : Type 0} (test : A → Bool) (a : ℕ) (xs : List A) (k : ℕ) → position_from test a xs ≡ Some k → k < a + length xs
+pub place_within : {A : Type 0} (test : A → Bool) (a : ℕ) (xs : List A) (k : ℕ) → position_from test a xs ≡ Some k → k < a + length xs
 place_within test a [] k is = cc
 place_within test a (x ∷ xs) k is = go (test x) is (λ found. place_within test (a + 1) xs k found)
   where

@@ -74,7 +74,7 @@ simulated_of clock kind names before after finish library c rows text output cel
       ends = sym ends ∙ plays.finish;
     }
 
-given_so : (netlist : Option Circuit) (c : Circuit) (P : Circuit → Type 0) → netlist ≡ Some c → IsSomeAnd netlist P → P c
+pub given_so : (netlist : Option Circuit) (c : Circuit) (P : Circuit → Type 0) → netlist ≡ Some c → IsSomeAnd netlist P → P c
 given_so netlist c P is h = let Q : Option Circuit → Type 0 = λ n. IsSomeAnd n P in subst Q is h
 
 found_so : (found : Result Rows Trouble) (P : Rows → Type 0) → IsOkAnd found P → (stimulus : Rows) × (found ≡ Ok stimulus) × P stimulus

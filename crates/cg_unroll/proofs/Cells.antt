@@ -15,10 +15,7 @@ use Rattle.cg_machine.specs.Gates.{AddedGate, gate_cell}
 use Rattle.cg_machine.specs.Machine.{IsMachine, MachineData}
 use Rattle.cg_machine.proofs.Lists.{all_at, take_get}
 use Rattle.cg_net.proofs.TableLemmas.{drop_cons}
-
-get_back : {X : Type 0} (xs ys : List X) (k : ℕ) → slice_get (xs ++ ys) (length xs + k) ≡ slice_get ys k
-get_back [] ys k = let e : 0 + k ≡ k = omega arith in ap (slice_get ys) e
-get_back (x ∷ xs) ys k = let e : suc (length xs) + k ≡ suc (length xs + k) = omega arith in ap (slice_get (x ∷ (xs ++ ys))) e ∙ get_back xs ys k
+use Rattle.cg_machine.proofs.Cycles.{get_back}
 
 gate_mapped : (gate : AddedGate) (gs : List AddedGate) (k : ℕ) → slice_get gs k ≡ Some gate → slice_get (map gate_cell gs) k ≡ Some (gate_cell gate)
 gate_mapped gate [] k at = absurd (none-some gate at)

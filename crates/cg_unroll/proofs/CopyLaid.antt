@@ -19,12 +19,13 @@ use Rattle.cg_claim.specs.Reach.{feeds, registers_of}
 use Rattle.cg_claim.specs.Tables.{SameOn}
 use Rattle.cg_claim.proofs.DriversTell.{driver_tells}
 use Rattle.cg_claim.proofs.GivenNets.{shown_feeds, shown_in}
-use Rattle.cg_claim.proofs.Reached.{in_each, range_in, to_filter}
 use Rattle.cg_claim.proofs.ReachedOnly.{copy_laid, same_then}
 use Rattle.cg_unroll.specs.inner.Building.{LaysCells, MayFail, table_of}
 use Rattle.cg_unroll.specs.inner.Filling.{AgreesWithAll, Puts, nets_shown}
 use Rattle.cg_unroll.specs.inner.Laid.{HoldsInputs, copy_table}
 use Rattle.cg_reach.specs.Reached.{IsConeOf}
+use Rattle.cg_netlist.proofs.WalkOrder.{in_each}
+use Rattle.cg_netlist.proofs.Filtered.{range_in, to_filter}
 
 module _ (m : MachineData) (good : IsMachine m) (roots : List ℕ) (cone : Cone) (stands : IsConeOf m (cone_of (walk_of m) roots) cone) (inputs : ℕ → ℕ) (states old mid : List ℕ)
     (holds : HoldsInputs m inputs old) (put : Puts (AgreesWithAll m (λ r. slice_index_or states r 0)) (λ u. AreValid aig_ops u states) (flat_map (nets_shown m) cone.registers) old mid) where

@@ -1,20 +1,6 @@
 -- Fronts of lists, and what is behind them.
-use Rattle.std.proofs.Common.{◌≡◌, ℕ, zero, suc, ◌<◌, ◌≤◌, List, [], ◌∷◌, ◌++◌, length, take, drop, slice_get, slice_index_or, Some}
-use Rattle.std.proofs.Common.{refl, ap, arith}
-use Rattle.std.proofs.lemmas.Option.{none-some, same_Some}
-
--- all elements, and none
-pub take_whole : {X : Type 0} (xs : List X) (n : ℕ) → length xs ≤ n → take n xs ≡ xs
-take_whole [] zero past = refl
-take_whole [] (suc n) past = refl
-take_whole (x ∷ xs) zero past = absurd (omega arith)
-take_whole (x ∷ xs) (suc n) past = ap (λ l. x ∷ l) (take_whole xs n (omega arith))
-
-pub drop_whole : {X : Type 0} (xs : List X) (n : ℕ) → length xs ≤ n → drop n xs ≡ []
-drop_whole [] zero past = refl
-drop_whole [] (suc n) past = refl
-drop_whole (x ∷ xs) zero past = absurd (omega arith)
-drop_whole (x ∷ xs) (suc n) past = drop_whole xs n (omega arith)
+use Rattle.std.proofs.Common.{◌≡◌, ℕ, zero, suc, ◌<◌, List, [], ◌∷◌, length, slice_index_or}
+use Rattle.std.proofs.Common.{refl, arith}
 
 -- an element is the same whatever stands for a missing one
 pub any_default : {X : Type 0} (xs : List X) (i : ℕ) (d e : X) → i < length xs → slice_index_or xs i d ≡ slice_index_or xs i e

@@ -1,5 +1,5 @@
 -- What the program's tables keep from stage to stage.
-use Rattle.std.proofs.Common.{ℕ, ◌<◌, ◌≤◌, Bool, List, length, Option, None, Some, arith}
+use Rattle.std.proofs.Common.{ℕ, ◌<◌, Bool, List, length, arith}
 use Rattle.std.specs.List.{All, filter}
 use Rattle.cg_cell.specs.Domain.{Keeps, Seen}
 use Rattle.cg_cell.proofs.Building.{keeps_then}
@@ -9,39 +9,21 @@ use Rattle.cg_net.proofs.Members.{All-from_members}
 use Rattle.cg_cone.specs.declared.cone.Cone.{Cone}
 use Rattle.cg_machine.specs.Machine.{MachineData}
 use Rattle.cg_machine.proofs.Lists.{below_range}
-use Rattle.cg_claim.specs.Question.{CopyPart, Enable, Net, Next, Side, State}
 use Rattle.cg_claim.specs.Reach.{registers_of}
-use Rattle.cg_claim.specs.Violates.{CopyPartFits, SidesFit}
-use Rattle.cg_claim.proofs.Reached.{in_filter}
 use Rattle.cg_unroll.specs.declared.tables.Tables.{Tables}
 use Rattle.cg_claim.specs.declared.leaf.Leaf.{Leaf}
-use Rattle.cg_reach.specs.Asking.{PartThere, SidesThere}
 use Rattle.cg_unroll.specs.inner.Copying.{AreTables, Starts}
 use Rattle.cg_unroll.specs.inner.Laid.{LaysCopy}
 use Rattle.cg_unroll.specs.inner.Placing.{IsLiteralTable}
 use Rattle.cg_unroll.specs.inner.States.{Carries, LaysStates}
 use Rattle.cg_unroll.proofs.Sides.{table_later}
-
-part_fits : (m : MachineData) (part : CopyPart) → PartThere m part → CopyPartFits m part
-part_fits m (Net y) there = tt
-part_fits m (Next r) there = there
-part_fits m (State r) there = there
-part_fits m Enable there = tt
-
--- sides that are there fit
-pub sides_fit : (m : MachineData) (o : Option (Side × Side)) → SidesThere m o → SidesFit m o
-sides_fit m None there = tt
-sides_fit m (Some s) there = (part_fits m s.0.part there.0, part_fits m s.1.part there.1)
+use Rattle.cg_netlist.proofs.Filtered.{in_filter}
 
 -- registers that pass a test are there
 pub registers_there : (m : MachineData) (test : ℕ → Bool) → All (λ r. r < length m.circuit.registers) (filter test (registers_of m))
 registers_there m test =
     All-from_members (λ r. r < length m.circuit.registers) (filter test (registers_of m)) (λ r among.
     let below = below_range (length m.circuit.registers) 0 r (in_filter test (registers_of m) r among).0 in omega (arith, below))
-
--- and have a place among more
-pub places_there : (n k : ℕ) (registers : List ℕ) → n ≤ k → All (λ r. r < n) registers → All (λ r. r < k) registers
-places_there n k registers more all = λ j d below. let small = all j d below in omega (arith, small, more)
 
 -- the tables of each stage
 module _ (m : MachineData) (leaves : List Leaf) (s : Seen) (start : Tables) (starts : Starts m leaves s start)

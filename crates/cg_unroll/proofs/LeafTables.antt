@@ -1,8 +1,7 @@
 -- The literals that the leaves of a question give are those of the definition.
-use Rattle.std.proofs.Common.{◌≡◌, ℕ, zero, suc, ◌+◌, ◌*◌, Bool, true, false, ◌||◌, if◌then◌else◌, List, [], ◌∷◌, map, length}
+use Rattle.std.proofs.Common.{◌≡◌, ℕ, zero, suc, ◌+◌, ◌*◌, Bool, true, false, if◌then◌else◌, List, [], ◌∷◌, map, length}
 use Rattle.std.proofs.Common.{nat_eq, slice_get, slice_index_or, Option, None, Some, option_map, refl, sym, ◌∙◌, ap, subst, arith}
 use Rattle.std.proofs.Common.{inl, inr}
-use Rattle.std.specs.List.{list_any}
 use Rattle.std.specs.Option.{option_map_or}
 use Rattle.std.proofs.lemmas.Bool.{both_ways, cases_Bool, eqb-true, ltb-true}
 use Rattle.std.proofs.lemmas.List.{length-map}
@@ -24,6 +23,7 @@ use Rattle.cg_unroll.specs.declared.tables.Sources.TheVariants.{Inputs, Register
 use Rattle.cg_unroll.specs.inner.Copying.{AreLeavesPlaced}
 use Rattle.cg_unroll.specs.inner.Placing.{AgreesLeaves, FillsLeaves, place_in, source_place}
 use Rattle.cg_unroll.proofs.LeafSources.{leaf_source}
+use Rattle.cg_claim.proofs.EmbeddedLeaves.{place_there}
 
 mapped : {X Y : Type 0} (f : X → Y) (xs : List X) (k : ℕ) (y : Y) → slice_get (map f xs) k ≡ Some y → (x : X) × (slice_get xs k ≡ Some x) × (f x ≡ y)
 mapped f [] k y at = absurd (none-some y at)
@@ -47,15 +47,6 @@ place_gives (x ∷ leaves) l k is = go (place_gives leaves l) (same_leaf l x) re
     go : ((j : ℕ) → leaf_place leaves l ≡ Some j → slice_get leaves j ≡ Some l) → (b : Bool) → same_leaf l x ≡ b → (if b then Some 0 else option_map suc (leaf_place leaves l)) ≡ Some k → slice_get (x ∷ leaves) k ≡ Some l
     go rest true same h = subst (λ n. slice_get (x ∷ leaves) n ≡ Some l) (same_Some 0 k h) (ap Some (sym (leaf_is l x same)))
     go rest false same h = later rest (leaf_place leaves l) refl h
-
--- a leaf that is there has a place
-any_placed : (leaves : List Leaf) (l : Leaf) → list_any (same_leaf l) leaves ≡ true → (k : ℕ) × (leaf_place leaves l ≡ Some k)
-any_placed [] l none = absurd (both_ways false refl none)
-any_placed (x ∷ leaves) l among = go (any_placed leaves l) (same_leaf l x) among
-  where
-    go : (list_any (same_leaf l) leaves ≡ true → (k : ℕ) × (leaf_place leaves l ≡ Some k)) → (b : Bool) → (b || list_any (same_leaf l) leaves) ≡ true → (k : ℕ) × ((if b then Some 0 else option_map suc (leaf_place leaves l)) ≡ Some k)
-    go rest true h = (0, refl)
-    go rest false h = let p = rest h in (suc p.0, ap (option_map suc) p.1)
 
 -- a net or a register as a source
 abbrev pub source_of : Sources → ℕ → LeafSource
@@ -151,7 +142,7 @@ module _ (m : MachineData) (good : IsMachine m) (q : Question) where
   -- the literal of a leaf is not the constant 0
   pub leaf_is_some : (copy : Copy) (source : LeafSource) → is_source m source ≡ true → is_reached m q copy source ≡ true → nat_eq (leaf_value aig_values (leaves_of m q) copy source) 0 ≡ false
   leaf_is_some copy source there reached =
-      let p = any_placed L (leaf copy source) (leaf_among m q copy source there reached) in
+      let p = place_there L (leaf copy source) (leaf_among m q copy source there reached) in
       let e : leaf_value aig_values L copy source ≡ 2 * (p.0 + 1) = ap (λ o. option_map_or aig_values.leaf o 0) p.1 in
       elim (cases_Bool (nat_eq (leaf_value aig_values L copy source) 0)) [
         | inl zero_is ↦ absurd (omega (arith, eqb-true (leaf_value aig_values L copy source) 0 zero_is, e))

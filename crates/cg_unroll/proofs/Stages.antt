@@ -2,7 +2,7 @@
 use Rattle.std.proofs.Common.{◌≡◌, ℕ, ◌+◌, ◌≤◌, Bool, true, false, not, ◌&&◌, ◌||◌, if◌then◌else◌, List, ◌++◌, length, nat_eq}
 use Rattle.std.proofs.Common.{slice_index_or, refl, sym, ◌∙◌, ap, subst, arith}
 use Rattle.std.specs.List.{filter, flat_map}
-use Rattle.std.proofs.lemmas.Bool.{lt-ltb, or_right}
+use Rattle.std.proofs.lemmas.Bool.{and_from, lt-ltb, not_from_false, or_right}
 use Rattle.cg_cell.specs.Domain.{Seen}
 use Rattle.cg_aig.specs.declared.fault.AigFault.{AigFault}
 use Rattle.cg_netlist.specs.Circuit.{data_inputs}
@@ -18,7 +18,7 @@ use Rattle.cg_claim.specs.Reach.{origin_nets, registers_of, sides_ask, sides_net
 use Rattle.cg_claim.specs.Tables.{SameOn}
 use Rattle.cg_claim.specs.Violates.{SidesFit}
 use Rattle.cg_claim.proofs.LeafOrder.{leaf_unreached}
-use Rattle.cg_claim.proofs.Reached.{after_within, both_true, changed_within, in_filter, not_of, range_in, to_filter}
+use Rattle.cg_claim.proofs.Reached.{after_within, changed_within}
 use Rattle.cg_claim.proofs.ReachedOnly.{same_then}
 use Rattle.cg_claim.proofs.StagesDone.{after_done, before_done, changed_done, claim_done, states_done}
 use Rattle.cg_claim.proofs.WholeLists.{lay_grows, stages_fit}
@@ -34,10 +34,8 @@ use Rattle.cg_unroll.specs.inner.States.{Carries, LaysStates, TellsFollows, carr
 use Rattle.cg_unroll.proofs.Building.{fails_longer}
 use Rattle.cg_unroll.proofs.LeafTables.{leaf_is_some, no_input, table_is}
 use Rattle.cg_unroll.proofs.StatesLaid.{so_far}
-
-and_none : (b : Bool) → (b && false) ≡ false
-and_none true = refl
-and_none false = refl
+use Rattle.std.proofs.Math.Bool.{and-false}
+use Rattle.cg_netlist.proofs.Filtered.{in_filter, range_in, to_filter}
 
 module _ (m : MachineData) (good : IsMachine m) (q : Question) (fits : SidesFit m q.sides) (reached : Reached) (reaches : IsReached m q reached)
     (s : Seen) (start : Tables) (starts : Starts m reached.leaves s start) where
@@ -126,11 +124,11 @@ module _ (m : MachineData) (good : IsMachine m) (q : Question) (fits : SidesFit 
 
         go : (b : Bool) → is_in q.follows r ≡ b → b ≡ nat_eq (slice_index_or start.free r 0) 0
         go true is =
-            let none : is_reached m q After (RegisterOf r) ≡ false = ap (λ b. after_states m q r && not b) is ∙ and_none (after_states m q r) in
+            let none : is_reached m q After (RegisterOf r) ≡ false = ap (λ b. after_states m q r && not b) is ∙ and-false (after_states m q r) in
             sym (ap (λ v. nat_eq v 0) (free_is r ∙ leaf_unreached m q aig_values After (RegisterOf r) none))
         go false is =
             sym (ap (λ v. nat_eq v 0) (free_is r)
-            ∙ leaf_is_some m good q After (RegisterOf r) (lt-ltb r (length m.circuit.registers) (after_within m q fits r passes)) (both_true (after_states m q r) (not (is_in q.follows r)) passes (not_of (is_in q.follows r) is)))
+            ∙ leaf_is_some m good q After (RegisterOf r) (lt-ltb r (length m.circuit.registers) (after_within m q fits r passes)) (and_from (after_states m q r) (not (is_in q.follows r)) passes (not_from_false (is_in q.follows r) is)))
 
     states_from : SameOn (after_states m q) (lay_states aig_values m q nets_at own free (filter (after_states m q) (registers_of m)) (table_of s1 start.after.states)) states
     states_from = states_done aig_values m good q fits L (table_of s1 nets0) before (table_of s1 start.after.states) own free before_is refl (λ r passes asks. own_is r) (λ r passes out. free_is r)
@@ -175,13 +173,13 @@ module _ (m : MachineData) (good : IsMachine m) (q : Question) (fits : SidesFit 
             go : (b : Bool) → is_in q.changes r ≡ b → so_far reached.states r (slice_index_or start.changed.states r 0) (slice_index_or states1 r 0) ≡ (if b then leaf_value aig_values L Changed (RegisterOf r) else slice_index_or states1 r 0)
             go true is =
                 let some : nat_eq (slice_index_or start.changed.states r 0) 0 ≡ false = ap (λ v. nat_eq v 0) (other_is r)
-                ∙ leaf_is_some m good q Changed (RegisterOf r) (lt-ltb r (length m.circuit.registers) (changed_within m q fits r passes)) (both_true (changed_states m q r) (is_in q.changes r) passes is) in
+                ∙ leaf_is_some m good q Changed (RegisterOf r) (lt-ltb r (length m.circuit.registers) (changed_within m q fits r passes)) (and_from (changed_states m q r) (is_in q.changes r) passes is) in
                 stays some (is_in reached.states r) ∙ other_is r
             go false is =
-                let zero : slice_index_or start.changed.states r 0 ≡ 0 = other_is r ∙ leaf_unreached m q aig_values Changed (RegisterOf r) (ap (λ b. changed_states m q r && b) is ∙ and_none (changed_states m q r)) in
+                let zero : slice_index_or start.changed.states r 0 ≡ 0 = other_is r ∙ leaf_unreached m q aig_values Changed (RegisterOf r) (ap (λ b. changed_states m q r && b) is ∙ and-false (changed_states m q r)) in
                 let after_too : after_states m q r ≡ true =
                 or_right (feeds m (after_nets m q) r) (sides_ask m After q.sides r || (changed_states m q r && not (is_in q.changes r)))
-                (or_right (sides_ask m After q.sides r) (changed_states m q r && not (is_in q.changes r)) (both_true (changed_states m q r) (not (is_in q.changes r)) passes (not_of (is_in q.changes r) is))) in
+                (or_right (sides_ask m After q.sides r) (changed_states m q r && not (is_in q.changes r)) (and_from (changed_states m q r) (not (is_in q.changes r)) passes (not_from_false (is_in q.changes r) is))) in
                 let zero_r : 0 + r ≡ r = omega arith in
                 let among : is_in reached.states r ≡ true =
                 subst (λ l. is_in l r ≡ true) (sym reaches.states)

@@ -1,8 +1,9 @@
-use Rattle.std.proofs.Common.{◌≡◌, ◌<◌, ◌+◌, ◌-◌, ◌/◌, ℕ, Some, length, slice_get, sym, ◌∙◌, subst, arith}
+use Rattle.std.proofs.Common.{◌≡◌, ◌<◌, ◌+◌, ◌-◌, ◌/◌, ℕ, Some, length, sym, ◌∙◌, subst, arith}
 use Rattle.cg_aig.specs.Aig.{simple}
 use Rattle.cg_decide.specs.inner.Assumed.{IsSameThere}
-use Rattle.cg_decide.proofs.Following.{IsEqualThere, assumed_is, followed_is, pair_at, pair_is_same}
+use Rattle.cg_decide.proofs.Following.{IsEqualThere, assumed_is, followed_is, pair_is_same}
 use Rattle.cg_decide.proofs.assumed.same_literal.Goals as goal
+use Rattle.cg_aig.proofs.Fills.{pair_at}
 
 pub returns-then-assumed-node : goal.returns-then-assumed-node
 returns-then-assumed-node c = assumed_is c.args.aig.now c.args.assumed c.args.node c.if-assumed-node.true

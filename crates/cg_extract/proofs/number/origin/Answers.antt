@@ -1,7 +1,8 @@
 use Rattle.std.proofs.Common.{Some, slice_index_or, sym, ap, ◌∙◌, inl, inr, arith}
 use Rattle.cg_netlist.specs.Circuit.{gate_nets}
-use Rattle.cg_extract.proofs.NetPlaces.{below_or, origin_high, origin_low, origin_none}
+use Rattle.cg_extract.proofs.NetPlaces.{origin_high, origin_low, origin_none}
 use Rattle.cg_extract.proofs.number.origin.Goals as goal
+use Rattle.cg_machine.proofs.Lists.{below_or}
 
 pub returns-then-net-nets : goal.returns-then-net-nets
 returns-then-net-nets c = elim (below_or (slice_index_or (gate_nets c.args.netlist.now) 0 0) c.args.number) [

@@ -4,10 +4,10 @@ use Rattle.cg_netlist.proofs.Used.{data_is_used}
 use Rattle.cg_netlist.specs.Circuit.{Circuit}
 use Rattle.cg_netlist.specs.Netlist.{IsNetlist}
 use Rattle.cg_netlist.specs.View.{register_seen}
-use Rattle.cg_support.proofs.Nets.{take_some}
 use Rattle.cg_support.proofs.Steps.{used_within}
 use Rattle.cg_hold.proofs.OfRegister.{nets_are, own_below}
 use Rattle.cg_hold.proofs.literals.nets_of.Goals as goal
+use Rattle.cg_net.proofs.FoundNets.{take_some}
 
 pub cone-requires : goal.cone-requires
 cone-requires c = λ y among.
@@ -21,5 +21,5 @@ returns c =
     let cell = register_seen c.register.result in
     let at : slice_get m.circuit.registers c.args.reg ≡ Some cell = take_some m.own_registers m.circuit.registers c.args.reg cell (subst (λ (n : Circuit). slice_get n.registers c.args.reg ≡ Some cell) c.netlist-netlist.ensures.netlist c.register.ensures) in
     let found = c.in_ok-found.found.items in
-    (c.rising.ensures (length m.circuit.names) (λ y among. own_below m y (c.in_ok-found.ensures.own y among)))
+    (c.ascending.ensures (length m.circuit.names) (λ y among. own_below m y (c.in_ok-found.ensures.own y among)))
     ∙ nets_are m c.args.reg cell at found c.in_ok-found.ensures.cone

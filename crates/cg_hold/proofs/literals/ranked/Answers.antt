@@ -1,17 +1,18 @@
 use Rattle.std.proofs.Common.{◌≡◌, IfOk, List, length, map, nat_eq, ap, sym, ◌∙◌, subst, arith}
 use Rattle.std.proofs.lemmas.List.Filters.{dedup_is}
-use Rattle.cg_lists.proofs.FitLists.{filter_in, range_in}
 use Rattle.cg_lists.specs.Supports.{all_nets}
 use Rattle.cg_machine.specs.Claims.{Literal}
 use Rattle.cg_net.specs.NetSets.{is_in}
 use Rattle.cg_hold.specs.inner.Packed.{unpacked}
 use Rattle.cg_hold.proofs.Ranked.{ranked_is}
 use Rattle.cg_hold.proofs.literals.ranked.Goals as goal
+use Rattle.cg_netlist.proofs.Filtered.{in_filter}
+use Rattle.cg_netlist.proofs.Driven.{in_range}
 
 pub packed_all-requires-clause-nets : goal.packed_all-requires-clause-nets
 packed_all-requires-clause-nets c = λ y among.
     let m = c.args.machine.now in
-    let b = range_in (length m.circuit.names) 0 y (filter_in (is_in c.args.nets.now) (all_nets m) y (ap (λ l. is_in l y) (sym c.requires.order) ∙ among)).0 in
+    let b = in_range (length m.circuit.names) 0 y (in_filter (is_in c.args.nets.now) (all_nets m) y (ap (λ l. is_in l y) (sym c.requires.order) ∙ among)).0 in
     omega (arith, b.1, c.requires.idle.count)
 
 pub returns : goal.returns

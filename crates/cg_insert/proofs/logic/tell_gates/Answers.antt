@@ -1,4 +1,4 @@
-use Rattle.std.proofs.Common.{◌≡◌, ℕ, Some, slice_get, map, ap, sym, ◌∙◌}
+use Rattle.std.proofs.Common.{◌≡◌, ℕ, Some, map, ap, ◌∙◌}
 use Rattle.std.specs.List.{find}
 use Rattle.std.specs.Option.{option_map}
 use Rattle.std.proofs.lemmas.Option.{slice_get-map}
@@ -6,14 +6,14 @@ use Rattle.cg_cell.specs.Cell.{CellData}
 use Rattle.cg_cell.specs.Fit.{is_fit}
 use Rattle.cg_machine.specs.Gates.{AddedGate}
 use Rattle.cg_machine.specs.View.{gate_seen}
-use Rattle.cg_insert.proofs.GatedParts.{at_All}
 use Rattle.cg_insert.proofs.ToldParts.{may_at, told_at}
 use Rattle.cg_insert.specs.Insert.{placed_gate}
 use Rattle.cg_insert.specs.inner.GatedParts.{cell_part}
 use Rattle.cg_insert.proofs.logic.tell_gates.Goals as goal
+use Rattle.cg_machine.proofs.Lists.{all_at}
 
 pub tell_gate-requires-clause-fits : goal.tell_gate-requires-clause-fits
-tell_gate-requires-clause-fits c = at_All (λ (gate : AddedGate). (cell : CellData) × (find (is_fit gate.kind) c.args.library.now ≡ Some cell)) c.args.machine.now.gates c.loop-number.number (gate_seen c.gate.result) c.requires.fits c.gate.ensures
+tell_gate-requires-clause-fits c = all_at (λ (gate : AddedGate). (cell : CellData) × (find (is_fit gate.kind) c.args.library.now ≡ Some cell)) c.args.machine.now.gates c.loop-number.number (gate_seen c.gate.result) c.requires.fits c.gate.ensures
 
 pub tell_gate-requires-clause-parts : goal.tell_gate-requires-clause-parts
 tell_gate-requires-clause-parts c =

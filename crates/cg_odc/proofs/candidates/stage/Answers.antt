@@ -9,7 +9,7 @@ returns c =
     let m = c.args.machine.now in
     let guards = c.args.guards.now in
     let nets = c.in_ok-taken_nets.field-0.items in
-    stage_is m guards nets c.rising-nets.result.items c.in_ok-literals.field-0 c.args.regs c.in_ok-registers.field-0 c.regs.inside.parts.items
+    stage_is m guards nets c.ascending-nets.result.items c.in_ok-literals.field-0 c.args.regs c.in_ok-registers.field-0 c.regs.inside.parts.items
     (c.in_ok-literals.ensures ∙ ap plain_literals c.deref.ensures.value)
-    (c.rising-nets.ensures (length m.circuit.names) (λ y among. taken_below m c.netlist-netlist.ensures.machine guards y (ap (λ l. is_in l y) (sym c.in_ok-taken_nets.ensures) ∙ among)))
+    (c.ascending-nets.ensures (length m.circuit.names) (λ y among. taken_below m c.netlist-netlist.ensures.machine guards y (ap (λ l. is_in l y) (sym c.in_ok-taken_nets.ensures) ∙ among)))
     c.in_ok-taken_nets.ensures c.in_ok-registers.ensures c.regs.view_is

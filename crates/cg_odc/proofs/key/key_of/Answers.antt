@@ -24,5 +24,5 @@ returns c =
     let r = c.args.reg in
     let numbers = c.args.guards.now in
     let are : (q : ℕ) → is_in numbers q ≡ guards_by m m.own_registers r q = c.requires.guards in
-    key_some m r numbers are (is_some_left numbers (sym c.is_empty.ensures ∙ c.if-is_empty.false)) (ap is_some (sym c.enable.ensures) ∙ (sym c.is_some.ensures ∙ c.if-is_some.false)) c.rising.result.items
-    (c.rising.ensures m.own_registers (λ x among. below m r numbers are x (ap (λ l. is_in l x) (sym c.in_ok-from_slice.ensures.items) ∙ among)) ∙ ap (λ l. filter (is_in l) (own_registers_of m)) c.in_ok-from_slice.ensures.items)
+    key_some m r numbers are (is_some_left numbers (sym c.is_empty.ensures ∙ c.if-is_empty.false)) (ap is_some (sym c.enable.ensures) ∙ (sym c.is_some.ensures ∙ c.if-is_some.false)) c.ascending.result.items
+    (c.ascending.ensures m.own_registers (λ x among. below m r numbers are x (ap (λ l. is_in l x) (sym c.in_ok-from_slice.ensures.items) ∙ among)) ∙ ap (λ l. filter (is_in l) (own_registers_of m)) c.in_ok-from_slice.ensures.items)

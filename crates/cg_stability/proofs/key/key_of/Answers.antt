@@ -14,6 +14,6 @@ returns c =
     let own = good.own_registers in
     let below : r < length m.circuit.registers = omega (arith, c.requires, own) in
     let are : c.in_ok-enables.enables.items ≡ filter_map (other_enable m r) s.registers = c.in_ok-enables.ensures ∙ ap (filter_map (other_enable m r)) c.as_slice-registers.ensures.parts in
-    key_there m r below s is c.in_ok-enables.enables.items c.rising.result.items c.own_enable.result (sym c.has_key.ensures ∙ c.if-not-has_key.false) are
-    (c.rising.ensures (length m.circuit.names) (λ x among. enables_below m r below s is good x (subst (λ (l : List ℕ). is_in l x ≡ true) are among)))
+    key_there m r below s is c.in_ok-enables.enables.items c.ascending.result.items c.own_enable.result (sym c.has_key.ensures ∙ c.if-not-has_key.false) are
+    (c.ascending.ensures (length m.circuit.names) (λ x among. enables_below m r below s is good x (subst (λ (l : List ℕ). is_in l x ≡ true) are among)))
     c.own_enable.ensures

@@ -1,6 +1,6 @@
-use Rattle.std.proofs.Common.{◌≡◌, ◌+◌, suc, take, ◌++◌, ◌∷◌, [], List, ℕ, Some, slice_get, ap, sym, subst, ◌∙◌, arith}
-use Rattle.cg_support.proofs.Nets.{take_end}
+use Rattle.std.proofs.Common.{◌≡◌, ◌+◌, suc, take, ◌++◌, ◌∷◌, [], List, ℕ, Some, slice_get, ap, sym, ◌∙◌, arith}
 use Rattle.cg_support.proofs.finder.numbers_of.Goals as goal
+use Rattle.cg_net.proofs.TableLemmas.{take_end}
 
 pub loop-place-preserved : goal.loop-place-preserved
 loop-place-preserved c =

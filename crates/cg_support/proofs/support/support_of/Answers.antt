@@ -1,4 +1,4 @@
-use Rattle.std.proofs.Common.{◌≡◌, ◌<◌, ℕ, Some, length, slice_get, sym, ◌∙◌, ap, subst}
+use Rattle.std.proofs.Common.{◌≡◌, ℕ, Some, slice_get, sym, ◌∙◌, ap, subst}
 use Rattle.cg_netlist.specs.Circuit.{Circuit}
 use Rattle.cg_netlist.specs.Netlist.{IsNetlist}
 use Rattle.cg_netlist.specs.View.{register_seen}
@@ -6,11 +6,11 @@ use Rattle.cg_netlist.proofs.Used.{data_is_used}
 use Rattle.cg_machine.specs.Added.{own_netlist}
 use Rattle.cg_support.specs.Support.{IsSupport}
 use Rattle.cg_support.specs.declared.support.Support.{Support}
-use Rattle.cg_support.proofs.Nets.{take_some}
 use Rattle.cg_support.proofs.Steps.{used_within}
 use Rattle.cg_support.proofs.Supported.{support_own, support_plain}
 use Rattle.cg_support.proofs.support.support_of.Goals as goal
 use Rattle.cg_support.proofs.support.support_of.Goals.{then-reads_own+in_ok-push, else-reads_own}
+use Rattle.cg_net.proofs.FoundNets.{take_some}
 
 pub cone-requires-clause-own : goal.cone-requires-clause-own
 cone-requires-clause-own c = λ y among.

@@ -18,11 +18,13 @@ use Rattle.cg_unroll.specs.inner.Copying.{AreLeavesPlaced, Starts}
 use Rattle.cg_unroll.specs.inner.Laid.{LaysCopy}
 use Rattle.cg_unroll.specs.inner.States.{Carries, LaysStates, TellsFollows}
 use Rattle.cg_unroll.proofs.Building.{if_err, if_ok}
-use Rattle.cg_unroll.proofs.Kept.{after_table, all_tables, changed_table, four, free_table, others_table, own_table, places_there}
-use Rattle.cg_unroll.proofs.Kept.{registers_there, sides_fit, states_table, zero_table}
+use Rattle.cg_unroll.proofs.Kept.{after_table, all_tables, changed_table, four, free_table, others_table, own_table}
+use Rattle.cg_unroll.proofs.Kept.{registers_there, states_table, zero_table}
 use Rattle.cg_unroll.proofs.LeafTables.{leaves_placed}
 use Rattle.cg_unroll.proofs.Stages.{after_fails, before_fails, changed_fails, goal_is, states_fail_whole}
 use Rattle.cg_unroll.proofs.build.build_claim.Goals as goal
+use Rattle.cg_netlist.proofs.Walks.{within_more}
+use Rattle.cg_reach.proofs.StatesReached.{fits as sides_fit}
 
 pub start-requires-clause-count : goal.start-requires-clause-count
 start-requires-clause-count c =
@@ -229,7 +231,7 @@ carry_states-requires-clause-registers c =
     let nets : ℕ → ℕ = λ x. slice_index_or nets0 x 0 in
     let s2 : Seen = c.put_states.new.aig in let states1 : List ℕ = c.put_states.new.states in
     let lays1 : LaysStates m nets own free reached.states s1 s2 start.after.states states1 = subst (λ rs. LaysStates m nets own free rs s1 s2 start.after.states states1) c.as_slice-2.ensures.parts c.in_ok-put_states.ensures.laid in
-    places_there (length m.circuit.registers) (length states1) c.as_slice-3.result.now (states_table m reached.leaves s start starts s1 reached.before nets0 lays0 nets own free reached.states s2 states1 lays1).long (subst (All (λ r. r < length m.circuit.registers)) (sym (c.as_slice-3.ensures.parts ∙ c.requires.reached.states)) (registers_there m (after_states m q)))
+    within_more (length m.circuit.registers) (length states1) c.as_slice-3.result.now (states_table m reached.leaves s start starts s1 reached.before nets0 lays0 nets own free reached.states s2 states1 lays1).long (subst (All (λ r. r < length m.circuit.registers)) (sym (c.as_slice-3.ensures.parts ∙ c.requires.reached.states)) (registers_there m (after_states m q)))
 
 pub carry_states-requires-clause-others : goal.carry_states-requires-clause-others
 carry_states-requires-clause-others c =
@@ -241,7 +243,7 @@ carry_states-requires-clause-others c =
     let s : Seen = c.start.new.aig in
     let start : Tables = c.start.new.self in
     let starts : Starts m reached.leaves s start = subst (λ l. Starts m l s start) c.as_slice.ensures.parts c.in_ok-start.ensures.started in
-    places_there (length m.circuit.registers) (length start.changed.states) c.as_slice-3.result.now starts.changed_states.table.long (subst (All (λ r. r < length m.circuit.registers)) (sym (c.as_slice-3.ensures.parts ∙ c.requires.reached.states)) (registers_there m (after_states m q)))
+    within_more (length m.circuit.registers) (length start.changed.states) c.as_slice-3.result.now starts.changed_states.table.long (subst (All (λ r. r < length m.circuit.registers)) (sym (c.as_slice-3.ensures.parts ∙ c.requires.reached.states)) (registers_there m (after_states m q)))
 
 pub lay_copy-requires-3-clause-registers : goal.lay_copy-requires-3-clause-registers
 lay_copy-requires-3-clause-registers c =

@@ -3,8 +3,9 @@ use Rattle.std.specs.declared.alloc.AllocError.{AllocError}
 use Rattle.cg_aig.specs.AigLaws.{lit_is}
 use Rattle.cg_decide.specs.Decision.{IsNeverOne}
 use Rattle.cg_decide.specs.inner.Assumed.{Excludes}
-use Rattle.cg_decide.proofs.Following.{excluded_is, excluded_is_right, pair_at}
+use Rattle.cg_decide.proofs.Following.{excluded_is, excluded_is_right}
 use Rattle.cg_decide.proofs.assumed.Follower.shows_never.Goals as goal
+use Rattle.cg_aig.proofs.Fills.{pair_at}
 
 pub excludes-requires : goal.excludes-requires
 excludes-requires c =

@@ -3,8 +3,9 @@ use Rattle.std.specs.Option.{option_copied}
 use Rattle.cg_lists.specs.Literals.{literals_of}
 use Rattle.cg_machine.specs.Machine.{enable_of}
 use Rattle.cg_hold.proofs.OfRegister.{choice_fits, literals_all}
-use Rattle.cg_hold.proofs.Taken.{chosen_next, chosen_same, none_is, none_of_none, none_of_some, on_ok_both, wide_small}
+use Rattle.cg_hold.proofs.Taken.{chosen_next, chosen_same, none_of_none, none_of_some, on_ok_both, wide_small}
 use Rattle.cg_hold.proofs.chosen.Chosen.look.Goals as goal
+use Rattle.cg_lists.proofs.Mapped.{none_option}
 
 pub enable-requires : goal.enable-requires
 enable-requires c = let own = c.netlist-netlist.ensures.machine.own_registers in omega (arith, own, c.requires.register)
@@ -17,7 +18,7 @@ returns-then-is_some-clause-chosen c =
 
 pub choose-requires-clause-free : goal.choose-requires-clause-free
 choose-requires-clause-free c =
-    none_is (enable_of c.args.machine.now c.args.reg) (ap is_some (sym c.enable.ensures) ∙ (sym c.is_some.ensures ∙ c.if-is_some.false))
+    none_option (enable_of c.args.machine.now c.args.reg) (ap is_some (sym c.enable.ensures) ∙ (sym c.is_some.ensures ∙ c.if-is_some.false))
 
 pub note-requires-clause-wide : goal.note-requires-clause-wide
 note-requires-clause-wide c =

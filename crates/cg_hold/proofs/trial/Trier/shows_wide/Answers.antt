@@ -11,10 +11,10 @@ use Rattle.cg_net.specs.NetSets.{is_in}
 use Rattle.cg_cone.specs.Cone.{cone_of}
 use Rattle.cg_netlist.specs.Netlist.{IsNetlist}
 use Rattle.cg_netlist.specs.View.{register_seen}
-use Rattle.cg_support.proofs.Nets.{take_some}
 use Rattle.cg_support.proofs.Steps.{used_within}
 use Rattle.cg_hold.specs.inner.Choosing.{IsRoom}
 use Rattle.cg_hold.proofs.trial.Trier.shows_wide.Goals as goal
+use Rattle.cg_net.proofs.FoundNets.{take_some}
 
 pub measure-requires-clause-literal : goal.measure-requires-clause-literal
 measure-requires-clause-literal c =

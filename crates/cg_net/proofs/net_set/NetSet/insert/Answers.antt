@@ -18,4 +18,4 @@ returns c =
     let unmarked : is_marked c.reach.new.marks.items place ≡ c.index.result.now = mark_at c.reach.new.marks.items place c.index.result.now c.in_ok-reach.ensures.reaches c.index.ensures in
     let new : is_in nets place ≡ false = sym (c.self.invariant place) ∙ (sym (c.reach.ensures.same place) ∙ (unmarked ∙ c.if-index.false)) in
     let is : with_net nets c.args.net ≡ nets ++ c.args.net ∷ [] = with_net-new nets c.args.net (ap (is_in nets) (sym c.number-place.ensures.number) ∙ new) in
-    c.in_ok-push.ensures.items ∙ (sym is ∙ ap (λ ns. with_net ns c.args.net) c.self.view_is)
+    record { put = c.in_ok-push.ensures.items ∙ (sym is ∙ ap (λ ns. with_net ns c.args.net) c.self.view_is); same = tt }

@@ -1,2 +1,3 @@
 pub mod GatedParts
+pub mod Names
 pub mod Telling

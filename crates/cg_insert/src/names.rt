@@ -4,8 +4,9 @@ ghost use Rattle.std.specs.Prelude.{◌≡◌, ◌≤◌, ◌<◌, ◌+◌, ◌^
 ghost use Rattle.std.specs.List.{range_with_len};
 ghost use Rattle.std.specs.Option.{option_copied, option_to_list};
 ghost use Rattle.cg_insert.specs.inner.GatedParts.{gated_names};
+ghost use Rattle.cg_insert.specs.inner.Names.{bytes_of};
 ghost use Rattle.cg_insert.specs.Insert.{enables_of};
-ghost use Rattle.cg_net.specs.Names.{bytes_of, net_name};
+ghost use Rattle.cg_net.specs.Names.{net_name};
 
 use cg_cell::name::Name;
 use cg_machine::machine::Machine;
@@ -27,7 +28,7 @@ pub struct GatedNames<'a> {
 
 impl<'a> Model for GatedNames<'a> {
     ghost use Rattle.std.specs.Prelude.{List, ℕ, ◌++◌};
-    ghost use Rattle.cg_net.specs.Names.{bytes_of};
+    ghost use Rattle.cg_insert.specs.inner.Names.{bytes_of};
 
     ghost Value = { List (List ℕ) };
 

@@ -1,13 +1,8 @@
 -- Tables of names, and the nets that they name: a net is the place of its name.
-use Rattle.std.specs.Prelude.{ℕ, Bool, List, [], ◌∷◌, ◌++◌, map, if◌then◌else◌, nat_eq, slice_get, unwrap_or}
+use Rattle.std.specs.Prelude.{ℕ, Bool, List, [], ◌∷◌, ◌++◌, if◌then◌else◌, nat_eq, slice_get, unwrap_or}
 use Rattle.std.specs.List.{list_any, position_or_len}
 use Rattle.std.specs.Str.{bytes_eq}
-use Rattle.std.specs.declared.vec.Vec.{Vec}
 use lib.Pointwise.{pointwise}
-
--- the names, as lists of bytes
-abbrev pub bytes_of : {A : Type 0} → List (Vec ℕ A) → List (List ℕ)
-bytes_of names = map (λ name. name.items) names
 
 -- whether a name is among these
 abbrev pub is_known : List (List ℕ) → List ℕ → Bool

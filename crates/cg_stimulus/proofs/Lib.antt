@@ -1,4 +1,4 @@
-pub mod InputTable
+pub mod Columns
 pub mod InputsNamed
 pub mod ReadingOn
 pub mod StimExact

@@ -5,13 +5,13 @@ ghost use Rattle.std.specs.List.{AllByRecursion};
 ghost use Rattle.cg_cell.specs.Name.{is_name};
 ghost use Rattle.cg_limit.specs.Answers.{OrNoMemory};
 ghost use Rattle.cg_stimulus.specs.declared.fault.StimulusFault.TheVariants.{NoMemory};
-ghost use Rattle.cg_stimulus.specs.Reading.{names_from, columns_of, header_of};
+ghost use Rattle.cg_stimulus.specs.Reading.{column_of, columns_of, header_of, names_from};
 
 use crate::fault::StimulusFault;
 use crate::line::{BareLine, BareWords};
-use crate::names::InputNames;
 use cg_cell::name::Name;
 use cg_list::Seq;
+use cg_net::names::NetNames;
 use std::alloc::Global;
 
 /// Where the bits of a row stand in its word.
@@ -24,30 +24,39 @@ pub(crate) struct Header {
 }
 
 /// The names behind the word `inputs`.
+#[tactic(auto, using(crate::proofs::Columns::found_known))]
 fn read_names(
     alloc: Global,
     line: u64,
-    inputs: &InputNames,
+    inputs: &NetNames,
     words: BareWords<'_>,
-) -> Result<InputNames, StimulusFault>
+) -> Result<NetNames, StimulusFault>
     ensures { OrNoMemory NoMemory (λ names. names) result (names_from line inputs.now [] words.entry) }
 {
     let mut words = words;
-    let mut names = InputNames::new(alloc);
+    let mut names = NetNames::new(alloc);
     'names: while let Some(word) = words.next_word() {
-        if !inputs.has(word) || names.has(word) {
+        if inputs.find(word).is_none() || names.find(word).is_some() {
             return Err(StimulusFault::BadName(line));
         }
-        names.add(alloc, word)?;
+        names.intern(alloc, word)?;
     }
     Ok(names)
+}
+
+/// The place of a name among these, or `None` where it is none of them.
+fn column_of(names: &NetNames, name: &[u8]) -> Option<usize>
+    ensures { result ≡ column_of names.now name.now }
+{
+    let _ = names.len();
+    names.find(name)
 }
 
 /// The place of each data input among the names.
 fn find_columns(
     alloc: Global,
-    names: &InputNames,
-    inputs: &InputNames,
+    names: &NetNames,
+    inputs: &NetNames,
 ) -> Result<Seq<usize>, StimulusFault>
     requires { AllByRecursion (λ name. IsTrue (is_name name)) inputs.now }
     ensures columns { OrNoMemory NoMemory (λ columns. columns) result (columns_of names.now inputs.now) }
@@ -56,7 +65,7 @@ fn find_columns(
     let mut columns = Vec::new(alloc);
     'inputs: for place in 0..inputs.len() {
         let input = inputs.name(place);
-        match names.place(input) {
+        match column_of(names, input) {
             Some(column) => columns.push(column)?,
             None => return Err(StimulusFault::MissingInput(Name::new(alloc, input)?)),
         }
@@ -67,7 +76,7 @@ fn find_columns(
 /// Reads the first line of a text.
 pub(crate) fn read_header(
     alloc: Global,
-    inputs: &InputNames,
+    inputs: &NetNames,
     line: BareLine<'_>,
 ) -> Result<Header, StimulusFault>
     requires { AllByRecursion (λ name. IsTrue (is_name name)) inputs.now }

@@ -4,15 +4,14 @@
 //! data input; or the text's first fault. In `specs/` stand the definitions of the text, of what is read, and of the
 //! history of a netlist on which rows are played.
 //!
-//! Modules, as data flows: [`line`] (lines without comments), [`names`] (the names of the data inputs), [`header`] (the first
-//! line), [`row`] (a row's bits), [`read`] (the whole text), [`stimulus`] (rows, read or pushed one by one), [`played`] (the
-//! history on which they are played), [`fault`] (why a text is refused).
+//! Modules, as data flows: [`line`] (lines without comments), [`header`] (the first line), [`row`] (a row's bits), [`read`] (the
+//! whole text), [`stimulus`] (rows, read or pushed one by one), [`played`] (the history on which they are played), [`fault`]
+//! (why a text is refused).
 #![tactic(auto)]
 
 pub mod fault;
 mod header;
 mod line;
-mod names;
 pub mod played;
 pub mod read;
 mod row;

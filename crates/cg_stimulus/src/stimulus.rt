@@ -8,10 +8,10 @@ ghost use Rattle.cg_stimulus.specs.Inputs.{IsStimulus, input_names};
 ghost use Rattle.cg_stimulus.specs.Pushing.{PushRefuses};
 
 use crate::fault::StimulusFault;
-use crate::names::InputNames;
 use cg_limit::{Limit, MOST_ROWS};
 use cg_list::Seq;
 use cg_net::id::NetId;
+use cg_net::names::NetNames;
 use cg_netlist::netlist::Netlist;
 use std::alloc::{AllocError, Global};
 use std::marker::Model;
@@ -21,7 +21,7 @@ use std::marker::Model;
 /// Clauses see the names of the data inputs, in the order of the netlist, and the rows, each with a bit for each of them.
 #[derive(Drop)]
 pub struct Stimulus {
-    inputs: InputNames,
+    inputs: NetNames,
     rows: Seq<Seq<bool>>,
 }
 
@@ -91,7 +91,7 @@ impl Stimulus {
     }
 
     /// The names of the data inputs.
-    pub(crate) fn inputs(&self) -> &InputNames
+    pub(crate) fn inputs(&self) -> &NetNames
         ensures { result.now ≡ self.now.inputs }
     {
         &self.inputs
@@ -99,7 +99,7 @@ impl Stimulus {
 }
 
 /// The names of a netlist's data inputs.
-fn names_of(alloc: Global, netlist: &Netlist) -> Result<InputNames, AllocError>
+fn names_of(alloc: Global, netlist: &Netlist) -> Result<NetNames, AllocError>
     ensures { IfOk result (λ names. names ≡ input_names netlist.now) }
 {
     let _ = netlist.nets();
@@ -107,15 +107,15 @@ fn names_of(alloc: Global, netlist: &Netlist) -> Result<InputNames, AllocError>
 }
 
 /// The names of nets, each of which is given once at most.
-fn names_at(alloc: Global, netlist: &Netlist, nets: &[NetId]) -> Result<InputNames, AllocError>
+fn names_at(alloc: Global, netlist: &Netlist, nets: &[NetId]) -> Result<NetNames, AllocError>
     requires nets { All (λ net. net < length netlist.now.names) nets.now }
     requires once { IsDistinct nat_eq nets.now }
     requires different { AllPairs (λ name other. name ≢ other) netlist.now.names }
     ensures { IfOk result (λ names. names ≡ map (net_name netlist.now.names) nets.now) }
 {
-    let mut names = InputNames::new(alloc);
+    let mut names = NetNames::new(alloc);
     for net in nets {
-        names.add(alloc, netlist.name(*net))?;
+        names.intern(alloc, netlist.name(*net))?;
     }
     Ok(names)
 }

@@ -1,7 +1,7 @@
 use Rattle.std.proofs.Common.{◌≡◌, ◌++◌, ◌∷◌, ℕ, List, [], ap, sym, ◌∙◌, arith}
 use Rattle.std.specs.Option.{option_copied, option_to_list}
 use Rattle.std.proofs.lemmas.List.{append-nil}
-use Rattle.cg_net.specs.Names.{bytes_of}
+use Rattle.cg_insert.specs.inner.Names.{bytes_of}
 use Rattle.cg_insert.proofs.GatedParts.{few_enables}
 use Rattle.cg_insert.proofs.NamesWhole.{names_whole}
 use Rattle.cg_insert.proofs.names.GatedNames.of.Goals as goal

@@ -21,7 +21,7 @@ use Rattle.cg_builder.specs.inner.Numbers.{GaterWithin, driving_gater, gate_abov
 use Rattle.cg_parts.specs.Faults.{EachNet, IsDrivenOnce, reaches}
 use Rattle.cg_parts.specs.Part.{Part, gaters, is_gated, registers, roots}
 use Rattle.cg_netlist.specs.Wiring.{driven_by_gaters, map_gater}
-use Rattle.cg_net.proofs.PlaceLemmas.{mapped_at}
+use Rattle.cg_net.proofs.TableLemmas.{mapped_at}
 
 -- the gating cell that drives a net, if one does
 pub gated_none : (gs : List (GatingCell ℕ)) (a x : ℕ) → position_from (λ g. g.output == x) a gs ≡ None → is_in (driven_by_gaters gs) x ≡ false

@@ -7,10 +7,10 @@ use Rattle.std.proofs.lemmas.Bool.{or_parts, or_right}
 use Rattle.std.proofs.lemmas.Bool.Decides.{eqb_tells}
 use Rattle.std.proofs.lemmas.List.{length-set, take_all}
 use Rattle.cg_net.specs.NetSets.{is_in}
-use Rattle.cg_net.specs.NamePlaces.{number_in}
+use Rattle.cg_builder.specs.inner.Renumbering.{number_in}
 use Rattle.cg_net.proofs.TableLemmas.{All-at, slice_get-set_other, slice_get-set_same, take_next}
 use Rattle.cg_net.proofs.Members.{in_alone, is_in-append}
-use Rattle.cg_net.proofs.PlaceLemmas.{place_is}
+use Rattle.cg_netlist.proofs.NetOrder.{place_is}
 
 -- the place of a net in the order, once it was noted, and before that the length of the order
 abbrev pub place_so_far : List ℕ → ℕ → ℕ → ℕ

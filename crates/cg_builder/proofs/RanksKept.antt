@@ -1,5 +1,5 @@
 -- The logic cells of a netlist have the ranks that they have by their nets' numbers of mention.
-use Rattle.std.proofs.Common.{◌≡◌, ◌≢◌, ℕ, ◌==◌, ◌||◌, Bool, true, false, nat_eq, List, [], ◌∷◌, ◌++◌, not, length, slice_get, Some, sym, ap, ◌∙◌, subst, refl}
+use Rattle.std.proofs.Common.{◌≡◌, ℕ, ◌==◌, Bool, true, false, nat_eq, List, [], ◌∷◌, ◌++◌, not, slice_get, Some, sym, ap, ◌∙◌, subst, refl}
 use Rattle.std.proofs.Common.{arith, inl, inr}
 use Rattle.std.specs.List.{AllByRecursion, IsDistinct, filter, position_or_len}
 use Rattle.std.specs.Option.{option_to_list}
@@ -13,7 +13,7 @@ use Rattle.cg_netlist.specs.Wiring.{among, driven_by_cells, driven_by_gaters, dr
 use Rattle.cg_builder.specs.inner.Heard.{IsReady}
 use Rattle.cg_builder.specs.inner.Numbers.{Numbers, made_of, ordered_numbers, ordered_place, wired_numbers}
 use Rattle.cg_net.proofs.Members.{is_in_left, is_in_right, place_of_member}
-use Rattle.cg_net.proofs.PlaceLemmas.{place_is}
+use Rattle.cg_netlist.proofs.NetOrder.{place_is}
 use Rattle.cg_netlist.proofs.RenumberedRanks.{renumbered_ranks}
 use Rattle.cg_builder.proofs.OrderPlaces.{absent}
 

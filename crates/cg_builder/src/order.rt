@@ -3,7 +3,7 @@
 ghost use Rattle.std.specs.Prelude.{◌≡◌, ◌<◌, ◌^◌, ℕ, nat_eq, length, map, slice_get, unwrap_or, IfOk};
 ghost use Rattle.std.specs.List.{All, AllByRecursion, IsDistinct, position_or_len};
 ghost use Rattle.std.specs.Option.{option_map, option_or, option_to_list};
-ghost use Rattle.cg_net.specs.NamePlaces.{number_in};
+ghost use Rattle.cg_builder.specs.inner.Renumbering.{number_in};
 ghost use Rattle.cg_builder.specs.inner.Heard.{IsReady};
 ghost use Rattle.cg_builder.specs.inner.Numbers.{GaterWithin, clock_number, made_of, on_number, wired_numbers};
 ghost use Rattle.cg_netlist.specs.Wiring.{circuit, map_gater, map_wiring};
@@ -27,7 +27,7 @@ pub(crate) fn in_net_order(alloc: Global, model: Name, told: Told) -> Result<Par
     let clock = first_of(&roots);
     let order = order(alloc, &told, clock)?;
     let places = places(alloc, told.names.len(), &order)?;
-    renumbered(alloc, model, told, &order, clock.first().copied(), &places)
+    renumbered(alloc, model, told, order, clock.first().copied(), &places)
 }
 
 /// The list of the first net, if there is one.
@@ -58,17 +58,16 @@ fn renumbered(
     alloc: Global,
     model: Name,
     told: Told,
-    order: &[NetId],
+    order: Vec<NetId>,
     clock: Option<NetId>,
     places: &[NetId],
 ) -> Result<Parts, AllocError>
     requires ready { IsReady told }
     requires places { length places.now ≡ length told.names }
-    requires tells { (net : ℕ) → net < length told.names → number_in places.now net ≡ position_or_len (nat_eq net) order.now }
-    requires nets { All (λ net. net < length told.names) order.now }
-    requires once { IsDistinct nat_eq order.now }
+    requires nets { All (λ net. net < length told.names) order.items }
+    requires few { length order.items < 2 ^ 32 }
     requires clock { clock ≡ clock_number told }
-    ensures { IfOk result (λ parts. parts ≡ circuit model (map (net_name told.names) order.now) (map_wiring (number_in places.now) (wired_numbers told))) }
+    ensures { IfOk result (λ parts. parts ≡ circuit model (map (net_name told.names) order.items) (map_wiring (number_in places.now) (wired_numbers told))) }
 {
     let Told {
         names,
@@ -85,12 +84,10 @@ fn renumbered(
     renumber_cells(places, &mut cells);
     renumber_gaters(places, &mut gaters);
     renumber_registers(places, &mut registers);
-    let _ = names.len();
-    let order = Vec::from_slice(alloc, order)?;
-    let all_places = Vec::from_slice(alloc, places)?;
+    let names = OrderedNames::new(alloc, names, order)?;
     Ok(Parts {
         model,
-        names: OrderedNames::new(names, order, all_places),
+        names,
         inputs,
         clock: renumbered_given(places, &clock),
         outputs,

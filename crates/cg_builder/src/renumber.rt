@@ -2,8 +2,7 @@
 
 ghost use Rattle.std.specs.Prelude.{◌≡◌, ◌<◌, map, length};
 ghost use Rattle.std.specs.List.{All};
-ghost use Rattle.cg_builder.specs.inner.Renumbering.{CellAmong, RegisterAmong};
-ghost use Rattle.cg_net.specs.NamePlaces.{number_in};
+ghost use Rattle.cg_builder.specs.inner.Renumbering.{CellAmong, RegisterAmong, number_in};
 ghost use Rattle.cg_netlist.specs.Wiring.{map_cell, map_outputs, map_register};
 
 use cg_net::id::NetId;

@@ -16,7 +16,8 @@ use Rattle.cg_netlist.specs.Circuit.{register_nets, used_nets}
 use Rattle.cg_netlist.specs.Netlist.{IsNetlist}
 use Rattle.cg_netlist.specs.WellFormed.{AreRanks, IsInNetOrder, IsOver, IsWellFormed, RegisterFits}
 use Rattle.cg_netlist.proofs.Driven.{driven_in_order}
-use Rattle.cg_net.proofs.PlaceLemmas.{mapped_at, same_net}
+use Rattle.cg_net.proofs.DifferentNames.{same_net}
+use Rattle.cg_net.proofs.TableLemmas.{mapped_at}
 use Rattle.cg_netlist.proofs.RegisterKept.{register_kept}
 use Rattle.cg_netlist.proofs.Given.{from_option}
 use Rattle.cg_net.proofs.Members.{All-from_members, is_in_left, member_at, one_place}

@@ -17,7 +17,7 @@ use Rattle.cg_netlist.specs.Moment.{bit}
 use Rattle.cg_netlist.specs.WellFormed.{IsWellFormed}
 use Rattle.cg_netlist.proofs.Given.{from_option}
 use Rattle.cg_net.proofs.Members.{is_in_left, member_at}
-use Rattle.cg_net.proofs.PlaceLemmas.{mapped_at}
+use Rattle.cg_net.proofs.TableLemmas.{mapped_at}
 use Rattle.cg_netlist.proofs.Used.{asked_is_used}
 use Rattle.cg_netlist.proofs.Values.{at_map}
 use Rattle.cg_machine.specs.Added.{add_gate, find_gate, nets_limit, next_name, or_push, push_gate, unless_found}

@@ -13,7 +13,7 @@ use Rattle.cg_netlist.proofs.Driven.{in_range}
 use Rattle.cg_netlist.proofs.Given.{clock_given, clock_no_gate, driver_within, from_option, gate_given, given_driver, in_option}
 use Rattle.cg_net.proofs.Members.{is_in_cases, member_at}
 use Rattle.cg_netlist.proofs.OrderLemmas.{length-range_with_len}
-use Rattle.cg_net.proofs.PlaceLemmas.{place_is}
+use Rattle.cg_netlist.proofs.NetOrder.{place_is}
 use Rattle.cg_netlist.proofs.Values.{at_map, split_lists}
 use Rattle.cg_machine.proofs.Lists.{all_at, below_or, get_front}
 use Rattle.cg_extract.proofs.Kept.{order_is, order_long, order_once}

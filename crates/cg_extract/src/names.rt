@@ -14,8 +14,7 @@ pub(crate) fn copy_names(alloc: Global, netlist: &Netlist) -> Result<OrderedName
 {
     let names = table(alloc, netlist)?;
     let order = nets_below(alloc, netlist.nets())?;
-    let places = nets_below(alloc, netlist.nets())?;
-    Ok(OrderedNames::new(names, order, places))
+    OrderedNames::new(alloc, names, order)
 }
 
 /// A table of the names, in the order of their nets.

@@ -12,7 +12,7 @@ use Rattle.cg_netlist.specs.Wiring.{map_register}
 use Rattle.cg_netlist.specs.History.{AreTicks, IsLawful, LawfulFrom, Moment, Tick, next_bit, outputs_of, rises}
 use Rattle.cg_netlist.specs.Moment.{bit}
 use Rattle.cg_netlist.specs.WellFormed.{IsWellFormed}
-use Rattle.cg_net.proofs.PlaceLemmas.{mapped_at}
+use Rattle.cg_net.proofs.TableLemmas.{mapped_at}
 use Rattle.cg_netlist.proofs.Values.{element_at, length-zip_with}
 use Rattle.cg_insert.proofs.GatedForm.{gated_formed, inputs_once}
 use Rattle.cg_insert.proofs.GatedMoments.{Tells, data_is, register_rises, take_get, tells}

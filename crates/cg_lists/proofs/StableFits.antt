@@ -23,7 +23,7 @@ use Rattle.cg_netlist.proofs.Driven.{distinct_filter, distinct_range, in_range}
 use Rattle.cg_netlist.proofs.Filtered.{in_filter}
 use Rattle.cg_netlist.proofs.Rising.{in_made}
 use Rattle.cg_netlist.proofs.WalkOrder.{in_driving}
-use Rattle.cg_net.proofs.PlaceLemmas.{mapped_at}
+use Rattle.cg_net.proofs.TableLemmas.{mapped_at}
 
 module _ (m : MachineData) (good : IsMachine m) where
   option_is : (a b : Option ℕ) → same_option a b ≡ true → a ≡ b

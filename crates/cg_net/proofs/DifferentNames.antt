@@ -1,12 +1,13 @@
--- Names that differ still do where more are mentioned.
+-- Names that differ: the nets that they name differ, and they still do where more are mentioned.
 use Rattle.std.proofs.Common.{[], ℕ, zero, suc, ◌<◌, ◌≡◌, ◌≢◌, inl, inr, true, false, List, ◌∷◌, Some, length, get_or, refl, sym}
-use Rattle.std.proofs.Common.{ap, subst, arith, nat_eq}
+use Rattle.std.proofs.Common.{ap, subst, arith, nat_eq, ◌∙◌}
 use Rattle.std.specs.List.{slice_get, AllPairs}
 use Rattle.std.specs.Cmp.Lexicographic.{same_text, other_text}
-use Rattle.std.proofs.lemmas.Bool.{cases_Bool, or_cases, or_parts, both_ways}
+use Rattle.std.proofs.lemmas.Bool.{cases_Bool, cases_lt, or_cases, or_parts, both_ways}
 use Rattle.std.proofs.lemmas.List.Quantifiers.{all_pairs_push}
+use Rattle.std.proofs.lemmas.Option.{unwrap_or-slice_get}
 use lib.Pointwise.{pointwise}
-use Rattle.cg_net.specs.Names.{is_known, with_name, with_names}
+use Rattle.cg_net.specs.Names.{is_known, net_name, with_name, with_names}
 use Rattle.cg_net.proofs.NameLemmas.{with_name-known, with_name-unknown}
 
 abbrev AreDifferent : List (List ℕ) → Type 0
@@ -34,3 +35,15 @@ with_name_different names name different = elim (cases_Bool (is_known names name
 pub with_names_different : (names words : List (List ℕ)) → AreDifferent names → AreDifferent (with_names names words)
 with_names_different names [] different = different
 with_names_different names (word ∷ words) different = with_names_different (with_name names word) words (with_name_different names word different)
+
+-- different nets have different names
+pub same_net : (names : List (List ℕ)) (a b : ℕ) → AreDifferent names → a < length names → b < length names → net_name names a ≡ net_name names b → a ≡ b
+same_net names a b different a_in b_in same =
+    let names_are : get_or names a [] ≡ get_or names b [] = sym (unwrap_or-slice_get names a []) ∙ (same ∙ unwrap_or-slice_get names b []) in
+    elim (cases_lt a b) [
+      | inl lt ↦ absurd (different a b [] lt b_in names_are)
+      | inr le ↦ elim (cases_lt b a) [
+        | inl lt ↦ absurd (different b a [] lt a_in (sym names_are))
+        | inr ge ↦ omega arith
+      ]
+    ]

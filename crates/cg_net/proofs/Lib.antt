@@ -4,5 +4,4 @@ pub mod Members
 pub mod NameLemmas
 pub mod NamesInOrder
 pub mod NetSetLemmas
-pub mod PlaceLemmas
 pub mod TableLemmas

@@ -1,4 +1,4 @@
 pub mod Marks
-pub mod NamePlaces
 pub mod Names
 pub mod NetSets
+pub mod inner

@@ -1,10 +1,10 @@
 //! The names of nets, numbered in the order in which they came.
 
-ghost use Rattle.std.specs.Prelude.{◌≡◌, ◌≢◌, [], ◌<◌, Some, false, length};
+ghost use Rattle.std.specs.Prelude.{◌≡◌, ◌≢◌, [], ◌<◌, ◌^◌, Some, false, length};
 ghost use Rattle.std.specs.Prelude.{slice_get, IfOk, MatchOption, OnErr, OnOk, map};
-ghost use Rattle.std.specs.List.{AllPairs};
+ghost use Rattle.std.specs.List.{All, AllPairs};
 ghost use Rattle.cg_net.specs.Names.{is_known, net_name, with_name};
-ghost use Rattle.cg_net.specs.NamePlaces.{AreOrdered};
+ghost use Rattle.cg_net.specs.inner.NamePlaces.{IsPlaced};
 
 use crate::id::NetId;
 use crate::key::{Key, Sought};
@@ -79,39 +79,46 @@ impl NetNames {
 }
 
 /// The names of the nets of an order. They stay in the table in which they came: beside it lie the net of each place, and
-/// the place of each net, which is the length of the order for a net that has none.
+/// for each net a place at which the order has it. A net that does not stand in the order has some place all the same, at which
+/// the order has another net or none.
 ///
 /// Clauses see the list of names.
 #[derive(Drop)]
 pub struct OrderedNames {
     names: NetNames,
     order: Vec<NetId>,
-    places: Vec<NetId>,
+    places: Vec<u32>,
 }
 
 impl Model for OrderedNames {
     ghost use Rattle.std.specs.Prelude.{List, ℕ, map};
-    ghost use Rattle.cg_net.specs.NamePlaces.{AreOrdered};
+    ghost use Rattle.cg_net.specs.inner.NamePlaces.{ArePlaced};
     ghost use Rattle.cg_net.specs.Names.{net_name};
 
     ghost Value = { List (List ℕ) };
 
     ghost view = { λ n. map (net_name n.names) n.order.items };
 
-    ghost invariant = { λ n. AreOrdered n.names n.order.items n.places.items };
+    ghost invariant = { λ n. ArePlaced n.names n.order.items n.places.items };
 }
 
 impl OrderedNames {
-    /// The names of an order in which each net stands once at most, with the places of all nets.
-    pub fn new(names: NetNames, order: Vec<NetId>, places: Vec<NetId>) -> OrderedNames
-        requires { AreOrdered names order.items places.items }
-        ensures { result ≡ map (net_name names) order.items }
+    /// The names of these nets, in this order.
+    pub fn new(
+        alloc: Global,
+        names: NetNames,
+        order: Vec<NetId>,
+    ) -> Result<OrderedNames, AllocError>
+        requires nets { All (λ net. net < length names) order.items }
+        requires few { length order.items < 2 ^ 32 }
+        ensures { IfOk result (λ ordered. ordered ≡ map (net_name names) order.items) }
     {
-        OrderedNames {
+        let places = places(alloc, names.len(), &order)?;
+        Ok(OrderedNames {
             names,
             order,
             places,
-        }
+        })
     }
 
     /// How many names there are.
@@ -133,14 +140,26 @@ impl OrderedNames {
     pub fn find(&self, name: &[u8]) -> Option<usize>
         ensures { MatchOption result (is_known self.now name.now ≡ false) (λ i. slice_get self.now i ≡ Some name.now) }
     {
-        let place = match self.names.find(name) {
-            Some(number) => self.places[number].number() as usize,
-            None => return None,
-        };
-        if place < self.order.len() {
+        let number = self.names.find(name)?;
+        let place = self.places[number] as usize;
+        if place < self.order.len() && self.order[place].number() as usize == number {
             Some(place)
         } else {
             None
         }
     }
+}
+
+/// For each of `count` nets a place at which an order has it, or 0 where it does not stand there.
+fn places(alloc: Global, count: usize, order: &[NetId]) -> Result<Vec<u32>, AllocError>
+    requires nets { All (λ net. net < count) order.now }
+    requires few { length order.now < 2 ^ 32 }
+    ensures long { IfOk result (λ places. length places.items ≡ count) }
+    ensures placed { IfOk result (λ places. All (IsPlaced order.now places.items) order.now) }
+{
+    let mut places = vec![in alloc; 0; count]?;
+    for place in 0..order.len() {
+        places[order[place].number() as usize] = place as u32;
+    }
+    Ok(places)
 }

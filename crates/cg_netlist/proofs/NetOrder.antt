@@ -1,16 +1,27 @@
 -- Lists of nets that get other numbers, and the places of nets in an order.
 use Rattle.std.proofs.Common.{[], ℕ, ◌≡◌, inl, inr, Bool, true, false, List, ◌∷◌, ◌++◌, Some, map, length, get_or, refl, sym, ap}
-use Rattle.std.proofs.Common.{◌∙◌, nat_eq}
+use Rattle.std.proofs.Common.{◌∙◌, nat_eq, zero, suc, ◌+◌, not, cond, arith}
 use Rattle.std.specs.List.{slice_get, IsDistinct, flat_map, position_or_len, range_with_len}
 use Rattle.std.specs.Option.{option_map}
-use Rattle.std.proofs.lemmas.Bool.{both_ways, or_cases, or_left, or_right, eqb-true, eq-eqb}
+use Rattle.std.proofs.lemmas.Bool.{both_ways, cases_Bool, or_cases, or_left, or_right, eqb-true, eq-eqb}
 use Rattle.std.proofs.lemmas.List.{map-append, map-id, length-map}
 use Rattle.std.proofs.lemmas.List.FromFn.{fill_by_all}
-use Rattle.std.proofs.lemmas.Option.{get_or_from_slice_get, slice_get-map, slice_get-get_or}
+use Rattle.std.proofs.lemmas.Option.{get_or_from_slice_get, same_Some, slice_get-map, slice_get-get_or}
 use Rattle.cg_netlist.specs.Circuit.{LogicCell, RegisterCell, shown_nets}
 use Rattle.cg_net.specs.NetSets.{is_in}
 use Rattle.cg_netlist.specs.Wiring.{map_cell, map_register}
-use Rattle.cg_net.proofs.PlaceLemmas.{place_is}
+use Rattle.cg_net.proofs.Members.{distinct_head, distinct_tail, member_at}
+
+-- the place of a net in an order in which it stands once
+pub place_is : (order : List ℕ) (i net : ℕ) → IsDistinct nat_eq order → slice_get order i ≡ Some net → position_or_len (nat_eq net) order ≡ i
+place_is [] i net once at = absurd (cc)
+place_is (x ∷ order) zero net once at = let same : x ≡ net = same_Some x net at in ap (λ b. cond (not b) (1 + position_or_len (nat_eq net) order) 0) (eq-eqb net x (sym same))
+place_is (x ∷ order) (suc i) net once at =
+    let other : nat_eq net x ≡ false = elim (cases_Bool (nat_eq net x)) [
+      | inl same ↦ absurd (both_ways (is_in order x) (distinct_head x order once) (ap (is_in order) (sym (eqb-true net x same)) ∙ member_at order i net at))
+      | inr no' ↦ no'
+    ] in
+    ap (λ b. cond (not b) (1 + position_or_len (nat_eq net) order) 0) other ∙ (ap (λ m. 1 + m) (place_is order i net (distinct_tail x order once) at) ∙ omega arith)
 
 -- a net that is in a list stands in the mapped list under its number
 pub in_mapped : (f : ℕ → ℕ) (xs : List ℕ) (x : ℕ) → is_in xs x ≡ true → is_in (map f xs) (f x) ≡ true

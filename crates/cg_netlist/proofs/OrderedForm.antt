@@ -19,7 +19,8 @@ use Rattle.cg_netlist.specs.Circuit.{gate_nets, given_nets, net_order, register_
 use Rattle.cg_netlist.specs.Wiring.{map_cell, map_gater, map_register}
 use Rattle.cg_netlist.specs.WellFormed.{AreRanks, IsInNetOrder, IsOver, IsWellFormed, RegisterFits}
 use Rattle.cg_netlist.proofs.Driven.{driven_in_order}
-use Rattle.cg_net.proofs.PlaceLemmas.{mapped_at, same_net}
+use Rattle.cg_net.proofs.DifferentNames.{same_net}
+use Rattle.cg_net.proofs.TableLemmas.{mapped_at}
 use Rattle.cg_netlist.proofs.RegisterKept.{register_kept}
 use Rattle.cg_netlist.proofs.Given.{clock_given, distinct_cells, distinct_gates, distinct_given, driver_within, from_option}
 use Rattle.cg_netlist.proofs.Given.{given_no_cell, in_option, register_given, gate_given, given_driver, kind_of, Data, Clock, Gate}

@@ -16,7 +16,7 @@ use Rattle.cg_net.specs.Names.{NetName, is_known, name_place}
 use Rattle.cg_parts.specs.Faults.{IsClockProper, IsFaultless, IsGateProper, reaches}
 use Rattle.cg_parts.specs.Part.{Part, clock_of, gaters, nets, roots, wired}
 use Rattle.cg_netlist.specs.Wiring.{Wiring, driven_by_gaters, map_gater, order_of}
-use Rattle.cg_net.proofs.PlaceLemmas.{mapped_at}
+use Rattle.cg_net.proofs.TableLemmas.{mapped_at}
 
 module _ (parts : List Part) (fine : IsFaultless parts) where
   abbrev w : Wiring NetName

@@ -17,7 +17,7 @@ use Rattle.cg_net.specs.Names.{NetName, is_known, name_place}
 use Rattle.cg_parts.specs.Faults.{IsEnding, IsFaultless, ends_within}
 use Rattle.cg_parts.specs.Part.{Part, cells, nets, wired}
 use Rattle.cg_netlist.specs.Wiring.{Wiring, driven_by_cells, map_cell, order_of}
-use Rattle.cg_net.proofs.PlaceLemmas.{mapped_at}
+use Rattle.cg_net.proofs.TableLemmas.{mapped_at}
 
 module _ (parts : List Part) (fine : IsFaultless parts) where
   abbrev w : Wiring NetName

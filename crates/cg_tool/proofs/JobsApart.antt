@@ -20,7 +20,7 @@ use Rattle.cg_words.specs.declared.options.Asked.{Asked}
 use Rattle.cg_words.specs.declared.options.Options.{Options}
 use Rattle.cg_tool.specs.Gated.{AreApart}
 use Rattle.cg_run.proofs.RoleLaws.{and_parts}
-use Rattle.cg_net.proofs.PlaceLemmas.{mapped_at}
+use Rattle.cg_net.proofs.TableLemmas.{mapped_at}
 use Rattle.std.proofs.lemmas.Bool.{or_parts}
 
 -- different names

@@ -1,7 +1,11 @@
 -- Parts whose nets are given other numbers, by a table.
-use Rattle.std.specs.Prelude.{ℕ, ◌<◌}
+use Rattle.std.specs.Prelude.{ℕ, ◌<◌, List, slice_get, unwrap_or}
 use Rattle.std.specs.List.{All}
 use Rattle.cg_netlist.specs.Circuit.{LogicCell, RegisterCell, shown_nets}
+
+-- the number of a net in a table of numbers
+abbrev pub number_in : List ℕ → ℕ → ℕ
+number_in places net = unwrap_or (slice_get places net) 0
 
 -- a table of n numbers has one for each net of a part
 pub record CellAmong (n : ℕ) (cell : LogicCell ℕ) : Type 0 where

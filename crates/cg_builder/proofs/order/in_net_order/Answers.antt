@@ -1,7 +1,7 @@
 use Rattle.std.proofs.Common.{◌≡◌, ◌<◌, ℕ, nat_eq, length, map, slice_get, refl, sym, ◌∙◌, ap, subst, arith}
 use Rattle.std.specs.List.{AllByRecursion, IsDistinct, position_or_len}
 use Rattle.std.specs.Option.{option_to_list}
-use Rattle.cg_net.specs.NamePlaces.{number_in}
+use Rattle.cg_builder.specs.inner.Renumbering.{number_in}
 use Rattle.cg_builder.specs.inner.Numbers.{Numbers, drivers_by, made_of, ordered_numbers, ordered_place, wired_numbers}
 use Rattle.cg_netlist.specs.Wiring.{circuit, map_wiring}
 use Rattle.cg_net.specs.Names.{net_name}
@@ -33,32 +33,25 @@ places-requires-clause-few c =
     let order = c.in_ok-order.ensures ∙ (ap (λ ks. drivers_by nat_eq n.inputs ks n.cells n.gaters n.registers) (c.first_of-clock.ensures ∙ ap (λ xs. option_to_list (slice_get xs 0)) (c.deref.ensures.value ∙ c.in_ok-roots.ensures)) ∙ ordered_is n c.requires.numbers) in
     omega (arith, ap length (c.deref-2.ensures.value ∙ order), c.requires.few)
 
-pub renumbered-requires-clause-tells : goal.renumbered-requires-clause-tells
-renumbered-requires-clause-tells c =
-    let n : Numbers = c.args.told in
-    let order = c.in_ok-order.ensures ∙ (ap (λ ks. drivers_by nat_eq n.inputs ks n.cells n.gaters n.registers) (c.first_of-clock.ensures ∙ ap (λ xs. option_to_list (slice_get xs 0)) (c.deref.ensures.value ∙ c.in_ok-roots.ensures)) ∙ ordered_is n c.requires.numbers) in
-    λ net lt. ap (λ ps. number_in ps net) c.deref-4.ensures.value ∙ (c.in_ok-places.ensures.tells net (omega (arith, lt, c.len.ensures.count, ap (λ d. length d.names) c.told.view_is)) ∙ ap (position_or_len (nat_eq net)) (c.deref-2.ensures.value ∙ sym c.deref-3.ensures.value))
-
 pub renumbered-requires-clause-nets : goal.renumbered-requires-clause-nets
 renumbered-requires-clause-nets c =
     let n : Numbers = c.args.told in
     let order = c.in_ok-order.ensures ∙ (ap (λ ks. drivers_by nat_eq n.inputs ks n.cells n.gaters n.registers) (c.first_of-clock.ensures ∙ ap (λ xs. option_to_list (slice_get xs 0)) (c.deref.ensures.value ∙ c.in_ok-roots.ensures)) ∙ ordered_is n c.requires.numbers) in
-    asked_of n c.requires.numbers (ordered_numbers n) c.deref-3.result.now (length n.names) refl (c.deref-3.ensures.value ∙ order) (ordered_within n c.requires.numbers)
+    asked_of n c.requires.numbers (ordered_numbers n) c.in_ok-order.order.items (length n.names) refl order (ordered_within n c.requires.numbers)
 
-pub renumbered-requires-clause-once : goal.renumbered-requires-clause-once
-renumbered-requires-clause-once c =
+pub renumbered-requires-clause-few : goal.renumbered-requires-clause-few
+renumbered-requires-clause-few c =
     let n : Numbers = c.args.told in
     let order = c.in_ok-order.ensures ∙ (ap (λ ks. drivers_by nat_eq n.inputs ks n.cells n.gaters n.registers) (c.first_of-clock.ensures ∙ ap (λ xs. option_to_list (slice_get xs 0)) (c.deref.ensures.value ∙ c.in_ok-roots.ensures)) ∙ ordered_is n c.requires.numbers) in
-    subst (IsDistinct nat_eq) (sym (c.deref-3.ensures.value ∙ order)) c.requires.once
+    omega (arith, ap length order, c.requires.few)
 
 pub returns : goal.returns
 returns c =
     let n : Numbers = c.args.told in
     let order = c.in_ok-order.ensures ∙ (ap (λ ks. drivers_by nat_eq n.inputs ks n.cells n.gaters n.registers) (c.first_of-clock.ensures ∙ ap (λ xs. option_to_list (slice_get xs 0)) (c.deref.ensures.value ∙ c.in_ok-roots.ensures)) ∙ ordered_is n c.requires.numbers) in
-    let order_is = c.deref-3.ensures.value ∙ order in
-    let names : map (net_name n.names) c.deref-3.result.now ≡ map (net_name n.names) (ordered_numbers n) = ap (map (net_name n.names)) order_is in
-    let num : ℕ → ℕ = number_in c.deref-4.result.now in
-    let tells : (net : ℕ) → net < length n.names → num net ≡ ordered_place n net = λ net lt. ap (λ ps. number_in ps net) c.deref-4.ensures.value ∙ (c.in_ok-places.ensures.tells net (omega (arith, lt, c.len.ensures.count, ap (λ d. length d.names) c.told.view_is)) ∙ ap (position_or_len (nat_eq net)) (c.deref-2.ensures.value ∙ order)) in
+    let names : map (net_name n.names) c.in_ok-order.order.items ≡ map (net_name n.names) (ordered_numbers n) = ap (map (net_name n.names)) order in
+    let num : ℕ → ℕ = number_in c.deref-3.result.now in
+    let tells : (net : ℕ) → net < length n.names → num net ≡ ordered_place n net = λ net lt. ap (λ ps. number_in ps net) c.deref-3.ensures.value ∙ (c.in_ok-places.ensures.tells net (omega (arith, lt, c.len.ensures.count, ap (λ d. length d.names) c.told.view_is)) ∙ ap (position_or_len (nat_eq net)) (c.deref-2.ensures.value ∙ order)) in
     let wired = wiring_agrees num (ordered_place n) (wired_numbers n) (nets_weaker (λ net. net < length n.names) (λ net. num net ≡ ordered_place n net) tells (wired_numbers n) (wired_within n c.requires.numbers c.requires.clocked)) in
-    if_ok (λ parts. parts ≡ circuit c.args.model (map (net_name n.names) c.deref-3.result.now) (map_wiring num (wired_numbers n))) (λ parts. parts ≡ made_of c.args.model n) c.renumbered.result
+    if_ok (λ parts. parts ≡ circuit c.args.model (map (net_name n.names) c.in_ok-order.order.items) (map_wiring num (wired_numbers n))) (λ parts. parts ≡ made_of c.args.model n) c.renumbered.result
     (λ parts is. is ∙ (ap (λ ns. circuit c.args.model ns (map_wiring num (wired_numbers n))) names ∙ ap (circuit c.args.model (map (net_name n.names) (ordered_numbers n))) wired)) c.renumbered.ensures

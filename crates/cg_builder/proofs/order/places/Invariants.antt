@@ -1,5 +1,5 @@
 use Rattle.std.proofs.Common.{◌≡◌, ℕ, ◌<◌, length}
-use Rattle.cg_net.specs.NamePlaces.{number_in}
+use Rattle.cg_builder.specs.inner.Renumbering.{number_in}
 use Rattle.cg_builder.proofs.OrderPlaces.{place_so_far}
 use Rattle.cg_builder.proofs.order.places.Given as goal
 

@@ -1,8 +1,8 @@
-use Rattle.std.proofs.Common.{◌≡◌, ◌<◌, ℕ, length, map, nat_eq, sym, ◌∙◌, ap, subst}
-use Rattle.std.specs.List.{All, IsDistinct, position_or_len}
+use Rattle.std.proofs.Common.{◌≡◌, ◌<◌, ℕ, length, map, sym, ◌∙◌, ap, subst}
+use Rattle.std.specs.List.{All}
 use Rattle.std.specs.Option.{option_map}
 use Rattle.std.proofs.lemmas.List.{length-map, with_items_is}
-use Rattle.cg_net.specs.NamePlaces.{number_in}
+use Rattle.cg_builder.specs.inner.Renumbering.{number_in}
 use Rattle.cg_builder.specs.inner.Numbers.{clock_number, on_number, wired_numbers}
 use Rattle.cg_netlist.specs.Wiring.{map_cell, map_gater, map_register}
 use Rattle.cg_net.specs.Names.{net_name}
@@ -21,18 +21,8 @@ renumber_registers-requires c =
 pub renumbered_given-requires : goal.renumbered_given-requires
 renumbered_given-requires c = clock_asked c.args.told c.requires.ready.numbers c.args.clock (length c.args.places.now) c.requires.places c.requires.clock
 
-pub new-requires : goal.new-requires
-new-requires c =
-    let names_are : c.told.inside.names ≡ c.args.told.names = ap (λ d. d.names) c.told.view_is in
-    let order_is = c.in_ok-order.ensures.items in
-    let places_are = c.in_ok-all_places.ensures.items in
-    record {
-      within = subst (λ ns. All (λ net. net < length ns) c.in_ok-order.order.items) (sym names_are) (subst (All (λ net. net < length c.args.told.names)) (sym order_is) c.requires.nets);
-      once = subst (IsDistinct nat_eq) (sym order_is) c.requires.once;
-      different = c.len.ensures.different;
-      long = ap length places_are ∙ (c.requires.places ∙ ap length (sym names_are));
-      tells = λ net below. ap (λ ps. number_in ps net) places_are ∙ (c.requires.tells net (subst (λ ns. net < length ns) names_are below) ∙ ap (position_or_len (nat_eq net)) (sym order_is));
-    }
+pub new-requires-clause-nets : goal.new-requires-clause-nets
+new-requires-clause-nets c = subst (λ ns. All (λ net. net < length ns) c.args.order.items) (sym (ap (λ d. d.names) c.told.view_is)) c.requires.nets
 
 pub returns : goal.returns
 returns c =
@@ -49,5 +39,5 @@ returns c =
     let cells_put = with_items_is c.told.inside.cells c.renumber_cells.new.cells (ap length c.renumber_cells.ensures ∙ (length-map c.deref_mut-3.result.now (map_cell num) ∙ c.deref_mut-3.ensures.len)) ∙ cells in
     let gaters_put = with_items_is c.told.inside.gaters c.renumber_gaters.new.gaters (ap length c.renumber_gaters.ensures ∙ (length-map c.deref_mut-4.result.now (map_gater num) ∙ c.deref_mut-4.ensures.len)) ∙ gaters in
     let registers_put = with_items_is c.in_ok-registers.registers c.renumber_registers.new.registers (ap length c.renumber_registers.ensures ∙ (length-map c.deref_mut-5.result.now (map_register num) ∙ c.deref_mut-5.ensures.len)) ∙ registers in
-    let names_put = c.new.ensures ∙ (ap (λ l. map (net_name c.told.inside.names) l) c.in_ok-order.ensures.items ∙ ap (λ d. map (net_name d.names) c.args.order.now) c.told.view_is) in
+    let names_put = c.in_ok-names.ensures ∙ ap (λ d. map (net_name d.names) c.args.order.items) c.told.view_is in
     λ i. record { model = c.args.model; names = names_put i; inputs = inputs_put i; clock = clock i; outputs = outputs_put i; cells = cells_put i; gaters = gaters_put i; registers = registers_put i }

@@ -1,7 +1,7 @@
 use Rattle.std.proofs.Common.{◌≡◌, Some, get_or, ◌∙◌, ap, arith}
 use Rattle.std.specs.List.{slice_get, slice_set}
 use Rattle.std.proofs.lemmas.Option.{slice_get-get_or}
-use Rattle.cg_net.specs.NamePlaces.{number_in}
+use Rattle.cg_builder.specs.inner.Renumbering.{number_in}
 use Rattle.cg_builder.proofs.InPlace.{change_next}
 use Rattle.cg_builder.proofs.renumber.renumber.Goals as goal
 

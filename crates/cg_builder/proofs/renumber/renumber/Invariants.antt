@@ -1,5 +1,5 @@
 use Rattle.std.proofs.Common.{◌≡◌}
-use Rattle.cg_net.specs.NamePlaces.{number_in}
+use Rattle.cg_builder.specs.inner.Renumbering.{number_in}
 use Rattle.cg_builder.proofs.InPlace.{changed_before}
 use Rattle.cg_builder.proofs.renumber.renumber.Given as goal
 

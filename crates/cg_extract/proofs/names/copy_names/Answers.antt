@@ -1,23 +1,26 @@
-use Rattle.std.proofs.Common.{◌≡◌, ℕ, List, map, length, ap, sym, ◌∙◌, subst}
-use Rattle.std.specs.List.{range_with_len}
-use Rattle.cg_net.specs.NamePlaces.{AreOrdered}
+use Rattle.std.proofs.Common.{◌≡◌, ℕ, ◌<◌, List, map, length, ap, sym, ◌∙◌, subst, arith}
+use Rattle.std.specs.List.{All, range_with_len}
+use Rattle.std.proofs.lemmas.List.FromFn.{length-range_with_len}
 use Rattle.cg_net.specs.Names.{net_name}
-use Rattle.cg_extract.proofs.Copied.{names_in_order, ordered_by_number}
+use Rattle.cg_netlist.proofs.ByRank.{if_ok}
+use Rattle.cg_extract.proofs.Copied.{names_in_order, range_below}
 use Rattle.cg_extract.proofs.names.copy_names.Goals as goal
 
-pub new-requires : goal.new-requires
-new-requires c =
+pub new-requires-clause-nets : goal.new-requires-clause-nets
+new-requires-clause-nets c =
     let names : List (List ℕ) = c.args.netlist.now.names in
-    let all : List ℕ = range_with_len 0 (length names) in
-    let order : c.in_ok-order.order.items ≡ all = c.in_ok-order.ensures ∙ ap (range_with_len 0) c.nets.ensures.count in
-    let places : c.in_ok-places.places.items ≡ all = c.in_ok-places.ensures ∙ ap (range_with_len 0) c.nets-2.ensures.count in
-    subst (λ (ns : List (List ℕ)). AreOrdered ns c.in_ok-order.order.items c.in_ok-places.places.items) (sym c.in_ok-names.ensures)
-    (subst (λ (ks : List ℕ). AreOrdered names ks c.in_ok-places.places.items) (sym order)
-    (subst (λ (ks : List ℕ). AreOrdered names all ks) (sym places) (ordered_by_number names c.nets.ensures.netlist.well_formed.different)))
+    let order : c.in_ok-order.order.items ≡ range_with_len 0 (length names) = c.in_ok-order.ensures ∙ ap (range_with_len 0) c.nets.ensures.count in
+    subst (λ (ns : List (List ℕ)). All (λ net. net < length ns) c.in_ok-order.order.items) (sym c.in_ok-names.ensures)
+    (subst (All (λ net. net < length names)) (sym order) (range_below (length names)))
+
+pub new-requires-clause-few : goal.new-requires-clause-few
+new-requires-clause-few c = omega (arith, ap length c.in_ok-order.ensures, length-range_with_len 0 c.nets.result, c.nets.type_inv)
 
 pub returns : goal.returns
 returns c =
     let names : List (List ℕ) = c.args.netlist.now.names in
-    c.new.ensures
-    ∙ (ap (λ (ns : List (List ℕ)). map (net_name ns) c.in_ok-order.order.items) c.in_ok-names.ensures
-    ∙ (ap (map (net_name names)) (c.in_ok-order.ensures ∙ ap (range_with_len 0) c.nets.ensures.count) ∙ names_in_order names c.nets.ensures.netlist.well_formed.different))
+    let different = c.nets.ensures.netlist.well_formed.different in
+    let in_order : map (net_name c.in_ok-names.names) c.in_ok-order.order.items ≡ names =
+    ap (λ (ns : List (List ℕ)). map (net_name ns) c.in_ok-order.order.items) c.in_ok-names.ensures
+    ∙ (ap (map (net_name names)) (c.in_ok-order.ensures ∙ ap (range_with_len 0) c.nets.ensures.count) ∙ names_in_order names different) in
+    if_ok (λ ordered. ordered ≡ map (net_name c.in_ok-names.names) c.in_ok-order.order.items) (λ ordered. ordered ≡ names) c.new.result (λ ordered is. is ∙ in_order) c.new.ensures

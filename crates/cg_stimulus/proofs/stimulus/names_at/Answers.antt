@@ -1,7 +1,7 @@
 use Rattle.std.proofs.Common.{◌≡◌, Some, refl}
 use Rattle.std.specs.List.{slice_get}
 use Rattle.std.proofs.lemmas.Option.{slice_get_read}
-use Rattle.cg_net.proofs.PlaceLemmas.{named_more}
+use Rattle.cg_stimulus.proofs.NamesAdded.{named_more}
 use Rattle.cg_stimulus.proofs.stimulus.names_at.Goals as goal
 
 pub loop-net-preserved : goal.loop-net-preserved

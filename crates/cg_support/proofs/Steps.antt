@@ -1,11 +1,11 @@
 -- A step of the walk, told by what drives the net that is looked at.
 use Rattle.std.proofs.Common.{◌≡◌, ℕ, suc, ◌+◌, ◌<◌, Bool, ◌||◌, List, [], ◌∷◌, length, take, slice_get}
-use Rattle.std.proofs.Common.{Some, sym, ◌∙◌, ap, subst, arith}
+use Rattle.std.proofs.Common.{Some, true, sym, ◌∙◌, ap, subst, arith}
 use Rattle.std.specs.List.{list_any}
 use Rattle.std.proofs.lemmas.List.Folds.{list_any-append}
 use Rattle.std.proofs.lemmas.Option.{same_Some}
 use Rattle.std.proofs.Math.Bool.{or-false}
-use Rattle.cg_netlist.specs.Circuit.{LogicCell, data_inputs, used_nets}
+use Rattle.cg_netlist.specs.Circuit.{Circuit, LogicCell, data_inputs, used_nets}
 use Rattle.cg_net.specs.NetSets.{is_in, with_nets}
 use Rattle.cg_netlist.specs.Drivers.{IsDriver}
 use Rattle.cg_netlist.specs.Netlist.{IsNetlist}

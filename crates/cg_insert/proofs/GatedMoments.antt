@@ -234,7 +234,7 @@ module _ (library : List CellData) (test : Option (List ℕ)) (m : MachineData) 
       clock = clock_shown;
       gates = λ j e l at is.
           let gate = first_gate m test + j in
-          let place : slice_get (gate_nets c) j ≡ Some gate = ap (λ xs. slice_get xs j) (gates_are library test m good can) ∙ Rattle.cg_insert.proofs.GatedParts.range_at (length (enables_of m)) (first_gate m test) j (slice_get_within (enables_of m) j e at) in
+          let place : slice_get (gate_nets c) j ≡ Some gate = ap (λ xs. slice_get xs j) (gates_are library test m good can) ∙ Rattle.cg_machine.proofs.WalkPlaces.range_at (length (enables_of m)) (first_gate m test) j (slice_get_within (enables_of m) j e at) in
           let within : All (λ x. x < length now.nets) (gate_nets c) = subst (λ xs. All (λ x. x < length now.nets) xs) (sym (gates_are library test m good can)) (All-from_members (λ x. x < length now.nets) (gate_outputs test m) (λ x among. let found = in_range (length (enables_of m)) (first_gate m test) x among in omega (arith, wide, found.1))) in
           let shown : slice_get now.nets gate ≡ Some (l && bit now.nets (Rattle.std.specs.Prelude.unwrap_or m.circuit.clock 0)) =
           sym (value_at now.nets (gate_nets c) j gate within place) ∙ (ap (λ bits. slice_get bits j) moves.nets.shows_gates ∙ zip_with_at (gate_bit now.nets) c.gaters now.latches j (gating_cell library test m e gate) l (gater_at library test m good can j e at) is) in

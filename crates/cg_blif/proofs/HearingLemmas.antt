@@ -4,9 +4,9 @@ use Rattle.std.proofs.Common.{sym, ap, ◌∙◌, add-one, drop-cons, inl, inr}
 use Rattle.cg_limit.specs.declared.Limit.{Limit}
 use Rattle.cg_netlist.specs.declared.fault.AddFault.{AddFault}
 use Rattle.cg_netlist.specs.declared.fault.AddFault.TheVariants as adds
-use Rattle.cg_builder.specs.Building.{Building, IsAnswer, Takes}
-use Rattle.cg_parts.specs.Part.{Part}
-use Rattle.cg_parts.specs.Said.{Said, limit_of, with_part}
+use Rattle.cg_netlist_builder.specs.Building.{Building, IsAnswer, Takes}
+use Rattle.cg_netlist_parts.specs.Part.{Part}
+use Rattle.cg_netlist_parts.specs.Said.{Said, limit_of, with_part}
 use Rattle.cg_blif_text.specs.declared.fault.LineFault.{LineFault}
 use Rattle.cg_blif_text.specs.declared.fault.LineFault.TheVariants.{Limit as Passed}
 use Rattle.cg_blif_text.specs.Telling.{unless, with_parts}

@@ -4,16 +4,16 @@ use Rattle.std.specs.Prelude.{IfErr, IfOk, MatchResult}
 use Rattle.std.specs.List.{AllByRecursion}
 use Rattle.cg_cell.specs.Cell.{CellData, IsCell}
 use Rattle.cg_netlist.specs.Circuit.{Circuit}
-use Rattle.cg_parts.specs.declared.fault.NetFault.{NetFault}
-use Rattle.cg_parts.specs.declared.fault.NetFault.TheVariants as nets
-use Rattle.cg_builder.specs.Building.{Building, Finishes}
-use Rattle.cg_parts.specs.Part.{Part}
-use Rattle.cg_parts.specs.Said.{said}
-use Rattle.cg_parts.specs.Says.{Says}
+use Rattle.cg_netlist_parts.specs.declared.fault.NetFault.{NetFault}
+use Rattle.cg_netlist_parts.specs.declared.fault.NetFault.TheVariants as nets
+use Rattle.cg_netlist_builder.specs.Building.{Building, Finishes}
+use Rattle.cg_netlist_parts.specs.Part.{Part}
+use Rattle.cg_netlist_parts.specs.Said.{said}
+use Rattle.cg_netlist_parts.specs.Says.{Says}
 use Rattle.cg_net.specs.Names.{NetName}
-use Rattle.cg_parts.specs.Writable.{IsWritable}
-use Rattle.cg_parts.proofs.NoneBeside.{faultless}
-use Rattle.cg_parts.proofs.OneFault.{no_fault}
+use Rattle.cg_netlist_parts.specs.Writable.{IsWritable}
+use Rattle.cg_netlist_parts.proofs.NoneBeside.{faultless}
+use Rattle.cg_netlist_parts.proofs.OneFault.{no_fault}
 use Rattle.cg_blif_text.specs.declared.fault.BlifFault.{BlifFault}
 use Rattle.cg_blif_text.specs.declared.fault.BlifFault.TheVariants as faults
 use Rattle.cg_blif_text.specs.BlifText.{BlifText, IsFirstBlifFault, told_by}

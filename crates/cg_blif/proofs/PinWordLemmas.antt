@@ -10,7 +10,7 @@ use Rattle.std.proofs.lemmas.List.{map-append, take-append-drop, take_more}
 use Rattle.std.proofs.lemmas.List.Folds.{list_all-append, list_all_at, list_any-append}
 use Rattle.cg_cell.specs.Name.{are_distinct}
 use Rattle.cg_cell.specs.Pins.{PinData}
-use Rattle.cg_parts.proofs.KnownNames.{itself, same_word}
+use Rattle.cg_netlist_parts.proofs.KnownNames.{itself, same_word}
 use Rattle.cg_blif_text.specs.PinWords.{PinNet}
 use Rattle.cg_blif_text.specs.Placing.{are_for_pins, at_role, given, is_for_pin, nets_at, put_net, show, shown_at}
 use Rattle.cg_blif.specs.Roles.{is_given}

@@ -13,18 +13,18 @@ use Rattle.cg_cell.specs.Library.{find_cell}
 use Rattle.cg_cell.specs.Pins.{is_clock, is_data, is_enable, is_output, is_test}
 use Rattle.cg_cell.specs.declared.cell.CellKind.{CellKind}
 use Rattle.cg_cell.specs.declared.cell.CellKind.TheVariants.{Logic as LogicKind, Flop as FlopKind, Gater as GaterKind, Unusable}
-use Rattle.cg_builder.specs.Calls.{cell_of, gater_of, register_of, shows_inverse}
+use Rattle.cg_netlist_builder.specs.Calls.{cell_of, gater_of, register_of, shows_inverse}
 use Rattle.cg_netlist.specs.Circuit.{RegisterCell}
 use Rattle.cg_netlist.specs.WellFormed.{RegisterFits}
 use Rattle.cg_netlist.specs.declared.parts.LogicFunction.TheVariants.{Cell}
 use Rattle.cg_netlist.specs.declared.parts.RegisterKind.TheVariants.{Flop}
 use Rattle.cg_netlist.specs.declared.fault.AddFault.{AddFault}
-use Rattle.cg_builder.specs.Building.{Building, Takes}
-use Rattle.cg_parts.specs.Part.{Part, Logic, Gate, Register, mentioned}
-use Rattle.cg_parts.specs.Says.{IsPart}
-use Rattle.cg_parts.specs.Writable.{cell_named}
+use Rattle.cg_netlist_builder.specs.Building.{Building, Takes}
+use Rattle.cg_netlist_parts.specs.Part.{Part, Logic, Gate, Register, mentioned}
+use Rattle.cg_netlist_parts.specs.Says.{IsPart}
+use Rattle.cg_netlist_parts.specs.Writable.{cell_named}
 use Rattle.cg_netlist.proofs.Each.{each_back, each_front}
-use Rattle.cg_parts.proofs.KnownNames.{itself}
+use Rattle.cg_netlist_parts.proofs.KnownNames.{itself}
 use Rattle.cg_blif_text.specs.declared.fault.LineFault.{LineFault}
 use Rattle.cg_blif_text.specs.declared.fault.LineFault.TheVariants.{PinFault}
 use Rattle.cg_blif_text.specs.PinWords.{PinNet}

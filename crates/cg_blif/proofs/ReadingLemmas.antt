@@ -6,9 +6,9 @@ use Rattle.std.proofs.lemmas.Bool.{both_ways}
 use Rattle.cg_cell.specs.Cell.{CellData}
 use Rattle.cg_cell.specs.Name.{is_name}
 use Rattle.cg_text.specs.declared.lines.Line.{Line}
-use Rattle.cg_builder.specs.Building.{Building}
-use Rattle.cg_parts.specs.Part.{Clock}
-use Rattle.cg_parts.specs.Said.{Said, nothing_said}
+use Rattle.cg_netlist_builder.specs.Building.{Building}
+use Rattle.cg_netlist_parts.specs.Part.{Clock}
+use Rattle.cg_netlist_parts.specs.Said.{Said, nothing_said}
 use Rattle.cg_blif_text.specs.declared.fault.BlifFault.{BlifFault}
 use Rattle.cg_blif_text.specs.declared.fault.BlifFault.TheVariants as faults
 use Rattle.cg_blif_text.specs.declared.fault.LineFault.{LineFault}

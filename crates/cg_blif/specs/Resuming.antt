@@ -7,12 +7,12 @@ use Rattle.cg_cell.specs.Name.{is_name}
 use Rattle.cg_limit.specs.declared.TheConstants.{MOST_COVER_INPUTS}
 use Rattle.cg_text.specs.declared.lines.Line.{Line}
 use Rattle.cg_netlist.specs.Circuit.{Circuit}
-use Rattle.cg_parts.specs.declared.fault.NetFault.{NetFault}
-use Rattle.cg_parts.specs.declared.fault.NetFault.TheVariants as nets
-use Rattle.cg_builder.specs.Building.{Building, Finishes}
-use Rattle.cg_parts.specs.Part.{Part}
-use Rattle.cg_parts.specs.Faults.{IsFault}
-use Rattle.cg_parts.specs.Said.{nothing_said, said}
+use Rattle.cg_netlist_parts.specs.declared.fault.NetFault.{NetFault}
+use Rattle.cg_netlist_parts.specs.declared.fault.NetFault.TheVariants as nets
+use Rattle.cg_netlist_builder.specs.Building.{Building, Finishes}
+use Rattle.cg_netlist_parts.specs.Part.{Part}
+use Rattle.cg_netlist_parts.specs.Faults.{IsFault}
+use Rattle.cg_netlist_parts.specs.Said.{nothing_said, said}
 use Rattle.cg_blif_text.specs.declared.fault.BlifFault.{BlifFault}
 use Rattle.cg_blif_text.specs.declared.fault.BlifFault.TheVariants.{Net, NoMemory}
 use Rattle.cg_blif_text.specs.declared.fault.LineFault.{LineFault}

@@ -6,14 +6,14 @@ ghost use Rattle.cg_cell.specs.Cover.{CoverFits};
 ghost use Rattle.cg_cell.specs.Name.{is_name};
 ghost use Rattle.cg_limit.specs.declared.TheConstants.{MOST_COVER_INPUTS};
 ghost use Rattle.cg_netlist.specs.declared.parts.LogicFunction.TheVariants.{Cover as CoverFunction};
-ghost use Rattle.cg_parts.specs.Part.{Clock, Input, Logic, Output, Register};
+ghost use Rattle.cg_netlist_parts.specs.Part.{Clock, Input, Logic, Output, Register};
 ghost use Rattle.cg_blif_text.specs.Telling.{latch_register, with_parts};
 ghost use Rattle.cg_blif.specs.Hearing.{Hears};
 
 use crate::fault::{Refusal, heard};
 use cg_blif_text::word::Word;
-use cg_builder::builder::Builder;
 use cg_cell::cover::Cover;
+use cg_netlist_builder::builder::Builder;
 use std::alloc::AllocError;
 
 /// Makes nets inputs.

@@ -3,7 +3,7 @@
 ghost use Rattle.std.specs.Prelude.{◌≡◌, None, true};
 ghost use Rattle.cg_cell.specs.Cell.{IsCell};
 ghost use Rattle.cg_cell.specs.declared.cell.CellKind.TheVariants.{Flop as FlopKind, Gater as GaterKind, Logic as LogicKind};
-ghost use Rattle.cg_parts.specs.Writable.{cell_named};
+ghost use Rattle.cg_netlist_parts.specs.Writable.{cell_named};
 ghost use Rattle.cg_blif_text.specs.Placing.{are_for_pins, at_role, nets_at, part_or, placed_as, placed_by, placed_part};
 ghost use Rattle.cg_blif_text.specs.Telling.{with_said};
 ghost use Rattle.cg_blif.specs.Hearing.{Hears};
@@ -14,9 +14,9 @@ use crate::pins::{are_for_pins, nets_of, outputs_of};
 use cg_blif_text::fault::LineFault;
 use cg_blif_text::statement::PinWord;
 use cg_blif_text::word::Word;
-use cg_builder::builder::Builder;
 use cg_cell::cell::{CellKind, CellType, Role};
 use cg_cell::library::Library;
+use cg_netlist_builder::builder::Builder;
 use std::alloc::Global;
 
 /// Adds the cell of a `.gate` line.

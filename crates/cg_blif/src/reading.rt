@@ -3,7 +3,7 @@
 ghost use Rattle.std.specs.Prelude.{◌≡◌, None, Ok, false, true};
 ghost use Rattle.std.specs.List.{list_all};
 ghost use Rattle.cg_cell.specs.Name.{is_name};
-ghost use Rattle.cg_parts.specs.Said.{nothing_said};
+ghost use Rattle.cg_netlist_parts.specs.Said.{nothing_said};
 ghost use Rattle.cg_blif_text.specs.Commands.{are_row};
 ghost use Rattle.cg_blif_text.specs.Telling.{next_place};
 ghost use Rattle.cg_blif.specs.Hearing.{Hears};
@@ -20,8 +20,8 @@ use cg_blif_text::fault::LineFault;
 use cg_blif_text::place::Place;
 use cg_blif_text::statement::Statement;
 use cg_blif_text::word::Word;
-use cg_builder::builder::Builder;
 use cg_cell::library::Library;
+use cg_netlist_builder::builder::Builder;
 use std::alloc::Global;
 
 /// What was read of a text so far: where the next line stands, the parts of all lines but an open cover, and the cover

@@ -10,7 +10,7 @@ use Rattle.std.specs.declared.alloc.AllocError.{AllocError}
 use Rattle.std.specs.declared.vec.Vec.{Vec}
 use Rattle.cg_cell.specs.Cell.{CellData}
 use Rattle.cg_text.specs.Written.{line_text, text_of}
-use Rattle.cg_parts.specs.Writable.{IsWritable}
+use Rattle.cg_netlist_parts.specs.Writable.{IsWritable}
 use Rattle.cg_blif_text.specs.BlifText.{BlifText}
 use Rattle.cg_blif_text.proofs.CanonicalText.{says_itself}
 use Rattle.cg_netlist.specs.declared.parts.LogicFunction.{LogicFunction}

@@ -14,8 +14,8 @@ use Rattle.cg_netlist.specs.WellFormed.{RegisterFits}
 use Rattle.cg_netlist.specs.Wiring.{map_register, wiring}
 use Rattle.cg_net.specs.Names.{net_name}
 use Rattle.cg_netlist.proofs.Each.{by_recursion}
-use Rattle.cg_parts.proofs.Kept as kept
-use Rattle.cg_parts.proofs.ToldByNames.{wiring_within}
+use Rattle.cg_netlist_parts.proofs.Kept as kept
+use Rattle.cg_netlist_parts.proofs.ToldByNames.{wiring_within}
 use Rattle.cg_blif_text.specs.Canonical.{function_statement, kind_statement, register_statement, statement_line}
 use Rattle.cg_blif_out.specs.Writing.{HasDigit, register_text}
 use Rattle.cg_blif_text.specs.declared.statement.Statement.{Statement}

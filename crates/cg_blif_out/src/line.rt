@@ -2,7 +2,7 @@
 
 ghost use Rattle.std.specs.Prelude.{◌≡◌, ◌++◌, ◌∷◌, ◌≤◌, [], OnOk, Option, unwrap_or};
 ghost use Rattle.cg_text.specs.Written.{line_text};
-ghost use Rattle.cg_parts.specs.Writable.{NIL};
+ghost use Rattle.cg_netlist_parts.specs.Writable.{NIL};
 ghost use Rattle.cg_blif_text.specs.Canonical.{pin_text, statement_line};
 ghost use Rattle.cg_blif_text.specs.declared.statement.Statement.TheVariants.{Names, Latch, Gate};
 ghost use Rattle.cg_blif_out.specs.Writing.{HasDigit, pins_text, spaced};

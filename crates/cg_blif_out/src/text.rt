@@ -4,7 +4,7 @@ ghost use Rattle.std.specs.Prelude.{◌≡◌, ◌++◌, List, None, IfOk, OnOk}
 ghost use Rattle.std.specs.List.{flat_map};
 ghost use Rattle.cg_netlist.specs.Netlist.{IsNetlist};
 ghost use Rattle.cg_cell.specs.Cell.{CellData};
-ghost use Rattle.cg_parts.specs.Writable.{IsWritable};
+ghost use Rattle.cg_netlist_parts.specs.Writable.{IsWritable};
 ghost use Rattle.cg_blif_text.specs.BlifText.{BlifText};
 ghost use Rattle.cg_blif_text.specs.Canonical.{blif};
 ghost use Rattle.cg_blif_out.specs.Writing.{cell_text, clock_text, gater_text, header_text, register_text};

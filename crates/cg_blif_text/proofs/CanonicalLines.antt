@@ -11,8 +11,8 @@ use Rattle.cg_cell.specs.Name.{is_name}
 use Rattle.cg_text.specs.declared.lines.Line.{Line}
 use Rattle.cg_text.specs.Written.{numbered}
 use Rattle.cg_netlist.specs.declared.parts.LogicFunction.TheVariants.{Cover}
-use Rattle.cg_parts.specs.Part.{Part, Input, Output, Clock, Logic, Register}
-use Rattle.cg_parts.specs.Writable.{cell_named}
+use Rattle.cg_netlist_parts.specs.Part.{Part, Input, Output, Clock, Logic, Register}
+use Rattle.cg_netlist_parts.specs.Writable.{cell_named}
 use Rattle.cg_netlist.proofs.Each.{each_together}
 use Rattle.cg_blif_text.specs.declared.fault.LineFault.TheVariants.{BadLine}
 use Rattle.cg_blif_text.specs.declared.statement.Statement.{Statement}

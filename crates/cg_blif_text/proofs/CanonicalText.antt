@@ -14,14 +14,14 @@ use Rattle.cg_netlist.specs.declared.parts.RegisterKind.{RegisterKind}
 use Rattle.cg_netlist.specs.declared.parts.RegisterKind.TheVariants.{Plain, Flop}
 use Rattle.cg_netlist.specs.Circuit.{Circuit, LogicCell, GatingCell, RegisterCell}
 use Rattle.cg_netlist.specs.WellFormed.{FitsKind}
-use Rattle.cg_parts.specs.Part.{Part, Input, Output, Clock, Logic, Gate, Register}
-use Rattle.cg_parts.specs.Said.{nothing_said, said}
-use Rattle.cg_parts.specs.Says.{AreTaken, CellFits, IsPart, register_part}
+use Rattle.cg_netlist_parts.specs.Part.{Part, Input, Output, Clock, Logic, Gate, Register}
+use Rattle.cg_netlist_parts.specs.Said.{nothing_said, said}
+use Rattle.cg_netlist_parts.specs.Says.{AreTaken, CellFits, IsPart, register_part}
 use Rattle.cg_netlist.specs.Wiring.{Wiring, named}
-use Rattle.cg_parts.specs.Writable.{FunctionIsOf, IsLine, KindIsOf, IsWritable, NIL, is_on_nil, is_plain, line_parts}
+use Rattle.cg_netlist_parts.specs.Writable.{FunctionIsOf, IsLine, KindIsOf, IsWritable, NIL, is_on_nil, is_plain, line_parts}
 use Rattle.cg_netlist.proofs.Each.{each_back, each_front}
-use Rattle.cg_parts.proofs.KnownNames.{same_word}
-use Rattle.cg_parts.proofs.WritableIsSaid.{line_parts_are, line_parts_say, line_parts_taken}
+use Rattle.cg_netlist_parts.proofs.KnownNames.{same_word}
+use Rattle.cg_netlist_parts.proofs.WritableIsSaid.{line_parts_are, line_parts_say, line_parts_taken}
 use Rattle.cg_blif_text.specs.declared.fault.BlifFault.{BlifFault}
 use Rattle.cg_blif_text.specs.declared.fault.LineFault.TheVariants.{BadLine}
 use Rattle.cg_blif_text.specs.declared.place.Place.TheVariants.{Named, Ended, First}

@@ -12,8 +12,8 @@ use Rattle.cg_limit.specs.declared.TheConstants.{MOST_COVER_INPUTS}
 use Rattle.cg_cell.specs.Cell.{CellData}
 use Rattle.cg_cell.specs.Name.{is_name}
 use Rattle.cg_text.specs.declared.lines.Line.{Line}
-use Rattle.cg_parts.specs.Part.{Part}
-use Rattle.cg_parts.specs.Said.{Said, limit_of, with_part}
+use Rattle.cg_netlist_parts.specs.Part.{Part}
+use Rattle.cg_netlist_parts.specs.Said.{Said, limit_of, with_part}
 use Rattle.cg_blif_text.specs.declared.command.Command.{Command}
 use Rattle.cg_blif_text.specs.declared.command.Command.TheVariants as commands
 use Rattle.cg_blif_text.specs.declared.fault.BlifFault.{BlifFault}

@@ -10,10 +10,10 @@ use Rattle.cg_limit.specs.declared.TheConstants.{MOST_COVER_INPUTS}
 use Rattle.cg_cell.specs.Cell.{CellData}
 use Rattle.cg_cell.specs.declared.cell.CellKind.{CellKind}
 use Rattle.cg_cell.specs.declared.cell.CellKind.TheVariants.{Logic as LogicKind, Flop as FlopKind, Gater as GaterKind, Unusable}
-use Rattle.cg_parts.specs.Part.{Part, Input, Output, Clock, mentioned}
+use Rattle.cg_netlist_parts.specs.Part.{Part, Input, Output, Clock, mentioned}
 use Rattle.cg_net.specs.Names.{NetName, with_names}
-use Rattle.cg_parts.specs.Said.{Said, limit_of, with_part}
-use Rattle.cg_parts.specs.Writable.{cell_named}
+use Rattle.cg_netlist_parts.specs.Said.{Said, limit_of, with_part}
+use Rattle.cg_netlist_parts.specs.Writable.{cell_named}
 use Rattle.cg_blif_text.specs.declared.command.Command.{Command}
 use Rattle.cg_blif_text.specs.declared.command.Command.TheVariants as commands
 use Rattle.cg_blif_text.specs.declared.fault.LineFault.{LineFault}

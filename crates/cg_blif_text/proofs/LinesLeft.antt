@@ -9,8 +9,8 @@ use Rattle.cg_cell.specs.Name.{is_name}
 use Rattle.cg_limit.specs.declared.Limit.{Limit}
 use Rattle.cg_text.specs.declared.lines.Line.{Line}
 use Rattle.cg_netlist.specs.declared.parts.LogicFunction.TheVariants.{Cover}
-use Rattle.cg_parts.specs.Part.{Part, Logic}
-use Rattle.cg_parts.specs.Said.{Said, limit_of, with_part}
+use Rattle.cg_netlist_parts.specs.Part.{Part, Logic}
+use Rattle.cg_netlist_parts.specs.Said.{Said, limit_of, with_part}
 use Rattle.cg_blif_text.specs.declared.fault.BlifFault.{BlifFault}
 use Rattle.cg_blif_text.specs.declared.fault.BlifFault.TheVariants as faults
 use Rattle.cg_blif_text.specs.declared.fault.LineFault.{LineFault}

@@ -9,8 +9,8 @@ use Rattle.std.proofs.lemmas.Bool.{and_parts, both_ways, leb-true, lt-ltb}
 use Rattle.std.proofs.lemmas.Option.{same_Some}
 use Rattle.std.proofs.Math.Dec.{eqb-suc-zero}
 use Rattle.cg_cell.specs.Name.{is_name}
-use Rattle.cg_parts.specs.Writable.{NIL}
-use Rattle.cg_parts.proofs.KnownNames.{itself}
+use Rattle.cg_netlist_parts.specs.Writable.{NIL}
+use Rattle.cg_netlist_parts.proofs.KnownNames.{itself}
 use Rattle.cg_blif_text.specs.declared.command.Command.{Command}
 use Rattle.cg_blif_text.specs.declared.command.Command.TheVariants as commands
 use Rattle.cg_blif_text.specs.declared.fault.LineFault.{LineFault}

@@ -16,10 +16,10 @@ use Rattle.cg_cell.specs.declared.cell.Role.{Role}
 use Rattle.cg_cell.specs.declared.cell.Role.TheVariants.{Clock, Enable, Test, Output}
 use Rattle.cg_net.specs.Names.{is_known}
 use Rattle.cg_netlist.specs.Circuit.{GatingCell}
-use Rattle.cg_parts.specs.Part.{Gate}
-use Rattle.cg_parts.specs.Says.{GaterFits}
-use Rattle.cg_parts.specs.Writable.{cell_named}
-use Rattle.cg_parts.proofs.KnownNames.{itself, same_word}
+use Rattle.cg_netlist_parts.specs.Part.{Gate}
+use Rattle.cg_netlist_parts.specs.Says.{GaterFits}
+use Rattle.cg_netlist_parts.specs.Writable.{cell_named}
+use Rattle.cg_netlist_parts.proofs.KnownNames.{itself, same_word}
 use Rattle.cg_blif_text.specs.declared.fault.LineFault.TheVariants.{PinFault}
 use Rattle.cg_blif_text.specs.Canonical.{gater_net}
 use Rattle.cg_blif_text.specs.PinWords.{PinNet}

@@ -20,9 +20,9 @@ use Rattle.cg_cell.specs.declared.cell.Role.TheVariants.{State, StateBar}
 use Rattle.cg_netlist.specs.WellFormed.{ShowsAsPin}
 use Rattle.cg_netlist.specs.declared.parts.LogicFunction.TheVariants.{Cell}
 use Rattle.cg_netlist.specs.declared.parts.RegisterKind.TheVariants.{Flop}
-use Rattle.cg_parts.specs.Part.{Part, Logic, Gate, Register}
-use Rattle.cg_parts.specs.Says.{IsPart}
-use Rattle.cg_parts.specs.Writable.{IsLine, cell_named}
+use Rattle.cg_netlist_parts.specs.Part.{Part, Logic, Gate, Register}
+use Rattle.cg_netlist_parts.specs.Says.{IsPart}
+use Rattle.cg_netlist_parts.specs.Writable.{IsLine, cell_named}
 use Rattle.cg_netlist.proofs.Each.{each_together}
 use Rattle.cg_blif_text.specs.declared.fault.LineFault.{LineFault}
 use Rattle.cg_blif_text.specs.declared.fault.LineFault.TheVariants.{PinFault}

@@ -21,8 +21,8 @@ use Rattle.cg_cell.specs.declared.cell.CellKind.TheVariants.{Flop as FlopKind}
 use Rattle.cg_cell.specs.declared.cell.Role.TheVariants.{State, StateBar, Clock as ClockRole}
 use Rattle.cg_netlist.specs.Circuit.{RegisterCell, shown_nets}
 use Rattle.cg_netlist.specs.WellFormed.{FitsKind, ShowsAsPin}
-use Rattle.cg_parts.specs.Part.{Register, mentioned}
-use Rattle.cg_parts.specs.Writable.{KindIsOf, cell_named}
+use Rattle.cg_netlist_parts.specs.Part.{Register, mentioned}
+use Rattle.cg_netlist_parts.specs.Writable.{KindIsOf, cell_named}
 use Rattle.cg_netlist.proofs.Each.{each_back, each_front}
 use Rattle.cg_blif_text.specs.declared.fault.LineFault.TheVariants.{PinFault}
 use Rattle.cg_blif_text.specs.Canonical.{flop_nets, left_here, net_here, with_places}

@@ -14,8 +14,8 @@ use Rattle.cg_cell.specs.declared.cell.Role.TheVariants.{Output}
 use Rattle.cg_netlist.specs.WellFormed.{IsOver}
 use Rattle.cg_netlist.specs.declared.parts.LogicFunction.TheVariants.{Cell}
 use Rattle.cg_netlist.specs.Circuit.{GatingCell}
-use Rattle.cg_parts.specs.Part.{Logic, Gate, mentioned}
-use Rattle.cg_parts.specs.Writable.{cell_named}
+use Rattle.cg_netlist_parts.specs.Part.{Logic, Gate, mentioned}
+use Rattle.cg_netlist_parts.specs.Writable.{cell_named}
 use Rattle.cg_blif_text.specs.declared.fault.LineFault.TheVariants.{PinFault}
 use Rattle.cg_blif_text.specs.Canonical.{logic_nets}
 use Rattle.cg_blif_text.specs.Placing.{at_role, logic_part, nets_at, part_or, placed_as, placed_by, placed_part, put_net}

@@ -13,16 +13,16 @@ use Rattle.cg_cell.specs.declared.cell.CellKind.{CellKind}
 use Rattle.cg_cell.specs.declared.cell.CellKind.TheVariants.{Logic, Flop, Gater, Unusable}
 use Rattle.cg_limit.specs.declared.Limit.TheVariants.{Nets, Registers}
 use Rattle.cg_netlist.specs.Circuit.{Circuit}
-use Rattle.cg_parts.specs.declared.fault.NetFault.{NetFault}
-use Rattle.cg_parts.specs.Faults.{IsFault, IsFaultless}
-use Rattle.cg_parts.specs.Part.{Part}
-use Rattle.cg_parts.specs.Said.{Said, limit_of, said}
-use Rattle.cg_parts.specs.Says.{AreTaken, Says, netlist_of}
+use Rattle.cg_netlist_parts.specs.declared.fault.NetFault.{NetFault}
+use Rattle.cg_netlist_parts.specs.Faults.{IsFault, IsFaultless}
+use Rattle.cg_netlist_parts.specs.Part.{Part}
+use Rattle.cg_netlist_parts.specs.Said.{Said, limit_of, said}
+use Rattle.cg_netlist_parts.specs.Says.{AreTaken, Says, netlist_of}
 use Rattle.cg_net.specs.Names.{NetName}
-use Rattle.cg_parts.proofs.AtLeastOne.{says_made}
-use Rattle.cg_parts.proofs.FaultOrNone.{Tells as Decides, fault_or_none}
-use Rattle.cg_parts.proofs.NoneBeside.{faultless}
-use Rattle.cg_parts.proofs.OneFault.{no_fault, one_fault}
+use Rattle.cg_netlist_parts.proofs.AtLeastOne.{says_made}
+use Rattle.cg_netlist_parts.proofs.FaultOrNone.{Tells as Decides, fault_or_none}
+use Rattle.cg_netlist_parts.proofs.NoneBeside.{faultless}
+use Rattle.cg_netlist_parts.proofs.OneFault.{no_fault, one_fault}
 use Rattle.cg_blif_text.specs.declared.fault.BlifFault.{BlifFault}
 use Rattle.cg_blif_text.specs.declared.fault.BlifFault.TheVariants.{Net, NoMemory}
 use Rattle.cg_blif_text.specs.BlifText.{BlifText, HasNetFault, IsFirstBlifFault, told_by}

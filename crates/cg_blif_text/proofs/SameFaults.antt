@@ -5,12 +5,12 @@ use Rattle.std.specs.List.{AllByRecursion, before_first, count_by, filter, flat_
 use Rattle.std.specs.Option.{option_to_list}
 use Rattle.std.specs.Str.{bytes_eq}
 use Rattle.cg_net.specs.Names.{NetName, is_known}
-use Rattle.cg_parts.specs.declared.fault.NetFault.{NetFault}
-use Rattle.cg_parts.specs.declared.fault.NetFault.TheVariants.{TwoDrivers, NoDriver, Cycle, ClockFault, NoClock, NoMemory}
-use Rattle.cg_parts.specs.Faults.{EachNet, HasClock, IsClockProper, IsDrivenIfUsed, IsDrivenOnce, IsEnding, IsFault, IsFirstNot}
-use Rattle.cg_parts.specs.Faults.{IsGateProper, IsRootProper, ends_within, reaches}
-use Rattle.cg_parts.specs.Part.{Part, gaters, nets}
-use Rattle.cg_parts.specs.Said.{Said, said}
+use Rattle.cg_netlist_parts.specs.declared.fault.NetFault.{NetFault}
+use Rattle.cg_netlist_parts.specs.declared.fault.NetFault.TheVariants.{TwoDrivers, NoDriver, Cycle, ClockFault, NoClock, NoMemory}
+use Rattle.cg_netlist_parts.specs.Faults.{EachNet, HasClock, IsClockProper, IsDrivenIfUsed, IsDrivenOnce, IsEnding, IsFault, IsFirstNot}
+use Rattle.cg_netlist_parts.specs.Faults.{IsGateProper, IsRootProper, ends_within, reaches}
+use Rattle.cg_netlist_parts.specs.Part.{Part, gaters, nets}
+use Rattle.cg_netlist_parts.specs.Said.{Said, said}
 use Rattle.cg_netlist.specs.Wiring.{driven_by_cells, driven_by_gaters, driven_by_registers, used_by}
 use Rattle.cg_netlist.proofs.Each.{each}
 

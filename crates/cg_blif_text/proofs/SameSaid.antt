@@ -4,11 +4,11 @@ use Rattle.std.specs.List.{AllByRecursion, filter, flat_map, slice_get}
 use Rattle.std.specs.Option.{option_to_list}
 use Rattle.cg_netlist.specs.Circuit.{Circuit}
 use Rattle.cg_net.specs.Names.{NetName, is_known}
-use Rattle.cg_parts.specs.Part.{Part, on_clock}
-use Rattle.cg_parts.specs.Said.{Said, said}
-use Rattle.cg_parts.specs.Says.{Says}
+use Rattle.cg_netlist_parts.specs.Part.{Part, on_clock}
+use Rattle.cg_netlist_parts.specs.Said.{Said, said}
+use Rattle.cg_netlist_parts.specs.Says.{Says}
 use Rattle.cg_netlist.specs.Wiring.{Wiring, driven_by_gaters, named}
-use Rattle.cg_parts.proofs.AtMostOne.{says_one}
+use Rattle.cg_netlist_parts.proofs.AtMostOne.{says_one}
 
 abbrev roots_of : Said → List NetName
 roots_of s = s.clocks ++ filter (λ net. not (is_known (driven_by_gaters s.gaters) net)) (map (λ gater. gater.clock) s.gaters ++ flat_map (λ r. option_to_list r.clock) s.registers)

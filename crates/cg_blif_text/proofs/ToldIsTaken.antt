@@ -11,14 +11,14 @@ use Rattle.cg_limit.specs.declared.Limit.{Limit}
 use Rattle.cg_text.specs.declared.lines.Line.{Line}
 use Rattle.cg_netlist.specs.declared.parts.LogicFunction.TheVariants.{Cover}
 use Rattle.cg_netlist.specs.Circuit.{Circuit}
-use Rattle.cg_parts.specs.Part.{Part, Input, Output, Clock, Logic, Register}
-use Rattle.cg_parts.specs.Said.{Said, limit_of, said, with_part}
-use Rattle.cg_parts.specs.Says.{IsPart}
-use Rattle.cg_parts.specs.Writable.{IsLine, IsWritable, cell_named}
+use Rattle.cg_netlist_parts.specs.Part.{Part, Input, Output, Clock, Logic, Register}
+use Rattle.cg_netlist_parts.specs.Said.{Said, limit_of, said, with_part}
+use Rattle.cg_netlist_parts.specs.Says.{IsPart}
+use Rattle.cg_netlist_parts.specs.Writable.{IsLine, IsWritable, cell_named}
 use Rattle.cg_netlist.proofs.Each.{each_together}
-use Rattle.cg_parts.proofs.KnownNames.{same_word}
-use Rattle.cg_parts.proofs.SaidIsWritable.{said_is_writable}
-use Rattle.cg_parts.proofs.SaidMore.{said_more}
+use Rattle.cg_netlist_parts.proofs.KnownNames.{same_word}
+use Rattle.cg_netlist_parts.proofs.SaidIsWritable.{said_is_writable}
+use Rattle.cg_netlist_parts.proofs.SaidMore.{said_more}
 use Rattle.cg_blif_text.specs.declared.fault.BlifFault.{BlifFault}
 use Rattle.cg_blif_text.specs.declared.fault.LineFault.{LineFault}
 use Rattle.cg_blif_text.specs.declared.place.Place.{Place}

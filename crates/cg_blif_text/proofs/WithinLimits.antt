@@ -9,9 +9,9 @@ use Rattle.std.proofs.lemmas.List.Elements.{filter_map-append}
 use Rattle.cg_limit.specs.declared.Limit.{Limit}
 use Rattle.cg_limit.specs.declared.Limit.TheVariants.{Nets, Registers}
 use Rattle.cg_net.specs.Names.{NetName, is_known, with_name, with_names}
-use Rattle.cg_parts.specs.Part.{Part, each_once, mentioned, nets, register_in, registers}
-use Rattle.cg_parts.specs.Said.{Said, limit_of, said, with_part}
-use Rattle.cg_parts.proofs.SaidMore.{once_words, said_more}
+use Rattle.cg_netlist_parts.specs.Part.{Part, each_once, mentioned, nets, register_in, registers}
+use Rattle.cg_netlist_parts.specs.Said.{Said, limit_of, said, with_part}
+use Rattle.cg_netlist_parts.proofs.SaidMore.{once_words, said_more}
 use Rattle.cg_blif_text.specs.Telling.{unless, with_parts}
 
 -- names are not lost

@@ -15,7 +15,7 @@ use Rattle.cg_net.specs.Names.{is_known}
 use Rattle.cg_blif_text.specs.Canonical.{pin_pairs}
 use Rattle.cg_blif_text.proofs.PinPairs.{Word}
 use Rattle.cg_blif_text.proofs.NetsAtPins.{names}
-use Rattle.cg_parts.proofs.KnownNames.{known_head, known_tail}
+use Rattle.cg_netlist_parts.proofs.KnownNames.{known_head, known_tail}
 
 -- the words of pins are for pins, each once
 pin_named : (word : Word) (pins : List PinData) → list_any (λ pin. bytes_eq word pin.name) pins ≡ is_known (names pins) word

@@ -2,11 +2,11 @@
 use Rattle.std.specs.Prelude.{◌≡◌, ◌⊎◌, ℕ, List, Option, Result, Ok, Err}
 use Rattle.cg_cell.specs.Cell.{CellData}
 use Rattle.cg_netlist.specs.Circuit.{Circuit}
-use Rattle.cg_parts.specs.declared.fault.NetFault.{NetFault}
-use Rattle.cg_parts.specs.Faults.{IsFault}
-use Rattle.cg_parts.specs.Part.{Part}
-use Rattle.cg_parts.specs.Said.{said}
-use Rattle.cg_parts.specs.Says.{Says}
+use Rattle.cg_netlist_parts.specs.declared.fault.NetFault.{NetFault}
+use Rattle.cg_netlist_parts.specs.Faults.{IsFault}
+use Rattle.cg_netlist_parts.specs.Part.{Part}
+use Rattle.cg_netlist_parts.specs.Said.{said}
+use Rattle.cg_netlist_parts.specs.Says.{Says}
 use Rattle.cg_net.specs.Names.{NetName}
 use Rattle.cg_blif_text.specs.declared.fault.BlifFault.{BlifFault}
 use Rattle.cg_blif_text.specs.declared.fault.BlifFault.TheVariants.{Net}

@@ -13,7 +13,7 @@ use Rattle.cg_netlist.specs.declared.parts.RegisterKind.TheVariants.{Plain, Flop
 use Rattle.cg_netlist.specs.Circuit.{Circuit, LogicCell, GatingCell, RegisterCell}
 use Rattle.cg_net.specs.Names.{NetName}
 use Rattle.cg_netlist.specs.Wiring.{Wiring, named}
-use Rattle.cg_parts.specs.Writable.{NIL}
+use Rattle.cg_netlist_parts.specs.Writable.{NIL}
 use Rattle.cg_blif_text.specs.declared.statement.Statement.{Statement}
 use Rattle.cg_blif_text.specs.declared.statement.Statement.TheVariants.{Model, Inputs, Outputs, Clocks, Names, Latch, Gate, Skipped}
 use Rattle.cg_blif_text.specs.declared.statement.Statement.TheVariants.{End}

@@ -7,7 +7,7 @@ use Rattle.cg_cell.specs.Name.{is_name}
 use Rattle.cg_text.specs.declared.lines.Line.{Line}
 use Rattle.cg_netlist.specs.Circuit.{Circuit}
 use Rattle.cg_net.specs.Names.{NetName}
-use Rattle.cg_parts.specs.Writable.{IsWritable}
+use Rattle.cg_netlist_parts.specs.Writable.{IsWritable}
 use Rattle.cg_blif_text.specs.BlifText.{BlifText}
 use Rattle.cg_blif_text.specs.Canonical.{blif}
 use Rattle.cg_blif_text.specs.LineFaults.{IsFirstOfLines}

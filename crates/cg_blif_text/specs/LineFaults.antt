@@ -13,9 +13,9 @@ use Rattle.cg_cell.specs.Name.{is_name}
 use Rattle.cg_cell.specs.declared.cell.CellKind.{CellKind}
 use Rattle.cg_cell.specs.declared.cell.CellKind.TheVariants.{Unusable}
 use Rattle.cg_text.specs.declared.lines.Line.{Line}
-use Rattle.cg_parts.specs.Part.{Part}
-use Rattle.cg_parts.specs.Said.{Said, with_part}
-use Rattle.cg_parts.specs.Writable.{cell_named}
+use Rattle.cg_netlist_parts.specs.Part.{Part}
+use Rattle.cg_netlist_parts.specs.Said.{Said, with_part}
+use Rattle.cg_netlist_parts.specs.Writable.{cell_named}
 use Rattle.cg_blif_text.specs.declared.command.Command.{Command}
 use Rattle.cg_blif_text.specs.declared.command.Command.TheVariants.{Model, Names, Latch, Gate, End, Other}
 use Rattle.cg_blif_text.specs.declared.fault.BlifFault.{BlifFault}

@@ -5,8 +5,8 @@ use Rattle.cg_cell.specs.Cell.{CellData}
 use Rattle.cg_cell.specs.Cover.{CoverData}
 use Rattle.cg_text.specs.declared.lines.Line.{Line}
 use Rattle.cg_netlist.specs.declared.parts.LogicFunction.TheVariants.{Cover}
-use Rattle.cg_parts.specs.Part.{Part, Logic}
-use Rattle.cg_parts.specs.Said.{Said}
+use Rattle.cg_netlist_parts.specs.Part.{Part, Logic}
+use Rattle.cg_netlist_parts.specs.Said.{Said}
 use Rattle.cg_blif_text.specs.declared.fault.BlifFault.{BlifFault}
 use Rattle.cg_blif_text.specs.declared.fault.LineFault.{LineFault}
 use Rattle.cg_blif_text.specs.declared.statement.Statement.{Statement}

@@ -12,7 +12,7 @@ use Rattle.cg_cell.specs.declared.cell.CellKind.TheVariants.{Logic as LogicKind,
 use Rattle.cg_cell.specs.declared.cell.Role.TheVariants.{StateBar}
 use Rattle.cg_netlist.specs.declared.parts.LogicFunction.TheVariants.{Cell}
 use Rattle.cg_netlist.specs.declared.parts.RegisterKind.TheVariants.{Flop}
-use Rattle.cg_parts.specs.Part.{Part, Logic, Gate, Register}
+use Rattle.cg_netlist_parts.specs.Part.{Part, Logic, Gate, Register}
 use Rattle.cg_net.specs.Names.{NetName}
 use Rattle.cg_blif_text.specs.declared.fault.LineFault.{LineFault}
 use Rattle.cg_blif_text.specs.declared.fault.LineFault.TheVariants.{UnknownCell, UnusableCell, PinFault}

@@ -7,10 +7,10 @@ use Rattle.cg_text.specs.declared.lines.Line.{Line}
 use Rattle.cg_netlist.specs.declared.parts.LogicFunction.TheVariants.{Cover}
 use Rattle.cg_netlist.specs.declared.parts.RegisterKind.TheVariants.{Plain}
 use Rattle.cg_netlist.specs.Circuit.{RegisterCell}
-use Rattle.cg_parts.specs.Part.{Part, Input, Output, Clock, Logic, Register}
-use Rattle.cg_parts.specs.Said.{Said, limit_of, nothing_said, with_part}
+use Rattle.cg_netlist_parts.specs.Part.{Part, Input, Output, Clock, Logic, Register}
+use Rattle.cg_netlist_parts.specs.Said.{Said, limit_of, nothing_said, with_part}
 use Rattle.cg_net.specs.Names.{NetName}
-use Rattle.cg_parts.specs.Writable.{cell_named}
+use Rattle.cg_netlist_parts.specs.Writable.{cell_named}
 use Rattle.cg_blif_text.specs.declared.fault.BlifFault.{BlifFault}
 use Rattle.cg_blif_text.specs.declared.fault.BlifFault.TheVariants as faults
 use Rattle.cg_blif_text.specs.declared.fault.LineFault.{LineFault}

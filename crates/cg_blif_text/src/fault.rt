@@ -4,7 +4,7 @@ ghost use Rattle.std.specs.Prelude.{◌≡◌};
 ghost use Rattle.cg_blif_text.specs.declared.fault.BlifFault.TheVariants.{NoMemory};
 
 use cg_limit::Limit;
-use cg_parts::fault::NetFault;
+use cg_netlist_parts::fault::NetFault;
 use std::alloc::{AllocError, AllocFailed};
 use thiserror::Error;
 

@@ -25,7 +25,7 @@ use Rattle.cg_claim.specs.inner.Never.{IsNeverViolated}
 use Rattle.cg_claim.proofs.ClaimsHold.{never_unseen}
 use Rattle.cg_claim.proofs.GoalBits.{goal_at}
 use Rattle.cg_claim.proofs.LeavesFound.{found_bit, leaf_among}
-use Rattle.cg_cone.proofs.ConeEdge.{any_in}
+use Rattle.cg_netlist_cone.proofs.ConeEdge.{any_in}
 
 module _ (m : MachineData) (E : List Literal) (Q G : List ℕ) (t : Target) (good : IsMachine m) (fit : CopyPartFits m (target_part t)) (none : meets m E G t ≡ false) where
   -- its question

@@ -13,7 +13,7 @@ use Rattle.cg_netlist.specs.Circuit.{LogicCell}
 use Rattle.cg_net.specs.NetSets.{is_in}
 use Rattle.cg_machine.specs.Claims.{Literal, literal_bit}
 use Rattle.cg_netlist.specs.Nets.{IsOrdered, outputs}
-use Rattle.cg_cone.proofs.Cones.{AreClosed}
+use Rattle.cg_netlist_cone.proofs.Cones.{AreClosed}
 use Rattle.cg_netlist.proofs.NetsOf.{other_eqb}
 use Rattle.cg_netlist.proofs.RisingPlaces.{in_head, in_tail}
 use Rattle.cg_claim.specs.Build.{Table, Values, cell_run, enable_run, function_term, join_run, lay, literal_of, put_run, table_with}

@@ -21,7 +21,7 @@ use Rattle.cg_claim.proofs.AllTargets.{all_unseen}
 use Rattle.cg_claim.proofs.Apart.{apart_unseen}
 use Rattle.cg_claim.proofs.ClaimsHold.{hold_never, idle_some, never_hold, never_stable, never_unseen, some_idle, stable_never}
 use Rattle.cg_claim.proofs.ClaimsHold.{unseen_never}
-use Rattle.cg_cone.proofs.Cones.{cone_is}
+use Rattle.cg_netlist_cone.proofs.Cones.{cone_is}
 use Rattle.cg_claim.proofs.GoalBits.{claim_says, free_agrees, free_is, goal_at}
 use Rattle.cg_claim.proofs.LeavesFound.{found_bit, leaf_among}
 use Rattle.cg_claim.proofs.HoldWidths.{hold_leaves}

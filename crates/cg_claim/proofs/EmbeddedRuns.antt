@@ -13,7 +13,7 @@ use Rattle.cg_aig.proofs.RunsFit.{aig_growing}
 use Rattle.cg_netlist.specs.Circuit.{LogicCell}
 use Rattle.cg_net.specs.NetSets.{is_in}
 use Rattle.cg_netlist.specs.Nets.{IsOrdered, outputs}
-use Rattle.cg_cone.proofs.Cones.{AreClosed}
+use Rattle.cg_netlist_cone.proofs.Cones.{AreClosed}
 use Rattle.cg_netlist.proofs.NetsOf.{other_eqb}
 use Rattle.cg_netlist.proofs.RisingPlaces.{in_head, in_tail}
 use Rattle.cg_claim.specs.Build.{Table, aig_values, cell_run, function_term, lay, put_run}

@@ -23,13 +23,13 @@ use Rattle.cg_claim.specs.Question.{Copy, Before, After, Changed, CopyPart, Next
 use Rattle.cg_claim.specs.Reach.{after_nets, after_states, before_nets, before_states, changed_nets, changed_states, enable_nets}
 use Rattle.cg_claim.specs.Reach.{feeds, origin_asks, origin_nets, part_asks, part_nets, registers_of, sides_ask}
 use Rattle.cg_claim.specs.Reach.{sides_nets}
-use Rattle.cg_cone.specs.Cone.{cone_of}
+use Rattle.cg_netlist_cone.specs.Cone.{cone_of}
 use Rattle.cg_claim.specs.Violates.{Free, inputs_of, nets_at, side_bit, sides_differ, state_of, violates, IsFree, CopyPartFits}
 use Rattle.cg_claim.specs.Violates.{SidesFit}
 use Rattle.cg_claim.specs.declared.leaf.LeafSource.{LeafSource}
 use Rattle.cg_claim.specs.declared.leaf.LeafSource.TheVariants.{Input as InputOf, Register as RegisterOf}
 use Rattle.cg_claim.specs.inner.Copies.{nets_reached, source_bit, states_reached}
-use Rattle.cg_cone.proofs.Cones.{cone_closed}
+use Rattle.cg_netlist_cone.proofs.Cones.{cone_closed}
 use Rattle.cg_claim.proofs.GivenNets.{are_terms, bits_given, given_same, given_valid, registers_are, shown_feeds}
 use Rattle.cg_claim.proofs.CellsLaid.{Holds, IsFit, Laid, enable_gives, holds_later, lay_holds, sound_of}
 use Rattle.cg_cell.proofs.Runs.{Gives, Has, gives_and, gives_as, gives_plain, gives_then, gives_xor, has_later}

@@ -11,12 +11,12 @@ use Rattle.cg_machine.specs.Claims.{Literal}
 use Rattle.cg_machine.specs.Machine.{IsMachine, MachineData, enable_of, walk_of}
 use Rattle.cg_claim.specs.declared.leaf.LeafSource.{LeafSource}
 use Rattle.cg_claim.specs.declared.leaf.LeafSource.TheVariants.{Input as InputOf, Register as RegisterOf}
-use Rattle.cg_cone.specs.Cone.{IsInCone, cone_of}
+use Rattle.cg_netlist_cone.specs.Cone.{IsInCone, cone_of}
 use Rattle.cg_claim.specs.Leaves.{is_reached, leaves_at, leaves_of, sources, width_of}
 use Rattle.cg_claim.specs.Question.{Before, After, Changed, Question, held_question, hold_question}
 use Rattle.cg_claim.specs.Reach.{after_states, before_nets, inputs_of_register, next_nets, origin_asks, origin_nets, registers_of}
 use Rattle.cg_claim.specs.Reach.{sides_ask}
-use Rattle.cg_cone.proofs.Cones.{cone_has, cone_is, from_way}
+use Rattle.cg_netlist_cone.proofs.Cones.{cone_has, cone_is, from_way}
 use Rattle.std.specs.Cmp.{both_ways as same_bools}
 
 pub same_test : {T : Type 0} (f g : T → Bool) (xs : List T) → ((x : T) → f x ≡ g x) → filter f xs ≡ filter g xs

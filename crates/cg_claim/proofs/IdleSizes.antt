@@ -8,8 +8,8 @@ use Rattle.cg_cell.specs.Domain.{Seen}
 use Rattle.cg_aig.specs.Aig.{nodes}
 use Rattle.cg_netlist.specs.Circuit.{Circuit, RegisterCell, data_inputs, shown_nets}
 use Rattle.cg_net.specs.NetSets.{is_in}
-use Rattle.cg_cone.specs.Cone.{IsInCone}
-use Rattle.cg_cone.proofs.Cones.{cone_closed, cone_has, cone_is, from_way}
+use Rattle.cg_netlist_cone.specs.Cone.{IsInCone}
+use Rattle.cg_netlist_cone.proofs.Cones.{cone_closed, cone_has, cone_is, from_way}
 use Rattle.cg_machine.specs.Claims.{Literal}
 use Rattle.cg_machine.specs.Machine.{IsMachine, MachineData, walk_of}
 use Rattle.cg_claim.specs.Build.{aig_values, before_table, copies, from_state, given, goal_run, leaf_list, leaf_value, nodes_of}

@@ -14,7 +14,7 @@ use Rattle.cg_claim.specs.Build.{lay_states, leaf_value, reached_cells, start_ne
 use Rattle.cg_claim.specs.Leaves.{Leaf, is_reached, leaves_at, leaves_of, sources}
 use Rattle.cg_claim.specs.Question.{Before, After, Changed, Question, hold_question, idle_question}
 use Rattle.cg_claim.specs.Reach.{after_nets, after_states, changed_nets, changed_states, feeds, registers_of}
-use Rattle.cg_cone.specs.Cone.{cone_of}
+use Rattle.cg_netlist_cone.specs.Cone.{cone_of}
 use Rattle.cg_claim.specs.declared.leaf.LeafSource.{LeafSource}
 use Rattle.cg_claim.specs.declared.leaf.LeafSource.TheVariants.{Input as InputOf, Register as RegisterOf}
 use Rattle.std.proofs.lemmas.Bool.{or_from}

@@ -16,7 +16,7 @@ use Rattle.cg_claim.specs.Reach.{feeds, next_asks_own, origin_asks, origin_nets,
 use Rattle.cg_claim.specs.Reach.{same_copy, side_asks, side_nets, sides_ask, sides_nets}
 use Rattle.cg_claim.specs.Violates.{CopyPartFits, SidesFit}
 use Rattle.cg_claim.specs.inner.Copies.{nets_reached, states_reached}
-use Rattle.cg_cone.proofs.Cones.{cone_has}
+use Rattle.cg_netlist_cone.proofs.Cones.{cone_has}
 use Rattle.cg_netlist.proofs.WalkOrder.{in_each}
 
 pub and_first : (a b : Bool) → (a && b) ≡ true → a ≡ true

@@ -22,12 +22,12 @@ use Rattle.cg_claim.specs.Build.{Table, Values, cell_run, enable_run, from_state
 use Rattle.cg_claim.specs.Build.{literal_of, mux_run, next_run, next_run_of, part_run, put_run, reached_cells, shown_by, start_nets}
 use Rattle.cg_claim.specs.Build.{state_run}
 use Rattle.cg_claim.specs.Question.{CopyPart, Net, Next, State, Enable, Question}
-use Rattle.cg_cone.specs.Cone.{cone_of}
+use Rattle.cg_netlist_cone.specs.Cone.{cone_of}
 use Rattle.cg_claim.specs.Reach.{feeds, next_asks_own, next_nets, origin_asks, origin_nets, part_asks, part_nets, reads_own}
 use Rattle.cg_claim.specs.Reach.{register_term}
 use Rattle.cg_claim.specs.Tables.{SameOn}
 use Rattle.cg_claim.specs.Violates.{CopyPartFits}
-use Rattle.cg_cone.proofs.Cones.{AreClosed, cone_closed}
+use Rattle.cg_netlist_cone.proofs.Cones.{AreClosed, cone_closed}
 use Rattle.cg_netlist.proofs.RisingPlaces.{in_head, in_tail}
 use Rattle.cg_claim.proofs.GivenNets.{shown_feeds}
 

@@ -7,7 +7,7 @@ use Rattle.cg_cell.specs.Term.{Both, Either, Input, Inverse, Term}
 use Rattle.cg_cell.specs.declared.cell.CellKind.TheVariants.{Flop as FlopKind}
 use Rattle.cg_netlist.specs.Circuit.{LogicCell, RegisterCell}
 use Rattle.cg_net.specs.NetSets.{is_in}
-use Rattle.cg_cone.specs.Cone.{cone_of}
+use Rattle.cg_netlist_cone.specs.Cone.{cone_of}
 use Rattle.cg_netlist.specs.declared.parts.LogicFunction.TheVariants.{Cover}
 use Rattle.cg_netlist.specs.declared.parts.RegisterKind.TheVariants.{Flop, Plain}
 use Rattle.cg_machine.specs.Claims.{Next}

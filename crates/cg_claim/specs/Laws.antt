@@ -10,7 +10,7 @@ use Rattle.cg_machine.specs.Claims.{CanIdle, Hold, Literal, Stable, Target, Unse
 use Rattle.cg_machine.specs.Gates.{AddedGate, HasInputs, gate_cell}
 use Rattle.cg_machine.specs.Machine.{IsMachine, MachineData, values, walk_of}
 use Rattle.cg_claim.specs.Build.{Table, aig_values, cell_run, claim_run, nodes_of}
-use Rattle.cg_cone.specs.Cone.{IsInCone, cone_of}
+use Rattle.cg_netlist_cone.specs.Cone.{IsInCone, cone_of}
 use Rattle.cg_claim.specs.declared.name.ClaimName.{ClaimName}
 use Rattle.cg_claim.specs.LeafBits.{free_of, is_never, violates_at}
 use Rattle.cg_claim.specs.Leaves.{leaves_of, width_of}

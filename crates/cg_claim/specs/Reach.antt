@@ -7,7 +7,7 @@ use Rattle.std.specs.Option.{option_map_or, option_to_list}
 use Rattle.cg_cell.specs.Term.{Term, Bit, Input, has_input}
 use Rattle.cg_netlist.specs.Circuit.{RegisterCell}
 use Rattle.cg_net.specs.NetSets.{is_in}
-use Rattle.cg_cone.specs.Cone.{cone_of, register_feeds}
+use Rattle.cg_netlist_cone.specs.Cone.{cone_of, register_feeds}
 use Rattle.cg_netlist.specs.declared.parts.RegisterKind.{RegisterKind}
 use Rattle.cg_netlist.specs.declared.parts.RegisterKind.TheVariants.{Plain, Flop}
 use Rattle.cg_machine.specs.Machine.{MachineData, enable_of, walk_of}

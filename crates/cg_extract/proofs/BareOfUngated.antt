@@ -8,12 +8,12 @@ use Rattle.std.proofs.lemmas.List.Elements.{All-head, All-tail}
 use Rattle.cg_insert.proofs.OrderedNames.{named_ordered}
 use Rattle.cg_netlist.proofs.Given.{in_option}
 use Rattle.cg_net.proofs.Members.{is_in_cases}
-use Rattle.cg_parts.proofs.AtMostOne.{says_one}
-use Rattle.cg_parts.proofs.SaidByItsParts.{none_left, says_own}
+use Rattle.cg_netlist_parts.proofs.AtMostOne.{says_one}
+use Rattle.cg_netlist_parts.proofs.SaidByItsParts.{none_left, says_own}
 use Rattle.cg_netlist.specs.Circuit.{Circuit, GatingCell, RegisterCell, clock_nets, gate_nets}
 use Rattle.cg_net.specs.NetSets.{is_in}
 use Rattle.cg_netlist.specs.Netlist.{IsNetlist}
-use Rattle.cg_parts.specs.Says.{Says, parts_from}
+use Rattle.cg_netlist_parts.specs.Says.{Says, parts_from}
 use Rattle.cg_net.specs.Names.{NetName}
 use Rattle.cg_netlist.specs.Wiring.{named}
 use Rattle.cg_extract.proofs.Bare.{bare_formed, bare_netlist, in_order}

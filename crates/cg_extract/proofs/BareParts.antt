@@ -7,16 +7,16 @@ use Rattle.std.proofs.lemmas.List.{append-nil}
 use Rattle.std.proofs.lemmas.Option.{slice_get-map}
 use Rattle.cg_limit.specs.declared.TheConstants.{MOST_NETS, MOST_REGISTERS}
 use Rattle.cg_netlist.proofs.Used.{output_is_used}
-use Rattle.cg_parts.proofs.AtMostOne.{says_one}
-use Rattle.cg_parts.proofs.SaidByItsParts.{none_left, says_own}
-use Rattle.cg_parts.proofs.TakenFromNetlist.{taken_own}
+use Rattle.cg_netlist_parts.proofs.AtMostOne.{says_one}
+use Rattle.cg_netlist_parts.proofs.SaidByItsParts.{none_left, says_own}
+use Rattle.cg_netlist_parts.proofs.TakenFromNetlist.{taken_own}
 use Rattle.cg_netlist.specs.Circuit.{Circuit, RegisterCell}
 use Rattle.cg_netlist.specs.Netlist.{IsNetlist}
-use Rattle.cg_builder.specs.Building.{Building, Finishes, fresh}
-use Rattle.cg_parts.specs.declared.fault.NetFault.{NetFault}
-use Rattle.cg_parts.specs.Part.{Clock, Input, Logic, Output}
-use Rattle.cg_parts.specs.Said.{nothing_said, said}
-use Rattle.cg_parts.specs.Says.{AreTaken, Says, parts_from, register_part}
+use Rattle.cg_netlist_builder.specs.Building.{Building, Finishes, fresh}
+use Rattle.cg_netlist_parts.specs.declared.fault.NetFault.{NetFault}
+use Rattle.cg_netlist_parts.specs.Part.{Clock, Input, Logic, Output}
+use Rattle.cg_netlist_parts.specs.Said.{nothing_said, said}
+use Rattle.cg_netlist_parts.specs.Says.{AreTaken, Says, parts_from, register_part}
 use Rattle.cg_net.specs.Names.{NetName, net_name}
 use Rattle.cg_netlist.specs.Wiring.{map_cell, map_register, named}
 use Rattle.cg_insert.proofs.InsertedParts.{map_twice, said_all}

@@ -12,7 +12,7 @@ use Rattle.cg_net.specs.NetSets.{is_in}
 use Rattle.cg_netlist.specs.Netlist.{IsNetlist}
 use Rattle.cg_netlist.specs.Wiring.{map_cell, map_register}
 use Rattle.cg_net.specs.Names.{net_name}
-use Rattle.cg_parts.specs.Writable.{FunctionIsOf, IsOf, KindIsOf}
+use Rattle.cg_netlist_parts.specs.Writable.{FunctionIsOf, IsOf, KindIsOf}
 use Rattle.cg_extract.proofs.Asked.{asked}
 use Rattle.cg_extract.proofs.Bare.{bare_formed, bare_netlist, data_is, in_order}
 use Rattle.cg_extract.proofs.Kept.{data_kept, placed}

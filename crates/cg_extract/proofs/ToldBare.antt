@@ -2,8 +2,8 @@
 -- some of them were.
 use Rattle.std.proofs.Common.{◌++◌, List}
 use Rattle.cg_netlist.specs.Circuit.{Circuit}
-use Rattle.cg_builder.specs.Building.{Building}
-use Rattle.cg_parts.specs.Part.{Part}
+use Rattle.cg_netlist_builder.specs.Building.{Building}
+use Rattle.cg_netlist_parts.specs.Part.{Part}
 use Rattle.cg_net.specs.Names.{NetName}
 use Rattle.cg_insert.proofs.ToldParts.{may_front}
 use Rattle.cg_insert.specs.inner.GatedParts.{cell_parts, clock_parts, clocked_parts, input_parts, output_parts}

@@ -10,7 +10,7 @@ use Rattle.cg_netlist.specs.Moment.{Settles}
 use Rattle.cg_netlist.specs.Netlist.{IsNetlist}
 use Rattle.cg_netlist.specs.Wiring.{named}
 use Rattle.cg_net.specs.Names.{net_name}
-use Rattle.cg_parts.specs.Writable.{IsWritable}
+use Rattle.cg_netlist_parts.specs.Writable.{IsWritable}
 use Rattle.cg_machine.specs.Added.{HasNames, own_netlist}
 use Rattle.cg_machine.specs.Machine.{IsMachine, MachineData, enable_of, values}
 use Rattle.cg_machine.specs.Run.{shown_from, states_from}

@@ -7,10 +7,9 @@ ghost use Rattle.cg_extract.specs.Lifted.{bare, ungated};
 ghost use Rattle.cg_extract.specs.inner.BareParts.{bare_parts};
 ghost use Rattle.cg_insert.specs.inner.GatedParts.{clocked_parts, with_clock};
 ghost use Rattle.cg_insert.specs.inner.Telling.{MayTell, WasTold, told};
-ghost use Rattle.cg_builder.specs.Building.{fresh};
+ghost use Rattle.cg_netlist_builder.specs.Building.{fresh};
 
 use crate::copy::copy;
-use cg_builder::builder::Builder;
 use cg_insert::clocked::tell_register;
 use cg_insert::logic::tell_cells;
 use cg_insert::names::GatedNames;
@@ -19,6 +18,7 @@ use cg_net::id::{NetId, RegId};
 use cg_netlist::fault::AddFault;
 use cg_netlist::netlist::Netlist;
 use cg_netlist::view::RegView;
+use cg_netlist_builder::builder::Builder;
 use std::alloc::{AllocError, Global};
 
 /// The netlist without its gating cells: its logic cells and registers in their order, every register on the clock, and all its

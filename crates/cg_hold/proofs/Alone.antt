@@ -10,11 +10,11 @@ use Rattle.cg_claim.specs.Reach.{after_states, before_nets, before_states, chang
 use Rattle.cg_claim.specs.Reach.{inputs_of_register, next_asks_own, next_nets, origin_asks, origin_nets, registers_of, sides_ask}
 use Rattle.cg_claim.specs.declared.leaf.LeafSource.{LeafSource}
 use Rattle.cg_claim.specs.declared.leaf.LeafSource.TheVariants.{Input as InputOf, Register as RegisterOf}
-use Rattle.cg_lists.specs.HoldList.{hold_width}
+use Rattle.cg_stage_list_laws.specs.HoldList.{hold_width}
 use Rattle.cg_machine.specs.Machine.{MachineData, enable_of, walk_of}
 use Rattle.cg_netlist.specs.Circuit.{RegisterCell, data_inputs, shown_nets}
 use Rattle.cg_net.specs.NetSets.{is_in}
-use Rattle.cg_cone.specs.Cone.{cone_of}
+use Rattle.cg_netlist_cone.specs.Cone.{cone_of}
 use Rattle.cg_claim.proofs.OneCopy.{cone_nil, filter_none, none_any}
 use Rattle.cg_claim.proofs.HoldWidths.{same_test}
 

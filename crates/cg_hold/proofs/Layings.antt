@@ -26,7 +26,7 @@ use Rattle.cg_netlist.specs.Moment.{bit, function_value, values_at}
 use Rattle.cg_netlist.specs.Nets.{beside, put_cells, walk_order}
 use Rattle.cg_net.proofs.TableLemmas.{take_end}
 use Rattle.cg_netlist.proofs.SearchSteps.{push_cases}
-use Rattle.cg_reach.proofs.Filtering.{take_whole}
+use Rattle.cg_claim_reach.proofs.Filtering.{take_whole}
 
 -- no cell, one, and some behind others
 pub lays_none : (words : List ℕ) → Lays [] words words

@@ -7,7 +7,7 @@ use Rattle.std.proofs.lemmas.List.{drop_all, length-drop, take_all}
 use Rattle.std.proofs.lemmas.Option.{same_Some, slice_get_within}
 use Rattle.cg_claim.specs.LeafBits.{is_never}
 use Rattle.cg_claim.specs.Question.{hold_question, idle_question}
-use Rattle.cg_lists.specs.HoldList.{hold_width, serves}
+use Rattle.cg_stage_list_laws.specs.HoldList.{hold_width, serves}
 use Rattle.cg_machine.proofs.Lists.{get_drop}
 use Rattle.cg_machine.specs.Claims.{Literal}
 use Rattle.cg_machine.specs.Machine.{MachineData}

@@ -9,18 +9,18 @@ use Rattle.std.proofs.lemmas.Option.{none-some, same_Some}
 use Rattle.cg_claim.specs.Question.{hold_question}
 use Rattle.cg_claim.specs.Reach.{inputs_of_register}
 use Rattle.cg_limit.specs.declared.Limit.TheVariants.{ClaimNodes}
-use Rattle.cg_lists.proofs.Mapped.{ordered_some}
-use Rattle.cg_lists.proofs.UsedNets.{inputs_used, used_net}
-use Rattle.cg_lists.specs.HoldList.{hold_width, is_large, serves, up_to}
-use Rattle.cg_lists.specs.Literals.{IdleData, both_literals, by_count, idle_count, insert_literal, literals_of}
-use Rattle.cg_lists.specs.Supports.{all_nets, in_net_order, input_cone}
+use Rattle.cg_stage_list_laws.proofs.Mapped.{ordered_some}
+use Rattle.cg_stage_list_laws.proofs.UsedNets.{inputs_used, used_net}
+use Rattle.cg_stage_list_laws.specs.HoldList.{hold_width, is_large, serves, up_to}
+use Rattle.cg_stage_list_laws.specs.Literals.{IdleData, both_literals, by_count, idle_count, insert_literal, literals_of}
+use Rattle.cg_stage_list_laws.specs.Supports.{all_nets, in_net_order, input_cone}
 use Rattle.cg_machine.specs.Added.{own_netlist, own_nets}
 use Rattle.cg_machine.specs.Claims.{Literal}
 use Rattle.cg_machine.specs.Machine.{IsMachine, MachineData, walk_of}
-use Rattle.cg_cone.proofs.Cones.{cone_has}
+use Rattle.cg_netlist_cone.proofs.Cones.{cone_has}
 use Rattle.cg_netlist.specs.Circuit.{RegisterCell}
 use Rattle.cg_net.specs.NetSets.{is_in}
-use Rattle.cg_cone.specs.Cone.{cone_of}
+use Rattle.cg_netlist_cone.specs.Cone.{cone_of}
 use Rattle.cg_netlist.specs.declared.fault.AddFault.{AddFault}
 use Rattle.cg_netlist.specs.declared.fault.AddFault.TheVariants.{Limit as LimitFault}
 use Rattle.cg_hold.specs.declared.choice.Choice.{Choice}

@@ -10,8 +10,8 @@ use Rattle.std.proofs.lemmas.List.Sorted.{list_any-IsPermutation}
 use Rattle.std.proofs.lemmas.Option.{unwrap_or-slice_get}
 use Rattle.cg_limit.specs.declared.TheConstants.{MOST_NETS}
 use Rattle.cg_netlist.proofs.RisingNumbers.{range_rises, thinned_in, thinned_rises}
-use Rattle.cg_lists.specs.Literals.{IdleData, IsIdleData, both_literals, by_count, idle_count, insert_literal}
-use Rattle.cg_lists.specs.Supports.{all_nets, in_net_order}
+use Rattle.cg_stage_list_laws.specs.Literals.{IdleData, IsIdleData, both_literals, by_count, idle_count, insert_literal}
+use Rattle.cg_stage_list_laws.specs.Supports.{all_nets, in_net_order}
 use Rattle.cg_machine.specs.Claims.{Literal}
 use Rattle.cg_machine.specs.Machine.{IsMachine, MachineData}
 use Rattle.cg_net.proofs.Members.{All-member, member_at}

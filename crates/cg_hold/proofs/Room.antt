@@ -18,15 +18,15 @@ use Rattle.cg_claim.specs.Leaves.{Leaf, leaves_of}
 use Rattle.cg_claim.specs.Question.{After, Before, held_question, hold_question}
 use Rattle.cg_claim.specs.Reach.{after_states, before_nets, inputs_of_register, next_nets, origin_nets, registers_of}
 use Rattle.cg_claim.specs.declared.leaf.LeafSource.TheVariants.{Input as InputOf, Register as RegisterOf}
-use Rattle.cg_lists.specs.HoldList.{is_large}
+use Rattle.cg_stage_list_laws.specs.HoldList.{is_large}
 use Rattle.cg_machine.specs.Claims.{Literal}
 use Rattle.cg_machine.specs.Machine.{IsMachine, MachineData, enable_of, walk_of}
-use Rattle.cg_cone.proofs.Cones.{cone_has, cone_is, from_way}
+use Rattle.cg_netlist_cone.proofs.Cones.{cone_has, cone_is, from_way}
 use Rattle.cg_net.proofs.Members.{is_in_left}
 use Rattle.cg_netlist.specs.Circuit.{LogicCell}
 use Rattle.cg_net.specs.NetSets.{is_in}
-use Rattle.cg_cone.specs.Cone.{IsInCone, cone_of}
-use Rattle.cg_lists.specs.Laws.{HoldWidthsAreOne}
+use Rattle.cg_netlist_cone.specs.Cone.{IsInCone, cone_of}
+use Rattle.cg_stage_list_laws.specs.Laws.{HoldWidthsAreOne}
 use Rattle.cg_unroll.specs.Claims.{IsClaim}
 use Rattle.cg_unroll.specs.declared.claim.Claim.{Claim}
 use Rattle.cg_hold.proofs.Trials.{is_narrow}

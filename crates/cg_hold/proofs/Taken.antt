@@ -13,14 +13,14 @@ use Rattle.std.proofs.lemmas.List.Sums.{count_by-le-length, sum_by-append}
 use Rattle.std.proofs.lemmas.List.Folds.{list_any-append}
 use Rattle.std.proofs.lemmas.List.Elements.{filter-append, filter_map-append}
 use Rattle.std.proofs.lemmas.Option.{slice_get-get_or, unwrap_or-slice_get}
-use Rattle.cg_groups.proofs.Ordered.{range_more}
+use Rattle.cg_stage_groups.proofs.Ordered.{range_more}
 use Rattle.cg_limit.specs.declared.Limit.TheVariants.{ClaimNodes}
 use Rattle.cg_claim.specs.Question.{hold_question}
 use Rattle.cg_netlist.proofs.Driven.{is_in-range}
-use Rattle.cg_lists.specs.HoldList.{choices, chosen, chosen_regs, hold_list, hold_passes, hold_stage, hold_wide}
-use Rattle.cg_lists.specs.HoldList.{hold_width, is_large, serves, unless_empty, up_to}
-use Rattle.cg_lists.specs.Literals.{IdleData, both_literals, literals_of, same_bool, same_literal}
-use Rattle.cg_lists.specs.Supports.{free_registers}
+use Rattle.cg_stage_list_laws.specs.HoldList.{choices, chosen, chosen_regs, hold_list, hold_passes, hold_stage, hold_wide}
+use Rattle.cg_stage_list_laws.specs.HoldList.{hold_width, is_large, serves, unless_empty, up_to}
+use Rattle.cg_stage_list_laws.specs.Literals.{IdleData, both_literals, literals_of, same_bool, same_literal}
+use Rattle.cg_stage_list_laws.specs.Supports.{free_registers}
 use Rattle.cg_machine.specs.Claims.{Literal}
 use Rattle.cg_machine.specs.Machine.{MachineData, enable_of}
 use Rattle.cg_machine.specs.declared.stage.Stage.{Stage}

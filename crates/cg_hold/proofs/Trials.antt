@@ -13,9 +13,9 @@ use Rattle.cg_claim.specs.Question.{Question, hold_question, idle_question}
 use Rattle.cg_limit.specs.Answers.{OrNoMemory}
 use Rattle.cg_limit.specs.declared.Limit.{Limit}
 use Rattle.cg_limit.specs.declared.Limit.TheVariants.{ClaimNodes}
-use Rattle.cg_lists.specs.HoldList.{hold_width, is_large, serves, up_to}
+use Rattle.cg_stage_list_laws.specs.HoldList.{hold_width, is_large, serves, up_to}
 use Rattle.cg_machine.specs.Claims.{Literal}
-use Rattle.cg_lists.specs.Laws.{HoldWidthsAreOne}
+use Rattle.cg_stage_list_laws.specs.Laws.{HoldWidthsAreOne}
 use Rattle.cg_machine.specs.Machine.{IsMachine, MachineData}
 use Rattle.cg_netlist.specs.declared.fault.AddFault.{AddFault}
 use Rattle.cg_netlist.specs.declared.fault.AddFault.TheVariants.{Limit as LimitFault, NoMemory}

@@ -4,8 +4,8 @@ use Rattle.cg_limit.specs.declared.Limit.TheVariants.{ClaimNodes}
 use Rattle.cg_netlist.specs.declared.fault.AddFault.{AddFault}
 use Rattle.cg_netlist.specs.declared.fault.AddFault.TheVariants.{Limit as LimitFault}
 use Rattle.cg_machine.specs.Machine.{MachineData}
-use Rattle.cg_lists.specs.HoldList.{hold_list, hold_passes, hold_wide}
-use Rattle.cg_lists.specs.Literals.{IdleData}
+use Rattle.cg_stage_list_laws.specs.HoldList.{hold_list, hold_passes, hold_wide}
+use Rattle.cg_stage_list_laws.specs.Literals.{IdleData}
 use Rattle.cg_hold.specs.declared.candidates.HoldFound.{HoldFound}
 
 -- the list, and of how many registers the hold claims are too wide; or the limit, where a claim that is looked at passes it

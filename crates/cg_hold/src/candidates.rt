@@ -7,18 +7,18 @@ ghost use Rattle.cg_hold.specs.HoldAnswer.{hold_answer};
 ghost use Rattle.cg_hold.specs.inner.Choosing.{stage_at};
 ghost use Rattle.cg_hold.specs.inner.Packed.{literal_place};
 ghost use Rattle.cg_limit.specs.Answers.{OrNoMemory};
-ghost use Rattle.cg_lists.specs.HoldList.{hold_stage};
-ghost use Rattle.cg_lists.specs.Literals.{FitsIdle, both_literals};
+ghost use Rattle.cg_stage_list_laws.specs.HoldList.{hold_stage};
+ghost use Rattle.cg_stage_list_laws.specs.Literals.{FitsIdle, both_literals};
 ghost use Rattle.cg_netlist.specs.declared.fault.AddFault.TheVariants.{NoMemory};
 
 use crate::chosen::{Chosen, place_of};
 use crate::progress::Progress;
 use cg_list::Seq;
-use cg_lists::idle::Idle;
 use cg_machine::machine::Machine;
 use cg_machine::stage::{NetLit, Stage, StageKind};
 use cg_net::id::{NetId, RegId};
 use cg_netlist::fault::AddFault;
+use cg_stage_list_laws::idle::Idle;
 use std::alloc::{AllocError, Global};
 
 /// The hold stages of a machine.

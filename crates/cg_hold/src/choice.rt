@@ -6,7 +6,7 @@ ghost use Rattle.cg_claim.specs.Question.{hold_question};
 ghost use Rattle.cg_hold.specs.inner.Choosing.{AreMoved, HasRoom, IsLiteralOf, choice_by};
 ghost use Rattle.cg_hold.specs.inner.Cycles.{AreCycles};
 ghost use Rattle.cg_limit.specs.Answers.{OrNoMemory};
-ghost use Rattle.cg_lists.specs.Literals.{FitsIdle, literals_of};
+ghost use Rattle.cg_stage_list_laws.specs.Literals.{FitsIdle, literals_of};
 ghost use Rattle.cg_machine.specs.Claims.{Literal};
 ghost use Rattle.cg_machine.specs.Machine.{enable_of};
 ghost use Rattle.cg_netlist.specs.declared.fault.AddFault.TheVariants.{NoMemory};
@@ -15,11 +15,11 @@ ghost use Rattle.cg_unroll.specs.Claims.{IsClaim};
 use crate::cycles::Cycles;
 use crate::literals::literals_of;
 use crate::trial::{Room, Trial, Trier};
-use cg_lists::idle::Idle;
 use cg_machine::machine::Machine;
 use cg_machine::stage::NetLit;
 use cg_net::id::RegId;
 use cg_netlist::fault::AddFault;
+use cg_stage_list_laws::idle::Idle;
 use std::alloc::Global;
 
 /// What comes of a register.

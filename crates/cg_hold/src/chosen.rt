@@ -8,8 +8,8 @@ ghost use Rattle.cg_hold.specs.inner.Cycles.{AreCycles};
 ghost use Rattle.cg_hold.specs.inner.Packed.{literal_place};
 ghost use Rattle.cg_limit.specs.declared.Limit.TheVariants.{ClaimNodes};
 ghost use Rattle.cg_limit.specs.declared.TheConstants.{MOST_NETS};
-ghost use Rattle.cg_lists.specs.HoldList.{hold_passes};
-ghost use Rattle.cg_lists.specs.Literals.{FitsIdle};
+ghost use Rattle.cg_stage_list_laws.specs.HoldList.{hold_passes};
+ghost use Rattle.cg_stage_list_laws.specs.Literals.{FitsIdle};
 ghost use Rattle.cg_machine.specs.Machine.{enable_of};
 ghost use Rattle.cg_netlist.specs.declared.fault.AddFault.TheVariants.{Limit as LimitFault, NoMemory};
 
@@ -18,11 +18,11 @@ use crate::cycles::Cycles;
 use crate::progress::Progress;
 use crate::trial::Trier;
 use cg_list::Seq;
-use cg_lists::idle::Idle;
 use cg_machine::machine::Machine;
 use cg_machine::stage::NetLit;
 use cg_net::id::RegId;
 use cg_netlist::fault::AddFault;
+use cg_stage_list_laws::idle::Idle;
 use std::alloc::{AllocError, Global};
 
 /// What came of registers.

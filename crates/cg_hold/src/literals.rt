@@ -4,16 +4,16 @@ ghost use Rattle.std.specs.Prelude.{◌≡◌, ◌<◌, ◌≤◌, ℕ, Some, tr
 ghost use Rattle.std.specs.List.{All};
 ghost use Rattle.std.specs.Option.{option_copied};
 ghost use Rattle.cg_hold.specs.inner.Packed.{packed, unpacked};
-ghost use Rattle.cg_lists.specs.Literals.{FitsIdle, IsIdleData, both_literals, by_count, literals_of};
-ghost use Rattle.cg_lists.specs.Supports.{in_net_order, input_cone};
+ghost use Rattle.cg_stage_list_laws.specs.Literals.{FitsIdle, IsIdleData, both_literals, by_count, literals_of};
+ghost use Rattle.cg_stage_list_laws.specs.Supports.{in_net_order, input_cone};
 ghost use Rattle.cg_net.specs.NetSets.{is_in};
 
-use cg_cone::ascending::ascending;
-use cg_lists::idle::Idle;
 use cg_machine::machine::Machine;
 use cg_machine::stage::NetLit;
 use cg_net::id::{NetId, RegId};
-use cg_support::finder::SupportFinder;
+use cg_netlist_cone::ascending::ascending;
+use cg_stage_groups::finder::SupportFinder;
+use cg_stage_list_laws::idle::Idle;
 use std::alloc::{AllocError, Global};
 
 // More than the places of all literals: two for each net that a netlist may have.

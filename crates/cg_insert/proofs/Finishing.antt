@@ -9,19 +9,19 @@ use Rattle.cg_limit.specs.declared.Limit.{Limit}
 use Rattle.cg_limit.specs.declared.Limit.TheVariants.{Nets}
 use Rattle.cg_machine.specs.Added.{own_netlist}
 use Rattle.cg_machine.specs.Machine.{IsMachine, MachineData}
-use Rattle.cg_parts.proofs.AtMostOne.{says_one}
-use Rattle.cg_parts.proofs.NoneBeside.{faultless}
-use Rattle.cg_parts.proofs.OneFault.{no_fault}
+use Rattle.cg_netlist_parts.proofs.AtMostOne.{says_one}
+use Rattle.cg_netlist_parts.proofs.NoneBeside.{faultless}
+use Rattle.cg_netlist_parts.proofs.OneFault.{no_fault}
 use Rattle.cg_netlist.specs.Circuit.{Circuit}
 use Rattle.cg_netlist.specs.Netlist.{IsNetlist}
-use Rattle.cg_parts.specs.declared.fault.NetFault.{NetFault}
-use Rattle.cg_parts.specs.declared.fault.NetFault.TheVariants.{NoMemory}
-use Rattle.cg_builder.specs.Building.{Building, Finishes, fresh}
-use Rattle.cg_parts.specs.Part.{Part}
-use Rattle.cg_parts.specs.Said.{said}
+use Rattle.cg_netlist_parts.specs.declared.fault.NetFault.{NetFault}
+use Rattle.cg_netlist_parts.specs.declared.fault.NetFault.TheVariants.{NoMemory}
+use Rattle.cg_netlist_builder.specs.Building.{Building, Finishes, fresh}
+use Rattle.cg_netlist_parts.specs.Part.{Part}
+use Rattle.cg_netlist_parts.specs.Said.{said}
 use Rattle.cg_insert.proofs.Inserted.{insertion_is_right}
 use Rattle.cg_insert.proofs.InsertedParts.{is_netlist, may_tell, outputs_once, parts_say, told_said}
-use Rattle.cg_parts.specs.Writable.{IsOf}
+use Rattle.cg_netlist_parts.specs.Writable.{IsOf}
 use Rattle.cg_insert.proofs.StillWritable.{still_writable}
 use Rattle.cg_insert.specs.Insert.{CanInsert, enables_of, first_gate, inserted, insertion_limit}
 use Rattle.cg_insert.specs.Inserting.{IsWhole, RunsAs, StaysWritable, insertion, unless_passed}
@@ -47,7 +47,7 @@ module _ (library : List CellData) (test : Option (List ℕ)) (m : MachineData) 
 
   pub finished : (b : Building) → b ≡ told (fresh m.circuit.model) parts → (netlist : Circuit) → Finishes b (Ok netlist) → netlist ≡ inserted library test m
   finished b is netlist finishes =
-      says_one m.circuit.model parts netlist (inserted library test m) (subst (λ model. Rattle.cg_parts.specs.Says.Says model parts netlist) (ap (λ (c : Building). c.model) is) (finishes parts (its_said b is))) (parts_say library test m good can small narrow)
+      says_one m.circuit.model parts netlist (inserted library test m) (subst (λ model. Rattle.cg_netlist_parts.specs.Says.Says model parts netlist) (ap (λ (c : Building). c.model) is) (finishes parts (its_said b is))) (parts_say library test m good can small narrow)
 
   pub wanting : (b : Building) → b ≡ told (fresh m.circuit.model) parts → (fault : NetFault) → Finishes b (Err fault) → fault ≡ NoMemory
   wanting b is fault finishes = elim (finishes parts (its_said b is)) [

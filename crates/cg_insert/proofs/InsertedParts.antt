@@ -19,22 +19,22 @@ use Rattle.cg_net.proofs.Members.{distinct_cons, distinct_head, distinct_tail}
 use Rattle.cg_netlist.proofs.NetOrder.{from_mapped}
 use Rattle.cg_netlist.proofs.OrderedForm.{same_number, used_within}
 use Rattle.cg_netlist.proofs.Used.{output_is_used}
-use Rattle.cg_parts.proofs.Different.{Apart, apart_from, no_more}
+use Rattle.cg_netlist_parts.proofs.Different.{Apart, apart_from, no_more}
 use Rattle.cg_netlist.proofs.Each.{by_recursion, each_together, from_recursion}
-use Rattle.cg_parts.proofs.KnownNames.{known_each, known_head, known_tail, word_at}
-use Rattle.cg_parts.proofs.SaidByItsParts.{none_left, says_own}
-use Rattle.cg_parts.proofs.SaidMore.{said_more}
-use Rattle.cg_parts.proofs.TakenFromNetlist.{taken_own}
+use Rattle.cg_netlist_parts.proofs.KnownNames.{known_each, known_head, known_tail, word_at}
+use Rattle.cg_netlist_parts.proofs.SaidByItsParts.{none_left, says_own}
+use Rattle.cg_netlist_parts.proofs.SaidMore.{said_more}
+use Rattle.cg_netlist_parts.proofs.TakenFromNetlist.{taken_own}
 use Rattle.cg_netlist.specs.Circuit.{Circuit, GatingCell, LogicCell, RegisterCell, net_order}
 use Rattle.cg_net.specs.NetSets.{is_in}
 use Rattle.cg_net.specs.Names.{NetName, is_known, net_name}
 use Rattle.cg_netlist.specs.Netlist.{IsNetlist}
 use Rattle.cg_netlist.specs.Ordered.{ordered, place_in}
 use Rattle.cg_netlist.specs.WellFormed.{IsInNetOrder, IsWellFormed}
-use Rattle.cg_builder.specs.Building.{Building, fresh}
-use Rattle.cg_parts.specs.Part.{Clock, Gate, Input, Logic, Output, Part}
-use Rattle.cg_parts.specs.Said.{nothing_said, said}
-use Rattle.cg_parts.specs.Says.{AreTaken, Says, parts_from, register_part}
+use Rattle.cg_netlist_builder.specs.Building.{Building, fresh}
+use Rattle.cg_netlist_parts.specs.Part.{Clock, Gate, Input, Logic, Output, Part}
+use Rattle.cg_netlist_parts.specs.Said.{nothing_said, said}
+use Rattle.cg_netlist_parts.specs.Says.{AreTaken, Says, parts_from, register_part}
 use Rattle.cg_netlist.specs.Wiring.{map_cell, map_gater, map_register, named}
 use Rattle.cg_insert.proofs.GatedForm.{gated_formed, inputs_once}
 use Rattle.cg_insert.proofs.GatedMoments.{names_count}

@@ -10,9 +10,9 @@ use Rattle.cg_netlist.specs.Circuit.{Circuit, GatingCell, LogicCell, RegisterCel
 use Rattle.cg_netlist.specs.Ordered.{ordered, place_in}
 use Rattle.cg_netlist.specs.WellFormed.{IsInNetOrder, IsWellFormed}
 use Rattle.cg_netlist.proofs.OrderedForm.{placed}
-use Rattle.cg_parts.proofs.Kept.{CellNets, GaterNets, RegisterNets, WiringNets}
-use Rattle.cg_parts.proofs.SaidByItsParts.{same_wiring}
-use Rattle.cg_parts.proofs.ToldByNames.{wiring_within}
+use Rattle.cg_netlist_parts.proofs.Kept.{CellNets, GaterNets, RegisterNets, WiringNets}
+use Rattle.cg_netlist_parts.proofs.SaidByItsParts.{same_wiring}
+use Rattle.cg_netlist_parts.proofs.ToldByNames.{wiring_within}
 use Rattle.cg_net.specs.Names.{net_name}
 use Rattle.cg_netlist.specs.Wiring.{Wiring, map_cell, map_gater, map_outputs, map_register, map_wiring, named, wiring}
 

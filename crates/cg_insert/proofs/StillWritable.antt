@@ -30,7 +30,7 @@ use Rattle.cg_netlist.specs.WellFormed.{IsWellFormed}
 use Rattle.cg_netlist.specs.declared.parts.RegisterKind.TheVariants.{Plain}
 use Rattle.cg_net.specs.Names.{NetName, net_name}
 use Rattle.cg_netlist.specs.Wiring.{map_cell, map_gater, map_register}
-use Rattle.cg_parts.specs.Writable.{FunctionIsOf, IsOf, IsWritable, KindIsOf, NIL}
+use Rattle.cg_netlist_parts.specs.Writable.{FunctionIsOf, IsOf, IsWritable, KindIsOf, NIL}
 use Rattle.cg_insert.proofs.GatedCells.{found_All}
 use Rattle.cg_insert.proofs.GatedForm.{gated_formed, inputs_once}
 use Rattle.cg_insert.proofs.GatedParts.{few_names, gates_are}

@@ -4,8 +4,8 @@ use Rattle.std.specs.Option.{option_to_list}
 use Rattle.cg_cell.specs.Cell.{CellData}
 use Rattle.cg_machine.specs.Machine.{MachineData}
 use Rattle.cg_netlist.specs.declared.fault.AddFault.{AddFault}
-use Rattle.cg_builder.specs.Building.{Building}
-use Rattle.cg_parts.specs.Part.{Part}
+use Rattle.cg_netlist_builder.specs.Building.{Building}
+use Rattle.cg_netlist_parts.specs.Part.{Part}
 use Rattle.cg_net.specs.Names.{NetName}
 use Rattle.cg_insert.proofs.ToldParts.{call_may, call_told, may_front}
 use Rattle.cg_insert.specs.Insert.{placed_gate, test_net}

@@ -14,10 +14,10 @@ use Rattle.cg_netlist.proofs.Each.{each_back, each_front}
 use Rattle.cg_net.specs.Names.{NetName, is_known, with_name, with_names}
 use Rattle.cg_netlist.specs.declared.fault.AddFault.{AddFault}
 use Rattle.cg_netlist.specs.declared.fault.AddFault.TheVariants.{Limit as Passes, NoMemory}
-use Rattle.cg_builder.specs.Building.{Building, IsAnswer, Takes}
-use Rattle.cg_parts.specs.Part.{Clock, Gate, Input, Logic, Output, Part, Register, mentioned}
-use Rattle.cg_parts.specs.Said.{Said, limit_of, with_kind, with_part}
-use Rattle.cg_parts.specs.Says.{IsPart}
+use Rattle.cg_netlist_builder.specs.Building.{Building, IsAnswer, Takes}
+use Rattle.cg_netlist_parts.specs.Part.{Clock, Gate, Input, Logic, Output, Part, Register, mentioned}
+use Rattle.cg_netlist_parts.specs.Said.{Said, limit_of, with_kind, with_part}
+use Rattle.cg_netlist_parts.specs.Says.{IsPart}
 use Rattle.cg_insert.specs.inner.Telling.{MayTell, WasTold, told, with_parts}
 
 pub with_parts_more : (s : Said) (xs ys : List Part) → with_parts s (xs ++ ys) ≡ with_parts (with_parts s xs) ys

@@ -10,7 +10,7 @@ use Rattle.cg_netlist.specs.History.{IsLawful, IsWaveform, Moment, Tick}
 use Rattle.cg_netlist.specs.Netlist.{IsNetlist}
 use Rattle.cg_netlist.specs.declared.fault.AddFault.{AddFault}
 use Rattle.cg_netlist.specs.declared.fault.AddFault.TheVariants.{Limit as LimitFault}
-use Rattle.cg_parts.specs.Writable.{IsWritable}
+use Rattle.cg_netlist_parts.specs.Writable.{IsWritable}
 use Rattle.cg_insert.specs.Insert.{inserted, insertion_limit}
 use Rattle.cg_insert.specs.Insertion.{IsRunOf}
 

@@ -10,14 +10,13 @@ ghost use Rattle.cg_insert.specs.inner.GatedParts.{clocked_part, clocked_parts, 
 ghost use Rattle.cg_insert.specs.inner.GatedParts.{gater_part, gater_parts, placed_outputs, with_clock};
 ghost use Rattle.cg_insert.specs.inner.Telling.{MayTell, WasTold};
 ghost use Rattle.cg_machine.specs.Machine.{enable_of};
-ghost use Rattle.cg_builder.specs.Calls.{kind_of};
+ghost use Rattle.cg_netlist_builder.specs.Calls.{kind_of};
 ghost use Rattle.cg_netlist.specs.Ordered.{place_in};
 ghost use Rattle.cg_netlist.specs.View.{kind_seen, register_seen};
 
 use crate::enables::Enables;
 use crate::logic::fitting;
 use crate::names::GatedNames;
-use cg_builder::builder::Builder;
 use cg_cell::cell::CellType;
 use cg_cell::fit::FitKind;
 use cg_cell::library::Library;
@@ -26,6 +25,7 @@ use cg_machine::machine::Machine;
 use cg_net::id::{NetId, RegId};
 use cg_netlist::fault::AddFault;
 use cg_netlist::view::{RegKind, RegView};
+use cg_netlist_builder::builder::Builder;
 use std::alloc::{AllocError, Global};
 
 /// The net of the test input, if there is one: it comes behind the machine's nets.

@@ -9,20 +9,20 @@ ghost use Rattle.cg_insert.specs.Inserting.{IsWhole, RunsAs, StaysWritable, inse
 ghost use Rattle.cg_insert.specs.inner.GatedParts.{gated_names, gated_parts};
 ghost use Rattle.cg_insert.specs.inner.Telling.{WasTold, told};
 ghost use Rattle.cg_netlist.specs.declared.fault.AddFault.TheVariants.{Limit as LimitFault, NoMemory};
-ghost use Rattle.cg_builder.specs.Building.{fresh};
+ghost use Rattle.cg_netlist_builder.specs.Building.{fresh};
 
 use crate::clocked::first_gate;
 use crate::enables::Enables;
 use crate::names::GatedNames;
 use crate::telling::tell;
-use cg_builder::builder::Builder;
 use cg_cell::library::Library;
 use cg_cell::name::Name;
 use cg_limit::{Limit, MOST_NETS};
 use cg_machine::machine::Machine;
 use cg_netlist::fault::AddFault;
 use cg_netlist::netlist::Netlist;
-use cg_parts::fault::NetFault;
+use cg_netlist_builder::builder::Builder;
+use cg_netlist_parts::fault::NetFault;
 use std::alloc::Global;
 
 /// The netlist of a machine: each enable has a gating cell, in the order of the first register that has it, whose output is

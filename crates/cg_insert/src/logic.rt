@@ -11,7 +11,6 @@ ghost use Rattle.cg_insert.specs.inner.Telling.{MayTell, WasTold};
 ghost use Rattle.cg_machine.specs.View.{gate_seen};
 
 use crate::names::GatedNames;
-use cg_builder::builder::Builder;
 use cg_cell::cell::CellType;
 use cg_cell::fit::FitKind;
 use cg_cell::library::Library;
@@ -21,6 +20,7 @@ use cg_net::id::CellId;
 use cg_netlist::fault::AddFault;
 use cg_netlist::netlist::Netlist;
 use cg_netlist::view::Function;
+use cg_netlist_builder::builder::Builder;
 use std::alloc::Global;
 
 /// Tells the logic cells of a netlist.

@@ -10,12 +10,12 @@ use crate::clocked::{tell_gaters, tell_registers, test_net};
 use crate::enables::Enables;
 use crate::logic::{tell_cells, tell_gates};
 use crate::names::GatedNames;
-use cg_builder::builder::Builder;
 use cg_cell::library::Library;
 use cg_cell::name::Name;
 use cg_machine::machine::Machine;
 use cg_net::id::NetId;
 use cg_netlist::fault::AddFault;
+use cg_netlist_builder::builder::Builder;
 use std::alloc::Global;
 
 /// Tells the parts in the order in which they are written: the inputs with the test input last, the outputs, the clock, the

@@ -1,9 +1,9 @@
 -- The expressions of a cell.
 use Rattle.std.specs.Prelude.{ℕ, List, [], ◌∷◌, Option, None, Some, Result, Ok, Err}
 use Rattle.cg_cell.specs.Term.{Term}
-use Rattle.cg_expression.specs.Reading.{read_text}
-use Rattle.cg_expression.specs.declared.fault.ExprFault.{ExprFault}
-use Rattle.cg_expression.specs.declared.fault.ExprFault.TheVariants as exprs
+use Rattle.cg_liberty_expression.specs.Reading.{read_text}
+use Rattle.cg_liberty_expression.specs.declared.fault.ExprFault.{ExprFault}
+use Rattle.cg_liberty_expression.specs.declared.fault.ExprFault.TheVariants as exprs
 use Rattle.cg_liberty.specs.declared.fault.CellFault.{CellFault}
 use Rattle.cg_liberty.specs.declared.fault.CellFault.TheVariants as cells
 

@@ -3,7 +3,7 @@
 ghost use Rattle.std.specs.Prelude.{IfOk, IfSome, IsTrue, length, option_map};
 ghost use Rattle.cg_limit.specs.Answers.{OrNoMemory};
 ghost use Rattle.cg_cell.specs.Expr.{is_over, term_of};
-ghost use Rattle.cg_expression.specs.Reading.{read_text};
+ghost use Rattle.cg_liberty_expression.specs.Reading.{read_text};
 ghost use Rattle.cg_cell.specs.Term.{is_within};
 ghost use Rattle.cg_liberty.specs.declared.fault.CellFault.TheVariants.{NoMemory};
 ghost use Rattle.cg_liberty.specs.Reading.{reading, taken};
@@ -11,7 +11,7 @@ ghost use Rattle.cg_liberty.specs.Reading.{reading, taken};
 use crate::fault::CellFault;
 use cg_cell::expr::Expr;
 use cg_cell::name::Name;
-use cg_expression::{ExprFault, read_expr};
+use cg_liberty_expression::{ExprFault, read_expr};
 use cg_liberty_text::text::Text;
 use std::alloc::Global;
 

@@ -11,12 +11,12 @@ use Rattle.cg_net.specs.NetSets.{is_in}
 use Rattle.cg_netlist.specs.Netlist.{IsNetlist}
 use Rattle.cg_netlist.specs.Nets.{walk_order}
 use Rattle.cg_netlist.proofs.CellFits.{walk_within}
-use Rattle.cg_cone.proofs.ConeEdge.{data_rises}
+use Rattle.cg_netlist_cone.proofs.ConeEdge.{data_rises}
 use Rattle.cg_netlist.proofs.Driven.{distinct_range, in_range}
 use Rattle.cg_netlist.proofs.Given.{distinct_cells, driver_within}
 use Rattle.cg_net.proofs.Members.{distinct_append, is_in_right, one_place}
 use Rattle.cg_net.proofs.TableLemmas.{front_get}
-use Rattle.cg_cone.specs.inner.Reaching.{IsWired}
+use Rattle.cg_netlist_cone.specs.inner.Reaching.{IsWired}
 use Rattle.cg_netlist.proofs.WalkPlaces.{walk_long, walk_once}
 use Rattle.cg_machine.specs.Added.{own_netlist}
 use Rattle.cg_machine.specs.Machine.{IsMachine, MachineData, order_of}

@@ -3,15 +3,15 @@
 ghost use Rattle.std.specs.Prelude.{◌≡◌, ◌<◌, [], length, IfOk};
 ghost use Rattle.std.specs.List.{All};
 ghost use Rattle.cg_machine.specs.Machine.{order_of};
-ghost use Rattle.cg_cone.specs.Cone.{cone_at};
+ghost use Rattle.cg_netlist_cone.specs.Cone.{cone_at};
 
 use crate::machine::Machine;
-use cg_cone::cone::Cone;
-use cg_cone::reach::reached_cone;
-use cg_cone::wiring::Wiring;
 use cg_net::id::{CellId, NetId};
 use cg_net::net_set::NetSet;
 use cg_netlist::driver::Driver;
+use cg_netlist_cone::cone::Cone;
+use cg_netlist_cone::reach::reached_cone;
+use cg_netlist_cone::wiring::Wiring;
 use std::alloc::{AllocError, Global};
 
 /// Finds cones, one after another, each at the cost of what it reaches.

@@ -7,9 +7,9 @@ ghost use Rattle.cg_netlist.specs.Netlist.{widest_of};
 ghost use Rattle.cg_machine.specs.Tries.{MayTry, Tries};
 
 use crate::machine::Machine;
-use cg_cone::cone::Cone;
 use cg_net::id::{CellId, NetId};
 use cg_netlist::walk::{gather, put};
+use cg_netlist_cone::cone::Cone;
 
 impl Machine {
     /// Calls `step` once for each cell of the cone, added gates among them, in the order of the cone, with the state and

@@ -1,7 +1,7 @@
 //! Netlists as plain data, and what they mean.
 //!
 //! `Netlist::new` makes a netlist of parts that are one: well formed, with their nets in net order. Who has parts by the
-//! names of their nets makes it by the crate `cg_builder`; what such parts say stands in `cg_parts`. The numbers and the
+//! names of their nets makes it by the crate `cg_netlist_builder`; what such parts say stands in `cg_netlist_parts`. The numbers and the
 //! names of nets stand in `cg_net`.
 //!
 //! The modules, in the order in which data flows through them:

@@ -5,10 +5,10 @@ use Rattle.std.specs.List.{list_any, range_with_len}
 use Rattle.std.specs.Option.{option_map_or}
 use Rattle.std.proofs.lemmas.Bool.{both_ways, eqb-true, eq-eqb}
 use Rattle.std.proofs.lemmas.List.Folds.{list_any-append}
-use Rattle.cg_groups.proofs.Ordered.{range_more}
-use Rattle.cg_lists.specs.Rounds.{same_option}
-use Rattle.cg_lists.specs.Supports.{has_enable, own_registers_of, supports}
-use Rattle.cg_lists.specs.UnseenList.{enables_some, fan_out, is_guard, plain_outputs, taken_at}
+use Rattle.cg_stage_groups.proofs.Ordered.{range_more}
+use Rattle.cg_stage_list_laws.specs.Rounds.{same_option}
+use Rattle.cg_stage_list_laws.specs.Supports.{has_enable, own_registers_of, supports}
+use Rattle.cg_stage_list_laws.specs.UnseenList.{enables_some, fan_out, is_guard, plain_outputs, taken_at}
 use Rattle.cg_machine.specs.Machine.{MachineData, enable_of}
 use Rattle.cg_net.specs.NetSets.{is_in}
 use Rattle.cg_odc.specs.inner.Guarding.{guards_by, may_guard, shows_plain}

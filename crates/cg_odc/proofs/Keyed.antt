@@ -4,11 +4,11 @@ use Rattle.std.proofs.Common.{nat_eq, bytes_eq, option_and_then, Option, Some, N
 use Rattle.std.specs.List.{cons_option, filter, filter_map, find}
 use Rattle.std.specs.Option.{option_map, option_map_or}
 use Rattle.std.proofs.lemmas.Bool.{both_ways, eq-eqb, eqb-true, lt-ltb, ltb-true, or_left}
-use Rattle.cg_lists.specs.Groups.{Group, group_of, groups, has_key, is_first}
-use Rattle.cg_lists.specs.Rounds.{is_empty, kept_key, left_out, same_kind}
-use Rattle.cg_lists.specs.StableList.{StableKey, same_stable}
-use Rattle.cg_lists.specs.Supports.{has_enable, own_registers_of}
-use Rattle.cg_lists.specs.UnseenList.{fan_out, guards_of, had_unseen, is_guard, unseen_key}
+use Rattle.cg_stage_list_laws.specs.Groups.{Group, group_of, groups, has_key, is_first}
+use Rattle.cg_stage_list_laws.specs.Rounds.{is_empty, kept_key, left_out, same_kind}
+use Rattle.cg_stage_list_laws.specs.StableList.{StableKey, same_stable}
+use Rattle.cg_stage_list_laws.specs.Supports.{has_enable, own_registers_of}
+use Rattle.cg_stage_list_laws.specs.UnseenList.{fan_out, guards_of, had_unseen, is_guard, unseen_key}
 use Rattle.cg_machine.specs.Machine.{MachineData}
 use Rattle.cg_machine.specs.declared.stage.Earlier.{Earlier}
 use Rattle.cg_machine.specs.declared.stage.StageKind.TheVariants.{Unseen}

@@ -8,20 +8,20 @@ use Rattle.std.proofs.lemmas.List.{length-take-le}
 use Rattle.std.proofs.lemmas.List.Elements.{filter-append, filter_map-append}
 use Rattle.std.proofs.lemmas.Option.{none-some, same_Some}
 use Rattle.std.proofs.lemmas.Slice.Eq.{bytes_eq-Decides}
-use Rattle.cg_groups.proofs.Listed.{seen_push}
-use Rattle.cg_groups.proofs.Same.{same_groups}
-use Rattle.cg_groups.specs.Keys.{groups_seen, key_at, key_seen}
-use Rattle.cg_groups.specs.declared.key.Key.{Key}
-use Rattle.cg_lists.proofs.FitLists.{begins_group}
-use Rattle.cg_lists.proofs.Mapped.{kept, then_option, when_true}
-use Rattle.cg_lists.proofs.UsedNets.{register_used, used_net}
-use Rattle.cg_lists.specs.Groups.{Group, group_of, groups}
-use Rattle.cg_lists.specs.HoldList.{unless_empty}
-use Rattle.cg_lists.specs.Rounds.{is_empty, kept_key, plain_literals}
-use Rattle.cg_lists.specs.StableList.{StableKey, same_stable}
-use Rattle.cg_lists.specs.Supports.{has_enable, in_net_order, own_registers_of}
-use Rattle.cg_lists.specs.UnseenList.{fan_out, guards_kept, guards_of, had_unseen, is_guard, taken_at, taken_net, unseen_groups}
-use Rattle.cg_lists.specs.UnseenList.{unseen_key, unseen_list, unseen_stage, without_guards}
+use Rattle.cg_stage_groups.proofs.Listed.{seen_push}
+use Rattle.cg_stage_groups.proofs.Same.{same_groups}
+use Rattle.cg_stage_groups.specs.Keys.{groups_seen, key_at, key_seen}
+use Rattle.cg_stage_groups.specs.declared.key.Key.{Key}
+use Rattle.cg_stage_list_laws.proofs.FitLists.{begins_group}
+use Rattle.cg_stage_list_laws.proofs.Mapped.{kept, then_option, when_true}
+use Rattle.cg_stage_list_laws.proofs.UsedNets.{register_used, used_net}
+use Rattle.cg_stage_list_laws.specs.Groups.{Group, group_of, groups}
+use Rattle.cg_stage_list_laws.specs.HoldList.{unless_empty}
+use Rattle.cg_stage_list_laws.specs.Rounds.{is_empty, kept_key, plain_literals}
+use Rattle.cg_stage_list_laws.specs.StableList.{StableKey, same_stable}
+use Rattle.cg_stage_list_laws.specs.Supports.{has_enable, in_net_order, own_registers_of}
+use Rattle.cg_stage_list_laws.specs.UnseenList.{fan_out, guards_kept, guards_of, had_unseen, is_guard, taken_at, taken_net, unseen_groups}
+use Rattle.cg_stage_list_laws.specs.UnseenList.{unseen_key, unseen_list, unseen_stage, without_guards}
 use Rattle.cg_cell.specs.Term.{lone_input}
 use Rattle.cg_claim.specs.Reach.{register_term}
 use Rattle.cg_machine.specs.Claims.{Literal}

@@ -9,7 +9,7 @@ use Rattle.std.proofs.lemmas.Option.{slice_get-get_or}
 use Rattle.cg_net.proofs.TableLemmas.{slice_get-set_other, slice_get-set_same, take_next}
 use Rattle.cg_net.specs.NetSets.{is_in}
 use Rattle.cg_odc.specs.inner.Guarding.{list_at}
-use Rattle.cg_cone.proofs.ConeEdge.{in_more}
+use Rattle.cg_netlist_cone.proofs.ConeEdge.{in_more}
 use Rattle.std.proofs.Math.Bool.{or-false}
 
 -- one item more of those that were put

@@ -19,9 +19,9 @@ use Rattle.cg_machine.specs.Added.{added_place, own_netlist, own_nets}
 use Rattle.cg_machine.specs.Machine.{IsMachine, MachineData}
 use Rattle.cg_machine.proofs.Lists.{take_get}
 use Rattle.cg_claim.proofs.DriversTell.{driven_value, driver_tells}
-use Rattle.cg_lists.specs.UnseenList.{plain_outputs}
+use Rattle.cg_stage_list_laws.specs.UnseenList.{plain_outputs}
 use Rattle.cg_odc.specs.inner.Guarding.{is_plain, shows_plain}
-use Rattle.cg_support.proofs.Driving.{lifted}
+use Rattle.cg_stage_groups.proofs.Driving.{lifted}
 use Rattle.std.specs.Cmp.{both_ways as same_truth}
 
 -- an output that is not inverted, by its place

@@ -2,10 +2,10 @@
 
 ghost use Rattle.std.specs.Prelude.{◌≡◌, ◌<◌, ℕ, true, length, IfOk};
 ghost use Rattle.std.specs.List.{filter_map};
-ghost use Rattle.cg_groups.specs.Keys.{groups_seen};
-ghost use Rattle.cg_lists.specs.HoldList.{unless_empty};
-ghost use Rattle.cg_lists.specs.Rounds.{plain_literals};
-ghost use Rattle.cg_lists.specs.UnseenList.{taken_at, unseen_list, unseen_stage};
+ghost use Rattle.cg_stage_groups.specs.Keys.{groups_seen};
+ghost use Rattle.cg_stage_list_laws.specs.HoldList.{unless_empty};
+ghost use Rattle.cg_stage_list_laws.specs.Rounds.{plain_literals};
+ghost use Rattle.cg_stage_list_laws.specs.UnseenList.{taken_at, unseen_list, unseen_stage};
 ghost use Rattle.cg_net.specs.NetSets.{is_in};
 ghost use Rattle.cg_odc.specs.inner.Kept.{AreOwnKeys, left_stage, not_among};
 
@@ -13,12 +13,12 @@ use crate::guard::taken_net;
 use crate::kept::{kept_guards, left_of};
 use crate::key::keys_of;
 use crate::round::leave_out;
-use cg_cone::ascending::ascending;
-use cg_groups::group::{Groups, groups_of};
 use cg_list::Seq;
 use cg_machine::machine::Machine;
 use cg_machine::stage::{Earlier, NetLit, Stage, StageKind};
 use cg_net::id::{NetId, RegId};
+use cg_netlist_cone::ascending::ascending;
+use cg_stage_groups::group::{Groups, groups_of};
 use indexmap::IndexSet;
 use std::alloc::{AllocError, Global};
 

@@ -4,7 +4,7 @@ ghost use Rattle.std.specs.Prelude.{◌≡◌, ◌<◌, ℕ, false, nat_eq, leng
 ghost use Rattle.std.specs.Option.{option_map_or};
 ghost use Rattle.cg_cell.specs.Term.{Bit, lone_input};
 ghost use Rattle.cg_claim.specs.Reach.{register_term};
-ghost use Rattle.cg_lists.specs.UnseenList.{taken_at};
+ghost use Rattle.cg_stage_list_laws.specs.UnseenList.{taken_at};
 ghost use Rattle.cg_netlist.specs.View.{kind_seen};
 ghost use Rattle.cg_odc.specs.inner.Guarding.{is_plain, may_guard, shows_plain};
 

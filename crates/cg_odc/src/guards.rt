@@ -8,7 +8,7 @@ use crate::guard::guard_of;
 use cg_list::Seq;
 use cg_machine::machine::Machine;
 use cg_net::id::RegId;
-use cg_support::finder::SupportFinder;
+use cg_stage_groups::finder::SupportFinder;
 use std::alloc::{AllocError, Global};
 
 /// The guards of the registers of a netlist, by the numbers of both; a guard may stand there more than once.

@@ -5,10 +5,10 @@ ghost use Rattle.cg_net.specs.NetSets.{is_in};
 ghost use Rattle.cg_odc.specs.inner.Kept.{guards_in, inserted_guards, key_numbers, not_among};
 
 use crate::round::is_unseen;
-use cg_groups::group::Groups;
 use cg_list::Seq;
 use cg_machine::stage::Earlier;
 use cg_net::id::RegId;
+use cg_stage_groups::group::Groups;
 use indexmap::IndexSet;
 use std::alloc::{AllocError, Global};
 

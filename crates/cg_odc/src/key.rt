@@ -2,16 +2,16 @@
 
 ghost use Rattle.std.specs.Prelude.{◌≡◌, ◌<◌, ℕ, IfOk};
 ghost use Rattle.std.specs.Option.{option_map};
-ghost use Rattle.cg_groups.specs.Keys.{key_seen};
-ghost use Rattle.cg_lists.specs.UnseenList.{unseen_key};
+ghost use Rattle.cg_stage_groups.specs.Keys.{key_seen};
+ghost use Rattle.cg_stage_list_laws.specs.UnseenList.{unseen_key};
 ghost use Rattle.cg_net.specs.NetSets.{is_in};
 ghost use Rattle.cg_odc.specs.inner.Guarding.{AreKeys, guard_key, guards_by};
 
 use crate::guards::Guards;
-use cg_cone::ascending::ascending;
-use cg_groups::key::Key;
 use cg_machine::machine::Machine;
 use cg_net::id::RegId;
+use cg_netlist_cone::ascending::ascending;
+use cg_stage_groups::key::Key;
 use std::alloc::{AllocError, Global};
 
 /// The keys of all registers of a machine's netlist, each at its place: its guards, where it has some and no enable.

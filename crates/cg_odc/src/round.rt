@@ -1,17 +1,17 @@
 //! The keys of a round, without those of the registers that it leaves out.
 
 ghost use Rattle.std.specs.Prelude.{◌≡◌, ℕ, ◌&&◌, if◌then◌else◌, IfOk, OnOk};
-ghost use Rattle.cg_groups.specs.Keys.{key_at, key_seen};
-ghost use Rattle.cg_groups.specs.Leaving.{without};
-ghost use Rattle.cg_lists.specs.Rounds.{kept_key, same_kind};
+ghost use Rattle.cg_stage_groups.specs.Keys.{key_at, key_seen};
+ghost use Rattle.cg_stage_groups.specs.Leaving.{without};
+ghost use Rattle.cg_stage_list_laws.specs.Rounds.{kept_key, same_kind};
 ghost use Rattle.cg_machine.specs.declared.stage.StageKind.TheVariants.{Unseen};
 ghost use Rattle.cg_net.specs.NetSets.{is_in};
 ghost use Rattle.cg_odc.specs.inner.Guarding.{guard_key, had_guards};
 
-use cg_groups::key::Key;
-use cg_groups::leaving::take_out;
 use cg_machine::stage::{Earlier, Stage, StageKind};
 use cg_net::id::RegId;
+use cg_stage_groups::key::Key;
+use cg_stage_groups::leaving::take_out;
 use std::alloc::{AllocError, Global};
 
 /// Clears the keys of the registers that a round leaves out: those that stood in an earlier stage of unobservability that

@@ -1,7 +1,10 @@
-pub mod CellsThere
-pub mod Decided
-pub mod PlanSafe
-pub mod Exactly
-pub mod AllSafe
-pub mod Examples
-pub mod Telling
+pub mod Drafts
+pub mod Growing
+pub mod Planned
+pub mod Rounds
+pub mod Naming
+pub mod Noted
+pub mod Measuring
+pub mod Deciding
+pub mod Adding
+pub mod Judging

@@ -1,6 +1,3 @@
-pub mod StageClaims
-pub mod Trying
-pub mod Plan
-pub mod Told
-pub mod Cells
-pub mod Laws
+pub mod Trial
+pub mod Planning
+pub mod inner

@@ -1,16 +1,35 @@
-//! Plans: what comes of each stage that is tried, and which stages a plan inserts.
+//! Planning: which stages a machine gets.
 //!
-//! The definitions are functions of a machine, a library and settings; the code that tries stages stands over them.
+//! A machine, a library and settings go in. Stages are looked for and tried one after the other, each on the machine so far,
+//! and the plan comes out: the machine at the end, the stages with what came of them, and the proofs of the claims on which
+//! the inserted ones stand.
 //!
 //! The modules:
 //!
-//! - `settings`: what bounds a plan.
-//! - `outcome`: what comes of a stage.
-//! - `certificate`: proofs of the claims of inserted stages.
-//! - `laws`: what is proved of plans.
+//! - `cells`: how a stage ends by its registers and its cells alone.
+//! - `claims`: the claims of a stage, by their names.
+//! - `sets`: a stage whose claims are built.
+//! - `measure`: how a stage ends by the measure of a claim.
+//! - `decide`: the decision of a claim that is built.
+//! - `insert`: what a stage adds to a machine.
+//! - `judge`: what tries stages one after another.
+//! - `trial`: a stage that is tried on a machine.
+//! - `earlier`: stages that were tried, as later rounds see them.
+//! - `draft`: a plan in the making.
+//! - `plan`: the plan of a machine.
 #![tactic(auto)]
 
-pub mod certificate;
-pub mod laws;
-pub mod outcome;
-pub mod settings;
+mod cells;
+mod claims;
+mod decide;
+mod draft;
+mod earlier;
+mod insert;
+mod judge;
+mod measure;
+pub mod plan;
+mod sets;
+pub mod trial;
+
+/// Who is told how far a plan is.
+pub use cg_hold::progress;

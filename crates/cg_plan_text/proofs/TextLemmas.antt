@@ -6,8 +6,8 @@ use Rattle.std.specs.List.{count_by, flat_map}
 use Rattle.std.proofs.lemmas.List.Sums.{count_by-le-length, sum_by-cons}
 use Rattle.cg_machine.specs.Machine.{MachineData}
 use Rattle.cg_machine.specs.declared.stage.Stage.{Stage}
-use Rattle.cg_plan.specs.declared.certificate.Certificate.{Certificate}
-use Rattle.cg_plan.specs.declared.outcome.Outcome.{Outcome}
+use Rattle.cg_plan_laws.specs.declared.certificate.Certificate.{Certificate}
+use Rattle.cg_plan_laws.specs.declared.outcome.Outcome.{Outcome}
 use Rattle.cg_text.specs.Written.{joined, line_text, text_of}
 use Rattle.cg_plan_text.specs.ProofText.{certificate_text}
 use Rattle.cg_plan_text.specs.StageLines.{stages_from}

@@ -6,8 +6,8 @@ use Rattle.std.specs.List.{flat_map}
 use Rattle.cg_formula.specs.DimacsText.{dimacs_text}
 use Rattle.cg_lrat.specs.LratText.{lrat_text}
 use Rattle.cg_machine.specs.Machine.{MachineData}
-use Rattle.cg_plan.specs.Told.{ToldPlan}
-use Rattle.cg_plan.specs.declared.certificate.Certificate.{Certificate}
+use Rattle.cg_plan_laws.specs.Told.{ToldPlan}
+use Rattle.cg_plan_laws.specs.declared.certificate.Certificate.{Certificate}
 use Rattle.cg_text.specs.Written.{line_text}
 use Rattle.cg_plan_text.specs.Words.{Word, claim_words}
 

@@ -3,8 +3,8 @@ use Rattle.std.specs.Prelude.{ℕ, ◌+◌, ◌-◌, List, [], ◌∷◌, length
 use Rattle.std.specs.Fmt.{decimal}
 use Rattle.cg_machine.specs.Machine.{MachineData}
 use Rattle.cg_machine.specs.declared.stage.Stage.{Stage}
-use Rattle.cg_plan.specs.Told.{ToldPlan}
-use Rattle.cg_plan.specs.declared.outcome.Outcome.{Outcome}
+use Rattle.cg_plan_laws.specs.Told.{ToldPlan}
+use Rattle.cg_plan_laws.specs.declared.outcome.Outcome.{Outcome}
 use Rattle.cg_text.specs.Written.{text_of}
 use Rattle.cg_plan_text.specs.Words.{Word, stage_words}
 

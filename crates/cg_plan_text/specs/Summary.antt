@@ -3,9 +3,9 @@ use Rattle.std.specs.Prelude.{ℕ, ◌-◌, if◌then◌else◌, List, [], ◌�
 use Rattle.std.specs.Fmt.{decimal}
 use Rattle.std.specs.List.{count_by}
 use Rattle.cg_machine.specs.declared.stage.Stage.{Stage}
-use Rattle.cg_plan.specs.Plan.{is_inserted}
-use Rattle.cg_plan.specs.Told.{ToldPlan}
-use Rattle.cg_plan.specs.declared.outcome.Outcome.{Outcome}
+use Rattle.cg_plan_laws.specs.Plan.{is_inserted}
+use Rattle.cg_plan_laws.specs.Told.{ToldPlan}
+use Rattle.cg_plan_laws.specs.declared.outcome.Outcome.{Outcome}
 use Rattle.cg_text.specs.Written.{line_text}
 use Rattle.cg_plan_text.specs.StageLines.{counts_words, stage_lines}
 use Rattle.cg_plan_text.specs.Words.{Word}

@@ -17,8 +17,8 @@ use Rattle.cg_machine.specs.declared.stage.Stage.{Stage}
 use Rattle.cg_machine.specs.declared.stage.StageKind.{StageKind}
 use Rattle.cg_machine.specs.declared.stage.StageKind.TheVariants.{Hold, Stable, Unseen}
 use Rattle.cg_net.specs.Names.{net_name}
-use Rattle.cg_plan.specs.declared.outcome.Outcome.{Outcome}
-use Rattle.cg_plan.specs.declared.outcome.Outcome.TheVariants.{Inserted, NeverIdle, NoCell, Refuted, Small, Wide}
+use Rattle.cg_plan_laws.specs.declared.outcome.Outcome.{Outcome}
+use Rattle.cg_plan_laws.specs.declared.outcome.Outcome.TheVariants.{Inserted, NeverIdle, NoCell, Refuted, Small, Wide}
 
 -- a word of text
 abbrev pub Word : Type 0

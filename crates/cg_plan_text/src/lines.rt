@@ -3,15 +3,15 @@
 ghost use Rattle.std.specs.Prelude.{◌≡◌, ◌++◌, ◌∷◌, [], decimal, IfOk, OnOk};
 ghost use Rattle.cg_plan_text.specs.StageLines.{counts_words, stage_lines, stages_from, wide_words};
 ghost use Rattle.cg_plan_text.specs.inner.Spaced.{spaced};
-ghost use Rattle.cg_planner.specs.Planning.{told};
+ghost use Rattle.cg_plan.specs.Planning.{told};
 ghost use Rattle.cg_text.specs.Written.{line_text, text_of};
 
 use crate::names::{push_count, push_word};
 use crate::stage::push_stage;
 use cg_machine::machine::Machine;
 use cg_machine::stage::Stage;
-use cg_plan::outcome::Outcome;
-use cg_planner::plan::Plan;
+use cg_plan::plan::Plan;
+use cg_plan_laws::outcome::Outcome;
 use std::alloc::{AllocError, Global};
 
 /// The lines of a plan, from what was counted to the last stage; the written netlist has so many gating cells.

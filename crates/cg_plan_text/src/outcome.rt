@@ -8,7 +8,7 @@ use crate::claim::{push_claim, push_leaves};
 use crate::names::{push_count, push_word};
 use cg_cell::fit::FitKind;
 use cg_machine::machine::Machine;
-use cg_plan::outcome::Outcome;
+use cg_plan_laws::outcome::Outcome;
 use std::alloc::AllocError;
 
 /// Puts the words of an outcome behind a text, each behind a space.

@@ -7,7 +7,7 @@ ghost use Rattle.cg_formula.specs.DimacsText.{dimacs_text};
 ghost use Rattle.cg_lrat.specs.Bounds.{IsLog};
 ghost use Rattle.cg_lrat.specs.LratText.{lrat_text};
 ghost use Rattle.cg_plan_text.specs.ProofText.{certificate_text, heading_words, proof_text};
-ghost use Rattle.cg_planner.specs.Planning.{AreWritable, IsWritableCertificate, told};
+ghost use Rattle.cg_plan.specs.Planning.{AreWritable, IsWritableCertificate, told};
 ghost use Rattle.cg_text.specs.Written.{line_text};
 
 use crate::claim::push_claim;
@@ -15,8 +15,8 @@ use crate::names::{push_count, push_word};
 use cg_formula::{Formula, write_dimacs};
 use cg_lrat::{Log, write_lrat};
 use cg_machine::machine::Machine;
-use cg_plan::certificate::Certificate;
-use cg_planner::plan::Plan;
+use cg_plan::plan::Plan;
+use cg_plan_laws::certificate::Certificate;
 use std::alloc::{AllocError, Global};
 
 /// The proof file of a plan, whose certificates keep to the bounds of their formats.

@@ -10,7 +10,7 @@ use crate::outcome::push_outcome;
 use cg_machine::machine::Machine;
 use cg_machine::stage::{NetLit, Stage, StageKind};
 use cg_net::id::RegId;
-use cg_plan::outcome::Outcome;
+use cg_plan_laws::outcome::Outcome;
 use std::alloc::AllocError;
 
 /// Puts the line of a stage of this number behind a text.

@@ -2,18 +2,18 @@
 
 ghost use Rattle.std.specs.Prelude.{◌≡◌, ◌++◌, ◌∷◌, [], decimal, IfOk, OnOk};
 ghost use Rattle.std.specs.List.{count_by};
-ghost use Rattle.cg_plan.specs.Plan.{is_inserted};
+ghost use Rattle.cg_plan_laws.specs.Plan.{is_inserted};
 ghost use Rattle.cg_plan_text.specs.Summary.{demo_text, difference_word, edges_line, edges_words};
 ghost use Rattle.cg_plan_text.specs.Summary.{played_lines, report_text, said_text, summary_of, watched_line};
-ghost use Rattle.cg_planner.specs.Planning.{told};
+ghost use Rattle.cg_plan.specs.Planning.{told};
 ghost use Rattle.cg_text.specs.Written.{line_text};
 
 use crate::lines::{push_counts, push_lines};
 use crate::names::{push_count, push_word};
 use cg_list::Seq;
 use cg_machine::stage::Stage;
-use cg_plan::outcome::Outcome;
-use cg_planner::plan::Plan;
+use cg_plan::plan::Plan;
+use cg_plan_laws::outcome::Outcome;
 use cg_text::number::push_number;
 use std::alloc::{AllocError, Global};
 

@@ -10,15 +10,15 @@ use Rattle.cg_net.specs.NetSets.{is_in}
 use Rattle.cg_machine.specs.Machine.{IsMachine, MachineData, enable_of}
 use Rattle.cg_claim.specs.Reach.{feeds, registers_of}
 use Rattle.cg_claim.proofs.Reached.{and_first}
-use Rattle.cg_lists.specs.Rounds.{is_empty}
-use Rattle.cg_lists.specs.StableList.{StableKey, stable_key}
-use Rattle.cg_lists.specs.Supports.{all_nets, has_enable, in_net_order, input_cone, others_of, reads_own_at, supports}
+use Rattle.cg_stage_list_laws.specs.Rounds.{is_empty}
+use Rattle.cg_stage_list_laws.specs.StableList.{StableKey, stable_key}
+use Rattle.cg_stage_list_laws.specs.Supports.{all_nets, has_enable, in_net_order, input_cone, others_of, reads_own_at, supports}
 use Rattle.cg_stability.specs.inner.Leaving.{AreRegisters, is_keyed}
-use Rattle.cg_support.specs.Support.{IsSupport}
-use Rattle.cg_support.specs.declared.support.Support.{Support}
+use Rattle.cg_stage_groups.specs.Support.{IsSupport}
+use Rattle.cg_stage_groups.specs.declared.support.Support.{Support}
 use Rattle.std.specs.Cmp.{both_ways as same_truth}
-use Rattle.cg_lists.proofs.Mapped.{all_member, nonempty_member}
-use Rattle.cg_cone.proofs.ConeEdge.{any_in, from_any}
+use Rattle.cg_stage_list_laws.proofs.Mapped.{all_member, nonempty_member}
+use Rattle.cg_netlist_cone.proofs.ConeEdge.{any_in, from_any}
 use Rattle.std.proofs.lemmas.Bool.{not-true, not_from_false}
 use Rattle.cg_netlist.proofs.Filtered.{in_filter, range_in, to_filter}
 use Rattle.cg_netlist.proofs.Rising.{in_made}

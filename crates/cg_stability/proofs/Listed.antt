@@ -3,13 +3,13 @@ use Rattle.std.proofs.Common.{◌≡◌, ℕ, suc, ◌+◌, ◌<◌, List, [], �
 use Rattle.std.proofs.Common.{arith}
 use Rattle.std.specs.List.{range_with_len}
 use Rattle.std.proofs.lemmas.List.{length-take-le}
-use Rattle.cg_groups.proofs.Listed.{map-push, seen_push}
-use Rattle.cg_groups.proofs.Same.{same_groups}
-use Rattle.cg_groups.specs.declared.key.Key.{Key}
-use Rattle.cg_groups.specs.Keys.{groups_seen, key_at, key_seen}
-use Rattle.cg_lists.specs.Groups.{Group, groups}
-use Rattle.cg_lists.specs.Rounds.{kept_key}
-use Rattle.cg_lists.specs.StableList.{StableKey, had_stable, same_stable, stable_key, stable_list, stable_stage}
+use Rattle.cg_stage_groups.proofs.Listed.{map-push, seen_push}
+use Rattle.cg_stage_groups.proofs.Same.{same_groups}
+use Rattle.cg_stage_groups.specs.declared.key.Key.{Key}
+use Rattle.cg_stage_groups.specs.Keys.{groups_seen, key_at, key_seen}
+use Rattle.cg_stage_list_laws.specs.Groups.{Group, groups}
+use Rattle.cg_stage_list_laws.specs.Rounds.{kept_key}
+use Rattle.cg_stage_list_laws.specs.StableList.{StableKey, had_stable, same_stable, stable_key, stable_list, stable_stage}
 use Rattle.cg_machine.specs.Machine.{MachineData}
 use Rattle.cg_machine.specs.declared.stage.Earlier.{Earlier}
 use Rattle.cg_machine.specs.declared.stage.Stage.{Stage}

@@ -1,17 +1,17 @@
 //! The stages of a round of stability.
 
 ghost use Rattle.std.specs.Prelude.{◌≡◌, length, map, IfOk};
-ghost use Rattle.cg_groups.specs.Keys.{groups_seen, key_seen};
-ghost use Rattle.cg_lists.specs.Rounds.{plain_literals};
-ghost use Rattle.cg_lists.specs.StableList.{stable_list, stable_stage};
+ghost use Rattle.cg_stage_groups.specs.Keys.{groups_seen, key_seen};
+ghost use Rattle.cg_stage_list_laws.specs.Rounds.{plain_literals};
+ghost use Rattle.cg_stage_list_laws.specs.StableList.{stable_list, stable_stage};
 
 use crate::round::{keys_of, leave_out};
-use cg_groups::group::{Groups, groups_of};
-use cg_groups::key::Key;
 use cg_list::Seq;
 use cg_machine::machine::Machine;
 use cg_machine::stage::{Earlier, NetLit, Stage, StageKind};
 use cg_net::id::{NetId, RegId};
+use cg_stage_groups::group::{Groups, groups_of};
+use cg_stage_groups::key::Key;
 use std::alloc::{AllocError, Global};
 
 /// The stages that a round of stability tries on a machine, where these stages were tried before.

@@ -3,19 +3,19 @@
 ghost use Rattle.std.specs.Prelude.{◌≡◌, ◌<◌, ◌||◌, if◌then◌else◌, None, nat_eq, not, length, IfOk};
 ghost use Rattle.std.specs.List.{filter_map, list_all, list_any};
 ghost use Rattle.std.specs.Option.{option_map};
-ghost use Rattle.cg_groups.specs.Keys.{key_seen};
-ghost use Rattle.cg_lists.specs.StableList.{stable_key};
-ghost use Rattle.cg_lists.specs.Supports.{has_enable};
+ghost use Rattle.cg_stage_groups.specs.Keys.{key_seen};
+ghost use Rattle.cg_stage_list_laws.specs.StableList.{stable_key};
+ghost use Rattle.cg_stage_list_laws.specs.Supports.{has_enable};
 ghost use Rattle.cg_machine.specs.Machine.{enable_of};
 ghost use Rattle.cg_stability.specs.inner.Leaving.{AreRegisters, is_keyed};
-ghost use Rattle.cg_support.specs.Support.{IsSupport};
+ghost use Rattle.cg_stage_groups.specs.Support.{IsSupport};
 
-use cg_cone::ascending::ascending;
-use cg_groups::key::Key;
 use cg_machine::machine::Machine;
 use cg_net::id::RegId;
-use cg_support::finder::SupportFinder;
-use cg_support::support::Support;
+use cg_netlist_cone::ascending::ascending;
+use cg_stage_groups::finder::SupportFinder;
+use cg_stage_groups::key::Key;
+use cg_stage_groups::support::Support;
 use std::alloc::{AllocError, Global};
 
 /// The key of a register: the enables of the registers that it stands on, in net order, and its own enable. It has none

@@ -1,21 +1,21 @@
 //! The keys of a round, without those of the registers that it leaves out.
 
 ghost use Rattle.std.specs.Prelude.{◌≡◌, ℕ, ◌&&◌, if◌then◌else◌, map, IfOk, OnOk};
-ghost use Rattle.cg_groups.specs.Keys.{key_at, key_seen};
-ghost use Rattle.cg_groups.specs.Leaving.{without};
-ghost use Rattle.cg_lists.specs.Rounds.{kept_key, same_kind};
-ghost use Rattle.cg_lists.specs.StableList.{had_stable};
+ghost use Rattle.cg_stage_groups.specs.Keys.{key_at, key_seen};
+ghost use Rattle.cg_stage_groups.specs.Leaving.{without};
+ghost use Rattle.cg_stage_list_laws.specs.Rounds.{kept_key, same_kind};
+ghost use Rattle.cg_stage_list_laws.specs.StableList.{had_stable};
 ghost use Rattle.cg_machine.specs.declared.stage.StageKind.TheVariants.{Stable};
 ghost use Rattle.cg_net.specs.NetSets.{is_in};
 ghost use Rattle.cg_stability.specs.inner.Leaving.{AreKeys, stage_key};
 
 use crate::key::key_of;
-use cg_groups::key::Key;
-use cg_groups::leaving::take_out;
 use cg_machine::machine::Machine;
 use cg_machine::stage::{Earlier, NetLit, Stage, StageKind};
 use cg_net::id::{NetId, RegId};
-use cg_support::finder::SupportFinder;
+use cg_stage_groups::finder::SupportFinder;
+use cg_stage_groups::key::Key;
+use cg_stage_groups::leaving::take_out;
 use std::alloc::{AllocError, Global};
 
 /// The keys of all registers of a machine's netlist, each at its place.

@@ -4,7 +4,7 @@ use Rattle.std.specs.Prelude.{IsOkAnd}
 use Rattle.cg_cell.specs.Cell.{CellData}
 use Rattle.cg_cell.specs.Name.{is_name}
 use Rattle.cg_demo.specs.Pipeline.{generated, library as library_text, stimulus as stimulus_text}
-use Rattle.cg_gating.specs.Request.{MayGate}
+use Rattle.cg_gate.specs.Request.{MayGate}
 use Rattle.cg_blif_text.specs.BlifText.{BlifText}
 use Rattle.cg_liberty.specs.LibText.{LibText}
 use Rattle.cg_liberty.proofs.LibTexts.{text_of_library}

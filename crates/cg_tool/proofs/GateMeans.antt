@@ -3,8 +3,8 @@ use Rattle.std.proofs.Common.{◌≡◌, ℕ, Bool, true, false, IsTrue, List, �
 use Rattle.std.proofs.Common.{subst, None}
 use Rattle.std.specs.Prelude.{IfSome, IsOkAnd}
 use Rattle.cg_blif_text.specs.BlifText.{BlifText}
-use Rattle.cg_gating.specs.Gating.{where_asked}
-use Rattle.cg_gating.specs.declared.texts.Texts.{Texts}
+use Rattle.cg_gate.specs.Gating.{where_asked}
+use Rattle.cg_gate.specs.declared.texts.Texts.{Texts}
 use Rattle.cg_liberty.proofs.LibTexts.{text_of_library}
 use Rattle.cg_liberty.specs.LibText.{LibText}
 use Rattle.cg_liberty.specs.Library.{library_of}
@@ -22,8 +22,8 @@ use Rattle.cg_stimulus.specs.Inputs.{Rows, input_names}
 use Rattle.cg_stimulus.specs.Reading.{stimulus}
 use Rattle.cg_stimulus.specs.StimText.{StimText}
 use Rattle.cg_stimulus.proofs.StimExact.{read_is_text}
-use Rattle.cg_words.specs.declared.options.Asked.{Asked}
-use Rattle.cg_words.specs.declared.options.Options.{Options}
+use Rattle.cg_command_line.specs.declared.options.Asked.{Asked}
+use Rattle.cg_command_line.specs.declared.options.Options.{Options}
 use Rattle.cg_tool.specs.Complaints.{library_trouble, stimulus_found, stimulus_trouble}
 use Rattle.cg_tool.specs.Gate.{GatesAs, gate_output, gate_gives, gate_loads, gate_start, gate_stops, gate_takes, gate_task}
 use Rattle.cg_tool.specs.Gate.{request_by, stimulus_asked, wanted_by}

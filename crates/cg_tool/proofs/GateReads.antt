@@ -5,8 +5,8 @@ use Rattle.std.specs.Prelude.{IsOkAnd}
 use Rattle.cg_cell.specs.Cell.{CellData}
 use Rattle.cg_cell.specs.Name.{is_name}
 use Rattle.cg_blif_text.proofs.ToldIsTaken.{text_is_writable}
-use Rattle.cg_gated.specs.Gated.{refused_gater}
-use Rattle.cg_gating.specs.Request.{IsFree, MayGate}
+use Rattle.cg_gate_laws.specs.Gated.{refused_gater}
+use Rattle.cg_gate.specs.Request.{IsFree, MayGate}
 use Rattle.cg_machine.specs.Start.{begins, first_clash}
 use Rattle.cg_netlist.specs.Circuit.{Circuit}
 use Rattle.cg_net.specs.Names.{NetName, is_known}
@@ -16,7 +16,7 @@ use Rattle.cg_run.specs.declared.role.Role.{Role}
 use Rattle.cg_run.specs.declared.role.Role.TheVariants as roles
 use Rattle.cg_run.proofs.Steps.{found_ok, step_end, step_of}
 use Rattle.cg_stimulus.specs.Inputs.{IsFor, Rows}
-use Rattle.cg_words.specs.declared.options.Options.{Options}
+use Rattle.cg_command_line.specs.declared.options.Options.{Options}
 use Rattle.cg_tool.specs.Complaints.{library_found, netlist_read, netlist_trouble}
 use Rattle.cg_tool.specs.Gate.{gate_loads, gate_start, gate_takes, gateable, gateable_found, request_by, unlifted, unprefixed}
 use Rattle.cg_tool.specs.Gate.{untested, wanted_by}

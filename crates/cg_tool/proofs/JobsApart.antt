@@ -7,17 +7,17 @@ use Rattle.std.specs.Option.{option_and_then, option_to_list}
 use Rattle.std.specs.Str.{bytes_eq}
 use Rattle.std.proofs.lemmas.Slice.Eq.{bytes_eq-Decides}
 use Rattle.clap.specs.Words.{Kinds, Row, all_of, fault_of, first_of, matches_of}
-use Rattle.cg_plan.specs.declared.settings.Settings.{Settings}
+use Rattle.cg_plan_laws.specs.declared.settings.Settings.{Settings}
 use Rattle.cg_run.specs.Names.{Files, file_of, no_files}
-use Rattle.cg_words.specs.CommandLine.{Values, command_line, values_in}
-use Rattle.cg_words.specs.Jobs.{JobWords, demo_job, gate_files, gate_job, job_in, job_of, job_of_options, job_with, job_without}
-use Rattle.cg_words.specs.Jobs.{lrat_job, sim_job}
-use Rattle.cg_words.specs.Options.{are_different, asked_in, gate_options, gate_options_with, has_options, no_options, number_in}
-use Rattle.cg_words.specs.Options.{option_files, settings_in, watch_in}
-use Rattle.cg_words.specs.declared.job.Mode.{Mode}
-use Rattle.cg_words.specs.declared.job.Mode.TheVariants.{Demo, Gate, Lrat, Sim}
-use Rattle.cg_words.specs.declared.options.Asked.{Asked}
-use Rattle.cg_words.specs.declared.options.Options.{Options}
+use Rattle.cg_command_line.specs.CommandLine.{Values, command_line, values_in}
+use Rattle.cg_command_line.specs.Jobs.{JobWords, demo_job, gate_files, gate_job, job_in, job_of, job_of_options, job_with, job_without}
+use Rattle.cg_command_line.specs.Jobs.{lrat_job, sim_job}
+use Rattle.cg_command_line.specs.Options.{are_different, asked_in, gate_options, gate_options_with, has_options, no_options, number_in}
+use Rattle.cg_command_line.specs.Options.{option_files, settings_in, watch_in}
+use Rattle.cg_command_line.specs.declared.job.Mode.{Mode}
+use Rattle.cg_command_line.specs.declared.job.Mode.TheVariants.{Demo, Gate, Lrat, Sim}
+use Rattle.cg_command_line.specs.declared.options.Asked.{Asked}
+use Rattle.cg_command_line.specs.declared.options.Options.{Options}
 use Rattle.cg_tool.specs.Gated.{AreApart}
 use Rattle.cg_run.proofs.RoleLaws.{and_parts}
 use Rattle.cg_net.proofs.TableLemmas.{mapped_at}

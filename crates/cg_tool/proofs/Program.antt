@@ -23,10 +23,10 @@ use Rattle.cg_run.proofs.Named.{load_named}
 use Rattle.cg_run.proofs.Others.{others}
 use Rattle.cg_run.proofs.Unbegun.{never_usage, runs_unbegun}
 use Rattle.cg_run.proofs.Voice.{ended}
-use Rattle.cg_words.specs.Jobs.{JobWords}
-use Rattle.cg_words.specs.declared.job.Mode.{Mode}
-use Rattle.cg_words.specs.declared.job.Mode.TheVariants.{Demo, Gate, Lrat, Sim}
-use Rattle.cg_words.specs.declared.options.Options.{Options}
+use Rattle.cg_command_line.specs.Jobs.{JobWords}
+use Rattle.cg_command_line.specs.declared.job.Mode.{Mode}
+use Rattle.cg_command_line.specs.declared.job.Mode.TheVariants.{Demo, Gate, Lrat, Sim}
+use Rattle.cg_command_line.specs.declared.options.Options.{Options}
 use Rattle.cg_tool.specs.Demo.{IsDemo, demo_gives, demo_stops, demo_takes, demo_task}
 use Rattle.cg_tool.specs.Gate.{gate_gives, gate_loads, gate_start, gate_stops, gate_takes, gate_task}
 use Rattle.cg_tool.specs.Gated.{IsGated}

@@ -3,7 +3,7 @@ use Rattle.std.proofs.Common.{◌≡◌, ◌<◌, ℕ, List, [], ◌∷◌, leng
 use Rattle.std.proofs.Common.{arith}
 use Rattle.cg_cell.specs.Cell.{CellData}
 use Rattle.cg_extract.specs.Lifted.{is_refused}
-use Rattle.cg_gated.specs.Gated.{first_gater, has_and, refused_gater}
+use Rattle.cg_gate_laws.specs.Gated.{first_gater, has_and, refused_gater}
 use Rattle.cg_netlist.specs.Circuit.{Circuit, GatingCell}
 use Rattle.cg_tool.proofs.Names.{place_within}
 

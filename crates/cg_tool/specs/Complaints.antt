@@ -8,8 +8,8 @@ use Rattle.cg_blif_text.specs.declared.fault.BlifFault.{BlifFault}
 use Rattle.cg_blif_text.specs.declared.fault.BlifFault.TheVariants as blif_faults
 use Rattle.cg_netlist.specs.Circuit.{Circuit}
 use Rattle.cg_net.specs.Names.{NetName}
-use Rattle.cg_parts.specs.declared.fault.NetFault.{NetFault}
-use Rattle.cg_parts.specs.declared.fault.NetFault.TheVariants as net_faults
+use Rattle.cg_netlist_parts.specs.declared.fault.NetFault.{NetFault}
+use Rattle.cg_netlist_parts.specs.declared.fault.NetFault.TheVariants as net_faults
 use Rattle.cg_run.specs.Verdict.{found_as}
 use Rattle.cg_run.specs.declared.refusal.Owner.TheVariants as owners
 use Rattle.cg_run.specs.declared.refusal.Trouble.{Trouble}

@@ -4,8 +4,8 @@ use Rattle.std.specs.Option.{option_map}
 use Rattle.cg_cell.specs.Cell.{CellData}
 use Rattle.cg_blif_text.specs.BlifText.{BlifText}
 use Rattle.cg_demo.specs.Pipeline.{generated, library as library_text, stimulus as stimulus_text}
-use Rattle.cg_gating.specs.Gating.{GivesDemo}
-use Rattle.cg_gating.specs.Request.{RequestData, stops_at}
+use Rattle.cg_gate.specs.Gating.{GivesDemo}
+use Rattle.cg_gate.specs.Request.{RequestData, stops_at}
 use Rattle.cg_liberty.specs.LibText.{LibText}
 use Rattle.cg_netlist.specs.Circuit.{Circuit}
 use Rattle.cg_run.specs.Verdict.{Task, found_as, task_of}
@@ -18,7 +18,7 @@ use Rattle.cg_run.specs.declared.role.Role.{Role}
 use Rattle.cg_shelf.specs.World.{World}
 use Rattle.cg_stimulus.specs.Inputs.{Rows, input_names}
 use Rattle.cg_stimulus.specs.StimText.{StimText}
-use Rattle.cg_words.specs.Options.{no_options}
+use Rattle.cg_command_line.specs.Options.{no_options}
 use Rattle.cg_tool.specs.Complaints.{library_found, stimulus_found}
 use Rattle.cg_tool.specs.Gate.{gateable_found, request_by, wanted_by}
 use Rattle.cg_tool.specs.Refused.{then_found}

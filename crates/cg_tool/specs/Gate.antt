@@ -3,11 +3,11 @@ use Rattle.std.specs.Prelude.{◌≡◌, ℕ, ◌||◌, Bool, if◌then◌else�
 use Rattle.std.specs.Prelude.{Result, Ok, Err, IsOkAnd, IsSomeAnd}
 use Rattle.std.specs.Option.{option_and_then, option_map}
 use Rattle.cg_cell.specs.Cell.{CellData}
-use Rattle.cg_gated.specs.Gated.{refused_gater}
-use Rattle.cg_gating.specs.Gating.{GivesGated}
-use Rattle.cg_gating.specs.Headline.{Headline}
-use Rattle.cg_gating.specs.Request.{MayGate, RequestData, stops_at}
-use Rattle.cg_gating.specs.declared.texts.Texts.{Texts}
+use Rattle.cg_gate_laws.specs.Gated.{refused_gater}
+use Rattle.cg_gate.specs.Gating.{GivesGated}
+use Rattle.cg_gate.specs.Headline.{Headline}
+use Rattle.cg_gate.specs.Request.{MayGate, RequestData, stops_at}
+use Rattle.cg_gate.specs.declared.texts.Texts.{Texts}
 use Rattle.cg_machine.specs.Start.{begins, first_clash}
 use Rattle.cg_netlist.specs.Circuit.{Circuit, GatingCell}
 use Rattle.cg_net.specs.Names.{NetName, is_known, net_name}
@@ -21,7 +21,7 @@ use Rattle.cg_run.specs.declared.refusal.Trouble.TheVariants as troubles
 use Rattle.cg_run.specs.declared.role.Role.{Role}
 use Rattle.cg_run.specs.declared.role.Role.TheVariants as roles
 use Rattle.cg_stimulus.specs.Inputs.{Rows}
-use Rattle.cg_words.specs.declared.options.Options.{Options}
+use Rattle.cg_command_line.specs.declared.options.Options.{Options}
 use Rattle.cg_tool.specs.Complaints.{library_found, netlist_read, stimulus_found}
 use Rattle.cg_tool.specs.Refused.{then_found}
 use Rattle.cg_tool.specs.Watching.{Kind}

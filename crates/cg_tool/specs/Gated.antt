@@ -3,10 +3,10 @@ use Rattle.std.specs.Prelude.{◌≡◌, ℕ, Bool, true, false, List, ◌++◌,
 use Rattle.cg_cell.specs.Cell.{CellData}
 use Rattle.cg_liberty.specs.LibText.{LibText}
 use Rattle.cg_blif_text.specs.BlifText.{BlifText}
-use Rattle.cg_gating.specs.Gating.{GivesGated}
-use Rattle.cg_gating.specs.Headline.{Headline}
-use Rattle.cg_gating.specs.Request.{MayGate}
-use Rattle.cg_gating.specs.declared.texts.Texts.{Texts}
+use Rattle.cg_gate.specs.Gating.{GivesGated}
+use Rattle.cg_gate.specs.Headline.{Headline}
+use Rattle.cg_gate.specs.Request.{MayGate}
+use Rattle.cg_gate.specs.declared.texts.Texts.{Texts}
 use Rattle.cg_netlist.specs.Circuit.{Circuit}
 use Rattle.cg_netlist.specs.WellFormed.{IsWellFormed}
 use Rattle.cg_run.specs.Writes.{puts}
@@ -17,8 +17,8 @@ use Rattle.cg_run.specs.declared.role.Role.TheVariants as roles
 use Rattle.cg_shelf.specs.World.{World}
 use Rattle.cg_stimulus.specs.Inputs.{Rows, input_names}
 use Rattle.cg_stimulus.specs.StimText.{StimText}
-use Rattle.cg_words.specs.declared.options.Asked.{Asked}
-use Rattle.cg_words.specs.declared.options.Options.{Options}
+use Rattle.cg_command_line.specs.declared.options.Asked.{Asked}
+use Rattle.cg_command_line.specs.declared.options.Options.{Options}
 use Rattle.cg_tool.specs.Gate.{gate_output, request_by, wanted_by}
 use Rattle.cg_tool.specs.Watching.{Kind}
 

@@ -8,10 +8,10 @@ use Rattle.cg_run.specs.Run.{Complains, Runs}
 use Rattle.cg_run.specs.Verdict.{Task}
 use Rattle.cg_run.specs.declared.status.Status.{Status}
 use Rattle.cg_run.specs.declared.status.Status.TheVariants as statuses
-use Rattle.cg_words.specs.Jobs.{JobWords}
-use Rattle.cg_words.specs.declared.job.Mode.{Mode}
-use Rattle.cg_words.specs.declared.job.Mode.TheVariants.{Demo, Gate, Lrat, Sim}
-use Rattle.cg_words.specs.declared.options.Options.{Options}
+use Rattle.cg_command_line.specs.Jobs.{JobWords}
+use Rattle.cg_command_line.specs.declared.job.Mode.{Mode}
+use Rattle.cg_command_line.specs.declared.job.Mode.TheVariants.{Demo, Gate, Lrat, Sim}
+use Rattle.cg_command_line.specs.declared.options.Options.{Options}
 use Rattle.cg_tool.specs.Demo.{demo_task}
 use Rattle.cg_tool.specs.Gate.{gate_task}
 use Rattle.cg_tool.specs.Lrat.{lrat_task}

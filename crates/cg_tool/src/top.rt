@@ -7,7 +7,7 @@ ghost use Rattle.cg_run.specs.Names.{file_of, name_of};
 ghost use Rattle.cg_run.specs.Promise.{Ended, EndsAs, FinishBy, Gains, KeepsOthers, LeavesShelf, UnlessFails, held_files};
 ghost use Rattle.cg_run.specs.Reads.{Gave};
 ghost use Rattle.cg_run.specs.Run.{Runs};
-ghost use Rattle.cg_words.specs.Jobs.{job_of, job_words};
+ghost use Rattle.cg_command_line.specs.Jobs.{job_of, job_words};
 ghost use Rattle.cg_tool.specs.Demo.{IsDemo};
 ghost use Rattle.cg_tool.specs.Gated.{AreApart, IsGated};
 ghost use Rattle.cg_tool.specs.Lrat.{IsChecked};
@@ -17,11 +17,11 @@ ghost use Rattle.cg_tool.specs.Watching.{kind_at};
 
 use crate::modes::{demo, gate, lrat, sim};
 use crate::watching::{chosen, names_of};
-use cg_planner::progress::Progress;
+use cg_command_line::{Job, Mode, read_words};
+use cg_plan::progress::Progress;
 use cg_report::watcher::Watcher;
 use cg_run::{Status, complain};
 use cg_shelf::Shelf;
-use cg_words::{Job, Mode, read_words};
 use std::alloc::{AllocError, Global};
 
 /// Does what the words of a command line ask for, over the shelf, and answers how that ended.

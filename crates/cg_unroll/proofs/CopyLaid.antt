@@ -9,9 +9,9 @@ use Rattle.cg_aig.specs.Aig.{aig_ops, inverse}
 use Rattle.cg_aig.specs.declared.fault.AigFault.{AigFault}
 use Rattle.cg_netlist.specs.Circuit.{RegisterCell, data_inputs, shown_nets}
 use Rattle.cg_net.specs.NetSets.{is_in}
-use Rattle.cg_cone.specs.Cone.{cone_of}
+use Rattle.cg_netlist_cone.specs.Cone.{cone_of}
 use Rattle.cg_netlist.specs.Moment.{values_at}
-use Rattle.cg_cone.specs.declared.cone.Cone.{Cone}
+use Rattle.cg_netlist_cone.specs.declared.cone.Cone.{Cone}
 use Rattle.cg_netlist.specs.declared.driver.Driver.TheVariants.{Register}
 use Rattle.cg_machine.specs.Machine.{IsMachine, MachineData, walk_of}
 use Rattle.cg_claim.specs.Build.{aig_values, from_state, lay, reached_cells, shown_by, start_nets}
@@ -23,7 +23,7 @@ use Rattle.cg_claim.proofs.ReachedOnly.{copy_laid, same_then}
 use Rattle.cg_unroll.specs.inner.Building.{LaysCells, MayFail, table_of}
 use Rattle.cg_unroll.specs.inner.Filling.{AgreesWithAll, Puts, nets_shown}
 use Rattle.cg_unroll.specs.inner.Laid.{HoldsInputs, copy_table}
-use Rattle.cg_reach.specs.Reached.{IsConeOf}
+use Rattle.cg_claim_reach.specs.Reached.{IsConeOf}
 use Rattle.cg_netlist.proofs.WalkOrder.{in_each}
 use Rattle.cg_netlist.proofs.Filtered.{range_in, to_filter}
 

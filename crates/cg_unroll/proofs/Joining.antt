@@ -16,7 +16,7 @@ use Rattle.cg_unroll.specs.inner.Joining.{IsJoining}
 use Rattle.cg_unroll.proofs.Building.{fails_longer}
 use Rattle.cg_unroll.proofs.Gating.{inverse_valid}
 use Rattle.cg_net.proofs.TableLemmas.{drop_cons}
-use Rattle.cg_reach.proofs.Marking.{drop_whole}
+use Rattle.cg_claim_reach.proofs.Marking.{drop_whole}
 
 -- a literal of nets that have valid literals
 pub literal_valid : (s : Seen) (literals : List ℕ) (l : Literal) → AreValid aig_ops s literals → l.0 < length literals → IsTrue (aig_ops.is_valid s (literal_of aig_values (λ x. slice_index_or literals x 0) l))

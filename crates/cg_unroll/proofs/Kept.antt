@@ -6,7 +6,7 @@ use Rattle.cg_cell.proofs.Building.{keeps_then}
 use Rattle.cg_cell.proofs.Evals.{valid_then}
 use Rattle.cg_aig.specs.Aig.{aig_ops}
 use Rattle.cg_net.proofs.Members.{All-from_members}
-use Rattle.cg_cone.specs.declared.cone.Cone.{Cone}
+use Rattle.cg_netlist_cone.specs.declared.cone.Cone.{Cone}
 use Rattle.cg_machine.specs.Machine.{MachineData}
 use Rattle.cg_machine.proofs.Lists.{below_range}
 use Rattle.cg_claim.specs.Reach.{registers_of}

@@ -11,12 +11,12 @@ use Rattle.cg_machine.specs.Machine.{MachineData}
 use Rattle.cg_claim.specs.Build.{aig_values, goal_of, nets_in, part_run, side_run, states_in}
 use Rattle.cg_claim.specs.Question.{CopyPart, Question}
 use Rattle.cg_claim.proofs.WholeLists.{part_grows}
-use Rattle.cg_reach.specs.declared.asked.Frame.{Frame}
-use Rattle.cg_reach.specs.declared.asked.Frame.TheVariants.{Before, After, Changed}
-use Rattle.cg_reach.specs.declared.asked.Side.{Side}
+use Rattle.cg_claim_reach.specs.declared.asked.Frame.{Frame}
+use Rattle.cg_claim_reach.specs.declared.asked.Frame.TheVariants.{Before, After, Changed}
+use Rattle.cg_claim_reach.specs.declared.asked.Side.{Side}
 use Rattle.cg_unroll.specs.declared.tables.CopyTables.{CopyTables}
 use Rattle.cg_unroll.specs.declared.tables.Tables.{Tables}
-use Rattle.cg_reach.specs.Asking.{copy_of, part_of, side_of}
+use Rattle.cg_claim_reach.specs.Asking.{copy_of, part_of, side_of}
 use Rattle.cg_unroll.specs.inner.Copying.{AreTables, IsCopy, copies_of, copy_tables, shown_run, sides_run}
 use Rattle.cg_unroll.specs.inner.Placing.{IsLiteralTable}
 

@@ -4,19 +4,19 @@ ghost use Rattle.std.specs.Prelude.{◌≡◌, IfErr, IfOk, IsTrue, OnOk, length
 ghost use Rattle.cg_aig.specs.Aig.{aig_ops};
 ghost use Rattle.cg_cell.specs.Build.{Builds};
 ghost use Rattle.cg_claim.specs.Build.{aig_values, claim_run, question_run};
-ghost use Rattle.cg_reach.specs.Asking.{AsksThere, question_of};
+ghost use Rattle.cg_claim_reach.specs.Asking.{AsksThere, question_of};
 ghost use Rattle.cg_unroll.specs.inner.Building.{Built, MayFail};
-ghost use Rattle.cg_reach.specs.Reached.{IsReached};
+ghost use Rattle.cg_claim_reach.specs.Reached.{IsReached};
 
 use crate::copy::lay_copy;
 use crate::goal::goal_literal;
 use crate::states::{carry_states, put_states};
 use crate::tables::Tables;
 use cg_aig::{Aig, AigFault, AigLit};
+use cg_claim_reach::asked::Asked;
+use cg_claim_reach::reached::Reached;
 use cg_limit::{Limit, MOST_CLAIM_NODES};
 use cg_machine::machine::Machine;
-use cg_reach::asked::Asked;
-use cg_reach::reached::Reached;
 use std::alloc::Global;
 
 /// What builds lists and goals, in buffers that are kept from claim to claim.

@@ -11,12 +11,12 @@ use crate::unroller::Unroller;
 use cg_aig::{Aig, AigFault, AigLit};
 use cg_claim::leaf::Leaf;
 use cg_claim::name::ClaimName;
+use cg_claim_reach::unseen::UnseenRegs;
 use cg_limit::Limit;
 use cg_list::Seq;
 use cg_machine::machine::Machine;
 use cg_machine::stage::NetLit;
 use cg_net::id::RegId;
-use cg_reach::unseen::UnseenRegs;
 use std::alloc::{AllocError, Global};
 
 /// A claim: an and-inverter list with a goal, which is 1 at bits of the leaves exactly where these bits violate the claim.

@@ -9,8 +9,8 @@ use crate::edge::put_registers;
 use crate::lay::lay_cells;
 use crate::literals::Literals;
 use cg_aig::{Aig, AigFault, AigLit};
-use cg_cone::cone::Cone;
 use cg_machine::machine::Machine;
+use cg_netlist_cone::cone::Cone;
 
 /// Puts a copy of the machine into the list, as far as a cone reaches: the registers at its edge have the literals of
 /// `states`, its data inputs have theirs in `nets`, and each net of the cone gets its own there.

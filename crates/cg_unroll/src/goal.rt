@@ -6,7 +6,7 @@ ghost use Rattle.cg_cell.specs.Build.{build_and, build_xor, chain};
 ghost use Rattle.cg_cell.specs.Domain.{AreValid};
 ghost use Rattle.cg_aig.specs.Aig.{aig_ops, inverse};
 ghost use Rattle.cg_claim.specs.Build.{aig_values, enable_run, goal_run, literal_of, part_run};
-ghost use Rattle.cg_reach.specs.Asking.{AsksThere, PartThere, part_of, question_of};
+ghost use Rattle.cg_claim_reach.specs.Asking.{AsksThere, PartThere, part_of, question_of};
 ghost use Rattle.cg_unroll.specs.inner.Building.{Built, MayFail};
 ghost use Rattle.cg_unroll.specs.inner.Copying.{AreTables, IsCopy, copies_of, sides_run};
 
@@ -14,9 +14,9 @@ use crate::literals::Literals;
 use crate::next::next_literal;
 use crate::tables::{CopyTables, Tables};
 use cg_aig::{Aig, AigFault, AigLit};
+use cg_claim_reach::asked::{Asked, Part, Side};
 use cg_machine::machine::Machine;
 use cg_machine::stage::NetLit;
-use cg_reach::asked::{Asked, Part, Side};
 
 /// The literal of the goal of a claim: the inverse of the joined enable, and, where the claim has sides, 1 where in
 /// addition they differ. The joined enable is built first, then the sides from the left, and then what joins them.

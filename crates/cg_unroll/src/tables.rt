@@ -8,8 +8,8 @@ ghost use Rattle.cg_unroll.specs.inner.Placing.{ArePlaced, HoldsLeaves, place_in
 use crate::literals::Literals;
 use cg_aig::{Aig, AigFault, AigLit};
 use cg_claim::leaf::{Leaf, LeafSource};
+use cg_claim_reach::asked::Frame;
 use cg_machine::machine::Machine;
-use cg_reach::asked::Frame;
 use std::alloc::Global;
 
 /// The literals of a copy of the machine: of its nets, and of the states of its registers.

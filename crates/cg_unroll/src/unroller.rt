@@ -4,21 +4,21 @@ ghost use Rattle.std.specs.Prelude.{◌≡◌, ◌<◌, length, IfErr, OnOk};
 ghost use Rattle.std.specs.List.{All};
 ghost use Rattle.cg_claim.specs.Question.{hold_question, idle_question, stable_question, target_part, unseen_question};
 ghost use Rattle.cg_unroll.specs.Claims.{IsClaim, IsRefused, IsTargetName, target_of};
-ghost use Rattle.cg_reach.specs.Asking.{AsksThere, PartThere, part_of, question_of};
-ghost use Rattle.cg_reach.specs.Reached.{IsReached};
+ghost use Rattle.cg_claim_reach.specs.Asking.{AsksThere, PartThere, part_of, question_of};
+ghost use Rattle.cg_claim_reach.specs.Reached.{IsReached};
 
 use crate::build::Builder;
 use crate::claim::{Claim, ClaimFault};
 use cg_aig::{Aig, AigLit};
 use cg_claim::leaf::Leaf;
 use cg_claim::name::ClaimName;
+use cg_claim_reach::asked::{Asked, Frame, Part, Side};
+use cg_claim_reach::reached::{Reached, Reacher};
+use cg_claim_reach::unseen::UnseenRegs;
 use cg_list::Seq;
 use cg_machine::machine::Machine;
 use cg_machine::stage::NetLit;
 use cg_net::id::RegId;
-use cg_reach::asked::{Asked, Frame, Part, Side};
-use cg_reach::reached::{Reached, Reacher};
-use cg_reach::unseen::UnseenRegs;
 use std::alloc::Global;
 use std::marker::Model;
 

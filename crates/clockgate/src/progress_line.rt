@@ -1,6 +1,6 @@
 //! The line on a terminal that tells how far a run is.
 
-use cg_planner::progress::Progress;
+use cg_plan::progress::Progress;
 use std::time::{Clock, Duration, Instant};
 
 /// A line on standard error that is written over and over, where that is a terminal; elsewhere nothing is written.

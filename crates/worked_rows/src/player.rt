@@ -5,7 +5,7 @@ use crate::failed::Failed;
 use crate::highs::Highs;
 use crate::long::{cells, latches, nets};
 use crate::solver::{Answer, solved};
-use cg_planner::progress::Silent;
+use cg_plan::progress::Silent;
 use cg_report::edge_count::EdgeCount;
 use cg_report::toggle_count::ToggleCount;
 use cg_report::watcher::Watcher;

@@ -1,7 +1,7 @@
 -- The parts of the netlist without its gating cells, in the order in which a builder is told them.
 use Rattle.std.specs.Prelude.{List, ◌++◌}
 use Rattle.cg_netlist.specs.Circuit.{Circuit}
-use Rattle.cg_parts.specs.Part.{Part}
+use Rattle.cg_netlist_parts.specs.Part.{Part}
 use Rattle.cg_net.specs.Names.{NetName}
 use Rattle.cg_insert.specs.inner.GatedParts.{cell_parts, clock_parts, clocked_parts, input_parts, output_parts}
 use Rattle.cg_extract.specs.Lifted.{ungated}

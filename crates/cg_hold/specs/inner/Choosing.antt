@@ -13,9 +13,9 @@ use Rattle.cg_machine.specs.declared.stage.Stage.{Stage}
 use Rattle.cg_claim.specs.Build.{nodes_of}
 use Rattle.cg_claim.specs.LeafBits.{is_never}
 use Rattle.cg_claim.specs.Question.{hold_question, idle_question}
-use Rattle.cg_lists.specs.HoldList.{chosen, chosen_regs, hold_stage, hold_width, is_large, looked_at, serves, unless_empty, up_to}
-use Rattle.cg_lists.specs.Literals.{IdleData}
-use Rattle.cg_lists.specs.Supports.{input_cone}
+use Rattle.cg_stage_list_laws.specs.HoldList.{chosen, chosen_regs, hold_stage, hold_width, is_large, looked_at, serves, unless_empty, up_to}
+use Rattle.cg_stage_list_laws.specs.Literals.{IdleData}
+use Rattle.cg_stage_list_laws.specs.Supports.{input_cone}
 use Rattle.cg_net.specs.NetSets.{is_in}
 use Rattle.cg_unroll.specs.declared.claim.ClaimFault.{ClaimFault}
 use Rattle.cg_unroll.specs.declared.claim.ClaimFault.TheVariants.{Wide as WideFault, Limit as ClaimLimit, NoMemory as ClaimMemory}

@@ -1,6 +1,6 @@
 -- Literals as numbers.
 use Rattle.std.specs.Prelude.{ℕ, ◌+◌, ◌*◌, ◌-◌, ◌/◌, ◌%◌, nat_eq, if◌then◌else◌, Some}
-use Rattle.cg_lists.specs.Literals.{IdleData, idle_count}
+use Rattle.cg_stage_list_laws.specs.Literals.{IdleData, idle_count}
 use Rattle.cg_machine.specs.Claims.{Literal}
 
 -- the place of a literal: net by net, plain before inverted

@@ -5,8 +5,8 @@ use Rattle.cg_cell.specs.Cell.{CellData}
 use Rattle.cg_machine.specs.Machine.{MachineData}
 use Rattle.cg_netlist.specs.Circuit.{GatingCell, LogicCell, RegisterCell}
 use Rattle.cg_netlist.specs.Moment.{zip_with}
-use Rattle.cg_parts.specs.Part.{Clock, Gate, Input, Logic, Output, Part}
-use Rattle.cg_parts.specs.Says.{register_part}
+use Rattle.cg_netlist_parts.specs.Part.{Clock, Gate, Input, Logic, Output, Part}
+use Rattle.cg_netlist_parts.specs.Says.{register_part}
 use Rattle.cg_net.specs.Names.{NetName, net_name}
 use Rattle.cg_netlist.specs.Wiring.{map_cell, map_gater, map_register}
 use Rattle.cg_insert.specs.Insert.{enables_of, gate_names, gate_outputs, gating_cell, placed_gate, reclocked, test_net}

@@ -3,10 +3,10 @@ use Rattle.std.specs.Prelude.{◌≡◌, List, [], ◌∷◌, None, Result, Matc
 use Rattle.std.specs.List.{AllByRecursion}
 use Rattle.cg_netlist.specs.declared.fault.AddFault.{AddFault}
 use Rattle.cg_netlist.specs.declared.fault.AddFault.TheVariants.{NoMemory}
-use Rattle.cg_builder.specs.Building.{Building}
-use Rattle.cg_parts.specs.Part.{Part}
-use Rattle.cg_parts.specs.Said.{Said, limit_of, with_part}
-use Rattle.cg_parts.specs.Says.{IsPart}
+use Rattle.cg_netlist_builder.specs.Building.{Building}
+use Rattle.cg_netlist_parts.specs.Part.{Part}
+use Rattle.cg_netlist_parts.specs.Said.{Said, limit_of, with_part}
+use Rattle.cg_netlist_parts.specs.Says.{IsPart}
 
 -- what was said, and more parts
 abbrev pub with_parts : Said → List Part → Said

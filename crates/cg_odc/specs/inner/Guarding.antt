@@ -3,11 +3,11 @@ use Rattle.std.specs.Prelude.{◌≡◌, ℕ, ◌<◌, Bool, false, not, ◌&&�
 use Rattle.std.specs.Prelude.{is_some}
 use Rattle.std.specs.List.{list_any, range_with_len}
 use Rattle.std.specs.Option.{option_map, option_map_or}
-use Rattle.cg_groups.specs.Keys.{key_at}
-use Rattle.cg_groups.specs.declared.key.Key.{Key}
-use Rattle.cg_lists.specs.StableList.{StableKey, same_stable}
-use Rattle.cg_lists.specs.Supports.{has_enable, supports}
-use Rattle.cg_lists.specs.UnseenList.{plain_outputs, taken_at, unseen_key}
+use Rattle.cg_stage_groups.specs.Keys.{key_at}
+use Rattle.cg_stage_groups.specs.declared.key.Key.{Key}
+use Rattle.cg_stage_list_laws.specs.StableList.{StableKey, same_stable}
+use Rattle.cg_stage_list_laws.specs.Supports.{has_enable, supports}
+use Rattle.cg_stage_list_laws.specs.UnseenList.{plain_outputs, taken_at, unseen_key}
 use Rattle.cg_machine.specs.Machine.{MachineData, enable_of}
 use Rattle.cg_machine.specs.declared.stage.Stage.{Stage}
 use Rattle.cg_net.specs.NetSets.{is_in}

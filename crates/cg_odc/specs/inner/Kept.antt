@@ -1,12 +1,12 @@
 -- Guards that may not be gated, and the stages of groups without them.
 use Rattle.std.specs.Prelude.{◌≡◌, ℕ, ◌<◌, true, not, ◌&&◌, if◌then◌else◌, List, [], slice_get, Option, Some}
 use Rattle.std.specs.List.{filter, flat_map}
-use Rattle.cg_groups.specs.declared.key.Key.{Key}
-use Rattle.cg_lists.specs.Groups.{Group}
-use Rattle.cg_lists.specs.HoldList.{unless_empty}
-use Rattle.cg_lists.specs.Rounds.{same_kind}
-use Rattle.cg_lists.specs.StableList.{StableKey}
-use Rattle.cg_lists.specs.UnseenList.{unseen_stage}
+use Rattle.cg_stage_groups.specs.declared.key.Key.{Key}
+use Rattle.cg_stage_list_laws.specs.Groups.{Group}
+use Rattle.cg_stage_list_laws.specs.HoldList.{unless_empty}
+use Rattle.cg_stage_list_laws.specs.Rounds.{same_kind}
+use Rattle.cg_stage_list_laws.specs.StableList.{StableKey}
+use Rattle.cg_stage_list_laws.specs.UnseenList.{unseen_stage}
 use Rattle.cg_machine.specs.Machine.{MachineData}
 use Rattle.cg_machine.specs.declared.stage.Earlier.{Earlier}
 use Rattle.cg_machine.specs.declared.stage.Stage.{Stage}

@@ -1,15 +1,15 @@
 -- Keys of a round, and what an earlier stage leaves of one.
 use Rattle.std.specs.Prelude.{◌≡◌, ℕ, ◌<◌, Bool, true, not, ◌&&◌, List, length, Option}
 use Rattle.std.specs.List.{list_all}
-use Rattle.cg_groups.specs.Keys.{key_at}
-use Rattle.cg_groups.specs.declared.key.Key.{Key}
-use Rattle.cg_lists.specs.Rounds.{is_empty}
-use Rattle.cg_lists.specs.StableList.{StableKey, stable_key}
-use Rattle.cg_lists.specs.Supports.{has_enable, has_input, others_of}
+use Rattle.cg_stage_groups.specs.Keys.{key_at}
+use Rattle.cg_stage_groups.specs.declared.key.Key.{Key}
+use Rattle.cg_stage_list_laws.specs.Rounds.{is_empty}
+use Rattle.cg_stage_list_laws.specs.StableList.{StableKey, stable_key}
+use Rattle.cg_stage_list_laws.specs.Supports.{has_enable, has_input, others_of}
 use Rattle.cg_machine.specs.Machine.{MachineData}
 use Rattle.cg_machine.specs.declared.stage.Stage.{Stage}
 use Rattle.cg_net.specs.NetSets.{is_in}
-use Rattle.cg_stage.specs.Stages.{enable_nets}
+use Rattle.cg_stage_laws.specs.Stages.{enable_nets}
 
 -- all are registers of the machine
 abbrev pub AreRegisters : MachineData → List ℕ → Type 0

@@ -1,7 +1,7 @@
 -- What the mode `gate` has read when all files are taken.
 use Rattle.std.specs.Prelude.{◌≡◌, List, Option, Some}
 use Rattle.cg_cell.specs.Cell.{CellData}
-use Rattle.cg_gating.specs.Request.{MayGate}
+use Rattle.cg_gate.specs.Request.{MayGate}
 use Rattle.cg_netlist.specs.Circuit.{Circuit}
 use Rattle.cg_stimulus.specs.Inputs.{IsFor, Rows}
 use Rattle.cg_tool.specs.Gate.{request_by}

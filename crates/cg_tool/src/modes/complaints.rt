@@ -16,7 +16,7 @@ use cg_liberty::fault::LibertyFault;
 use cg_liberty::library::read_library;
 use cg_list::Seq;
 use cg_netlist::netlist::Netlist;
-use cg_parts::fault::NetFault;
+use cg_netlist_parts::fault::NetFault;
 use cg_run::{Content, Owner, Trouble};
 use cg_stimulus::fault::StimulusFault;
 use cg_stimulus::read::read_stimulus;

@@ -2,7 +2,7 @@
 
 ghost use Rattle.std.specs.Prelude.{◌≡◌, [], IfOk, IsTrue, None, Ok, Some, is_some, true};
 ghost use Rattle.std.specs.Option.{option_map};
-ghost use Rattle.cg_gating.specs.Request.{MayGate, stops_at};
+ghost use Rattle.cg_gate.specs.Request.{MayGate, stops_at};
 ghost use Rattle.cg_run.specs.Names.{name_of};
 ghost use Rattle.cg_run.specs.Promise.{FinishBy};
 ghost use Rattle.cg_run.specs.Reads.{Gave, Reads};
@@ -17,19 +17,19 @@ use crate::modes::complaints::{take_library, take_stimulus};
 use crate::modes::wanted::{Wanted, take_gateable};
 use cg_blif::BlifOptions;
 use cg_cell::library::Library;
+use cg_command_line::no_options;
 use cg_demo::library::library;
 use cg_demo::netlist::generated;
 use cg_demo::stimulus::stimulus;
-use cg_gating::gate::gate_demo;
-use cg_gating::request::Request;
+use cg_gate::gate::gate_demo;
+use cg_gate::request::Request;
 use cg_list::Seq;
 use cg_netlist::fault::AddFault;
 use cg_netlist::netlist::Netlist;
-use cg_planner::progress::Progress;
+use cg_plan::progress::Progress;
 use cg_run::{Finish, Names, Output, Reader, Refusal, Role, Status, Trouble, collect, put_out};
 use cg_shelf::Shelf;
 use cg_stimulus::stimulus::Stimulus;
-use cg_words::no_options;
 use std::alloc::{AllocError, Global};
 
 /// The size of the pipeline that is to be gated.

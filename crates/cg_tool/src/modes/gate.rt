@@ -2,10 +2,10 @@
 
 ghost use Rattle.std.specs.Prelude.{◌≡◌, ◌++◌, IfErr, IfOk, IsOkAnd, IsTrue, None, OnOk};
 ghost use Rattle.std.specs.Option.{option_copied, option_map};
-ghost use Rattle.cg_gating.specs.Gating.{GivesGated};
-ghost use Rattle.cg_gating.specs.Headline.{Headline};
-ghost use Rattle.cg_gating.specs.Request.{MayGate, stops_at};
-ghost use Rattle.cg_plan.specs.Told.{PlanMayFail};
+ghost use Rattle.cg_gate.specs.Gating.{GivesGated};
+ghost use Rattle.cg_gate.specs.Headline.{Headline};
+ghost use Rattle.cg_gate.specs.Request.{MayGate, stops_at};
+ghost use Rattle.cg_plan_laws.specs.Told.{PlanMayFail};
 ghost use Rattle.cg_run.specs.Names.{name_of};
 ghost use Rattle.cg_run.specs.Promise.{FinishBy};
 ghost use Rattle.cg_run.specs.Reads.{Gave, Reads};
@@ -21,20 +21,20 @@ use crate::modes::complaints::{take_library, take_stimulus};
 use crate::modes::wanted::{Wanted, take_gateable};
 use cg_blif::BlifOptions;
 use cg_cell::library::Library;
-use cg_gating::gate::{gate, gate_watched};
-use cg_gating::request::Request;
-use cg_gating::texts::Texts;
+use cg_command_line::Options;
+use cg_gate::gate::{gate, gate_watched};
+use cg_gate::request::Request;
+use cg_gate::texts::Texts;
 use cg_list::Seq;
 use cg_netlist::fault::AddFault;
 use cg_netlist::netlist::Netlist;
-use cg_planner::progress::Progress;
+use cg_plan::progress::Progress;
 use cg_report::watcher::Watcher;
 use cg_run::{
     Finish, Names, Output, Reader, Refusal, Role, Status, Text, Trouble, collect, put_out,
 };
 use cg_shelf::Shelf;
 use cg_stimulus::stimulus::Stimulus;
-use cg_words::Options;
 use std::alloc::{AllocError, Global};
 use std::mem::replace;
 

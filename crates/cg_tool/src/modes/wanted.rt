@@ -2,7 +2,7 @@
 
 ghost use Rattle.std.specs.Prelude.{◌≡◌, ◌<◌, ◌||◌, ℕ, Some, is_some, length};
 ghost use Rattle.std.specs.Option.{option_copied};
-ghost use Rattle.cg_gated.specs.Gated.{first_gater, has_and, refused_gater};
+ghost use Rattle.cg_gate_laws.specs.Gated.{first_gater, has_and, refused_gater};
 ghost use Rattle.cg_run.specs.Verdict.{Answers};
 ghost use Rattle.cg_machine.specs.Start.{begins, first_clash};
 ghost use Rattle.cg_net.specs.Names.{is_known};
@@ -13,16 +13,16 @@ use cg_blif::BlifOptions;
 use cg_cell::fit::FitKind;
 use cg_cell::library::Library;
 use cg_cell::name::Name;
+use cg_command_line::Asked;
 use cg_extract::refused::first_refused;
-use cg_gating::request::Request;
+use cg_gate::request::Request;
 use cg_list::Seq;
 use cg_machine::prefix::prefix_clash;
 use cg_net::id::GateClockId;
 use cg_netlist::netlist::Netlist;
-use cg_plan::settings::Settings;
+use cg_plan_laws::settings::Settings;
 use cg_run::{Owner, Trouble};
 use cg_stimulus::stimulus::Stimulus;
-use cg_words::Asked;
 use std::alloc::Global;
 
 /// How a netlist is to be gated.

@@ -6,12 +6,12 @@ use Rattle.cg_aig.specs.Aig.{aig_ops, inverse}
 use Rattle.cg_machine.specs.Claims.{Literal}
 use Rattle.cg_machine.specs.Machine.{MachineData}
 use Rattle.cg_claim.specs.Build.{Copies, aig_values, part_run}
-use Rattle.cg_reach.specs.declared.asked.Frame.{Frame}
-use Rattle.cg_reach.specs.declared.asked.Frame.TheVariants.{Before, After, Changed}
-use Rattle.cg_reach.specs.declared.asked.Side.{Side}
+use Rattle.cg_claim_reach.specs.declared.asked.Frame.{Frame}
+use Rattle.cg_claim_reach.specs.declared.asked.Frame.TheVariants.{Before, After, Changed}
+use Rattle.cg_claim_reach.specs.declared.asked.Side.{Side}
 use Rattle.cg_unroll.specs.declared.tables.CopyTables.{CopyTables}
 use Rattle.cg_unroll.specs.declared.tables.Tables.{Tables}
-use Rattle.cg_reach.specs.Asking.{part_of}
+use Rattle.cg_claim_reach.specs.Asking.{part_of}
 use Rattle.cg_unroll.specs.declared.tables.Sources.TheVariants.{Inputs, Registers}
 use Rattle.cg_unroll.specs.inner.Placing.{ArePlaced, HoldsLeaves, IsLiteralTable, place_in}
 use Rattle.cg_unroll.specs.inner.Sparse.{AreZero}

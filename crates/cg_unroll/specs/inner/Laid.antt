@@ -5,14 +5,14 @@ use Rattle.cg_aig.specs.Aig.{aig_ops}
 use Rattle.cg_aig.specs.declared.fault.AigFault.{AigFault}
 use Rattle.cg_netlist.specs.Circuit.{data_inputs}
 use Rattle.cg_net.specs.NetSets.{is_in}
-use Rattle.cg_cone.specs.Cone.{cone_of}
-use Rattle.cg_cone.specs.declared.cone.Cone.{Cone}
+use Rattle.cg_netlist_cone.specs.Cone.{cone_of}
+use Rattle.cg_netlist_cone.specs.declared.cone.Cone.{Cone}
 use Rattle.cg_machine.specs.Machine.{MachineData, walk_of}
 use Rattle.cg_claim.specs.Build.{Table, aig_values, lay, reached_cells, start_nets}
 use Rattle.cg_claim.specs.Tables.{SameOn}
 use Rattle.cg_unroll.specs.inner.Building.{MayFail, table_of}
 use Rattle.cg_unroll.specs.inner.Placing.{IsLiteralTable}
-use Rattle.cg_reach.specs.Reached.{IsConeOf}
+use Rattle.cg_claim_reach.specs.Reached.{IsConeOf}
 
 -- the data inputs have these literals, and all other nets 0
 abbrev pub HoldsInputs : MachineData → (ℕ → ℕ) → List ℕ → Type 0

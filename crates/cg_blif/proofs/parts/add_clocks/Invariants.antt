@@ -1,5 +1,5 @@
 use Rattle.std.proofs.Common.{◌≡◌, drop, map, None}
-use Rattle.cg_parts.specs.Part.{Clock}
+use Rattle.cg_netlist_parts.specs.Part.{Clock}
 use Rattle.cg_blif_text.specs.Telling.{with_parts}
 use Rattle.cg_blif.proofs.parts.add_clocks.Given as goal
 

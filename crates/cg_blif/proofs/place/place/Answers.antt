@@ -1,7 +1,7 @@
 use Rattle.std.proofs.Common.{◌≡◌, Option, Some, slice_get, sym, subst}
 use Rattle.cg_cell.specs.Cell.{CellData}
 use Rattle.cg_cell.specs.Library.{find_cell}
-use Rattle.cg_parts.specs.Writable.{cell_named}
+use Rattle.cg_netlist_parts.specs.Writable.{cell_named}
 use Rattle.cg_blif_text.specs.Placing.{placed_by}
 use Rattle.cg_blif_text.specs.Telling.{with_said}
 use Rattle.cg_blif.specs.Hearing.{Hears}

@@ -1,8 +1,8 @@
 use Rattle.std.proofs.Common.{◌≡◌, ◌<◌, ℕ, length, List, Bor, Some, map, sym, ap, ◌∙◌}
 use Rattle.cg_cell.specs.Pins.{is_clock, is_data}
 use Rattle.cg_cell.specs.declared.cell.CellKind.TheVariants.{Flop as FlopKind}
-use Rattle.cg_builder.specs.Calls.{register_of}
-use Rattle.cg_parts.specs.Part.{Register}
+use Rattle.cg_netlist_builder.specs.Calls.{register_of}
+use Rattle.cg_netlist_parts.specs.Part.{Register}
 use Rattle.cg_blif_text.specs.Placing.{at_role, nets_at, part_or, placed_part, shown_at}
 use Rattle.cg_blif.specs.Roles.{net_and_place, seen_outputs}
 use Rattle.cg_blif.proofs.PlaceLemmas.{flop_fits, flop_named, flop_said, hears_part, one_at, some_outputs}

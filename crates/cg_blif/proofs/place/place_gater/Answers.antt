@@ -4,8 +4,8 @@ use Rattle.std.specs.Option.{option_copied, option_to_list}
 use Rattle.cg_cell.specs.Name.{is_name}
 use Rattle.cg_cell.specs.Pins.{is_clock, is_enable, is_output, is_test}
 use Rattle.cg_cell.specs.declared.cell.CellKind.TheVariants.{Gater as GaterKind}
-use Rattle.cg_builder.specs.Calls.{gater_of}
-use Rattle.cg_parts.specs.Part.{Gate, mentioned}
+use Rattle.cg_netlist_builder.specs.Calls.{gater_of}
+use Rattle.cg_netlist_parts.specs.Part.{Gate, mentioned}
 use Rattle.cg_blif_text.specs.Placing.{at_role, nets_at, part_or, placed_part}
 use Rattle.cg_blif_text.specs.Telling.{with_said}
 use Rattle.cg_blif.proofs.PlaceLemmas.{first_net, gater_named, gater_said, gater_test, hears_part, no_clock, no_enable, no_output}

@@ -1,5 +1,5 @@
 use Rattle.std.proofs.Common.{◌≡◌, refl, ap, sym, ◌∙◌, subst}
-use Rattle.cg_builder.specs.Building.{Building}
+use Rattle.cg_netlist_builder.specs.Building.{Building}
 use Rattle.cg_insert.proofs.ToldParts.{call_may, call_tells, call_told}
 use Rattle.cg_insert.specs.inner.GatedParts.{cell_parts, clock_parts, clocked_parts, input_parts, output_parts}
 use Rattle.cg_insert.specs.inner.Telling.{MayTell, told}

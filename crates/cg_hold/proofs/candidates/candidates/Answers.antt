@@ -1,7 +1,7 @@
 use Rattle.std.proofs.Common.{List, ℕ, ◌∙◌, ap}
 use Rattle.std.specs.List.{filter_map, range_with_len}
 use Rattle.std.specs.Option.{option_copied}
-use Rattle.cg_lists.specs.Literals.{both_literals}
+use Rattle.cg_stage_list_laws.specs.Literals.{both_literals}
 use Rattle.cg_hold.specs.inner.Choosing.{stage_at}
 use Rattle.cg_hold.proofs.Taken.{answered}
 use Rattle.cg_hold.proofs.candidates.candidates.Goals as goal

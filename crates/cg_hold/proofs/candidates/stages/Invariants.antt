@@ -1,6 +1,6 @@
 use Rattle.std.proofs.Common.{◌≡◌}
 use Rattle.std.specs.List.{filter_map, range_with_len}
-use Rattle.cg_lists.specs.Literals.{both_literals}
+use Rattle.cg_stage_list_laws.specs.Literals.{both_literals}
 use Rattle.cg_hold.specs.inner.Choosing.{stage_at}
 use Rattle.cg_hold.proofs.candidates.stages.Given as goal
 

@@ -1,6 +1,6 @@
 use Rattle.std.proofs.Common.{◌≡◌, [], slice_get, vec_len, sym, ◌∙◌, ap, arith}
 use Rattle.std.specs.Option.{option_copied}
-use Rattle.cg_lists.specs.Literals.{literals_of}
+use Rattle.cg_stage_list_laws.specs.Literals.{literals_of}
 use Rattle.cg_hold.specs.inner.Choosing.{choice_by}
 use Rattle.cg_hold.proofs.Alone.{alone_width}
 use Rattle.cg_hold.proofs.OfRegister.{alone, literal_at, literals_all}

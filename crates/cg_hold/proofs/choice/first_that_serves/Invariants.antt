@@ -1,5 +1,5 @@
 use Rattle.std.proofs.Common.{◌≡◌, ◌<◌, false, drop, nat_lt}
-use Rattle.cg_lists.specs.HoldList.{hold_width}
+use Rattle.cg_stage_list_laws.specs.HoldList.{hold_width}
 use Rattle.cg_hold.specs.inner.Choosing.{choice_by}
 use Rattle.cg_hold.proofs.choice.first_that_serves.Given as goal
 

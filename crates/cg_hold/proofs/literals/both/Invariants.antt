@@ -1,5 +1,5 @@
 use Rattle.std.proofs.Common.{◌≡◌, take}
-use Rattle.cg_lists.specs.Literals.{both_literals}
+use Rattle.cg_stage_list_laws.specs.Literals.{both_literals}
 use Rattle.cg_hold.proofs.literals.both.Given as goal
 
 abbrev pub invariant-loop-number : goal.invariant-loop-number

@@ -1,7 +1,7 @@
 use Rattle.std.proofs.Common.{◌≡◌, IfOk, List, ap, sym, ◌∙◌, subst}
 use Rattle.std.specs.Option.{option_copied}
-use Rattle.cg_lists.specs.Literals.{both_literals, literals_of}
-use Rattle.cg_lists.specs.Supports.{in_net_order, input_cone}
+use Rattle.cg_stage_list_laws.specs.Literals.{both_literals, literals_of}
+use Rattle.cg_stage_list_laws.specs.Supports.{in_net_order, input_cone}
 use Rattle.cg_machine.specs.Claims.{Literal}
 use Rattle.cg_hold.proofs.OfRegister.{ordered_twice}
 use Rattle.cg_hold.proofs.Ranked.{by_none}

@@ -4,7 +4,7 @@ use Rattle.cg_netlist.proofs.Used.{data_is_used}
 use Rattle.cg_netlist.specs.Circuit.{Circuit}
 use Rattle.cg_netlist.specs.Netlist.{IsNetlist}
 use Rattle.cg_netlist.specs.View.{register_seen}
-use Rattle.cg_support.proofs.Steps.{used_within}
+use Rattle.cg_stage_groups.proofs.Steps.{used_within}
 use Rattle.cg_hold.proofs.OfRegister.{nets_are, own_below}
 use Rattle.cg_hold.proofs.literals.nets_of.Goals as goal
 use Rattle.cg_net.proofs.FoundNets.{take_some}

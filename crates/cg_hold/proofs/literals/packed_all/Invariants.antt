@@ -1,5 +1,5 @@
 use Rattle.std.proofs.Common.{◌≡◌, map, take}
-use Rattle.cg_lists.specs.Literals.{both_literals}
+use Rattle.cg_stage_list_laws.specs.Literals.{both_literals}
 use Rattle.cg_hold.specs.inner.Packed.{packed}
 use Rattle.cg_hold.proofs.literals.packed_all.Given as goal
 

@@ -1,6 +1,6 @@
 use Rattle.std.proofs.Common.{◌≡◌, IfOk, List, length, map, nat_eq, ap, sym, ◌∙◌, subst, arith}
 use Rattle.std.proofs.lemmas.List.Filters.{dedup_is}
-use Rattle.cg_lists.specs.Supports.{all_nets}
+use Rattle.cg_stage_list_laws.specs.Supports.{all_nets}
 use Rattle.cg_machine.specs.Claims.{Literal}
 use Rattle.cg_net.specs.NetSets.{is_in}
 use Rattle.cg_hold.specs.inner.Packed.{unpacked}

@@ -3,7 +3,7 @@ use Rattle.std.proofs.lemmas.Bool.{leb-false, leb-true}
 use Rattle.cg_machine.specs.Machine.{MachineData, delay_cell, next}
 use Rattle.cg_netlist.proofs.Values.{element_at}
 use Rattle.cg_netlist.specs.Circuit.{RegisterCell}
-use Rattle.cg_reach.proofs.OwnRegisters.{machine_register}
+use Rattle.cg_claim_reach.proofs.OwnRegisters.{machine_register}
 use Rattle.cg_hold.proofs.MovedInWords.{delay_word, enabled_word, free_word, net_below}
 use Rattle.cg_hold.specs.inner.Words.{IsWord, lane, lane_bit}
 use Rattle.cg_hold.proofs.moves.next_word.Goals as goal

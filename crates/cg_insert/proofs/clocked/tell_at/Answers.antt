@@ -2,7 +2,7 @@ use Rattle.std.proofs.Common.{◌≡◌, ◌<◌, List, ℕ, Some, slice_get, ap
 use Rattle.cg_machine.proofs.Lists.{take_get}
 use Rattle.cg_netlist.specs.Circuit.{Circuit}
 use Rattle.cg_netlist.specs.View.{register_seen}
-use Rattle.cg_parts.specs.Part.{Part}
+use Rattle.cg_netlist_parts.specs.Part.{Part}
 use Rattle.cg_insert.proofs.ClockedPlaces.{own_part}
 use Rattle.cg_insert.proofs.Lookups.{not_le}
 use Rattle.cg_insert.specs.inner.Telling.{MayTell, WasTold}

@@ -2,9 +2,9 @@ use Rattle.std.proofs.Common.{◌≡◌, ◌∷◌, [], Bor, ℕ, List, Some, ma
 use Rattle.std.specs.Option.{option_copied}
 use Rattle.cg_netlist.specs.Circuit.{RegisterCell}
 use Rattle.cg_netlist.specs.View.{register_seen}
-use Rattle.cg_builder.specs.Building.{Takes}
-use Rattle.cg_parts.specs.Part.{Part}
-use Rattle.cg_parts.specs.Says.{IsPart}
+use Rattle.cg_netlist_builder.specs.Building.{Takes}
+use Rattle.cg_netlist_parts.specs.Part.{Part}
+use Rattle.cg_netlist_parts.specs.Says.{IsPart}
 use Rattle.cg_net.specs.Names.{NetName}
 use Rattle.cg_insert.proofs.RegisterCalls.{register_call}
 use Rattle.cg_insert.proofs.ToldParts.{tells_one}

@@ -1,6 +1,6 @@
 use Rattle.std.proofs.Common.{ap, ◌∙◌}
 use Rattle.cg_netlist.specs.Circuit.{Circuit}
-use Rattle.cg_builder.specs.Building.{fresh}
+use Rattle.cg_netlist_builder.specs.Building.{fresh}
 use Rattle.cg_insert.proofs.insert.told_builder.Goals as goal
 
 pub tell_named-requires-clause-empty : goal.tell_named-requires-clause-empty

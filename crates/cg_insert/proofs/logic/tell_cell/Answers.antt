@@ -6,7 +6,7 @@ use Rattle.cg_cell.specs.Name.{is_name}
 use Rattle.cg_netlist.proofs.Each.{each_back, each_front}
 use Rattle.cg_netlist.specs.Circuit.{LogicCell}
 use Rattle.cg_netlist.specs.View.{cell_seen}
-use Rattle.cg_parts.specs.Says.{IsPart}
+use Rattle.cg_netlist_parts.specs.Says.{IsPart}
 use Rattle.cg_net.specs.Names.{NetName, net_name}
 use Rattle.cg_insert.specs.inner.GatedParts.{cell_part, cell_parts}
 use Rattle.cg_insert.specs.inner.Telling.{MayTell}

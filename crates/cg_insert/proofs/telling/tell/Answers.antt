@@ -1,7 +1,7 @@
 use Rattle.std.proofs.Common.{◌≡◌, refl, ap, sym, ◌∙◌, subst}
 use Rattle.std.specs.Option.{option_copied, option_to_list}
 use Rattle.cg_netlist.specs.Circuit.{Circuit}
-use Rattle.cg_builder.specs.Building.{Building}
+use Rattle.cg_netlist_builder.specs.Building.{Building}
 use Rattle.cg_insert.proofs.ToldGroups.{may_cells, may_clock, may_gaters, may_gates, may_inputs, may_outputs, may_registers}
 use Rattle.cg_insert.proofs.ToldGroups.{may_test, the_cells, the_clock, the_gaters, the_gates, the_outputs, the_registers, the_test}
 use Rattle.cg_insert.proofs.ToldGroups.{to_cells, to_clock, to_gaters, to_gates, to_inputs, to_outputs, to_test}

@@ -1,6 +1,6 @@
 use Rattle.std.proofs.Common.{◌≡◌, ℕ, List, Some, slice_get, ap, sym, ◌∙◌}
 use Rattle.std.proofs.lemmas.Option.{slice_get-get_or}
-use Rattle.cg_parts.specs.Part.{Input, Part}
+use Rattle.cg_netlist_parts.specs.Part.{Input, Part}
 use Rattle.cg_net.specs.Names.{net_name}
 use Rattle.cg_insert.proofs.ToldParts.{may_at, told_at}
 use Rattle.cg_insert.proofs.telling.tell_inputs.Goals as goal

@@ -1,9 +1,9 @@
 use Rattle.std.proofs.Common.{◌≡◌, IfOk, List, Option, length, map, ◌∙◌, ap, subst, arith}
-use Rattle.cg_groups.specs.declared.key.Key.{Key}
-use Rattle.cg_groups.specs.Keys.{groups_seen, key_at}
-use Rattle.cg_groups.proofs.Listed.{put_back}
-use Rattle.cg_lists.specs.Rounds.{kept_key}
-use Rattle.cg_lists.specs.UnseenList.{unseen_groups}
+use Rattle.cg_stage_groups.specs.declared.key.Key.{Key}
+use Rattle.cg_stage_groups.specs.Keys.{groups_seen, key_at}
+use Rattle.cg_stage_groups.proofs.Listed.{put_back}
+use Rattle.cg_stage_list_laws.specs.Rounds.{kept_key}
+use Rattle.cg_stage_list_laws.specs.UnseenList.{unseen_groups}
 use Rattle.cg_machine.specs.declared.stage.Stage.{Stage}
 use Rattle.cg_machine.specs.declared.stage.StageKind.TheVariants.{Unseen}
 use Rattle.cg_odc.specs.inner.Guarding.{had_guards}

@@ -1,5 +1,5 @@
 use Rattle.std.proofs.Common.{◌≡◌, take}
-use Rattle.cg_lists.specs.Rounds.{plain_literals}
+use Rattle.cg_stage_list_laws.specs.Rounds.{plain_literals}
 use Rattle.cg_odc.proofs.candidates.literals.Given as goal
 
 abbrev pub invariant-loop-number : goal.invariant-loop-number

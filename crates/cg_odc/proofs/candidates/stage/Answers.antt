@@ -1,5 +1,5 @@
 use Rattle.std.proofs.Common.{length, sym, ◌∙◌, ap}
-use Rattle.cg_lists.specs.Rounds.{plain_literals}
+use Rattle.cg_stage_list_laws.specs.Rounds.{plain_literals}
 use Rattle.cg_net.specs.NetSets.{is_in}
 use Rattle.cg_odc.proofs.Listed.{stage_is, taken_below}
 use Rattle.cg_odc.proofs.candidates.stage.Goals as goal

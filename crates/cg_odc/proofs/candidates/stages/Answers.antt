@@ -2,9 +2,9 @@ use Rattle.std.proofs.Common.{◌≡◌, ◌++◌, ◌∷◌, [], ℕ, List, Non
 use Rattle.std.specs.List.{filter_map}
 use Rattle.std.proofs.lemmas.List.{append-nil}
 use Rattle.std.proofs.lemmas.Option.{slice_get-get_or, slice_get_within}
-use Rattle.cg_groups.specs.Keys.{groups_seen}
-use Rattle.cg_lists.specs.HoldList.{unless_empty}
-use Rattle.cg_lists.specs.UnseenList.{unseen_stage}
+use Rattle.cg_stage_groups.specs.Keys.{groups_seen}
+use Rattle.cg_stage_list_laws.specs.HoldList.{unless_empty}
+use Rattle.cg_stage_list_laws.specs.UnseenList.{unseen_stage}
 use Rattle.cg_odc.specs.inner.Kept.{left_stage, not_among}
 use Rattle.cg_odc.proofs.Listed.{stage_more, stages_more}
 use Rattle.cg_odc.proofs.candidates.stages.Goals as goal

@@ -1,6 +1,6 @@
 use Rattle.std.proofs.Common.{◌≡◌, take}
 use Rattle.std.specs.List.{filter_map}
-use Rattle.cg_groups.specs.Keys.{groups_seen}
+use Rattle.cg_stage_groups.specs.Keys.{groups_seen}
 use Rattle.cg_odc.specs.inner.Kept.{left_stage}
 use Rattle.cg_odc.proofs.candidates.stages.Given as goal
 

@@ -1,7 +1,7 @@
 use Rattle.std.proofs.Common.{◌≡◌, Some, slice_get, ap, sym, ◌∙◌}
 use Rattle.std.proofs.lemmas.Option.{slice_get-get_or}
-use Rattle.cg_groups.proofs.Listed.{enables_none, enables_some}
-use Rattle.cg_lists.specs.UnseenList.{taken_at}
+use Rattle.cg_stage_groups.proofs.Listed.{enables_none, enables_some}
+use Rattle.cg_stage_list_laws.specs.UnseenList.{taken_at}
 use Rattle.cg_net.proofs.Members.{member_at}
 use Rattle.cg_odc.proofs.candidates.taken_nets.Goals as goal
 use Rattle.cg_odc.proofs.candidates.taken_nets.Goals.{in-Some+in_ok-push, in_default}

@@ -1,6 +1,6 @@
 use Rattle.std.proofs.Common.{◌≡◌, ℕ, sym, ◌∙◌, ap, arith, is_some}
 use Rattle.std.specs.List.{filter}
-use Rattle.cg_lists.specs.Supports.{own_registers_of}
+use Rattle.cg_stage_list_laws.specs.Supports.{own_registers_of}
 use Rattle.cg_net.specs.NetSets.{is_in}
 use Rattle.cg_odc.specs.inner.Guarding.{guards_by}
 use Rattle.cg_odc.proofs.Keyed.{below, is_none_left, is_some_left, key_empty, key_enabled, key_some}

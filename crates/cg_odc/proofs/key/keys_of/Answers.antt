@@ -1,8 +1,8 @@
 use Rattle.std.proofs.Common.{◌+◌, length, ◌∙◌, ap}
 use Rattle.std.specs.Option.{option_map}
-use Rattle.cg_groups.proofs.Listed.{length_push, push_key}
-use Rattle.cg_groups.specs.Keys.{key_at}
-use Rattle.cg_lists.specs.UnseenList.{unseen_key}
+use Rattle.cg_stage_groups.proofs.Listed.{length_push, push_key}
+use Rattle.cg_stage_groups.specs.Keys.{key_at}
+use Rattle.cg_stage_list_laws.specs.UnseenList.{unseen_key}
 use Rattle.cg_odc.specs.inner.Guarding.{guard_key}
 use Rattle.cg_odc.proofs.key.keys_of.Goals as goal
 

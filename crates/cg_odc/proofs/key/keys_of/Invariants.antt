@@ -1,7 +1,7 @@
 use Rattle.std.proofs.Common.{◌≡◌, ◌<◌, ℕ, length}
 use Rattle.std.specs.Option.{option_map}
-use Rattle.cg_groups.specs.Keys.{key_at}
-use Rattle.cg_lists.specs.UnseenList.{unseen_key}
+use Rattle.cg_stage_groups.specs.Keys.{key_at}
+use Rattle.cg_stage_list_laws.specs.UnseenList.{unseen_key}
 use Rattle.cg_odc.specs.inner.Guarding.{guard_key}
 use Rattle.cg_odc.proofs.key.keys_of.Given as goal
 

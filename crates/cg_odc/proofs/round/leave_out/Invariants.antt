@@ -1,6 +1,6 @@
 use Rattle.std.proofs.Common.{◌≡◌, ℕ, take}
-use Rattle.cg_groups.specs.Keys.{key_at}
-use Rattle.cg_lists.specs.Rounds.{kept_key}
+use Rattle.cg_stage_groups.specs.Keys.{key_at}
+use Rattle.cg_stage_list_laws.specs.Rounds.{kept_key}
 use Rattle.cg_machine.specs.declared.stage.StageKind.TheVariants.{Unseen}
 use Rattle.cg_odc.specs.inner.Guarding.{had_guards}
 use Rattle.cg_odc.proofs.round.leave_out.Given as goal

@@ -1,6 +1,6 @@
 use Rattle.std.proofs.Common.{◌≡◌, ◌+◌, drop}
 use Rattle.std.specs.List.{count_by}
-use Rattle.cg_plan.specs.Plan.{is_inserted}
+use Rattle.cg_plan_laws.specs.Plan.{is_inserted}
 use Rattle.cg_plan_text.proofs.summary.inserted.Given as goal
 
 abbrev pub invariant-stages : goal.invariant-stages

@@ -1,11 +1,11 @@
 use Rattle.std.proofs.Common.{◌≡◌, IfOk, List, Option, length, map, ◌∙◌, ap, subst, arith}
-use Rattle.cg_groups.specs.declared.key.Key.{Key}
-use Rattle.cg_groups.specs.Keys.{key_at}
-use Rattle.cg_lists.specs.Rounds.{kept_key}
-use Rattle.cg_lists.specs.StableList.{had_stable, stable_stage}
+use Rattle.cg_stage_groups.specs.declared.key.Key.{Key}
+use Rattle.cg_stage_groups.specs.Keys.{key_at}
+use Rattle.cg_stage_list_laws.specs.Rounds.{kept_key}
+use Rattle.cg_stage_list_laws.specs.StableList.{had_stable, stable_stage}
 use Rattle.cg_machine.specs.declared.stage.Stage.{Stage}
 use Rattle.cg_machine.specs.declared.stage.StageKind.TheVariants.{Stable}
-use Rattle.cg_groups.proofs.Listed.{put_back}
+use Rattle.cg_stage_groups.proofs.Listed.{put_back}
 use Rattle.cg_stability.proofs.Listed.{list_is}
 use Rattle.cg_stability.proofs.candidates.candidates.Goals as goal
 

@@ -1,6 +1,6 @@
 use Rattle.std.proofs.Common.{◌≡◌, ◌||◌, true, nat_eq, take}
 use Rattle.std.specs.List.{list_all}
-use Rattle.cg_lists.specs.Supports.{has_enable}
+use Rattle.cg_stage_list_laws.specs.Supports.{has_enable}
 use Rattle.cg_stability.proofs.key.are_enabled.Given as goal
 
 abbrev pub invariant-loop-other : goal.invariant-loop-other

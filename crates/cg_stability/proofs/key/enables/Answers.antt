@@ -2,7 +2,7 @@ use Rattle.std.proofs.Common.{◌≡◌, Some, slice_get, refl, ap, sym, ◌∙�
 use Rattle.std.proofs.lemmas.Option.{slice_get_read}
 use Rattle.cg_net.proofs.Members.{member_at}
 use Rattle.cg_stability.proofs.Keyed.{other_enable}
-use Rattle.cg_groups.proofs.Listed.{enables_none, enables_some}
+use Rattle.cg_stage_groups.proofs.Listed.{enables_none, enables_some}
 use Rattle.cg_stability.proofs.key.enables.Goals as goal
 use Rattle.cg_stability.proofs.key.enables.Goals.{in-Some+in_ok-push, in_default}
 

@@ -1,6 +1,6 @@
 use Rattle.std.proofs.Common.{◌≡◌, ◌||◌, ℕ, true, not, List, nat_eq, sym, ◌∙◌, ap, subst}
 use Rattle.std.specs.List.{list_all, list_any}
-use Rattle.cg_lists.specs.Supports.{has_enable}
+use Rattle.cg_stage_list_laws.specs.Supports.{has_enable}
 use Rattle.cg_net.specs.NetSets.{is_in}
 use Rattle.cg_stability.proofs.Keyed.{are_registers, keyed_alone, keyed_rest}
 use Rattle.cg_stability.proofs.key.has_key.Goals as goal

@@ -1,8 +1,8 @@
 use Rattle.std.proofs.Common.{◌≡◌, ◌+◌, length, ◌∙◌, ap, arith}
 use Rattle.cg_netlist.specs.Circuit.{Circuit}
-use Rattle.cg_groups.specs.Keys.{key_at}
-use Rattle.cg_lists.specs.StableList.{stable_key}
-use Rattle.cg_groups.proofs.Listed.{length_push, own_count, push_key}
+use Rattle.cg_stage_groups.specs.Keys.{key_at}
+use Rattle.cg_stage_list_laws.specs.StableList.{stable_key}
+use Rattle.cg_stage_groups.proofs.Listed.{length_push, own_count, push_key}
 use Rattle.cg_stability.proofs.round.keys_of.Goals as goal
 
 pub key_of-requires : goal.key_of-requires

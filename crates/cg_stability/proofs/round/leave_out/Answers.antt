@@ -1,10 +1,10 @@
 use Rattle.std.proofs.Common.{◌≡◌, ◌&&◌, if◌then◌else◌, Option, Some, slice_get, refl, ◌∙◌, ap}
 use Rattle.std.proofs.lemmas.Option.{slice_get_read}
-use Rattle.cg_groups.proofs.Left.{kept_more}
-use Rattle.cg_groups.specs.Keys.{key_at}
-use Rattle.cg_groups.specs.Leaving.{without}
-use Rattle.cg_lists.specs.Rounds.{same_kind}
-use Rattle.cg_lists.specs.StableList.{StableKey, had_stable}
+use Rattle.cg_stage_groups.proofs.Left.{kept_more}
+use Rattle.cg_stage_groups.specs.Keys.{key_at}
+use Rattle.cg_stage_groups.specs.Leaving.{without}
+use Rattle.cg_stage_list_laws.specs.Rounds.{same_kind}
+use Rattle.cg_stage_list_laws.specs.StableList.{StableKey, had_stable}
 use Rattle.cg_machine.specs.declared.stage.StageKind.TheVariants.{Stable}
 use Rattle.cg_net.specs.NetSets.{is_in}
 use Rattle.cg_stability.specs.inner.Leaving.{stage_key}

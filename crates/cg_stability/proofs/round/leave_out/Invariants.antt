@@ -1,7 +1,7 @@
 use Rattle.std.proofs.Common.{◌≡◌, ℕ, take}
-use Rattle.cg_groups.specs.Keys.{key_at}
-use Rattle.cg_lists.specs.Rounds.{kept_key}
-use Rattle.cg_lists.specs.StableList.{had_stable}
+use Rattle.cg_stage_groups.specs.Keys.{key_at}
+use Rattle.cg_stage_list_laws.specs.Rounds.{kept_key}
+use Rattle.cg_stage_list_laws.specs.StableList.{had_stable}
 use Rattle.cg_machine.specs.declared.stage.StageKind.TheVariants.{Stable}
 use Rattle.cg_stability.proofs.round.leave_out.Given as goal
 

@@ -2,7 +2,7 @@ use Rattle.std.proofs.Common.{◌≡◌, ℕ, List, map, ◌∙◌, ap, subst}
 use Rattle.std.specs.Prelude.{IfOk}
 use Rattle.std.specs.Option.{option_map}
 use Rattle.std.specs.String.{string_bytes}
-use Rattle.cg_words.specs.Jobs.{job_of, job_words}
+use Rattle.cg_command_line.specs.Jobs.{job_of, job_words}
 use Rattle.cg_tool.proofs.top.read_job.Goals as goal
 
 pub returns : goal.returns

@@ -1,7 +1,7 @@
 use Rattle.std.proofs.Common.{map}
 use Rattle.std.specs.String.{string_bytes}
 use Rattle.cg_run.specs.Reads.{Gave}
-use Rattle.cg_words.specs.Jobs.{job_of}
+use Rattle.cg_command_line.specs.Jobs.{job_of}
 use Rattle.cg_tool.proofs.JobsApart.{job_apart, jobs_apart}
 use Rattle.cg_tool.proofs.Program.{job_checked, job_comes, job_ended, job_gains, job_gated, job_others, job_shown, job_simulated}
 use Rattle.cg_tool.proofs.Program.{job_stands, usage, usage_keeps, usage_only}

@@ -2,7 +2,7 @@ use Rattle.std.proofs.Common.{Option, map, ap, sym, ◌∙◌, subst}
 use Rattle.std.specs.Option.{option_map}
 use Rattle.std.specs.String.{string_bytes}
 use Rattle.cg_run.specs.Reads.{Gave}
-use Rattle.cg_words.specs.Jobs.{JobWords, job_of, job_words}
+use Rattle.cg_command_line.specs.Jobs.{JobWords, job_of, job_words}
 use Rattle.cg_tool.specs.Program.{RunsWords}
 use Rattle.cg_tool.proofs.Program.{refused_words, runs_unread}
 use Rattle.cg_tool.proofs.top.run_words.Goals as goal

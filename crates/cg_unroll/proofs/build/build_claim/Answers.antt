@@ -10,9 +10,9 @@ use Rattle.cg_claim.specs.Question.{Question}
 use Rattle.cg_claim.specs.Reach.{after_nets, after_states, before_nets, changed_nets, feeds}
 use Rattle.cg_claim.specs.Violates.{SidesFit}
 use Rattle.cg_machine.specs.Machine.{IsMachine, MachineData}
-use Rattle.cg_reach.specs.declared.reached.Reached.{Reached}
+use Rattle.cg_claim_reach.specs.declared.reached.Reached.{Reached}
 use Rattle.cg_unroll.specs.declared.tables.Tables.{Tables}
-use Rattle.cg_reach.specs.Asking.{question_of}
+use Rattle.cg_claim_reach.specs.Asking.{question_of}
 use Rattle.cg_unroll.specs.inner.Building.{Built, MayFail, table_of}
 use Rattle.cg_unroll.specs.inner.Copying.{AreLeavesPlaced, Starts}
 use Rattle.cg_unroll.specs.inner.Laid.{LaysCopy}
@@ -24,7 +24,7 @@ use Rattle.cg_unroll.proofs.LeafTables.{leaves_placed}
 use Rattle.cg_unroll.proofs.Stages.{after_fails, before_fails, changed_fails, goal_is, states_fail_whole}
 use Rattle.cg_unroll.proofs.build.build_claim.Goals as goal
 use Rattle.cg_netlist.proofs.Walks.{within_more}
-use Rattle.cg_reach.proofs.StatesReached.{fits as sides_fit}
+use Rattle.cg_claim_reach.proofs.StatesReached.{fits as sides_fit}
 
 pub start-requires-clause-count : goal.start-requires-clause-count
 start-requires-clause-count c =

@@ -2,7 +2,7 @@ use Rattle.std.proofs.Common.{IfErr, sym, subst}
 use Rattle.cg_claim.specs.Question.{unseen_question}
 use Rattle.cg_unroll.specs.Claims.{IsClaim, IsRefused, target_of}
 use Rattle.cg_unroll.specs.declared.claim.Claim.{Claim}
-use Rattle.cg_reach.specs.Unseen.{UnseenData}
+use Rattle.cg_claim_reach.specs.Unseen.{UnseenData}
 use Rattle.cg_unroll.proofs.Building.{if_err, if_ok, on_ok}
 use Rattle.cg_unroll.proofs.claim.unseen_claim.Goals as goal
 

@@ -3,7 +3,7 @@ use Rattle.std.specs.List.{flat_map}
 use Rattle.cg_cell.specs.Domain.{AreValid, Seen}
 use Rattle.cg_aig.specs.Aig.{aig_ops}
 use Rattle.cg_netlist.specs.Moment.{values_at}
-use Rattle.cg_cone.specs.declared.cone.Cone.{Cone}
+use Rattle.cg_netlist_cone.specs.declared.cone.Cone.{Cone}
 use Rattle.cg_machine.specs.Machine.{MachineData}
 use Rattle.cg_claim.specs.Build.{aig_values, lay}
 use Rattle.cg_unroll.specs.inner.Building.{LaysCells, MayFail, table_of}

@@ -7,7 +7,7 @@ use Rattle.cg_netlist.proofs.DriverTable.{register_net_within}
 use Rattle.cg_machine.specs.Machine.{MachineData, delay_cell}
 use Rattle.cg_unroll.specs.inner.Filling.{AgreesAt, AgreesWith, IsValid, Puts, nets_shown}
 use Rattle.cg_unroll.proofs.Building.{if_ok}
-use Rattle.cg_reach.proofs.OwnRegisters.{own_register}
+use Rattle.cg_claim_reach.proofs.OwnRegisters.{own_register}
 use Rattle.cg_unroll.proofs.Filling.{puts_at_register, puts_one}
 use Rattle.cg_unroll.proofs.edge.put_register.Goals as goal
 

@@ -7,7 +7,7 @@ use Rattle.cg_aig.specs.Aig.{aig_ops}
 use Rattle.cg_unroll.specs.inner.Filling.{AgreesWithAll, Puts, nets_shown}
 use Rattle.cg_unroll.proofs.Filling.{puts_none, registers_more}
 use Rattle.cg_unroll.proofs.edge.put_registers.Goals as goal
-use Rattle.cg_reach.proofs.Filtering.{take_whole}
+use Rattle.cg_claim_reach.proofs.Filtering.{take_whole}
 
 pub loop-k-init : goal.loop-k-init
 loop-k-init c = puts_none (AgreesWithAll c.args.machine.now (λ r. slice_index_or c.args.states.now r 0)) (λ s. AreValid aig_ops s c.args.states.now) c.args.literals.now

@@ -7,8 +7,8 @@ use Rattle.cg_machine.specs.Machine.{MachineData}
 use Rattle.cg_claim.specs.Build.{Copies, aig_values, enable_run, goal_of}
 use Rattle.cg_claim.specs.Question.{Question}
 use Rattle.cg_claim.proofs.WholeLists.{goal_of_grows}
-use Rattle.cg_reach.specs.declared.asked.Side.{Side as AskedSide}
-use Rattle.cg_reach.specs.Asking.{question_of, side_of}
+use Rattle.cg_claim_reach.specs.declared.asked.Side.{Side as AskedSide}
+use Rattle.cg_claim_reach.specs.Asking.{question_of, side_of}
 use Rattle.cg_unroll.specs.inner.Building.{Built, MayFail}
 use Rattle.cg_unroll.specs.inner.Copying.{copies_of}
 use Rattle.cg_unroll.proofs.Building.{built_then, fails_first, fails_then, if_err, if_ok}

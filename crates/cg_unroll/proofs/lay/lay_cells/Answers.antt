@@ -8,7 +8,7 @@ use Rattle.cg_unroll.proofs.Laying.{laying_ends, laying_fails, laying_on, laying
 use Rattle.cg_unroll.proofs.Cells.{left_cons}
 use Rattle.cg_netlist.proofs.Values.{element_at}
 use Rattle.cg_unroll.proofs.lay.lay_cells.Goals as goal
-use Rattle.cg_reach.proofs.Marking.{drop_whole}
+use Rattle.cg_claim_reach.proofs.Marking.{drop_whole}
 
 pub loop-k-init : goal.loop-k-init
 loop-k-init c = laying_starts (values_at c.args.machine.now.circuit.cells c.args.cells.now) c.args.aig.now c.args.literals.now c.requires.valid

@@ -10,7 +10,7 @@ use Rattle.cg_unroll.specs.inner.States.{IsLayingStates}
 use Rattle.cg_net.proofs.TableLemmas.{drop_cons}
 use Rattle.cg_unroll.proofs.StatesLaid.{states_end, states_fail, states_on, states_start}
 use Rattle.cg_unroll.proofs.states.put_states.Goals as goal
-use Rattle.cg_reach.proofs.Marking.{drop_whole}
+use Rattle.cg_claim_reach.proofs.Marking.{drop_whole}
 
 pub loop-k-init : goal.loop-k-init
 loop-k-init c = states_start c.args.machine.now (λ x. slice_index_or c.args.nets.now x 0) (λ r. slice_index_or c.args.own.now r 0) (λ r. slice_index_or c.args.free.now r 0) c.args.registers.now c.args.aig.now c.args.states.now c.requires.valid_states

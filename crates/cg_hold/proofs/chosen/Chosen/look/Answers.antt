@@ -1,11 +1,11 @@
 use Rattle.std.proofs.Common.{◌≡◌, false, is_some, length, sym, ◌∙◌, ap, arith}
 use Rattle.std.specs.Option.{option_copied}
-use Rattle.cg_lists.specs.Literals.{literals_of}
+use Rattle.cg_stage_list_laws.specs.Literals.{literals_of}
 use Rattle.cg_machine.specs.Machine.{enable_of}
 use Rattle.cg_hold.proofs.OfRegister.{choice_fits, literals_all}
 use Rattle.cg_hold.proofs.Taken.{chosen_next, chosen_same, none_of_none, none_of_some, on_ok_both, wide_small}
 use Rattle.cg_hold.proofs.chosen.Chosen.look.Goals as goal
-use Rattle.cg_lists.proofs.Mapped.{none_option}
+use Rattle.cg_stage_list_laws.proofs.Mapped.{none_option}
 
 pub enable-requires : goal.enable-requires
 enable-requires c = let own = c.netlist-netlist.ensures.machine.own_registers in omega (arith, own, c.requires.register)

@@ -1,6 +1,6 @@
 use Rattle.std.proofs.Common.{◌≡◌, ◌+◌, Err, length, rules, ◌∙◌, ap, subst, arith}
 use Rattle.std.specs.Option.{option_copied}
-use Rattle.cg_groups.proofs.Listed.{own_count}
+use Rattle.cg_stage_groups.proofs.Listed.{own_count}
 use Rattle.cg_netlist.specs.Circuit.{Circuit}
 use Rattle.cg_hold.specs.inner.Choosing.{AreChosen}
 use Rattle.cg_hold.proofs.Taken.{refused_told}

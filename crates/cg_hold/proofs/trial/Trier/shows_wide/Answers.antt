@@ -1,17 +1,17 @@
 use Rattle.std.proofs.Common.{◌≡◌, ℕ, true, Some, [], slice_get, ◌∙◌, ap, subst}
 use Rattle.std.specs.Option.{option_map_or}
 use Rattle.cg_hold.proofs.OfRegister.{own_below}
-use Rattle.cg_lists.specs.Supports.{input_cone}
+use Rattle.cg_stage_list_laws.specs.Supports.{input_cone}
 use Rattle.cg_machine.specs.Added.{own_netlist}
 use Rattle.cg_machine.specs.Machine.{walk_of}
-use Rattle.cg_cone.proofs.Cones.{cone_has}
+use Rattle.cg_netlist_cone.proofs.Cones.{cone_has}
 use Rattle.cg_netlist.proofs.Used.{data_is_used}
 use Rattle.cg_netlist.specs.Circuit.{Circuit, RegisterCell}
 use Rattle.cg_net.specs.NetSets.{is_in}
-use Rattle.cg_cone.specs.Cone.{cone_of}
+use Rattle.cg_netlist_cone.specs.Cone.{cone_of}
 use Rattle.cg_netlist.specs.Netlist.{IsNetlist}
 use Rattle.cg_netlist.specs.View.{register_seen}
-use Rattle.cg_support.proofs.Steps.{used_within}
+use Rattle.cg_stage_groups.proofs.Steps.{used_within}
 use Rattle.cg_hold.specs.inner.Choosing.{IsRoom}
 use Rattle.cg_hold.proofs.trial.Trier.shows_wide.Goals as goal
 use Rattle.cg_net.proofs.FoundNets.{take_some}

@@ -1,7 +1,7 @@
 use Rattle.std.proofs.Common.{IsTrue, Some, subst, sym}
 use Rattle.std.specs.Option.{option_map}
 use Rattle.cg_cell.specs.Name.{is_name}
-use Rattle.cg_gating.specs.Request.{MayGate, stops_at}
+use Rattle.cg_gate.specs.Request.{MayGate, stops_at}
 use Rattle.cg_run.specs.Verdict.{Concludes}
 use Rattle.cg_run.specs.declared.refusal.Trouble.TheVariants as troubles
 use Rattle.cg_tool.specs.Demo.{PutsDemo}

@@ -1,6 +1,6 @@
 use Rattle.std.proofs.Common.{subst, sym}
 use Rattle.std.specs.Option.{option_map}
-use Rattle.cg_gating.specs.Request.{MayGate, RequestData, stops_at}
+use Rattle.cg_gate.specs.Request.{MayGate, RequestData, stops_at}
 use Rattle.cg_run.specs.Verdict.{Concludes}
 use Rattle.cg_run.specs.declared.refusal.Trouble.TheVariants as troubles
 use Rattle.cg_tool.specs.Demo.{PutsDemo}

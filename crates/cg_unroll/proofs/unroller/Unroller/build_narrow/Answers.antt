@@ -6,7 +6,7 @@ use Rattle.cg_cell.specs.Domain.{Seen}
 use Rattle.cg_claim.specs.Build.{size}
 use Rattle.cg_claim.specs.declared.leaf.Leaf.{Leaf}
 use Rattle.cg_claim.specs.Leaves.{leaves_of, shown_leaf, width_of}
-use Rattle.cg_reach.specs.Asking.{question_of}
+use Rattle.cg_claim_reach.specs.Asking.{question_of}
 use Rattle.cg_unroll.proofs.FewLeaves.{few_leaves}
 use Rattle.cg_unroll.proofs.Refusals.{fails_refused}
 use Rattle.cg_unroll.proofs.unroller.Unroller.build_narrow.Goals as goal

@@ -1,0 +1,92 @@
+-- Which words the program takes, and what they ask for.
+use Rattle.std.specs.Prelude.{if◌then◌else◌, List, [], ◌∷◌, Option, None, Some, codes, unwrap_or}
+use Rattle.std.specs.Option.{option_and_then, option_map}
+use Rattle.std.specs.Str.{bytes_eq}
+use Rattle.clap.specs.Words.{Kinds, Row, Text, all_of, fault_of, first_of, matches_of}
+use Rattle.cg_run.specs.Names.{Files, files_of, no_files}
+use Rattle.cg_command_line.specs.CommandLine.{Values, command_line, values_in}
+use Rattle.cg_command_line.specs.Options.{are_different, gate_options, has_options, no_options, number_in, option_files, sim_options}
+use Rattle.cg_command_line.specs.declared.job.Job.{Job}
+use Rattle.cg_command_line.specs.declared.job.Mode.{Mode}
+use Rattle.cg_command_line.specs.declared.job.Mode.TheVariants.{Demo, Gate, Lrat, Sim}
+use Rattle.cg_command_line.specs.declared.options.Options.{Options}
+
+-- what is to be done, with which files, and what the options say
+pub record JobWords : Type 0 where
+  pub mode : Mode
+  pub files : Files
+  pub options : Options
+
+-- the job that the program keeps, as its words
+abbrev pub job_words : Job → JobWords
+job_words job = record { mode = job.mode; files = files_of job.names; options = job.options }
+
+-- a job of a mode with these files, where the options are taken
+abbrev pub job_of_options : Mode → Files → Option Options → Option JobWords
+job_of_options mode files options = option_map (λ options. record { mode = mode; files = files; options = options }) options
+
+-- `gate LIB NETLIST OUT` with `--stim F`, `--proof F`, `--report F`, `--min N`, `--width N`, `--rounds N`, `--clock NAME`,
+-- `--prefix P`, `--test NAME` and `--watch NAME`, where all files are different
+abbrev pub gate_files : Text → Text → Text → Values → Files
+gate_files library netlist out values =
+    record no_files {
+      library = library;
+      netlist = netlist;
+      stimulus = unwrap_or values.stim [];
+      out = out;
+      proof = unwrap_or values.proof [];
+      report = unwrap_or values.report [];
+    }
+
+abbrev pub gate_job : List Text → List Text → Values → Option JobWords
+gate_job watchers (library ∷ netlist ∷ out ∷ []) values =
+    if are_different (library ∷ netlist ∷ out ∷ option_files values)
+    then job_of_options Gate (gate_files library netlist out values) (gate_options watchers values) else None
+gate_job watchers files values = None
+
+-- `sim LIB NETLIST STIM` with `--clock NAME` and `--watch NAME`, where all files are different
+abbrev pub sim_job : List Text → List Text → Values → Option JobWords
+sim_job watchers (library ∷ netlist ∷ stimulus ∷ []) values =
+    if are_different (library ∷ netlist ∷ stimulus ∷ [])
+    then job_of_options Sim (record no_files { library = library; netlist = netlist; stimulus = stimulus })
+    (sim_options watchers values) else None
+sim_job watchers files values = None
+
+-- `lrat CNF PROOF`, with two different files and no option
+abbrev pub lrat_job : List Text → Values → Option JobWords
+lrat_job (formula ∷ log ∷ []) values =
+    if are_different (formula ∷ log ∷ [])
+    then job_of_options Lrat (record no_files { formula = formula; log = log })
+    (if has_options values then None else Some no_options) else None
+lrat_job files values = None
+
+-- `demo N`, with a number from 1 to 4,096 and no option
+abbrev pub demo_job : List Text → Values → Option JobWords
+demo_job (size ∷ []) values =
+    option_and_then (λ size. job_of_options (Demo size) no_files (if has_options values then None else Some no_options))
+    (number_in 1 4096 size)
+demo_job files values = None
+
+-- the job that a mode's word, the files and the options ask for, with the names of the watchers that there are
+abbrev pub job_with : List Text → List Text → Values → Text → Option JobWords
+job_with watchers files values word =
+    if bytes_eq word (codes "gate") then gate_job watchers files values
+    else if bytes_eq word (codes "sim") then sim_job watchers files values
+    else if bytes_eq word (codes "lrat") then lrat_job files values
+    else if bytes_eq word (codes "demo") then demo_job files values
+    else None
+
+-- the job that the matches of the command ask for
+abbrev pub job_in : List Text → List Row → Option JobWords
+job_in watchers rows =
+    option_and_then (job_with watchers (unwrap_or (all_of (codes "FILES") rows) []) (values_in rows)) (first_of (codes "MODE") rows)
+
+-- the job of words in which the command finds these faults
+abbrev pub job_without : Kinds → Option JobWords → Option JobWords
+job_without [] job = job
+job_without (kind ∷ kinds) job = None
+
+-- The job of a line, whose first word is the program's name and is not looked at. There is none where the command does not
+-- take the words, or where they ask for help.
+abbrev pub job_of : List Text → List Text → Option JobWords
+job_of watchers words = job_without (fault_of command_line words) (job_in watchers (matches_of command_line words))

@@ -1,0 +1,133 @@
+-- What the options of a line say.
+use Rattle.std.specs.Prelude.{◌≡◌, ℕ, nat_eq, Bool, true, false, not, ◌&&◌, ◌||◌, if◌then◌else◌, List, [], ◌∷◌, ◌++◌, nat_le, codes}
+use Rattle.std.specs.Prelude.{Option, None, Some, is_none, is_some, unwrap_or}
+use Rattle.std.specs.List.{list_any, position_from, starts_with}
+use Rattle.std.specs.Option.{option_map, option_to_list}
+use Rattle.std.specs.Str.{bytes_eq}
+use Rattle.clap.specs.Words.{Text}
+use Rattle.cg_cell.specs.Name.{is_name}
+use Rattle.cg_plan_laws.specs.declared.settings.Settings.{Settings}
+use Rattle.cg_text.specs.Numbers.{number_of}
+use Rattle.cg_text.specs.declared.number.Number.{Number}
+use Rattle.cg_text.specs.declared.number.Number.TheVariants.{Large, Misspelled, Small}
+use Rattle.cg_command_line.specs.CommandLine.{Values}
+use Rattle.cg_command_line.specs.declared.options.Asked.{Asked}
+use Rattle.cg_command_line.specs.declared.options.Options.{Options}
+
+-- a number from `low` to `high`; any other spelling, as one with a leading zero, is none
+abbrev pub within : ℕ → ℕ → Number → Option ℕ
+within low high (Small n) = if nat_le low n && nat_le n high then Some n else None
+within low high Large = None
+within low high Misspelled = None
+
+abbrev pub number_in : ℕ → ℕ → Text → Option ℕ
+number_in low high word = within low high (number_of word)
+
+-- the number of an option, which may be left out
+abbrev pub number_or : ℕ → ℕ → ℕ → Option Text → Option ℕ
+number_or default low high None = Some default
+number_or default low high (Some word) = number_in low high word
+
+-- what bounds a plan; gating cells have a test input exactly where one is named
+abbrev pub settings_with : Bool → Option ℕ → Option ℕ → Option ℕ → Option Settings
+settings_with test (Some min) (Some width) (Some rounds) = Some (record { min = min; width = width; rounds = rounds; test = test })
+settings_with test _ _ _ = None
+
+abbrev pub settings_in : Values → Option Settings
+settings_in values =
+    settings_with (is_some values.test) (number_or 1 1 1024 values.min) (number_or 32 1 256 values.width)
+    (number_or 4 0 16 values.rounds)
+
+abbrev pub default_settings : Settings
+default_settings = record { min = 1; width = 32; rounds = 4; test = false }
+
+-- a value that has to be a name, where it is given
+abbrev pub is_named : Option Text → Bool
+is_named None = true
+is_named (Some name) = is_name name
+
+-- what added nets are named by where the words do not say it
+abbrev pub default_prefix : Text
+default_prefix = codes "cg_"
+
+-- a name that, where it is given, no added net can have: it does not begin with the prefix
+abbrev pub is_apart : Text → Option Text → Bool
+is_apart prefix None = true
+is_apart prefix (Some name) = not (starts_with nat_eq name prefix)
+
+-- the place of the watcher that is asked for: the first of this name among those that there are
+abbrev pub watch_in : List Text → Option Text → Option (Option ℕ)
+watch_in watchers None = Some None
+watch_in watchers (Some name) = option_map Some (position_from (λ watcher. bytes_eq watcher name) 0 watchers)
+
+-- whether no two names are the same
+abbrev pub are_different : List Text → Bool
+are_different [] = true
+are_different (name ∷ names) = not (list_any (λ other. bytes_eq other name) names) && are_different names
+
+-- the files that options name
+abbrev pub option_files : Values → List Text
+option_files values = option_to_list values.stim ++ option_to_list values.proof ++ option_to_list values.report
+
+-- which of these files are asked for
+abbrev pub asked_in : Values → Asked
+asked_in values = record { stimulus = is_some values.stim; proof = is_some values.proof; report = is_some values.report }
+
+-- whether options are given that `gate` alone has; and options of any mode
+abbrev pub has_gate_options : Values → Bool
+has_gate_options values =
+    is_some values.stim || is_some values.proof || is_some values.report || is_some values.min || is_some values.width
+    || is_some values.rounds || is_some values.prefix || is_some values.test
+
+abbrev pub has_options : Values → Bool
+has_options values = is_some values.clock || is_some values.watch || has_gate_options values
+
+-- what a mode is done with that has no options
+abbrev pub no_options : Options
+no_options =
+    record {
+      clock = None;
+      prefix = default_prefix;
+      test = None;
+      settings = default_settings;
+      watch = None;
+      asked = record { stimulus = false; proof = false; report = false };
+    }
+
+-- What the options of `gate` say. The values of `--clock`, `--prefix` and `--test` are names, that of `--test` does not begin
+-- with the prefix, whether this is given or is the default, and there is a watcher only with a stimulus.
+abbrev pub gate_options_with : Values → Option Settings → Option (Option ℕ) → Option Options
+gate_options_with values (Some settings) (Some watch) =
+    if is_named values.clock
+    && (is_named values.prefix
+    && (is_named values.test
+    && (is_apart (unwrap_or values.prefix default_prefix) values.test && (is_none values.watch || is_some values.stim))))
+    then Some
+    (record {
+      clock = values.clock;
+      prefix = unwrap_or values.prefix default_prefix;
+      test = values.test;
+      settings = settings;
+      watch = watch;
+      asked = asked_in values;
+    })
+    else None
+gate_options_with values _ _ = None
+
+abbrev pub gate_options : List Text → Values → Option Options
+gate_options watchers values = gate_options_with values (settings_in values) (watch_in watchers values.watch)
+
+-- what those of `sim` say
+abbrev pub sim_options_with : Values → Option (Option ℕ) → Option Options
+sim_options_with values (Some watch) =
+    if is_named values.clock && not (has_gate_options values) then Some (record no_options { clock = values.clock; watch = watch })
+    else None
+sim_options_with values None = None
+
+abbrev pub sim_options : List Text → Values → Option Options
+sim_options watchers values = sim_options_with values (watch_in watchers values.watch)
+
+-- what options say of a test input: there is one exactly where it has a name, which does not begin with the prefix
+pub record NamesTest (options : Options) : Type 0 where
+  pub asked : options.settings.test ≡ is_some options.test
+  pub apart : is_apart options.prefix options.test ≡ true

@@ -1,0 +1,242 @@
+//! What a line asks for.
+
+ghost use Rattle.std.specs.Prelude.{◌≡◌, [], map, unwrap_or, IfOk};
+ghost use Rattle.std.specs.Option.{option_and_then, option_map};
+ghost use Rattle.std.specs.String.{string_bytes};
+ghost use Rattle.clap.specs.Words.{found_of, rows_of};
+ghost use Rattle.cg_command_line.specs.Jobs.{demo_job, gate_job, job_in, job_of, job_with, job_words, lrat_job, sim_job};
+ghost use Rattle.cg_command_line.specs.Seen.{values_of};
+
+use crate::command::command_line;
+use crate::options::{
+    Options, are_different, gate_options, has_options, no_options, number_in, push_files,
+    sim_options,
+};
+use crate::values::{OptionWords, given};
+use cg_run::Names;
+use clap::ArgMatches;
+use clap::error::ErrorKind;
+use std::alloc::{AllocError, Global};
+
+/// What is to be done.
+#[derive(Clone, Copy, Debug, PartialEq, Eq)]
+pub enum Mode {
+    /// Read a netlist, gate its clock, and write it.
+    Gate,
+    /// Play a stimulus on a netlist.
+    Sim,
+    /// Check a proof against a formula.
+    Lrat,
+    /// Gate a generated pipeline of this size.
+    Demo(u32),
+}
+
+/// A mode, the files that it is done with, and what the options say.
+#[derive(Debug, Drop)]
+pub struct Job<'a> {
+    pub mode: Mode,
+    pub names: Names<'a>,
+    pub options: Options,
+}
+
+/// No names yet: a file that the words do not give has the empty name.
+static NO_NAMES: Names<'static> = Names {
+    library: "",
+    netlist: "",
+    stimulus: "",
+    formula: "",
+    log: "",
+    out: "",
+    proof: "",
+    report: "",
+};
+
+/// Reads the words of a command line, of which the first is the program's name and is not looked at, where there are watchers
+/// of these names.
+///
+/// Answers `None` exactly where the words are none that the program takes, or ask for help.
+pub fn read_words<'a>(
+    alloc: Global,
+    words: &'a [String],
+    watchers: &[&str],
+) -> Result<Option<Job<'a>>, AllocError>
+    ensures { IfOk result (λ job. option_map job_words job ≡ job_of (map (λ name. name.now) watchers.now) (map string_bytes words.entry.now)) }
+{
+    let command = command_line(alloc)?;
+    match command.try_get_matches_from(words) {
+        Ok(matches) => read_job(alloc, &matches, watchers),
+        Err(error) => {
+            if error.kind() == ErrorKind::OutOfMemory {
+                return Err(AllocError);
+            }
+            Ok(None)
+        }
+    }
+}
+
+/// The job that the matches of the command ask for.
+fn read_job<'a>(
+    alloc: Global,
+    matches: &ArgMatches<'a>,
+    watchers: &[&str],
+) -> Result<Option<Job<'a>>, AllocError>
+    ensures { IfOk result (λ job. option_map job_words job ≡ job_in (map (λ name. name.now) watchers.now) (rows_of (found_of matches.now))) }
+{
+    let given = given(matches);
+    match matches.get_str("MODE") {
+        None => Ok(None),
+        Some(word) => job_named(alloc, word, matches.get_strs("FILES"), &given, watchers),
+    }
+}
+
+fn job_named<'a>(
+    alloc: Global,
+    word: &str,
+    files: Option<&[&'a str]>,
+    given: &OptionWords<'a>,
+    watchers: &[&str],
+) -> Result<Option<Job<'a>>, AllocError>
+    ensures { IfOk result (λ job. option_map job_words job ≡ job_with (map (λ name. name.now) watchers.now)
+        (unwrap_or (option_map (λ s. map (λ v. v.now) s.now) files.entry) []) (values_of given.now) word.now) }
+{
+    match files {
+        None => job_with(alloc, word, &[], given, watchers),
+        Some(files) => job_with(alloc, word, files, given, watchers),
+    }
+}
+
+fn job_with<'a>(
+    alloc: Global,
+    word: &str,
+    files: &[&'a str],
+    given: &OptionWords<'a>,
+    watchers: &[&str],
+) -> Result<Option<Job<'a>>, AllocError>
+    ensures { IfOk result
+        (λ job. option_map job_words job ≡ job_with (map (λ name. name.now) watchers.now) (map (λ file. file.now) files.now) (values_of given.now) word.now) }
+{
+    match word {
+        "gate" => gate_job(alloc, files, given, watchers),
+        "sim" => sim_job(alloc, files, given, watchers),
+        "lrat" => lrat_job(alloc, files, given),
+        "demo" => demo_job(alloc, files, given),
+        _ => Ok(None),
+    }
+}
+
+/// `gate LIB NETLIST OUT`, where all files are different.
+fn gate_job<'a>(
+    alloc: Global,
+    files: &[&'a str],
+    given: &OptionWords<'a>,
+    watchers: &[&str],
+) -> Result<Option<Job<'a>>, AllocError>
+    ensures { IfOk result
+        (λ job. option_map job_words job ≡ gate_job (map (λ name. name.now) watchers.now) (map (λ file. file.now) files.now) (values_of given.now)) }
+{
+    let [library, netlist, out] = files else {
+        return Ok(None);
+    };
+    let mut all = Vec::from_slice(alloc, files)?;
+    push_files(&mut all, given)?;
+    if !are_different(&all) {
+        return Ok(None);
+    }
+    let Some(options) = gate_options(alloc, watchers, given)? else {
+        return Ok(None);
+    };
+    Ok(Some(Job {
+        mode: Mode::Gate,
+        names: Names {
+            library,
+            netlist,
+            stimulus: given.stim.unwrap_or(""),
+            formula: "",
+            log: "",
+            out,
+            proof: given.proof.unwrap_or(""),
+            report: given.report.unwrap_or(""),
+        },
+        options,
+    }))
+}
+
+/// `sim LIB NETLIST STIM`, where all files are different.
+fn sim_job<'a>(
+    alloc: Global,
+    files: &[&'a str],
+    given: &OptionWords<'a>,
+    watchers: &[&str],
+) -> Result<Option<Job<'a>>, AllocError>
+    ensures { IfOk result
+        (λ job. option_map job_words job ≡ sim_job (map (λ name. name.now) watchers.now) (map (λ file. file.now) files.now) (values_of given.now)) }
+{
+    let [library, netlist, stimulus] = files else {
+        return Ok(None);
+    };
+    if !are_different(files) {
+        return Ok(None);
+    }
+    let Some(options) = sim_options(alloc, watchers, given)? else {
+        return Ok(None);
+    };
+    Ok(Some(Job {
+        mode: Mode::Sim,
+        names: Names {
+            library,
+            netlist,
+            stimulus,
+            ..NO_NAMES
+        },
+        options,
+    }))
+}
+
+/// `lrat CNF PROOF`, with two different files and no option.
+fn lrat_job<'a>(
+    alloc: Global,
+    files: &[&'a str],
+    given: &OptionWords<'a>,
+) -> Result<Option<Job<'a>>, AllocError>
+    ensures { IfOk result (λ job. option_map job_words job ≡ lrat_job (map (λ file. file.now) files.now) (values_of given.now)) }
+{
+    let [formula, log] = files else {
+        return Ok(None);
+    };
+    if !are_different(files) || has_options(given) {
+        return Ok(None);
+    }
+    Ok(Some(Job {
+        mode: Mode::Lrat,
+        names: Names {
+            formula,
+            log,
+            ..NO_NAMES
+        },
+        options: no_options(alloc)?,
+    }))
+}
+
+/// `demo N`, with a number from 1 to 4,096 and no option.
+fn demo_job<'a>(
+    alloc: Global,
+    files: &[&'a str],
+    given: &OptionWords<'a>,
+) -> Result<Option<Job<'a>>, AllocError>
+    ensures { IfOk result (λ job. option_map job_words job ≡ demo_job (map (λ file. file.now) files.now) (values_of given.now)) }
+{
+    let [size] = files else {
+        return Ok(None);
+    };
+    let Some(size) = number_in(1, 4096, size) else {
+        return Ok(None);
+    };
+    if has_options(given) {
+        return Ok(None);
+    }
+    Ok(Some(Job {
+        mode: Mode::Demo(size),
+        names: NO_NAMES,
+        options: no_options(alloc)?,
+    }))
+}

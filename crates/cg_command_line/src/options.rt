@@ -1,0 +1,305 @@
+//! What the options of a line say.
+
+ghost use Rattle.std.specs.Prelude.{◌≡◌, ◌++◌, ◌<◌, ◌^◌, [], codes, map, unwrap_or, IfOk, IsTrue, OnOk};
+ghost use Rattle.std.specs.List.{list_any, position_from};
+ghost use Rattle.std.specs.Str.{bytes_eq};
+ghost use Rattle.std.specs.Option.{option_map, option_to_list};
+ghost use Rattle.cg_command_line.specs.Options.{are_different, asked_in, default_prefix, gate_options, has_gate_options, has_options};
+ghost use Rattle.cg_command_line.specs.Options.{is_apart};
+ghost use Rattle.cg_command_line.specs.Options.{is_named, no_options, number_in, number_or, option_files, settings_in, sim_options};
+ghost use Rattle.cg_command_line.specs.Options.{watch_in};
+ghost use Rattle.cg_command_line.specs.Seen.{values_of};
+
+use crate::values::OptionWords;
+use cg_cell::name::Name;
+use cg_plan_laws::settings::Settings;
+use cg_text::number::{Number, read_number};
+use std::alloc::{AllocError, Global};
+
+/// Which of the files that need not be given are given.
+#[derive(Clone, Copy, Debug, PartialEq, Eq)]
+pub struct Asked {
+    pub stimulus: bool,
+    pub proof: bool,
+    pub report: bool,
+}
+
+/// What the options say; those that are left out have their defaults.
+#[derive(Debug, Drop)]
+pub struct Options {
+    /// The net that is declared to be the clock.
+    pub clock: Option<Name>,
+
+    /// What the names of added nets begin with.
+    pub prefix: Name,
+
+    /// The name of the test input that gating cells get, where there is to be one. It does not begin with the prefix.
+    pub test: Option<Name>,
+
+    /// What bounds the plan.
+    pub settings: Settings,
+
+    /// The place of the watcher that is asked for, among those that there are.
+    pub watch: Option<usize>,
+
+    /// Which further files are asked for.
+    pub asked: Asked,
+}
+
+/// What a mode is done with that has no options.
+pub fn no_options(alloc: Global) -> Result<Options, AllocError>
+    ensures { IfOk result (λ options. options ≡ no_options) }
+{
+    Ok(Options {
+        clock: None,
+        prefix: Name::new(alloc, b"cg_")?,
+        test: None,
+        settings: Settings {
+            min: 1,
+            width: 32,
+            rounds: 4,
+            test: false,
+        },
+        watch: None,
+        asked: Asked {
+            stimulus: false,
+            proof: false,
+            report: false,
+        },
+    })
+}
+
+/// What the options of `gate` say, where they are taken.
+pub fn gate_options(
+    alloc: Global,
+    watchers: &[&str],
+    given: &OptionWords<'_>,
+) -> Result<Option<Options>, AllocError>
+    ensures { IfOk result (λ options. options ≡ gate_options (map (λ name. name.now) watchers.now) (values_of given.now)) }
+{
+    let Some(settings) = settings(given) else {
+        return Ok(None);
+    };
+    let Some(watch) = watch(watchers, given.watch) else {
+        return Ok(None);
+    };
+    if !is_named(given.clock) || !is_named(given.prefix) {
+        return Ok(None);
+    }
+    if !is_named(given.test) || !is_apart(given.test, given.prefix) {
+        return Ok(None);
+    }
+    if given.watch.is_some() && given.stim.is_none() {
+        return Ok(None);
+    }
+    Ok(Some(Options {
+        clock: name(alloc, given.clock)?,
+        prefix: prefix(alloc, given.prefix)?,
+        test: name(alloc, given.test)?,
+        settings,
+        watch,
+        asked: asked_for(given),
+    }))
+}
+
+/// What the options of `sim` say, where they are taken.
+pub fn sim_options(
+    alloc: Global,
+    watchers: &[&str],
+    given: &OptionWords<'_>,
+) -> Result<Option<Options>, AllocError>
+    ensures { IfOk result (λ options. options ≡ sim_options (map (λ name. name.now) watchers.now) (values_of given.now)) }
+{
+    let Some(watch) = watch(watchers, given.watch) else {
+        return Ok(None);
+    };
+    if !is_named(given.clock) || has_gate_options(given) {
+        return Ok(None);
+    }
+    let clock = name(alloc, given.clock)?;
+    let plain = no_options(alloc)?;
+    Ok(Some(Options {
+        clock,
+        prefix: plain.prefix,
+        test: plain.test,
+        settings: plain.settings,
+        watch,
+        asked: plain.asked,
+    }))
+}
+
+/// Whether options are given that `gate` alone has.
+pub fn has_gate_options(given: &OptionWords<'_>) -> bool
+    ensures { result ≡ has_gate_options (values_of given.now) }
+{
+    given.stim.is_some()
+        || given.proof.is_some()
+        || given.report.is_some()
+        || given.min.is_some()
+        || given.width.is_some()
+        || given.rounds.is_some()
+        || given.prefix.is_some()
+        || given.test.is_some()
+}
+
+/// Whether options of any mode are given.
+pub fn has_options(given: &OptionWords<'_>) -> bool
+    ensures { result ≡ has_options (values_of given.now) }
+{
+    given.clock.is_some() || given.watch.is_some() || has_gate_options(given)
+}
+
+fn asked_for(given: &OptionWords<'_>) -> Asked
+    ensures { result ≡ asked_in (values_of given.now) }
+{
+    Asked {
+        stimulus: given.stim.is_some(),
+        proof: given.proof.is_some(),
+        report: given.report.is_some(),
+    }
+}
+
+fn settings(given: &OptionWords<'_>) -> Option<Settings>
+    ensures { result ≡ settings_in (values_of given.now) }
+{
+    let min = number_or(1, 1, 1024, given.min)?;
+    let width = number_or(32, 1, 256, given.width)?;
+    let rounds = number_or(4, 0, 16, given.rounds)?;
+    Some(Settings {
+        min,
+        width,
+        rounds,
+        test: given.test.is_some(),
+    })
+}
+
+/// The number of an option that may be left out.
+fn number_or(default: u32, low: u32, high: u32, word: Option<&str>) -> Option<u32>
+    ensures { result ≡ number_or default low high (option_map (λ word. word.now) word.entry) }
+{
+    match word {
+        None => Some(default),
+        Some(word) => number_in(low, high, word),
+    }
+}
+
+/// The number that a word says, where it is from `low` to `high` and spelled in digits without a leading zero.
+pub fn number_in(low: u32, high: u32, word: &str) -> Option<u32>
+    ensures { result ≡ number_in low high word.now }
+{
+    match read_number(word.as_bytes()) {
+        Number::Small(number) if u64::from(low) <= number && number <= u64::from(high) => Some(
+            number as u32,
+        ),
+        _ => None,
+    }
+}
+
+/// Whether a value that has to be a name is one, where it is given.
+fn is_named(value: Option<&str>) -> bool
+    ensures { result ≡ is_named (option_map (λ word. word.now) value.entry) }
+{
+    match value {
+        None => true,
+        Some(value) => Name::is_name(value.as_bytes()),
+    }
+}
+
+/// Whether a name, where it is given, is none that added nets can have: it does not begin with the prefix.
+fn is_apart(value: Option<&str>, prefix: Option<&str>) -> bool
+    ensures { result ≡ is_apart (unwrap_or (option_map (λ word. word.now) prefix.entry) default_prefix) (option_map (λ word. word.now) value.entry) }
+{
+    match value {
+        None => true,
+        Some(value) => !value
+            .as_bytes()
+            .starts_with(prefix.unwrap_or("cg_").as_bytes()),
+    }
+}
+
+/// The name that is given.
+fn name(alloc: Global, value: Option<&str>) -> Result<Option<Name>, AllocError>
+    requires { IsTrue (is_named (option_map (λ word. word.now) value)) }
+    ensures { IfOk result (λ name. name ≡ option_map (λ word. word.now) value.entry) }
+{
+    match value {
+        None => Ok(None),
+        Some(value) => Ok(Some(Name::new(alloc, value.as_bytes())?)),
+    }
+}
+
+/// The prefix that is given, or its default.
+fn prefix(alloc: Global, value: Option<&str>) -> Result<Name, AllocError>
+    requires { IsTrue (is_named (option_map (λ word. word.now) value)) }
+    ensures { IfOk result (λ name. name ≡ unwrap_or (option_map (λ word. word.now) value.entry) default_prefix) }
+{
+    match value {
+        None => Name::new(alloc, b"cg_"),
+        Some(value) => Name::new(alloc, value.as_bytes()),
+    }
+}
+
+/// The place of the watcher that is asked for; nothing where there is none of that name.
+fn watch(watchers: &[&str], name: Option<&str>) -> Option<Option<usize>>
+    ensures { result ≡ watch_in (map (λ name. name.now) watchers.now) (option_map (λ word. word.now) name.entry) }
+{
+    match name {
+        None => Some(None),
+        Some(name) => match place_of(watchers, name) {
+            None => None,
+            Some(place) => Some(Some(place)),
+        },
+    }
+}
+
+/// The place of the first watcher of this name.
+#[tactic(auto, using(crate::proofs::Places::places))]
+fn place_of(watchers: &[&str], name: &str) -> Option<usize>
+    ensures { result ≡ position_from (λ watcher. bytes_eq watcher name.now) 0 (map (λ name. name.now) watchers.now) }
+{
+    'watchers: for (place, watcher) in watchers.iter().enumerate() {
+        if *watcher == name {
+            return Some(place);
+        }
+    }
+    None
+}
+
+/// The files that options name, behind others.
+pub fn push_files<'a>(files: &mut Vec<&'a str>, given: &OptionWords<'a>) -> Result<(), AllocError>
+    ensures { OnOk result (map (λ file. file.now) files.new.items ≡ map (λ file. file.now) files.old.items ++ option_files (values_of given.now)) }
+{
+    push_file(files, given.stim)?;
+    push_file(files, given.proof)?;
+    push_file(files, given.report)
+}
+
+fn push_file<'a>(files: &mut Vec<&'a str>, file: Option<&'a str>) -> Result<(), AllocError>
+    ensures { OnOk result
+        (map (λ file. file.now) files.new.items ≡ map (λ file. file.now) files.old.items ++ option_to_list (option_map (λ word. word.now) file.entry)) }
+{
+    if let Some(file) = file {
+        files.push(file)?;
+    }
+    Ok(())
+}
+
+/// Whether no two names are the same.
+pub fn are_different(names: &[&str]) -> bool
+    ensures { result ≡ are_different (map (λ name. name.now) names.now) }
+{
+    match names.split_first() {
+        None => true,
+        Some((name, rest)) => !is_among(name, rest) && are_different(rest),
+    }
+}
+
+/// Whether a name is one of these.
+fn is_among(name: &str, names: &[&str]) -> bool
+    ensures { result ≡ list_any (λ other. bytes_eq other name.now) (map (λ name. name.now) names.now) }
+{
+    match names.split_first() {
+        None => false,
+        Some((other, rest)) => *other == name || is_among(name, rest),
+    }
+}

@@ -1,0 +1,45 @@
+use Rattle.std.proofs.Common.{◌≡◌, None, Some, ap, subst, sym, ◌∙◌}
+use Rattle.cg_gate.proofs.Answering.{gives_all, if_ok, means_all, on_ok, wanting}
+use Rattle.cg_gate.proofs.Gated.{unstopped}
+use Rattle.cg_gate.specs.Gating.{AreTexts, GivesGated}
+use Rattle.cg_gate.specs.Headline.{Headline}
+use Rattle.cg_gate.specs.Played.{IsWhatPlayed}
+use Rattle.cg_gate.specs.Request.{RequestData, stops_at}
+use Rattle.cg_plan.specs.Planning.{told}
+use Rattle.cg_gate.proofs.gate.gate_watched.Goals as goal
+
+pub watch_both-requires-clause-read : goal.watch_both-requires-clause-read
+watch_both-requires-clause-read g c = λ rows there. c.requires.played rows (sym (ap (λ (r : RequestData). r.stimulus) c.request.view_is) ∙ there)
+
+pub watch_both-requires-clause-written : goal.watch_both-requires-clause-written
+watch_both-requires-clause-written g c = λ rows there. c.in_ok-gated.ensures.fits rows (sym (ap (λ (r : RequestData). r.stimulus) c.request.view_is) ∙ there)
+
+pub returns-clause-gives : goal.returns-clause-gives
+returns-clause-gives g c =
+    let request = c.args.request.now in
+    let read = c.args.netlist.now in
+    let says = Some ((goal.Watcher-dyn g (c.args.watcher.now.vtable, c.args.watcher.now.value)).says c.args.watcher.now.value) in
+    let gated = c.in_ok-gated.gated in
+    let what = subst (λ (r : RequestData). IsWhatPlayed says r.stimulus read gated.netlist c.in-Ok.played) c.request.view_is c.in-Ok.ensures in
+    if_ok (AreTexts request (told gated.plan) gated.netlist c.in-Ok.played) (GivesGated request says read) c.finish-texts.result
+    (gives_all request says read gated.netlist (told gated.plan) c.in-Ok.played c.in_ok-gated.ensures.gated what) c.finish-texts.ensures.texts
+
+pub returns-clause-headline : goal.returns-clause-headline
+returns-clause-headline g c =
+    let request = c.args.request.now in
+    let read = c.args.netlist.now in
+    let says = Some ((goal.Watcher-dyn g (c.args.watcher.now.vtable, c.args.watcher.now.value)).says c.args.watcher.now.value) in
+    let gated = c.in_ok-gated.gated in
+    let what = subst (λ (r : RequestData). IsWhatPlayed says r.stimulus read gated.netlist c.in-Ok.played) c.request.view_is c.in-Ok.ensures in
+    if_ok (AreTexts request (told gated.plan) gated.netlist c.in-Ok.played) (Headline request says read) c.finish-texts.result
+    (means_all request says read gated.netlist (told gated.plan) c.in-Ok.played c.in_ok-gated.ensures.gated what c.in_ok-gated.ensures.proper c.requires) c.finish-texts.ensures.texts
+
+pub returns-clause-unstopped : goal.returns-clause-unstopped
+returns-clause-unstopped g c =
+    let request = c.args.request.now in
+    let read = c.args.netlist.now in
+    let gated = c.in_ok-gated.gated in
+    on_ok (stops_at request read ≡ None) c.finish-texts.result (unstopped request read c.in_ok-gated.ensures.proper c.requires (told gated.plan) c.in_ok-gated.ensures.gated.plan gated.netlist c.in_ok-gated.ensures.gated)
+
+pub returns-clause-fault : goal.returns-clause-fault
+returns-clause-fault g c = wanting (stops_at c.args.request.now c.args.netlist.now) c.finish-texts.result c.finish-texts.ensures.fault

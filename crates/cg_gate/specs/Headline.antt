@@ -1,0 +1,114 @@
+-- What gating a netlist means: the written netlist shows what the one that was read shows, from every state and for all time.
+use Rattle.std.specs.Prelude.{◌≡◌, ◌↔◌, ℕ, ◌+◌, Bool, true, List, [], ◌∷◌, ◌++◌, map, length, replicate, slice_get, Option, None}
+use Rattle.std.specs.Prelude.{Some}
+use Rattle.std.specs.Option.{option_to_list}
+use Rattle.cg_blif_text.specs.BlifText.{BlifText}
+use Rattle.cg_blif_text.specs.Canonical.{blif}
+use Rattle.cg_extract.specs.Lifted.{lifted, origins}
+use Rattle.cg_gate_laws.specs.Kept.{KeepsParts}
+use Rattle.cg_insert.specs.Insert.{inserted}
+use Rattle.cg_insert.specs.Insertion.{RisesAre}
+use Rattle.cg_machine.specs.Machine.{MachineData}
+use Rattle.cg_netlist.specs.Circuit.{Circuit}
+use Rattle.cg_netlist.specs.History.{IsLawful, IsStart, IsWaveform, Moment, Tick, outputs_of}
+use Rattle.cg_netlist.specs.Moment.{zip_with}
+use Rattle.cg_netlist.specs.WellFormed.{IsWellFormed}
+use Rattle.cg_net.specs.Names.{NetName, net_name}
+use Rattle.cg_plan_laws.specs.Plan.{Turn, plan_of, wide_of}
+use Rattle.cg_plan_laws.specs.Told.{AreCertified, AreTold, ToldPlan, plan_claims}
+use Rattle.cg_plan_laws.specs.declared.outcome.Outcome.TheVariants.{Inserted}
+use Rattle.cg_plan_text.specs.ProofText.{proof_text}
+use Rattle.cg_plan_text.specs.Summary.{report_text, said_text}
+use Rattle.cg_plan_text.specs.declared.summary.Played.{Played}
+use Rattle.cg_plan.specs.Planning.{AreWritable}
+use Rattle.cg_report.specs.Idle.{low_moments, zeros_of}
+use Rattle.cg_stimulus.specs.Inputs.{Rows, input_names}
+use Rattle.cg_stimulus.specs.Played.{IsPlayed}
+use Rattle.cg_gate.specs.WorthInserting.{IsWorthInserting}
+use Rattle.cg_gate.specs.Gating.{where_asked}
+use Rattle.cg_gate.specs.Idling.{idle_data, idle_of, zeros_by}
+use Rattle.cg_gate.specs.Played.{EdgesAre, LineIs, Saying}
+use Rattle.cg_gate.specs.Request.{RequestData}
+use Rattle.cg_gate.specs.Turns.{Lead}
+use Rattle.cg_gate.specs.declared.texts.Texts.{Texts}
+
+-- a waveform of the original as one of the written netlist, whose test input, where it has one, has at each moment the next of
+-- these bits
+abbrev pub with_bit : Option NetName → Tick → Bool → Tick
+with_bit None tick bit = tick
+with_bit (Some test) tick bit = record { clock = tick.clock; inputs = tick.inputs ++ bit ∷ [] }
+
+abbrev pub with_bits : Option NetName → List Tick → List Bool → List Tick
+with_bits test wave bits = zip_with (with_bit test) wave bits
+
+-- Both netlists have one lawful history each, and at every moment the same bits at their outputs. A register of the written
+-- netlist rises where the clock rises and its enable, or the test input, was 1 a moment before.
+pub record ShowsSame (m : MachineData) (read written : Circuit) (start added : List Bool) (wave tested : List Tick) : Type 0 where
+  pub original : List Moment
+  pub original_lawful : IsLawful read start wave original
+  pub original_alone : (other : List Moment) → IsLawful read start wave other → other ≡ original
+  pub waveform : IsWaveform written tested
+  pub history : List Moment
+  pub lawful : IsLawful written (start ++ added) tested history
+  pub alone : (other : List Moment) → IsLawful written (start ++ added) tested other → other ≡ history
+  pub same : outputs_of written history ≡ outputs_of read original
+  pub rises : RisesAre written m tested history
+
+-- The texts of a netlist that was gated, and what they mean.
+pub record Headline (request : RequestData) (says : Option Saying) (read : Circuit) (texts : Texts) : Type 0 where
+  -- there is a written netlist, which is well formed, and the text that is put out says it with the same library, and no other
+  pub written : Circuit
+  pub well_formed : IsWellFormed written
+  pub text : texts.out ≡ blif written
+  pub says_it : BlifText texts.out request.library None written
+  pub no_other : (c : Circuit) → BlifText texts.out request.library None c → c ≡ written
+  -- its data inputs and outputs have the names of the original's, but that a test input, where there is to be one, stands behind
+  -- the others
+  pub inputs : input_names written ≡ input_names read ++ option_to_list request.test
+  pub outputs : map (net_name written.names) written.outputs ≡ map (net_name read.names) read.outputs
+  -- its model, its clock and its first logic cells are the original's, and its registers are those of the original, each as it
+  -- was but for its clock, and behind them delay registers
+  pub delays : ℕ
+  pub registers : length written.registers ≡ length read.registers + delays
+  pub parts : KeepsParts read written
+  -- from every state of the original's registers, with 1 in the delay registers, and over every waveform that begins with the
+  -- clock low, whatever the test input does, it shows what the original shows
+  pub plan : ToldPlan
+  pub shows : (start : List Bool) (wave : List Tick) (bits : List Bool) → IsStart read start → IsWaveform read wave →
+      length bits ≡ length wave
+      → ShowsSame plan.machine read written start (replicate delays true) wave (with_bits request.test wave bits)
+  -- it is what the plan's machine is written as; the plan came to its end, its stages lead there from the machine of the original,
+  -- to whose enables the original's gating cells are lifted, and each is inserted exactly where it is worth it on the machine of
+  -- its turn
+  pub is : written ≡ inserted request.library request.test plan.machine
+  pub turns : List Turn
+  pub planned : turns
+      ≡ (plan_of request.library request.settings (idle_of read request.prefix request.stimulus) (lifted read request.prefix)).turns
+  pub whole :
+      (plan_of request.library request.settings (idle_of read request.prefix request.stimulus) (lifted read request.prefix)).limit
+      ≡ None
+  pub lead : Lead turns (lifted read request.prefix) plan.machine
+  pub deserved : (k : ℕ) (turn : Turn) → slice_get turns k ≡ Some turn →
+      (turn.outcome ≡ Inserted) ↔ IsWorthInserting request.library request.settings turn.machine turn.stage
+  -- literals are ranked by how often their nets are 0 in the history on which the stimulus is played on the original; a net that
+  -- stands for none of the original's counts 0
+  pub idle : (stimulus : Rows) → request.stimulus ≡ Some stimulus
+      → (history : List Moment) × IsPlayed read stimulus.rows history
+      × ((idle_data read request.prefix stimulus).zeros
+      ≡ map (zeros_by (λ net. zeros_of net (low_moments history))) (origins read (lifted read request.prefix)))
+  -- the stages are told with their outcomes, and bits that are told of a refuted claim violate it
+  pub told : AreTold turns plan.stages
+  -- and it is told of how many registers the hold claims are too wide
+  pub wide : plan.wide ≡ wide_of request.settings (lifted read request.prefix)
+  -- the proof file has for each claim of each inserted stage, in order, the defined formula and an accepted log that proves that
+  -- nothing satisfies it, and nothing else; formulas and logs keep to the bounds of their formats, so that they are read back
+  pub certified : AreCertified (plan_claims 1 turns) plan.certificates
+  pub writable : AreWritable plan.certificates
+  pub proof : texts.proof ≡ where_asked request.proof (proof_text plan)
+  -- the edges are those of the histories on which the stimulus is played on both netlists, and the watcher says its line of exactly
+  -- the moments of the written one's
+  pub played : Played
+  pub edges : EdgesAre request.stimulus read written played.edges
+  pub line : LineIs says request.stimulus written played.watched
+  pub said : texts.said ≡ said_text plan played
+  pub report : texts.report ≡ where_asked request.report (report_text plan (length written.gaters) played)

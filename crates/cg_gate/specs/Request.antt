@@ -1,0 +1,61 @@
+-- What gating is asked for, what it needs, and what stops it.
+use Rattle.std.specs.Prelude.{◌≡◌, ◌≢◌, ℕ, Bool, false, List, Option, None, Some, is_some}
+use Rattle.std.specs.List.{All}
+use Rattle.std.specs.Option.{option_or}
+use Rattle.cg_cell.specs.Cell.{CellData}
+use Rattle.cg_extract.specs.Lifted.{CanExtract, lifted}
+use Rattle.cg_gate_laws.specs.Gated.{Gating, planned, refused_gater}
+use Rattle.cg_insert.specs.Insert.{insertion_limit}
+use Rattle.cg_limit.specs.declared.Limit.{Limit}
+use Rattle.cg_machine.specs.Start.{begins}
+use Rattle.cg_netlist.specs.Circuit.{Circuit}
+use Rattle.cg_netlist_parts.specs.Writable.{IsWritable}
+use Rattle.cg_plan_laws.specs.Plan.{plan_of}
+use Rattle.cg_plan_laws.specs.declared.settings.Settings.{Settings}
+use Rattle.cg_stimulus.specs.Inputs.{IsFor, Rows}
+use Rattle.cg_gate.specs.Idling.{idle_of}
+
+-- the cells, what bounds the plan, the prefix of the names of added nets, the name of the test input, where there is to be one,
+-- the stimulus, where there is one, and whether a proof file and a report are asked for
+pub record RequestData : Type 0 where
+  pub library : List CellData
+  pub settings : Settings
+  pub prefix : List ℕ
+  pub test : Option (List ℕ)
+  pub stimulus : Option Rows
+  pub proof : Bool
+  pub report : Bool
+
+-- a name is free for a test input: no net has it, and no net that is added gets it
+pub record IsFree (c : Circuit) (prefix name : List ℕ) : Type 0 where
+  pub new : All (λ other. other ≢ name) c.names
+  pub apart : begins prefix name ≡ false
+
+-- What gating needs. The netlist is one that a text can say with the cells of the library. No gating cell of it is refused, and no
+-- net's name begins with the prefix. The plan is made for a test input exactly where there is to be one, and its name is free. The
+-- stimulus is one for the netlist.
+pub record MayGate (request : RequestData) (c : Circuit) : Type 0 where
+  pub start : CanExtract c request.prefix
+  pub lifts : refused_gater request.library request.test c ≡ None
+  pub writable : IsWritable request.library c
+  pub tested : request.settings.test ≡ is_some request.test
+  pub free : (name : List ℕ) → request.test ≡ Some name → IsFree c request.prefix name
+  pub played : (stimulus : Rows) → request.stimulus ≡ Some stimulus → IsFor c stimulus
+
+-- what the netlist is gated by
+abbrev pub gating_of : RequestData → Circuit → Gating
+gating_of request c = record {
+  library = request.library;
+  settings = request.settings;
+  idle = idle_of c request.prefix request.stimulus;
+  prefix = request.prefix;
+  test = request.test;
+}
+
+-- the limit at which the plan stops, or else the limit that the written netlist would pass
+abbrev pub stops_by : Gating → Circuit → Option Limit
+stops_by by c =
+    option_or (plan_of by.library by.settings by.idle (lifted c by.prefix)).limit (insertion_limit by.test (planned by c))
+
+abbrev pub stops_at : RequestData → Circuit → Option Limit
+stops_at request c = stops_by (gating_of request c) c

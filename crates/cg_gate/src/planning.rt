@@ -1,0 +1,174 @@
+//! The plan of a netlist, and the netlist that the plan's machine is written as.
+
+ghost use Rattle.std.specs.Prelude.{◌≡◌, ℕ, List, Some, IfOk, IfErr, IsTrue};
+ghost use Rattle.std.specs.Option.{option_copied};
+ghost use Rattle.cg_cell.specs.Name.{is_name};
+ghost use Rattle.cg_extract.specs.Lifted.{lifted, origins};
+ghost use Rattle.cg_gate.specs.Gating.{IsWritten};
+ghost use Rattle.cg_gate.specs.Idling.{idle_of};
+ghost use Rattle.cg_gate.specs.Laws.{IsProper};
+ghost use Rattle.cg_gate.specs.Request.{MayGate, gating_of, stops_at};
+ghost use Rattle.cg_insert.specs.Insert.{CanInsert};
+ghost use Rattle.cg_insert.specs.Inserting.{insertion};
+ghost use Rattle.cg_limit.specs.Answers.{OrNoMemory};
+ghost use Rattle.cg_stage_list_laws.specs.Literals.{FitsIdle};
+ghost use Rattle.cg_netlist.specs.declared.fault.AddFault.TheVariants.{NoMemory};
+ghost use Rattle.cg_plan_laws.specs.Plan.{plan_of};
+ghost use Rattle.cg_plan_laws.specs.Told.{IsPlan, PlanMayFail};
+ghost use Rattle.cg_plan.specs.Planning.{AreWritable, told};
+ghost use Rattle.cg_stimulus.specs.Inputs.{IsFor, IsStimulus, Rows};
+
+use crate::counting::machine_zeros;
+use crate::request::Request;
+use cg_cell::fit::FitKind;
+use cg_cell::name::Name;
+use cg_extract::extract::{Extracted, extract};
+use cg_insert::insert::insert;
+use cg_machine::machine::Machine;
+use cg_netlist::fault::AddFault;
+use cg_netlist::netlist::Netlist;
+use cg_plan::plan::{Plan, make_plan};
+use cg_plan::progress::Progress;
+use cg_stage_list_laws::idle::Idle;
+use cg_stimulus::stimulus::Stimulus;
+use std::alloc::{AllocError, Global};
+
+/// A netlist that was gated: its plan, and the netlist that the plan's machine is written as.
+#[derive(Drop)]
+pub struct Gated {
+    pub plan: Plan,
+    pub netlist: Netlist,
+}
+
+/// Plans the machine of a netlist, to whose enables its gating cells are lifted, and writes the plan's machine as a netlist.
+///
+/// It is refused by the limit at which the plan stops, or else by that which the written netlist would pass.
+pub fn gate_netlist(
+    alloc: Global,
+    netlist: &Netlist,
+    request: &Request<'_>,
+    progress: &mut dyn Progress,
+) -> Result<Gated, AddFault>
+    requires { MayGate request.now netlist.now }
+    ensures gated { IfOk result (λ gated. IsWritten (gating_of request.now netlist.now) netlist.now (told gated.plan) gated.netlist) }
+    ensures fits { IfOk result (λ gated. (stimulus : Rows) → request.now.stimulus ≡ Some stimulus → IsFor gated.netlist stimulus) }
+    ensures writable { IfOk result (λ gated. AreWritable gated.plan.certificates) }
+    ensures proper { IsProper request.now }
+    ensures fault { IfErr result (PlanMayFail (stops_at request.now netlist.now)) }
+{
+    hold_request(request);
+    let plan = plan_netlist(alloc, netlist, request, progress)?;
+    match write_plan(alloc, &plan, request) {
+        Ok(netlist) => Ok(Gated { plan, netlist }),
+        Err(fault) => {
+            // By a call, as its parts would else be dropped one by one in the proof; so too below.
+            drop(plan);
+            Err(fault)
+        }
+    }
+}
+
+/// The netlist that a plan's machine is written as.
+fn write_plan(alloc: Global, plan: &Plan, request: &Request<'_>) -> Result<Netlist, AddFault>
+    requires { CanInsert request.now.library request.now.test plan.now.machine }
+    ensures { OrNoMemory NoMemory (λ netlist. netlist) result (insertion request.now.library request.now.test plan.now.machine) }
+{
+    insert(alloc, &plan.machine, request.library, request.test)
+}
+
+/// A request holds a library, a name of the test input and a stimulus.
+fn hold_request(request: &Request<'_>)
+    ensures { IsProper request.now }
+{
+    let _ = request.library.len();
+    name_test(request.test);
+    hold_rows(request.stimulus);
+}
+
+/// A stimulus that is there has lawful rows.
+fn hold_rows(stimulus: Option<&Stimulus>)
+    ensures { (rows : Rows) → option_copied stimulus.entry ≡ Some rows → IsStimulus rows }
+{
+    if let Some(stimulus) = stimulus {
+        let _ = stimulus.rows();
+    }
+}
+
+/// A test input that is to be there has a name.
+fn name_test(test: Option<&Name>)
+    ensures { (name : List ℕ) → option_copied test.entry ≡ Some name → IsTrue (is_name name) }
+{
+    if let Some(name) = test {
+        let _ = name.bytes();
+    }
+}
+
+/// The plan of a netlist, for which nets are counted that are 0 on the rows of the stimulus, where there is one.
+fn plan_netlist(
+    alloc: Global,
+    netlist: &Netlist,
+    request: &Request<'_>,
+    progress: &mut dyn Progress,
+) -> Result<Plan, AddFault>
+    requires { MayGate request.now netlist.now }
+    ensures plan { IfOk result (λ plan. IsPlan request.now.library request.now.settings (idle_of netlist.now request.now.prefix request.now.stimulus)
+        (lifted netlist.now request.now.prefix) (told plan)) }
+    ensures writable { IfOk result (λ plan. AreWritable plan.certificates) }
+    ensures fault { IfErr result
+        (PlanMayFail (plan_of request.now.library request.now.settings (idle_of netlist.now request.now.prefix request.now.stimulus)
+        (lifted netlist.now request.now.prefix)).limit) }
+{
+    let Ok(made) = lift(alloc, netlist, request) else {
+        return Err(AddFault::NoMemory);
+    };
+    match request.stimulus {
+        None => plan_machine(alloc, made.machine, request, None, progress),
+        Some(stimulus) => {
+            let Ok(zeros) = machine_zeros(alloc, netlist, made.origin.as_slice(), stimulus) else {
+                drop(made);
+                return Err(AddFault::NoMemory);
+            };
+            let idle = Idle {
+                zeros: &zeros,
+                rows: stimulus.rows(),
+            };
+            plan_machine(alloc, made.machine, request, Some(&idle), progress)
+        }
+    }
+}
+
+/// The machine of a netlist none of whose gating cells is refused.
+fn lift(alloc: Global, netlist: &Netlist, request: &Request<'_>) -> Result<Extracted, AllocError>
+    requires { MayGate request.now netlist.now }
+    ensures machine { IfOk result (λ made. made.machine ≡ lifted netlist.now request.now.prefix) }
+    ensures origin { IfOk result (λ made. made.origin ≡ origins netlist.now (lifted netlist.now request.now.prefix)) }
+{
+    let and2 = request.library.fit(FitKind::And2).is_some();
+    match extract(alloc, netlist, request.prefix, and2) {
+        Ok(made) => Ok(made),
+        Err(_) => Err(AllocError),
+    }
+}
+
+/// The plan of a machine with these counts.
+fn plan_machine(
+    alloc: Global,
+    machine: Machine,
+    request: &Request<'_>,
+    idle: Option<&Idle<'_>>,
+    progress: &mut dyn Progress,
+) -> Result<Plan, AddFault>
+    requires { FitsIdle machine (option_copied idle) }
+    ensures plan { IfOk result (λ plan. IsPlan request.now.library request.now.settings (option_copied idle.entry) machine (told plan)) }
+    ensures writable { IfOk result (λ plan. AreWritable plan.certificates) }
+    ensures fault { IfErr result (PlanMayFail (plan_of request.now.library request.now.settings (option_copied idle.entry) machine).limit) }
+{
+    make_plan(
+        alloc,
+        machine,
+        request.library,
+        request.settings,
+        idle,
+        progress,
+    )
+}

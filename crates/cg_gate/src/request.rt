@@ -1,0 +1,53 @@
+//! What gating is asked for.
+
+use cg_cell::library::Library;
+use cg_cell::name::Name;
+use cg_plan_laws::settings::Settings;
+use cg_stimulus::stimulus::Stimulus;
+use std::marker::Model;
+
+/// What gating is asked for, beside the netlist. Clauses see a `RequestData`.
+#[derive(Drop)]
+pub struct Request<'a> {
+    /// The cells.
+    pub library: &'a Library,
+
+    /// What bounds the plan.
+    pub settings: &'a Settings,
+
+    /// What the names of added nets begin with.
+    pub prefix: &'a Name,
+
+    /// The name of the test input, where there is to be one.
+    pub test: Option<&'a Name>,
+
+    /// The stimulus that is played on both netlists, where there is one.
+    pub stimulus: Option<&'a Stimulus>,
+
+    /// Whether a proof file is asked for.
+    pub proof: bool,
+
+    /// Whether a report is asked for.
+    pub report: bool,
+}
+
+impl<'a> Model for Request<'a> {
+    ghost use Rattle.std.specs.Coded.{codes};
+    ghost use Rattle.std.specs.Option.{option_copied};
+    ghost use Rattle.cg_cell.specs.TermCode.{term_code};
+    ghost use Rattle.cg_gate.specs.Request.{RequestData};
+
+    ghost Value = { RequestData };
+
+    ghost coded = { Prim.hlevel (codes, term_code) };
+
+    ghost view = { λ r. record {
+      library = r.library.now;
+      settings = r.settings.now;
+      prefix = r.prefix.now;
+      test = option_copied r.test;
+      stimulus = option_copied r.stimulus;
+      proof = r.proof;
+      report = r.report;
+    } };
+}

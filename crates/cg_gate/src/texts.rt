@@ -1,0 +1,77 @@
+//! The texts of a netlist that was gated.
+
+ghost use Rattle.std.specs.Prelude.{◌≡◌, length, IfOk};
+ghost use Rattle.cg_gate.specs.Gating.{AreTexts, where_asked};
+ghost use Rattle.cg_plan.specs.Planning.{AreWritable, told};
+ghost use Rattle.cg_plan_text.specs.ProofText.{proof_text};
+ghost use Rattle.cg_plan_text.specs.Summary.{report_text};
+
+use crate::planning::Gated;
+use crate::request::Request;
+use cg_blif_out::write_blif;
+use cg_list::Seq;
+use cg_plan::plan::Plan;
+use cg_plan_text::proof::proof_text;
+use cg_plan_text::summary::{Played, report_text, said_text};
+use std::alloc::{AllocError, Global};
+
+/// The texts that gating gives.
+#[derive(Debug, Drop)]
+pub struct Texts {
+    /// The written netlist.
+    pub out: Seq<u8>,
+
+    /// The proof file, where it is asked for.
+    pub proof: Option<Seq<u8>>,
+
+    /// The report, where it is asked for.
+    pub report: Option<Seq<u8>>,
+
+    /// What is said.
+    pub said: Seq<u8>,
+}
+
+/// The texts of a netlist that was gated, whose certificates keep to the bounds of their formats.
+pub(crate) fn write_texts(
+    alloc: Global,
+    request: &Request<'_>,
+    gated: &Gated,
+    played: &Played,
+) -> Result<Texts, AllocError>
+    requires { AreWritable gated.now.plan.certificates }
+    ensures { IfOk result (λ texts. AreTexts request.now (told gated.now.plan) gated.now.netlist played.now texts) }
+{
+    Ok(Texts {
+        out: Seq::from_vec(write_blif(alloc, &gated.netlist)?),
+        proof: proof_asked(alloc, request.proof, &gated.plan)?,
+        report: report_asked(alloc, request.report, gated, played)?,
+        said: Seq::from_vec(said_text(alloc, &gated.plan, played)?),
+    })
+}
+
+/// The proof file, where it is asked for.
+fn proof_asked(alloc: Global, asked: bool, plan: &Plan) -> Result<Option<Seq<u8>>, AllocError>
+    requires { AreWritable plan.now.certificates }
+    ensures { IfOk result (λ text. text ≡ where_asked asked (proof_text (told plan.now))) }
+{
+    if !asked {
+        return Ok(None);
+    }
+    Ok(Some(Seq::from_vec(proof_text(alloc, plan)?)))
+}
+
+/// The report, where it is asked for.
+fn report_asked(
+    alloc: Global,
+    asked: bool,
+    gated: &Gated,
+    played: &Played,
+) -> Result<Option<Seq<u8>>, AllocError>
+    ensures { IfOk result (λ text. text ≡ where_asked asked (report_text (told gated.now.plan) (length gated.now.netlist.gaters) played.now)) }
+{
+    if !asked {
+        return Ok(None);
+    }
+    let gates = gated.netlist.gaters();
+    Ok(Some(Seq::from_vec(report_text(alloc, &gated.plan, gates, played)?)))
+}

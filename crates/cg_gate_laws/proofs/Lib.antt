@@ -1,0 +1,17 @@
+pub mod Entries
+pub mod Chain
+pub mod TestSafe
+pub mod Path
+pub mod Guards
+pub mod Phases
+pub mod Linked
+pub mod Early
+pub mod Harm
+pub mod AllTest
+pub mod OwnGaters
+pub mod Planned
+pub mod LiftedShows
+pub mod NetlistKept
+pub mod SameOutputs
+pub mod Behaving
+pub mod PartsKept

@@ -1,0 +1,14 @@
+//! Laws of `gate`, from a netlist to its gated netlist: the plan's machine written with gating cells shows what the netlist
+//! shows. There is no code here but the two calls whose contracts are these laws.
+//!
+//! Gating cells that the netlist has already are lifted to enables before the plan begins. A plan for gating cells with a test
+//! input changes no output, whatever the test input does.
+//!
+//! The modules:
+//!
+//! - `test_laws`: what is proved of plans for gating cells with a test input.
+//! - `laws`: what is proved of gated netlists.
+#![tactic(auto)]
+
+pub mod laws;
+pub mod test_laws;

@@ -1,3 +1,0 @@
-pub mod Gated
-pub mod Kept
-pub mod Laws

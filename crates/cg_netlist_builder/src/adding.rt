@@ -1,0 +1,226 @@
+//! Adding one part: its nets are mentioned, and it goes behind the others of its kind.
+
+ghost use Rattle.std.specs.Prelude.{◌≡◌, ◌≤◌, ◌∷◌, [], IfOk, MatchResult, length, map};
+ghost use Rattle.std.specs.Option.{option_copied};
+ghost use Rattle.cg_cell.specs.Cell.{IsCell};
+ghost use Rattle.cg_netlist_builder.specs.Calls.{cell_of, gater_of, kind_of, register_of, shows_inverse};
+ghost use Rattle.cg_netlist.specs.declared.parts.LogicFunction.TheVariants.{Cell as PlacedCell};
+ghost use Rattle.cg_netlist_builder.specs.inner.Mentioned.{IsMentioned, IsMentionFault, IsRegisterFault, PutsCell, PutsGater, PutsNet};
+ghost use Rattle.cg_netlist_builder.specs.inner.Mentioned.{PutsRegister};
+ghost use Rattle.cg_netlist_parts.specs.Part.{Gate, Logic as LogicPart, Register as RegisterPart, mentioned};
+ghost use Rattle.cg_net.specs.Names.{with_names};
+
+use crate::mention::{mention, mention_each, mention_given, put};
+use crate::open_register::OpenRegister;
+use cg_cell::cell::{CellType, Role};
+use cg_limit::{Limit, MOST_NETS, MOST_REGISTERS};
+use cg_net::id::NetId;
+use cg_net::names::NetNames;
+use cg_net::net_set::NetSet;
+use cg_netlist::fault::AddFault;
+use cg_netlist::parts::{Gater, Logic, LogicFunction, RegisterKind};
+use std::alloc::{AllocError, Global};
+
+/// Mentions a net and puts it into a set.
+pub(crate) fn add_net(
+    alloc: Global,
+    names: &mut NetNames,
+    nets: &mut NetSet,
+    name: &[u8],
+) -> Result<(), AddFault>
+    requires { length names.old ≤ MOST_NETS }
+    ensures { MatchResult result
+        (λ _. PutsNet names.old names.new name.now nets.old nets.new)
+        (λ fault. IsMentionFault (with_names names.old (name.now ∷ [])) fault) }
+{
+    let net = mention(alloc, names, name)?;
+    nets.insert(net)?;
+    Ok(())
+}
+
+/// Mentions the nets of a logic cell, and adds the cell.
+pub(crate) fn add_logic(
+    alloc: Global,
+    names: &mut NetNames,
+    cells: &mut Vec<Logic>,
+    inputs: &[&[u8]],
+    output: &[u8],
+    function: LogicFunction,
+) -> Result<(), AddFault>
+    requires { length names.old ≤ MOST_NETS }
+    ensures { MatchResult result
+        (λ _. PutsCell names.old names.new cells.old.items cells.new.items (cell_of (map (λ name. name.now) inputs.now) output.now function))
+        (λ fault. IsMentionFault (with_names names.old (mentioned (LogicPart (cell_of (map (λ name. name.now) inputs.now) output.now function)))) fault) }
+{
+    let inputs = mention_each(alloc, names, inputs)?;
+    let output = mention(alloc, names, output)?;
+    put(
+        cells,
+        Logic {
+            inputs,
+            output,
+            function,
+        },
+    )
+}
+
+/// A cell of a library, to be placed.
+fn placed(cell: &CellType) -> Result<CellType, AllocError>
+    ensures copy { IfOk result (λ copy. copy ≡ cell.now) }
+    ensures cell { IsCell cell.now }
+{
+    let _ = cell.pins();
+    cell.clone()
+}
+
+/// Mentions the nets of a placed logic cell, and adds the cell.
+pub(crate) fn add_placed(
+    alloc: Global,
+    names: &mut NetNames,
+    cells: &mut Vec<Logic>,
+    cell: &CellType,
+    inputs: &[&[u8]],
+    output: &[u8],
+) -> Result<(), AddFault>
+    requires { length names.old ≤ MOST_NETS }
+    ensures cell { IsCell cell.now }
+    ensures puts { MatchResult result
+        (λ _. PutsCell names.old names.new cells.old.items cells.new.items (cell_of (map (λ name. name.now) inputs.now) output.now (PlacedCell cell.now)))
+        (λ fault. IsMentionFault
+        (with_names names.old (mentioned (LogicPart (cell_of (map (λ name. name.now) inputs.now) output.now (PlacedCell cell.now))))) fault) }
+{
+    let function = LogicFunction::Cell(placed(cell)?);
+    add_logic(alloc, names, cells, inputs, output, function)
+}
+
+/// Mentions the nets of a gating cell, and adds the cell.
+pub(crate) fn add_gater(
+    alloc: Global,
+    names: &mut NetNames,
+    gaters: &mut Vec<Gater>,
+    cell: &CellType,
+    clock: &[u8],
+    enable: &[u8],
+    test: Option<&[u8]>,
+    output: &[u8],
+) -> Result<(), AddFault>
+    requires { length names.old ≤ MOST_NETS }
+    ensures cell { IsCell cell.now }
+    ensures puts { MatchResult result
+        (λ _. PutsGater names.old names.new gaters.old.items gaters.new.items (gater_of cell.now clock.now enable.now (option_copied test.entry) output.now))
+        (λ fault. IsMentionFault
+        (with_names names.old (mentioned (Gate (gater_of cell.now clock.now enable.now (option_copied test.entry) output.now)))) fault) }
+{
+    let cell = placed(cell)?;
+    let clock = mention(alloc, names, clock)?;
+    let enable = mention(alloc, names, enable)?;
+    let test = mention_given(alloc, names, test)?;
+    let output = mention(alloc, names, output)?;
+    put(
+        gaters,
+        Gater {
+            clock,
+            enable,
+            test,
+            output,
+            cell,
+        },
+    )
+}
+
+/// Mentions the nets of a register, and adds the register.
+pub(crate) fn add_register(
+    alloc: Global,
+    names: &mut NetNames,
+    registers: &mut Vec<OpenRegister>,
+    cell: Option<&CellType>,
+    inputs: &[&[u8]],
+    outputs: &[(&[u8], u32)],
+    clock: Option<&[u8]>,
+    init: u8,
+) -> Result<(), AddFault>
+    requires nets { length names.old ≤ MOST_NETS }
+    requires registers { length registers.old.items ≤ MOST_REGISTERS }
+    ensures { MatchResult result
+        (λ _. PutsRegister names.old names.new registers.old.items registers.new.items (register_of (option_copied cell.entry)
+        (map (λ name. name.now) inputs.now) (map (λ output. (output.0.now, output.1)) outputs.now) (option_copied clock.entry) init))
+        (IsRegisterFault (with_names names.old
+        (mentioned (RegisterPart (register_of (option_copied cell.entry) (map (λ name. name.now) inputs.now)
+        (map (λ output. (output.0.now, output.1)) outputs.now) (option_copied clock.entry) init)))) (length registers.old.items)) }
+{
+    let inputs = mention_each(alloc, names, inputs)?;
+    let nets = mention_outputs(alloc, names, cell, outputs)?;
+    let clock = mention_given(alloc, names, clock)?;
+    if registers.len() == MOST_REGISTERS {
+        return Err(AddFault::Limit(Limit::Registers));
+    }
+    let pins = places(alloc, outputs)?;
+    let kind = kind(cell)?;
+    put(
+        registers,
+        OpenRegister {
+            inputs,
+            outputs: nets,
+            pins,
+            clock,
+            kind,
+            init,
+        },
+    )
+}
+
+/// What a register is made of.
+fn kind(cell: Option<&CellType>) -> Result<RegisterKind, AllocError>
+    ensures { IfOk result (λ kind. kind ≡ kind_of (option_copied cell.entry)) }
+{
+    match cell {
+        None => Ok(RegisterKind::Plain),
+        Some(cell) => Ok(RegisterKind::Flop(cell.clone()?)),
+    }
+}
+
+/// The places of the pins at which the outputs of a register are.
+fn places(alloc: Global, outputs: &[(&[u8], u32)]) -> Result<Vec<u32>, AllocError>
+    ensures { IfOk result (λ places. places.items ≡ map (λ output. output.1) outputs.now) }
+{
+    let mut places = Vec::with_capacity(alloc, outputs.len())?;
+    for output in outputs {
+        places.push(output.1)?;
+    }
+    Ok(places)
+}
+
+/// The outputs of a register, whose nets are mentioned here, each with whether it shows the inverse of the register's
+/// bit.
+fn mention_outputs(
+    alloc: Global,
+    names: &mut NetNames,
+    cell: Option<&CellType>,
+    outputs: &[(&[u8], u32)],
+) -> Result<Vec<(NetId, bool)>, AddFault>
+    requires { length names.old ≤ MOST_NETS }
+    ensures mentions { MatchResult result
+        (λ nets. IsMentioned names.old names.new (map (λ output. output.0.now) outputs.now) (map (λ net. net.0) nets.items))
+        (λ fault. IsMentionFault (with_names names.old (map (λ output. output.0.now) outputs.now)) fault) }
+    ensures inverted { IfOk result (λ nets. map (λ net. net.1) nets.items ≡ map (λ output. shows_inverse (option_copied cell.entry) output.1) outputs.now) }
+{
+    let mut nets = Vec::with_capacity(alloc, outputs.len())?;
+    for output in outputs {
+        let net = mention(alloc, names, output.0)?;
+        put(&mut nets, (net, is_inverse(cell, output.1)))?;
+    }
+    Ok(nets)
+}
+
+/// Whether the output at the pin of this place shows the inverse of the register's bit.
+fn is_inverse(cell: Option<&CellType>, place: u32) -> bool
+    ensures { result ≡ shows_inverse (option_copied cell.entry) place }
+{
+    match cell {
+        None => false,
+        Some(cell) => match cell.pins().get(place as usize) {
+            Some(pin) => matches!(pin.role(), Role::StateBar),
+            None => false,
+        },
+    }
+}

@@ -1,0 +1,184 @@
+//! From parts to a netlist: what parts may get wrong, in order, and else their nets in net order.
+
+ghost use Rattle.std.specs.Prelude.{◌≡◌, ◌⊎◌, ◌<◌, ◌&&◌, ◌||◌, List, length, IfOk, IsTrue, MatchResult};
+ghost use Rattle.std.specs.List.{All};
+ghost use Rattle.cg_cell.specs.Name.{is_name};
+ghost use Rattle.cg_net.specs.NetSets.{is_in};
+ghost use Rattle.cg_net.specs.Marks.{AreMarksOf};
+ghost use Rattle.cg_netlist_builder.specs.inner.FirstNet.{IsFirst};
+ghost use Rattle.cg_netlist.specs.Ranks.{ranks_of};
+ghost use Rattle.cg_netlist_parts.specs.declared.fault.NetFault.TheVariants.{ClockFault, Cycle, NoDriver, NoMemory, TwoDrivers};
+ghost use Rattle.cg_netlist_builder.specs.inner.Finishing.{FindsFirstFault, has_no_clock};
+ghost use Rattle.cg_netlist_builder.specs.inner.Heard.{IsHeard};
+ghost use Rattle.cg_netlist_builder.specs.inner.Numbers.{AreNumbers, driving, gated, is_bad_clock, is_bad_gate, is_bad_root};
+ghost use Rattle.cg_netlist_builder.specs.inner.Numbers.{is_behind_cycle, is_driven_twice, is_undriven, rooted, seen, used as in_use};
+ghost use Rattle.cg_netlist_parts.specs.Faults.{IsFault, IsFaultless};
+ghost use Rattle.cg_netlist_parts.specs.Part.{Part};
+ghost use Rattle.cg_netlist_parts.specs.Said.{said};
+ghost use Rattle.cg_netlist_parts.specs.Says.{Says};
+ghost use Rattle.cg_net.specs.Names.{net_name};
+
+use crate::marks::{
+    earlier, first_bad_clock, first_bad_gate, first_marked, first_undriven, marks, repeated,
+};
+use crate::order::in_net_order;
+use crate::told::{Told, chain_cells, clock_roots, gated_marks, order, uses};
+use cg_cell::name::Name;
+use cg_net::id::NetId;
+use cg_netlist::cycles::{cell_ranks, unranked_marks};
+use cg_netlist::netlist::Netlist;
+use cg_netlist_parts::fault::NetFault;
+use std::alloc::{AllocError, Global};
+
+/// The netlist of the parts, or the first fault of them.
+pub(crate) fn finished(alloc: Global, model: Name, told: Told) -> Result<Netlist, NetFault>
+    requires { IsHeard model told }
+    ensures { (parts : List Part) → said parts ≡ seen told
+        → MatchResult result (λ netlist. Says model parts netlist) (λ fault. (fault ≡ NoMemory) ⊎ IsFault parts fault) }
+{
+    let ranks = cell_ranks(alloc, told.names.len(), &told.cells)?;
+    check(alloc, &told, &ranks)?;
+    let parts = in_net_order(alloc, model, told)?;
+    let netlist = Netlist::with_ranks(alloc, parts, &ranks)?;
+    Ok(netlist)
+}
+
+/// Looks for the faults of the parts, in their order.
+fn check(alloc: Global, told: &Told, ranks: &[Option<usize>]) -> Result<(), NetFault>
+    requires numbers { AreNumbers told.now }
+    requires named { All (λ name. IsTrue (is_name name)) told.now.names }
+    requires ranks { ranks.now ≡ ranks_of told.now.cells }
+    ensures { (parts : List Part) → said parts ≡ seen told.now
+        → MatchResult result (λ _. IsFaultless parts) (λ fault. (fault ≡ NoMemory) ⊎ IsFault parts fault) }
+{
+    let drivers = order(alloc, told, &told.clocks)?;
+    check_drivers(alloc, told, &drivers)?;
+    let used = used_marks(alloc, told)?;
+    check_uses(alloc, told, &drivers, &used)?;
+    check_cycles(alloc, told, ranks)?;
+    let roots = clock_roots(alloc, told)?;
+    check_clocks(alloc, told, &roots, &used)?;
+    if lacks_clock(told, &roots) {
+        return Err(NetFault::NoClock);
+    }
+    Ok(())
+}
+
+/// Marks on the nets that are used for their bits.
+fn used_marks(alloc: Global, told: &Told) -> Result<Vec<bool>, AllocError>
+    requires { AreNumbers told.now }
+    ensures { IfOk result (λ marks. AreMarksOf marks.items (length told.now.names) (is_in (in_use told.now))) }
+{
+    let nets = uses(alloc, told)?;
+    marks(alloc, told.names.len(), &nets)
+}
+
+/// Looks for a net that is driven twice.
+fn check_drivers(alloc: Global, told: &Told, drivers: &[NetId]) -> Result<(), NetFault>
+    requires numbers { AreNumbers told.now }
+    requires named { All (λ name. IsTrue (is_name name)) told.now.names }
+    requires drivers { drivers.now ≡ driving told.now }
+    ensures { FindsFirstFault told.now TwoDrivers (is_driven_twice told.now) result }
+{
+    let twice = repeated(alloc, told.names.len(), drivers)?;
+    match first_marked(&twice) {
+        None => Ok(()),
+        Some(net) => Err(NetFault::TwoDrivers(name_of(alloc, told, net)?)),
+    }
+}
+
+/// Looks for a net that is used and not driven.
+fn check_uses(alloc: Global, told: &Told, drivers: &[NetId], used: &[bool]) -> Result<(), NetFault>
+    requires numbers { AreNumbers told.now }
+    requires named { All (λ name. IsTrue (is_name name)) told.now.names }
+    requires drivers { drivers.now ≡ driving told.now }
+    requires used { AreMarksOf used.now (length told.now.names) (is_in (in_use told.now)) }
+    ensures { FindsFirstFault told.now NoDriver (is_undriven told.now) result }
+{
+    let driven = marks(alloc, told.names.len(), drivers)?;
+    match first_undriven(used, &driven) {
+        None => Ok(()),
+        Some(net) => Err(NetFault::NoDriver(name_of(alloc, told, net)?)),
+    }
+}
+
+/// Looks for a net that is the output of a logic cell without a rank.
+fn check_cycles(alloc: Global, told: &Told, ranks: &[Option<usize>]) -> Result<(), NetFault>
+    requires numbers { AreNumbers told.now }
+    requires named { All (λ name. IsTrue (is_name name)) told.now.names }
+    requires ranks { ranks.now ≡ ranks_of told.now.cells }
+    ensures { FindsFirstFault told.now Cycle (is_behind_cycle told.now) result }
+{
+    let unranked = unranked_marks(alloc, told.names.len(), &told.cells, ranks)?;
+    match first_marked(&unranked) {
+        None => Ok(()),
+        Some(net) => Err(NetFault::Cycle(name_of(alloc, told, net)?)),
+    }
+}
+
+/// Looks for a net that carries the clock, and may not.
+fn check_clocks(alloc: Global, told: &Told, roots: &[NetId], used: &[bool]) -> Result<(), NetFault>
+    requires numbers { AreNumbers told.now }
+    requires named { All (λ name. IsTrue (is_name name)) told.now.names }
+    requires roots { roots.now ≡ rooted told.now }
+    requires used { AreMarksOf used.now (length told.now.names) (is_in (in_use told.now)) }
+    ensures { FindsFirstFault told.now ClockFault (is_bad_clock told.now) result }
+{
+    let root = bad_root(alloc, told, roots, used)?;
+    let gate = bad_gate(alloc, told, used)?;
+    match earlier(root, gate) {
+        None => Ok(()),
+        Some(net) => Err(NetFault::ClockFault(name_of(alloc, told, net)?)),
+    }
+}
+
+/// The first net from which the clock may come, and that is neither an input nor declared, comes behind another such
+/// net, or is used for its bit.
+fn bad_root(
+    alloc: Global,
+    told: &Told,
+    roots: &[NetId],
+    used: &[bool],
+) -> Result<Option<usize>, AllocError>
+    requires numbers { AreNumbers told.now }
+    requires roots { roots.now ≡ rooted told.now }
+    requires used { AreMarksOf used.now (length told.now.names) (is_in (in_use told.now)) }
+    ensures { IfOk result (λ first. IsFirst (length told.now.names) (λ net. is_in (rooted told.now) net && is_bad_root told.now net) first) }
+{
+    let count = told.names.len();
+    let rooted = marks(alloc, count, roots)?;
+    let mut sources = Vec::from_slice(alloc, &told.inputs)?;
+    sources.extend_from_slice(&told.clocks)?;
+    let sources = marks(alloc, count, &sources)?;
+    Ok(first_bad_clock(&rooted, &sources, used))
+}
+
+/// The first net that a gating cell drives, and that is used for its bit, or that no clock reaches.
+fn bad_gate(alloc: Global, told: &Told, used: &[bool]) -> Result<Option<usize>, AllocError>
+    requires numbers { AreNumbers told.now }
+    requires used { AreMarksOf used.now (length told.now.names) (is_in (in_use told.now)) }
+    ensures { IfOk result (λ first. IsFirst (length told.now.names) (λ net. is_in (gated told.now) net && is_bad_gate told.now net) first) }
+{
+    let gated = gated_marks(alloc, told)?;
+    let chain = chain_cells(alloc, told)?;
+    let ranks = cell_ranks(alloc, told.names.len(), &chain)?;
+    let unreached = unranked_marks(alloc, told.names.len(), &chain, &ranks)?;
+    Ok(first_bad_gate(&gated, used, &unreached))
+}
+
+/// Whether there is a register or a gating cell, and no place where the clock may come from.
+fn lacks_clock(told: &Told, roots: &[NetId]) -> bool
+    requires { roots.now ≡ rooted told.now }
+    ensures { result ≡ has_no_clock told.now }
+{
+    roots.is_empty() && (!told.registers.is_empty() || !told.gaters.is_empty())
+}
+
+/// The name of a net.
+fn name_of(alloc: Global, told: &Told, net: usize) -> Result<Name, AllocError>
+    requires named { All (λ name. IsTrue (is_name name)) told.now.names }
+    requires net { net < length told.now.names }
+    ensures { IfOk result (λ name. name ≡ net_name told.now.names net) }
+{
+    Name::new(alloc, told.names.name(net))
+}

@@ -1,0 +1,13 @@
+//! What parts by the names of their nets say, and their faults.
+//!
+//! A part is an input, an output, a clock, a logic cell, a gating cell or a register. The definitions are functions and
+//! relations of lists of parts; the crate `cg_netlist_builder` is the code that hears parts and finds their faults.
+//!
+//! The modules:
+//!
+//! - `fault`: why parts make no netlist.
+//! - `part_laws`: what is true of parts by name, of their faults, and of the netlists that they say.
+#![tactic(auto)]
+
+pub mod fault;
+pub mod part_laws;

@@ -1,0 +1,95 @@
+//! The claims of a stage, by their names.
+
+ghost use Rattle.std.specs.Prelude.{◌≡◌, ◌<◌, length, map, IfErr, IfOk, OnOk};
+ghost use Rattle.cg_claim.specs.declared.name.ClaimName.TheVariants.{Hold, Stable};
+ghost use Rattle.cg_plan.specs.inner.Naming.{AreNames, NameFits, question_of};
+ghost use Rattle.cg_claim_reach.specs.Fanout.{Knows};
+ghost use Rattle.cg_stage_laws.specs.Stages.{Fits, first_literal};
+ghost use Rattle.cg_unroll.specs.Claims.{IsClaim, IsRefused};
+
+use crate::sets::StageSets;
+use cg_claim::name::ClaimName;
+use cg_claim_reach::fanout::Fanout;
+use cg_machine::machine::Machine;
+use cg_machine::stage::{NetLit, Stage, StageKind};
+use cg_net::id::RegId;
+use cg_unroll::claim::ClaimFault;
+use cg_unroll::unroller::Unroller;
+use std::alloc::{AllocError, Global};
+
+/// The names of the claims of a stage in order, but for that it can idle: one for each register, or one for each target
+/// that one of them reaches.
+pub(crate) fn claim_names(
+    alloc: Global,
+    machine: &Machine,
+    fanout: &mut Fanout,
+    stage: &Stage,
+) -> Result<Vec<ClaimName>, AllocError>
+    requires fits { Fits machine.now stage.now }
+    requires knows { Knows machine.now fanout.old }
+    ensures names { IfOk result (λ names. AreNames machine.now stage.now names.items) }
+    ensures knows { OnOk result (Knows machine.now fanout.new) }
+{
+    let _netlist = machine.netlist();
+    let regs = stage.regs.as_slice();
+    match stage.kind {
+        StageKind::Hold => hold_names(alloc, regs),
+        StageKind::Stable => stable_names(alloc, regs),
+        StageKind::Unseen => fanout.unseen_targets(machine, stage.enable.as_slice(), regs),
+    }
+}
+
+/// The names of the claims of a hold stage.
+fn hold_names(alloc: Global, regs: &[RegId]) -> Result<Vec<ClaimName>, AllocError>
+    ensures { IfOk result (λ names. names.items ≡ map Hold regs.now) }
+{
+    let mut names = Vec::new(alloc);
+    for reg in regs {
+        names.push(ClaimName::Hold(*reg))?;
+    }
+    Ok(names)
+}
+
+/// The names of the claims of a stability stage.
+fn stable_names(alloc: Global, regs: &[RegId]) -> Result<Vec<ClaimName>, AllocError>
+    ensures { IfOk result (λ names. names.items ≡ map Stable regs.now) }
+{
+    let mut names = Vec::new(alloc);
+    for reg in regs {
+        names.push(ClaimName::Stable(*reg))?;
+    }
+    Ok(names)
+}
+
+/// Builds the claim that a name names.
+pub(crate) fn build_claim(
+    unroller: &mut Unroller,
+    machine: &Machine,
+    stage: &StageSets<'_>,
+    name: &ClaimName,
+    width: u32,
+) -> Result<(), ClaimFault>
+    requires fits { Fits machine.now stage.now }
+    requires name { NameFits machine.now name.now }
+    ensures claim { OnOk result (IsClaim machine.now (question_of machine.now stage.now name.now) width unroller.new) }
+    ensures refused { IfErr result (IsRefused machine.now (question_of machine.now stage.now name.now) width) }
+{
+    let _netlist = machine.netlist();
+    let enables = stage.stage.enable.as_slice();
+    match *name {
+        ClaimName::Idle => unroller.idle(machine, enables, width),
+        ClaimName::Hold(reg) => unroller.hold(machine, first_literal(enables), reg, width),
+        ClaimName::Stable(reg) => unroller.stable(machine, enables, reg, width),
+        ClaimName::Output(_) | ClaimName::Next(_) | ClaimName::Enable => {
+            unroller.unseen(machine, enables, &stage.unseen, *name, width)
+        }
+    }
+}
+
+/// The literal of a hold stage, which has one.
+pub(crate) fn first_literal(enables: &[NetLit]) -> NetLit
+    requires { 0 < length enables.now }
+    ensures { result ≡ first_literal enables.now }
+{
+    enables[0]
+}

@@ -1,0 +1,243 @@
+//! A plan in the making.
+
+ghost use Rattle.std.specs.Prelude.{◌≡◌, ◌+◌, length, IfOk, IfErr, MatchResult, OnOk};
+ghost use Rattle.cg_stage_list_laws.specs.Fit.{AllFit};
+ghost use Rattle.cg_netlist.specs.declared.fault.AddFault.TheVariants.{NoMemory};
+ghost use Rattle.cg_plan_laws.specs.Plan.{rounds, try_all, try_one};
+ghost use Rattle.cg_plan.specs.inner.Drafting.{IsDraft, Leads, MayStop, StillFit, all_parts, kept, round_list, unbegun};
+ghost use Rattle.cg_claim_reach.specs.Fanout.{Knows};
+ghost use Rattle.cg_stage_laws.specs.Stages.{Fits};
+
+use crate::earlier::earlier_of;
+use crate::judge::Judge;
+use cg_cell::library::Library;
+use cg_claim_reach::fanout::Fanout;
+use cg_hold::progress::Progress;
+use cg_list::Seq;
+use cg_machine::machine::Machine;
+use cg_machine::stage::{Earlier, Stage, StageKind};
+use cg_netlist::fault::AddFault;
+use cg_odc::candidates as unobservability;
+use cg_plan_laws::certificate::Certificate;
+use cg_plan_laws::outcome::Outcome;
+use cg_plan_laws::settings::Settings;
+use cg_stability::candidates as stability;
+use std::alloc::{AllocError, Global};
+
+/// A plan in the making: what is told of the stages that were tried so far, and the machine after them.
+///
+/// The stages stand here twice, since a plan hands them out with their outcomes, and a round reads them with whether they
+/// were inserted.
+#[derive(Drop)]
+pub(crate) struct Draft {
+    alloc: Global,
+
+    /// The machine after the inserted stages.
+    pub machine: Machine,
+
+    /// The stages that were tried, in order, each with what came of it.
+    pub stages: Seq<(Stage, Outcome)>,
+
+    /// The same stages, as a round reads them.
+    earlier: Seq<Earlier>,
+
+    /// The proofs of the claims of the inserted stages.
+    pub certificates: Vec<Certificate>,
+
+    judge: Judge,
+}
+
+impl Draft {
+    /// A plan of which nothing was tried.
+    pub fn new(alloc: Global, machine: Machine) -> Draft
+        ensures { IsDraft (unbegun machine) result }
+    {
+        Draft {
+            alloc,
+            machine,
+            stages: Seq::new(alloc),
+            earlier: Seq::new(alloc),
+            certificates: Vec::new(alloc),
+            judge: Judge::new(alloc),
+        }
+    }
+
+    /// What it tells: its machine, its stages and their proofs.
+    pub fn into_parts(self) -> (Machine, Seq<(Stage, Outcome)>, Seq<Certificate>)
+        ensures { result ≡ (self.machine, self.stages, self.certificates.items) }
+    {
+        // By calls, as their parts would else be dropped one by one in the proof.
+        drop(self.earlier);
+        drop(self.judge);
+        (self.machine, self.stages, Seq::from_vec(self.certificates))
+    }
+
+    /// Tries the hold stages, then what the rounds of stability find, and then what those of unobservability find.
+    pub fn try_parts(
+        &mut self,
+        holds: Seq<Stage>,
+        library: &Library,
+        settings: &Settings,
+        progress: &mut dyn Progress,
+    ) -> Result<(), AddFault>
+        requires { AllFit self.old.machine holds }
+        ensures leads { OnOk result (Leads (all_parts library.now settings.now holds) self.old self.new) }
+        ensures fault { IfErr result (MayStop (all_parts library.now settings.now holds) self.old) }
+    {
+        self.try_all(holds, library, settings, progress)?;
+        self.rounds(StageKind::Stable, library, settings, progress)?;
+        self.rounds(StageKind::Unseen, library, settings, progress)
+    }
+
+    /// As many rounds of a kind as the settings ask for, each with the list that the machine has at its start.
+    fn rounds(
+        &mut self,
+        kind: StageKind,
+        library: &Library,
+        settings: &Settings,
+        progress: &mut dyn Progress,
+    ) -> Result<(), AddFault>
+        ensures leads { OnOk result (Leads (rounds library.now settings.now kind settings.now.rounds) self.old self.new) }
+        ensures fault { IfErr result (MayStop (rounds library.now settings.now kind settings.now.rounds) self.old) }
+    {
+        for _ in 0..settings.rounds {
+            let stages = self.candidates(kind, settings)?;
+            // A round without stages leaves all as it is, and so do those after it.
+            if stages.is_empty() {
+                return Ok(());
+            }
+            self.try_all(stages, library, settings, progress)?;
+        }
+        Ok(())
+    }
+
+    /// The stages that a round of this kind tries.
+    fn candidates(&self, kind: StageKind, settings: &Settings) -> Result<Seq<Stage>, AllocError>
+        ensures list { IfOk result (λ stages. stages ≡ round_list kind settings.now self.now.machine self.now.earlier) }
+        ensures fit { IfOk result (AllFit self.now.machine) }
+    {
+        let _netlist = self.machine.netlist();
+        let earlier = self.earlier.as_slice();
+        match kind {
+            StageKind::Hold => Ok(Seq::new(self.alloc)),
+            StageKind::Stable => stability::candidates(self.alloc, &self.machine, earlier),
+            StageKind::Unseen => {
+                unobservability::candidates(self.alloc, &self.machine, earlier, settings.test)
+            }
+        }
+    }
+
+    /// Tries stages that fit, one after the other, and tells of each.
+    fn try_all(
+        &mut self,
+        stages: Seq<Stage>,
+        library: &Library,
+        settings: &Settings,
+        progress: &mut dyn Progress,
+    ) -> Result<(), AddFault>
+        requires { AllFit self.old.machine stages }
+        ensures leads { OnOk result (Leads (λ p. try_all library.now settings.now p stages) self.old self.new) }
+        ensures fault { IfErr result (MayStop (λ p. try_all library.now settings.now p stages) self.old) }
+    {
+        // What reads the nets is found once for all of them, and grown with the machine.
+        let mut fanout = Fanout::new(self.alloc);
+        let result = self.try_listed(stages, &mut fanout, library, settings, progress);
+        // By a call, as its parts would else be dropped one by one in the proof of each way out.
+        drop(fanout);
+        result
+    }
+
+    /// Tries stages that fit, one after the other, and tells of each.
+    fn try_listed(
+        &mut self,
+        stages: Seq<Stage>,
+        fanout: &mut Fanout,
+        library: &Library,
+        settings: &Settings,
+        progress: &mut dyn Progress,
+    ) -> Result<(), AddFault>
+        requires fits { AllFit self.old.machine stages }
+        requires knows { Knows self.old.machine fanout.old }
+        ensures leads { OnOk result (Leads (λ p. try_all library.now settings.now p stages) self.old self.new) }
+        ensures fault { IfErr result (MayStop (λ p. try_all library.now settings.now p stages) self.old) }
+    {
+        let listed = self.stages.len().saturating_add(stages.len());
+        for stage in stages.into_vec() {
+            self.try_told(stage, listed, fanout, library, settings, progress)?;
+        }
+        Ok(())
+    }
+
+    /// Tries a stage that fits, one of so many that are listed so far, and tells of it before.
+    fn try_told(
+        &mut self,
+        stage: Stage,
+        listed: usize,
+        fanout: &mut Fanout,
+        library: &Library,
+        settings: &Settings,
+        progress: &mut dyn Progress,
+    ) -> Result<(), AddFault>
+        requires fits { Fits self.old.machine stage }
+        requires knows { Knows self.old.machine fanout.old }
+        ensures knows { OnOk result (Knows self.new.machine fanout.new) }
+        ensures leads { OnOk result (Leads (λ p. try_one library.now settings.now p stage) self.old self.new) }
+        ensures fault { IfErr result (MayStop (λ p. try_one library.now settings.now p stage) self.old) }
+        ensures rest { OnOk result (StillFit stage self.old.machine self.new.machine) }
+    {
+        progress.trying(self.stages.len().saturating_add(1), listed);
+        self.try_one(stage, fanout, library, settings)
+    }
+
+    /// Tries a stage that fits.
+    fn try_one(
+        &mut self,
+        stage: Stage,
+        fanout: &mut Fanout,
+        library: &Library,
+        settings: &Settings,
+    ) -> Result<(), AddFault>
+        requires fits { Fits self.old.machine stage }
+        requires knows { Knows self.old.machine fanout.old }
+        ensures knows { OnOk result (Knows self.new.machine fanout.new) }
+        ensures leads { OnOk result (Leads (λ p. try_one library.now settings.now p stage) self.old self.new) }
+        ensures fault { IfErr result (MayStop (λ p. try_one library.now settings.now p stage) self.old) }
+        ensures rest { OnOk result (StillFit stage self.old.machine self.new.machine) }
+    {
+        let _netlist = self.machine.netlist();
+        let number = self.next_number()?;
+        let outcome = self.judge.try_stage(
+            &mut self.machine,
+            fanout,
+            number,
+            &stage,
+            library,
+            settings,
+            &mut self.certificates,
+        )?;
+        self.keep(stage, outcome)?;
+        Ok(())
+    }
+
+    /// The number of the next stage, counted from 1.
+    fn next_number(&self) -> Result<u32, AddFault>
+        ensures { MatchResult result (λ number. number ≡ 1 + length self.now.stages) (λ fault. fault ≡ NoMemory) }
+    {
+        let Ok(count) = u32::try_from(self.stages.len()) else {
+            return Err(AddFault::NoMemory);
+        };
+        match count.checked_add(1) {
+            Some(number) => Ok(number),
+            None => Err(AddFault::NoMemory),
+        }
+    }
+
+    /// Tells a stage with its outcome behind the others.
+    fn keep(&mut self, stage: Stage, outcome: Outcome) -> Result<(), AllocError>
+        ensures { OnOk result (self.new ≡ kept self.old stage outcome) }
+    {
+        let earlier = earlier_of(self.alloc, &stage, &outcome)?;
+        self.earlier.push(earlier)?;
+        self.stages.push((stage, outcome))
+    }
+}

@@ -1,0 +1,266 @@
+//! What tries stages one after another.
+
+ghost use Rattle.std.specs.Prelude.{◌≡◌, ℕ, IsTrue, IfOk, IfErr, OnErr, OnOk};
+ghost use Rattle.cg_aig.specs.Aig.{aig_ops};
+ghost use Rattle.cg_claim.specs.Question.{Question, idle_question};
+ghost use Rattle.cg_claim.specs.Violates.{SidesFit};
+ghost use Rattle.cg_machine.specs.Extends.{Extends};
+ghost use Rattle.cg_machine.specs.Machine.{IsMachine, MachineData};
+ghost use Rattle.cg_plan_laws.specs.Plan.{after_outcome, is_inserted};
+ghost use Rattle.cg_plan_laws.specs.StageClaims.{all_claims, claims_of};
+ghost use Rattle.cg_plan_laws.specs.Told.{AreAppended, MayFail, TellsOutcome, claims_for};
+ghost use Rattle.cg_plan_laws.specs.Trying.{decided, measured, tried};
+ghost use Rattle.cg_plan.specs.Planning.{StayWritable};
+ghost use Rattle.cg_plan.specs.Trial.{WhereInserted};
+ghost use Rattle.cg_plan.specs.inner.Deciding.{Grow, IsIdleDecided, Settles};
+ghost use Rattle.cg_plan.specs.inner.Judging.{Certifying, IsJudged, Pushes};
+ghost use Rattle.cg_plan.specs.inner.Naming.{AreNames};
+ghost use Rattle.cg_claim_reach.specs.Fanout.{Knows};
+ghost use Rattle.cg_stage_laws.specs.Stages.{Fits};
+ghost use Rattle.cg_unroll.specs.Claims.{IsClaim};
+
+use crate::cells::early_end;
+use crate::claims::claim_names;
+use crate::insert::insert;
+use crate::measure::measure;
+use crate::sets::StageSets;
+use cg_cell::library::Library;
+use cg_claim::name::ClaimName;
+use cg_claim_reach::fanout::Fanout;
+use cg_decide::Decider;
+use cg_machine::machine::Machine;
+use cg_machine::stage::Stage;
+use cg_netlist::fault::AddFault;
+use cg_plan_laws::certificate::Certificate;
+use cg_plan_laws::laws::plan_laws;
+use cg_plan_laws::outcome::Outcome;
+use cg_plan_laws::settings::Settings;
+use cg_unroll::unroller::Unroller;
+use std::alloc::{AllocError, Global};
+
+/// What tries stages, in buffers that are kept, so that a claim costs what it reaches.
+#[derive(Drop)]
+pub(crate) struct Judge {
+    pub(crate) alloc: Global,
+    pub(crate) unroller: Unroller,
+    pub(crate) decider: Decider,
+}
+
+impl Judge {
+    /// With empty buffers; takes no memory.
+    pub fn new(alloc: Global) -> Judge {
+        Judge {
+            alloc,
+            unroller: Unroller::new(alloc),
+            decider: Decider::new(alloc),
+        }
+    }
+
+    /// Tries a stage, as [`try_stage`](crate::trial::try_stage) says.
+    pub fn try_stage(
+        &mut self,
+        machine: &mut Machine,
+        fanout: &mut Fanout,
+        number: u32,
+        stage: &Stage,
+        library: &Library,
+        settings: &Settings,
+        into: &mut Vec<Certificate>,
+    ) -> Result<Outcome, AddFault>
+        requires fits { Fits machine.old stage.now }
+        requires knows { Knows machine.old fanout.old }
+        ensures outcome { IfOk result (λ outcome. TellsOutcome machine.old stage.now (tried library.now settings.now machine.old stage.now) outcome) }
+        ensures machine { IfOk result (λ outcome. machine.new ≡ after_outcome machine.old stage.now outcome) }
+        ensures safe { IfOk result (λ outcome. WhereInserted machine.old stage.now outcome machine.new) }
+        ensures certificates { IfOk result (λ outcome. AreAppended (claims_for number machine.old stage.now outcome) into.old.items into.new.items) }
+        ensures writable { OnOk result (StayWritable into.old.items into.new.items) }
+        ensures knows { OnOk result (Knows machine.new fanout.new) }
+        ensures fault { IfErr result (MayFail (tried library.now settings.now machine.old stage.now)) }
+        ensures kept { OnErr result (Extends machine.old machine.new) }
+        ensures unchanged { OnErr result (into.new.items ≡ into.old.items) }
+        ensures whole { IsMachine machine.new }
+    {
+        plan_laws();
+        let _before = machine.netlist();
+        let count = into.len();
+        let result = self.try_pushing(machine, fanout, number, stage, library, settings, into);
+        let _after = machine.netlist();
+        match result {
+            Ok(outcome) => {
+                if is_inserted(&outcome) {
+                    return Ok(outcome);
+                }
+                into.truncate(count);
+                Ok(outcome)
+            }
+            Err(fault) => {
+                into.truncate(count);
+                Err(fault)
+            }
+        }
+    }
+
+    /// Tries a stage, and puts certificates behind `into` also where it is not inserted.
+    fn try_pushing(
+        &mut self,
+        machine: &mut Machine,
+        fanout: &mut Fanout,
+        number: u32,
+        stage: &Stage,
+        library: &Library,
+        settings: &Settings,
+        into: &mut Vec<Certificate>,
+    ) -> Result<Outcome, AddFault>
+        requires fits { Fits machine.old stage.now }
+        requires knows { Knows machine.old fanout.old }
+        ensures outcome { IfOk result (λ outcome. TellsOutcome machine.old stage.now (tried library.now settings.now machine.old stage.now) outcome) }
+        ensures machine { IfOk result (λ outcome. machine.new ≡ after_outcome machine.old stage.now outcome) }
+        ensures certificates { IfOk result (Pushes machine.old number stage.now into.old.items into.new.items) }
+        ensures knows { OnOk result (Knows machine.new fanout.new) }
+        ensures fault { IfErr result (MayFail (tried library.now settings.now machine.old stage.now)) }
+        ensures kept { OnErr result (Extends machine.old machine.new) }
+        ensures grown { Grow into.old.items into.new.items }
+    {
+        match early_end(stage, library, settings) {
+            Some(outcome) => Ok(outcome),
+            None => self.try_claims(machine, fanout, number, stage, settings.width, into),
+        }
+    }
+
+    /// Tries a stage that is large enough, and of which the library has the cells.
+    fn try_claims(
+        &mut self,
+        machine: &mut Machine,
+        fanout: &mut Fanout,
+        number: u32,
+        stage: &Stage,
+        width: u32,
+        into: &mut Vec<Certificate>,
+    ) -> Result<Outcome, AddFault>
+        requires fits { Fits machine.old stage.now }
+        requires knows { Knows machine.old fanout.old }
+        ensures outcome { IfOk result (λ outcome. TellsOutcome machine.old stage.now
+            (measured machine.old width (all_claims machine.old stage.now) (decided machine.old stage.now)) outcome) }
+        ensures machine { IfOk result (λ outcome. machine.new ≡ after_outcome machine.old stage.now outcome) }
+        ensures certificates { IfOk result (Pushes machine.old number stage.now into.old.items into.new.items) }
+        ensures knows { OnOk result (Knows machine.new fanout.new) }
+        ensures fault { IfErr result (MayFail (measured machine.old width (all_claims machine.old stage.now) (decided machine.old stage.now))) }
+        ensures kept { OnErr result (Extends machine.old machine.new) }
+        ensures grown { Grow into.old.items into.new.items }
+    {
+        if let Some(end) = self.judge_claims(machine, fanout, number, stage, width, into)? {
+            return Ok(end);
+        }
+        insert(machine, fanout, stage)?;
+        Ok(Outcome::Inserted)
+    }
+
+    /// How a stage ends by its claims; where it does not, their certificates are put behind `into`.
+    fn judge_claims(
+        &mut self,
+        machine: &Machine,
+        fanout: &mut Fanout,
+        number: u32,
+        stage: &Stage,
+        width: u32,
+        into: &mut Vec<Certificate>,
+    ) -> Result<Option<Outcome>, AddFault>
+        requires fits { Fits machine.now stage.now }
+        requires knows { Knows machine.now fanout.old }
+        ensures judged { IfOk result
+            (IsJudged machine.now stage.now (measured machine.now width (all_claims machine.now stage.now) (decided machine.now stage.now))) }
+        ensures certificates { IfOk result (Certifying machine.now number stage.now into.old.items into.new.items) }
+        ensures knows { OnOk result (Knows machine.now fanout.new) }
+        ensures fault { IfErr result (MayFail (measured machine.now width (all_claims machine.now stage.now) (decided machine.now stage.now))) }
+        ensures grown { Grow into.old.items into.new.items }
+    {
+        let names = claim_names(self.alloc, machine, fanout, stage)?;
+        let sets = StageSets::new(self.alloc, stage)?;
+        self.judge_named(machine, number, &sets, names.as_slice(), width, into)
+    }
+
+    /// How a stage ends by its claims, which have these names beside that it can idle. Each is built once.
+    fn judge_named(
+        &mut self,
+        machine: &Machine,
+        number: u32,
+        stage: &StageSets<'_>,
+        names: &[ClaimName],
+        width: u32,
+        into: &mut Vec<Certificate>,
+    ) -> Result<Option<Outcome>, AddFault>
+        requires fits { Fits machine.now stage.now }
+        requires names { AreNames machine.now stage.now names.now }
+        ensures judged { IfOk result
+            (IsJudged machine.now stage.now (measured machine.now width (all_claims machine.now stage.now) (decided machine.now stage.now))) }
+        ensures certificates { IfOk result (Certifying machine.now number stage.now into.old.items into.new.items) }
+        ensures fault { IfErr result (MayFail (measured machine.now width (all_claims machine.now stage.now) (decided machine.now stage.now))) }
+        ensures grown { Grow into.old.items into.new.items }
+    {
+        let _netlist = machine.netlist();
+        if let Some(end) = measure(&mut self.unroller, machine, stage, &ClaimName::Idle, width)? {
+            return Ok(Some(end));
+        }
+        let settled = self.decide_idle()?;
+        self.judge_each(machine, number, stage, names, width, settled, into)
+    }
+
+    /// How a stage ends by its claims of these names, of which that it can idle has settled this. Once more is settled, the
+    /// claims left are measured alone: one of them may yet be too wide.
+    fn judge_each(
+        &mut self,
+        machine: &Machine,
+        number: u32,
+        stage: &StageSets<'_>,
+        names: &[ClaimName],
+        width: u32,
+        settled: Option<Outcome>,
+        into: &mut Vec<Certificate>,
+    ) -> Result<Option<Outcome>, AddFault>
+        requires fits { Fits machine.now stage.now }
+        requires names { AreNames machine.now stage.now names.now }
+        requires settled { IsIdleDecided machine.now (idle_question stage.now.enable) settled }
+        ensures judged { IfOk result
+            (IsJudged machine.now stage.now (measured machine.now width (claims_of machine.now stage.now) (decided machine.now stage.now))) }
+        ensures certificates { IfOk result (Certifying machine.now number stage.now into.old.items into.new.items) }
+        ensures fault { IfErr result (MayFail (measured machine.now width (claims_of machine.now stage.now) (decided machine.now stage.now))) }
+        ensures grown { Grow into.old.items into.new.items }
+    {
+        let _netlist = machine.netlist();
+        let mut settled = settled;
+        for name in names {
+            if let Some(end) = measure(&mut self.unroller, machine, stage, name, width)? {
+                return Ok(Some(end));
+            }
+            settled = self.settle(number, name, settled, into)?;
+        }
+        Ok(settled)
+    }
+
+    /// What is settled once the claim of this name, which was built last, has its turn: it is decided where nothing was settled
+    /// before.
+    fn settle(
+        &mut self,
+        number: u32,
+        name: &ClaimName,
+        settled: Option<Outcome>,
+        into: &mut Vec<Certificate>,
+    ) -> Result<Option<Outcome>, AllocError>
+        requires { IsTrue (aig_ops.is_valid self.old.unroller.aig self.old.unroller.goal) }
+        ensures settles { IfOk result (λ now. (m : MachineData) (q : Question) (width : ℕ) → IsMachine m → SidesFit m q.sides
+            → IsClaim m q width self.old.unroller → Settles m number (name.now, q) into.old.items into.new.items settled now) }
+        ensures grown { Grow into.old.items into.new.items }
+    {
+        match settled {
+            Some(outcome) => Ok(Some(outcome)),
+            None => self.decide(number, name, into),
+        }
+    }
+}
+
+/// Whether the stage gets its enable.
+fn is_inserted(outcome: &Outcome) -> bool
+    ensures { result ≡ is_inserted outcome.now }
+{
+    matches!(outcome, Outcome::Inserted)
+}

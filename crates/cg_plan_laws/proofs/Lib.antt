@@ -1,0 +1,7 @@
+pub mod CellsThere
+pub mod Decided
+pub mod PlanSafe
+pub mod Exactly
+pub mod AllSafe
+pub mod Examples
+pub mod Telling

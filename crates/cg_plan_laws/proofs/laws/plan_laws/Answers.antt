@@ -1,0 +1,17 @@
+use Rattle.cg_plan_laws.proofs.laws.plan_laws.Goals as goal
+use Rattle.cg_plan_laws.proofs.AllSafe.{each_fits, has_cells, inserted_safe, plans_safe, shows_netlist, told_safe}
+use Rattle.cg_plan_laws.proofs.Exactly.{inserted_exactly}
+use Rattle.cg_plan_laws.proofs.Telling.{certificates_told, stages_told}
+
+pub returns : goal.returns
+returns c = record {
+  exactly = inserted_exactly;
+  safe = inserted_safe;
+  turns = each_fits;
+  plan = plans_safe;
+  cells = has_cells;
+  netlist = shows_netlist;
+  told = told_safe;
+  stages = stages_told;
+  certificates = certificates_told;
+}

@@ -1,0 +1,6 @@
+pub mod StageClaims
+pub mod Trying
+pub mod Plan
+pub mod Told
+pub mod Cells
+pub mod Laws

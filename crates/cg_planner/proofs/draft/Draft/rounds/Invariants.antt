@@ -1,7 +1,0 @@
-use Rattle.std.proofs.Common.{◌-◌}
-use Rattle.cg_plan.specs.Plan.{rounds}
-use Rattle.cg_planner.specs.inner.Drafting.{IsLeft}
-use Rattle.cg_planner.proofs.draft.Draft.rounds.Given as goal
-
-abbrev pub invariant-loop : goal.invariant-loop
-invariant-loop g l = IsLeft (rounds l.library l.settings l.kind l.settings.rounds) (rounds l.library l.settings l.kind (l.settings.rounds - l.counter)) l.initial.self l.self

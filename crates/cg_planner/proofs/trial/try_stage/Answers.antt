@@ -1,4 +1,0 @@
-use Rattle.cg_planner.proofs.trial.try_stage.Goals as goal
-
-pub try_stage-result-requires-clause-knows : goal.try_stage-result-requires-clause-knows
-try_stage-result-requires-clause-knows c = c.new-fanout.ensures c.args.machine.now

@@ -1,5 +1,0 @@
-use Rattle.std.proofs.Common.{◌∙◌}
-use Rattle.cg_reach.proofs.sources.in_order.Goals as goal
-
-pub returns : goal.returns
-returns c = λ n below. c.from_vec.ensures ∙ (c.in_ok-regs.ensures ∙ (c.deref.ensures.value ∙ c.ascending.ensures n below))

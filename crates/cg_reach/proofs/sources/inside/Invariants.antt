@@ -1,7 +1,0 @@
-use Rattle.std.proofs.Common.{◌≡◌, [], ◌++◌, take}
-use Rattle.std.specs.List.{filter}
-use Rattle.cg_net.specs.NetSets.{is_in}
-use Rattle.cg_reach.proofs.sources.inside.Given as goal
-
-abbrev pub invariant-loop-reg : goal.invariant-loop-reg
-invariant-loop-reg l = l.some.items ≡ [] ++ filter (is_in l.set.keys) (take l.reg-index l.regs)

@@ -1,0 +1,10 @@
+pub mod Reached
+pub mod Driving
+pub mod Steps
+pub mod Supported
+pub mod Grouped
+pub mod Ordered
+pub mod Joined
+pub mod Left
+pub mod Same
+pub mod Listed

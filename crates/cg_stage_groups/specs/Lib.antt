@@ -1,0 +1,4 @@
+pub mod Support
+pub mod inner
+pub mod Keys
+pub mod Leaving

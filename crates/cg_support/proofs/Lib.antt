@@ -1,4 +1,0 @@
-pub mod Reached
-pub mod Driving
-pub mod Steps
-pub mod Supported

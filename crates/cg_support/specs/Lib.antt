@@ -1,2 +1,0 @@
-pub mod Support
-pub mod inner

@@ -1,2 +1,0 @@
-pub mod Edge
-pub mod Reaching

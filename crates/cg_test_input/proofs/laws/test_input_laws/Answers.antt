@@ -1,9 +1,0 @@
-use Rattle.cg_test_input.proofs.laws.test_input_laws.Goals as goal
-use Rattle.cg_test_input.proofs.AllTest.{plans_test_safe, test_loads, test_shows_netlist}
-
-pub returns : goal.returns
-returns c = record {
-  safe = plans_test_safe;
-  netlist = test_shows_netlist;
-  loads = test_loads;
-}

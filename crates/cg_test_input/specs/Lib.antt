@@ -1,2 +1,0 @@
-pub mod TestRun
-pub mod Laws

@@ -1,4 +1,3 @@
-pub mod CellsThere
 pub mod Decided
 pub mod PlanSafe
 pub mod Exactly

@@ -9,3 +9,4 @@ pub mod StableSafe
 pub mod UnseenSafe
 pub mod StageSafe
 pub mod CellsThere
+pub mod StageKeeps

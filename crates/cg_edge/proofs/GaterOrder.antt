@@ -34,8 +34,8 @@ module _ (c : Circuit) (good : IsWellFormed c) where
   placed_at : (j k : ℕ) (a : GatingCell ℕ) → slice_get (gate_order c.gaters) j ≡ Some k → slice_get c.gaters k ≡ Some a → slice_get (values_at cells (gate_order c.gaters)) j ≡ Some (chain_cell a)
   placed_at j k a at is = value_at cells (gate_order c.gaters) j k (walk_within cells) at ∙ cell_at k a is
 
-  pub gate_chain : (order : List ℕ) → order ≡ gate_order c.gaters → IsChain c order
-  gate_chain order same = subst (IsChain c) (sym same) (record {
+  pub gater_chain : (order : List ℕ) → order ≡ gate_order c.gaters → IsChain c order
+  gater_chain order same = subst (IsChain c) (sym same) (record {
     within = within;
     placed = λ k below.
         let a : (a : GatingCell ℕ) × (slice_get c.gaters k ≡ Some a) = element_at c.gaters k below in

@@ -5,7 +5,7 @@ use Rattle.cg_claim.specs.Reach.{reads_own}
 use Rattle.cg_machine.specs.Machine.{MachineData}
 use Rattle.cg_netlist.proofs.Values.{element_at}
 use Rattle.cg_claim_reach.proofs.OwnRegisters.{machine_register}
-use Rattle.cg_claim_reach.proofs.sources.names_itself.Goals as goal
+use Rattle.cg_claim_reach.proofs.own.names_itself.Goals as goal
 
 pub returns-then-is_delay : goal.returns-then-is_delay
 returns-then-is_delay c = sym (ap (λ o. option_map_or reads_own o false) c.delay-delay.ensures)

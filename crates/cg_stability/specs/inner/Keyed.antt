@@ -1,15 +1,13 @@
--- Keys of a round, and what an earlier stage leaves of one.
+-- The keys of a round.
 use Rattle.std.specs.Prelude.{◌≡◌, ℕ, ◌<◌, Bool, true, not, ◌&&◌, List, length, Option}
 use Rattle.std.specs.List.{list_all}
 use Rattle.cg_stage_groups.specs.Keys.{key_at}
 use Rattle.cg_stage_groups.specs.declared.key.Key.{Key}
 use Rattle.cg_stage_list_laws.specs.Rounds.{is_empty}
-use Rattle.cg_stage_list_laws.specs.StableList.{StableKey, stable_key}
+use Rattle.cg_stage_list_laws.specs.StableList.{stable_key}
 use Rattle.cg_stage_list_laws.specs.Supports.{has_enable, has_input, others_of}
 use Rattle.cg_machine.specs.Machine.{MachineData}
-use Rattle.cg_machine.specs.declared.stage.Stage.{Stage}
 use Rattle.cg_net.specs.NetSets.{is_in}
-use Rattle.cg_stage_laws.specs.Stages.{enable_nets}
 
 -- all are registers of the machine
 abbrev pub AreRegisters : MachineData → List ℕ → Type 0
@@ -23,7 +21,3 @@ is_keyed m r = not (has_input m r) && not (is_empty (others_of m r)) && list_all
 pub record AreKeys (m : MachineData) (keys : List (Option Key)) : Type 0 where
   pub count : length keys ≡ m.own_registers
   pub each : (r : ℕ) → r < m.own_registers → key_at keys r ≡ stable_key m r
-
--- the key that the registers of a stage had
-abbrev pub stage_key : Stage → StableKey
-stage_key s = record { enables = enable_nets s; own = s.own }

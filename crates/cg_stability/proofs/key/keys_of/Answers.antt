@@ -3,7 +3,7 @@ use Rattle.cg_netlist.specs.Circuit.{Circuit}
 use Rattle.cg_stage_groups.specs.Keys.{key_at}
 use Rattle.cg_stage_list_laws.specs.StableList.{stable_key}
 use Rattle.cg_stage_groups.proofs.Listed.{length_push, own_count, push_key}
-use Rattle.cg_stability.proofs.round.keys_of.Goals as goal
+use Rattle.cg_stability.proofs.key.keys_of.Goals as goal
 
 pub key_of-requires : goal.key_of-requires
 key_of-requires c =

@@ -1,7 +1,7 @@
 use Rattle.std.proofs.Common.{◌≡◌, ◌<◌, ℕ, length}
 use Rattle.cg_stage_groups.specs.Keys.{key_at}
 use Rattle.cg_stage_list_laws.specs.StableList.{stable_key}
-use Rattle.cg_stability.proofs.round.keys_of.Given as goal
+use Rattle.cg_stability.proofs.key.keys_of.Given as goal
 
 abbrev pub invariant-loop-reg : goal.invariant-loop-reg
 invariant-loop-reg l = record {

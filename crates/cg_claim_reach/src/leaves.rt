@@ -5,7 +5,7 @@ ghost use Rattle.std.specs.List.{filter};
 ghost use Rattle.cg_netlist.specs.Circuit.{data_inputs};
 ghost use Rattle.cg_net.specs.NetSets.{is_in};
 ghost use Rattle.cg_claim.specs.Leaves.{leaves_at, leaves_of, shown_leaf};
-ghost use Rattle.cg_claim.specs.Question.{Before, After, Changed};
+ghost use Rattle.cg_claim.specs.Question.{After, Changed};
 ghost use Rattle.cg_claim.specs.Reach.{before_nets};
 ghost use Rattle.cg_claim_reach.specs.Asking.{AsksThere, question_of};
 ghost use Rattle.cg_claim_reach.specs.inner.Leaves.{input_leaf, register_leaf};
@@ -41,32 +41,12 @@ pub(crate) fn leaves(
 {
     let room = before.inputs.len().saturating_add(before.registers.len());
     let mut leaves = Vec::with_capacity(alloc, room)?;
-    push_before(alloc, machine, asked, named, before, later, &mut leaves)?;
+    let registers = before_states(alloc, machine, asked, named, before, later)?;
+    push_inputs(0, before.inputs.as_slice(), &mut leaves)?;
+    push_registers(0, registers.as_slice(), &mut leaves)?;
     push_after(alloc, machine, asked, named, later, &mut leaves)?;
     push_changed(alloc, machine, asked, named, later, &mut leaves)?;
     Ok(Seq::from_vec(leaves))
-}
-
-/// Puts the leaves of the first copy behind the others.
-fn push_before(
-    alloc: Global,
-    machine: &Machine,
-    asked: &Asked<'_>,
-    named: &Named,
-    before: &Cone,
-    later: &Later,
-    leaves: &mut Vec<Leaf>,
-) -> Result<(), AllocError>
-    requires asked { AsksThere machine.now (question_of asked.now) }
-    requires named { AreSetsOf asked.now.follows.now asked.now.changes.now named.now }
-    requires before { IsConeOf machine.now (before_nets machine.now (question_of asked.now)) before.now }
-    requires later { IsLater machine.now (question_of asked.now) later.now }
-    ensures { OnOk result (leaves.new.items ≡ leaves.old.items ++ map shown_leaf (leaves_at machine.now (question_of asked.now) Before)) }
-{
-    let registers = before_states(alloc, machine, asked, named, before, later)?;
-    push_inputs(0, before.inputs.as_slice(), leaves)?;
-    push_registers(0, registers.as_slice(), leaves)?;
-    Ok(())
 }
 
 /// Puts the leaves of the second copy behind the others: its inputs are those of the last copy too, and registers that

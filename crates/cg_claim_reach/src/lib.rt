@@ -8,6 +8,7 @@
 //!
 //! - `asked`: what a claim asks, as data.
 //! - `roots`: the nets that it asks for in each copy.
+//! - `own`: whether a register's next bit asks for the register's own bit.
 //! - `sources`: the registers whose states it asks for in each copy.
 //! - `leaves`: its leaves.
 //! - `named`: the registers that it says something of, as sets.
@@ -26,6 +27,7 @@ pub mod fanout;
 mod learn;
 mod leaves;
 mod named;
+pub mod own;
 pub mod reached;
 mod readers;
 mod roots;

@@ -2,15 +2,11 @@
 
 ghost use Rattle.std.specs.Prelude.{◌≡◌, ◌<◌, ◌++◌, ◌∷◌, [], not, ℕ, true, length, slice_get, OnOk, IfOk, Some, false};
 ghost use Rattle.std.specs.Prelude.{if◌then◌else◌};
-ghost use Rattle.std.specs.List.{All, count_by, filter, range_with_len};
-ghost use Rattle.std.specs.Option.{option_map_or};
-ghost use Rattle.cg_cell.specs.Pins.{is_data};
-ghost use Rattle.cg_cell.specs.Term.{has_input};
-ghost use Rattle.cg_netlist.specs.Circuit.{RegisterCell};
+ghost use Rattle.std.specs.List.{All, filter, range_with_len};
 ghost use Rattle.cg_net.specs.NetSets.{is_in};
 ghost use Rattle.cg_claim.specs.Question.{Question};
 ghost use Rattle.cg_claim.specs.Reach.{after_nets, after_states, before_nets, before_states, changed_nets};
-ghost use Rattle.cg_claim.specs.Reach.{changed_states, next_asks_own, origin_asks, reads_own, registers_of};
+ghost use Rattle.cg_claim.specs.Reach.{changed_states, origin_asks, registers_of};
 ghost use Rattle.cg_claim_reach.specs.Asking.{AsksThere, PartThere, copy_of, part_of, question_of, side_of};
 ghost use Rattle.cg_claim_reach.specs.inner.Sources.{part_states, side_states, sides_states, with_numbers};
 ghost use Rattle.cg_claim_reach.specs.inner.Found.{AreSetsOf, IsLater};
@@ -18,14 +14,12 @@ ghost use Rattle.cg_claim_reach.specs.Reached.{IsConeOf};
 
 use crate::asked::{Asked, Frame, Part, Side};
 use crate::named::Named;
+use crate::own::asks_own;
 use crate::reached::Later;
 use crate::roots::is_same;
-use cg_cell::cell::CellType;
 use cg_list::Seq;
 use cg_machine::machine::Machine;
 use cg_net::id::RegId;
-use cg_netlist::netlist::Netlist;
-use cg_netlist::view::RegKind;
 use cg_netlist_cone::ascending::ascending;
 use cg_netlist_cone::cone::Cone;
 use indexmap::IndexSet;
@@ -271,49 +265,5 @@ fn origin_asks(machine: &Machine, follows: bool, reg: RegId) -> bool
         asks_own(machine, reg)
     } else {
         machine.enable(reg).is_some()
-    }
-}
-
-/// Whether the next bit of a register asks for its bit: where it has an enable, or its function names it.
-pub(crate) fn asks_own(machine: &Machine, reg: RegId) -> bool
-    requires { reg < length machine.now.circuit.registers }
-    ensures { result ≡ next_asks_own machine.now reg }
-{
-    machine.enable(reg).is_some() || names_itself(machine, reg)
-}
-
-/// Whether the function of a register of the machine names the register's bit.
-fn names_itself(machine: &Machine, reg: RegId) -> bool
-    requires { reg < length machine.now.circuit.registers }
-    ensures { result ≡ option_map_or reads_own (slice_get machine.now.circuit.registers reg) false }
-{
-    let netlist = machine.netlist();
-    if machine.is_delay(reg) {
-        let _delay = machine.delay(reg);
-        false
-    } else {
-        reads_own(netlist, reg)
-    }
-}
-
-/// Whether a register's function names its own bit.
-fn reads_own(netlist: &Netlist, reg: RegId) -> bool
-    requires { reg < length netlist.now.registers }
-    ensures { (register : RegisterCell ℕ ℕ) → slice_get netlist.now.registers reg ≡ Some register → result ≡ reads_own register }
-{
-    let _registers = netlist.registers();
-    match netlist.register(reg).kind {
-        RegKind::Plain => false,
-        RegKind::Cell(cell) => names_own(cell),
-    }
-}
-
-/// Whether the function of a cell names the variable behind those of its Data pins.
-fn names_own(cell: &CellType) -> bool
-    ensures { result ≡ option_map_or (has_input (count_by is_data cell.now.pins)) cell.now.function false }
-{
-    match cell.function() {
-        Some(function) => function.names(cell.inputs() as u32),
-        None => false,
     }
 }

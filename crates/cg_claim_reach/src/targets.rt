@@ -10,8 +10,9 @@ ghost use Rattle.cg_net.specs.NetSets.{is_in};
 ghost use Rattle.cg_claim_reach.specs.inner.Spreading.{AreOutputReaders, AreRegisterReaders, is_next_marked, is_output_marked};
 ghost use Rattle.cg_claim_reach.specs.inner.Spreading.{is_register_marked, marked_outputs};
 
+use crate::own::asks_own;
 use crate::readers::Readers;
-use crate::sources::{asks_own, push_all, set_of};
+use crate::sources::{push_all, set_of};
 use crate::spread::is_any_found;
 use cg_claim::name::ClaimName;
 use cg_machine::machine::Machine;

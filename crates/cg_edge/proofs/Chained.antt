@@ -65,7 +65,7 @@ module _ (c : Circuit) (good : IsWellFormed c) (chain : List ℕ) (chained : IsC
       on_clock = λ net is.
           same_bit new mid net (same.same net (clock_no_gate c good.driven net is))
           ∙ (ap (λ m. bit m net) (set net is) ∙ bit_set old net clock (Rattle.cg_edge.proofs.Facts.clock_net_within c good (length old) long net (is_in_left (option_to_list c.clock) (gate_nets c) net (from_option c.clock net is))));
-      on_gates = λ k a at. let j = chained.placed k (slice_get_within c.gaters k a at) in driven j.0 k a (slice_get_within chain j.0 k j.1) j.1 at;
+      on_gaters = λ k a at. let j = chained.placed k (slice_get_within c.gaters k a at) in driven j.0 k a (slice_get_within chain j.0 k j.1) j.1 at;
     },
     go c.clock refl,
   )
@@ -77,16 +77,16 @@ module _ (c : Circuit) (good : IsWellFormed c) (chain : List ℕ) (chained : IsC
       none is = is_mid ∙ ap (λ o. option_map_or (λ net. slice_set old net clock) o old) is
 
       -- what is apart from the clock nets is apart from the gating cells' outputs
-      apart_gates : (x : ℕ) → is_in (clock_nets c) x ≡ false → is_in (gate_nets c) x ≡ false
-      apart_gates x apart = elim (cases_Bool (is_in (gate_nets c) x)) [
+      apart_gaters : (x : ℕ) → is_in (clock_nets c) x ≡ false → is_in (gate_nets c) x ≡ false
+      apart_gaters x apart = elim (cases_Bool (is_in (gate_nets c) x)) [
         | inl among ↦ absurd (both_ways (is_in (clock_nets c) x) apart (is_in_right (option_to_list c.clock) (gate_nets c) x among))
         | inr out ↦ out
       ]
 
       go : (o : Option ℕ) → c.clock ≡ o → SameBut (clock_nets c) old new
-      go None is = record { long = same.long ∙ ap length (none is); same = λ x apart. same.same x (apart_gates x apart) ∙ ap (λ m. slice_get m x) (none is) }
+      go None is = record { long = same.long ∙ ap length (none is); same = λ x apart. same.same x (apart_gaters x apart) ∙ ap (λ m. slice_get m x) (none is) }
       go (Some net) is = record {
         long = same.long ∙ (ap length (set net is) ∙ length-set old net clock);
-        same = λ x apart. same.same x (apart_gates x apart) ∙ (ap (λ m. slice_get m x) (set net is)
+        same = λ x apart. same.same x (apart_gaters x apart) ∙ (ap (λ m. slice_get m x) (set net is)
             ∙ slice_get-set_other old net x clock (λ e. both_ways (is_in (clock_nets c) net) (ap (is_in (clock_nets c)) (sym e) ∙ apart) (is_in_left (option_to_list c.clock) (gate_nets c) net (from_option c.clock net is))));
       }

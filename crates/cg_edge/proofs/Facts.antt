@@ -30,7 +30,7 @@ module _ (c : Circuit) (good : IsWellFormed c) where
   pub clock_net_within : (n : ℕ) → n ≡ length c.names → (x : ℕ) → is_in (clock_nets c) x ≡ true → x < n
   clock_net_within n is x among = elim (is_in_cases (option_to_list c.clock) (gate_nets c) x among) [
     | inl clk ↦ given_net n is x (clock_given c x (in_option c.clock x clk))
-    | inr gate ↦ given_net n is x (gate_given c x gate)
+    | inr gater ↦ given_net n is x (gate_given c x gater)
   ]
 
   module _ (k : ℕ) (r : RegisterCell ℕ ℕ) (at : slice_get c.registers k ≡ Some r) where

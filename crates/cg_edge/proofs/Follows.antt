@@ -33,7 +33,7 @@ module _ (c : Circuit) (good : IsWellFormed c) where
   clock_no_register : (x : ℕ) → is_in (clock_nets c) x ≡ true → is_in (register_nets c) x ≡ false
   clock_no_register x among = distinct_apart (sources ++ gate_nets c) (register_nets c) (distinct_given c good.driven) x (elim (is_in_cases (option_to_list c.clock) (gate_nets c) x among) [
     | inl clk ↦ is_in_left sources (gate_nets c) x (is_in_right (data_inputs c) (option_to_list c.clock) x clk)
-    | inr gate ↦ is_in_right sources (gate_nets c) x gate
+    | inr gater ↦ is_in_right sources (gate_nets c) x gater
   ])
 
   clock_no_data : (x : ℕ) → is_in (clock_nets c) x ≡ true → is_in (data_inputs c) x ≡ false
@@ -41,13 +41,13 @@ module _ (c : Circuit) (good : IsWellFormed c) where
       let both = distinct_left (sources ++ gate_nets c) (register_nets c) (distinct_given c good.driven) in
       elim (is_in_cases (option_to_list c.clock) (gate_nets c) x among) [
         | inl clk ↦ both_ways (is_in (option_to_list c.clock) x) (distinct_apart (data_inputs c) (option_to_list c.clock) (distinct_left sources (gate_nets c) both) x input) clk
-        | inr gate ↦ both_ways (is_in (gate_nets c) x) (distinct_apart sources (gate_nets c) both x (is_in_left (data_inputs c) (option_to_list c.clock) x input)) gate
+        | inr gater ↦ both_ways (is_in (gate_nets c) x) (distinct_apart sources (gate_nets c) both x (is_in_left (data_inputs c) (option_to_list c.clock) x input)) gater
       ])
 
   pub clock_no_cell : (x : ℕ) → is_in (clock_nets c) x ≡ true → is_in (cell_nets c) x ≡ false
   clock_no_cell x among = given_no_cell c good.driven x (elim (is_in_cases (option_to_list c.clock) (gate_nets c) x among) [
     | inl clk ↦ clock_given c x (in_option c.clock x clk)
-    | inr gate ↦ gate_given c x gate
+    | inr gater ↦ gate_given c x gater
   ])
 
   -- the bits of nets after each part of a tick
@@ -75,27 +75,27 @@ module _ (c : Circuit) (good : IsWellFormed c) where
     shown_at : (x : ℕ) → is_in (clock_nets c) x ≡ true → slice_get n4 x ≡ Some (bit n1 x)
     shown_at x among = slice_get-get_or n4 x false (clock_net_within c good (length n4) whole x among) ∙ ap (λ b. Some b) (clock_bit x among)
 
-    gate_shown : (k : ℕ) → k < length c.gaters → slice_get (values_at n4 (gate_nets c)) k ≡ slice_get (zip_with (gate_bit n4) c.gaters latches) k
-    gate_shown k within =
+    gater_shown : (k : ℕ) → k < length c.gaters → slice_get (values_at n4 (gate_nets c)) k ≡ slice_get (zip_with (gate_bit n4) c.gaters latches) k
+    gater_shown k within =
         let a : (a : GatingCell ℕ) × (slice_get c.gaters k ≡ Some a) = element_at c.gaters k within in
         let b : (b : Bool) × (slice_get latches k ≡ Some b) = element_at latches k (omega (arith, count)) in
         let among : is_in (clock_nets c) a.0.output ≡ true = is_in_right (option_to_list c.clock) (gate_nets c) a.0.output (gater_among c good k a.0 a.1) in
         let left : slice_get (values_at n4 (gate_nets c)) k ≡ Some (bit n1 a.0.output) = value_at n4 (gate_nets c) k a.0.output (given_within c good.driven (length n4) (gate_nets c) whole (gate_given c)) (at_map (λ (g : GatingCell ℕ). g.output) c.gaters k a.0 a.1) ∙ shown_at a.0.output among in
         let value : bit n1 a.0.output ≡ (b.0 && bit n4 a.0.clock) =
-        parts.clocks.on_gates k a.0 a.1 ∙ (ap (λ l. l && bit n1 a.0.clock) (get_or_from_slice_get latches k b.0 false b.1) ∙ ap (λ p. b.0 && p) (sym (clock_bit a.0.clock (pin_clocked c good k a.0 a.1)))) in
+        parts.clocks.on_gaters k a.0 a.1 ∙ (ap (λ l. l && bit n1 a.0.clock) (get_or_from_slice_get latches k b.0 false b.1) ∙ ap (λ p. b.0 && p) (sym (clock_bit a.0.clock (pin_clocked c good k a.0 a.1)))) in
         left ∙ (ap (λ v. Some v) value ∙ sym (zip_with_at (gate_bit n4) c.gaters latches k a.0 b.0 a.1 b.1))
 
-    gates_shown : values_at n4 (gate_nets c) ≡ zip_with (gate_bit n4) c.gaters latches
-    gates_shown =
+    gaters_shown : values_at n4 (gate_nets c) ≡ zip_with (gate_bit n4) c.gaters latches
+    gaters_shown =
         let many : length (values_at n4 (gate_nets c)) ≡ length c.gaters = length-values_at n4 (gate_nets c) (given_within c good.driven (length n4) (gate_nets c) whole (gate_given c)) ∙ length-map c.gaters (λ (g : GatingCell ℕ). g.output) in
-        same_places (values_at n4 (gate_nets c)) (zip_with (gate_bit n4) c.gaters latches) (many ∙ sym (length-zip_with (gate_bit n4) c.gaters latches (sym count))) (λ k below. gate_shown k (omega (arith, many)))
+        same_places (values_at n4 (gate_nets c)) (zip_with (gate_bit n4) c.gaters latches) (many ∙ sym (length-zip_with (gate_bit n4) c.gaters latches (sym count))) (λ k below. gater_shown k (omega (arith, many)))
 
     settles : (latches_new : List Bool) → latches_new ≡ zip_with (next_latch n4) c.gaters latches → Settles c tick.clock tick.inputs state (zip_with (gate_bit n4) c.gaters latches_new) n4
     settles latches_new is = record {
       long = whole;
       shows_clock = λ net clk. shown_at net (is_in_left (option_to_list c.clock) (gate_nets c) net (from_option c.clock net clk)) ∙ ap (λ b. Some b) (parts.clocks.on_clock net clk);
       shows_inputs = same_values n4 n2 (data_inputs c) (λ x among. parts.same4.same x (data_no_cell c good x among) ∙ parts.same3.same x (data_no_register x among)) ∙ parts.inputs;
-      shows_gates = gates_shown ∙ sym (ap (zip_with (gate_bit n4) c.gaters) is ∙ held_gates n4 c.gaters latches);
+      shows_gates = gaters_shown ∙ sym (ap (zip_with (gate_bit n4) c.gaters) is ∙ held_gates n4 c.gaters latches);
       shows_state = same_values n4 n3 (register_nets c) (λ x among. parts.same4.same x (register_no_cell c good x among)) ∙ parts.registers;
       holds = parts.cells;
     }

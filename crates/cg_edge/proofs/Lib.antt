@@ -4,7 +4,7 @@ pub mod Chained
 pub mod Facts
 pub mod Follows
 pub mod Laid
-pub mod GateOrder
+pub mod GaterOrder
 pub mod Latched
 pub mod Marked
 pub mod Moved

@@ -2,5 +2,5 @@
 pub mod Bits
 pub mod Flat
 pub mod Keeping
+pub mod Kept
 pub mod Spans
-pub mod Starting

@@ -27,7 +27,7 @@ pub(crate) fn drive(
     ensures same { SameBut (clock_nets netlist.now) nets.old nets.new }
 {
     put_clock(netlist, clock, nets);
-    drive_gates(netlist, chain, latches, nets)
+    drive_gaters(netlist, chain, latches, nets)
 }
 
 /// Puts the clock's bit at the clock, where the netlist has one.
@@ -42,7 +42,7 @@ fn put_clock(netlist: &Netlist, clock: bool, nets: &mut [bool])
 }
 
 /// Puts at the output of each gating cell the AND of its latch and its clock pin.
-fn drive_gates(netlist: &Netlist, chain: &[GateClockId], latches: &[bool], nets: &mut [bool])
+fn drive_gaters(netlist: &Netlist, chain: &[GateClockId], latches: &[bool], nets: &mut [bool])
     requires netlist { IsNetlist netlist.now }
     requires chain { IsChain netlist.now chain.now }
     requires latches { length latches.now ≡ length netlist.now.gaters }
@@ -51,12 +51,12 @@ fn drive_gates(netlist: &Netlist, chain: &[GateClockId], latches: &[bool], nets:
     ensures same { SameBut (gate_nets netlist.now) nets.old nets.new }
 {
     for id in chain {
-        drive_gate(netlist, *id, latches, nets);
+        drive_gater(netlist, *id, latches, nets);
     }
 }
 
 /// Puts at the output of a gating cell the AND of its latch and its clock pin.
-fn drive_gate(netlist: &Netlist, id: GateClockId, latches: &[bool], nets: &mut [bool])
+fn drive_gater(netlist: &Netlist, id: GateClockId, latches: &[bool], nets: &mut [bool])
     requires netlist { IsNetlist netlist.now }
     requires gater { id < length netlist.now.gaters }
     requires latches { length latches.now ≡ length netlist.now.gaters }

@@ -12,6 +12,8 @@
 //! - `readers`: which logic cells read a net.
 //! - `table`: truth tables of logic cells that have few inputs.
 //! - `flat`: the logic cells, laid out for a quick look.
+//! - `schedule`: a netlist with the order in which its cells are evaluated.
+//! - `present`: the present bits, which a tick moves.
 //! - `put`: the data inputs and the registers' bits at their nets.
 //! - `settle`: the logic cells, of which those are looked at that have a changed input.
 //! - `latch_step`: the latches of gating cells.
@@ -24,9 +26,11 @@ mod flat;
 mod latch_step;
 mod marks;
 mod moment;
+mod present;
 mod put;
 mod readers;
 mod register_step;
+mod schedule;
 mod settle;
 pub mod simulator;
 mod table;

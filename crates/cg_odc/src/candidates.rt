@@ -12,13 +12,13 @@ ghost use Rattle.cg_odc.specs.inner.Kept.{AreOwnKeys, left_stage, not_among};
 use crate::guard::taken_net;
 use crate::kept::{kept_guards, left_of};
 use crate::key::keys_of;
-use crate::round::leave_out;
 use cg_list::Seq;
 use cg_machine::machine::Machine;
 use cg_machine::stage::{Earlier, NetLit, Stage, StageKind};
 use cg_net::id::{NetId, RegId};
 use cg_netlist_cone::ascending::ascending;
 use cg_stage_groups::group::{Groups, groups_of};
+use cg_stage_groups::leaving::leave_out;
 use indexmap::IndexSet;
 use std::alloc::{AllocError, Global};
 
@@ -40,7 +40,7 @@ pub fn candidates(
 {
     let _netlist = machine.netlist();
     let mut keys = keys_of(alloc, machine)?;
-    leave_out(alloc, earlier, &mut keys)?;
+    leave_out(alloc, StageKind::Unseen, earlier, &mut keys)?;
     let groups = groups_of(alloc, &keys)?;
     let kept = kept_guards(alloc, test, &groups, earlier)?;
     stages(alloc, machine, &groups, &kept)

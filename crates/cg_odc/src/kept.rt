@@ -4,11 +4,11 @@ ghost use Rattle.std.specs.Prelude.{◌≡◌, ◌||◌, ◌&&◌, ◌++◌, ℕ
 ghost use Rattle.cg_net.specs.NetSets.{is_in};
 ghost use Rattle.cg_odc.specs.inner.Kept.{guards_in, inserted_guards, key_numbers, not_among};
 
-use crate::round::is_unseen;
 use cg_list::Seq;
-use cg_machine::stage::Earlier;
+use cg_machine::stage::{Earlier, StageKind};
 use cg_net::id::RegId;
 use cg_stage_groups::group::Groups;
+use cg_stage_groups::leaving::is_same_kind;
 use indexmap::IndexSet;
 use std::alloc::{AllocError, Global};
 
@@ -64,7 +64,7 @@ fn keep_inserted(earlier: &[Earlier], kept: &mut IndexSet<u32>) -> Result<(), Al
 fn keep_guards(before: &Earlier, kept: &mut IndexSet<u32>) -> Result<(), AllocError>
     ensures { OnOk result ((y : ℕ) → is_in kept.new.keys y ≡ (is_in kept.old.keys y || is_in (guards_in before.now) y)) }
 {
-    if is_unseen(before.stage.kind) && before.inserted {
+    if is_same_kind(before.stage.kind, StageKind::Unseen) && before.inserted {
         keep_regs(before.stage.guards.as_slice(), kept)?;
     }
     Ok(())

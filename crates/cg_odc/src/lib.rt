@@ -10,7 +10,6 @@
 //! - `guard`: the register that guards what a register stands on.
 //! - `guards`: the guards of each register.
 //! - `key`: the keys of registers, by which they are put into groups.
-//! - `round`: the keys of a round, without those of the registers that it leaves out.
 //! - `kept`: the guards that may not be gated where there is a test input.
 //! - `candidates`: the stages of a round.
 #![tactic(auto)]
@@ -20,4 +19,3 @@ mod guard;
 mod guards;
 mod kept;
 mod key;
-mod round;

@@ -12,6 +12,7 @@ ghost use Rattle.cg_sat_state.specs.Trail.{lits_of};
 ghost use Rattle.cg_sat.specs.inner.Search.{IsSearch, ShowsBits, FindsOpen, HasPrefix, IsUnsatisfied, IsChoice};
 
 use crate::guide::Guide;
+use crate::problem::Problem;
 use cg_formula::{Formula, Lit};
 use cg_sat_state::clauses::Clauses;
 use cg_sat_state::trail::Trail;
@@ -93,20 +94,18 @@ fn unsatisfied(formula: &Formula, bits: &[bool]) -> Option<usize>
 
 /// What is done where no variable is proposed.
 fn last_choice(
-    alloc: Global,
-    formula: &Formula,
+    problem: &Problem<'_>,
     trail: &Trail,
     clauses: &Clauses,
-    count: usize,
 ) -> Result<Choice, AllocError>
-    requires formula { IsFormula formula.now }
-    requires prefix { HasPrefix formula.now clauses.now }
-    requires search { IsSearch count clauses.now trail.now }
-    ensures { IfOk result (IsChoice formula.now count clauses.now trail.now) }
+    requires formula { IsFormula problem.now.formula.now }
+    requires prefix { HasPrefix problem.now.formula.now clauses.now }
+    requires search { IsSearch problem.now.count clauses.now trail.now }
+    ensures { IfOk result (IsChoice problem.now.formula.now problem.now.count clauses.now trail.now) }
 {
-    let _ = count;
     let _ = clauses;
-    let bits = bits_of(alloc, trail, formula.variables)?;
+    let formula = problem.formula;
+    let bits = bits_of(problem.alloc, trail, formula.variables)?;
     let Some(place) = unsatisfied(formula, bits.as_slice()) else {
         return Ok(Choice::Done(bits));
     };
@@ -119,18 +118,17 @@ fn last_choice(
 
 /// What is done where nothing follows.
 pub fn choose(
-    alloc: Global,
-    formula: &Formula,
+    problem: &Problem<'_>,
     trail: &Trail,
     clauses: &Clauses,
     guide: &mut Guide,
-    count: usize,
 ) -> Result<Choice, AllocError>
-    requires formula { IsFormula formula.now }
-    requires prefix { HasPrefix formula.now clauses.now }
-    requires search { IsSearch count clauses.now trail.now }
-    ensures { IfOk result (IsChoice formula.now count clauses.now trail.now) }
+    requires formula { IsFormula problem.now.formula.now }
+    requires prefix { HasPrefix problem.now.formula.now clauses.now }
+    requires search { IsSearch problem.now.count clauses.now trail.now }
+    ensures { IfOk result (IsChoice problem.now.formula.now problem.now.count clauses.now trail.now) }
 {
+    let count = problem.count;
     for _ in 0..count {
         let Some(variable) = guide.order.take() else {
             break;
@@ -144,5 +142,5 @@ pub fn choose(
             return Ok(Choice::Decide(lit));
         }
     }
-    last_choice(alloc, formula, trail, clauses, count)
+    last_choice(problem, trail, clauses)
 }

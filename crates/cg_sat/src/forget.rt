@@ -6,7 +6,7 @@ ghost use Rattle.cg_sat_state.specs.declared.trail.Entry.{Entry};
 ghost use Rattle.cg_sat.specs.inner.Search.{IsSearch, HasPrefix, MarksReasons};
 
 use crate::guide::Guide;
-use cg_formula::Formula;
+use crate::problem::Problem;
 use cg_sat_state::draft::LogDraft;
 use cg_sat_state::trail::Entry;
 use std::alloc::{AllocError, Global};
@@ -29,23 +29,21 @@ fn reasons(alloc: Global, trail: &[Entry], places: usize) -> Result<Vec<bool>, A
 
 /// Deletes the clause at a place, but none of the formula's and no reason.
 fn delete_learnt(
-    formula: &Formula,
+    problem: &Problem<'_>,
     draft: &mut LogDraft<'_>,
     trail: &[Entry],
     used: &[bool],
     place: usize,
-    count: usize,
 ) -> Result<(), AllocError>
     requires marked { MarksReasons trail.now used.now }
-    requires search { IsSearch count draft.old.clauses trail.now }
-    requires prefix { HasPrefix formula.now draft.old.clauses }
+    requires search { IsSearch problem.now.count draft.old.clauses trail.now }
+    requires prefix { HasPrefix problem.now.formula.now draft.old.clauses }
     ensures formula { draft.new.formula ≡ draft.old.formula }
-    ensures prefix { OnOk result (HasPrefix formula.now draft.new.clauses) }
-    ensures search { OnOk result (IsSearch count draft.new.clauses trail.now) }
+    ensures prefix { OnOk result (HasPrefix problem.now.formula.now draft.new.clauses) }
+    ensures search { OnOk result (IsSearch problem.now.count draft.new.clauses trail.now) }
 {
     let _ = trail;
-    let _ = count;
-    let first = formula.clauses.len();
+    let first = problem.formula.clauses.len();
     if place < first {
         return Ok(());
     }
@@ -61,25 +59,23 @@ fn delete_learnt(
 
 /// Deletes half of the learnt clauses, but those that are reasons.
 pub fn forget(
-    alloc: Global,
-    formula: &Formula,
+    problem: &Problem<'_>,
     draft: &mut LogDraft<'_>,
     guide: &Guide,
     trail: &[Entry],
-    count: usize,
 ) -> Result<(), AllocError>
-    requires search { IsSearch count draft.old.clauses trail.now }
-    requires prefix { HasPrefix formula.now draft.old.clauses }
+    requires search { IsSearch problem.now.count draft.old.clauses trail.now }
+    requires prefix { HasPrefix problem.now.formula.now draft.old.clauses }
     ensures formula { draft.new.formula ≡ draft.old.formula }
-    ensures prefix { OnOk result (HasPrefix formula.now draft.new.clauses) }
-    ensures search { OnOk result (IsSearch count draft.new.clauses trail.now) }
+    ensures prefix { OnOk result (HasPrefix problem.now.formula.now draft.new.clauses) }
+    ensures search { OnOk result (IsSearch problem.now.count draft.new.clauses trail.now) }
 {
-    let used = reasons(alloc, trail, draft.clauses().len())?;
+    let used = reasons(problem.alloc, trail, draft.clauses().len())?;
     let found = guide
         .merits
-        .lower_half(draft.clauses(), formula.clauses.len())?;
+        .lower_half(draft.clauses(), problem.formula.clauses.len())?;
     'found: for (_, place) in found.as_slice() {
-        delete_learnt(formula, draft, trail, used.as_slice(), *place, count)?;
+        delete_learnt(problem, draft, trail, used.as_slice(), *place)?;
     }
     Ok(())
 }

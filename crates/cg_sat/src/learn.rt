@@ -19,13 +19,24 @@ use cg_sat_state::clauses::Clauses;
 use cg_sat_state::trail::Entry;
 use std::alloc::{AllocError, Global};
 
+/// A clause that is learnt from a conflict.
+#[derive(Drop)]
+pub struct Learnt {
+    /// Its literals, of which the first becomes true.
+    pub lits: Vec<Lit>,
+    /// Its hints.
+    pub hints: Vec<u64>,
+    /// Where the trail is to be cut.
+    pub cut: usize,
+}
+
 /// What a conflict teaches.
 #[derive(Drop)]
 pub enum Lesson {
     /// The hints of the empty clause.
     Empty(Vec<u64>),
-    /// A clause, its hints, and where the trail is to be cut.
-    Clause(Vec<Lit>, Vec<u64>, usize),
+    /// A clause.
+    Clause(Learnt),
 }
 
 /// The clause so far.
@@ -400,5 +411,6 @@ pub fn learn(
     keep(work, clauses, trail, at)?;
     let cut = gather(work, guide, clauses, trail, from)?;
     let lits = inverses(alloc, work.kept.as_slice())?;
-    Ok(Lesson::Clause(lits, take_hints(alloc, work), cut))
+    let hints = take_hints(alloc, work);
+    Ok(Lesson::Clause(Learnt { lits, hints, cut }))
 }

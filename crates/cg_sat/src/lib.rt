@@ -7,6 +7,7 @@
 //!
 //! In the order in which data flows through them:
 //!
+//! - `problem`: what a search is about;
 //! - `watches`, `order`, `merits`, `guide`: what to look at, to decide and to delete; no answer rests on them;
 //! - `scan`, `propagate`: what follows from the literals that are true;
 //! - `learn`: the clause that a conflict teaches, with its hints;
@@ -21,6 +22,7 @@ mod guide;
 mod learn;
 mod merits;
 mod order;
+mod problem;
 mod propagate;
 mod scan;
 mod search;

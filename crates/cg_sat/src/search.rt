@@ -18,12 +18,13 @@ ghost use Rattle.cg_sat.specs.inner.End.{IsEnd, IsTurn};
 use crate::choose::{Choice, choose, open_lit};
 use crate::forget::forget;
 use crate::guide::Guide;
-use crate::learn::{Lesson, Work, learn};
+use crate::learn::{Learnt, Lesson, Work, learn};
+use crate::problem::Problem;
 use crate::propagate::{imply, propagate};
 use crate::scan::{Found, scan};
 use crate::undo::cut_to;
 use crate::units::add_units;
-use cg_formula::{Formula, Lit};
+use cg_formula::Formula;
 use cg_lrat::Log;
 use cg_sat_state::clauses::Clauses;
 use cg_sat_state::draft::LogDraft;
@@ -64,14 +65,12 @@ fn turn_back(
     draft: &mut LogDraft<'_>,
     trail: &mut Trail,
     guide: &mut Guide,
-    lits: Vec<Lit>,
-    hints: Vec<u64>,
-    cut: usize,
+    learnt: Learnt,
     count: usize,
 ) -> Result<(), AllocError>
     requires search { IsSearch count draft.old.clauses trail.old }
-    requires fine { clause_fault (live_of draft.old.clauses) lits.items hints.items ≡ None }
-    requires asserts { Asserts draft.old.clauses trail.old cut lits.items }
+    requires fine { clause_fault (live_of draft.old.clauses) learnt.lits.items learnt.hints.items ≡ None }
+    requires asserts { Asserts draft.old.clauses trail.old learnt.cut learnt.lits.items }
     requires few { count ≤ 2 ^ 30 }
     ensures formula { draft.new.formula ≡ draft.old.formula }
     ensures prefix { (formula : Formula) → HasPrefix formula draft.old.clauses → OnOk result (HasPrefix formula draft.new.clauses) }
@@ -79,6 +78,7 @@ fn turn_back(
     ensures worth { OnOk result (worth (count + 1) trail.old < worth (count + 1) trail.new) }
 {
     let _ = count;
+    let Learnt { lits, hints, cut } = learnt;
     let first = lits[0];
     let second = if lits.len() > 1 { lits[1] } else { first };
     let is_unit = lits.len() == 1;
@@ -157,33 +157,38 @@ fn begin(
 
 /// Learns from a clause that is false. Answers the hints of the empty clause, if it is that one that is learnt.
 fn resolve_conflict(
-    alloc: Global,
-    formula: &Formula,
+    problem: &Problem<'_>,
     draft: &mut LogDraft<'_>,
     trail: &mut Trail,
     work: &mut Work,
     guide: &mut Guide,
     place: usize,
-    count: usize,
 ) -> Result<Option<Vec<u64>>, AllocError>
-    requires prefix { HasPrefix formula.now draft.old.clauses }
-    requires search { IsSearch count draft.old.clauses trail.old }
+    requires prefix { HasPrefix problem.now.formula.now draft.old.clauses }
+    requires search { IsSearch problem.now.count draft.old.clauses trail.old }
     requires conflict { IsConflict draft.old.clauses trail.old place }
-    requires marks { count ≤ length work.old.marks.items }
-    requires few { count ≤ 2 ^ 30 }
+    requires marks { problem.now.count ≤ length work.old.marks.items }
+    requires few { problem.now.count ≤ 2 ^ 30 }
     ensures formula { draft.new.formula ≡ draft.old.formula }
     ensures marks { length work.new.marks.items ≡ length work.old.marks.items }
     ensures refuted { IfOk result (λ found. IfSome found (λ hints. clause_fault (live_of draft.new.clauses) [] hints.items ≡ None)) }
-    ensures prefix { IfOk result (λ found. IfNone found (HasPrefix formula.now draft.new.clauses)) }
-    ensures search { IfOk result (λ found. IfNone found (IsSearch count draft.new.clauses trail.new)) }
-    ensures worth { IfOk result (λ found. IfNone found (worth (count + 1) trail.old < worth (count + 1) trail.new)) }
+    ensures prefix { IfOk result (λ found. IfNone found (HasPrefix problem.now.formula.now draft.new.clauses)) }
+    ensures search { IfOk result (λ found. IfNone found (IsSearch problem.now.count draft.new.clauses trail.new)) }
+    ensures worth { IfOk result (λ found. IfNone found (worth (problem.now.count + 1) trail.old < worth (problem.now.count + 1) trail.new)) }
 {
-    match learn(alloc, work, guide, draft.clauses(), trail.entries(), place)? {
+    match learn(
+        problem.alloc,
+        work,
+        guide,
+        draft.clauses(),
+        trail.entries(),
+        place,
+    )? {
         Lesson::Empty(hints) => Ok(Some(hints)),
-        Lesson::Clause(lits, hints, cut) => {
-            turn_back(draft, trail, guide, lits, hints, cut, count)?;
+        Lesson::Clause(learnt) => {
+            turn_back(draft, trail, guide, learnt, problem.count)?;
             if guide.merits.is_due() {
-                forget(alloc, formula, draft, guide, trail.entries(), count)?;
+                forget(problem, draft, guide, trail.entries())?;
             }
             Ok(None)
         }
@@ -192,24 +197,22 @@ fn resolve_conflict(
 
 /// Decides a literal, where nothing follows.
 fn decide(
-    alloc: Global,
-    formula: &Formula,
+    problem: &Problem<'_>,
     draft: &mut LogDraft<'_>,
     trail: &mut Trail,
     trues: &mut Trail,
     guide: &mut Guide,
-    count: usize,
 ) -> Result<Turn, AllocError>
-    requires formula { IsFormula formula.now }
-    requires prefix { HasPrefix formula.now draft.old.clauses }
-    requires search { IsSearch count draft.old.clauses trail.old }
-    requires few { count ≤ 2 ^ 30 }
+    requires formula { IsFormula problem.now.formula.now }
+    requires prefix { HasPrefix problem.now.formula.now draft.old.clauses }
+    requires search { IsSearch problem.now.count draft.old.clauses trail.old }
+    requires few { problem.now.count ≤ 2 ^ 30 }
     ensures formula { draft.new.formula ≡ draft.old.formula }
-    ensures prefix { OnOk result (HasPrefix formula.now draft.new.clauses) }
-    ensures turn { IfOk result (IsTurn formula.now count draft.new.clauses trail.old trail.new) }
+    ensures prefix { OnOk result (HasPrefix problem.now.formula.now draft.new.clauses) }
+    ensures turn { IfOk result (IsTurn problem.now.formula.now problem.now.count draft.new.clauses trail.old trail.new) }
 {
-    add_units(alloc, draft, guide, trues, trail.entries(), count)?;
-    match choose(alloc, formula, trail, draft.clauses(), guide, count)? {
+    add_units(problem, draft, guide, trues, trail.entries())?;
+    match choose(problem, trail, draft.clauses(), guide)? {
         Choice::Done(bits) => Ok(Turn::Satisfied(bits)),
         Choice::Refute(place) => Ok(Turn::Conflict(place)),
         Choice::Decide(lit) => {
@@ -222,34 +225,31 @@ fn decide(
 /// Searches for bits that satisfy the formula, from no literal that is true. Each turn learns from a clause that is
 /// false, or decides a literal where nothing follows.
 fn search(
-    alloc: Global,
-    formula: &Formula,
+    problem: &Problem<'_>,
     draft: &mut LogDraft<'_>,
     trail: &mut Trail,
     trues: &mut Trail,
     work: &mut Work,
     guide: &mut Guide,
-    count: usize,
 ) -> Result<End, AllocError>
-    requires formula { IsFormula formula.now }
-    requires clauses { draft.old.clauses ≡ given formula.now }
+    requires formula { IsFormula problem.now.formula.now }
+    requires clauses { draft.old.clauses ≡ given problem.now.formula.now }
     requires trail { trail.old ≡ [] }
-    requires count { count ≡ formula.now.variables + 1 }
-    requires marks { count ≤ length work.old.marks.items }
+    requires count { problem.now.count ≡ problem.now.formula.now.variables + 1 }
+    requires marks { problem.now.count ≤ length work.old.marks.items }
     ensures formula { draft.new.formula ≡ draft.old.formula }
-    ensures end { IfOk result (IsEnd formula.now draft.new.clauses) }
+    ensures end { IfOk result (IsEnd problem.now.formula.now draft.new.clauses) }
 {
+    let count = problem.count;
     let mut found = begin(trail, draft.clauses(), guide, count)?;
     'search: loop {
         if let Some(place) = found {
-            if let Some(hints) = resolve_conflict(
-                alloc, formula, draft, trail, work, guide, place, count,
-            )? {
+            if let Some(hints) = resolve_conflict(problem, draft, trail, work, guide, place)? {
                 return Ok(End::Refuted(hints));
             }
             found = propagate(trail, draft.clauses(), guide, count)?;
         } else {
-            match decide(alloc, formula, draft, trail, trues, guide, count)? {
+            match decide(problem, draft, trail, trues, guide)? {
                 Turn::Satisfied(bits) => return Ok(End::Satisfied(bits)),
                 Turn::Conflict(place) => found = Some(place),
                 Turn::Decided => found = propagate(trail, draft.clauses(), guide, count)?,
@@ -299,15 +299,18 @@ impl Solver {
         self.trail.clear();
         self.work.fit(count)?;
         self.guide.reset(formula.variables)?;
-        let end = search(
+        let problem = Problem {
             alloc,
             formula,
+            count,
+        };
+        let end = search(
+            &problem,
             &mut draft,
             &mut self.trail,
             &mut self.trues,
             &mut self.work,
             &mut self.guide,
-            count,
         )?;
         match end {
             End::Satisfied(bits) => {

@@ -15,6 +15,7 @@ ghost use Rattle.cg_sat_state.specs.Store.{clause_at, live_of};
 ghost use Rattle.cg_sat.specs.inner.Search.{IsSearch, HasPrefix};
 
 use crate::guide::Guide;
+use crate::problem::Problem;
 use cg_formula::Lit;
 use cg_sat_state::clauses::Clauses;
 use cg_sat_state::draft::LogDraft;
@@ -97,26 +98,26 @@ fn unit_hints(
 
 /// Adds the unit clause of an entry's literal, where it follows from other unit clauses and the entry's reason.
 fn add_unit(
-    alloc: Global,
+    problem: &Problem<'_>,
     draft: &mut LogDraft<'_>,
     guide: &mut Guide,
     trues: &mut Trail,
     trail: &[Entry],
     entry: Entry,
-    count: usize,
 ) -> Result<(), AllocError>
-    requires search { IsSearch count draft.old.clauses trail.now }
-    requires few { count ≤ 2 ^ 30 }
+    requires search { IsSearch problem.now.count draft.old.clauses trail.now }
+    requires few { problem.now.count ≤ 2 ^ 30 }
     ensures formula { draft.new.formula ≡ draft.old.formula }
     ensures prefix { (formula : Formula) → HasPrefix formula draft.old.clauses → OnOk result (HasPrefix formula draft.new.clauses) }
-    ensures search { OnOk result (IsSearch count draft.new.clauses trail.now) }
+    ensures search { OnOk result (IsSearch problem.now.count draft.new.clauses trail.now) }
 {
     let _ = trail;
+    let alloc = problem.alloc;
     let Some(reason) = entry.reason else {
         return Ok(());
     };
     let lit = entry.lit;
-    if lit.variable == 0 || lit.variable as usize >= count || guide.has_unit(lit) {
+    if lit.variable == 0 || lit.variable as usize >= problem.count || guide.has_unit(lit) {
         return Ok(());
     }
     let Some(hints) = unit_hints(alloc, draft.clauses(), guide, trues, lit, reason)? else {
@@ -131,24 +132,23 @@ fn add_unit(
 
 /// Adds unit clauses of the literals of the trail, if some may have none yet. None of them is to be decided then.
 pub fn add_units(
-    alloc: Global,
+    problem: &Problem<'_>,
     draft: &mut LogDraft<'_>,
     guide: &mut Guide,
     trues: &mut Trail,
     trail: &[Entry],
-    count: usize,
 ) -> Result<(), AllocError>
-    requires search { IsSearch count draft.old.clauses trail.now }
-    requires few { count ≤ 2 ^ 30 }
+    requires search { IsSearch problem.now.count draft.old.clauses trail.now }
+    requires few { problem.now.count ≤ 2 ^ 30 }
     ensures formula { draft.new.formula ≡ draft.old.formula }
     ensures prefix { (formula : Formula) → HasPrefix formula draft.old.clauses → OnOk result (HasPrefix formula draft.new.clauses) }
-    ensures search { OnOk result (IsSearch count draft.new.clauses trail.now) }
+    ensures search { OnOk result (IsSearch problem.now.count draft.new.clauses trail.now) }
 {
     if !guide.unsettled {
         return Ok(());
     }
     for at in guide.fixed..trail.len() {
-        add_unit(alloc, draft, guide, trues, trail, trail[at], count)?;
+        add_unit(problem, draft, guide, trues, trail, trail[at])?;
     }
     guide.fixed = trail.len();
     guide.unsettled = false;

@@ -13,7 +13,7 @@ use Rattle.cg_claim.proofs.Reached.{and_first}
 use Rattle.cg_stage_list_laws.specs.Rounds.{is_empty}
 use Rattle.cg_stage_list_laws.specs.StableList.{StableKey, stable_key}
 use Rattle.cg_stage_list_laws.specs.Supports.{all_nets, has_enable, in_net_order, input_cone, others_of, reads_own_at, supports}
-use Rattle.cg_stability.specs.inner.Leaving.{AreRegisters, is_keyed}
+use Rattle.cg_stability.specs.inner.Keyed.{AreRegisters, is_keyed}
 use Rattle.cg_stage_groups.specs.Support.{IsSupport}
 use Rattle.cg_stage_groups.specs.declared.support.Support.{Support}
 use Rattle.std.specs.Cmp.{both_ways as same_truth}

@@ -15,7 +15,7 @@ use Rattle.cg_machine.specs.declared.stage.Earlier.{Earlier}
 use Rattle.cg_machine.specs.declared.stage.Stage.{Stage}
 use Rattle.cg_machine.specs.declared.stage.StageKind.TheVariants.{Stable}
 use Rattle.cg_netlist.proofs.Driven.{in_range}
-use Rattle.cg_stability.specs.inner.Leaving.{AreKeys}
+use Rattle.cg_stability.specs.inner.Keyed.{AreKeys}
 use Rattle.cg_net.proofs.TableLemmas.{take_end}
 
 pub stages_more : (keys : List Key) (regs : List (List ℕ)) (i : ℕ) (k : Key) (rs : List ℕ) (stage : Stage) (before after : List Stage) → length regs ≡ length keys → i < length keys → slice_get keys i ≡ Some k → slice_get regs i ≡ Some rs

@@ -1,1 +1,1 @@
-pub mod Leaving
+pub mod Keyed

@@ -5,13 +5,14 @@ ghost use Rattle.cg_stage_groups.specs.Keys.{groups_seen, key_seen};
 ghost use Rattle.cg_stage_list_laws.specs.Rounds.{plain_literals};
 ghost use Rattle.cg_stage_list_laws.specs.StableList.{stable_list, stable_stage};
 
-use crate::round::{keys_of, leave_out};
+use crate::key::keys_of;
 use cg_list::Seq;
 use cg_machine::machine::Machine;
 use cg_machine::stage::{Earlier, NetLit, Stage, StageKind};
 use cg_net::id::{NetId, RegId};
 use cg_stage_groups::group::{Groups, groups_of};
 use cg_stage_groups::key::Key;
+use cg_stage_groups::leaving::leave_out;
 use std::alloc::{AllocError, Global};
 
 /// The stages that a round of stability tries on a machine, where these stages were tried before.
@@ -29,7 +30,7 @@ pub fn candidates(
 {
     let _netlist = machine.netlist();
     let mut keys = keys_of(alloc, machine)?;
-    leave_out(alloc, earlier, &mut keys)?;
+    leave_out(alloc, StageKind::Stable, earlier, &mut keys)?;
     let groups = groups_of(alloc, &keys)?;
     stages(alloc, &groups)
 }

@@ -7,7 +7,7 @@ ghost use Rattle.cg_stage_groups.specs.Keys.{key_seen};
 ghost use Rattle.cg_stage_list_laws.specs.StableList.{stable_key};
 ghost use Rattle.cg_stage_list_laws.specs.Supports.{has_enable};
 ghost use Rattle.cg_machine.specs.Machine.{enable_of};
-ghost use Rattle.cg_stability.specs.inner.Leaving.{AreRegisters, is_keyed};
+ghost use Rattle.cg_stability.specs.inner.Keyed.{AreKeys, AreRegisters, is_keyed};
 ghost use Rattle.cg_stage_groups.specs.Support.{IsSupport};
 
 use cg_machine::machine::Machine;
@@ -18,9 +18,23 @@ use cg_stage_groups::key::Key;
 use cg_stage_groups::support::Support;
 use std::alloc::{AllocError, Global};
 
+/// The keys of all registers of a machine's netlist, each at its place.
+pub(crate) fn keys_of(alloc: Global, machine: &Machine) -> Result<Vec<Option<Key>>, AllocError>
+    ensures { IfOk result (λ keys. AreKeys machine.now keys.items) }
+{
+    let netlist = machine.netlist();
+    let mut finder = SupportFinder::new(alloc);
+    let mut keys = Vec::new(alloc);
+    for reg in 0..netlist.registers() {
+        let key = key_of(alloc, machine, RegId::new(reg), &mut finder)?;
+        keys.push(key)?;
+    }
+    Ok(keys)
+}
+
 /// The key of a register: the enables of the registers that it stands on, in net order, and its own enable. It has none
 /// where it stands on a data input, on no other register, or on one without an enable.
-pub(crate) fn key_of(
+fn key_of(
     alloc: Global,
     machine: &Machine,
     reg: RegId,

@@ -6,11 +6,9 @@
 //!
 //! The modules:
 //!
-//! - `key`: the key of a register, by which it is put into a group.
-//! - `round`: the keys of a round, without those of the registers that it leaves out.
+//! - `key`: the keys of registers, by which they are put into groups.
 //! - `candidates`: the stages of a round.
 #![tactic(auto)]
 
 pub mod candidates;
 mod key;
-mod round;

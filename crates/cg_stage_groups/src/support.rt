@@ -1,23 +1,15 @@
 //! The support of a register.
 
-ghost use Rattle.std.specs.Prelude.{◌≡◌, ◌<◌, ℕ, [], Some, false, length, slice_get, IfOk};
-ghost use Rattle.std.specs.List.{count_by};
-ghost use Rattle.std.specs.Option.{option_map_or};
-ghost use Rattle.cg_cell.specs.Pins.{is_data};
-ghost use Rattle.cg_cell.specs.Term.{has_input};
-ghost use Rattle.cg_claim.specs.Reach.{reads_own};
-ghost use Rattle.cg_netlist.specs.Circuit.{RegisterCell};
+ghost use Rattle.std.specs.Prelude.{◌≡◌, ◌<◌, [], IfOk};
 ghost use Rattle.cg_stage_groups.specs.Support.{IsSupport};
 
 use crate::cone::cone;
 use crate::edge::edge;
-use cg_cell::cell::CellType;
+use cg_claim_reach::own::reads_own;
 use cg_list::Seq;
 use cg_machine::machine::Machine;
 use cg_net::id::RegId;
 use cg_net::net_set::NetSet;
-use cg_netlist::netlist::Netlist;
-use cg_netlist::view::RegKind;
 use std::alloc::{AllocError, Global};
 
 /// The support of a register.
@@ -49,26 +41,4 @@ pub(crate) fn support_of(
         support.registers.push(reg)?;
     }
     Ok(support)
-}
-
-/// Whether a register's function names its own bit.
-fn reads_own(netlist: &Netlist, reg: RegId) -> bool
-    requires { reg < length netlist.now.registers }
-    ensures { (register : RegisterCell ℕ ℕ) → slice_get netlist.now.registers reg ≡ Some register → result ≡ reads_own register }
-{
-    let _registers = netlist.registers();
-    match netlist.register(reg).kind {
-        RegKind::Plain => false,
-        RegKind::Cell(cell) => names_own(cell),
-    }
-}
-
-/// Whether the function of a cell names the variable behind those of its Data pins.
-fn names_own(cell: &CellType) -> bool
-    ensures { result ≡ option_map_or (has_input (count_by is_data cell.now.pins)) cell.now.function false }
-{
-    match cell.function() {
-        Some(function) => function.names(cell.inputs() as u32),
-        None => false,
-    }
 }

@@ -10,7 +10,7 @@ ghost use Rattle.cg_claim_reach.specs.Reached.{IsReached};
 
 use crate::copy::lay_copy;
 use crate::goal::goal_literal;
-use crate::states::{carry_states, put_states};
+use crate::states::{StateSources, carry_states, put_states};
 use crate::tables::Tables;
 use cg_aig::{Aig, AigFault, AigLit};
 use cg_claim_reach::asked::Asked;
@@ -105,12 +105,15 @@ fn build_claim(
         &mut tables.before.nets,
         buffer,
     )?;
+    let sources = StateSources {
+        own: &tables.before.states,
+        free: &tables.free,
+        nets: &tables.before.nets,
+    };
     put_states(
         machine,
         reached.states.as_slice(),
-        &tables.before.states,
-        &tables.free,
-        &tables.before.nets,
+        &sources,
         aig,
         &mut tables.after.states,
         buffer,

@@ -36,44 +36,52 @@ pub(crate) fn goal_literal(
 {
     let joined = enable_literal(asked.enables, &tables.before.nets, aig)?;
     match asked.sides {
-        Some((one, other)) => differing(
-            machine,
-            asked.enables,
-            joined,
-            one,
-            other,
-            tables,
-            aig,
-            buffer,
-        ),
+        Some((one, other)) => {
+            let sources = SideSources {
+                machine,
+                enables: asked.enables,
+                tables,
+            };
+            differing(&sources, joined, one, other, aig, buffer)
+        }
         None => Ok(joined.not()),
     }
 }
 
+/// What the sides of a goal are read from: a machine, the literals of its joined enable, and its copies.
+#[derive(Clone, Copy)]
+struct SideSources<'a> {
+    machine: &'a Machine,
+    enables: &'a [NetLit],
+    tables: &'a Tables,
+}
+
 /// The literal that is 1 where the joined enable is 0 and two sides differ.
 fn differing(
-    machine: &Machine,
-    enables: &[NetLit],
+    sources: &SideSources<'_>,
     joined: AigLit,
     one: Side,
     other: Side,
-    tables: &Tables,
     aig: &mut Aig,
     buffer: &mut Vec<AigLit>,
 ) -> Result<AigLit, AigFault>
-    requires nets { All (λ l. l.0 < length machine.now.circuit.names) enables.now }
+    requires nets { All (λ l. l.0 < length sources.now.machine.now.circuit.names) sources.now.enables.now }
     requires joined { IsTrue (aig_ops.is_valid aig.old joined) }
-    requires one { PartThere machine.now (part_of one.part) }
-    requires other { PartThere machine.now (part_of other.part) }
-    requires tables { AreTables machine.now aig.old tables.now }
-    ensures built { IfOk result (λ v. Built aig.old aig.new v (sides_run machine.now enables.now tables.now joined one other aig.old)) }
-    ensures failed { IfErr result (λ fault. MayFail (sides_run machine.now enables.now tables.now joined one other aig.old).domain fault) }
+    requires one { PartThere sources.now.machine.now (part_of one.part) }
+    requires other { PartThere sources.now.machine.now (part_of other.part) }
+    requires tables { AreTables sources.now.machine.now aig.old sources.now.tables.now }
+    ensures built { IfOk result (λ v. Built aig.old aig.new v
+        (sides_run sources.now.machine.now sources.now.enables.now sources.now.tables.now joined one other aig.old)) }
+    ensures failed { IfErr result (λ fault. MayFail
+        (sides_run sources.now.machine.now sources.now.enables.now sources.now.tables.now joined one other aig.old).domain fault) }
 {
+    let machine = sources.machine;
+    let enables = sources.enables;
     let left = part_literal(
         machine,
         one.part,
         enables,
-        tables.copy(one.frame),
+        sources.tables.copy(one.frame),
         aig,
         buffer,
     )?;
@@ -81,7 +89,7 @@ fn differing(
         machine,
         other.part,
         enables,
-        tables.copy(other.frame),
+        sources.tables.copy(other.frame),
         aig,
         buffer,
     )?;

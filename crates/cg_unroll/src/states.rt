@@ -16,37 +16,47 @@ use cg_aig::{Aig, AigFault, AigLit};
 use cg_machine::machine::Machine;
 use cg_net::id::RegId;
 
-/// Puts the literals of the states that these registers have after the first cycle, one after another. `own` has their
-/// literals in that cycle, and `free` those of the leaves of the registers that nothing is said of. A register that holds
-/// its next bit is no such leaf, and has the constant 0 there.
+/// The literals that the states after the first cycle are made of.
+#[derive(Clone, Copy)]
+pub(crate) struct StateSources<'a> {
+    /// Those of the registers in the first cycle.
+    pub(crate) own: &'a Literals,
+
+    /// Those of the leaves of the registers that nothing is said of. A register that holds its next bit is no such leaf,
+    /// and has the constant 0 there.
+    pub(crate) free: &'a Literals,
+
+    /// Those of the nets in the first cycle.
+    pub(crate) nets: &'a Literals,
+}
+
+/// Puts the literals of the states that these registers have after the first cycle, one after another.
 pub(crate) fn put_states(
     machine: &Machine,
     registers: &[RegId],
-    own: &Literals,
-    free: &Literals,
-    nets: &Literals,
+    sources: &StateSources<'_>,
     aig: &mut Aig,
     states: &mut Literals,
     buffer: &mut Vec<AigLit>,
 ) -> Result<(), AigFault>
     requires registers { All (λ r. r < length machine.now.circuit.registers) registers.now }
-    requires own { length machine.now.circuit.registers ≤ length own.now }
-    requires free { length machine.now.circuit.registers ≤ length free.now }
+    requires own { length machine.now.circuit.registers ≤ length sources.now.own.now }
+    requires free { length machine.now.circuit.registers ≤ length sources.now.free.now }
     requires states { length machine.now.circuit.registers ≤ length states.old }
-    requires nets { length machine.now.circuit.names ≤ length nets.now }
-    requires valid_own { AreValid aig_ops aig.old own.now }
-    requires valid_free { AreValid aig_ops aig.old free.now }
+    requires nets { length machine.now.circuit.names ≤ length sources.now.nets.now }
+    requires valid_own { AreValid aig_ops aig.old sources.now.own.now }
+    requires valid_free { AreValid aig_ops aig.old sources.now.free.now }
     requires valid_states { AreValid aig_ops aig.old states.old }
-    requires valid_nets { AreValid aig_ops aig.old nets.now }
-    ensures laid { OnOk result (LaysStates machine.now (λ x. slice_index_or nets.now x 0) (λ r. slice_index_or own.now r 0) (λ r. slice_index_or free.now r 0)
+    requires valid_nets { AreValid aig_ops aig.old sources.now.nets.now }
+    ensures laid { OnOk result (LaysStates machine.now (λ x. slice_index_or sources.now.nets.now x 0) (λ r. slice_index_or sources.now.own.now r 0) (λ r. slice_index_or sources.now.free.now r 0)
         registers.now aig.old aig.new states.old states.new) }
-    ensures failed { IfErr result (λ fault. (q : Question) → TellsFollows q.follows (λ r. slice_index_or free.now r 0) registers.now
-        → MayFail (lay_states aig_values machine.now q (λ x. slice_index_or nets.now x 0) (λ r. slice_index_or own.now r 0) (λ r. slice_index_or free.now r 0)
+    ensures failed { IfErr result (λ fault. (q : Question) → TellsFollows q.follows (λ r. slice_index_or sources.now.free.now r 0) registers.now
+        → MayFail (lay_states aig_values machine.now q (λ x. slice_index_or sources.now.nets.now x 0) (λ r. slice_index_or sources.now.own.now r 0) (λ r. slice_index_or sources.now.free.now r 0)
         registers.now (table_of aig.old states.old)).domain fault) }
 {
     for k in 0..registers.len() {
         let reg = registers[k];
-        let state = state_literal(machine, reg, own, free, nets, aig, buffer)?;
+        let state = state_literal(machine, reg, sources, aig, buffer)?;
         states.put(reg.number() as usize, state)?;
     }
     Ok(())
@@ -57,31 +67,29 @@ pub(crate) fn put_states(
 fn state_literal(
     machine: &Machine,
     reg: RegId,
-    own: &Literals,
-    free: &Literals,
-    nets: &Literals,
+    sources: &StateSources<'_>,
     aig: &mut Aig,
     buffer: &mut Vec<AigLit>,
 ) -> Result<AigLit, AigFault>
     requires register { reg < length machine.now.circuit.registers }
-    requires own { length machine.now.circuit.registers ≤ length own.now }
-    requires free { length machine.now.circuit.registers ≤ length free.now }
-    requires nets { length machine.now.circuit.names ≤ length nets.now }
-    requires valid_own { AreValid aig_ops aig.old own.now }
-    requires valid_free { AreValid aig_ops aig.old free.now }
-    requires valid_nets { AreValid aig_ops aig.old nets.now }
+    requires own { length machine.now.circuit.registers ≤ length sources.now.own.now }
+    requires free { length machine.now.circuit.registers ≤ length sources.now.free.now }
+    requires nets { length machine.now.circuit.names ≤ length sources.now.nets.now }
+    requires valid_own { AreValid aig_ops aig.old sources.now.own.now }
+    requires valid_free { AreValid aig_ops aig.old sources.now.free.now }
+    requires valid_nets { AreValid aig_ops aig.old sources.now.nets.now }
     ensures built { IfOk result (λ v. Built aig.old aig.new v
-        (state_step machine.now (λ x. slice_index_or nets.now x 0) (λ r. slice_index_or own.now r 0) (λ r. slice_index_or free.now r 0) reg aig.old)) }
+        (state_step machine.now (λ x. slice_index_or sources.now.nets.now x 0) (λ r. slice_index_or sources.now.own.now r 0) (λ r. slice_index_or sources.now.free.now r 0) reg aig.old)) }
     ensures failed { IfErr result (λ fault. MayFail
-        (state_step machine.now (λ x. slice_index_or nets.now x 0) (λ r. slice_index_or own.now r 0)
-        (λ r. slice_index_or free.now r 0) reg aig.old).domain fault) }
+        (state_step machine.now (λ x. slice_index_or sources.now.nets.now x 0) (λ r. slice_index_or sources.now.own.now r 0)
+        (λ r. slice_index_or sources.now.free.now r 0) reg aig.old).domain fault) }
 {
-    let leaf = free.get(reg.number() as usize);
+    let leaf = sources.free.get(reg.number() as usize);
     if leaf.number() == 0 {
-        return next_literal(machine, reg, own, nets, aig, buffer);
+        return next_literal(machine, reg, sources.own, sources.nets, aig, buffer);
     }
-    let state = own.get(reg.number() as usize);
-    loaded_literal(machine, reg, leaf, state, nets, aig)
+    let state = sources.own.get(reg.number() as usize);
+    loaded_literal(machine, reg, leaf, state, sources.nets, aig)
 }
 
 /// Puts at these registers their literals of `states`, where they have none yet.

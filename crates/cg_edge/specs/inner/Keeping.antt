@@ -1,13 +1,11 @@
 -- What a simulator keeps between ticks, and what each part of a tick does to the bits of the nets.
 use Rattle.std.specs.Prelude.{◌≡◌, ◌≢◌, ℕ, ◌<◌, ◌≤◌, ◌⊎◌, Bool, true, false, ◌&&◌, List, [], length, slice_get, slice_index_or}
-use Rattle.std.specs.Prelude.{replicate, Option, None, Some, if◌then◌else◌}
+use Rattle.std.specs.Prelude.{Option, None, Some, if◌then◌else◌}
 use Rattle.cg_netlist.specs.Circuit.{Circuit, GatingCell, LogicCell}
 use Rattle.cg_net.specs.NetSets.{is_in}
 use Rattle.cg_netlist.specs.History.{Moment}
 use Rattle.cg_netlist.specs.Moment.{bit, function_value, values_at}
-use Rattle.cg_netlist.specs.Netlist.{IsNetlist, widest_of}
 use Rattle.cg_netlist.specs.Nets.{walk_order}
-use Rattle.cg_edge.specs.inner.Flat.{AreLaid, Layout}
 
 -- the bits of nets after a part of a tick are those of before but at these nets
 pub record SameBut (touched : List ℕ) (old new : List Bool) : Type 0 where
@@ -29,7 +27,7 @@ AreDriven c chain latches nets n = (j k : ℕ) (a : GatingCell ℕ) → j < n �
 -- the clock shows this bit, and each gating cell the AND of its latch and its clock pin
 pub record ShowClocks (c : Circuit) (clock : Bool) (latches nets : List Bool) : Type 0 where
   pub on_clock : (net : ℕ) → c.clock ≡ Some net → bit nets net ≡ clock
-  pub on_gates : (k : ℕ) (a : GatingCell ℕ) → slice_get c.gaters k ≡ Some a →
+  pub on_gaters : (k : ℕ) (a : GatingCell ℕ) → slice_get c.gaters k ≡ Some a →
       bit nets a.output ≡ (slice_index_or latches k false && bit nets a.clock)
 
 -- the logic cells in walk order
@@ -80,24 +78,3 @@ pub record IsPut (readers : List (List ℕ)) (net : ℕ) (b : Bool) (old new mar
 -- the present moment of these bits, where there was a tick
 abbrev pub present_of : Bool → List Bool → List Bool → List Bool → Option Moment
 present_of ticked nets state latches = if ticked then Some (record { nets = nets; state = state; latches = latches }) else None
-
--- what is true of a simulator: each list has its length, each cell holds or is marked, and before the first tick the
--- registers have their start bits, no latch is 1 and no register rose
-pub record IsKept (c : Circuit) (start : List Bool) (chain order : List ℕ) (cells : Layout) (readers : List (List ℕ))
-    (ticked : Bool) (nets before state latches rose marks scratch : List Bool) : Type 0 where
-  pub netlist : IsNetlist c
-  pub started : length start ≡ length c.registers
-  pub chained : IsChain c chain
-  pub ordered : order ≡ walk_order c.cells
-  pub laid : AreLaid c order (length order) cells
-  pub reading : AreReaders (length c.names) (length order) (walk_of c) readers
-  pub nets_long : length nets ≡ length c.names
-  pub before_long : length before ≡ length c.names
-  pub state_long : length state ≡ length c.registers
-  pub latches_long : length latches ≡ length c.gaters
-  pub rose_long : length rose ≡ length c.registers
-  pub marks_long : length marks ≡ length order
-  pub marked : AreMarked (walk_of c) marks nets
-  pub room : widest_of c.cells ≤ length scratch
-  pub first : ticked ≡ false →
-      (state ≡ start) × (latches ≡ replicate (length c.gaters) false) × (rose ≡ replicate (length c.registers) false)

@@ -81,5 +81,5 @@ pub record Gathered (trail : List Entry) (from cut : ℕ) (old kept : List Lit) 
 -- the lesson's clause has no fault under its hints, and asserts a literal where the trail is cut
 abbrev pub Teaches : Store → List Entry → Lesson → Type 0
 Teaches clauses trail (Empty hints) = clause_fault (live_of clauses) [] hints.items ≡ None
-Teaches clauses trail (Clause lits hints cut) =
-    (clause_fault (live_of clauses) lits.items hints.items ≡ None) × Asserts clauses trail cut lits.items
+Teaches clauses trail (Clause learnt) =
+    (clause_fault (live_of clauses) learnt.lits.items learnt.hints.items ≡ None) × Asserts clauses trail learnt.cut learnt.lits.items

@@ -13,7 +13,7 @@ use Rattle.cg_sat.proofs.choose.last_choice.Goals as goal
 
 pub returns-in-Some-open_lit : goal.returns-in-Some-open_lit
 returns-in-Some-open_lit c =
-    let formula = c.args.formula.now in
+    let formula = c.args.problem.now.formula.now in
     let place = c.in-Some.place in
     let lit = c.in-Some-open_lit.lit in
     let items = c.as_slice-clause.result.now in
@@ -34,7 +34,7 @@ returns-in-Some-open_lit c =
 
 pub returns : goal.returns
 returns c =
-    let formula = c.args.formula.now in
+    let formula = c.args.problem.now.formula.now in
     let place = c.in-Some.place in
     let items = c.as_slice-clause.result.now in
     let u : IsUnsatisfied c.in_ok-bits.bits.items formula place = subst (λ bs. IsUnsatisfied bs formula place) c.as_slice.ensures.value c.in-Some.ensures in

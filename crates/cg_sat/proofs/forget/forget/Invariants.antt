@@ -5,6 +5,6 @@ use Rattle.cg_sat.proofs.forget.forget.Given as goal
 abbrev pub invariant-found : goal.invariant-found
 invariant-found l = record {
   formula : l.draft.formula ≡ l.fn.draft.formula;
-  prefix : HasPrefix l.formula l.draft.clauses;
-  search : IsSearch l.count l.draft.clauses l.trail;
+  prefix : HasPrefix l.problem.formula.now l.draft.clauses;
+  search : IsSearch l.problem.count l.draft.clauses l.trail;
 }

@@ -66,7 +66,7 @@ returns-clause-lesson c =
     let one : c.keep.new.work.kept.items ≡ entry.lit ∷ [] = c.in_ok-keep.ensures.kept entry is ∙ rw none refl in
     let gathered : Gathered trail c.in-Some-level_of.from c.in_ok-cut.cut (entry.lit ∷ []) c.gather.new.work.kept.items = subst (λ old. Gathered trail c.in-Some-level_of.from c.in_ok-cut.cut old c.gather.new.work.kept.items) one c.in_ok-cut.ensures.gathered in
     let lits = c.in_ok-lits.ensures ∙ ap (map inverse) c.as_slice-2.ensures.value in (
-      ends c.args.clauses.now c.gather.new.work.marks.items c.gather.new.work.kept.items c.gather.new.work.hints.items c.in_ok-lits.lits.items c.take_hints-2.result.items lits c.take_hints-2.ensures.hints c.in_ok-cut.ensures.derives,
+      ends c.args.clauses.now c.gather.new.work.marks.items c.gather.new.work.kept.items c.gather.new.work.hints.items c.in_ok-lits.lits.items c.take_hints-hints.result.items lits c.take_hints-hints.ensures.hints c.in_ok-cut.ensures.derives,
       subst (λ ls. Asserts c.args.clauses.now trail c.in_ok-cut.cut ls) (sym lits) (asserted c.args.clauses.now trail c.in-Some-level_of.from c.in_ok-cut.cut c.in_ok-at.at entry c.gather.new.work.kept.items c.requires.trail is low inside gathered),
     )
 

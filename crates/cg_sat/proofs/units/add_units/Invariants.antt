@@ -7,5 +7,5 @@ abbrev pub invariant-loop-at : goal.invariant-loop-at
 invariant-loop-at l = record {
   formula : l.draft.formula ≡ l.fn.draft.formula;
   prefix : (formula : Formula) → HasPrefix formula l.fn.draft.clauses → HasPrefix formula l.draft.clauses;
-  search : IsSearch l.count l.draft.clauses l.trail;
+  search : IsSearch l.problem.count l.draft.clauses l.trail;
 }

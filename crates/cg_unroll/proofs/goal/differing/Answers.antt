@@ -18,9 +18,9 @@ use Rattle.cg_unroll.proofs.goal.differing.Goals as goal
 
 pub returns-clause-built : goal.returns-clause-built
 returns-clause-built c =
-    let m : MachineData = c.args.machine.now in
-    let E : List Literal = c.args.enables.now in
-    let tables : Tables = c.args.tables.now in
+    let m : MachineData = c.args.sources.now.machine.now in
+    let E : List Literal = c.args.sources.now.enables.now in
+    let tables : Tables = c.args.sources.now.tables.now in
     let s : Seen = c.args.aig.now in
     let t : Seen = c.part_literal.new.aig in
     let u : Seen = c.part_literal-2.new.aig in
@@ -38,9 +38,9 @@ returns-clause-built c =
 
 pub returns-clause-failed : goal.returns-clause-failed
 returns-clause-failed c =
-    let m : MachineData = c.args.machine.now in
-    let E : List Literal = c.args.enables.now in
-    let tables : Tables = c.args.tables.now in
+    let m : MachineData = c.args.sources.now.machine.now in
+    let E : List Literal = c.args.sources.now.enables.now in
+    let tables : Tables = c.args.sources.now.tables.now in
     let s : Seen = c.args.aig.now in
     let t : Seen = c.part_literal.new.aig in
     let u : Seen = c.part_literal-2.new.aig in
@@ -58,9 +58,9 @@ returns-clause-failed c =
 
 pub returns-in_err-right-clause-failed : goal.returns-in_err-right-clause-failed
 returns-in_err-right-clause-failed c =
-    let m : MachineData = c.args.machine.now in
-    let E : List Literal = c.args.enables.now in
-    let tables : Tables = c.args.tables.now in
+    let m : MachineData = c.args.sources.now.machine.now in
+    let E : List Literal = c.args.sources.now.enables.now in
+    let tables : Tables = c.args.sources.now.tables.now in
     let s : Seen = c.args.aig.now in
     let t : Seen = c.part_literal.new.aig in
     let e : ℕ = c.args.joined in
@@ -78,9 +78,9 @@ returns-in_err-right-clause-failed c =
 
 pub returns-in_err-left-clause-failed : goal.returns-in_err-left-clause-failed
 returns-in_err-left-clause-failed c =
-    let m : MachineData = c.args.machine.now in
-    let E : List Literal = c.args.enables.now in
-    let tables : Tables = c.args.tables.now in
+    let m : MachineData = c.args.sources.now.machine.now in
+    let E : List Literal = c.args.sources.now.enables.now in
+    let tables : Tables = c.args.sources.now.tables.now in
     let s : Seen = c.args.aig.now in
     let e : ℕ = c.args.joined in
     let fault : AigFault = c.in_err-left.field-0.0 in

@@ -13,16 +13,16 @@ use Rattle.cg_unroll.proofs.states.put_states.Goals as goal
 use Rattle.cg_claim_reach.proofs.Marking.{drop_whole}
 
 pub loop-k-init : goal.loop-k-init
-loop-k-init c = states_start c.args.machine.now (λ x. slice_index_or c.args.nets.now x 0) (λ r. slice_index_or c.args.own.now r 0) (λ r. slice_index_or c.args.free.now r 0) c.args.registers.now c.args.aig.now c.args.states.now c.requires.valid_states
+loop-k-init c = states_start c.args.machine.now (λ x. slice_index_or c.args.sources.now.nets.now x 0) (λ r. slice_index_or c.args.sources.now.own.now r 0) (λ r. slice_index_or c.args.sources.now.free.now r 0) c.args.registers.now c.args.aig.now c.args.states.now c.requires.valid_states
 
 pub state_literal-requires-clause-valid_own : goal.state_literal-requires-clause-valid_own
-state_literal-requires-clause-valid_own c = valid_then aig_ops c.args.aig.now c.loop-k.aig c.args.own.now c.loop-k.invariant.keeps c.requires.valid_own
+state_literal-requires-clause-valid_own c = valid_then aig_ops c.args.aig.now c.loop-k.aig c.args.sources.now.own.now c.loop-k.invariant.keeps c.requires.valid_own
 
 pub state_literal-requires-clause-valid_free : goal.state_literal-requires-clause-valid_free
-state_literal-requires-clause-valid_free c = valid_then aig_ops c.args.aig.now c.loop-k.aig c.args.free.now c.loop-k.invariant.keeps c.requires.valid_free
+state_literal-requires-clause-valid_free c = valid_then aig_ops c.args.aig.now c.loop-k.aig c.args.sources.now.free.now c.loop-k.invariant.keeps c.requires.valid_free
 
 pub state_literal-requires-clause-valid_nets : goal.state_literal-requires-clause-valid_nets
-state_literal-requires-clause-valid_nets c = valid_then aig_ops c.args.aig.now c.loop-k.aig c.args.nets.now c.loop-k.invariant.keeps c.requires.valid_nets
+state_literal-requires-clause-valid_nets c = valid_then aig_ops c.args.aig.now c.loop-k.aig c.args.sources.now.nets.now c.loop-k.invariant.keeps c.requires.valid_nets
 
 pub returns-in_err-put-clause-failed : goal.returns-in_err-put-clause-failed
 returns-in_err-put-clause-failed c =
@@ -32,9 +32,9 @@ returns-in_err-put-clause-failed c =
 pub returns-clause-laid : goal.returns-clause-laid
 returns-clause-laid c =
     let m : MachineData = c.args.machine.now in
-    let nets : ℕ → ℕ = λ x. slice_index_or c.args.nets.now x 0 in
-    let own : ℕ → ℕ = λ r. slice_index_or c.args.own.now r 0 in
-    let free : ℕ → ℕ = λ r. slice_index_or c.args.free.now r 0 in
+    let nets : ℕ → ℕ = λ x. slice_index_or c.args.sources.now.nets.now x 0 in
+    let own : ℕ → ℕ = λ r. slice_index_or c.args.sources.now.own.now r 0 in
+    let free : ℕ → ℕ = λ r. slice_index_or c.args.sources.now.free.now r 0 in
     let none : drop c.loop-k.k c.args.registers.now ≡ [] = drop_whole c.args.registers.now c.loop-k.k (omega (arith, c.loop-k-test.false)) in
     states_end m nets own free c.args.registers.now c.args.aig.now c.loop-k.aig c.args.states.now c.loop-k.states
     (subst (λ l. IsLayingStates m nets own free c.args.registers.now l c.args.aig.now c.loop-k.aig c.args.states.now c.loop-k.states) none c.loop-k.invariant)
@@ -42,9 +42,9 @@ returns-clause-laid c =
 pub returns-in_err-state-clause-failed : goal.returns-in_err-state-clause-failed
 returns-in_err-state-clause-failed c =
     let m : MachineData = c.args.machine.now in
-    let nets : ℕ → ℕ = λ x. slice_index_or c.args.nets.now x 0 in
-    let own : ℕ → ℕ = λ r. slice_index_or c.args.own.now r 0 in
-    let free : ℕ → ℕ = λ r. slice_index_or c.args.free.now r 0 in
+    let nets : ℕ → ℕ = λ x. slice_index_or c.args.sources.now.nets.now x 0 in
+    let own : ℕ → ℕ = λ r. slice_index_or c.args.sources.now.own.now r 0 in
+    let free : ℕ → ℕ = λ r. slice_index_or c.args.sources.now.free.now r 0 in
     let all : List ℕ = c.args.registers.now in
     let k : ℕ = c.loop-k.k in
     let r : ℕ = c.index-registers-k.result in
@@ -58,9 +58,9 @@ returns-in_err-state-clause-failed c =
 pub loop-k-preserved : goal.loop-k-preserved
 loop-k-preserved c =
     let m : MachineData = c.args.machine.now in
-    let nets : ℕ → ℕ = λ x. slice_index_or c.args.nets.now x 0 in
-    let own : ℕ → ℕ = λ r. slice_index_or c.args.own.now r 0 in
-    let free : ℕ → ℕ = λ r. slice_index_or c.args.free.now r 0 in
+    let nets : ℕ → ℕ = λ x. slice_index_or c.args.sources.now.nets.now x 0 in
+    let own : ℕ → ℕ = λ r. slice_index_or c.args.sources.now.own.now r 0 in
+    let free : ℕ → ℕ = λ r. slice_index_or c.args.sources.now.free.now r 0 in
     let all : List ℕ = c.args.registers.now in
     let k : ℕ = c.loop-k.k in
     let r : ℕ = c.index-registers-k.result in

@@ -9,27 +9,27 @@ use Rattle.cg_unroll.proofs.states.state_literal.Goals as goal
 
 pub returns-then-number-eq0-clause-built : goal.returns-then-number-eq0-clause-built
 returns-then-number-eq0-clause-built c =
-    let own : List ℕ = c.args.own.now in
-    let free : List ℕ = c.args.free.now in
+    let own : List ℕ = c.args.sources.now.own.now in
+    let free : List ℕ = c.args.sources.now.free.now in
     let r : ℕ = c.args.reg in
     let leaf_is : c.get-leaf.result ≡ slice_index_or free r 0 = c.get-leaf.ensures ∙ ap (λ n. slice_index_or free n 0) c.number.ensures.number in
     let none : slice_index_or free r 0 ≡ 0 = sym leaf_is ∙ (sym c.number-2.ensures ∙ c.if-number-eq0.true) in
     if_ok _ _ c.next_literal.result (λ v h. subst (λ run. Built c.args.aig.now c.next_literal.new.aig v run)
-    (sym (step_next c.args.machine.now (λ x. slice_index_or c.args.nets.now x 0) (λ k. slice_index_or own k 0) (λ k. slice_index_or free k 0) r c.args.aig.now none)) h) c.next_literal.ensures.built
+    (sym (step_next c.args.machine.now (λ x. slice_index_or c.args.sources.now.nets.now x 0) (λ k. slice_index_or own k 0) (λ k. slice_index_or free k 0) r c.args.aig.now none)) h) c.next_literal.ensures.built
 
 pub returns-then-number-eq0-clause-failed : goal.returns-then-number-eq0-clause-failed
 returns-then-number-eq0-clause-failed c =
-    let own : List ℕ = c.args.own.now in
-    let free : List ℕ = c.args.free.now in
+    let own : List ℕ = c.args.sources.now.own.now in
+    let free : List ℕ = c.args.sources.now.free.now in
     let r : ℕ = c.args.reg in
     let leaf_is : c.get-leaf.result ≡ slice_index_or free r 0 = c.get-leaf.ensures ∙ ap (λ n. slice_index_or free n 0) c.number.ensures.number in
     let none : slice_index_or free r 0 ≡ 0 = sym leaf_is ∙ (sym c.number-2.ensures ∙ c.if-number-eq0.true) in
     if_err _ _ c.next_literal.result (λ fault h. subst (λ (run : Run). MayFail run.domain fault)
-    (sym (step_next c.args.machine.now (λ x. slice_index_or c.args.nets.now x 0) (λ k. slice_index_or own k 0) (λ k. slice_index_or free k 0) r c.args.aig.now none)) h) c.next_literal.ensures.failed
+    (sym (step_next c.args.machine.now (λ x. slice_index_or c.args.sources.now.nets.now x 0) (λ k. slice_index_or own k 0) (λ k. slice_index_or free k 0) r c.args.aig.now none)) h) c.next_literal.ensures.failed
 
 pub loaded_literal-requires-clause-loaded : goal.loaded_literal-requires-clause-loaded
 loaded_literal-requires-clause-loaded c =
-    let free : List ℕ = c.args.free.now in
+    let free : List ℕ = c.args.sources.now.free.now in
     let r : ℕ = c.args.reg in
     let leaf_is : c.get-leaf.result ≡ slice_index_or free r 0 = c.get-leaf.ensures ∙ ap (λ n. slice_index_or free n 0) c.number.ensures.number in
     let below : r < length free = omega (arith, c.requires.register, c.requires.free) in
@@ -37,7 +37,7 @@ loaded_literal-requires-clause-loaded c =
 
 pub loaded_literal-requires-clause-own : goal.loaded_literal-requires-clause-own
 loaded_literal-requires-clause-own c =
-    let own : List ℕ = c.args.own.now in
+    let own : List ℕ = c.args.sources.now.own.now in
     let r : ℕ = c.args.reg in
     let state_is : c.get-state.result ≡ slice_index_or own r 0 = c.get-state.ensures ∙ ap (λ n. slice_index_or own n 0) c.number-3.ensures.number in
     let below : r < length own = omega (arith, c.requires.register, c.requires.own) in
@@ -45,20 +45,20 @@ loaded_literal-requires-clause-own c =
 
 pub returns-clause-built : goal.returns-clause-built
 returns-clause-built c =
-    let own : List ℕ = c.args.own.now in
-    let free : List ℕ = c.args.free.now in
+    let own : List ℕ = c.args.sources.now.own.now in
+    let free : List ℕ = c.args.sources.now.free.now in
     let r : ℕ = c.args.reg in
     let leaf_is : c.get-leaf.result ≡ slice_index_or free r 0 = c.get-leaf.ensures ∙ ap (λ n. slice_index_or free n 0) c.number.ensures.number in
     let state_is : c.get-state.result ≡ slice_index_or own r 0 = c.get-state.ensures ∙ ap (λ n. slice_index_or own n 0) c.number-3.ensures.number in
     if_ok _ _ c.loaded_literal.result (λ v h. subst (λ run. Built c.args.aig.now c.loaded_literal.new.aig v run)
-    (sym (step_loaded c.args.machine.now (λ x. slice_index_or c.args.nets.now x 0) (λ k. slice_index_or own k 0) (λ k. slice_index_or free k 0) r c.get-leaf.result c.get-state.result c.args.aig.now leaf_is state_is (λ zero. c.if-number-eq0.false (c.number-2.ensures ∙ zero)))) h) c.loaded_literal.ensures.built
+    (sym (step_loaded c.args.machine.now (λ x. slice_index_or c.args.sources.now.nets.now x 0) (λ k. slice_index_or own k 0) (λ k. slice_index_or free k 0) r c.get-leaf.result c.get-state.result c.args.aig.now leaf_is state_is (λ zero. c.if-number-eq0.false (c.number-2.ensures ∙ zero)))) h) c.loaded_literal.ensures.built
 
 pub returns-clause-failed : goal.returns-clause-failed
 returns-clause-failed c =
-    let own : List ℕ = c.args.own.now in
-    let free : List ℕ = c.args.free.now in
+    let own : List ℕ = c.args.sources.now.own.now in
+    let free : List ℕ = c.args.sources.now.free.now in
     let r : ℕ = c.args.reg in
     let leaf_is : c.get-leaf.result ≡ slice_index_or free r 0 = c.get-leaf.ensures ∙ ap (λ n. slice_index_or free n 0) c.number.ensures.number in
     let state_is : c.get-state.result ≡ slice_index_or own r 0 = c.get-state.ensures ∙ ap (λ n. slice_index_or own n 0) c.number-3.ensures.number in
     if_err _ _ c.loaded_literal.result (λ fault h. subst (λ (run : Run). MayFail run.domain fault)
-    (sym (step_loaded c.args.machine.now (λ x. slice_index_or c.args.nets.now x 0) (λ k. slice_index_or own k 0) (λ k. slice_index_or free k 0) r c.get-leaf.result c.get-state.result c.args.aig.now leaf_is state_is (λ zero. c.if-number-eq0.false (c.number-2.ensures ∙ zero)))) h) c.loaded_literal.ensures.failed
+    (sym (step_loaded c.args.machine.now (λ x. slice_index_or c.args.sources.now.nets.now x 0) (λ k. slice_index_or own k 0) (λ k. slice_index_or free k 0) r c.get-leaf.result c.get-state.result c.args.aig.now leaf_is state_is (λ zero. c.if-number-eq0.false (c.number-2.ensures ∙ zero)))) h) c.loaded_literal.ensures.failed

@@ -1,0 +1,42 @@
+//! A netlist with the order in which its cells are evaluated.
+
+ghost use Rattle.std.specs.Prelude.{◌≡◌, IfOk};
+ghost use Rattle.cg_edge.specs.inner.Kept.{IsSchedule};
+
+use crate::flat::FlatCells;
+use crate::readers::Readers;
+use cg_net::id::{CellId, GateClockId};
+use cg_netlist::netlist::Netlist;
+use std::alloc::{AllocError, Global};
+
+/// What stays the same from tick to tick: a netlist, its gating cells, each behind the one that drives its clock pin, and
+/// its logic cells in walk order, with what reads each net.
+#[derive(Drop)]
+pub(crate) struct Schedule<'a> {
+    pub(crate) netlist: &'a Netlist,
+    pub(crate) chain: Vec<GateClockId>,
+    pub(crate) order: &'a [CellId],
+    pub(crate) cells: FlatCells,
+    pub(crate) readers: Readers,
+}
+
+impl<'a> Schedule<'a> {
+    /// The schedule of a netlist.
+    pub(crate) fn new(alloc: Global, netlist: &'a Netlist) -> Result<Schedule<'a>, AllocError>
+        ensures netlist { IfOk result (λ schedule. schedule.netlist.now ≡ netlist.now) }
+        ensures schedule { IfOk result IsSchedule }
+    {
+        let _nets = netlist.nets();
+        let order = netlist.order();
+        let chain = netlist.gate_order(alloc)?;
+        let cells = FlatCells::new(alloc, netlist, order)?;
+        let readers = Readers::new(alloc, netlist, order)?;
+        Ok(Schedule {
+            netlist,
+            chain,
+            order,
+            cells,
+            readers,
+        })
+    }
+}

@@ -7,7 +7,4 @@
 #![tactic(auto)]
 
 mod goal;
-#[cfg(test)]
-mod tests;
-
 pub use goal::formula;

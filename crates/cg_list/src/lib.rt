@@ -80,21 +80,3 @@ impl<T> Seq<T> {
         Ok(())
     }
 }
-
-#[cfg(test)]
-mod tests {
-    use super::Seq;
-    use std::test::Fail;
-
-    #[test]
-    fn parts_stay_in_their_order(rt: HostRuntime) -> Result<(), Fail> {
-        let mut parts = Seq::new(rt.alloc());
-        assert!(rt; parts.is_empty());
-        parts.push(3)?;
-        parts.push(4)?;
-        assert_eq!(rt; parts.len(), 2);
-        assert_eq!(rt; parts.as_slice(), [3, 4].as_slice());
-        assert_eq!(rt; parts.into_vec().as_slice(), [3, 4].as_slice());
-        Ok(())
-    }
-}

@@ -5,7 +5,6 @@ pub mod Begun
 pub mod PinNets
 pub mod RowLemmas
 pub mod HearingLemmas
-pub mod PinWordLemmas
-pub mod PlaceLemmas
+pub mod GateLemmas
 pub mod ReadingLemmas
 pub mod NetlistLemmas

@@ -12,8 +12,8 @@ use Rattle.cg_netlist_parts.specs.Said.{Said, nothing_said}
 use Rattle.cg_blif_text.specs.declared.fault.BlifFault.{BlifFault}
 use Rattle.cg_blif_text.specs.declared.fault.BlifFault.TheVariants as faults
 use Rattle.cg_blif_text.specs.declared.fault.LineFault.{LineFault}
-use Rattle.cg_blif_text.specs.declared.fault.LineFault.TheVariants.{BadLine, BadCover, BadLatch, UnknownCell, UnusableCell}
-use Rattle.cg_blif_text.specs.declared.fault.LineFault.TheVariants.{PinFault, SecondModel, Limit}
+use Rattle.cg_blif_text.specs.declared.fault.LineFault.TheVariants.{BadLine, BadCover, BadLatch, Placed, SecondModel, Limit}
+use Rattle.cg_netlist_placed.specs.declared.fault.PlacedFault.TheVariants.{UnknownCell, UnusableCell, PinFault}
 use Rattle.cg_blif_text.specs.declared.place.Place.{Place}
 use Rattle.cg_blif_text.specs.declared.place.Place.TheVariants.{First, Unnamed, Named, Ended}
 use Rattle.cg_blif_text.specs.declared.statement.Statement.{Statement}
@@ -162,9 +162,9 @@ pub is_line_fault : {T : Type 0} (made : Result T BlifFault) (number : ℕ) (cau
 is_line_fault made number BadLine is = is
 is_line_fault made number BadCover is = is
 is_line_fault made number BadLatch is = is
-is_line_fault made number UnknownCell is = is
-is_line_fault made number UnusableCell is = is
-is_line_fault made number PinFault is = is
+is_line_fault made number (Placed UnknownCell) is = is
+is_line_fault made number (Placed UnusableCell) is = is
+is_line_fault made number (Placed PinFault) is = is
 is_line_fault made number SecondModel is = is
 is_line_fault made number (Limit limit) is = is
 

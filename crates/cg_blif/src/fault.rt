@@ -2,11 +2,13 @@
 
 ghost use Rattle.std.specs.Prelude.{◌≡◌};
 ghost use Rattle.cg_blif_text.specs.Telling.{at};
-ghost use Rattle.cg_blif.specs.Hearing.{at_line, heard};
-ghost use Rattle.cg_blif.specs.declared.fault.Refusal.TheVariants.{NoMemory};
+ghost use Rattle.cg_blif.specs.Hearing.{at_line, heard, heard_placed};
+ghost use Rattle.cg_blif.specs.declared.fault.Refusal.TheVariants.{Line, NoMemory};
+ghost use Rattle.cg_blif_text.specs.declared.fault.LineFault.TheVariants.{Placed};
 
 use cg_blif_text::fault::{BlifFault, LineFault};
 use cg_netlist::fault::AddFault;
+use cg_netlist_placed::fault::{PlacedFault, Refusal as PlacedRefusal};
 use std::alloc::{AllocError, AllocFailed};
 
 /// Why a line is not taken: what it has wrong, or that no memory was left.
@@ -17,6 +19,14 @@ pub enum Refusal {
 
     /// No memory was left.
     NoMemory,
+}
+
+impl From<PlacedFault> for Refusal {
+    ghost from_gives = { λ fault e. e ≡ Line (Placed fault) };
+
+    fn from(fault: PlacedFault) -> Refusal {
+        Refusal::Line(LineFault::Placed(fault))
+    }
 }
 
 impl From<AllocError> for Refusal {
@@ -46,6 +56,17 @@ pub fn heard(answer: Result<(), AddFault>) -> Result<(), Refusal>
     }
 }
 
+/// What a line whose placed cell is answered so is.
+pub fn heard_placed(answer: Result<(), PlacedRefusal>) -> Result<(), Refusal>
+    ensures { result ≡ heard_placed answer }
+{
+    match answer {
+        Ok(()) => Ok(()),
+        Err(PlacedRefusal::Placed(fault)) => Err(Refusal::Line(LineFault::Placed(fault))),
+        Err(PlacedRefusal::Added(fault)) => heard(Err(fault)),
+    }
+}
+
 /// The fault of a text whose line of this number is not taken.
 pub fn at_line(number: u64, refusal: Refusal) -> BlifFault
     ensures { result ≡ at_line number refusal }
@@ -64,9 +85,9 @@ pub fn at(number: u64, cause: LineFault) -> BlifFault
         LineFault::BadLine => BlifFault::BadLine(number),
         LineFault::BadCover => BlifFault::BadCover(number),
         LineFault::BadLatch => BlifFault::BadLatch(number),
-        LineFault::UnknownCell => BlifFault::UnknownCell(number),
-        LineFault::UnusableCell => BlifFault::UnusableCell(number),
-        LineFault::PinFault => BlifFault::PinFault(number),
+        LineFault::Placed(PlacedFault::UnknownCell) => BlifFault::UnknownCell(number),
+        LineFault::Placed(PlacedFault::UnusableCell) => BlifFault::UnusableCell(number),
+        LineFault::Placed(PlacedFault::PinFault) => BlifFault::PinFault(number),
         LineFault::SecondModel => BlifFault::SecondModel(number),
         LineFault::Limit(limit) => BlifFault::Limit(limit),
     }

@@ -4,8 +4,8 @@ ghost use Rattle.std.specs.Prelude.{◌≡◌, map, IfOk};
 ghost use Rattle.cg_blif_text.specs.PinWords.{pin_net};
 
 use crate::byte::first_at;
-use cg_blif_text::statement::PinWord;
 use cg_blif_text::word::Word;
+use cg_netlist_placed::pin::PinWord;
 use std::alloc::{AllocError, Global};
 
 /// These words as pins with nets.

@@ -13,8 +13,8 @@ ghost use Rattle.cg_blif.specs.Resuming.{HasBounds, IsAt, Resumes, ResumesAt, Ta
 use crate::buffers::Buffers;
 use crate::cover::OpenCover;
 use crate::fault::Refusal;
+use crate::gate::add_gate;
 use crate::parts::{add_clocks, add_cover, add_inputs, add_latch, add_outputs};
-use crate::place::place;
 use crate::statement::statement_of;
 use cg_blif_text::fault::LineFault;
 use cg_blif_text::place::Place;
@@ -148,7 +148,7 @@ fn say<'a>(
             Ok(None)
         }
         Statement::Gate(cell, words) => {
-            place(alloc, library, builder, &cell, words.as_slice())?;
+            add_gate(alloc, library, builder, &cell, words.as_slice())?;
             Ok(None)
         }
         Statement::Skipped | Statement::End => Ok(None),

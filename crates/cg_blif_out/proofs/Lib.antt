@@ -1,4 +1,3 @@
 pub mod WritingLemmas
-pub mod PinLemmas
 pub mod WholeText
 pub mod WithinNetlist

@@ -21,7 +21,7 @@ use Rattle.cg_blif_out.specs.Writing.{HasDigit, register_text}
 use Rattle.cg_blif_text.specs.declared.statement.Statement.{Statement}
 use Rattle.cg_text.specs.Written.{line_text}
 use Rattle.cg_blif_out.proofs.WholeText.{slice_get-not_none}
-use Rattle.cg_blif_out.specs.Within.{AreNets, CellNets, GaterNets, IsNet, RegisterNets}
+use Rattle.cg_netlist_placed.specs.Within.{AreNets, CellNets, GaterNets, IsNet, RegisterNets}
 
 -- one of a list
 pub each_one : {X : Type 0} (P : X → Type 0) (xs : List X) (k : ℕ) (x : X) → AllByRecursion P xs → slice_get xs k ≡ Some x → P x

@@ -5,7 +5,7 @@ use Rattle.std.proofs.lemmas.Grind.{flat_map-append}
 use Rattle.std.proofs.lemmas.List.Folds.{flat_map-map}
 use Rattle.cg_text.specs.Written.{joined, line_text}
 use Rattle.cg_blif_text.specs.Canonical.{pin_text, place_byte, row_words}
-use Rattle.cg_blif_text.specs.PinWords.{PinNet}
+use Rattle.cg_netlist_placed.specs.PinNets.{PinNet}
 use Rattle.cg_blif_out.specs.Writing.{pins_text, rows_text, spaced}
 
 abbrev Word : Type 0

@@ -1,3 +1,1 @@
 pub mod Writing
-pub mod Within
-pub mod Pins

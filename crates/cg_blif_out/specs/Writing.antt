@@ -10,7 +10,7 @@ use Rattle.cg_netlist.specs.Wiring.{map_cell, map_gater, map_register}
 use Rattle.cg_blif_text.specs.declared.statement.Statement.{Statement}
 use Rattle.cg_blif_text.specs.declared.statement.Statement.TheVariants.{Model, Inputs, Outputs, Clocks, Latch}
 use Rattle.cg_blif_text.specs.Canonical.{cell_lines, gater_statement, pin_text, register_statement, row_words, statement_line}
-use Rattle.cg_blif_text.specs.PinWords.{PinNet}
+use Rattle.cg_netlist_placed.specs.PinNets.{PinNet}
 
 -- words, each behind a space
 abbrev pub spaced : List (List ℕ) → List ℕ

@@ -5,7 +5,6 @@
 //! The modules, in the order in which data flows through them:
 //!
 //! - [`words`]: names of nets, as the words of a line;
-//! - [`pins`]: the pins of a placed cell, with their nets;
 //! - [`statement`]: what the line of a part says;
 //! - [`line`]: a statement as a line;
 //! - [`rows`]: the rows of a cover;
@@ -15,7 +14,6 @@
 
 mod line;
 mod part_lines;
-mod pins;
 mod rows;
 mod statement;
 mod text;

@@ -7,8 +7,9 @@ ghost use Rattle.cg_blif_text.specs.Canonical.{pin_text, statement_line};
 ghost use Rattle.cg_blif_text.specs.declared.statement.Statement.TheVariants.{Names, Latch, Gate};
 ghost use Rattle.cg_blif_out.specs.Writing.{HasDigit, pins_text, spaced};
 
-use cg_blif_text::statement::{PinWord, Statement};
+use cg_blif_text::statement::Statement;
 use cg_blif_text::word::Word;
+use cg_netlist_placed::pin::PinWord;
 use std::alloc::AllocError;
 
 /// Appends the line of a statement. The init of a register is one digit.

@@ -10,17 +10,18 @@ ghost use Rattle.cg_netlist.specs.Wiring.{map_gater, map_register};
 ghost use Rattle.cg_net.specs.Names.{net_name};
 ghost use Rattle.cg_blif_text.specs.Canonical.{function_statement, gater_statement, kind_statement, register_statement};
 ghost use Rattle.cg_blif_text.specs.declared.statement.Statement.TheVariants.{Gate};
-ghost use Rattle.cg_blif_out.specs.Within.{CellNets, GaterNets, RegisterNets};
+ghost use Rattle.cg_netlist_placed.specs.Within.{CellNets, GaterNets, RegisterNets};
 
-use crate::pins::{flop_pins, gater_pins, logic_pins};
 use crate::words::{word, words};
-use cg_blif_text::statement::{PinWord, Statement};
+use cg_blif_text::statement::Statement;
 use cg_blif_text::word::Word;
 use cg_cell::cell::CellType;
 use cg_list::Seq;
 use cg_net::id::RegId;
 use cg_netlist::netlist::Netlist;
 use cg_netlist::view::{CellView, Function, GaterView, RegKind, RegView};
+use cg_netlist_placed::pin::PinWord;
+use cg_netlist_placed::pins::{flop_pins, gater_pins, logic_pins};
 use std::alloc::{AllocError, Global};
 
 /// What the line of a logic cell says; the rows of a cover stand behind it.

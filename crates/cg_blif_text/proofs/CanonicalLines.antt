@@ -1,6 +1,6 @@
 -- The canonical lines of parts tell the parts.
 use Rattle.std.proofs.Common.{◌≡◌, ℕ, ◌+◌, ◌≤◌, Bool, true, false, if◌then◌else◌, IsTrue, List, [], ◌∷◌, ◌++◌, map, length, Option}
-use Rattle.std.proofs.Common.{None, Some, Ok, Err, refl, ap, ◌∙◌, arith, codes}
+use Rattle.std.proofs.Common.{None, Some, Result, Ok, Err, refl, ap, ◌∙◌, arith, codes}
 use Rattle.std.specs.List.{AllByRecursion, flat_map}
 use Rattle.std.specs.Option.{option_to_list}
 use Rattle.std.proofs.lemmas.List.{append-nil}
@@ -23,15 +23,20 @@ use Rattle.cg_blif_text.specs.Commands.{are_row, command_of}
 use Rattle.cg_blif_text.specs.Latches.{control_of, latch_with}
 use Rattle.cg_blif_text.specs.Meaning.{behind, meant}
 use Rattle.cg_blif_text.specs.PinWords.{pin_net}
-use Rattle.cg_blif_text.specs.Placing.{placed_by}
+use Rattle.cg_netlist_placed.specs.declared.fault.PlacedFault.{PlacedFault}
+use Rattle.cg_netlist_placed.specs.declared.fault.PlacedFault.TheVariants.{PinFault}
+use Rattle.cg_netlist_placed.specs.PinNets.{PinNet}
+use Rattle.cg_netlist_placed.specs.Placed.{of_usable, placed_at, placed_by, usable}
+use Rattle.cg_cell.specs.Pins.{PinData}
+use Rattle.cg_blif_text.specs.Placing.{gate_at, gate_part, give_nets, one_part}
 use Rattle.cg_blif_text.specs.Telling.{go_on, latch_register, meant_at, no_rows, tell_blocks, tell_statement}
 use Rattle.cg_blif_text.proofs.CanonicalWords.{all_named, init_back, init_named, names_back, pin_words_named, row_named, row_row}
 use Rattle.cg_blif_text.proofs.CanonicalWords.{rows_back}
 use Rattle.cg_blif_text.proofs.LinesTell.{Says, Tell, command_told, line_tells, tell_both, tell_none}
-use Rattle.cg_blif_text.specs.Canonical.{pin_pairs}
+use Rattle.cg_netlist_placed.specs.PinsOf.{pin_pairs}
 use Rattle.cg_blif_text.proofs.PinPairs.{Word, pairs_of_words, pin_words}
-use Rattle.cg_blif_text.proofs.PlacedFlop.{IsNamed}
-use Rattle.cg_blif_text.proofs.WordsForPins.{AreNamed}
+use Rattle.cg_netlist_placed.proofs.WordsForPins.{IsNamed}
+use Rattle.cg_netlist_placed.proofs.WordsForPins.{AreNamed}
 use Rattle.cg_blif_text.proofs.WrittenLines.{IsWritten}
 
 -- the lines are written as names, and tell the parts
@@ -131,8 +136,21 @@ module _ (library : List CellData) where
 
   -- placed cells
 
+  pairs_give : (pins : List PinData) (nets : List (Option Word)) → give_nets (pin_pairs pins nets) ≡ true
+  pairs_give [] nets = refl
+  pairs_give (p ∷ pins) [] = refl
+  pairs_give (p ∷ pins) (None ∷ nets) = pairs_give pins nets
+  pairs_give (p ∷ pins) (Some net ∷ nets) = pairs_give pins nets
+
+  gate_so : (o : Option CellData) (words : List PinNet) (part : Part) → give_nets words ≡ true → placed_by o words ≡ Ok part → gate_part o words ≡ Ok part
+  gate_so o words part give is = go (usable o) is
+    where
+      go : (u : Result CellData PlacedFault) → of_usable u (λ c. placed_at c words) ≡ Ok part → of_usable u (gate_at words) ≡ Ok part
+      go (Ok cell) e = ap (λ b. if b then placed_at cell words else Err PinFault) give ∙ e
+      go (Err fault) e = absurd (cc)
+
   pub gate_tells : (cell : CellData) (nets : List (Option Word)) (part : Part) → IsCell cell → IsNamed cell.name → AllByRecursion (λ pin. IsTrue (is_name pin.name)) cell.pins → AreNamed nets
-      → placed_by (cell_named library cell.name) (pin_pairs cell.pins nets) ≡ Ok (part ∷ []) → Tells library (statement_line (gate_statement cell nets) ∷ []) (part ∷ [])
+      → placed_by (cell_named library cell.name) (pin_pairs cell.pins nets) ≡ Ok part → Tells library (statement_line (gate_statement cell nets) ∷ []) (part ∷ [])
   gate_tells cell nets part is name pins named said =
       let words : AllByRecursion IsNamed (statement_line (gate_statement cell nets)) = (refl, (name, pin_words_named cell.pins nets pins named)) in
       one_line (statement_line (gate_statement cell nets)) (Placed cell.name (map pin_net (pin_words cell.pins nets))) (part ∷ []) (omega arith) words
@@ -143,7 +161,7 @@ module _ (library : List CellData) where
         goes_on = refl;
         keeps = λ model. refl;
         covers = refl;
-        tells = ap (placed_by (cell_named library cell.name)) (pairs_of_words cell.pins nets is.unsplit) ∙ said;
+        tells = ap (λ ws. one_part (gate_part (cell_named library cell.name) ws)) (pairs_of_words cell.pins nets is.unsplit) ∙ ap one_part (gate_so (cell_named library cell.name) (pin_pairs cell.pins nets) part (pairs_give cell.pins nets) said);
       })
 
   -- plain registers

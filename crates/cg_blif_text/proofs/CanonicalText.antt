@@ -27,9 +27,9 @@ use Rattle.cg_blif_text.specs.declared.fault.LineFault.TheVariants.{BadLine}
 use Rattle.cg_blif_text.specs.declared.place.Place.TheVariants.{Named, Ended, First}
 use Rattle.cg_blif_text.specs.BlifText.{BlifText}
 use Rattle.cg_blif_text.specs.Blocks.{cut, put_in}
-use Rattle.cg_blif_text.specs.Canonical.{blif, canonical_lines, cell_lines, flop_nets, function_statement, gater_statement}
-use Rattle.cg_blif_text.specs.Canonical.{kind_statement, logic_nets, plain_statement, register_statement, rows_of, statement_line}
-use Rattle.cg_blif_text.specs.Canonical.{with_places}
+use Rattle.cg_blif_text.specs.Canonical.{blif, canonical_lines, cell_lines, function_statement, gater_statement}
+use Rattle.cg_blif_text.specs.Canonical.{kind_statement, plain_statement, register_statement, rows_of, statement_line}
+use Rattle.cg_netlist_placed.specs.PinsOf.{flop_nets, logic_nets, with_places}
 use Rattle.cg_blif_text.specs.Commands.{command_of}
 use Rattle.cg_blif_text.specs.Latches.{control_of}
 use Rattle.cg_blif_text.specs.Meaning.{behind}
@@ -39,13 +39,13 @@ use Rattle.cg_blif_text.proofs.CanonicalLines.{Tells, both_tell, clock_tells, co
 use Rattle.cg_blif_text.proofs.CanonicalLines.{inputs_tell, latch_tells, outputs_tell, written_both}
 use Rattle.cg_blif_text.proofs.CanonicalWords.{all_named}
 use Rattle.cg_blif_text.proofs.LinesTell.{numbered-append}
-use Rattle.cg_blif_text.proofs.NetsAtPins.{gater_nets, gater_said}
+use Rattle.cg_netlist_placed.proofs.NetsAtPins.{gater_nets}
 use Rattle.cg_blif_text.proofs.PinPairs.{Word}
-use Rattle.cg_blif_text.proofs.PlacedFlop.{IsNamed, flop_named, flop_said, shown_named}
-use Rattle.cg_blif_text.proofs.PlacedLogic.{cell_said, gater_named, nets_named}
+use Rattle.cg_netlist_placed.proofs.PlacedFlop.{flop_named, flop_placed, shown_named}
+use Rattle.cg_netlist_placed.proofs.PlacedLogic.{gater_is_placed, gater_named, logic_named, logic_placed}
 use Rattle.cg_blif_text.proofs.SameSaid.{one_netlist}
 use Rattle.cg_blif_text.proofs.WithinLimits.{all_with}
-use Rattle.cg_blif_text.proofs.WordsForPins.{pins_are}
+use Rattle.cg_netlist_placed.proofs.WordsForPins.{IsNamed}
 use Rattle.cg_blif_text.proofs.WrittenLines.{IsWritten, written_lines}
 
 -- the name of a cell, and those of its pins
@@ -60,8 +60,8 @@ module _ (library : List CellData) (names : (cell : CellData) → IsCell cell �
   function_tells inputs output (Cover cover) ins out fits line = cover_tells library inputs output cover ins out line fits.over.0 fits.over.1
   function_tells inputs output (Cell cell) ins out fits line =
       let own = names cell fits.over.0 in
-      gate_tells library cell (logic_nets cell.pins inputs output) (Logic (record { inputs = inputs; output = output; function = Cell cell })) fits.over.0 own.0 own.1 (nets_named cell.pins inputs output ins out)
-      (cell_said library inputs output cell fits.over ins out line)
+      gate_tells library cell (logic_nets cell.pins inputs output) (Logic (record { inputs = inputs; output = output; function = Cell cell })) fits.over.0 own.0 own.1 (logic_named cell.pins inputs output ins out)
+      (logic_placed library inputs output cell fits.over ins out line)
 
   cell_tells : (cell : LogicCell Word) → IsPart (Logic cell) → IsLine library (Logic cell) → Tells library (cell_lines cell) (Logic cell ∷ [])
   cell_tells cell part line =
@@ -72,7 +72,7 @@ module _ (library : List CellData) (names : (cell : CellData) → IsCell cell �
   gater_tells g part line =
       let own = names g.cell part.fits.0 in
       let nets = gater_named g part.named g.cell.pins in
-      gate_tells library g.cell (gater_nets g g.cell.pins) (Gate g) part.fits.0 own.0 own.1 nets (gater_said g library part.fits line (pins_are g.cell.pins (gater_nets g g.cell.pins) part.fits.0.distinct nets))
+      gate_tells library g.cell (gater_nets g g.cell.pins) (Gate g) part.fits.0 own.0 own.1 nets (gater_is_placed library g part line)
 
   -- a plain register, on the clock that its word says
   plain_tells : (ins : List Word) (outs : List (Word × Bool)) (pins : List ℕ) (clock : Word) (init : ℕ) → length ins ≡ 1 → map (λ (o : Word × Bool). o.1) outs ≡ false ∷ [] → pins ≡ 0 ∷ []
@@ -112,7 +112,7 @@ module _ (library : List CellData) (names : (cell : CellData) → IsCell cell �
         let own = names cell fits.0 in
         gate_tells library cell (flop_nets 0 cell.pins r.inputs r.clock (with_places r.outputs r.pins)) (Register (register_as (Flop cell))) fits.0 own.0 own.1
         (flop_named 0 cell.pins r.inputs r.clock (with_places r.outputs r.pins) ins clk (shown_named r.outputs r.pins outs))
-        (flop_said library (register_as (Flop cell)) cell r.clock refl refl fits named line)
+        (flop_placed library (register_as (Flop cell)) cell r.clock refl refl fits named line)
 
     register_tells : IsPart (register_part is_on_nil r) → IsLine library (register_part is_on_nil r) → Tells library (statement_line (register_statement r) ∷ []) (register_part is_on_nil r ∷ [])
     register_tells part line = kind_tells r.kind part.fits.kind part.fits.init part.named line.0

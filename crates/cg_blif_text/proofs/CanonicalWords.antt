@@ -24,8 +24,8 @@ use Rattle.cg_blif_text.specs.Meaning.{front, last, names_line}
 use Rattle.cg_blif_text.specs.PinWords.{pin_word}
 use Rattle.cg_blif_text.specs.Rows.{cover_from, keeps_value, put_places, put_row, row_of, row_place, row_places, row_with, value_of}
 use Rattle.cg_blif_text.proofs.PinPairs.{Word, pin_words}
-use Rattle.cg_blif_text.proofs.PlacedFlop.{IsNamed}
-use Rattle.cg_blif_text.proofs.WordsForPins.{AreNamed}
+use Rattle.cg_netlist_placed.proofs.WordsForPins.{IsNamed}
+use Rattle.cg_netlist_placed.proofs.WordsForPins.{AreNamed}
 use Rattle.cg_blif_text.proofs.WrittenLines.{EndsWell, last_of, name_bytes, name_ends}
 
 -- names

@@ -18,8 +18,8 @@ use Rattle.cg_blif_text.specs.declared.command.Command.{Command}
 use Rattle.cg_blif_text.specs.declared.command.Command.TheVariants as commands
 use Rattle.cg_blif_text.specs.declared.fault.BlifFault.{BlifFault}
 use Rattle.cg_blif_text.specs.declared.fault.LineFault.{LineFault}
-use Rattle.cg_blif_text.specs.declared.fault.LineFault.TheVariants.{BadLine, BadCover, BadLatch, UnknownCell, UnusableCell}
-use Rattle.cg_blif_text.specs.declared.fault.LineFault.TheVariants.{PinFault, SecondModel, Limit as Passed}
+use Rattle.cg_blif_text.specs.declared.fault.LineFault.TheVariants.{BadLine, BadCover, BadLatch, Placed, SecondModel, Limit as Passed}
+use Rattle.cg_netlist_placed.specs.declared.fault.PlacedFault.TheVariants.{UnknownCell, UnusableCell, PinFault}
 use Rattle.cg_blif_text.specs.declared.place.Place.{Place}
 use Rattle.cg_blif_text.specs.declared.place.Place.TheVariants.{First, Unnamed, Named, Ended}
 use Rattle.cg_blif_text.specs.declared.statement.Statement.{Statement}
@@ -253,7 +253,7 @@ module _ (library : List CellData) where
     module _ (named : list_all is_name line.words ≡ true) (row : are_row line.words ≡ true) (form : form_of line.words ≡ Row line.words) (o : CoverSoFar) (some : after.cover ≡ Some o) where
       abbrev row_answers : Bool → List (LineFault × Bool)
       row_answers bad =
-          (BadLine, false) ∷ (BadCover, bad) ∷ (BadLatch, false) ∷ (UnknownCell, false) ∷ (UnusableCell, false) ∷ (PinFault, false) ∷ (SecondModel, false)
+          (BadLine, false) ∷ (BadCover, bad) ∷ (BadLatch, false) ∷ (Placed UnknownCell, false) ∷ (Placed UnusableCell, false) ∷ (Placed PinFault, false) ∷ (SecondModel, false)
           ∷ (Passed CoverInputs, false) ∷ (Passed Nets, nat_lt 1048576 (length told.said.nets)) ∷ (Passed Registers, nat_lt 65536 (length told.said.registers)) ∷ []
 
       rows_are : (standing lines told).rows ≡ Some (record { inputs = length o.inputs; on = o.on })

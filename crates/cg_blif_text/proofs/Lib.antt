@@ -1,12 +1,7 @@
 pub mod JoinedWords
 pub mod WrittenLines
 pub mod PinPairs
-pub mod NetsAtPins
-pub mod WordsForPins
-pub mod PlacedLogic
-pub mod PlacedFlop
 pub mod SameSaid
-pub mod PlacedFits
 pub mod MeantNames
 pub mod RowsFit
 pub mod ToldIsTaken

@@ -17,8 +17,9 @@ use Rattle.cg_netlist_parts.specs.Writable.{cell_named}
 use Rattle.cg_blif_text.specs.declared.command.Command.{Command}
 use Rattle.cg_blif_text.specs.declared.command.Command.TheVariants as commands
 use Rattle.cg_blif_text.specs.declared.fault.LineFault.{LineFault}
-use Rattle.cg_blif_text.specs.declared.fault.LineFault.TheVariants.{BadLine, BadCover, BadLatch, UnknownCell, UnusableCell}
-use Rattle.cg_blif_text.specs.declared.fault.LineFault.TheVariants.{PinFault, SecondModel, Limit as Passed}
+use Rattle.cg_blif_text.specs.declared.fault.LineFault.TheVariants.{BadLine, BadCover, BadLatch, Placed, SecondModel, Limit as Passed}
+use Rattle.cg_netlist_placed.specs.declared.fault.PlacedFault.TheVariants.{UnknownCell, UnusableCell, PinFault}
+use Rattle.cg_netlist_placed.specs.Placed.{are_for_pins, nets_at, of_usable, part_or, placed_part, usable_as}
 use Rattle.cg_blif_text.specs.declared.place.Place.{Place}
 use Rattle.cg_blif_text.specs.declared.place.Place.TheVariants.{First, Unnamed, Named, Ended}
 use Rattle.cg_blif_text.specs.declared.statement.Statement.{Statement}
@@ -27,8 +28,9 @@ use Rattle.cg_blif_text.specs.Latches.{control_of, latch_line, latch_with}
 use Rattle.cg_blif_text.specs.LineFaults.{OpenRows, Order, Standing, first_of, form_faults, gives_pins, is_init, is_no_kind}
 use Rattle.cg_blif_text.specs.LineFaults.{is_register, is_rising, parts_meant, parts_or_none}
 use Rattle.cg_blif_text.specs.Meaning.{behind, front, last}
-use Rattle.cg_blif_text.specs.PinWords.{PinNet, pin_net}
-use Rattle.cg_blif_text.specs.Placing.{are_for_pins, nets_at, part_or, placed_as, placed_by, placed_part}
+use Rattle.cg_netlist_placed.specs.PinNets.{PinNet}
+use Rattle.cg_blif_text.specs.PinWords.{pin_net}
+use Rattle.cg_blif_text.specs.Placing.{gate_at, gate_part, give_nets, one_part}
 use Rattle.cg_blif_text.specs.Telling.{meant_at, no_rows, said_by, unless, with_parts, with_said}
 use Rattle.cg_blif_text.proofs.WithinLimits.{more_names}
 
@@ -148,7 +150,7 @@ module _ (library : List CellData) (rows : Option OpenRows) (s : Said) (none : l
   -- the table with these answers
   abbrev answers : Bool → Bool → Bool → Bool → Bool → Bool → Bool → Said → List (LineFault × Bool)
   answers line latch unknown unusable pins model inputs t =
-      (BadLine, line) ∷ (BadCover, false) ∷ (BadLatch, latch) ∷ (UnknownCell, unknown) ∷ (UnusableCell, unusable) ∷ (PinFault, pins) ∷ (SecondModel, model)
+      (BadLine, line) ∷ (BadCover, false) ∷ (BadLatch, latch) ∷ (Placed UnknownCell, unknown) ∷ (Placed UnusableCell, unusable) ∷ (Placed PinFault, pins) ∷ (SecondModel, model)
       ∷ (Passed CoverInputs, inputs) ∷ (Passed Nets, over t) ∷ (Passed Registers, crowded t) ∷ []
 
   pub nothing : first_of ((Passed Nets, over s) ∷ (Passed Registers, crowded s) ∷ []) ≡ None
@@ -233,23 +235,27 @@ module _ (library : List CellData) (rows : Option OpenRows) (s : Said) (none : l
   latches words Ended = latch_cases (IsLatch Ended true) (λ i o c n. refl) refl words
 
   -- placed cells
-  fits : (b : Bool) (part : Option Part)
-      → first_of (answers false false false false (not (b && is_some part)) false false (fold with_part s (parts_or_none (if b then part_or part else Err PinFault)))) ≡ err_of (with_said s (if b then part_or part else Err PinFault))
-  fits true None = refl
-  fits true (Some part) = two_limits (with_part s part)
-  fits false part = refl
+  abbrev part_at : Bool → Bool → Option Part → Result (List Part) LineFault
+  part_at given own part = one_part (if given then (if own then part_or part else Err PinFault) else Err PinFault)
+
+  fits : (given own : Bool) (part : Option Part)
+      → first_of (answers false false false false (not (given && own && is_some part)) false false (fold with_part s (parts_or_none (part_at given own part)))) ≡ err_of (with_said s (part_at given own part))
+  fits true true None = refl
+  fits true true (Some part) = two_limits (with_part s part)
+  fits true false part = refl
+  fits false own part = refl
 
   kinds : (kind : CellKind) (cell : CellData) (words : List PinNet)
-      → first_of (answers false false false (is_no_kind kind) (not (are_for_pins cell.pins words && is_some (placed_part kind cell (nets_at cell.pins words)))) false false (fold with_part s (parts_or_none (placed_as kind cell words))))
-      ≡ err_of (with_said s (placed_as kind cell words))
-  kinds LogicKind cell words = fits (are_for_pins cell.pins words) (placed_part LogicKind cell (nets_at cell.pins words))
-  kinds FlopKind cell words = fits (are_for_pins cell.pins words) (placed_part FlopKind cell (nets_at cell.pins words))
-  kinds GaterKind cell words = fits (are_for_pins cell.pins words) (placed_part GaterKind cell (nets_at cell.pins words))
+      → first_of (answers false false false (is_no_kind kind) (not (gives_pins cell words)) false false (fold with_part s (parts_or_none (one_part (of_usable (usable_as kind cell) (gate_at words))))))
+      ≡ err_of (with_said s (one_part (of_usable (usable_as kind cell) (gate_at words))))
+  kinds LogicKind cell words = fits (give_nets words) (are_for_pins cell.pins words) (placed_part cell.kind cell (nets_at cell.pins words))
+  kinds FlopKind cell words = fits (give_nets words) (are_for_pins cell.pins words) (placed_part cell.kind cell (nets_at cell.pins words))
+  kinds GaterKind cell words = fits (give_nets words) (are_for_pins cell.pins words) (placed_part cell.kind cell (nets_at cell.pins words))
   kinds Unusable cell words = refl
 
   found : (o : Option CellData) (words : List PinNet)
-      → first_of (answers false false (is_none o) (option_map_or (λ c. is_no_kind c.kind) o false) (option_map_or (λ c. not (gives_pins c words)) o false) false false (fold with_part s (parts_or_none (placed_by o words))))
-      ≡ err_of (with_said s (placed_by o words))
+      → first_of (answers false false (is_none o) (option_map_or (λ c. is_no_kind c.kind) o false) (option_map_or (λ c. not (gives_pins c words)) o false) false false (fold with_part s (parts_or_none (one_part (gate_part o words)))))
+      ≡ err_of (with_said s (one_part (gate_part o words)))
   found None words = refl
   found (Some cell) words = kinds cell.kind cell words
 

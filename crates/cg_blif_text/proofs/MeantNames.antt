@@ -25,7 +25,7 @@ use Rattle.cg_blif_text.specs.Latches.{control_of, init_of, latch_line, latch_ty
 use Rattle.cg_blif_text.specs.Meaning.{behind, front, last, meant, names_line}
 use Rattle.cg_blif_text.specs.PinWords.{pin_net}
 use Rattle.cg_blif_text.proofs.PinPairs.{Word}
-use Rattle.cg_blif_text.proofs.PlacedFlop.{IsNamed}
+use Rattle.cg_netlist_placed.proofs.WordsForPins.{IsNamed}
 
 -- the words of a statement are names; a `.names` line has no more inputs than a cover may have, a `.latch` line an init of at
 -- most 3 and no clock of the name `NIL`

@@ -5,7 +5,8 @@ use Rattle.std.specs.List.{AllByRecursion, list_all}
 use Rattle.std.proofs.lemmas.Bool.{and_parts, not-true}
 use Rattle.cg_cell.specs.Name.{has_no_equals}
 use Rattle.cg_cell.specs.Pins.{PinData}
-use Rattle.cg_blif_text.specs.Canonical.{pin_pairs, pin_text}
+use Rattle.cg_blif_text.specs.Canonical.{pin_text}
+use Rattle.cg_netlist_placed.specs.PinsOf.{pin_pairs}
 use Rattle.cg_blif_text.specs.PinWords.{pin_net, pin_word, put_byte}
 
 abbrev pub Word : Type 0

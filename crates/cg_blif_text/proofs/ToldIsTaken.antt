@@ -1,10 +1,8 @@
 -- What a text tells is said by parts that a builder takes and that lines can say.
 use Rattle.std.proofs.Common.{◌≡◌, ℕ, Bool, true, false, if◌then◌else◌, List, [], ◌∷◌, ◌++◌, map, length, Option, None, Some}
 use Rattle.std.proofs.Common.{Result, Ok, Err, refl, sym, ap, ◌∙◌, subst, arith}
-use Rattle.std.specs.List.{AllByRecursion, find}
+use Rattle.std.specs.List.{AllByRecursion}
 use Rattle.std.specs.Option.{option_to_list}
-use Rattle.std.specs.Str.{bytes_eq}
-use Rattle.std.proofs.lemmas.Option.{same_Some}
 use Rattle.cg_cell.specs.Cell.{CellData, IsCell}
 use Rattle.cg_cell.specs.Cover.{CoverData, CoverFits, IsCover}
 use Rattle.cg_limit.specs.declared.Limit.{Limit}
@@ -14,9 +12,8 @@ use Rattle.cg_netlist.specs.Circuit.{Circuit}
 use Rattle.cg_netlist_parts.specs.Part.{Part, Input, Output, Clock, Logic, Register}
 use Rattle.cg_netlist_parts.specs.Said.{Said, limit_of, said, with_part}
 use Rattle.cg_netlist_parts.specs.Says.{IsPart}
-use Rattle.cg_netlist_parts.specs.Writable.{IsLine, IsWritable, cell_named}
+use Rattle.cg_netlist_parts.specs.Writable.{IsLine, IsPlaceablePart, IsWritable, cell_named}
 use Rattle.cg_netlist.proofs.Each.{each_together}
-use Rattle.cg_netlist_parts.proofs.KnownNames.{same_word}
 use Rattle.cg_netlist_parts.proofs.SaidIsWritable.{said_is_writable}
 use Rattle.cg_netlist_parts.proofs.SaidMore.{said_more}
 use Rattle.cg_blif_text.specs.declared.fault.BlifFault.{BlifFault}
@@ -30,15 +27,19 @@ use Rattle.cg_blif_text.specs.BlifText.{BlifText, told_by}
 use Rattle.cg_blif_text.specs.Blocks.{Block, cut}
 use Rattle.cg_blif_text.specs.LogicalLines.{text_lines}
 use Rattle.cg_blif_text.specs.Meaning.{meant}
-use Rattle.cg_blif_text.specs.PinWords.{PinNet}
-use Rattle.cg_blif_text.specs.Placing.{placed_by}
+use Rattle.cg_netlist_placed.specs.PinNets.{PinNet}
+use Rattle.cg_netlist_placed.specs.declared.fault.PlacedFault.{PlacedFault}
+use Rattle.cg_netlist_placed.specs.declared.fault.PlacedFault.TheVariants.{PinFault}
+use Rattle.cg_netlist_placed.specs.Laws.{kind_cell, part_cell}
+use Rattle.cg_netlist_placed.specs.Placed.{of_usable, placed_at, placed_by, usable}
+use Rattle.cg_blif_text.specs.Placing.{gate_at, gate_part, give_nets, one_part}
 use Rattle.cg_blif_text.specs.Telling.{Told, cover_or_none, go_on, latch_register, meant_at, next_model, rows_behind, said_by}
 use Rattle.cg_blif_text.specs.Telling.{tell_block, tell_blocks, tell_clock, tell_cut, tell_lines, tell_more, tell_parts}
 use Rattle.cg_blif_text.specs.Telling.{tell_statement, unless, untold, with_parts, with_said}
 use Rattle.cg_blif_text.proofs.MeantNames.{IsMade, meant_made}
 use Rattle.cg_blif_text.proofs.PinPairs.{Word}
-use Rattle.cg_blif_text.proofs.PlacedFits.{placed_fits}
-use Rattle.cg_blif_text.proofs.PlacedFlop.{IsNamed}
+use Rattle.cg_netlist_placed.proofs.PlacedFits.{placed_fits}
+use Rattle.cg_netlist_placed.proofs.WordsForPins.{IsNamed}
 use Rattle.cg_blif_text.proofs.RowsFit.{cover_fits}
 use Rattle.cg_blif_text.proofs.SameSaid.{says_alike}
 
@@ -82,20 +83,31 @@ module _ (library : List CellData) (cells : AllByRecursion IsCell library) where
       let rest = each_net wrap fits line nets all.1 in
       record { each = (fits net all.0, rest.each); lines = (line net, rest.lines) }
 
-  found_cell : (name : Word) (cell : CellData) → (all : List CellData) → AllByRecursion IsCell all → find (λ c. bytes_eq name c.name) all ≡ Some cell → IsCell cell × (name ≡ cell.name)
-  found_cell name cell [] are is = absurd (cc)
-  found_cell name cell (c ∷ cs) are is = go (bytes_eq name c.name) refl is (found_cell name cell cs are.1)
+  -- a `.gate` line says what a placed cell is
+  placed_so : (o : Option CellData) (words : List PinNet) (part : Part) → gate_part o words ≡ Ok part → placed_by o words ≡ Ok part
+  placed_so o words part is = go (usable o) is
     where
-      go : (b : Bool) → bytes_eq name c.name ≡ b → (if b then Some c else find (λ d. bytes_eq name d.name) cs) ≡ Some cell → (find (λ d. bytes_eq name d.name) cs ≡ Some cell → IsCell cell × (name ≡ cell.name)) → IsCell cell × (name ≡ cell.name)
-      go true e q back = let same : c ≡ cell = same_Some c cell q in (subst IsCell same are.0, same_word name c.name e ∙ ap (λ (d : CellData). d.name) same)
-      go false e q back = back q
+      at_cell : (b : Bool) (r : Result Part PlacedFault) → (if b then r else Err PinFault) ≡ Ok part → r ≡ Ok part
+      at_cell true r e = e
+      at_cell false r e = absurd (cc)
 
-  gate_lines : (name : Word) (words : List PinNet) (o : Option CellData) → cell_named library name ≡ o → (parts : List Part) → placed_by o words ≡ Ok parts → AreLines parts
-  gate_lines name words None found parts is = absurd (cc)
-  gate_lines name words (Some cell) found parts is =
-      let known = found_cell name cell library cells found in
-      let fits = placed_fits library cell known.0 (ap (cell_named library) (sym known.1) ∙ found) words parts is in
-      record { each = fits.0; lines = fits.1 }
+      go : (u : Result CellData PlacedFault) → of_usable u (gate_at words) ≡ Ok part → of_usable u (λ c. placed_at c words) ≡ Ok part
+      go (Ok cell) e = at_cell (give_nets words) (placed_at cell words) e
+      go (Err fault) e = absurd (cc)
+
+  -- and what a placed cell is a line can say
+  cell_line : (part : Part) (cell : CellData) → part_cell part ≡ Some cell → IsPlaceablePart library part → IsLine library part
+  cell_line (Register r) cell of placed = (placed, λ plain. let none : ◌≡◌ {A = Option CellData} None (Some cell) = sym (ap kind_cell plain) ∙ of in cc)
+  cell_line part cell of placed = placed
+
+  gate_lines : (name : Word) (words : List PinNet) (parts : List Part) → one_part (gate_part (cell_named library name) words) ≡ Ok parts → AreLines parts
+  gate_lines name words parts is = go (gate_part (cell_named library name) words) refl is
+    where
+      go : (r : Result Part PlacedFault) → gate_part (cell_named library name) words ≡ r → one_part r ≡ Ok parts → AreLines parts
+      go (Err fault) e q = absurd (cc)
+      go (Ok part) e q =
+          let fits = placed_fits library name words part cells (placed_so (cell_named library name) words part e) in
+          lines_as (part ∷ []) parts (record { each = (fits.is_part, tt); lines = (cell_line part fits.cell fits.of_cell fits.placeable, tt) }) q
 
   -- the cover of a statement's rows
   abbrev IsCoverOf : Statement → CoverData → Type 0
@@ -120,7 +132,7 @@ module _ (library : List CellData) (cells : AllByRecursion IsCell library) where
         each = (record { named = (made.0, (made.1, made.2)); fits = record { kind = (refl, refl, refl); pins = refl; init = made.4 } }, tt);
         lines = ((tt, λ plain. made.3), tt);
       }) is
-  statement_lines (Gate cell words) cover parts made fits is = gate_lines cell words (cell_named library cell) refl parts is
+  statement_lines (Gate cell words) cover parts made fits is = gate_lines cell words parts is
   statement_lines Skipped cover parts made fits is = lines_as [] parts (record { each = tt; lines = tt }) is
   statement_lines End cover parts made fits is = lines_as [] parts (record { each = tt; lines = tt }) is
 

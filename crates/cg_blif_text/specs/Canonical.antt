@@ -1,10 +1,9 @@
 -- The canonical text of a netlist.
-use Rattle.std.specs.Prelude.{ℕ, ◌+◌, Bool, true, false, if◌then◌else◌, nat_eq, List, [], ◌∷◌, ◌++◌, map, codes, drop, slice_get}
+use Rattle.std.specs.Prelude.{ℕ, ◌+◌, Bool, true, false, List, [], ◌∷◌, ◌++◌, map, codes}
 use Rattle.std.specs.Prelude.{slice_index_or, unwrap_or, Option, None, Some}
 use Rattle.std.specs.List.{flat_map}
 use Rattle.std.specs.Option.{option_to_list}
 use Rattle.cg_cell.specs.Cell.{CellData}
-use Rattle.cg_cell.specs.Pins.{PinData, is_clock, is_enable, is_output, is_state, is_test}
 use Rattle.cg_text.specs.Written.{text_of}
 use Rattle.cg_netlist.specs.declared.parts.LogicFunction.{LogicFunction}
 use Rattle.cg_netlist.specs.declared.parts.LogicFunction.TheVariants.{Cover, Cell}
@@ -17,8 +16,9 @@ use Rattle.cg_netlist_parts.specs.Writable.{NIL}
 use Rattle.cg_blif_text.specs.declared.statement.Statement.{Statement}
 use Rattle.cg_blif_text.specs.declared.statement.Statement.TheVariants.{Model, Inputs, Outputs, Clocks, Names, Latch, Gate, Skipped}
 use Rattle.cg_blif_text.specs.declared.statement.Statement.TheVariants.{End}
-use Rattle.cg_blif_text.specs.PinWords.{PinNet, pin_word}
-use Rattle.cg_blif_text.specs.Placing.{Shown}
+use Rattle.cg_netlist_placed.specs.PinNets.{PinNet}
+use Rattle.cg_netlist_placed.specs.PinsOf.{flop_nets, gater_net, logic_nets, pin_pairs, with_places}
+use Rattle.cg_blif_text.specs.PinWords.{pin_word}
 
 -- a bit as a byte; a place of a row as a byte, which is `-` where the row leaves the input open
 abbrev pub bit_byte : Bool → ℕ
@@ -33,13 +33,6 @@ place_byte (Some bit) = bit_byte bit
 abbrev pub row_words : Bool → List (Option Bool) → List (List ℕ)
 row_words on [] = (bit_byte on ∷ []) ∷ []
 row_words on (place ∷ places) = map place_byte (place ∷ places) ∷ (bit_byte on ∷ []) ∷ []
-
--- the pins that have nets, with these, in pin order
-abbrev pub pin_pairs : List PinData → List (Option NetName) → List PinNet
-pin_pairs [] nets = []
-pin_pairs (pin ∷ pins) [] = []
-pin_pairs (pin ∷ pins) (None ∷ nets) = pin_pairs pins nets
-pin_pairs (pin ∷ pins) (Some net ∷ nets) = record { pin = pin.name; net = Some net } ∷ pin_pairs pins nets
 
 -- a pin with its net as a word
 abbrev pub pin_text : PinNet → List ℕ
@@ -61,41 +54,6 @@ statement_line End = codes ".end" ∷ []
 -- a placed cell with these nets at its pins
 abbrev pub gate_statement : CellData → List (Option NetName) → Statement
 gate_statement cell nets = Gate cell.name (pin_pairs cell.pins nets)
-
--- the nets at the pins of a logic cell: the output at its output pin, and the inputs, in their order, at the others
-abbrev pub logic_nets : List PinData → List NetName → NetName → List (Option NetName)
-logic_nets [] inputs output = []
-logic_nets (pin ∷ pins) [] output = (if is_output pin then Some output else None) ∷ logic_nets pins [] output
-logic_nets (pin ∷ pins) (input ∷ inputs) output =
-    if is_output pin then Some output ∷ logic_nets pins (input ∷ inputs) output else Some input ∷ logic_nets pins inputs output
-
--- the net at a pin of a gating cell
-abbrev pub gater_net : GatingCell NetName → PinData → Option NetName
-gater_net gater pin =
-    if is_clock pin then Some gater.clock else if is_enable pin then Some gater.enable else if is_test pin then gater.test
-    else if is_output pin then Some gater.output else None
-
--- the nets at the pins of a register: the clock at its clock pin, each output that is shown at its pin, and the inputs, in their
--- order, at the others
-abbrev pub net_here : ℕ → List Shown → Option NetName
-net_here place [] = None
-net_here place (output ∷ outputs) = if nat_eq place output.1 then Some output.0.0 else None
-
-abbrev pub left_here : ℕ → List Shown → List Shown
-left_here place [] = []
-left_here place (output ∷ outputs) = if nat_eq place output.1 then outputs else output ∷ outputs
-
-abbrev pub flop_nets : ℕ → List PinData → List NetName → NetName → List Shown → List (Option NetName)
-flop_nets place [] inputs clock shown = []
-flop_nets place (pin ∷ pins) inputs clock shown =
-    if is_clock pin then Some clock ∷ flop_nets (place + 1) pins inputs clock shown
-    else if is_state pin then net_here place shown ∷ flop_nets (place + 1) pins inputs clock (left_here place shown)
-    else slice_get inputs 0 ∷ flop_nets (place + 1) pins (drop 1 inputs) clock shown
-
-abbrev pub with_places : List (NetName × Bool) → List ℕ → List Shown
-with_places [] places = []
-with_places (output ∷ outputs) [] = []
-with_places (output ∷ outputs) (place ∷ places) = (output, place) ∷ with_places outputs places
 
 -- a logic cell, a gating cell and a register as statements; the rows of a cover stand behind it
 abbrev pub function_statement : List NetName → NetName → LogicFunction → Statement

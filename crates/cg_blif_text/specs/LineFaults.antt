@@ -20,15 +20,17 @@ use Rattle.cg_blif_text.specs.declared.command.Command.{Command}
 use Rattle.cg_blif_text.specs.declared.command.Command.TheVariants.{Model, Names, Latch, Gate, End, Other}
 use Rattle.cg_blif_text.specs.declared.fault.BlifFault.{BlifFault}
 use Rattle.cg_blif_text.specs.declared.fault.LineFault.{LineFault}
-use Rattle.cg_blif_text.specs.declared.fault.LineFault.TheVariants.{BadLine, BadCover, BadLatch, UnknownCell, UnusableCell}
-use Rattle.cg_blif_text.specs.declared.fault.LineFault.TheVariants.{PinFault, SecondModel, Limit}
+use Rattle.cg_blif_text.specs.declared.fault.LineFault.TheVariants.{BadLine, BadCover, BadLatch, Placed, SecondModel, Limit}
+use Rattle.cg_netlist_placed.specs.declared.fault.PlacedFault.TheVariants.{UnknownCell, UnusableCell, PinFault}
+use Rattle.cg_netlist_placed.specs.PinNets.{PinNet}
+use Rattle.cg_netlist_placed.specs.Placed.{are_for_pins, nets_at, placed_part}
 use Rattle.cg_blif_text.specs.declared.place.Place.{Place}
 use Rattle.cg_blif_text.specs.declared.place.Place.TheVariants.{First, Unnamed, Named, Ended}
 use Rattle.cg_blif_text.specs.declared.statement.Statement.{Statement}
 use Rattle.cg_blif_text.specs.Commands.{are_row, command_of}
 use Rattle.cg_blif_text.specs.Meaning.{behind}
-use Rattle.cg_blif_text.specs.PinWords.{PinNet, pin_net}
-use Rattle.cg_blif_text.specs.Placing.{are_for_pins, nets_at, placed_part}
+use Rattle.cg_blif_text.specs.PinWords.{pin_net}
+use Rattle.cg_blif_text.specs.Placing.{give_nets}
 use Rattle.cg_blif_text.specs.Rows.{keeps_value, row_of}
 use Rattle.cg_blif_text.specs.Telling.{Told, at, no_rows, said_by, tell_lines}
 
@@ -112,7 +114,8 @@ is_unusable library (Order Gate (cell ∷ words)) = option_map_or (λ c. is_no_k
 is_unusable library form = false
 
 abbrev pub gives_pins : CellData → List PinNet → Bool
-gives_pins cell words = are_for_pins cell.pins words && is_some (placed_part cell.kind cell (nets_at cell.pins words))
+gives_pins cell words =
+    give_nets words && are_for_pins cell.pins words && is_some (placed_part cell.kind cell (nets_at cell.pins words))
 
 abbrev pub is_pin_fault : List CellData → Form → Bool
 is_pin_fault library (Order Gate (cell ∷ words)) =
@@ -153,9 +156,9 @@ form_faults library at_line named form =
     (BadLine, not named || breaks_form form || is_misplaced form at_line.place || is_lone_row form at_line.rows)
     ∷ (BadCover, is_bad_row form at_line.rows)
     ∷ (BadLatch, is_bad_latch form)
-    ∷ (UnknownCell, is_unknown library form)
-    ∷ (UnusableCell, is_unusable library form)
-    ∷ (PinFault, is_pin_fault library form)
+    ∷ (Placed UnknownCell, is_unknown library form)
+    ∷ (Placed UnusableCell, is_unusable library form)
+    ∷ (Placed PinFault, is_pin_fault library form)
     ∷ (SecondModel, is_second_model form at_line.place)
     ∷ (Limit CoverInputs, has_many_inputs form)
     ∷ (Limit Nets, nat_lt MOST_NETS (length (said_with library at_line.said form).nets))

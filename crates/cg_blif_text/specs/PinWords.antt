@@ -1,11 +1,8 @@
 -- The words of a `.gate` line behind the cell.
-use Rattle.std.specs.Prelude.{ℕ, ◌==◌, if◌then◌else◌, List, [], ◌∷◌, ◌++◌, Option, None, Some}
+use Rattle.std.specs.Prelude.{ℕ, ◌==◌, if◌then◌else◌, List, [], ◌∷◌, ◌++◌, None, Some}
+use Rattle.cg_netlist_placed.specs.PinNets.{PinNet}
 
 -- the name of a pin, and the net behind the first `=`, or none where there is no `=`
-pub record PinNet : Type 0 where
-  pub pin : List ℕ
-  pub net : Option (List ℕ)
-
 abbrev pub put_byte : ℕ → PinNet → PinNet
 put_byte byte word = record { pin = byte ∷ word.pin; net = word.net }
 

@@ -14,15 +14,15 @@ use Rattle.cg_netlist_parts.specs.Writable.{cell_named}
 use Rattle.cg_blif_text.specs.declared.fault.BlifFault.{BlifFault}
 use Rattle.cg_blif_text.specs.declared.fault.BlifFault.TheVariants as faults
 use Rattle.cg_blif_text.specs.declared.fault.LineFault.{LineFault}
-use Rattle.cg_blif_text.specs.declared.fault.LineFault.TheVariants.{BadLine, BadCover, BadLatch, UnknownCell, UnusableCell}
-use Rattle.cg_blif_text.specs.declared.fault.LineFault.TheVariants.{PinFault, SecondModel, Limit as Passed}
+use Rattle.cg_blif_text.specs.declared.fault.LineFault.TheVariants.{BadLine, BadCover, BadLatch, Placed, SecondModel, Limit as Passed}
+use Rattle.cg_netlist_placed.specs.declared.fault.PlacedFault.TheVariants.{UnknownCell, UnusableCell, PinFault}
 use Rattle.cg_blif_text.specs.declared.place.Place.{Place}
 use Rattle.cg_blif_text.specs.declared.place.Place.TheVariants.{First, Unnamed, Named, Ended}
 use Rattle.cg_blif_text.specs.declared.statement.Statement.{Statement}
 use Rattle.cg_blif_text.specs.declared.statement.Statement.TheVariants.{Model, Inputs, Outputs, Clocks, Names, Latch, Gate, End}
 use Rattle.cg_blif_text.specs.Blocks.{Block, cut}
 use Rattle.cg_blif_text.specs.Meaning.{meant}
-use Rattle.cg_blif_text.specs.Placing.{placed_by}
+use Rattle.cg_blif_text.specs.Placing.{gate_part, one_part}
 use Rattle.cg_blif_text.specs.Rows.{cover_of}
 
 -- the fault of the line of a number; a limit has no line
@@ -30,9 +30,9 @@ abbrev pub at : ℕ → LineFault → BlifFault
 at number BadLine = faults.BadLine number
 at number BadCover = faults.BadCover number
 at number BadLatch = faults.BadLatch number
-at number UnknownCell = faults.UnknownCell number
-at number UnusableCell = faults.UnusableCell number
-at number PinFault = faults.PinFault number
+at number (Placed UnknownCell) = faults.UnknownCell number
+at number (Placed UnusableCell) = faults.UnusableCell number
+at number (Placed PinFault) = faults.PinFault number
 at number SecondModel = faults.SecondModel number
 at number (Passed limit) = faults.Limit limit
 
@@ -88,7 +88,7 @@ said_by library cover (Outputs nets) = Ok (map (λ net. Output net) nets)
 said_by library cover (Clocks nets) = Ok (map (λ net. Clock net) nets)
 said_by library cover (Names inputs output) = Ok (Logic (record { inputs = inputs; output = output; function = Cover cover }) ∷ [])
 said_by library cover (Latch input output clock init) = Ok (Register (latch_register input output clock init) ∷ [])
-said_by library cover (Gate cell words) = placed_by (cell_named library cell) words
+said_by library cover (Gate cell words) = one_part (gate_part (cell_named library cell) words)
 said_by library cover statement = Ok []
 
 -- one part after another, as far as no limit is passed

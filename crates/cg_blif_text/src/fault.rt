@@ -5,6 +5,7 @@ ghost use Rattle.cg_blif_text.specs.declared.fault.BlifFault.TheVariants.{NoMemo
 
 use cg_limit::Limit;
 use cg_netlist_parts::fault::NetFault;
+use cg_netlist_placed::fault::PlacedFault;
 use std::alloc::{AllocError, AllocFailed};
 use thiserror::Error;
 
@@ -21,15 +22,8 @@ pub enum LineFault {
     /// A `.latch` line has the wrong number of words, another type than `re`, or an init other than 0 to 3.
     BadLatch,
 
-    /// The library does not have the placed cell.
-    UnknownCell,
-
-    /// The library's cell of that name cannot be placed.
-    UnusableCell,
-
-    /// A word without `=`, or for no pin, or for a pin that was given before, or with a net that has no name; or a pin
-    /// that has to be given is not.
-    PinFault,
+    /// The placed cell is no part; a word without `=` is a fault of the pins.
+    Placed(PlacedFault),
 
     /// A second `.model` line, or one behind the `.end` line.
     SecondModel,

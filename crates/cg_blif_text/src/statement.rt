@@ -2,26 +2,7 @@
 
 use crate::word::Word;
 use cg_list::Seq;
-use std::marker::Model;
-
-/// A word of a `.gate` line: the name of a pin, and the net behind the first `=`, or none where there is no `=`.
-#[derive(Debug, Drop)]
-pub struct PinWord<'a> {
-    /// What stands before the first `=`.
-    pub pin: &'a [u8],
-
-    /// What stands behind it.
-    pub net: Option<&'a [u8]>,
-}
-
-impl<'a> Model for PinWord<'a> {
-    ghost use Rattle.std.specs.Option.{option_copied};
-    ghost use Rattle.cg_blif_text.specs.PinWords.{PinNet};
-
-    ghost Value = { PinNet };
-
-    ghost view = { λ w. record { pin = w.pin.now; net = option_copied w.net } };
-}
+use cg_netlist_placed::pin::PinWord;
 
 /// What a line says, by the names of the nets. A row of a cover is no statement: it belongs to the `.names` line before
 /// it.

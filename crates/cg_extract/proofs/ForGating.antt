@@ -21,7 +21,7 @@ use Rattle.cg_extract.proofs.LiftedOfUngated.{lifted_same}
 use Rattle.cg_extract.proofs.OwnKept.{own_kept}
 use Rattle.cg_extract.proofs.Renumbered.{none_found}
 use Rattle.cg_extract.proofs.BareParts.{outputs_once}
-use Rattle.cg_extract.specs.Laws.{BareIsNetlist, BareIsWritable, LiftedAsks, LiftedOfUngated, LiftedOwn, LiftedShowsNets}
+use Rattle.cg_extract.specs.Laws.{BareIsNetlist, BareIsPlaceable, LiftedAsks, LiftedOfUngated, LiftedOwn, LiftedShowsNets}
 use Rattle.cg_extract.specs.Laws.{UnrefusedHasNoTests}
 use Rattle.cg_extract.specs.Lifted.{bare, is_refused, kept_nets, number_of, on_clock, ungated}
 
@@ -54,19 +54,18 @@ bare_is_netlist c whole = (
   },
 )
 
-pub bare_is_writable : BareIsWritable
-bare_is_writable library c writable =
+pub bare_is_placeable : BareIsPlaceable
+bare_is_placeable library c placeable =
     let f : ℕ → ℕ = number_of c in
     record {
-      netlist = bare_netlist c writable.netlist;
-      outputs_once = outputs_once c writable.netlist writable.outputs_once;
+      netlist = bare_netlist c placeable.netlist;
+      outputs_once = outputs_once c placeable.netlist placeable.outputs_once;
       functions = All-map (λ (cell : LogicCell ℕ). FunctionIsOf library (length cell.inputs) cell.function) (map_cell f) c.cells
           (All-weaker (λ (cell : LogicCell ℕ). FunctionIsOf library (length cell.inputs) cell.function) (λ (cell : LogicCell ℕ). FunctionIsOf library (length (map f cell.inputs)) cell.function)
-          (λ cell is. subst (λ k. FunctionIsOf library k cell.function) (sym (length-map cell.inputs f)) is) c.cells writable.functions);
+          (λ cell is. subst (λ k. FunctionIsOf library k cell.function) (sym (length-map cell.inputs f)) is) c.cells placeable.functions);
       gating = All-nil (λ (gater : GatingCell ℕ). IsOf library gater.cell);
       kinds = All-map (λ (r : RegisterCell ℕ ℕ). KindIsOf library r.init r.kind) (map_register f) (map (on_clock c) c.registers)
-          (All-map (λ (r : RegisterCell ℕ ℕ). KindIsOf library r.init r.kind) (on_clock c) c.registers writable.kinds);
-      clocks = λ k d below plain gate. absurd (both_ways false refl gate);
+          (All-map (λ (r : RegisterCell ℕ ℕ). KindIsOf library r.init r.kind) (on_clock c) c.registers placeable.kinds);
     }
 
 pub lifted_own : LiftedOwn

@@ -10,7 +10,7 @@ use Rattle.cg_netlist.specs.Moment.{Settles}
 use Rattle.cg_netlist.specs.Netlist.{IsNetlist}
 use Rattle.cg_netlist.specs.Wiring.{named}
 use Rattle.cg_net.specs.Names.{net_name}
-use Rattle.cg_netlist_parts.specs.Writable.{IsWritable}
+use Rattle.cg_netlist_parts.specs.Writable.{IsPlaceable}
 use Rattle.cg_machine.specs.Added.{HasNames, own_netlist}
 use Rattle.cg_machine.specs.Machine.{IsMachine, MachineData, enable_of, values}
 use Rattle.cg_machine.specs.Run.{shown_from, states_from}
@@ -36,7 +36,7 @@ LiftedIsRun = (c : Circuit) (prefix : List ℕ) → CanExtract c prefix → HasN
     → (map (λ now. now.state) history ≡ states_from (lifted c prefix) None start wave)
     × (outputs_of c history ≡ shown_from (lifted c prefix) None start wave)
 
--- The netlist that is left is one, and is writable with the cells with which the netlist is. By the names of their nets, its parts
+-- The netlist that is left is one, and is placeable with the cells with which the netlist is. By the names of their nets, its parts
 -- are those of the netlist without gating cells, and its data inputs are those of the netlist.
 pub record KeepsNames (c : Circuit) : Type 0 where
   pub parts : named (bare c) ≡ named (ungated c)
@@ -45,8 +45,8 @@ pub record KeepsNames (c : Circuit) : Type 0 where
 abbrev pub BareIsNetlist : Type 0
 BareIsNetlist = (c : Circuit) → IsNetlist c → IsNetlist (bare c) × KeepsNames c
 
-abbrev pub BareIsWritable : Type 0
-BareIsWritable = (library : List CellData) (c : Circuit) → IsWritable library c → IsWritable library (bare c)
+abbrev pub BareIsPlaceable : Type 0
+BareIsPlaceable = (library : List CellData) (c : Circuit) → IsPlaceable library c → IsPlaceable library (bare c)
 
 -- this netlist is the machine's own, and the gates of chains have names that are made of the prefix, in order of addition
 pub record HasOwn (c : Circuit) (start : List ℕ) (m : MachineData) : Type 0 where

@@ -23,7 +23,7 @@ use Rattle.cg_netlist.specs.Circuit.{Circuit, data_inputs}
 use Rattle.cg_netlist.specs.History.{IsLawful, IsStart, IsWaveform, Moment, Tick}
 use Rattle.cg_netlist.specs.Netlist.{IsNetlist}
 use Rattle.cg_netlist.specs.WellFormed.{IsWellFormed}
-use Rattle.cg_netlist_parts.specs.Writable.{IsWritable}
+use Rattle.cg_netlist_parts.specs.Writable.{IsPlaceable, IsWritable}
 use Rattle.cg_netlist.proofs.Histories.{has_history, has_one_history}
 use Rattle.cg_plan_laws.specs.Plan.{Plan, plan_of}
 use Rattle.cg_plan_laws.proofs.AllSafe.{each_fits, plans_safe}
@@ -43,7 +43,7 @@ use Rattle.cg_gate.specs.declared.texts.Texts.{Texts}
 use Rattle.cg_gate.proofs.Counted.{counts}
 use Rattle.cg_gate.proofs.Deserved.{exactly_worthy}
 use Rattle.cg_gate.proofs.Leads.{plan_leads}
-use Rattle.cg_extract.proofs.ForGating.{bare_is_netlist, bare_is_writable}
+use Rattle.cg_extract.proofs.ForGating.{bare_is_netlist, bare_is_placeable}
 use Rattle.cg_gate.proofs.MayInsert.{may_gate}
 use Rattle.cg_gate.proofs.TestedWaves.{IsTested, tested_wave}
 use Rattle.cg_gate.proofs.Unrefused.{untested}
@@ -98,7 +98,7 @@ module _ (request : RequestData) (says : Option Saying) (read : Circuit) (texts 
   is_writable =
       let own : IsNetlist (own_netlist n) = subst IsNetlist (sym (keeps_netlist by read may.start)) (bare_is_netlist read may.start.netlist).0 in
       let small : insertion_limit request.test n ≡ None = ap (insertion_limit request.test) (sym machine_is) ∙ gives.gated.fits in
-      writable request.library request.test n good_planned inserts own small gives.written is proper.found (subst (IsWritable request.library) (sym (keeps_netlist by read may.start)) (bare_is_writable request.library read may.writable))
+      writable request.library request.test n good_planned inserts own small gives.written is proper.found (subst (IsPlaceable request.library) (sym (keeps_netlist by read may.start)) (bare_is_placeable request.library read may.writable.placeable))
 
   says_it : BlifText texts.out request.library None gives.written
   says_it = subst (λ text. BlifText text request.library None w) (sym gives.gives.out) (says_itself request.library w is_writable)

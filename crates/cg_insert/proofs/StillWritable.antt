@@ -1,4 +1,4 @@
--- The inserted netlist is writable where the machine's own netlist is.
+-- The inserted netlist is writable where the machine's own netlist is placeable.
 use Rattle.std.proofs.Common.{◌≡◌, ◌≢◌, ℕ, suc, ◌+◌, ◌-◌, ◌<◌, Bool, true, false, List, [], ◌∷◌, ◌++◌, map, length}
 use Rattle.std.proofs.Common.{take, slice_get, unwrap_or, Option, Some, nat_eq, refl, ap, sym, ◌∙◌, subst, inl, inr}
 use Rattle.std.proofs.Common.{arith, length-append}
@@ -30,7 +30,7 @@ use Rattle.cg_netlist.specs.WellFormed.{IsWellFormed}
 use Rattle.cg_netlist.specs.declared.parts.RegisterKind.TheVariants.{Plain}
 use Rattle.cg_net.specs.Names.{NetName, net_name}
 use Rattle.cg_netlist.specs.Wiring.{map_cell, map_gater, map_register}
-use Rattle.cg_netlist_parts.specs.Writable.{FunctionIsOf, IsOf, IsWritable, KindIsOf, NIL}
+use Rattle.cg_netlist_parts.specs.Writable.{FunctionIsOf, IsOf, IsPlaceable, IsWritable, KindIsOf, NIL}
 use Rattle.cg_insert.proofs.GatedCells.{found_All}
 use Rattle.cg_insert.proofs.GatedForm.{gated_formed, inputs_once}
 use Rattle.cg_insert.proofs.GatedParts.{few_names, gates_are}
@@ -44,7 +44,7 @@ each_place P [] at = tt
 each_place P (x ∷ xs) at = (at 0 x refl, each_place P xs (λ k y y_at. at (suc k) y y_at))
 
 module _ (library : List CellData) (test : Option (List ℕ)) (m : MachineData) (good : IsMachine m) (can : CanInsert library test m) (whole : IsNetlist (inserted library test m)) (once_out : IsDistinct nat_eq (inserted library test m).outputs)
-    (its : AllByRecursion (IsOf library) library) (own : IsWritable library (own_netlist m)) where
+    (its : AllByRecursion (IsOf library) library) (own : IsPlaceable library (own_netlist m)) where
   abbrev g : Circuit
   g = gated library test m
 
@@ -119,10 +119,12 @@ module _ (library : List CellData) (test : Option (List ℕ)) (m : MachineData) 
 
   pub still_writable : IsWritable library (inserted library test m)
   still_writable = record {
-    netlist = whole;
-    outputs_once = once_out;
-    functions = from_recursion Of (inserted library test m).cells (renumbered_of g.cells (each_together Of (take m.own_cells m.circuit.cells) (map (placed_gate library) m.gates) (by_recursion Of (take m.own_cells m.circuit.cells) own.functions) gates_of));
-    gating = from_recursion (λ (h : GatingCell ℕ). IsOf library h.cell) (inserted library test m).gaters (gaters_of (enables_of m) (gate_outputs test m) (λ e among. found_of (gating_kind test) (can.gater (some_enable e among))));
-    kinds = from_recursion Kind (inserted library test m).registers (kinds_of m.circuit.registers m.enables (each_place Kind m.circuit.registers own_kind));
+    placeable = record {
+      netlist = whole;
+      outputs_once = once_out;
+      functions = from_recursion Of (inserted library test m).cells (renumbered_of g.cells (each_together Of (take m.own_cells m.circuit.cells) (map (placed_gate library) m.gates) (by_recursion Of (take m.own_cells m.circuit.cells) own.functions) gates_of));
+      gating = from_recursion (λ (h : GatingCell ℕ). IsOf library h.cell) (inserted library test m).gaters (gaters_of (enables_of m) (gate_outputs test m) (λ e among. found_of (gating_kind test) (can.gater (some_enable e among))));
+      kinds = from_recursion Kind (inserted library test m).registers (kinds_of m.circuit.registers m.enables (each_place Kind m.circuit.registers own_kind));
+    };
     clocks = from_recursion Clocked (inserted library test m).registers (each_place Clocked (inserted library test m).registers (λ k r at. clocked r));
   }

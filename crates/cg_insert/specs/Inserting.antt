@@ -10,7 +10,7 @@ use Rattle.cg_netlist.specs.History.{IsLawful, IsWaveform, Moment, Tick}
 use Rattle.cg_netlist.specs.Netlist.{IsNetlist}
 use Rattle.cg_netlist.specs.declared.fault.AddFault.{AddFault}
 use Rattle.cg_netlist.specs.declared.fault.AddFault.TheVariants.{Limit as LimitFault}
-use Rattle.cg_netlist_parts.specs.Writable.{IsWritable}
+use Rattle.cg_netlist_parts.specs.Writable.{IsPlaceable, IsWritable}
 use Rattle.cg_insert.specs.Insert.{inserted, insertion_limit}
 use Rattle.cg_insert.specs.Insertion.{IsRunOf}
 
@@ -32,6 +32,6 @@ abbrev pub RunsAs : List CellData → Option (List ℕ) → MachineData → Circ
 RunsAs library test m c = (start : List Bool) (wave : List Tick) (history : List Moment) → IsState m start → IsWaveform c wave →
     IsLawful c start wave history → IsRunOf library test m start wave history
 
--- it is writable with the library if the machine's own netlist is
+-- it is writable with the library if the machine's own netlist is placeable
 abbrev pub StaysWritable : List CellData → MachineData → Circuit → Type 0
-StaysWritable library m c = IsWritable library (own_netlist m) → IsWritable library c
+StaysWritable library m c = IsPlaceable library (own_netlist m) → IsWritable library c

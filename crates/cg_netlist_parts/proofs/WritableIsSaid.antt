@@ -53,14 +53,14 @@ module _ (library : List CellData) (c : Circuit) (is : IsWritable library c) whe
   left_each (r ∷ rs) carried apart = (left_at r carried.0 apart.0, left_each rs carried.1 apart.1)
 
   left : AllByRecursion IsLeft (named c).registers
-  left = left_each c.registers (by_recursion (λ (r : RegisterCell ℕ ℕ). is_in (clock_nets c) r.clock ≡ true) c.registers is.netlist.well_formed.clocked)
+  left = left_each c.registers (by_recursion (λ (r : RegisterCell ℕ ℕ). is_in (clock_nets c) r.clock ≡ true) c.registers is.placeable.netlist.well_formed.clocked)
       (by_recursion (λ (r : RegisterCell ℕ ℕ). r.kind ≡ Plain → is_in (gate_nets c) r.clock ≡ true → name r.clock ≢ NIL) c.registers is.clocks)
 
   pub line_parts_taken : AreTaken c.model (line_parts c)
-  line_parts_taken = taken_own c is_on_nil is.netlist is.outputs_once left
+  line_parts_taken = taken_own c is_on_nil is.placeable.netlist is.placeable.outputs_once left
 
   pub line_parts_say : Says c.model (line_parts c) c
-  line_parts_say = says_own c is_on_nil is.netlist is.outputs_once left
+  line_parts_say = says_own c is_on_nil is.placeable.netlist is.placeable.outputs_once left
 
   abbrev Line : Part → Type 0
   Line p = IsLine library p
@@ -103,6 +103,6 @@ module _ (library : List CellData) (c : Circuit) (is : IsWritable library c) whe
       (each_together Line (p1 is_on_nil (named c) ++ p2 is_on_nil (named c)) (p3 is_on_nil (named c))
       (each_together Line (p1 is_on_nil (named c)) (p2 is_on_nil (named c)) (nothing_asked (λ net. Input net) (λ x. tt) (named c).inputs) (nothing_asked (λ net. Output net) (λ x. tt) (named c).outputs))
       (nothing_asked (λ net. Clock net) (λ x. tt) (option_to_list (named c).clock)))
-      (wrapped (λ k. Logic k) (named c).cells (cell_lines c.cells (by_recursion (λ (k : LogicCell ℕ). FunctionIsOf library (length k.inputs) k.function) c.cells is.functions))))
-      (wrapped (λ g. Gate g) (named c).gaters (gater_lines c.gaters (by_recursion (λ (g : GatingCell ℕ). IsOf library g.cell) c.gaters is.gating))))
-      (wrapped (register_part is_on_nil) (named c).registers (register_lines c.registers (by_recursion (λ (r : RegisterCell ℕ ℕ). KindIsOf library r.init r.kind) c.registers is.kinds)))
+      (wrapped (λ k. Logic k) (named c).cells (cell_lines c.cells (by_recursion (λ (k : LogicCell ℕ). FunctionIsOf library (length k.inputs) k.function) c.cells is.placeable.functions))))
+      (wrapped (λ g. Gate g) (named c).gaters (gater_lines c.gaters (by_recursion (λ (g : GatingCell ℕ). IsOf library g.cell) c.gaters is.placeable.gating))))
+      (wrapped (register_part is_on_nil) (named c).registers (register_lines c.registers (by_recursion (λ (r : RegisterCell ℕ ℕ). KindIsOf library r.init r.kind) c.registers is.placeable.kinds)))

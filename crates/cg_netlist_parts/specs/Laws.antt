@@ -11,7 +11,7 @@ use Rattle.cg_netlist_parts.specs.Said.{said, with_part}
 use Rattle.cg_netlist_parts.specs.Says.{AreTaken, Says, netlist_of, parts_from, parts_of}
 use Rattle.cg_net.specs.Names.{NetName}
 use Rattle.cg_netlist.specs.Wiring.{named}
-use Rattle.cg_netlist_parts.specs.Writable.{IsLine, IsWritable, line_parts}
+use Rattle.cg_netlist_parts.specs.Writable.{IsLine, IsPlaceable, IsPlaceablePart, IsWritable, line_parts}
 
 -- parts say at most one netlist
 abbrev pub AtMostOne : Type 0
@@ -52,6 +52,11 @@ SaidByItsParts =
     (c : Circuit) (leaves : RegisterCell NetName NetName → Bool) → IsNetlist c → IsDistinct nat_eq c.outputs →
     AllByRecursion (λ r. leaves r ≡ true → (named c).clock ≡ Some r.clock) (named c).registers
     → AreTaken c.model (parts_from leaves (named c)) × Says c.model (parts_from leaves (named c)) c
+
+-- a netlist that taken parts say is placeable, if each of the parts can be placed
+abbrev pub SaidIsPlaceable : Type 0
+SaidIsPlaceable = (library : List CellData) (model : List ℕ) (parts : List Part) (c : Circuit) → AreTaken model parts →
+    AllByRecursion (IsPlaceablePart library) parts → Says model parts c → IsPlaceable library c
 
 -- a netlist that taken parts say is writable, if each of the parts is one that a line can say
 abbrev pub SaidIsWritable : Type 0

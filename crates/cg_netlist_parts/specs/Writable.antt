@@ -1,4 +1,4 @@
--- Netlists that a text of lines can say, with the cells of a library.
+-- Netlists whose parts can be placed with the cells of a library, and those among them that a text of lines can say.
 use Rattle.std.specs.Prelude.{◌≡◌, ◌≢◌, ◌≤◌, ◌&&◌, ℕ, Bool, true, false, List, length, nat_eq, codes, Option, Some}
 use Rattle.std.specs.List.{All, IsDistinct, find}
 use Rattle.std.specs.Str.{bytes_eq}
@@ -51,23 +51,32 @@ is_on_nil r = is_plain r.kind && bytes_eq r.clock NIL
 abbrev pub line_parts : Circuit → List Part
 line_parts c = parts_from is_on_nil (named c)
 
--- a part that a line can say: each input, output and clock; a logic cell that is a cover of at most 256 inputs or a cell of the
--- library; a gating cell of the library; a register of the library with the init 3, or a plain one whose clock is not called `NIL`
-abbrev pub IsLine : List CellData → Part → Type 0
-IsLine library (Logic cell) = FunctionIsOf library (length cell.inputs) cell.function
-IsLine library (Gate gater) = IsOf library gater.cell
-IsLine library (Register r) = KindIsOf library r.init r.kind × (r.kind ≡ Plain → r.clock ≢ Some NIL)
-IsLine library part = Unit {0}
+-- a part that can be placed: each input, output and clock; a logic cell that is a cover of at most 256 inputs or a cell of the
+-- library; a gating cell of the library; a plain register, or one of the library with the init 3
+abbrev pub IsPlaceablePart : List CellData → Part → Type 0
+IsPlaceablePart library (Logic cell) = FunctionIsOf library (length cell.inputs) cell.function
+IsPlaceablePart library (Gate gater) = IsOf library gater.cell
+IsPlaceablePart library (Register r) = KindIsOf library r.init r.kind
+IsPlaceablePart library part = Unit {0}
 
--- A netlist is writable: it is well formed, in net order and within the limits, no net is an output twice, each cover has at
--- most 256 inputs, each placed cell is the library's of its name, each register of a library has the init 3, and no gating
--- cell's output with the name `NIL` is the clock of a plain register.
-pub record IsWritable (library : List CellData) (c : Circuit) : Type 0 where
+-- a part that a line can say: one that can be placed, and is no plain register whose clock is called `NIL`
+abbrev pub IsLine : List CellData → Part → Type 0
+IsLine library (Register r) = IsPlaceablePart library (Register r) × (r.kind ≡ Plain → r.clock ≢ Some NIL)
+IsLine library part = IsPlaceablePart library part
+
+-- A netlist is placeable: it is well formed, in net order and within the limits, no net is an output twice, each cover has at
+-- most 256 inputs, each placed cell is the library's of its name, and each register of a library has the init 3.
+pub record IsPlaceable (library : List CellData) (c : Circuit) : Type 0 where
   pub netlist : IsNetlist c
   pub outputs_once : IsDistinct nat_eq c.outputs
   pub functions : All (λ cell. FunctionIsOf library (length cell.inputs) cell.function) c.cells
   pub gating : All (λ gater. IsOf library gater.cell) c.gaters
   pub kinds : All (λ register. KindIsOf library register.init register.kind) c.registers
+
+-- A netlist is writable: it is placeable, and no gating cell's output with the name `NIL` is the clock of a plain register, of
+-- which no line could say so.
+pub record IsWritable (library : List CellData) (c : Circuit) : Type 0 where
+  pub placeable : IsPlaceable library c
   pub clocks : All
       (λ register. register.kind ≡ Plain → is_in (gate_nets c) register.clock ≡ true →
       net_name c.names register.clock ≢ NIL) c.registers

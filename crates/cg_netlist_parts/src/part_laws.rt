@@ -3,7 +3,7 @@
 //! Each law is what a call ensures that does nothing: so it is proved as every contract is, and callers can use it.
 
 ghost use Rattle.cg_netlist_parts.specs.Laws.{AtLeastOne, AtMostOne, FaultOrNone, NoFault, NoneBeside, OneFault, OwnParts};
-ghost use Rattle.cg_netlist_parts.specs.Laws.{SaidByItsParts, SaidIsNetlist, SaidIsWritable, SaidMore, WritableIsSaid};
+ghost use Rattle.cg_netlist_parts.specs.Laws.{SaidByItsParts, SaidIsNetlist, SaidIsPlaceable, SaidIsWritable, SaidMore, WritableIsSaid};
 
 /// Parts that have no fault say one netlist, and parts that have one say none.
 pub fn one_netlist_said()
@@ -28,6 +28,11 @@ pub fn said_by_own_parts()
 /// What parts say is a netlist.
 pub fn said_is_netlist()
     ensures { SaidIsNetlist }
+{}
+
+/// What parts that can be placed say is placeable.
+pub fn placed_is_placeable()
+    ensures { SaidIsPlaceable }
 {}
 
 /// The writable netlists are those that parts say of which each is one that a line can say.

@@ -96,7 +96,7 @@ may_gate library clock wanted text c stimulus named tested found played =
     let proper = netlist_proper library clock text c found.said in
     let writable = text_is_writable library proper.cells clock text c proper.named (netlist_says library clock text c found.said) in
     record {
-      start = record { netlist = writable.netlist; outputs_once = writable.outputs_once; named = named; new = (found.gateable).new };
+      start = record { netlist = writable.placeable.netlist; outputs_once = writable.placeable.outputs_once; named = named; new = (found.gateable).new };
       lifts = (found.gateable).lifts;
       writable = writable;
       tested = tested;

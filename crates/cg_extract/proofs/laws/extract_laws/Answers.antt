@@ -1,5 +1,5 @@
 use Rattle.cg_extract.proofs.laws.extract_laws.Goals as goal
-use Rattle.cg_extract.proofs.ForGating.{bare_is_netlist, bare_is_writable, lifted_asks, lifted_of_ungated, lifted_own}
+use Rattle.cg_extract.proofs.ForGating.{bare_is_netlist, bare_is_placeable, lifted_asks, lifted_of_ungated, lifted_own}
 use Rattle.cg_extract.proofs.ForGating.{lifted_shows_nets, unrefused_untested}
 use Rattle.cg_extract.proofs.LiftedMachine.{lifted_is_machine, lifted_is_small}
 use Rattle.cg_extract.proofs.LiftedRun.{lifted_is_run}
@@ -10,7 +10,7 @@ returns c = record {
   small = lifted_is_small;
   run = lifted_is_run;
   netlist = bare_is_netlist;
-  writable = bare_is_writable;
+  placeable = bare_is_placeable;
   own = lifted_own;
   asks = lifted_asks;
   ungated = lifted_of_ungated;

@@ -1,6 +1,0 @@
-use Rattle.std.proofs.Common.{◌≡◌, drop}
-use Rattle.cg_blif_text.specs.Placing.{given}
-use Rattle.cg_blif.proofs.pins.given.Given as goal
-
-abbrev pub invariant-words : goal.invariant-words
-invariant-words l = given (drop l.word-index l.words) l.pin ≡ given l.words l.pin

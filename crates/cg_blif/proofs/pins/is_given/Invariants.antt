@@ -1,6 +1,0 @@
-use Rattle.std.proofs.Common.{◌≡◌, drop}
-use Rattle.cg_blif.specs.Roles.{is_given}
-use Rattle.cg_blif.proofs.pins.is_given.Given as goal
-
-abbrev pub invariant-words : goal.invariant-words
-invariant-words l = is_given (drop l.word-index l.words) l.name ≡ is_given l.words l.name

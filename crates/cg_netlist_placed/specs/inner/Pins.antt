@@ -1,0 +1,23 @@
+-- The pins of placed cells, one by one.
+use Rattle.std.specs.Prelude.{ℕ, List, [], ◌∷◌, drop, map, Option, None, Some}
+use Rattle.cg_cell.specs.Pins.{PinData}
+use Rattle.cg_netlist.specs.Circuit.{RegisterCell}
+use Rattle.cg_net.specs.Names.{NetName, net_name}
+use Rattle.cg_netlist.specs.Wiring.{map_outputs}
+use Rattle.cg_netlist_placed.specs.PinsOf.{flop_nets, with_places}
+use Rattle.cg_netlist_placed.specs.PinNets.{PinNet}
+
+-- a pin with its net
+abbrev pub pin_pair : PinData → NetName → List PinNet
+pin_pair pin net = record { pin = pin.name; net = Some net } ∷ []
+
+-- a pin with its net, if it has one
+abbrev pub one_pair : PinData → Option NetName → List PinNet
+one_pair pin None = []
+one_pair pin (Some net) = pin_pair pin net
+
+-- the nets at the pins of a register from a place on, so many inputs and so many outputs being at pins before it
+abbrev pub seen_nets : List NetName → RegisterCell ℕ ℕ → ℕ → List PinData → ℕ → ℕ → List (Option NetName)
+seen_nets names r place pins inputs outputs =
+    flop_nets place pins (map (net_name names) (drop inputs r.inputs)) (net_name names r.clock)
+    (with_places (map_outputs (net_name names) (drop outputs r.outputs)) (drop outputs r.pins))

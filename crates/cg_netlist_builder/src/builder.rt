@@ -1,7 +1,7 @@
 //! Building netlists, part by part, nets by their names.
 
-ghost use Rattle.std.specs.Prelude.{◌≡◌, ◌<◌, ◌^◌, None, IfOk, IsTrue, MatchResult, count_by, length, map};
-ghost use Rattle.std.specs.List.{AllByRecursion};
+ghost use Rattle.std.specs.Prelude.{◌≡◌, ◌<◌, ◌≤◌, ◌^◌, None, IfOk, IsTrue, MatchResult, count_by, length, map};
+ghost use Rattle.std.specs.List.{All, AllByRecursion};
 ghost use Rattle.std.specs.Option.{option_copied, option_to_list};
 ghost use Rattle.cg_cell.specs.Cover.{CoverFits};
 ghost use Rattle.cg_cell.specs.Name.{is_name};
@@ -10,6 +10,7 @@ ghost use Rattle.cg_cell.specs.declared.cell.CellKind.TheVariants.{Gater as Gate
 ghost use Rattle.cg_netlist_builder.specs.Calls.{cell_of, gater_of, register_of};
 ghost use Rattle.cg_netlist.specs.WellFormed.{RegisterFits};
 ghost use Rattle.cg_netlist.specs.declared.parts.LogicFunction.TheVariants.{Cell as PlacedCell, Cover as CoverFunction};
+ghost use Rattle.cg_netlist_builder.specs.Inits.{with_inits};
 ghost use Rattle.cg_netlist_builder.specs.Building.{Finishes, Takes, fresh};
 ghost use Rattle.cg_netlist_builder.specs.inner.Words.{part_said};
 ghost use Rattle.cg_netlist_parts.specs.Says.{IsPart};
@@ -21,6 +22,7 @@ use crate::parts::Parts;
 use cg_cell::cell::CellType;
 use cg_cell::cover::Cover;
 use cg_cell::name::Name;
+use cg_net::names::NetNames;
 use cg_netlist::fault::AddFault;
 use cg_netlist::netlist::Netlist;
 use cg_netlist_parts::fault::NetFault;
@@ -180,6 +182,18 @@ impl Builder {
             clock,
             init,
         }))
+    }
+
+    /// Gives inits to plain registers by the nets that they show, as if they had been said with them: each that shows a net
+    /// of these names gets the init at the place of that name, and every other one keeps its own. No call of this builder
+    /// was refused.
+    pub fn give_inits(&mut self, nets: &NetNames, inits: &[u8])
+        requires open { self.old.refused ≡ None }
+        requires each { length inits.now ≡ length nets.now }
+        requires inits { All (λ init. init ≤ 3) inits.now }
+        ensures { self.new ≡ record self.old { said = with_inits nets.now inits.now self.old.said } }
+    {
+        self.parts.give_inits(nets, inits);
     }
 
     /// The netlist that the parts say, or the first fault of them. No call of this builder was refused.

@@ -10,6 +10,7 @@
 //! - `mention`: mentioning nets by their names.
 //! - `part_words`: parts as they are told, by the names of their nets.
 //! - `adding`: adding one part.
+//! - `inits`: inits that plain registers are given behind all parts.
 //! - `parts`: the parts so far, by the numbers of their nets.
 //! - `builder`: building netlists, part by part.
 //! - `renumber`: parts with other numbers for their nets.
@@ -21,6 +22,7 @@
 mod adding;
 pub mod builder;
 mod finish;
+mod inits;
 mod marks;
 mod mention;
 mod open_register;

@@ -2,11 +2,13 @@
 
 ghost use Rattle.std.specs.Prelude.{◌≡◌, ◌≤◌, MatchResult, length};
 ghost use Rattle.cg_limit.specs.declared.TheConstants.{MOST_REGISTERS};
+ghost use Rattle.cg_netlist_builder.specs.Inits.{init_given};
 ghost use Rattle.cg_netlist_builder.specs.inner.Heard.{Fails, Hears, no_numbers};
-ghost use Rattle.cg_netlist_builder.specs.inner.Numbers.{AreNumbers};
+ghost use Rattle.cg_netlist_builder.specs.inner.Numbers.{AreNumbers, numbers_with};
 ghost use Rattle.cg_netlist_builder.specs.inner.Words.{part_said};
 
 use crate::adding::{add_gater, add_logic, add_net, add_placed, add_register};
+use crate::inits::give_inits;
 use crate::open_register::OpenRegister;
 use crate::part_words::PartWords;
 use crate::told::Told;
@@ -105,6 +107,15 @@ impl Parts {
                 add_register(alloc, &mut self.names, &mut self.registers, register)
             }
         }
+    }
+
+    /// Gives each plain register the init of its net, where that is given one.
+    pub(crate) fn give_inits(&mut self, nets: &NetNames, inits: &[u8])
+        requires numbers { AreNumbers self.old }
+        requires each { length inits.now ≡ length nets.now }
+        ensures { self.new ≡ numbers_with (init_given nets.now inits.now) self.old }
+    {
+        give_inits(&self.names, &mut self.registers, nets, inits);
     }
 
     /// The parts, with the sets of nets as lists.

@@ -1,5 +1,5 @@
 -- The inserted netlist is writable where the machine's own netlist is.
-use Rattle.std.proofs.Common.{◌≡◌, ◌≢◌, ℕ, suc, ◌+◌, ◌-◌, ◌<◌, Bool, true, false, List, [], ◌∷◌, ◌++◌, map, length}
+use Rattle.std.proofs.Common.{◌≡◌, ◌≢◌, ℕ, suc, ◌+◌, ◌-◌, ◌<◌, true, false, List, [], ◌∷◌, ◌++◌, map, length}
 use Rattle.std.proofs.Common.{take, slice_get, unwrap_or, Option, Some, nat_eq, refl, ap, sym, ◌∙◌, subst, inl, inr}
 use Rattle.std.proofs.Common.{arith, length-append}
 use Rattle.std.specs.List.{AllByRecursion, IsDistinct, find}
@@ -34,7 +34,7 @@ use Rattle.cg_netlist_parts.specs.Writable.{FunctionIsOf, IsOf, IsWritable, Kind
 use Rattle.cg_insert.proofs.GatedCells.{found_All}
 use Rattle.cg_insert.proofs.GatedForm.{gated_formed, inputs_once}
 use Rattle.cg_insert.proofs.GatedParts.{few_names, gates_are}
-use Rattle.cg_insert.proofs.OrderedNames.{named_at}
+use Rattle.cg_netlist_telling.proofs.OrderedNames.{named_at}
 use Rattle.cg_insert.specs.Insert.{CanInsert, enables_of, first_gate, fitting, gate_names, gate_outputs, gated, gater_cell}
 use Rattle.cg_insert.specs.Insert.{gating_cell, gating_kind, inserted, no_cell, placed_gate, reclocked}
 

@@ -1,9 +1,8 @@
 -- Parts that a builder is told one after another.
-use Rattle.std.proofs.Common.{◌≡◌, ◌⊎◌, ℕ, zero, suc, ◌+◌, ◌<◌, ◌≤◌, Bool, true, false, if◌then◌else◌, List, [], ◌∷◌, ◌++◌, map}
+use Rattle.std.proofs.Common.{◌≡◌, ◌⊎◌, ℕ, zero, suc, ◌+◌, ◌≤◌, Bool, true, false, if◌then◌else◌, List, [], ◌∷◌, ◌++◌, map}
 use Rattle.std.proofs.Common.{length, take, drop, slice_get, nat_lt, Option, None, Some, Result, Ok, Err, MatchResult, refl, ap}
 use Rattle.std.proofs.Common.{sym, ◌∙◌, subst, length-append, inl, inr, arith}
-use Rattle.std.specs.List.{AllByRecursion}
-use Rattle.std.proofs.lemmas.Bool.{ltb-false, both_ways, false_from_ne_true, lt-ltb, ltb-true}
+use Rattle.std.proofs.lemmas.Bool.{ltb-false, false_from_ne_true, ltb-true}
 use Rattle.std.proofs.lemmas.List.{map-append}
 use Rattle.cg_limit.specs.declared.TheConstants.{MOST_NETS, MOST_REGISTERS}
 use Rattle.cg_limit.specs.declared.Limit.{Limit}
@@ -12,7 +11,7 @@ use Rattle.cg_net.proofs.TableLemmas.{take_next}
 use Rattle.cg_netlist.proofs.Each.{each_back, each_front}
 use Rattle.cg_net.specs.Names.{NetName, is_known, with_name, with_names}
 use Rattle.cg_netlist.specs.declared.fault.AddFault.{AddFault}
-use Rattle.cg_netlist.specs.declared.fault.AddFault.TheVariants.{Limit as Passes, NoMemory}
+use Rattle.cg_netlist.specs.declared.fault.AddFault.TheVariants.{NoMemory}
 use Rattle.cg_netlist_builder.specs.Building.{Building, IsAnswer, Takes}
 use Rattle.cg_netlist_parts.specs.Part.{Clock, Gate, Input, Logic, Output, Part, Register, mentioned}
 use Rattle.cg_netlist_parts.specs.Said.{Said, limit_of, with_kind, with_part}

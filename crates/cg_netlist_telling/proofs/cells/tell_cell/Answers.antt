@@ -1,4 +1,4 @@
-use Rattle.std.proofs.Common.{◌≡◌, ◌∷◌, ◌++◌, [], Bor, ℕ, List, Some, slice_get, map, ap, sym, ◌∙◌, subst}
+use Rattle.std.proofs.Common.{◌∷◌, [], Bor, ℕ, List, map, ap, sym, ◌∙◌, subst}
 use Rattle.std.specs.List.{AllByRecursion}
 use Rattle.std.specs.Option.{option_to_list}
 use Rattle.std.specs.Prelude.{IsTrue}

@@ -1,4 +1,4 @@
-use Rattle.std.proofs.Common.{◌≡◌, ◌∷◌, [], Bor, ℕ, List, Some, map, ap, sym, ◌∙◌, subst}
+use Rattle.std.proofs.Common.{Bor, ℕ, List, map, ap, sym, ◌∙◌, subst}
 use Rattle.std.specs.Option.{option_copied}
 use Rattle.cg_netlist.specs.Circuit.{RegisterCell}
 use Rattle.cg_netlist.specs.View.{register_seen}
@@ -8,8 +8,7 @@ use Rattle.cg_netlist_parts.specs.Says.{IsPart}
 use Rattle.cg_net.specs.Names.{NetName}
 use Rattle.cg_netlist_telling.proofs.RegisterCalls.{register_call}
 use Rattle.cg_netlist_telling.proofs.ToldParts.{tells_one}
-use Rattle.cg_netlist_telling.specs.NamedParts.{clocked_part, placed_outputs}
-use Rattle.cg_netlist_telling.specs.Telling.{MayTell, WasTold}
+use Rattle.cg_netlist_telling.specs.NamedParts.{clocked_part}
 use Rattle.cg_netlist_telling.proofs.registers.tell_register.Goals as goal
 
 pub register-requires-clause-fits : goal.register-requires-clause-fits

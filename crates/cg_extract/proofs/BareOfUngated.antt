@@ -5,7 +5,7 @@ use Rattle.std.specs.List.{All, IsDistinct}
 use Rattle.std.specs.Option.{option_to_list}
 use Rattle.std.proofs.lemmas.Bool.{both_ways}
 use Rattle.std.proofs.lemmas.List.Elements.{All-head, All-tail}
-use Rattle.cg_insert.proofs.OrderedNames.{named_ordered}
+use Rattle.cg_netlist_telling.proofs.OrderedNames.{named_ordered}
 use Rattle.cg_netlist.proofs.Given.{in_option}
 use Rattle.cg_net.proofs.Members.{is_in_cases}
 use Rattle.cg_netlist_parts.proofs.AtMostOne.{says_one}

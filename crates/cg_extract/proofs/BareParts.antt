@@ -19,11 +19,11 @@ use Rattle.cg_netlist_parts.specs.Said.{nothing_said, said}
 use Rattle.cg_netlist_parts.specs.Says.{AreTaken, Says, parts_from, register_part}
 use Rattle.cg_net.specs.Names.{NetName, net_name}
 use Rattle.cg_netlist.specs.Wiring.{map_cell, map_register, named}
-use Rattle.cg_insert.proofs.InsertedParts.{map_twice, said_all}
-use Rattle.cg_insert.proofs.OrderedNames.{named_ordered}
-use Rattle.cg_insert.proofs.ToldParts.{within_limit}
-use Rattle.cg_insert.specs.inner.GatedParts.{cell_parts, clock_parts, clocked_parts, input_parts, output_parts}
-use Rattle.cg_insert.specs.inner.Telling.{MayTell, told, with_parts}
+use Rattle.cg_netlist_telling.proofs.SaidAll.{map_twice, said_all}
+use Rattle.cg_netlist_telling.proofs.OrderedNames.{named_ordered}
+use Rattle.cg_netlist_telling.proofs.ToldParts.{within_limit}
+use Rattle.cg_netlist_telling.specs.NamedParts.{cell_parts, clock_parts, clocked_parts, input_parts, output_parts}
+use Rattle.cg_netlist_telling.specs.Telling.{MayTell, told, with_parts}
 use Rattle.cg_extract.proofs.Bare.{bare_formed, bare_netlist, in_order}
 use Rattle.cg_extract.proofs.Kept.{same_number, used_kept}
 use Rattle.cg_extract.proofs.Renumbered.{distinct_mapped}

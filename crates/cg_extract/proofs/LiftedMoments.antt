@@ -1,5 +1,5 @@
 -- A moment of the netlist is one of the netlist without its gating cells, and shows what the lifted machine's nets show.
-use Rattle.std.proofs.Common.{[], ◌≡◌, ◌≢◌, ℕ, ◌<◌, Bool, true, false, if◌then◌else◌, List, ◌∷◌, ◌++◌, map, length, slice_get}
+use Rattle.std.proofs.Common.{[], ◌≡◌, ◌≢◌, ℕ, ◌<◌, Bool, true, false, List, ◌∷◌, ◌++◌, map, length, slice_get}
 use Rattle.std.proofs.Common.{Some, nat_eq, refl, ap, sym, ◌∙◌, subst, arith}
 use Rattle.std.specs.List.{cons_option}
 use Rattle.std.specs.Option.{option_map, option_to_list}

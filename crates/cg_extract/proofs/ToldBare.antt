@@ -5,9 +5,9 @@ use Rattle.cg_netlist.specs.Circuit.{Circuit}
 use Rattle.cg_netlist_builder.specs.Building.{Building}
 use Rattle.cg_netlist_parts.specs.Part.{Part}
 use Rattle.cg_net.specs.Names.{NetName}
-use Rattle.cg_insert.proofs.ToldParts.{may_front}
-use Rattle.cg_insert.specs.inner.GatedParts.{cell_parts, clock_parts, clocked_parts, input_parts, output_parts}
-use Rattle.cg_insert.specs.inner.Telling.{MayTell}
+use Rattle.cg_netlist_telling.proofs.ToldParts.{may_front}
+use Rattle.cg_netlist_telling.specs.NamedParts.{cell_parts, clock_parts, clocked_parts, input_parts, output_parts}
+use Rattle.cg_netlist_telling.specs.Telling.{MayTell}
 use Rattle.cg_extract.specs.Lifted.{ungated}
 use Rattle.cg_extract.specs.inner.BareParts.{bare_parts}
 

@@ -1,20 +1,17 @@
 //! The machine of a netlist with gating cells.
 
 ghost use Rattle.std.specs.Prelude.{◌≡◌, IfOk};
-ghost use Rattle.cg_extract.specs.Extracting.{extraction, extracted};
-ghost use Rattle.cg_extract.specs.Lifted.{CanExtract, bare};
-ghost use Rattle.cg_limit.specs.Answers.{OrNoMemory};
-ghost use Rattle.cg_extract.specs.declared.extract.ExtractFault.TheVariants.{NoMemory};
+ghost use Rattle.cg_extract.specs.Extracting.{extracted};
+ghost use Rattle.cg_extract.specs.Lifted.{CanExtract, HasNoTests, bare};
 ghost use Rattle.cg_machine.specs.Start.{machine_of};
 
 use crate::lift::{lift, set_enables};
 use crate::number::origins;
-use crate::refused::first_refused;
 use crate::strip::bare;
 use cg_cell::name::Name;
 use cg_list::Seq;
 use cg_machine::machine::Machine;
-use cg_net::id::{GateClockId, NetId};
+use cg_net::id::NetId;
 use cg_netlist::netlist::Netlist;
 use std::alloc::{AllocError, Global};
 
@@ -28,49 +25,14 @@ pub struct Extracted {
     pub origin: Seq<Option<NetId>>,
 }
 
-/// Why no machine is made.
-#[derive(Clone, Copy, PartialEq, Eq)]
-pub enum ExtractFault {
-    /// The gating cell has a test pin, or it stands behind another while there is no cell for the and of two nets.
-    Gater(GateClockId),
-
-    /// There was no memory.
-    NoMemory,
-}
-
-impl From<AllocError> for ExtractFault {
-    ghost from_gives = { λ _ e. e ≡ NoMemory };
-
-    fn from(_refused: AllocError) -> ExtractFault {
-        ExtractFault::NoMemory
-    }
-}
-
 /// The machine of a netlist with gating cells.
 ///
-/// No output of the netlist may stand twice, and no net may have a name that begins with the prefix of the names of added nets.
-/// `and2` tells whether there is a cell for the and of two nets. It is refused by `Gater` exactly where a gating cell has a test
-/// pin, or has its clock pin on the output of a gating cell while there is no such cell, with the first of these.
-pub fn extract(
-    alloc: Global,
-    netlist: &Netlist,
-    prefix: &Name,
-    and2: bool,
-) -> Result<Extracted, ExtractFault>
-    requires { CanExtract netlist.now prefix.now }
-    ensures { OrNoMemory NoMemory (λ made. (made.machine, made.origin)) result (extraction netlist.now prefix.now and2) }
-{
-    // A refused cell is found before anything is built.
-    if let Some(gater) = first_refused(netlist, and2) {
-        return Err(ExtractFault::Gater(gater));
-    }
-    let extracted = lifted(alloc, netlist, prefix)?;
-    Ok(extracted)
-}
-
-/// The machine of a netlist no gating cell of which is refused.
-fn lifted(alloc: Global, netlist: &Netlist, prefix: &Name) -> Result<Extracted, AllocError>
-    requires { CanExtract netlist.now prefix.now }
+/// No output of the netlist may stand twice, no net may have a name that begins with the prefix of the names of added nets, and no
+/// gating cell may have a test pin. A chain of gating cells makes ands of two nets. `first_refused` is the test: where it finds
+/// none, no gating cell has a test pin, and there is a cell for each and.
+pub fn extract(alloc: Global, netlist: &Netlist, prefix: &Name) -> Result<Extracted, AllocError>
+    requires can { CanExtract netlist.now prefix.now }
+    requires untested { HasNoTests netlist.now }
     ensures { IfOk result (λ made. (made.machine, made.origin) ≡ extracted netlist.now prefix.now) }
 {
     let kept = bare(alloc, netlist)?;

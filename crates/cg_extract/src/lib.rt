@@ -12,7 +12,7 @@
 //! - `copy`: a copy of a netlist without gating cells.
 //! - `strip`: the netlist without its gating cells: a copy where it has none, and else told to a builder.
 //! - `lift`: gating cells, taken by depth into a machine.
-//! - `extract`: the machine, or the first gating cell that is refused.
+//! - `extract`: the machine.
 //! - `laws`: what is proved of that machine.
 #![tactic(auto)]
 

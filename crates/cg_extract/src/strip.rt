@@ -1,24 +1,24 @@
 //! The netlist without its gating cells.
 
-ghost use Rattle.std.specs.Prelude.{◌≡◌, ◌<◌, Some, length, nat_eq, slice_get, unwrap_or, IfOk};
+ghost use Rattle.std.specs.Prelude.{◌≡◌, ◌<◌, Some, length, nat_eq, slice_get, IfOk};
 ghost use Rattle.std.specs.List.{IsDistinct};
 ghost use Rattle.std.specs.Option.{option_to_list};
 ghost use Rattle.cg_extract.specs.Lifted.{bare, ungated};
 ghost use Rattle.cg_extract.specs.inner.BareParts.{bare_parts};
-ghost use Rattle.cg_insert.specs.inner.GatedParts.{clocked_parts, with_clock};
-ghost use Rattle.cg_insert.specs.inner.Telling.{MayTell, WasTold, told};
+ghost use Rattle.cg_netlist_telling.specs.NamedParts.{clocked_parts, with_clock};
+ghost use Rattle.cg_netlist_telling.specs.Telling.{MayTell, WasTold, told};
 ghost use Rattle.cg_netlist_builder.specs.Building.{fresh};
 
 use crate::copy::copy;
-use cg_insert::clocked::tell_register;
-use cg_insert::logic::tell_cells;
-use cg_insert::names::GatedNames;
-use cg_insert::telling::{tell_clock, tell_inputs, tell_outputs};
 use cg_net::id::{NetId, RegId};
 use cg_netlist::fault::AddFault;
 use cg_netlist::netlist::Netlist;
 use cg_netlist::view::RegView;
 use cg_netlist_builder::builder::Builder;
+use cg_netlist_telling::cells::tell_cells;
+use cg_netlist_telling::names::NetlistNames;
+use cg_netlist_telling::ports::{tell_clock, tell_inputs, tell_outputs};
+use cg_netlist_telling::registers::{clock_or_first, tell_register};
 use std::alloc::{AllocError, Global};
 
 /// The netlist without its gating cells: its logic cells and registers in their order, every register on the clock, and all its
@@ -53,7 +53,7 @@ fn told_builder(alloc: Global, netlist: &Netlist) -> Result<Builder, AddFault>
 {
     let _nets = netlist.nets();
     let mut builder = Builder::new(alloc, netlist.model())?;
-    let names = GatedNames::of_netlist(alloc, netlist);
+    let names = NetlistNames::of_netlist(alloc, netlist);
     match tell(alloc, &mut builder, &names, netlist) {
         Ok(()) => Ok(builder),
         Err(fault) => {
@@ -68,7 +68,7 @@ fn told_builder(alloc: Global, netlist: &Netlist) -> Result<Builder, AddFault>
 fn tell(
     alloc: Global,
     builder: &mut Builder,
-    names: &GatedNames<'_>,
+    names: &NetlistNames<'_>,
     netlist: &Netlist,
 ) -> Result<(), AddFault>
     requires { MayTell builder.old (bare_parts names.now netlist.now) }
@@ -85,7 +85,7 @@ fn tell(
 fn tell_registers(
     alloc: Global,
     builder: &mut Builder,
-    names: &GatedNames<'_>,
+    names: &NetlistNames<'_>,
     netlist: &Netlist,
 ) -> Result<(), AddFault>
     requires { MayTell builder.old (clocked_parts names.now (ungated netlist.now).registers) }
@@ -102,7 +102,7 @@ fn tell_registers(
 fn tell_on_clock(
     alloc: Global,
     builder: &mut Builder,
-    names: &GatedNames<'_>,
+    names: &NetlistNames<'_>,
     netlist: &Netlist,
     reg: RegId,
     clock: NetId,
@@ -115,11 +115,4 @@ fn tell_on_clock(
     let register = netlist.register(reg);
     let on_clock = RegView { clock, ..register };
     tell_register(alloc, builder, names, on_clock, clock)
-}
-
-/// The clock, or the first net where there is none.
-fn clock_or_first(netlist: &Netlist) -> NetId
-    ensures { result ≡ unwrap_or netlist.now.clock 0 }
-{
-    netlist.clock().unwrap_or(NetId::new(0))
 }

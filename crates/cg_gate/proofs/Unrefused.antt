@@ -1,11 +1,9 @@
--- Where no gating cell is refused, extraction refuses none, and none has a test pin.
-use Rattle.std.proofs.Common.{◌≡◌, ℕ, Bool, List, [], ◌∷◌, Option, None, Some, Ok, refl, sym}
+-- Where no gating cell is refused, none has a test pin.
+use Rattle.std.proofs.Common.{◌≡◌, ℕ, Bool, List, [], ◌∷◌, Option, None, Some, refl}
 use Rattle.std.specs.List.{position_from}
 use Rattle.cg_cell.specs.Cell.{CellData}
-use Rattle.cg_extract.specs.Extracting.{unless_refused}
 use Rattle.cg_extract.specs.Lifted.{HasNoTests, first_refused, is_refused}
 use Rattle.cg_gate_laws.specs.Gated.{first_gater, has_and, refused_gater}
-use Rattle.cg_machine.specs.Machine.{MachineData}
 use Rattle.cg_netlist.specs.Circuit.{Circuit, GatingCell}
 use Rattle.cg_extract.proofs.ForGating.{unrefused_untested}
 
@@ -20,8 +18,3 @@ unrefused library (Some name) c none = none_there (is_refused c (has_and library
 
 pub untested : (library : List CellData) (test : Option (List ℕ)) (c : Circuit) → refused_gater library test c ≡ None → HasNoTests c
 untested library test c none = unrefused_untested c (has_and library) (unrefused library test c none)
-
--- what is made where nothing is refused
-pub made_is : (refused : Option ℕ) (made answer : MachineData × List (Option ℕ)) → refused ≡ None → unless_refused refused made ≡ Ok answer → answer ≡ made
-made_is None made answer none is = let same : made ≡ answer = cc in sym same
-made_is (Some gater) made answer none is = absurd (cc)

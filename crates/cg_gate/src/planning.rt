@@ -20,7 +20,6 @@ ghost use Rattle.cg_stimulus.specs.Inputs.{IsFor, IsStimulus, Rows};
 
 use crate::counting::machine_zeros;
 use crate::request::Request;
-use cg_cell::fit::FitKind;
 use cg_cell::name::Name;
 use cg_extract::extract::{Extracted, extract};
 use cg_insert::insert::insert;
@@ -143,11 +142,8 @@ fn lift(alloc: Global, netlist: &Netlist, request: &Request<'_>) -> Result<Extra
     ensures machine { IfOk result (λ made. made.machine ≡ lifted netlist.now request.now.prefix) }
     ensures origin { IfOk result (λ made. made.origin ≡ origins netlist.now (lifted netlist.now request.now.prefix)) }
 {
-    let and2 = request.library.fit(FitKind::And2).is_some();
-    match extract(alloc, netlist, request.prefix, and2) {
-        Ok(made) => Ok(made),
-        Err(_) => Err(AllocError),
-    }
+    let made = extract(alloc, netlist, request.prefix)?;
+    Ok(made)
 }
 
 /// The plan of a machine with these counts.

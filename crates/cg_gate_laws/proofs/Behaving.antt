@@ -9,7 +9,7 @@ use Rattle.cg_insert.specs.Insert.{CanInsert, gate_names, gated, reclocked, test
 use Rattle.cg_insert.proofs.GatedForm.{gated_formed, inputs_once}
 use Rattle.cg_insert.proofs.GatedMoments.{data_is, output_is_used, take_get}
 use Rattle.cg_insert.proofs.Inserted.{own_wave as own_is}
-use Rattle.cg_insert.proofs.OrderedNames.{named_at}
+use Rattle.cg_netlist_telling.proofs.OrderedNames.{named_at}
 use Rattle.cg_machine.specs.Added.{own_nets}
 use Rattle.cg_machine.specs.Machine.{IsMachine, MachineData}
 use Rattle.cg_machine.specs.Run.{ones}

@@ -7,7 +7,7 @@ use Rattle.std.proofs.lemmas.Bool.{eq-eqb, or_left, or_right}
 use Rattle.std.proofs.lemmas.List.{length-map}
 use Rattle.std.proofs.lemmas.Option.{none-some, same_Some}
 use Rattle.cg_insert.specs.Insert.{gated, placed_gate, reclocked}
-use Rattle.cg_insert.proofs.OrderedNames.{named_ordered}
+use Rattle.cg_netlist_telling.proofs.OrderedNames.{named_ordered}
 use Rattle.cg_machine.specs.Machine.{IsDelay as MachineDelay, MachineData}
 use Rattle.cg_netlist.specs.Circuit.{Circuit, LogicCell, RegisterCell, cell_nets, given_nets, net_order, shown_nets, used_nets}
 use Rattle.cg_net.specs.NetSets.{is_in}
@@ -30,7 +30,7 @@ use Rattle.cg_gate_laws.proofs.LiftedShows.{kept_names}
 use Rattle.cg_gate_laws.proofs.NetlistKept.{keeps_netlist}
 use Rattle.cg_gate_laws.proofs.Planned.{is_formed}
 use Rattle.cg_gate_laws.proofs.SameOutputs.{good, own_count}
-use Rattle.cg_insert.proofs.InsertedParts.{map_twice}
+use Rattle.cg_netlist_telling.proofs.SaidAll.{map_twice}
 use Rattle.cg_insert.proofs.StillWritable.{each_place}
 
 take_mapped : {X Y : Type 0} (f : X → Y) (n : ℕ) (xs : List X) → map f (take n xs) ≡ take n (map f xs)

@@ -11,7 +11,8 @@ use Rattle.cg_netlist.specs.Circuit.{RegisterCell}
 use Rattle.cg_netlist.specs.Ordered.{place_in}
 use Rattle.cg_net.specs.Names.{NetName}
 use Rattle.cg_insert.specs.Insert.{enables_of, first_gate, gate_outputs, gater_cell, gating_cell, reclocked, test_net}
-use Rattle.cg_insert.specs.inner.GatedParts.{clocked_part, clocked_parts, gated_gaters, gated_registers, on_gate, with_clock}
+use Rattle.cg_insert.specs.inner.GatedParts.{gated_gaters, gated_registers}
+use Rattle.cg_netlist_telling.specs.NamedParts.{clocked_part, clocked_parts, on_gate, with_clock}
 use Rattle.cg_machine.proofs.WalkPlaces.{range_at}
 
 pub gaters_long : (library : List CellData) (test : Option (List ℕ)) (m : MachineData) → length (gated_gaters library test m) ≡ length (enables_of m)
@@ -49,7 +50,3 @@ at_number test m names gate n good below gate_is =
     same : (r : RegisterCell ℕ ℕ) (o : Option ℕ) → on_gate (option_map (λ enable. first_gate m test + place_in (enables_of m) enable) o) r ≡ reclocked test m r o
     same r None = refl
     same r (Some e) = refl
-
--- a register on this clock
-pub own_part : (names : List NetName) (gate : Option ℕ) (o : Option (RegisterCell ℕ ℕ)) (r : RegisterCell ℕ ℕ) (clock : ℕ) → o ≡ Some r → clock ≡ unwrap_or gate r.clock → clocked_parts names (with_clock gate (option_to_list o)) ≡ clocked_part names (record r { clock = clock }) ∷ []
-own_part names gate o r clock is clock_is = ap (λ x. clocked_parts names (with_clock gate (option_to_list x))) is ∙ ap (λ k. clocked_part names (record r { clock = k }) ∷ []) (sym clock_is)

@@ -1,6 +1,6 @@
 -- What finishing answers a builder that was told the gated netlist's parts.
-use Rattle.std.proofs.Common.{◌≡◌, ℕ, ◌+◌, ◌<◌, ◌≤◌, ◌^◌, if◌then◌else◌, List, length, take, Option, None, Some, Result, Ok, Err}
-use Rattle.std.proofs.Common.{MatchResult, refl, ap, sym, ◌∙◌, subst, inl, inr}
+use Rattle.std.proofs.Common.{◌≡◌, ℕ, ◌+◌, ◌<◌, ◌≤◌, ◌^◌, if◌then◌else◌, List, length, take, Option, None, Some, Ok, Err}
+use Rattle.std.proofs.Common.{ap, sym, ◌∙◌, subst, inl, inr}
 use Rattle.std.specs.List.{All, AllByRecursion}
 use Rattle.std.proofs.lemmas.Bool.{le-leb}
 use Rattle.cg_limit.specs.declared.TheConstants.{MOST_NETS}
@@ -26,7 +26,7 @@ use Rattle.cg_insert.proofs.StillWritable.{still_writable}
 use Rattle.cg_insert.specs.Insert.{CanInsert, enables_of, first_gate, inserted, insertion_limit}
 use Rattle.cg_insert.specs.Inserting.{IsWhole, RunsAs, StaysWritable, insertion, unless_passed}
 use Rattle.cg_insert.specs.inner.GatedParts.{gated_names, gated_parts}
-use Rattle.cg_insert.specs.inner.Telling.{MayTell, told}
+use Rattle.cg_netlist_telling.specs.Telling.{MayTell, told}
 
 pub no_limit : (test : Option (List ℕ)) (m : MachineData) → first_gate m test + length (enables_of m) ≤ MOST_NETS → insertion_limit test m ≡ None
 no_limit test m small = ap {B = Option Limit} (λ b. if b then None else Some Nets) (le-leb (first_gate m test + length (enables_of m)) MOST_NETS small)

@@ -21,8 +21,8 @@ use Rattle.cg_netlist.proofs.OrderLemmas.{length-range_with_len}
 use Rattle.cg_netlist.proofs.Values.{bit_shown, element_at, length-values_at, length-zip_with, same_values, split_lists, value_at}
 use Rattle.cg_netlist.proofs.Values.{values_at-append, zip_with_at}
 use Rattle.cg_netlist.proofs.Driven.{in_range}
-use Rattle.cg_insert.proofs.GatedParts.{bits_is, cell_stands, enable_from, enable_in, enable_placed, gater_at, gaters_count}
-use Rattle.cg_insert.proofs.GatedParts.{gates_are, register_at, registers_count, shown_is}
+use Rattle.cg_insert.proofs.GatedParts.{bits_is, cell_stands, enable_from, enable_placed, gater_at, gaters_count}
+use Rattle.cg_insert.proofs.GatedParts.{gates_are, shown_is}
 use Rattle.cg_insert.specs.Insert.{CanInsert, enables_of, first_gate, gate_names, gate_outputs, gated, gating_cell, own_tick}
 use Rattle.cg_insert.specs.Insert.{reclocked, test_net}
 use Rattle.cg_machine.specs.Machine.{IsMachine, MachineData, additions, enable_of, load}

@@ -5,7 +5,7 @@ use Rattle.std.proofs.Common.{subst, inl, inr, arith, append_assoc}
 use Rattle.std.specs.List.{All, AllByRecursion, IsDistinct}
 use Rattle.std.specs.Option.{option_map, option_to_list}
 use Rattle.std.proofs.lemmas.Bool.{both_ways, cases_Bool, eq-eqb, false_from_ne_true, leb-true, or_left, or_right}
-use Rattle.std.proofs.lemmas.List.{append-nil, length-map, map-append}
+use Rattle.std.proofs.lemmas.List.{length-map, map-append}
 use Rattle.cg_limit.specs.declared.TheConstants.{MOST_NETS, MOST_REGISTERS}
 use Rattle.cg_cell.specs.Cell.{CellData}
 use Rattle.cg_cell.specs.Name.{is_name}
@@ -19,20 +19,19 @@ use Rattle.cg_net.proofs.Members.{distinct_cons, distinct_head, distinct_tail}
 use Rattle.cg_netlist.proofs.NetOrder.{from_mapped}
 use Rattle.cg_netlist.proofs.OrderedForm.{same_number, used_within}
 use Rattle.cg_netlist.proofs.Used.{output_is_used}
-use Rattle.cg_netlist_parts.proofs.Different.{Apart, apart_from, no_more}
+use Rattle.cg_netlist_parts.proofs.Different.{apart_from, no_more}
 use Rattle.cg_netlist.proofs.Each.{by_recursion, each_together, from_recursion}
-use Rattle.cg_netlist_parts.proofs.KnownNames.{known_each, known_head, known_tail, word_at}
+use Rattle.cg_netlist_parts.proofs.KnownNames.{known_each, word_at}
 use Rattle.cg_netlist_parts.proofs.SaidByItsParts.{none_left, says_own}
-use Rattle.cg_netlist_parts.proofs.SaidMore.{said_more}
 use Rattle.cg_netlist_parts.proofs.TakenFromNetlist.{taken_own}
-use Rattle.cg_netlist.specs.Circuit.{Circuit, GatingCell, LogicCell, RegisterCell, net_order}
+use Rattle.cg_netlist.specs.Circuit.{Circuit, LogicCell, RegisterCell, net_order}
 use Rattle.cg_net.specs.NetSets.{is_in}
 use Rattle.cg_net.specs.Names.{NetName, is_known, net_name}
 use Rattle.cg_netlist.specs.Netlist.{IsNetlist}
 use Rattle.cg_netlist.specs.Ordered.{ordered, place_in}
 use Rattle.cg_netlist.specs.WellFormed.{IsInNetOrder, IsWellFormed}
-use Rattle.cg_netlist_builder.specs.Building.{Building, fresh}
-use Rattle.cg_netlist_parts.specs.Part.{Clock, Gate, Input, Logic, Output, Part}
+use Rattle.cg_netlist_builder.specs.Building.{fresh}
+use Rattle.cg_netlist_parts.specs.Part.{Clock, Gate, Input, Logic, Output}
 use Rattle.cg_netlist_parts.specs.Said.{nothing_said, said}
 use Rattle.cg_netlist_parts.specs.Says.{AreTaken, Says, parts_from, register_part}
 use Rattle.cg_netlist.specs.Wiring.{map_cell, map_gater, map_register, named}
@@ -40,22 +39,14 @@ use Rattle.cg_insert.proofs.GatedForm.{gated_formed, inputs_once}
 use Rattle.cg_insert.proofs.GatedMoments.{names_count}
 use Rattle.cg_insert.proofs.GatedParts.{registers_count}
 use Rattle.cg_insert.proofs.Inserted.{insertion_is_formed}
-use Rattle.cg_insert.proofs.OrderedNames.{named_ordered}
-use Rattle.cg_insert.proofs.ToldParts.{with_parts_more, within_limit}
+use Rattle.cg_netlist_telling.proofs.OrderedNames.{named_ordered}
+use Rattle.cg_netlist_telling.proofs.SaidAll.{map_twice, said_all}
+use Rattle.cg_netlist_telling.proofs.ToldParts.{within_limit}
 use Rattle.cg_insert.specs.Insert.{CanInsert, enables_of, first_gate, gated, inserted, insertion_limit, placed_gate, test_net}
-use Rattle.cg_insert.specs.inner.GatedParts.{clock_parts, clocked_parts, gated_gaters, gated_names, gated_parts, gated_registers}
-use Rattle.cg_insert.specs.inner.GatedParts.{gater_parts, cell_parts, input_parts, output_parts}
-use Rattle.cg_insert.specs.inner.Telling.{MayTell, told, with_parts}
-
--- parts are said one after another
-pub said_all : (done ps : List Part) → with_parts (said done) ps ≡ said (done ++ ps)
-said_all done [] = ap said (sym (append-nil done))
-said_all done (p ∷ ps) = ap (λ s. with_parts s ps) (sym (said_more done p)) ∙ (said_all (done ++ p ∷ []) ps ∙ ap said (append_assoc done (p ∷ []) ps))
-
--- maps one after the other
-pub map_twice : {X Y Z : Type 0} (f : Y → Z) (g : X → Y) (xs : List X) → map f (map g xs) ≡ map (λ x. f (g x)) xs
-map_twice f g [] = refl
-map_twice f g (x ∷ xs) = ap (λ ys. f (g x) ∷ ys) (map_twice f g xs)
+use Rattle.cg_insert.specs.inner.GatedParts.{gated_gaters, gated_names, gated_parts, gated_registers}
+use Rattle.cg_netlist_telling.specs.NamedParts.{clock_parts, clocked_parts}
+use Rattle.cg_netlist_telling.specs.NamedParts.{gater_parts, cell_parts, input_parts, output_parts}
+use Rattle.cg_netlist_telling.specs.Telling.{MayTell, with_parts}
 
 -- names that are names are among those that they come from
 known_from : (names : List NetName) (xs : List ℕ) → AllByRecursion (λ name. IsTrue (is_name name)) (map (net_name names) xs) → (x : NetName) → is_known (map (net_name names) xs) x ≡ true → is_known names x ≡ true

@@ -9,8 +9,5 @@ pub mod Inserted
 pub mod InsertedParts
 pub mod Lookups
 pub mod NamesWhole
-pub mod OrderedNames
-pub mod RegisterCalls
 pub mod StillWritable
 pub mod ToldGroups
-pub mod ToldParts

@@ -34,7 +34,7 @@ use Rattle.cg_netlist_parts.specs.Writable.{FunctionIsOf, IsOf, IsPlaceable, IsW
 use Rattle.cg_insert.proofs.GatedCells.{found_All}
 use Rattle.cg_insert.proofs.GatedForm.{gated_formed, inputs_once}
 use Rattle.cg_insert.proofs.GatedParts.{few_names, gates_are}
-use Rattle.cg_insert.proofs.OrderedNames.{named_at}
+use Rattle.cg_netlist_telling.proofs.OrderedNames.{named_at}
 use Rattle.cg_insert.specs.Insert.{CanInsert, enables_of, first_gate, fitting, gate_names, gate_outputs, gated, gater_cell}
 use Rattle.cg_insert.specs.Insert.{gating_cell, gating_kind, inserted, no_cell, placed_gate, reclocked}
 

@@ -1,17 +1,17 @@
 -- The parts of a gated netlist in the groups in which they are told, and what a builder may be told when some of them were.
-use Rattle.std.proofs.Common.{◌≡◌, ◌++◌, ℕ, List, map, take, Option, Result, sym, ◌∙◌, ap, subst}
+use Rattle.std.proofs.Common.{◌++◌, ℕ, List, map, take, Option}
 use Rattle.std.specs.Option.{option_to_list}
 use Rattle.cg_cell.specs.Cell.{CellData}
 use Rattle.cg_machine.specs.Machine.{MachineData}
-use Rattle.cg_netlist.specs.declared.fault.AddFault.{AddFault}
 use Rattle.cg_netlist_builder.specs.Building.{Building}
 use Rattle.cg_netlist_parts.specs.Part.{Part}
 use Rattle.cg_net.specs.Names.{NetName}
-use Rattle.cg_insert.proofs.ToldParts.{call_may, call_told, may_front}
+use Rattle.cg_netlist_telling.proofs.ToldParts.{may_front}
 use Rattle.cg_insert.specs.Insert.{placed_gate, test_net}
-use Rattle.cg_insert.specs.inner.GatedParts.{cell_parts, clock_parts, clocked_parts, gated_gaters, gated_parts, gated_registers}
-use Rattle.cg_insert.specs.inner.GatedParts.{gater_parts, input_parts, output_parts}
-use Rattle.cg_insert.specs.inner.Telling.{MayTell, told}
+use Rattle.cg_insert.specs.inner.GatedParts.{gated_gaters, gated_parts, gated_registers}
+use Rattle.cg_netlist_telling.specs.NamedParts.{cell_parts, clock_parts, clocked_parts}
+use Rattle.cg_netlist_telling.specs.NamedParts.{gater_parts, input_parts, output_parts}
+use Rattle.cg_netlist_telling.specs.Telling.{MayTell}
 
 module _ (names : List NetName) (library : List CellData) (test : Option (List ℕ)) (m : MachineData) where
   abbrev pub the_inputs : List Part

@@ -1,5 +1,5 @@
 -- What inserting answers, and what it promises of the netlist that it answers.
-use Rattle.std.specs.Prelude.{◌≡◌, Bool, List, nat_eq, Option, Some, None, Result, Ok, Err, ℕ}
+use Rattle.std.specs.Prelude.{Bool, List, nat_eq, Option, Some, None, Result, Ok, Err, ℕ}
 use Rattle.std.specs.List.{IsDistinct}
 use Rattle.cg_cell.specs.Cell.{CellData}
 use Rattle.cg_limit.specs.declared.Limit.{Limit}

@@ -1,3 +1,1 @@
 pub mod GatedParts
-pub mod Names
-pub mod Telling

@@ -6,27 +6,27 @@ ghost use Rattle.std.specs.Option.{option_copied, option_map, option_to_list};
 ghost use Rattle.cg_cell.specs.Cell.{CellData};
 ghost use Rattle.cg_cell.specs.Fit.{is_fit};
 ghost use Rattle.cg_insert.specs.Insert.{enables_of, first_gate, gating_kind, test_net};
-ghost use Rattle.cg_insert.specs.inner.GatedParts.{clocked_part, clocked_parts, gated_gaters, gated_registers};
-ghost use Rattle.cg_insert.specs.inner.GatedParts.{gater_part, gater_parts, placed_outputs, with_clock};
-ghost use Rattle.cg_insert.specs.inner.Telling.{MayTell, WasTold};
+ghost use Rattle.cg_insert.specs.inner.GatedParts.{gated_gaters, gated_registers};
+ghost use Rattle.cg_netlist_telling.specs.NamedParts.{clocked_part, clocked_parts};
+ghost use Rattle.cg_netlist_telling.specs.NamedParts.{gater_part, gater_parts, placed_outputs, with_clock};
+ghost use Rattle.cg_netlist_telling.specs.Telling.{MayTell, WasTold};
 ghost use Rattle.cg_machine.specs.Machine.{enable_of};
-ghost use Rattle.cg_netlist_builder.specs.Calls.{kind_of};
 ghost use Rattle.cg_netlist.specs.Ordered.{place_in};
-ghost use Rattle.cg_netlist.specs.View.{kind_seen, register_seen};
 
 use crate::enables::Enables;
 use crate::logic::fitting;
-use crate::names::GatedNames;
-use cg_cell::cell::CellType;
 use cg_cell::fit::FitKind;
 use cg_cell::library::Library;
 use cg_cell::name::Name;
 use cg_machine::machine::Machine;
 use cg_net::id::{NetId, RegId};
 use cg_netlist::fault::AddFault;
-use cg_netlist::view::{RegKind, RegView};
+use cg_netlist::view::{GaterView, RegKind, RegView};
 use cg_netlist_builder::builder::Builder;
-use std::alloc::{AllocError, Global};
+use cg_netlist_telling::cells::tell_gater;
+use cg_netlist_telling::names::NetlistNames;
+use cg_netlist_telling::registers::{clock_or_first, tell_register};
+use std::alloc::Global;
 
 /// The net of the test input, if there is one: it comes behind the machine's nets.
 pub(crate) fn test_net(machine: &Machine, test: Option<&Name>) -> Option<NetId>
@@ -64,7 +64,7 @@ fn gating_kind(test: Option<&Name>) -> FitKind
 /// Tells a gating cell for each enable.
 pub(crate) fn tell_gaters(
     builder: &mut Builder,
-    names: &GatedNames<'_>,
+    names: &NetlistNames<'_>,
     machine: &Machine,
     library: &Library,
     test: Option<&Name>,
@@ -75,68 +75,30 @@ pub(crate) fn tell_gaters(
     requires parts { MayTell builder.old (gater_parts names.now (gated_gaters library.now (option_copied test) machine.now)) }
     ensures { WasTold builder.old (gater_parts names.now (gated_gaters library.now (option_copied test.entry) machine.now)) builder.new result }
 {
-    let clock = clock_or_first(machine);
-    let test_pin = test_net(machine, test);
+    let clock = clock_or_first(machine.netlist());
     let first = first_gate(machine, test);
     let kind = gating_kind(test);
     for number in 0..enables.len() {
         let cell = fitting(library, kind);
+        let test_pin = test_net(machine, test);
         let output = NetId::new(first + number as u32);
-        tell_gater(
-            builder,
-            names,
-            cell,
+        let gater = GaterView {
             clock,
-            enables.net(number),
-            &test_pin,
+            enable: enables.net(number),
+            test: test_pin,
             output,
-        )?;
+            cell,
+        };
+        tell_gater(builder, names, gater)?;
     }
     Ok(())
-}
-
-/// The clock of a machine, or its first net where it has none.
-fn clock_or_first(machine: &Machine) -> NetId
-    ensures { result ≡ unwrap_or machine.now.circuit.clock 0 }
-{
-    match machine.netlist().clock() {
-        Some(clock) => clock,
-        None => NetId::new(0),
-    }
-}
-
-/// Tells a gating cell.
-fn tell_gater(
-    builder: &mut Builder,
-    names: &GatedNames<'_>,
-    cell: &CellType,
-    clock: NetId,
-    enable: NetId,
-    test: &Option<NetId>,
-    output: NetId,
-) -> Result<(), AddFault>
-    requires { MayTell builder.old (gater_part names.now (record { clock = clock; enable = enable; test = test.now; output = output; cell = cell.now }) ∷ []) }
-    ensures { WasTold builder.old
-        (gater_part names.now (record { clock = clock; enable = enable; test = test.now; output = output; cell = cell.now }) ∷ []) builder.new result }
-{
-    let test = match test {
-        Some(net) => Some(names.name(*net)),
-        None => None,
-    };
-    builder.gater(
-        cell,
-        names.name(clock),
-        names.name(enable),
-        test,
-        names.name(output),
-    )
 }
 
 /// Tells the registers: one with an enable is on the output of that enable's gating cell.
 pub(crate) fn tell_registers(
     alloc: Global,
     builder: &mut Builder,
-    names: &GatedNames<'_>,
+    names: &NetlistNames<'_>,
     machine: &Machine,
     test: Option<&Name>,
     enables: &Enables,
@@ -171,7 +133,7 @@ fn gate_of(machine: &Machine, enables: &Enables, first: u32, reg: RegId) -> Opti
 fn tell_at(
     alloc: Global,
     builder: &mut Builder,
-    names: &GatedNames<'_>,
+    names: &NetlistNames<'_>,
     machine: &Machine,
     reg: RegId,
     gate: Option<NetId>,
@@ -187,7 +149,7 @@ fn tell_at(
         return tell_register(alloc, builder, names, register, clock);
     }
     let (net, output) = machine.delay(reg);
-    let clock = clock_or_first(machine);
+    let clock = clock_or_first(machine.netlist());
     let register = RegView {
         inputs: &[net],
         outputs: &[(output, false)],
@@ -197,54 +159,4 @@ fn tell_at(
         init: 1,
     };
     tell_register(alloc, builder, names, register, gate.unwrap_or(clock))
-}
-
-/// Tells a register, on this clock.
-pub fn tell_register(
-    alloc: Global,
-    builder: &mut Builder,
-    names: &GatedNames<'_>,
-    register: RegView<'_>,
-    clock: NetId,
-) -> Result<(), AddFault>
-    requires { MayTell builder.old (clocked_part names.now (record (register_seen register) { clock = clock }) ∷ []) }
-    ensures { WasTold builder.old (clocked_part names.now (record (register_seen register.entry) { clock = clock }) ∷ []) builder.new result }
-{
-    let inputs = names.each(alloc, register.inputs)?;
-    let outputs = placed_outputs(alloc, names, register.outputs, register.pins)?;
-    let clock = Some(names.name(clock));
-    builder.register(
-        cell_of(register.kind),
-        &inputs,
-        &outputs,
-        clock,
-        register.init,
-    )
-}
-
-/// The names of outputs, each with the place of its pin.
-fn placed_outputs<'n>(
-    alloc: Global,
-    names: &'n GatedNames<'_>,
-    outputs: &[(NetId, bool)],
-    pins: &[u32],
-) -> Result<Vec<(&'n [u8], u32)>, AllocError>
-    requires { length pins.now ≡ length outputs.now }
-    ensures { IfOk result (λ placed. map (λ output. (output.0.now, output.1)) placed.items ≡ placed_outputs names.now outputs.now pins.now) }
-{
-    let mut placed = Vec::with_capacity(alloc, outputs.len())?;
-    for k in 0..outputs.len() {
-        placed.push((names.name(outputs[k].0), pins[k]))?;
-    }
-    Ok(placed)
-}
-
-/// The cell that a register is, or `None` for a plain one.
-fn cell_of(kind: RegKind<'_>) -> Option<&CellType>
-    ensures { kind_of (option_copied result) ≡ kind_seen kind.entry }
-{
-    match kind {
-        RegKind::Plain => None,
-        RegKind::Cell(cell) => Some(cell),
-    }
 }

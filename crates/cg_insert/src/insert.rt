@@ -7,13 +7,13 @@ ghost use Rattle.cg_limit.specs.declared.Limit.TheVariants.{Nets};
 ghost use Rattle.cg_insert.specs.Insert.{CanInsert, enables_of, first_gate, inserted, insertion_limit};
 ghost use Rattle.cg_insert.specs.Inserting.{IsWhole, RunsAs, StaysWritable, insertion};
 ghost use Rattle.cg_insert.specs.inner.GatedParts.{gated_names, gated_parts};
-ghost use Rattle.cg_insert.specs.inner.Telling.{WasTold, told};
+ghost use Rattle.cg_netlist_telling.specs.Telling.{WasTold, told};
 ghost use Rattle.cg_netlist.specs.declared.fault.AddFault.TheVariants.{Limit as LimitFault, NoMemory};
 ghost use Rattle.cg_netlist_builder.specs.Building.{fresh};
 
 use crate::clocked::first_gate;
 use crate::enables::Enables;
-use crate::names::GatedNames;
+use crate::names::gated_names;
 use crate::telling::tell;
 use cg_cell::library::Library;
 use cg_cell::name::Name;
@@ -103,7 +103,7 @@ fn tell_named(
 {
     let netlist = machine.netlist();
     let _own = netlist.nets();
-    let names = GatedNames::of(alloc, machine, test, enables.len())?;
+    let names = gated_names(alloc, machine, test, enables.len())?;
     tell(alloc, builder, machine, library, test, &names, enables)
 }
 

@@ -7,19 +7,17 @@
 //!
 //! - `enables`: the enables of a machine, each once.
 //! - `names`: the names of the nets, those of the added ones made of the prefix and a number.
-//! - `logic`: logic cells and added gates, told to a builder.
+//! - `logic`: added gates, told to a builder as cells of the library.
 //! - `clocked`: gating cells and registers, told to a builder.
 //! - `telling`: all parts, told to a builder.
 //! - `insert`: the netlist.
 //! - `laws`: what is proved of the netlist that a machine's enables make.
-//!
-//! What tells parts by the names of nets is public, for others that make one netlist of another.
 #![tactic(auto)]
 
-pub mod clocked;
+mod clocked;
 mod enables;
 pub mod insert;
 pub mod laws;
-pub mod logic;
-pub mod names;
-pub mod telling;
+mod logic;
+mod names;
+mod telling;

@@ -3,19 +3,22 @@
 ghost use Rattle.std.specs.Prelude.{◌≡◌, ◌∷◌, []};
 ghost use Rattle.std.specs.Option.{option_copied, option_to_list};
 ghost use Rattle.cg_insert.specs.Insert.{CanInsert, enables_of};
-ghost use Rattle.cg_insert.specs.inner.GatedParts.{clock_parts, gated_parts, input_parts, output_parts};
-ghost use Rattle.cg_insert.specs.inner.Telling.{MayTell, WasTold};
+ghost use Rattle.cg_insert.specs.inner.GatedParts.{gated_parts};
+ghost use Rattle.cg_netlist_telling.specs.NamedParts.{clock_parts, input_parts, output_parts};
+ghost use Rattle.cg_netlist_telling.specs.Telling.{MayTell, WasTold};
 
 use crate::clocked::{tell_gaters, tell_registers, test_net};
 use crate::enables::Enables;
-use crate::logic::{tell_cells, tell_gates};
-use crate::names::GatedNames;
+use crate::logic::tell_gates;
 use cg_cell::library::Library;
 use cg_cell::name::Name;
 use cg_machine::machine::Machine;
 use cg_net::id::NetId;
 use cg_netlist::fault::AddFault;
 use cg_netlist_builder::builder::Builder;
+use cg_netlist_telling::cells::tell_cells;
+use cg_netlist_telling::names::NetlistNames;
+use cg_netlist_telling::ports::{tell_clock, tell_input, tell_inputs, tell_outputs};
 use std::alloc::Global;
 
 /// Tells the parts in the order in which they are written: the inputs with the test input last, the outputs, the clock, the
@@ -26,7 +29,7 @@ pub(crate) fn tell(
     machine: &Machine,
     library: &Library,
     test: Option<&Name>,
-    names: &GatedNames<'_>,
+    names: &NetlistNames<'_>,
     enables: &Enables,
 ) -> Result<(), AddFault>
     requires can { CanInsert library.now (option_copied test) machine.now }
@@ -45,33 +48,10 @@ pub(crate) fn tell(
     tell_registers(alloc, builder, names, machine, test, enables)
 }
 
-/// Tells the inputs.
-pub fn tell_inputs(
-    builder: &mut Builder,
-    names: &GatedNames<'_>,
-    nets: &[NetId],
-) -> Result<(), AddFault>
-    requires { MayTell builder.old (input_parts names.now nets.now) }
-    ensures { WasTold builder.old (input_parts names.now nets.now) builder.new result }
-{
-    for net in nets {
-        tell_input(builder, names, *net)?;
-    }
-    Ok(())
-}
-
-/// Tells an input.
-fn tell_input(builder: &mut Builder, names: &GatedNames<'_>, net: NetId) -> Result<(), AddFault>
-    requires { MayTell builder.old (input_parts names.now (net ∷ [])) }
-    ensures { WasTold builder.old (input_parts names.now (net ∷ [])) builder.new result }
-{
-    builder.input(names.name(net))
-}
-
 /// Tells the test input, if there is one.
 fn tell_test(
     builder: &mut Builder,
-    names: &GatedNames<'_>,
+    names: &NetlistNames<'_>,
     test: Option<NetId>,
 ) -> Result<(), AddFault>
     requires { MayTell builder.old (input_parts names.now (option_to_list test)) }
@@ -79,44 +59,6 @@ fn tell_test(
 {
     match test {
         Some(net) => tell_input(builder, names, net),
-        None => Ok(()),
-    }
-}
-
-/// Tells the outputs.
-pub fn tell_outputs(
-    builder: &mut Builder,
-    names: &GatedNames<'_>,
-    nets: &[NetId],
-) -> Result<(), AddFault>
-    requires { MayTell builder.old (output_parts names.now nets.now) }
-    ensures { WasTold builder.old (output_parts names.now nets.now) builder.new result }
-{
-    for net in nets {
-        tell_output(builder, names, *net)?;
-    }
-    Ok(())
-}
-
-/// Tells an output.
-fn tell_output(builder: &mut Builder, names: &GatedNames<'_>, net: NetId) -> Result<(), AddFault>
-    requires { MayTell builder.old (output_parts names.now (net ∷ [])) }
-    ensures { WasTold builder.old (output_parts names.now (net ∷ [])) builder.new result }
-{
-    builder.output(names.name(net))
-}
-
-/// Tells the clock, if there is one.
-pub fn tell_clock(
-    builder: &mut Builder,
-    names: &GatedNames<'_>,
-    clock: Option<NetId>,
-) -> Result<(), AddFault>
-    requires { MayTell builder.old (clock_parts names.now clock) }
-    ensures { WasTold builder.old (clock_parts names.now clock) builder.new result }
-{
-    match clock {
-        Some(net) => builder.clock(names.name(net)),
         None => Ok(()),
     }
 }

@@ -13,7 +13,7 @@ use Rattle.cg_limit.specs.declared.TheConstants.{MOST_NETS, MOST_REGISTERS}
 use Rattle.cg_netlist.specs.Circuit.{GatingCell, LogicCell, RegisterCell, shown_nets}
 use Rattle.cg_net.specs.NetSets.{is_in, with_net}
 use Rattle.cg_net.specs.Names.{NetName, is_known, net_name, with_name, with_names}
-use Rattle.cg_netlist_builder.specs.inner.Heard.{IsHeard}
+use Rattle.cg_netlist_builder.specs.inner.Heard.{Hears, IsHeard}
 use Rattle.cg_netlist_builder.specs.inner.Mentioned.{PutsCell, PutsGater, PutsNet, PutsRegister}
 use Rattle.cg_netlist.specs.Places.{CellWithin}
 use Rattle.cg_netlist_builder.specs.inner.Numbers.{GaterWithin, AreNumbers, Numbers, OpenWithin, seen}
@@ -141,13 +141,6 @@ numbered_keeps n words numbered =
       gaters = each (GaterWithin old) (GaterWithin new) (gater_wider old new grows) n.gaters numbered.gaters;
       registers = each (OpenWithin old) (OpenWithin new) (open_wider old new grows) n.registers numbered.registers;
     }
-
--- a part that was said, and with it the numbers
-pub record Hears (n next : Numbers) (part : Part) : Type 0 where
-  pub numbered : AreNumbers next
-  pub said_is : seen next ≡ with_part (seen n) part
-  pub few_nets : length next.names ≤ MOST_NETS
-  pub few_registers : length next.registers ≤ MOST_REGISTERS
 
 pub still_heard : (model : NetName) (n next : Numbers) (part : Part) → IsHeard model n → IsPart part → Hears n next part → IsHeard model next
 still_heard model n next part heard is hears =

@@ -9,6 +9,7 @@ pub mod FirstFaults
 pub mod GateRanksTell
 pub mod Hearing
 pub mod InPlace
+pub mod InitsGiven
 pub mod MarkLemmas
 pub mod Mentions
 pub mod Numbering

@@ -1,3 +1,4 @@
 pub mod Building
 pub mod Calls
+pub mod Inits
 pub mod inner

@@ -4,3 +4,4 @@ pub mod Heard
 pub mod Mentioned
 pub mod Numbers
 pub mod Renumbering
+pub mod Words

@@ -2,8 +2,8 @@
 
 ghost use Rattle.std.specs.Prelude.{◌≡◌, ◌≤◌, ◌∷◌, [], IfOk, MatchResult, length, map};
 ghost use Rattle.std.specs.Option.{option_copied};
-ghost use Rattle.cg_cell.specs.Cell.{IsCell};
-ghost use Rattle.cg_netlist_builder.specs.Calls.{cell_of, gater_of, kind_of, register_of, shows_inverse};
+ghost use Rattle.cg_netlist_builder.specs.Calls.{cell_of, kind_of, shows_inverse};
+ghost use Rattle.cg_netlist_builder.specs.inner.Words.{gater_said, register_said};
 ghost use Rattle.cg_netlist.specs.declared.parts.LogicFunction.TheVariants.{Cell as PlacedCell};
 ghost use Rattle.cg_netlist_builder.specs.inner.Mentioned.{IsMentioned, IsMentionFault, IsRegisterFault, PutsCell, PutsGater, PutsNet};
 ghost use Rattle.cg_netlist_builder.specs.inner.Mentioned.{PutsRegister};
@@ -12,6 +12,7 @@ ghost use Rattle.cg_net.specs.Names.{with_names};
 
 use crate::mention::{mention, mention_each, mention_given, put};
 use crate::open_register::OpenRegister;
+use crate::part_words::{GaterWords, RegisterWords};
 use cg_cell::cell::{CellType, Role};
 use cg_limit::{Limit, MOST_NETS, MOST_REGISTERS};
 use cg_net::id::NetId;
@@ -64,15 +65,6 @@ pub(crate) fn add_logic(
     )
 }
 
-/// A cell of a library, to be placed.
-fn placed(cell: &CellType) -> Result<CellType, AllocError>
-    ensures copy { IfOk result (λ copy. copy ≡ cell.now) }
-    ensures cell { IsCell cell.now }
-{
-    let _ = cell.pins();
-    cell.clone()
-}
-
 /// Mentions the nets of a placed logic cell, and adds the cell.
 pub(crate) fn add_placed(
     alloc: Global,
@@ -83,13 +75,12 @@ pub(crate) fn add_placed(
     output: &[u8],
 ) -> Result<(), AddFault>
     requires { length names.old ≤ MOST_NETS }
-    ensures cell { IsCell cell.now }
-    ensures puts { MatchResult result
+    ensures { MatchResult result
         (λ _. PutsCell names.old names.new cells.old.items cells.new.items (cell_of (map (λ name. name.now) inputs.now) output.now (PlacedCell cell.now)))
         (λ fault. IsMentionFault
         (with_names names.old (mentioned (LogicPart (cell_of (map (λ name. name.now) inputs.now) output.now (PlacedCell cell.now))))) fault) }
 {
-    let function = LogicFunction::Cell(placed(cell)?);
+    let function = LogicFunction::Cell(cell.clone()?);
     add_logic(alloc, names, cells, inputs, output, function)
 }
 
@@ -98,24 +89,18 @@ pub(crate) fn add_gater(
     alloc: Global,
     names: &mut NetNames,
     gaters: &mut Vec<Gater>,
-    cell: &CellType,
-    clock: &[u8],
-    enable: &[u8],
-    test: Option<&[u8]>,
-    output: &[u8],
+    words: GaterWords<'_>,
 ) -> Result<(), AddFault>
     requires { length names.old ≤ MOST_NETS }
-    ensures cell { IsCell cell.now }
-    ensures puts { MatchResult result
-        (λ _. PutsGater names.old names.new gaters.old.items gaters.new.items (gater_of cell.now clock.now enable.now (option_copied test.entry) output.now))
-        (λ fault. IsMentionFault
-        (with_names names.old (mentioned (Gate (gater_of cell.now clock.now enable.now (option_copied test.entry) output.now)))) fault) }
+    ensures { MatchResult result
+        (λ _. PutsGater names.old names.new gaters.old.items gaters.new.items (gater_said words.entry))
+        (λ fault. IsMentionFault (with_names names.old (mentioned (Gate (gater_said words.entry)))) fault) }
 {
-    let cell = placed(cell)?;
-    let clock = mention(alloc, names, clock)?;
-    let enable = mention(alloc, names, enable)?;
-    let test = mention_given(alloc, names, test)?;
-    let output = mention(alloc, names, output)?;
+    let cell = words.cell.clone()?;
+    let clock = mention(alloc, names, words.clock)?;
+    let enable = mention(alloc, names, words.enable)?;
+    let test = mention_given(alloc, names, words.test)?;
+    let output = mention(alloc, names, words.output)?;
     put(
         gaters,
         Gater {
@@ -133,29 +118,22 @@ pub(crate) fn add_register(
     alloc: Global,
     names: &mut NetNames,
     registers: &mut Vec<OpenRegister>,
-    cell: Option<&CellType>,
-    inputs: &[&[u8]],
-    outputs: &[(&[u8], u32)],
-    clock: Option<&[u8]>,
-    init: u8,
+    words: RegisterWords<'_>,
 ) -> Result<(), AddFault>
     requires nets { length names.old ≤ MOST_NETS }
     requires registers { length registers.old.items ≤ MOST_REGISTERS }
     ensures { MatchResult result
-        (λ _. PutsRegister names.old names.new registers.old.items registers.new.items (register_of (option_copied cell.entry)
-        (map (λ name. name.now) inputs.now) (map (λ output. (output.0.now, output.1)) outputs.now) (option_copied clock.entry) init))
-        (IsRegisterFault (with_names names.old
-        (mentioned (RegisterPart (register_of (option_copied cell.entry) (map (λ name. name.now) inputs.now)
-        (map (λ output. (output.0.now, output.1)) outputs.now) (option_copied clock.entry) init)))) (length registers.old.items)) }
+        (λ _. PutsRegister names.old names.new registers.old.items registers.new.items (register_said words.entry))
+        (IsRegisterFault (with_names names.old (mentioned (RegisterPart (register_said words.entry)))) (length registers.old.items)) }
 {
-    let inputs = mention_each(alloc, names, inputs)?;
-    let nets = mention_outputs(alloc, names, cell, outputs)?;
-    let clock = mention_given(alloc, names, clock)?;
+    let inputs = mention_each(alloc, names, words.inputs)?;
+    let nets = mention_outputs(alloc, names, words.cell, words.outputs)?;
+    let clock = mention_given(alloc, names, words.clock)?;
     if registers.len() == MOST_REGISTERS {
         return Err(AddFault::Limit(Limit::Registers));
     }
-    let pins = places(alloc, outputs)?;
-    let kind = kind(cell)?;
+    let pins = places(alloc, words.outputs)?;
+    let kind = kind(words.cell)?;
     put(
         registers,
         OpenRegister {
@@ -164,7 +142,7 @@ pub(crate) fn add_register(
             pins,
             clock,
             kind,
-            init,
+            init: words.init,
         },
     )
 }

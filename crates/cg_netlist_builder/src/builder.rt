@@ -1,7 +1,7 @@
 //! Building netlists, part by part, nets by their names.
 
-ghost use Rattle.std.specs.Prelude.{◌≡◌, ◌<◌, ◌^◌, None, IfOk, IsTrue, MatchResult, count_by, length, map};
-ghost use Rattle.std.specs.List.{AllByRecursion};
+ghost use Rattle.std.specs.Prelude.{◌≡◌, ◌<◌, ◌≤◌, ◌^◌, None, IfOk, IsTrue, MatchResult, count_by, length, map};
+ghost use Rattle.std.specs.List.{All, AllByRecursion};
 ghost use Rattle.std.specs.Option.{option_copied, option_to_list};
 ghost use Rattle.cg_cell.specs.Cover.{CoverFits};
 ghost use Rattle.cg_cell.specs.Name.{is_name};
@@ -10,21 +10,21 @@ ghost use Rattle.cg_cell.specs.declared.cell.CellKind.TheVariants.{Gater as Gate
 ghost use Rattle.cg_netlist_builder.specs.Calls.{cell_of, gater_of, register_of};
 ghost use Rattle.cg_netlist.specs.WellFormed.{RegisterFits};
 ghost use Rattle.cg_netlist.specs.declared.parts.LogicFunction.TheVariants.{Cell as PlacedCell, Cover as CoverFunction};
+ghost use Rattle.cg_netlist_builder.specs.Inits.{with_inits};
 ghost use Rattle.cg_netlist_builder.specs.Building.{Finishes, Takes, fresh};
+ghost use Rattle.cg_netlist_builder.specs.inner.Words.{part_said};
+ghost use Rattle.cg_netlist_parts.specs.Says.{IsPart};
 ghost use Rattle.cg_netlist_parts.specs.Part.{Clock, Gate, Input, Logic as LogicPart, Output, Register as RegisterPart, mentioned};
 
-use crate::adding::{add_gater, add_logic, add_net, add_placed, add_register};
 use crate::finish::finished;
-use crate::open_register::OpenRegister;
-use crate::told::Told;
+use crate::part_words::{GaterWords, PartWords, RegisterWords};
+use crate::parts::Parts;
 use cg_cell::cell::CellType;
 use cg_cell::cover::Cover;
 use cg_cell::name::Name;
 use cg_net::names::NetNames;
-use cg_net::net_set::NetSet;
 use cg_netlist::fault::AddFault;
 use cg_netlist::netlist::Netlist;
-use cg_netlist::parts::{Gater, Logic, LogicFunction};
 use cg_netlist_parts::fault::NetFault;
 use std::alloc::{AllocError, Global};
 use std::marker::Model;
@@ -41,13 +41,7 @@ use std::marker::Model;
 pub struct Builder {
     alloc: Global,
     model: Name,
-    names: NetNames,
-    inputs: NetSet,
-    outputs: NetSet,
-    clocks: NetSet,
-    cells: Vec<Logic>,
-    gaters: Vec<Gater>,
-    registers: Vec<OpenRegister>,
+    parts: Parts,
     refused: Option<AddFault>,
 }
 
@@ -61,27 +55,9 @@ impl Model for Builder {
 
     ghost coded = { Prim.hlevel (codes, term_code) };
 
-    ghost view = { λ b. built b.model
-        (record {
-          names = b.names;
-          inputs = b.inputs;
-          outputs = b.outputs;
-          clocks = b.clocks;
-          cells = b.cells.items;
-          gaters = b.gaters.items;
-          registers = b.registers.items;
-        }) b.refused };
+    ghost view = { λ b. built b.model b.parts b.refused };
 
-    ghost invariant = { λ b. IsBuilder b.model
-        (record {
-          names = b.names;
-          inputs = b.inputs;
-          outputs = b.outputs;
-          clocks = b.clocks;
-          cells = b.cells.items;
-          gaters = b.gaters.items;
-          registers = b.registers.items;
-        }) b.refused };
+    ghost invariant = { λ b. IsBuilder b.model b.parts b.refused };
 }
 
 impl Builder {
@@ -94,13 +70,7 @@ impl Builder {
         Ok(Builder {
             alloc,
             model,
-            names: NetNames::new(alloc),
-            inputs: NetSet::new(alloc),
-            outputs: NetSet::new(alloc),
-            clocks: NetSet::new(alloc),
-            cells: Vec::new(alloc),
-            gaters: Vec::new(alloc),
-            registers: Vec::new(alloc),
+            parts: Parts::new(alloc),
             refused: None,
         })
     }
@@ -110,11 +80,7 @@ impl Builder {
         requires { IsTrue (is_name net.now) }
         ensures { Takes self.old (Input net.now) self.new result }
     {
-        if let Some(fault) = self.refused {
-            return Err(fault);
-        }
-        let added = add_net(self.alloc, &mut self.names, &mut self.inputs, net);
-        noted(&mut self.refused, added)
+        self.take(PartWords::Input(net))
     }
 
     /// Makes a net an output, if it is none yet.
@@ -122,11 +88,7 @@ impl Builder {
         requires { IsTrue (is_name net.now) }
         ensures { Takes self.old (Output net.now) self.new result }
     {
-        if let Some(fault) = self.refused {
-            return Err(fault);
-        }
-        let added = add_net(self.alloc, &mut self.names, &mut self.outputs, net);
-        noted(&mut self.refused, added)
+        self.take(PartWords::Output(net))
     }
 
     /// Declares a net to be the clock, if it was not declared yet.
@@ -134,11 +96,7 @@ impl Builder {
         requires { IsTrue (is_name net.now) }
         ensures { Takes self.old (Clock net.now) self.new result }
     {
-        if let Some(fault) = self.refused {
-            return Err(fault);
-        }
-        let added = add_net(self.alloc, &mut self.names, &mut self.clocks, net);
-        noted(&mut self.refused, added)
+        self.take(PartWords::Clock(net))
     }
 
     /// Adds a logic cell whose function is a cover.
@@ -149,18 +107,7 @@ impl Builder {
         requires fits { CoverFits (length inputs.now) cover }
         ensures { Takes self.old (LogicPart (cell_of (map (λ name. name.now) inputs.now) output.now (CoverFunction cover))) self.new result }
     {
-        if let Some(fault) = self.refused {
-            return Err(fault);
-        }
-        let added = add_logic(
-            self.alloc,
-            &mut self.names,
-            &mut self.cells,
-            inputs,
-            output,
-            LogicFunction::Cover(cover),
-        );
-        noted(&mut self.refused, added)
+        self.take(PartWords::Cover(inputs, output, cover))
     }
 
     /// Adds a placed cell of a library, of kind Logic, with these nets at its Data pins in pin order.
@@ -176,18 +123,8 @@ impl Builder {
         requires output { IsTrue (is_name output.now) }
         ensures { Takes self.old (LogicPart (cell_of (map (λ name. name.now) inputs.now) output.now (PlacedCell cell.now))) self.new result }
     {
-        if let Some(fault) = self.refused {
-            return Err(fault);
-        }
-        let added = add_placed(
-            self.alloc,
-            &mut self.names,
-            &mut self.cells,
-            cell,
-            inputs,
-            output,
-        );
-        noted(&mut self.refused, added)
+        let _pins = cell.pins();
+        self.take(PartWords::Placed(cell, inputs, output))
     }
 
     /// Adds a gating cell: a placed cell of a library, of kind Gater. A test net is given exactly where the cell has a
@@ -206,20 +143,14 @@ impl Builder {
             (mentioned (Gate (gater_of cell.now clock.now enable.now (option_copied test) output.now))) }
         ensures { Takes self.old (Gate (gater_of cell.now clock.now enable.now (option_copied test.entry) output.now)) self.new result }
     {
-        if let Some(fault) = self.refused {
-            return Err(fault);
-        }
-        let added = add_gater(
-            self.alloc,
-            &mut self.names,
-            &mut self.gaters,
+        let _pins = cell.pins();
+        self.take(PartWords::Gater(GaterWords {
             cell,
             clock,
             enable,
             test,
             output,
-        );
-        noted(&mut self.refused, added)
+        }))
     }
 
     /// Adds a register: a placed cell of a library, of kind Flop, with these nets at its Data pins in pin order, or a
@@ -244,20 +175,25 @@ impl Builder {
             (RegisterPart (register_of (option_copied cell.entry) (map (λ name. name.now) inputs.now) (map (λ output. (output.0.now, output.1)) outputs.now)
             (option_copied clock.entry) init)) self.new result }
     {
-        if let Some(fault) = self.refused {
-            return Err(fault);
-        }
-        let added = add_register(
-            self.alloc,
-            &mut self.names,
-            &mut self.registers,
+        self.take(PartWords::Register(RegisterWords {
             cell,
             inputs,
             outputs,
             clock,
             init,
-        );
-        noted(&mut self.refused, added)
+        }))
+    }
+
+    /// Gives inits to plain registers by the nets that they show, as if they had been said with them: each that shows a net
+    /// of these names gets the init at the place of that name, and every other one keeps its own. No call of this builder
+    /// was refused.
+    pub fn give_inits(&mut self, nets: &NetNames, inits: &[u8])
+        requires open { self.old.refused ≡ None }
+        requires each { length inits.now ≡ length nets.now }
+        requires inits { All (λ init. init ≤ 3) inits.now }
+        ensures { self.new ≡ record self.old { said = with_inits nets.now inits.now self.old.said } }
+    {
+        self.parts.give_inits(nets, inits);
     }
 
     /// The netlist that the parts say, or the first fault of them. No call of this builder was refused.
@@ -268,25 +204,22 @@ impl Builder {
         let Builder {
             alloc,
             model,
-            names,
-            inputs,
-            outputs,
-            clocks,
-            cells,
-            gaters,
-            registers,
+            parts,
             refused: _,
         } = self;
-        let told = Told {
-            names,
-            inputs: inputs.into_vec(),
-            outputs: outputs.into_vec(),
-            clocks: clocks.into_vec(),
-            cells,
-            gaters,
-            registers,
-        };
-        finished(alloc, model, told)
+        finished(alloc, model, parts.told())
+    }
+
+    /// Takes a part, unless a part was refused before.
+    fn take(&mut self, part: PartWords<'_>) -> Result<(), AddFault>
+        requires { IsPart (part_said part) }
+        ensures { Takes self.old (part_said part.entry) self.new result }
+    {
+        if let Some(fault) = self.refused {
+            return Err(fault);
+        }
+        let added = self.parts.add(self.alloc, part);
+        noted(&mut self.refused, added)
     }
 }
 

@@ -8,7 +8,10 @@
 //! - `open_register`: registers whose clock is still open.
 //! - `marks`: marks on nets, and the first net that has one.
 //! - `mention`: mentioning nets by their names.
+//! - `part_words`: parts as they are told, by the names of their nets.
 //! - `adding`: adding one part.
+//! - `inits`: inits that plain registers are given behind all parts.
+//! - `parts`: the parts so far, by the numbers of their nets.
 //! - `builder`: building netlists, part by part.
 //! - `renumber`: parts with other numbers for their nets.
 //! - `order`: the places of the nets in net order.
@@ -19,9 +22,12 @@
 mod adding;
 pub mod builder;
 mod finish;
+mod inits;
 mod marks;
 mod mention;
 mod open_register;
 mod order;
+mod part_words;
+mod parts;
 mod renumber;
 mod told;

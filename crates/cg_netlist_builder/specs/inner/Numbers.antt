@@ -8,6 +8,7 @@ use Rattle.cg_netlist.specs.Circuit.{Circuit, GatingCell, LogicCell, RegisterCel
 use Rattle.cg_net.specs.NetSets.{is_in}
 use Rattle.cg_netlist.specs.Places.{CellWithin}
 use Rattle.cg_netlist.specs.Ranks.{driving_cell, rank_of, rank_within}
+use Rattle.cg_netlist_builder.specs.Inits.{with_init}
 use Rattle.cg_netlist_parts.specs.Said.{Said}
 use Rattle.cg_net.specs.Names.{NetName, net_name}
 use Rattle.cg_netlist.specs.Wiring.{Wiring, among, circuit, driven_by_cells, driven_by_gaters, driven_by_registers}
@@ -33,6 +34,10 @@ seen n = record {
   gaters = map (map_gater (net_name n.names)) n.gaters;
   registers = map (map_open (net_name n.names)) n.registers;
 }
+
+-- the numbers with inits that plain registers are given by the names of their nets
+abbrev pub numbers_with : (NetName → Option ℕ) → Numbers → Numbers
+numbers_with given n = record n { registers = map (with_init (λ net. given (net_name n.names net))) n.registers }
 
 -- each name stands once, and each number is that of a net
 pub record GaterWithin (m : ℕ) (gater : GatingCell ℕ) : Type 0 where

@@ -1,6 +1,6 @@
 use Rattle.std.proofs.Common.{◌≡◌, IfOk, subst}
 use Rattle.cg_netlist_builder.specs.Building.{Building, fresh}
-use Rattle.cg_insert.specs.inner.Telling.{told}
+use Rattle.cg_netlist_telling.specs.Telling.{told}
 use Rattle.cg_extract.specs.inner.BareParts.{bare_parts}
 use Rattle.cg_extract.proofs.BareParts.{finished, mapped}
 use Rattle.cg_extract.proofs.strip.stripped.Goals as goal

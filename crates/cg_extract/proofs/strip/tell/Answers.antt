@@ -1,8 +1,8 @@
 use Rattle.std.proofs.Common.{◌≡◌, refl, ap, sym, ◌∙◌, subst}
 use Rattle.cg_netlist_builder.specs.Building.{Building}
-use Rattle.cg_insert.proofs.ToldParts.{call_may, call_tells, call_told}
-use Rattle.cg_insert.specs.inner.GatedParts.{cell_parts, clock_parts, clocked_parts, input_parts, output_parts}
-use Rattle.cg_insert.specs.inner.Telling.{MayTell, told}
+use Rattle.cg_netlist_telling.proofs.ToldParts.{call_may, call_tells, call_told}
+use Rattle.cg_netlist_telling.specs.NamedParts.{cell_parts, clock_parts, clocked_parts, input_parts, output_parts}
+use Rattle.cg_netlist_telling.specs.Telling.{MayTell, told}
 use Rattle.cg_extract.proofs.ToldBare.{may_cells, may_clock, may_inputs, may_outputs, to_cells, to_clock, to_inputs, to_outputs}
 use Rattle.cg_extract.specs.Lifted.{ungated}
 use Rattle.cg_extract.proofs.strip.tell.Goals as goal

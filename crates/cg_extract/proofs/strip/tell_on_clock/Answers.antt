@@ -1,8 +1,8 @@
 use Rattle.std.proofs.Common.{List, Some, refl, slice_get, sym, subst}
 use Rattle.cg_netlist.specs.View.{register_seen}
 use Rattle.cg_netlist_parts.specs.Part.{Part}
-use Rattle.cg_insert.proofs.ClockedPlaces.{own_part}
-use Rattle.cg_insert.specs.inner.Telling.{MayTell, WasTold}
+use Rattle.cg_netlist_telling.proofs.OwnPart.{own_part}
+use Rattle.cg_netlist_telling.specs.Telling.{MayTell, WasTold}
 use Rattle.cg_extract.proofs.strip.tell_on_clock.Goals as goal
 
 pub tell_register-requires : goal.tell_register-requires

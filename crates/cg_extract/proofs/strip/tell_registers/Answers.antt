@@ -1,10 +1,10 @@
 use Rattle.std.proofs.Common.{◌≡◌, ℕ, Some, slice_get, refl, ap, sym, ◌∙◌, subst, arith}
 use Rattle.std.proofs.lemmas.List.{length-map}
 use Rattle.cg_netlist.proofs.Values.{element_at}
-use Rattle.cg_insert.proofs.ClockedPlaces.{own_part}
-use Rattle.cg_insert.proofs.ToldParts.{end_at, may_at, told_at}
-use Rattle.cg_insert.specs.inner.GatedParts.{clocked_part}
-use Rattle.cg_insert.specs.inner.Telling.{MayTell, told}
+use Rattle.cg_netlist_telling.proofs.OwnPart.{own_part}
+use Rattle.cg_netlist_telling.proofs.ToldParts.{end_at, may_at, told_at}
+use Rattle.cg_netlist_telling.specs.NamedParts.{clocked_part}
+use Rattle.cg_netlist_telling.specs.Telling.{MayTell, told}
 use Rattle.cg_extract.proofs.BareParts.{register_at}
 use Rattle.cg_extract.specs.Lifted.{on_clock, ungated}
 use Rattle.cg_extract.proofs.strip.tell_registers.Goals as goal

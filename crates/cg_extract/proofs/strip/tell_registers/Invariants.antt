@@ -1,6 +1,6 @@
 use Rattle.std.proofs.Common.{◌≡◌, take}
-use Rattle.cg_insert.specs.inner.GatedParts.{clocked_parts}
-use Rattle.cg_insert.specs.inner.Telling.{told}
+use Rattle.cg_netlist_telling.specs.NamedParts.{clocked_parts}
+use Rattle.cg_netlist_telling.specs.Telling.{told}
 use Rattle.cg_extract.specs.Lifted.{ungated}
 use Rattle.cg_extract.proofs.strip.tell_registers.Given as goal
 

@@ -1,6 +1,6 @@
 use Rattle.std.proofs.Common.{List, ℕ, ap, sym, ◌∙◌, subst}
 use Rattle.cg_netlist_builder.specs.Building.{Building, fresh}
-use Rattle.cg_insert.specs.inner.Telling.{MayTell, told}
+use Rattle.cg_netlist_telling.specs.Telling.{MayTell, told}
 use Rattle.cg_extract.proofs.BareParts.{may_tell}
 use Rattle.cg_extract.specs.inner.BareParts.{bare_parts}
 use Rattle.cg_extract.proofs.strip.told_builder.Goals as goal

@@ -1,5 +1,5 @@
 use Rattle.std.proofs.Common.{arith}
-use Rattle.cg_insert.proofs.OrderedNames.{place_small}
+use Rattle.cg_netlist_telling.proofs.OrderedNames.{place_small}
 use Rattle.cg_insert.proofs.clocked.gate_of.Goals as goal
 
 pub overflow_cast-place : goal.overflow_cast-place

@@ -3,9 +3,9 @@ use Rattle.cg_machine.proofs.Lists.{take_get}
 use Rattle.cg_netlist.specs.Circuit.{Circuit}
 use Rattle.cg_netlist.specs.View.{register_seen}
 use Rattle.cg_netlist_parts.specs.Part.{Part}
-use Rattle.cg_insert.proofs.ClockedPlaces.{own_part}
+use Rattle.cg_netlist_telling.proofs.OwnPart.{own_part}
 use Rattle.cg_insert.proofs.Lookups.{not_le}
-use Rattle.cg_insert.specs.inner.Telling.{MayTell, WasTold}
+use Rattle.cg_netlist_telling.specs.Telling.{MayTell, WasTold}
 use Rattle.cg_insert.proofs.clocked.tell_at.Goals as goal
 
 pub tell_register-requires : goal.tell_register-requires

@@ -1,10 +1,12 @@
-use Rattle.std.proofs.Common.{◌≡◌, ◌<◌, ◌+◌, ◌≤◌, ℕ, List, length, Some, slice_get, ap, sym, ◌∙◌, arith}
+use Rattle.std.proofs.Common.{◌+◌, ℕ, length, ap, ◌∙◌, arith}
 use Rattle.std.specs.Option.{option_copied}
-use Rattle.cg_netlist.specs.Circuit.{GatingCell}
+use Rattle.std.specs.Prelude.{unwrap_or}
+use Rattle.cg_netlist.specs.Circuit.{Circuit}
 use Rattle.cg_insert.proofs.ClockedPlaces.{gater_stands, gaters_long}
-use Rattle.cg_insert.proofs.ToldParts.{end_at, may_at, told_at}
-use Rattle.cg_insert.specs.Insert.{enables_of, fitting, gating_kind}
-use Rattle.cg_insert.specs.inner.GatedParts.{gated_gaters, gater_part}
+use Rattle.cg_netlist_telling.proofs.ToldParts.{end_at, may_at, told_at}
+use Rattle.cg_insert.specs.Insert.{fitting}
+use Rattle.cg_insert.specs.inner.GatedParts.{gated_gaters}
+use Rattle.cg_netlist_telling.specs.NamedParts.{gater_part}
 use Rattle.cg_insert.proofs.clocked.tell_gaters.Goals as goal
 
 pub overflow_cast-number : goal.overflow_cast-number
@@ -19,9 +21,10 @@ tell_gater-requires c =
     let m = c.args.machine.now in
     let library = c.args.library.now in
     let n : ℕ = c.loop-number.number in
+    let clock_is = c.clock_or_first-clock.ensures ∙ ap (λ (d : Circuit). unwrap_or d.clock 0) c.netlist.ensures.netlist in
     let cell = c.fitting-cell.ensures ∙ ap (fitting library) c.gating_kind-kind.ensures in
     let out = c.new-output.ensures ∙ ap (λ k. k + n) c.first_gate-first.ensures.first in
-    may_at (gater_part c.args.names.now) c.args.builder.now c.loop-number.builder (gated_gaters library test m) n _ (gater_stands library test m c.args.enables.now c.requires.enables n c.net.result c.clock_or_first-clock.result c.new-output.result c.test_net-test_pin.result c.fitting-cell.result.now c.net.ensures c.clock_or_first-clock.ensures c.test_net-test_pin.ensures out cell) c.requires.parts c.loop-number.invariant
+    may_at (gater_part c.args.names.now) c.args.builder.now c.loop-number.builder (gated_gaters library test m) n _ (gater_stands library test m c.args.enables.now c.requires.enables n c.net.result c.clock_or_first-clock.result c.new-output.result c.test_net-test_pin.result c.fitting-cell.result.now c.net.ensures clock_is c.test_net-test_pin.ensures out cell) c.requires.parts c.loop-number.invariant
 
 pub loop-number-preserved : goal.loop-number-preserved
 loop-number-preserved c =
@@ -29,9 +32,10 @@ loop-number-preserved c =
     let m = c.args.machine.now in
     let library = c.args.library.now in
     let n : ℕ = c.loop-number.number in
+    let clock_is = c.clock_or_first-clock.ensures ∙ ap (λ (d : Circuit). unwrap_or d.clock 0) c.netlist.ensures.netlist in
     let cell = c.fitting-cell.ensures ∙ ap (fitting library) c.gating_kind-kind.ensures in
     let out = c.new-output.ensures ∙ ap (λ k. k + n) c.first_gate-first.ensures.first in
-    told_at (gater_part c.args.names.now) c.args.builder.now c.loop-number.builder c.tell_gater.new.builder (gated_gaters library test m) n _ (gater_stands library test m c.args.enables.now c.requires.enables n c.net.result c.clock_or_first-clock.result c.new-output.result c.test_net-test_pin.result c.fitting-cell.result.now c.net.ensures c.clock_or_first-clock.ensures c.test_net-test_pin.ensures out cell) c.loop-number.invariant c.in_ok-tell_gater.ensures
+    told_at (gater_part c.args.names.now) c.args.builder.now c.loop-number.builder c.tell_gater.new.builder (gated_gaters library test m) n _ (gater_stands library test m c.args.enables.now c.requires.enables n c.net.result c.clock_or_first-clock.result c.new-output.result c.test_net-test_pin.result c.fitting-cell.result.now c.net.ensures clock_is c.test_net-test_pin.ensures out cell) c.loop-number.invariant c.in_ok-tell_gater.ensures
 
 pub returns : goal.returns
 returns c =

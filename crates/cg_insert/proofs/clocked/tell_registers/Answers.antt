@@ -1,12 +1,13 @@
-use Rattle.std.proofs.Common.{◌≡◌, ◌<◌, ◌+◌, ◌≤◌, ℕ, List, length, Option, Some, slice_get, ap, sym, ◌∙◌, subst, arith}
+use Rattle.std.proofs.Common.{◌≡◌, ◌+◌, ℕ, length, slice_get, ap, sym, ◌∙◌, subst, arith}
 use Rattle.std.specs.Option.{option_copied, option_map, option_to_list}
 use Rattle.cg_machine.specs.Machine.{enable_of}
 use Rattle.cg_netlist.specs.Ordered.{place_in}
 use Rattle.cg_insert.proofs.ClockedPlaces.{AtNumber, at_number, registers_long}
-use Rattle.cg_insert.proofs.ToldParts.{end_at, may_at, told_at}
+use Rattle.cg_netlist_telling.proofs.ToldParts.{end_at, may_at, told_at}
 use Rattle.cg_insert.specs.Insert.{enables_of, first_gate}
-use Rattle.cg_insert.specs.inner.GatedParts.{clocked_part, clocked_parts, gated_registers, with_clock}
-use Rattle.cg_insert.specs.inner.Telling.{MayTell, told}
+use Rattle.cg_insert.specs.inner.GatedParts.{gated_registers}
+use Rattle.cg_netlist_telling.specs.NamedParts.{clocked_part, clocked_parts, with_clock}
+use Rattle.cg_netlist_telling.specs.Telling.{MayTell, told}
 use Rattle.cg_insert.proofs.clocked.tell_registers.Goals as goal
 
 pub gate_of-gate-requires-clause-small : goal.gate_of-gate-requires-clause-small

@@ -6,9 +6,9 @@ use Rattle.cg_cell.specs.Cell.{CellData}
 use Rattle.cg_cell.specs.Fit.{is_fit}
 use Rattle.cg_machine.specs.Gates.{AddedGate}
 use Rattle.cg_machine.specs.View.{gate_seen}
-use Rattle.cg_insert.proofs.ToldParts.{may_at, told_at}
+use Rattle.cg_netlist_telling.proofs.ToldParts.{may_at, told_at}
 use Rattle.cg_insert.specs.Insert.{placed_gate}
-use Rattle.cg_insert.specs.inner.GatedParts.{cell_part}
+use Rattle.cg_netlist_telling.specs.NamedParts.{cell_part}
 use Rattle.cg_insert.proofs.logic.tell_gates.Goals as goal
 use Rattle.cg_machine.proofs.Lists.{all_at}
 

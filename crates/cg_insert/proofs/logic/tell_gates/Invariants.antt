@@ -1,7 +1,7 @@
 use Rattle.std.proofs.Common.{◌≡◌, map, take}
 use Rattle.cg_insert.specs.Insert.{placed_gate}
-use Rattle.cg_insert.specs.inner.GatedParts.{cell_parts}
-use Rattle.cg_insert.specs.inner.Telling.{told}
+use Rattle.cg_netlist_telling.specs.NamedParts.{cell_parts}
+use Rattle.cg_netlist_telling.specs.Telling.{told}
 use Rattle.cg_insert.proofs.logic.tell_gates.Given as goal
 
 abbrev pub invariant-loop-number : goal.invariant-loop-number

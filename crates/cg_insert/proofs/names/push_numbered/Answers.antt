@@ -1,5 +1,5 @@
 use Rattle.std.proofs.Common.{◌++◌, decimal}
-use Rattle.cg_insert.specs.inner.Names.{bytes_of}
+use Rattle.cg_netlist_telling.specs.Names.{bytes_of}
 use Rattle.cg_insert.proofs.Lookups.{numbered_step}
 use Rattle.cg_insert.proofs.names.push_numbered.Goals as goal
 

@@ -1,6 +1,6 @@
 use Rattle.std.proofs.Common.{◌≡◌, ◌++◌, map, decimal}
 use Rattle.std.specs.List.{range_with_len}
-use Rattle.cg_insert.specs.inner.Names.{bytes_of}
+use Rattle.cg_netlist_telling.specs.Names.{bytes_of}
 use Rattle.cg_insert.proofs.names.push_numbered.Given as goal
 
 abbrev pub invariant-loop-k : goal.invariant-loop-k

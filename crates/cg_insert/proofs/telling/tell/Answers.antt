@@ -5,9 +5,9 @@ use Rattle.cg_netlist_builder.specs.Building.{Building}
 use Rattle.cg_insert.proofs.ToldGroups.{may_cells, may_clock, may_gaters, may_gates, may_inputs, may_outputs, may_registers}
 use Rattle.cg_insert.proofs.ToldGroups.{may_test, the_cells, the_clock, the_gaters, the_gates, the_outputs, the_registers, the_test}
 use Rattle.cg_insert.proofs.ToldGroups.{to_cells, to_clock, to_gaters, to_gates, to_inputs, to_outputs, to_test}
-use Rattle.cg_insert.proofs.ToldParts.{call_may, call_tells, call_told}
-use Rattle.cg_insert.specs.inner.GatedParts.{cell_parts, clock_parts, input_parts, output_parts}
-use Rattle.cg_insert.specs.inner.Telling.{MayTell, told}
+use Rattle.cg_netlist_telling.proofs.ToldParts.{call_may, call_tells, call_told}
+use Rattle.cg_netlist_telling.specs.NamedParts.{cell_parts, clock_parts, input_parts, output_parts}
+use Rattle.cg_netlist_telling.specs.Telling.{MayTell, told}
 use Rattle.cg_insert.proofs.telling.tell.Goals as goal
 
 pub tell_inputs-requires : goal.tell_inputs-requires

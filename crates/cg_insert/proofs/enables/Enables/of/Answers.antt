@@ -1,4 +1,4 @@
-use Rattle.std.proofs.Common.{◌≡◌, ℕ, ◌<◌, List, Option, None, Some, slice_get, length, refl, ap, sym, ◌∙◌, arith}
+use Rattle.std.proofs.Common.{◌≡◌, ℕ, ◌<◌, List, Option, None, Some, length, ap, sym, ◌∙◌, arith}
 use Rattle.std.specs.Option.{option_flatten}
 use Rattle.cg_machine.specs.Machine.{enable_of}
 use Rattle.cg_netlist.proofs.Values.{element_at}

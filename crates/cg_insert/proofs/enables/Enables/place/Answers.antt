@@ -2,7 +2,7 @@ use Rattle.std.proofs.Common.{◌≡◌, List, ℕ, None, nat_eq, ap, sym, ◌�
 use Rattle.std.specs.List.{position}
 use Rattle.cg_netlist.specs.Ordered.{place_in}
 use Rattle.cg_insert.proofs.Lookups.{no_place}
-use Rattle.cg_insert.proofs.OrderedNames.{place_small}
+use Rattle.cg_netlist_telling.proofs.OrderedNames.{place_small}
 use Rattle.cg_insert.proofs.enables.Enables.place.Goals as goal
 
 pub returns-in-None : goal.returns-in-None

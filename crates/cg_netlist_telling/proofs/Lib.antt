@@ -1,0 +1,5 @@
+pub mod OrderedNames
+pub mod OwnPart
+pub mod RegisterCalls
+pub mod SaidAll
+pub mod ToldParts

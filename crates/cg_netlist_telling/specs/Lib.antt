@@ -1,0 +1,3 @@
+pub mod NamedParts
+pub mod Names
+pub mod Telling

@@ -6,7 +6,7 @@ ghost use Rattle.cg_claim.specs.Question.{Question, idle_question};
 ghost use Rattle.cg_claim.specs.Violates.{SidesFit};
 ghost use Rattle.cg_machine.specs.Extends.{Extends};
 ghost use Rattle.cg_machine.specs.Machine.{IsMachine, MachineData};
-ghost use Rattle.cg_plan_laws.specs.Plan.{after_outcome, is_inserted};
+ghost use Rattle.cg_plan_laws.specs.Plan.{after_outcome};
 ghost use Rattle.cg_plan_laws.specs.StageClaims.{all_claims, claims_of};
 ghost use Rattle.cg_plan_laws.specs.Told.{AreAppended, MayFail, TellsOutcome, claims_for};
 ghost use Rattle.cg_plan_laws.specs.Trying.{decided, measured, tried};
@@ -87,7 +87,7 @@ impl Judge {
         let _after = machine.netlist();
         match result {
             Ok(outcome) => {
-                if is_inserted(&outcome) {
+                if outcome.is_inserted() {
                     return Ok(outcome);
                 }
                 into.truncate(count);
@@ -256,11 +256,4 @@ impl Judge {
             None => self.decide(number, name, into),
         }
     }
-}
-
-/// Whether the stage gets its enable.
-fn is_inserted(outcome: &Outcome) -> bool
-    ensures { result ≡ is_inserted outcome.now }
-{
-    matches!(outcome, Outcome::Inserted)
 }

@@ -1,5 +1,5 @@
 -- What gating answers, from what its steps answer.
-use Rattle.std.proofs.Common.{◌≡◌, Option, Result, Ok, Err, IfOk, IfErr, sym, subst}
+use Rattle.std.proofs.Common.{◌≡◌, Option, None, Some, Result, Ok, Err, IfOk, IfErr, refl, sym, subst}
 use Rattle.std.specs.Prelude.{OnOk}
 use Rattle.cg_limit.specs.declared.Limit.{Limit}
 use Rattle.cg_netlist.specs.Circuit.{Circuit}
@@ -7,10 +7,11 @@ use Rattle.cg_netlist.specs.declared.fault.AddFault.{AddFault}
 use Rattle.cg_netlist.specs.declared.fault.AddFault.TheVariants.{NoMemory}
 use Rattle.cg_plan_laws.specs.Told.{PlanMayFail, ToldPlan}
 use Rattle.cg_plan_text.specs.declared.summary.Played.{Played}
+use Rattle.cg_stimulus.specs.Inputs.{Rows}
 use Rattle.cg_gate.specs.Gating.{AreTexts, GivesGated, IsWritten}
 use Rattle.cg_gate.specs.Headline.{Headline}
 use Rattle.cg_gate.specs.Laws.{IsProper}
-use Rattle.cg_gate.specs.Played.{IsWhatPlayed, Saying}
+use Rattle.cg_gate.specs.Played.{IsWhatPlayed, LineIs, Saying}
 use Rattle.cg_gate.specs.Request.{MayGate, RequestData, gating_of}
 use Rattle.cg_gate.specs.declared.texts.Texts.{Texts}
 use Rattle.cg_gate.proofs.Meaning.{gated_means}
@@ -27,6 +28,14 @@ if_ok P Q (Err fault) all is = tt
 pub on_ok : {A : Type 0} (P : Type 0) (r : Result A AddFault) → P → OnOk r P
 on_ok P (Ok x) is = is
 on_ok P (Err fault) is = tt
+
+unsaid : (says : Option Saying) (written : Circuit) → LineIs says None written None
+unsaid None written = refl
+unsaid (Some says) written = refl
+
+-- without a stimulus nothing comes of it, whoever looks on
+pub unplayed : (says : Option Saying) (stimulus : Option Rows) (read written : Circuit) → stimulus ≡ None → IsWhatPlayed says stimulus read written (record { edges = None; watched = None })
+unplayed says stimulus read written none = subst (λ (s : Option Rows). IsWhatPlayed says s read written (record { edges = None; watched = None })) (sym none) (record { edges = refl; line = unsaid says written })
 
 module _ (request : RequestData) (says : Option Saying) (read written : Circuit) (told : ToldPlan) (played : Played) (gated : IsWritten (gating_of request read) read told written)
     (what : IsWhatPlayed says request.stimulus read written played) where

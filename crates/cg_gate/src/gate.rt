@@ -1,6 +1,7 @@
 //! A netlist is gated.
 
-ghost use Rattle.std.specs.Prelude.{◌≡◌, true, None, Some, is_some, IfOk, IfErr, OnOk};
+ghost use Rattle.std.specs.Prelude.{◌≡◌, true, None, is_some, IfOk, IfErr, OnOk};
+ghost use Rattle.std.specs.Option.{option_map};
 ghost use Rattle.cg_gate.specs.Gating.{AreTexts, GivesDemo, GivesGated, SaysDemo};
 ghost use Rattle.cg_gate.specs.Headline.{Headline};
 ghost use Rattle.cg_gate.specs.Request.{MayGate, stops_at};
@@ -9,7 +10,7 @@ ghost use Rattle.cg_plan.specs.Planning.{AreWritable, told};
 ghost use Rattle.cg_stimulus.specs.Inputs.{IsFor};
 
 use crate::planning::{Gated, gate_netlist};
-use crate::playing::{edges_of, play_both, watch_both};
+use crate::playing::{edges_of, play_both};
 use crate::request::Request;
 use crate::texts::{Texts, write_texts};
 use cg_list::Seq;
@@ -23,52 +24,30 @@ use std::alloc::{AllocError, Global};
 
 /// Gates a netlist: stages are planned and the plan's machine is written with a gating cell for each enable.
 ///
+/// Where there is a stimulus, the history on which it is played on the written netlist is shown to the watcher, which begins
+/// anew.
+///
 /// It is refused by the limit at which the plan stops, or else by that on nets where the written netlist would pass it.
 pub fn gate(
     alloc: Global,
     netlist: &Netlist,
     request: &Request<'_>,
+    watcher: Option<Box<dyn Watcher>>,
     progress: &mut dyn Progress,
 ) -> Result<Texts, AddFault>
     requires { MayGate request.now netlist.now }
-    ensures gives { IfOk result (λ texts. GivesGated request.now None netlist.now texts) }
+    ensures gives { IfOk result (λ texts. GivesGated request.now (option_map (λ watcher. says watcher) watcher) netlist.now texts) }
 
     // The written netlist shows, from every state and over every waveform that begins with the clock low, what the netlist
-    // shows; and a stage is inserted exactly where it deserves it.
-    ensures headline { IfOk result (λ texts. Headline request.now None netlist.now texts) }
+    // shows; a stage is inserted exactly where it deserves it; and the watcher's line is what it says of exactly the moments of
+    // the history that it was shown.
+    ensures headline { IfOk result (λ texts. Headline request.now (option_map (λ watcher. says watcher) watcher) netlist.now texts) }
     ensures unstopped { OnOk result (stops_at request.now netlist.now ≡ None) }
     ensures fault { IfErr result (PlanMayFail (stops_at request.now netlist.now)) }
 {
     let gated = gate_netlist(alloc, netlist, request, progress)?;
-    let Ok(played) = play_both(alloc, netlist, &gated.netlist, request.stimulus) else {
+    let Ok(played) = play_both(alloc, netlist, &gated.netlist, request.stimulus, watcher) else {
         // By a call, here and below, as its parts would else be dropped one by one in the proof.
-        drop(gated);
-        return Err(AddFault::NoMemory);
-    };
-    let texts = finish(alloc, request, &gated, &played);
-    drop(gated);
-    texts
-}
-
-/// Gates a netlist as [`gate`] does, and shows the history on which the stimulus is played on the written netlist to a watcher,
-/// which begins anew. Without a stimulus the watcher is shown nothing.
-pub fn gate_watched(
-    alloc: Global,
-    netlist: &Netlist,
-    request: &Request<'_>,
-    watcher: &mut Box<dyn Watcher>,
-    progress: &mut dyn Progress,
-) -> Result<Texts, AddFault>
-    requires { MayGate request.now netlist.now }
-    ensures gives { IfOk result (λ texts. GivesGated request.now (Some (says watcher.old)) netlist.now texts) }
-
-    // What holds without a watcher, and the watcher's line is what it says of exactly the moments of that history.
-    ensures headline { IfOk result (λ texts. Headline request.now (Some (says watcher.old)) netlist.now texts) }
-    ensures unstopped { OnOk result (stops_at request.now netlist.now ≡ None) }
-    ensures fault { IfErr result (PlanMayFail (stops_at request.now netlist.now)) }
-{
-    let gated = gate_netlist(alloc, netlist, request, progress)?;
-    let Ok(played) = watch_both(alloc, netlist, &gated.netlist, request.stimulus, watcher) else {
         drop(gated);
         return Err(AddFault::NoMemory);
     };

@@ -1,7 +1,7 @@
 //! What comes of a stimulus that is played on the original and on the written netlist.
 
-ghost use Rattle.std.specs.Prelude.{◌≡◌, None, Some, IfOk};
-ghost use Rattle.std.specs.Option.{option_copied};
+ghost use Rattle.std.specs.Prelude.{◌≡◌, Some, IfOk};
+ghost use Rattle.std.specs.Option.{option_copied, option_map};
 ghost use Rattle.cg_gate.specs.Played.{AreEdges, HasEdges, IsSaid, IsWhatPlayed};
 ghost use Rattle.cg_stimulus.specs.Inputs.{IsFor, Rows};
 
@@ -14,25 +14,48 @@ use cg_stimulus::played::one_played_history;
 use cg_stimulus::stimulus::Stimulus;
 use std::alloc::{AllocError, Global};
 
-/// What comes of a stimulus, where there is one, that is played on both netlists.
+/// What comes of a stimulus, where there is one, that is played on both netlists, while the watcher, where there is one, looks on
+/// the written one.
 pub fn play_both(
     alloc: Global,
     read: &Netlist,
     written: &Netlist,
     stimulus: Option<&Stimulus>,
+    watcher: Option<Box<dyn Watcher>>,
 ) -> Result<Played, AllocError>
     requires read { (rows : Rows) → option_copied stimulus ≡ Some rows → IsFor read.now rows }
     requires written { (rows : Rows) → option_copied stimulus ≡ Some rows → IsFor written.now rows }
-    ensures { IfOk result (λ played. IsWhatPlayed None (option_copied stimulus.entry) read.now written.now played) }
+    ensures { IfOk result (λ played.
+        IsWhatPlayed (option_map (λ watcher. says watcher) watcher) (option_copied stimulus.entry) read.now written.now played) }
 {
-    let edges = match stimulus {
-        None => None,
-        Some(stimulus) => Some(edges_of(alloc, read, written, stimulus)?),
-    };
-    Ok(Played {
-        edges,
-        watched: None,
-    })
+    match stimulus {
+        None => Ok(Played {
+            edges: None,
+            watched: None,
+        }),
+        Some(stimulus) => play_rows(alloc, read, written, stimulus, watcher),
+    }
+}
+
+/// What comes of a stimulus that is played on both netlists, while the watcher, where there is one, looks on the written one.
+fn play_rows(
+    alloc: Global,
+    read: &Netlist,
+    written: &Netlist,
+    stimulus: &Stimulus,
+    watcher: Option<Box<dyn Watcher>>,
+) -> Result<Played, AllocError>
+    requires read { IsFor read.now stimulus.now }
+    requires written { IsFor written.now stimulus.now }
+    ensures { IfOk result (λ played. IsWhatPlayed (option_map (λ watcher. says watcher) watcher) (Some stimulus.now) read.now written.now played) }
+{
+    match watcher {
+        None => Ok(Played {
+            edges: Some(edges_of(alloc, read, written, stimulus)?),
+            watched: None,
+        }),
+        Some(mut watcher) => watch_rows(alloc, read, written, stimulus, &mut watcher),
+    }
 }
 
 /// The edges of both netlists.
@@ -51,27 +74,6 @@ pub fn edges_of(
     let original = count_edges(alloc, read, stimulus)?;
     let written = count_edges(alloc, written, stimulus)?;
     Ok(Edges { original, written })
-}
-
-/// What comes of a stimulus, where there is one, that is played on both netlists, while a watcher looks on the written one.
-pub fn watch_both(
-    alloc: Global,
-    read: &Netlist,
-    written: &Netlist,
-    stimulus: Option<&Stimulus>,
-    watcher: &mut Box<dyn Watcher>,
-) -> Result<Played, AllocError>
-    requires read { (rows : Rows) → option_copied stimulus ≡ Some rows → IsFor read.now rows }
-    requires written { (rows : Rows) → option_copied stimulus ≡ Some rows → IsFor written.now rows }
-    ensures { IfOk result (λ played. IsWhatPlayed (Some (says watcher.old)) (option_copied stimulus.entry) read.now written.now played) }
-{
-    match stimulus {
-        None => Ok(Played {
-            edges: None,
-            watched: None,
-        }),
-        Some(stimulus) => watch_rows(alloc, read, written, stimulus, watcher),
-    }
 }
 
 /// The edges of both netlists, and the line of a watcher that looks on the written one, which is kept without its end.

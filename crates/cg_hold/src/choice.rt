@@ -12,14 +12,12 @@ ghost use Rattle.cg_machine.specs.Machine.{enable_of};
 ghost use Rattle.cg_netlist.specs.declared.fault.AddFault.TheVariants.{NoMemory};
 ghost use Rattle.cg_unroll.specs.Claims.{IsClaim};
 
-use crate::cycles::Cycles;
 use crate::literals::literals_of;
+use crate::search::Search;
 use crate::trial::{Room, Trial, Trier};
-use cg_machine::machine::Machine;
 use cg_machine::stage::NetLit;
 use cg_net::id::RegId;
 use cg_netlist::fault::AddFault;
-use cg_stage_list_laws::idle::Idle;
 use std::alloc::Global;
 
 /// What comes of a register.
@@ -36,27 +34,25 @@ pub(crate) enum Choice {
 pub(crate) fn choose(
     alloc: Global,
     trier: &mut Trier,
-    machine: &Machine,
-    cycles: &Cycles,
+    search: &Search<'_>,
     reg: RegId,
-    width: u32,
-    idle: Option<&Idle<'_>>,
 ) -> Result<Choice, AddFault>
-    requires register { reg < machine.now.own_registers }
-    requires free { enable_of machine.now reg ≡ None }
-    requires idle { FitsIdle machine.now (option_copied idle) }
-    requires cycles { AreCycles machine.now cycles.now.cycles }
-    ensures { OrNoMemory NoMemory (λ choice. choice) result (choice_by machine.now width reg (literals_of machine.now (option_copied idle.entry) reg)) }
+    requires register { reg < search.now.machine.now.own_registers }
+    requires free { enable_of search.now.machine.now reg ≡ None }
+    requires idle { FitsIdle search.now.machine.now (option_copied search.now.idle) }
+    requires cycles { AreCycles search.now.machine.now search.now.cycles.now.cycles }
+    ensures { OrNoMemory NoMemory (λ choice. choice) result
+        (choice_by search.now.machine.now search.now.width reg (literals_of search.now.machine.now (option_copied search.now.idle) reg)) }
 {
-    let _netlist = machine.netlist();
-    if trier.shows_wide(machine, reg, width) {
+    let _netlist = search.machine.netlist();
+    if trier.shows_wide(search.machine, reg, search.width) {
         return Ok(Choice::Wide);
     }
-    let literals = literals_of(alloc, machine, reg, idle, &mut trier.finder)?;
+    let literals = literals_of(alloc, search.machine, reg, search.idle, &mut trier.finder)?;
     if literals.is_empty() {
-        return Ok(without_literals(width));
+        return Ok(without_literals(search.width));
     }
-    choose_among(trier, machine, cycles, &literals, reg, width)
+    choose_among(trier, search, &literals, reg)
 }
 
 /// What comes of a register without literals: its claims have one leaf, its own bit.
@@ -74,38 +70,41 @@ fn without_literals(width: u32) -> Choice
 /// of the first literal that no cycle settles, where there is one, as it is asked next.
 fn choose_among(
     trier: &mut Trier,
-    machine: &Machine,
-    cycles: &Cycles,
+    search: &Search<'_>,
     literals: &[NetLit],
     reg: RegId,
-    width: u32,
 ) -> Result<Choice, AddFault>
-    requires register { reg < machine.now.own_registers }
-    requires nets { (k : ℕ) (l : Literal) → slice_get literals.now k ≡ Some l → IsLiteralOf machine.now reg l }
+    requires register { reg < search.now.machine.now.own_registers }
+    requires nets { (k : ℕ) (l : Literal) → slice_get literals.now k ≡ Some l → IsLiteralOf search.now.machine.now reg l }
     requires some { 0 < length literals.now }
-    requires cycles { AreCycles machine.now cycles.now.cycles }
-    ensures { OrNoMemory NoMemory (λ choice. choice) result (choice_by machine.now width reg literals.now) }
+    requires cycles { AreCycles search.now.machine.now search.now.cycles.now.cycles }
+    ensures { OrNoMemory NoMemory (λ choice. choice) result (choice_by search.now.machine.now search.now.width reg literals.now) }
 {
-    let _netlist = machine.netlist();
-    let place = first_unmoved(machine, cycles, literals, reg);
-    match trier.measure(machine, literal_at(literals, place), reg, width) {
+    let _netlist = search.machine.netlist();
+    let place = first_unmoved(search, literals, reg);
+    match trier.measure(
+        search.machine,
+        literal_at(literals, place),
+        reg,
+        search.width,
+    ) {
         Room::TooWide => Ok(Choice::Wide),
-        Room::Ample => choose_from(trier, machine, cycles, literals, place, reg, width),
-        Room::Unknown => first_that_serves(trier, machine, cycles, literals, reg, width, false),
+        Room::Ample => choose_from(trier, search, literals, place, reg),
+        Room::Unknown => first_that_serves(trier, search, literals, reg, false),
     }
 }
 
 /// The place of the first literal where no cycle shows that it does not hold a register; behind the last where there is none.
-fn first_unmoved(machine: &Machine, cycles: &Cycles, literals: &[NetLit], reg: RegId) -> usize
-    requires register { reg < machine.now.own_registers }
-    requires nets { (k : ℕ) (l : Literal) → slice_get literals.now k ≡ Some l → IsLiteralOf machine.now reg l }
-    requires cycles { AreCycles machine.now cycles.now.cycles }
-    ensures { AreMoved machine.now reg literals.now result }
+fn first_unmoved(search: &Search<'_>, literals: &[NetLit], reg: RegId) -> usize
+    requires register { reg < search.now.machine.now.own_registers }
+    requires nets { (k : ℕ) (l : Literal) → slice_get literals.now k ≡ Some l → IsLiteralOf search.now.machine.now reg l }
+    requires cycles { AreCycles search.now.machine.now search.now.cycles.now.cycles }
+    ensures { AreMoved search.now.machine.now reg literals.now result }
 {
-    let _netlist = machine.netlist();
+    let _netlist = search.machine.netlist();
     let mut place = 0;
     for literal in literals {
-        if !cycles.show_move(machine, *literal, reg) {
+        if !search.cycles.show_move(search.machine, *literal, reg) {
             return place;
         }
         place += 1;
@@ -129,60 +128,49 @@ fn literal_at(literals: &[NetLit], place: usize) -> NetLit
 /// those before it do not hold the register.
 fn choose_from(
     trier: &mut Trier,
-    machine: &Machine,
-    cycles: &Cycles,
+    search: &Search<'_>,
     literals: &[NetLit],
     place: usize,
     reg: RegId,
-    width: u32,
 ) -> Result<Choice, AddFault>
-    requires register { reg < machine.now.own_registers }
-    requires nets { (k : ℕ) (l : Literal) → slice_get literals.now k ≡ Some l → IsLiteralOf machine.now reg l }
-    requires cycles { AreCycles machine.now cycles.now.cycles }
-    requires room { HasRoom machine.now width reg }
-    requires moved { AreMoved machine.now reg literals.now place }
-    requires claim { (l : Literal) → slice_get literals.now place ≡ Some l → IsClaim machine.now (hold_question l reg) width trier.old.unroller }
-    ensures { OrNoMemory NoMemory (λ choice. choice) result (choice_by machine.now width reg literals.now) }
+    requires register { reg < search.now.machine.now.own_registers }
+    requires nets { (k : ℕ) (l : Literal) → slice_get literals.now k ≡ Some l → IsLiteralOf search.now.machine.now reg l }
+    requires cycles { AreCycles search.now.machine.now search.now.cycles.now.cycles }
+    requires room { HasRoom search.now.machine.now search.now.width reg }
+    requires moved { AreMoved search.now.machine.now reg literals.now place }
+    requires claim { (l : Literal) → slice_get literals.now place ≡ Some l
+        → IsClaim search.now.machine.now (hold_question l reg) search.now.width trier.old.unroller }
+    ensures { OrNoMemory NoMemory (λ choice. choice) result (choice_by search.now.machine.now search.now.width reg literals.now) }
 {
-    let _netlist = machine.netlist();
+    let _netlist = search.machine.netlist();
     if place >= literals.len() {
         return Ok(Choice::Takes(None));
     }
     let literal = literals[place];
-    let good = trier.serves(machine, cycles, literal, reg, width)?;
+    let good = trier.serves(search, literal, reg)?;
     if good {
         return Ok(Choice::Takes(Some(literal)));
     }
-    first_that_serves(
-        trier,
-        machine,
-        cycles,
-        &literals[place + 1..],
-        reg,
-        width,
-        true,
-    )
+    first_that_serves(trier, search, &literals[place + 1..], reg, true)
 }
 
 /// What comes of a register with these literals, none of which is refused where there is room.
 fn first_that_serves(
     trier: &mut Trier,
-    machine: &Machine,
-    cycles: &Cycles,
+    search: &Search<'_>,
     literals: &[NetLit],
     reg: RegId,
-    width: u32,
     room: bool,
 ) -> Result<Choice, AddFault>
-    requires register { reg < machine.now.own_registers }
-    requires nets { (k : ℕ) (l : Literal) → slice_get literals.now k ≡ Some l → IsLiteralOf machine.now reg l }
+    requires register { reg < search.now.machine.now.own_registers }
+    requires nets { (k : ℕ) (l : Literal) → slice_get literals.now k ≡ Some l → IsLiteralOf search.now.machine.now reg l }
     requires some { room ≡ false → 0 < length literals.now }
-    requires cycles { AreCycles machine.now cycles.now.cycles }
-    requires room { room ≡ true → HasRoom machine.now width reg }
-    ensures { OrNoMemory NoMemory (λ choice. choice) result (choice_by machine.now width reg literals.now) }
+    requires cycles { AreCycles search.now.machine.now search.now.cycles.now.cycles }
+    requires room { room ≡ true → HasRoom search.now.machine.now search.now.width reg }
+    ensures { OrNoMemory NoMemory (λ choice. choice) result (choice_by search.now.machine.now search.now.width reg literals.now) }
 {
     for literal in literals {
-        match trier.settle(machine, cycles, room, *literal, reg, width)? {
+        match trier.settle(search, room, *literal, reg)? {
             Trial::TooWide => return Ok(Choice::Wide),
             Trial::Serves => return Ok(Choice::Takes(Some(*literal))),
             Trial::Fails => {}

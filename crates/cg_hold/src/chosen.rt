@@ -16,6 +16,7 @@ ghost use Rattle.cg_netlist.specs.declared.fault.AddFault.TheVariants.{Limit as 
 use crate::choice::{Choice, choose};
 use crate::cycles::Cycles;
 use crate::progress::Progress;
+use crate::search::Search;
 use crate::trial::Trier;
 use cg_list::Seq;
 use cg_machine::machine::Machine;
@@ -58,7 +59,13 @@ impl Chosen {
             return Err(AddFault::NoMemory);
         };
         let mut trier = Trier::new(alloc);
-        let looked = chosen.look_at_all(alloc, &mut trier, machine, &cycles, width, idle, progress);
+        let search = Search {
+            machine,
+            cycles: &cycles,
+            width,
+            idle,
+        };
+        let looked = chosen.look_at_all(alloc, &mut trier, &search, progress);
         drop(trier);
         drop(cycles);
         match looked {
@@ -70,36 +77,27 @@ impl Chosen {
         }
     }
 
-    /// Looks at all registers of a machine's netlist, and tells of each.
+    /// Looks at all registers of a machine's netlist, and tells of each before.
     fn look_at_all(
         &mut self,
         alloc: Global,
         trier: &mut Trier,
-        machine: &Machine,
-        cycles: &Cycles,
-        width: u32,
-        idle: Option<&Idle<'_>>,
+        search: &Search<'_>,
         progress: &mut dyn Progress,
     ) -> Result<(), AddFault>
-        requires idle { FitsIdle machine.now (option_copied idle) }
-        requires cycles { AreCycles machine.now cycles.now.cycles }
-        requires chosen { AreChosen machine.now (option_copied idle) width 0 self.old.lists.items self.old.wide }
-        ensures chosen { OnOk result (AreChosen machine.now (option_copied idle.entry) width machine.now.own_registers self.new.lists.items self.new.wide) }
+        requires idle { FitsIdle search.now.machine.now (option_copied search.now.idle) }
+        requires cycles { AreCycles search.now.machine.now search.now.cycles.now.cycles }
+        requires chosen { AreChosen search.now.machine.now (option_copied search.now.idle) search.now.width 0 self.old.lists.items self.old.wide }
+        ensures chosen { OnOk result (AreChosen search.now.machine.now (option_copied search.now.idle) search.now.width search.now.machine.now.own_registers
+            self.new.lists.items self.new.wide) }
         ensures refused { IfErr result
-            (λ fault. (fault ≡ NoMemory) ⊎ ((fault ≡ LimitFault ClaimNodes) × (hold_passes machine.now (option_copied idle.entry) width ≡ true))) }
+            (λ fault. (fault ≡ NoMemory) ⊎ ((fault ≡ LimitFault ClaimNodes)
+            × (hold_passes search.now.machine.now (option_copied search.now.idle) search.now.width ≡ true))) }
     {
-        let netlist = machine.netlist();
-        for reg in 0..netlist.registers() {
-            self.look_told(
-                alloc,
-                trier,
-                machine,
-                cycles,
-                RegId::new(reg),
-                width,
-                idle,
-                progress,
-            )?;
+        let registers = search.machine.netlist().registers();
+        for reg in 0..registers {
+            progress.looking(reg as usize + 1, registers as usize);
+            self.look(alloc, trier, search, RegId::new(reg))?;
         }
         Ok(())
     }
@@ -117,57 +115,30 @@ impl Chosen {
         Ok(Chosen { lists, wide: 0 })
     }
 
-    /// Looks at one register, and tells of it before.
-    fn look_told(
-        &mut self,
-        alloc: Global,
-        trier: &mut Trier,
-        machine: &Machine,
-        cycles: &Cycles,
-        reg: RegId,
-        width: u32,
-        idle: Option<&Idle<'_>>,
-        progress: &mut dyn Progress,
-    ) -> Result<(), AddFault>
-        requires register { reg < machine.now.own_registers }
-        requires idle { FitsIdle machine.now (option_copied idle) }
-        requires cycles { AreCycles machine.now cycles.now.cycles }
-        requires chosen { AreChosen machine.now (option_copied idle) width reg self.old.lists.items self.old.wide }
-        ensures chosen { OnOk result (AreChosen machine.now (option_copied idle.entry) width (reg + 1) self.new.lists.items self.new.wide) }
-        ensures refused { IfErr result
-            (λ fault. (fault ≡ NoMemory) ⊎ ((fault ≡ LimitFault ClaimNodes)
-            × ((is_none (enable_of machine.now reg) ≡ true) × (passes_at machine.now (option_copied idle.entry) width reg ≡ true)))) }
-    {
-        let registers = machine.netlist().registers();
-        progress.looking(reg.number() as usize + 1, registers as usize);
-        self.look(alloc, trier, machine, cycles, reg, width, idle)
-    }
-
     /// Looks at one register.
     fn look(
         &mut self,
         alloc: Global,
         trier: &mut Trier,
-        machine: &Machine,
-        cycles: &Cycles,
+        search: &Search<'_>,
         reg: RegId,
-        width: u32,
-        idle: Option<&Idle<'_>>,
     ) -> Result<(), AddFault>
-        requires register { reg < machine.now.own_registers }
-        requires idle { FitsIdle machine.now (option_copied idle) }
-        requires cycles { AreCycles machine.now cycles.now.cycles }
-        requires chosen { AreChosen machine.now (option_copied idle) width reg self.old.lists.items self.old.wide }
-        ensures chosen { OnOk result (AreChosen machine.now (option_copied idle.entry) width (reg + 1) self.new.lists.items self.new.wide) }
+        requires register { reg < search.now.machine.now.own_registers }
+        requires idle { FitsIdle search.now.machine.now (option_copied search.now.idle) }
+        requires cycles { AreCycles search.now.machine.now search.now.cycles.now.cycles }
+        requires chosen { AreChosen search.now.machine.now (option_copied search.now.idle) search.now.width reg self.old.lists.items self.old.wide }
+        ensures chosen { OnOk result (AreChosen search.now.machine.now (option_copied search.now.idle) search.now.width (reg + 1)
+            self.new.lists.items self.new.wide) }
         ensures refused { IfErr result
             (λ fault. (fault ≡ NoMemory) ⊎ ((fault ≡ LimitFault ClaimNodes)
-            × ((is_none (enable_of machine.now reg) ≡ true) × (passes_at machine.now (option_copied idle.entry) width reg ≡ true)))) }
+            × ((is_none (enable_of search.now.machine.now reg) ≡ true)
+            × (passes_at search.now.machine.now (option_copied search.now.idle) search.now.width reg ≡ true)))) }
     {
-        let _netlist = machine.netlist();
-        if machine.enable(reg).is_some() {
+        let _netlist = search.machine.netlist();
+        if search.machine.enable(reg).is_some() {
             return Ok(());
         }
-        match choose(alloc, trier, machine, cycles, reg, width, idle) {
+        match choose(alloc, trier, search, reg) {
             Ok(choice) => self.note(reg, choice),
             Err(fault) => Err(fault),
         }

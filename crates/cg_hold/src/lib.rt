@@ -11,6 +11,7 @@
 //! - `nets`: the words of nets in 64 cycles.
 //! - `moves`: in which cycles registers take another bit.
 //! - `cycles`: a few cycles with random bits, which settle most literals.
+//! - `search`: what they are looked for on.
 //! - `known`: leaf bits at which goals were 1.
 //! - `trial`: what comes of one literal, by the cycles and by its claims.
 //! - `choice`: the literal that a register takes.
@@ -29,5 +30,6 @@ mod moves;
 mod nets;
 pub mod progress;
 mod random;
+mod search;
 mod trial;
 mod words;

@@ -19,6 +19,7 @@ ghost use Rattle.cg_unroll.specs.Claims.{IsClaim};
 
 use crate::cycles::Cycles;
 use crate::known::Known;
+use crate::search::Search;
 use cg_aig::Aig;
 use cg_claim::laws::claim_laws;
 use cg_decide::{Decider, Decision};
@@ -137,45 +138,44 @@ impl Trier {
     /// that it does not serve, and else by its claims.
     pub fn settle(
         &mut self,
-        machine: &Machine,
-        cycles: &Cycles,
+        search: &Search<'_>,
         room: bool,
         literal: NetLit,
         reg: RegId,
-        width: u32,
     ) -> Result<Trial, AddFault>
-        requires register { reg < machine.now.own_registers }
-        requires literal { IsLiteralOf machine.now reg literal }
-        requires cycles { AreCycles machine.now cycles.now.cycles }
-        requires room { room ≡ true → HasRoom machine.now width reg }
-        ensures { OrNoMemory NoMemory (λ trial. trial) result (trial_of machine.now width reg literal) }
+        requires register { reg < search.now.machine.now.own_registers }
+        requires literal { IsLiteralOf search.now.machine.now reg literal }
+        requires cycles { AreCycles search.now.machine.now search.now.cycles.now.cycles }
+        requires room { room ≡ true → HasRoom search.now.machine.now search.now.width reg }
+        ensures { OrNoMemory NoMemory (λ trial. trial) result (trial_of search.now.machine.now search.now.width reg literal) }
     {
-        let _netlist = machine.netlist();
-        if room && cycles.show_move(machine, literal, reg) {
+        let _netlist = search.machine.netlist();
+        if room && search.cycles.show_move(search.machine, literal, reg) {
             return Ok(Trial::Fails);
         }
-        self.try_literal(machine, cycles, literal, reg, width)
+        self.try_literal(search, literal, reg)
     }
 
     /// What comes of a literal of the cone of a register's inputs, by its claims.
     fn try_literal(
         &mut self,
-        machine: &Machine,
-        cycles: &Cycles,
+        search: &Search<'_>,
         literal: NetLit,
         reg: RegId,
-        width: u32,
     ) -> Result<Trial, AddFault>
-        requires register { reg < machine.now.own_registers }
-        requires literal { IsLiteralOf machine.now reg literal }
-        requires cycles { AreCycles machine.now cycles.now.cycles }
-        ensures { OrNoMemory NoMemory (λ trial. trial) result (trial_of machine.now width reg literal) }
+        requires register { reg < search.now.machine.now.own_registers }
+        requires literal { IsLiteralOf search.now.machine.now reg literal }
+        requires cycles { AreCycles search.now.machine.now search.now.cycles.now.cycles }
+        ensures { OrNoMemory NoMemory (λ trial. trial) result (trial_of search.now.machine.now search.now.width reg literal) }
     {
         list_laws();
-        let _netlist = machine.netlist();
-        match self.unroller.hold(machine, literal, reg, width) {
+        let _netlist = search.machine.netlist();
+        match self
+            .unroller
+            .hold(search.machine, literal, reg, search.width)
+        {
             Ok(()) => {
-                let good = self.serves(machine, cycles, literal, reg, width)?;
+                let good = self.serves(search, literal, reg)?;
                 Ok(tried(good))
             }
             Err(fault) => refused(fault),
@@ -185,25 +185,23 @@ impl Trier {
     /// Whether a literal serves whose hold claim was built last.
     pub fn serves(
         &mut self,
-        machine: &Machine,
-        cycles: &Cycles,
+        search: &Search<'_>,
         literal: NetLit,
         reg: RegId,
-        width: u32,
     ) -> Result<bool, AllocError>
-        requires register { reg < machine.now.own_registers }
-        requires net { literal.0 < length machine.now.circuit.names }
-        requires cycles { AreCycles machine.now cycles.now.cycles }
-        requires claim { IsClaim machine.now (hold_question literal reg) width self.old.unroller }
-        ensures { IfOk result (λ good. good ≡ serves machine.now reg literal) }
+        requires register { reg < search.now.machine.now.own_registers }
+        requires net { literal.0 < length search.now.machine.now.circuit.names }
+        requires cycles { AreCycles search.now.machine.now search.now.cycles.now.cycles }
+        requires claim { IsClaim search.now.machine.now (hold_question literal reg) search.now.width self.old.unroller }
+        ensures { IfOk result (λ good. good ≡ serves search.now.machine.now reg literal) }
     {
         claim_laws();
-        let _netlist = machine.netlist();
+        let _netlist = search.machine.netlist();
         let holds = self.is_never()?;
         if !holds {
             return Ok(false);
         }
-        let stays = self.is_never_idle(machine, cycles, literal)?;
+        let stays = self.is_never_idle(search.machine, search.cycles, literal)?;
         Ok(!stays)
     }
 

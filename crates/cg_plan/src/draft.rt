@@ -9,8 +9,8 @@ ghost use Rattle.cg_claim_reach.specs.Fanout.{Knows};
 ghost use Rattle.cg_stage_laws.specs.Stages.{Fits};
 
 use crate::earlier::earlier_of;
-use crate::judge::Judge;
-use cg_cell::library::Library;
+use crate::judge::{Entry, Judge};
+use crate::rules::Rules;
 use cg_claim_reach::fanout::Fanout;
 use cg_hold::progress::Progress;
 use cg_list::Seq;
@@ -76,37 +76,36 @@ impl Draft {
     pub fn try_parts(
         &mut self,
         holds: Seq<Stage>,
-        library: &Library,
-        settings: &Settings,
+        rules: &Rules<'_>,
         progress: &mut dyn Progress,
     ) -> Result<(), AddFault>
         requires { AllFit self.old.machine holds }
-        ensures leads { OnOk result (Leads (all_parts library.now settings.now holds) self.old self.new) }
-        ensures fault { IfErr result (MayStop (all_parts library.now settings.now holds) self.old) }
+        ensures leads { OnOk result (Leads (all_parts rules.now.library.now rules.now.settings.now holds) self.old self.new) }
+        ensures fault { IfErr result (MayStop (all_parts rules.now.library.now rules.now.settings.now holds) self.old) }
     {
-        self.try_all(holds, library, settings, progress)?;
-        self.rounds(StageKind::Stable, library, settings, progress)?;
-        self.rounds(StageKind::Unseen, library, settings, progress)
+        self.try_all(holds, rules, progress)?;
+        self.rounds(StageKind::Stable, rules, progress)?;
+        self.rounds(StageKind::Unseen, rules, progress)
     }
 
     /// As many rounds of a kind as the settings ask for, each with the list that the machine has at its start.
     fn rounds(
         &mut self,
         kind: StageKind,
-        library: &Library,
-        settings: &Settings,
+        rules: &Rules<'_>,
         progress: &mut dyn Progress,
     ) -> Result<(), AddFault>
-        ensures leads { OnOk result (Leads (rounds library.now settings.now kind settings.now.rounds) self.old self.new) }
-        ensures fault { IfErr result (MayStop (rounds library.now settings.now kind settings.now.rounds) self.old) }
+        ensures leads { OnOk result
+            (Leads (rounds rules.now.library.now rules.now.settings.now kind rules.now.settings.now.rounds) self.old self.new) }
+        ensures fault { IfErr result (MayStop (rounds rules.now.library.now rules.now.settings.now kind rules.now.settings.now.rounds) self.old) }
     {
-        for _ in 0..settings.rounds {
-            let stages = self.candidates(kind, settings)?;
+        for _ in 0..rules.settings.rounds {
+            let stages = self.candidates(kind, rules.settings)?;
             // A round without stages leaves all as it is, and so do those after it.
             if stages.is_empty() {
                 return Ok(());
             }
-            self.try_all(stages, library, settings, progress)?;
+            self.try_all(stages, rules, progress)?;
         }
         Ok(())
     }
@@ -131,17 +130,16 @@ impl Draft {
     fn try_all(
         &mut self,
         stages: Seq<Stage>,
-        library: &Library,
-        settings: &Settings,
+        rules: &Rules<'_>,
         progress: &mut dyn Progress,
     ) -> Result<(), AddFault>
         requires { AllFit self.old.machine stages }
-        ensures leads { OnOk result (Leads (λ p. try_all library.now settings.now p stages) self.old self.new) }
-        ensures fault { IfErr result (MayStop (λ p. try_all library.now settings.now p stages) self.old) }
+        ensures leads { OnOk result (Leads (λ p. try_all rules.now.library.now rules.now.settings.now p stages) self.old self.new) }
+        ensures fault { IfErr result (MayStop (λ p. try_all rules.now.library.now rules.now.settings.now p stages) self.old) }
     {
         // What reads the nets is found once for all of them, and grown with the machine.
         let mut fanout = Fanout::new(self.alloc);
-        let result = self.try_listed(stages, &mut fanout, library, settings, progress);
+        let result = self.try_listed(stages, &mut fanout, rules, progress);
         // By a call, as its parts would else be dropped one by one in the proof of each way out.
         drop(fanout);
         result
@@ -152,41 +150,25 @@ impl Draft {
         &mut self,
         stages: Seq<Stage>,
         fanout: &mut Fanout,
-        library: &Library,
-        settings: &Settings,
+        rules: &Rules<'_>,
         progress: &mut dyn Progress,
     ) -> Result<(), AddFault>
         requires fits { AllFit self.old.machine stages }
         requires knows { Knows self.old.machine fanout.old }
-        ensures leads { OnOk result (Leads (λ p. try_all library.now settings.now p stages) self.old self.new) }
-        ensures fault { IfErr result (MayStop (λ p. try_all library.now settings.now p stages) self.old) }
+        ensures leads { OnOk result (Leads (λ p. try_all rules.now.library.now rules.now.settings.now p stages) self.old self.new) }
+        ensures fault { IfErr result (MayStop (λ p. try_all rules.now.library.now rules.now.settings.now p stages) self.old) }
     {
         let listed = self.stages.len().saturating_add(stages.len());
         for stage in stages.into_vec() {
-            self.try_told(stage, listed, fanout, library, settings, progress)?;
+            self.tell_next(listed, progress);
+            self.try_one(stage, fanout, rules)?;
         }
         Ok(())
     }
 
-    /// Tries a stage that fits, one of so many that are listed so far, and tells of it before.
-    fn try_told(
-        &mut self,
-        stage: Stage,
-        listed: usize,
-        fanout: &mut Fanout,
-        library: &Library,
-        settings: &Settings,
-        progress: &mut dyn Progress,
-    ) -> Result<(), AddFault>
-        requires fits { Fits self.old.machine stage }
-        requires knows { Knows self.old.machine fanout.old }
-        ensures knows { OnOk result (Knows self.new.machine fanout.new) }
-        ensures leads { OnOk result (Leads (λ p. try_one library.now settings.now p stage) self.old self.new) }
-        ensures fault { IfErr result (MayStop (λ p. try_one library.now settings.now p stage) self.old) }
-        ensures rest { OnOk result (StillFit stage self.old.machine self.new.machine) }
-    {
+    /// Tells of the stage that is tried next, one of so many that are listed so far.
+    fn tell_next(&self, listed: usize, progress: &mut dyn Progress) {
         progress.trying(self.stages.len().saturating_add(1), listed);
-        self.try_one(stage, fanout, library, settings)
     }
 
     /// Tries a stage that fits.
@@ -194,25 +176,26 @@ impl Draft {
         &mut self,
         stage: Stage,
         fanout: &mut Fanout,
-        library: &Library,
-        settings: &Settings,
+        rules: &Rules<'_>,
     ) -> Result<(), AddFault>
         requires fits { Fits self.old.machine stage }
         requires knows { Knows self.old.machine fanout.old }
         ensures knows { OnOk result (Knows self.new.machine fanout.new) }
-        ensures leads { OnOk result (Leads (λ p. try_one library.now settings.now p stage) self.old self.new) }
-        ensures fault { IfErr result (MayStop (λ p. try_one library.now settings.now p stage) self.old) }
+        ensures leads { OnOk result (Leads (λ p. try_one rules.now.library.now rules.now.settings.now p stage) self.old self.new) }
+        ensures fault { IfErr result (MayStop (λ p. try_one rules.now.library.now rules.now.settings.now p stage) self.old) }
         ensures rest { OnOk result (StillFit stage self.old.machine self.new.machine) }
     {
         let _netlist = self.machine.netlist();
         let number = self.next_number()?;
+        let entry = Entry {
+            number,
+            stage: &stage,
+        };
         let outcome = self.judge.try_stage(
             &mut self.machine,
             fanout,
-            number,
-            &stage,
-            library,
-            settings,
+            &entry,
+            rules,
             &mut self.certificates,
         )?;
         self.keep(stage, outcome)?;

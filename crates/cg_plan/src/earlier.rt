@@ -1,7 +1,6 @@
 //! Stages that were tried, as later rounds see them.
 
 ghost use Rattle.std.specs.Prelude.{◌≡◌, IfOk};
-ghost use Rattle.cg_plan_laws.specs.Plan.{is_inserted};
 ghost use Rattle.cg_plan.specs.inner.Drafting.{earlier_by};
 
 use cg_list::Seq;
@@ -18,7 +17,7 @@ pub(crate) fn earlier_of(
     ensures { IfOk result (λ earlier. earlier ≡ earlier_by stage.now outcome.now) }
 {
     let stage = copy_of(alloc, stage)?;
-    let inserted = is_inserted(outcome);
+    let inserted = outcome.is_inserted();
     Ok(Earlier { stage, inserted })
 }
 
@@ -36,18 +35,4 @@ fn copy_of(alloc: Global, stage: &Stage) -> Result<Stage, AllocError>
         own: stage.own,
         guards: Seq::from_vec(guards),
     })
-}
-
-/// Whether an outcome is that the stage was inserted.
-fn is_inserted(outcome: &Outcome) -> bool
-    ensures { result ≡ is_inserted outcome.now }
-{
-    match outcome {
-        Outcome::Inserted => true,
-        Outcome::Refuted(_, _)
-        | Outcome::Wide(_, _)
-        | Outcome::NeverIdle
-        | Outcome::Small(_)
-        | Outcome::NoCell(_) => false,
-    }
 }

@@ -6,14 +6,14 @@ ghost use Rattle.cg_claim.specs.Question.{Question, idle_question};
 ghost use Rattle.cg_claim.specs.Violates.{SidesFit};
 ghost use Rattle.cg_machine.specs.Extends.{Extends};
 ghost use Rattle.cg_machine.specs.Machine.{IsMachine, MachineData};
-ghost use Rattle.cg_plan_laws.specs.Plan.{after_outcome, is_inserted};
-ghost use Rattle.cg_plan_laws.specs.StageClaims.{all_claims, claims_of};
+ghost use Rattle.cg_plan_laws.specs.Plan.{after_outcome};
+ghost use Rattle.cg_plan_laws.specs.StageClaims.{claims_of};
 ghost use Rattle.cg_plan_laws.specs.Told.{AreAppended, MayFail, TellsOutcome, claims_for};
 ghost use Rattle.cg_plan_laws.specs.Trying.{decided, measured, tried};
 ghost use Rattle.cg_plan.specs.Planning.{StayWritable};
 ghost use Rattle.cg_plan.specs.Trial.{WhereInserted};
 ghost use Rattle.cg_plan.specs.inner.Deciding.{Grow, IsIdleDecided, Settles};
-ghost use Rattle.cg_plan.specs.inner.Judging.{Certifying, IsJudged, Pushes};
+ghost use Rattle.cg_plan.specs.inner.Judging.{Certifying, IsJudged, Pushes, by_claims};
 ghost use Rattle.cg_plan.specs.inner.Naming.{AreNames};
 ghost use Rattle.cg_claim_reach.specs.Fanout.{Knows};
 ghost use Rattle.cg_stage_laws.specs.Stages.{Fits};
@@ -23,8 +23,8 @@ use crate::cells::early_end;
 use crate::claims::claim_names;
 use crate::insert::insert;
 use crate::measure::measure;
+use crate::rules::Rules;
 use crate::sets::StageSets;
-use cg_cell::library::Library;
 use cg_claim::name::ClaimName;
 use cg_claim_reach::fanout::Fanout;
 use cg_decide::Decider;
@@ -34,9 +34,25 @@ use cg_netlist::fault::AddFault;
 use cg_plan_laws::certificate::Certificate;
 use cg_plan_laws::laws::plan_laws;
 use cg_plan_laws::outcome::Outcome;
-use cg_plan_laws::settings::Settings;
 use cg_unroll::unroller::Unroller;
 use std::alloc::{AllocError, Global};
+
+/// A stage with its number in the plan.
+#[derive(Clone, Copy)]
+pub(crate) struct Entry<'a> {
+    pub number: u32,
+    pub stage: &'a Stage,
+}
+
+/// The claims of a stage on a machine, beside that it can idle, by their names; none may be wider than the width.
+#[derive(Clone, Copy)]
+struct Claims<'a> {
+    machine: &'a Machine,
+    number: u32,
+    stage: &'a StageSets<'a>,
+    names: &'a [ClaimName],
+    width: u32,
+}
 
 /// What tries stages, in buffers that are kept, so that a claim costs what it reaches.
 #[derive(Drop)]
@@ -61,21 +77,21 @@ impl Judge {
         &mut self,
         machine: &mut Machine,
         fanout: &mut Fanout,
-        number: u32,
-        stage: &Stage,
-        library: &Library,
-        settings: &Settings,
+        entry: &Entry<'_>,
+        rules: &Rules<'_>,
         into: &mut Vec<Certificate>,
     ) -> Result<Outcome, AddFault>
-        requires fits { Fits machine.old stage.now }
+        requires fits { Fits machine.old entry.now.stage.now }
         requires knows { Knows machine.old fanout.old }
-        ensures outcome { IfOk result (λ outcome. TellsOutcome machine.old stage.now (tried library.now settings.now machine.old stage.now) outcome) }
-        ensures machine { IfOk result (λ outcome. machine.new ≡ after_outcome machine.old stage.now outcome) }
-        ensures safe { IfOk result (λ outcome. WhereInserted machine.old stage.now outcome machine.new) }
-        ensures certificates { IfOk result (λ outcome. AreAppended (claims_for number machine.old stage.now outcome) into.old.items into.new.items) }
+        ensures outcome { IfOk result (λ outcome. TellsOutcome machine.old entry.now.stage.now
+            (tried rules.now.library.now rules.now.settings.now machine.old entry.now.stage.now) outcome) }
+        ensures machine { IfOk result (λ outcome. machine.new ≡ after_outcome machine.old entry.now.stage.now outcome) }
+        ensures safe { IfOk result (λ outcome. WhereInserted machine.old entry.now.stage.now outcome machine.new) }
+        ensures certificates { IfOk result (λ outcome.
+            AreAppended (claims_for entry.now.number machine.old entry.now.stage.now outcome) into.old.items into.new.items) }
         ensures writable { OnOk result (StayWritable into.old.items into.new.items) }
         ensures knows { OnOk result (Knows machine.new fanout.new) }
-        ensures fault { IfErr result (MayFail (tried library.now settings.now machine.old stage.now)) }
+        ensures fault { IfErr result (MayFail (tried rules.now.library.now rules.now.settings.now machine.old entry.now.stage.now)) }
         ensures kept { OnErr result (Extends machine.old machine.new) }
         ensures unchanged { OnErr result (into.new.items ≡ into.old.items) }
         ensures whole { IsMachine machine.new }
@@ -83,11 +99,11 @@ impl Judge {
         plan_laws();
         let _before = machine.netlist();
         let count = into.len();
-        let result = self.try_pushing(machine, fanout, number, stage, library, settings, into);
+        let result = self.try_pushing(machine, fanout, entry, rules, into);
         let _after = machine.netlist();
         match result {
             Ok(outcome) => {
-                if is_inserted(&outcome) {
+                if outcome.is_inserted() {
                     return Ok(outcome);
                 }
                 into.truncate(count);
@@ -105,25 +121,24 @@ impl Judge {
         &mut self,
         machine: &mut Machine,
         fanout: &mut Fanout,
-        number: u32,
-        stage: &Stage,
-        library: &Library,
-        settings: &Settings,
+        entry: &Entry<'_>,
+        rules: &Rules<'_>,
         into: &mut Vec<Certificate>,
     ) -> Result<Outcome, AddFault>
-        requires fits { Fits machine.old stage.now }
+        requires fits { Fits machine.old entry.now.stage.now }
         requires knows { Knows machine.old fanout.old }
-        ensures outcome { IfOk result (λ outcome. TellsOutcome machine.old stage.now (tried library.now settings.now machine.old stage.now) outcome) }
-        ensures machine { IfOk result (λ outcome. machine.new ≡ after_outcome machine.old stage.now outcome) }
-        ensures certificates { IfOk result (Pushes machine.old number stage.now into.old.items into.new.items) }
+        ensures outcome { IfOk result (λ outcome. TellsOutcome machine.old entry.now.stage.now
+            (tried rules.now.library.now rules.now.settings.now machine.old entry.now.stage.now) outcome) }
+        ensures machine { IfOk result (λ outcome. machine.new ≡ after_outcome machine.old entry.now.stage.now outcome) }
+        ensures certificates { IfOk result (Pushes machine.old entry.now.number entry.now.stage.now into.old.items into.new.items) }
         ensures knows { OnOk result (Knows machine.new fanout.new) }
-        ensures fault { IfErr result (MayFail (tried library.now settings.now machine.old stage.now)) }
+        ensures fault { IfErr result (MayFail (tried rules.now.library.now rules.now.settings.now machine.old entry.now.stage.now)) }
         ensures kept { OnErr result (Extends machine.old machine.new) }
         ensures grown { Grow into.old.items into.new.items }
     {
-        match early_end(stage, library, settings) {
+        match early_end(entry.stage, rules.library, rules.settings) {
             Some(outcome) => Ok(outcome),
-            None => self.try_claims(machine, fanout, number, stage, settings.width, into),
+            None => self.try_claims(machine, fanout, entry, rules.settings.width, into),
         }
     }
 
@@ -132,26 +147,25 @@ impl Judge {
         &mut self,
         machine: &mut Machine,
         fanout: &mut Fanout,
-        number: u32,
-        stage: &Stage,
+        entry: &Entry<'_>,
         width: u32,
         into: &mut Vec<Certificate>,
     ) -> Result<Outcome, AddFault>
-        requires fits { Fits machine.old stage.now }
+        requires fits { Fits machine.old entry.now.stage.now }
         requires knows { Knows machine.old fanout.old }
-        ensures outcome { IfOk result (λ outcome. TellsOutcome machine.old stage.now
-            (measured machine.old width (all_claims machine.old stage.now) (decided machine.old stage.now)) outcome) }
-        ensures machine { IfOk result (λ outcome. machine.new ≡ after_outcome machine.old stage.now outcome) }
-        ensures certificates { IfOk result (Pushes machine.old number stage.now into.old.items into.new.items) }
+        ensures outcome { IfOk result (λ outcome. TellsOutcome machine.old entry.now.stage.now
+            (by_claims machine.old width entry.now.stage.now) outcome) }
+        ensures machine { IfOk result (λ outcome. machine.new ≡ after_outcome machine.old entry.now.stage.now outcome) }
+        ensures certificates { IfOk result (Pushes machine.old entry.now.number entry.now.stage.now into.old.items into.new.items) }
         ensures knows { OnOk result (Knows machine.new fanout.new) }
-        ensures fault { IfErr result (MayFail (measured machine.old width (all_claims machine.old stage.now) (decided machine.old stage.now))) }
+        ensures fault { IfErr result (MayFail (by_claims machine.old width entry.now.stage.now)) }
         ensures kept { OnErr result (Extends machine.old machine.new) }
         ensures grown { Grow into.old.items into.new.items }
     {
-        if let Some(end) = self.judge_claims(machine, fanout, number, stage, width, into)? {
+        if let Some(end) = self.judge_claims(machine, fanout, entry, width, into)? {
             return Ok(end);
         }
-        insert(machine, fanout, stage)?;
+        insert(machine, fanout, entry.stage)?;
         Ok(Outcome::Inserted)
     }
 
@@ -160,79 +174,93 @@ impl Judge {
         &mut self,
         machine: &Machine,
         fanout: &mut Fanout,
-        number: u32,
-        stage: &Stage,
+        entry: &Entry<'_>,
         width: u32,
         into: &mut Vec<Certificate>,
     ) -> Result<Option<Outcome>, AddFault>
-        requires fits { Fits machine.now stage.now }
+        requires fits { Fits machine.now entry.now.stage.now }
         requires knows { Knows machine.now fanout.old }
         ensures judged { IfOk result
-            (IsJudged machine.now stage.now (measured machine.now width (all_claims machine.now stage.now) (decided machine.now stage.now))) }
-        ensures certificates { IfOk result (Certifying machine.now number stage.now into.old.items into.new.items) }
+            (IsJudged machine.now entry.now.stage.now (by_claims machine.now width entry.now.stage.now)) }
+        ensures certificates { IfOk result (Certifying machine.now entry.now.number entry.now.stage.now into.old.items into.new.items) }
         ensures knows { OnOk result (Knows machine.now fanout.new) }
-        ensures fault { IfErr result (MayFail (measured machine.now width (all_claims machine.now stage.now) (decided machine.now stage.now))) }
+        ensures fault { IfErr result (MayFail (by_claims machine.now width entry.now.stage.now)) }
         ensures grown { Grow into.old.items into.new.items }
     {
-        let names = claim_names(self.alloc, machine, fanout, stage)?;
-        let sets = StageSets::new(self.alloc, stage)?;
-        self.judge_named(machine, number, &sets, names.as_slice(), width, into)
+        let names = claim_names(self.alloc, machine, fanout, entry.stage)?;
+        let sets = StageSets::new(self.alloc, entry.stage)?;
+        let claims = Claims {
+            machine,
+            number: entry.number,
+            stage: &sets,
+            names: names.as_slice(),
+            width,
+        };
+        self.judge_named(&claims, into)
     }
 
     /// How a stage ends by its claims, which have these names beside that it can idle. Each is built once.
     fn judge_named(
         &mut self,
-        machine: &Machine,
-        number: u32,
-        stage: &StageSets<'_>,
-        names: &[ClaimName],
-        width: u32,
+        claims: &Claims<'_>,
         into: &mut Vec<Certificate>,
     ) -> Result<Option<Outcome>, AddFault>
-        requires fits { Fits machine.now stage.now }
-        requires names { AreNames machine.now stage.now names.now }
+        requires fits { Fits claims.now.machine.now claims.now.stage.now }
+        requires names { AreNames claims.now.machine.now claims.now.stage.now claims.now.names.now }
         ensures judged { IfOk result
-            (IsJudged machine.now stage.now (measured machine.now width (all_claims machine.now stage.now) (decided machine.now stage.now))) }
-        ensures certificates { IfOk result (Certifying machine.now number stage.now into.old.items into.new.items) }
-        ensures fault { IfErr result (MayFail (measured machine.now width (all_claims machine.now stage.now) (decided machine.now stage.now))) }
+            (IsJudged claims.now.machine.now claims.now.stage.now (by_claims claims.now.machine.now claims.now.width claims.now.stage.now)) }
+        ensures certificates { IfOk result (Certifying claims.now.machine.now claims.now.number claims.now.stage.now into.old.items into.new.items) }
+        ensures fault { IfErr result (MayFail (by_claims claims.now.machine.now claims.now.width claims.now.stage.now)) }
         ensures grown { Grow into.old.items into.new.items }
     {
-        let _netlist = machine.netlist();
-        if let Some(end) = measure(&mut self.unroller, machine, stage, &ClaimName::Idle, width)? {
+        let _netlist = claims.machine.netlist();
+        if let Some(end) = measure(
+            &mut self.unroller,
+            claims.machine,
+            claims.stage,
+            &ClaimName::Idle,
+            claims.width,
+        )? {
             return Ok(Some(end));
         }
         let settled = self.decide_idle()?;
-        self.judge_each(machine, number, stage, names, width, settled, into)
+        self.judge_each(claims, settled, into)
     }
 
     /// How a stage ends by its claims of these names, of which that it can idle has settled this. Once more is settled, the
     /// claims left are measured alone: one of them may yet be too wide.
     fn judge_each(
         &mut self,
-        machine: &Machine,
-        number: u32,
-        stage: &StageSets<'_>,
-        names: &[ClaimName],
-        width: u32,
+        claims: &Claims<'_>,
         settled: Option<Outcome>,
         into: &mut Vec<Certificate>,
     ) -> Result<Option<Outcome>, AddFault>
-        requires fits { Fits machine.now stage.now }
-        requires names { AreNames machine.now stage.now names.now }
-        requires settled { IsIdleDecided machine.now (idle_question stage.now.enable) settled }
+        requires fits { Fits claims.now.machine.now claims.now.stage.now }
+        requires names { AreNames claims.now.machine.now claims.now.stage.now claims.now.names.now }
+        requires settled { IsIdleDecided claims.now.machine.now (idle_question claims.now.stage.now.enable) settled }
         ensures judged { IfOk result
-            (IsJudged machine.now stage.now (measured machine.now width (claims_of machine.now stage.now) (decided machine.now stage.now))) }
-        ensures certificates { IfOk result (Certifying machine.now number stage.now into.old.items into.new.items) }
-        ensures fault { IfErr result (MayFail (measured machine.now width (claims_of machine.now stage.now) (decided machine.now stage.now))) }
+            (IsJudged claims.now.machine.now claims.now.stage.now
+            (measured claims.now.machine.now claims.now.width (claims_of claims.now.machine.now claims.now.stage.now)
+            (decided claims.now.machine.now claims.now.stage.now))) }
+        ensures certificates { IfOk result (Certifying claims.now.machine.now claims.now.number claims.now.stage.now into.old.items into.new.items) }
+        ensures fault { IfErr result
+            (MayFail (measured claims.now.machine.now claims.now.width (claims_of claims.now.machine.now claims.now.stage.now)
+            (decided claims.now.machine.now claims.now.stage.now))) }
         ensures grown { Grow into.old.items into.new.items }
     {
-        let _netlist = machine.netlist();
+        let _netlist = claims.machine.netlist();
         let mut settled = settled;
-        for name in names {
-            if let Some(end) = measure(&mut self.unroller, machine, stage, name, width)? {
+        for name in claims.names {
+            if let Some(end) = measure(
+                &mut self.unroller,
+                claims.machine,
+                claims.stage,
+                name,
+                claims.width,
+            )? {
                 return Ok(Some(end));
             }
-            settled = self.settle(number, name, settled, into)?;
+            settled = self.settle(claims.number, name, settled, into)?;
         }
         Ok(settled)
     }
@@ -256,11 +284,4 @@ impl Judge {
             None => self.decide(number, name, into),
         }
     }
-}
-
-/// Whether the stage gets its enable.
-fn is_inserted(outcome: &Outcome) -> bool
-    ensures { result ≡ is_inserted outcome.now }
-{
-    matches!(outcome, Outcome::Inserted)
 }

@@ -6,6 +6,7 @@
 //!
 //! The modules:
 //!
+//! - `rules`: what stages are tried by.
 //! - `cells`: how a stage ends by its registers and its cells alone.
 //! - `claims`: the claims of a stage, by their names.
 //! - `sets`: a stage whose claims are built.
@@ -28,6 +29,7 @@ mod insert;
 mod judge;
 mod measure;
 pub mod plan;
+mod rules;
 mod sets;
 pub mod trial;
 

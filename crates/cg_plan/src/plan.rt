@@ -8,6 +8,7 @@ ghost use Rattle.cg_plan_laws.specs.Told.{IsPlan, PlanMayFail};
 ghost use Rattle.cg_plan.specs.Planning.{AreWritable, IsSafePlan, told};
 
 use crate::draft::Draft;
+use crate::rules::Rules;
 use cg_cell::library::Library;
 use cg_hold::candidates::candidates;
 use cg_hold::progress::Progress;
@@ -62,37 +63,21 @@ pub fn make_plan(
     ensures safe { IfOk result (λ plan. IsSafePlan library.now settings.now machine plan.machine) }
     ensures fault { IfErr result (PlanMayFail (plan_of library.now settings.now (option_copied idle.entry) machine).limit) }
 {
-    let plan = plan_told(alloc, machine, library, settings, idle, progress);
-    progress.done();
-    plan
-}
-
-/// The same, without telling that it ends.
-fn plan_told(
-    alloc: Global,
-    machine: Machine,
-    library: &Library,
-    settings: &Settings,
-    idle: Option<&Idle<'_>>,
-    progress: &mut dyn Progress,
-) -> Result<Plan, AddFault>
-    requires { FitsIdle machine (option_copied idle) }
-    ensures plan { IfOk result (λ plan. IsPlan library.now settings.now (option_copied idle.entry) machine (told plan)) }
-    ensures writable { IfOk result (λ plan. AreWritable plan.certificates) }
-    ensures safe { IfOk result (λ plan. IsSafePlan library.now settings.now machine plan.machine) }
-    ensures fault { IfErr result (PlanMayFail (plan_of library.now settings.now (option_copied idle.entry) machine).limit) }
-{
     let _netlist = machine.netlist();
     let found = match candidates(alloc, &machine, settings.width, idle, progress) {
         Ok(found) => found,
         Err(fault) => {
+            progress.done();
             // By a call, here and below, as its parts would else be dropped one by one in the proof of each way out.
             drop(machine);
             return Err(fault);
         }
     };
     let mut draft = Draft::new(alloc, machine);
-    match draft.try_parts(found.stages, library, settings, progress) {
+    let rules = Rules { library, settings };
+    let result = draft.try_parts(found.stages, &rules, progress);
+    progress.done();
+    match result {
         Ok(()) => Ok(finished(draft, found.wide)),
         Err(fault) => {
             drop(draft);

@@ -10,7 +10,8 @@ ghost use Rattle.cg_plan.specs.Planning.{StayWritable};
 ghost use Rattle.cg_plan.specs.Trial.{WhereInserted};
 ghost use Rattle.cg_stage_laws.specs.Stages.{Fits};
 
-use crate::judge::Judge;
+use crate::judge::{Entry, Judge};
+use crate::rules::Rules;
 use cg_cell::library::Library;
 use cg_claim_reach::fanout::Fanout;
 use cg_machine::machine::Machine;
@@ -52,7 +53,9 @@ pub fn try_stage(
 {
     let mut judge = Judge::new(alloc);
     let mut fanout = Fanout::new(alloc);
-    let result = judge.try_stage(machine, &mut fanout, number, stage, library, settings, into);
+    let entry = Entry { number, stage };
+    let rules = Rules { library, settings };
+    let result = judge.try_stage(machine, &mut fanout, &entry, &rules, into);
     // By calls: their many parts would else be dropped step by step in each goal of this function.
     drop(fanout);
     drop(judge);

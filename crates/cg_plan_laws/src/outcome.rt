@@ -1,5 +1,8 @@
 //! What comes of a stage.
 
+ghost use Rattle.std.specs.Prelude.{◌≡◌};
+ghost use Rattle.cg_plan_laws.specs.Plan.{is_inserted};
+
 use cg_cell::fit::FitKind;
 use cg_claim::leaf::LeafBit;
 use cg_claim::name::ClaimName;
@@ -25,4 +28,13 @@ pub enum Outcome {
 
     /// The library has no cell of this kind, which it needs.
     NoCell(FitKind),
+}
+
+impl Outcome {
+    /// Whether the stage gets its enable.
+    pub fn is_inserted(&self) -> bool
+        ensures { result ≡ is_inserted self.now }
+    {
+        matches!(self, Outcome::Inserted)
+    }
 }

@@ -29,9 +29,9 @@ spaced-append words more = flat_map-append (λ (word : Word). 32 ∷ word) words
 pub spaced_map-drop : {A : Type 0} (word : A → Word) (xs : List A) (k : ℕ) (d : A) → k < length xs → spaced (map word (drop k xs)) ≡ (32 ∷ word (get_or xs k d)) ++ spaced (map word (drop (k + 1) xs))
 spaced_map-drop word xs k d below = rw (add-one, drop-cons xs k d) refl
 
-pub stages_from-drop : (m : MachineData) (told : List (Stage × Outcome)) (k : ℕ) (d : Stage × Outcome) → k < length told
-    → text_of (stages_from m (k + 1) (drop k told)) ≡ line_text (stage_words m (k + 1) (get_or told k d)) ++ text_of (stages_from m (k + 1 + 1) (drop (k + 1) told))
-stages_from-drop m told k d below = rw (add-one k, drop-cons told k d) refl
+pub stages_from-drop : (m : MachineData) (stages : List (Stage × Outcome)) (k : ℕ) (d : Stage × Outcome) → k < length stages
+    → text_of (stages_from m (k + 1) (drop k stages)) ≡ line_text (stage_words m (k + 1) (get_or stages k d)) ++ text_of (stages_from m (k + 1 + 1) (drop (k + 1) stages))
+stages_from-drop m stages k d below = rw (add-one k, drop-cons stages k d) refl
 
 pub certificates-drop : (m : MachineData) (certificates : List Certificate) (k : ℕ) (d : Certificate) → k < length certificates
     → flat_map (certificate_text m) (drop k certificates) ≡ certificate_text m (get_or certificates k d) ++ flat_map (certificate_text m) (drop (k + 1) certificates)

@@ -20,7 +20,7 @@ wide_words wide = codes "hold" ∷ codes "wide" ∷ decimal wide ∷ []
 -- the stages, of which the first has this number
 abbrev pub stages_from : MachineData → ℕ → List (Stage × Outcome) → List (List Word)
 stages_from m number [] = []
-stages_from m number (told ∷ later) = stage_words m number told ∷ stages_from m (number + 1) later
+stages_from m number (tried ∷ later) = stage_words m number tried ∷ stages_from m (number + 1) later
 
 -- the lines from the counts to the last stage
 abbrev pub stage_lines : ToldPlan → ℕ → List ℕ

@@ -15,7 +15,7 @@ use Rattle.cg_plan_text.specs.declared.summary.Played.{Played}
 -- how many stages were tried, and how many were inserted
 abbrev pub summary_of : List (Stage × Outcome) → List Word
 summary_of stages =
-    codes "stages" ∷ decimal (length stages) ∷ codes "inserted" ∷ decimal (count_by (λ told. is_inserted told.1) stages) ∷ []
+    codes "stages" ∷ decimal (length stages) ∷ codes "inserted" ∷ decimal (count_by (λ tried. is_inserted tried.1) stages) ∷ []
 
 abbrev pub summary_words : ToldPlan → List Word
 summary_words plan = summary_of plan.stages

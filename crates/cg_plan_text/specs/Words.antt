@@ -90,7 +90,7 @@ outcome_words m (NoCell kind) = codes "nocell" ∷ cell_word kind ∷ []
 
 -- a stage with its number, counted from 1, and what comes of it
 abbrev pub stage_words : MachineData → ℕ → Stage × Outcome → List Word
-stage_words m number told =
-    codes "stage" ∷ decimal number ∷ kind_word told.0.kind ∷ codes "regs" ∷ decimal (length told.0.regs)
-    ∷ (map (register_word m) told.0.regs
-    ++ codes "enable" ∷ decimal (length told.0.enable) ∷ (map (literal_word m) told.0.enable ++ outcome_words m told.1))
+stage_words m number tried =
+    codes "stage" ∷ decimal number ∷ kind_word tried.0.kind ∷ codes "regs" ∷ decimal (length tried.0.regs)
+    ∷ (map (register_word m) tried.0.regs
+    ++ codes "enable" ∷ decimal (length tried.0.enable) ∷ (map (literal_word m) tried.0.enable ++ outcome_words m tried.1))

@@ -81,8 +81,8 @@ fn push_stages(
 ) -> Result<(), AllocError>
     ensures { OnOk result (text.new.items ≡ text.old.items ++ text_of (stages_from machine.now 1 stages.now)) }
 {
-    'stages: for (place, told) in stages.iter().enumerate() {
-        push_stage(text, machine, place as u64 + 1, told)?;
+    'stages: for (place, tried) in stages.iter().enumerate() {
+        push_stage(text, machine, place as u64 + 1, tried)?;
     }
     Ok(())
 }

@@ -19,17 +19,17 @@ pub fn push_stage(
     text: &mut Vec<u8>,
     machine: &Machine,
     number: u64,
-    told: &(Stage, Outcome),
+    tried: &(Stage, Outcome),
 ) -> Result<(), AllocError>
-    ensures { OnOk result (text.new.items ≡ text.old.items ++ line_text (stage_words machine.now number told.now)) }
+    ensures { OnOk result (text.new.items ≡ text.old.items ++ line_text (stage_words machine.now number tried.now)) }
 {
-    let stage = &told.0;
+    let stage = &tried.0;
     text.extend_from_slice(b"stage")?;
     push_count(text, number)?;
     push_word(text, kind_word(stage.kind))?;
     push_registers(text, machine, stage.regs.as_slice())?;
     push_enables(text, machine, stage.enable.as_slice())?;
-    push_outcome(text, machine, &told.1)?;
+    push_outcome(text, machine, &tried.1)?;
     text.extend_from_slice(b"\n")
 }
 

@@ -113,24 +113,15 @@ fn push_summary(text: &mut Vec<u8>, stages: &[(Stage, Outcome)]) -> Result<(), A
 /// How many stages were inserted.
 #[tactic(auto, using(crate::proofs::TextLemmas::counts))]
 fn inserted(stages: &[(Stage, Outcome)]) -> usize
-    ensures { result ≡ count_by (λ told. is_inserted told.1) stages.now }
+    ensures { result ≡ count_by (λ tried. is_inserted tried.1) stages.now }
 {
     let mut count = 0;
-    'stages: for told in stages {
-        if is_inserted(&told.1) {
+    'stages: for tried in stages {
+        if tried.1.is_inserted() {
             count += 1;
         }
     }
     count
-}
-
-fn is_inserted(outcome: &Outcome) -> bool
-    ensures { result ≡ is_inserted outcome.now }
-{
-    match outcome {
-        Outcome::Inserted => true,
-        _ => false,
-    }
 }
 
 /// Puts the line of the edges behind a text.

@@ -5,14 +5,18 @@ use Rattle.cg_machine.specs.declared.stage.Stage.{Stage}
 use Rattle.cg_claim.specs.LeafBits.{is_never}
 use Rattle.cg_claim.specs.Question.{idle_question}
 use Rattle.cg_plan_laws.specs.Plan.{is_inserted}
-use Rattle.cg_plan_laws.specs.StageClaims.{NamedClaim, claims_of}
+use Rattle.cg_plan_laws.specs.StageClaims.{NamedClaim, all_claims, claims_of}
 use Rattle.cg_plan_laws.specs.Told.{TellsOutcome}
-use Rattle.cg_plan_laws.specs.Trying.{Tried, decided, first_false, unless_passed}
+use Rattle.cg_plan_laws.specs.Trying.{Tried, decided, first_false, measured, unless_passed}
 use Rattle.cg_plan_laws.specs.declared.certificate.Certificate.{Certificate}
 use Rattle.cg_plan_laws.specs.declared.outcome.Outcome.{Outcome}
 use Rattle.cg_plan_laws.specs.declared.outcome.Outcome.TheVariants.{Inserted}
 use Rattle.cg_stage_laws.specs.Effects.{limit_by}
 use Rattle.cg_plan.specs.inner.Deciding.{AllCertified}
+
+-- what comes of a stage by its claims, at this width
+abbrev pub by_claims : MachineData → ℕ → Stage → Tried
+by_claims m width s = measured m width (all_claims m s) (decided m s)
 
 -- a stage of which this comes ends so, or it is inserted unless a limit is passed
 abbrev pub IsJudged : MachineData → Stage → Tried → Option Outcome → Type 0

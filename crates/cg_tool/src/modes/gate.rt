@@ -22,7 +22,7 @@ use crate::modes::wanted::{Wanted, take_gateable};
 use cg_blif::BlifOptions;
 use cg_cell::library::Library;
 use cg_command_line::Options;
-use cg_gate::gate::{gate, gate_watched};
+use cg_gate::gate::gate;
 use cg_gate::request::Request;
 use cg_gate::texts::Texts;
 use cg_list::Seq;
@@ -295,10 +295,7 @@ fn gated(
     ensures unstopped { OnOk result (stops_at request.now netlist.now ≡ None) }
     ensures fault { IfErr result (PlanMayFail (stops_at request.now netlist.now)) }
 {
-    match watcher {
-        None => gate(alloc, netlist, request, progress),
-        Some(mut watcher) => gate_watched(alloc, netlist, request, &mut watcher, progress),
-    }
+    gate(alloc, netlist, request, watcher, progress)
 }
 
 /// The output of the texts.

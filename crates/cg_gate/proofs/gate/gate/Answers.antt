@@ -1,9 +1,10 @@
-use Rattle.std.proofs.Common.{◌≡◌, None, ap, subst, sym, ◌∙◌}
+use Rattle.std.proofs.Common.{◌≡◌, Option, None, ap, subst, sym, ◌∙◌}
+use Rattle.std.specs.Option.{option_map}
 use Rattle.cg_gate.proofs.Answering.{gives_all, if_ok, means_all, on_ok, wanting}
 use Rattle.cg_gate.proofs.Gated.{unstopped}
 use Rattle.cg_gate.specs.Gating.{AreTexts, GivesGated}
 use Rattle.cg_gate.specs.Headline.{Headline}
-use Rattle.cg_gate.specs.Played.{IsWhatPlayed}
+use Rattle.cg_gate.specs.Played.{IsWhatPlayed, Saying}
 use Rattle.cg_gate.specs.Request.{RequestData, stops_at}
 use Rattle.cg_plan.specs.Planning.{told}
 use Rattle.cg_gate.proofs.gate.gate.Goals as goal
@@ -18,19 +19,21 @@ pub returns-clause-gives : goal.returns-clause-gives
 returns-clause-gives g c =
     let request = c.args.request.now in
     let read = c.args.netlist.now in
+    let says : Option Saying = option_map (λ w. (goal.Watcher-dyn g (w.vtable, w.value)).says w.value) c.args.watcher in
     let gated = c.in_ok-gated.gated in
-    let what = subst (λ (r : RequestData). IsWhatPlayed None r.stimulus read gated.netlist c.in-Ok.played) c.request.view_is c.in-Ok.ensures in
-    if_ok (AreTexts request (told gated.plan) gated.netlist c.in-Ok.played) (GivesGated request None read) c.finish-texts.result
-    (gives_all request None read gated.netlist (told gated.plan) c.in-Ok.played c.in_ok-gated.ensures.gated what) c.finish-texts.ensures.texts
+    let what = subst (λ (r : RequestData). IsWhatPlayed says r.stimulus read gated.netlist c.in-Ok.played) c.request.view_is c.in-Ok.ensures in
+    if_ok (AreTexts request (told gated.plan) gated.netlist c.in-Ok.played) (GivesGated request says read) c.finish-texts.result
+    (gives_all request says read gated.netlist (told gated.plan) c.in-Ok.played c.in_ok-gated.ensures.gated what) c.finish-texts.ensures.texts
 
 pub returns-clause-headline : goal.returns-clause-headline
 returns-clause-headline g c =
     let request = c.args.request.now in
     let read = c.args.netlist.now in
+    let says : Option Saying = option_map (λ w. (goal.Watcher-dyn g (w.vtable, w.value)).says w.value) c.args.watcher in
     let gated = c.in_ok-gated.gated in
-    let what = subst (λ (r : RequestData). IsWhatPlayed None r.stimulus read gated.netlist c.in-Ok.played) c.request.view_is c.in-Ok.ensures in
-    if_ok (AreTexts request (told gated.plan) gated.netlist c.in-Ok.played) (Headline request None read) c.finish-texts.result
-    (means_all request None read gated.netlist (told gated.plan) c.in-Ok.played c.in_ok-gated.ensures.gated what c.in_ok-gated.ensures.proper c.requires) c.finish-texts.ensures.texts
+    let what = subst (λ (r : RequestData). IsWhatPlayed says r.stimulus read gated.netlist c.in-Ok.played) c.request.view_is c.in-Ok.ensures in
+    if_ok (AreTexts request (told gated.plan) gated.netlist c.in-Ok.played) (Headline request says read) c.finish-texts.result
+    (means_all request says read gated.netlist (told gated.plan) c.in-Ok.played c.in_ok-gated.ensures.gated what c.in_ok-gated.ensures.proper c.requires) c.finish-texts.ensures.texts
 
 pub returns-clause-unstopped : goal.returns-clause-unstopped
 returns-clause-unstopped g c =

@@ -14,17 +14,17 @@ measure-requires-clause-literal c =
 
 pub returns-in-TooWide : goal.returns-in-TooWide
 returns-in-TooWide c =
-    let m = c.args.machine.now in
-    let w = c.args.width in
+    let m = c.args.search.now.machine.now in
+    let w = c.args.search.now.width in
     let r = c.args.reg in
     all_wide m w r c.args.literals.now (subst (IsRoom m w r) c.in-TooWide.is c.measure.ensures.room)
 
 pub choose_from-requires-clause-room : goal.choose_from-requires-clause-room
 choose_from-requires-clause-room c =
-    subst (IsRoom c.args.machine.now c.args.width c.args.reg) c.in-Ample.is c.measure.ensures.room
+    subst (IsRoom c.args.search.now.machine.now c.args.search.now.width c.args.reg) c.in-Ample.is c.measure.ensures.room
 
 pub choose_from-requires-clause-claim : goal.choose_from-requires-clause-claim
 choose_from-requires-clause-claim c = λ l at.
     let literal = c.literal_at.result in
-    subst (λ (x : Literal). IsClaim c.args.machine.now (hold_question x c.args.reg) c.args.width c.measure.new.self.unroller)
+    subst (λ (x : Literal). IsClaim c.args.search.now.machine.now (hold_question x c.args.reg) c.args.search.now.width c.measure.new.self.unroller)
     (same_place c.args.literals.now c.first_unmoved-place.result literal l c.literal_at.ensures at) (c.measure.ensures.stands c.in-Ample.is)

@@ -10,7 +10,7 @@ use Rattle.cg_hold.proofs.choice.choose_from.Goals as goal
 
 pub returns-then-place-literals : goal.returns-then-place-literals
 returns-then-place-literals c =
-    none_serves c.args.machine.now c.args.width c.args.reg c.requires.room c.args.literals.now c.args.place c.if-place-literals.true c.requires.nets c.requires.moved
+    none_serves c.args.search.now.machine.now c.args.search.now.width c.args.reg c.requires.room c.args.literals.now c.args.place c.if-place-literals.true c.requires.nets c.requires.moved
 
 pub serves-requires-clause-net : goal.serves-requires-clause-net
 serves-requires-clause-net c =
@@ -28,17 +28,17 @@ serves-requires-clause-claim c =
 
 pub returns-then-good : goal.returns-then-good
 returns-then-good c =
-    let m = c.args.machine.now in
+    let m = c.args.search.now.machine.now in
     let r = c.args.reg in
     let literals = c.args.literals.now in
     let place = c.args.place in
     let l = c.index-literals-place.result in
     let at : slice_get literals place ≡ Some l = slice_get_read literals _ place l refl c.if-place-literals.false c.index-literals-place.is in
-    first_serves m c.args.width r c.requires.room literals place l at c.requires.nets c.requires.moved (sym c.in_ok-good.ensures ∙ c.if-good.true)
+    first_serves m c.args.search.now.width r c.requires.room literals place l at c.requires.nets c.requires.moved (sym c.in_ok-good.ensures ∙ c.if-good.true)
 
 pub first_that_serves-requires-clause-nets : goal.first_that_serves-requires-clause-nets
 first_that_serves-requires-clause-nets c =
-    let m = c.args.machine.now in
+    let m = c.args.search.now.machine.now in
     let r = c.args.reg in
     let literals = c.args.literals.now in
     let next = c.args.place + 1 in
@@ -46,8 +46,8 @@ first_that_serves-requires-clause-nets c =
 
 pub returns : goal.returns
 returns c =
-    let m = c.args.machine.now in
-    let w = c.args.width in
+    let m = c.args.search.now.machine.now in
+    let w = c.args.search.now.width in
     let r = c.args.reg in
     let literals = c.args.literals.now in
     let place = c.args.place in

@@ -18,13 +18,13 @@ returns-in_err-settle c =
     let l = c.literal-item.result in
     let at : slice_get literals i ≡ Some l = slice_get_read literals _ i l refl c.loop-literal-test.true c.literal-item.is in
     let same : c.from_residual.result ≡ Err c.in_err-settle.field-0.0 = search rules in
-    subst (λ (z : Result Choice AddFault). OrNoMemory NoMemory (λ (t : Choice). t) z (choice_by c.args.machine.now c.args.width c.args.reg literals)) (sym same)
-    (err_choice c.args.machine.now c.args.width c.args.reg literals i l at c.loop-literal.invariant.left c.in_err-settle.field-0.0 c.in_err-settle.ensures)
+    subst (λ (z : Result Choice AddFault). OrNoMemory NoMemory (λ (t : Choice). t) z (choice_by c.args.search.now.machine.now c.args.search.now.width c.args.reg literals)) (sym same)
+    (err_choice c.args.search.now.machine.now c.args.search.now.width c.args.reg literals i l at c.loop-literal.invariant.left c.in_err-settle.field-0.0 c.in_err-settle.ensures)
 
 pub returns-in-TooWide : goal.returns-in-TooWide
 returns-in-TooWide c =
-    let m = c.args.machine.now in
-    let w = c.args.width in
+    let m = c.args.search.now.machine.now in
+    let w = c.args.search.now.width in
     let r = c.args.reg in
     let literals = c.args.literals.now in
     let i = c.loop-literal.literal-index in
@@ -34,8 +34,8 @@ returns-in-TooWide c =
 
 pub returns-in-Serves : goal.returns-in-Serves
 returns-in-Serves c =
-    let m = c.args.machine.now in
-    let w = c.args.width in
+    let m = c.args.search.now.machine.now in
+    let w = c.args.search.now.width in
     let r = c.args.reg in
     let literals = c.args.literals.now in
     let i = c.loop-literal.literal-index in
@@ -45,8 +45,8 @@ returns-in-Serves c =
 
 pub loop-literal-preserved : goal.loop-literal-preserved
 loop-literal-preserved c =
-    let m = c.args.machine.now in
-    let w = c.args.width in
+    let m = c.args.search.now.machine.now in
+    let w = c.args.search.now.width in
     let r = c.args.reg in
     let literals = c.args.literals.now in
     let i = c.loop-literal.literal-index in
@@ -57,8 +57,8 @@ loop-literal-preserved c =
 
 pub returns : goal.returns
 returns c =
-    let m = c.args.machine.now in
-    let w = c.args.width in
+    let m = c.args.search.now.machine.now in
+    let w = c.args.search.now.width in
     let r = c.args.reg in
     let literals = c.args.literals.now in
     let i = c.loop-literal.literal-index in

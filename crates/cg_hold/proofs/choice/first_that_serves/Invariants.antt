@@ -5,6 +5,6 @@ use Rattle.cg_hold.proofs.choice.first_that_serves.Given as goal
 
 abbrev pub invariant-loop-literal : goal.invariant-loop-literal
 invariant-loop-literal l = record {
-  left : choice_by l.machine l.width l.reg (drop l.literal-index l.literals) ≡ choice_by l.machine l.width l.reg l.literals;
-  narrow : 0 < l.literal-index → nat_lt l.width (hold_width l.machine l.reg) ≡ false;
+  left : choice_by l.search.machine.now l.search.width l.reg (drop l.literal-index l.literals) ≡ choice_by l.search.machine.now l.search.width l.reg l.literals;
+  narrow : 0 < l.literal-index → nat_lt l.search.width (hold_width l.search.machine.now l.reg) ≡ false;
 }

@@ -13,10 +13,10 @@ okay t = Ok t
 
 pub returns-in_ok-good-in-Ok : goal.returns-in_ok-good-in-Ok
 returns-in_ok-good-in-Ok c =
-    let m = c.args.machine.now in
+    let m = c.args.search.now.machine.now in
     let r = c.args.reg in
     let l = c.args.literal in
-    let w = c.args.width in
+    let w = c.args.search.now.width in
     let widths = c.list_laws.ensures.widths in
     let good = c.netlist-netlist.ensures.machine in
     let is = c.in-Ok.ensures.claim in
@@ -25,8 +25,8 @@ returns-in_ok-good-in-Ok c =
 
 pub returns-in-Err : goal.returns-in-Err
 returns-in-Err c =
-    let m = c.args.machine.now in
+    let m = c.args.search.now.machine.now in
     let r = c.args.reg in
     let l = c.args.literal in
-    subst (λ (z : Result Trial AddFault). OrNoMemory NoMemory (λ (t : Trial). t) z (trial_of m c.args.width r l)) (sym c.refused.ensures)
-    (refused_is c.list_laws.ensures.widths m c.netlist-netlist.ensures.machine r l c.requires.literal c.args.width c.in-Err.fault c.in-Err.ensures.refused)
+    subst (λ (z : Result Trial AddFault). OrNoMemory NoMemory (λ (t : Trial). t) z (trial_of m c.args.search.now.width r l)) (sym c.refused.ensures)
+    (refused_is c.list_laws.ensures.widths m c.netlist-netlist.ensures.machine r l c.requires.literal c.args.search.now.width c.in-Err.fault c.in-Err.ensures.refused)

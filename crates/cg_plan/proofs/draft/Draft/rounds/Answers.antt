@@ -8,8 +8,8 @@ use Rattle.cg_plan.proofs.draft.Draft.rounds.Goals as goal
 
 pub returns-then-is_empty-clause-leads : goal.returns-then-is_empty-clause-leads
 returns-then-is_empty-clause-leads g c =
-    let library = c.args.library.now in
-    let settings = c.args.settings.now in
+    let library = c.args.rules.now.library.now in
+    let settings = c.args.rules.now.settings.now in
     let kind = c.args.kind in
     let none : c.in_ok-stages.stages ≡ [] = no_stages c.in_ok-stages.stages (sym c.is_empty.ensures.none ∙ c.if-is_empty.true) in
     left_none (rounds library settings kind settings.rounds) (rounds library settings kind (settings.rounds - c.loop.counter)) c.args.self.now c.loop.self c.loop.invariant
@@ -17,8 +17,8 @@ returns-then-is_empty-clause-leads g c =
 
 pub returns-in_err-try_all-clause-fault : goal.returns-in_err-try_all-clause-fault
 returns-in_err-try_all-clause-fault g c =
-    let library = c.args.library.now in
-    let settings = c.args.settings.now in
+    let library = c.args.rules.now.library.now in
+    let settings = c.args.rules.now.settings.now in
     let kind = c.args.kind in
     let k = settings.rounds - (c.loop.counter + 1) in
     let more : settings.rounds - c.loop.counter ≡ suc k = omega (arith, c.loop-test.true) in
@@ -31,8 +31,8 @@ returns-in_err-try_all-clause-fault g c =
 
 pub loop-preserved : goal.loop-preserved
 loop-preserved g c =
-    let library = c.args.library.now in
-    let settings = c.args.settings.now in
+    let library = c.args.rules.now.library.now in
+    let settings = c.args.rules.now.settings.now in
     let kind = c.args.kind in
     let k = settings.rounds - (c.loop.counter + 1) in
     let more : settings.rounds - c.loop.counter ≡ suc k = omega (arith, c.loop-test.true) in

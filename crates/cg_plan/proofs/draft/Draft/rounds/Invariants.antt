@@ -4,4 +4,4 @@ use Rattle.cg_plan.specs.inner.Drafting.{IsLeft}
 use Rattle.cg_plan.proofs.draft.Draft.rounds.Given as goal
 
 abbrev pub invariant-loop : goal.invariant-loop
-invariant-loop g l = IsLeft (rounds l.library l.settings l.kind l.settings.rounds) (rounds l.library l.settings l.kind (l.settings.rounds - l.counter)) l.initial.self l.self
+invariant-loop g l = IsLeft (rounds l.rules.library.now l.rules.settings.now l.kind l.rules.settings.now.rounds) (rounds l.rules.library.now l.rules.settings.now l.kind (l.rules.settings.now.rounds - l.counter)) l.initial.self l.self

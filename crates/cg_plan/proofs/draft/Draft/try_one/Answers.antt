@@ -11,8 +11,8 @@ returns-clause-leads c =
     let d = c.args.self.now in
     let e : Draft = record d { machine = c.try_stage.new.machine; certificates = c.try_stage.new.into; judge = c.try_stage.new.self } in
     let done = c.in_ok-outcome.ensures in
-    subst (Leads (λ p. try_one c.args.library.now c.args.settings.now p c.args.stage) d) (sym c.in_ok-keep.ensures)
-    (leads_one c.args.library.now c.args.settings.now d e c.in_ok-number.number c.args.stage c.in_ok-outcome.outcome
+    subst (Leads (λ p. try_one c.args.rules.now.library.now c.args.rules.now.settings.now p c.args.stage) d) (sym c.in_ok-keep.ensures)
+    (leads_one c.args.rules.now.library.now c.args.rules.now.settings.now d e c.in_ok-number.number c.args.stage c.in_ok-outcome.outcome
     (record { count = c.in_ok-number.ensures; tells = done.outcome; machine = done.machine; stages = refl; earlier = refl; certificates = done.certificates; writable = done.writable }))
 
 pub returns-clause-rest : goal.returns-clause-rest
@@ -20,7 +20,7 @@ returns-clause-rest c =
     let m = c.args.self.now.machine in
     let done = c.in_ok-outcome.ensures in
     subst (StillFit c.args.stage m) (sym (ap (λ (d : Draft). d.machine) c.in_ok-keep.ensures ∙ done.machine))
-    (still_fit c.args.library.now c.args.settings.now m c.args.stage c.in_ok-outcome.outcome c.netlist-netlist.ensures.machine c.requires.fits done.outcome.0)
+    (still_fit c.args.rules.now.library.now c.args.rules.now.settings.now m c.args.stage c.in_ok-outcome.outcome c.netlist-netlist.ensures.machine c.requires.fits done.outcome.0)
 
 pub returns-clause-knows : goal.returns-clause-knows
 returns-clause-knows c = subst (λ (d : Draft). Knows d.machine c.try_stage.new.fanout) (sym c.in_ok-keep.ensures) c.in_ok-outcome.ensures.knows

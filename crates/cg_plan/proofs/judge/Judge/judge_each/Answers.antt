@@ -20,10 +20,10 @@ use Rattle.cg_plan.proofs.judge.Judge.judge_each.Goals as goal
 
 pub returns-in_err-end-clause-fault : goal.returns-in_err-end-clause-fault
 returns-in_err-end-clause-fault c =
-    let m = c.args.machine.now in
-    let s = c.args.stage.now in
-    let w = c.args.width in
-    let names = c.args.names.now in
+    let m = c.args.claims.now.machine.now in
+    let s = c.args.claims.now.stage.now in
+    let w = c.args.claims.now.width in
+    let names = c.args.claims.now.names.now in
     let i = c.loop-name.name-index in
     let name = c.name-item.result in
     let q = question_of m s name in
@@ -37,10 +37,10 @@ returns-in_err-end-clause-fault c =
 
 pub returns-in-Some-clause-judged : goal.returns-in-Some-clause-judged
 returns-in-Some-clause-judged c =
-    let m = c.args.machine.now in
-    let s = c.args.stage.now in
-    let w = c.args.width in
-    let names = c.args.names.now in
+    let m = c.args.claims.now.machine.now in
+    let s = c.args.claims.now.stage.now in
+    let w = c.args.claims.now.width in
+    let names = c.args.claims.now.names.now in
     let i = c.loop-name.name-index in
     let name = c.name-item.result in
     let q = question_of m s name in
@@ -56,11 +56,11 @@ returns-in_err-settled-clause-grown c = grow_on c.args.into.now.items c.loop-nam
 
 pub loop-name-preserved : goal.loop-name-preserved
 loop-name-preserved c =
-    let m = c.args.machine.now in
-    let s = c.args.stage.now in
-    let w = c.args.width in
-    let number = c.args.number in
-    let names = c.args.names.now in
+    let m = c.args.claims.now.machine.now in
+    let s = c.args.claims.now.stage.now in
+    let w = c.args.claims.now.width in
+    let number = c.args.claims.now.number in
+    let names = c.args.claims.now.names.now in
     let i = c.loop-name.name-index in
     let name = c.name-item.result in
     let q = question_of m s name in

@@ -8,7 +8,7 @@ use Rattle.cg_plan.proofs.judge.Judge.judge_each.Given as goal
 
 abbrev pub invariant-loop-name : goal.invariant-loop-name
 invariant-loop-name l = record {
-  left : measured l.machine l.width (claims_named l.machine l.stage (drop l.name-index l.names)) (decided l.machine l.stage) ≡ measured l.machine l.width (claims_of l.machine l.stage) (decided l.machine l.stage);
-  settled : IsSettled l.machine l.number l.stage (claims_named l.machine l.stage (take l.name-index l.names)) (claims_named l.machine l.stage (drop l.name-index l.names)) l.fn.into.items l.into.items l.settled;
+  left : measured l.claims.machine.now l.claims.width (claims_named l.claims.machine.now l.claims.stage.now (drop l.name-index l.claims.names.now)) (decided l.claims.machine.now l.claims.stage.now) ≡ measured l.claims.machine.now l.claims.width (claims_of l.claims.machine.now l.claims.stage.now) (decided l.claims.machine.now l.claims.stage.now);
+  settled : IsSettled l.claims.machine.now l.claims.number l.claims.stage.now (claims_named l.claims.machine.now l.claims.stage.now (take l.name-index l.claims.names.now)) (claims_named l.claims.machine.now l.claims.stage.now (drop l.name-index l.claims.names.now)) l.fn.into.items l.into.items l.settled;
   grown : Grow l.fn.into.items l.into.items;
 }

@@ -6,8 +6,8 @@ use Rattle.cg_plan.proofs.judge.Judge.judge_named.Goals as goal
 
 pub judge_each-requires-clause-settled : goal.judge_each-requires-clause-settled
 judge_each-requires-clause-settled c =
-    let m = c.args.machine.now in
-    let q = idle_question c.args.stage.now.enable in
-    let w = c.args.width in
+    let m = c.args.claims.now.machine.now in
+    let q = idle_question c.args.claims.now.stage.now.enable in
+    let w = c.args.claims.now.width in
     let built : IsClaim m q w c.measure.new.unroller = subst (IsBuilt m q w c.measure.new.unroller) c.in_default.is c.in_ok-end.ensures.built in
     c.in_ok-settled.ensures m q w c.netlist-netlist.ensures.machine tt built

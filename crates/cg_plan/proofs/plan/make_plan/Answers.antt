@@ -4,10 +4,10 @@ use Rattle.cg_plan_laws.specs.Told.{IsPlan}
 use Rattle.cg_plan.specs.Planning.{AreWritable, IsSafePlan, told}
 use Rattle.cg_plan.specs.declared.plan.Plan.{Plan}
 use Rattle.cg_plan.proofs.Planned.{hold_fails, hold_found, holds_fit, is_plan, is_safe, plan_fails, whole_draft}
-use Rattle.cg_plan.proofs.plan.plan_told.Goals as goal
+use Rattle.cg_plan.proofs.plan.make_plan.Goals as goal
 
-pub try_parts-requires : goal.try_parts-requires
-try_parts-requires g c =
+pub try_parts-result-requires : goal.try_parts-result-requires
+try_parts-result-requires g c =
     let m = c.args.machine in
     let settings = c.args.settings.now in
     let idle = option_copied c.args.idle in
@@ -17,44 +17,44 @@ try_parts-requires g c =
 pub returns-in-Err-clause-fault : goal.returns-in-Err-clause-fault
 returns-in-Err-clause-fault g c = hold_fails c.args.library.now c.args.settings.now (option_copied c.args.idle) c.args.machine c.in-Err.fault c.in-Err.ensures.answer
 
-pub returns-in-Err-try_parts-clause-fault : goal.returns-in-Err-try_parts-clause-fault
-returns-in-Err-try_parts-clause-fault g c =
+pub returns-in-Err-result-clause-fault : goal.returns-in-Err-result-clause-fault
+returns-in-Err-result-clause-fault g c =
     let m = c.args.machine in
     let library = c.args.library.now in
     let settings = c.args.settings.now in
     let idle = option_copied c.args.idle in
     let found = c.in-Ok.found in
-    plan_fails library settings idle m found (hold_found settings idle m found c.in-Ok.ensures.answer) c.new-draft.result c.new-draft.ensures c.in-Err-try_parts.fault c.in-Err-try_parts.ensures.fault
+    plan_fails library settings idle m found (hold_found settings idle m found c.in-Ok.ensures.answer) c.new-draft.result c.new-draft.ensures c.in-Err-result.fault c.in-Err-result.ensures.fault
 
-pub returns-in-Ok-try_parts-clause-plan : goal.returns-in-Ok-try_parts-clause-plan
-returns-in-Ok-try_parts-clause-plan g c =
+pub returns-in-Ok-result-clause-plan : goal.returns-in-Ok-result-clause-plan
+returns-in-Ok-result-clause-plan g c =
     let m = c.args.machine in
     let library = c.args.library.now in
     let settings = c.args.settings.now in
     let idle = option_copied c.args.idle in
     let found = c.in-Ok.found in
     let is = hold_found settings idle m found c.in-Ok.ensures.answer in
-    let d = c.try_parts.new.self in
+    let d = c.try_parts-result.new.self in
     subst (λ (plan : Plan). IsPlan library settings idle m (told plan)) (sym c.finished.ensures)
-    (is_plan library settings idle m d found.wide (whole_draft library settings idle m found is c.new-draft.result c.new-draft.ensures d c.in-Ok-try_parts.ensures.leads) is.wide)
+    (is_plan library settings idle m d found.wide (whole_draft library settings idle m found is c.new-draft.result c.new-draft.ensures d c.in-Ok-result.ensures.leads) is.wide)
 
-pub returns-in-Ok-try_parts-clause-writable : goal.returns-in-Ok-try_parts-clause-writable
-returns-in-Ok-try_parts-clause-writable g c =
+pub returns-in-Ok-result-clause-writable : goal.returns-in-Ok-result-clause-writable
+returns-in-Ok-result-clause-writable g c =
     let m = c.args.machine in
     let library = c.args.library.now in
     let settings = c.args.settings.now in
     let idle = option_copied c.args.idle in
     let found = c.in-Ok.found in
-    let whole = whole_draft library settings idle m found (hold_found settings idle m found c.in-Ok.ensures.answer) c.new-draft.result c.new-draft.ensures c.try_parts.new.self c.in-Ok-try_parts.ensures.leads in
+    let whole = whole_draft library settings idle m found (hold_found settings idle m found c.in-Ok.ensures.answer) c.new-draft.result c.new-draft.ensures c.try_parts-result.new.self c.in-Ok-result.ensures.leads in
     subst (λ (plan : Plan). AreWritable plan.certificates) (sym c.finished.ensures) whole.writable
 
-pub returns-in-Ok-try_parts-clause-safe : goal.returns-in-Ok-try_parts-clause-safe
-returns-in-Ok-try_parts-clause-safe g c =
+pub returns-in-Ok-result-clause-safe : goal.returns-in-Ok-result-clause-safe
+returns-in-Ok-result-clause-safe g c =
     let m = c.args.machine in
     let library = c.args.library.now in
     let settings = c.args.settings.now in
     let idle = option_copied c.args.idle in
     let found = c.in-Ok.found in
     subst (λ (plan : Plan). IsSafePlan library settings m plan.machine) (sym c.finished.ensures)
-    (is_safe library settings idle m c.try_parts.new.self c.netlist-netlist.ensures.machine
-    (whole_draft library settings idle m found (hold_found settings idle m found c.in-Ok.ensures.answer) c.new-draft.result c.new-draft.ensures c.try_parts.new.self c.in-Ok-try_parts.ensures.leads))
+    (is_safe library settings idle m c.try_parts-result.new.self c.netlist-netlist.ensures.machine
+    (whole_draft library settings idle m found (hold_found settings idle m found c.in-Ok.ensures.answer) c.new-draft.result c.new-draft.ensures c.try_parts-result.new.self c.in-Ok-result.ensures.leads))

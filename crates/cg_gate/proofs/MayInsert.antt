@@ -64,7 +64,7 @@ module _ (request : RequestData) (c : Circuit) (proper : IsProper request) (may 
   may_gate = record {
     start = may.start;
     lifts = may.lifts;
-    own = may.writable.placeable.gating;
+    own = may.placeable.gating;
     cells = from_recursion IsCell request.library proper.cells;
     tested = may.tested;
     named = from_recursion (λ name. IsTrue (is_name name)) (option_to_list request.test) (named request.test proper.named);

@@ -98,7 +98,7 @@ module _ (request : RequestData) (says : Option Saying) (read : Circuit) (texts 
   is_writable =
       let own : IsNetlist (own_netlist n) = subst IsNetlist (sym (keeps_netlist by read may.start)) (bare_is_netlist read may.start.netlist).0 in
       let small : insertion_limit request.test n ≡ None = ap (insertion_limit request.test) (sym machine_is) ∙ gives.gated.fits in
-      writable request.library request.test n good_planned inserts own small gives.written is proper.found (subst (IsPlaceable request.library) (sym (keeps_netlist by read may.start)) (bare_is_placeable request.library read may.writable.placeable))
+      writable request.library request.test n good_planned inserts own small gives.written is proper.found (subst (IsPlaceable request.library) (sym (keeps_netlist by read may.start)) (bare_is_placeable request.library read may.placeable))
 
   says_it : BlifText texts.out request.library None gives.written
   says_it = subst (λ text. BlifText text request.library None w) (sym gives.gives.out) (says_itself request.library w is_writable)

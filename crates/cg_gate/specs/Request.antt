@@ -9,7 +9,7 @@ use Rattle.cg_insert.specs.Insert.{insertion_limit}
 use Rattle.cg_limit.specs.declared.Limit.{Limit}
 use Rattle.cg_machine.specs.Start.{begins}
 use Rattle.cg_netlist.specs.Circuit.{Circuit}
-use Rattle.cg_netlist_parts.specs.Writable.{IsWritable}
+use Rattle.cg_netlist_parts.specs.Writable.{IsPlaceable}
 use Rattle.cg_plan_laws.specs.Plan.{plan_of}
 use Rattle.cg_plan_laws.specs.declared.settings.Settings.{Settings}
 use Rattle.cg_stimulus.specs.Inputs.{IsFor, Rows}
@@ -31,13 +31,13 @@ pub record IsFree (c : Circuit) (prefix name : List ℕ) : Type 0 where
   pub new : All (λ other. other ≢ name) c.names
   pub apart : begins prefix name ≡ false
 
--- What gating needs. The netlist is one that a text can say with the cells of the library. No gating cell of it is refused, and no
+-- What gating needs. The netlist is one whose parts can be placed with the cells of the library. No gating cell of it is refused, and no
 -- net's name begins with the prefix. The plan is made for a test input exactly where there is to be one, and its name is free. The
 -- stimulus is one for the netlist.
 pub record MayGate (request : RequestData) (c : Circuit) : Type 0 where
   pub start : CanExtract c request.prefix
   pub lifts : refused_gater request.library request.test c ≡ None
-  pub writable : IsWritable request.library c
+  pub placeable : IsPlaceable request.library c
   pub tested : request.settings.test ≡ is_some request.test
   pub free : (name : List ℕ) → request.test ≡ Some name → IsFree c request.prefix name
   pub played : (stimulus : Rows) → request.stimulus ≡ Some stimulus → IsFor c stimulus

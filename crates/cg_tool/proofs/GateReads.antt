@@ -98,7 +98,7 @@ may_gate library clock wanted text c stimulus named tested found played =
     record {
       start = record { netlist = writable.placeable.netlist; outputs_once = writable.placeable.outputs_once; named = named; new = (found.gateable).new };
       lifts = (found.gateable).lifts;
-      writable = writable;
+      placeable = writable.placeable;
       tested = tested;
       free = (found.gateable).free;
       played = played;

@@ -5,10 +5,11 @@ use Rattle.std.specs.Option.{option_and_then}
 use Rattle.std.specs.Str.{bytes_eq}
 use Rattle.clap.specs.Words.{Kinds, Text, all_of, fault_of, first_of, matches_of}
 use Rattle.cg_plan_laws.specs.declared.settings.Settings.{Settings}
-use Rattle.cg_run.specs.Names.{Files, no_files}
+use Rattle.cg_run.specs.Names.{Files}
+use Rattle.cg_run.specs.declared.role.Role.TheVariants as roles
 use Rattle.cg_command_line.specs.CommandLine.{Values, command_line, values_in}
 use Rattle.cg_command_line.specs.Jobs.{JobWords, demo_job, gate_files, gate_job, job_in, job_of, job_of_options, job_with, job_without}
-use Rattle.cg_command_line.specs.Jobs.{lrat_job, sim_job}
+use Rattle.cg_command_line.specs.Jobs.{lrat_job, named, sim_job}
 use Rattle.cg_command_line.specs.Options.{NamesTest, are_different, asked_in, default_prefix, gate_options, gate_options_with}
 use Rattle.cg_command_line.specs.Options.{has_gate_options, has_options, is_apart, is_named, no_options, number_in, number_or}
 use Rattle.cg_command_line.specs.Options.{option_files, settings_in, settings_with, sim_options, sim_options_with, watch_in}
@@ -79,7 +80,7 @@ gate_job_names watchers (library ∷ netlist ∷ out ∷ other ∷ files) values
 
 sim_job_names : (watchers files : List Text) (values : Values) → IfSome (sim_job watchers files values) JobNames
 sim_job_names watchers (library ∷ netlist ∷ stimulus ∷ []) values =
-    let names : Files = record no_files { library = library; netlist = netlist; stimulus = stimulus } in
+    let names : Files = named roles.Library library ∷ named roles.Netlist netlist ∷ named roles.Stimulus stimulus ∷ [] in
     if_taken JobNames (are_different (library ∷ netlist ∷ stimulus ∷ [])) (job_of_options Sim names (sim_options watchers values)) (λ taken. options_name Sim names (sim_options watchers values) (sim_names values (watch_in watchers values.watch)))
 sim_job_names watchers [] values = tt
 sim_job_names watchers (library ∷ []) values = tt
@@ -91,14 +92,14 @@ plain_job_names mode files values = options_name mode files (if has_options valu
 
 lrat_job_names : (files : List Text) (values : Values) → IfSome (lrat_job files values) JobNames
 lrat_job_names (formula ∷ log ∷ []) values =
-    let names : Files = record no_files { formula = formula; log = log } in
+    let names : Files = named roles.Formula formula ∷ named roles.Log log ∷ [] in
     if_taken JobNames (are_different (formula ∷ log ∷ [])) (job_of_options Lrat names (if has_options values then None else Some no_options)) (λ taken. plain_job_names Lrat names values)
 lrat_job_names [] values = tt
 lrat_job_names (formula ∷ []) values = tt
 lrat_job_names (formula ∷ log ∷ other ∷ files) values = tt
 
-sized_names : (size : Option ℕ) (values : Values) → IfSome (option_and_then (λ size. job_of_options (Demo size) no_files (if has_options values then None else Some no_options)) size) JobNames
-sized_names (Some size) values = plain_job_names (Demo size) no_files values
+sized_names : (size : Option ℕ) (values : Values) → IfSome (option_and_then (λ size. job_of_options (Demo size) [] (if has_options values then None else Some no_options)) size) JobNames
+sized_names (Some size) values = plain_job_names (Demo size) [] values
 sized_names None values = tt
 
 demo_job_names : (files : List Text) (values : Values) → IfSome (demo_job files values) JobNames

@@ -3,7 +3,9 @@ use Rattle.std.specs.Prelude.{if◌then◌else◌, List, [], ◌∷◌, Option, 
 use Rattle.std.specs.Option.{option_and_then, option_map}
 use Rattle.std.specs.Str.{bytes_eq}
 use Rattle.clap.specs.Words.{Kinds, Row, Text, all_of, fault_of, first_of, matches_of}
-use Rattle.cg_run.specs.Names.{Files, files_of, no_files}
+use Rattle.cg_run.specs.Names.{File, Files, files_of}
+use Rattle.cg_run.specs.declared.role.Role.{Role}
+use Rattle.cg_run.specs.declared.role.Role.TheVariants as roles
 use Rattle.cg_command_line.specs.CommandLine.{Values, command_line, values_in}
 use Rattle.cg_command_line.specs.Options.{are_different, gate_options, has_options, no_options, number_in, option_files, sim_options}
 use Rattle.cg_command_line.specs.declared.job.Job.{Job}
@@ -21,6 +23,10 @@ pub record JobWords : Type 0 where
 abbrev pub job_words : Job → JobWords
 job_words job = record { mode = job.mode; files = files_of job.names; options = job.options }
 
+-- the file of a role
+abbrev pub named : Role → Text → File
+named role name = record { role = role; name = name }
+
 -- a job of a mode with these files, where the options are taken
 abbrev pub job_of_options : Mode → Files → Option Options → Option JobWords
 job_of_options mode files options = option_map (λ options. record { mode = mode; files = files; options = options }) options
@@ -29,14 +35,8 @@ job_of_options mode files options = option_map (λ options. record { mode = mode
 -- `--prefix P`, `--test NAME` and `--watch NAME`, where all files are different
 abbrev pub gate_files : Text → Text → Text → Values → Files
 gate_files library netlist out values =
-    record no_files {
-      library = library;
-      netlist = netlist;
-      stimulus = unwrap_or values.stim [];
-      out = out;
-      proof = unwrap_or values.proof [];
-      report = unwrap_or values.report [];
-    }
+    named roles.Library library ∷ named roles.Netlist netlist ∷ named roles.Stimulus (unwrap_or values.stim [])
+    ∷ named roles.Out out ∷ named roles.Proof (unwrap_or values.proof []) ∷ named roles.Report (unwrap_or values.report []) ∷ []
 
 abbrev pub gate_job : List Text → List Text → Values → Option JobWords
 gate_job watchers (library ∷ netlist ∷ out ∷ []) values =
@@ -48,7 +48,7 @@ gate_job watchers files values = None
 abbrev pub sim_job : List Text → List Text → Values → Option JobWords
 sim_job watchers (library ∷ netlist ∷ stimulus ∷ []) values =
     if are_different (library ∷ netlist ∷ stimulus ∷ [])
-    then job_of_options Sim (record no_files { library = library; netlist = netlist; stimulus = stimulus })
+    then job_of_options Sim (named roles.Library library ∷ named roles.Netlist netlist ∷ named roles.Stimulus stimulus ∷ [])
     (sim_options watchers values) else None
 sim_job watchers files values = None
 
@@ -56,14 +56,14 @@ sim_job watchers files values = None
 abbrev pub lrat_job : List Text → Values → Option JobWords
 lrat_job (formula ∷ log ∷ []) values =
     if are_different (formula ∷ log ∷ [])
-    then job_of_options Lrat (record no_files { formula = formula; log = log })
+    then job_of_options Lrat (named roles.Formula formula ∷ named roles.Log log ∷ [])
     (if has_options values then None else Some no_options) else None
 lrat_job files values = None
 
 -- `demo N`, with a number from 1 to 4,096 and no option
 abbrev pub demo_job : List Text → Values → Option JobWords
 demo_job (size ∷ []) values =
-    option_and_then (λ size. job_of_options (Demo size) no_files (if has_options values then None else Some no_options))
+    option_and_then (λ size. job_of_options (Demo size) [] (if has_options values then None else Some no_options))
     (number_in 1 4096 size)
 demo_job files values = None
 

@@ -4,7 +4,8 @@ ghost use Rattle.std.specs.Prelude.{◌≡◌, [], map, unwrap_or, IfOk};
 ghost use Rattle.std.specs.Option.{option_and_then, option_map};
 ghost use Rattle.std.specs.String.{string_bytes};
 ghost use Rattle.clap.specs.Words.{found_of, rows_of};
-ghost use Rattle.cg_command_line.specs.Jobs.{demo_job, gate_job, job_in, job_of, job_with, job_words, lrat_job, sim_job};
+ghost use Rattle.cg_run.specs.Names.{file_seen, files_of};
+ghost use Rattle.cg_command_line.specs.Jobs.{demo_job, gate_files, gate_job, job_in, job_of, job_with, job_words, lrat_job, named, sim_job};
 ghost use Rattle.cg_command_line.specs.Seen.{values_of};
 
 use crate::command::command_line;
@@ -13,7 +14,7 @@ use crate::options::{
     sim_options,
 };
 use crate::values::{OptionWords, given};
-use cg_run::Names;
+use cg_run::{NamedFile, Names, Role};
 use clap::ArgMatches;
 use clap::error::ErrorKind;
 use std::alloc::{AllocError, Global};
@@ -38,18 +39,6 @@ pub struct Job<'a> {
     pub names: Names<'a>,
     pub options: Options,
 }
-
-/// No names yet: a file that the words do not give has the empty name.
-static NO_NAMES: Names<'static> = Names {
-    library: "",
-    netlist: "",
-    stimulus: "",
-    formula: "",
-    log: "",
-    out: "",
-    proof: "",
-    report: "",
-};
 
 /// Reads the words of a command line, of which the first is the program's name and is not looked at, where there are watchers
 /// of these names.
@@ -147,18 +136,32 @@ fn gate_job<'a>(
     };
     Ok(Some(Job {
         mode: Mode::Gate,
-        names: Names {
-            library,
-            netlist,
-            stimulus: given.stim.unwrap_or(""),
-            formula: "",
-            log: "",
-            out,
-            proof: given.proof.unwrap_or(""),
-            report: given.report.unwrap_or(""),
-        },
+        names: gate_files(alloc, library, netlist, out, given)?,
         options,
     }))
+}
+
+/// The files of `gate`, those of its options among them.
+fn gate_files<'a>(
+    alloc: Global,
+    library: &'a str,
+    netlist: &'a str,
+    out: &'a str,
+    given: &OptionWords<'a>,
+) -> Result<Names<'a>, AllocError>
+    ensures { IfOk result (λ names. files_of names ≡ gate_files library.entry.now netlist.entry.now out.entry.now (values_of given.entry.now)) }
+{
+    Names::of(
+        alloc,
+        &[
+            named(Role::Library, library),
+            named(Role::Netlist, netlist),
+            named(Role::Stimulus, given.stim.unwrap_or("")),
+            named(Role::Out, out),
+            named(Role::Proof, given.proof.unwrap_or("")),
+            named(Role::Report, given.report.unwrap_or("")),
+        ],
+    )
 }
 
 /// `sim LIB NETLIST STIM`, where all files are different.
@@ -182,12 +185,14 @@ fn sim_job<'a>(
     };
     Ok(Some(Job {
         mode: Mode::Sim,
-        names: Names {
-            library,
-            netlist,
-            stimulus,
-            ..NO_NAMES
-        },
+        names: Names::of(
+            alloc,
+            &[
+                named(Role::Library, library),
+                named(Role::Netlist, netlist),
+                named(Role::Stimulus, stimulus),
+            ],
+        )?,
         options,
     }))
 }
@@ -208,11 +213,10 @@ fn lrat_job<'a>(
     }
     Ok(Some(Job {
         mode: Mode::Lrat,
-        names: Names {
-            formula,
-            log,
-            ..NO_NAMES
-        },
+        names: Names::of(
+            alloc,
+            &[named(Role::Formula, formula), named(Role::Log, log)],
+        )?,
         options: no_options(alloc)?,
     }))
 }
@@ -236,7 +240,14 @@ fn demo_job<'a>(
     }
     Ok(Some(Job {
         mode: Mode::Demo(size),
-        names: NO_NAMES,
+        names: Names::of(alloc, &[])?,
         options: no_options(alloc)?,
     }))
+}
+
+/// The file of a role.
+fn named<'a>(role: Role, name: &'a str) -> NamedFile<'a>
+    ensures { file_seen result ≡ named role name.entry.now }
+{
+    NamedFile { role, name }
 }

@@ -12,3 +12,4 @@ pub mod Finished
 pub mod Steps
 pub mod Unbegun
 pub mod Halves
+pub mod FileNames

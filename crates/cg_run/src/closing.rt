@@ -46,12 +46,7 @@ fn try_to_write<S: Shelf>(
 
 /// No complaint of a write is longer.
 fn longest_line(names: &Names<'_>) -> usize {
-    let longest = names
-        .out
-        .len()
-        .max(names.proof.len())
-        .max(names.report.len());
-    longest.saturating_add(64)
+    names.longest().saturating_add(64)
 }
 
 /// Complains of a refusal, or of want of memory where there is none for its line.

@@ -33,7 +33,7 @@ mod writing;
 pub use closing::{complain, put_out};
 pub use driver::drive;
 pub use mode::{Mode, Reader};
-pub use names::Names;
+pub use names::{NamedFile, Names};
 pub use output::{Finish, Output, Text};
 pub use reading::collect;
 pub use refusal::{Content, Owner, Refusal, Step, Trouble};

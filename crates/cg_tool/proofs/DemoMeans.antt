@@ -1,14 +1,11 @@
 -- What a finished run of `demo` means.
-use Rattle.std.proofs.Common.{◌≡◌, ℕ, Bool, IsTrue, List, [], None, Some, Result, Ok, Err, refl, sym, ◌∙◌, ap, subst}
+use Rattle.std.proofs.Common.{◌≡◌, ℕ, IsTrue, List, [], None, Some, Result, Ok, Err, refl, sym, ◌∙◌, ap, subst}
 use Rattle.std.specs.Prelude.{IsOkAnd}
 use Rattle.cg_cell.specs.Cell.{CellData}
 use Rattle.cg_cell.specs.Name.{is_name}
 use Rattle.cg_demo.specs.Pipeline.{generated, library as library_text, stimulus as stimulus_text}
 use Rattle.cg_gate.specs.Request.{MayGate}
-use Rattle.cg_blif_text.specs.BlifText.{BlifText}
 use Rattle.cg_liberty.specs.LibText.{LibText}
-use Rattle.cg_liberty.proofs.LibTexts.{text_of_library}
-use Rattle.cg_liberty.specs.Library.{library_of}
 use Rattle.cg_netlist.specs.Circuit.{Circuit}
 use Rattle.cg_shelf.specs.World.{World}
 use Rattle.cg_run.specs.Verdict.{Answers, found_as}
@@ -19,21 +16,22 @@ use Rattle.cg_run.specs.declared.refusal.Trouble.TheVariants as troubles
 use Rattle.cg_run.specs.declared.role.Role.{Role}
 use Rattle.cg_run.proofs.Finished.{Finishes}
 use Rattle.cg_run.proofs.Steps.{came, found_ok, step_end}
-use Rattle.cg_stimulus.specs.Inputs.{IsFor, Rows, input_names}
-use Rattle.cg_stimulus.specs.Reading.{stimulus}
-use Rattle.cg_stimulus.specs.StimText.{StimText}
-use Rattle.cg_stimulus.proofs.StimExact.{read_is_text}
-use Rattle.cg_tool.specs.Complaints.{library_found, library_trouble, stimulus_found, stimulus_trouble}
+use Rattle.cg_source.specs.Design.{permitted}
+use Rattle.cg_source.specs.Library.{library_found}
+use Rattle.cg_source.specs.Netlist.{SaysNetlist}
+use Rattle.cg_source.specs.Refused.{then_found}
+use Rattle.cg_source.specs.Stimulus.{DrivesNetlist, stimulus_found}
+use Rattle.cg_source.proofs.NetlistTexts.{netlist_says}
+use Rattle.cg_source.proofs.StimulusTexts.{stimulus_drives, stimulus_is_for}
+use Rattle.cg_source.proofs.Taken.{then_ok}
+use Rattle.cg_source.proofs.Texts.{library_says}
+use Rattle.cg_stimulus.specs.Inputs.{IsFor, Rows}
 use Rattle.cg_tool.specs.Demo.{IsDemo, PutsDemo, cells_text, lines_text, rows_text, demo_gives, demo_stops, demo_takes, demo_task}
 use Rattle.cg_tool.specs.Demo.{demo_wanted, pipeline_found, pipeline_request}
-use Rattle.cg_tool.specs.Gate.{gateable_found, request_by}
-use Rattle.cg_tool.specs.Refused.{refused_as, then_found}
+use Rattle.cg_tool.specs.Wanted.{gateable, request_by}
 use Rattle.cg_tool.specs.declared.modes.demo.Demo.{Demo}
 use Rattle.cg_tool.specs.declared.modes.demo.Pipeline.{Pipeline}
-use Rattle.cg_tool.proofs.GateReads.{found_so, may_gate, then_ok}
-use Rattle.cg_tool.proofs.LratMeans.{refused_ok}
-use Rattle.cg_tool.proofs.NetlistRead.{netlist_says}
-use Rattle.cg_tool.proofs.StimulusFor.{found_is_for}
+use Rattle.cg_tool.proofs.GateReads.{found_so, may_gate}
 
 -- what refuses what was found refuses what is made of it
 answers_as : {A B : Type 0} (make : A → B) (r : Result A Trouble) (trouble : Trouble) → Answers r (Err trouble) → Answers (found_as make r) (Err trouble)
@@ -44,25 +42,25 @@ answers_as make r troubles.NoMemory refused = tt
 -- the parts of a pipeline that was found
 pub record AreFound (size : ℕ) (p : Pipeline) : Type 0 where
   pub cells : library_found cells_text ≡ Ok p.library
-  pub netlist : gateable_found p.library None demo_wanted (lines_text size) ≡ Ok p.netlist
+  pub netlist : permitted gateable p.library None demo_wanted (lines_text size) ≡ Ok p.netlist
   pub drives : stimulus_found p.netlist (rows_text size) ≡ Ok p.stimulus
 
 pub are_found : (size : ℕ) (p : Pipeline) → pipeline_found size ≡ Ok p → AreFound size p
 are_found size p is =
     let one = then_ok (library_found cells_text)
-    (λ library. then_found (gateable_found library None demo_wanted (lines_text size)) (λ c. found_as (λ (s : Rows). record { library = library; netlist = c; stimulus = s }) (stimulus_found c (rows_text size)))) p is in
-    let two = then_ok (gateable_found one.0 None demo_wanted (lines_text size)) (λ c. found_as (λ (s : Rows). record { library = one.0; netlist = c; stimulus = s }) (stimulus_found c (rows_text size))) p one.2 in
+    (λ library. then_found (permitted gateable library None demo_wanted (lines_text size)) (λ c. found_as (λ (s : Rows). record { library = library; netlist = c; stimulus = s }) (stimulus_found c (rows_text size)))) p is in
+    let two = then_ok (permitted gateable one.0 None demo_wanted (lines_text size)) (λ c. found_as (λ (s : Rows). record { library = one.0; netlist = c; stimulus = s }) (stimulus_found c (rows_text size))) p one.2 in
     let three = found_ok (λ (s : Rows). record { library = one.0; netlist = two.0; stimulus = s }) (stimulus_found two.0 (rows_text size)) p two.2 in
     let L : Pipeline → Type 0 = λ p. library_found cells_text ≡ Ok p.library in
-    let N : Pipeline → Type 0 = λ p. gateable_found p.library None demo_wanted (lines_text size) ≡ Ok p.netlist in
+    let N : Pipeline → Type 0 = λ p. permitted gateable p.library None demo_wanted (lines_text size) ≡ Ok p.netlist in
     let S : Pipeline → Type 0 = λ p. stimulus_found p.netlist (rows_text size) ≡ Ok p.stimulus in
     record { cells = subst L three.2 one.1; netlist = subst N three.2 two.1; drives = subst S three.2 three.1 }
 
 -- where the library and the netlist are found, the pipeline is refused for the stimulus
-pub rows_refused : (size : ℕ) (library : List CellData) (c : Circuit) (trouble : Trouble) → library_found cells_text ≡ Ok library → gateable_found library None demo_wanted (lines_text size) ≡ Ok c
+pub rows_refused : (size : ℕ) (library : List CellData) (c : Circuit) (trouble : Trouble) → library_found cells_text ≡ Ok library → permitted gateable library None demo_wanted (lines_text size) ≡ Ok c
     → Answers (stimulus_found c (rows_text size)) (Err trouble) → Answers (pipeline_found size) (Err trouble)
 rows_refused size library c trouble cells netlist refused =
-    let next = λ (library : List CellData). then_found (gateable_found library None demo_wanted (lines_text size)) (λ c. found_as (λ (s : Rows). record { library = library; netlist = c; stimulus = s }) (stimulus_found c (rows_text size))) in
+    let next = λ (library : List CellData). then_found (permitted gateable library None demo_wanted (lines_text size)) (λ c. found_as (λ (s : Rows). record { library = library; netlist = c; stimulus = s }) (stimulus_found c (rows_text size))) in
     let last = λ (c : Circuit). found_as (λ (s : Rows). record { library = library; netlist = c; stimulus = s }) (stimulus_found c (rows_text size)) in
     let whole : pipeline_found size ≡ found_as (λ (s : Rows). record { library = library; netlist = c; stimulus = s }) (stimulus_found c (rows_text size)) =
     ap (λ r. then_found r next) cells ∙ ap (λ r. then_found r last) netlist in
@@ -74,17 +72,11 @@ pub demo_may : (size : ℕ) (p : Pipeline) → IsTrue (is_name demo_wanted.prefi
 demo_may size p named is =
     let found = are_found size p is in
     may_gate p.library None demo_wanted (lines_text size) p.netlist (Some p.stimulus) named refl (found_so p.library None demo_wanted (lines_text size) p.netlist found.netlist)
-    (λ rows some. let same : p.stimulus ≡ rows = cc in let F : Rows → Type 0 = λ s. IsFor p.netlist s in subst F same (found_is_for p.netlist (rows_text size) p.stimulus found.drives))
+    (λ rows some. let same : p.stimulus ≡ rows = cc in let F : Rows → Type 0 = λ s. IsFor p.netlist s in subst F same (stimulus_is_for p.netlist (rows_text size) p.stimulus found.drives))
 
 ok_and : (found : Result Pipeline Trouble) (P : Pipeline → Type 0) → IsOkAnd found P → (pipeline : Pipeline) × (found ≡ Ok pipeline) × P pipeline
 ok_and (Ok pipeline) P h = (pipeline, refl, h)
 ok_and (Err trouble) P h = absurd h
-
-text_of_rows : (c : Circuit) (text : List ℕ) (s : Rows) → stimulus_found c text ≡ Ok s → StimText (input_names c) text s.rows
-text_of_rows c text s is =
-    let r = found_ok (λ (rows : List (List Bool)). record { inputs = input_names c; rows = rows }) (refused_as stimulus_trouble (stimulus (input_names c) text)) s is in
-    let T : Rows → Type 0 = λ s. StimText (input_names c) text s.rows in
-    subst T r.2 (read_is_text (input_names c) text r.0 (refused_ok stimulus_trouble (stimulus (input_names c) text) r.0 r.1))
 
 -- the texts are those that are generated
 pub same_cells : cells_text ≡ library_text
@@ -110,15 +102,15 @@ demo_means size names before after finish f =
     let found = are_found size pipeline p.1 in
     let so = found_so pipeline.library None demo_wanted (lines_text size) pipeline.netlist found.netlist in
     let L : List ℕ → Type 0 = λ t. LibText t pipeline.library in
-    let B : List ℕ → Type 0 = λ t. BlifText t pipeline.library None pipeline.netlist in
-    let S : List ℕ → Type 0 = λ t. StimText (input_names pipeline.netlist) t (pipeline.stimulus).rows in
+    let B : List ℕ → Type 0 = λ t. SaysNetlist t pipeline.library None pipeline.netlist in
+    let S : List ℕ → Type 0 = λ t. DrivesNetlist t pipeline.netlist (pipeline.stimulus).rows in
     record {
       library = pipeline.library;
       netlist = pipeline.netlist;
       stimulus = pipeline.stimulus;
-      cells = subst L same_cells (text_of_library cells_text pipeline.library (refused_ok library_trouble (library_of cells_text) pipeline.library found.cells));
+      cells = subst L same_cells (library_says cells_text pipeline.library found.cells);
       says = subst B (same_lines size) (netlist_says pipeline.library None (lines_text size) pipeline.netlist so.said);
-      drives = subst S (same_rows size) (text_of_rows pipeline.netlist (rows_text size) pipeline.stimulus found.drives);
+      drives = subst S (same_rows size) (stimulus_drives pipeline.netlist (rows_text size) pipeline.stimulus found.drives);
       text = f.output.said;
       gives = (p.2).gives;
       said = f.written.said;

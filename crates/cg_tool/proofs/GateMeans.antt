@@ -1,15 +1,13 @@
 -- What a finished run of `gate` means, from what its files come to.
-use Rattle.std.proofs.Common.{◌≡◌, ℕ, Bool, true, false, IsTrue, List, ◌++◌, Option, Some, Result, Ok, Err, refl, sym, ◌∙◌, ap}
-use Rattle.std.proofs.Common.{subst, None}
+use Rattle.std.proofs.Common.{◌≡◌, ℕ, Bool, true, false, IsTrue, if◌then◌else◌, List, ◌++◌, Option, Some, Result, Ok, Err, refl, sym}
+use Rattle.std.proofs.Common.{◌∙◌, ap, subst, None}
 use Rattle.std.specs.Prelude.{IfSome, IsOkAnd}
-use Rattle.cg_blif_text.specs.BlifText.{BlifText}
 use Rattle.cg_gate.specs.Gating.{where_asked}
 use Rattle.cg_gate.specs.declared.texts.Texts.{Texts}
-use Rattle.cg_liberty.proofs.LibTexts.{text_of_library}
 use Rattle.cg_liberty.specs.LibText.{LibText}
-use Rattle.cg_liberty.specs.Library.{library_of}
 use Rattle.cg_netlist.specs.Circuit.{Circuit}
 use Rattle.cg_shelf.specs.World.{World}
+use Rattle.cg_run.specs.Verdict.{found_as}
 use Rattle.cg_run.specs.Writes.{puts}
 use Rattle.cg_run.specs.declared.output.Finish.{Finish}
 use Rattle.cg_run.specs.declared.output.Output.{Output}
@@ -18,35 +16,32 @@ use Rattle.cg_run.specs.declared.role.Role.{Role}
 use Rattle.cg_run.specs.declared.role.Role.TheVariants as roles
 use Rattle.cg_run.proofs.Finished.{Finishes}
 use Rattle.cg_run.proofs.Steps.{came, found_ok, held_so}
-use Rattle.cg_stimulus.specs.Inputs.{Rows, input_names}
-use Rattle.cg_stimulus.specs.Reading.{stimulus}
-use Rattle.cg_stimulus.specs.StimText.{StimText}
-use Rattle.cg_stimulus.proofs.StimExact.{read_is_text}
+use Rattle.cg_source.specs.Design.{design_loads}
+use Rattle.cg_source.specs.Netlist.{SaysNetlist}
+use Rattle.cg_source.specs.Stimulus.{DrivesNetlist, stimulus_found}
+use Rattle.cg_source.specs.declared.design.DesignFiles.{DesignFiles}
+use Rattle.cg_source.proofs.DesignRead.{IsRead, design_read}
+use Rattle.cg_source.proofs.NetlistTexts.{netlist_formed, netlist_says}
+use Rattle.cg_source.proofs.StimulusTexts.{stimulus_drives, stimulus_inputs}
+use Rattle.cg_source.proofs.Texts.{library_says}
+use Rattle.cg_stimulus.specs.Inputs.{Rows}
 use Rattle.cg_command_line.specs.declared.options.Asked.{Asked}
 use Rattle.cg_command_line.specs.declared.options.Options.{Options}
-use Rattle.cg_tool.specs.Complaints.{library_trouble, stimulus_found, stimulus_trouble}
-use Rattle.cg_tool.specs.Gate.{GatesAs, gate_output, gate_gives, gate_loads, gate_start, gate_stops, gate_takes, gate_task}
-use Rattle.cg_tool.specs.Gate.{request_by, stimulus_asked, wanted_by}
+use Rattle.cg_tool.specs.Gate.{GatesAs, gate_gives, gate_output, gate_start, gate_stops, gate_takes, gate_task}
 use Rattle.cg_tool.specs.Gated.{AreApart, IsDriven, IsGated, Stand}
-use Rattle.cg_tool.specs.Refused.{refused_as}
+use Rattle.cg_tool.specs.Wanted.{gateable, request_by, wanted_by}
 use Rattle.cg_tool.specs.Watching.{Kind}
-use Rattle.cg_tool.specs.declared.modes.gate.Gate.{Gate}
 use Rattle.cg_tool.specs.declared.modes.wanted.Wanted.{Wanted}
-use Rattle.cg_tool.proofs.GateReads.{Read, found_so, read_so}
-use Rattle.cg_tool.proofs.LratMeans.{refused_ok, some_and}
-use Rattle.cg_tool.proofs.NetlistRead.{netlist_says}
+use Rattle.cg_tool.proofs.GateReads.{found_so}
+use Rattle.cg_tool.proofs.LratMeans.{some_and}
 use Rattle.cg_tool.proofs.Standing.{asked_so, out_stands, proof_stands, report_stands}
-use Rattle.cg_tool.proofs.SimMeans.{given_so}
 
 -- a stimulus that is found is what its text says
 found_text : (held : Option (List ℕ)) (c : Circuit) (text : List ℕ) (found : Rows) → stimulus_found c text ≡ Ok found → held ≡ Some text → IsDriven true held c (Some found)
 found_text held c text found is loaded =
-    let r = found_ok (λ (rows : List (List Bool)). record { inputs = input_names c; rows = rows }) (refused_as stimulus_trouble (stimulus (input_names c) text)) found is in
-    let says = read_is_text (input_names c) text r.0 (refused_ok stimulus_trouble (stimulus (input_names c) text) r.0 r.1) in
-    let D : Rows → Type 0 = λ s. IsDriven true held c (Some s) in
-    subst D r.2 (refl, some_and held text (λ t. StimText (input_names c) t r.0) loaded says)
+    (stimulus_inputs c text found is, some_and held text (λ t. DrivesNetlist t c found.rows) loaded (stimulus_drives c text found is))
 
-driven : (asked : Bool) (held : Option (List ℕ)) (c : Circuit) (text : List ℕ) (found : Option Rows) → stimulus_asked asked c text ≡ Ok found → (IsTrue asked → held ≡ Some text) → IsDriven asked held c found
+driven : (asked : Bool) (held : Option (List ℕ)) (c : Circuit) (text : List ℕ) (found : Option Rows) → (if asked then found_as Some (stimulus_found c text) else Ok None) ≡ Ok found → (IsTrue asked → held ≡ Some text) → IsDriven asked held c found
 driven false held c text found is loaded = cc
 driven true held c text found is loaded =
     let r = found_ok (λ (s : Rows). Some s) (stimulus_found c text) found is in
@@ -58,12 +53,16 @@ ok_and (Ok stimulus) P h = (stimulus, refl, h)
 ok_and (Err trouble) P h = absurd h
 
 -- what was put out, of the options that the mode was told
-gates_so : (options : Options) (kind : Option Kind) (end : Gate) (c : Circuit) (output : Output) → end.netlist ≡ Some c → end.wanted ≡ wanted_by options → gate_gives kind end output
-    → (stimulus : Option Rows) × (stimulus_asked options.asked.stimulus c end.stimulus ≡ Ok stimulus) × GatesAs kind (request_by end.library (wanted_by options) stimulus) c output
-gates_so options kind end c output is wanted gives =
-    let W : Wanted → Type 0 = λ w. IsOkAnd (stimulus_asked w.asked.stimulus c end.stimulus) (λ s. GatesAs kind (request_by end.library w s) c output) in
-    ok_and (stimulus_asked options.asked.stimulus c end.stimulus) (λ s. GatesAs kind (request_by end.library (wanted_by options) s) c output)
-    (subst W wanted (given_so end.netlist c (λ c. IsOkAnd (stimulus_asked (end.wanted).asked.stimulus c end.stimulus) (λ s. GatesAs kind (request_by end.library end.wanted s) c output)) is gives))
+module _ (options : Options) (kind : Option Kind) (end : DesignFiles Wanted) (c : Circuit) (output : Output) where
+  abbrev asked : Result (Option Rows) Trouble
+  asked = if options.asked.stimulus then found_as Some (stimulus_found c end.stimulus) else Ok None
+
+  gates_so : end.netlist ≡ Some c → end.demand ≡ wanted_by options → gate_gives kind end output
+      → (stimulus : Option Rows) × (asked ≡ Ok stimulus) × GatesAs kind (request_by end.library (wanted_by options) stimulus) c output
+  gates_so is wanted gives =
+      let N : Option Circuit → Type 0 = λ netlist. gate_gives kind (record end { netlist = netlist }) output in
+      let W : Wanted → Type 0 = λ w. gate_gives kind (record end { demand = w; netlist = Some c }) output in
+      ok_and asked (λ s. GatesAs kind (request_by end.library (wanted_by options) s) c output) (subst W wanted (subst N is gives))
 
 -- the files hold their texts
 if_some : (o : Option (List ℕ)) (P Q : List ℕ → Type 0) → ((text : List ℕ) → P text → Q text) → IfSome o P → IfSome o Q
@@ -83,11 +82,11 @@ stand_of asked names before after texts proof report proof_is report_is held apa
           (λ text is. held (names roles.Report) ∙ is) (report_stands names before.held texts.out texts.proof texts.report);
     }
 
-gated_of : (options : Options) (kind : Option Kind) (names : Role → List ℕ) (before after : World) (finish : Finish) (end : Gate) (f : Finishes (gate_task options kind) names before after finish)
-    → Read options options.asked.stimulus f.given end → gate_gives kind end f.output → IsGated options kind names before after finish
+gated_of : (options : Options) (kind : Option Kind) (names : Role → List ℕ) (before after : World) (finish : Finish) (end : DesignFiles Wanted) (f : Finishes (gate_task options kind) names before after finish)
+    → IsRead gateable (wanted_by options) options.clock f.given options.asked.stimulus end → gate_gives kind end f.output → IsGated options kind names before after finish
 gated_of options kind names before after finish end f read gives =
     let c : Circuit = read.netlist in
-    let gates = gates_so options kind end c f.output read.is read.wanted gives in
+    let gates = gates_so options kind end c f.output read.is read.demanded gives in
     let found = found_so end.library options.clock (wanted_by options) read.text c read.found in
     let says = netlist_says end.library options.clock read.text c found.said in
     let held : (name : List ℕ) → after.held name ≡ puts names (gate_output (gates.2).texts).stores before.held name = λ name. f.written.held name ∙ ap (λ (o : Output). puts names o.stores before.held name) (gates.2).is in
@@ -99,12 +98,12 @@ gated_of options kind names before after finish end f read gives =
       texts = (gates.2).texts;
       cells = some_and (before.held (names roles.Library)) read.library_text (λ text. LibText text end.library)
           (held_so (before.held (names roles.Library)) (f.given roles.Library) read.library_text (f.told roles.Library) read.library_loaded)
-          (text_of_library read.library_text end.library (refused_ok library_trouble (library_of read.library_text) end.library read.library_is));
-      says = some_and (before.held (names roles.Netlist)) read.text (λ text. BlifText text end.library options.clock c)
+          (library_says read.library_text end.library read.library_is);
+      says = some_and (before.held (names roles.Netlist)) read.text (λ text. SaysNetlist text end.library options.clock c)
           (held_so (before.held (names roles.Netlist)) (f.given roles.Netlist) read.text (f.told roles.Netlist) read.loaded) says;
       drives = driven options.asked.stimulus (before.held (names roles.Stimulus)) c end.stimulus gates.0 gates.1
           (λ yes. held_so (before.held (names roles.Stimulus)) (f.given roles.Stimulus) end.stimulus (f.told roles.Stimulus) (read.drives yes));
-      well_formed = (says.says).formed;
+      well_formed = netlist_formed end.library options.clock read.text c found.said;
       may = (gates.2).may;
       gives = (gates.2).gives;
       headline = (gates.2).headline;
@@ -116,5 +115,5 @@ gated_of options kind names before after finish end f read gives =
 
 pub gated_means : (options : Options) (kind : Option Kind) (names : Role → List ℕ) (before after : World) (finish : Finish) → Finishes (gate_task options kind) names before after finish → IsGated options kind names before after finish
 gated_means options kind names before after finish f =
-    let end = came gate_takes gate_stops (gate_gives kind) (gate_start options) (gate_loads options.asked.stimulus) f.given f.output f.comes in
-    gated_of options kind names before after finish end.0 f (read_so options gate_stops f.given end.0 options.asked.stimulus end.1) end.2
+    let end = came gate_takes gate_stops (gate_gives kind) (gate_start options) (design_loads options.asked.stimulus) f.given f.output f.comes in
+    gated_of options kind names before after finish end.0 f (design_read gateable (wanted_by options) options.clock f.given gate_stops end.0 options.asked.stimulus end.1) end.2

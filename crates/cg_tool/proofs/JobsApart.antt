@@ -8,7 +8,7 @@ use Rattle.std.specs.Str.{bytes_eq}
 use Rattle.std.proofs.lemmas.Slice.Eq.{bytes_eq-Decides}
 use Rattle.clap.specs.Words.{Kinds, Row, all_of, fault_of, first_of, matches_of}
 use Rattle.cg_plan_laws.specs.declared.settings.Settings.{Settings}
-use Rattle.cg_run.specs.Names.{Files, file_of, no_files}
+use Rattle.cg_run.specs.Names.{Files, file_of}
 use Rattle.cg_command_line.specs.CommandLine.{Values, command_line, values_in}
 use Rattle.cg_command_line.specs.Jobs.{JobWords, demo_job, gate_files, gate_job, job_in, job_of, job_of_options, job_with, job_without}
 use Rattle.cg_command_line.specs.Jobs.{lrat_job, sim_job}
@@ -128,9 +128,9 @@ demo_mode [] values job is gate = absurd (cc)
 demo_mode (a ∷ b ∷ files) values job is gate = absurd (cc)
 demo_mode (size ∷ []) values job is gate = go (number_in 1 4096 size) is
   where
-    go : (size : Option ℕ) → option_and_then (λ size. job_of_options (Demo size) no_files (if has_options values then None else Some no_options)) size ≡ Some job → ⊥
+    go : (size : Option ℕ) → option_and_then (λ size. job_of_options (Demo size) [] (if has_options values then None else Some no_options)) size ≡ Some job → ⊥
     go None is = cc
-    go (Some n) is = let demo : job.mode ≡ Demo n = mode_so (Demo n) no_files (if has_options values then None else Some no_options) job is in let both : Demo n ≡ Gate = sym demo ∙ gate in cc
+    go (Some n) is = let demo : job.mode ≡ Demo n = mode_so (Demo n) [] (if has_options values then None else Some no_options) job is in let both : Demo n ≡ Gate = sym demo ∙ gate in cc
 
 with_apart : (watchers files : List (List ℕ)) (values : Values) (word : List ℕ) (job : JobWords) → job_with watchers files values word ≡ Some job → job.mode ≡ Gate → AreApart job.options.asked (file_of job.files)
 with_apart watchers files values word job is gate = go (bytes_eq word (codes "gate")) (bytes_eq word (codes "sim")) (bytes_eq word (codes "lrat")) (bytes_eq word (codes "demo")) is

@@ -1,12 +1,10 @@
 pub mod LratMeans
-pub mod NetlistRead
 pub mod Names
 pub mod Refusing
 pub mod GateReads
 pub mod Standing
 pub mod GateMeans
 pub mod DemoMeans
-pub mod StimulusFor
 pub mod SimMeans
 pub mod JobsApart
 pub mod Program

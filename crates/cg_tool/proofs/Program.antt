@@ -28,7 +28,8 @@ use Rattle.cg_command_line.specs.declared.job.Mode.{Mode}
 use Rattle.cg_command_line.specs.declared.job.Mode.TheVariants.{Demo, Gate, Lrat, Sim}
 use Rattle.cg_command_line.specs.declared.options.Options.{Options}
 use Rattle.cg_tool.specs.Demo.{IsDemo, demo_gives, demo_stops, demo_takes, demo_task}
-use Rattle.cg_tool.specs.Gate.{gate_gives, gate_loads, gate_start, gate_stops, gate_takes, gate_task}
+use Rattle.cg_source.specs.Design.{design_loads}
+use Rattle.cg_tool.specs.Gate.{gate_gives, gate_start, gate_stops, gate_takes, gate_task}
 use Rattle.cg_tool.specs.Gated.{IsGated}
 use Rattle.cg_tool.specs.Lrat.{IsChecked, lrat_gives, lrat_start, lrat_stops, lrat_takes, lrat_task}
 use Rattle.cg_tool.specs.Program.{IsOrNoMemory, KeepsAll, RefusesWords, RunsWords, task_by, task_in}
@@ -64,9 +65,9 @@ module _ (gave : List ℕ → Result (List ℕ) LoadFault → Type 0) (kinds : L
   -- memory was wanting for the words
   mode_unread : (mode : Mode) (options : Options) (names : Role → List ℕ) (before after : World) (result : Status)
       → Complains (complaint_line (codes "no memory")) statuses.NoMemory before after result → Runs gave (task_in kinds mode options) names before after result
-  mode_unread Gate options names before after result complains = runs_unbegun gave gate_takes gate_stops (gate_gives (kind_at kinds options.watch)) names (gate_start options) (gate_loads options.asked.stimulus) before after result complains
+  mode_unread Gate options names before after result complains = runs_unbegun gave gate_takes gate_stops (gate_gives (kind_at kinds options.watch)) names (gate_start options) (design_loads options.asked.stimulus) before after result complains
   mode_unread Sim options names before after result complains =
-      runs_unbegun gave sim_takes sim_stops (sim_gives (kind_at kinds options.watch)) names (sim_start options.clock) (roles.Library ∷ roles.Netlist ∷ roles.Stimulus ∷ []) before after result complains
+      runs_unbegun gave sim_takes sim_stops (sim_gives (kind_at kinds options.watch)) names (sim_start options.clock) (design_loads true) before after result complains
   mode_unread Lrat options names before after result complains = runs_unbegun gave lrat_takes lrat_stops lrat_gives names lrat_start (roles.Formula ∷ roles.Log ∷ []) before after result complains
   mode_unread (Demo size) options names before after result complains = runs_unbegun gave demo_takes demo_stops demo_gives names (record { size = size }) [] before after result complains
 
@@ -97,9 +98,9 @@ module _ (gave : List ℕ → Result (List ℕ) LoadFault → Type 0) (kinds : L
 
   mode_gains : (mode : Mode) (options : Options) (names : Role → List ℕ) (before after : World) (result : Status)
       → Runs gave (task_in kinds mode options) names before after result → Gains (task_in kinds mode options) names before after result
-  mode_gains Gate options names before after result runs = gains gave (gate_task options (kind_at kinds options.watch)) names before after result (load_named gate_takes gate_stops (gate_start options) (gate_loads options.asked.stimulus)) runs
+  mode_gains Gate options names before after result runs = gains gave (gate_task options (kind_at kinds options.watch)) names before after result (load_named gate_takes gate_stops (gate_start options) (design_loads options.asked.stimulus)) runs
   mode_gains Sim options names before after result runs =
-      gains gave (sim_task options.clock (kind_at kinds options.watch)) names before after result (load_named sim_takes sim_stops (sim_start options.clock) (roles.Library ∷ roles.Netlist ∷ roles.Stimulus ∷ [])) runs
+      gains gave (sim_task options.clock (kind_at kinds options.watch)) names before after result (load_named sim_takes sim_stops (sim_start options.clock) (design_loads true)) runs
   mode_gains Lrat options names before after result runs = gains gave lrat_task names before after result (load_named lrat_takes lrat_stops lrat_start (roles.Formula ∷ roles.Log ∷ [])) runs
   mode_gains (Demo size) options names before after result runs = gains gave (demo_task size) names before after result (load_named demo_takes demo_stops (record { size = size }) []) runs
 
@@ -113,9 +114,9 @@ module _ (gave : List ℕ → Result (List ℕ) LoadFault → Type 0) (kinds : L
 
   mode_comes : (mode : Mode) (options : Options) (names : Role → List ℕ) (before after : World) (result : Status)
       → Runs gave (task_in kinds mode options) names before after result → IsTrue before.tells → UnlessFails (EndsAs (task_in kinds mode options) (held_files names before)) result
-  mode_comes Gate options names before after result runs t = completes gave gate_takes gate_stops (gate_gives (kind_at kinds options.watch)) (gate_start options) (gate_loads options.asked.stimulus) names before after result runs t
+  mode_comes Gate options names before after result runs t = completes gave gate_takes gate_stops (gate_gives (kind_at kinds options.watch)) (gate_start options) (design_loads options.asked.stimulus) names before after result runs t
   mode_comes Sim options names before after result runs t =
-      completes gave sim_takes sim_stops (sim_gives (kind_at kinds options.watch)) (sim_start options.clock) (roles.Library ∷ roles.Netlist ∷ roles.Stimulus ∷ []) names before after result runs t
+      completes gave sim_takes sim_stops (sim_gives (kind_at kinds options.watch)) (sim_start options.clock) (design_loads true) names before after result runs t
   mode_comes Lrat options names before after result runs t = completes gave lrat_takes lrat_stops lrat_gives lrat_start (roles.Formula ∷ roles.Log ∷ []) names before after result runs t
   mode_comes (Demo size) options names before after result runs t = completes gave demo_takes demo_stops demo_gives (record { size = size }) [] names before after result runs t
 

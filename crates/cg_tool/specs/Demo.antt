@@ -2,7 +2,6 @@
 use Rattle.std.specs.Prelude.{◌≡◌, ℕ, List, [], ◌++◌, Option, None, Some, Result, Ok, Err, IsOkAnd}
 use Rattle.std.specs.Option.{option_map}
 use Rattle.cg_cell.specs.Cell.{CellData}
-use Rattle.cg_blif_text.specs.BlifText.{BlifText}
 use Rattle.cg_demo.specs.Pipeline.{generated, library as library_text, stimulus as stimulus_text}
 use Rattle.cg_gate.specs.Gating.{GivesDemo}
 use Rattle.cg_gate.specs.Request.{RequestData, stops_at}
@@ -16,12 +15,14 @@ use Rattle.cg_run.specs.declared.refusal.Trouble.{Trouble}
 use Rattle.cg_run.specs.declared.refusal.Trouble.TheVariants as troubles
 use Rattle.cg_run.specs.declared.role.Role.{Role}
 use Rattle.cg_shelf.specs.World.{World}
-use Rattle.cg_stimulus.specs.Inputs.{Rows, input_names}
-use Rattle.cg_stimulus.specs.StimText.{StimText}
+use Rattle.cg_stimulus.specs.Inputs.{Rows}
 use Rattle.cg_command_line.specs.Options.{no_options}
-use Rattle.cg_tool.specs.Complaints.{library_found, stimulus_found}
-use Rattle.cg_tool.specs.Gate.{gateable_found, request_by, wanted_by}
-use Rattle.cg_tool.specs.Refused.{then_found}
+use Rattle.cg_source.specs.Design.{permitted}
+use Rattle.cg_source.specs.Library.{library_found}
+use Rattle.cg_source.specs.Netlist.{SaysNetlist}
+use Rattle.cg_source.specs.Refused.{then_found}
+use Rattle.cg_source.specs.Stimulus.{DrivesNetlist, stimulus_found}
+use Rattle.cg_tool.specs.Wanted.{gateable, request_by, wanted_by}
 use Rattle.cg_tool.specs.declared.modes.demo.Demo.{Demo}
 use Rattle.cg_tool.specs.declared.modes.demo.Pipeline.{Pipeline}
 use Rattle.cg_tool.specs.declared.modes.wanted.Wanted.{Wanted}
@@ -45,7 +46,7 @@ rows_text size = stimulus_text size
 abbrev pub pipeline_found : ℕ → Result Pipeline Trouble
 pipeline_found size =
     then_found (library_found cells_text) (λ library.
-    then_found (gateable_found library None demo_wanted (lines_text size)) (λ c.
+    then_found (permitted gateable library None demo_wanted (lines_text size)) (λ c.
     found_as (λ stimulus. record { library = library; netlist = c; stimulus = stimulus }) (stimulus_found c (rows_text size))))
 
 -- what its gating is asked for
@@ -84,8 +85,8 @@ pub record IsDemo (size : ℕ) (before after : World) (finish : Finish) : Type 0
   pub netlist : Circuit
   pub stimulus : Rows
   pub cells : LibText library_text library
-  pub says : BlifText (generated size) library None netlist
-  pub drives : StimText (input_names netlist) (stimulus_text size) stimulus.rows
+  pub says : SaysNetlist (generated size) library None netlist
+  pub drives : DrivesNetlist (stimulus_text size) netlist stimulus.rows
   pub text : List ℕ
   pub gives : GivesDemo size (request_by library demo_wanted (Some stimulus)) netlist text
   pub said : after.said ≡ before.said ++ text

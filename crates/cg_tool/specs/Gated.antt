@@ -2,7 +2,6 @@
 use Rattle.std.specs.Prelude.{◌≡◌, ℕ, Bool, true, false, List, ◌++◌, Option, None, Some, IfSome, IsSomeAnd, IsTrue, ◌≢◌}
 use Rattle.cg_cell.specs.Cell.{CellData}
 use Rattle.cg_liberty.specs.LibText.{LibText}
-use Rattle.cg_blif_text.specs.BlifText.{BlifText}
 use Rattle.cg_gate.specs.Gating.{GivesGated}
 use Rattle.cg_gate.specs.Headline.{Headline}
 use Rattle.cg_gate.specs.Request.{MayGate}
@@ -15,18 +14,20 @@ use Rattle.cg_run.specs.declared.output.Finish.TheVariants as finishes
 use Rattle.cg_run.specs.declared.role.Role.{Role}
 use Rattle.cg_run.specs.declared.role.Role.TheVariants as roles
 use Rattle.cg_shelf.specs.World.{World}
+use Rattle.cg_source.specs.Netlist.{SaysNetlist}
+use Rattle.cg_source.specs.Stimulus.{DrivesNetlist}
 use Rattle.cg_stimulus.specs.Inputs.{Rows, input_names}
-use Rattle.cg_stimulus.specs.StimText.{StimText}
 use Rattle.cg_command_line.specs.declared.options.Asked.{Asked}
 use Rattle.cg_command_line.specs.declared.options.Options.{Options}
-use Rattle.cg_tool.specs.Gate.{gate_output, request_by, wanted_by}
+use Rattle.cg_tool.specs.Gate.{gate_output}
+use Rattle.cg_tool.specs.Wanted.{request_by, wanted_by}
 use Rattle.cg_tool.specs.Watching.{Kind}
 
 -- the stimulus that is asked for is the one that the text says for the netlist
 abbrev pub IsDriven : Bool → Option (List ℕ) → Circuit → Option Rows → Type 0
 IsDriven true held c None = ⊥
 IsDriven true held c (Some stimulus) =
-    (stimulus.inputs ≡ input_names c) × IsSomeAnd held (λ text. StimText (input_names c) text stimulus.rows)
+    (stimulus.inputs ≡ input_names c) × IsSomeAnd held (λ text. DrivesNetlist text c stimulus.rows)
 IsDriven false held c stimulus = stimulus ≡ None
 
 -- the files that are stored have different names
@@ -41,7 +42,7 @@ pub record Stand (names : Role → List ℕ) (texts : Texts) (after : World) : T
   pub proof : IfSome texts.proof (λ text. after.held (names roles.Proof) ≡ Some text)
   pub report : IfSome texts.report (λ text. after.held (names roles.Report) ≡ Some text)
 
--- A netlist was gated: the bytes under LIB are a text that stands for a library, and those under NETLIST are a BLIF text that says
+-- A netlist was gated: the bytes under LIB are a text that stands for a library, and those under NETLIST say
 -- a well-formed netlist with this library and the clock of the words, of which no gating cell is refused and in which no net's name
 -- begins with the prefix. Those under the stimulus's name, where one is asked for, stand for rows of its data inputs. What is
 -- stored and said are the texts that gating gives of it, and they mean what the headline says. Files of different names each hold
@@ -53,7 +54,7 @@ pub record IsGated (options : Options) (kind : Option Kind) (names : Role → Li
   pub stimulus : Option Rows
   pub texts : Texts
   pub cells : IsSomeAnd (before.held (names roles.Library)) (λ text. LibText text library)
-  pub says : IsSomeAnd (before.held (names roles.Netlist)) (λ text. BlifText text library options.clock read)
+  pub says : IsSomeAnd (before.held (names roles.Netlist)) (λ text. SaysNetlist text library options.clock read)
   pub drives : IsDriven options.asked.stimulus (before.held (names roles.Stimulus)) read stimulus
   pub well_formed : IsWellFormed read
   pub may : MayGate (request_by library (wanted_by options) stimulus) read

@@ -1,11 +1,8 @@
-pub mod NetlistSaid
-pub mod Refused
-pub mod Complaints
 pub mod Watching
 pub mod Lrat
 pub mod Sim
+pub mod Wanted
 pub mod Gate
 pub mod Gated
 pub mod Demo
 pub mod Program
-pub mod inner

@@ -1,17 +1,11 @@
 -- What `lrat` makes of a formula and a log, what it says, and what that means.
 use Rattle.std.specs.Prelude.{◌≡◌, ℕ, List, [], ◌∷◌, ◌++◌, codes, decimal, Option, None, Result, Ok, IsSomeAnd}
-use Rattle.cg_formula.specs.DimacsReading.{dimacs}
 use Rattle.cg_formula.specs.DimacsText.{DimacsText}
 use Rattle.cg_formula.specs.Satisfiable.{IsUnsatisfiable}
-use Rattle.cg_formula.specs.declared.dimacs.DimacsFault.{DimacsFault}
-use Rattle.cg_formula.specs.declared.dimacs.DimacsFault.TheVariants as dimacs_faults
 use Rattle.cg_formula.specs.declared.formula.Formula.{Formula}
 use Rattle.cg_lrat.specs.Accepted.{verdict}
-use Rattle.cg_lrat.specs.LratReading.{lrat}
 use Rattle.cg_lrat.specs.LratText.{LratText}
 use Rattle.cg_lrat.specs.declared.log.Log.{Log}
-use Rattle.cg_lrat.specs.declared.lrat.LratFault.{LratFault}
-use Rattle.cg_lrat.specs.declared.lrat.LratFault.TheVariants as lrat_faults
 use Rattle.cg_lrat.specs.declared.verdict.Verdict.{Verdict}
 use Rattle.cg_lrat.specs.declared.verdict.Verdict.TheVariants.{Accepted, Rejected}
 use Rattle.cg_lrat.specs.declared.verdict.Why.{Why}
@@ -20,13 +14,12 @@ use Rattle.cg_run.specs.Verdict.{Task, found_as, task_of}
 use Rattle.cg_run.specs.declared.output.Finish.{Finish}
 use Rattle.cg_run.specs.declared.output.Finish.TheVariants as finishes
 use Rattle.cg_run.specs.declared.output.Output.{Output}
-use Rattle.cg_run.specs.declared.refusal.Owner.TheVariants as owners
 use Rattle.cg_run.specs.declared.refusal.Trouble.{Trouble}
-use Rattle.cg_run.specs.declared.refusal.Trouble.TheVariants as troubles
 use Rattle.cg_run.specs.declared.role.Role.{Role}
 use Rattle.cg_run.specs.declared.role.Role.TheVariants as roles
 use Rattle.cg_shelf.specs.World.{World}
-use Rattle.cg_tool.specs.Refused.{refused_as}
+use Rattle.cg_source.specs.Formula.{formula_found}
+use Rattle.cg_source.specs.Log.{log_found}
 use Rattle.cg_tool.specs.declared.modes.lrat.Lrat.{Lrat}
 
 -- what is said of the cause why a proof is rejected
@@ -53,29 +46,10 @@ check_finish (Rejected line why) = finishes.Rejected
 abbrev pub check_output : Verdict → Output
 check_output v = record { stores = []; said = check_text v; finish = check_finish v }
 
--- why a formula's text and a log's text are refused
-abbrev pub formula_trouble : DimacsFault → Trouble
-formula_trouble dimacs_faults.BadHeader = troubles.Content (record { owner = owners.Stimulus; text = codes "cnf: bad header" })
-formula_trouble (dimacs_faults.BadClause line) =
-    troubles.Content (record { owner = owners.Stimulus; text = codes "cnf: bad clause " ++ decimal line })
-formula_trouble (dimacs_faults.Limit limit) = troubles.Limit limit
-formula_trouble dimacs_faults.NoMemory = troubles.NoMemory
-
-abbrev pub log_trouble : LratFault → Trouble
-log_trouble (lrat_faults.BadLine line) =
-    troubles.Content (record { owner = owners.Stimulus; text = codes "proof: bad line " ++ decimal line })
-log_trouble lrat_faults.NoMemory = troubles.NoMemory
-
-abbrev pub formula_of : List ℕ → Result Formula Trouble
-formula_of text = refused_as formula_trouble (dimacs text)
-
-abbrev pub log_of : List ℕ → Result Log Trouble
-log_of text = refused_as log_trouble (lrat text)
-
 -- the mode: it takes a formula, takes a log, and gives the output of the check and no other; nothing stops it
 abbrev pub lrat_takes : Lrat → Role → List ℕ → Result Lrat Trouble
-lrat_takes state roles.Formula text = found_as (λ formula. record { formula = formula; log = state.log }) (formula_of text)
-lrat_takes state roles.Log text = found_as (λ log. record { formula = state.formula; log = log }) (log_of text)
+lrat_takes state roles.Formula text = found_as (λ formula. record { formula = formula; log = state.log }) (formula_found text)
+lrat_takes state roles.Log text = found_as (λ log. record { formula = state.formula; log = log }) (log_found text)
 lrat_takes state role text = Ok state
 
 abbrev pub lrat_stops : Lrat → Option Trouble

@@ -1,8 +1,9 @@
 -- What a run of the program does, by its words.
-use Rattle.std.specs.Prelude.{◌≡◌, ℕ, Bool, if◌then◌else◌, List, codes, Option, None, Some, Result, ⊤}
+use Rattle.std.specs.Prelude.{◌≡◌, ℕ, Bool, if◌then◌else◌, IsTrue, List, codes, Option, None, Some, IfSome, Result, ⊤}
 use Rattle.cg_shelf.specs.World.{World}
 use Rattle.cg_shelf.specs.declared.faults.LoadFault.{LoadFault}
 use Rattle.cg_run.specs.Names.{file_of}
+use Rattle.cg_run.specs.Promise.{Ended, EndsAs, FinishBy, Gains, KeepsOthers, LeavesShelf, UnlessFails, held_files}
 use Rattle.cg_run.specs.Refusal.{complaint_line}
 use Rattle.cg_run.specs.Run.{Complains, Runs}
 use Rattle.cg_run.specs.Verdict.{Task}
@@ -12,10 +13,11 @@ use Rattle.cg_command_line.specs.Jobs.{JobWords}
 use Rattle.cg_command_line.specs.declared.job.Mode.{Mode}
 use Rattle.cg_command_line.specs.declared.job.Mode.TheVariants.{Demo, Gate, Lrat, Sim}
 use Rattle.cg_command_line.specs.declared.options.Options.{Options}
-use Rattle.cg_tool.specs.Demo.{demo_task}
+use Rattle.cg_tool.specs.Demo.{IsDemo, demo_task}
 use Rattle.cg_tool.specs.Gate.{gate_task}
-use Rattle.cg_tool.specs.Lrat.{lrat_task}
-use Rattle.cg_tool.specs.Sim.{sim_task}
+use Rattle.cg_tool.specs.Gated.{AreApart, IsGated}
+use Rattle.cg_tool.specs.Lrat.{IsChecked, lrat_task}
+use Rattle.cg_tool.specs.Sim.{IsSimulated, sim_task}
 use Rattle.cg_tool.specs.Watching.{Kind, kind_at}
 
 -- what a mode does with what the options say, where watchers of these kinds may be asked for
@@ -48,3 +50,41 @@ IsOrNoMemory expected result = result ≡ expected
 abbrev pub KeepsAll : Option JobWords → World → World → Type 0
 KeepsAll None before after = after.held ≡ before.held
 KeepsAll (Some job) before after = ⊤
+
+-- What the program promises of a run over a shelf, where its words ask for this job, if for any, and watchers of these kinds are
+-- there.
+pub record Promises (gave : List ℕ → Result (List ℕ) LoadFault → Type 0) (kinds : List Kind) (asked : Option JobWords)
+    (before after : World) (result : Status) : Type 0 where
+  -- what the run did: its calls in order, what each file gave, the one output that it put out, and what stands
+  pub runs : RunsWords gave kinds asked before after result
+  -- Usage comes exactly of words that are no job
+  pub usage : result ≡ statuses.Usage → asked ≡ None
+  pub usage_only : asked ≡ None → IsOrNoMemory statuses.Usage result
+  pub usage_keeps : IsTrue before.tells → KeepsAll asked before after
+  -- how a job ended, with the cause, the line of complaint and the failed calls
+  pub ended : IfSome asked (λ job. Ended gave (task_by kinds job) (file_of job.files) before after result)
+  -- what stands, by the status
+  pub stands : IsTrue before.tells → IfSome asked (λ job. LeavesShelf (task_by kinds job) (file_of job.files) before after result)
+  -- at most one failed call besides that of the complaint, and which, by the status
+  pub gains : IfSome asked (λ job. Gains (task_by kinds job) (file_of job.files) before after result)
+  -- every name but that of a stored file holds what it held
+  pub others : IsTrue before.tells → IfSome asked (λ job. KeepsOthers (task_by kinds job) (file_of job.files) before after)
+  -- where no call of the shelf fails and memory is there, a job ends as its files come to
+  pub comes : IsTrue before.tells
+      → IfSome asked (λ job. UnlessFails (EndsAs (task_by kinds job) (held_files (file_of job.files) before)) result)
+  -- `gate` writes a netlist that shows, from every state and for all time, what the one that it read shows
+  pub gated : IsTrue before.tells
+      → IfSome asked (λ job. job.mode ≡ Gate
+      → FinishBy (IsGated job.options (kind_at kinds job.options.watch) (file_of job.files) before after) result)
+  -- the files that it stores have different names, so that each holds its text
+  pub apart : IfSome asked (λ job. job.mode ≡ Gate → AreApart job.options.asked (file_of job.files))
+  -- `sim` says the lines of the one history on which the stimulus is played, and what the watcher says of its moments
+  pub simulated : IsTrue before.tells
+      → IfSome asked (λ job. job.mode ≡ Sim
+      → FinishBy (IsSimulated job.options.clock (kind_at kinds job.options.watch) (file_of job.files) before after) result)
+  -- `demo` says the summary of the generated pipeline, gated as its stimulus and the defaults say
+  pub shown : IsTrue before.tells
+      → IfSome asked (λ job. (size : ℕ) → job.mode ≡ Demo size → FinishBy (IsDemo size before after) result)
+  -- `lrat` checks the proof that it was given, and what it accepts has no satisfying assignment
+  pub checked : IsTrue before.tells
+      → IfSome asked (λ job. job.mode ≡ Lrat → FinishBy (IsChecked (file_of job.files) before after) result)

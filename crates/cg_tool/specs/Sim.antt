@@ -1,16 +1,15 @@
 -- What `sim` makes of a library, a netlist and a stimulus, and what that means.
-use Rattle.std.specs.Prelude.{◌≡◌, ℕ, Bool, List, [], ◌∷◌, ◌++◌, Option, None, Some, Result, Ok, Err, IsOkAnd, IsSomeAnd}
+use Rattle.std.specs.Prelude.{◌≡◌, ℕ, Bool, true, List, [], ◌++◌, Option, None, Some, Result, Ok, Err, IsOkAnd, IsSomeAnd}
 use Rattle.std.specs.Option.{option_and_then}
 use Rattle.cg_cell.specs.Cell.{CellData}
 use Rattle.cg_liberty.specs.LibText.{LibText}
-use Rattle.cg_blif_text.specs.BlifText.{BlifText}
 use Rattle.cg_netlist.specs.Circuit.{Circuit}
 use Rattle.cg_netlist.specs.History.{Moment}
 use Rattle.cg_netlist.specs.WellFormed.{IsWellFormed}
 use Rattle.cg_net.specs.Names.{NetName}
 use Rattle.cg_report.specs.RowLines.{rows_text}
 use Rattle.cg_report.specs.Watched.{watched_line}
-use Rattle.cg_run.specs.Verdict.{Task, found_as, task_of}
+use Rattle.cg_run.specs.Verdict.{Task, task_of}
 use Rattle.cg_run.specs.declared.output.Finish.{Finish}
 use Rattle.cg_run.specs.declared.output.Finish.TheVariants as finishes
 use Rattle.cg_run.specs.declared.output.Output.{Output}
@@ -18,12 +17,15 @@ use Rattle.cg_run.specs.declared.refusal.Trouble.{Trouble}
 use Rattle.cg_run.specs.declared.role.Role.{Role}
 use Rattle.cg_run.specs.declared.role.Role.TheVariants as roles
 use Rattle.cg_shelf.specs.World.{World}
-use Rattle.cg_stimulus.specs.Inputs.{Rows, input_names}
+use Rattle.cg_source.specs.Design.{any_netlist, design_loads, design_of, design_start, design_takes, permits_any}
+use Rattle.cg_source.specs.Netlist.{SaysNetlist}
+use Rattle.cg_source.specs.Stimulus.{DrivesNetlist, stimulus_found}
+use Rattle.cg_source.specs.declared.design.AnyNetlist.{AnyNetlist}
+use Rattle.cg_source.specs.declared.design.Design.{Design}
+use Rattle.cg_source.specs.declared.design.DesignFiles.{DesignFiles}
+use Rattle.cg_stimulus.specs.Inputs.{Rows}
 use Rattle.cg_stimulus.specs.Played.{IsPlayed}
-use Rattle.cg_stimulus.specs.StimText.{StimText}
-use Rattle.cg_tool.specs.Complaints.{library_found, netlist_read, stimulus_found}
 use Rattle.cg_tool.specs.Watching.{Kind}
-use Rattle.cg_tool.specs.declared.modes.sim.Sim.{Sim}
 
 -- what is said of rows that are played on a netlist: their lines and the edges, and then the line of the watcher, where there
 -- is one, which was shown each moment once
@@ -46,34 +48,36 @@ abbrev pub trouble_in : {T : Type 0} → Result T Trouble → Option Trouble
 trouble_in (Ok found) = None
 trouble_in (Err trouble) = Some trouble
 
--- The mode: it takes a library, a netlist, in which gating cells may stand, and the text of a stimulus. That text is read when
--- all are taken, and a fault of it stops the mode.
-abbrev pub sim_takes : Sim → Role → List ℕ → Result Sim Trouble
-sim_takes state roles.Library text = found_as (λ library. record state { library = library }) (library_found text)
-sim_takes state roles.Netlist text =
-    found_as (λ netlist. record state { netlist = Some netlist }) (netlist_read state.library (state.options).clock text)
-sim_takes state roles.Stimulus text = Ok (record state { stimulus = text })
-sim_takes state role text = Ok state
+-- what stops a design whose stimulus is played: a fault of that; and what is put out of it
+abbrev pub play_stops : Design AnyNetlist → Option Trouble
+play_stops design = trouble_in (stimulus_found design.netlist design.stimulus)
 
-abbrev pub sim_stops : Sim → Option Trouble
-sim_stops state = option_and_then (λ c. trouble_in (stimulus_found c state.stimulus)) state.netlist
+abbrev pub play_gives : Option Kind → Design AnyNetlist → Output → Type 0
+play_gives kind design output =
+    IsOkAnd (stimulus_found design.netlist design.stimulus) (λ stimulus. PlaysAs kind design.netlist stimulus output)
 
-abbrev pub sim_gives : Option Kind → Sim → Output → Type 0
-sim_gives kind state output =
-    IsSomeAnd state.netlist (λ c. IsOkAnd (stimulus_found c state.stimulus) (λ stimulus. PlaysAs kind c stimulus output))
+-- The mode: it takes the files of a design, in whose netlist gating cells may stand; what stops the design stops it, and it gives
+-- what is put out of it.
+abbrev pub sim_takes : DesignFiles AnyNetlist → Role → List ℕ → Result (DesignFiles AnyNetlist) Trouble
+sim_takes = design_takes permits_any
+
+abbrev pub sim_stops : DesignFiles AnyNetlist → Option Trouble
+sim_stops files = option_and_then play_stops (design_of files)
+
+abbrev pub sim_gives : Option Kind → DesignFiles AnyNetlist → Output → Type 0
+sim_gives kind files output = IsSomeAnd (design_of files) (λ design. play_gives kind design output)
 
 -- nothing is read yet; the words may name a clock
-abbrev pub sim_start : Option NetName → Sim
-sim_start clock = record { options = record { clock = clock }; library = []; netlist = None; stimulus = [] }
+abbrev pub sim_start : Option NetName → DesignFiles AnyNetlist
+sim_start clock = design_start any_netlist clock
 
--- what a run of `sim` does: the library is loaded and read, then the netlist, then the stimulus
+-- what a run of `sim` does
 abbrev pub sim_task : Option NetName → Option Kind → Task
-sim_task clock kind =
-    task_of sim_takes sim_stops (sim_gives kind) (sim_start clock) (roles.Library ∷ roles.Netlist ∷ roles.Stimulus ∷ [])
+sim_task clock kind = task_of sim_takes sim_stops (sim_gives kind) (sim_start clock) (design_loads true)
 
--- A stimulus was played: the bytes under LIB are a text that stands for a library, those under NETLIST are a BLIF text that says
--- a well-formed netlist with this library and the clock of the words, and those under STIM are a text that stands for rows of
--- its data inputs. There is one history on which these rows are played, and what is said is its lines. Nothing is stored.
+-- A stimulus was played: the bytes under LIB are a text that stands for a library, those under NETLIST say
+-- a well-formed netlist with this library and the clock of the words, and those under STIM drive its data
+-- inputs with these rows. There is one history on which these rows are played, and what is said is its lines. Nothing is stored.
 pub record IsSimulated (clock : Option NetName) (kind : Option Kind) (names : Role → List ℕ) (before after : World)
     (finish : Finish) : Type 0 where
   pub library : List CellData
@@ -81,8 +85,8 @@ pub record IsSimulated (clock : Option NetName) (kind : Option Kind) (names : Ro
   pub rows : List (List Bool)
   pub history : List Moment
   pub cells : IsSomeAnd (before.held (names roles.Library)) (λ text. LibText text library)
-  pub says : IsSomeAnd (before.held (names roles.Netlist)) (λ text. BlifText text library clock netlist)
-  pub drives : IsSomeAnd (before.held (names roles.Stimulus)) (λ text. StimText (input_names netlist) text rows)
+  pub says : IsSomeAnd (before.held (names roles.Netlist)) (λ text. SaysNetlist text library clock netlist)
+  pub drives : IsSomeAnd (before.held (names roles.Stimulus)) (λ text. DrivesNetlist text netlist rows)
   pub well_formed : IsWellFormed netlist
   pub played : IsPlayed netlist rows history
   pub no_other : (other : List Moment) → IsPlayed netlist rows other → other ≡ history

@@ -5,9 +5,8 @@
 //! - [`lrat`]: a proof log is checked against a formula;
 //! - [`demo`]: a generated pipeline is gated, and a summary is said of it.
 //!
-//! What modes read of the files of a circuit, and what is complained of them, is in [`complaints`].
+//! What they read of their files is `cg_source`'s.
 
-pub mod complaints;
 pub mod demo;
 pub mod gate;
 pub mod lrat;

@@ -10,11 +10,12 @@ ghost use Rattle.cg_run.specs.Run.{Runs};
 ghost use Rattle.cg_run.specs.Verdict.{Answers, Concludes};
 ghost use Rattle.cg_tool.specs.Demo.{IsDemo, PutsDemo, cells_text, demo_gives, demo_stops, demo_takes, demo_task};
 ghost use Rattle.cg_tool.specs.Demo.{demo_wanted, lines_text, pipeline_found, pipeline_request, pipeline_stops, rows_text};
-ghost use Rattle.cg_tool.specs.Complaints.{library_found, stimulus_found};
-ghost use Rattle.cg_tool.specs.Gate.{gateable_found, request_by};
+ghost use Rattle.cg_source.specs.Design.{permitted};
+ghost use Rattle.cg_source.specs.Library.{library_found};
+ghost use Rattle.cg_source.specs.Stimulus.{stimulus_found};
+ghost use Rattle.cg_tool.specs.Wanted.{gateable};
 
-use crate::modes::complaints::{take_library, take_stimulus};
-use crate::modes::wanted::{Wanted, take_gateable};
+use crate::modes::wanted::Wanted;
 use cg_blif::BlifOptions;
 use cg_cell::library::Library;
 use cg_command_line::no_options;
@@ -29,6 +30,9 @@ use cg_netlist::netlist::Netlist;
 use cg_plan::progress::Progress;
 use cg_run::{Finish, Names, Output, Reader, Refusal, Role, Status, Trouble, collect, put_out};
 use cg_shelf::Shelf;
+use cg_source::design::take_permitted;
+use cg_source::library::take_library;
+use cg_source::stimulus::take_stimulus;
 use cg_stimulus::stimulus::Stimulus;
 use std::alloc::{AllocError, Global};
 
@@ -129,11 +133,11 @@ fn read_netlist(
     library: &Library,
     wanted: &Wanted,
 ) -> Result<Netlist, Trouble>
-    ensures { Answers (gateable_found library.now None wanted.now (lines_text size)) result }
+    ensures { Answers (permitted gateable library.now None wanted.now (lines_text size)) result }
 {
     let text = Seq::from_vec(generated(alloc, size)?);
     let options = BlifOptions { clock: None };
-    take_gateable(alloc, &text, library, &options, wanted)
+    take_permitted(alloc, &text, library, &options, wanted)
 }
 
 /// Reads the stimulus.
@@ -173,33 +177,8 @@ fn gate_pipeline(
     ensures { Concludes (pipeline_stops (Ok pipeline.now)) (PutsDemo size (pipeline_request pipeline.now) pipeline.now.netlist) result }
 {
     let _ = wanted.prefix.bytes();
-    gate_with(
-        alloc,
-        size,
-        &pipeline.library,
-        &pipeline.netlist,
-        &pipeline.stimulus,
-        wanted,
-        progress,
-    )
-}
-
-/// What is put out of the pipeline, gated with this library.
-fn gate_with(
-    alloc: Global,
-    size: u32,
-    library: &Library,
-    netlist: &Netlist,
-    stimulus: &Stimulus,
-    wanted: &Wanted,
-    progress: &mut dyn Progress,
-) -> Result<Output, Trouble>
-    requires { MayGate (request_by library.now wanted.now (Some stimulus.now)) netlist.now }
-    ensures { Concludes (option_map Trouble.Limit (stops_at (request_by library.now wanted.now (Some stimulus.now)) netlist.now))
-        (PutsDemo size (request_by library.now wanted.now (Some stimulus.now)) netlist.now) result }
-{
-    let request = wanted.request(library, Some(stimulus));
-    gate_by(alloc, size, netlist, &request, progress)
+    let request = wanted.request(&pipeline.library, Some(&pipeline.stimulus));
+    gate_by(alloc, size, &pipeline.netlist, &request, progress)
 }
 
 /// What is put out of the pipeline, gated as a request asks.

@@ -1,19 +1,21 @@
 //! The mode `lrat`: a proof log is checked against a formula.
 
-ghost use Rattle.std.specs.Prelude.{◌≡◌, ◌++◌, [], decimal, IfOk, IsTrue, OnOk};
+ghost use Rattle.std.specs.Prelude.{◌≡◌, ◌++◌, decimal, IfOk, IsTrue, OnOk};
 ghost use Rattle.cg_run.specs.Names.{name_of};
 ghost use Rattle.cg_run.specs.Promise.{FinishBy};
 ghost use Rattle.cg_run.specs.Reads.{Gave};
 ghost use Rattle.cg_run.specs.Run.{Runs};
 ghost use Rattle.cg_run.specs.Verdict.{Answers};
-ghost use Rattle.cg_tool.specs.Lrat.{IsChecked, cause_text, check_finish, check_text, formula_of};
-ghost use Rattle.cg_tool.specs.Lrat.{log_of, lrat_gives, lrat_start, lrat_stops, lrat_takes, lrat_task};
+ghost use Rattle.cg_tool.specs.Lrat.{IsChecked, cause_text, check_finish, check_text, lrat_gives, lrat_start, lrat_stops, lrat_takes};
+ghost use Rattle.cg_tool.specs.Lrat.{lrat_task};
 
-use cg_formula::{DimacsFault, Formula, read_dimacs};
+use cg_formula::Formula;
 use cg_list::Seq;
-use cg_lrat::{Checker, Log, LratFault, Verdict, Why, read_lrat};
-use cg_run::{Content, Finish, Mode, Names, Output, Owner, Reader, Role, Status, Trouble, drive};
+use cg_lrat::{Checker, Log, Verdict, Why};
+use cg_run::{Finish, Mode, Names, Output, Reader, Role, Status, Trouble, drive};
 use cg_shelf::Shelf;
+use cg_source::formula::take_formula;
+use cg_source::log::take_log;
 use cg_text::number::push_number;
 use std::alloc::{AllocError, Global};
 use std::mem::replace;
@@ -46,7 +48,7 @@ impl Lrat {
         ensures { Answers (lrat_takes self Role.Formula text.now) result }
     {
         let mut next = self;
-        match read_formula(alloc, text) {
+        match take_formula(alloc, text) {
             Ok(formula) => {
                 // By a call, here and below, as its parts would else be dropped one by one in the proof.
                 drop(replace(&mut next.formula, formula));
@@ -64,7 +66,7 @@ impl Lrat {
         ensures { Answers (lrat_takes self Role.Log text.now) result }
     {
         let mut next = self;
-        match read_log(alloc, text) {
+        match take_log(alloc, text) {
             Ok(log) => {
                 drop(replace(&mut next.log, log));
                 Ok(next)
@@ -123,44 +125,6 @@ pub fn run<S: Shelf>(alloc: Global, shelf: &mut S, names: &Names<'_>) -> Status
         &[Role::Formula, Role::Log],
         Lrat::start(alloc),
     )
-}
-
-/// The formula of a DIMACS text, or what the text is refused for.
-fn read_formula(alloc: Global, text: &Seq<u8>) -> Result<Formula, Trouble>
-    ensures { Answers (formula_of text.now) result }
-{
-    match read_dimacs(alloc, text.as_slice()) {
-        Ok(formula) => Ok(formula),
-        Err(DimacsFault::BadHeader) => Err(Trouble::Content(Content::plain(
-            alloc,
-            Owner::Stimulus,
-            b"cnf: bad header",
-        )?)),
-        Err(DimacsFault::BadClause(line)) => Err(Trouble::Content(Content::numbered(
-            alloc,
-            Owner::Stimulus,
-            b"cnf: bad clause ",
-            line,
-        )?)),
-        Err(DimacsFault::Limit(limit)) => Err(Trouble::Limit(limit)),
-        Err(DimacsFault::NoMemory) => Err(Trouble::NoMemory),
-    }
-}
-
-/// The log of an LRAT text, or what the text is refused for.
-fn read_log(alloc: Global, text: &Seq<u8>) -> Result<Log, Trouble>
-    ensures { Answers (log_of text.now) result }
-{
-    match read_lrat(alloc, text.as_slice()) {
-        Ok(log) => Ok(log),
-        Err(LratFault::BadLine(line)) => Err(Trouble::Content(Content::numbered(
-            alloc,
-            Owner::Stimulus,
-            b"proof: bad line ",
-            line,
-        )?)),
-        Err(LratFault::NoMemory) => Err(Trouble::NoMemory),
-    }
 }
 
 /// How a run ends by what its check comes to.

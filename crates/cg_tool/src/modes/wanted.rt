@@ -6,22 +6,21 @@ ghost use Rattle.cg_gate_laws.specs.Gated.{first_gater, has_and, refused_gater};
 ghost use Rattle.cg_run.specs.Verdict.{Answers};
 ghost use Rattle.cg_machine.specs.Start.{begins, first_clash};
 ghost use Rattle.cg_net.specs.Names.{is_known};
-ghost use Rattle.cg_tool.specs.Gate.{gateable, gateable_found, request_by, unlifted, unprefixed, untested};
+ghost use Rattle.cg_tool.specs.Wanted.{gateable, request_by, unlifted, unprefixed, untested};
 
-use crate::modes::complaints::{take_netlist, with_name};
-use cg_blif::BlifOptions;
 use cg_cell::fit::FitKind;
 use cg_cell::library::Library;
 use cg_cell::name::Name;
 use cg_command_line::Asked;
 use cg_extract::refused::first_refused;
 use cg_gate::request::Request;
-use cg_list::Seq;
 use cg_machine::prefix::prefix_clash;
 use cg_net::id::GateClockId;
 use cg_netlist::netlist::Netlist;
 use cg_plan_laws::settings::Settings;
 use cg_run::{Owner, Trouble};
+use cg_source::design::Demand;
+use cg_source::refused::with_name;
 use cg_stimulus::stimulus::Stimulus;
 use std::alloc::Global;
 
@@ -78,22 +77,24 @@ impl Wanted {
     }
 }
 
-/// The netlist that a text says with the cells of a library, where it may be gated so.
-pub fn take_gateable(
-    alloc: Global,
-    text: &Seq<u8>,
-    library: &Library,
-    options: &BlifOptions,
-    wanted: &Wanted,
-) -> Result<Netlist, Trouble>
-    ensures { Answers (gateable_found library.now options.now.clock wanted.now text.now) result }
-{
-    let netlist = take_netlist(alloc, text, library, options)?;
-    gateable(alloc, netlist, library, wanted)
+impl Demand for Wanted {
+    ghost use Rattle.cg_tool.specs.Wanted.{gateable};
+
+    ghost permits = { gateable };
+
+    /// The netlist, where it may be gated so.
+    fn permit(
+        &self,
+        alloc: Global,
+        netlist: Netlist,
+        library: &Library,
+    ) -> Result<Netlist, Trouble> {
+        gateable(alloc, netlist, library, self)
+    }
 }
 
 /// The netlist, where it may be gated so.
-pub fn gateable(
+fn gateable(
     alloc: Global,
     netlist: Netlist,
     library: &Library,

@@ -1,6 +1,6 @@
 use Rattle.std.proofs.Common.{ℕ, List, subst, sym, ◌∙◌}
 use Rattle.cg_run.specs.Verdict.{Answers}
-use Rattle.cg_tool.specs.Complaints.{library_found}
+use Rattle.cg_source.specs.Library.{library_found}
 use Rattle.cg_tool.proofs.DemoMeans.{same_cells}
 use Rattle.cg_tool.proofs.modes.demo.read_library.Goals as goal
 

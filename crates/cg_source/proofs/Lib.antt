@@ -1,0 +1,5 @@
+pub mod Taken
+pub mod NetlistTexts
+pub mod StimulusTexts
+pub mod Texts
+pub mod DesignRead

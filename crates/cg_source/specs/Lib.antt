@@ -1,0 +1,7 @@
+pub mod Refused
+pub mod Library
+pub mod Netlist
+pub mod Stimulus
+pub mod Formula
+pub mod Log
+pub mod Design

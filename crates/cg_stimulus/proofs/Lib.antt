@@ -4,4 +4,3 @@ pub mod NamesAdded
 pub mod ReadingOn
 pub mod StimExact
 pub mod Playing
-pub mod CommentCut

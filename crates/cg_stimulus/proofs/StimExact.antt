@@ -23,7 +23,7 @@ use Rattle.cg_net.proofs.DifferentNames.{known_at}
 use Rattle.cg_stimulus.specs.declared.fault.StimulusFault.{StimulusFault}
 use Rattle.cg_stimulus.specs.declared.fault.StimulusFault.TheVariants as faults
 use Rattle.cg_stimulus.specs.declared.header.Header.{Header}
-use Rattle.cg_stimulus.specs.Comments.{stimulus_lines}
+use Rattle.cg_stimulus.specs.Lines.{stimulus_lines}
 use Rattle.cg_stimulus.specs.Fault.{◌>>=◌}
 use Rattle.cg_stimulus.specs.Reading.{column_of, names_from, columns_of, header_of, is_bit_byte, says_row, bits_of, row_of, rows_of}
 use Rattle.cg_stimulus.specs.Reading.{rows_in, stimulus}

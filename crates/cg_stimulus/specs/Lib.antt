@@ -1,8 +1,7 @@
-pub mod Comments
+pub mod Lines
 pub mod Inputs
 pub mod Fault
 pub mod Reading
 pub mod StimText
 pub mod Pushing
 pub mod Played
-pub mod inner

@@ -11,7 +11,7 @@ use Rattle.cg_net.specs.Names.{is_known}
 use Rattle.cg_stimulus.specs.declared.fault.StimulusFault.{StimulusFault}
 use Rattle.cg_stimulus.specs.declared.header.Header.{Header}
 use Rattle.cg_stimulus.specs.declared.fault.StimulusFault.TheVariants.{BadName, MissingInput, BadRow, Limit}
-use Rattle.cg_stimulus.specs.Comments.{stimulus_lines}
+use Rattle.cg_stimulus.specs.Lines.{stimulus_lines}
 use Rattle.cg_stimulus.specs.Fault.{◌>>=◌}
 
 -- the place of a name among names

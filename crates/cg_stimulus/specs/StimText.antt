@@ -4,7 +4,7 @@ use Rattle.std.specs.List.{AllByRecursion, AllZip, list_all}
 use Rattle.cg_text.specs.declared.lines.Line.{Line}
 use Rattle.cg_limit.specs.declared.TheConstants.{MOST_ROWS}
 use Rattle.cg_net.specs.Names.{is_known}
-use Rattle.cg_stimulus.specs.Comments.{stimulus_lines}
+use Rattle.cg_stimulus.specs.Lines.{stimulus_lines}
 use Rattle.cg_stimulus.specs.Reading.{is_bit_byte}
 
 -- a bit as a byte

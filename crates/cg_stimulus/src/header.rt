@@ -8,10 +8,11 @@ ghost use Rattle.cg_stimulus.specs.declared.fault.StimulusFault.TheVariants.{NoM
 ghost use Rattle.cg_stimulus.specs.Reading.{column_of, columns_of, header_of, names_from};
 
 use crate::fault::StimulusFault;
-use crate::line::{BareLine, BareWords};
 use cg_cell::name::Name;
 use cg_list::Seq;
 use cg_net::names::NetNames;
+use cg_text::lines::Line;
+use cg_text::words::Words;
 use std::alloc::Global;
 
 /// Where the bits of a row stand in its word.
@@ -29,7 +30,7 @@ fn read_names(
     alloc: Global,
     line: u64,
     inputs: &NetNames,
-    words: BareWords<'_>,
+    words: Words<'_>,
 ) -> Result<NetNames, StimulusFault>
     ensures { OrNoMemory NoMemory (λ names. names) result (names_from line inputs.now [] words.entry) }
 {
@@ -77,7 +78,7 @@ fn find_columns(
 pub(crate) fn read_header(
     alloc: Global,
     inputs: &NetNames,
-    line: BareLine<'_>,
+    line: Line<'_>,
 ) -> Result<Header, StimulusFault>
     requires { AllByRecursion (λ name. IsTrue (is_name name)) inputs.now }
     ensures wide { IfOk result (λ header. length header.columns ≡ length inputs.now) }

@@ -4,14 +4,12 @@
 //! data input; or the text's first fault. In `specs/` stand the definitions of the text, of what is read, and of the
 //! history of a netlist on which rows are played.
 //!
-//! Modules, as data flows: [`line`] (lines without comments), [`header`] (the first line), [`row`] (a row's bits), [`read`] (the
-//! whole text), [`stimulus`] (rows, read or pushed one by one), [`played`] (the history on which they are played), [`fault`]
-//! (why a text is refused).
+//! Modules, as data flows: [`header`] (the first line), [`row`] (a row's bits), [`read`] (the whole text), [`stimulus`] (rows,
+//! read or pushed one by one), [`played`] (the history on which they are played), [`fault`] (why a text is refused).
 #![tactic(auto)]
 
 pub mod fault;
 mod header;
-mod line;
 pub mod played;
 pub mod read;
 mod row;

@@ -11,11 +11,18 @@ ghost use Rattle.cg_stimulus.specs.StimText.{StimText};
 
 use crate::fault::StimulusFault;
 use crate::header::{Header, read_header};
-use crate::line::BareLines;
 use crate::row::read_row;
 use crate::stimulus::Stimulus;
 use cg_netlist::netlist::Netlist;
+use cg_text::blanks::Blanks;
+use cg_text::lines::{Comments, Layout, Lines};
 use std::alloc::Global;
+
+/// How a stimulus text is cut into lines of words.
+const LAYOUT: Layout = Layout {
+    blanks: Blanks::Whitespace,
+    comments: Comments::FromHash,
+};
 
 /// Every net of a netlist has a name, and so has each data input.
 fn inputs_have_names(netlist: &Netlist)
@@ -28,17 +35,17 @@ fn inputs_have_names(netlist: &Netlist)
 fn read_rows(
     alloc: Global,
     header: &Header,
-    lines: BareLines<'_>,
+    lines: Lines<'_>,
     stimulus: Stimulus,
 ) -> Result<Stimulus, StimulusFault>
     requires none { stimulus.rows ≡ [] }
     requires wide { length header.now.columns ≡ length stimulus.inputs }
-    ensures rows { OrNoMemory NoMemory (λ read. read.rows) result (rows_of header.now 0 lines.entry) }
+    ensures rows { OrNoMemory NoMemory (λ read. read.rows) result (rows_of header.now 0 lines.entry.left) }
     ensures inputs { IfOk result (λ read. read.inputs ≡ stimulus.inputs) }
 {
     let mut lines = lines;
     let mut stimulus = stimulus;
-    'rows: while let Some(line) = lines.next_line() {
+    'rows: while let Ok(line) = lines.next_line() {
         let row = read_row(alloc, header, line)?;
         stimulus.push(alloc, &row)?;
     }
@@ -52,8 +59,10 @@ fn read_text(alloc: Global, bytes: &[u8], netlist: &Netlist) -> Result<Stimulus,
 {
     inputs_have_names(netlist);
     let stimulus = Stimulus::new(alloc, netlist)?;
-    let mut lines = BareLines::new(bytes);
-    let first = lines.next_line().ok_or(StimulusFault::BadRow(0))?;
+    let mut lines = Lines::new(bytes, LAYOUT);
+    let Ok(first) = lines.next_line() else {
+        return Err(StimulusFault::BadRow(0));
+    };
     let header = read_header(alloc, stimulus.inputs(), first)?;
     read_rows(alloc, &header, lines, stimulus)
 }

@@ -8,7 +8,7 @@ ghost use Rattle.cg_stimulus.specs.Reading.{is_bit_byte, says_row, bits_of, row_
 
 use crate::fault::StimulusFault;
 use crate::header::Header;
-use crate::line::BareLine;
+use cg_text::lines::Line;
 use std::alloc::{AllocError, Global};
 
 /// Whether a word says a row.
@@ -54,7 +54,7 @@ fn bit_at(word: &[u8], column: usize) -> bool
 pub(crate) fn read_row(
     alloc: Global,
     header: &Header,
-    line: BareLine<'_>,
+    line: Line<'_>,
 ) -> Result<Vec<bool>, StimulusFault>
     ensures wide { IfOk result (λ row. length row.items ≡ length header.now.columns) }
     ensures row { OrNoMemory NoMemory (λ row. row.items) result (row_of line.entry.number header.now line.entry.words) }

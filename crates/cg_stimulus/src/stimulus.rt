@@ -91,7 +91,7 @@ impl Stimulus {
     }
 
     /// The names of the data inputs.
-    pub(crate) fn inputs(&self) -> &NetNames
+    pub fn inputs(&self) -> &NetNames
         ensures { result.now ≡ self.now.inputs }
     {
         &self.inputs

@@ -11,7 +11,7 @@ use Rattle.std.specs.Fmt.{decimal}
 use Rattle.std.specs.Char.{is_ascii_digit}
 use Rattle.std.specs.List.{AllByRecursion}
 use Rattle.cg_text.specs.declared.blanks.Blanks.{Blanks}
-use Rattle.cg_text.specs.declared.blanks.Blanks.TheVariants.{Whitespace, Controls}
+use Rattle.cg_text.specs.declared.blanks.Blanks.TheVariants.{Whitespace, Controls, Spaces}
 use Rattle.cg_text.specs.Blanks.{is_blank}
 use Rattle.cg_text.specs.Written.{IsWord}
 use Rattle.cg_text.specs.declared.number.Number.TheVariants.{Small, Large, Misspelled}
@@ -91,6 +91,7 @@ decimal_bytes P each n small = digits_within P each (decimal n) (digits_decimal 
 digit_is_no_blank : (blanks : Blanks) (b : ℕ) → 48 ≤ b → b ≤ 57 → is_blank blanks b ≡ false
 digit_is_no_blank Whitespace b low high = grind (arith, nat_tests)
 digit_is_no_blank Controls b low high = grind (arith, nat_tests)
+digit_is_no_blank Spaces b low high = grind (arith, nat_tests)
 
 pub decimal_word : (blanks : Blanks) (n : ℕ) → n < 2 ^ 64 → IsWord blanks (decimal n)
 decimal_word blanks n small = record { full = decimal_nonempty n small; whole = decimal_bytes (λ b. is_blank blanks b ≡ false) (digit_is_no_blank blanks) n small }

@@ -6,7 +6,7 @@ use Rattle.std.proofs.lemmas.Bool.{ne_eqb}
 use Rattle.std.proofs.lemmas.List.{map-append}
 use Rattle.std.specs.List.{flat_map, AllByRecursion}
 use Rattle.cg_text.specs.declared.blanks.Blanks.{Blanks}
-use Rattle.cg_text.specs.declared.blanks.Blanks.TheVariants.{Whitespace, Controls}
+use Rattle.cg_text.specs.declared.blanks.Blanks.TheVariants.{Whitespace, Controls, Spaces}
 use Rattle.cg_text.specs.declared.lines.Comments.TheVariants.{LeadingC}
 use Rattle.cg_text.specs.declared.lines.Layout.{Layout}
 use Rattle.cg_text.specs.Blanks.{is_blank, is_line_feed}
@@ -35,6 +35,7 @@ full_word (b ∷ bs) full = rw (eqb-suc-zero (length bs)) refl
 space_is_blank : (blanks : Blanks) → is_blank blanks 32 ≡ true
 space_is_blank Whitespace = refl
 space_is_blank Controls = refl
+space_is_blank Spaces = refl
 
 word_alone : (blanks : Blanks) (word : List ℕ) → IsWord blanks word → words blanks word ≡ word ∷ []
 word_alone blanks [] w = let full : 0 < 0 = w.full in absurd (omega arith)
@@ -53,6 +54,7 @@ words-joined blanks (w ∷ v ∷ ws) all = word_before blanks w (joined (v ∷ w
 blank_line_feed : (blanks : Blanks) → is_blank blanks 10 ≡ true
 blank_line_feed Whitespace = refl
 blank_line_feed Controls = refl
+blank_line_feed Spaces = refl
 
 no_line_feed : (blanks : Blanks) (b : ℕ) → is_blank blanks b ≡ false → is_line_feed b ≡ false
 no_line_feed blanks b e = ne_eqb b 10 (λ same. let no : true ≡ false = sym (blank_line_feed blanks) ∙ ap (is_blank blanks) (sym same) ∙ e in cc)

@@ -1,7 +1,7 @@
 -- Which bytes stand between words, and which end a line.
 use Rattle.std.specs.Prelude.{ℕ, Bool, ◌==◌, ◌||◌, ◌&&◌, nat_le}
 use Rattle.cg_text.specs.declared.blanks.Blanks.{Blanks}
-use Rattle.cg_text.specs.declared.blanks.Blanks.TheVariants.{Whitespace, Controls}
+use Rattle.cg_text.specs.declared.blanks.Blanks.TheVariants.{Whitespace, Controls, Spaces}
 use Rattle.cg_text.specs.declared.blanks.Separator.{Separator}
 use Rattle.cg_text.specs.declared.blanks.Separator.TheVariants.{LineFeed, Blank}
 
@@ -9,10 +9,15 @@ use Rattle.cg_text.specs.declared.blanks.Separator.TheVariants.{LineFeed, Blank}
 abbrev pub is_white_space : ℕ → Bool
 is_white_space b = b == 32 || (nat_le 9 b && nat_le b 13)
 
--- the byte is a blank: white space, or a control, which is any byte up to the space (32)
+-- space, tab, line feed and carriage return
+abbrev pub is_space : ℕ → Bool
+is_space b = b == 32 || b == 9 || b == 10 || b == 13
+
+-- the byte is a blank: white space, or a control, which is any byte up to the space (32), or a space
 abbrev pub is_blank : Blanks → ℕ → Bool
 is_blank Whitespace b = is_white_space b
 is_blank Controls b = nat_le b 32
+is_blank Spaces b = is_space b
 
 -- the byte ends a line
 abbrev pub is_line_feed : ℕ → Bool

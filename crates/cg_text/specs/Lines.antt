@@ -1,16 +1,21 @@
 -- Lines of words with their numbers.
-use Rattle.std.specs.Prelude.{ℕ, ◌+◌, ◌==◌, List, [], ◌∷◌, length, if◌then◌else◌}
+use Rattle.std.specs.Prelude.{ℕ, Bool, ◌+◌, ◌==◌, List, [], ◌∷◌, length, if◌then◌else◌}
+use Rattle.std.specs.List.{before_first}
 use Rattle.cg_text.specs.declared.lines.Comments.{Comments}
-use Rattle.cg_text.specs.declared.lines.Comments.TheVariants.{Never, LeadingC}
+use Rattle.cg_text.specs.declared.lines.Comments.TheVariants.{Never, LeadingC, FromHash}
 use Rattle.cg_text.specs.declared.lines.Layout.{Layout}
 use Rattle.cg_text.specs.declared.lines.Line.{Line}
 use Rattle.cg_text.specs.Words.{words, lines}
+
+abbrev pub is_hash : ℕ → Bool
+is_hash b = b == 35
 
 -- what of a physical line is read, comments left out
 abbrev pub read_part : Comments → List ℕ → List ℕ
 read_part Never line = line
 read_part LeadingC [] = []
 read_part LeadingC (x ∷ xs) = if x == 99 then [] else x ∷ xs
+read_part FromHash line = before_first is_hash line
 
 abbrev pub words_of_line : Layout → List ℕ → List (List ℕ)
 words_of_line layout line = words layout.blanks (read_part layout.comments line)

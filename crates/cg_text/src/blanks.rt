@@ -17,6 +17,8 @@ pub enum Blanks {
     Whitespace,
     /// Space and every byte below it, as in BLIF.
     Controls,
+    /// Space, tab, line feed and carriage return, as in VCD.
+    Spaces,
 }
 
 impl Blanks {
@@ -27,6 +29,7 @@ impl Blanks {
         match self {
             Blanks::Whitespace => is_white_space(byte),
             Blanks::Controls => byte <= b' ',
+            Blanks::Spaces => byte == b' ' || byte == b'\t' || byte == b'\n' || byte == b'\r',
         }
     }
 }

@@ -1,7 +1,8 @@
 //! The lines of a text that have words, with their numbers.
 
 ghost use Rattle.std.specs.Prelude.{◌≡◌, [], ◌∷◌, MatchResult};
-ghost use Rattle.cg_text.specs.Lines.{read_part};
+ghost use Rattle.std.specs.List.{before_first, position};
+ghost use Rattle.cg_text.specs.Lines.{is_hash, read_part};
 
 use crate::blanks::{Blanks, Separator};
 use crate::piece::cut_piece;
@@ -15,6 +16,8 @@ pub enum Comments {
     Never,
     /// A line whose first byte is `c` is not read, as in DIMACS and LRAT.
     LeadingC,
+    /// A line is read up to its first `#`, as in stimuli.
+    FromHash,
 }
 
 /// How a format cuts its text into lines of words.
@@ -99,5 +102,23 @@ fn read_part<'a>(line: &'a [u8], comments: Comments) -> &'a [u8]
     match comments {
         Comments::Never => line,
         Comments::LeadingC => { if line.starts_with(b"c") { &[] } else { line } }
+        Comments::FromHash => before_hash(line),
     }
+}
+
+// What stands before the first `#` of a line.
+fn before_hash<'a>(line: &'a [u8]) -> &'a [u8]
+    ensures { result.now ≡ before_first is_hash line.entry.now }
+{
+    match hash_at(line) {
+        Some(at) => &line[..at],
+        None => line,
+    }
+}
+
+// Where a line has its first `#`.
+fn hash_at(line: &[u8]) -> Option<usize>
+    ensures { result ≡ position is_hash line.now }
+{
+    line.iter().position(|byte| *byte == b'#')
 }

@@ -120,7 +120,7 @@ nets_are_lines : (net : ℕ) (names : List (List ℕ)) → AllByRecursion (λ na
 nets_are_lines net [] named later all = all
 nets_are_lines net (name ∷ names) named later all = (
   line_of (net_words net name) (omega arith)
-      (word_of (codes "$var") (omega arith) refl, word_of (codes "wire") (omega arith) refl, word_of (codes "1") (omega arith) refl, id_is_word net, name_word name named.0, dollar_end, tt),
+      (word_of (codes "$var") (omega arith) refl, (word_of (codes "wire") (omega arith) refl, (word_of (codes "1") (omega arith) refl, (id_is_word net, (name_word name named.0, (dollar_end, tt)))))),
   nets_are_lines (net + 1) names named.1 later all,
 )
 
@@ -167,10 +167,12 @@ moments_words number before (now ∷ later) few = (
 pub dump_lines_read : (c : Circuit) (moments : List Shown) → is_name c.model ≡ true → AllByRecursion (λ name. is_name name ≡ true) c.names → length moments < 2 ^ 64
     → AllByRecursion (IsLine layout) (dump_words c moments)
 dump_lines_read c moments model named few = (
-  line_of (scope_words c.model) (omega arith) (word_of (codes "$scope") (omega arith) refl, word_of (codes "module") (omega arith) refl, name_word c.model model, dollar_end, tt),
+  line_of (scope_words c.model) (omega arith) (word_of (codes "$scope") (omega arith) refl, (word_of (codes "module") (omega arith) refl, (name_word c.model model, (dollar_end, tt)))),
   nets_are_lines 0 c.names named (upscope_words ∷ ending_words ∷ alone (dump_lines 0 None moments)) (
-    line_of upscope_words (omega arith) (word_of (codes "$upscope") (omega arith) refl, dollar_end, tt),
-    line_of ending_words (omega arith) (word_of (codes "$enddefinitions") (omega arith) refl, dollar_end, tt),
-    alone_lines (dump_lines 0 None moments) (moments_words 0 None moments (omega arith)),
+    line_of upscope_words (omega arith) (word_of (codes "$upscope") (omega arith) refl, (dollar_end, tt)),
+    (
+      line_of ending_words (omega arith) (word_of (codes "$enddefinitions") (omega arith) refl, (dollar_end, tt)),
+      alone_lines (dump_lines 0 None moments) (moments_words 0 None moments (omega arith)),
+    ),
   ),
 )

@@ -1,6 +1,6 @@
 -- The definitions that the watcher writes, read: each net is declared with its number as id, and the wire of its name is its number.
 use Rattle.std.proofs.Common.{◌≡◌, ◌≢◌, ℕ, zero, suc, ◌+◌, ◌<◌, ◌≤◌, ◌&&◌, Bool, true, false, List, [], ◌∷◌, ◌++◌, length, get_or}
-use Rattle.std.proofs.Common.{slice_get, Option, Some, None, Ok, refl, sym, ap, ◌∙◌, arith, subst, inl, inr, codes, append_assoc, length-append, is_none}
+use Rattle.std.proofs.Common.{slice_get, Option, Some, None, Ok, refl, sym, ap, ◌∙◌, arith, subst, inl, inr, codes, append_assoc, length-append, is_none, ◌⊎◌}
 use Rattle.std.specs.List.{AllByRecursion, AllPairs, find}
 use Rattle.std.specs.Str.{bytes_eq}
 use Rattle.std.proofs.lemmas.Bool.{cases_Bool, or_parts}
@@ -43,7 +43,7 @@ declares_nothing = record {
 }
 
 -- ids of numbers differ
-ids_apart : (ids : List (List ℕ)) (n : ℕ) → length ids ≡ n → ((j : ℕ) → j < n → slice_get ids j ≡ Some (id_of j)) → AllPairs (λ id other. id ≢ other) ids
+pub ids_apart : (ids : List (List ℕ)) (n : ℕ) → length ids ≡ n → ((j : ℕ) → j < n → slice_get ids j ≡ Some (id_of j)) → AllPairs (λ id other. id ≢ other) ids
 ids_apart ids n count at i j d before within same =
     let i_is : get_or ids i d ≡ id_of i = get_or_from_slice_get ids i (id_of i) d (at i (omega arith)) in
     let j_is : get_or ids j d ≡ id_of j = get_or_from_slice_get ids j (id_of j) d (at j (omega arith)) in
@@ -206,7 +206,7 @@ pub header_read : (names all : List (List ℕ)) (end : ℕ) (model : List ℕ) (
     → AllByRecursion (λ name. is_end name ≡ false) all → length all ≤ MOST_NETS → AllByRecursion (λ name. (j : ℕ) × (slice_get all j ≡ Some name)) names
     → HeaderRead names all end model later
 header_read names all end model later plain different plains few there =
-    let nets = nets_read names end 2 0 [] all nothing_declared (upscope_words ∷ ending_words ∷ later) refl declares_nothing different plains few in
+    let nets = nets_read names end 2 0 [] all nothing_declared (upscope_words ∷ ending_words ∷ later) refl declares_nothing different plains (omega arith) in
     let k = 2 + length all in
     record {
       behind = nets.behind;

@@ -82,7 +82,7 @@ module _ (used : List ℕ) (ids : List (List ℕ)) (end n : ℕ) (known : (net :
       ≡ with_changes (redumped used (k + 1) (net + 1) before now) (free time (lined (k + 1 + length (changed_values (net + 1) before now)) rest))
       → free time (lined k (value_line net b ∷ changed_values (net + 1) before now ++ rest))
       ≡ with_changes (put_if (is_in used net) (change k net b) (redumped used (k + 1) (net + 1) before now))
-        (free time (lined (k + length (value_line net b ∷ changed_values (net + 1) before now)) rest))
+      (free time (lined (k + length (value_line net b ∷ changed_values (net + 1) before now)) rest))
   one_told k net b before now time rest small later =
       let e : k + 1 + length (changed_values (net + 1) before now) ≡ k + length (value_line net b ∷ changed_values (net + 1) before now) = omega arith in
       value_told used ids end n known k net b time (lined (k + 1) (changed_values (net + 1) before now ++ rest)) small
@@ -117,44 +117,35 @@ module _ (used : List ℕ) (ids : List (List ℕ)) (end n : ℕ) (known : (net :
       pub first : t.step ≡ []
       pub shown : Shown used changes t.later nows
 
+    -- behind the changes of a moment each net that is used has its bit
+    bits_behind : (k : ℕ) (changes : List Change) (before now : List Bool) → length before ≡ n → length now ≡ n
+        → ((id : ℕ) → is_in used id ≡ true → value_of changes id ≡ Some (bit before id))
+        → (id : ℕ) → is_in used id ≡ true → value_of (changes ++ redumped used k 0 before now) id ≡ Some (bit now id)
+    bits_behind k changes before now wide wide_now was id among =
+        value_behind None id changes (redumped used k 0 before now)
+        ∙ (ap (λ v. value_from v id (redumped used k 0 before now)) (was id among)
+        ∙ values_retaken used k 0 before now id id (bit before id) (bit now id) among (omega arith) (bit_there before n id wide (below id among)) (bit_there now n id wide_now (below id among)))
+
     pub moments_told : (k t p : ℕ) (before : List Bool) (moments : List ShownMoment) (changes : List Change) → p < t → t + length moments < 2 ^ 64 → length before ≡ n
         → AllByRecursion (λ m. length m.nets ≡ n) moments → ((id : ℕ) → is_in used id ≡ true → value_of changes id ≡ Some (bit before id))
         → Tells changes (free (Some p) (lined k (dump_lines t (Some before) moments))) (map (λ m. m.nets) moments)
     moments_told k t p before [] changes rising few wide all was = record { whole = refl; first = refl; shown = tt }
     moments_told k t p before (now ∷ later) changes rising few wide all was =
-        subst (λ x. Tells changes x (now.nets ∷ map (λ m. m.nets) later)) (sym told_so) (record {
+        let step = redumped used (k + 1) 0 before now.nets in
+        let line = k + 1 + length (changed_values 0 before now.nets) in
+        let rest = free (Some t) (lined line (dump_lines (t + 1) (Some now.nets) later)) in
+        let nows = map (λ m. m.nets) later in
+        let told_so : free (Some p) (lined k (dump_lines t (Some before) (now ∷ later))) ≡ with_step_end (with_changes step rest) =
+        time_told k t p (lined (k + 1) (changed_values 0 before now.nets ++ dump_lines (t + 1) (Some now.nets) later)) (omega arith) rising
+        ∙ ap with_step_end (changed_told (k + 1) 0 before now.nets (Some t) (dump_lines (t + 1) (Some now.nets) later) (omega arith)) in
+        let values = bits_behind (k + 1) changes before now.nets wide all.0 was in
+        let behind : Tells (changes ++ step) rest nows = moments_told line (t + 1) t now.nets later (changes ++ step) (omega arith) (omega arith) all.0 all.1 values in
+        let step_is : step ++ rest.step ≡ step = ap (λ s. step ++ s) behind.first ∙ append-nil step in
+        subst (λ x. Tells changes x (now.nets ∷ nows)) (sym told_so) (record {
           whole = behind.whole;
           first = refl;
-          shown = subst (λ s. ((id : ℕ) → is_in used id ≡ true → value_of (changes ++ s) id ≡ Some (bit now.nets id))
-              × Shown used (changes ++ s) rest.later (map (λ m. m.nets) later)) (sym step_is) (values, behind.shown);
+          shown = subst (λ s. ((id : ℕ) → is_in used id ≡ true → value_of (changes ++ s) id ≡ Some (bit now.nets id)) × Shown used (changes ++ s) rest.later nows) (sym step_is) (values, behind.shown);
         })
-      where
-        abbrev step : List Change
-        step = redumped used (k + 1) 0 before now.nets
-
-        abbrev line : ℕ
-        line = k + 1 + length (changed_values 0 before now.nets)
-
-        abbrev rest : Told
-        rest = free (Some t) (lined line (dump_lines (t + 1) (Some now.nets) later))
-
-        told_so : free (Some p) (lined k (dump_lines t (Some before) (now ∷ later))) ≡ with_step_end (with_changes step rest)
-        told_so =
-            time_told k t p (lined (k + 1) (changed_values 0 before now.nets ++ dump_lines (t + 1) (Some now.nets) later)) (omega arith) rising
-            ∙ ap with_step_end (changed_told (k + 1) 0 before now.nets (Some t) (dump_lines (t + 1) (Some now.nets) later) (omega arith))
-
-        values : (id : ℕ) → is_in used id ≡ true → value_of (changes ++ step) id ≡ Some (bit now.nets id)
-        values id among =
-            value_behind None id changes step
-            ∙ (ap (λ v. value_from v id step) (was id among)
-            ∙ values_retaken used (k + 1) 0 before now.nets id id (bit before id) (bit now.nets id) among (omega arith)
-              (bit_there before n id wide (below id among)) (bit_there now.nets n id all.0 (below id among)))
-
-        behind : Tells (changes ++ step) rest (map (λ m. m.nets) later)
-        behind = moments_told line (t + 1) t now.nets later (changes ++ step) (omega arith) (omega arith) all.0 all.1 values
-
-        step_is : step ++ rest.step ≡ step
-        step_is = ap (λ s. step ++ s) behind.first ∙ append-nil step
 
     -- what the lines of all moments tell
     pub record TellsAll (t : Told) (first : List Bool) (nows : List (List Bool)) : Type 0 where
@@ -166,39 +157,20 @@ module _ (used : List ℕ) (ids : List (List ℕ)) (end n : ℕ) (known : (net :
 
     pub all_told : (k : ℕ) (first : ShownMoment) (later : List ShownMoment) → 1 + length later < 2 ^ 64 → length first.nets ≡ n → AllByRecursion (λ m. length m.nets ≡ n) later
         → TellsAll (free None (lined k (dump_lines 0 None (first ∷ later)))) first.nets (map (λ m. m.nets) later)
-    all_told k first later few wide all = record {
-      changes = step;
-      steps = rest.later;
-      told_is = told_so ∙ parts;
-      values = values;
-      shown = behind.shown;
-    } where
-      abbrev more : List (List ℕ)
-      more = dump_lines 1 (Some first.nets) later
-
-      abbrev step : List Change
-      step = dumped used (k + 1 + 1) 0 first.nets
-
-      abbrev line : ℕ
-      line = k + 1 + 1 + length first.nets
-
-      abbrev rest : Told
-      rest = free (Some 0) (lined (line + 1) more)
-
-      told_so : free None (lined k (dump_lines 0 None (first ∷ later))) ≡ with_step_end (with_changes step rest)
-      told_so =
-          first_time k (lined (k + 1) (codes "$dumpvars" ∷ (all_values 0 first.nets ++ codes "$end" ∷ []) ++ more))
-          ∙ ap with_step_end (ap (λ ls. free (Some 0) (lined (k + 1 + 1) ls)) (append_assoc (all_values 0 first.nets) (codes "$end" ∷ []) more)
-          ∙ values_told used ids end n known (k + 1 + 1) 0 first.nets (Some 0) (codes "$end" ∷ more) (omega arith))
-
-      values : (id : ℕ) → is_in used id ≡ true → value_of step id ≡ Some (bit first.nets id)
-      values id among = values_taken used (k + 1 + 1) 0 first.nets None id id (bit first.nets id) among (omega arith) (bit_there first.nets n id wide (below id among))
-
-      behind : Tells step rest (map (λ m. m.nets) later)
-      behind = moments_told (line + 1) 1 0 first.nets later step (omega arith) few wide all values
-
-      parts : with_step_end (with_changes step rest) ≡ record { step = []; later = step ∷ rest.later; fault = None }
-      parts =
-          ap (λ s. record { step = []; later = (step ++ s) ∷ rest.later; fault = rest.fault }) behind.first
-          ∙ (ap (λ s. record { step = []; later = s ∷ rest.later; fault = rest.fault }) (append-nil step)
-          ∙ ap (λ f. record { step = []; later = step ∷ rest.later; fault = f }) behind.whole)
+    all_told k first later few wide all =
+        let more = dump_lines 1 (Some first.nets) later in
+        let step = dumped used (k + 1 + 1) 0 first.nets in
+        let line = k + 1 + 1 + length first.nets in
+        let rest = free (Some 0) (lined (line + 1) more) in
+        let told_so : free None (lined k (dump_lines 0 None (first ∷ later))) ≡ with_step_end (with_changes step rest) =
+        first_time k (lined (k + 1) (codes "$dumpvars" ∷ (all_values 0 first.nets ++ codes "$end" ∷ []) ++ more))
+        ∙ ap with_step_end (ap (λ ls. free (Some 0) (lined (k + 1 + 1) ls)) (append_assoc (all_values 0 first.nets) (codes "$end" ∷ []) more)
+        ∙ values_told used ids end n known (k + 1 + 1) 0 first.nets (Some 0) (codes "$end" ∷ more) (omega arith)) in
+        let values : (id : ℕ) → is_in used id ≡ true → value_of step id ≡ Some (bit first.nets id) =
+        λ id among. values_taken used (k + 1 + 1) 0 first.nets None id id (bit first.nets id) among (omega arith) (bit_there first.nets n id wide (below id among)) in
+        let behind : Tells step rest (map (λ m. m.nets) later) = moments_told (line + 1) 1 0 first.nets later step (omega arith) few wide all values in
+        let parts : with_step_end (with_changes step rest) ≡ record { step = []; later = step ∷ rest.later; fault = None } =
+        ap (λ s. record { step = []; later = (step ++ s) ∷ rest.later; fault = rest.fault }) behind.first
+        ∙ (ap (λ s. record { step = []; later = s ∷ rest.later; fault = rest.fault }) (append-nil step)
+        ∙ ap (λ f. record { step = []; later = step ∷ rest.later; fault = f }) behind.whole) in
+        record { changes = step; steps = rest.later; told_is = told_so ∙ parts; values = values; shown = behind.shown }

@@ -30,11 +30,11 @@ use Rattle.cg_vcd.specs.Changes.{Free, Told, told}
 use Rattle.cg_vcd.specs.Commands.{Definitions, definitions}
 use Rattle.cg_vcd.specs.Dumped.{dump_lines, dump_text}
 use Rattle.cg_vcd.specs.Identifiers.{id_of}
-use Rattle.cg_vcd.specs.ReadBack.{HasNoEnd, ReadsBack}
+use Rattle.cg_vcd.specs.ReadBack.{HasNoEnd, IsSaidOf}
 use Rattle.cg_vcd.specs.Rows.{rows_told}
 use Rattle.cg_vcd.specs.Variables.{Declared, nothing_declared, wire_of}
 use Rattle.cg_vcd.specs.VcdFaults.{◌>>=◌}
-use Rattle.cg_vcd.specs.VcdText.{rows_behind, vcd_rows, wire}
+use Rattle.cg_vcd.specs.VcdText.{clock_name, rows_behind, vcd_rows, wire}
 use Rattle.cg_vcd.specs.VcdWords.{is_end, layout, vcd_words}
 use Rattle.cg_vcd.specs.inner.Sampled.{PlayedBits}
 use Rattle.cg_vcd.proofs.DumpLines.{alone, dump_lines_read, dump_text_of, dump_words}
@@ -109,9 +109,10 @@ all_front P (x ∷ xs) ys all = (all.0, all_front P xs ys all.1)
 
 among_front : (all xs before : List ℕ) → all ≡ before ++ xs → AllByRecursion (λ id. is_in all id ≡ true) xs
 among_front all [] before split = tt
-among_front all (x ∷ xs) before split =
-    (subst (λ nets. is_in nets x ≡ true) (sym split) (is_in_right before (x ∷ xs) x (member_at (x ∷ xs) 0 x refl)),
-    among_front all xs (before ++ x ∷ []) (split ∙ sym (append_assoc before (x ∷ []) xs)))
+among_front all (x ∷ xs) before split = (
+  subst (λ nets. is_in nets x ≡ true) (sym split) (is_in_right before (x ∷ xs) x (member_at (x ∷ xs) 0 x refl)),
+  among_front all xs (before ++ x ∷ []) (split ∙ sym (append_assoc before (x ∷ []) xs)),
+)
 
 -- the wires of names that are declared
 wires_named : (names : List (List ℕ)) (d : Declared) (nets : List ℕ) → Declares names d → AllByRecursion (λ net. net < length names) nets
@@ -178,7 +179,7 @@ module _ (c : Circuit) (stimulus : Rows) (good : IsNetlist c) (no_end : HasNoEnd
           (subst (λ nets. is_in nets id ≡ true) (sym front.split) (is_in_left ins front.extra id input))
       | inr last ↦ elim (or_cases (nat_eq id clock) false last) [
         | inl same ↦ let e : id ≡ clock = eqb-true id clock same in let w : clock < length c.names = clock_within in omega arith
-        | inr no ↦ absurd (both_ways false refl no)
+        | inr neither ↦ absurd (both_ways false refl neither)
       ]
     ]
 
@@ -218,8 +219,9 @@ module _ (c : Circuit) (stimulus : Rows) (good : IsNetlist c) (no_end : HasNoEnd
       (wide.0 ∙ same, rows_wide rows wide.1)
 
   -- what is said of a played history is read as what was played
-  pub read_back : ReadsBack c stimulus
-  read_back clock history is_clock played =
+  text_rows : (clock : ℕ) (history : List Moment) → c.clock ≡ Some clock → IsPlayed c stimulus.rows history
+      → vcd_rows stimulus.inputs (Some (net_name c.names clock)) (dump_text c (played_moments c stimulus.rows history) ++ 10 ∷ []) ≡ Ok stimulus.rows
+  text_rows clock history is_clock played =
       let wave = played_wave c stimulus.rows in
       let moments = played_moments c stimulus.rows history in
       let bits : PlayedBits ins clock stimulus.rows (map (λ m. m.nets) moments) =
@@ -229,3 +231,11 @@ module _ (c : Circuit) (stimulus : Rows) (good : IsNetlist c) (no_end : HasNoEnd
       let long : length wave ≡ 2 * length stimulus.rows + 1 = wave_long (length (data_inputs c)) [] stimulus.rows in
       let few : length stimulus.rows ≤ MOST_ROWS = is.few in
       text_read clock is_clock (end_line (dump_text c moments ++ 10 ∷ [])) moments bits (shown_long c (played_start c) None wave history played) (omega arith)
+
+-- the rows that are read of a text that was said of a stimulus are those of the stimulus
+pub read_back : (reader : Circuit) (stimulus : Rows) (text : List ℕ) → IsSaidOf reader stimulus text → vcd_rows (input_names reader) (clock_name reader) text ≡ Ok stimulus.rows
+read_back reader stimulus text of =
+    ap (λ names. vcd_rows names (clock_name reader) text) of.same_inputs
+    ∙ (ap (λ name. vcd_rows stimulus.inputs name text) of.same_clock
+    ∙ (ap (vcd_rows stimulus.inputs (Some (net_name of.played.names of.clock))) of.said
+    ∙ text_rows of.played stimulus of.netlist of.no_end of.is_for of.is_stimulus of.clock of.history of.clocked of.is_played))

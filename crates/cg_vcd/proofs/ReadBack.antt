@@ -3,7 +3,7 @@ use Rattle.std.proofs.Common.{◌≡◌, ◌≢◌, ℕ, ◌+◌, ◌*◌, ◌^�
 use Rattle.std.proofs.Common.{IsTrue, append_assoc, nat_eq, refl, sym, ap, ◌∙◌, arith, subst, inl, inr, unwrap_or}
 use Rattle.std.specs.List.{All, AllByRecursion, AllPairs}
 use Rattle.std.proofs.lemmas.Bool.{eqb-true, or_cases, both_ways}
-use Rattle.std.proofs.lemmas.List.{length-map}
+use Rattle.std.proofs.lemmas.List.{append-nil, append_cancel_right, length-map}
 use Rattle.std.proofs.lemmas.List.Elements.{recursion_from_All}
 use Rattle.std.proofs.lemmas.Option.{slice_get-get_or, unwrap_or-slice_get}
 use Rattle.cg_limit.specs.declared.TheConstants.{MOST_NETS, MOST_ROWS}
@@ -22,22 +22,23 @@ use Rattle.cg_stimulus.specs.Played.{IsPlayed, played_start, played_wave, wave_f
 use Rattle.cg_stimulus.specs.Reading.{column_of}
 use Rattle.cg_stimulus.proofs.Columns.{found_column}
 use Rattle.cg_stimulus.proofs.InputsNamed.{inputs_within}
-use Rattle.cg_text.specs.Lines.{end_line}
+use Rattle.cg_text.specs.Lines.{end_line, kept_lines}
 use Rattle.cg_text.specs.Spots.{Spot, spots_of}
-use Rattle.cg_text.specs.Written.{numbered}
-use Rattle.cg_text.proofs.Written.{text_lines-text}
+use Rattle.cg_text.specs.Words.{lines}
+use Rattle.cg_text.specs.Written.{numbered, open_text, text_of}
+use Rattle.cg_text.proofs.Written.{lines-open, text_lines-text, text_of-open}
 use Rattle.cg_vcd.specs.Changes.{Free, Told, told}
 use Rattle.cg_vcd.specs.Commands.{Definitions, definitions}
 use Rattle.cg_vcd.specs.Dumped.{dump_lines, dump_text}
 use Rattle.cg_vcd.specs.Identifiers.{id_of}
-use Rattle.cg_vcd.specs.ReadBack.{HasNoEnd, IsSaidOf}
+use Rattle.cg_vcd.specs.ReadBack.{NothingIsNamedEnd, IsSaidOf}
 use Rattle.cg_vcd.specs.Rows.{rows_told}
 use Rattle.cg_vcd.specs.Variables.{Declared, nothing_declared, wire_of}
 use Rattle.cg_vcd.specs.VcdFaults.{◌>>=◌}
 use Rattle.cg_vcd.specs.VcdText.{clock_name, rows_behind, vcd_rows, wire}
 use Rattle.cg_vcd.specs.VcdWords.{is_end, layout, vcd_words}
 use Rattle.cg_vcd.specs.inner.Sampled.{PlayedBits}
-use Rattle.cg_vcd.proofs.DumpLines.{alone, dump_lines_read, dump_text_of, dump_words}
+use Rattle.cg_vcd.proofs.DumpLines.{alone, dump_lines_read, dump_text_of, dump_words, ending_words, nets_words, scope_words, upscope_words}
 use Rattle.cg_vcd.proofs.HeaderRead.{Declares, header_read, ids_apart}
 use Rattle.cg_vcd.proofs.MomentsTold.{all_told, lined_alone}
 use Rattle.cg_vcd.proofs.PlayedBack.{played_bits}
@@ -68,6 +69,13 @@ shown_few c before (tick ∷ wave) (now ∷ history) = let later : length (shown
 wave_long : (width : ℕ) (before : List Bool) (rows : List (List Bool)) → length (wave_from width before rows) ≡ 2 * length rows + 1
 wave_long width before [] = refl
 wave_long width before (row ∷ rows) = let later : length (wave_from width row rows) ≡ 2 * length rows + 1 = wave_long width row rows in omega arith
+
+moments_few : (c : Circuit) (stimulus : Rows) → IsStimulus stimulus → (history : List Moment) → length (played_moments c stimulus.rows history) < 2 ^ 64
+moments_few c stimulus is history =
+    let shown : length (played_moments c stimulus.rows history) ≤ length (played_wave c stimulus.rows) = shown_few c None (played_wave c stimulus.rows) history in
+    let long : length (played_wave c stimulus.rows) ≡ 2 * length stimulus.rows + 1 = wave_long (length (data_inputs c)) [] stimulus.rows in
+    let few : length stimulus.rows ≤ MOST_ROWS = is.few in
+    omega arith
 
 -- the nets of the first of some names
 
@@ -147,7 +155,7 @@ wires_so ids end ins wires clock wire ws vs ins_are clock_is words =
     ap (λ x. rows_told x wire (told ids (x ++ wire ∷ []) end Free None ws)) ins_are
     ∙ (ap (λ x. rows_told ins x (told ids (ins ++ x ∷ []) end Free None ws)) clock_is ∙ ap (λ x. rows_told ins clock (told ids (ins ++ clock ∷ []) end Free None x)) words)
 
-module _ (c : Circuit) (stimulus : Rows) (good : IsNetlist c) (no_end : HasNoEnd c) (is_for : IsFor c stimulus) (is : IsStimulus stimulus) where
+module _ (c : Circuit) (stimulus : Rows) (good : IsNetlist c) (no_end : NothingIsNamedEnd c) (is_for : IsFor c stimulus) (is : IsStimulus stimulus) where
   abbrev front : FrontNets c.names (data_inputs c) stimulus.inputs
   front = front_nets c.names (data_inputs c) stimulus.inputs is_for.0 is_for.1
 
@@ -227,15 +235,36 @@ module _ (c : Circuit) (stimulus : Rows) (good : IsNetlist c) (no_end : HasNoEnd
       let bits : PlayedBits ins clock stimulus.rows (map (λ m. m.nets) moments) =
       subst (PlayedBits ins clock stimulus.rows) (sym (nets_shown c (played_start c) None wave history played))
       (played_bits c (played_start c) clock is_clock ins front.extra front.split all_within (length (data_inputs c)) None [] stimulus.rows history (rows_wide stimulus.rows is.wide) played) in
-      let shown : length moments ≤ length wave = shown_few c None wave history in
-      let long : length wave ≡ 2 * length stimulus.rows + 1 = wave_long (length (data_inputs c)) [] stimulus.rows in
-      let few : length stimulus.rows ≤ MOST_ROWS = is.few in
-      text_read clock is_clock (end_line (dump_text c moments ++ 10 ∷ [])) moments bits (shown_long c (played_start c) None wave history played) (omega arith)
+      text_read clock is_clock (end_line (dump_text c moments ++ 10 ∷ [])) moments bits (shown_long c (played_start c) None wave history played) (moments_few c stimulus is history)
+
+-- only the lines of a text matter
+rows_by_lines : (inputs : List (List ℕ)) (clock : List ℕ) (text other : List ℕ) → lines text ≡ lines other → vcd_rows inputs (Some clock) text ≡ vcd_rows inputs (Some clock) other
+rows_by_lines inputs clock text other same =
+    ap (λ ls. ◌>>=◌ {B = List (List Bool)} (definitions (inputs ++ clock ∷ []) (1 + length ls) nothing_declared [] (spots_of (kept_lines layout 1 ls))) (rows_behind inputs clock (1 + length ls))) same
+
+-- the end of the last line is not needed
+lines_ended : (c : Circuit) (moments : List Shown) → IsNetlist c → length moments < 2 ^ 64 → lines (dump_text c moments) ≡ lines (dump_text c moments ++ 10 ∷ [])
+lines_ended c moments good few =
+    let named = recursion_from_All (λ name. is_name name ≡ true) c.names good.well_formed.names in
+    let whole : dump_text c moments ++ 10 ∷ [] ≡ text_of (dump_words c moments) = dump_text_of c moments in
+    let open_so : dump_text c moments ≡ open_text (dump_words c moments) = append_cancel_right (dump_text c moments) (open_text (dump_words c moments)) (10 ∷ [])
+    (whole ∙ text_of-open (scope_words c.model) (nets_words 0 c.names ++ upscope_words ∷ ending_words ∷ alone (dump_lines 0 None moments))) in
+    ap lines open_so ∙ (lines-open layout (dump_words c moments) (dump_lines_read c moments good.well_formed.model named few) ∙ ap lines (sym whole))
 
 -- the rows that are read of a text that was said of a stimulus are those of the stimulus
 pub read_back : (reader : Circuit) (stimulus : Rows) (text : List ℕ) → IsSaidOf reader stimulus text → vcd_rows (input_names reader) (clock_name reader) text ≡ Ok stimulus.rows
 read_back reader stimulus text of =
     ap (λ names. vcd_rows names (clock_name reader) text) of.same_inputs
-    ∙ (ap (λ name. vcd_rows stimulus.inputs name text) of.same_clock
-    ∙ (ap (vcd_rows stimulus.inputs (Some (net_name of.played.names of.clock))) of.said
-    ∙ text_rows of.played stimulus of.netlist of.no_end of.is_for of.is_stimulus of.clock of.history of.clocked of.is_played))
+    ∙ (ap (λ name. vcd_rows stimulus.inputs name text) of.same_clock ∙ (ended ∙ text_rows of.played stimulus of.netlist of.no_end of.is_for of.is_stimulus of.clock of.history of.clocked of.is_played))
+  where
+    ended : vcd_rows stimulus.inputs (Some (net_name of.played.names of.clock)) text
+        ≡ vcd_rows stimulus.inputs (Some (net_name of.played.names of.clock)) (dump_text of.played (played_moments of.played stimulus.rows of.history) ++ 10 ∷ [])
+    ended = elim of.is_ending [
+      | inl none ↦
+          ap (vcd_rows stimulus.inputs (Some (net_name of.played.names of.clock))) (of.said ∙ (ap (λ x. dump_text of.played (played_moments of.played stimulus.rows of.history) ++ x) none ∙ append-nil (dump_text of.played (played_moments of.played stimulus.rows of.history))))
+          ∙ rows_by_lines stimulus.inputs (net_name of.played.names of.clock) (dump_text of.played (played_moments of.played stimulus.rows of.history))
+            (dump_text of.played (played_moments of.played stimulus.rows of.history) ++ 10 ∷ [])
+            (lines_ended of.played (played_moments of.played stimulus.rows of.history) of.netlist (moments_few of.played stimulus of.is_stimulus of.history))
+      | inr feed ↦
+          ap (vcd_rows stimulus.inputs (Some (net_name of.played.names of.clock))) (of.said ∙ ap (λ x. dump_text of.played (played_moments of.played stimulus.rows of.history) ++ x) feed)
+    ]

@@ -99,7 +99,7 @@ module _ (d : Values) (bits : List Bool) (fit : IsFit d bits) where
           record { keeps = keeps_then d.ops t.domain r.domain (lay d (filter (λ cell. test cell.output) cells) u).domain g.keeps l.keeps; holds = l.holds }
 
   -- E
-  literal_has : (s : Seen) (nets : ℕ → ℕ) (value : ℕ → Bool) (l : Literal) → Has d.ops bits s (nets l.0) (value l.0) → Has d.ops bits s (literal_of d nets l) (literal_bit value l)
+  pub literal_has : (s : Seen) (nets : ℕ → ℕ) (value : ℕ → Bool) (l : Literal) → Has d.ops bits s (nets l.0) (value l.0) → Has d.ops bits s (literal_of d nets l) (literal_bit value l)
   literal_has s nets value (y, inverted) h = go inverted
     where
       go : (b : Bool) → Has d.ops bits s (if b then d.inverse (nets y) else nets y) (if b then not (value y) else value y)

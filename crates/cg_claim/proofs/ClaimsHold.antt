@@ -18,7 +18,7 @@ use Rattle.cg_claim.specs.Violates.{Free, IsFree, part_bit, violates}
 use Rattle.cg_claim.specs.inner.Never.{IsNeverViolated}
 use Rattle.std.proofs.Math.Bool.{or-false}
 
-no_clash : (E a b : Bool) → (E ≡ false → a ≡ b) → (not E && exclusive_or a b) ≡ false
+pub no_clash : (E a b : Bool) → (E ≡ false → a ≡ b) → (not E && exclusive_or a b) ≡ false
 no_clash true a b same = refl
 no_clash false a b same = go a b (same refl)
   where
@@ -28,7 +28,7 @@ no_clash false a b same = go a b (same refl)
     go false true e = cc
     go false false e = refl
 
-from_clash : (E a b : Bool) → (not E && exclusive_or a b) ≡ false → E ≡ false → a ≡ b
+pub from_clash : (E a b : Bool) → (not E && exclusive_or a b) ≡ false → E ≡ false → a ≡ b
 from_clash true a b none idle = absurd (both_ways true idle refl)
 from_clash false true true none idle = refl
 from_clash false true false none idle = absurd (both_ways true none refl)

@@ -50,7 +50,7 @@ pub record CopiesHold (o : Ops) (bits : List Bool) (m : MachineData) (q : Questi
 
 module _ (d : Values) (bits : List Bool) (fit : IsFit d bits) (m : MachineData) (good : IsMachine m) where
   -- one copy
-  copy_holds : (roots : List ℕ) (u : Seen) (input states : ℕ → ℕ) (st xs : List Bool) → IsState m st → IsInputs m xs → IsTrue (d.ops.is_sound u)
+  pub copy_holds : (roots : List ℕ) (u : Seen) (input states : ℕ → ℕ) (st xs : List Bool) → IsState m st → IsInputs m xs → IsTrue (d.ops.is_sound u)
       → ((y : ℕ) → IsTrue (d.ops.is_valid u (input y))) → ((r : ℕ) → IsTrue (d.ops.is_valid u (states r)))
       → ((y : ℕ) → is_in (data_inputs m.circuit) y ≡ true → is_in (cone_of (walk_of m) roots) y ≡ true → d.ops.bit u bits (input y) ≡ beside false (data_inputs m.circuit) xs y)
       → ((r : ℕ) → feeds m (cone_of (walk_of m) roots) r ≡ true → d.ops.bit u bits (states r) ≡ bit st r)

@@ -39,7 +39,7 @@ leaf_bits_at (suc n) [] (suc k) below = leaf_bits_at n [] k (omega arith)
 leaf_bits_at (suc n) (b ∷ bits) zero below = refl
 leaf_bits_at (suc n) (b ∷ bits) (suc k) below = leaf_bits_at n bits k (omega arith)
 
-leaf_lit : (n k : ℕ) (bits : List Bool) → k < n → Has aig_ops bits (leaf_list n) (2 * (k + 1)) (slice_index_or bits k false)
+pub leaf_lit : (n k : ℕ) (bits : List Bool) → k < n → Has aig_ops bits (leaf_list n) (2 * (k + 1)) (slice_index_or bits k false)
 leaf_lit n k bits below =
     let even : (2 * (k + 1)) % 2 ≡ 0 = omega arith in
     let half : (2 * (k + 1)) / 2 ≡ suc k = omega arith in

@@ -127,7 +127,7 @@ registers_among y (x ∷ ys) h = elim (or_cases (nat_eq y x) (is_in ys y) h) [
 ]
 
 module _ (m : MachineData) (q : Question) where
-  source_among : (source : LeafSource) → is_source m source ≡ true → list_any (same_source source) (sources m) ≡ true
+  pub source_among : (source : LeafSource) → is_source m source ≡ true → list_any (same_source source) (sources m) ≡ true
   source_among (InputOf y) is = source_left (InputOf y) (map InputOf (data_inputs m.circuit)) (map RegisterOf (registers_of m)) (inputs_among y (data_inputs m.circuit) is)
   source_among (RegisterOf r) is =
       let zero_r : 0 + r ≡ r = omega arith in

@@ -1,6 +1,6 @@
 -- What a question reaches: registers that are there, all that its sides ask for, its joined enable, and what the states
 -- after the first cycle come from.
-use Rattle.std.proofs.Common.{◌≡◌, ℕ, ◌+◌, ◌<◌, Bool, true, false, not, ◌&&◌, ◌||◌, if◌then◌else◌, List, []}
+use Rattle.std.proofs.Common.{◌≡◌, ℕ, ◌<◌, Bool, true, false, not, ◌&&◌, ◌||◌, if◌then◌else◌, List, []}
 use Rattle.std.proofs.Common.{◌++◌, length, nat_eq, slice_get, Option, None, Some, refl, sym, subst, arith, ◌⊎◌, inl, inr}
 use Rattle.std.specs.List.{filter, flat_map, list_any}
 use Rattle.std.specs.Option.{option_map_or}

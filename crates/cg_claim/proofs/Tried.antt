@@ -38,7 +38,7 @@ all_mapped : {T U : Type 0} (test : U → Bool) (f : T → U) (xs : List T) → 
 all_mapped test f [] = refl
 all_mapped test f (x ∷ xs) = ap (λ b. test (f x) && b) (all_mapped test f xs)
 
-all_bits_pass : (n : ℕ) (test : List Bool → Bool) → list_all test (all_bits n) ≡ true → (bits : List Bool) → length bits ≡ n → test bits ≡ true
+pub all_bits_pass : (n : ℕ) (test : List Bool → Bool) → list_all test (all_bits n) ≡ true → (bits : List Bool) → length bits ≡ n → test bits ≡ true
 all_bits_pass zero test all [] long = head (test []) all
   where
     head : (b : Bool) → (b && true) ≡ true → b ≡ true
@@ -53,7 +53,7 @@ all_bits_pass (suc n) test all (true ∷ bits) long =
     let parts = all_parts test (map (λ bs. false ∷ bs) (all_bits n)) (map (λ bs. true ∷ bs) (all_bits n)) all in
     all_bits_pass n (λ bs. test (true ∷ bs)) (sym (all_mapped test (λ bs. true ∷ bs) (all_bits n)) ∙ parts.1) bits (omega (arith, long))
 
-pass_all_bits : (n : ℕ) (test : List Bool → Bool) → ((bits : List Bool) → length bits ≡ n → test bits ≡ true) → list_all test (all_bits n) ≡ true
+pub pass_all_bits : (n : ℕ) (test : List Bool → Bool) → ((bits : List Bool) → length bits ≡ n → test bits ≡ true) → list_all test (all_bits n) ≡ true
 pass_all_bits zero test each = ap (λ b. b && true) (each [] refl)
 pass_all_bits (suc n) test each =
     all_join test (map (λ bs. false ∷ bs) (all_bits n)) (map (λ bs. true ∷ bs) (all_bits n))

@@ -26,7 +26,7 @@ use Rattle.cg_machine.specs.Gates.{and_cover}
 use Rattle.cg_machine.specs.Machine.{IsInputs, IsMachine, IsNet, IsState, MachineData, load, values}
 use Rattle.cg_machine.specs.Start.{machine_of}
 use Rattle.cg_machine.proofs.Bits.{same_bit}
-use Rattle.cg_machine.proofs.Extended.{extends_self, extends_then}
+use Rattle.cg_machine.proofs.Extended.{extends_self, extends_then, net_kept}
 use Rattle.cg_machine.proofs.Lists.{in_one}
 use Rattle.cg_machine.proofs.Settled.{settled}
 use Rattle.cg_machine.proofs.There.{gate_there}
@@ -36,6 +36,7 @@ use Rattle.cg_extract.proofs.Kept.{clock_kept, same_number, used_kept}
 use Rattle.cg_extract.specs.Lifted.{CanExtract, Lifting, bare, by_depth, chained, enable_under, lift_each, lift_one, lifting}
 use Rattle.cg_extract.specs.Lifted.{number_of, unlifted, with_entry}
 use Rattle.cg_machine.proofs.FewValues.{values_two}
+use Rattle.cg_machine.proofs.GateValues.{and_value}
 
 -- the nets beside which enables stand
 abbrev pub taken : List (ℕ × ℕ) → List ℕ
@@ -52,20 +53,11 @@ taken_found (entry ∷ entries) net among = go (nat_eq net entry.0) refl (or_cas
       | inr later ↦ let found = rest later in (found.0, ap (λ b. cond b (Some entry.1) (enable_under entries net)) is ∙ found.1)
     ]
 
-pub and_value : (a b : Bool) → cover_value and_cover (a ∷ b ∷ []) ≡ (a && b)
-and_value true true = refl
-and_value true false = refl
-and_value false true = refl
-and_value false false = refl
-
 -- nets of a machine show in a machine with more gates what they show in it
 pub same_front : (m n : MachineData) → Extends m n → length n.circuit.registers ≡ length m.circuit.registers → (s x : List Bool) → IsState n s → IsInputs n x → (y : ℕ) → y < length m.circuit.names → bit (values n s x) y ≡ bit (values m s x) y
 same_front m n e count s x long ins y below =
     same_bit (values n s x) (values m s x) y (e.fronts s x long (ins ∙ ap length e.inputs) y below
     ∙ ap (λ t. slice_get (values m t x) y) (take_all (length m.circuit.registers) s (omega (arith, long, count))))
-
-pub net_kept : (m n : MachineData) → Extends m n → (y : ℕ) → IsNet m y → IsNet n y
-net_kept m n e y net = record { below = omega (arith, net.below, e.names); apart = λ clk. net.apart (sym e.clock ∙ clk) }
 
 module _ (c : Circuit) where
   -- what stands in an entry, before which others were taken

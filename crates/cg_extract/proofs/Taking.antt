@@ -21,6 +21,7 @@ use Rattle.cg_net.proofs.TableLemmas.{slice_get-set_other, slice_get-set_same, t
 use Rattle.cg_netlist.proofs.Used.{asked_is_used}
 use Rattle.cg_netlist.proofs.Values.{element_at, values_at-append}
 use Rattle.cg_netlist.proofs.Walks.{drop_at}
+use Rattle.cg_machine.proofs.Extended.{net_kept}
 use Rattle.cg_machine.proofs.Started.{none_anywhere}
 use Rattle.cg_machine.specs.Added.{Added, find_gate, or_push, push_gate}
 use Rattle.cg_cell.specs.declared.fit.FitKind.TheVariants.{And2}
@@ -32,7 +33,7 @@ use Rattle.cg_extract.proofs.Bare.{bare_long}
 use Rattle.cg_extract.proofs.Depths.{Ready, depths_few, ready}
 use Rattle.cg_extract.proofs.Kept.{used_kept}
 use Rattle.cg_extract.proofs.LiftedMachine.{start_count}
-use Rattle.cg_extract.proofs.Lifts.{Lifts, enable_is_net, enable_net, net_kept, one_lifts, start, start_lifts, taken}
+use Rattle.cg_extract.proofs.Lifts.{Lifts, enable_is_net, enable_net, one_lifts, start, start_lifts, taken}
 use Rattle.cg_extract.specs.Lifted.{CanExtract, Lifting, bare, by_depth, chained, enable_under, kept_nets, lift_each, lift_one}
 use Rattle.cg_extract.specs.Lifted.{lifting, number_of, unlifted}
 use Rattle.cg_extract.specs.inner.Taking.{CanTake, IsEnableTable, IsSoFar, IsTaken, entry_at, given, table_enables, taken_into}

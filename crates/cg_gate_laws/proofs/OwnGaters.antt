@@ -15,7 +15,7 @@ use Rattle.cg_cell.specs.declared.fit.FitKind.TheVariants.{And2, Gater}
 use Rattle.cg_netlist.specs.Circuit.{Circuit, GatingCell}
 use Rattle.cg_netlist_parts.specs.Writable.{IsOf}
 use Rattle.cg_insert.proofs.GatedCells.{some_pass}
-use Rattle.cg_plan_laws.specs.Cells.{HasCell}
+use Rattle.cg_stage_laws.specs.Cells.{HasCell}
 use Rattle.cg_stage_laws.specs.Needs.{gater_kind}
 use Rattle.cg_extract.specs.Lifted.{HasNoTests, first_refused, is_refused}
 use Rattle.cg_extract.proofs.ForGating.{unrefused_untested}

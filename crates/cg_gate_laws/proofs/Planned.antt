@@ -11,7 +11,7 @@ use Rattle.cg_machine.specs.Machine.{IsMachine, MachineData}
 use Rattle.cg_insert.specs.Insert.{collect, gating_kind}
 use Rattle.cg_insert.proofs.Inserted.{insertion_is_formed}
 use Rattle.cg_stage_laws.specs.Needs.{gater_kind}
-use Rattle.cg_plan_laws.specs.Cells.{HasCell, HasCells}
+use Rattle.cg_stage_laws.specs.Cells.{HasCell, HasCells}
 use Rattle.cg_plan_laws.proofs.AllSafe.{has_cells, plans_safe}
 use Rattle.cg_extract.proofs.LiftedMachine.{lifted_is_machine}
 use Rattle.cg_extract.specs.Laws.{AsksFor}

@@ -1,5 +1,5 @@
-//! Laws of `gate`, from a netlist to its gated netlist: the plan's machine written with gating cells shows what the netlist
-//! shows. There is no code here but the two calls whose contracts are these laws.
+//! Definitions and laws of gated netlists, which the contracts of `gate` cite: the plan's machine written with gating cells
+//! shows what the netlist shows. There is no code here but the two calls whose contracts are these laws.
 //!
 //! Gating cells that the netlist has already are lifted to enables before the plan begins. A plan for gating cells with a test
 //! input changes no output, whatever the test input does.

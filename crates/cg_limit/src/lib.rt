@@ -1,4 +1,5 @@
-//! The limits of what is read and built, each with its number, and what every refusal has in common.
+//! The limits of what is read and built, a crate of its own since every reader and every builder refuses by them: each with its
+//! number, and what every refusal has in common.
 //!
 //! A text or a circuit at a limit is taken; one past it is refused with the [`Limit`] that it passes. The pins of a cell alone
 //! have a limit that nothing is refused for: [`MOST_PINS`].

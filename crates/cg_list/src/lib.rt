@@ -1,4 +1,4 @@
-//! A list of parts that contracts see as a list.
+//! A list of parts that contracts see as a list, a crate of its own since every layer from texts to plans holds its parts in it.
 //!
 //! Plain public data, as the clauses of a formula or the lines of a report, is held in a [`Seq`]. A clause of
 //! a contract then compares the data with a definition's value by plain equality: the struct that holds a

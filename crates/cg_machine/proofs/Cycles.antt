@@ -1,6 +1,6 @@
 -- What is put at the nets of a machine, one part after another, are the bits of its nets in a cycle.
-use Rattle.std.proofs.Common.{◌≡◌, ℕ, zero, suc, ◌+◌, ◌-◌, ◌<◌, ◌≤◌, Bool, true, false, not, if◌then◌else◌, max, List, [], ◌∷◌}
-use Rattle.std.proofs.Common.{◌++◌, drop, get_or, length, map, slice_get, take, Option, None, Some, unwrap_or, refl, ap, sym, ◌∙◌}
+use Rattle.std.proofs.Common.{◌≡◌, ℕ, suc, ◌+◌, ◌-◌, ◌<◌, ◌≤◌, Bool, true, false, not, if◌then◌else◌, max, List, [], ◌∷◌}
+use Rattle.std.proofs.Common.{◌++◌, drop, get_or, length, map, slice_get, Option, None, Some, refl, ap, sym, ◌∙◌}
 use Rattle.std.proofs.Common.{subst, arith, append_assoc, length-append}
 use Rattle.std.specs.List.{All, cons_option, flat_map, range_with_len}
 use Rattle.std.specs.Option.{option_flatten, option_to_list}
@@ -8,7 +8,7 @@ use Rattle.std.proofs.Math.Seq.{take-append_seam}
 use Rattle.std.proofs.lemmas.List.{append-nil, length-map}
 use Rattle.std.proofs.lemmas.List.Elements.{All-get_or}
 use Rattle.std.proofs.lemmas.Option.{get_or_from_slice_get, slice_get-get_or, slice_get_within, unwrap_or-slice_get}
-use Rattle.cg_netlist.specs.Circuit.{Circuit, GatingCell, LogicCell, RegisterCell, data_inputs, gate_nets, given_nets}
+use Rattle.cg_netlist.specs.Circuit.{Circuit, GatingCell, LogicCell, RegisterCell, data_inputs, given_nets}
 use Rattle.cg_net.specs.NetSets.{is_in}
 use Rattle.cg_netlist.specs.Circuit.{register_nets, shown_nets, used_nets}
 use Rattle.cg_netlist.specs.History.{next_value}
@@ -17,19 +17,18 @@ use Rattle.cg_netlist.specs.Netlist.{widest_of}
 use Rattle.cg_netlist.specs.Nets.{put_cells, walk_order, walked}
 use Rattle.cg_netlist.proofs.CellFits.{walk_within}
 use Rattle.cg_netlist.proofs.DriverTable.{cell_net_within}
-use Rattle.cg_netlist.proofs.Given.{clock_given, driver_within, given_driver, given_within}
+use Rattle.cg_netlist.proofs.Given.{driver_within, given_driver, given_within}
 use Rattle.cg_net.proofs.Members.{All-member, is_in_left, is_in_right, member_at}
 use Rattle.cg_netlist.proofs.RegisterNext.{register_inputs_within}
 use Rattle.cg_netlist.proofs.Used.{input_is_used}
-use Rattle.cg_netlist.proofs.Values.{at_map, value_at, values_at-append}
+use Rattle.cg_netlist.proofs.Values.{at_map, values_at-append}
 use Rattle.cg_netlist.proofs.WalkLawsHold.{walk_leaves_moment}
 use Rattle.cg_machine.specs.Gates.{AddedGate, gate_cell}
-use Rattle.cg_machine.specs.Machine.{IsDelay, IsInputs, IsMachine, IsState, MachineData, delay_cell, enable_of, load, next, next_of}
+use Rattle.cg_machine.specs.Machine.{IsInputs, IsMachine, IsState, MachineData, delay_cell, enable_of, load, next, next_of}
 use Rattle.cg_machine.specs.Machine.{values, walk_of}
-use Rattle.cg_machine.specs.inner.Kept.{delay_of, grown, kept}
+use Rattle.cg_machine.specs.inner.Kept.{delay_of, kept}
 use Rattle.cg_machine.specs.inner.Putting.{put_bits}
-use Rattle.cg_machine.proofs.Lists.{get_front}
-use Rattle.cg_machine.proofs.PutBits.{length-put_bits, length-put_cells, put_bits-append, put_cells-append, put_shows}
+use Rattle.cg_machine.proofs.PutBits.{length-put_bits, put_bits-append, put_cells-append, put_shows}
 use Rattle.cg_machine.proofs.PutBits.{values_at_back, values_at_front, widest_of-append}
 use Rattle.cg_machine.proofs.Settled.{settled}
 

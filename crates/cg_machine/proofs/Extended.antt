@@ -14,7 +14,7 @@ use Rattle.cg_netlist.proofs.Used.{data_is_used, output_is_used}
 use Rattle.cg_netlist.proofs.Values.{same_places, same_values}
 use Rattle.cg_machine.specs.Claims.{EqualOutside, Follows, Hold, Joined, Literal, Next, Shown, Stable, Target, Unseen, any_at}
 use Rattle.cg_machine.specs.Claims.{literal_bit, target_bit}
-use Rattle.cg_machine.specs.Machine.{IsInputs, IsMachine, IsState, MachineData, enable_of, load, next, next_of, outputs_at, step}
+use Rattle.cg_machine.specs.Machine.{IsInputs, IsMachine, IsNet, IsState, MachineData, enable_of, load, next, next_of, outputs_at, step}
 use Rattle.cg_machine.specs.Machine.{values}
 use Rattle.cg_machine.proofs.Bits.{each_get, length-each, same_bit}
 use Rattle.cg_machine.specs.Extends.{Extends, old}
@@ -34,6 +34,10 @@ extends_self m = record {
   enables = λ r below. refl;
   fronts = λ t x long ins y below. ap (λ s. slice_get (values m s x) y) (sym (take_all (length m.circuit.registers) t (omega (arith, long))));
 }
+
+-- a net stays one
+pub net_kept : (m n : MachineData) → Extends m n → (y : ℕ) → IsNet m y → IsNet n y
+net_kept m n e y is = record { below = omega (arith, is.below, e.names); apart = λ clock. is.apart (sym e.clock ∙ clock) }
 
 module _ (m n : MachineData) (e : Extends m n) where
   pub old_long : (t : List Bool) → IsState n t → IsState m (old m t)

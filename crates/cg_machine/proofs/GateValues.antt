@@ -1,15 +1,27 @@
 -- The gates of a machine, one after another.
-use Rattle.std.proofs.Common.{◌≡◌, ℕ, zero, suc, ◌+◌, ◌<◌, ◌≤◌, Bool, true, false, not, ◌&&◌, ◌||◌, max, List, [], ◌∷◌, drop}
-use Rattle.std.proofs.Common.{get_or, length, map, set, slice_get, Some, refl, ap, sym, ◌∙◌, arith, add-one, drop-cons}
-use Rattle.std.specs.List.{All, cons_option}
+use Rattle.std.proofs.Common.{◌≡◌, ℕ, suc, ◌+◌, Bool, true, false, not, ◌&&◌, ◌||◌, max, List, [], ◌∷◌, drop}
+use Rattle.std.proofs.Common.{length, map, set, slice_get, Some, refl, ap, sym, ◌∙◌, add-one, drop-cons}
 use Rattle.std.proofs.lemmas.Option.{get_or_from_slice_get, slice_get_within}
 use Rattle.cg_cell.specs.Cover.{cover_value}
-use Rattle.cg_cell.specs.declared.fit.FitKind.{FitKind}
-use Rattle.cg_cell.specs.declared.fit.FitKind.TheVariants.{Inv, And2, Or2}
 use Rattle.cg_netlist.specs.Moment.{values_at}
 use Rattle.cg_netlist.specs.Netlist.{widest_of}
 use Rattle.cg_netlist.specs.Nets.{put_cells}
-use Rattle.cg_machine.specs.Gates.{AddedGate, HasInputs, and_cover, gate_cell, gate_cover, inverter_cover, or_cover}
+use Rattle.cg_machine.specs.Gates.{AddedGate, and_cover, gate_cell, gate_cover, inverter_cover, or_cover}
+
+-- what a gate of each kind shows
+pub inverter_value : (b : Bool) → cover_value inverter_cover (b ∷ []) ≡ not b
+inverter_value true = refl
+inverter_value false = refl
+
+pub and_value : (a b : Bool) → cover_value and_cover (a ∷ b ∷ []) ≡ (a && b)
+and_value true true = refl
+and_value true false = refl
+and_value false b = refl
+
+pub or_value : (a b : Bool) → cover_value or_cover (a ∷ b ∷ []) ≡ (a || b)
+or_value true b = refl
+or_value false true = refl
+or_value false false = refl
 
 -- from a place on
 gates_drop : (gs : List AddedGate) (k : ℕ) (g : AddedGate) → slice_get gs k ≡ Some g → drop k gs ≡ g ∷ drop (k + 1) gs

@@ -13,6 +13,7 @@ pub mod Grown
 pub mod Keeping
 pub mod KeptMachines
 pub mod Lists
+pub mod OwnKept
 pub mod Pushed
 pub mod PutBits
 pub mod RunsOfNetlists

@@ -11,7 +11,6 @@ use Rattle.cg_net.specs.NetSets.{is_in}
 use Rattle.cg_netlist.specs.Moment.{function_value, register_bits, shown_bits, values_at}
 use Rattle.cg_netlist.specs.Netlist.{widest_of}
 use Rattle.cg_netlist.specs.Nets.{put_cells}
-use Rattle.cg_net.proofs.Members.{member_at}
 use Rattle.cg_net.proofs.TableLemmas.{slice_get-set_other, slice_get-set_same}
 use Rattle.cg_machine.specs.inner.Putting.{put_bits}
 use Rattle.cg_machine.proofs.Lists.{get_front}

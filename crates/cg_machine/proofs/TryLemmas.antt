@@ -3,7 +3,6 @@ use Rattle.std.proofs.Common.{◌≡◌, ◌⊎◌, ℕ, ◌+◌, ◌<◌, List,
 use Rattle.std.proofs.Common.{Ok, Err, refl, sym, ◌∙◌, ap, subst, inl, inr, arith}
 use Rattle.std.specs.Borrow.{Bor, MutBor}
 use Rattle.std.specs.List.{All}
-use Rattle.std.proofs.lemmas.Option.{same_Some}
 use Rattle.cg_netlist.specs.Circuit.{LogicCell, used_nets}
 use Rattle.cg_netlist.specs.Moment.{values_at}
 use Rattle.cg_netlist.specs.Netlist.{widest_of}
@@ -11,11 +10,8 @@ use Rattle.cg_netlist.proofs.CellFits.{widest_at}
 use Rattle.cg_netlist.proofs.DriverTable.{cell_net_within}
 use Rattle.cg_net.proofs.Members.{All-from_members, All-member}
 use Rattle.cg_netlist.proofs.Used.{input_is_used}
-use Rattle.cg_machine.specs.Gates.{AddedGate, gate_cell}
 use Rattle.cg_machine.specs.Machine.{IsMachine, MachineData}
-use Rattle.cg_machine.specs.Tries.{AnswersAtCell, TakesEach, Trial, TriesEach}
-use Rattle.cg_machine.proofs.Cycles.{get_back}
-use Rattle.cg_machine.proofs.Lists.{get_front}
+use Rattle.cg_machine.specs.Tries.{AnswersAtCell, Trial, TriesEach}
 
 -- an answer at references to these values
 pub answers_at_cell : {F S T E : Type 0} (g : Trial F S T E) (f : F) (s : S) (k : ℕ) (xs : List T) (answer : Result T E) (s' : S) {held : MutBor S} {shown : Bor (List T)} {left : MutBor S}

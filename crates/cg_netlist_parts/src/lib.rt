@@ -1,4 +1,5 @@
-//! What parts by the names of their nets say, and their faults.
+//! Definitions and laws of parts by the names of their nets, which the contracts of what builds, reads and writes netlists
+//! cite: what parts say, and their faults. There is no code here but those faults and the calls whose contracts are the laws.
 //!
 //! A part is an input, an output, a clock, a logic cell, a gating cell or a register. The definitions are functions and
 //! relations of lists of parts; the crate `cg_netlist_builder` is the code that hears parts and finds their faults.

@@ -6,7 +6,7 @@ use Rattle.cg_formula.specs.Bounds.{IsFormula}
 use Rattle.cg_lrat.specs.Bounds.{IsLog}
 use Rattle.cg_machine.specs.Machine.{IsMachine, MachineData}
 use Rattle.cg_machine.specs.Run.{Same}
-use Rattle.cg_plan_laws.specs.Cells.{HasCells}
+use Rattle.cg_stage_laws.specs.Cells.{HasCells}
 use Rattle.cg_plan_laws.specs.Told.{ToldPlan}
 use Rattle.cg_plan_laws.specs.declared.certificate.Certificate.{Certificate}
 use Rattle.cg_plan_laws.specs.declared.settings.Settings.{Settings}

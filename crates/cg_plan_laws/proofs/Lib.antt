@@ -1,6 +1,6 @@
-pub mod CellsThere
 pub mod Decided
 pub mod PlanSafe
+pub mod PlanKeeps
 pub mod Exactly
 pub mod AllSafe
 pub mod Examples

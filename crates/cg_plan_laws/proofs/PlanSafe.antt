@@ -25,9 +25,9 @@ use Rattle.cg_plan_laws.specs.declared.outcome.Outcome.TheVariants.{Inserted, Ne
 use Rattle.cg_plan_laws.specs.declared.settings.Settings.{Settings}
 use Rattle.cg_plan_laws.proofs.Decided.{inserted_claims, inserted_free}
 use Rattle.std.proofs.lemmas.Option.{none-some}
-use Rattle.cg_plan_laws.specs.Cells.{HasCells}
+use Rattle.cg_stage_laws.specs.Cells.{HasCells}
 use Rattle.cg_plan_laws.specs.Laws.{IsTurn}
-use Rattle.cg_plan_laws.proofs.CellsThere.{effect_there}
+use Rattle.cg_stage_laws.proofs.CellsThere.{effect_there}
 use Rattle.cg_plan_laws.proofs.Exactly.{inserted_exactly}
 use Rattle.cg_netlist.proofs.SearchSteps.{push_cases}
 

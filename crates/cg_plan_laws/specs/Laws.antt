@@ -16,7 +16,7 @@ use Rattle.cg_stage_laws.specs.Effects.{limit_by}
 use Rattle.cg_stage_laws.specs.Laws.{After}
 use Rattle.cg_stage_laws.specs.Needs.{missing, needs}
 use Rattle.cg_stage_laws.specs.Stages.{ClaimsHold, Fits}
-use Rattle.cg_plan_laws.specs.Cells.{HasCells}
+use Rattle.cg_stage_laws.specs.Cells.{HasCells}
 use Rattle.cg_plan_laws.specs.Plan.{Turn, plan_of}
 use Rattle.cg_plan_laws.specs.StageClaims.{NamedClaim, all_claims}
 use Rattle.cg_plan_laws.specs.Trying.{Ends, tried}

@@ -2,5 +2,4 @@ pub mod StageClaims
 pub mod Trying
 pub mod Plan
 pub mod Told
-pub mod Cells
 pub mod Laws

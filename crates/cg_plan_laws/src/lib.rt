@@ -1,4 +1,7 @@
-//! Plans: what comes of each stage that is tried, and which stages a plan inserts.
+//! Definitions and laws of plans, which the contracts of what makes, tells and writes plans cite. There is no code here but
+//! the call whose contract is the laws.
+//!
+//! A plan tells what comes of each stage that is tried, and which stages are inserted.
 //!
 //! The definitions are functions of a machine, a library and settings; the code that tries stages stands over them.
 //!

@@ -13,7 +13,7 @@ use Rattle.cg_machine.specs.Gates.{inverter_cover}
 use Rattle.cg_machine.specs.Machine.{IsInputs, IsMachine, IsNet, IsState, MachineData, enable_of, values}
 use Rattle.cg_machine.specs.declared.stage.Stage.{Stage}
 use Rattle.cg_machine.specs.declared.stage.StageKind.TheVariants.{Hold}
-use Rattle.cg_machine.proofs.Extended.{extends_same, extends_self, hold_kept}
+use Rattle.cg_machine.proofs.Extended.{extends_same, extends_self, hold_kept, net_kept}
 use Rattle.cg_machine.proofs.FewValues.{values_one}
 use Rattle.cg_machine.proofs.Settled.{wide}
 use Rattle.cg_machine.proofs.Simulation.{same_then}
@@ -23,7 +23,7 @@ use Rattle.cg_stage_laws.specs.Joined.{enabled}
 use Rattle.cg_stage_laws.specs.Laws.{After}
 use Rattle.cg_stage_laws.specs.Stages.{ClaimsHold, Fits, first_literal}
 use Rattle.cg_stage_laws.proofs.Fitting.{Keeps, after_of, below_old, enabled_good, given, had_old, regs_old, starts_long}
-use Rattle.cg_stage_laws.proofs.Joins.{inverter_value, net_kept}
+use Rattle.cg_machine.proofs.GateValues.{inverter_value}
 use Rattle.cg_stage_laws.proofs.HoldStage.{hold_same}
 
 -- what the net of a hold stage shows

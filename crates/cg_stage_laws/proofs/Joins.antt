@@ -1,5 +1,5 @@
 -- Nets joined from the left by or gates: the gates are there, and the joined net is 1 where one of the nets is.
-use Rattle.std.proofs.Common.{◌≡◌, ℕ, ◌<◌, Bool, true, false, not, ◌||◌, ◌&&◌, List, [], ◌∷◌, map, length, nat_eq, None, refl, sym}
+use Rattle.std.proofs.Common.{◌≡◌, ℕ, ◌<◌, Bool, true, false, ◌||◌, List, [], ◌∷◌, map, length, nat_eq, None, refl, sym}
 use Rattle.std.proofs.Common.{◌∙◌, ap, subst, arith, inl, inr}
 use Rattle.std.proofs.lemmas.Bool.{both_ways, eqb-true, eq-eqb, or_cases, or_left, or_right}
 use Rattle.cg_cell.specs.Cover.{cover_value}
@@ -9,31 +9,15 @@ use Rattle.cg_net.specs.NetSets.{is_in}
 use Rattle.cg_netlist.specs.Moment.{bit}
 use Rattle.cg_machine.specs.Added.{Added, add_gate, gate_limit}
 use Rattle.cg_machine.specs.Extends.{Extends, HasGate, old}
-use Rattle.cg_machine.specs.Gates.{and_cover, inverter_cover, or_cover}
+use Rattle.cg_machine.specs.Gates.{or_cover}
 use Rattle.cg_machine.specs.Machine.{IsInputs, IsMachine, IsNet, IsState, MachineData, values}
-use Rattle.cg_machine.proofs.Extended.{extends_self, extends_then, front_bit, old_inputs, old_long}
+use Rattle.cg_machine.proofs.Extended.{extends_self, extends_then, front_bit, net_kept, old_inputs, old_long}
 use Rattle.cg_machine.proofs.FewValues.{values_two}
+use Rattle.cg_machine.proofs.GateValues.{or_value}
 use Rattle.cg_machine.proofs.Settled.{wide}
 use Rattle.cg_machine.proofs.There.{first_none, gate_there, second_none}
 use Rattle.cg_stage_laws.specs.Joined.{join, join_limit}
 use Rattle.std.proofs.Math.Bool.{or_assoc}
-
-pub inverter_value : (b : Bool) → cover_value inverter_cover (b ∷ []) ≡ not b
-inverter_value true = refl
-inverter_value false = refl
-
-pub and_value : (a b : Bool) → cover_value and_cover (a ∷ b ∷ []) ≡ (a && b)
-and_value true true = refl
-and_value true false = refl
-and_value false b = refl
-
-pub or_value : (a b : Bool) → cover_value or_cover (a ∷ b ∷ []) ≡ (a || b)
-or_value true b = refl
-or_value false true = refl
-or_value false false = refl
-
-pub net_kept : (m n : MachineData) → Extends m n → (y : ℕ) → IsNet m y → IsNet n y
-net_kept m n e y is = record { below = omega (arith, is.below, e.names); apart = λ clock. is.apart (sym e.clock ∙ clock) }
 
 pub two_nets : (m : MachineData) (a b : ℕ) → IsNet m a → IsNet m b → (y : ℕ) → is_in (a ∷ b ∷ []) y ≡ true → IsNet m y
 two_nets m a b is it y among = elim (or_cases (nat_eq y a) (nat_eq y b || false) among) [

@@ -8,3 +8,5 @@ pub mod HoldSafe
 pub mod StableSafe
 pub mod UnseenSafe
 pub mod StageSafe
+pub mod CellsThere
+pub mod StageKeeps

@@ -21,7 +21,8 @@ use Rattle.cg_machine.specs.Machine.{IsInputs, IsMachine, IsNet, IsState, Machin
 use Rattle.cg_machine.specs.declared.stage.Stage.{Stage}
 use Rattle.cg_machine.specs.declared.stage.StageKind.TheVariants.{Stable}
 use Rattle.cg_machine.proofs.Extended.{any_old, extends_same, extends_self, extends_then, front_bit, old_bit, old_inputs, old_long}
-use Rattle.cg_machine.proofs.Extended.{stable_kept, step_old}
+use Rattle.cg_machine.proofs.Extended.{net_kept, stable_kept, step_old}
+use Rattle.cg_machine.proofs.GateValues.{and_value}
 use Rattle.cg_machine.proofs.FewValues.{values_two}
 use Rattle.cg_machine.proofs.Settled.{wide}
 use Rattle.cg_machine.proofs.Simulation.{same_then}
@@ -32,7 +33,7 @@ use Rattle.cg_stage_laws.specs.Laws.{After}
 use Rattle.cg_stage_laws.specs.Stages.{ClaimsHold, Fits, enable_nets, has_inverted}
 use Rattle.cg_stage_laws.proofs.Fitting.{Keeps, after_of, any_plain, below_old, enabled_good, given, had_old, ones_bit, regs_old}
 use Rattle.cg_stage_laws.proofs.Fitting.{starts_long}
-use Rattle.cg_stage_laws.proofs.Joins.{Joins, and_value, net_kept, two_nets}
+use Rattle.cg_stage_laws.proofs.Joins.{Joins, two_nets}
 use Rattle.cg_stage_laws.proofs.Enables.{joined_there}
 use Rattle.cg_stage_laws.proofs.StableStage.{stable_same}
 

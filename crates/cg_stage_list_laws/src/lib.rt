@@ -1,4 +1,7 @@
-//! Which stages are tried: the lists of hold, stability and unobservability stages of a machine.
+//! Definitions and laws of the lists of stages, which the contracts of what finds the stages cite. There is no code here but
+//! the call whose contract is the laws.
+//!
+//! The lists tell which stages are tried: the hold, stability and unobservability stages of a machine.
 //!
 //! The definitions are functions of a machine and of the stages that were tried before; the code that finds the stages stands
 //! above.

@@ -14,15 +14,8 @@ use crate::header::{Header, read_header};
 use crate::row::read_row;
 use crate::stimulus::Stimulus;
 use cg_netlist::netlist::Netlist;
-use cg_text::blanks::Blanks;
-use cg_text::lines::{Comments, Layout, Lines};
+use cg_text::lines::{BARE, Lines};
 use std::alloc::Global;
-
-/// How a stimulus text is cut into lines of words.
-const LAYOUT: Layout = Layout {
-    blanks: Blanks::Whitespace,
-    comments: Comments::FromHash,
-};
 
 /// Every net of a netlist has a name, and so has each data input.
 fn inputs_have_names(netlist: &Netlist)
@@ -59,7 +52,7 @@ fn read_text(alloc: Global, bytes: &[u8], netlist: &Netlist) -> Result<Stimulus,
 {
     inputs_have_names(netlist);
     let stimulus = Stimulus::new(alloc, netlist)?;
-    let mut lines = Lines::new(bytes, LAYOUT);
+    let mut lines = Lines::new(bytes, BARE);
     let Ok(first) = lines.next_line() else {
         return Err(StimulusFault::BadRow(0));
     };

@@ -29,6 +29,12 @@ pub struct Layout {
     pub comments: Comments,
 }
 
+/// Words between white space, and comments from a `#` to the end of its line, as in stimuli.
+pub const BARE: Layout = Layout {
+    blanks: Blanks::Whitespace,
+    comments: Comments::FromHash,
+};
+
 /// A line that has words.
 #[derive(Drop)]
 pub struct Line<'a> {

@@ -1,4 +1,4 @@
-use Rattle.std.proofs.Common.{◌≡◌, ℕ, List, length, ap, arith}
+use Rattle.std.proofs.Common.{length, ap, arith}
 use Rattle.cg_machine.specs.Gates.{AddedGate}
 use Rattle.cg_machine.proofs.GateValues.{gates_widest}
 use Rattle.cg_machine.proofs.gates.Gates.widest.Goals as goal

@@ -1,5 +1,5 @@
-use Rattle.std.proofs.Common.{◌≡◌, ◌≤◌, length, ap, sym, ◌∙◌, subst, arith}
-use Rattle.cg_machine.specs.Machine.{IsMachine, MachineData}
+use Rattle.std.proofs.Common.{length, ap, arith}
+use Rattle.cg_machine.specs.Machine.{MachineData}
 use Rattle.cg_machine.specs.inner.Kept.{kept}
 use Rattle.cg_machine.proofs.WalkPlaces.{few_cells, kept_cells}
 use Rattle.cg_machine.proofs.machine.Machine.cells.Goals as goal

@@ -1,12 +1,11 @@
-use Rattle.std.proofs.Common.{◌≡◌, ◌-◌, ◌<◌, ◌≤◌, ℕ, Bool, false, List, drop, length, length-drop, map, sym, ◌∙◌, ap, subst, arith}
+use Rattle.std.proofs.Common.{◌-◌, ◌<◌, ℕ, Bool, false, List, drop, length, length-drop, map, sym, ◌∙◌, ap, subst, arith}
 use Rattle.std.specs.List.{All}
 use Rattle.std.proofs.lemmas.List.{take_all}
 use Rattle.std.specs.Option.{option_to_list}
 use Rattle.cg_netlist.specs.Circuit.{data_inputs}
 use Rattle.cg_netlist.specs.Netlist.{widest_of}
 use Rattle.cg_machine.specs.inner.Putting.{put_bits}
-use Rattle.cg_machine.specs.Gates.{AddedGate}
-use Rattle.cg_machine.specs.Machine.{IsInputs, IsMachine, IsState, MachineData, values}
+use Rattle.cg_machine.specs.Machine.{MachineData, values}
 use Rattle.cg_machine.proofs.Cycles.{clock_below, delays_below, evaluated, gate_inputs_below, gate_outputs_below, inputs_below}
 use Rattle.cg_machine.proofs.Cycles.{widest_kept}
 use Rattle.cg_machine.proofs.machine.Machine.evaluate.Goals as goal

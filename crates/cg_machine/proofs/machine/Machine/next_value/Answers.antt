@@ -1,4 +1,4 @@
-use Rattle.std.proofs.Common.{◌≡◌, ◌<◌, ◌≤◌, ℕ, Bool, false, List, Some, get_or, length, map, slice_get, unwrap_or, refl, sym, ◌∙◌}
+use Rattle.std.proofs.Common.{◌≡◌, ◌<◌, ◌≤◌, ℕ, false, List, Some, get_or, length, map, slice_get, unwrap_or, refl, sym, ◌∙◌}
 use Rattle.std.proofs.Common.{ap, subst, arith}
 use Rattle.std.proofs.lemmas.Bool.{leb-false, leb-true}
 use Rattle.cg_netlist.specs.Circuit.{RegisterCell}
@@ -7,7 +7,7 @@ use Rattle.cg_netlist.specs.Moment.{values_at}
 use Rattle.cg_netlist.proofs.Values.{element_at}
 use Rattle.cg_machine.specs.inner.Kept.{delay_of}
 use Rattle.cg_machine.proofs.Lists.{get_front}
-use Rattle.cg_machine.specs.Machine.{MachineData, delay_cell, next}
+use Rattle.cg_machine.specs.Machine.{MachineData, delay_cell}
 use Rattle.cg_machine.proofs.Cycles.{delay_net_below, delay_next, loaded_next}
 use Rattle.cg_machine.proofs.machine.Machine.next_value.Goals as goal
 

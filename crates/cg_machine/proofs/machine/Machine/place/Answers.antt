@@ -1,4 +1,4 @@
-use Rattle.std.proofs.Common.{◌≡◌, ◌+◌, ◌-◌, ◌<◌, ◌≤◌, ℕ, List, Some, length, slice_get, take, refl, sym, ◌∙◌, ap, subst, arith}
+use Rattle.std.proofs.Common.{◌≡◌, ℕ, List, length, slice_get, take, sym, ◌∙◌, ap, arith}
 use Rattle.cg_netlist.specs.Circuit.{Circuit, LogicCell}
 use Rattle.cg_netlist.specs.Nets.{walk_order}
 use Rattle.cg_machine.specs.Machine.{MachineData}

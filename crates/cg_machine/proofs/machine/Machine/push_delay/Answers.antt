@@ -1,5 +1,5 @@
-use Rattle.std.proofs.Common.{◌+◌, length, ap, ◌∙◌, arith}
-use Rattle.cg_machine.proofs.KeptMachines.{delay_after, delay_view_after, not_there, same_table}
+use Rattle.std.proofs.Common.{◌+◌, ◌∙◌, arith}
+use Rattle.cg_machine.proofs.KeptMachines.{delay_after, delay_view_after, not_there}
 use Rattle.cg_machine.proofs.machine.Machine.push_delay.Goals as goal
 
 pub push-pushed-requires : goal.push-pushed-requires

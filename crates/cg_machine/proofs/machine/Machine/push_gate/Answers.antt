@@ -1,5 +1,5 @@
-use Rattle.std.proofs.Common.{◌+◌, length, ap, ◌∙◌, arith}
-use Rattle.cg_machine.proofs.KeptMachines.{gate_after, gate_view_after, same_table}
+use Rattle.std.proofs.Common.{◌+◌, ◌∙◌, arith}
+use Rattle.cg_machine.proofs.KeptMachines.{gate_after, gate_view_after}
 use Rattle.cg_machine.proofs.machine.Machine.push_gate.Goals as goal
 
 pub invariant_of-self-2 : goal.invariant_of-self-2

@@ -1,17 +1,14 @@
-use Rattle.std.proofs.Common.{◌≡◌, ◌<◌, ◌≤◌, ℕ, List, ◌∷◌, ◌+◌, Ok, Err, Some, drop, length, slice_get, slice_set, refl, sym, ◌∙◌}
+use Rattle.std.proofs.Common.{◌≡◌, ◌<◌, ℕ, List, ◌∷◌, ◌+◌, Ok, Err, Some, drop, length, slice_get, slice_set, refl, sym, ◌∙◌}
 use Rattle.std.proofs.Common.{ap, subst, arith}
 use Rattle.std.specs.List.{All}
 use Rattle.std.proofs.lemmas.List.{drop_all, length-take}
-use Rattle.std.proofs.lemmas.List.Elements.{All-get_or}
 use Rattle.std.proofs.lemmas.Option.{slice_get_read}
-use Rattle.cg_netlist.specs.Circuit.{LogicCell}
 use Rattle.cg_netlist.specs.Moment.{values_at}
-use Rattle.cg_netlist.proofs.Values.{element_at}
 use Rattle.cg_netlist.proofs.Walks.{drop_at}
 use Rattle.std.proofs.lemmas.Result.{err_from_is_err_and}
 use Rattle.cg_machine.specs.Machine.{MachineData}
 use Rattle.cg_machine.specs.Tries.{AnswersAtCell, TakesEach, TriesEach}
-use Rattle.cg_machine.proofs.TryLemmas.{Fits, GoesOn, answers_at_cell, cell_of, ends_there, fits_at, goes_on}
+use Rattle.cg_machine.proofs.TryLemmas.{GoesOn, answers_at_cell, cell_of, ends_there, fits_at, goes_on}
 use Rattle.cg_machine.proofs.machine.Machine.try_walk.Goals as goal
 
 pub gather-requires-clause-nets : goal.gather-requires-clause-nets

@@ -1,4 +1,4 @@
-use Rattle.std.proofs.Common.{◌≡◌, drop}
+use Rattle.std.proofs.Common.{drop}
 use Rattle.cg_machine.specs.Tries.{TakesEach}
 use Rattle.cg_machine.proofs.TryLemmas.{GoesOn}
 use Rattle.cg_machine.proofs.machine.Machine.try_walk.Given as goal

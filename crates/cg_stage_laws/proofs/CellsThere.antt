@@ -25,7 +25,7 @@ use Rattle.cg_stage_laws.specs.Effects.{delayed, effect, net_by, with_own}
 use Rattle.cg_stage_laws.specs.Joined.{join, join_all}
 use Rattle.cg_stage_laws.specs.Needs.{gater_kind, joins_own, missing, needs, where_needed}
 use Rattle.cg_stage_laws.specs.Stages.{enable_nets, first_literal, has_inverted}
-use Rattle.cg_plan_laws.specs.Cells.{HasCell, HasCells}
+use Rattle.cg_stage_laws.specs.Cells.{HasCell, HasCells}
 
 -- a cell that passes is found, or one before it
 found : (p : CellData → Bool) (xs : List CellData) (i : ℕ) (d : CellData) → i < length xs → p (get_or xs i d) ≡ true → (cell : CellData) × (find p xs ≡ Some cell)

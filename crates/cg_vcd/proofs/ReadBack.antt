@@ -263,8 +263,8 @@ read_back reader stimulus text of =
       | inl none ↦
           ap (vcd_rows stimulus.inputs (Some (net_name of.played.names of.clock))) (of.said ∙ (ap (λ x. dump_text of.played (played_moments of.played stimulus.rows of.history) ++ x) none ∙ append-nil (dump_text of.played (played_moments of.played stimulus.rows of.history))))
           ∙ rows_by_lines stimulus.inputs (net_name of.played.names of.clock) (dump_text of.played (played_moments of.played stimulus.rows of.history))
-            (dump_text of.played (played_moments of.played stimulus.rows of.history) ++ 10 ∷ [])
-            (lines_ended of.played (played_moments of.played stimulus.rows of.history) of.netlist (moments_few of.played stimulus of.is_stimulus of.history))
+          (dump_text of.played (played_moments of.played stimulus.rows of.history) ++ 10 ∷ [])
+          (lines_ended of.played (played_moments of.played stimulus.rows of.history) of.netlist (moments_few of.played stimulus of.is_stimulus of.history))
       | inr feed ↦
           ap (vcd_rows stimulus.inputs (Some (net_name of.played.names of.clock))) (of.said ∙ ap (λ x. dump_text of.played (played_moments of.played stimulus.rows of.history) ++ x) feed)
     ]

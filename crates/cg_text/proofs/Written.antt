@@ -1,9 +1,9 @@
 -- The lines and words of a text that was written of them.
 use Rattle.std.proofs.Common.{◌≡◌, ℕ, ◌+◌, ◌<◌, Bool, true, false, ◌==◌, List, [], ◌∷◌, ◌++◌, length, map, get_or, refl, sym, ap}
-use Rattle.std.proofs.Common.{◌∙◌, append_assoc, arith}
+use Rattle.std.proofs.Common.{◌∙◌, append_assoc, arith, length-append}
 use Rattle.std.proofs.Math.Dec.{eqb-suc-zero}
 use Rattle.std.proofs.lemmas.Bool.{ne_eqb}
-use Rattle.std.proofs.lemmas.List.{map-append}
+use Rattle.std.proofs.lemmas.List.{append-nil, map-append}
 use Rattle.std.specs.List.{flat_map, AllByRecursion}
 use Rattle.cg_text.specs.declared.blanks.Blanks.{Blanks}
 use Rattle.cg_text.specs.declared.blanks.Blanks.TheVariants.{Whitespace, Controls, Spaces}
@@ -13,7 +13,7 @@ use Rattle.cg_text.specs.Blanks.{is_blank, is_line_feed}
 use Rattle.cg_text.specs.Words.{pieces, is_full, words, lines}
 use Rattle.cg_text.specs.Lines.{read_part, kept_lines, text_lines}
 use Rattle.cg_text.specs.Spots.{Spot, line_spots, spots_of, texts_of}
-use Rattle.cg_text.specs.Written.{joined, line_text, text_of, IsWord, IsLine, numbered}
+use Rattle.cg_text.specs.Written.{joined, line_text, open_text, text_of, IsWord, IsLine, numbered}
 
 -- pieces
 
@@ -94,6 +94,35 @@ kept_lines-text layout number (ws ∷ later) all =
 
 pub text_lines-text : (layout : Layout) (ls : List (List (List ℕ))) → AllByRecursion (IsLine layout) ls → text_lines layout (text_of ls) ≡ numbered 1 ls
 text_lines-text layout ls all = kept_lines-text layout 1 ls all
+
+-- a last line counts without its end
+
+joined_full : (blanks : Blanks) (ws : List (List ℕ)) → 0 < length ws → AllByRecursion (IsWord blanks) ws → 0 < length (joined ws)
+joined_full blanks [] some all = absurd (omega arith)
+joined_full blanks (w ∷ []) some all = (all.0).full
+joined_full blanks (w ∷ v ∷ ws) some all =
+    let long : length (w ++ 32 ∷ joined (v ∷ ws)) ≡ length w + length (32 ∷ joined (v ∷ ws)) = length-append w (32 ∷ joined (v ∷ ws)) in omega arith
+
+line_alone : (line : List ℕ) → 0 < length line → AllByRecursion (λ b. is_line_feed b ≡ false) line → lines line ≡ line ∷ []
+line_alone [] full none = absurd (omega arith)
+line_alone (b ∷ bs) full none = pieces_alone is_line_feed b bs none
+
+-- without the end of its last line a written text has the same lines
+pub lines-open : (layout : Layout) (ls : List (List (List ℕ))) → AllByRecursion (IsLine layout) ls → lines (open_text ls) ≡ lines (text_of ls)
+lines-open layout [] all = refl
+lines-open layout (ws ∷ []) all =
+    let line = all.0 in
+    line_alone (joined ws) (joined_full layout.blanks ws line.some line.words) (one_line layout.blanks ws line.words) ∙ sym (lines_step layout.blanks ws [] line.words)
+lines-open layout (ws ∷ vs ∷ later) all =
+    let line = all.0 in
+    pieces_front is_line_feed (joined ws) 10 (open_text (vs ∷ later)) (one_line layout.blanks ws line.words) refl
+    ∙ (ap (λ rest. joined ws ∷ rest) (lines-open layout (vs ∷ later) all.1) ∙ sym (lines_step layout.blanks ws (text_of (vs ∷ later)) line.words))
+
+pub text_of-open : (ws : List (List ℕ)) (ls : List (List (List ℕ))) → text_of (ws ∷ ls) ≡ open_text (ws ∷ ls) ++ 10 ∷ []
+text_of-open ws [] = append-nil (line_text ws)
+text_of-open ws (vs ∷ later) =
+    let front : line_text ws ++ (open_text (vs ∷ later) ++ 10 ∷ []) ≡ open_text (ws ∷ vs ∷ later) ++ 10 ∷ [] = simp append_assoc in
+    ap (λ rest. line_text ws ++ rest) (text_of-open vs later) ∙ front
 
 -- a line is no comment where its first byte is no `c`
 pub not_comment : (w : List ℕ) (ws : List (List ℕ)) → 0 < length w → (get_or w 0 0 ≡ 99 → ⊥) → read_part LeadingC (joined (w ∷ ws)) ≡ joined (w ∷ ws)

@@ -20,6 +20,12 @@ line_text ws = joined ws ++ 10 ∷ []
 abbrev pub text_of : List (List (List ℕ)) → List ℕ
 text_of ls = flat_map line_text ls
 
+-- the same text without the end of its last line
+abbrev pub open_text : List (List (List ℕ)) → List ℕ
+open_text [] = []
+open_text (ws ∷ []) = joined ws
+open_text (ws ∷ vs ∷ later) = joined ws ++ 10 ∷ open_text (vs ∷ later)
+
 -- the bytes are one word: there are some, and none is a blank
 pub record IsWord (blanks : Blanks) (word : List ℕ) : Type 0 where
   pub full : 0 < length word

@@ -1,0 +1,16 @@
+pub mod RowsOn
+pub mod CommandsRead
+pub mod Wired
+pub mod CommandsTaken
+pub mod AllFound
+pub mod ToldOn
+pub mod RowsRead
+pub mod Dumping
+pub mod SampledBack
+pub mod WrittenIds
+pub mod PlayedBack
+pub mod ToldBack
+pub mod DumpLines
+pub mod HeaderRead
+pub mod MomentsTold
+pub mod ReadBack

@@ -7,4 +7,5 @@
 #![tactic(auto)]
 
 mod goal;
+
 pub use goal::formula;

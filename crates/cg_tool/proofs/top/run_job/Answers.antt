@@ -20,5 +20,5 @@ returns-in-Sim g c =
 pub returns-in-Lrat : goal.returns-in-Lrat
 returns-in-Lrat g c = rw c.in-Lrat.is c.run-in-Lrat.ensures.runs
 
-pub returns-in-Demo : goal.returns-in-Demo
-returns-in-Demo g c = rw c.in-Demo.is c.run-in-Demo.ensures.runs
+pub returns : goal.returns
+returns g c = rw c.in-Demo.is c.run-in-Demo.ensures.runs

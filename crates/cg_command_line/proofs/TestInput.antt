@@ -1,17 +1,19 @@
 -- The test input of a job.
 use Rattle.std.proofs.Common.{◌≡◌, ℕ, Bool, true, false, List, [], ◌∷◌, Option, None, Some, refl, sym, subst}
-use Rattle.std.specs.Prelude.{◌&&◌, ◌||◌, not, if◌then◌else◌, codes, is_none, is_some, unwrap_or, IfSome}
+use Rattle.std.specs.Prelude.{◌&&◌, not, if◌then◌else◌, codes, is_some, unwrap_or, IfSome}
 use Rattle.std.specs.Option.{option_and_then}
 use Rattle.std.specs.Str.{bytes_eq}
 use Rattle.clap.specs.Words.{Kinds, Text, all_of, fault_of, first_of, matches_of}
 use Rattle.cg_plan_laws.specs.declared.settings.Settings.{Settings}
 use Rattle.cg_run.specs.Names.{Files}
 use Rattle.cg_run.specs.declared.role.Role.TheVariants as roles
+use Rattle.cg_source.specs.declared.stimulus.StimulusForm.{StimulusForm}
+use Rattle.cg_source.specs.declared.stimulus.StimulusForm.TheVariants as forms
 use Rattle.cg_command_line.specs.CommandLine.{Values, command_line, values_in}
 use Rattle.cg_command_line.specs.Jobs.{JobWords, demo_job, gate_files, gate_job, job_in, job_of, job_of_options, job_with, job_without}
-use Rattle.cg_command_line.specs.Jobs.{lrat_job, named, sim_job}
+use Rattle.cg_command_line.specs.Jobs.{lrat_job, named, sim_files, sim_job, sim_with}
 use Rattle.cg_command_line.specs.Options.{NamesTest, are_different, asked_in, default_prefix, gate_options, gate_options_with}
-use Rattle.cg_command_line.specs.Options.{has_gate_options, has_options, is_apart, is_named, no_options, number_in, number_or}
+use Rattle.cg_command_line.specs.Options.{has_gate_options, has_options, is_apart, is_named, may_watch, no_options, number_in, number_or}
 use Rattle.cg_command_line.specs.Options.{option_files, settings_in, settings_with, sim_options, sim_options_with, watch_in}
 use Rattle.cg_command_line.specs.declared.job.Mode.{Mode}
 use Rattle.cg_command_line.specs.declared.job.Mode.TheVariants.{Demo, Gate, Lrat, Sim}
@@ -43,11 +45,11 @@ settings_name test None width rounds = tt
 
 gate_names : (values : Values) (settings : Option Settings) (watch : Option (Option ℕ)) → IfSome settings (λ settings. settings.test ≡ is_some values.test) → IfSome (gate_options_with values settings watch) NamesTest
 gate_names values (Some settings) (Some watch) asked =
-    if_taken NamesTest (is_named values.clock && (is_named values.prefix && (is_named values.test && (is_apart (unwrap_or values.prefix default_prefix) values.test && (is_none values.watch || is_some values.stim)))))
+    if_taken NamesTest (is_named values.clock && (is_named values.prefix && (is_named values.test && (is_apart (unwrap_or values.prefix default_prefix) values.test && may_watch values))))
     (Some (record { clock = values.clock; prefix = unwrap_or values.prefix default_prefix; test = values.test; settings = settings; watch = watch; asked = asked_in values }))
     (λ taken. record {
       asked = asked;
-      apart = fourth (is_named values.clock) (is_named values.prefix) (is_named values.test) (is_apart (unwrap_or values.prefix default_prefix) values.test) (is_none values.watch || is_some values.stim) taken;
+      apart = fourth (is_named values.clock) (is_named values.prefix) (is_named values.test) (is_apart (unwrap_or values.prefix default_prefix) values.test) (may_watch values) taken;
     })
 gate_names values (Some settings) None asked = tt
 gate_names values None watch asked = tt
@@ -78,13 +80,21 @@ gate_job_names watchers (library ∷ []) values = tt
 gate_job_names watchers (library ∷ netlist ∷ []) values = tt
 gate_job_names watchers (library ∷ netlist ∷ out ∷ other ∷ files) values = tt
 
+sim_with_names : (watchers : List Text) (form : StimulusForm) (library netlist stimulus : Text) (values : Values) → IfSome (sim_with watchers form library netlist stimulus values) JobNames
+sim_with_names watchers form library netlist stimulus values =
+    let names : Files = sim_files library netlist stimulus in
+    if_taken JobNames (are_different (library ∷ netlist ∷ stimulus ∷ [])) (job_of_options (Sim form) names (sim_options watchers values)) (λ taken. options_name (Sim form) names (sim_options watchers values) (sim_names values (watch_in watchers values.watch)))
+
+dump_names : (watchers : List Text) (library netlist : Text) (values : Values) (dump : Option Text) → IfSome (option_and_then (λ dump. sim_with watchers forms.Dump library netlist dump values) dump) JobNames
+dump_names watchers library netlist values (Some dump) = sim_with_names watchers forms.Dump library netlist dump values
+dump_names watchers library netlist values None = tt
+
 sim_job_names : (watchers files : List Text) (values : Values) → IfSome (sim_job watchers files values) JobNames
+sim_job_names watchers (library ∷ netlist ∷ []) values = dump_names watchers library netlist values values.vcd
 sim_job_names watchers (library ∷ netlist ∷ stimulus ∷ []) values =
-    let names : Files = named roles.Library library ∷ named roles.Netlist netlist ∷ named roles.Stimulus stimulus ∷ [] in
-    if_taken JobNames (are_different (library ∷ netlist ∷ stimulus ∷ [])) (job_of_options Sim names (sim_options watchers values)) (λ taken. options_name Sim names (sim_options watchers values) (sim_names values (watch_in watchers values.watch)))
+    unless_taken JobNames (is_some values.vcd) (sim_with watchers forms.Rows library netlist stimulus values) (sim_with_names watchers forms.Rows library netlist stimulus values)
 sim_job_names watchers [] values = tt
 sim_job_names watchers (library ∷ []) values = tt
-sim_job_names watchers (library ∷ netlist ∷ []) values = tt
 sim_job_names watchers (library ∷ netlist ∷ stimulus ∷ other ∷ files) values = tt
 
 plain_job_names : (mode : Mode) (files : Files) (values : Values) → IfSome (job_of_options mode files (if has_options values then None else Some no_options)) JobNames

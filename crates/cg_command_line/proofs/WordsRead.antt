@@ -56,9 +56,10 @@ pub option_added : (command whole : Command) (option : Arg) (name : List ℕ) �
 option_added command whole option name adds apart rule = adds.shape apart ∙ ap (λ (r : Rule). with_rule (app_of command) r) rule
 
 -- the command with all its options, one after the other
-pub options_added : {E : Type 0} (files stim proof report min width rounds clock prefix test : Command) (result : Result Command E) → app_of files ≡ with_rule (with_rule (new_app (codes "clockgate")) mode_rule) files_rule
+pub options_added : {E : Type 0} (files stim vcd proof report min width rounds clock prefix test : Command) (result : Result Command E) → app_of files ≡ with_rule (with_rule (new_app (codes "clockgate")) mode_rule) files_rule
     → app_of stim ≡ with_option (app_of files) (codes "stim")
-    → app_of proof ≡ with_option (app_of stim) (codes "proof")
+    → app_of vcd ≡ with_option (app_of stim) (codes "vcd")
+    → app_of proof ≡ with_option (app_of vcd) (codes "proof")
     → app_of report ≡ with_option (app_of proof) (codes "report")
     → app_of min ≡ with_option (app_of report) (codes "min")
     → app_of width ≡ with_option (app_of min) (codes "width")
@@ -67,21 +68,22 @@ pub options_added : {E : Type 0} (files stim proof report min width rounds clock
     → app_of prefix ≡ with_option (app_of clock) (codes "prefix")
     → app_of test ≡ with_option (app_of prefix) (codes "test")
     → IfOk result (λ whole. app_of whole ≡ with_option (app_of test) (codes "watch")) → IfOk result (λ whole. app_of whole ≡ command_line)
-options_added files stim proof report min width rounds clock prefix test (Ok whole) e0 e1 e2 e3 e4 e5 e6 e7 e8 e9 last = last ∙ ap (λ (a : App). with_option a (codes "watch")) (e9 ∙ ap (λ (a : App). with_option a (codes "test")) (e8 ∙ ap (λ (a : App). with_option a (codes "prefix")) (e7 ∙ ap (λ (a : App). with_option a (codes "clock")) (e6 ∙ ap (λ (a : App). with_option a (codes "rounds")) (e5 ∙ ap (λ (a : App). with_option a (codes "width")) (e4 ∙ ap (λ (a : App). with_option a (codes "min")) (e3 ∙ ap (λ (a : App). with_option a (codes "report")) (e2 ∙ ap (λ (a : App). with_option a (codes "proof")) (e1 ∙ ap (λ (a : App). with_option a (codes "stim")) e0)))))))))
-options_added files stim proof report min width rounds clock prefix test (Err fault) e0 e1 e2 e3 e4 e5 e6 e7 e8 e9 last = tt
+options_added files stim vcd proof report min width rounds clock prefix test (Ok whole) e0 e1 e2 e3 e4 e5 e6 e7 e8 e9 e10 last = last ∙ ap (λ (a : App). with_option a (codes "watch")) (e10 ∙ ap (λ (a : App). with_option a (codes "test")) (e9 ∙ ap (λ (a : App). with_option a (codes "prefix")) (e8 ∙ ap (λ (a : App). with_option a (codes "clock")) (e7 ∙ ap (λ (a : App). with_option a (codes "rounds")) (e6 ∙ ap (λ (a : App). with_option a (codes "width")) (e5 ∙ ap (λ (a : App). with_option a (codes "min")) (e4 ∙ ap (λ (a : App). with_option a (codes "report")) (e3 ∙ ap (λ (a : App). with_option a (codes "proof")) (e2 ∙ ap (λ (a : App). with_option a (codes "vcd")) (e1 ∙ ap (λ (a : App). with_option a (codes "stim")) e0))))))))))
+options_added files stim vcd proof report min width rounds clock prefix test (Err fault) e0 e1 e2 e3 e4 e5 e6 e7 e8 e9 e10 last = tt
 
 -- the values of the options
 
 value_is : (found : Found) (id : List ℕ) (value : Option (List ℕ)) → value ≡ first_value found id → value ≡ first_of id (rows_of found)
 value_is found id value is = is ∙ first_value-rows found id
 
-pub values_are : (found : Found) (stim proof report min width rounds clock prefix test watch : Option (List ℕ))
-    → stim ≡ first_value found (codes "stim") → proof ≡ first_value found (codes "proof") → report ≡ first_value found (codes "report") → min ≡ first_value found (codes "min")
+pub values_are : (found : Found) (stim vcd proof report min width rounds clock prefix test watch : Option (List ℕ))
+    → stim ≡ first_value found (codes "stim") → vcd ≡ first_value found (codes "vcd") → proof ≡ first_value found (codes "proof") → report ≡ first_value found (codes "report") → min ≡ first_value found (codes "min")
     → width ≡ first_value found (codes "width") → rounds ≡ first_value found (codes "rounds") → clock ≡ first_value found (codes "clock") → prefix ≡ first_value found (codes "prefix")
     → test ≡ first_value found (codes "test") → watch ≡ first_value found (codes "watch")
-    → let values : Values = record { stim = stim; proof = proof; report = report; min = min; width = width; rounds = rounds; clock = clock; prefix = prefix; test = test; watch = watch } in values ≡ values_in (rows_of found)
-values_are found stim proof report min width rounds clock prefix test watch a b c d e f g h t i = λ j. record {
+    → let values : Values = record { stim = stim; vcd = vcd; proof = proof; report = report; min = min; width = width; rounds = rounds; clock = clock; prefix = prefix; test = test; watch = watch } in values ≡ values_in (rows_of found)
+values_are found stim vcd proof report min width rounds clock prefix test watch a v b c d e f g h t i = λ j. record {
   stim = value_is found (codes "stim") stim a j;
+  vcd = value_is found (codes "vcd") vcd v j;
   proof = value_is found (codes "proof") proof b j;
   report = value_is found (codes "report") report c j;
   min = value_is found (codes "min") min d j;

@@ -1,11 +1,13 @@
 -- Which words the program takes, and what they ask for.
-use Rattle.std.specs.Prelude.{if◌then◌else◌, List, [], ◌∷◌, Option, None, Some, codes, unwrap_or}
+use Rattle.std.specs.Prelude.{if◌then◌else◌, List, [], ◌∷◌, Option, None, Some, codes, is_some, unwrap_or}
 use Rattle.std.specs.Option.{option_and_then, option_map}
 use Rattle.std.specs.Str.{bytes_eq}
 use Rattle.clap.specs.Words.{Kinds, Row, Text, all_of, fault_of, first_of, matches_of}
 use Rattle.cg_run.specs.Names.{File, Files, files_of}
 use Rattle.cg_run.specs.declared.role.Role.{Role}
 use Rattle.cg_run.specs.declared.role.Role.TheVariants as roles
+use Rattle.cg_source.specs.declared.stimulus.StimulusForm.{StimulusForm}
+use Rattle.cg_source.specs.declared.stimulus.StimulusForm.TheVariants as forms
 use Rattle.cg_command_line.specs.CommandLine.{Values, command_line, values_in}
 use Rattle.cg_command_line.specs.Options.{are_different, gate_options, has_options, no_options, number_in, option_files, sim_options}
 use Rattle.cg_command_line.specs.declared.job.Job.{Job}
@@ -31,11 +33,11 @@ named role name = record { role = role; name = name }
 abbrev pub job_of_options : Mode → Files → Option Options → Option JobWords
 job_of_options mode files options = option_map (λ options. record { mode = mode; files = files; options = options }) options
 
--- `gate LIB NETLIST OUT` with `--stim F`, `--proof F`, `--report F`, `--min N`, `--width N`, `--rounds N`, `--clock NAME`,
+-- `gate LIB NETLIST OUT` with `--stim F` or `--vcd F`, `--proof F`, `--report F`, `--min N`, `--width N`, `--rounds N`, `--clock NAME`,
 -- `--prefix P`, `--test NAME` and `--watch NAME`, where all files are different
 abbrev pub gate_files : Text → Text → Text → Values → Files
 gate_files library netlist out values =
-    named roles.Library library ∷ named roles.Netlist netlist ∷ named roles.Stimulus (unwrap_or values.stim [])
+    named roles.Library library ∷ named roles.Netlist netlist ∷ named roles.Stimulus (unwrap_or values.stim (unwrap_or values.vcd []))
     ∷ named roles.Out out ∷ named roles.Proof (unwrap_or values.proof []) ∷ named roles.Report (unwrap_or values.report []) ∷ []
 
 abbrev pub gate_job : List Text → List Text → Values → Option JobWords
@@ -44,12 +46,20 @@ gate_job watchers (library ∷ netlist ∷ out ∷ []) values =
     then job_of_options Gate (gate_files library netlist out values) (gate_options watchers values) else None
 gate_job watchers files values = None
 
--- `sim LIB NETLIST STIM` with `--clock NAME` and `--watch NAME`, where all files are different
-abbrev pub sim_job : List Text → List Text → Values → Option JobWords
-sim_job watchers (library ∷ netlist ∷ stimulus ∷ []) values =
+-- `sim LIB NETLIST STIM`, or `sim LIB NETLIST --vcd F`, with `--clock NAME` and `--watch NAME`, where all files are different
+abbrev pub sim_files : Text → Text → Text → Files
+sim_files library netlist stimulus = named roles.Library library ∷ named roles.Netlist netlist ∷ named roles.Stimulus stimulus ∷ []
+
+abbrev pub sim_with : List Text → StimulusForm → Text → Text → Text → Values → Option JobWords
+sim_with watchers form library netlist stimulus values =
     if are_different (library ∷ netlist ∷ stimulus ∷ [])
-    then job_of_options Sim (named roles.Library library ∷ named roles.Netlist netlist ∷ named roles.Stimulus stimulus ∷ [])
-    (sim_options watchers values) else None
+    then job_of_options (Sim form) (sim_files library netlist stimulus) (sim_options watchers values) else None
+
+abbrev pub sim_job : List Text → List Text → Values → Option JobWords
+sim_job watchers (library ∷ netlist ∷ []) values =
+    option_and_then (λ dump. sim_with watchers forms.Dump library netlist dump values) values.vcd
+sim_job watchers (library ∷ netlist ∷ stimulus ∷ []) values =
+    if is_some values.vcd then None else sim_with watchers forms.Rows library netlist stimulus values
 sim_job watchers files values = None
 
 -- `lrat CNF PROOF`, with two different files and no option

@@ -10,6 +10,8 @@ use Rattle.cg_plan_laws.specs.declared.settings.Settings.{Settings}
 use Rattle.cg_text.specs.Numbers.{number_of}
 use Rattle.cg_text.specs.declared.number.Number.{Number}
 use Rattle.cg_text.specs.declared.number.Number.TheVariants.{Large, Misspelled, Small}
+use Rattle.cg_source.specs.declared.stimulus.StimulusForm.{StimulusForm}
+use Rattle.cg_source.specs.declared.stimulus.StimulusForm.TheVariants as forms
 use Rattle.cg_command_line.specs.CommandLine.{Values}
 use Rattle.cg_command_line.specs.declared.options.Asked.{Asked}
 use Rattle.cg_command_line.specs.declared.options.Options.{Options}
@@ -67,11 +69,23 @@ are_different (name ∷ names) = not (list_any (λ other. bytes_eq other name) n
 
 -- the files that options name
 abbrev pub option_files : Values → List Text
-option_files values = option_to_list values.stim ++ option_to_list values.proof ++ option_to_list values.report
+option_files values =
+    option_to_list values.stim ++ option_to_list values.vcd ++ option_to_list values.proof ++ option_to_list values.report
+
+-- the form of the stimulus that is asked for, if any: a stimulus text or a Value Change Dump
+abbrev pub form_in : Option Text → Option Text → Option StimulusForm
+form_in stim (Some vcd) = Some forms.Dump
+form_in (Some stim) None = Some forms.Rows
+form_in None None = None
 
 -- which of these files are asked for
 abbrev pub asked_in : Values → Asked
-asked_in values = record { stimulus = is_some values.stim; proof = is_some values.proof; report = is_some values.report }
+asked_in values =
+    record { stimulus = form_in values.stim values.vcd; proof = is_some values.proof; report = is_some values.report }
+
+-- there is one stimulus at most; and there is a watcher only with a stimulus
+abbrev pub may_watch : Values → Bool
+may_watch values = (is_none values.stim || is_none values.vcd) && (is_none values.watch || is_some values.stim || is_some values.vcd)
 
 -- whether options are given that `gate` alone has; and options of any mode
 abbrev pub has_gate_options : Values → Bool
@@ -80,7 +94,7 @@ has_gate_options values =
     || is_some values.rounds || is_some values.prefix || is_some values.test
 
 abbrev pub has_options : Values → Bool
-has_options values = is_some values.clock || is_some values.watch || has_gate_options values
+has_options values = is_some values.clock || is_some values.watch || is_some values.vcd || has_gate_options values
 
 -- what a mode is done with that has no options
 abbrev pub no_options : Options
@@ -91,17 +105,17 @@ no_options =
       test = None;
       settings = default_settings;
       watch = None;
-      asked = record { stimulus = false; proof = false; report = false };
+      asked = record { stimulus = None; proof = false; report = false };
     }
 
 -- What the options of `gate` say. The values of `--clock`, `--prefix` and `--test` are names, that of `--test` does not begin
--- with the prefix, whether this is given or is the default, and there is a watcher only with a stimulus.
+-- with the prefix, whether this is given or is the default. There is one stimulus at most, and a watcher only with a stimulus.
 abbrev pub gate_options_with : Values → Option Settings → Option (Option ℕ) → Option Options
 gate_options_with values (Some settings) (Some watch) =
     if is_named values.clock
     && (is_named values.prefix
     && (is_named values.test
-    && (is_apart (unwrap_or values.prefix default_prefix) values.test && (is_none values.watch || is_some values.stim))))
+    && (is_apart (unwrap_or values.prefix default_prefix) values.test && may_watch values)))
     then Some
     (record {
       clock = values.clock;

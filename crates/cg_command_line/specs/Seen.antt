@@ -6,6 +6,7 @@ use Rattle.cg_command_line.specs.declared.values.OptionWords.{OptionWords}
 abbrev pub values_of : OptionWords → Values
 values_of given = record {
   stim = option_map (λ word. word.now) given.stim;
+  vcd = option_map (λ word. word.now) given.vcd;
   proof = option_map (λ word. word.now) given.proof;
   report = option_map (λ word. word.now) given.report;
   min = option_map (λ word. word.now) given.min;

@@ -5,7 +5,8 @@ ghost use Rattle.std.specs.Option.{option_and_then, option_map};
 ghost use Rattle.std.specs.String.{string_bytes};
 ghost use Rattle.clap.specs.Words.{found_of, rows_of};
 ghost use Rattle.cg_run.specs.Names.{file_seen, files_of};
-ghost use Rattle.cg_command_line.specs.Jobs.{demo_job, gate_files, gate_job, job_in, job_of, job_with, job_words, lrat_job, named, sim_job};
+ghost use Rattle.cg_command_line.specs.Jobs.{demo_job, gate_files, gate_job, job_in, job_of, job_with, job_words, lrat_job, named};
+ghost use Rattle.cg_command_line.specs.Jobs.{sim_files, sim_job, sim_with};
 ghost use Rattle.cg_command_line.specs.Seen.{values_of};
 
 use crate::command::command_line;
@@ -15,6 +16,7 @@ use crate::options::{
 };
 use crate::values::{OptionWords, given};
 use cg_run::{NamedFile, Names, Role};
+use cg_source::stimulus::StimulusForm;
 use clap::ArgMatches;
 use clap::error::ErrorKind;
 use std::alloc::{AllocError, Global};
@@ -24,8 +26,8 @@ use std::alloc::{AllocError, Global};
 pub enum Mode {
     /// Read a netlist, gate its clock, and write it.
     Gate,
-    /// Play a stimulus on a netlist.
-    Sim,
+    /// Play a stimulus of this form on a netlist.
+    Sim(StimulusForm),
     /// Check a proof against a formula.
     Lrat,
     /// Gate a generated pipeline of this size.
@@ -156,7 +158,10 @@ fn gate_files<'a>(
         &[
             named(Role::Library, library),
             named(Role::Netlist, netlist),
-            named(Role::Stimulus, given.stim.unwrap_or("")),
+            named(
+                Role::Stimulus,
+                given.stim.unwrap_or(given.vcd.unwrap_or("")),
+            ),
             named(Role::Out, out),
             named(Role::Proof, given.proof.unwrap_or("")),
             named(Role::Report, given.report.unwrap_or("")),
@@ -164,7 +169,7 @@ fn gate_files<'a>(
     )
 }
 
-/// `sim LIB NETLIST STIM`, where all files are different.
+/// `sim LIB NETLIST STIM`, or `sim LIB NETLIST` with `--vcd`.
 fn sim_job<'a>(
     alloc: Global,
     files: &[&'a str],
@@ -174,27 +179,80 @@ fn sim_job<'a>(
     ensures { IfOk result
         (λ job. option_map job_words job ≡ sim_job (map (λ name. name.now) watchers.now) (map (λ file. file.now) files.now) (values_of given.now)) }
 {
-    let [library, netlist, stimulus] = files else {
-        return Ok(None);
-    };
-    if !are_different(files) {
+    match files {
+        [library, netlist] => match given.vcd {
+            None => Ok(None),
+            Some(dump) => sim_with(
+                alloc,
+                StimulusForm::Dump,
+                library,
+                netlist,
+                dump,
+                given,
+                watchers,
+            ),
+        },
+        [library, netlist, rows] => {
+            if given.vcd.is_some() {
+                return Ok(None);
+            }
+            sim_with(
+                alloc,
+                StimulusForm::Rows,
+                library,
+                netlist,
+                rows,
+                given,
+                watchers,
+            )
+        }
+        _ => Ok(None),
+    }
+}
+
+/// `sim` with a stimulus of this form, where all files are different.
+fn sim_with<'a>(
+    alloc: Global,
+    form: StimulusForm,
+    library: &'a str,
+    netlist: &'a str,
+    stimulus: &'a str,
+    given: &OptionWords<'a>,
+    watchers: &[&str],
+) -> Result<Option<Job<'a>>, AllocError>
+    ensures { IfOk result
+        (λ job. option_map job_words job ≡ sim_with (map (λ name. name.now) watchers.now) form library.entry.now netlist.entry.now stimulus.entry.now (values_of given.now)) }
+{
+    if !are_different(&[library, netlist, stimulus]) {
         return Ok(None);
     }
     let Some(options) = sim_options(alloc, watchers, given)? else {
         return Ok(None);
     };
     Ok(Some(Job {
-        mode: Mode::Sim,
-        names: Names::of(
-            alloc,
-            &[
-                named(Role::Library, library),
-                named(Role::Netlist, netlist),
-                named(Role::Stimulus, stimulus),
-            ],
-        )?,
+        mode: Mode::Sim(form),
+        names: sim_files(alloc, library, netlist, stimulus)?,
         options,
     }))
+}
+
+/// The files of `sim`.
+fn sim_files<'a>(
+    alloc: Global,
+    library: &'a str,
+    netlist: &'a str,
+    stimulus: &'a str,
+) -> Result<Names<'a>, AllocError>
+    ensures { IfOk result (λ names. files_of names ≡ sim_files library.entry.now netlist.entry.now stimulus.entry.now) }
+{
+    Names::of(
+        alloc,
+        &[
+            named(Role::Library, library),
+            named(Role::Netlist, netlist),
+            named(Role::Stimulus, stimulus),
+        ],
+    )
 }
 
 /// `lrat CNF PROOF`, with two different files and no option.

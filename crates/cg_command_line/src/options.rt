@@ -4,8 +4,8 @@ ghost use Rattle.std.specs.Prelude.{◌≡◌, ◌++◌, ◌<◌, ◌^◌, [], c
 ghost use Rattle.std.specs.List.{list_any, position_from};
 ghost use Rattle.std.specs.Str.{bytes_eq};
 ghost use Rattle.std.specs.Option.{option_map, option_to_list};
-ghost use Rattle.cg_command_line.specs.Options.{are_different, asked_in, default_prefix, gate_options, has_gate_options, has_options};
-ghost use Rattle.cg_command_line.specs.Options.{is_apart};
+ghost use Rattle.cg_command_line.specs.Options.{are_different, asked_in, default_prefix, form_in, gate_options, has_gate_options};
+ghost use Rattle.cg_command_line.specs.Options.{has_options, is_apart, may_watch};
 ghost use Rattle.cg_command_line.specs.Options.{is_named, no_options, number_in, number_or, option_files, settings_in, sim_options};
 ghost use Rattle.cg_command_line.specs.Options.{watch_in};
 ghost use Rattle.cg_command_line.specs.Seen.{values_of};
@@ -13,13 +13,15 @@ ghost use Rattle.cg_command_line.specs.Seen.{values_of};
 use crate::values::OptionWords;
 use cg_cell::name::Name;
 use cg_plan_laws::settings::Settings;
+use cg_source::stimulus::StimulusForm;
 use cg_text::number::{Number, read_number};
 use std::alloc::{AllocError, Global};
 
 /// Which of the files that need not be given are given.
 #[derive(Clone, Copy, Debug, PartialEq, Eq)]
 pub struct Asked {
-    pub stimulus: bool,
+    /// The form of the stimulus, where there is to be one.
+    pub stimulus: Option<StimulusForm>,
     pub proof: bool,
     pub report: bool,
 }
@@ -62,7 +64,7 @@ pub fn no_options(alloc: Global) -> Result<Options, AllocError>
         },
         watch: None,
         asked: Asked {
-            stimulus: false,
+            stimulus: None,
             proof: false,
             report: false,
         },
@@ -89,7 +91,7 @@ pub fn gate_options(
     if !is_named(given.test) || !is_apart(given.test, given.prefix) {
         return Ok(None);
     }
-    if given.watch.is_some() && given.stim.is_none() {
+    if !may_watch(given) {
         return Ok(None);
     }
     Ok(Some(Options {
@@ -146,17 +148,36 @@ pub fn has_gate_options(given: &OptionWords<'_>) -> bool
 pub fn has_options(given: &OptionWords<'_>) -> bool
     ensures { result ≡ has_options (values_of given.now) }
 {
-    given.clock.is_some() || given.watch.is_some() || has_gate_options(given)
+    given.clock.is_some() || given.watch.is_some() || given.vcd.is_some() || has_gate_options(given)
 }
 
 fn asked_for(given: &OptionWords<'_>) -> Asked
     ensures { result ≡ asked_in (values_of given.now) }
 {
     Asked {
-        stimulus: given.stim.is_some(),
+        stimulus: form(given),
         proof: given.proof.is_some(),
         report: given.report.is_some(),
     }
+}
+
+/// The form of the stimulus that is asked for, if any.
+fn form(given: &OptionWords<'_>) -> Option<StimulusForm>
+    ensures { result ≡ form_in (values_of given.now).stim (values_of given.now).vcd }
+{
+    match (given.stim, given.vcd) {
+        (_, Some(_)) => Some(StimulusForm::Dump),
+        (Some(_), None) => Some(StimulusForm::Rows),
+        (None, None) => None,
+    }
+}
+
+/// Whether there is one stimulus at most, and a watcher only with a stimulus.
+fn may_watch(given: &OptionWords<'_>) -> bool
+    ensures { result ≡ may_watch (values_of given.now) }
+{
+    (given.stim.is_none() || given.vcd.is_none())
+        && (given.watch.is_none() || given.stim.is_some() || given.vcd.is_some())
 }
 
 fn settings(given: &OptionWords<'_>) -> Option<Settings>
@@ -270,6 +291,7 @@ pub fn push_files<'a>(files: &mut Vec<&'a str>, given: &OptionWords<'a>) -> Resu
     ensures { OnOk result (map (λ file. file.now) files.new.items ≡ map (λ file. file.now) files.old.items ++ option_files (values_of given.now)) }
 {
     push_file(files, given.stim)?;
+    push_file(files, given.vcd)?;
     push_file(files, given.proof)?;
     push_file(files, given.report)
 }

@@ -11,6 +11,7 @@ use clap::ArgMatches;
 #[derive(Clone, Copy, Debug)]
 pub struct OptionWords<'a> {
     pub stim: Option<&'a str>,
+    pub vcd: Option<&'a str>,
     pub proof: Option<&'a str>,
     pub report: Option<&'a str>,
     pub min: Option<&'a str>,
@@ -28,6 +29,7 @@ pub fn given<'a>(matches: &ArgMatches<'a>) -> OptionWords<'a>
 {
     OptionWords {
         stim: matches.get_str("stim"),
+        vcd: matches.get_str("vcd"),
         proof: matches.get_str("proof"),
         report: matches.get_str("report"),
         min: matches.get_str("min"),

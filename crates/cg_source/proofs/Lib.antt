@@ -1,5 +1,6 @@
 pub mod Taken
 pub mod NetlistTexts
+mod DumpRows
 pub mod StimulusTexts
 pub mod Texts
 pub mod DesignRead

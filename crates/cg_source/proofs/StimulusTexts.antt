@@ -9,13 +9,20 @@ use Rattle.cg_stimulus.specs.Reading.{stimulus}
 use Rattle.cg_stimulus.specs.StimText.{SaysRow}
 use Rattle.cg_stimulus.proofs.StimExact.{read_is_text}
 use Rattle.cg_text.specs.declared.lines.Line.{Line}
-use Rattle.cg_source.specs.Refused.{refused_as}
-use Rattle.cg_source.specs.Stimulus.{DrivesNetlist, stimulus_found, stimulus_trouble}
+use Rattle.cg_vcd.specs.VcdText.{clock_name, vcd_rows}
+use Rattle.cg_source.specs.Stimulus.{DrivesNetlist, dump_trouble, rows_found, stimulus_found, stimulus_trouble}
+use Rattle.cg_source.specs.declared.stimulus.StimulusForm.{StimulusForm}
+use Rattle.cg_source.specs.declared.stimulus.StimulusForm.TheVariants as forms
+use Rattle.cg_source.proofs.DumpRows.{dump_rows}
 use Rattle.cg_source.proofs.Taken.{refused_ok}
 
-module _ (c : Circuit) (text : List ℕ) (found : Rows) (is : stimulus_found c text ≡ Ok found) where
-  parts : (rows : List (List Bool)) × (refused_as stimulus_trouble (stimulus (input_names c) text) ≡ Ok rows) × (record { inputs = input_names c; rows = rows } ≡ found)
-  parts = found_ok (λ (rows : List (List Bool)). record { inputs = input_names c; rows = rows }) (refused_as stimulus_trouble (stimulus (input_names c) text)) found is
+says_rows : (form : StimulusForm) (c : Circuit) (text : List ℕ) (rows : List (List Bool)) → rows_found form c text ≡ Ok rows → DrivesNetlist form text c rows
+says_rows forms.Rows c text rows is = read_is_text (input_names c) text rows (refused_ok stimulus_trouble (stimulus (input_names c) text) rows is)
+says_rows forms.Dump c text rows is = refused_ok dump_trouble (vcd_rows (input_names c) (clock_name c) text) rows is
+
+module _ (form : StimulusForm) (c : Circuit) (text : List ℕ) (found : Rows) (is : stimulus_found form c text ≡ Ok found) where
+  parts : (rows : List (List Bool)) × (rows_found form c text ≡ Ok rows) × (record { inputs = input_names c; rows = rows } ≡ found)
+  parts = found_ok (λ (rows : List (List Bool)). record { inputs = input_names c; rows = rows }) (rows_found form c text) found is
 
   pub stimulus_inputs : found.inputs ≡ input_names c
   stimulus_inputs = sym (ap (λ (s : Rows). s.inputs) parts.2)
@@ -23,10 +30,10 @@ module _ (c : Circuit) (text : List ℕ) (found : Rows) (is : stimulus_found c t
   pub stimulus_is_for : IsFor c found
   stimulus_is_for = ([], sym stimulus_inputs ∙ sym (append-nil found.inputs))
 
-  pub stimulus_drives : DrivesNetlist text c found.rows
+  pub stimulus_drives : DrivesNetlist form text c found.rows
   stimulus_drives =
-      let D : Rows → Type 0 = λ s. DrivesNetlist text c s.rows in
-      subst D parts.2 (read_is_text (input_names c) text parts.0 (refused_ok stimulus_trouble (stimulus (input_names c) text) parts.0 parts.1))
+      let D : Rows → Type 0 = λ s. DrivesNetlist form text c s.rows in
+      subst D parts.2 (says_rows form c text parts.0 parts.1)
 
 -- the rows of a text are rows of a stimulus
 rows_wide : (inputs names : List (List ℕ)) (lines : List Line) (rows : List (List Bool)) → AllZip (SaysRow inputs names) lines rows → AllByRecursion (λ row. length row ≡ length inputs) rows
@@ -35,5 +42,6 @@ rows_wide inputs names [] (row ∷ rows) say = absurd say
 rows_wide inputs names (line ∷ lines) [] say = tt
 rows_wide inputs names (line ∷ lines) (row ∷ rows) say = (AllZip-long _ inputs row (say.0).bits, rows_wide inputs names lines rows say.1)
 
-pub drives_rows : (c : Circuit) (text : List ℕ) (rows : List (List Bool)) → DrivesNetlist text c rows → IsStimulus (record { inputs = input_names c; rows = rows })
-drives_rows c text rows t = record { wide = rows_wide (input_names c) t.names t.later rows t.say; few = t.few }
+pub drives_rows : (form : StimulusForm) (c : Circuit) (text : List ℕ) (rows : List (List Bool)) → DrivesNetlist form text c rows → IsStimulus (record { inputs = input_names c; rows = rows })
+drives_rows forms.Rows c text rows t = record { wide = rows_wide (input_names c) t.names t.later rows t.say; few = t.few }
+drives_rows forms.Dump c text rows t = dump_rows c text rows t

@@ -1,5 +1,5 @@
 -- What a finished run of `gate` means, from what its files come to.
-use Rattle.std.proofs.Common.{◌≡◌, ℕ, Bool, true, false, IsTrue, if◌then◌else◌, List, ◌++◌, Option, Some, Result, Ok, Err, refl, sym}
+use Rattle.std.proofs.Common.{◌≡◌, ℕ, IsTrue, List, ◌++◌, Option, Some, is_some, Result, Ok, Err, refl, sym}
 use Rattle.std.proofs.Common.{◌∙◌, ap, subst, None}
 use Rattle.std.specs.Prelude.{IfSome, IsOkAnd}
 use Rattle.cg_gate.specs.Gating.{where_asked}
@@ -7,7 +7,6 @@ use Rattle.cg_gate.specs.declared.texts.Texts.{Texts}
 use Rattle.cg_liberty.specs.LibText.{LibText}
 use Rattle.cg_netlist.specs.Circuit.{Circuit}
 use Rattle.cg_shelf.specs.World.{World}
-use Rattle.cg_run.specs.Verdict.{found_as}
 use Rattle.cg_run.specs.Writes.{puts}
 use Rattle.cg_run.specs.declared.output.Finish.{Finish}
 use Rattle.cg_run.specs.declared.output.Output.{Output}
@@ -20,6 +19,7 @@ use Rattle.cg_source.specs.Design.{design_loads}
 use Rattle.cg_source.specs.Netlist.{SaysNetlist}
 use Rattle.cg_source.specs.Stimulus.{DrivesNetlist, stimulus_found}
 use Rattle.cg_source.specs.declared.design.DesignFiles.{DesignFiles}
+use Rattle.cg_source.specs.declared.stimulus.StimulusForm.{StimulusForm}
 use Rattle.cg_source.proofs.DesignRead.{IsRead, design_read}
 use Rattle.cg_source.proofs.NetlistTexts.{netlist_formed, netlist_says}
 use Rattle.cg_source.proofs.StimulusTexts.{stimulus_drives, stimulus_inputs}
@@ -27,7 +27,7 @@ use Rattle.cg_source.proofs.Texts.{library_says}
 use Rattle.cg_stimulus.specs.Inputs.{Rows}
 use Rattle.cg_command_line.specs.declared.options.Asked.{Asked}
 use Rattle.cg_command_line.specs.declared.options.Options.{Options}
-use Rattle.cg_tool.specs.Gate.{GatesAs, gate_gives, gate_output, gate_start, gate_stops, gate_takes, gate_task}
+use Rattle.cg_tool.specs.Gate.{GatesAs, gate_gives, gate_output, gate_start, gate_stops, gate_takes, gate_task, stimulus_of}
 use Rattle.cg_tool.specs.Gated.{AreApart, IsDriven, IsGated, Stand}
 use Rattle.cg_tool.specs.Wanted.{gateable, request_by, wanted_by}
 use Rattle.cg_tool.specs.Watching.{Kind}
@@ -37,16 +37,16 @@ use Rattle.cg_tool.proofs.LratMeans.{some_and}
 use Rattle.cg_tool.proofs.Standing.{asked_so, out_stands, proof_stands, report_stands}
 
 -- a stimulus that is found is what its text says
-found_text : (held : Option (List ℕ)) (c : Circuit) (text : List ℕ) (found : Rows) → stimulus_found c text ≡ Ok found → held ≡ Some text → IsDriven true held c (Some found)
-found_text held c text found is loaded =
-    (stimulus_inputs c text found is, some_and held text (λ t. DrivesNetlist t c found.rows) loaded (stimulus_drives c text found is))
+found_text : (form : StimulusForm) (held : Option (List ℕ)) (c : Circuit) (text : List ℕ) (found : Rows) → stimulus_found form c text ≡ Ok found → held ≡ Some text → IsDriven (Some form) held c (Some found)
+found_text form held c text found is loaded =
+    (stimulus_inputs form c text found is, some_and held text (λ t. DrivesNetlist form t c found.rows) loaded (stimulus_drives form c text found is))
 
-driven : (asked : Bool) (held : Option (List ℕ)) (c : Circuit) (text : List ℕ) (found : Option Rows) → (if asked then found_as Some (stimulus_found c text) else Ok None) ≡ Ok found → (IsTrue asked → held ≡ Some text) → IsDriven asked held c found
-driven false held c text found is loaded = cc
-driven true held c text found is loaded =
-    let r = found_ok (λ (s : Rows). Some s) (stimulus_found c text) found is in
-    let D : Option Rows → Type 0 = λ s. IsDriven true held c s in
-    subst D r.2 (found_text held c text r.0 r.1 (loaded refl))
+driven : (asked : Option StimulusForm) (held : Option (List ℕ)) (c : Circuit) (text : List ℕ) (found : Option Rows) → stimulus_of asked c text ≡ Ok found → (IsTrue (is_some asked) → held ≡ Some text) → IsDriven asked held c found
+driven None held c text found is loaded = cc
+driven (Some form) held c text found is loaded =
+    let r = found_ok (λ (s : Rows). Some s) (stimulus_found form c text) found is in
+    let D : Option Rows → Type 0 = λ s. IsDriven (Some form) held c s in
+    subst D r.2 (found_text form held c text r.0 r.1 (loaded refl))
 
 ok_and : (found : Result (Option Rows) Trouble) (P : Option Rows → Type 0) → IsOkAnd found P → (stimulus : Option Rows) × (found ≡ Ok stimulus) × P stimulus
 ok_and (Ok stimulus) P h = (stimulus, refl, h)
@@ -55,7 +55,7 @@ ok_and (Err trouble) P h = absurd h
 -- what was put out, of the options that the mode was told
 module _ (options : Options) (kind : Option Kind) (end : DesignFiles Wanted) (c : Circuit) (output : Output) where
   abbrev asked : Result (Option Rows) Trouble
-  asked = if options.asked.stimulus then found_as Some (stimulus_found c end.stimulus) else Ok None
+  asked = stimulus_of options.asked.stimulus c end.stimulus
 
   gates_so : end.netlist ≡ Some c → end.demand ≡ wanted_by options → gate_gives kind end output
       → (stimulus : Option Rows) × (asked ≡ Ok stimulus) × GatesAs kind (request_by end.library (wanted_by options) stimulus) c output
@@ -83,7 +83,7 @@ stand_of asked names before after texts proof report proof_is report_is held apa
     }
 
 gated_of : (options : Options) (kind : Option Kind) (names : Role → List ℕ) (before after : World) (finish : Finish) (end : DesignFiles Wanted) (f : Finishes (gate_task options kind) names before after finish)
-    → IsRead gateable (wanted_by options) options.clock f.given options.asked.stimulus end → gate_gives kind end f.output → IsGated options kind names before after finish
+    → IsRead gateable (wanted_by options) options.clock f.given (is_some options.asked.stimulus) end → gate_gives kind end f.output → IsGated options kind names before after finish
 gated_of options kind names before after finish end f read gives =
     let c : Circuit = read.netlist in
     let gates = gates_so options kind end c f.output read.is read.demanded gives in
@@ -115,5 +115,5 @@ gated_of options kind names before after finish end f read gives =
 
 pub gated_means : (options : Options) (kind : Option Kind) (names : Role → List ℕ) (before after : World) (finish : Finish) → Finishes (gate_task options kind) names before after finish → IsGated options kind names before after finish
 gated_means options kind names before after finish f =
-    let end = came gate_takes gate_stops (gate_gives kind) (gate_start options) (design_loads options.asked.stimulus) f.given f.output f.comes in
-    gated_of options kind names before after finish end.0 f (design_read gateable (wanted_by options) options.clock f.given gate_stops end.0 options.asked.stimulus end.1) end.2
+    let end = came gate_takes gate_stops (gate_gives kind) (gate_start options) (design_loads (is_some options.asked.stimulus)) f.given f.output f.comes in
+    gated_of options kind names before after finish end.0 f (design_read gateable (wanted_by options) options.clock f.given gate_stops end.0 (is_some options.asked.stimulus) end.1) end.2

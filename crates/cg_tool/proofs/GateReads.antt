@@ -9,7 +9,7 @@ use Rattle.cg_gate.specs.Request.{IsFree, MayGate}
 use Rattle.cg_machine.specs.Start.{begins, first_clash}
 use Rattle.cg_netlist.specs.Circuit.{Circuit}
 use Rattle.cg_net.specs.Names.{NetName, is_known}
-use Rattle.cg_run.specs.Verdict.{Given, found_as, reached, unstopped}
+use Rattle.cg_run.specs.Verdict.{Given, reached, unstopped}
 use Rattle.cg_run.specs.declared.refusal.Trouble.{Trouble}
 use Rattle.cg_source.specs.Design.{design_loads, design_of, permitted}
 use Rattle.cg_source.specs.Netlist.{netlist_found}
@@ -17,13 +17,14 @@ use Rattle.cg_source.specs.Refused.{then_found}
 use Rattle.cg_source.specs.Stimulus.{stimulus_found}
 use Rattle.cg_source.specs.declared.design.Design.{Design}
 use Rattle.cg_source.specs.declared.design.DesignFiles.{DesignFiles}
+use Rattle.cg_source.specs.declared.stimulus.StimulusForm.{StimulusForm}
 use Rattle.cg_source.proofs.DesignRead.{design_read}
 use Rattle.cg_source.proofs.NetlistTexts.{netlist_writable}
 use Rattle.cg_source.proofs.StimulusTexts.{stimulus_is_for}
 use Rattle.cg_source.proofs.Taken.{then_ok}
 use Rattle.cg_stimulus.specs.Inputs.{IsFor, Rows}
 use Rattle.cg_command_line.specs.declared.options.Options.{Options}
-use Rattle.cg_tool.specs.Gate.{MayBeGated, gate_start, gate_takes, stimulus_asked}
+use Rattle.cg_tool.specs.Gate.{MayBeGated, gate_start, gate_takes, stimulus_asked, stimulus_of}
 use Rattle.cg_tool.specs.Wanted.{gateable, request_by, unlifted, unprefixed, untested, wanted_by}
 use Rattle.cg_tool.specs.declared.modes.wanted.Wanted.{Wanted}
 use Rattle.cg_tool.proofs.Names.{unknown_apart}
@@ -102,20 +103,20 @@ may_gate library clock wanted text c stimulus named tested found played =
 pub asked_is_for : (design : Design Wanted) (stimulus : Option Rows) (rows : Rows) → stimulus_asked design ≡ Ok stimulus → stimulus ≡ Some rows → IsFor design.netlist rows
 asked_is_for design stimulus rows is some = go (design.demand).asked.stimulus (is ∙ ap Ok some)
   where
-    go : (asked : Bool) → (if asked then found_as Some (stimulus_found design.netlist design.stimulus) else Ok None) ≡ Ok (Some rows) → IsFor design.netlist rows
-    go false is = absurd (cc)
-    go true is =
-        let r = found_ok (λ (s : Rows). Some s) (stimulus_found design.netlist design.stimulus) (Some rows) is in
+    go : (asked : Option StimulusForm) → stimulus_of asked design.netlist design.stimulus ≡ Ok (Some rows) → IsFor design.netlist rows
+    go None is = absurd (cc)
+    go (Some form) is =
+        let r = found_ok (λ (s : Rows). Some s) (stimulus_found form design.netlist design.stimulus) (Some rows) is in
         let same : r.0 ≡ rows = cc in
         let F : Rows → Type 0 = λ s. IsFor design.netlist s in
-        subst F same (stimulus_is_for design.netlist design.stimulus r.0 r.1)
+        subst F same (stimulus_is_for form design.netlist design.stimulus r.0 r.1)
 
 -- a design that was read may be gated
-pub read_may : (options : Options) (given : Given) (end : DesignFiles Wanted) → IsTrue (is_name options.prefix) → IsOkAnd (reached gate_takes unstopped (gate_start options) (design_loads options.asked.stimulus) given) (λ found. found ≡ end)
+pub read_may : (options : Options) (given : Given) (end : DesignFiles Wanted) → IsTrue (is_name options.prefix) → IsOkAnd (reached gate_takes unstopped (gate_start options) (design_loads (is_some options.asked.stimulus)) given) (λ found. found ≡ end)
     → IsSomeAnd (design_of end) MayBeGated
 read_may options given end named is =
-    let read = design_read gateable (wanted_by options) options.clock given unstopped end options.asked.stimulus
-    (found_is (reached gate_takes unstopped (gate_start options) (design_loads options.asked.stimulus) given) end is) in
+    let read = design_read gateable (wanted_by options) options.clock given unstopped end (is_some options.asked.stimulus)
+    (found_is (reached gate_takes unstopped (gate_start options) (design_loads (is_some options.asked.stimulus)) given) end is) in
     let so = found_so end.library options.clock (wanted_by options) read.text read.netlist read.found in
     let N : Option Circuit → Type 0 = λ netlist. IsSomeAnd (design_of (record end { netlist = netlist })) MayBeGated in
     let may : N (Some read.netlist) = λ stimulus played.

@@ -9,9 +9,11 @@ use Rattle.std.proofs.lemmas.Slice.Eq.{bytes_eq-Decides}
 use Rattle.clap.specs.Words.{Kinds, Row, all_of, fault_of, first_of, matches_of}
 use Rattle.cg_plan_laws.specs.declared.settings.Settings.{Settings}
 use Rattle.cg_run.specs.Names.{Files, file_of}
+use Rattle.cg_source.specs.declared.stimulus.StimulusForm.{StimulusForm}
+use Rattle.cg_source.specs.declared.stimulus.StimulusForm.TheVariants as forms
 use Rattle.cg_command_line.specs.CommandLine.{Values, command_line, values_in}
 use Rattle.cg_command_line.specs.Jobs.{JobWords, demo_job, gate_files, gate_job, job_in, job_of, job_of_options, job_with, job_without}
-use Rattle.cg_command_line.specs.Jobs.{lrat_job, sim_job}
+use Rattle.cg_command_line.specs.Jobs.{lrat_job, sim_job, sim_with}
 use Rattle.cg_command_line.specs.Options.{are_different, asked_in, gate_options, gate_options_with, has_options, no_options, number_in}
 use Rattle.cg_command_line.specs.Options.{option_files, settings_in, watch_in}
 use Rattle.cg_command_line.specs.declared.job.Mode.{Mode}
@@ -44,34 +46,36 @@ differs : (name other : List ℕ) (front rest : List (List ℕ)) → list_any (�
 differs name other front rest none =
     unequal name other (or_parts (bytes_eq other name) (list_any (λ o. bytes_eq o name) rest) (any_back (λ o. bytes_eq o name) front (other ∷ rest) none)).0
 
-module _ (out : List ℕ) (stim : Option (List ℕ)) where
+-- the files that are stored, where these others are named before them
+module _ (out : List ℕ) (front : List (List ℕ)) where
   none_of : (rest : List (List ℕ)) → IsTrue (are_different (out ∷ rest)) → list_any (λ o. bytes_eq o out) rest ≡ false
   none_of rest different = is_false (list_any (λ o. bytes_eq o out) rest) (and_parts (not (list_any (λ o. bytes_eq o out) rest)) (are_different rest) different).0
 
-  out_proof : (proof report : Option (List ℕ)) → IsTrue (are_different (out ∷ (option_to_list stim ++ (option_to_list proof ++ option_to_list report)))) → IsTrue (is_some proof) → out ≢ unwrap_or proof []
+  out_proof : (proof report : Option (List ℕ)) → IsTrue (are_different (out ∷ (front ++ (option_to_list proof ++ option_to_list report)))) → IsTrue (is_some proof) → out ≢ unwrap_or proof []
   out_proof None report different asked = absurd (cc)
-  out_proof (Some p) report different asked = differs out p (option_to_list stim) (option_to_list report) (none_of (option_to_list stim ++ (p ∷ option_to_list report)) different)
+  out_proof (Some p) report different asked = differs out p (front) (option_to_list report) (none_of (front ++ (p ∷ option_to_list report)) different)
 
-  out_report : (proof report : Option (List ℕ)) → IsTrue (are_different (out ∷ (option_to_list stim ++ (option_to_list proof ++ option_to_list report)))) → IsTrue (is_some report) → out ≢ unwrap_or report []
+  out_report : (proof report : Option (List ℕ)) → IsTrue (are_different (out ∷ (front ++ (option_to_list proof ++ option_to_list report)))) → IsTrue (is_some report) → out ≢ unwrap_or report []
   out_report proof None different asked = absurd (cc)
   out_report proof (Some r) different asked =
-      differs out r (option_to_list proof) [] (any_back (λ o. bytes_eq o out) (option_to_list stim) (option_to_list proof ++ (r ∷ [])) (none_of (option_to_list stim ++ (option_to_list proof ++ (r ∷ []))) different))
+      differs out r (option_to_list proof) [] (any_back (λ o. bytes_eq o out) (front) (option_to_list proof ++ (r ∷ [])) (none_of (front ++ (option_to_list proof ++ (r ∷ []))) different))
 
-  proof_report : (proof report : Option (List ℕ)) → IsTrue (are_different (out ∷ (option_to_list stim ++ (option_to_list proof ++ option_to_list report)))) → IsTrue (is_some proof) → IsTrue (is_some report) → unwrap_or proof [] ≢ unwrap_or report []
+  proof_report : (proof report : Option (List ℕ)) → IsTrue (are_different (out ∷ (front ++ (option_to_list proof ++ option_to_list report)))) → IsTrue (is_some proof) → IsTrue (is_some report) → unwrap_or proof [] ≢ unwrap_or report []
   proof_report None report different asked also = absurd (cc)
   proof_report (Some p) None different asked also = absurd (cc)
   proof_report (Some p) (Some r) different asked also =
-      let behind = different_back (out ∷ option_to_list stim) (p ∷ r ∷ []) different in
+      let behind = different_back (out ∷ front) (p ∷ r ∷ []) different in
       differs p r [] [] (is_false (list_any (λ o. bytes_eq o p) (r ∷ [])) (and_parts (not (list_any (λ o. bytes_eq o p) (r ∷ []))) (are_different (r ∷ [])) behind).0)
 
 files_apart : (library netlist out : List ℕ) (values : Values) → IsTrue (are_different (library ∷ netlist ∷ out ∷ option_files values)) → AreApart (asked_in values) (file_of (gate_files library netlist out values))
 files_apart library netlist out values different =
     let D : List (List ℕ) → Type 0 = λ l. IsTrue (are_different (out ∷ l)) in
-    let behind = subst D (append_assoc (option_to_list values.stim) (option_to_list values.proof) (option_to_list values.report)) (different_back (library ∷ netlist ∷ []) (out ∷ option_files values) different) in
+    let front = option_to_list values.stim ++ option_to_list values.vcd in
+    let behind = subst D (append_assoc front (option_to_list values.proof) (option_to_list values.report)) (different_back (library ∷ netlist ∷ []) (out ∷ option_files values) different) in
     record {
-      out_proof = out_proof out values.stim values.proof values.report behind;
-      out_report = out_report out values.stim values.proof values.report behind;
-      proof_report = proof_report out values.stim values.proof values.report behind;
+      out_proof = out_proof out front values.proof values.report behind;
+      out_report = out_report out front values.proof values.report behind;
+      proof_report = proof_report out front values.proof values.report behind;
     }
 
 -- what a job was made of
@@ -110,12 +114,26 @@ mode_if : (taken : Bool) (mode : Mode) (files : Files) (options : Option Options
 mode_if true mode files options job is = mode_so mode files options job is
 mode_if false mode files options job is = absurd (cc)
 
-sim_mode : (watchers files : List (List ℕ)) (values : Values) (job : JobWords) → sim_job watchers files values ≡ Some job → job.mode ≡ Sim
-sim_mode watchers [] values job is = absurd (cc)
-sim_mode watchers (a ∷ []) values job is = absurd (cc)
-sim_mode watchers (a ∷ b ∷ []) values job is = absurd (cc)
-sim_mode watchers (a ∷ b ∷ c ∷ d ∷ files) values job is = absurd (cc)
-sim_mode watchers (a ∷ b ∷ c ∷ []) values job is = mode_if (are_different (a ∷ b ∷ c ∷ [])) Sim _ _ job is
+unless_mode : (taken : Bool) (job : Option JobWords) (found : JobWords) → (if taken then None else job) ≡ Some found → job ≡ Some found
+unless_mode true job found is = absurd (cc)
+unless_mode false job found is = is
+
+sim_with_mode : (watchers : List (List ℕ)) (form : StimulusForm) (library netlist stimulus : List ℕ) (values : Values) (job : JobWords) → sim_with watchers form library netlist stimulus values ≡ Some job → job.mode ≡ Gate → ⊥
+sim_with_mode watchers form library netlist stimulus values job is gate =
+    let sim : job.mode ≡ Sim form = mode_if (are_different (library ∷ netlist ∷ stimulus ∷ [])) (Sim form) _ _ job is in
+    let both : Sim form ≡ Gate = sym sim ∙ gate in cc
+
+dump_mode : (watchers : List (List ℕ)) (library netlist : List ℕ) (values : Values) (job : JobWords) (dump : Option (List ℕ)) → option_and_then (λ dump. sim_with watchers forms.Dump library netlist dump values) dump ≡ Some job → job.mode ≡ Gate → ⊥
+dump_mode watchers library netlist values job None is gate = cc
+dump_mode watchers library netlist values job (Some dump) is gate = sim_with_mode watchers forms.Dump library netlist dump values job is gate
+
+sim_mode : (watchers files : List (List ℕ)) (values : Values) (job : JobWords) → sim_job watchers files values ≡ Some job → job.mode ≡ Gate → ⊥
+sim_mode watchers [] values job is gate = cc
+sim_mode watchers (a ∷ []) values job is gate = cc
+sim_mode watchers (a ∷ b ∷ c ∷ d ∷ files) values job is gate = cc
+sim_mode watchers (a ∷ b ∷ []) values job is gate = dump_mode watchers a b values job values.vcd is gate
+sim_mode watchers (a ∷ b ∷ c ∷ []) values job is gate =
+    sim_with_mode watchers forms.Rows a b c values job (unless_mode (is_some values.vcd) (sim_with watchers forms.Rows a b c values) job is) gate
 
 lrat_mode : (files : List (List ℕ)) (values : Values) (job : JobWords) → lrat_job files values ≡ Some job → job.mode ≡ Lrat
 lrat_mode [] values job is = absurd (cc)
@@ -137,7 +155,7 @@ with_apart watchers files values word job is gate = go (bytes_eq word (codes "ga
   where
     go : (a b c d : Bool) → (if a then gate_job watchers files values else if b then sim_job watchers files values else if c then lrat_job files values else if d then demo_job files values else None) ≡ Some job → AreApart job.options.asked (file_of job.files)
     go true b c d is = gate_apart watchers files values job is
-    go false true c d is = let sim : Sim ≡ Gate = sym (sim_mode watchers files values job is) ∙ gate in absurd (cc)
+    go false true c d is = absurd (sim_mode watchers files values job is gate)
     go false false true d is = let lrat : Lrat ≡ Gate = sym (lrat_mode files values job is) ∙ gate in absurd (cc)
     go false false false true is = absurd (demo_mode files values job is gate)
     go false false false false is = absurd (cc)

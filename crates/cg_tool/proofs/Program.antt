@@ -1,6 +1,6 @@
 -- What every run of the program keeps, by its words.
 use Rattle.std.proofs.Common.{◌≡◌, ℕ, Bool, if◌then◌else◌, true, false, IsTrue, List, [], ◌∷◌, codes, Option, None, Some, Result}
-use Rattle.std.proofs.Common.{Ok, Err, refl, sym, subst}
+use Rattle.std.proofs.Common.{Ok, Err, is_some, refl, sym, subst}
 use Rattle.std.specs.Prelude.{IfSome}
 use Rattle.cg_shelf.specs.World.{World}
 use Rattle.cg_shelf.specs.declared.faults.LoadFault.{LoadFault}
@@ -29,6 +29,7 @@ use Rattle.cg_command_line.specs.declared.job.Mode.TheVariants.{Demo, Gate, Lrat
 use Rattle.cg_command_line.specs.declared.options.Options.{Options}
 use Rattle.cg_tool.specs.Demo.{IsDemo, demo_gives, demo_stops, demo_takes, demo_task}
 use Rattle.cg_source.specs.Design.{design_loads}
+use Rattle.cg_source.specs.declared.stimulus.StimulusForm.{StimulusForm}
 use Rattle.cg_tool.specs.Gate.{gate_gives, gate_start, gate_stops, gate_takes, gate_task}
 use Rattle.cg_tool.specs.Gated.{IsGated}
 use Rattle.cg_tool.specs.Lrat.{IsChecked, lrat_gives, lrat_start, lrat_stops, lrat_takes, lrat_task}
@@ -65,9 +66,9 @@ module _ (gave : List ℕ → Result (List ℕ) LoadFault → Type 0) (kinds : L
   -- memory was wanting for the words
   mode_unread : (mode : Mode) (options : Options) (names : Role → List ℕ) (before after : World) (result : Status)
       → Complains (complaint_line (codes "no memory")) statuses.NoMemory before after result → Runs gave (task_in kinds mode options) names before after result
-  mode_unread Gate options names before after result complains = runs_unbegun gave gate_takes gate_stops (gate_gives (kind_at kinds options.watch)) names (gate_start options) (design_loads options.asked.stimulus) before after result complains
-  mode_unread Sim options names before after result complains =
-      runs_unbegun gave sim_takes sim_stops (sim_gives (kind_at kinds options.watch)) names (sim_start options.clock) (design_loads true) before after result complains
+  mode_unread Gate options names before after result complains = runs_unbegun gave gate_takes gate_stops (gate_gives (kind_at kinds options.watch)) names (gate_start options) (design_loads (is_some options.asked.stimulus)) before after result complains
+  mode_unread (Sim form) options names before after result complains =
+      runs_unbegun gave sim_takes (sim_stops form) (sim_gives form (kind_at kinds options.watch)) names (sim_start options.clock) (design_loads true) before after result complains
   mode_unread Lrat options names before after result complains = runs_unbegun gave lrat_takes lrat_stops lrat_gives names lrat_start (roles.Formula ∷ roles.Log ∷ []) before after result complains
   mode_unread (Demo size) options names before after result complains = runs_unbegun gave demo_takes demo_stops demo_gives names (record { size = size }) [] before after result complains
 
@@ -98,9 +99,9 @@ module _ (gave : List ℕ → Result (List ℕ) LoadFault → Type 0) (kinds : L
 
   mode_gains : (mode : Mode) (options : Options) (names : Role → List ℕ) (before after : World) (result : Status)
       → Runs gave (task_in kinds mode options) names before after result → Gains (task_in kinds mode options) names before after result
-  mode_gains Gate options names before after result runs = gains gave (gate_task options (kind_at kinds options.watch)) names before after result (load_named gate_takes gate_stops (gate_start options) (design_loads options.asked.stimulus)) runs
-  mode_gains Sim options names before after result runs =
-      gains gave (sim_task options.clock (kind_at kinds options.watch)) names before after result (load_named sim_takes sim_stops (sim_start options.clock) (design_loads true)) runs
+  mode_gains Gate options names before after result runs = gains gave (gate_task options (kind_at kinds options.watch)) names before after result (load_named gate_takes gate_stops (gate_start options) (design_loads (is_some options.asked.stimulus))) runs
+  mode_gains (Sim form) options names before after result runs =
+      gains gave (sim_task form options.clock (kind_at kinds options.watch)) names before after result (load_named sim_takes (sim_stops form) (sim_start options.clock) (design_loads true)) runs
   mode_gains Lrat options names before after result runs = gains gave lrat_task names before after result (load_named lrat_takes lrat_stops lrat_start (roles.Formula ∷ roles.Log ∷ [])) runs
   mode_gains (Demo size) options names before after result runs = gains gave (demo_task size) names before after result (load_named demo_takes demo_stops (record { size = size }) []) runs
 
@@ -114,9 +115,9 @@ module _ (gave : List ℕ → Result (List ℕ) LoadFault → Type 0) (kinds : L
 
   mode_comes : (mode : Mode) (options : Options) (names : Role → List ℕ) (before after : World) (result : Status)
       → Runs gave (task_in kinds mode options) names before after result → IsTrue before.tells → UnlessFails (EndsAs (task_in kinds mode options) (held_files names before)) result
-  mode_comes Gate options names before after result runs t = completes gave gate_takes gate_stops (gate_gives (kind_at kinds options.watch)) (gate_start options) (design_loads options.asked.stimulus) names before after result runs t
-  mode_comes Sim options names before after result runs t =
-      completes gave sim_takes sim_stops (sim_gives (kind_at kinds options.watch)) (sim_start options.clock) (design_loads true) names before after result runs t
+  mode_comes Gate options names before after result runs t = completes gave gate_takes gate_stops (gate_gives (kind_at kinds options.watch)) (gate_start options) (design_loads (is_some options.asked.stimulus)) names before after result runs t
+  mode_comes (Sim form) options names before after result runs t =
+      completes gave sim_takes (sim_stops form) (sim_gives form (kind_at kinds options.watch)) (sim_start options.clock) (design_loads true) names before after result runs t
   mode_comes Lrat options names before after result runs t = completes gave lrat_takes lrat_stops lrat_gives lrat_start (roles.Formula ∷ roles.Log ∷ []) names before after result runs t
   mode_comes (Demo size) options names before after result runs t = completes gave demo_takes demo_stops demo_gives (record { size = size }) [] names before after result runs t
 
@@ -135,7 +136,7 @@ module _ (gave : List ℕ → Result (List ℕ) LoadFault → Type 0) (kinds : L
       → FinishBy (IsGated options (kind_at kinds options.watch) names before after) result
   mode_gated Gate options names before after result is runs t = let kind = kind_at kinds options.watch in
       finished_means (gate_task options kind) names before after (IsGated options kind names before after) result (gated_means options kind names before after) runs t
-  mode_gated Sim options names before after result is runs t = cc
+  mode_gated (Sim form) options names before after result is runs t = cc
   mode_gated Lrat options names before after result is runs t = cc
   mode_gated (Demo size) options names before after result is runs t = cc
 
@@ -144,23 +145,26 @@ module _ (gave : List ℕ → Result (List ℕ) LoadFault → Type 0) (kinds : L
   job_gated None before after result runs t = tt
   job_gated (Some job) before after result runs t = λ is. mode_gated job.mode job.options (file_of job.files) before after result is runs t
 
-  mode_simulated : (mode : Mode) (options : Options) (names : Role → List ℕ) (before after : World) (result : Status) → mode ≡ Sim → Runs gave (task_in kinds mode options) names before after result → IsTrue before.tells
-      → FinishBy (IsSimulated options.clock (kind_at kinds options.watch) names before after) result
-  mode_simulated Gate options names before after result is runs t = cc
-  mode_simulated Sim options names before after result is runs t = let kind = kind_at kinds options.watch in
-      finished_means (sim_task options.clock kind) names before after (IsSimulated options.clock kind names before after) result (simulated_means options.clock kind names before after) runs t
-  mode_simulated Lrat options names before after result is runs t = cc
-  mode_simulated (Demo size) options names before after result is runs t = cc
+  mode_simulated : (mode : Mode) (options : Options) (names : Role → List ℕ) (form : StimulusForm) (before after : World) (result : Status) → mode ≡ Sim form → Runs gave (task_in kinds mode options) names before after result → IsTrue before.tells
+      → FinishBy (IsSimulated form options.clock (kind_at kinds options.watch) names before after) result
+  mode_simulated Gate options names form before after result is runs t = cc
+  mode_simulated (Sim other) options names form before after result is runs t =
+      let kind = kind_at kinds options.watch in
+      let same : other ≡ form = cc in
+      let P : StimulusForm → Type 0 = λ form. FinishBy (IsSimulated form options.clock kind names before after) result in
+      subst P same (finished_means (sim_task other options.clock kind) names before after (IsSimulated other options.clock kind names before after) result (simulated_means other options.clock kind names before after) runs t)
+  mode_simulated Lrat options names form before after result is runs t = cc
+  mode_simulated (Demo size) options names form before after result is runs t = cc
 
   pub job_simulated : (job : Option JobWords) (before after : World) (result : Status) → RunsWords gave kinds job before after result → IsTrue before.tells
-      → IfSome job (λ j. j.mode ≡ Sim → FinishBy (IsSimulated j.options.clock (kind_at kinds j.options.watch) (file_of j.files) before after) result)
+      → IfSome job (λ j. (form : StimulusForm) → j.mode ≡ Sim form → FinishBy (IsSimulated form j.options.clock (kind_at kinds j.options.watch) (file_of j.files) before after) result)
   job_simulated None before after result runs t = tt
-  job_simulated (Some job) before after result runs t = λ is. mode_simulated job.mode job.options (file_of job.files) before after result is runs t
+  job_simulated (Some job) before after result runs t = λ form is. mode_simulated job.mode job.options (file_of job.files) form before after result is runs t
 
   mode_checked : (mode : Mode) (options : Options) (names : Role → List ℕ) (before after : World) (result : Status) → mode ≡ Lrat → Runs gave (task_in kinds mode options) names before after result → IsTrue before.tells
       → FinishBy (IsChecked names before after) result
   mode_checked Gate options names before after result is runs t = cc
-  mode_checked Sim options names before after result is runs t = cc
+  mode_checked (Sim form) options names before after result is runs t = cc
   mode_checked Lrat options names before after result is runs t = finished_means lrat_task names before after (IsChecked names before after) result (checked names before after) runs t
   mode_checked (Demo size) options names before after result is runs t = cc
 
@@ -172,7 +176,7 @@ module _ (gave : List ℕ → Result (List ℕ) LoadFault → Type 0) (kinds : L
   mode_shown : (mode : Mode) (options : Options) (names : Role → List ℕ) (size : ℕ) (before after : World) (result : Status) → mode ≡ Demo size → Runs gave (task_in kinds mode options) names before after result → IsTrue before.tells
       → FinishBy (IsDemo size before after) result
   mode_shown Gate options names size before after result is runs t = cc
-  mode_shown Sim options names size before after result is runs t = cc
+  mode_shown (Sim form) options names size before after result is runs t = cc
   mode_shown Lrat options names size before after result is runs t = cc
   mode_shown (Demo other) options names size before after result is runs t =
       let same : other ≡ size = cc in

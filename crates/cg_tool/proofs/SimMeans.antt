@@ -26,6 +26,7 @@ use Rattle.cg_source.specs.Refused.{then_found}
 use Rattle.cg_source.specs.Stimulus.{DrivesNetlist, stimulus_found}
 use Rattle.cg_source.specs.declared.design.AnyNetlist.{AnyNetlist}
 use Rattle.cg_source.specs.declared.design.DesignFiles.{DesignFiles}
+use Rattle.cg_source.specs.declared.stimulus.StimulusForm.{StimulusForm}
 use Rattle.cg_source.proofs.DesignRead.{design_read}
 use Rattle.cg_source.proofs.NetlistTexts.{netlist_formed, netlist_says}
 use Rattle.cg_source.proofs.StimulusTexts.{drives_rows, stimulus_drives, stimulus_inputs}
@@ -34,11 +35,11 @@ use Rattle.cg_tool.specs.Sim.{IsSimulated, PlaysAs, sim_gives, sim_start, sim_st
 use Rattle.cg_tool.specs.Watching.{Kind}
 use Rattle.cg_tool.proofs.LratMeans.{some_and}
 
-simulated_of : (clock : Option NetName) (kind : Option Kind) (names : Role → List ℕ) (before after : World) (finish : Finish) (library : List CellData) (c : Circuit) (rows : List (List Bool)) (output : Output)
+simulated_of : (form : StimulusForm) (clock : Option NetName) (kind : Option Kind) (names : Role → List ℕ) (before after : World) (finish : Finish) (library : List CellData) (c : Circuit) (rows : List (List Bool)) (output : Output)
     → IsSomeAnd (before.held (names roles.Library)) (λ lib. LibText lib library) → IsSomeAnd (before.held (names roles.Netlist)) (λ t. SaysNetlist t library clock c) → IsWellFormed c
-    → IsSomeAnd (before.held (names roles.Stimulus)) (λ t. DrivesNetlist t c rows) → IsStimulus (record { inputs = input_names c; rows = rows })
-    → PlaysAs kind c (record { inputs = input_names c; rows = rows }) output → output.finish ≡ finish → Written names output before after → IsSimulated clock kind names before after finish
-simulated_of clock kind names before after finish library c rows output cells says formed drives good plays ends written =
+    → IsSomeAnd (before.held (names roles.Stimulus)) (λ t. DrivesNetlist form t c rows) → IsStimulus (record { inputs = input_names c; rows = rows })
+    → PlaysAs kind c (record { inputs = input_names c; rows = rows }) output → output.finish ≡ finish → Written names output before after → IsSimulated form clock kind names before after finish
+simulated_of form clock kind names before after finish library c rows output cells says formed drives good plays ends written =
     let own : IsFor c (record { inputs = input_names c; rows = rows }) = ([], sym (append-nil (input_names c))) in
     let start = start_is c in
     let wave = wave_is c (record { inputs = input_names c; rows = rows }) good own in
@@ -64,35 +65,35 @@ found_so (Ok stimulus) P h = (stimulus, refl, h)
 found_so (Err trouble) P h = absurd h
 
 -- what was played, of the netlist that was read
-plays_so : (kind : Option Kind) (end : DesignFiles AnyNetlist) (c : Circuit) (output : Output) → end.netlist ≡ Some c → sim_gives kind end output
-    → (stimulus : Rows) × (stimulus_found c end.stimulus ≡ Ok stimulus) × PlaysAs kind c stimulus output
-plays_so kind end c output is gives =
-    let N : Option Circuit → Type 0 = λ netlist. sim_gives kind (record end { netlist = netlist }) output in
-    found_so (stimulus_found c end.stimulus) (λ s. PlaysAs kind c s output) (subst N is gives)
+plays_so : (form : StimulusForm) (kind : Option Kind) (end : DesignFiles AnyNetlist) (c : Circuit) (output : Output) → end.netlist ≡ Some c → sim_gives form kind end output
+    → (stimulus : Rows) × (stimulus_found form c end.stimulus ≡ Ok stimulus) × PlaysAs kind c stimulus output
+plays_so form kind end c output is gives =
+    let N : Option Circuit → Type 0 = λ netlist. sim_gives form kind (record end { netlist = netlist }) output in
+    found_so (stimulus_found form c end.stimulus) (λ s. PlaysAs kind c s output) (subst N is gives)
 
 permitted_ok : (r : Result Circuit Trouble) (c : Circuit) → then_found r (λ d. Ok d) ≡ Ok c → r ≡ Ok c
 permitted_ok (Ok d) c is = is
 permitted_ok (Err trouble) c is = absurd (cc)
 
-pub simulated_means : (clock : Option NetName) (kind : Option Kind) (names : Role → List ℕ) (before after : World) (finish : Finish) → Finishes (sim_task clock kind) names before after finish → IsSimulated clock kind names before after finish
-simulated_means clock kind names before after finish f =
-    let end = came sim_takes sim_stops (sim_gives kind) (sim_start clock) (design_loads true) f.given f.output f.comes in
-    let read = design_read permits_any any_netlist clock f.given sim_stops end.0 true end.1 in
+pub simulated_means : (form : StimulusForm) (clock : Option NetName) (kind : Option Kind) (names : Role → List ℕ) (before after : World) (finish : Finish) → Finishes (sim_task form clock kind) names before after finish → IsSimulated form clock kind names before after finish
+simulated_means form clock kind names before after finish f =
+    let end = came sim_takes (sim_stops form) (sim_gives form kind) (sim_start clock) (design_loads true) f.given f.output f.comes in
+    let read = design_read permits_any any_netlist clock f.given (sim_stops form) end.0 true end.1 in
     let library = (end.0).library in
     let text = (end.0).stimulus in
     let c : Circuit = read.netlist in
-    let plays = plays_so kind end.0 c f.output read.is end.2 in
+    let plays = plays_so form kind end.0 c f.output read.is end.2 in
     let rows = (plays.0).rows in
-    let same : plays.0 ≡ record { inputs = input_names c; rows = rows } = ap (λ inputs. record { inputs = inputs; rows = rows }) (stimulus_inputs c text plays.0 plays.1) in
+    let same : plays.0 ≡ record { inputs = input_names c; rows = rows } = ap (λ inputs. record { inputs = inputs; rows = rows }) (stimulus_inputs form c text plays.0 plays.1) in
     let found = permitted_ok (netlist_found library clock read.text) c read.found in
     let says = netlist_says library clock read.text c found in
-    let drives = stimulus_drives c text plays.0 plays.1 in
+    let drives = stimulus_drives form c text plays.0 plays.1 in
     let P : Rows → Type 0 = λ s. PlaysAs kind c s f.output in
-    simulated_of clock kind names before after finish library c rows f.output
+    simulated_of form clock kind names before after finish library c rows f.output
     (some_and (before.held (names roles.Library)) read.library_text (λ lib. LibText lib library) (held_so (before.held (names roles.Library)) (f.given roles.Library) read.library_text (f.told roles.Library) read.library_loaded)
     (library_says read.library_text library read.library_is))
     (some_and (before.held (names roles.Netlist)) read.text (λ t. SaysNetlist t library clock c) (held_so (before.held (names roles.Netlist)) (f.given roles.Netlist) read.text (f.told roles.Netlist) read.loaded) says)
     (netlist_formed library clock read.text c found)
-    (some_and (before.held (names roles.Stimulus)) text (λ t. DrivesNetlist t c rows) (held_so (before.held (names roles.Stimulus)) (f.given roles.Stimulus) text (f.told roles.Stimulus) (read.drives refl)) drives)
-    (drives_rows c text rows drives)
+    (some_and (before.held (names roles.Stimulus)) text (λ t. DrivesNetlist form t c rows) (held_so (before.held (names roles.Stimulus)) (f.given roles.Stimulus) text (f.told roles.Stimulus) (read.drives refl)) drives)
+    (drives_rows form c text rows drives)
     (subst P same plays.2) f.ends f.written

@@ -22,6 +22,7 @@ use Rattle.cg_source.specs.Library.{library_found}
 use Rattle.cg_source.specs.Netlist.{SaysNetlist}
 use Rattle.cg_source.specs.Refused.{then_found}
 use Rattle.cg_source.specs.Stimulus.{DrivesNetlist, stimulus_found}
+use Rattle.cg_source.specs.declared.stimulus.StimulusForm.TheVariants as forms
 use Rattle.cg_tool.specs.Wanted.{gateable, request_by, wanted_by}
 use Rattle.cg_tool.specs.declared.modes.demo.Demo.{Demo}
 use Rattle.cg_tool.specs.declared.modes.demo.Pipeline.{Pipeline}
@@ -47,7 +48,7 @@ abbrev pub pipeline_found : ℕ → Result Pipeline Trouble
 pipeline_found size =
     then_found (library_found cells_text) (λ library.
     then_found (permitted gateable library None demo_wanted (lines_text size)) (λ c.
-    found_as (λ stimulus. record { library = library; netlist = c; stimulus = stimulus }) (stimulus_found c (rows_text size))))
+    found_as (λ stimulus. record { library = library; netlist = c; stimulus = stimulus }) (stimulus_found forms.Rows c (rows_text size))))
 
 -- what its gating is asked for
 abbrev pub pipeline_request : Pipeline → RequestData
@@ -86,7 +87,7 @@ pub record IsDemo (size : ℕ) (before after : World) (finish : Finish) : Type 0
   pub stimulus : Rows
   pub cells : LibText library_text library
   pub says : SaysNetlist (generated size) library None netlist
-  pub drives : DrivesNetlist (stimulus_text size) netlist stimulus.rows
+  pub drives : DrivesNetlist forms.Rows (stimulus_text size) netlist stimulus.rows
   pub text : List ℕ
   pub gives : GivesDemo size (request_by library demo_wanted (Some stimulus)) netlist text
   pub said : after.said ≡ before.said ++ text

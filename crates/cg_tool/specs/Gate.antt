@@ -1,5 +1,5 @@
 -- What `gate` makes of a library, a netlist and it may be a stimulus.
-use Rattle.std.specs.Prelude.{◌≡◌, ℕ, if◌then◌else◌, List, [], ◌∷◌, ◌++◌, Option, None, Some, Result, Ok, Err, IsOkAnd, IsSomeAnd}
+use Rattle.std.specs.Prelude.{◌≡◌, ℕ, List, [], ◌∷◌, ◌++◌, Option, None, Some, is_some, Result, Ok, Err, IsOkAnd, IsSomeAnd}
 use Rattle.std.specs.Option.{option_and_then, option_map}
 use Rattle.cg_gate.specs.Gating.{GivesGated}
 use Rattle.cg_gate.specs.Headline.{Headline}
@@ -18,16 +18,21 @@ use Rattle.cg_source.specs.Design.{design_loads, design_of, design_start, design
 use Rattle.cg_source.specs.Stimulus.{stimulus_found}
 use Rattle.cg_source.specs.declared.design.Design.{Design}
 use Rattle.cg_source.specs.declared.design.DesignFiles.{DesignFiles}
+use Rattle.cg_source.specs.declared.stimulus.StimulusForm.{StimulusForm}
 use Rattle.cg_stimulus.specs.Inputs.{IsFor, Rows}
 use Rattle.cg_command_line.specs.declared.options.Options.{Options}
 use Rattle.cg_tool.specs.Wanted.{gateable, request_by, wanted_by}
 use Rattle.cg_tool.specs.Watching.{Kind}
 use Rattle.cg_tool.specs.declared.modes.wanted.Wanted.{Wanted}
 
+-- the stimulus that a text says for a netlist, where one of a form is asked for
+abbrev pub stimulus_of : Option StimulusForm → Circuit → List ℕ → Result (Option Rows) Trouble
+stimulus_of None c text = Ok None
+stimulus_of (Some form) c text = found_as Some (stimulus_found form c text)
+
 -- the stimulus of a design, where one is asked for
 abbrev pub stimulus_asked : Design Wanted → Result (Option Rows) Trouble
-stimulus_asked design =
-    if (design.demand).asked.stimulus then found_as Some (stimulus_found design.netlist design.stimulus) else Ok None
+stimulus_asked design = stimulus_of (design.demand).asked.stimulus design.netlist design.stimulus
 
 -- what gating of a design is asked for, with this stimulus
 abbrev pub request_of : Design Wanted → Option Rows → RequestData
@@ -93,4 +98,4 @@ gate_start options = design_start (wanted_by options) options.clock
 -- what a run of `gate` does
 abbrev pub gate_task : Options → Option Kind → Task
 gate_task options kind =
-    task_of gate_takes gate_stops (gate_gives kind) (gate_start options) (design_loads options.asked.stimulus)
+    task_of gate_takes gate_stops (gate_gives kind) (gate_start options) (design_loads (is_some options.asked.stimulus))

@@ -1,5 +1,5 @@
 -- What a finished run of `gate` means.
-use Rattle.std.specs.Prelude.{◌≡◌, ℕ, Bool, true, false, List, ◌++◌, Option, None, Some, IfSome, IsSomeAnd, IsTrue, ◌≢◌}
+use Rattle.std.specs.Prelude.{◌≡◌, ℕ, List, ◌++◌, Option, None, Some, IfSome, IsSomeAnd, IsTrue, ◌≢◌}
 use Rattle.cg_cell.specs.Cell.{CellData}
 use Rattle.cg_liberty.specs.LibText.{LibText}
 use Rattle.cg_gate.specs.Gating.{GivesGated}
@@ -16,6 +16,7 @@ use Rattle.cg_run.specs.declared.role.Role.TheVariants as roles
 use Rattle.cg_shelf.specs.World.{World}
 use Rattle.cg_source.specs.Netlist.{SaysNetlist}
 use Rattle.cg_source.specs.Stimulus.{DrivesNetlist}
+use Rattle.cg_source.specs.declared.stimulus.StimulusForm.{StimulusForm}
 use Rattle.cg_stimulus.specs.Inputs.{Rows, input_names}
 use Rattle.cg_command_line.specs.declared.options.Asked.{Asked}
 use Rattle.cg_command_line.specs.declared.options.Options.{Options}
@@ -23,12 +24,12 @@ use Rattle.cg_tool.specs.Gate.{gate_output}
 use Rattle.cg_tool.specs.Wanted.{request_by, wanted_by}
 use Rattle.cg_tool.specs.Watching.{Kind}
 
--- the stimulus that is asked for is the one that the text says for the netlist
-abbrev pub IsDriven : Bool → Option (List ℕ) → Circuit → Option Rows → Type 0
-IsDriven true held c None = ⊥
-IsDriven true held c (Some stimulus) =
-    (stimulus.inputs ≡ input_names c) × IsSomeAnd held (λ text. DrivesNetlist text c stimulus.rows)
-IsDriven false held c stimulus = stimulus ≡ None
+-- the stimulus that is asked for is the one that the text, of the form that is asked for, says for the netlist
+abbrev pub IsDriven : Option StimulusForm → Option (List ℕ) → Circuit → Option Rows → Type 0
+IsDriven (Some form) held c None = ⊥
+IsDriven (Some form) held c (Some stimulus) =
+    (stimulus.inputs ≡ input_names c) × IsSomeAnd held (λ text. DrivesNetlist form text c stimulus.rows)
+IsDriven None held c stimulus = stimulus ≡ None
 
 -- the files that are stored have different names
 pub record AreApart (asked : Asked) (names : Role → List ℕ) : Type 0 where
@@ -44,7 +45,7 @@ pub record Stand (names : Role → List ℕ) (texts : Texts) (after : World) : T
 
 -- A netlist was gated: the bytes under LIB are a text that stands for a library, and those under NETLIST say
 -- a well-formed netlist with this library and the clock of the words, of which no gating cell is refused and in which no net's name
--- begins with the prefix. Those under the stimulus's name, where one is asked for, stand for rows of its data inputs. What is
+-- begins with the prefix. Those under the stimulus's name, where one is asked for, drive its data inputs with rows. What is
 -- stored and said are the texts that gating gives of it, and they mean what the headline says. Files of different names each hold
 -- their text.
 pub record IsGated (options : Options) (kind : Option Kind) (names : Role → List ℕ) (before after : World)

@@ -23,6 +23,7 @@ use Rattle.cg_source.specs.Stimulus.{DrivesNetlist, stimulus_found}
 use Rattle.cg_source.specs.declared.design.AnyNetlist.{AnyNetlist}
 use Rattle.cg_source.specs.declared.design.Design.{Design}
 use Rattle.cg_source.specs.declared.design.DesignFiles.{DesignFiles}
+use Rattle.cg_source.specs.declared.stimulus.StimulusForm.{StimulusForm}
 use Rattle.cg_stimulus.specs.Inputs.{Rows}
 use Rattle.cg_stimulus.specs.Played.{IsPlayed}
 use Rattle.cg_tool.specs.Watching.{Kind}
@@ -49,44 +50,44 @@ trouble_in (Ok found) = None
 trouble_in (Err trouble) = Some trouble
 
 -- what stops a design whose stimulus is played: a fault of that; and what is put out of it
-abbrev pub play_stops : Design AnyNetlist → Option Trouble
-play_stops design = trouble_in (stimulus_found design.netlist design.stimulus)
+abbrev pub play_stops : StimulusForm → Design AnyNetlist → Option Trouble
+play_stops form design = trouble_in (stimulus_found form design.netlist design.stimulus)
 
-abbrev pub play_gives : Option Kind → Design AnyNetlist → Output → Type 0
-play_gives kind design output =
-    IsOkAnd (stimulus_found design.netlist design.stimulus) (λ stimulus. PlaysAs kind design.netlist stimulus output)
+abbrev pub play_gives : StimulusForm → Option Kind → Design AnyNetlist → Output → Type 0
+play_gives form kind design output =
+    IsOkAnd (stimulus_found form design.netlist design.stimulus) (λ stimulus. PlaysAs kind design.netlist stimulus output)
 
 -- The mode: it takes the files of a design, in whose netlist gating cells may stand; what stops the design stops it, and it gives
 -- what is put out of it.
 abbrev pub sim_takes : DesignFiles AnyNetlist → Role → List ℕ → Result (DesignFiles AnyNetlist) Trouble
 sim_takes = design_takes permits_any
 
-abbrev pub sim_stops : DesignFiles AnyNetlist → Option Trouble
-sim_stops files = option_and_then play_stops (design_of files)
+abbrev pub sim_stops : StimulusForm → DesignFiles AnyNetlist → Option Trouble
+sim_stops form files = option_and_then (play_stops form) (design_of files)
 
-abbrev pub sim_gives : Option Kind → DesignFiles AnyNetlist → Output → Type 0
-sim_gives kind files output = IsSomeAnd (design_of files) (λ design. play_gives kind design output)
+abbrev pub sim_gives : StimulusForm → Option Kind → DesignFiles AnyNetlist → Output → Type 0
+sim_gives form kind files output = IsSomeAnd (design_of files) (λ design. play_gives form kind design output)
 
 -- nothing is read yet; the words may name a clock
 abbrev pub sim_start : Option NetName → DesignFiles AnyNetlist
 sim_start clock = design_start any_netlist clock
 
--- what a run of `sim` does
-abbrev pub sim_task : Option NetName → Option Kind → Task
-sim_task clock kind = task_of sim_takes sim_stops (sim_gives kind) (sim_start clock) (design_loads true)
+-- what a run of `sim` does, with a stimulus of this form
+abbrev pub sim_task : StimulusForm → Option NetName → Option Kind → Task
+sim_task form clock kind = task_of sim_takes (sim_stops form) (sim_gives form kind) (sim_start clock) (design_loads true)
 
 -- A stimulus was played: the bytes under LIB are a text that stands for a library, those under NETLIST say
--- a well-formed netlist with this library and the clock of the words, and those under STIM drive its data
--- inputs with these rows. There is one history on which these rows are played, and what is said is its lines. Nothing is stored.
-pub record IsSimulated (clock : Option NetName) (kind : Option Kind) (names : Role → List ℕ) (before after : World)
-    (finish : Finish) : Type 0 where
+-- a well-formed netlist with this library and the clock of the words, and those under the stimulus's name,
+-- which are a text of this form, drive its data inputs with these rows. There is one history on which these rows are played, and what is said is its lines. Nothing is stored.
+pub record IsSimulated (form : StimulusForm) (clock : Option NetName) (kind : Option Kind) (names : Role → List ℕ)
+    (before after : World) (finish : Finish) : Type 0 where
   pub library : List CellData
   pub netlist : Circuit
   pub rows : List (List Bool)
   pub history : List Moment
   pub cells : IsSomeAnd (before.held (names roles.Library)) (λ text. LibText text library)
   pub says : IsSomeAnd (before.held (names roles.Netlist)) (λ text. SaysNetlist text library clock netlist)
-  pub drives : IsSomeAnd (before.held (names roles.Stimulus)) (λ text. DrivesNetlist text netlist rows)
+  pub drives : IsSomeAnd (before.held (names roles.Stimulus)) (λ text. DrivesNetlist form text netlist rows)
   pub well_formed : IsWellFormed netlist
   pub played : IsPlayed netlist rows history
   pub no_other : (other : List Moment) → IsPlayed netlist rows other → other ≡ history

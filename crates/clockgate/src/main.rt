@@ -9,6 +9,7 @@ use cg_report::toggle_count::ToggleCount;
 use cg_report::watcher::Watcher;
 use cg_shelf::DirShelf;
 use cg_tool::{Status, run};
+use cg_vcd::watch::VcdWatch;
 use progress_line::ProgressLine;
 use std::alloc::AllocError;
 use std::io::{ErrorKind, IsTerminal};
@@ -34,12 +35,13 @@ fn words(rt: HostRuntime) -> io::Result<Vec<String>> {
     Ok(env::args(&rt)?.collect::<Vec<String>>(rt.alloc())?)
 }
 
-/// Runs the words, which may ask for a watcher of edges or of toggles.
+/// Runs the words, which may ask for a watcher of edges or of toggles, or for one that says a Value Change Dump.
 fn watched(rt: HostRuntime, words: &[String]) -> Result<Status, AllocError> {
     let alloc = rt.alloc();
     let mut watchers: Vec<Box<dyn Watcher>> = Vec::new(alloc);
     watchers.push(Box::new(alloc, EdgeCount::new())?)?;
     watchers.push(Box::new(alloc, ToggleCount::new(alloc))?)?;
+    watchers.push(Box::new(alloc, VcdWatch::new(alloc))?)?;
     let mut shelf = DirShelf::new(rt, rt.stderr(), alloc);
     let mut line = ProgressLine::new(rt, rt.stderr().is_terminal());
     Ok(run(alloc, words, &mut shelf, watchers, &mut line))

@@ -12,6 +12,7 @@ use cg_report::watcher::Watcher;
 use cg_shelf::{Call, CallMade, MemShelf, Shelf};
 use cg_text::number::push_number;
 use cg_tool::{Status, run};
+use cg_vcd::watch::VcdWatch;
 use std::alloc::{AllocError, Global};
 
 /// What is said in place of the bytes of a file that is not there.
@@ -314,7 +315,7 @@ fn put_words(alloc: Global, all: &mut Vec<String>, words: &[&str]) -> Result<(),
     Ok(())
 }
 
-/// Runs the program on a command line with its two watchers, and two of a kind of their own.
+/// Runs the program on a command line with its three watchers, and two of a kind of their own.
 fn run_words<S: Shelf>(
     alloc: Global,
     shelf: &mut S,
@@ -325,6 +326,8 @@ fn run_words<S: Shelf>(
     watchers.push(edges)?;
     let toggles: Box<dyn Watcher> = Box::new(alloc, ToggleCount::new(alloc))?;
     watchers.push(toggles)?;
+    let dump: Box<dyn Watcher> = Box::new(alloc, VcdWatch::new(alloc))?;
+    watchers.push(dump)?;
     let highs: Box<dyn Watcher> = Box::new(alloc, Highs::new())?;
     watchers.push(highs)?;
     let few: Box<dyn Watcher> = Box::new(alloc, Highs::few())?;

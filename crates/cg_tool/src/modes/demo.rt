@@ -32,7 +32,7 @@ use cg_run::{Finish, Names, Output, Reader, Refusal, Role, Status, Trouble, coll
 use cg_shelf::Shelf;
 use cg_source::design::take_permitted;
 use cg_source::library::take_library;
-use cg_source::stimulus::take_stimulus;
+use cg_source::stimulus::{StimulusForm, take_stimulus};
 use cg_stimulus::stimulus::Stimulus;
 use std::alloc::{AllocError, Global};
 
@@ -143,10 +143,10 @@ fn read_netlist(
 /// Reads the stimulus.
 #[tactic(auto, unfolding(crate::specs::Demo::rows_text))]
 fn read_rows(alloc: Global, size: u32, netlist: &Netlist) -> Result<Stimulus, Trouble>
-    ensures { Answers (stimulus_found netlist.now (rows_text size)) result }
+    ensures { Answers (stimulus_found StimulusForm.Rows netlist.now (rows_text size)) result }
 {
     let text = Seq::from_vec(stimulus(alloc, size)?);
-    take_stimulus(alloc, &text, netlist)
+    take_stimulus(alloc, StimulusForm::Rows, &text, netlist)
 }
 
 /// Reads the texts of a pipeline.

@@ -1,6 +1,6 @@
 //! The mode `gate`: a netlist is read, its clock is gated, and it is written.
 
-ghost use Rattle.std.specs.Prelude.{◌≡◌, ◌++◌, IfErr, IfOk, IsSomeAnd, IsTrue, None, OnOk};
+ghost use Rattle.std.specs.Prelude.{◌≡◌, ◌++◌, IfErr, IfOk, IsSomeAnd, IsTrue, None, OnOk, is_some};
 ghost use Rattle.std.specs.Option.{option_map};
 ghost use Rattle.cg_gate.specs.Gating.{GivesGated};
 ghost use Rattle.cg_gate.specs.Headline.{Headline};
@@ -64,10 +64,10 @@ fn read<S: Shelf>(
     progress: &mut dyn Progress,
 ) -> Result<Output, Refusal>
     ensures { Reads (Gave S.gives) gate_takes gate_stops (gate_gives (option_map (λ watcher. says watcher) watcher)) (name_of names.now) (gate_start options)
-        (design_loads options.asked.stimulus) (S.world shelf.old) (S.world shelf.new) result }
+        (design_loads (is_some options.asked.stimulus)) (S.world shelf.old) (S.world shelf.new) result }
 {
     let _ = options.prefix.bytes();
-    let files = design_files(options.asked.stimulus);
+    let files = design_files(options.asked.stimulus.is_some());
     let found = collect(alloc, shelf, names, files, start(alloc, options))?;
     Ok(finish(alloc, found, watcher, progress)?)
 }
@@ -121,10 +121,10 @@ fn gate_design(
 fn asked_stimulus(alloc: Global, design: &Design<Wanted>) -> Result<Option<Stimulus>, Trouble>
     ensures { Answers (stimulus_asked design.now) result }
 {
-    if !design.demand.asked.stimulus {
+    let Some(form) = design.demand.asked.stimulus else {
         return Ok(None);
-    }
-    let stimulus = take_stimulus(alloc, &design.stimulus, &design.netlist)?;
+    };
+    let stimulus = take_stimulus(alloc, form, &design.stimulus, &design.netlist)?;
     Ok(Some(stimulus))
 }
 

@@ -20,26 +20,27 @@ use cg_report::watcher::Watcher;
 use cg_run::{Finish, Names, Output, Refusal, Status, Trouble, collect, put_out};
 use cg_shelf::Shelf;
 use cg_source::design::{AnyNetlist, Design, DesignFiles, design_files};
-use cg_source::stimulus::take_stimulus;
+use cg_source::stimulus::{StimulusForm, take_stimulus};
 use cg_stimulus::stimulus::Stimulus;
 use std::alloc::{AllocError, Global};
 
-/// Plays a stimulus on a netlist, over the shelf; the words may name the clock and a watcher.
+/// Plays a stimulus of this form on a netlist, over the shelf; the words may name the clock and a watcher.
 pub fn run<S: Shelf>(
     alloc: Global,
     shelf: &mut S,
     names: &Names<'_>,
+    form: StimulusForm,
     clock: Option<Name>,
     watcher: Option<Box<dyn Watcher>>,
 ) -> Status
-    ensures runs { Runs (Gave S.gives) (sim_task clock (option_map (λ watcher. says watcher) watcher)) (name_of names.now) (S.world shelf.old)
+    ensures runs { Runs (Gave S.gives) (sim_task form clock (option_map (λ watcher. says watcher) watcher)) (name_of names.now) (S.world shelf.old)
         (S.world shelf.new) result }
 
     // A finished run said the lines of the one history on which the stimulus is played, and the watcher's line of its moments.
     ensures simulated { IsTrue (S.world shelf.old).tells
-        → FinishBy (IsSimulated clock (option_map (λ watcher. says watcher) watcher) (name_of names.now) (S.world shelf.old) (S.world shelf.new)) result }
+        → FinishBy (IsSimulated form clock (option_map (λ watcher. says watcher) watcher) (name_of names.now) (S.world shelf.old) (S.world shelf.new)) result }
 {
-    let found = read(alloc, shelf, names, clock, watcher);
+    let found = read(alloc, shelf, names, form, clock, watcher);
     put_out(alloc, shelf, names, found)
 }
 
@@ -48,28 +49,30 @@ fn read<S: Shelf>(
     alloc: Global,
     shelf: &mut S,
     names: &Names<'_>,
+    form: StimulusForm,
     clock: Option<Name>,
     watcher: Option<Box<dyn Watcher>>,
 ) -> Result<Output, Refusal>
-    ensures { Reads (Gave S.gives) sim_takes sim_stops (sim_gives (option_map (λ watcher. says watcher) watcher)) (name_of names.now) (sim_start clock)
+    ensures { Reads (Gave S.gives) sim_takes (sim_stops form) (sim_gives form (option_map (λ watcher. says watcher) watcher)) (name_of names.now) (sim_start clock)
         (design_loads true) (S.world shelf.old) (S.world shelf.new) result }
 {
     let start = DesignFiles::start(alloc, AnyNetlist, clock);
     let found = collect(alloc, shelf, names, design_files(true), start)?;
-    Ok(finish(alloc, found, watcher)?)
+    Ok(finish(alloc, form, found, watcher)?)
 }
 
 /// What is put out once all files are taken.
 fn finish(
     alloc: Global,
+    form: StimulusForm,
     found: DesignFiles<AnyNetlist>,
     watcher: Option<Box<dyn Watcher>>,
 ) -> Result<Output, Trouble>
     requires { IsSome found.netlist }
-    ensures { Concludes (sim_stops found) (sim_gives (option_map (λ watcher. says watcher) watcher) found) result }
+    ensures { Concludes (sim_stops form found) (sim_gives form (option_map (λ watcher. says watcher) watcher) found) result }
 {
     let design = found.read();
-    let result = play(alloc, &design, watcher);
+    let result = play(alloc, form, &design, watcher);
     // By a call, as its parts would else be dropped one by one in the proof.
     drop(design);
     result
@@ -78,12 +81,13 @@ fn finish(
 /// What is put out of a design whose stimulus is played on its netlist.
 fn play(
     alloc: Global,
+    form: StimulusForm,
     design: &Design<AnyNetlist>,
     watcher: Option<Box<dyn Watcher>>,
 ) -> Result<Output, Trouble>
-    ensures { Concludes (play_stops design.now) (play_gives (option_map (λ watcher. says watcher) watcher) design.now) result }
+    ensures { Concludes (play_stops form design.now) (play_gives form (option_map (λ watcher. says watcher) watcher) design.now) result }
 {
-    let stimulus = take_stimulus(alloc, &design.stimulus, &design.netlist)?;
+    let stimulus = take_stimulus(alloc, form, &design.stimulus, &design.netlist)?;
     let said = say_rows(alloc, &design.netlist, &stimulus, watcher)?;
     Ok(Output {
         stores: Seq::new(alloc),

@@ -4,11 +4,13 @@ use Rattle.cg_run.specs.declared.refusal.Trouble.TheVariants as troubles
 use Rattle.cg_tool.proofs.modes.gate.put_gated.Goals as goal
 
 pub returns-in_ok-put_texts-in-Ok : goal.returns-in_ok-put_texts-in-Ok
-returns-in_ok-put_texts-in-Ok g c =
-    (ap (option_map troubles.Limit) c.in-Ok.ensures.unstopped, record {
-      may = c.requires;
-      texts = c.in-Ok.texts;
-      gives = c.in-Ok.ensures.gives;
-      headline = c.in-Ok.ensures.headline;
-      is = c.in_ok-put_texts-in-Ok.ensures;
-    })
+returns-in_ok-put_texts-in-Ok g c = (
+  ap (option_map troubles.Limit) c.in-Ok.ensures.unstopped,
+  record {
+    may = c.requires;
+    texts = c.in-Ok.texts;
+    gives = c.in-Ok.ensures.gives;
+    headline = c.in-Ok.ensures.headline;
+    is = c.in_ok-put_texts-in-Ok.ensures;
+  },
+)

@@ -1,4 +1,4 @@
-use Rattle.std.proofs.Common.{Option}
+use Rattle.std.proofs.Common.{Option, is_some}
 use Rattle.std.specs.Option.{option_map}
 use Rattle.cg_run.specs.Names.{name_of}
 use Rattle.cg_run.specs.Reads.{Gave}
@@ -24,7 +24,7 @@ returns g c =
     let after = g.S.Shelf.world c.put_out.new.shelf in
     let task = gate_task options kind in
     let result = c.put_out.result in
-    let runs : Runs gave task names before after result = runs_of_halves gave gate_takes gate_stops (gate_gives kind) names (gate_start options) (design_loads options.asked.stimulus) before middle c.read-found.result after result c.read-found.ensures c.put_out.ensures in
+    let runs : Runs gave task names before after result = runs_of_halves gave gate_takes gate_stops (gate_gives kind) names (gate_start options) (design_loads (is_some options.asked.stimulus)) before middle c.read-found.result after result c.read-found.ensures c.put_out.ensures in
     record {
       runs = runs;
       gated = λ t. finish_map (λ finish. Finishes task names before after finish) (IsGated options kind names before after) result (gated_means options kind names before after) (finished_so gave task names before after result (ended gave task names before after result runs) t);

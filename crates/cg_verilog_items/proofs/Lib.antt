@@ -1,0 +1,11 @@
+pub mod LineCounts
+pub mod Literals
+pub mod Parting
+pub mod Passing
+pub mod PlainNames
+pub mod Shorter
+pub mod TokensLeft
+pub mod ShorterItems
+pub mod KnownNets
+pub mod Blocks
+pub mod Inverted

@@ -1,0 +1,12 @@
+use Rattle.std.proofs.Common.{◌∷◌, ◌++◌, ◌∙◌, [], List, ap, subst, sym}
+use Rattle.cg_net.specs.Names.{NetName, with_name}
+use Rattle.cg_verilog_text.specs.Forms.{Literal}
+use Rattle.cg_verilog_items.specs.Terms.{AreKnown}
+use Rattle.cg_verilog_items.proofs.KnownNets.{known_more}
+use Rattle.cg_verilog_items.proofs.term.table_with.Goals as goal
+
+pub returns : goal.returns
+returns c = λ many.
+    subst (λ (table : List NetName). AreKnown (c.args.literals.now ++ c.args.next.now ∷ []) table)
+    (sym (c.in_ok-intern.ensures.names ∙ ap (with_name c.in_ok-full.full) (c.bytes.ensures.bytes ∙ ap (λ (k : Literal NetName). k.net) c.next.view_is)))
+    (known_more c.args.literals.now c.args.next.now c.in_ok-full.full c.in_ok-full.ensures)

@@ -1,0 +1,269 @@
+//! Reading tokens one by one, with the next one at hand.
+
+ghost use Rattle.std.specs.Prelude.{◌≡◌, false, true, MatchOption};
+ghost use Rattle.cg_verilog_text.specs.Items.{line_of};
+ghost use Rattle.cg_verilog_text.specs.Reading.{behind, bit, is_arrow, is_bit, is_identifier, is_label, is_mark, is_next, is_numeral, is_plain, is_word};
+ghost use Rattle.cg_verilog_text.specs.Reading.{mark, name, pass, word};
+ghost use Rattle.cg_verilog_items.specs.Readings.{IsPassed, IsRead, is_over, next_text};
+
+use crate::identifier::Identifier;
+use crate::numeral::Numeral;
+use crate::stop::Stop;
+use crate::token::{Token, is_one};
+use crate::tokens::Tokens;
+use std::marker::Model;
+
+/// Bytes of a text.
+#[derive(Drop)]
+pub struct Piece<'a> {
+    /// The bytes.
+    pub bytes: &'a [u8],
+}
+
+impl<'a> Model for Piece<'a> {
+    ghost use Rattle.std.specs.Prelude.{List, ℕ};
+
+    ghost Value = { List ℕ };
+
+    ghost view = { λ p. p.bytes.now };
+}
+
+/// Tokens, of which the next one is at hand.
+///
+/// Clauses see the tokens that are left, and the number of the line behind the last.
+#[derive(Drop)]
+pub struct Reading<'a> {
+    tokens: Tokens<'a>,
+    next: Option<Token<'a>>,
+}
+
+impl<'a> Model for Reading<'a> {
+    ghost use Rattle.std.specs.Prelude.{List, ℕ};
+    ghost use Rattle.cg_verilog_text.specs.Tokens.{Token as TokenSeen};
+    ghost use Rattle.cg_verilog_items.specs.Readings.{ahead};
+
+    ghost Value = { List TokenSeen × ℕ };
+
+    ghost view = { λ r. (ahead r.next r.tokens.0, r.tokens.1) };
+}
+
+impl<'a> Reading<'a> {
+    /// Tokens from the first one on.
+    pub fn new(tokens: Tokens<'a>) -> Reading<'a>
+        ensures left { result.0 ≡ tokens.entry.0 }
+        ensures end { result.1 ≡ tokens.entry.1 }
+    {
+        let mut tokens = tokens;
+        let next = tokens.next();
+        Reading { tokens, next }
+    }
+
+    /// The line of the next token, or the line behind the last.
+    pub fn line(&self) -> u64
+        ensures { result ≡ line_of self.now.1 self.now.0 }
+    {
+        match &self.next {
+            None => self.tokens.end(),
+            Some(token) => token.line(),
+        }
+    }
+
+    /// Whether there is no token.
+    pub fn is_over(&self) -> bool
+        ensures { result ≡ is_over self.now.0 }
+    {
+        self.next.is_none()
+    }
+
+    /// The bytes of the next token; none where there is no token.
+    pub fn text(&self) -> &'a [u8]
+        ensures { result.now ≡ next_text self.now.0 }
+    {
+        match &self.next {
+            None => &[],
+            Some(token) => token.text(),
+        }
+    }
+
+    /// Passes over the next token.
+    pub fn pass(&mut self)
+        ensures left { self.new.0 ≡ behind self.old.0 }
+        ensures end { self.new.1 ≡ self.old.1 }
+    {
+        if self.next.is_some() {
+            self.next = self.tokens.next();
+        }
+    }
+
+    /// Whether the next token is this mark.
+    pub fn is_mark(&self, byte: u8) -> bool
+        ensures { result ≡ is_next (is_mark byte) self.now.0 }
+    {
+        match &self.next {
+            None => false,
+            Some(token) => token.is_mark(byte),
+        }
+    }
+
+    /// Whether the next token is this word.
+    pub fn is_word(&self, word: &[u8]) -> bool
+        ensures { result ≡ is_next (is_word word.now) self.now.0 }
+    {
+        match &self.next {
+            None => false,
+            Some(token) => token.is_word(word),
+        }
+    }
+
+    /// Whether the next token is `<=`.
+    fn is_arrow(&self) -> bool
+        ensures { result ≡ is_next is_arrow self.now.0 }
+    {
+        match &self.next {
+            None => false,
+            Some(token) => token.is_arrow(),
+        }
+    }
+
+    /// Whether the next token is a plain identifier.
+    pub fn is_plain(&self) -> bool
+        ensures { result ≡ is_next is_plain self.now.0 }
+    {
+        match &self.next {
+            None => false,
+            Some(token) => token.is_plain(),
+        }
+    }
+
+    /// The next token as a name, if it is an identifier.
+    fn identifier(&self) -> Option<Identifier<'a>>
+        ensures { MatchOption result (is_next is_identifier self.now.0 ≡ false)
+            (λ word. (is_next is_identifier self.now.0 ≡ true) × (word ≡ next_text self.now.0)) }
+    {
+        match &self.next {
+            None => None,
+            Some(token) => token.identifier(),
+        }
+    }
+
+    /// Whether the next token may name an instance.
+    fn is_label(&self) -> bool
+        ensures { result ≡ is_next is_label self.now.0 }
+    {
+        match &self.next {
+            None => false,
+            Some(token) => token.is_label(),
+        }
+    }
+
+    /// The next token as a number, if it is one without a leading zero.
+    fn next_numeral(&self) -> Option<Numeral<'a>>
+        ensures { MatchOption result (is_next is_numeral self.now.0 ≡ false)
+            (λ numeral. (is_next is_numeral self.now.0 ≡ true) × (numeral ≡ next_text self.now.0)) }
+    {
+        match &self.next {
+            None => None,
+            Some(token) => token.numeral(),
+        }
+    }
+
+    /// Whether the next token is a bit.
+    pub fn is_bit(&self) -> bool
+        ensures { result ≡ is_next is_bit self.now.0 }
+    {
+        match &self.next {
+            None => false,
+            Some(token) => token.is_bit(),
+        }
+    }
+
+    /// Reads a mark.
+    pub fn mark(&mut self, byte: u8) -> Result<(), Stop>
+        ensures end { self.new.1 ≡ self.old.1 }
+        ensures left { IsPassed self.old.1 (mark byte self.old.0) self.new.0 result }
+    {
+        if !self.is_mark(byte) {
+            return Err(Stop::At(self.line()));
+        }
+        self.pass();
+        Ok(())
+    }
+
+    /// Reads a word.
+    pub fn word(&mut self, text: &[u8]) -> Result<(), Stop>
+        ensures end { self.new.1 ≡ self.old.1 }
+        ensures left { IsPassed self.old.1 (word text.now self.old.0) self.new.0 result }
+    {
+        if !self.is_word(text) {
+            return Err(Stop::At(self.line()));
+        }
+        self.pass();
+        Ok(())
+    }
+
+    /// Reads a `<=`.
+    pub fn arrow(&mut self) -> Result<(), Stop>
+        ensures end { self.new.1 ≡ self.old.1 }
+        ensures left { IsPassed self.old.1 (pass is_arrow self.old.0) self.new.0 result }
+    {
+        if !self.is_arrow() {
+            return Err(Stop::At(self.line()));
+        }
+        self.pass();
+        Ok(())
+    }
+
+    /// Reads a name.
+    pub fn name(&mut self) -> Result<Identifier<'a>, Stop>
+        ensures end { self.new.1 ≡ self.old.1 }
+        ensures left { IsRead self.old.1 (name self.old.0) self.new.0 result }
+    {
+        match self.identifier() {
+            None => Err(Stop::At(self.line())),
+            Some(name) => {
+                self.pass();
+                Ok(name)
+            }
+        }
+    }
+
+    /// Reads the name of an instance.
+    pub fn label(&mut self) -> Result<Piece<'a>, Stop>
+        ensures end { self.new.1 ≡ self.old.1 }
+        ensures left { IsRead self.old.1 (pass is_label self.old.0) self.new.0 result }
+    {
+        if !self.is_label() {
+            return Err(Stop::At(self.line()));
+        }
+        let bytes = self.text();
+        self.pass();
+        Ok(Piece { bytes })
+    }
+
+    /// Reads a number.
+    pub fn numeral(&mut self) -> Result<Numeral<'a>, Stop>
+        ensures end { self.new.1 ≡ self.old.1 }
+        ensures left { IsRead self.old.1 (pass is_numeral self.old.0) self.new.0 result }
+    {
+        match self.next_numeral() {
+            None => Err(Stop::At(self.line())),
+            Some(numeral) => {
+                self.pass();
+                Ok(numeral)
+            }
+        }
+    }
+
+    /// Reads a bit.
+    pub fn bit(&mut self) -> Result<bool, Stop>
+        ensures end { self.new.1 ≡ self.old.1 }
+        ensures left { IsRead self.old.1 (bit self.old.0) self.new.0 result }
+    {
+        if !self.is_bit() {
+            return Err(Stop::At(self.line()));
+        }
+        let one = is_one(self.text());
+        self.pass();
+        Ok(one)
+    }
+}

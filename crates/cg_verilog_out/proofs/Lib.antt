@@ -1,0 +1,10 @@
+pub mod PieceLemmas
+pub mod OpenTermLemmas
+pub mod CoverLines
+pub mod Lines
+pub mod LookedAt
+pub mod LabelsLeft
+pub mod Ports
+pub mod Searches
+pub mod WholeText
+pub mod WithinNetlist

@@ -1,0 +1,8 @@
+use Rattle.std.proofs.Common.{◌≡◌, not, None, take}
+use Rattle.std.specs.List.{find, flat_map}
+use Rattle.cg_verilog_text.specs.HasText.{is_ascii, names_in}
+use Rattle.cg_verilog_out.specs.Writing.{flop_items}
+use Rattle.cg_verilog_out.proofs.refusals.check_registers.Given as goal
+
+abbrev pub invariant-registers : goal.invariant-registers
+invariant-registers l = find (λ name. not (is_ascii name)) (flat_map (λ part. flat_map names_in (flop_items l.netlist.names part)) (take l.number l.netlist.registers)) ≡ None

@@ -1,0 +1,4 @@
+pub mod Pieces
+pub mod Writing
+pub mod Refusing
+pub mod inner

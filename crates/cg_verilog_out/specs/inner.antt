@@ -1,0 +1,2 @@
+pub mod OpenTerms
+pub mod Numbering

@@ -13,7 +13,7 @@ use Rattle.cg_claim.specs.Leaves.{copy_number, leaves_at, leaves_of, shown_leaf}
 use Rattle.cg_claim.specs.Question.{Copy, Before, After, Changed, Question}
 use Rattle.cg_claim.specs.Reach.{after_nets, after_states, before_nets, before_states, changed_nets, changed_states, registers_of}
 use Rattle.cg_claim.proofs.LeafOrder.{inputs_at, leaf, leaves_are, registers_at}
-use Rattle.cg_claim_reach.specs.inner.Leaves.{input_leaf, register_leaf}
+use Rattle.cg_claim_reach.specs.Leaves.{input_leaf, register_leaf}
 use Rattle.cg_claim_reach.specs.Reached.{IsConeOf}
 use Rattle.cg_claim_reach.proofs.Filtering.{filter_twice}
 use Rattle.cg_claim_reach.proofs.SpreadCones.{map_append}

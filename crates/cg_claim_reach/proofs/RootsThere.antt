@@ -22,7 +22,7 @@ use Rattle.cg_claim_reach.proofs.Filtering.{in_filtered}
 abbrev pub AreThere : MachineData → List ℕ → Type 0
 AreThere m nets = (x : ℕ) → is_in nets x ≡ true → x < length m.circuit.names
 
-none_there : (m : MachineData) → AreThere m []
+pub none_there : (m : MachineData) → AreThere m []
 none_there m x among = absurd (both_ways false refl among)
 
 pub both_there : (m : MachineData) (xs ys : List ℕ) → AreThere m xs → AreThere m ys → AreThere m (xs ++ ys)
@@ -46,7 +46,7 @@ module _ (m : MachineData) (good : IsMachine m) where
       go None is = none_there m
       go (Some e) is = λ x among. subst (λ y. y < length m.circuit.names) (sym (in_one x e among)) (good.enabled r e is).below
 
-  next_there : (r : ℕ) → AreThere m (next_nets m r)
+  pub next_there : (r : ℕ) → AreThere m (next_nets m r)
   next_there r = both_there m (inputs_of_register m r) (option_to_list (enable_of m r)) (go (slice_get m.circuit.registers r) refl) (enable_there r)
     where
       go : (o : Option (RegisterCell ℕ ℕ)) → slice_get m.circuit.registers r ≡ o → AreThere m (option_map_or (λ cell. cell.inputs) o [])

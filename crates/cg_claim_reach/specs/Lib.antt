@@ -1,5 +1,6 @@
 pub mod Asking
 pub mod Fanout
+pub mod Leaves
 pub mod Reached
 pub mod Unseen
 pub mod inner

@@ -8,7 +8,7 @@ ghost use Rattle.cg_claim.specs.Leaves.{leaves_at, leaves_of, shown_leaf};
 ghost use Rattle.cg_claim.specs.Question.{After, Changed};
 ghost use Rattle.cg_claim.specs.Reach.{before_nets};
 ghost use Rattle.cg_claim_reach.specs.Asking.{AsksThere, question_of};
-ghost use Rattle.cg_claim_reach.specs.inner.Leaves.{input_leaf, register_leaf};
+ghost use Rattle.cg_claim_reach.specs.Leaves.{input_leaf, register_leaf};
 ghost use Rattle.cg_claim_reach.specs.inner.Found.{AreSetsOf, IsLater};
 ghost use Rattle.cg_claim_reach.specs.Reached.{IsConeOf};
 
@@ -129,7 +129,7 @@ fn nets_of(alloc: Global, numbers: &[u32]) -> Result<Vec<NetId>, AllocError>
 }
 
 /// Puts these data inputs behind the leaves, as leaves of this copy.
-fn push_inputs(copy: u8, inputs: &[NetId], leaves: &mut Vec<Leaf>) -> Result<(), AllocError>
+pub fn push_inputs(copy: u8, inputs: &[NetId], leaves: &mut Vec<Leaf>) -> Result<(), AllocError>
     ensures { OnOk result (leaves.new.items ≡ leaves.old.items ++ map (input_leaf copy) inputs.now) }
 {
     for net in inputs {
@@ -140,7 +140,11 @@ fn push_inputs(copy: u8, inputs: &[NetId], leaves: &mut Vec<Leaf>) -> Result<(),
 }
 
 /// Puts these registers behind the leaves, as leaves of this copy.
-fn push_registers(copy: u8, registers: &[RegId], leaves: &mut Vec<Leaf>) -> Result<(), AllocError>
+pub fn push_registers(
+    copy: u8,
+    registers: &[RegId],
+    leaves: &mut Vec<Leaf>,
+) -> Result<(), AllocError>
     ensures { OnOk result (leaves.new.items ≡ leaves.old.items ++ map (register_leaf copy) registers.now) }
 {
     for reg in registers {

@@ -25,13 +25,13 @@
 pub mod asked;
 pub mod fanout;
 mod learn;
-mod leaves;
+pub mod leaves;
 mod named;
 pub mod own;
 pub mod reached;
 mod readers;
-mod roots;
-mod sources;
+pub mod roots;
+pub mod sources;
 mod spread;
 mod tables;
 mod targets;

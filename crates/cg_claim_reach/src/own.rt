@@ -15,7 +15,7 @@ use cg_netlist::netlist::Netlist;
 use cg_netlist::view::RegKind;
 
 /// Whether the next bit of a register asks for its bit: where it has an enable, or its function names it.
-pub(crate) fn asks_own(machine: &Machine, reg: RegId) -> bool
+pub fn asks_own(machine: &Machine, reg: RegId) -> bool
     requires { reg < length machine.now.circuit.registers }
     ensures { result ≡ next_asks_own machine.now reg }
 {

@@ -18,7 +18,7 @@ use indexmap::IndexSet;
 use std::alloc::AllocError;
 
 /// Puts the nets of the joined enable behind the others.
-pub(crate) fn push_enables(enables: &[NetLit], roots: &mut Vec<NetId>) -> Result<(), AllocError>
+pub fn push_enables(enables: &[NetLit], roots: &mut Vec<NetId>) -> Result<(), AllocError>
     ensures { OnOk result (roots.new.items ≡ roots.old.items ++ map (λ l. l.0) enables.now) }
 {
     for k in 0..enables.len() {
@@ -102,7 +102,7 @@ fn push_net(net: NetId, roots: &mut Vec<NetId>) -> Result<(), AllocError>
 }
 
 /// Puts the nets behind the others that the next bit of a register asks for: its inputs and its enable.
-fn push_next(machine: &Machine, reg: RegId, roots: &mut Vec<NetId>) -> Result<(), AllocError>
+pub fn push_next(machine: &Machine, reg: RegId, roots: &mut Vec<NetId>) -> Result<(), AllocError>
     requires { reg < length machine.now.circuit.registers }
     ensures { OnOk result (roots.new.items ≡ roots.old.items ++ next_nets machine.now reg) }
 {

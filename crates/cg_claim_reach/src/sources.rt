@@ -56,7 +56,7 @@ fn regs_of(alloc: Global, numbers: &[u32]) -> Result<Vec<RegId>, AllocError>
 }
 
 /// Puts these registers behind the numbers.
-pub(crate) fn push_all(regs: &[RegId], numbers: &mut Vec<u32>) -> Result<(), AllocError>
+pub fn push_all(regs: &[RegId], numbers: &mut Vec<u32>) -> Result<(), AllocError>
     ensures { OnOk result (numbers.new.items ≡ numbers.old.items ++ regs.now) }
 {
     for reg in regs {
@@ -228,7 +228,7 @@ fn push_part(machine: &Machine, part: &Part, numbers: &mut Vec<u32>) -> Result<(
 }
 
 /// Puts a register behind the numbers, or not.
-fn push_if(wanted: bool, reg: RegId, numbers: &mut Vec<u32>) -> Result<(), AllocError>
+pub fn push_if(wanted: bool, reg: RegId, numbers: &mut Vec<u32>) -> Result<(), AllocError>
     ensures { OnOk result (numbers.new.items ≡ numbers.old.items ++ (if wanted then reg ∷ [] else [])) }
 {
     if wanted {

@@ -48,14 +48,14 @@ fit_there library kind some = go (first_fit kind library) refl some
     go (Some i) at h = let w = position-Some (is_fit kind) library i other at in found (is_fit kind) library i other w.0 w.1
 
 -- where nothing is missing
-first_there : (library : List CellData) (kind : FitKind) (kinds : List FitKind) → missing library (kind ∷ kinds) ≡ None → HasCell library kind × (missing library kinds ≡ None)
+pub first_there : (library : List CellData) (kind : FitKind) (kinds : List FitKind) → missing library (kind ∷ kinds) ≡ None → HasCell library kind × (missing library kinds ≡ None)
 first_there library kind kinds none = go (is_some (first_fit kind library)) refl none
   where
     go : (b : Bool) → is_some (first_fit kind library) ≡ b → cond (not b) (Some kind) (missing library kinds) ≡ None → HasCell library kind × (missing library kinds ≡ None)
     go true at h = (fit_there library kind at, h)
     go false at h = absurd (none-some kind (sym h))
 
-where_there : (library : List CellData) (b : Bool) (kind : FitKind) (kinds : List FitKind) → missing library (where_needed b kind kinds) ≡ None → (b ≡ true → HasCell library kind) × (missing library kinds ≡ None)
+pub where_there : (library : List CellData) (b : Bool) (kind : FitKind) (kinds : List FitKind) → missing library (where_needed b kind kinds) ≡ None → (b ≡ true → HasCell library kind) × (missing library kinds ≡ None)
 where_there library true kind kinds none = let p = first_there library kind kinds none in ((λ is. p.0), p.1)
 where_there library false kind kinds none = ((λ is. absurd (both_ways false refl is)), none)
 
@@ -76,17 +76,17 @@ stage_cells library test s none =
     record { gater = a.0; inverter = b.0; joiner = c.0; owned = d.0 }
 
 module _ (library : List CellData) where
-  abbrev AllThere : List AddedGate → Type 0
+  abbrev pub AllThere : List AddedGate → Type 0
   AllThere gates = All (λ (gate : AddedGate). HasCell library gate.kind) gates
 
-  gate_there : (m : MachineData) (kind : FitKind) (inputs : List ℕ) → HasCell library kind → AllThere m.gates → AllThere (add_gate m kind inputs).machine.gates
+  pub gate_there : (m : MachineData) (kind : FitKind) (inputs : List ℕ) → HasCell library kind → AllThere m.gates → AllThere (add_gate m kind inputs).machine.gates
   gate_there m kind inputs has all = go (find_gate m kind inputs)
     where
       go : (o : Option ℕ) → AllThere (or_push m (push_gate m kind inputs) o).machine.gates
       go None = All-append (λ (gate : AddedGate). HasCell library gate.kind) m.gates (next_gate m kind inputs ∷ []) all (all_one (λ (gate : AddedGate). HasCell library gate.kind) (next_gate m kind inputs) has)
       go (Some net) = all
 
-  delay_there : (m : MachineData) (net : ℕ) → AllThere m.gates → AllThere (add_delay m net).machine.gates
+  pub delay_there : (m : MachineData) (net : ℕ) → AllThere m.gates → AllThere (add_delay m net).machine.gates
   delay_there m net all = go (find_delay m net)
     where
       go : (o : Option ℕ) → AllThere (or_push m (push_delay m net) o).machine.gates

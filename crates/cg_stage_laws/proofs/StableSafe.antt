@@ -7,7 +7,7 @@ use Rattle.std.proofs.lemmas.Option.{get_or_from_slice_get}
 use Rattle.cg_cell.specs.Cover.{cover_value}
 use Rattle.cg_cell.specs.declared.fit.FitKind.TheVariants.{And2}
 use Rattle.cg_limit.specs.declared.Limit.{Limit}
-use Rattle.cg_netlist.specs.Circuit.{GatingCell, RegisterCell, clock_nets, gate_nets}
+use Rattle.cg_netlist.specs.Circuit.{GatingCell, RegisterCell, clock_nets, gater_outputs}
 use Rattle.cg_net.specs.NetSets.{is_in}
 use Rattle.cg_netlist.specs.Moment.{bit}
 use Rattle.cg_netlist.proofs.Given.{in_option}
@@ -54,7 +54,7 @@ module _ (m : MachineData) (s : Stage) (good : IsMachine m) (fits : Fits m s) wh
       let r = element_at m.circuit.registers 0 (omega (arith, some)) in
       let among : is_in (clock_nets m.circuit) r.0.clock ≡ true = at r.0 r.1 in (
         r.0.clock,
-        in_option m.circuit.clock r.0.clock (elim (is_in_cases (option_to_list m.circuit.clock) (gate_nets m.circuit) r.0.clock among) [
+        in_option m.circuit.clock r.0.clock (elim (is_in_cases (option_to_list m.circuit.clock) (gater_outputs m.circuit) r.0.clock among) [
           | inl here ↦ here
           | inr there ↦ absurd (both_ways false refl (sym (ap (λ l. is_in l r.0.clock) (ap (map (λ (g : GatingCell ℕ). g.output)) good.no_gaters)) ∙ there))
         ]),

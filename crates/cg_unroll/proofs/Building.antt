@@ -18,7 +18,7 @@ use Rattle.cg_aig.specs.declared.fault.AigFault.TheVariants.{Limit, NoMemory}
 use Rattle.cg_aig.proofs.RunsFit.{stops_past}
 use Rattle.cg_claim.specs.Build.{size}
 use Rattle.cg_claim.proofs.WholeLists.{run_fits}
-use Rattle.cg_unroll.specs.inner.Building.{Built, MayFail}
+use Rattle.cg_unroll.specs.Building.{Built, MayFail}
 
 which_limit : (which : Quantity) (t : Seen) (calls : List AndCall) → Somewhere (RefusesAt AndRefuses (Limit which) t) calls → which ≡ ClaimNodes
 which_limit which t [] h = absurd h

@@ -20,9 +20,9 @@ use Rattle.cg_claim.specs.Tables.{SameOn}
 use Rattle.cg_claim.proofs.DriversTell.{driver_tells}
 use Rattle.cg_claim.proofs.GivenNets.{shown_feeds, shown_in}
 use Rattle.cg_claim.proofs.ReachedOnly.{copy_laid, same_then}
-use Rattle.cg_unroll.specs.inner.Building.{LaysCells, MayFail, table_of}
+use Rattle.cg_unroll.specs.Building.{LaysCells, MayFail, table_of}
 use Rattle.cg_unroll.specs.inner.Filling.{AgreesWithAll, Puts, nets_shown}
-use Rattle.cg_unroll.specs.inner.Laid.{HoldsInputs, copy_table}
+use Rattle.cg_unroll.specs.Laid.{HoldsInputs, copy_table}
 use Rattle.cg_claim_reach.specs.Reached.{IsConeOf}
 use Rattle.cg_netlist.proofs.WalkOrder.{in_each}
 use Rattle.cg_netlist.proofs.Filtered.{range_in, to_filter}

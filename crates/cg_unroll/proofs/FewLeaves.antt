@@ -1,11 +1,11 @@
 -- A claim has few leaves.
-use Rattle.std.proofs.Common.{◌≡◌, ℕ, ◌+◌, ◌<◌, ◌≤◌, Bool, true, false, cond, List, [], ◌∷◌, ◌++◌, map, length, arith}
-use Rattle.std.specs.List.{filter}
+use Rattle.std.proofs.Common.{◌≡◌, ℕ, ◌+◌, ◌<◌, ◌≤◌, Bool, true, false, cond, List, [], ◌∷◌, ◌++◌, map, length, nat_eq, arith}
+use Rattle.std.specs.List.{IsDistinct, filter}
 use Rattle.std.specs.Option.{option_to_list}
 use Rattle.std.proofs.lemmas.List.{length-append, length-map}
 use Rattle.std.proofs.lemmas.List.FromFn.{length-range_with_len}
 use Rattle.std.proofs.lemmas.Map.Steps.{length-le_from_distinct_below}
-use Rattle.cg_netlist.specs.Circuit.{cell_nets, data_inputs, drivers, gate_nets, given_nets, register_nets}
+use Rattle.cg_netlist.specs.Circuit.{cell_nets, data_inputs, drivers, gater_outputs, given_nets, register_nets}
 use Rattle.cg_netlist.proofs.Given.{data_given}
 use Rattle.cg_net.proofs.Members.{All-member, distinct_left, is_in_left}
 use Rattle.cg_machine.specs.Machine.{IsMachine, MachineData}
@@ -15,7 +15,7 @@ use Rattle.cg_claim.specs.Leaves.{is_reached, leaves_at, sources, width_of}
 use Rattle.cg_claim.specs.Question.{Copy, Before, After, Changed, Question}
 use Rattle.cg_claim.specs.Reach.{registers_of}
 
-fewer : {X : Type 0} (test : X → Bool) (xs : List X) → length (filter test xs) ≤ length xs
+pub fewer : {X : Type 0} (test : X → Bool) (xs : List X) → length (filter test xs) ≤ length xs
 fewer test [] = omega arith
 fewer test (x ∷ xs) = go (fewer test xs) (test x)
   where
@@ -24,14 +24,18 @@ fewer test (x ∷ xs) = go (fewer test xs) (test x)
     go rest false = omega (arith, rest)
 
 module _ (m : MachineData) (good : IsMachine m) where
-  few_inputs : length (data_inputs m.circuit) ≤ length m.circuit.names
-  few_inputs =
+  pub inputs_once : IsDistinct nat_eq (data_inputs m.circuit)
+  inputs_once =
       let c = m.circuit in
       let clock : List ℕ = option_to_list c.clock in
       let given = distinct_left (given_nets c) (cell_nets c) good.well_formed.driven.once in
-      let gates = distinct_left (data_inputs c ++ clock ++ gate_nets c) (register_nets c) given in
-      let once = distinct_left (data_inputs c) clock (distinct_left (data_inputs c ++ clock) (gate_nets c) gates) in
-      length-le_from_distinct_below (data_inputs c) (length c.names) once
+      let gaters = distinct_left (data_inputs c ++ clock ++ gater_outputs c) (register_nets c) given in
+      distinct_left (data_inputs c) clock (distinct_left (data_inputs c ++ clock) (gater_outputs c) gaters)
+
+  pub few_inputs : length (data_inputs m.circuit) ≤ length m.circuit.names
+  few_inputs =
+      let c = m.circuit in
+      length-le_from_distinct_below (data_inputs c) (length c.names) inputs_once
       (λ x among. All-member (λ net. net < length c.names) (drivers c) x good.well_formed.driven.nets (is_in_left (given_nets c) (cell_nets c) x (data_given c x among)))
 
   few_at : (q : Question) (copy : Copy) → length (leaves_at m q copy) ≤ length m.circuit.names + length m.circuit.registers

@@ -16,7 +16,7 @@ use Rattle.cg_aig.specs.declared.fault.AigFault.{AigFault}
 use Rattle.cg_aig.proofs.GateRuns.{SameEnd, and_run, or_run}
 use Rattle.cg_aig.proofs.RunsFit.{aig_growing}
 use Rattle.cg_machine.specs.Gates.{HasInputs, gate_cover}
-use Rattle.cg_unroll.specs.inner.Building.{Built, MayFail}
+use Rattle.cg_unroll.specs.Building.{Built, MayFail}
 use Rattle.cg_unroll.proofs.Building.{stops_fails}
 
 pub same_built : (s t : Seen) (v : ℕ) (r q : Run) → SameEnd r q → Built s t v q → Built s t v r

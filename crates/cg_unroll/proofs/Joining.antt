@@ -11,7 +11,7 @@ use Rattle.cg_aig.specs.declared.fault.AigFault.{AigFault}
 use Rattle.cg_machine.specs.Claims.{Literal}
 use Rattle.cg_claim.specs.Build.{aig_values, enable_run, join_run, literal_of}
 use Rattle.cg_claim.proofs.WholeLists.{join_grows, run_fits}
-use Rattle.cg_unroll.specs.inner.Building.{Built, MayFail}
+use Rattle.cg_unroll.specs.Building.{Built, MayFail}
 use Rattle.cg_unroll.specs.inner.Joining.{IsJoining}
 use Rattle.cg_unroll.proofs.Building.{fails_longer}
 use Rattle.cg_unroll.proofs.Gating.{inverse_valid}

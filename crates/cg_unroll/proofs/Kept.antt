@@ -13,8 +13,8 @@ use Rattle.cg_claim.specs.Reach.{registers_of}
 use Rattle.cg_unroll.specs.declared.tables.Tables.{Tables}
 use Rattle.cg_claim.specs.declared.leaf.Leaf.{Leaf}
 use Rattle.cg_unroll.specs.inner.Copying.{AreTables, Starts}
-use Rattle.cg_unroll.specs.inner.Laid.{LaysCopy}
-use Rattle.cg_unroll.specs.inner.Placing.{IsLiteralTable}
+use Rattle.cg_unroll.specs.Laid.{LaysCopy}
+use Rattle.cg_unroll.specs.Placing.{IsLiteralTable}
 use Rattle.cg_unroll.specs.inner.States.{Carries, LaysStates}
 use Rattle.cg_unroll.proofs.Sides.{table_later}
 use Rattle.cg_netlist.proofs.Filtered.{in_filter}

@@ -15,7 +15,7 @@ use Rattle.cg_claim.specs.Build.{aig_values, cell_run, lay, put_run}
 use Rattle.cg_claim.specs.Tables.{SameOn}
 use Rattle.cg_claim.proofs.ReachedOnly.{lay_same, same_then}
 use Rattle.cg_claim.proofs.WholeLists.{lay_grows}
-use Rattle.cg_unroll.specs.inner.Building.{Built, IsLaying, LaysCells, MayFail, table_of}
+use Rattle.cg_unroll.specs.Building.{Built, IsLaying, LaysCells, MayFail, table_of}
 use Rattle.cg_unroll.proofs.Building.{fails_longer}
 
 abbrev pub everywhere : ℕ → Bool

@@ -21,7 +21,7 @@ use Rattle.cg_claim.proofs.LeavesFound.{leaf_among, leaf_is, place_below}
 use Rattle.cg_unroll.specs.declared.tables.Sources.{Sources}
 use Rattle.cg_unroll.specs.declared.tables.Sources.TheVariants.{Inputs, Registers}
 use Rattle.cg_unroll.specs.inner.Copying.{AreLeavesPlaced}
-use Rattle.cg_unroll.specs.inner.Placing.{AgreesLeaves, FillsLeaves, place_in, source_place}
+use Rattle.cg_unroll.specs.Placing.{AgreesLeaves, FillsLeaves, place_in, source_place}
 use Rattle.cg_unroll.proofs.LeafSources.{leaf_source}
 use Rattle.cg_claim.proofs.EmbeddedLeaves.{place_there}
 

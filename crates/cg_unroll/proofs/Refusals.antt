@@ -7,7 +7,7 @@ use Rattle.cg_claim.specs.Build.{claim_run}
 use Rattle.cg_claim.specs.Leaves.{width_of}
 use Rattle.cg_claim.specs.Question.{Question}
 use Rattle.cg_unroll.specs.Claims.{IsRefused}
-use Rattle.cg_unroll.specs.inner.Building.{MayFail}
+use Rattle.cg_unroll.specs.Building.{MayFail}
 use Rattle.cg_unroll.specs.inner.Faults.{fault_of}
 
 pub fails_refused : (m : MachineData) (q : Question) (width : ℕ) (fault : AigFault) → width_of m q ≤ width → MayFail (claim_run m q).domain fault → IsRefused m q width (fault_of fault)

@@ -14,7 +14,7 @@ use Rattle.cg_aig.specs.Aig.{aig_ops}
 use Rattle.cg_netlist.specs.Circuit.{RegisterCell}
 use Rattle.cg_netlist.specs.declared.parts.RegisterKind.TheVariants.{Plain}
 use Rattle.cg_claim.specs.Reach.{register_term}
-use Rattle.cg_unroll.specs.inner.Building.{Built}
+use Rattle.cg_unroll.specs.Building.{Built}
 
 -- the function of a register with these literals of nets
 abbrev pub data_run : (ℕ → ℕ) → ℕ → RegisterCell ℕ ℕ → Seen → Run

@@ -17,8 +17,8 @@ use Rattle.cg_claim_reach.specs.declared.asked.Side.{Side}
 use Rattle.cg_unroll.specs.declared.tables.CopyTables.{CopyTables}
 use Rattle.cg_unroll.specs.declared.tables.Tables.{Tables}
 use Rattle.cg_claim_reach.specs.Asking.{copy_of, part_of, side_of}
-use Rattle.cg_unroll.specs.inner.Copying.{AreTables, IsCopy, copies_of, copy_tables, shown_run, sides_run}
-use Rattle.cg_unroll.specs.inner.Placing.{IsLiteralTable}
+use Rattle.cg_unroll.specs.inner.Copying.{AreTables, copies_of, copy_tables, shown_run, sides_run}
+use Rattle.cg_unroll.specs.Placing.{IsCopy, IsLiteralTable}
 
 -- a table is one of each later list
 pub table_later : (n : ℕ) (s t : Seen) (values : List ℕ) → Keeps aig_ops s t → IsLiteralTable n s values → IsLiteralTable n t values

@@ -25,10 +25,10 @@ use Rattle.cg_claim.proofs.WholeLists.{lay_grows, stages_fit}
 use Rattle.cg_claim_reach.specs.declared.reached.Reached.{Reached}
 use Rattle.cg_unroll.specs.declared.tables.Tables.{Tables}
 use Rattle.cg_unroll.specs.declared.tables.Sources.TheVariants.{Inputs, Registers}
-use Rattle.cg_unroll.specs.inner.Building.{MayFail, table_of}
+use Rattle.cg_unroll.specs.Building.{MayFail, table_of}
 use Rattle.cg_unroll.specs.inner.Copying.{Starts, copies_of}
-use Rattle.cg_unroll.specs.inner.Laid.{CopyFails, HoldsInputs, LaysCopy, copy_table}
-use Rattle.cg_unroll.specs.inner.Placing.{FillsLeaves, place_in}
+use Rattle.cg_unroll.specs.Laid.{CopyFails, HoldsInputs, LaysCopy, copy_table}
+use Rattle.cg_unroll.specs.Placing.{FillsLeaves, place_in}
 use Rattle.cg_claim_reach.specs.Reached.{IsReached}
 use Rattle.cg_unroll.specs.inner.States.{Carries, LaysStates, TellsFollows, carried}
 use Rattle.cg_unroll.proofs.Building.{fails_longer}

@@ -17,7 +17,7 @@ use Rattle.cg_claim.specs.Question.{Question}
 use Rattle.cg_claim.specs.Tables.{SameOn}
 use Rattle.cg_claim.proofs.ReachedOnly.{put_same, same_then}
 use Rattle.cg_claim.proofs.WholeLists.{lay_states_grows}
-use Rattle.cg_unroll.specs.inner.Building.{Built, MayFail, table_of}
+use Rattle.cg_unroll.specs.Building.{Built, MayFail, table_of}
 use Rattle.cg_unroll.specs.inner.States.{IsLayingStates, LaysStates, TellsFollows, carried, state_step}
 use Rattle.cg_unroll.proofs.Building.{fails_longer}
 use Rattle.cg_unroll.proofs.Laying.{everywhere, valid_set, written}

@@ -5,8 +5,8 @@ use Rattle.std.proofs.lemmas.Option.{none-some, same_Some}
 use Rattle.cg_claim.specs.declared.leaf.Leaf.{Leaf}
 use Rattle.cg_netlist.proofs.RisingPlaces.{in_head}
 use Rattle.cg_machine.proofs.Lists.{below_or}
-use Rattle.cg_unroll.specs.inner.Placing.{FillsLeaves}
-use Rattle.cg_unroll.specs.inner.Sparse.{AreZero}
+use Rattle.cg_unroll.specs.Placing.{FillsLeaves}
+use Rattle.cg_unroll.specs.Sparse.{AreZero}
 use Rattle.cg_unroll.proofs.Filling.{fills_set}
 
 module _ (place : Leaf → Option ℕ) (leaves : List Leaf) where

@@ -1,2 +1,6 @@
+pub mod Building
 pub mod Claims
+pub mod Laid
+pub mod Placing
+pub mod Sparse
 pub mod inner

@@ -1,9 +1,5 @@
-pub mod Building
 pub mod Copying
 pub mod Faults
 pub mod Filling
 pub mod Joining
-pub mod Laid
-pub mod Placing
-pub mod Sparse
 pub mod States

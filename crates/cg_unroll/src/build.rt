@@ -5,7 +5,7 @@ ghost use Rattle.cg_aig.specs.Aig.{aig_ops};
 ghost use Rattle.cg_cell.specs.Build.{Builds};
 ghost use Rattle.cg_claim.specs.Build.{aig_values, claim_run, question_run};
 ghost use Rattle.cg_claim_reach.specs.Asking.{AsksThere, question_of};
-ghost use Rattle.cg_unroll.specs.inner.Building.{Built, MayFail};
+ghost use Rattle.cg_unroll.specs.Building.{Built, MayFail};
 ghost use Rattle.cg_claim_reach.specs.Reached.{IsReached};
 
 use crate::copy::lay_copy;

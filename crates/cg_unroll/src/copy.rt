@@ -2,8 +2,8 @@
 
 ghost use Rattle.std.specs.Prelude.{◌<◌, length, IfErr, OnOk};
 ghost use Rattle.std.specs.List.{All};
-ghost use Rattle.cg_unroll.specs.inner.Laid.{CopyFails, LaysCopy};
-ghost use Rattle.cg_unroll.specs.inner.Placing.{IsLiteralTable};
+ghost use Rattle.cg_unroll.specs.Laid.{CopyFails, LaysCopy};
+ghost use Rattle.cg_unroll.specs.Placing.{IsLiteralTable};
 
 use crate::edge::put_registers;
 use crate::lay::lay_cells;
@@ -14,7 +14,7 @@ use cg_netlist_cone::cone::Cone;
 
 /// Puts a copy of the machine into the list, as far as a cone reaches: the registers at its edge have the literals of
 /// `states`, its data inputs have theirs in `nets`, and each net of the cone gets its own there.
-pub(crate) fn lay_copy(
+pub fn lay_copy(
     machine: &Machine,
     cone: &Cone,
     states: &Literals,

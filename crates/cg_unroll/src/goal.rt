@@ -7,8 +7,9 @@ ghost use Rattle.cg_cell.specs.Domain.{AreValid};
 ghost use Rattle.cg_aig.specs.Aig.{aig_ops, inverse};
 ghost use Rattle.cg_claim.specs.Build.{aig_values, enable_run, goal_run, literal_of, part_run};
 ghost use Rattle.cg_claim_reach.specs.Asking.{AsksThere, PartThere, part_of, question_of};
-ghost use Rattle.cg_unroll.specs.inner.Building.{Built, MayFail};
-ghost use Rattle.cg_unroll.specs.inner.Copying.{AreTables, IsCopy, copies_of, sides_run};
+ghost use Rattle.cg_unroll.specs.Building.{Built, MayFail};
+ghost use Rattle.cg_unroll.specs.Placing.{IsCopy};
+ghost use Rattle.cg_unroll.specs.inner.Copying.{AreTables, copies_of, sides_run};
 
 use crate::literals::Literals;
 use crate::next::next_literal;
@@ -146,7 +147,7 @@ fn enable_literal(
 }
 
 /// The literal of a net, or the inverse.
-fn net_literal(literal: NetLit, literals: &Literals) -> AigLit
+pub fn net_literal(literal: NetLit, literals: &Literals) -> AigLit
     requires { literal.0 < length literals.now }
     ensures { result ≡ literal_of aig_values (λ x. slice_index_or literals.now x 0) literal }
 {
@@ -155,7 +156,7 @@ fn net_literal(literal: NetLit, literals: &Literals) -> AigLit
 }
 
 /// The literal that is 1 where the joined enable is 0 and two literals differ.
-fn differing_literal(
+pub fn differing_literal(
     joined: AigLit,
     one: AigLit,
     other: AigLit,

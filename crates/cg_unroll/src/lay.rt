@@ -13,7 +13,7 @@ ghost use Rattle.cg_netlist.specs.View.{function_seen};
 ghost use Rattle.cg_netlist.specs.WellFormed.{IsOver};
 ghost use Rattle.cg_machine.specs.Gates.{HasInputs, gate_cover};
 ghost use Rattle.cg_claim.specs.Build.{aig_values, function_term, lay};
-ghost use Rattle.cg_unroll.specs.inner.Building.{Built, LaysCells, MayFail, table_of};
+ghost use Rattle.cg_unroll.specs.Building.{Built, LaysCells, MayFail, table_of};
 
 use crate::literals::Literals;
 use cg_aig::{Aig, AigFault, AigLit};

@@ -22,12 +22,12 @@
 
 mod build;
 pub mod claim;
-mod copy;
+pub mod copy;
 mod edge;
-mod goal;
+pub mod goal;
 mod lay;
-mod literals;
-mod next;
+pub mod literals;
+pub mod next;
 mod states;
-mod tables;
+pub mod tables;
 pub mod unroller;

@@ -2,7 +2,7 @@
 
 ghost use Rattle.std.specs.Prelude.{◌≡◌, ◌<◌, ◌≤◌, [], length, slice_index_or, slice_set, IfErr, OnOk};
 ghost use Rattle.cg_aig.specs.declared.fault.AigFault.TheVariants.{NoMemory};
-ghost use Rattle.cg_unroll.specs.inner.Sparse.{AreZero};
+ghost use Rattle.cg_unroll.specs.Sparse.{AreZero};
 
 use cg_aig::{AigFault, AigLit};
 use std::alloc::Global;
@@ -15,14 +15,14 @@ use std::marker::Model;
 ///
 /// Clauses see the list of the literals.
 #[derive(Drop)]
-pub(crate) struct Literals {
+pub struct Literals {
     literals: Vec<AigLit>,
     written: Vec<usize>,
 }
 
 impl Model for Literals {
     ghost use Rattle.std.specs.Prelude.{ℕ, List};
-    ghost use Rattle.cg_unroll.specs.inner.Sparse.{IsSparse};
+    ghost use Rattle.cg_unroll.specs.Sparse.{IsSparse};
 
     ghost Value = { List ℕ };
 
@@ -33,7 +33,7 @@ impl Model for Literals {
 
 impl Literals {
     /// No places.
-    pub(crate) fn new(alloc: Global) -> Literals
+    pub fn new(alloc: Global) -> Literals
         ensures { result ≡ [] }
     {
         Literals {
@@ -43,7 +43,7 @@ impl Literals {
     }
 
     /// The literal at a place.
-    pub(crate) fn get(&self, place: usize) -> AigLit
+    pub fn get(&self, place: usize) -> AigLit
         requires { place < length self.now }
         ensures { result ≡ slice_index_or self.now place 0 }
     {
@@ -51,7 +51,7 @@ impl Literals {
     }
 
     /// Puts a literal at a place.
-    pub(crate) fn put(&mut self, place: usize, literal: AigLit) -> Result<(), AigFault>
+    pub fn put(&mut self, place: usize, literal: AigLit) -> Result<(), AigFault>
         requires { place < length self.old }
         ensures put { OnOk result (self.new ≡ slice_set self.old place literal) }
         ensures failed { IfErr result (λ fault. fault ≡ NoMemory) }
@@ -62,7 +62,7 @@ impl Literals {
     }
 
     /// Puts the constant 0, which is `zero`, at all places, of which there are then at least so many.
-    pub(crate) fn reset(&mut self, places: usize, zero: AigLit) -> Result<(), AigFault>
+    pub fn reset(&mut self, places: usize, zero: AigLit) -> Result<(), AigFault>
         requires { zero ≡ 0 }
         ensures zeros { OnOk result (AreZero self.new) }
         ensures places { OnOk result (places ≤ length self.new) }

@@ -12,7 +12,7 @@ ghost use Rattle.cg_netlist.specs.declared.parts.RegisterKind.TheVariants.{Flop 
 ghost use Rattle.cg_claim.specs.Build.{aig_values, mux_run, next_run};
 ghost use Rattle.cg_claim.specs.Reach.{register_term};
 ghost use Rattle.cg_machine.specs.Machine.{enable_of};
-ghost use Rattle.cg_unroll.specs.inner.Building.{Built, MayFail};
+ghost use Rattle.cg_unroll.specs.Building.{Built, MayFail};
 
 use crate::lay::read_literals;
 use crate::literals::Literals;
@@ -24,7 +24,7 @@ use cg_netlist::view::RegKind;
 
 /// The literal of the next bit of a register, whose own bit has this literal: its function, or, where it has an enable,
 /// that at the enable and else its own bit.
-pub(crate) fn next_literal(
+pub fn next_literal(
     machine: &Machine,
     reg: RegId,
     states: &Literals,

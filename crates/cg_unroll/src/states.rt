@@ -7,7 +7,7 @@ ghost use Rattle.cg_aig.specs.Aig.{aig_ops};
 ghost use Rattle.cg_aig.specs.declared.fault.AigFault.TheVariants.{NoMemory};
 ghost use Rattle.cg_claim.specs.Build.{aig_values, lay_states};
 ghost use Rattle.cg_claim.specs.Question.{Question};
-ghost use Rattle.cg_unroll.specs.inner.Building.{Built, MayFail, table_of};
+ghost use Rattle.cg_unroll.specs.Building.{Built, MayFail, table_of};
 ghost use Rattle.cg_unroll.specs.inner.States.{Carries, LaysStates, TellsFollows, state_step};
 
 use crate::literals::Literals;

@@ -3,7 +3,7 @@
 ghost use Rattle.std.specs.Prelude.{◌≡◌, ◌<◌, length, IfErr, OnOk};
 ghost use Rattle.cg_aig.specs.declared.fault.AigFault.TheVariants.{NoMemory};
 ghost use Rattle.cg_unroll.specs.inner.Copying.{AreLeavesPlaced, Starts, copy_tables};
-ghost use Rattle.cg_unroll.specs.inner.Placing.{ArePlaced, HoldsLeaves, place_in, source_place};
+ghost use Rattle.cg_unroll.specs.Placing.{ArePlaced, HoldsLeaves, place_in, source_place};
 
 use crate::literals::Literals;
 use cg_aig::{Aig, AigFault, AigLit};
@@ -14,9 +14,12 @@ use std::alloc::Global;
 
 /// The literals of a copy of the machine: of its nets, and of the states of its registers.
 #[derive(Drop)]
-pub(crate) struct CopyTables {
-    pub(crate) nets: Literals,
-    pub(crate) states: Literals,
+pub struct CopyTables {
+    /// Those of the nets.
+    pub nets: Literals,
+
+    /// Those of the registers' bits.
+    pub states: Literals,
 }
 
 /// The literals of the three copies, and those of the registers that nothing is said of after the first cycle.
@@ -127,7 +130,7 @@ impl Tables {
 
 impl CopyTables {
     /// Tables without places; takes no memory.
-    fn new(alloc: Global) -> CopyTables {
+    pub fn new(alloc: Global) -> CopyTables {
         CopyTables {
             nets: Literals::new(alloc),
             states: Literals::new(alloc),
@@ -137,7 +140,7 @@ impl CopyTables {
 
 /// What leaves stand for.
 #[derive(Clone, Copy)]
-pub(crate) enum Sources {
+pub enum Sources {
     /// Data inputs.
     Inputs,
 
@@ -147,7 +150,7 @@ pub(crate) enum Sources {
 
 /// Puts at its place the literal of each leaf of a copy that stands for a data input, or for a register. All other
 /// places, of which there are then at least so many, get the constant 0, which is `zero`.
-pub(crate) fn put_leaves(
+pub fn put_leaves(
     leaves: &[Leaf],
     copy: u8,
     sources: Sources,

@@ -13,16 +13,11 @@ use Rattle.cg_unroll.specs.declared.tables.CopyTables.{CopyTables}
 use Rattle.cg_unroll.specs.declared.tables.Tables.{Tables}
 use Rattle.cg_claim_reach.specs.Asking.{part_of}
 use Rattle.cg_unroll.specs.declared.tables.Sources.TheVariants.{Inputs, Registers}
-use Rattle.cg_unroll.specs.inner.Placing.{ArePlaced, HoldsLeaves, IsLiteralTable, place_in}
-use Rattle.cg_unroll.specs.inner.Sparse.{AreZero}
+use Rattle.cg_unroll.specs.Placing.{ArePlaced, HoldsLeaves, IsCopy, IsLiteralTable, place_in}
+use Rattle.cg_unroll.specs.Sparse.{AreZero}
 use Rattle.cg_claim.specs.declared.leaf.Leaf.{Leaf}
 
--- a copy has a literal of the list for each net and for each register
-pub record IsCopy (m : MachineData) (s : Seen) (copy : CopyTables) : Type 0 where
-  pub nets : IsLiteralTable (length m.circuit.names) s copy.nets
-  pub states : IsLiteralTable (length m.circuit.registers) s copy.states
-
--- and so have all
+-- each copy has a literal of the list for each net and for each register
 pub record AreTables (m : MachineData) (s : Seen) (tables : Tables) : Type 0 where
   pub before : IsCopy m s tables.before
   pub after : IsCopy m s tables.after

@@ -8,7 +8,7 @@ use Rattle.cg_net.specs.NetSets.{is_in}
 use Rattle.cg_claim.specs.Build.{aig_values, lay_states, mux_run, next_run}
 use Rattle.cg_claim.specs.Question.{Question}
 use Rattle.cg_claim.specs.Tables.{SameOn}
-use Rattle.cg_unroll.specs.inner.Building.{table_of}
+use Rattle.cg_unroll.specs.Building.{table_of}
 
 -- the state of a register: that of its leaf where that is not the constant 0, and else its next bit
 abbrev pub state_step : MachineData → (ℕ → ℕ) → (ℕ → ℕ) → (ℕ → ℕ) → ℕ → Seen → Run

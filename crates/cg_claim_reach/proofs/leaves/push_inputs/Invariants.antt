@@ -1,5 +1,5 @@
 use Rattle.std.proofs.Common.{◌≡◌, ◌++◌, map, take}
-use Rattle.cg_claim_reach.specs.inner.Leaves.{input_leaf}
+use Rattle.cg_claim_reach.specs.Leaves.{input_leaf}
 use Rattle.cg_claim_reach.proofs.leaves.push_inputs.Given as goal
 
 abbrev pub invariant-loop-net : goal.invariant-loop-net

@@ -1,5 +1,5 @@
 use Rattle.std.proofs.Common.{◌≡◌, ◌++◌, map, take}
-use Rattle.cg_claim_reach.specs.inner.Leaves.{register_leaf}
+use Rattle.cg_claim_reach.specs.Leaves.{register_leaf}
 use Rattle.cg_claim_reach.proofs.leaves.push_registers.Given as goal
 
 abbrev pub invariant-loop-reg : goal.invariant-loop-reg

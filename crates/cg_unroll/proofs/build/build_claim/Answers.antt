@@ -13,9 +13,9 @@ use Rattle.cg_machine.specs.Machine.{IsMachine, MachineData}
 use Rattle.cg_claim_reach.specs.declared.reached.Reached.{Reached}
 use Rattle.cg_unroll.specs.declared.tables.Tables.{Tables}
 use Rattle.cg_claim_reach.specs.Asking.{question_of}
-use Rattle.cg_unroll.specs.inner.Building.{Built, MayFail, table_of}
+use Rattle.cg_unroll.specs.Building.{Built, MayFail, table_of}
 use Rattle.cg_unroll.specs.inner.Copying.{AreLeavesPlaced, Starts}
-use Rattle.cg_unroll.specs.inner.Laid.{LaysCopy}
+use Rattle.cg_unroll.specs.Laid.{LaysCopy}
 use Rattle.cg_unroll.specs.inner.States.{Carries, LaysStates, TellsFollows}
 use Rattle.cg_unroll.proofs.Building.{if_err, if_ok}
 use Rattle.cg_unroll.proofs.Kept.{after_table, all_tables, changed_table, four, free_table, others_table, own_table}

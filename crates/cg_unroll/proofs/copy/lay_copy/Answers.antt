@@ -6,7 +6,7 @@ use Rattle.cg_netlist.specs.Moment.{values_at}
 use Rattle.cg_netlist_cone.specs.declared.cone.Cone.{Cone}
 use Rattle.cg_machine.specs.Machine.{MachineData}
 use Rattle.cg_claim.specs.Build.{aig_values, lay}
-use Rattle.cg_unroll.specs.inner.Building.{LaysCells, MayFail, table_of}
+use Rattle.cg_unroll.specs.Building.{LaysCells, MayFail, table_of}
 use Rattle.cg_unroll.specs.inner.Filling.{AgreesWithAll, Puts, nets_shown}
 use Rattle.cg_unroll.proofs.Building.{if_err, if_ok}
 use Rattle.cg_unroll.proofs.CopyLaid.{copy_fails, copy_is}

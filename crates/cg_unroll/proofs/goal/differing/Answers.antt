@@ -10,7 +10,7 @@ use Rattle.cg_claim.specs.Build.{aig_values, part_run}
 use Rattle.cg_unroll.specs.declared.tables.CopyTables.{CopyTables}
 use Rattle.cg_unroll.specs.declared.tables.Tables.{Tables}
 use Rattle.cg_claim_reach.specs.Asking.{part_of}
-use Rattle.cg_unroll.specs.inner.Building.{Built, MayFail}
+use Rattle.cg_unroll.specs.Building.{Built, MayFail}
 use Rattle.cg_unroll.specs.inner.Copying.{shown_run}
 use Rattle.cg_unroll.proofs.Building.{built_then, fails_first, fails_then, if_err, if_ok}
 use Rattle.cg_unroll.proofs.Sides.{joined_grows, second_grows}

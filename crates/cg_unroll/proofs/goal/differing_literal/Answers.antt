@@ -5,7 +5,7 @@ use Rattle.cg_cell.specs.Domain.{Seen}
 use Rattle.cg_cell.proofs.RunsGrow.{grows_and, grows_xor}
 use Rattle.cg_aig.specs.Aig.{aig_ops, inverse}
 use Rattle.cg_aig.proofs.RunsFit.{aig_growing}
-use Rattle.cg_unroll.specs.inner.Building.{Built, MayFail}
+use Rattle.cg_unroll.specs.Building.{Built, MayFail}
 use Rattle.cg_unroll.proofs.Building.{built_of, built_then, fails_first, fails_then, if_err, if_ok, stops_fails}
 use Rattle.cg_unroll.proofs.Gating.{and_built, and_fails}
 use Rattle.cg_unroll.proofs.goal.differing_literal.Goals as goal

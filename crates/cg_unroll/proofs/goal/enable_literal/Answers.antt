@@ -7,7 +7,7 @@ use Rattle.cg_cell.proofs.RunsGrow.{grows_or}
 use Rattle.cg_aig.specs.Aig.{aig_ops}
 use Rattle.cg_aig.proofs.RunsFit.{aig_growing}
 use Rattle.cg_machine.specs.Claims.{Literal}
-use Rattle.cg_unroll.specs.inner.Building.{Built, MayFail}
+use Rattle.cg_unroll.specs.Building.{Built, MayFail}
 use Rattle.cg_unroll.proofs.Building.{built_of, stops_fails}
 use Rattle.cg_unroll.proofs.Joining.{joining_fails, joining_on}
 use Rattle.cg_unroll.proofs.goal.enable_literal.Goals as goal

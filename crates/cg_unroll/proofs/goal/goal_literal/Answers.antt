@@ -9,7 +9,7 @@ use Rattle.cg_claim.specs.Question.{Question}
 use Rattle.cg_claim.proofs.WholeLists.{goal_of_grows}
 use Rattle.cg_claim_reach.specs.declared.asked.Side.{Side as AskedSide}
 use Rattle.cg_claim_reach.specs.Asking.{question_of, side_of}
-use Rattle.cg_unroll.specs.inner.Building.{Built, MayFail}
+use Rattle.cg_unroll.specs.Building.{Built, MayFail}
 use Rattle.cg_unroll.specs.inner.Copying.{copies_of}
 use Rattle.cg_unroll.proofs.Building.{built_then, fails_first, fails_then, if_err, if_ok}
 use Rattle.cg_unroll.proofs.Sides.{sides_are}

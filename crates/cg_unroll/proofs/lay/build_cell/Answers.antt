@@ -9,7 +9,7 @@ use Rattle.cg_machine.specs.Machine.{MachineData}
 use Rattle.cg_machine.specs.View.{gate_seen}
 use Rattle.cg_machine.proofs.Lists.{all_at}
 use Rattle.cg_claim.specs.Build.{function_term}
-use Rattle.cg_unroll.specs.inner.Building.{Built, MayFail}
+use Rattle.cg_unroll.specs.Building.{Built, MayFail}
 use Rattle.cg_unroll.proofs.Building.{if_err, if_ok}
 use Rattle.cg_unroll.proofs.Cells.{read_gate, read_own}
 use Rattle.cg_unroll.proofs.lay.build_cell.Goals as goal

@@ -10,7 +10,7 @@ use Rattle.cg_cell.specs.Expr.{term_of}
 use Rattle.cg_cell.specs.Term.{Bit}
 use Rattle.cg_netlist.specs.View.{function_seen}
 use Rattle.cg_claim.specs.Build.{function_term}
-use Rattle.cg_unroll.specs.inner.Building.{MayFail}
+use Rattle.cg_unroll.specs.Building.{MayFail}
 use Rattle.cg_unroll.proofs.Building.{if_err, stops_fails}
 use Rattle.cg_unroll.proofs.lay.build_function.Goals as goal
 

@@ -5,7 +5,7 @@ use Rattle.cg_cell.proofs.RunsGrow.{grows_or}
 use Rattle.cg_aig.specs.Aig.{aig_ops}
 use Rattle.cg_aig.proofs.RunsFit.{aig_growing}
 use Rattle.cg_machine.specs.Gates.{HasInputs}
-use Rattle.cg_unroll.specs.inner.Building.{Built, MayFail}
+use Rattle.cg_unroll.specs.Building.{Built, MayFail}
 use Rattle.cg_unroll.proofs.Building.{built_of, if_err, if_ok, stops_fails}
 use Rattle.cg_unroll.proofs.Gating.{and_built, and_fails, and_pins, gate_term, or_pins, same_built, same_fails}
 use Rattle.cg_unroll.proofs.lay.build_gate.Goals as goal

@@ -6,7 +6,7 @@ use Rattle.cg_cell.specs.Domain.{AreValid}
 use Rattle.cg_cell.specs.Eval.{build_term}
 use Rattle.cg_netlist.proofs.Values.{element_at}
 use Rattle.cg_claim.specs.Build.{function_term}
-use Rattle.cg_unroll.specs.inner.Building.{Built, LaysCells}
+use Rattle.cg_unroll.specs.Building.{Built, LaysCells}
 use Rattle.cg_unroll.proofs.Building.{if_ok, valid_read}
 use Rattle.cg_unroll.proofs.Cells.{inputs_within, output_within}
 use Rattle.cg_unroll.proofs.Laying.{lays_cell}

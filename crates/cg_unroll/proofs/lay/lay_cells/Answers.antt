@@ -3,7 +3,7 @@ use Rattle.std.proofs.lemmas.Option.{slice_get-get_or}
 use Rattle.std.proofs.lemmas.Result.{err_from_is_err_and}
 use Rattle.cg_netlist.specs.Circuit.{LogicCell}
 use Rattle.cg_netlist.specs.Moment.{values_at}
-use Rattle.cg_unroll.specs.inner.Building.{IsLaying}
+use Rattle.cg_unroll.specs.Building.{IsLaying}
 use Rattle.cg_unroll.proofs.Laying.{laying_ends, laying_fails, laying_on, laying_starts}
 use Rattle.cg_unroll.proofs.Cells.{left_cons}
 use Rattle.cg_netlist.proofs.Values.{element_at}

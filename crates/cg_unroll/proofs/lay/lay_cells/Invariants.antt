@@ -1,6 +1,6 @@
 use Rattle.std.proofs.Common.{drop}
 use Rattle.cg_netlist.specs.Moment.{values_at}
-use Rattle.cg_unroll.specs.inner.Building.{IsLaying}
+use Rattle.cg_unroll.specs.Building.{IsLaying}
 use Rattle.cg_unroll.proofs.lay.lay_cells.Given as goal
 
 abbrev pub invariant-loop-k : goal.invariant-loop-k

@@ -7,7 +7,7 @@ use Rattle.cg_cell.proofs.RunsGrow.{grows_term}
 use Rattle.cg_cell.specs.Eval.{build_term}
 use Rattle.cg_cell.specs.Expr.{term_of}
 use Rattle.cg_cell.specs.Term.{Bit}
-use Rattle.cg_unroll.specs.inner.Building.{MayFail}
+use Rattle.cg_unroll.specs.Building.{MayFail}
 use Rattle.cg_unroll.proofs.Building.{if_err, stops_fails}
 use Rattle.cg_unroll.proofs.next.build_register.Goals as goal
 

@@ -13,7 +13,7 @@ use Rattle.cg_netlist.specs.declared.parts.RegisterKind.TheVariants.{Flop}
 use Rattle.cg_netlist.proofs.RegisterNext.{flop_inputs, flop_kind, one_input, register_inputs_within}
 use Rattle.cg_machine.specs.Machine.{MachineData, delay_cell}
 use Rattle.cg_claim.specs.Reach.{register_term}
-use Rattle.cg_unroll.specs.inner.Building.{Built, MayFail}
+use Rattle.cg_unroll.specs.Building.{Built, MayFail}
 use Rattle.cg_unroll.proofs.Building.{if_err, if_ok, valid_read}
 use Rattle.cg_claim_reach.proofs.OwnRegisters.{own_register}
 use Rattle.cg_unroll.proofs.Registers.{data_run, first_within, plain_data, valid_append}

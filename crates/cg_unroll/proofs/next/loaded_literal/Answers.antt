@@ -6,7 +6,7 @@ use Rattle.cg_cell.proofs.RunsGrow.{grows_mux}
 use Rattle.cg_aig.specs.Aig.{aig_ops}
 use Rattle.cg_aig.proofs.RunsFit.{aig_growing}
 use Rattle.cg_claim.specs.Build.{aig_values, mux_run}
-use Rattle.cg_unroll.specs.inner.Building.{Built, MayFail}
+use Rattle.cg_unroll.specs.Building.{Built, MayFail}
 use Rattle.cg_unroll.proofs.Building.{built_of, if_err, if_ok, stops_fails}
 use Rattle.cg_unroll.proofs.next.loaded_literal.Goals as goal
 

@@ -8,7 +8,7 @@ use Rattle.cg_netlist.proofs.Values.{element_at}
 use Rattle.cg_machine.specs.Machine.{MachineData, enable_of}
 use Rattle.cg_claim.specs.Build.{aig_values, mux_run}
 use Rattle.cg_claim.proofs.WholeLists.{mux_run_grows}
-use Rattle.cg_unroll.specs.inner.Building.{Built, MayFail}
+use Rattle.cg_unroll.specs.Building.{Built, MayFail}
 use Rattle.cg_unroll.proofs.Building.{built_then, fails_first, fails_then, if_err, if_ok}
 use Rattle.cg_unroll.proofs.Registers.{data_run, next_is}
 use Rattle.cg_unroll.proofs.next.next_literal.Goals as goal

@@ -2,7 +2,7 @@ use Rattle.std.proofs.Common.{◌≡◌, ◌<◌, ℕ, List, length, slice_index
 use Rattle.cg_cell.specs.Build.{Run}
 use Rattle.cg_cell.proofs.Evals.{valid_at}
 use Rattle.cg_aig.specs.Aig.{aig_ops}
-use Rattle.cg_unroll.specs.inner.Building.{Built, MayFail}
+use Rattle.cg_unroll.specs.Building.{Built, MayFail}
 use Rattle.cg_unroll.proofs.Building.{if_err, if_ok}
 use Rattle.cg_unroll.proofs.StatesLaid.{step_loaded, step_next}
 use Rattle.cg_unroll.proofs.states.state_literal.Goals as goal

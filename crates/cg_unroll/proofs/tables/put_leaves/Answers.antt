@@ -4,7 +4,7 @@ use Rattle.std.proofs.Math.ListN.{length-set}
 use Rattle.cg_cell.specs.Domain.{AreValid}
 use Rattle.cg_aig.specs.Aig.{aig_ops}
 use Rattle.cg_claim.specs.declared.leaf.Leaf.{Leaf}
-use Rattle.cg_unroll.specs.inner.Placing.{FillsLeaves, place_in}
+use Rattle.cg_unroll.specs.Placing.{FillsLeaves, place_in}
 use Rattle.cg_unroll.proofs.Laying.{valid_set}
 use Rattle.cg_unroll.proofs.Tabling.{leaves_on, leaves_skip}
 use Rattle.cg_unroll.proofs.tables.put_leaves.Goals as goal

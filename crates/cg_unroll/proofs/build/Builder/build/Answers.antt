@@ -6,7 +6,7 @@ use Rattle.cg_claim.specs.Leaves.{leaves_of, shown_leaf, width_of}
 use Rattle.cg_claim.specs.Question.{Question}
 use Rattle.cg_machine.specs.Machine.{MachineData}
 use Rattle.cg_claim_reach.specs.Asking.{question_of}
-use Rattle.cg_unroll.specs.inner.Building.{MayFail}
+use Rattle.cg_unroll.specs.Building.{MayFail}
 use Rattle.cg_unroll.proofs.Stages.{leaves_past}
 use Rattle.cg_unroll.proofs.build.Builder.build.Goals as goal
 

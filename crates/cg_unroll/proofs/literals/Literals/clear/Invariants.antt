@@ -1,5 +1,5 @@
 use Rattle.std.proofs.Common.{vec_len}
-use Rattle.cg_unroll.specs.inner.Sparse.{IsSparse}
+use Rattle.cg_unroll.specs.Sparse.{IsSparse}
 use Rattle.cg_unroll.proofs.literals.Literals.clear.Given as goal
 
 abbrev pub invariant-written : goal.invariant-written

@@ -1,5 +1,5 @@
 use Rattle.std.proofs.Common.{◌-◌, length}
-use Rattle.cg_unroll.specs.inner.Sparse.{AreZero, IsSparse}
+use Rattle.cg_unroll.specs.Sparse.{AreZero, IsSparse}
 use Rattle.cg_unroll.proofs.literals.Literals.grow.Given as goal
 
 abbrev pub invariant-places : goal.invariant-places

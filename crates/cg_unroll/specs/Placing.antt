@@ -3,9 +3,11 @@ use Rattle.std.specs.Prelude.{◌≡◌, ◌<◌, ◌≤◌, ℕ, ◌+◌, ◌*�
 use Rattle.std.specs.Prelude.{Some, None}
 use Rattle.cg_cell.specs.Domain.{AreValid, Seen}
 use Rattle.cg_aig.specs.Aig.{aig_ops}
+use Rattle.cg_machine.specs.Machine.{MachineData}
 use Rattle.cg_claim.specs.declared.leaf.Leaf.{Leaf}
 use Rattle.cg_claim.specs.declared.leaf.LeafSource.{LeafSource}
 use Rattle.cg_claim.specs.declared.leaf.LeafSource.TheVariants.{Input, Register}
+use Rattle.cg_unroll.specs.declared.tables.CopyTables.{CopyTables}
 use Rattle.cg_unroll.specs.declared.tables.Sources.{Sources}
 use Rattle.cg_unroll.specs.declared.tables.Sources.TheVariants.{Inputs, Registers}
 
@@ -43,3 +45,8 @@ pub record IsLiteralTable (places : ℕ) (s : Seen) (values : List ℕ) : Type 0
 pub record HoldsLeaves (place : Leaf → Option ℕ) (leaves : List Leaf) (places : ℕ) (s : Seen) (values : List ℕ) : Type 0 where
   pub filled : FillsLeaves place leaves (length leaves) values
   pub table : IsLiteralTable places s values
+
+-- a copy has a literal of the list for each net and for each register
+pub record IsCopy (m : MachineData) (s : Seen) (copy : CopyTables) : Type 0 where
+  pub nets : IsLiteralTable (length m.circuit.names) s copy.nets
+  pub states : IsLiteralTable (length m.circuit.registers) s copy.states

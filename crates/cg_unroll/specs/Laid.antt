@@ -10,8 +10,8 @@ use Rattle.cg_netlist_cone.specs.declared.cone.Cone.{Cone}
 use Rattle.cg_machine.specs.Machine.{MachineData, walk_of}
 use Rattle.cg_claim.specs.Build.{Table, aig_values, lay, reached_cells, start_nets}
 use Rattle.cg_claim.specs.Tables.{SameOn}
-use Rattle.cg_unroll.specs.inner.Building.{MayFail, table_of}
-use Rattle.cg_unroll.specs.inner.Placing.{IsLiteralTable}
+use Rattle.cg_unroll.specs.Building.{MayFail, table_of}
+use Rattle.cg_unroll.specs.Placing.{IsLiteralTable}
 use Rattle.cg_claim_reach.specs.Reached.{IsConeOf}
 
 -- the data inputs have these literals, and all other nets 0

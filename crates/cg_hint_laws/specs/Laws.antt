@@ -1,0 +1,113 @@
+-- What is proved of hints.
+use Rattle.std.specs.Prelude.{◌≡◌, ◌↔◌, ◌<◌, ◌≤◌, ℕ, ◌-◌, Bool, true, false, if◌then◌else◌, List, ◌++◌, length, nat_lt, slice_get, None, Some, Ok}
+use Rattle.std.specs.List.{All, AllByRecursion}
+use Rattle.cg_cell.specs.Cell.{CellData}
+use Rattle.cg_limit.specs.declared.TheConstants.{MOST_CLAIM_NODES}
+use Rattle.cg_net.specs.NetSets.{is_in}
+use Rattle.cg_netlist.specs.Moment.{bit}
+use Rattle.cg_machine.specs.Added.{Added, HasNames, own_netlist}
+use Rattle.cg_machine.specs.Extends.{old}
+use Rattle.cg_machine.specs.Claims.{Literal}
+use Rattle.cg_machine.specs.Machine.{IsInputs, IsMachine, IsState, MachineData, enable_of, next, values}
+use Rattle.cg_machine.specs.Run.{Same, ones}
+use Rattle.cg_stage_laws.specs.Cells.{HasCells}
+use Rattle.cg_stage_laws.specs.Needs.{missing}
+use Rattle.cg_hint_laws.specs.declared.hint.Hint.{Hint}
+use Rattle.cg_hint_laws.specs.declared.outcome.HintClaim.{HintClaim}
+use Rattle.cg_hint_laws.specs.declared.outcome.HintOutcome.TheVariants.{Inserted}
+use Rattle.cg_hint_laws.specs.Effects.{effect, hint_answer}
+use Rattle.cg_hint_laws.specs.Hints.{AreFree, CanIdle, ClaimsHold, Fits, HintHold, condition_at}
+use Rattle.cg_hint_laws.specs.Needs.{needs}
+use Rattle.cg_hint_laws.specs.Question.{Question, hold_question, idle_question}
+use Rattle.cg_hint_laws.specs.Trying.{Hinted, Turn, all_claims, claim_nodes, claim_width, hinted, tried}
+use Rattle.cg_hint_laws.specs.Violates.{IsAsked, IsNeverOne, IsSometimesOne, goal_bit, is_never, state_at, violates_at}
+
+-- n is m after a hint: it is a machine that shows the same, all nets and registers of m are in it, and the registers that the hint
+-- does not name have the enables that they have in m
+pub record After (m : MachineData) (h : Hint) (n : MachineData) : Type 0 where
+  pub is_machine : IsMachine n
+  pub same : Same m n
+  pub clock : n.circuit.clock ≡ m.circuit.clock
+  pub names : length m.circuit.names ≤ length n.circuit.names
+  pub count : length m.circuit.registers ≤ length n.circuit.registers
+  pub enables : (r : ℕ) → r < length m.circuit.registers → is_in h.regs r ≡ false → enable_of n r ≡ enable_of m r
+
+-- In the cycle that comes some cycles behind one in which the condition was 0, the registers keep their bits. A chain of as many
+-- delay registers tells whether it was, and they start with 1. So each of them holds 1, or the registers keep their bits when what
+-- it holds comes to the end of the chain; and both machines are in the same state in every cycle.
+abbrev pub HintIsSafe : Type 0
+HintIsSafe = (m n : MachineData) (h : Hint) → IsMachine m → Fits m h → AreFree m h → ClaimsHold m h → effect m h ≡ Ok n → After m h n
+
+-- The net that the registers of a hint get shows, in each cycle of each run from a start with 1 in the delay registers, what the
+-- condition was as many cycles before as the hint says, or 1 where there were fewer.
+abbrev pub ChainTells : Type 0
+ChainTells = (m : MachineData) (h : Hint) (c : Added) → IsMachine m → Fits m h → hint_answer m h ≡ Ok c
+    → (start : List Bool) (xs : ℕ → List Bool) (i : ℕ) → length start ≡ m.own_registers → ((j : ℕ) → IsInputs m (xs j))
+    → let state : ℕ → List Bool = λ j. state_at c.machine (start ++ ones c.machine) xs j in
+    bit (values c.machine (state i) (xs i)) c.net
+    ≡ (if nat_lt i h.after then true else condition_at (values m (old m (state (i - h.after))) (xs (i - h.after))) h.terms)
+
+-- what a hint claims of a register, said of all states and all courses of inputs in which every register takes its next bit from cycle
+-- to cycle
+abbrev pub HoldIsAlong : Type 0
+HoldIsAlong = (m : MachineData) (terms : List (List Literal)) (k r : ℕ) → HintHold m terms k r
+    ↔ ((s : List Bool) (xs : ℕ → List Bool) → IsState m s → ((j : ℕ) → IsInputs m (xs j))
+    → condition_at (values m s (xs 0)) terms ≡ false → let t = state_at m s xs k in next m (values m t (xs k)) t r ≡ bit t r)
+
+-- at bits of its leaves a goal is 1 exactly where these bits violate the claim
+abbrev pub GoalViolates : Type 0
+GoalViolates = (m : MachineData) (q : Question) (bits : List Bool) → IsMachine m → IsAsked m q → goal_bit m q bits ≡ violates_at m q bits
+
+-- a goal is never 1 exactly where trying all bits finds none that violate the claim
+abbrev pub NeverIsTried : Type 0
+NeverIsTried = (m : MachineData) (q : Question) → IsMachine m → IsAsked m q → (is_never m q ≡ true) ↔ IsNeverOne m q
+
+-- the goal of a hint's register is never 1 exactly where it keeps its bit, over all states and inputs
+abbrev pub HoldIsSaid : Type 0
+HoldIsSaid = (m : MachineData) (terms : List (List Literal)) (k r : ℕ) → IsMachine m → All (λ term. 0 < length term) terms →
+    r < length m.circuit.registers → IsNeverOne m (hold_question terms k r) ↔ HintHold m terms k r
+
+-- the goal of Idle is sometimes 1 exactly where the condition can be 0
+abbrev pub IdleIsSaid : Type 0
+IdleIsSaid = (m : MachineData) (terms : List (List Literal)) → IsMachine m → All (λ term. 0 < length term) terms →
+    IsSometimesOne m (idle_question terms) ↔ CanIdle m terms
+
+-- What a hint needs to be inserted: none of its registers has an enable, the library has its cells, its claims are narrow and have no
+-- more nodes than a claim may have, its condition can be 0, its registers keep their bits over all states and inputs, and its effect
+-- passes no limit.
+pub record IsInsertable (library : List CellData) (width : ℕ) (m : MachineData) (h : Hint) : Type 0 where
+  pub free : AreFree m h
+  pub cells : missing library (needs h) ≡ None
+  pub narrow : (k : ℕ) (c : HintClaim) → slice_get (all_claims h) k ≡ Some c → claim_width m h c ≤ width
+  pub small : (k : ℕ) (c : HintClaim) → slice_get (all_claims h) k ≡ Some c → claim_nodes m h c ≤ MOST_CLAIM_NODES
+  pub idles : CanIdle m h.terms
+  pub holds : ClaimsHold m h
+  pub room : (n : MachineData) × (effect m h ≡ Ok n)
+
+-- a hint that fits is inserted exactly where it deserves it
+abbrev pub InsertedExactly : Type 0
+InsertedExactly = (library : List CellData) (width : ℕ) (m : MachineData) (h : Hint) → IsMachine m → Fits m h →
+    (tried library width m h ≡ Ok Inserted) ↔ IsInsertable library width m h
+
+-- each hint of a list fits
+abbrev pub AllFit : MachineData → List Hint → Type 0
+AllFit m hs = AllByRecursion (Fits m) hs
+
+-- n is m after hints: a machine that shows what m shows. Its own netlist, the prefix and the names of added nets are kept, and the
+-- library has the cells that it asks for where it has those that m asks for.
+pub record IsSafe (library : List CellData) (m n : MachineData) : Type 0 where
+  pub is_machine : IsMachine n
+  pub same : Same m n
+  pub own : own_netlist n ≡ own_netlist m
+  pub prefix : n.prefix ≡ m.prefix
+  pub names : HasNames m → HasNames n
+  pub cells : HasCells library false m → HasCells library false n
+
+-- hints that were tried one after another are safe, and each fitted the machine at its turn
+pub record AreSafe (library : List CellData) (m : MachineData) (done : Hinted) : Type 0 where
+  pub safe : IsSafe library m done.machine
+  pub turns : AllByRecursion (λ (turn : Turn). IsMachine turn.machine × Fits turn.machine turn.hint) done.turns
+
+abbrev pub HintsAreSafe : Type 0
+HintsAreSafe = (library : List CellData) (width : ℕ) (m : MachineData) (hs : List Hint) (done : Hinted) → IsMachine m → AllFit m hs →
+    hinted library width m hs ≡ Ok done → AreSafe library m done

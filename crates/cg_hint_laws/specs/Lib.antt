@@ -1,0 +1,11 @@
+pub mod Hints
+pub mod Effects
+pub mod Question
+pub mod Reach
+pub mod Leaves
+pub mod Build
+pub mod Violates
+pub mod Needs
+pub mod Trying
+pub mod Answers
+pub mod Laws

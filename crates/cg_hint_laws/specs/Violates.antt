@@ -1,0 +1,82 @@
+-- When bits of a machine violate a claim of a hint.
+use Rattle.std.specs.Prelude.{◌≡◌, ◌<◌, ℕ, zero, suc, Bool, true, false, not, ◌&&◌, List, map, length, slice_index_or, Option, Some, None}
+use Rattle.std.specs.List.{All, list_all}
+use Rattle.std.specs.Option.{option_map_or}
+use Rattle.cg_aig.specs.Aig.{aig_ops}
+use Rattle.cg_cell.specs.Gates.{exclusive_or}
+use Rattle.cg_netlist.specs.Circuit.{data_inputs}
+use Rattle.cg_netlist.specs.Moment.{bit}
+use Rattle.cg_machine.specs.Machine.{IsInputs, IsState, MachineData, each_register, next, step, values}
+use Rattle.cg_claim.specs.LeafBits.{all_bits}
+use Rattle.cg_claim.specs.declared.leaf.Leaf.{Leaf}
+use Rattle.cg_claim.specs.declared.leaf.LeafSource.{LeafSource}
+use Rattle.cg_claim.specs.declared.leaf.LeafSource.TheVariants.{Input, Register}
+use Rattle.cg_hint_laws.specs.Build.{claim_run}
+use Rattle.cg_hint_laws.specs.Hints.{condition_at}
+use Rattle.cg_hint_laws.specs.Leaves.{leaf_place, leaves_of, width_of}
+use Rattle.cg_hint_laws.specs.Question.{Question}
+
+-- free bits: the state of the first cycle, and the inputs of each cycle
+pub record Free : Type 0 where
+  pub state : List Bool
+  pub inputs : ℕ → List Bool
+
+-- there are as many as is asked
+pub record IsFree (m : MachineData) (w : Free) : Type 0 where
+  pub state : IsState m w.state
+  pub inputs : (i : ℕ) → IsInputs m (w.inputs i)
+
+-- the state of cycle i: every register takes its next bit from cycle to cycle
+abbrev pub state_at : MachineData → List Bool → (ℕ → List Bool) → ℕ → List Bool
+state_at m s xs zero = s
+state_at m s xs (suc i) = step m (state_at m s xs i) (xs i)
+
+-- whether a register changes its bit in a cycle; true where no register is asked for
+abbrev pub changes : MachineData → Option ℕ → List Bool → List Bool → Bool
+changes m None s x = true
+changes m (Some r) s x = exclusive_or (next m (values m s x) s r) (bit s r)
+
+-- whether free bits violate a claim: the condition is 0 in the first cycle, and the register changes its bit in the last
+abbrev pub violates : MachineData → Question → Free → Bool
+violates m q w =
+    not (condition_at (values m w.state (w.inputs 0)) q.terms)
+    && changes m q.register (state_at m w.state w.inputs q.after) (w.inputs q.after)
+
+-- the bit of a leaf among bits of leaves, and 0 where it is none
+abbrev pub leaf_bit : List Leaf → List Bool → ℕ → LeafSource → Bool
+leaf_bit leaves bits i source =
+    option_map_or (λ k. slice_index_or bits k false) (leaf_place leaves (record { copy = i; source = source })) false
+
+-- the free bits of which the leaves have these bits, and all others are 0
+abbrev pub free_of : MachineData → List Leaf → List Bool → Free
+free_of m leaves bits =
+    record {
+      state = each_register m (λ r. leaf_bit leaves bits 0 (Register r));
+      inputs = λ i. map (λ y. leaf_bit leaves bits i (Input y)) (data_inputs m.circuit);
+    }
+
+-- whether bits of the leaves violate a claim
+abbrev pub violates_at : MachineData → Question → List Bool → Bool
+violates_at m q bits = violates m q (free_of m (leaves_of m q) bits)
+
+-- whether no bits of the leaves violate a claim, found out by trying them all
+unfoldable pub is_never : MachineData → Question → Bool
+is_never m q = list_all (λ bits. not (violates_at m q bits)) (all_bits (width_of m q))
+
+-- a question of a machine: its register is there, and each of its terms has a literal
+pub record IsAsked (m : MachineData) (q : Question) : Type 0 where
+  pub register : (r : ℕ) → q.register ≡ Some r → r < length m.circuit.registers
+  pub literals : All (λ term. 0 < length term) q.terms
+
+-- the goal's bit at bits of the leaves
+abbrev pub goal_bit : MachineData → Question → List Bool → Bool
+goal_bit m q bits = aig_ops.bit (claim_run m q).domain bits (claim_run m q).answer
+
+-- the goal is 0 at all bits of the leaves; it is 1 at some
+abbrev pub IsNeverOne : MachineData → Question → Type 0
+IsNeverOne m q = (bits : List Bool) → length bits ≡ width_of m q → goal_bit m q bits ≡ false
+
+pub record IsSometimesOne (m : MachineData) (q : Question) : Type 0 where
+  pub bits : List Bool
+  pub long : length bits ≡ width_of m q
+  pub one : goal_bit m q bits ≡ true

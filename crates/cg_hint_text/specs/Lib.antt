@@ -1,0 +1,4 @@
+pub mod Reading
+pub mod HintText
+pub mod Laws
+pub mod inner

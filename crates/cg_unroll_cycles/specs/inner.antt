@@ -1,0 +1,3 @@
+pub mod Joining
+pub mod Laid
+pub mod Reached

@@ -1,0 +1,2 @@
+pub mod RandomRows
+pub mod inner

@@ -1,0 +1,10 @@
+-- Rows that are made one after another.
+use Rattle.std.specs.Prelude.{◌≡◌, ℕ, ◌-◌, Bool, List, ◌++◌, length}
+use Rattle.rand_pcg.specs.Lcg.{Lcg}
+use Rattle.cg_random.specs.RandomRows.{random_rows, rows_from}
+
+-- so many rows are made of all; this row and this generator make on
+pub record MakesRows (width count made : ℕ) (rows : List (List Bool)) (row : List Bool) (generator : Lcg) : Type 0 where
+  pub wide : length row ≡ width
+  pub long : length rows ≡ made
+  pub whole : rows ++ rows_from (count - made) row generator ≡ random_rows count width

@@ -1,0 +1,96 @@
+//! A stimulus for a netlist, made by chance.
+
+ghost use Rattle.std.specs.Prelude.{◌≡◌, ◌≤◌, ◌<◌, ◌++◌, ◌∷◌, [], length, IfOk, OnOk};
+ghost use Rattle.cg_limit.specs.Answers.{OrNoMemory};
+ghost use Rattle.cg_limit.specs.declared.TheConstants.{MOST_ROWS};
+ghost use Rattle.cg_netlist.specs.declared.fault.AddFault.TheVariants.{NoMemory};
+ghost use Rattle.cg_random.specs.RandomRows.{behind, first_row, next_row, random_found, random_rows};
+ghost use Rattle.cg_stimulus.specs.Inputs.{Rows, input_names};
+
+use crate::chance::{new_bit, next_bit};
+use cg_limit::{Limit, MOST_ROWS};
+use cg_netlist::fault::AddFault;
+use cg_netlist::netlist::Netlist;
+use cg_stimulus::fault::StimulusFault;
+use cg_stimulus::stimulus::Stimulus;
+use rand_core::utils::NextWord;
+use rand_pcg::Pcg32;
+use std::alloc::{AllocError, Global};
+
+/// So many rows by chance for a netlist.
+///
+/// In the first row each data input has a new bit. In each later one it keeps its bit in seven of eight cases, and has a new one
+/// in the eighth. More than [`MOST_ROWS`] rows are refused.
+pub fn random_rows(alloc: Global, netlist: &Netlist, count: u32) -> Result<Stimulus, AddFault>
+    ensures inputs { IfOk result (λ stimulus. stimulus.inputs ≡ input_names netlist.now) }
+    ensures rows { OrNoMemory NoMemory (λ stimulus. stimulus.rows) result (random_found count (length (input_names netlist.now))) }
+{
+    if count as usize > MOST_ROWS {
+        return Err(AddFault::Limit(Limit::Rows));
+    }
+    let mut stimulus = Stimulus::new(alloc, netlist)?;
+    push_rows(alloc, &mut stimulus, count)?;
+    Ok(stimulus)
+}
+
+/// Puts so many rows by chance into a stimulus without rows.
+#[tactic(auto, using(crate::proofs::Making::makes_none, crate::proofs::Making::makes_more, crate::proofs::Making::makes_all))]
+fn push_rows(alloc: Global, stimulus: &mut Stimulus, count: u32) -> Result<(), AllocError>
+    requires few { count ≤ MOST_ROWS }
+    requires empty { stimulus.old.rows ≡ [] }
+    ensures inputs { stimulus.new.inputs ≡ stimulus.old.inputs }
+    ensures rows { OnOk result (stimulus.new.rows ≡ random_rows count (length stimulus.old.inputs)) }
+{
+    let mut generator = Pcg32::new(42, 54);
+    let mut row = first_row(alloc, &mut generator, stimulus.width())?;
+    'rows: for _made in 0..count {
+        push(alloc, stimulus, &row)?;
+        row = next_row(alloc, &mut generator, &row)?;
+    }
+    Ok(())
+}
+
+/// The first row, of so many bits.
+#[tactic(auto, using(crate::proofs::Making::behind_more, crate::proofs::Making::first_more))]
+fn first_row(alloc: Global, generator: &mut Pcg32, width: usize) -> Result<Vec<bool>, AllocError>
+    ensures row { IfOk result (λ row. row.items ≡ first_row width generator.old) }
+    ensures generator { OnOk result (generator.new ≡ behind width generator.old) }
+{
+    let mut row = Vec::with_capacity(alloc, width)?;
+    'bits: for _made in 0..width {
+        row.push(new_bit(generator.next_word()))?;
+    }
+    Ok(row)
+}
+
+/// The row that follows a row.
+#[tactic(auto, using(crate::proofs::Making::behind_more, crate::proofs::Making::next_more))]
+fn next_row(alloc: Global, generator: &mut Pcg32, before: &[bool]) -> Result<Vec<bool>, AllocError>
+    ensures row { IfOk result (λ row. row.items ≡ next_row before.now generator.old) }
+    ensures generator { OnOk result (generator.new ≡ behind (length before.now) generator.old) }
+{
+    let mut row = Vec::with_capacity(alloc, before.len())?;
+    'bits: for bit in before {
+        row.push(next_bit(*bit, generator.next_word()))?;
+    }
+    Ok(row)
+}
+
+/// Puts a row behind those of a stimulus, where there is room for it.
+fn push(alloc: Global, stimulus: &mut Stimulus, row: &[bool]) -> Result<(), AllocError>
+    requires wide { length row.now ≡ length stimulus.old.inputs }
+    requires room { length stimulus.old.rows < MOST_ROWS }
+    ensures inputs { stimulus.new.inputs ≡ stimulus.old.inputs }
+    ensures rows { OnOk result (stimulus.new.rows ≡ stimulus.old.rows ++ row.now ∷ []) }
+{
+    match stimulus.push(alloc, row) {
+        Ok(()) => Ok(()),
+        Err(StimulusFault::NoMemory) => Err(AllocError),
+        Err(
+            StimulusFault::BadName(_)
+            | StimulusFault::MissingInput(_)
+            | StimulusFault::BadRow(_)
+            | StimulusFault::Limit(_),
+        ) => unreachable!(),
+    }
+}

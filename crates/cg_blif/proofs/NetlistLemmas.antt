@@ -17,7 +17,7 @@ use Rattle.cg_netlist_parts.proofs.OneFault.{no_fault}
 use Rattle.cg_blif_text.specs.declared.fault.BlifFault.{BlifFault}
 use Rattle.cg_blif_text.specs.declared.fault.BlifFault.TheVariants as faults
 use Rattle.cg_blif_text.specs.BlifText.{BlifText, IsFirstBlifFault, told_by}
-use Rattle.cg_blif_text.specs.Telling.{Told}
+use Rattle.cg_blif_text.specs.Telling.{LinesSaid}
 use Rattle.cg_blif_text.proofs.CanonicalText.{no_two}
 use Rattle.cg_blif_text.proofs.SameSaid.{says_alike}
 use Rattle.cg_blif_text.proofs.TextFaults.{has_told, told_has}
@@ -33,7 +33,7 @@ finish_fails b nets.NoClock is = λ parts same. elim (is parts same) [ inl none 
 finish_fails b nets.NoMemory is = tt
 
 -- what was told is one thing
-one_told : (s t : Told) → ◌≡◌ {A = Result Told BlifFault} (Ok s) (Ok t) → s ≡ t
+one_told : (s t : LinesSaid) → ◌≡◌ {A = Result LinesSaid BlifFault} (Ok s) (Ok t) → s ≡ t
 one_told s t is = cc
 
 renamed : (model other : List ℕ) (parts : List Part) (c : Circuit) → other ≡ c.model → Says model parts c → Says other parts c
@@ -42,10 +42,10 @@ renamed model other parts c is says = record { model_is = sym is; wired_is = say
 module _ (text : List ℕ) (library : List CellData) (clock : Option NetName) where
   -- a text that says a netlist has no fault
   none_beside : (c : Circuit) (fault : BlifFault) → BlifText text library clock c → IsFirstBlifFault text library clock fault → ⊥
-  none_beside c fault says (inl has) = absurd (let no : ◌≡◌ {A = Result Told BlifFault} (Ok says.tells.told) (Err fault) = sym says.tells.faultless ∙ has_told library clock text fault has in cc)
+  none_beside c fault says (inl has) = absurd (let no : ◌≡◌ {A = Result LinesSaid BlifFault} (Ok says.tells.told) (Err fault) = sym says.tells.faultless ∙ has_told library clock text fault has in cc)
   none_beside c fault says (inr (net, is, first)) =
       let told : says.tells.told ≡ first.tells.told = one_told says.tells.told first.tells.told (sym says.tells.faultless ∙ first.tells.faultless) in
-      let same : said says.parts ≡ said first.parts = sym says.tells.said_is ∙ (ap (λ (t : Told). t.said) told ∙ first.tells.said_is) in
+      let same : said says.parts ≡ said first.parts = sym says.tells.said_is ∙ (ap (λ (t : LinesSaid). t.said) told ∙ first.tells.said_is) in
       no_fault first.parts net first.first (faultless c.model first.parts c (says_alike c.model says.parts first.parts c same says.says))
 
   -- a fault of a line is the first fault

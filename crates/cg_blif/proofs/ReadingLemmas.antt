@@ -14,14 +14,14 @@ use Rattle.cg_blif_text.specs.declared.fault.BlifFault.TheVariants as faults
 use Rattle.cg_blif_text.specs.declared.fault.LineFault.{LineFault}
 use Rattle.cg_blif_text.specs.declared.fault.LineFault.TheVariants.{BadLine, BadCover, BadLatch, Placed, SecondModel, Limit}
 use Rattle.cg_netlist_placed.specs.declared.fault.PlacedFault.TheVariants.{UnknownCell, UnusableCell, PinFault}
-use Rattle.cg_blif_text.specs.declared.place.Place.{Place}
-use Rattle.cg_blif_text.specs.declared.place.Place.TheVariants.{First, Unnamed, Named, Ended}
+use Rattle.cg_blif_text.specs.declared.statement.Place.{Place}
+use Rattle.cg_blif_text.specs.declared.statement.Place.TheVariants.{First, Unnamed, Named, Ended}
 use Rattle.cg_blif_text.specs.declared.statement.Statement.{Statement}
 use Rattle.cg_blif_text.specs.declared.statement.Statement.TheVariants.{Model, Names, Latch, End}
 use Rattle.cg_blif_text.specs.Commands.{are_row}
 use Rattle.cg_blif_text.specs.Meaning.{meant}
 use Rattle.cg_blif_text.specs.Rows.{row_of}
-use Rattle.cg_blif_text.specs.Telling.{Told, at, go_on, meant_at, next_model, next_place, tell_clock, tell_more, with_parts}
+use Rattle.cg_blif_text.specs.Telling.{LinesSaid, at, go_on, meant_at, next_model, next_place, tell_clock, tell_more, with_parts}
 use Rattle.cg_blif_text.proofs.MeantNames.{IsMade, meant_made}
 use Rattle.cg_blif.specs.Hearing.{Hears, at_line}
 use Rattle.cg_blif.specs.Joining.{IsUnnamed, IsUnnamedLine}
@@ -31,7 +31,7 @@ use Rattle.cg_blif.specs.Resuming.{HasBounds, IsAt, IsFaultOf, IsFresh, Resumes,
 use Rattle.cg_blif.specs.Resuming.{told_of}
 use Rattle.cg_blif.specs.declared.fault.Refusal.{Refusal}
 use Rattle.cg_blif.specs.declared.fault.Refusal.TheVariants.{Line as AtLine, NoMemory as NoRoom}
-use Rattle.cg_blif.specs.declared.reading.Reading.{Reading}
+use Rattle.cg_blif.specs.declared.reader.Reading.{Reading}
 use Rattle.cg_blif_text.proofs.LinesLeft.{at_bad_row, at_command, at_end, at_lone_row, at_row, at_unnamed, closed_fault}
 use Rattle.cg_blif_text.proofs.LinesLeft.{closed_told, next, on_statement, refused, took}
 
@@ -103,13 +103,13 @@ stays Ended b cover fresh o is = refl
 module _ (library : List CellData) where
   -- a reader between lines, and a line of these words
   module _ (r : Reading) (is : IsAt r) (words : List (List ℕ)) (number : ℕ) (later : List Line) where
-    abbrev told : Told
+    abbrev told : LinesSaid
     told = told_of r.place r.builder
 
     abbrev line : Line
     line = record { number = number; words = words }
 
-    abbrev told_closed : Said → Told
+    abbrev told_closed : Said → LinesSaid
     told_closed t = record { place = r.place; model = r.builder.model; said = t }
 
     closes : (t : Said) → closed_said r.builder.said r.cover ≡ Ok t → closed told r.cover ≡ Ok (told_closed t)
@@ -168,8 +168,8 @@ is_line_fault made number (Placed PinFault) is = is
 is_line_fault made number SecondModel is = is
 is_line_fault made number (Limit limit) is = is
 
-pub fault_along : (made other : Result Told BlifFault) (fault : BlifFault) → made ≡ other → IsFaultOf made fault → IsFaultOf other fault
-fault_along made other fault same is = let P : Result Told BlifFault → Type 0 = λ r. IsFaultOf r fault in subst P same is
+pub fault_along : (made other : Result LinesSaid BlifFault) (fault : BlifFault) → made ≡ other → IsFaultOf made fault → IsFaultOf other fault
+fault_along made other fault same is = let P : Result LinesSaid BlifFault → Type 0 = λ r. IsFaultOf r fault in subst P same is
 
 module _ (library : List CellData) (r : Reading) (is : IsAt r) where
   unnamed_so : (number : ℕ) (lines : List Line) → IsUnnamed lines number → left_of library r lines ≡ go_on (closed (told_of r.place r.builder) r.cover) (λ t. Err (faults.BadLine number))
@@ -218,20 +218,20 @@ pub close_fails : (library : List CellData) (r : Reading) (is : IsAt r) (b : Bui
 close_fails library r is b number lines (AtLine cause) hears unnamed = is_line_fault (left_of library r lines) 0 cause (unnamed_cover_fails library r is number lines cause hears unnamed)
 close_fails library r is b number lines NoRoom hears unnamed = tt
 
-pub end_refused : (library : List CellData) (r : Reading) (is : IsAt r) (b : Building) (made : Result Told BlifFault) (refusal : Refusal) → left_of library r [] ≡ made → Hears r.builder b (closed_said r.builder.said r.cover) (Err refusal) → IsFaultOf made (at_line 0 refusal)
+pub end_refused : (library : List CellData) (r : Reading) (is : IsAt r) (b : Building) (made : Result LinesSaid BlifFault) (refusal : Refusal) → left_of library r [] ≡ made → Hears r.builder b (closed_said r.builder.said r.cover) (Err refusal) → IsFaultOf made (at_line 0 refusal)
 end_refused library r is b made (AtLine cause) left hears = is_line_fault made 0 cause (sym left ∙ end_fails library r is cause hears)
 end_refused library r is b made NoRoom left hears = tt
 
-pub line_refused : (library : List CellData) (r new : Reading) (words : List (List ℕ)) (number : ℕ) (later lines : List Line) (made : Result Told BlifFault) (refusal : Refusal) → Resumes library r new words (Err refusal)
+pub line_refused : (library : List CellData) (r new : Reading) (words : List (List ℕ)) (number : ℕ) (later lines : List Line) (made : Result LinesSaid BlifFault) (refusal : Refusal) → Resumes library r new words (Err refusal)
     → lines ≡ record { number = number; words = words } ∷ later → left_of library r lines ≡ made → IsFaultOf made (at_line number refusal)
 line_refused library r new words number later lines made (AtLine cause) resumes is left = is_line_fault made number cause (sym left ∙ (ap (left_of library r) is ∙ resumes number later))
 line_refused library r new words number later lines made NoRoom resumes is left = tt
 
-pub clock_refused : (before : Told) (net : List ℕ) (b : Building) (old : Building) (refusal : Refusal) → Hears old b (with_parts (Clock net ∷ []) before.said) (Err refusal) → IsFaultOf (tell_clock (Some net) before) (at_line 0 refusal)
+pub clock_refused : (before : LinesSaid) (net : List ℕ) (b : Building) (old : Building) (refusal : Refusal) → Hears old b (with_parts (Clock net ∷ []) before.said) (Err refusal) → IsFaultOf (tell_clock (Some net) before) (at_line 0 refusal)
 clock_refused before net b old (AtLine cause) hears = is_line_fault (tell_clock (Some net) before) 0 cause (ap (tell_more before) hears)
 clock_refused before net b old NoRoom hears = tt
 
-pub made_fault : (made : Result Told BlifFault) (next : Told → Result Told BlifFault) (fault : BlifFault) → IsFaultOf made fault → IsFaultOf (go_on made next) fault
+pub made_fault : (made : Result LinesSaid BlifFault) (next : LinesSaid → Result LinesSaid BlifFault) (fault : BlifFault) → IsFaultOf made fault → IsFaultOf (go_on made next) fault
 made_fault made next faults.NoMemory is = tt
 made_fault made next (faults.Net f) is = is
 made_fault made next fault is = ap (λ r. go_on r next) is

@@ -17,22 +17,22 @@ use Rattle.cg_blif_text.specs.declared.fault.BlifFault.{BlifFault}
 use Rattle.cg_blif_text.specs.declared.fault.BlifFault.TheVariants.{Net, NoMemory}
 use Rattle.cg_blif_text.specs.declared.fault.LineFault.{LineFault}
 use Rattle.cg_blif_text.specs.declared.fault.LineFault.TheVariants.{BadLine, SecondModel}
-use Rattle.cg_blif_text.specs.declared.place.Place.{Place}
-use Rattle.cg_blif_text.specs.declared.place.Place.TheVariants.{First, Unnamed, Named, Ended}
+use Rattle.cg_blif_text.specs.declared.statement.Place.{Place}
+use Rattle.cg_blif_text.specs.declared.statement.Place.TheVariants.{First, Unnamed, Named, Ended}
 use Rattle.cg_blif_text.specs.declared.statement.Statement.{Statement}
 use Rattle.cg_blif_text.specs.declared.statement.Statement.TheVariants.{Model, Names, Latch}
 use Rattle.cg_blif_text.specs.LinesLeft.{opened, resume, said_at_once}
 use Rattle.cg_blif_text.specs.BlifText.{BlifText, IsFirstBlifFault, told_by}
-use Rattle.cg_blif_text.specs.Telling.{Told, at, next_model}
+use Rattle.cg_blif_text.specs.Telling.{LinesSaid, at, next_model}
 use Rattle.cg_net.specs.Names.{NetName}
 use Rattle.cg_blif.specs.Joining.{IsUnnamed}
 use Rattle.cg_blif_text.specs.OpenCovers.{CoverSoFar}
 use Rattle.cg_blif.specs.declared.fault.Refusal.{Refusal}
 use Rattle.cg_blif.specs.declared.fault.Refusal.TheVariants.{Line as AtLine, NoMemory as NoRoom}
-use Rattle.cg_blif.specs.declared.reading.Reading.{Reading}
+use Rattle.cg_blif.specs.declared.reader.Reading.{Reading}
 
 -- what a builder was told, the next line standing at this place
-abbrev pub told_of : Place → Building → Told
+abbrev pub told_of : Place → Building → LinesSaid
 told_of place b = record { place = place; model = b.model; said = b.said }
 
 -- nothing was told before the first line
@@ -77,7 +77,7 @@ abbrev pub IsAt : Reading → Type 0
 IsAt r = (r.builder.refused ≡ None) × IsFresh r.place r.builder r.cover
 
 -- what the lines that are left tell a reader
-abbrev pub left_of : List CellData → Reading → List Line → Result Told BlifFault
+abbrev pub left_of : List CellData → Reading → List Line → Result LinesSaid BlifFault
 left_of library r lines = resume library (told_of r.place r.builder) r.cover lines
 
 -- A line of these words was read: what is left behind it tells the reader what it told it before with the line; or the line has
@@ -100,7 +100,7 @@ ClosesAt old number result = (library : List CellData) (lines : List Line) → I
     IsFaultOf (left_of library old lines) result
 
 -- all lines were read, and this is what they tell; or this is their first fault; or memory is wanting
-abbrev pub IsReadAs : Result Told BlifFault → Result Reading BlifFault → Type 0
+abbrev pub IsReadAs : Result LinesSaid BlifFault → Result Reading BlifFault → Type 0
 IsReadAs made (Ok r) = (r.builder.refused ≡ None) × (made ≡ Ok (told_of r.place r.builder))
 IsReadAs made (Err fault) = IsFaultOf made fault
 

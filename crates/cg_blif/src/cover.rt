@@ -6,7 +6,7 @@ ghost use Rattle.cg_limit.specs.declared.TheConstants.{MOST_COVER_INPUTS};
 ghost use Rattle.cg_blif_text.specs.Rows.{keeps_value, row_of, row_place, row_places, row_with, value_of};
 ghost use Rattle.cg_blif_text.specs.OpenCovers.{cover_so_far, with_row};
 
-use cg_blif_text::word::Word;
+use cg_blif_text::statement::Word;
 use cg_cell::cover::Cover;
 use cg_cell::rows::CoverRows;
 use cg_list::Seq;

@@ -2,13 +2,12 @@
 
 ghost use Rattle.std.specs.Prelude.{◌≡◌};
 ghost use Rattle.cg_blif_text.specs.Telling.{at};
-ghost use Rattle.cg_blif.specs.Hearing.{at_line, heard, heard_placed};
+ghost use Rattle.cg_blif.specs.Hearing.{at_line};
 ghost use Rattle.cg_blif.specs.declared.fault.Refusal.TheVariants.{Line, NoMemory};
 ghost use Rattle.cg_blif_text.specs.declared.fault.LineFault.TheVariants.{Placed};
 
 use cg_blif_text::fault::{BlifFault, LineFault};
-use cg_netlist::fault::AddFault;
-use cg_netlist_placed::fault::{PlacedFault, Refusal as PlacedRefusal};
+use cg_netlist_placed::fault::PlacedFault;
 use std::alloc::{AllocError, AllocFailed};
 
 /// Why a line is not taken: what it has wrong, or that no memory was left.
@@ -42,28 +41,6 @@ impl<T: Drop> From<AllocFailed<T>> for Refusal {
 
     fn from(_refused: AllocFailed<T>) -> Refusal {
         Refusal::NoMemory
-    }
-}
-
-/// What a line whose part a builder answered so is.
-pub fn heard(answer: Result<(), AddFault>) -> Result<(), Refusal>
-    ensures { result ≡ heard answer }
-{
-    match answer {
-        Ok(()) => Ok(()),
-        Err(AddFault::Limit(limit)) => Err(Refusal::Line(LineFault::Limit(limit))),
-        Err(AddFault::NoMemory) => Err(Refusal::NoMemory),
-    }
-}
-
-/// What a line whose placed cell is answered so is.
-pub fn heard_placed(answer: Result<(), PlacedRefusal>) -> Result<(), Refusal>
-    ensures { result ≡ heard_placed answer }
-{
-    match answer {
-        Ok(()) => Ok(()),
-        Err(PlacedRefusal::Placed(fault)) => Err(Refusal::Line(LineFault::Placed(fault))),
-        Err(PlacedRefusal::Added(fault)) => heard(Err(fault)),
     }
 }
 

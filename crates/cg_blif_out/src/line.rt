@@ -1,14 +1,15 @@
-//! A statement as a line.
+//! A statement as a line, and the rows of a cover.
 
-ghost use Rattle.std.specs.Prelude.{◌≡◌, ◌++◌, ◌∷◌, ◌≤◌, [], OnOk, Option, unwrap_or};
-ghost use Rattle.cg_text.specs.Written.{line_text};
-ghost use Rattle.cg_netlist_parts.specs.Writable.{NIL};
-ghost use Rattle.cg_blif_text.specs.Canonical.{pin_text, statement_line};
+ghost use Rattle.std.specs.Prelude.{◌≡◌, ◌++◌, ◌∷◌, ◌≤◌, [], OnOk, Option, unwrap_or, map};
+ghost use Rattle.cg_blif_out.specs.Writing.{HasDigit, pins_text, spaced, rows_text};
+ghost use Rattle.cg_blif_text.specs.Canonical.{pin_text, statement_line, bit_byte, place_byte, row_words};
 ghost use Rattle.cg_blif_text.specs.declared.statement.Statement.TheVariants.{Names, Latch, Gate};
-ghost use Rattle.cg_blif_out.specs.Writing.{HasDigit, pins_text, spaced};
+ghost use Rattle.cg_netlist_parts.specs.Writable.{NIL};
+ghost use Rattle.cg_text.specs.Written.{line_text};
 
-use cg_blif_text::statement::Statement;
-use cg_blif_text::word::Word;
+use cg_blif_text::statement::{Statement, Word};
+use cg_cell::cover::Cover;
+use cg_cell::rows::CoverRows;
 use cg_netlist_placed::pin::PinWord;
 use std::alloc::AllocError;
 
@@ -129,5 +130,65 @@ fn push_pin(out: &mut Vec<u8>, pin: &PinWord<'_>) -> Result<(), AllocError>
     match pin.net {
         None => Ok(()),
         Some(net) => out.extend_from_slice(net),
+    }
+}
+
+/// Appends the rows of a cover, each as a line.
+pub fn push_rows(out: &mut Vec<u8>, cover: &Cover) -> Result<(), AllocError>
+    ensures { OnOk result (out.new.items ≡ out.old.items ++ rows_text cover.now.on cover.now.rows) }
+{
+    push_rows_on(out, cover.rows(), cover.on())
+}
+
+/// Appends rows of this value, each as a line.
+#[tactic(auto, using(crate::proofs::WritingLemmas::turns))]
+fn push_rows_on(out: &mut Vec<u8>, rows: &CoverRows, on: bool) -> Result<(), AllocError>
+    ensures { OnOk result (out.new.items ≡ out.old.items ++ rows_text on rows.now) }
+{
+    'rows: for k in 0..rows.len() {
+        push_row(out, rows.row(k), on)?;
+    }
+    Ok(())
+}
+
+/// Appends a row as a line: the places, if there are inputs, and the value.
+#[tactic(auto, using(crate::proofs::WritingLemmas::rows))]
+fn push_row(out: &mut Vec<u8>, row: &[Option<bool>], on: bool) -> Result<(), AllocError>
+    ensures { OnOk result (out.new.items ≡ out.old.items ++ line_text (row_words on row.now)) }
+{
+    push_places(out, row)?;
+    if !row.is_empty() {
+        out.push(b' ')?;
+    }
+    out.push(bit_byte(on))?;
+    out.push(b'\n')?;
+    Ok(())
+}
+
+/// Appends a byte for each place of a row.
+#[tactic(auto, using(crate::proofs::WritingLemmas::turns))]
+fn push_places(out: &mut Vec<u8>, places: &[Option<bool>]) -> Result<(), AllocError>
+    ensures { OnOk result (out.new.items ≡ out.old.items ++ map place_byte places.now) }
+{
+    'places: for place in places {
+        out.push(place_byte(*place))?;
+    }
+    Ok(())
+}
+
+/// A bit as a byte.
+fn bit_byte(bit: bool) -> u8
+    ensures { result ≡ bit_byte bit }
+{
+    if bit { b'1' } else { b'0' }
+}
+
+/// A place of a row as a byte: `-` where the row leaves the input open.
+fn place_byte(place: Option<bool>) -> u8
+    ensures { result ≡ place_byte place }
+{
+    match place {
+        None => b'-',
+        Some(bit) => bit_byte(bit),
     }
 }

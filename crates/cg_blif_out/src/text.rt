@@ -1,22 +1,31 @@
-//! The text of a netlist.
+//! The text of a netlist, part by part, and what the line of each part says.
 
-ghost use Rattle.std.specs.Prelude.{◌≡◌, ◌++◌, List, None, IfOk, OnOk};
+ghost use Rattle.std.specs.Prelude.{◌≡◌, ◌++◌, List, None, IfOk, OnOk, ◌<◌, ℕ, Some, length, slice_get, ◌≤◌, map, slice_index};
 ghost use Rattle.std.specs.List.{flat_map};
-ghost use Rattle.cg_netlist.specs.Netlist.{IsNetlist};
-ghost use Rattle.cg_cell.specs.Cell.{CellData};
-ghost use Rattle.cg_netlist_parts.specs.Writable.{IsWritable};
+ghost use Rattle.cg_blif_out.specs.Writing.{cell_text, clock_text, gater_text, header_text, register_text, function_rows};
 ghost use Rattle.cg_blif_text.specs.BlifText.{BlifText};
-ghost use Rattle.cg_blif_text.specs.Canonical.{blif};
-ghost use Rattle.cg_blif_out.specs.Writing.{cell_text, clock_text, gater_text, header_text, register_text};
+ghost use Rattle.cg_blif_text.specs.Canonical.{blif, function_statement, gater_statement, kind_statement, register_statement};
+ghost use Rattle.cg_blif_text.specs.declared.statement.Statement.TheVariants.{Gate};
+ghost use Rattle.cg_cell.specs.Cell.{CellData};
+ghost use Rattle.cg_net.specs.Names.{net_name};
+ghost use Rattle.cg_netlist.specs.Circuit.{GatingCell, LogicCell, RegisterCell};
+ghost use Rattle.cg_netlist.specs.Netlist.{IsNetlist};
+ghost use Rattle.cg_netlist.specs.View.{function_seen, cell_seen, gater_seen, register_seen};
+ghost use Rattle.cg_netlist.specs.WellFormed.{FitsKind};
+ghost use Rattle.cg_netlist.specs.Wiring.{map_gater, map_register};
+ghost use Rattle.cg_netlist.specs.declared.parts.RegisterKind.TheVariants.{Plain, Flop};
+ghost use Rattle.cg_netlist_parts.specs.Writable.{IsWritable};
+ghost use Rattle.cg_netlist_placed.specs.Within.{CellNets, GaterNets, RegisterNets};
 
-use crate::line::push_statement;
-use crate::part_lines::{push_cell, push_gater, push_register};
-use crate::words::{word, words};
-use cg_blif_text::statement::Statement;
-use cg_blif_text::word::Word;
+use crate::line::{push_rows, push_statement};
+use cg_blif_text::statement::{Statement, Word};
+use cg_cell::cell::CellType;
 use cg_list::Seq;
-use cg_net::id::{CellId, GateClockId, RegId};
+use cg_net::id::{CellId, GateClockId, NetId, RegId};
 use cg_netlist::netlist::Netlist;
+use cg_netlist::view::{CellView, Function, GaterView, RegKind, RegView};
+use cg_netlist_placed::pin::PinWord;
+use cg_netlist_placed::pins::{flop_pins, gater_pins, logic_pins};
 use std::alloc::{AllocError, Global};
 
 /// The canonical BLIF text of a netlist: the model, the inputs, the outputs, the clock where there is one, the logic
@@ -107,4 +116,185 @@ fn push_registers(alloc: Global, out: &mut Vec<u8>, netlist: &Netlist) -> Result
         push_register(alloc, out, netlist, RegId::new(number))?;
     }
     Ok(())
+}
+
+/// Appends the lines of a logic cell, which must be one of the netlist's.
+fn push_cell(
+    alloc: Global,
+    out: &mut Vec<u8>,
+    netlist: &Netlist,
+    id: CellId,
+) -> Result<(), AllocError>
+    requires netlist { IsNetlist netlist.now }
+    requires id { id < length netlist.now.cells }
+    ensures { OnOk result ((cell : LogicCell ℕ) → slice_get netlist.now.cells id ≡ Some cell
+        → out.new.items ≡ out.old.items ++ cell_text netlist.now.names cell) }
+{
+    let cell = netlist.cell(id);
+    let statement = cell_statement(alloc, netlist, &cell)?;
+    push_statement(out, &statement)?;
+    push_function_rows(out, &cell.function)
+}
+
+/// Appends the rows of a cover, and nothing for a placed cell.
+fn push_function_rows(out: &mut Vec<u8>, function: &Function<'_>) -> Result<(), AllocError>
+    ensures { OnOk result (out.new.items ≡ out.old.items ++ function_rows (function_seen function.now)) }
+{
+    match function {
+        Function::Cover(cover) => push_rows(out, cover),
+        Function::Cell(_) => Ok(()),
+    }
+}
+
+/// Appends the line of a gating cell, which must be one of the netlist's.
+fn push_gater(
+    alloc: Global,
+    out: &mut Vec<u8>,
+    netlist: &Netlist,
+    id: GateClockId,
+) -> Result<(), AllocError>
+    requires netlist { IsNetlist netlist.now }
+    requires id { id < length netlist.now.gaters }
+    ensures { OnOk result ((gater : GatingCell ℕ) → slice_get netlist.now.gaters id ≡ Some gater
+        → out.new.items ≡ out.old.items ++ gater_text netlist.now.names gater) }
+{
+    let gater = netlist.gater(id);
+    let statement = gater_statement(alloc, netlist, &gater)?;
+    push_statement(out, &statement)
+}
+
+/// Appends the line of a register, which must be one of the netlist's.
+fn push_register(
+    alloc: Global,
+    out: &mut Vec<u8>,
+    netlist: &Netlist,
+    id: RegId,
+) -> Result<(), AllocError>
+    requires netlist { IsNetlist netlist.now }
+    requires id { id < length netlist.now.registers }
+    ensures { OnOk result ((register : RegisterCell ℕ ℕ) → slice_get netlist.now.registers id ≡ Some register
+        → out.new.items ≡ out.old.items ++ register_text netlist.now.names register) }
+{
+    let statement = register_statement(alloc, netlist, id)?;
+    push_statement(out, &statement)
+}
+
+/// What the line of a logic cell says; the rows of a cover stand behind it.
+fn cell_statement<'a>(
+    alloc: Global,
+    netlist: &'a Netlist,
+    cell: &CellView<'a>,
+) -> Result<Statement<'a>, AllocError>
+    requires netlist { IsNetlist netlist.now }
+    requires nets { CellNets netlist.now (cell_seen cell.now) }
+    ensures { IfOk result (λ s. s ≡ function_statement (map (net_name netlist.entry.now.names) cell.entry.now.inputs.now)
+        (net_name netlist.entry.now.names cell.entry.now.output) (function_seen cell.entry.now.function)) }
+{
+    match cell.function {
+        Function::Cover(_) => {
+            let inputs = words(alloc, netlist, cell.inputs)?;
+            Ok(Statement::Names(Seq::from_vec(inputs), word(netlist, cell.output)))
+        }
+        Function::Cell(placed) => {
+            let pins = logic_pins(alloc, netlist, placed.pins(), cell.inputs, cell.output)?;
+            Ok(gate_statement(placed, pins))
+        }
+    }
+}
+
+/// What the line of a gating cell says.
+fn gater_statement<'a>(
+    alloc: Global,
+    netlist: &'a Netlist,
+    gater: &GaterView<'a>,
+) -> Result<Statement<'a>, AllocError>
+    requires { GaterNets netlist.now (gater_seen gater.now) }
+    ensures { IfOk result (λ s. s ≡ gater_statement (map_gater (net_name netlist.entry.now.names) (gater_seen gater.entry.now))) }
+{
+    let pins = gater_pins(alloc, netlist, gater.cell.pins(), gater)?;
+    Ok(gate_statement(gater.cell, pins))
+}
+
+/// What the line of a register says, which must be one of the netlist's.
+fn register_statement<'a>(
+    alloc: Global,
+    netlist: &'a Netlist,
+    id: RegId,
+) -> Result<Statement<'a>, AllocError>
+    requires netlist { IsNetlist netlist.now }
+    requires id { id < length netlist.now.registers }
+    ensures { IfOk result (λ s. (register : RegisterCell ℕ ℕ) → slice_get netlist.entry.now.registers id ≡ Some register
+        → (s ≡ register_statement (map_register (net_name netlist.entry.now.names) register)) × (register.init ≤ 3)) }
+{
+    let register = netlist.register(id);
+    match register.kind {
+        RegKind::Plain => Ok(plain_statement(netlist, &register)),
+        RegKind::Cell(placed) => flop_statement(alloc, netlist, placed, &register),
+    }
+}
+
+/// What the line of a placed register says.
+fn flop_statement<'a>(
+    alloc: Global,
+    netlist: &'a Netlist,
+    cell: &'a CellType,
+    register: &RegView<'a>,
+) -> Result<Statement<'a>, AllocError>
+    requires nets { RegisterNets netlist.now (register_seen register.now) }
+    requires places { length register.now.pins.now ≡ length register.now.outputs.now }
+    ensures { IfOk result (λ s. s ≡ kind_statement (map_register (net_name netlist.entry.now.names) (register_seen register.entry.now)) (Flop cell.entry.now)) }
+{
+    let pins = flop_pins(alloc, netlist, cell.pins(), register)?;
+    Ok(gate_statement(cell, pins))
+}
+
+/// What the line of a placed cell says, with these nets at its pins.
+fn gate_statement<'a>(cell: &'a CellType, pins: Vec<PinWord<'a>>) -> Statement<'a>
+    ensures { result ≡ Gate cell.entry.now.name pins.entry.items }
+{
+    Statement::Gate(Word::new(cell.name().bytes()), Seq::from_vec(pins))
+}
+
+/// What the line of a plain register says.
+fn plain_statement<'a>(netlist: &'a Netlist, register: &RegView<'a>) -> Statement<'a>
+    requires netlist { IsNetlist netlist.now }
+    requires nets { RegisterNets netlist.now (register_seen register.now) }
+    requires fits { FitsKind Plain (register_seen register.now) }
+    ensures { result ≡ kind_statement (map_register (net_name netlist.entry.now.names) (register_seen register.entry.now)) Plain }
+{
+    match (register.inputs, register.outputs) {
+        ([input, ..], [output, ..]) => Statement::Latch(
+            word(netlist, *input),
+            word(netlist, output.0),
+            Some(word(netlist, register.clock)),
+            register.init,
+        ),
+        _ => unreachable!(),
+    }
+}
+
+/// The name of a net, which must be one of the netlist's.
+fn word<'a>(netlist: &'a Netlist, net: NetId) -> Word<'a>
+    requires netlist { IsNetlist netlist.now }
+    requires net { net < length netlist.now.names }
+    ensures { result ≡ net_name netlist.entry.now.names net }
+{
+    Word::new(netlist.name(net))
+}
+
+/// The names of nets, which must be the netlist's.
+fn words<'a>(
+    alloc: Global,
+    netlist: &'a Netlist,
+    nets: &[NetId],
+) -> Result<Vec<Word<'a>>, AllocError>
+    requires netlist { IsNetlist netlist.now }
+    requires nets { (k : ℕ) → k < length nets.now → slice_index nets.now k < length netlist.now.names }
+    ensures { IfOk result (λ words. words.items ≡ map (net_name netlist.entry.now.names) nets.now) }
+{
+    let mut words = Vec::with_capacity(alloc, nets.len())?;
+    'nets: for net in nets {
+        words.push(word(netlist, *net))?;
+    }
+    Ok(words)
 }

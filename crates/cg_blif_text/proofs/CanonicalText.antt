@@ -14,7 +14,7 @@ use Rattle.cg_netlist.specs.declared.parts.RegisterKind.{RegisterKind}
 use Rattle.cg_netlist.specs.declared.parts.RegisterKind.TheVariants.{Plain, Flop}
 use Rattle.cg_netlist.specs.Circuit.{Circuit, LogicCell, GatingCell, RegisterCell}
 use Rattle.cg_netlist.specs.WellFormed.{FitsKind}
-use Rattle.cg_netlist_parts.specs.Part.{Part, Input, Output, Clock, Logic, Gate, Register}
+use Rattle.cg_netlist_parts.specs.Part.{Part, Input, Output, Clock, Logic, GaterPart, Register}
 use Rattle.cg_netlist_parts.specs.Said.{nothing_said, said}
 use Rattle.cg_netlist_parts.specs.Says.{AreTaken, CellFits, IsPart, register_part}
 use Rattle.cg_netlist.specs.Wiring.{Wiring, named}
@@ -24,7 +24,7 @@ use Rattle.cg_netlist_parts.proofs.KnownNames.{same_word}
 use Rattle.cg_netlist_parts.proofs.WritableIsSaid.{line_parts_are, line_parts_say, line_parts_taken}
 use Rattle.cg_blif_text.specs.declared.fault.BlifFault.{BlifFault}
 use Rattle.cg_blif_text.specs.declared.fault.LineFault.TheVariants.{BadLine}
-use Rattle.cg_blif_text.specs.declared.place.Place.TheVariants.{Named, Ended, First}
+use Rattle.cg_blif_text.specs.declared.statement.Place.TheVariants.{Named, Ended, First}
 use Rattle.cg_blif_text.specs.BlifText.{BlifText}
 use Rattle.cg_blif_text.specs.Blocks.{cut, put_in}
 use Rattle.cg_blif_text.specs.Canonical.{blif, canonical_lines, cell_lines, function_statement, gater_statement}
@@ -33,7 +33,7 @@ use Rattle.cg_netlist_placed.specs.PinsOf.{flop_nets, logic_nets, with_places}
 use Rattle.cg_blif_text.specs.Commands.{command_of}
 use Rattle.cg_blif_text.specs.Latches.{control_of}
 use Rattle.cg_blif_text.specs.Meaning.{behind}
-use Rattle.cg_blif_text.specs.Telling.{Told, go_on, meant_at, tell_block, tell_blocks, tell_clock, tell_cut, tell_lines}
+use Rattle.cg_blif_text.specs.Telling.{LinesSaid, go_on, meant_at, tell_block, tell_blocks, tell_clock, tell_cut, tell_lines}
 use Rattle.cg_blif_text.specs.Telling.{tell_statement, untold, with_parts}
 use Rattle.cg_blif_text.proofs.CanonicalLines.{Tells, both_tell, clock_tells, cover_tells, each_line_tells, each_tells, gate_tells}
 use Rattle.cg_blif_text.proofs.CanonicalLines.{inputs_tell, latch_tells, outputs_tell, written_both}
@@ -68,11 +68,11 @@ module _ (library : List CellData) (names : (cell : CellData) → IsCell cell �
       function_tells cell.inputs cell.output cell.function (each_front IsNamed cell.inputs (cell.output ∷ []) part.named) (each_back IsNamed cell.inputs (cell.output ∷ []) part.named).0
       (record { over = part.fits.over; few = part.fits.few }) line
 
-  gater_tells : (g : GatingCell Word) → IsPart (Gate g) → IsLine library (Gate g) → Tells library (statement_line (gater_statement g) ∷ []) (Gate g ∷ [])
+  gater_tells : (g : GatingCell Word) → IsPart (GaterPart g) → IsLine library (GaterPart g) → Tells library (statement_line (gater_statement g) ∷ []) (GaterPart g ∷ [])
   gater_tells g part line =
       let own = names g.cell part.fits.0 in
       let nets = gater_named g part.named g.cell.pins in
-      gate_tells library g.cell (gater_nets g g.cell.pins) (Gate g) part.fits.0 own.0 own.1 nets (gater_is_placed library g part line)
+      gate_tells library g.cell (gater_nets g g.cell.pins) (GaterPart g) part.fits.0 own.0 own.1 nets (gater_is_placed library g part line)
 
   -- a plain register, on the clock that its word says
   plain_tells : (ins : List Word) (outs : List (Word × Bool)) (pins : List ℕ) (clock : Word) (init : ℕ) → length ins ≡ 1 → map (λ (o : Word × Bool). o.1) outs ≡ false ∷ [] → pins ≡ 0 ∷ []
@@ -136,7 +136,7 @@ module _ (library : List CellData) (names : (cell : CellData) → IsCell cell �
     p4 = p3 ++ map (λ cell. Logic cell) w.cells
 
     abbrev p5 : List Part
-    p5 = p4 ++ map (λ gater. Gate gater) w.gaters
+    p5 = p4 ++ map (λ gater. GaterPart gater) w.gaters
 
     -- parts of one kind meet what all parts meet
     of_kind : {X : Type 0} (wrap : X → Part) (P : Part → Type 0) (xs : List X) → AllByRecursion P (map wrap xs) → AllByRecursion (λ x. P (wrap x)) xs
@@ -169,12 +169,12 @@ module _ (library : List CellData) (names : (cell : CellData) → IsCell cell �
     body_tells : Tells library body (line_parts c)
     body_tells =
         let f5 = each_front IsPart p5 registers_part taken.each in
-        let f4 = each_front IsPart p4 (map (λ gater. Gate gater) w.gaters) f5 in
+        let f4 = each_front IsPart p4 (map (λ gater. GaterPart gater) w.gaters) f5 in
         let f3 = each_front IsPart p3 (map (λ cell. Logic cell) w.cells) f4 in
         let f2 = each_front IsPart p2 (map (λ net. Clock net) (option_to_list w.clock)) f3 in
         let f1 = each_front IsPart p1 (map (λ net. Output net) w.outputs) f2 in
         let l5 = each_front (IsLine library) p5 registers_part lines in
-        let l4 = each_front (IsLine library) p4 (map (λ gater. Gate gater) w.gaters) l5 in
+        let l4 = each_front (IsLine library) p4 (map (λ gater. GaterPart gater) w.gaters) l5 in
         let t1 = inputs_tell library w.inputs (net_names (λ net. Input net) (λ net p. p.named.0) w.inputs f1) in
         let t2 = outputs_tell library w.outputs (net_names (λ net. Output net) (λ net p. p.named.0) w.outputs (each_back IsPart p1 (map (λ net. Output net) w.outputs) f2)) in
         let t3 = clock_tells library w.clock (net_names (λ net. Clock net) (λ net p. p.named.0) (option_to_list w.clock) (each_back IsPart p2 (map (λ net. Clock net) (option_to_list w.clock)) f3)) in
@@ -182,10 +182,10 @@ module _ (library : List CellData) (names : (cell : CellData) → IsCell cell �
         (both_of (λ cell. IsPart (Logic cell)) (λ cell. IsLine library (Logic cell)) (λ cell. Tells library (cell_lines cell) (Logic cell ∷ [])) cell_tells w.cells
         (of_kind (λ cell. Logic cell) IsPart w.cells (each_back IsPart p3 (map (λ cell. Logic cell) w.cells) f4))
         (of_kind (λ cell. Logic cell) (IsLine library) w.cells (each_back (IsLine library) p3 (map (λ cell. Logic cell) w.cells) l4))) in
-        let t5 = each_line_tells library (λ gater. statement_line (gater_statement gater)) (λ gater. Gate gater) w.gaters
-        (both_of (λ gater. IsPart (Gate gater)) (λ gater. IsLine library (Gate gater)) (λ gater. Tells library (statement_line (gater_statement gater) ∷ []) (Gate gater ∷ [])) gater_tells w.gaters
-        (of_kind (λ gater. Gate gater) IsPart w.gaters (each_back IsPart p4 (map (λ gater. Gate gater) w.gaters) f5))
-        (of_kind (λ gater. Gate gater) (IsLine library) w.gaters (each_back (IsLine library) p4 (map (λ gater. Gate gater) w.gaters) l5))) in
+        let t5 = each_line_tells library (λ gater. statement_line (gater_statement gater)) (λ gater. GaterPart gater) w.gaters
+        (both_of (λ gater. IsPart (GaterPart gater)) (λ gater. IsLine library (GaterPart gater)) (λ gater. Tells library (statement_line (gater_statement gater) ∷ []) (GaterPart gater ∷ [])) gater_tells w.gaters
+        (of_kind (λ gater. GaterPart gater) IsPart w.gaters (each_back IsPart p4 (map (λ gater. GaterPart gater) w.gaters) f5))
+        (of_kind (λ gater. GaterPart gater) (IsLine library) w.gaters (each_back (IsLine library) p4 (map (λ gater. GaterPart gater) w.gaters) l5))) in
         let t6 = each_line_tells library (λ register. statement_line (register_statement register)) (register_part is_on_nil) w.registers
         (both_of (λ r. IsPart (register_part is_on_nil r)) (λ r. IsLine library (register_part is_on_nil r)) (λ r. Tells library (statement_line (register_statement r) ∷ []) (register_part is_on_nil r ∷ [])) register_tells w.registers
         (of_kind (register_part is_on_nil) IsPart w.registers (each_back IsPart p5 registers_part taken.each))
@@ -196,7 +196,7 @@ module _ (library : List CellData) (names : (cell : CellData) → IsCell cell �
         let b2 = both_tell library i o p1 (map (λ net. Output net) w.outputs) t1 t2 in
         let b3 = both_tell library (i ++ o) k p2 (map (λ net. Clock net) (option_to_list w.clock)) b2 t3 in
         let b4 = both_tell library (i ++ o ++ k) (flat_map cell_lines w.cells) p3 (map (λ cell. Logic cell) w.cells) b3 t4 in
-        let b5 = both_tell library (i ++ o ++ k ++ flat_map cell_lines w.cells) (map (λ gater. statement_line (gater_statement gater)) w.gaters) p4 (map (λ gater. Gate gater) w.gaters) b4 t5 in
+        let b5 = both_tell library (i ++ o ++ k ++ flat_map cell_lines w.cells) (map (λ gater. statement_line (gater_statement gater)) w.gaters) p4 (map (λ gater. GaterPart gater) w.gaters) b4 t5 in
         both_tell library (i ++ o ++ k ++ flat_map cell_lines w.cells ++ map (λ gater. statement_line (gater_statement gater)) w.gaters) (map (λ register. statement_line (register_statement register)) w.registers) p5 registers_part b5 t6
 
     end_line : List Word
@@ -213,14 +213,14 @@ module _ (library : List CellData) (names : (cell : CellData) → IsCell cell �
     unfolding model_line end_line
     all_written = ((omega arith, (refl, (taken.model_named, tt))), written_both body (end_line ∷ []) body_tells.written ((omega arith, (refl, tt)), tt))
 
-    after_model : Told
+    after_model : LinesSaid
     after_model = record { place = Named; model = c.model; said = nothing_said }
 
     model_told : (number : ℕ) → tell_block library untold (record { head = record { number = number; words = model_line }; rows = [] }) ≡ Ok after_model
     unfolding model_line after_model
     model_told number = ap (λ b. tell_statement library untold number [] (meant_at First (if b then behind (command_of (codes ".model")) (c.model ∷ []) else Err BadLine))) (all_named model_line (refl, (taken.model_named, tt)))
 
-    told : Told
+    told : LinesSaid
     told = record { place = Ended; model = c.model; said = said (line_parts c) }
 
     all_told : tell_lines library (numbered 1 (model_line ∷ (body ++ end_line ∷ []))) ≡ Ok told
@@ -255,9 +255,9 @@ says_itself library c is = canonical_says library (λ cell cell_is. (cell_is.nam
 pub no_two : (text : List ℕ) (library : List CellData) (clock : Option Word) (c d : Circuit) → BlifText text library clock c → BlifText text library clock d → c ≡ d
 no_two text library clock c d one other =
     let told : one.tells.told ≡ other.tells.told = same one.tells.told other.tells.told (sym one.tells.faultless ∙ other.tells.faultless) in
-    let model : d.model ≡ c.model = sym other.tells.model_is ∙ (ap (λ (t : Told). t.model) (sym told) ∙ one.tells.model_is) in
-    one_netlist c.model one.parts other.parts c d (sym one.tells.said_is ∙ (ap (λ (t : Told). t.said) told ∙ other.tells.said_is)) one.says
+    let model : d.model ≡ c.model = sym other.tells.model_is ∙ (ap (λ (t : LinesSaid). t.model) (sym told) ∙ one.tells.model_is) in
+    one_netlist c.model one.parts other.parts c d (sym one.tells.said_is ∙ (ap (λ (t : LinesSaid). t.said) told ∙ other.tells.said_is)) one.says
     (record { model_is = model; wired_is = other.says.wired_is; rooted = other.says.rooted; formed = other.says.formed; ordered = other.says.ordered; few_nets = other.says.few_nets; few_registers = other.says.few_registers })
   where
-    same : (s t : Told) → ◌≡◌ {A = Result Told BlifFault} (Ok s) (Ok t) → s ≡ t
+    same : (s t : LinesSaid) → ◌≡◌ {A = Result LinesSaid BlifFault} (Ok s) (Ok t) → s ≡ t
     same s t is = cc

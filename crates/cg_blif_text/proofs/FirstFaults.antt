@@ -14,14 +14,14 @@ use Rattle.cg_cell.specs.Name.{is_name}
 use Rattle.cg_text.specs.declared.lines.Line.{Line}
 use Rattle.cg_netlist_parts.specs.Part.{Part}
 use Rattle.cg_netlist_parts.specs.Said.{Said, limit_of, with_part}
-use Rattle.cg_blif_text.specs.declared.command.Command.{Command}
-use Rattle.cg_blif_text.specs.declared.command.Command.TheVariants as commands
+use Rattle.cg_blif_text.specs.declared.statement.Command.{Command}
+use Rattle.cg_blif_text.specs.declared.statement.Command.TheVariants as commands
 use Rattle.cg_blif_text.specs.declared.fault.BlifFault.{BlifFault}
 use Rattle.cg_blif_text.specs.declared.fault.LineFault.{LineFault}
 use Rattle.cg_blif_text.specs.declared.fault.LineFault.TheVariants.{BadLine, BadCover, BadLatch, Placed, SecondModel, Limit as Passed}
 use Rattle.cg_netlist_placed.specs.declared.fault.PlacedFault.TheVariants.{UnknownCell, UnusableCell, PinFault}
-use Rattle.cg_blif_text.specs.declared.place.Place.{Place}
-use Rattle.cg_blif_text.specs.declared.place.Place.TheVariants.{First, Unnamed, Named, Ended}
+use Rattle.cg_blif_text.specs.declared.statement.Place.{Place}
+use Rattle.cg_blif_text.specs.declared.statement.Place.TheVariants.{First, Unnamed, Named, Ended}
 use Rattle.cg_blif_text.specs.declared.statement.Statement.{Statement}
 use Rattle.cg_blif_text.specs.declared.statement.Statement.TheVariants.{Model, Inputs, Outputs, Clocks, Names, Latch, Gate, Skipped}
 use Rattle.cg_blif_text.specs.declared.statement.Statement.TheVariants.{End}
@@ -34,7 +34,7 @@ use Rattle.cg_blif_text.specs.OpenCovers.{CoverSoFar, cover_so_far, with_row}
 use Rattle.cg_blif_text.specs.Rows.{Row as RowData, keeps_value, row_of}
 use Rattle.cg_blif_text.specs.Blocks.{cut}
 use Rattle.cg_blif_text.specs.PinWords.{pin_net}
-use Rattle.cg_blif_text.specs.Telling.{Told, at, cover_or_none, go_on, meant_at, next_place, no_rows, rows_behind, said_by}
+use Rattle.cg_blif_text.specs.Telling.{LinesSaid, at, cover_or_none, go_on, meant_at, next_place, no_rows, rows_behind, said_by}
 use Rattle.cg_blif_text.specs.Telling.{tell_blocks, tell_lines, tell_parts, unless, untold, with_parts, with_said}
 use Rattle.cg_blif_text.proofs.LineTable.{err_of, latch_cases, nothing, on_meant, same_fault}
 use Rattle.cg_blif_text.proofs.LinesLeft.{at_bad_row, at_command, at_end, at_lone_row, at_names, at_row, at_unnamed, next}
@@ -158,20 +158,20 @@ few_said s t (Err cause) none is = absurd (cc)
 abbrev cover_said : Said → CoverSoFar → Said
 cover_said s o = with_part s (cover_part o (cover_so_far o))
 
-closed_few : (told after : Told) (o : CoverSoFar) → closed told (Some o) ≡ Ok after → limit_of (cover_said told.said o) ≡ None
+closed_few : (told after : LinesSaid) (o : CoverSoFar) → closed told (Some o) ≡ Ok after → limit_of (cover_said told.said o) ≡ None
 closed_few told after o is = go (limit_of (cover_said told.said o)) refl is
   where
     go : (l : Option Limit) → limit_of (cover_said told.said o) ≡ l → tell_parts told 0 (Names o.inputs o.output) (Ok (cover_so_far o)) (unless l (Ok (cover_said told.said o))) ≡ Ok after → limit_of (cover_said told.said o) ≡ None
     go None e rest = e
     go (Some limit) e rest = absurd (cc)
 
-abbrev behind_cover : Told → CoverSoFar → Told
+abbrev behind_cover : LinesSaid → CoverSoFar → LinesSaid
 behind_cover told o = record { place = next_place told.place (Names o.inputs o.output); model = told.model; said = cover_said told.said o }
 
-closes_so : (told : Told) (o : CoverSoFar) → limit_of (cover_said told.said o) ≡ None → closed told (Some o) ≡ Ok (behind_cover told o)
+closes_so : (told : LinesSaid) (o : CoverSoFar) → limit_of (cover_said told.said o) ≡ None → closed told (Some o) ≡ Ok (behind_cover told o)
 closes_so told o none = ap (λ l. tell_parts told 0 (Names o.inputs o.output) (Ok (cover_so_far o)) (unless l (Ok (cover_said told.said o)))) none
 
-closed_place : (told after : Told) (o : CoverSoFar) → closed told (Some o) ≡ Ok after → next_place told.place (Names o.inputs o.output) ≡ after.place
+closed_place : (told after : LinesSaid) (o : CoverSoFar) → closed told (Some o) ≡ Ok after → next_place told.place (Names o.inputs o.output) ≡ after.place
 closed_place told after o is = go (limit_of (cover_said told.said o)) is
   where
     go : (l : Option Limit) → tell_parts told 0 (Names o.inputs o.output) (Ok (cover_so_far o)) (unless l (Ok (cover_said told.said o))) ≡ Ok after → next_place told.place (Names o.inputs o.output) ≡ after.place
@@ -180,8 +180,8 @@ closed_place told after o is = go (limit_of (cover_said told.said o)) is
 
 module _ (library : List CellData) where
   -- these lines told this: what is told of them and of later lines
-  record IsAfter (lines : List Line) (told : Told) : Type 0 where
-    pub base : Told
+  record IsAfter (lines : List Line) (told : LinesSaid) : Type 0 where
+    pub base : LinesSaid
     pub cover : Option CoverSoFar
     pub goes_on : (later : List Line) → tell_lines library (lines ++ later) ≡ resume library base cover later
     pub closes : closed base cover ≡ Ok told
@@ -192,10 +192,10 @@ module _ (library : List CellData) where
   start : IsAfter [] untold
   start = record { base = untold; cover = None; goes_on = λ later. refl; closes = refl; place = refl; rows = refl; few = refl }
 
-  tells : (lines : List Line) (told : Told) → IsAfter lines told → tell_lines library lines ≡ Ok told
+  tells : (lines : List Line) (told : LinesSaid) → IsAfter lines told → tell_lines library lines ≡ Ok told
   tells lines told after = ap (tell_lines library) (sym (append-nil lines)) ∙ (after.goes_on [] ∙ (at_end library after.base after.cover ∙ after.closes))
 
-  module _ (lines : List Line) (told : Told) (after : IsAfter lines told) (line : Line) where
+  module _ (lines : List Line) (told : LinesSaid) (after : IsAfter lines told) (line : Line) where
     -- the line has this fault
     record Fails : Type 0 where
       pub cause : LineFault
@@ -204,7 +204,7 @@ module _ (library : List CellData) where
 
     -- the line has no fault
     record Goes : Type 0 where
-      pub told_more : Told
+      pub told_more : LinesSaid
       pub faultless : line_fault library (standing lines told) line.words ≡ None
       pub after_more : IsAfter (lines ++ line ∷ []) told_more
 
@@ -222,7 +222,7 @@ module _ (library : List CellData) where
     failing : (cause : LineFault) → line_fault library (standing lines told) line.words ≡ Some cause → ((later : List Line) → resume library after.base after.cover (line ∷ later) ≡ Err (at line.number cause)) → Fails ⊎ Goes
     failing cause first fails = inl (record { cause = cause; first = first; fails = λ later. after.goes_on (line ∷ later) ∙ fails later })
 
-    going : (base more : Told) (cover : Option CoverSoFar) → line_fault library (standing lines told) line.words ≡ None → ((later : List Line) → resume library after.base after.cover (line ∷ later) ≡ resume library base cover later)
+    going : (base more : LinesSaid) (cover : Option CoverSoFar) → line_fault library (standing lines told) line.words ≡ None → ((later : List Line) → resume library after.base after.cover (line ∷ later) ≡ resume library base cover later)
         → closed base cover ≡ Ok more → place_after told.place (form_of line.words) ≡ more.place → rows_after (standing lines told).rows (form_of line.words) ≡ open_rows cover → limit_of more.said ≡ None → Fails ⊎ Goes
     going base more cover faultless goes closes place rows few = inr (record {
       told_more = more;
@@ -416,10 +416,10 @@ module _ (library : List CellData) where
     pub stops : tell_lines library lines ≡ Err fault
 
   record Ends (lines : List Line) : Type 0 where
-    pub told : Told
+    pub told : LinesSaid
     pub ends : IsAfter lines told
 
-  reads : (lines later : List Line) (told : Told) → IsAfter lines told → Stops (lines ++ later) ⊎ Ends (lines ++ later)
+  reads : (lines later : List Line) (told : LinesSaid) → IsAfter lines told → Stops (lines ++ later) ⊎ Ends (lines ++ later)
   reads lines [] told after = inr (record { told = told; ends = subst (λ ls. IsAfter ls told) (sym (append-nil lines)) after })
   reads lines (line ∷ later) told after = elim (step lines told after line) [
     | inl bad ↦ inl (record {
@@ -430,14 +430,14 @@ module _ (library : List CellData) where
     | inr good ↦ subst (λ ls. Stops ls ⊎ Ends ls) (append_assoc lines (line ∷ []) later) (reads (lines ++ line ∷ []) later good.told_more good.after_more)
   ]
 
-  told_or_fault : (told : Told) (fault : BlifFault) (r : Result Told BlifFault) → r ≡ Ok told → r ≡ Err fault → ⊥
+  told_or_fault : (told : LinesSaid) (fault : BlifFault) (r : Result LinesSaid BlifFault) → r ≡ Ok told → r ≡ Err fault → ⊥
   told_or_fault told fault r is also = let both_are : Ok told ≡ Err fault = sym is ∙ also in cc
 
-  same_told : (told other : Told) (r : Result Told BlifFault) → r ≡ Ok told → r ≡ Ok other → told ≡ other
-  same_told told other r is also = let both_are : ◌≡◌ {A = Result Told BlifFault} (Ok told) (Ok other) = sym is ∙ also in cc
+  same_told : (told other : LinesSaid) (r : Result LinesSaid BlifFault) → r ≡ Ok told → r ≡ Ok other → told ≡ other
+  same_told told other r is also = let both_are : ◌≡◌ {A = Result LinesSaid BlifFault} (Ok told) (Ok other) = sym is ∙ also in cc
 
-  same_fault_told : (fault other : BlifFault) (r : Result Told BlifFault) → r ≡ Err fault → r ≡ Err other → fault ≡ other
-  same_fault_told fault other r is also = let both_are : ◌≡◌ {A = Result Told BlifFault} (Err fault) (Err other) = sym is ∙ also in cc
+  same_fault_told : (fault other : BlifFault) (r : Result LinesSaid BlifFault) → r ≡ Err fault → r ≡ Err other → fault ≡ other
+  same_fault_told fault other r is also = let both_are : ◌≡◌ {A = Result LinesSaid BlifFault} (Err fault) (Err other) = sym is ∙ also in cc
 
   -- the fault that lines tell is their first
   pub told_is_first : (lines : List Line) (fault : BlifFault) → tell_lines library lines ≡ Err fault → IsFirstOfLines library lines fault

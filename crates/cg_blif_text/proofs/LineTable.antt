@@ -14,14 +14,14 @@ use Rattle.cg_netlist_parts.specs.Part.{Part, Input, Output, Clock, mentioned}
 use Rattle.cg_net.specs.Names.{NetName, with_names}
 use Rattle.cg_netlist_parts.specs.Said.{Said, limit_of, with_part}
 use Rattle.cg_netlist_parts.specs.Writable.{cell_named}
-use Rattle.cg_blif_text.specs.declared.command.Command.{Command}
-use Rattle.cg_blif_text.specs.declared.command.Command.TheVariants as commands
+use Rattle.cg_blif_text.specs.declared.statement.Command.{Command}
+use Rattle.cg_blif_text.specs.declared.statement.Command.TheVariants as commands
 use Rattle.cg_blif_text.specs.declared.fault.LineFault.{LineFault}
 use Rattle.cg_blif_text.specs.declared.fault.LineFault.TheVariants.{BadLine, BadCover, BadLatch, Placed, SecondModel, Limit as Passed}
 use Rattle.cg_netlist_placed.specs.declared.fault.PlacedFault.TheVariants.{UnknownCell, UnusableCell, PinFault}
 use Rattle.cg_netlist_placed.specs.Placed.{are_for_pins, nets_at, of_usable, part_or, placed_part, usable_as}
-use Rattle.cg_blif_text.specs.declared.place.Place.{Place}
-use Rattle.cg_blif_text.specs.declared.place.Place.TheVariants.{First, Unnamed, Named, Ended}
+use Rattle.cg_blif_text.specs.declared.statement.Place.{Place}
+use Rattle.cg_blif_text.specs.declared.statement.Place.TheVariants.{First, Unnamed, Named, Ended}
 use Rattle.cg_blif_text.specs.declared.statement.Statement.{Statement}
 use Rattle.cg_blif_text.specs.declared.statement.Statement.TheVariants.{Names, Latch}
 use Rattle.cg_blif_text.specs.Latches.{control_of, latch_line, latch_with}

@@ -15,8 +15,8 @@ use Rattle.cg_blif_text.specs.declared.fault.BlifFault.{BlifFault}
 use Rattle.cg_blif_text.specs.declared.fault.BlifFault.TheVariants as faults
 use Rattle.cg_blif_text.specs.declared.fault.LineFault.{LineFault}
 use Rattle.cg_blif_text.specs.declared.fault.LineFault.TheVariants.{BadLine, Limit as Passed}
-use Rattle.cg_blif_text.specs.declared.place.Place.{Place}
-use Rattle.cg_blif_text.specs.declared.place.Place.TheVariants.{First, Unnamed, Named, Ended}
+use Rattle.cg_blif_text.specs.declared.statement.Place.{Place}
+use Rattle.cg_blif_text.specs.declared.statement.Place.TheVariants.{First, Unnamed, Named, Ended}
 use Rattle.cg_blif_text.specs.declared.statement.Statement.{Statement}
 use Rattle.cg_blif_text.specs.declared.statement.Statement.TheVariants.{Model, Inputs, Outputs, Clocks, Names, Latch, Gate, Skipped}
 use Rattle.cg_blif_text.specs.declared.statement.Statement.TheVariants.{End}
@@ -24,7 +24,7 @@ use Rattle.cg_blif_text.specs.Blocks.{cut, put_in}
 use Rattle.cg_blif_text.specs.Commands.{are_row, command_of}
 use Rattle.cg_blif_text.specs.Meaning.{behind, meant}
 use Rattle.cg_blif_text.specs.Rows.{Row, cover_from, keeps_value, put_places, put_row, row_of}
-use Rattle.cg_blif_text.specs.Telling.{Told, at, cover_or_none, go_on, meant_at, next_model, next_place, no_rows, rows_behind}
+use Rattle.cg_blif_text.specs.Telling.{LinesSaid, at, cover_or_none, go_on, meant_at, next_model, next_place, no_rows, rows_behind}
 use Rattle.cg_blif_text.specs.Telling.{said_by, tell_blocks, tell_cut, tell_parts, tell_statement, unless, with_parts, with_said}
 use Rattle.cg_blif_text.specs.LinesLeft.{close_with, closed, closed_said, cover_part, covered, opened, put_rows, resume}
 use Rattle.cg_blif_text.specs.LinesLeft.{said_at_once}
@@ -55,26 +55,26 @@ put_none o = ap (λ rows. Ok (record { rows = rows; on = unwrap_or o.on true }))
 
 module _ (library : List CellData) where
   -- a line that is a command, behind an open cover or not
-  on_block : Line → List Line → Told → Result Told BlifFault
+  on_block : Line → List Line → LinesSaid → Result LinesSaid BlifFault
   on_block line later told = go_on (tell_statement library told line.number (cut later).rows (meant_at told.place (meant line.words))) (tell_blocks library (cut later).blocks)
 
-  pub at_command : (told : Told) (cover : Option CoverSoFar) (line : Line) (later : List Line) → are_row line.words ≡ false
+  pub at_command : (told : LinesSaid) (cover : Option CoverSoFar) (line : Line) (later : List Line) → are_row line.words ≡ false
       → resume library told cover (line ∷ later) ≡ go_on (closed told cover) (λ t. go_on (tell_statement library t line.number (cut later).rows (meant_at t.place (meant line.words))) (tell_blocks library (cut later).blocks))
   at_command told None line later is = ap (λ c. tell_cut library c.rows c.blocks told) (command_cut line later is)
   at_command told (Some o) line later is =
       ap (λ c. go_on (close_with told o (covered o c.rows)) (tell_blocks library c.blocks)) (command_cut line later is)
       ∙ ap (λ c. go_on (close_with told o c) (λ t. go_on (tell_statement library t line.number (cut later).rows (meant_at t.place (meant line.words))) (tell_blocks library (cut later).blocks))) (put_none o)
 
-  pub at_end : (told : Told) (cover : Option CoverSoFar) → resume library told cover [] ≡ closed told cover
+  pub at_end : (told : LinesSaid) (cover : Option CoverSoFar) → resume library told cover [] ≡ closed told cover
   at_end told None = refl
   at_end told (Some o) = ap (λ c. go_on (close_with told o c) (λ t. Ok t)) (put_none o) ∙ same (closed told (Some o))
     where
-      same : (r : Result Told BlifFault) → go_on r (λ t. Ok t) ≡ r
+      same : (r : Result LinesSaid BlifFault) → go_on r (λ t. Ok t) ≡ r
       same (Ok t) = refl
       same (Err fault) = refl
 
   -- a row without a `.names` line
-  pub at_lone_row : (told : Told) (line : Line) (later : List Line) → are_row line.words ≡ true → resume library told None (line ∷ later) ≡ Err (faults.BadLine line.number)
+  pub at_lone_row : (told : LinesSaid) (line : Line) (later : List Line) → are_row line.words ≡ true → resume library told None (line ∷ later) ≡ Err (faults.BadLine line.number)
   at_lone_row told line later is = ap (λ c. tell_cut library c.rows c.blocks told) (row_cut line later is)
 
   -- a row of an open cover
@@ -120,7 +120,7 @@ module _ (library : List CellData) where
       go true q = let same : record o { rows = o.rows ++ row.places ∷ []; on = Some row.value } ≡ next = cc in (ap (λ (p : CoverSoFar). p.inputs) (sym same), ap (λ (p : CoverSoFar). p.output) (sym same))
       go false q = absurd (cc)
 
-  pub at_row : (told : Told) (o next : CoverSoFar) (line : Line) (later : List Line) → are_row line.words ≡ true → list_all is_name line.words ≡ true → with_row o (row_of (length o.inputs) line.words) ≡ Some next
+  pub at_row : (told : LinesSaid) (o next : CoverSoFar) (line : Line) (later : List Line) → are_row line.words ≡ true → list_all is_name line.words ≡ true → with_row o (row_of (length o.inputs) line.words) ≡ Some next
       → resume library told (Some o) (line ∷ later) ≡ resume library told (Some next) later
   at_row told o next line later is named with =
       let keeps = next_keeps o next (row_of (length o.inputs) line.words) with in
@@ -134,7 +134,7 @@ module _ (library : List CellData) where
           ∙ ap (λ out. tell_parts told 0 (Names next.inputs out) c (with_parts (logic_of next.inputs out (cover_or_none c) ∷ []) told.said)) q
 
   -- a cover with a fault: that of its logic cell first, which does not depend on its rows
-  faulty : (told : Told) (o : CoverSoFar) (fault : BlifFault) → close_with told o (Err fault) ≡ go_on (closed told (Some o)) (λ t. Err fault)
+  faulty : (told : LinesSaid) (o : CoverSoFar) (fault : BlifFault) → close_with told o (Err fault) ≡ go_on (closed told (Some o)) (λ t. Err fault)
   faulty told o fault = go (limit_of (with_part told.said (cover_part o (cover_so_far o))))
     where
       go : (l : Option Limit) → tell_parts told 0 (Names o.inputs o.output) (Err fault) (unless l (Ok (with_part told.said (cover_part o no_rows))))
@@ -142,18 +142,18 @@ module _ (library : List CellData) where
       go None = refl
       go (Some limit) = refl
 
-  faulty_rows : (told : Told) (o : CoverSoFar) (line : Line) (later : List Line) (fault : BlifFault) → are_row line.words ≡ true → covered o (line ∷ (cut later).rows) ≡ Err fault
+  faulty_rows : (told : LinesSaid) (o : CoverSoFar) (line : Line) (later : List Line) (fault : BlifFault) → are_row line.words ≡ true → covered o (line ∷ (cut later).rows) ≡ Err fault
       → resume library told (Some o) (line ∷ later) ≡ go_on (closed told (Some o)) (λ t. Err fault)
   faulty_rows told o line later fault is e =
       ap (λ c. go_on (close_with told o (covered o c.rows)) (tell_blocks library c.blocks)) (row_cut line later is)
       ∙ (ap (λ c. go_on (close_with told o c) (tell_blocks library (cut later).blocks)) e
       ∙ (ap (λ r. go_on r (tell_blocks library (cut later).blocks)) (faulty told o fault) ∙ stops (closed told (Some o))))
     where
-      stops : (r : Result Told BlifFault) → go_on (go_on r (λ t. Err fault)) (tell_blocks library (cut later).blocks) ≡ go_on r (λ t. Err fault)
+      stops : (r : Result LinesSaid BlifFault) → go_on (go_on r (λ t. Err fault)) (tell_blocks library (cut later).blocks) ≡ go_on r (λ t. Err fault)
       stops (Ok t) = refl
       stops (Err f) = refl
 
-  pub at_bad_row : (told : Told) (o : CoverSoFar) (line : Line) (later : List Line) → are_row line.words ≡ true → list_all is_name line.words ≡ true → with_row o (row_of (length o.inputs) line.words) ≡ None
+  pub at_bad_row : (told : LinesSaid) (o : CoverSoFar) (line : Line) (later : List Line) → are_row line.words ≡ true → list_all is_name line.words ≡ true → with_row o (row_of (length o.inputs) line.words) ≡ None
       → resume library told (Some o) (line ∷ later) ≡ go_on (closed told (Some o)) (λ t. Err (faults.BadCover line.number))
   at_bad_row told o line later is named without = faulty_rows told o line later (faults.BadCover line.number) is (row_refused o line (cut later).rows named without)
 
@@ -168,7 +168,7 @@ module _ (library : List CellData) where
       anywhere Named = refl
       anywhere Ended = refl
 
-  pub at_unnamed : (told : Told) (cover : Option CoverSoFar) (line : Line) (later : List Line) → list_all is_name line.words ≡ false → resume library told cover (line ∷ later) ≡ go_on (closed told cover) (λ t. Err (faults.BadLine line.number))
+  pub at_unnamed : (told : LinesSaid) (cover : Option CoverSoFar) (line : Line) (later : List Line) → list_all is_name line.words ≡ false → resume library told cover (line ∷ later) ≡ go_on (closed told cover) (λ t. Err (faults.BadLine line.number))
   at_unnamed told cover line later no_name = go (are_row line.words) refl cover
     where
       go : (b : Bool) → are_row line.words ≡ b → (cover : Option CoverSoFar) → resume library told cover (line ∷ later) ≡ go_on (closed told cover) (λ t. Err (faults.BadLine line.number))
@@ -176,7 +176,7 @@ module _ (library : List CellData) where
           at_command told cover line later is
           ∙ under (closed told cover)
         where
-          under : (r : Result Told BlifFault) → go_on r (λ t. go_on (tell_statement library t line.number (cut later).rows (meant_at t.place (meant line.words))) (tell_blocks library (cut later).blocks)) ≡ go_on r (λ t. Err (faults.BadLine line.number))
+          under : (r : Result LinesSaid BlifFault) → go_on r (λ t. go_on (tell_statement library t line.number (cut later).rows (meant_at t.place (meant line.words))) (tell_blocks library (cut later).blocks)) ≡ go_on r (λ t. Err (faults.BadLine line.number))
           under (Ok t) = ap (λ m. go_on (tell_statement library t line.number (cut later).rows m) (tell_blocks library (cut later).blocks)) (unnamed_meaning t.place line.words no_name)
           under (Err f) = refl
       go true is None = at_lone_row told line later is
@@ -185,12 +185,12 @@ module _ (library : List CellData) where
           (ap (λ b. put_rows o.rows (if b then put_row line.number o.on (row_of (length o.inputs) line.words) (cover_from (length o.inputs) (cut later).rows) else Err (faults.BadLine line.number))) no_name)
 
   -- a statement that is no `.names` line leaves no cover open
-  pub at_statement : (told : Told) (number : ℕ) (later : List Line) (statement : Statement) (s : Said) → ((rows : List Line) → rows_behind statement rows ≡ lone rows) → with_said told.said (said_by library no_rows statement) ≡ Ok s
+  pub at_statement : (told : LinesSaid) (number : ℕ) (later : List Line) (statement : Statement) (s : Said) → ((rows : List Line) → rows_behind statement rows ≡ lone rows) → with_said told.said (said_by library no_rows statement) ≡ Ok s
       → go_on (tell_statement library told number (cut later).rows (Ok statement)) (tell_blocks library (cut later).blocks)
       ≡ resume library (record { place = next_place told.place statement; model = next_model told.model statement; said = s }) None later
   at_statement told number later statement s lone_is said_is = go (cut later).rows
     where
-      next : Told
+      next : LinesSaid
       next = record { place = next_place told.place statement; model = next_model told.model statement; said = s }
 
       go : (rows : List Line) → go_on (tell_statement library told number rows (Ok statement)) (tell_blocks library (cut later).blocks) ≡ tell_cut library rows (cut later).blocks (record { place = next_place told.place statement; model = next_model told.model statement; said = s })
@@ -201,7 +201,7 @@ module _ (library : List CellData) where
           ap (λ r. go_on (tell_parts told number statement r (with_said told.said (said_by library (cover_or_none r) statement))) (tell_blocks library (cut later).blocks)) (lone_is (row ∷ rows))
           ∙ ap (λ r. go_on (tell_parts told number statement (Err (faults.BadLine row.number)) r) (tell_blocks library (cut later).blocks)) said_is
 
-  pub at_fault : (told : Told) (number : ℕ) (later : List Line) (statement : Statement) (cause : LineFault) → ((rows : List Line) → rows_behind statement rows ≡ lone rows) → with_said told.said (said_by library no_rows statement) ≡ Err cause
+  pub at_fault : (told : LinesSaid) (number : ℕ) (later : List Line) (statement : Statement) (cause : LineFault) → ((rows : List Line) → rows_behind statement rows ≡ lone rows) → with_said told.said (said_by library no_rows statement) ≡ Err cause
       → go_on (tell_statement library told number (cut later).rows (Ok statement)) (tell_blocks library (cut later).blocks) ≡ Err (at number cause)
   at_fault told number later statement cause lone_is said_is = go (cut later).rows
     where
@@ -214,7 +214,7 @@ module _ (library : List CellData) where
           ∙ ap (λ r. go_on (tell_parts told number statement (Err (faults.BadLine row.number)) r) (tell_blocks library (cut later).blocks)) said_is
 
   -- a `.names` line leaves its cover open
-  pub at_names : (told : Told) (number : ℕ) (later : List Line) (inputs : List (List ℕ)) (output : List ℕ)
+  pub at_names : (told : LinesSaid) (number : ℕ) (later : List Line) (inputs : List (List ℕ)) (output : List ℕ)
       → go_on (tell_statement library told number (cut later).rows (Ok (Names inputs output))) (tell_blocks library (cut later).blocks)
       ≡ resume library (record { place = next_place told.place (Names inputs output); model = told.model; said = told.said }) (Some (record { inputs = inputs; output = output; rows = []; on = None })) later
   at_names told number later inputs output = ap (λ r. go_on r (tell_blocks library (cut later).blocks)) (go (cover_from (length inputs) (cut later).rows None))
@@ -249,7 +249,7 @@ closed_told place model s t (Some o) stays is =
     ap (λ r. tell_parts (record { place = place; model = model; said = s }) 0 (Names o.inputs o.output) (Ok (cover_so_far o)) r) is
     ∙ ap (λ p. Ok (record { place = p; model = model; said = t })) (stays o refl)
 
-pub closed_fault : (told : Told) (cover : Option CoverSoFar) (cause : LineFault) (number : ℕ) → closed_said told.said cover ≡ Err cause → closed told cover ≡ Err (at number cause)
+pub closed_fault : (told : LinesSaid) (cover : Option CoverSoFar) (cause : LineFault) (number : ℕ) → closed_said told.said cover ≡ Err cause → closed told cover ≡ Err (at number cause)
 closed_fault told None cause number is = absurd (cc)
 closed_fault told (Some o) cause number is = go (limit_of (with_part told.said (cover_part o (cover_so_far o)))) is
   where
@@ -261,13 +261,13 @@ closed_fault told (Some o) cause number is = go (limit_of (with_part told.said (
 -- Statements
 
 module _ (library : List CellData) where
-  abbrev pub on_statement : Told → ℕ → List Line → Result Statement LineFault → Result Told BlifFault
+  abbrev pub on_statement : LinesSaid → ℕ → List Line → Result Statement LineFault → Result LinesSaid BlifFault
   on_statement told number later meaning = go_on (tell_statement library told number (cut later).rows meaning) (tell_blocks library (cut later).blocks)
 
-  abbrev pub next : Told → Statement → Said → Told
+  abbrev pub next : LinesSaid → Statement → Said → LinesSaid
   next told statement s = record { place = next_place told.place statement; model = next_model told.model statement; said = s }
 
-  pub took : (told : Told) (number : ℕ) (later : List Line) (statement : Statement) (s : Said) → said_at_once library told.said statement ≡ Ok s → on_statement told number later (Ok statement) ≡ resume library (next told statement s) (opened statement) later
+  pub took : (told : LinesSaid) (number : ℕ) (later : List Line) (statement : Statement) (s : Said) → said_at_once library told.said statement ≡ Ok s → on_statement told number later (Ok statement) ≡ resume library (next told statement s) (opened statement) later
   took told number later (Names inputs output) s is =
       let same : told.said ≡ s = cc in
       at_names library told number later inputs output ∙ ap (λ t. resume library (next told (Names inputs output) t) (opened (Names inputs output)) later) same
@@ -312,7 +312,7 @@ module _ (library : List CellData) where
       rows [] = refl
       rows (l ∷ ls) = refl
 
-  pub refused : (told : Told) (number : ℕ) (later : List Line) (statement : Statement) (cause : LineFault) → said_at_once library told.said statement ≡ Err cause → on_statement told number later (Ok statement) ≡ Err (at number cause)
+  pub refused : (told : LinesSaid) (number : ℕ) (later : List Line) (statement : Statement) (cause : LineFault) → said_at_once library told.said statement ≡ Err cause → on_statement told number later (Ok statement) ≡ Err (at number cause)
   refused told number later (Names inputs output) cause is = absurd (cc)
   refused told number later (Model name) cause is = absurd (cc)
   refused told number later Skipped cause is = absurd (cc)

@@ -7,23 +7,23 @@ use Rattle.cg_text.specs.declared.lines.Line.{Line}
 use Rattle.cg_text.specs.Written.{numbered}
 use Rattle.cg_netlist_parts.specs.Part.{Part}
 use Rattle.cg_netlist_parts.specs.Said.{Said}
-use Rattle.cg_blif_text.specs.declared.place.Place.TheVariants.{Named}
+use Rattle.cg_blif_text.specs.declared.statement.Place.TheVariants.{Named}
 use Rattle.cg_blif_text.specs.declared.statement.Statement.{Statement}
 use Rattle.cg_blif_text.specs.Blocks.{cut, put_in}
 use Rattle.cg_blif_text.specs.Commands.{are_row}
 use Rattle.cg_blif_text.specs.Meaning.{meant}
-use Rattle.cg_blif_text.specs.Telling.{Told, cover_or_none, go_on, meant_at, next_model, next_place, rows_behind, said_by}
+use Rattle.cg_blif_text.specs.Telling.{LinesSaid, cover_or_none, go_on, meant_at, next_model, next_place, rows_behind, said_by}
 use Rattle.cg_blif_text.specs.Telling.{tell_blocks, tell_parts, tell_statement, with_parts, with_said}
 use Rattle.cg_blif_text.proofs.PinPairs.{Word}
 use Rattle.cg_blif_text.proofs.WithinLimits.{with_both}
 
-abbrev pub with_all : Told → Said → Told
+abbrev pub with_all : LinesSaid → Said → LinesSaid
 with_all told t = record { place = told.place; model = told.model; said = t }
 
 -- Behind a `.model` line, lines tell these parts: reading goes on behind them with the parts said, where these pass no limit.
 abbrev pub Tell : List CellData → List (List Word) → List Part → Type 0
 Tell library lines parts =
-    (number : ℕ) (more : List Line) (told : Told) (t : Said) → (cut more).rows ≡ [] → told.place ≡ Named → with_parts parts told.said ≡ Ok t
+    (number : ℕ) (more : List Line) (told : LinesSaid) (t : Said) → (cut more).rows ≡ [] → told.place ≡ Named → with_parts parts told.said ≡ Ok t
     → ((cut (numbered number lines ++ more)).rows ≡ []) × (tell_blocks library (cut (numbered number lines ++ more)).blocks told ≡ tell_blocks library (cut more).blocks (with_all told t))
 
 module _ (library : List CellData) where
@@ -58,7 +58,7 @@ module _ (library : List CellData) where
     pub covers : rows_behind statement rows ≡ Ok cover
     pub tells : said_by library cover statement ≡ Ok parts
 
-  pub command_told : (number : ℕ) (words : List Word) (statement : Statement) (cover : CoverData) (rows : List Line) (parts : List Part) (told : Told) (t : Said) → Says words statement cover rows parts → told.place ≡ Named
+  pub command_told : (number : ℕ) (words : List Word) (statement : Statement) (cover : CoverData) (rows : List Line) (parts : List Part) (told : LinesSaid) (t : Said) → Says words statement cover rows parts → told.place ≡ Named
       → with_parts parts told.said ≡ Ok t → tell_statement library told number rows (meant_at told.place (meant words)) ≡ Ok (with_all told t)
   command_told number words statement cover rows parts told t says named is =
       ap (λ m. tell_statement library told number rows (meant_at told.place m)) says.means

@@ -11,8 +11,8 @@ use Rattle.std.proofs.Math.Dec.{eqb-suc-zero}
 use Rattle.cg_cell.specs.Name.{is_name}
 use Rattle.cg_netlist_parts.specs.Writable.{NIL}
 use Rattle.cg_netlist_parts.proofs.KnownNames.{itself}
-use Rattle.cg_blif_text.specs.declared.command.Command.{Command}
-use Rattle.cg_blif_text.specs.declared.command.Command.TheVariants as commands
+use Rattle.cg_blif_text.specs.declared.statement.Command.{Command}
+use Rattle.cg_blif_text.specs.declared.statement.Command.TheVariants as commands
 use Rattle.cg_blif_text.specs.declared.fault.LineFault.{LineFault}
 use Rattle.cg_blif_text.specs.declared.fault.LineFault.TheVariants.{BadLine, BadLatch, Limit}
 use Rattle.cg_limit.specs.declared.Limit.TheVariants.{CoverInputs}

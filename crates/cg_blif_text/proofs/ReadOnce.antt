@@ -27,7 +27,7 @@ use Rattle.cg_blif_text.specs.declared.fault.BlifFault.{BlifFault}
 use Rattle.cg_blif_text.specs.declared.fault.BlifFault.TheVariants.{Net, NoMemory}
 use Rattle.cg_blif_text.specs.BlifText.{BlifText, HasNetFault, IsFirstBlifFault, told_by}
 use Rattle.cg_blif_text.specs.ReadAs.{AreProper, IsReadAs, ReadAs}
-use Rattle.cg_blif_text.specs.Telling.{Told}
+use Rattle.cg_blif_text.specs.Telling.{LinesSaid}
 use Rattle.cg_blif_text.proofs.CanonicalText.{no_two}
 use Rattle.cg_blif_text.proofs.SameFaults.{fault_alike}
 use Rattle.cg_blif_text.proofs.TextFaults.{has_told, told_has}
@@ -120,7 +120,7 @@ within s none = elim (cases_lt 1048576 (length s.nets)) [
 ]
 
 module _ (library : List CellData) (clock : Option NetName) (text : List ℕ) where
-  parts_read : (told : Told) → told_by library clock text ≡ Ok told → AreProper library clock → (parts : List Part) → told.said ≡ said parts → AreTaken told.model parts
+  parts_read : (told : LinesSaid) → told_by library clock text ≡ Ok told → AreProper library clock → (parts : List Part) → told.said ≡ said parts → AreTaken told.model parts
       → IsFaultless parts ⊎ ((fault : NetFault) × IsFault parts fault) → ReadAs library clock text
   parts_read told e p parts same taken (inl fine) =
       let c : Circuit = netlist_of told.model parts in
@@ -143,7 +143,7 @@ module _ (library : List CellData) (clock : Option NetName) (text : List ℕ) wh
     is = λ _. inr (faulty.0, refl, record { model = told.model; parts = parts; tells = record { told = told; faultless = e; model_is = refl; said_is = same }; first = faulty.1 });
   }
 
-  told_read : (r : Result Told BlifFault) → told_by library clock text ≡ r → Decides (AreProper library clock) → ReadAs library clock text
+  told_read : (r : Result LinesSaid BlifFault) → told_by library clock text ≡ r → Decides (AreProper library clock) → ReadAs library clock text
   told_read (Err fault) e proper = record { result = Err fault; says = λ d is. absurd (cc); proper = λ d is. absurd (cc); is = λ _. inl (told_has library clock text fault e) }
   told_read (Ok told) e (inr improper) = record { result = Err NoMemory; says = λ d is. absurd (cc); proper = λ d is. absurd (cc); is = λ p. absurd (improper p) }
   told_read (Ok told) e (inl p) =
@@ -157,14 +157,14 @@ module _ (library : List CellData) (clock : Option NetName) (text : List ℕ) wh
 
   -- No text is read as two
 
-  same_told : (a b : Told) → told_by library clock text ≡ Ok a → told_by library clock text ≡ Ok b → a ≡ b
+  same_told : (a b : LinesSaid) → told_by library clock text ≡ Ok a → told_by library clock text ≡ Ok b → a ≡ b
   same_told a b is also = let both_are : Ok a ≡ Ok b = sym is ∙ also in cc
 
-  told_or_not : (a : Told) (fault : BlifFault) → told_by library clock text ≡ Ok a → told_by library clock text ≡ Err fault → ⊥
+  told_or_not : (a : LinesSaid) (fault : BlifFault) → told_by library clock text ≡ Ok a → told_by library clock text ≡ Err fault → ⊥
   told_or_not a fault is also = let both_are : Ok a ≡ Err fault = sym is ∙ also in cc
 
-  said_alike : (a b : Told) (parts others : List Part) → a ≡ b → a.said ≡ said parts → b.said ≡ said others → said parts ≡ said others
-  said_alike a b parts others same is also = sym is ∙ ap (λ (t : Told). t.said) same ∙ also
+  said_alike : (a b : LinesSaid) (parts others : List Part) → a ≡ b → a.said ≡ said parts → b.said ≡ said others → said parts ≡ said others
+  said_alike a b parts others same is also = sym is ∙ ap (λ (t : LinesSaid). t.said) same ∙ also
 
   not_both : (c : Circuit) (fault : BlifFault) → BlifText text library clock c → IsFirstBlifFault text library clock fault → ⊥
   not_both c fault says (inl refused) = told_or_not says.tells.told fault says.tells.faultless (has_told library clock text fault refused)
@@ -174,7 +174,7 @@ module _ (library : List CellData) (clock : Option NetName) (text : List ℕ) wh
       no_fault says.parts refused.0 (fault_alike has.parts says.parts same refused.0 has.first) (faultless c.model says.parts c says.says)
 
   one_refusal : (f g : BlifFault) → IsFirstBlifFault text library clock f → IsFirstBlifFault text library clock g → f ≡ g
-  one_refusal f g (inl is) (inl also) = let both_are : ◌≡◌ {A = Result Told BlifFault} (Err f) (Err g) = sym (has_told library clock text f is) ∙ has_told library clock text g also in cc
+  one_refusal f g (inl is) (inl also) = let both_are : ◌≡◌ {A = Result LinesSaid BlifFault} (Err f) (Err g) = sym (has_told library clock text f is) ∙ has_told library clock text g also in cc
   one_refusal f g (inl is) (inr also) = let has : HasNetFault text library clock also.0 = also.2 in absurd (told_or_not has.tells.told f has.tells.faultless (has_told library clock text f is))
   one_refusal f g (inr is) (inl also) = let has : HasNetFault text library clock is.0 = is.2 in absurd (told_or_not has.tells.told g has.tells.faultless (has_told library clock text g also))
   one_refusal f g (inr is) (inr also) =

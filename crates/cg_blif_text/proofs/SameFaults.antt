@@ -8,7 +8,7 @@ use Rattle.cg_net.specs.Names.{NetName, is_known}
 use Rattle.cg_netlist_parts.specs.declared.fault.NetFault.{NetFault}
 use Rattle.cg_netlist_parts.specs.declared.fault.NetFault.TheVariants.{TwoDrivers, NoDriver, Cycle, ClockFault, NoClock, NoMemory}
 use Rattle.cg_netlist_parts.specs.Faults.{EachNet, HasClock, IsClockProper, IsDrivenIfUsed, IsDrivenOnce, IsEnding, IsFault, IsFirstNot}
-use Rattle.cg_netlist_parts.specs.Faults.{IsGateProper, IsRootProper, ends_within, reaches}
+use Rattle.cg_netlist_parts.specs.Faults.{IsGaterProper, IsRootProper, ends_within, reaches}
 use Rattle.cg_netlist_parts.specs.Part.{Part, gaters, nets}
 use Rattle.cg_netlist_parts.specs.Said.{Said, said}
 use Rattle.cg_netlist.specs.Wiring.{driven_by_cells, driven_by_gaters, driven_by_registers, used_by}
@@ -51,7 +51,7 @@ module _ (parts others : List Part) (same : said parts ≡ said others) where
       let U : Said → Type 0 = λ s. is_known (uses_by s) net ≡ false in
       record { given = subst G same is.given; first = subst F same is.first; unused = subst U same is.unused }
 
-  gate : (net : NetName) → IsGateProper parts net → IsGateProper others net
+  gate : (net : NetName) → IsGaterProper parts net → IsGaterProper others net
   gate net is =
       let U : Said → Type 0 = λ s. is_known (uses_by s) net ≡ false in
       record { unused = subst U same is.unused; steps = is.steps; reached = sym (reaches_same is.steps net) ∙ is.reached }
@@ -60,7 +60,7 @@ module _ (parts others : List Part) (same : said parts ≡ said others) where
   proper net is =
       let R : Said → Type 0 = λ s. is_known (roots_by s) net ≡ true in
       let G : Said → Type 0 = λ s. is_known (driven_by_gaters s.gaters) net ≡ true in
-      record { as_root = λ r. root net (is.as_root (subst R (sym same) r)); as_gate = λ g. gate net (is.as_gate (subst G (sym same) g)) }
+      record { as_root = λ r. root net (is.as_root (subst R (sym same) r)); as_gater = λ g. gate net (is.as_gater (subst G (sym same) g)) }
 
   clocked : HasClock parts → HasClock others
   clocked is = let P : Said → Type 0 = λ s. roots_by s ≡ [] → (s.registers ≡ []) × (s.gaters ≡ []) in subst P same is

@@ -5,14 +5,14 @@ use Rattle.cg_net.specs.Names.{NetName}
 use Rattle.cg_blif_text.specs.declared.fault.BlifFault.{BlifFault}
 use Rattle.cg_blif_text.specs.BlifText.{HasLineFault, told_by}
 use Rattle.cg_blif_text.specs.LogicalLines.{text_lines}
-use Rattle.cg_blif_text.specs.Telling.{Told, go_on, tell_clock, tell_lines}
+use Rattle.cg_blif_text.specs.Telling.{LinesSaid, go_on, tell_clock, tell_lines}
 use Rattle.cg_blif_text.proofs.FirstFaults.{first_is_told, told_is_first}
 
 module _ (library : List CellData) (clock : Option NetName) (text : List ℕ) where
   pub told_has : (fault : BlifFault) → told_by library clock text ≡ Err fault → HasLineFault text library clock fault
   told_has fault is = go (tell_lines library (text_lines text)) refl is
     where
-      go : (r : Result Told BlifFault) → tell_lines library (text_lines text) ≡ r → go_on r (tell_clock clock) ≡ Err fault → HasLineFault text library clock fault
+      go : (r : Result LinesSaid BlifFault) → tell_lines library (text_lines text) ≡ r → go_on r (tell_clock clock) ≡ Err fault → HasLineFault text library clock fault
       go (Ok told) before fails = inr (record { told = told; before = before; fails = fails })
       go (Err first) before fails = inl (told_is_first library (text_lines text) fault (before ∙ fails))
 

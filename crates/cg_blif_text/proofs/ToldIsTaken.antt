@@ -18,8 +18,8 @@ use Rattle.cg_netlist_parts.proofs.SaidIsWritable.{said_is_writable}
 use Rattle.cg_netlist_parts.proofs.SaidMore.{said_more}
 use Rattle.cg_blif_text.specs.declared.fault.BlifFault.{BlifFault}
 use Rattle.cg_blif_text.specs.declared.fault.LineFault.{LineFault}
-use Rattle.cg_blif_text.specs.declared.place.Place.{Place}
-use Rattle.cg_blif_text.specs.declared.place.Place.TheVariants.{First, Unnamed, Named, Ended}
+use Rattle.cg_blif_text.specs.declared.statement.Place.{Place}
+use Rattle.cg_blif_text.specs.declared.statement.Place.TheVariants.{First, Unnamed, Named, Ended}
 use Rattle.cg_blif_text.specs.declared.statement.Statement.{Statement}
 use Rattle.cg_blif_text.specs.declared.statement.Statement.TheVariants.{Model, Inputs, Outputs, Clocks, Names, Latch, Gate, Skipped}
 use Rattle.cg_blif_text.specs.declared.statement.Statement.TheVariants.{End}
@@ -33,7 +33,7 @@ use Rattle.cg_netlist_placed.specs.declared.fault.PlacedFault.TheVariants.{PinFa
 use Rattle.cg_netlist_placed.specs.Laws.{kind_cell, part_cell}
 use Rattle.cg_netlist_placed.specs.Placed.{of_usable, placed_at, placed_by, usable}
 use Rattle.cg_blif_text.specs.Placing.{gate_at, gate_part, give_nets, one_part}
-use Rattle.cg_blif_text.specs.Telling.{Told, cover_or_none, go_on, latch_register, meant_at, next_model, rows_behind, said_by}
+use Rattle.cg_blif_text.specs.Telling.{LinesSaid, cover_or_none, go_on, latch_register, meant_at, next_model, rows_behind, said_by}
 use Rattle.cg_blif_text.specs.Telling.{tell_block, tell_blocks, tell_clock, tell_cut, tell_lines, tell_more, tell_parts}
 use Rattle.cg_blif_text.specs.Telling.{tell_statement, unless, untold, with_parts, with_said}
 use Rattle.cg_blif_text.proofs.MeantNames.{IsMade, meant_made}
@@ -138,11 +138,11 @@ module _ (library : List CellData) (cells : AllByRecursion IsCell library) where
 
   -- line by line
 
-  pub record IsToldTaken (told : Told) : Type 0 where
+  pub record IsToldTaken (told : LinesSaid) : Type 0 where
     pub model : IsNamed told.model
     pub said : IsTaken library told.said
 
-  told_as : (told after : Told) → IsToldTaken told → ◌≡◌ {A = Result Told BlifFault} (Ok told) (Ok after) → IsToldTaken after
+  told_as : (told after : LinesSaid) → IsToldTaken told → ◌≡◌ {A = Result LinesSaid BlifFault} (Ok told) (Ok after) → IsToldTaken after
   told_as told after taken is = let same : told ≡ after = cc in subst IsToldTaken same taken
 
   model_named : (model : Word) (statement : Statement) → IsNamed model → IsMade statement → IsNamed (next_model model statement)
@@ -153,13 +153,13 @@ module _ (library : List CellData) (cells : AllByRecursion IsCell library) where
   said_taken s (Err cause) t taken are is = absurd (cc)
   said_taken s (Ok ps) t taken are is = let lines = are ps refl in more_taken ps s t taken lines.each lines.lines is
 
-  parts_taken : (told after : Told) (number : ℕ) (statement : Statement) (rows : Result CoverData BlifFault) (s : Result Said LineFault) → IsNamed (next_model told.model statement)
+  parts_taken : (told after : LinesSaid) (number : ℕ) (statement : Statement) (rows : Result CoverData BlifFault) (s : Result Said LineFault) → IsNamed (next_model told.model statement)
       → ((cover : CoverData) (t : Said) → rows ≡ Ok cover → s ≡ Ok t → IsTaken library t) → tell_parts told number statement rows s ≡ Ok after → IsToldTaken after
   parts_taken told after number statement rows (Err cause) named taken is = absurd (cc)
   parts_taken told after number statement (Err fault) (Ok t) named taken is = absurd (cc)
   parts_taken told after number statement (Ok cover) (Ok t) named taken is = told_as _ after (record { model = named; said = taken cover t refl refl }) is
 
-  statement_taken : (told after : Told) (number : ℕ) (rows : List Line) (meaning : Result Statement LineFault) → IsToldTaken told → ((statement : Statement) → meaning ≡ Ok statement → IsMade statement)
+  statement_taken : (told after : LinesSaid) (number : ℕ) (rows : List Line) (meaning : Result Statement LineFault) → IsToldTaken told → ((statement : Statement) → meaning ≡ Ok statement → IsMade statement)
       → tell_statement library told number rows meaning ≡ Ok after → IsToldTaken after
   statement_taken told after number rows (Err cause) taken made is = absurd (cc)
   statement_taken told after number rows (Ok statement) taken made is =
@@ -183,27 +183,27 @@ module _ (library : List CellData) (cells : AllByRecursion IsCell library) where
   meant_anywhere Ended (Ok (Model name)) statement is = absurd (cc)
   meant_anywhere Ended (Ok other) statement is = absurd (cc)
 
-  block_taken : (told after : Told) (block : Block) → IsToldTaken told → tell_block library told block ≡ Ok after → IsToldTaken after
+  block_taken : (told after : LinesSaid) (block : Block) → IsToldTaken told → tell_block library told block ≡ Ok after → IsToldTaken after
   block_taken told after block taken is =
       statement_taken told after block.head.number block.rows (meant_at told.place (meant block.head.words)) taken
       (λ statement means. meant_made block.head.words statement (meant_anywhere told.place (meant block.head.words) statement means)) is
 
-  blocks_taken : (blocks : List Block) (told after : Told) → IsToldTaken told → tell_blocks library blocks told ≡ Ok after → IsToldTaken after
+  blocks_taken : (blocks : List Block) (told after : LinesSaid) → IsToldTaken told → tell_blocks library blocks told ≡ Ok after → IsToldTaken after
   blocks_taken [] told after taken is = told_as told after taken is
   blocks_taken (block ∷ later) told after taken is = go (tell_block library told block) refl is (λ next first rest. blocks_taken later next after (block_taken told next block taken first) rest)
     where
-      go : (r : Result Told BlifFault) → tell_block library told block ≡ r → go_on r (tell_blocks library later) ≡ Ok after → ((next : Told) → tell_block library told block ≡ Ok next → tell_blocks library later next ≡ Ok after → IsToldTaken after) → IsToldTaken after
+      go : (r : Result LinesSaid BlifFault) → tell_block library told block ≡ r → go_on r (tell_blocks library later) ≡ Ok after → ((next : LinesSaid) → tell_block library told block ≡ Ok next → tell_blocks library later next ≡ Ok after → IsToldTaken after) → IsToldTaken after
       go (Err fault) e q back = absurd (cc)
       go (Ok next) e q back = back next e q
 
-  cut_taken : (rows : List Line) (blocks : List Block) (told after : Told) → IsToldTaken told → tell_cut library rows blocks told ≡ Ok after → IsToldTaken after
+  cut_taken : (rows : List Line) (blocks : List Block) (told after : LinesSaid) → IsToldTaken told → tell_cut library rows blocks told ≡ Ok after → IsToldTaken after
   cut_taken [] blocks told after taken is = blocks_taken blocks told after taken is
   cut_taken (row ∷ rows) blocks told after taken is = absurd (cc)
 
   untold_taken : IsToldTaken untold
   untold_taken = record { model = refl; said = record { parts = []; is = refl; each = tt; lines = tt; few = refl } }
 
-  clock_taken : (clock : Option Word) (told after : Told) → AllByRecursion IsNamed (option_to_list clock) → IsToldTaken told → tell_clock clock told ≡ Ok after → IsToldTaken after
+  clock_taken : (clock : Option Word) (told after : LinesSaid) → AllByRecursion IsNamed (option_to_list clock) → IsToldTaken told → tell_clock clock told ≡ Ok after → IsToldTaken after
   clock_taken None told after named taken is = told_as told after taken is
   clock_taken (Some net) told after named taken is = go (with_parts (Clock net ∷ []) told.said) refl is
     where
@@ -211,10 +211,10 @@ module _ (library : List CellData) (cells : AllByRecursion IsCell library) where
       go (Err cause) e q = absurd (cc)
       go (Ok s) e q = told_as _ after (record { model = taken.model; said = more_taken (Clock net ∷ []) told.said s taken.said (record { named = (named.0, tt); fits = tt }, tt) (tt, tt) e }) q
 
-  pub told_taken : (clock : Option Word) (text : List ℕ) (told : Told) → AllByRecursion IsNamed (option_to_list clock) → told_by library clock text ≡ Ok told → IsToldTaken told
+  pub told_taken : (clock : Option Word) (text : List ℕ) (told : LinesSaid) → AllByRecursion IsNamed (option_to_list clock) → told_by library clock text ≡ Ok told → IsToldTaken told
   told_taken clock text told named is = go (tell_lines library (text_lines text)) refl is
     where
-      go : (r : Result Told BlifFault) → tell_lines library (text_lines text) ≡ r → go_on r (tell_clock clock) ≡ Ok told → IsToldTaken told
+      go : (r : Result LinesSaid BlifFault) → tell_lines library (text_lines text) ≡ r → go_on r (tell_clock clock) ≡ Ok told → IsToldTaken told
       go (Err fault) e q = absurd (cc)
       go (Ok before) e q = clock_taken clock before told named (cut_taken (cut (text_lines text)).rows (cut (text_lines text)).blocks untold before untold_taken e) q
 

@@ -12,16 +12,16 @@ use Rattle.cg_blif_text.specs.declared.fault.BlifFault.{BlifFault}
 use Rattle.cg_blif_text.specs.declared.fault.BlifFault.TheVariants.{Net}
 use Rattle.cg_blif_text.specs.LineFaults.{IsFirstOfLines}
 use Rattle.cg_blif_text.specs.LogicalLines.{text_lines}
-use Rattle.cg_blif_text.specs.Telling.{Told, go_on, tell_clock, tell_lines}
+use Rattle.cg_blif_text.specs.Telling.{LinesSaid, go_on, tell_clock, tell_lines}
 
 -- what a text tells with the cells of a library, and with the clock of the option where one is given
-abbrev pub told_by : List CellData → Option NetName → List ℕ → Result Told BlifFault
+abbrev pub told_by : List CellData → Option NetName → List ℕ → Result LinesSaid BlifFault
 told_by library clock text = go_on (tell_lines library (text_lines text)) (tell_clock clock)
 
 -- parts that a text tells
 pub record TellsParts (library : List CellData) (clock : Option NetName) (text : List ℕ) (model : List ℕ)
     (parts : List Part) : Type 0 where
-  pub told : Told
+  pub told : LinesSaid
   pub faultless : told_by library clock text ≡ Ok told
   pub model_is : told.model ≡ model
   pub said_is : told.said ≡ said parts
@@ -41,7 +41,7 @@ pub record HasNetFault (text : List ℕ) (library : List CellData) (clock : Opti
 
 -- no line has a fault, and the clock of the option is a net more than there may be
 pub record HasClockFault (text : List ℕ) (library : List CellData) (clock : Option NetName) (fault : BlifFault) : Type 0 where
-  pub told : Told
+  pub told : LinesSaid
   pub before : tell_lines library (text_lines text) ≡ Ok told
   pub fails : tell_clock clock told ≡ Err fault
 

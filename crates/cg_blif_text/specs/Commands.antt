@@ -1,9 +1,9 @@
 -- What a line is, by its first word.
 use Rattle.std.specs.Prelude.{ℕ, Bool, true, ◌==◌, ◌||◌, not, if◌then◌else◌, List, [], ◌∷◌, slice_index, codes}
 use Rattle.std.specs.Str.{bytes_eq}
-use Rattle.cg_blif_text.specs.declared.command.Command.{Command}
-use Rattle.cg_blif_text.specs.declared.command.Command.TheVariants.{Model, Inputs, Outputs, Clocks, Names, Latch, Gate, Skipped}
-use Rattle.cg_blif_text.specs.declared.command.Command.TheVariants.{End, Other}
+use Rattle.cg_blif_text.specs.declared.statement.Command.{Command}
+use Rattle.cg_blif_text.specs.declared.statement.Command.TheVariants.{Model, Inputs, Outputs, Clocks, Names, Latch, Gate, Skipped}
+use Rattle.cg_blif_text.specs.declared.statement.Command.TheVariants.{End, Other}
 
 -- the command of a first word
 abbrev pub is_skipped : List ℕ → Bool

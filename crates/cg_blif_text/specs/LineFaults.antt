@@ -16,23 +16,23 @@ use Rattle.cg_text.specs.declared.lines.Line.{Line}
 use Rattle.cg_netlist_parts.specs.Part.{Part}
 use Rattle.cg_netlist_parts.specs.Said.{Said, with_part}
 use Rattle.cg_netlist_parts.specs.Writable.{cell_named}
-use Rattle.cg_blif_text.specs.declared.command.Command.{Command}
-use Rattle.cg_blif_text.specs.declared.command.Command.TheVariants.{Model, Names, Latch, Gate, End, Other}
+use Rattle.cg_blif_text.specs.declared.statement.Command.{Command}
+use Rattle.cg_blif_text.specs.declared.statement.Command.TheVariants.{Model, Names, Latch, Gate, End, Other}
 use Rattle.cg_blif_text.specs.declared.fault.BlifFault.{BlifFault}
 use Rattle.cg_blif_text.specs.declared.fault.LineFault.{LineFault}
 use Rattle.cg_blif_text.specs.declared.fault.LineFault.TheVariants.{BadLine, BadCover, BadLatch, Placed, SecondModel, Limit}
 use Rattle.cg_netlist_placed.specs.declared.fault.PlacedFault.TheVariants.{UnknownCell, UnusableCell, PinFault}
 use Rattle.cg_netlist_placed.specs.PinNets.{PinNet}
 use Rattle.cg_netlist_placed.specs.Placed.{are_for_pins, nets_at, placed_part}
-use Rattle.cg_blif_text.specs.declared.place.Place.{Place}
-use Rattle.cg_blif_text.specs.declared.place.Place.TheVariants.{First, Unnamed, Named, Ended}
+use Rattle.cg_blif_text.specs.declared.statement.Place.{Place}
+use Rattle.cg_blif_text.specs.declared.statement.Place.TheVariants.{First, Unnamed, Named, Ended}
 use Rattle.cg_blif_text.specs.declared.statement.Statement.{Statement}
 use Rattle.cg_blif_text.specs.Commands.{are_row, command_of}
 use Rattle.cg_blif_text.specs.Meaning.{behind}
 use Rattle.cg_blif_text.specs.PinWords.{pin_net}
 use Rattle.cg_blif_text.specs.Placing.{give_nets}
 use Rattle.cg_blif_text.specs.Rows.{keeps_value, row_of}
-use Rattle.cg_blif_text.specs.Telling.{Told, at, no_rows, said_by, tell_lines}
+use Rattle.cg_blif_text.specs.Telling.{LinesSaid, at, no_rows, said_by, tell_lines}
 
 -- a line is a row of these words, or a command with these words behind it
 pub data Form : Type 0 where
@@ -195,7 +195,7 @@ place_after place (Order End words) = Ended
 place_after place (Order command words) = begun place
 
 -- where a line stands behind lines that told this
-abbrev pub standing : List Line → Told → Standing
+abbrev pub standing : List Line → LinesSaid → Standing
 standing front told = record {
   place = fold (λ place line. place_after place (form_of line.words)) First front;
   rows = fold (λ rows line. rows_after rows (form_of line.words)) None front;
@@ -207,7 +207,7 @@ pub record IsFirstOfLines (library : List CellData) (lines : List Line) (fault :
   pub front : List Line
   pub line : Line
   pub later : List Line
-  pub told : Told
+  pub told : LinesSaid
   pub cause : LineFault
   pub cut : lines ≡ front ++ line ∷ later
   pub before : tell_lines library front ≡ Ok told

@@ -14,7 +14,7 @@ use Rattle.cg_blif_text.specs.declared.statement.Statement.TheVariants.{Names}
 use Rattle.cg_blif_text.specs.Blocks.{cut}
 use Rattle.cg_blif_text.specs.OpenCovers.{CoverSoFar, cover_so_far}
 use Rattle.cg_blif_text.specs.Rows.{cover_from}
-use Rattle.cg_blif_text.specs.Telling.{Told, cover_or_none, go_on, no_rows, said_by, tell_blocks, tell_cut, tell_parts, with_parts}
+use Rattle.cg_blif_text.specs.Telling.{LinesSaid, cover_or_none, go_on, no_rows, said_by, tell_blocks, tell_cut, tell_parts, with_parts}
 use Rattle.cg_blif_text.specs.Telling.{with_said}
 
 -- rows in front of a cover
@@ -31,12 +31,12 @@ abbrev pub cover_part : CoverSoFar → CoverData → Part
 cover_part o cover = Logic (record { inputs = o.inputs; output = o.output; function = Cover cover })
 
 -- what is told behind an open cover whose rows are this cover
-abbrev pub close_with : Told → CoverSoFar → Result CoverData BlifFault → Result Told BlifFault
+abbrev pub close_with : LinesSaid → CoverSoFar → Result CoverData BlifFault → Result LinesSaid BlifFault
 close_with told o cover =
     tell_parts told 0 (Names o.inputs o.output) cover (with_parts (cover_part o (cover_or_none cover) ∷ []) told.said)
 
 -- what is told where an open cover, if there is one, gets no further row
-abbrev pub closed : Told → Option CoverSoFar → Result Told BlifFault
+abbrev pub closed : LinesSaid → Option CoverSoFar → Result LinesSaid BlifFault
 closed told None = Ok told
 closed told (Some o) = close_with told o (Ok (cover_so_far o))
 
@@ -45,7 +45,7 @@ closed_said s None = Ok s
 closed_said s (Some o) = with_parts (cover_part o (cover_so_far o) ∷ []) s
 
 -- what the lines that are left tell
-abbrev pub resume : List CellData → Told → Option CoverSoFar → List Line → Result Told BlifFault
+abbrev pub resume : List CellData → LinesSaid → Option CoverSoFar → List Line → Result LinesSaid BlifFault
 resume library told None lines = tell_cut library (cut lines).rows (cut lines).blocks told
 resume library told (Some o) lines = go_on (close_with told o (covered o (cut lines).rows)) (tell_blocks library (cut lines).blocks)
 

@@ -5,8 +5,8 @@ use Rattle.std.specs.List.{list_all}
 use Rattle.cg_cell.specs.Name.{is_name}
 use Rattle.cg_limit.specs.declared.Limit.TheVariants.{CoverInputs}
 use Rattle.cg_limit.specs.declared.TheConstants.{MOST_COVER_INPUTS}
-use Rattle.cg_blif_text.specs.declared.command.Command.{Command}
-use Rattle.cg_blif_text.specs.declared.command.Command.TheVariants as commands
+use Rattle.cg_blif_text.specs.declared.statement.Command.{Command}
+use Rattle.cg_blif_text.specs.declared.statement.Command.TheVariants as commands
 use Rattle.cg_blif_text.specs.declared.fault.LineFault.{LineFault}
 use Rattle.cg_blif_text.specs.declared.fault.LineFault.TheVariants.{BadLine, Limit}
 use Rattle.cg_blif_text.specs.declared.statement.Statement.{Statement}

@@ -16,8 +16,8 @@ use Rattle.cg_blif_text.specs.declared.fault.BlifFault.TheVariants as faults
 use Rattle.cg_blif_text.specs.declared.fault.LineFault.{LineFault}
 use Rattle.cg_blif_text.specs.declared.fault.LineFault.TheVariants.{BadLine, BadCover, BadLatch, Placed, SecondModel, Limit as Passed}
 use Rattle.cg_netlist_placed.specs.declared.fault.PlacedFault.TheVariants.{UnknownCell, UnusableCell, PinFault}
-use Rattle.cg_blif_text.specs.declared.place.Place.{Place}
-use Rattle.cg_blif_text.specs.declared.place.Place.TheVariants.{First, Unnamed, Named, Ended}
+use Rattle.cg_blif_text.specs.declared.statement.Place.{Place}
+use Rattle.cg_blif_text.specs.declared.statement.Place.TheVariants.{First, Unnamed, Named, Ended}
 use Rattle.cg_blif_text.specs.declared.statement.Statement.{Statement}
 use Rattle.cg_blif_text.specs.declared.statement.Statement.TheVariants.{Model, Inputs, Outputs, Clocks, Names, Latch, Gate, End}
 use Rattle.cg_blif_text.specs.Blocks.{Block, cut}
@@ -38,12 +38,12 @@ at number (Passed limit) = faults.Limit limit
 
 -- What was told: where the next line stands, the model, and what the parts have said. Without a `.model` line the model is
 -- `top`.
-pub record Told : Type 0 where
+pub record LinesSaid : Type 0 where
   pub place : Place
   pub model : List ℕ
   pub said : Said
 
-abbrev pub untold : Told
+abbrev pub untold : LinesSaid
 untold = record { place = First; model = codes "top"; said = nothing_said }
 
 -- What a line of such a meaning is where it stands: a `.model` line is the first line, and no line but a second model stands
@@ -111,44 +111,44 @@ cover_or_none (Err fault) = no_rows
 
 -- A statement and the rows behind it: the fault of its line, or that its parts pass a limit, or the fault of the first row that
 -- has one, or what was told with its parts.
-abbrev pub tell_parts : Told → ℕ → Statement → Result CoverData BlifFault → Result Said LineFault → Result Told BlifFault
+abbrev pub tell_parts : LinesSaid → ℕ → Statement → Result CoverData BlifFault → Result Said LineFault → Result LinesSaid BlifFault
 tell_parts told number statement rows (Err cause) = Err (at number cause)
 tell_parts told number statement (Err fault) (Ok s) = Err fault
 tell_parts told number statement (Ok cover) (Ok s) =
     Ok (record { place = next_place told.place statement; model = next_model told.model statement; said = s })
 
-abbrev pub tell_statement : List CellData → Told → ℕ → List Line → Result Statement LineFault → Result Told BlifFault
+abbrev pub tell_statement : List CellData → LinesSaid → ℕ → List Line → Result Statement LineFault → Result LinesSaid BlifFault
 tell_statement library told number rows (Err cause) = Err (at number cause)
 tell_statement library told number rows (Ok statement) =
     tell_parts told number statement (rows_behind statement rows)
     (with_said told.said (said_by library (cover_or_none (rows_behind statement rows)) statement))
 
-abbrev pub tell_block : List CellData → Told → Block → Result Told BlifFault
+abbrev pub tell_block : List CellData → LinesSaid → Block → Result LinesSaid BlifFault
 tell_block library told block =
     tell_statement library told block.head.number block.rows (meant_at told.place (meant block.head.words))
 
 -- one block after another, as far as none has a fault
-abbrev pub go_on : Result Told BlifFault → (Told → Result Told BlifFault) → Result Told BlifFault
+abbrev pub go_on : Result LinesSaid BlifFault → (LinesSaid → Result LinesSaid BlifFault) → Result LinesSaid BlifFault
 go_on (Ok told) later = later told
 go_on (Err fault) later = Err fault
 
-abbrev pub tell_blocks : List CellData → List Block → Told → Result Told BlifFault
+abbrev pub tell_blocks : List CellData → List Block → LinesSaid → Result LinesSaid BlifFault
 tell_blocks library [] told = Ok told
 tell_blocks library (block ∷ later) told = go_on (tell_block library told block) (tell_blocks library later)
 
 -- all lines: a row before the first command is at fault
-abbrev pub tell_cut : List CellData → List Line → List Block → Told → Result Told BlifFault
+abbrev pub tell_cut : List CellData → List Line → List Block → LinesSaid → Result LinesSaid BlifFault
 tell_cut library [] blocks told = tell_blocks library blocks told
 tell_cut library (row ∷ rows) blocks told = Err (faults.BadLine row.number)
 
-abbrev pub tell_lines : List CellData → List Line → Result Told BlifFault
+abbrev pub tell_lines : List CellData → List Line → Result LinesSaid BlifFault
 tell_lines library lines = tell_cut library (cut lines).rows (cut lines).blocks untold
 
 -- the clock of the option is declared behind all lines
-abbrev pub tell_more : Told → Result Said LineFault → Result Told BlifFault
+abbrev pub tell_more : LinesSaid → Result Said LineFault → Result LinesSaid BlifFault
 tell_more told (Ok s) = Ok (record told { said = s })
 tell_more told (Err cause) = Err (at 0 cause)
 
-abbrev pub tell_clock : Option NetName → Told → Result Told BlifFault
+abbrev pub tell_clock : Option NetName → LinesSaid → Result LinesSaid BlifFault
 tell_clock None told = Ok told
 tell_clock (Some net) told = tell_more told (with_parts (Clock net ∷ []) told.said)

@@ -6,14 +6,10 @@
 //! `proofs/`. The format is the Berkeley Logic Interchange Format (University of California, Berkeley, 1992) in this
 //! project's own profile, which docs/FORMATS.md writes out.
 //!
-//! Modules, as data flows: [`word`] (a word of a line), [`command`] (what a line is by its first word), [`statement`] (what a
-//! line says), [`place`] (where a line stands), [`fault`] (why a line says nothing, and why a text is no netlist), [`laws`]
-//! (what is true of texts).
+//! Modules, as data flows: [`statement`] (a line: its words, its command, where it stands, and what it says), [`fault`] (why a
+//! line says nothing, and why a text is no netlist), [`laws`] (what is true of texts).
 #![tactic(auto)]
 
-pub mod command;
 pub mod fault;
 pub mod laws;
-pub mod place;
 pub mod statement;
-pub mod word;

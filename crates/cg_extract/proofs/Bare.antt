@@ -10,7 +10,7 @@ use Rattle.std.proofs.lemmas.Option.{get_or_from_slice_get, slice_get-get_or, sl
 use Rattle.cg_cell.specs.Name.{is_name}
 use Rattle.cg_netlist.specs.Wiring.{map_cell, map_register}
 use Rattle.cg_net.specs.Names.{net_name}
-use Rattle.cg_netlist.specs.Circuit.{Circuit, LogicCell, RegisterCell, cell_nets, clock_nets, data_inputs, gate_nets}
+use Rattle.cg_netlist.specs.Circuit.{Circuit, LogicCell, RegisterCell, cell_nets, clock_nets, data_inputs, gater_outputs}
 use Rattle.cg_net.specs.NetSets.{is_in}
 use Rattle.cg_netlist.specs.Circuit.{register_nets, used_nets}
 use Rattle.cg_netlist.specs.Netlist.{IsNetlist}
@@ -73,7 +73,7 @@ module _ (c : Circuit) (whole : IsNetlist c) where
       ap (λ xs. map f c.inputs ++ xs ++ ks ++ [] ++ rs) late_mapped
       ∙ (ap (λ xs. map f c.inputs ++ map f late ++ xs ++ [] ++ rs) (outputs_renumbered f c.cells)
       ∙ (ap (λ xs. map f c.inputs ++ map f late ++ map f (cell_nets c) ++ [] ++ xs) (registers_renumbered f u.registers)
-      ∙ (sym (map-append f (c.inputs ++ late ++ cell_nets c ++ gate_nets u) (register_nets u) ∙ ap (λ xs. xs ++ map f (register_nets u)) (four_mapped f c.inputs late (cell_nets c) (gate_nets u)))
+      ∙ (sym (map-append f (c.inputs ++ late ++ cell_nets c ++ gater_outputs u) (register_nets u) ∙ ap (λ xs. xs ++ map f (register_nets u)) (four_mapped f c.inputs late (cell_nets c) (gater_outputs u)))
       ∙ (places_in_order order (order_once c whole) ∙ ap (range_with_len 0) (sym names_long)))))
 
   names_named : All (λ name. IsTrue (is_name name)) names
@@ -144,7 +144,7 @@ module _ (c : Circuit) (whole : IsNetlist c) where
         let at_clock = clock_only clk.0 clk.1 in
         let at_use = still_used c whole usage.0 usage.1 in
         let same : usage.0 ≡ clk.0 = same_number c whole usage.0 clk.0 (used_kept c whole usage.0 at_use) (clock_list_kept c whole clk.0 at_clock) (usage.2 ∙ sym clk.2) in
-        both_ways (is_in (used_nets c) clk.0) (good.apart clk.0 (is_in_left (option_to_list c.clock) (gate_nets c) clk.0 at_clock)) (ap (is_in (used_nets c)) (sym same) ∙ at_use));
+        both_ways (is_in (used_nets c) clk.0) (good.apart clk.0 (is_in_left (option_to_list c.clock) (gater_outputs c) clk.0 at_clock)) (ap (is_in (used_nets c)) (sym same) ∙ at_use));
   }
 
   pub bare_long : length (bare c).names + length c.gaters ≡ length c.names

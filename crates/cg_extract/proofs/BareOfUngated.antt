@@ -10,7 +10,7 @@ use Rattle.cg_netlist.proofs.Given.{in_option}
 use Rattle.cg_net.proofs.Members.{is_in_cases}
 use Rattle.cg_netlist_parts.proofs.AtMostOne.{says_one}
 use Rattle.cg_netlist_parts.proofs.SaidByItsParts.{none_left, says_own}
-use Rattle.cg_netlist.specs.Circuit.{Circuit, GatingCell, RegisterCell, clock_nets, gate_nets}
+use Rattle.cg_netlist.specs.Circuit.{Circuit, GatingCell, RegisterCell, clock_nets, gater_outputs}
 use Rattle.cg_net.specs.NetSets.{is_in}
 use Rattle.cg_netlist.specs.Netlist.{IsNetlist}
 use Rattle.cg_netlist_parts.specs.Says.{Says, parts_from}
@@ -33,7 +33,7 @@ module _ (c : Circuit) (whole : IsNetlist c) (none : c.gaters ≡ []) where
 
   -- each register is on the clock
   same_clock : (r : RegisterCell ℕ ℕ) → IsClocked r → unwrap_or c.clock 0 ≡ r.clock
-  same_clock r clocked = elim (is_in_cases (option_to_list c.clock) (gate_nets c) r.clock clocked) [
+  same_clock r clocked = elim (is_in_cases (option_to_list c.clock) (gater_outputs c) r.clock clocked) [
     | inl clk ↦ ap (λ o. unwrap_or o 0) (in_option c.clock r.clock clk)
     | inr gate ↦ absurd (both_ways false refl (sym (ap (λ gaters. is_in (map (λ (g : GatingCell ℕ). g.output) gaters) r.clock) none) ∙ gate))
   ]

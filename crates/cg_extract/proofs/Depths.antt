@@ -6,15 +6,15 @@ use Rattle.std.specs.Option.{option_map}
 use Rattle.std.proofs.lemmas.Bool.{both_ways, eq-eqb, or_cases, or_left, or_right}
 use Rattle.std.proofs.lemmas.List.{length-map}
 use Rattle.std.proofs.lemmas.Option.{slice_get-map}
-use Rattle.cg_netlist.specs.Chains.{chain, chain_cell, gate_order}
-use Rattle.cg_netlist.specs.Circuit.{Circuit, GatingCell, gate_nets}
+use Rattle.cg_netlist.specs.Chains.{chain, chain_cell, gater_order}
+use Rattle.cg_netlist.specs.Circuit.{Circuit, GatingCell, gater_outputs}
 use Rattle.cg_net.specs.NetSets.{is_in}
 use Rattle.cg_netlist.specs.Moment.{values_at}
 use Rattle.cg_netlist.specs.Nets.{IsOrdered, outputs}
 use Rattle.cg_netlist.specs.WellFormed.{IsWellFormed}
 use Rattle.cg_net.proofs.Members.{member_at}
 use Rattle.cg_netlist.proofs.Values.{at_map}
-use Rattle.cg_netlist.proofs.WalkLawsHold.{chain_outputs, gate_order_is_walk}
+use Rattle.cg_netlist.proofs.WalkLawsHold.{chain_outputs, gater_order_is_walk}
 use Rattle.cg_netlist.proofs.WalkPlaces.{walk_long}
 use Rattle.cg_extract.specs.Lifted.{by_depth}
 
@@ -50,7 +50,7 @@ values_few {X} xs (k ∷ ks) = go (slice_get xs k) (values_few xs ks)
     go (Some x) few = omega (arith, few)
 
 module _ (c : Circuit) (good : IsWellFormed c) where
-  ready_by : (taken : List ℕ) (gs : List (GatingCell ℕ)) → IsOrdered (chain gs) → ((x : ℕ) → is_in (gate_nets c) x ≡ true → (is_in taken x ≡ true) ⊎ (is_in (outputs (chain gs)) x ≡ true))
+  ready_by : (taken : List ℕ) (gs : List (GatingCell ℕ)) → IsOrdered (chain gs) → ((x : ℕ) → is_in (gater_outputs c) x ≡ true → (is_in taken x ≡ true) ⊎ (is_in (outputs (chain gs)) x ≡ true))
       → ((j : ℕ) (g : GatingCell ℕ) → slice_get gs j ≡ Some g → (k : ℕ) × (slice_get c.gaters k ≡ Some g)) → Ready c taken gs
   ready_by taken [] ordered has all = tt
   ready_by taken (g ∷ gs) ordered has all =
@@ -58,7 +58,7 @@ module _ (c : Circuit) (good : IsWellFormed c) where
         own,
         elim (good.chained.chained own.0 g own.1) [
           | inl clk ↦ inl clk
-          | inr lower ↦ inr (elim (has g.clock (subst (λ x. is_in (gate_nets c) x ≡ true) lower.3 (member_at (gate_nets c) lower.0 lower.1.output (at_map (λ (g : GatingCell ℕ). g.output) c.gaters lower.0 lower.1 lower.2)))) [
+          | inr lower ↦ inr (elim (has g.clock (subst (λ x. is_in (gater_outputs c) x ≡ true) lower.3 (member_at (gater_outputs c) lower.0 lower.1.output (at_map (λ (g : GatingCell ℕ). g.output) c.gaters lower.0 lower.1 lower.2)))) [
             | inl before ↦ before
             | inr later ↦ absurd (both_ways (is_in (outputs (chain (g ∷ gs))) g.clock) (ordered.0 g.clock (or_left (nat_eq g.clock g.clock) (is_in [] g.clock) (eq-eqb g.clock g.clock refl))) later)
           ])
@@ -74,20 +74,20 @@ module _ (c : Circuit) (good : IsWellFormed c) where
 
   pub ready : Ready c [] (by_depth c)
   ready =
-      let walk = gate_order_is_walk c good in
-      let same = values_mapped chain_cell c.gaters (gate_order c.gaters) in
+      let walk = gater_order_is_walk c good in
+      let same = values_mapped chain_cell c.gaters (gater_order c.gaters) in
       ready_by [] (by_depth c) (subst IsOrdered same walk.ordered)
       (λ x gate. inr (subst (λ cells. is_in (outputs cells) x ≡ true) same (walk.whole x (ap (λ xs. is_in xs x) (chain_outputs c.gaters) ∙ gate))))
-      (λ j g at. item_there c.gaters (gate_order c.gaters) j g at)
+      (λ j g at. item_there c.gaters (gater_order c.gaters) j g at)
 
   -- each gating cell is among them
-  pub all_taken : (x : ℕ) → is_in (gate_nets c) x ≡ true → is_in (map (λ (g : GatingCell ℕ). g.output) (by_depth c)) x ≡ true
+  pub all_taken : (x : ℕ) → is_in (gater_outputs c) x ≡ true → is_in (map (λ (g : GatingCell ℕ). g.output) (by_depth c)) x ≡ true
   all_taken x gate =
-      let walk = gate_order_is_walk c good in
-      let same = values_mapped chain_cell c.gaters (gate_order c.gaters) in
+      let walk = gater_order_is_walk c good in
+      let same = values_mapped chain_cell c.gaters (gater_order c.gaters) in
       let there : is_in (outputs (chain (by_depth c))) x ≡ true = subst (λ cells. is_in (outputs cells) x ≡ true) same (walk.whole x (ap (λ xs. is_in xs x) (chain_outputs c.gaters) ∙ gate)) in
       sym (ap (λ xs. is_in xs x) (chain_outputs (by_depth c))) ∙ there
 
 -- there are no more of them than gating cells
 pub depths_few : (c : Circuit) → length (by_depth c) ≤ length c.gaters
-depths_few c = let a = values_few c.gaters (gate_order c.gaters) in let b = walk_long (chain c.gaters) in let d = length-map c.gaters chain_cell in omega (arith, a, b, d)
+depths_few c = let a = values_few c.gaters (gater_order c.gaters) in let b = walk_long (chain c.gaters) in let d = length-map c.gaters chain_cell in omega (arith, a, b, d)

@@ -7,12 +7,12 @@ use Rattle.std.proofs.lemmas.Bool.{both_ways, false_from_ne_true}
 use Rattle.std.proofs.lemmas.List.{append-nil, length-append, length-map}
 use Rattle.std.proofs.lemmas.Option.{same_Some}
 use Rattle.cg_netlist.specs.Circuit.{Circuit, GatingCell, LogicCell, RegisterCell, asked_nets, cell_nets, clock_nets, data_inputs}
-use Rattle.cg_netlist.specs.Circuit.{gate_nets, net_order, register_nets, shown_nets, used_nets}
+use Rattle.cg_netlist.specs.Circuit.{gater_outputs, net_order, register_nets, shown_nets, used_nets}
 use Rattle.cg_net.specs.NetSets.{is_in}
 use Rattle.cg_netlist.specs.Netlist.{IsNetlist}
 use Rattle.cg_netlist.specs.WellFormed.{IsWellFormed}
 use Rattle.cg_netlist.proofs.Driven.{distinct_range, in_range, is_in-range}
-use Rattle.cg_netlist.proofs.Given.{clock_given, clock_no_gate, data_given, distinct_given, driver_within, given_driver, in_option}
+use Rattle.cg_netlist.proofs.Given.{clock_given, clock_no_gater, data_given, distinct_given, driver_within, given_driver, in_option}
 use Rattle.cg_net.proofs.Members.{All-member, distinct_apart, distinct_append, distinct_left, distinct_right, is_in_cases}
 use Rattle.cg_net.proofs.Members.{is_in_left, is_in_right, member_at, place_of_member}
 use Rattle.cg_netlist.proofs.OrderLemmas.{length-range_with_len}
@@ -52,7 +52,7 @@ module _ (c : Circuit) (whole : IsNetlist c) where
   front = c.inputs ++ late ++ cell_nets c
 
   -- the order of the netlist, and the order of what is kept
-  all_once : IsDistinct nat_eq (front ++ gate_nets c ++ register_nets c)
+  all_once : IsDistinct nat_eq (front ++ gater_outputs c ++ register_nets c)
   all_once = subst (IsDistinct nat_eq) (sym whole.in_order) (distinct_range n 0)
 
   pub order_is : kept_nets c ≡ front ++ register_nets c
@@ -60,16 +60,16 @@ module _ (c : Circuit) (whole : IsNetlist c) where
 
   pub order_once : IsDistinct nat_eq (kept_nets c)
   order_once = subst (IsDistinct nat_eq) (sym order_is)
-      (distinct_append front (register_nets c) (distinct_left front (gate_nets c) (distinct_left (front ++ gate_nets c) (register_nets c) all_once)) (distinct_right (front ++ gate_nets c) (register_nets c) all_once)
-      (λ x among. distinct_apart (front ++ gate_nets c) (register_nets c) all_once x (is_in_left front (gate_nets c) x among)))
+      (distinct_append front (register_nets c) (distinct_left front (gater_outputs c) (distinct_left (front ++ gater_outputs c) (register_nets c) all_once)) (distinct_right (front ++ gater_outputs c) (register_nets c) all_once)
+      (λ x among. distinct_apart (front ++ gater_outputs c) (register_nets c) all_once x (is_in_left front (gater_outputs c) x among)))
 
   -- each gating cell takes a net away
   pub order_long : length (kept_nets c) + length c.gaters ≡ length c.names
   order_long =
       let a : length (kept_nets c) ≡ length front + length (register_nets c) = ap length order_is ∙ length-append front (register_nets c) in
-      let b : length (front ++ gate_nets c ++ register_nets c) ≡ length front + length (gate_nets c) + length (register_nets c) = length-append (front ++ gate_nets c) (register_nets c) ∙ ap (λ k. k + length (register_nets c)) (length-append front (gate_nets c)) in
-      let d : length (gate_nets c) ≡ length c.gaters = length-map c.gaters (λ (g : GatingCell ℕ). g.output) in
-      let e : length (front ++ gate_nets c ++ register_nets c) ≡ length c.names = ap length whole.in_order ∙ length-range_with_len n 0 in
+      let b : length (front ++ gater_outputs c ++ register_nets c) ≡ length front + length (gater_outputs c) + length (register_nets c) = length-append (front ++ gater_outputs c) (register_nets c) ∙ ap (λ k. k + length (register_nets c)) (length-append front (gater_outputs c)) in
+      let d : length (gater_outputs c) ≡ length c.gaters = length-map c.gaters (λ (g : GatingCell ℕ). g.output) in
+      let e : length (front ++ gater_outputs c ++ register_nets c) ≡ length c.names = ap length whole.in_order ∙ length-range_with_len n 0 in
       omega (arith, a, b, d, e)
 
   front_kept : (x : ℕ) → is_in front x ≡ true → is_in (kept_nets c) x ≡ true
@@ -79,19 +79,19 @@ module _ (c : Circuit) (whole : IsNetlist c) where
   register_kept x among = ap (λ xs. is_in xs x) order_is ∙ is_in_right front (register_nets c) x among
 
   -- every net but those of gating cells is kept
-  pub kept_of : (x : ℕ) → x < length c.names → is_in (gate_nets c) x ≡ false → is_in (kept_nets c) x ≡ true
+  pub kept_of : (x : ℕ) → x < length c.names → is_in (gater_outputs c) x ≡ false → is_in (kept_nets c) x ≡ true
   kept_of x below out =
       let among : is_in (net_order c) x ≡ true = ap (λ xs. is_in xs x) whole.in_order ∙ is_in-range n 0 x (omega arith) (omega (arith, below)) in
-      elim (is_in_cases (front ++ gate_nets c) (register_nets c) x among) [
-        | inl more ↦ elim (is_in_cases front (gate_nets c) x more) [ inl early ↦ front_kept x early | inr gate ↦ absurd (both_ways (is_in (gate_nets c) x) out gate) ]
+      elim (is_in_cases (front ++ gater_outputs c) (register_nets c) x among) [
+        | inl more ↦ elim (is_in_cases front (gater_outputs c) x more) [ inl early ↦ front_kept x early | inr gate ↦ absurd (both_ways (is_in (gater_outputs c) x) out gate) ]
         | inr register ↦ register_kept x register
       ]
 
   pub kept_within : (x : ℕ) → is_in (kept_nets c) x ≡ true → x < length c.names
   kept_within x among =
       let there : is_in (net_order c) x ≡ true = elim (is_in_cases front (register_nets c) x (sym (ap (λ xs. is_in xs x) order_is) ∙ among)) [
-        | inl early ↦ is_in_left (front ++ gate_nets c) (register_nets c) x (is_in_left front (gate_nets c) x early)
-        | inr register ↦ is_in_right (front ++ gate_nets c) (register_nets c) x register
+        | inl early ↦ is_in_left (front ++ gater_outputs c) (register_nets c) x (is_in_left front (gater_outputs c) x early)
+        | inr register ↦ is_in_right (front ++ gater_outputs c) (register_nets c) x register
       ] in
       let range = in_range n 0 x (sym (ap (λ xs. is_in xs x) whole.in_order) ∙ there) in
       omega (arith, range.1)
@@ -101,7 +101,7 @@ module _ (c : Circuit) (whole : IsNetlist c) where
   input_kept x among = front_kept x (is_in_left (c.inputs ++ late) (cell_nets c) x (is_in_left c.inputs late x among))
 
   pub clock_kept : (x : ℕ) → c.clock ≡ Some x → is_in (kept_nets c) x ≡ true
-  clock_kept x is = kept_of x (driver_within c good.driven x (given_driver c x (clock_given c x is))) (clock_no_gate c good.driven x is)
+  clock_kept x is = kept_of x (driver_within c good.driven x (given_driver c x (clock_given c x is))) (clock_no_gater c good.driven x is)
 
   pub clock_list_kept : (x : ℕ) → is_in (option_to_list c.clock) x ≡ true → is_in (kept_nets c) x ≡ true
   clock_list_kept x among = clock_kept x (in_option c.clock x among)
@@ -111,11 +111,11 @@ module _ (c : Circuit) (whole : IsNetlist c) where
 
   pub data_kept : (x : ℕ) → is_in (data_inputs c) x ≡ true → is_in (kept_nets c) x ≡ true
   data_kept x among = kept_of x (driver_within c good.driven x (given_driver c x (data_given c x among)))
-      (distinct_apart (data_inputs c ++ option_to_list c.clock) (gate_nets c) (distinct_left (data_inputs c ++ option_to_list c.clock ++ gate_nets c) (register_nets c) (distinct_given c good.driven)) x (is_in_left (data_inputs c) (option_to_list c.clock) x among))
+      (distinct_apart (data_inputs c ++ option_to_list c.clock) (gater_outputs c) (distinct_left (data_inputs c ++ option_to_list c.clock ++ gater_outputs c) (register_nets c) (distinct_given c good.driven)) x (is_in_left (data_inputs c) (option_to_list c.clock) x among))
 
   pub used_kept : (x : ℕ) → is_in (used_nets c) x ≡ true → is_in (kept_nets c) x ≡ true
-  used_kept x among = kept_of x (All-member (λ net. net < length c.names) (used_nets c) x good.used among) (false_from_ne_true (is_in (gate_nets c) x) (λ gate.
-      both_ways (is_in (used_nets c) x) (good.apart x (is_in_right (option_to_list c.clock) (gate_nets c) x gate)) among))
+  used_kept x among = kept_of x (All-member (λ net. net < length c.names) (used_nets c) x good.used among) (false_from_ne_true (is_in (gater_outputs c) x) (λ gate.
+      both_ways (is_in (used_nets c) x) (good.apart x (is_in_right (option_to_list c.clock) (gater_outputs c) x gate)) among))
 
   -- what is used without the gating cells
   pub still_used : (x : ℕ) → is_in (used_nets (ungated c)) x ≡ true → is_in (used_nets c) x ≡ true
@@ -147,10 +147,10 @@ module _ (c : Circuit) (whole : IsNetlist c) where
   ]
 
   pub clock_there : (x : ℕ) → is_in (clock_nets c) x ≡ true → c.clock ≡ Some (unwrap_or c.clock 0)
-  clock_there x among = elim (is_in_cases (option_to_list c.clock) (gate_nets c) x among) [
+  clock_there x among = elim (is_in_cases (option_to_list c.clock) (gater_outputs c) x among) [
     | inl clk ↦ let is : c.clock ≡ Some x = in_option c.clock x clk in is ∙ ap (λ o. Some (unwrap_or o 0)) (sym is)
     | inr gate ↦
-        let place = place_of_member (gate_nets c) x gate in
+        let place = place_of_member (gater_outputs c) x gate in
         let g = under_map (λ (g : GatingCell ℕ). g.output) c.gaters place.0 x place.1 in
         chain_clock (suc (slice_index good.numbers place.0)) place.0 g.0 g.1 (omega arith)
   ]

@@ -5,7 +5,7 @@ use Rattle.std.specs.Option.{option_flatten, option_map}
 use Rattle.std.proofs.lemmas.Bool.{or_cases, or_left, or_right}
 use Rattle.std.proofs.lemmas.List.{length-map}
 use Rattle.std.proofs.lemmas.Option.{slice_get-map, slice_get_within}
-use Rattle.cg_netlist.specs.Circuit.{Circuit, GatingCell, RegisterCell, gate_nets}
+use Rattle.cg_netlist.specs.Circuit.{Circuit, GatingCell, RegisterCell, gater_outputs}
 use Rattle.cg_net.specs.NetSets.{is_in}
 use Rattle.cg_netlist.specs.Wiring.{map_register}
 use Rattle.cg_machine.specs.Machine.{IsMachine, IsNet, MachineData, enable_of}
@@ -41,8 +41,8 @@ module _ (c : Circuit) (prefix : List ℕ) (can : CanExtract c prefix) where
   abbrev is : Lifts c prefix can l
   is = lifting_lifts c prefix can
 
-  pub gate_taken : (x : ℕ) → is_in (gate_nets c) x ≡ true → is_in (taken (lifting c prefix).enables) x ≡ true
-  gate_taken x among = entries_has c (unlifted c prefix) (by_depth c) x (inr (all_taken c can.netlist.well_formed x among))
+  pub gater_taken : (x : ℕ) → is_in (gater_outputs c) x ≡ true → is_in (taken (lifting c prefix).enables) x ≡ true
+  gater_taken x among = entries_has c (unlifted c prefix) (by_depth c) x (inr (all_taken c can.netlist.well_formed x among))
 
   pub start_count : length (bare c).registers ≡ length c.registers
   start_count = length-map (map (on_clock c) c.registers) (map_register (number_of c)) ∙ length-map c.registers (on_clock c)

@@ -6,7 +6,7 @@ use Rattle.std.specs.Option.{option_map, option_to_list}
 use Rattle.std.proofs.lemmas.Bool.{both_ways, eq-eqb, or_left, or_right}
 use Rattle.std.proofs.lemmas.List.{length-map}
 use Rattle.std.proofs.lemmas.Option.{slice_get-get_or, slice_get-map}
-use Rattle.cg_netlist.specs.Circuit.{Circuit, LogicCell, RegisterCell, data_inputs, gate_nets, register_nets, used_nets}
+use Rattle.cg_netlist.specs.Circuit.{Circuit, LogicCell, RegisterCell, data_inputs, gater_outputs, register_nets, used_nets}
 use Rattle.cg_net.specs.NetSets.{is_in}
 use Rattle.cg_netlist.specs.Moment.{Settles, bit, function_value, register_bits, shown_bits, values_at}
 use Rattle.cg_netlist.specs.Wiring.{map_cell, map_register}
@@ -63,7 +63,7 @@ module _ (c : Circuit) (prefix : List ℕ) (can : CanExtract c prefix) where
         let old = mapped_at f c.clock net is in
         ap (slice_get (moved c nets)) (sym old.2) ∙ (moved_get nets there.long old.0 (clock_kept c whole old.0 old.1) ∙ there.shows_clock old.0 old.1);
     shows_inputs = ap (values_at (moved c nets)) (data_is c whole) ∙ (moved_values nets there.long (data_inputs c) (data_kept c whole) ∙ there.shows_inputs);
-    shows_gates = refl;
+    shows_gaters = refl;
     shows_state =
         ap (values_at (moved c nets)) (registers_renumbered f (ungated c).registers ∙ ap (map f) (shown_on_clock c c.registers))
         ∙ (moved_values nets there.long (register_nets c) (register_kept c whole) ∙ (there.shows_state ∙ sym (bits_same c f c.registers state)));
@@ -105,7 +105,7 @@ module _ (c : Circuit) (prefix : List ℕ) (can : CanExtract c prefix) where
         let apart : (bare c).clock ≢ Some (f x) = λ clk.
         let old = mapped_at f c.clock (f x) clk in
         let same : old.0 ≡ x = same_number c whole old.0 x (clock_kept c whole old.0 old.1) kept old.2 in
-        both_ways (is_in (used_nets c) old.0) (whole.well_formed.apart old.0 (is_in_left (option_to_list c.clock) (gate_nets c) old.0 (from_option c.clock old.0 old.1))) (ap (is_in (used_nets c)) same ∙ among) in
+        both_ways (is_in (used_nets c) old.0) (whole.well_formed.apart old.0 (is_in_left (option_to_list c.clock) (gater_outputs c) old.0 (from_option c.clock old.0 old.1))) (ap (is_in (used_nets c)) same ∙ among) in
         from_low low.low low.settles (f x) (number_within c whole x kept) ∙ (low.apart (f x) apart ∙ moved_get nets there.long x kept)
 
     pub shown_values : (xs : List ℕ) → ((x : ℕ) → is_in xs x ≡ true → is_in (used_nets c) x ≡ true) → values_at (values (lifted c prefix) state inputs) (map (number_of c) xs) ≡ values_at nets xs

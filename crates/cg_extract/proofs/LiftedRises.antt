@@ -6,19 +6,19 @@ use Rattle.std.specs.List.{list_any}
 use Rattle.std.specs.Option.{option_to_list}
 use Rattle.std.proofs.lemmas.Bool.{both_ways, eq-eqb, eqb-true, or_left}
 use Rattle.std.proofs.lemmas.Option.{same_Some, slice_get_within, unwrap_or-slice_get}
-use Rattle.cg_netlist.specs.Circuit.{Circuit, GatingCell, RegisterCell, asked_nets, clock_nets, data_inputs, gate_nets, used_nets}
+use Rattle.cg_netlist.specs.Circuit.{Circuit, GatingCell, RegisterCell, asked_nets, clock_nets, data_inputs, gater_outputs, used_nets}
 use Rattle.cg_net.specs.NetSets.{is_in}
-use Rattle.cg_netlist.specs.History.{Moment, MomentFollows, Tick, gate_bit, latches_before, next_latch, rises}
+use Rattle.cg_netlist.specs.History.{Moment, MomentFollows, Tick, gater_bit, latches_before, next_latch, rises}
 use Rattle.cg_netlist.specs.Moment.{Settles, bit, zip_with}
 use Rattle.cg_netlist.proofs.Clocks.{Clocked, clocked_from}
-use Rattle.cg_netlist.proofs.Given.{clock_no_gate, in_option}
+use Rattle.cg_netlist.proofs.Given.{clock_no_gater, in_option}
 use Rattle.cg_net.proofs.Members.{is_in_cases}
 use Rattle.cg_netlist.proofs.Values.{element_at, length-zip_with, zip_with_at}
 use Rattle.cg_machine.proofs.Lists.{all_at}
 use Rattle.cg_machine.specs.Machine.{load, values}
 use Rattle.cg_netlist.proofs.Used.{asked_is_used}
-use Rattle.cg_extract.proofs.Lifts.{AreLifted, IsLifted, enable_gate, lifting_lifts, taken_found}
-use Rattle.cg_extract.proofs.LiftedMachine.{gate_taken}
+use Rattle.cg_extract.proofs.Lifts.{AreLifted, IsLifted, enable_gater, lifting_lifts, taken_found}
+use Rattle.cg_extract.proofs.LiftedMachine.{gater_taken}
 use Rattle.cg_extract.proofs.LiftedMoments.{is_inputs, is_state, shown}
 use Rattle.cg_extract.specs.Lifted.{CanExtract, HasNoTests, enable_under, lifted, lifting, number_of}
 use Rattle.std.proofs.Math.Bool.{and-false}
@@ -28,10 +28,10 @@ same_gate : (a b lp lq : Bool) → b ≡ a → (b ≡ true → lq ≡ lp) → (l
 same_gate true b lp lq is held = ap (λ z. lq && z) is ∙ ap (λ l. l && true) (held is)
 same_gate false b lp lq is held = ap (λ z. lq && z) is ∙ (and-false lq ∙ sym (and-false lp))
 
-risen_gate : (b lq enable : Bool) → (b ≡ true → lq ≡ enable) → (lq && b) ≡ (b && enable)
-risen_gate true true enable held = held refl
-risen_gate true false enable held = held refl
-risen_gate false lq enable held = and-false lq
+risen_gater : (b lq enable : Bool) → (b ≡ true → lq ≡ enable) → (lq && b) ≡ (b && enable)
+risen_gater true true enable held = held refl
+risen_gater true false enable held = held refl
+risen_gater false lq enable held = and-false lq
 
 -- a clock net at two moments running
 rise_bit : (a z was now loads : Bool) → (a ≡ false → was ≡ false) → (z ≡ false → now ≡ false) → (a ≡ true → z ≡ true → now ≡ was) → (a ≡ false → z ≡ true → now ≡ loads) → (not was && now) ≡ ((not a && z) && loads)
@@ -50,7 +50,7 @@ module _ (c : Circuit) (prefix : List ℕ) (can : CanExtract c prefix) (untested
 
   -- what a moment tells
   pub record Tells (tick : Tick) (p : Moment) : Type 0 where
-    pub settles : Settles c tick.clock tick.inputs p.state (zip_with (gate_bit p.nets) c.gaters p.latches) p.nets
+    pub settles : Settles c tick.clock tick.inputs p.state (zip_with (gater_bit p.nets) c.gaters p.latches) p.nets
     pub latches_long : length p.latches ≡ length c.gaters
     pub state_long : length p.state ≡ length c.registers
     pub inputs_long : length tick.inputs ≡ length (data_inputs c)
@@ -118,23 +118,23 @@ module _ (c : Circuit) (prefix : List ℕ) (can : CanExtract c prefix) (untested
         }
 
     -- a gating cell, whose clock pin does so
-    gate_moves : (j : ℕ) (g : GatingCell ℕ) (o : Option ℕ) (e : ℕ) → slice_get c.gaters j ≡ Some g → Moves g.clock o → bit vs e ≡ (load vs o && bit vs (number_of c g.enable)) → Moves g.output (Some e)
-    gate_moves j g o e at pin shows =
+    gater_moves : (j : ℕ) (g : GatingCell ℕ) (o : Option ℕ) (e : ℕ) → slice_get c.gaters j ≡ Some g → Moves g.clock o → bit vs e ≡ (load vs o && bit vs (number_of c g.enable)) → Moves g.output (Some e)
+    gater_moves j g o e at pin shows =
         let within = slice_get_within c.gaters j g at in
         let lp = element_at p.latches j (omega (arith, within, before.latches_long)) in
         let lq = element_at q.latches j (omega (arith, within, now.latches_long)) in
-        let was : bit p.nets g.output ≡ (lp.0 && bit p.nets g.clock) = (clocks kp p before).on_gates j g lp.0 at lp.1 in
-        let here : bit q.nets g.output ≡ (lq.0 && bit q.nets g.clock) = (clocks k q now).on_gates j g lq.0 at lq.1 in
+        let was : bit p.nets g.output ≡ (lp.0 && bit p.nets g.clock) = (clocks kp p before).gater_outputs_on j g lp.0 at lp.1 in
+        let here : bit q.nets g.output ≡ (lq.0 && bit q.nets g.clock) = (clocks k q now).gater_outputs_on j g lq.0 at lq.1 in
         let held : bit q.nets g.clock ≡ true → lq.0 ≡ lp.0 = λ high. keeps start (Some p) k q moves before.latches_long j g lq.0 lp.0 at lq.1 lp.1 high in
         let used : is_in (used_nets c) g.enable ≡ true = asked_is_used c j g.enable g at (or_left (nat_eq g.enable g.enable) (is_in (option_to_list g.test) g.enable) (eq-eqb g.enable g.enable refl)) in
         let enable : bit vs (number_of c g.enable) ≡ bit p.nets g.enable =
-        shown_bit (number_of c g.enable) g.enable (shown c prefix can kp.clock kp.inputs p.state (zip_with (gate_bit p.nets) c.gaters p.latches) p.nets before.settles before.state_long before.inputs_long g.enable used) in
+        shown_bit (number_of c g.enable) g.enable (shown c prefix can kp.clock kp.inputs p.state (zip_with (gater_bit p.nets) c.gaters p.latches) p.nets before.settles before.state_long before.inputs_long g.enable used) in
         record {
           low = λ low. was ∙ (ap (λ b. lp.0 && b) (pin.low low) ∙ and-false lp.0);
           low_now = λ low. here ∙ (ap (λ b. lq.0 && b) (pin.low_now low) ∙ and-false lq.0);
           stays = λ high high_now. here ∙ (same_gate (bit p.nets g.clock) (bit q.nets g.clock) lp.0 lq.0 (pin.stays high high_now) held ∙ sym was);
           rises = λ low high.
-              here ∙ (risen_gate (bit q.nets g.clock) lq.0 (bit p.nets g.enable) (λ up. held up ∙ before.follows j g lp.0 at lp.1 (pin.low low))
+              here ∙ (risen_gater (bit q.nets g.clock) lq.0 (bit p.nets g.enable) (λ up. held up ∙ before.follows j g lp.0 at lp.1 (pin.low low))
               ∙ (ap (λ b. b && bit p.nets g.enable) (pin.rises low high) ∙ (ap (λ b. load vs o && b) (sym enable) ∙ sym shows)));
         }
       where
@@ -148,7 +148,7 @@ module _ (c : Circuit) (prefix : List ℕ) (can : CanExtract c prefix) (untested
       where
         no_enable : (net : ℕ) → c.clock ≡ Some net → (o : Option ℕ) → enable_under entries net ≡ o → o ≡ None
         no_enable net clk None is = refl
-        no_enable net clk (Some e) is = absurd (both_ways (is_in (gate_nets c) net) (clock_no_gate c whole.well_formed.driven net clk) (enable_gate c (lifting c prefix).machine entries net e all.1 is))
+        no_enable net clk (Some e) is = absurd (both_ways (is_in (gater_outputs c) net) (clock_no_gater c whole.well_formed.driven net clk) (enable_gater c (lifting c prefix).machine entries net e all.1 is))
 
         pin_moves : (is : IsLifted c (lifting c prefix).machine entries entry) → ((net e : ℕ) → enable_under entries net ≡ Some e → Moves net (Some e)) → Moves is.gater.clock (enable_under entries is.gater.clock)
         pin_moves is rest = elim (is.pin) [
@@ -160,28 +160,28 @@ module _ (c : Circuit) (prefix : List ℕ) (can : CanExtract c prefix) (untested
         go true here is rest =
             let one = all.0 in
             let same : one.gater.output ≡ net = one.output ∙ sym (eqb-true net entry.0 here) in
-            let shows = one.shows p.state kp.inputs (is_state c prefix can kp.clock kp.inputs p.state (zip_with (gate_bit p.nets) c.gaters p.latches) p.nets before.settles before.state_long before.inputs_long)
-            (is_inputs c prefix can kp.clock kp.inputs p.state (zip_with (gate_bit p.nets) c.gaters p.latches) p.nets before.settles before.state_long before.inputs_long) in
+            let shows = one.shows p.state kp.inputs (is_state c prefix can kp.clock kp.inputs p.state (zip_with (gater_bit p.nets) c.gaters p.latches) p.nets before.settles before.state_long before.inputs_long)
+            (is_inputs c prefix can kp.clock kp.inputs p.state (zip_with (gater_bit p.nets) c.gaters p.latches) p.nets before.settles before.state_long before.inputs_long) in
             subst (λ y. Moves y (Some e)) same (subst (λ y. Moves one.gater.output (Some y)) (same_Some entry.1 e is)
-            (gate_moves one.number one.gater (enable_under entries one.gater.clock) entry.1 one.at (pin_moves one rest) shows))
+            (gater_moves one.number one.gater (enable_under entries one.gater.clock) entry.1 one.at (pin_moves one rest) shows))
         go false here is rest = rest net e is
 
     -- every clock net
     net_moves : (net : ℕ) → is_in (clock_nets c) net ≡ true → Moves net (enable_under (lifting c prefix).enables net)
     net_moves net among =
         let is = lifting_lifts c prefix can in
-        elim (is_in_cases (option_to_list c.clock) (gate_nets c) net among) [
+        elim (is_in_cases (option_to_list c.clock) (gater_outputs c) net among) [
           | inl clk ↦
               let here = in_option c.clock net clk in
               subst (Moves net) (sym (none here (enable_under (lifting c prefix).enables net) refl)) (clock_moves net here)
           | inr gate ↦
-              let found = taken_found (lifting c prefix).enables net (gate_taken c prefix can net gate) in
+              let found = taken_found (lifting c prefix).enables net (gater_taken c prefix can net gate) in
               subst (Moves net) (sym found.1) (taken_moves (lifting c prefix).enables is.all net found.0 found.1)
         ]
       where
         none : c.clock ≡ Some net → (o : Option ℕ) → enable_under (lifting c prefix).enables net ≡ o → o ≡ None
         none clk None is = refl
-        none clk (Some e) is = absurd (both_ways (is_in (gate_nets c) net) (clock_no_gate c whole.well_formed.driven net clk) (enable_gate c (lifting c prefix).machine (lifting c prefix).enables net e (lifting_lifts c prefix can).all is))
+        none clk (Some e) is = absurd (both_ways (is_in (gater_outputs c) net) (clock_no_gater c whole.well_formed.driven net clk) (enable_gater c (lifting c prefix).machine (lifting c prefix).enables net e (lifting_lifts c prefix can).all is))
 
     -- a register rises where the clock rises and it is loaded
     pub register_rises : (r : ℕ) (cell : RegisterCell ℕ ℕ) → slice_get c.registers r ≡ Some cell

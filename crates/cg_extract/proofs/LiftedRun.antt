@@ -5,7 +5,7 @@ use Rattle.std.specs.Option.{option_map}
 use Rattle.std.proofs.lemmas.List.{length-replicate}
 use Rattle.std.proofs.lemmas.Option.{slice_get-map, slice_get_within}
 use Rattle.cg_netlist.specs.Circuit.{Circuit, RegisterCell}
-use Rattle.cg_netlist.specs.History.{AreTicks, IsLawful, LawfulFrom, Moment, MomentFollows, Tick, gate_bit, next_bit, next_value}
+use Rattle.cg_netlist.specs.History.{AreTicks, IsLawful, LawfulFrom, Moment, MomentFollows, Tick, gater_bit, next_bit, next_value}
 use Rattle.cg_netlist.specs.History.{outputs_of}
 use Rattle.cg_netlist.specs.Moment.{bit, values_at, zip_with}
 use Rattle.cg_netlist.specs.Wiring.{map_register}
@@ -39,7 +39,7 @@ module _ (c : Circuit) (prefix : List ℕ) (can : CanExtract c prefix) (untested
 
   outputs_same : (k : Tick) (q : Moment) → Tells c prefix can untested k q → values_at q.nets c.outputs ≡ outputs_at m q.state k.inputs
   outputs_same k q is =
-      sym (shown_values c prefix can k.clock k.inputs q.state (zip_with (gate_bit q.nets) c.gaters q.latches) q.nets is.settles is.state_long is.inputs_long c.outputs (λ x among. output_is_used c x among))
+      sym (shown_values c prefix can k.clock k.inputs q.state (zip_with (gater_bit q.nets) c.gaters q.latches) q.nets is.settles is.state_long is.inputs_long c.outputs (λ x among. output_is_used c x among))
       ∙ ap (values_at (values m q.state k.inputs)) (sym (lifting_lifts c prefix can).extends.outputs)
 
   -- two moments running
@@ -65,7 +65,7 @@ module _ (c : Circuit) (prefix : List ℕ) (can : CanExtract c prefix) (untested
     stepped_at r cell own at has =
         let within = slice_get_within c.registers r cell at in
         let inputs : values_at vs (map f cell.inputs) ≡ values_at p.nets cell.inputs =
-        shown_values c prefix can kp.clock kp.inputs p.state (zip_with (gate_bit p.nets) c.gaters p.latches) p.nets before.settles before.state_long before.inputs_long cell.inputs (λ x among. data_is_used c r x cell at among) in
+        shown_values c prefix can kp.clock kp.inputs p.state (zip_with (gater_bit p.nets) c.gaters p.latches) p.nets before.settles before.state_long before.inputs_long cell.inputs (λ x among. data_is_used c r x cell at among) in
         let own_is : bit p.state r ≡ own = bit_shown p.state r own has in
         each_get m (next m vs p.state) r (omega (arith, within, registers_long))
         ∙ (ap (λ (o : Option (RegisterCell ℕ ℕ)). Some (next_of o (enable_of m r) vs (bit p.state r))) (register_is r cell at)

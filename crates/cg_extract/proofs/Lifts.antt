@@ -11,7 +11,7 @@ use Rattle.cg_cell.specs.Cover.{cover_value}
 use Rattle.cg_cell.specs.declared.fit.FitKind.TheVariants.{And2}
 use Rattle.cg_limit.specs.declared.Limit.{Limit}
 use Rattle.cg_limit.specs.declared.Limit.TheVariants.{Nets}
-use Rattle.cg_netlist.specs.Circuit.{Circuit, GatingCell, gate_nets, used_nets}
+use Rattle.cg_netlist.specs.Circuit.{Circuit, GatingCell, gater_outputs, used_nets}
 use Rattle.cg_net.specs.NetSets.{is_in}
 use Rattle.cg_netlist.specs.Moment.{bit}
 use Rattle.cg_netlist.specs.WellFormed.{IsWellFormed}
@@ -83,14 +83,14 @@ module _ (c : Circuit) where
       go false is rest = rest is
 
   -- an enable stands beside the output of a gating cell alone
-  pub enable_gate : (m : MachineData) (entries : List (ℕ × ℕ)) (net e : ℕ) → AreLifted m entries → enable_under entries net ≡ Some e → is_in (gate_nets c) net ≡ true
-  enable_gate m [] net e all is = absurd (cc)
-  enable_gate m (entry ∷ entries) net e all is = go (nat_eq net entry.0) refl is (enable_gate m entries net e all.1)
+  pub enable_gater : (m : MachineData) (entries : List (ℕ × ℕ)) (net e : ℕ) → AreLifted m entries → enable_under entries net ≡ Some e → is_in (gater_outputs c) net ≡ true
+  enable_gater m [] net e all is = absurd (cc)
+  enable_gater m (entry ∷ entries) net e all is = go (nat_eq net entry.0) refl is (enable_gater m entries net e all.1)
     where
-      go : (b : Bool) → nat_eq net entry.0 ≡ b → cond b (Some entry.1) (enable_under entries net) ≡ Some e → (enable_under entries net ≡ Some e → is_in (gate_nets c) net ≡ true) → is_in (gate_nets c) net ≡ true
+      go : (b : Bool) → nat_eq net entry.0 ≡ b → cond b (Some entry.1) (enable_under entries net) ≡ Some e → (enable_under entries net ≡ Some e → is_in (gater_outputs c) net ≡ true) → is_in (gater_outputs c) net ≡ true
       go true here is rest =
           let same : all.0.gater.output ≡ net = all.0.output ∙ sym (eqb-true net entry.0 here) in
-          subst (λ y. is_in (gate_nets c) y ≡ true) same (member_at (gate_nets c) all.0.number all.0.gater.output (at_map (λ (g : GatingCell ℕ). g.output) c.gaters all.0.number all.0.gater all.0.at))
+          subst (λ y. is_in (gater_outputs c) y ≡ true) same (member_at (gater_outputs c) all.0.number all.0.gater.output (at_map (λ (g : GatingCell ℕ). g.output) c.gaters all.0.number all.0.gater all.0.at))
       go false here is rest = rest is
 
   -- all of it stays where gates are added
@@ -143,7 +143,7 @@ module _ (c : Circuit) (prefix : List ℕ) (can : CanExtract c prefix) where
     apart = λ clk.
         let old = mapped_at (number_of c) c.clock (number_of c g.enable) clk in
         let same : old.0 ≡ g.enable = same_number c can.netlist old.0 g.enable (clock_kept c can.netlist old.0 old.1) (used_kept c can.netlist g.enable (enable_used k g at)) old.2 in
-        both_ways (is_in (used_nets c) old.0) (good.apart old.0 (is_in_left (option_to_list c.clock) (gate_nets c) old.0 (from_option c.clock old.0 old.1))) (ap (is_in (used_nets c)) same ∙ enable_used k g at);
+        both_ways (is_in (used_nets c) old.0) (good.apart old.0 (is_in_left (option_to_list c.clock) (gater_outputs c) old.0 (from_option c.clock old.0 old.1))) (ap (is_in (used_nets c)) same ∙ enable_used k g at);
   }
 
   -- adding a gate takes at most one net, and where there is room it meets no limit

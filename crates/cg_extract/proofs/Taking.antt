@@ -8,14 +8,14 @@ use Rattle.std.proofs.lemmas.Bool.{both_ways, cases_Bool, eq-eqb, eqb-true}
 use Rattle.std.proofs.lemmas.List.{append-nil, drop_all, length-map, length-replicate, length-set, length-take-le, map-append}
 use Rattle.std.proofs.lemmas.List.{take-append-drop, take_all}
 use Rattle.std.proofs.lemmas.Option.{slice_get_within}
-use Rattle.cg_netlist.specs.Chains.{chain, chain_cell, gate_order}
-use Rattle.cg_netlist.specs.Circuit.{Circuit, GatingCell, RegisterCell, gate_nets}
+use Rattle.cg_netlist.specs.Chains.{chain, chain_cell, gater_order}
+use Rattle.cg_netlist.specs.Circuit.{Circuit, GatingCell, RegisterCell, gater_outputs}
 use Rattle.cg_net.specs.NetSets.{is_in}
 use Rattle.cg_netlist.specs.Moment.{values_at}
 use Rattle.cg_netlist.proofs.CellFits.{walk_within}
 use Rattle.cg_netlist.proofs.Clocks.{pin_clocked}
 use Rattle.cg_netlist.proofs.DriverTable.{gater_net_within}
-use Rattle.cg_netlist.proofs.Given.{clock_given, driver_within, gate_given, given_driver, in_option}
+use Rattle.cg_netlist.proofs.Given.{clock_given, driver_within, gater_given, given_driver, in_option}
 use Rattle.cg_net.proofs.Members.{is_in_cases, member_at}
 use Rattle.cg_net.proofs.TableLemmas.{slice_get-set_other, slice_get-set_same, take_next}
 use Rattle.cg_netlist.proofs.Used.{asked_is_used}
@@ -67,7 +67,7 @@ same_prefix m (Some e) own = go (find_gate m And2 (e ∷ own ∷ []))
 
 module _ (c : Circuit) (prefix : List ℕ) (can : CanExtract c prefix) where
   abbrev order : List ℕ
-  order = gate_order c.gaters
+  order = gater_order c.gaters
 
   -- some are taken, and the others stay ready
   front_lifts : (l : Lifting) (gs rest : List (GatingCell ℕ)) → Lifts c prefix can l → Ready c (taken l.enables) (gs ++ rest) → length l.enables + length (gs ++ rest) ≤ length c.gaters
@@ -99,9 +99,9 @@ module _ (c : Circuit) (prefix : List ℕ) (can : CanExtract c prefix) where
   pin_within : (k : ℕ) (g : GatingCell ℕ) → slice_get c.gaters k ≡ Some g → g.clock < length c.names
   pin_within k g at =
       let driven = can.netlist.well_formed.driven in
-      elim (is_in_cases (option_to_list c.clock) (gate_nets c) g.clock (pin_clocked c can.netlist.well_formed k g at)) [
+      elim (is_in_cases (option_to_list c.clock) (gater_outputs c) g.clock (pin_clocked c can.netlist.well_formed k g at)) [
         | inl clk ↦ driver_within c driven g.clock (given_driver c g.clock (clock_given c g.clock (in_option c.clock g.clock clk)))
-        | inr gate ↦ driver_within c driven g.clock (given_driver c g.clock (gate_given c g.clock gate))
+        | inr gate ↦ driver_within c driven g.clock (given_driver c g.clock (gater_given c g.clock gate))
       ]
 
   pub can_take : (i k : ℕ) (m : MachineData) (table : List (Option ℕ)) → slice_get order i ≡ Some k → IsSoFar c prefix (take i order) m table → CanTake c m table k

@@ -4,8 +4,8 @@ use Rattle.std.specs.Prelude.{unwrap_or, nat_eq, IsTrue, Option, None, Some, is_
 use Rattle.std.specs.List.{All, IsDistinct, position_from}
 use Rattle.cg_cell.specs.Name.{is_name}
 use Rattle.cg_cell.specs.declared.fit.FitKind.TheVariants.{And2}
-use Rattle.cg_netlist.specs.Chains.{gate_order}
-use Rattle.cg_netlist.specs.Circuit.{Circuit, GatingCell, RegisterCell, gate_nets, net_order}
+use Rattle.cg_netlist.specs.Chains.{gater_order}
+use Rattle.cg_netlist.specs.Circuit.{Circuit, GatingCell, RegisterCell, gater_outputs, net_order}
 use Rattle.cg_net.specs.NetSets.{is_in}
 use Rattle.cg_netlist.specs.Moment.{values_at}
 use Rattle.cg_netlist.specs.Netlist.{IsNetlist}
@@ -68,7 +68,7 @@ lift_each c l (gater ∷ gaters) = lift_each c (lift_one c l gater) gaters
 -- the gating cells by depth, which is the number of gating cells on a cell's chain of clock pins, and those of one depth by
 -- number
 abbrev pub by_depth : Circuit → List (GatingCell ℕ)
-by_depth c = values_at c.gaters (gate_order c.gaters)
+by_depth c = values_at c.gaters (gater_order c.gaters)
 
 -- before any is taken, and after all of them
 abbrev pub unlifted : Circuit → List ℕ → Lifting
@@ -103,7 +103,7 @@ HasNoTests c = All (λ gater. gater.test ≡ None) c.gaters
 -- a gating cell is not lifted where it has a test pin, and where there is no cell for an and of two nets and its clock pin is
 -- driven by a gating cell
 abbrev pub is_refused : Circuit → Bool → GatingCell ℕ → Bool
-is_refused c and2 gater = is_some gater.test || (not and2 && is_in (gate_nets c) gater.clock)
+is_refused c and2 gater = is_some gater.test || (not and2 && is_in (gater_outputs c) gater.clock)
 
 -- the first gating cell that is not lifted
 abbrev pub first_refused : Circuit → Bool → Option ℕ

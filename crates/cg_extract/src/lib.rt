@@ -8,19 +8,13 @@
 //!
 //! - [`refused`]: gating cells that are not lifted.
 //! - `number`: the numbers that nets get, and those that they had.
-//! - `names`: a copy of the names of a netlist's nets.
-//! - `copy`: a copy of a netlist without gating cells.
 //! - `strip`: the netlist without its gating cells: a copy where it has none, and else told to a builder.
-//! - `lift`: gating cells, taken by depth into a machine.
-//! - `extract`: the machine.
+//! - `extract`: the machine, into which gating cells are taken by depth.
 //! - `laws`: what is proved of that machine.
 #![tactic(auto)]
 
-mod copy;
 pub mod extract;
 pub mod laws;
-mod lift;
-mod names;
 mod number;
 pub mod refused;
 mod strip;

@@ -2,7 +2,7 @@
 
 ghost use Rattle.std.specs.Prelude.{◌≡◌, ◌<◌, ◌≤◌, ◌+◌, ◌^◌, true, length, slice_get, slice_index_or, IfOk};
 ghost use Rattle.cg_extract.specs.Lifted.{kept_nets, number_of, origins};
-ghost use Rattle.cg_netlist.specs.Circuit.{gate_nets};
+ghost use Rattle.cg_netlist.specs.Circuit.{gater_outputs};
 ghost use Rattle.cg_net.specs.NetSets.{is_in};
 ghost use Rattle.cg_netlist.specs.Netlist.{IsNetlist};
 
@@ -34,7 +34,7 @@ pub(crate) fn number(netlist: &Netlist, net: NetId) -> NetId
     ensures { result ≡ number_of netlist.now net }
 {
     let gaters = netlist.gaters();
-    if net.number() < first_gate(netlist) {
+    if net.number() < first_gater_output(netlist) {
         net
     } else {
         NetId::new(net.number() - gaters)
@@ -58,11 +58,11 @@ pub(crate) fn origin(netlist: &Netlist, number: u32) -> Option<NetId>
 fn moved_back(netlist: &Netlist, number: u32) -> u32
     requires { number < 2 ^ 31 }
     ensures netlist { IsNetlist netlist.now }
-    ensures low { number < slice_index_or (gate_nets netlist.now) 0 0 → result ≡ number }
-    ensures high { slice_index_or (gate_nets netlist.now) 0 0 ≤ number → result ≡ number + length netlist.now.gaters }
+    ensures low { number < slice_index_or (gater_outputs netlist.now) 0 0 → result ≡ number }
+    ensures high { slice_index_or (gater_outputs netlist.now) 0 0 ≤ number → result ≡ number + length netlist.now.gaters }
 {
     let gaters = netlist.gaters();
-    if number < first_gate(netlist) {
+    if number < first_gater_output(netlist) {
         number
     } else {
         number + gaters
@@ -70,8 +70,8 @@ fn moved_back(netlist: &Netlist, number: u32) -> u32
 }
 
 /// The output of the first gating cell, or 0 where there is none.
-fn first_gate(netlist: &Netlist) -> u32
-    ensures { result ≡ slice_index_or (gate_nets netlist.now) 0 0 }
+fn first_gater_output(netlist: &Netlist) -> u32
+    ensures { result ≡ slice_index_or (gater_outputs netlist.now) 0 0 }
 {
     if netlist.gaters() == 0 {
         0

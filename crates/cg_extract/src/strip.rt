@@ -1,24 +1,26 @@
-//! The netlist without its gating cells.
+//! The netlist without its gating cells: a copy where there are none, and else made of its other parts.
 
-ghost use Rattle.std.specs.Prelude.{◌≡◌, ◌<◌, Some, length, nat_eq, slice_get, IfOk};
-ghost use Rattle.std.specs.List.{IsDistinct};
+ghost use Rattle.std.specs.Prelude.{◌≡◌, ◌<◌, Some, length, nat_eq, slice_get, IfOk, []};
+ghost use Rattle.std.specs.List.{IsDistinct, range_with_len};
 ghost use Rattle.std.specs.Option.{option_to_list};
 ghost use Rattle.cg_extract.specs.Lifted.{bare, ungated};
 ghost use Rattle.cg_extract.specs.inner.BareParts.{bare_parts};
+ghost use Rattle.cg_netlist.specs.View.{function_seen, kind_seen};
+ghost use Rattle.cg_netlist_builder.specs.Building.{fresh};
 ghost use Rattle.cg_netlist_telling.specs.NamedParts.{clocked_parts, with_clock};
 ghost use Rattle.cg_netlist_telling.specs.Telling.{MayTell, WasTold, told};
-ghost use Rattle.cg_netlist_builder.specs.Building.{fresh};
 
-use crate::copy::copy;
-use cg_net::id::{NetId, RegId};
+use cg_cell::name::Name;
+use cg_net::id::{CellId, NetId, RegId};
+use cg_net::names::{NetNames, OrderedNames};
 use cg_netlist::fault::AddFault;
 use cg_netlist::netlist::Netlist;
-use cg_netlist::view::RegView;
+use cg_netlist::parts::{Logic, LogicFunction, Parts, Register, RegisterKind};
+use cg_netlist::view::{Function, RegKind, RegView};
 use cg_netlist_builder::builder::Builder;
-use cg_netlist_telling::cells::tell_cells;
-use cg_netlist_telling::names::NetlistNames;
-use cg_netlist_telling::ports::{tell_clock, tell_inputs, tell_outputs};
-use cg_netlist_telling::registers::{clock_or_first, tell_register};
+use cg_netlist_telling::parts::{
+    NetlistNames, clock_or_first, tell_cells, tell_clock, tell_inputs, tell_outputs, tell_register,
+};
 use std::alloc::{AllocError, Global};
 
 /// The netlist without its gating cells: its logic cells and registers in their order, every register on the clock, and all its
@@ -115,4 +117,146 @@ fn tell_on_clock(
     let register = netlist.register(reg);
     let on_clock = RegView { clock, ..register };
     tell_register(alloc, builder, names, on_clock, clock)
+}
+
+/// The same netlist once more. It must have no gating cells.
+fn copy(alloc: Global, netlist: &Netlist) -> Result<Netlist, AllocError>
+    requires { netlist.now.gaters ≡ [] }
+    ensures { IfOk result (λ copy. copy ≡ netlist.now) }
+{
+    let _nets = netlist.nets();
+    let parts = copy_parts(alloc, netlist)?;
+    Netlist::new(alloc, parts)
+}
+
+/// The same parts.
+fn copy_parts(alloc: Global, netlist: &Netlist) -> Result<Parts, AllocError>
+    requires { netlist.now.gaters ≡ [] }
+    ensures { IfOk result (λ parts. parts ≡ netlist.now) }
+{
+    let _nets = netlist.nets();
+    let model = Name::new(alloc, netlist.model())?;
+    let inputs = Vec::from_slice(alloc, netlist.inputs())?;
+    let outputs = Vec::from_slice(alloc, netlist.outputs())?;
+    let names = copy_names(alloc, netlist)?;
+    let cells = copy_cells(alloc, netlist)?;
+    let registers = copy_registers(alloc, netlist)?;
+    Ok(Parts {
+        model,
+        names,
+        inputs,
+        clock: netlist.clock(),
+        outputs,
+        cells,
+        gaters: Vec::new(alloc),
+        registers,
+    })
+}
+
+/// The same logic cells.
+fn copy_cells(alloc: Global, netlist: &Netlist) -> Result<Vec<Logic>, AllocError>
+    ensures { IfOk result (λ cells. cells.items ≡ netlist.now.cells) }
+{
+    let mut cells = Vec::with_capacity(alloc, netlist.cells() as usize)?;
+    for number in 0..netlist.cells() {
+        cells.push(copy_cell(alloc, netlist, CellId::new(number))?)?;
+    }
+    Ok(cells)
+}
+
+/// The same logic cell.
+fn copy_cell(alloc: Global, netlist: &Netlist, id: CellId) -> Result<Logic, AllocError>
+    requires { id < length netlist.now.cells }
+    ensures { IfOk result (λ copy. slice_get netlist.now.cells id ≡ Some copy) }
+{
+    let cell = netlist.cell(id);
+    let inputs = Vec::from_slice(alloc, cell.inputs)?;
+    let function = copy_function(cell.function)?;
+    Ok(Logic {
+        inputs,
+        output: cell.output,
+        function,
+    })
+}
+
+/// The same function. A placed cell shares what its library has of it.
+fn copy_function(function: Function<'_>) -> Result<LogicFunction, AllocError>
+    ensures { IfOk result (λ copy. copy ≡ function_seen function.entry) }
+{
+    match function {
+        Function::Cover(cover) => Ok(LogicFunction::Cover(cover.clone()?)),
+        Function::Cell(cell) => Ok(LogicFunction::Cell(cell.clone()?)),
+    }
+}
+
+/// The same registers.
+fn copy_registers(alloc: Global, netlist: &Netlist) -> Result<Vec<Register>, AllocError>
+    ensures { IfOk result (λ registers. registers.items ≡ netlist.now.registers) }
+{
+    let mut registers = Vec::with_capacity(alloc, netlist.registers() as usize)?;
+    for number in 0..netlist.registers() {
+        registers.push(copy_register(alloc, netlist, RegId::new(number))?)?;
+    }
+    Ok(registers)
+}
+
+/// The same register.
+fn copy_register(alloc: Global, netlist: &Netlist, id: RegId) -> Result<Register, AllocError>
+    requires { id < length netlist.now.registers }
+    ensures { IfOk result (λ copy. slice_get netlist.now.registers id ≡ Some copy) }
+{
+    let register = netlist.register(id);
+    let inputs = Vec::from_slice(alloc, register.inputs)?;
+    let outputs = Vec::from_slice(alloc, register.outputs)?;
+    let pins = Vec::from_slice(alloc, register.pins)?;
+    let kind = copy_kind(register.kind)?;
+    Ok(Register {
+        inputs,
+        outputs,
+        pins,
+        clock: register.clock,
+        kind,
+        init: register.init,
+    })
+}
+
+/// The same kind of register.
+fn copy_kind(kind: RegKind<'_>) -> Result<RegisterKind, AllocError>
+    ensures { IfOk result (λ copy. copy ≡ kind_seen kind.entry) }
+{
+    match kind {
+        RegKind::Plain => Ok(RegisterKind::Plain),
+        RegKind::Cell(cell) => Ok(RegisterKind::Flop(cell.clone()?)),
+    }
+}
+
+/// The names of all nets, each at the place of its net.
+fn copy_names(alloc: Global, netlist: &Netlist) -> Result<OrderedNames, AllocError>
+    ensures { IfOk result (λ names. names ≡ netlist.now.names) }
+{
+    let names = table(alloc, netlist)?;
+    let order = nets_below(alloc, netlist.nets())?;
+    OrderedNames::new(alloc, names, order)
+}
+
+/// A table of the names, in the order of their nets.
+fn table(alloc: Global, netlist: &Netlist) -> Result<NetNames, AllocError>
+    ensures { IfOk result (λ names. names ≡ netlist.now.names) }
+{
+    let mut names = NetNames::new(alloc);
+    for number in 0..netlist.nets() {
+        names.intern(alloc, netlist.name(NetId::new(number)))?;
+    }
+    Ok(names)
+}
+
+/// The nets whose numbers are below this one, in order.
+fn nets_below(alloc: Global, count: u32) -> Result<Vec<NetId>, AllocError>
+    ensures { IfOk result (λ nets. nets.items ≡ range_with_len 0 count) }
+{
+    let mut nets = Vec::with_capacity(alloc, count as usize)?;
+    for number in 0..count {
+        nets.push(NetId::new(number))?;
+    }
+    Ok(nets)
 }

@@ -23,13 +23,13 @@ use Rattle.cg_insert.proofs.Inserted.{insertion_is_right}
 use Rattle.cg_insert.proofs.InsertedParts.{is_netlist, may_tell, outputs_once, parts_say, told_said}
 use Rattle.cg_netlist_parts.specs.Writable.{IsOf}
 use Rattle.cg_insert.proofs.StillWritable.{still_writable}
-use Rattle.cg_insert.specs.Insert.{CanInsert, enables_of, first_gate, inserted, insertion_limit}
+use Rattle.cg_insert.specs.Insert.{CanInsert, enables_of, first_gater_output, inserted, insertion_limit}
 use Rattle.cg_insert.specs.Inserting.{IsWhole, RunsAs, StaysWritable, insertion, unless_passed}
 use Rattle.cg_insert.specs.inner.GatedParts.{gated_names, gated_parts}
 use Rattle.cg_netlist_telling.specs.Telling.{MayTell, told}
 
-pub no_limit : (test : Option (List ℕ)) (m : MachineData) → first_gate m test + length (enables_of m) ≤ MOST_NETS → insertion_limit test m ≡ None
-no_limit test m small = ap {B = Option Limit} (λ b. if b then None else Some Nets) (le-leb (first_gate m test + length (enables_of m)) MOST_NETS small)
+pub no_limit : (test : Option (List ℕ)) (m : MachineData) → first_gater_output m test + length (enables_of m) ≤ MOST_NETS → insertion_limit test m ≡ None
+no_limit test m small = ap {B = Option Limit} (λ b. if b then None else Some Nets) (le-leb (first_gater_output m test + length (enables_of m)) MOST_NETS small)
 
 module _ (library : List CellData) (test : Option (List ℕ)) (m : MachineData) (good : IsMachine m) (can : CanInsert library test m) (own : IsNetlist (own_netlist m)) (small : insertion_limit test m ≡ None) where
   narrow : All (λ cell. length cell.inputs < 2 ^ 32) (take m.own_cells m.circuit.cells)

@@ -90,6 +90,6 @@ kind_kept r k Plain fits = fits
 kind_kept r k (Flop cell) fits = fits
 
 -- the cell that gates a clock has a test pin exactly where there is a test input
-pub gates_by : (test : Option (List ℕ)) (cell : CellData) → is_fit (gating_kind test) cell ≡ (is_gater cell.kind && cond (option_map_or (λ _. true) test false) (list_any is_test cell.pins) (not (list_any is_test cell.pins)))
-gates_by None cell = refl
-gates_by (Some name) cell = refl
+pub gaters_by : (test : Option (List ℕ)) (cell : CellData) → is_fit (gating_kind test) cell ≡ (is_gater cell.kind && cond (option_map_or (λ _. true) test false) (list_any is_test cell.pins) (not (list_any is_test cell.pins)))
+gaters_by None cell = refl
+gaters_by (Some name) cell = refl

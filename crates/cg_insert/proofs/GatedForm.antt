@@ -18,7 +18,7 @@ use Rattle.cg_cell.specs.Pins.{is_test}
 use Rattle.cg_cell.specs.declared.cell.CellKind.TheVariants.{Gater as GaterKind}
 use Rattle.cg_netlist.specs.Circuit.{Circuit, GatingCell, LogicCell, RegisterCell, asked_nets, cell_nets, clock_nets}
 use Rattle.cg_net.specs.NetSets.{is_in}
-use Rattle.cg_netlist.specs.Circuit.{data_inputs, drivers, gate_nets, given_nets, register_nets, used_nets}
+use Rattle.cg_netlist.specs.Circuit.{data_inputs, drivers, gater_outputs, given_nets, register_nets, used_nets}
 use Rattle.cg_netlist.specs.Moment.{zip_with}
 use Rattle.cg_netlist.specs.WellFormed.{AreRanks, IsDriven, IsOver, IsWellFormed, RegisterFits}
 use Rattle.cg_netlist.specs.declared.parts.LogicFunction.TheVariants.{Cell}
@@ -32,14 +32,14 @@ use Rattle.cg_netlist.proofs.Values.{element_at}
 use Rattle.cg_insert.proofs.GatedMoments.{clock_is, data_is, names_count, register_clock, used_below}
 use Rattle.cg_insert.proofs.GatedParts.{few_names, cell_stands, enable_from, enable_placed, found_passes, gater_at}
 use Rattle.cg_insert.proofs.GatedParts.{gaters_count, gates_are, shown_is}
-use Rattle.cg_insert.specs.Insert.{CanInsert, clock_under, enables_of, first_gate, fitting, gate_names, gate_outputs, gated}
+use Rattle.cg_insert.specs.Insert.{CanInsert, clock_under, enables_of, first_gater_output, fitting, gate_names, new_gater_outputs, gated}
 use Rattle.cg_insert.specs.Insert.{gater_cell, gating_cell, gating_kind, no_cell, placed_gate, reclocked, test_net}
 use Rattle.cg_machine.proofs.AddedNames.{name_added}
 use Rattle.cg_machine.specs.Gates.{AddedGate, HasInputs, gate_cell}
 use Rattle.cg_machine.specs.Machine.{IsMachine, MachineData, added_name, additions}
 use Rattle.cg_netlist.specs.Ordered.{place_in}
 use Rattle.cg_machine.proofs.Lists.{all_at, pairs_append}
-use Rattle.cg_insert.proofs.GatedCells.{gates_by, counts, fit_over, found_All, gater_kind, kind_kept, pairs_option}
+use Rattle.cg_insert.proofs.GatedCells.{gaters_by, counts, fit_over, found_All, gater_kind, kind_kept, pairs_option}
 
 module _ (library : List CellData) (test : Option (List ℕ)) (m : MachineData) where
   -- lists made of registers and enables
@@ -104,8 +104,8 @@ module _ (library : List CellData) (test : Option (List ℕ)) (m : MachineData) 
     old_below : (x : ℕ) → is_in (drivers d) x ≡ true → x < n
     old_below x among = driver_within d good.well_formed.driven x among
 
-    gate_above : (x : ℕ) → is_in (gate_outputs test m) x ≡ true → (first_gate m test ≤ x) × (x < first_gate m test + length (enables_of m))
-    gate_above x among = in_range (length (enables_of m)) (first_gate m test) x among
+    gate_above : (x : ℕ) → is_in (new_gater_outputs test m) x ≡ true → (first_gater_output m test ≤ x) × (x < first_gater_output m test + length (enables_of m))
+    gate_above x among = in_range (length (enables_of m)) (first_gater_output m test) x among
 
     -- which nets are used
     data UsedIn (x : ℕ) : Type 0 where
@@ -126,7 +126,7 @@ module _ (library : List CellData) (test : Option (List ℕ)) (m : MachineData) 
           | inl more ↦ elim (is_in_cases (ins ++ asked) taken x more) [
             | inl front ↦ elim (is_in_cases ins asked x front) [
               | inl input ↦ Before (is_in_left (ins ++ olds ++ taken) d.outputs x (is_in_left (ins ++ olds) taken x (is_in_left ins olds x input)))
-              | inr ask ↦ elim (asked_from (enables_of m) (gate_outputs test m) x ask) [ inl enable ↦ Enables enable | inr tested ↦ Tests tested ]
+              | inr ask ↦ elim (asked_from (enables_of m) (new_gater_outputs test m) x ask) [ inl enable ↦ Enables enable | inr tested ↦ Tests tested ]
             ]
             | inr data' ↦ Before (is_in_left (ins ++ olds ++ taken) d.outputs x (is_in_right (ins ++ olds) taken x data'))
           ]
@@ -145,11 +145,11 @@ module _ (library : List CellData) (test : Option (List ℕ)) (m : MachineData) 
 
     -- the clock nets are used nowhere else
     apart : (x : ℕ) → is_in (clock_nets c) x ≡ true → is_in (used_nets c) x ≡ false
-    apart x among = false_from_ne_true (is_in (used_nets c) x) (λ used. elim (is_in_cases (option_to_list d.clock) (gate_nets c) x among) [
+    apart x among = false_from_ne_true (is_in (used_nets c) x) (λ used. elim (is_in_cases (option_to_list d.clock) (gater_outputs c) x among) [
       | inl clk ↦
           let is : d.clock ≡ Some x = in_option d.clock x clk in
           elim (used_from x used) [
-            | Before old ↦ both_ways (is_in (used_nets d) x) (good.well_formed.apart x (is_in_left (option_to_list d.clock) (gate_nets d) x clk)) old
+            | Before old ↦ both_ways (is_in (used_nets d) x) (good.well_formed.apart x (is_in_left (option_to_list d.clock) (gater_outputs d) x clk)) old
             | Enables enable ↦ (enable_below x enable).1 is
             | Tests tested ↦ let at = (test_is test x tested).0 in let below = old_below x (given_driver d x (clock_given d x is)) in let none : ⊥ = omega (arith, at, below) in none
           ]
@@ -166,18 +166,18 @@ module _ (library : List CellData) (test : Option (List ℕ)) (m : MachineData) 
     abbrev sources : List ℕ
     sources = data_inputs d ++ tests ++ option_to_list d.clock
 
-    drivers_are : drivers c ≡ sources ++ gate_outputs test m ++ register_nets d ++ cell_nets d
+    drivers_are : drivers c ≡ sources ++ new_gater_outputs test m ++ register_nets d ++ cell_nets d
     drivers_are =
-        ap (λ xs. xs ++ option_to_list d.clock ++ gate_nets c ++ register_nets c ++ cell_nets c) (data_is library test m good can)
+        ap (λ xs. xs ++ option_to_list d.clock ++ gater_outputs c ++ register_nets c ++ cell_nets c) (data_is library test m good can)
         ∙ (ap (λ xs. sources ++ xs ++ register_nets c ++ cell_nets c) (gates_are library test m good can)
-        ∙ (ap (λ xs. sources ++ gate_outputs test m ++ xs ++ cell_nets c) (shown_is library test m good can)
-        ∙ ap (λ xs. sources ++ gate_outputs test m ++ register_nets d ++ xs) cells_are))
+        ∙ (ap (λ xs. sources ++ new_gater_outputs test m ++ xs ++ cell_nets c) (shown_is library test m good can)
+        ∙ ap (λ xs. sources ++ new_gater_outputs test m ++ register_nets d ++ xs) cells_are))
 
     -- old drivers, by their kinds
-    no_gates : gate_nets d ≡ []
+    no_gates : gater_outputs d ≡ []
     no_gates = ap (map (λ (g : GatingCell ℕ). g.output)) good.no_gaters
 
-    test_above : (x : ℕ) → is_in tests x ≡ true → (x ≡ n) × (x < first_gate m test)
+    test_above : (x : ℕ) → is_in tests x ≡ true → (x ≡ n) × (x < first_gater_output m test)
     test_above x among = let is = test_is test x among in (is.0, omega (arith, is.0, is.1))
 
     data_below : (x : ℕ) → is_in (data_inputs d) x ≡ true → x < n
@@ -192,7 +192,7 @@ module _ (library : List CellData) (test : Option (List ℕ)) (m : MachineData) 
     cell_below : (x : ℕ) → is_in (cell_nets d) x ≡ true → x < n
     cell_below x among = old_below x (is_in_right (given_nets d) (cell_nets d) x among)
 
-    source_below : (x : ℕ) → is_in sources x ≡ true → x < first_gate m test
+    source_below : (x : ℕ) → is_in sources x ≡ true → x < first_gater_output m test
     source_below x among = elim (is_in_cases (data_inputs d ++ tests) (option_to_list d.clock) x among) [
       | inl more ↦ elim (is_in_cases (data_inputs d) tests x more) [
         | inl data' ↦ let below = data_below x data' in omega (arith, below)
@@ -208,17 +208,17 @@ module _ (library : List CellData) (test : Option (List ℕ)) (m : MachineData) 
     never2 : (xs ys : List ℕ) (k : ℕ) → ((x : ℕ) → is_in xs x ≡ true → k ≤ x) → ((x : ℕ) → is_in ys x ≡ true → x < k) → (x : ℕ) → is_in xs x ≡ true → is_in ys x ≡ false
     never2 xs ys k high low x among = false_from_ne_true (is_in ys x) (λ there. let a = high x among in let b = low x there in let none : ⊥ = omega (arith, a, b) in none)
 
-    abbrev old_given : IsDistinct nat_eq (data_inputs d ++ option_to_list d.clock ++ gate_nets d ++ register_nets d)
+    abbrev old_given : IsDistinct nat_eq (data_inputs d ++ option_to_list d.clock ++ gater_outputs d ++ register_nets d)
     old_given = distinct_given d good.well_formed.driven
 
     old_sources : IsDistinct nat_eq (data_inputs d ++ option_to_list d.clock)
-    old_sources = distinct_left (data_inputs d ++ option_to_list d.clock) (gate_nets d) (distinct_left (data_inputs d ++ option_to_list d.clock ++ gate_nets d) (register_nets d) old_given)
+    old_sources = distinct_left (data_inputs d ++ option_to_list d.clock) (gater_outputs d) (distinct_left (data_inputs d ++ option_to_list d.clock ++ gater_outputs d) (register_nets d) old_given)
 
     old_no_register : (x : ℕ) → is_in (data_inputs d ++ option_to_list d.clock) x ≡ true → is_in (register_nets d) x ≡ false
-    old_no_register x among = distinct_apart (data_inputs d ++ option_to_list d.clock ++ gate_nets d) (register_nets d) old_given x (is_in_left (data_inputs d ++ option_to_list d.clock) (gate_nets d) x among)
+    old_no_register x among = distinct_apart (data_inputs d ++ option_to_list d.clock ++ gater_outputs d) (register_nets d) old_given x (is_in_left (data_inputs d ++ option_to_list d.clock) (gater_outputs d) x among)
 
     old_no_cell : (x : ℕ) → is_in (data_inputs d ++ option_to_list d.clock) x ≡ true → is_in (cell_nets d) x ≡ false
-    old_no_cell x among = given_no_cell d good.well_formed.driven x (is_in_left (data_inputs d ++ option_to_list d.clock ++ gate_nets d) (register_nets d) x (is_in_left (data_inputs d ++ option_to_list d.clock) (gate_nets d) x among))
+    old_no_cell x among = given_no_cell d good.well_formed.driven x (is_in_left (data_inputs d ++ option_to_list d.clock ++ gater_outputs d) (register_nets d) x (is_in_left (data_inputs d ++ option_to_list d.clock) (gater_outputs d) x among))
 
     source_kinds : (ys : List ℕ) → ((x : ℕ) → is_in ys x ≡ true → x < n) → ((x : ℕ) → is_in (data_inputs d ++ option_to_list d.clock) x ≡ true → is_in ys x ≡ false) → (x : ℕ) → is_in sources x ≡ true → is_in ys x ≡ false
     source_kinds ys below old x among = elim (is_in_cases (data_inputs d ++ tests) (option_to_list d.clock) x among) [
@@ -244,21 +244,21 @@ module _ (library : List CellData) (test : Option (List ℕ)) (m : MachineData) 
           | inr tested ↦ never2 tests (option_to_list d.clock) n (λ y there. let is = (test_above y there).0 in omega (arith, is)) clock_below x tested
         ])
 
-    once : IsDistinct nat_eq (sources ++ gate_outputs test m ++ register_nets d ++ cell_nets d)
+    once : IsDistinct nat_eq (sources ++ new_gater_outputs test m ++ register_nets d ++ cell_nets d)
     once =
-        distinct_append (sources ++ gate_outputs test m ++ register_nets d) (cell_nets d)
-        (distinct_append (sources ++ gate_outputs test m) (register_nets d)
-        (distinct_append sources (gate_outputs test m) sources_once (distinct_range (length (enables_of m)) (first_gate m test)) (never sources (gate_outputs test m) (first_gate m test) source_below (λ y there. (gate_above y there).0)))
-        (distinct_right (data_inputs d ++ option_to_list d.clock ++ gate_nets d) (register_nets d) old_given)
-        (λ x among. elim (is_in_cases sources (gate_outputs test m) x among) [
+        distinct_append (sources ++ new_gater_outputs test m ++ register_nets d) (cell_nets d)
+        (distinct_append (sources ++ new_gater_outputs test m) (register_nets d)
+        (distinct_append sources (new_gater_outputs test m) sources_once (distinct_range (length (enables_of m)) (first_gater_output m test)) (never sources (new_gater_outputs test m) (first_gater_output m test) source_below (λ y there. (gate_above y there).0)))
+        (distinct_right (data_inputs d ++ option_to_list d.clock ++ gater_outputs d) (register_nets d) old_given)
+        (λ x among. elim (is_in_cases sources (new_gater_outputs test m) x among) [
           | inl source ↦ source_kinds (register_nets d) register_below old_no_register x source
-          | inr gate ↦ never2 (gate_outputs test m) (register_nets d) (first_gate m test) (λ y there. (gate_above y there).0) (λ y there. let below = register_below y there in omega (arith, below)) x gate
+          | inr gate ↦ never2 (new_gater_outputs test m) (register_nets d) (first_gater_output m test) (λ y there. (gate_above y there).0) (λ y there. let below = register_below y there in omega (arith, below)) x gate
         ]))
         (distinct_cells d good.well_formed.driven)
-        (λ x among. elim (is_in_cases (sources ++ gate_outputs test m) (register_nets d) x among) [
-          | inl more ↦ elim (is_in_cases sources (gate_outputs test m) x more) [
+        (λ x among. elim (is_in_cases (sources ++ new_gater_outputs test m) (register_nets d) x among) [
+          | inl more ↦ elim (is_in_cases sources (new_gater_outputs test m) x more) [
             | inl source ↦ source_kinds (cell_nets d) cell_below old_no_cell x source
-            | inr gate ↦ never2 (gate_outputs test m) (cell_nets d) (first_gate m test) (λ y there. (gate_above y there).0) (λ y there. let below = cell_below y there in omega (arith, below)) x gate
+            | inr gate ↦ never2 (new_gater_outputs test m) (cell_nets d) (first_gater_output m test) (λ y there. (gate_above y there).0) (λ y there. let below = cell_below y there in omega (arith, below)) x gate
           ]
           | inr register ↦ given_no_cell d good.well_formed.driven x (register_given d x register)
         ])
@@ -267,14 +267,14 @@ module _ (library : List CellData) (test : Option (List ℕ)) (m : MachineData) 
     data At (x : ℕ) : Type 0 where
       Old : x < n → At x
       Test : is_in tests x ≡ true → At x
-      Gating : is_in (gate_outputs test m) x ≡ true → At x
+      Gating : is_in (new_gater_outputs test m) x ≡ true → At x
 
     at : (x : ℕ) → x < length c.names → At x
     at x below = elim (cases_lt x n) [
       | inl old ↦ Old old
-      | inr past ↦ elim (cases_lt x (first_gate m test)) [
+      | inr past ↦ elim (cases_lt x (first_gater_output m test)) [
         | inl low ↦ Test (tested test past low)
-        | inr high ↦ Gating (is_in-range (length (enables_of m)) (first_gate m test) x high (omega (arith, below, wide)))
+        | inr high ↦ Gating (is_in-range (length (enables_of m)) (first_gater_output m test) x high (omega (arith, below, wide)))
       ]
     ]
       where
@@ -282,11 +282,11 @@ module _ (library : List CellData) (test : Option (List ℕ)) (m : MachineData) 
         tested None past low = absurd (omega (arith, past, low))
         tested (Some name) past low = or_left (nat_eq x n) false (eq-eqb x n (omega (arith, past, low)))
 
-    has_driver : (x : ℕ) → x < length c.names → is_in (sources ++ gate_outputs test m ++ register_nets d ++ cell_nets d) x ≡ true
+    has_driver : (x : ℕ) → x < length c.names → is_in (sources ++ new_gater_outputs test m ++ register_nets d ++ cell_nets d) x ≡ true
     has_driver x below =
-        let two = sources ++ gate_outputs test m in
+        let two = sources ++ new_gater_outputs test m in
         let three = two ++ register_nets d in
-        let source : is_in sources x ≡ true → is_in (three ++ cell_nets d) x ≡ true = λ h. is_in_left three (cell_nets d) x (is_in_left two (register_nets d) x (is_in_left sources (gate_outputs test m) x h)) in
+        let source : is_in sources x ≡ true → is_in (three ++ cell_nets d) x ≡ true = λ h. is_in_left three (cell_nets d) x (is_in_left two (register_nets d) x (is_in_left sources (new_gater_outputs test m) x h)) in
         elim (at x below) [
           | Old old ↦ elim (is_in_cases (given_nets d) (cell_nets d) x (good.well_formed.driven.driven x old)) [
             | inl given ↦ elim (kind_of d x given) [
@@ -298,13 +298,13 @@ module _ (library : List CellData) (test : Option (List ℕ)) (m : MachineData) 
             | inr cell ↦ is_in_right three (cell_nets d) x cell
           ]
           | Test tested ↦ source (is_in_left (data_inputs d ++ tests) (option_to_list d.clock) x (is_in_right (data_inputs d) tests x tested))
-          | Gating gate ↦ is_in_left three (cell_nets d) x (is_in_left two (register_nets d) x (is_in_right sources (gate_outputs test m) x gate))
+          | Gating gate ↦ is_in_left three (cell_nets d) x (is_in_left two (register_nets d) x (is_in_right sources (new_gater_outputs test m) x gate))
         ]
 
-    within : (x : ℕ) → is_in (sources ++ gate_outputs test m ++ register_nets d ++ cell_nets d) x ≡ true → x < length c.names
-    within x among = elim (is_in_cases (sources ++ gate_outputs test m ++ register_nets d) (cell_nets d) x among) [
-      | inl more ↦ elim (is_in_cases (sources ++ gate_outputs test m) (register_nets d) x more) [
-        | inl front ↦ elim (is_in_cases sources (gate_outputs test m) x front) [
+    within : (x : ℕ) → is_in (sources ++ new_gater_outputs test m ++ register_nets d ++ cell_nets d) x ≡ true → x < length c.names
+    within x among = elim (is_in_cases (sources ++ new_gater_outputs test m ++ register_nets d) (cell_nets d) x among) [
+      | inl more ↦ elim (is_in_cases (sources ++ new_gater_outputs test m) (register_nets d) x more) [
+        | inl front ↦ elim (is_in_cases sources (new_gater_outputs test m) x front) [
           | inl source ↦ let below = source_below x source in omega (arith, below, wide)
           | inr gate ↦ let above = (gate_above x gate).1 in omega (arith, above, wide)
         ]
@@ -334,8 +334,8 @@ module _ (library : List CellData) (test : Option (List ℕ)) (m : MachineData) 
     gate_name : (i : ℕ) (e : List ℕ) → i < length (gate_names m) → get_or (gate_names m) i e ≡ added_name m (additions m + i)
     gate_name i e below = get_or-map-range_with_len (added_name m) (additions m) (length (enables_of m)) i (additions m + i) e (omega (arith, below, length-map (range_with_len (additions m) (length (enables_of m))) (added_name m), length-range_with_len (length (enables_of m)) (additions m))) refl
 
-    gates_named_apart : AllPairs (λ name other. name ≢ other) (gate_names m)
-    gates_named_apart i j e before within same =
+    gaters_named_apart : AllPairs (λ name other. name ≢ other) (gate_names m)
+    gaters_named_apart i j e before within same =
         let count : length (gate_names m) ≡ length (enables_of m) = length-map (range_with_len (additions m) (length (enables_of m))) (added_name m) ∙ length-range_with_len (length (enables_of m)) (additions m) in
         let names : added_name m (additions m + i) ≡ added_name m (additions m + j) = sym (gate_name i e (omega (arith, before, within))) ∙ (same ∙ gate_name j e within) in
         let numbers : additions m + i ≡ additions m + j = decimal_injective (additions m + i) (additions m + j) (omega (arith, before, within, count, few_names m good)) (omega (arith, within, count, few_names m good)) (append_cancel_left m.prefix (Rattle.std.specs.Fmt.decimal (additions m + i)) (Rattle.std.specs.Fmt.decimal (additions m + j)) names) in
@@ -345,7 +345,7 @@ module _ (library : List CellData) (test : Option (List ℕ)) (m : MachineData) 
     names_different =
         pairs_append (λ name other. name ≢ other) (m.circuit.names ++ option_to_list test) (gate_names m)
         (pairs_append (λ name other. name ≢ other) m.circuit.names (option_to_list test) good.well_formed.different (pairs_option (λ name other. name ≢ other) test) (λ i j e i_in j_in. old_test test refl i j e i_in j_in))
-        gates_named_apart
+        gaters_named_apart
         (λ i j e i_in j_in same. elim (cases_lt i (length m.circuit.names)) [
           | inl old ↦ good.fresh (additions m + j) (omega arith) (omega (arith, j_in, gate_count, few_names m good)) i e old (sym (get_or_append_left m.circuit.names (option_to_list test) e i old) ∙ (same ∙ gate_name j e j_in))
           | inr past ↦ test_gate test refl i j e past (omega (arith, i_in, length-append m.circuit.names (option_to_list test))) j_in (sym (get_or-append_right m.circuit.names (option_to_list test) (length m.circuit.names) i e refl past) ∙ same)
@@ -408,7 +408,7 @@ module _ (library : List CellData) (test : Option (List ℕ)) (m : MachineData) 
 
     -- the gating cells
     gating : All (λ gater. IsCell gater.cell × (gater.cell.kind ≡ GaterKind) × (count_by is_test gater.cell.pins ≡ length (option_to_list gater.test))) c.gaters
-    gating = go (enables_of m) (gate_outputs test m) (λ e among. fits (λ none. both_ways false refl (sym (ap (λ xs. is_in xs e) none) ∙ among)))
+    gating = go (enables_of m) (new_gater_outputs test m) (λ e among. fits (λ none. both_ways false refl (sym (ap (λ xs. is_in xs e) none) ∙ among)))
       where
         wanted : Bool
         wanted = option_map_or (λ _. true) test false
@@ -424,7 +424,7 @@ module _ (library : List CellData) (test : Option (List ℕ)) (m : MachineData) 
         fits some =
             let found = can.gater some in
             let is : gater_cell library test ≡ found.0 = ap (λ o. Rattle.std.specs.Prelude.unwrap_or o no_cell) found.1 in
-            let passes = sym (gates_by test found.0) ∙ found_passes (is_fit (gating_kind test)) library found.0 found.1 in
+            let passes = sym (gaters_by test found.0) ∙ found_passes (is_fit (gating_kind test)) library found.0 found.1 in
             let both = and_parts (is_gater found.0.kind) (cond (option_map_or (λ _. true) test false) (list_any is_test found.0.pins) (not (list_any is_test found.0.pins))) passes in
             let cell : IsCell found.0 = found_All IsCell (is_fit (gating_kind test)) library found.0 can.cells found.1 in
             let kind : found.0.kind ≡ GaterKind = gater_kind found.0.kind both.0 in
@@ -441,19 +441,19 @@ module _ (library : List CellData) (test : Option (List ℕ)) (m : MachineData) 
     gater_clock : (k : ℕ) (gater : GatingCell ℕ) → slice_get c.gaters k ≡ Some gater → d.clock ≡ Some gater.clock
     gater_clock k gater at =
         let e = element_at (enables_of m) k (omega (arith, slice_get_within c.gaters k gater at, gaters_count library test m good can)) in
-        let same : gater ≡ gating_cell library test m e.0 (first_gate m test + k) = same_Some gater (gating_cell library test m e.0 (first_gate m test + k)) (sym at ∙ gater_at library test m good can k e.0 e.1) in
+        let same : gater ≡ gating_cell library test m e.0 (first_gater_output m test + k) = same_Some gater (gating_cell library test m e.0 (first_gater_output m test + k)) (sym at ∙ gater_at library test m good can k e.0 e.1) in
         clock_is library test m good can k e.0 e.1 ∙ ap (λ g. Some g.clock) (sym same)
 
     clocked : All (λ r. is_in (clock_nets c) r.clock ≡ true) c.registers
     clocked = go d.registers m.enables (λ r. r) (λ k r e at is. under k r e at is)
       where
         under : (k : ℕ) (r : RegisterCell ℕ ℕ) (e : Option ℕ) → slice_get d.registers k ≡ Some r → slice_get m.enables k ≡ Some e → is_in (clock_nets c) (clock_under test m r e) ≡ true
-        under k r None at is = is_in_left (option_to_list d.clock) (gate_nets c) r.clock (from_option d.clock r.clock (register_clock library test m good can k r at))
+        under k r None at is = is_in_left (option_to_list d.clock) (gater_outputs c) r.clock (from_option d.clock r.clock (register_clock library test m good can k r at))
         under k r (Some e) at is =
             let placed = enable_placed m k e (ap option_flatten is) in
             let below = slice_get_within (enables_of m) (place_in (enables_of m) e) e placed in
-            is_in_right (option_to_list d.clock) (gate_nets c) (first_gate m test + place_in (enables_of m) e)
-            (ap (λ xs. is_in xs (first_gate m test + place_in (enables_of m) e)) (gates_are library test m good can) ∙ is_in-range (length (enables_of m)) (first_gate m test) (first_gate m test + place_in (enables_of m) e) (omega arith) (omega (arith, below)))
+            is_in_right (option_to_list d.clock) (gater_outputs c) (first_gater_output m test + place_in (enables_of m) e)
+            (ap (λ xs. is_in xs (first_gater_output m test + place_in (enables_of m) e)) (gates_are library test m good can) ∙ is_in-range (length (enables_of m)) (first_gater_output m test) (first_gater_output m test + place_in (enables_of m) e) (omega arith) (omega (arith, below)))
 
         go : (rs : List (RegisterCell ℕ ℕ)) (es : List (Option ℕ)) → (RegisterCell ℕ ℕ → RegisterCell ℕ ℕ) → ((k : ℕ) (r : RegisterCell ℕ ℕ) (e : Option ℕ) → slice_get rs k ≡ Some r → slice_get es k ≡ Some e → is_in (clock_nets c) (clock_under test m r e) ≡ true) → All (λ r. is_in (clock_nets c) r.clock ≡ true) (zip_with (reclocked test m) rs es)
         go [] es i all = All-nil (λ r. is_in (clock_nets c) r.clock ≡ true)

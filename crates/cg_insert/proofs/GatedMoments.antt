@@ -12,8 +12,8 @@ use Rattle.std.proofs.lemmas.Option.{slice_get_within, slice_get_past, get_or_fr
 use Rattle.cg_cell.specs.Cell.{CellData}
 use Rattle.cg_netlist.specs.Circuit.{Circuit, GatingCell, LogicCell, RegisterCell, asked_nets, cell_nets, clock_nets}
 use Rattle.cg_net.specs.NetSets.{is_in}
-use Rattle.cg_netlist.specs.Circuit.{data_inputs, gate_nets, given_nets, register_nets, used_nets}
-use Rattle.cg_netlist.specs.History.{Moment, MomentFollows, Tick, gate_bit, latches_before, next_latch, rises}
+use Rattle.cg_netlist.specs.Circuit.{data_inputs, gater_outputs, given_nets, register_nets, used_nets}
+use Rattle.cg_netlist.specs.History.{Moment, MomentFollows, Tick, gater_bit, latches_before, next_latch, rises}
 use Rattle.cg_netlist.specs.Moment.{Settles, bit, function_value, values_at}
 use Rattle.cg_netlist.proofs.Given.{clock_given, data_given, driver_within, given_driver, in_option, register_given}
 use Rattle.cg_net.proofs.Members.{All-from_members, All-member, is_in_cases, is_in_left, is_in_right, member_at}
@@ -23,7 +23,7 @@ use Rattle.cg_netlist.proofs.Values.{values_at-append, zip_with_at}
 use Rattle.cg_netlist.proofs.Driven.{in_range}
 use Rattle.cg_insert.proofs.GatedParts.{bits_is, cell_stands, enable_from, enable_placed, gater_at, gaters_count}
 use Rattle.cg_insert.proofs.GatedParts.{gates_are, shown_is}
-use Rattle.cg_insert.specs.Insert.{CanInsert, enables_of, first_gate, gate_names, gate_outputs, gated, gating_cell, own_tick}
+use Rattle.cg_insert.specs.Insert.{CanInsert, enables_of, first_gater_output, gate_names, new_gater_outputs, gated, gating_cell, own_tick}
 use Rattle.cg_insert.specs.Insert.{reclocked, test_net}
 use Rattle.cg_machine.specs.Machine.{IsMachine, MachineData, additions, enable_of, load}
 use Rattle.cg_netlist.specs.Ordered.{place_in}
@@ -68,18 +68,18 @@ pub output_is_used : (d : Circuit) (x : ℕ) → is_in d.outputs x ≡ true → 
 output_is_used d x among = is_in_right (Rattle.std.specs.List.flat_map (λ cell. cell.inputs) d.cells ++ Rattle.std.specs.List.flat_map asked_nets d.gaters ++ Rattle.std.specs.List.flat_map (λ register. register.inputs) d.registers) d.outputs x among
 
 -- a gating cell's output at two moments running, where the latch does not move while the clock is high
-pub gate_rise : (a z l k : Bool) → (z ≡ true → k ≡ l) → (not (l && a) && (k && z)) ≡ ((not a && z) && l)
-gate_rise true true true k held = ap (λ x. false && (x && true)) (held refl)
-gate_rise true true false k held = ap (λ x. true && (x && true)) (held refl)
-gate_rise false true true k held = ap (λ x. true && (x && true)) (held refl)
-gate_rise false true false k held = ap (λ x. true && (x && true)) (held refl)
-gate_rise true false true k held = refl
-gate_rise true false false true held = refl
-gate_rise true false false false held = refl
-gate_rise false false true true held = refl
-gate_rise false false true false held = refl
-gate_rise false false false true held = refl
-gate_rise false false false false held = refl
+pub gater_rise : (a z l k : Bool) → (z ≡ true → k ≡ l) → (not (l && a) && (k && z)) ≡ ((not a && z) && l)
+gater_rise true true true k held = ap (λ x. false && (x && true)) (held refl)
+gater_rise true true false k held = ap (λ x. true && (x && true)) (held refl)
+gater_rise false true true k held = ap (λ x. true && (x && true)) (held refl)
+gater_rise false true false k held = ap (λ x. true && (x && true)) (held refl)
+gater_rise true false true k held = refl
+gater_rise true false false true held = refl
+gater_rise true false false false held = refl
+gater_rise false false true true held = refl
+gater_rise false false true false held = refl
+gater_rise false false false true held = refl
+gater_rise false false false false held = refl
 
 -- the test bit, from the values at the test net
 tested : (nets xs : List Bool) (t : Option ℕ) (n : ℕ) → values_at nets (option_to_list t) ≡ drop n xs → length xs ≡ n + length (option_to_list t) → All (λ x. x < length nets) (option_to_list t) → list_any (bit nets) (option_to_list t) ≡ get_or xs n false
@@ -142,7 +142,7 @@ module _ (library : List CellData) (test : Option (List ℕ)) (m : MachineData) 
   pub register_clock : (r : ℕ) (cell : RegisterCell ℕ ℕ) → slice_get m.circuit.registers r ≡ Some cell → m.circuit.clock ≡ Some cell.clock
   register_clock r cell at =
       let among : is_in (clock_nets m.circuit) cell.clock ≡ true = subst (λ s. is_in (clock_nets m.circuit) s.clock ≡ true) (get_or_from_slice_get m.circuit.registers r cell cell at) (good.well_formed.clocked r cell (slice_get_within m.circuit.registers r cell at)) in
-      elim (is_in_cases (option_to_list m.circuit.clock) (gate_nets m.circuit) cell.clock among) [
+      elim (is_in_cases (option_to_list m.circuit.clock) (gater_outputs m.circuit) cell.clock among) [
         | inl clk ↦ in_option m.circuit.clock cell.clock clk
         | inr gate ↦ absurd (both_ways false refl (sym (ap (λ gs. is_in (map (λ (g : GatingCell ℕ). g.output) gs) cell.clock) good.no_gaters) ∙ gate))
       ]
@@ -175,7 +175,7 @@ module _ (library : List CellData) (test : Option (List ℕ)) (m : MachineData) 
     pub inputs_long : length (own_tick m tick).0.inputs ≡ length (data_inputs m.circuit)
     pub settles : Settles m.circuit tick.clock (own_tick m tick).0.inputs p.state [] (take n p.nets)
     pub clock : (k : ℕ) → m.circuit.clock ≡ Some k → bit p.nets k ≡ tick.clock
-    pub gates : (j e : ℕ) (l : Bool) → slice_get (enables_of m) j ≡ Some e → slice_get p.latches j ≡ Some l → bit p.nets (first_gate m test + j) ≡ (l && tick.clock)
+    pub gates : (j e : ℕ) (l : Bool) → slice_get (enables_of m) j ≡ Some e → slice_get p.latches j ≡ Some l → bit p.nets (first_gater_output m test + j) ≡ (l && tick.clock)
     pub follows : (j e : ℕ) (l : Bool) → slice_get (enables_of m) j ≡ Some e → slice_get p.latches j ≡ Some l → tick.clock ≡ false → l ≡ (bit p.nets e || (own_tick m tick).1)
 
   module _ (start : List Bool) (before : Option Moment) (tick : Tick) (now : Moment) (moves : MomentFollows c start before tick now)
@@ -195,7 +195,7 @@ module _ (library : List CellData) (test : Option (List ℕ)) (m : MachineData) 
       long = length-take-le n now.nets (omega (arith, wide));
       shows_clock = λ net is. take_get now.nets n net (clock_within net is) ∙ moves.nets.shows_clock net is;
       shows_inputs = same_front now.nets (data_inputs m.circuit) (given_below (data_inputs m.circuit) (data_given m.circuit)) ∙ parts.0;
-      shows_gates = ap (λ gs. values_at (take n now.nets) (map (λ (g : GatingCell ℕ). g.output) gs)) good.no_gaters;
+      shows_gaters = ap (λ gs. values_at (take n now.nets) (map (λ (g : GatingCell ℕ). g.output) gs)) good.no_gaters;
       shows_state = same_front now.nets (register_nets m.circuit) (given_below (register_nets m.circuit) (register_given m.circuit)) ∙ (ap (values_at now.nets) (sym (shown_is library test m good can)) ∙ (moves.nets.shows_state ∙ bits_is library test m good can now.state));
       holds = λ k cell at.
           let placed = cell_stands library test m good can k cell at in
@@ -211,11 +211,11 @@ module _ (library : List CellData) (test : Option (List ℕ)) (m : MachineData) 
     clock_shown : (k : ℕ) → m.circuit.clock ≡ Some k → bit now.nets k ≡ tick.clock
     clock_shown k is = bit_shown now.nets k tick.clock (moves.nets.shows_clock k is)
 
-    latch_at : (j e : ℕ) (l : Bool) → slice_get (enables_of m) j ≡ Some e → slice_get now.latches j ≡ Some l → (old : Bool) × (slice_get (latches_before c before) j ≡ Some old) × (l ≡ next_latch now.nets (gating_cell library test m e (first_gate m test + j)) old)
+    latch_at : (j e : ℕ) (l : Bool) → slice_get (enables_of m) j ≡ Some e → slice_get now.latches j ≡ Some l → (old : Bool) × (slice_get (latches_before c before) j ≡ Some old) × (l ≡ next_latch now.nets (gating_cell library test m e (first_gater_output m test + j)) old)
     latch_at j e l at is =
         let old = element_at (latches_before c before) j (omega (arith, latched, slice_get_within (enables_of m) j e at)) in
-        let made : slice_get now.latches j ≡ Some (next_latch now.nets (gating_cell library test m e (first_gate m test + j)) old.0) = ap (λ ls. slice_get ls j) moves.latches ∙ zip_with_at (next_latch now.nets) c.gaters (latches_before c before) j (gating_cell library test m e (first_gate m test + j)) old.0 (gater_at library test m good can j e at) old.1 in
-        (old.0, old.1, Rattle.std.proofs.lemmas.Option.same_Some l (next_latch now.nets (gating_cell library test m e (first_gate m test + j)) old.0) (sym is ∙ made))
+        let made : slice_get now.latches j ≡ Some (next_latch now.nets (gating_cell library test m e (first_gater_output m test + j)) old.0) = ap (λ ls. slice_get ls j) moves.latches ∙ zip_with_at (next_latch now.nets) c.gaters (latches_before c before) j (gating_cell library test m e (first_gater_output m test + j)) old.0 (gater_at library test m good can j e at) old.1 in
+        (old.0, old.1, Rattle.std.proofs.lemmas.Option.same_Some l (next_latch now.nets (gating_cell library test m e (first_gater_output m test + j)) old.0) (sym is ∙ made))
 
     -- while the clock is high, a latch keeps what it had
     pub latch_keeps : (j e : ℕ) (l old : Bool) → slice_get (enables_of m) j ≡ Some e → slice_get now.latches j ≡ Some l → slice_get (latches_before c before) j ≡ Some old → tick.clock ≡ true → l ≡ old
@@ -233,11 +233,11 @@ module _ (library : List CellData) (test : Option (List ℕ)) (m : MachineData) 
       settles = settled;
       clock = clock_shown;
       gates = λ j e l at is.
-          let gate = first_gate m test + j in
-          let place : slice_get (gate_nets c) j ≡ Some gate = ap (λ xs. slice_get xs j) (gates_are library test m good can) ∙ Rattle.cg_machine.proofs.WalkPlaces.range_at (length (enables_of m)) (first_gate m test) j (slice_get_within (enables_of m) j e at) in
-          let within : All (λ x. x < length now.nets) (gate_nets c) = subst (λ xs. All (λ x. x < length now.nets) xs) (sym (gates_are library test m good can)) (All-from_members (λ x. x < length now.nets) (gate_outputs test m) (λ x among. let found = in_range (length (enables_of m)) (first_gate m test) x among in omega (arith, wide, found.1))) in
+          let gate = first_gater_output m test + j in
+          let place : slice_get (gater_outputs c) j ≡ Some gate = ap (λ xs. slice_get xs j) (gates_are library test m good can) ∙ Rattle.cg_machine.proofs.WalkPlaces.range_at (length (enables_of m)) (first_gater_output m test) j (slice_get_within (enables_of m) j e at) in
+          let within : All (λ x. x < length now.nets) (gater_outputs c) = subst (λ xs. All (λ x. x < length now.nets) xs) (sym (gates_are library test m good can)) (All-from_members (λ x. x < length now.nets) (new_gater_outputs test m) (λ x among. let found = in_range (length (enables_of m)) (first_gater_output m test) x among in omega (arith, wide, found.1))) in
           let shown : slice_get now.nets gate ≡ Some (l && bit now.nets (Rattle.std.specs.Prelude.unwrap_or m.circuit.clock 0)) =
-          sym (value_at now.nets (gate_nets c) j gate within place) ∙ (ap (λ bits. slice_get bits j) moves.nets.shows_gates ∙ zip_with_at (gate_bit now.nets) c.gaters now.latches j (gating_cell library test m e gate) l (gater_at library test m good can j e at) is) in
+          sym (value_at now.nets (gater_outputs c) j gate within place) ∙ (ap (λ bits. slice_get bits j) moves.nets.shows_gaters ∙ zip_with_at (gater_bit now.nets) c.gaters now.latches j (gating_cell library test m e gate) l (gater_at library test m good can j e at) is) in
           bit_shown now.nets gate (l && bit now.nets (Rattle.std.specs.Prelude.unwrap_or m.circuit.clock 0)) shown ∙ ap (λ b. l && b) (clock_shown (Rattle.std.specs.Prelude.unwrap_or m.circuit.clock 0) (clock_is j e at));
       follows = λ j e l at is low.
           let found = latch_at j e l at is in
@@ -269,9 +269,9 @@ module _ (library : List CellData) (test : Option (List ℕ)) (m : MachineData) 
         let l = element_at p.latches j (omega (arith, before.latches_long, within)) in
         let l2 = element_at q.latches j (omega (arith, now.latches_long, within)) in
         let held : k.clock ≡ true → l2.0 ≡ l.0 = λ high. latch_keeps start (Some p) k q moves ticked now.state_long before.latches_long j e l2.0 l.0 placed l2.1 l.1 high in
-        ap (λ b. not b && bit q.nets (first_gate m test + j)) (before.gates j e l.0 placed l.1)
+        ap (λ b. not b && bit q.nets (first_gater_output m test + j)) (before.gates j e l.0 placed l.1)
         ∙ (ap (λ b. not (l.0 && kp.clock) && b) (now.gates j e l2.0 placed l2.1)
-        ∙ (gate_rise kp.clock k.clock l.0 l2.0 held
+        ∙ (gater_rise kp.clock k.clock l.0 l2.0 held
         ∙ low kp.clock (λ was. before.follows j e l.0 placed l.1 was)))
       where
         low : (a : Bool) → {l v : Bool} → (a ≡ false → l ≡ v) → ((not a && k.clock) && l) ≡ ((not a && k.clock) && v)

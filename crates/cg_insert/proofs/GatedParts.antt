@@ -14,7 +14,7 @@ use Rattle.cg_cell.specs.declared.fit.FitKind.{FitKind}
 use Rattle.cg_cell.specs.declared.fit.FitKind.TheVariants.{Inv, And2, Or2}
 use Rattle.cg_netlist.specs.Circuit.{Circuit, LogicCell, RegisterCell, register_nets, shown_nets}
 use Rattle.cg_net.specs.NetSets.{is_in}
-use Rattle.cg_insert.specs.Insert.{CanInsert, collect, enables_of, first_gate, fitting, gate_outputs, gated, gating_cell}
+use Rattle.cg_insert.specs.Insert.{CanInsert, collect, enables_of, first_gater_output, fitting, new_gater_outputs, gated, gating_cell}
 use Rattle.cg_insert.specs.Insert.{placed_gate, reclocked, with_net}
 use Rattle.cg_machine.specs.Gates.{AddedGate, HasInputs, gate_cell, gate_cover}
 use Rattle.cg_machine.specs.Machine.{IsMachine, MachineData, additions, enable_of}
@@ -239,11 +239,11 @@ module _ (library : List CellData) (test : Option (List ℕ)) (m : MachineData) 
   pub cell_stands : (k : ℕ) (cell : LogicCell ℕ) → slice_get m.circuit.cells k ≡ Some cell → (placed : LogicCell ℕ) × (slice_get c.cells k ≡ Some placed) × SameCell cell placed
   cell_stands k cell at = stands (take m.own_cells m.circuit.cells) m.gates library gate_stands k cell (sym (ap (λ cs. slice_get cs k) good.gates) ∙ at)
 
-  pub gater_at : (j e : ℕ) → slice_get (enables_of m) j ≡ Some e → slice_get c.gaters j ≡ Some (gating_cell library test m e (first_gate m test + j))
-  gater_at j e at = zip_with_at (gating_cell library test m) (enables_of m) (gate_outputs test m) j e (first_gate m test + j) at (range_at (length (enables_of m)) (first_gate m test) j (Rattle.std.proofs.lemmas.Option.slice_get_within (enables_of m) j e at))
+  pub gater_at : (j e : ℕ) → slice_get (enables_of m) j ≡ Some e → slice_get c.gaters j ≡ Some (gating_cell library test m e (first_gater_output m test + j))
+  gater_at j e at = zip_with_at (gating_cell library test m) (enables_of m) (new_gater_outputs test m) j e (first_gater_output m test + j) at (range_at (length (enables_of m)) (first_gater_output m test) j (Rattle.std.proofs.lemmas.Option.slice_get_within (enables_of m) j e at))
 
   pub gaters_count : length c.gaters ≡ length (enables_of m)
-  gaters_count = length-zip_with (gating_cell library test m) (enables_of m) (gate_outputs test m) (sym (length-range_with_len (length (enables_of m)) (first_gate m test)))
+  gaters_count = length-zip_with (gating_cell library test m) (enables_of m) (new_gater_outputs test m) (sym (length-range_with_len (length (enables_of m)) (first_gater_output m test)))
 
   pub register_at : (r : ℕ) (cell : RegisterCell ℕ ℕ) (o : Option ℕ) → slice_get m.circuit.registers r ≡ Some cell → slice_get m.enables r ≡ Some o → slice_get c.registers r ≡ Some (reclocked test m cell o)
   register_at r cell o at is = zip_with_at (reclocked test m) m.circuit.registers m.enables r cell o at is
@@ -264,5 +264,5 @@ module _ (library : List CellData) (test : Option (List ℕ)) (m : MachineData) 
   outputs_of (e ∷ es) [] long = absurd (omega arith)
   outputs_of (e ∷ es) (n ∷ ns) long = ap (λ xs. n ∷ xs) (outputs_of es ns (omega arith))
 
-  pub gates_are : Rattle.cg_netlist.specs.Circuit.gate_nets c ≡ gate_outputs test m
-  gates_are = outputs_of (enables_of m) (gate_outputs test m) (length-range_with_len (length (enables_of m)) (first_gate m test))
+  pub gates_are : Rattle.cg_netlist.specs.Circuit.gater_outputs c ≡ new_gater_outputs test m
+  gates_are = outputs_of (enables_of m) (new_gater_outputs test m) (length-range_with_len (length (enables_of m)) (first_gater_output m test))

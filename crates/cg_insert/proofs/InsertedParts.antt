@@ -31,7 +31,7 @@ use Rattle.cg_netlist.specs.Netlist.{IsNetlist}
 use Rattle.cg_netlist.specs.Ordered.{ordered, place_in}
 use Rattle.cg_netlist.specs.WellFormed.{IsInNetOrder, IsWellFormed}
 use Rattle.cg_netlist_builder.specs.Building.{fresh}
-use Rattle.cg_netlist_parts.specs.Part.{Clock, Gate, Input, Logic, Output}
+use Rattle.cg_netlist_parts.specs.Part.{Clock, GaterPart, Input, Logic, Output}
 use Rattle.cg_netlist_parts.specs.Said.{nothing_said, said}
 use Rattle.cg_netlist_parts.specs.Says.{AreTaken, Says, parts_from, register_part}
 use Rattle.cg_netlist.specs.Wiring.{map_cell, map_gater, map_register, named}
@@ -42,7 +42,7 @@ use Rattle.cg_insert.proofs.Inserted.{insertion_is_formed}
 use Rattle.cg_netlist_telling.proofs.OrderedNames.{named_ordered}
 use Rattle.cg_netlist_telling.proofs.SaidAll.{map_twice, said_all}
 use Rattle.cg_netlist_telling.proofs.ToldParts.{within_limit}
-use Rattle.cg_insert.specs.Insert.{CanInsert, enables_of, first_gate, gated, inserted, insertion_limit, placed_gate, test_net}
+use Rattle.cg_insert.specs.Insert.{CanInsert, enables_of, first_gater_output, gated, inserted, insertion_limit, placed_gate, test_net}
 use Rattle.cg_insert.specs.inner.GatedParts.{gated_gaters, gated_names, gated_parts, gated_registers}
 use Rattle.cg_netlist_telling.specs.NamedParts.{clock_parts, clocked_parts}
 use Rattle.cg_netlist_telling.specs.NamedParts.{gater_parts, cell_parts, input_parts, output_parts}
@@ -83,9 +83,9 @@ module _ (library : List CellData) (test : Option (List ℕ)) (m : MachineData) 
   abbrev both : IsWellFormed (inserted library test m) × IsInNetOrder (inserted library test m)
   both = insertion_is_formed library test m good can
 
-  nets_small : first_gate m test + length (enables_of m) ≤ MOST_NETS
-  nets_small = elim (cases_Bool (nat_le (first_gate m test + length (enables_of m)) MOST_NETS)) [
-    | inl within ↦ leb-true (first_gate m test + length (enables_of m)) MOST_NETS within
+  nets_small : first_gater_output m test + length (enables_of m) ≤ MOST_NETS
+  nets_small = elim (cases_Bool (nat_le (first_gater_output m test + length (enables_of m)) MOST_NETS)) [
+    | inl within ↦ leb-true (first_gater_output m test + length (enables_of m)) MOST_NETS within
     | inr above ↦ absurd (let e : ◌≡◌ {A = Option Limit} (Some Nets) None = sym (ap {B = Option Limit} (λ b. if b then None else Some Nets) above) ∙ small in cc)
   ]
 
@@ -142,7 +142,7 @@ module _ (library : List CellData) (test : Option (List ℕ)) (m : MachineData) 
       let e3 : map (λ net. Clock net) (option_to_list (option_map (net_name names) m.circuit.clock)) ≡ clock_parts names m.circuit.clock = clock_is m.circuit.clock in
       let e4 : map (λ cell. Logic cell) (map (map_cell (net_name names)) (own ++ gates)) ≡ cell_parts names own ++ cell_parts names gates =
       map_twice (λ cell. Logic cell) (map_cell (net_name names)) (own ++ gates) ∙ map-append (λ (cell : LogicCell ℕ). Logic (map_cell (net_name names) cell)) own gates in
-      let e5 : map (λ gater. Gate gater) (map (map_gater (net_name names)) (gated_gaters library test m)) ≡ gater_parts names (gated_gaters library test m) = map_twice (λ gater. Gate gater) (map_gater (net_name names)) (gated_gaters library test m) in
+      let e5 : map (λ gater. GaterPart gater) (map (map_gater (net_name names)) (gated_gaters library test m)) ≡ gater_parts names (gated_gaters library test m) = map_twice (λ gater. GaterPart gater) (map_gater (net_name names)) (gated_gaters library test m) in
       let e6 : map (register_part no) (map (map_register (net_name names)) (gated_registers test m)) ≡ clocked_parts names (gated_registers test m) = map_twice (register_part no) (map_register (net_name names)) (gated_registers test m) in
       let a = input_parts names ins ++ input_parts names tests ++ output_parts names m.circuit.outputs ++ clock_parts names m.circuit.clock in
       (λ i. e1 i ++ e2 i ++ e3 i ++ e4 i ++ e5 i ++ e6 i)

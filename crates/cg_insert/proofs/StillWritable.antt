@@ -18,10 +18,10 @@ use Rattle.cg_machine.specs.Gates.{AddedGate}
 use Rattle.cg_machine.specs.Machine.{IsMachine, MachineData, added_name, additions}
 use Rattle.cg_netlist.proofs.Driven.{in_range}
 use Rattle.cg_netlist.proofs.NetOrder.{from_mapped}
-use Rattle.cg_netlist.proofs.OrderedForm.{clock_nets_within, gates_renumbered}
+use Rattle.cg_netlist.proofs.OrderedForm.{clock_nets_within, gaters_renumbered}
 use Rattle.cg_net.proofs.Members.{is_in_right}
 use Rattle.cg_netlist.proofs.Each.{by_recursion, each_together, from_recursion}
-use Rattle.cg_netlist.specs.Circuit.{Circuit, GatingCell, LogicCell, RegisterCell, gate_nets, net_order}
+use Rattle.cg_netlist.specs.Circuit.{Circuit, GatingCell, LogicCell, RegisterCell, gater_outputs, net_order}
 use Rattle.cg_net.specs.NetSets.{is_in}
 use Rattle.cg_netlist.specs.Moment.{zip_with}
 use Rattle.cg_netlist.specs.Netlist.{IsNetlist}
@@ -35,7 +35,7 @@ use Rattle.cg_insert.proofs.GatedCells.{found_All}
 use Rattle.cg_insert.proofs.GatedForm.{gated_formed, inputs_once}
 use Rattle.cg_insert.proofs.GatedParts.{few_names, gates_are}
 use Rattle.cg_netlist_telling.proofs.OrderedNames.{named_at}
-use Rattle.cg_insert.specs.Insert.{CanInsert, enables_of, first_gate, fitting, gate_names, gate_outputs, gated, gater_cell}
+use Rattle.cg_insert.specs.Insert.{CanInsert, enables_of, first_gater_output, fitting, gate_names, new_gater_outputs, gated, gater_cell}
 use Rattle.cg_insert.specs.Insert.{gating_cell, gating_kind, inserted, no_cell, placed_gate, reclocked}
 
 -- what holds of each place holds of each
@@ -98,23 +98,23 @@ module _ (library : List CellData) (test : Option (List ℕ)) (m : MachineData) 
   kinds_of (r ∷ rs) (e ∷ es) all = (all.0, kinds_of rs es all.1)
 
   -- no gated clock is called `NIL`
-  gate_named : (x : ℕ) → is_in (gate_nets g) x ≡ true → net_name g.names x ≢ NIL
+  gate_named : (x : ℕ) → is_in (gater_outputs g) x ≡ true → net_name g.names x ≢ NIL
   gate_named x among same =
-      let found = in_range (length (enables_of m)) (first_gate m test) x (sym (ap (λ xs. is_in xs x) (gates_are library test m good can)) ∙ among) in
+      let found = in_range (length (enables_of m)) (first_gater_output m test) x (sym (ap (λ xs. is_in xs x) (gates_are library test m good can)) ∙ among) in
       let front : List NetName = m.circuit.names ++ option_to_list test in
-      let count : length front ≡ first_gate m test = length-append m.circuit.names (option_to_list test) in
-      let k : ℕ = x - first_gate m test in
+      let count : length front ≡ first_gater_output m test = length-append m.circuit.names (option_to_list test) in
+      let k : ℕ = x - first_gater_output m test in
       let name : net_name g.names x ≡ added_name m (additions m + k) =
-      unwrap_or-slice_get g.names x [] ∙ (get_or-append_right front (gate_names m) (first_gate m test) x [] count found.0 ∙ get_or-map-range_with_len (added_name m) (additions m) (length (enables_of m)) k (additions m + k) [] (omega (arith, found.0, found.1)) refl) in
+      unwrap_or-slice_get g.names x [] ∙ (get_or-append_right front (gate_names m) (first_gater_output m test) x [] count found.0 ∙ get_or-map-range_with_len (added_name m) (additions m) (length (enables_of m)) k (additions m + k) [] (omega (arith, found.0, found.1)) refl) in
       never_nil m.prefix (additions m + k) (omega (arith, found.0, found.1, few_names m good)) (sym name ∙ same)
 
   abbrev Clocked : RegisterCell ℕ ℕ → Type 0
-  Clocked r = r.kind ≡ Plain → is_in (gate_nets (ordered g)) r.clock ≡ true → net_name (ordered g).names r.clock ≢ NIL
+  Clocked r = r.kind ≡ Plain → is_in (gater_outputs (ordered g)) r.clock ≡ true → net_name (ordered g).names r.clock ≢ NIL
 
   clocked : (r : RegisterCell ℕ ℕ) → Clocked r
   clocked r plain among same =
-      let found = from_mapped f (gate_nets g) r.clock (sym (ap (λ xs. is_in xs r.clock) (gates_renumbered f g.gaters)) ∙ among) in
-      let below : found.0 < length g.names = clock_nets_within g formed (inputs_once library test m good can) found.0 (is_in_right (option_to_list g.clock) (gate_nets g) found.0 found.1) in
+      let found = from_mapped f (gater_outputs g) r.clock (sym (ap (λ xs. is_in xs r.clock) (gaters_renumbered f g.gaters)) ∙ among) in
+      let below : found.0 < length g.names = clock_nets_within g formed (inputs_once library test m good can) found.0 (is_in_right (option_to_list g.clock) (gater_outputs g) found.0 found.1) in
       gate_named found.0 found.1 (sym (named_at g formed (inputs_once library test m good can) found.0 below) ∙ (ap (net_name (ordered g).names) found.2 ∙ same))
 
   pub still_writable : IsWritable library (inserted library test m)
@@ -123,7 +123,7 @@ module _ (library : List CellData) (test : Option (List ℕ)) (m : MachineData) 
       netlist = whole;
       outputs_once = once_out;
       functions = from_recursion Of (inserted library test m).cells (renumbered_of g.cells (each_together Of (take m.own_cells m.circuit.cells) (map (placed_gate library) m.gates) (by_recursion Of (take m.own_cells m.circuit.cells) own.functions) gates_of));
-      gating = from_recursion (λ (h : GatingCell ℕ). IsOf library h.cell) (inserted library test m).gaters (gaters_of (enables_of m) (gate_outputs test m) (λ e among. found_of (gating_kind test) (can.gater (some_enable e among))));
+      gating = from_recursion (λ (h : GatingCell ℕ). IsOf library h.cell) (inserted library test m).gaters (gaters_of (enables_of m) (new_gater_outputs test m) (λ e among. found_of (gating_kind test) (can.gater (some_enable e among))));
       kinds = from_recursion Kind (inserted library test m).registers (kinds_of m.circuit.registers m.enables (each_place Kind m.circuit.registers own_kind));
     };
     clocks = from_recursion Clocked (inserted library test m).registers (each_place Clocked (inserted library test m).registers (λ k r at. clocked r));

@@ -54,8 +54,8 @@ gater_cell library test = fitting library (gating_kind test)
 abbrev pub test_net : MachineData → Option (List ℕ) → Option ℕ
 test_net m test = option_map (λ _. length m.circuit.names) test
 
-abbrev pub first_gate : MachineData → Option (List ℕ) → ℕ
-first_gate m test = length m.circuit.names + length (option_to_list test)
+abbrev pub first_gater_output : MachineData → Option (List ℕ) → ℕ
+first_gater_output m test = length m.circuit.names + length (option_to_list test)
 
 abbrev pub placed_gate : List CellData → AddedGate → LogicCell ℕ
 placed_gate library gate = record { inputs = gate.inputs; output = gate.output; function = Cell (fitting library gate.kind) }
@@ -73,13 +73,13 @@ gating_cell library test m enable output =
 -- a register with an enable is clocked by the gating cell of that enable
 abbrev pub clock_under : Option (List ℕ) → MachineData → RegisterCell ℕ ℕ → Option ℕ → ℕ
 clock_under test m r None = r.clock
-clock_under test m r (Some enable) = first_gate m test + place_in (enables_of m) enable
+clock_under test m r (Some enable) = first_gater_output m test + place_in (enables_of m) enable
 
 abbrev pub reclocked : Option (List ℕ) → MachineData → RegisterCell ℕ ℕ → Option ℕ → RegisterCell ℕ ℕ
 reclocked test m r enable = record r { clock = clock_under test m r enable }
 
-abbrev pub gate_outputs : Option (List ℕ) → MachineData → List ℕ
-gate_outputs test m = range_with_len (first_gate m test) (length (enables_of m))
+abbrev pub new_gater_outputs : Option (List ℕ) → MachineData → List ℕ
+new_gater_outputs test m = range_with_len (first_gater_output m test) (length (enables_of m))
 
 abbrev pub gate_names : MachineData → List (List ℕ)
 gate_names m = map (added_name m) (range_with_len (additions m) (length (enables_of m)))
@@ -93,7 +93,7 @@ gated library test m = record {
   clock = m.circuit.clock;
   outputs = m.circuit.outputs;
   cells = take m.own_cells m.circuit.cells ++ map (placed_gate library) m.gates;
-  gaters = zip_with (gating_cell library test m) (enables_of m) (gate_outputs test m);
+  gaters = zip_with (gating_cell library test m) (enables_of m) (new_gater_outputs test m);
   registers = zip_with (reclocked test m) m.circuit.registers m.enables;
 }
 
@@ -102,7 +102,7 @@ inserted library test m = ordered (gated library test m)
 
 -- the limit that insertion passes, if it passes one: that on nets
 abbrev pub insertion_limit : Option (List ℕ) → MachineData → Option Limit
-insertion_limit test m = if nat_le (first_gate m test + length (enables_of m)) MOST_NETS then None else Some Nets
+insertion_limit test m = if nat_le (first_gater_output m test + length (enables_of m)) MOST_NETS then None else Some Nets
 
 -- the condition: the library has a cell for each added gate, and one for gating where there is an enable; the test input
 -- is a new name

@@ -5,7 +5,7 @@ ghost use Rattle.std.specs.List.{find};
 ghost use Rattle.std.specs.Option.{option_copied, option_map, option_to_list};
 ghost use Rattle.cg_cell.specs.Cell.{CellData};
 ghost use Rattle.cg_cell.specs.Fit.{is_fit};
-ghost use Rattle.cg_insert.specs.Insert.{enables_of, first_gate, gating_kind, test_net};
+ghost use Rattle.cg_insert.specs.Insert.{enables_of, first_gater_output, gating_kind, test_net};
 ghost use Rattle.cg_insert.specs.inner.GatedParts.{gated_gaters, gated_registers};
 ghost use Rattle.cg_netlist_telling.specs.NamedParts.{clocked_part, clocked_parts};
 ghost use Rattle.cg_netlist_telling.specs.NamedParts.{gater_part, gater_parts, placed_outputs, with_clock};
@@ -23,10 +23,18 @@ use cg_net::id::{NetId, RegId};
 use cg_netlist::fault::AddFault;
 use cg_netlist::view::{GaterView, RegKind, RegView};
 use cg_netlist_builder::builder::Builder;
-use cg_netlist_telling::cells::tell_gater;
-use cg_netlist_telling::names::NetlistNames;
-use cg_netlist_telling::registers::{clock_or_first, tell_register};
+use cg_netlist_telling::parts::{NetlistNames, clock_or_first, tell_gater, tell_register};
 use std::alloc::Global;
+
+/// What becomes gating cells, and of what: a machine with its enables, the library of the cells, and the name of a test input
+/// where their test pins are on one.
+#[derive(Clone, Copy)]
+pub(crate) struct Gating<'a> {
+    pub(crate) machine: &'a Machine,
+    pub(crate) enables: &'a Enables,
+    pub(crate) library: &'a Library,
+    pub(crate) test: Option<&'a Name>,
+}
 
 /// The net of the test input, if there is one: it comes behind the machine's nets.
 pub(crate) fn test_net(machine: &Machine, test: Option<&Name>) -> Option<NetId>
@@ -40,8 +48,8 @@ pub(crate) fn test_net(machine: &Machine, test: Option<&Name>) -> Option<NetId>
 
 /// The net of the first gating cell's output; those of the others follow it.
 #[tactic(auto, using(crate::proofs::GatedParts::few_enables))]
-pub(crate) fn first_gate(machine: &Machine, test: Option<&Name>) -> u32
-    ensures first { result ≡ first_gate machine.now (option_copied test.entry) }
+pub(crate) fn first_gater_output(machine: &Machine, test: Option<&Name>) -> u32
+    ensures first { result ≡ first_gater_output machine.now (option_copied test.entry) }
     ensures fits { result + length (enables_of machine.now) < 2 ^ 31 }
 {
     let _netlist = machine.netlist();
@@ -65,26 +73,23 @@ fn gating_kind(test: Option<&Name>) -> FitKind
 pub(crate) fn tell_gaters(
     builder: &mut Builder,
     names: &NetlistNames<'_>,
-    machine: &Machine,
-    library: &Library,
-    test: Option<&Name>,
-    enables: &Enables,
+    gating: &Gating<'_>,
 ) -> Result<(), AddFault>
-    requires enables { enables.now ≡ enables_of machine.now }
-    requires fits { enables_of machine.now ≢ [] → (cell : CellData) × (find (is_fit (gating_kind (option_copied test))) library.now ≡ Some cell) }
-    requires parts { MayTell builder.old (gater_parts names.now (gated_gaters library.now (option_copied test) machine.now)) }
-    ensures { WasTold builder.old (gater_parts names.now (gated_gaters library.now (option_copied test.entry) machine.now)) builder.new result }
+    requires enables { gating.now.enables.now ≡ enables_of gating.now.machine.now }
+    requires fits { enables_of gating.now.machine.now ≢ [] → (cell : CellData) × (find (is_fit (gating_kind (option_copied gating.now.test))) gating.now.library.now ≡ Some cell) }
+    requires parts { MayTell builder.old (gater_parts names.now (gated_gaters gating.now.library.now (option_copied gating.now.test) gating.now.machine.now)) }
+    ensures { WasTold builder.old (gater_parts names.now (gated_gaters gating.now.library.now (option_copied gating.now.test) gating.now.machine.now)) builder.new result }
 {
-    let clock = clock_or_first(machine.netlist());
-    let first = first_gate(machine, test);
-    let kind = gating_kind(test);
-    for number in 0..enables.len() {
-        let cell = fitting(library, kind);
-        let test_pin = test_net(machine, test);
+    let clock = clock_or_first(gating.machine.netlist());
+    let first = first_gater_output(gating.machine, gating.test);
+    let kind = gating_kind(gating.test);
+    for number in 0..gating.enables.len() {
+        let cell = fitting(gating.library, kind);
+        let test_pin = test_net(gating.machine, gating.test);
         let output = NetId::new(first + number as u32);
         let gater = GaterView {
             clock,
-            enable: enables.net(number),
+            enable: gating.enables.net(number),
             test: test_pin,
             output,
             cell,
@@ -99,20 +104,18 @@ pub(crate) fn tell_registers(
     alloc: Global,
     builder: &mut Builder,
     names: &NetlistNames<'_>,
-    machine: &Machine,
-    test: Option<&Name>,
-    enables: &Enables,
+    gating: &Gating<'_>,
 ) -> Result<(), AddFault>
-    requires enables { enables.now ≡ enables_of machine.now }
-    requires parts { MayTell builder.old (clocked_parts names.now (gated_registers (option_copied test) machine.now)) }
-    ensures { WasTold builder.old (clocked_parts names.now (gated_registers (option_copied test.entry) machine.now)) builder.new result }
+    requires enables { gating.now.enables.now ≡ enables_of gating.now.machine.now }
+    requires parts { MayTell builder.old (clocked_parts names.now (gated_registers (option_copied gating.now.test) gating.now.machine.now)) }
+    ensures { WasTold builder.old (clocked_parts names.now (gated_registers (option_copied gating.now.test) gating.now.machine.now)) builder.new result }
 {
-    let _netlist = machine.netlist();
-    let first = first_gate(machine, test);
-    for number in 0..machine.registers() {
+    let _netlist = gating.machine.netlist();
+    let first = first_gater_output(gating.machine, gating.test);
+    for number in 0..gating.machine.registers() {
         let reg = RegId::new(number);
-        let gate = gate_of(machine, enables, first, reg);
-        tell_at(alloc, builder, names, machine, reg, gate)?;
+        let gate = gate_of(gating.machine, gating.enables, first, reg);
+        tell_at(alloc, builder, names, gating.machine, reg, gate)?;
     }
     Ok(())
 }

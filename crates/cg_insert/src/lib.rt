@@ -9,8 +9,7 @@
 //! - `names`: the names of the nets, those of the added ones made of the prefix and a number.
 //! - `logic`: added gates, told to a builder as cells of the library.
 //! - `clocked`: gating cells and registers, told to a builder.
-//! - `telling`: all parts, told to a builder.
-//! - `insert`: the netlist.
+//! - `insert`: the netlist: all its parts, told to a builder.
 //! - `laws`: what is proved of the netlist that a machine's enables make.
 #![tactic(auto)]
 
@@ -20,4 +19,3 @@ pub mod insert;
 pub mod laws;
 mod logic;
 mod names;
-mod telling;

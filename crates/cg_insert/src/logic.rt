@@ -16,7 +16,7 @@ use cg_machine::machine::Machine;
 use cg_machine::view::GateView;
 use cg_netlist::fault::AddFault;
 use cg_netlist_builder::builder::Builder;
-use cg_netlist_telling::names::NetlistNames;
+use cg_netlist_telling::parts::NetlistNames;
 use std::alloc::Global;
 
 /// Tells the added gates of a machine, each as the first cell of the library that fits it.

@@ -9,7 +9,7 @@ ghost use Rattle.cg_insert.specs.Insert.{enables_of};
 
 use cg_cell::name::Name;
 use cg_machine::machine::Machine;
-use cg_netlist_telling::names::NetlistNames;
+use cg_netlist_telling::parts::NetlistNames;
 use cg_text::number::push_number;
 use std::alloc::{AllocError, Global};
 

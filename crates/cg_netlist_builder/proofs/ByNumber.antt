@@ -36,13 +36,13 @@ module _ {N M : Type 0} (f : N → M) where
       ap (λ xs. xs ++ flat_map (λ (s : RegisterCell M (Option M)). option_to_list s.clock) (map (map_open f) rs)) (test_mapped f r.clock)
       ∙ (ap (λ xs. map f (option_to_list r.clock) ++ xs) (open_clocks_mapped rs) ∙ sym (map-append f (option_to_list r.clock) (flat_map (λ (s : RegisterCell N (Option N)). option_to_list s.clock) rs)))
 
-  gate_clocks_mapped : (gs : List (GatingCell N)) → map (λ (g : GatingCell M). g.clock) (map (map_gater f) gs) ≡ map f (map (λ (g : GatingCell N). g.clock) gs)
-  gate_clocks_mapped [] = refl
-  gate_clocks_mapped (g ∷ gs) = ap (λ xs. f g.clock ∷ xs) (gate_clocks_mapped gs)
+  gater_clocks_mapped : (gs : List (GatingCell N)) → map (λ (g : GatingCell M). g.clock) (map (map_gater f) gs) ≡ map f (map (λ (g : GatingCell N). g.clock) gs)
+  gater_clocks_mapped [] = refl
+  gater_clocks_mapped (g ∷ gs) = ap (λ xs. f g.clock ∷ xs) (gater_clocks_mapped gs)
 
   pub pins_mapped : (gs : List (GatingCell N)) (rs : List (RegisterCell N (Option N))) → pins_by (map (map_gater f) gs) (map (map_open f) rs) ≡ map f (pins_by gs rs)
   pins_mapped gs rs =
-      ap (λ xs. xs ++ flat_map (λ (r : RegisterCell M (Option M)). option_to_list r.clock) (map (map_open f) rs)) (gate_clocks_mapped gs)
+      ap (λ xs. xs ++ flat_map (λ (r : RegisterCell M (Option M)). option_to_list r.clock) (map (map_open f) rs)) (gater_clocks_mapped gs)
       ∙ (ap (λ xs. map f (map (λ (g : GatingCell N). g.clock) gs) ++ xs) (open_clocks_mapped rs)
       ∙ sym (map-append f (map (λ (g : GatingCell N). g.clock) gs) (flat_map (λ (r : RegisterCell N (Option N)). option_to_list r.clock) rs)))
 
@@ -104,8 +104,8 @@ module _ (names : List NetName) (different : AllPairs (λ name other. name ≢ o
         ∙ ap (λ xs. xs ++ map name k ++ map name g ++ map name r) (map-append name i c)))))))
 
     pub roots_as : AllByRecursion Is (driven_by_gaters gaters) → AllByRecursion Is (pins_by gaters registers) → roots_by bytes_eq (map name clocks) (map (map_gater name) gaters) (map (map_open name) registers) ≡ map name (roots_by nat_eq clocks gaters registers)
-    roots_as gates_in pins_in =
+    roots_as gaters_in pins_in =
         ap (λ xs. map name clocks ++ filter (λ net. not (is_known xs net)) (pins_by (map (map_gater name) gaters) (map (map_open name) registers))) (gaters_driven_mapped name gaters)
         ∙ (ap (λ xs. map name clocks ++ filter (λ net. not (is_known (map name (driven_by_gaters gaters)) net)) xs) (pins_mapped name gaters registers)
-        ∙ (ap (λ xs. map name clocks ++ xs) (filter_as (driven_by_gaters gaters) (pins_by gaters registers) gates_in pins_in)
+        ∙ (ap (λ xs. map name clocks ++ xs) (filter_as (driven_by_gaters gaters) (pins_by gaters registers) gaters_in pins_in)
         ∙ sym (map-append name clocks (filter (λ net. not (is_in (driven_by_gaters gaters) net)) (pins_by gaters registers)))))

@@ -36,13 +36,13 @@ roots_found rooted sources used shown given n count rs ss us first shown_is give
     ∙ (ap (λ x. is_in rs net && ((not (is_in ss net) || x) || is_marked used net)) (before_is rooted rs count net root_table (omega (arith, lt, count_is)))
     ∙ ap (λ x. is_in rs net && ((not (is_in ss net) || list_any (λ other. nat_lt other net) rs) || x)) (used_table.tells net lt)))) there
 
-pub gates_found : (gated used unreached shown lost : List Bool) (n count : ℕ) (gs us : List ℕ) (test : ℕ → Bool) (first : Option ℕ) → shown ≡ gated → lost ≡ unreached → count ≡ n → AreMarksOf gated n (is_in gs) → AreMarksOf used n (is_in us) → AreMarksOf unreached count test
+pub gaters_found : (gated used unreached shown lost : List Bool) (n count : ℕ) (gs us : List ℕ) (test : ℕ → Bool) (first : Option ℕ) → shown ≡ gated → lost ≡ unreached → count ≡ n → AreMarksOf gated n (is_in gs) → AreMarksOf used n (is_in us) → AreMarksOf unreached count test
     → IsFirst (length shown) (λ net. is_marked shown net && (is_marked used net || is_marked lost net)) first → IsFirst n (λ net. is_in gs net && (is_in us net || test net)) first
-gates_found gated used unreached shown lost n count gs us test first shown_is lost_is count_is gate_table used_table lost_table found =
+gaters_found gated used unreached shown lost n count gs us test first shown_is lost_is count_is gater_table used_table lost_table found =
     let Test : List Bool → List Bool → ℕ → Bool = λ cs ls net. is_marked cs net && (is_marked used net || is_marked ls net) in
-    let there : IsFirst n (Test gated unreached) first = subst (λ m. IsFirst m (Test gated unreached) first) gate_table.fits (subst (λ ls. IsFirst (length gated) (Test gated ls) first) lost_is (subst (λ cs. IsFirst (length cs) (Test cs lost) first) shown_is found)) in
+    let there : IsFirst n (Test gated unreached) first = subst (λ m. IsFirst m (Test gated unreached) first) gater_table.fits (subst (λ ls. IsFirst (length gated) (Test gated ls) first) lost_is (subst (λ cs. IsFirst (length cs) (Test cs lost) first) shown_is found)) in
     same_first (Test gated unreached) (λ net. is_in gs net && (is_in us net || test net)) n first (λ net lt.
-    ap (λ x. x && (is_marked used net || is_marked unreached net)) (gate_table.tells net lt)
+    ap (λ x. x && (is_marked used net || is_marked unreached net)) (gater_table.tells net lt)
     ∙ (ap (λ x. is_in gs net && (x || is_marked unreached net)) (used_table.tells net lt) ∙ ap (λ x. is_in gs net && (is_in us net || x)) (lost_table.tells net (omega (arith, lt, count_is))))) there
 
 pub chain_within : (n : ℕ) (gs : List (GatingCell ℕ)) → AllByRecursion (GaterWithin n) gs → AllByRecursion (CellWithin n) (chain gs)

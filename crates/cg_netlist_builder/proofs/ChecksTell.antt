@@ -17,8 +17,8 @@ use Rattle.cg_netlist.proofs.RankLemmas.{ranked, unranked}
 use Rattle.cg_netlist_builder.proofs.ByNumber.{count_as, drivers_as, roots_as, uses_mapped}
 use Rattle.cg_netlist.proofs.Each.{each, each_together}
 use Rattle.cg_netlist_builder.proofs.FirstAt.{each_at, first_at, name_at}
-use Rattle.cg_netlist_builder.proofs.GateRanksTell.{gated_as, gated_none, gated_some, ranked_reaches, reaches_ranked}
-use Rattle.cg_netlist_parts.proofs.GatedNets.{before, behind}
+use Rattle.cg_netlist_builder.proofs.GaterRanksTell.{gated_as, gated_none, gated_some, ranked_reaches, reaches_ranked}
+use Rattle.cg_netlist_parts.proofs.GaterOutputs.{before, behind}
 use Rattle.cg_netlist_parts.proofs.Kept.{CellNets}
 use Rattle.cg_netlist_parts.proofs.KnownNames.{known_each, known_head, known_tail, same_word, word_at}
 use Rattle.cg_netlist_parts.proofs.NamePlaces.{any_known}
@@ -32,12 +32,12 @@ use Rattle.cg_netlist_builder.specs.inner.FirstNet.{IsFirst}
 use Rattle.cg_net.specs.Names.{NetName, is_known, net_name}
 use Rattle.cg_netlist.specs.Ranks.{driving_cell, rank_of}
 use Rattle.cg_netlist_builder.specs.inner.Numbers.{AreNumbers, GaterWithin, Numbers, OpenWithin, drivers_by, driving, driving_gater}
-use Rattle.cg_netlist_builder.specs.inner.Numbers.{gate_rank, gated, is_bad_clock, is_bad_gate, is_bad_root, is_behind_cycle}
+use Rattle.cg_netlist_builder.specs.inner.Numbers.{gater_rank, gated, is_bad_clock, is_bad_gater, is_bad_root, is_behind_cycle}
 use Rattle.cg_netlist_builder.specs.inner.Numbers.{is_driven_twice, is_undriven, pins_by, rooted, roots_by, seen, used}
 use Rattle.cg_netlist.specs.Places.{CellWithin}
 use Rattle.cg_netlist_parts.specs.Faults.{EachNet, HasClock, IsClockProper, IsDrivenIfUsed, IsDrivenOnce, IsEnding, IsFault, IsFirstNot}
-use Rattle.cg_netlist_parts.specs.Faults.{IsGateProper, IsRootProper, ends_within, reaches}
-use Rattle.cg_netlist_parts.specs.Part.{Part, cells, clocks, drivers, gaters, inputs, is_gated, nets, roots, uses}
+use Rattle.cg_netlist_parts.specs.Faults.{IsGaterProper, IsRootProper, ends_within, reaches}
+use Rattle.cg_netlist_parts.specs.Part.{Part, cells, clocks, drivers, gaters, inputs, is_gater_output, nets, roots, uses}
 use Rattle.cg_netlist_parts.specs.Said.{Said, said}
 use Rattle.cg_netlist.specs.Wiring.{driven_by_cells, driven_by_gaters, driven_by_registers, map_cell, map_gater, map_open}
 use Rattle.cg_netlist.specs.Wiring.{used_by}
@@ -137,8 +137,8 @@ module _ (parts : List Part) (n : Numbers) (ok : AreNumbers n) (same : said part
   gaters_seen = ap (λ (s : Said). s.gaters) same
 
   -- the numbers of the lists are of nets
-  gates_in : AllByRecursion Is (gated n)
-  gates_in = map_each Is (λ (g : GatingCell ℕ). g.output) (GaterWithin (length n.names)) (λ g within. within.output) n.gaters ok.gaters
+  gaters_in : AllByRecursion Is (gated n)
+  gaters_in = map_each Is (λ (g : GatingCell ℕ). g.output) (GaterWithin (length n.names)) (λ g within. within.output) n.gaters ok.gaters
 
   pins_in : AllByRecursion Is (pins_by n.gaters n.registers)
   pins_in = each_together Is (map (λ (g : GatingCell ℕ). g.clock) n.gaters) (flat_map (λ (r : RegisterCell ℕ (Option ℕ)). option_to_list r.clock) n.registers)
@@ -171,7 +171,7 @@ module _ (parts : List Part) (n : Numbers) (ok : AreNumbers n) (same : said part
       each_together Is (n.inputs ++ declared ++ driven_by_cells n.cells ++ driven_by_gaters n.gaters) (driven_by_registers n.registers)
       (each_together Is (n.inputs ++ declared ++ driven_by_cells n.cells) (driven_by_gaters n.gaters) (each_together Is (n.inputs ++ declared) (driven_by_cells n.cells)
       (each_together Is n.inputs declared ok.inputs (filter_each Is (λ net. not (is_in n.inputs net)) n.clocks ok.clocks))
-      (map_each Is (λ (k : LogicCell ℕ). k.output) (CellWithin (length n.names)) (λ k within. within.output) n.cells ok.cells)) gates_in)
+      (map_each Is (λ (k : LogicCell ℕ). k.output) (CellWithin (length n.names)) (λ k within. within.output) n.cells ok.cells)) gaters_in)
       (flat_each Is (λ (r : RegisterCell ℕ (Option ℕ)). shown_nets r) (OpenWithin (length n.names)) (λ r within. within.outputs) n.registers ok.registers)
 
   -- the lists of the parts are those of the numbers, by name
@@ -182,7 +182,7 @@ module _ (parts : List Part) (n : Numbers) (ok : AreNumbers n) (same : said part
   uses_seen = ap (λ (s : Said). used_by s.cells s.gaters s.registers s.outputs) same ∙ uses_mapped name n.cells n.gaters n.registers n.outputs
 
   pub roots_seen : roots parts ≡ map name (rooted n)
-  roots_seen = ap (λ (s : Said). roots_by bytes_eq s.clocks s.gaters s.registers) same ∙ roots_as n.names ok.different n.inputs n.clocks n.outputs n.cells n.gaters n.registers gates_in pins_in
+  roots_seen = ap (λ (s : Said). roots_by bytes_eq s.clocks s.gaters s.registers) same ∙ roots_as n.names ok.different n.inputs n.clocks n.outputs n.cells n.gaters n.registers gaters_in pins_in
 
   given_seen : inputs parts ++ clocks parts ≡ map name (n.inputs ++ n.clocks)
   given_seen = ap (λ (s : Said). s.inputs ++ s.clocks) same ∙ sym (map-append name n.inputs n.clocks)
@@ -318,8 +318,8 @@ module _ (parts : List Part) (n : Numbers) (ok : AreNumbers n) (same : said part
         go (Some x) first = (once, driven, first)
 
     -- clocks
-    gate_at_name : (x : ℕ) → Is x → is_gated parts (name x) ≡ is_in (gated n) x
-    gate_at_name x lt = gated_as parts once n.names ok.different n.gaters ok.gaters gaters_seen x lt
+    gater_at_name : (x : ℕ) → Is x → is_gater_output parts (name x) ≡ is_in (gated n) x
+    gater_at_name x lt = gated_as parts once n.names ok.different n.gaters ok.gaters gaters_seen x lt
 
     earlier_at : (x : ℕ) → Is x → list_any (is_known (roots parts)) (before_first (bytes_eq (name x)) (nets parts)) ≡ list_any (λ other. nat_lt other x) (rooted n)
     earlier_at x lt =
@@ -357,46 +357,46 @@ module _ (parts : List Part) (n : Numbers) (ok : AreNumbers n) (same : said part
       ]
     ]
 
-    gate_if : (x : ℕ) → Is x → is_in (gated n) x ≡ true → is_bad_gate n x ≡ false → IsGateProper parts (name x)
-    gate_if x lt gate good =
-        let both = or_parts (is_in (used n) x) (option_map_or (λ k. is_none (gate_rank n.gaters k)) (driving_gater n.gaters x) false) good in
+    gater_if : (x : ℕ) → Is x → is_in (gated n) x ≡ true → is_bad_gater n x ≡ false → IsGaterProper parts (name x)
+    gater_if x lt gate good =
+        let both = or_parts (is_in (used n) x) (option_map_or (λ k. is_none (gater_rank n.gaters k)) (driving_gater n.gaters x) false) good in
         let chain = go (driving_gater n.gaters x) refl both.1 in
         record { unused = use_at x lt ∙ both.0; steps = chain.0; reached = chain.1 }
       where
-        go : (o : Option ℕ) → driving_gater n.gaters x ≡ o → option_map_or (λ k. is_none (gate_rank n.gaters k)) o false ≡ false → (m : ℕ) × (reaches parts m (name x) ≡ true)
+        go : (o : Option ℕ) → driving_gater n.gaters x ≡ o → option_map_or (λ k. is_none (gater_rank n.gaters k)) o false ≡ false → (m : ℕ) × (reaches parts m (name x) ≡ true)
         go None none ranked = absurd (both_ways (is_in (gated n) x) (gated_none n.gaters 0 x none) gate)
         go (Some j) some ranked =
             let found = gated_some n.gaters 0 x j some in
             let place : j ≡ found.0 = found.2 ∙ omega arith in
-            let up = ranked_reaches parts once n.names ok.different n.gaters ok.gaters gaters_seen (length n.gaters) found.0 found.1 found.3 (ap (λ i. is_some (gate_rank n.gaters i)) (sym place) ∙ some_none (gate_rank n.gaters j) ranked) in
+            let up = ranked_reaches parts once n.names ok.different n.gaters ok.gaters gaters_seen (length n.gaters) found.0 found.1 found.3 (ap (λ i. is_some (gater_rank n.gaters i)) (sym place) ∙ some_none (gater_rank n.gaters j) ranked) in
             (up.0, ap (λ y. reaches parts up.0 (name y)) (sym found.4) ∙ up.1)
 
-    bad_gate_if : (x : ℕ) → Is x → is_bad_gate n x ≡ true → IsGateProper parts (name x) → ⊥
-    bad_gate_if x lt bad proper = elim (or_cases (is_in (used n) x) (option_map_or (λ k. is_none (gate_rank n.gaters k)) (driving_gater n.gaters x) false) bad) [
+    bad_gater_if : (x : ℕ) → Is x → is_bad_gater n x ≡ true → IsGaterProper parts (name x) → ⊥
+    bad_gater_if x lt bad proper = elim (or_cases (is_in (used n) x) (option_map_or (λ k. is_none (gater_rank n.gaters k)) (driving_gater n.gaters x) false) bad) [
       | inl used_here ↦ both_ways (is_known (uses parts) (name x)) proper.unused (use_at x lt ∙ used_here)
       | inr unranked ↦ go (driving_gater n.gaters x) refl unranked
     ]
       where
-        go : (o : Option ℕ) → driving_gater n.gaters x ≡ o → option_map_or (λ k. is_none (gate_rank n.gaters k)) o false ≡ true → ⊥
+        go : (o : Option ℕ) → driving_gater n.gaters x ≡ o → option_map_or (λ k. is_none (gater_rank n.gaters k)) o false ≡ true → ⊥
         go None none unranked = both_ways false refl unranked
         go (Some j) some unranked =
             let found = gated_some n.gaters 0 x j some in
             let place : j ≡ found.0 = found.2 ∙ omega arith in
-            let ranked : is_some (gate_rank n.gaters found.0) ≡ true = reaches_ranked parts once n.names ok.different n.gaters ok.gaters gaters_seen proper.steps found.0 found.1 found.3 (ap (λ y. reaches parts proper.steps (name y)) found.4 ∙ proper.reached) in
-            both_ways (is_some (gate_rank n.gaters j)) (none_some (gate_rank n.gaters j) unranked) (ap (λ i. is_some (gate_rank n.gaters i)) place ∙ ranked)
+            let ranked : is_some (gater_rank n.gaters found.0) ≡ true = reaches_ranked parts once n.names ok.different n.gaters ok.gaters gaters_seen proper.steps found.0 found.1 found.3 (ap (λ y. reaches parts proper.steps (name y)) found.4 ∙ proper.reached) in
+            both_ways (is_some (gater_rank n.gaters j)) (none_some (gater_rank n.gaters j) unranked) (ap (λ i. is_some (gater_rank n.gaters i)) place ∙ ranked)
 
     proper_if : (x : ℕ) → Is x → is_bad_clock n x ≡ false → IsClockProper parts (name x)
     proper_if x lt good =
-        let both = or_parts (is_in (rooted n) x && is_bad_root n x) (is_in (gated n) x && is_bad_gate n x) good in
+        let both = or_parts (is_in (rooted n) x && is_bad_root n x) (is_in (gated n) x && is_bad_gater n x) good in
         record {
           as_root = λ root. root_if x lt (sym (ap (λ b. b && is_bad_root n x) (sym (root_at x lt) ∙ root)) ∙ both.0);
-          as_gate = λ gate. let here : is_in (gated n) x ≡ true = sym (gate_at_name x lt) ∙ gate in gate_if x lt here (sym (ap (λ b. b && is_bad_gate n x) here) ∙ both.1);
+          as_gater = λ gate. let here : is_in (gated n) x ≡ true = sym (gater_at_name x lt) ∙ gate in gater_if x lt here (sym (ap (λ b. b && is_bad_gater n x) here) ∙ both.1);
         }
 
     improper_if : (x : ℕ) → Is x → is_bad_clock n x ≡ true → IsClockProper parts (name x) → ⊥
-    improper_if x lt bad proper = elim (or_cases (is_in (rooted n) x && is_bad_root n x) (is_in (gated n) x && is_bad_gate n x) bad) [
+    improper_if x lt bad proper = elim (or_cases (is_in (rooted n) x && is_bad_root n x) (is_in (gated n) x && is_bad_gater n x) bad) [
       | inl root ↦ let both = and_parts (is_in (rooted n) x) (is_bad_root n x) root in bad_root_if x lt both.1 (proper.as_root (root_at x lt ∙ both.0))
-      | inr gate ↦ let both = and_parts (is_in (gated n) x) (is_bad_gate n x) gate in bad_gate_if x lt both.1 (proper.as_gate (gate_at_name x lt ∙ both.0))
+      | inr gate ↦ let both = and_parts (is_in (gated n) x) (is_bad_gater n x) gate in bad_gater_if x lt both.1 (proper.as_gater (gater_at_name x lt ∙ both.0))
     ]
 
     pub clock_first : EachNet parts (IsDrivenIfUsed parts) → EachNet parts (IsEnding parts) → (first : Option ℕ) → IsFirst (length n.names) (is_bad_clock n) first

@@ -17,7 +17,7 @@ use Rattle.cg_netlist_builder.specs.inner.Heard.{Hears, IsHeard}
 use Rattle.cg_netlist_builder.specs.inner.Mentioned.{PutsCell, PutsGater, PutsNet, PutsRegister}
 use Rattle.cg_netlist.specs.Places.{CellWithin}
 use Rattle.cg_netlist_builder.specs.inner.Numbers.{GaterWithin, AreNumbers, Numbers, OpenWithin, seen}
-use Rattle.cg_netlist_parts.specs.Part.{Part, Input, Output, Clock, Logic, Gate, Register, mentioned}
+use Rattle.cg_netlist_parts.specs.Part.{Part, Input, Output, Clock, Logic, GaterPart, Register, mentioned}
 use Rattle.cg_netlist_parts.specs.Said.{Said, said, with_part}
 use Rattle.cg_netlist_parts.specs.Says.{IsPart}
 use Rattle.cg_netlist.specs.Wiring.{map_cell, map_gater, map_open, map_outputs}
@@ -247,12 +247,12 @@ hears_cell n names cells cell numbered few_registers puts =
     } in
     subst (λ ns. P ns cells) (sym puts.names) (subst (P (with_names n.names words)) (sym puts.put) there) puts.named puts.within puts.few
 
-pub hears_gater : (n : Numbers) (names : List NetName) (gaters : List (GatingCell ℕ)) (gater : GatingCell NetName) → AreNumbers n → length n.registers ≤ MOST_REGISTERS → PutsGater n.names names n.gaters gaters gater → Hears n (record n { names = names; gaters = gaters }) (Gate gater)
+pub hears_gater : (n : Numbers) (names : List NetName) (gaters : List (GatingCell ℕ)) (gater : GatingCell NetName) → AreNumbers n → length n.registers ≤ MOST_REGISTERS → PutsGater n.names names n.gaters gaters gater → Hears n (record n { names = names; gaters = gaters }) (GaterPart gater)
 hears_gater n names gaters gater numbered few_registers puts =
-    let words = mentioned (Gate gater) in
+    let words = mentioned (GaterPart gater) in
     let kept = said_keeps n words numbered in
     let good = numbered_keeps n words numbered in
-    let P : List NetName → List (GatingCell ℕ) → Type 0 = λ ns gs. (map_gater (net_name ns) puts.gater ≡ gater) → GaterWithin (length ns) puts.gater → length ns ≤ MOST_NETS → Hears n (record n { names = ns; gaters = gs }) (Gate gater) in
+    let P : List NetName → List (GatingCell ℕ) → Type 0 = λ ns gs. (map_gater (net_name ns) puts.gater ≡ gater) → GaterWithin (length ns) puts.gater → length ns ≤ MOST_NETS → Hears n (record n { names = ns; gaters = gs }) (GaterPart gater) in
     let there : P (with_names n.names words) (n.gaters ++ puts.gater ∷ []) = λ named within few. record {
       numbered = record { different = good.different; inputs = good.inputs; outputs = good.outputs; clocks = good.clocks; cells = good.cells; gaters = each_more (GaterWithin (length (with_names n.names words))) n.gaters puts.gater good.gaters within; registers = good.registers };
       said_is =

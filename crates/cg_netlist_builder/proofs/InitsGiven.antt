@@ -18,7 +18,7 @@ use Rattle.cg_netlist.specs.declared.parts.RegisterKind.TheVariants.{Plain, Flop
 use Rattle.cg_netlist_builder.specs.Inits.{init_given, shown_plainly, with_init, with_inits}
 use Rattle.cg_netlist_builder.specs.inner.Heard.{IsHeard}
 use Rattle.cg_netlist_builder.specs.inner.Numbers.{Numbers, OpenWithin, numbers_with, seen}
-use Rattle.cg_netlist_parts.specs.Part.{Part, Input, Output, Clock, Logic, Gate, Register, cell_in, clock_in, each_once, gater_in, input_in}
+use Rattle.cg_netlist_parts.specs.Part.{Part, Input, Output, Clock, Logic, GaterPart, Register, cell_in, clock_in, each_once, gater_in, input_in}
 use Rattle.cg_netlist_parts.specs.Part.{mentioned, output_in, register_in}
 use Rattle.cg_netlist_parts.specs.Said.{Said, said}
 use Rattle.cg_netlist_parts.specs.Says.{IsPart}
@@ -62,61 +62,22 @@ module _ (given : NetName → Option ℕ) where
   part_with (Register r) = Register (with_init given r)
   part_with part = part
 
-  mentioned_same : (p : Part) → mentioned (part_with p) ≡ mentioned p
-  mentioned_same (Input net) = refl
-  mentioned_same (Output net) = refl
-  mentioned_same (Clock net) = refl
-  mentioned_same (Logic cell) = refl
-  mentioned_same (Gate gater) = refl
-  mentioned_same (Register r) = refl
+  -- what a part tells that is no init
+  tells_same : {Y : Type 0} (tell : Part → Y) → ((r : RegisterCell NetName (Option NetName)) → tell (Register (with_init given r)) ≡ tell (Register r)) → (p : Part) → tell (part_with p) ≡ tell p
+  tells_same tell same (Input net) = refl
+  tells_same tell same (Output net) = refl
+  tells_same tell same (Clock net) = refl
+  tells_same tell same (Logic cell) = refl
+  tells_same tell same (GaterPart gater) = refl
+  tells_same tell same (Register r) = same r
 
   all_mentioned : (ps : List Part) → flat_map mentioned (map part_with ps) ≡ flat_map mentioned ps
   all_mentioned [] = refl
-  all_mentioned (p ∷ ps) = λ i. mentioned_same p i ++ all_mentioned ps i
+  all_mentioned (p ∷ ps) = λ i. tells_same mentioned (λ r. refl) p i ++ all_mentioned ps i
 
-  picked : {Y : Type 0} (pick : Part → Option Y) → ((p : Part) → pick (part_with p) ≡ pick p) → (ps : List Part) → filter_map pick (map part_with ps) ≡ filter_map pick ps
+  picked : {Y : Type 0} (pick : Part → Option Y) → ((r : RegisterCell NetName (Option NetName)) → pick (Register (with_init given r)) ≡ pick (Register r)) → (ps : List Part) → filter_map pick (map part_with ps) ≡ filter_map pick ps
   picked pick same [] = refl
-  picked pick same (p ∷ ps) = λ i. cons_option (same p i) (picked pick same ps i)
-
-  input_same : (p : Part) → input_in (part_with p) ≡ input_in p
-  input_same (Input net) = refl
-  input_same (Output net) = refl
-  input_same (Clock net) = refl
-  input_same (Logic cell) = refl
-  input_same (Gate gater) = refl
-  input_same (Register r) = refl
-
-  output_same : (p : Part) → output_in (part_with p) ≡ output_in p
-  output_same (Input net) = refl
-  output_same (Output net) = refl
-  output_same (Clock net) = refl
-  output_same (Logic cell) = refl
-  output_same (Gate gater) = refl
-  output_same (Register r) = refl
-
-  clock_same : (p : Part) → clock_in (part_with p) ≡ clock_in p
-  clock_same (Input net) = refl
-  clock_same (Output net) = refl
-  clock_same (Clock net) = refl
-  clock_same (Logic cell) = refl
-  clock_same (Gate gater) = refl
-  clock_same (Register r) = refl
-
-  cell_same : (p : Part) → cell_in (part_with p) ≡ cell_in p
-  cell_same (Input net) = refl
-  cell_same (Output net) = refl
-  cell_same (Clock net) = refl
-  cell_same (Logic cell) = refl
-  cell_same (Gate gater) = refl
-  cell_same (Register r) = refl
-
-  gater_same : (p : Part) → gater_in (part_with p) ≡ gater_in p
-  gater_same (Input net) = refl
-  gater_same (Output net) = refl
-  gater_same (Clock net) = refl
-  gater_same (Logic cell) = refl
-  gater_same (Gate gater) = refl
-  gater_same (Register r) = refl
+  picked pick same (p ∷ ps) = λ i. cons_option (tells_same pick same p i) (picked pick same ps i)
 
   registers_with : (ps : List Part) → filter_map register_in (map part_with ps) ≡ map (with_init given) (filter_map register_in ps)
   registers_with [] = refl
@@ -124,17 +85,17 @@ module _ (given : NetName → Option ℕ) where
   registers_with (Output net ∷ ps) = registers_with ps
   registers_with (Clock net ∷ ps) = registers_with ps
   registers_with (Logic cell ∷ ps) = registers_with ps
-  registers_with (Gate gater ∷ ps) = registers_with ps
+  registers_with (GaterPart gater ∷ ps) = registers_with ps
   registers_with (Register r ∷ ps) = ap (λ rs. with_init given r ∷ rs) (registers_with ps)
 
   said_with : (ps : List Part) → said (map part_with ps) ≡ record (said ps) { registers = map (with_init given) (said ps).registers }
   said_with ps = λ i. record {
     nets = each_once (all_mentioned ps i);
-    inputs = each_once (picked input_in input_same ps i);
-    outputs = each_once (picked output_in output_same ps i);
-    clocks = each_once (picked clock_in clock_same ps i);
-    cells = picked cell_in cell_same ps i;
-    gaters = picked gater_in gater_same ps i;
+    inputs = each_once (picked input_in (λ r. refl) ps i);
+    outputs = each_once (picked output_in (λ r. refl) ps i);
+    clocks = each_once (picked clock_in (λ r. refl) ps i);
+    cells = picked cell_in (λ r. refl) ps i;
+    gaters = picked gater_in (λ r. refl) ps i;
     registers = registers_with ps i;
   }
 
@@ -156,7 +117,7 @@ module _ (given : NetName → Option ℕ) where
     is_still (Output net) is = is
     is_still (Clock net) is = is
     is_still (Logic cell) is = is
-    is_still (Gate gater) is = is
+    is_still (GaterPart gater) is = is
     is_still (Register r) is = record {
       named = is.named;
       fits = record { kind = kind_same r.kind r is.fits.kind; pins = is.fits.pins; init = init_small (shown_plainly r.kind (shown_nets r)) r.init is.fits.init };

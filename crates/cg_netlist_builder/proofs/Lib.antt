@@ -6,7 +6,7 @@ pub mod ChecksTell
 pub mod EarlierNets
 pub mod FirstAt
 pub mod FirstFaults
-pub mod GateRanksTell
+pub mod GaterRanksTell
 pub mod Hearing
 pub mod InPlace
 pub mod InitsGiven

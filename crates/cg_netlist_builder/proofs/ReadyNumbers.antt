@@ -12,7 +12,7 @@ use Rattle.cg_netlist.specs.Netlist.{IsNetlist}
 use Rattle.cg_netlist.specs.Ranks.{driving_cell, driving_cells, next_rank, rank_of, rank_within, is_unranked}
 use Rattle.cg_netlist.specs.Chains.{chain, chain_cell}
 use Rattle.cg_netlist_builder.specs.inner.Heard.{IsHeard, IsReady}
-use Rattle.cg_netlist_builder.specs.inner.Numbers.{Numbers, driving_gater, gate_above, gate_rank, made_of, ordered_numbers, roots_by}
+use Rattle.cg_netlist_builder.specs.inner.Numbers.{Numbers, driving_gater, gate_above, gater_rank, made_of, ordered_numbers, roots_by}
 use Rattle.cg_netlist_builder.specs.inner.Numbers.{wired_numbers}
 use Rattle.cg_netlist_parts.specs.Faults.{IsFaultless}
 use Rattle.cg_netlist_parts.specs.Part.{Part, wired}
@@ -102,13 +102,13 @@ rank_same f g same zero k = refl
 rank_same f g same (suc n) k =
     ap (λ js. next_rank (map (rank_within f n) js)) (same k) ∙ next_rank-agree (rank_within f n) (rank_within g n) (g k) (all_same (rank_within f n) (rank_within g n) (g k) (λ j. rank_same f g same n j))
 
-pub chain_rank : (gaters : List (GatingCell ℕ)) (k : ℕ) → rank_of (chain gaters) k ≡ gate_rank gaters k
+pub chain_rank : (gaters : List (GatingCell ℕ)) (k : ℕ) → rank_of (chain gaters) k ≡ gater_rank gaters k
 chain_rank gaters k =
     ap (λ m. rank_within (driving_cells (chain gaters)) m k) (length-map gaters chain_cell) ∙ rank_same (driving_cells (chain gaters)) (gate_above gaters) (above_chain gaters) (length gaters) k
 
-pub chain_unranked : (gaters : List (GatingCell ℕ)) (net : ℕ) → is_unranked (chain gaters) net ≡ option_map_or (λ k. is_none (gate_rank gaters k)) (driving_gater gaters net) false
-chain_unranked gaters net = go (driving_cell (chain gaters) net) ∙ ap (λ o. option_map_or (λ k. is_none (gate_rank gaters k)) o false) (chain_driver gaters net)
+pub chain_unranked : (gaters : List (GatingCell ℕ)) (net : ℕ) → is_unranked (chain gaters) net ≡ option_map_or (λ k. is_none (gater_rank gaters k)) (driving_gater gaters net) false
+chain_unranked gaters net = go (driving_cell (chain gaters) net) ∙ ap (λ o. option_map_or (λ k. is_none (gater_rank gaters k)) o false) (chain_driver gaters net)
   where
-    go : (o : Option ℕ) → option_map_or (λ k. is_none (rank_of (chain gaters) k)) o false ≡ option_map_or (λ k. is_none (gate_rank gaters k)) o false
+    go : (o : Option ℕ) → option_map_or (λ k. is_none (rank_of (chain gaters) k)) o false ≡ option_map_or (λ k. is_none (gater_rank gaters k)) o false
     go None = refl
     go (Some k) = ap (λ r. is_none r) (chain_rank gaters k)

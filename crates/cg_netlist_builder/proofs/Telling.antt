@@ -13,7 +13,7 @@ use Rattle.cg_netlist_builder.specs.inner.Heard.{Fails, Hears, IsHeard, built}
 use Rattle.cg_netlist_builder.specs.inner.Mentioned.{IsMentionFault, IsRegisterFault}
 use Rattle.cg_netlist_builder.specs.inner.Numbers.{AreNumbers, Numbers, seen}
 use Rattle.cg_netlist_builder.specs.inner.Words.{part_said}
-use Rattle.cg_netlist_builder.specs.declared.part_words.PartWords.{PartWords}
+use Rattle.cg_netlist_builder.specs.declared.adding.PartWords.{PartWords}
 use Rattle.cg_netlist_builder.specs.Building.{IsAnswer, Takes}
 use Rattle.cg_netlist_parts.specs.Part.{Part, Register, mentioned}
 use Rattle.cg_netlist_parts.specs.Said.{Said, limit_of, with_part}

@@ -1,19 +1,19 @@
-//! Adding one part: its nets are mentioned, and it goes behind the others of its kind.
+//! A part as it is told, by the names of its nets: these are mentioned, and it goes behind the others of its kind.
 
-ghost use Rattle.std.specs.Prelude.{◌≡◌, ◌≤◌, ◌∷◌, [], IfOk, MatchResult, length, map};
-ghost use Rattle.std.specs.Option.{option_copied};
-ghost use Rattle.cg_netlist_builder.specs.Calls.{cell_of, kind_of, shows_inverse};
-ghost use Rattle.cg_netlist_builder.specs.inner.Words.{gater_said, register_said};
+ghost use Rattle.std.specs.Prelude.{◌≡◌, ◌≤◌, ◌∷◌, [], IfOk, MatchResult, length, map, ◌≢◌, ◌<◌, ◌++◌, Some, OnOk};
+ghost use Rattle.std.specs.List.{AllPairs};
+ghost use Rattle.std.specs.Option.{option_copied, option_to_list};
+ghost use Rattle.cg_net.specs.Names.{with_names};
 ghost use Rattle.cg_netlist.specs.declared.parts.LogicFunction.TheVariants.{Cell as PlacedCell};
+ghost use Rattle.cg_netlist_builder.specs.Calls.{cell_of, kind_of, shows_inverse};
 ghost use Rattle.cg_netlist_builder.specs.inner.Mentioned.{IsMentioned, IsMentionFault, IsRegisterFault, PutsCell, PutsGater, PutsNet};
 ghost use Rattle.cg_netlist_builder.specs.inner.Mentioned.{PutsRegister};
-ghost use Rattle.cg_netlist_parts.specs.Part.{Gate, Logic as LogicPart, Register as RegisterPart, mentioned};
-ghost use Rattle.cg_net.specs.Names.{with_names};
+ghost use Rattle.cg_netlist_builder.specs.inner.Words.{gater_said, register_said};
+ghost use Rattle.cg_netlist_parts.specs.Part.{GaterPart, Logic as LogicPart, Register as RegisterPart, mentioned};
 
-use crate::mention::{mention, mention_each, mention_given, put};
-use crate::open_register::OpenRegister;
-use crate::part_words::{GaterWords, RegisterWords};
+use crate::parts::OpenRegister;
 use cg_cell::cell::{CellType, Role};
+use cg_cell::cover::Cover;
 use cg_limit::{Limit, MOST_NETS, MOST_REGISTERS};
 use cg_net::id::NetId;
 use cg_net::names::NetNames;
@@ -21,6 +21,51 @@ use cg_net::net_set::NetSet;
 use cg_netlist::fault::AddFault;
 use cg_netlist::parts::{Gater, Logic, LogicFunction, RegisterKind};
 use std::alloc::{AllocError, Global};
+
+/// A part, as a call of a builder says it.
+#[derive(Drop)]
+pub(crate) enum PartWords<'a> {
+    /// An input of the netlist.
+    Input(&'a [u8]),
+
+    /// An output of the netlist.
+    Output(&'a [u8]),
+
+    /// A declared clock.
+    Clock(&'a [u8]),
+
+    /// A logic cell of these inputs and this output whose function is a cover.
+    Cover(&'a [&'a [u8]], &'a [u8], Cover),
+
+    /// A placed logic cell, with these inputs and this output.
+    Placed(&'a CellType, &'a [&'a [u8]], &'a [u8]),
+
+    /// A gating cell.
+    Gater(GaterWords<'a>),
+
+    /// A register.
+    Register(RegisterWords<'a>),
+}
+
+/// A gating cell, with the nets at its pins.
+#[derive(Clone, Copy)]
+pub(crate) struct GaterWords<'a> {
+    pub(crate) cell: &'a CellType,
+    pub(crate) clock: &'a [u8],
+    pub(crate) enable: &'a [u8],
+    pub(crate) test: Option<&'a [u8]>,
+    pub(crate) output: &'a [u8],
+}
+
+/// A register, of a cell or plain; each output with the place of its pin.
+#[derive(Clone, Copy)]
+pub(crate) struct RegisterWords<'a> {
+    pub(crate) cell: Option<&'a CellType>,
+    pub(crate) inputs: &'a [&'a [u8]],
+    pub(crate) outputs: &'a [(&'a [u8], u32)],
+    pub(crate) clock: Option<&'a [u8]>,
+    pub(crate) init: u8,
+}
 
 /// Mentions a net and puts it into a set.
 pub(crate) fn add_net(
@@ -94,7 +139,7 @@ pub(crate) fn add_gater(
     requires { length names.old ≤ MOST_NETS }
     ensures { MatchResult result
         (λ _. PutsGater names.old names.new gaters.old.items gaters.new.items (gater_said words.entry))
-        (λ fault. IsMentionFault (with_names names.old (mentioned (Gate (gater_said words.entry)))) fault) }
+        (λ fault. IsMentionFault (with_names names.old (mentioned (GaterPart (gater_said words.entry)))) fault) }
 {
     let cell = words.cell.clone()?;
     let clock = mention(alloc, names, words.clock)?;
@@ -200,5 +245,66 @@ fn is_inverse(cell: Option<&CellType>, place: u32) -> bool
             Some(pin) => matches!(pin.role(), Role::StateBar),
             None => false,
         },
+    }
+}
+
+/// The number of a net, which is mentioned here, perhaps for the first time.
+pub(crate) fn mention(alloc: Global, names: &mut NetNames, name: &[u8]) -> Result<NetId, AddFault>
+    requires { length names.old ≤ MOST_NETS }
+    ensures different { OnOk result (AllPairs (λ name other. name ≢ other) names.new) }
+    ensures mentions { MatchResult result
+        (λ net. IsMentioned names.old names.new (name.now ∷ []) (net ∷ []))
+        (λ fault. IsMentionFault (with_names names.old (name.now ∷ [])) fault) }
+{
+    let number = names.intern(alloc, name)?;
+    if names.len() > MOST_NETS {
+        return Err(AddFault::Limit(Limit::Nets));
+    }
+    Ok(NetId::new(number as u32))
+}
+
+/// The numbers of nets, which are mentioned here one after another.
+pub(crate) fn mention_each(
+    alloc: Global,
+    names: &mut NetNames,
+    mentioned: &[&[u8]],
+) -> Result<Vec<NetId>, AddFault>
+    requires { length names.old ≤ MOST_NETS }
+    ensures mentions { MatchResult result
+        (λ nets. IsMentioned names.old names.new (map (λ name. name.now) mentioned.now) nets.items)
+        (λ fault. IsMentionFault (with_names names.old (map (λ name. name.now) mentioned.now)) fault) }
+{
+    let mut nets = Vec::with_capacity(alloc, mentioned.len())?;
+    for name in mentioned {
+        let net = mention(alloc, names, name)?;
+        put(&mut nets, net)?;
+    }
+    Ok(nets)
+}
+
+/// The number of a net that may be given, which is mentioned here if it is.
+pub(crate) fn mention_given(
+    alloc: Global,
+    names: &mut NetNames,
+    given: Option<&[u8]>,
+) -> Result<Option<NetId>, AddFault>
+    requires { length names.old ≤ MOST_NETS }
+    ensures mentions { MatchResult result
+        (λ net. IsMentioned names.old names.new (option_to_list (option_copied given.entry)) (option_to_list net))
+        (λ fault. IsMentionFault (with_names names.old (option_to_list (option_copied given.entry))) fault) }
+{
+    match given {
+        None => Ok(None),
+        Some(name) => Ok(Some(mention(alloc, names, name)?)),
+    }
+}
+
+/// Puts a part behind the others.
+pub(crate) fn put<T: Drop>(parts: &mut Vec<T>, part: T) -> Result<(), AddFault>
+    ensures { MatchResult result (λ _. parts.new.items ≡ parts.old.items ++ part ∷ []) (λ fault. fault ≡ AddFault.NoMemory) }
+{
+    match parts.push(part) {
+        Ok(()) => Ok(()),
+        Err(_) => Err(AddFault::NoMemory),
     }
 }

@@ -14,10 +14,10 @@ ghost use Rattle.cg_netlist_builder.specs.Inits.{with_inits};
 ghost use Rattle.cg_netlist_builder.specs.Building.{Finishes, Takes, fresh};
 ghost use Rattle.cg_netlist_builder.specs.inner.Words.{part_said};
 ghost use Rattle.cg_netlist_parts.specs.Says.{IsPart};
-ghost use Rattle.cg_netlist_parts.specs.Part.{Clock, Gate, Input, Logic as LogicPart, Output, Register as RegisterPart, mentioned};
+ghost use Rattle.cg_netlist_parts.specs.Part.{Clock, GaterPart, Input, Logic as LogicPart, Output, Register as RegisterPart, mentioned};
 
+use crate::adding::{GaterWords, PartWords, RegisterWords};
 use crate::finish::finished;
-use crate::part_words::{GaterWords, PartWords, RegisterWords};
 use crate::parts::Parts;
 use cg_cell::cell::CellType;
 use cg_cell::cover::Cover;
@@ -140,8 +140,8 @@ impl Builder {
         requires kind { cell.now.kind ≡ GaterKind }
         requires test { count_by is_test cell.now.pins ≡ length (option_to_list (option_copied test)) }
         requires nets { AllByRecursion (λ name. IsTrue (is_name name))
-            (mentioned (Gate (gater_of cell.now clock.now enable.now (option_copied test) output.now))) }
-        ensures { Takes self.old (Gate (gater_of cell.now clock.now enable.now (option_copied test.entry) output.now)) self.new result }
+            (mentioned (GaterPart (gater_of cell.now clock.now enable.now (option_copied test) output.now))) }
+        ensures { Takes self.old (GaterPart (gater_of cell.now clock.now enable.now (option_copied test.entry) output.now)) self.new result }
     {
         let _pins = cell.pins();
         self.take(PartWords::Gater(GaterWords {
@@ -207,7 +207,7 @@ impl Builder {
             parts,
             refused: _,
         } = self;
-        finished(alloc, model, parts.told())
+        finished(alloc, model, parts)
     }
 
     /// Takes a part, unless a part was refused before.

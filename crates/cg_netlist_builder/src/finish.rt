@@ -10,7 +10,7 @@ ghost use Rattle.cg_netlist.specs.Ranks.{ranks_of};
 ghost use Rattle.cg_netlist_parts.specs.declared.fault.NetFault.TheVariants.{ClockFault, Cycle, NoDriver, NoMemory, TwoDrivers};
 ghost use Rattle.cg_netlist_builder.specs.inner.Finishing.{FindsFirstFault, has_no_clock};
 ghost use Rattle.cg_netlist_builder.specs.inner.Heard.{IsHeard};
-ghost use Rattle.cg_netlist_builder.specs.inner.Numbers.{AreNumbers, driving, gated, is_bad_clock, is_bad_gate, is_bad_root};
+ghost use Rattle.cg_netlist_builder.specs.inner.Numbers.{AreNumbers, driving, gated, is_bad_clock, is_bad_gater, is_bad_root};
 ghost use Rattle.cg_netlist_builder.specs.inner.Numbers.{is_behind_cycle, is_driven_twice, is_undriven, rooted, seen, used as in_use};
 ghost use Rattle.cg_netlist_parts.specs.Faults.{IsFault, IsFaultless};
 ghost use Rattle.cg_netlist_parts.specs.Part.{Part};
@@ -19,10 +19,12 @@ ghost use Rattle.cg_netlist_parts.specs.Says.{Says};
 ghost use Rattle.cg_net.specs.Names.{net_name};
 
 use crate::marks::{
-    earlier, first_bad_clock, first_bad_gate, first_marked, first_undriven, marks, repeated,
+    earlier, first_bad_clock, first_bad_gater, first_marked, first_undriven, marks, repeated,
 };
 use crate::order::in_net_order;
-use crate::told::{Told, chain_cells, clock_roots, gated_marks, order, uses};
+use crate::parts::{
+    Parts, add_listed, chain_cells, clock_roots, gater_output_marks, listed, order, uses,
+};
 use cg_cell::name::Name;
 use cg_net::id::NetId;
 use cg_netlist::cycles::{cell_ranks, unranked_marks};
@@ -31,7 +33,7 @@ use cg_netlist_parts::fault::NetFault;
 use std::alloc::{AllocError, Global};
 
 /// The netlist of the parts, or the first fault of them.
-pub(crate) fn finished(alloc: Global, model: Name, told: Told) -> Result<Netlist, NetFault>
+pub(crate) fn finished(alloc: Global, model: Name, told: Parts) -> Result<Netlist, NetFault>
     requires { IsHeard model told }
     ensures { (parts : List Part) → said parts ≡ seen told
         → MatchResult result (λ netlist. Says model parts netlist) (λ fault. (fault ≡ NoMemory) ⊎ IsFault parts fault) }
@@ -44,14 +46,15 @@ pub(crate) fn finished(alloc: Global, model: Name, told: Told) -> Result<Netlist
 }
 
 /// Looks for the faults of the parts, in their order.
-fn check(alloc: Global, told: &Told, ranks: &[Option<usize>]) -> Result<(), NetFault>
+fn check(alloc: Global, told: &Parts, ranks: &[Option<usize>]) -> Result<(), NetFault>
     requires numbers { AreNumbers told.now }
     requires named { All (λ name. IsTrue (is_name name)) told.now.names }
     requires ranks { ranks.now ≡ ranks_of told.now.cells }
     ensures { (parts : List Part) → said parts ≡ seen told.now
         → MatchResult result (λ _. IsFaultless parts) (λ fault. (fault ≡ NoMemory) ⊎ IsFault parts fault) }
 {
-    let drivers = order(alloc, told, &told.clocks)?;
+    let clocks = listed(alloc, &told.clocks)?;
+    let drivers = order(alloc, told, &clocks)?;
     check_drivers(alloc, told, &drivers)?;
     let used = used_marks(alloc, told)?;
     check_uses(alloc, told, &drivers, &used)?;
@@ -65,7 +68,7 @@ fn check(alloc: Global, told: &Told, ranks: &[Option<usize>]) -> Result<(), NetF
 }
 
 /// Marks on the nets that are used for their bits.
-fn used_marks(alloc: Global, told: &Told) -> Result<Vec<bool>, AllocError>
+fn used_marks(alloc: Global, told: &Parts) -> Result<Vec<bool>, AllocError>
     requires { AreNumbers told.now }
     ensures { IfOk result (λ marks. AreMarksOf marks.items (length told.now.names) (is_in (in_use told.now))) }
 {
@@ -74,7 +77,7 @@ fn used_marks(alloc: Global, told: &Told) -> Result<Vec<bool>, AllocError>
 }
 
 /// Looks for a net that is driven twice.
-fn check_drivers(alloc: Global, told: &Told, drivers: &[NetId]) -> Result<(), NetFault>
+fn check_drivers(alloc: Global, told: &Parts, drivers: &[NetId]) -> Result<(), NetFault>
     requires numbers { AreNumbers told.now }
     requires named { All (λ name. IsTrue (is_name name)) told.now.names }
     requires drivers { drivers.now ≡ driving told.now }
@@ -88,7 +91,7 @@ fn check_drivers(alloc: Global, told: &Told, drivers: &[NetId]) -> Result<(), Ne
 }
 
 /// Looks for a net that is used and not driven.
-fn check_uses(alloc: Global, told: &Told, drivers: &[NetId], used: &[bool]) -> Result<(), NetFault>
+fn check_uses(alloc: Global, told: &Parts, drivers: &[NetId], used: &[bool]) -> Result<(), NetFault>
     requires numbers { AreNumbers told.now }
     requires named { All (λ name. IsTrue (is_name name)) told.now.names }
     requires drivers { drivers.now ≡ driving told.now }
@@ -103,7 +106,7 @@ fn check_uses(alloc: Global, told: &Told, drivers: &[NetId], used: &[bool]) -> R
 }
 
 /// Looks for a net that is the output of a logic cell without a rank.
-fn check_cycles(alloc: Global, told: &Told, ranks: &[Option<usize>]) -> Result<(), NetFault>
+fn check_cycles(alloc: Global, told: &Parts, ranks: &[Option<usize>]) -> Result<(), NetFault>
     requires numbers { AreNumbers told.now }
     requires named { All (λ name. IsTrue (is_name name)) told.now.names }
     requires ranks { ranks.now ≡ ranks_of told.now.cells }
@@ -117,7 +120,7 @@ fn check_cycles(alloc: Global, told: &Told, ranks: &[Option<usize>]) -> Result<(
 }
 
 /// Looks for a net that carries the clock, and may not.
-fn check_clocks(alloc: Global, told: &Told, roots: &[NetId], used: &[bool]) -> Result<(), NetFault>
+fn check_clocks(alloc: Global, told: &Parts, roots: &[NetId], used: &[bool]) -> Result<(), NetFault>
     requires numbers { AreNumbers told.now }
     requires named { All (λ name. IsTrue (is_name name)) told.now.names }
     requires roots { roots.now ≡ rooted told.now }
@@ -125,7 +128,7 @@ fn check_clocks(alloc: Global, told: &Told, roots: &[NetId], used: &[bool]) -> R
     ensures { FindsFirstFault told.now ClockFault (is_bad_clock told.now) result }
 {
     let root = bad_root(alloc, told, roots, used)?;
-    let gate = bad_gate(alloc, told, used)?;
+    let gate = bad_gater(alloc, told, used)?;
     match earlier(root, gate) {
         None => Ok(()),
         Some(net) => Err(NetFault::ClockFault(name_of(alloc, told, net)?)),
@@ -136,7 +139,7 @@ fn check_clocks(alloc: Global, told: &Told, roots: &[NetId], used: &[bool]) -> R
 /// net, or is used for its bit.
 fn bad_root(
     alloc: Global,
-    told: &Told,
+    told: &Parts,
     roots: &[NetId],
     used: &[bool],
 ) -> Result<Option<usize>, AllocError>
@@ -147,27 +150,27 @@ fn bad_root(
 {
     let count = told.names.len();
     let rooted = marks(alloc, count, roots)?;
-    let mut sources = Vec::from_slice(alloc, &told.inputs)?;
-    sources.extend_from_slice(&told.clocks)?;
+    let mut sources = listed(alloc, &told.inputs)?;
+    add_listed(&mut sources, &told.clocks)?;
     let sources = marks(alloc, count, &sources)?;
     Ok(first_bad_clock(&rooted, &sources, used))
 }
 
 /// The first net that a gating cell drives, and that is used for its bit, or that no clock reaches.
-fn bad_gate(alloc: Global, told: &Told, used: &[bool]) -> Result<Option<usize>, AllocError>
+fn bad_gater(alloc: Global, told: &Parts, used: &[bool]) -> Result<Option<usize>, AllocError>
     requires numbers { AreNumbers told.now }
     requires used { AreMarksOf used.now (length told.now.names) (is_in (in_use told.now)) }
-    ensures { IfOk result (λ first. IsFirst (length told.now.names) (λ net. is_in (gated told.now) net && is_bad_gate told.now net) first) }
+    ensures { IfOk result (λ first. IsFirst (length told.now.names) (λ net. is_in (gated told.now) net && is_bad_gater told.now net) first) }
 {
-    let gated = gated_marks(alloc, told)?;
+    let gated = gater_output_marks(alloc, told)?;
     let chain = chain_cells(alloc, told)?;
     let ranks = cell_ranks(alloc, told.names.len(), &chain)?;
     let unreached = unranked_marks(alloc, told.names.len(), &chain, &ranks)?;
-    Ok(first_bad_gate(&gated, used, &unreached))
+    Ok(first_bad_gater(&gated, used, &unreached))
 }
 
 /// Whether there is a register or a gating cell, and no place where the clock may come from.
-fn lacks_clock(told: &Told, roots: &[NetId]) -> bool
+fn lacks_clock(told: &Parts, roots: &[NetId]) -> bool
     requires { roots.now ≡ rooted told.now }
     ensures { result ≡ has_no_clock told.now }
 {
@@ -175,7 +178,7 @@ fn lacks_clock(told: &Told, roots: &[NetId]) -> bool
 }
 
 /// The name of a net.
-fn name_of(alloc: Global, told: &Told, net: usize) -> Result<Name, AllocError>
+fn name_of(alloc: Global, told: &Parts, net: usize) -> Result<Name, AllocError>
     requires named { All (λ name. IsTrue (is_name name)) told.now.names }
     requires net { net < length told.now.names }
     ensures { IfOk result (λ name. name ≡ net_name told.now.names net) }

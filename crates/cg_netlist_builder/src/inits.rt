@@ -8,7 +8,7 @@ ghost use Rattle.cg_netlist.specs.Circuit.{shown_nets};
 ghost use Rattle.cg_netlist_builder.specs.Inits.{init_given, shown_plainly, with_init};
 ghost use Rattle.cg_netlist_builder.specs.inner.Numbers.{OpenWithin};
 
-use crate::open_register::OpenRegister;
+use crate::parts::OpenRegister;
 use cg_net::id::NetId;
 use cg_net::names::NetNames;
 use cg_netlist::parts::RegisterKind;

@@ -5,17 +5,12 @@
 //!
 //! The modules, in the order in which data flows through them:
 //!
-//! - `open_register`: registers whose clock is still open.
-//! - `marks`: marks on nets, and the first net that has one.
-//! - `mention`: mentioning nets by their names.
-//! - `part_words`: parts as they are told, by the names of their nets.
-//! - `adding`: adding one part.
+//! - `adding`: a part as it is told: its nets are mentioned, and it goes behind the others of its kind.
 //! - `inits`: inits that plain registers are given behind all parts.
-//! - `parts`: the parts so far, by the numbers of their nets.
+//! - `parts`: the parts so far, by the numbers of their nets, and these nets by what they are to them.
 //! - `builder`: building netlists, part by part.
-//! - `renumber`: parts with other numbers for their nets.
-//! - `order`: the places of the nets in net order.
-//! - `told`: the parts that a builder was told, with their nets in net order.
+//! - `marks`: marks on nets, and the first net that has one.
+//! - `order`: the nets in net order, and the parts with these numbers.
 //! - `finish`: the faults of what was built, in order.
 #![tactic(auto)]
 
@@ -24,10 +19,5 @@ pub mod builder;
 mod finish;
 mod inits;
 mod marks;
-mod mention;
-mod open_register;
 mod order;
-mod part_words;
 mod parts;
-mod renumber;
-mod told;

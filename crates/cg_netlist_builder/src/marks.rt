@@ -86,7 +86,7 @@ fn is_bad(clock: bool, input: bool, before: bool, used: bool) -> bool
 }
 
 /// The first net that a gating cell drives, and that is used as well, or that no clock reaches.
-pub(crate) fn first_bad_gate(gated: &[bool], used: &[bool], unreached: &[bool]) -> Option<usize>
+pub(crate) fn first_bad_gater(gated: &[bool], used: &[bool], unreached: &[bool]) -> Option<usize>
     requires used { length used.now ≡ length gated.now }
     requires unreached { length unreached.now ≡ length gated.now }
     ensures { IsFirst (length gated.now) (λ net. is_marked gated.now net && (is_marked used.now net || is_marked unreached.now net)) result }

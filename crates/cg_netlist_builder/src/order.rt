@@ -3,23 +3,25 @@
 ghost use Rattle.std.specs.Prelude.{◌≡◌, ◌<◌, ◌^◌, ℕ, nat_eq, length, map, slice_get, unwrap_or, IfOk};
 ghost use Rattle.std.specs.List.{All, AllByRecursion, IsDistinct, position_or_len};
 ghost use Rattle.std.specs.Option.{option_map, option_or, option_to_list};
-ghost use Rattle.cg_netlist_builder.specs.inner.Renumbering.{number_in};
+ghost use Rattle.cg_net.specs.Names.{net_name};
+ghost use Rattle.cg_netlist.specs.Wiring.{circuit, map_gater, map_wiring, map_cell, map_outputs, map_register};
 ghost use Rattle.cg_netlist_builder.specs.inner.Heard.{IsReady};
 ghost use Rattle.cg_netlist_builder.specs.inner.Numbers.{GaterWithin, clock_number, made_of, on_number, wired_numbers};
-ghost use Rattle.cg_netlist.specs.Wiring.{circuit, map_gater, map_wiring};
-ghost use Rattle.cg_net.specs.Names.{net_name};
+ghost use Rattle.cg_netlist_builder.specs.inner.Renumbering.{number_in, CellAmong, RegisterAmong};
 
-use crate::open_register::OpenRegister;
-use crate::renumber::{number, renumber, renumber_cells, renumber_registers};
-use crate::told::{Told, clock_roots, order};
+use crate::parts::{OpenRegister, Parts, clock_roots, order};
 use cg_cell::name::Name;
 use cg_net::id::NetId;
 use cg_net::names::OrderedNames;
-use cg_netlist::parts::{Gater, Parts, Register};
+use cg_netlist::parts::{Gater, Logic, Parts as NetlistParts, Register};
 use std::alloc::{AllocError, Global};
 
 /// The parts with their nets in net order. The clock is the first net from which it may come.
-pub(crate) fn in_net_order(alloc: Global, model: Name, told: Told) -> Result<Parts, AllocError>
+pub(crate) fn in_net_order(
+    alloc: Global,
+    model: Name,
+    told: Parts,
+) -> Result<NetlistParts, AllocError>
     requires { IsReady told }
     ensures { IfOk result (λ parts. parts ≡ made_of model told) }
 {
@@ -57,11 +59,11 @@ fn places(alloc: Global, count: usize, order: &[NetId]) -> Result<Vec<NetId>, Al
 fn renumbered(
     alloc: Global,
     model: Name,
-    told: Told,
+    told: Parts,
     order: Vec<NetId>,
     clock: Option<NetId>,
     places: &[NetId],
-) -> Result<Parts, AllocError>
+) -> Result<NetlistParts, AllocError>
     requires ready { IsReady told }
     requires places { length places.now ≡ length told.names }
     requires nets { All (λ net. net < length told.names) order.items }
@@ -69,15 +71,17 @@ fn renumbered(
     requires clock { clock ≡ clock_number told }
     ensures { IfOk result (λ parts. parts ≡ circuit model (map (net_name told.names) order.items) (map_wiring (number_in places.now) (wired_numbers told))) }
 {
-    let Told {
+    let Parts {
         names,
-        mut inputs,
-        mut outputs,
+        inputs,
+        outputs,
         clocks: _,
         mut cells,
         mut gaters,
         registers,
     } = told;
+    let mut inputs = inputs.into_vec();
+    let mut outputs = outputs.into_vec();
     let mut registers = clocked(alloc, registers, &clock)?;
     renumber(places, &mut inputs);
     renumber(places, &mut outputs);
@@ -85,7 +89,7 @@ fn renumbered(
     renumber_gaters(places, &mut gaters);
     renumber_registers(places, &mut registers);
     let names = OrderedNames::new(alloc, names, order)?;
-    Ok(Parts {
+    Ok(NetlistParts {
         model,
         names,
         inputs,
@@ -177,4 +181,71 @@ fn renumber_gater(places: &[NetId], gater: &mut Gater)
     gater.enable = number(places, gater.enable);
     gater.test = renumbered_given(places, &gater.test);
     gater.output = number(places, gater.output);
+}
+
+/// The number that a net gets.
+pub(crate) fn number(places: &[NetId], net: NetId) -> NetId
+    requires { net < length places.now }
+    ensures { result ≡ number_in places.now net }
+{
+    places[net.number() as usize]
+}
+
+/// Renumbers nets.
+pub(crate) fn renumber(places: &[NetId], nets: &mut [NetId])
+    requires { All (λ net. net < length places.now) nets.old }
+    ensures { nets.new ≡ map (number_in places.now) nets.old }
+{
+    for net in nets.iter_mut() {
+        *net = number(places, *net);
+    }
+}
+
+/// Renumbers the nets of logic cells.
+pub(crate) fn renumber_cells(places: &[NetId], cells: &mut [Logic])
+    requires { All (CellAmong (length places.now)) cells.old }
+    ensures { cells.new ≡ map (map_cell (number_in places.now)) cells.old }
+{
+    for cell in cells.iter_mut() {
+        renumber_cell(places, cell);
+    }
+}
+
+/// Renumbers the nets of a logic cell.
+fn renumber_cell(places: &[NetId], cell: &mut Logic)
+    requires { CellAmong (length places.now) cell.old }
+    ensures { cell.new ≡ map_cell (number_in places.now) cell.old }
+{
+    renumber(places, &mut cell.inputs);
+    cell.output = number(places, cell.output);
+}
+
+/// Renumbers the nets of registers.
+pub(crate) fn renumber_registers(places: &[NetId], registers: &mut [Register])
+    requires { All (RegisterAmong (length places.now)) registers.old }
+    ensures { registers.new ≡ map (map_register (number_in places.now)) registers.old }
+{
+    for register in registers.iter_mut() {
+        renumber_register(places, register);
+    }
+}
+
+/// Renumbers the nets of a register.
+fn renumber_register(places: &[NetId], register: &mut Register)
+    requires { RegisterAmong (length places.now) register.old }
+    ensures { register.new ≡ map_register (number_in places.now) register.old }
+{
+    renumber(places, &mut register.inputs);
+    renumber_outputs(places, &mut register.outputs);
+    register.clock = number(places, register.clock);
+}
+
+/// Renumbers the nets at outputs of a register.
+fn renumber_outputs(places: &[NetId], outputs: &mut [(NetId, bool)])
+    requires { All (λ net. net < length places.now) (map (λ output. output.0) outputs.old) }
+    ensures { outputs.new ≡ map_outputs (number_in places.now) outputs.old }
+{
+    for output in outputs.iter_mut() {
+        *output = (number(places, output.0), output.1);
+    }
 }

@@ -14,13 +14,13 @@ use Rattle.cg_netlist_parts.proofs.ByKind.{has_once, kind_each, picks_cell, pick
 use Rattle.cg_netlist_parts.proofs.ChainedParts.{all_reach, chained, chains_long, chains_of, gate_is}
 use Rattle.cg_netlist.proofs.Each.{each, from_recursion}
 use Rattle.cg_netlist_parts.proofs.Fitting.{cells_fit, gaters_fit, registers_fit}
-use Rattle.cg_netlist_parts.proofs.GatedNets.{pin_cases}
+use Rattle.cg_netlist_parts.proofs.GaterOutputs.{pin_cases}
 use Rattle.cg_netlist_parts.proofs.KnownNames.{known_cases, known_each, known_head, known_tail, same_word}
 use Rattle.cg_netlist_parts.proofs.NamePlaces.{from_places, same_place}
 use Rattle.cg_netlist_parts.proofs.NetLists.{carried_by, used_in}
 use Rattle.cg_netlist_parts.proofs.NoneBeside.{uses_wired}
 use Rattle.cg_netlist_parts.proofs.OrderMapped.{gaters_driven_mapped, used_mapped}
-use Rattle.cg_netlist_parts.proofs.OrderedParts.{clock_holds, clocks_there, different, gate_ordered, in_order, ordered_mentioned}
+use Rattle.cg_netlist_parts.proofs.OrderedParts.{clock_holds, clocks_there, different, gater_ordered, in_order, ordered_mentioned}
 use Rattle.cg_netlist_parts.proofs.OrderedParts.{root_clock, root_first, root_is, root_ordered, rooted, use_ordered, used_numbered}
 use Rattle.cg_netlist_parts.proofs.OrderedParts.{wired_back}
 use Rattle.cg_netlist_parts.proofs.RankedParts.{all_end, ranks_long, ranks_of, rising}
@@ -29,7 +29,7 @@ use Rattle.cg_net.specs.NetSets.{is_in}
 use Rattle.cg_net.specs.Names.{NetName, is_known, name_place}
 use Rattle.cg_netlist.specs.WellFormed.{IsWellFormed}
 use Rattle.cg_netlist_parts.specs.Faults.{IsFaultless}
-use Rattle.cg_netlist_parts.specs.Part.{Gate, Logic, Part, Register, cell_in, cells, clock_of, clock_pins, gater_in, gaters, mentioned}
+use Rattle.cg_netlist_parts.specs.Part.{GaterPart, Logic, Part, Register, cell_in, cells, clock_of, clock_pins, gater_in, gaters, mentioned}
 use Rattle.cg_netlist_parts.specs.Part.{on_clock, register_in, registers, roots, uses, wired}
 use Rattle.cg_netlist_parts.specs.Says.{AreTaken, IsPart, PartFits, Says, netlist_of}
 use Rattle.cg_netlist.specs.Wiring.{Wiring, driven_by_gaters, map_cell, map_gater, map_register, map_wiring, order_of}
@@ -85,11 +85,11 @@ module _ (model : List ℕ) (parts : List Part) (taken : AreTaken model parts) (
   clock_carries : (x : NetName) → clock_of parts ≡ Some x → Carries x
   clock_carries x is = is_in_left (option_to_list (option_map place (clock_of parts))) (driven_by_gaters (map (map_gater place) (gaters parts))) (place x) (ap (λ o. is_in (option_to_list (option_map place o)) (place x)) is ∙ or_left (nat_eq (place x) (place x)) false (eq-eqb (place x) (place x) refl))
 
-  gate_carries : (x : NetName) → is_known (driven_by_gaters (gaters parts)) x ≡ true → Carries x
-  gate_carries x gate = is_in_right (option_to_list (option_map place (clock_of parts))) (driven_by_gaters (map (map_gater place) (gaters parts))) (place x) (ap (λ xs. is_in xs (place x)) (gaters_driven_mapped place (gaters parts)) ∙ known_placed (driven_by_gaters (gaters parts)) x gate)
+  gater_carries : (x : NetName) → is_known (driven_by_gaters (gaters parts)) x ≡ true → Carries x
+  gater_carries x gate = is_in_right (option_to_list (option_map place (clock_of parts))) (driven_by_gaters (map (map_gater place) (gaters parts))) (place x) (ap (λ xs. is_in xs (place x)) (gaters_driven_mapped place (gaters parts)) ∙ known_placed (driven_by_gaters (gaters parts)) x gate)
 
   pin_carries : (x : NetName) → is_known (clock_pins parts) x ≡ true → Carries x
-  pin_carries x pin = elim ((pin_cases parts) x pin) [ inl root ↦ clock_carries x ((root_clock parts fine) x root) | inr gate ↦ gate_carries x gate ]
+  pin_carries x pin = elim ((pin_cases parts) x pin) [ inl root ↦ clock_carries x ((root_clock parts fine) x root) | inr gate ↦ gater_carries x gate ]
 
   clocked : (rs : List (RegisterCell NetName (Option NetName))) → AllByRecursion (λ (r : RegisterCell NetName (Option NetName)). AtPin r × (clock_of parts ≡ None → ⊥)) rs → AllByRecursion (λ (r : RegisterCell ℕ ℕ). is_in carriers r.clock ≡ true) (map (map_register place) (map (on_clock (clock_of parts)) rs))
   clocked [] at = tt
@@ -112,7 +112,7 @@ module _ (model : List ℕ) (parts : List Part) (taken : AreTaken model parts) (
         ap (is_in (used_in (map_wiring place w))) x.2 ∙ unused x.0 ((root_is parts fine) x.0 root).unused ((root_ordered parts fine) x.0 root)
     | inr gate ↦
         let x = from_places order (driven_by_gaters (gaters parts)) net (sym (ap (λ xs. is_in xs net) (gaters_driven_mapped place (gaters parts))) ∙ gate) in
-        ap (is_in (used_in (map_wiring place w))) x.2 ∙ unused x.0 ((gate_is parts fine) x.0 x.1).unused ((gate_ordered parts fine) x.0 x.1)
+        ap (is_in (used_in (map_wiring place w))) x.2 ∙ unused x.0 ((gate_is parts fine) x.0 x.1).unused ((gater_ordered parts fine) x.0 x.1)
   ]
 
   abbrev numbers : List ℕ
@@ -124,7 +124,7 @@ module _ (model : List ℕ) (parts : List Part) (taken : AreTaken model parts) (
     names = order_named;
     different = (different parts fine);
     functions = cells_fit place (cells parts) (kind_each cell_in (λ k. Logic k) picks_cell PartFits parts fits_each);
-    gating = gaters_fit place (gaters parts) (kind_each gater_in (λ g. Gate g) picks_gater PartFits parts fits_each);
+    gating = gaters_fit place (gaters parts) (kind_each gater_in (λ g. GaterPart g) picks_gater PartFits parts fits_each);
     fitting = registers_fit place (clock_of parts) (registers parts) (kind_each register_in (λ r. Register r) picks_register PartFits parts fits_each);
     used = (used_numbered parts fine);
     driven = driven_in_order (netlist_of model parts) (in_order parts fine);

@@ -6,7 +6,7 @@ use Rattle.std.specs.Str.{bytes_eq}
 use Rattle.std.proofs.lemmas.Bool.{both_ways, cases_Bool, or_cases, or_left}
 use Rattle.cg_netlist_parts.proofs.KnownNames.{known_cases, known_left, known_right, known_tail, same_word}
 use Rattle.cg_net.specs.Names.{NetName, is_known}
-use Rattle.cg_netlist_parts.specs.Part.{Clock, Gate, Input, Logic, Output, Part, Register, cell_in, clock_in, each_once, gater_in, input_in}
+use Rattle.cg_netlist_parts.specs.Part.{Clock, GaterPart, Input, Logic, Output, Part, Register, cell_in, clock_in, each_once, gater_in, input_in}
 use Rattle.cg_netlist_parts.specs.Part.{mentioned, output_in, register_in}
 
 -- a part of which something of a kind is picked is that thing wrapped
@@ -29,8 +29,8 @@ pub picks_cell : Picks cell_in (λ k. Logic k)
 picks_cell (Logic k) = refl
 picks_cell p = tt
 
-pub picks_gater : Picks gater_in (λ g. Gate g)
-picks_gater (Gate g) = refl
+pub picks_gater : Picks gater_in (λ g. GaterPart g)
+picks_gater (GaterPart g) = refl
 picks_gater p = tt
 
 pub picks_register : Picks register_in (λ r. Register r)

@@ -6,14 +6,14 @@ use Rattle.std.specs.Option.{option_map}
 use Rattle.std.specs.Str.{bytes_eq}
 use Rattle.std.proofs.lemmas.Option.{slice_get-map}
 use Rattle.cg_netlist_parts.proofs.ChainsEnd.{step_at}
-use Rattle.cg_netlist_parts.proofs.GatedNets.{gate_at, not_root, one_gate}
+use Rattle.cg_netlist_parts.proofs.GaterOutputs.{gate_at, not_root, one_gater}
 use Rattle.cg_netlist_parts.proofs.KnownNames.{known_each, known_head, known_tail, word_at}
 use Rattle.cg_netlist_parts.proofs.Least.{least, least_first, least_passes}
-use Rattle.cg_netlist_parts.proofs.Mentioned.{gate_net_mentioned}
+use Rattle.cg_netlist_parts.proofs.Mentioned.{gater_net_mentioned}
 use Rattle.cg_netlist_parts.proofs.OrderedParts.{root_clock}
 use Rattle.cg_netlist.specs.Circuit.{GatingCell}
 use Rattle.cg_net.specs.Names.{NetName, is_known, name_place}
-use Rattle.cg_netlist_parts.specs.Faults.{IsClockProper, IsFaultless, IsGateProper, reaches}
+use Rattle.cg_netlist_parts.specs.Faults.{IsClockProper, IsFaultless, IsGaterProper, reaches}
 use Rattle.cg_netlist_parts.specs.Part.{Part, clock_of, gaters, nets, roots, wired}
 use Rattle.cg_netlist.specs.Wiring.{Wiring, driven_by_gaters, map_gater, order_of}
 use Rattle.cg_net.proofs.TableLemmas.{mapped_at}
@@ -49,15 +49,15 @@ module _ (parts : List Part) (fine : IsFaultless parts) where
   chain_at (x ∷ gs) all zero g at = let same : x ≡ g = cc in subst (λ (h : GatingCell NetName). (is : Reached h) × (steps x all.0 ≡ steps h is)) same (all.0, refl)
   chain_at (x ∷ gs) all (suc k) g at = chain_at gs all.1 k g at
 
-  pub gates_reach : (gs : List (GatingCell NetName)) → ((x : NetName) → is_known (driven_by_gaters gs) x ≡ true → IsGateProper parts x) → AllByRecursion Reached gs
-  gates_reach [] is = tt
-  gates_reach (g ∷ gs) is = ((let p = is g.output (known_head g.output (driven_by_gaters gs)) in (p.steps, p.reached)), gates_reach gs (λ x i. is x (known_tail g.output x (driven_by_gaters gs) i)))
+  pub gaters_reach : (gs : List (GatingCell NetName)) → ((x : NetName) → is_known (driven_by_gaters gs) x ≡ true → IsGaterProper parts x) → AllByRecursion Reached gs
+  gaters_reach [] is = tt
+  gaters_reach (g ∷ gs) is = ((let p = is g.output (known_head g.output (driven_by_gaters gs)) in (p.steps, p.reached)), gaters_reach gs (λ x i. is x (known_tail g.output x (driven_by_gaters gs) i)))
 
-  pub gate_is : (x : NetName) → is_known (driven_by_gaters (gaters parts)) x ≡ true → IsGateProper parts x
-  gate_is x gate = (known_each (IsClockProper parts) (nets parts) x fine.proper (gate_net_mentioned parts x gate)).as_gate gate
+  pub gate_is : (x : NetName) → is_known (driven_by_gaters (gaters parts)) x ≡ true → IsGaterProper parts x
+  gate_is x gate = (known_each (IsClockProper parts) (nets parts) x fine.proper (gater_net_mentioned parts x gate)).as_gater gate
 
   pub all_reach : AllByRecursion Reached (gaters parts)
-  all_reach = gates_reach (gaters parts) gate_is
+  all_reach = gaters_reach (gaters parts) gate_is
 
   -- the clock pin of a gating cell with these many steps to a root
   abbrev Chained : ℕ → GatingCell NetName → Type 0
@@ -68,10 +68,10 @@ module _ (parts : List Part) (fine : IsFaultless parts) where
   chain_of zero k g at is = absurd ((not_root parts fine.once) g.output (word_at (driven_by_gaters (gaters parts)) k g.output ((gate_at parts fine.once) (gaters parts) k g at)) is)
   chain_of (suc zero) k g at is =
       let s = (step_at parts) 0 g.output is in
-      inl ((root_clock parts fine) g.clock (ap (λ (h : GatingCell NetName). is_known (roots parts) h.clock) ((one_gate parts fine.once) k s.0 g s.1 at s.2 s.3) ∙ s.4))
+      inl ((root_clock parts fine) g.clock (ap (λ (h : GatingCell NetName). is_known (roots parts) h.clock) ((one_gater parts fine.once) k s.0 g s.1 at s.2 s.3) ∙ s.4))
   chain_of (suc (suc m)) k g at is =
       let s = (step_at parts) (suc m) g.output is in
-      let up : reaches parts (suc m) g.clock ≡ true = ap (λ (h : GatingCell NetName). reaches parts (suc m) h.clock) ((one_gate parts fine.once) k s.0 g s.1 at s.2 s.3) ∙ s.4 in
+      let up : reaches parts (suc m) g.clock ≡ true = ap (λ (h : GatingCell NetName). reaches parts (suc m) h.clock) ((one_gater parts fine.once) k s.0 g s.1 at s.2 s.3) ∙ s.4 in
       let h = (step_at parts) m g.clock up in
       let c = chain_at (gaters parts) all_reach h.0 h.1 h.2 in
       let low : steps h.1 c.0 ≤ suc m = least_first (λ n. reaches parts n h.1.output) c.0.0 (suc m) (ap (reaches parts (suc m)) (sym h.3) ∙ up) in

@@ -12,7 +12,7 @@ use Rattle.cg_netlist_parts.proofs.Least.{least, least_first, least_passes}
 use Rattle.cg_netlist.specs.Circuit.{GatingCell}
 use Rattle.cg_net.specs.Names.{NetName, is_known}
 use Rattle.cg_netlist_parts.specs.Faults.{reaches}
-use Rattle.cg_netlist_parts.specs.Part.{Part, gaters, is_gated}
+use Rattle.cg_netlist_parts.specs.Part.{Part, gaters, is_gater_output}
 use Rattle.cg_netlist.specs.Wiring.{driven_by_gaters}
 
 -- what passes a test among elements
@@ -51,7 +51,7 @@ module _ (parts : List Part) where
     nets : List NetName
     long : length nets ≡ n
     apart : Apart nets
-    gates : AllByRecursion (λ y. is_gated parts y ≡ true) nets
+    gates : AllByRecursion (λ y. is_gater_output parts y ≡ true) nets
     reached : AllByRecursion (λ y. (j : ℕ) × (j ≤ n) × (reaches parts j y ≡ true)) nets
 
   -- a net that reaches in n steps and no fewer has such a chain
@@ -69,13 +69,13 @@ module _ (parts : List Part) where
               both_ways (reaches parts early.0 x) (none early.0 (omega (arith, early.1))) early.2),
           up.apart,
         );
-        gates = (ap (is_gated parts) s.3 ∙ gate_there (gaters parts) s.0 s.1 s.2, up.gates);
+        gates = (ap (is_gater_output parts) s.3 ∙ gate_there (gaters parts) s.0 s.1 s.2, up.gates);
         reached = ((suc n, omega arith, is), each (λ y. (j : ℕ) × (j ≤ n) × (reaches parts j y ≡ true)) (λ y. (j : ℕ) × (j ≤ suc n) × (reaches parts j y ≡ true)) (λ y r. (r.0, omega (arith, r.1), r.2)) up.nets up.reached);
       }
 
   chain_short : (n : ℕ) → Chain n → n ≤ length (gaters parts)
   chain_short n way =
-      let short : length way.nets ≤ length (driven_by_gaters (gaters parts)) = no_more way.nets (driven_by_gaters (gaters parts)) way.apart (λ y i. known_each (λ z. is_gated parts z ≡ true) way.nets y way.gates i) in
+      let short : length way.nets ≤ length (driven_by_gaters (gaters parts)) = no_more way.nets (driven_by_gaters (gaters parts)) way.apart (λ y i. known_each (λ z. is_gater_output parts z ≡ true) way.nets y way.gates i) in
       omega (arith, short, way.long, length-map (gaters parts) (λ (g : GatingCell NetName). g.output))
 
   -- whether a chain reaches within n steps

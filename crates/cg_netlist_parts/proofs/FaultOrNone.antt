@@ -11,8 +11,8 @@ use Rattle.cg_netlist_parts.proofs.KnownNames.{first_step, itself, known_head, k
 use Rattle.cg_netlist_parts.proofs.WaysEnd.{ends_bounded}
 use Rattle.cg_net.specs.Names.{NetName, is_known}
 use Rattle.cg_netlist_parts.specs.Faults.{HasClock, IsClockProper, IsDrivenIfUsed, IsDrivenOnce, IsEnding, IsFault, IsFaultless, IsFirstNot}
-use Rattle.cg_netlist_parts.specs.Faults.{IsGateProper, IsRootProper, ends_within}
-use Rattle.cg_netlist_parts.specs.Part.{Part, cells, clocks, drivers, gaters, inputs, is_gated, nets, registers, roots, uses}
+use Rattle.cg_netlist_parts.specs.Faults.{IsGaterProper, IsRootProper, ends_within}
+use Rattle.cg_netlist_parts.specs.Part.{Part, cells, clocks, drivers, gaters, inputs, is_gater_output, nets, registers, roots, uses}
 
 -- a fact holds, or does not
 abbrev pub Tells : Type 0 → Type 0
@@ -84,18 +84,18 @@ module _ (parts : List Part) where
         | inr fails ↦ inr (λ (proper : IsRootProper parts x). fails (proper.given, (proper.first, proper.unused)))
       ]
 
-  gate_tells : (x : NetName) → Tells (IsGateProper parts x)
+  gate_tells : (x : NetName) → Tells (IsGaterProper parts x)
   gate_tells x = elim (tells_both (is_known (uses parts) x ≡ false) (reaches_within parts (length (gaters parts)) x ≡ true) (tells_bool (is_known (uses parts) x) false) (tells_bool (reaches_within parts (length (gaters parts)) x) true)) [
     | inl is ↦ inl (let chain = bounded_chains parts x is.1 in record { unused = is.0; steps = chain.0; reached = chain.1 })
-    | inr fails ↦ inr (λ (proper : IsGateProper parts x). fails (proper.unused, chains_bounded parts proper.steps x proper.reached))
+    | inr fails ↦ inr (λ (proper : IsGaterProper parts x). fails (proper.unused, chains_bounded parts proper.steps x proper.reached))
   ]
 
   proper_tells : (x : NetName) → Tells (IsClockProper parts x)
-  proper_tells x = elim (tells_both (is_known (roots parts) x ≡ true → IsRootProper parts x) (is_gated parts x ≡ true → IsGateProper parts x)
+  proper_tells x = elim (tells_both (is_known (roots parts) x ≡ true → IsRootProper parts x) (is_gater_output parts x ≡ true → IsGaterProper parts x)
       (tells_if (is_known (roots parts) x ≡ true) (IsRootProper parts x) (tells_bool (is_known (roots parts) x) true) (root_tells x))
-      (tells_if (is_gated parts x ≡ true) (IsGateProper parts x) (tells_bool (is_gated parts x) true) (gate_tells x))) [
-        | inl is ↦ inl (record { as_root = is.0; as_gate = is.1 })
-        | inr fails ↦ inr (λ (proper : IsClockProper parts x). fails (proper.as_root, proper.as_gate))
+      (tells_if (is_gater_output parts x ≡ true) (IsGaterProper parts x) (tells_bool (is_gater_output parts x) true) (gate_tells x))) [
+        | inl is ↦ inl (record { as_root = is.0; as_gater = is.1 })
+        | inr fails ↦ inr (λ (proper : IsClockProper parts x). fails (proper.as_root, proper.as_gater))
       ]
 
   clock_tells : Tells (HasClock parts)

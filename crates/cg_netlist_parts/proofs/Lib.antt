@@ -7,7 +7,7 @@ pub mod Counted
 pub mod Different
 pub mod FaultOrNone
 pub mod Fitting
-pub mod GatedNets
+pub mod GaterOutputs
 pub mod Kept
 pub mod KnownNames
 pub mod Least

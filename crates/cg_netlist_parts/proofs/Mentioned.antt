@@ -9,7 +9,7 @@ use Rattle.cg_netlist_parts.proofs.KnownNames.{known_cases, known_left, known_ri
 use Rattle.cg_netlist_parts.proofs.NetLists.{cell_inputs, gater_inputs, register_inputs}
 use Rattle.cg_netlist.specs.Circuit.{GatingCell, LogicCell, RegisterCell, asked_nets, shown_nets}
 use Rattle.cg_net.specs.Names.{NetName, is_known}
-use Rattle.cg_netlist_parts.specs.Part.{Clock, Gate, Input, Logic, Output, Part, Register, cell_in, cells, clock_in, clock_pins, clocks}
+use Rattle.cg_netlist_parts.specs.Part.{Clock, GaterPart, Input, Logic, Output, Part, Register, cell_in, cells, clock_in, clock_pins, clocks}
 use Rattle.cg_netlist_parts.specs.Part.{drivers, each_once, gater_in, gaters, input_in, inputs, mentioned, nets, output_in, outputs}
 use Rattle.cg_netlist_parts.specs.Part.{register_in, registers, roots, uses}
 use Rattle.cg_netlist.specs.Wiring.{driven_by_cells, driven_by_gaters, driven_by_registers}
@@ -38,8 +38,8 @@ module _ (parts : List Part) where
   cells_mention : (g : LogicCell NetName → List NetName) → ((v : LogicCell NetName) (x : NetName) → is_known (g v) x ≡ true → is_known (mentioned (Logic v)) x ≡ true) → (x : NetName) → is_known (flat_map g (cells parts)) x ≡ true → In x
   cells_mention g within x is = once_has (flat_map mentioned parts) x (kind_mentioned cell_in (λ k. Logic k) picks_cell g within parts x is)
 
-  gaters_mention : (g : GatingCell NetName → List NetName) → ((v : GatingCell NetName) (x : NetName) → is_known (g v) x ≡ true → is_known (mentioned (Gate v)) x ≡ true) → (x : NetName) → is_known (flat_map g (gaters parts)) x ≡ true → In x
-  gaters_mention g within x is = once_has (flat_map mentioned parts) x (kind_mentioned gater_in (λ k. Gate k) picks_gater g within parts x is)
+  gaters_mention : (g : GatingCell NetName → List NetName) → ((v : GatingCell NetName) (x : NetName) → is_known (g v) x ≡ true → is_known (mentioned (GaterPart v)) x ≡ true) → (x : NetName) → is_known (flat_map g (gaters parts)) x ≡ true → In x
+  gaters_mention g within x is = once_has (flat_map mentioned parts) x (kind_mentioned gater_in (λ k. GaterPart k) picks_gater g within parts x is)
 
   registers_mention : (g : RegisterCell NetName (Option NetName) → List NetName) → ((v : RegisterCell NetName (Option NetName)) (x : NetName) → is_known (g v) x ≡ true → is_known (mentioned (Register v)) x ≡ true) → (x : NetName) → is_known (flat_map g (registers parts)) x ≡ true → In x
   registers_mention g within x is = once_has (flat_map mentioned parts) x (kind_mentioned register_in (λ k. Register k) picks_register g within parts x is)
@@ -53,14 +53,14 @@ module _ (parts : List Part) where
   pub cell_input_mentioned : (x : NetName) → is_known (flat_map (λ (k : LogicCell NetName). k.inputs) (cells parts)) x ≡ true → In x
   cell_input_mentioned = cells_mention (λ v. v.inputs) (λ v y i. known_left v.inputs (v.output ∷ []) y i)
 
-  pub gate_clock_mentioned : (x : NetName) → is_known (map (λ (g : GatingCell NetName). g.clock) (gaters parts)) x ≡ true → In x
-  gate_clock_mentioned x is = gaters_mention (λ v. v.clock ∷ []) (λ v y i. known_left (v.clock ∷ []) (v.enable ∷ (option_to_list v.test ++ v.output ∷ [])) y i) x (as_each (λ (g : GatingCell NetName). g.clock) (gaters parts) x is)
+  pub gater_clock_mentioned : (x : NetName) → is_known (map (λ (g : GatingCell NetName). g.clock) (gaters parts)) x ≡ true → In x
+  gater_clock_mentioned x is = gaters_mention (λ v. v.clock ∷ []) (λ v y i. known_left (v.clock ∷ []) (v.enable ∷ (option_to_list v.test ++ v.output ∷ [])) y i) x (as_each (λ (g : GatingCell NetName). g.clock) (gaters parts) x is)
 
-  pub gate_input_mentioned : (x : NetName) → is_known (gater_inputs (gaters parts)) x ≡ true → In x
-  gate_input_mentioned = gaters_mention (λ v. asked_nets v) (λ v y i. known_tail v.clock y (v.enable ∷ (option_to_list v.test ++ v.output ∷ [])) (known_left (asked_nets v) (v.output ∷ []) y i))
+  pub gater_input_mentioned : (x : NetName) → is_known (gater_inputs (gaters parts)) x ≡ true → In x
+  gater_input_mentioned = gaters_mention (λ v. asked_nets v) (λ v y i. known_tail v.clock y (v.enable ∷ (option_to_list v.test ++ v.output ∷ [])) (known_left (asked_nets v) (v.output ∷ []) y i))
 
-  pub gate_net_mentioned : (x : NetName) → is_known (driven_by_gaters (gaters parts)) x ≡ true → In x
-  gate_net_mentioned x is = gaters_mention (λ v. v.output ∷ []) (λ v y i. known_tail v.clock y (v.enable ∷ (option_to_list v.test ++ v.output ∷ [])) (known_tail v.enable y (option_to_list v.test ++ v.output ∷ []) (known_right (option_to_list v.test) (v.output ∷ []) y i))) x (as_each (λ (g : GatingCell NetName). g.output) (gaters parts) x is)
+  pub gater_net_mentioned : (x : NetName) → is_known (driven_by_gaters (gaters parts)) x ≡ true → In x
+  gater_net_mentioned x is = gaters_mention (λ v. v.output ∷ []) (λ v y i. known_tail v.clock y (v.enable ∷ (option_to_list v.test ++ v.output ∷ [])) (known_tail v.enable y (option_to_list v.test ++ v.output ∷ []) (known_right (option_to_list v.test) (v.output ∷ []) y i))) x (as_each (λ (g : GatingCell NetName). g.output) (gaters parts) x is)
 
   pub register_input_mentioned : (x : NetName) → is_known (flat_map (λ (r : RegisterCell NetName (Option NetName)). r.inputs) (registers parts)) x ≡ true → In x
   register_input_mentioned = registers_mention (λ v. v.inputs) (λ v y i. known_left (v.inputs ++ shown_nets v) (option_to_list v.clock) y (known_left v.inputs (shown_nets v) y i))
@@ -73,7 +73,7 @@ module _ (parts : List Part) where
 
   pub pin_mentioned : (x : NetName) → is_known (clock_pins parts) x ≡ true → In x
   pin_mentioned x is = elim (known_cases (map (λ (g : GatingCell NetName). g.clock) (gaters parts)) (flat_map (λ (r : RegisterCell NetName (Option NetName)). option_to_list r.clock) (registers parts)) x is) [
-    | inl gate ↦ gate_clock_mentioned x gate
+    | inl gate ↦ gater_clock_mentioned x gate
     | inr register ↦ register_clock_mentioned x register
   ]
 
@@ -97,7 +97,7 @@ module _ (parts : List Part) where
     | inr output ↦ output_mentioned x output
     | inl rest ↦ elim (known_cases (a ++ e) d x rest) [
       | inr data' ↦ register_input_mentioned x data'
-      | inl rest ↦ elim (known_cases a e x rest) [ inl input ↦ cell_input_mentioned x input | inr asked ↦ gate_input_mentioned x asked ]
+      | inl rest ↦ elim (known_cases a e x rest) [ inl input ↦ cell_input_mentioned x input | inr asked ↦ gater_input_mentioned x asked ]
     ]
   ]
 
@@ -108,7 +108,7 @@ module _ (parts : List Part) where
   driver_mentioned x is = elim (known_cases (inputs parts ++ declared ++ driven_by_cells (cells parts) ++ driven_by_gaters (gaters parts)) (driven_by_registers (registers parts)) x is) [
     | inr shown ↦ register_net_mentioned x shown
     | inl rest ↦ elim (known_cases (inputs parts ++ declared ++ driven_by_cells (cells parts)) (driven_by_gaters (gaters parts)) x rest) [
-      | inr gate ↦ gate_net_mentioned x gate
+      | inr gate ↦ gater_net_mentioned x gate
       | inl rest ↦ elim (known_cases (inputs parts ++ declared) (driven_by_cells (cells parts)) x rest) [
         | inr cell ↦ cell_net_mentioned x cell
         | inl rest ↦ elim (known_cases (inputs parts) declared x rest) [

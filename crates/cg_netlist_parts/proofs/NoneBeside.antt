@@ -20,7 +20,7 @@ use Rattle.cg_netlist.specs.Circuit.{Circuit, GatingCell, LogicCell, RegisterCel
 use Rattle.cg_net.specs.NetSets.{is_in}
 use Rattle.cg_net.specs.Names.{NetName, is_known, net_name}
 use Rattle.cg_netlist.specs.WellFormed.{IsWellFormed}
-use Rattle.cg_netlist_parts.specs.Faults.{HasClock, IsClockProper, IsDrivenIfUsed, IsDrivenOnce, IsEnding, IsFaultless, IsGateProper}
+use Rattle.cg_netlist_parts.specs.Faults.{HasClock, IsClockProper, IsDrivenIfUsed, IsDrivenOnce, IsEnding, IsFaultless, IsGaterProper}
 use Rattle.cg_netlist_parts.specs.Faults.{IsRootProper, ends_within, reaches}
 use Rattle.cg_netlist_parts.specs.Part.{Part, cells, clock_in, clock_of, clock_pins, clocks, drivers, each_once, gaters, inputs, nets}
 use Rattle.cg_netlist_parts.specs.Part.{on_clock, outputs, registers, roots, uses, wired}
@@ -235,25 +235,25 @@ module _ (model : List ℕ) (parts : List Part) (c : Circuit) (says : Says model
         unused = ap (is_known (uses parts)) x.2 ∙ unused_name x.0 (on_clock_nets x.0 x.1);
       }
 
-  any_gate : (p : GatingCell NetName → Bool) (gs : List (GatingCell ℕ)) (k : ℕ) (g : GatingCell ℕ) → slice_get gs k ≡ Some g → p (map_gater name g) ≡ true → list_any p (map (map_gater name) gs) ≡ true
-  any_gate p [] k g at is = absurd (cc)
-  any_gate p (h ∷ gs) zero g at is = let same : h ≡ g = cc in or_left (p (map_gater name h)) (list_any p (map (map_gater name) gs)) (ap (λ (m : GatingCell ℕ). p (map_gater name m)) same ∙ is)
-  any_gate p (h ∷ gs) (suc k) g at is = or_right (p (map_gater name h)) (list_any p (map (map_gater name) gs)) (any_gate p gs k g at is)
+  any_gater : (p : GatingCell NetName → Bool) (gs : List (GatingCell ℕ)) (k : ℕ) (g : GatingCell ℕ) → slice_get gs k ≡ Some g → p (map_gater name g) ≡ true → list_any p (map (map_gater name) gs) ≡ true
+  any_gater p [] k g at is = absurd (cc)
+  any_gater p (h ∷ gs) zero g at is = let same : h ≡ g = cc in or_left (p (map_gater name h)) (list_any p (map (map_gater name) gs)) (ap (λ (m : GatingCell ℕ). p (map_gater name m)) same ∙ is)
+  any_gater p (h ∷ gs) (suc k) g at is = or_right (p (map_gater name h)) (list_any p (map (map_gater name) gs)) (any_gater p gs k g at is)
 
-  gate_reaches : (n k : ℕ) (g : GatingCell ℕ) → slice_get w.gaters k ≡ Some g → reaches parts n (name g.clock) ≡ true → reaches parts (suc n) (name g.output) ≡ true
-  gate_reaches n k g at more =
+  gater_reaches : (n k : ℕ) (g : GatingCell ℕ) → slice_get w.gaters k ≡ Some g → reaches parts n (name g.clock) ≡ true → reaches parts (suc n) (name g.output) ≡ true
+  gater_reaches n k g at more =
       ap (list_any (λ (gater : GatingCell NetName). bytes_eq (name g.output) gater.output && reaches parts n gater.clock)) gaters_are
-      ∙ any_gate (λ (gater : GatingCell NetName). bytes_eq (name g.output) gater.output && reaches parts n gater.clock) w.gaters k g at
+      ∙ any_gater (λ (gater : GatingCell NetName). bytes_eq (name g.output) gater.output && reaches parts n gater.clock) w.gaters k g at
       (ap (λ b. b && reaches parts n (name g.clock)) (itself (name g.output)) ∙ more)
 
   chain_reaches : (m k : ℕ) (g : GatingCell ℕ) → slice_get w.gaters k ≡ Some g → slice_index formed.numbers k < m → (n : ℕ) × (reaches parts n (name g.output) ≡ true)
   chain_reaches zero k g at below = absurd (omega arith)
   chain_reaches (suc m) k g at below = elim (formed.chained.chained k g at) [
-    | inl clock ↦ (1, gate_reaches 0 k g at (word_at (roots parts) 0 (name g.clock) (clock_is ∙ ap (option_map name) clock)))
+    | inl clock ↦ (1, gater_reaches 0 k g at (word_at (roots parts) 0 (name g.clock) (clock_is ∙ ap (option_map name) clock)))
     | inr before ↦
         let lower : slice_index formed.numbers before.0 < slice_index formed.numbers k = before.4 in
         let more = chain_reaches m before.0 before.1 before.2 (omega (arith, lower, below)) in
-        (suc more.0, gate_reaches more.0 k g at (ap (λ x. reaches parts more.0 (name x)) (sym before.3) ∙ more.1))
+        (suc more.0, gater_reaches more.0 k g at (ap (λ x. reaches parts more.0 (name x)) (sym before.3) ∙ more.1))
   ]
 
   gate_of : (gs : List (GatingCell ℕ)) (x : ℕ) → is_in (driven_by_gaters gs) x ≡ true → (k : ℕ) × (g : GatingCell ℕ) × (slice_get gs k ≡ Some g) × (g.output ≡ x)
@@ -263,8 +263,8 @@ module _ (model : List ℕ) (parts : List Part) (c : Circuit) (says : Says model
     | inr later ↦ let more = gate_of gs x later in (suc more.0, more.1, more.2, more.3)
   ]
 
-  gate_proper : (net : NetName) → is_known (driven_by_gaters (gaters parts)) net ≡ true → IsGateProper parts net
-  gate_proper net gate =
+  gater_proper : (net : NetName) → is_known (driven_by_gaters (gaters parts)) net ≡ true → IsGaterProper parts net
+  gater_proper net gate =
       let x = from_names name (driven_by_gaters w.gaters) net (ap (λ xs. is_known xs net) (sym (ap driven_by_gaters gaters_are ∙ gaters_driven_mapped name w.gaters)) ∙ gate) in
       let g = gate_of w.gaters x.0 x.1 in
       let chain = chain_reaches (suc (slice_index formed.numbers g.0)) g.0 g.1 g.2 (omega arith) in
@@ -310,6 +310,6 @@ module _ (model : List ℕ) (parts : List Part) (c : Circuit) (says : Says model
     once = each_known (IsDrivenOnce parts) (nets parts) (λ net _. once net);
     driven = each_known (IsDrivenIfUsed parts) (nets parts) (λ net _. driven net);
     ending = each_known (IsEnding parts) (nets parts) (λ net _. ending net);
-    proper = each_known (IsClockProper parts) (nets parts) (λ net _. record { as_root = root_proper net; as_gate = gate_proper net });
+    proper = each_known (IsClockProper parts) (nets parts) (λ net _. record { as_root = root_proper net; as_gater = gater_proper net });
     clocked = has_clock;
   }

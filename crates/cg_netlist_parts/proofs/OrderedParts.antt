@@ -11,7 +11,7 @@ use Rattle.cg_net.proofs.Members.{All-from_members}
 use Rattle.cg_netlist_parts.proofs.ByKind.{filter_known}
 use Rattle.cg_netlist_parts.proofs.Counted.{one_place}
 use Rattle.cg_netlist.proofs.Each.{each}
-use Rattle.cg_netlist_parts.proofs.GatedNets.{before, pin_cases}
+use Rattle.cg_netlist_parts.proofs.GaterOutputs.{before, pin_cases}
 use Rattle.cg_netlist_parts.proofs.Kept.{CellNets, GaterNets, RegisterNets, WiringNets, wiring_kept}
 use Rattle.cg_netlist_parts.proofs.KnownNames.{each_known, known_cases, known_each, known_head, known_left, known_right, known_tail}
 use Rattle.cg_netlist_parts.proofs.KnownNames.{same_word, word_at}
@@ -108,8 +108,8 @@ module _ (parts : List Part) (fine : IsFaultless parts) where
       driver_ordered x (known_left (inputs parts ++ declared ++ driven_by_cells (cells parts) ++ driven_by_gaters (gaters parts)) (driven_by_registers (registers parts)) x
       (known_left (inputs parts ++ declared ++ driven_by_cells (cells parts)) (driven_by_gaters (gaters parts)) x (known_right (inputs parts ++ declared) (driven_by_cells (cells parts)) x is)))
 
-  pub gate_ordered : (x : NetName) → is_known (driven_by_gaters (gaters parts)) x ≡ true → is_known order x ≡ true
-  gate_ordered x is =
+  pub gater_ordered : (x : NetName) → is_known (driven_by_gaters (gaters parts)) x ≡ true → is_known order x ≡ true
+  gater_ordered x is =
       driver_ordered x (known_left (inputs parts ++ declared ++ driven_by_cells (cells parts) ++ driven_by_gaters (gaters parts)) (driven_by_registers (registers parts)) x
       (known_right (inputs parts ++ declared ++ driven_by_cells (cells parts)) (driven_by_gaters (gaters parts)) x is))
 
@@ -123,7 +123,7 @@ module _ (parts : List Part) (fine : IsFaultless parts) where
   root_first x is = word_at (roots parts) 0 x is
 
   pub pin_ordered : (x : NetName) → is_known (clock_pins parts) x ≡ true → is_known order x ≡ true
-  pin_ordered x pin = elim ((pin_cases parts) x pin) [ inl root ↦ root_ordered x root | inr gate ↦ gate_ordered x gate ]
+  pin_ordered x pin = elim ((pin_cases parts) x pin) [ inl root ↦ root_ordered x root | inr gate ↦ gater_ordered x gate ]
 
   -- the wiring comes back from the numbers
   abbrev On : NetName → Type 0
@@ -226,7 +226,7 @@ module _ (parts : List Part) (fine : IsFaultless parts) where
     clock = clock_on (clock_of parts) refl;
     outputs = each_known On (outputs parts) (λ x i. use_ordered x (known_right (a ++ e ++ d) (outputs parts) x i));
     cells = cells_on (cells parts) use_a cell_ordered;
-    gaters = gaters_on (gaters parts) (λ x i. pin_ordered x (known_left (map (λ (g : GatingCell NetName). g.clock) (gaters parts)) (flat_map (λ (r : RegisterCell NetName (Option NetName)). option_to_list r.clock) (registers parts)) x i)) use_e gate_ordered;
+    gaters = gaters_on (gaters parts) (λ x i. pin_ordered x (known_left (map (λ (g : GatingCell NetName). g.clock) (gaters parts)) (flat_map (λ (r : RegisterCell NetName (Option NetName)). option_to_list r.clock) (registers parts)) x i)) use_e gater_ordered;
     registers = registers_on (registers parts) clocks_there use_d shown_ordered;
   }
 

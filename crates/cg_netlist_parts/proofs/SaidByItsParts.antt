@@ -20,13 +20,13 @@ use Rattle.cg_netlist_parts.proofs.KnownNames.{same_word, word_at}
 use Rattle.cg_netlist_parts.proofs.NetLists.{carried_by}
 use Rattle.cg_netlist_parts.proofs.NoneBeside.{from_names}
 use Rattle.cg_netlist_parts.proofs.OrderMapped.{gaters_driven_mapped}
-use Rattle.cg_netlist_parts.proofs.ToldByNames.{gate_clocked, known_as, names_are, wiring_within}
+use Rattle.cg_netlist_parts.proofs.ToldByNames.{gater_clocked, known_as, names_are, wiring_within}
 use Rattle.cg_netlist.specs.Circuit.{Circuit, GatingCell, LogicCell, RegisterCell, shown_nets}
 use Rattle.cg_net.specs.NetSets.{is_in}
 use Rattle.cg_net.specs.Names.{NetName, is_known, net_name}
 use Rattle.cg_netlist.specs.Netlist.{IsNetlist}
 use Rattle.cg_netlist.specs.WellFormed.{IsInNetOrder, IsWellFormed}
-use Rattle.cg_netlist_parts.specs.Part.{Clock, Gate, Input, Logic, Output, Part, cell_in, cells, clock_in, clock_of, clock_pins, clocks}
+use Rattle.cg_netlist_parts.specs.Part.{Clock, GaterPart, Input, Logic, Output, Part, cell_in, cells, clock_in, clock_of, clock_pins, clocks}
 use Rattle.cg_netlist_parts.specs.Part.{each_once, gater_in, gaters, input_in, inputs, mentioned, nets, on_clock, output_in, outputs}
 use Rattle.cg_netlist_parts.specs.Part.{register_in, registers, roots, wired}
 use Rattle.cg_netlist_parts.specs.Says.{IsClockOf, Says, parts_from, register_part}
@@ -69,7 +69,7 @@ module _ (leaves : RegisterCell NetName NetName → Bool) (w : Wiring NetName) w
   p4 = map (λ cell. Logic cell) w.cells
 
   abbrev pub p5 : List Part
-  p5 = map (λ gater. Gate gater) w.gaters
+  p5 = map (λ gater. GaterPart gater) w.gaters
 
   abbrev pub p6 : List Part
   p6 = map (register_part leaves) w.registers
@@ -93,37 +93,37 @@ module _ (leaves : RegisterCell NetName NetName → Bool) (w : Wiring NetName) w
   pub inputs_from : filter_map input_in (parts_from leaves w) ≡ w.inputs
   inputs_from =
       six_are input_in w.inputs [] [] [] [] [] (picked_all input_in (λ net. Input net) (λ x. x) (λ v. refl) w.inputs ∙ same_all w.inputs) (picked_none input_in (λ net. Output net) (λ v. refl) w.outputs) (picked_none input_in (λ net. Clock net) (λ v. refl) (option_to_list w.clock))
-      (picked_none input_in (λ cell. Logic cell) (λ v. refl) w.cells) (picked_none input_in (λ gater. Gate gater) (λ v. refl) w.gaters) (picked_none input_in (register_part leaves) (λ v. refl) w.registers)
+      (picked_none input_in (λ cell. Logic cell) (λ v. refl) w.cells) (picked_none input_in (λ gater. GaterPart gater) (λ v. refl) w.gaters) (picked_none input_in (register_part leaves) (λ v. refl) w.registers)
       ∙ simp append-nil
 
   pub outputs_from : filter_map output_in (parts_from leaves w) ≡ w.outputs
   outputs_from =
       six_are output_in [] w.outputs [] [] [] [] (picked_none output_in (λ net. Input net) (λ v. refl) w.inputs) (picked_all output_in (λ net. Output net) (λ x. x) (λ v. refl) w.outputs ∙ same_all w.outputs) (picked_none output_in (λ net. Clock net) (λ v. refl) (option_to_list w.clock))
-      (picked_none output_in (λ cell. Logic cell) (λ v. refl) w.cells) (picked_none output_in (λ gater. Gate gater) (λ v. refl) w.gaters) (picked_none output_in (register_part leaves) (λ v. refl) w.registers)
+      (picked_none output_in (λ cell. Logic cell) (λ v. refl) w.cells) (picked_none output_in (λ gater. GaterPart gater) (λ v. refl) w.gaters) (picked_none output_in (register_part leaves) (λ v. refl) w.registers)
       ∙ simp append-nil
 
   pub clocks_from : filter_map clock_in (parts_from leaves w) ≡ option_to_list w.clock
   clocks_from =
       six_are clock_in [] [] (option_to_list w.clock) [] [] [] (picked_none clock_in (λ net. Input net) (λ v. refl) w.inputs) (picked_none clock_in (λ net. Output net) (λ v. refl) w.outputs) (picked_all clock_in (λ net. Clock net) (λ x. x) (λ v. refl) (option_to_list w.clock) ∙ same_all (option_to_list w.clock))
-      (picked_none clock_in (λ cell. Logic cell) (λ v. refl) w.cells) (picked_none clock_in (λ gater. Gate gater) (λ v. refl) w.gaters) (picked_none clock_in (register_part leaves) (λ v. refl) w.registers)
+      (picked_none clock_in (λ cell. Logic cell) (λ v. refl) w.cells) (picked_none clock_in (λ gater. GaterPart gater) (λ v. refl) w.gaters) (picked_none clock_in (register_part leaves) (λ v. refl) w.registers)
       ∙ simp append-nil
 
   pub cells_from : cells (parts_from leaves w) ≡ w.cells
   cells_from =
       six_are cell_in [] [] [] w.cells [] [] (picked_none cell_in (λ net. Input net) (λ v. refl) w.inputs) (picked_none cell_in (λ net. Output net) (λ v. refl) w.outputs) (picked_none cell_in (λ net. Clock net) (λ v. refl) (option_to_list w.clock))
-      (picked_all cell_in (λ cell. Logic cell) (λ x. x) (λ v. refl) w.cells ∙ same_all w.cells) (picked_none cell_in (λ gater. Gate gater) (λ v. refl) w.gaters) (picked_none cell_in (register_part leaves) (λ v. refl) w.registers)
+      (picked_all cell_in (λ cell. Logic cell) (λ x. x) (λ v. refl) w.cells ∙ same_all w.cells) (picked_none cell_in (λ gater. GaterPart gater) (λ v. refl) w.gaters) (picked_none cell_in (register_part leaves) (λ v. refl) w.registers)
       ∙ simp append-nil
 
   pub gaters_from : gaters (parts_from leaves w) ≡ w.gaters
   gaters_from =
       six_are gater_in [] [] [] [] w.gaters [] (picked_none gater_in (λ net. Input net) (λ v. refl) w.inputs) (picked_none gater_in (λ net. Output net) (λ v. refl) w.outputs) (picked_none gater_in (λ net. Clock net) (λ v. refl) (option_to_list w.clock))
-      (picked_none gater_in (λ cell. Logic cell) (λ v. refl) w.cells) (picked_all gater_in (λ gater. Gate gater) (λ x. x) (λ v. refl) w.gaters ∙ same_all w.gaters) (picked_none gater_in (register_part leaves) (λ v. refl) w.registers)
+      (picked_none gater_in (λ cell. Logic cell) (λ v. refl) w.cells) (picked_all gater_in (λ gater. GaterPart gater) (λ x. x) (λ v. refl) w.gaters ∙ same_all w.gaters) (picked_none gater_in (register_part leaves) (λ v. refl) w.registers)
       ∙ simp append-nil
 
   pub registers_from : registers (parts_from leaves w) ≡ map (opened leaves) w.registers
   registers_from =
       six_are register_in [] [] [] [] [] (map (opened leaves) w.registers) (picked_none register_in (λ net. Input net) (λ v. refl) w.inputs) (picked_none register_in (λ net. Output net) (λ v. refl) w.outputs) (picked_none register_in (λ net. Clock net) (λ v. refl) (option_to_list w.clock))
-      (picked_none register_in (λ cell. Logic cell) (λ v. refl) w.cells) (picked_none register_in (λ gater. Gate gater) (λ v. refl) w.gaters) (picked_all register_in (register_part leaves) (opened leaves) (λ v. refl) w.registers)
+      (picked_none register_in (λ cell. Logic cell) (λ v. refl) w.cells) (picked_none register_in (λ gater. GaterPart gater) (λ v. refl) w.gaters) (picked_all register_in (register_part leaves) (opened leaves) (λ v. refl) w.registers)
 
   -- registers that name their clocks, or are on the clock, are on them
   abbrev pub IsLeft : RegisterCell NetName NetName → Type 0
@@ -246,7 +246,7 @@ module _ (c : Circuit) (leaves : RegisterCell NetName NetName → Bool) (is : Is
   pins = map (λ (g : GatingCell ℕ). g.clock) (wiring c).gaters ++ map (λ (r : RegisterCell ℕ ℕ). r.clock) (wiring c).registers
 
   all_pins : AllByRecursion IsPin pins
-  all_pins = each_together IsPin (map (λ (g : GatingCell ℕ). g.clock) (wiring c).gaters) (map (λ (r : RegisterCell ℕ ℕ). r.clock) (wiring c).registers) (pins_of_gaters (wiring c).gaters (gate_clocked c formed ordered)) (pins_of_registers (wiring c).registers (by_recursion (λ (r : RegisterCell ℕ ℕ). IsPin r.clock) c.registers formed.clocked))
+  all_pins = each_together IsPin (map (λ (g : GatingCell ℕ). g.clock) (wiring c).gaters) (map (λ (r : RegisterCell ℕ ℕ). r.clock) (wiring c).registers) (pins_of_gaters (wiring c).gaters (gater_clocked c formed ordered)) (pins_of_registers (wiring c).registers (by_recursion (λ (r : RegisterCell ℕ ℕ). IsPin r.clock) c.registers formed.clocked))
 
   gater_pins_named : (gs : List (GatingCell ℕ)) → map (λ (g : GatingCell NetName). g.clock) (map (map_gater name) gs) ≡ map name (map (λ (g : GatingCell ℕ). g.clock) gs)
   gater_pins_named [] = refl
@@ -332,7 +332,7 @@ module _ (c : Circuit) (leaves : RegisterCell NetName NetName → Bool) (is : Is
       (all_there (λ net. Output net) Is (λ x is. (is, tt)) v.outputs named_nets.outputs))
       (all_there (λ net. Clock net) Is (λ x is. (is, tt)) (option_to_list v.clock) named_nets.clock))
       (all_there (λ k. Logic k) (CellNets Is) (λ k is. each_together Is k.inputs (k.output ∷ []) is.inputs (is.output, tt)) v.cells named_nets.cells))
-      (all_there (λ g. Gate g) (GaterNets Is) (λ g is. (is.clock, (is.asked.0, each_together Is (option_to_list g.test) (g.output ∷ []) is.asked.1 (is.output, tt)))) v.gaters named_nets.gaters))
+      (all_there (λ g. GaterPart g) (GaterNets Is) (λ g is. (is.clock, (is.asked.0, each_together Is (option_to_list g.test) (g.output ∷ []) is.asked.1 (is.output, tt)))) v.gaters named_nets.gaters))
       (all_there (register_part leaves) (RegisterNets Is) (λ r at. each_together Is (r.inputs ++ shown_nets r) (option_to_list (if leaves r then None else Some r.clock)) (each_together Is r.inputs (shown_nets r) at.inputs at.outputs) (each_known Is (option_to_list (if leaves r then None else Some r.clock)) (λ x i. subst Is (sym (left_in leaves v r x i)) at.clock))) v.registers named_nets.registers)
 
   few : length (nets parts) ≤ length c.names

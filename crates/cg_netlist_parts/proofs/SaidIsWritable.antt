@@ -7,7 +7,7 @@ use Rattle.std.proofs.lemmas.Bool.{both_ways, or_left, eq-eqb}
 use Rattle.std.proofs.lemmas.List.{length-map}
 use Rattle.cg_cell.specs.Cell.{CellData}
 use Rattle.cg_netlist.specs.declared.parts.RegisterKind.TheVariants.{Plain}
-use Rattle.cg_netlist.proofs.Given.{clock_no_gate}
+use Rattle.cg_netlist.proofs.Given.{clock_no_gater}
 use Rattle.cg_net.proofs.Members.{is_in_left, is_in_right}
 use Rattle.cg_netlist_parts.proofs.ByKind.{kind_each, picks_cell, picks_gater, picks_register}
 use Rattle.cg_netlist.proofs.Each.{each, from_recursion}
@@ -15,9 +15,9 @@ use Rattle.cg_netlist_parts.proofs.NamePlaces.{same_net}
 use Rattle.cg_netlist_parts.proofs.NoneBeside.{cells_are, clock_is, gaters_are}
 use Rattle.cg_netlist_parts.proofs.SaidIsNetlist.{each_under, said_is_netlist, said_outputs_once}
 use Rattle.cg_netlist_parts.proofs.ToldByNames.{clock_net_within}
-use Rattle.cg_netlist.specs.Circuit.{Circuit, GatingCell, LogicCell, RegisterCell, gate_nets}
+use Rattle.cg_netlist.specs.Circuit.{Circuit, GatingCell, LogicCell, RegisterCell, gater_outputs}
 use Rattle.cg_net.specs.NetSets.{is_in}
-use Rattle.cg_netlist_parts.specs.Part.{Gate, Logic, Part, Register, cell_in, clock_of, gater_in, on_clock, register_in, registers}
+use Rattle.cg_netlist_parts.specs.Part.{GaterPart, Logic, Part, Register, cell_in, clock_of, gater_in, on_clock, register_in, registers}
 use Rattle.cg_netlist_parts.specs.Says.{AreTaken, Says}
 use Rattle.cg_net.specs.Names.{NetName, net_name}
 use Rattle.cg_netlist.specs.Wiring.{map_cell, map_gater, map_register}
@@ -40,7 +40,7 @@ module _ (library : List CellData) (model : List ℕ) (parts : List Part) (c : C
   gating =
       from_recursion (λ (g : GatingCell ℕ). IsOf library g.cell) c.gaters
       (each_under (λ (g : GatingCell NetName). IsOf library g.cell) (map_gater name) c.gaters
-      (subst (AllByRecursion (λ (g : GatingCell NetName). IsOf library g.cell)) (gaters_are model parts c says) (kind_each gater_in (λ g. Gate g) picks_gater (IsPlaceablePart library) parts placed)))
+      (subst (AllByRecursion (λ (g : GatingCell NetName). IsOf library g.cell)) (gaters_are model parts c says) (kind_each gater_in (λ g. GaterPart g) picks_gater (IsPlaceablePart library) parts placed)))
 
   of_kind : (rs : List (RegisterCell NetName (Option NetName))) → AllByRecursion (λ (r : RegisterCell NetName (Option NetName)). IsPlaceablePart library (Register r)) rs → AllByRecursion (λ (r : RegisterCell NetName NetName). KindIsOf library r.init r.kind) (map (on_clock (clock_of parts)) rs)
   of_kind [] all = tt
@@ -98,22 +98,22 @@ module _ (library : List CellData) (model : List ℕ) (parts : List Part) (c : C
       (subst (AllByRecursion OnLine) (sym (ap (λ v. v.registers) says.wired_is)) (all_on_line (registers parts) (kind_each register_in (λ r. Register r) picks_register (IsLine library) parts lines)))
 
   -- the clock is no output of a gating cell
-  not_gated : (o : Option ℕ) (x : ℕ) → c.clock ≡ o → x < length c.names → ((y : ℕ) → o ≡ Some y → y < length c.names) → called x ≡ unwrap_or (option_map called o) [] → is_in (gate_nets c) x ≡ true → called x ≢ NIL
+  not_gated : (o : Option ℕ) (x : ℕ) → c.clock ≡ o → x < length c.names → ((y : ℕ) → o ≡ Some y → y < length c.names) → called x ≡ unwrap_or (option_map called o) [] → is_in (gater_outputs c) x ≡ true → called x ≢ NIL
   not_gated None x clock lt within same gated is = let e : [] ≡ NIL = sym same ∙ is in cc
   not_gated (Some y) x clock lt within same gated is =
       let one : x ≡ y = same_net c.names x y says.formed.different lt (within y refl) same in
-      both_ways (is_in (gate_nets c) y) (clock_no_gate c says.formed.driven y clock) (ap (is_in (gate_nets c)) (sym one) ∙ gated)
+      both_ways (is_in (gater_outputs c) y) (clock_no_gater c says.formed.driven y clock) (ap (is_in (gater_outputs c)) (sym one) ∙ gated)
 
   clock_in_names : (y : ℕ) → c.clock ≡ Some y → y < length c.names
-  clock_in_names y is = clock_net_within c says.formed says.ordered y (is_in_left (option_to_list c.clock) (gate_nets c) y (ap (λ o. is_in (option_to_list o) y) is ∙ or_left (nat_eq y y) false (eq-eqb y y refl)))
+  clock_in_names y is = clock_net_within c says.formed says.ordered y (is_in_left (option_to_list c.clock) (gater_outputs c) y (ap (λ o. is_in (option_to_list o) y) is ∙ or_left (nat_eq y y) false (eq-eqb y y refl)))
 
   abbrev Clocked : RegisterCell ℕ ℕ → Type 0
-  Clocked r = r.kind ≡ Plain → is_in (gate_nets c) r.clock ≡ true → called r.clock ≢ NIL
+  Clocked r = r.kind ≡ Plain → is_in (gater_outputs c) r.clock ≡ true → called r.clock ≢ NIL
 
   clocked : (r : RegisterCell ℕ ℕ) → OnLine (map_register called r) → Clocked r
   clocked r on plain gated = elim (on plain) [
     | inl other ↦ other
-    | inr same ↦ not_gated c.clock r.clock refl (clock_net_within c says.formed says.ordered r.clock (is_in_right (option_to_list c.clock) (gate_nets c) r.clock gated)) clock_in_names (same ∙ ap (λ o. unwrap_or o []) (clock_is model parts c says)) gated
+    | inr same ↦ not_gated c.clock r.clock refl (clock_net_within c says.formed says.ordered r.clock (is_in_right (option_to_list c.clock) (gater_outputs c) r.clock gated)) clock_in_names (same ∙ ap (λ o. unwrap_or o []) (clock_is model parts c says)) gated
   ]
 
   clocks_named : All Clocked c.registers

@@ -9,7 +9,7 @@ use Rattle.std.proofs.lemmas.List.{append-nil, append_assoc}
 use Rattle.std.proofs.lemmas.List.Elements.{filter_map-append}
 use Rattle.cg_netlist_parts.proofs.ByKind.{has_once, once_has}
 use Rattle.cg_net.specs.Names.{NetName, is_known, with_name, with_names}
-use Rattle.cg_netlist_parts.specs.Part.{Clock, Gate, Input, Logic, Output, Part, Register, cell_in, clock_in, each_once, gater_in, input_in}
+use Rattle.cg_netlist_parts.specs.Part.{Clock, GaterPart, Input, Logic, Output, Part, Register, cell_in, clock_in, each_once, gater_in, input_in}
 use Rattle.cg_netlist_parts.specs.Part.{mentioned, nets, output_in, register_in}
 use Rattle.cg_netlist_parts.specs.Said.{Said, said, with_part}
 
@@ -90,5 +90,5 @@ said_more ps p = go p
     go (Output net) = same_said (said (ps ++ Output net ∷ [])) (with_part (said ps) (Output net)) (nets_more (Output net)) (none input_in (Output net) refl) (word output_in (Output net) net refl) (none clock_in (Output net) refl) (same cell_in ps (Output net) refl) (same gater_in ps (Output net) refl) (same register_in ps (Output net) refl)
     go (Clock net) = same_said (said (ps ++ Clock net ∷ [])) (with_part (said ps) (Clock net)) (nets_more (Clock net)) (none input_in (Clock net) refl) (none output_in (Clock net) refl) (word clock_in (Clock net) net refl) (same cell_in ps (Clock net) refl) (same gater_in ps (Clock net) refl) (same register_in ps (Clock net) refl)
     go (Logic k) = same_said (said (ps ++ Logic k ∷ [])) (with_part (said ps) (Logic k)) (nets_more (Logic k)) (none input_in (Logic k) refl) (none output_in (Logic k) refl) (none clock_in (Logic k) refl) (push cell_in ps (Logic k) k refl) (same gater_in ps (Logic k) refl) (same register_in ps (Logic k) refl)
-    go (Gate g) = same_said (said (ps ++ Gate g ∷ [])) (with_part (said ps) (Gate g)) (nets_more (Gate g)) (none input_in (Gate g) refl) (none output_in (Gate g) refl) (none clock_in (Gate g) refl) (same cell_in ps (Gate g) refl) (push gater_in ps (Gate g) g refl) (same register_in ps (Gate g) refl)
+    go (GaterPart g) = same_said (said (ps ++ GaterPart g ∷ [])) (with_part (said ps) (GaterPart g)) (nets_more (GaterPart g)) (none input_in (GaterPart g) refl) (none output_in (GaterPart g) refl) (none clock_in (GaterPart g) refl) (same cell_in ps (GaterPart g) refl) (push gater_in ps (GaterPart g) g refl) (same register_in ps (GaterPart g) refl)
     go (Register r) = same_said (said (ps ++ Register r ∷ [])) (with_part (said ps) (Register r)) (nets_more (Register r)) (none input_in (Register r) refl) (none output_in (Register r) refl) (none clock_in (Register r) refl) (same cell_in ps (Register r) refl) (same gater_in ps (Register r) refl) (push register_in ps (Register r) r refl)

@@ -12,7 +12,7 @@ use Rattle.cg_netlist.specs.Circuit.{Circuit, GatingCell, LogicCell, RegisterCel
 use Rattle.cg_net.specs.Names.{NetName, is_known, net_name}
 use Rattle.cg_netlist.specs.Netlist.{IsNetlist}
 use Rattle.cg_netlist.specs.WellFormed.{IsOver, RegisterFits}
-use Rattle.cg_netlist_parts.specs.Part.{Clock, Gate, Input, Logic, Output, Part, mentioned}
+use Rattle.cg_netlist_parts.specs.Part.{Clock, GaterPart, Input, Logic, Output, Part, mentioned}
 use Rattle.cg_netlist_parts.specs.Says.{AreTaken, CellFits, GaterFits, IsPart, PartFits, parts_from, register_part}
 use Rattle.cg_netlist.specs.Wiring.{map_cell, map_gater, map_register, named}
 
@@ -63,7 +63,7 @@ module _ (c : Circuit) (leaves : RegisterCell NetName NetName → Bool) (is : Is
       (each_together PartFits (p1 leaves (named c)) (p2 leaves (named c)) (nothing_asked (λ net. Input net) (λ x. tt) (named c).inputs) (nothing_asked (λ net. Output net) (λ x. tt) (named c).outputs))
       (nothing_asked (λ net. Clock net) (λ x. tt) (option_to_list (named c).clock)))
       (wrapped (λ k. Logic k) (named c).cells (cells_fine c.cells (by_recursion (λ (k : LogicCell ℕ). IsOver (length k.inputs) k.function) c.cells is.well_formed.functions) (by_recursion (λ (k : LogicCell ℕ). length k.inputs < 2 ^ 32) c.cells is.inputs))))
-      (wrapped (λ g. Gate g) (named c).gaters (gaters_fine c.gaters (by_recursion GaterFits c.gaters is.well_formed.gating))))
+      (wrapped (λ g. GaterPart g) (named c).gaters (gaters_fine c.gaters (by_recursion GaterFits c.gaters is.well_formed.gating))))
       (wrapped (register_part leaves) (named c).registers (registers_fine c.registers (by_recursion RegisterFits c.registers is.well_formed.fitting)))
 
   pub taken_own : AreTaken c.model (parts_from leaves (named c))

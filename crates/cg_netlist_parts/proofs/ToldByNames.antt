@@ -79,8 +79,8 @@ module _ (c : Circuit) (formed : IsWellFormed c) (ordered : IsInNetOrder c) wher
       ordered_within x (is_in_left (front ++ driven_by_cells w.cells ++ driven_by_gaters w.gaters) (driven_by_registers w.registers) x
       (is_in_left (front ++ driven_by_cells w.cells) (driven_by_gaters w.gaters) x (is_in_right front (driven_by_cells w.cells) x i)))
 
-  pub gate_net_within : (x : ℕ) → is_in (driven_by_gaters w.gaters) x ≡ true → Is x
-  gate_net_within x i =
+  pub gater_output_within : (x : ℕ) → is_in (driven_by_gaters w.gaters) x ≡ true → Is x
+  gater_output_within x i =
       ordered_within x (is_in_left (front ++ driven_by_cells w.cells ++ driven_by_gaters w.gaters) (driven_by_registers w.registers) x
       (is_in_right (front ++ driven_by_cells w.cells) (driven_by_gaters w.gaters) x i))
 
@@ -108,7 +108,7 @@ module _ (c : Circuit) (formed : IsWellFormed c) (ordered : IsInNetOrder c) wher
   one_clock (Some y) x all i = elim (or_cases (nat_eq x y) false i) [ inl same ↦ subst Is (sym (eqb-true x y same)) all.0 | inr none ↦ absurd (both_ways false refl none) ]
 
   pub clock_net_within : (x : ℕ) → is_in (carried_by w) x ≡ true → Is x
-  clock_net_within x among = elim (is_in_cases (option_to_list w.clock) (driven_by_gaters w.gaters) x among) [ inl clock ↦ one_clock w.clock x clock_within clock | inr gate ↦ gate_net_within x gate ]
+  clock_net_within x among = elim (is_in_cases (option_to_list w.clock) (driven_by_gaters w.gaters) x among) [ inl clock ↦ one_clock w.clock x clock_within clock | inr gate ↦ gater_output_within x gate ]
 
   -- the clock pin of each gating cell is on the clock nets
   pub gate_at : (gaters : List (GatingCell ℕ)) (j : ℕ) (g : GatingCell ℕ) → slice_get gaters j ≡ Some g → is_in (driven_by_gaters gaters) g.output ≡ true
@@ -116,8 +116,8 @@ module _ (c : Circuit) (formed : IsWellFormed c) (ordered : IsInNetOrder c) wher
   gate_at (k ∷ gaters) zero g at = let same : k ≡ g = cc in ap (λ (m : GatingCell ℕ). is_in (m.output ∷ driven_by_gaters gaters) g.output) same ∙ or_left (nat_eq g.output g.output) (is_in (driven_by_gaters gaters) g.output) (eq-eqb g.output g.output refl)
   gate_at (k ∷ gaters) (suc j) g at = or_right (nat_eq g.output k.output) (is_in (driven_by_gaters gaters) g.output) (gate_at gaters j g at)
 
-  pub gate_clocked : (k : ℕ) (g : GatingCell ℕ) → slice_get w.gaters k ≡ Some g → is_in (carried_by w) g.clock ≡ true
-  gate_clocked k g at = elim (formed.chained.chained k g at) [
+  pub gater_clocked : (k : ℕ) (g : GatingCell ℕ) → slice_get w.gaters k ≡ Some g → is_in (carried_by w) g.clock ≡ true
+  gater_clocked k g at = elim (formed.chained.chained k g at) [
     | inl clock ↦ is_in_left (option_to_list w.clock) (driven_by_gaters w.gaters) g.clock (ap (λ o. is_in (option_to_list o) g.clock) clock ∙ or_left (nat_eq g.clock g.clock) false (eq-eqb g.clock g.clock refl))
     | inr before ↦ is_in_right (option_to_list w.clock) (driven_by_gaters w.gaters) g.clock (ap (is_in (driven_by_gaters w.gaters)) (sym before.3) ∙ gate_at w.gaters before.0 before.1 before.2)
   ]
@@ -168,7 +168,7 @@ module _ (c : Circuit) (formed : IsWellFormed c) (ordered : IsInNetOrder c) wher
     clock = clock_within;
     outputs = each_in Is w.outputs (λ x i. used_within x (is_in_right (a ++ e ++ d) w.outputs x i));
     cells = cells_within w.cells (λ x i. used_within x (is_in_left (a ++ e ++ d) w.outputs x (is_in_left (a ++ e) d x (is_in_left a e x i)))) cell_net_within;
-    gaters = gaters_within w.gaters (λ k g at. clock_net_within g.clock (gate_clocked k g at)) (λ x i. used_within x (is_in_left (a ++ e ++ d) w.outputs x (is_in_left (a ++ e) d x (is_in_right a e x i)))) gate_net_within;
+    gaters = gaters_within w.gaters (λ k g at. clock_net_within g.clock (gater_clocked k g at)) (λ x i. used_within x (is_in_left (a ++ e ++ d) w.outputs x (is_in_left (a ++ e) d x (is_in_right a e x i)))) gater_output_within;
     registers = registers_within w.registers (λ x i. used_within x (is_in_left (a ++ e ++ d) w.outputs x (is_in_right (a ++ e) d x i))) shown_within (by_recursion (λ r. is_in (carried_by w) r.clock ≡ true) w.registers formed.clocked);
   }
 

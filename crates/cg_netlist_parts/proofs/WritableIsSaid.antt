@@ -15,9 +15,9 @@ use Rattle.cg_netlist.proofs.Each.{by_recursion, each_together}
 use Rattle.cg_netlist_parts.proofs.KnownNames.{itself, same_word}
 use Rattle.cg_netlist_parts.proofs.SaidByItsParts.{p1, p2, p3, p4, p5, p6, says_own}
 use Rattle.cg_netlist_parts.proofs.TakenFromNetlist.{taken_own}
-use Rattle.cg_netlist.specs.Circuit.{Circuit, GatingCell, LogicCell, RegisterCell, clock_nets, gate_nets}
+use Rattle.cg_netlist.specs.Circuit.{Circuit, GatingCell, LogicCell, RegisterCell, clock_nets, gater_outputs}
 use Rattle.cg_net.specs.NetSets.{is_in}
-use Rattle.cg_netlist_parts.specs.Part.{Clock, Gate, Input, Logic, Output, Part}
+use Rattle.cg_netlist_parts.specs.Part.{Clock, GaterPart, Input, Logic, Output, Part}
 use Rattle.cg_netlist_parts.specs.Says.{AreTaken, Says, register_part}
 use Rattle.cg_net.specs.Names.{NetName, net_name}
 use Rattle.cg_netlist.specs.Wiring.{map_cell, map_gater, map_register, named}
@@ -39,22 +39,22 @@ module _ (library : List CellData) (c : Circuit) (is : IsWritable library c) whe
   abbrev IsLeft : RegisterCell NetName NetName → Type 0
   IsLeft r = is_on_nil r ≡ true → (named c).clock ≡ Some r.clock
 
-  left_at : (r : RegisterCell ℕ ℕ) → is_in (clock_nets c) r.clock ≡ true → (r.kind ≡ Plain → is_in (gate_nets c) r.clock ≡ true → name r.clock ≢ NIL) → IsLeft (map_register name r)
+  left_at : (r : RegisterCell ℕ ℕ) → is_in (clock_nets c) r.clock ≡ true → (r.kind ≡ Plain → is_in (gater_outputs c) r.clock ≡ true → name r.clock ≢ NIL) → IsLeft (map_register name r)
   left_at r carried apart on_nil =
       let both = and_parts (is_plain r.kind) (bytes_eq (name r.clock) NIL) on_nil in
-      elim (is_in_cases (option_to_list c.clock) (gate_nets c) r.clock carried) [
+      elim (is_in_cases (option_to_list c.clock) (gater_outputs c) r.clock carried) [
         | inl clock ↦ ap (option_map name) (in_option c.clock r.clock clock)
         | inr gate ↦ absurd (apart (plain_is r.kind both.0) gate (same_word (name r.clock) NIL both.1))
       ]
 
   left_each : (rs : List (RegisterCell ℕ ℕ)) → AllByRecursion (λ (r : RegisterCell ℕ ℕ). is_in (clock_nets c) r.clock ≡ true) rs
-      → AllByRecursion (λ (r : RegisterCell ℕ ℕ). r.kind ≡ Plain → is_in (gate_nets c) r.clock ≡ true → name r.clock ≢ NIL) rs → AllByRecursion IsLeft (map (map_register name) rs)
+      → AllByRecursion (λ (r : RegisterCell ℕ ℕ). r.kind ≡ Plain → is_in (gater_outputs c) r.clock ≡ true → name r.clock ≢ NIL) rs → AllByRecursion IsLeft (map (map_register name) rs)
   left_each [] carried apart = tt
   left_each (r ∷ rs) carried apart = (left_at r carried.0 apart.0, left_each rs carried.1 apart.1)
 
   left : AllByRecursion IsLeft (named c).registers
   left = left_each c.registers (by_recursion (λ (r : RegisterCell ℕ ℕ). is_in (clock_nets c) r.clock ≡ true) c.registers is.placeable.netlist.well_formed.clocked)
-      (by_recursion (λ (r : RegisterCell ℕ ℕ). r.kind ≡ Plain → is_in (gate_nets c) r.clock ≡ true → name r.clock ≢ NIL) c.registers is.clocks)
+      (by_recursion (λ (r : RegisterCell ℕ ℕ). r.kind ≡ Plain → is_in (gater_outputs c) r.clock ≡ true → name r.clock ≢ NIL) c.registers is.clocks)
 
   pub line_parts_taken : AreTaken c.model (line_parts c)
   line_parts_taken = taken_own c is_on_nil is.placeable.netlist is.placeable.outputs_once left
@@ -77,7 +77,7 @@ module _ (library : List CellData) (c : Circuit) (is : IsWritable library c) whe
   cell_lines [] all = tt
   cell_lines (k ∷ ks) all = (subst (λ n. FunctionIsOf library n k.function) (sym (length-map k.inputs name)) all.0, cell_lines ks all.1)
 
-  gater_lines : (gs : List (GatingCell ℕ)) → AllByRecursion (λ (g : GatingCell ℕ). IsOf library g.cell) gs → AllByRecursion (λ (g : GatingCell NetName). Line (Gate g)) (map (map_gater name) gs)
+  gater_lines : (gs : List (GatingCell ℕ)) → AllByRecursion (λ (g : GatingCell ℕ). IsOf library g.cell) gs → AllByRecursion (λ (g : GatingCell NetName). Line (GaterPart g)) (map (map_gater name) gs)
   gater_lines [] all = tt
   gater_lines (g ∷ gs) all = (all.0, gater_lines gs all.1)
 
@@ -104,5 +104,5 @@ module _ (library : List CellData) (c : Circuit) (is : IsWritable library c) whe
       (each_together Line (p1 is_on_nil (named c)) (p2 is_on_nil (named c)) (nothing_asked (λ net. Input net) (λ x. tt) (named c).inputs) (nothing_asked (λ net. Output net) (λ x. tt) (named c).outputs))
       (nothing_asked (λ net. Clock net) (λ x. tt) (option_to_list (named c).clock)))
       (wrapped (λ k. Logic k) (named c).cells (cell_lines c.cells (by_recursion (λ (k : LogicCell ℕ). FunctionIsOf library (length k.inputs) k.function) c.cells is.placeable.functions))))
-      (wrapped (λ g. Gate g) (named c).gaters (gater_lines c.gaters (by_recursion (λ (g : GatingCell ℕ). IsOf library g.cell) c.gaters is.placeable.gating))))
+      (wrapped (λ g. GaterPart g) (named c).gaters (gater_lines c.gaters (by_recursion (λ (g : GatingCell ℕ). IsOf library g.cell) c.gaters is.placeable.gating))))
       (wrapped (register_part is_on_nil) (named c).registers (register_lines c.registers (by_recursion (λ (r : RegisterCell ℕ ℕ). KindIsOf library r.init r.kind) c.registers is.placeable.kinds)))

@@ -7,7 +7,7 @@ use Rattle.cg_net.specs.Names.{NetName, is_known}
 use Rattle.cg_netlist_parts.specs.declared.fault.NetFault.{NetFault}
 use Rattle.cg_netlist_parts.specs.declared.fault.NetFault.TheVariants.{TwoDrivers, NoDriver, Cycle, ClockFault, NoClock, NoMemory}
 use Rattle.cg_netlist.specs.Circuit.{LogicCell}
-use Rattle.cg_netlist_parts.specs.Part.{Part, cells, clocks, drivers, gaters, inputs, is_gated, nets, registers, roots, uses}
+use Rattle.cg_netlist_parts.specs.Part.{Part, cells, clocks, drivers, gaters, inputs, is_gater_output, nets, registers, roots, uses}
 use Rattle.cg_netlist.specs.Wiring.{driven_by_cells}
 
 -- at most one of the inputs, the declared clocks and the outputs of cells drives the net
@@ -42,7 +42,7 @@ pub record IsRootProper (parts : List Part) (net : NetName) : Type 0 where
 
 -- the output of a gating cell is used at clock pins alone, and from it clock pins of gating cells lead to where the clock may
 -- come from
-pub record IsGateProper (parts : List Part) (net : NetName) : Type 0 where
+pub record IsGaterProper (parts : List Part) (net : NetName) : Type 0 where
   pub unused : is_known (uses parts) net ≡ false
   pub steps : ℕ
   pub reached : reaches parts steps net ≡ true
@@ -50,7 +50,7 @@ pub record IsGateProper (parts : List Part) (net : NetName) : Type 0 where
 -- if the net carries the clock, it does so properly
 pub record IsClockProper (parts : List Part) (net : NetName) : Type 0 where
   pub as_root : is_known (roots parts) net ≡ true → IsRootProper parts net
-  pub as_gate : is_gated parts net ≡ true → IsGateProper parts net
+  pub as_gater : is_gater_output parts net ≡ true → IsGaterProper parts net
 
 -- the clock may come from somewhere, if there is a register or a gating cell
 abbrev pub HasClock : List Part → Type 0

@@ -14,7 +14,7 @@ pub data Part : Type 0 where
   Output : NetName → Part
   Clock : NetName → Part
   Logic : LogicCell NetName → Part
-  Gate : GatingCell NetName → Part
+  GaterPart : GatingCell NetName → Part
   Register : RegisterCell NetName (Option NetName) → Part
 
 -- these names, each once, where it stands first
@@ -29,7 +29,7 @@ mentioned (Input net) = net ∷ []
 mentioned (Output net) = net ∷ []
 mentioned (Clock net) = net ∷ []
 mentioned (Logic cell) = cell.inputs ++ cell.output ∷ []
-mentioned (Gate gater) = gater.clock ∷ gater.enable ∷ (option_to_list gater.test ++ gater.output ∷ [])
+mentioned (GaterPart gater) = gater.clock ∷ gater.enable ∷ (option_to_list gater.test ++ gater.output ∷ [])
 mentioned (Register r) = r.inputs ++ shown_nets r ++ option_to_list r.clock
 
 -- the nets, in the order of their first mention
@@ -54,7 +54,7 @@ cell_in (Logic cell) = Some cell
 cell_in part = None
 
 abbrev pub gater_in : Part → Option (GatingCell NetName)
-gater_in (Gate gater) = Some gater
+gater_in (GaterPart gater) = Some gater
 gater_in part = None
 
 abbrev pub register_in : Part → Option (RegisterCell NetName (Option NetName))
@@ -97,12 +97,12 @@ abbrev pub clock_pins : List Part → List NetName
 clock_pins parts = map (λ gater. gater.clock) (gaters parts) ++ flat_map (λ r. option_to_list r.clock) (registers parts)
 
 -- whether a gating cell drives a net
-abbrev pub is_gated : List Part → NetName → Bool
-is_gated parts net = is_known (driven_by_gaters (gaters parts)) net
+abbrev pub is_gater_output : List Part → NetName → Bool
+is_gater_output parts net = is_known (driven_by_gaters (gaters parts)) net
 
 -- where the clock may come from: the declared clocks, and the nets that are named at clock pins and that no gating cell drives
 abbrev pub roots : List Part → List NetName
-roots parts = clocks parts ++ filter (λ net. not (is_gated parts net)) (clock_pins parts)
+roots parts = clocks parts ++ filter (λ net. not (is_gater_output parts net)) (clock_pins parts)
 
 -- the clock: the first of the places where it may come from, which is the only one in parts without a fault
 abbrev pub clock_of : List Part → Option NetName

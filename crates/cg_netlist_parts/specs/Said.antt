@@ -6,7 +6,7 @@ use Rattle.cg_limit.specs.declared.Limit.{Limit}
 use Rattle.cg_limit.specs.declared.Limit.TheVariants.{Nets, Registers}
 use Rattle.cg_net.specs.Names.{NetName, with_name, with_names}
 use Rattle.cg_netlist.specs.Circuit.{LogicCell, GatingCell, RegisterCell}
-use Rattle.cg_netlist_parts.specs.Part.{Part, Input, Output, Clock, Logic, Gate, Register, cells, clocks, gaters, inputs, mentioned, nets}
+use Rattle.cg_netlist_parts.specs.Part.{Part, Input, Output, Clock, Logic, GaterPart, Register, cells, clocks, gaters, inputs, mentioned, nets}
 use Rattle.cg_netlist_parts.specs.Part.{outputs, registers}
 
 -- the nets in the order of their first mention; the inputs, outputs and declared clocks, each once; the cells of each kind
@@ -42,7 +42,7 @@ with_kind (Input net) s = record s { inputs = with_name s.inputs net }
 with_kind (Output net) s = record s { outputs = with_name s.outputs net }
 with_kind (Clock net) s = record s { clocks = with_name s.clocks net }
 with_kind (Logic cell) s = record s { cells = s.cells ++ cell ∷ [] }
-with_kind (Gate gater) s = record s { gaters = s.gaters ++ gater ∷ [] }
+with_kind (GaterPart gater) s = record s { gaters = s.gaters ++ gater ∷ [] }
 with_kind (Register r) s = record s { registers = s.registers ++ r ∷ [] }
 
 -- what was said, and one more part, with the nets that it mentions

@@ -10,7 +10,7 @@ use Rattle.cg_limit.specs.declared.TheConstants.{MOST_NETS, MOST_REGISTERS}
 use Rattle.cg_net.specs.Names.{NetName, is_known}
 use Rattle.cg_netlist.specs.WellFormed.{IsInNetOrder, IsOver, IsWellFormed, RegisterFits}
 use Rattle.cg_netlist.specs.Circuit.{Circuit, LogicCell, GatingCell, RegisterCell}
-use Rattle.cg_netlist_parts.specs.Part.{Part, Input, Output, Clock, Logic, Gate, Register, clock_of, clocks, inputs, mentioned, nets}
+use Rattle.cg_netlist_parts.specs.Part.{Part, Input, Output, Clock, Logic, GaterPart, Register, clock_of, clocks, inputs, mentioned, nets}
 use Rattle.cg_netlist_parts.specs.Part.{registers, roots, wired}
 use Rattle.cg_netlist.specs.Wiring.{Wiring, named, numbered}
 
@@ -42,7 +42,7 @@ GaterFits gater =
 -- a part has as many nets as its cell is made for
 abbrev pub PartFits : Part → Type 0
 PartFits (Logic cell) = CellFits cell
-PartFits (Gate gater) = GaterFits gater
+PartFits (GaterPart gater) = GaterFits gater
 PartFits (Register r) = RegisterFits r
 PartFits part = Unit {0}
 
@@ -79,7 +79,7 @@ register_part leaves r =
 abbrev pub parts_from : (RegisterCell NetName NetName → Bool) → Wiring NetName → List Part
 parts_from leaves w =
     map (λ net. Input net) w.inputs ++ map (λ net. Output net) w.outputs ++ map (λ net. Clock net) (option_to_list w.clock)
-    ++ map (λ cell. Logic cell) w.cells ++ map (λ gater. Gate gater) w.gaters ++ map (register_part leaves) w.registers
+    ++ map (λ cell. Logic cell) w.cells ++ map (λ gater. GaterPart gater) w.gaters ++ map (register_part leaves) w.registers
 
 -- a netlist as parts, each register with its clock
 abbrev pub parts_of : Circuit → List Part

@@ -8,10 +8,10 @@ use Rattle.cg_netlist.specs.declared.parts.LogicFunction.{LogicFunction}
 use Rattle.cg_netlist.specs.declared.parts.LogicFunction.TheVariants.{Cover, Cell}
 use Rattle.cg_netlist.specs.declared.parts.RegisterKind.{RegisterKind}
 use Rattle.cg_netlist.specs.declared.parts.RegisterKind.TheVariants.{Plain, Flop}
-use Rattle.cg_netlist.specs.Circuit.{Circuit, RegisterCell, gate_nets}
+use Rattle.cg_netlist.specs.Circuit.{Circuit, RegisterCell, gater_outputs}
 use Rattle.cg_net.specs.NetSets.{is_in}
 use Rattle.cg_netlist.specs.Netlist.{IsNetlist}
-use Rattle.cg_netlist_parts.specs.Part.{Part, Logic, Gate, Register}
+use Rattle.cg_netlist_parts.specs.Part.{Part, Logic, GaterPart, Register}
 use Rattle.cg_netlist_parts.specs.Says.{parts_from}
 use Rattle.cg_net.specs.Names.{NetName, net_name}
 use Rattle.cg_netlist.specs.Wiring.{named}
@@ -55,7 +55,7 @@ line_parts c = parts_from is_on_nil (named c)
 -- library; a gating cell of the library; a plain register, or one of the library with the init 3
 abbrev pub IsPlaceablePart : List CellData → Part → Type 0
 IsPlaceablePart library (Logic cell) = FunctionIsOf library (length cell.inputs) cell.function
-IsPlaceablePart library (Gate gater) = IsOf library gater.cell
+IsPlaceablePart library (GaterPart gater) = IsOf library gater.cell
 IsPlaceablePart library (Register r) = KindIsOf library r.init r.kind
 IsPlaceablePart library part = Unit {0}
 
@@ -78,5 +78,5 @@ pub record IsPlaceable (library : List CellData) (c : Circuit) : Type 0 where
 pub record IsWritable (library : List CellData) (c : Circuit) : Type 0 where
   pub placeable : IsPlaceable library c
   pub clocks : All
-      (λ register. register.kind ≡ Plain → is_in (gate_nets c) register.clock ≡ true →
+      (λ register. register.kind ≡ Plain → is_in (gater_outputs c) register.clock ≡ true →
       net_name c.names register.clock ≢ NIL) c.registers

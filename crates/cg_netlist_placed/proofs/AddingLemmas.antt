@@ -21,7 +21,7 @@ use Rattle.cg_netlist.specs.declared.parts.RegisterKind.TheVariants.{Flop}
 use Rattle.cg_netlist.specs.declared.fault.AddFault.{AddFault}
 use Rattle.cg_netlist.specs.declared.fault.AddFault.TheVariants.{Limit as Passes, NoMemory as NoRoom}
 use Rattle.cg_netlist_builder.specs.Building.{Building, Takes}
-use Rattle.cg_netlist_parts.specs.Part.{Part, Logic, Gate, Register, mentioned}
+use Rattle.cg_netlist_parts.specs.Part.{Part, Logic, GaterPart, Register, mentioned}
 use Rattle.cg_netlist_parts.specs.Says.{IsPart}
 use Rattle.cg_netlist_parts.specs.Writable.{cell_named}
 use Rattle.cg_netlist.proofs.Each.{each_back, each_front}
@@ -198,19 +198,19 @@ module _ (cell : CellData) (words : List PinNet) where
       logic_output = (each_back (λ name. IsTrue (is_name name)) ins (out ∷ []) logic_part_is.named).0
 
     module _ (k : cell.kind ≡ GaterKind) (clock enable out : NetName) (tests : List NetName) (c : Some (clock ∷ []) ≡ at_role is_clock cell.pins nets) (e : Some (enable ∷ []) ≡ at_role is_enable cell.pins nets) (t : Some tests ≡ at_role is_test cell.pins nets) (o : Some (out ∷ []) ≡ at_role is_output cell.pins nets) where
-      gater_is : placed_part GaterKind cell nets ≡ Some (Gate (gater_of cell clock enable (slice_get tests 0) out))
+      gater_is : placed_part GaterKind cell nets ≡ Some (GaterPart (gater_of cell clock enable (slice_get tests 0) out))
       gater_is = rw (sym c, sym e, sym t, sym o) refl
 
-      gater_part_is : IsPart (Gate (gater_of cell clock enable (slice_get tests 0) out))
-      gater_part_is = placed GaterKind k (Gate (gater_of cell clock enable (slice_get tests 0) out)) gater_is
+      gater_part_is : IsPart (GaterPart (gater_of cell clock enable (slice_get tests 0) out))
+      gater_part_is = placed GaterKind k (GaterPart (gater_of cell clock enable (slice_get tests 0) out)) gater_is
 
-      pub gater_said : part_or (placed_part GaterKind cell nets) ≡ Ok (Gate (gater_of cell clock enable (slice_get tests 0) out))
+      pub gater_said : part_or (placed_part GaterKind cell nets) ≡ Ok (GaterPart (gater_of cell clock enable (slice_get tests 0) out))
       gater_said = ap part_or gater_is
 
       pub gater_test : count_by is_test cell.pins ≡ length (option_to_list (slice_get tests 0))
       gater_test = gater_part_is.fits.2
 
-      pub gater_named : AllByRecursion (λ name. IsTrue (is_name name)) (mentioned (Gate (gater_of cell clock enable (slice_get tests 0) out)))
+      pub gater_named : AllByRecursion (λ name. IsTrue (is_name name)) (mentioned (GaterPart (gater_of cell clock enable (slice_get tests 0) out)))
       gater_named = gater_part_is.named
 
     module _ (k : cell.kind ≡ FlopKind) (ins : List NetName) (clock : NetName) (outs : List (NetName × ℕ)) (i : Some ins ≡ at_role is_data cell.pins nets) (c : Some (clock ∷ []) ≡ at_role is_clock cell.pins nets) (s : outs ≡ seen_outputs (shown_at 0 cell.pins nets)) (some : 0 < length outs) where

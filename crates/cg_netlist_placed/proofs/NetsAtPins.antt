@@ -16,7 +16,7 @@ use Rattle.cg_cell.specs.declared.cell.Role.{Role}
 use Rattle.cg_cell.specs.declared.cell.Role.TheVariants.{Clock, Enable, Test, Output}
 use Rattle.cg_net.specs.Names.{NetName, is_known}
 use Rattle.cg_netlist.specs.Circuit.{GatingCell}
-use Rattle.cg_netlist_parts.specs.Part.{Gate}
+use Rattle.cg_netlist_parts.specs.Part.{GaterPart}
 use Rattle.cg_netlist_parts.specs.Says.{GaterFits}
 use Rattle.cg_netlist_parts.proofs.KnownNames.{itself, same_word}
 use Rattle.cg_netlist_placed.specs.PinsOf.{gater_net}
@@ -135,7 +135,7 @@ module _ (g : GatingCell NetName) where
   first_of None = refl
   first_of (Some x) = refl
 
-  pub gater_back : GaterFits g → placed_part GaterKind g.cell (gater_nets g g.cell.pins) ≡ Some (Gate g)
+  pub gater_back : GaterFits g → placed_part GaterKind g.cell (gater_nets g g.cell.pins) ≡ Some (GaterPart g)
   gater_back fits =
       let pins : HasGaterPins g.cell.pins = subst (λ k. HasPins k g.cell.pins) fits.1 fits.0.roles in
       let c : at_role is_clock g.cell.pins (gater_nets g g.cell.pins) ≡ Some (g.clock ∷ []) = one_role is_clock (gater_net g) g.clock g.cell.pins (λ pin role. clock_net pin.name pin.role role) pins.clock in
@@ -146,4 +146,4 @@ module _ (g : GatingCell NetName) where
       ∙ (ap (λ x. gater_part g.cell (Some (g.clock ∷ [])) x (at_role is_test g.cell.pins (gater_nets g g.cell.pins)) (at_role is_output g.cell.pins (gater_nets g g.cell.pins))) e
       ∙ (ap (λ x. gater_part g.cell (Some (g.clock ∷ [])) (Some (g.enable ∷ [])) x (at_role is_output g.cell.pins (gater_nets g g.cell.pins))) t
       ∙ (ap (λ x. gater_part g.cell (Some (g.clock ∷ [])) (Some (g.enable ∷ [])) (Some (option_to_list g.test)) x) o
-      ∙ ap (λ t. Some (Gate (record { clock = g.clock; enable = g.enable; test = t; output = g.output; cell = g.cell }))) (first_of g.test))))
+      ∙ ap (λ t. Some (GaterPart (record { clock = g.clock; enable = g.enable; test = t; output = g.output; cell = g.cell }))) (first_of g.test))))

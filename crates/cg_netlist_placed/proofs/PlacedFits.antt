@@ -21,7 +21,7 @@ use Rattle.cg_net.specs.Names.{NetName}
 use Rattle.cg_netlist.specs.WellFormed.{ShowsAsPin}
 use Rattle.cg_netlist.specs.declared.parts.LogicFunction.TheVariants.{Cell}
 use Rattle.cg_netlist.specs.declared.parts.RegisterKind.TheVariants.{Flop}
-use Rattle.cg_netlist_parts.specs.Part.{Part, Logic, Gate, Register}
+use Rattle.cg_netlist_parts.specs.Part.{Part, Logic, GaterPart, Register}
 use Rattle.cg_netlist_parts.specs.Says.{IsPart}
 use Rattle.cg_netlist_parts.specs.Writable.{IsPlaceablePart, cell_named}
 use Rattle.cg_netlist.proofs.Each.{each_together}
@@ -192,7 +192,7 @@ module _ (library : List CellData) (cell : CellData) (is : IsCell cell) (placed 
       let ena = role_is is_enable cell.pins nets (e ∷ []) named ae in
       let tst = role_is is_test cell.pins nets ts named at in
       let out = role_is is_output cell.pins nets (o ∷ []) named ao in
-      one_part library cell (Gate (record { clock = c; enable = e; test = slice_get ts 0; output = o; cell = cell })) refl
+      one_part library cell (GaterPart (record { clock = c; enable = e; test = slice_get ts 0; output = o; cell = cell })) refl
       (record { named = (clk.named.0, (ena.named.0, each_together IsNamed (option_to_list (slice_get ts 0)) (o ∷ []) (test_named ts tst.named) out.named)); fits = (is, kind, tst.count ∙ test_count ts (omega (arith, pins.test, tst.count))) })
       placed part is_part
   gater_fits nets named kind clocks enables tests outs ac ae at ao part is_part = absurd (cc)

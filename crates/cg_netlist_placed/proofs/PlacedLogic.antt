@@ -17,7 +17,7 @@ use Rattle.cg_netlist.specs.WellFormed.{IsOver}
 use Rattle.cg_netlist.specs.declared.parts.LogicFunction.{LogicFunction}
 use Rattle.cg_netlist.specs.declared.parts.LogicFunction.TheVariants.{Cell, Cover}
 use Rattle.cg_netlist.specs.Circuit.{GatingCell}
-use Rattle.cg_netlist_parts.specs.Part.{Logic, Gate, mentioned}
+use Rattle.cg_netlist_parts.specs.Part.{Logic, GaterPart, mentioned}
 use Rattle.cg_netlist_parts.specs.Writable.{FunctionIsOf, IsOf, cell_named}
 use Rattle.cg_netlist.proofs.Each.{each_back, each_front}
 use Rattle.cg_netlist_placed.specs.Laws.{GaterIsPlaced, LogicIsPlaced}
@@ -136,7 +136,7 @@ logic_is_placed library cell logic is part of = go logic.function is part.fits.o
         let same : placed ≡ cell = cc in
         subst (λ (c : CellData). placed_by (cell_named library c.name) (logic_pins c logic) ≡ Ok (Logic (record { inputs = logic.inputs; output = logic.output; function = Cell placed }))) same (logic_placed library logic.inputs logic.output placed over ins out of)
 
-pub gater_named : (g : GatingCell NetName) → AllByRecursion (λ net. IsTrue (is_name net)) (mentioned (Gate g)) → (pins : List PinData) → AreNamed (gater_nets g pins)
+pub gater_named : (g : GatingCell NetName) → AllByRecursion (λ net. IsTrue (is_name net)) (mentioned (GaterPart g)) → (pins : List PinData) → AreNamed (gater_nets g pins)
 gater_named g all [] = tt
 gater_named g all (p ∷ pins) = (pin_is (is_clock p) (is_enable p) (is_test p) (is_output p), gater_named g all pins)
   where
@@ -152,4 +152,4 @@ gater_named g all (p ∷ pins) = (pin_is (is_clock p) (is_enable p) (is_test p) 
 
 pub gater_is_placed : GaterIsPlaced
 gater_is_placed library gater part of =
-    placed_known library gater.cell (gater_nets gater gater.cell.pins) (Gate gater) GaterKind of part.fits.1 part.fits.0.distinct (length-map gater.cell.pins (gater_net gater)) (gater_named gater part.named gater.cell.pins) (gater_back gater part.fits)
+    placed_known library gater.cell (gater_nets gater gater.cell.pins) (GaterPart gater) GaterKind of part.fits.1 part.fits.0.distinct (length-map gater.cell.pins (gater_net gater)) (gater_named gater part.named gater.cell.pins) (gater_back gater part.fits)

@@ -7,7 +7,7 @@ use Rattle.cg_netlist.specs.declared.parts.LogicFunction.{LogicFunction}
 use Rattle.cg_netlist.specs.declared.parts.LogicFunction.TheVariants.{Cover, Cell}
 use Rattle.cg_netlist.specs.declared.parts.RegisterKind.{RegisterKind}
 use Rattle.cg_netlist.specs.declared.parts.RegisterKind.TheVariants.{Plain, Flop}
-use Rattle.cg_netlist_parts.specs.Part.{Gate, Logic, Part, Register}
+use Rattle.cg_netlist_parts.specs.Part.{GaterPart, Logic, Part, Register}
 use Rattle.cg_netlist_parts.specs.Says.{IsPart, register_part}
 use Rattle.cg_netlist_parts.specs.Writable.{IsPlaceablePart, cell_named}
 use Rattle.cg_net.specs.Names.{NetName}
@@ -26,7 +26,7 @@ kind_cell (Flop cell) = Some cell
 
 abbrev pub part_cell : Part → Option CellData
 part_cell (Logic logic) = function_cell logic.function
-part_cell (Gate gater) = Some gater.cell
+part_cell (GaterPart gater) = Some gater.cell
 part_cell (Register register) = kind_cell register.kind
 part_cell part = None
 
@@ -56,8 +56,8 @@ LogicIsPlaced =
 
 abbrev pub GaterIsPlaced : Type 0
 GaterIsPlaced =
-    (library : List CellData) (gater : GatingCell NetName) → IsPart (Gate gater) → IsPlaceablePart library (Gate gater)
-    → placed_by (cell_named library gater.cell.name) (gater_pins gater) ≡ Ok (Gate gater)
+    (library : List CellData) (gater : GatingCell NetName) → IsPart (GaterPart gater) → IsPlaceablePart library (GaterPart gater)
+    → placed_by (cell_named library gater.cell.name) (gater_pins gater) ≡ Ok (GaterPart gater)
 
 abbrev pub FlopIsPlaced : Type 0
 FlopIsPlaced =

@@ -12,7 +12,7 @@ use Rattle.cg_cell.specs.declared.cell.CellKind.TheVariants.{Logic as LogicKind,
 use Rattle.cg_netlist.specs.declared.parts.LogicFunction.TheVariants.{Cell}
 use Rattle.cg_netlist.specs.declared.parts.RegisterKind.TheVariants.{Flop}
 use Rattle.cg_netlist_builder.specs.Calls.{is_bar}
-use Rattle.cg_netlist_parts.specs.Part.{Part, Logic, Gate, Register}
+use Rattle.cg_netlist_parts.specs.Part.{Part, Logic, GaterPart, Register}
 use Rattle.cg_net.specs.Names.{NetName}
 use Rattle.cg_netlist_placed.specs.declared.fault.PlacedFault.{PlacedFault}
 use Rattle.cg_netlist_placed.specs.declared.fault.PlacedFault.TheVariants.{UnknownCell, UnusableCell, PinFault}
@@ -69,7 +69,7 @@ logic_part cell inputs outputs = None
 abbrev pub gater_part : CellData → Option (List NetName) → Option (List NetName) → Option (List NetName) → Option (List NetName) →
     Option Part
 gater_part cell (Some (clock ∷ [])) (Some (enable ∷ [])) (Some tests) (Some (output ∷ [])) =
-    Some (Gate (record { clock = clock; enable = enable; test = slice_get tests 0; output = output; cell = cell }))
+    Some (GaterPart (record { clock = clock; enable = enable; test = slice_get tests 0; output = output; cell = cell }))
 gater_part cell clocks enables tests outputs = None
 
 abbrev pub flop_part : CellData → Option (List NetName) → Option (List NetName) → List Shown → Option Part

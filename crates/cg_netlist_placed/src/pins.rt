@@ -6,7 +6,7 @@ ghost use Rattle.cg_netlist.specs.View.{gater_seen, register_seen};
 ghost use Rattle.cg_netlist.specs.Wiring.{map_gater};
 ghost use Rattle.cg_net.specs.Names.{net_name};
 ghost use Rattle.cg_netlist_placed.specs.PinsOf.{gater_net, logic_nets, pin_pairs};
-ghost use Rattle.cg_netlist_placed.specs.inner.Pins.{one_pair, pin_pair, seen_nets};
+ghost use Rattle.cg_netlist_placed.specs.inner.Pins.{flop_written, logic_written, one_pair, pin_pair, seen_nets};
 ghost use Rattle.cg_netlist_placed.specs.Within.{AreNets, GaterNets, IsNet, RegisterNets};
 
 use crate::pin::PinWord;
@@ -68,10 +68,9 @@ fn push_logic_pin<'a>(
 ) -> Result<usize, AllocError>
     requires inputs { AreNets netlist.now inputs.now }
     requires output { IsNet netlist.now output }
-    ensures { IfOk result (λ after. (later : List PinData) → words.new.items ++ pin_pairs later
-        (logic_nets later (map (net_name netlist.entry.now.names) (drop after inputs.now)) (net_name netlist.entry.now.names output))
-        ≡ words.old.items ++ pin_pairs (pin.entry.now ∷ later)
-        (logic_nets (pin.entry.now ∷ later) (map (net_name netlist.entry.now.names) (drop next inputs.now)) (net_name netlist.entry.now.names output))) }
+    ensures { IfOk result (λ after. (later : List PinData)
+        → logic_written netlist.entry.now.names inputs.now output later after words.new.items
+        ≡ logic_written netlist.entry.now.names inputs.now output (pin.entry.now ∷ later) next words.old.items) }
 {
     if pin.role() == Role::Output {
         push_pin(words, netlist, pin, output)?;
@@ -171,9 +170,8 @@ fn push_flop_pin<'a>(
     requires nets { RegisterNets netlist.now (register_seen register.now) }
     requires places { length register.now.pins.now ≡ length register.now.outputs.now }
     ensures { IfOk result (λ after. (later : List PinData)
-        → words.new.items ++ pin_pairs later (seen_nets netlist.entry.now.names (register_seen register.now) (at + 1) later after.inputs after.outputs)
-        ≡ words.old.items ++ pin_pairs (pin.entry.now ∷ later)
-        (seen_nets netlist.entry.now.names (register_seen register.now) at (pin.entry.now ∷ later) put.inputs put.outputs)) }
+        → flop_written netlist.entry.now.names (register_seen register.now) (at + 1) later after.inputs after.outputs words.new.items
+        ≡ flop_written netlist.entry.now.names (register_seen register.now) at (pin.entry.now ∷ later) put.inputs put.outputs words.old.items) }
 {
     match pin.role() {
         Role::Clock => {
@@ -202,9 +200,8 @@ fn push_output<'a>(
     requires clock { is_clock pin.now ≡ false }
     requires state { is_state pin.now ≡ true }
     ensures { IfOk result (λ after. (later : List PinData)
-        → words.new.items ++ pin_pairs later (seen_nets netlist.entry.now.names (register_seen register.now) (at + 1) later after.inputs after.outputs)
-        ≡ words.old.items ++ pin_pairs (pin.entry.now ∷ later)
-        (seen_nets netlist.entry.now.names (register_seen register.now) at (pin.entry.now ∷ later) put.inputs put.outputs)) }
+        → flop_written netlist.entry.now.names (register_seen register.now) (at + 1) later after.inputs after.outputs words.new.items
+        ≡ flop_written netlist.entry.now.names (register_seen register.now) at (pin.entry.now ∷ later) put.inputs put.outputs words.old.items) }
 {
     let Put { inputs, outputs } = put;
     if outputs >= register.outputs.len() {
@@ -234,9 +231,8 @@ fn push_input<'a>(
     requires clock { is_clock pin.now ≡ false }
     requires state { is_state pin.now ≡ false }
     ensures { IfOk result (λ after. (later : List PinData)
-        → words.new.items ++ pin_pairs later (seen_nets netlist.entry.now.names (register_seen register.now) (at + 1) later after.inputs after.outputs)
-        ≡ words.old.items ++ pin_pairs (pin.entry.now ∷ later)
-        (seen_nets netlist.entry.now.names (register_seen register.now) at (pin.entry.now ∷ later) put.inputs put.outputs)) }
+        → flop_written netlist.entry.now.names (register_seen register.now) (at + 1) later after.inputs after.outputs words.new.items
+        ≡ flop_written netlist.entry.now.names (register_seen register.now) at (pin.entry.now ∷ later) put.inputs put.outputs words.old.items) }
 {
     let Put { inputs, outputs } = put;
     if inputs >= register.inputs.len() {

@@ -13,7 +13,7 @@ use Rattle.cg_net.specs.Names.{NetName, is_known, with_name, with_names}
 use Rattle.cg_netlist.specs.declared.fault.AddFault.{AddFault}
 use Rattle.cg_netlist.specs.declared.fault.AddFault.TheVariants.{NoMemory}
 use Rattle.cg_netlist_builder.specs.Building.{Building, IsAnswer, Takes}
-use Rattle.cg_netlist_parts.specs.Part.{Clock, Gate, Input, Logic, Output, Part, Register, mentioned}
+use Rattle.cg_netlist_parts.specs.Part.{Clock, GaterPart, Input, Logic, Output, Part, Register, mentioned}
 use Rattle.cg_netlist_parts.specs.Said.{Said, limit_of, with_kind, with_part}
 use Rattle.cg_netlist_parts.specs.Says.{IsPart}
 use Rattle.cg_netlist_telling.specs.Telling.{MayTell, WasTold, told, with_parts}
@@ -42,7 +42,7 @@ kind_longer (Input net) s = omega arith
 kind_longer (Output net) s = omega arith
 kind_longer (Clock net) s = omega arith
 kind_longer (Logic cell) s = omega arith
-kind_longer (Gate gater) s = omega arith
+kind_longer (GaterPart gater) s = omega arith
 kind_longer (Register r) s = omega (arith, length-append s.registers (r ∷ []))
 
 nets_longer : (s : Said) (ps : List Part) → length s.nets ≤ length (with_parts s ps).nets

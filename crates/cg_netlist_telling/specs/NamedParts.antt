@@ -5,7 +5,7 @@ use Rattle.cg_net.specs.Names.{NetName, net_name}
 use Rattle.cg_netlist.specs.Circuit.{GatingCell, LogicCell, RegisterCell}
 use Rattle.cg_netlist.specs.Moment.{zip_with}
 use Rattle.cg_netlist.specs.Wiring.{map_cell, map_gater, map_register}
-use Rattle.cg_netlist_parts.specs.Part.{Clock, Gate, Input, Logic, Output, Part}
+use Rattle.cg_netlist_parts.specs.Part.{Clock, GaterPart, Input, Logic, Output, Part}
 use Rattle.cg_netlist_parts.specs.Says.{register_part}
 
 -- parts of each kind, with the names of their nets
@@ -25,7 +25,7 @@ abbrev pub cell_parts : List NetName → List (LogicCell ℕ) → List Part
 cell_parts names cells = map (cell_part names) cells
 
 abbrev pub gater_part : List NetName → GatingCell ℕ → Part
-gater_part names gater = Gate (map_gater (net_name names) gater)
+gater_part names gater = GaterPart (map_gater (net_name names) gater)
 
 abbrev pub gater_parts : List NetName → List (GatingCell ℕ) → List Part
 gater_parts names gaters = map (gater_part names) gaters
@@ -37,11 +37,11 @@ abbrev pub clocked_parts : List NetName → List (RegisterCell ℕ ℕ) → List
 clocked_parts names registers = map (clocked_part names) registers
 
 -- registers on another clock, where one is given
-abbrev pub on_gate : Option ℕ → RegisterCell ℕ ℕ → RegisterCell ℕ ℕ
-on_gate gate r = record r { clock = unwrap_or gate r.clock }
+abbrev pub on_gater : Option ℕ → RegisterCell ℕ ℕ → RegisterCell ℕ ℕ
+on_gater gate r = record r { clock = unwrap_or gate r.clock }
 
 abbrev pub with_clock : Option ℕ → List (RegisterCell ℕ ℕ) → List (RegisterCell ℕ ℕ)
-with_clock gate registers = map (on_gate gate) registers
+with_clock gate registers = map (on_gater gate) registers
 
 -- the outputs of a register as a builder takes them: each with the place of its pin
 abbrev pub placed_outputs : List NetName → List (ℕ × Bool) → List ℕ → List (NetName × ℕ)

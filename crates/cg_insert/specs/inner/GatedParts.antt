@@ -8,7 +8,7 @@ use Rattle.cg_netlist.specs.Moment.{zip_with}
 use Rattle.cg_netlist_parts.specs.Part.{Part}
 use Rattle.cg_net.specs.Names.{NetName}
 use Rattle.cg_netlist_telling.specs.NamedParts.{cell_parts, clock_parts, clocked_parts, gater_parts, input_parts, output_parts}
-use Rattle.cg_insert.specs.Insert.{enables_of, gate_names, gate_outputs, gating_cell, placed_gate, reclocked, test_net}
+use Rattle.cg_insert.specs.Insert.{enables_of, gate_names, new_gater_outputs, gating_cell, placed_gate, reclocked, test_net}
 
 -- the names of the gated netlist, in the machine's own order
 abbrev pub gated_names : Option (List ℕ) → MachineData → List NetName
@@ -16,7 +16,7 @@ gated_names test m = m.circuit.names ++ option_to_list test ++ gate_names m
 
 -- the gating cells, and the registers on their clocks
 abbrev pub gated_gaters : List CellData → Option (List ℕ) → MachineData → List (GatingCell ℕ)
-gated_gaters library test m = zip_with (gating_cell library test m) (enables_of m) (gate_outputs test m)
+gated_gaters library test m = zip_with (gating_cell library test m) (enables_of m) (new_gater_outputs test m)
 
 abbrev pub gated_registers : Option (List ℕ) → MachineData → List (RegisterCell ℕ ℕ)
 gated_registers test m = zip_with (reclocked test m) m.circuit.registers m.enables

@@ -7,7 +7,7 @@ use Rattle.cg_netlist.specs.declared.fault.AddFault.TheVariants.{Limit as Passes
 use Rattle.cg_netlist.specs.Circuit.{GatingCell, LogicCell, RegisterCell}
 use Rattle.cg_net.specs.NetSets.{with_net}
 use Rattle.cg_netlist.specs.Places.{CellWithin}
-use Rattle.cg_netlist_parts.specs.Part.{Logic, Gate, Register, mentioned}
+use Rattle.cg_netlist_parts.specs.Part.{Logic, GaterPart, Register, mentioned}
 use Rattle.cg_net.specs.Names.{NetName, net_name, with_names}
 use Rattle.cg_netlist.specs.Wiring.{map_cell, map_gater, map_open}
 use Rattle.cg_netlist_builder.specs.inner.Numbers.{GaterWithin, OpenWithin}
@@ -38,7 +38,7 @@ pub record PutsCell (old new : List NetName) (cells more : List (LogicCell ℕ))
   pub put : more ≡ cells ++ cell ∷ []
 
 pub record PutsGater (old new : List NetName) (gaters more : List (GatingCell ℕ)) (said : GatingCell NetName) : Type 0 where
-  pub names : new ≡ with_names old (mentioned (Gate said))
+  pub names : new ≡ with_names old (mentioned (GaterPart said))
   pub few : length new ≤ MOST_NETS
   pub gater : GatingCell ℕ
   pub named : map_gater (net_name new) gater ≡ said

@@ -93,8 +93,8 @@ driving_gater gaters net = position_from (λ gater. gater.output == net) 0 gater
 abbrev pub gate_above : List (GatingCell ℕ) → ℕ → List ℕ
 gate_above gaters k = option_map_or (λ gater. option_to_list (driving_gater gaters gater.clock)) (slice_get gaters k) []
 
-abbrev pub gate_rank : List (GatingCell ℕ) → ℕ → Option ℕ
-gate_rank gaters = rank_within (gate_above gaters) (length gaters)
+abbrev pub gater_rank : List (GatingCell ℕ) → ℕ → Option ℕ
+gater_rank gaters = rank_within (gate_above gaters) (length gaters)
 
 -- a net is driven twice or more
 abbrev pub is_driven_twice : Numbers → ℕ → Bool
@@ -114,12 +114,12 @@ is_bad_root n net =
     (not (is_in (n.inputs ++ n.clocks) net) || list_any (λ other. nat_lt other net) (rooted n)) || is_in (used n) net
 
 -- the output of a gating cell is used for its bit, or the chain of clock pins up from it goes round
-abbrev pub is_bad_gate : Numbers → ℕ → Bool
-is_bad_gate n net = is_in (used n) net || option_map_or (λ k. is_none (gate_rank n.gaters k)) (driving_gater n.gaters net) false
+abbrev pub is_bad_gater : Numbers → ℕ → Bool
+is_bad_gater n net = is_in (used n) net || option_map_or (λ k. is_none (gater_rank n.gaters k)) (driving_gater n.gaters net) false
 
 -- a net that carries the clock does not do so properly
 abbrev pub is_bad_clock : Numbers → ℕ → Bool
-is_bad_clock n net = (is_in (rooted n) net && is_bad_root n net) || (is_in (gated n) net && is_bad_gate n net)
+is_bad_clock n net = (is_in (rooted n) net && is_bad_root n net) || (is_in (gated n) net && is_bad_gater n net)
 
 -- the wiring by numbers, with the clock for the registers that name none
 abbrev pub clock_number : Numbers → Option ℕ

@@ -5,12 +5,12 @@ use Rattle.cg_net.specs.Names.{NetName}
 use Rattle.cg_netlist.specs.Circuit.{GatingCell, RegisterCell}
 use Rattle.cg_netlist.specs.declared.parts.LogicFunction.TheVariants.{Cell as PlacedCell, Cover as CoverFunction}
 use Rattle.cg_netlist_builder.specs.Calls.{cell_of, gater_of, register_of}
-use Rattle.cg_netlist_builder.specs.declared.part_words.GaterWords.{GaterWords}
-use Rattle.cg_netlist_builder.specs.declared.part_words.PartWords.{PartWords}
-use Rattle.cg_netlist_builder.specs.declared.part_words.PartWords.TheVariants.{Clock as ClockWord, Cover, Gater, Input as InputWord}
-use Rattle.cg_netlist_builder.specs.declared.part_words.PartWords.TheVariants.{Output as OutputWord, Placed, Register as RegisterWord}
-use Rattle.cg_netlist_builder.specs.declared.part_words.RegisterWords.{RegisterWords}
-use Rattle.cg_netlist_parts.specs.Part.{Part, Clock, Gate, Input, Logic, Output, Register}
+use Rattle.cg_netlist_builder.specs.declared.adding.GaterWords.{GaterWords}
+use Rattle.cg_netlist_builder.specs.declared.adding.PartWords.{PartWords}
+use Rattle.cg_netlist_builder.specs.declared.adding.PartWords.TheVariants.{Clock as ClockWord, Cover, Gater, Input as InputWord}
+use Rattle.cg_netlist_builder.specs.declared.adding.PartWords.TheVariants.{Output as OutputWord, Placed, Register as RegisterWord}
+use Rattle.cg_netlist_builder.specs.declared.adding.RegisterWords.{RegisterWords}
+use Rattle.cg_netlist_parts.specs.Part.{Part, Clock, GaterPart, Input, Logic, Output, Register}
 
 -- the gating cell, the register, and the part
 abbrev pub gater_said : GaterWords → GatingCell NetName
@@ -27,5 +27,5 @@ part_said (OutputWord net) = Output net.now
 part_said (ClockWord net) = Clock net.now
 part_said (Cover inputs output cover) = Logic (cell_of (map (λ name. name.now) inputs.now) output.now (CoverFunction cover))
 part_said (Placed cell inputs output) = Logic (cell_of (map (λ name. name.now) inputs.now) output.now (PlacedCell cell.now))
-part_said (Gater gater) = Gate (gater_said gater)
+part_said (Gater gater) = GaterPart (gater_said gater)
 part_said (RegisterWord register) = Register (register_said register)

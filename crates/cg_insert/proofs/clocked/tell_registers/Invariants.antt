@@ -6,4 +6,4 @@ use Rattle.cg_netlist_telling.specs.Telling.{told}
 use Rattle.cg_insert.proofs.clocked.tell_registers.Given as goal
 
 abbrev pub invariant-loop-number : goal.invariant-loop-number
-invariant-loop-number l = l.builder ≡ told l.initial.builder (clocked_parts l.names (take l.number (gated_registers (option_copied l.fn.test) l.machine)))
+invariant-loop-number l = l.builder ≡ told l.initial.builder (clocked_parts l.names (take l.number (gated_registers (option_copied l.gating.test) l.gating.machine.now)))

@@ -14,7 +14,7 @@ returns-in-Ok c =
     let good = c.netlist-netlist.ensures.machine in
     let netlist = c.in-Ok.netlist in
     let own : IsNetlist (own_netlist m) = subst IsNetlist c.netlist-netlist.ensures.netlist c.nets-own.ensures.netlist in
-    let small : insertion_limit test m ≡ None = no_limit test m (omega (arith, c.if-first_gate-len-gt-MOST_NETS.false, c.first_gate.ensures.first, c.len.ensures, ap length c.in_ok-enables.ensures)) in
+    let small : insertion_limit test m ≡ None = no_limit test m (omega (arith, c.if-first_gater_output-len-gt-MOST_NETS.false, c.first_gater_output.ensures.first, c.len.ensures, ap length c.in_ok-enables.ensures)) in
     let made : netlist ≡ inserted library test m = finished library test m good c.requires own small c.in_ok-builder.builder c.in_ok-builder.ensures netlist c.in-Ok.ensures in
     record {
       answer = answered library test m good c.requires own small netlist made;
@@ -30,5 +30,5 @@ wanting-requires c =
     let m = c.args.machine.now in
     let good = c.netlist-netlist.ensures.machine in
     let own : IsNetlist (own_netlist m) = subst IsNetlist c.netlist-netlist.ensures.netlist c.nets-own.ensures.netlist in
-    let small : insertion_limit test m ≡ None = no_limit test m (omega (arith, c.if-first_gate-len-gt-MOST_NETS.false, c.first_gate.ensures.first, c.len.ensures, ap length c.in_ok-enables.ensures)) in
+    let small : insertion_limit test m ≡ None = no_limit test m (omega (arith, c.if-first_gater_output-len-gt-MOST_NETS.false, c.first_gater_output.ensures.first, c.len.ensures, ap length c.in_ok-enables.ensures)) in
     wanting library test m good c.requires own small c.in_ok-builder.builder c.in_ok-builder.ensures c.in-Err.fault c.in-Err.ensures

@@ -5,7 +5,7 @@ use Rattle.cg_cell.specs.Name.{is_name}
 use Rattle.cg_cell.specs.Pins.{is_clock, is_enable, is_output, is_test}
 use Rattle.cg_cell.specs.declared.cell.CellKind.TheVariants.{Gater as GaterKind}
 use Rattle.cg_netlist_builder.specs.Calls.{gater_of}
-use Rattle.cg_netlist_parts.specs.Part.{Gate, mentioned}
+use Rattle.cg_netlist_parts.specs.Part.{GaterPart, mentioned}
 use Rattle.cg_netlist_placed.specs.Placed.{at_role, nets_at, part_or, placed_part}
 use Rattle.cg_netlist_placed.proofs.AddingLemmas.{first_net, gater_named, gater_said, gater_test, no_clock, no_enable, no_output}
 use Rattle.cg_netlist_placed.proofs.AddingLemmas.{one_at, told_part}
@@ -56,7 +56,7 @@ gater-requires-clause-nets c =
     let o = one_at (at_role is_output c.args.cell.now.pins nets) c.in_ok-outputs.outputs.items c.index-3.result.now c.in_ok-outputs.ensures.nets one_output c.index-3.ensures in
     let first : option_copied c.copied-test.result ≡ slice_get (bytes c.deref.result.now) 0 = first_net c.deref.result.now c.copied-test.result (c.copied-test.ensures ∙ c.first.ensures.value) in
     let t : Some (bytes c.deref.result.now) ≡ at_role is_test c.args.cell.now.pins nets = ap (λ xs. Some (bytes xs)) c.deref.ensures.value ∙ sym c.in_ok-tests.ensures.nets in
-    subst (λ (net : Option (List ℕ)). AllByRecursion (λ name. IsTrue (is_name name)) (mentioned (Gate (gater_of c.args.cell.now c.index.result.now.now c.index-2.result.now.now net c.index-3.result.now.now)))) (sym first) (gater_named c.args.cell.now c.args.words.now c.all_at.ensures.cell c.requires.words c.requires.kind c.index.result.now.now c.index-2.result.now.now c.index-3.result.now.now (bytes c.deref.result.now) k e t o)
+    subst (λ (net : Option (List ℕ)). AllByRecursion (λ name. IsTrue (is_name name)) (mentioned (GaterPart (gater_of c.args.cell.now c.index.result.now.now c.index-2.result.now.now net c.index-3.result.now.now)))) (sym first) (gater_named c.args.cell.now c.args.words.now c.all_at.ensures.cell c.requires.words c.requires.kind c.index.result.now.now c.index-2.result.now.now c.index-3.result.now.now (bytes c.deref.result.now) k e t o)
 
 -- src/adding.rt:103:1
 pub returns : goal.returns
@@ -70,5 +70,5 @@ returns c =
     let o = one_at (at_role is_output c.args.cell.now.pins nets) c.in_ok-outputs.outputs.items c.index-3.result.now c.in_ok-outputs.ensures.nets one_output c.index-3.ensures in
     let first : option_copied c.copied-test.result ≡ slice_get (bytes c.deref.result.now) 0 = first_net c.deref.result.now c.copied-test.result (c.copied-test.ensures ∙ c.first.ensures.value) in
     let t : Some (bytes c.deref.result.now) ≡ at_role is_test c.args.cell.now.pins nets = ap (λ xs. Some (bytes xs)) c.deref.ensures.value ∙ sym c.in_ok-tests.ensures.nets in
-    let said = gater_said c.args.cell.now c.args.words.now c.all_at.ensures.cell c.requires.words c.requires.kind c.index.result.now.now c.index-2.result.now.now c.index-3.result.now.now (bytes c.deref.result.now) k e t o ∙ ap (λ (net : Option (List ℕ)). Ok (Gate (gater_of c.args.cell.now c.index.result.now.now c.index-2.result.now.now net c.index-3.result.now.now))) (sym first) in
-    told_part c.args.builder.now c.gater.new.self (Gate (gater_of c.args.cell.now c.index.result.now.now c.index-2.result.now.now (option_copied c.copied-test.result) c.index-3.result.now.now)) (part_or (placed_part GaterKind c.args.cell.now nets)) c.gater.result c.told.result said c.gater.ensures c.told.ensures
+    let said = gater_said c.args.cell.now c.args.words.now c.all_at.ensures.cell c.requires.words c.requires.kind c.index.result.now.now c.index-2.result.now.now c.index-3.result.now.now (bytes c.deref.result.now) k e t o ∙ ap (λ (net : Option (List ℕ)). Ok (GaterPart (gater_of c.args.cell.now c.index.result.now.now c.index-2.result.now.now net c.index-3.result.now.now))) (sym first) in
+    told_part c.args.builder.now c.gater.new.self (GaterPart (gater_of c.args.cell.now c.index.result.now.now c.index-2.result.now.now (option_copied c.copied-test.result) c.index-3.result.now.now)) (part_or (placed_part GaterKind c.args.cell.now nets)) c.gater.result c.told.result said c.gater.ensures c.told.ensures

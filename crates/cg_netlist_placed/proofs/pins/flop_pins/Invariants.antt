@@ -1,9 +1,9 @@
-use Rattle.std.proofs.Common.{◌≡◌, ◌++◌, drop}
+use Rattle.std.proofs.Common.{[], ◌≡◌, drop}
 use Rattle.cg_netlist.specs.View.{register_seen}
-use Rattle.cg_netlist_placed.specs.PinsOf.{pin_pairs}
-use Rattle.cg_netlist_placed.specs.inner.Pins.{seen_nets}
+use Rattle.cg_netlist_placed.specs.inner.Pins.{flop_written}
 use Rattle.cg_netlist_placed.proofs.pins.flop_pins.Given as goal
 
 abbrev pub invariant-pins : goal.invariant-pins
-invariant-pins l = l.words.items ++ pin_pairs (drop l.at l.pins) (seen_nets l.netlist.names (register_seen l.register) l.at (drop l.at l.pins) l.put.inputs l.put.outputs)
-    ≡ pin_pairs l.pins (seen_nets l.netlist.names (register_seen l.register) 0 l.pins 0 0)
+invariant-pins l =
+    flop_written l.netlist.names (register_seen l.register) l.at (drop l.at l.pins) l.put.inputs l.put.outputs l.words.items
+    ≡ flop_written l.netlist.names (register_seen l.register) 0 l.pins 0 0 []

@@ -2,12 +2,12 @@ use Rattle.std.proofs.Common.{Bor, List, ℕ, map, refl}
 use Rattle.std.proofs.lemmas.Result.{MatchResult-weaker}
 use Rattle.cg_netlist.specs.declared.parts.LogicFunction.TheVariants.{Cell as PlacedCell, Cover as CoverFunction}
 use Rattle.cg_netlist_builder.specs.Calls.{cell_of}
-use Rattle.cg_netlist_builder.specs.declared.part_words.PartWords.TheVariants.{Input as InputWord, Output as OutputWord, Clock as ClockWord, Cover, Placed}
-use Rattle.cg_netlist_builder.specs.declared.part_words.PartWords.TheVariants.{Gater, Register as RegisterWord}
+use Rattle.cg_netlist_builder.specs.declared.adding.PartWords.TheVariants.{Input as InputWord, Output as OutputWord, Clock as ClockWord, Cover, Placed}
+use Rattle.cg_netlist_builder.specs.declared.adding.PartWords.TheVariants.{Gater, Register as RegisterWord}
 use Rattle.cg_netlist_builder.specs.declared.parts.Parts.TheInside.{Inside}
 use Rattle.cg_netlist_builder.specs.inner.Numbers.{Numbers}
 use Rattle.cg_netlist_builder.specs.inner.Words.{gater_said, register_said}
-use Rattle.cg_netlist_parts.specs.Part.{Clock, Gate, Input, Logic, Output}
+use Rattle.cg_netlist_parts.specs.Part.{Clock, GaterPart, Input, Logic, Output}
 use Rattle.cg_netlist_builder.proofs.Hearing.{hears_cell, hears_clock, hears_gater, hears_input, hears_output, hears_register}
 use Rattle.cg_netlist_builder.proofs.Telling.{mention_fails, register_fails, said_by}
 use Rattle.cg_netlist_builder.proofs.parts.Parts.add.Goals as goal
@@ -61,7 +61,7 @@ returns-in-Gater c =
     let call = c.add_gater in
     let g = gater_said c.in-Gater.gater in
     said_by n c.args.self.now (record n { names = call.new.names; gaters = call.new.gaters.items }) c.args.part (Gater c.in-Gater.gater) call.result c.self.view_is c.in-Gater.is c.requires.numbers c.requires.registers
-    (λ good few. MatchResult-weaker call.result call.ensures (λ x puts. hears_gater n call.new.names call.new.gaters.items g good few puts) (λ f e. mention_fails n (Gate g) f (λ s. refl) e))
+    (λ good few. MatchResult-weaker call.result call.ensures (λ x puts. hears_gater n call.new.names call.new.gaters.items g good few puts) (λ f e. mention_fails n (GaterPart g) f (λ s. refl) e))
 
 pub returns-in-Register : goal.returns-in-Register
 returns-in-Register c =

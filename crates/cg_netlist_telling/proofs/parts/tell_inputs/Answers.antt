@@ -1,0 +1,22 @@
+use Rattle.std.proofs.Common.{ℕ, List, Some, ap, sym, ◌∙◌}
+use Rattle.std.proofs.lemmas.Option.{slice_get-get_or}
+use Rattle.cg_netlist_parts.specs.Part.{Input, Part}
+use Rattle.cg_net.specs.Names.{net_name}
+use Rattle.cg_netlist_telling.proofs.ToldParts.{may_at, told_at}
+use Rattle.cg_netlist_telling.proofs.parts.tell_inputs.Goals as goal
+
+pub tell_input-requires : goal.tell_input-requires
+tell_input-requires c =
+    let nets : List ℕ = c.args.nets.now in
+    let i : ℕ = c.loop-net.net-index in
+    let x : ℕ = c.net-item.result in
+    let part : ℕ → Part = λ net. Input (net_name c.args.names.now net) in
+    may_at part c.args.builder.now c.loop-net.builder nets i x (slice_get-get_or nets i x c.loop-net-test.true ∙ ap (λ n. Some n) (sym c.net-item.is)) c.requires c.loop-net.invariant
+
+pub loop-net-preserved : goal.loop-net-preserved
+loop-net-preserved c =
+    let nets : List ℕ = c.args.nets.now in
+    let i : ℕ = c.loop-net.net-index in
+    let x : ℕ = c.net-item.result in
+    let part : ℕ → Part = λ net. Input (net_name c.args.names.now net) in
+    told_at part c.args.builder.now c.loop-net.builder c.tell_input.new.builder nets i x (slice_get-get_or nets i x c.loop-net-test.true ∙ ap (λ n. Some n) (sym c.net-item.is)) c.loop-net.invariant c.in_ok-tell_input.ensures

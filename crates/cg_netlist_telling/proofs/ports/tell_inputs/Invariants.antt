@@ -1,7 +1,0 @@
-use Rattle.std.proofs.Common.{◌≡◌, take}
-use Rattle.cg_netlist_telling.specs.NamedParts.{input_parts}
-use Rattle.cg_netlist_telling.specs.Telling.{told}
-use Rattle.cg_netlist_telling.proofs.ports.tell_inputs.Given as goal
-
-abbrev pub invariant-loop-net : goal.invariant-loop-net
-invariant-loop-net l = l.builder ≡ told l.initial.builder (input_parts l.names (take l.net-index l.nets))

@@ -1,19 +1,18 @@
 -- The text that the watcher says, as lines of words.
 use Rattle.std.proofs.Common.{◌≡◌, ℕ, ◌+◌, ◌^◌, ◌<◌, Bool, true, false, List, [], ◌∷◌, ◌++◌, length, map, Option, None, Some, codes, nat_lt}
-use Rattle.std.proofs.Common.{IsTrue, refl, sym, ap, ◌∙◌, arith, append_assoc, decimal}
-use Rattle.std.specs.List.{All, AllByRecursion, flat_map, list_all}
+use Rattle.std.proofs.Common.{refl, sym, ap, ◌∙◌, arith, append_assoc, decimal}
+use Rattle.std.specs.List.{AllByRecursion, flat_map, list_all}
 use Rattle.std.proofs.lemmas.Bool.{and_parts}
 use Rattle.std.proofs.lemmas.Bool.Decides.{nat_tests}
 use Rattle.std.proofs.lemmas.List.{append-nil, map-append}
-use Rattle.cg_cell.specs.Name.{ends_name, is_name, is_name_byte}
+use Rattle.cg_cell.specs.Name.{is_name, is_name_byte}
 use Rattle.cg_netlist.specs.Circuit.{Circuit}
 use Rattle.cg_report.specs.Shown.{Shown}
-use Rattle.cg_stimulus.specs.StimText.{bit_byte}
 use Rattle.cg_text.specs.declared.blanks.Blanks.TheVariants.{Spaces}
 use Rattle.cg_text.specs.Blanks.{is_blank}
-use Rattle.cg_text.specs.Written.{IsLine, IsWord, joined, line_text, text_of}
+use Rattle.cg_text.specs.Written.{IsLine, IsWord, joined, text_of}
 use Rattle.cg_text.proofs.Spelling.{decimal_word}
-use Rattle.cg_vcd.specs.Dumped.{all_values, changed_values, definition_lines, dump_lines, dump_text, moment_values, more_lines, net_line, net_lines, put_changed, scope_line, value_line}
+use Rattle.cg_vcd.specs.Dumped.{all_values, changed_values, definition_lines, dump_lines, dump_text, moment_values, more_lines, net_line, net_lines, scope_line, value_line}
 use Rattle.cg_vcd.specs.Identifiers.{id_of}
 use Rattle.cg_vcd.specs.VcdWords.{layout}
 use Rattle.cg_vcd.proofs.WrittenIds.{id_is_word}

@@ -1,12 +1,12 @@
 -- The definitions that the watcher writes, read: each net is declared with its number as id, and the wire of its name is its number.
-use Rattle.std.proofs.Common.{◌≡◌, ◌≢◌, ℕ, zero, suc, ◌+◌, ◌<◌, ◌≤◌, ◌&&◌, Bool, true, false, List, [], ◌∷◌, ◌++◌, length, get_or}
-use Rattle.std.proofs.Common.{slice_get, Option, Some, None, Ok, refl, sym, ap, ◌∙◌, arith, subst, inl, inr, codes, append_assoc, length-append, is_none, ◌⊎◌}
-use Rattle.std.specs.List.{AllByRecursion, AllPairs, find}
+use Rattle.std.proofs.Common.{◌≡◌, ◌≢◌, ℕ, zero, suc, ◌+◌, ◌<◌, ◌≤◌, Bool, true, false, List, [], ◌∷◌, ◌++◌, length, get_or}
+use Rattle.std.proofs.Common.{slice_get, Option, Some, None, Ok, refl, sym, ap, ◌∙◌, arith, subst, inl, inr, codes, append_assoc, length-append, ◌⊎◌}
+use Rattle.std.specs.List.{AllByRecursion, AllPairs}
 use Rattle.std.specs.Str.{bytes_eq}
 use Rattle.std.proofs.lemmas.Bool.{cases_Bool, or_parts}
 use Rattle.std.proofs.lemmas.List.{append-nil}
 use Rattle.std.proofs.lemmas.List.Folds.{list_any-append}
-use Rattle.std.proofs.lemmas.Option.{same_Some, slice_get_within, slice_get_cases, get_or_from_slice_get}
+use Rattle.std.proofs.lemmas.Option.{same_Some, slice_get_within, get_or_from_slice_get}
 use Rattle.std.proofs.lemmas.Slice.Eq.{bytes_eq-Decides}
 use Rattle.cg_limit.specs.declared.TheConstants.{MOST_NETS}
 use Rattle.cg_net.specs.Names.{is_known, with_name}
@@ -15,15 +15,15 @@ use Rattle.cg_net.proofs.NameLemmas.{last_name, with_name-unknown}
 use Rattle.cg_net.proofs.TableLemmas.{front_get, same_or_not}
 use Rattle.cg_stimulus.specs.Reading.{column_of}
 use Rattle.cg_stimulus.proofs.Columns.{found_column}
-use Rattle.cg_text.specs.Spots.{Spot, line_spots, spots_of}
+use Rattle.cg_text.specs.Spots.{Spot, spots_of}
 use Rattle.cg_text.specs.Written.{numbered}
-use Rattle.cg_vcd.specs.Commands.{Definitions, definitions}
+use Rattle.cg_vcd.specs.Commands.{definitions}
 use Rattle.cg_vcd.specs.Identifiers.{id_of}
 use Rattle.cg_vcd.specs.Variables.{Declared, id_number, missing, nothing_declared, wire_of, with_variable}
 use Rattle.cg_vcd.specs.VcdWords.{is_end}
 use Rattle.cg_vcd.specs.inner.Kept.{or_wire}
 use Rattle.cg_vcd.proofs.CommandsRead.{command_read}
-use Rattle.cg_vcd.proofs.DumpLines.{net_words, nets_words, scope_words, upscope_words, ending_words}
+use Rattle.cg_vcd.proofs.DumpLines.{nets_words, scope_words, upscope_words, ending_words}
 use Rattle.cg_vcd.proofs.Wired.{wire_more}
 use Rattle.cg_vcd.proofs.WrittenIds.{id_is_no_end, ids_differ}
 

@@ -1,12 +1,12 @@
 -- What the watcher says of a stimulus that is played is read as that stimulus.
-use Rattle.std.proofs.Common.{◌≡◌, ◌≢◌, ℕ, ◌+◌, ◌*◌, ◌^◌, ◌<◌, ◌≤◌, Bool, true, false, List, [], ◌∷◌, ◌++◌, length, map, Option, Some, None, Ok, slice_get}
-use Rattle.std.proofs.Common.{IsTrue, append_assoc, nat_eq, refl, sym, ap, ◌∙◌, arith, subst, inl, inr, unwrap_or}
-use Rattle.std.specs.List.{All, AllByRecursion, AllPairs}
+use Rattle.std.proofs.Common.{◌≡◌, ℕ, ◌+◌, ◌*◌, ◌^◌, ◌<◌, ◌≤◌, Bool, true, false, List, [], ◌∷◌, ◌++◌, length, map, Option, Some, None, Ok, slice_get}
+use Rattle.std.proofs.Common.{append_assoc, nat_eq, refl, sym, ap, ◌∙◌, arith, subst, inl, inr, unwrap_or}
+use Rattle.std.specs.List.{AllByRecursion}
 use Rattle.std.proofs.lemmas.Bool.{eqb-true, or_cases, both_ways}
 use Rattle.std.proofs.lemmas.List.{append-nil, append_cancel_right, length-map}
 use Rattle.std.proofs.lemmas.List.Elements.{recursion_from_All}
 use Rattle.std.proofs.lemmas.Option.{slice_get-get_or, unwrap_or-slice_get}
-use Rattle.cg_limit.specs.declared.TheConstants.{MOST_NETS, MOST_ROWS}
+use Rattle.cg_limit.specs.declared.TheConstants.{MOST_ROWS}
 use Rattle.cg_cell.specs.Name.{is_name}
 use Rattle.cg_net.specs.Names.{net_name}
 use Rattle.cg_net.specs.NetSets.{is_in}
@@ -27,23 +27,23 @@ use Rattle.cg_text.specs.Spots.{Spot, spots_of}
 use Rattle.cg_text.specs.Words.{lines}
 use Rattle.cg_text.specs.Written.{numbered, open_text, text_of}
 use Rattle.cg_text.proofs.Written.{lines-open, text_lines-text, text_of-open}
-use Rattle.cg_vcd.specs.Changes.{Free, Told, told}
-use Rattle.cg_vcd.specs.Commands.{Definitions, definitions}
+use Rattle.cg_vcd.specs.Changes.{Free, told}
+use Rattle.cg_vcd.specs.Commands.{definitions}
 use Rattle.cg_vcd.specs.Dumped.{dump_lines, dump_text}
 use Rattle.cg_vcd.specs.Identifiers.{id_of}
 use Rattle.cg_vcd.specs.ReadBack.{NothingIsNamedEnd, IsSaidOf}
-use Rattle.cg_vcd.specs.Rows.{rows_told}
-use Rattle.cg_vcd.specs.Variables.{Declared, nothing_declared, wire_of}
+use Rattle.cg_vcd.specs.Rows.{rows_of_changes}
+use Rattle.cg_vcd.specs.Variables.{Declared, nothing_declared}
 use Rattle.cg_vcd.specs.VcdFaults.{◌>>=◌}
 use Rattle.cg_vcd.specs.VcdText.{clock_name, rows_behind, vcd_rows, wire}
 use Rattle.cg_vcd.specs.VcdWords.{is_end, layout, vcd_words}
 use Rattle.cg_vcd.specs.inner.Sampled.{PlayedBits}
 use Rattle.cg_vcd.proofs.DumpLines.{alone, dump_lines_read, dump_text_of, dump_words, ending_words, nets_words, scope_words, upscope_words}
 use Rattle.cg_vcd.proofs.HeaderRead.{Declares, header_read, ids_apart}
-use Rattle.cg_vcd.proofs.MomentsTold.{all_told, lined_alone}
+use Rattle.cg_vcd.proofs.MomentsReread.{all_told, lined_alone}
 use Rattle.cg_vcd.proofs.PlayedBack.{played_bits}
 use Rattle.cg_vcd.proofs.SampledBack.{rows_rose, rows_shown}
-use Rattle.cg_vcd.proofs.ToldBack.{lined}
+use Rattle.cg_vcd.proofs.DumpReadBack.{lined}
 
 -- the moments as they are shown
 
@@ -134,7 +134,7 @@ wires_named names d (net ∷ nets) so within =
 moments_rows : (ins : List ℕ) (clock : ℕ) (ids : List (List ℕ)) (end n line : ℕ) (known : (net : ℕ) → net < n → column_of ids (id_of net) ≡ Some net)
     (below : (id : ℕ) → is_in (ins ++ clock ∷ []) id ≡ true → id < n) (rows : List (List Bool)) (moments : List Shown)
     → PlayedBits ins clock rows (map (λ m. m.nets) moments) → AllByRecursion (λ m. length m.nets ≡ n) moments → length moments < 2 ^ 64 → length rows ≤ MOST_ROWS
-    → rows_told ins clock (told ids (ins ++ clock ∷ []) end Free None (lined line (dump_lines 0 None moments))) ≡ Ok rows
+    → rows_of_changes ins clock (told ids (ins ++ clock ∷ []) end Free None (lined line (dump_lines 0 None moments))) ≡ Ok rows
 moments_rows ins clock ids end n line known below [] [] played wide few small = absurd played
 moments_rows ins clock ids end n line known below (row ∷ rows) [] played wide few small = absurd played
 moments_rows ins clock ids end n line known below rows (first ∷ later) played wide few small =
@@ -144,16 +144,16 @@ moments_rows ins clock ids end n line known below rows (first ∷ later) played 
     let rose = rows_rose ins clock rows first.nets nows played in
     let inside : AllByRecursion (λ id. is_in used id ≡ true) ins = all_front (λ id. is_in used id ≡ true) ins (clock ∷ []) (among_front used used [] refl) in
     let clock_inside : is_in used clock ≡ true = is_in_right ins (clock ∷ []) clock (in_alone clock) in
-    ap (rows_told ins clock) all.told_is
+    ap (rows_of_changes ins clock) all.told_is
     ∙ (ap (λ r. r >>= Ok) (rows_shown ins used clock inside clock_inside 0 all.changes first.nets all.steps nows all.values all.shown (omega (arith, ap length rose, small)))
     ∙ ap Ok rose)
 
 -- what is behind the definitions, for the wires that they have
 wires_so : (ids : List (List ℕ)) (end : ℕ) (ins wires : List ℕ) (clock wire : ℕ) (ws vs : List Spot) → wires ≡ ins → wire ≡ clock → ws ≡ vs
-    → rows_told wires wire (told ids (wires ++ wire ∷ []) end Free None ws) ≡ rows_told ins clock (told ids (ins ++ clock ∷ []) end Free None vs)
+    → rows_of_changes wires wire (told ids (wires ++ wire ∷ []) end Free None ws) ≡ rows_of_changes ins clock (told ids (ins ++ clock ∷ []) end Free None vs)
 wires_so ids end ins wires clock wire ws vs ins_are clock_is words =
-    ap (λ x. rows_told x wire (told ids (x ++ wire ∷ []) end Free None ws)) ins_are
-    ∙ (ap (λ x. rows_told ins x (told ids (ins ++ x ∷ []) end Free None ws)) clock_is ∙ ap (λ x. rows_told ins clock (told ids (ins ++ clock ∷ []) end Free None x)) words)
+    ap (λ x. rows_of_changes x wire (told ids (x ++ wire ∷ []) end Free None ws)) ins_are
+    ∙ (ap (λ x. rows_of_changes ins x (told ids (ins ++ x ∷ []) end Free None ws)) clock_is ∙ ap (λ x. rows_of_changes ins clock (told ids (ins ++ clock ∷ []) end Free None x)) words)
 
 module _ (c : Circuit) (stimulus : Rows) (good : IsNetlist c) (no_end : NothingIsNamedEnd c) (is_for : IsFor c stimulus) (is : IsStimulus stimulus) where
   abbrev front : FrontNets c.names (data_inputs c) stimulus.inputs

@@ -7,7 +7,7 @@ use Rattle.cg_net.specs.NetSets.{is_in}
 use Rattle.cg_stimulus.specs.Reading.{column_of}
 use Rattle.cg_text.specs.Spots.{Spot}
 use Rattle.cg_vcd.specs.declared.change.Change.{Change}
-use Rattle.cg_vcd.specs.Changes.{Free, Told, told}
+use Rattle.cg_vcd.specs.Changes.{Free, StepsRead, told}
 use Rattle.cg_vcd.specs.Dumped.{all_values, value_line}
 use Rattle.cg_vcd.specs.Identifiers.{id_of}
 use Rattle.cg_vcd.specs.Rows.{value_from}
@@ -22,10 +22,10 @@ put_if true change changes = change ∷ changes
 put_if false change changes = changes
 
 -- changes before what is told
-abbrev pub with_changes : List Change → Told → Told
+abbrev pub with_changes : List Change → StepsRead → StepsRead
 with_changes changes t = record { step = changes ++ t.step; later = t.later; fault = t.fault }
 
-pub merged : (u : Bool) (change : Change) (changes : List Change) (t : Told) → with_changes (put_if u change []) (with_changes changes t) ≡ with_changes (put_if u change changes) t
+pub merged : (u : Bool) (change : Change) (changes : List Change) (t : StepsRead) → with_changes (put_if u change []) (with_changes changes t) ≡ with_changes (put_if u change changes) t
 merged true change changes t = refl
 merged false change changes t = refl
 
@@ -122,19 +122,19 @@ module _ (used : List ℕ) where
 
   module _ (ids : List (List ℕ)) (end n : ℕ) (known : (net : ℕ) → net < n → column_of ids (id_of net) ≡ Some net) where
     -- the line of a net
-    pub value_told : (k net : ℕ) (b : Bool) (time : Option ℕ) (rest : List Spot) → net < n
+    pub value_reread : (k net : ℕ) (b : Bool) (time : Option ℕ) (rest : List Spot) → net < n
         → told ids used end Free time (record { line = k; text = value_line net b } ∷ rest)
         ≡ with_changes (put_if (is_in used net) (record { id = net; bit = Some b; line = k }) []) (told ids used end Free time rest)
-    value_told k net true time rest small = elim (cases_Bool (is_in used net)) [ inl e ↦ rw (known net small, e) refl | inr e ↦ rw (known net small, e) refl ]
-    value_told k net false time rest small = elim (cases_Bool (is_in used net)) [ inl e ↦ rw (known net small, e) refl | inr e ↦ rw (known net small, e) refl ]
+    value_reread k net true time rest small = elim (cases_Bool (is_in used net)) [ inl e ↦ rw (known net small, e) refl | inr e ↦ rw (known net small, e) refl ]
+    value_reread k net false time rest small = elim (cases_Bool (is_in used net)) [ inl e ↦ rw (known net small, e) refl | inr e ↦ rw (known net small, e) refl ]
 
     -- the lines of all nets
-    pub values_told : (k net : ℕ) (bits : List Bool) (time : Option ℕ) (rest : List (List ℕ)) → net + length bits ≤ n
+    pub values_reread : (k net : ℕ) (bits : List Bool) (time : Option ℕ) (rest : List (List ℕ)) → net + length bits ≤ n
         → told ids used end Free time (lined k (all_values net bits ++ rest)) ≡ with_changes (dumped k net bits) (told ids used end Free time (lined (k + length bits) rest))
-    values_told k net [] time rest few = let e : k ≡ k + 0 = omega arith in ap (λ i. told ids used end Free time (lined i rest)) e
-    values_told k net (b ∷ bits) time rest few =
+    values_reread k net [] time rest few = let e : k ≡ k + 0 = omega arith in ap (λ i. told ids used end Free time (lined i rest)) e
+    values_reread k net (b ∷ bits) time rest few =
         let e : k + 1 + length bits ≡ k + length (b ∷ bits) = omega arith in
-        value_told k net b time (lined (k + 1) (all_values (net + 1) bits ++ rest)) (omega arith)
+        value_reread k net b time (lined (k + 1) (all_values (net + 1) bits ++ rest)) (omega arith)
         ∙ (ap (with_changes (put_if (is_in used net) (record { id = net; bit = Some b; line = k }) []))
-        (values_told (k + 1) (net + 1) bits time rest (omega arith) ∙ ap (λ i. with_changes (dumped (k + 1) (net + 1) bits) (told ids used end Free time (lined i rest))) e)
+        (values_reread (k + 1) (net + 1) bits time rest (omega arith) ∙ ap (λ i. with_changes (dumped (k + 1) (net + 1) bits) (told ids used end Free time (lined i rest))) e)
         ∙ merged (is_in used net) (record { id = net; bit = Some b; line = k }) (dumped (k + 1) (net + 1) bits) (told ids used end Free time (lined (k + length (b ∷ bits)) rest)))

@@ -1,7 +1,7 @@
 -- What the lines of moments tell: steps, behind each of which each net that is used has its bit.
 use Rattle.std.proofs.Common.{◌≡◌, ℕ, ◌+◌, ◌^◌, ◌<◌, ◌≤◌, ◌==◌, Bool, true, false, List, [], ◌∷◌, ◌++◌, length, map, Option, Some, None, slice_get, slice_index, nat_lt, decimal, codes, not, ◌&&◌, ◌||◌}
 use Rattle.std.proofs.Common.{refl, sym, ap, ◌∙◌, arith, subst, inl, inr, append_assoc, if◌then◌else◌}
-use Rattle.std.specs.List.{All, AllByRecursion}
+use Rattle.std.specs.List.{AllByRecursion}
 use Rattle.std.specs.Str.{all_ascii_digits}
 use Rattle.std.proofs.lemmas.Bool.{and_parts, cases_Bool, ne_eqb}
 use Rattle.std.proofs.lemmas.Bool.Decides.{nat_tests}
@@ -14,17 +14,17 @@ use Rattle.cg_stimulus.specs.Reading.{column_of}
 use Rattle.cg_text.specs.Spots.{Spot, spots_of}
 use Rattle.cg_text.specs.Written.{numbered}
 use Rattle.cg_text.specs.declared.number.Number.TheVariants.{Small, Large}
-use Rattle.cg_text.specs.Numbers.{digits_after, is_number, number_of}
+use Rattle.cg_text.specs.Numbers.{digits_after}
 use Rattle.cg_text.proofs.Spelling.{is_number-decimal, number_of-decimal}
 use Rattle.cg_vcd.specs.declared.change.Change.{Change}
-use Rattle.cg_vcd.specs.Changes.{Free, Told, put_time, time_then, told, with_step_end}
-use Rattle.cg_vcd.specs.Dumped.{all_values, changed_values, dump_lines, moment_values, value_line}
+use Rattle.cg_vcd.specs.Changes.{Free, StepsRead, put_time, time_then, told, with_step_end}
+use Rattle.cg_vcd.specs.Dumped.{all_values, changed_values, dump_lines, value_line}
 use Rattle.cg_vcd.specs.Identifiers.{id_of}
-use Rattle.cg_vcd.specs.Kinds.{are_digits, time_of, time_of_digits}
+use Rattle.cg_vcd.specs.Kinds.{are_digits, time_of}
 use Rattle.cg_vcd.specs.Rows.{value_from, value_of}
 use Rattle.cg_vcd.specs.inner.Sampled.{Shown}
 use Rattle.cg_vcd.proofs.DumpLines.{alone}
-use Rattle.cg_vcd.proofs.ToldBack.{dumped, lined, merged, put_if, redumped, value_told, values_retaken, values_taken, values_told, with_changes}
+use Rattle.cg_vcd.proofs.DumpReadBack.{dumped, lined, merged, put_if, redumped, value_reread, values_retaken, values_taken, values_reread, with_changes}
 
 -- lines of one word, numbered
 pub lined_alone : (k : ℕ) (ws : List (List ℕ)) → spots_of (numbered k (alone ws)) ≡ lined k ws
@@ -60,7 +60,7 @@ time_read t small =
     ap (λ b. if b && nat_lt (digits_after 0 (decimal t)) (2 ^ 128) then Some (digits_after 0 (decimal t)) else None) digits
     ∙ (ap (λ v. if nat_lt v (2 ^ 128) then Some v else None) number ∙ ap (λ b. if b then Some t else None) fits)
 
-later_time : (line before now : ℕ) (t : Told) → before < now → put_time line (Some before) now t ≡ with_step_end t
+later_time : (line before now : ℕ) (t : StepsRead) → before < now → put_time line (Some before) now t ≡ with_step_end t
 later_time line before now t later =
     let a : nat_lt now before ≡ false = grind (arith, nat_tests) in
     let b : (now == before) ≡ false = ne_eqb now before (λ e. let no : ⊥ = omega (arith, e) in no) in
@@ -70,7 +70,7 @@ bit_there : (nets : List Bool) (n id : ℕ) → length nets ≡ n → id < n →
 bit_there nets n id long small = slice_get-get_or nets id false (omega arith)
 
 module _ (used : List ℕ) (ids : List (List ℕ)) (end n : ℕ) (known : (net : ℕ) → net < n → column_of ids (id_of net) ≡ Some net) where
-  abbrev free : Option ℕ → List Spot → Told
+  abbrev free : Option ℕ → List Spot → StepsRead
   free time ws = told ids used end Free time ws
 
   abbrev change : ℕ → ℕ → Bool → Change
@@ -85,34 +85,34 @@ module _ (used : List ℕ) (ids : List (List ℕ)) (end n : ℕ) (known : (net :
       (free time (lined (k + length (value_line net b ∷ changed_values (net + 1) before now)) rest))
   one_told k net b before now time rest small later =
       let e : k + 1 + length (changed_values (net + 1) before now) ≡ k + length (value_line net b ∷ changed_values (net + 1) before now) = omega arith in
-      value_told used ids end n known k net b time (lined (k + 1) (changed_values (net + 1) before now ++ rest)) small
+      value_reread used ids end n known k net b time (lined (k + 1) (changed_values (net + 1) before now ++ rest)) small
       ∙ (ap (with_changes (put_if (is_in used net) (change k net b) []))
       (later ∙ ap (λ i. with_changes (redumped used (k + 1) (net + 1) before now) (free time (lined i rest))) e)
       ∙ merged (is_in used net) (change k net b) (redumped used (k + 1) (net + 1) before now) (free time (lined (k + length (value_line net b ∷ changed_values (net + 1) before now)) rest)))
 
   -- the lines of the nets whose bits differ
-  changed_told : (k net : ℕ) (before now : List Bool) (time : Option ℕ) (rest : List (List ℕ)) → net + length before ≤ n
+  changed_reread : (k net : ℕ) (before now : List Bool) (time : Option ℕ) (rest : List (List ℕ)) → net + length before ≤ n
       → free time (lined k (changed_values net before now ++ rest))
       ≡ with_changes (redumped used k net before now) (free time (lined (k + length (changed_values net before now)) rest))
-  changed_told k net [] now time rest few = let e : k ≡ k + 0 = omega arith in ap (λ i. free time (lined i rest)) e
-  changed_told k net (b ∷ before) [] time rest few = let e : k ≡ k + 0 = omega arith in ap (λ i. free time (lined i rest)) e
-  changed_told k net (true ∷ before) (true ∷ now) time rest few = changed_told k (net + 1) before now time rest (omega arith)
-  changed_told k net (false ∷ before) (false ∷ now) time rest few = changed_told k (net + 1) before now time rest (omega arith)
-  changed_told k net (true ∷ before) (false ∷ now) time rest few =
-      one_told k net false before now time rest (omega arith) (changed_told (k + 1) (net + 1) before now time rest (omega arith))
-  changed_told k net (false ∷ before) (true ∷ now) time rest few =
-      one_told k net true before now time rest (omega arith) (changed_told (k + 1) (net + 1) before now time rest (omega arith))
+  changed_reread k net [] now time rest few = let e : k ≡ k + 0 = omega arith in ap (λ i. free time (lined i rest)) e
+  changed_reread k net (b ∷ before) [] time rest few = let e : k ≡ k + 0 = omega arith in ap (λ i. free time (lined i rest)) e
+  changed_reread k net (true ∷ before) (true ∷ now) time rest few = changed_reread k (net + 1) before now time rest (omega arith)
+  changed_reread k net (false ∷ before) (false ∷ now) time rest few = changed_reread k (net + 1) before now time rest (omega arith)
+  changed_reread k net (true ∷ before) (false ∷ now) time rest few =
+      one_told k net false before now time rest (omega arith) (changed_reread (k + 1) (net + 1) before now time rest (omega arith))
+  changed_reread k net (false ∷ before) (true ∷ now) time rest few =
+      one_told k net true before now time rest (omega arith) (changed_reread (k + 1) (net + 1) before now time rest (omega arith))
 
   -- a time word behind another ends a step, and so does the first
-  time_told : (k t p : ℕ) (ws : List Spot) → t < 2 ^ 64 → p < t → free (Some p) (record { line = k; text = 35 ∷ decimal t } ∷ ws) ≡ with_step_end (free (Some t) ws)
-  time_told k t p ws small rising = ap (λ o. time_then k (Some p) o (λ now. free now ws)) (time_read t small) ∙ later_time k p t (free (Some t) ws) rising
+  time_reread : (k t p : ℕ) (ws : List Spot) → t < 2 ^ 64 → p < t → free (Some p) (record { line = k; text = 35 ∷ decimal t } ∷ ws) ≡ with_step_end (free (Some t) ws)
+  time_reread k t p ws small rising = ap (λ o. time_then k (Some p) o (λ now. free now ws)) (time_read t small) ∙ later_time k p t (free (Some t) ws) rising
 
   first_time : (k : ℕ) (ws : List Spot) → free None (record { line = k; text = 35 ∷ decimal 0 } ∷ ws) ≡ with_step_end (free (Some 0) ws)
   first_time k ws = ap (λ o. time_then k None o (λ now. free now ws)) (time_read 0 (omega arith))
 
   module _ (below : (id : ℕ) → is_in used id ≡ true → id < n) where
     -- steps are told and no fault, and behind each step each net that is used has its bit
-    pub record Tells (changes : List Change) (t : Told) (nows : List (List Bool)) : Type 0 where
+    pub record Tells (changes : List Change) (t : StepsRead) (nows : List (List Bool)) : Type 0 where
       pub whole : t.fault ≡ None
       pub first : t.step ≡ []
       pub shown : Shown used changes t.later nows
@@ -126,20 +126,20 @@ module _ (used : List ℕ) (ids : List (List ℕ)) (end n : ℕ) (known : (net :
         ∙ (ap (λ v. value_from v id (redumped used k 0 before now)) (was id among)
         ∙ values_retaken used k 0 before now id id (bit before id) (bit now id) among (omega arith) (bit_there before n id wide (below id among)) (bit_there now n id wide_now (below id among)))
 
-    pub moments_told : (k t p : ℕ) (before : List Bool) (moments : List ShownMoment) (changes : List Change) → p < t → t + length moments < 2 ^ 64 → length before ≡ n
+    pub moments_reread : (k t p : ℕ) (before : List Bool) (moments : List ShownMoment) (changes : List Change) → p < t → t + length moments < 2 ^ 64 → length before ≡ n
         → AllByRecursion (λ m. length m.nets ≡ n) moments → ((id : ℕ) → is_in used id ≡ true → value_of changes id ≡ Some (bit before id))
         → Tells changes (free (Some p) (lined k (dump_lines t (Some before) moments))) (map (λ m. m.nets) moments)
-    moments_told k t p before [] changes rising few wide all was = record { whole = refl; first = refl; shown = tt }
-    moments_told k t p before (now ∷ later) changes rising few wide all was =
+    moments_reread k t p before [] changes rising few wide all was = record { whole = refl; first = refl; shown = tt }
+    moments_reread k t p before (now ∷ later) changes rising few wide all was =
         let step = redumped used (k + 1) 0 before now.nets in
         let line = k + 1 + length (changed_values 0 before now.nets) in
         let rest = free (Some t) (lined line (dump_lines (t + 1) (Some now.nets) later)) in
         let nows = map (λ m. m.nets) later in
         let told_so : free (Some p) (lined k (dump_lines t (Some before) (now ∷ later))) ≡ with_step_end (with_changes step rest) =
-        time_told k t p (lined (k + 1) (changed_values 0 before now.nets ++ dump_lines (t + 1) (Some now.nets) later)) (omega arith) rising
-        ∙ ap with_step_end (changed_told (k + 1) 0 before now.nets (Some t) (dump_lines (t + 1) (Some now.nets) later) (omega arith)) in
+        time_reread k t p (lined (k + 1) (changed_values 0 before now.nets ++ dump_lines (t + 1) (Some now.nets) later)) (omega arith) rising
+        ∙ ap with_step_end (changed_reread (k + 1) 0 before now.nets (Some t) (dump_lines (t + 1) (Some now.nets) later) (omega arith)) in
         let values = bits_behind (k + 1) changes before now.nets wide all.0 was in
-        let behind : Tells (changes ++ step) rest nows = moments_told line (t + 1) t now.nets later (changes ++ step) (omega arith) (omega arith) all.0 all.1 values in
+        let behind : Tells (changes ++ step) rest nows = moments_reread line (t + 1) t now.nets later (changes ++ step) (omega arith) (omega arith) all.0 all.1 values in
         let step_is : step ++ rest.step ≡ step = ap (λ s. step ++ s) behind.first ∙ append-nil step in
         subst (λ x. Tells changes x (now.nets ∷ nows)) (sym told_so) (record {
           whole = behind.whole;
@@ -148,7 +148,7 @@ module _ (used : List ℕ) (ids : List (List ℕ)) (end n : ℕ) (known : (net :
         })
 
     -- what the lines of all moments tell
-    pub record TellsAll (t : Told) (first : List Bool) (nows : List (List Bool)) : Type 0 where
+    pub record TellsAll (t : StepsRead) (first : List Bool) (nows : List (List Bool)) : Type 0 where
       pub changes : List Change
       pub steps : List (List Change)
       pub told_is : t ≡ record { step = []; later = changes ∷ steps; fault = None }
@@ -165,10 +165,10 @@ module _ (used : List ℕ) (ids : List (List ℕ)) (end n : ℕ) (known : (net :
         let told_so : free None (lined k (dump_lines 0 None (first ∷ later))) ≡ with_step_end (with_changes step rest) =
         first_time k (lined (k + 1) (codes "$dumpvars" ∷ (all_values 0 first.nets ++ codes "$end" ∷ []) ++ more))
         ∙ ap with_step_end (ap (λ ls. free (Some 0) (lined (k + 1 + 1) ls)) (append_assoc (all_values 0 first.nets) (codes "$end" ∷ []) more)
-        ∙ values_told used ids end n known (k + 1 + 1) 0 first.nets (Some 0) (codes "$end" ∷ more) (omega arith)) in
+        ∙ values_reread used ids end n known (k + 1 + 1) 0 first.nets (Some 0) (codes "$end" ∷ more) (omega arith)) in
         let values : (id : ℕ) → is_in used id ≡ true → value_of step id ≡ Some (bit first.nets id) =
         λ id among. values_taken used (k + 1 + 1) 0 first.nets None id id (bit first.nets id) among (omega arith) (bit_there first.nets n id wide (below id among)) in
-        let behind : Tells step rest (map (λ m. m.nets) later) = moments_told (line + 1) 1 0 first.nets later step (omega arith) few wide all values in
+        let behind : Tells step rest (map (λ m. m.nets) later) = moments_reread (line + 1) 1 0 first.nets later step (omega arith) few wide all values in
         let parts : with_step_end (with_changes step rest) ≡ record { step = []; later = step ∷ rest.later; fault = None } =
         ap (λ s. record { step = []; later = (step ++ s) ∷ rest.later; fault = rest.fault }) behind.first
         ∙ (ap (λ s. record { step = []; later = s ∷ rest.later; fault = rest.fault }) (append-nil step)

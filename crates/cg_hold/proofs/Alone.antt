@@ -54,7 +54,7 @@ one_of r (suc n) a low high = go (λ next. one_of r n (a + 1) next (omega arith)
 abbrev at_copy : Copy → LeafSource → Leaf
 at_copy copy s = record { copy = copy; source = s }
 
-split_filter : {T : Type 0} (f : T → Bool) (xs ys : List T) → filter f (xs ++ ys) ≡ filter f xs ++ filter f ys
+pub split_filter : {T : Type 0} (f : T → Bool) (xs ys : List T) → filter f (xs ++ ys) ≡ filter f xs ++ filter f ys
 split_filter f [] ys = refl
 split_filter {T = T} f (x ∷ xs) ys = ap (λ l. cond (f x) (x ∷ l) l) (split_filter f xs ys) ∙ go (f x)
   where
@@ -62,7 +62,7 @@ split_filter {T = T} f (x ∷ xs) ys = ap (λ l. cond (f x) (x ∷ l) l) (split_
     go true = refl
     go false = refl
 
-mapped_length : {T U : Type 0} (f : U → Bool) (g : T → U) (xs : List T) → length (filter f (map g xs)) ≡ length (filter (λ x. f (g x)) xs)
+pub mapped_length : {T U : Type 0} (f : U → Bool) (g : T → U) (xs : List T) → length (filter f (map g xs)) ≡ length (filter (λ x. f (g x)) xs)
 mapped_length f g [] = refl
 mapped_length {T = T} {U = U} f g (x ∷ xs) = go (f (g x)) (mapped_length f g xs)
   where

@@ -25,9 +25,9 @@ pub cycles_made : (m : MachineData) → IsMachine m → (state start nets moves 
 cycles_made m good state start nets moves long starts laid moved = record {
   state = state;
   is_state = long;
-  inputs = inputs_in m good state start long starts;
-  are_inputs = are_inputs m good state start long starts;
-  nets = λ i below. nets_are m good state start long starts i below nets laid;
+  inputs = inputs_in m good state start long starts.long;
+  are_inputs = are_inputs m good state start long starts.long;
+  nets = λ i below. nets_are m good state start long starts.long i below starts nets laid;
   moves = moved;
 }
 

@@ -41,11 +41,11 @@ module _ (law : NeverIsTried) (m : MachineData) (q : Question) (width : ℕ) (cl
   ]
 
 -- a decision, as it is told
-pub told_never : (s t : Seen) (g h : ℕ) (d : Decision) (f : Formula) (log : Log) → s ≡ t → g ≡ h → IsExact s g d → d ≡ Never f log → IsNeverOne t h
-told_never s t g h d f log same goals exact is = subst (λ z. IsNeverOne z h) same (subst (λ z. IsNeverOne s z) goals (subst (IsExact s g) is exact))
+pub never_decided : (s t : Seen) (g h : ℕ) (d : Decision) (f : Formula) (log : Log) → s ≡ t → g ≡ h → IsExact s g d → d ≡ Never f log → IsNeverOne t h
+never_decided s t g h d f log same goals exact is = subst (λ z. IsNeverOne z h) same (subst (λ z. IsNeverOne s z) goals (subst (IsExact s g) is exact))
 
-pub told_sometimes : (s t : Seen) (g h : ℕ) (d : Decision) (bits : Vec Bool Global) → s ≡ t → g ≡ h → IsExact s g d → d ≡ Sometimes bits → IsOneAt t h bits.items
-told_sometimes s t g h d bits same goals exact is = subst (λ z. IsOneAt z h bits.items) same (subst (λ z. IsOneAt s z bits.items) goals (subst (IsExact s g) is exact))
+pub sometimes_decided : (s t : Seen) (g h : ℕ) (d : Decision) (bits : Vec Bool Global) → s ≡ t → g ≡ h → IsExact s g d → d ≡ Sometimes bits → IsOneAt t h bits.items
+sometimes_decided s t g h d bits same goals exact is = subst (λ z. IsOneAt z h bits.items) same (subst (λ z. IsOneAt s z bits.items) goals (subst (IsExact s g) is exact))
 
 -- what is known of each claim that was built, of one
 pub of_claim : (r : Result Bool AllocError) (claim : Claim) (m : MachineData) (q : Question) (width : ℕ) → IsMachine m → SidesFit m q.sides → IsClaim m q width claim

@@ -1,10 +1,13 @@
 pub mod Alone
+pub mod ConeShown
+pub mod ConeStarted
 pub mod Cycled
 pub mod Decided
 pub mod GateWords
 pub mod Lanes
 pub mod Layings
 pub mod ListNumber
+pub mod Marked
 pub mod Moved
 pub mod MovedInWords
 pub mod OfRegister
@@ -13,3 +16,4 @@ pub mod Room
 pub mod Shown
 pub mod Taken
 pub mod Trials
+pub mod Widths

@@ -70,6 +70,13 @@ module _ (m : MachineData) (width r : ℕ) (room : HasRoom m width r) where
       skipped place ls of moved
       ∙ (ap (choice_by m width r) (drop_at ls place l at) ∙ skip l (drop (place + 1) ls) (of place l at) is)
 
+  -- the literals from a place on, where the first of them serves, or does not
+  pub one_serves : (ls : List Literal) (place : ℕ) (l : Literal) → slice_get ls place ≡ Some l → IsLiteralOf m r l → serves m r l ≡ true → choice_by m width r (drop place ls) ≡ okay (Takes (Some l))
+  one_serves ls place l at of is = ap (choice_by m width r) (drop_at ls place l at) ∙ front_serves m width r l (drop (place + 1) ls) (by_serving l true of is)
+
+  pub one_fails : (ls : List Literal) (place : ℕ) (l : Literal) → slice_get ls place ≡ Some l → IsLiteralOf m r l → serves m r l ≡ false → choice_by m width r (drop place ls) ≡ choice_by m width r (drop (place + 1) ls)
+  one_fails ls place l at of is = ap (choice_by m width r) (drop_at ls place l at) ∙ skip l (drop (place + 1) ls) of is
+
 -- behind the last literal the claims are known not to be too wide
 pub narrow_behind : (m : MachineData) (width r n i : ℕ) (room : Bool) → (room ≡ true → HasRoom m width r) → (room ≡ false → 0 < n) → n ≤ i → (0 < i → nat_lt width (hold_width m r) ≡ false) → nat_lt width (hold_width m r) ≡ false
 narrow_behind m width r n i true room some past narrow = (room refl).0

@@ -12,7 +12,7 @@ use Rattle.cg_limit.specs.declared.Limit.TheVariants.{ClaimNodes}
 use Rattle.cg_stage_list_laws.proofs.Mapped.{ordered_some}
 use Rattle.cg_stage_list_laws.proofs.UsedNets.{inputs_used, used_net}
 use Rattle.cg_stage_list_laws.specs.HoldList.{hold_width, is_large, serves, up_to}
-use Rattle.cg_stage_list_laws.specs.Literals.{IdleData, both_literals, by_count, idle_count, insert_literal, literals_of}
+use Rattle.cg_stage_list_laws.specs.Literals.{ZeroCounts, both_literals, by_count, zero_count, insert_literal, literals_of}
 use Rattle.cg_stage_list_laws.specs.Supports.{all_nets, in_net_order, input_cone}
 use Rattle.cg_machine.specs.Added.{own_netlist, own_nets}
 use Rattle.cg_machine.specs.Claims.{Literal}
@@ -27,7 +27,8 @@ use Rattle.cg_hold.specs.declared.choice.Choice.{Choice}
 use Rattle.cg_hold.specs.declared.choice.Choice.TheVariants.{Wide, Takes}
 use Rattle.cg_hold.specs.inner.Choosing.{FitsChoice, IsLiteralOf, choice_by}
 use Rattle.cg_netlist.proofs.ByRank.{filter_same}
-use Rattle.cg_netlist.proofs.Filtered.{in_filter, to_filter}
+use Rattle.cg_netlist.proofs.Filtered.{in_filter, range_in, to_filter}
+use Rattle.std.specs.Cmp.{both_ways as same_truth}
 use Rattle.cg_netlist.proofs.Driven.{in_range}
 
 module _ (m : MachineData) (r : ℕ) where
@@ -36,17 +37,17 @@ module _ (m : MachineData) (r : ℕ) where
   AllOf [] = Unit {0}
   AllOf (l ∷ ls) = IsLiteralOf m r l × AllOf ls
 
-  insert_all : (idle : Option IdleData) (l : Literal) (ks : List Literal) → IsLiteralOf m r l → AllOf ks → AllOf (insert_literal idle l ks)
-  insert_all idle l [] here all = (here, tt)
-  insert_all idle l (k ∷ ks) here all = go (nat_le (idle_count idle k) (idle_count idle l)) (insert_all idle l ks here all.1)
+  insert_all : (counts : Option ZeroCounts) (l : Literal) (ks : List Literal) → IsLiteralOf m r l → AllOf ks → AllOf (insert_literal counts l ks)
+  insert_all counts l [] here all = (here, tt)
+  insert_all counts l (k ∷ ks) here all = go (nat_le (zero_count counts k) (zero_count counts l)) (insert_all counts l ks here all.1)
     where
-      go : (b : Bool) → AllOf (insert_literal idle l ks) → AllOf (if b then l ∷ k ∷ ks else k ∷ insert_literal idle l ks)
+      go : (b : Bool) → AllOf (insert_literal counts l ks) → AllOf (if b then l ∷ k ∷ ks else k ∷ insert_literal counts l ks)
       go true rest = (here, all)
       go false rest = (all.0, rest)
 
-  order_all : (idle : Option IdleData) (ls : List Literal) → AllOf ls → AllOf (by_count idle ls)
-  order_all idle [] all = tt
-  order_all idle (l ∷ ls) all = insert_all idle l (by_count idle ls) all.0 (order_all idle ls all.1)
+  order_all : (counts : Option ZeroCounts) (ls : List Literal) → AllOf ls → AllOf (by_count counts ls)
+  order_all counts [] all = tt
+  order_all counts (l ∷ ls) all = insert_all counts l (by_count counts ls) all.0 (order_all counts ls all.1)
 
   both_all : (nets : List ℕ) → ((y : ℕ) → is_in nets y ≡ true → (is_in (input_cone m r) y ≡ true) × (y < length m.circuit.names)) → AllOf (both_literals nets)
   both_all [] each = tt
@@ -54,8 +55,8 @@ module _ (m : MachineData) (r : ℕ) where
       let here = each y (or_left (nat_eq y y) (is_in nets y) (eq-eqb y y refl)) in
       (here, (here, both_all nets (λ z among. each z (or_right (nat_eq z y) (is_in nets z) among))))
 
-  pub literals_all : (idle : Option IdleData) → AllOf (literals_of m idle r)
-  literals_all idle = order_all idle (both_literals (in_net_order m (input_cone m r))) (both_all (in_net_order m (input_cone m r)) (λ y among.
+  pub literals_all : (counts : Option ZeroCounts) → AllOf (literals_of m counts r)
+  literals_all counts = order_all counts (both_literals (in_net_order m (input_cone m r))) (both_all (in_net_order m (input_cone m r)) (λ y among.
       let p = in_filter (is_in (input_cone m r)) (all_nets m) y among in
       let b = in_range (length m.circuit.names) 0 y p.0 in
       (p.1, omega (arith, b.1))))
@@ -95,20 +96,20 @@ module _ (m : MachineData) (r : ℕ) where
       go false false o found h = let e : Takes o ≡ choice = cc in subst (FitsChoice places) e (fits o found)
 
   -- without literals there are no inputs
-  inserted_some : (idle : Option IdleData) (l : Literal) (ks : List Literal) → insert_literal idle l ks ≡ [] → ⊥
-  inserted_some idle l [] h = cc
-  inserted_some idle l (k ∷ ks) h = go (nat_le (idle_count idle k) (idle_count idle l)) h
+  inserted_some : (counts : Option ZeroCounts) (l : Literal) (ks : List Literal) → insert_literal counts l ks ≡ [] → ⊥
+  inserted_some counts l [] h = cc
+  inserted_some counts l (k ∷ ks) h = go (nat_le (zero_count counts k) (zero_count counts l)) h
     where
-      go : (b : Bool) → (if b then l ∷ k ∷ ks else k ∷ insert_literal idle l ks) ≡ [] → ⊥
+      go : (b : Bool) → (if b then l ∷ k ∷ ks else k ∷ insert_literal counts l ks) ≡ [] → ⊥
       go true e = cc
       go false e = cc
 
-  pub alone : IsMachine m → (idle : Option IdleData) → literals_of m idle r ≡ [] → inputs_of_register m r ≡ []
-  alone good idle none = go (inputs_of_register m r) refl
+  pub alone : IsMachine m → (counts : Option ZeroCounts) → literals_of m counts r ≡ [] → inputs_of_register m r ≡ []
+  alone good counts none = go (inputs_of_register m r) refl
     where
-      some_nets : (nets : List ℕ) (y : ℕ) → is_in nets y ≡ true → by_count idle (both_literals nets) ≡ [] → ⊥
+      some_nets : (nets : List ℕ) (y : ℕ) → is_in nets y ≡ true → by_count counts (both_literals nets) ≡ [] → ⊥
       some_nets [] y among h = both_ways false refl among
-      some_nets (x ∷ nets) y among h = inserted_some idle (x, false) (by_count idle ((x, true) ∷ both_literals nets)) h
+      some_nets (x ∷ nets) y among h = inserted_some counts (x, false) (by_count counts ((x, true) ∷ both_literals nets)) h
 
       go : (xs : List ℕ) → inputs_of_register m r ≡ xs → inputs_of_register m r ≡ []
       go [] is = is
@@ -117,19 +118,26 @@ module _ (m : MachineData) (r : ℕ) where
           let there : is_in (input_cone m r) x ≡ true = cone_has (walk_of m) (inputs_of_register m r) x among in
           absurd (some_nets (in_net_order m (input_cone m r)) x (ordered_some m (input_cone m r) x there (used_net m good x (inputs_used m good r x among)).below) none)
 
+  -- the cone of the inputs of the register's cell is that of the register
+  pub in_cone_of : (cell : RegisterCell ℕ ℕ) → slice_get m.circuit.registers r ≡ Some cell → (y : ℕ) → is_in (cone_of (walk_of m) cell.inputs) y ≡ is_in (input_cone m r) y
+  in_cone_of cell at y = ap (λ o. is_in (cone_of (walk_of m) (option_map_or (λ (c : RegisterCell ℕ ℕ). c.inputs) o [])) y) (sym at)
+
   -- the nets of the cone, in net order
   pub nets_are : (cell : RegisterCell ℕ ℕ) → slice_get m.circuit.registers r ≡ Some cell → (found : List ℕ) → ((y : ℕ) → is_in found y ≡ is_in (cone_of (walk_of m) cell.inputs) y) → filter (is_in found) (all_nets m) ≡ in_net_order m (input_cone m r)
   nets_are cell at found same = filter_same (is_in found) (is_in (input_cone m r)) (all_nets m) (λ y among. same y ∙ ap (λ o. is_in (cone_of (walk_of m) (option_map_or (λ (c : RegisterCell ℕ ℕ). c.inputs) o [])) y) (sym at))
 
--- a net of the netlist is one of the machine
-pub own_below : (m : MachineData) (y : ℕ) → y < length (own_netlist m).names → y < length m.circuit.names
-own_below m y below = let h = short (own_nets m) m.circuit.names in omega (arith, below, h)
+-- the netlist has no more nets than the machine, and each is one of the machine
+pub own_shorter : (m : MachineData) → length (own_netlist m).names ≤ length m.circuit.names
+own_shorter m = short (own_nets m) m.circuit.names
   where
     short : {X : Type 0} (n : ℕ) (xs : List X) → length (take n xs) ≤ length xs
     short zero [] = omega arith
     short zero (x ∷ xs) = omega arith
     short (suc n) [] = omega arith
     short (suc n) (x ∷ xs) = let h = short n xs in omega (arith, h)
+
+pub own_below : (m : MachineData) (y : ℕ) → y < length (own_netlist m).names → y < length m.circuit.names
+own_below m y below = let h = own_shorter m in omega (arith, below, h)
 
 -- nets in net order stay so
 pub ordered_twice : (m : MachineData) (xs : List ℕ) → in_net_order m xs ≡ in_net_order m (in_net_order m xs)
@@ -140,3 +148,12 @@ ordered_twice m xs = filter_same (is_in xs) (is_in (in_net_order m xs)) (all_net
     truth true y there back = sym (there refl)
     truth false true there back = back refl
     truth false false there back = refl
+
+-- nets in net order are the same nets, where all are nets of the machine
+pub ordered_same : (m : MachineData) (nets : List ℕ) → ((y : ℕ) → is_in nets y ≡ true → y < length m.circuit.names) → (y : ℕ) → is_in (in_net_order m nets) y ≡ is_in nets y
+ordered_same m nets within y = same_truth (is_in (in_net_order m nets) y) (is_in nets y)
+    (λ among. (in_filter (is_in nets) (all_nets m) y among).1)
+    (λ among. let e : 0 + y ≡ y = omega arith in to_filter (is_in nets) (all_nets m) y (subst (λ z. is_in (all_nets m) z ≡ true) e (range_in (length m.circuit.names) 0 y (within y among))) among)
+
+pub ordered_within : (m : MachineData) (nets : List ℕ) (y : ℕ) → is_in (in_net_order m nets) y ≡ true → y < length m.circuit.names
+ordered_within m nets y among = let b = in_range (length m.circuit.names) 0 y (in_filter (is_in nets) (all_nets m) y among).0 in omega (arith, b.1)

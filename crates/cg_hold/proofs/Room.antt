@@ -57,7 +57,7 @@ module _ (m : MachineData) (good : IsMachine m) (r : ℕ) where
   roots = (next_nets m r ++ []) ++ flat_map (origin_nets m (held_question r)) (filter (after_states m (held_question r)) (registers_of m))
 
   -- the nets of the cone are reached without the literal
-  in_cone : (l : Literal) → is_in (cone_of (walk_of m) (inputs_of_register m r)) l.0 ≡ true → is_in (cone_of (walk_of m) roots) l.0 ≡ true
+  pub in_cone : (l : Literal) → is_in (cone_of (walk_of m) (inputs_of_register m r)) l.0 ≡ true → is_in (cone_of (walk_of m) roots) l.0 ≡ true
   in_cone l among =
       let way : IsInCone m.circuit.cells (inputs_of_register m r) l.0 = (cone_is m.circuit.cells (walk_of m) good.walk (inputs_of_register m r) l.0).0 among in
       let root : is_in roots way.root ≡ true = is_in_left (next_nets m r ++ []) (flat_map (origin_nets m (held_question r)) (filter (after_states m (held_question r)) (registers_of m))) way.root
@@ -136,7 +136,7 @@ module _ (m : MachineData) (good : IsMachine m) (r : ℕ) where
       go true is = let h = ltb-true MOST_CLAIM_NODES (nodes_of m (hold_question k r)) is in let e = one_node l k of there in absurd (omega (arith, h, e, less))
 
 -- a hold claim that was built, and has fewer leaves and and-nodes than it may have
-pub room_told : HoldWidthsAreOne → (m : MachineData) → IsMachine m → (r : ℕ) (l : Literal) → IsLiteralOf m r l → (width : ℕ) (claim : Claim) → IsClaim m (hold_question l r) width claim → (count : ℕ) → count ≡ claim.aig.number + length claim.aig.pairs → count < MOST_CLAIM_NODES → HasRoom m width r
-room_told widths m good r l of width claim is count counted less =
+pub room_known : HoldWidthsAreOne → (m : MachineData) → IsMachine m → (r : ℕ) (l : Literal) → IsLiteralOf m r l → (width : ℕ) (claim : Claim) → IsClaim m (hold_question l r) width claim → (count : ℕ) → count ≡ claim.aig.number + length claim.aig.pairs → count < MOST_CLAIM_NODES → HasRoom m width r
+room_known widths m good r l of width claim is count counted less =
     let e : claim.aig.number + length claim.aig.pairs ≡ nodes_of m (hold_question l r) = ap size is.list in
     (is_narrow widths m good r l of width is.narrow, has_room m good r l of (omega (arith, e, counted, less)))

@@ -19,7 +19,7 @@ use Rattle.cg_claim.specs.Question.{hold_question}
 use Rattle.cg_netlist.proofs.Driven.{is_in-range}
 use Rattle.cg_stage_list_laws.specs.HoldList.{choices, chosen, chosen_regs, hold_list, hold_passes, hold_stage, hold_wide}
 use Rattle.cg_stage_list_laws.specs.HoldList.{hold_width, is_large, serves, unless_empty, up_to}
-use Rattle.cg_stage_list_laws.specs.Literals.{IdleData, both_literals, literals_of, same_bool, same_literal}
+use Rattle.cg_stage_list_laws.specs.Literals.{ZeroCounts, both_literals, literals_of, same_bool, same_literal}
 use Rattle.cg_stage_list_laws.specs.Supports.{free_registers}
 use Rattle.cg_machine.specs.Claims.{Literal}
 use Rattle.cg_machine.specs.Machine.{MachineData, enable_of}
@@ -110,15 +110,15 @@ with_length lists Wide r = refl
 with_length lists (Takes None) r = refl
 with_length lists (Takes (Some k)) r = length-set lists (literal_place k) (slice_index_or lists (literal_place k) [] ++ r ∷ [])
 
-module _ (m : MachineData) (idle : Option IdleData) (width : ℕ) where
+module _ (m : MachineData) (counts : Option ZeroCounts) (width : ℕ) where
   -- what a choice says of a register
   record Says (r : ℕ) (choice : Choice) : Type 0 where
-    within : passes_at m idle width r ≡ false
+    within : passes_at m counts width r ≡ false
     wide : nat_lt width (hold_width m r) ≡ is_wide choice
-    takes : chosen m idle width r ≡ option_of choice
+    takes : chosen m counts width r ≡ option_of choice
 
   abbrev U : ℕ → List Literal
-  U r = up_to (serves m r) (literals_of m idle r)
+  U r = up_to (serves m r) (literals_of m counts r)
 
   large_parts : (r : ℕ) (w : Bool) → list_any (λ l. is_large m (hold_question l r)) (if w then [] else U r) ≡ (if w then false else list_any (λ l. is_large m (hold_question l r)) (U r))
   large_parts r true = refl
@@ -128,9 +128,9 @@ module _ (m : MachineData) (idle : Option IdleData) (width : ℕ) where
   abbrev parts : Bool → Bool → Option Literal → Result Choice AddFault
   parts w a o = if w then Ok Wide else if a then Err (LimitFault ClaimNodes) else Ok (Takes o)
 
-  says : (r : ℕ) (choice : Choice) → choice_by m width r (literals_of m idle r) ≡ Ok choice → Says r choice
+  says : (r : ℕ) (choice : Choice) → choice_by m width r (literals_of m counts r) ≡ Ok choice → Says r choice
   says r choice is =
-      let p = go (nat_lt width (hold_width m r)) (list_any (λ l. is_large m (hold_question l r)) (U r)) (find (serves m r) (literals_of m idle r)) is in
+      let p = go (nat_lt width (hold_width m r)) (list_any (λ l. is_large m (hold_question l r)) (U r)) (find (serves m r) (literals_of m counts r)) is in
       record { within = large_parts r (nat_lt width (hold_width m r)) ∙ p.2; wide = p.0; takes = p.1 }
     where
       go : (w a : Bool) (found : Option Literal) → parts w a found ≡ Ok choice
@@ -139,9 +139,9 @@ module _ (m : MachineData) (idle : Option IdleData) (width : ℕ) where
       go false true found h = absurd (cc)
       go false false found h = let e : Takes found ≡ choice = cc in (ap is_wide e, ap option_of e, refl)
 
-  pub refused : (r : ℕ) (f : AddFault) → choice_by m width r (literals_of m idle r) ≡ Err f → (f ≡ LimitFault ClaimNodes) × (passes_at m idle width r ≡ true)
+  pub refused : (r : ℕ) (f : AddFault) → choice_by m width r (literals_of m counts r) ≡ Err f → (f ≡ LimitFault ClaimNodes) × (passes_at m counts width r ≡ true)
   refused r f is =
-      let p = go (nat_lt width (hold_width m r)) (list_any (λ l. is_large m (hold_question l r)) (U r)) (find (serves m r) (literals_of m idle r)) is in
+      let p = go (nat_lt width (hold_width m r)) (list_any (λ l. is_large m (hold_question l r)) (U r)) (find (serves m r) (literals_of m counts r)) is in
       (p.0, large_parts r (nat_lt width (hold_width m r)) ∙ p.1)
     where
       go : (w a : Bool) (found : Option Literal) → parts w a found ≡ Err f
@@ -160,25 +160,25 @@ module _ (m : MachineData) (idle : Option IdleData) (width : ℕ) where
   free_next : (n : ℕ) → is_none (enable_of m n) ≡ true → free_to m (n + 1) ≡ free_to m n ++ n ∷ []
   free_next n free = free_more n ∙ ap (λ b. free_to m n ++ cond b (n ∷ []) []) free
 
-  pub chosen_same : (n : ℕ) (lists : List (List ℕ)) (wide : ℕ) → is_none (enable_of m n) ≡ false → AreChosen m idle width n lists wide → AreChosen m idle width (n + 1) lists wide
+  pub chosen_same : (n : ℕ) (lists : List (List ℕ)) (wide : ℕ) → is_none (enable_of m n) ≡ false → AreChosen m counts width n lists wide → AreChosen m counts width (n + 1) lists wide
   chosen_same n lists wide enabled are = record {
     count = are.count;
-    each = λ l within. are.each l within ∙ ap (λ rs. chosen_regs (map (λ (r : ℕ). (r, chosen m idle width r)) rs) l) (sym (free_same n enabled));
+    each = λ l within. are.each l within ∙ ap (λ rs. chosen_regs (map (λ (r : ℕ). (r, chosen m counts width r)) rs) l) (sym (free_same n enabled));
     wide_is = are.wide_is ∙ ap (count_by (λ r. nat_lt width (hold_width m r))) (sym (free_same n enabled));
-    within = ap (list_any (passes_at m idle width)) (free_same n enabled) ∙ are.within;
+    within = ap (list_any (passes_at m counts width)) (free_same n enabled) ∙ are.within;
   }
 
-  chosen_more : (n : ℕ) (l : Literal) (rs : List ℕ) → chosen_regs (map (λ (r : ℕ). (r, chosen m idle width r)) (rs ++ n ∷ [])) l ≡ chosen_regs (map (λ (r : ℕ). (r, chosen m idle width r)) rs) l ++ (if option_map_or (same_literal l) (chosen m idle width n) false then n ∷ [] else [])
-  chosen_more n l [] = go (option_map_or (same_literal l) (chosen m idle width n) false)
+  chosen_more : (n : ℕ) (l : Literal) (rs : List ℕ) → chosen_regs (map (λ (r : ℕ). (r, chosen m counts width r)) (rs ++ n ∷ [])) l ≡ chosen_regs (map (λ (r : ℕ). (r, chosen m counts width r)) rs) l ++ (if option_map_or (same_literal l) (chosen m counts width n) false then n ∷ [] else [])
+  chosen_more n l [] = go (option_map_or (same_literal l) (chosen m counts width n) false)
     where
-      go : (b : Bool) → map (λ (c : ℕ × Option Literal). c.0) (cond b ((n, chosen m idle width n) ∷ []) []) ≡ (if b then n ∷ [] else [])
+      go : (b : Bool) → map (λ (c : ℕ × Option Literal). c.0) (cond b ((n, chosen m counts width n) ∷ []) []) ≡ (if b then n ∷ [] else [])
       go true = refl
       go false = refl
-  chosen_more n l (r ∷ rs) = go (option_map_or (same_literal l) (chosen m idle width r) false) (chosen_more n l rs)
+  chosen_more n l (r ∷ rs) = go (option_map_or (same_literal l) (chosen m counts width r) false) (chosen_more n l rs)
     where
-      go : (b : Bool) → chosen_regs (map (λ (q : ℕ). (q, chosen m idle width q)) (rs ++ n ∷ [])) l ≡ chosen_regs (map (λ (q : ℕ). (q, chosen m idle width q)) rs) l ++ (if option_map_or (same_literal l) (chosen m idle width n) false then n ∷ [] else [])
-          → map (λ (c : ℕ × Option Literal). c.0) (cond b ((r, chosen m idle width r) ∷ filter (λ (c : ℕ × Option Literal). option_map_or (same_literal l) c.1 false) (map (λ (q : ℕ). (q, chosen m idle width q)) (rs ++ n ∷ []))) (filter (λ (c : ℕ × Option Literal). option_map_or (same_literal l) c.1 false) (map (λ (q : ℕ). (q, chosen m idle width q)) (rs ++ n ∷ []))))
-          ≡ map (λ (c : ℕ × Option Literal). c.0) (cond b ((r, chosen m idle width r) ∷ filter (λ (c : ℕ × Option Literal). option_map_or (same_literal l) c.1 false) (map (λ (q : ℕ). (q, chosen m idle width q)) rs)) (filter (λ (c : ℕ × Option Literal). option_map_or (same_literal l) c.1 false) (map (λ (q : ℕ). (q, chosen m idle width q)) rs))) ++ (if option_map_or (same_literal l) (chosen m idle width n) false then n ∷ [] else [])
+      go : (b : Bool) → chosen_regs (map (λ (q : ℕ). (q, chosen m counts width q)) (rs ++ n ∷ [])) l ≡ chosen_regs (map (λ (q : ℕ). (q, chosen m counts width q)) rs) l ++ (if option_map_or (same_literal l) (chosen m counts width n) false then n ∷ [] else [])
+          → map (λ (c : ℕ × Option Literal). c.0) (cond b ((r, chosen m counts width r) ∷ filter (λ (c : ℕ × Option Literal). option_map_or (same_literal l) c.1 false) (map (λ (q : ℕ). (q, chosen m counts width q)) (rs ++ n ∷ []))) (filter (λ (c : ℕ × Option Literal). option_map_or (same_literal l) c.1 false) (map (λ (q : ℕ). (q, chosen m counts width q)) (rs ++ n ∷ []))))
+          ≡ map (λ (c : ℕ × Option Literal). c.0) (cond b ((r, chosen m counts width r) ∷ filter (λ (c : ℕ × Option Literal). option_map_or (same_literal l) c.1 false) (map (λ (q : ℕ). (q, chosen m counts width q)) rs)) (filter (λ (c : ℕ × Option Literal). option_map_or (same_literal l) c.1 false) (map (λ (q : ℕ). (q, chosen m counts width q)) rs))) ++ (if option_map_or (same_literal l) (chosen m counts width n) false then n ∷ [] else [])
       go true rest = ap (λ xs. r ∷ xs) rest
       go false rest = rest
 
@@ -189,8 +189,8 @@ module _ (m : MachineData) (idle : Option IdleData) (width : ℕ) where
       go true = refl
       go false = refl
 
-  pub chosen_next : (n : ℕ) (lists : List (List ℕ)) (wide : ℕ) (choice : Choice) (after : List (List ℕ)) (more : ℕ) → is_none (enable_of m n) ≡ true → AreChosen m idle width n lists wide → choice_by m width n (literals_of m idle n) ≡ Ok choice → FitsChoice (length lists) choice
-      → after ≡ with_choice lists choice n → more ≡ wide + wide_by choice → AreChosen m idle width (n + 1) after more
+  pub chosen_next : (n : ℕ) (lists : List (List ℕ)) (wide : ℕ) (choice : Choice) (after : List (List ℕ)) (more : ℕ) → is_none (enable_of m n) ≡ true → AreChosen m counts width n lists wide → choice_by m width n (literals_of m counts n) ≡ Ok choice → FitsChoice (length lists) choice
+      → after ≡ with_choice lists choice n → more ≡ wide + wide_by choice → AreChosen m counts width (n + 1) after more
   chosen_next n lists wide choice after more free are is fits put counted =
       let s = says n choice is in
       record {
@@ -199,16 +199,16 @@ module _ (m : MachineData) (idle : Option IdleData) (width : ℕ) where
             ap (λ xs. list_at xs (literal_place l)) put
             ∙ (list_with lists choice n l fits
             ∙ (ap (λ o. list_at lists (literal_place l) ++ (if option_map_or (same_literal l) o false then n ∷ [] else [])) (sym s.takes)
-            ∙ (ap (λ xs. xs ++ (if option_map_or (same_literal l) (chosen m idle width n) false then n ∷ [] else [])) (are.each l within)
-            ∙ (sym (chosen_more n l (free_to m n)) ∙ ap (λ rs. chosen_regs (map (λ (r : ℕ). (r, chosen m idle width r)) rs) l) (sym (free_next n free))))));
+            ∙ (ap (λ xs. xs ++ (if option_map_or (same_literal l) (chosen m counts width n) false then n ∷ [] else [])) (are.each l within)
+            ∙ (sym (chosen_more n l (free_to m n)) ∙ ap (λ rs. chosen_regs (map (λ (r : ℕ). (r, chosen m counts width r)) rs) l) (sym (free_next n free))))));
         wide_is =
             counted
             ∙ (ap (λ k. k + wide_by choice) are.wide_is
             ∙ (ap (λ k. count_by (λ r. nat_lt width (hold_width m r)) (free_to m n) + k) (wide_one choice ∙ ap (λ b. if b then 1 else 0) (sym s.wide))
             ∙ (sym (count_one n (free_to m n)) ∙ ap (count_by (λ r. nat_lt width (hold_width m r))) (sym (free_next n free)))));
         within =
-            ap (list_any (passes_at m idle width)) (free_next n free)
-            ∙ (list_any-append (passes_at m idle width) (free_to m n) (n ∷ []) ∙ (ap (λ b. b || (passes_at m idle width n || false)) are.within ∙ (or-false (passes_at m idle width n) ∙ s.within)));
+            ap (list_any (passes_at m counts width)) (free_next n free)
+            ∙ (list_any-append (passes_at m counts width) (free_to m n) (n ∷ []) ∙ (ap (λ b. b || (passes_at m counts width n || false)) are.within ∙ (or-false (passes_at m counts width n) ∙ s.within)));
       }
 
   -- the number of those that are too wide is small
@@ -224,7 +224,7 @@ module _ (m : MachineData) (idle : Option IdleData) (width : ℕ) where
       go true rest = omega (arith, rest)
       go false rest = omega (arith, rest)
 
-  pub wide_small : (n : ℕ) (lists : List (List ℕ)) (wide : ℕ) → AreChosen m idle width n lists wide → wide ≤ n
+  pub wide_small : (n : ℕ) (lists : List (List ℕ)) (wide : ℕ) → AreChosen m counts width n lists wide → wide ≤ n
   wide_small n lists wide are =
       let a = count_by-le-length (λ r. nat_lt width (hold_width m r)) (free_to m n) in
       let b = filter_less (λ r. is_none (enable_of m r)) (range_with_len 0 n) in
@@ -232,7 +232,7 @@ module _ (m : MachineData) (idle : Option IdleData) (width : ℕ) where
       omega (arith, are.wide_is, a, b, c)
 
   -- at the start
-  pub chosen_none : (lists : List (List ℕ)) (wide : ℕ) → lists ≡ replicate (2 * length m.circuit.names) [] → wide ≡ 0 → AreChosen m idle width 0 lists wide
+  pub chosen_none : (lists : List (List ℕ)) (wide : ℕ) → lists ≡ replicate (2 * length m.circuit.names) [] → wide ≡ 0 → AreChosen m counts width 0 lists wide
   chosen_none lists wide empty zeroed = record {
     count = ap length empty ∙ length-replicate (2 * length m.circuit.names) [];
     each = λ l within. ap (λ xs. list_at xs (literal_place l)) empty ∙ none_at (2 * length m.circuit.names) (literal_place l);
@@ -253,34 +253,34 @@ module _ (m : MachineData) (idle : Option IdleData) (width : ℕ) where
     | inr later ↦ or_right (test y) (list_any test xs) (any_in test xs x later passes)
   ]
 
-  pub passing : (r : ℕ) → r < m.own_registers → is_none (enable_of m r) ≡ true → passes_at m idle width r ≡ true → hold_passes m idle width ≡ true
-  passing r own free passes = any_in (passes_at m idle width) (free_registers m) r (to_filter (λ k. is_none (enable_of m k)) (range_with_len 0 m.own_registers) r (is_in-range m.own_registers 0 r (omega arith) (omega arith)) free) passes
+  pub passing : (r : ℕ) → r < m.own_registers → is_none (enable_of m r) ≡ true → passes_at m counts width r ≡ true → hold_passes m counts width ≡ true
+  passing r own free passes = any_in (passes_at m counts width) (free_registers m) r (to_filter (λ k. is_none (enable_of m k)) (range_with_len 0 m.own_registers) r (is_in-range m.own_registers 0 r (omega arith) (omega arith)) free) passes
 
   -- the stages
-  same_maps : (lists : List (List ℕ)) (n a : ℕ) → ((l : Literal) → l.0 < a + n → list_at lists (literal_place l) ≡ chosen_regs (choices m idle width) l)
-      → filter_map (stage_at lists) (both_literals (range_with_len a n)) ≡ filter_map (λ l. unless_empty (hold_stage l) (chosen_regs (choices m idle width) l)) (both_literals (range_with_len a n))
+  same_maps : (lists : List (List ℕ)) (n a : ℕ) → ((l : Literal) → l.0 < a + n → list_at lists (literal_place l) ≡ chosen_regs (choices m counts width) l)
+      → filter_map (stage_at lists) (both_literals (range_with_len a n)) ≡ filter_map (λ l. unless_empty (hold_stage l) (chosen_regs (choices m counts width) l)) (both_literals (range_with_len a n))
   same_maps lists zero a same = refl
   same_maps lists (suc n) a same =
       let rest = same_maps lists n (a + 1) (λ l within. same l (omega (arith, within))) in
       ap (λ rs. cons_option (unless_empty (hold_stage (a, false)) rs) (cons_option (stage_at lists (a, true)) (filter_map (stage_at lists) (both_literals (range_with_len (a + 1) n))))) (same (a, false) (omega arith))
-      ∙ (ap (λ rs. cons_option (unless_empty (hold_stage (a, false)) (chosen_regs (choices m idle width) (a, false))) (cons_option (unless_empty (hold_stage (a, true)) rs) (filter_map (stage_at lists) (both_literals (range_with_len (a + 1) n))))) (same (a, true) (omega arith))
-      ∙ ap (λ xs. cons_option (unless_empty (hold_stage (a, false)) (chosen_regs (choices m idle width) (a, false))) (cons_option (unless_empty (hold_stage (a, true)) (chosen_regs (choices m idle width) (a, true))) xs)) rest)
+      ∙ (ap (λ rs. cons_option (unless_empty (hold_stage (a, false)) (chosen_regs (choices m counts width) (a, false))) (cons_option (unless_empty (hold_stage (a, true)) rs) (filter_map (stage_at lists) (both_literals (range_with_len (a + 1) n))))) (same (a, true) (omega arith))
+      ∙ ap (λ xs. cons_option (unless_empty (hold_stage (a, false)) (chosen_regs (choices m counts width) (a, false))) (cons_option (unless_empty (hold_stage (a, true)) (chosen_regs (choices m counts width) (a, true))) xs)) rest)
 
-  pub stages_are : (lists : List (List ℕ)) (wide : ℕ) → AreChosen m idle width m.own_registers lists wide → filter_map (stage_at lists) (both_literals (range_with_len 0 (length m.circuit.names))) ≡ hold_list m idle width
+  pub stages_are : (lists : List (List ℕ)) (wide : ℕ) → AreChosen m counts width m.own_registers lists wide → filter_map (stage_at lists) (both_literals (range_with_len 0 (length m.circuit.names))) ≡ hold_list m counts width
   stages_are lists wide are = same_maps lists (length m.circuit.names) 0 (λ l within. are.each l (omega (arith, within)))
 
   -- the whole answer
   abbrev answer : Bool → List Stage → ℕ → Result HoldFound AddFault
   answer passes stages wide = if passes then Err (LimitFault ClaimNodes) else Ok (record { stages = stages; wide = wide })
 
-  pub answered : (lists : List (List ℕ)) (wide : ℕ) (stages : List Stage) → AreChosen m idle width m.own_registers lists wide → stages ≡ filter_map (stage_at lists) (both_literals (range_with_len 0 (length m.circuit.names)))
-      → hold_answer m idle width ≡ Ok (record { stages = stages; wide = wide })
+  pub answered : (lists : List (List ℕ)) (wide : ℕ) (stages : List Stage) → AreChosen m counts width m.own_registers lists wide → stages ≡ filter_map (stage_at lists) (both_literals (range_with_len 0 (length m.circuit.names)))
+      → hold_answer m counts width ≡ Ok (record { stages = stages; wide = wide })
   answered lists wide stages are made =
-      ap (λ b. answer b (hold_list m idle width) (hold_wide m width)) are.within
+      ap (λ b. answer b (hold_list m counts width) (hold_wide m width)) are.within
       ∙ (ap (λ s. answer false s (hold_wide m width)) (sym (made ∙ stages_are lists wide are)) ∙ ap (λ w. answer false stages w) (sym are.wide_is))
 
-  pub unanswered : (f : AddFault) → f ≡ LimitFault ClaimNodes → hold_passes m idle width ≡ true → hold_answer m idle width ≡ Err f
-  unanswered f is passes = ap (λ b. answer b (hold_list m idle width) (hold_wide m width)) passes ∙ cc
+  pub unanswered : (f : AddFault) → f ≡ LimitFault ClaimNodes → hold_passes m counts width ≡ true → hold_answer m counts width ≡ Err f
+  unanswered f is passes = ap (λ b. answer b (hold_list m counts width) (hold_wide m width)) passes ∙ cc
 
 -- the stages of one net more
 pub both_more : (lists : List (List ℕ)) (n : ℕ) (before one two : List Stage) → before ≡ filter_map (stage_at lists) (both_literals (range_with_len 0 n)) → one ≡ before ++ cons_option (stage_at lists (n, false)) [] → two ≡ one ++ cons_option (stage_at lists (n, true)) []
@@ -309,10 +309,10 @@ empty_stage lists l i regs b before place below read is some =
     there = read ∙ (sym (unwrap_or-slice_get lists i regs) ∙ (ap (λ o. unwrap_or o regs) (slice_get-get_or lists i [] below) ∙ (index_list lists i ∙ ap (list_at lists) place)))
 
 -- a fault of one register is one of the list
-pub refused_told : (m : MachineData) (idle : Option IdleData) (width r : ℕ) → r < m.own_registers → (f : AddFault) → (f ≡ NoMemory) ⊎ ((f ≡ LimitFault ClaimNodes) × ((is_none (enable_of m r) ≡ true) × (passes_at m idle width r ≡ true)))
-    → (f ≡ NoMemory) ⊎ ((f ≡ LimitFault ClaimNodes) × (hold_passes m idle width ≡ true))
-refused_told m idle width r own f (inl is) = inl is
-refused_told m idle width r own f (inr is) = inr (is.0, passing m idle width r own is.1.0 is.1.1)
+pub refused_known : (m : MachineData) (counts : Option ZeroCounts) (width r : ℕ) → r < m.own_registers → (f : AddFault) → (f ≡ NoMemory) ⊎ ((f ≡ LimitFault ClaimNodes) × ((is_none (enable_of m r) ≡ true) × (passes_at m counts width r ≡ true)))
+    → (f ≡ NoMemory) ⊎ ((f ≡ LimitFault ClaimNodes) × (hold_passes m counts width ≡ true))
+refused_known m counts width r own f (inl is) = inl is
+refused_known m counts width r own f (inr is) = inr (is.0, passing m counts width r own is.1.0 is.1.1)
 
 -- whether there is none
 pub none_of_some : (o : Option ℕ) → is_some o ≡ true → is_none o ≡ false
@@ -329,7 +329,7 @@ on_ok_both (Ok x) f a b = f a b
 on_ok_both (Err e) f a b = tt
 
 -- a fault of a register
-pub refused_one : (m : MachineData) (idle : Option IdleData) (width r : ℕ) (f : AddFault) → is_none (enable_of m r) ≡ true → (f ≡ NoMemory) ⊎ (choice_by m width r (literals_of m idle r) ≡ Err f)
-    → (f ≡ NoMemory) ⊎ ((f ≡ LimitFault ClaimNodes) × ((is_none (enable_of m r) ≡ true) × (passes_at m idle width r ≡ true)))
-refused_one m idle width r f free (inl is) = inl is
-refused_one m idle width r f free (inr is) = let p = refused m idle width r f is in inr (p.0, (free, p.1))
+pub refused_one : (m : MachineData) (counts : Option ZeroCounts) (width r : ℕ) (f : AddFault) → is_none (enable_of m r) ≡ true → (f ≡ NoMemory) ⊎ (choice_by m width r (literals_of m counts r) ≡ Err f)
+    → (f ≡ NoMemory) ⊎ ((f ≡ LimitFault ClaimNodes) × ((is_none (enable_of m r) ≡ true) × (passes_at m counts width r ≡ true)))
+refused_one m counts width r f free (inl is) = inl is
+refused_one m counts width r f free (inr is) = let p = refused m counts width r f is in inr (p.0, (free, p.1))

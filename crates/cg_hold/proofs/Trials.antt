@@ -3,7 +3,7 @@ use Rattle.std.proofs.Common.{◌≡◌, ◌<◌, ◌≤◌, ℕ, zero, suc, ◌
 use Rattle.std.proofs.Common.{◌∷◌, drop, length, nat_eq, nat_lt, slice_get, Option, Some, None, Result, Ok, Err, refl}
 use Rattle.std.proofs.Common.{sym, ◌∙◌, ap, arith, ◌⊎◌, inl, inr}
 use Rattle.std.specs.List.{find, list_any}
-use Rattle.std.proofs.lemmas.Bool.{eqb-true, lt-ltb, ltb-true}
+use Rattle.std.proofs.lemmas.Bool.{both_ways, eqb-true, lt-ltb, ltb-true}
 use Rattle.std.proofs.lemmas.Option.{none-some, same_Some}
 use Rattle.cg_limit.specs.declared.TheConstants.{MOST_CLAIM_NODES}
 use Rattle.cg_claim.specs.Build.{nodes_of}
@@ -28,7 +28,7 @@ use Rattle.cg_hold.specs.declared.choice.Choice.TheVariants.{Wide, Takes}
 use Rattle.cg_hold.specs.declared.trial.Room.TheVariants.{Ample}
 use Rattle.cg_hold.specs.declared.trial.Trial.{Trial}
 use Rattle.cg_hold.specs.declared.trial.Trial.TheVariants.{TooWide, Serves, Fails}
-use Rattle.cg_hold.specs.inner.Choosing.{IsLiteralOf, IsRoom, choice_by, refused_room, refused_trial, trial_of}
+use Rattle.cg_hold.specs.inner.Choosing.{HasRoom, IsLiteralOf, IsRoom, choice_by, is_good, refused_room, refused_trial, trial_of}
 
 -- the literals from a place on
 pub drop_at : (ls : List Literal) (i : ℕ) (l : Literal) → slice_get ls i ≡ Some l → drop i ls ≡ l ∷ drop (i + 1) ls
@@ -191,6 +191,35 @@ all_wide m width r ls wide = go (nat_lt width (hold_width m r)) wide
 pub no_literals : (xs : List Literal) (n : ℕ) (b : Bool) → n ≡ length xs → b ≡ nat_eq n 0 → b ≡ true → xs ≡ []
 no_literals [] n b long is empty = refl
 no_literals (x ∷ xs) n b long is empty = let e : n ≡ 0 = eqb-true n 0 (sym is ∙ empty) in absurd (omega (arith, e, long))
+
+pub some_literals : (xs : List Literal) (n : ℕ) (b : Bool) → n ≡ length xs → b ≡ nat_eq n 0 → b ≡ false → 0 < length xs
+some_literals [] n b long is full = absurd (both_ways b full (is ∙ ap (λ k. nat_eq k 0) long))
+some_literals (x ∷ xs) n b long is full = omega arith
+
+-- the trial of a literal of a register with room
+module _ (m : MachineData) (width r : ℕ) (l : Literal) (room : HasRoom m width r) (of : IsLiteralOf m r l) where
+  abbrev of_trial : Trial → Result Trial AddFault
+  of_trial t = Ok t
+
+  said : (t : Trial) (b : Bool) → of_trial t ≡ of_trial (if b then Serves else Fails) → is_good t ≡ b
+  said Serves true h = refl
+  said Serves false h = absurd (cc)
+  said Fails true h = absurd (cc)
+  said Fails false h = refl
+  said TooWide true h = absurd (cc)
+  said TooWide false h = absurd (cc)
+
+  -- it is good exactly where the literal serves
+  pub good_trial : (t : Trial) → trial_of m width r l ≡ Ok t → is_good t ≡ serves m r l
+  good_trial t is = said t (serves m r l) (sym is ∙ judged m width r l room.0 (room.1 l of))
+
+  -- and there is no fault but want of memory
+  pub no_fault : (f : AddFault) → (f ≡ NoMemory) ⊎ (trial_of m width r l ≡ Err f) → f ≡ NoMemory
+  no_fault f (inl is) = is
+  no_fault f (inr is) = absurd (differ (if serves m r l then Serves else Fails) (sym (judged m width r l room.0 (room.1 l of)) ∙ is))
+    where
+      differ : (t : Trial) → of_trial t ≡ Err f → ⊥
+      differ t h = cc
 
 -- at the largest width the fault of a claim that has no more nodes than it may have is want of memory
 pub wants_memory : (m : MachineData) → IsMachine m → (q : Question) (fault : ClaimFault) → nodes_of m q ≤ MOST_CLAIM_NODES → IsRefused m q 4294967295 fault → fault ≡ ClaimMemory

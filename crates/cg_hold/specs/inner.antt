@@ -1,7 +1,8 @@
 pub mod Choosing
 pub mod Cycles
-pub mod Known
+pub mod Fitting
 pub mod Laying
+pub mod Looking
 pub mod Packed
 pub mod Words
 pub mod WordsLaws

@@ -8,7 +8,7 @@ ghost use Rattle.cg_hold.specs.inner.Choosing.{stage_at};
 ghost use Rattle.cg_hold.specs.inner.Packed.{literal_place};
 ghost use Rattle.cg_limit.specs.Answers.{OrNoMemory};
 ghost use Rattle.cg_stage_list_laws.specs.HoldList.{hold_stage};
-ghost use Rattle.cg_stage_list_laws.specs.Literals.{FitsIdle, both_literals};
+ghost use Rattle.cg_stage_list_laws.specs.Literals.{FitZeroCounts, both_literals};
 ghost use Rattle.cg_netlist.specs.declared.fault.AddFault.TheVariants.{NoMemory};
 
 use crate::chosen::{Chosen, place_of};
@@ -18,7 +18,7 @@ use cg_machine::machine::Machine;
 use cg_machine::stage::{NetLit, Stage, StageKind};
 use cg_net::id::{NetId, RegId};
 use cg_netlist::fault::AddFault;
-use cg_stage_list_laws::idle::Idle;
+use cg_stage_list_laws::net_zeros::NetZeros;
 use std::alloc::{AllocError, Global};
 
 /// The hold stages of a machine.
@@ -31,7 +31,7 @@ pub struct HoldFound {
     pub wide: u32,
 }
 
-/// The hold stages of a machine, at a width, and for rows of a stimulus where `idle` is given: it must have one number for
+/// The hold stages of a machine, at a width, and for rows of a stimulus where `counts` is given: it must have one number for
 /// each net of the machine, each at most the number of rows.
 ///
 /// Registers with an enable and delay registers are left out. A register takes the first literal of the cone of its inputs,
@@ -46,14 +46,14 @@ pub fn candidates(
     alloc: Global,
     machine: &Machine,
     width: u32,
-    idle: Option<&Idle<'_>>,
+    counts: Option<&NetZeros<'_>>,
     progress: &mut dyn Progress,
 ) -> Result<HoldFound, AddFault>
-    requires { FitsIdle machine.now (option_copied idle) }
-    ensures answer { OrNoMemory NoMemory (λ found. found) result (hold_answer machine.now (option_copied idle.entry) width) }
+    requires { FitZeroCounts machine.now (option_copied counts) }
+    ensures answer { OrNoMemory NoMemory (λ found. found) result (hold_answer machine.now (option_copied counts.entry) width) }
 {
     let _netlist = machine.netlist();
-    let chosen = Chosen::of(alloc, machine, width, idle, progress)?;
+    let chosen = Chosen::of(alloc, machine, width, counts, progress)?;
     let wide = chosen.wide;
     let stages = stages(alloc, machine.nets(), &chosen.lists)?;
     Ok(HoldFound { stages, wide })

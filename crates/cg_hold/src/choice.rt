@@ -1,18 +1,22 @@
 //! The literal that a register takes.
 
-ghost use Rattle.std.specs.Prelude.{◌≡◌, ◌<◌, ℕ, Some, None, true, false, if◌then◌else◌, length, nat_lt, slice_get};
+ghost use Rattle.std.specs.Prelude.{◌≡◌, ◌<◌, ℕ, Some, None, true, false, if◌then◌else◌, drop, length, nat_lt, slice_get, IfErr, IfOk, OnOk};
 ghost use Rattle.std.specs.Option.{option_copied};
 ghost use Rattle.cg_claim.specs.Question.{hold_question};
 ghost use Rattle.cg_hold.specs.inner.Choosing.{AreMoved, HasRoom, IsLiteralOf, choice_by};
 ghost use Rattle.cg_hold.specs.inner.Cycles.{AreCycles};
+ghost use Rattle.cg_hold.specs.inner.Looking.{AreMarked, IsLook};
 ghost use Rattle.cg_limit.specs.Answers.{OrNoMemory};
-ghost use Rattle.cg_stage_list_laws.specs.Literals.{FitsIdle, literals_of};
+ghost use Rattle.cg_stage_list_laws.specs.HoldList.{serves};
+ghost use Rattle.cg_stage_list_laws.specs.Literals.{FitZeroCounts, literals_of};
 ghost use Rattle.cg_machine.specs.Claims.{Literal};
 ghost use Rattle.cg_machine.specs.Machine.{enable_of};
 ghost use Rattle.cg_netlist.specs.declared.fault.AddFault.TheVariants.{NoMemory};
 ghost use Rattle.cg_unroll.specs.Claims.{IsClaim};
 
-use crate::literals::literals_of;
+use crate::literals::{literals_of, nets_of};
+use crate::look::Look;
+use crate::marks::{first_open, marks_of};
 use crate::search::Search;
 use crate::trial::{Room, Trial, Trier};
 use cg_machine::stage::NetLit;
@@ -39,20 +43,30 @@ pub(crate) fn choose(
 ) -> Result<Choice, AddFault>
     requires register { reg < search.now.machine.now.own_registers }
     requires free { enable_of search.now.machine.now reg ≡ None }
-    requires idle { FitsIdle search.now.machine.now (option_copied search.now.idle) }
+    requires counts { FitZeroCounts search.now.machine.now (option_copied search.now.counts) }
     requires cycles { AreCycles search.now.machine.now search.now.cycles.now.cycles }
     ensures { OrNoMemory NoMemory (λ choice. choice) result
-        (choice_by search.now.machine.now search.now.width reg (literals_of search.now.machine.now (option_copied search.now.idle) reg)) }
+        (choice_by search.now.machine.now search.now.width reg (literals_of search.now.machine.now (option_copied search.now.counts) reg)) }
 {
     let _netlist = search.machine.netlist();
-    if trier.shows_wide(search.machine, reg, search.width) {
+    let wide = trier.shows_wide(search.machine, reg, search.width)?;
+    if wide {
         return Ok(Choice::Wide);
     }
-    let literals = literals_of(alloc, search.machine, reg, search.idle, &mut trier.finder)?;
+    let nets = nets_of(search.machine, reg, &mut trier.finder)?;
+    let literals = literals_of(alloc, search.machine, &nets, search.counts)?;
     if literals.is_empty() {
         return Ok(without_literals(search.width));
     }
-    choose_among(trier, search, &literals, reg)
+    let cone = trier.cone_of(search.machine, reg)?;
+    let look = Look {
+        search,
+        reg,
+        nets: &nets,
+        cone: &cone,
+        literals: &literals,
+    };
+    choose_by_looking(alloc, trier, &look)
 }
 
 /// What comes of a register without literals: its claims have one leaf, its own bit.
@@ -66,50 +80,50 @@ fn without_literals(width: u32) -> Choice
     }
 }
 
-/// What comes of a register with these literals, of which there is one at least. One claim tells whether any is refused: that
-/// of the first literal that no cycle settles, where there is one, as it is asked next.
-fn choose_among(
-    trier: &mut Trier,
-    search: &Search<'_>,
-    literals: &[NetLit],
-    reg: RegId,
-) -> Result<Choice, AddFault>
-    requires register { reg < search.now.machine.now.own_registers }
-    requires nets { (k : ℕ) (l : Literal) → slice_get literals.now k ≡ Some l → IsLiteralOf search.now.machine.now reg l }
-    requires some { 0 < length literals.now }
-    requires cycles { AreCycles search.now.machine.now search.now.cycles.now.cycles }
-    ensures { OrNoMemory NoMemory (λ choice. choice) result (choice_by search.now.machine.now search.now.width reg literals.now) }
+/// What comes of a register whose literals are some: cycles mark those that do not hold it, and claims decide the others.
+fn choose_by_looking(alloc: Global, trier: &mut Trier, look: &Look<'_>) -> Result<Choice, AddFault>
+    requires look { IsLook look.now.search.now.machine.now look.now.reg look.now.nets.now look.now.cone.now look.now.literals.now }
+    requires some { 0 < length look.now.literals.now }
+    requires cycles { AreCycles look.now.search.now.machine.now look.now.search.now.cycles.now.cycles }
+    ensures { OrNoMemory NoMemory (λ choice. choice) result (choice_by look.now.search.now.machine.now look.now.search.now.width look.now.reg look.now.literals.now) }
 {
-    let _netlist = search.machine.netlist();
-    let place = first_unmoved(search, literals, reg);
+    let mut marks = marks_of(alloc, look)?;
+    choose_marked(trier, look, &mut marks)
+}
+
+/// What comes of a register with literals of which these are known not to hold it: cycles of its cone mark others.
+fn choose_marked(trier: &mut Trier, look: &Look<'_>, marks: &mut [bool]) -> Result<Choice, AddFault>
+    requires look { IsLook look.now.search.now.machine.now look.now.reg look.now.nets.now look.now.cone.now look.now.literals.now }
+    requires some { 0 < length look.now.literals.now }
+    requires cycles { AreCycles look.now.search.now.machine.now look.now.search.now.cycles.now.cycles }
+    requires marks { AreMarked look.now.search.now.machine.now look.now.reg look.now.literals.now marks.old }
+    ensures { OrNoMemory NoMemory (λ choice. choice) result (choice_by look.now.search.now.machine.now look.now.search.now.width look.now.reg look.now.literals.now) }
+{
+    trier.mark_by_rounds(look, marks)?;
+    choose_among(trier, look, marks)
+}
+
+/// What comes of a register with literals that are marked so. One claim tells whether any is refused: that of the first literal
+/// without a mark, where there is one, as it is asked next.
+fn choose_among(trier: &mut Trier, look: &Look<'_>, marks: &mut [bool]) -> Result<Choice, AddFault>
+    requires look { IsLook look.now.search.now.machine.now look.now.reg look.now.nets.now look.now.cone.now look.now.literals.now }
+    requires some { 0 < length look.now.literals.now }
+    requires cycles { AreCycles look.now.search.now.machine.now look.now.search.now.cycles.now.cycles }
+    requires marks { AreMarked look.now.search.now.machine.now look.now.reg look.now.literals.now marks.old }
+    ensures { OrNoMemory NoMemory (λ choice. choice) result (choice_by look.now.search.now.machine.now look.now.search.now.width look.now.reg look.now.literals.now) }
+{
+    let search = look.search;
+    let place = first_open(marks);
     match trier.measure(
         search.machine,
-        literal_at(literals, place),
-        reg,
+        literal_at(look.literals, place),
+        look.reg,
         search.width,
     ) {
         Room::TooWide => Ok(Choice::Wide),
-        Room::Ample => choose_from(trier, search, literals, place, reg),
-        Room::Unknown => first_that_serves(trier, search, literals, reg, false),
+        Room::Ample => choose_from(trier, look, marks, place),
+        Room::Unknown => first_that_serves(trier, search, look.literals, look.reg),
     }
-}
-
-/// The place of the first literal where no cycle shows that it does not hold a register; behind the last where there is none.
-fn first_unmoved(search: &Search<'_>, literals: &[NetLit], reg: RegId) -> usize
-    requires register { reg < search.now.machine.now.own_registers }
-    requires nets { (k : ℕ) (l : Literal) → slice_get literals.now k ≡ Some l → IsLiteralOf search.now.machine.now reg l }
-    requires cycles { AreCycles search.now.machine.now search.now.cycles.now.cycles }
-    ensures { AreMoved search.now.machine.now reg literals.now result }
-{
-    let _netlist = search.machine.netlist();
-    let mut place = 0;
-    for literal in literals {
-        if !search.cycles.show_move(search.machine, *literal, reg) {
-            return place;
-        }
-        place += 1;
-    }
-    place
 }
 
 /// The literal at a place, and the first behind the last place.
@@ -128,49 +142,97 @@ fn literal_at(literals: &[NetLit], place: usize) -> NetLit
 /// those before it do not hold the register.
 fn choose_from(
     trier: &mut Trier,
-    search: &Search<'_>,
-    literals: &[NetLit],
+    look: &Look<'_>,
+    marks: &mut [bool],
     place: usize,
-    reg: RegId,
 ) -> Result<Choice, AddFault>
-    requires register { reg < search.now.machine.now.own_registers }
-    requires nets { (k : ℕ) (l : Literal) → slice_get literals.now k ≡ Some l → IsLiteralOf search.now.machine.now reg l }
-    requires cycles { AreCycles search.now.machine.now search.now.cycles.now.cycles }
-    requires room { HasRoom search.now.machine.now search.now.width reg }
-    requires moved { AreMoved search.now.machine.now reg literals.now place }
-    requires claim { (l : Literal) → slice_get literals.now place ≡ Some l
-        → IsClaim search.now.machine.now (hold_question l reg) search.now.width trier.old.unroller }
-    ensures { OrNoMemory NoMemory (λ choice. choice) result (choice_by search.now.machine.now search.now.width reg literals.now) }
+    requires look { IsLook look.now.search.now.machine.now look.now.reg look.now.nets.now look.now.cone.now look.now.literals.now }
+    requires cycles { AreCycles look.now.search.now.machine.now look.now.search.now.cycles.now.cycles }
+    requires marks { AreMarked look.now.search.now.machine.now look.now.reg look.now.literals.now marks.old }
+    requires room { HasRoom look.now.search.now.machine.now look.now.search.now.width look.now.reg }
+    requires moved { AreMoved look.now.search.now.machine.now look.now.reg look.now.literals.now place }
+    requires claim { (l : Literal) → slice_get look.now.literals.now place ≡ Some l
+        → IsClaim look.now.search.now.machine.now (hold_question l look.now.reg) look.now.search.now.width trier.old.unroller }
+    ensures { OrNoMemory NoMemory (λ choice. choice) result (choice_by look.now.search.now.machine.now look.now.search.now.width look.now.reg look.now.literals.now) }
 {
-    let _netlist = search.machine.netlist();
-    if place >= literals.len() {
+    let _netlist = look.search.machine.netlist();
+    if place >= look.literals.len() {
         return Ok(Choice::Takes(None));
     }
-    let literal = literals[place];
-    let good = trier.serves(search, literal, reg)?;
+    let literal = look.literals[place];
+    let good = trier.serves(look.search, literal, look.reg)?;
     if good {
         return Ok(Choice::Takes(Some(literal)));
     }
-    first_that_serves(trier, search, &literals[place + 1..], reg, true)
+    trier.mark_near(look, marks)?;
+    choose_behind(trier, look, marks, place + 1)
 }
 
-/// What comes of a register with these literals, none of which is refused where there is room.
+/// What comes of a register none of whose hold claims is refused, where the literals before a place do not serve.
+fn choose_behind(
+    trier: &mut Trier,
+    look: &Look<'_>,
+    marks: &mut [bool],
+    first: usize,
+) -> Result<Choice, AddFault>
+    requires look { IsLook look.now.search.now.machine.now look.now.reg look.now.nets.now look.now.cone.now look.now.literals.now }
+    requires cycles { AreCycles look.now.search.now.machine.now look.now.search.now.cycles.now.cycles }
+    requires marks { AreMarked look.now.search.now.machine.now look.now.reg look.now.literals.now marks.old }
+    requires room { HasRoom look.now.search.now.machine.now look.now.search.now.width look.now.reg }
+    requires left { choice_by look.now.search.now.machine.now look.now.search.now.width look.now.reg (drop first look.now.literals.now)
+        ≡ choice_by look.now.search.now.machine.now look.now.search.now.width look.now.reg look.now.literals.now }
+    ensures { OrNoMemory NoMemory (λ choice. choice) result (choice_by look.now.search.now.machine.now look.now.search.now.width look.now.reg look.now.literals.now) }
+{
+    for place in first..look.literals.len() {
+        let literal = look.literals[place];
+        let good = look_at(trier, look, marks, place)?;
+        if good {
+            return Ok(Choice::Takes(Some(literal)));
+        }
+    }
+    Ok(Choice::Takes(None))
+}
+
+/// Whether the literal at a place serves, where no claim of the register is refused. What its claim tells is marked.
+fn look_at(
+    trier: &mut Trier,
+    look: &Look<'_>,
+    marks: &mut [bool],
+    place: usize,
+) -> Result<bool, AddFault>
+    requires look { IsLook look.now.search.now.machine.now look.now.reg look.now.nets.now look.now.cone.now look.now.literals.now }
+    requires cycles { AreCycles look.now.search.now.machine.now look.now.search.now.cycles.now.cycles }
+    requires marks { AreMarked look.now.search.now.machine.now look.now.reg look.now.literals.now marks.old }
+    requires room { HasRoom look.now.search.now.machine.now look.now.search.now.width look.now.reg }
+    requires place { place < length look.now.literals.now }
+    ensures good { IfOk result (λ good. (l : Literal) → slice_get look.now.literals.now place ≡ Some l → good ≡ serves look.now.search.now.machine.now look.now.reg l) }
+    ensures failed { IfErr result (λ fault. fault ≡ NoMemory) }
+    ensures marks { OnOk result (AreMarked look.now.search.now.machine.now look.now.reg look.now.literals.now marks.new) }
+{
+    let marked = marks[place];
+    if marked {
+        return Ok(false);
+    }
+    let good = trier.try_in_room(look.search, look.literals[place], look.reg)?;
+    trier.mark_near(look, marks)?;
+    Ok(good)
+}
+
+/// What comes of a register with these literals, of which there is one at least.
 fn first_that_serves(
     trier: &mut Trier,
     search: &Search<'_>,
     literals: &[NetLit],
     reg: RegId,
-    room: bool,
 ) -> Result<Choice, AddFault>
     requires register { reg < search.now.machine.now.own_registers }
     requires nets { (k : ℕ) (l : Literal) → slice_get literals.now k ≡ Some l → IsLiteralOf search.now.machine.now reg l }
-    requires some { room ≡ false → 0 < length literals.now }
+    requires some { 0 < length literals.now }
     requires cycles { AreCycles search.now.machine.now search.now.cycles.now.cycles }
-    requires room { room ≡ true → HasRoom search.now.machine.now search.now.width reg }
     ensures { OrNoMemory NoMemory (λ choice. choice) result (choice_by search.now.machine.now search.now.width reg literals.now) }
 {
     for literal in literals {
-        match trier.settle(search, room, *literal, reg)? {
+        match trier.try_literal(search, *literal, reg)? {
             Trial::TooWide => return Ok(Choice::Wide),
             Trial::Serves => return Ok(Choice::Takes(Some(*literal))),
             Trial::Fails => {}

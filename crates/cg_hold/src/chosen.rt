@@ -9,7 +9,7 @@ ghost use Rattle.cg_hold.specs.inner.Packed.{literal_place};
 ghost use Rattle.cg_limit.specs.declared.Limit.TheVariants.{ClaimNodes};
 ghost use Rattle.cg_limit.specs.declared.TheConstants.{MOST_NETS};
 ghost use Rattle.cg_stage_list_laws.specs.HoldList.{hold_passes};
-ghost use Rattle.cg_stage_list_laws.specs.Literals.{FitsIdle};
+ghost use Rattle.cg_stage_list_laws.specs.Literals.{FitZeroCounts};
 ghost use Rattle.cg_machine.specs.Machine.{enable_of};
 ghost use Rattle.cg_netlist.specs.declared.fault.AddFault.TheVariants.{Limit as LimitFault, NoMemory};
 
@@ -23,7 +23,7 @@ use cg_machine::machine::Machine;
 use cg_machine::stage::NetLit;
 use cg_net::id::RegId;
 use cg_netlist::fault::AddFault;
-use cg_stage_list_laws::idle::Idle;
+use cg_stage_list_laws::net_zeros::NetZeros;
 use std::alloc::{AllocError, Global};
 
 /// What came of registers.
@@ -42,14 +42,14 @@ impl Chosen {
         alloc: Global,
         machine: &Machine,
         width: u32,
-        idle: Option<&Idle<'_>>,
+        counts: Option<&NetZeros<'_>>,
         progress: &mut dyn Progress,
     ) -> Result<Chosen, AddFault>
-        requires { FitsIdle machine.now (option_copied idle) }
+        requires { FitZeroCounts machine.now (option_copied counts) }
         ensures chosen { IfOk result
-            (λ chosen. AreChosen machine.now (option_copied idle.entry) width machine.now.own_registers chosen.lists.items chosen.wide) }
+            (λ chosen. AreChosen machine.now (option_copied counts.entry) width machine.now.own_registers chosen.lists.items chosen.wide) }
         ensures refused { IfErr result
-            (λ fault. (fault ≡ NoMemory) ⊎ ((fault ≡ LimitFault ClaimNodes) × (hold_passes machine.now (option_copied idle.entry) width ≡ true))) }
+            (λ fault. (fault ≡ NoMemory) ⊎ ((fault ≡ LimitFault ClaimNodes) × (hold_passes machine.now (option_copied counts.entry) width ≡ true))) }
     {
         let _netlist = machine.netlist();
         let mut chosen = Chosen::none(alloc, machine.nets())?;
@@ -63,7 +63,7 @@ impl Chosen {
             machine,
             cycles: &cycles,
             width,
-            idle,
+            counts,
         };
         let looked = chosen.look_at_all(alloc, &mut trier, &search, progress);
         drop(trier);
@@ -85,14 +85,14 @@ impl Chosen {
         search: &Search<'_>,
         progress: &mut dyn Progress,
     ) -> Result<(), AddFault>
-        requires idle { FitsIdle search.now.machine.now (option_copied search.now.idle) }
+        requires counts { FitZeroCounts search.now.machine.now (option_copied search.now.counts) }
         requires cycles { AreCycles search.now.machine.now search.now.cycles.now.cycles }
-        requires chosen { AreChosen search.now.machine.now (option_copied search.now.idle) search.now.width 0 self.old.lists.items self.old.wide }
-        ensures chosen { OnOk result (AreChosen search.now.machine.now (option_copied search.now.idle) search.now.width search.now.machine.now.own_registers
+        requires chosen { AreChosen search.now.machine.now (option_copied search.now.counts) search.now.width 0 self.old.lists.items self.old.wide }
+        ensures chosen { OnOk result (AreChosen search.now.machine.now (option_copied search.now.counts) search.now.width search.now.machine.now.own_registers
             self.new.lists.items self.new.wide) }
         ensures refused { IfErr result
             (λ fault. (fault ≡ NoMemory) ⊎ ((fault ≡ LimitFault ClaimNodes)
-            × (hold_passes search.now.machine.now (option_copied search.now.idle) search.now.width ≡ true))) }
+            × (hold_passes search.now.machine.now (option_copied search.now.counts) search.now.width ≡ true))) }
     {
         let registers = search.machine.netlist().registers();
         for reg in 0..registers {
@@ -124,15 +124,15 @@ impl Chosen {
         reg: RegId,
     ) -> Result<(), AddFault>
         requires register { reg < search.now.machine.now.own_registers }
-        requires idle { FitsIdle search.now.machine.now (option_copied search.now.idle) }
+        requires counts { FitZeroCounts search.now.machine.now (option_copied search.now.counts) }
         requires cycles { AreCycles search.now.machine.now search.now.cycles.now.cycles }
-        requires chosen { AreChosen search.now.machine.now (option_copied search.now.idle) search.now.width reg self.old.lists.items self.old.wide }
-        ensures chosen { OnOk result (AreChosen search.now.machine.now (option_copied search.now.idle) search.now.width (reg + 1)
+        requires chosen { AreChosen search.now.machine.now (option_copied search.now.counts) search.now.width reg self.old.lists.items self.old.wide }
+        ensures chosen { OnOk result (AreChosen search.now.machine.now (option_copied search.now.counts) search.now.width (reg + 1)
             self.new.lists.items self.new.wide) }
         ensures refused { IfErr result
             (λ fault. (fault ≡ NoMemory) ⊎ ((fault ≡ LimitFault ClaimNodes)
             × ((is_none (enable_of search.now.machine.now reg) ≡ true)
-            × (passes_at search.now.machine.now (option_copied search.now.idle) search.now.width reg ≡ true)))) }
+            × (passes_at search.now.machine.now (option_copied search.now.counts) search.now.width reg ≡ true)))) }
     {
         let _netlist = search.machine.netlist();
         if search.machine.enable(reg).is_some() {

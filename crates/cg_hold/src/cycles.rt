@@ -14,7 +14,7 @@ ghost use Rattle.cg_netlist.specs.Moment.{bit};
 use crate::moves::move_words;
 use crate::nets::{lay_cells, start_words};
 use crate::random::Random;
-use crate::words::{has_one, inverse};
+use crate::words::{has_one, zeros};
 use cg_list::Seq;
 use cg_machine::machine::Machine;
 use cg_machine::stage::NetLit;
@@ -88,11 +88,6 @@ impl CycleWords {
         ensures { IsWord result (λ i. not (literal_bit (bit (lane i self.now.nets)) literal)) }
     {
         let _netlist = machine.netlist();
-        let word = self.nets.as_slice()[literal.net.number() as usize];
-        if literal.inverted {
-            word
-        } else {
-            inverse(word)
-        }
+        zeros(self.nets.as_slice(), literal)
     }
 }

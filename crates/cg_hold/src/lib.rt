@@ -12,7 +12,9 @@
 //! - `moves`: in which cycles registers take another bit.
 //! - `cycles`: a few cycles with random bits, which settle most literals.
 //! - `search`: what they are looked for on.
-//! - `known`: leaf bits at which goals were 1.
+//! - `look`: what is looked at: a register with the cone of its inputs.
+//! - `cone_cycles`: a few cycles in which only that cone is looked at.
+//! - `marks`: marks at the literals that some cycle shows not to hold the register.
 //! - `trial`: what comes of one literal, by the cycles and by its claims.
 //! - `choice`: the literal that a register takes.
 //! - `chosen`: the registers that took each literal.
@@ -23,9 +25,11 @@
 pub mod candidates;
 mod choice;
 mod chosen;
+mod cone_cycles;
 mod cycles;
-mod known;
 mod literals;
+mod look;
+mod marks;
 mod moves;
 mod nets;
 pub mod progress;

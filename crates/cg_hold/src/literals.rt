@@ -4,7 +4,7 @@ ghost use Rattle.std.specs.Prelude.{◌≡◌, ◌<◌, ◌≤◌, ℕ, Some, tr
 ghost use Rattle.std.specs.List.{All};
 ghost use Rattle.std.specs.Option.{option_copied};
 ghost use Rattle.cg_hold.specs.inner.Packed.{packed, unpacked};
-ghost use Rattle.cg_stage_list_laws.specs.Literals.{FitsIdle, IsIdleData, both_literals, by_count, literals_of};
+ghost use Rattle.cg_stage_list_laws.specs.Literals.{FitZeroCounts, AreZeroCounts, both_literals, by_count};
 ghost use Rattle.cg_stage_list_laws.specs.Supports.{in_net_order, input_cone};
 ghost use Rattle.cg_net.specs.NetSets.{is_in};
 
@@ -13,40 +13,39 @@ use cg_machine::stage::NetLit;
 use cg_net::id::{NetId, RegId};
 use cg_netlist_cone::ascending::ascending;
 use cg_stage_groups::finder::SupportFinder;
-use cg_stage_list_laws::idle::Idle;
+use cg_stage_list_laws::net_zeros::NetZeros;
 use std::alloc::{AllocError, Global};
 
 // More than the places of all literals: two for each net that a netlist may have.
 const PLACES: u64 = 2_097_152;
 
-/// The literals of a register in the order in which they are tried: the nets of the cone of its inputs, each plain and
-/// inverted, those before the others that are 0 on more rows of the stimulus.
+/// The literals of these nets, each plain and inverted, in the order in which they are tried: those before the others that are 0
+/// on more rows of the stimulus.
 pub(crate) fn literals_of(
     alloc: Global,
     machine: &Machine,
-    reg: RegId,
-    idle: Option<&Idle<'_>>,
-    finder: &mut SupportFinder,
+    nets: &[u32],
+    counts: Option<&NetZeros<'_>>,
 ) -> Result<Vec<NetLit>, AllocError>
-    requires register { reg < machine.now.own_registers }
-    requires idle { FitsIdle machine.now (option_copied idle) }
-    ensures { IfOk result (λ literals. literals.items ≡ literals_of machine.now (option_copied idle.entry) reg) }
+    requires counts { FitZeroCounts machine.now (option_copied counts) }
+    requires order { nets.now ≡ in_net_order machine.now nets.now }
+    ensures { IfOk result (λ literals. literals.items ≡ by_count (option_copied counts.entry) (both_literals nets.now)) }
 {
-    let nets = nets_of(machine, reg, finder)?;
-    match idle {
-        Some(idle) => ranked(alloc, machine, &nets, idle),
-        None => both(alloc, &nets),
+    match counts {
+        Some(counts) => ranked(alloc, machine, nets, counts),
+        None => both(alloc, nets),
     }
 }
 
 /// The nets of the cone of a register's inputs, in net order.
-fn nets_of(
+pub(crate) fn nets_of(
     machine: &Machine,
     reg: RegId,
     finder: &mut SupportFinder,
 ) -> Result<Vec<u32>, AllocError>
     requires { reg < machine.now.own_registers }
-    ensures { IfOk result (λ nets. nets.items ≡ in_net_order machine.now (input_cone machine.now reg)) }
+    ensures order { IfOk result (λ nets. nets.items ≡ in_net_order machine.now (input_cone machine.now reg)) }
+    ensures same { IfOk result (λ nets. (y : ℕ) → is_in nets.items y ≡ is_in (input_cone machine.now reg) y) }
 {
     let netlist = machine.netlist();
     let _registers = netlist.registers();
@@ -79,41 +78,41 @@ fn ranked(
     alloc: Global,
     machine: &Machine,
     nets: &[u32],
-    idle: &Idle<'_>,
+    counts: &NetZeros<'_>,
 ) -> Result<Vec<NetLit>, AllocError>
-    requires idle { IsIdleData machine.now idle.now }
+    requires counts { AreZeroCounts machine.now counts.now }
     requires order { nets.now ≡ in_net_order machine.now nets.now }
-    ensures { IfOk result (λ literals. literals.items ≡ by_count (Some idle.now) (both_literals nets.now)) }
+    ensures { IfOk result (λ literals. literals.items ≡ by_count (Some counts.now) (both_literals nets.now)) }
 {
     let _netlist = machine.netlist();
-    let mut numbers = packed_all(alloc, nets, idle)?;
+    let mut numbers = packed_all(alloc, nets, counts)?;
     numbers.sort_unstable();
     numbers.dedup();
     unpacked_all(alloc, &numbers)
 }
 
 /// The numbers of the literals of these nets.
-fn packed_all(alloc: Global, nets: &[u32], idle: &Idle<'_>) -> Result<Vec<u64>, AllocError>
-    requires most { All (λ zeros. zeros ≤ idle.now.rows) idle.now.zeros }
-    requires nets { (y : ℕ) → is_in nets.now y ≡ true → y < length idle.now.zeros }
-    ensures { IfOk result (λ numbers. numbers.items ≡ map (packed idle.now) (both_literals nets.now)) }
+fn packed_all(alloc: Global, nets: &[u32], counts: &NetZeros<'_>) -> Result<Vec<u64>, AllocError>
+    requires most { All (λ zeros. zeros ≤ counts.now.rows) counts.now.zeros }
+    requires nets { (y : ℕ) → is_in nets.now y ≡ true → y < length counts.now.zeros }
+    ensures { IfOk result (λ numbers. numbers.items ≡ map (packed counts.now) (both_literals nets.now)) }
 {
     let mut numbers = Vec::new(alloc);
     for net in nets {
-        numbers.push(pack(*net, false, idle))?;
-        numbers.push(pack(*net, true, idle))?;
+        numbers.push(pack(*net, false, counts))?;
+        numbers.push(pack(*net, true, counts))?;
     }
     Ok(numbers)
 }
 
 /// The number of a literal: its rank, which is less where it is 0 on more rows, before its place.
-fn pack(net: u32, inverted: bool, idle: &Idle<'_>) -> u64
-    requires most { All (λ zeros. zeros ≤ idle.now.rows) idle.now.zeros }
-    requires net { net < length idle.now.zeros }
-    ensures { result ≡ packed idle.now (net, inverted) }
+fn pack(net: u32, inverted: bool, counts: &NetZeros<'_>) -> u64
+    requires most { All (λ zeros. zeros ≤ counts.now.rows) counts.now.zeros }
+    requires net { net < length counts.now.zeros }
+    ensures { result ≡ packed counts.now (net, inverted) }
 {
-    let zeros = idle.zeros[net as usize];
-    let others = idle.rows - zeros;
+    let zeros = counts.zeros[net as usize];
+    let others = counts.rows - zeros;
     if inverted {
         zeros as u64 * PLACES + (2 * net as u64 + 1)
     } else {

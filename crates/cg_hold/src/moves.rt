@@ -44,7 +44,7 @@ pub(crate) fn move_words(
 }
 
 /// The word of a register's next bits.
-fn next_word(machine: &Machine, reg: RegId, state: &[u64], nets: &[u64]) -> u64
+pub(crate) fn next_word(machine: &Machine, reg: RegId, state: &[u64], nets: &[u64]) -> u64
     requires register { reg < length machine.now.circuit.registers }
     requires state { length state.now ≡ length machine.now.circuit.registers }
     requires nets { length nets.now ≡ length machine.now.circuit.names }

@@ -29,20 +29,20 @@ pub(crate) fn start_words(
 {
     let mut words = Vec::new(alloc);
     for k in 0..machine.nets() {
-        words.push(start_word(machine, state, NetId::new(k), random))?;
+        words.push(start_word(machine, state, NetId::new(k), random.next()))?;
     }
     Ok(words)
 }
 
 /// The word of a net before cells are laid.
-fn start_word(machine: &Machine, state: &[u64], net: NetId, random: &mut Random) -> u64
+pub(crate) fn start_word(machine: &Machine, state: &[u64], net: NetId, input: u64) -> u64
     requires state { length state.now ≡ length machine.now.circuit.registers }
     requires net { net < length machine.now.circuit.names }
     ensures { StartsAt machine.now state.now net result }
 {
     let _netlist = machine.netlist();
     match machine.driver(net) {
-        Driver::Input => random.next(),
+        Driver::Input => input,
         Driver::Register(reg, inverted) => {
             let word = state[reg.number() as usize];
             if inverted { inverse(word) } else { word }
@@ -65,7 +65,7 @@ pub(crate) fn lay_cells(machine: &Machine, words: &mut [u64], scratch: &mut [u64
 }
 
 /// Lays one cell.
-fn lay_cell(machine: &Machine, id: CellId, words: &mut [u64], scratch: &mut [u64])
+pub(crate) fn lay_cell(machine: &Machine, id: CellId, words: &mut [u64], scratch: &mut [u64])
     requires cell { id < length machine.now.circuit.cells }
     requires words { length words.old ≡ length machine.now.circuit.names }
     requires scratch { widest_of machine.now.circuit.cells ≤ length scratch.old }

@@ -27,6 +27,24 @@ impl Random {
         self.state
     }
 
+    /// The next word in which 1 is as likely as 0, or more or less so.
+    pub fn biased(&mut self) -> u64 {
+        let word = self.next();
+        match self.next() % 8 {
+            0 => word & self.next(),
+            1 => word | self.next(),
+            2 => word & self.next() & self.next(),
+            3 => word | self.next() | self.next(),
+            _ => word,
+        }
+    }
+
+    /// A word with a bit in the first lane, and with the other bit in a few of the others.
+    pub fn near(&mut self, bit: bool) -> u64 {
+        let others = self.next() & self.next() & self.next() & self.next() & (u64::MAX - 1);
+        if bit { !others } else { others }
+    }
+
     /// The next words.
     pub fn draw(&mut self, alloc: Global, count: usize) -> Result<Vec<u64>, AllocError>
         ensures { IfOk result (λ words. length words.items ≡ count) }

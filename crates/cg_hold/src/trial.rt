@@ -1,33 +1,38 @@
 //! What comes of one literal, by its claims.
 
-ghost use Rattle.std.specs.Prelude.{◌≡◌, ◌<◌, ◌+◌, ◌∷◌, [], ℕ, true, if◌then◌else◌, IsTrue, IfOk, length, nat_lt};
+ghost use Rattle.std.specs.Prelude.{◌≡◌, ◌<◌, ◌+◌, ◌∷◌, [], ℕ, true, if◌then◌else◌, IsTrue, IfErr, IfOk, OnOk, length, nat_lt};
 ghost use Rattle.cg_aig.specs.Aig.{aig_ops};
 ghost use Rattle.cg_claim.specs.LeafBits.{is_never};
 ghost use Rattle.cg_claim.specs.Question.{Question, hold_question, idle_question};
 ghost use Rattle.cg_claim.specs.Violates.{SidesFit};
+ghost use Rattle.cg_claim_reach.specs.Reached.{IsConeOf};
 ghost use Rattle.cg_decide.specs.Decision.{IsNeverOne};
-ghost use Rattle.cg_hold.specs.inner.Choosing.{HasRoom, IdleFits, IsLiteralOf, IsRoom, refused_room, refused_trial, trial_of};
+ghost use Rattle.cg_hold.specs.inner.Choosing.{HasRoom, IdleFits, IsLiteralOf, IsRoom, is_good, refused_room, refused_trial, trial_of};
 ghost use Rattle.cg_hold.specs.inner.Cycles.{AreCycles};
-ghost use Rattle.cg_hold.specs.inner.Known.{IsEverOne};
+ghost use Rattle.cg_hold.specs.inner.Looking.{AreMarked, IsLook};
 ghost use Rattle.cg_limit.specs.Answers.{OrNoMemory};
 ghost use Rattle.cg_stage_list_laws.specs.HoldList.{hold_width, serves};
+ghost use Rattle.cg_stage_list_laws.specs.Supports.{input_cone};
 ghost use Rattle.cg_machine.specs.Machine.{IsMachine, MachineData};
 ghost use Rattle.cg_limit.specs.declared.TheConstants.{MOST_CLAIM_NODES};
-ghost use Rattle.cg_net.specs.NetSets.{is_in};
 ghost use Rattle.cg_netlist.specs.declared.fault.AddFault.TheVariants.{NoMemory};
 ghost use Rattle.cg_unroll.specs.Claims.{IsClaim};
 
+use crate::cone_cycles::ConeCycles;
 use crate::cycles::Cycles;
-use crate::known::Known;
+use crate::look::Look;
+use crate::marks::mark;
 use crate::search::Search;
 use cg_aig::Aig;
 use cg_claim::laws::claim_laws;
 use cg_decide::{Decider, Decision};
 use cg_limit::MOST_CLAIM_NODES;
+use cg_machine::cone::ConeFinder;
 use cg_machine::machine::Machine;
 use cg_machine::stage::NetLit;
-use cg_net::id::{NetId, RegId};
+use cg_net::id::RegId;
 use cg_netlist::fault::AddFault;
+use cg_netlist_cone::cone::Cone;
 use cg_stage_groups::finder::SupportFinder;
 use cg_stage_list_laws::laws::list_laws;
 use cg_unroll::claim::ClaimFault;
@@ -68,10 +73,11 @@ pub(crate) struct Trier {
 
     unroller: Unroller,
     decider: Decider,
-    known: Known,
+    cones: ConeFinder,
+    cycles: ConeCycles,
 
-    /// Whether the hold claims that were measured last were too wide.
-    wide: bool,
+    /// The bits that violate the claim that was built last, where some were found.
+    last: Option<Vec<bool>>,
 }
 
 impl Trier {
@@ -81,46 +87,31 @@ impl Trier {
             finder: SupportFinder::new(alloc),
             unroller: Unroller::new(alloc),
             decider: Decider::new(alloc),
-            known: Known::new(alloc),
-            wide: false,
+            cones: ConeFinder::new(alloc),
+            cycles: ConeCycles::new(alloc),
+            last: None,
         }
     }
 
-    /// Whether the hold claim of its first input shows that those of a register are too wide. It is only built where those
-    /// that were measured last were: such registers mostly stand together, and their literals need not be found then.
-    pub fn shows_wide(&mut self, machine: &Machine, reg: RegId, width: u32) -> bool
+    /// Whether it is soon seen that the hold claims of a register are too wide: their leaves are the register, and the data
+    /// inputs and registers at the edge of the cone of its inputs.
+    pub fn shows_wide(
+        &mut self,
+        machine: &Machine,
+        reg: RegId,
+        width: u32,
+    ) -> Result<bool, AllocError>
         requires { reg < machine.now.own_registers }
-        ensures { result ≡ true → nat_lt width (hold_width machine.now reg) ≡ true }
+        ensures { IfOk result (λ wide. wide ≡ true → nat_lt width (hold_width machine.now reg) ≡ true) }
     {
-        let netlist = machine.netlist();
-        let _registers = netlist.registers();
-        let register = netlist.register(reg);
-        if !self.wide || register.inputs.is_empty() {
-            return false;
-        }
-        let net = first(register.inputs);
-        let literal = NetLit {
-            net,
-            inverted: false,
-        };
-        is_too_wide(self.measure(machine, literal, reg, width))
+        let _netlist = machine.netlist();
+        let more = self.finder.shows_more(machine, reg, width)?;
+        Ok(more)
     }
 
     /// What is known of the hold claims of a register by that of a literal of the cone of its inputs: they are equally wide,
     /// and differ by one and-node at most. Where none of them is refused, that of the literal stands.
     pub fn measure(&mut self, machine: &Machine, literal: NetLit, reg: RegId, width: u32) -> Room
-        requires register { reg < machine.now.own_registers }
-        requires literal { IsLiteralOf machine.now reg literal }
-        ensures room { IsRoom machine.now width reg result }
-        ensures stands { result ≡ Room.Ample → IsClaim machine.now (hold_question literal reg) width self.new.unroller }
-    {
-        let room = self.find_room(machine, literal, reg, width);
-        self.wide = is_too_wide(room);
-        room
-    }
-
-    /// The same, without a note of it.
-    fn find_room(&mut self, machine: &Machine, literal: NetLit, reg: RegId, width: u32) -> Room
         requires register { reg < machine.now.own_registers }
         requires literal { IsLiteralOf machine.now reg literal }
         ensures room { IsRoom machine.now width reg result }
@@ -134,30 +125,8 @@ impl Trier {
         }
     }
 
-    /// What comes of a literal of the cone of a register's inputs: by the cycles where the register has room and they show
-    /// that it does not serve, and else by its claims.
-    pub fn settle(
-        &mut self,
-        search: &Search<'_>,
-        room: bool,
-        literal: NetLit,
-        reg: RegId,
-    ) -> Result<Trial, AddFault>
-        requires register { reg < search.now.machine.now.own_registers }
-        requires literal { IsLiteralOf search.now.machine.now reg literal }
-        requires cycles { AreCycles search.now.machine.now search.now.cycles.now.cycles }
-        requires room { room ≡ true → HasRoom search.now.machine.now search.now.width reg }
-        ensures { OrNoMemory NoMemory (λ trial. trial) result (trial_of search.now.machine.now search.now.width reg literal) }
-    {
-        let _netlist = search.machine.netlist();
-        if room && search.cycles.show_move(search.machine, literal, reg) {
-            return Ok(Trial::Fails);
-        }
-        self.try_literal(search, literal, reg)
-    }
-
     /// What comes of a literal of the cone of a register's inputs, by its claims.
-    fn try_literal(
+    pub fn try_literal(
         &mut self,
         search: &Search<'_>,
         literal: NetLit,
@@ -235,10 +204,6 @@ impl Trier {
             → never ≡ is_never m q) }
     {
         claim_laws();
-        let known = self.is_known()?;
-        if known {
-            return Ok(false);
-        }
         let shown = is_shown(&mut self.decider, &self.unroller)?;
         if shown {
             return Ok(true);
@@ -249,19 +214,71 @@ impl Trier {
         match decision {
             Decision::Never(_, _) => Ok(true),
             Decision::Sometimes(bits) => {
-                self.known.keep(bits);
+                self.last = Some(bits);
                 Ok(false)
             }
         }
     }
 
-    /// Whether bits that are kept violate the claim that was built last.
-    fn is_known(&self) -> Result<bool, AllocError>
-        requires { IsTrue (aig_ops.is_valid self.now.unroller.aig self.now.unroller.goal) }
-        ensures { IfOk result (λ known. known ≡ true → IsEverOne self.now.unroller.aig self.now.unroller.goal) }
+    /// The cone of a register's inputs.
+    pub fn cone_of(&mut self, machine: &Machine, reg: RegId) -> Result<Cone, AllocError>
+        requires { reg < machine.now.own_registers }
+        ensures { IfOk result (λ cone. IsConeOf machine.now (input_cone machine.now reg) cone) }
     {
-        self.known
-            .violate(self.unroller.aig(), self.unroller.goal())
+        let netlist = machine.netlist();
+        let _registers = netlist.registers();
+        let inputs = netlist.register(reg).inputs;
+        let cone = self.cones.find(machine, inputs)?;
+        Ok(cone)
+    }
+
+    /// Whether a literal of a register serves, none of whose hold claims is refused.
+    pub fn try_in_room(
+        &mut self,
+        search: &Search<'_>,
+        literal: NetLit,
+        reg: RegId,
+    ) -> Result<bool, AddFault>
+        requires register { reg < search.now.machine.now.own_registers }
+        requires literal { IsLiteralOf search.now.machine.now reg literal }
+        requires cycles { AreCycles search.now.machine.now search.now.cycles.now.cycles }
+        requires room { HasRoom search.now.machine.now search.now.width reg }
+        ensures good { IfOk result (λ good. good ≡ serves search.now.machine.now reg literal) }
+        ensures failed { IfErr result (λ fault. fault ≡ NoMemory) }
+    {
+        let _netlist = search.machine.netlist();
+        let trial = self.try_literal(search, literal, reg)?;
+        Ok(is_good(trial))
+    }
+
+    /// Marks literals by rounds of random bits, until a round marks none.
+    pub fn mark_by_rounds(&mut self, look: &Look<'_>, marks: &mut [bool]) -> Result<(), AllocError>
+        requires look { IsLook look.now.search.now.machine.now look.now.reg look.now.nets.now look.now.cone.now look.now.literals.now }
+        requires marks { AreMarked look.now.search.now.machine.now look.now.reg look.now.literals.now marks.old }
+        ensures { OnOk result (AreMarked look.now.search.now.machine.now look.now.reg look.now.literals.now marks.new) }
+    {
+        for _ in 0..look.literals.len() {
+            self.cycles.draw(look)?;
+            let any = mark(look, &self.cycles, marks);
+            if !any {
+                return Ok(());
+            }
+        }
+        Ok(())
+    }
+
+    /// Marks literals by the bits that violate the claim that was built last, where some were found, and by bits near to them.
+    pub fn mark_near(&mut self, look: &Look<'_>, marks: &mut [bool]) -> Result<(), AllocError>
+        requires look { IsLook look.now.search.now.machine.now look.now.reg look.now.nets.now look.now.cone.now look.now.literals.now }
+        requires marks { AreMarked look.now.search.now.machine.now look.now.reg look.now.literals.now marks.old }
+        ensures { OnOk result (AreMarked look.now.search.now.machine.now look.now.reg look.now.literals.now marks.new) }
+    {
+        let last = std::mem::replace(&mut self.last, None);
+        if let Some(bits) = last {
+            self.cycles.take(look, self.unroller.leaves(), &bits)?;
+            mark(look, &self.cycles, marks);
+        }
+        Ok(())
     }
 }
 
@@ -278,24 +295,6 @@ fn nodes(aig: &Aig) -> u32
     ensures { result ≡ aig.now.number + length aig.now.pairs }
 {
     aig.leaves() + aig.ands()
-}
-
-/// The first of these nets.
-fn first(nets: &[NetId]) -> NetId
-    requires { 0 < length nets.now }
-    ensures { is_in nets.now result ≡ true }
-{
-    nets[0]
-}
-
-/// Whether the hold claims of a register are known to be too wide.
-fn is_too_wide(room: Room) -> bool
-    ensures { result ≡ true → room ≡ Room.TooWide }
-{
-    match room {
-        Room::TooWide => true,
-        _ => false,
-    }
 }
 
 /// What is known of the hold claims of a register where one of them has so many leaves and and-nodes.
@@ -325,6 +324,16 @@ fn tried(good: bool) -> Trial
     ensures { result ≡ (if good then Trial.Serves else Trial.Fails) }
 {
     if good { Trial::Serves } else { Trial::Fails }
+}
+
+/// Whether a literal serves of which this comes.
+fn is_good(trial: Trial) -> bool
+    ensures { result ≡ is_good trial }
+{
+    match trial {
+        Trial::Serves => true,
+        Trial::Fails | Trial::TooWide => false,
+    }
 }
 
 /// What comes of a literal whose hold claim is refused so.

@@ -2,14 +2,15 @@
 //!
 //! A word holds one bit of each of 64 cycles. One evaluation of a function over words serves them all.
 
-ghost use Rattle.std.specs.Prelude.{◌≡◌, true, IsTrue, length};
+ghost use Rattle.std.specs.Prelude.{◌≡◌, ◌<◌, true, not, IsTrue, length};
 ghost use Rattle.cg_cell.specs.Cell.{variables_of};
 ghost use Rattle.cg_cell.specs.Cover.{CoverFits, cover_value};
 ghost use Rattle.cg_cell.specs.Expr.{is_over, term_of};
 ghost use Rattle.cg_cell.specs.Term.{term_value};
 ghost use Rattle.cg_hold.specs.inner.Words.{HasOne, IsWord, lane, word_not};
 ghost use Rattle.cg_machine.specs.Gates.{HasInputs, gate_cover};
-ghost use Rattle.cg_netlist.specs.Moment.{cell_value, function_value};
+ghost use Rattle.cg_machine.specs.Claims.{literal_bit};
+ghost use Rattle.cg_netlist.specs.Moment.{bit, cell_value, function_value};
 ghost use Rattle.cg_netlist.specs.View.{function_seen};
 ghost use Rattle.cg_netlist.specs.WellFormed.{IsOver};
 
@@ -18,6 +19,7 @@ use cg_cell::cover::Cover;
 use cg_cell::domain::Domain;
 use cg_cell::expr::Expr;
 use cg_cell::fit::FitKind;
+use cg_machine::stage::NetLit;
 use cg_netlist::view::Function;
 use std::convert::Infallible;
 
@@ -123,5 +125,18 @@ pub(crate) fn gate_word(kind: FitKind, inputs: &[u64]) -> u64
         FitKind::And2 => inputs[0] & inputs[1],
         FitKind::Or2 => inputs[0] | inputs[1],
         FitKind::Gater | FitKind::TestGater => 0,
+    }
+}
+
+/// The lanes in which a literal is 0, by the words of nets.
+pub(crate) fn zeros(nets: &[u64], literal: NetLit) -> u64
+    requires { literal.0 < length nets.now }
+    ensures { IsWord result (λ i. not (literal_bit (bit (lane i nets.now)) literal)) }
+{
+    let word = nets[literal.net.number() as usize];
+    if literal.inverted {
+        word
+    } else {
+        inverse(word)
     }
 }

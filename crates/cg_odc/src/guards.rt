@@ -23,11 +23,25 @@ impl Guards {
     pub fn of(alloc: Global, machine: &Machine) -> Result<Guards, AllocError>
         ensures { IfOk result (λ guards. AreGuards machine.now machine.now.own_registers guards.lists.items) }
     {
-        let netlist = machine.netlist();
         let mut finder = SupportFinder::new(alloc);
+        let guards = Guards::found_by(alloc, machine, &mut finder);
+        // By a call, as its parts would else be dropped one by one in the proof.
+        drop(finder);
+        guards
+    }
+
+    /// The same, in the buffers of a finder.
+    fn found_by(
+        alloc: Global,
+        machine: &Machine,
+        finder: &mut SupportFinder,
+    ) -> Result<Guards, AllocError>
+        ensures { IfOk result (λ guards. AreGuards machine.now machine.now.own_registers guards.lists.items) }
+    {
+        let netlist = machine.netlist();
         let mut guards = Guards::none(alloc, netlist.registers())?;
         for reg in 0..netlist.registers() {
-            guards.note(machine, RegId::new(reg), &mut finder)?;
+            guards.note(machine, RegId::new(reg), finder)?;
         }
         Ok(guards)
     }

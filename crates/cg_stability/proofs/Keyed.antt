@@ -1,20 +1,18 @@
 -- The key of a register, told by a list of the registers of its support.
 use Rattle.std.proofs.Common.{◌≡◌, ℕ, ◌+◌, ◌<◌, Bool, true, false, not, ◌&&◌, ◌||◌, cond, if◌then◌else◌, List, [], ◌∷◌, length}
-use Rattle.std.proofs.Common.{nat_eq, slice_get, is_some, Option, Some, None, refl, sym, ◌∙◌, ap, subst, arith, inl, inr}
+use Rattle.std.proofs.Common.{nat_eq, is_some, Option, Some, None, refl, sym, ◌∙◌, ap, subst, arith, inl, inr}
 use Rattle.std.specs.List.{filter, filter_map, list_all, list_any, range_with_len}
-use Rattle.std.specs.Option.{option_map_or}
 use Rattle.std.proofs.lemmas.Bool.{and_from, and_parts, both_ways, cases_Bool, eq-eqb, eqb-true, or_cases, or_left, or_right}
-use Rattle.std.proofs.lemmas.Option.{slice_get_within}
-use Rattle.cg_netlist.specs.Circuit.{RegisterCell, shown_nets}
 use Rattle.cg_net.specs.NetSets.{is_in}
 use Rattle.cg_machine.specs.Machine.{IsMachine, MachineData, enable_of}
 use Rattle.cg_claim.specs.Reach.{feeds, registers_of}
 use Rattle.cg_claim.proofs.Reached.{and_first}
 use Rattle.cg_stage_list_laws.specs.Rounds.{is_empty}
 use Rattle.cg_stage_list_laws.specs.StableList.{StableKey, stable_key}
-use Rattle.cg_stage_list_laws.specs.Supports.{all_nets, has_enable, in_net_order, input_cone, others_of, reads_own_at, supports}
+use Rattle.cg_stage_list_laws.specs.Supports.{all_nets, has_enable, has_input, in_net_order, input_cone, others_of, reads_own_at, supports}
 use Rattle.cg_stability.specs.inner.Keyed.{AreRegisters, is_keyed}
-use Rattle.cg_stage_groups.specs.Support.{IsSupport}
+use Rattle.cg_stage_groups.proofs.FrontShows.{feeds_within}
+use Rattle.cg_stage_groups.specs.Support.{IsSupport, stands_on_free}
 use Rattle.cg_stage_groups.specs.declared.support.Support.{Support}
 use Rattle.std.specs.Cmp.{both_ways as same_truth}
 use Rattle.cg_stage_list_laws.proofs.Mapped.{all_member, nonempty_member}
@@ -35,13 +33,6 @@ none_in (y ∷ xs) x among = refl
 filter_same : (p q : ℕ → Bool) (xs : List ℕ) → ((x : ℕ) → p x ≡ q x) → filter p xs ≡ filter q xs
 filter_same p q [] same = refl
 filter_same p q (x ∷ xs) same = ap (λ b. cond b (x ∷ filter p xs) (filter p xs)) (same x) ∙ ap (λ l. cond (q x) (x ∷ l) l) (filter_same p q xs same)
-
-feeds_within : (m : MachineData) (nets : List ℕ) (k : ℕ) → feeds m nets k ≡ true → k < length m.circuit.registers
-feeds_within m nets k feeding = go (slice_get m.circuit.registers k) refl feeding
-  where
-    go : (o : Option (RegisterCell ℕ ℕ)) → slice_get m.circuit.registers k ≡ o → option_map_or (λ (cell : RegisterCell ℕ ℕ). list_any (is_in nets) (shown_nets cell)) o false ≡ true → k < length m.circuit.registers
-    go None is h = absurd (both_ways false refl h)
-    go (Some cell) is h = slice_get_within m.circuit.registers k cell is
 
 -- the registers of a support are registers of the machine
 pub supports_within : (m : MachineData) (r k : ℕ) → r < length m.circuit.registers → supports m r k ≡ true → k < length m.circuit.registers
@@ -139,3 +130,24 @@ module _ (m : MachineData) (r : ℕ) (below : r < length m.circuit.registers) (s
 
   pub key_none : is_keyed m r ≡ false → None ≡ stable_key m r
   key_none keyed = ap (λ b. if b then Some (let k : StableKey = record { enables = in_net_order m (filter_map (enable_of m) (others_of m r)); own = enable_of m r } in k) else None) (sym keyed)
+
+-- a register that stands on a data input, or on another register without an enable, has no key
+pub none_keyed : (m : MachineData) (r : ℕ) → stands_on_free m r ≡ true → None ≡ stable_key m r
+none_keyed m r stands = keyless (is_keyed m r) refl (elim (or_cases (has_input m r) (list_any (λ k. not (has_enable m k)) (others_of m r)) stands) [
+  | inl input ↦ ap (λ b. not b && not (is_empty (others_of m r)) && list_all (has_enable m) (others_of m r)) input
+  | inr free ↦
+      let k = from_any (λ k. not (has_enable m k)) (others_of m r) free in
+      not_all (list_all (has_enable m) (others_of m r)) refl (λ all. both_ways (has_enable m k.0) (not-true (has_enable m k.0) k.2) (all_member (has_enable m) (others_of m r) k.0 all k.1))
+])
+  where
+    nowhere : (a b : Bool) → (a && b && false) ≡ false
+    nowhere true true = refl
+    nowhere true false = refl
+    nowhere false b = refl
+
+    keyless : (b : Bool) → is_keyed m r ≡ b → b ≡ false → None ≡ stable_key m r
+    keyless b is no' = ap (λ b. if b then Some (let k : StableKey = record { enables = in_net_order m (filter_map (enable_of m) (others_of m r)); own = enable_of m r } in k) else None) (sym (is ∙ no'))
+
+    not_all : (b : Bool) → list_all (has_enable m) (others_of m r) ≡ b → (b ≡ true → ⊥) → is_keyed m r ≡ false
+    not_all true is none' = absurd (none' refl)
+    not_all false is none' = ap (λ b. not (has_input m r) && not (is_empty (others_of m r)) && b) is ∙ nowhere (not (has_input m r)) (not (is_empty (others_of m r)))

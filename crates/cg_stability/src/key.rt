@@ -44,6 +44,10 @@ fn key_of(
     ensures { IfOk result (λ key. option_map key_seen key ≡ stable_key machine.now reg) }
 {
     let _netlist = machine.netlist();
+    let free = finder.shows_free(machine, reg)?;
+    if free {
+        return Ok(None);
+    }
     let support = finder.support_of(machine, reg)?;
     let registers = support.registers.as_slice();
     if !has_key(machine, reg, &support) {

@@ -8,3 +8,5 @@ pub mod Joined
 pub mod Left
 pub mod Same
 pub mod Listed
+pub mod FrontShows
+pub mod Fronts

@@ -9,7 +9,7 @@ use Rattle.cg_net.proofs.Members.{is_in-append}
 use Rattle.cg_machine.specs.Machine.{MachineData, walk_of}
 use Rattle.cg_netlist_cone.specs.Cone.{cone_of}
 use Rattle.cg_claim.specs.Reach.{feeds, reads_own}
-use Rattle.cg_stage_list_laws.specs.Supports.{has_input, input_cone, reads_own_at}
+use Rattle.cg_stage_list_laws.specs.Supports.{input_cone, reads_own_at}
 use Rattle.cg_stage_groups.specs.Support.{IsSupport}
 use Rattle.cg_stage_groups.specs.declared.support.Support.{Support}
 use Rattle.cg_stage_groups.specs.inner.Edge.{IsEdge}

@@ -1,3 +1,5 @@
 pub mod Edge
+pub mod Front
+pub mod Met
 pub mod Reaching
 pub mod Grouping

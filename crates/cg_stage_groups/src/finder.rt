@@ -1,13 +1,15 @@
 //! What finds cones and supports, one after another.
 
-ghost use Rattle.std.specs.Prelude.{◌≡◌, ◌<◌, ℕ, [], length, slice_get, IfOk};
+ghost use Rattle.std.specs.Prelude.{◌≡◌, ◌<◌, ℕ, [], true, length, slice_get, IfOk};
 ghost use Rattle.cg_machine.specs.Machine.{walk_of};
 ghost use Rattle.cg_net.specs.NetSets.{is_in};
 ghost use Rattle.cg_netlist_cone.specs.Cone.{cone_of};
-ghost use Rattle.cg_stage_groups.specs.Support.{IsSupport};
+ghost use Rattle.cg_stage_groups.specs.Support.{IsSupport, StandsOnMore, stands_on_free};
 ghost use Rattle.cg_stage_groups.specs.inner.Reaching.{AreOwn};
 
 use crate::cone::cone;
+use crate::early::{Met, meets_free, meets_more};
+use crate::front::Front;
 use crate::support::{Support, support_of};
 use cg_machine::machine::Machine;
 use cg_net::id::{NetId, RegId};
@@ -21,8 +23,9 @@ use std::alloc::{AllocError, Global};
 #[derive(Drop)]
 pub struct SupportFinder {
     alloc: Global,
-    found: NetSet,
-    ghost clear: { found ≡ [] },
+    front: Front,
+    met: Met,
+    ghost clear: { front.found ≡ [] },
 }
 
 impl SupportFinder {
@@ -30,7 +33,8 @@ impl SupportFinder {
     pub fn new(alloc: Global) -> SupportFinder {
         SupportFinder {
             alloc,
-            found: NetSet::new(alloc),
+            front: Front::new(alloc),
+            met: Met::new(alloc),
         }
     }
 
@@ -41,8 +45,8 @@ impl SupportFinder {
         ensures cone { IfOk result (λ nets. (y : ℕ) → is_in nets.items y ≡ is_in (cone_of (walk_of machine.now) roots.now) y) }
         ensures own { IfOk result (λ nets. AreOwn machine.now nets.items) }
     {
-        let nets = cone_nets(self.alloc, machine, roots, &mut self.found);
-        self.found.clear();
+        let nets = cone_nets(self.alloc, machine, roots, &mut self.front.found);
+        self.front.clear();
         nets
     }
 
@@ -51,9 +55,36 @@ impl SupportFinder {
         requires { reg < machine.now.own_registers }
         ensures { IfOk result (IsSupport machine.now reg) }
     {
-        let support = support_of(self.alloc, machine, reg, &mut self.found);
-        self.found.clear();
+        let support = support_of(self.alloc, machine, reg, &mut self.front.found);
+        self.front.clear();
         support
+    }
+
+    /// Whether it is soon seen that a data input, or another register without an enable, is in the support of a register of a
+    /// machine's netlist: the walk back ends at the first.
+    pub fn shows_free(&mut self, machine: &Machine, reg: RegId) -> Result<bool, AllocError>
+        requires { reg < machine.now.own_registers }
+        ensures { IfOk result (λ free. free ≡ true → stands_on_free machine.now reg ≡ true) }
+    {
+        let free = meets_free(machine, reg, &mut self.front);
+        self.front.clear();
+        free
+    }
+
+    /// Whether it is soon seen that a register of a machine's netlist and the data inputs and registers that its inputs stand on
+    /// are more than `most`: the walk back ends at the first one more.
+    pub fn shows_more(
+        &mut self,
+        machine: &Machine,
+        reg: RegId,
+        most: u32,
+    ) -> Result<bool, AllocError>
+        requires { reg < machine.now.own_registers }
+        ensures { IfOk result (λ more. more ≡ true → StandsOnMore machine.now reg most) }
+    {
+        let more = meets_more(machine, reg, most, &mut self.front, &mut self.met);
+        self.front.clear();
+        more
     }
 }
 

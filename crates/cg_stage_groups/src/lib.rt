@@ -11,6 +11,8 @@
 //! - `cone`: the nets from which logic cells lead to some nets.
 //! - `edge`: what drives the nets of a cone from outside.
 //! - `support`: the support of a register.
+//! - `front`: a walk back that may end before it has found a whole cone.
+//! - `early`: what such a walk shows of the support of a register.
 //! - `finder`: what finds cones and supports, one after another.
 //! - `key`: keys of registers.
 //! - `leaving`: registers that a round leaves out.
@@ -18,8 +20,10 @@
 #![tactic(auto)]
 
 mod cone;
+mod early;
 mod edge;
 pub mod finder;
+mod front;
 pub mod group;
 pub mod key;
 pub mod leaving;

@@ -14,7 +14,7 @@ use Rattle.cg_claim.specs.Build.{nodes_of}
 use Rattle.cg_claim.specs.LeafBits.{is_never}
 use Rattle.cg_claim.specs.Question.{hold_question, idle_question}
 use Rattle.cg_stage_list_laws.specs.HoldList.{chosen, chosen_regs, hold_stage, hold_width, is_large, looked_at, serves, unless_empty, up_to}
-use Rattle.cg_stage_list_laws.specs.Literals.{IdleData}
+use Rattle.cg_stage_list_laws.specs.Literals.{ZeroCounts}
 use Rattle.cg_stage_list_laws.specs.Supports.{input_cone}
 use Rattle.cg_net.specs.NetSets.{is_in}
 use Rattle.cg_unroll.specs.declared.claim.ClaimFault.{ClaimFault}
@@ -64,6 +64,11 @@ trial_of m width r l =
     else if is_large m (hold_question l r) then Err (LimitFault ClaimNodes)
     else Ok (if serves m r l then Serves else Fails)
 
+-- whether a literal serves of which this comes
+abbrev pub is_good : Trial → Bool
+is_good Serves = true
+is_good _ = false
+
 -- what comes of a literal whose hold claim is refused so
 abbrev pub refused_trial : ClaimFault → Result Trial AddFault
 refused_trial (WideFault n) = Ok TooWide
@@ -78,16 +83,16 @@ choice_by m width r literals =
     else Ok (Takes (find (serves m r) literals))
 
 -- whether a hold claim that is looked at for a register passes the limit
-abbrev pub passes_at : MachineData → Option IdleData → ℕ → ℕ → Bool
-passes_at m idle width r = list_any (λ l. is_large m (hold_question l r)) (looked_at m idle width r)
+abbrev pub passes_at : MachineData → Option ZeroCounts → ℕ → ℕ → Bool
+passes_at m counts width r = list_any (λ l. is_large m (hold_question l r)) (looked_at m counts width r)
 
 -- those of the first n registers that have no enable
 abbrev pub free_to : MachineData → ℕ → List ℕ
 free_to m n = filter (λ r. is_none (enable_of m r)) (range_with_len 0 n)
 
 -- their choices
-abbrev pub choices_to : MachineData → Option IdleData → ℕ → ℕ → List (ℕ × Option Literal)
-choices_to m idle width n = map (λ r. (r, chosen m idle width r)) (free_to m n)
+abbrev pub choices_to : MachineData → Option ZeroCounts → ℕ → ℕ → List (ℕ × Option Literal)
+choices_to m counts width n = map (λ r. (r, chosen m counts width r)) (free_to m n)
 
 -- the list at a place, and none behind the last
 abbrev pub list_at : List (List ℕ) → ℕ → List ℕ
@@ -95,12 +100,12 @@ list_at lists k = option_map_or (λ l. l) (slice_get lists k) []
 
 -- there is a list for each literal, with those of the first n registers that chose it; of how many of them the hold claims
 -- are too wide; and none that is looked at passes the limit
-pub record AreChosen (m : MachineData) (idle : Option IdleData) (width n : ℕ) (lists : List (List ℕ)) (wide : ℕ) : Type 0 where
+pub record AreChosen (m : MachineData) (counts : Option ZeroCounts) (width n : ℕ) (lists : List (List ℕ)) (wide : ℕ) : Type 0 where
   pub count : length lists ≡ 2 * length m.circuit.names
   pub each : (l : Literal) → l.0 < length m.circuit.names →
-      list_at lists (literal_place l) ≡ chosen_regs (choices_to m idle width n) l
+      list_at lists (literal_place l) ≡ chosen_regs (choices_to m counts width n) l
   pub wide_is : wide ≡ count_by (λ r. nat_lt width (hold_width m r)) (free_to m n)
-  pub within : list_any (passes_at m idle width) (free_to m n) ≡ false
+  pub within : list_any (passes_at m counts width) (free_to m n) ≡ false
 
 -- the place of a literal that is taken is there
 abbrev pub FitsChoice : ℕ → Choice → Type 0

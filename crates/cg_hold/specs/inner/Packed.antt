@@ -1,6 +1,6 @@
 -- Literals as numbers.
 use Rattle.std.specs.Prelude.{ℕ, ◌+◌, ◌*◌, ◌-◌, ◌/◌, ◌%◌, nat_eq, if◌then◌else◌, Some}
-use Rattle.cg_stage_list_laws.specs.Literals.{IdleData, idle_count}
+use Rattle.cg_stage_list_laws.specs.Literals.{ZeroCounts, zero_count}
 use Rattle.cg_machine.specs.Claims.{Literal}
 
 -- the place of a literal: net by net, plain before inverted
@@ -9,8 +9,8 @@ literal_place l = 2 * l.0 + (if l.1 then 1 else 0)
 
 -- the number of a literal: its rank, which is less where it is 0 on more rows, before its place; 2097152 is twice the nets
 -- that a netlist may have, more than the place of any literal
-abbrev pub packed : IdleData → Literal → ℕ
-packed idle l = (idle.rows - idle_count (Some idle) l) * 2097152 + literal_place l
+abbrev pub packed : ZeroCounts → Literal → ℕ
+packed counts l = (counts.rows - zero_count (Some counts) l) * 2097152 + literal_place l
 
 -- the literal of a number
 abbrev pub unpacked : ℕ → Literal

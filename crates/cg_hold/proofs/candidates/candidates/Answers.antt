@@ -11,7 +11,7 @@ returns g c =
     let m = c.args.machine.now in
     let lists = c.in_ok-chosen.chosen.lists.items in
     record {
-      answer = answered m (option_copied c.args.idle) c.args.width lists c.in_ok-chosen.chosen.wide c.in_ok-stages.stages c.in_ok-chosen.ensures.chosen
+      answer = answered m (option_copied c.args.counts) c.args.width lists c.in_ok-chosen.chosen.wide c.in_ok-stages.stages c.in_ok-chosen.ensures.chosen
           (c.in_ok-stages.ensures
           ∙ (ap (λ (ls : List (List ℕ)). filter_map (stage_at ls) (both_literals (range_with_len 0 c.nets.result))) c.deref.ensures.value
           ∙ ap (λ n. filter_map (stage_at lists) (both_literals (range_with_len 0 n))) c.nets.ensures));

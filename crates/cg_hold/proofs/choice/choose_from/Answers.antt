@@ -1,57 +1,45 @@
-use Rattle.std.proofs.Common.{◌≡◌, ◌+◌, Some, Result, refl, slice_get, sym, ◌∙◌, ap, subst}
+use Rattle.std.proofs.Common.{◌≡◌, Some, refl, slice_get, slice_index_or, sym, ◌∙◌, ap}
 use Rattle.std.proofs.lemmas.Option.{slice_get_read}
-use Rattle.cg_limit.specs.Answers.{OrNoMemory}
-use Rattle.cg_netlist.specs.declared.fault.AddFault.{AddFault}
-use Rattle.cg_netlist.specs.declared.fault.AddFault.TheVariants.{NoMemory}
-use Rattle.cg_hold.specs.declared.choice.Choice.{Choice}
-use Rattle.cg_hold.specs.inner.Choosing.{choice_by}
-use Rattle.cg_hold.proofs.Moved.{AreOf, first_fails, first_serves, none_serves, rest_is, rest_of}
+use Rattle.cg_machine.specs.Claims.{Literal}
+use Rattle.cg_hold.proofs.Moved.{first_fails, first_serves, none_serves}
 use Rattle.cg_hold.proofs.choice.choose_from.Goals as goal
 
-pub returns-then-place-literals : goal.returns-then-place-literals
-returns-then-place-literals c =
-    none_serves c.args.search.now.machine.now c.args.search.now.width c.args.reg c.requires.room c.args.literals.now c.args.place c.if-place-literals.true c.requires.nets c.requires.moved
+pub returns-then-place-look : goal.returns-then-place-look
+returns-then-place-look c =
+    none_serves c.args.look.now.search.now.machine.now c.args.look.now.search.now.width c.args.look.now.reg c.requires.room c.args.look.now.literals.now c.args.place c.if-place-look.true c.requires.look.literals_of c.requires.moved
 
 pub serves-requires-clause-net : goal.serves-requires-clause-net
 serves-requires-clause-net c =
-    let literals = c.args.literals.now in
+    let literals = c.args.look.now.literals.now in
     let place = c.args.place in
-    let l = c.index-literals-place.result in
-    (c.requires.nets place l (slice_get_read literals _ place l refl c.if-place-literals.false c.index-literals-place.is)).1
+    let l = c.index-look-place.result in
+    (c.requires.look.literals_of place (slice_index_or literals place l) (slice_get_read literals _ place l refl c.if-place-look.false c.index-look-place.is ∙ ap (λ (z : Literal). Some z) c.index-look-place.is)).1
 
 pub serves-requires-clause-claim : goal.serves-requires-clause-claim
 serves-requires-clause-claim c =
-    let literals = c.args.literals.now in
+    let literals = c.args.look.now.literals.now in
     let place = c.args.place in
-    let l = c.index-literals-place.result in
-    c.requires.claim l (slice_get_read literals _ place l refl c.if-place-literals.false c.index-literals-place.is)
+    let l = c.index-look-place.result in
+    c.requires.claim (slice_index_or literals place l) (slice_get_read literals _ place l refl c.if-place-look.false c.index-look-place.is ∙ ap (λ (z : Literal). Some z) c.index-look-place.is)
 
 pub returns-then-good : goal.returns-then-good
 returns-then-good c =
-    let m = c.args.search.now.machine.now in
-    let r = c.args.reg in
-    let literals = c.args.literals.now in
+    let m = c.args.look.now.search.now.machine.now in
+    let r = c.args.look.now.reg in
+    let literals = c.args.look.now.literals.now in
     let place = c.args.place in
-    let l = c.index-literals-place.result in
-    let at : slice_get literals place ≡ Some l = slice_get_read literals _ place l refl c.if-place-literals.false c.index-literals-place.is in
-    first_serves m c.args.search.now.width r c.requires.room literals place l at c.requires.nets c.requires.moved (sym c.in_ok-good.ensures ∙ c.if-good.true)
+    let l = c.index-look-place.result in
+    let k = slice_index_or literals place l in
+    let at : slice_get literals place ≡ Some k = slice_get_read literals _ place l refl c.if-place-look.false c.index-look-place.is ∙ ap (λ (z : Literal). Some z) c.index-look-place.is in
+    first_serves m c.args.look.now.search.now.width r c.requires.room literals place k at c.requires.look.literals_of c.requires.moved (sym c.in_ok-good.ensures ∙ c.if-good.true)
 
-pub first_that_serves-requires-clause-nets : goal.first_that_serves-requires-clause-nets
-first_that_serves-requires-clause-nets c =
-    let m = c.args.search.now.machine.now in
-    let r = c.args.reg in
-    let literals = c.args.literals.now in
-    let next = c.args.place + 1 in
-    subst (AreOf m r) (sym (rest_is literals next)) (rest_of m r next literals c.requires.nets)
-
-pub returns : goal.returns
-returns c =
-    let m = c.args.search.now.machine.now in
-    let w = c.args.search.now.width in
-    let r = c.args.reg in
-    let literals = c.args.literals.now in
+pub choose_behind-requires-clause-left : goal.choose_behind-requires-clause-left
+choose_behind-requires-clause-left c =
+    let m = c.args.look.now.search.now.machine.now in
+    let r = c.args.look.now.reg in
+    let literals = c.args.look.now.literals.now in
     let place = c.args.place in
-    let l = c.index-literals-place.result in
-    let at : slice_get literals place ≡ Some l = slice_get_read literals _ place l refl c.if-place-literals.false c.index-literals-place.is in
-    let left = first_fails m w r c.requires.room literals place l at c.requires.nets c.requires.moved (sym c.in_ok-good.ensures ∙ c.if-good.false) in
-    subst (λ (z : Result Choice AddFault). OrNoMemory NoMemory (λ (t : Choice). t) c.first_that_serves.result z) (ap (choice_by m w r) (rest_is literals (place + 1)) ∙ sym left) c.first_that_serves.ensures
+    let l = c.index-look-place.result in
+    let k = slice_index_or literals place l in
+    let at : slice_get literals place ≡ Some k = slice_get_read literals _ place l refl c.if-place-look.false c.index-look-place.is ∙ ap (λ (z : Literal). Some z) c.index-look-place.is in
+    sym (first_fails m c.args.look.now.search.now.width r c.requires.room literals place k at c.requires.look.literals_of c.requires.moved (sym c.in_ok-good.ensures ∙ c.if-good.false))

@@ -4,4 +4,4 @@ use Rattle.cg_hold.specs.inner.Packed.{packed}
 use Rattle.cg_hold.proofs.literals.packed_all.Given as goal
 
 abbrev pub invariant-loop-net : goal.invariant-loop-net
-invariant-loop-net l = l.numbers.items ≡ map (packed l.idle) (both_literals (take l.net-index l.nets))
+invariant-loop-net l = l.numbers.items ≡ map (packed l.counts) (both_literals (take l.net-index l.nets))

@@ -1,8 +1,11 @@
 use Rattle.std.proofs.Common.{◌≡◌, ◌<◌, ℕ, true, List, length, sym, ◌∙◌, ap, subst, arith}
 use Rattle.std.specs.List.{filter_map}
 use Rattle.cg_net.specs.NetSets.{is_in}
-use Rattle.cg_stability.proofs.Keyed.{enables_below, key_there, other_enable}
+use Rattle.cg_stability.proofs.Keyed.{enables_below, key_there, none_keyed, other_enable}
 use Rattle.cg_stability.proofs.key.key_of.Goals as goal
+
+pub returns-then-free : goal.returns-then-free
+returns-then-free c = none_keyed c.args.machine.now c.args.reg (c.in_ok-free.ensures c.if-free.true)
 
 pub returns : goal.returns
 returns c =

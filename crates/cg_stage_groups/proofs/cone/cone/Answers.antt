@@ -1,4 +1,4 @@
-use Rattle.std.proofs.Common.{◌≡◌, [], ◌≤◌, length, sym, ◌∙◌, ap, subst, arith}
+use Rattle.std.proofs.Common.{◌≡◌, [], sym, ◌∙◌, ap, subst, arith}
 use Rattle.cg_net.specs.NetSets.{with_nets}
 use Rattle.cg_stage_groups.specs.inner.Reaching.{IsReached}
 use Rattle.cg_stage_groups.proofs.Reached.{reached_all, reached_first}

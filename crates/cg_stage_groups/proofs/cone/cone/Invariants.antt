@@ -1,4 +1,4 @@
-use Rattle.std.proofs.Common.{◌-◌, ◌^◌, length}
+use Rattle.std.proofs.Common.{◌-◌, ◌^◌}
 use Rattle.cg_stage_groups.specs.inner.Reaching.{IsReached}
 use Rattle.cg_stage_groups.proofs.cone.cone.Given as goal
 

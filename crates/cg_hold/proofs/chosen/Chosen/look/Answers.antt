@@ -13,7 +13,7 @@ enable-requires c = let own = c.netlist-netlist.ensures.machine.own_registers in
 pub returns-then-is_some-clause-chosen : goal.returns-then-is_some-clause-chosen
 returns-then-is_some-clause-chosen c =
     let m = c.args.search.now.machine.now in
-    chosen_same m (option_copied c.args.search.now.idle) c.args.search.now.width c.args.reg c.args.self.now.lists.items c.args.self.now.wide
+    chosen_same m (option_copied c.args.search.now.counts) c.args.search.now.width c.args.reg c.args.self.now.lists.items c.args.self.now.wide
     (none_of_some (enable_of m c.args.reg) (ap is_some (sym c.enable.ensures) ∙ (sym c.is_some.ensures ∙ c.if-is_some.true))) c.requires.chosen
 
 pub choose-requires-clause-free : goal.choose-requires-clause-free
@@ -24,7 +24,7 @@ pub note-requires-clause-wide : goal.note-requires-clause-wide
 note-requires-clause-wide c =
     let m = c.args.search.now.machine.now in
     let good = c.netlist-netlist.ensures.machine in
-    let small = wide_small m (option_copied c.args.search.now.idle) c.args.search.now.width c.args.reg c.args.self.now.lists.items c.args.self.now.wide c.requires.chosen in
+    let small = wide_small m (option_copied c.args.search.now.counts) c.args.search.now.width c.args.reg c.args.self.now.lists.items c.args.self.now.wide c.requires.chosen in
     let own = good.own_registers in
     let few = good.few_registers in
     omega (arith, small, own, few, c.requires.register)
@@ -32,16 +32,16 @@ note-requires-clause-wide c =
 pub note-requires-clause-place : goal.note-requires-clause-place
 note-requires-clause-place c =
     let m = c.args.search.now.machine.now in
-    let idle = option_copied c.args.search.now.idle in
-    choice_fits m c.args.reg c.args.search.now.width (literals_of m idle c.args.reg) c.in-Ok.choice (length c.args.self.now.lists.items) (literals_all m c.args.reg idle) c.requires.chosen.count c.in-Ok.ensures
+    let counts = option_copied c.args.search.now.counts in
+    choice_fits m c.args.reg c.args.search.now.width (literals_of m counts c.args.reg) c.in-Ok.choice (length c.args.self.now.lists.items) (literals_all m c.args.reg counts) c.requires.chosen.count c.in-Ok.ensures
 
 pub returns-in-Ok-clause-chosen : goal.returns-in-Ok-clause-chosen
 returns-in-Ok-clause-chosen c =
     let m = c.args.search.now.machine.now in
-    let idle = option_copied c.args.search.now.idle in
+    let counts = option_copied c.args.search.now.counts in
     let r = c.args.reg in
     let free : is_some (enable_of m r) ≡ false = ap is_some (sym c.enable.ensures) ∙ (sym c.is_some.ensures ∙ c.if-is_some.false) in
-    let fits = choice_fits m r c.args.search.now.width (literals_of m idle r) c.in-Ok.choice (length c.args.self.now.lists.items) (literals_all m r idle) c.requires.chosen.count c.in-Ok.ensures in
+    let fits = choice_fits m r c.args.search.now.width (literals_of m counts r) c.in-Ok.choice (length c.args.self.now.lists.items) (literals_all m r counts) c.requires.chosen.count c.in-Ok.ensures in
     on_ok_both c.note.result
-    (λ lists wide. chosen_next m idle c.args.search.now.width r c.args.self.now.lists.items c.args.self.now.wide c.in-Ok.choice c.note.new.self.lists.items c.note.new.self.wide (none_of_none (enable_of m r) free) c.requires.chosen c.in-Ok.ensures fits lists wide)
+    (λ lists wide. chosen_next m counts c.args.search.now.width r c.args.self.now.lists.items c.args.self.now.wide c.in-Ok.choice c.note.new.self.lists.items c.note.new.self.wide (none_of_none (enable_of m r) free) c.requires.chosen c.in-Ok.ensures fits lists wide)
     c.note.ensures.lists c.note.ensures.wide

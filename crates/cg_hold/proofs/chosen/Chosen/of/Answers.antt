@@ -10,7 +10,7 @@ pub look_at_all-looked-requires-clause-chosen : goal.look_at_all-looked-requires
 look_at_all-looked-requires-clause-chosen g c =
     let m = c.args.machine.now in
     let none : ℕ → List (List ℕ) = λ n. replicate (2 * n) [] in
-    chosen_none m (option_copied c.args.idle) c.args.width c.in_ok-chosen.chosen.lists.items c.in_ok-chosen.chosen.wide (c.in_ok-chosen.ensures.lists ∙ ap none c.nets.ensures) c.in_ok-chosen.ensures.wide
+    chosen_none m (option_copied c.args.counts) c.args.width c.in_ok-chosen.chosen.lists.items c.in_ok-chosen.chosen.wide (c.in_ok-chosen.ensures.lists ∙ ap none c.nets.ensures) c.in_ok-chosen.ensures.wide
 
 pub returns-in-Ok-looked-clause-chosen : goal.returns-in-Ok-looked-clause-chosen
 returns-in-Ok-looked-clause-chosen g c = c.in-Ok-looked.ensures.chosen

@@ -254,55 +254,61 @@ fn are_pins_of_flop(pins: &[Pin]) -> bool
     clocks_among(pins) == 1 && 1 <= states_among(pins)
 }
 
+/// What a register's cell is made of, where all of it was read.
+#[derive(Clone, Copy)]
+struct FlopRead<'a, 't> {
+    ports: &'a [Port<'t>],
+
+    /// How many of the ports are inputs, and which input is the clock.
+    numbering: Numbering,
+
+    /// Of each output whether it gives the inverse of the state.
+    inverses: &'a [bool],
+
+    next: &'a Expr,
+}
+
 /// The register of these pins, with its function.
 fn make_flop(
     name: Name,
-    ports: &[Port<'_>],
-    numbering: Numbering,
-    inverses: &[bool],
+    read: &FlopRead<'_, '_>,
     pins: Vec<Pin>,
-    next: &Expr,
     function: Expr,
 ) -> Result<CellType, AllocError>
     requires named { IsTrue (is_name name) }
-    requires ports { ArePorts ports.now }
-    requires pins { pins.items ≡ flop_pins numbering.clock 0 inverses.now ports.now }
+    requires ports { ArePorts read.now.ports.now }
+    requires pins { pins.items ≡ flop_pins read.now.numbering.clock 0 read.now.inverses.now read.now.ports.now }
     requires fit { are_flop_pins pins.items ≡ true }
-    requires inputs { numbering.inputs ≡ length (input_names ports.now) }
-    requires clock { numbering.clock < numbering.inputs }
-    requires within { IsTrue (is_within (numbering.inputs + 2) (term_of next.now)) }
-    requires function { term_of function ≡ restated numbering.inputs numbering.clock (term_of next.now) }
+    requires inputs { read.now.numbering.inputs ≡ length (input_names read.now.ports.now) }
+    requires clock { read.now.numbering.clock < read.now.numbering.inputs }
+    requires within { IsTrue (is_within (read.now.numbering.inputs + 2) (term_of read.now.next.now)) }
+    requires function { term_of function ≡ restated read.now.numbering.inputs read.now.numbering.clock (term_of read.now.next.now) }
     ensures { IfOk result (λ cell. cell ≡ record { name = name; kind = CellKind.Flop; pins = pins.items; function = Some (term_of function) }) }
 {
     CellType::new(name, CellKind::Flop, pins, Some(function))
 }
 
 /// The register with a next state, a clock and outputs that were all read, or an unusable cell.
-fn flop_with(
-    alloc: Global,
-    name: Name,
-    ports: &[Port<'_>],
-    numbering: Numbering,
-    inverses: &[bool],
-    next: &Expr,
-) -> Result<CellType, AllocError>
+fn flop_with(alloc: Global, name: Name, read: &FlopRead<'_, '_>) -> Result<CellType, AllocError>
     requires named { IsTrue (is_name name) }
-    requires ports { ArePorts ports.now }
-    requires inputs { numbering.inputs ≡ length (input_names ports.now) }
-    requires few { numbering.inputs ≤ 16 }
-    requires clock { numbering.clock < numbering.inputs }
-    requires within { IsTrue (is_within (numbering.inputs + 2) (term_of next.now)) }
-    ensures { IfOk result (λ cell. cell ≡ flop_with_parts name ports.now (term_of next.now) numbering.clock inverses.now) }
+    requires ports { ArePorts read.now.ports.now }
+    requires inputs { read.now.numbering.inputs ≡ length (input_names read.now.ports.now) }
+    requires few { read.now.numbering.inputs ≤ 16 }
+    requires clock { read.now.numbering.clock < read.now.numbering.inputs }
+    requires within { IsTrue (is_within (read.now.numbering.inputs + 2) (term_of read.now.next.now)) }
+    ensures { IfOk result
+        (λ cell. cell ≡ flop_with_parts name read.now.ports.now (term_of read.now.next.now) read.now.numbering.clock read.now.inverses.now) }
 {
-    if next.names(numbering.clock) {
+    let numbering = read.numbering;
+    if read.next.names(numbering.clock) {
         return unusable_cell(alloc, name);
     }
-    let pins = flop_pins_of(alloc, ports, numbering.clock as usize, inverses)?;
+    let pins = flop_pins_of(alloc, read.ports, numbering.clock as usize, read.inverses)?;
     if !are_pins_of_flop(&pins) {
         return unusable_cell(alloc, name);
     }
-    let function = restate(alloc, next, numbering)?;
-    make_flop(name, ports, numbering, inverses, pins, next, function)
+    let function = restate(alloc, read.next, numbering)?;
+    make_flop(name, read, pins, function)
 }
 
 /// The register of these parts where all of them are there, or an unusable cell.
@@ -338,11 +344,16 @@ fn flop_of_parts(
     let Some(clock) = clocked.only() else {
         return unusable_cell(alloc, name);
     };
-    let numbering = Numbering {
-        inputs: parts.inputs,
-        clock,
+    let read = FlopRead {
+        ports,
+        numbering: Numbering {
+            inputs: parts.inputs,
+            clock,
+        },
+        inverses: known,
+        next,
     };
-    flop_with(alloc, name, ports, numbering, known, next)
+    flop_with(alloc, name, &read)
 }
 
 /// Of each output whether it gives the inverse of the state, where each gives the state or the inverse.

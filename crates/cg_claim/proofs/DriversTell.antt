@@ -5,7 +5,7 @@ use Rattle.std.specs.List.{IsDistinct, flat_map}
 use Rattle.std.specs.Option.{option_to_list}
 use Rattle.std.proofs.lemmas.Bool.{both_ways, eqb-true, eq-eqb, false_from_ne_true}
 use Rattle.std.proofs.lemmas.Option.{none-some, same_Some}
-use Rattle.cg_netlist.specs.Circuit.{Circuit, GatingCell, LogicCell, RegisterCell, cell_nets, data_inputs, gate_nets}
+use Rattle.cg_netlist.specs.Circuit.{Circuit, GatingCell, LogicCell, RegisterCell, cell_nets, data_inputs, gater_outputs}
 use Rattle.cg_net.specs.NetSets.{is_in}
 use Rattle.cg_netlist.specs.Circuit.{register_nets, shown_nets}
 use Rattle.cg_netlist.specs.Drivers.{IsDriver}
@@ -71,8 +71,8 @@ module _ (c : Circuit) (driven : IsDriven c) {T : Type 0} (inverse : T → T) (n
           let r = shown_in c.registers y p is in
           absurd (both_ways (is_in (register_nets c) y) out (in_flat shown_nets c.registers p.0 r.0 y r.1 r.2))
 
-  front_out : (y : ℕ) → is_in (data_inputs c ++ option_to_list c.clock ++ gate_nets c) y ≡ true → is_in (register_nets c) y ≡ false
-  front_out y among = distinct_apart (data_inputs c ++ option_to_list c.clock ++ gate_nets c) (register_nets c) (distinct_given c driven) y among
+  front_out : (y : ℕ) → is_in (data_inputs c ++ option_to_list c.clock ++ gater_outputs c) y ≡ true → is_in (register_nets c) y ≡ false
+  front_out y among = distinct_apart (data_inputs c ++ option_to_list c.clock ++ gater_outputs c) (register_nets c) (distinct_given c driven) y among
 
   neither : (y : ℕ) → is_in (data_inputs c) y ≡ false → is_in (register_nets c) y ≡ false → given inverse none c input state y ≡ none
   neither y no_input no_register = ap (λ b. if b then input y else from_state inverse none state (shown_by c.registers y)) no_input ∙ ap (from_state inverse none state) (not_shown y no_register)
@@ -83,24 +83,24 @@ module _ (c : Circuit) (driven : IsDriven c) {T : Type 0} (inverse : T → T) (n
   driver_tells y Clock is =
       let sources = data_inputs c ++ option_to_list c.clock in
       let clk : is_in (option_to_list c.clock) y ≡ true = from_option c.clock y is in
-      let two : IsDistinct nat_eq sources = distinct_left sources (gate_nets c) (distinct_left (sources ++ gate_nets c) (register_nets c) (distinct_given c driven)) in
+      let two : IsDistinct nat_eq sources = distinct_left sources (gater_outputs c) (distinct_left (sources ++ gater_outputs c) (register_nets c) (distinct_given c driven)) in
       neither y (false_from_ne_true (is_in (data_inputs c) y) (λ among. both_ways (is_in (option_to_list c.clock) y) (distinct_apart (data_inputs c) (option_to_list c.clock) two y among) clk))
-      (front_out y (is_in_left sources (gate_nets c) y (is_in_right (data_inputs c) (option_to_list c.clock) y clk)))
+      (front_out y (is_in_left sources (gater_outputs c) y (is_in_right (data_inputs c) (option_to_list c.clock) y clk)))
   driver_tells y (Cell k) is =
       let cell : is_in (cell_nets c) y ≡ true = member_at (cell_nets c) k y (at_map (λ (cell : LogicCell ℕ). cell.output) c.cells k is.0 is.1 ∙ ap Some is.2) in
       neither y (false_from_ne_true (is_in (data_inputs c) y) (λ among. both_ways (is_in (cell_nets c) y) (given_no_cell c driven y (data_given c y among)) cell))
       (false_from_ne_true (is_in (register_nets c) y) (λ among. both_ways (is_in (cell_nets c) y) (given_no_cell c driven y (register_given c y among)) cell))
   driver_tells y (Gater k) is =
-      let gate : is_in (gate_nets c) y ≡ true = member_at (gate_nets c) k y (at_map (λ (gater : GatingCell ℕ). gater.output) c.gaters k is.0 is.1 ∙ ap Some is.2) in
+      let gate : is_in (gater_outputs c) y ≡ true = member_at (gater_outputs c) k y (at_map (λ (gater : GatingCell ℕ). gater.output) c.gaters k is.0 is.1 ∙ ap Some is.2) in
       let sources = data_inputs c ++ option_to_list c.clock in
-      let three : IsDistinct nat_eq (sources ++ gate_nets c) = distinct_left (sources ++ gate_nets c) (register_nets c) (distinct_given c driven) in
-      neither y (false_from_ne_true (is_in (data_inputs c) y) (λ among. both_ways (is_in (gate_nets c) y) (distinct_apart sources (gate_nets c) three y (is_in_left (data_inputs c) (option_to_list c.clock) y among)) gate))
-      (front_out y (is_in_right sources (gate_nets c) y gate))
+      let three : IsDistinct nat_eq (sources ++ gater_outputs c) = distinct_left (sources ++ gater_outputs c) (register_nets c) (distinct_given c driven) in
+      neither y (false_from_ne_true (is_in (data_inputs c) y) (λ among. both_ways (is_in (gater_outputs c) y) (distinct_apart sources (gater_outputs c) three y (is_in_left (data_inputs c) (option_to_list c.clock) y among)) gate))
+      (front_out y (is_in_right sources (gater_outputs c) y gate))
   driver_tells y (Register r inverted) is =
       let here : is_in (shown_nets is.0) y ≡ true = member_at (shown_nets is.0) is.1 y (at_map (λ (o : ℕ × Bool). o.0) is.0.outputs is.1 (y, inverted) is.3) in
       let shown : is_in (register_nets c) y ≡ true = in_flat shown_nets c.registers r is.0 y is.2 here in
       let sources = data_inputs c ++ option_to_list c.clock in
       let no_input : is_in (data_inputs c) y ≡ false = false_from_ne_true (is_in (data_inputs c) y) (λ among.
-      both_ways (is_in (register_nets c) y) (front_out y (is_in_left sources (gate_nets c) y (is_in_left (data_inputs c) (option_to_list c.clock) y among))) shown) in
+      both_ways (is_in (register_nets c) y) (front_out y (is_in_left sources (gater_outputs c) y (is_in_left (data_inputs c) (option_to_list c.clock) y among))) shown) in
       ap (λ b. if b then input y else from_state inverse none state (shown_by c.registers y)) no_input
-      ∙ ap (from_state inverse none state) (shown_is c.registers r is.1 y is.0 inverted (distinct_right (sources ++ gate_nets c) (register_nets c) (distinct_given c driven)) is.2 is.3)
+      ∙ ap (from_state inverse none state) (shown_is c.registers r is.1 y is.0 inverted (distinct_right (sources ++ gater_outputs c) (register_nets c) (distinct_given c driven)) is.2 is.3)

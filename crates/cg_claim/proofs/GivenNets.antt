@@ -9,7 +9,7 @@ use Rattle.std.proofs.lemmas.Option.{slice_get-get_or, same_Some}
 use Rattle.cg_cell.specs.Domain.{Seen}
 use Rattle.cg_cell.specs.Term.{term_value}
 use Rattle.cg_cell.proofs.EvalCovers.{cover_value_is}
-use Rattle.cg_netlist.specs.Circuit.{Circuit, LogicCell, RegisterCell, cell_nets, data_inputs, gate_nets, given_nets}
+use Rattle.cg_netlist.specs.Circuit.{Circuit, LogicCell, RegisterCell, cell_nets, data_inputs, gater_outputs, given_nets}
 use Rattle.cg_net.specs.NetSets.{is_in}
 use Rattle.cg_netlist.specs.Circuit.{register_nets, shown_nets, used_nets}
 use Rattle.cg_netlist.specs.Moment.{Settles, bit, function_value, register_bits, shown_bits, values_at}
@@ -172,8 +172,8 @@ module _ (m : MachineData) (good : IsMachine m) (s x : List Bool) (state_long : 
       state_is : map (bit (values m s x)) (register_nets m.circuit) ≡ register_bits m.circuit.registers s
       state_is = sym (at_nets (register_nets m.circuit) (λ z among. given_below z (register_given m.circuit z among))) ∙ settles.shows_state
 
-      no_gate : is_in (gate_nets m.circuit) y ≡ true → ⊥
-      no_gate among = both_ways (is_in (gate_nets m.circuit) y) (ap (λ gs. is_in (map (λ gater. gater.output) gs) y) good.no_gaters) among
+      no_gate : is_in (gater_outputs m.circuit) y ≡ true → ⊥
+      no_gate among = both_ways (is_in (gater_outputs m.circuit) y) (ap (λ gs. is_in (map (λ gater. gater.output) gs) y) good.no_gaters) among
 
       other : is_in (data_inputs m.circuit) y ≡ false → shown_by m.circuit.registers y ≡ None → bit (values m s x) y ≡ false
       other no_input no_register = elim (below_or (length m.circuit.names) y) [

@@ -10,7 +10,7 @@ use Rattle.std.proofs.lemmas.List.{append_assoc}
 use Rattle.std.proofs.lemmas.List.Elements.{filter-append}
 use Rattle.std.proofs.lemmas.List.Folds.{list_any-append}
 use Rattle.std.proofs.lemmas.Option.{none-some, same_Some}
-use Rattle.cg_netlist.specs.Circuit.{data_inputs, gate_nets, register_nets}
+use Rattle.cg_netlist.specs.Circuit.{data_inputs, gater_outputs, register_nets}
 use Rattle.cg_net.specs.NetSets.{is_in}
 use Rattle.cg_netlist.specs.Moment.{values_at}
 use Rattle.cg_net.proofs.Members.{distinct_head, distinct_left, distinct_tail}
@@ -220,7 +220,7 @@ module _ (m : MachineData) (q : Question) where
   pub leaves_apart : IsMachine m → AreApart (leaves_of m q)
   leaves_apart good =
       let c = m.circuit in
-      let inputs : IsDistinct nat_eq (data_inputs c) = distinct_left (data_inputs c) (option_to_list c.clock) (distinct_left (data_inputs c ++ option_to_list c.clock) (gate_nets c) (distinct_left (data_inputs c ++ option_to_list c.clock ++ gate_nets c) (register_nets c) (distinct_given c good.well_formed.driven))) in
+      let inputs : IsDistinct nat_eq (data_inputs c) = distinct_left (data_inputs c) (option_to_list c.clock) (distinct_left (data_inputs c ++ option_to_list c.clock) (gater_outputs c) (distinct_left (data_inputs c ++ option_to_list c.clock ++ gater_outputs c) (register_nets c) (distinct_given c good.well_formed.driven))) in
       let all : SourcesDiffer (sources m) = sources_differ (data_inputs c) (registers_of m) inputs (distinct_range (length c.registers) 0) in
       let differ : (copy : Copy) → SourcesDiffer (at copy) = λ copy. differ_filter (is_reached m q copy) (sources m) all in
       let last : AreApart (leaves_at m q Changed) = copy_apart Changed (at Changed) (differ Changed) in

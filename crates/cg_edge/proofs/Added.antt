@@ -31,8 +31,8 @@ told_more places i p old marks below at more told =
       ],
     )
 
-pub told_all : (places : List ℕ) (i : ℕ) (marks : List Bool) → length places ≤ i → AreTold places i marks → (p : ℕ) → is_in places p ≡ true → slice_get marks p ≡ Some true
-told_all places i marks all told p among =
+pub all_are_marked : (places : List ℕ) (i : ℕ) (marks : List Bool) → length places ≤ i → AreTold places i marks → (p : ℕ) → is_in places p ≡ true → slice_get marks p ≡ Some true
+all_are_marked places i marks all told p among =
     let j = place_of_member places p among in
     told j.0 p (omega (arith, all, slice_get_within places j.0 p j.1)) j.1
 

@@ -5,11 +5,11 @@ use Rattle.std.specs.Option.{option_map_or, option_to_list}
 use Rattle.std.proofs.lemmas.Bool.{both_ways, cases_Bool}
 use Rattle.std.proofs.lemmas.List.{length-set}
 use Rattle.std.proofs.lemmas.Option.{get_or_from_slice_get, same_Some, unwrap_or-slice_get, slice_get_within}
-use Rattle.cg_netlist.specs.Circuit.{Circuit, GatingCell, clock_nets, gate_nets}
+use Rattle.cg_netlist.specs.Circuit.{Circuit, GatingCell, clock_nets, gater_outputs}
 use Rattle.cg_net.specs.NetSets.{is_in}
 use Rattle.cg_netlist.specs.Moment.{bit}
 use Rattle.cg_netlist.specs.WellFormed.{IsWellFormed}
-use Rattle.cg_netlist.proofs.Given.{clock_no_gate, distinct_gates, from_option}
+use Rattle.cg_netlist.proofs.Given.{clock_no_gater, distinct_gaters, from_option}
 use Rattle.cg_net.proofs.Members.{is_in_left, is_in_right, one_place}
 use Rattle.cg_net.proofs.TableLemmas.{same_or_not, slice_get-set_other, slice_get-set_same}
 use Rattle.cg_netlist.proofs.Values.{at_map}
@@ -51,7 +51,7 @@ module _ (c : Circuit) (good : IsWellFormed c) (chain : List ℕ) (chained : IsC
               | inl e ↦ absurd (differ (same_Some l k (sym there ∙ (ap (slice_get chain) e ∙ here))))
               | inr e ↦ omega (arith, e)
             ] in
-            let outputs : b.output ≢ a.output = λ e. differ (one_place (gate_nets c) l k a.output (distinct_gates c good.driven) (at_map (λ (g : GatingCell ℕ). g.output) c.gaters l b placed ∙ ap (λ x. Some x) e) (at_map (λ (g : GatingCell ℕ). g.output) c.gaters k a at)) in
+            let outputs : b.output ≢ a.output = λ e. differ (one_place (gater_outputs c) l k a.output (distinct_gaters c good.driven) (at_map (λ (g : GatingCell ℕ). g.output) c.gaters l b placed ∙ ap (λ x. Some x) e) (at_map (λ (g : GatingCell ℕ). g.output) c.gaters k a at)) in
             bit_other cur a.output b.output v outputs
             ∙ (driven j l b earlier there placed
             ∙ ap (λ p. slice_index_or latches l false && p) (sym (bit_other cur a.output b.clock v (chained.ordered j i l k b a (omega arith) there here placed at))))
@@ -59,12 +59,12 @@ module _ (c : Circuit) (good : IsWellFormed c) (chain : List ℕ) (chained : IsC
 
   -- all gating cells are driven, and the clock is no output of one
   pub clocks_shown : (clock : Bool) (old mid new : List Bool) → length old ≡ length c.names → mid ≡ option_map_or (λ net. slice_set old net clock) c.clock old
-      → SameBut (gate_nets c) mid new → AreDriven c chain latches new (length chain) → ShowClocks c clock latches new × SameBut (clock_nets c) old new
+      → SameBut (gater_outputs c) mid new → AreDriven c chain latches new (length chain) → ShowClocks c clock latches new × SameBut (clock_nets c) old new
   clocks_shown clock old mid new long is_mid same driven = (
     record {
       on_clock = λ net is.
-          same_bit new mid net (same.same net (clock_no_gate c good.driven net is))
-          ∙ (ap (λ m. bit m net) (set net is) ∙ bit_set old net clock (Rattle.cg_edge.proofs.Facts.clock_net_within c good (length old) long net (is_in_left (option_to_list c.clock) (gate_nets c) net (from_option c.clock net is))));
+          same_bit new mid net (same.same net (clock_no_gater c good.driven net is))
+          ∙ (ap (λ m. bit m net) (set net is) ∙ bit_set old net clock (Rattle.cg_edge.proofs.Facts.clock_net_within c good (length old) long net (is_in_left (option_to_list c.clock) (gater_outputs c) net (from_option c.clock net is))));
       on_gaters = λ k a at. let j = chained.placed k (slice_get_within c.gaters k a at) in driven j.0 k a (slice_get_within chain j.0 k j.1) j.1 at;
     },
     go c.clock refl,
@@ -77,9 +77,9 @@ module _ (c : Circuit) (good : IsWellFormed c) (chain : List ℕ) (chained : IsC
       none is = is_mid ∙ ap (λ o. option_map_or (λ net. slice_set old net clock) o old) is
 
       -- what is apart from the clock nets is apart from the gating cells' outputs
-      apart_gaters : (x : ℕ) → is_in (clock_nets c) x ≡ false → is_in (gate_nets c) x ≡ false
-      apart_gaters x apart = elim (cases_Bool (is_in (gate_nets c) x)) [
-        | inl among ↦ absurd (both_ways (is_in (clock_nets c) x) apart (is_in_right (option_to_list c.clock) (gate_nets c) x among))
+      apart_gaters : (x : ℕ) → is_in (clock_nets c) x ≡ false → is_in (gater_outputs c) x ≡ false
+      apart_gaters x apart = elim (cases_Bool (is_in (gater_outputs c) x)) [
+        | inl among ↦ absurd (both_ways (is_in (clock_nets c) x) apart (is_in_right (option_to_list c.clock) (gater_outputs c) x among))
         | inr out ↦ out
       ]
 
@@ -88,5 +88,5 @@ module _ (c : Circuit) (good : IsWellFormed c) (chain : List ℕ) (chained : IsC
       go (Some net) is = record {
         long = same.long ∙ (ap length (set net is) ∙ length-set old net clock);
         same = λ x apart. same.same x (apart_gaters x apart) ∙ (ap (λ m. slice_get m x) (set net is)
-            ∙ slice_get-set_other old net x clock (λ e. both_ways (is_in (clock_nets c) net) (ap (is_in (clock_nets c)) (sym e) ∙ apart) (is_in_left (option_to_list c.clock) (gate_nets c) net (from_option c.clock net is))));
+            ∙ slice_get-set_other old net x clock (λ e. both_ways (is_in (clock_nets c) net) (ap (is_in (clock_nets c)) (sym e) ∙ apart) (is_in_left (option_to_list c.clock) (gater_outputs c) net (from_option c.clock net is))));
       }

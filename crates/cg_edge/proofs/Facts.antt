@@ -4,11 +4,11 @@ use Rattle.std.specs.List.{All, IsDistinct}
 use Rattle.std.specs.Option.{option_to_list}
 use Rattle.std.proofs.lemmas.Option.{get_or_from_slice_get, slice_get-get_or, slice_get_within}
 use Rattle.cg_netlist.specs.Circuit.{Circuit, GatingCell, LogicCell, RegisterCell, asked_nets, cell_nets, clock_nets, data_inputs}
-use Rattle.cg_netlist.specs.Circuit.{gate_nets, given_nets, register_nets, shown_nets, used_nets}
+use Rattle.cg_netlist.specs.Circuit.{gater_outputs, given_nets, register_nets, shown_nets, used_nets}
 use Rattle.cg_net.specs.NetSets.{is_in}
 use Rattle.cg_netlist.specs.WellFormed.{IsOver, IsWellFormed, RegisterFits}
 use Rattle.cg_netlist.proofs.Clocks.{pin_clocked}
-use Rattle.cg_netlist.proofs.Given.{clock_given, data_given, distinct_given, driver_within, gate_given, given_driver, given_no_cell}
+use Rattle.cg_netlist.proofs.Given.{clock_given, data_given, distinct_given, driver_within, gater_given, given_driver, given_no_cell}
 use Rattle.cg_netlist.proofs.Given.{in_option, register_given}
 use Rattle.cg_net.proofs.Members.{All-from_members, All-member, distinct_left, distinct_right, is_in_cases, is_in_right}
 use Rattle.cg_net.proofs.Members.{member_at}
@@ -28,9 +28,9 @@ module _ (c : Circuit) (good : IsWellFormed c) where
   given_net n is x among = let below = driver_within c good.driven x (given_driver c x among) in omega (arith, below, is)
 
   pub clock_net_within : (n : ℕ) → n ≡ length c.names → (x : ℕ) → is_in (clock_nets c) x ≡ true → x < n
-  clock_net_within n is x among = elim (is_in_cases (option_to_list c.clock) (gate_nets c) x among) [
+  clock_net_within n is x among = elim (is_in_cases (option_to_list c.clock) (gater_outputs c) x among) [
     | inl clk ↦ given_net n is x (clock_given c x (in_option c.clock x clk))
-    | inr gater ↦ given_net n is x (gate_given c x gater)
+    | inr gater ↦ given_net n is x (gater_given c x gater)
   ]
 
   module _ (k : ℕ) (r : RegisterCell ℕ ℕ) (at : slice_get c.registers k ≡ Some r) where
@@ -65,11 +65,11 @@ module _ (c : Circuit) (good : IsWellFormed c) where
     pub gater_clock : (n : ℕ) → n ≡ length c.names → gater.clock < n
     gater_clock n is = clock_net_within n is gater.clock (pin_clocked c good k gater at)
 
-    pub gater_among : is_in (gate_nets c) gater.output ≡ true
-    gater_among = member_at (gate_nets c) k gater.output (at_map (λ (x : GatingCell ℕ). x.output) c.gaters k gater at)
+    pub gater_among : is_in (gater_outputs c) gater.output ≡ true
+    gater_among = member_at (gater_outputs c) k gater.output (at_map (λ (x : GatingCell ℕ). x.output) c.gaters k gater at)
 
     pub gater_output : (n : ℕ) → n ≡ length c.names → gater.output < n
-    gater_output n is = given_net n is gater.output (gate_given c gater.output gater_among)
+    gater_output n is = given_net n is gater.output (gater_given c gater.output gater_among)
 
     pub gater_asked : (n : ℕ) → n ≡ length c.names → (x : ℕ) → is_in (asked_nets gater) x ≡ true → x < n
     gater_asked n is x among = used_within n is x (asked_is_used c k x gater at among)
@@ -81,10 +81,10 @@ module _ (c : Circuit) (good : IsWellFormed c) where
   register_no_cell x among = given_no_cell c good.driven x (register_given c x among)
 
   pub distinct_data : IsDistinct nat_eq (data_inputs c)
-  distinct_data = distinct_left (data_inputs c) (option_to_list c.clock) (distinct_left (data_inputs c ++ option_to_list c.clock) (gate_nets c) (distinct_left (data_inputs c ++ option_to_list c.clock ++ gate_nets c) (register_nets c) (distinct_given c good.driven)))
+  distinct_data = distinct_left (data_inputs c) (option_to_list c.clock) (distinct_left (data_inputs c ++ option_to_list c.clock) (gater_outputs c) (distinct_left (data_inputs c ++ option_to_list c.clock ++ gater_outputs c) (register_nets c) (distinct_given c good.driven)))
 
   pub distinct_registers : IsDistinct nat_eq (register_nets c)
-  distinct_registers = distinct_right (data_inputs c ++ option_to_list c.clock ++ gate_nets c) (register_nets c) (distinct_given c good.driven)
+  distinct_registers = distinct_right (data_inputs c ++ option_to_list c.clock ++ gater_outputs c) (register_nets c) (distinct_given c good.driven)
 
 -- within a list the default does not matter
 pub any_default : {X : Type 0} (xs : List X) (i : ℕ) (d e : X) → i < length xs → get_or xs i d ≡ get_or xs i e

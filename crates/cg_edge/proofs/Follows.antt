@@ -5,15 +5,15 @@ use Rattle.std.specs.Option.{option_to_list}
 use Rattle.std.proofs.lemmas.Bool.{both_ways, false_from_ne_true}
 use Rattle.std.proofs.lemmas.List.{length-map}
 use Rattle.std.proofs.lemmas.Option.{get_or_from_slice_get, slice_get-get_or}
-use Rattle.cg_netlist.specs.Circuit.{Circuit, GatingCell, RegisterCell, cell_nets, clock_nets, data_inputs, gate_nets}
+use Rattle.cg_netlist.specs.Circuit.{Circuit, GatingCell, RegisterCell, cell_nets, clock_nets, data_inputs, gater_outputs}
 use Rattle.cg_net.specs.NetSets.{is_in}
 use Rattle.cg_netlist.specs.Circuit.{register_nets}
-use Rattle.cg_netlist.specs.History.{Moment, MomentFollows, Tick, gate_bit, latches_before, next_bit, next_latch, next_value, rises}
+use Rattle.cg_netlist.specs.History.{Moment, MomentFollows, Tick, gater_bit, latches_before, next_bit, next_latch, next_value, rises}
 use Rattle.cg_netlist.specs.History.{state_now}
 use Rattle.cg_netlist.specs.Moment.{CellsHold, Settles, bit, register_bits, values_at, zip_with}
 use Rattle.cg_netlist.specs.WellFormed.{IsWellFormed}
-use Rattle.cg_netlist.proofs.Clocks.{held_gates, pin_clocked}
-use Rattle.cg_netlist.proofs.Given.{clock_given, distinct_given, from_option, gate_given, given_no_cell, given_within, in_option}
+use Rattle.cg_netlist.proofs.Clocks.{held_gaters, pin_clocked}
+use Rattle.cg_netlist.proofs.Given.{clock_given, distinct_given, from_option, gater_given, given_no_cell, given_within, in_option}
 use Rattle.cg_net.proofs.Members.{distinct_apart, distinct_left, is_in_cases, is_in_left, is_in_right}
 use Rattle.cg_netlist.proofs.Values.{at_map, element_at, length-values_at, length-zip_with, same_places, same_values, value_at}
 use Rattle.cg_netlist.proofs.Values.{zip_with_at, zip_with_same}
@@ -28,26 +28,26 @@ module _ (c : Circuit) (good : IsWellFormed c) where
 
   -- data inputs are no outputs of registers, and clock nets are neither
   data_no_register : (x : ℕ) → is_in (data_inputs c) x ≡ true → is_in (register_nets c) x ≡ false
-  data_no_register x among = distinct_apart (sources ++ gate_nets c) (register_nets c) (distinct_given c good.driven) x (is_in_left sources (gate_nets c) x (is_in_left (data_inputs c) (option_to_list c.clock) x among))
+  data_no_register x among = distinct_apart (sources ++ gater_outputs c) (register_nets c) (distinct_given c good.driven) x (is_in_left sources (gater_outputs c) x (is_in_left (data_inputs c) (option_to_list c.clock) x among))
 
   clock_no_register : (x : ℕ) → is_in (clock_nets c) x ≡ true → is_in (register_nets c) x ≡ false
-  clock_no_register x among = distinct_apart (sources ++ gate_nets c) (register_nets c) (distinct_given c good.driven) x (elim (is_in_cases (option_to_list c.clock) (gate_nets c) x among) [
-    | inl clk ↦ is_in_left sources (gate_nets c) x (is_in_right (data_inputs c) (option_to_list c.clock) x clk)
-    | inr gater ↦ is_in_right sources (gate_nets c) x gater
+  clock_no_register x among = distinct_apart (sources ++ gater_outputs c) (register_nets c) (distinct_given c good.driven) x (elim (is_in_cases (option_to_list c.clock) (gater_outputs c) x among) [
+    | inl clk ↦ is_in_left sources (gater_outputs c) x (is_in_right (data_inputs c) (option_to_list c.clock) x clk)
+    | inr gater ↦ is_in_right sources (gater_outputs c) x gater
   ])
 
   clock_no_data : (x : ℕ) → is_in (clock_nets c) x ≡ true → is_in (data_inputs c) x ≡ false
   clock_no_data x among = false_from_ne_true (is_in (data_inputs c) x) (λ input.
-      let both = distinct_left (sources ++ gate_nets c) (register_nets c) (distinct_given c good.driven) in
-      elim (is_in_cases (option_to_list c.clock) (gate_nets c) x among) [
-        | inl clk ↦ both_ways (is_in (option_to_list c.clock) x) (distinct_apart (data_inputs c) (option_to_list c.clock) (distinct_left sources (gate_nets c) both) x input) clk
-        | inr gater ↦ both_ways (is_in (gate_nets c) x) (distinct_apart sources (gate_nets c) both x (is_in_left (data_inputs c) (option_to_list c.clock) x input)) gater
+      let both = distinct_left (sources ++ gater_outputs c) (register_nets c) (distinct_given c good.driven) in
+      elim (is_in_cases (option_to_list c.clock) (gater_outputs c) x among) [
+        | inl clk ↦ both_ways (is_in (option_to_list c.clock) x) (distinct_apart (data_inputs c) (option_to_list c.clock) (distinct_left sources (gater_outputs c) both) x input) clk
+        | inr gater ↦ both_ways (is_in (gater_outputs c) x) (distinct_apart sources (gater_outputs c) both x (is_in_left (data_inputs c) (option_to_list c.clock) x input)) gater
       ])
 
   pub clock_no_cell : (x : ℕ) → is_in (clock_nets c) x ≡ true → is_in (cell_nets c) x ≡ false
-  clock_no_cell x among = given_no_cell c good.driven x (elim (is_in_cases (option_to_list c.clock) (gate_nets c) x among) [
+  clock_no_cell x among = given_no_cell c good.driven x (elim (is_in_cases (option_to_list c.clock) (gater_outputs c) x among) [
     | inl clk ↦ clock_given c x (in_option c.clock x clk)
-    | inr gater ↦ gate_given c x gater
+    | inr gater ↦ gater_given c x gater
   ])
 
   -- the bits of nets after each part of a tick
@@ -75,27 +75,27 @@ module _ (c : Circuit) (good : IsWellFormed c) where
     shown_at : (x : ℕ) → is_in (clock_nets c) x ≡ true → slice_get n4 x ≡ Some (bit n1 x)
     shown_at x among = slice_get-get_or n4 x false (clock_net_within c good (length n4) whole x among) ∙ ap (λ b. Some b) (clock_bit x among)
 
-    gater_shown : (k : ℕ) → k < length c.gaters → slice_get (values_at n4 (gate_nets c)) k ≡ slice_get (zip_with (gate_bit n4) c.gaters latches) k
+    gater_shown : (k : ℕ) → k < length c.gaters → slice_get (values_at n4 (gater_outputs c)) k ≡ slice_get (zip_with (gater_bit n4) c.gaters latches) k
     gater_shown k within =
         let a : (a : GatingCell ℕ) × (slice_get c.gaters k ≡ Some a) = element_at c.gaters k within in
         let b : (b : Bool) × (slice_get latches k ≡ Some b) = element_at latches k (omega (arith, count)) in
-        let among : is_in (clock_nets c) a.0.output ≡ true = is_in_right (option_to_list c.clock) (gate_nets c) a.0.output (gater_among c good k a.0 a.1) in
-        let left : slice_get (values_at n4 (gate_nets c)) k ≡ Some (bit n1 a.0.output) = value_at n4 (gate_nets c) k a.0.output (given_within c good.driven (length n4) (gate_nets c) whole (gate_given c)) (at_map (λ (g : GatingCell ℕ). g.output) c.gaters k a.0 a.1) ∙ shown_at a.0.output among in
+        let among : is_in (clock_nets c) a.0.output ≡ true = is_in_right (option_to_list c.clock) (gater_outputs c) a.0.output (gater_among c good k a.0 a.1) in
+        let left : slice_get (values_at n4 (gater_outputs c)) k ≡ Some (bit n1 a.0.output) = value_at n4 (gater_outputs c) k a.0.output (given_within c good.driven (length n4) (gater_outputs c) whole (gater_given c)) (at_map (λ (g : GatingCell ℕ). g.output) c.gaters k a.0 a.1) ∙ shown_at a.0.output among in
         let value : bit n1 a.0.output ≡ (b.0 && bit n4 a.0.clock) =
         parts.clocks.on_gaters k a.0 a.1 ∙ (ap (λ l. l && bit n1 a.0.clock) (get_or_from_slice_get latches k b.0 false b.1) ∙ ap (λ p. b.0 && p) (sym (clock_bit a.0.clock (pin_clocked c good k a.0 a.1)))) in
-        left ∙ (ap (λ v. Some v) value ∙ sym (zip_with_at (gate_bit n4) c.gaters latches k a.0 b.0 a.1 b.1))
+        left ∙ (ap (λ v. Some v) value ∙ sym (zip_with_at (gater_bit n4) c.gaters latches k a.0 b.0 a.1 b.1))
 
-    gaters_shown : values_at n4 (gate_nets c) ≡ zip_with (gate_bit n4) c.gaters latches
+    gaters_shown : values_at n4 (gater_outputs c) ≡ zip_with (gater_bit n4) c.gaters latches
     gaters_shown =
-        let many : length (values_at n4 (gate_nets c)) ≡ length c.gaters = length-values_at n4 (gate_nets c) (given_within c good.driven (length n4) (gate_nets c) whole (gate_given c)) ∙ length-map c.gaters (λ (g : GatingCell ℕ). g.output) in
-        same_places (values_at n4 (gate_nets c)) (zip_with (gate_bit n4) c.gaters latches) (many ∙ sym (length-zip_with (gate_bit n4) c.gaters latches (sym count))) (λ k below. gater_shown k (omega (arith, many)))
+        let many : length (values_at n4 (gater_outputs c)) ≡ length c.gaters = length-values_at n4 (gater_outputs c) (given_within c good.driven (length n4) (gater_outputs c) whole (gater_given c)) ∙ length-map c.gaters (λ (g : GatingCell ℕ). g.output) in
+        same_places (values_at n4 (gater_outputs c)) (zip_with (gater_bit n4) c.gaters latches) (many ∙ sym (length-zip_with (gater_bit n4) c.gaters latches (sym count))) (λ k below. gater_shown k (omega (arith, many)))
 
-    settles : (latches_new : List Bool) → latches_new ≡ zip_with (next_latch n4) c.gaters latches → Settles c tick.clock tick.inputs state (zip_with (gate_bit n4) c.gaters latches_new) n4
+    settles : (latches_new : List Bool) → latches_new ≡ zip_with (next_latch n4) c.gaters latches → Settles c tick.clock tick.inputs state (zip_with (gater_bit n4) c.gaters latches_new) n4
     settles latches_new is = record {
       long = whole;
-      shows_clock = λ net clk. shown_at net (is_in_left (option_to_list c.clock) (gate_nets c) net (from_option c.clock net clk)) ∙ ap (λ b. Some b) (parts.clocks.on_clock net clk);
+      shows_clock = λ net clk. shown_at net (is_in_left (option_to_list c.clock) (gater_outputs c) net (from_option c.clock net clk)) ∙ ap (λ b. Some b) (parts.clocks.on_clock net clk);
       shows_inputs = same_values n4 n2 (data_inputs c) (λ x among. parts.same4.same x (data_no_cell c good x among) ∙ parts.same3.same x (data_no_register x among)) ∙ parts.inputs;
-      shows_gates = gaters_shown ∙ sym (ap (zip_with (gate_bit n4) c.gaters) is ∙ held_gates n4 c.gaters latches);
+      shows_gaters = gaters_shown ∙ sym (ap (zip_with (gater_bit n4) c.gaters) is ∙ held_gaters n4 c.gaters latches);
       shows_state = same_values n4 n3 (register_nets c) (λ x among. parts.same4.same x (register_no_cell c good x among)) ∙ parts.registers;
       holds = parts.cells;
     }

@@ -25,9 +25,9 @@ holds_apart : (cell : LogicCell ℕ) (nets : List Bool) (net : ℕ) (b : Bool) �
 holds_apart cell nets net b differ apart holds = slice_get-set_other nets net cell.output b differ ∙ (holds ∙ ap (λ bits. Some (function_value cell.function bits)) (sym (same_inputs nets net b cell.inputs apart)))
 
 -- a cell that another net than its output was written at holds still, or is marked
-holds_or_told : (readers : List (List ℕ)) (cell : LogicCell ℕ) (p net : ℕ) (b : Bool) (old new marks_old marks_new : List Bool) → IsPut readers net b old new marks_old marks_new → new ≡ slice_set old net b → cell.output ≢ net
+holds_or_marked : (readers : List (List ℕ)) (cell : LogicCell ℕ) (p net : ℕ) (b : Bool) (old new marks_old marks_new : List Bool) → IsPut readers net b old new marks_old marks_new → new ≡ slice_set old net b → cell.output ≢ net
     → (is_in cell.inputs net ≡ true → is_in (readers_at readers net) p ≡ true) → Holds cell old → (slice_get marks_new p ≡ Some true) ⊎ Holds cell new
-holds_or_told readers cell p net b old new marks_old marks_new put is differ reads holds = elim (cases_Bool (is_in cell.inputs net)) [
+holds_or_marked readers cell p net b old new marks_old marks_new put is differ reads holds = elim (cases_Bool (is_in cell.inputs net)) [
   | inr apart ↦ inr (subst (Holds cell) (sym is) (holds_apart cell old net b differ apart holds))
   | inl input ↦ elim put.told [
     | inl same ↦ inr (subst (Holds cell) (sym same) holds)
@@ -44,7 +44,7 @@ module _ (c : Circuit) (good : IsWellFormed c) (readers : List (List ℕ)) where
     | inr holds ↦
         let k = (walked c good).of_cells p cell at in
         let differ : cell.output ≢ net = λ e. both_ways (is_in (cell_nets c) net) given (member_at (cell_nets c) k.0 net (at_map (λ (x : LogicCell ℕ). x.output) c.cells k.0 cell k.1 ∙ ap (λ x. Some x) e)) in
-        holds_or_told readers cell p net b old new marks_old marks_new put is differ (are.whole p net cell (omega (arith, count, slice_get_within (walk_of c) p cell at)) at) holds
+        holds_or_marked readers cell p net b old new marks_old marks_new put is differ (are.whole p net cell (omega (arith, count, slice_get_within (walk_of c) p cell at)) at) holds
   ]
 
   -- a look at a marked cell
@@ -71,7 +71,7 @@ module _ (c : Circuit) (good : IsWellFormed c) (readers : List (List ℕ)) where
       go holds differ (inr apart) = inr (subst (Holds b) (sym is) (holds_apart b old cell.output (function_value cell.function (values_at old cell.inputs)) differ apart holds))
       go holds differ (inl input) =
           let later : (q ≤ i → ⊥) = λ below. both_ways (is_in b.inputs cell.output) (ordered_at (walk_of c) q i b cell (walked c good).ordered below at here) input in
-          elim (holds_or_told readers b q cell.output (function_value cell.function (values_at old cell.inputs)) old new (slice_set marks i false) marks_new put is differ (are.whole q cell.output b (omega (arith, count, slice_get_within (walk_of c) q b at)) at) holds) [
+          elim (holds_or_marked readers b q cell.output (function_value cell.function (values_at old cell.inputs)) old new (slice_set marks i false) marks_new put is differ (are.whole q cell.output b (omega (arith, count, slice_get_within (walk_of c) q b at)) at) holds) [
             | inl told ↦ inl (elim (below_or q i) [ inl below ↦ absurd (later below) | inr past ↦ omega arith ], told)
             | inr still ↦ inr still
           ]

@@ -2,7 +2,7 @@
 
 ghost use Rattle.std.specs.Prelude.{◌≡◌, ◌<◌, ◌&&◌, ℕ, false, length, slice_get, slice_index_or, slice_set, Some};
 ghost use Rattle.std.specs.Option.{option_map_or};
-ghost use Rattle.cg_netlist.specs.Circuit.{GatingCell, clock_nets, gate_nets};
+ghost use Rattle.cg_netlist.specs.Circuit.{GatingCell, clock_nets, gater_outputs};
 ghost use Rattle.cg_netlist.specs.Moment.{bit};
 ghost use Rattle.cg_netlist.specs.Netlist.{IsNetlist};
 ghost use Rattle.cg_edge.specs.inner.Keeping.{AreDriven, IsChain, SameBut, ShowClocks};
@@ -48,7 +48,7 @@ fn drive_gaters(netlist: &Netlist, chain: &[GateClockId], latches: &[bool], nets
     requires latches { length latches.now ≡ length netlist.now.gaters }
     requires nets { length nets.old ≡ length netlist.now.names }
     ensures driven { AreDriven netlist.now chain.now latches.now nets.new (length chain.now) }
-    ensures same { SameBut (gate_nets netlist.now) nets.old nets.new }
+    ensures same { SameBut (gater_outputs netlist.now) nets.old nets.new }
 {
     for id in chain {
         drive_gater(netlist, *id, latches, nets);

@@ -28,7 +28,7 @@ impl<'a> Schedule<'a> {
     {
         let _nets = netlist.nets();
         let order = netlist.order();
-        let chain = netlist.gate_order(alloc)?;
+        let chain = netlist.gater_order(alloc)?;
         let cells = FlatCells::new(alloc, netlist, order)?;
         let readers = Readers::new(alloc, netlist, order)?;
         Ok(Schedule {

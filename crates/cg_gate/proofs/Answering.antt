@@ -5,7 +5,7 @@ use Rattle.cg_limit.specs.declared.Limit.{Limit}
 use Rattle.cg_netlist.specs.Circuit.{Circuit}
 use Rattle.cg_netlist.specs.declared.fault.AddFault.{AddFault}
 use Rattle.cg_netlist.specs.declared.fault.AddFault.TheVariants.{NoMemory}
-use Rattle.cg_plan_laws.specs.Told.{PlanMayFail, ToldPlan}
+use Rattle.cg_plan_laws.specs.Reported.{PlanMayFail, ReportedPlan}
 use Rattle.cg_plan_text.specs.declared.summary.Played.{Played}
 use Rattle.cg_stimulus.specs.Inputs.{Rows}
 use Rattle.cg_gate.specs.Gating.{AreTexts, GivesGated, IsWritten}
@@ -37,7 +37,7 @@ unsaid (Some says) written = refl
 pub unplayed : (says : Option Saying) (stimulus : Option Rows) (read written : Circuit) → stimulus ≡ None → IsWhatPlayed says stimulus read written (record { edges = None; watched = None })
 unplayed says stimulus read written none = subst (λ (s : Option Rows). IsWhatPlayed says s read written (record { edges = None; watched = None })) (sym none) (record { edges = refl; line = unsaid says written })
 
-module _ (request : RequestData) (says : Option Saying) (read written : Circuit) (told : ToldPlan) (played : Played) (gated : IsWritten (gating_of request read) read told written)
+module _ (request : RequestData) (says : Option Saying) (read written : Circuit) (told : ReportedPlan) (played : Played) (gated : IsWritten (gating_of request read) read told written)
     (what : IsWhatPlayed says request.stimulus read written played) where
   pub gives_all : (texts : Texts) → AreTexts request told written played texts → GivesGated request says read texts
   gives_all texts are = record { told = told; written = written; played = played; gated = gated; what = what; gives = are }

@@ -7,8 +7,8 @@ use Rattle.std.proofs.lemmas.Option.{get_or_from_slice_get}
 use Rattle.cg_netlist.proofs.Each.{by_recursion, from_recursion}
 use Rattle.cg_netlist.specs.Circuit.{Circuit}
 use Rattle.cg_netlist.specs.History.{Moment}
-use Rattle.cg_report.specs.Idle.{CountZeros, low_moments, zeros_of}
-use Rattle.cg_gate.specs.Idling.{zeros_by}
+use Rattle.cg_report.specs.Zeros.{CountZeros, low_moments, zeros_of}
+use Rattle.cg_gate.specs.ZeroCounting.{zeros_by}
 
 -- nets below a number
 abbrev pub Below : ℕ → Option ℕ → Type 0

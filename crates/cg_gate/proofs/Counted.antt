@@ -13,21 +13,21 @@ use Rattle.cg_extract.proofs.Lifts.{lifting_lifts}
 use Rattle.cg_extract.proofs.Origins.{origins_long}
 use Rattle.cg_extract.specs.Lifted.{CanExtract, HasNoTests, kept_nets, lifted, number_of, origins}
 use Rattle.cg_gate.proofs.LiftedInputs.{lifted_inputs}
-use Rattle.cg_stage_list_laws.specs.Literals.{IdleData, IsIdleData}
+use Rattle.cg_stage_list_laws.specs.Literals.{ZeroCounts, AreZeroCounts}
 use Rattle.cg_machine.proofs.Bits.{length-each}
 use Rattle.cg_machine.specs.Machine.{MachineData, next, step, values}
 use Rattle.cg_machine.specs.Run.{state_now, states_from}
 use Rattle.cg_netlist.specs.Circuit.{Circuit, data_inputs}
 use Rattle.cg_net.specs.NetSets.{is_in}
-use Rattle.cg_netlist.specs.History.{AreTicks, LawfulFrom, Moment, Tick, gate_bit}
+use Rattle.cg_netlist.specs.History.{AreTicks, LawfulFrom, Moment, Tick, gater_bit}
 use Rattle.cg_netlist.specs.Moment.{bit, zip_with}
 use Rattle.cg_net.specs.Names.{net_name}
 use Rattle.cg_netlist.proofs.Each.{from_recursion}
-use Rattle.cg_report.specs.Idle.{low_moments, zeros_of}
+use Rattle.cg_report.specs.Zeros.{low_moments, zeros_of}
 use Rattle.cg_stimulus.specs.Inputs.{IsFor, IsStimulus, Rows}
 use Rattle.cg_stimulus.proofs.Playing.{start_is, wave_is}
 use Rattle.cg_stimulus.specs.Played.{IsPlayed, played_start, played_wave, row_tick, wave_from}
-use Rattle.cg_gate.specs.Idling.{idle_data, idle_of, lows_from, row_inputs, zeros_at, zeros_by}
+use Rattle.cg_gate.specs.ZeroCounting.{zero_counts, zero_counts_of, lows_from, row_inputs, zeros_at, zeros_by}
 use Rattle.cg_extract.proofs.ForGating.{lifted_shows_nets}
 use Rattle.cg_machine.proofs.There.{same_bits}
 
@@ -98,7 +98,7 @@ module _ (c : Circuit) (prefix : List ℕ) (can : CanExtract c prefix) where
         let first : now.state ≡ one = cc in
         let rest : map (λ (q : Moment). q.state) history ≡ states_from m (Some high) two (wave_from width row rows) = cc in
         let same : now.state ≡ s = first ∙ stays low refl in
-        let shown : slice_get (values m now.state inputs) k ≡ slice_get now.nets x = lifted_shows_nets c prefix can inputs now.state (zip_with (gate_bit now.nets) c.gaters now.latches) now.nets lawful.0.nets (ap length same ∙ long) ticks.0 x kept in
+        let shown : slice_get (values m now.state inputs) k ≡ slice_get now.nets x = lifted_shows_nets c prefix can inputs now.state (zip_with (gater_bit now.nets) c.gaters now.latches) now.nets lawful.0.nets (ap length same ∙ long) ticks.0 x kept in
         let here : bit (values m s (row_inputs m row)) k ≡ bit now.nets x = ap (λ i. bit (values m s i) k) (row_is row) ∙ (ap (λ z. bit (values m z inputs) k) (sym same) ∙ same_bits (values m now.state inputs) now.nets k x shown) in
         let steps : step m s (row_inputs m row) ≡ two = ap (step m s) (row_is row) ∙ ap (λ z. step m z inputs) (sym (stays low refl)) in
         let tail : zeros_at (lows_from m two rows) k ≡ zeros_of x (low_moments history) = lows_count start (Some later) (Some high) two row rows history (λ tick low. refl) (step_long one inputs) ticks.1.1 lawful.1.1 rest in
@@ -109,7 +109,7 @@ module _ (c : Circuit) (prefix : List ℕ) (can : CanExtract c prefix) where
 
   module _ (untested : HasNoTests c) (stimulus : Rows) (is : IsStimulus stimulus) (for' : IsFor c stimulus) (history : List Moment) (played : IsPlayed c stimulus.rows history) where
     -- the counts of the rows are those of the history on which the rows are played
-    pub counts : (idle_data c prefix stimulus).zeros ≡ map (zeros_by (λ net. zeros_of net (low_moments history))) (origins c (lifted c prefix))
+    pub counts : (zero_counts c prefix stimulus).zeros ≡ map (zeros_by (λ net. zeros_of net (low_moments history))) (origins c (lifted c prefix))
     counts =
         let start : List Bool = played_start c in
         let waves = wave_is c stimulus is for' in
@@ -119,10 +119,10 @@ module _ (c : Circuit) (prefix : List ℕ) (can : CanExtract c prefix) where
 
     -- as they are handed to the plan
     module _ (zeros : List ℕ) (rows : ℕ) (carried : zeros ≡ map (zeros_by (λ net. zeros_of net (low_moments history))) (origins c (lifted c prefix))) (long : rows ≡ length stimulus.rows) where
-      pub idle_same : ◌≡◌ {A = Option IdleData} (Some (record { zeros = zeros; rows = rows })) (idle_of c prefix (Some stimulus))
-      idle_same = ap (λ (z : List ℕ). Some (record { zeros = z; rows = rows })) (carried ∙ sym counts) ∙ ap (λ (n : ℕ). Some (record { zeros = (idle_data c prefix stimulus).zeros; rows = n })) long
+      pub zero_counts_same : ◌≡◌ {A = Option ZeroCounts} (Some (record { zeros = zeros; rows = rows })) (zero_counts_of c prefix (Some stimulus))
+      zero_counts_same = ap (λ (z : List ℕ). Some (record { zeros = z; rows = rows })) (carried ∙ sym counts) ∙ ap (λ (n : ℕ). Some (record { zeros = (zero_counts c prefix stimulus).zeros; rows = n })) long
 
-      pub is_idle : All (λ n. n ≤ rows) zeros → IsIdleData (lifted c prefix) (record { zeros = zeros; rows = rows })
+      pub is_idle : All (λ n. n ≤ rows) zeros → AreZeroCounts (lifted c prefix) (record { zeros = zeros; rows = rows })
       is_idle most = record {
         count = ap length carried ∙ (length-map (origins c m) (zeros_by (λ net. zeros_of net (low_moments history))) ∙ origins_long c m few);
         most = most;

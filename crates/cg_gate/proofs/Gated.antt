@@ -12,7 +12,7 @@ use Rattle.cg_limit.specs.declared.Limit.{Limit}
 use Rattle.cg_netlist.specs.Circuit.{Circuit}
 use Rattle.cg_netlist.specs.declared.fault.AddFault.{AddFault}
 use Rattle.cg_netlist.specs.declared.fault.AddFault.TheVariants.{Limit as LimitFault, NoMemory}
-use Rattle.cg_plan_laws.specs.Told.{IsPlan, PlanMayFail, ToldPlan}
+use Rattle.cg_plan_laws.specs.Reported.{IsPlan, PlanMayFail, ReportedPlan}
 use Rattle.cg_stimulus.specs.Inputs.{IsFor, Rows, input_names}
 use Rattle.cg_plan.specs.Planning.{AreWritable}
 use Rattle.cg_gate.specs.Gating.{IsWritten}
@@ -30,8 +30,8 @@ passed None c fault is = absurd (cc)
 passed (Some limit) c NoMemory is = tt
 passed (Some limit) c (LimitFault which) is = let same : limit ≡ which = cc in ap Some same
 
-module _ (request : RequestData) (read : Circuit) (proper : IsProper request) (may : MayGate request read) (told : ToldPlan)
-    (plan : IsPlan request.library request.settings (gating_of request read).idle (lifted read request.prefix) told) where
+module _ (request : RequestData) (read : Circuit) (proper : IsProper request) (may : MayGate request read) (told : ReportedPlan)
+    (plan : IsPlan request.library request.settings (gating_of request read).counts (lifted read request.prefix) told) where
   abbrev by : Gating
   by = gating_of request read
 

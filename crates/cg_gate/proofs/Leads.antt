@@ -3,7 +3,7 @@ use Rattle.std.proofs.Common.{◌≡◌, ℕ, zero, suc, List, [], ◌∷◌, �
 use Rattle.cg_cell.specs.Cell.{CellData}
 use Rattle.cg_limit.specs.declared.Limit.{Limit}
 use Rattle.cg_stage_list_laws.specs.HoldList.{hold_list}
-use Rattle.cg_stage_list_laws.specs.Literals.{IdleData}
+use Rattle.cg_stage_list_laws.specs.Literals.{ZeroCounts}
 use Rattle.cg_machine.specs.Machine.{MachineData}
 use Rattle.cg_machine.specs.declared.stage.Stage.{Stage}
 use Rattle.cg_machine.specs.declared.stage.StageKind.{StageKind}
@@ -45,12 +45,12 @@ module _ (library : List CellData) (settings : Settings) (m : MachineData) where
       let first : Leads m q = all_lead p (list_by kind settings p) leads in
       stopped_leads m q.limit q (rounds library settings kind n q) first (rounds_lead kind n q first)
 
-  pub plan_leads : (idle : Option IdleData) → Lead (plan_of library settings idle m).turns m (plan_of library settings idle m).machine
-  plan_leads idle =
-      let p : Plan = begin m idle settings in
-      let hold : Plan = try_all library settings p (hold_list m idle settings.width) in
+  pub plan_leads : (counts : Option ZeroCounts) → Lead (plan_of library settings counts m).turns m (plan_of library settings counts m).machine
+  plan_leads counts =
+      let p : Plan = begin m counts settings in
+      let hold : Plan = try_all library settings p (hold_list m counts settings.width) in
       let held : Plan = unless_stopped p.limit p hold in
-      let one : Leads m held = stopped_leads m p.limit p hold refl (all_lead p (hold_list m idle settings.width) refl) in
+      let one : Leads m held = stopped_leads m p.limit p hold refl (all_lead p (hold_list m counts settings.width) refl) in
       let further : Plan = rounds library settings Stable settings.rounds held in
       let stable : Plan = unless_stopped held.limit held further in
       let two : Leads m stable = stopped_leads m held.limit held further one (rounds_lead Stable settings.rounds held one) in

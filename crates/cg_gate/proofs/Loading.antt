@@ -74,15 +74,15 @@ test_input_loads request says read texts h may tested start wave bits history st
     m = lifted read request.prefix
 
     plan : Plan
-    plan = plan_of request.library request.settings (gating_of request read).idle m
+    plan = plan_of request.library request.settings (gating_of request read).counts m
 
     machine_is : plan.machine ≡ h.plan.machine
-    machine_is = one_end plan.turns m plan.machine h.plan.machine (plan_leads request.library request.settings m (gating_of request read).idle) (subst (λ turns. Lead turns m h.plan.machine) h.planned h.lead)
+    machine_is = one_end plan.turns m plan.machine h.plan.machine (plan_leads request.library request.settings m (gating_of request read).counts) (subst (λ turns. Lead turns m h.plan.machine) h.planned h.lead)
 
     same : length (data_inputs h.plan.machine.circuit) ≡ length (data_inputs read)
     same =
         ap (λ (n : MachineData). length (data_inputs n.circuit)) (sym machine_is)
-        ∙ (ap length (plans_safe request.library request.settings (gating_of request read).idle m (lifted_is_machine read request.prefix may.start)).1.inputs ∙ lifted_inputs read request.prefix may.start)
+        ∙ (ap length (plans_safe request.library request.settings (gating_of request read).counts m (lifted_is_machine read request.prefix may.start)).1.inputs ∙ lifted_inputs read request.prefix may.start)
 
     shown : ShowsSame h.plan.machine read h.written start (replicate h.delays true) wave (with_bits request.test wave bits)
     shown = h.shows start wave bits starts waves long

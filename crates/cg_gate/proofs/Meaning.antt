@@ -27,14 +27,14 @@ use Rattle.cg_netlist_parts.specs.Writable.{IsPlaceable, IsWritable}
 use Rattle.cg_netlist.proofs.Histories.{has_history, has_one_history}
 use Rattle.cg_plan_laws.specs.Plan.{Plan, plan_of}
 use Rattle.cg_plan_laws.proofs.AllSafe.{each_fits, plans_safe}
-use Rattle.cg_report.specs.Idle.{low_moments, zeros_of}
+use Rattle.cg_report.specs.Zeros.{low_moments, zeros_of}
 use Rattle.cg_stage_laws.proofs.Fitting.{starts_long}
 use Rattle.cg_stimulus.specs.Inputs.{Rows}
 use Rattle.cg_stimulus.specs.Played.{IsPlayed, played_start, played_wave}
 use Rattle.cg_stimulus.proofs.Playing.{start_is, wave_is}
 use Rattle.cg_gate.specs.Gating.{GivesGated}
 use Rattle.cg_gate.specs.Headline.{Headline, ShowsSame, with_bits}
-use Rattle.cg_gate.specs.Idling.{idle_data, zeros_by}
+use Rattle.cg_gate.specs.ZeroCounting.{zero_counts, zeros_by}
 use Rattle.cg_gate.specs.Laws.{GatedMeans, IsProper}
 use Rattle.cg_gate.specs.Played.{Saying}
 use Rattle.cg_gate.specs.Request.{MayGate, RequestData, gating_of}
@@ -62,7 +62,7 @@ module _ (request : RequestData) (says : Option Saying) (read : Circuit) (texts 
   w = gives.written
 
   abbrev plan : Plan
-  plan = plan_of request.library request.settings (gating_of request read).idle (lifted read request.prefix)
+  plan = plan_of request.library request.settings (gating_of request read).counts (lifted read request.prefix)
 
   can : CanGate (gating_of request read) read
   can = may_gate request read proper may
@@ -86,7 +86,7 @@ module _ (request : RequestData) (says : Option Saying) (read : Circuit) (texts 
   inserts = (can_insert by read can).1
 
   whole : Same m n
-  whole = (plans_safe request.library request.settings by.idle m good).1
+  whole = (plans_safe request.library request.settings by.counts m good).1
 
   inputs_long : length (data_inputs n.circuit) ≡ length (data_inputs read)
   inputs_long = ap length whole.inputs ∙ lifted_inputs read request.prefix may.start
@@ -129,9 +129,9 @@ module _ (request : RequestData) (says : Option Saying) (read : Circuit) (texts 
         rises = subst (λ c. RisesAre c gives.told.machine tested two.0) (sym gives.gated.is) (subst (λ k. RisesAre (inserted request.library request.test k) k tested two.0) (sym machine_is) rises);
       }
 
-  idle : (stimulus : Rows) → request.stimulus ≡ Some stimulus → (history : List Moment) × IsPlayed read stimulus.rows history
-      × ((idle_data read request.prefix stimulus).zeros ≡ map (zeros_by (λ net. zeros_of net (low_moments history))) (origins read (lifted read request.prefix)))
-  idle stimulus there =
+  ranked : (stimulus : Rows) → request.stimulus ≡ Some stimulus → (history : List Moment) × IsPlayed read stimulus.rows history
+      × ((zero_counts read request.prefix stimulus).zeros ≡ map (zeros_by (λ net. zeros_of net (low_moments history))) (origins read (lifted read request.prefix)))
+  ranked stimulus there =
       let for' = may.played stimulus there in
       let rows = proper.rows stimulus there in
       let some = has_history read may.start.netlist.well_formed (played_start read) (played_wave read stimulus.rows) (start_is read) (wave_is read stimulus rows for') in
@@ -155,9 +155,9 @@ module _ (request : RequestData) (says : Option Saying) (read : Circuit) (texts 
     turns = plan.turns;
     planned = refl;
     whole = gives.gated.plan.whole;
-    lead = subst (Lead plan.turns m) (sym machine_is) (plan_leads request.library request.settings m by.idle);
-    deserved = λ k turn at. exactly_worthy request.library request.settings turn (each_fits request.library request.settings by.idle m good k turn at);
-    idle = idle;
+    lead = subst (Lead plan.turns m) (sym machine_is) (plan_leads request.library request.settings m by.counts);
+    deserved = λ k turn at. exactly_worthy request.library request.settings turn (each_fits request.library request.settings by.counts m good k turn at);
+    ranked = ranked;
     told = gives.gated.plan.stages;
     wide = gives.gated.plan.wide;
     certified = gives.gated.plan.certificates;

@@ -5,7 +5,7 @@ use Rattle.cg_gate_laws.specs.Gated.{Gating}
 use Rattle.cg_insert.specs.Insert.{inserted, insertion_limit}
 use Rattle.cg_extract.specs.Lifted.{lifted}
 use Rattle.cg_netlist.specs.Circuit.{Circuit}
-use Rattle.cg_plan_laws.specs.Told.{IsPlan, ToldPlan}
+use Rattle.cg_plan_laws.specs.Reported.{IsPlan, ReportedPlan}
 use Rattle.cg_plan_text.specs.ProofText.{proof_text}
 use Rattle.cg_plan_text.specs.Summary.{demo_text, report_text, said_text}
 use Rattle.cg_plan_text.specs.declared.summary.Edges.{Edges}
@@ -19,8 +19,8 @@ use Rattle.cg_gate.specs.declared.texts.Texts.{Texts}
 -- a plan as it is told, whose certificates keep to the bounds of their formats, and the netlist that its machine is written as.
 -- Free are the bits that are told of a refuted claim and
 -- the logs of the certificates, as far as their definitions leave them open.
-pub record IsWritten (by : Gating) (c : Circuit) (told : ToldPlan) (written : Circuit) : Type 0 where
-  pub plan : IsPlan by.library by.settings by.idle (lifted c by.prefix) told
+pub record IsWritten (by : Gating) (c : Circuit) (told : ReportedPlan) (written : Circuit) : Type 0 where
+  pub plan : IsPlan by.library by.settings by.counts (lifted c by.prefix) told
   pub writable : AreWritable told.certificates
   pub fits : insertion_limit by.test told.machine ≡ None
   pub is : written ≡ inserted by.library by.test told.machine
@@ -30,7 +30,7 @@ abbrev pub where_asked : Bool → List ℕ → Option (List ℕ)
 where_asked asked text = if asked then Some text else None
 
 -- the texts of a gated netlist
-pub record AreTexts (request : RequestData) (told : ToldPlan) (written : Circuit) (played : Played) (texts : Texts) : Type 0 where
+pub record AreTexts (request : RequestData) (told : ReportedPlan) (written : Circuit) (played : Played) (texts : Texts) : Type 0 where
   pub out : texts.out ≡ blif written
   pub proof : texts.proof ≡ where_asked request.proof (proof_text told)
   pub report : texts.report ≡ where_asked request.report (report_text told (length written.gaters) played)
@@ -38,7 +38,7 @@ pub record AreTexts (request : RequestData) (told : ToldPlan) (written : Circuit
 
 -- what gating gives of a netlist, with a watcher that says this, if there is one
 pub record GivesGated (request : RequestData) (says : Option Saying) (c : Circuit) (texts : Texts) : Type 0 where
-  pub told : ToldPlan
+  pub told : ReportedPlan
   pub written : Circuit
   pub played : Played
   pub gated : IsWritten (gating_of request c) c told written
@@ -46,7 +46,7 @@ pub record GivesGated (request : RequestData) (says : Option Saying) (c : Circui
   pub gives : AreTexts request told written played texts
 
 -- what is said of a generated pipeline of this size that was gated
-pub record SaysDemo (size : ℕ) (rows : List (List Bool)) (read written : Circuit) (told : ToldPlan) (text : List ℕ) : Type 0 where
+pub record SaysDemo (size : ℕ) (rows : List (List Bool)) (read written : Circuit) (told : ReportedPlan) (text : List ℕ) : Type 0 where
   pub both : Edges
   pub edges : AreEdges rows read written both
   pub said : text ≡ demo_text size told (length written.gaters) both
@@ -54,7 +54,7 @@ pub record SaysDemo (size : ℕ) (rows : List (List Bool)) (read written : Circu
 pub record GivesDemo (size : ℕ) (request : RequestData) (c : Circuit) (text : List ℕ) : Type 0 where
   pub stimulus : Rows
   pub played : request.stimulus ≡ Some stimulus
-  pub told : ToldPlan
+  pub told : ReportedPlan
   pub written : Circuit
   pub gated : IsWritten (gating_of request c) c told written
   pub says : SaysDemo size stimulus.rows c written told text

@@ -15,18 +15,18 @@ use Rattle.cg_netlist.specs.Moment.{zip_with}
 use Rattle.cg_netlist.specs.WellFormed.{IsWellFormed}
 use Rattle.cg_net.specs.Names.{NetName, net_name}
 use Rattle.cg_plan_laws.specs.Plan.{Turn, plan_of, wide_of}
-use Rattle.cg_plan_laws.specs.Told.{AreCertified, AreTold, ToldPlan, plan_claims}
+use Rattle.cg_plan_laws.specs.Reported.{AreCertified, AreTold, ReportedPlan, plan_claims}
 use Rattle.cg_plan_laws.specs.declared.outcome.Outcome.TheVariants.{Inserted}
 use Rattle.cg_plan_text.specs.ProofText.{proof_text}
 use Rattle.cg_plan_text.specs.Summary.{report_text, said_text}
 use Rattle.cg_plan_text.specs.declared.summary.Played.{Played}
 use Rattle.cg_plan.specs.Planning.{AreWritable}
-use Rattle.cg_report.specs.Idle.{low_moments, zeros_of}
+use Rattle.cg_report.specs.Zeros.{low_moments, zeros_of}
 use Rattle.cg_stimulus.specs.Inputs.{Rows, input_names}
 use Rattle.cg_stimulus.specs.Played.{IsPlayed}
 use Rattle.cg_gate.specs.WorthInserting.{IsWorthInserting}
 use Rattle.cg_gate.specs.Gating.{where_asked}
-use Rattle.cg_gate.specs.Idling.{idle_data, idle_of, zeros_by}
+use Rattle.cg_gate.specs.ZeroCounting.{zero_counts, zero_counts_of, zeros_by}
 use Rattle.cg_gate.specs.Played.{EdgesAre, LineIs, Saying}
 use Rattle.cg_gate.specs.Request.{RequestData}
 use Rattle.cg_gate.specs.Turns.{Lead}
@@ -73,7 +73,7 @@ pub record Headline (request : RequestData) (says : Option Saying) (read : Circu
   pub parts : KeepsParts read written
   -- from every state of the original's registers, with 1 in the delay registers, and over every waveform that begins with the
   -- clock low, whatever the test input does, it shows what the original shows
-  pub plan : ToldPlan
+  pub plan : ReportedPlan
   pub shows : (start : List Bool) (wave : List Tick) (bits : List Bool) → IsStart read start → IsWaveform read wave →
       length bits ≡ length wave
       → ShowsSame plan.machine read written start (replicate delays true) wave (with_bits request.test wave bits)
@@ -83,18 +83,18 @@ pub record Headline (request : RequestData) (says : Option Saying) (read : Circu
   pub is : written ≡ inserted request.library request.test plan.machine
   pub turns : List Turn
   pub planned : turns
-      ≡ (plan_of request.library request.settings (idle_of read request.prefix request.stimulus) (lifted read request.prefix)).turns
+      ≡ (plan_of request.library request.settings (zero_counts_of read request.prefix request.stimulus) (lifted read request.prefix)).turns
   pub whole :
-      (plan_of request.library request.settings (idle_of read request.prefix request.stimulus) (lifted read request.prefix)).limit
+      (plan_of request.library request.settings (zero_counts_of read request.prefix request.stimulus) (lifted read request.prefix)).limit
       ≡ None
   pub lead : Lead turns (lifted read request.prefix) plan.machine
   pub deserved : (k : ℕ) (turn : Turn) → slice_get turns k ≡ Some turn →
       (turn.outcome ≡ Inserted) ↔ IsWorthInserting request.library request.settings turn.machine turn.stage
   -- literals are ranked by how often their nets are 0 in the history on which the stimulus is played on the original; a net that
   -- stands for none of the original's counts 0
-  pub idle : (stimulus : Rows) → request.stimulus ≡ Some stimulus
+  pub ranked : (stimulus : Rows) → request.stimulus ≡ Some stimulus
       → (history : List Moment) × IsPlayed read stimulus.rows history
-      × ((idle_data read request.prefix stimulus).zeros
+      × ((zero_counts read request.prefix stimulus).zeros
       ≡ map (zeros_by (λ net. zeros_of net (low_moments history))) (origins read (lifted read request.prefix)))
   -- the stages are told with their outcomes, and bits that are told of a refuted claim violate it
   pub told : AreTold turns plan.stages

@@ -1,4 +1,4 @@
-pub mod Idling
+pub mod ZeroCounting
 pub mod Request
 pub mod Played
 pub mod Gating

@@ -13,7 +13,7 @@ use Rattle.cg_netlist_parts.specs.Writable.{IsPlaceable}
 use Rattle.cg_plan_laws.specs.Plan.{plan_of}
 use Rattle.cg_plan_laws.specs.declared.settings.Settings.{Settings}
 use Rattle.cg_stimulus.specs.Inputs.{IsFor, Rows}
-use Rattle.cg_gate.specs.Idling.{idle_of}
+use Rattle.cg_gate.specs.ZeroCounting.{zero_counts_of}
 
 -- the cells, what bounds the plan, the prefix of the names of added nets, the name of the test input, where there is to be one,
 -- the stimulus, where there is one, and whether a proof file and a report are asked for
@@ -47,7 +47,7 @@ abbrev pub gating_of : RequestData → Circuit → Gating
 gating_of request c = record {
   library = request.library;
   settings = request.settings;
-  idle = idle_of c request.prefix request.stimulus;
+  counts = zero_counts_of c request.prefix request.stimulus;
   prefix = request.prefix;
   test = request.test;
 }
@@ -55,7 +55,7 @@ gating_of request c = record {
 -- the limit at which the plan stops, or else the limit that the written netlist would pass
 abbrev pub stops_by : Gating → Circuit → Option Limit
 stops_by by c =
-    option_or (plan_of by.library by.settings by.idle (lifted c by.prefix)).limit (insertion_limit by.test (planned by c))
+    option_or (plan_of by.library by.settings by.counts (lifted c by.prefix)).limit (insertion_limit by.test (planned by c))
 
 abbrev pub stops_at : RequestData → Circuit → Option Limit
 stops_at request c = stops_by (gating_of request c) c

@@ -2,15 +2,15 @@
 
 ghost use Rattle.std.specs.Prelude.{◌≡◌, ◌≤◌, ◌<◌, List, length, map, slice_index_or, IfOk, IfSome};
 ghost use Rattle.std.specs.List.{All};
-ghost use Rattle.cg_gate.specs.Idling.{zeros_by};
+ghost use Rattle.cg_gate.specs.ZeroCounting.{zeros_by};
 ghost use Rattle.cg_netlist.specs.History.{Moment};
-ghost use Rattle.cg_report.specs.Idle.{low_moments, zeros_of};
+ghost use Rattle.cg_report.specs.Zeros.{low_moments, zeros_of};
 ghost use Rattle.cg_stimulus.specs.Inputs.{IsFor};
 ghost use Rattle.cg_stimulus.specs.Played.{IsPlayed};
 
 use cg_net::id::NetId;
 use cg_netlist::netlist::Netlist;
-use cg_report::idle::idle_zeros;
+use cg_report::zeros::row_zero_counts;
 use cg_stimulus::played::one_played_history;
 use cg_stimulus::stimulus::Stimulus;
 use std::alloc::{AllocError, Global};
@@ -30,7 +30,7 @@ pub(crate) fn machine_zeros(
         × (zeros.items ≡ map (zeros_by (λ net. zeros_of net (low_moments history))) origin.now)) }
 {
     one_played_history(netlist, stimulus);
-    let zeros = idle_zeros(alloc, netlist, stimulus)?;
+    let zeros = row_zero_counts(alloc, netlist, stimulus)?;
     carried(alloc, &zeros, origin)
 }
 

@@ -5,7 +5,7 @@ ghost use Rattle.std.specs.Option.{option_map};
 ghost use Rattle.cg_gate.specs.Gating.{AreTexts, GivesDemo, GivesGated, SaysDemo};
 ghost use Rattle.cg_gate.specs.Headline.{Headline};
 ghost use Rattle.cg_gate.specs.Request.{MayGate, stops_at};
-ghost use Rattle.cg_plan_laws.specs.Told.{PlanMayFail};
+ghost use Rattle.cg_plan_laws.specs.Reported.{PlanMayFail};
 ghost use Rattle.cg_plan.specs.Planning.{AreWritable, told};
 ghost use Rattle.cg_stimulus.specs.Inputs.{IsFor};
 

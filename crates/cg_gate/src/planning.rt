@@ -5,16 +5,16 @@ ghost use Rattle.std.specs.Option.{option_copied};
 ghost use Rattle.cg_cell.specs.Name.{is_name};
 ghost use Rattle.cg_extract.specs.Lifted.{lifted, origins};
 ghost use Rattle.cg_gate.specs.Gating.{IsWritten};
-ghost use Rattle.cg_gate.specs.Idling.{idle_of};
+ghost use Rattle.cg_gate.specs.ZeroCounting.{zero_counts_of};
 ghost use Rattle.cg_gate.specs.Laws.{IsProper};
 ghost use Rattle.cg_gate.specs.Request.{MayGate, gating_of, stops_at};
 ghost use Rattle.cg_insert.specs.Insert.{CanInsert};
 ghost use Rattle.cg_insert.specs.Inserting.{insertion};
 ghost use Rattle.cg_limit.specs.Answers.{OrNoMemory};
-ghost use Rattle.cg_stage_list_laws.specs.Literals.{FitsIdle};
+ghost use Rattle.cg_stage_list_laws.specs.Literals.{FitZeroCounts};
 ghost use Rattle.cg_netlist.specs.declared.fault.AddFault.TheVariants.{NoMemory};
 ghost use Rattle.cg_plan_laws.specs.Plan.{plan_of};
-ghost use Rattle.cg_plan_laws.specs.Told.{IsPlan, PlanMayFail};
+ghost use Rattle.cg_plan_laws.specs.Reported.{IsPlan, PlanMayFail};
 ghost use Rattle.cg_plan.specs.Planning.{AreWritable, told};
 ghost use Rattle.cg_stimulus.specs.Inputs.{IsFor, IsStimulus, Rows};
 
@@ -28,7 +28,7 @@ use cg_netlist::fault::AddFault;
 use cg_netlist::netlist::Netlist;
 use cg_plan::plan::{Plan, make_plan};
 use cg_plan::progress::Progress;
-use cg_stage_list_laws::idle::Idle;
+use cg_stage_list_laws::net_zeros::NetZeros;
 use cg_stimulus::stimulus::Stimulus;
 use std::alloc::{AllocError, Global};
 
@@ -110,11 +110,11 @@ fn plan_netlist(
     progress: &mut dyn Progress,
 ) -> Result<Plan, AddFault>
     requires { MayGate request.now netlist.now }
-    ensures plan { IfOk result (λ plan. IsPlan request.now.library request.now.settings (idle_of netlist.now request.now.prefix request.now.stimulus)
+    ensures plan { IfOk result (λ plan. IsPlan request.now.library request.now.settings (zero_counts_of netlist.now request.now.prefix request.now.stimulus)
         (lifted netlist.now request.now.prefix) (told plan)) }
     ensures writable { IfOk result (λ plan. AreWritable plan.certificates) }
     ensures fault { IfErr result
-        (PlanMayFail (plan_of request.now.library request.now.settings (idle_of netlist.now request.now.prefix request.now.stimulus)
+        (PlanMayFail (plan_of request.now.library request.now.settings (zero_counts_of netlist.now request.now.prefix request.now.stimulus)
         (lifted netlist.now request.now.prefix)).limit) }
 {
     let Ok(made) = lift(alloc, netlist, request) else {
@@ -127,11 +127,11 @@ fn plan_netlist(
                 drop(made);
                 return Err(AddFault::NoMemory);
             };
-            let idle = Idle {
+            let counts = NetZeros {
                 zeros: &zeros,
                 rows: stimulus.rows(),
             };
-            plan_machine(alloc, made.machine, request, Some(&idle), progress)
+            plan_machine(alloc, made.machine, request, Some(&counts), progress)
         }
     }
 }
@@ -151,20 +151,20 @@ fn plan_machine(
     alloc: Global,
     machine: Machine,
     request: &Request<'_>,
-    idle: Option<&Idle<'_>>,
+    counts: Option<&NetZeros<'_>>,
     progress: &mut dyn Progress,
 ) -> Result<Plan, AddFault>
-    requires { FitsIdle machine (option_copied idle) }
-    ensures plan { IfOk result (λ plan. IsPlan request.now.library request.now.settings (option_copied idle.entry) machine (told plan)) }
+    requires { FitZeroCounts machine (option_copied counts) }
+    ensures plan { IfOk result (λ plan. IsPlan request.now.library request.now.settings (option_copied counts.entry) machine (told plan)) }
     ensures writable { IfOk result (λ plan. AreWritable plan.certificates) }
-    ensures fault { IfErr result (PlanMayFail (plan_of request.now.library request.now.settings (option_copied idle.entry) machine).limit) }
+    ensures fault { IfErr result (PlanMayFail (plan_of request.now.library request.now.settings (option_copied counts.entry) machine).limit) }
 {
     make_plan(
         alloc,
         machine,
         request.library,
         request.settings,
-        idle,
+        counts,
         progress,
     )
 }

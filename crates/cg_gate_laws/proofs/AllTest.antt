@@ -26,12 +26,12 @@ use Rattle.cg_gate_laws.specs.TestRun.{ticks_of}
 use Rattle.cg_machine.proofs.Simulation.{ticks_same}
 
 pub plans_test_safe : PlansAreTestSafe
-plans_test_safe library settings idle m good free test start wave long ticks =
-    let p : Plan = plan_of library settings idle m in
+plans_test_safe library settings counts m good free test start wave long ticks =
+    let p : Plan = plan_of library settings counts m in
     let n : MachineData = p.machine in
-    let whole = plans_safe library settings idle m good in
+    let whole = plans_safe library settings counts m good in
     let good_n : IsMachine n = whole.0 in
-    let ph : Phases library settings m p = phases library settings m good test idle in
+    let ph : Phases library settings m p = phases library settings m good test counts in
     let b : MachineData = ph.middle.machine in
     let sec : Second b ph.later.kept p = ph.later.second in
     let all : List Entry = entries sec.path in
@@ -49,8 +49,8 @@ plans_test_safe library settings idle m good free test start wave long ticks =
     ∙ whole.1.shows start (ticks_of wave) long ticks
 
 pub test_shows_netlist : TestRunShowsNetlist
-test_shows_netlist library settings idle c prefix can test start wave history started waves lawful =
-    plans_test_safe library settings idle (machine_of c prefix) (start_is_machine c prefix can) (none_anywhere (length c.registers)) test start wave started waves.0
+test_shows_netlist library settings counts c prefix can test start wave history started waves lawful =
+    plans_test_safe library settings counts (machine_of c prefix) (start_is_machine c prefix can) (none_anywhere (length c.registers)) test start wave started waves.0
     ∙ (ap (λ s. shown_from (machine_of c prefix) None s (ticks_of wave)) (ap (λ l. start ++ l) (none_more c prefix) ∙ append-nil start)
     ∙ sym (netlist_is_run c prefix can start (ticks_of wave) history started waves lawful).1)
 

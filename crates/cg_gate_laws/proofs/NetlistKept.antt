@@ -15,7 +15,7 @@ module _ (by : Gating) (c : Circuit) (can : CanExtract c by.prefix) where
   own = lifted_own c by.prefix can
 
   planned_keeps : Keeps (lifted c by.prefix) (planned by c)
-  planned_keeps = plan_keeps by.library by.settings by.idle (lifted c by.prefix) (machine_front (lifted c by.prefix) (lifted_is_machine c by.prefix can))
+  planned_keeps = plan_keeps by.library by.settings by.counts (lifted c by.prefix) (machine_front (lifted c by.prefix) (lifted_is_machine c by.prefix can))
 
 pub keeps_netlist : PlannedKeeps
 keeps_netlist by c can = (planned_keeps by c can).same ∙ (own by c can).own

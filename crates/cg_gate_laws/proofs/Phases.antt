@@ -14,7 +14,7 @@ use Rattle.cg_stage_list_laws.proofs.UnseenFits.{unseen_fits}
 use Rattle.cg_stage_list_laws.specs.Fit.{AllFit}
 use Rattle.cg_stage_list_laws.specs.Groups.{Group}
 use Rattle.cg_stage_list_laws.specs.HoldList.{chosen_regs, choices, hold_list, hold_stage, unless_empty}
-use Rattle.cg_stage_list_laws.specs.Literals.{IdleData, both_literals}
+use Rattle.cg_stage_list_laws.specs.Literals.{ZeroCounts, both_literals}
 use Rattle.cg_stage_list_laws.specs.Rounds.{same_kind}
 use Rattle.cg_stage_list_laws.specs.StableList.{StableKey, stable_list, stable_stage}
 use Rattle.cg_stage_list_laws.specs.Supports.{all_nets}
@@ -167,9 +167,9 @@ module _ (library : List CellData) (settings : Settings) (m : MachineData) where
       more b p y path done = every_map (IsDone b (old_of p.turns)) (IsDone b (old_of (p.turns ++ y ∷ []))) (λ e d. record { kind = d.kind; guards = λ q among. old_left p.turns (y ∷ []) q (d.guards q among); decides = d.decides }) path done
 
   -- the lists of the first phase
-  hold_early : (idle : Option IdleData) (width : ℕ) → Every IsEarly (hold_list m idle width)
-  hold_early idle width = every_mapped (λ l. unless_empty (hold_stage l) (chosen_regs (choices m idle width) l)) (λ _. Unit {0}) IsEarly
-      (λ l s u is. go l (chosen_regs (choices m idle width) l) s is) (both_literals (all_nets m)) (every_one (λ _. Unit {0}) (λ _. tt) (both_literals (all_nets m)))
+  hold_early : (counts : Option ZeroCounts) (width : ℕ) → Every IsEarly (hold_list m counts width)
+  hold_early counts width = every_mapped (λ l. unless_empty (hold_stage l) (chosen_regs (choices m counts width) l)) (λ _. Unit {0}) IsEarly
+      (λ l s u is. go l (chosen_regs (choices m counts width) l) s is) (both_literals (all_nets m)) (every_one (λ _. Unit {0}) (λ _. tt) (both_literals (all_nets m)))
     where
       go : (l : Literal) (regs : List ℕ) (s : Stage) → unless_empty (hold_stage l) regs ≡ Some s → IsEarly s
       go l [] s is = absurd (none-some s is)
@@ -246,17 +246,17 @@ module _ (library : List CellData) (settings : Settings) (m : MachineData) where
     pub first : First m middle
     pub later : Later middle.machine p
 
-  pub phases : IsMachine m → settings.test ≡ true → (idle : Option IdleData) → Phases (plan_of library settings idle m)
-  phases good test idle =
-      let p : Plan = begin m idle settings in
+  pub phases : IsMachine m → settings.test ≡ true → (counts : Option ZeroCounts) → Phases (plan_of library settings counts m)
+  phases good test counts =
+      let p : Plan = begin m counts settings in
       let s0 : IsSafe library settings m p = record { good = good; same = same_self m; cells = λ has. has; turns = λ k turn at. absurd (none-some turn at) } in
       let f0 : First m p = record { path = []; is = refl; kinds = tt; none = λ q among. both_ways false refl among } in
-      let list : List Stage = hold_list m idle settings.width in
-      let fit : AllFit m list = hold_fits m good idle settings.width in
+      let list : List Stage = hold_list m counts settings.width in
+      let fit : AllFit m list = hold_fits m good counts settings.width in
       let tried : Plan = try_all library settings p list in
       let held : Plan = unless_stopped p.limit p tried in
       let s1 : IsSafe library settings m held = unless library settings m p.limit p tried s0 (all_safe library settings m p list s0 fit) in
-      let f1 : First m held = stop p.limit p tried f0 (first_all p list s0 fit (hold_early idle settings.width) f0) in
+      let f1 : First m held = stop p.limit p tried f0 (first_all p list s0 fit (hold_early counts settings.width) f0) in
       let more : Plan = rounds library settings Stable settings.rounds held in
       let stable : Plan = unless_stopped held.limit held more in
       let s2 : IsSafe library settings m stable = unless library settings m held.limit held more s1 (rounds_safe library settings m Stable (λ q g. stable_fits q.machine g (earlier_of q)) settings.rounds held s1) in

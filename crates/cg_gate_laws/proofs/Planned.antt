@@ -49,8 +49,8 @@ can_insert by c can =
     let m : MachineData = lifted c by.prefix in
     let good : IsMachine m = lifted_is_machine c by.prefix can.start in
     let n : MachineData = planned by c in
-    let has : HasCells by.library by.settings.test n = has_cells by.library by.settings by.idle m good (starts_with_cells by c can) in (
-      (plans_safe by.library by.settings by.idle m good).0,
+    let has : HasCells by.library by.settings.test n = has_cells by.library by.settings by.counts m good (starts_with_cells by c can) in (
+      (plans_safe by.library by.settings by.counts m good).0,
       record {
         cells = can.cells;
         gates = has.gates;

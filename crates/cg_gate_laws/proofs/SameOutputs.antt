@@ -39,7 +39,7 @@ module _ (by : Gating) (c : Circuit) (can : CanGate by c) where
   inserts = (can_insert by c can).1
 
   pub whole : Same (lifted c by.prefix) (planned by c)
-  whole = (plans_safe by.library by.settings by.idle (lifted c by.prefix) (lifted_is_machine c by.prefix can.start)).1
+  whole = (plans_safe by.library by.settings by.counts (lifted c by.prefix) (lifted_is_machine c by.prefix can.start)).1
 
   -- the plan's machine has the registers and the data inputs of the netlist
   pub own_count : (planned by c).own_registers ≡ length c.registers
@@ -92,8 +92,8 @@ module _ (by : Gating) (c : Circuit) (can : CanGate by c) where
     tested name is =
         let none : c.gaters ≡ [] = ungated_tested by c can name is in
         (insertion_is_right by.library by.test n good inserts (start ++ ones n) wave history long waves lawful).outputs
-        ∙ subst (λ (m : MachineData). test_shown (plan_of by.library by.settings by.idle m).machine start (map (own_tick n) wave) ≡ outputs_of c other) (sym (lifted_of_ungated c by.prefix can.start none))
-        (test_shows_netlist by.library by.settings by.idle c by.prefix (starts_ungated c by.prefix can.start none) (can.tested ∙ ap is_some is) start (map (own_tick n) wave) other started original_waves original)
+        ∙ subst (λ (m : MachineData). test_shown (plan_of by.library by.settings by.counts m).machine start (map (own_tick n) wave) ≡ outputs_of c other) (sym (lifted_of_ungated c by.prefix can.start none))
+        (test_shows_netlist by.library by.settings by.counts c by.prefix (starts_ungated c by.prefix can.start none) (can.tested ∙ ap is_some is) start (map (own_tick n) wave) other started original_waves original)
 
     plain : by.test ≡ None → outputs_of (gated_by by c) history ≡ outputs_of c other
     plain none =

@@ -15,7 +15,7 @@ use Rattle.cg_machine.specs.Machine.{MachineData}
 use Rattle.cg_machine.specs.Run.{ones}
 use Rattle.cg_extract.specs.Lifted.{CanExtract, first_refused, lifted}
 use Rattle.cg_insert.specs.Insert.{gate_names, inserted, own_tick}
-use Rattle.cg_stage_list_laws.specs.Literals.{IdleData}
+use Rattle.cg_stage_list_laws.specs.Literals.{ZeroCounts}
 use Rattle.cg_plan_laws.specs.Plan.{plan_of}
 use Rattle.cg_plan_laws.specs.declared.settings.Settings.{Settings}
 use Rattle.cg_gate_laws.specs.TestRun.{ticks_of}
@@ -25,13 +25,13 @@ use Rattle.cg_gate_laws.specs.TestRun.{ticks_of}
 pub record Gating : Type 0 where
   pub library : List CellData
   pub settings : Settings
-  pub idle : Option IdleData
+  pub counts : Option ZeroCounts
   pub prefix : List ℕ
   pub test : Option (List ℕ)
 
 -- the machine of the plan, and the gated netlist
 abbrev pub planned : Gating → Circuit → MachineData
-planned by c = (plan_of by.library by.settings by.idle (lifted c by.prefix)).machine
+planned by c = (plan_of by.library by.settings by.counts (lifted c by.prefix)).machine
 
 abbrev pub gated_by : Gating → Circuit → Circuit
 gated_by by c = inserted by.library by.test (planned by c)

@@ -40,7 +40,7 @@ module _ (m n : MachineData) (good : IsMachine m) (good_n : IsMachine n) (names 
         long = length-take-le N vs (omega (arith, s.long, names));
         shows_clock = λ net is. take_get N vs net (given_below net (clock_given m.circuit net is)) ∙ s.shows_clock net (clock ∙ is);
         shows_inputs = front_values vs (data_inputs m.circuit) (λ y among. given_below y (data_given m.circuit y among)) ∙ (ap (values_at vs) (sym inputs) ∙ s.shows_inputs);
-        shows_gates = ap (λ gs. values_at (take N vs) (map (λ (g : GatingCell ℕ). g.output) gs)) good.no_gaters;
+        shows_gaters = ap (λ gs. values_at (take N vs) (map (λ (g : GatingCell ℕ). g.output) gs)) good.no_gaters;
         shows_state = front_values vs (register_nets m.circuit) (λ y among. given_below y (register_given m.circuit y among)) ∙ states vs t s.long long s.shows_state;
         holds = λ k cell at.
             let out : is_in (cell_nets m.circuit) cell.output ≡ true = member_at (cell_nets m.circuit) k cell.output (at_map (λ (c : LogicCell ℕ). c.output) m.circuit.cells k cell at) in

@@ -11,10 +11,10 @@ use Rattle.std.proofs.lemmas.Option.{slice_get_within}
 use Rattle.cg_cell.specs.Name.{is_name}
 use Rattle.cg_netlist.specs.Circuit.{Circuit, LogicCell, RegisterCell, asked_nets, cell_nets, clock_nets, data_inputs}
 use Rattle.cg_net.specs.NetSets.{is_in}
-use Rattle.cg_netlist.specs.Circuit.{drivers, gate_nets, given_nets, register_nets, shown_nets, used_nets}
+use Rattle.cg_netlist.specs.Circuit.{drivers, gater_outputs, given_nets, register_nets, shown_nets, used_nets}
 use Rattle.cg_netlist.specs.WellFormed.{IsDriven, IsOver, IsWellFormed, RegisterFits}
 use Rattle.cg_netlist.proofs.Given.{clock_given, distinct_cells, distinct_given, driver_within, given_driver, given_no_cell}
-use Rattle.cg_netlist.proofs.Given.{in_option, gate_given}
+use Rattle.cg_netlist.proofs.Given.{in_option, gater_given}
 use Rattle.cg_net.proofs.Members.{All-from_members, All-member, distinct_append, is_in_cases, is_in_left, is_in_right}
 use Rattle.cg_netlist.proofs.Solve.{greatest, greatest_bounds}
 use Rattle.cg_machine.specs.Added.{push_cell, push_register}
@@ -53,9 +53,9 @@ module _ (c : Circuit) (good : IsWellFormed c) (name : List ℕ) (named : IsTrue
   driver_old x among = driver_within c good.driven x among
 
   clock_old : (x : ℕ) → is_in (clock_nets c) x ≡ true → x < n
-  clock_old x among = elim (is_in_cases (option_to_list c.clock) (gate_nets c) x among) [
+  clock_old x among = elim (is_in_cases (option_to_list c.clock) (gater_outputs c) x among) [
     | inl clk ↦ driver_old x (given_driver c x (clock_given c x (in_option c.clock x clk)))
-    | inr gate ↦ driver_old x (given_driver c x (gate_given c x gate))
+    | inr gate ↦ driver_old x (given_driver c x (gater_given c x gate))
   ]
 
   abbrev ins : List ℕ
@@ -177,7 +177,7 @@ module _ (c : Circuit) (good : IsWellFormed c) (name : List ℕ) (named : IsTrue
     shown_are = flat_map-append shown_nets c.registers (r ∷ []) ∙ ap (λ xs. register_nets c ++ xs) (append-nil (shown_nets r) ∙ shown)
 
     drivers_with : drivers e ≡ (given_nets c ++ n ∷ []) ++ cell_nets c
-    drivers_with = ap (λ xs. (data_inputs c ++ option_to_list c.clock ++ gate_nets c ++ xs) ++ cell_nets c) shown_are ∙ ap (λ xs. xs ++ cell_nets c) (sym (append_assoc (data_inputs c ++ option_to_list c.clock ++ gate_nets c) (register_nets c) (n ∷ [])))
+    drivers_with = ap (λ xs. (data_inputs c ++ option_to_list c.clock ++ gater_outputs c ++ xs) ++ cell_nets c) shown_are ∙ ap (λ xs. xs ++ cell_nets c) (sym (append_assoc (data_inputs c ++ option_to_list c.clock ++ gater_outputs c) (register_nets c) (n ∷ [])))
 
     given_old : (x : ℕ) → is_in (given_nets c) x ≡ true → x < n
     given_old x among = driver_old x (given_driver c x among)

@@ -4,9 +4,9 @@ use Rattle.std.proofs.Common.{Option, None, Some, refl, sym, ◌∙◌, ap, subs
 use Rattle.std.specs.Option.{option_to_list}
 use Rattle.std.proofs.lemmas.Bool.{both_ways}
 use Rattle.std.proofs.lemmas.Option.{slice_get-get_or}
-use Rattle.cg_netlist.specs.Circuit.{Circuit, GatingCell, RegisterCell, clock_nets, gate_nets}
+use Rattle.cg_netlist.specs.Circuit.{Circuit, GatingCell, RegisterCell, clock_nets, gater_outputs}
 use Rattle.cg_net.specs.NetSets.{is_in}
-use Rattle.cg_netlist.specs.History.{LawfulFrom, Moment, Tick, gate_bit, next_bit, next_value, outputs_of, rises}
+use Rattle.cg_netlist.specs.History.{LawfulFrom, Moment, Tick, gater_bit, next_bit, next_value, outputs_of, rises}
 use Rattle.cg_netlist.specs.History.{state_now as state_of_history}
 use Rattle.cg_netlist.specs.Moment.{Settles, bit, values_at, zip_with}
 use Rattle.cg_netlist.proofs.Given.{in_option}
@@ -38,9 +38,9 @@ module _ (m : MachineData) (good : IsMachine m) (free : (r : ℕ) → enable_of 
   register_clock : (k : ℕ) (cell : RegisterCell ℕ ℕ) → slice_get m.circuit.registers k ≡ Some cell → m.circuit.clock ≡ Some cell.clock
   register_clock k cell at =
       let among = all_at (λ (r : RegisterCell ℕ ℕ). is_in (clock_nets c) r.clock ≡ true) c.registers k cell good.well_formed.clocked at in
-      elim (is_in_cases (option_to_list c.clock) (gate_nets c) cell.clock among) [
+      elim (is_in_cases (option_to_list c.clock) (gater_outputs c) cell.clock among) [
         | inl here ↦ in_option c.clock cell.clock here
-        | inr gate ↦ absurd (both_ways (is_in (gate_nets c) cell.clock) (ap (λ gs. is_in (map (λ (g : GatingCell ℕ). g.output) gs) cell.clock) good.no_gaters) gate)
+        | inr gate ↦ absurd (both_ways (is_in (gater_outputs c) cell.clock) (ap (λ gs. is_in (map (λ (g : GatingCell ℕ). g.output) gs) cell.clock) good.no_gaters) gate)
       ]
 
   -- a moment's state is the machine's
@@ -99,7 +99,7 @@ module _ (m : MachineData) (good : IsMachine m) (free : (r : ℕ) → enable_of 
   history_runs start before tick s first stands (k ∷ wave) [] lawful = absurd lawful
   history_runs start before tick s first stands (k ∷ wave) (now ∷ history) lawful =
       let settles : Settles m.circuit k.clock k.inputs now.state [] now.nets =
-      subst (λ gs. Settles m.circuit k.clock k.inputs now.state gs now.nets) (no_gates m.circuit.gaters (gate_bit now.nets) now.latches good.no_gaters) lawful.0.nets in
+      subst (λ gs. Settles m.circuit k.clock k.inputs now.state gs now.nets) (no_gates m.circuit.gaters (gater_bit now.nets) now.latches good.no_gaters) lawful.0.nets in
       let state : now.state ≡ state_now m tick s k = lawful.0.state ∙ at before tick first stands now settles in
       let there : Settles m.circuit k.clock k.inputs (state_now m tick s k) [] now.nets = subst (λ z. Settles m.circuit k.clock k.inputs z [] now.nets) state settles in
       let long : IsState m (state_now m tick s k) = long_at before tick stands in

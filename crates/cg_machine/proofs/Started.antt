@@ -10,7 +10,7 @@ use Rattle.std.proofs.Math.Seq.{take-append_seam}
 use Rattle.std.proofs.lemmas.List.{append-nil, length-replicate, take_all}
 use Rattle.std.proofs.lemmas.List.Elements.{All-cons, All-nil}
 use Rattle.std.proofs.lemmas.Option.{none-some, slice_get_within}
-use Rattle.cg_netlist.specs.Circuit.{Circuit, cell_nets, gate_nets, register_nets}
+use Rattle.cg_netlist.specs.Circuit.{Circuit, cell_nets, gater_outputs, register_nets}
 use Rattle.cg_net.specs.NetSets.{is_in}
 use Rattle.cg_netlist.specs.Moment.{values_at}
 use Rattle.cg_netlist.specs.Nets.{IsWalk, walk_order}
@@ -38,8 +38,8 @@ inputs_distinct c ordered =
     let clock : List ℕ = filter (λ net. not (is_in c.inputs net)) (option_to_list c.clock) in
     distinct_left c.inputs clock
     (distinct_left (c.inputs ++ clock) (cell_nets c)
-    (distinct_left (c.inputs ++ clock ++ cell_nets c) (gate_nets c)
-    (distinct_left (c.inputs ++ clock ++ cell_nets c ++ gate_nets c) (register_nets c)
+    (distinct_left (c.inputs ++ clock ++ cell_nets c) (gater_outputs c)
+    (distinct_left (c.inputs ++ clock ++ cell_nets c ++ gater_outputs c) (register_nets c)
     (subst (IsDistinct nat_eq) (sym ordered) (distinct_range (length c.names) 0)))))
 
 -- no name that begins with the prefix is one of these

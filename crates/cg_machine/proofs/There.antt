@@ -12,7 +12,7 @@ use Rattle.cg_cell.specs.Cover.{cover_value}
 use Rattle.cg_cell.specs.declared.fit.FitKind.{FitKind}
 use Rattle.cg_limit.specs.declared.Limit.{Limit}
 use Rattle.cg_limit.specs.declared.Limit.TheVariants.{Nets, Registers}
-use Rattle.cg_netlist.specs.Circuit.{Circuit, LogicCell, RegisterCell, cell_nets, data_inputs, gate_nets, given_nets}
+use Rattle.cg_netlist.specs.Circuit.{Circuit, LogicCell, RegisterCell, cell_nets, data_inputs, gater_outputs, given_nets}
 use Rattle.cg_net.specs.NetSets.{is_in}
 use Rattle.cg_netlist.specs.Circuit.{register_nets, shown_nets}
 use Rattle.cg_netlist.specs.History.{next_value}
@@ -68,8 +68,8 @@ same_bits vs s y k same = sym (unwrap_or-slice_get vs y false) ∙ (ap (λ o. un
 
 -- the clock is no output of a register
 pub clock_no_register : (c : Circuit) → IsDriven c → (x : ℕ) → c.clock ≡ Some x → is_in (register_nets c) x ≡ false
-clock_no_register c driven x is = distinct_apart (data_inputs c ++ option_to_list c.clock ++ gate_nets c) (register_nets c) (distinct_given c driven) x
-    (is_in_left (data_inputs c ++ option_to_list c.clock) (gate_nets c) x (is_in_right (data_inputs c) (option_to_list c.clock) x (from_option c.clock x is)))
+clock_no_register c driven x is = distinct_apart (data_inputs c ++ option_to_list c.clock ++ gater_outputs c) (register_nets c) (distinct_given c driven) x
+    (is_in_left (data_inputs c ++ option_to_list c.clock) (gater_outputs c) x (is_in_right (data_inputs c) (option_to_list c.clock) x (from_option c.clock x is)))
 
 -- what a machine with a gate keeps
 module _ (m : MachineData) (good : IsMachine m) (kind : FitKind) (inputs : List ℕ) (fits : GateFits m kind inputs) (room : length m.circuit.names < MOST_NETS) where

@@ -6,7 +6,7 @@ use Rattle.std.proofs.lemmas.Bool.{both_ways}
 use Rattle.std.proofs.lemmas.List.{length-set}
 use Rattle.std.proofs.lemmas.Option.{same_Some}
 use Rattle.std.specs.Option.{option_to_list}
-use Rattle.cg_netlist.specs.Circuit.{Circuit, cell_nets, data_inputs, gate_nets, register_nets, used_nets}
+use Rattle.cg_netlist.specs.Circuit.{Circuit, cell_nets, data_inputs, gater_outputs, register_nets, used_nets}
 use Rattle.cg_net.specs.NetSets.{is_in}
 use Rattle.cg_netlist.specs.Moment.{Settles, function_value, values_at}
 use Rattle.cg_netlist.specs.WellFormed.{IsWellFormed}
@@ -29,7 +29,7 @@ module _ (c : Circuit) (good : IsWellFormed c) (inputs state gates : List Bool) 
     low = slice_set nets clk false
 
     unused : (x : ℕ) → is_in (used_nets c) x ≡ true → x ≡ clk → ⊥
-    unused x among e = both_ways (is_in (used_nets c) clk) (good.apart clk (is_in_left (option_to_list c.clock) (gate_nets c) clk (from_option c.clock clk is))) (subst (λ y. is_in (used_nets c) y ≡ true) e among)
+    unused x among e = both_ways (is_in (used_nets c) clk) (good.apart clk (is_in_left (option_to_list c.clock) (gater_outputs c) clk (from_option c.clock clk is))) (subst (λ y. is_in (used_nets c) y ≡ true) e among)
 
     other : (x : ℕ) → (x ≡ clk → ⊥) → slice_get low x ≡ slice_get nets x
     unfolding low
@@ -43,15 +43,15 @@ module _ (c : Circuit) (good : IsWellFormed c) (inputs state gates : List Bool) 
 
     clk_no_data : is_in (data_inputs c) clk ≡ false
     clk_no_data = elim (Rattle.std.proofs.lemmas.Bool.cases_Bool (is_in (data_inputs c) clk)) [
-      | inl among ↦ absurd (both_ways (is_in (option_to_list c.clock) clk) (distinct_apart (data_inputs c) (option_to_list c.clock) (distinct_left (data_inputs c ++ option_to_list c.clock) (gate_nets c) (distinct_left (data_inputs c ++ option_to_list c.clock ++ gate_nets c) (register_nets c) (distinct_given c good.driven))) clk among) (from_option c.clock clk is))
+      | inl among ↦ absurd (both_ways (is_in (option_to_list c.clock) clk) (distinct_apart (data_inputs c) (option_to_list c.clock) (distinct_left (data_inputs c ++ option_to_list c.clock) (gater_outputs c) (distinct_left (data_inputs c ++ option_to_list c.clock ++ gater_outputs c) (register_nets c) (distinct_given c good.driven))) clk among) (from_option c.clock clk is))
       | inr out ↦ out
     ]
 
-    clk_no_gate : is_in (gate_nets c) clk ≡ false
-    clk_no_gate = Rattle.cg_netlist.proofs.Given.clock_no_gate c good.driven clk is
+    clk_no_gater : is_in (gater_outputs c) clk ≡ false
+    clk_no_gater = Rattle.cg_netlist.proofs.Given.clock_no_gater c good.driven clk is
 
     clk_no_register : is_in (register_nets c) clk ≡ false
-    clk_no_register = distinct_apart (data_inputs c ++ option_to_list c.clock ++ gate_nets c) (register_nets c) (distinct_given c good.driven) clk (is_in_left (data_inputs c ++ option_to_list c.clock) (gate_nets c) clk (is_in_right (data_inputs c) (option_to_list c.clock) clk (from_option c.clock clk is)))
+    clk_no_register = distinct_apart (data_inputs c ++ option_to_list c.clock ++ gater_outputs c) (register_nets c) (distinct_given c good.driven) clk (is_in_left (data_inputs c ++ option_to_list c.clock) (gater_outputs c) clk (is_in_right (data_inputs c) (option_to_list c.clock) clk (from_option c.clock clk is)))
 
     lowers_at : Lowers c inputs state gates nets
     unfolding low
@@ -63,7 +63,7 @@ module _ (c : Circuit) (good : IsWellFormed c) (inputs state gates : List Bool) 
             let same : clk ≡ net = same_Some clk net (sym is ∙ at) in
             subst (λ y. slice_get (slice_set nets clk false) y ≡ Some false) same (slice_get-set_same nets clk false (let below : clk < length c.names = driver_within c good.driven clk (given_driver c clk (clock_given c clk is)) in omega (arith, settles.long)));
         shows_inputs = same_at (data_inputs c) clk_no_data ∙ settles.shows_inputs;
-        shows_gates = same_at (gate_nets c) clk_no_gate ∙ settles.shows_gates;
+        shows_gaters = same_at (gater_outputs c) clk_no_gater ∙ settles.shows_gaters;
         shows_state = same_at (register_nets c) clk_no_register ∙ settles.shows_state;
         holds = λ k cell at.
             let out : cell.output ≡ clk → ⊥ = λ e. both_ways (is_in (cell_nets c) clk) clk_no_cell (subst (λ y. is_in (cell_nets c) y ≡ true) e (member_at (cell_nets c) k cell.output (at_map (λ cell. cell.output) c.cells k cell at))) in
@@ -78,4 +78,4 @@ module _ (c : Circuit) (good : IsWellFormed c) (inputs state gates : List Bool) 
     where
       go : (o : Option ℕ) → c.clock ≡ o → Lowers c inputs state gates nets
       go (Some clk) is = lowers_at clk is nets clock settles
-      go None is = record { low = nets; settles = record { long = settles.long; shows_clock = λ net at. absurd (let z : None ≡ Some net = sym is ∙ at in cc); shows_inputs = settles.shows_inputs; shows_gates = settles.shows_gates; shows_state = settles.shows_state; holds = settles.holds }; same = λ x among. refl; apart = λ x differ. refl }
+      go None is = record { low = nets; settles = record { long = settles.long; shows_clock = λ net at. absurd (let z : None ≡ Some net = sym is ∙ at in cc); shows_inputs = settles.shows_inputs; shows_gaters = settles.shows_gaters; shows_state = settles.shows_state; holds = settles.holds }; same = λ x among. refl; apart = λ x differ. refl }

@@ -5,7 +5,7 @@ use Rattle.std.specs.List.{IsDistinct, filter, range_with_len}
 use Rattle.std.specs.Option.{option_to_list}
 use Rattle.std.proofs.lemmas.Bool.{eqb-true, eq-eqb, or_cases, or_left, or_right, and_parts, both_ways, cases_eq, cases_Bool}
 use Rattle.std.proofs.lemmas.Bool.{false_from_ne_true, not-true}
-use Rattle.cg_netlist.specs.Circuit.{Circuit, cell_nets, data_inputs, drivers, gate_nets, net_order, register_nets}
+use Rattle.cg_netlist.specs.Circuit.{Circuit, cell_nets, data_inputs, drivers, gater_outputs, net_order, register_nets}
 use Rattle.cg_net.specs.NetSets.{is_in}
 use Rattle.cg_netlist.specs.WellFormed.{IsDriven, IsInNetOrder}
 use Rattle.cg_net.proofs.Members.{All-from_members, distinct_cons, is_in-append, is_in_cases, is_in_left, is_in_right}
@@ -102,17 +102,17 @@ module _ (c : Circuit) (order : IsInNetOrder c) where
 
   same_members : (x : ℕ) → is_in (drivers c) x ≡ is_in (net_order c) x
   same_members x =
-      is_in-four sources (gate_nets c) (register_nets c) (cell_nets c) x
-      ∙ (turned (is_in sources x) (is_in (gate_nets c) x) (is_in (register_nets c) x) (is_in (cell_nets c) x)
-      ∙ (ap (λ b. ((b || is_in (cell_nets c) x) || is_in (gate_nets c) x) || is_in (register_nets c) x) (same_sources x)
-      ∙ sym (is_in-four inputs (cell_nets c) (gate_nets c) (register_nets c) x)))
+      is_in-four sources (gater_outputs c) (register_nets c) (cell_nets c) x
+      ∙ (turned (is_in sources x) (is_in (gater_outputs c) x) (is_in (register_nets c) x) (is_in (cell_nets c) x)
+      ∙ (ap (λ b. ((b || is_in (cell_nets c) x) || is_in (gater_outputs c) x) || is_in (register_nets c) x) (same_sources x)
+      ∙ sym (is_in-four inputs (cell_nets c) (gater_outputs c) (register_nets c) x)))
 
   -- the fronts of net order
-  three : IsDistinct nat_eq (inputs ++ cell_nets c ++ gate_nets c)
-  three = distinct_left (inputs ++ cell_nets c ++ gate_nets c) (register_nets c) distinct
+  three : IsDistinct nat_eq (inputs ++ cell_nets c ++ gater_outputs c)
+  three = distinct_left (inputs ++ cell_nets c ++ gater_outputs c) (register_nets c) distinct
 
   two : IsDistinct nat_eq (inputs ++ cell_nets c)
-  two = distinct_left (inputs ++ cell_nets c) (gate_nets c) three
+  two = distinct_left (inputs ++ cell_nets c) (gater_outputs c) three
 
   distinct_sources : IsDistinct nat_eq sources
   distinct_sources =
@@ -124,11 +124,11 @@ module _ (c : Circuit) (order : IsInNetOrder c) where
   source_apart : (x : ℕ) → is_in sources x ≡ true → is_in (cell_nets c) x ≡ false
   source_apart x among = distinct_apart inputs (cell_nets c) two x (sym (same_sources x) ∙ among)
 
-  gate_apart : (x : ℕ) → is_in (inputs ++ cell_nets c) x ≡ true → is_in (gate_nets c) x ≡ false
-  gate_apart x among = distinct_apart (inputs ++ cell_nets c) (gate_nets c) three x among
+  gate_apart : (x : ℕ) → is_in (inputs ++ cell_nets c) x ≡ true → is_in (gater_outputs c) x ≡ false
+  gate_apart x among = distinct_apart (inputs ++ cell_nets c) (gater_outputs c) three x among
 
-  register_apart : (x : ℕ) → is_in (inputs ++ cell_nets c ++ gate_nets c) x ≡ true → is_in (register_nets c) x ≡ false
-  register_apart x among = distinct_apart (inputs ++ cell_nets c ++ gate_nets c) (register_nets c) distinct x among
+  register_apart : (x : ℕ) → is_in (inputs ++ cell_nets c ++ gater_outputs c) x ≡ true → is_in (register_nets c) x ≡ false
+  register_apart x among = distinct_apart (inputs ++ cell_nets c ++ gater_outputs c) (register_nets c) distinct x among
 
   -- a source stands in each front
   source_in_two : (x : ℕ) → is_in sources x ≡ true → is_in (inputs ++ cell_nets c) x ≡ true
@@ -137,27 +137,27 @@ module _ (c : Circuit) (order : IsInNetOrder c) where
   cell_in_two : (x : ℕ) → is_in (cell_nets c) x ≡ true → is_in (inputs ++ cell_nets c) x ≡ true
   cell_in_two x among = is_in_right inputs (cell_nets c) x among
 
-  in_three : (x : ℕ) → is_in (inputs ++ cell_nets c) x ≡ true → is_in (inputs ++ cell_nets c ++ gate_nets c) x ≡ true
-  in_three x among = is_in_left (inputs ++ cell_nets c) (gate_nets c) x among
+  in_three : (x : ℕ) → is_in (inputs ++ cell_nets c) x ≡ true → is_in (inputs ++ cell_nets c ++ gater_outputs c) x ≡ true
+  in_three x among = is_in_left (inputs ++ cell_nets c) (gater_outputs c) x among
 
-  no_cell : (x : ℕ) → is_in (sources ++ gate_nets c ++ register_nets c) x ≡ true → is_in (cell_nets c) x ≡ false
-  no_cell x among = false_from_ne_true (is_in (cell_nets c) x) (λ cell. elim (is_in_cases (sources ++ gate_nets c) (register_nets c) x among) [
-    | inl front ↦ elim (is_in_cases sources (gate_nets c) x front) [
+  no_cell : (x : ℕ) → is_in (sources ++ gater_outputs c ++ register_nets c) x ≡ true → is_in (cell_nets c) x ≡ false
+  no_cell x among = false_from_ne_true (is_in (cell_nets c) x) (λ cell. elim (is_in_cases (sources ++ gater_outputs c) (register_nets c) x among) [
+    | inl front ↦ elim (is_in_cases sources (gater_outputs c) x front) [
       | inl source ↦ both_ways (is_in (cell_nets c) x) (source_apart x source) cell
-      | inr gate ↦ both_ways (is_in (gate_nets c) x) (gate_apart x (cell_in_two x cell)) gate
+      | inr gate ↦ both_ways (is_in (gater_outputs c) x) (gate_apart x (cell_in_two x cell)) gate
     ]
     | inr register ↦ both_ways (is_in (register_nets c) x) (register_apart x (in_three x (cell_in_two x cell))) register
   ])
 
   once : IsDistinct nat_eq (drivers c)
   once =
-      distinct_append (sources ++ gate_nets c ++ register_nets c) (cell_nets c)
-      (distinct_append (sources ++ gate_nets c) (register_nets c)
-      (distinct_append sources (gate_nets c) distinct_sources (distinct_right (inputs ++ cell_nets c) (gate_nets c) three) (λ x source. gate_apart x (source_in_two x source)))
-      (distinct_right (inputs ++ cell_nets c ++ gate_nets c) (register_nets c) distinct)
-      (λ x among. elim (is_in_cases sources (gate_nets c) x among) [
+      distinct_append (sources ++ gater_outputs c ++ register_nets c) (cell_nets c)
+      (distinct_append (sources ++ gater_outputs c) (register_nets c)
+      (distinct_append sources (gater_outputs c) distinct_sources (distinct_right (inputs ++ cell_nets c) (gater_outputs c) three) (λ x source. gate_apart x (source_in_two x source)))
+      (distinct_right (inputs ++ cell_nets c ++ gater_outputs c) (register_nets c) distinct)
+      (λ x among. elim (is_in_cases sources (gater_outputs c) x among) [
         | inl source ↦ register_apart x (in_three x (source_in_two x source))
-        | inr gate ↦ register_apart x (is_in_right (inputs ++ cell_nets c) (gate_nets c) x gate)
+        | inr gate ↦ register_apart x (is_in_right (inputs ++ cell_nets c) (gater_outputs c) x gate)
       ]))
       (distinct_right inputs (cell_nets c) two)
       no_cell

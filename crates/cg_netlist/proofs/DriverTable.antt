@@ -7,7 +7,7 @@ use Rattle.std.specs.Option.{option_to_list}
 use Rattle.std.proofs.lemmas.Bool.{both_ways, or_from}
 use Rattle.std.proofs.lemmas.List.{drop_all, length-replicate, length-set}
 use Rattle.std.proofs.lemmas.Option.{get_or_from_slice_get, none-some, same_Some, slice_get_within}
-use Rattle.cg_netlist.specs.Circuit.{Circuit, GatingCell, LogicCell, RegisterCell, cell_nets, data_inputs, gate_nets, given_nets}
+use Rattle.cg_netlist.specs.Circuit.{Circuit, GatingCell, LogicCell, RegisterCell, cell_nets, data_inputs, gater_outputs, given_nets}
 use Rattle.cg_net.specs.NetSets.{is_in}
 use Rattle.cg_netlist.specs.Circuit.{register_nets, shown_nets}
 use Rattle.cg_netlist.specs.Drivers.{IsDriver}
@@ -15,7 +15,7 @@ use Rattle.cg_netlist.specs.WellFormed.{IsDriven}
 use Rattle.cg_netlist.specs.declared.driver.Driver.{Driver}
 use Rattle.cg_netlist.specs.declared.driver.Driver.TheVariants.{Input, Cell, Gater, Register}
 use Rattle.cg_netlist.specs.inner.Driving.{IsTold, all_but_inputs, behind_cells, behind_gaters, behind_registers}
-use Rattle.cg_netlist.proofs.Given.{driver_within, gate_given, given_driver, register_given}
+use Rattle.cg_netlist.proofs.Given.{driver_within, gater_given, given_driver, register_given}
 use Rattle.cg_net.proofs.Members.{is_in_cases, is_in_left, is_in_right, member_at}
 use Rattle.cg_netlist.proofs.NetsOf.{other_eqb}
 use Rattle.cg_net.proofs.TableLemmas.{set_cases}
@@ -23,8 +23,8 @@ use Rattle.cg_netlist.proofs.Used.{in_flat}
 use Rattle.cg_netlist.proofs.Values.{at_map}
 
 -- one net is told
-pub told_next : (c : Circuit) (x : ℕ) (left : List ℕ) (table : List Driver) (d : Driver) → IsTold c (x ∷ left) table → IsDriver c x d → IsTold c left (set table x d)
-told_next c x left table d told is = record {
+pub listed_next : (c : Circuit) (x : ℕ) (left : List ℕ) (table : List Driver) (d : Driver) → IsTold c (x ∷ left) table → IsDriver c x d → IsTold c left (set table x d)
+listed_next c x left table d told is = record {
   long = length-set table x d ∙ told.long;
   right = λ net e at out. elim (set_cases table x net d e at) [
     | inl here ↦ subst (λ n. IsDriver c n e) (sym here.0) (subst (IsDriver c x) (sym here.1) is)
@@ -58,8 +58,8 @@ same_driver zero net d e at = absurd (none-some e at)
 same_driver (suc n) zero d e at = same_Some d e at
 same_driver (suc n) (suc net) d e at = same_driver n net d e at
 
-pub told_first : (c : Circuit) → IsDriven c → IsTold c (all_but_inputs c) (replicate (length c.names) Input)
-told_first c driven = record {
+pub listed_first : (c : Circuit) → IsDriven c → IsTold c (all_but_inputs c) (replicate (length c.names) Input)
+listed_first c driven = record {
   long = length-replicate (length c.names) Input;
   right = λ net d at out.
       let below : net < length c.names = omega (arith, slice_get_within (replicate (length c.names) Input) net d at, length-replicate (length c.names) Input) in
@@ -72,31 +72,31 @@ told_first c driven = record {
     input : (net : ℕ) → is_in (all_but_inputs c) net ≡ false → is_in (Rattle.cg_netlist.specs.Circuit.drivers c) net ≡ true → is_in (data_inputs c) net ≡ true
     input net out among = elim (is_in_cases (given_nets c) (cell_nets c) net among) [
       | inr cell ↦ apart net out (is_in_left (cell_nets c) (behind_cells c) net cell)
-      | inl given ↦ elim (is_in_cases (data_inputs c ++ option_to_list c.clock ++ gate_nets c) (register_nets c) net given) [
-        | inr register ↦ apart net out (is_in_right (cell_nets c) (behind_cells c) net (is_in_right (gate_nets c) (behind_gaters c) net (is_in_left (register_nets c) (behind_registers c) net register)))
-        | inl more ↦ elim (is_in_cases (data_inputs c ++ option_to_list c.clock) (gate_nets c) net more) [
-          | inr gate ↦ apart net out (is_in_right (cell_nets c) (behind_cells c) net (is_in_left (gate_nets c) (behind_gaters c) net gate))
+      | inl given ↦ elim (is_in_cases (data_inputs c ++ option_to_list c.clock ++ gater_outputs c) (register_nets c) net given) [
+        | inr register ↦ apart net out (is_in_right (cell_nets c) (behind_cells c) net (is_in_right (gater_outputs c) (behind_gaters c) net (is_in_left (register_nets c) (behind_registers c) net register)))
+        | inl more ↦ elim (is_in_cases (data_inputs c ++ option_to_list c.clock) (gater_outputs c) net more) [
+          | inr gate ↦ apart net out (is_in_right (cell_nets c) (behind_cells c) net (is_in_left (gater_outputs c) (behind_gaters c) net gate))
           | inl first ↦ elim (is_in_cases (data_inputs c) (option_to_list c.clock) net first) [
-            | inr clock ↦ apart net out (is_in_right (cell_nets c) (behind_cells c) net (is_in_right (gate_nets c) (behind_gaters c) net (is_in_right (register_nets c) (behind_registers c) net clock)))
+            | inr clock ↦ apart net out (is_in_right (cell_nets c) (behind_cells c) net (is_in_right (gater_outputs c) (behind_gaters c) net (is_in_right (register_nets c) (behind_registers c) net clock)))
             | inl data_net ↦ data_net
           ]
         ]
       ]
     ]
 
-pub cell_told : (c : Circuit) (k : ℕ) (cell : LogicCell ℕ) (table : List Driver) → slice_get c.cells k ≡ Some cell → IsTold c (map (λ (x : LogicCell ℕ). x.output) (drop k c.cells) ++ behind_cells c) table
+pub cell_listed : (c : Circuit) (k : ℕ) (cell : LogicCell ℕ) (table : List Driver) → slice_get c.cells k ≡ Some cell → IsTold c (map (λ (x : LogicCell ℕ). x.output) (drop k c.cells) ++ behind_cells c) table
     → IsTold c (map (λ (x : LogicCell ℕ). x.output) (drop (k + 1) c.cells) ++ behind_cells c) (set table cell.output (Cell k))
-cell_told c k cell table at told = told_next c cell.output (map (λ (x : LogicCell ℕ). x.output) (drop (k + 1) c.cells) ++ behind_cells c) table (Cell k)
+cell_listed c k cell table at told = listed_next c cell.output (map (λ (x : LogicCell ℕ). x.output) (drop (k + 1) c.cells) ++ behind_cells c) table (Cell k)
     (subst (λ left. IsTold c left table) (left_at (λ (x : LogicCell ℕ). x.output) c.cells (behind_cells c) k cell at) told) (cell, at, refl)
 
-pub gater_told : (c : Circuit) (k : ℕ) (gater : GatingCell ℕ) (table : List Driver) → slice_get c.gaters k ≡ Some gater → IsTold c (map (λ (x : GatingCell ℕ). x.output) (drop k c.gaters) ++ behind_gaters c) table
+pub gater_listed : (c : Circuit) (k : ℕ) (gater : GatingCell ℕ) (table : List Driver) → slice_get c.gaters k ≡ Some gater → IsTold c (map (λ (x : GatingCell ℕ). x.output) (drop k c.gaters) ++ behind_gaters c) table
     → IsTold c (map (λ (x : GatingCell ℕ). x.output) (drop (k + 1) c.gaters) ++ behind_gaters c) (set table gater.output (Gater k))
-gater_told c k gater table at told = told_next c gater.output (map (λ (x : GatingCell ℕ). x.output) (drop (k + 1) c.gaters) ++ behind_gaters c) table (Gater k)
+gater_listed c k gater table at told = listed_next c gater.output (map (λ (x : GatingCell ℕ). x.output) (drop (k + 1) c.gaters) ++ behind_gaters c) table (Gater k)
     (subst (λ left. IsTold c left table) (left_at (λ (x : GatingCell ℕ). x.output) c.gaters (behind_gaters c) k gater at) told) (gater, at, refl)
 
-pub register_told : (c : Circuit) (r : ℕ) (register : RegisterCell ℕ ℕ) (place net : ℕ) (inverted : Bool) (rest : List ℕ) (table : List Driver) → slice_get c.registers r ≡ Some register → slice_get register.outputs place ≡ Some (net, inverted)
+pub register_listed : (c : Circuit) (r : ℕ) (register : RegisterCell ℕ ℕ) (place net : ℕ) (inverted : Bool) (rest : List ℕ) (table : List Driver) → slice_get c.registers r ≡ Some register → slice_get register.outputs place ≡ Some (net, inverted)
     → IsTold c (map (λ (o : ℕ × Bool). o.0) (drop place register.outputs) ++ rest) table → IsTold c (map (λ (o : ℕ × Bool). o.0) (drop (place + 1) register.outputs) ++ rest) (set table net (Register r inverted))
-register_told c r register place net inverted rest table at shown told = told_next c net (map (λ (o : ℕ × Bool). o.0) (drop (place + 1) register.outputs) ++ rest) table (Register r inverted)
+register_listed c r register place net inverted rest table at shown told = listed_next c net (map (λ (o : ℕ × Bool). o.0) (drop (place + 1) register.outputs) ++ rest) table (Register r inverted)
     (subst (λ left. IsTold c left table) (left_at (λ (o : ℕ × Bool). o.0) register.outputs rest place (net, inverted) shown) told) (register, place, at, shown)
 
 -- the outputs of parts are nets
@@ -104,7 +104,7 @@ pub cell_net_within : (c : Circuit) → IsDriven c → (k : ℕ) (cell : LogicCe
 cell_net_within c driven k cell at = driver_within c driven cell.output (is_in_right (given_nets c) (cell_nets c) cell.output (member_at (cell_nets c) k cell.output (at_map (λ (x : LogicCell ℕ). x.output) c.cells k cell at)))
 
 pub gater_net_within : (c : Circuit) → IsDriven c → (k : ℕ) (gater : GatingCell ℕ) → slice_get c.gaters k ≡ Some gater → gater.output < length c.names
-gater_net_within c driven k gater at = driver_within c driven gater.output (given_driver c gater.output (gate_given c gater.output (member_at (gate_nets c) k gater.output (at_map (λ (x : GatingCell ℕ). x.output) c.gaters k gater at))))
+gater_net_within c driven k gater at = driver_within c driven gater.output (given_driver c gater.output (gater_given c gater.output (member_at (gater_outputs c) k gater.output (at_map (λ (x : GatingCell ℕ). x.output) c.gaters k gater at))))
 
 pub register_net_within : (c : Circuit) → IsDriven c → (r : ℕ) (register : RegisterCell ℕ ℕ) (place net : ℕ) (inverted : Bool) → slice_get c.registers r ≡ Some register → slice_get register.outputs place ≡ Some (net, inverted) → net < length c.names
 register_net_within c driven r register place net inverted at shown =

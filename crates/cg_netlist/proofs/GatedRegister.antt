@@ -136,7 +136,7 @@ on_clock : (nets : List Bool) (clock : Bool) → slice_get nets 2 ≡ Some clock
 on_clock nets clock shown net is = let same : 2 ≡ net = cc in subst (λ n. slice_get nets n ≡ Some clock) same shown
 
 settled : (clock d en g q : Bool) → Settles gated clock (d ∷ en ∷ []) (q ∷ []) (g ∷ []) (d ∷ en ∷ clock ∷ g ∷ q ∷ not q ∷ [])
-settled clock d en g q = record { long = refl; shows_clock = on_clock (d ∷ en ∷ clock ∷ g ∷ q ∷ not q ∷ []) clock refl; shows_inputs = refl; shows_gates = refl; shows_state = refl; holds = λ k cell at. absurd (cc) }
+settled clock d en g q = record { long = refl; shows_clock = on_clock (d ∷ en ∷ clock ∷ g ∷ q ∷ not q ∷ []) clock refl; shows_inputs = refl; shows_gaters = refl; shows_state = refl; holds = λ k cell at. absurd (cc) }
 
 pub lawful : IsLawful gated (false ∷ []) wave history
 lawful = (

@@ -4,7 +4,7 @@ use Rattle.std.proofs.Common.{arith}
 use Rattle.std.specs.List.{All, IsDistinct}
 use Rattle.std.specs.Option.{option_to_list}
 use Rattle.std.proofs.lemmas.Bool.{eqb-true, eq-eqb, or_cases, or_left, both_ways}
-use Rattle.cg_netlist.specs.Circuit.{Circuit, cell_nets, data_inputs, drivers, gate_nets, given_nets, register_nets}
+use Rattle.cg_netlist.specs.Circuit.{Circuit, cell_nets, data_inputs, drivers, gater_outputs, given_nets, register_nets}
 use Rattle.cg_net.specs.NetSets.{is_in}
 use Rattle.cg_netlist.specs.WellFormed.{IsDriven}
 use Rattle.cg_net.proofs.Members.{All-from_members, All-member, distinct_left, is_in_cases, is_in_left, is_in_right}
@@ -23,20 +23,20 @@ from_option (Some y) x is = let same : y ≡ x = cc in or_left (nat_eq x y) fals
 abbrev sources : Circuit → List ℕ
 sources c = data_inputs c ++ option_to_list c.clock
 
-abbrev sources_and_gates : Circuit → List ℕ
-sources_and_gates c = sources c ++ gate_nets c
+abbrev sources_and_gaters : Circuit → List ℕ
+sources_and_gaters c = sources c ++ gater_outputs c
 
 -- which kind of given net a net is
 pub data Kind (c : Circuit) (x : ℕ) : Type 0 where
   Data : is_in (data_inputs c) x ≡ true → Kind c x
   Clock : c.clock ≡ Some x → Kind c x
-  Gate : is_in (gate_nets c) x ≡ true → Kind c x
+  Gate : is_in (gater_outputs c) x ≡ true → Kind c x
   Shown : is_in (register_nets c) x ≡ true → Kind c x
 
 module _ (c : Circuit) where
   -- nets of each kind are given, and given nets are drivers
   source_given : (x : ℕ) → is_in (sources c) x ≡ true → is_in (given_nets c) x ≡ true
-  source_given x among = is_in_left (sources_and_gates c) (register_nets c) x (is_in_left (sources c) (gate_nets c) x among)
+  source_given x among = is_in_left (sources_and_gaters c) (register_nets c) x (is_in_left (sources c) (gater_outputs c) x among)
 
   pub data_given : (x : ℕ) → is_in (data_inputs c) x ≡ true → is_in (given_nets c) x ≡ true
   data_given x among = source_given x (is_in_left (data_inputs c) (option_to_list c.clock) x among)
@@ -44,19 +44,19 @@ module _ (c : Circuit) where
   pub clock_given : (x : ℕ) → c.clock ≡ Some x → is_in (given_nets c) x ≡ true
   clock_given x is = source_given x (is_in_right (data_inputs c) (option_to_list c.clock) x (from_option c.clock x is))
 
-  pub gate_given : (x : ℕ) → is_in (gate_nets c) x ≡ true → is_in (given_nets c) x ≡ true
-  gate_given x among = is_in_left (sources_and_gates c) (register_nets c) x (is_in_right (sources c) (gate_nets c) x among)
+  pub gater_given : (x : ℕ) → is_in (gater_outputs c) x ≡ true → is_in (given_nets c) x ≡ true
+  gater_given x among = is_in_left (sources_and_gaters c) (register_nets c) x (is_in_right (sources c) (gater_outputs c) x among)
 
   pub register_given : (x : ℕ) → is_in (register_nets c) x ≡ true → is_in (given_nets c) x ≡ true
-  register_given x among = is_in_right (sources_and_gates c) (register_nets c) x among
+  register_given x among = is_in_right (sources_and_gaters c) (register_nets c) x among
 
   pub given_driver : (x : ℕ) → is_in (given_nets c) x ≡ true → is_in (drivers c) x ≡ true
   given_driver x among = is_in_left (given_nets c) (cell_nets c) x among
 
   -- a given net is of one of the kinds
   pub kind_of : (x : ℕ) → is_in (given_nets c) x ≡ true → Kind c x
-  kind_of x among = elim (is_in_cases (sources_and_gates c) (register_nets c) x among) [
-    | inl front ↦ elim (is_in_cases (sources c) (gate_nets c) x front) [
+  kind_of x among = elim (is_in_cases (sources_and_gaters c) (register_nets c) x among) [
+    | inl front ↦ elim (is_in_cases (sources c) (gater_outputs c) x front) [
       | inl source ↦ elim (is_in_cases (data_inputs c) (option_to_list c.clock) x source) [ inl input ↦ Data input | inr clk ↦ Clock (in_option c.clock x clk) ]
       | inr gate ↦ Gate gate
     ]
@@ -70,15 +70,15 @@ module _ (c : Circuit) (driven : IsDriven c) where
   pub distinct_cells : IsDistinct nat_eq (cell_nets c)
   distinct_cells = distinct_right (given_nets c) (cell_nets c) driven.once
 
-  pub distinct_gates : IsDistinct nat_eq (gate_nets c)
-  distinct_gates = distinct_right (sources c) (gate_nets c) (distinct_left (sources_and_gates c) (register_nets c) distinct_given)
+  pub distinct_gaters : IsDistinct nat_eq (gater_outputs c)
+  distinct_gaters = distinct_right (sources c) (gater_outputs c) (distinct_left (sources_and_gaters c) (register_nets c) distinct_given)
 
   -- no given net is the output of a logic cell, and the clock is not that of a gating cell
   pub given_no_cell : (x : ℕ) → is_in (given_nets c) x ≡ true → is_in (cell_nets c) x ≡ false
   given_no_cell x among = distinct_apart (given_nets c) (cell_nets c) driven.once x among
 
-  pub clock_no_gate : (x : ℕ) → c.clock ≡ Some x → is_in (gate_nets c) x ≡ false
-  clock_no_gate x is = distinct_apart (sources c) (gate_nets c) (distinct_left (sources_and_gates c) (register_nets c) distinct_given) x (is_in_right (data_inputs c) (option_to_list c.clock) x (from_option c.clock x is))
+  pub clock_no_gater : (x : ℕ) → c.clock ≡ Some x → is_in (gater_outputs c) x ≡ false
+  clock_no_gater x is = distinct_apart (sources c) (gater_outputs c) (distinct_left (sources_and_gaters c) (register_nets c) distinct_given) x (is_in_right (data_inputs c) (option_to_list c.clock) x (from_option c.clock x is))
 
   -- drivers are nets
   pub driver_within : (x : ℕ) → is_in (drivers c) x ≡ true → x < length c.names

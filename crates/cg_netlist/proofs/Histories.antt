@@ -3,14 +3,14 @@ use Rattle.std.proofs.Common.{◌≡◌, ℕ, Bool, true, false, not, ◌&&◌, 
 use Rattle.std.proofs.Common.{Option, None, Some, refl, ap, sym, ◌∙◌, subst}
 use Rattle.std.proofs.lemmas.List.{length-replicate, length-map}
 use Rattle.std.proofs.lemmas.Option.{slice_get_within, get_or_from_slice_get}
-use Rattle.cg_netlist.specs.Circuit.{Circuit, RegisterCell, clock_nets, data_inputs, gate_nets}
+use Rattle.cg_netlist.specs.Circuit.{Circuit, RegisterCell, clock_nets, data_inputs, gater_outputs}
 use Rattle.cg_net.specs.NetSets.{is_in}
 use Rattle.cg_netlist.specs.WellFormed.{IsWellFormed}
 use Rattle.cg_netlist.specs.Moment.{Settles, bit, values_at, zip_with}
 use Rattle.cg_netlist.specs.History.{Tick, Moment, AreTicks, IsStart, MomentFollows, LawfulFrom, HasHistory, HasOneHistory}
-use Rattle.cg_netlist.specs.History.{next_bit, next_value, next_latch, gate_bit, state_now, latches_before}
-use Rattle.cg_netlist.proofs.Clocks.{Clocked, clocked_from, held_gates, pin_clocked, same_clock_nets, pins, pins_shown}
-use Rattle.cg_netlist.proofs.Clocks.{pins_are_gates}
+use Rattle.cg_netlist.specs.History.{next_bit, next_value, next_latch, gater_bit, state_now, latches_before}
+use Rattle.cg_netlist.proofs.Clocks.{Clocked, clocked_from, held_gaters, pin_clocked, same_clock_nets, pins, pins_shown}
+use Rattle.cg_netlist.proofs.Clocks.{pins_are_gaters}
 use Rattle.cg_netlist.proofs.Settle.{settles_once, settles_some}
 use Rattle.cg_netlist.proofs.Values.{length-zip_with, zip_with_same}
 
@@ -45,10 +45,10 @@ module _ (c : Circuit) (good : IsWellFormed c) (start : List Bool) (started : Is
 
   module _ (before : Option Moment) (tick : Tick) (long : IsLong c before) where
     -- the gating cells' outputs by the latches of a moment ago
-    held_nets : (m : Moment) → MomentFollows c start before tick m → Settles c tick.clock tick.inputs m.state (zip_with (gate_bit m.nets) c.gaters (latches_before c before)) m.nets
+    held_nets : (m : Moment) → MomentFollows c start before tick m → Settles c tick.clock tick.inputs m.state (zip_with (gater_bit m.nets) c.gaters (latches_before c before)) m.nets
     held_nets m follows =
         subst (λ gates. Settles c tick.clock tick.inputs m.state gates m.nets)
-        (ap (zip_with (gate_bit m.nets) c.gaters) follows.latches ∙ held_gates m.nets c.gaters (latches_before c before)) follows.nets
+        (ap (zip_with (gater_bit m.nets) c.gaters) follows.latches ∙ held_gaters m.nets c.gaters (latches_before c before)) follows.nets
 
     clocked : (m : Moment) → MomentFollows c start before tick m → Clocked c tick.clock (latches_before c before) m.nets
     clocked m follows = clocked_from c good tick.clock tick.inputs m.state (latches_before c before) m.nets (held_nets m follows)
@@ -58,9 +58,9 @@ module _ (c : Circuit) (good : IsWellFormed c) (start : List Bool) (started : Is
     next_once m n here there =
         let clocks : (x : ℕ) → is_in (clock_nets c) x ≡ true → bit m.nets x ≡ bit n.nets x = same_clock_nets c good tick.clock (latches_before c before) m.nets n.nets (latches_long before long) (clocked m here) (clocked n there) in
         let state : m.state ≡ n.state = here.state ∙ (same_state before m.nets n.nets clocks ∙ sym there.state) in
-        let gates : zip_with (gate_bit m.nets) c.gaters (latches_before c before) ≡ zip_with (gate_bit n.nets) c.gaters (latches_before c before) = zip_with_same (gate_bit m.nets) (gate_bit n.nets) c.gaters (latches_before c before) (λ k a l at was. ap (λ b. l && b) (clocks a.clock (pin_clocked c good k a at))) in
-        let moved : Settles c tick.clock tick.inputs n.state (zip_with (gate_bit n.nets) c.gaters (latches_before c before)) m.nets = subst (λ gs. Settles c tick.clock tick.inputs n.state gs m.nets) gates (subst (λ s. Settles c tick.clock tick.inputs s (zip_with (gate_bit m.nets) c.gaters (latches_before c before)) m.nets) state (held_nets m here)) in
-        let nets : m.nets ≡ n.nets = settles_once c good.driven good.used good.ranks good.ranked m.nets n.nets tick.clock tick.inputs n.state (zip_with (gate_bit n.nets) c.gaters (latches_before c before)) moved (held_nets n there) in
+        let gates : zip_with (gater_bit m.nets) c.gaters (latches_before c before) ≡ zip_with (gater_bit n.nets) c.gaters (latches_before c before) = zip_with_same (gater_bit m.nets) (gater_bit n.nets) c.gaters (latches_before c before) (λ k a l at was. ap (λ b. l && b) (clocks a.clock (pin_clocked c good k a at))) in
+        let moved : Settles c tick.clock tick.inputs n.state (zip_with (gater_bit n.nets) c.gaters (latches_before c before)) m.nets = subst (λ gs. Settles c tick.clock tick.inputs n.state gs m.nets) gates (subst (λ s. Settles c tick.clock tick.inputs s (zip_with (gater_bit m.nets) c.gaters (latches_before c before)) m.nets) state (held_nets m here)) in
+        let nets : m.nets ≡ n.nets = settles_once c good.driven good.used good.ranks good.ranked m.nets n.nets tick.clock tick.inputs n.state (zip_with (gater_bit n.nets) c.gaters (latches_before c before)) moved (held_nets n there) in
         same_moment m n nets state (here.latches ∙ (ap (λ vs. zip_with (next_latch vs) c.gaters (latches_before c before)) nets ∙ sym there.latches))
 
     -- and it has the lengths that the next one asks for
@@ -69,11 +69,11 @@ module _ (c : Circuit) (good : IsWellFormed c) (start : List Bool) (started : Is
 
     module _ (ticked : length tick.inputs ≡ length (data_inputs c)) where
       gates : List Bool
-      gates = map (pins c good tick.clock (latches_before c before) (latches_long before long)) (gate_nets c)
+      gates = map (pins c good tick.clock (latches_before c before) (latches_long before long)) (gater_outputs c)
 
       gates_long : length gates ≡ length c.gaters
       unfolding gates
-      gates_long = length-map (gate_nets c) (pins c good tick.clock (latches_before c before) (latches_long before long)) ∙ length-map c.gaters (λ gater. gater.output)
+      gates_long = length-map (gater_outputs c) (pins c good tick.clock (latches_before c before) (latches_long before long)) ∙ length-map c.gaters (λ gater. gater.output)
 
       -- nets that settle with the present clock nets, and with registers that have any bits
       settled : (state : List Bool) → length state ≡ length c.registers → (nets : List Bool) × Settles c tick.clock tick.inputs state gates nets
@@ -91,7 +91,7 @@ module _ (c : Circuit) (good : IsWellFormed c) (start : List Bool) (started : Is
           let state : List Bool = state_now c start before first.0 in
           let found : (nets : List Bool) × Settles c tick.clock tick.inputs (state_now c start before first.0) gates nets = settled (state_now c start before first.0) (state_long before first.0 long) in
           let clocks : (x : ℕ) → is_in (clock_nets c) x ≡ true → bit first.0 x ≡ bit found.0 x = λ x among. clocks_shown (replicate (length c.registers) false) first.0 first.1 x among ∙ sym (clocks_shown (state_now c start before first.0) found.0 found.1 x among) in
-          let outputs : gates ≡ zip_with (gate_bit found.0) c.gaters (zip_with (next_latch found.0) c.gaters (latches_before c before)) = pins_are_gates c good tick.clock (latches_before c before) (latches_long before long) tick.inputs (state_now c start before first.0) found.0 found.1 ∙ sym (held_gates found.0 c.gaters (latches_before c before)) in (
+          let outputs : gates ≡ zip_with (gater_bit found.0) c.gaters (zip_with (next_latch found.0) c.gaters (latches_before c before)) = pins_are_gaters c good tick.clock (latches_before c before) (latches_long before long) tick.inputs (state_now c start before first.0) found.0 found.1 ∙ sym (held_gaters found.0 c.gaters (latches_before c before)) in (
             record { nets = found.0; state = state_now c start before first.0; latches = zip_with (next_latch found.0) c.gaters (latches_before c before) },
             record {
               state = same_state before first.0 found.0 clocks;

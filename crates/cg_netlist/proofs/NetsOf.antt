@@ -6,11 +6,11 @@ use Rattle.std.specs.Option.{option_to_list}
 use Rattle.std.proofs.lemmas.Bool.{both_ways, eqb-true, false_from_ne_true, or_from}
 use Rattle.std.proofs.lemmas.List.{length-map, map-append, length-set}
 use Rattle.std.proofs.lemmas.Option.{slice_get_past, slice_get_within, slice_get-get_or}
-use Rattle.cg_netlist.specs.Circuit.{Circuit, LogicCell, cell_nets, data_inputs, gate_nets, given_nets, register_nets, used_nets}
+use Rattle.cg_netlist.specs.Circuit.{Circuit, LogicCell, cell_nets, data_inputs, gater_outputs, given_nets, register_nets, used_nets}
 use Rattle.cg_net.specs.NetSets.{is_in}
 use Rattle.cg_netlist.specs.Moment.{CellsHold, Settles, bit, function_value, register_bits, values_at}
 use Rattle.cg_netlist.specs.WellFormed.{AreRanks, IsDriven}
-use Rattle.cg_netlist.proofs.Given.{data_given, driver_within, gate_given, given_driver, in_option, register_given}
+use Rattle.cg_netlist.proofs.Given.{data_given, driver_within, gater_given, given_driver, in_option, register_given}
 use Rattle.cg_net.proofs.Members.{is_in_cases}
 use Rattle.cg_netlist.proofs.OrderLemmas.{length-range_with_len}
 use Rattle.cg_netlist.proofs.Settle.{settles_some}
@@ -58,10 +58,10 @@ module _ (c : Circuit) (driven : IsDriven c) (walk : List (LogicCell ℕ)) (good
     given_are =
         let ins : map (bit vs) (data_inputs c) ≡ inputs = kind (data_inputs c) (data_given c) ∙ settles.shows_inputs in
         let clk : map (bit vs) (option_to_list c.clock) ≡ map (λ _. clock) (option_to_list c.clock) = map_same (bit vs) (λ _. clock) (option_to_list c.clock) (λ x among. bit_shown vs x clock (settles.shows_clock x (in_option c.clock x among))) in
-        let gts : map (bit vs) (gate_nets c) ≡ gates = kind (gate_nets c) (gate_given c) ∙ settles.shows_gates in
+        let gts : map (bit vs) (gater_outputs c) ≡ gates = kind (gater_outputs c) (gater_given c) ∙ settles.shows_gaters in
         let regs : map (bit vs) (register_nets c) ≡ register_bits c.registers state = kind (register_nets c) (register_given c) ∙ settles.shows_state in
-        let one = map-append (bit vs) (data_inputs c ++ option_to_list c.clock ++ gate_nets c) (register_nets c) in
-        let two = map-append (bit vs) (data_inputs c ++ option_to_list c.clock) (gate_nets c) in
+        let one = map-append (bit vs) (data_inputs c ++ option_to_list c.clock ++ gater_outputs c) (register_nets c) in
+        let two = map-append (bit vs) (data_inputs c ++ option_to_list c.clock) (gater_outputs c) in
         let three = map-append (bit vs) (data_inputs c) (option_to_list c.clock) in
         cc
 

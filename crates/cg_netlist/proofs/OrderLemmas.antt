@@ -3,7 +3,7 @@ use Rattle.std.proofs.Common.{◌≡◌, ℕ, zero, suc, ◌+◌, ◌≤◌, not
 use Rattle.std.specs.List.{filter, range_with_len}
 use Rattle.std.specs.Option.{option_to_list}
 use Rattle.std.proofs.lemmas.List.{length-map}
-use Rattle.cg_netlist.specs.Circuit.{Circuit, cell_nets, gate_nets, register_nets}
+use Rattle.cg_netlist.specs.Circuit.{Circuit, cell_nets, gater_outputs, register_nets}
 use Rattle.cg_net.specs.NetSets.{is_in}
 use Rattle.cg_netlist.specs.WellFormed.{IsInNetOrder}
 
@@ -19,8 +19,8 @@ module _ (c : Circuit) (order : IsInNetOrder c) where
       let front : List ℕ = c.inputs ++ filter (λ net. not (is_in c.inputs net)) (option_to_list c.clock) in
       omega (
         arith,
-        length-append (front ++ cell_nets c ++ gate_nets c) (register_nets c),
-        length-append (front ++ cell_nets c) (gate_nets c),
+        length-append (front ++ cell_nets c ++ gater_outputs c) (register_nets c),
+        length-append (front ++ cell_nets c) (gater_outputs c),
         length-append front (cell_nets c),
         length-map c.cells (λ cell. cell.output),
         length-map c.gaters (λ gater. gater.output),

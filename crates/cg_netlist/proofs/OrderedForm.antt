@@ -15,15 +15,15 @@ use Rattle.cg_cell.specs.declared.cell.CellKind.TheVariants.{Gater as GaterKind}
 use Rattle.cg_net.specs.Names.{net_name}
 use Rattle.cg_netlist.specs.Circuit.{Circuit, GatingCell, LogicCell, asked_nets, cell_nets, clock_nets, data_inputs}
 use Rattle.cg_net.specs.NetSets.{is_in}
-use Rattle.cg_netlist.specs.Circuit.{gate_nets, given_nets, net_order, register_nets, used_nets}
+use Rattle.cg_netlist.specs.Circuit.{gater_outputs, given_nets, net_order, register_nets, used_nets}
 use Rattle.cg_netlist.specs.Wiring.{map_cell, map_gater, map_register}
 use Rattle.cg_netlist.specs.WellFormed.{AreRanks, IsInNetOrder, IsOver, IsWellFormed, RegisterFits}
 use Rattle.cg_netlist.proofs.Driven.{driven_in_order}
 use Rattle.cg_net.proofs.DifferentNames.{same_net}
 use Rattle.cg_net.proofs.TableLemmas.{mapped_at}
 use Rattle.cg_netlist.proofs.RegisterKept.{register_kept}
-use Rattle.cg_netlist.proofs.Given.{clock_given, distinct_cells, distinct_gates, distinct_given, driver_within, from_option}
-use Rattle.cg_netlist.proofs.Given.{given_no_cell, in_option, register_given, gate_given, given_driver, kind_of, Data, Clock, Gate}
+use Rattle.cg_netlist.proofs.Given.{clock_given, distinct_cells, distinct_gaters, distinct_given, driver_within, from_option}
+use Rattle.cg_netlist.proofs.Given.{given_no_cell, in_option, register_given, gater_given, given_driver, kind_of, Data, Clock, Gate}
 use Rattle.cg_netlist.proofs.Given.{Shown}
 use Rattle.cg_net.proofs.Members.{All-from_members, All-member, distinct_apart, distinct_append, distinct_left, distinct_right}
 use Rattle.cg_net.proofs.Members.{is_in_cases, is_in_left, is_in_right, member_at, one_place}
@@ -47,9 +47,9 @@ place_found (y ∷ ys) x among = elim (cases_Bool (nat_eq x y)) [
 ]
 
 -- the parts of a renumbered netlist
-pub gates_renumbered : (f : ℕ → ℕ) (gs : List (GatingCell ℕ)) → map (λ g. g.output) (map (map_gater f) gs) ≡ map f (map (λ g. g.output) gs)
-gates_renumbered f [] = refl
-gates_renumbered f (g ∷ gs) = ap (λ xs. f g.output ∷ xs) (gates_renumbered f gs)
+pub gaters_renumbered : (f : ℕ → ℕ) (gs : List (GatingCell ℕ)) → map (λ g. g.output) (map (map_gater f) gs) ≡ map f (map (λ g. g.output) gs)
+gaters_renumbered f [] = refl
+gaters_renumbered f (g ∷ gs) = ap (λ xs. f g.output ∷ xs) (gaters_renumbered f gs)
 
 pub option_renumbered : (f : ℕ → ℕ) (o : Option ℕ) → option_to_list (option_map f o) ≡ map f (option_to_list o)
 option_renumbered f None = refl
@@ -76,8 +76,8 @@ used_is f names c =
 
 pub clock_nets_is : (f : ℕ → ℕ) (names : List (List ℕ)) (c : Circuit) → clock_nets (with_numbers f names c) ≡ map f (clock_nets c)
 clock_nets_is f names c =
-    ap (λ xs. xs ++ gate_nets (with_numbers f names c)) (option_renumbered f c.clock)
-    ∙ (ap (λ xs. map f (option_to_list c.clock) ++ xs) (gates_renumbered f c.gaters) ∙ sym (map-append f (option_to_list c.clock) (gate_nets c)))
+    ap (λ xs. xs ++ gater_outputs (with_numbers f names c)) (option_renumbered f c.clock)
+    ∙ (ap (λ xs. map f (option_to_list c.clock) ++ xs) (gaters_renumbered f c.gaters) ∙ sym (map-append f (option_to_list c.clock) (gater_outputs c)))
 
 -- a filter over renumbered nets
 pub filter_mapped : (f : ℕ → ℕ) (p q : ℕ → Bool) (xs : List ℕ) → ((x : ℕ) → is_in xs x ≡ true → q (f x) ≡ p x) → filter q (map f xs) ≡ map f (filter p xs)
@@ -177,37 +177,37 @@ module _ (c : Circuit) (good : IsWellFormed c) (inputs_once : IsDistinct nat_eq 
   ]
 
   source_given : (x : ℕ) → is_in sources x ≡ true → is_in (given_nets c) x ≡ true
-  source_given x among = is_in_left (sources ++ gate_nets c) (register_nets c) x (is_in_left sources (gate_nets c) x among)
+  source_given x among = is_in_left (sources ++ gater_outputs c) (register_nets c) x (is_in_left sources (gater_outputs c) x among)
 
-  source_no_gate : (x : ℕ) → is_in sources x ≡ true → is_in (gate_nets c) x ≡ false
-  source_no_gate x among = distinct_apart sources (gate_nets c) (distinct_left (sources ++ gate_nets c) (register_nets c) (distinct_given c good.driven)) x among
+  source_no_gater : (x : ℕ) → is_in sources x ≡ true → is_in (gater_outputs c) x ≡ false
+  source_no_gater x among = distinct_apart sources (gater_outputs c) (distinct_left (sources ++ gater_outputs c) (register_nets c) (distinct_given c good.driven)) x among
 
-  no_register : (x : ℕ) → is_in (sources ++ gate_nets c) x ≡ true → is_in (register_nets c) x ≡ false
-  no_register x among = distinct_apart (sources ++ gate_nets c) (register_nets c) (distinct_given c good.driven) x among
+  no_register : (x : ℕ) → is_in (sources ++ gater_outputs c) x ≡ true → is_in (register_nets c) x ≡ false
+  no_register x among = distinct_apart (sources ++ gater_outputs c) (register_nets c) (distinct_given c good.driven) x among
 
   given_and_cell : (x : ℕ) → is_in (cell_nets c) x ≡ true → is_in (given_nets c) x ≡ true → ⊥
   given_and_cell x cell given = both_ways (is_in (cell_nets c) x) (given_no_cell c good.driven x given) cell
 
   order_once : IsDistinct nat_eq order
   order_once =
-      distinct_append (c.inputs ++ late ++ cell_nets c ++ gate_nets c) (register_nets c)
-      (distinct_append (c.inputs ++ late ++ cell_nets c) (gate_nets c)
+      distinct_append (c.inputs ++ late ++ cell_nets c ++ gater_outputs c) (register_nets c)
+      (distinct_append (c.inputs ++ late ++ cell_nets c) (gater_outputs c)
       (distinct_append (c.inputs ++ late) (cell_nets c)
       (distinct_append c.inputs late inputs_once (late_once c.clock) (λ x input. false_from_ne_true (is_in late x) (λ clk. both_ways (is_in c.inputs x) (late_is c.clock x clk).1 input)))
       (distinct_cells c good.driven)
       (λ x front. given_no_cell c good.driven x (source_given x (front_source x front))))
-      (distinct_gates c good.driven)
+      (distinct_gaters c good.driven)
       (λ x front. elim (is_in_cases (c.inputs ++ late) (cell_nets c) x front) [
-        | inl source ↦ source_no_gate x (front_source x source)
-        | inr cell ↦ false_from_ne_true (is_in (gate_nets c) x) (λ gate. given_and_cell x cell (gate_given c x gate))
+        | inl source ↦ source_no_gater x (front_source x source)
+        | inr cell ↦ false_from_ne_true (is_in (gater_outputs c) x) (λ gate. given_and_cell x cell (gater_given c x gate))
       ]))
-      (distinct_right (sources ++ gate_nets c) (register_nets c) (distinct_given c good.driven))
-      (λ x front. elim (is_in_cases (c.inputs ++ late ++ cell_nets c) (gate_nets c) x front) [
+      (distinct_right (sources ++ gater_outputs c) (register_nets c) (distinct_given c good.driven))
+      (λ x front. elim (is_in_cases (c.inputs ++ late ++ cell_nets c) (gater_outputs c) x front) [
         | inl more ↦ elim (is_in_cases (c.inputs ++ late) (cell_nets c) x more) [
-          | inl source ↦ no_register x (is_in_left sources (gate_nets c) x (front_source x source))
+          | inl source ↦ no_register x (is_in_left sources (gater_outputs c) x (front_source x source))
           | inr cell ↦ false_from_ne_true (is_in (register_nets c) x) (λ register. given_and_cell x cell (register_given c x register))
         ]
-        | inr gate ↦ no_register x (is_in_right sources (gate_nets c) x gate)
+        | inr gate ↦ no_register x (is_in_right sources (gater_outputs c) x gate)
       ])
 
   -- every net stands in the order, and only nets do
@@ -215,15 +215,15 @@ module _ (c : Circuit) (good : IsWellFormed c) (inputs_once : IsDistinct nat_eq 
   order_has x below =
       let one = c.inputs ++ late in
       let two = one ++ cell_nets c in
-      let three = two ++ gate_nets c in
+      let three = two ++ gater_outputs c in
       elim (is_in_cases (given_nets c) (cell_nets c) x (good.driven.driven x below)) [
         | inl given ↦ elim (kind_of c x given) [
-          | Data input ↦ is_in_left three (register_nets c) x (is_in_left two (gate_nets c) x (is_in_left one (cell_nets c) x (is_in_left c.inputs late x (data_input c.inputs x input))))
-          | Clock is ↦ is_in_left three (register_nets c) x (is_in_left two (gate_nets c) x (is_in_left one (cell_nets c) x (clock_front c.clock x is)))
-          | Gate gate ↦ is_in_left three (register_nets c) x (is_in_right two (gate_nets c) x gate)
+          | Data input ↦ is_in_left three (register_nets c) x (is_in_left two (gater_outputs c) x (is_in_left one (cell_nets c) x (is_in_left c.inputs late x (data_input c.inputs x input))))
+          | Clock is ↦ is_in_left three (register_nets c) x (is_in_left two (gater_outputs c) x (is_in_left one (cell_nets c) x (clock_front c.clock x is)))
+          | Gate gate ↦ is_in_left three (register_nets c) x (is_in_right two (gater_outputs c) x gate)
           | Shown register ↦ is_in_right three (register_nets c) x register
         ]
-        | inr cell ↦ is_in_left three (register_nets c) x (is_in_left two (gate_nets c) x (is_in_right one (cell_nets c) x cell))
+        | inr cell ↦ is_in_left three (register_nets c) x (is_in_left two (gater_outputs c) x (is_in_right one (cell_nets c) x cell))
       ]
     where
       clock_front : (o : Option ℕ) (x : ℕ) → o ≡ Some x → is_in (c.inputs ++ filter (λ net. not (is_in c.inputs net)) (option_to_list o)) x ≡ true
@@ -237,13 +237,13 @@ module _ (c : Circuit) (good : IsWellFormed c) (inputs_once : IsDistinct nat_eq 
           ]
 
   order_within : (x : ℕ) → is_in order x ≡ true → x < n
-  order_within x among = elim (is_in_cases (c.inputs ++ late ++ cell_nets c ++ gate_nets c) (register_nets c) x among) [
-    | inl more ↦ elim (is_in_cases (c.inputs ++ late ++ cell_nets c) (gate_nets c) x more) [
+  order_within x among = elim (is_in_cases (c.inputs ++ late ++ cell_nets c ++ gater_outputs c) (register_nets c) x among) [
+    | inl more ↦ elim (is_in_cases (c.inputs ++ late ++ cell_nets c) (gater_outputs c) x more) [
       | inl front ↦ elim (is_in_cases (c.inputs ++ late) (cell_nets c) x front) [
         | inl source ↦ driver_within c good.driven x (given_driver c x (source_given x (front_source x source)))
         | inr cell ↦ driver_within c good.driven x (is_in_right (given_nets c) (cell_nets c) x cell)
       ]
-      | inr gate ↦ driver_within c good.driven x (given_driver c x (gate_given c x gate))
+      | inr gate ↦ driver_within c good.driven x (given_driver c x (gater_given c x gate))
     ]
     | inr register ↦ driver_within c good.driven x (given_driver c x (register_given c x register))
   ]
@@ -276,7 +276,7 @@ module _ (c : Circuit) (good : IsWellFormed c) (inputs_once : IsDistinct nat_eq 
   used_within x among = All-member (λ net. net < n) (used_nets c) x good.used among
 
   pub clock_nets_within : (x : ℕ) → is_in (clock_nets c) x ≡ true → x < n
-  clock_nets_within x among = elim (is_in_cases (option_to_list c.clock) (gate_nets c) x among) [ inl clk ↦ clock_list_within x clk | inr gate ↦ driver_within c good.driven x (given_driver c x (gate_given c x gate)) ]
+  clock_nets_within x among = elim (is_in_cases (option_to_list c.clock) (gater_outputs c) x among) [ inl clk ↦ clock_list_within x clk | inr gate ↦ driver_within c good.driven x (given_driver c x (gater_given c x gate)) ]
 
   pub data_is : data_inputs (ordered c) ≡ map f (data_inputs c)
   data_is = filter_mapped f (λ net. not (is_in (option_to_list c.clock) net)) (λ net. not (is_in (option_to_list (option_map f c.clock)) net)) c.inputs (λ x among.
@@ -290,13 +290,13 @@ module _ (c : Circuit) (good : IsWellFormed c) (inputs_once : IsDistinct nat_eq 
   pub in_order : IsInNetOrder (ordered c)
   in_order =
       let ks = cell_nets (ordered c) in
-      let gs = gate_nets (ordered c) in
+      let gs = gater_outputs (ordered c) in
       let rs = register_nets (ordered c) in
       ap (λ xs. map f c.inputs ++ xs ++ ks ++ gs ++ rs) late_mapped
       ∙ (ap (λ xs. map f c.inputs ++ map f late ++ xs ++ gs ++ rs) (outputs_renumbered f c.cells)
-      ∙ (ap (λ xs. map f c.inputs ++ map f late ++ map f (cell_nets c) ++ xs ++ rs) (gates_renumbered f c.gaters)
-      ∙ (ap (λ xs. map f c.inputs ++ map f late ++ map f (cell_nets c) ++ map f (gate_nets c) ++ xs) (registers_renumbered f c.registers)
-      ∙ (sym (map-append f (c.inputs ++ late ++ cell_nets c ++ gate_nets c) (register_nets c) ∙ ap (λ xs. xs ++ map f (register_nets c)) (four_mapped f c.inputs late (cell_nets c) (gate_nets c)))
+      ∙ (ap (λ xs. map f c.inputs ++ map f late ++ map f (cell_nets c) ++ xs ++ rs) (gaters_renumbered f c.gaters)
+      ∙ (ap (λ xs. map f c.inputs ++ map f late ++ map f (cell_nets c) ++ map f (gater_outputs c) ++ xs) (registers_renumbered f c.registers)
+      ∙ (sym (map-append f (c.inputs ++ late ++ cell_nets c ++ gater_outputs c) (register_nets c) ∙ ap (λ xs. xs ++ map f (register_nets c)) (four_mapped f c.inputs late (cell_nets c) (gater_outputs c)))
       ∙ (places_in_order order order_once ∙ ap (range_with_len 0) (sym names_long))))))
 
   names_named : All (λ name. IsTrue (is_name name)) names

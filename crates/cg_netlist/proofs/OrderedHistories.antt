@@ -8,14 +8,14 @@ use Rattle.std.proofs.lemmas.List.{length-map}
 use Rattle.std.proofs.lemmas.Option.{get_or_from_slice_get, slice_get-get_or, slice_get-map, slice_get_within}
 use Rattle.cg_netlist.specs.Circuit.{Circuit, GatingCell, LogicCell, RegisterCell, asked_nets, cell_nets, clock_nets}
 use Rattle.cg_net.specs.NetSets.{is_in}
-use Rattle.cg_netlist.specs.Circuit.{data_inputs, gate_nets, given_nets, register_nets}
+use Rattle.cg_netlist.specs.Circuit.{data_inputs, gater_outputs, given_nets, register_nets}
 use Rattle.cg_netlist.specs.Wiring.{map_cell, map_gater, map_register}
-use Rattle.cg_netlist.specs.History.{AreTicks, IsLawful, IsStart, IsWaveform, LawfulFrom, Moment, MomentFollows, Tick, gate_bit}
+use Rattle.cg_netlist.specs.History.{AreTicks, IsLawful, IsStart, IsWaveform, LawfulFrom, Moment, MomentFollows, Tick, gater_bit}
 use Rattle.cg_netlist.specs.History.{latches_before, next_bit, next_latch, next_value, outputs_of, state_now}
 use Rattle.cg_netlist.specs.Moment.{Settles, bit, function_value, register_bits, shown_bits, values_at, zip_with}
 use Rattle.cg_netlist.specs.WellFormed.{IsWellFormed}
 use Rattle.cg_netlist.proofs.Clocks.{pin_clocked}
-use Rattle.cg_netlist.proofs.Given.{data_given, driver_within, gate_given, given_driver, register_given}
+use Rattle.cg_netlist.proofs.Given.{data_given, driver_within, gater_given, given_driver, register_given}
 use Rattle.cg_netlist.proofs.Histories.{has_history, has_one_history}
 use Rattle.cg_net.proofs.Members.{is_in_right, member_at}
 use Rattle.cg_netlist.proofs.NetOrder.{registers_renumbered}
@@ -23,7 +23,7 @@ use Rattle.cg_netlist.proofs.OrderLemmas.{length-range_with_len}
 use Rattle.cg_netlist.proofs.Values.{at_map, by_place, zip_with_same}
 use Rattle.cg_netlist.specs.Ordered.{ordered, place_in, pulled, pulled_moment}
 use Rattle.cg_netlist.proofs.Used.{asked_is_used, data_is_used, input_is_used, output_is_used}
-use Rattle.cg_netlist.proofs.OrderedForm.{clock_nets_within, clock_within, data_is, gates_renumbered, number_within, ordered_formed}
+use Rattle.cg_netlist.proofs.OrderedForm.{clock_nets_within, clock_within, data_is, gaters_renumbered, number_within, ordered_formed}
 use Rattle.cg_netlist.proofs.OrderedForm.{used_within}
 
 zip_mapped : {A B C D : Type 0} (g : B → C → D) (h : A → B) (xs : List A) (ys : List C) → zip_with g (map h xs) ys ≡ zip_with (λ x y. g (h x) y) xs ys
@@ -74,7 +74,7 @@ module _ (c : Circuit) (good : IsWellFormed c) (inputs_once : IsDistinct nat_eq 
     long = length-map (range_with_len 0 n) (λ x. bit nets (f x)) ∙ length-range_with_len n 0;
     shows_clock = λ net is. pulled_get nets there.long net (clock_within c good inputs_once net is) ∙ there.shows_clock (f net) (ap (option_map f) is);
     shows_inputs = pulled_values nets there.long (data_inputs c) (given_below (data_inputs c) (data_given c)) ∙ (ap (values_at nets) (sym (data_is c good inputs_once)) ∙ there.shows_inputs);
-    shows_gates = pulled_values nets there.long (gate_nets c) (given_below (gate_nets c) (gate_given c)) ∙ (ap (values_at nets) (sym (gates_renumbered f c.gaters)) ∙ there.shows_gates);
+    shows_gaters = pulled_values nets there.long (gater_outputs c) (given_below (gater_outputs c) (gater_given c)) ∙ (ap (values_at nets) (sym (gaters_renumbered f c.gaters)) ∙ there.shows_gaters);
     shows_state = pulled_values nets there.long (register_nets c) (given_below (register_nets c) (register_given c)) ∙ (ap (values_at nets) (sym (registers_renumbered f c.registers)) ∙ (there.shows_state ∙ bits_same f c.registers state));
     holds = λ k cell at.
         pulled_get nets there.long cell.output (output_within k cell at)
@@ -91,8 +91,8 @@ module _ (c : Circuit) (good : IsWellFormed c) (inputs_once : IsDistinct nat_eq 
   pub asked_within : (k : ℕ) (g : GatingCell ℕ) → slice_get c.gaters k ≡ Some g → (x : ℕ) → is_in (asked_nets g) x ≡ true → x < n
   asked_within k g at x among = used_within c good inputs_once x (asked_is_used c k x g at among)
 
-  gates_same : (nets : List Bool) → length nets ≡ length (ordered c).names → (latches : List Bool) → zip_with (gate_bit nets) (map (map_gater f) c.gaters) latches ≡ zip_with (gate_bit (pulled c nets)) c.gaters latches
-  gates_same nets long latches = zip_mapped (gate_bit nets) (map_gater f) c.gaters latches ∙ zip_with_same (λ g l. gate_bit nets (map_gater f g) l) (gate_bit (pulled c nets)) c.gaters latches (λ k g l at was. ap (λ b. l && b) (sym (pulled_bit nets long g.clock (gater_pin k g at))))
+  gaters_same : (nets : List Bool) → length nets ≡ length (ordered c).names → (latches : List Bool) → zip_with (gater_bit nets) (map (map_gater f) c.gaters) latches ≡ zip_with (gater_bit (pulled c nets)) c.gaters latches
+  gaters_same nets long latches = zip_mapped (gater_bit nets) (map_gater f) c.gaters latches ∙ zip_with_same (λ g l. gater_bit nets (map_gater f g) l) (gater_bit (pulled c nets)) c.gaters latches (λ k g l at was. ap (λ b. l && b) (sym (pulled_bit nets long g.clock (gater_pin k g at))))
 
   asks_same : (nets : List Bool) → length nets ≡ length (ordered c).names → (g : GatingCell ℕ) → ((x : ℕ) → is_in (asked_nets g) x ≡ true → x < n) → list_any (bit nets) (asked_nets (map_gater f g)) ≡ list_any (bit (pulled c nets)) (asked_nets g)
   asks_same nets long g within = ap (λ b. b || list_any (bit nets) (option_to_list (option_map f g.test))) (sym (pulled_bit nets long g.enable (within g.enable (member_at (asked_nets g) 0 g.enable refl))))
@@ -133,7 +133,7 @@ module _ (c : Circuit) (good : IsWellFormed c) (inputs_once : IsDistinct nat_eq 
   pulled_follows start before tick now was moves = record {
     state = moves.state ∙ state_at start before now.nets was moves.nets.long;
     latches = moves.latches ∙ (latches_same now.nets moves.nets.long (latches_before (ordered c) before) ∙ ap (zip_with (next_latch (pulled c now.nets)) c.gaters) (before_same before));
-    nets = subst (λ gates. Settles c tick.clock tick.inputs now.state gates (pulled c now.nets)) (gates_same now.nets moves.nets.long now.latches) (pulled_settles tick.clock tick.inputs now.state (zip_with (gate_bit now.nets) (map (map_gater f) c.gaters) now.latches) now.nets moves.nets);
+    nets = subst (λ gates. Settles c tick.clock tick.inputs now.state gates (pulled c now.nets)) (gaters_same now.nets moves.nets.long now.latches) (pulled_settles tick.clock tick.inputs now.state (zip_with (gater_bit now.nets) (map (map_gater f) c.gaters) now.latches) now.nets moves.nets);
   }
 
   pulled_from : (start : List Bool) (before : Option Moment) (wave : List Tick) (history : List Moment) → WasLong before → LawfulFrom (ordered c) start before wave history → LawfulFrom c start (pulled_before before) wave (map (pulled_moment c) history)

@@ -5,12 +5,12 @@ use Rattle.std.proofs.Common.{slice_get, slice_index, Option, None, Some, refl, 
 use Rattle.std.specs.List.{All, flat_map, range_with_len}
 use Rattle.std.specs.Option.{option_map_or, option_to_list}
 use Rattle.std.proofs.lemmas.List.{length-map, length-append, map-append}
-use Rattle.cg_netlist.specs.Circuit.{Circuit, LogicCell, RegisterCell, cell_nets, data_inputs, gate_nets, register_nets}
+use Rattle.cg_netlist.specs.Circuit.{Circuit, LogicCell, RegisterCell, cell_nets, data_inputs, gater_outputs, register_nets}
 use Rattle.cg_net.specs.NetSets.{is_in}
 use Rattle.cg_netlist.specs.Circuit.{given_nets, drivers, used_nets, shown_nets, asked_nets}
 use Rattle.cg_netlist.specs.WellFormed.{IsDriven, AreRanks}
 use Rattle.cg_netlist.specs.Moment.{Settles, CellsHold, values_at, function_value, register_bits, shown_bits}
-use Rattle.cg_netlist.proofs.Given.{Data, Clock, Gate, Shown, kind_of, data_given, clock_given, gate_given, register_given}
+use Rattle.cg_netlist.proofs.Given.{Data, Clock, Gate, Shown, kind_of, data_given, clock_given, gater_given, register_given}
 use Rattle.cg_netlist.proofs.Given.{given_driver, distinct_given, distinct_cells, given_no_cell, driver_within, given_within}
 use Rattle.cg_net.proofs.Members.{All-member, is_in_cases, is_in_left, is_in_right, member_at, place_of_member}
 use Rattle.cg_netlist.proofs.OrderLemmas.{length-range_with_len}
@@ -94,7 +94,7 @@ module _ (c : Circuit) (driven : IsDriven c) (used : All (λ net. net < length c
     same_given x among = elim (kind_of c x among) [
       | Data input ↦ same_kind (data_inputs c) (data_given c) (here.shows_inputs ∙ sym there.shows_inputs) x input
       | Clock is ↦ here.shows_clock x is ∙ sym (there.shows_clock x is)
-      | Gate gate ↦ same_kind (gate_nets c) (gate_given c) (here.shows_gates ∙ sym there.shows_gates) x gate
+      | Gate gate ↦ same_kind (gater_outputs c) (gater_given c) (here.shows_gaters ∙ sym there.shows_gaters) x gate
       | Shown register ↦ same_kind (register_nets c) (register_given c) (here.shows_state ∙ sym there.shows_state) x register
     ]
 
@@ -188,16 +188,16 @@ module _ (c : Circuit) (driven : IsDriven c) (used : All (λ net. net < length c
       length-append (inputs ++ map (λ _. clock) (option_to_list c.clock) ++ gates) (register_bits c.registers state),
       length-append (inputs ++ map (λ _. clock) (option_to_list c.clock)) gates,
       length-append inputs (map (λ _. clock) (option_to_list c.clock)),
-      length-append (data_inputs c ++ option_to_list c.clock ++ gate_nets c) (register_nets c),
-      length-append (data_inputs c ++ option_to_list c.clock) (gate_nets c),
+      length-append (data_inputs c ++ option_to_list c.clock ++ gater_outputs c) (register_nets c),
+      length-append (data_inputs c ++ option_to_list c.clock) (gater_outputs c),
       length-append (data_inputs c) (option_to_list c.clock),
       length-map (option_to_list c.clock) (λ _. clock),
       length-map c.gaters (λ gater. gater.output),
     )
 
-    given_parts : (map given (data_inputs c) ≡ inputs) × (map given (option_to_list c.clock) ≡ map (λ _. clock) (option_to_list c.clock)) × (map given (gate_nets c) ≡ gates) × (map given (register_nets c) ≡ register_bits c.registers state)
+    given_parts : (map given (data_inputs c) ≡ inputs) × (map given (option_to_list c.clock) ≡ map (λ _. clock) (option_to_list c.clock)) × (map given (gater_outputs c) ≡ gates) × (map given (register_nets c) ≡ register_bits c.registers state)
     unfolding given_bits
-    given_parts = four given (data_inputs c) (option_to_list c.clock) (gate_nets c) (register_nets c) inputs (map (λ _. clock) (option_to_list c.clock)) gates (register_bits c.registers state)
+    given_parts = four given (data_inputs c) (option_to_list c.clock) (gater_outputs c) (register_nets c) inputs (map (λ _. clock) (option_to_list c.clock)) gates (register_bits c.registers state)
         (sym inputs_long) (sym (length-map (option_to_list c.clock) (λ _. clock))) (length-map c.gaters (λ gater. gater.output) ∙ sym gates_long)
         (bits_beside (given_nets c) given_bits (distinct_given c driven) given_long)
 
@@ -230,7 +230,7 @@ module _ (c : Circuit) (driven : IsDriven c) (used : All (λ net. net < length c
         long = all_long;
         shows_clock = λ net is. given_shown net (clock_given c net is) ∙ ap (λ b. Some b) (clock_bit net is);
         shows_inputs = kind_shown (data_inputs c) (data_given c) ∙ given_parts.0;
-        shows_gates = kind_shown (gate_nets c) (gate_given c) ∙ given_parts.2;
+        shows_gaters = kind_shown (gater_outputs c) (gater_given c) ∙ given_parts.2;
         shows_state = kind_shown (register_nets c) (register_given c) ∙ given_parts.3;
         holds = cells_hold;
       },

@@ -6,17 +6,17 @@ use Rattle.std.proofs.lemmas.Bool.{both_ways, eqb-true, or_cases}
 use Rattle.std.proofs.lemmas.List.{length-map}
 use Rattle.std.proofs.lemmas.Option.{same_Some, slice_get-get_or, slice_get_past}
 use Rattle.cg_netlist.specs.Chains.{chain, chain_cell}
-use Rattle.cg_netlist.specs.Circuit.{Circuit, GatingCell, LogicCell, cell_nets, clock_nets, gate_nets, given_nets}
+use Rattle.cg_netlist.specs.Circuit.{Circuit, GatingCell, LogicCell, cell_nets, clock_nets, gater_outputs, given_nets}
 use Rattle.cg_net.specs.NetSets.{is_in}
 use Rattle.cg_netlist.specs.Netlist.{IsNetlist}
 use Rattle.cg_netlist.specs.Nets.{nets_of, outputs}
-use Rattle.cg_netlist.specs.WalkLaws.{ClockIsApart, GateOrderIsWalk, NetsAreAll, NetsSettle, WalkLeavesMoment, WalkOrderIsWalk}
+use Rattle.cg_netlist.specs.WalkLaws.{ClockIsApart, GaterOrderIsWalk, NetsAreAll, NetsSettle, WalkLeavesMoment, WalkOrderIsWalk}
 use Rattle.cg_netlist.specs.WellFormed.{AreRanks, IsWellFormed}
 use Rattle.cg_netlist.specs.inner.Walking.{IsLevelled}
 use Rattle.cg_netlist.proofs.ClockFree.{lowers}
 use Rattle.cg_netlist.proofs.Clocks.{pin_clocked}
 use Rattle.cg_netlist.proofs.DriverTable.{gater_net_within}
-use Rattle.cg_netlist.proofs.Given.{clock_given, clock_no_gate, distinct_cells, distinct_gates, driver_within, gate_given}
+use Rattle.cg_netlist.proofs.Given.{clock_given, clock_no_gater, distinct_cells, distinct_gaters, driver_within, gater_given}
 use Rattle.cg_netlist.proofs.Given.{given_driver, in_option}
 use Rattle.cg_net.proofs.Members.{is_in_cases, member_at, one_place}
 use Rattle.cg_netlist.proofs.NetsOf.{nets_only, nets_settle, put_same}
@@ -50,19 +50,19 @@ chain_ranked c good numbers count chained = record {
       let d = chain_at c.gaters j driver at_j in
       let e = chain_at c.gaters k cell at_k in
       let same : d.0.output ≡ e.0.clock = lone e.0.clock d.0.output (subst (λ (x : LogicCell ℕ). is_in x.inputs d.0.output ≡ true) (sym e.2) (subst (λ (x : LogicCell ℕ). is_in cell.inputs x.output ≡ true) (sym d.2) among)) in
-      let out : (i : ℕ) (g : GatingCell ℕ) → slice_get c.gaters i ≡ Some g → slice_get (gate_nets c) i ≡ Some g.output = λ i g at. at_map (λ (x : GatingCell ℕ). x.output) c.gaters i g at in
+      let out : (i : ℕ) (g : GatingCell ℕ) → slice_get c.gaters i ≡ Some g → slice_get (gater_outputs c) i ≡ Some g.output = λ i g at. at_map (λ (x : GatingCell ℕ). x.output) c.gaters i g at in
       elim (chained k e.0 e.1) [
-        | inl clock ↦ absurd (both_ways (is_in (gate_nets c) e.0.clock) (clock_no_gate c good.driven e.0.clock clock) (subst (λ x. is_in (gate_nets c) x ≡ true) same (member_at (gate_nets c) j d.0.output (out j d.0 d.1))))
+        | inl clock ↦ absurd (both_ways (is_in (gater_outputs c) e.0.clock) (clock_no_gater c good.driven e.0.clock clock) (subst (λ x. is_in (gater_outputs c) x ≡ true) same (member_at (gater_outputs c) j d.0.output (out j d.0 d.1))))
         | inr lower ↦
-            let here : j ≡ lower.0 = one_place (gate_nets c) j lower.0 e.0.clock (distinct_gates c good.driven) (out j d.0 d.1 ∙ ap Some same) (out lower.0 lower.1 lower.2 ∙ ap Some lower.3) in
+            let here : j ≡ lower.0 = one_place (gater_outputs c) j lower.0 e.0.clock (distinct_gaters c good.driven) (out j d.0 d.1 ∙ ap Some same) (out lower.0 lower.1 lower.2 ∙ ap Some lower.3) in
             subst (λ i. slice_index numbers i < slice_index numbers k) (sym here) lower.4
       ];
 }
 
-pub gate_order_is_walk : GateOrderIsWalk
-gate_order_is_walk c good =
+pub gater_order_is_walk : GaterOrderIsWalk
+gater_order_is_walk c good =
     walk_is (chain c.gaters) good.numbers (chain_ranked c good good.numbers good.chained.count good.chained.chained)
-    (subst (IsDistinct nat_eq) (sym (chain_outputs c.gaters)) (distinct_gates c good.driven))
+    (subst (IsDistinct nat_eq) (sym (chain_outputs c.gaters)) (distinct_gaters c good.driven))
 
 -- the gating cells of a netlist may be searched for their ranks
 pub chain_levelled : (c : Circuit) → IsNetlist c → (n : ℕ) → n ≡ length c.names → IsLevelled n (chain c.gaters)
@@ -83,9 +83,9 @@ chain_levelled c good n is =
     }
   where
     clock_within : (c : Circuit) → IsWellFormed c → (net : ℕ) → is_in (clock_nets c) net ≡ true → net < length c.names
-    clock_within c formed net among = driver_within c formed.driven net (given_driver c net (elim (is_in_cases (option_to_list c.clock) (gate_nets c) net among) [
+    clock_within c formed net among = driver_within c formed.driven net (given_driver c net (elim (is_in_cases (option_to_list c.clock) (gater_outputs c) net among) [
       | inl clock ↦ clock_given c net (in_option c.clock net clock)
-      | inr gate ↦ gate_given c net gate
+      | inr gate ↦ gater_given c net gate
     ]))
 
 pub nets_do_settle : NetsSettle

@@ -13,5 +13,5 @@ chain gaters = map chain_cell gaters
 
 -- the gating cells along their chains: rank by rank, where one has a rank above that of the one that drives its clock
 -- pin, and those of one rank by number
-abbrev pub gate_order : List (GatingCell ℕ) → List ℕ
-gate_order gaters = walk_order (chain gaters)
+abbrev pub gater_order : List (GatingCell ℕ) → List ℕ
+gater_order gaters = walk_order (chain gaters)

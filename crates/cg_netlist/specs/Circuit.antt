@@ -54,8 +54,8 @@ data_inputs c = filter (λ net. not (is_in (option_to_list c.clock) net)) c.inpu
 abbrev pub cell_nets : Circuit → List ℕ
 cell_nets c = map (λ cell. cell.output) c.cells
 
-abbrev pub gate_nets : Circuit → List ℕ
-gate_nets c = map (λ gater. gater.output) c.gaters
+abbrev pub gater_outputs : Circuit → List ℕ
+gater_outputs c = map (λ gater. gater.output) c.gaters
 
 abbrev pub shown_nets : {N K : Type 0} → RegisterCell N K → List N
 shown_nets register = map (λ output. output.0) register.outputs
@@ -66,7 +66,7 @@ register_nets c = flat_map shown_nets c.registers
 -- the nets whose bits at a moment do not follow from other nets of that moment by a logic cell: the data inputs,
 -- the clock, the outputs of gating cells and of registers
 abbrev pub given_nets : Circuit → List ℕ
-given_nets c = data_inputs c ++ option_to_list c.clock ++ gate_nets c ++ register_nets c
+given_nets c = data_inputs c ++ option_to_list c.clock ++ gater_outputs c ++ register_nets c
 
 -- what drives nets: the given nets and the outputs of logic cells
 abbrev pub drivers : Circuit → List ℕ
@@ -74,7 +74,7 @@ drivers c = given_nets c ++ cell_nets c
 
 -- the nets that carry the clock: the clock, and the outputs of gating cells
 abbrev pub clock_nets : Circuit → List ℕ
-clock_nets c = option_to_list c.clock ++ gate_nets c
+clock_nets c = option_to_list c.clock ++ gater_outputs c
 
 -- the nets whose bits the latch of a gating cell follows: the enable, and the test net where it has one
 abbrev pub asked_nets : {N : Type 0} → GatingCell N → List N
@@ -91,4 +91,4 @@ used_nets c =
 -- the gating cells and of the registers, each kind in its own order
 abbrev pub net_order : Circuit → List ℕ
 net_order c =
-    c.inputs ++ filter (λ net. not (is_in c.inputs net)) (option_to_list c.clock) ++ cell_nets c ++ gate_nets c ++ register_nets c
+    c.inputs ++ filter (λ net. not (is_in c.inputs net)) (option_to_list c.clock) ++ cell_nets c ++ gater_outputs c ++ register_nets c

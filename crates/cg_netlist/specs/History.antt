@@ -67,14 +67,14 @@ latches_before c None = replicate (length c.gaters) false
 latches_before c (Some before) = before.latches
 
 -- a gating cell's output: the latch and the clock pin
-abbrev pub gate_bit : List Bool → GatingCell ℕ → Bool → Bool
-gate_bit nets gater latch = latch && bit nets gater.clock
+abbrev pub gater_bit : List Bool → GatingCell ℕ → Bool → Bool
+gater_bit nets gater latch = latch && bit nets gater.clock
 
 -- one moment is as the waveform and the moment before have it
 pub record MomentFollows (c : Circuit) (start : List Bool) (before : Option Moment) (tick : Tick) (now : Moment) : Type 0 where
   pub state : now.state ≡ state_now c start before now.nets
   pub latches : now.latches ≡ zip_with (next_latch now.nets) c.gaters (latches_before c before)
-  pub nets : Settles c tick.clock tick.inputs now.state (zip_with (gate_bit now.nets) c.gaters now.latches) now.nets
+  pub nets : Settles c tick.clock tick.inputs now.state (zip_with (gater_bit now.nets) c.gaters now.latches) now.nets
 
 -- a history has a moment for each of the waveform's, and each follows
 abbrev pub LawfulFrom : Circuit → List Bool → Option Moment → List Tick → List Moment → Type 0

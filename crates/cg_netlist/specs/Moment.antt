@@ -8,7 +8,7 @@ use Rattle.cg_cell.specs.Cover.{cover_value}
 use Rattle.cg_cell.specs.Term.{term_value}
 use Rattle.cg_netlist.specs.declared.parts.LogicFunction.{LogicFunction}
 use Rattle.cg_netlist.specs.declared.parts.LogicFunction.TheVariants.{Cover, Cell}
-use Rattle.cg_netlist.specs.Circuit.{Circuit, LogicCell, RegisterCell, data_inputs, gate_nets, register_nets}
+use Rattle.cg_netlist.specs.Circuit.{Circuit, LogicCell, RegisterCell, data_inputs, gater_outputs, register_nets}
 
 -- what is kept for each of these nets, in their order, in a list with a place for each net
 abbrev pub values_at : {T : Type 0} → List T → List ℕ → List T
@@ -54,6 +54,6 @@ pub record Settles (c : Circuit) (clock : Bool) (inputs state gates nets : List 
   pub long : length nets ≡ length c.names
   pub shows_clock : (net : ℕ) → c.clock ≡ Some net → slice_get nets net ≡ Some clock
   pub shows_inputs : values_at nets (data_inputs c) ≡ inputs
-  pub shows_gates : values_at nets (gate_nets c) ≡ gates
+  pub shows_gaters : values_at nets (gater_outputs c) ≡ gates
   pub shows_state : values_at nets (register_nets c) ≡ register_bits c.registers state
   pub holds : CellsHold c.cells nets

@@ -1,6 +1,6 @@
 -- What is true of walk order, and of the bits that a walk leaves.
 use Rattle.std.specs.Prelude.{◌≡◌, ◌≢◌, ℕ, Bool, true, false, List, length, slice_get, Some}
-use Rattle.cg_netlist.specs.Chains.{chain, gate_order}
+use Rattle.cg_netlist.specs.Chains.{chain, gater_order}
 use Rattle.cg_netlist.specs.Circuit.{Circuit, LogicCell, data_inputs, given_nets}
 use Rattle.cg_net.specs.NetSets.{is_in}
 use Rattle.cg_netlist.specs.Moment.{Settles, values_at}
@@ -12,8 +12,8 @@ abbrev pub WalkOrderIsWalk : Type 0
 WalkOrderIsWalk = (c : Circuit) → IsWellFormed c → IsWalk c.cells (walked c.cells)
 
 -- the order of gating cells has all of them, each behind the one that drives its clock pin
-abbrev pub GateOrderIsWalk : Type 0
-GateOrderIsWalk = (c : Circuit) → IsWellFormed c → IsWalk (chain c.gaters) (values_at (chain c.gaters) (gate_order c.gaters))
+abbrev pub GaterOrderIsWalk : Type 0
+GaterOrderIsWalk = (c : Circuit) → IsWellFormed c → IsWalk (chain c.gaters) (values_at (chain c.gaters) (gater_order c.gaters))
 
 -- a bit for each data input, each register and each gating cell
 pub record AreGiven (c : Circuit) (inputs state gates : List Bool) : Type 0 where

@@ -1,7 +1,7 @@
 //! Chains of gating cells, from the clock on.
 
 ghost use Rattle.std.specs.Prelude.{◌≡◌, IfOk};
-ghost use Rattle.cg_netlist.specs.Chains.{chain, chain_cell, gate_order};
+ghost use Rattle.cg_netlist.specs.Chains.{chain, chain_cell, gater_order};
 
 use crate::levels::walk_order;
 use crate::netlist::Netlist;
@@ -12,8 +12,8 @@ use std::alloc::{AllocError, Global};
 impl Netlist {
     /// The gating cells along their chains, each behind the one that drives its clock pin: by rank, and those of one
     /// rank by number. It takes time linear in the netlist.
-    pub fn gate_order(&self, alloc: Global) -> Result<Vec<GateClockId>, AllocError>
-        ensures { IfOk result (λ order. order.items ≡ gate_order self.now.gaters) }
+    pub fn gater_order(&self, alloc: Global) -> Result<Vec<GateClockId>, AllocError>
+        ensures { IfOk result (λ order. order.items ≡ gater_order self.now.gaters) }
     {
         let chain = chain_of(alloc, self.gating())?;
         let order = walk_order(alloc, self.nets() as usize, &chain)?;

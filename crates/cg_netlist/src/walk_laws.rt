@@ -1,6 +1,6 @@
 //! What is true of walk order, and of the bits that a walk leaves.
 
-ghost use Rattle.cg_netlist.specs.WalkLaws.{ClockIsApart, GateOrderIsWalk, NetsAreAll, NetsSettle, WalkLeavesMoment};
+ghost use Rattle.cg_netlist.specs.WalkLaws.{ClockIsApart, GaterOrderIsWalk, NetsAreAll, NetsSettle, WalkLeavesMoment};
 ghost use Rattle.cg_netlist.specs.WalkLaws.{WalkOrderIsWalk};
 
 /// The laws of walks: walk order puts each logic cell behind those that drive its inputs, and the order of gating cells
@@ -11,7 +11,7 @@ ghost use Rattle.cg_netlist.specs.WalkLaws.{WalkOrderIsWalk};
 /// The call does nothing; callers use what it ensures.
 pub fn walk_laws()
     ensures order { WalkOrderIsWalk }
-    ensures gates { GateOrderIsWalk }
+    ensures gates { GaterOrderIsWalk }
     ensures settle { NetsSettle }
     ensures only { NetsAreAll }
     ensures leaves { WalkLeavesMoment }

@@ -8,7 +8,7 @@ use Rattle.std.proofs.lemmas.Bool.{both_ways, eqb-true, eq-eqb, or_cases, or_lef
 use Rattle.std.proofs.lemmas.List.Folds.{list_any-append}
 use Rattle.std.proofs.lemmas.Option.{slice_get_within}
 use Rattle.std.proofs.Math.Bool.{or-false}
-use Rattle.cg_netlist.specs.Circuit.{Circuit, LogicCell, RegisterCell, cell_nets, data_inputs, gate_nets, net_order}
+use Rattle.cg_netlist.specs.Circuit.{Circuit, LogicCell, RegisterCell, cell_nets, data_inputs, gater_outputs, net_order}
 use Rattle.cg_net.specs.NetSets.{is_in}
 use Rattle.cg_netlist.specs.Circuit.{register_nets, shown_nets}
 use Rattle.cg_netlist_cone.specs.Cone.{cell_feeds, cone_at, cone_of, register_feeds}
@@ -267,8 +267,8 @@ pub data_rises : (c : Circuit) → IsInNetOrder c → Rises 0 (data_inputs c)
 data_rises c ordered =
     let late : List ℕ = filter (λ net. not (is_in c.inputs net)) (option_to_list c.clock) in
     let whole : Rises 0 (net_order c) = subst (Rises 0) (sym ordered) (numbers_rise (length c.names) 0) in
-    let to_gates = rises_front 0 (c.inputs ++ late ++ cell_nets c ++ gate_nets c) (register_nets c) whole in
-    let to_cells = rises_front 0 (c.inputs ++ late ++ cell_nets c) (gate_nets c) to_gates in
+    let to_gates = rises_front 0 (c.inputs ++ late ++ cell_nets c ++ gater_outputs c) (register_nets c) whole in
+    let to_cells = rises_front 0 (c.inputs ++ late ++ cell_nets c) (gater_outputs c) to_gates in
     let to_late = rises_front 0 (c.inputs ++ late) (cell_nets c) to_cells in
     kept_rises (λ net. not (is_in (option_to_list c.clock) net)) 0 c.inputs (rises_front 0 c.inputs late to_late)
 

@@ -5,7 +5,7 @@ use Rattle.std.specs.List.{IsDistinct, flat_map}
 use Rattle.std.specs.Option.{option_map_or, option_to_list}
 use Rattle.std.proofs.lemmas.Bool.{both_ways, eqb-true, eq-eqb, false_from_ne_true}
 use Rattle.std.proofs.lemmas.Option.{none-some, same_Some}
-use Rattle.cg_netlist.specs.Circuit.{Circuit, GatingCell, LogicCell, RegisterCell, cell_nets, data_inputs, gate_nets}
+use Rattle.cg_netlist.specs.Circuit.{Circuit, GatingCell, LogicCell, RegisterCell, cell_nets, data_inputs, gater_outputs}
 use Rattle.cg_net.specs.NetSets.{is_in}
 use Rattle.cg_netlist.specs.Circuit.{register_nets, shown_nets}
 use Rattle.cg_netlist.specs.Drivers.{IsDriver}
@@ -13,7 +13,7 @@ use Rattle.cg_netlist.specs.WellFormed.{IsDriven}
 use Rattle.cg_netlist.specs.declared.driver.Driver.{Driver}
 use Rattle.cg_netlist.specs.declared.driver.Driver.TheVariants.{Input, Clock, Cell, Gater, Register}
 use Rattle.cg_netlist_cone.specs.inner.Reaching.{register_shows}
-use Rattle.cg_netlist.proofs.Given.{clock_given, data_given, distinct_cells, distinct_given, from_option, gate_given, given_no_cell}
+use Rattle.cg_netlist.proofs.Given.{clock_given, data_given, distinct_cells, distinct_given, from_option, gater_given, given_no_cell}
 use Rattle.cg_netlist.proofs.Given.{register_given}
 use Rattle.cg_net.proofs.Members.{distinct_apart, distinct_left, distinct_right, is_in_left, is_in_right, member_at, one_place}
 use Rattle.cg_netlist.proofs.Used.{in_flat}
@@ -48,17 +48,17 @@ module _ (c : Circuit) (driven : IsDriven c) where
   abbrev sources : List ℕ
   sources = data_inputs c ++ option_to_list c.clock
 
-  front_once : IsDistinct nat_eq (sources ++ gate_nets c)
-  front_once = distinct_left (sources ++ gate_nets c) (register_nets c) (distinct_given c driven)
+  front_once : IsDistinct nat_eq (sources ++ gater_outputs c)
+  front_once = distinct_left (sources ++ gater_outputs c) (register_nets c) (distinct_given c driven)
 
-  no_register : (y : ℕ) → is_in (sources ++ gate_nets c) y ≡ true → is_in (register_nets c) y ≡ false
-  no_register y among = distinct_apart (sources ++ gate_nets c) (register_nets c) (distinct_given c driven) y among
+  no_register : (y : ℕ) → is_in (sources ++ gater_outputs c) y ≡ true → is_in (register_nets c) y ≡ false
+  no_register y among = distinct_apart (sources ++ gater_outputs c) (register_nets c) (distinct_given c driven) y among
 
   cell_net : (k : ℕ) (cell : LogicCell ℕ) (y : ℕ) → slice_get c.cells k ≡ Some cell → cell.output ≡ y → slice_get (cell_nets c) k ≡ Some y
   cell_net k cell y at output = at_map (λ (e : LogicCell ℕ). e.output) c.cells k cell at ∙ ap Some output
 
-  gate_net : (k : ℕ) (gater : GatingCell ℕ) (y : ℕ) → slice_get c.gaters k ≡ Some gater → gater.output ≡ y → is_in (gate_nets c) y ≡ true
-  gate_net k gater y at output = member_at (gate_nets c) k y (at_map (λ (g : GatingCell ℕ). g.output) c.gaters k gater at ∙ ap Some output)
+  gate_net : (k : ℕ) (gater : GatingCell ℕ) (y : ℕ) → slice_get c.gaters k ≡ Some gater → gater.output ≡ y → is_in (gater_outputs c) y ≡ true
+  gate_net k gater y at output = member_at (gater_outputs c) k y (at_map (λ (g : GatingCell ℕ). g.output) c.gaters k gater at ∙ ap Some output)
 
   shown_net : (r place y : ℕ) (inverted : Bool) (cell : RegisterCell ℕ ℕ) → slice_get c.registers r ≡ Some cell → slice_get cell.outputs place ≡ Some (y, inverted) → is_in (shown_nets cell) y ≡ true
   shown_net r place y inverted cell at shows = member_at (shown_nets cell) place y (at_map (λ (o : ℕ × Bool). o.0) cell.outputs place (y, inverted) shows)
@@ -77,7 +77,7 @@ module _ (c : Circuit) (driven : IsDriven c) where
       go Input is = absurd (both_ways (is_in (cell_nets c) y) (given_no_cell c driven y (data_given c y is)) among)
       go Clock is = absurd (both_ways (is_in (cell_nets c) y) (given_no_cell c driven y (clock_given c y is)) among)
       go (Cell j) is = ap Cell (one_place (cell_nets c) j k y (distinct_cells c driven) (cell_net j is.0 y is.1 is.2) (cell_net k cell y at output))
-      go (Gater j) is = absurd (both_ways (is_in (cell_nets c) y) (given_no_cell c driven y (gate_given c y (gate_net j is.0 y is.1 is.2))) among)
+      go (Gater j) is = absurd (both_ways (is_in (cell_nets c) y) (given_no_cell c driven y (gater_given c y (gate_net j is.0 y is.1 is.2))) among)
       go (Register r inverted) is =
           absurd (both_ways (is_in (cell_nets c) y) (given_no_cell c driven y (register_given c y (in_registers r y is.0 is.2 (shown_net r is.1 y inverted is.0 is.2 is.3)))) among)
 
@@ -85,13 +85,13 @@ module _ (c : Circuit) (driven : IsDriven c) where
   pub input_driver : (y : ℕ) (d : Driver) → IsDriver c y d → is_in (data_inputs c) y ≡ is_input d
   input_driver y Input is = is
   input_driver y Clock is = false_from_ne_true (is_in (data_inputs c) y) (λ among.
-      both_ways (is_in (option_to_list c.clock) y) (distinct_apart (data_inputs c) (option_to_list c.clock) (distinct_left sources (gate_nets c) front_once) y among) (from_option c.clock y is))
+      both_ways (is_in (option_to_list c.clock) y) (distinct_apart (data_inputs c) (option_to_list c.clock) (distinct_left sources (gater_outputs c) front_once) y among) (from_option c.clock y is))
   input_driver y (Cell k) is = false_from_ne_true (is_in (data_inputs c) y) (λ among.
       both_ways (is_in (cell_nets c) y) (given_no_cell c driven y (data_given c y among)) (member_at (cell_nets c) k y (cell_net k is.0 y is.1 is.2)))
   input_driver y (Gater k) is = false_from_ne_true (is_in (data_inputs c) y) (λ among.
-      both_ways (is_in (gate_nets c) y) (distinct_apart sources (gate_nets c) front_once y (is_in_left (data_inputs c) (option_to_list c.clock) y among)) (gate_net k is.0 y is.1 is.2))
+      both_ways (is_in (gater_outputs c) y) (distinct_apart sources (gater_outputs c) front_once y (is_in_left (data_inputs c) (option_to_list c.clock) y among)) (gate_net k is.0 y is.1 is.2))
   input_driver y (Register r inverted) is = false_from_ne_true (is_in (data_inputs c) y) (λ among.
-      both_ways (is_in (register_nets c) y) (no_register y (is_in_left sources (gate_nets c) y (is_in_left (data_inputs c) (option_to_list c.clock) y among))) (in_registers r y is.0 is.2 (shown_net r is.1 y inverted is.0 is.2 is.3)))
+      both_ways (is_in (register_nets c) y) (no_register y (is_in_left sources (gater_outputs c) y (is_in_left (data_inputs c) (option_to_list c.clock) y among))) (in_registers r y is.0 is.2 (shown_net r is.1 y inverted is.0 is.2 is.3)))
 
   -- no register shows its bit at a net that is none of theirs
   none_shows : (k y : ℕ) → is_in (register_nets c) y ≡ false → register_shows c k y ≡ false
@@ -103,11 +103,11 @@ module _ (c : Circuit) (driven : IsDriven c) where
 
   -- a register shows its bit at a net exactly where it drives it
   pub register_driver : (k y : ℕ) (d : Driver) → IsDriver c y d → register_shows c k y ≡ is_register d k
-  register_driver k y Input is = none_shows k y (no_register y (is_in_left sources (gate_nets c) y (is_in_left (data_inputs c) (option_to_list c.clock) y is)))
-  register_driver k y Clock is = none_shows k y (no_register y (is_in_left sources (gate_nets c) y (is_in_right (data_inputs c) (option_to_list c.clock) y (from_option c.clock y is))))
+  register_driver k y Input is = none_shows k y (no_register y (is_in_left sources (gater_outputs c) y (is_in_left (data_inputs c) (option_to_list c.clock) y is)))
+  register_driver k y Clock is = none_shows k y (no_register y (is_in_left sources (gater_outputs c) y (is_in_right (data_inputs c) (option_to_list c.clock) y (from_option c.clock y is))))
   register_driver k y (Cell j) is = none_shows k y (false_from_ne_true (is_in (register_nets c) y) (λ among.
       both_ways (is_in (cell_nets c) y) (given_no_cell c driven y (register_given c y among)) (member_at (cell_nets c) j y (cell_net j is.0 y is.1 is.2))))
-  register_driver k y (Gater j) is = none_shows k y (no_register y (is_in_right sources (gate_nets c) y (gate_net j is.0 y is.1 is.2)))
+  register_driver k y (Gater j) is = none_shows k y (no_register y (is_in_right sources (gater_outputs c) y (gate_net j is.0 y is.1 is.2)))
   register_driver k y (Register r inverted) is =
       same_truth (register_shows c k y) (nat_eq k r) (λ shows. there (slice_get c.registers k) refl shows) (λ same. back (eqb-true k r same))
     where
@@ -116,7 +116,7 @@ module _ (c : Circuit) (driven : IsDriven c) where
 
       there : (o : Option (RegisterCell ℕ ℕ)) → slice_get c.registers k ≡ o → option_map_or (λ cell. is_in (shown_nets cell) y) o false ≡ true → nat_eq k r ≡ true
       there None at shows = absurd (both_ways false refl shows)
-      there (Some cell) at shows = eq-eqb k r (one_item shown_nets c.registers k r cell is.0 y (distinct_right (sources ++ gate_nets c) (register_nets c) (distinct_given c driven)) at shows is.2 shown)
+      there (Some cell) at shows = eq-eqb k r (one_item shown_nets c.registers k r cell is.0 y (distinct_right (sources ++ gater_outputs c) (register_nets c) (distinct_given c driven)) at shows is.2 shown)
 
       back : k ≡ r → register_shows c k y ≡ true
       back same = ap (λ o. option_map_or (λ cell. is_in (shown_nets cell) y) o false) (ap (slice_get c.registers) same ∙ is.2) ∙ shown

@@ -25,7 +25,7 @@ use Rattle.cg_hold.proofs.ListNumber.{claim_number}
 use Rattle.cg_lrat.specs.AcceptedLog.{IsAccepted}
 use Rattle.cg_machine.specs.Machine.{IsMachine, MachineData}
 use Rattle.cg_plan_laws.specs.StageClaims.{NamedClaim}
-use Rattle.cg_plan_laws.specs.Told.{AreCertified, Certifies, DoViolate, StageClaim}
+use Rattle.cg_plan_laws.specs.Reported.{AreCertified, Certifies, DoViolate, StageClaim}
 use Rattle.cg_plan_laws.specs.Trying.{first_false}
 use Rattle.cg_plan_laws.specs.declared.certificate.Certificate.{Certificate}
 use Rattle.cg_plan.specs.Planning.{AreWritable, IsWritableCertificate}
@@ -70,13 +70,13 @@ module _ (goals : GoalViolates) (law : NeverIsTried) (m : MachineData) (q : Ques
   )
 
 -- a decision, as it is told
-pub told_proved : (s t : Seen) (g h : ℕ) (d : Decision) (f : Formula) (log : Log) → s ≡ t → g ≡ h → IsProved s g d → d ≡ Never f log → (f ≡ formula_of t h) × IsAccepted f log
-told_proved s t g h d f log same goals proved is =
+pub proved_decided : (s t : Seen) (g h : ℕ) (d : Decision) (f : Formula) (log : Log) → s ≡ t → g ≡ h → IsProved s g d → d ≡ Never f log → (f ≡ formula_of t h) × IsAccepted f log
+proved_decided s t g h d f log same goals proved is =
     let p : (f ≡ formula_of s g) × IsAccepted f log = subst (IsProved s g) is proved in
     (p.0 ∙ (ap (λ z. formula_of z g) same ∙ ap (formula_of t) goals), p.1)
 
-pub told_writable : (d : Decision) (f : Formula) (log : Log) → CanBeWritten d → d ≡ Never f log → IsFormula f × IsLog log
-told_writable d f log can is = let p : IsFormula f × IsLog log × AreNumbered log.steps = subst CanBeWritten is can in (p.0, p.1)
+pub writable_decided : (d : Decision) (f : Formula) (log : Log) → CanBeWritten d → d ≡ Never f log → IsFormula f × IsLog log
+writable_decided d f log can is = let p : IsFormula f × IsLog log × AreNumbered log.steps = subst CanBeWritten is can in (p.0, p.1)
 
 -- one more certificate
 certified_more : (claims : List StageClaim) (more : List Certificate) (c : StageClaim) (certificate : Certificate) → AreCertified claims more → Certifies c certificate → AreCertified (claims ++ c ∷ []) (more ++ certificate ∷ [])

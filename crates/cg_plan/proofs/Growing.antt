@@ -11,9 +11,9 @@ use Rattle.cg_machine.specs.declared.stage.Stage.{Stage}
 use Rattle.cg_netlist.specs.declared.fault.AddFault.{AddFault}
 use Rattle.cg_netlist.specs.declared.fault.AddFault.TheVariants.{Limit as LimitFault, NoMemory}
 use Rattle.cg_plan_laws.proofs.PlanSafe.{IsSafe, Next, one_safe}
-use Rattle.cg_plan_laws.proofs.Telling.{certificates_told, stages_told}
+use Rattle.cg_plan_laws.proofs.Telling.{certificates_reported, stages_reported}
 use Rattle.cg_plan_laws.specs.Plan.{Plan, Turn, after_outcome, after_try, earlier_of, is_inserted, try_one}
-use Rattle.cg_plan_laws.specs.Told.{AreAppended, AreTold, IsBacked, MayFail, TellsOutcome, certified_claims, claims_for, without_bits}
+use Rattle.cg_plan_laws.specs.Reported.{AreAppended, AreTold, IsBacked, MayFail, TellsOutcome, certified_claims, claims_for, without_bits}
 use Rattle.cg_plan_laws.specs.Trying.{Ends, tried}
 use Rattle.cg_plan_laws.specs.declared.outcome.Outcome.{Outcome}
 use Rattle.cg_plan_laws.specs.declared.outcome.Outcome.TheVariants.{Inserted, NeverIdle, NoCell, Refuted, Small, Wide}
@@ -33,10 +33,10 @@ same_inserted NeverIdle = refl
 same_inserted (Small regs) = refl
 same_inserted (NoCell kind) = refl
 
-told_length : (turns : List Turn) (told : List (Stage × Outcome)) → AreTold turns told → length told ≡ length turns
-told_length [] told are = ap length are
-told_length (turn ∷ turns) [] are = absurd are
-told_length (turn ∷ turns) (t ∷ told) are = omega (arith, told_length turns told are.2)
+reported_length : (turns : List Turn) (told : List (Stage × Outcome)) → AreTold turns told → length told ≡ length turns
+reported_length [] told are = ap length are
+reported_length (turn ∷ turns) [] are = absurd are
+reported_length (turn ∷ turns) (t ∷ told) are = omega (arith, reported_length turns told are.2)
 
 module _ (library : List CellData) (settings : Settings) where
   -- this came of a stage on the machine of the draft d, and e is the draft after it, which does not tell it yet
@@ -58,10 +58,10 @@ module _ (library : List CellData) (settings : Settings) where
     going = refl;
     machine = comes.machine ∙ (ap (λ m. after_outcome m s outcome) draft.machine ∙ ap (λ b. if b then effect p.machine s else p.machine) (sym (same_inserted outcome)));
     stages = subst (λ l. AreTold (p.turns ++ turn_of p s outcome ∷ []) (l ++ (s, outcome) ∷ [])) (sym comes.stages)
-        (stages_told p.turns d.stages (turn_of p s outcome) outcome draft.stages (refl, subst (λ m. IsBacked m s outcome) draft.machine comes.tells.1));
+        (stages_reported p.turns d.stages (turn_of p s outcome) outcome draft.stages (refl, subst (λ m. IsBacked m s outcome) draft.machine comes.tells.1));
     earlier = ap (λ l. l ++ earlier_by s outcome ∷ []) (comes.earlier ∙ draft.earlier)
         ∙ (ap (λ b. earlier_of p ++ record { stage = s; inserted = b } ∷ []) (sym (same_inserted outcome)) ∙ sym (map-append earlier_turn p.turns (turn_of p s outcome ∷ [])));
-    certificates = certificates_told p.turns (turn_of p s outcome) d.certificates.items e.certificates.items draft.certificates appended;
+    certificates = certificates_reported p.turns (turn_of p s outcome) d.certificates.items e.certificates.items draft.certificates appended;
     writable = comes.writable draft.writable;
   }
     where
@@ -69,7 +69,7 @@ module _ (library : List CellData) (settings : Settings) where
       earlier_turn turn = record { stage = turn.stage; inserted = is_inserted turn.outcome }
 
       count : number ≡ 1 + length p.turns
-      count = comes.count ∙ ap (λ n. 1 + n) (told_length p.turns d.stages draft.stages)
+      count = comes.count ∙ ap (λ n. 1 + n) (reported_length p.turns d.stages draft.stages)
 
       appended : AreAppended (claims_for (1 + length p.turns) p.machine s (without_bits outcome)) d.certificates.items e.certificates.items
       appended = subst (λ b. AreAppended (if b then certified_claims (1 + length p.turns) p.machine s else []) d.certificates.items e.certificates.items) (sym (same_inserted outcome))

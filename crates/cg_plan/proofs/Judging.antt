@@ -9,7 +9,7 @@ use Rattle.cg_claim.specs.Question.{Question, idle_question}
 use Rattle.cg_claim.specs.declared.name.ClaimName.{ClaimName}
 use Rattle.cg_plan_laws.specs.Plan.{is_inserted}
 use Rattle.cg_plan_laws.specs.StageClaims.{NamedClaim, claims_of}
-use Rattle.cg_plan_laws.specs.Told.{AreAppended, IsBacked, certified_claims, claims_for, without_bits}
+use Rattle.cg_plan_laws.specs.Reported.{AreAppended, IsBacked, certified_claims, claims_for, without_bits}
 use Rattle.cg_plan_laws.specs.Trying.{Ends, Tried, decided, first_false, measured, unless_false}
 use Rattle.cg_plan_laws.specs.declared.certificate.Certificate.{Certificate}
 use Rattle.cg_plan_laws.specs.declared.outcome.Outcome.{Outcome}

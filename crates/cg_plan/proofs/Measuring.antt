@@ -8,7 +8,7 @@ use Rattle.cg_machine.specs.Machine.{MachineData}
 use Rattle.cg_claim.specs.Leaves.{width_of}
 use Rattle.cg_stage_list_laws.specs.HoldList.{is_large}
 use Rattle.cg_plan_laws.specs.StageClaims.{NamedClaim}
-use Rattle.cg_plan_laws.specs.Told.{MayFail}
+use Rattle.cg_plan_laws.specs.Reported.{MayFail}
 use Rattle.cg_plan_laws.specs.Trying.{Ends, Passes, Tried, measured}
 use Rattle.cg_plan_laws.specs.declared.outcome.Outcome.{Outcome}
 use Rattle.cg_plan_laws.specs.declared.outcome.Outcome.TheVariants.{Wide}

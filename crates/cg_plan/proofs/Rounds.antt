@@ -14,16 +14,16 @@ use Rattle.cg_machine.specs.declared.stage.StageKind.{StageKind}
 use Rattle.cg_machine.specs.declared.stage.StageKind.TheVariants.{Hold, Stable, Unseen}
 use Rattle.cg_netlist.specs.declared.fault.AddFault.{AddFault}
 use Rattle.cg_plan_laws.specs.Plan.{Plan, list_by, rounds, try_all, unless_stopped}
-use Rattle.cg_plan_laws.specs.Told.{PlanMayFail}
+use Rattle.cg_plan_laws.specs.Reported.{PlanMayFail}
 use Rattle.cg_plan_laws.specs.declared.settings.Settings.{Settings}
 use Rattle.cg_plan.specs.declared.draft.Draft.{Draft}
 use Rattle.cg_plan.specs.inner.Drafting.{IsDraft, Leads, MayStop, round_list}
 
 -- the list of a round, as the draft has it
-pub list_told : (kind : StageKind) (settings : Settings) (p : Plan) (d : Draft) → IsDraft p d → round_list kind settings d.machine d.earlier ≡ list_by kind settings p
-list_told Hold settings p d draft = refl
-list_told Stable settings p d draft = ap (λ m. round_list Stable settings m d.earlier) draft.machine ∙ ap (λ l. round_list Stable settings p.machine l) draft.earlier
-list_told Unseen settings p d draft = ap (λ m. round_list Unseen settings m d.earlier) draft.machine ∙ ap (λ l. round_list Unseen settings p.machine l) draft.earlier
+pub list_reported : (kind : StageKind) (settings : Settings) (p : Plan) (d : Draft) → IsDraft p d → round_list kind settings d.machine d.earlier ≡ list_by kind settings p
+list_reported Hold settings p d draft = refl
+list_reported Stable settings p d draft = ap (λ m. round_list Stable settings m d.earlier) draft.machine ∙ ap (λ l. round_list Stable settings p.machine l) draft.earlier
+list_reported Unseen settings p d draft = ap (λ m. round_list Unseen settings m d.earlier) draft.machine ∙ ap (λ l. round_list Unseen settings p.machine l) draft.earlier
 
 pub list_fits : (kind : StageKind) (settings : Settings) (m : MachineData) (earlier : List Earlier) → IsMachine m → AllFit m (round_list kind settings m earlier)
 list_fits Hold settings m earlier good = tt
@@ -56,8 +56,8 @@ found_fits (Err fault) kind settings m earlier good is = tt
 -- a round on the stages that the draft found
 pub leads_round : (library : List CellData) (settings : Settings) (kind : StageKind) (stages : List Stage) (d e : Draft) → stages ≡ round_list kind settings d.machine d.earlier
     → Leads (λ p. try_all library settings p stages) d e → Leads (λ p. try_all library settings p (list_by kind settings p)) d e
-leads_round library settings kind stages d e is leads p draft = subst (λ l. IsDraft (try_all library settings p l) e) (is ∙ list_told kind settings p d draft) (leads p draft)
+leads_round library settings kind stages d e is leads p draft = subst (λ l. IsDraft (try_all library settings p l) e) (is ∙ list_reported kind settings p d draft) (leads p draft)
 
 pub stops_round : (library : List CellData) (settings : Settings) (kind : StageKind) (stages : List Stage) (d : Draft) (fault : AddFault) → stages ≡ round_list kind settings d.machine d.earlier
     → MayStop (λ p. try_all library settings p stages) d fault → MayStop (λ p. try_all library settings p (list_by kind settings p)) d fault
-stops_round library settings kind stages d fault is may p draft = subst (λ l. PlanMayFail (try_all library settings p l).limit fault) (is ∙ list_told kind settings p d draft) (may p draft)
+stops_round library settings kind stages d fault is may p draft = subst (λ l. PlanMayFail (try_all library settings p l).limit fault) (is ∙ list_reported kind settings p d draft) (may p draft)

@@ -7,12 +7,12 @@ use Rattle.cg_lrat.specs.Bounds.{IsLog}
 use Rattle.cg_machine.specs.Machine.{IsMachine, MachineData}
 use Rattle.cg_machine.specs.Run.{Same}
 use Rattle.cg_stage_laws.specs.Cells.{HasCells}
-use Rattle.cg_plan_laws.specs.Told.{ToldPlan}
+use Rattle.cg_plan_laws.specs.Reported.{ReportedPlan}
 use Rattle.cg_plan_laws.specs.declared.certificate.Certificate.{Certificate}
 use Rattle.cg_plan_laws.specs.declared.settings.Settings.{Settings}
 use Rattle.cg_plan.specs.declared.plan.Plan.{Plan}
 
-abbrev pub told : Plan → ToldPlan
+abbrev pub told : Plan → ReportedPlan
 told plan = record { machine = plan.machine; stages = plan.stages; wide = plan.wide; certificates = plan.certificates }
 
 -- the machine n of a plan is a machine; from every start with 1 in the delay registers and over every waveform it shows what

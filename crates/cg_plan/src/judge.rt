@@ -8,7 +8,7 @@ ghost use Rattle.cg_machine.specs.Extends.{Extends};
 ghost use Rattle.cg_machine.specs.Machine.{IsMachine, MachineData};
 ghost use Rattle.cg_plan_laws.specs.Plan.{after_outcome};
 ghost use Rattle.cg_plan_laws.specs.StageClaims.{claims_of};
-ghost use Rattle.cg_plan_laws.specs.Told.{AreAppended, MayFail, TellsOutcome, claims_for};
+ghost use Rattle.cg_plan_laws.specs.Reported.{AreAppended, MayFail, TellsOutcome, claims_for};
 ghost use Rattle.cg_plan_laws.specs.Trying.{decided, measured, tried};
 ghost use Rattle.cg_plan.specs.Planning.{StayWritable};
 ghost use Rattle.cg_plan.specs.Trial.{WhereInserted};

@@ -2,9 +2,9 @@
 
 ghost use Rattle.std.specs.Prelude.{◌≡◌, IfOk, IfErr};
 ghost use Rattle.std.specs.Option.{option_copied};
-ghost use Rattle.cg_stage_list_laws.specs.Literals.{FitsIdle};
+ghost use Rattle.cg_stage_list_laws.specs.Literals.{FitZeroCounts};
 ghost use Rattle.cg_plan_laws.specs.Plan.{plan_of};
-ghost use Rattle.cg_plan_laws.specs.Told.{IsPlan, PlanMayFail};
+ghost use Rattle.cg_plan_laws.specs.Reported.{IsPlan, PlanMayFail};
 ghost use Rattle.cg_plan.specs.Planning.{AreWritable, IsSafePlan, told};
 
 use crate::draft::Draft;
@@ -19,7 +19,7 @@ use cg_netlist::fault::AddFault;
 use cg_plan_laws::certificate::Certificate;
 use cg_plan_laws::outcome::Outcome;
 use cg_plan_laws::settings::Settings;
-use cg_stage_list_laws::idle::Idle;
+use cg_stage_list_laws::net_zeros::NetZeros;
 use std::alloc::Global;
 
 /// A plan of a machine.
@@ -54,17 +54,17 @@ pub fn make_plan(
     machine: Machine,
     library: &Library,
     settings: &Settings,
-    idle: Option<&Idle<'_>>,
+    counts: Option<&NetZeros<'_>>,
     progress: &mut dyn Progress,
 ) -> Result<Plan, AddFault>
-    requires { FitsIdle machine (option_copied idle) }
-    ensures plan { IfOk result (λ plan. IsPlan library.now settings.now (option_copied idle.entry) machine (told plan)) }
+    requires { FitZeroCounts machine (option_copied counts) }
+    ensures plan { IfOk result (λ plan. IsPlan library.now settings.now (option_copied counts.entry) machine (told plan)) }
     ensures writable { IfOk result (λ plan. AreWritable plan.certificates) }
     ensures safe { IfOk result (λ plan. IsSafePlan library.now settings.now machine plan.machine) }
-    ensures fault { IfErr result (PlanMayFail (plan_of library.now settings.now (option_copied idle.entry) machine).limit) }
+    ensures fault { IfErr result (PlanMayFail (plan_of library.now settings.now (option_copied counts.entry) machine).limit) }
 {
     let _netlist = machine.netlist();
-    let found = match candidates(alloc, &machine, settings.width, idle, progress) {
+    let found = match candidates(alloc, &machine, settings.width, counts, progress) {
         Ok(found) => found,
         Err(fault) => {
             progress.done();

@@ -13,7 +13,7 @@ use Rattle.cg_machine.proofs.Started.{netlist_is_run, start_is_machine}
 use Rattle.cg_stage_list_laws.proofs.HoldFits.{hold_fits}
 use Rattle.cg_stage_list_laws.proofs.StableFits.{stable_fits}
 use Rattle.cg_stage_list_laws.proofs.UnseenFits.{unseen_fits}
-use Rattle.cg_plan_laws.specs.Laws.{EachFits, InsertedIsSafe, PlanHasCells, PlanIsSafe, PlanShowsNetlist, ToldIsSafe}
+use Rattle.cg_plan_laws.specs.Laws.{EachFits, InsertedIsSafe, PlanHasCells, PlanIsSafe, PlanShowsNetlist, ReportedIsSafe}
 use Rattle.cg_plan_laws.specs.Plan.{earlier_of}
 use Rattle.cg_plan_laws.proofs.Decided.{inserted_claims, inserted_free}
 use Rattle.cg_plan_laws.proofs.PlanSafe.{IsSafe, plan_safe}
@@ -26,8 +26,8 @@ inserted_safe library settings m s good fits is =
     stage_safe m s good fits (inserted_free m s good below library settings is) (inserted_claims m s good below library settings is)
 
 pub plans_safe : PlanIsSafe
-plans_safe library settings idle m good =
-    let safe : IsSafe library settings m (plan_of library settings idle m) = plan_safe library settings m idle good (hold_fits m good idle settings.width)
+plans_safe library settings counts m good =
+    let safe : IsSafe library settings m (plan_of library settings counts m) = plan_safe library settings m counts good (hold_fits m good counts settings.width)
     (λ p g. stable_fits p.machine g (earlier_of p)) (λ p g. unseen_fits p.machine g (earlier_of p) settings.test) in
     (safe.good, safe.same)
 
@@ -39,24 +39,24 @@ none_more c prefix = go (length c.registers - length c.registers) (omega arith)
     go (suc n) is = absurd (omega (arith, is))
 
 pub shows_netlist : PlanShowsNetlist
-shows_netlist library settings idle c prefix can start wave history started waves lawful =
+shows_netlist library settings counts c prefix can start wave history started waves lawful =
     let m : MachineData = machine_of c prefix in
-    (plans_safe library settings idle m (start_is_machine c prefix can)).1.shows start wave started waves.0
+    (plans_safe library settings counts m (start_is_machine c prefix can)).1.shows start wave started waves.0
     ∙ (ap (λ s. shown_from m None s wave) (ap (λ l. start ++ l) (none_more c prefix) ∙ append-nil start)
     ∙ sym (netlist_is_run c prefix can start wave history started waves lawful).1)
 
-pub told_safe : ToldIsSafe
-told_safe library settings idle m told good is =
-    subst (λ n. IsMachine n × Same m n) (sym is.machine) (plans_safe library settings idle m good)
+pub reported_safe : ReportedIsSafe
+reported_safe library settings counts m told good is =
+    subst (λ n. IsMachine n × Same m n) (sym is.machine) (plans_safe library settings counts m good)
 
 pub each_fits : EachFits
-each_fits library settings idle m good k turn at =
-    let safe : IsSafe library settings m (plan_of library settings idle m) = plan_safe library settings m idle good (hold_fits m good idle settings.width)
+each_fits library settings counts m good k turn at =
+    let safe : IsSafe library settings m (plan_of library settings counts m) = plan_safe library settings m counts good (hold_fits m good counts settings.width)
     (λ p g. stable_fits p.machine g (earlier_of p)) (λ p g. unseen_fits p.machine g (earlier_of p) settings.test) in
     safe.turns k turn at
 
 pub has_cells : PlanHasCells
-has_cells library settings idle m good has =
-    let safe : IsSafe library settings m (plan_of library settings idle m) = plan_safe library settings m idle good (hold_fits m good idle settings.width)
+has_cells library settings counts m good has =
+    let safe : IsSafe library settings m (plan_of library settings counts m) = plan_safe library settings m counts good (hold_fits m good counts settings.width)
     (λ p g. stable_fits p.machine g (earlier_of p)) (λ p g. unseen_fits p.machine g (earlier_of p) settings.test) in
     safe.cells has

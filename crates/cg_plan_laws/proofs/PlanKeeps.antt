@@ -10,7 +10,7 @@ use Rattle.cg_machine.proofs.OwnKept.{IsFront, Keeps, onward, stays}
 use Rattle.cg_stage_laws.specs.Effects.{effect}
 use Rattle.cg_stage_laws.proofs.StageKeeps.{effect_keeps}
 use Rattle.cg_stage_list_laws.specs.HoldList.{hold_list}
-use Rattle.cg_stage_list_laws.specs.Literals.{IdleData}
+use Rattle.cg_stage_list_laws.specs.Literals.{ZeroCounts}
 use Rattle.cg_plan_laws.specs.Plan.{Plan, after_try, begin, is_inserted, list_by, plan_of, rounds, try_all, try_one, unless_stopped}
 use Rattle.cg_plan_laws.specs.Trying.{Ends, Passes, Tried, tried}
 use Rattle.cg_plan_laws.specs.declared.settings.Settings.{Settings}
@@ -44,12 +44,12 @@ module _ (library : List CellData) (settings : Settings) where
       stopped_keeps p.machine q.limit q (rounds library settings kind n q) first
       (onward p.machine q.machine (rounds library settings kind n q).machine first (rounds_keep kind n q first.front))
 
-  pub plan_keeps : (idle : Option IdleData) (m : MachineData) → IsFront m → Keeps m (plan_of library settings idle m).machine
-  plan_keeps idle m front =
-      let p : Plan = begin m idle settings in
-      let tried : Plan = try_all library settings p (hold_list m idle settings.width) in
+  pub plan_keeps : (counts : Option ZeroCounts) (m : MachineData) → IsFront m → Keeps m (plan_of library settings counts m).machine
+  plan_keeps counts m front =
+      let p : Plan = begin m counts settings in
+      let tried : Plan = try_all library settings p (hold_list m counts settings.width) in
       let held : Plan = unless_stopped p.limit p tried in
-      let one : Keeps m held.machine = stopped_keeps m p.limit p tried (stays m front) (all_keep p (hold_list m idle settings.width) front) in
+      let one : Keeps m held.machine = stopped_keeps m p.limit p tried (stays m front) (all_keep p (hold_list m counts settings.width) front) in
       let further : Plan = rounds library settings Stable settings.rounds held in
       let stable : Plan = unless_stopped held.limit held further in
       let two : Keeps held.machine stable.machine = stopped_keeps held.machine held.limit held further (stays held.machine one.front) (rounds_keep Stable settings.rounds held one.front) in

@@ -16,7 +16,7 @@ use Rattle.cg_stage_laws.specs.Stages.{Fits}
 use Rattle.cg_stage_laws.proofs.StageSafe.{stage_safe}
 use Rattle.cg_stage_list_laws.specs.Fit.{AllFit, AreApart}
 use Rattle.cg_stage_list_laws.specs.HoldList.{hold_list}
-use Rattle.cg_stage_list_laws.specs.Literals.{IdleData}
+use Rattle.cg_stage_list_laws.specs.Literals.{ZeroCounts}
 use Rattle.cg_plan_laws.specs.Plan.{Turn, Plan, after_outcome, after_try, begin, list_by, plan_of, rounds, try_all, try_one}
 use Rattle.cg_plan_laws.specs.Plan.{unless_stopped}
 use Rattle.cg_plan_laws.specs.Trying.{Ends, Passes, Tried, tried}
@@ -112,16 +112,16 @@ module _ (library : List CellData) (settings : Settings) (m : MachineData) where
         let done : IsSafe q = all_safe p (list_by kind settings p) safe (lists p safe.good) in
         unless q.limit q (rounds library settings kind n q) done (rounds_safe n q done)
 
-  module _ (idle : Option IdleData) (good : IsMachine m)
-      (hold_fits : AllFit m (hold_list m idle settings.width))
+  module _ (counts : Option ZeroCounts) (good : IsMachine m)
+      (hold_fits : AllFit m (hold_list m counts settings.width))
       (stable_fits : (p : Plan) → IsMachine p.machine → AllFit p.machine (list_by Stable settings p))
       (unseen_fits : (p : Plan) → IsMachine p.machine → AllFit p.machine (list_by Unseen settings p)) where
-    pub plan_safe : IsSafe (plan_of library settings idle m)
+    pub plan_safe : IsSafe (plan_of library settings counts m)
     plan_safe =
-        let p : Plan = begin m idle settings in
+        let p : Plan = begin m counts settings in
         let b0 : IsSafe p = record { good = good; same = same_self m; cells = λ has. has; turns = λ k turn at. absurd (none-some turn at) } in
-        let held : Plan = unless_stopped p.limit p (try_all library settings p (hold_list m idle settings.width)) in
-        let s1 : IsSafe held = unless p.limit p (try_all library settings p (hold_list m idle settings.width)) b0 (all_safe p (hold_list m idle settings.width) b0 hold_fits) in
+        let held : Plan = unless_stopped p.limit p (try_all library settings p (hold_list m counts settings.width)) in
+        let s1 : IsSafe held = unless p.limit p (try_all library settings p (hold_list m counts settings.width)) b0 (all_safe p (hold_list m counts settings.width) b0 hold_fits) in
         let stable : Plan = unless_stopped held.limit held (rounds library settings Stable settings.rounds held) in
         let s2 : IsSafe stable = unless held.limit held (rounds library settings Stable settings.rounds held) s1 (rounds_safe Stable stable_fits settings.rounds held s1) in
         unless stable.limit stable (rounds library settings Unseen settings.rounds stable) s2 (rounds_safe Unseen unseen_fits settings.rounds stable s2)

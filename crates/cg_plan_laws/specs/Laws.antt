@@ -11,7 +11,7 @@ use Rattle.cg_machine.specs.Start.{CanStart, machine_of}
 use Rattle.cg_machine.specs.declared.stage.Stage.{Stage}
 use Rattle.cg_claim.specs.Build.{nodes_of}
 use Rattle.cg_claim.specs.Leaves.{width_of}
-use Rattle.cg_stage_list_laws.specs.Literals.{IdleData}
+use Rattle.cg_stage_list_laws.specs.Literals.{ZeroCounts}
 use Rattle.cg_stage_laws.specs.Effects.{limit_by}
 use Rattle.cg_stage_laws.specs.Laws.{After}
 use Rattle.cg_stage_laws.specs.Needs.{missing, needs}
@@ -20,7 +20,7 @@ use Rattle.cg_stage_laws.specs.Cells.{HasCells}
 use Rattle.cg_plan_laws.specs.Plan.{Turn, plan_of}
 use Rattle.cg_plan_laws.specs.StageClaims.{NamedClaim, all_claims}
 use Rattle.cg_plan_laws.specs.Trying.{Ends, tried}
-use Rattle.cg_plan_laws.specs.Told.{AreAppended, AreCertified, AreTold, IsPlan, TellsOutcome, ToldPlan, claims_for, plan_claims}
+use Rattle.cg_plan_laws.specs.Reported.{AreAppended, AreCertified, AreTold, IsPlan, TellsOutcome, ReportedPlan, claims_for, plan_claims}
 use Rattle.cg_plan_laws.specs.declared.certificate.Certificate.{Certificate}
 use Rattle.cg_plan_laws.specs.declared.outcome.Outcome.{Outcome}
 use Rattle.cg_plan_laws.specs.declared.outcome.Outcome.TheVariants.{Inserted}
@@ -56,41 +56,41 @@ pub record IsTurn (library : List CellData) (settings : Settings) (turn : Turn) 
 
 -- so it is with each stage of a plan: the stages of its lists still fit at their turn
 abbrev pub EachFits : Type 0
-EachFits = (library : List CellData) (settings : Settings) (idle : Option IdleData) (m : MachineData) → IsMachine m
-    → (k : ℕ) (turn : Turn) → slice_get (plan_of library settings idle m).turns k ≡ Some turn → IsTurn library settings turn
+EachFits = (library : List CellData) (settings : Settings) (counts : Option ZeroCounts) (m : MachineData) → IsMachine m
+    → (k : ℕ) (turn : Turn) → slice_get (plan_of library settings counts m).turns k ≡ Some turn → IsTurn library settings turn
 
 -- the machine of a plan is a machine, and shows what the machine shows that the plan begins with
 abbrev pub PlanIsSafe : Type 0
-PlanIsSafe = (library : List CellData) (settings : Settings) (idle : Option IdleData) (m : MachineData) → IsMachine m →
-    IsMachine (plan_of library settings idle m).machine × Same m (plan_of library settings idle m).machine
+PlanIsSafe = (library : List CellData) (settings : Settings) (counts : Option ZeroCounts) (m : MachineData) → IsMachine m →
+    IsMachine (plan_of library settings counts m).machine × Same m (plan_of library settings counts m).machine
 
 -- where the library has the cells that the machine asks for with which a plan begins, it has those for the plan's machine
 abbrev pub PlanHasCells : Type 0
-PlanHasCells = (library : List CellData) (settings : Settings) (idle : Option IdleData) (m : MachineData) → IsMachine m →
-    HasCells library settings.test m → HasCells library settings.test (plan_of library settings idle m).machine
+PlanHasCells = (library : List CellData) (settings : Settings) (counts : Option ZeroCounts) (m : MachineData) → IsMachine m →
+    HasCells library settings.test m → HasCells library settings.test (plan_of library settings counts m).machine
 
 -- begun with the machine of a netlist, it shows what the netlist shows in its lawful history
 abbrev pub PlanShowsNetlist : Type 0
-PlanShowsNetlist = (library : List CellData) (settings : Settings) (idle : Option IdleData) (c : Circuit) (prefix : List ℕ) →
+PlanShowsNetlist = (library : List CellData) (settings : Settings) (counts : Option ZeroCounts) (c : Circuit) (prefix : List ℕ) →
     CanStart c prefix
     → (start : List Bool) (wave : List Tick) (history : List Moment) → IsStart c start → IsWaveform c wave →
     IsLawful c start wave history
-    → shown (plan_of library settings idle (machine_of c prefix)).machine start wave ≡ outputs_of c history
+    → shown (plan_of library settings counts (machine_of c prefix)).machine start wave ≡ outputs_of c history
 
 -- the same of a plan as it is told
-abbrev pub ToldIsSafe : Type 0
-ToldIsSafe = (library : List CellData) (settings : Settings) (idle : Option IdleData) (m : MachineData) (told : ToldPlan) →
-    IsMachine m → IsPlan library settings idle m told → IsMachine told.machine × Same m told.machine
+abbrev pub ReportedIsSafe : Type 0
+ReportedIsSafe = (library : List CellData) (settings : Settings) (counts : Option ZeroCounts) (m : MachineData) (told : ReportedPlan) →
+    IsMachine m → IsPlan library settings counts m told → IsMachine told.machine × Same m told.machine
 
 -- What is told of a plan may be told turn by turn: of one more turn its stage with its outcome behind the others, and the
 -- certificates of its claims behind the others.
-abbrev pub StagesAreTold : Type 0
-StagesAreTold = (turns : List Turn) (told : List (Stage × Outcome)) (turn : Turn) (outcome : Outcome) → AreTold turns told →
+abbrev pub StagesAreReported : Type 0
+StagesAreReported = (turns : List Turn) (told : List (Stage × Outcome)) (turn : Turn) (outcome : Outcome) → AreTold turns told →
     TellsOutcome turn.machine turn.stage (Ends turn.outcome) outcome
     → AreTold (turns ++ turn ∷ []) (told ++ (turn.stage, outcome) ∷ [])
 
-abbrev pub CertificatesAreTold : Type 0
-CertificatesAreTold = (turns : List Turn) (turn : Turn) (before after : List Certificate) →
+abbrev pub CertificatesAreReported : Type 0
+CertificatesAreReported = (turns : List Turn) (turn : Turn) (before after : List Certificate) →
     AreCertified (plan_claims 1 turns) before
     → AreAppended (claims_for (1 + length turns) turn.machine turn.stage turn.outcome) before after →
     AreCertified (plan_claims 1 (turns ++ turn ∷ [])) after

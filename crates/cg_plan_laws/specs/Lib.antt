@@ -1,5 +1,5 @@
 pub mod StageClaims
 pub mod Trying
 pub mod Plan
-pub mod Told
+pub mod Reported
 pub mod Laws

@@ -10,7 +10,7 @@ use Rattle.cg_machine.specs.declared.stage.StageKind.{StageKind}
 use Rattle.cg_machine.specs.declared.stage.StageKind.TheVariants.{Stable, Unseen}
 use Rattle.cg_stage_laws.specs.Effects.{effect}
 use Rattle.cg_stage_list_laws.specs.HoldList.{hold_list, hold_passes, hold_wide}
-use Rattle.cg_stage_list_laws.specs.Literals.{IdleData}
+use Rattle.cg_stage_list_laws.specs.Literals.{ZeroCounts}
 use Rattle.cg_stage_list_laws.specs.StableList.{stable_list}
 use Rattle.cg_stage_list_laws.specs.UnseenList.{unseen_list}
 use Rattle.cg_plan_laws.specs.Trying.{Ends, Passes, Tried, tried}
@@ -79,15 +79,15 @@ rounds library settings kind (suc n) p =
     let q = try_all library settings p (list_by kind settings p) in unless_stopped q.limit q (rounds library settings kind n q)
 
 -- a plan before its first stage; it stops there where a claim of the hold list passes the limit on nodes
-abbrev pub begin : MachineData → Option IdleData → Settings → Plan
-begin m idle settings =
-    record { machine = m; turns = []; limit = if hold_passes m idle settings.width then Some ClaimNodes else None }
+abbrev pub begin : MachineData → Option ZeroCounts → Settings → Plan
+begin m counts settings =
+    record { machine = m; turns = []; limit = if hold_passes m counts settings.width then Some ClaimNodes else None }
 
 -- the plan of a machine
-abbrev pub plan_of : List CellData → Settings → Option IdleData → MachineData → Plan
-plan_of library settings idle m =
-    let p = begin m idle settings in
-    let held = unless_stopped p.limit p (try_all library settings p (hold_list m idle settings.width)) in
+abbrev pub plan_of : List CellData → Settings → Option ZeroCounts → MachineData → Plan
+plan_of library settings counts m =
+    let p = begin m counts settings in
+    let held = unless_stopped p.limit p (try_all library settings p (hold_list m counts settings.width)) in
     let stable = unless_stopped held.limit held (rounds library settings Stable settings.rounds held) in
     unless_stopped stable.limit stable (rounds library settings Unseen settings.rounds stable)
 

@@ -1,7 +1,7 @@
 //! What is proved of plans.
 
-ghost use Rattle.cg_plan_laws.specs.Laws.{CertificatesAreTold, EachFits, InsertedExactly, InsertedIsSafe};
-ghost use Rattle.cg_plan_laws.specs.Laws.{PlanHasCells, PlanIsSafe, PlanShowsNetlist, StagesAreTold, ToldIsSafe};
+ghost use Rattle.cg_plan_laws.specs.Laws.{CertificatesAreReported, EachFits, InsertedExactly, InsertedIsSafe};
+ghost use Rattle.cg_plan_laws.specs.Laws.{PlanHasCells, PlanIsSafe, PlanShowsNetlist, StagesAreReported, ReportedIsSafe};
 
 /// The laws of plans: a stage is inserted exactly where its claims hold and are narrow, it can idle, it is large enough, the
 /// library has its cells and no limit is passed. Each stage of a plan fits the machine at its turn. The machine of a plan
@@ -16,7 +16,7 @@ pub fn plan_laws()
     ensures plan { PlanIsSafe }
     ensures cells { PlanHasCells }
     ensures netlist { PlanShowsNetlist }
-    ensures told { ToldIsSafe }
-    ensures stages { StagesAreTold }
-    ensures certificates { CertificatesAreTold }
+    ensures told { ReportedIsSafe }
+    ensures stages { StagesAreReported }
+    ensures certificates { CertificatesAreReported }
 {}

@@ -6,7 +6,7 @@ use Rattle.std.specs.List.{flat_map}
 use Rattle.cg_formula.specs.DimacsText.{dimacs_text}
 use Rattle.cg_lrat.specs.LratText.{lrat_text}
 use Rattle.cg_machine.specs.Machine.{MachineData}
-use Rattle.cg_plan_laws.specs.Told.{ToldPlan}
+use Rattle.cg_plan_laws.specs.Reported.{ReportedPlan}
 use Rattle.cg_plan_laws.specs.declared.certificate.Certificate.{Certificate}
 use Rattle.cg_text.specs.Written.{line_text}
 use Rattle.cg_plan_text.specs.Words.{Word, claim_words}
@@ -23,5 +23,5 @@ certificate_text m certificate =
     line_text (heading_words m certificate)
     ++ (dimacs_text certificate.formula ++ (line_text log_words ++ lrat_text certificate.log))
 
-abbrev pub proof_text : ToldPlan → List ℕ
+abbrev pub proof_text : ReportedPlan → List ℕ
 proof_text plan = flat_map (certificate_text plan.machine) plan.certificates

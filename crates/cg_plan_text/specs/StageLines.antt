@@ -3,7 +3,7 @@ use Rattle.std.specs.Prelude.{ℕ, ◌+◌, ◌-◌, List, [], ◌∷◌, length
 use Rattle.std.specs.Fmt.{decimal}
 use Rattle.cg_machine.specs.Machine.{MachineData}
 use Rattle.cg_machine.specs.declared.stage.Stage.{Stage}
-use Rattle.cg_plan_laws.specs.Told.{ToldPlan}
+use Rattle.cg_plan_laws.specs.Reported.{ReportedPlan}
 use Rattle.cg_plan_laws.specs.declared.outcome.Outcome.{Outcome}
 use Rattle.cg_text.specs.Written.{text_of}
 use Rattle.cg_plan_text.specs.Words.{Word, stage_words}
@@ -23,5 +23,5 @@ stages_from m number [] = []
 stages_from m number (tried ∷ later) = stage_words m number tried ∷ stages_from m (number + 1) later
 
 -- the lines from the counts to the last stage
-abbrev pub stage_lines : ToldPlan → ℕ → List ℕ
+abbrev pub stage_lines : ReportedPlan → ℕ → List ℕ
 stage_lines plan gates = text_of (counts_words plan.machine gates ∷ wide_words plan.wide ∷ stages_from plan.machine 1 plan.stages)

@@ -4,7 +4,7 @@ use Rattle.std.specs.Fmt.{decimal}
 use Rattle.std.specs.List.{count_by}
 use Rattle.cg_machine.specs.declared.stage.Stage.{Stage}
 use Rattle.cg_plan_laws.specs.Plan.{is_inserted}
-use Rattle.cg_plan_laws.specs.Told.{ToldPlan}
+use Rattle.cg_plan_laws.specs.Reported.{ReportedPlan}
 use Rattle.cg_plan_laws.specs.declared.outcome.Outcome.{Outcome}
 use Rattle.cg_text.specs.Written.{line_text}
 use Rattle.cg_plan_text.specs.StageLines.{counts_words, stage_lines}
@@ -17,7 +17,7 @@ abbrev pub summary_of : List (Stage × Outcome) → List Word
 summary_of stages =
     codes "stages" ∷ decimal (length stages) ∷ codes "inserted" ∷ decimal (count_by (λ tried. is_inserted tried.1) stages) ∷ []
 
-abbrev pub summary_words : ToldPlan → List Word
+abbrev pub summary_words : ReportedPlan → List Word
 summary_words plan = summary_of plan.stages
 
 -- the first number less the second, with a `-` where it is negative
@@ -42,16 +42,16 @@ abbrev pub played_lines : Played → List ℕ
 played_lines played = edges_line played.edges ++ watched_line played.watched
 
 -- what `gate` says
-abbrev pub said_text : ToldPlan → Played → List ℕ
+abbrev pub said_text : ReportedPlan → Played → List ℕ
 said_text plan played = line_text (summary_words plan) ++ played_lines played
 
 -- the report: the model's name, the plan with so many gating cells, and what came of the stimulus
-abbrev pub report_text : ToldPlan → ℕ → Played → List ℕ
+abbrev pub report_text : ReportedPlan → ℕ → Played → List ℕ
 report_text plan gates played =
     line_text (codes "model" ∷ plan.machine.circuit.model ∷ []) ++ (stage_lines plan gates ++ played_lines played)
 
 -- what `demo` says of a pipeline of this size
-abbrev pub demo_text : ℕ → ToldPlan → ℕ → Edges → List ℕ
+abbrev pub demo_text : ℕ → ReportedPlan → ℕ → Edges → List ℕ
 demo_text size plan gates edges =
     line_text (codes "demo" ∷ decimal size ∷ [])
     ++ (line_text (counts_words plan.machine gates) ++ (line_text (summary_words plan) ++ line_text (edges_words edges)))

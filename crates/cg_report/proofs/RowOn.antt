@@ -6,7 +6,7 @@ use Rattle.cg_netlist.specs.Circuit.{Circuit, data_inputs}
 use Rattle.cg_netlist.specs.History.{IsLawful, Moment, Tick, edges}
 use Rattle.cg_netlist.proofs.Values.{element_at}
 use Rattle.cg_stimulus.specs.Played.{IsPlayed, played_start, played_wave, row_tick, wave_from}
-use Rattle.cg_report.specs.Idle.{low_moments}
+use Rattle.cg_report.specs.Zeros.{low_moments}
 use Rattle.cg_report.specs.Place.{IsAt, Place, Plays, Steps}
 use Rattle.cg_report.specs.inner.RowByRow.{HasRow, IsBehind, IsFirst, IsPairs, PlaysPair}
 use Rattle.cg_stimulus.proofs.ReadingOn.{next_at}

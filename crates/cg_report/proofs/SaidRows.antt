@@ -10,7 +10,7 @@ use Rattle.cg_netlist.specs.History.{Moment}
 use Rattle.cg_netlist.specs.Moment.{bit}
 use Rattle.cg_stimulus.specs.Played.{IsPlayed, played_wave}
 use Rattle.cg_stimulus.specs.StimText.{bit_byte}
-use Rattle.cg_report.specs.Idle.{low_moments}
+use Rattle.cg_report.specs.Zeros.{low_moments}
 use Rattle.cg_report.specs.Place.{IsAt, Place, Plays, Steps}
 use Rattle.cg_report.specs.RowLines.{edges_line, output_word, row_line, row_lines, rows_text}
 use Rattle.cg_report.specs.inner.RowByRow.{IsPairs}

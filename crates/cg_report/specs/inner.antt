@@ -1,6 +1,6 @@
 pub mod Playing
 pub mod Giving
 pub mod RowByRow
-pub mod Idling
+pub mod ZeroCounting
 pub mod Saying
 pub mod Watching

@@ -10,17 +10,17 @@
 //! - [`player`]: a place in the played history;
 //! - [`rows`]: what is said of the rows, and [`watched_rows`]: the same with the line of a watcher;
 //! - [`edges`]: the edges of the rows alone, or with the line of a watcher;
-//! - [`idle`]: how often nets are 0 at the low moments of the rows;
+//! - [`zeros`]: how often nets are 0 at the low moments of the rows;
 //! - [`watcher`]: who is shown the moments, and says a line of them, and [`showing`]: how it is shown the rows;
 //! - [`edge_count`]: the rises of registers, and [`toggle_count`]: the changes of nets.
 #![tactic(auto)]
 
 pub mod edge_count;
 pub mod edges;
-pub mod idle;
 pub mod player;
 pub mod rows;
 mod showing;
 pub mod toggle_count;
 pub mod watched_rows;
 pub mod watcher;
+pub mod zeros;

@@ -13,7 +13,7 @@ use Rattle.cg_claim.specs.Reach.{inputs_of_register}
 use Rattle.cg_stage_laws.specs.Stages.{Fits}
 use Rattle.cg_stage_list_laws.specs.Fit.{AllFit}
 use Rattle.cg_stage_list_laws.specs.HoldList.{choices, chosen, chosen_regs, hold_list, hold_stage, hold_width, serves, unless_empty}
-use Rattle.cg_stage_list_laws.specs.Literals.{IdleData, both_literals, by_count, idle_count, insert_literal, literals_of, same_bool}
+use Rattle.cg_stage_list_laws.specs.Literals.{ZeroCounts, both_literals, by_count, zero_count, insert_literal, literals_of, same_bool}
 use Rattle.cg_stage_list_laws.specs.Literals.{same_literal}
 use Rattle.cg_stage_list_laws.specs.Supports.{all_nets, free_registers, in_net_order, input_cone, own_registers_of}
 use Rattle.cg_stage_list_laws.proofs.Among.{Among, among_cons, among_none, later}
@@ -60,22 +60,22 @@ module _ (m : MachineData) (good : IsMachine m) where
       bits : false ≡ true → ⊥
       bits e = both_ways false refl e
 
-  insert_among : (idle : Option IdleData) (l : Literal) (ls : List Literal) (k : Literal) → Among k (insert_literal idle l ls) → (l ≡ k) ⊎ Among k ls
-  insert_among idle l [] k a = elim (among_cons k l [] a) [ inl same ↦ inl same | inr none ↦ inr none ]
-  insert_among idle l (j ∷ ls) k a = go (insert_among idle l ls k) (nat_le (idle_count idle j) (idle_count idle l)) a
+  insert_among : (counts : Option ZeroCounts) (l : Literal) (ls : List Literal) (k : Literal) → Among k (insert_literal counts l ls) → (l ≡ k) ⊎ Among k ls
+  insert_among counts l [] k a = elim (among_cons k l [] a) [ inl same ↦ inl same | inr none ↦ inr none ]
+  insert_among counts l (j ∷ ls) k a = go (insert_among counts l ls k) (nat_le (zero_count counts j) (zero_count counts l)) a
     where
-      go : (Among k (insert_literal idle l ls) → (l ≡ k) ⊎ Among k ls) → (b : Bool) → Among k (if b then l ∷ j ∷ ls else j ∷ insert_literal idle l ls) → (l ≡ k) ⊎ Among k (j ∷ ls)
+      go : (Among k (insert_literal counts l ls) → (l ≡ k) ⊎ Among k ls) → (b : Bool) → Among k (if b then l ∷ j ∷ ls else j ∷ insert_literal counts l ls) → (l ≡ k) ⊎ Among k (j ∷ ls)
       go rest true h = among_cons k l (j ∷ ls) h
-      go rest false h = elim (among_cons k j (insert_literal idle l ls) h) [
+      go rest false h = elim (among_cons k j (insert_literal counts l ls) h) [
         | inl same ↦ inr (record { place = 0; at = ap Some same })
         | inr more ↦ elim (rest more) [ inl e ↦ inl e | inr w ↦ inr (later k j ls w) ]
       ]
 
-  sorted_among : (idle : Option IdleData) (ls : List Literal) (k : Literal) → Among k (by_count idle ls) → Among k ls
-  sorted_among idle [] k a = a
-  sorted_among idle (l ∷ ls) k a = elim (insert_among idle l (by_count idle ls) k a) [
+  sorted_among : (counts : Option ZeroCounts) (ls : List Literal) (k : Literal) → Among k (by_count counts ls) → Among k ls
+  sorted_among counts [] k a = a
+  sorted_among counts (l ∷ ls) k a = elim (insert_among counts l (by_count counts ls) k a) [
     | inl same ↦ record { place = 0; at = ap Some same }
-    | inr more ↦ later k l ls (sorted_among idle ls k more)
+    | inr more ↦ later k l ls (sorted_among counts ls k more)
   ]
 
   found_among : (test : Literal → Bool) (ls : List Literal) (l : Literal) → find test ls ≡ Some l → Among l ls
@@ -87,42 +87,42 @@ module _ (m : MachineData) (good : IsMachine m) where
       go rest false h = later l k ls (rest h)
 
   -- a chosen literal is one of the cone
-  chosen_net : (idle : Option IdleData) (width r : ℕ) (l : Literal) → chosen m idle width r ≡ Some l → IsNet m l.0
-  chosen_net idle width r l is = go (nat_lt width (hold_width m r)) is
+  chosen_net : (counts : Option ZeroCounts) (width r : ℕ) (l : Literal) → chosen m counts width r ≡ Some l → IsNet m l.0
+  chosen_net counts width r l is = go (nat_lt width (hold_width m r)) is
     where
-      go : (b : Bool) → (if b then None else find (serves m r) (literals_of m idle r)) ≡ Some l → IsNet m l.0
+      go : (b : Bool) → (if b then None else find (serves m r) (literals_of m counts r)) ≡ Some l → IsNet m l.0
       go true h = absurd (none-some l h)
       go false h =
-          let among = both_among (in_net_order m (input_cone m r)) l (sorted_among idle (both_literals (in_net_order m (input_cone m r))) l (found_among (serves m r) (literals_of m idle r) l h)) in
+          let among = both_among (in_net_order m (input_cone m r)) l (sorted_among counts (both_literals (in_net_order m (input_cone m r))) l (found_among (serves m r) (literals_of m counts r) l h)) in
           let cone = (in_filter (is_in (input_cone m r)) (all_nets m) l.0 among).1 in
           (used_net m good) l.0 ((cone_used m good) (walk_of m) good.walk.of_cells (inputs_of_register m r) ((inputs_used m good) r) l.0 cone)
 
-  module _ (idle : Option IdleData) (width : ℕ) where
+  module _ (counts : Option ZeroCounts) (width : ℕ) where
     abbrev f : ℕ → Option Literal
-    f = chosen m idle width
+    f = chosen m counts width
 
     abbrev chose : Literal → ℕ → Bool
-    chose l r = option_map_or (same_literal l) (chosen m idle width r) false
+    chose l r = option_map_or (same_literal l) (chosen m counts width r) false
 
-    regs_are : (l : Literal) (rs : List ℕ) → chosen_regs (map (λ r. (r, chosen m idle width r)) rs) l ≡ filter (chose l) rs
+    regs_are : (l : Literal) (rs : List ℕ) → chosen_regs (map (λ r. (r, chosen m counts width r)) rs) l ≡ filter (chose l) rs
     regs_are l [] = refl
     regs_are l (r ∷ rs) = go (chose l r) (regs_are l rs)
       where
-        go : (b : Bool) → chosen_regs (map (λ q. (q, chosen m idle width q)) rs) l ≡ filter (chose l) rs
-            → map (λ (c : ℕ × Option Literal). c.0) (cond b ((r, chosen m idle width r) ∷ filter (λ (c : ℕ × Option Literal). option_map_or (same_literal l) c.1 false) (map (λ q. (q, chosen m idle width q)) rs)) (filter (λ (c : ℕ × Option Literal). option_map_or (same_literal l) c.1 false) (map (λ q. (q, chosen m idle width q)) rs)))
+        go : (b : Bool) → chosen_regs (map (λ q. (q, chosen m counts width q)) rs) l ≡ filter (chose l) rs
+            → map (λ (c : ℕ × Option Literal). c.0) (cond b ((r, chosen m counts width r) ∷ filter (λ (c : ℕ × Option Literal). option_map_or (same_literal l) c.1 false) (map (λ q. (q, chosen m counts width q)) rs)) (filter (λ (c : ℕ × Option Literal). option_map_or (same_literal l) c.1 false) (map (λ q. (q, chosen m counts width q)) rs)))
             ≡ cond b (r ∷ filter (chose l) rs) (filter (chose l) rs)
         go true rest = ap (λ q. r ∷ q) rest
         go false rest = rest
 
-    chose_is : (l : Literal) (r : ℕ) → chose l r ≡ true → chosen m idle width r ≡ Some l
-    chose_is l r h = go (chosen m idle width r) refl h
+    chose_is : (l : Literal) (r : ℕ) → chose l r ≡ true → chosen m counts width r ≡ Some l
+    chose_is l r h = go (chosen m counts width r) refl h
       where
-        go : (o : Option Literal) → chosen m idle width r ≡ o → option_map_or (same_literal l) o false ≡ true → chosen m idle width r ≡ Some l
+        go : (o : Option Literal) → chosen m counts width r ≡ o → option_map_or (same_literal l) o false ≡ true → chosen m counts width r ≡ Some l
         go None at k = absurd (both_ways false refl k)
         go (Some j) at k = at ∙ ap Some (sym (literal_is l j k))
 
     abbrev F : Literal → Option Stage
-    F l = unless_empty (hold_stage l) (chosen_regs (choices m idle width) l)
+    F l = unless_empty (hold_stage l) (chosen_regs (choices m counts width) l)
 
     -- a stage of the list
     record HoldAt (l : Literal) (s : Stage) : Type 0 where
@@ -131,7 +131,7 @@ module _ (m : MachineData) (good : IsMachine m) where
       is : s ≡ hold_stage l s.regs
 
     hold_at : (l : Literal) (s : Stage) → F l ≡ Some s → HoldAt l s
-    hold_at l s is = go (chosen_regs (choices m idle width) l) (regs_are l (free_registers m)) is
+    hold_at l s is = go (chosen_regs (choices m counts width) l) (regs_are l (free_registers m)) is
       where
         go : (rs : List ℕ) → rs ≡ filter (chose l) (free_registers m) → unless_empty (hold_stage l) rs ≡ Some s → HoldAt l s
         go [] e h = absurd (none-some s h)
@@ -139,7 +139,7 @@ module _ (m : MachineData) (good : IsMachine m) where
             let same : hold_stage l (r ∷ rs) ≡ s = same_Some (hold_stage l (r ∷ rs)) s h in
             subst (HoldAt l) same (record { some = omega arith; regs = e; is = refl })
 
-    among_free : (l : Literal) (s : Stage) → HoldAt l s → (r : ℕ) → is_in s.regs r ≡ true → (is_in (free_registers m) r ≡ true) × (chosen m idle width r ≡ Some l)
+    among_free : (l : Literal) (s : Stage) → HoldAt l s → (r : ℕ) → is_in s.regs r ≡ true → (is_in (free_registers m) r ≡ true) × (chosen m counts width r ≡ Some l)
     among_free l s at r among =
         let p = in_filter (chose l) (free_registers m) r (ap (λ q. is_in q r) (sym at.regs) ∙ among) in
         (p.0, chose_is l r p.1)
@@ -162,7 +162,7 @@ module _ (m : MachineData) (good : IsMachine m) where
     hold_fit l s h =
         let at : HoldAt l s = hold_at l s h in
         let one = some_member s.regs at.some in
-        let net : IsNet m l.0 = chosen_net idle width one.0 l (among_free l s at one.0 one.1).1 in
+        let net : IsNet m l.0 = chosen_net counts width one.0 l (among_free l s at one.0 one.1).1 in
         let free : (r : ℕ) → is_in s.regs r ≡ true → (r < m.own_registers) × (enable_of m r ≡ None) = λ r among. free_is r (among_free l s at r among).0 in
         subst (Fits m) (sym at.is) (record {
           registers = λ r among. (free r among).0;
@@ -180,5 +180,5 @@ module _ (m : MachineData) (good : IsMachine m) where
     hold_apart l k s t other hs ht r among = false_from_ne_true (is_in s.regs r) (λ there.
         other (same_Some l k (sym (among_free l s (hold_at l s hs) r there).1 ∙ (among_free k t (hold_at k t ht) r among).1)))
 
-    pub hold_fits : AllFit m (hold_list m idle width)
+    pub hold_fits : AllFit m (hold_list m counts width)
     hold_fits = all_fit m F hold_fit hold_apart (both_literals (all_nets m)) (both_differ (length m.circuit.names) 0)

@@ -3,7 +3,7 @@ use Rattle.std.proofs.Common.{◌≡◌, ℕ, suc, Bool, true, false, if◌then�
 use Rattle.std.proofs.Common.{refl, inl, inr}
 use Rattle.std.specs.Option.{option_map_or, option_to_list}
 use Rattle.std.proofs.lemmas.Bool.{both_ways}
-use Rattle.cg_netlist.specs.Circuit.{LogicCell, RegisterCell, gate_nets, used_nets}
+use Rattle.cg_netlist.specs.Circuit.{LogicCell, RegisterCell, gater_outputs, used_nets}
 use Rattle.cg_net.specs.NetSets.{is_in}
 use Rattle.cg_netlist.proofs.Given.{from_option}
 use Rattle.cg_net.proofs.Members.{is_in_cases, is_in_left}
@@ -19,7 +19,7 @@ module _ (m : MachineData) (good : IsMachine m) where
   pub used_net : (y : ℕ) → is_in (used_nets m.circuit) y ≡ true → IsNet m y
   used_net y used = record {
     below = used_below m good y used;
-    apart = λ clock. both_ways (is_in (used_nets m.circuit) y) (good.well_formed.apart y (is_in_left (option_to_list m.circuit.clock) (gate_nets m.circuit) y (from_option m.circuit.clock y clock))) used;
+    apart = λ clock. both_ways (is_in (used_nets m.circuit) y) (good.well_formed.apart y (is_in_left (option_to_list m.circuit.clock) (gater_outputs m.circuit) y (from_option m.circuit.clock y clock))) used;
   }
 
   pub register_used : (k : ℕ) (cell : RegisterCell ℕ ℕ) (y : ℕ) → slice_get m.circuit.registers k ≡ Some cell → is_in cell.inputs y ≡ true → is_in (used_nets m.circuit) y ≡ true

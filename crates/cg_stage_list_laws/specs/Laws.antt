@@ -8,14 +8,14 @@ use Rattle.cg_claim.specs.Leaves.{width_of}
 use Rattle.cg_claim.specs.Question.{hold_question}
 use Rattle.cg_stage_list_laws.specs.Fit.{AllFit}
 use Rattle.cg_stage_list_laws.specs.HoldList.{hold_list, hold_width}
-use Rattle.cg_stage_list_laws.specs.Literals.{IdleData}
+use Rattle.cg_stage_list_laws.specs.Literals.{ZeroCounts}
 use Rattle.cg_stage_list_laws.specs.StableList.{stable_list}
 use Rattle.cg_stage_list_laws.specs.Supports.{input_cone}
 use Rattle.cg_stage_list_laws.specs.UnseenList.{unseen_list}
 
 -- the stages of each list fit the machine that it is made on, and no two of a list have a register in common
 abbrev pub HoldListFits : Type 0
-HoldListFits = (m : MachineData) (idle : Option IdleData) (width : ℕ) → IsMachine m → AllFit m (hold_list m idle width)
+HoldListFits = (m : MachineData) (counts : Option ZeroCounts) (width : ℕ) → IsMachine m → AllFit m (hold_list m counts width)
 
 abbrev pub StableListFits : Type 0
 StableListFits = (m : MachineData) (earlier : List Earlier) → IsMachine m → AllFit m (stable_list m earlier)

@@ -8,41 +8,41 @@ use Rattle.cg_machine.specs.Machine.{MachineData}
 use Rattle.cg_stage_list_laws.specs.Supports.{in_net_order, input_cone}
 
 -- on how many rows of a stimulus each net is 0 while the clock is low, and how many rows there are
-pub record IdleData : Type 0 where
+pub record ZeroCounts : Type 0 where
   pub zeros : List ℕ
   pub rows : ℕ
 
 -- there is one number for each net, and none is above that of the rows
-pub record IsIdleData (m : MachineData) (idle : IdleData) : Type 0 where
-  pub count : length idle.zeros ≡ length m.circuit.names
-  pub most : All (λ zeros. zeros ≤ idle.rows) idle.zeros
+pub record AreZeroCounts (m : MachineData) (counts : ZeroCounts) : Type 0 where
+  pub count : length counts.zeros ≡ length m.circuit.names
+  pub most : All (λ zeros. zeros ≤ counts.rows) counts.zeros
 
-abbrev pub FitsIdle : MachineData → Option IdleData → Type 0
-FitsIdle m None = Unit {0}
-FitsIdle m (Some idle) = IsIdleData m idle
+abbrev pub FitZeroCounts : MachineData → Option ZeroCounts → Type 0
+FitZeroCounts m None = Unit {0}
+FitZeroCounts m (Some counts) = AreZeroCounts m counts
 
 -- on how many rows a literal is 0; without a stimulus on none
-abbrev pub idle_count : Option IdleData → Literal → ℕ
-idle_count None l = 0
-idle_count (Some idle) l = let zeros = slice_index_or idle.zeros l.0 0 in if l.1 then idle.rows - zeros else zeros
+abbrev pub zero_count : Option ZeroCounts → Literal → ℕ
+zero_count None l = 0
+zero_count (Some counts) l = let zeros = slice_index_or counts.zeros l.0 0 in if l.1 then counts.rows - zeros else zeros
 
 -- a literal before those that are 0 less often or as often
-abbrev pub insert_literal : Option IdleData → Literal → List Literal → List Literal
-insert_literal idle l [] = l ∷ []
-insert_literal idle l (k ∷ ls) = if nat_le (idle_count idle k) (idle_count idle l) then l ∷ k ∷ ls else k ∷ insert_literal idle l ls
+abbrev pub insert_literal : Option ZeroCounts → Literal → List Literal → List Literal
+insert_literal counts l [] = l ∷ []
+insert_literal counts l (k ∷ ls) = if nat_le (zero_count counts k) (zero_count counts l) then l ∷ k ∷ ls else k ∷ insert_literal counts l ls
 
 -- literals by how often they are 0, the most often first; those with one count stay in their order
-abbrev pub by_count : Option IdleData → List Literal → List Literal
-by_count idle [] = []
-by_count idle (l ∷ ls) = insert_literal idle l (by_count idle ls)
+abbrev pub by_count : Option ZeroCounts → List Literal → List Literal
+by_count counts [] = []
+by_count counts (l ∷ ls) = insert_literal counts l (by_count counts ls)
 
 -- each net plain and then inverted
 abbrev pub both_literals : List ℕ → List Literal
 both_literals nets = flat_map (λ y. (y, false) ∷ (y, true) ∷ []) nets
 
 -- the literals of a register
-abbrev pub literals_of : MachineData → Option IdleData → ℕ → List Literal
-literals_of m idle r = by_count idle (both_literals (in_net_order m (input_cone m r)))
+abbrev pub literals_of : MachineData → Option ZeroCounts → ℕ → List Literal
+literals_of m counts r = by_count counts (both_literals (in_net_order m (input_cone m r)))
 
 -- whether two literals are the same
 abbrev pub same_bool : Bool → Bool → Bool

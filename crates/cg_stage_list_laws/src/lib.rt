@@ -8,9 +8,9 @@
 //!
 //! The modules:
 //!
-//! - `idle`: how often nets are 0 under a stimulus, by which the literals of registers are ordered.
+//! - `net_zeros`: how often nets are 0 under a stimulus, by which the literals of registers are ordered.
 //! - `laws`: what is proved of the lists.
 #![tactic(auto)]
 
-pub mod idle;
 pub mod laws;
+pub mod net_zeros;

@@ -6,7 +6,7 @@ use Rattle.std.proofs.lemmas.List.Elements.{recursion_from_All}
 use Rattle.std.proofs.lemmas.Option.{unwrap_or-slice_get}
 use Rattle.cg_cell.specs.Name.{is_name}
 use Rattle.cg_net.specs.Names.{net_name}
-use Rattle.cg_netlist.specs.Circuit.{Circuit, data_inputs, gate_nets, register_nets}
+use Rattle.cg_netlist.specs.Circuit.{Circuit, data_inputs, gater_outputs, register_nets}
 use Rattle.cg_netlist.specs.Netlist.{IsNetlist}
 use Rattle.cg_netlist.proofs.Given.{data_given, given_within, distinct_given}
 use Rattle.cg_net.proofs.Members.{distinct_left}
@@ -18,8 +18,8 @@ inputs_within c good = given_within c good.well_formed.driven (length c.names) (
 pub inputs_once : (c : Circuit) → IsNetlist c → IsDistinct nat_eq (data_inputs c)
 inputs_once c good =
     distinct_left (data_inputs c) (option_to_list c.clock)
-    (distinct_left (data_inputs c ++ option_to_list c.clock) (gate_nets c)
-    (distinct_left (data_inputs c ++ option_to_list c.clock ++ gate_nets c) (register_nets c) (distinct_given c good.well_formed.driven)))
+    (distinct_left (data_inputs c ++ option_to_list c.clock) (gater_outputs c)
+    (distinct_left (data_inputs c ++ option_to_list c.clock ++ gater_outputs c) (register_nets c) (distinct_given c good.well_formed.driven)))
 
 named_at : (names : List (List ℕ)) (nets : List ℕ) → All (λ name. IsTrue (is_name name)) names → AllByRecursion (λ net. net < length names) nets
     → AllByRecursion (λ name. IsTrue (is_name name)) (map (net_name names) nets)

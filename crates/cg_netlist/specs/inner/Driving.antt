@@ -2,7 +2,7 @@
 -- by gating cell, register by register, and at the clock.
 use Rattle.std.specs.Prelude.{◌≡◌, ℕ, false, List, ◌++◌, length, slice_get, Some}
 use Rattle.std.specs.Option.{option_to_list}
-use Rattle.cg_netlist.specs.Circuit.{Circuit, cell_nets, gate_nets, register_nets}
+use Rattle.cg_netlist.specs.Circuit.{Circuit, cell_nets, gater_outputs, register_nets}
 use Rattle.cg_net.specs.NetSets.{is_in}
 use Rattle.cg_netlist.specs.Drivers.{IsDriver}
 use Rattle.cg_netlist.specs.declared.driver.Driver.{Driver}
@@ -15,7 +15,7 @@ abbrev pub behind_gaters : Circuit → List ℕ
 behind_gaters c = register_nets c ++ behind_registers c
 
 abbrev pub behind_cells : Circuit → List ℕ
-behind_cells c = gate_nets c ++ behind_gaters c
+behind_cells c = gater_outputs c ++ behind_gaters c
 
 abbrev pub all_but_inputs : Circuit → List ℕ
 all_but_inputs c = cell_nets c ++ behind_cells c

@@ -5,7 +5,7 @@ use Rattle.cg_claim.specs.LeafBits.{is_never}
 use Rattle.cg_claim.specs.Question.{Question}
 use Rattle.cg_claim.specs.declared.leaf.LeafBit.{LeafBit}
 use Rattle.cg_plan_laws.specs.StageClaims.{NamedClaim}
-use Rattle.cg_plan_laws.specs.Told.{AreAppended, Certifies, DoViolate, StageClaim}
+use Rattle.cg_plan_laws.specs.Reported.{AreAppended, Certifies, DoViolate, StageClaim}
 use Rattle.cg_plan_laws.specs.declared.certificate.Certificate.{Certificate}
 use Rattle.cg_plan_laws.specs.declared.outcome.Outcome.{Outcome}
 use Rattle.cg_plan_laws.specs.declared.outcome.Outcome.TheVariants.{NeverIdle, Refuted}

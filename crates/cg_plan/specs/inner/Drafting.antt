@@ -11,7 +11,7 @@ use Rattle.cg_machine.specs.declared.stage.StageKind.{StageKind}
 use Rattle.cg_machine.specs.declared.stage.StageKind.TheVariants.{Stable, Unseen}
 use Rattle.cg_netlist.specs.declared.fault.AddFault.{AddFault}
 use Rattle.cg_plan_laws.specs.Plan.{Plan, earlier_of, is_inserted, rounds, try_all, unless_stopped}
-use Rattle.cg_plan_laws.specs.Told.{AreCertified, AreTold, PlanMayFail, plan_claims}
+use Rattle.cg_plan_laws.specs.Reported.{AreCertified, AreTold, PlanMayFail, plan_claims}
 use Rattle.cg_plan_laws.specs.declared.outcome.Outcome.{Outcome}
 use Rattle.cg_plan_laws.specs.declared.settings.Settings.{Settings}
 use Rattle.cg_plan.specs.Planning.{AreWritable}

@@ -6,7 +6,7 @@ use Rattle.cg_claim.specs.LeafBits.{is_never}
 use Rattle.cg_claim.specs.Question.{idle_question}
 use Rattle.cg_plan_laws.specs.Plan.{is_inserted}
 use Rattle.cg_plan_laws.specs.StageClaims.{NamedClaim, all_claims, claims_of}
-use Rattle.cg_plan_laws.specs.Told.{TellsOutcome}
+use Rattle.cg_plan_laws.specs.Reported.{TellsOutcome}
 use Rattle.cg_plan_laws.specs.Trying.{Tried, decided, first_false, measured, unless_passed}
 use Rattle.cg_plan_laws.specs.declared.certificate.Certificate.{Certificate}
 use Rattle.cg_plan_laws.specs.declared.outcome.Outcome.{Outcome}

@@ -3,7 +3,7 @@ use Rattle.std.specs.Prelude.{◌≡◌, ℕ, Bool, List, [], ◌∷◌, ◌++�
 use Rattle.cg_netlist.specs.Circuit.{Circuit, data_inputs}
 use Rattle.cg_netlist.specs.History.{Moment, Tick}
 use Rattle.cg_stimulus.specs.Played.{IsPlayed, played_wave, wave_from}
-use Rattle.cg_report.specs.Idle.{low_moments}
+use Rattle.cg_report.specs.Zeros.{low_moments}
 use Rattle.cg_report.specs.Place.{IsAt, Place}
 
 -- both moments of a row are left

@@ -1,5 +1,5 @@
 use Rattle.std.proofs.Common.{◌≡◌, map, slice_index_or, take}
-use Rattle.cg_gate.specs.Idling.{zeros_by}
+use Rattle.cg_gate.specs.ZeroCounting.{zeros_by}
 use Rattle.cg_gate.proofs.counting.carried.Given as goal
 
 abbrev pub invariant-loop-net : goal.invariant-loop-net

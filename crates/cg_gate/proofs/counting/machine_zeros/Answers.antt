@@ -2,9 +2,9 @@ use Rattle.std.proofs.Common.{◌≡◌, ◌<◌, ◌≤◌, ℕ, IfSome, List, 
 use Rattle.std.specs.List.{All}
 use Rattle.cg_gate.proofs.Carried.{counts_carried, few_carried, if_made}
 use Rattle.cg_gate.proofs.counting.machine_zeros.Goals as goal
-use Rattle.cg_gate.specs.Idling.{zeros_by}
+use Rattle.cg_gate.specs.ZeroCounting.{zeros_by}
 use Rattle.cg_netlist.specs.History.{Moment}
-use Rattle.cg_report.specs.Idle.{CountZeros, low_moments, zeros_of}
+use Rattle.cg_report.specs.Zeros.{CountZeros, low_moments, zeros_of}
 use Rattle.cg_stimulus.specs.Played.{IsPlayed}
 
 pub carried-requires : goal.carried-requires

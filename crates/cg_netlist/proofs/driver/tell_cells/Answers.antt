@@ -4,7 +4,7 @@ use Rattle.cg_netlist.specs.Circuit.{Circuit, LogicCell}
 use Rattle.cg_netlist.specs.declared.driver.Driver.TheVariants.{Cell}
 use Rattle.cg_netlist.specs.inner.Driving.{IsTold, behind_cells}
 use Rattle.cg_netlist.proofs.OrderLemmas.{cells_within}
-use Rattle.cg_netlist.proofs.DriverTable.{cell_told, cell_net_within}
+use Rattle.cg_netlist.proofs.DriverTable.{cell_listed, cell_net_within}
 use Rattle.cg_netlist.proofs.driver.tell_cells.Goals as goal
 
 pub overflow_cast-k : goal.overflow_cast-k
@@ -29,4 +29,4 @@ loop-k-preserved c =
     let net : c.number-net.result ≡ c.index.result.now.output = c.number-net.ensures.number ∙ ap (λ (x : LogicCell ℕ). x.output) c.behind-parts.view_is in
     subst (λ n. IsTold parts (map (λ (x : LogicCell ℕ). x.output) (drop (k + 1) parts.cells) ++ behind_cells parts) (set c.loop-k.drivers n (Cell c.new.result))) (sym net)
     (subst (λ j. IsTold parts (map (λ (x : LogicCell ℕ). x.output) (drop (k + 1) parts.cells) ++ behind_cells parts) (set c.loop-k.drivers c.index.result.now.output (Cell j))) (sym c.new.ensures)
-    (cell_told parts k c.index.result.now c.loop-k.drivers at c.loop-k.invariant))
+    (cell_listed parts k c.index.result.now c.loop-k.drivers at c.loop-k.invariant))

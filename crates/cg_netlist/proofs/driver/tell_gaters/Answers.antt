@@ -4,7 +4,7 @@ use Rattle.cg_netlist.specs.Circuit.{Circuit, GatingCell}
 use Rattle.cg_netlist.specs.declared.driver.Driver.TheVariants.{Gater}
 use Rattle.cg_netlist.specs.inner.Driving.{IsTold, behind_gaters}
 use Rattle.cg_netlist.proofs.OrderLemmas.{gaters_within}
-use Rattle.cg_netlist.proofs.DriverTable.{gater_told, gater_net_within}
+use Rattle.cg_netlist.proofs.DriverTable.{gater_listed, gater_net_within}
 use Rattle.cg_netlist.proofs.driver.tell_gaters.Goals as goal
 
 pub overflow_cast-k : goal.overflow_cast-k
@@ -29,4 +29,4 @@ loop-k-preserved c =
     let net : c.number-net.result ≡ c.index.result.now.output = c.number-net.ensures.number ∙ ap (λ (x : GatingCell ℕ). x.output) c.behind-parts.view_is in
     subst (λ n. IsTold parts (map (λ (x : GatingCell ℕ). x.output) (drop (k + 1) parts.gaters) ++ behind_gaters parts) (set c.loop-k.drivers n (Gater c.new.result))) (sym net)
     (subst (λ j. IsTold parts (map (λ (x : GatingCell ℕ). x.output) (drop (k + 1) parts.gaters) ++ behind_gaters parts) (set c.loop-k.drivers c.index.result.now.output (Gater j))) (sym c.new.ensures)
-    (gater_told parts k c.index.result.now c.loop-k.drivers at c.loop-k.invariant))
+    (gater_listed parts k c.index.result.now c.loop-k.drivers at c.loop-k.invariant))

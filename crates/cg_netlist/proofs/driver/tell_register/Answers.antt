@@ -5,7 +5,7 @@ use Rattle.std.proofs.lemmas.Option.{slice_get_read}
 use Rattle.cg_netlist.specs.Circuit.{Circuit, RegisterCell, shown_nets}
 use Rattle.cg_netlist.specs.declared.driver.Driver.TheVariants.{Register}
 use Rattle.cg_netlist.specs.inner.Driving.{IsTold, behind_registers}
-use Rattle.cg_netlist.proofs.DriverTable.{register_net_within, register_told, registers_left}
+use Rattle.cg_netlist.proofs.DriverTable.{register_net_within, register_listed, registers_left}
 use Rattle.cg_netlist.proofs.driver.tell_register.Goals as goal
 
 pub loop-place-init : goal.loop-place-init
@@ -34,7 +34,7 @@ loop-place-preserved c =
     let at : slice_get parts.registers c.args.r ≡ Some register = ap (λ (p : Circuit). slice_get p.registers c.args.r) (sym c.parts.view_is) ∙ slice_get_read c.parts.inside.registers.items _ c.args.r register refl (omega (arith, c.requires.register, ap (λ (p : Circuit). length p.registers) c.parts.view_is)) c.index-register.ensures in
     let outputs : c.register.inside.outputs.items ≡ register.outputs = ap (λ (r : RegisterCell ℕ ℕ). r.outputs) c.register.view_is in
     let shown : slice_get register.outputs place ≡ Some c.index.result.now = ap (λ (r : RegisterCell ℕ ℕ). slice_get r.outputs place) (sym c.register.view_is) ∙ slice_get_read c.register.inside.outputs.items _ place c.index.result.now refl (omega (arith, c.loop-place-test.true, c.len-place-end.ensures)) c.index.ensures in
-    let told = register_told parts c.args.r register place c.index.result.now.0 c.index.result.now.1 rest c.loop-place.drivers at shown (subst (λ (os : List (ℕ × Bool)). IsTold parts (map (λ (o : ℕ × Bool). o.0) (drop place os) ++ rest) c.loop-place.drivers) outputs c.loop-place.invariant) in
+    let told = register_listed parts c.args.r register place c.index.result.now.0 c.index.result.now.1 rest c.loop-place.drivers at shown (subst (λ (os : List (ℕ × Bool)). IsTold parts (map (λ (o : ℕ × Bool). o.0) (drop place os) ++ rest) c.loop-place.drivers) outputs c.loop-place.invariant) in
     subst (λ (os : List (ℕ × Bool)). IsTold parts (map (λ (o : ℕ × Bool). o.0) (drop (place + 1) os) ++ rest) (set c.loop-place.drivers c.number.result (Register c.new.result c.index.result.now.1))) (sym outputs)
     (subst (λ n. IsTold parts (map (λ (o : ℕ × Bool). o.0) (drop (place + 1) register.outputs) ++ rest) (set c.loop-place.drivers n (Register c.new.result c.index.result.now.1))) (sym c.number.ensures.number)
     (subst (λ j. IsTold parts (map (λ (o : ℕ × Bool). o.0) (drop (place + 1) register.outputs) ++ rest) (set c.loop-place.drivers c.index.result.now.0 (Register j c.index.result.now.1))) (sym c.new.ensures) told))

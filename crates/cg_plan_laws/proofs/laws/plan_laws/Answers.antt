@@ -1,7 +1,7 @@
 use Rattle.cg_plan_laws.proofs.laws.plan_laws.Goals as goal
-use Rattle.cg_plan_laws.proofs.AllSafe.{each_fits, has_cells, inserted_safe, plans_safe, shows_netlist, told_safe}
+use Rattle.cg_plan_laws.proofs.AllSafe.{each_fits, has_cells, inserted_safe, plans_safe, shows_netlist, reported_safe}
 use Rattle.cg_plan_laws.proofs.Exactly.{inserted_exactly}
-use Rattle.cg_plan_laws.proofs.Telling.{certificates_told, stages_told}
+use Rattle.cg_plan_laws.proofs.Telling.{certificates_reported, stages_reported}
 
 pub returns : goal.returns
 returns c = record {
@@ -11,7 +11,7 @@ returns c = record {
   plan = plans_safe;
   cells = has_cells;
   netlist = shows_netlist;
-  told = told_safe;
-  stages = stages_told;
-  certificates = certificates_told;
+  told = reported_safe;
+  stages = stages_reported;
+  certificates = certificates_reported;
 }

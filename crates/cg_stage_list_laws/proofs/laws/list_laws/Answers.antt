@@ -7,7 +7,7 @@ use Rattle.cg_stage_list_laws.proofs.UnseenFits.{unseen_fits}
 
 pub returns : goal.returns
 returns c = record {
-  hold = λ m idle width good. hold_fits m good idle width;
+  hold = λ m counts width good. hold_fits m good counts width;
   stable = λ m earlier good. stable_fits m good earlier;
   unseen = λ m test earlier good. unseen_fits m good earlier test;
   widths = λ m e r good among. ap length (hold_leaves_are_same m e r good among);

@@ -1,7 +1,7 @@
 use Rattle.std.proofs.Common.{◌≡◌, length, refl, sym, ◌∙◌, ap}
-use Rattle.cg_hold.proofs.Decided.{told_never, told_sometimes}
+use Rattle.cg_hold.proofs.Decided.{never_decided, sometimes_decided}
 use Rattle.cg_plan_laws.specs.declared.certificate.Certificate.{Certificate}
-use Rattle.cg_plan.proofs.Deciding.{settled_bits, settled_never, told_proved, told_writable}
+use Rattle.cg_plan.proofs.Deciding.{settled_bits, settled_never, proved_decided, writable_decided}
 use Rattle.cg_plan.proofs.judge.Judge.decide.Goals as goal
 
 pub returns-in_ok-push-in-Never-clause-decided : goal.returns-in_ok-push-in-Never-clause-decided
@@ -11,9 +11,9 @@ returns-in_ok-push-in-Never-clause-decided c = λ m q width good fits is.
     let log = c.in-Never.log in
     let d = c.in_ok-formula.field-0 in
     let certificate : Certificate = record { stage = c.args.number; claim = c.args.name.now; formula = f; log = log } in
-    let never = told_never c.aig.result.now claim.aig c.goal.result claim.goal d f log c.aig.ensures c.goal.ensures c.in_ok-formula.ensures.exactly c.in-Never.is in
-    let proved = told_proved c.aig.result.now claim.aig c.goal.result claim.goal d f log c.aig.ensures c.goal.ensures c.in_ok-formula.ensures.proved c.in-Never.is in
-    let written = told_writable d f log c.in_ok-formula.ensures.writable c.in-Never.is in
+    let never = never_decided c.aig.result.now claim.aig c.goal.result claim.goal d f log c.aig.ensures c.goal.ensures c.in_ok-formula.ensures.exactly c.in-Never.is in
+    let proved = proved_decided c.aig.result.now claim.aig c.goal.result claim.goal d f log c.aig.ensures c.goal.ensures c.in_ok-formula.ensures.proved c.in-Never.is in
+    let written = writable_decided d f log c.in_ok-formula.ensures.writable c.in-Never.is in
     settled_never c.claim_laws.ensures.goal c.claim_laws.ensures.never m q width claim good fits is c.args.number c.args.name.now c.args.into.now.items c.push.new.self.items certificate
     never refl refl proved.0 proved.1 (record { formula = written.0; log = written.1 }) c.in_ok-push-in-Never.ensures.items
 
@@ -22,7 +22,7 @@ pub returns-in_ok-bits-in-Sometimes-clause-decided :
 returns-in_ok-bits-in-Sometimes-clause-decided c = λ m q width good fits is.
     let claim = c.args.self.now.unroller in
     let bits = c.in-Sometimes.bits.items in
-    let one = told_sometimes c.aig.result.now claim.aig c.goal.result claim.goal c.in_ok-formula.field-0 c.in-Sometimes.bits c.aig.ensures c.goal.ensures c.in_ok-formula.ensures.exactly c.in-Sometimes.is in
+    let one = sometimes_decided c.aig.result.now claim.aig c.goal.result claim.goal c.in_ok-formula.field-0 c.in-Sometimes.bits c.aig.ensures c.goal.ensures c.in_ok-formula.ensures.exactly c.in-Sometimes.is in
     let value : c.as_slice.result.now ≡ bits = c.as_slice.ensures.value in
     let found = settled_bits c.claim_laws.ensures.goal c.claim_laws.ensures.never m q width claim good fits is bits one c.in_ok-bits-in-Sometimes.bits
     (λ long. c.in_ok-bits-in-Sometimes.ensures.leaves (ap length value ∙ (long ∙ ap length (sym c.leaves.ensures))) ∙ c.leaves.ensures)

@@ -1,7 +1,7 @@
 use Rattle.std.proofs.Common.{IfErr, IfOk, subst}
 use Rattle.cg_machine.specs.declared.stage.Stage.{Stage}
 use Rattle.cg_plan_laws.specs.StageClaims.{all_claims}
-use Rattle.cg_plan_laws.specs.Told.{MayFail}
+use Rattle.cg_plan_laws.specs.Reported.{MayFail}
 use Rattle.cg_plan_laws.specs.Trying.{decided, measured}
 use Rattle.cg_plan.specs.inner.Judging.{IsJudged}
 use Rattle.cg_plan.proofs.judge.Judge.judge_claims.Goals as goal

@@ -4,7 +4,7 @@ use Rattle.std.specs.Option.{option_map}
 use Rattle.std.proofs.lemmas.Option.{slice_get-map, slice_get_read}
 use Rattle.cg_netlist.specs.declared.fault.AddFault.{AddFault}
 use Rattle.cg_plan_laws.specs.StageClaims.{NamedClaim, claims_of}
-use Rattle.cg_plan_laws.specs.Told.{MayFail}
+use Rattle.cg_plan_laws.specs.Reported.{MayFail}
 use Rattle.cg_plan_laws.specs.Trying.{Tried, decided, measured}
 use Rattle.cg_plan_laws.specs.declared.outcome.Outcome.{Outcome}
 use Rattle.cg_plan.specs.inner.Deciding.{Settles}

@@ -2,7 +2,7 @@ use Rattle.std.proofs.Common.{sym, ◌∙◌, ap, subst}
 use Rattle.cg_netlist.specs.Chains.{chain}
 use Rattle.cg_netlist.specs.inner.Walking.{IsLevelled}
 use Rattle.cg_netlist.proofs.WalkLawsHold.{chain_levelled}
-use Rattle.cg_netlist.proofs.netlist.Netlist.gate_order.Goals as goal
+use Rattle.cg_netlist.proofs.netlist.Netlist.gater_order.Goals as goal
 
 pub walk_order-requires : goal.walk_order-requires
 walk_order-requires c =

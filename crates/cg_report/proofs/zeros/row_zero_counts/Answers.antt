@@ -1,11 +1,11 @@
 use Rattle.std.proofs.Common.{◌≡◌, ◌<◌, ◌+◌, ℕ, List, length, drop, subst, sym, ◌∙◌, ap, arith}
 use Rattle.std.specs.List.{All}
 use Rattle.cg_limit.specs.declared.TheConstants.{MOST_ROWS}
-use Rattle.cg_report.specs.inner.Idling.{CountRows, PlaysRow}
-use Rattle.cg_report.proofs.IdleRows.{counts_all, counts_more, counts_none, few_of, most_of}
+use Rattle.cg_report.specs.inner.ZeroCounting.{CountRows, PlaysRow}
+use Rattle.cg_report.proofs.ZeroRows.{counts_all, counts_more, counts_none, few_of, most_of}
 use Rattle.cg_report.proofs.RowOn.{has_row}
 use Rattle.cg_report.proofs.PlayedOn.{take_front}
-use Rattle.cg_report.proofs.idle.idle_zeros.Goals as goal
+use Rattle.cg_report.proofs.zeros.row_zero_counts.Goals as goal
 
 pub rows-init : goal.rows-init
 rows-init c =

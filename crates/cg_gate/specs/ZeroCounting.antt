@@ -4,7 +4,7 @@
 use Rattle.std.specs.Prelude.{ℕ, ◌-◌, Bool, false, not, List, [], ◌∷◌, ◌++◌, map, length, replicate, Option, None, Some}
 use Rattle.std.specs.List.{count_by}
 use Rattle.cg_extract.specs.Lifted.{lifted, number_of, origins}
-use Rattle.cg_stage_list_laws.specs.Literals.{IdleData}
+use Rattle.cg_stage_list_laws.specs.Literals.{ZeroCounts}
 use Rattle.cg_machine.specs.Machine.{MachineData, step, values}
 use Rattle.cg_netlist.specs.Circuit.{Circuit, data_inputs}
 use Rattle.cg_netlist.specs.Moment.{bit}
@@ -29,13 +29,13 @@ abbrev pub zeros_by : (ℕ → ℕ) → Option ℕ → ℕ
 zeros_by zeros None = 0
 zeros_by zeros (Some net) = zeros net
 
-abbrev pub idle_data : Circuit → List ℕ → Rows → IdleData
-idle_data c prefix stimulus = let m = lifted c prefix in let lows = lows_from m (played_start c) stimulus.rows in record {
+abbrev pub zero_counts : Circuit → List ℕ → Rows → ZeroCounts
+zero_counts c prefix stimulus = let m = lifted c prefix in let lows = lows_from m (played_start c) stimulus.rows in record {
   zeros = map (zeros_by (λ net. zeros_at lows (number_of c net))) (origins c m);
   rows = length stimulus.rows;
 }
 
 -- with a stimulus there are counts, and without one there are none
-abbrev pub idle_of : Circuit → List ℕ → Option Rows → Option IdleData
-idle_of c prefix None = None
-idle_of c prefix (Some stimulus) = Some (idle_data c prefix stimulus)
+abbrev pub zero_counts_of : Circuit → List ℕ → Option Rows → Option ZeroCounts
+zero_counts_of c prefix None = None
+zero_counts_of c prefix (Some stimulus) = Some (zero_counts c prefix stimulus)

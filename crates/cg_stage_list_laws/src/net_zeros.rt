@@ -6,7 +6,7 @@ use std::marker::Model;
 ///
 /// There is a number for each net, and none is above that of the rows.
 #[derive(Debug, Drop)]
-pub struct Idle<'a> {
+pub struct NetZeros<'a> {
     /// For each net the number of rows at whose low moment it is 0.
     pub zeros: &'a [u32],
 
@@ -14,10 +14,10 @@ pub struct Idle<'a> {
     pub rows: u32,
 }
 
-impl<'a> Model for Idle<'a> {
-    ghost use Rattle.cg_stage_list_laws.specs.Literals.{IdleData};
+impl<'a> Model for NetZeros<'a> {
+    ghost use Rattle.cg_stage_list_laws.specs.Literals.{ZeroCounts};
 
-    ghost Value = { IdleData };
+    ghost Value = { ZeroCounts };
 
     ghost view = { λ s. record { zeros = s.zeros.now; rows = s.rows } };
 }

@@ -1,9 +1,9 @@
 use Rattle.std.proofs.Common.{◌<◌, ◌+◌, get_or, subst, sym, arith}
 use Rattle.cg_limit.specs.declared.TheConstants.{MOST_ROWS}
-use Rattle.cg_report.specs.inner.Idling.{AreCounted}
-use Rattle.cg_report.proofs.IdleRows.{counted_one, counted_zero, next_read, none_counted}
-use Rattle.cg_report.proofs.idle.count_zeros.Goals as goal
-use Rattle.cg_report.proofs.idle.count_zeros.Goals.{then-not-nets-net, else-not-nets-net}
+use Rattle.cg_report.specs.inner.ZeroCounting.{AreCounted}
+use Rattle.cg_report.proofs.ZeroRows.{counted_one, counted_zero, next_read, none_counted}
+use Rattle.cg_report.proofs.zeros.count_zeros.Goals as goal
+use Rattle.cg_report.proofs.zeros.count_zeros.Goals.{then-not-nets-net, else-not-nets-net}
 
 pub loop-net-init : goal.loop-net-init
 loop-net-init c = none_counted c.args.nets.now c.args.zeros.now

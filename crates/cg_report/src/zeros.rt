@@ -6,8 +6,8 @@ ghost use Rattle.cg_limit.specs.declared.TheConstants.{MOST_ROWS};
 ghost use Rattle.cg_netlist.specs.History.{Moment};
 ghost use Rattle.cg_stimulus.specs.Inputs.{IsFor};
 ghost use Rattle.cg_stimulus.specs.Played.{IsPlayed};
-ghost use Rattle.cg_report.specs.Idle.{CountZeros};
-ghost use Rattle.cg_report.specs.inner.Idling.{AreCounted, PlaysRow};
+ghost use Rattle.cg_report.specs.Zeros.{CountZeros};
+ghost use Rattle.cg_report.specs.inner.ZeroCounting.{AreCounted, PlaysRow};
 ghost use Rattle.cg_report.specs.inner.RowByRow.{HasRow};
 
 use crate::player::Player;
@@ -19,7 +19,7 @@ use std::alloc::{AllocError, Global};
 /// For each net the number of rows at whose low moment it is 0, where the rows are played on the netlist.
 ///
 /// The netlist's data inputs must begin with those for which the stimulus is.
-pub fn idle_zeros(
+pub fn row_zero_counts(
     alloc: Global,
     netlist: &Netlist,
     stimulus: &Stimulus,

@@ -3,7 +3,7 @@ use Rattle.std.specs.Prelude.{◌≡◌, ℕ, ◌+◌, ◌<◌, Bool, List, leng
 use Rattle.cg_netlist.specs.Circuit.{Circuit}
 use Rattle.cg_netlist.specs.History.{Moment}
 use Rattle.cg_netlist.specs.Moment.{bit}
-use Rattle.cg_report.specs.Idle.{low_moments, zeros_of}
+use Rattle.cg_report.specs.Zeros.{low_moments, zeros_of}
 use Rattle.cg_report.specs.Place.{Place}
 use Rattle.cg_report.specs.inner.RowByRow.{IsBehind, PlaysPair}
 

@@ -10,9 +10,9 @@ use Rattle.cg_netlist.specs.History.{Moment}
 use Rattle.cg_netlist.specs.Moment.{bit}
 use Rattle.cg_net.proofs.TableLemmas.{same_or_not, slice_get-set_other, slice_get-set_same}
 use Rattle.cg_stimulus.specs.Played.{IsPlayed, played_wave}
-use Rattle.cg_report.specs.Idle.{CountZeros, low_moments, zeros_of}
+use Rattle.cg_report.specs.Zeros.{CountZeros, low_moments, zeros_of}
 use Rattle.cg_report.specs.Place.{IsAt, Place, Plays, Steps}
-use Rattle.cg_report.specs.inner.Idling.{AreCounted, CountRows, PlaysRow}
+use Rattle.cg_report.specs.inner.ZeroCounting.{AreCounted, CountRows, PlaysRow}
 use Rattle.cg_report.proofs.RowOn.{behind_all, behind_more, behind_none, low_moments_last, low_moments_on, pair_played}
 
 pub row_counted : (old between new : Place) (zeros more : List ℕ) → (one : Plays old between) → Plays between new → AreCounted (length zeros) one.now.nets zeros more → PlaysRow old new zeros more

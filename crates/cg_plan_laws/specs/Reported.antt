@@ -15,7 +15,7 @@ use Rattle.cg_claim.specs.Leaves.{leaves_of, shown_leaf}
 use Rattle.cg_claim.specs.Question.{Question}
 use Rattle.cg_claim.specs.declared.leaf.LeafBit.{LeafBit}
 use Rattle.cg_claim.specs.declared.name.ClaimName.{ClaimName}
-use Rattle.cg_stage_list_laws.specs.Literals.{IdleData}
+use Rattle.cg_stage_list_laws.specs.Literals.{ZeroCounts}
 use Rattle.cg_plan_laws.specs.Plan.{Turn, is_inserted, plan_of, wide_of}
 use Rattle.cg_plan_laws.specs.StageClaims.{NamedClaim, claims_of}
 use Rattle.cg_plan_laws.specs.Trying.{Ends, Passes, Tried}
@@ -101,20 +101,20 @@ AreTold (turn ∷ turns) (t ∷ told) =
 
 -- a plan as it is told: the machine at its end, its stages with their outcomes, of how many registers the hold claims are
 -- too wide on the machine that it begins with, and the certificates
-pub record ToldPlan : Type 0 where
+pub record ReportedPlan : Type 0 where
   pub machine : MachineData
   pub stages : List (Stage × Outcome)
   pub wide : ℕ
   pub certificates : List Certificate
 
 -- it is the plan of a machine, with a certificate for each claim of each inserted stage
-pub record IsPlan (library : List CellData) (settings : Settings) (idle : Option IdleData) (m : MachineData)
-    (told : ToldPlan) : Type 0 where
-  pub whole : (plan_of library settings idle m).limit ≡ None
-  pub machine : told.machine ≡ (plan_of library settings idle m).machine
-  pub stages : AreTold (plan_of library settings idle m).turns told.stages
+pub record IsPlan (library : List CellData) (settings : Settings) (counts : Option ZeroCounts) (m : MachineData)
+    (told : ReportedPlan) : Type 0 where
+  pub whole : (plan_of library settings counts m).limit ≡ None
+  pub machine : told.machine ≡ (plan_of library settings counts m).machine
+  pub stages : AreTold (plan_of library settings counts m).turns told.stages
   pub wide : told.wide ≡ wide_of settings m
-  pub certificates : AreCertified (plan_claims 1 (plan_of library settings idle m).turns) told.certificates
+  pub certificates : AreCertified (plan_claims 1 (plan_of library settings counts m).turns) told.certificates
 
 -- a fault of a plan: the limit at which it stops, or want of memory at any time
 abbrev pub PlanMayFail : Option Limit → AddFault → Type 0

@@ -1,3 +1,4 @@
 pub mod WordsRead
 pub mod Places
 pub mod TestInput
+pub mod ModeWords

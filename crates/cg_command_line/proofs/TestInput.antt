@@ -1,7 +1,7 @@
 -- The test input of a job.
 use Rattle.std.proofs.Common.{◌≡◌, ℕ, Bool, true, false, List, [], ◌∷◌, Option, None, Some, refl, sym, subst}
-use Rattle.std.specs.Prelude.{◌&&◌, not, if◌then◌else◌, codes, is_some, unwrap_or, IfSome}
-use Rattle.std.specs.Option.{option_and_then}
+use Rattle.std.specs.Prelude.{◌&&◌, ◌||◌, not, if◌then◌else◌, codes, is_some, unwrap_or, IfSome}
+use Rattle.std.specs.Option.{option_and_then, option_to_list}
 use Rattle.std.specs.Str.{bytes_eq}
 use Rattle.clap.specs.Words.{Kinds, Text, all_of, fault_of, first_of, matches_of}
 use Rattle.cg_plan_laws.specs.declared.settings.Settings.{Settings}
@@ -11,10 +11,10 @@ use Rattle.cg_source.specs.declared.stimulus.StimulusForm.{StimulusForm}
 use Rattle.cg_source.specs.declared.stimulus.StimulusForm.TheVariants as forms
 use Rattle.cg_command_line.specs.CommandLine.{Values, command_line, values_in}
 use Rattle.cg_command_line.specs.Jobs.{JobWords, demo_job, gate_files, gate_job, job_in, job_of, job_of_options, job_with, job_without}
-use Rattle.cg_command_line.specs.Jobs.{lrat_job, named, sim_files, sim_job, sim_with}
+use Rattle.cg_command_line.specs.Jobs.{lrat_job, named, sim_by_option, sim_files, sim_job, sim_with}
 use Rattle.cg_command_line.specs.Options.{NamesTest, are_different, asked_in, default_prefix, gate_options, gate_options_with}
 use Rattle.cg_command_line.specs.Options.{has_gate_options, has_options, is_apart, is_named, may_watch, no_options, number_in, number_or}
-use Rattle.cg_command_line.specs.Options.{option_files, settings_in, settings_with, sim_options, sim_options_with, watch_in}
+use Rattle.cg_command_line.specs.Options.{option_files, settings_in, settings_with, sim_options, sim_options_with, stimulus_in, watch_in}
 use Rattle.cg_command_line.specs.declared.job.Mode.{Mode}
 use Rattle.cg_command_line.specs.declared.job.Mode.TheVariants.{Demo, Gate, Lrat, Sim}
 use Rattle.cg_command_line.specs.declared.options.Options.{Options}
@@ -43,16 +43,17 @@ settings_name test (Some min) (Some width) None = tt
 settings_name test (Some min) None rounds = tt
 settings_name test None width rounds = tt
 
-gate_names : (values : Values) (settings : Option Settings) (watch : Option (Option ℕ)) → IfSome settings (λ settings. settings.test ≡ is_some values.test) → IfSome (gate_options_with values settings watch) NamesTest
-gate_names values (Some settings) (Some watch) asked =
-    if_taken NamesTest (is_named values.clock && (is_named values.prefix && (is_named values.test && (is_apart (unwrap_or values.prefix default_prefix) values.test && may_watch values))))
-    (Some (record { clock = values.clock; prefix = unwrap_or values.prefix default_prefix; test = values.test; settings = settings; watch = watch; asked = asked_in values }))
+gate_names : (values : Values) (settings : Option Settings) (watch : Option (Option ℕ)) (stimulus : Option (Option StimulusForm)) → IfSome settings (λ settings. settings.test ≡ is_some values.test) → IfSome (gate_options_with values settings watch stimulus) NamesTest
+gate_names values (Some settings) (Some watch) (Some stimulus) asked =
+    if_taken NamesTest (is_named values.clock && (is_named values.prefix && (is_named values.test && (is_apart (unwrap_or values.prefix default_prefix) values.test && may_watch values stimulus))))
+    (Some (record { clock = values.clock; prefix = unwrap_or values.prefix default_prefix; test = values.test; settings = settings; watch = watch; asked = asked_in values stimulus }))
     (λ taken. record {
       asked = asked;
-      apart = fourth (is_named values.clock) (is_named values.prefix) (is_named values.test) (is_apart (unwrap_or values.prefix default_prefix) values.test) (may_watch values) taken;
+      apart = fourth (is_named values.clock) (is_named values.prefix) (is_named values.test) (is_apart (unwrap_or values.prefix default_prefix) values.test) (may_watch values stimulus) taken;
     })
-gate_names values (Some settings) None asked = tt
-gate_names values None watch asked = tt
+gate_names values (Some settings) (Some watch) None asked = tt
+gate_names values (Some settings) None stimulus asked = tt
+gate_names values None watch stimulus asked = tt
 
 plain_names : NamesTest no_options
 plain_names = record { asked = refl; apart = refl }
@@ -74,25 +75,31 @@ gate_job_names : (watchers files : List Text) (values : Values) → IfSome (gate
 gate_job_names watchers (library ∷ netlist ∷ out ∷ []) values =
     if_taken JobNames (are_different (library ∷ netlist ∷ out ∷ option_files values)) (job_of_options Gate (gate_files library netlist out values) (gate_options watchers values))
     (λ taken. options_name Gate (gate_files library netlist out values) (gate_options watchers values)
-    (gate_names values (settings_in values) (watch_in watchers values.watch) (settings_name (is_some values.test) (number_or 1 1 1024 values.min) (number_or 32 1 256 values.width) (number_or 4 0 16 values.rounds))))
+    (gate_names values (settings_in values) (watch_in watchers values.watch) (stimulus_in values) (settings_name (is_some values.test) (number_or 1 1 1024 values.min) (number_or 32 1 256 values.width) (number_or 4 0 16 values.rounds))))
 gate_job_names watchers [] values = tt
 gate_job_names watchers (library ∷ []) values = tt
 gate_job_names watchers (library ∷ netlist ∷ []) values = tt
 gate_job_names watchers (library ∷ netlist ∷ out ∷ other ∷ files) values = tt
 
-sim_with_names : (watchers : List Text) (form : StimulusForm) (library netlist stimulus : Text) (values : Values) → IfSome (sim_with watchers form library netlist stimulus values) JobNames
+sim_with_names : (watchers : List Text) (form : StimulusForm) (library netlist : Text) (stimulus : Option Text) (values : Values) → IfSome (sim_with watchers form library netlist stimulus values) JobNames
 sim_with_names watchers form library netlist stimulus values =
     let names : Files = sim_files library netlist stimulus in
-    if_taken JobNames (are_different (library ∷ netlist ∷ stimulus ∷ [])) (job_of_options (Sim form) names (sim_options watchers values)) (λ taken. options_name (Sim form) names (sim_options watchers values) (sim_names values (watch_in watchers values.watch)))
+    if_taken JobNames (are_different (library ∷ netlist ∷ option_to_list stimulus)) (job_of_options (Sim form) names (sim_options watchers values)) (λ taken. options_name (Sim form) names (sim_options watchers values) (sim_names values (watch_in watchers values.watch)))
 
-dump_names : (watchers : List Text) (library netlist : Text) (values : Values) (dump : Option Text) → IfSome (option_and_then (λ dump. sim_with watchers forms.Dump library netlist dump values) dump) JobNames
-dump_names watchers library netlist values (Some dump) = sim_with_names watchers forms.Dump library netlist dump values
-dump_names watchers library netlist values None = tt
+option_names : (watchers : List Text) (library netlist : Text) (values : Values) (stimulus : Option StimulusForm) → IfSome (sim_by_option watchers library netlist values stimulus) JobNames
+option_names watchers library netlist values None = tt
+option_names watchers library netlist values (Some forms.Rows) = tt
+option_names watchers library netlist values (Some forms.Dump) = sim_with_names watchers forms.Dump library netlist values.vcd values
+option_names watchers library netlist values (Some (forms.Random n)) = sim_with_names watchers (forms.Random n) library netlist None values
+
+asked_names : (watchers : List Text) (library netlist : Text) (values : Values) (asked : Option (Option StimulusForm)) → IfSome (option_and_then (sim_by_option watchers library netlist values) asked) JobNames
+asked_names watchers library netlist values (Some stimulus) = option_names watchers library netlist values stimulus
+asked_names watchers library netlist values None = tt
 
 sim_job_names : (watchers files : List Text) (values : Values) → IfSome (sim_job watchers files values) JobNames
-sim_job_names watchers (library ∷ netlist ∷ []) values = dump_names watchers library netlist values values.vcd
+sim_job_names watchers (library ∷ netlist ∷ []) values = asked_names watchers library netlist values (stimulus_in values)
 sim_job_names watchers (library ∷ netlist ∷ stimulus ∷ []) values =
-    unless_taken JobNames (is_some values.vcd) (sim_with watchers forms.Rows library netlist stimulus values) (sim_with_names watchers forms.Rows library netlist stimulus values)
+    unless_taken JobNames (is_some values.vcd || is_some values.random) (sim_with watchers forms.Rows library netlist (Some stimulus) values) (sim_with_names watchers forms.Rows library netlist (Some stimulus) values)
 sim_job_names watchers [] values = tt
 sim_job_names watchers (library ∷ []) values = tt
 sim_job_names watchers (library ∷ netlist ∷ stimulus ∷ other ∷ files) values = tt

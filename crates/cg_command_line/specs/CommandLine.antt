@@ -23,7 +23,7 @@ with_options app (name ∷ names) = with_options (with_option app name) names
 
 abbrev pub option_names : List Text
 option_names =
-    codes "stim" ∷ codes "vcd" ∷ codes "proof" ∷ codes "report" ∷ codes "min" ∷ codes "width" ∷ codes "rounds" ∷ codes "clock" ∷ codes "prefix"
+    codes "stim" ∷ codes "vcd" ∷ codes "random" ∷ codes "proof" ∷ codes "report" ∷ codes "min" ∷ codes "width" ∷ codes "rounds" ∷ codes "clock" ∷ codes "prefix"
     ∷ codes "test" ∷ codes "watch" ∷ []
 
 abbrev pub command_line : App
@@ -33,6 +33,7 @@ command_line = with_options (with_rule (with_rule (new_app (codes "clockgate")) 
 pub record Values : Type 0 where
   pub stim : Option Text
   pub vcd : Option Text
+  pub random : Option Text
   pub proof : Option Text
   pub report : Option Text
   pub min : Option Text
@@ -48,6 +49,7 @@ abbrev pub values_in : List Row → Values
 values_in rows = record {
   stim = first_of (codes "stim") rows;
   vcd = first_of (codes "vcd") rows;
+  random = first_of (codes "random") rows;
   proof = first_of (codes "proof") rows;
   report = first_of (codes "report") rows;
   min = first_of (codes "min") rows;

@@ -1,6 +1,6 @@
 -- Which words the program takes, and what they ask for.
-use Rattle.std.specs.Prelude.{if◌then◌else◌, List, [], ◌∷◌, Option, None, Some, codes, is_some, unwrap_or}
-use Rattle.std.specs.Option.{option_and_then, option_map}
+use Rattle.std.specs.Prelude.{if◌then◌else◌, ◌||◌, List, [], ◌∷◌, map, Option, None, Some, codes, is_some, unwrap_or}
+use Rattle.std.specs.Option.{option_and_then, option_map, option_to_list}
 use Rattle.std.specs.Str.{bytes_eq}
 use Rattle.clap.specs.Words.{Kinds, Row, Text, all_of, fault_of, first_of, matches_of}
 use Rattle.cg_run.specs.Names.{File, Files, files_of}
@@ -10,6 +10,7 @@ use Rattle.cg_source.specs.declared.stimulus.StimulusForm.{StimulusForm}
 use Rattle.cg_source.specs.declared.stimulus.StimulusForm.TheVariants as forms
 use Rattle.cg_command_line.specs.CommandLine.{Values, command_line, values_in}
 use Rattle.cg_command_line.specs.Options.{are_different, gate_options, has_options, no_options, number_in, option_files, sim_options}
+use Rattle.cg_command_line.specs.Options.{stimulus_in}
 use Rattle.cg_command_line.specs.declared.job.Job.{Job}
 use Rattle.cg_command_line.specs.declared.job.Mode.{Mode}
 use Rattle.cg_command_line.specs.declared.job.Mode.TheVariants.{Demo, Gate, Lrat, Sim}
@@ -33,7 +34,7 @@ named role name = record { role = role; name = name }
 abbrev pub job_of_options : Mode → Files → Option Options → Option JobWords
 job_of_options mode files options = option_map (λ options. record { mode = mode; files = files; options = options }) options
 
--- `gate LIB NETLIST OUT` with `--stim F` or `--vcd F`, `--proof F`, `--report F`, `--min N`, `--width N`, `--rounds N`, `--clock NAME`,
+-- `gate LIB NETLIST OUT` with `--stim F`, `--vcd F` or `--random N`, `--proof F`, `--report F`, `--min N`, `--width N`, `--rounds N`, `--clock NAME`,
 -- `--prefix P`, `--test NAME` and `--watch NAME`, where all files are different
 abbrev pub gate_files : Text → Text → Text → Values → Files
 gate_files library netlist out values =
@@ -46,20 +47,30 @@ gate_job watchers (library ∷ netlist ∷ out ∷ []) values =
     then job_of_options Gate (gate_files library netlist out values) (gate_options watchers values) else None
 gate_job watchers files values = None
 
--- `sim LIB NETLIST STIM`, or `sim LIB NETLIST --vcd F`, with `--clock NAME` and `--watch NAME`, where all files are different
-abbrev pub sim_files : Text → Text → Text → Files
-sim_files library netlist stimulus = named roles.Library library ∷ named roles.Netlist netlist ∷ named roles.Stimulus stimulus ∷ []
+-- `sim LIB NETLIST STIM`, or `sim LIB NETLIST` with `--vcd F` or `--random N`, with `--clock NAME` and `--watch NAME`, where all
+-- files are different
+abbrev pub sim_files : Text → Text → Option Text → Files
+sim_files library netlist stimulus =
+    named roles.Library library ∷ named roles.Netlist netlist ∷ map (named roles.Stimulus) (option_to_list stimulus)
 
-abbrev pub sim_with : List Text → StimulusForm → Text → Text → Text → Values → Option JobWords
+abbrev pub sim_with : List Text → StimulusForm → Text → Text → Option Text → Values → Option JobWords
 sim_with watchers form library netlist stimulus values =
-    if are_different (library ∷ netlist ∷ stimulus ∷ [])
+    if are_different (library ∷ netlist ∷ option_to_list stimulus)
     then job_of_options (Sim form) (sim_files library netlist stimulus) (sim_options watchers values) else None
+
+abbrev pub sim_by_option : List Text → Text → Text → Values → Option StimulusForm → Option JobWords
+sim_by_option watchers library netlist values None = None
+sim_by_option watchers library netlist values (Some forms.Rows) = None
+sim_by_option watchers library netlist values (Some forms.Dump) = sim_with watchers forms.Dump library netlist values.vcd values
+sim_by_option watchers library netlist values (Some (forms.Random n)) =
+    sim_with watchers (forms.Random n) library netlist None values
 
 abbrev pub sim_job : List Text → List Text → Values → Option JobWords
 sim_job watchers (library ∷ netlist ∷ []) values =
-    option_and_then (λ dump. sim_with watchers forms.Dump library netlist dump values) values.vcd
+    option_and_then (sim_by_option watchers library netlist values) (stimulus_in values)
 sim_job watchers (library ∷ netlist ∷ stimulus ∷ []) values =
-    if is_some values.vcd then None else sim_with watchers forms.Rows library netlist stimulus values
+    if is_some values.vcd || is_some values.random then None
+    else sim_with watchers forms.Rows library netlist (Some stimulus) values
 sim_job watchers files values = None
 
 -- `lrat CNF PROOF`, with two different files and no option

@@ -6,6 +6,7 @@ use Rattle.std.specs.Option.{option_map, option_to_list}
 use Rattle.std.specs.Str.{bytes_eq}
 use Rattle.clap.specs.Words.{Text}
 use Rattle.cg_cell.specs.Name.{is_name}
+use Rattle.cg_limit.specs.declared.TheConstants.{MOST_ROWS}
 use Rattle.cg_plan_laws.specs.declared.settings.Settings.{Settings}
 use Rattle.cg_text.specs.Numbers.{number_of}
 use Rattle.cg_text.specs.declared.number.Number.{Number}
@@ -72,20 +73,26 @@ abbrev pub option_files : Values → List Text
 option_files values =
     option_to_list values.stim ++ option_to_list values.vcd ++ option_to_list values.proof ++ option_to_list values.report
 
--- the form of the stimulus that is asked for, if any: a stimulus text or a Value Change Dump
-abbrev pub form_in : Option Text → Option Text → Option StimulusForm
-form_in stim (Some vcd) = Some forms.Dump
-form_in (Some stim) None = Some forms.Rows
-form_in None None = None
+-- the stimulus that is asked for, if any: a stimulus text, a Value Change Dump, or so many rows by chance; there is one at most
+abbrev pub stimulus_of : Option Text → Option Text → Option Text → Option (Option StimulusForm)
+stimulus_of None None None = Some None
+stimulus_of (Some stim) None None = Some (Some forms.Rows)
+stimulus_of None (Some vcd) None = Some (Some forms.Dump)
+stimulus_of None None (Some count) = option_map (λ n. Some (forms.Random n)) (number_in 1 MOST_ROWS count)
+stimulus_of (Some stim) (Some vcd) random = None
+stimulus_of (Some stim) None (Some count) = None
+stimulus_of None (Some vcd) (Some count) = None
 
--- which of these files are asked for
-abbrev pub asked_in : Values → Asked
-asked_in values =
-    record { stimulus = form_in values.stim values.vcd; proof = is_some values.proof; report = is_some values.report }
+abbrev pub stimulus_in : Values → Option (Option StimulusForm)
+stimulus_in values = stimulus_of values.stim values.vcd values.random
 
--- there is one stimulus at most; and there is a watcher only with a stimulus
-abbrev pub may_watch : Values → Bool
-may_watch values = (is_none values.stim || is_none values.vcd) && (is_none values.watch || is_some values.stim || is_some values.vcd)
+-- which stimulus and which further files are asked for
+abbrev pub asked_in : Values → Option StimulusForm → Asked
+asked_in values stimulus = record { stimulus = stimulus; proof = is_some values.proof; report = is_some values.report }
+
+-- there is a watcher only with a stimulus
+abbrev pub may_watch : Values → Option StimulusForm → Bool
+may_watch values stimulus = is_none values.watch || is_some stimulus
 
 -- whether options are given that `gate` alone has; and options of any mode
 abbrev pub has_gate_options : Values → Bool
@@ -94,7 +101,8 @@ has_gate_options values =
     || is_some values.rounds || is_some values.prefix || is_some values.test
 
 abbrev pub has_options : Values → Bool
-has_options values = is_some values.clock || is_some values.watch || is_some values.vcd || has_gate_options values
+has_options values =
+    is_some values.clock || is_some values.watch || is_some values.vcd || is_some values.random || has_gate_options values
 
 -- what a mode is done with that has no options
 abbrev pub no_options : Options
@@ -110,12 +118,12 @@ no_options =
 
 -- What the options of `gate` say. The values of `--clock`, `--prefix` and `--test` are names, that of `--test` does not begin
 -- with the prefix, whether this is given or is the default. There is one stimulus at most, and a watcher only with a stimulus.
-abbrev pub gate_options_with : Values → Option Settings → Option (Option ℕ) → Option Options
-gate_options_with values (Some settings) (Some watch) =
+abbrev pub gate_options_with : Values → Option Settings → Option (Option ℕ) → Option (Option StimulusForm) → Option Options
+gate_options_with values (Some settings) (Some watch) (Some stimulus) =
     if is_named values.clock
     && (is_named values.prefix
     && (is_named values.test
-    && (is_apart (unwrap_or values.prefix default_prefix) values.test && may_watch values)))
+    && (is_apart (unwrap_or values.prefix default_prefix) values.test && may_watch values stimulus)))
     then Some
     (record {
       clock = values.clock;
@@ -123,13 +131,14 @@ gate_options_with values (Some settings) (Some watch) =
       test = values.test;
       settings = settings;
       watch = watch;
-      asked = asked_in values;
+      asked = asked_in values stimulus;
     })
     else None
-gate_options_with values _ _ = None
+gate_options_with values _ _ _ = None
 
 abbrev pub gate_options : List Text → Values → Option Options
-gate_options watchers values = gate_options_with values (settings_in values) (watch_in watchers values.watch)
+gate_options watchers values =
+    gate_options_with values (settings_in values) (watch_in watchers values.watch) (stimulus_in values)
 
 -- what those of `sim` say
 abbrev pub sim_options_with : Values → Option (Option ℕ) → Option Options

@@ -7,6 +7,7 @@ abbrev pub values_of : OptionWords → Values
 values_of given = record {
   stim = option_map (λ word. word.now) given.stim;
   vcd = option_map (λ word. word.now) given.vcd;
+  random = option_map (λ word. word.now) given.random;
   proof = option_map (λ word. word.now) given.proof;
   report = option_map (λ word. word.now) given.report;
   min = option_map (λ word. word.now) given.min;

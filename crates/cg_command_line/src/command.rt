@@ -14,7 +14,8 @@ pub fn command_line<'a>(alloc: Global) -> Result<Command<'a>, AllocError>
     let files = places(alloc)?;
     let stim = with_option(alloc, files, "stim")?;
     let vcd = with_option(alloc, stim, "vcd")?;
-    let proof = with_option(alloc, vcd, "proof")?;
+    let random = with_option(alloc, vcd, "random")?;
+    let proof = with_option(alloc, random, "proof")?;
     let report = with_option(alloc, proof, "report")?;
     let min = with_option(alloc, report, "min")?;
     let width = with_option(alloc, min, "width")?;

@@ -1,18 +1,19 @@
 //! What a line asks for.
 
-ghost use Rattle.std.specs.Prelude.{◌≡◌, [], map, unwrap_or, IfOk};
-ghost use Rattle.std.specs.Option.{option_and_then, option_map};
+ghost use Rattle.std.specs.Prelude.{◌≡◌, ◌∷◌, [], map, unwrap_or, IfOk};
+ghost use Rattle.std.specs.Option.{option_and_then, option_map, option_to_list};
 ghost use Rattle.std.specs.String.{string_bytes};
 ghost use Rattle.clap.specs.Words.{found_of, rows_of};
 ghost use Rattle.cg_run.specs.Names.{file_seen, files_of};
 ghost use Rattle.cg_command_line.specs.Jobs.{demo_job, gate_files, gate_job, job_in, job_of, job_with, job_words, lrat_job, named};
-ghost use Rattle.cg_command_line.specs.Jobs.{sim_files, sim_job, sim_with};
+ghost use Rattle.cg_command_line.specs.Jobs.{sim_by_option, sim_files, sim_job, sim_with};
+ghost use Rattle.cg_command_line.specs.Options.{are_different};
 ghost use Rattle.cg_command_line.specs.Seen.{values_of};
 
 use crate::command::command_line;
 use crate::options::{
     Options, are_different, gate_options, has_options, no_options, number_in, push_files,
-    sim_options,
+    sim_options, stimulus,
 };
 use crate::values::{OptionWords, given};
 use cg_run::{NamedFile, Names, Role};
@@ -96,6 +97,7 @@ fn job_named<'a>(
     }
 }
 
+#[tactic(auto, using(crate::proofs::ModeWords::no_word, crate::proofs::ModeWords::no_mode))]
 fn job_with<'a>(
     alloc: Global,
     word: &str,
@@ -169,7 +171,7 @@ fn gate_files<'a>(
     )
 }
 
-/// `sim LIB NETLIST STIM`, or `sim LIB NETLIST` with `--vcd`.
+/// `sim LIB NETLIST STIM`, or `sim LIB NETLIST` with `--vcd` or `--random`.
 fn sim_job<'a>(
     alloc: Global,
     files: &[&'a str],
@@ -180,50 +182,80 @@ fn sim_job<'a>(
         (λ job. option_map job_words job ≡ sim_job (map (λ name. name.now) watchers.now) (map (λ file. file.now) files.now) (values_of given.now)) }
 {
     match files {
-        [library, netlist] => match given.vcd {
+        [library, netlist] => match stimulus(given) {
             None => Ok(None),
-            Some(dump) => sim_with(
-                alloc,
-                StimulusForm::Dump,
-                library,
-                netlist,
-                dump,
-                given,
-                watchers,
-            ),
+            Some(asked) => sim_by_option(alloc, library, netlist, given, asked, watchers),
         },
         [library, netlist, rows] => {
-            if given.vcd.is_some() {
+            if given.vcd.is_some() || given.random.is_some() {
                 return Ok(None);
             }
-            sim_with(
-                alloc,
-                StimulusForm::Rows,
+            let files = SimFiles {
                 library,
                 netlist,
-                rows,
-                given,
-                watchers,
-            )
+                stimulus: Some(rows),
+            };
+            sim_with(alloc, StimulusForm::Rows, &files, given, watchers)
         }
         _ => Ok(None),
     }
+}
+
+/// `sim` with the stimulus that an option asks for.
+fn sim_by_option<'a>(
+    alloc: Global,
+    library: &'a str,
+    netlist: &'a str,
+    given: &OptionWords<'a>,
+    asked: Option<StimulusForm>,
+    watchers: &[&str],
+) -> Result<Option<Job<'a>>, AllocError>
+    ensures { IfOk result
+        (λ job. option_map job_words job ≡ sim_by_option (map (λ name. name.now) watchers.now) library.entry.now netlist.entry.now (values_of given.now) asked) }
+{
+    match asked {
+        None => Ok(None),
+        Some(StimulusForm::Rows) => Ok(None),
+        Some(StimulusForm::Dump) => {
+            let files = SimFiles {
+                library,
+                netlist,
+                stimulus: given.vcd,
+            };
+            sim_with(alloc, StimulusForm::Dump, &files, given, watchers)
+        }
+        Some(StimulusForm::Random(rows)) => {
+            let files = SimFiles {
+                library,
+                netlist,
+                stimulus: None,
+            };
+            sim_with(alloc, StimulusForm::Random(rows), &files, given, watchers)
+        }
+    }
+}
+
+/// The files of `sim`; rows by chance are of none.
+#[derive(Clone, Copy, Debug)]
+pub struct SimFiles<'a> {
+    pub library: &'a str,
+    pub netlist: &'a str,
+    pub stimulus: Option<&'a str>,
 }
 
 /// `sim` with a stimulus of this form, where all files are different.
 fn sim_with<'a>(
     alloc: Global,
     form: StimulusForm,
-    library: &'a str,
-    netlist: &'a str,
-    stimulus: &'a str,
+    files: &SimFiles<'a>,
     given: &OptionWords<'a>,
     watchers: &[&str],
 ) -> Result<Option<Job<'a>>, AllocError>
     ensures { IfOk result
-        (λ job. option_map job_words job ≡ sim_with (map (λ name. name.now) watchers.now) form library.entry.now netlist.entry.now stimulus.entry.now (values_of given.now)) }
+        (λ job. option_map job_words job ≡ sim_with (map (λ name. name.now) watchers.now) form files.now.library.now files.now.netlist.now
+        (option_map (λ word. word.now) files.now.stimulus) (values_of given.now)) }
 {
-    if !are_different(&[library, netlist, stimulus]) {
+    if !sim_files_differ(files) {
         return Ok(None);
     }
     let Some(options) = sim_options(alloc, watchers, given)? else {
@@ -231,28 +263,31 @@ fn sim_with<'a>(
     };
     Ok(Some(Job {
         mode: Mode::Sim(form),
-        names: sim_files(alloc, library, netlist, stimulus)?,
+        names: sim_files(alloc, files)?,
         options,
     }))
 }
 
-/// The files of `sim`.
-fn sim_files<'a>(
-    alloc: Global,
-    library: &'a str,
-    netlist: &'a str,
-    stimulus: &'a str,
-) -> Result<Names<'a>, AllocError>
-    ensures { IfOk result (λ names. files_of names ≡ sim_files library.entry.now netlist.entry.now stimulus.entry.now) }
+/// Whether no two files of `sim` have one name.
+fn sim_files_differ(files: &SimFiles<'_>) -> bool
+    ensures { result ≡ are_different (files.now.library.now ∷ files.now.netlist.now ∷ option_to_list (option_map (λ word. word.now) files.now.stimulus)) }
 {
-    Names::of(
-        alloc,
-        &[
-            named(Role::Library, library),
-            named(Role::Netlist, netlist),
-            named(Role::Stimulus, stimulus),
-        ],
-    )
+    match files.stimulus {
+        None => are_different(&[files.library, files.netlist]),
+        Some(stimulus) => are_different(&[files.library, files.netlist, stimulus]),
+    }
+}
+
+/// The files of `sim`.
+fn sim_files<'a>(alloc: Global, files: &SimFiles<'a>) -> Result<Names<'a>, AllocError>
+    ensures { IfOk result (λ names. files_of names ≡ sim_files files.now.library.now files.now.netlist.now (option_map (λ word. word.now) files.now.stimulus)) }
+{
+    let library = named(Role::Library, files.library);
+    let netlist = named(Role::Netlist, files.netlist);
+    match files.stimulus {
+        None => Names::of(alloc, &[library, netlist]),
+        Some(stimulus) => Names::of(alloc, &[library, netlist, named(Role::Stimulus, stimulus)]),
+    }
 }
 
 /// `lrat CNF PROOF`, with two different files and no option.

@@ -1,17 +1,19 @@
 //! What the options of a line say.
 
-ghost use Rattle.std.specs.Prelude.{◌≡◌, ◌++◌, ◌<◌, ◌^◌, [], codes, map, unwrap_or, IfOk, IsTrue, OnOk};
+ghost use Rattle.std.specs.Prelude.{◌≡◌, ◌++◌, ◌<◌, ◌^◌, [], Some, codes, map, unwrap_or, IfOk, IsTrue, OnOk};
 ghost use Rattle.std.specs.List.{list_any, position_from};
 ghost use Rattle.std.specs.Str.{bytes_eq};
 ghost use Rattle.std.specs.Option.{option_map, option_to_list};
-ghost use Rattle.cg_command_line.specs.Options.{are_different, asked_in, default_prefix, form_in, gate_options, has_gate_options};
+ghost use Rattle.cg_command_line.specs.Options.{are_different, asked_in, default_prefix, gate_options, has_gate_options};
 ghost use Rattle.cg_command_line.specs.Options.{has_options, is_apart, may_watch};
 ghost use Rattle.cg_command_line.specs.Options.{is_named, no_options, number_in, number_or, option_files, settings_in, sim_options};
-ghost use Rattle.cg_command_line.specs.Options.{watch_in};
+ghost use Rattle.cg_command_line.specs.Options.{stimulus_in, watch_in};
 ghost use Rattle.cg_command_line.specs.Seen.{values_of};
+ghost use Rattle.cg_limit.specs.declared.TheConstants.{MOST_ROWS};
 
 use crate::values::OptionWords;
 use cg_cell::name::Name;
+use cg_limit::MOST_ROWS;
 use cg_plan_laws::settings::Settings;
 use cg_source::stimulus::StimulusForm;
 use cg_text::number::{Number, read_number};
@@ -20,7 +22,7 @@ use std::alloc::{AllocError, Global};
 /// Which of the files that need not be given are given.
 #[derive(Clone, Copy, Debug, PartialEq, Eq)]
 pub struct Asked {
-    /// The form of the stimulus, where there is to be one.
+    /// The stimulus, where there is to be one.
     pub stimulus: Option<StimulusForm>,
     pub proof: bool,
     pub report: bool,
@@ -85,13 +87,16 @@ pub fn gate_options(
     let Some(watch) = watch(watchers, given.watch) else {
         return Ok(None);
     };
+    let Some(stimulus) = stimulus(given) else {
+        return Ok(None);
+    };
     if !is_named(given.clock) || !is_named(given.prefix) {
         return Ok(None);
     }
     if !is_named(given.test) || !is_apart(given.test, given.prefix) {
         return Ok(None);
     }
-    if !may_watch(given) {
+    if !may_watch(given, stimulus) {
         return Ok(None);
     }
     Ok(Some(Options {
@@ -100,7 +105,7 @@ pub fn gate_options(
         test: name(alloc, given.test)?,
         settings,
         watch,
-        asked: asked_for(given),
+        asked: asked_for(given, stimulus),
     }))
 }
 
@@ -148,36 +153,51 @@ pub fn has_gate_options(given: &OptionWords<'_>) -> bool
 pub fn has_options(given: &OptionWords<'_>) -> bool
     ensures { result ≡ has_options (values_of given.now) }
 {
-    given.clock.is_some() || given.watch.is_some() || given.vcd.is_some() || has_gate_options(given)
+    given.clock.is_some()
+        || given.watch.is_some()
+        || given.vcd.is_some()
+        || given.random.is_some()
+        || has_gate_options(given)
 }
 
-fn asked_for(given: &OptionWords<'_>) -> Asked
-    ensures { result ≡ asked_in (values_of given.now) }
+fn asked_for(given: &OptionWords<'_>, stimulus: Option<StimulusForm>) -> Asked
+    ensures { result ≡ asked_in (values_of given.now) stimulus }
 {
     Asked {
-        stimulus: form(given),
+        stimulus,
         proof: given.proof.is_some(),
         report: given.report.is_some(),
     }
 }
 
-/// The form of the stimulus that is asked for, if any.
-fn form(given: &OptionWords<'_>) -> Option<StimulusForm>
-    ensures { result ≡ form_in (values_of given.now).stim (values_of given.now).vcd }
+/// The stimulus that is asked for, if any; nothing where it is more than one, or a number of rows that is none.
+pub fn stimulus(given: &OptionWords<'_>) -> Option<Option<StimulusForm>>
+    ensures { result ≡ stimulus_in (values_of given.now) }
 {
-    match (given.stim, given.vcd) {
-        (_, Some(_)) => Some(StimulusForm::Dump),
-        (Some(_), None) => Some(StimulusForm::Rows),
-        (None, None) => None,
+    match (given.stim, given.vcd, given.random) {
+        (None, None, None) => Some(None),
+        (Some(_), None, None) => Some(Some(StimulusForm::Rows)),
+        (None, Some(_), None) => Some(Some(StimulusForm::Dump)),
+        (None, None, Some(count)) => random(count),
+        _ => None,
     }
 }
 
-/// Whether there is one stimulus at most, and a watcher only with a stimulus.
-fn may_watch(given: &OptionWords<'_>) -> bool
-    ensures { result ≡ may_watch (values_of given.now) }
+/// So many rows by chance, where a word says a number of rows that a stimulus may have.
+fn random(count: &str) -> Option<Option<StimulusForm>>
+    ensures { result ≡ option_map (λ n. Some (StimulusForm.Random n)) (number_in 1 MOST_ROWS count.now) }
 {
-    (given.stim.is_none() || given.vcd.is_none())
-        && (given.watch.is_none() || given.stim.is_some() || given.vcd.is_some())
+    match number_in(1, MOST_ROWS as u32, count) {
+        None => None,
+        Some(rows) => Some(Some(StimulusForm::Random(rows))),
+    }
+}
+
+/// Whether there is a watcher only with a stimulus.
+fn may_watch(given: &OptionWords<'_>, stimulus: Option<StimulusForm>) -> bool
+    ensures { result ≡ may_watch (values_of given.now) stimulus }
+{
+    given.watch.is_none() || stimulus.is_some()
 }
 
 fn settings(given: &OptionWords<'_>) -> Option<Settings>

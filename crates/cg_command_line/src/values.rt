@@ -12,6 +12,7 @@ use clap::ArgMatches;
 pub struct OptionWords<'a> {
     pub stim: Option<&'a str>,
     pub vcd: Option<&'a str>,
+    pub random: Option<&'a str>,
     pub proof: Option<&'a str>,
     pub report: Option<&'a str>,
     pub min: Option<&'a str>,
@@ -30,6 +31,7 @@ pub fn given<'a>(matches: &ArgMatches<'a>) -> OptionWords<'a>
     OptionWords {
         stim: matches.get_str("stim"),
         vcd: matches.get_str("vcd"),
+        random: matches.get_str("random"),
         proof: matches.get_str("proof"),
         report: matches.get_str("report"),
         min: matches.get_str("min"),

@@ -8,9 +8,9 @@ use Rattle.cg_limit.specs.declared.Limit.TheVariants as limits
 use Rattle.cg_limit.specs.declared.TheConstants.{MOST_ROWS}
 use Rattle.cg_netlist.specs.Circuit.{Circuit}
 use Rattle.cg_stimulus.specs.Inputs.{IsStimulus, input_names}
-use Rattle.cg_vcd.specs.Changes.{Free, Told, told}
+use Rattle.cg_vcd.specs.Changes.{Free, StepsRead, told}
 use Rattle.cg_vcd.specs.Commands.{Definitions, definitions}
-use Rattle.cg_vcd.specs.Rows.{ended, fault_or, put_bit, put_row, rise_line, rises, row_of, rows_of, rows_told, value_of}
+use Rattle.cg_vcd.specs.Rows.{ended, fault_or, put_bit, put_row, rise_line, rises, row_of, rows_of, rows_of_changes, value_of}
 use Rattle.cg_vcd.specs.Variables.{nothing_declared}
 use Rattle.cg_vcd.specs.VcdFaults.{◌>>=◌}
 use Rattle.cg_vcd.specs.VcdText.{clock_name, rows_behind, vcd_rows, wire}
@@ -74,7 +74,7 @@ module _ (inputs : List ℕ) (clock : ℕ) where
   fault_rows None found rows is = cc
   fault_rows (Some fault) found rows is = absurd (cc)
 
-  told_rows : (all : Told) (rows : List (List Bool)) → rows_told inputs clock all ≡ Ok rows → AreRows (length inputs) 0 rows
+  told_rows : (all : StepsRead) (rows : List (List Bool)) → rows_of_changes inputs clock all ≡ Ok rows → AreRows (length inputs) 0 rows
   told_rows all rows is =
       let b = bound (rows_of inputs clock 0 [] (ended all.fault (all.step ∷ all.later))) (fault_or all.fault) rows is in
       let A : List (List Bool) → Type 0 = λ rows. AreRows (length inputs) 0 rows in

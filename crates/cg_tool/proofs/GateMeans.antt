@@ -1,5 +1,5 @@
 -- What a finished run of `gate` means, from what its files come to.
-use Rattle.std.proofs.Common.{◌≡◌, ℕ, IsTrue, List, ◌++◌, Option, Some, is_some, Result, Ok, Err, refl, sym}
+use Rattle.std.proofs.Common.{◌≡◌, ℕ, Bool, IsTrue, List, ◌++◌, Option, Some, is_some, Result, Ok, Err, refl, sym}
 use Rattle.std.proofs.Common.{◌∙◌, ap, subst, None}
 use Rattle.std.specs.Prelude.{IfSome, IsOkAnd}
 use Rattle.cg_gate.specs.Gating.{where_asked}
@@ -17,9 +17,10 @@ use Rattle.cg_run.proofs.Finished.{Finishes}
 use Rattle.cg_run.proofs.Steps.{came, found_ok, held_so}
 use Rattle.cg_source.specs.Design.{design_loads}
 use Rattle.cg_source.specs.Netlist.{SaysNetlist}
-use Rattle.cg_source.specs.Stimulus.{DrivesNetlist, stimulus_found}
+use Rattle.cg_source.specs.Stimulus.{DrivesNetlist, IsDrivenBy, has_file, is_loaded, stimulus_found}
 use Rattle.cg_source.specs.declared.design.DesignFiles.{DesignFiles}
 use Rattle.cg_source.specs.declared.stimulus.StimulusForm.{StimulusForm}
+use Rattle.cg_source.specs.declared.stimulus.StimulusForm.TheVariants as forms
 use Rattle.cg_source.proofs.DesignRead.{IsRead, design_read}
 use Rattle.cg_source.proofs.NetlistTexts.{netlist_formed, netlist_says}
 use Rattle.cg_source.proofs.StimulusTexts.{stimulus_drives, stimulus_inputs}
@@ -36,17 +37,22 @@ use Rattle.cg_tool.proofs.GateReads.{found_so}
 use Rattle.cg_tool.proofs.LratMeans.{some_and}
 use Rattle.cg_tool.proofs.Standing.{asked_so, out_stands, proof_stands, report_stands}
 
--- a stimulus that is found is what its text says
-found_text : (form : StimulusForm) (held : Option (List ℕ)) (c : Circuit) (text : List ℕ) (found : Rows) → stimulus_found form c text ≡ Ok found → held ≡ Some text → IsDriven (Some form) held c (Some found)
-found_text form held c text found is loaded =
-    (stimulus_inputs form c text found is, some_and held text (λ t. DrivesNetlist form t c found.rows) loaded (stimulus_drives form c text found is))
+-- a stimulus that is found is what its text says, where it has one
+pub driven_by : (form : StimulusForm) (held : Option (List ℕ)) (c : Circuit) (text : List ℕ) (rows : List (List Bool)) → DrivesNetlist form text c rows → (IsTrue (has_file form) → held ≡ Some text) → IsDrivenBy form held c rows
+driven_by forms.Rows held c text rows drives loaded = some_and held text (λ t. DrivesNetlist forms.Rows t c rows) (loaded refl) drives
+driven_by forms.Dump held c text rows drives loaded = some_and held text (λ t. DrivesNetlist forms.Dump t c rows) (loaded refl) drives
+driven_by (forms.Random count) held c text rows drives loaded = drives
 
-driven : (asked : Option StimulusForm) (held : Option (List ℕ)) (c : Circuit) (text : List ℕ) (found : Option Rows) → stimulus_of asked c text ≡ Ok found → (IsTrue (is_some asked) → held ≡ Some text) → IsDriven asked held c found
+found_text : (form : StimulusForm) (held : Option (List ℕ)) (c : Circuit) (text : List ℕ) (found : Rows) → stimulus_found form c text ≡ Ok found → (IsTrue (has_file form) → held ≡ Some text) → IsDriven (Some form) held c (Some found)
+found_text form held c text found is loaded =
+    (stimulus_inputs form c text found is, driven_by form held c text found.rows (stimulus_drives form c text found is) loaded)
+
+driven : (asked : Option StimulusForm) (held : Option (List ℕ)) (c : Circuit) (text : List ℕ) (found : Option Rows) → stimulus_of asked c text ≡ Ok found → (IsTrue (is_loaded asked) → held ≡ Some text) → IsDriven asked held c found
 driven None held c text found is loaded = cc
 driven (Some form) held c text found is loaded =
     let r = found_ok (λ (s : Rows). Some s) (stimulus_found form c text) found is in
     let D : Option Rows → Type 0 = λ s. IsDriven (Some form) held c s in
-    subst D r.2 (found_text form held c text r.0 r.1 (loaded refl))
+    subst D r.2 (found_text form held c text r.0 r.1 loaded)
 
 ok_and : (found : Result (Option Rows) Trouble) (P : Option Rows → Type 0) → IsOkAnd found P → (stimulus : Option Rows) × (found ≡ Ok stimulus) × P stimulus
 ok_and (Ok stimulus) P h = (stimulus, refl, h)
@@ -83,7 +89,7 @@ stand_of asked names before after texts proof report proof_is report_is held apa
     }
 
 gated_of : (options : Options) (kind : Option Kind) (names : Role → List ℕ) (before after : World) (finish : Finish) (end : DesignFiles Wanted) (f : Finishes (gate_task options kind) names before after finish)
-    → IsRead gateable (wanted_by options) options.clock f.given (is_some options.asked.stimulus) end → gate_gives kind end f.output → IsGated options kind names before after finish
+    → IsRead gateable (wanted_by options) options.clock f.given (is_loaded options.asked.stimulus) end → gate_gives kind end f.output → IsGated options kind names before after finish
 gated_of options kind names before after finish end f read gives =
     let c : Circuit = read.netlist in
     let gates = gates_so options kind end c f.output read.is read.demanded gives in
@@ -115,5 +121,5 @@ gated_of options kind names before after finish end f read gives =
 
 pub gated_means : (options : Options) (kind : Option Kind) (names : Role → List ℕ) (before after : World) (finish : Finish) → Finishes (gate_task options kind) names before after finish → IsGated options kind names before after finish
 gated_means options kind names before after finish f =
-    let end = came gate_takes gate_stops (gate_gives kind) (gate_start options) (design_loads (is_some options.asked.stimulus)) f.given f.output f.comes in
-    gated_of options kind names before after finish end.0 f (design_read gateable (wanted_by options) options.clock f.given gate_stops end.0 (is_some options.asked.stimulus) end.1) end.2
+    let end = came gate_takes gate_stops (gate_gives kind) (gate_start options) (design_loads (is_loaded options.asked.stimulus)) f.given f.output f.comes in
+    gated_of options kind names before after finish end.0 f (design_read gateable (wanted_by options) options.clock f.given gate_stops end.0 (is_loaded options.asked.stimulus) end.1) end.2

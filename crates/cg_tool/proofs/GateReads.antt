@@ -14,7 +14,7 @@ use Rattle.cg_run.specs.declared.refusal.Trouble.{Trouble}
 use Rattle.cg_source.specs.Design.{design_loads, design_of, permitted}
 use Rattle.cg_source.specs.Netlist.{netlist_found}
 use Rattle.cg_source.specs.Refused.{then_found}
-use Rattle.cg_source.specs.Stimulus.{stimulus_found}
+use Rattle.cg_source.specs.Stimulus.{is_loaded, stimulus_found}
 use Rattle.cg_source.specs.declared.design.Design.{Design}
 use Rattle.cg_source.specs.declared.design.DesignFiles.{DesignFiles}
 use Rattle.cg_source.specs.declared.stimulus.StimulusForm.{StimulusForm}
@@ -112,11 +112,11 @@ asked_is_for design stimulus rows is some = go (design.demand).asked.stimulus (i
         subst F same (stimulus_is_for form design.netlist design.stimulus r.0 r.1)
 
 -- a design that was read may be gated
-pub read_may : (options : Options) (given : Given) (end : DesignFiles Wanted) → IsTrue (is_name options.prefix) → IsOkAnd (reached gate_takes unstopped (gate_start options) (design_loads (is_some options.asked.stimulus)) given) (λ found. found ≡ end)
+pub read_may : (options : Options) (given : Given) (end : DesignFiles Wanted) → IsTrue (is_name options.prefix) → IsOkAnd (reached gate_takes unstopped (gate_start options) (design_loads (is_loaded options.asked.stimulus)) given) (λ found. found ≡ end)
     → IsSomeAnd (design_of end) MayBeGated
 read_may options given end named is =
-    let read = design_read gateable (wanted_by options) options.clock given unstopped end (is_some options.asked.stimulus)
-    (found_is (reached gate_takes unstopped (gate_start options) (design_loads (is_some options.asked.stimulus)) given) end is) in
+    let read = design_read gateable (wanted_by options) options.clock given unstopped end (is_loaded options.asked.stimulus)
+    (found_is (reached gate_takes unstopped (gate_start options) (design_loads (is_loaded options.asked.stimulus)) given) end is) in
     let so = found_so end.library options.clock (wanted_by options) read.text read.netlist read.found in
     let N : Option Circuit → Type 0 = λ netlist. IsSomeAnd (design_of (record end { netlist = netlist })) MayBeGated in
     let may : N (Some read.netlist) = λ stimulus played.

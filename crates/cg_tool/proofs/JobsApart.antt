@@ -1,5 +1,5 @@
 -- The files that a job of `gate` stores have different names.
-use Rattle.std.proofs.Common.{◌≡◌, ◌≢◌, ℕ, Bool, true, false, not, IsTrue, if◌then◌else◌, List, [], ◌∷◌, ◌++◌, codes, Option}
+use Rattle.std.proofs.Common.{◌≡◌, ◌≢◌, ℕ, Bool, true, false, not, ◌||◌, IsTrue, if◌then◌else◌, List, [], ◌∷◌, ◌++◌, codes, Option}
 use Rattle.std.proofs.Common.{None, Some, is_some, refl, sym, ◌∙◌, ap, subst, append_assoc}
 use Rattle.std.specs.Prelude.{IfSome, unwrap_or}
 use Rattle.std.specs.List.{list_any}
@@ -13,9 +13,9 @@ use Rattle.cg_source.specs.declared.stimulus.StimulusForm.{StimulusForm}
 use Rattle.cg_source.specs.declared.stimulus.StimulusForm.TheVariants as forms
 use Rattle.cg_command_line.specs.CommandLine.{Values, command_line, values_in}
 use Rattle.cg_command_line.specs.Jobs.{JobWords, demo_job, gate_files, gate_job, job_in, job_of, job_of_options, job_with, job_without}
-use Rattle.cg_command_line.specs.Jobs.{lrat_job, sim_job, sim_with}
+use Rattle.cg_command_line.specs.Jobs.{lrat_job, sim_by_option, sim_job, sim_with}
 use Rattle.cg_command_line.specs.Options.{are_different, asked_in, gate_options, gate_options_with, has_options, no_options, number_in}
-use Rattle.cg_command_line.specs.Options.{option_files, settings_in, watch_in}
+use Rattle.cg_command_line.specs.Options.{option_files, settings_in, stimulus_in, watch_in}
 use Rattle.cg_command_line.specs.declared.job.Mode.{Mode}
 use Rattle.cg_command_line.specs.declared.job.Mode.TheVariants.{Demo, Gate, Lrat, Sim}
 use Rattle.cg_command_line.specs.declared.options.Asked.{Asked}
@@ -67,8 +67,8 @@ module _ (out : List ℕ) (front : List (List ℕ)) where
       let behind = different_back (out ∷ front) (p ∷ r ∷ []) different in
       differs p r [] [] (is_false (list_any (λ o. bytes_eq o p) (r ∷ [])) (and_parts (not (list_any (λ o. bytes_eq o p) (r ∷ []))) (are_different (r ∷ [])) behind).0)
 
-files_apart : (library netlist out : List ℕ) (values : Values) → IsTrue (are_different (library ∷ netlist ∷ out ∷ option_files values)) → AreApart (asked_in values) (file_of (gate_files library netlist out values))
-files_apart library netlist out values different =
+files_apart : (library netlist out : List ℕ) (values : Values) (stimulus : Option StimulusForm) → IsTrue (are_different (library ∷ netlist ∷ out ∷ option_files values)) → AreApart (asked_in values stimulus) (file_of (gate_files library netlist out values))
+files_apart library netlist out values stimulus different =
     let D : List (List ℕ) → Type 0 = λ l. IsTrue (are_different (out ∷ l)) in
     let front = option_to_list values.stim ++ option_to_list values.vcd in
     let behind = subst D (append_assoc front (option_to_list values.proof) (option_to_list values.report)) (different_back (library ∷ netlist ∷ []) (out ∷ option_files values) different) in
@@ -79,13 +79,15 @@ files_apart library netlist out values different =
     }
 
 -- what a job was made of
-asked_so : (values : Values) (settings : Option Settings) (watch : Option (Option ℕ)) (options : Options) → gate_options_with values settings watch ≡ Some options → options.asked ≡ asked_in values
-asked_so values None watch options is = absurd (cc)
-asked_so values (Some settings) None options is = absurd (cc)
-asked_so values (Some settings) (Some watch) options is = go _ is
+asked_so : (values : Values) (settings : Option Settings) (watch : Option (Option ℕ)) (stimulus : Option (Option StimulusForm)) (options : Options) → gate_options_with values settings watch stimulus ≡ Some options
+    → (form : Option StimulusForm) × (options.asked ≡ asked_in values form)
+asked_so values None watch stimulus options is = absurd (cc)
+asked_so values (Some settings) None stimulus options is = absurd (cc)
+asked_so values (Some settings) (Some watch) None options is = absurd (cc)
+asked_so values (Some settings) (Some watch) (Some stimulus) options is = (stimulus, go _ is)
   where
-    go : (taken : Bool) → (if taken then Some (record { clock = values.clock; prefix = unwrap_or values.prefix (codes "cg_"); test = values.test; settings = settings; watch = watch; asked = asked_in values }) else None) ≡ Some options → options.asked ≡ asked_in values
-    go true is = let same : record { clock = values.clock; prefix = unwrap_or values.prefix (codes "cg_"); test = values.test; settings = settings; watch = watch; asked = asked_in values } ≡ options = cc in
+    go : (taken : Bool) → (if taken then Some (record { clock = values.clock; prefix = unwrap_or values.prefix (codes "cg_"); test = values.test; settings = settings; watch = watch; asked = asked_in values stimulus }) else None) ≡ Some options → options.asked ≡ asked_in values stimulus
+    go true is = let same : record { clock = values.clock; prefix = unwrap_or values.prefix (codes "cg_"); test = values.test; settings = settings; watch = watch; asked = asked_in values stimulus } ≡ options = cc in
         sym (ap (λ (o : Options). o.asked) same)
     go false is = absurd (cc)
 
@@ -100,10 +102,10 @@ gate_apart watchers (library ∷ netlist ∷ out ∷ []) values job is = go (are
     go false different is = absurd (cc)
     go true different is =
         let made = mapped_at (λ (options : Options). record { mode = Gate; files = gate_files library netlist out values; options = options }) (gate_options watchers values) job is in
-        let asked = asked_so values (settings_in values) (watch_in watchers values.watch) made.0 made.1 in
+        let asked = asked_so values (settings_in values) (watch_in watchers values.watch) (stimulus_in values) made.0 made.1 in
         let A : Asked → Type 0 = λ a. AreApart a (file_of (gate_files library netlist out values)) in
         let J : JobWords → Type 0 = λ j. AreApart j.options.asked (file_of j.files) in
-        subst J made.2 (subst A (sym asked) (files_apart library netlist out values different))
+        subst J made.2 (subst A (sym asked.1) (files_apart library netlist out values asked.0 different))
 
 -- jobs of other modes
 mode_so : (mode : Mode) (files : Files) (options : Option Options) (job : JobWords) → job_of_options mode files options ≡ Some job → job.mode ≡ mode
@@ -118,22 +120,28 @@ unless_mode : (taken : Bool) (job : Option JobWords) (found : JobWords) → (if 
 unless_mode true job found is = absurd (cc)
 unless_mode false job found is = is
 
-sim_with_mode : (watchers : List (List ℕ)) (form : StimulusForm) (library netlist stimulus : List ℕ) (values : Values) (job : JobWords) → sim_with watchers form library netlist stimulus values ≡ Some job → job.mode ≡ Gate → ⊥
+sim_with_mode : (watchers : List (List ℕ)) (form : StimulusForm) (library netlist : List ℕ) (stimulus : Option (List ℕ)) (values : Values) (job : JobWords) → sim_with watchers form library netlist stimulus values ≡ Some job → job.mode ≡ Gate → ⊥
 sim_with_mode watchers form library netlist stimulus values job is gate =
-    let sim : job.mode ≡ Sim form = mode_if (are_different (library ∷ netlist ∷ stimulus ∷ [])) (Sim form) _ _ job is in
+    let sim : job.mode ≡ Sim form = mode_if (are_different (library ∷ netlist ∷ option_to_list stimulus)) (Sim form) _ _ job is in
     let both : Sim form ≡ Gate = sym sim ∙ gate in cc
 
-dump_mode : (watchers : List (List ℕ)) (library netlist : List ℕ) (values : Values) (job : JobWords) (dump : Option (List ℕ)) → option_and_then (λ dump. sim_with watchers forms.Dump library netlist dump values) dump ≡ Some job → job.mode ≡ Gate → ⊥
-dump_mode watchers library netlist values job None is gate = cc
-dump_mode watchers library netlist values job (Some dump) is gate = sim_with_mode watchers forms.Dump library netlist dump values job is gate
+option_mode : (watchers : List (List ℕ)) (library netlist : List ℕ) (values : Values) (job : JobWords) (stimulus : Option StimulusForm) → sim_by_option watchers library netlist values stimulus ≡ Some job → job.mode ≡ Gate → ⊥
+option_mode watchers library netlist values job None is gate = cc
+option_mode watchers library netlist values job (Some forms.Rows) is gate = cc
+option_mode watchers library netlist values job (Some forms.Dump) is gate = sim_with_mode watchers forms.Dump library netlist values.vcd values job is gate
+option_mode watchers library netlist values job (Some (forms.Random n)) is gate = sim_with_mode watchers (forms.Random n) library netlist None values job is gate
+
+asked_mode : (watchers : List (List ℕ)) (library netlist : List ℕ) (values : Values) (job : JobWords) (asked : Option (Option StimulusForm)) → option_and_then (sim_by_option watchers library netlist values) asked ≡ Some job → job.mode ≡ Gate → ⊥
+asked_mode watchers library netlist values job None is gate = cc
+asked_mode watchers library netlist values job (Some stimulus) is gate = option_mode watchers library netlist values job stimulus is gate
 
 sim_mode : (watchers files : List (List ℕ)) (values : Values) (job : JobWords) → sim_job watchers files values ≡ Some job → job.mode ≡ Gate → ⊥
 sim_mode watchers [] values job is gate = cc
 sim_mode watchers (a ∷ []) values job is gate = cc
 sim_mode watchers (a ∷ b ∷ c ∷ d ∷ files) values job is gate = cc
-sim_mode watchers (a ∷ b ∷ []) values job is gate = dump_mode watchers a b values job values.vcd is gate
+sim_mode watchers (a ∷ b ∷ []) values job is gate = asked_mode watchers a b values job (stimulus_in values) is gate
 sim_mode watchers (a ∷ b ∷ c ∷ []) values job is gate =
-    sim_with_mode watchers forms.Rows a b c values job (unless_mode (is_some values.vcd) (sim_with watchers forms.Rows a b c values) job is) gate
+    sim_with_mode watchers forms.Rows a b (Some c) values job (unless_mode (is_some values.vcd || is_some values.random) (sim_with watchers forms.Rows a b (Some c) values) job is) gate
 
 lrat_mode : (files : List (List ℕ)) (values : Values) (job : JobWords) → lrat_job files values ≡ Some job → job.mode ≡ Lrat
 lrat_mode [] values job is = absurd (cc)

@@ -1,5 +1,5 @@
 -- What a finished run of `sim` means, from what its files come to.
-use Rattle.std.proofs.Common.{◌≡◌, ℕ, Bool, true, List, [], ◌++◌, Option, Some, Result, Ok, Err, refl, sym, ◌∙◌, ap, subst}
+use Rattle.std.proofs.Common.{◌≡◌, ℕ, Bool, List, [], ◌++◌, Option, Some, Result, Ok, Err, refl, sym, ◌∙◌, ap, subst}
 use Rattle.std.proofs.Common.{append-nil}
 use Rattle.std.specs.Prelude.{IsOkAnd, IsSomeAnd}
 use Rattle.cg_cell.specs.Cell.{CellData}
@@ -23,7 +23,7 @@ use Rattle.cg_stimulus.proofs.Playing.{start_is, wave_is}
 use Rattle.cg_source.specs.Design.{any_netlist, design_loads, permits_any}
 use Rattle.cg_source.specs.Netlist.{SaysNetlist, netlist_found}
 use Rattle.cg_source.specs.Refused.{then_found}
-use Rattle.cg_source.specs.Stimulus.{DrivesNetlist, stimulus_found}
+use Rattle.cg_source.specs.Stimulus.{IsDrivenBy, has_file, stimulus_found}
 use Rattle.cg_source.specs.declared.design.AnyNetlist.{AnyNetlist}
 use Rattle.cg_source.specs.declared.design.DesignFiles.{DesignFiles}
 use Rattle.cg_source.specs.declared.stimulus.StimulusForm.{StimulusForm}
@@ -33,11 +33,12 @@ use Rattle.cg_source.proofs.StimulusTexts.{drives_rows, stimulus_drives, stimulu
 use Rattle.cg_source.proofs.Texts.{library_says}
 use Rattle.cg_tool.specs.Sim.{IsSimulated, PlaysAs, sim_gives, sim_start, sim_stops, sim_takes, sim_task}
 use Rattle.cg_tool.specs.Watching.{Kind}
+use Rattle.cg_tool.proofs.GateMeans.{driven_by}
 use Rattle.cg_tool.proofs.LratMeans.{some_and}
 
 simulated_of : (form : StimulusForm) (clock : Option NetName) (kind : Option Kind) (names : Role → List ℕ) (before after : World) (finish : Finish) (library : List CellData) (c : Circuit) (rows : List (List Bool)) (output : Output)
     → IsSomeAnd (before.held (names roles.Library)) (λ lib. LibText lib library) → IsSomeAnd (before.held (names roles.Netlist)) (λ t. SaysNetlist t library clock c) → IsWellFormed c
-    → IsSomeAnd (before.held (names roles.Stimulus)) (λ t. DrivesNetlist form t c rows) → IsStimulus (record { inputs = input_names c; rows = rows })
+    → IsDrivenBy form (before.held (names roles.Stimulus)) c rows → IsStimulus (record { inputs = input_names c; rows = rows })
     → PlaysAs kind c (record { inputs = input_names c; rows = rows }) output → output.finish ≡ finish → Written names output before after → IsSimulated form clock kind names before after finish
 simulated_of form clock kind names before after finish library c rows output cells says formed drives good plays ends written =
     let own : IsFor c (record { inputs = input_names c; rows = rows }) = ([], sym (append-nil (input_names c))) in
@@ -77,8 +78,8 @@ permitted_ok (Err trouble) c is = absurd (cc)
 
 pub simulated_means : (form : StimulusForm) (clock : Option NetName) (kind : Option Kind) (names : Role → List ℕ) (before after : World) (finish : Finish) → Finishes (sim_task form clock kind) names before after finish → IsSimulated form clock kind names before after finish
 simulated_means form clock kind names before after finish f =
-    let end = came sim_takes (sim_stops form) (sim_gives form kind) (sim_start clock) (design_loads true) f.given f.output f.comes in
-    let read = design_read permits_any any_netlist clock f.given (sim_stops form) end.0 true end.1 in
+    let end = came sim_takes (sim_stops form) (sim_gives form kind) (sim_start clock) (design_loads (has_file form)) f.given f.output f.comes in
+    let read = design_read permits_any any_netlist clock f.given (sim_stops form) end.0 (has_file form) end.1 in
     let library = (end.0).library in
     let text = (end.0).stimulus in
     let c : Circuit = read.netlist in
@@ -94,6 +95,6 @@ simulated_means form clock kind names before after finish f =
     (library_says read.library_text library read.library_is))
     (some_and (before.held (names roles.Netlist)) read.text (λ t. SaysNetlist t library clock c) (held_so (before.held (names roles.Netlist)) (f.given roles.Netlist) read.text (f.told roles.Netlist) read.loaded) says)
     (netlist_formed library clock read.text c found)
-    (some_and (before.held (names roles.Stimulus)) text (λ t. DrivesNetlist form t c rows) (held_so (before.held (names roles.Stimulus)) (f.given roles.Stimulus) text (f.told roles.Stimulus) (read.drives refl)) drives)
+    (driven_by form (before.held (names roles.Stimulus)) c text rows drives (λ yes. held_so (before.held (names roles.Stimulus)) (f.given roles.Stimulus) text (f.told roles.Stimulus) (read.drives yes)))
     (drives_rows form c text rows drives)
     (subst P same plays.2) f.ends f.written

@@ -1,5 +1,5 @@
 -- What `gate` makes of a library, a netlist and it may be a stimulus.
-use Rattle.std.specs.Prelude.{◌≡◌, ℕ, List, [], ◌∷◌, ◌++◌, Option, None, Some, is_some, Result, Ok, Err, IsOkAnd, IsSomeAnd}
+use Rattle.std.specs.Prelude.{◌≡◌, ℕ, List, [], ◌∷◌, ◌++◌, Option, None, Some, Result, Ok, Err, IsOkAnd, IsSomeAnd}
 use Rattle.std.specs.Option.{option_and_then, option_map}
 use Rattle.cg_gate.specs.Gating.{GivesGated}
 use Rattle.cg_gate.specs.Headline.{Headline}
@@ -15,7 +15,7 @@ use Rattle.cg_run.specs.declared.refusal.Trouble.TheVariants as troubles
 use Rattle.cg_run.specs.declared.role.Role.{Role}
 use Rattle.cg_run.specs.declared.role.Role.TheVariants as roles
 use Rattle.cg_source.specs.Design.{design_loads, design_of, design_start, design_takes}
-use Rattle.cg_source.specs.Stimulus.{stimulus_found}
+use Rattle.cg_source.specs.Stimulus.{is_loaded, stimulus_found}
 use Rattle.cg_source.specs.declared.design.Design.{Design}
 use Rattle.cg_source.specs.declared.design.DesignFiles.{DesignFiles}
 use Rattle.cg_source.specs.declared.stimulus.StimulusForm.{StimulusForm}
@@ -98,4 +98,4 @@ gate_start options = design_start (wanted_by options) options.clock
 -- what a run of `gate` does
 abbrev pub gate_task : Options → Option Kind → Task
 gate_task options kind =
-    task_of gate_takes gate_stops (gate_gives kind) (gate_start options) (design_loads (is_some options.asked.stimulus))
+    task_of gate_takes gate_stops (gate_gives kind) (gate_start options) (design_loads (is_loaded options.asked.stimulus))

@@ -15,7 +15,7 @@ use Rattle.cg_run.specs.declared.role.Role.{Role}
 use Rattle.cg_run.specs.declared.role.Role.TheVariants as roles
 use Rattle.cg_shelf.specs.World.{World}
 use Rattle.cg_source.specs.Netlist.{SaysNetlist}
-use Rattle.cg_source.specs.Stimulus.{DrivesNetlist}
+use Rattle.cg_source.specs.Stimulus.{IsDrivenBy}
 use Rattle.cg_source.specs.declared.stimulus.StimulusForm.{StimulusForm}
 use Rattle.cg_stimulus.specs.Inputs.{Rows, input_names}
 use Rattle.cg_command_line.specs.declared.options.Asked.{Asked}
@@ -24,11 +24,10 @@ use Rattle.cg_tool.specs.Gate.{gate_output}
 use Rattle.cg_tool.specs.Wanted.{request_by, wanted_by}
 use Rattle.cg_tool.specs.Watching.{Kind}
 
--- the stimulus that is asked for is the one that the text, of the form that is asked for, says for the netlist
+-- the stimulus that is asked for is the one of the form that is asked for, as the text says it where the form has one
 abbrev pub IsDriven : Option StimulusForm → Option (List ℕ) → Circuit → Option Rows → Type 0
 IsDriven (Some form) held c None = ⊥
-IsDriven (Some form) held c (Some stimulus) =
-    (stimulus.inputs ≡ input_names c) × IsSomeAnd held (λ text. DrivesNetlist form text c stimulus.rows)
+IsDriven (Some form) held c (Some stimulus) = (stimulus.inputs ≡ input_names c) × IsDrivenBy form held c stimulus.rows
 IsDriven None held c stimulus = stimulus ≡ None
 
 -- the files that are stored have different names
@@ -45,7 +44,8 @@ pub record Stand (names : Role → List ℕ) (texts : Texts) (after : World) : T
 
 -- A netlist was gated: the bytes under LIB are a text that stands for a library, and those under NETLIST say
 -- a well-formed netlist with this library and the clock of the words, of which no gating cell is refused and in which no net's name
--- begins with the prefix. Those under the stimulus's name, where one is asked for, drive its data inputs with rows. What is
+-- begins with the prefix. The stimulus, where one is asked for, drives its data inputs with rows, by the bytes under its name where
+-- it has a file. What is
 -- stored and said are the texts that gating gives of it, and they mean what the headline says. Files of different names each hold
 -- their text.
 pub record IsGated (options : Options) (kind : Option Kind) (names : Role → List ℕ) (before after : World)

@@ -1,5 +1,5 @@
 -- What `sim` makes of a library, a netlist and a stimulus, and what that means.
-use Rattle.std.specs.Prelude.{◌≡◌, ℕ, Bool, true, List, [], ◌++◌, Option, None, Some, Result, Ok, Err, IsOkAnd, IsSomeAnd}
+use Rattle.std.specs.Prelude.{◌≡◌, ℕ, Bool, List, [], ◌++◌, Option, None, Some, Result, Ok, Err, IsOkAnd, IsSomeAnd}
 use Rattle.std.specs.Option.{option_and_then}
 use Rattle.cg_cell.specs.Cell.{CellData}
 use Rattle.cg_liberty.specs.LibText.{LibText}
@@ -19,7 +19,7 @@ use Rattle.cg_run.specs.declared.role.Role.TheVariants as roles
 use Rattle.cg_shelf.specs.World.{World}
 use Rattle.cg_source.specs.Design.{any_netlist, design_loads, design_of, design_start, design_takes, permits_any}
 use Rattle.cg_source.specs.Netlist.{SaysNetlist}
-use Rattle.cg_source.specs.Stimulus.{DrivesNetlist, stimulus_found}
+use Rattle.cg_source.specs.Stimulus.{IsDrivenBy, has_file, stimulus_found}
 use Rattle.cg_source.specs.declared.design.AnyNetlist.{AnyNetlist}
 use Rattle.cg_source.specs.declared.design.Design.{Design}
 use Rattle.cg_source.specs.declared.design.DesignFiles.{DesignFiles}
@@ -74,11 +74,13 @@ sim_start clock = design_start any_netlist clock
 
 -- what a run of `sim` does, with a stimulus of this form
 abbrev pub sim_task : StimulusForm → Option NetName → Option Kind → Task
-sim_task form clock kind = task_of sim_takes (sim_stops form) (sim_gives form kind) (sim_start clock) (design_loads true)
+sim_task form clock kind =
+    task_of sim_takes (sim_stops form) (sim_gives form kind) (sim_start clock) (design_loads (has_file form))
 
 -- A stimulus was played: the bytes under LIB are a text that stands for a library, those under NETLIST say
--- a well-formed netlist with this library and the clock of the words, and those under the stimulus's name,
--- which are a text of this form, drive its data inputs with these rows. There is one history on which these rows are played, and what is said is its lines. Nothing is stored.
+-- a well-formed netlist with this library and the clock of the words, and the stimulus of this form, whose text, where it has one, is
+-- under the stimulus's name, drives its data inputs with these rows. There is one history on which these rows are played, and what
+-- is said is its lines. Nothing is stored.
 pub record IsSimulated (form : StimulusForm) (clock : Option NetName) (kind : Option Kind) (names : Role → List ℕ)
     (before after : World) (finish : Finish) : Type 0 where
   pub library : List CellData
@@ -87,7 +89,7 @@ pub record IsSimulated (form : StimulusForm) (clock : Option NetName) (kind : Op
   pub history : List Moment
   pub cells : IsSomeAnd (before.held (names roles.Library)) (λ text. LibText text library)
   pub says : IsSomeAnd (before.held (names roles.Netlist)) (λ text. SaysNetlist text library clock netlist)
-  pub drives : IsSomeAnd (before.held (names roles.Stimulus)) (λ text. DrivesNetlist form text netlist rows)
+  pub drives : IsDrivenBy form (before.held (names roles.Stimulus)) netlist rows
   pub well_formed : IsWellFormed netlist
   pub played : IsPlayed netlist rows history
   pub no_other : (other : List Moment) → IsPlayed netlist rows other → other ≡ history

@@ -1,17 +1,18 @@
 //! The mode `gate`: a netlist is read, its clock is gated, and it is written.
 
-ghost use Rattle.std.specs.Prelude.{◌≡◌, ◌++◌, IfErr, IfOk, IsSomeAnd, IsTrue, None, OnOk, is_some};
+ghost use Rattle.std.specs.Prelude.{◌≡◌, ◌++◌, IfErr, IfOk, IsSomeAnd, IsTrue, None, OnOk};
 ghost use Rattle.std.specs.Option.{option_map};
 ghost use Rattle.cg_gate.specs.Gating.{GivesGated};
 ghost use Rattle.cg_gate.specs.Headline.{Headline};
 ghost use Rattle.cg_gate.specs.Request.{MayGate, stops_at};
-ghost use Rattle.cg_plan_laws.specs.Told.{PlanMayFail};
+ghost use Rattle.cg_plan_laws.specs.Reported.{PlanMayFail};
 ghost use Rattle.cg_run.specs.Names.{name_of};
 ghost use Rattle.cg_run.specs.Promise.{FinishBy};
 ghost use Rattle.cg_run.specs.Reads.{Gave, Reads};
 ghost use Rattle.cg_run.specs.Run.{Runs};
 ghost use Rattle.cg_run.specs.Verdict.{Answers, Concludes};
 ghost use Rattle.cg_source.specs.Design.{design_loads, design_of};
+ghost use Rattle.cg_source.specs.Stimulus.{is_loaded};
 ghost use Rattle.cg_tool.specs.Gate.{GatesAs, MayBeGated, design_gives, design_stops, gate_gives, gate_output, gate_start, gate_stops};
 ghost use Rattle.cg_tool.specs.Gate.{gate_takes, gate_task, stimulus_asked, text_for};
 ghost use Rattle.cg_tool.specs.Gated.{IsGated};
@@ -29,7 +30,7 @@ use cg_report::watcher::Watcher;
 use cg_run::{Finish, Names, Output, Refusal, Role, Status, Text, Trouble, collect, put_out};
 use cg_shelf::Shelf;
 use cg_source::design::{Design, DesignFiles, design_files};
-use cg_source::stimulus::take_stimulus;
+use cg_source::stimulus::{is_loaded, take_stimulus};
 use cg_stimulus::stimulus::Stimulus;
 use std::alloc::{AllocError, Global};
 
@@ -64,10 +65,10 @@ fn read<S: Shelf>(
     progress: &mut dyn Progress,
 ) -> Result<Output, Refusal>
     ensures { Reads (Gave S.gives) gate_takes gate_stops (gate_gives (option_map (λ watcher. says watcher) watcher)) (name_of names.now) (gate_start options)
-        (design_loads (is_some options.asked.stimulus)) (S.world shelf.old) (S.world shelf.new) result }
+        (design_loads (is_loaded options.asked.stimulus)) (S.world shelf.old) (S.world shelf.new) result }
 {
     let _ = options.prefix.bytes();
-    let files = design_files(options.asked.stimulus.is_some());
+    let files = design_files(is_loaded(options.asked.stimulus));
     let found = collect(alloc, shelf, names, files, start(alloc, options))?;
     Ok(finish(alloc, found, watcher, progress)?)
 }

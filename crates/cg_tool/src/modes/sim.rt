@@ -1,6 +1,6 @@
 //! The mode `sim`: a stimulus is played on a netlist.
 
-ghost use Rattle.std.specs.Prelude.{IfOk, IsSome, IsTrue, true};
+ghost use Rattle.std.specs.Prelude.{IfOk, IsSome, IsTrue};
 ghost use Rattle.std.specs.Option.{option_map};
 ghost use Rattle.cg_run.specs.Names.{name_of};
 ghost use Rattle.cg_run.specs.Promise.{FinishBy};
@@ -8,6 +8,7 @@ ghost use Rattle.cg_run.specs.Reads.{Gave, Reads};
 ghost use Rattle.cg_run.specs.Run.{Runs};
 ghost use Rattle.cg_run.specs.Verdict.{Concludes};
 ghost use Rattle.cg_source.specs.Design.{design_loads};
+ghost use Rattle.cg_source.specs.Stimulus.{has_file};
 ghost use Rattle.cg_stimulus.specs.Inputs.{IsFor};
 ghost use Rattle.cg_tool.specs.Sim.{IsSimulated, SaysPlayed, play_gives, play_stops, sim_gives, sim_start, sim_stops, sim_takes, sim_task};
 
@@ -54,10 +55,10 @@ fn read<S: Shelf>(
     watcher: Option<Box<dyn Watcher>>,
 ) -> Result<Output, Refusal>
     ensures { Reads (Gave S.gives) sim_takes (sim_stops form) (sim_gives form (option_map (λ watcher. says watcher) watcher)) (name_of names.now) (sim_start clock)
-        (design_loads true) (S.world shelf.old) (S.world shelf.new) result }
+        (design_loads (has_file form)) (S.world shelf.old) (S.world shelf.new) result }
 {
     let start = DesignFiles::start(alloc, AnyNetlist, clock);
-    let found = collect(alloc, shelf, names, design_files(true), start)?;
+    let found = collect(alloc, shelf, names, design_files(form.has_file()), start)?;
     Ok(finish(alloc, form, found, watcher)?)
 }
 

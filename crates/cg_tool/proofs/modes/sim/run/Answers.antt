@@ -1,4 +1,4 @@
-use Rattle.std.proofs.Common.{true, List, Option}
+use Rattle.std.proofs.Common.{List, Option}
 use Rattle.std.specs.Option.{option_map}
 use Rattle.cg_run.specs.declared.role.Role.{Role}
 use Rattle.cg_run.specs.Names.{name_of}
@@ -7,6 +7,7 @@ use Rattle.cg_run.specs.Run.{Runs}
 use Rattle.cg_run.proofs.Finished.{Finishes, finish_map, finished_so}
 use Rattle.cg_run.proofs.Halves.{runs_of_halves}
 use Rattle.cg_run.proofs.Voice.{ended}
+use Rattle.cg_source.specs.Stimulus.{has_file}
 use Rattle.cg_source.specs.Design.{design_loads}
 use Rattle.cg_tool.specs.Sim.{IsSimulated, sim_gives, sim_start, sim_stops, sim_takes, sim_task}
 use Rattle.cg_tool.specs.Watching.{Kind}
@@ -18,7 +19,7 @@ returns g c =
     let kind : Option Kind = option_map (λ w. (goal.Watcher-dyn g (w.vtable, w.value)).says w.value) c.args.watcher in
     let gave = Gave g.S.Shelf.gives in
     let names = name_of c.args.names.now in
-    let files : List Role = design_loads true in
+    let files : List Role = design_loads (has_file c.args.form) in
     let before = g.S.Shelf.world c.args.shelf.now in
     let middle = g.S.Shelf.world c.read-found.new.shelf in
     let after = g.S.Shelf.world c.put_out.new.shelf in

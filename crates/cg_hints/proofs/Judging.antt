@@ -1,0 +1,171 @@
+-- What comes of a hint step by step.
+use Rattle.std.proofs.Common.{◌≡◌, ℕ, zero, suc, ◌<◌, Bool, true, false, not, cond, if◌then◌else◌, is_some, List, [], ◌∷◌, ◌++◌, ◌+◌, map, take, slice_get, unwrap_or}
+use Rattle.std.proofs.Common.{Option, None, Some, Result, Ok, Err, ◌⊎◌, inl, inr, refl, sym, ◌∙◌, ap, subst, arith}
+use Rattle.std.specs.List.{find}
+use Rattle.std.specs.Option.{option_map, option_or}
+use Rattle.cg_cell.specs.Cell.{CellData}
+use Rattle.cg_cell.specs.declared.fit.FitKind.{FitKind}
+use Rattle.cg_machine.specs.Machine.{IsMachine, MachineData, enable_of}
+use Rattle.cg_net.specs.NetSets.{is_in}
+use Rattle.cg_net.proofs.Members.{member_at}
+use Rattle.cg_netlist.specs.declared.fault.AddFault.{AddFault}
+use Rattle.cg_netlist.specs.declared.fault.AddFault.TheVariants.{Limit, NoMemory}
+use Rattle.cg_limit.specs.declared.Limit.{Limit as AnyLimit}
+use Rattle.cg_stage_laws.specs.Needs.{missing}
+use Rattle.cg_hint_laws.specs.Answers.{AreAppended, IsAnswer, RegisterClaim, IsBacked, MayFail, claims_for, register_claims, without_bits}
+use Rattle.cg_hint_laws.specs.Effects.{and_then, effect}
+use Rattle.cg_hint_laws.specs.Hints.{Fits}
+use Rattle.cg_hint_laws.specs.Needs.{needs}
+use Rattle.cg_hint_laws.specs.Trying.{Answer, after_outcome, all_claims, claim_holds, first_large, first_refuted, first_wide, hold_claims, is_inserted}
+use Rattle.cg_hint_laws.specs.Trying.{machine_or, never_idle, question_of, tried}
+use Rattle.cg_hint_laws.specs.declared.certificate.HintCertificate.{HintCertificate}
+use Rattle.cg_hint_laws.specs.declared.hint.Hint.{Hint}
+use Rattle.cg_hint_laws.specs.declared.outcome.HintClaim.{HintClaim}
+use Rattle.cg_hint_laws.specs.declared.outcome.HintClaim.TheVariants.{Hold, Idle}
+use Rattle.cg_hint_laws.specs.declared.outcome.HintOutcome.{HintOutcome}
+use Rattle.cg_hint_laws.specs.declared.outcome.HintOutcome.TheVariants.{Inserted, NeverIdle, NoCell, Refuted, Taken, Wide}
+use Rattle.cg_hint_laws.proofs.Goals.{hold_asked, idle_asked}
+use Rattle.cg_hint_laws.proofs.HintSafe.{registers_below}
+use Rattle.cg_hint_laws.proofs.Listed.{at_mapped, mapped_at}
+use Rattle.cg_hints.proofs.Appending.{appended_none}
+use Rattle.cg_hints.specs.inner.Deciding.{IsIdleDecided, IsRefuting}
+use Rattle.cg_hints.specs.inner.Judging.{IsJudged, Pushes, by_claims, decided, early_end, inserted}
+use Rattle.cg_unroll_cycles.specs.Asking.{AsksThere}
+
+-- a fault is want of memory, or what was to be answered
+pub may_fail : {A : Type 0} (wanted : Result A AddFault) (fault : AddFault) → (fault ≡ NoMemory) ⊎ (wanted ≡ Err fault) → MayFail wanted fault
+may_fail wanted NoMemory is = tt
+may_fail wanted (Limit limit) (inl none) = absurd (cc)
+may_fail wanted (Limit limit) (inr is) = is
+
+pub fail_same : {A : Type 0} (r s : Result A AddFault) (fault : AddFault) → s ≡ r → MayFail r fault → MayFail s fault
+fail_same r s NoMemory same may = tt
+fail_same r s (Limit limit) same may = same ∙ may
+
+-- a limit that the effect passes is what comes of the hint
+pub effect_fails : (m : MachineData) (h : Hint) (fault : AddFault) → MayFail (effect m h) fault → MayFail (inserted m h) fault
+effect_fails m h NoMemory may = tt
+effect_fails m h (Limit limit) may = ap (λ r. and_then r (λ n. Ok Inserted)) may
+
+pub effect_done : (m n : MachineData) (h : Hint) → effect m h ≡ Ok n → inserted m h ≡ Ok Inserted
+effect_done m n h is = ap (λ r. and_then r (λ n. Ok Inserted)) is
+
+pub machine_done : (m n : MachineData) (h : Hint) → effect m h ≡ Ok n → n ≡ after_outcome m h Inserted
+machine_done m n h is = sym (ap (machine_or m) is)
+
+-- an outcome that is not Inserted
+module _ (m : MachineData) (h : Hint) (outcome : HintOutcome) (ends : is_inserted outcome ≡ false) where
+  pub machine_stays : m ≡ after_outcome m h outcome
+  machine_stays = sym (ap (λ b. if b then machine_or m (effect m h) else m) ends)
+
+  pub pushes_none : (number : ℕ) (before after : List HintCertificate) → Pushes m number h before after outcome
+  pushes_none number before after = go outcome ends
+    where
+      go : (o : HintOutcome) → is_inserted o ≡ false → Pushes m number h before after o
+      go Inserted is = absurd (cc)
+      go (Taken r) is = tt
+      go (NoCell kind) is = tt
+      go (Wide claim n) is = tt
+      go NeverIdle is = tt
+      go (Refuted claim bits) is = tt
+
+  pub claims_none : (number : ℕ) (before after : List HintCertificate) → after ≡ before → AreAppended (claims_for number m h outcome) before after
+  claims_none number before after same = subst (λ (b : Bool). AreAppended (if b then register_claims number m h else []) before after) (sym ends) (appended_none before after same)
+
+-- an inserted one
+pub claims_all : (m : MachineData) (h : Hint) (outcome : HintOutcome) (number : ℕ) (before after : List HintCertificate) → is_inserted outcome ≡ true → Pushes m number h before after outcome
+    → AreAppended (claims_for number m h outcome) before after
+claims_all m h Inserted number before after is pushes = pushes
+claims_all m h (Taken r) number before after is pushes = absurd (cc)
+claims_all m h (NoCell kind) number before after is pushes = absurd (cc)
+claims_all m h (Wide claim n) number before after is pushes = absurd (cc)
+claims_all m h NeverIdle number before after is pushes = absurd (cc)
+claims_all m h (Refuted claim bits) number before after is pushes = absurd (cc)
+
+-- a hint that ends by its registers and cells alone
+module _ (library : List CellData) (width : ℕ) (m : MachineData) (h : Hint) where
+  abbrev later : Option Answer
+  later = option_or (first_wide m width h) (option_or (first_large m h) (option_or (never_idle m h) (first_refuted m h)))
+
+  abbrev tried_by : Option ℕ → Option FitKind → Answer
+  tried_by taken lacked = unwrap_or (option_or (option_map (λ r. Ok (Taken r)) taken) (option_or (option_map (λ kind. Ok (NoCell kind)) lacked) later)) (inserted m h)
+
+  abbrev ended_by : Option ℕ → Option FitKind → Option HintOutcome
+  ended_by taken lacked = option_or (option_map Taken taken) (option_map NoCell lacked)
+
+  early_by : (taken : Option ℕ) (lacked : Option FitKind) (outcome : HintOutcome) → ended_by taken lacked ≡ Some outcome → IsJudged m h (tried_by taken lacked) (Some outcome)
+  early_by (Some r) lacked outcome is = let same : Taken r ≡ outcome = cc in subst (λ (o : HintOutcome). IsJudged m h (Ok (Taken r)) (Some o)) same ((refl, tt), refl)
+  early_by None (Some kind) outcome is = let same : NoCell kind ≡ outcome = cc in subst (λ (o : HintOutcome). IsJudged m h (Ok (NoCell kind)) (Some o)) same ((refl, tt), refl)
+  early_by None None outcome is = absurd (cc)
+
+  late_by : (taken : Option ℕ) (lacked : Option FitKind) → ended_by taken lacked ≡ None → tried_by taken lacked ≡ by_claims width m h
+  late_by (Some r) lacked is = absurd (cc)
+  late_by None (Some kind) is = absurd (cc)
+  late_by None None is = refl
+
+  abbrev taken_first : Option ℕ
+  taken_first = find (λ r. is_some (enable_of m r)) h.regs
+
+  pub early_ends : (outcome : HintOutcome) → early_end library m h ≡ Some outcome → IsJudged m h (tried library width m h) (Some outcome)
+  early_ends outcome is = early_by taken_first (missing library (needs h)) outcome is
+
+  pub early_none : early_end library m h ≡ None → tried library width m h ≡ by_claims width m h
+  early_none is = late_by taken_first (missing library (needs h)) is
+
+-- the claim of a register
+abbrev pub register_claim : MachineData → Hint → ℕ → ℕ → RegisterClaim
+register_claim m h number r = record { machine = m; hint = h; number = number; register = r }
+
+-- one item more of a list that is mapped
+pub take_at : {S T : Type 0} (f : S → T) (xs : List S) (i : ℕ) (x : S) → slice_get xs i ≡ Some x → map f (take (i + 1) xs) ≡ map f (take i xs) ++ f x ∷ []
+take_at {S = S} f xs i x at = let e : i + 1 ≡ suc i = omega arith in ap (λ n. map f (take n xs)) e ∙ go xs i at
+  where
+    go : (ys : List S) (k : ℕ) → slice_get ys k ≡ Some x → map f (take (suc k) ys) ≡ map f (take k ys) ++ f x ∷ []
+    go [] k is = absurd (cc)
+    go (y ∷ ys) zero is = let same : y ≡ x = cc in ap (λ z. f z ∷ []) same
+    go (y ∷ ys) (suc k) is = ap (λ l. f y ∷ l) (go ys k is)
+
+-- what claims are there
+module _ (m : MachineData) (h : Hint) (good : IsMachine m) (fits : Fits m h) where
+  pub idle_there : AsksThere m (question_of h Idle)
+  idle_there = record { asked = idle_asked m h.terms fits.literals; nets = λ y among. (fits.nets y among).below }
+
+  pub hold_there : (i r : ℕ) → slice_get h.regs i ≡ Some r → AsksThere m (question_of h (Hold r))
+  hold_there i r at = record { asked = hold_asked m h.terms h.after r fits.literals (registers_below m h good fits r (member_at h.regs i r at)); nets = λ y among. (fits.nets y among).below }
+
+  pub claim_there : (k : ℕ) (c : HintClaim) → slice_get (all_claims h) k ≡ Some c → AsksThere m (question_of h c)
+  claim_there zero c at = let same : Idle ≡ c = cc in subst (λ (d : HintClaim). AsksThere m (question_of h d)) same idle_there
+  claim_there (suc k) c at =
+      let r = mapped_at Hold h.regs k c at in
+      subst (λ (d : HintClaim). AsksThere m (question_of h d)) r.2 (hold_there k r.0 r.1)
+
+pub register_claim_at : (h : Hint) (i r : ℕ) → slice_get h.regs i ≡ Some r → slice_get (all_claims h) (suc i) ≡ Some (Hold r)
+register_claim_at h i r at = at_mapped Hold h.regs i r at
+
+-- what the claims say
+module _ (m : MachineData) (h : Hint) where
+  abbrev decided_by : Bool → Option HintClaim → Answer
+  decided_by never refuted = unwrap_or (option_or (if never then Some (Ok NeverIdle) else None) (option_map (λ c. Ok (Refuted c [])) refuted)) (inserted m h)
+
+  abbrev refuted_first : Option HintClaim
+  refuted_first = find (λ c. not (claim_holds m h c)) (hold_claims h)
+
+  pub never_ends : (end : HintOutcome) → claim_holds m h Idle ≡ true → end ≡ NeverIdle → IsJudged m h (decided m h) (Some end)
+  never_ends end never is =
+      subst (λ (o : HintOutcome). IsJudged m h (decided m h) (Some o)) (sym is) ((ap (λ b. decided_by b refuted_first) never, tt), refl)
+
+  pub refuted_ends : (claim : HintClaim) (end : HintOutcome) → claim_holds m h Idle ≡ false → refuted_first ≡ Some claim → IsRefuting m h claim end → IsJudged m h (decided m h) (Some end)
+  refuted_ends claim end idles first is =
+      subst (λ (o : HintOutcome). IsJudged m h (decided m h) (Some o)) (sym is.is)
+      ((ap (λ b. decided_by b refuted_first) idles ∙ ap (decided_by false) first, is.violate), refl)
+
+  pub none_refuted : claim_holds m h Idle ≡ false → refuted_first ≡ None → decided m h ≡ inserted m h
+  none_refuted idles none = ap (λ b. decided_by b refuted_first) idles ∙ ap (decided_by false) none
+
+-- the first register that can change its bit
+pub refuted_here : (m : MachineData) (h : Hint) (r : ℕ) (claims : List HintClaim) → claim_holds m h (Hold r) ≡ false → find (λ c. not (claim_holds m h c)) (Hold r ∷ claims) ≡ Some (Hold r)
+refuted_here m h r claims some = ap (λ b. cond (not b) (Some (Hold r)) (find (λ c. not (claim_holds m h c)) claims)) some
+
+pub refuted_later : (m : MachineData) (h : Hint) (r : ℕ) (claims : List HintClaim) → claim_holds m h (Hold r) ≡ true
+    → find (λ c. not (claim_holds m h c)) (Hold r ∷ claims) ≡ find (λ c. not (claim_holds m h c)) claims
+refuted_later m h r claims never = ap (λ b. cond (not b) (Some (Hold r)) (find (λ c. not (claim_holds m h c)) claims)) never

@@ -1,0 +1,6 @@
+pub mod Adding
+pub mod Appending
+pub mod Decided
+pub mod Drafting
+pub mod Judging
+pub mod Sizing

@@ -1,0 +1,22 @@
+use Rattle.std.proofs.Common.{◌≡◌, subst}
+use Rattle.cg_hint_laws.specs.Question.{Question}
+use Rattle.cg_hint_laws.specs.Trying.{question_of}
+use Rattle.cg_unroll_cycles.specs.Claims.{IsCycleClaim, IsCycleRefused}
+use Rattle.cg_hints.proofs.Sizing.{size_fits, size_refused}
+use Rattle.cg_hints.proofs.judge.Judge.size.Goals as goal
+
+pub returns-in-Ok : goal.returns-in-Ok
+returns-in-Ok c =
+    let m = c.args.claims.now.machine.now in
+    let w = c.args.claims.now.width in
+    let q : Question = question_of c.args.claims.now.hint.now c.args.claim in
+    let is : IsCycleClaim m q w c.build.new.self = subst (λ (p : Question). IsCycleClaim m p w c.build.new.self) c.question-question.ensures c.in-Ok.ensures.claim in
+    size_fits w m q is.narrow is.small
+
+pub returns-in-Err : goal.returns-in-Err
+returns-in-Err c =
+    let m = c.args.claims.now.machine.now in
+    let w = c.args.claims.now.width in
+    let q : Question = question_of c.args.claims.now.hint.now c.args.claim in
+    size_refused w m q c.in-Err.fault c.refused_size.result c.refused_size.ensures
+    (subst (λ (p : Question). IsCycleRefused m p w c.in-Err.fault) c.question-question.ensures c.in-Err.ensures.refused)

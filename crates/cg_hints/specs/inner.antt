@@ -1,0 +1,5 @@
+pub mod Adding
+pub mod Deciding
+pub mod Drafting
+pub mod Judging
+pub mod Sizes

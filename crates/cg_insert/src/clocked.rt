@@ -1,4 +1,4 @@
-//! Gating cells and registers, told to a builder.
+//! The enables of a machine, and the gating cells and registers that they make, told to a builder.
 
 ghost use Rattle.std.specs.Prelude.{◌≡◌, ◌≢◌, ◌≤◌, ◌+◌, ◌<◌, ◌^◌, ◌∷◌, [], ℕ, Some, map, length, slice_get, unwrap_or, IfOk};
 ghost use Rattle.std.specs.List.{find};
@@ -13,7 +13,6 @@ ghost use Rattle.cg_netlist_telling.specs.Telling.{MayTell, WasTold};
 ghost use Rattle.cg_machine.specs.Machine.{enable_of};
 ghost use Rattle.cg_netlist.specs.Ordered.{place_in};
 
-use crate::enables::Enables;
 use crate::logic::fitting;
 use cg_cell::fit::FitKind;
 use cg_cell::library::Library;
@@ -24,7 +23,66 @@ use cg_netlist::fault::AddFault;
 use cg_netlist::view::{GaterView, RegKind, RegView};
 use cg_netlist_builder::builder::Builder;
 use cg_netlist_telling::parts::{NetlistNames, clock_or_first, tell_gater, tell_register};
-use std::alloc::Global;
+use indexmap::IndexSet;
+use std::alloc::{AllocError, Global};
+use std::marker::Model;
+
+/// The enables of a machine, each once, in the order of the first register that has it, and found by their nets.
+///
+/// Clauses see the list of the nets.
+#[derive(Drop)]
+pub(crate) struct Enables {
+    nets: IndexSet<u32>,
+}
+
+impl Model for Enables {
+    ghost use Rattle.std.specs.Prelude.{List, ℕ};
+
+    ghost Value = { List ℕ };
+
+    ghost view = { λ e. e.nets.keys };
+}
+
+impl Enables {
+    /// The enables of this machine.
+    pub(crate) fn of(alloc: Global, machine: &Machine) -> Result<Enables, AllocError>
+        ensures { IfOk result (λ enables. enables ≡ enables_of machine.now) }
+    {
+        let _netlist = machine.netlist();
+        let mut nets = IndexSet::new(alloc);
+        for number in 0..machine.registers() {
+            if let Some(net) = machine.enable(RegId::new(number)) {
+                nets.insert(net.number())?;
+            }
+        }
+        Ok(Enables { nets })
+    }
+
+    /// How many enables there are.
+    pub(crate) fn len(&self) -> usize
+        ensures { result ≡ length self.now }
+    {
+        self.nets.len()
+    }
+
+    /// The enable of this number.
+    pub(crate) fn net(&self, number: usize) -> NetId
+        requires { number < length self.now }
+        ensures { slice_get self.now number ≡ Some result }
+    {
+        NetId::new(self.nets[number])
+    }
+
+    /// The number of an enable, or how many there are where the net is none.
+    pub(crate) fn place(&self, net: NetId) -> usize
+        ensures { result ≡ place_in self.now net }
+    {
+        match self.nets.get_index_of(&net.number()) {
+            Some(place) => place,
+            None => self.nets.len(),
+        }
+    }
+}
 
 /// What becomes gating cells, and of what: a machine with its enables, the library of the cells, and the name of a test input
 /// where their test pins are on one.

@@ -5,16 +5,14 @@
 //!
 //! The modules, in the order in which data flows through them:
 //!
-//! - `enables`: the enables of a machine, each once.
 //! - `names`: the names of the nets, those of the added ones made of the prefix and a number.
 //! - `logic`: added gates, told to a builder as cells of the library.
-//! - `clocked`: gating cells and registers, told to a builder.
+//! - `clocked`: the enables of a machine, and the gating cells and registers that they make, told to a builder.
 //! - `insert`: the netlist: all its parts, told to a builder.
 //! - `laws`: what is proved of the netlist that a machine's enables make.
 #![tactic(auto)]
 
 mod clocked;
-mod enables;
 pub mod insert;
 pub mod laws;
 mod logic;

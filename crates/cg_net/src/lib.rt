@@ -7,12 +7,10 @@
 //! The modules, in the order in which data flows through them:
 //!
 //! - `id`: the numbers of nets, logic cells, registers and gating cells.
-//! - `key`: names as the keys of a table.
 //! - `names`: the names of nets in the order in which they came, or in an order of the nets.
 //! - `net_set`: nets that are taken once.
 #![tactic(auto)]
 
 pub mod id;
-mod key;
 pub mod names;
 pub mod net_set;

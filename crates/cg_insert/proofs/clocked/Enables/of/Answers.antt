@@ -4,8 +4,8 @@ use Rattle.cg_machine.specs.Machine.{enable_of}
 use Rattle.cg_netlist.proofs.Values.{element_at}
 use Rattle.cg_insert.proofs.Lookups.{collect_step, with_enable}
 use Rattle.cg_insert.specs.Insert.{with_net}
-use Rattle.cg_insert.proofs.enables.Enables.of.Goals as goal
-use Rattle.cg_insert.proofs.enables.Enables.of.Goals.{in-Some+in_ok-insert, in_default}
+use Rattle.cg_insert.proofs.clocked.Enables.of.Goals as goal
+use Rattle.cg_insert.proofs.clocked.Enables.of.Goals.{in-Some+in_ok-insert, in_default}
 
 pub loop-number-preserved : goal.loop-number-preserved
 loop-number-preserved c =

@@ -3,7 +3,7 @@ use Rattle.std.specs.List.{position}
 use Rattle.cg_netlist.specs.Ordered.{place_in}
 use Rattle.cg_insert.proofs.Lookups.{no_place}
 use Rattle.cg_netlist_telling.proofs.OrderedNames.{place_small}
-use Rattle.cg_insert.proofs.enables.Enables.place.Goals as goal
+use Rattle.cg_insert.proofs.clocked.Enables.place.Goals as goal
 
 pub returns-in-None : goal.returns-in-None
 returns-in-None c =

@@ -72,8 +72,10 @@ impl Tables {
         let registers = machine.registers() as usize;
         put_leaves(
             leaves,
-            0,
-            Sources::Inputs,
+            CopyLeaves {
+                copy: 0,
+                sources: Sources::Inputs,
+            },
             nets,
             zero,
             aig,
@@ -81,8 +83,10 @@ impl Tables {
         )?;
         put_leaves(
             leaves,
-            0,
-            Sources::Registers,
+            CopyLeaves {
+                copy: 0,
+                sources: Sources::Registers,
+            },
             registers,
             zero,
             aig,
@@ -90,8 +94,10 @@ impl Tables {
         )?;
         put_leaves(
             leaves,
-            1,
-            Sources::Inputs,
+            CopyLeaves {
+                copy: 1,
+                sources: Sources::Inputs,
+            },
             nets,
             zero,
             aig,
@@ -99,8 +105,10 @@ impl Tables {
         )?;
         put_leaves(
             leaves,
-            1,
-            Sources::Registers,
+            CopyLeaves {
+                copy: 1,
+                sources: Sources::Registers,
+            },
             registers,
             zero,
             aig,
@@ -109,8 +117,10 @@ impl Tables {
         self.after.states.reset(registers, zero)?;
         put_leaves(
             leaves,
-            1,
-            Sources::Inputs,
+            CopyLeaves {
+                copy: 1,
+                sources: Sources::Inputs,
+            },
             nets,
             zero,
             aig,
@@ -118,8 +128,10 @@ impl Tables {
         )?;
         put_leaves(
             leaves,
-            2,
-            Sources::Registers,
+            CopyLeaves {
+                copy: 2,
+                sources: Sources::Registers,
+            },
             registers,
             zero,
             aig,
@@ -148,12 +160,18 @@ pub enum Sources {
     Registers,
 }
 
-/// Puts at its place the literal of each leaf of a copy that stands for a data input, or for a register. All other
-/// places, of which there are then at least so many, get the constant 0, which is `zero`.
+/// The leaves of a copy that stand for its data inputs, or for its registers.
+#[derive(Clone, Copy)]
+pub struct CopyLeaves {
+    pub copy: u8,
+    pub sources: Sources,
+}
+
+/// Puts at its place the literal of each leaf that is one of these. All other places, of which there are then at least so many,
+/// get the constant 0, which is `zero`.
 pub fn put_leaves(
     leaves: &[Leaf],
-    copy: u8,
-    sources: Sources,
+    these: CopyLeaves,
     places: usize,
     zero: AigLit,
     aig: &Aig,
@@ -161,14 +179,14 @@ pub fn put_leaves(
 ) -> Result<(), AigFault>
     requires count { length leaves.now ≡ aig.now.number }
     requires zero { zero ≡ 0 }
-    requires placed { ArePlaced (place_in copy sources) leaves.now places }
-    ensures held { OnOk result (HoldsLeaves (place_in copy sources) leaves.now places aig.now literals.new) }
+    requires placed { ArePlaced (place_in these.copy these.sources) leaves.now places }
+    ensures held { OnOk result (HoldsLeaves (place_in these.copy these.sources) leaves.now places aig.now literals.new) }
     ensures failed { IfErr result (λ fault. fault ≡ NoMemory) }
 {
     let _leaves = aig.leaves();
     literals.reset(places, zero)?;
     for k in 0..leaves.len() {
-        match place_of(leaves[k], copy, sources) {
+        match place_of(leaves[k], these.copy, these.sources) {
             Some(place) => literals.put(place, aig.leaf(k as u32))?,
             None => {}
         }

@@ -20,7 +20,7 @@ use cg_net::id::RegId;
 use cg_unroll::copy::lay_copy;
 use cg_unroll::literals::Literals;
 use cg_unroll::next::next_literal;
-use cg_unroll::tables::{CopyTables, Sources, put_leaves};
+use cg_unroll::tables::{CopyLeaves, CopyTables, Sources, put_leaves};
 
 /// A question of a machine, with what it reaches there.
 #[derive(Clone, Copy)]
@@ -56,8 +56,10 @@ pub(crate) fn lay_first(
     let places = machine.registers() as usize;
     put_leaves(
         leaves,
-        0,
-        Sources::Registers,
+        CopyLeaves {
+            copy: 0,
+            sources: Sources::Registers,
+        },
         places,
         zero,
         aig,
@@ -94,7 +96,11 @@ fn put_inputs(
     let _netlist = unrolling.machine.netlist();
     let leaves = unrolling.reached.leaves.as_slice();
     let places = unrolling.machine.nets() as usize;
-    put_leaves(leaves, cycle, Sources::Inputs, places, zero, aig, nets)
+    let these = CopyLeaves {
+        copy: cycle,
+        sources: Sources::Inputs,
+    };
+    put_leaves(leaves, these, places, zero, aig, nets)
 }
 
 /// Puts into the list the cycle behind this one, which `before` has the literals of: the registers take their next bits.

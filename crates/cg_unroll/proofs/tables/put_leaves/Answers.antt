@@ -12,7 +12,7 @@ use Rattle.cg_unroll.proofs.tables.put_leaves.Goals.{in-Some+in_ok-put-in-Some, 
 
 pub loop-k-preserved : goal.loop-k-preserved
 loop-k-preserved c =
-    let place : Leaf → Option ℕ = place_in c.args.copy c.args.sources in
+    let place : Leaf → Option ℕ = place_in c.args.these.copy c.args.these.sources in
     let leaves : List Leaf = c.args.leaves.now in
     let now : List ℕ = c.loop-k.literals in
     let k : ℕ = c.loop-k.k in

@@ -8,7 +8,6 @@ ghost use Rattle.cg_run.specs.Roles.{are_distinct};
 ghost use Rattle.cg_run.specs.Run.{Runs};
 ghost use Rattle.cg_run.specs.Verdict.{task_of};
 
-use crate::closing::put_out;
 use crate::mode::Mode;
 use crate::names::Names;
 use crate::output::Output;
@@ -16,6 +15,7 @@ use crate::reading::collect;
 use crate::refusal::Refusal;
 use crate::role::Role;
 use crate::status::Status;
+use crate::writing::put_out;
 use cg_shelf::Shelf;
 use std::alloc::Global;
 

@@ -14,11 +14,10 @@
 //! - `output`: what a mode puts out;
 //! - `mode`: what a run asks of a mode;
 //! - `reading`: the reading half of a run, [`collect`];
-//! - `writing`: the writes, and `closing`: the writing half of a run, [`put_out`];
+//! - `writing`: the writing half of a run, [`put_out`];
 //! - `driver`: a run of both halves, with what a mode makes of its files between.
 #![tactic(auto)]
 
-mod closing;
 mod content;
 mod driver;
 mod mode;
@@ -30,7 +29,6 @@ mod role;
 mod status;
 mod writing;
 
-pub use closing::{complain, put_out};
 pub use driver::drive;
 pub use mode::{Mode, Reader};
 pub use names::{NamedFile, Names};
@@ -39,3 +37,4 @@ pub use reading::collect;
 pub use refusal::{Content, Owner, Refusal, Step, Trouble};
 pub use role::Role;
 pub use status::Status;
+pub use writing::{complain, put_out};

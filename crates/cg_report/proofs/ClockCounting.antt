@@ -1,0 +1,103 @@
+-- What the watcher of clocks keeps goes on with the next register, the next clock net, the next moment and the next line.
+use Rattle.std.proofs.Common.{◌≡◌, ℕ, zero, suc, ◌+◌, ◌<◌, ◌≤◌, ◌-◌, ◌^◌, Bool, true, false, cond, not, ◌&&◌, if◌then◌else◌, inl, inr, List, [], ◌∷◌, ◌++◌}
+use Rattle.std.proofs.Common.{length, map, take, drop, nat_eq, Option, None, Some, slice_get, slice_set, replicate, refl, sym, ap, subst, ◌∙◌, append_assoc, arith}
+use Rattle.std.specs.List.{All, count_by, flat_map}
+use Rattle.std.specs.Option.{option_map_or, option_to_list}
+use Rattle.std.proofs.lemmas.Bool.{cases_Bool, eqb-true, eq-eqb, false_from_ne_true}
+use Rattle.std.proofs.lemmas.List.{length-replicate, length-set, map-append}
+use Rattle.std.proofs.lemmas.List.Sums.{sum_by_more}
+use Rattle.cg_net.proofs.Members.{All-from_members}
+use Rattle.cg_net.proofs.TableLemmas.{same_or_not, slice_get-set_other, slice_get-set_same}
+use Rattle.cg_netlist.specs.Circuit.{Circuit, RegisterCell, clock_nets, gater_outputs}
+use Rattle.cg_netlist.specs.Moment.{bit}
+use Rattle.cg_netlist.specs.WellFormed.{IsWellFormed}
+use Rattle.cg_edge.proofs.Facts.{clock_net_within}
+use Rattle.cg_report.specs.ClockLines.{ClockLine, clock_line, clock_lines, clock_text, clocks_text, lines_text}
+use Rattle.cg_report.specs.Counts.{capped, last_from, last_nets, net_rise, net_rises, net_rises_from, registers_on}
+use Rattle.cg_report.specs.Shown.{Shown}
+use Rattle.cg_report.specs.declared.clock_count.ClockNet.{ClockNet}
+use Rattle.cg_report.specs.inner.ClockCounting.{AreClocked, kept, line_of, with_bit}
+use Rattle.cg_report.proofs.Counting.{last_on}
+
+-- moments
+
+rises_on : (net : ℕ) (before : Option (List Bool)) (moments : List Shown) (now : Shown)
+    → net_rises_from net before (moments ++ now ∷ []) ≡ net_rises_from net before moments + net_rise net (last_from before moments) now.nets
+rises_on net before [] now = omega arith
+rises_on net before (m ∷ moments) now = ap (λ n. net_rise net before m.nets + n) (rises_on net (Some m.nets) moments now) ∙ omega arith
+
+capped_more : (n : ℕ) → capped (capped n + 1) ≡ capped (n + 1)
+capped_more n = omega arith
+
+capped_none : (n : ℕ) → capped n ≡ capped (n + 0)
+capped_none n = omega arith
+
+-- a rise from a bit to a bit
+rise_bits : (before now : Bool) (n : ℕ) → (if now && not before then capped (capped n + 1) else capped n) ≡ capped (n + (if not before && now then 1 else 0))
+rise_bits true true n = capped_none n
+rise_bits true false n = capped_none n
+rise_bits false true n = capped_more n
+rise_bits false false n = capped_none n
+
+no_rise : (now : Bool) (n : ℕ) → (if now && not true then capped (capped n + 1) else capped n) ≡ capped (n + 0)
+no_rise true n = capped_none n
+no_rise false n = capped_none n
+
+rise_at : (last : Option (List Bool)) (net : ℕ) (now : List Bool) (n : ℕ)
+    → (if bit now net && not (option_map_or (λ nets. bit nets net) last true) then capped (capped n + 1) else capped n) ≡ capped (n + net_rise net last now)
+rise_at None net now n = no_rise (bit now net) n
+rise_at (Some before) net now n = rise_bits (bit before net) (bit now net) n
+
+kept_on : (c : Circuit) (before : List Shown) (now : Shown) (net : ℕ) → with_bit (kept c before net) (bit now.nets net) ≡ kept c (before ++ now ∷ []) net
+kept_on c before now net =
+    let high : bit now.nets net ≡ option_map_or (λ nets. bit nets net) (last_nets (before ++ now ∷ [])) true = ap (λ last. option_map_or (λ nets. bit nets net) last true) (sym (last_on None before now)) in
+    let rises : (if bit now.nets net && not (option_map_or (λ nets. bit nets net) (last_nets before) true) then capped (capped (net_rises net before) + 1) else capped (net_rises net before)) ≡ capped (net_rises net (before ++ now ∷ [])) =
+    rise_at (last_nets before) net now.nets (net_rises net before) ∙ ap capped (sym (rises_on net None before now)) in
+    ap (λ h. record (with_bit (kept c before net) (bit now.nets net)) { high = h }) high
+    ∙ ap (λ r. record (kept c (before ++ now ∷ []) net) { rises = r }) rises
+
+-- every clock net is shown a moment more
+pub all_kept_on : (c : Circuit) (before : List Shown) (now : Shown) (nets : List ℕ)
+    → map (λ (clock : ClockNet). with_bit clock (bit now.nets clock.net)) (map (kept c before) nets) ≡ map (kept c (before ++ now ∷ [])) nets
+all_kept_on c before now [] = refl
+all_kept_on c before now (net ∷ nets) =
+    ap (λ k. k ∷ map (λ (clock : ClockNet). with_bit clock (bit now.nets clock.net)) (map (kept c before) nets)) (kept_on c before now net)
+    ∙ ap (λ ks. kept c (before ++ now ∷ []) net ∷ ks) (all_kept_on c before now nets)
+
+-- registers
+
+pub clocked_none : (c : Circuit) (registers : List ℕ) → registers ≡ replicate (length c.names) 0 → AreClocked c 0 registers
+clocked_none c registers none = record {
+  long = ap length none ∙ length-replicate (length c.names) 0;
+  each = λ net below. ap (λ l. slice_get l net) none ∙ at_none (length c.names) net below;
+}
+  where
+    at_none : (n k : ℕ) → k < n → slice_get (replicate n 0) k ≡ Some 0
+    at_none zero k below = absurd (let no' : ⊥ = omega (arith, below) in no')
+    at_none (suc n) zero below = refl
+    at_none (suc n) (suc k) below = at_none n k (omega (arith, below))
+
+-- the clock nets
+
+pub clocks_are_nets : (c : Circuit) → IsWellFormed c → All (λ net. net < length c.names) (clock_nets c)
+clocks_are_nets c good = All-from_members (λ net. net < length c.names) (clock_nets c) (λ x among. clock_net_within c good (length c.names) refl x among)
+
+pub all_clocks : (c : Circuit) (none one all : List ClockNet) → none ≡ [] → one ≡ none ++ map (kept c []) (option_to_list c.clock) → all ≡ one ++ map (kept c []) (gater_outputs c) → all ≡ map (kept c []) (clock_nets c)
+all_clocks c none one all empty first rest =
+    rest ∙ (ap (λ ks. ks ++ map (kept c []) (gater_outputs c)) (first ∙ ap (λ ks. ks ++ map (kept c []) (option_to_list c.clock)) empty) ∙ sym (map-append (kept c []) (option_to_list c.clock) (gater_outputs c)))
+
+-- lines
+
+-- the lines from a place on, each behind an end of line but the first of all
+abbrev pub lines_from : ℕ → List (List ℕ) → List ℕ
+lines_from zero lines = lines_text lines
+lines_from (suc place) lines = flat_map (λ later. 10 ∷ later) (drop (suc place) lines)
+
+pub said_all : (c : Circuit) (moments : List Shown) (clocks : List ClockNet) (old new : List ℕ) → clocks ≡ map (kept c moments) (clock_nets c)
+    → new ≡ old ++ lines_text (map (λ clock. clock_text (line_of clock)) clocks) → new ≡ old ++ clocks_text c moments
+said_all c moments clocks old new are said =
+    said ∙ ap (λ lines. old ++ lines_text lines) (ap (map (λ clock. clock_text (line_of clock))) are ∙ (mapped (clock_nets c)))
+  where
+    mapped : (nets : List ℕ) → map (λ clock. clock_text (line_of clock)) (map (kept c moments) nets) ≡ map clock_text (map (clock_line c moments) nets)
+    mapped [] = refl
+    mapped (net ∷ nets) = ap (λ ls. clock_text (clock_line c moments net) ∷ ls) (mapped nets)

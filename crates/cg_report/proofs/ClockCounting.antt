@@ -1,11 +1,13 @@
 -- What the watcher of clocks keeps goes on with the next register, the next clock net, the next moment and the next line.
 use Rattle.std.proofs.Common.{◌≡◌, ℕ, zero, suc, ◌+◌, ◌<◌, ◌≤◌, ◌-◌, ◌^◌, Bool, true, false, cond, not, ◌&&◌, if◌then◌else◌, inl, inr, List, [], ◌∷◌, ◌++◌}
-use Rattle.std.proofs.Common.{length, map, take, drop, nat_eq, Option, None, Some, slice_get, slice_set, replicate, refl, sym, ap, subst, ◌∙◌, append_assoc, arith}
+use Rattle.std.proofs.Common.{length, map, take, drop, nat_eq, Option, None, Some, slice_get, slice_set, get_or, ◌==◌, replicate, refl, sym, ap, subst, ◌∙◌, append_assoc, arith}
 use Rattle.std.specs.List.{All, count_by, flat_map}
 use Rattle.std.specs.Option.{option_map_or, option_to_list}
 use Rattle.std.proofs.lemmas.Bool.{cases_Bool, eqb-true, eq-eqb, false_from_ne_true}
-use Rattle.std.proofs.lemmas.List.{length-replicate, length-set, map-append}
-use Rattle.std.proofs.lemmas.List.Sums.{sum_by_more}
+use Rattle.std.proofs.lemmas.List.{append-nil, drop_all, length-map, length-replicate, length-set, map-append, take_all}
+use Rattle.std.proofs.lemmas.List.Sums.{count_by-le-length, sum_by-take-le, sum_by_more}
+use Rattle.std.proofs.lemmas.Option.{get_or_from_slice_get, same_Some, slice_get_within}
+use Rattle.cg_stimulus.proofs.ReadingOn.{next_at}
 use Rattle.cg_net.proofs.Members.{All-from_members}
 use Rattle.cg_net.proofs.TableLemmas.{same_or_not, slice_get-set_other, slice_get-set_same}
 use Rattle.cg_netlist.specs.Circuit.{Circuit, RegisterCell, clock_nets, gater_outputs}
@@ -77,6 +79,56 @@ clocked_none c registers none = record {
     at_none (suc n) zero below = refl
     at_none (suc n) (suc k) below = at_none n k (omega (arith, below))
 
+-- how many of the first registers have this net as their clock net
+abbrev clocked_by : Circuit → ℕ → ℕ → ℕ
+clocked_by c k net = count_by (λ (r : RegisterCell ℕ ℕ). nat_eq r.clock net) (take k c.registers)
+
+add_none : (n : ℕ) → n + cond false 1 0 ≡ n
+add_none n = omega arith
+
+-- one register more at a net, or not
+count_more : (c : Circuit) (k net : ℕ) (r : RegisterCell ℕ ℕ) → slice_get c.registers k ≡ Some r
+    → count_by (λ (r : RegisterCell ℕ ℕ). nat_eq r.clock net) (take (k + 1) c.registers) ≡ count_by (λ (r : RegisterCell ℕ ℕ). nat_eq r.clock net) (take k c.registers) + cond (nat_eq r.clock net) 1 0
+count_more c k net r at =
+    sum_by_more (λ (r : RegisterCell ℕ ℕ). cond (nat_eq r.clock net) 1 0) c.registers k r (slice_get_within c.registers k r at)
+    ∙ ap (λ (s : RegisterCell ℕ ℕ). count_by (λ (r : RegisterCell ℕ ℕ). nat_eq r.clock net) (take k c.registers) + cond (nat_eq s.clock net) 1 0) (get_or_from_slice_get c.registers k r r at)
+
+pub clocked_more : (c : Circuit) (k : ℕ) (r : RegisterCell ℕ ℕ) (registers : List ℕ) → slice_get c.registers k ≡ Some r → r.clock < length c.names → AreClocked c k registers
+    → AreClocked c (k + 1) (slice_set registers r.clock (get_or registers r.clock 0 + 1))
+clocked_more c k r registers at within counted =
+    let v = get_or registers r.clock 0 + 1 in
+    record {
+      long = length-set registers r.clock v ∙ counted.long;
+      each = λ net below. elim (same_or_not net r.clock) [
+        | inl e ↦ ap (slice_get (slice_set registers r.clock v)) e
+            ∙ (slice_get-set_same registers r.clock v (omega (arith, within, counted.long))
+            ∙ ap Some (ap (λ m. m + 1) (get_or_from_slice_get registers r.clock (clocked_by c k net) 0 (ap (slice_get registers) (sym e) ∙ counted.each net below))
+            ∙ sym (count_more c k net r at ∙ ap (λ b. clocked_by c k net + cond b 1 0) (eq-eqb r.clock net (sym e)))))
+        | inr e ↦ slice_get-set_other registers r.clock net v e
+            ∙ (counted.each net below
+            ∙ ap Some (sym (count_more c k net r at ∙ (ap (λ b. clocked_by c k net + cond b 1 0) (false_from_ne_true (nat_eq r.clock net) (λ same. e (sym (eqb-true r.clock net same)))) ∙ add_none (clocked_by c k net)))))
+      ];
+    }
+
+-- a count is within the registers
+pub clocked_few : (c : Circuit) (k net most : ℕ) (registers : List ℕ) → net < length c.names → length c.registers ≤ most → AreClocked c k registers → get_or registers net 0 ≤ most
+clocked_few c k net most registers below few counted =
+    let is : get_or registers net 0 ≡ clocked_by c k net = get_or_from_slice_get registers net (clocked_by c k net) 0 (counted.each net below) in
+    let part = sum_by-take-le (λ (r : RegisterCell ℕ ℕ). cond (nat_eq r.clock net) 1 0) c.registers k in
+    let whole = count_by-le-length (λ (r : RegisterCell ℕ ℕ). nat_eq r.clock net) c.registers in
+    omega (arith, is, part, whole, few)
+
+pub clocked_all : (c : Circuit) (registers : List ℕ) (k : ℕ) → length c.registers ≤ k → AreClocked c k registers → AreClocked c (length c.registers) registers
+clocked_all c registers k all counted = record {
+  long = counted.long;
+  each = λ net below. counted.each net below ∙ ap (λ (rs : List (RegisterCell ℕ ℕ)). Some (count_by (λ (r : RegisterCell ℕ ℕ). nat_eq r.clock net) rs)) (take_all c.registers k all ∙ sym (take_all c.registers (length c.registers) (omega arith)));
+}
+
+pub clocked_at : (c : Circuit) (net : ℕ) (registers : List ℕ) (v : ℕ) → net < length c.names → AreClocked c (length c.registers) registers → v ≡ get_or registers net 0 → v ≡ registers_on c net
+clocked_at c net registers v below counted is =
+    is ∙ (get_or_from_slice_get registers net (clocked_by c (length c.registers) net) 0 (counted.each net below)
+    ∙ ap (λ (rs : List (RegisterCell ℕ ℕ)). count_by (λ (r : RegisterCell ℕ ℕ). nat_eq r.clock net) rs) (take_all c.registers (length c.registers) (omega arith)))
+
 -- the clock nets
 
 pub clocks_are_nets : (c : Circuit) → IsWellFormed c → All (λ net. net < length c.names) (clock_nets c)
@@ -101,3 +153,20 @@ said_all c moments clocks old new are said =
     mapped : (nets : List ℕ) → map (λ clock. clock_text (line_of clock)) (map (kept c moments) nets) ≡ map clock_text (map (clock_line c moments) nets)
     mapped [] = refl
     mapped (net ∷ nets) = ap (λ ls. clock_text (clock_line c moments net) ∷ ls) (mapped nets)
+
+pub lines_go : (text broken said whole : List ℕ) (place : ℕ) (lines : List (List ℕ)) (line : List ℕ) → slice_get lines place ≡ Some line
+    → broken ≡ text ++ (if place == 0 then [] else 10 ∷ []) → said ≡ broken ++ line → text ++ lines_from place lines ≡ whole → said ++ lines_from (place + 1) lines ≡ whole
+lines_go text broken said whole zero [] line at first second so_far = absurd (cc)
+lines_go text broken said whole zero (l ∷ lines) line at first second so_far =
+    let same : l ≡ line = same_Some l line at in
+    let rest = flat_map (λ later. 10 ∷ later) lines in
+    ap (λ t. t ++ rest) (second ∙ ap (λ t. t ++ line) (first ∙ append-nil text)) ∙ (append_assoc text line rest ∙ (ap (λ x. text ++ x ++ rest) (sym same) ∙ so_far))
+lines_go text broken said whole (suc place) lines line at first second so_far =
+    let rest = lines_from (suc place + 1) lines in
+    let front : lines_from (suc place) lines ≡ 10 ∷ (line ++ rest) = ap (flat_map (λ later. 10 ∷ later)) (next_at lines (suc place) line at) in
+    ap (λ t. t ++ rest) (second ∙ ap (λ t. t ++ line) first) ∙ (append_assoc (text ++ 10 ∷ []) line rest ∙ (append_assoc text (10 ∷ []) (line ++ rest) ∙ (ap (λ x. text ++ x) (sym front) ∙ so_far)))
+
+pub lines_end : (place : ℕ) (lines : List (List ℕ)) → length lines ≤ place → lines_from place lines ≡ []
+lines_end zero [] past = refl
+lines_end zero (l ∷ lines) past = absurd (let no' : ⊥ = omega (arith, past) in no')
+lines_end (suc place) lines past = ap (flat_map (λ later. 10 ∷ later)) (drop_all lines (suc place) past)

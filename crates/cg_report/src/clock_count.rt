@@ -1,9 +1,10 @@
 //! The watcher that counts the rises of each clock net.
 
-ghost use Rattle.std.specs.Prelude.{◌≡◌, ◌<◌, ◌++◌, ◌∷◌, [], ℕ, List, Bool, length, map, take, IfOk, OnOk, Some};
+ghost use Rattle.std.specs.Prelude.{◌≡◌, ◌≤◌, ◌<◌, ◌==◌, ◌++◌, ◌∷◌, [], List, Bool, length, map, if◌then◌else◌, IfOk, OnOk};
 ghost use Rattle.std.specs.List.{All};
-ghost use Rattle.cg_limit.specs.declared.TheConstants.{MOST_REGISTERS, MOST_ROWS};
-ghost use Rattle.cg_netlist.specs.Circuit.{Circuit, clock_nets, gater_outputs};
+ghost use Rattle.std.specs.Option.{option_to_list};
+ghost use Rattle.cg_limit.specs.declared.TheConstants.{MOST_ROWS};
+ghost use Rattle.cg_netlist.specs.Circuit.{Circuit, gater_outputs};
 ghost use Rattle.cg_netlist.specs.History.{Moment, edges};
 ghost use Rattle.cg_netlist.specs.Moment.{bit};
 ghost use Rattle.cg_netlist.specs.Netlist.{IsNetlist};
@@ -75,7 +76,7 @@ impl Watcher for ClockCount {
     }
 
     fn moment(&mut self, _clock: bool, nets: &[bool], _rose: &[bool]) -> Result<(), AllocError> {
-        take_bits(nets, &mut self.clocks);
+        take_bits(nets, self.clocks.as_mut_slice());
         Ok(())
     }
 
@@ -194,11 +195,20 @@ fn push_lines(clocks: &[ClockNet], text: &mut Vec<u8>) -> Result<(), AllocError>
     ensures { OnOk result (text.new.items ≡ text.old.items ++ lines_text (map (λ clock. clock_text (line_of clock)) clocks.now)) }
 {
     for (place, clock) in clocks.iter().enumerate() {
-        if place != 0 {
-            text.push(b'\n')?;
-        }
+        push_break(place, text)?;
         push_line(clock, text)?;
     }
+    Ok(())
+}
+
+/// Puts an end of line behind a text, but not before the line at the first place.
+fn push_break(place: usize, text: &mut Vec<u8>) -> Result<(), AllocError>
+    ensures { OnOk result (text.new.items ≡ text.old.items ++ (if place == 0 then [] else 10 ∷ [])) }
+{
+    if place == 0 {
+        return Ok(());
+    }
+    text.push(b'\n')?;
     Ok(())
 }
 

@@ -1,6 +1,6 @@
 -- What the watcher of clocks keeps of the moments that it was shown.
-use Rattle.std.specs.Prelude.{◌≡◌, ◌<◌, ◌+◌, ℕ, Bool, true, not, ◌&&◌, if◌then◌else◌, List, length, map, slice_get, Some, nat_eq}
-use Rattle.std.specs.List.{All, count_by, take}
+use Rattle.std.specs.Prelude.{◌≡◌, ◌<◌, ◌+◌, ℕ, Bool, true, not, ◌&&◌, if◌then◌else◌, List, length, map, slice_get, Some, nat_eq, take}
+use Rattle.std.specs.List.{All, count_by}
 use Rattle.std.specs.Option.{option_map_or}
 use Rattle.cg_net.specs.Names.{net_name}
 use Rattle.cg_netlist.specs.Circuit.{Circuit, clock_nets}

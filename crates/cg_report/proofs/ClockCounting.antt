@@ -14,8 +14,8 @@ use Rattle.cg_netlist.specs.Circuit.{Circuit, RegisterCell, clock_nets, gater_ou
 use Rattle.cg_netlist.specs.Moment.{bit}
 use Rattle.cg_netlist.specs.WellFormed.{IsWellFormed}
 use Rattle.cg_edge.proofs.Facts.{clock_net_within}
-use Rattle.cg_report.specs.ClockLines.{ClockLine, clock_line, clock_lines, clock_text, clocks_text, lines_text}
-use Rattle.cg_report.specs.Counts.{capped, last_from, last_nets, net_rise, net_rises, net_rises_from, registers_on}
+use Rattle.cg_report.specs.ClockLines.{ClockLine, clock_line, clock_lines, clock_text, clocks_text, lines_text, net_rise, net_rises, net_rises_from, registers_on}
+use Rattle.cg_report.specs.Counts.{capped, last_from, last_nets}
 use Rattle.cg_report.specs.Shown.{Shown}
 use Rattle.cg_report.specs.declared.clock_count.ClockNet.{ClockNet}
 use Rattle.cg_report.specs.inner.ClockCounting.{AreClocked, kept, line_of, with_bit}

@@ -14,8 +14,8 @@ use Rattle.cg_netlist.specs.History.{LawfulFrom, Moment, Tick, edges, edges_from
 use Rattle.cg_netlist.specs.Moment.{bit}
 use Rattle.cg_netlist.specs.WellFormed.{IsWellFormed}
 use Rattle.cg_stimulus.specs.Played.{IsPlayed, played_start, played_wave, wave_from}
-use Rattle.cg_report.specs.ClockLines.{ClockLine, clock_line, clock_lines, line_edges}
-use Rattle.cg_report.specs.Counts.{capped, net_rise, net_rises, net_rises_from, registers_on}
+use Rattle.cg_report.specs.ClockLines.{ClockLine, clock_line, clock_lines, line_edges, net_rise, net_rises, net_rises_from, registers_on}
+use Rattle.cg_report.specs.Counts.{capped}
 use Rattle.cg_report.specs.Place.{played_moments, shown_from}
 use Rattle.cg_report.specs.Shown.{Shown}
 

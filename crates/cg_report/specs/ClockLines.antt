@@ -1,11 +1,29 @@
--- What the watcher of clocks says: a line for each clock net.
-use Rattle.std.specs.Prelude.{ℕ, ◌*◌, List, [], ◌∷◌, ◌++◌, codes, map}
+-- What the watcher of clocks counts, and what it says: a line for each clock net.
+use Rattle.std.specs.Prelude.{ℕ, ◌+◌, ◌*◌, Bool, not, ◌&&◌, if◌then◌else◌, List, [], ◌∷◌, ◌++◌, codes, map, nat_eq, Option, None, Some}
 use Rattle.std.specs.Fmt.{decimal}
-use Rattle.std.specs.List.{flat_map, sum_by}
+use Rattle.std.specs.List.{count_by, flat_map, sum_by}
 use Rattle.cg_net.specs.Names.{net_name}
 use Rattle.cg_netlist.specs.Circuit.{Circuit, clock_nets}
-use Rattle.cg_report.specs.Counts.{capped, net_rises, registers_on}
+use Rattle.cg_netlist.specs.Moment.{bit}
+use Rattle.cg_report.specs.Counts.{capped}
 use Rattle.cg_report.specs.Shown.{Shown}
+
+-- how many registers have this net as their clock net
+abbrev pub registers_on : Circuit → ℕ → ℕ
+registers_on c net = count_by (λ r. nat_eq r.clock net) c.registers
+
+-- whether a net rises, as the clock net of a register does: it was 0 a moment before, if there was one, and is 1 now
+abbrev pub net_rise : ℕ → Option (List Bool) → List Bool → ℕ
+net_rise net None now = 0
+net_rise net (Some before) now = if not (bit before net) && bit now net then 1 else 0
+
+-- at how many moments a net rises, behind these bits
+abbrev pub net_rises_from : ℕ → Option (List Bool) → List Shown → ℕ
+net_rises_from net before [] = 0
+net_rises_from net before (now ∷ later) = net_rise net before now.nets + net_rises_from net (Some now.nets) later
+
+abbrev pub net_rises : ℕ → List Shown → ℕ
+net_rises net moments = net_rises_from net None moments
 
 -- of a clock net its name, how many registers it clocks, and how often it rises
 pub record ClockLine : Type 0 where

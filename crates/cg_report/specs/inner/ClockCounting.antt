@@ -5,8 +5,8 @@ use Rattle.std.specs.Option.{option_map_or}
 use Rattle.cg_net.specs.Names.{net_name}
 use Rattle.cg_netlist.specs.Circuit.{Circuit, clock_nets}
 use Rattle.cg_netlist.specs.Moment.{bit}
-use Rattle.cg_report.specs.ClockLines.{ClockLine}
-use Rattle.cg_report.specs.Counts.{capped, last_nets, net_rises, registers_on}
+use Rattle.cg_report.specs.ClockLines.{ClockLine, net_rises, registers_on}
+use Rattle.cg_report.specs.Counts.{capped, last_nets}
 use Rattle.cg_report.specs.Shown.{Shown}
 use Rattle.cg_report.specs.declared.clock_count.ClockCount.{ClockCount}
 use Rattle.cg_report.specs.declared.clock_count.ClockNet.{ClockNet}

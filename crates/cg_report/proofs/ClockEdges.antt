@@ -131,13 +131,13 @@ module _ (c : Circuit) (distinct : IsDistinct nat_eq (clock_nets c)) (clocked : 
 
 -- a net rises at most once a moment
 
+bit_most : (b : Bool) → (if b then 1 else 0) ≤ 1
+bit_most true = omega arith
+bit_most false = omega arith
+
 rise_most : (net : ℕ) (before : Option (List Bool)) (now : List Bool) → net_rise net before now ≤ 1
 rise_most net None now = omega arith
 rise_most net (Some before) now = bit_most (not (bit before net) && bit now net)
-  where
-    bit_most : (b : Bool) → (if b then 1 else 0) ≤ 1
-    bit_most true = omega arith
-    bit_most false = omega arith
 
 rises_most : (net : ℕ) (before : Option (List Bool)) (moments : List Shown) → net_rises_from net before moments ≤ length moments
 rises_most net before [] = omega arith
@@ -166,9 +166,10 @@ uncapped c rows history net few =
 -- the clock nets are different nets
 clocks_differ : (c : Circuit) → IsWellFormed c → IsDistinct nat_eq (clock_nets c)
 clocks_differ c good =
+    let data = data_inputs c in
     let clock = option_to_list c.clock in
-    let behind : IsDistinct nat_eq (clock ++ (gater_outputs c ++ register_nets c)) = distinct_right (data_inputs c) (clock ++ (gater_outputs c ++ register_nets c)) (distinct_left (given_nets c) (cell_nets c) good.driven.once) in
-    distinct_left (clock_nets c) (register_nets c) (subst (IsDistinct nat_eq) (sym (append_assoc clock (gater_outputs c) (register_nets c))) behind)
+    let front : IsDistinct nat_eq ((data ++ clock) ++ gater_outputs c) = distinct_left ((data ++ clock) ++ gater_outputs c) (register_nets c) (distinct_left (given_nets c) (cell_nets c) good.driven.once) in
+    distinct_right data (clock_nets c) (subst (IsDistinct nat_eq) (append_assoc data clock (gater_outputs c)) front)
 
 pub lines_account : (c : Circuit) (rows : List (List Bool)) (history : List Moment) → IsWellFormed c → length rows ≤ MOST_ROWS → IsPlayed c rows history
     → line_edges (clock_lines c (played_moments c rows history)) ≡ edges c history

@@ -69,6 +69,7 @@ impl Watcher for ClockCount {
     }
 
     fn begin(&mut self, netlist: &Netlist) -> Result<(), AllocError> {
+        let _nets = netlist.nets();
         let registers = registers_by_net(self.alloc, netlist)?;
         self.clocks.clear();
         push_clock(self.alloc, netlist, &registers, &mut self.clocks)?;
@@ -107,6 +108,7 @@ fn push_clock(
     requires { AreClocked netlist.now (length netlist.now.registers) registers.now }
     ensures { OnOk result (clocks.new.items ≡ clocks.old.items ++ map (kept netlist.now []) (option_to_list netlist.now.clock)) }
 {
+    let _nets = netlist.nets();
     match netlist.clock() {
         Some(net) => push_net(alloc, netlist, registers, net, clocks),
         None => Ok(()),

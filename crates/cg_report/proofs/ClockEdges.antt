@@ -166,10 +166,10 @@ uncapped c rows history net few =
 -- the clock nets are different nets
 clocks_differ : (c : Circuit) → IsWellFormed c → IsDistinct nat_eq (clock_nets c)
 clocks_differ c good =
-    let data = data_inputs c in
+    let inputs = data_inputs c in
     let clock = option_to_list c.clock in
-    let front : IsDistinct nat_eq ((data ++ clock) ++ gater_outputs c) = distinct_left ((data ++ clock) ++ gater_outputs c) (register_nets c) (distinct_left (given_nets c) (cell_nets c) good.driven.once) in
-    distinct_right data (clock_nets c) (subst (IsDistinct nat_eq) (append_assoc data clock (gater_outputs c)) front)
+    let front : IsDistinct nat_eq ((inputs ++ clock) ++ gater_outputs c) = distinct_left ((inputs ++ clock) ++ gater_outputs c) (register_nets c) (distinct_left (given_nets c) (cell_nets c) good.driven.once) in
+    distinct_right inputs (clock_nets c) (subst (IsDistinct nat_eq) (append_assoc inputs clock (gater_outputs c)) front)
 
 pub lines_account : (c : Circuit) (rows : List (List Bool)) (history : List Moment) → IsWellFormed c → length rows ≤ MOST_ROWS → IsPlayed c rows history
     → line_edges (clock_lines c (played_moments c rows history)) ≡ edges c history

@@ -7,5 +7,5 @@ returns-clause-begun c =
     let netlist = c.args.netlist.now in
     on_ok _ _ c.push_gaters.result (λ pushed. (
       all_clocks netlist c.clear.new.self.items c.push_clock.new.clocks.items c.push_gaters.new.clocks.items c.clear.ensures.items c.in_ok-push_clock.ensures pushed,
-      clocks_are_nets netlist c.nets.ensures.netlist.well_formed,
+      clocks_are_nets netlist c.nets-nets.ensures.netlist.well_formed,
     )) c.push_gaters.ensures

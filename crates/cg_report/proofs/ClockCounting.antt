@@ -1,10 +1,10 @@
 -- What the watcher of clocks keeps goes on with the next register, the next clock net, the next moment and the next line.
-use Rattle.std.proofs.Common.{◌≡◌, ℕ, zero, suc, ◌+◌, ◌<◌, ◌≤◌, ◌-◌, ◌^◌, Bool, true, false, cond, not, ◌&&◌, if◌then◌else◌, inl, inr, List, [], ◌∷◌, ◌++◌}
+use Rattle.std.proofs.Common.{◌≡◌, ℕ, zero, suc, ◌+◌, ◌<◌, ◌≤◌, Bool, true, false, cond, not, ◌&&◌, if◌then◌else◌, inl, inr, List, [], ◌∷◌, ◌++◌}
 use Rattle.std.proofs.Common.{length, map, take, drop, nat_eq, Option, None, Some, slice_get, slice_set, get_or, ◌==◌, replicate, refl, sym, ap, subst, ◌∙◌, add-one, append_assoc, arith}
 use Rattle.std.specs.List.{All, count_by, flat_map}
 use Rattle.std.specs.Option.{option_map_or, option_to_list}
-use Rattle.std.proofs.lemmas.Bool.{cases_Bool, eqb-true, eq-eqb, false_from_ne_true}
-use Rattle.std.proofs.lemmas.List.{append-nil, drop_all, length-map, length-replicate, length-set, map-append, take_all}
+use Rattle.std.proofs.lemmas.Bool.{eqb-true, eq-eqb, false_from_ne_true}
+use Rattle.std.proofs.lemmas.List.{append-nil, drop_all, length-replicate, length-set, map-append, take_all}
 use Rattle.std.proofs.lemmas.List.Sums.{count_by-le-length, sum_by-take-le, sum_by_more}
 use Rattle.std.proofs.lemmas.Option.{get_or_from_slice_get, same_Some, slice_get_within}
 use Rattle.std.proofs.Math.Dec.{eqb-suc-zero}
@@ -18,7 +18,7 @@ use Rattle.cg_netlist.specs.WellFormed.{IsWellFormed}
 use Rattle.cg_netlist.proofs.Given.{from_option}
 use Rattle.cg_netlist.proofs.Values.{at_map}
 use Rattle.cg_edge.proofs.Facts.{clock_net_within}
-use Rattle.cg_report.specs.ClockLines.{ClockLine, clock_line, clock_lines, clock_text, clocks_text, lines_text, net_rise, net_rises, net_rises_from, registers_on}
+use Rattle.cg_report.specs.ClockLines.{clock_line, clock_text, clocks_text, lines_text, net_rise, net_rises, net_rises_from, registers_on}
 use Rattle.cg_report.specs.Counts.{capped, last_from, last_nets}
 use Rattle.cg_report.specs.Shown.{Shown}
 use Rattle.cg_report.specs.declared.clock_count.ClockNet.{ClockNet}

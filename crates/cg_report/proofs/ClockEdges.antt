@@ -1,9 +1,9 @@
 -- The lines of the watcher of clocks account for every edge of a history: each register is clocked by one clock net, and rises with it.
-use Rattle.std.proofs.Common.{◌≡◌, ℕ, ◌+◌, ◌*◌, ◌-◌, ◌^◌, ◌≤◌, ◌<◌, Bool, true, false, cond, not, ◌&&◌, if◌then◌else◌, inl, inr, List, [], ◌∷◌, ◌++◌}
+use Rattle.std.proofs.Common.{◌≡◌, ℕ, ◌+◌, ◌*◌, ◌≤◌, Bool, true, false, cond, not, ◌&&◌, if◌then◌else◌, inl, inr, List, [], ◌∷◌, ◌++◌}
 use Rattle.std.proofs.Common.{length, map, nat_eq, Option, None, Some, refl, sym, ap, subst, ◌∙◌, append_assoc, arith}
 use Rattle.std.specs.List.{All, IsDistinct, count_by, sum_by}
 use Rattle.std.specs.Option.{option_map, option_to_list}
-use Rattle.std.proofs.lemmas.Bool.{both_ways, cases_Bool, eqb-true, false_from_ne_true, or_cases, or_parts}
+use Rattle.std.proofs.lemmas.Bool.{both_ways, eqb-true, false_from_ne_true, or_cases, or_parts}
 use Rattle.std.proofs.lemmas.List.Elements.{All-head, All-tail}
 use Rattle.std.proofs.lemmas.List.Sums.{sum_by-cons}
 use Rattle.cg_limit.specs.declared.TheConstants.{MOST_ROWS}
@@ -67,15 +67,15 @@ one_net : (f : ℕ → ℕ) (x : ℕ) (nets : List ℕ) → IsDistinct nat_eq ne
 one_net f x [] distinct among = absurd (both_ways false refl among)
 one_net f x (y ∷ ys) distinct among = elim (or_cases (nat_eq x y) (is_in ys x) among) [
   | inl here ↦
-    let same : x ≡ y = eqb-true x y here in
-    let first : at_net f x y ≡ f x = ap (λ b. if b then f y else 0) here ∙ ap f (sym same) in
-    let later : sum_by (at_net f x) ys ≡ 0 = no_net f x ys (ap (is_in ys) same ∙ distinct_head y ys distinct) in
-    sum_by-cons (at_net f x) y ys ∙ omega arith
+      let same : x ≡ y = eqb-true x y here in
+      let first : at_net f x y ≡ f x = ap (λ b. if b then f y else 0) here ∙ ap f (sym same) in
+      let later : sum_by (at_net f x) ys ≡ 0 = no_net f x ys (ap (is_in ys) same ∙ distinct_head y ys distinct) in
+      sum_by-cons (at_net f x) y ys ∙ omega arith
   | inr there ↦
-    let differ : nat_eq x y ≡ false = false_from_ne_true (nat_eq x y) (λ here. both_ways (is_in ys x) (ap (is_in ys) (eqb-true x y here) ∙ distinct_head y ys distinct) there) in
-    let first : at_net f x y ≡ 0 = other_net f x y differ in
-    let later : sum_by (at_net f x) ys ≡ f x = one_net f x ys (distinct_tail y ys distinct) there in
-    sum_by-cons (at_net f x) y ys ∙ omega arith
+      let differ : nat_eq x y ≡ false = false_from_ne_true (nat_eq x y) (λ here. both_ways (is_in ys x) (ap (is_in ys) (eqb-true x y here) ∙ distinct_head y ys distinct) there) in
+      let first : at_net f x y ≡ 0 = other_net f x y differ in
+      let later : sum_by (at_net f x) ys ≡ f x = one_net f x ys (distinct_tail y ys distinct) there in
+      sum_by-cons (at_net f x) y ys ∙ omega arith
 ]
 
 one_more : (b : Bool) (n u : ℕ) → (cond b 1 0 + n) * u ≡ (if b then u else 0) + n * u

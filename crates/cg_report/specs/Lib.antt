@@ -1,6 +1,7 @@
 pub mod Shown
 pub mod Counts
 pub mod Lines
+pub mod ClockLines
 pub mod Place
 pub mod Zeros
 pub mod RowLines

@@ -4,3 +4,4 @@ pub mod RowByRow
 pub mod ZeroCounting
 pub mod Saying
 pub mod Watching
+pub mod ClockCounting

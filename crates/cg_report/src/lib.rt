@@ -2,7 +2,7 @@
 //!
 //! A netlist and a stimulus go in, and a [`Player`](player::Player) goes through the played history, moment by moment.
 //!
-//! A [`Watcher`](watcher::Watcher) is shown a netlist and then moments of it, one by one, and says a line of them. The two
+//! A [`Watcher`](watcher::Watcher) is shown a netlist and then moments of it, one by one, and says a line of them. The three
 //! watchers of this crate count.
 //!
 //! Modules, as data flows:
@@ -12,9 +12,11 @@
 //! - [`edges`]: the edges of the rows alone, or with the line of a watcher;
 //! - [`zeros`]: how often nets are 0 at the low moments of the rows;
 //! - [`watcher`]: who is shown the moments, and says a line of them, and [`showing`]: how it is shown the rows;
-//! - [`edge_count`]: the rises of registers, and [`toggle_count`]: the changes of nets.
+//! - [`edge_count`]: the rises of registers, [`toggle_count`]: the changes of nets, and [`clock_count`]: the rises of each clock
+//!   net.
 #![tactic(auto)]
 
+pub mod clock_count;
 pub mod edge_count;
 pub mod edges;
 pub mod player;

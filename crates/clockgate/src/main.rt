@@ -4,6 +4,7 @@
 
 mod progress_line;
 
+use cg_report::clock_count::ClockCount;
 use cg_report::edge_count::EdgeCount;
 use cg_report::toggle_count::ToggleCount;
 use cg_report::watcher::Watcher;
@@ -35,12 +36,13 @@ fn words(rt: HostRuntime) -> io::Result<Vec<String>> {
     Ok(env::args(&rt)?.collect::<Vec<String>>(rt.alloc())?)
 }
 
-/// Runs the words, which may ask for a watcher of edges or of toggles, or for one that says a Value Change Dump.
+/// Runs the words, which may ask for a watcher of edges, of toggles or of clocks, or for one that says a Value Change Dump.
 fn watched(rt: HostRuntime, words: &[String]) -> Result<Status, AllocError> {
     let alloc = rt.alloc();
     let mut watchers: Vec<Box<dyn Watcher>> = Vec::new(alloc);
     watchers.push(Box::new(alloc, EdgeCount::new())?)?;
     watchers.push(Box::new(alloc, ToggleCount::new(alloc))?)?;
+    watchers.push(Box::new(alloc, ClockCount::new(alloc))?)?;
     watchers.push(Box::new(alloc, VcdWatch::new(alloc))?)?;
     let mut shelf = DirShelf::new(rt, rt.stderr(), alloc);
     let mut line = ProgressLine::new(rt, rt.stderr().is_terminal());

@@ -6,6 +6,7 @@ use crate::highs::Highs;
 use crate::long::{cells, latches, nets};
 use crate::solver::{Answer, solved};
 use cg_plan::progress::Silent;
+use cg_report::clock_count::ClockCount;
 use cg_report::edge_count::EdgeCount;
 use cg_report::toggle_count::ToggleCount;
 use cg_report::watcher::Watcher;
@@ -315,7 +316,7 @@ fn put_words(alloc: Global, all: &mut Vec<String>, words: &[&str]) -> Result<(),
     Ok(())
 }
 
-/// Runs the program on a command line with its three watchers, and two of a kind of their own.
+/// Runs the program on a command line with its four watchers, and two of a kind of their own.
 fn run_words<S: Shelf>(
     alloc: Global,
     shelf: &mut S,
@@ -326,6 +327,8 @@ fn run_words<S: Shelf>(
     watchers.push(edges)?;
     let toggles: Box<dyn Watcher> = Box::new(alloc, ToggleCount::new(alloc))?;
     watchers.push(toggles)?;
+    let clocks: Box<dyn Watcher> = Box::new(alloc, ClockCount::new(alloc))?;
+    watchers.push(clocks)?;
     let dump: Box<dyn Watcher> = Box::new(alloc, VcdWatch::new(alloc))?;
     watchers.push(dump)?;
     let highs: Box<dyn Watcher> = Box::new(alloc, Highs::new())?;

@@ -11,6 +11,7 @@ use Rattle.cg_plan_text.specs.Summary.{demo_text, report_text, said_text}
 use Rattle.cg_plan_text.specs.declared.summary.Edges.{Edges}
 use Rattle.cg_plan_text.specs.declared.summary.Played.{Played}
 use Rattle.cg_stimulus.specs.Inputs.{Rows}
+use Rattle.cg_verilog_text.specs.Written.{verilog}
 use Rattle.cg_plan.specs.Planning.{AreWritable}
 use Rattle.cg_gate.specs.Played.{AreEdges, IsWhatPlayed, Saying}
 use Rattle.cg_gate.specs.Request.{RequestData, gating_of}
@@ -34,6 +35,7 @@ pub record AreTexts (request : RequestData) (told : ReportedPlan) (written : Cir
   pub out : texts.out ≡ blif written
   pub proof : texts.proof ≡ where_asked request.proof (proof_text told)
   pub report : texts.report ≡ where_asked request.report (report_text told (length written.gaters) played)
+  pub verilog : texts.verilog ≡ where_asked request.verilog (verilog written)
   pub said : texts.said ≡ said_text told played
 
 -- what gating gives of a netlist, with a watcher that says this, if there is one

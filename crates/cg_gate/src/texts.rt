@@ -1,18 +1,23 @@
 //! The texts of a netlist that was gated.
 
-ghost use Rattle.std.specs.Prelude.{◌≡◌, length, IfOk};
+ghost use Rattle.std.specs.Prelude.{◌≡◌, None, length, IfErr, IfOk, OnOk};
 ghost use Rattle.cg_gate.specs.Gating.{AreTexts, where_asked};
+ghost use Rattle.cg_gate.specs.Stops.{GatingMayFail, verilog_stop};
 ghost use Rattle.cg_plan.specs.Planning.{AreWritable, told};
 ghost use Rattle.cg_plan_text.specs.ProofText.{proof_text};
 ghost use Rattle.cg_plan_text.specs.Summary.{report_text};
+ghost use Rattle.cg_verilog_text.specs.Written.{verilog};
 
+use crate::fault::GateFault;
 use crate::planning::Gated;
 use crate::request::Request;
 use cg_blif_out::write_blif;
 use cg_list::Seq;
+use cg_netlist::netlist::Netlist;
 use cg_plan::plan::Plan;
 use cg_plan_text::proof::proof_text;
 use cg_plan_text::summary::{Played, report_text, said_text};
+use cg_verilog_out::write_verilog;
 use std::alloc::{AllocError, Global};
 
 /// The texts that gating gives.
@@ -27,6 +32,9 @@ pub struct Texts {
     /// The report, where it is asked for.
     pub report: Option<Seq<u8>>,
 
+    /// The written netlist as a Verilog text, where it is asked for.
+    pub verilog: Option<Seq<u8>>,
+
     /// What is said.
     pub said: Seq<u8>,
 }
@@ -37,16 +45,36 @@ pub(crate) fn write_texts(
     request: &Request<'_>,
     gated: &Gated,
     played: &Played,
-) -> Result<Texts, AllocError>
+) -> Result<Texts, GateFault>
     requires { AreWritable gated.now.plan.certificates }
-    ensures { IfOk result (λ texts. AreTexts request.now (told gated.now.plan) gated.now.netlist played.now texts) }
+    ensures texts { IfOk result (λ texts. AreTexts request.now (told gated.now.plan) gated.now.netlist played.now texts) }
+    ensures unstopped { OnOk result (verilog_stop request.now.verilog gated.now.netlist ≡ None) }
+    ensures fault { IfErr result (GatingMayFail (verilog_stop request.now.verilog gated.now.netlist)) }
 {
+    let verilog = verilog_asked(alloc, request.verilog, &gated.netlist)?;
     Ok(Texts {
         out: Seq::from_vec(write_blif(alloc, &gated.netlist)?),
         proof: proof_asked(alloc, request.proof, &gated.plan)?,
         report: report_asked(alloc, request.report, gated, played)?,
+        verilog,
         said: Seq::from_vec(said_text(alloc, &gated.plan, played)?),
     })
+}
+
+/// The Verilog text of a netlist, where it is asked for.
+fn verilog_asked(
+    alloc: Global,
+    asked: bool,
+    netlist: &Netlist,
+) -> Result<Option<Seq<u8>>, GateFault>
+    ensures text { IfOk result (λ text. text ≡ where_asked asked (verilog netlist.now)) }
+    ensures unstopped { OnOk result (verilog_stop asked netlist.now ≡ None) }
+    ensures fault { IfErr result (GatingMayFail (verilog_stop asked netlist.now)) }
+{
+    if !asked {
+        return Ok(None);
+    }
+    Ok(Some(Seq::from_vec(write_verilog(alloc, netlist)?)))
 }
 
 /// The proof file, where it is asked for.

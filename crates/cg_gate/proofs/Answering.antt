@@ -9,7 +9,7 @@ use Rattle.cg_netlist.specs.declared.fault.AddFault.TheVariants.{Limit as Passed
 use Rattle.cg_plan_laws.specs.Reported.{PlanMayFail, ReportedPlan}
 use Rattle.cg_plan_text.specs.declared.summary.Played.{Played}
 use Rattle.cg_stimulus.specs.Inputs.{Rows}
-use Rattle.cg_gate.specs.Gating.{AreTexts, GivesGated, IsWritten}
+use Rattle.cg_gate.specs.Gating.{AreTexts, GivesGated, IsWritten, TellsGated}
 use Rattle.cg_gate.specs.Headline.{Headline}
 use Rattle.cg_gate.specs.Laws.{IsProper}
 use Rattle.cg_gate.specs.Played.{IsWhatPlayed, LineIs, Saying}
@@ -51,10 +51,9 @@ unsaid (Some says) written = refl
 pub unplayed : (says : Option Saying) (stimulus : Option Rows) (read written : Circuit) → stimulus ≡ None → IsWhatPlayed says stimulus read written (record { edges = None; watched = None })
 unplayed says stimulus read written none = subst (λ (s : Option Rows). IsWhatPlayed says s read written (record { edges = None; watched = None })) (sym none) (record { edges = refl; line = unsaid says written })
 
-module _ (request : RequestData) (says : Option Saying) (read written : Circuit) (told : ReportedPlan) (played : Played) (gated : IsWritten (gating_of request read) read told written)
-    (what : IsWhatPlayed says request.stimulus read written played) where
-  pub gives_all : (texts : Texts) → AreTexts request told written played texts → GivesGated request says read texts
-  gives_all texts are = record { told = told; written = written; played = played; gated = gated; what = what; gives = are }
+module _ (request : RequestData) (says : Option Saying) (read written : Circuit) (told : ReportedPlan) (gated : IsWritten (gating_of request read) read told written) where
+  pub gives_all : (texts : Texts) → TellsGated request says read written told texts → GivesGated request says read texts
+  gives_all texts tells = record { told = told; written = written; gated = gated; tells = tells }
 
-  pub means_all : IsProper request → MayGate request read → (texts : Texts) → AreTexts request told written played texts → Headline request says read texts
-  means_all proper may texts are = gated_means request says read texts proper may (gives_all texts are)
+  pub means_all : IsProper request → MayGate request read → (texts : Texts) → TellsGated request says read written told texts → Headline request says read texts
+  means_all proper may texts tells = gated_means request says read texts proper may (gives_all texts tells)

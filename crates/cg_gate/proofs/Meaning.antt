@@ -104,7 +104,7 @@ module _ (request : RequestData) (says : Option Saying) (read : Circuit) (texts 
       writable request.library request.test n good_planned inserts own small gives.written is proper.found (subst (IsPlaceable request.library) (sym (keeps_netlist by read may.start)) (bare_is_placeable request.library read may.placeable))
 
   says_it : BlifText texts.out request.library None gives.written
-  says_it = subst (λ text. BlifText text request.library None w) (sym gives.gives.out) (says_itself request.library w is_writable)
+  says_it = subst (λ text. BlifText text request.library None w) (sym gives.tells.gives.out) (says_itself request.library w is_writable)
 
   -- the two histories
   shows : (start : List Bool) (wave : List Tick) (bits : List Bool) → IsStart read start → IsWaveform read wave → length bits ≡ length wave
@@ -145,14 +145,14 @@ module _ (request : RequestData) (says : Option Saying) (read : Circuit) (texts 
 
   verilog_means : IfSome texts.verilog (VerilogMeans request.library request.test gives.told.machine read delays gives.written)
   verilog_means =
-      means_asked (VerilogMeans request.library request.test gives.told.machine read delays gives.written) request.verilog texts.verilog (verilog w) gives.gives.verilog
+      means_asked (VerilogMeans request.library request.test gives.told.machine read delays gives.written) request.verilog texts.verilog (verilog w) gives.tells.gives.verilog
       (text_means request.library request.test gives.told.machine read delays w is_writable.placeable shows)
 
   pub means : Headline request says read texts
   means = record {
     written = w;
     well_formed = formed;
-    text = gives.gives.out;
+    text = gives.tells.gives.out;
     says_it = says_it;
     no_other = λ c other. no_two texts.out request.library None c w other says_it;
     inputs = behaves.inputs;
@@ -162,7 +162,7 @@ module _ (request : RequestData) (says : Option Saying) (read : Circuit) (texts 
     parts = subst (KeepsParts read) (sym is) (keeps_parts by read can);
     plan = gives.told;
     shows = shows;
-    verilog = gives.gives.verilog;
+    verilog = gives.tells.gives.verilog;
     verilog_means = verilog_means;
     is = gives.gated.is;
     turns = plan.turns;
@@ -175,12 +175,12 @@ module _ (request : RequestData) (says : Option Saying) (read : Circuit) (texts 
     wide = gives.gated.plan.wide;
     certified = gives.gated.plan.certificates;
     writable = gives.gated.writable;
-    proof = gives.gives.proof;
-    played = gives.played;
-    edges = gives.what.edges;
-    line = gives.what.line;
-    said = gives.gives.said;
-    report = gives.gives.report;
+    proof = gives.tells.gives.proof;
+    played = gives.tells.played;
+    edges = gives.tells.what.edges;
+    line = gives.tells.what.line;
+    said = gives.tells.gives.said;
+    report = gives.tells.gives.report;
   }
 
 pub gated_means : GatedMeans

@@ -38,14 +38,19 @@ pub record AreTexts (request : RequestData) (told : ReportedPlan) (written : Cir
   pub verilog : texts.verilog ≡ where_asked request.verilog (verilog written)
   pub said : texts.said ≡ said_text told played
 
+-- the texts of a netlist that was read, of what it is written as and of the plan, with what comes of the stimulus
+pub record TellsGated (request : RequestData) (says : Option Saying) (read written : Circuit) (told : ReportedPlan)
+    (texts : Texts) : Type 0 where
+  pub played : Played
+  pub what : IsWhatPlayed says request.stimulus read written played
+  pub gives : AreTexts request told written played texts
+
 -- what gating gives of a netlist, with a watcher that says this, if there is one
 pub record GivesGated (request : RequestData) (says : Option Saying) (c : Circuit) (texts : Texts) : Type 0 where
   pub told : ReportedPlan
   pub written : Circuit
-  pub played : Played
   pub gated : IsWritten (gating_of request c) c told written
-  pub what : IsWhatPlayed says request.stimulus c written played
-  pub gives : AreTexts request told written played texts
+  pub tells : TellsGated request says c written told texts
 
 -- what is said of a generated pipeline of this size that was gated
 pub record SaysDemo (size : ℕ) (rows : List (List Bool)) (read written : Circuit) (told : ReportedPlan) (text : List ℕ) : Type 0 where

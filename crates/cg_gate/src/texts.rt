@@ -6,7 +6,7 @@ ghost use Rattle.cg_gate.specs.Stops.{GatingMayFail, verilog_stop};
 ghost use Rattle.cg_plan.specs.Planning.{AreWritable, told};
 ghost use Rattle.cg_plan_text.specs.ProofText.{proof_text};
 ghost use Rattle.cg_plan_text.specs.Summary.{report_text};
-ghost use Rattle.cg_verilog_text.specs.Written.{verilog};
+ghost use Rattle.cg_verilog_text.specs.Written.{verilog as verilog_text};
 
 use crate::fault::GateFault;
 use crate::planning::Gated;
@@ -39,19 +39,18 @@ pub struct Texts {
     pub said: Seq<u8>,
 }
 
-/// The texts of a netlist that was gated, whose certificates keep to the bounds of their formats.
+/// The texts of a netlist that was gated, whose certificates keep to the bounds of their formats, with its Verilog text.
 pub(crate) fn write_texts(
     alloc: Global,
     request: &Request<'_>,
     gated: &Gated,
     played: &Played,
-) -> Result<Texts, GateFault>
-    requires { AreWritable gated.now.plan.certificates }
-    ensures texts { IfOk result (λ texts. AreTexts request.now (told gated.now.plan) gated.now.netlist played.now texts) }
-    ensures unstopped { OnOk result (verilog_stop request.now.verilog gated.now.netlist ≡ None) }
-    ensures fault { IfErr result (GatingMayFail (verilog_stop request.now.verilog gated.now.netlist)) }
+    verilog: Option<Seq<u8>>,
+) -> Result<Texts, AllocError>
+    requires proof { AreWritable gated.now.plan.certificates }
+    requires verilog { verilog ≡ where_asked request.now.verilog (verilog_text gated.now.netlist) }
+    ensures { IfOk result (λ texts. AreTexts request.now (told gated.now.plan) gated.now.netlist played.now texts) }
 {
-    let verilog = verilog_asked(alloc, request.verilog, &gated.netlist)?;
     Ok(Texts {
         out: Seq::from_vec(write_blif(alloc, &gated.netlist)?),
         proof: proof_asked(alloc, request.proof, &gated.plan)?,
@@ -62,12 +61,12 @@ pub(crate) fn write_texts(
 }
 
 /// The Verilog text of a netlist, where it is asked for.
-fn verilog_asked(
+pub(crate) fn verilog_asked(
     alloc: Global,
     asked: bool,
     netlist: &Netlist,
 ) -> Result<Option<Seq<u8>>, GateFault>
-    ensures text { IfOk result (λ text. text ≡ where_asked asked (verilog netlist.now)) }
+    ensures text { IfOk result (λ text. text ≡ where_asked asked (verilog_text netlist.now)) }
     ensures unstopped { OnOk result (verilog_stop asked netlist.now ≡ None) }
     ensures fault { IfErr result (GatingMayFail (verilog_stop asked netlist.now)) }
 {

@@ -97,7 +97,7 @@ gated_of options kind names before after finish end f read gives =
     let found = found_so end.library options.clock (wanted_by options) read.text c read.found in
     let says = netlist_says end.library options.clock read.text c found.said in
     let held : (name : List ℕ) → after.held name ≡ puts names (gate_output (gates.2).texts).stores before.held name = λ name. f.written.held name ∙ ap (λ (o : Output). puts names o.stores before.held name) (gates.2).is in
-    let texts = ((gates.2).gives).gives in
+    let texts = (((gates.2).gives).tells).gives in
     record {
       library = end.library;
       read = c;

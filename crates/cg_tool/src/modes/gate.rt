@@ -157,10 +157,20 @@ fn gate_trouble(alloc: Global, fault: GateFault) -> Result<Trouble, AllocError>
     match fault {
         GateFault::Limit(limit) => Ok(Trouble::Limit(limit)),
         GateFault::BadName(name) => {
-            with_name(alloc, Owner::Netlist, b"verilog: bad name ", name.as_slice())
+            with_name(
+                alloc,
+                Owner::Netlist,
+                b"verilog: bad name ",
+                name.as_slice(),
+            )
         }
         GateFault::PortTwice(net) => {
-            with_name(alloc, Owner::Netlist, b"verilog: port twice ", net.as_slice())
+            with_name(
+                alloc,
+                Owner::Netlist,
+                b"verilog: port twice ",
+                net.as_slice(),
+            )
         }
         GateFault::NoMemory => Ok(Trouble::NoMemory),
     }

@@ -4,8 +4,8 @@ ghost use Rattle.std.specs.Prelude.{◌≡◌, ◌++◌, ◌<◌, ◌^◌, [], S
 ghost use Rattle.std.specs.List.{list_any, position_from};
 ghost use Rattle.std.specs.Str.{bytes_eq};
 ghost use Rattle.std.specs.Option.{option_map, option_to_list};
-ghost use Rattle.cg_command_line.specs.Options.{are_different, asked_in, default_prefix, gate_options, has_gate_options};
-ghost use Rattle.cg_command_line.specs.Options.{has_options, is_apart, may_watch};
+ghost use Rattle.cg_command_line.specs.Options.{are_different, asked_in, default_prefix, gate_options, has_file_options};
+ghost use Rattle.cg_command_line.specs.Options.{has_gate_options, has_options, is_apart, may_watch};
 ghost use Rattle.cg_command_line.specs.Options.{is_named, no_options, number_in, number_or, option_files, settings_in, sim_options};
 ghost use Rattle.cg_command_line.specs.Options.{stimulus_in, watch_in};
 ghost use Rattle.cg_command_line.specs.Seen.{values_of};
@@ -26,6 +26,7 @@ pub struct Asked {
     pub stimulus: Option<StimulusForm>,
     pub proof: bool,
     pub report: bool,
+    pub verilog: bool,
 }
 
 /// What the options say; those that are left out have their defaults.
@@ -69,6 +70,7 @@ pub fn no_options(alloc: Global) -> Result<Options, AllocError>
             stimulus: None,
             proof: false,
             report: false,
+            verilog: false,
         },
     })
 }
@@ -139,14 +141,22 @@ pub fn sim_options(
 pub fn has_gate_options(given: &OptionWords<'_>) -> bool
     ensures { result ≡ has_gate_options (values_of given.now) }
 {
-    given.stim.is_some()
-        || given.proof.is_some()
-        || given.report.is_some()
+    has_file_options(given)
         || given.min.is_some()
         || given.width.is_some()
         || given.rounds.is_some()
         || given.prefix.is_some()
         || given.test.is_some()
+}
+
+/// Whether options are given that name a file of `gate` alone.
+fn has_file_options(given: &OptionWords<'_>) -> bool
+    ensures { result ≡ has_file_options (values_of given.now) }
+{
+    given.stim.is_some()
+        || given.proof.is_some()
+        || given.report.is_some()
+        || given.verilog.is_some()
 }
 
 /// Whether options of any mode are given.
@@ -167,6 +177,7 @@ fn asked_for(given: &OptionWords<'_>, stimulus: Option<StimulusForm>) -> Asked
         stimulus,
         proof: given.proof.is_some(),
         report: given.report.is_some(),
+        verilog: given.verilog.is_some(),
     }
 }
 
@@ -313,7 +324,8 @@ pub fn push_files<'a>(files: &mut Vec<&'a str>, given: &OptionWords<'a>) -> Resu
     push_file(files, given.stim)?;
     push_file(files, given.vcd)?;
     push_file(files, given.proof)?;
-    push_file(files, given.report)
+    push_file(files, given.report)?;
+    push_file(files, given.verilog)
 }
 
 fn push_file<'a>(files: &mut Vec<&'a str>, file: Option<&'a str>) -> Result<(), AllocError>

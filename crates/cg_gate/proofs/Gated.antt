@@ -62,5 +62,8 @@ module _ (request : RequestData) (read : Circuit) (proper : IsProper request) (m
       limits : insertion_limit request.test told.machine ≡ stops_at request read
       limits = ap (insertion_limit request.test) plan.machine ∙ ap (λ l. option_or l (insertion_limit request.test (planned by read))) (sym plan.whole)
 
+  pub written_is : (written : Circuit) → IsWritten (gating_of request read) read told written → written ≡ gated_by (gating_of request read) read
+  written_is written is = is.is ∙ ap (inserted request.library request.test) plan.machine
+
   pub unstopped : (written : Circuit) → IsWritten (gating_of request read) read told written → stops_at request read ≡ None
   unstopped written is = ap (λ l. option_or l (insertion_limit request.test (planned by read))) plan.whole ∙ (ap (insertion_limit request.test) (sym plan.machine) ∙ is.fits)

@@ -1,5 +1,5 @@
 -- What gating gives means what the headline says.
-use Rattle.std.proofs.Common.{◌≡◌, ◌+◌, ◌-◌, Bool, true, List, ◌++◌, map, length, Option, None, Some, refl, sym, ◌∙◌, ap, subst}
+use Rattle.std.proofs.Common.{◌≡◌, ◌+◌, ◌-◌, ℕ, Bool, true, List, ◌++◌, map, length, Option, None, Some, refl, sym, ◌∙◌, ap, subst}
 use Rattle.std.proofs.lemmas.List.{length-replicate}
 use Rattle.cg_blif_text.specs.BlifText.{BlifText}
 use Rattle.cg_blif_text.proofs.CanonicalText.{no_two, says_itself}
@@ -33,7 +33,7 @@ use Rattle.cg_stimulus.specs.Inputs.{Rows}
 use Rattle.cg_stimulus.specs.Played.{IsPlayed, played_start, played_wave}
 use Rattle.cg_stimulus.proofs.Playing.{start_is, wave_is}
 use Rattle.cg_gate.specs.Gating.{GivesGated}
-use Rattle.cg_gate.specs.Headline.{Headline, ShowsSame, with_bits}
+use Rattle.cg_gate.specs.Headline.{Headline, ShowsSame, VerilogMeans, with_bits}
 use Rattle.cg_gate.specs.ZeroCounting.{zero_counts, zeros_by}
 use Rattle.cg_gate.specs.Laws.{GatedMeans, IsProper}
 use Rattle.cg_gate.specs.Played.{Saying}
@@ -46,7 +46,10 @@ use Rattle.cg_gate.proofs.Leads.{plan_leads}
 use Rattle.cg_extract.proofs.ForGating.{bare_is_netlist, bare_is_placeable}
 use Rattle.cg_gate.proofs.MayInsert.{may_gate}
 use Rattle.cg_gate.proofs.TestedWaves.{IsTested, tested_wave}
+use Rattle.cg_gate.proofs.TextShows.{means_asked, text_means}
 use Rattle.cg_gate.proofs.Unrefused.{untested}
+use Rattle.cg_verilog_text.specs.Written.{verilog}
+use Rattle.std.specs.Prelude.{IfSome}
 
 module _ (request : RequestData) (says : Option Saying) (read : Circuit) (texts : Texts) (proper : IsProper request) (may : MayGate request read) (gives : GivesGated request says read texts) where
   abbrev by : Gating
@@ -101,7 +104,7 @@ module _ (request : RequestData) (says : Option Saying) (read : Circuit) (texts 
       writable request.library request.test n good_planned inserts own small gives.written is proper.found (subst (IsPlaceable request.library) (sym (keeps_netlist by read may.start)) (bare_is_placeable request.library read may.placeable))
 
   says_it : BlifText texts.out request.library None gives.written
-  says_it = subst (λ text. BlifText text request.library None w) (sym gives.gives.out) (says_itself request.library w is_writable)
+  says_it = subst (λ text. BlifText text request.library None w) (sym gives.tells.gives.out) (says_itself request.library w is_writable)
 
   -- the two histories
   shows : (start : List Bool) (wave : List Tick) (bits : List Bool) → IsStart read start → IsWaveform read wave → length bits ≡ length wave
@@ -137,20 +140,30 @@ module _ (request : RequestData) (says : Option Saying) (read : Circuit) (texts 
       let some = has_history read may.start.netlist.well_formed (played_start read) (played_wave read stimulus.rows) (start_is read) (wave_is read stimulus rows for') in
       (some.0, some.1, counts read request.prefix may.start (untested request.library request.test read may.lifts) stimulus rows for' some.0 some.1)
 
+  abbrev delays : ℕ
+  delays = length n.circuit.registers - n.own_registers
+
+  verilog_means : IfSome texts.verilog (VerilogMeans request gives.told.machine read delays gives.written)
+  verilog_means =
+      means_asked (VerilogMeans request gives.told.machine read delays gives.written) request.verilog texts.verilog (verilog w) gives.tells.gives.verilog
+      (text_means request gives.told.machine read delays w is_writable.placeable shows)
+
   pub means : Headline request says read texts
   means = record {
     written = w;
     well_formed = formed;
-    text = gives.gives.out;
+    text = gives.tells.gives.out;
     says_it = says_it;
     no_other = λ c other. no_two texts.out request.library None c w other says_it;
     inputs = behaves.inputs;
     outputs = behaves.outputs;
-    delays = length n.circuit.registers - n.own_registers;
+    delays = delays;
     registers = behaves.registers ∙ ap (λ k. length read.registers + k) (length-replicate (length n.circuit.registers - n.own_registers) true);
     parts = subst (KeepsParts read) (sym is) (keeps_parts by read can);
     plan = gives.told;
     shows = shows;
+    verilog = gives.tells.gives.verilog;
+    verilog_means = verilog_means;
     is = gives.gated.is;
     turns = plan.turns;
     planned = refl;
@@ -162,12 +175,12 @@ module _ (request : RequestData) (says : Option Saying) (read : Circuit) (texts 
     wide = gives.gated.plan.wide;
     certified = gives.gated.plan.certificates;
     writable = gives.gated.writable;
-    proof = gives.gives.proof;
-    played = gives.played;
-    edges = gives.what.edges;
-    line = gives.what.line;
-    said = gives.gives.said;
-    report = gives.gives.report;
+    proof = gives.tells.gives.proof;
+    played = gives.tells.played;
+    edges = gives.tells.what.edges;
+    line = gives.tells.what.line;
+    said = gives.tells.gives.said;
+    report = gives.tells.gives.report;
   }
 
 pub gated_means : GatedMeans

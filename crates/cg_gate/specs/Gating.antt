@@ -11,6 +11,7 @@ use Rattle.cg_plan_text.specs.Summary.{demo_text, report_text, said_text}
 use Rattle.cg_plan_text.specs.declared.summary.Edges.{Edges}
 use Rattle.cg_plan_text.specs.declared.summary.Played.{Played}
 use Rattle.cg_stimulus.specs.Inputs.{Rows}
+use Rattle.cg_verilog_text.specs.Written.{verilog}
 use Rattle.cg_plan.specs.Planning.{AreWritable}
 use Rattle.cg_gate.specs.Played.{AreEdges, IsWhatPlayed, Saying}
 use Rattle.cg_gate.specs.Request.{RequestData, gating_of}
@@ -34,16 +35,22 @@ pub record AreTexts (request : RequestData) (told : ReportedPlan) (written : Cir
   pub out : texts.out ≡ blif written
   pub proof : texts.proof ≡ where_asked request.proof (proof_text told)
   pub report : texts.report ≡ where_asked request.report (report_text told (length written.gaters) played)
+  pub verilog : texts.verilog ≡ where_asked request.verilog (verilog written)
   pub said : texts.said ≡ said_text told played
+
+-- the texts of a netlist that was read, of what it is written as and of the plan, with what comes of the stimulus
+pub record TellsGated (request : RequestData) (says : Option Saying) (read written : Circuit) (told : ReportedPlan)
+    (texts : Texts) : Type 0 where
+  pub played : Played
+  pub what : IsWhatPlayed says request.stimulus read written played
+  pub gives : AreTexts request told written played texts
 
 -- what gating gives of a netlist, with a watcher that says this, if there is one
 pub record GivesGated (request : RequestData) (says : Option Saying) (c : Circuit) (texts : Texts) : Type 0 where
   pub told : ReportedPlan
   pub written : Circuit
-  pub played : Played
   pub gated : IsWritten (gating_of request c) c told written
-  pub what : IsWhatPlayed says request.stimulus c written played
-  pub gives : AreTexts request told written played texts
+  pub tells : TellsGated request says c written told texts
 
 -- what is said of a generated pipeline of this size that was gated
 pub record SaysDemo (size : ℕ) (rows : List (List Bool)) (read written : Circuit) (told : ReportedPlan) (text : List ℕ) : Type 0 where

@@ -16,7 +16,7 @@ use Rattle.cg_stimulus.specs.Inputs.{IsFor, Rows}
 use Rattle.cg_gate.specs.ZeroCounting.{zero_counts_of}
 
 -- the cells, what bounds the plan, the prefix of the names of added nets, the name of the test input, where there is to be one,
--- the stimulus, where there is one, and whether a proof file and a report are asked for
+-- the stimulus, where there is one, and whether a proof file, a report and a Verilog text are asked for
 pub record RequestData : Type 0 where
   pub library : List CellData
   pub settings : Settings
@@ -25,6 +25,7 @@ pub record RequestData : Type 0 where
   pub stimulus : Option Rows
   pub proof : Bool
   pub report : Bool
+  pub verilog : Bool
 
 -- a name is free for a test input: no net has it, and no net that is added gets it
 pub record IsFree (c : Circuit) (prefix name : List ℕ) : Type 0 where

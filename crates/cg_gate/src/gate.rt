@@ -1,18 +1,20 @@
 //! A netlist is gated.
 
-ghost use Rattle.std.specs.Prelude.{◌≡◌, true, None, is_some, IfOk, IfErr, OnOk};
+ghost use Rattle.std.specs.Prelude.{◌≡◌, true, None, Some, is_some, IfOk, IfErr, OnOk};
 ghost use Rattle.std.specs.Option.{option_map};
-ghost use Rattle.cg_gate.specs.Gating.{AreTexts, GivesDemo, GivesGated, SaysDemo};
+ghost use Rattle.cg_gate.specs.Gating.{GivesDemo, GivesGated, SaysDemo, TellsGated};
 ghost use Rattle.cg_gate.specs.Headline.{Headline};
 ghost use Rattle.cg_gate.specs.Request.{MayGate, stops_at};
+ghost use Rattle.cg_gate.specs.Stops.{GatingMayFail, gating_stop, verilog_stop};
 ghost use Rattle.cg_plan_laws.specs.Reported.{PlanMayFail};
 ghost use Rattle.cg_plan.specs.Planning.{AreWritable, told};
-ghost use Rattle.cg_stimulus.specs.Inputs.{IsFor};
+ghost use Rattle.cg_stimulus.specs.Inputs.{IsFor, Rows};
 
+use crate::fault::GateFault;
 use crate::planning::{Gated, gate_netlist};
 use crate::playing::{edges_of, play_both};
 use crate::request::Request;
-use crate::texts::{Texts, write_texts};
+use crate::texts::{Texts, verilog_asked, write_texts};
 use cg_list::Seq;
 use cg_netlist::fault::AddFault;
 use cg_netlist::netlist::Netlist;
@@ -27,14 +29,15 @@ use std::alloc::{AllocError, Global};
 /// Where there is a stimulus, the history on which it is played on the written netlist is shown to the watcher, which begins
 /// anew.
 ///
-/// It is refused by the limit at which the plan stops, or else by that on nets where the written netlist would pass it.
+/// It is refused by the limit at which the plan stops, or else by that on nets where the written netlist would pass it; or else,
+/// where a Verilog text is asked for, by what keeps the written netlist from having one.
 pub fn gate(
     alloc: Global,
     netlist: &Netlist,
     request: &Request<'_>,
     watcher: Option<Box<dyn Watcher>>,
     progress: &mut dyn Progress,
-) -> Result<Texts, AddFault>
+) -> Result<Texts, GateFault>
     requires { MayGate request.now netlist.now }
     ensures gives { IfOk result (λ texts. GivesGated request.now (option_map (λ watcher. says watcher) watcher) netlist.now texts) }
 
@@ -42,18 +45,36 @@ pub fn gate(
     // shows; a stage is inserted exactly where it deserves it; and the watcher's line is what it says of exactly the moments of
     // the history that it was shown.
     ensures headline { IfOk result (λ texts. Headline request.now (option_map (λ watcher. says watcher) watcher) netlist.now texts) }
-    ensures unstopped { OnOk result (stops_at request.now netlist.now ≡ None) }
-    ensures fault { IfErr result (PlanMayFail (stops_at request.now netlist.now)) }
+    ensures unstopped { OnOk result (gating_stop request.now netlist.now ≡ None) }
+    ensures fault { IfErr result (GatingMayFail (gating_stop request.now netlist.now)) }
 {
     let gated = gate_netlist(alloc, netlist, request, progress)?;
-    let Ok(played) = play_both(alloc, netlist, &gated.netlist, request.stimulus, watcher) else {
-        // By a call, here and below, as its parts would else be dropped one by one in the proof.
-        drop(gated);
-        return Err(AddFault::NoMemory);
-    };
-    let texts = finish(alloc, request, &gated, &played);
+    let texts = finish(alloc, netlist, request, &gated, watcher);
+    // By a call, here and below, as its parts would else be dropped one by one in the proof.
     drop(gated);
     texts
+}
+
+/// The texts of a netlist that was gated, and what comes of the stimulus, where there is one. Before that is played it is refused
+/// where a Verilog text is asked for that it does not have.
+fn finish(
+    alloc: Global,
+    read: &Netlist,
+    request: &Request<'_>,
+    gated: &Gated,
+    watcher: Option<Box<dyn Watcher>>,
+) -> Result<Texts, GateFault>
+    requires writable { AreWritable gated.now.plan.certificates }
+    requires read { (rows : Rows) → request.now.stimulus ≡ Some rows → IsFor read.now rows }
+    requires written { (rows : Rows) → request.now.stimulus ≡ Some rows → IsFor gated.now.netlist rows }
+    ensures texts { IfOk result
+        (TellsGated request.now (option_map (λ watcher. says watcher) watcher) read.now gated.now.netlist (told gated.now.plan)) }
+    ensures unstopped { OnOk result (verilog_stop request.now.verilog gated.now.netlist ≡ None) }
+    ensures fault { IfErr result (GatingMayFail (verilog_stop request.now.verilog gated.now.netlist)) }
+{
+    let verilog = verilog_asked(alloc, request.verilog, &gated.netlist)?;
+    let played = play_both(alloc, read, &gated.netlist, request.stimulus, watcher)?;
+    Ok(write_texts(alloc, request, gated, &played, verilog)?)
 }
 
 /// Gates a generated pipeline of a size, and answers what is said of it. The stimulus that stands in the request is played.
@@ -92,18 +113,4 @@ fn demo_said(
     let edges = edges_of(alloc, read, &gated.netlist, stimulus)?;
     let gates = gated.netlist.gaters();
     Ok(Seq::from_vec(demo_text(alloc, size, &gated.plan, gates, edges)?))
-}
-
-/// The texts of a netlist that was gated, or want of memory.
-fn finish(
-    alloc: Global,
-    request: &Request<'_>,
-    gated: &Gated,
-    played: &Played,
-) -> Result<Texts, AddFault>
-    requires { AreWritable gated.now.plan.certificates }
-    ensures texts { IfOk result (λ texts. AreTexts request.now (told gated.now.plan) gated.now.netlist played.now texts) }
-    ensures fault { IfErr result (λ fault. fault ≡ AddFault.NoMemory) }
-{
-    Ok(write_texts(alloc, request, gated, played)?)
 }

@@ -5,7 +5,7 @@
 //!
 //! The modules, in the order in which data flows through them:
 //!
-//! - [`request`]: what is asked for.
+//! - [`request`]: what is asked for, and [`fault`]: why it is not done.
 //! - `counting`: how often nets are 0 on a stimulus.
 //! - `planning`: the plan of a netlist.
 //! - `playing`: what comes of a stimulus on both netlists.
@@ -15,6 +15,7 @@
 #![tactic(auto)]
 
 mod counting;
+pub mod fault;
 pub mod gate;
 pub mod laws;
 mod planning;

@@ -29,6 +29,9 @@ pub struct Request<'a> {
 
     /// Whether a report is asked for.
     pub report: bool,
+
+    /// Whether a Verilog text of the gated netlist is asked for.
+    pub verilog: bool,
 }
 
 impl<'a> Model for Request<'a> {
@@ -49,5 +52,6 @@ impl<'a> Model for Request<'a> {
       stimulus = option_copied r.stimulus;
       proof = r.proof;
       report = r.report;
+      verilog = r.verilog;
     } };
 }

@@ -1,19 +1,17 @@
-use Rattle.std.proofs.Common.{◌≡◌, Option, None, ap, subst, sym, ◌∙◌}
+use Rattle.std.proofs.Common.{◌≡◌, Option, ap, sym, ◌∙◌}
 use Rattle.std.specs.Option.{option_map}
-use Rattle.cg_gate.proofs.Answering.{gives_all, if_ok, means_all, on_ok, wanting}
-use Rattle.cg_gate.proofs.Gated.{unstopped}
-use Rattle.cg_gate.specs.Gating.{AreTexts, GivesGated}
-use Rattle.cg_gate.specs.Headline.{Headline}
-use Rattle.cg_gate.specs.Played.{IsWhatPlayed, Saying}
-use Rattle.cg_gate.specs.Request.{RequestData, stops_at}
+use Rattle.cg_netlist.specs.Circuit.{Circuit}
+use Rattle.cg_plan_laws.specs.Reported.{ReportedPlan}
 use Rattle.cg_plan.specs.Planning.{told}
+use Rattle.cg_gate.specs.Gating.{GivesGated, IsWritten, TellsGated}
+use Rattle.cg_gate.specs.Headline.{Headline}
+use Rattle.cg_gate.specs.Laws.{IsProper}
+use Rattle.cg_gate.specs.Played.{Saying}
+use Rattle.cg_gate.specs.Request.{MayGate, RequestData, gating_of}
+use Rattle.cg_gate.specs.Stops.{gating_stop, verilog_stop}
+use Rattle.cg_gate.proofs.Answering.{gives_all, if_ok, means_all, plan_stops, stopped_so, text_stops, unstopped_so}
+use Rattle.cg_gate.proofs.Gated.{unstopped, written_is}
 use Rattle.cg_gate.proofs.gate.gate.Goals as goal
-
-pub play_both-requires-clause-read : goal.play_both-requires-clause-read
-play_both-requires-clause-read g c = λ rows there. c.requires.played rows (sym (ap (λ (r : RequestData). r.stimulus) c.request.view_is) ∙ there)
-
-pub play_both-requires-clause-written : goal.play_both-requires-clause-written
-play_both-requires-clause-written g c = λ rows there. c.in_ok-gated.ensures.fits rows (sym (ap (λ (r : RequestData). r.stimulus) c.request.view_is) ∙ there)
 
 pub returns-clause-gives : goal.returns-clause-gives
 returns-clause-gives g c =
@@ -21,9 +19,8 @@ returns-clause-gives g c =
     let read = c.args.netlist.now in
     let says : Option Saying = option_map (λ w. (goal.Watcher-dyn g (w.vtable, w.value)).says w.value) c.args.watcher in
     let gated = c.in_ok-gated.gated in
-    let what = subst (λ (r : RequestData). IsWhatPlayed says r.stimulus read gated.netlist c.in-Ok.played) c.request.view_is c.in-Ok.ensures in
-    if_ok (AreTexts request (told gated.plan) gated.netlist c.in-Ok.played) (GivesGated request says read) c.finish-texts.result
-    (gives_all request says read gated.netlist (told gated.plan) c.in-Ok.played c.in_ok-gated.ensures.gated what) c.finish-texts.ensures.texts
+    if_ok (TellsGated request says read gated.netlist (told gated.plan)) (GivesGated request says read) c.finish-texts.result
+    (gives_all request says read gated.netlist (told gated.plan) c.in_ok-gated.ensures.gated) c.finish-texts.ensures.texts
 
 pub returns-clause-headline : goal.returns-clause-headline
 returns-clause-headline g c =
@@ -31,16 +28,27 @@ returns-clause-headline g c =
     let read = c.args.netlist.now in
     let says : Option Saying = option_map (λ w. (goal.Watcher-dyn g (w.vtable, w.value)).says w.value) c.args.watcher in
     let gated = c.in_ok-gated.gated in
-    let what = subst (λ (r : RequestData). IsWhatPlayed says r.stimulus read gated.netlist c.in-Ok.played) c.request.view_is c.in-Ok.ensures in
-    if_ok (AreTexts request (told gated.plan) gated.netlist c.in-Ok.played) (Headline request says read) c.finish-texts.result
-    (means_all request says read gated.netlist (told gated.plan) c.in-Ok.played c.in_ok-gated.ensures.gated what c.in_ok-gated.ensures.proper c.requires) c.finish-texts.ensures.texts
+    if_ok (TellsGated request says read gated.netlist (told gated.plan)) (Headline request says read) c.finish-texts.result
+    (means_all request says read gated.netlist (told gated.plan) c.in_ok-gated.ensures.gated c.in_ok-gated.ensures.proper c.requires) c.finish-texts.ensures.texts
+
+-- once the netlist is gated only what keeps it from having a Verilog text stops gating
+same_stop : (request : RequestData) (read : Circuit) (proper : IsProper request) (may : MayGate request read) (told : ReportedPlan) (written : Circuit) → IsWritten (gating_of request read) read told written
+    → gating_stop request read ≡ verilog_stop request.verilog written
+same_stop request read proper may told written is =
+    text_stops request read written (unstopped request read proper may told is.plan written is) (written_is request read proper may told is.plan written is)
 
 pub returns-clause-unstopped : goal.returns-clause-unstopped
 returns-clause-unstopped g c =
     let request = c.args.request.now in
     let read = c.args.netlist.now in
     let gated = c.in_ok-gated.gated in
-    on_ok (stops_at request read ≡ None) c.finish-texts.result (unstopped request read c.in_ok-gated.ensures.proper c.requires (told gated.plan) c.in_ok-gated.ensures.gated.plan gated.netlist c.in_ok-gated.ensures.gated)
+    unstopped_so (gating_stop request read) (verilog_stop request.verilog gated.netlist)
+    (same_stop request read c.in_ok-gated.ensures.proper c.requires (told gated.plan) gated.netlist c.in_ok-gated.ensures.gated) c.finish-texts.result c.finish-texts.ensures.unstopped
 
 pub returns-clause-fault : goal.returns-clause-fault
-returns-clause-fault g c = wanting (stops_at c.args.request.now c.args.netlist.now) c.finish-texts.result c.finish-texts.ensures.fault
+returns-clause-fault g c =
+    let request = c.args.request.now in
+    let read = c.args.netlist.now in
+    let gated = c.in_ok-gated.gated in
+    stopped_so (gating_stop request read) (verilog_stop request.verilog gated.netlist)
+    (same_stop request read c.in_ok-gated.ensures.proper c.requires (told gated.plan) gated.netlist c.in_ok-gated.ensures.gated) c.finish-texts.result c.finish-texts.ensures.fault

@@ -1,5 +1,5 @@
 -- The inputs and the rows of a cover, as they are put together.
-use Rattle.std.proofs.Common.{◌≡◌, ◌≢◌, ◌<◌, ℕ, zero, suc, Bool, true, false, not, ◌||◌, List, [], ◌∷◌, ◌++◌, map, length, set, take, drop, ◌+◌, refl, ap, sym, ◌∙◌, subst, cond, if◌then◌else◌, arith, get_or, Option, None, Some, option_map, IsTrue}
+use Rattle.std.proofs.Common.{◌≡◌, ◌≢◌, ◌<◌, ◌≤◌, ℕ, zero, suc, Bool, true, false, not, ◌||◌, List, [], ◌∷◌, ◌++◌, map, length, set, take, drop, ◌+◌, refl, ap, sym, ◌∙◌, subst, cond, if◌then◌else◌, arith, get_or, Option, None, Some, option_map, IsTrue}
 use Rattle.std.specs.Prelude.{replicate, slice_get}
 use Rattle.std.specs.List.{AllByRecursion, AllPairs, filter, find, flat_map}
 use Rattle.std.proofs.lemmas.List.{map-append, take_more}
@@ -135,6 +135,24 @@ module _ (ls : List Lit) (l : Lit) where
       here true same = let is : l.net ≡ n = same_word l.net n same in on_some n bit (ap before (sym is) ∙ some)
       here false apart = off n apart
 
+-- the literal's bit is put at the place of its net, unless there is one
+pub put_one : (ls : List Lit) (l : Lit) (inputs : List NetName) (row new : List (Option Bool)) (place : ℕ) → AllPairs (λ (name other : NetName). name ≢ other) inputs → slice_get inputs place ≡ Some l.net
+    → (slice_get row place ≡ Some None → new ≡ set row place (Some l.plain)) → ((other : Bool) → slice_get row place ≡ Some (Some other) → new ≡ row)
+    → row ≡ map (bit_in bytes_eq ls) inputs → new ≡ map (bit_in bytes_eq (ls ++ l ∷ [])) inputs
+put_one ls l inputs row new place different at none some is = go (bit_in bytes_eq ls l.net) refl
+  where
+    at_map : (f : NetName → Option Bool) (xs : List NetName) (k : ℕ) (x : NetName) → slice_get xs k ≡ Some x → slice_get (map f xs) k ≡ Some (f x)
+    at_map f [] k x e = absurd (cc)
+    at_map f (y ∷ ys) zero x e = let same : y ≡ x = cc in ap (λ z. Some (f z)) same
+    at_map f (y ∷ ys) (suc k) x e = at_map f ys k x e
+
+    here : slice_get row place ≡ Some (bit_in bytes_eq ls l.net)
+    here = ap (λ r. slice_get r place) is ∙ at_map (bit_in bytes_eq ls) inputs place l.net at
+
+    go : (o : Option Bool) → bit_in bytes_eq ls l.net ≡ o → new ≡ map (bit_in bytes_eq (ls ++ l ∷ [])) inputs
+    go None bit = none (here ∙ ap (λ (o : Option Bool). Some o) bit) ∙ (ap (λ r. set r place (Some l.plain)) is ∙ placed_bit ls l inputs place different at bit)
+    go (Some b) bit = some b (here ∙ ap (λ (o : Option Bool). Some o) bit) ∙ (is ∙ kept_bit ls l inputs b bit)
+
 -- names that are lent one after another
 pub lent_more : {A : Type 0} (now : A → NetName) (lent new : List A) (b : A) (names : List NetName) (k : ℕ) → map now lent ≡ take k names → new ≡ lent ++ b ∷ [] → slice_get names k ≡ Some (now b) → map now new ≡ take (k + 1) names
 lent_more now lent new b names k done put at =
@@ -151,6 +169,20 @@ nets_step names new terms k term d within same put =
     ap (λ ns. with_names ns (flat_map (λ (t : List Lit). map (λ (l : Lit). l.net) t) (drop (k + 1) terms))) put
     ∙ (sym (with_names-append names (map (λ (l : Lit). l.net) term) (flat_map (λ (t : List Lit). map (λ (l : Lit). l.net) t) (drop (k + 1) terms)))
     ∙ ap (λ ts. with_names names (flat_map (λ (t : List Lit). map (λ (l : Lit). l.net) t) ts)) (sym next))
+
+-- no term is left
+drop_none : {A : Type 0} (xs : List A) (k : ℕ) → length xs ≤ k → drop k xs ≡ []
+drop_none [] zero past = refl
+drop_none [] (suc k) past = refl
+drop_none (x ∷ xs) zero past = absurd (omega (arith, past))
+drop_none (x ∷ xs) (suc k) past = drop_none xs k (omega (arith, past))
+
+pub nets_done : (names : List NetName) (terms : List (List Lit)) (k : ℕ) → length terms ≤ k
+    → with_names names (flat_map (λ (t : List Lit). map (λ (l : Lit). l.net) t) (drop k terms)) ≡ with_names [] (flat_map (λ (t : List Lit). map (λ (l : Lit). l.net) t) terms)
+    → names ≡ once bytes_eq (flat_map (λ (t : List Lit). map (λ (l : Lit). l.net) t) terms)
+nets_done names terms k past left =
+    sym (ap (λ (ts : List (List Lit)). with_names names (flat_map (λ (t : List Lit). map (λ (l : Lit). l.net) t) ts)) (drop_none terms k past))
+    ∙ (left ∙ once_names (flat_map (λ (t : List Lit). map (λ (l : Lit). l.net) t) terms))
 
 -- rows of one length
 one_length : (n : ℕ) (row : List (Option Bool)) (rows : List (List (Option Bool))) → length row ≡ n → AllByRecursion (λ (r : List (Option Bool)). length r ≡ n) rows → AllByRecursion (λ (r : List (Option Bool)). length r ≡ length row) rows

@@ -1,10 +1,12 @@
 -- Inits that are summed up one by one.
-use Rattle.std.proofs.Common.{◌≡◌, ◌+◌, ℕ, zero, suc, arith, drop, Option, None, Some, Bool, true, false, not, ◌&&◌, ◌||◌, List, [], ◌∷◌, ◌++◌, map, refl, ap, sym, ◌∙◌, subst, if◌then◌else◌}
-use Rattle.std.specs.Prelude.{MatchOption, is_none, slice_get}
-use Rattle.std.specs.List.{fold, list_all}
+use Rattle.std.proofs.Common.{◌≡◌, ◌+◌, ◌≤◌, ℕ, zero, suc, arith, length, length-append, drop, Option, None, Some, Bool, true, false, not, ◌&&◌, ◌||◌, List, [], ◌∷◌, ◌++◌, map, refl, ap, sym, ◌∙◌, subst, if◌then◌else◌}
+use Rattle.std.specs.Prelude.{MatchOption, is_some, slice_get}
+use Rattle.std.specs.List.{All, fold, list_all}
 use Rattle.std.specs.Str.{bytes_eq}
+use mir.Val.{bool_byte as from_bool}
 use Rattle.std.proofs.lemmas.Bool.{both_ways}
 use Rattle.std.proofs.lemmas.List.{append_assoc, append-nil, map-append}
+use Rattle.std.proofs.lemmas.List.Elements.{All-push}
 use Rattle.cg_cell.specs.Name.{are_distinct}
 use Rattle.cg_net.specs.Names.{NetName, is_known, with_name}
 use Rattle.cg_netlist_parts.proofs.KnownNames.{known-append, word_at}
@@ -112,6 +114,26 @@ are_of_inits registers others l g same sums = go (are_distinct (nets_of l)) refl
         ap (λ b. not b && list_all (is_known registers) g.nets) (sums.again ∙ ap not is)
         ∙ (and_false (list_all (λ (i : Init). is_known others i.net) l) ∙ ap (λ b. list_all (λ (i : Init). is_known others i.net) l && b) (sym is))
 
+-- a net that is given an init again
+pub given_again : (g : GivenInits) (i : Init) → is_known g.nets i.net ≡ true → record g { again = true } ≡ with_init g i
+given_again g i known =
+    sym (ap (λ b. if b then record g { again = true } else record g { nets = g.nets ++ i.net ∷ []; values = g.values ++ bit_number i.value ∷ [] }) known)
+
+-- a net that is given an init the first time
+pub given_first : (values : List ℕ) (bit : Bool) (nets : List NetName) (net : NetName) (now : List ℕ) (new : List NetName) → length values ≡ length nets → All (λ value. value ≤ 3) values → is_known nets net ≡ false
+    → now ≡ values ++ from_bool bit ∷ [] → new ≡ with_name nets net → (length now ≡ length new) × All (λ value. value ≤ 3) now
+given_first values bit nets net now new same all none put named = (
+    ap length put ∙ (length-append values (from_bool bit ∷ []) ∙ (ap (λ n. n + 1) same ∙ (sym (length-append nets (net ∷ [])) ∙ ap length (sym spread)))),
+    subst (λ (l : List ℕ). All (λ value. value ≤ 3) l) (sym put) (All-push (λ value. value ≤ 3) values (from_bool bit) all (small bit)),
+  )
+  where
+    spread : new ≡ nets ++ net ∷ []
+    spread = named ∙ ap (λ b. if b then nets else nets ++ net ∷ []) none
+
+    small : (b : Bool) → from_bool b ≤ 3
+    small true = omega arith
+    small false = omega arith
+
 -- a test of each of some names, from one on
 pub all_left : (test : NetName → Bool) (names : List NetName) (k : ℕ) (name : NetName) → slice_get names k ≡ Some name → list_all test (drop k names) ≡ (test name && list_all test (drop (k + 1) names))
 all_left test [] k name at = absurd (cc)
@@ -119,10 +141,10 @@ all_left test (n ∷ names) zero name at = let same : n ≡ name = cc in ap (λ 
 all_left test (n ∷ names) (suc k) name at = let same : suc (k + 1) ≡ suc k + 1 = omega arith in all_left test names k name at ∙ ap (λ j. test name && list_all test (drop j (n ∷ names))) same
 
 -- what is found says whether a name is known
-pub none_known : (names : List NetName) (name : NetName) (found : Option ℕ) → MatchOption found (is_known names name ≡ false) (λ i. slice_get names i ≡ Some name) → is_none found ≡ true → is_known names name ≡ false
+pub none_known : (names : List NetName) (name : NetName) (found : Option ℕ) → MatchOption found (is_known names name ≡ false) (λ i. slice_get names i ≡ Some name) → is_some found ≡ false → is_known names name ≡ false
 none_known names name None is none = is
 none_known names name (Some i) is none = absurd (cc)
 
-pub some_known : (names : List NetName) (name : NetName) (found : Option ℕ) → MatchOption found (is_known names name ≡ false) (λ i. slice_get names i ≡ Some name) → is_none found ≡ false → is_known names name ≡ true
+pub some_known : (names : List NetName) (name : NetName) (found : Option ℕ) → MatchOption found (is_known names name ≡ false) (λ i. slice_get names i ≡ Some name) → is_some found ≡ true → is_known names name ≡ true
 some_known names name None is some = absurd (cc)
 some_known names name (Some i) is some = word_at names i name is

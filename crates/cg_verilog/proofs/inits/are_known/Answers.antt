@@ -1,4 +1,4 @@
-use Rattle.std.proofs.Common.{◌+◌, ◌&&◌, ◌∙◌, ap, drop, sym}
+use Rattle.std.proofs.Common.{◌+◌, ◌&&◌, ◌∙◌, ap, drop, not, sym}
 use Rattle.std.specs.List.{list_all}
 use Rattle.cg_net.specs.Names.{is_known}
 use Rattle.cg_verilog.proofs.InitsSummed.{all_left, none_known, some_known}
@@ -11,7 +11,7 @@ returns-then-is_none c =
     let name = c.name.result.now in
     sym (c.names.invariant
     ∙ (all_left (is_known names) some c.names.number name c.name.ensures
-    ∙ ap (λ b. b && list_all (is_known names) (drop (c.names.number + 1) some)) (none_known names name c.find.result c.find.ensures (sym c.is_none.ensures ∙ c.if-is_none.true))))
+    ∙ ap (λ b. b && list_all (is_known names) (drop (c.names.number + 1) some)) (none_known names name c.find.result c.find.ensures (c.is_none.ensures ∙ ap not c.if-is_none.true))))
 
 pub names-preserved : goal.names-preserved
 names-preserved c =
@@ -20,4 +20,4 @@ names-preserved c =
     let name = c.name.result.now in
     c.names.invariant
     ∙ (all_left (is_known names) some c.names.number name c.name.ensures
-    ∙ ap (λ b. b && list_all (is_known names) (drop (c.names.number + 1) some)) (some_known names name c.find.result c.find.ensures (sym c.is_none.ensures ∙ c.if-is_none.false)))
+    ∙ ap (λ b. b && list_all (is_known names) (drop (c.names.number + 1) some)) (some_known names name c.find.result c.find.ensures (c.is_none.ensures ∙ ap not c.if-is_none.false)))

@@ -33,8 +33,24 @@ down_more low high next net less is =
     ∙ (ap (map (bit_name net)) (reverse-append (range_with_len low (next + 1 - low)) ((low + (next + 1 - low)) ∷ []))
     ∙ ap (λ k. bit_name net k ∷ bits_down next low net) last))
 
+pub down_first : (low high : ℕ) (net : NetName) → low ≤ high → (rest : List NetName) × (bits_down high low net ≡ bit_name net high ∷ rest)
+down_first low high net order =
+    let long : high + 1 - low ≡ suc (high - low) = omega (arith, order) in
+    let last : low + (high - low) ≡ high = omega (arith, order) in (
+      map (bit_name net) (reverse (range_with_len low (high - low))),
+      ap (λ n. map (bit_name net) (reverse (range_with_len low n))) long
+      ∙ (ap (λ l. map (bit_name net) (reverse l)) (range_more low (high - low))
+      ∙ (ap (map (bit_name net)) (reverse-append (range_with_len low (high - low)) ((low + (high - low)) ∷ []))
+      ∙ ap (λ k. bit_name net k ∷ map (bit_name net) (reverse (range_with_len low (high - low)))) last)),
+    )
+
 pub up_last : (low high : ℕ) (net : NetName) → low ≡ high → bits_up low high net ≡ bit_name net low ∷ []
 up_last low high net same = let one : high + 1 - low ≡ 1 = omega (arith, same) in ap (λ n. map (bit_name net) (range_with_len low n)) one
+
+pub up_first : (low high : ℕ) (net : NetName) → low ≤ high → (rest : List NetName) × (bits_up low high net ≡ bit_name net low ∷ rest)
+up_first low high net order =
+    let long : high + 1 - low ≡ suc (high - low) = omega (arith, order) in
+    (map (bit_name net) (range_with_len (low + 1) (high - low)), ap (λ n. map (bit_name net) (range_with_len low n)) long)
 
 pub up_more : (low high next : ℕ) (net : NetName) → low < high → next ≡ low + 1 → bits_up low high net ≡ bit_name net low ∷ bits_up next high net
 up_more low high next net less is =

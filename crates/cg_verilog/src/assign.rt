@@ -1,17 +1,25 @@
 //! An assignment, told to a builder.
 
-ghost use Rattle.std.specs.Prelude.{◌≡◌, ◌<◌, None, IfOk, length, map, nat_lt};
+ghost use Rattle.std.specs.Prelude.{◌≡◌, ◌<◌, ◌≤◌, ◌∷◌, [], None, IfOk, IsTrue, length, map, nat_lt};
+ghost use Rattle.std.specs.List.{AllByRecursion};
 ghost use Rattle.std.specs.Str.{bytes_eq};
+ghost use Rattle.cg_cell.specs.Cover.{CoverFits};
+ghost use Rattle.cg_cell.specs.Name.{is_name};
 ghost use Rattle.cg_limit.specs.declared.TheConstants.{MOST_COVER_INPUTS};
+ghost use Rattle.cg_netlist.specs.declared.parts.LogicFunction.TheVariants.{Cover as CoverFunction};
+ghost use Rattle.cg_netlist_builder.specs.Calls.{cell_of};
+ghost use Rattle.cg_netlist_parts.specs.Part.{Logic as LogicPart};
 ghost use Rattle.cg_verilog_text.specs.Forms.{nets_of};
 ghost use Rattle.cg_verilog_text.specs.Meaning.{cover_part, form_cell, once};
-ghost use Rattle.cg_verilog.specs.Hearing.{HearsItem, heard};
+ghost use Rattle.cg_verilog_text.specs.Telling.{with_parts};
+ghost use Rattle.cg_verilog.specs.Hearing.{Hears, HearsItem, heard};
 
 use crate::cover::{inputs_of, rows_of};
 use crate::refusal::{Refusal, heard};
 use cg_cell::cover::Cover;
 use cg_limit::{Limit, MOST_COVER_INPUTS};
 use cg_net::names::NetNames;
+use cg_netlist::fault::AddFault;
 use cg_netlist_builder::builder::Builder;
 use cg_verilog_text::fault::ItemFault;
 use cg_verilog_items::form::Form;
@@ -35,8 +43,25 @@ pub fn assign(
         return Err(Refusal::Item(ItemFault::Limit(Limit::CoverInputs)));
     }
     let cover = Cover::new(rows_of(alloc, &inputs, terms.as_slice())?, on);
-    let names = lent(alloc, &inputs)?;
-    heard(builder.cover(&names, output.bytes(), cover))
+    heard(tell_cover(alloc, builder, &inputs, output, cover))
+}
+
+/// Tells a builder that a net is a cover of these inputs.
+fn tell_cover(
+    alloc: Global,
+    builder: &mut Builder,
+    inputs: &NetNames,
+    output: &Net<'_>,
+    cover: Cover,
+) -> Result<(), AddFault>
+    requires fine { builder.old.refused ≡ None }
+    requires few { length inputs.now ≤ MOST_COVER_INPUTS }
+    requires named { AllByRecursion (λ name. IsTrue (is_name name)) inputs.now }
+    requires fits { CoverFits (length inputs.now) cover }
+    ensures { Hears builder.old builder.new (with_parts (LogicPart (cell_of inputs.now output.now (CoverFunction cover)) ∷ []) builder.old.said) result }
+{
+    let names = lent(alloc, inputs)?;
+    builder.cover(&names, output.bytes(), cover)
 }
 
 /// Whether a form has more nets than a cover may have.

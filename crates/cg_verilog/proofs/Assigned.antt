@@ -1,5 +1,5 @@
 -- What a builder answers to the cover of a form.
-use Rattle.std.proofs.Common.{◌≡◌, Bool, false, List, [], ◌∷◌, length, map, nat_lt, if◌then◌else◌, ap, sym, ◌∙◌, subst, None, Result, Ok, Err}
+use Rattle.std.proofs.Common.{◌≡◌, Bool, false, List, [], ◌∷◌, length, map, nat_lt, if◌then◌else◌, ap, sym, ◌∙◌, subst, Option, None, Result, Ok, Err}
 use Rattle.std.specs.List.{flat_map}
 use Rattle.std.specs.Str.{bytes_eq}
 use Rattle.std.proofs.lemmas.List.{length-map}
@@ -33,22 +33,29 @@ hears_cover old new inputs named net output cover answer fine same is takes =
     (subst (λ (n : NetName). Takes old (Logic (cell_of named n (Cover cover))) new answer) is
     (subst (λ (ns : List NetName). Takes old (Logic (cell_of ns net (Cover cover))) new answer) same takes))
 
+-- the cover of rows, and of terms
+abbrev pub cover_of : List (List (Option Bool)) → Bool → CoverData
+cover_of rows on = record { rows = rows; on = on }
+
+abbrev pub cover_with : List NetName → List (List (Literal NetName)) → Bool → CoverData
+cover_with inputs terms on = cover_of (map (row_of bytes_eq inputs) terms) on
+
 -- the cover of a form
 module _ (output : NetName) (form : Form NetName) (terms : List (List (Literal NetName))) (inputs : List NetName) (terms_are : terms ≡ terms_of form)
     (inputs_are : inputs ≡ once bytes_eq (flat_map (λ term. map (λ literal. literal.net) term) terms)) where
   nets_are : inputs ≡ once bytes_eq (nets_of form)
   nets_are = inputs_are ∙ ap (λ (ts : List (List (Literal NetName))). once bytes_eq (flat_map (λ term. map (λ literal. literal.net) term) ts)) terms_are
 
-  cell_is : (cover : CoverData) → cover ≡ record { rows = map (row_of bytes_eq inputs) terms; on = on_of form } → cell_of inputs output (Cover cover) ≡ form_cell bytes_eq output form
+  cell_is : (cover : CoverData) → cover ≡ cover_with inputs terms (on_of form) → cell_of inputs output (Cover cover) ≡ form_cell bytes_eq output form
   cell_is cover is =
       ap (λ (c : CoverData). cell_of inputs output (Cover c)) is
-      ∙ (ap (λ (ts : List (List (Literal NetName))). cell_of inputs output (Cover (record { rows = map (row_of bytes_eq inputs) ts; on = on_of form }))) terms_are
+      ∙ (ap (λ (ts : List (List (Literal NetName))). cell_of inputs output (Cover (cover_with inputs ts (on_of form)))) terms_are
       ∙ ap (λ (ns : List NetName). cell_of ns output (Cover (cover_on bytes_eq ns form))) nets_are)
 
   width : (b : Bool) → nat_lt MOST_COVER_INPUTS (length inputs) ≡ b → nat_lt MOST_COVER_INPUTS (length (form_cell bytes_eq output form).inputs) ≡ b
   width b is = ap (λ (ns : List NetName). nat_lt MOST_COVER_INPUTS (length ns)) (sym nets_are) ∙ is
 
-  pub assigned : (old new : Building) (cover : CoverData) (answer : Result (Unit {0}) AddFault) → nat_lt MOST_COVER_INPUTS (length inputs) ≡ false → cover ≡ record { rows = map (row_of bytes_eq inputs) terms; on = on_of form }
+  pub assigned : (old new : Building) (cover : CoverData) (answer : Result (Unit {0}) AddFault) → nat_lt MOST_COVER_INPUTS (length inputs) ≡ false → cover ≡ cover_with inputs terms (on_of form)
       → Hears old new (with_parts (Logic (cell_of inputs output (Cover cover)) ∷ []) old.said) answer → HearsItem old new (cover_part (form_cell bytes_eq output form)) (heard answer)
   assigned old new cover answer narrow is hears =
       subst (λ b. HearsItem old new (if b then Err (Passed CoverInputs) else Ok (Logic (form_cell bytes_eq output form) ∷ [])) (heard answer)) (sym (width false narrow))

@@ -12,13 +12,14 @@ use Rattle.cg_netlist_builder.specs.Building.{Building}
 use Rattle.cg_netlist_parts.specs.Part.{Part}
 use Rattle.cg_netlist_parts.specs.Said.{Said}
 use Rattle.cg_netlist_placed.specs.declared.fault.PlacedFault.{PlacedFault}
-use Rattle.cg_verilog_text.specs.Meaning.{Init, placed_parts}
+use Rattle.cg_verilog_text.specs.Items.{Item as ItemSeen}
+use Rattle.cg_verilog_text.specs.Meaning.{Init, inits_in, placed_parts, said_by, updated_in}
 use Rattle.cg_verilog_text.specs.Telling.{sooner, with_parts}
 use Rattle.cg_verilog_text.specs.declared.fault.ItemFault.{ItemFault}
 use Rattle.cg_verilog_text.specs.declared.fault.ItemFault.TheVariants.{BadText, Placed, Limit as Passed}
-use Rattle.cg_verilog.specs.GivenInits.{GivenInits}
+use Rattle.cg_verilog.specs.GivenInits.{GivenInits, with_init}
 use Rattle.cg_verilog.specs.Hearing.{Hears, HearsItem, IsPlacedAs, built_by, built_said, heard}
-use Rattle.cg_verilog.specs.Summary.{Summary, put_fault, put_parts, put_result, put_said, without_built}
+use Rattle.cg_verilog.specs.Summary.{Summary, put, put_fault, put_parts, put_result, put_said, without_built}
 use Rattle.cg_verilog.specs.Tellings.{IsAnswered, IsSound, built_of, is_limit, noted, placed_alone, summed, with_fault}
 use Rattle.cg_verilog.specs.declared.refusal.Refusal.{Refusal}
 use Rattle.cg_verilog.specs.declared.refusal.Refusal.TheVariants.{Item, NoMemory}
@@ -37,6 +38,13 @@ moved s inits updated line (Ok parts) = go s.built
     go : (o : Option Building) → put_parts (record s { inits = inits; updated = updated }) line o parts ≡ record (put_parts s line o parts) { inits = inits; updated = updated }
     go None = refl
     go (Some b) = passed b (with_parts parts b.said)
+
+-- an item without inits and registers
+pub plain_put : (library : List CellData) (s : Summary) (line : ℕ) (item : ItemSeen) → inits_in item ≡ [] → updated_in item ≡ [] → put library s (record { line = line; item = item }) ≡ put_result s line (said_by library [] item)
+plain_put library s line item none unchanged =
+    ap (λ (l : List Init). record (put_result s line (said_by library [] item)) { inits = fold with_init s.inits l; updated = with_names s.updated (updated_in item) }) none
+    ∙ (ap (λ (l : List NetName). record (put_result s line (said_by library [] item)) { inits = s.inits; updated = with_names s.updated l }) unchanged
+    ∙ sym (moved s s.inits s.updated line (said_by library [] item)))
 
 pub nothing : (s : Summary) (line : ℕ) → put_result s line (Ok []) ≡ s
 nothing s line = go s.built refl

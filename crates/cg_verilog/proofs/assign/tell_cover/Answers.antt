@@ -11,5 +11,5 @@ cover-requires-clause-fits c =
 
 pub returns : goal.returns
 returns c =
-    hears_cover c.args.builder.now c.cover.new.self (map (λ b. b.now) c.deref.result.now) c.args.inputs.now c.bytes.result.now c.args.output.now c.args.cover c.cover.result c.requires.fine
-    (ap (map (λ b. b.now)) c.deref.ensures.value ∙ c.in_ok-names.ensures) c.bytes.ensures.bytes c.cover.ensures
+    hears_cover c.args.builder.now c.cover-2.new.self (map (λ b. b.now) c.deref.result.now) c.args.inputs.now c.bytes.result.now c.args.output.now c.args.cover c.cover-2.result c.requires.fine
+    (ap (map (λ b. b.now)) c.deref.ensures.value ∙ c.in_ok-names.ensures) c.bytes.ensures.bytes c.cover-2.ensures

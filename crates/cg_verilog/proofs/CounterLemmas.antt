@@ -15,7 +15,6 @@ use Rattle.cg_verilog.specs.inner.Digits.{at_most, falls_away, is_last, lowered,
 same_number : (a b : ℕ) → (a == b) ≡ true → a ≡ b
 same_number a b is = grind (arith, nat_tests)
 
-
 -- higher digits are not zero
 positive : (digit : ℕ) (digits : List ℕ) → AreHigher (digit ∷ digits) → 0 < value_of (digit ∷ digits)
 positive digit [] are = let more : 0 < digit = are.1 refl in omega (arith, more)

@@ -39,9 +39,9 @@ down_first low high net order =
     let last : low + (high - low) ≡ high = omega (arith, order) in (
       map (bit_name net) (reverse (range_with_len low (high - low))),
       ap (λ n. map (bit_name net) (reverse (range_with_len low n))) long
-      ∙ (ap (λ l. map (bit_name net) (reverse l)) (range_more low (high - low))
-      ∙ (ap (map (bit_name net)) (reverse-append (range_with_len low (high - low)) ((low + (high - low)) ∷ []))
-      ∙ ap (λ k. bit_name net k ∷ map (bit_name net) (reverse (range_with_len low (high - low)))) last)),
+          ∙ (ap (λ l. map (bit_name net) (reverse l)) (range_more low (high - low))
+          ∙ (ap (map (bit_name net)) (reverse-append (range_with_len low (high - low)) ((low + (high - low)) ∷ []))
+          ∙ ap (λ k. bit_name net k ∷ map (bit_name net) (reverse (range_with_len low (high - low)))) last)),
     )
 
 pub up_last : (low high : ℕ) (net : NetName) → low ≡ high → bits_up low high net ≡ bit_name net low ∷ []

@@ -123,9 +123,9 @@ given_again g i known =
 pub given_first : (values : List ℕ) (bit : Bool) (nets : List NetName) (net : NetName) (now : List ℕ) (new : List NetName) → length values ≡ length nets → All (λ value. value ≤ 3) values → is_known nets net ≡ false
     → now ≡ values ++ from_bool bit ∷ [] → new ≡ with_name nets net → (length now ≡ length new) × All (λ value. value ≤ 3) now
 given_first values bit nets net now new same all none put named = (
-    ap length put ∙ (length-append values (from_bool bit ∷ []) ∙ (ap (λ n. n + 1) same ∙ (sym (length-append nets (net ∷ [])) ∙ ap length (sym spread)))),
-    subst (λ (l : List ℕ). All (λ value. value ≤ 3) l) (sym put) (All-push (λ value. value ≤ 3) values (from_bool bit) all (small bit)),
-  )
+  ap length put ∙ (length-append values (from_bool bit ∷ []) ∙ (ap (λ n. n + 1) same ∙ (sym (length-append nets (net ∷ [])) ∙ ap length (sym spread)))),
+  subst (λ (l : List ℕ). All (λ value. value ≤ 3) l) (sym put) (All-push (λ value. value ≤ 3) values (from_bool bit) all (small bit)),
+)
   where
     spread : new ≡ nets ++ net ∷ []
     spread = named ∙ ap (λ b. if b then nets else nets ++ net ∷ []) none

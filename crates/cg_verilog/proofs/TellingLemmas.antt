@@ -106,14 +106,14 @@ answered t new line parts (Err (Item (Placed fault))) sound going hears given =
     let built : (summed t).built ≡ Some t.builder = ap (λ over. built_of over t.builder) going in (
       sound_fault (record t { builder = new }) line (Placed fault) (λ over. ap (λ (b : Building). b.refused) hears.1 ∙ sound over),
       sum_fault (record t { builder = new }) line (Placed fault)
-      ∙ (ap (λ b. record (put_fault (summed t) line (Placed fault)) { built = built_of t.over b }) hears.1
-      ∙ (ap (put_built (summed t) line) (sym hears.0) ∙ sym (result_built (summed t) t.builder line parts built))),
+          ∙ (ap (λ b. record (put_fault (summed t) line (Placed fault)) { built = built_of t.over b }) hears.1
+          ∙ (ap (put_built (summed t) line) (sym hears.0) ∙ sym (result_built (summed t) t.builder line parts built))),
     )
 answered t new line parts (Err (Item (Passed limit))) sound going hears given =
     let built : (summed t).built ≡ Some t.builder = ap (λ over. built_of over t.builder) going in (
       limit_sound t.over,
       sum_fault (record t { builder = new }) line (Passed limit)
-      ∙ (ap (put_built (summed t) line) (sym hears) ∙ sym (result_built (summed t) t.builder line parts built)),
+          ∙ (ap (put_built (summed t) line) (sym hears) ∙ sym (result_built (summed t) t.builder line parts built)),
     )
   where
     limit_sound : (over : Bool) → (over || true) ≡ false → new.refused ≡ None

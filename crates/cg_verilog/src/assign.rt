@@ -21,9 +21,9 @@ use cg_limit::{Limit, MOST_COVER_INPUTS};
 use cg_net::names::NetNames;
 use cg_netlist::fault::AddFault;
 use cg_netlist_builder::builder::Builder;
-use cg_verilog_text::fault::ItemFault;
 use cg_verilog_items::form::Form;
 use cg_verilog_items::net::Net;
+use cg_verilog_text::fault::ItemFault;
 use std::alloc::{AllocError, Global};
 
 /// Tells a builder that a net is a form.

@@ -116,11 +116,7 @@ fn at_most(digits: &[u8], others: &[u8]) -> bool
 fn with_digit(below: bool, digit: u8, other: u8) -> bool
     ensures { (digits others : List ℕ) → at_most below (digit ∷ digits) (other ∷ others) ≡ at_most result digits others }
 {
-    if digit == other {
-        below
-    } else {
-        digit < other
-    }
+    if digit == other { below } else { digit < other }
 }
 
 /// Digits with one more.

@@ -27,11 +27,7 @@ pub fn inputs_of(alloc: Global, terms: &[Seq<Literal<'_>>]) -> Result<NetNames, 
 }
 
 /// Names, and the nets of literals that are not among them.
-fn with_nets(
-    alloc: Global,
-    before: NetNames,
-    term: &[Literal<'_>],
-) -> Result<NetNames, AllocError>
+fn with_nets(alloc: Global, before: NetNames, term: &[Literal<'_>]) -> Result<NetNames, AllocError>
     requires { AllByRecursion (λ name. IsTrue (is_name name)) before }
     ensures names { IfOk result (λ names. names ≡ with_names before (map (λ literal. literal.net) term.now)) }
     ensures named { IfOk result (AllByRecursion (λ name. IsTrue (is_name name))) }

@@ -42,8 +42,7 @@ pub fn sooner(first: Option<Fault>, fault: Fault) -> Fault
 fn is_before(fault: &Fault, other: &Fault) -> bool
     ensures { result ≡ is_before fault.now other.now }
 {
-    fault.line < other.line
-        || (fault.line == other.line && rank(fault.cause) < rank(other.cause))
+    fault.line < other.line || (fault.line == other.line && rank(fault.cause) < rank(other.cause))
 }
 
 /// The place of a cause among the causes at one line.

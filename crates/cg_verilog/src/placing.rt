@@ -6,14 +6,14 @@ ghost use Rattle.cg_netlist_placed.specs.Placed.{placed_by};
 ghost use Rattle.cg_verilog_text.specs.Meaning.{placed_parts};
 ghost use Rattle.cg_verilog.specs.Hearing.{HearsItem, IsPlacedAs, heard_placed};
 
-use cg_verilog_items::placed::Pin;
 use crate::refusal::{Refusal, heard};
-use cg_verilog_items::identifier::Identifier;
 use cg_cell::library::Library;
 use cg_netlist_builder::builder::Builder;
 use cg_netlist_placed::adding::{add_placed, usable_cell};
 use cg_netlist_placed::fault::Refusal as PlacedRefusal;
 use cg_netlist_placed::pin::PinWord;
+use cg_verilog_items::identifier::Identifier;
+use cg_verilog_items::placed::Pin;
 use cg_verilog_text::fault::ItemFault;
 use std::alloc::{AllocError, Global};
 

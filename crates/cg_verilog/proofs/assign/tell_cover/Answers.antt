@@ -6,7 +6,7 @@ use Rattle.cg_verilog.proofs.assign.tell_cover.Goals as goal
 pub cover-requires-clause-fits : goal.cover-requires-clause-fits
 cover-requires-clause-fits c =
     let count : length c.deref.result.now ≡ length c.args.inputs.now =
-        ap length c.deref.ensures.value ∙ lent_count (λ b. b.now) c.in_ok-names.names.items c.args.inputs.now c.in_ok-names.ensures in
+    ap length c.deref.ensures.value ∙ lent_count (λ b. b.now) c.in_ok-names.names.items c.args.inputs.now c.in_ok-names.ensures in
     subst (λ n. CoverFits n c.args.cover) (sym count) c.requires.fits
 
 pub returns : goal.returns

@@ -9,7 +9,7 @@ terms-preserved c =
     let term = c.term-item.result in
     let within : c.terms.term-index < length c.args.terms.now = omega arith in
     let put : c.in_ok-names.names ≡ with_names c.terms.names (map (λ (l : Literal NetName). l.net) term) =
-        c.in_ok-names.ensures.names ∙ ap (λ (ls : List (Literal NetName)). with_names c.terms.names (map (λ (l : Literal NetName). l.net) ls)) c.as_slice.ensures.parts in
+    c.in_ok-names.ensures.names ∙ ap (λ (ls : List (Literal NetName)). with_names c.terms.names (map (λ (l : Literal NetName). l.net) ls)) c.as_slice.ensures.parts in
     record {
       left = nets_step c.terms.names c.in_ok-names.names c.args.terms.now c.terms.term-index term term within c.term-item.is put ∙ c.terms.invariant.left;
       named = c.in_ok-names.ensures.named;

@@ -10,5 +10,5 @@ returns-clause-named c =
     let net = c.args.net.now in
     let index = index_text c.args.index.now in
     let made : c.push-2.new.self.items ≡ net ++ 91 ∷ (index ++ 93 ∷ []) =
-        joined net index c.in_ok-name.name.items c.push.new.self.items c.push_to.new.text.items c.push-2.new.self.items c.in_ok-name.ensures.items c.in_ok-push.ensures.items c.in_ok-push_to.ensures c.in_ok-push-2.ensures.items in
+    joined net index c.in_ok-name.name.items c.push.new.self.items c.push_to.new.text.items c.push-2.new.self.items c.in_ok-name.ensures.items c.in_ok-push.ensures.items c.in_ok-push_to.ensures c.in_ok-push-2.ensures.items in
     subst (λ (l : List ℕ). IsTrue (is_name l)) (sym made) (bit_named net c.args.index.now c.requires)

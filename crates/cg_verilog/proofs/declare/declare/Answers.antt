@@ -22,7 +22,7 @@ returns-in_err-declare_bits c =
     let all = map (side_part side) (flat_map (bits_of range) nets) in
     let left = map (side_part side) (flat_map (bits_of range) (drop (k + 1) nets)) in
     let next : map (side_part side) (flat_map (bits_of range) (drop k nets)) ≡ map (side_part side) (bits_of range net) ++ left =
-        declared_drop side range nets k net within ∙ ap (λ n. map (side_part side) (bits_of range n) ++ left) (sym c.net-item.is) in
+    declared_drop side range nets k net within ∙ ap (λ n. map (side_part side) (bits_of range n) ++ left) (sym c.net-item.is) in
     let fault = c.in_err-declare_bits.field-0.0 in
     let same : c.from_residual.result ≡ Err fault = search rules in
     let P : Result (Unit {0}) AddFault → Type 0 = λ r. Hears c.args.builder.now c.declare_bits.new.builder (with_parts all c.args.builder.now.said) r in
@@ -41,7 +41,7 @@ nets-preserved c =
     let all = map (side_part side) (flat_map (bits_of range) nets) in
     let left = map (side_part side) (flat_map (bits_of range) (drop (k + 1) nets)) in
     let next : map (side_part side) (flat_map (bits_of range) (drop k nets)) ≡ map (side_part side) (bits_of range net) ++ left =
-        declared_drop side range nets k net within ∙ ap (λ n. map (side_part side) (bits_of range n) ++ left) (sym c.net-item.is) in
+    declared_drop side range nets k net within ∙ ap (λ n. map (side_part side) (bits_of range n) ++ left) (sym c.net-item.is) in
     record {
       left = told_next all c.args.builder.now c.nets.builder c.declare_bits.new.builder (map (side_part side) (bits_of range net)) left
           (subst (λ (ps : List Part). IsLeft all c.args.builder.now c.nets.builder ps) next c.nets.invariant.left) c.in_ok-declare_bits.ensures;

@@ -17,7 +17,7 @@ returns-in-Err-Limit-clause-built c =
     let new = c.clock.new.self in
     let said : Result Said Limit = with_parts (Clock c.bytes.result.now ∷ []) b.said in
     let hears : Hears b new said (Err c.in-Err-Limit.field-0) =
-        subst (λ (r : Result (Unit {0}) AddFault). Hears b new said r) c.in-Err-Limit.is (hears_one b new (Clock c.bytes.result.now) c.clock.result c.requires c.clock.ensures) in
+    subst (λ (r : Result (Unit {0}) AddFault). Hears b new said r) c.in-Err-Limit.is (hears_one b new (Clock c.bytes.result.now) c.clock.result c.requires c.clock.ensures) in
     let passed : said ≡ Err c.in-Err-Limit.limit = subst (λ (f : AddFault). Hears b new said (Err f)) c.in-Err-Limit.field-0-is hears in
     ap (λ (o : Option NetName). clocked o b) c.in-Some.is
     ∙ (ap (λ (n : NetName). clocked_said b (with_parts (Clock n ∷ []) b.said)) (sym c.bytes.ensures.bytes)

@@ -21,12 +21,11 @@ returns-in-Err-At-clause-told c =
     let whole = ending library (summed c.args.telling.now) (items c.args.reading.now.0) in
     let s = summed c.items.telling in
     let stops : Stops c.items.reading.1 (item c.items.reading.0) (At c.in-Err-At.line) =
-        subst (λ (stop : Stop). Stops c.items.reading.1 (item c.items.reading.0) stop) c.in-Err-At.field-0-is c.in-Err-At.ensures.left in
-    (
+    subst (λ (stop : Stop). Stops c.items.reading.1 (item c.items.reading.0) stop) c.in-Err-At.field-0-is c.in-Err-At.ensures.left in (
       c.items.invariant.sound,
       subst (λ line. StopsAtItem whole s c.args.reading.now.1 line) (sym c.in-Err-At.line-is)
-      (subst (λ end. StopsAtItem whole s end c.in-Err-At.line) c.items.invariant.end
-      (items_stop library c.items.reading.1 s c.items.reading.0 whole c.in-Err-At.line c.items.invariant.left (sym c.if-is_word.ensures) stops)),
+          (subst (λ end. StopsAtItem whole s end c.in-Err-At.line) c.items.invariant.end
+          (items_stop library c.items.reading.1 s c.items.reading.0 whole c.in-Err-At.line c.items.invariant.left (sym c.if-is_word.ensures) stops)),
     )
 
 pub items-smaller : goal.items-smaller

@@ -8,5 +8,5 @@ use Rattle.cg_verilog.proofs.counter.Counter.push_to.Goals as goal
 pub returns : goal.returns
 returns c =
     let text : written c.deref.result.now ≡ index_text c.args.self.now =
-        ap written c.deref.ensures.value ∙ (sym (written_text c.self.inside.digits.items c.self.invariant) ∙ ap index_text c.self.view_is) in
+    ap written c.deref.ensures.value ∙ (sym (written_text c.self.inside.digits.items c.self.invariant) ∙ ap index_text c.self.view_is) in
     subst (λ (t : List ℕ). OnOk c.push_digits.result (c.push_digits.new.text.items ≡ c.args.text.now.items ++ t)) text c.push_digits.ensures

@@ -9,7 +9,7 @@ pub returns-in-Some : goal.returns-in-Some
 returns-in-Some c =
     let net = c.args.net.now in
     let known : is_known c.args.self.nets net ≡ true =
-        ap (λ (g : GivenInits). is_known g.nets net) (sym c.self.view_is) ∙ word_at c.self.inside.nets c.in-Some.field-0 net c.in-Some.ensures in
+    ap (λ (g : GivenInits). is_known g.nets net) (sym c.self.view_is) ∙ word_at c.self.inside.nets c.in-Some.field-0 net c.in-Some.ensures in
     ap (λ (g : GivenInits). record g { again = true }) c.self.view_is ∙ given_again c.args.self (record { net = net; value = c.args.value }) known
 
 pub invariant_of-result-in-None : goal.invariant_of-result-in-None

@@ -1,5 +1,5 @@
 -- The inputs and the rows of a cover, as they are put together.
-use Rattle.std.proofs.Common.{◌≡◌, ◌≢◌, ◌<◌, ◌≤◌, ℕ, zero, suc, Bool, true, false, not, ◌||◌, List, [], ◌∷◌, ◌++◌, map, length, set, take, drop, ◌+◌, refl, ap, sym, ◌∙◌, subst, cond, if◌then◌else◌, arith, get_or, Option, None, Some, option_map, IsTrue}
+use Rattle.std.proofs.Common.{◌≡◌, ◌≢◌, ◌<◌, ◌≤◌, ℕ, zero, suc, Bool, true, false, not, List, [], ◌∷◌, ◌++◌, map, length, set, take, drop, ◌+◌, refl, ap, sym, ◌∙◌, subst, cond, if◌then◌else◌, arith, get_or, Option, None, Some, option_map, IsTrue}
 use Rattle.std.specs.Prelude.{replicate, slice_get}
 use Rattle.std.specs.List.{AllByRecursion, AllPairs, filter, find, flat_map}
 use Rattle.std.proofs.lemmas.List.{map-append, take_more}

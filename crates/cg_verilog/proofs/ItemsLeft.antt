@@ -1,12 +1,12 @@
 -- Items, told one after another.
-use Rattle.std.proofs.Common.{◌≡◌, ℕ, zero, suc, ◌<◌, Bool, true, false, List, [], ◌∷◌, length, refl, ap, ◌∙◌, sym, subst, if◌then◌else◌, arith, codes}
+use Rattle.std.proofs.Common.{◌≡◌, ℕ, zero, suc, ◌<◌, Bool, true, false, List, [], ◌∷◌, length, refl, ap, ◌∙◌, sym, if◌then◌else◌, arith, codes}
 use Rattle.cg_cell.specs.Cell.{CellData}
-use Rattle.cg_verilog_text.specs.Items.{Item, Items, item, items, items_within, line_of, put_item}
-use Rattle.cg_verilog_text.specs.Reading.{Got, Read, Stuck, is_next, is_word}
+use Rattle.cg_verilog_text.specs.Items.{Item, item, items, items_within, line_of, put_item}
+use Rattle.cg_verilog_text.specs.Reading.{Got, Read, is_next, is_word}
 use Rattle.cg_verilog_text.specs.Tokens.{Token}
-use Rattle.cg_verilog_items.specs.Readings.{Stops, StopsAt}
+use Rattle.cg_verilog_items.specs.Readings.{Stops}
 use Rattle.cg_verilog_items.specs.declared.stop.Stop.TheVariants.{At}
-use Rattle.cg_verilog_items.proofs.Shorter.{Shorter, got_shorter}
+use Rattle.cg_verilog_items.proofs.Shorter.{got_shorter}
 use Rattle.cg_verilog_items.proofs.ShorterItems.{item_shorter}
 use Rattle.cg_verilog.specs.Reads.{StopsAtItem}
 use Rattle.cg_verilog.specs.Summary.{Ending, Summary, ending, put}

@@ -1,12 +1,12 @@
 -- What is summed up of items: their inits, and the nets of their registers.
-use Rattle.std.proofs.Common.{◌≡◌, ℕ, Bool, true, false, ◌||◌, List, [], ◌∷◌, ◌++◌, refl, ap, sym, ◌∙◌}
-use Rattle.std.specs.List.{flat_map, fold}
+use Rattle.std.proofs.Common.{◌≡◌, List, [], ◌∷◌, refl, ap, sym, ◌∙◌}
+use Rattle.std.specs.List.{fold}
 use Rattle.std.proofs.lemmas.List.Sums.{fold-append}
 use Rattle.cg_cell.specs.Cell.{CellData}
 use Rattle.cg_net.specs.Names.{NetName, is_known, with_names}
 use Rattle.cg_netlist_builder.proofs.Mentions.{with_names-append}
 use Rattle.cg_verilog_text.specs.Items.{ItemAt}
-use Rattle.cg_verilog_text.specs.Meaning.{Init, are_inits, inits_in, updated_in}
+use Rattle.cg_verilog_text.specs.Meaning.{are_inits, inits_in, updated_in}
 use Rattle.cg_verilog_text.specs.TextItems.{inits_of, updated}
 use Rattle.cg_verilog_items.proofs.KnownNets.{known_names}
 use Rattle.cg_verilog.specs.GivenInits.{are_of, no_inits, with_init}

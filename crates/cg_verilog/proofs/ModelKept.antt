@@ -13,13 +13,12 @@ use Rattle.cg_verilog_text.specs.Meaning.{said_by}
 use Rattle.cg_verilog_text.specs.Reading.{Got, Read, Stuck}
 use Rattle.cg_verilog_text.specs.Telling.{Fault, with_parts}
 use Rattle.cg_verilog_text.specs.TextItems.{text_from, text_of}
-use Rattle.cg_verilog_text.specs.Tokens.{Token, tokens}
+use Rattle.cg_verilog_text.specs.Tokens.{tokens}
 use Rattle.cg_verilog_text.specs.declared.fault.ItemFault.{ItemFault}
 use Rattle.cg_verilog_text.specs.declared.fault.ItemFault.TheVariants.{BadText, Placed, Limit as Passed}
-use Rattle.cg_verilog_text.specs.declared.fault.VerilogFault.{VerilogFault}
-use Rattle.cg_verilog.specs.Ending.{bad_of, builder_of, built_or, clocked, clocked_said, closed, go_on, outcome, outcome_of, summary_from, with_bad}
+use Rattle.cg_verilog.specs.Ending.{bad_of, builder_of, clocked, clocked_said, closed, go_on, outcome, outcome_of, summary_from, with_bad}
 use Rattle.cg_verilog.specs.GivenInits.{GivenInits}
-use Rattle.cg_verilog.specs.Summary.{Ending, Summary, empty, ending, put, put_parts, put_result, put_said, without_built}
+use Rattle.cg_verilog.specs.Summary.{Summary, empty, ending, put, put_parts, put_result, put_said}
 
 abbrev HasModel : NetName → Option Building → Type 0
 HasModel model None = Unit {0}

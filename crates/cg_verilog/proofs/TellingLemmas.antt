@@ -1,10 +1,9 @@
 -- What a reader was told of an item, as a summary.
-use Rattle.std.proofs.Common.{◌≡◌, ℕ, Bool, true, false, ◌||◌, List, [], ◌∷◌, refl, ap, sym, ◌∙◌, subst, Option, None, Some, Result, Ok, Err}
+use Rattle.std.proofs.Common.{◌≡◌, ℕ, Bool, true, false, ◌||◌, List, [], ◌∷◌, refl, ap, sym, ◌∙◌, Option, None, Some, Result, Ok, Err}
 use Rattle.std.specs.List.{fold}
 use Rattle.std.proofs.lemmas.Bool.{both_ways}
 use Rattle.cg_cell.specs.Cell.{CellData}
 use Rattle.cg_limit.specs.declared.Limit.{Limit}
-use Rattle.cg_limit.specs.declared.Limit.TheVariants.{CoverInputs}
 use Rattle.cg_net.specs.Names.{NetName, with_names}
 use Rattle.cg_netlist.specs.declared.fault.AddFault.{AddFault}
 use Rattle.cg_netlist.specs.declared.fault.AddFault.TheVariants as adds
@@ -14,7 +13,7 @@ use Rattle.cg_netlist_parts.specs.Said.{Said}
 use Rattle.cg_netlist_placed.specs.declared.fault.PlacedFault.{PlacedFault}
 use Rattle.cg_verilog_text.specs.Items.{Item as ItemSeen}
 use Rattle.cg_verilog_text.specs.Meaning.{Init, inits_in, placed_parts, said_by, updated_in}
-use Rattle.cg_verilog_text.specs.Telling.{sooner, with_parts}
+use Rattle.cg_verilog_text.specs.Telling.{with_parts}
 use Rattle.cg_verilog_text.specs.declared.fault.ItemFault.{ItemFault}
 use Rattle.cg_verilog_text.specs.declared.fault.ItemFault.TheVariants.{BadText, Placed, Limit as Passed}
 use Rattle.cg_verilog.specs.GivenInits.{GivenInits, with_init}

@@ -1,30 +1,29 @@
 -- What a text tells is what its builder has said.
-use Rattle.std.proofs.Common.{◌≡◌, ℕ, Bool, true, false, not, ◌&&◌, List, [], ◌∷◌, ◌++◌, map, refl, ap, sym, ◌∙◌, subst, if◌then◌else◌, Option, None, Some, option_map, Result, Ok, Err}
+use Rattle.std.proofs.Common.{◌≡◌, ℕ, Bool, true, false, ◌&&◌, List, [], ◌∷◌, ◌++◌, refl, ap, sym, ◌∙◌, if◌then◌else◌, Option, None, Some, option_map, Result, Ok, Err}
 use Rattle.std.specs.List.{fold}
-use Rattle.std.proofs.lemmas.Bool.{both_ways}
 use Rattle.std.proofs.lemmas.List.{append-nil}
 use Rattle.cg_cell.specs.Cell.{CellData}
 use Rattle.cg_cell.specs.Name.{are_distinct}
 use Rattle.cg_limit.specs.declared.Limit.{Limit}
 use Rattle.cg_net.specs.Names.{NetName}
-use Rattle.cg_netlist_builder.specs.Building.{Building, fresh}
-use Rattle.cg_netlist_builder.specs.Inits.{init_given, with_inits}
+use Rattle.cg_netlist_builder.specs.Building.{Building}
+use Rattle.cg_netlist_builder.specs.Inits.{with_inits}
 use Rattle.cg_netlist_parts.specs.Part.{Clock}
-use Rattle.cg_netlist_parts.specs.Said.{Said, nothing_said}
+use Rattle.cg_netlist_parts.specs.Said.{Said}
 use Rattle.cg_text.specs.Lines.{end_line}
-use Rattle.cg_verilog_text.specs.Items.{ItemAt, Items, header, items, line_of}
-use Rattle.cg_verilog_text.specs.Meaning.{Init, are_inits}
+use Rattle.cg_verilog_text.specs.Items.{ItemAt, header, items, line_of}
+use Rattle.cg_verilog_text.specs.Meaning.{Init}
 use Rattle.cg_verilog_text.specs.Reading.{Got, Read, Stuck, behind}
 use Rattle.cg_verilog_text.specs.Telling.{Fault, ItemsSaid, bad_fault, faults_of, first_of, is_before, sooner, tell_item, tell_items, untold, with_parts}
-use Rattle.cg_verilog_text.specs.TextItems.{Text, bad_behind, bad_in, inits_of, text_from, text_of, updated}
+use Rattle.cg_verilog_text.specs.TextItems.{Text, bad_behind, bad_in, inits_of, text_from}
 use Rattle.cg_verilog_text.specs.Tokens.{Token, tokens}
-use Rattle.cg_verilog_text.specs.VerilogText.{at, clock_said, said_or, told_by, told_of, with_clock}
+use Rattle.cg_verilog_text.specs.VerilogText.{clock_said, said_or, told_by, told_of, with_clock}
 use Rattle.cg_verilog_text.specs.declared.fault.ItemFault.TheVariants.{BadText}
 use Rattle.cg_verilog_text.specs.declared.fault.VerilogFault.{VerilogFault}
 use Rattle.cg_verilog_text.proofs.InitsLast.{init_nets, init_numbers, items_late}
-use Rattle.cg_verilog.specs.Ending.{bad_of, builder_of, built_or, clocked, clocked_said, closed, go_on, outcome, outcome_of, summary_from, summary_of, with_bad, with_given}
-use Rattle.cg_verilog.specs.GivenInits.{GivenInits, are_of}
-use Rattle.cg_verilog.specs.Summary.{Ending, Summary, empty, ending, put, put_fault}
+use Rattle.cg_verilog.specs.Ending.{bad_of, builder_of, built_or, clocked, clocked_said, closed, go_on, outcome, outcome_of, summary_from, with_bad, with_given}
+use Rattle.cg_verilog.specs.GivenInits.{are_of}
+use Rattle.cg_verilog.specs.Summary.{Ending, Summary, empty, ending}
 use Rattle.cg_verilog.proofs.InitsSummed.{Sums}
 use Rattle.cg_verilog.proofs.ItemsSummed.{inits_same, sums}
 use Rattle.cg_verilog.proofs.Summed.{Agrees, agrees_items, first_more}

@@ -1,5 +1,5 @@
 -- How a text ends: the line of its bad token, if there is one, and what is then built.
-use Rattle.std.specs.Prelude.{ℕ, Bool, true, ◌&&◌, if◌then◌else◌, List, [], ◌∷◌, Option, None, Some, Result, Ok, Err}
+use Rattle.std.specs.Prelude.{ℕ, ◌&&◌, if◌then◌else◌, List, [], ◌∷◌, Option, None, Some, Result, Ok, Err}
 use Rattle.cg_cell.specs.Cell.{CellData}
 use Rattle.cg_limit.specs.declared.Limit.{Limit}
 use Rattle.cg_limit.specs.declared.Limit.TheVariants.{Nets}
@@ -13,7 +13,7 @@ use Rattle.cg_verilog_text.specs.Items.{header, items, line_of}
 use Rattle.cg_verilog_text.specs.Reading.{Got, Read, Stuck, behind}
 use Rattle.cg_verilog_text.specs.Telling.{Fault, with_parts}
 use Rattle.cg_verilog_text.specs.TextItems.{bad_behind}
-use Rattle.cg_verilog_text.specs.Tokens.{Token, tokens}
+use Rattle.cg_verilog_text.specs.Tokens.{tokens}
 use Rattle.cg_verilog_text.specs.VerilogText.{at}
 use Rattle.cg_verilog_text.specs.declared.fault.ItemFault.TheVariants.{BadText}
 use Rattle.cg_verilog_text.specs.declared.fault.VerilogFault.{VerilogFault}

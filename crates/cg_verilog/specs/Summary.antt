@@ -1,5 +1,5 @@
 -- What the items of a text tell, summed up item by item: an init may stand behind its register, and so the registers have none yet.
-use Rattle.std.specs.Prelude.{ℕ, Bool, List, [], ◌∷◌, ◌++◌, Option, None, Some, Result, Ok, Err}
+use Rattle.std.specs.Prelude.{ℕ, Bool, List, [], Option, None, Some, Result, Ok, Err}
 use Rattle.std.specs.List.{fold}
 use Rattle.cg_cell.specs.Cell.{CellData}
 use Rattle.cg_limit.specs.declared.Limit.{Limit}
@@ -7,9 +7,9 @@ use Rattle.cg_net.specs.Names.{NetName, with_names}
 use Rattle.cg_netlist_builder.specs.Building.{Building, fresh}
 use Rattle.cg_netlist_parts.specs.Part.{Part}
 use Rattle.cg_netlist_parts.specs.Said.{Said}
-use Rattle.cg_verilog_text.specs.Items.{Item, ItemAt, Items}
+use Rattle.cg_verilog_text.specs.Items.{ItemAt, Items}
 use Rattle.cg_verilog_text.specs.Meaning.{inits_in, said_by, updated_in}
-use Rattle.cg_verilog_text.specs.Telling.{Fault, sooner, with_parts, without_said}
+use Rattle.cg_verilog_text.specs.Telling.{Fault, sooner, with_parts}
 use Rattle.cg_verilog_text.specs.Tokens.{Token}
 use Rattle.cg_verilog_text.specs.declared.fault.ItemFault.{ItemFault}
 use Rattle.cg_verilog_text.specs.declared.fault.ItemFault.TheVariants.{Limit as Passed}

@@ -1,7 +1,7 @@
 -- What a reader was told, as a summary.
 use Rattle.std.specs.Prelude.{◌≡◌, ℕ, Bool, true, false, ◌||◌, Option, None, Some, Result, Ok, Err}
 use Rattle.cg_netlist_builder.specs.Building.{Building}
-use Rattle.cg_verilog_text.specs.Telling.{Fault, sooner}
+use Rattle.cg_verilog_text.specs.Telling.{sooner}
 use Rattle.cg_verilog_text.specs.declared.fault.ItemFault.{ItemFault}
 use Rattle.cg_verilog_text.specs.declared.fault.ItemFault.TheVariants.{Limit as Passed}
 use Rattle.cg_verilog_text.specs.declared.fault.VerilogFault.{VerilogFault}

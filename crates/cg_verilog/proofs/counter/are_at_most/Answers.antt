@@ -1,4 +1,4 @@
-use Rattle.std.proofs.Common.{◌≡◌, ◌<◌, ◌∙◌, arith, length, sym}
+use Rattle.std.proofs.Common.{◌≡◌, ◌∙◌, arith, length, sym}
 use Rattle.cg_verilog.proofs.CounterLemmas.{longer_at_most, same_length, shorter_at_most}
 use Rattle.cg_verilog.proofs.counter.are_at_most.Goals as goal
 

@@ -1,0 +1,14 @@
+pub mod Assigned
+pub mod CounterLemmas
+pub mod CoverFits
+pub mod CoverRows
+pub mod Declared
+pub mod HearingLemmas
+pub mod InitsSummed
+pub mod ItemsLeft
+pub mod ItemsSummed
+pub mod ModelKept
+pub mod NetlistLemmas
+pub mod Summed
+pub mod TellingLemmas
+pub mod ToldBuilt

@@ -1,0 +1,9 @@
+pub mod Counters
+pub mod Declaring
+pub mod Ending
+pub mod GivenInits
+pub mod Hearing
+pub mod Reads
+pub mod Summary
+pub mod Tellings
+pub mod inner

@@ -1,0 +1,95 @@
+//! The logic cell of a form.
+
+ghost use Rattle.std.specs.Prelude.{◌≡◌, ◌<◌, ◌∷◌, ◌++◌, [], Bool, List, None, Some, IfOk, IsTrue, length, map, set, slice_get};
+ghost use Rattle.std.specs.List.{AllByRecursion, flat_map};
+ghost use Rattle.std.specs.Str.{bytes_eq};
+ghost use Rattle.cg_cell.specs.Name.{is_name};
+ghost use Rattle.cg_net.specs.Names.{NetName, with_names};
+ghost use Rattle.cg_verilog_text.specs.Forms.{Literal as LiteralSeen};
+ghost use Rattle.cg_verilog_text.specs.Meaning.{bit_in, once, row_of};
+
+use cg_cell::rows::CoverRows;
+use cg_list::Seq;
+use cg_net::names::NetNames;
+use cg_verilog_items::term::Literal;
+use std::alloc::{AllocError, Global};
+
+/// The nets of terms, each once, where it stands first.
+pub fn inputs_of(alloc: Global, terms: &[Seq<Literal<'_>>]) -> Result<NetNames, AllocError>
+    ensures names { IfOk result (λ names. names ≡ once bytes_eq (flat_map (λ term. map (λ literal. literal.net) term) terms.now)) }
+    ensures named { IfOk result (AllByRecursion (λ name. IsTrue (is_name name))) }
+{
+    let mut names = NetNames::new(alloc);
+    'terms: for term in terms {
+        names = with_nets(alloc, names, term.as_slice())?;
+    }
+    Ok(names)
+}
+
+/// Names, and the nets of literals that are not among them.
+fn with_nets(alloc: Global, before: NetNames, term: &[Literal<'_>]) -> Result<NetNames, AllocError>
+    requires { AllByRecursion (λ name. IsTrue (is_name name)) before }
+    ensures names { IfOk result (λ names. names ≡ with_names before (map (λ literal. literal.net) term.now)) }
+    ensures named { IfOk result (AllByRecursion (λ name. IsTrue (is_name name))) }
+{
+    let mut names = before;
+    'literals: for literal in term {
+        names.intern(alloc, literal.net.bytes())?;
+    }
+    Ok(names)
+}
+
+/// The rows of terms: a place for each input, with the bit of the literal that is its.
+pub fn rows_of(
+    alloc: Global,
+    inputs: &NetNames,
+    terms: &[Seq<Literal<'_>>],
+) -> Result<CoverRows, AllocError>
+    ensures { IfOk result (λ rows. rows ≡ map (row_of bytes_eq inputs.now) terms.now) }
+{
+    let mut rows = CoverRows::new(alloc);
+    'terms: for term in terms {
+        let row = row_of(alloc, inputs, term.as_slice())?;
+        rows.push(&row)?;
+    }
+    Ok(rows)
+}
+
+/// The row of a term.
+fn row_of(
+    alloc: Global,
+    inputs: &NetNames,
+    term: &[Literal<'_>],
+) -> Result<Vec<Option<bool>>, AllocError>
+    ensures { IfOk result (λ row. row.items ≡ row_of bytes_eq inputs.now term.now) }
+{
+    let mut row = vec![in alloc; None; inputs.len()]?;
+    'literals: for literal in term {
+        put_literal(&mut row, inputs, literal);
+    }
+    Ok(row)
+}
+
+/// Puts the bit of a literal at the place of its net, unless there is one.
+fn put_literal(row: &mut [Option<bool>], inputs: &NetNames, literal: &Literal<'_>)
+    requires { length row.old ≡ length inputs.now }
+    ensures { (before : List (LiteralSeen NetName)) → row.old ≡ map (bit_in bytes_eq before) inputs.now
+        → row.new ≡ map (bit_in bytes_eq (before ++ literal.now ∷ [])) inputs.now }
+{
+    let _different = inputs.len();
+    match inputs.find(literal.net.bytes()) {
+        None => {}
+        Some(place) => put_bit(row, place, literal.plain),
+    }
+}
+
+/// Puts a bit at a place of a row, unless there is one.
+fn put_bit(row: &mut [Option<bool>], place: usize, bit: bool)
+    requires { place < length row.old }
+    ensures none { slice_get row.old place ≡ Some None → row.new ≡ set row.old place (Some bit) }
+    ensures some { (other : Bool) → slice_get row.old place ≡ Some (Some other) → row.new ≡ row.old }
+{
+    if row[place].is_none() {
+        row[place] = Some(bit);
+    }
+}

@@ -57,7 +57,14 @@ fn said(alloc: Global, mode: &str, netlist: &Netlist) -> Result<String, AllocErr
 fn fronts(alloc: Global, text: &[u8], library: &Library) -> usize {
     let mut count: usize = 0;
     for length in 0..text.len() {
-        if read_verilog(alloc, &text[..length], library, &BlifOptions { clock: None }).is_ok() {
+        if read_verilog(
+            alloc,
+            &text[..length],
+            library,
+            &BlifOptions { clock: None },
+        )
+        .is_ok()
+        {
             count = count.wrapping_add(1);
         }
     }

@@ -1,7 +1,11 @@
--- What gating gives: a plan, the netlist that its machine is written as, what comes of the stimulus, and the texts of these.
-use Rattle.std.specs.Prelude.{◌≡◌, ℕ, Bool, if◌then◌else◌, List, length, Option, None, Some}
+-- What gating gives: hints and a plan, the netlist that its machine is written as, what comes of the stimulus, and the texts of these.
+use Rattle.std.specs.Prelude.{◌≡◌, ℕ, Bool, if◌then◌else◌, List, length, map, Option, None, Some}
+use Rattle.std.specs.Option.{option_map}
 use Rattle.cg_blif_text.specs.Canonical.{blif}
+use Rattle.cg_gate_laws.specs.Begun.{renamed}
 use Rattle.cg_gate_laws.specs.Gated.{Gating}
+use Rattle.cg_hint_laws.specs.Answers.{AreTried, Reported}
+use Rattle.cg_hint_laws.specs.declared.outcome.HintOutcome.{HintOutcome}
 use Rattle.cg_insert.specs.Insert.{inserted, insertion_limit}
 use Rattle.cg_extract.specs.Lifted.{lifted}
 use Rattle.cg_netlist.specs.Circuit.{Circuit}
@@ -13,14 +17,15 @@ use Rattle.cg_plan_text.specs.declared.summary.Played.{Played}
 use Rattle.cg_stimulus.specs.Inputs.{Rows}
 use Rattle.cg_plan.specs.Planning.{AreWritable}
 use Rattle.cg_gate.specs.Played.{AreEdges, IsWhatPlayed, Saying}
-use Rattle.cg_gate.specs.Request.{RequestData, gating_of}
+use Rattle.cg_gate.specs.Request.{RequestData, gating_of, hints_of}
 use Rattle.cg_gate.specs.declared.texts.Texts.{Texts}
 
--- a plan as it is told, whose certificates keep to the bounds of their formats, and the netlist that its machine is written as.
--- Free are the bits that are told of a refuted claim and
--- the logs of the certificates, as far as their definitions leave them open.
-pub record IsWritten (by : Gating) (c : Circuit) (told : ReportedPlan) (written : Circuit) : Type 0 where
-  pub plan : IsPlan by.library by.settings by.counts (lifted c by.prefix) told
+-- hints as they are told, a plan as it is told, which begins with the machine that they leave and whose certificates keep to the bounds
+-- of their formats, and the netlist that its machine is written as. Free are the bits that are told of a refuted claim and the logs of
+-- the certificates, as far as their definitions leave them open.
+pub record IsWritten (by : Gating) (c : Circuit) (hints : Reported) (told : ReportedPlan) (written : Circuit) : Type 0 where
+  pub tried : AreTried by.library by.settings.width (lifted c by.prefix) (map (renamed c) by.hints) hints
+  pub plan : IsPlan by.library by.settings by.counts hints.machine told
   pub writable : AreWritable told.certificates
   pub fits : insertion_limit by.test told.machine ≡ None
   pub is : written ≡ inserted by.library by.test told.machine
@@ -29,21 +34,28 @@ pub record IsWritten (by : Gating) (c : Circuit) (told : ReportedPlan) (written 
 abbrev pub where_asked : Bool → List ℕ → Option (List ℕ)
 where_asked asked text = if asked then Some text else None
 
+-- the outcomes of hints, where hints are asked for
+abbrev pub told_outcomes : RequestData → Reported → Option (List HintOutcome)
+told_outcomes request hints = option_map (λ asked. hints.outcomes) request.hints
+
 -- the texts of a gated netlist
-pub record AreTexts (request : RequestData) (told : ReportedPlan) (written : Circuit) (played : Played) (texts : Texts) : Type 0 where
+pub record AreTexts (request : RequestData) (hints : Reported) (told : ReportedPlan) (written : Circuit) (played : Played)
+    (texts : Texts) : Type 0 where
   pub out : texts.out ≡ blif written
-  pub proof : texts.proof ≡ where_asked request.proof (proof_text told)
-  pub report : texts.report ≡ where_asked request.report (report_text told (length written.gaters) played)
-  pub said : texts.said ≡ said_text told played
+  pub proof : texts.proof ≡ where_asked request.proof (proof_text told hints.certificates)
+  pub report : texts.report
+      ≡ where_asked request.report (report_text told (hints_of request) hints.outcomes (length written.gaters) played)
+  pub said : texts.said ≡ said_text told (told_outcomes request hints) played
 
 -- what gating gives of a netlist, with a watcher that says this, if there is one
 pub record GivesGated (request : RequestData) (says : Option Saying) (c : Circuit) (texts : Texts) : Type 0 where
+  pub hints : Reported
   pub told : ReportedPlan
   pub written : Circuit
   pub played : Played
-  pub gated : IsWritten (gating_of request c) c told written
+  pub gated : IsWritten (gating_of request c) c hints told written
   pub what : IsWhatPlayed says request.stimulus c written played
-  pub gives : AreTexts request told written played texts
+  pub gives : AreTexts request hints told written played texts
 
 -- what is said of a generated pipeline of this size that was gated
 pub record SaysDemo (size : ℕ) (rows : List (List Bool)) (read written : Circuit) (told : ReportedPlan) (text : List ℕ) : Type 0 where
@@ -54,7 +66,8 @@ pub record SaysDemo (size : ℕ) (rows : List (List Bool)) (read written : Circu
 pub record GivesDemo (size : ℕ) (request : RequestData) (c : Circuit) (text : List ℕ) : Type 0 where
   pub stimulus : Rows
   pub played : request.stimulus ≡ Some stimulus
+  pub hints : Reported
   pub told : ReportedPlan
   pub written : Circuit
-  pub gated : IsWritten (gating_of request c) c told written
+  pub gated : IsWritten (gating_of request c) c hints told written
   pub says : SaysDemo size stimulus.rows c written told text

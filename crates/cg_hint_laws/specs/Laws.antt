@@ -89,6 +89,20 @@ abbrev pub InsertedExactly : Type 0
 InsertedExactly = (library : List CellData) (width : ℕ) (m : MachineData) (h : Hint) → IsMachine m → Fits m h →
     (tried library width m h ≡ Ok Inserted) ↔ IsInsertable library width m h
 
+-- What makes a hint worth inserting in a run that comes to its end. Nothing is asked of nodes, nets or registers: a run in which a
+-- limit on these is passed comes to no end, so no hint is left out for them.
+pub record IsWorthInserting (library : List CellData) (width : ℕ) (m : MachineData) (h : Hint) : Type 0 where
+  -- none of its registers has an enable
+  pub free : AreFree m h
+  -- the library has each cell that it needs
+  pub cells : missing library (needs h) ≡ None
+  -- each of its claims, the first of which is that it can idle, has no more leaves than are allowed
+  pub narrow : (k : ℕ) (c : HintClaim) → slice_get (all_claims h) k ≡ Some c → claim_width m h c ≤ width
+  -- its condition can be 0
+  pub idles : CanIdle m h.terms
+  -- its registers keep their bits, over all states and inputs
+  pub holds : ClaimsHold m h
+
 -- each hint of a list fits
 abbrev pub AllFit : MachineData → List Hint → Type 0
 AllFit m hs = AllByRecursion (Fits m) hs
@@ -111,3 +125,9 @@ pub record AreSafe (library : List CellData) (m : MachineData) (done : Hinted) :
 abbrev pub HintsAreSafe : Type 0
 HintsAreSafe = (library : List CellData) (width : ℕ) (m : MachineData) (hs : List Hint) (done : Hinted) → IsMachine m → AllFit m hs →
     hinted library width m hs ≡ Ok done → AreSafe library m done
+
+-- and where no limit is passed, each is inserted exactly where it is worth it on the machine of its turn
+abbrev pub WorthyExactly : Type 0
+WorthyExactly = (library : List CellData) (width : ℕ) (m : MachineData) (hs : List Hint) (done : Hinted) → IsMachine m → AllFit m hs →
+    hinted library width m hs ≡ Ok done → (k : ℕ) (turn : Turn) → slice_get done.turns k ≡ Some turn →
+    (turn.outcome ≡ Inserted) ↔ IsWorthInserting library width turn.machine turn.hint

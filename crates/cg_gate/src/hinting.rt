@@ -1,0 +1,152 @@
+//! The hints of a netlist, tried on its machine before the plan.
+
+ghost use Rattle.std.specs.Prelude.{◌≡◌, length, map, true, ℕ, List, IfErr, IfOk};
+ghost use Rattle.std.specs.List.{All, AllByRecursion};
+ghost use Rattle.cg_extract.specs.Lifted.{kept_nets, lifted};
+ghost use Rattle.cg_gate.specs.Hinting.{AreLeft};
+ghost use Rattle.cg_gate.specs.Request.{MayGate, hints_of};
+ghost use Rattle.cg_gate_laws.specs.Begun.{hinted_by, renamed, renamed_literal};
+ghost use Rattle.cg_hint_laws.specs.Answers.{MayFail};
+ghost use Rattle.cg_hint_laws.specs.OfNetlist.{IsOf};
+ghost use Rattle.cg_machine.specs.Claims.{Literal};
+ghost use Rattle.cg_net.specs.NetSets.{is_in};
+
+use crate::request::Request;
+use cg_extract::number::number;
+use cg_hint_laws::certificate::HintCertificate;
+use cg_hint_laws::hint::Hint;
+use cg_hint_laws::outcome::HintOutcome;
+use cg_hints::apply::{Applied, apply_all};
+use cg_list::Seq;
+use cg_machine::machine::Machine;
+use cg_machine::stage::NetLit;
+use cg_net::id::RegId;
+use cg_netlist::fault::AddFault;
+use cg_netlist::netlist::Netlist;
+use std::alloc::{AllocError, Global};
+
+/// Hints that were tried before a plan.
+#[derive(Drop)]
+pub struct TriedHints {
+    /// What came of each, in order.
+    pub outcomes: Seq<HintOutcome>,
+
+    /// A proof of the claim of each register of each inserted hint, in the order of hints and registers.
+    pub certificates: Seq<HintCertificate>,
+}
+
+/// Tries the hints of a request on the machine of the netlist, one after another.
+pub(crate) fn try_hints(
+    alloc: Global,
+    netlist: &Netlist,
+    machine: Machine,
+    request: &Request<'_>,
+) -> Result<Applied, AddFault>
+    requires may { MayGate request.now netlist.now }
+    requires machine { machine ≡ lifted netlist.now request.now.prefix }
+    ensures left { IfOk result (AreLeft request.now netlist.now) }
+    ensures fault { IfErr result
+        (MayFail (hinted_by request.now.library request.now.settings.width request.now.prefix (hints_of request.now) netlist.now)) }
+{
+    let Ok(hints) = machine_hints(alloc, netlist, request.hints) else {
+        // By a call, as its parts would else be dropped one by one in the proof.
+        drop(machine);
+        return Err(AddFault::NoMemory);
+    };
+    apply_all(
+        alloc,
+        machine,
+        &hints,
+        request.library,
+        request.settings.width,
+    )
+}
+
+/// The hints of a netlist, where there are some, as hints of its machine.
+fn machine_hints(
+    alloc: Global,
+    netlist: &Netlist,
+    asked: Option<&Seq<Hint>>,
+) -> Result<Vec<Hint>, AllocError>
+    requires { AllByRecursion (IsOf netlist.now) (unwrap_or (option_copied asked) []) }
+    ensures { IfOk result (λ hints. hints.items ≡ map (renamed netlist.now) (unwrap_or (option_copied asked) [])) }
+{
+    match asked {
+        None => Ok(Vec::new(alloc)),
+        Some(hints) => renamed_hints(alloc, netlist, hints.as_slice()),
+    }
+}
+
+/// Hints of a netlist as hints of its machine.
+fn renamed_hints(
+    alloc: Global,
+    netlist: &Netlist,
+    hints: &[Hint],
+) -> Result<Vec<Hint>, AllocError>
+    requires { All (IsOf netlist.now) hints.now }
+    ensures { IfOk result (λ made. made.items ≡ map (renamed netlist.now) hints.now) }
+{
+    let mut made = Vec::new(alloc);
+    for hint in hints {
+        made.push(renamed(alloc, netlist, hint)?)?;
+    }
+    Ok(made)
+}
+
+/// A hint of a netlist as one of its machine: registers keep their numbers.
+fn renamed(alloc: Global, netlist: &Netlist, hint: &Hint) -> Result<Hint, AllocError>
+    requires { IsOf netlist.now hint.now }
+    ensures { IfOk result (λ made. made ≡ renamed netlist.now hint.now) }
+{
+    Ok(Hint {
+        regs: copied(alloc, hint.regs.as_slice())?,
+        terms: renamed_terms(alloc, netlist, hint.terms.as_slice())?,
+        after: hint.after,
+    })
+}
+
+/// Registers, copied.
+fn copied(alloc: Global, regs: &[RegId]) -> Result<Seq<RegId>, AllocError>
+    ensures { IfOk result (λ made. made ≡ regs.now) }
+{
+    let mut made = Seq::new(alloc);
+    for reg in regs {
+        made.push(*reg)?;
+    }
+    Ok(made)
+}
+
+/// The terms of a condition as those of the machine.
+fn renamed_terms(
+    alloc: Global,
+    netlist: &Netlist,
+    terms: &[Seq<NetLit>],
+) -> Result<Seq<Seq<NetLit>>, AllocError>
+    requires { AllByRecursion (AllByRecursion (IsKeptLiteral netlist.now)) terms.now }
+    ensures { IfOk result (λ made. made ≡ map (map (renamed_literal netlist.now)) terms.now) }
+{
+    let mut made = Seq::new(alloc);
+    for k in 0..terms.len() {
+        made.push(renamed_term(alloc, netlist, terms[k].as_slice())?)?;
+    }
+    Ok(made)
+}
+
+/// The literals of a term as those of the machine.
+fn renamed_term(
+    alloc: Global,
+    netlist: &Netlist,
+    term: &[NetLit],
+) -> Result<Seq<NetLit>, AllocError>
+    requires { All (IsKeptLiteral netlist.now) term.now }
+    ensures { IfOk result (λ made. made ≡ map (renamed_literal netlist.now) term.now) }
+{
+    let mut made = Seq::new(alloc);
+    for literal in term {
+        made.push(NetLit {
+            net: number(netlist, literal.net),
+            inverted: literal.inverted,
+        })?;
+    }
+    Ok(made)
+}

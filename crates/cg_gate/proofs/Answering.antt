@@ -5,6 +5,7 @@ use Rattle.cg_limit.specs.declared.Limit.{Limit}
 use Rattle.cg_netlist.specs.Circuit.{Circuit}
 use Rattle.cg_netlist.specs.declared.fault.AddFault.{AddFault}
 use Rattle.cg_netlist.specs.declared.fault.AddFault.TheVariants.{NoMemory}
+use Rattle.cg_hint_laws.specs.Answers.{Reported}
 use Rattle.cg_plan_laws.specs.Reported.{PlanMayFail, ReportedPlan}
 use Rattle.cg_plan_text.specs.declared.summary.Played.{Played}
 use Rattle.cg_stimulus.specs.Inputs.{Rows}
@@ -37,10 +38,10 @@ unsaid (Some says) written = refl
 pub unplayed : (says : Option Saying) (stimulus : Option Rows) (read written : Circuit) → stimulus ≡ None → IsWhatPlayed says stimulus read written (record { edges = None; watched = None })
 unplayed says stimulus read written none = subst (λ (s : Option Rows). IsWhatPlayed says s read written (record { edges = None; watched = None })) (sym none) (record { edges = refl; line = unsaid says written })
 
-module _ (request : RequestData) (says : Option Saying) (read written : Circuit) (told : ReportedPlan) (played : Played) (gated : IsWritten (gating_of request read) read told written)
+module _ (request : RequestData) (says : Option Saying) (read written : Circuit) (hints : Reported) (told : ReportedPlan) (played : Played) (gated : IsWritten (gating_of request read) read hints told written)
     (what : IsWhatPlayed says request.stimulus read written played) where
-  pub gives_all : (texts : Texts) → AreTexts request told written played texts → GivesGated request says read texts
-  gives_all texts are = record { told = told; written = written; played = played; gated = gated; what = what; gives = are }
+  pub gives_all : (texts : Texts) → AreTexts request hints told written played texts → GivesGated request says read texts
+  gives_all texts are = record { hints = hints; told = told; written = written; played = played; gated = gated; what = what; gives = are }
 
-  pub means_all : IsProper request → MayGate request read → (texts : Texts) → AreTexts request told written played texts → Headline request says read texts
+  pub means_all : IsProper request → MayGate request read → (texts : Texts) → AreTexts request hints told written played texts → Headline request says read texts
   means_all proper may texts are = gated_means request says read texts proper may (gives_all texts are)

@@ -20,11 +20,15 @@ use Rattle.cg_gate.specs.Played.{AreEdges, IsWhatPlayed, Saying}
 use Rattle.cg_gate.specs.Request.{RequestData, gating_of, hints_of}
 use Rattle.cg_gate.specs.declared.texts.Texts.{Texts}
 
+-- hints of a netlist were tried one after another on its machine, and are told so
+abbrev pub AreHintsTried : Gating → Circuit → Reported → Type 0
+AreHintsTried by c hints = AreTried by.library by.settings.width (lifted c by.prefix) (map (renamed c) by.hints) hints
+
 -- hints as they are told, a plan as it is told, which begins with the machine that they leave and whose certificates keep to the bounds
 -- of their formats, and the netlist that its machine is written as. Free are the bits that are told of a refuted claim and the logs of
 -- the certificates, as far as their definitions leave them open.
 pub record IsWritten (by : Gating) (c : Circuit) (hints : Reported) (told : ReportedPlan) (written : Circuit) : Type 0 where
-  pub tried : AreTried by.library by.settings.width (lifted c by.prefix) (map (renamed c) by.hints) hints
+  pub tried : AreHintsTried by c hints
   pub plan : IsPlan by.library by.settings by.counts hints.machine told
   pub writable : AreWritable told.certificates
   pub fits : insertion_limit by.test told.machine ≡ None

@@ -1,5 +1,6 @@
 pub mod ZeroCounting
 pub mod Request
+pub mod Begun
 pub mod Played
 pub mod Gating
 pub mod Turns

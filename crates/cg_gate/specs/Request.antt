@@ -77,10 +77,14 @@ limit_of (Err faults.NoMemory) = None
 limit_of (Err (faults.Limit limit)) = Some limit
 
 -- the limit that a hint passes, or else that at which the plan stops, or else that which the written netlist would pass
+abbrev pub hints_limit : Gating → Circuit → Option Limit
+hints_limit by c = limit_of (hinted_by by.library by.settings.width by.prefix by.hints c)
+
+abbrev pub plan_limit : Gating → Circuit → Option Limit
+plan_limit by c = (plan_of by.library by.settings by.counts (begun by c)).limit
+
 abbrev pub stops_by : Gating → Circuit → Option Limit
-stops_by by c =
-    option_or (limit_of (hinted_by by.library by.settings.width by.prefix by.hints c))
-    (option_or (plan_of by.library by.settings by.counts (begun by c)).limit (insertion_limit by.test (planned by c)))
+stops_by by c = option_or (option_or (hints_limit by c) (plan_limit by c)) (insertion_limit by.test (planned by c))
 
 abbrev pub stops_at : RequestData → Circuit → Option Limit
 stops_at request c = stops_by (gating_of request c) c

@@ -1,12 +1,15 @@
 //! A netlist is gated.
 
-ghost use Rattle.std.specs.Prelude.{◌≡◌, true, None, is_some, IfOk, IfErr, OnOk};
+ghost use Rattle.std.specs.Prelude.{◌≡◌, true, None, is_some, length, IfOk, IfErr, OnOk};
 ghost use Rattle.std.specs.Option.{option_map};
+ghost use Rattle.cg_gate.specs.Begun.{told_hints};
 ghost use Rattle.cg_gate.specs.Gating.{AreTexts, GivesDemo, GivesGated, SaysDemo};
 ghost use Rattle.cg_gate.specs.Headline.{Headline};
-ghost use Rattle.cg_gate.specs.Request.{MayGate, stops_at};
+ghost use Rattle.cg_gate.specs.Request.{MayGate, hints_of, stops_at};
+ghost use Rattle.cg_machine.specs.Machine.{MachineData};
 ghost use Rattle.cg_plan_laws.specs.Reported.{PlanMayFail};
 ghost use Rattle.cg_plan.specs.Planning.{AreWritable, told};
+ghost use Rattle.cg_plan_text.specs.ProofText.{AreWritableHints};
 ghost use Rattle.cg_stimulus.specs.Inputs.{IsFor};
 
 use crate::planning::{Gated, gate_netlist};
@@ -22,12 +25,14 @@ use cg_report::watcher::Watcher;
 use cg_stimulus::stimulus::Stimulus;
 use std::alloc::{AllocError, Global};
 
-/// Gates a netlist: stages are planned and the plan's machine is written with a gating cell for each enable.
+/// Gates a netlist: hints are tried, stages are planned on what they leave, and the plan's machine is written with a gating cell for
+/// each enable.
 ///
 /// Where there is a stimulus, the history on which it is played on the written netlist is shown to the watcher, which begins
 /// anew.
 ///
-/// It is refused by the limit at which the plan stops, or else by that on nets where the written netlist would pass it.
+/// It is refused by the limit that a hint passes, or else by that at which the plan stops, or else by that on nets where the written
+/// netlist would pass it.
 pub fn gate(
     alloc: Global,
     netlist: &Netlist,
@@ -39,7 +44,7 @@ pub fn gate(
     ensures gives { IfOk result (λ texts. GivesGated request.now (option_map (λ watcher. says watcher) watcher) netlist.now texts) }
 
     // The written netlist shows, from every state and over every waveform that begins with the clock low, what the netlist
-    // shows; a stage is inserted exactly where it deserves it; and the watcher's line is what it says of exactly the moments of
+    // shows; a hint or a stage is inserted exactly where it deserves it; and the watcher's line is what it says of exactly the moments of
     // the history that it was shown.
     ensures headline { IfOk result (λ texts. Headline request.now (option_map (λ watcher. says watcher) watcher) netlist.now texts) }
     ensures unstopped { OnOk result (stops_at request.now netlist.now ≡ None) }
@@ -101,8 +106,11 @@ fn finish(
     gated: &Gated,
     played: &Played,
 ) -> Result<Texts, AddFault>
-    requires { AreWritable gated.now.plan.certificates }
-    ensures texts { IfOk result (λ texts. AreTexts request.now (told gated.now.plan) gated.now.netlist played.now texts) }
+    requires stages { AreWritable gated.now.plan.certificates }
+    requires hints { AreWritableHints gated.now.hints.certificates }
+    requires told { length (hints_of request.now) ≡ length gated.now.hints.outcomes }
+    ensures texts { IfOk result (λ texts. (m : MachineData) →
+        AreTexts request.now (told_hints m gated.now.hints) (told gated.now.plan) gated.now.netlist played.now texts) }
     ensures fault { IfErr result (λ fault. fault ≡ AddFault.NoMemory) }
 {
     Ok(write_texts(alloc, request, gated, played)?)

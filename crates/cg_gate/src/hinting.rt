@@ -1,15 +1,15 @@
 //! The hints of a netlist, tried on its machine before the plan.
 
-ghost use Rattle.std.specs.Prelude.{◌≡◌, length, map, true, ℕ, List, IfErr, IfOk};
+ghost use Rattle.std.specs.Prelude.{◌≡◌, [], map, unwrap_or, IfErr, IfOk};
 ghost use Rattle.std.specs.List.{All, AllByRecursion};
-ghost use Rattle.cg_extract.specs.Lifted.{kept_nets, lifted};
-ghost use Rattle.cg_gate.specs.Hinting.{AreLeft};
-ghost use Rattle.cg_gate.specs.Request.{MayGate, hints_of};
+ghost use Rattle.std.specs.Option.{option_copied};
+ghost use Rattle.cg_extract.specs.Lifted.{lifted};
+ghost use Rattle.cg_gate.specs.Gating.{AreHintsTried};
+ghost use Rattle.cg_gate.specs.Request.{MayGate, gating_of, hints_of};
 ghost use Rattle.cg_gate_laws.specs.Begun.{hinted_by, renamed, renamed_literal};
 ghost use Rattle.cg_hint_laws.specs.Answers.{MayFail};
-ghost use Rattle.cg_hint_laws.specs.OfNetlist.{IsOf};
-ghost use Rattle.cg_machine.specs.Claims.{Literal};
-ghost use Rattle.cg_net.specs.NetSets.{is_in};
+ghost use Rattle.cg_hint_laws.specs.OfNetlist.{IsOf, IsPlain};
+ghost use Rattle.cg_hints.specs.Applying.{reported};
 
 use crate::request::Request;
 use cg_extract::number::number;
@@ -44,7 +44,7 @@ pub(crate) fn try_hints(
 ) -> Result<Applied, AddFault>
     requires may { MayGate request.now netlist.now }
     requires machine { machine ≡ lifted netlist.now request.now.prefix }
-    ensures left { IfOk result (AreLeft request.now netlist.now) }
+    ensures tried { IfOk result (λ applied. AreHintsTried (gating_of request.now netlist.now) netlist.now (reported applied)) }
     ensures fault { IfErr result
         (MayFail (hinted_by request.now.library request.now.settings.width request.now.prefix (hints_of request.now) netlist.now)) }
 {
@@ -78,12 +78,8 @@ fn machine_hints(
 }
 
 /// Hints of a netlist as hints of its machine.
-fn renamed_hints(
-    alloc: Global,
-    netlist: &Netlist,
-    hints: &[Hint],
-) -> Result<Vec<Hint>, AllocError>
-    requires { All (IsOf netlist.now) hints.now }
+fn renamed_hints(alloc: Global, netlist: &Netlist, hints: &[Hint]) -> Result<Vec<Hint>, AllocError>
+    requires { AllByRecursion (IsOf netlist.now) hints.now }
     ensures { IfOk result (λ made. made.items ≡ map (renamed netlist.now) hints.now) }
 {
     let mut made = Vec::new(alloc);
@@ -122,12 +118,13 @@ fn renamed_terms(
     netlist: &Netlist,
     terms: &[Seq<NetLit>],
 ) -> Result<Seq<Seq<NetLit>>, AllocError>
-    requires { AllByRecursion (AllByRecursion (IsKeptLiteral netlist.now)) terms.now }
+    requires { All (λ term. AllByRecursion (λ l. IsPlain netlist.now l.0) term) terms.now }
     ensures { IfOk result (λ made. made ≡ map (map (renamed_literal netlist.now)) terms.now) }
 {
     let mut made = Seq::new(alloc);
     for k in 0..terms.len() {
-        made.push(renamed_term(alloc, netlist, terms[k].as_slice())?)?;
+        let term = renamed_term(alloc, netlist, terms[k].as_slice())?;
+        made.push(term)?;
     }
     Ok(made)
 }
@@ -138,15 +135,24 @@ fn renamed_term(
     netlist: &Netlist,
     term: &[NetLit],
 ) -> Result<Seq<NetLit>, AllocError>
-    requires { All (IsKeptLiteral netlist.now) term.now }
+    requires { AllByRecursion (λ l. IsPlain netlist.now l.0) term.now }
     ensures { IfOk result (λ made. made ≡ map (renamed_literal netlist.now) term.now) }
 {
     let mut made = Seq::new(alloc);
     for literal in term {
-        made.push(NetLit {
-            net: number(netlist, literal.net),
-            inverted: literal.inverted,
-        })?;
+        made.push(renamed_literal(netlist, *literal))?;
     }
     Ok(made)
+}
+
+/// A literal as one of the machine: its net has there the number that it has among the nets that are kept.
+fn renamed_literal(netlist: &Netlist, literal: NetLit) -> NetLit
+    requires { IsPlain netlist.now literal.0 }
+    ensures { result ≡ renamed_literal netlist.now literal }
+{
+    let _nets = netlist.nets();
+    NetLit {
+        net: number(netlist, literal.net),
+        inverted: literal.inverted,
+    }
 }

@@ -1,16 +1,21 @@
 //! The texts of a netlist that was gated.
 
-ghost use Rattle.std.specs.Prelude.{◌≡◌, length, IfOk};
+ghost use Rattle.std.specs.Prelude.{◌≡◌, [], length, unwrap_or, IfOk};
+ghost use Rattle.std.specs.Option.{option_copied, option_map};
+ghost use Rattle.cg_gate.specs.Begun.{told_hints};
 ghost use Rattle.cg_gate.specs.Gating.{AreTexts, where_asked};
+ghost use Rattle.cg_gate.specs.Request.{hints_of};
+ghost use Rattle.cg_machine.specs.Machine.{MachineData};
 ghost use Rattle.cg_plan.specs.Planning.{AreWritable, told};
-ghost use Rattle.cg_plan_text.specs.ProofText.{proof_text};
-ghost use Rattle.cg_plan_text.specs.Summary.{report_text};
+ghost use Rattle.cg_plan_text.specs.ProofText.{AreWritableHints, proof_text};
+ghost use Rattle.cg_plan_text.specs.Summary.{report_text, said_text};
 
 use crate::planning::Gated;
 use crate::request::Request;
 use cg_blif_out::write_blif;
+use cg_hint_laws::hint::Hint;
+use cg_hint_laws::outcome::HintOutcome;
 use cg_list::Seq;
-use cg_plan::plan::Plan;
 use cg_plan_text::proof::proof_text;
 use cg_plan_text::summary::{Played, report_text, said_text};
 use std::alloc::{AllocError, Global};
@@ -38,40 +43,87 @@ pub(crate) fn write_texts(
     gated: &Gated,
     played: &Played,
 ) -> Result<Texts, AllocError>
-    requires { AreWritable gated.now.plan.certificates }
-    ensures { IfOk result (λ texts. AreTexts request.now (told gated.now.plan) gated.now.netlist played.now texts) }
+    requires stages { AreWritable gated.now.plan.certificates }
+    requires hints { AreWritableHints gated.now.hints.certificates }
+    requires told { length (hints_of request.now) ≡ length gated.now.hints.outcomes }
+    ensures { IfOk result (λ texts. (m : MachineData) →
+        AreTexts request.now (told_hints m gated.now.hints) (told gated.now.plan) gated.now.netlist played.now texts) }
 {
     Ok(Texts {
         out: Seq::from_vec(write_blif(alloc, &gated.netlist)?),
-        proof: proof_asked(alloc, request.proof, &gated.plan)?,
-        report: report_asked(alloc, request.report, gated, played)?,
-        said: Seq::from_vec(said_text(alloc, &gated.plan, played)?),
+        proof: proof_asked(alloc, request.proof, gated)?,
+        report: report_asked(alloc, request, gated, played)?,
+        said: said(alloc, request, gated, played)?,
     })
 }
 
+/// What is said.
+fn said(
+    alloc: Global,
+    request: &Request<'_>,
+    gated: &Gated,
+    played: &Played,
+) -> Result<Seq<u8>, AllocError>
+    ensures { IfOk result (λ text. text
+        ≡ said_text (told gated.now.plan) (option_map (λ asked. gated.now.hints.outcomes) request.now.hints) played.now) }
+{
+    let outcomes = told_outcomes(request.hints, &gated.hints.outcomes);
+    Ok(Seq::from_vec(said_text(alloc, &gated.plan, outcomes, played)?))
+}
+
+/// The outcomes of hints, where hints are asked for.
+fn told_outcomes<'a>(
+    asked: Option<&Seq<Hint>>,
+    outcomes: &'a Seq<HintOutcome>,
+) -> Option<&'a Seq<HintOutcome>>
+    ensures { option_copied result ≡ option_map (λ asked. outcomes.entry.now) asked }
+{
+    match asked {
+        None => None,
+        Some(_) => Some(outcomes),
+    }
+}
+
+/// The hints, none where none are asked for.
+fn asked_hints<'a>(asked: Option<&'a Seq<Hint>>) -> &'a [Hint]
+    ensures { result.now ≡ unwrap_or (option_copied asked.entry) [] }
+{
+    match asked {
+        None => &[],
+        Some(hints) => hints.as_slice(),
+    }
+}
+
 /// The proof file, where it is asked for.
-fn proof_asked(alloc: Global, asked: bool, plan: &Plan) -> Result<Option<Seq<u8>>, AllocError>
-    requires { AreWritable plan.now.certificates }
-    ensures { IfOk result (λ text. text ≡ where_asked asked (proof_text (told plan.now))) }
+fn proof_asked(alloc: Global, asked: bool, gated: &Gated) -> Result<Option<Seq<u8>>, AllocError>
+    requires stages { AreWritable gated.now.plan.certificates }
+    requires hints { AreWritableHints gated.now.hints.certificates }
+    ensures { IfOk result (λ text. text ≡ where_asked asked (proof_text (told gated.now.plan) gated.now.hints.certificates)) }
 {
     if !asked {
         return Ok(None);
     }
-    Ok(Some(Seq::from_vec(proof_text(alloc, plan)?)))
+    let hints = gated.hints.certificates.as_slice();
+    Ok(Some(Seq::from_vec(proof_text(alloc, &gated.plan, hints)?)))
 }
 
 /// The report, where it is asked for.
 fn report_asked(
     alloc: Global,
-    asked: bool,
+    request: &Request<'_>,
     gated: &Gated,
     played: &Played,
 ) -> Result<Option<Seq<u8>>, AllocError>
-    ensures { IfOk result (λ text. text ≡ where_asked asked (report_text (told gated.now.plan) (length gated.now.netlist.gaters) played.now)) }
+    requires { length (hints_of request.now) ≡ length gated.now.hints.outcomes }
+    ensures { IfOk result (λ text. text ≡ where_asked request.now.report
+        (report_text (told gated.now.plan) (hints_of request.now) gated.now.hints.outcomes (length gated.now.netlist.gaters) played.now)) }
 {
-    if !asked {
+    if !request.report {
         return Ok(None);
     }
+    let hints = asked_hints(request.hints);
+    let outcomes = gated.hints.outcomes.as_slice();
     let gates = gated.netlist.gaters();
-    Ok(Some(Seq::from_vec(report_text(alloc, &gated.plan, gates, played)?)))
+    let text = report_text(alloc, &gated.plan, hints, outcomes, gates, played)?;
+    Ok(Some(Seq::from_vec(text)))
 }

@@ -1,17 +1,17 @@
 -- Hints of a netlist fit its machine, and the machine that they leave is one to begin a plan with.
-use Rattle.std.proofs.Common.{◌≡◌, ℕ, ◌<◌, Bool, true, false, List, [], ◌∷◌, map, length, nat_eq, Result, Ok, Err, Some, refl, sym, ◌∙◌, ap, subst}
+use Rattle.std.proofs.Common.{◌≡◌, ℕ, ◌<◌, ◌≤◌, true, false, List, [], ◌∷◌, map, length, nat_eq, Result, Ok, Err, Some, refl, sym, ◌∙◌, ap, subst}
 use Rattle.std.proofs.Common.{inl, inr, arith}
 use Rattle.std.specs.List.{All, AllByRecursion}
 use Rattle.std.proofs.lemmas.Bool.{both_ways, eq-eqb, eqb-true, or_cases, or_left, or_right}
-use Rattle.std.proofs.lemmas.List.{length-map}
+use Rattle.std.proofs.lemmas.List.{length-map, length-take-le}
 use Rattle.std.proofs.lemmas.List.Elements.{All-map, All-weaker}
-use Rattle.cg_cell.specs.Cell.{CellData}
 use Rattle.cg_extract.proofs.Bare.{number_within}
+use Rattle.cg_extract.proofs.ForGating.{lifted_own}
 use Rattle.cg_extract.proofs.Kept.{clock_kept, kept_of, same_number}
 use Rattle.cg_extract.proofs.LiftedMachine.{lifted_is_machine, lifted_is_small}
 use Rattle.cg_extract.proofs.Lifts.{lifting_lifts}
 use Rattle.cg_extract.proofs.Taking.{net_enabled}
-use Rattle.cg_extract.specs.Lifted.{CanExtract, bare, lifted, lifted_enables, lifting, number_of}
+use Rattle.cg_extract.specs.Lifted.{CanExtract, bare, kept_nets, lifted, lifted_enables, lifting, number_of}
 use Rattle.cg_hint_laws.proofs.AllSafe.{hints_are_safe, safe_itself}
 use Rattle.cg_hint_laws.specs.Hints.{condition_nets}
 use Rattle.cg_hint_laws.specs.Laws.{AllFit, IsSafe}
@@ -19,12 +19,14 @@ use Rattle.cg_hint_laws.specs.OfNetlist.{IsOf, IsPlain}
 use Rattle.cg_hint_laws.specs.Trying.{Hinted}
 use Rattle.cg_hint_laws.specs.declared.hint.Hint.{Hint}
 use Rattle.cg_machine.proofs.Extended.{net_kept}
+use Rattle.cg_machine.specs.Added.{own_netlist, own_nets}
 use Rattle.cg_machine.specs.Claims.{Literal}
-use Rattle.cg_machine.specs.Machine.{IsNet}
+use Rattle.cg_machine.specs.Machine.{IsNet, MachineData}
 use Rattle.cg_machine.specs.Start.{machine_of}
 use Rattle.cg_net.proofs.Members.{is_in_cases, is_in_left, is_in_right}
 use Rattle.cg_net.proofs.TableLemmas.{mapped_at}
 use Rattle.cg_net.specs.NetSets.{is_in}
+use Rattle.cg_net.specs.Names.{net_name}
 use Rattle.cg_netlist.specs.Circuit.{Circuit}
 use Rattle.cg_netlist.specs.declared.fault.AddFault.{AddFault}
 use Rattle.cg_gate_laws.specs.Begun.{hinted_by, left_by, renamed, renamed_literal}
@@ -98,3 +100,17 @@ begun_safe by c can hints = go (hinted_by by.library by.settings.width by.prefix
 -- without hints the plan begins with the machine of the netlist
 pub begun_bare : (by : Gating) (c : Circuit) → by.hints ≡ [] → begun by c ≡ lifted c by.prefix
 begun_bare by c none = ap (λ hs. left_by (lifted c by.prefix) (hinted_by by.library by.settings.width by.prefix hs c)) none
+
+-- hints that were tried leave the machine with which the plan begins
+pub left_is : (by : Gating) (c : Circuit) (done : Hinted) → hinted_by by.library by.settings.width by.prefix by.hints c ≡ Ok done → done.machine ≡ begun by c
+left_is by c done tried = sym (ap (left_by (lifted c by.prefix)) tried)
+
+-- it has no fewer nets than are kept of the netlist
+pub begun_few : (by : Gating) (c : Circuit) → CanExtract c by.prefix → AllByRecursion (IsOf c) by.hints → length (kept_nets c) ≤ length (begun by c).circuit.names
+begun_few by c can hints =
+    let n : MachineData = begun by c in
+    let own : own_netlist n ≡ bare c = (begun_safe by c can hints).own ∙ (lifted_own c by.prefix can).own in
+    let same : length (own_netlist n).names ≡ length (bare c).names = ap (λ (d : Circuit). length d.names) own in
+    let front : length (own_netlist n).names ≡ own_nets n = length-take-le (own_nets n) n.circuit.names (omega arith) in
+    let kept : length (bare c).names ≡ length (kept_nets c) = length-map (kept_nets c) (net_name c.names) in
+    omega (arith, same, front, kept)

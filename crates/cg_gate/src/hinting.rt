@@ -5,11 +5,11 @@ ghost use Rattle.std.specs.List.{All, AllByRecursion};
 ghost use Rattle.std.specs.Option.{option_copied};
 ghost use Rattle.cg_extract.specs.Lifted.{lifted};
 ghost use Rattle.cg_gate.specs.Gating.{AreHintsTried};
-ghost use Rattle.cg_gate.specs.Request.{MayGate, gating_of, hints_of};
-ghost use Rattle.cg_gate_laws.specs.Begun.{hinted_by, renamed, renamed_literal};
-ghost use Rattle.cg_hint_laws.specs.Answers.{MayFail};
+ghost use Rattle.cg_gate.specs.Request.{MayGate, gating_of, hints_limit};
+ghost use Rattle.cg_gate_laws.specs.Begun.{renamed, renamed_literal};
 ghost use Rattle.cg_hint_laws.specs.OfNetlist.{IsOf, IsPlain};
 ghost use Rattle.cg_hints.specs.Applying.{reported};
+ghost use Rattle.cg_plan_laws.specs.Reported.{PlanMayFail};
 
 use crate::request::Request;
 use cg_extract::number::number;
@@ -45,8 +45,7 @@ pub(crate) fn try_hints(
     requires may { MayGate request.now netlist.now }
     requires machine { machine ≡ lifted netlist.now request.now.prefix }
     ensures tried { IfOk result (λ applied. AreHintsTried (gating_of request.now netlist.now) netlist.now (reported applied)) }
-    ensures fault { IfErr result
-        (MayFail (hinted_by request.now.library request.now.settings.width request.now.prefix (hints_of request.now) netlist.now)) }
+    ensures fault { IfErr result (PlanMayFail (hints_limit (gating_of request.now netlist.now) netlist.now)) }
 {
     let Ok(hints) = machine_hints(alloc, netlist, request.hints) else {
         // By a call, as its parts would else be dropped one by one in the proof.
@@ -79,12 +78,13 @@ fn machine_hints(
 
 /// Hints of a netlist as hints of its machine.
 fn renamed_hints(alloc: Global, netlist: &Netlist, hints: &[Hint]) -> Result<Vec<Hint>, AllocError>
-    requires { AllByRecursion (IsOf netlist.now) hints.now }
+    requires { All (IsOf netlist.now) hints.now }
     ensures { IfOk result (λ made. made.items ≡ map (renamed netlist.now) hints.now) }
 {
     let mut made = Vec::new(alloc);
     for hint in hints {
-        made.push(renamed(alloc, netlist, hint)?)?;
+        let hint = renamed(alloc, netlist, hint)?;
+        made.push(hint)?;
     }
     Ok(made)
 }
@@ -94,9 +94,11 @@ fn renamed(alloc: Global, netlist: &Netlist, hint: &Hint) -> Result<Hint, AllocE
     requires { IsOf netlist.now hint.now }
     ensures { IfOk result (λ made. made ≡ renamed netlist.now hint.now) }
 {
+    let regs = copied(alloc, hint.regs.as_slice())?;
+    let terms = renamed_terms(alloc, netlist, hint.terms.as_slice())?;
     Ok(Hint {
-        regs: copied(alloc, hint.regs.as_slice())?,
-        terms: renamed_terms(alloc, netlist, hint.terms.as_slice())?,
+        regs,
+        terms,
         after: hint.after,
     })
 }
@@ -118,7 +120,7 @@ fn renamed_terms(
     netlist: &Netlist,
     terms: &[Seq<NetLit>],
 ) -> Result<Seq<Seq<NetLit>>, AllocError>
-    requires { All (λ term. AllByRecursion (λ l. IsPlain netlist.now l.0) term) terms.now }
+    requires { All (λ term. All (λ l. IsPlain netlist.now l.0) term) terms.now }
     ensures { IfOk result (λ made. made ≡ map (map (renamed_literal netlist.now)) terms.now) }
 {
     let mut made = Seq::new(alloc);
@@ -135,7 +137,7 @@ fn renamed_term(
     netlist: &Netlist,
     term: &[NetLit],
 ) -> Result<Seq<NetLit>, AllocError>
-    requires { AllByRecursion (λ l. IsPlain netlist.now l.0) term.now }
+    requires { All (λ l. IsPlain netlist.now l.0) term.now }
     ensures { IfOk result (λ made. made ≡ map (renamed_literal netlist.now) term.now) }
 {
     let mut made = Seq::new(alloc);

@@ -23,8 +23,8 @@ with_options app (name ∷ names) = with_options (with_option app name) names
 
 abbrev pub option_names : List Text
 option_names =
-    codes "stim" ∷ codes "vcd" ∷ codes "random" ∷ codes "proof" ∷ codes "report" ∷ codes "min" ∷ codes "width" ∷ codes "rounds" ∷ codes "clock" ∷ codes "prefix"
-    ∷ codes "test" ∷ codes "watch" ∷ []
+    codes "stim" ∷ codes "vcd" ∷ codes "random" ∷ codes "proof" ∷ codes "report" ∷ codes "verilog" ∷ codes "min" ∷ codes "width" ∷ codes "rounds"
+    ∷ codes "clock" ∷ codes "prefix" ∷ codes "test" ∷ codes "watch" ∷ []
 
 abbrev pub command_line : App
 command_line = with_options (with_rule (with_rule (new_app (codes "clockgate")) mode_rule) files_rule) option_names
@@ -36,6 +36,7 @@ pub record Values : Type 0 where
   pub random : Option Text
   pub proof : Option Text
   pub report : Option Text
+  pub verilog : Option Text
   pub min : Option Text
   pub width : Option Text
   pub rounds : Option Text
@@ -52,6 +53,7 @@ values_in rows = record {
   random = first_of (codes "random") rows;
   proof = first_of (codes "proof") rows;
   report = first_of (codes "report") rows;
+  verilog = first_of (codes "verilog") rows;
   min = first_of (codes "min") rows;
   width = first_of (codes "width") rows;
   rounds = first_of (codes "rounds") rows;

@@ -72,6 +72,7 @@ are_different (name ∷ names) = not (list_any (λ other. bytes_eq other name) n
 abbrev pub option_files : Values → List Text
 option_files values =
     option_to_list values.stim ++ option_to_list values.vcd ++ option_to_list values.proof ++ option_to_list values.report
+    ++ option_to_list values.verilog
 
 -- the stimulus that is asked for, if any: a stimulus text, a Value Change Dump, or so many rows by chance; there is one at most
 abbrev pub stimulus_of : Option Text → Option Text → Option Text → Option (Option StimulusForm)
@@ -88,7 +89,12 @@ stimulus_in values = stimulus_of values.stim values.vcd values.random
 
 -- which stimulus and which further files are asked for
 abbrev pub asked_in : Values → Option StimulusForm → Asked
-asked_in values stimulus = record { stimulus = stimulus; proof = is_some values.proof; report = is_some values.report }
+asked_in values stimulus = record {
+  stimulus = stimulus;
+  proof = is_some values.proof;
+  report = is_some values.report;
+  verilog = is_some values.verilog;
+}
 
 -- there is a watcher only with a stimulus
 abbrev pub may_watch : Values → Option StimulusForm → Bool
@@ -97,8 +103,8 @@ may_watch values stimulus = is_none values.watch || is_some stimulus
 -- whether options are given that `gate` alone has; and options of any mode
 abbrev pub has_gate_options : Values → Bool
 has_gate_options values =
-    is_some values.stim || is_some values.proof || is_some values.report || is_some values.min || is_some values.width
-    || is_some values.rounds || is_some values.prefix || is_some values.test
+    is_some values.stim || is_some values.proof || is_some values.report || is_some values.verilog || is_some values.min
+    || is_some values.width || is_some values.rounds || is_some values.prefix || is_some values.test
 
 abbrev pub has_options : Values → Bool
 has_options values =
@@ -113,7 +119,7 @@ no_options =
       test = None;
       settings = default_settings;
       watch = None;
-      asked = record { stimulus = None; proof = false; report = false };
+      asked = record { stimulus = None; proof = false; report = false; verilog = false };
     }
 
 -- What the options of `gate` say. The values of `--clock`, `--prefix` and `--test` are names, that of `--test` does not begin

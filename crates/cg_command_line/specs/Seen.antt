@@ -10,6 +10,7 @@ values_of given = record {
   random = option_map (λ word. word.now) given.random;
   proof = option_map (λ word. word.now) given.proof;
   report = option_map (λ word. word.now) given.report;
+  verilog = option_map (λ word. word.now) given.verilog;
   min = option_map (λ word. word.now) given.min;
   width = option_map (λ word. word.now) given.width;
   rounds = option_map (λ word. word.now) given.rounds;

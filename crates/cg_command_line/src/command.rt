@@ -17,7 +17,8 @@ pub fn command_line<'a>(alloc: Global) -> Result<Command<'a>, AllocError>
     let random = with_option(alloc, vcd, "random")?;
     let proof = with_option(alloc, random, "proof")?;
     let report = with_option(alloc, proof, "report")?;
-    let min = with_option(alloc, report, "min")?;
+    let verilog = with_option(alloc, report, "verilog")?;
+    let min = with_option(alloc, verilog, "min")?;
     let width = with_option(alloc, min, "width")?;
     let rounds = with_option(alloc, width, "rounds")?;
     let clock = with_option(alloc, rounds, "clock")?;

@@ -167,6 +167,7 @@ fn gate_files<'a>(
             named(Role::Out, out),
             named(Role::Proof, given.proof.unwrap_or("")),
             named(Role::Report, given.report.unwrap_or("")),
+            named(Role::Verilog, given.verilog.unwrap_or("")),
         ],
     )
 }

@@ -26,6 +26,7 @@ pub struct Asked {
     pub stimulus: Option<StimulusForm>,
     pub proof: bool,
     pub report: bool,
+    pub verilog: bool,
 }
 
 /// What the options say; those that are left out have their defaults.
@@ -69,6 +70,7 @@ pub fn no_options(alloc: Global) -> Result<Options, AllocError>
             stimulus: None,
             proof: false,
             report: false,
+            verilog: false,
         },
     })
 }
@@ -142,6 +144,7 @@ pub fn has_gate_options(given: &OptionWords<'_>) -> bool
     given.stim.is_some()
         || given.proof.is_some()
         || given.report.is_some()
+        || given.verilog.is_some()
         || given.min.is_some()
         || given.width.is_some()
         || given.rounds.is_some()
@@ -167,6 +170,7 @@ fn asked_for(given: &OptionWords<'_>, stimulus: Option<StimulusForm>) -> Asked
         stimulus,
         proof: given.proof.is_some(),
         report: given.report.is_some(),
+        verilog: given.verilog.is_some(),
     }
 }
 
@@ -313,7 +317,8 @@ pub fn push_files<'a>(files: &mut Vec<&'a str>, given: &OptionWords<'a>) -> Resu
     push_file(files, given.stim)?;
     push_file(files, given.vcd)?;
     push_file(files, given.proof)?;
-    push_file(files, given.report)
+    push_file(files, given.report)?;
+    push_file(files, given.verilog)
 }
 
 fn push_file<'a>(files: &mut Vec<&'a str>, file: Option<&'a str>) -> Result<(), AllocError>

@@ -1,10 +1,11 @@
 -- What gating answers, from what its steps answer.
-use Rattle.std.proofs.Common.{◌≡◌, Option, None, Some, Result, Ok, Err, IfOk, IfErr, refl, sym, subst}
+use Rattle.std.proofs.Common.{◌≡◌, Option, None, Some, Result, Ok, Err, IfOk, IfErr, refl, sym, ap, ◌∙◌, subst}
 use Rattle.std.specs.Prelude.{OnOk}
-use Rattle.cg_limit.specs.declared.Limit.{Limit}
+use Rattle.std.specs.Option.{option_map, option_or}
+use Rattle.cg_gate_laws.specs.Gated.{gated_by}
 use Rattle.cg_netlist.specs.Circuit.{Circuit}
 use Rattle.cg_netlist.specs.declared.fault.AddFault.{AddFault}
-use Rattle.cg_netlist.specs.declared.fault.AddFault.TheVariants.{NoMemory}
+use Rattle.cg_netlist.specs.declared.fault.AddFault.TheVariants.{Limit as Passed, NoMemory}
 use Rattle.cg_hint_laws.specs.Answers.{Reported}
 use Rattle.cg_plan_laws.specs.Reported.{PlanMayFail, ReportedPlan}
 use Rattle.cg_plan_text.specs.declared.summary.Played.{Played}
@@ -13,22 +14,35 @@ use Rattle.cg_gate.specs.Gating.{AreTexts, GivesGated, IsWritten}
 use Rattle.cg_gate.specs.Headline.{Headline}
 use Rattle.cg_gate.specs.Laws.{IsProper}
 use Rattle.cg_gate.specs.Played.{IsWhatPlayed, LineIs, Saying}
-use Rattle.cg_gate.specs.Request.{MayGate, RequestData, gating_of}
+use Rattle.cg_gate.specs.Request.{MayGate, RequestData, gating_of, stops_at}
+use Rattle.cg_gate.specs.Stops.{GatingMayFail, fault_of_limit, gating_stop, verilog_stop}
+use Rattle.cg_gate.specs.declared.fault.GateFault.{GateFault}
+use Rattle.cg_gate.specs.declared.fault.GateFault.TheVariants as faults
 use Rattle.cg_gate.specs.declared.texts.Texts.{Texts}
 use Rattle.cg_gate.proofs.Meaning.{gated_means}
 
--- want of memory is no limit
-pub wanting : {A : Type 0} (limit : Option Limit) (r : Result A AddFault) → IfErr r (λ fault. fault ≡ NoMemory) → IfErr r (PlanMayFail limit)
-wanting limit (Ok x) none = tt
-wanting limit (Err fault) none = subst (PlanMayFail limit) (sym none) tt
-
-pub if_ok : {A : Type 0} (P Q : A → Type 0) (r : Result A AddFault) → ((x : A) → P x → Q x) → IfOk r P → IfOk r Q
+pub if_ok : {A E : Type 0} (P Q : A → Type 0) (r : Result A E) → ((x : A) → P x → Q x) → IfOk r P → IfOk r Q
 if_ok P Q (Ok x) all is = all x is
 if_ok P Q (Err fault) all is = tt
 
-pub on_ok : {A : Type 0} (P : Type 0) (r : Result A AddFault) → P → OnOk r P
-on_ok P (Ok x) is = is
-on_ok P (Err fault) is = tt
+-- what stops the plan stops gating
+pub plan_stops : (request : RequestData) (read : Circuit) (cause : AddFault) → PlanMayFail (stops_at request read) cause → GatingMayFail (gating_stop request read) (fault_of_limit cause)
+plan_stops request read NoMemory may = tt
+plan_stops request read (Passed limit) may = ap (λ stop. option_or (option_map faults.Limit stop) (verilog_stop request.verilog (gated_by (gating_of request read) read))) may
+
+-- once the gated netlist is made, only what keeps it from having a Verilog text stops gating
+pub text_stops : (request : RequestData) (read written : Circuit) → stops_at request read ≡ None → written ≡ gated_by (gating_of request read) read → gating_stop request read ≡ verilog_stop request.verilog written
+text_stops request read written unstopped is =
+    ap (λ stop. option_or (option_map faults.Limit stop) (verilog_stop request.verilog (gated_by (gating_of request read) read))) unstopped ∙ ap (verilog_stop request.verilog) (sym is)
+
+module _ {A : Type 0} (stop other : Option GateFault) (same : stop ≡ other) where
+  pub unstopped_so : (r : Result A GateFault) → OnOk r (other ≡ None) → OnOk r (stop ≡ None)
+  unstopped_so (Ok x) none = same ∙ none
+  unstopped_so (Err fault) none = tt
+
+  pub stopped_so : (r : Result A GateFault) → IfErr r (GatingMayFail other) → IfErr r (GatingMayFail stop)
+  stopped_so (Ok x) may = tt
+  stopped_so (Err fault) may = subst (λ stop. GatingMayFail stop fault) (sym same) may
 
 unsaid : (says : Option Saying) (written : Circuit) → LineIs says None written None
 unsaid None written = refl

@@ -80,5 +80,8 @@ module _ (request : RequestData) (read : Circuit) (proper : IsProper request) (m
       limits : insertion_limit request.test told.machine ≡ stops_at request read
       limits = ap (insertion_limit request.test) plan.machine ∙ ap (λ l. option_or l (insertion_limit request.test (planned by read))) (sym passes_none)
 
+  pub written_is : (written : Circuit) → IsWritten (gating_of request read) read (told_hints (begun_of request read) hints) told written → written ≡ gated_by (gating_of request read) read
+  written_is written is = is.is ∙ ap (inserted request.library request.test) plan.machine
+
   pub unstopped : (written : Circuit) → IsWritten (gating_of request read) read (told_hints (begun_of request read) hints) told written → stops_at request read ≡ None
   unstopped written is = ap (λ l. option_or l (insertion_limit request.test (planned by read))) passes_none ∙ (ap (insertion_limit request.test) (sym plan.machine) ∙ is.fits)

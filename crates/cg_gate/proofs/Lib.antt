@@ -9,5 +9,6 @@ mod LiftedInputs
 mod Loading
 mod MayInsert
 mod TestedWaves
+mod TextShows
 mod Unrefused
 pub mod Meaning

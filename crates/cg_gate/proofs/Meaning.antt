@@ -1,5 +1,5 @@
 -- What gating gives means what the headline says.
-use Rattle.std.proofs.Common.{◌≡◌, ◌+◌, ◌-◌, ◌≤◌, Bool, true, List, ◌++◌, map, length, Option, None, Some, refl, sym, ◌∙◌, ap, subst}
+use Rattle.std.proofs.Common.{◌≡◌, ◌+◌, ◌-◌, ◌≤◌, ℕ, Bool, true, List, ◌++◌, map, length, Option, None, Some, refl, sym, ◌∙◌, ap, subst}
 use Rattle.std.proofs.lemmas.List.{length-replicate}
 use Rattle.cg_blif_text.specs.BlifText.{BlifText}
 use Rattle.cg_blif_text.proofs.CanonicalText.{no_two, says_itself}
@@ -39,7 +39,7 @@ use Rattle.cg_stimulus.specs.Inputs.{Rows}
 use Rattle.cg_stimulus.specs.Played.{IsPlayed, played_start, played_wave}
 use Rattle.cg_stimulus.proofs.Playing.{start_is, wave_is}
 use Rattle.cg_gate.specs.Gating.{GivesGated}
-use Rattle.cg_gate.specs.Headline.{Headline, ShowsSame, with_bits}
+use Rattle.cg_gate.specs.Headline.{Headline, ShowsSame, VerilogMeans, with_bits}
 use Rattle.cg_gate.specs.Begun.{IsBegunPlan}
 use Rattle.cg_gate.specs.ZeroCounting.{zero_counts, zero_counts_of, zeros_by}
 use Rattle.cg_gate.specs.Laws.{GatedMeans, IsProper}
@@ -54,7 +54,10 @@ use Rattle.cg_gate.proofs.Leads.{plan_leads}
 use Rattle.cg_extract.proofs.ForGating.{bare_is_netlist, bare_is_placeable}
 use Rattle.cg_gate.proofs.MayInsert.{may_gate}
 use Rattle.cg_gate.proofs.TestedWaves.{IsTested, tested_wave}
+use Rattle.cg_gate.proofs.TextShows.{means_asked, text_means}
 use Rattle.cg_gate.proofs.Unrefused.{untested}
+use Rattle.cg_verilog_text.specs.Written.{verilog}
+use Rattle.std.specs.Prelude.{IfSome}
 
 module _ (request : RequestData) (says : Option Saying) (read : Circuit) (texts : Texts) (proper : IsProper request) (may : MayGate request read) (gives : GivesGated request says read texts) where
   abbrev by : Gating
@@ -159,6 +162,14 @@ module _ (request : RequestData) (says : Option Saying) (read : Circuit) (texts 
       let few : length (kept_nets read) ≤ length gives.hints.machine.circuit.names = subst (λ (k : MachineData). length (kept_nets read) ≤ length k.circuit.names) (sym left) (begun_few by read may.start may.hints) in
       (some.0, some.1, counts read request.prefix may.start gives.hints.machine few (untested request.library request.test read may.lifts) stimulus rows for' some.0 some.1)
 
+  abbrev delays : ℕ
+  delays = length n.circuit.registers - n.own_registers
+
+  verilog_means : IfSome texts.verilog (VerilogMeans request.library request.test gives.told.machine read delays gives.written)
+  verilog_means =
+      means_asked (VerilogMeans request.library request.test gives.told.machine read delays gives.written) request.verilog texts.verilog (verilog w) gives.gives.verilog
+      (text_means request.library request.test gives.told.machine read delays w is_writable.placeable shows)
+
   pub means : Headline request says read texts
   means = record {
     written = w;
@@ -168,11 +179,13 @@ module _ (request : RequestData) (says : Option Saying) (read : Circuit) (texts 
     no_other = λ c other. no_two texts.out request.library None c w other says_it;
     inputs = behaves.inputs;
     outputs = behaves.outputs;
-    delays = length n.circuit.registers - n.own_registers;
+    delays = delays;
     registers = behaves.registers ∙ ap (λ k. length read.registers + k) (length-replicate (length n.circuit.registers - n.own_registers) true);
     parts = subst (KeepsParts read) (sym is) (keeps_parts by read can);
     plan = gives.told;
     shows = shows;
+    verilog = gives.gives.verilog;
+    verilog_means = verilog_means;
     is = gives.gated.is;
     hints = gives.hints;
     tried = gives.gated.tried;

@@ -15,6 +15,7 @@ use Rattle.cg_plan_text.specs.Summary.{demo_text, report_text, said_text}
 use Rattle.cg_plan_text.specs.declared.summary.Edges.{Edges}
 use Rattle.cg_plan_text.specs.declared.summary.Played.{Played}
 use Rattle.cg_stimulus.specs.Inputs.{Rows}
+use Rattle.cg_verilog_text.specs.Written.{verilog}
 use Rattle.cg_plan.specs.Planning.{AreWritable}
 use Rattle.cg_gate.specs.Played.{AreEdges, IsWhatPlayed, Saying}
 use Rattle.cg_gate.specs.Request.{RequestData, gating_of, hints_of}
@@ -49,6 +50,7 @@ pub record AreTexts (request : RequestData) (hints : Reported) (told : ReportedP
   pub proof : texts.proof ≡ where_asked request.proof (proof_text told hints.certificates)
   pub report : texts.report
       ≡ where_asked request.report (report_text told (hints_of request) hints.outcomes (length written.gaters) played)
+  pub verilog : texts.verilog ≡ where_asked request.verilog (verilog written)
   pub said : texts.said ≡ said_text told (told_outcomes request hints) played
 
 -- what gating gives of a netlist, with a watcher that says this, if there is one

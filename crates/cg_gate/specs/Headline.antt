@@ -1,9 +1,10 @@
 -- What gating a netlist means: the written netlist shows what the one that was read shows, from every state and for all time.
 use Rattle.std.specs.Prelude.{◌≡◌, ◌↔◌, ℕ, ◌+◌, Bool, true, List, [], ◌∷◌, ◌++◌, map, length, replicate, slice_get, Option, None}
-use Rattle.std.specs.Prelude.{Some}
-use Rattle.std.specs.Option.{option_to_list}
+use Rattle.std.specs.Prelude.{Some, IfSome}
+use Rattle.std.specs.Option.{option_map, option_to_list}
 use Rattle.cg_blif_text.specs.BlifText.{BlifText}
 use Rattle.cg_blif_text.specs.Canonical.{blif}
+use Rattle.cg_cell.specs.Cell.{CellData}
 use Rattle.cg_extract.specs.Lifted.{lifted, origins}
 use Rattle.cg_gate_laws.specs.Begun.{renamed}
 use Rattle.cg_gate_laws.specs.Kept.{KeepsParts}
@@ -29,6 +30,9 @@ use Rattle.cg_plan.specs.Planning.{AreWritable}
 use Rattle.cg_report.specs.Zeros.{low_moments, zeros_of}
 use Rattle.cg_stimulus.specs.Inputs.{Rows, input_names}
 use Rattle.cg_stimulus.specs.Played.{IsPlayed}
+use Rattle.cg_verilog_text.specs.VEqual.{AreVEqual}
+use Rattle.cg_verilog_text.specs.VerilogText.{VerilogText}
+use Rattle.cg_verilog_text.specs.Written.{verilog}
 use Rattle.cg_gate.specs.WorthInserting.{IsWorthInserting}
 use Rattle.cg_gate.specs.Gating.{told_outcomes, where_asked}
 use Rattle.cg_gate.specs.ZeroCounting.{zero_counts, zero_counts_of, zeros_by}
@@ -59,6 +63,24 @@ pub record ShowsSame (m : MachineData) (read written : Circuit) (start added : L
   pub same : outputs_of written history ≡ outputs_of read original
   pub rises : RisesAre written m tested history
 
+-- From every state of the original's registers, with 1 in the delay registers, and over every waveform that begins with the clock
+-- low, whatever the test input does, a netlist shows what the original shows.
+abbrev pub ShowsAlways : Option NetName → MachineData → Circuit → ℕ → Circuit → Type 0
+ShowsAlways test m read delays c =
+    (start : List Bool) (wave : List Tick) (bits : List Bool) → IsStart read start → IsWaveform read wave →
+    length bits ≡ length wave
+    → ShowsSame m read c start (replicate delays true) wave (with_bits test wave bits)
+
+-- A Verilog text, read with these cells and with the written netlist's clock as the option, says one netlist and no other. This is
+-- the written netlist, but for what Verilog does not keep, and shows what the original shows.
+pub record VerilogMeans (library : List CellData) (test : Option NetName) (m : MachineData) (read : Circuit) (delays : ℕ)
+    (written : Circuit) (text : List ℕ) : Type 0 where
+  pub said : Circuit
+  pub says : VerilogText text library (option_map (net_name written.names) written.clock) said
+  pub no_other : (c : Circuit) → VerilogText text library (option_map (net_name written.names) written.clock) c → c ≡ said
+  pub same : AreVEqual written said
+  pub shows : ShowsAlways test m read delays said
+
 -- The texts of a netlist that was gated, and what they mean.
 pub record Headline (request : RequestData) (says : Option Saying) (read : Circuit) (texts : Texts) : Type 0 where
   -- there is a written netlist, which is well formed, and the text that is put out says it with the same library, and no other
@@ -76,12 +98,12 @@ pub record Headline (request : RequestData) (says : Option Saying) (read : Circu
   pub delays : ℕ
   pub registers : length written.registers ≡ length read.registers + delays
   pub parts : KeepsParts read written
-  -- from every state of the original's registers, with 1 in the delay registers, and over every waveform that begins with the
-  -- clock low, whatever the test input does, it shows what the original shows
+  -- from every state and over every waveform it shows what the original shows
   pub plan : ReportedPlan
-  pub shows : (start : List Bool) (wave : List Tick) (bits : List Bool) → IsStart read start → IsWaveform read wave →
-      length bits ≡ length wave
-      → ShowsSame plan.machine read written start (replicate delays true) wave (with_bits request.test wave bits)
+  pub shows : ShowsAlways request.test plan.machine read delays written
+  -- the Verilog text, where it is asked for, is that of the written netlist, and the netlist that it says shows the same
+  pub verilog : texts.verilog ≡ where_asked request.verilog (verilog written)
+  pub verilog_means : IfSome texts.verilog (VerilogMeans request.library request.test plan.machine read delays written)
   -- the hints were tried one after another on the machine of the original, to whose enables the original's gating cells are lifted,
   -- and each is inserted exactly where it is worth it on the machine of its turn; they are told with their outcomes, bits that are
   -- told of a refuted claim violate it, and there is a certificate for each register of each inserted hint, in order, with the

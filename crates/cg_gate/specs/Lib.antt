@@ -1,6 +1,7 @@
 pub mod ZeroCounting
 pub mod Request
 pub mod Begun
+pub mod Stops
 pub mod Played
 pub mod Gating
 pub mod Turns

@@ -2,16 +2,15 @@
 
 ghost use Rattle.std.specs.Prelude.{◌≡◌, true, None, is_some, length, IfOk, IfErr, OnOk};
 ghost use Rattle.std.specs.Option.{option_map};
-ghost use Rattle.cg_gate.specs.Begun.{told_hints};
-ghost use Rattle.cg_gate.specs.Gating.{AreTexts, GivesDemo, GivesGated, SaysDemo};
+ghost use Rattle.cg_gate.specs.Gating.{GivesDemo, GivesGated, SaysDemo};
 ghost use Rattle.cg_gate.specs.Headline.{Headline};
-ghost use Rattle.cg_gate.specs.Request.{MayGate, hints_of, stops_at};
-ghost use Rattle.cg_machine.specs.Machine.{MachineData};
+ghost use Rattle.cg_gate.specs.Request.{MayGate, stops_at};
+ghost use Rattle.cg_gate.specs.Stops.{GatingMayFail, gating_stop};
 ghost use Rattle.cg_plan_laws.specs.Reported.{PlanMayFail};
-ghost use Rattle.cg_plan.specs.Planning.{AreWritable, told};
-ghost use Rattle.cg_plan_text.specs.ProofText.{AreWritableHints};
+ghost use Rattle.cg_plan.specs.Planning.{told};
 ghost use Rattle.cg_stimulus.specs.Inputs.{IsFor};
 
+use crate::fault::GateFault;
 use crate::planning::{Gated, gate_netlist};
 use crate::playing::{edges_of, play_both};
 use crate::request::Request;
@@ -32,14 +31,14 @@ use std::alloc::{AllocError, Global};
 /// anew.
 ///
 /// It is refused by the limit that a hint passes, or else by that at which the plan stops, or else by that on nets where the written
-/// netlist would pass it.
+/// netlist would pass it; or else, where a Verilog text is asked for, by what keeps the written netlist from having one.
 pub fn gate(
     alloc: Global,
     netlist: &Netlist,
     request: &Request<'_>,
     watcher: Option<Box<dyn Watcher>>,
     progress: &mut dyn Progress,
-) -> Result<Texts, AddFault>
+) -> Result<Texts, GateFault>
     requires { MayGate request.now netlist.now }
     ensures gives { IfOk result (λ texts. GivesGated request.now (option_map (λ watcher. says watcher) watcher) netlist.now texts) }
 
@@ -47,16 +46,16 @@ pub fn gate(
     // shows; a hint or a stage is inserted exactly where it deserves it; and the watcher's line is what it says of exactly the moments of
     // the history that it was shown.
     ensures headline { IfOk result (λ texts. Headline request.now (option_map (λ watcher. says watcher) watcher) netlist.now texts) }
-    ensures unstopped { OnOk result (stops_at request.now netlist.now ≡ None) }
-    ensures fault { IfErr result (PlanMayFail (stops_at request.now netlist.now)) }
+    ensures unstopped { OnOk result (gating_stop request.now netlist.now ≡ None) }
+    ensures fault { IfErr result (GatingMayFail (gating_stop request.now netlist.now)) }
 {
     let gated = gate_netlist(alloc, netlist, request, progress)?;
     let Ok(played) = play_both(alloc, netlist, &gated.netlist, request.stimulus, watcher) else {
         // By a call, here and below, as its parts would else be dropped one by one in the proof.
         drop(gated);
-        return Err(AddFault::NoMemory);
+        return Err(GateFault::NoMemory);
     };
-    let texts = finish(alloc, request, &gated, &played);
+    let texts = write_texts(alloc, request, &gated, &played);
     drop(gated);
     texts
 }
@@ -97,21 +96,4 @@ fn demo_said(
     let edges = edges_of(alloc, read, &gated.netlist, stimulus)?;
     let gates = gated.netlist.gaters();
     Ok(Seq::from_vec(demo_text(alloc, size, &gated.plan, gates, edges)?))
-}
-
-/// The texts of a netlist that was gated, or want of memory.
-fn finish(
-    alloc: Global,
-    request: &Request<'_>,
-    gated: &Gated,
-    played: &Played,
-) -> Result<Texts, AddFault>
-    requires stages { AreWritable gated.now.plan.certificates }
-    requires hints { AreWritableHints gated.now.hints.certificates }
-    requires told { length (hints_of request.now) ≡ length gated.now.hints.outcomes }
-    ensures texts { IfOk result (λ texts. (m : MachineData) →
-        AreTexts request.now (told_hints m gated.now.hints) (told gated.now.plan) gated.now.netlist played.now texts) }
-    ensures fault { IfErr result (λ fault. fault ≡ AddFault.NoMemory) }
-{
-    Ok(write_texts(alloc, request, gated, played)?)
 }

@@ -5,7 +5,7 @@
 //!
 //! The modules, in the order in which data flows through them:
 //!
-//! - [`request`]: what is asked for.
+//! - [`request`]: what is asked for, and [`fault`]: why it is not done.
 //! - `counting`: how often nets are 0 on a stimulus.
 //! - `hinting`: the hints of a netlist.
 //! - `planning`: the plan of a netlist.
@@ -16,6 +16,7 @@
 #![tactic(auto)]
 
 mod counting;
+pub mod fault;
 pub mod gate;
 mod hinting;
 pub mod laws;

@@ -34,6 +34,9 @@ pub struct Request<'a> {
 
     /// Whether a report is asked for.
     pub report: bool,
+
+    /// Whether a Verilog text of the gated netlist is asked for.
+    pub verilog: bool,
 }
 
 impl<'a> Model for Request<'a> {
@@ -55,5 +58,6 @@ impl<'a> Model for Request<'a> {
       hints = option_copied r.hints;
       proof = r.proof;
       report = r.report;
+      verilog = r.verilog;
     } };
 }

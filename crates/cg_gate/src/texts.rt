@@ -1,23 +1,28 @@
 //! The texts of a netlist that was gated.
 
-ghost use Rattle.std.specs.Prelude.{◌≡◌, [], length, unwrap_or, IfOk};
+ghost use Rattle.std.specs.Prelude.{◌≡◌, [], None, length, unwrap_or, IfErr, IfOk, OnOk};
 ghost use Rattle.std.specs.Option.{option_copied, option_map};
 ghost use Rattle.cg_gate.specs.Begun.{told_hints};
 ghost use Rattle.cg_gate.specs.Gating.{AreTexts, where_asked};
 ghost use Rattle.cg_gate.specs.Request.{hints_of};
+ghost use Rattle.cg_gate.specs.Stops.{GatingMayFail, verilog_stop};
 ghost use Rattle.cg_machine.specs.Machine.{MachineData};
 ghost use Rattle.cg_plan.specs.Planning.{AreWritable, told};
 ghost use Rattle.cg_plan_text.specs.ProofText.{AreWritableHints, proof_text};
 ghost use Rattle.cg_plan_text.specs.Summary.{report_text, said_text};
+ghost use Rattle.cg_verilog_text.specs.Written.{verilog};
 
+use crate::fault::GateFault;
 use crate::planning::Gated;
 use crate::request::Request;
 use cg_blif_out::write_blif;
 use cg_hint_laws::hint::Hint;
 use cg_hint_laws::outcome::HintOutcome;
 use cg_list::Seq;
+use cg_netlist::netlist::Netlist;
 use cg_plan_text::proof::proof_text;
 use cg_plan_text::summary::{Played, report_text, said_text};
+use cg_verilog_out::write_verilog;
 use std::alloc::{AllocError, Global};
 
 /// The texts that gating gives.
@@ -32,6 +37,9 @@ pub struct Texts {
     /// The report, where it is asked for.
     pub report: Option<Seq<u8>>,
 
+    /// The written netlist as a Verilog text, where it is asked for.
+    pub verilog: Option<Seq<u8>>,
+
     /// What is said.
     pub said: Seq<u8>,
 }
@@ -42,17 +50,21 @@ pub(crate) fn write_texts(
     request: &Request<'_>,
     gated: &Gated,
     played: &Played,
-) -> Result<Texts, AllocError>
+) -> Result<Texts, GateFault>
     requires stages { AreWritable gated.now.plan.certificates }
     requires hints { AreWritableHints gated.now.hints.certificates }
     requires told { length (hints_of request.now) ≡ length gated.now.hints.outcomes }
-    ensures { IfOk result (λ texts. (m : MachineData) →
+    ensures texts { IfOk result (λ texts. (m : MachineData) →
         AreTexts request.now (told_hints m gated.now.hints) (told gated.now.plan) gated.now.netlist played.now texts) }
+    ensures unstopped { OnOk result (verilog_stop request.now.verilog gated.now.netlist ≡ None) }
+    ensures fault { IfErr result (GatingMayFail (verilog_stop request.now.verilog gated.now.netlist)) }
 {
+    let verilog = verilog_asked(alloc, request.verilog, &gated.netlist)?;
     Ok(Texts {
         out: Seq::from_vec(write_blif(alloc, &gated.netlist)?),
         proof: proof_asked(alloc, request.proof, gated)?,
         report: report_asked(alloc, request, gated, played)?,
+        verilog,
         said: said(alloc, request, gated, played)?,
     })
 }
@@ -68,7 +80,8 @@ fn said(
         ≡ said_text (told gated.now.plan) (option_map (λ asked. gated.now.hints.outcomes) request.now.hints) played.now) }
 {
     let outcomes = told_outcomes(request.hints, &gated.hints.outcomes);
-    Ok(Seq::from_vec(said_text(alloc, &gated.plan, outcomes, played)?))
+    let text = said_text(alloc, &gated.plan, outcomes, played)?;
+    Ok(Seq::from_vec(text))
 }
 
 /// The outcomes of hints, where hints are asked for.
@@ -76,7 +89,7 @@ fn told_outcomes<'a>(
     asked: Option<&Seq<Hint>>,
     outcomes: &'a Seq<HintOutcome>,
 ) -> Option<&'a Seq<HintOutcome>>
-    ensures { option_copied result ≡ option_map (λ asked. outcomes.entry.now) asked }
+    ensures { option_copied result ≡ option_map (λ asked. outcomes.entry.now) (option_copied asked) }
 {
     match asked {
         None => None,
@@ -92,6 +105,22 @@ fn asked_hints<'a>(asked: Option<&'a Seq<Hint>>) -> &'a [Hint]
         None => &[],
         Some(hints) => hints.as_slice(),
     }
+}
+
+/// The Verilog text of a netlist, where it is asked for.
+fn verilog_asked(
+    alloc: Global,
+    asked: bool,
+    netlist: &Netlist,
+) -> Result<Option<Seq<u8>>, GateFault>
+    ensures text { IfOk result (λ text. text ≡ where_asked asked (verilog netlist.now)) }
+    ensures unstopped { OnOk result (verilog_stop asked netlist.now ≡ None) }
+    ensures fault { IfErr result (GatingMayFail (verilog_stop asked netlist.now)) }
+{
+    if !asked {
+        return Ok(None);
+    }
+    Ok(Some(Seq::from_vec(write_verilog(alloc, netlist)?)))
 }
 
 /// The proof file, where it is asked for.

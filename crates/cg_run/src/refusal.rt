@@ -14,7 +14,7 @@ use std::alloc::AllocError;
 /// Whose content is refused.
 #[derive(Clone, Copy, Debug, PartialEq, Eq)]
 pub enum Owner {
-    /// A netlist's.
+    /// A netlist's, also that of one that is to be written.
     Netlist,
     /// A library's.
     Library,

@@ -19,4 +19,6 @@ pub enum Role {
     Proof,
     /// What became of each stage of a plan.
     Report,
+    /// The written netlist as a Verilog text.
+    Verilog,
 }

@@ -1,7 +1,7 @@
 -- What a finished run of `gate` means, from what its files come to.
 use Rattle.std.proofs.Common.{◌≡◌, ℕ, Bool, IsTrue, List, ◌++◌, Option, Some, is_some, Result, Ok, Err, refl, sym}
 use Rattle.std.proofs.Common.{◌∙◌, ap, subst, None}
-use Rattle.std.specs.Prelude.{IfSome, IsOkAnd}
+use Rattle.std.specs.Prelude.{IsOkAnd}
 use Rattle.cg_gate.specs.Gating.{where_asked}
 use Rattle.cg_gate.specs.declared.texts.Texts.{Texts}
 use Rattle.cg_liberty.specs.LibText.{LibText}
@@ -35,7 +35,7 @@ use Rattle.cg_tool.specs.Watching.{Kind}
 use Rattle.cg_tool.specs.declared.modes.wanted.Wanted.{Wanted}
 use Rattle.cg_tool.proofs.GateReads.{found_so}
 use Rattle.cg_tool.proofs.LratMeans.{some_and}
-use Rattle.cg_tool.proofs.Standing.{asked_so, out_stands, proof_stands, report_stands}
+use Rattle.cg_tool.proofs.Standing.{asked_so, if_some, out_stands, proof_stands, report_stands, verilog_stands}
 
 -- a stimulus that is found is what its text says, where it has one
 pub driven_by : (form : StimulusForm) (held : Option (List ℕ)) (c : Circuit) (text : List ℕ) (rows : List (List Bool)) → DrivesNetlist form text c rows → (IsTrue (has_file form) → held ≡ Some text) → IsDrivenBy form held c rows
@@ -71,21 +71,22 @@ module _ (options : Options) (kind : Option Kind) (end : DesignFiles Wanted) (c 
       ok_and asked (λ s. GatesAs kind (request_by end.library (wanted_by options) s) c output) (subst W wanted (subst N is gives))
 
 -- the files hold their texts
-if_some : (o : Option (List ℕ)) (P Q : List ℕ → Type 0) → ((text : List ℕ) → P text → Q text) → IfSome o P → IfSome o Q
-if_some None P Q step h = tt
-if_some (Some text) P Q step h = step text h
-
-stand_of : (asked : Asked) (names : Role → List ℕ) (before after : World) (texts : Texts) (proof report : List ℕ) → texts.proof ≡ where_asked asked.proof proof → texts.report ≡ where_asked asked.report report
-    → ((name : List ℕ) → after.held name ≡ puts names (gate_output texts).stores before.held name) → AreApart asked names → Stand names texts after
-stand_of asked names before after texts proof report proof_is report_is held apart =
+stand_of : (asked : Asked) (names : Role → List ℕ) (before after : World) (texts : Texts) (proof report verilog : List ℕ) → texts.proof ≡ where_asked asked.proof proof → texts.report ≡ where_asked asked.report report
+    → texts.verilog ≡ where_asked asked.verilog verilog → ((name : List ℕ) → after.held name ≡ puts names (gate_output texts).stores before.held name) → AreApart asked names → Stand names texts after
+stand_of asked names before after texts proof report verilog proof_is report_is verilog_is held apart =
     let has_proof : (text : List ℕ) → texts.proof ≡ Some text → IsTrue asked.proof = λ text is. asked_so asked.proof text proof (sym proof_is ∙ is) in
     let has_report : (text : List ℕ) → texts.report ≡ Some text → IsTrue asked.report = λ text is. asked_so asked.report text report (sym report_is ∙ is) in
+    let has_verilog : (text : List ℕ) → texts.verilog ≡ Some text → IsTrue asked.verilog = λ text is. asked_so asked.verilog text verilog (sym verilog_is ∙ is) in
+    let put : List ℕ → List ℕ → Type 0 = λ name text. puts names (gate_output texts).stores before.held name ≡ Some text in
+    let holds : List ℕ → List ℕ → Type 0 = λ name text. after.held name ≡ Some text in
     record {
-      out = held (names roles.Out) ∙ out_stands names before.held texts.out texts.proof texts.report (λ text is. apart.out_proof (has_proof text is)) (λ text is. apart.out_report (has_report text is));
-      proof = if_some texts.proof (λ text. puts names (gate_output texts).stores before.held (names roles.Proof) ≡ Some text) (λ text. after.held (names roles.Proof) ≡ Some text) (λ text is. held (names roles.Proof) ∙ is)
-          (proof_stands names before.held texts.out texts.proof texts.report (λ first second is also. apart.proof_report (has_proof first is) (has_report second also)));
-      report = if_some texts.report (λ text. puts names (gate_output texts).stores before.held (names roles.Report) ≡ Some text) (λ text. after.held (names roles.Report) ≡ Some text)
-          (λ text is. held (names roles.Report) ∙ is) (report_stands names before.held texts.out texts.proof texts.report);
+      out = held (names roles.Out)
+          ∙ out_stands names before.held texts (λ text is. apart.out_proof (has_proof text is)) (λ text is. apart.out_report (has_report text is)) (λ text is. apart.out_verilog (has_verilog text is));
+      proof = if_some texts.proof (put (names roles.Proof)) (holds (names roles.Proof)) (λ text is there. held (names roles.Proof) ∙ there)
+          (proof_stands names before.held texts (λ text other is also. apart.proof_report (has_proof text is) (has_report other also)) (λ text other is also. apart.proof_verilog (has_proof text is) (has_verilog other also)));
+      report = if_some texts.report (put (names roles.Report)) (holds (names roles.Report)) (λ text is there. held (names roles.Report) ∙ there)
+          (report_stands names before.held texts (λ text other is also. apart.report_verilog (has_report text is) (has_verilog other also)));
+      verilog = if_some texts.verilog (put (names roles.Verilog)) (holds (names roles.Verilog)) (λ text is there. held (names roles.Verilog) ∙ there) (verilog_stands names before.held texts);
     }
 
 gated_of : (options : Options) (kind : Option Kind) (names : Role → List ℕ) (before after : World) (finish : Finish) (end : DesignFiles Wanted) (f : Finishes (gate_task options kind) names before after finish)
@@ -113,7 +114,7 @@ gated_of options kind names before after finish end f read gives =
       may = (gates.2).may;
       gives = (gates.2).gives;
       headline = (gates.2).headline;
-      stand = stand_of options.asked names before after (gates.2).texts _ _ texts.proof texts.report held;
+      stand = stand_of options.asked names before after (gates.2).texts _ _ _ texts.proof texts.report texts.verilog held;
       stored = held;
       said = f.written.said ∙ ap (λ (o : Output). before.said ++ o.said) (gates.2).is;
       ends = sym f.ends ∙ ap (λ (o : Output). o.finish) (gates.2).is;

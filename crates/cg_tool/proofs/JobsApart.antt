@@ -24,6 +24,7 @@ use Rattle.cg_tool.specs.Gated.{AreApart}
 use Rattle.cg_run.proofs.RoleLaws.{and_parts}
 use Rattle.cg_net.proofs.TableLemmas.{mapped_at}
 use Rattle.std.proofs.lemmas.Bool.{or_parts}
+use Rattle.std.proofs.lemmas.List.{append-nil}
 
 -- different names
 is_false : (a : Bool) → IsTrue (not a) → a ≡ false
@@ -46,36 +47,35 @@ differs : (name other : List ℕ) (front rest : List (List ℕ)) → list_any (�
 differs name other front rest none =
     unequal name other (or_parts (bytes_eq other name) (list_any (λ o. bytes_eq o name) rest) (any_back (λ o. bytes_eq o name) front (other ∷ rest) none)).0
 
--- the files that are stored, where these others are named before them
-module _ (out : List ℕ) (front : List (List ℕ)) where
-  none_of : (rest : List (List ℕ)) → IsTrue (are_different (out ∷ rest)) → list_any (λ o. bytes_eq o out) rest ≡ false
-  none_of rest different = is_false (list_any (λ o. bytes_eq o out) rest) (and_parts (not (list_any (λ o. bytes_eq o out) rest)) (are_different rest) different).0
+none_of : (name : List ℕ) (rest : List (List ℕ)) → IsTrue (are_different (name ∷ rest)) → list_any (λ o. bytes_eq o name) rest ≡ false
+none_of name rest different = is_false (list_any (λ o. bytes_eq o name) rest) (and_parts (not (list_any (λ o. bytes_eq o name) rest)) (are_different rest) different).0
 
-  out_proof : (proof report : Option (List ℕ)) → IsTrue (are_different (out ∷ (front ++ (option_to_list proof ++ option_to_list report)))) → IsTrue (is_some proof) → out ≢ unwrap_or proof []
-  out_proof None report different asked = absurd (cc)
-  out_proof (Some p) report different asked = differs out p (front) (option_to_list report) (none_of (front ++ (p ∷ option_to_list report)) different)
-
-  out_report : (proof report : Option (List ℕ)) → IsTrue (are_different (out ∷ (front ++ (option_to_list proof ++ option_to_list report)))) → IsTrue (is_some report) → out ≢ unwrap_or report []
-  out_report proof None different asked = absurd (cc)
-  out_report proof (Some r) different asked =
-      differs out r (option_to_list proof) [] (any_back (λ o. bytes_eq o out) (front) (option_to_list proof ++ (r ∷ [])) (none_of (front ++ (option_to_list proof ++ (r ∷ []))) different))
-
-  proof_report : (proof report : Option (List ℕ)) → IsTrue (are_different (out ∷ (front ++ (option_to_list proof ++ option_to_list report)))) → IsTrue (is_some proof) → IsTrue (is_some report) → unwrap_or proof [] ≢ unwrap_or report []
-  proof_report None report different asked also = absurd (cc)
-  proof_report (Some p) None different asked also = absurd (cc)
-  proof_report (Some p) (Some r) different asked also =
-      let behind = different_back (out ∷ front) (p ∷ r ∷ []) different in
-      differs p r [] [] (is_false (list_any (λ o. bytes_eq o p) (r ∷ [])) (and_parts (not (list_any (λ o. bytes_eq o p) (r ∷ []))) (are_different (r ∷ [])) behind).0)
+-- so do two of them that are there
+two_apart : (front between rest : List (List ℕ)) (a b : Option (List ℕ)) → IsTrue (are_different (front ++ (option_to_list a ++ (between ++ (option_to_list b ++ rest))))) → IsTrue (is_some a) → IsTrue (is_some b)
+    → unwrap_or a [] ≢ unwrap_or b []
+two_apart front between rest None b different there also = absurd (cc)
+two_apart front between rest (Some a) None different there also = absurd (cc)
+two_apart front between rest (Some a) (Some b) different there also =
+    differs a b between rest (none_of a (between ++ (b ∷ rest)) (different_back front (a ∷ (between ++ (b ∷ rest))) different))
 
 files_apart : (library netlist out : List ℕ) (values : Values) (stimulus : Option StimulusForm) → IsTrue (are_different (library ∷ netlist ∷ out ∷ option_files values)) → AreApart (asked_in values stimulus) (file_of (gate_files library netlist out values))
 files_apart library netlist out values stimulus different =
-    let D : List (List ℕ) → Type 0 = λ l. IsTrue (are_different (out ∷ l)) in
+    let D : List (List ℕ) → Type 0 = λ l. IsTrue (are_different (library ∷ netlist ∷ out ∷ l)) in
     let front = option_to_list values.stim ++ option_to_list values.vcd in
-    let behind = subst D (append_assoc front (option_to_list values.proof) (option_to_list values.report)) (different_back (library ∷ netlist ∷ []) (out ∷ option_files values) different) in
+    let proof = option_to_list values.proof in
+    let report = option_to_list values.report in
+    let verilog = option_to_list values.verilog in
+    let none = sym (append-nil verilog) in
+    -- the same names, with brackets at other places
+    let late : D ((front ++ proof) ++ (report ++ verilog)) = subst D (append_assoc (front ++ proof) report verilog) different in
+    let early : D (front ++ (proof ++ (report ++ verilog))) = subst D (append_assoc front proof (report ++ verilog)) late in
     record {
-      out_proof = out_proof out front values.proof values.report behind;
-      out_report = out_report out front values.proof values.report behind;
-      proof_report = proof_report out front values.proof values.report behind;
+      out_proof = two_apart (library ∷ netlist ∷ []) front (report ++ verilog) (Some out) values.proof early refl;
+      out_report = two_apart (library ∷ netlist ∷ []) (front ++ proof) verilog (Some out) values.report late refl;
+      out_verilog = two_apart (library ∷ netlist ∷ []) (front ++ proof ++ report) [] (Some out) values.verilog (subst (λ l. D (front ++ proof ++ report ++ l)) none different) refl;
+      proof_report = two_apart (library ∷ netlist ∷ out ∷ front) [] verilog values.proof values.report early;
+      proof_verilog = two_apart (library ∷ netlist ∷ out ∷ front) report [] values.proof values.verilog (subst (λ l. D (front ++ (proof ++ (report ++ l)))) none early);
+      report_verilog = two_apart (library ∷ netlist ∷ out ∷ (front ++ proof)) [] [] values.report values.verilog (subst (λ l. D ((front ++ proof) ++ (report ++ l))) none late);
     }
 
 -- what a job was made of

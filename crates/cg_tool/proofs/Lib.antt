@@ -3,6 +3,7 @@ pub mod Names
 pub mod Refusing
 pub mod GateReads
 pub mod Standing
+pub mod Stopping
 pub mod GateMeans
 pub mod DemoMeans
 pub mod SimMeans

@@ -1,20 +1,25 @@
 -- What `gate` makes of a library, a netlist and it may be a stimulus.
-use Rattle.std.specs.Prelude.{◌≡◌, ℕ, List, [], ◌∷◌, ◌++◌, Option, None, Some, Result, Ok, Err, IsOkAnd, IsSomeAnd}
+use Rattle.std.specs.Prelude.{◌≡◌, ℕ, List, [], ◌∷◌, ◌++◌, codes, Option, None, Some, Result, Ok, Err, IsOkAnd, IsSomeAnd}
 use Rattle.std.specs.Option.{option_and_then, option_map}
 use Rattle.cg_gate.specs.Gating.{GivesGated}
 use Rattle.cg_gate.specs.Headline.{Headline}
-use Rattle.cg_gate.specs.Request.{MayGate, RequestData, stops_at}
+use Rattle.cg_gate.specs.Request.{MayGate, RequestData}
+use Rattle.cg_gate.specs.Stops.{gating_stop}
+use Rattle.cg_gate.specs.declared.fault.GateFault.{GateFault}
+use Rattle.cg_gate.specs.declared.fault.GateFault.TheVariants as faults
 use Rattle.cg_gate.specs.declared.texts.Texts.{Texts}
 use Rattle.cg_netlist.specs.Circuit.{Circuit}
 use Rattle.cg_run.specs.Verdict.{Task, found_as, task_of}
 use Rattle.cg_run.specs.declared.output.Finish.TheVariants as finishes
 use Rattle.cg_run.specs.declared.output.Output.{Output}
 use Rattle.cg_run.specs.declared.output.Text.{Text}
+use Rattle.cg_run.specs.declared.refusal.Owner.TheVariants as owners
 use Rattle.cg_run.specs.declared.refusal.Trouble.{Trouble}
 use Rattle.cg_run.specs.declared.refusal.Trouble.TheVariants as troubles
 use Rattle.cg_run.specs.declared.role.Role.{Role}
 use Rattle.cg_run.specs.declared.role.Role.TheVariants as roles
 use Rattle.cg_source.specs.Design.{design_loads, design_of, design_start, design_takes}
+use Rattle.cg_source.specs.Refused.{refused_for}
 use Rattle.cg_source.specs.Stimulus.{is_loaded, stimulus_found}
 use Rattle.cg_source.specs.declared.design.Design.{Design}
 use Rattle.cg_source.specs.declared.design.DesignFiles.{DesignFiles}
@@ -44,8 +49,8 @@ MayBeGated design =
     (stimulus : Option Rows) → ((rows : Rows) → stimulus ≡ Some rows → IsFor design.netlist rows) →
     MayGate (request_of design stimulus) design.netlist
 
--- what `gate` puts out of the texts of a gated netlist: it stores the netlist, and the proof file and the report where they are
--- asked for
+-- what `gate` puts out of the texts of a gated netlist: it stores the netlist, and the proof file, the report and the Verilog text
+-- where they are asked for
 abbrev pub text_for : Role → Option (List ℕ) → List Text
 text_for role None = []
 text_for role (Some bytes) = record { role = role; bytes = bytes } ∷ []
@@ -54,7 +59,8 @@ abbrev pub gate_output : Texts → Output
 gate_output texts =
     record {
       stores =
-          record { role = roles.Out; bytes = texts.out } ∷ text_for roles.Proof texts.proof ++ text_for roles.Report texts.report;
+          record { role = roles.Out; bytes = texts.out } ∷ text_for roles.Proof texts.proof ++ text_for roles.Report texts.report
+          ++ text_for roles.Verilog texts.verilog;
       said = texts.said;
       finish = finishes.Done;
     }
@@ -67,11 +73,17 @@ pub record GatesAs (kind : Option Kind) (request : RequestData) (c : Circuit) (o
   pub headline : Headline request kind c texts
   pub is : output ≡ gate_output texts
 
--- What stops a design: a fault of the stimulus that is asked for, or else the limit at which gating stops. And what is put out
--- of it.
+-- what is complained of what stops gating
+abbrev pub gate_trouble : GateFault → Trouble
+gate_trouble (faults.Limit limit) = troubles.Limit limit
+gate_trouble (faults.BadName name) = refused_for owners.Netlist (codes "verilog: bad name " ++ name)
+gate_trouble (faults.PortTwice net) = refused_for owners.Netlist (codes "verilog: port twice " ++ net)
+gate_trouble faults.NoMemory = troubles.NoMemory
+
+-- What stops a design: a fault of the stimulus that is asked for, or else what stops gating. And what is put out of it.
 abbrev pub stops_with : Design Wanted → Result (Option Rows) Trouble → Option Trouble
 stops_with design (Err trouble) = Some trouble
-stops_with design (Ok stimulus) = option_map troubles.Limit (stops_at (request_of design stimulus) design.netlist)
+stops_with design (Ok stimulus) = option_map gate_trouble (gating_stop (request_of design stimulus) design.netlist)
 
 abbrev pub design_stops : Design Wanted → Option Trouble
 design_stops design = stops_with design (stimulus_asked design)

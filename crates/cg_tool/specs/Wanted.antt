@@ -60,4 +60,5 @@ request_by library wanted stimulus = record {
   stimulus = stimulus;
   proof = wanted.asked.proof;
   report = wanted.asked.report;
+  verilog = wanted.asked.verilog;
 }

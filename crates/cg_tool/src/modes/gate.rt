@@ -4,8 +4,8 @@ ghost use Rattle.std.specs.Prelude.{◌≡◌, ◌++◌, IfErr, IfOk, IsSomeAnd,
 ghost use Rattle.std.specs.Option.{option_map};
 ghost use Rattle.cg_gate.specs.Gating.{GivesGated};
 ghost use Rattle.cg_gate.specs.Headline.{Headline};
-ghost use Rattle.cg_gate.specs.Request.{MayGate, stops_at};
-ghost use Rattle.cg_plan_laws.specs.Reported.{PlanMayFail};
+ghost use Rattle.cg_gate.specs.Request.{MayGate};
+ghost use Rattle.cg_gate.specs.Stops.{GatingMayFail, gating_stop};
 ghost use Rattle.cg_run.specs.Names.{name_of};
 ghost use Rattle.cg_run.specs.Promise.{FinishBy};
 ghost use Rattle.cg_run.specs.Reads.{Gave, Reads};
@@ -14,22 +14,25 @@ ghost use Rattle.cg_run.specs.Verdict.{Answers, Concludes};
 ghost use Rattle.cg_source.specs.Design.{design_loads, design_of};
 ghost use Rattle.cg_source.specs.Stimulus.{is_loaded};
 ghost use Rattle.cg_tool.specs.Gate.{GatesAs, MayBeGated, design_gives, design_stops, gate_gives, gate_output, gate_start, gate_stops};
-ghost use Rattle.cg_tool.specs.Gate.{gate_takes, gate_task, stimulus_asked, text_for};
+ghost use Rattle.cg_tool.specs.Gate.{gate_takes, gate_task, gate_trouble, stimulus_asked, text_for};
 ghost use Rattle.cg_tool.specs.Gated.{IsGated};
 
 use crate::modes::wanted::Wanted;
 use cg_command_line::Options;
+use cg_gate::fault::GateFault;
 use cg_gate::gate::gate;
 use cg_gate::request::Request;
 use cg_gate::texts::Texts;
 use cg_list::Seq;
-use cg_netlist::fault::AddFault;
 use cg_netlist::netlist::Netlist;
 use cg_plan::progress::Progress;
 use cg_report::watcher::Watcher;
-use cg_run::{Finish, Names, Output, Refusal, Role, Status, Text, Trouble, collect, put_out};
+use cg_run::{
+    Finish, Names, Output, Owner, Refusal, Role, Status, Text, Trouble, collect, put_out,
+};
 use cg_shelf::Shelf;
 use cg_source::design::{Design, DesignFiles, design_files};
+use cg_source::refused::with_name;
 use cg_source::stimulus::{is_loaded, take_stimulus};
 use cg_stimulus::stimulus::Stimulus;
 use std::alloc::{AllocError, Global};
@@ -138,13 +141,28 @@ fn put_gated(
     progress: &mut dyn Progress,
 ) -> Result<Output, Trouble>
     requires { MayGate request.now netlist.now }
-    ensures { Concludes (option_map Trouble.Limit (stops_at request.now netlist.now))
+    ensures { Concludes (option_map gate_trouble (gating_stop request.now netlist.now))
         (GatesAs (option_map (λ watcher. says watcher) watcher) request.now netlist.now) result }
 {
     match gated(alloc, netlist, request, watcher, progress) {
         Ok(texts) => Ok(put_texts(alloc, texts)?),
-        Err(AddFault::Limit(limit)) => Err(Trouble::Limit(limit)),
-        Err(AddFault::NoMemory) => Err(Trouble::NoMemory),
+        Err(fault) => Err(gate_trouble(alloc, fault)?),
+    }
+}
+
+/// What is complained of a fault of gating.
+fn gate_trouble(alloc: Global, fault: GateFault) -> Result<Trouble, AllocError>
+    ensures { IfOk result (λ trouble. trouble ≡ gate_trouble fault) }
+{
+    match fault {
+        GateFault::Limit(limit) => Ok(Trouble::Limit(limit)),
+        GateFault::BadName(name) => {
+            with_name(alloc, Owner::Netlist, b"verilog: bad name ", name.as_slice())
+        }
+        GateFault::PortTwice(net) => {
+            with_name(alloc, Owner::Netlist, b"verilog: port twice ", net.as_slice())
+        }
+        GateFault::NoMemory => Ok(Trouble::NoMemory),
     }
 }
 
@@ -155,12 +173,12 @@ fn gated(
     request: &Request<'_>,
     watcher: Option<Box<dyn Watcher>>,
     progress: &mut dyn Progress,
-) -> Result<Texts, AddFault>
+) -> Result<Texts, GateFault>
     requires { MayGate request.now netlist.now }
     ensures gives { IfOk result (λ texts. GivesGated request.now (option_map (λ watcher. says watcher) watcher) netlist.now texts) }
     ensures headline { IfOk result (λ texts. Headline request.now (option_map (λ watcher. says watcher) watcher) netlist.now texts) }
-    ensures unstopped { OnOk result (stops_at request.now netlist.now ≡ None) }
-    ensures fault { IfErr result (PlanMayFail (stops_at request.now netlist.now)) }
+    ensures unstopped { OnOk result (gating_stop request.now netlist.now ≡ None) }
+    ensures fault { IfErr result (GatingMayFail (gating_stop request.now netlist.now)) }
 {
     gate(alloc, netlist, request, watcher, progress)
 }
@@ -173,6 +191,7 @@ fn put_texts(alloc: Global, texts: Texts) -> Result<Output, AllocError>
         out,
         proof,
         report,
+        verilog,
         said,
     } = texts;
     let mut stores = Seq::new(alloc);
@@ -182,6 +201,7 @@ fn put_texts(alloc: Global, texts: Texts) -> Result<Output, AllocError>
     })?;
     put_text(&mut stores, Role::Proof, proof)?;
     put_text(&mut stores, Role::Report, report)?;
+    put_text(&mut stores, Role::Verilog, verilog)?;
     Ok(Output {
         stores,
         said,

@@ -73,6 +73,7 @@ impl Wanted {
             stimulus,
             proof: self.asked.proof,
             report: self.asked.report,
+            verilog: self.asked.verilog,
         }
     }
 }

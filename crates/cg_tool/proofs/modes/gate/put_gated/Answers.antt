@@ -1,11 +1,11 @@
 use Rattle.std.proofs.Common.{ap}
 use Rattle.std.specs.Option.{option_map}
-use Rattle.cg_run.specs.declared.refusal.Trouble.TheVariants as troubles
+use Rattle.cg_tool.specs.Gate.{gate_trouble}
 use Rattle.cg_tool.proofs.modes.gate.put_gated.Goals as goal
 
 pub returns-in_ok-put_texts-in-Ok : goal.returns-in_ok-put_texts-in-Ok
 returns-in_ok-put_texts-in-Ok g c = (
-  ap (option_map troubles.Limit) c.in-Ok.ensures.unstopped,
+  ap (option_map gate_trouble) c.in-Ok.ensures.unstopped,
   record {
     may = c.requires;
     texts = c.in-Ok.texts;

@@ -6,11 +6,11 @@ use Rattle.cg_gate_laws.specs.Gated.{gated_by}
 use Rattle.cg_netlist.specs.Circuit.{Circuit}
 use Rattle.cg_netlist.specs.declared.fault.AddFault.{AddFault}
 use Rattle.cg_netlist.specs.declared.fault.AddFault.TheVariants.{Limit as Passed, NoMemory}
-use Rattle.cg_hint_laws.specs.Answers.{Reported}
+use Rattle.cg_gate.specs.declared.hinting.TriedHints.{TriedHints}
 use Rattle.cg_plan_laws.specs.Reported.{PlanMayFail, ReportedPlan}
 use Rattle.cg_plan_text.specs.declared.summary.Played.{Played}
 use Rattle.cg_stimulus.specs.Inputs.{Rows}
-use Rattle.cg_gate.specs.Gating.{AreTexts, GivesGated, IsWritten}
+use Rattle.cg_gate.specs.Gating.{AreTexts, GivesGated, IsWritten, TellsGated}
 use Rattle.cg_gate.specs.Headline.{Headline}
 use Rattle.cg_gate.specs.Laws.{IsProper}
 use Rattle.cg_gate.specs.Played.{IsWhatPlayed, LineIs, Saying}
@@ -52,10 +52,9 @@ unsaid (Some says) written = refl
 pub unplayed : (says : Option Saying) (stimulus : Option Rows) (read written : Circuit) → stimulus ≡ None → IsWhatPlayed says stimulus read written (record { edges = None; watched = None })
 unplayed says stimulus read written none = subst (λ (s : Option Rows). IsWhatPlayed says s read written (record { edges = None; watched = None })) (sym none) (record { edges = refl; line = unsaid says written })
 
-module _ (request : RequestData) (says : Option Saying) (read written : Circuit) (hints : Reported) (told : ReportedPlan) (played : Played) (gated : IsWritten (gating_of request read) read hints told written)
-    (what : IsWhatPlayed says request.stimulus read written played) where
-  pub gives_all : (texts : Texts) → AreTexts request hints told written played texts → GivesGated request says read texts
-  gives_all texts are = record { hints = hints; told = told; written = written; played = played; gated = gated; what = what; gives = are }
+module _ (request : RequestData) (says : Option Saying) (read written : Circuit) (hints : TriedHints) (told : ReportedPlan) (gated : IsWritten (gating_of request read) read hints told written) where
+  pub gives_all : (texts : Texts) → TellsGated request says read written hints told texts → GivesGated request says read texts
+  gives_all texts tells = record { hints = hints; told = told; written = written; gated = gated; tells = tells }
 
-  pub means_all : IsProper request → MayGate request read → (texts : Texts) → AreTexts request hints told written played texts → Headline request says read texts
-  means_all proper may texts are = gated_means request says read texts proper may (gives_all texts are)
+  pub means_all : IsProper request → MayGate request read → (texts : Texts) → TellsGated request says read written hints told texts → Headline request says read texts
+  means_all proper may texts tells = gated_means request says read texts proper may (gives_all texts tells)

@@ -1,5 +1,5 @@
 -- What the code makes of a netlist: the plan's machine may be written, and what comes of it is what gating gives.
-use Rattle.std.proofs.Common.{◌≡◌, ◌++◌, Option, None, Some, Ok, Err, refl, sym, ◌∙◌, ap, subst, append_assoc, inl, inr}
+use Rattle.std.proofs.Common.{◌≡◌, ◌++◌, map, Option, None, Some, Result, Ok, Err, refl, sym, ◌∙◌, ap, subst, append_assoc, inl, inr}
 use Rattle.std.specs.Option.{option_or, option_to_list}
 use Rattle.cg_gate_laws.specs.Gated.{CanGate, Gating, gated_by, planned}
 use Rattle.cg_gate_laws.proofs.Behaving.{gated_behaves}
@@ -14,14 +14,14 @@ use Rattle.cg_netlist.specs.declared.fault.AddFault.TheVariants.{Limit as LimitF
 use Rattle.cg_plan_laws.specs.Reported.{IsPlan, PlanMayFail, ReportedPlan}
 use Rattle.cg_stimulus.specs.Inputs.{IsFor, Rows, input_names}
 use Rattle.cg_plan.specs.Planning.{AreWritable}
-use Rattle.cg_gate.specs.Begun.{IsBegunPlan, told_hints}
-use Rattle.cg_gate.specs.Gating.{AreHintsTried, IsWritten}
+use Rattle.cg_extract.specs.Lifted.{lifted}
+use Rattle.cg_gate.specs.Gating.{AreHintsTried, IsBegunPlan, IsWritten}
+use Rattle.cg_gate_laws.specs.Begun.{renamed}
 use Rattle.cg_gate.specs.Laws.{IsProper}
-use Rattle.cg_gate.specs.Request.{MayGate, RequestData, begun_of, gating_of, hints_limit, limit_of, plan_limit, stops_at}
+use Rattle.cg_gate.specs.Request.{MayGate, RequestData, begun_of, gating_of, hints_limit, hints_of, limit_of, plan_limit, stops_at}
 use Rattle.cg_gate.specs.declared.hinting.TriedHints.{TriedHints}
 use Rattle.cg_gate_laws.proofs.BegunSafe.{left_is}
-use Rattle.cg_hint_laws.specs.Answers.{MayFail, Reported}
-use Rattle.cg_machine.specs.Machine.{MachineData}
+use Rattle.cg_hint_laws.specs.Answers.{AreTried, MayFail, Reported}
 use Rattle.cg_gate.proofs.MayInsert.{may_gate}
 
 -- a netlist that was inserted passes no limit
@@ -39,12 +39,12 @@ pub hint_stops : {A : Type 0} (tried : Result A AddFault) (fault : AddFault) →
 hint_stops tried NoMemory is = tt
 hint_stops tried (LimitFault limit) is = ap limit_of is
 
--- hints that are told leave the machine with which the plan begins
-pub told_left : (request : RequestData) (read : Circuit) (hints : Reported) → AreHintsTried (gating_of request read) read hints → hints.machine ≡ begun_of request read
+-- hints that were tried leave the machine with which the plan begins
+pub told_left : (request : RequestData) (read : Circuit) (hints : Reported) → AreTried request.library request.settings.width (lifted read request.prefix) (map (renamed read) (hints_of request)) hints → hints.machine ≡ begun_of request read
 told_left request read hints tried = tried.machine ∙ left_is (gating_of request read) read tried.done tried.tried
 
 module _ (request : RequestData) (read : Circuit) (proper : IsProper request) (may : MayGate request read) (hints : TriedHints) (told : ReportedPlan)
-    (tried : AreHintsTried (gating_of request read) read (told_hints (begun_of request read) hints)) (plan : IsBegunPlan request read told) where
+    (tried : AreHintsTried (gating_of request read) read hints) (plan : IsBegunPlan request read told) where
   abbrev by : Gating
   by = gating_of request read
 
@@ -55,7 +55,7 @@ module _ (request : RequestData) (read : Circuit) (proper : IsProper request) (m
   may_insert = subst (CanInsert request.library request.test) (sym plan.machine) (can_insert by read can).1
 
   pub gives_gated : AreWritable told.certificates → (written : Circuit) → insertion request.library request.test told.machine ≡ Ok written
-      → IsWritten (gating_of request read) read (told_hints (begun_of request read) hints) told written
+      → IsWritten (gating_of request read) read hints told written
   gives_gated can_write written is =
       let un = unpassed (insertion_limit request.test told.machine) (inserted request.library request.test told.machine) written is in
       record { tried = tried; plan = plan; writable = can_write; fits = un.0; is = un.1 }
@@ -80,8 +80,8 @@ module _ (request : RequestData) (read : Circuit) (proper : IsProper request) (m
       limits : insertion_limit request.test told.machine ≡ stops_at request read
       limits = ap (insertion_limit request.test) plan.machine ∙ ap (λ l. option_or l (insertion_limit request.test (planned by read))) (sym passes_none)
 
-  pub written_is : (written : Circuit) → IsWritten (gating_of request read) read (told_hints (begun_of request read) hints) told written → written ≡ gated_by (gating_of request read) read
+  pub written_is : (written : Circuit) → IsWritten (gating_of request read) read hints told written → written ≡ gated_by (gating_of request read) read
   written_is written is = is.is ∙ ap (inserted request.library request.test) plan.machine
 
-  pub unstopped : (written : Circuit) → IsWritten (gating_of request read) read (told_hints (begun_of request read) hints) told written → stops_at request read ≡ None
+  pub unstopped : (written : Circuit) → IsWritten (gating_of request read) read hints told written → stops_at request read ≡ None
   unstopped written is = ap (λ l. option_or l (insertion_limit request.test (planned by read))) passes_none ∙ (ap (insertion_limit request.test) (sym plan.machine) ∙ is.fits)

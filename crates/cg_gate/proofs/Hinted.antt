@@ -7,9 +7,10 @@ use Rattle.cg_cell.specs.Cell.{CellData}
 use Rattle.cg_extract.specs.Lifted.{lifted}
 use Rattle.cg_gate.specs.Gating.{AreHintsTried}
 use Rattle.cg_gate.specs.Request.{RequestData, gating_of, hints_of}
+use Rattle.cg_gate.specs.declared.hinting.TriedHints.{TriedHints}
 use Rattle.cg_gate_laws.specs.Begun.{renamed}
 use Rattle.cg_hint_laws.proofs.Additions.{and_then_ok}
-use Rattle.cg_hint_laws.specs.Answers.{AreCertified, AreShown, RegisterClaim, Reported}
+use Rattle.cg_hint_laws.specs.Answers.{AreCertified, AreShown, RegisterClaim}
 use Rattle.cg_hint_laws.specs.Effects.{and_then}
 use Rattle.cg_hint_laws.specs.Hints.{condition_nets}
 use Rattle.cg_hint_laws.specs.OfNetlist.{IsPlain}
@@ -69,7 +70,7 @@ turns_long library width m (h ∷ hs) done ok =
     let same : record { machine = rest.0.machine; turns = record { machine = m; hint = h; outcome = first.0 } ∷ rest.0.turns } ≡ done = cc in
     ap (λ (d : Hinted). length d.turns) (sym same) ∙ ap suc (turns_long library width n hs rest.0 rest.1)
 
-pub told_long : (request : RequestData) (read : Circuit) (hints : Reported) → AreHintsTried (gating_of request read) read hints → length (hints_of request) ≡ length hints.outcomes
+pub told_long : (request : RequestData) (read : Circuit) (hints : TriedHints) → AreHintsTried (gating_of request read) read hints → length (hints_of request) ≡ length hints.outcomes
 told_long request read hints are =
     sym (length-map (hints_of request) (renamed read))
     ∙ (sym (turns_long request.library request.settings.width (lifted read request.prefix) (map (renamed read) (hints_of request)) are.done are.tried)

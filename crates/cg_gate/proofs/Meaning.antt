@@ -9,6 +9,7 @@ use Rattle.cg_gate_laws.proofs.BegunSafe.{all_fit, begun_few, begun_safe}
 use Rattle.cg_gate_laws.proofs.SameOutputs.{whole}
 use Rattle.cg_gate_laws.specs.Begun.{renamed}
 use Rattle.cg_hint_laws.proofs.Worthy.{turns_worthy}
+use Rattle.cg_hint_laws.specs.Answers.{Reported}
 use Rattle.cg_hint_laws.specs.Laws.{IsSafe}
 use Rattle.cg_gate_laws.specs.Gated.{Behaves, CanGate, Gating, gated_by, planned}
 use Rattle.cg_gate_laws.specs.Kept.{KeepsParts}
@@ -30,8 +31,7 @@ use Rattle.cg_netlist.specs.Netlist.{IsNetlist}
 use Rattle.cg_netlist.specs.WellFormed.{IsWellFormed}
 use Rattle.cg_netlist_parts.specs.Writable.{IsPlaceable, IsWritable}
 use Rattle.cg_netlist.proofs.Histories.{has_history, has_one_history}
-use Rattle.cg_plan_laws.specs.Plan.{Plan, plan_of, wide_of}
-use Rattle.cg_plan_laws.specs.Reported.{IsPlan}
+use Rattle.cg_plan_laws.specs.Plan.{Plan, plan_of}
 use Rattle.cg_plan_laws.proofs.AllSafe.{each_fits}
 use Rattle.cg_report.specs.Zeros.{low_moments, zeros_of}
 use Rattle.cg_stage_laws.proofs.Fitting.{starts_long}
@@ -40,8 +40,7 @@ use Rattle.cg_stimulus.specs.Played.{IsPlayed, played_start, played_wave}
 use Rattle.cg_stimulus.proofs.Playing.{start_is, wave_is}
 use Rattle.cg_gate.specs.Gating.{GivesGated}
 use Rattle.cg_gate.specs.Headline.{Headline, ShowsSame, VerilogMeans, with_bits}
-use Rattle.cg_gate.specs.Begun.{IsBegunPlan}
-use Rattle.cg_gate.specs.ZeroCounting.{zero_counts, zero_counts_of, zeros_by}
+use Rattle.cg_gate.specs.ZeroCounting.{zero_counts, zeros_by}
 use Rattle.cg_gate.specs.Laws.{GatedMeans, IsProper}
 use Rattle.cg_gate.specs.Played.{Saying}
 use Rattle.cg_gate.specs.Request.{MayGate, RequestData, begun_of, gating_of, hints_of}
@@ -49,7 +48,6 @@ use Rattle.cg_gate.specs.Turns.{Lead}
 use Rattle.cg_gate.specs.declared.texts.Texts.{Texts}
 use Rattle.cg_gate.proofs.Counted.{counts}
 use Rattle.cg_gate.proofs.Deserved.{exactly_worthy}
-use Rattle.cg_gate.proofs.Gated.{told_left}
 use Rattle.cg_gate.proofs.Leads.{plan_leads}
 use Rattle.cg_extract.proofs.ForGating.{bare_is_netlist, bare_is_placeable}
 use Rattle.cg_gate.proofs.MayInsert.{may_gate}
@@ -75,21 +73,15 @@ module _ (request : RequestData) (says : Option Saying) (read : Circuit) (texts 
   abbrev plan : Plan
   plan = plan_of request.library request.settings (gating_of request read).counts (begun_of request read)
 
-  -- the plan that begins with a machine, with counts for its nets
-  abbrev plan_from : MachineData → Plan
-  plan_from k = plan_of request.library request.settings (zero_counts_of read request.prefix k request.stimulus) k
-
   can : CanGate (gating_of request read) read
   can = may_gate request read proper may
 
-  left : gives.hints.machine ≡ m
-  left = told_left request read gives.hints gives.gated.tried
-
-  told_plan : IsBegunPlan request read gives.told
-  told_plan = subst (λ k. IsPlan request.library request.settings by.counts k gives.told) left gives.gated.plan
+  -- the hints as they are told
+  abbrev hints : Reported
+  hints = record { machine = begun_of request read; outcomes = gives.hints.outcomes; certificates = gives.hints.certificates }
 
   machine_is : gives.told.machine ≡ n
-  machine_is = told_plan.machine
+  machine_is = gives.gated.plan.machine
 
   is : gives.written ≡ gated_by by read
   is = gives.gated.is ∙ ap (inserted request.library request.test) machine_is
@@ -125,7 +117,7 @@ module _ (request : RequestData) (says : Option Saying) (read : Circuit) (texts 
       writable request.library request.test n good_planned inserts own small gives.written is proper.found (subst (IsPlaceable request.library) (sym (keeps_netlist by read may.start may.hints)) (bare_is_placeable request.library read may.placeable))
 
   says_it : BlifText texts.out request.library None gives.written
-  says_it = subst (λ text. BlifText text request.library None w) (sym gives.gives.out) (says_itself request.library w is_writable)
+  says_it = subst (λ text. BlifText text request.library None w) (sym gives.tells.gives.out) (says_itself request.library w is_writable)
 
   -- the two histories
   shows : (start : List Bool) (wave : List Tick) (bits : List Bool) → IsStart read start → IsWaveform read wave → length bits ≡ length wave
@@ -154,27 +146,27 @@ module _ (request : RequestData) (says : Option Saying) (read : Circuit) (texts 
       }
 
   ranked : (stimulus : Rows) → request.stimulus ≡ Some stimulus → (history : List Moment) × IsPlayed read stimulus.rows history
-      × ((zero_counts read request.prefix gives.hints.machine stimulus).zeros ≡ map (zeros_by (λ net. zeros_of net (low_moments history))) (origins read gives.hints.machine))
+      × ((zero_counts read request.prefix m stimulus).zeros ≡ map (zeros_by (λ net. zeros_of net (low_moments history))) (origins read m))
   ranked stimulus there =
       let for' = may.played stimulus there in
       let rows = proper.rows stimulus there in
       let some = has_history read may.start.netlist.well_formed (played_start read) (played_wave read stimulus.rows) (start_is read) (wave_is read stimulus rows for') in
-      let few : length (kept_nets read) ≤ length gives.hints.machine.circuit.names = subst (λ (k : MachineData). length (kept_nets read) ≤ length k.circuit.names) (sym left) (begun_few by read may.start may.hints) in
-      (some.0, some.1, counts read request.prefix may.start gives.hints.machine few (untested request.library request.test read may.lifts) stimulus rows for' some.0 some.1)
+      let few : length (kept_nets read) ≤ length m.circuit.names = begun_few by read may.start may.hints in
+      (some.0, some.1, counts read request.prefix may.start m few (untested request.library request.test read may.lifts) stimulus rows for' some.0 some.1)
 
   abbrev delays : ℕ
   delays = length n.circuit.registers - n.own_registers
 
   verilog_means : IfSome texts.verilog (VerilogMeans request.library request.test gives.told.machine read delays gives.written)
   verilog_means =
-      means_asked (VerilogMeans request.library request.test gives.told.machine read delays gives.written) request.verilog texts.verilog (verilog w) gives.gives.verilog
+      means_asked (VerilogMeans request.library request.test gives.told.machine read delays gives.written) request.verilog texts.verilog (verilog w) gives.tells.gives.verilog
       (text_means request.library request.test gives.told.machine read delays w is_writable.placeable shows)
 
   pub means : Headline request says read texts
   means = record {
     written = w;
     well_formed = formed;
-    text = gives.gives.out;
+    text = gives.tells.gives.out;
     says_it = says_it;
     no_other = λ c other. no_two texts.out request.library None c w other says_it;
     inputs = behaves.inputs;
@@ -184,29 +176,29 @@ module _ (request : RequestData) (says : Option Saying) (read : Circuit) (texts 
     parts = subst (KeepsParts read) (sym is) (keeps_parts by read can);
     plan = gives.told;
     shows = shows;
-    verilog = gives.gives.verilog;
+    verilog = gives.tells.gives.verilog;
     verilog_means = verilog_means;
     is = gives.gated.is;
-    hints = gives.hints;
+    hints = hints;
     tried = gives.gated.tried;
     deserved_hints = turns_worthy request.library request.settings.width (lifted read request.prefix) (map (renamed read) (hints_of request)) gives.gated.tried.done
         (lifted_is_machine read request.prefix may.start) (all_fit read request.prefix may.start (hints_of request) may.hints) gives.gated.tried.tried;
     turns = plan.turns;
-    planned = ap (λ k. (plan_from k).turns) (sym left);
-    whole = subst (λ k. (plan_from k).limit ≡ None) (sym left) told_plan.whole;
-    lead = subst (λ k. Lead plan.turns k gives.told.machine) (sym left) (subst (Lead plan.turns m) (sym machine_is) (plan_leads request.library request.settings m by.counts));
+    planned = refl;
+    whole = gives.gated.plan.whole;
+    lead = subst (Lead plan.turns m) (sym machine_is) (plan_leads request.library request.settings m by.counts);
     deserved = λ k turn at. exactly_worthy request.library request.settings turn (each_fits request.library request.settings by.counts m good k turn at);
     ranked = ranked;
-    told = told_plan.stages;
-    wide = subst (λ k. gives.told.wide ≡ wide_of request.settings k) (sym left) told_plan.wide;
-    certified = told_plan.certificates;
+    told = gives.gated.plan.stages;
+    wide = gives.gated.plan.wide;
+    certified = gives.gated.plan.certificates;
     writable = gives.gated.writable;
-    proof = gives.gives.proof;
-    played = gives.played;
-    edges = gives.what.edges;
-    line = gives.what.line;
-    said = gives.gives.said;
-    report = gives.gives.report;
+    proof = gives.tells.gives.proof;
+    played = gives.tells.played;
+    edges = gives.tells.what.edges;
+    line = gives.tells.what.line;
+    said = gives.tells.gives.said;
+    report = gives.tells.gives.report;
   }
 
 pub gated_means : GatedMeans

@@ -146,6 +146,6 @@ pub record Headline (request : RequestData) (says : Option Saying) (read : Circu
   pub played : Played
   pub edges : EdgesAre request.stimulus read written played.edges
   pub line : LineIs says request.stimulus written played.watched
-  pub said : texts.said ≡ said_text plan (told_outcomes request hints) played
+  pub said : texts.said ≡ said_text plan (told_outcomes request hints.outcomes) played
   pub report : texts.report
       ≡ where_asked request.report (report_text plan (hints_of request) hints.outcomes (length written.gaters) played)

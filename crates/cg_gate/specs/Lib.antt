@@ -1,6 +1,5 @@
 pub mod ZeroCounting
 pub mod Request
-pub mod Begun
 pub mod Stops
 pub mod Played
 pub mod Gating

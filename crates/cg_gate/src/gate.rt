@@ -1,20 +1,21 @@
 //! A netlist is gated.
 
-ghost use Rattle.std.specs.Prelude.{◌≡◌, true, None, is_some, length, IfOk, IfErr, OnOk};
+ghost use Rattle.std.specs.Prelude.{◌≡◌, true, None, Some, is_some, length, IfOk, IfErr, OnOk};
 ghost use Rattle.std.specs.Option.{option_map};
-ghost use Rattle.cg_gate.specs.Gating.{GivesDemo, GivesGated, SaysDemo};
+ghost use Rattle.cg_gate.specs.Gating.{GivesDemo, GivesGated, SaysDemo, TellsGated};
 ghost use Rattle.cg_gate.specs.Headline.{Headline};
-ghost use Rattle.cg_gate.specs.Request.{MayGate, stops_at};
-ghost use Rattle.cg_gate.specs.Stops.{GatingMayFail, gating_stop};
+ghost use Rattle.cg_gate.specs.Request.{MayGate, hints_of, stops_at};
+ghost use Rattle.cg_gate.specs.Stops.{GatingMayFail, gating_stop, verilog_stop};
 ghost use Rattle.cg_plan_laws.specs.Reported.{PlanMayFail};
-ghost use Rattle.cg_plan.specs.Planning.{told};
-ghost use Rattle.cg_stimulus.specs.Inputs.{IsFor};
+ghost use Rattle.cg_plan.specs.Planning.{AreWritable, told};
+ghost use Rattle.cg_plan_text.specs.ProofText.{AreWritableHints};
+ghost use Rattle.cg_stimulus.specs.Inputs.{IsFor, Rows};
 
 use crate::fault::GateFault;
 use crate::planning::{Gated, gate_netlist};
 use crate::playing::{edges_of, play_both};
 use crate::request::Request;
-use crate::texts::{Texts, write_texts};
+use crate::texts::{Texts, verilog_asked, write_texts};
 use cg_list::Seq;
 use cg_netlist::fault::AddFault;
 use cg_netlist::netlist::Netlist;
@@ -50,14 +51,34 @@ pub fn gate(
     ensures fault { IfErr result (GatingMayFail (gating_stop request.now netlist.now)) }
 {
     let gated = gate_netlist(alloc, netlist, request, progress)?;
-    let Ok(played) = play_both(alloc, netlist, &gated.netlist, request.stimulus, watcher) else {
-        // By a call, here and below, as its parts would else be dropped one by one in the proof.
-        drop(gated);
-        return Err(GateFault::NoMemory);
-    };
-    let texts = write_texts(alloc, request, &gated, &played);
+    let texts = finish(alloc, netlist, request, &gated, watcher);
+    // By a call, here and below, as its parts would else be dropped one by one in the proof.
     drop(gated);
     texts
+}
+
+/// The texts of a netlist that was gated, and what comes of the stimulus, where there is one. Before that is played it is refused
+/// where a Verilog text is asked for that it does not have.
+fn finish(
+    alloc: Global,
+    read: &Netlist,
+    request: &Request<'_>,
+    gated: &Gated,
+    watcher: Option<Box<dyn Watcher>>,
+) -> Result<Texts, GateFault>
+    requires writable { AreWritable gated.now.plan.certificates }
+    requires hints { AreWritableHints gated.now.hints.certificates }
+    requires told { length (hints_of request.now) ≡ length gated.now.hints.outcomes }
+    requires read { (rows : Rows) → request.now.stimulus ≡ Some rows → IsFor read.now rows }
+    requires written { (rows : Rows) → request.now.stimulus ≡ Some rows → IsFor gated.now.netlist rows }
+    ensures texts { IfOk result
+        (TellsGated request.now (option_map (λ watcher. says watcher) watcher) read.now gated.now.netlist gated.now.hints (told gated.now.plan)) }
+    ensures unstopped { OnOk result (verilog_stop request.now.verilog gated.now.netlist ≡ None) }
+    ensures fault { IfErr result (GatingMayFail (verilog_stop request.now.verilog gated.now.netlist)) }
+{
+    let verilog = verilog_asked(alloc, request.verilog, &gated.netlist)?;
+    let played = play_both(alloc, read, &gated.netlist, request.stimulus, watcher)?;
+    Ok(write_texts(alloc, request, gated, &played, verilog)?)
 }
 
 /// Gates a generated pipeline of a size, and answers what is said of it. The stimulus that stands in the request is played.

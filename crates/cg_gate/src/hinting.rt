@@ -5,10 +5,9 @@ ghost use Rattle.std.specs.List.{All, AllByRecursion};
 ghost use Rattle.std.specs.Option.{option_copied};
 ghost use Rattle.cg_extract.specs.Lifted.{lifted};
 ghost use Rattle.cg_gate.specs.Gating.{AreHintsTried};
-ghost use Rattle.cg_gate.specs.Request.{MayGate, gating_of, hints_limit};
+ghost use Rattle.cg_gate.specs.Request.{MayGate, begun_of, gating_of, hints_limit};
 ghost use Rattle.cg_gate_laws.specs.Begun.{renamed, renamed_literal};
 ghost use Rattle.cg_hint_laws.specs.OfNetlist.{IsOf, IsPlain};
-ghost use Rattle.cg_hints.specs.Applying.{reported};
 ghost use Rattle.cg_plan_laws.specs.Reported.{PlanMayFail};
 
 use crate::request::Request;
@@ -35,16 +34,27 @@ pub struct TriedHints {
     pub certificates: Seq<HintCertificate>,
 }
 
+/// What hints leave of the machine of a netlist, and what came of them.
+#[derive(Drop)]
+pub(crate) struct Begun {
+    /// The machine with which the plan begins.
+    pub machine: Machine,
+
+    /// The hints that were tried.
+    pub hints: TriedHints,
+}
+
 /// Tries the hints of a request on the machine of the netlist, one after another.
 pub(crate) fn try_hints(
     alloc: Global,
     netlist: &Netlist,
     machine: Machine,
     request: &Request<'_>,
-) -> Result<Applied, AddFault>
+) -> Result<Begun, AddFault>
     requires may { MayGate request.now netlist.now }
     requires machine { machine ≡ lifted netlist.now request.now.prefix }
-    ensures tried { IfOk result (λ applied. AreHintsTried (gating_of request.now netlist.now) netlist.now (reported applied)) }
+    ensures machine { IfOk result (λ begun. begun.machine ≡ begun_of request.now netlist.now) }
+    ensures tried { IfOk result (λ begun. AreHintsTried (gating_of request.now netlist.now) netlist.now begun.hints) }
     ensures fault { IfErr result (PlanMayFail (hints_limit (gating_of request.now netlist.now) netlist.now)) }
 {
     let Ok(hints) = machine_hints(alloc, netlist, request.hints) else {
@@ -52,13 +62,28 @@ pub(crate) fn try_hints(
         drop(machine);
         return Err(AddFault::NoMemory);
     };
-    apply_all(
-        alloc,
+    let width = request.settings.width;
+    let applied = apply_all(alloc, machine, &hints, request.library, width)?;
+    Ok(begun(applied))
+}
+
+/// What applied hints leave.
+fn begun(applied: Applied) -> Begun
+    ensures machine { result.machine ≡ applied.machine }
+    ensures hints { result.hints ≡ record { outcomes = applied.outcomes; certificates = applied.certificates } }
+{
+    let Applied {
         machine,
-        &hints,
-        request.library,
-        request.settings.width,
-    )
+        outcomes,
+        certificates,
+    } = applied;
+    Begun {
+        machine,
+        hints: TriedHints {
+            outcomes,
+            certificates,
+        },
+    }
 }
 
 /// The hints of a netlist, where there are some, as hints of its machine.

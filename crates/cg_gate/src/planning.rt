@@ -4,8 +4,7 @@ ghost use Rattle.std.specs.Prelude.{◌≡◌, ℕ, List, Some, IfOk, IfErr, IsT
 ghost use Rattle.std.specs.Option.{option_copied, option_or};
 ghost use Rattle.cg_cell.specs.Name.{is_name};
 ghost use Rattle.cg_extract.specs.Lifted.{lifted};
-ghost use Rattle.cg_gate.specs.Begun.{IsBegunPlan, told_hints};
-ghost use Rattle.cg_gate.specs.Gating.{AreHintsTried, IsWritten};
+ghost use Rattle.cg_gate.specs.Gating.{AreHintsTried, IsBegunPlan, IsWritten};
 ghost use Rattle.cg_gate.specs.Laws.{IsProper};
 ghost use Rattle.cg_gate.specs.Request.{MayGate, begun_of, gating_of, hints_limit, plan_limit, stops_at};
 ghost use Rattle.cg_insert.specs.Insert.{CanInsert};
@@ -19,11 +18,10 @@ ghost use Rattle.cg_plan.specs.Planning.{AreWritable, told};
 ghost use Rattle.cg_stimulus.specs.Inputs.{IsFor, IsStimulus, Rows};
 
 use crate::counting::machine_zeros;
-use crate::hinting::{TriedHints, try_hints};
+use crate::hinting::{Begun, TriedHints, try_hints};
 use crate::request::Request;
 use cg_cell::name::Name;
 use cg_extract::extract::extract;
-use cg_hints::apply::Applied;
 use cg_insert::insert::insert;
 use cg_machine::machine::Machine;
 use cg_netlist::fault::AddFault;
@@ -62,7 +60,7 @@ pub fn gate_netlist(
 ) -> Result<Gated, AddFault>
     requires { MayGate request.now netlist.now }
     ensures gated { IfOk result (λ gated. IsWritten (gating_of request.now netlist.now) netlist.now
-        (told_hints (begun_of request.now netlist.now) gated.hints) (told gated.plan) gated.netlist) }
+        gated.hints (told gated.plan) gated.netlist) }
     ensures fits { IfOk result (λ gated. (stimulus : Rows) → request.now.stimulus ≡ Some stimulus → IsFor gated.netlist stimulus) }
     ensures writable { IfOk result (λ gated. AreWritable gated.plan.certificates) }
     ensures proper { IsProper request.now }
@@ -134,8 +132,7 @@ fn plan_netlist(
     progress: &mut dyn Progress,
 ) -> Result<Planned, AddFault>
     requires { MayGate request.now netlist.now }
-    ensures tried { IfOk result (λ planned. AreHintsTried (gating_of request.now netlist.now) netlist.now
-        (told_hints (begun_of request.now netlist.now) planned.hints)) }
+    ensures tried { IfOk result (λ planned. AreHintsTried (gating_of request.now netlist.now) netlist.now planned.hints) }
     ensures plan { IfOk result (λ planned. IsBegunPlan request.now netlist.now (told planned.plan)) }
     ensures writable { IfOk result (λ planned. AreWritable planned.plan.certificates) }
     ensures fault { IfErr result (PlanMayFail (option_or (hints_limit (gating_of request.now netlist.now) netlist.now)
@@ -144,34 +141,26 @@ fn plan_netlist(
     let Ok(machine) = lift(alloc, netlist, request) else {
         return Err(AddFault::NoMemory);
     };
-    let applied = try_hints(alloc, netlist, machine, request)?;
-    plan_applied(alloc, netlist, applied, request, progress)
+    let begun = try_hints(alloc, netlist, machine, request)?;
+    plan_hinted(alloc, netlist, begun, request, progress)
 }
 
 /// Hints that were tried on the machine of a netlist, and the plan that begins with what they leave.
-fn plan_applied(
+fn plan_hinted(
     alloc: Global,
     netlist: &Netlist,
-    applied: Applied,
+    begun: Begun,
     request: &Request<'_>,
     progress: &mut dyn Progress,
 ) -> Result<Planned, AddFault>
     requires may { MayGate request.now netlist.now }
-    requires begun { applied.machine ≡ begun_of request.now netlist.now }
-    ensures hints { IfOk result (λ planned. planned.hints ≡ record { outcomes = applied.outcomes; certificates = applied.certificates }) }
+    requires begun { begun.machine ≡ begun_of request.now netlist.now }
+    ensures hints { IfOk result (λ planned. planned.hints ≡ begun.hints) }
     ensures plan { IfOk result (λ planned. IsBegunPlan request.now netlist.now (told planned.plan)) }
     ensures writable { IfOk result (λ planned. AreWritable planned.plan.certificates) }
     ensures fault { IfErr result (PlanMayFail (plan_limit (gating_of request.now netlist.now) netlist.now)) }
 {
-    let Applied {
-        machine,
-        outcomes,
-        certificates,
-    } = applied;
-    let hints = TriedHints {
-        outcomes,
-        certificates,
-    };
+    let Begun { machine, hints } = begun;
     match plan_begun(alloc, netlist, machine, request, progress) {
         Ok(plan) => Ok(Planned { hints, plan }),
         Err(fault) => {

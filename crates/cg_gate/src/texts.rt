@@ -2,15 +2,13 @@
 
 ghost use Rattle.std.specs.Prelude.{◌≡◌, [], None, length, unwrap_or, IfErr, IfOk, OnOk};
 ghost use Rattle.std.specs.Option.{option_copied, option_map};
-ghost use Rattle.cg_gate.specs.Begun.{told_hints};
-ghost use Rattle.cg_gate.specs.Gating.{AreTexts, where_asked};
+ghost use Rattle.cg_gate.specs.Gating.{AreTexts, told_outcomes, where_asked};
 ghost use Rattle.cg_gate.specs.Request.{hints_of};
 ghost use Rattle.cg_gate.specs.Stops.{GatingMayFail, verilog_stop};
-ghost use Rattle.cg_machine.specs.Machine.{MachineData};
 ghost use Rattle.cg_plan.specs.Planning.{AreWritable, told};
 ghost use Rattle.cg_plan_text.specs.ProofText.{AreWritableHints, proof_text};
 ghost use Rattle.cg_plan_text.specs.Summary.{report_text, said_text};
-ghost use Rattle.cg_verilog_text.specs.Written.{verilog};
+ghost use Rattle.cg_verilog_text.specs.Written.{verilog as verilog_text};
 
 use crate::fault::GateFault;
 use crate::planning::Gated;
@@ -44,22 +42,20 @@ pub struct Texts {
     pub said: Seq<u8>,
 }
 
-/// The texts of a netlist that was gated, whose certificates keep to the bounds of their formats.
+/// The texts of a netlist that was gated, whose certificates keep to the bounds of their formats, with its Verilog text.
 pub(crate) fn write_texts(
     alloc: Global,
     request: &Request<'_>,
     gated: &Gated,
     played: &Played,
-) -> Result<Texts, GateFault>
-    requires stages { AreWritable gated.now.plan.certificates }
+    verilog: Option<Seq<u8>>,
+) -> Result<Texts, AllocError>
+    requires proof { AreWritable gated.now.plan.certificates }
     requires hints { AreWritableHints gated.now.hints.certificates }
     requires told { length (hints_of request.now) ≡ length gated.now.hints.outcomes }
-    ensures texts { IfOk result (λ texts. (m : MachineData) →
-        AreTexts request.now (told_hints m gated.now.hints) (told gated.now.plan) gated.now.netlist played.now texts) }
-    ensures unstopped { OnOk result (verilog_stop request.now.verilog gated.now.netlist ≡ None) }
-    ensures fault { IfErr result (GatingMayFail (verilog_stop request.now.verilog gated.now.netlist)) }
+    requires verilog { verilog ≡ where_asked request.now.verilog (verilog_text gated.now.netlist) }
+    ensures { IfOk result (λ texts. AreTexts request.now gated.now.hints (told gated.now.plan) gated.now.netlist played.now texts) }
 {
-    let verilog = verilog_asked(alloc, request.verilog, &gated.netlist)?;
     Ok(Texts {
         out: Seq::from_vec(write_blif(alloc, &gated.netlist)?),
         proof: proof_asked(alloc, request.proof, gated)?,
@@ -77,7 +73,7 @@ fn said(
     played: &Played,
 ) -> Result<Seq<u8>, AllocError>
     ensures { IfOk result (λ text. text
-        ≡ said_text (told gated.now.plan) (option_map (λ asked. gated.now.hints.outcomes) request.now.hints) played.now) }
+        ≡ said_text (told gated.now.plan) (told_outcomes request.now gated.now.hints.outcomes) played.now) }
 {
     let outcomes = told_outcomes(request.hints, &gated.hints.outcomes);
     let text = said_text(alloc, &gated.plan, outcomes, played)?;
@@ -108,12 +104,12 @@ fn asked_hints<'a>(asked: Option<&'a Seq<Hint>>) -> &'a [Hint]
 }
 
 /// The Verilog text of a netlist, where it is asked for.
-fn verilog_asked(
+pub(crate) fn verilog_asked(
     alloc: Global,
     asked: bool,
     netlist: &Netlist,
 ) -> Result<Option<Seq<u8>>, GateFault>
-    ensures text { IfOk result (λ text. text ≡ where_asked asked (verilog netlist.now)) }
+    ensures text { IfOk result (λ text. text ≡ where_asked asked (verilog_text netlist.now)) }
     ensures unstopped { OnOk result (verilog_stop asked netlist.now ≡ None) }
     ensures fault { IfErr result (GatingMayFail (verilog_stop asked netlist.now)) }
 {

@@ -112,7 +112,7 @@ gated_of options kind names before after finish end f read gives =
     let whole : IsNetlist c = (netlist_writable end.library options.clock read.text c found.said).placeable.netlist in
     let both = sources_ok options.asked.stimulus (wants_hints options) c end.stimulus end.hints gates.0 gates.1 in
     let held : (name : List ℕ) → after.held name ≡ puts names (gate_output (gates.2).texts).stores before.held name = λ name. f.written.held name ∙ ap (λ (o : Output). puts names o.stores before.held name) (gates.2).is in
-    let texts = ((gates.2).gives).gives in
+    let texts = (((gates.2).gives).tells).gives in
     record {
       library = end.library;
       read = c;

@@ -1,8 +1,7 @@
 use Rattle.std.proofs.Common.{◌≡◌, Some, ap, sym, ◌∙◌}
 use Rattle.std.specs.Option.{option_copied}
 use Rattle.cg_gate.proofs.gate.gate_demo.Goals as goal
-use Rattle.cg_gate.specs.Begun.{told_hints}
-use Rattle.cg_gate.specs.Request.{RequestData, begun_of}
+use Rattle.cg_gate.specs.Request.{RequestData}
 use Rattle.cg_plan.specs.Planning.{told}
 
 pub demo_said-said-requires-clause-read : goal.demo_said-said-requires-clause-read
@@ -18,4 +17,4 @@ demo_said-said-requires-clause-written g c =
 pub returns-clause-gives : goal.returns-clause-gives
 returns-clause-gives g c =
     let is : c.args.request.now.stimulus ≡ Some c.unwrap-stimulus.result.now = sym (ap (λ (r : RequestData). r.stimulus) c.request.view_is) ∙ ap option_copied c.unwrap-stimulus.ensures in
-    record { stimulus = c.unwrap-stimulus.result.now; played = is; hints = told_hints (begun_of c.args.request.now c.args.netlist.now) c.in_ok-gated.gated.hints; told = told c.in_ok-gated.gated.plan; written = c.in_ok-gated.gated.netlist; gated = c.in_ok-gated.ensures.gated; says = c.in_ok-said.ensures }
+    record { stimulus = c.unwrap-stimulus.result.now; played = is; hints = c.in_ok-gated.gated.hints; told = told c.in_ok-gated.gated.plan; written = c.in_ok-gated.gated.netlist; gated = c.in_ok-gated.ensures.gated; says = c.in_ok-said.ensures }

@@ -1,8 +1,7 @@
 use Rattle.cg_gate.proofs.Gated.{for_written, gives_gated, insertion_stops, may_insert}
 use Rattle.cg_gate.proofs.planning.gate_netlist.Goals as goal
-use Rattle.cg_gate.specs.Begun.{told_hints}
 use Rattle.cg_gate.specs.Gating.{IsWritten}
-use Rattle.cg_gate.specs.Request.{begun_of, gating_of}
+use Rattle.cg_gate.specs.Request.{gating_of}
 use Rattle.cg_gate.specs.declared.planning.Gated.{Gated}
 use Rattle.cg_plan.specs.Planning.{AreWritable, told}
 use Rattle.cg_stimulus.specs.Inputs.{IsFor, Rows}
@@ -21,7 +20,7 @@ returns-in-Ok-clause-gated g c =
     let p = c.in_ok-planned.planned in
     let request = c.args.request.now in
     let netlist = c.args.netlist.now in
-    subst (λ (gated : Gated). IsWritten (gating_of request netlist) netlist (told_hints (begun_of request netlist) gated.hints) (told gated.plan) gated.netlist) (sym c.gated.ensures)
+    subst (λ (gated : Gated). IsWritten (gating_of request netlist) netlist gated.hints (told gated.plan) gated.netlist) (sym c.gated.ensures)
     (gives_gated request netlist c.hold_request.ensures c.requires p.hints (told p.plan) c.in_ok-planned.ensures.tried c.in_ok-planned.ensures.plan c.in_ok-planned.ensures.writable c.in-Ok.netlist c.in-Ok.ensures)
 
 pub returns-in-Ok-clause-fits : goal.returns-in-Ok-clause-fits

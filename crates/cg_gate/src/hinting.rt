@@ -93,7 +93,7 @@ fn machine_hints(
     asked: Option<&Seq<Hint>>,
 ) -> Result<Vec<Hint>, AllocError>
     requires { AllByRecursion (IsOf netlist.now) (unwrap_or (option_copied asked) []) }
-    ensures { IfOk result (λ hints. hints.items ≡ map (renamed netlist.now) (unwrap_or (option_copied asked) [])) }
+    ensures { IfOk result (λ hints. hints.items ≡ map (renamed netlist.now) (unwrap_or (option_copied asked.entry) [])) }
 {
     match asked {
         None => Ok(Vec::new(alloc)),

@@ -85,7 +85,7 @@ fn told_outcomes<'a>(
     asked: Option<&Seq<Hint>>,
     outcomes: &'a Seq<HintOutcome>,
 ) -> Option<&'a Seq<HintOutcome>>
-    ensures { option_copied result ≡ option_map (λ asked. outcomes.entry.now) (option_copied asked) }
+    ensures { option_copied result ≡ option_map (λ asked. outcomes.entry.now) (option_copied asked.entry) }
 {
     match asked {
         None => None,

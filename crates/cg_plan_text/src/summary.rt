@@ -44,7 +44,7 @@ pub fn said_text(
     hints: Option<&Seq<HintOutcome>>,
     played: &Played,
 ) -> Result<Vec<u8>, AllocError>
-    ensures { IfOk result (λ text. text.items ≡ said_text (told plan.now) (option_copied hints) played.now) }
+    ensures { IfOk result (λ text. text.items ≡ said_text (told plan.now) (option_copied hints.entry) played.now) }
 {
     let mut text = Vec::new(alloc);
     push_hints_line(&mut text, hints)?;
@@ -114,7 +114,7 @@ fn push_pair(text: &mut Vec<u8>, word: &[u8], other: &[u8]) -> Result<(), AllocE
 
 /// Puts how many hints were tried and inserted behind a text, where hints are asked for.
 fn push_hints_line(text: &mut Vec<u8>, hints: Option<&Seq<HintOutcome>>) -> Result<(), AllocError>
-    ensures { OnOk result (text.new.items ≡ text.old.items ++ hints_line (option_copied hints)) }
+    ensures { OnOk result (text.new.items ≡ text.old.items ++ hints_line (option_copied hints.entry)) }
 {
     match hints {
         None => Ok(()),

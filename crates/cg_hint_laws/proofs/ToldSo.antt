@@ -55,45 +55,49 @@ registers_get m n h c good fits free is ok r among =
     let same : enabled c h.regs ≡ n = cc in
     subst (λ (k : MachineData). enable_of k r ≡ Some c.net) same (gives.has r among)
 
+-- what ends a hint so
+abbrev Ends : Option Answer → HintOutcome → Type 0
+Ends o x = o ≡ Some (Ok x)
+
 -- an answer comes of the first that is there
 first_or : (a b : Option Answer) (rest x : Answer) → unwrap_or (option_or a b) rest ≡ x → (a ≡ Some x) ⊎ (unwrap_or b rest ≡ x)
 first_or None b rest x is = inr is
 first_or (Some y) b rest x is = inl (ap Some is)
 
 -- what of the first four ends a hint is none of the last two, nor is what follows
-data_apart : HintOutcome → Bool
-data_apart NeverIdle = true
-data_apart (Refuted claim bits) = true
-data_apart Inserted = false
-data_apart (Taken r) = false
-data_apart (NoCell kind) = false
-data_apart (Wide claim width) = false
+abbrev is_late : HintOutcome → Bool
+is_late NeverIdle = true
+is_late (Refuted claim bits) = true
+is_late Inserted = false
+is_late (Taken r) = false
+is_late (NoCell kind) = false
+is_late (Wide claim width) = false
 
 module _ (library : List CellData) (width : ℕ) (m : MachineData) (h : Hint) where
-  taken_not : (o : Option ℕ) (x : HintOutcome) → data_apart x ≡ true → option_map (λ r. Ok (Taken r)) o ≡ Some (Ok x) → ⊥
+  taken_not : (o : Option ℕ) (x : HintOutcome) → is_late x ≡ true → Ends (option_map (λ r. Ok (Taken r)) o) x → ⊥
   taken_not None x apart is = absurd (cc)
-  taken_not (Some r) x apart is = let same : Taken r ≡ x = cc in both_ways (data_apart x) (ap data_apart (sym same)) apart
+  taken_not (Some r) x apart is = let same : Taken r ≡ x = cc in both_ways (is_late x) (ap is_late (sym same)) apart
 
-  missing_not : (o : Option FitKind) (x : HintOutcome) → data_apart x ≡ true → option_map (λ k. Ok (NoCell k)) o ≡ Some (Ok x) → ⊥
+  missing_not : (o : Option FitKind) (x : HintOutcome) → is_late x ≡ true → Ends (option_map (λ k. Ok (NoCell k)) o) x → ⊥
   missing_not None x apart is = absurd (cc)
-  missing_not (Some k) x apart is = let same : NoCell k ≡ x = cc in both_ways (data_apart x) (ap data_apart (sym same)) apart
+  missing_not (Some k) x apart is = let same : NoCell k ≡ x = cc in both_ways (is_late x) (ap is_late (sym same)) apart
 
-  wide_not : (o : Option HintClaim) (x : HintOutcome) → data_apart x ≡ true → option_map (λ (c : HintClaim). Ok (Wide c (claim_width m h c))) o ≡ Some (Ok x) → ⊥
+  wide_not : (o : Option HintClaim) (x : HintOutcome) → is_late x ≡ true → Ends (option_map (λ (c : HintClaim). Ok (Wide c (claim_width m h c))) o) x → ⊥
   wide_not None x apart is = absurd (cc)
-  wide_not (Some c) x apart is = let same : Wide c (claim_width m h c) ≡ x = cc in both_ways (data_apart x) (ap data_apart (sym same)) apart
+  wide_not (Some c) x apart is = let same : Wide c (claim_width m h c) ≡ x = cc in both_ways (is_late x) (ap is_late (sym same)) apart
 
-  large_not : (o : Option HintClaim) (x : HintOutcome) → option_map (λ (c : HintClaim). Err (Limit ClaimNodes)) o ≡ Some (Ok x) → ⊥
+  large_not : (o : Option HintClaim) (x : HintOutcome) → Ends (option_map (λ (c : HintClaim). Err (Limit ClaimNodes)) o) x → ⊥
   large_not None x is = absurd (cc)
   large_not (Some c) x is = absurd (cc)
 
-  rest_not : (x : HintOutcome) → data_apart x ≡ true → and_then (effect m h) (λ n. Ok Inserted) ≡ Ok x → ⊥
+  rest_not : (x : HintOutcome) → is_late x ≡ true → and_then (effect m h) (λ n. Ok Inserted) ≡ Ok x → ⊥
   rest_not x apart is =
       let e = and_then_ok (effect m h) (λ n. Ok Inserted) x is in
       let same : Inserted ≡ x = cc in
-      both_ways (data_apart x) (ap data_apart (sym same)) apart
+      both_ways (is_late x) (ap is_late (sym same)) apart
 
   -- it comes of one of the last two
-  of_last : (x : HintOutcome) → data_apart x ≡ true → tried library width m h ≡ Ok x → (never_idle m h ≡ Some (Ok x)) ⊎ (first_refuted m h ≡ Some (Ok x))
+  of_last : (x : HintOutcome) → is_late x ≡ true → tried library width m h ≡ Ok x → (never_idle m h ≡ Some (Ok x)) ⊎ (first_refuted m h ≡ Some (Ok x))
   of_last x apart is =
       let rest : Answer = and_then (effect m h) (λ n. Ok Inserted) in
       elim (first_or (first_taken m h) _ rest (Ok x) is) [
@@ -113,7 +117,7 @@ module _ (library : List CellData) (width : ℕ) (m : MachineData) (h : Hint) wh
         ]
       ]
     where
-      refuted_or : (o : Option Answer) (y : HintOutcome) → data_apart y ≡ true → unwrap_or o (and_then (effect m h) (λ n. Ok Inserted)) ≡ Ok y → o ≡ Some (Ok y)
+      refuted_or : (o : Option Answer) (y : HintOutcome) → is_late y ≡ true → unwrap_or o (and_then (effect m h) (λ n. Ok Inserted)) ≡ Ok y → o ≡ Some (Ok y)
       refuted_or None y apart is = absurd (rest_not y apart is)
       refuted_or (Some a) y apart is = ap Some is
 
@@ -178,11 +182,14 @@ module _ (m : MachineData) (h : Hint) (good : IsMachine m) (fits : Fits m h) whe
         before = λ k q low there. keeps_so q (member_at h.regs k q there) (not-false (claim_holds m h (Hold q)) (f.none_before k (Hold q) low (at_mapped Hold h.regs k q there)));
       }
 
-never_so : (b : Bool) (x : HintOutcome) → (if b then Some (Ok NeverIdle) else None) ≡ Some (Ok x) → (b ≡ true) × (NeverIdle ≡ x)
+abbrev never_or : Bool → Option Answer
+never_or b = if b then Some (Ok NeverIdle) else None
+
+never_so : (b : Bool) (x : HintOutcome) → Ends (never_or b) x → (b ≡ true) × (NeverIdle ≡ x)
 never_so true x is = (refl, cc)
 never_so false x is = absurd (cc)
 
-refuted_so : (o : Option HintClaim) (x : HintOutcome) → option_map (λ (c : HintClaim). Ok (Refuted c [])) o ≡ Some (Ok x) → (c : HintClaim) × (o ≡ Some c) × (Refuted c [] ≡ x)
+refuted_so : (o : Option HintClaim) (x : HintOutcome) → Ends (option_map (λ (c : HintClaim). Ok (Refuted c [])) o) x → (c : HintClaim) × (o ≡ Some c) × (Refuted c [] ≡ x)
 refuted_so None x is = absurd (cc)
 refuted_so (Some c) x is = (c, refl, cc)
 

@@ -64,11 +64,11 @@ pub(crate) fn try_hints(
     };
     let width = request.settings.width;
     let applied = apply_all(alloc, machine, &hints, request.library, width)?;
-    Ok(begun(applied))
+    Ok(leave(applied))
 }
 
 /// What applied hints leave.
-fn begun(applied: Applied) -> Begun
+fn leave(applied: Applied) -> Begun
     ensures machine { result.machine ≡ applied.machine }
     ensures hints { result.hints ≡ record { outcomes = applied.outcomes; certificates = applied.certificates } }
 {

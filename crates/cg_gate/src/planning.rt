@@ -69,7 +69,7 @@ pub fn gate_netlist(
     hold_request(request);
     let planned = plan_netlist(alloc, netlist, request, progress)?;
     match write_plan(alloc, &planned.plan, request) {
-        Ok(netlist) => Ok(gated(planned, netlist)),
+        Ok(netlist) => Ok(written(planned, netlist)),
         Err(fault) => {
             // By a call, as its parts would else be dropped one by one in the proof; so too below.
             drop(planned);
@@ -79,7 +79,7 @@ pub fn gate_netlist(
 }
 
 /// A plan behind hints, and the netlist that its machine is written as.
-fn gated(planned: Planned, netlist: Netlist) -> Gated
+fn written(planned: Planned, netlist: Netlist) -> Gated
     ensures { result ≡ record { hints = planned.hints; plan = planned.plan; netlist = netlist } }
 {
     Gated {

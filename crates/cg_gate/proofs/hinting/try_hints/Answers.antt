@@ -53,7 +53,7 @@ returns-clause-machine c =
     let applied = c.in_ok-applied.applied in
     let are : c.deref.result.now ≡ map (renamed netlist) (hints_of request) = c.deref.ensures.value ∙ (c.in-Ok.ensures ∙ ap (λ (r : RequestData). map (renamed netlist) (hints_of r)) c.request.view_is) in
     let raw = subst (λ (r : RequestData). AreTried r.library r.settings.width c.args.machine c.deref.result.now (reported applied)) c.request.view_is c.in_ok-applied.ensures.tried in
-    c.begun.ensures.machine ∙ told_left request netlist (reported applied) (applied_so request netlist c.args.machine c.deref.result.now applied are c.requires.machine raw)
+    c.leave.ensures.machine ∙ told_left request netlist (reported applied) (applied_so request netlist c.args.machine c.deref.result.now applied are c.requires.machine raw)
 
 pub returns-clause-tried : goal.returns-clause-tried
 returns-clause-tried c =
@@ -63,7 +63,7 @@ returns-clause-tried c =
     let are : c.deref.result.now ≡ map (renamed netlist) (hints_of request) = c.deref.ensures.value ∙ (c.in-Ok.ensures ∙ ap (λ (r : RequestData). map (renamed netlist) (hints_of r)) c.request.view_is) in
     let raw = subst (λ (r : RequestData). AreTried r.library r.settings.width c.args.machine c.deref.result.now (reported applied)) c.request.view_is c.in_ok-applied.ensures.tried in
     let tried = applied_so request netlist c.args.machine c.deref.result.now applied are c.requires.machine raw in
-    subst (AreHintsTried (gating_of request netlist) netlist) (sym c.begun.ensures.hints)
+    subst (AreHintsTried (gating_of request netlist) netlist) (sym c.leave.ensures.hints)
     (begun_so request netlist applied.machine applied.outcomes applied.certificates tried (told_left request netlist (reported applied) tried))
 
 pub returns-in_err-applied-clause-fault : goal.returns-in_err-applied-clause-fault

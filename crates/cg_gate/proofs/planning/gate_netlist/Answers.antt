@@ -20,15 +20,15 @@ returns-in-Ok-clause-gated g c =
     let p = c.in_ok-planned.planned in
     let request = c.args.request.now in
     let netlist = c.args.netlist.now in
-    subst (λ (gated : Gated). IsWritten (gating_of request netlist) netlist gated.hints (told gated.plan) gated.netlist) (sym c.gated.ensures)
+    subst (λ (gated : Gated). IsWritten (gating_of request netlist) netlist gated.hints (told gated.plan) gated.netlist) (sym c.written.ensures)
     (gives_gated request netlist c.hold_request.ensures c.requires p.hints (told p.plan) c.in_ok-planned.ensures.tried c.in_ok-planned.ensures.plan c.in_ok-planned.ensures.writable c.in-Ok.netlist c.in-Ok.ensures)
 
 pub returns-in-Ok-clause-fits : goal.returns-in-Ok-clause-fits
 returns-in-Ok-clause-fits g c =
     let p = c.in_ok-planned.planned in
     let request = c.args.request.now in
-    subst (λ (gated : Gated). (stimulus : Rows) → request.stimulus ≡ Some stimulus → IsFor gated.netlist stimulus) (sym c.gated.ensures)
+    subst (λ (gated : Gated). (stimulus : Rows) → request.stimulus ≡ Some stimulus → IsFor gated.netlist stimulus) (sym c.written.ensures)
     (for_written request c.args.netlist.now c.hold_request.ensures c.requires p.hints (told p.plan) c.in_ok-planned.ensures.tried c.in_ok-planned.ensures.plan c.in-Ok.netlist c.in-Ok.ensures)
 
 pub returns-in-Ok-clause-writable : goal.returns-in-Ok-clause-writable
-returns-in-Ok-clause-writable g c = subst (λ (gated : Gated). AreWritable gated.plan.certificates) (sym c.gated.ensures) c.in_ok-planned.ensures.writable
+returns-in-Ok-clause-writable g c = subst (λ (gated : Gated). AreWritable gated.plan.certificates) (sym c.written.ensures) c.in_ok-planned.ensures.writable

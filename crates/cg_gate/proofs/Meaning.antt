@@ -157,10 +157,10 @@ module _ (request : RequestData) (says : Option Saying) (read : Circuit) (texts 
   abbrev delays : ℕ
   delays = length n.circuit.registers - n.own_registers
 
-  verilog_means : IfSome texts.verilog (VerilogMeans request.library request.test gives.told.machine read delays gives.written)
+  verilog_means : IfSome texts.verilog (VerilogMeans request gives.told.machine read delays gives.written)
   verilog_means =
-      means_asked (VerilogMeans request.library request.test gives.told.machine read delays gives.written) request.verilog texts.verilog (verilog w) gives.tells.gives.verilog
-      (text_means request.library request.test gives.told.machine read delays w is_writable.placeable shows)
+      means_asked (VerilogMeans request gives.told.machine read delays gives.written) request.verilog texts.verilog (verilog w) gives.tells.gives.verilog
+      (text_means request gives.told.machine read delays w is_writable.placeable shows)
 
   pub means : Headline request says read texts
   means = record {

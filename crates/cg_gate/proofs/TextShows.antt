@@ -3,11 +3,9 @@ use Rattle.std.proofs.Common.{◌≡◌, ℕ, Bool, true, false, List, [], ◌�
 use Rattle.std.specs.Prelude.{IfSome}
 use Rattle.std.specs.Option.{option_map}
 use Rattle.std.proofs.lemmas.Option.{slice_get-map}
-use Rattle.cg_cell.specs.Cell.{CellData}
 use Rattle.cg_gate_laws.proofs.LiftedShows.{same_ticks}
 use Rattle.cg_insert.specs.Insertion.{RisesAre, RisesFrom}
 use Rattle.cg_machine.specs.Machine.{MachineData}
-use Rattle.cg_net.specs.Names.{NetName}
 use Rattle.cg_net.proofs.TableLemmas.{mapped_at}
 use Rattle.cg_netlist.specs.Circuit.{Circuit, RegisterCell}
 use Rattle.cg_netlist.specs.History.{Moment, Tick, rises}
@@ -22,6 +20,7 @@ use Rattle.cg_verilog_text.proofs.SameHistories.{agree}
 use Rattle.cg_verilog_text.proofs.TextSays.{text_says}
 use Rattle.cg_gate.specs.Gating.{where_asked}
 use Rattle.cg_gate.specs.Headline.{ShowsAlways, ShowsSame, VerilogMeans}
+use Rattle.cg_gate.specs.Request.{RequestData}
 
 -- a netlist that is equal but for what Verilog does not keep
 module _ (c d : Circuit) (equal : AreVEqual c d) where
@@ -63,14 +62,15 @@ module _ (c d : Circuit) (equal : AreVEqual c d) where
       }
 
 -- the text of a netlist that shows what the original shows
-pub text_means : (library : List CellData) (test : Option NetName) (m : MachineData) (read : Circuit) (delays : ℕ) (c : Circuit) → IsPlaceable library c → ShowsAlways test m read delays c → VerilogMeans library test m read delays c (verilog c)
-text_means library test m read delays c placeable shows =
-    let says = text_says library c placeable in
+pub text_means : (request : RequestData) (m : MachineData) (read : Circuit) (delays : ℕ) (c : Circuit) → IsPlaceable request.library c → ShowsAlways request.test m read delays c → VerilogMeans request m read delays c (verilog c)
+text_means request m read delays c placeable shows =
+    let says = text_says request.library c placeable in
     let same = kept_v_equal c placeable.netlist.well_formed in
     record {
       said = kept_netlist c;
+      well_formed = (says.says).formed;
       says = says;
-      no_other = λ d other. no_two (verilog c) library (named c).clock d (kept_netlist c) other says;
+      no_other = λ d other. no_two (verilog c) request.library (named c).clock d (kept_netlist c) other says;
       same = same;
       shows = λ start wave bits starts waves long. shown c (kept_netlist c) same m read start _ wave _ (shows start wave bits starts waves long);
     }

@@ -4,7 +4,6 @@ use Rattle.std.specs.Prelude.{Some, IfSome}
 use Rattle.std.specs.Option.{option_map, option_to_list}
 use Rattle.cg_blif_text.specs.BlifText.{BlifText}
 use Rattle.cg_blif_text.specs.Canonical.{blif}
-use Rattle.cg_cell.specs.Cell.{CellData}
 use Rattle.cg_extract.specs.Lifted.{lifted, origins}
 use Rattle.cg_gate_laws.specs.Begun.{renamed}
 use Rattle.cg_gate_laws.specs.Kept.{KeepsParts}
@@ -71,15 +70,16 @@ ShowsAlways test m read delays c =
     length bits ≡ length wave
     → ShowsSame m read c start (replicate delays true) wave (with_bits test wave bits)
 
--- A Verilog text, read with these cells and with the written netlist's clock as the option, says one netlist and no other. This is
--- the written netlist, but for what Verilog does not keep, and shows what the original shows.
-pub record VerilogMeans (library : List CellData) (test : Option NetName) (m : MachineData) (read : Circuit) (delays : ℕ)
-    (written : Circuit) (text : List ℕ) : Type 0 where
+-- A Verilog text, read with the same library and with the written netlist's clock as the option, says one netlist and no other, which
+-- is well formed. This is the written netlist, but for what Verilog does not keep, and shows what the original shows.
+pub record VerilogMeans (request : RequestData) (m : MachineData) (read : Circuit) (delays : ℕ) (written : Circuit)
+    (text : List ℕ) : Type 0 where
   pub said : Circuit
-  pub says : VerilogText text library (option_map (net_name written.names) written.clock) said
-  pub no_other : (c : Circuit) → VerilogText text library (option_map (net_name written.names) written.clock) c → c ≡ said
+  pub well_formed : IsWellFormed said
+  pub says : VerilogText text request.library (option_map (net_name written.names) written.clock) said
+  pub no_other : (c : Circuit) → VerilogText text request.library (option_map (net_name written.names) written.clock) c → c ≡ said
   pub same : AreVEqual written said
-  pub shows : ShowsAlways test m read delays said
+  pub shows : ShowsAlways request.test m read delays said
 
 -- The texts of a netlist that was gated, and what they mean.
 pub record Headline (request : RequestData) (says : Option Saying) (read : Circuit) (texts : Texts) : Type 0 where
@@ -103,7 +103,7 @@ pub record Headline (request : RequestData) (says : Option Saying) (read : Circu
   pub shows : ShowsAlways request.test plan.machine read delays written
   -- the Verilog text, where it is asked for, is that of the written netlist, and the netlist that it says shows the same
   pub verilog : texts.verilog ≡ where_asked request.verilog (verilog written)
-  pub verilog_means : IfSome texts.verilog (VerilogMeans request.library request.test plan.machine read delays written)
+  pub verilog_means : IfSome texts.verilog (VerilogMeans request plan.machine read delays written)
   -- the hints were tried one after another on the machine of the original, to whose enables the original's gating cells are lifted,
   -- and each is inserted exactly where it is worth it on the machine of its turn; they are told with their outcomes, bits that are
   -- told of a refuted claim violate it, and there is a certificate for each register of each inserted hint, in order, with the

@@ -54,8 +54,8 @@ plan_machine-requires-in-Some g c =
     subst (λ (k : MachineData). AreZeroCounts k (record { zeros = zeros; rows = c.rows.result })) (sym c.requires.begun)
     (is_idle netlist request.prefix c.requires.may.start m few (untested request.library request.test netlist c.requires.may.lifts) c.in-Some.stimulus.now c.rows.ensures.stimulus (c.requires.may.played c.in-Some.stimulus.now some) counts.0 counts.1 zeros c.rows.result carried c.rows.ensures.count most)
 
-pub returns-clause-plan : goal.returns-clause-plan
-returns-clause-plan g c =
+pub returns-in-Ok-clause-plan : goal.returns-in-Ok-clause-plan
+returns-in-Ok-clause-plan g c =
     let request = c.args.request.now in
     let netlist = c.args.netlist.now in
     let m : MachineData = begun_of request netlist in
@@ -69,8 +69,8 @@ returns-clause-plan g c =
     let F : MachineData → Option ZeroCounts → Type 0 = λ k i. IfOk c.plan_machine-in-Some.result (λ plan. IsPlan request.library request.settings i k (told plan)) in
     subst (F m) (same ∙ ap (zero_counts_of netlist request.prefix m) (sym some)) (subst (λ k. F k (Some (record { zeros = zeros; rows = c.rows.result }))) c.requires.begun c.plan_machine-in-Some.ensures.plan)
 
-pub returns-clause-fault : goal.returns-clause-fault
-returns-clause-fault g c =
+pub returns-in-Ok-clause-fault : goal.returns-in-Ok-clause-fault
+returns-in-Ok-clause-fault g c =
     let request = c.args.request.now in
     let netlist = c.args.netlist.now in
     let m : MachineData = begun_of request netlist in

@@ -105,11 +105,15 @@ may_watch values stimulus = is_none values.watch || is_some stimulus
 abbrev pub may_hint : Values → Bool
 may_hint values = is_none values.hints || is_none values.test
 
--- whether options are given that `gate` alone has; and options of any mode
+-- whether options are given that `gate` alone has, those that name a file among them; and options of any mode
+abbrev pub has_file_options : Values → Bool
+has_file_options values =
+    is_some values.stim || is_some values.hints || is_some values.proof || is_some values.report || is_some values.verilog
+
 abbrev pub has_gate_options : Values → Bool
 has_gate_options values =
-    is_some values.stim || is_some values.hints || is_some values.proof || is_some values.report || is_some values.verilog
-    || is_some values.min || is_some values.width || is_some values.rounds || is_some values.prefix || is_some values.test
+    has_file_options values || is_some values.min || is_some values.width || is_some values.rounds || is_some values.prefix
+    || is_some values.test
 
 abbrev pub has_options : Values → Bool
 has_options values =

@@ -4,8 +4,8 @@ ghost use Rattle.std.specs.Prelude.{◌≡◌, ◌++◌, ◌<◌, ◌^◌, [], S
 ghost use Rattle.std.specs.List.{list_any, position_from};
 ghost use Rattle.std.specs.Str.{bytes_eq};
 ghost use Rattle.std.specs.Option.{option_map, option_to_list};
-ghost use Rattle.cg_command_line.specs.Options.{are_different, asked_in, default_prefix, gate_options, has_gate_options};
-ghost use Rattle.cg_command_line.specs.Options.{has_options, is_apart, may_hint, may_watch};
+ghost use Rattle.cg_command_line.specs.Options.{are_different, asked_in, default_prefix, gate_options, has_file_options};
+ghost use Rattle.cg_command_line.specs.Options.{has_gate_options, has_options, is_apart, may_hint, may_watch};
 ghost use Rattle.cg_command_line.specs.Options.{is_named, no_options, number_in, number_or, option_files, settings_in, sim_options};
 ghost use Rattle.cg_command_line.specs.Options.{stimulus_in, watch_in};
 ghost use Rattle.cg_command_line.specs.Seen.{values_of};
@@ -143,16 +143,23 @@ pub fn sim_options(
 pub fn has_gate_options(given: &OptionWords<'_>) -> bool
     ensures { result ≡ has_gate_options (values_of given.now) }
 {
-    given.stim.is_some()
-        || given.hints.is_some()
-        || given.proof.is_some()
-        || given.report.is_some()
-        || given.verilog.is_some()
+    has_file_options(given)
         || given.min.is_some()
         || given.width.is_some()
         || given.rounds.is_some()
         || given.prefix.is_some()
         || given.test.is_some()
+}
+
+/// Whether options are given that name a file of `gate` alone.
+fn has_file_options(given: &OptionWords<'_>) -> bool
+    ensures { result ≡ has_file_options (values_of given.now) }
+{
+    given.stim.is_some()
+        || given.hints.is_some()
+        || given.proof.is_some()
+        || given.report.is_some()
+        || given.verilog.is_some()
 }
 
 /// Whether options of any mode are given.

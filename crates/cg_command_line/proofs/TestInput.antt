@@ -13,7 +13,7 @@ use Rattle.cg_command_line.specs.CommandLine.{Values, command_line, values_in}
 use Rattle.cg_command_line.specs.Jobs.{JobWords, demo_job, gate_files, gate_job, job_in, job_of, job_of_options, job_with, job_without}
 use Rattle.cg_command_line.specs.Jobs.{lrat_job, named, sim_by_option, sim_files, sim_job, sim_with}
 use Rattle.cg_command_line.specs.Options.{NamesTest, are_different, asked_in, default_prefix, gate_options, gate_options_with}
-use Rattle.cg_command_line.specs.Options.{has_gate_options, has_options, is_apart, is_named, may_watch, no_options, number_in, number_or}
+use Rattle.cg_command_line.specs.Options.{has_gate_options, has_options, is_apart, is_named, may_hint, may_watch, no_options, number_in, number_or}
 use Rattle.cg_command_line.specs.Options.{option_files, settings_in, settings_with, sim_options, sim_options_with, stimulus_in, watch_in}
 use Rattle.cg_command_line.specs.declared.job.Mode.{Mode}
 use Rattle.cg_command_line.specs.declared.job.Mode.TheVariants.{Demo, Gate, Lrat, Sim}
@@ -45,11 +45,11 @@ settings_name test None width rounds = tt
 
 gate_names : (values : Values) (settings : Option Settings) (watch : Option (Option ℕ)) (stimulus : Option (Option StimulusForm)) → IfSome settings (λ settings. settings.test ≡ is_some values.test) → IfSome (gate_options_with values settings watch stimulus) NamesTest
 gate_names values (Some settings) (Some watch) (Some stimulus) asked =
-    if_taken NamesTest (is_named values.clock && (is_named values.prefix && (is_named values.test && (is_apart (unwrap_or values.prefix default_prefix) values.test && may_watch values stimulus))))
+    if_taken NamesTest (is_named values.clock && (is_named values.prefix && (is_named values.test && (is_apart (unwrap_or values.prefix default_prefix) values.test && (may_watch values stimulus && may_hint values)))))
     (Some (record { clock = values.clock; prefix = unwrap_or values.prefix default_prefix; test = values.test; settings = settings; watch = watch; asked = asked_in values stimulus }))
     (λ taken. record {
       asked = asked;
-      apart = fourth (is_named values.clock) (is_named values.prefix) (is_named values.test) (is_apart (unwrap_or values.prefix default_prefix) values.test) (may_watch values stimulus) taken;
+      apart = fourth (is_named values.clock) (is_named values.prefix) (is_named values.test) (is_apart (unwrap_or values.prefix default_prefix) values.test) (may_watch values stimulus && may_hint values) taken;
     })
 gate_names values (Some settings) (Some watch) None asked = tt
 gate_names values (Some settings) None stimulus asked = tt

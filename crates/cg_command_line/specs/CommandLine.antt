@@ -23,8 +23,8 @@ with_options app (name ∷ names) = with_options (with_option app name) names
 
 abbrev pub option_names : List Text
 option_names =
-    codes "stim" ∷ codes "vcd" ∷ codes "random" ∷ codes "proof" ∷ codes "report" ∷ codes "verilog" ∷ codes "min" ∷ codes "width" ∷ codes "rounds"
-    ∷ codes "clock" ∷ codes "prefix" ∷ codes "test" ∷ codes "watch" ∷ []
+    codes "stim" ∷ codes "vcd" ∷ codes "random" ∷ codes "hints" ∷ codes "proof" ∷ codes "report" ∷ codes "verilog" ∷ codes "min" ∷ codes "width"
+    ∷ codes "rounds" ∷ codes "clock" ∷ codes "prefix" ∷ codes "test" ∷ codes "watch" ∷ []
 
 abbrev pub command_line : App
 command_line = with_options (with_rule (with_rule (new_app (codes "clockgate")) mode_rule) files_rule) option_names
@@ -34,6 +34,7 @@ pub record Values : Type 0 where
   pub stim : Option Text
   pub vcd : Option Text
   pub random : Option Text
+  pub hints : Option Text
   pub proof : Option Text
   pub report : Option Text
   pub verilog : Option Text
@@ -51,6 +52,7 @@ values_in rows = record {
   stim = first_of (codes "stim") rows;
   vcd = first_of (codes "vcd") rows;
   random = first_of (codes "random") rows;
+  hints = first_of (codes "hints") rows;
   proof = first_of (codes "proof") rows;
   report = first_of (codes "report") rows;
   verilog = first_of (codes "verilog") rows;

@@ -34,12 +34,12 @@ named role name = record { role = role; name = name }
 abbrev pub job_of_options : Mode → Files → Option Options → Option JobWords
 job_of_options mode files options = option_map (λ options. record { mode = mode; files = files; options = options }) options
 
--- `gate LIB NETLIST OUT` with `--stim F`, `--vcd F` or `--random N`, `--proof F`, `--report F`, `--verilog F`, `--min N`, `--width N`,
--- `--rounds N`, `--clock NAME`, `--prefix P`, `--test NAME` and `--watch NAME`, where all files are different
+-- `gate LIB NETLIST OUT` with `--stim F`, `--vcd F` or `--random N`, `--hints F`, `--proof F`, `--report F`, `--verilog F`, `--min N`,
+-- `--width N`, `--rounds N`, `--clock NAME`, `--prefix P`, `--test NAME` and `--watch NAME`, where all files are different
 abbrev pub gate_files : Text → Text → Text → Values → Files
 gate_files library netlist out values =
     named roles.Library library ∷ named roles.Netlist netlist ∷ named roles.Stimulus (unwrap_or values.stim (unwrap_or values.vcd []))
-    ∷ named roles.Out out ∷ named roles.Proof (unwrap_or values.proof []) ∷ named roles.Report (unwrap_or values.report [])
+    ∷ named roles.Hints (unwrap_or values.hints []) ∷ named roles.Out out ∷ named roles.Proof (unwrap_or values.proof []) ∷ named roles.Report (unwrap_or values.report [])
     ∷ named roles.Verilog (unwrap_or values.verilog []) ∷ []
 
 abbrev pub gate_job : List Text → List Text → Values → Option JobWords

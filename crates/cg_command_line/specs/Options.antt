@@ -71,8 +71,8 @@ are_different (name ∷ names) = not (list_any (λ other. bytes_eq other name) n
 -- the files that options name
 abbrev pub option_files : Values → List Text
 option_files values =
-    option_to_list values.stim ++ option_to_list values.vcd ++ option_to_list values.proof ++ option_to_list values.report
-    ++ option_to_list values.verilog
+    option_to_list values.stim ++ option_to_list values.vcd ++ option_to_list values.hints ++ option_to_list values.proof
+    ++ option_to_list values.report ++ option_to_list values.verilog
 
 -- the stimulus that is asked for, if any: a stimulus text, a Value Change Dump, or so many rows by chance; there is one at most
 abbrev pub stimulus_of : Option Text → Option Text → Option Text → Option (Option StimulusForm)
@@ -91,6 +91,7 @@ stimulus_in values = stimulus_of values.stim values.vcd values.random
 abbrev pub asked_in : Values → Option StimulusForm → Asked
 asked_in values stimulus = record {
   stimulus = stimulus;
+  hints = is_some values.hints;
   proof = is_some values.proof;
   report = is_some values.report;
   verilog = is_some values.verilog;
@@ -100,9 +101,14 @@ asked_in values stimulus = record {
 abbrev pub may_watch : Values → Option StimulusForm → Bool
 may_watch values stimulus = is_none values.watch || is_some stimulus
 
+-- there are no hints with a test input
+abbrev pub may_hint : Values → Bool
+may_hint values = is_none values.hints || is_none values.test
+
 -- whether options are given that `gate` alone has, those that name a file among them; and options of any mode
 abbrev pub has_file_options : Values → Bool
-has_file_options values = is_some values.stim || is_some values.proof || is_some values.report || is_some values.verilog
+has_file_options values =
+    is_some values.stim || is_some values.hints || is_some values.proof || is_some values.report || is_some values.verilog
 
 abbrev pub has_gate_options : Values → Bool
 has_gate_options values =
@@ -122,17 +128,18 @@ no_options =
       test = None;
       settings = default_settings;
       watch = None;
-      asked = record { stimulus = None; proof = false; report = false; verilog = false };
+      asked = record { stimulus = None; hints = false; proof = false; report = false; verilog = false };
     }
 
 -- What the options of `gate` say. The values of `--clock`, `--prefix` and `--test` are names, that of `--test` does not begin
--- with the prefix, whether this is given or is the default. There is one stimulus at most, and a watcher only with a stimulus.
+-- with the prefix, whether this is given or is the default. There is one stimulus at most, a watcher only with a stimulus, and no hints
+-- with a test input.
 abbrev pub gate_options_with : Values → Option Settings → Option (Option ℕ) → Option (Option StimulusForm) → Option Options
 gate_options_with values (Some settings) (Some watch) (Some stimulus) =
     if is_named values.clock
     && (is_named values.prefix
     && (is_named values.test
-    && (is_apart (unwrap_or values.prefix default_prefix) values.test && may_watch values stimulus)))
+    && (is_apart (unwrap_or values.prefix default_prefix) values.test && (may_watch values stimulus && may_hint values))))
     then Some
     (record {
       clock = values.clock;

@@ -8,6 +8,7 @@ values_of given = record {
   stim = option_map (λ word. word.now) given.stim;
   vcd = option_map (λ word. word.now) given.vcd;
   random = option_map (λ word. word.now) given.random;
+  hints = option_map (λ word. word.now) given.hints;
   proof = option_map (λ word. word.now) given.proof;
   report = option_map (λ word. word.now) given.report;
   verilog = option_map (λ word. word.now) given.verilog;

@@ -15,7 +15,8 @@ pub fn command_line<'a>(alloc: Global) -> Result<Command<'a>, AllocError>
     let stim = with_option(alloc, files, "stim")?;
     let vcd = with_option(alloc, stim, "vcd")?;
     let random = with_option(alloc, vcd, "random")?;
-    let proof = with_option(alloc, random, "proof")?;
+    let hints = with_option(alloc, random, "hints")?;
+    let proof = with_option(alloc, hints, "proof")?;
     let report = with_option(alloc, proof, "report")?;
     let verilog = with_option(alloc, report, "verilog")?;
     let min = with_option(alloc, verilog, "min")?;

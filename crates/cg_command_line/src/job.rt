@@ -164,6 +164,7 @@ fn gate_files<'a>(
                 Role::Stimulus,
                 given.stim.unwrap_or(given.vcd.unwrap_or("")),
             ),
+            named(Role::Hints, given.hints.unwrap_or("")),
             named(Role::Out, out),
             named(Role::Proof, given.proof.unwrap_or("")),
             named(Role::Report, given.report.unwrap_or("")),

@@ -5,7 +5,7 @@ ghost use Rattle.std.specs.List.{list_any, position_from};
 ghost use Rattle.std.specs.Str.{bytes_eq};
 ghost use Rattle.std.specs.Option.{option_map, option_to_list};
 ghost use Rattle.cg_command_line.specs.Options.{are_different, asked_in, default_prefix, gate_options, has_file_options};
-ghost use Rattle.cg_command_line.specs.Options.{has_gate_options, has_options, is_apart, may_watch};
+ghost use Rattle.cg_command_line.specs.Options.{has_gate_options, has_options, is_apart, may_hint, may_watch};
 ghost use Rattle.cg_command_line.specs.Options.{is_named, no_options, number_in, number_or, option_files, settings_in, sim_options};
 ghost use Rattle.cg_command_line.specs.Options.{stimulus_in, watch_in};
 ghost use Rattle.cg_command_line.specs.Seen.{values_of};
@@ -24,6 +24,7 @@ use std::alloc::{AllocError, Global};
 pub struct Asked {
     /// The stimulus, where there is to be one.
     pub stimulus: Option<StimulusForm>,
+    pub hints: bool,
     pub proof: bool,
     pub report: bool,
     pub verilog: bool,
@@ -68,6 +69,7 @@ pub fn no_options(alloc: Global) -> Result<Options, AllocError>
         watch: None,
         asked: Asked {
             stimulus: None,
+            hints: false,
             proof: false,
             report: false,
             verilog: false,
@@ -98,7 +100,7 @@ pub fn gate_options(
     if !is_named(given.test) || !is_apart(given.test, given.prefix) {
         return Ok(None);
     }
-    if !may_watch(given, stimulus) {
+    if !may_watch(given, stimulus) || !may_hint(given) {
         return Ok(None);
     }
     Ok(Some(Options {
@@ -154,6 +156,7 @@ fn has_file_options(given: &OptionWords<'_>) -> bool
     ensures { result ≡ has_file_options (values_of given.now) }
 {
     given.stim.is_some()
+        || given.hints.is_some()
         || given.proof.is_some()
         || given.report.is_some()
         || given.verilog.is_some()
@@ -175,6 +178,7 @@ fn asked_for(given: &OptionWords<'_>, stimulus: Option<StimulusForm>) -> Asked
 {
     Asked {
         stimulus,
+        hints: given.hints.is_some(),
         proof: given.proof.is_some(),
         report: given.report.is_some(),
         verilog: given.verilog.is_some(),
@@ -209,6 +213,13 @@ fn may_watch(given: &OptionWords<'_>, stimulus: Option<StimulusForm>) -> bool
     ensures { result ≡ may_watch (values_of given.now) stimulus }
 {
     given.watch.is_none() || stimulus.is_some()
+}
+
+/// Whether there are hints only without a test input.
+fn may_hint(given: &OptionWords<'_>) -> bool
+    ensures { result ≡ may_hint (values_of given.now) }
+{
+    given.hints.is_none() || given.test.is_none()
 }
 
 fn settings(given: &OptionWords<'_>) -> Option<Settings>
@@ -323,6 +334,7 @@ pub fn push_files<'a>(files: &mut Vec<&'a str>, given: &OptionWords<'a>) -> Resu
 {
     push_file(files, given.stim)?;
     push_file(files, given.vcd)?;
+    push_file(files, given.hints)?;
     push_file(files, given.proof)?;
     push_file(files, given.report)?;
     push_file(files, given.verilog)

@@ -7,7 +7,7 @@
 //! The modules:
 //!
 //! - [`refused`]: gating cells that are not lifted.
-//! - `number`: the numbers that nets get, and those that they had.
+//! - [`number`]: the numbers that nets get, and those that they had.
 //! - `strip`: the netlist without its gating cells: a copy where it has none, and else told to a builder.
 //! - `extract`: the machine, into which gating cells are taken by depth.
 //! - `laws`: what is proved of that machine.
@@ -15,6 +15,6 @@
 
 pub mod extract;
 pub mod laws;
-mod number;
+pub mod number;
 pub mod refused;
 mod strip;

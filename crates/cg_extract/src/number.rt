@@ -12,7 +12,7 @@ use cg_netlist::netlist::Netlist;
 use std::alloc::{AllocError, Global};
 
 /// For each net of the machine the net of the netlist that it stands for, and nothing for an added one.
-pub(crate) fn origins(
+pub fn origins(
     alloc: Global,
     netlist: &Netlist,
     machine: &Machine,
@@ -29,7 +29,7 @@ pub(crate) fn origins(
 }
 
 /// The number of a net that is kept: the outputs of gating cells stand side by side in net order, and those behind them move up.
-pub(crate) fn number(netlist: &Netlist, net: NetId) -> NetId
+pub fn number(netlist: &Netlist, net: NetId) -> NetId
     requires { is_in (kept_nets netlist.now) net ≡ true }
     ensures { result ≡ number_of netlist.now net }
 {

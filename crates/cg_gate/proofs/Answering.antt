@@ -6,6 +6,7 @@ use Rattle.cg_gate_laws.specs.Gated.{gated_by}
 use Rattle.cg_netlist.specs.Circuit.{Circuit}
 use Rattle.cg_netlist.specs.declared.fault.AddFault.{AddFault}
 use Rattle.cg_netlist.specs.declared.fault.AddFault.TheVariants.{Limit as Passed, NoMemory}
+use Rattle.cg_gate.specs.declared.hinting.TriedHints.{TriedHints}
 use Rattle.cg_plan_laws.specs.Reported.{PlanMayFail, ReportedPlan}
 use Rattle.cg_plan_text.specs.declared.summary.Played.{Played}
 use Rattle.cg_stimulus.specs.Inputs.{Rows}
@@ -51,9 +52,9 @@ unsaid (Some says) written = refl
 pub unplayed : (says : Option Saying) (stimulus : Option Rows) (read written : Circuit) → stimulus ≡ None → IsWhatPlayed says stimulus read written (record { edges = None; watched = None })
 unplayed says stimulus read written none = subst (λ (s : Option Rows). IsWhatPlayed says s read written (record { edges = None; watched = None })) (sym none) (record { edges = refl; line = unsaid says written })
 
-module _ (request : RequestData) (says : Option Saying) (read written : Circuit) (told : ReportedPlan) (gated : IsWritten (gating_of request read) read told written) where
-  pub gives_all : (texts : Texts) → TellsGated request says read written told texts → GivesGated request says read texts
-  gives_all texts tells = record { told = told; written = written; gated = gated; tells = tells }
+module _ (request : RequestData) (says : Option Saying) (read written : Circuit) (hints : TriedHints) (told : ReportedPlan) (gated : IsWritten (gating_of request read) read hints told written) where
+  pub gives_all : (texts : Texts) → TellsGated request says read written hints told texts → GivesGated request says read texts
+  gives_all texts tells = record { hints = hints; told = told; written = written; gated = gated; tells = tells }
 
-  pub means_all : IsProper request → MayGate request read → (texts : Texts) → TellsGated request says read written told texts → Headline request says read texts
+  pub means_all : IsProper request → MayGate request read → (texts : Texts) → TellsGated request says read written hints told texts → Headline request says read texts
   means_all proper may texts tells = gated_means request says read texts proper may (gives_all texts tells)

@@ -9,7 +9,6 @@ use Rattle.std.proofs.lemmas.List.{length-map}
 use Rattle.cg_extract.proofs.Kept.{kept_within}
 use Rattle.cg_extract.proofs.LiftedMachine.{lifted_is_small}
 use Rattle.cg_extract.proofs.LiftedRun.{lifted_is_run}
-use Rattle.cg_extract.proofs.Lifts.{lifting_lifts}
 use Rattle.cg_extract.proofs.Origins.{origins_long}
 use Rattle.cg_extract.specs.Lifted.{CanExtract, HasNoTests, kept_nets, lifted, number_of, origins}
 use Rattle.cg_gate.proofs.LiftedInputs.{lifted_inputs}
@@ -19,9 +18,9 @@ use Rattle.cg_machine.specs.Machine.{MachineData, next, step, values}
 use Rattle.cg_machine.specs.Run.{state_now, states_from}
 use Rattle.cg_netlist.specs.Circuit.{Circuit, data_inputs}
 use Rattle.cg_net.specs.NetSets.{is_in}
+use Rattle.cg_netlist.specs.Netlist.{IsNetlist}
 use Rattle.cg_netlist.specs.History.{AreTicks, LawfulFrom, Moment, Tick, gater_bit}
 use Rattle.cg_netlist.specs.Moment.{bit, zip_with}
-use Rattle.cg_net.specs.Names.{net_name}
 use Rattle.cg_netlist.proofs.Each.{from_recursion}
 use Rattle.cg_report.specs.Zeros.{low_moments, zeros_of}
 use Rattle.cg_stimulus.specs.Inputs.{IsFor, IsStimulus, Rows}
@@ -49,6 +48,11 @@ all_within [] zero most within = tt
 all_within [] (suc n) most within = (tt, all_within [] n most within)
 all_within (x ∷ nets) n most within = (within x (or_left (nat_eq x x) (is_in nets x) (eq-eqb x x refl)), all_within nets n most (λ y among. within y (or_right (nat_eq y x) (is_in nets y) among)))
 
+pub origins_within : (c : Circuit) → IsNetlist c → (n : MachineData) → All (λ (o : Option ℕ). IfSome o (λ net. net < length c.names)) (origins c n)
+origins_within c whole n =
+    from_recursion (λ (o : Option ℕ). IfSome o (λ net. net < length c.names)) (origins c n)
+    (all_within (kept_nets c) (length n.circuit.names - length (kept_nets c)) (length c.names) (λ x among. kept_within c whole x among))
+
 -- one moment more
 more_lows : (nets : List Bool) (lows : List (List Bool)) (k : ℕ) → zeros_at (nets ∷ lows) k ≡ cond (not (bit nets k)) 1 0 + zeros_at lows k
 more_lows nets lows k = sum_by-cons (λ (v : List Bool). cond (not (bit v k)) 1 0) nets lows
@@ -62,15 +66,6 @@ module _ (c : Circuit) (prefix : List ℕ) (can : CanExtract c prefix) where
 
   abbrev width : ℕ
   width = length (data_inputs c)
-
-  abbrev added : ℕ
-  added = length (lifted c prefix).circuit.names - length (kept_nets c)
-
-  few : length (kept_nets c) ≤ length (lifted c prefix).circuit.names
-  few = let long = length-map (kept_nets c) (net_name c.names) in let more = (lifting_lifts c prefix can).extends.names in omega (arith, long, more)
-
-  pub come_within : All (λ (o : Option ℕ). IfSome o (λ net. net < length c.names)) (origins c (lifted c prefix))
-  come_within = from_recursion (λ (o : Option ℕ). IfSome o (λ net. net < length c.names)) (origins c m) (all_within (kept_nets c) added (length c.names) (λ x among. kept_within c can.netlist x among))
 
   step_long : (s inputs : List Bool) → length (step m s inputs) ≡ length c.registers
   step_long s inputs = length-each m (next m (values m s inputs) s) ∙ (lifted_is_small c prefix can).1
@@ -107,23 +102,29 @@ module _ (c : Circuit) (prefix : List ℕ) (can : CanExtract c prefix) where
         ∙ (ap (λ n. cond (not (bit now.nets x)) 1 0 + n) (ap (λ t. zeros_at (lows_from m t rows) k) steps ∙ tail)
         ∙ sym (more_moments now (low_moments history) x)))
 
-  module _ (untested : HasNoTests c) (stimulus : Rows) (is : IsStimulus stimulus) (for' : IsFor c stimulus) (history : List Moment) (played : IsPlayed c stimulus.rows history) where
-    -- the counts of the rows are those of the history on which the rows are played
-    pub counts : (zero_counts c prefix stimulus).zeros ≡ map (zeros_by (λ net. zeros_of net (low_moments history))) (origins c (lifted c prefix))
-    counts =
-        let start : List Bool = played_start c in
-        let waves = wave_is c stimulus is for' in
-        let states : map (λ (now : Moment). now.state) history ≡ states_from m None start (played_wave c stimulus.rows) = (lifted_is_run c prefix can untested start (played_wave c stimulus.rows) history (start_is c) waves played).0 in
-        same_counts (λ net. zeros_at (lows_from m start stimulus.rows) (number_of c net)) (λ net. zeros_of net (low_moments history)) (kept_nets c) added
-        (λ x kept. lows_count x kept start None None start [] stimulus.rows history (λ tick low. refl) (start_is c) waves.0 played states)
+  -- of a machine of which the nets of the netlist's machine are the first ones
+  module _ (n : MachineData) (few : length (kept_nets c) ≤ length n.circuit.names) where
+    abbrev added : ℕ
+    added = length n.circuit.names - length (kept_nets c)
 
-    -- as they are handed to the plan
-    module _ (zeros : List ℕ) (rows : ℕ) (carried : zeros ≡ map (zeros_by (λ net. zeros_of net (low_moments history))) (origins c (lifted c prefix))) (long : rows ≡ length stimulus.rows) where
-      pub zero_counts_same : ◌≡◌ {A = Option ZeroCounts} (Some (record { zeros = zeros; rows = rows })) (zero_counts_of c prefix (Some stimulus))
-      zero_counts_same = ap (λ (z : List ℕ). Some (record { zeros = z; rows = rows })) (carried ∙ sym counts) ∙ ap (λ (n : ℕ). Some (record { zeros = (zero_counts c prefix stimulus).zeros; rows = n })) long
+    module _ (untested : HasNoTests c) (stimulus : Rows) (is : IsStimulus stimulus) (for' : IsFor c stimulus) (history : List Moment) (played : IsPlayed c stimulus.rows history) where
+      -- the counts of the rows are those of the history on which the rows are played
+      pub counts : (zero_counts c prefix n stimulus).zeros ≡ map (zeros_by (λ net. zeros_of net (low_moments history))) (origins c n)
+      counts =
+          let start : List Bool = played_start c in
+          let waves = wave_is c stimulus is for' in
+          let states : map (λ (now : Moment). now.state) history ≡ states_from m None start (played_wave c stimulus.rows) = (lifted_is_run c prefix can untested start (played_wave c stimulus.rows) history (start_is c) waves played).0 in
+          same_counts (λ net. zeros_at (lows_from m start stimulus.rows) (number_of c net)) (λ net. zeros_of net (low_moments history)) (kept_nets c) added
+          (λ x kept. lows_count x kept start None None start [] stimulus.rows history (λ tick low. refl) (start_is c) waves.0 played states)
 
-      pub is_idle : All (λ n. n ≤ rows) zeros → AreZeroCounts (lifted c prefix) (record { zeros = zeros; rows = rows })
-      is_idle most = record {
-        count = ap length carried ∙ (length-map (origins c m) (zeros_by (λ net. zeros_of net (low_moments history))) ∙ origins_long c m few);
-        most = most;
-      }
+      -- as they are handed to the plan
+      module _ (zeros : List ℕ) (rows : ℕ) (carried : zeros ≡ map (zeros_by (λ net. zeros_of net (low_moments history))) (origins c n)) (long : rows ≡ length stimulus.rows) where
+        pub zero_counts_same : ◌≡◌ {A = Option ZeroCounts} (Some (record { zeros = zeros; rows = rows })) (zero_counts_of c prefix n (Some stimulus))
+        zero_counts_same =
+            ap (λ (z : List ℕ). Some (record { zeros = z; rows = rows })) (carried ∙ sym counts) ∙ ap (λ (k : ℕ). Some (record { zeros = (zero_counts c prefix n stimulus).zeros; rows = k })) long
+
+        pub is_idle : All (λ k. k ≤ rows) zeros → AreZeroCounts n (record { zeros = zeros; rows = rows })
+        is_idle most = record {
+          count = ap length carried ∙ (length-map (origins c n) (zeros_by (λ net. zeros_of net (low_moments history))) ∙ origins_long c n few);
+          most = most;
+        }

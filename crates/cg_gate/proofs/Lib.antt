@@ -3,6 +3,7 @@ mod Carried
 mod Counted
 mod Deserved
 mod Gated
+mod Hinted
 mod Leads
 mod LiftedInputs
 mod Loading

@@ -3,9 +3,13 @@ use Rattle.std.proofs.Common.{◌≡◌, ℕ, zero, suc, ◌+◌, Bool, true, fa
 use Rattle.std.proofs.Common.{slice_get, slice_index_or, is_some, Option, None, Some, refl, sym, ◌∙◌, ap, subst, arith}
 use Rattle.std.proofs.lemmas.Option.{none-some, same_Some}
 use Rattle.cg_cell.specs.Cell.{CellData}
-use Rattle.cg_extract.proofs.LiftedMachine.{lifted_is_machine}
 use Rattle.cg_extract.specs.Lifted.{lifted}
+use Rattle.cg_gate_laws.proofs.BegunSafe.{begun_safe}
+use Rattle.cg_hint_laws.specs.Laws.{IsSafe}
+use Rattle.cg_stage_list_laws.specs.Literals.{ZeroCounts}
+use Rattle.cg_gate.proofs.Gated.{told_left}
 use Rattle.cg_gate.proofs.LiftedInputs.{lifted_inputs}
+use Rattle.cg_gate.specs.ZeroCounting.{zero_counts_of}
 use Rattle.cg_insert.specs.Insert.{own_tick}
 use Rattle.cg_insert.specs.Insertion.{RisesAre}
 use Rattle.cg_machine.specs.Machine.{MachineData, enable_of, load, values}
@@ -71,18 +75,25 @@ pub test_input_loads : TestInputLoads
 test_input_loads request says read texts h may tested start wave bits history starts waves long lawful = go request.test refl tested
   where
     m : MachineData
-    m = lifted read request.prefix
+    m = h.hints.machine
+
+    counts : Option ZeroCounts
+    counts = zero_counts_of read request.prefix m request.stimulus
 
     plan : Plan
-    plan = plan_of request.library request.settings (gating_of request read).counts m
+    plan = plan_of request.library request.settings counts m
 
     machine_is : plan.machine ≡ h.plan.machine
-    machine_is = one_end plan.turns m plan.machine h.plan.machine (plan_leads request.library request.settings m (gating_of request read).counts) (subst (λ turns. Lead turns m h.plan.machine) h.planned h.lead)
+    machine_is = one_end plan.turns m plan.machine h.plan.machine (plan_leads request.library request.settings m counts) (subst (λ turns. Lead turns m h.plan.machine) h.planned h.lead)
+
+    safe : IsSafe request.library (lifted read request.prefix) m
+    safe = subst (IsSafe request.library (lifted read request.prefix)) (sym (told_left request read h.hints h.tried)) (begun_safe (gating_of request read) read may.start may.hints)
 
     same : length (data_inputs h.plan.machine.circuit) ≡ length (data_inputs read)
     same =
         ap (λ (n : MachineData). length (data_inputs n.circuit)) (sym machine_is)
-        ∙ (ap length (plans_safe request.library request.settings (gating_of request read).counts m (lifted_is_machine read request.prefix may.start)).1.inputs ∙ lifted_inputs read request.prefix may.start)
+        ∙ (ap length (plans_safe request.library request.settings counts m safe.is_machine).1.inputs
+        ∙ (ap length safe.same.inputs ∙ lifted_inputs read request.prefix may.start))
 
     shown : ShowsSame h.plan.machine read h.written start (replicate h.delays true) wave (with_bits request.test wave bits)
     shown = h.shows start wave bits starts waves long

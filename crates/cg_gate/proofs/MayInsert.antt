@@ -34,7 +34,7 @@ module _ (request : RequestData) (c : Circuit) (proper : IsProper request) (may 
 
   -- no name that is made of the prefix is a free one
   apart : (name : List ℕ) → IsFree c request.prefix name → (k : ℕ) → added_name n k ≢ name
-  apart name free k same = both_ways (begins request.prefix name) free.apart (ap (begins request.prefix) (sym same ∙ ap (λ p. p ++ decimal k) (names_planned by c may.start).1) ∙ begun request.prefix (decimal k))
+  apart name free k same = both_ways (begins request.prefix name) free.apart (ap (begins request.prefix) (sym same ∙ ap (λ p. p ++ decimal k) (names_planned by c may.start may.hints).1) ∙ begun request.prefix (decimal k))
 
   none_added : (name : List ℕ) → IsFree c request.prefix name → (ks : List ℕ) → AllByRecursion (λ (other : List ℕ). other ≢ name) (map (added_name n) ks)
   none_added name free [] = tt
@@ -52,8 +52,8 @@ module _ (request : RequestData) (c : Circuit) (proper : IsProper request) (may 
   new name is =
       let free = may.free name is in
       let P : List (List ℕ) → Type 0 = λ names. AllByRecursion (λ (other : List ℕ). other ≢ name) names in
-      let own : P (own_netlist n).names = subst P (ap (λ (d : Circuit). d.names) (sym (keeps_netlist by c may.start))) (kept_names name free) in
-      let all : P n.circuit.names = subst P (sym (names_planned by c may.start).0) (each_together (λ other. other ≢ name) (own_netlist n).names (map (added_name n) (range_with_len 0 (additions n))) own (none_added name free (range_with_len 0 (additions n)))) in
+      let own : P (own_netlist n).names = subst P (ap (λ (d : Circuit). d.names) (sym (keeps_netlist by c may.start may.hints))) (kept_names name free) in
+      let all : P n.circuit.names = subst P (sym (names_planned by c may.start may.hints).0) (each_together (λ other. other ≢ name) (own_netlist n).names (map (added_name n) (range_with_len 0 (additions n))) own (none_added name free (range_with_len 0 (additions n)))) in
       from_recursion (λ other. other ≢ name) (n.circuit.names ++ gate_names n) (each_together (λ other. other ≢ name) n.circuit.names (gate_names n) all (none_added name free (range_with_len (additions n) (length (enables_of n)))))
 
   named : (test : Option (List ℕ)) → ((name : List ℕ) → test ≡ Some name → IsTrue (is_name name)) → AllByRecursion (λ name. IsTrue (is_name name)) (option_to_list test)
@@ -69,4 +69,6 @@ module _ (request : RequestData) (c : Circuit) (proper : IsProper request) (may 
     tested = may.tested;
     named = from_recursion (λ name. IsTrue (is_name name)) (option_to_list request.test) (named request.test proper.named);
     new = new;
+    hints = may.hints;
+    untested = may.untested;
   }

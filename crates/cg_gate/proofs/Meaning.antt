@@ -1,10 +1,16 @@
 -- What gating gives means what the headline says.
-use Rattle.std.proofs.Common.{◌≡◌, ◌+◌, ◌-◌, ℕ, Bool, true, List, ◌++◌, map, length, Option, None, Some, refl, sym, ◌∙◌, ap, subst}
+use Rattle.std.proofs.Common.{◌≡◌, ◌+◌, ◌-◌, ◌≤◌, ℕ, Bool, true, List, ◌++◌, map, length, Option, None, Some, refl, sym, ◌∙◌, ap, subst}
 use Rattle.std.proofs.lemmas.List.{length-replicate}
 use Rattle.cg_blif_text.specs.BlifText.{BlifText}
 use Rattle.cg_blif_text.proofs.CanonicalText.{no_two, says_itself}
 use Rattle.cg_extract.proofs.LiftedMachine.{lifted_is_machine, lifted_is_small}
-use Rattle.cg_extract.specs.Lifted.{lifted, origins}
+use Rattle.cg_extract.specs.Lifted.{kept_nets, lifted, origins}
+use Rattle.cg_gate_laws.proofs.BegunSafe.{all_fit, begun_few, begun_safe}
+use Rattle.cg_gate_laws.proofs.SameOutputs.{whole}
+use Rattle.cg_gate_laws.specs.Begun.{renamed}
+use Rattle.cg_hint_laws.proofs.Worthy.{turns_worthy}
+use Rattle.cg_hint_laws.specs.Answers.{Reported}
+use Rattle.cg_hint_laws.specs.Laws.{IsSafe}
 use Rattle.cg_gate_laws.specs.Gated.{Behaves, CanGate, Gating, gated_by, planned}
 use Rattle.cg_gate_laws.specs.Kept.{KeepsParts}
 use Rattle.cg_gate_laws.proofs.Behaving.{gated_behaves}
@@ -26,7 +32,7 @@ use Rattle.cg_netlist.specs.WellFormed.{IsWellFormed}
 use Rattle.cg_netlist_parts.specs.Writable.{IsPlaceable, IsWritable}
 use Rattle.cg_netlist.proofs.Histories.{has_history, has_one_history}
 use Rattle.cg_plan_laws.specs.Plan.{Plan, plan_of}
-use Rattle.cg_plan_laws.proofs.AllSafe.{each_fits, plans_safe}
+use Rattle.cg_plan_laws.proofs.AllSafe.{each_fits}
 use Rattle.cg_report.specs.Zeros.{low_moments, zeros_of}
 use Rattle.cg_stage_laws.proofs.Fitting.{starts_long}
 use Rattle.cg_stimulus.specs.Inputs.{Rows}
@@ -37,7 +43,7 @@ use Rattle.cg_gate.specs.Headline.{Headline, ShowsSame, VerilogMeans, with_bits}
 use Rattle.cg_gate.specs.ZeroCounting.{zero_counts, zeros_by}
 use Rattle.cg_gate.specs.Laws.{GatedMeans, IsProper}
 use Rattle.cg_gate.specs.Played.{Saying}
-use Rattle.cg_gate.specs.Request.{MayGate, RequestData, gating_of}
+use Rattle.cg_gate.specs.Request.{MayGate, RequestData, begun_of, gating_of, hints_of}
 use Rattle.cg_gate.specs.Turns.{Lead}
 use Rattle.cg_gate.specs.declared.texts.Texts.{Texts}
 use Rattle.cg_gate.proofs.Counted.{counts}
@@ -56,7 +62,7 @@ module _ (request : RequestData) (says : Option Saying) (read : Circuit) (texts 
   by = gating_of request read
 
   abbrev m : MachineData
-  m = lifted read request.prefix
+  m = begun_of request read
 
   abbrev n : MachineData
   n = planned (gating_of request read) read
@@ -65,10 +71,14 @@ module _ (request : RequestData) (says : Option Saying) (read : Circuit) (texts 
   w = gives.written
 
   abbrev plan : Plan
-  plan = plan_of request.library request.settings (gating_of request read).counts (lifted read request.prefix)
+  plan = plan_of request.library request.settings (gating_of request read).counts (begun_of request read)
 
   can : CanGate (gating_of request read) read
   can = may_gate request read proper may
+
+  -- the hints as they are told
+  abbrev hints : Reported
+  hints = record { machine = begun_of request read; outcomes = gives.hints.outcomes; certificates = gives.hints.certificates }
 
   machine_is : gives.told.machine ≡ n
   machine_is = gives.gated.plan.machine
@@ -79,8 +89,11 @@ module _ (request : RequestData) (says : Option Saying) (read : Circuit) (texts 
   behaves : Behaves by read gives.written
   behaves = subst (Behaves by read) (sym is) (gated_behaves by read can)
 
+  safe : IsSafe request.library (lifted read request.prefix) m
+  safe = begun_safe by read may.start may.hints
+
   good : IsMachine m
-  good = lifted_is_machine read request.prefix may.start
+  good = safe.is_machine
 
   good_planned : IsMachine n
   good_planned = (can_insert by read can).0
@@ -88,20 +101,20 @@ module _ (request : RequestData) (says : Option Saying) (read : Circuit) (texts 
   inserts : CanInsert request.library request.test n
   inserts = (can_insert by read can).1
 
-  whole : Same m n
-  whole = (plans_safe request.library request.settings by.counts m good).1
+  same_shown : Same (lifted read request.prefix) n
+  same_shown = whole by read can
 
   inputs_long : length (data_inputs n.circuit) ≡ length (data_inputs read)
-  inputs_long = ap length whole.inputs ∙ lifted_inputs read request.prefix may.start
+  inputs_long = ap length same_shown.inputs ∙ lifted_inputs read request.prefix may.start
 
   formed : IsWellFormed gives.written
   formed = subst IsWellFormed (sym is) (is_formed by read can).0
 
   is_writable : IsWritable request.library gives.written
   is_writable =
-      let own : IsNetlist (own_netlist n) = subst IsNetlist (sym (keeps_netlist by read may.start)) (bare_is_netlist read may.start.netlist).0 in
+      let own : IsNetlist (own_netlist n) = subst IsNetlist (sym (keeps_netlist by read may.start may.hints)) (bare_is_netlist read may.start.netlist).0 in
       let small : insertion_limit request.test n ≡ None = ap (insertion_limit request.test) (sym machine_is) ∙ gives.gated.fits in
-      writable request.library request.test n good_planned inserts own small gives.written is proper.found (subst (IsPlaceable request.library) (sym (keeps_netlist by read may.start)) (bare_is_placeable request.library read may.placeable))
+      writable request.library request.test n good_planned inserts own small gives.written is proper.found (subst (IsPlaceable request.library) (sym (keeps_netlist by read may.start may.hints)) (bare_is_placeable request.library read may.placeable))
 
   says_it : BlifText texts.out request.library None gives.written
   says_it = subst (λ text. BlifText text request.library None w) (sym gives.tells.gives.out) (says_itself request.library w is_writable)
@@ -116,7 +129,7 @@ module _ (request : RequestData) (says : Option Saying) (read : Circuit) (texts 
       let started : IsStart w full = behaves.starts start starts in
       let one = has_history read may.start.netlist.well_formed start wave starts waves in
       let two = behaves.some full tested started facts.waveform in
-      let state : IsState n full = starts_long n good_planned.own_registers start (starts ∙ (sym (lifted_is_small read request.prefix may.start).2 ∙ sym whole.own)) in
+      let state : IsState n full = starts_long n good_planned.own_registers start (starts ∙ (sym (lifted_is_small read request.prefix may.start).2 ∙ sym same_shown.own)) in
       let waves_there : IsWaveform (gated_by by read) tested = subst (λ c. IsWaveform c tested) is facts.waveform in
       let lawful_there : IsLawful (gated_by by read) full tested two.0 = subst (λ c. IsLawful c full tested two.0) is two.1 in
       let rises : RisesAre (inserted request.library request.test n) n tested two.0 = (insertion_is_right request.library request.test n good_planned inserts full tested two.0 state waves_there lawful_there).edges in
@@ -133,12 +146,13 @@ module _ (request : RequestData) (says : Option Saying) (read : Circuit) (texts 
       }
 
   ranked : (stimulus : Rows) → request.stimulus ≡ Some stimulus → (history : List Moment) × IsPlayed read stimulus.rows history
-      × ((zero_counts read request.prefix stimulus).zeros ≡ map (zeros_by (λ net. zeros_of net (low_moments history))) (origins read (lifted read request.prefix)))
+      × ((zero_counts read request.prefix m stimulus).zeros ≡ map (zeros_by (λ net. zeros_of net (low_moments history))) (origins read m))
   ranked stimulus there =
       let for' = may.played stimulus there in
       let rows = proper.rows stimulus there in
       let some = has_history read may.start.netlist.well_formed (played_start read) (played_wave read stimulus.rows) (start_is read) (wave_is read stimulus rows for') in
-      (some.0, some.1, counts read request.prefix may.start (untested request.library request.test read may.lifts) stimulus rows for' some.0 some.1)
+      let few : length (kept_nets read) ≤ length m.circuit.names = begun_few by read may.start may.hints in
+      (some.0, some.1, counts read request.prefix may.start m few (untested request.library request.test read may.lifts) stimulus rows for' some.0 some.1)
 
   abbrev delays : ℕ
   delays = length n.circuit.registers - n.own_registers
@@ -165,6 +179,10 @@ module _ (request : RequestData) (says : Option Saying) (read : Circuit) (texts 
     verilog = gives.tells.gives.verilog;
     verilog_means = verilog_means;
     is = gives.gated.is;
+    hints = hints;
+    tried = gives.gated.tried;
+    deserved_hints = turns_worthy request.library request.settings.width (lifted read request.prefix) (map (renamed read) (hints_of request)) gives.gated.tried.done
+        (lifted_is_machine read request.prefix may.start) (all_fit read request.prefix may.start (hints_of request) may.hints) gives.gated.tried.tried;
     turns = plan.turns;
     planned = refl;
     whole = gives.gated.plan.whole;

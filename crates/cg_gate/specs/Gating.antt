@@ -1,7 +1,11 @@
--- What gating gives: a plan, the netlist that its machine is written as, what comes of the stimulus, and the texts of these.
-use Rattle.std.specs.Prelude.{◌≡◌, ℕ, Bool, if◌then◌else◌, List, length, Option, None, Some}
+-- What gating gives: hints and a plan, the netlist that its machine is written as, what comes of the stimulus, and the texts of these.
+use Rattle.std.specs.Prelude.{◌≡◌, ℕ, Bool, if◌then◌else◌, List, length, map, Option, None, Some}
+use Rattle.std.specs.Option.{option_map}
 use Rattle.cg_blif_text.specs.Canonical.{blif}
-use Rattle.cg_gate_laws.specs.Gated.{Gating}
+use Rattle.cg_gate_laws.specs.Begun.{renamed}
+use Rattle.cg_gate_laws.specs.Gated.{Gating, begun}
+use Rattle.cg_hint_laws.specs.Answers.{AreTried}
+use Rattle.cg_hint_laws.specs.declared.outcome.HintOutcome.{HintOutcome}
 use Rattle.cg_insert.specs.Insert.{inserted, insertion_limit}
 use Rattle.cg_extract.specs.Lifted.{lifted}
 use Rattle.cg_netlist.specs.Circuit.{Circuit}
@@ -14,43 +18,62 @@ use Rattle.cg_stimulus.specs.Inputs.{Rows}
 use Rattle.cg_verilog_text.specs.Written.{verilog}
 use Rattle.cg_plan.specs.Planning.{AreWritable}
 use Rattle.cg_gate.specs.Played.{AreEdges, IsWhatPlayed, Saying}
-use Rattle.cg_gate.specs.Request.{RequestData, gating_of}
+use Rattle.cg_gate.specs.Request.{RequestData, begun_of, gating_of, hints_of}
+use Rattle.cg_gate.specs.declared.hinting.TriedHints.{TriedHints}
 use Rattle.cg_gate.specs.declared.texts.Texts.{Texts}
 
--- a plan as it is told, whose certificates keep to the bounds of their formats, and the netlist that its machine is written as.
--- Free are the bits that are told of a refuted claim and
--- the logs of the certificates, as far as their definitions leave them open.
-pub record IsWritten (by : Gating) (c : Circuit) (told : ReportedPlan) (written : Circuit) : Type 0 where
-  pub plan : IsPlan by.library by.settings by.counts (lifted c by.prefix) told
+-- hints of a netlist were tried one after another on its machine, and are told so
+abbrev pub AreHintsTried : Gating → Circuit → TriedHints → Type 0
+AreHintsTried by c hints =
+    AreTried by.library by.settings.width (lifted c by.prefix) (map (renamed c) by.hints)
+    (record { machine = begun by c; outcomes = hints.outcomes; certificates = hints.certificates })
+
+-- hints as they are told, a plan as it is told, which begins with the machine that they leave and whose certificates keep to the bounds
+-- of their formats, and the netlist that its machine is written as. Free are the bits that are told of a refuted claim and the logs of
+-- the certificates, as far as their definitions leave them open.
+pub record IsWritten (by : Gating) (c : Circuit) (hints : TriedHints) (told : ReportedPlan) (written : Circuit) : Type 0 where
+  pub tried : AreHintsTried by c hints
+  pub plan : IsPlan by.library by.settings by.counts (begun by c) told
   pub writable : AreWritable told.certificates
   pub fits : insertion_limit by.test told.machine ≡ None
   pub is : written ≡ inserted by.library by.test told.machine
+
+-- the plan that begins with the machine that the hints leave
+abbrev pub IsBegunPlan : RequestData → Circuit → ReportedPlan → Type 0
+IsBegunPlan request c told = IsPlan request.library request.settings (gating_of request c).counts (begun_of request c) told
 
 -- a text that is there where it is asked for
 abbrev pub where_asked : Bool → List ℕ → Option (List ℕ)
 where_asked asked text = if asked then Some text else None
 
--- the texts of a gated netlist
-pub record AreTexts (request : RequestData) (told : ReportedPlan) (written : Circuit) (played : Played) (texts : Texts) : Type 0 where
-  pub out : texts.out ≡ blif written
-  pub proof : texts.proof ≡ where_asked request.proof (proof_text told)
-  pub report : texts.report ≡ where_asked request.report (report_text told (length written.gaters) played)
-  pub verilog : texts.verilog ≡ where_asked request.verilog (verilog written)
-  pub said : texts.said ≡ said_text told played
+-- the outcomes of hints, where hints are asked for
+abbrev pub told_outcomes : RequestData → List HintOutcome → Option (List HintOutcome)
+told_outcomes request outcomes = option_map (λ asked. outcomes) request.hints
 
--- the texts of a netlist that was read, of what it is written as and of the plan, with what comes of the stimulus
-pub record TellsGated (request : RequestData) (says : Option Saying) (read written : Circuit) (told : ReportedPlan)
+-- the texts of a gated netlist
+pub record AreTexts (request : RequestData) (hints : TriedHints) (told : ReportedPlan) (written : Circuit) (played : Played)
     (texts : Texts) : Type 0 where
+  pub out : texts.out ≡ blif written
+  pub proof : texts.proof ≡ where_asked request.proof (proof_text told hints.certificates)
+  pub report : texts.report
+      ≡ where_asked request.report (report_text told (hints_of request) hints.outcomes (length written.gaters) played)
+  pub verilog : texts.verilog ≡ where_asked request.verilog (verilog written)
+  pub said : texts.said ≡ said_text told (told_outcomes request hints.outcomes) played
+
+-- the texts of a netlist that was read, of what it is written as, of the hints and of the plan, with what comes of the stimulus
+pub record TellsGated (request : RequestData) (says : Option Saying) (read written : Circuit) (hints : TriedHints)
+    (told : ReportedPlan) (texts : Texts) : Type 0 where
   pub played : Played
   pub what : IsWhatPlayed says request.stimulus read written played
-  pub gives : AreTexts request told written played texts
+  pub gives : AreTexts request hints told written played texts
 
 -- what gating gives of a netlist, with a watcher that says this, if there is one
 pub record GivesGated (request : RequestData) (says : Option Saying) (c : Circuit) (texts : Texts) : Type 0 where
+  pub hints : TriedHints
   pub told : ReportedPlan
   pub written : Circuit
-  pub gated : IsWritten (gating_of request c) c told written
-  pub tells : TellsGated request says c written told texts
+  pub gated : IsWritten (gating_of request c) c hints told written
+  pub tells : TellsGated request says c written hints told texts
 
 -- what is said of a generated pipeline of this size that was gated
 pub record SaysDemo (size : ℕ) (rows : List (List Bool)) (read written : Circuit) (told : ReportedPlan) (text : List ℕ) : Type 0 where
@@ -61,7 +84,8 @@ pub record SaysDemo (size : ℕ) (rows : List (List Bool)) (read written : Circu
 pub record GivesDemo (size : ℕ) (request : RequestData) (c : Circuit) (text : List ℕ) : Type 0 where
   pub stimulus : Rows
   pub played : request.stimulus ≡ Some stimulus
+  pub hints : TriedHints
   pub told : ReportedPlan
   pub written : Circuit
-  pub gated : IsWritten (gating_of request c) c told written
+  pub gated : IsWritten (gating_of request c) c hints told written
   pub says : SaysDemo size stimulus.rows c written told text

@@ -5,7 +5,12 @@ use Rattle.std.specs.Option.{option_map, option_to_list}
 use Rattle.cg_blif_text.specs.BlifText.{BlifText}
 use Rattle.cg_blif_text.specs.Canonical.{blif}
 use Rattle.cg_extract.specs.Lifted.{lifted, origins}
+use Rattle.cg_gate_laws.specs.Begun.{renamed}
 use Rattle.cg_gate_laws.specs.Kept.{KeepsParts}
+use Rattle.cg_hint_laws.specs.Answers.{AreTried, Reported}
+use Rattle.cg_hint_laws.specs.Laws.{IsWorthInserting as IsHintWorthInserting}
+use Rattle.cg_hint_laws.specs.Trying.{Turn as HintTurn}
+use Rattle.cg_hint_laws.specs.declared.outcome.HintOutcome.TheVariants as hint_outcomes
 use Rattle.cg_insert.specs.Insert.{inserted}
 use Rattle.cg_insert.specs.Insertion.{RisesAre}
 use Rattle.cg_machine.specs.Machine.{MachineData}
@@ -28,10 +33,10 @@ use Rattle.cg_verilog_text.specs.VEqual.{AreVEqual}
 use Rattle.cg_verilog_text.specs.VerilogText.{VerilogText}
 use Rattle.cg_verilog_text.specs.Written.{verilog}
 use Rattle.cg_gate.specs.WorthInserting.{IsWorthInserting}
-use Rattle.cg_gate.specs.Gating.{where_asked}
+use Rattle.cg_gate.specs.Gating.{told_outcomes, where_asked}
 use Rattle.cg_gate.specs.ZeroCounting.{zero_counts, zero_counts_of, zeros_by}
 use Rattle.cg_gate.specs.Played.{EdgesAre, LineIs, Saying}
-use Rattle.cg_gate.specs.Request.{RequestData}
+use Rattle.cg_gate.specs.Request.{RequestData, hints_of}
 use Rattle.cg_gate.specs.Turns.{Lead}
 use Rattle.cg_gate.specs.declared.texts.Texts.{Texts}
 
@@ -99,38 +104,48 @@ pub record Headline (request : RequestData) (says : Option Saying) (read : Circu
   -- the Verilog text, where it is asked for, is that of the written netlist, and the netlist that it says shows the same
   pub verilog : texts.verilog ≡ where_asked request.verilog (verilog written)
   pub verilog_means : IfSome texts.verilog (VerilogMeans request plan.machine read delays written)
-  -- it is what the plan's machine is written as; the plan came to its end, its stages lead there from the machine of the original,
-  -- to whose enables the original's gating cells are lifted, and each is inserted exactly where it is worth it on the machine of
-  -- its turn
+  -- the hints were tried one after another on the machine of the original, to whose enables the original's gating cells are lifted,
+  -- and each is inserted exactly where it is worth it on the machine of its turn; they are told with their outcomes, bits that are
+  -- told of a refuted claim violate it, and there is a certificate for each register of each inserted hint, in order, with the
+  -- defined formula and an accepted log, and no other
+  pub hints : Reported
+  pub tried : AreTried request.library request.settings.width (lifted read request.prefix) (map (renamed read) (hints_of request)) hints
+  pub deserved_hints : (k : ℕ) (turn : HintTurn) → slice_get tried.done.turns k ≡ Some turn →
+      (turn.outcome ≡ hint_outcomes.Inserted)
+      ↔ IsHintWorthInserting request.library request.settings.width turn.machine turn.hint
+  -- it is what the plan's machine is written as; the plan came to its end, its stages lead there from the machine that the hints
+  -- leave, and each is inserted exactly where it is worth it on the machine of its turn
   pub is : written ≡ inserted request.library request.test plan.machine
   pub turns : List Turn
   pub planned : turns
-      ≡ (plan_of request.library request.settings (zero_counts_of read request.prefix request.stimulus) (lifted read request.prefix)).turns
+      ≡ (plan_of request.library request.settings (zero_counts_of read request.prefix hints.machine request.stimulus) hints.machine).turns
   pub whole :
-      (plan_of request.library request.settings (zero_counts_of read request.prefix request.stimulus) (lifted read request.prefix)).limit
+      (plan_of request.library request.settings (zero_counts_of read request.prefix hints.machine request.stimulus) hints.machine).limit
       ≡ None
-  pub lead : Lead turns (lifted read request.prefix) plan.machine
+  pub lead : Lead turns hints.machine plan.machine
   pub deserved : (k : ℕ) (turn : Turn) → slice_get turns k ≡ Some turn →
       (turn.outcome ≡ Inserted) ↔ IsWorthInserting request.library request.settings turn.machine turn.stage
   -- literals are ranked by how often their nets are 0 in the history on which the stimulus is played on the original; a net that
   -- stands for none of the original's counts 0
   pub ranked : (stimulus : Rows) → request.stimulus ≡ Some stimulus
       → (history : List Moment) × IsPlayed read stimulus.rows history
-      × ((zero_counts read request.prefix stimulus).zeros
-      ≡ map (zeros_by (λ net. zeros_of net (low_moments history))) (origins read (lifted read request.prefix)))
+      × ((zero_counts read request.prefix hints.machine stimulus).zeros
+      ≡ map (zeros_by (λ net. zeros_of net (low_moments history))) (origins read hints.machine))
   -- the stages are told with their outcomes, and bits that are told of a refuted claim violate it
   pub told : AreTold turns plan.stages
   -- and it is told of how many registers the hold claims are too wide
-  pub wide : plan.wide ≡ wide_of request.settings (lifted read request.prefix)
-  -- the proof file has for each claim of each inserted stage, in order, the defined formula and an accepted log that proves that
-  -- nothing satisfies it, and nothing else; formulas and logs keep to the bounds of their formats, so that they are read back
+  pub wide : plan.wide ≡ wide_of request.settings hints.machine
+  -- the proof file has, behind the certificates of the hints, for each claim of each inserted stage, in order, the defined formula and
+  -- an accepted log that proves that nothing satisfies it, and nothing else; formulas and logs keep to the bounds of their formats, so
+  -- that they are read back
   pub certified : AreCertified (plan_claims 1 turns) plan.certificates
   pub writable : AreWritable plan.certificates
-  pub proof : texts.proof ≡ where_asked request.proof (proof_text plan)
+  pub proof : texts.proof ≡ where_asked request.proof (proof_text plan hints.certificates)
   -- the edges are those of the histories on which the stimulus is played on both netlists, and the watcher says its line of exactly
   -- the moments of the written one's
   pub played : Played
   pub edges : EdgesAre request.stimulus read written played.edges
   pub line : LineIs says request.stimulus written played.watched
-  pub said : texts.said ≡ said_text plan played
-  pub report : texts.report ≡ where_asked request.report (report_text plan (length written.gaters) played)
+  pub said : texts.said ≡ said_text plan (told_outcomes request hints.outcomes) played
+  pub report : texts.report
+      ≡ where_asked request.report (report_text plan (hints_of request) hints.outcomes (length written.gaters) played)

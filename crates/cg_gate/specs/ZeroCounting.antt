@@ -1,6 +1,6 @@
 -- How often each net of the machine of a netlist is 0 at the low moments of rows that are played on the netlist, as a function:
 -- at a low moment the nets of the netlist have the bits of its machine's cycle, and each row is a step. A net that was added
--- with the machine counts 0.
+-- with the machine or for hints counts 0.
 use Rattle.std.specs.Prelude.{ℕ, ◌-◌, Bool, false, not, List, [], ◌∷◌, ◌++◌, map, length, replicate, Option, None, Some}
 use Rattle.std.specs.List.{count_by}
 use Rattle.cg_extract.specs.Lifted.{lifted, number_of, origins}
@@ -29,13 +29,14 @@ abbrev pub zeros_by : (ℕ → ℕ) → Option ℕ → ℕ
 zeros_by zeros None = 0
 zeros_by zeros (Some net) = zeros net
 
-abbrev pub zero_counts : Circuit → List ℕ → Rows → ZeroCounts
-zero_counts c prefix stimulus = let m = lifted c prefix in let lows = lows_from m (played_start c) stimulus.rows in record {
+-- of each net of m, the machine of the netlist with what hints add to it
+abbrev pub zero_counts : Circuit → List ℕ → MachineData → Rows → ZeroCounts
+zero_counts c prefix m stimulus = let lows = lows_from (lifted c prefix) (played_start c) stimulus.rows in record {
   zeros = map (zeros_by (λ net. zeros_at lows (number_of c net))) (origins c m);
   rows = length stimulus.rows;
 }
 
 -- with a stimulus there are counts, and without one there are none
-abbrev pub zero_counts_of : Circuit → List ℕ → Option Rows → Option ZeroCounts
-zero_counts_of c prefix None = None
-zero_counts_of c prefix (Some stimulus) = Some (zero_counts c prefix stimulus)
+abbrev pub zero_counts_of : Circuit → List ℕ → MachineData → Option Rows → Option ZeroCounts
+zero_counts_of c prefix m None = None
+zero_counts_of c prefix m (Some stimulus) = Some (zero_counts c prefix m stimulus)

@@ -1,13 +1,14 @@
 //! A netlist is gated.
 
-ghost use Rattle.std.specs.Prelude.{◌≡◌, true, None, Some, is_some, IfOk, IfErr, OnOk};
+ghost use Rattle.std.specs.Prelude.{◌≡◌, true, None, Some, is_some, length, IfOk, IfErr, OnOk};
 ghost use Rattle.std.specs.Option.{option_map};
 ghost use Rattle.cg_gate.specs.Gating.{GivesDemo, GivesGated, SaysDemo, TellsGated};
 ghost use Rattle.cg_gate.specs.Headline.{Headline};
-ghost use Rattle.cg_gate.specs.Request.{MayGate, stops_at};
+ghost use Rattle.cg_gate.specs.Request.{MayGate, hints_of, stops_at};
 ghost use Rattle.cg_gate.specs.Stops.{GatingMayFail, gating_stop, verilog_stop};
 ghost use Rattle.cg_plan_laws.specs.Reported.{PlanMayFail};
 ghost use Rattle.cg_plan.specs.Planning.{AreWritable, told};
+ghost use Rattle.cg_plan_text.specs.ProofText.{AreWritableHints};
 ghost use Rattle.cg_stimulus.specs.Inputs.{IsFor, Rows};
 
 use crate::fault::GateFault;
@@ -24,13 +25,14 @@ use cg_report::watcher::Watcher;
 use cg_stimulus::stimulus::Stimulus;
 use std::alloc::{AllocError, Global};
 
-/// Gates a netlist: stages are planned and the plan's machine is written with a gating cell for each enable.
+/// Gates a netlist: hints are tried, stages are planned on what they leave, and the plan's machine is written with a gating cell for
+/// each enable.
 ///
 /// Where there is a stimulus, the history on which it is played on the written netlist is shown to the watcher, which begins
 /// anew.
 ///
-/// It is refused by the limit at which the plan stops, or else by that on nets where the written netlist would pass it; or else,
-/// where a Verilog text is asked for, by what keeps the written netlist from having one.
+/// It is refused by the limit that a hint passes, or else by that at which the plan stops, or else by that on nets where the written
+/// netlist would pass it; or else, where a Verilog text is asked for, by what keeps the written netlist from having one.
 pub fn gate(
     alloc: Global,
     netlist: &Netlist,
@@ -42,7 +44,7 @@ pub fn gate(
     ensures gives { IfOk result (λ texts. GivesGated request.now (option_map (λ watcher. says watcher) watcher) netlist.now texts) }
 
     // The written netlist shows, from every state and over every waveform that begins with the clock low, what the netlist
-    // shows; a stage is inserted exactly where it deserves it; and the watcher's line is what it says of exactly the moments of
+    // shows; a hint or a stage is inserted exactly where it deserves it; and the watcher's line is what it says of exactly the moments of
     // the history that it was shown.
     ensures headline { IfOk result (λ texts. Headline request.now (option_map (λ watcher. says watcher) watcher) netlist.now texts) }
     ensures unstopped { OnOk result (gating_stop request.now netlist.now ≡ None) }
@@ -65,10 +67,12 @@ fn finish(
     watcher: Option<Box<dyn Watcher>>,
 ) -> Result<Texts, GateFault>
     requires writable { AreWritable gated.now.plan.certificates }
+    requires hints { AreWritableHints gated.now.hints.certificates }
+    requires told { length (hints_of request.now) ≡ length gated.now.hints.outcomes }
     requires read { (rows : Rows) → request.now.stimulus ≡ Some rows → IsFor read.now rows }
     requires written { (rows : Rows) → request.now.stimulus ≡ Some rows → IsFor gated.now.netlist rows }
     ensures texts { IfOk result
-        (TellsGated request.now (option_map (λ watcher. says watcher) watcher) read.now gated.now.netlist (told gated.now.plan)) }
+        (TellsGated request.now (option_map (λ watcher. says watcher) watcher) read.now gated.now.netlist gated.now.hints (told gated.now.plan)) }
     ensures unstopped { OnOk result (verilog_stop request.now.verilog gated.now.netlist ≡ None) }
     ensures fault { IfErr result (GatingMayFail (verilog_stop request.now.verilog gated.now.netlist)) }
 {

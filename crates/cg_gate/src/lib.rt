@@ -7,6 +7,7 @@
 //!
 //! - [`request`]: what is asked for, and [`fault`]: why it is not done.
 //! - `counting`: how often nets are 0 on a stimulus.
+//! - `hinting`: the hints of a netlist.
 //! - `planning`: the plan of a netlist.
 //! - `playing`: what comes of a stimulus on both netlists.
 //! - [`texts`]: the texts.
@@ -17,6 +18,7 @@
 mod counting;
 pub mod fault;
 pub mod gate;
+mod hinting;
 pub mod laws;
 mod planning;
 mod playing;

@@ -1,13 +1,12 @@
-//! The plan of a netlist, and the netlist that the plan's machine is written as.
+//! The hints and the plan of a netlist, and the netlist that the plan's machine is written as.
 
 ghost use Rattle.std.specs.Prelude.{◌≡◌, ℕ, List, Some, IfOk, IfErr, IsTrue};
-ghost use Rattle.std.specs.Option.{option_copied};
+ghost use Rattle.std.specs.Option.{option_copied, option_or};
 ghost use Rattle.cg_cell.specs.Name.{is_name};
-ghost use Rattle.cg_extract.specs.Lifted.{lifted, origins};
-ghost use Rattle.cg_gate.specs.Gating.{IsWritten};
-ghost use Rattle.cg_gate.specs.ZeroCounting.{zero_counts_of};
+ghost use Rattle.cg_extract.specs.Lifted.{lifted};
+ghost use Rattle.cg_gate.specs.Gating.{AreHintsTried, IsBegunPlan, IsWritten};
 ghost use Rattle.cg_gate.specs.Laws.{IsProper};
-ghost use Rattle.cg_gate.specs.Request.{MayGate, gating_of, stops_at};
+ghost use Rattle.cg_gate.specs.Request.{MayGate, begun_of, gating_of, hints_limit, plan_limit, stops_at};
 ghost use Rattle.cg_insert.specs.Insert.{CanInsert};
 ghost use Rattle.cg_insert.specs.Inserting.{insertion};
 ghost use Rattle.cg_limit.specs.Answers.{OrNoMemory};
@@ -19,9 +18,10 @@ ghost use Rattle.cg_plan.specs.Planning.{AreWritable, told};
 ghost use Rattle.cg_stimulus.specs.Inputs.{IsFor, IsStimulus, Rows};
 
 use crate::counting::machine_zeros;
+use crate::hinting::{Begun, TriedHints, try_hints};
 use crate::request::Request;
 use cg_cell::name::Name;
-use cg_extract::extract::{Extracted, extract};
+use cg_extract::extract::extract;
 use cg_insert::insert::insert;
 use cg_machine::machine::Machine;
 use cg_netlist::fault::AddFault;
@@ -32,16 +32,26 @@ use cg_stage_list_laws::net_zeros::NetZeros;
 use cg_stimulus::stimulus::Stimulus;
 use std::alloc::{AllocError, Global};
 
-/// A netlist that was gated: its plan, and the netlist that the plan's machine is written as.
+/// A netlist that was gated: the hints that were tried, the plan behind them, and the netlist that the plan's machine is written as.
 #[derive(Drop)]
 pub struct Gated {
+    pub hints: TriedHints,
     pub plan: Plan,
     pub netlist: Netlist,
 }
 
-/// Plans the machine of a netlist, to whose enables its gating cells are lifted, and writes the plan's machine as a netlist.
+/// Hints that were tried, and the plan that begins with what they leave.
+#[derive(Drop)]
+pub(crate) struct Planned {
+    pub hints: TriedHints,
+    pub plan: Plan,
+}
+
+/// Tries the hints on the machine of a netlist, to whose enables its gating cells are lifted, plans the machine that they leave, and
+/// writes the plan's machine as a netlist.
 ///
-/// It is refused by the limit at which the plan stops, or else by that which the written netlist would pass.
+/// It is refused by the limit that a hint passes, or else by that at which the plan stops, or else by that which the written netlist
+/// would pass.
 pub fn gate_netlist(
     alloc: Global,
     netlist: &Netlist,
@@ -49,21 +59,33 @@ pub fn gate_netlist(
     progress: &mut dyn Progress,
 ) -> Result<Gated, AddFault>
     requires { MayGate request.now netlist.now }
-    ensures gated { IfOk result (λ gated. IsWritten (gating_of request.now netlist.now) netlist.now (told gated.plan) gated.netlist) }
+    ensures gated { IfOk result (λ gated. IsWritten (gating_of request.now netlist.now) netlist.now
+        gated.hints (told gated.plan) gated.netlist) }
     ensures fits { IfOk result (λ gated. (stimulus : Rows) → request.now.stimulus ≡ Some stimulus → IsFor gated.netlist stimulus) }
     ensures writable { IfOk result (λ gated. AreWritable gated.plan.certificates) }
     ensures proper { IsProper request.now }
     ensures fault { IfErr result (PlanMayFail (stops_at request.now netlist.now)) }
 {
     hold_request(request);
-    let plan = plan_netlist(alloc, netlist, request, progress)?;
-    match write_plan(alloc, &plan, request) {
-        Ok(netlist) => Ok(Gated { plan, netlist }),
+    let planned = plan_netlist(alloc, netlist, request, progress)?;
+    match write_plan(alloc, &planned.plan, request) {
+        Ok(netlist) => Ok(written(planned, netlist)),
         Err(fault) => {
             // By a call, as its parts would else be dropped one by one in the proof; so too below.
-            drop(plan);
+            drop(planned);
             Err(fault)
         }
+    }
+}
+
+/// A plan behind hints, and the netlist that its machine is written as.
+fn written(planned: Planned, netlist: Netlist) -> Gated
+    ensures { result ≡ record { hints = planned.hints; plan = planned.plan; netlist = netlist } }
+{
+    Gated {
+        hints: planned.hints,
+        plan: planned.plan,
+        netlist,
     }
 }
 
@@ -102,48 +124,90 @@ fn name_test(test: Option<&Name>)
     }
 }
 
-/// The plan of a netlist, for which nets are counted that are 0 on the rows of the stimulus, where there is one.
+/// The hints of a netlist, tried on its machine, and the plan that begins with what they leave.
 fn plan_netlist(
     alloc: Global,
     netlist: &Netlist,
     request: &Request<'_>,
     progress: &mut dyn Progress,
-) -> Result<Plan, AddFault>
+) -> Result<Planned, AddFault>
     requires { MayGate request.now netlist.now }
-    ensures plan { IfOk result (λ plan. IsPlan request.now.library request.now.settings (zero_counts_of netlist.now request.now.prefix request.now.stimulus)
-        (lifted netlist.now request.now.prefix) (told plan)) }
-    ensures writable { IfOk result (λ plan. AreWritable plan.certificates) }
-    ensures fault { IfErr result
-        (PlanMayFail (plan_of request.now.library request.now.settings (zero_counts_of netlist.now request.now.prefix request.now.stimulus)
-        (lifted netlist.now request.now.prefix)).limit) }
+    ensures tried { IfOk result (λ planned. AreHintsTried (gating_of request.now netlist.now) netlist.now planned.hints) }
+    ensures plan { IfOk result (λ planned. IsBegunPlan request.now netlist.now (told planned.plan)) }
+    ensures writable { IfOk result (λ planned. AreWritable planned.plan.certificates) }
+    ensures fault { IfErr result (PlanMayFail (option_or (hints_limit (gating_of request.now netlist.now) netlist.now)
+        (plan_limit (gating_of request.now netlist.now) netlist.now))) }
 {
-    let Ok(made) = lift(alloc, netlist, request) else {
+    let Ok(machine) = lift(alloc, netlist, request) else {
         return Err(AddFault::NoMemory);
     };
+    let begun = try_hints(alloc, netlist, machine, request)?;
+    plan_hinted(alloc, netlist, begun, request, progress)
+}
+
+/// Hints that were tried on the machine of a netlist, and the plan that begins with what they leave.
+fn plan_hinted(
+    alloc: Global,
+    netlist: &Netlist,
+    begun: Begun,
+    request: &Request<'_>,
+    progress: &mut dyn Progress,
+) -> Result<Planned, AddFault>
+    requires may { MayGate request.now netlist.now }
+    requires begun { begun.machine ≡ begun_of request.now netlist.now }
+    ensures hints { IfOk result (λ planned. planned.hints ≡ begun.hints) }
+    ensures plan { IfOk result (λ planned. IsBegunPlan request.now netlist.now (told planned.plan)) }
+    ensures writable { IfOk result (λ planned. AreWritable planned.plan.certificates) }
+    ensures fault { IfErr result (PlanMayFail (plan_limit (gating_of request.now netlist.now) netlist.now)) }
+{
+    let Begun { machine, hints } = begun;
+    match plan_begun(alloc, netlist, machine, request, progress) {
+        Ok(plan) => Ok(Planned { hints, plan }),
+        Err(fault) => {
+            drop(hints);
+            Err(fault)
+        }
+    }
+}
+
+/// The plan that begins with the machine that hints leave of a netlist, for which nets are counted that are 0 on the rows of the
+/// stimulus, where there is one.
+fn plan_begun(
+    alloc: Global,
+    netlist: &Netlist,
+    machine: Machine,
+    request: &Request<'_>,
+    progress: &mut dyn Progress,
+) -> Result<Plan, AddFault>
+    requires may { MayGate request.now netlist.now }
+    requires begun { machine ≡ begun_of request.now netlist.now }
+    ensures plan { IfOk result (λ plan. IsBegunPlan request.now netlist.now (told plan)) }
+    ensures writable { IfOk result (λ plan. AreWritable plan.certificates) }
+    ensures fault { IfErr result (PlanMayFail (plan_limit (gating_of request.now netlist.now) netlist.now)) }
+{
     match request.stimulus {
-        None => plan_machine(alloc, made.machine, request, None, progress),
+        None => plan_machine(alloc, machine, request, None, progress),
         Some(stimulus) => {
-            let Ok(zeros) = machine_zeros(alloc, netlist, made.origin.as_slice(), stimulus) else {
-                drop(made);
+            let Ok(zeros) = machine_zeros(alloc, netlist, &machine, stimulus) else {
+                drop(machine);
                 return Err(AddFault::NoMemory);
             };
             let counts = NetZeros {
                 zeros: &zeros,
                 rows: stimulus.rows(),
             };
-            plan_machine(alloc, made.machine, request, Some(&counts), progress)
+            plan_machine(alloc, machine, request, Some(&counts), progress)
         }
     }
 }
 
 /// The machine of a netlist none of whose gating cells is refused.
-fn lift(alloc: Global, netlist: &Netlist, request: &Request<'_>) -> Result<Extracted, AllocError>
+fn lift(alloc: Global, netlist: &Netlist, request: &Request<'_>) -> Result<Machine, AllocError>
     requires { MayGate request.now netlist.now }
-    ensures machine { IfOk result (λ made. made.machine ≡ lifted netlist.now request.now.prefix) }
-    ensures origin { IfOk result (λ made. made.origin ≡ origins netlist.now (lifted netlist.now request.now.prefix)) }
+    ensures { IfOk result (λ machine. machine ≡ lifted netlist.now request.now.prefix) }
 {
     let made = extract(alloc, netlist, request.prefix)?;
-    Ok(made)
+    Ok(made.machine)
 }
 
 /// The plan of a machine with these counts.

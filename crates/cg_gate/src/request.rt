@@ -2,6 +2,8 @@
 
 use cg_cell::library::Library;
 use cg_cell::name::Name;
+use cg_hint_laws::hint::Hint;
+use cg_list::Seq;
 use cg_plan_laws::settings::Settings;
 use cg_stimulus::stimulus::Stimulus;
 use std::marker::Model;
@@ -23,6 +25,9 @@ pub struct Request<'a> {
 
     /// The stimulus that is played on both netlists, where there is one.
     pub stimulus: Option<&'a Stimulus>,
+
+    /// The hints, where they are asked for.
+    pub hints: Option<&'a Seq<Hint>>,
 
     /// Whether a proof file is asked for.
     pub proof: bool,
@@ -50,6 +55,7 @@ impl<'a> Model for Request<'a> {
       prefix = r.prefix.now;
       test = option_copied r.test;
       stimulus = option_copied r.stimulus;
+      hints = option_copied r.hints;
       proof = r.proof;
       report = r.report;
       verilog = r.verilog;

@@ -1,20 +1,23 @@
 //! The texts of a netlist that was gated.
 
-ghost use Rattle.std.specs.Prelude.{◌≡◌, None, length, IfErr, IfOk, OnOk};
-ghost use Rattle.cg_gate.specs.Gating.{AreTexts, where_asked};
+ghost use Rattle.std.specs.Prelude.{◌≡◌, [], None, length, unwrap_or, IfErr, IfOk, OnOk};
+ghost use Rattle.std.specs.Option.{option_copied, option_map};
+ghost use Rattle.cg_gate.specs.Gating.{AreTexts, told_outcomes, where_asked};
+ghost use Rattle.cg_gate.specs.Request.{hints_of};
 ghost use Rattle.cg_gate.specs.Stops.{GatingMayFail, verilog_stop};
 ghost use Rattle.cg_plan.specs.Planning.{AreWritable, told};
-ghost use Rattle.cg_plan_text.specs.ProofText.{proof_text};
-ghost use Rattle.cg_plan_text.specs.Summary.{report_text};
+ghost use Rattle.cg_plan_text.specs.ProofText.{AreWritableHints, proof_text};
+ghost use Rattle.cg_plan_text.specs.Summary.{report_text, said_text};
 ghost use Rattle.cg_verilog_text.specs.Written.{verilog as verilog_text};
 
 use crate::fault::GateFault;
 use crate::planning::Gated;
 use crate::request::Request;
 use cg_blif_out::write_blif;
+use cg_hint_laws::hint::Hint;
+use cg_hint_laws::outcome::HintOutcome;
 use cg_list::Seq;
 use cg_netlist::netlist::Netlist;
-use cg_plan::plan::Plan;
 use cg_plan_text::proof::proof_text;
 use cg_plan_text::summary::{Played, report_text, said_text};
 use cg_verilog_out::write_verilog;
@@ -48,16 +51,56 @@ pub(crate) fn write_texts(
     verilog: Option<Seq<u8>>,
 ) -> Result<Texts, AllocError>
     requires proof { AreWritable gated.now.plan.certificates }
+    requires hints { AreWritableHints gated.now.hints.certificates }
+    requires told { length (hints_of request.now) ≡ length gated.now.hints.outcomes }
     requires verilog { verilog ≡ where_asked request.now.verilog (verilog_text gated.now.netlist) }
-    ensures { IfOk result (λ texts. AreTexts request.now (told gated.now.plan) gated.now.netlist played.now texts) }
+    ensures { IfOk result (λ texts. AreTexts request.now gated.now.hints (told gated.now.plan) gated.now.netlist played.now texts) }
 {
     Ok(Texts {
         out: Seq::from_vec(write_blif(alloc, &gated.netlist)?),
-        proof: proof_asked(alloc, request.proof, &gated.plan)?,
-        report: report_asked(alloc, request.report, gated, played)?,
+        proof: proof_asked(alloc, request.proof, gated)?,
+        report: report_asked(alloc, request, gated, played)?,
         verilog,
-        said: Seq::from_vec(said_text(alloc, &gated.plan, played)?),
+        said: said(alloc, request, gated, played)?,
     })
+}
+
+/// What is said.
+fn said(
+    alloc: Global,
+    request: &Request<'_>,
+    gated: &Gated,
+    played: &Played,
+) -> Result<Seq<u8>, AllocError>
+    ensures { IfOk result (λ text. text
+        ≡ said_text (told gated.now.plan) (told_outcomes request.now gated.now.hints.outcomes) played.now) }
+{
+    let outcomes = told_outcomes(request.hints, &gated.hints.outcomes);
+    let text = said_text(alloc, &gated.plan, outcomes, played)?;
+    Ok(Seq::from_vec(text))
+}
+
+/// The outcomes of hints, where hints are asked for.
+fn told_outcomes<'a>(
+    asked: Option<&Seq<Hint>>,
+    outcomes: &'a Seq<HintOutcome>,
+) -> Option<&'a Seq<HintOutcome>>
+    ensures { option_copied result ≡ option_map (λ asked. outcomes.entry.now) (option_copied asked.entry) }
+{
+    match asked {
+        None => None,
+        Some(_) => Some(outcomes),
+    }
+}
+
+/// The hints, none where none are asked for.
+fn asked_hints<'a>(asked: Option<&'a Seq<Hint>>) -> &'a [Hint]
+    ensures { result.now ≡ unwrap_or (option_copied asked.entry) [] }
+{
+    match asked {
+        None => &[],
+        Some(hints) => hints.as_slice(),
+    }
 }
 
 /// The Verilog text of a netlist, where it is asked for.
@@ -77,28 +120,35 @@ pub(crate) fn verilog_asked(
 }
 
 /// The proof file, where it is asked for.
-fn proof_asked(alloc: Global, asked: bool, plan: &Plan) -> Result<Option<Seq<u8>>, AllocError>
-    requires { AreWritable plan.now.certificates }
-    ensures { IfOk result (λ text. text ≡ where_asked asked (proof_text (told plan.now))) }
+fn proof_asked(alloc: Global, asked: bool, gated: &Gated) -> Result<Option<Seq<u8>>, AllocError>
+    requires stages { AreWritable gated.now.plan.certificates }
+    requires hints { AreWritableHints gated.now.hints.certificates }
+    ensures { IfOk result (λ text. text ≡ where_asked asked (proof_text (told gated.now.plan) gated.now.hints.certificates)) }
 {
     if !asked {
         return Ok(None);
     }
-    Ok(Some(Seq::from_vec(proof_text(alloc, plan)?)))
+    let hints = gated.hints.certificates.as_slice();
+    Ok(Some(Seq::from_vec(proof_text(alloc, &gated.plan, hints)?)))
 }
 
 /// The report, where it is asked for.
 fn report_asked(
     alloc: Global,
-    asked: bool,
+    request: &Request<'_>,
     gated: &Gated,
     played: &Played,
 ) -> Result<Option<Seq<u8>>, AllocError>
-    ensures { IfOk result (λ text. text ≡ where_asked asked (report_text (told gated.now.plan) (length gated.now.netlist.gaters) played.now)) }
+    requires { length (hints_of request.now) ≡ length gated.now.hints.outcomes }
+    ensures { IfOk result (λ text. text ≡ where_asked request.now.report
+        (report_text (told gated.now.plan) (hints_of request.now) gated.now.hints.outcomes (length gated.now.netlist.gaters) played.now)) }
 {
-    if !asked {
+    if !request.report {
         return Ok(None);
     }
+    let hints = asked_hints(request.hints);
+    let outcomes = gated.hints.outcomes.as_slice();
     let gates = gated.netlist.gaters();
-    Ok(Some(Seq::from_vec(report_text(alloc, &gated.plan, gates, played)?)))
+    let text = report_text(alloc, &gated.plan, hints, outcomes, gates, played)?;
+    Ok(Some(Seq::from_vec(text)))
 }

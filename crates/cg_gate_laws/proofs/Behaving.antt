@@ -77,7 +77,7 @@ module _ (by : Gating) (c : Circuit) (can : CanGate by c) where
   longer = omega (arith, ap length names_are, length-append (n.circuit.names ++ option_to_list by.test) (gate_names n), length-append n.circuit.names (option_to_list by.test))
 
   net_count : length (bare c).names ≡ own_nets n
-  net_count = sym (ap (λ (d : Circuit). length d.names) (keeps_netlist by c can.start)) ∙ length-take-le (own_nets n) n.circuit.names (omega arith)
+  net_count = sym (ap (λ (d : Circuit). length d.names) (keeps_netlist by c can.start can.hints)) ∙ length-take-le (own_nets n) n.circuit.names (omega arith)
 
   -- the names of nets that it has
   pub kept_name : (x : ℕ) → x < length (bare c).names → net_name g.names x ≡ net_name (bare c).names x
@@ -88,7 +88,7 @@ module _ (by : Gating) (c : Circuit) (can : CanGate by c) where
       ∙ get_front (n.circuit.names ++ option_to_list by.test) (gate_names n) x (omega (arith, in_machine, length-append n.circuit.names (option_to_list by.test)))
       ∙ get_front n.circuit.names (option_to_list by.test) x in_machine
       ∙ (sym (take_get n.circuit.names (own_nets n) x (omega (arith, below, net_count)))
-      ∙ ap (λ (d : Circuit). slice_get d.names x) (keeps_netlist by c can.start)))
+      ∙ ap (λ (d : Circuit). slice_get d.names x) (keeps_netlist by c can.start can.hints)))
 
   -- a net keeps its name in net order
   at_place : (nets : List ℕ) → ((x : ℕ) → is_in nets x ≡ true → x < length g.names) → map (net_name (gated_by by c).names) (map (place_in (net_order g)) nets) ≡ map (net_name g.names) nets
@@ -126,7 +126,7 @@ module _ (by : Gating) (c : Circuit) (can : CanGate by c) where
   output_names_are : map (net_name (gated_by by c).names) (gated_by by c).outputs ≡ map (net_name c.names) c.outputs
   output_names_are =
       at_place n.circuit.outputs (λ x among. let below : x < length n.circuit.names = outputs_within n.circuit is_machine.well_formed x among in omega (arith, below, longer))
-      ∙ (ap (map (net_name g.names)) (ap (λ (d : Circuit). d.outputs) (keeps_netlist by c can.start))
+      ∙ (ap (map (net_name g.names)) (ap (λ (d : Circuit). d.outputs) (keeps_netlist by c can.start can.hints))
       ∙ (map_same (net_name g.names) (net_name o.names) o.outputs (λ x among. kept_name x (outputs_within o own_formed x among))
       ∙ ap (λ (w : Wiring NetName). w.outputs) same_names.parts))
 

@@ -9,6 +9,7 @@ pub mod Early
 pub mod Harm
 pub mod AllTest
 pub mod OwnGaters
+pub mod BegunSafe
 pub mod Planned
 pub mod LiftedShows
 pub mod NetlistKept

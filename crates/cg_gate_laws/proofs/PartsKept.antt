@@ -147,10 +147,10 @@ module _ (by : Gating) (c : Circuit) (can : CanGate by c) where
   ordered_same = named_ordered g (is_formed by c can).0 (is_formed by c can).1
 
   own_registers : take (length c.registers) n.circuit.registers ≡ o.registers
-  own_registers = ap (λ k. take k n.circuit.registers) (sym (own_count by c can)) ∙ ap (λ (d : Circuit). d.registers) (keeps_netlist by c can.start)
+  own_registers = ap (λ k. take k n.circuit.registers) (sym (own_count by c can)) ∙ ap (λ (d : Circuit). d.registers) (keeps_netlist by c can.start can.hints)
 
   own_cells : take n.own_cells n.circuit.cells ≡ o.cells
-  own_cells = ap (λ (d : Circuit). d.cells) (keeps_netlist by c can.start)
+  own_cells = ap (λ (d : Circuit). d.cells) (keeps_netlist by c can.start can.hints)
 
   used : (x : ℕ) → is_in (used_nets o) x ≡ true → x < length o.names
   used x among = All-member (λ net. net < length o.names) (used_nets o) x own_formed.used among
@@ -194,7 +194,7 @@ module _ (by : Gating) (c : Circuit) (can : CanGate by c) where
   clock_kept : option_map (net_name w.names) w.clock ≡ option_map old_name c.clock
   clock_kept =
       ap (λ (v : Wiring NetName). v.clock) ordered_same
-      ∙ (ap (option_map new_name) (ap (λ (d : Circuit). d.clock) (keeps_netlist by c can.start)) ∙ (go o.clock refl ∙ ap (λ (v : Wiring NetName). v.clock) same_parts))
+      ∙ (ap (option_map new_name) (ap (λ (d : Circuit). d.clock) (keeps_netlist by c can.start can.hints)) ∙ (go o.clock refl ∙ ap (λ (v : Wiring NetName). v.clock) same_parts))
     where
       go : (clock : Option ℕ) → o.clock ≡ clock → option_map new_name clock ≡ option_map own_name clock
       go None is = refl
@@ -213,7 +213,7 @@ module _ (by : Gating) (c : Circuit) (can : CanGate by c) where
 
 pub keeps_parts : GatedKeeps
 keeps_parts by c can = record {
-  model = ap (λ (d : Circuit). d.model) (keeps_netlist by c can.start);
+  model = ap (λ (d : Circuit). d.model) (keeps_netlist by c can.start can.hints);
   clock = clock_kept by c can;
   cells = cells_kept by c can;
   registers = registers_kept by c can;

@@ -13,12 +13,12 @@ use Rattle.cg_insert.proofs.Inserted.{insertion_is_formed}
 use Rattle.cg_stage_laws.specs.Needs.{gater_kind}
 use Rattle.cg_stage_laws.specs.Cells.{HasCell, HasCells}
 use Rattle.cg_plan_laws.proofs.AllSafe.{has_cells, plans_safe}
-use Rattle.cg_extract.proofs.LiftedMachine.{lifted_is_machine}
 use Rattle.cg_extract.specs.Laws.{AsksFor}
 use Rattle.cg_extract.specs.Lifted.{lifted}
 use Rattle.cg_extract.proofs.ForGating.{lifted_asks}
+use Rattle.cg_gate_laws.proofs.BegunSafe.{begun_bare, begun_safe}
 use Rattle.cg_gate_laws.proofs.OwnGaters.{and_there, gater_there, unchained}
-use Rattle.cg_gate_laws.specs.Gated.{CanGate, Gating, has_and, planned}
+use Rattle.cg_gate_laws.specs.Gated.{CanGate, Gating, begun, has_and, planned}
 use Rattle.cg_gate_laws.specs.Laws.{GatedIsFormed, PlannedCanInsert}
 
 some_enable : (es : List (Option ℕ)) → (filter_map (λ (enable : Option ℕ). enable) es ≡ []) ⊎ ((r : ℕ) × (e : ℕ) × (option_flatten (slice_get es r) ≡ Some e))
@@ -44,12 +44,23 @@ starts_with_cells by c can = record {
     gates_there true is = All-weaker (λ (gate : AddedGate). gate.kind ≡ And2) (λ (gate : AddedGate). HasCell by.library gate.kind) (λ gate is_and. subst (HasCell by.library) (sym is_and) (and_there by.library is)) (lifted c by.prefix).gates asks.gates
     gates_there false is = subst (All (λ (gate : AddedGate). HasCell by.library gate.kind)) (sym (asks.none (unchained by c can is))) (All-nil (λ (gate : AddedGate). HasCell by.library gate.kind))
 
+-- and so it has what the machine asks for with which the plan begins: where there is a test input there are no hints
+begins_with_cells : (by : Gating) (c : Circuit) → CanGate by c → HasCells by.library by.settings.test (begun by c)
+begins_with_cells by c can = go by.test refl
+  where
+    go : (test : Option (List ℕ)) → by.test ≡ test → HasCells by.library by.settings.test (begun by c)
+    go None is =
+        let plain : by.settings.test ≡ false = can.tested ∙ ap is_some is in
+        subst (λ b. HasCells by.library b (begun by c)) (sym plain)
+        ((begun_safe by c can.start can.hints).cells (subst (λ b. HasCells by.library b (lifted c by.prefix)) plain (starts_with_cells by c can)))
+    go (Some name) is = subst (HasCells by.library by.settings.test) (sym (begun_bare by c (can.untested name is))) (starts_with_cells by c can)
+
 pub can_insert : PlannedCanInsert
 can_insert by c can =
-    let m : MachineData = lifted c by.prefix in
-    let good : IsMachine m = lifted_is_machine c by.prefix can.start in
+    let m : MachineData = begun by c in
+    let good : IsMachine m = (begun_safe by c can.start can.hints).is_machine in
     let n : MachineData = planned by c in
-    let has : HasCells by.library by.settings.test n = has_cells by.library by.settings by.counts m good (starts_with_cells by c can) in (
+    let has : HasCells by.library by.settings.test n = has_cells by.library by.settings by.counts m good (begins_with_cells by c can) in (
       (plans_safe by.library by.settings by.counts m good).0,
       record {
         cells = can.cells;

@@ -18,9 +18,12 @@ use Rattle.cg_plan_laws.specs.Plan.{plan_of}
 use Rattle.cg_plan_laws.proofs.AllSafe.{plans_safe}
 use Rattle.cg_gate_laws.specs.TestRun.{test_shown, ticks_of}
 use Rattle.cg_gate_laws.proofs.AllTest.{test_shows_netlist}
-use Rattle.cg_extract.proofs.LiftedMachine.{lifted_is_machine, lifted_is_small}
+use Rattle.cg_extract.proofs.LiftedMachine.{lifted_is_small}
 use Rattle.cg_extract.specs.Lifted.{bare, lifted}
-use Rattle.cg_gate_laws.specs.Gated.{CanGate, Gating, gated_by, own_wave, planned}
+use Rattle.cg_hint_laws.specs.Laws.{IsSafe}
+use Rattle.cg_machine.proofs.Simulation.{same_then}
+use Rattle.cg_gate_laws.proofs.BegunSafe.{begun_bare, begun_safe}
+use Rattle.cg_gate_laws.specs.Gated.{CanGate, Gating, begun, gated_by, own_wave, planned}
 use Rattle.cg_gate_laws.specs.Laws.{GatedShowsSame}
 use Rattle.cg_extract.proofs.ForGating.{lifted_of_ungated}
 use Rattle.cg_gate_laws.proofs.LiftedShows.{bare_inputs, lifted_shows, lifted_ticks, starts_ungated}
@@ -39,14 +42,16 @@ module _ (by : Gating) (c : Circuit) (can : CanGate by c) where
   inserts = (can_insert by c can).1
 
   pub whole : Same (lifted c by.prefix) (planned by c)
-  whole = (plans_safe by.library by.settings by.counts (lifted c by.prefix) (lifted_is_machine c by.prefix can.start)).1
+  whole =
+      let safe : IsSafe by.library (lifted c by.prefix) (begun by c) = begun_safe by c can.start can.hints in
+      same_then (lifted c by.prefix) (begun by c) (planned by c) safe.same (plans_safe by.library by.settings by.counts (begun by c) safe.is_machine).1
 
   -- the plan's machine has the registers and the data inputs of the netlist
   pub own_count : (planned by c).own_registers ≡ length c.registers
   own_count = whole.own ∙ (lifted_is_small c by.prefix can.start).2
 
   pub own_inputs : data_inputs (planned by c).circuit ≡ data_inputs (bare c)
-  own_inputs = ap data_inputs (keeps_netlist by c can.start)
+  own_inputs = ap data_inputs (keeps_netlist by c can.start can.hints)
 
   pub inputs_count : length (data_inputs (planned by c).circuit) ≡ length (data_inputs c)
   inputs_count = ap length own_inputs ∙ bare_inputs c by.prefix can.start
@@ -92,7 +97,7 @@ module _ (by : Gating) (c : Circuit) (can : CanGate by c) where
     tested name is =
         let none : c.gaters ≡ [] = ungated_tested by c can name is in
         (insertion_is_right by.library by.test n good inserts (start ++ ones n) wave history long waves lawful).outputs
-        ∙ subst (λ (m : MachineData). test_shown (plan_of by.library by.settings by.counts m).machine start (map (own_tick n) wave) ≡ outputs_of c other) (sym (lifted_of_ungated c by.prefix can.start none))
+        ∙ subst (λ (m : MachineData). test_shown (plan_of by.library by.settings by.counts m).machine start (map (own_tick n) wave) ≡ outputs_of c other) (sym (begun_bare by c (can.untested name is) ∙ lifted_of_ungated c by.prefix can.start none))
         (test_shows_netlist by.library by.settings by.counts c by.prefix (starts_ungated c by.prefix can.start none) (can.tested ∙ ap is_some is) start (map (own_tick n) wave) other started original_waves original)
 
     plain : by.test ≡ None → outputs_of (gated_by by c) history ≡ outputs_of c other

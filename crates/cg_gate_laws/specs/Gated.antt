@@ -1,7 +1,7 @@
--- The gated netlist of a netlist: its machine, to whose enables its own gating cells are lifted, is planned, and written with a
--- gating cell for each enable.
+-- The gated netlist of a netlist: its machine, to whose enables its own gating cells are lifted, is changed by hints of the engineer's
+-- own, planned, and written with a gating cell for each enable.
 use Rattle.std.specs.Prelude.{◌≡◌, ◌≢◌, IsTrue, ℕ, ◌+◌, Bool, List, [], ◌∷◌, ◌++◌, length, map, Option, None, Some, is_some}
-use Rattle.std.specs.List.{All}
+use Rattle.std.specs.List.{All, AllByRecursion}
 use Rattle.std.specs.Option.{option_to_list}
 use Rattle.cg_cell.specs.Cell.{CellData, IsCell}
 use Rattle.cg_cell.specs.Library.{first_fit}
@@ -13,25 +13,32 @@ use Rattle.cg_net.specs.Names.{net_name}
 use Rattle.cg_netlist_parts.specs.Writable.{IsOf}
 use Rattle.cg_machine.specs.Machine.{MachineData}
 use Rattle.cg_machine.specs.Run.{ones}
-use Rattle.cg_extract.specs.Lifted.{CanExtract, first_refused, lifted}
+use Rattle.cg_extract.specs.Lifted.{CanExtract, first_refused}
+use Rattle.cg_hint_laws.specs.OfNetlist.{IsOf as IsHintOf}
+use Rattle.cg_hint_laws.specs.declared.hint.Hint.{Hint}
 use Rattle.cg_insert.specs.Insert.{gate_names, inserted, own_tick}
 use Rattle.cg_stage_list_laws.specs.Literals.{ZeroCounts}
 use Rattle.cg_plan_laws.specs.Plan.{plan_of}
 use Rattle.cg_plan_laws.specs.declared.settings.Settings.{Settings}
+use Rattle.cg_gate_laws.specs.Begun.{begun_by}
 use Rattle.cg_gate_laws.specs.TestRun.{ticks_of}
 
 -- what a netlist is gated by: the cells, the settings, how often nets are 0 on a stimulus, the prefix of the names of added
--- nets, and the name of the test input, where there is to be one
+-- nets, the name of the test input, where there is to be one, and hints
 pub record Gating : Type 0 where
   pub library : List CellData
   pub settings : Settings
   pub counts : Option ZeroCounts
   pub prefix : List ℕ
   pub test : Option (List ℕ)
+  pub hints : List Hint
 
--- the machine of the plan, and the gated netlist
+-- the machine with which the plan begins, the machine of the plan, and the gated netlist
+abbrev pub begun : Gating → Circuit → MachineData
+begun by c = begun_by by.library by.settings.width by.prefix by.hints c
+
 abbrev pub planned : Gating → Circuit → MachineData
-planned by c = (plan_of by.library by.settings by.counts (lifted c by.prefix)).machine
+planned by c = (plan_of by.library by.settings by.counts (begun by c)).machine
 
 abbrev pub gated_by : Gating → Circuit → Circuit
 gated_by by c = inserted by.library by.test (planned by c)
@@ -55,7 +62,8 @@ refused_gater library None c = first_refused c (has_and library)
 refused_gater library (Some test) c = first_gater c.gaters
 
 -- what gating needs: no gating cell of the netlist is refused, and each is a cell of the library; no net's name begins with the
--- prefix; the library has cells; the plan is made for a test input exactly where there is to be one, and the name of that is new
+-- prefix; the library has cells; the plan is made for a test input exactly where there is to be one, and the name of that is new;
+-- the hints are hints of the netlist, and there are none where there is to be a test input
 pub record CanGate (by : Gating) (c : Circuit) : Type 0 where
   pub start : CanExtract c by.prefix
   pub lifts : refused_gater by.library by.test c ≡ None
@@ -65,6 +73,8 @@ pub record CanGate (by : Gating) (c : Circuit) : Type 0 where
   pub named : All (λ name. IsTrue (is_name name)) (option_to_list by.test)
   pub new : (name : List ℕ) → by.test ≡ Some name →
       All (λ other. other ≢ name) ((planned by c).circuit.names ++ gate_names (planned by c))
+  pub hints : AllByRecursion (IsHintOf c) by.hints
+  pub untested : (name : List ℕ) → by.test ≡ Some name → by.hints ≡ []
 
 -- The gated netlist behaves as the netlist. It has the registers of that one and the delay registers, which start with 1; the
 -- data inputs of that one and, behind them, a test input where there is to be one; and outputs of the same names. From each

@@ -1,5 +1,6 @@
 -- What is proved of gated netlists.
-use Rattle.std.specs.Prelude.{◌≡◌, Bool, List, ◌++◌}
+use Rattle.std.specs.Prelude.{◌≡◌, ℕ, Bool, List, ◌++◌}
+use Rattle.std.specs.List.{AllByRecursion}
 use Rattle.cg_netlist.specs.Circuit.{Circuit}
 use Rattle.cg_netlist.specs.History.{IsLawful, IsStart, IsWaveform, Moment, Tick, outputs_of}
 use Rattle.cg_netlist.specs.WellFormed.{IsInNetOrder, IsWellFormed}
@@ -7,9 +8,23 @@ use Rattle.cg_insert.specs.Insert.{CanInsert}
 use Rattle.cg_machine.specs.Added.{HasNames, own_netlist}
 use Rattle.cg_machine.specs.Machine.{IsMachine}
 use Rattle.cg_machine.specs.Run.{ones}
-use Rattle.cg_extract.specs.Lifted.{CanExtract, bare}
+use Rattle.cg_extract.specs.Lifted.{CanExtract, bare, lifted}
+use Rattle.cg_hint_laws.specs.Hints.{Fits}
+use Rattle.cg_hint_laws.specs.Laws.{IsSafe}
+use Rattle.cg_hint_laws.specs.OfNetlist.{IsOf}
+use Rattle.cg_hint_laws.specs.declared.hint.Hint.{Hint}
+use Rattle.cg_gate_laws.specs.Begun.{renamed}
 use Rattle.cg_gate_laws.specs.Kept.{KeepsParts}
-use Rattle.cg_gate_laws.specs.Gated.{Behaves, CanGate, Gating, gated_by, own_wave, planned}
+use Rattle.cg_gate_laws.specs.Gated.{Behaves, CanGate, Gating, begun, gated_by, own_wave, planned}
+
+-- a hint of a netlist fits, as one of its machine, the machine to whose enables the netlist's gating cells are lifted
+abbrev pub RenamedFits : Type 0
+RenamedFits = (c : Circuit) (prefix : List ℕ) (h : Hint) → CanExtract c prefix → IsOf c h → Fits (lifted c prefix) (renamed c h)
+
+-- and so the machine with which the plan begins shows what that one shows, and keeps its own netlist and the names of added nets
+abbrev pub BegunIsSafe : Type 0
+BegunIsSafe = (by : Gating) (c : Circuit) → CanExtract c by.prefix → AllByRecursion (IsOf c) by.hints →
+    IsSafe by.library (lifted c by.prefix) (begun by c)
 
 -- the plan's machine is a machine, and the library has what inserting it asks for
 abbrev pub PlannedCanInsert : Type 0
@@ -29,17 +44,19 @@ GatedShowsSame = (by : Gating) (c : Circuit) → CanGate by c → (start : List 
     → IsLawful (gated_by by c) (start ++ ones (planned by c)) wave history → IsLawful c start (own_wave (planned by c) wave) other
     → outputs_of (gated_by by c) history ≡ outputs_of c other
 
--- the plan keeps the netlist with which it begins, which is the one without the gating cells
+-- hints and the plan keep the netlist with which they begin, which is the one without the gating cells
 abbrev pub PlannedKeeps : Type 0
-PlannedKeeps = (by : Gating) (c : Circuit) → CanExtract c by.prefix → own_netlist (planned by c) ≡ bare c
+PlannedKeeps = (by : Gating) (c : Circuit) → CanExtract c by.prefix → AllByRecursion (IsOf c) by.hints →
+    own_netlist (planned by c) ≡ bare c
 
 -- and the gated netlist behaves as the netlist
 abbrev pub GatedBehaves : Type 0
 GatedBehaves = (by : Gating) (c : Circuit) → CanGate by c → Behaves by c (gated_by by c)
 
--- the nets that a plan adds are named by the prefix, in order of addition
+-- the nets that hints and the plan add are named by the prefix, in order of addition
 abbrev pub PlannedNames : Type 0
-PlannedNames = (by : Gating) (c : Circuit) → CanExtract c by.prefix → HasNames (planned by c) × ((planned by c).prefix ≡ by.prefix)
+PlannedNames = (by : Gating) (c : Circuit) → CanExtract c by.prefix → AllByRecursion (IsOf c) by.hints →
+    HasNames (planned by c) × ((planned by c).prefix ≡ by.prefix)
 
 -- and the gated netlist keeps the parts of the netlist
 abbrev pub GatedKeeps : Type 0

@@ -1,4 +1,5 @@
 pub mod TestRun
+pub mod Begun
 pub mod TestLaws
 pub mod Gated
 pub mod Kept

@@ -22,7 +22,7 @@ pub record TurnKeeps (library : List CellData) (m n : MachineData) : Type 0 wher
   pub clock : n.circuit.clock ≡ m.circuit.clock
   pub names : length m.circuit.names ≤ length n.circuit.names
 
-safe_itself : (library : List CellData) (m : MachineData) → IsMachine m → IsSafe library m m
+pub safe_itself : (library : List CellData) (m : MachineData) → IsMachine m → IsSafe library m m
 safe_itself library m good = record { is_machine = good; same = same_self m; own = refl; prefix = refl; names = λ named. named; cells = λ has. has }
 
 keeps_itself : (library : List CellData) (m : MachineData) → IsMachine m → TurnKeeps library m m

@@ -1,5 +1,5 @@
 -- A hint is inserted exactly where it deserves it.
-use Rattle.std.proofs.Common.{◌≡◌, ℕ, ◌<◌, Bool, true, false, not, if◌then◌else◌, List, [], length, nat_lt, slice_get}
+use Rattle.std.proofs.Common.{◌≡◌, ℕ, ◌<◌, ◌≤◌, Bool, true, false, not, if◌then◌else◌, List, [], length, nat_lt, slice_get}
 use Rattle.std.proofs.Common.{Option, None, Some, is_some, refl, ◌∙◌, ap, subst, arith, Ok, Err, unwrap_or}
 use Rattle.std.specs.List.{find}
 use Rattle.std.specs.Option.{option_map, option_or}
@@ -19,7 +19,7 @@ use Rattle.cg_hint_laws.specs.declared.outcome.HintClaim.{HintClaim}
 use Rattle.cg_hint_laws.specs.declared.outcome.HintClaim.TheVariants.{Hold, Idle}
 use Rattle.cg_hint_laws.specs.declared.outcome.HintOutcome.TheVariants.{Inserted, NeverIdle, NoCell, Refuted, Taken, Wide}
 use Rattle.cg_hint_laws.specs.Effects.{and_then, effect}
-use Rattle.cg_hint_laws.specs.Hints.{CanIdle, Fits}
+use Rattle.cg_hint_laws.specs.Hints.{AreFree, CanIdle, ClaimsHold, Fits}
 use Rattle.cg_hint_laws.specs.Laws.{InsertedExactly, IsInsertable}
 use Rattle.cg_hint_laws.specs.Leaves.{leaves_of, width_of}
 use Rattle.cg_hint_laws.specs.Needs.{needs}
@@ -137,30 +137,44 @@ module _ (library : List CellData) (width : ℕ) (m : MachineData) (h : Hint) (g
         room = p.room;
       }
 
-  to : IsInsertable library width m h → tried library width m h ≡ Ok Inserted
-  to d =
-      let idle_q : Question = idle_question h.terms in
-      let taken : first_taken m h ≡ None = map_none (λ r. Ok (Taken r)) (find (λ r. is_some (enable_of m r)) h.regs) (none_found_in (λ r. is_some (enable_of m r)) h.regs (λ r among. ap is_some (d.free r among))) in
-      let cells : first_missing library h ≡ None = map_none (λ kind. Ok (NoCell kind)) (missing library (needs h)) d.cells in
-      let narrow : first_wide m width h ≡ None = map_none (λ (c : HintClaim). Ok (Wide c (claim_width m h c))) (find (λ (c : HintClaim). nat_lt width (claim_width m h c)) (all_claims h))
-      (none_found (λ (c : HintClaim). nat_lt width (claim_width m h c)) (all_claims h) (λ k c at. at_most width (claim_width m h c) (d.narrow k c at))) in
-      let small : first_large m h ≡ None = map_none (λ (c : HintClaim). Err (Limit ClaimNodes)) (find (λ (c : HintClaim). nat_lt MOST_CLAIM_NODES (claim_nodes m h c)) (all_claims h))
-      (none_found (λ (c : HintClaim). nat_lt MOST_CLAIM_NODES (claim_nodes m h c)) (all_claims h) (λ k c at. at_most MOST_CLAIM_NODES (claim_nodes m h c) (d.small k c at))) in
-      let some : is_never m idle_q ≡ false = false_from_ne_true (is_never m idle_q) (λ never.
-      let one : IsSometimesOne m idle_q = (idle_is_said m h.terms good fits.literals).1 d.idles in
-      let zero : IsNeverOne m idle_q = (never_is_tried m idle_q good (idle_asked m h.terms fits.literals)).0 never in
+  pub taken_none : AreFree m h → first_taken m h ≡ None
+  taken_none free = map_none (λ r. Ok (Taken r)) (find (λ r. is_some (enable_of m r)) h.regs) (none_found_in (λ r. is_some (enable_of m r)) h.regs (λ r among. ap is_some (free r among)))
+
+  pub missing_none : missing library (needs h) ≡ None → first_missing library h ≡ None
+  missing_none cells = map_none (λ kind. Ok (NoCell kind)) (missing library (needs h)) cells
+
+  pub wide_none : ((k : ℕ) (c : HintClaim) → slice_get (all_claims h) k ≡ Some c → claim_width m h c ≤ width) → first_wide m width h ≡ None
+  wide_none narrow =
+      map_none (λ (c : HintClaim). Ok (Wide c (claim_width m h c))) (find (λ (c : HintClaim). nat_lt width (claim_width m h c)) (all_claims h))
+      (none_found (λ (c : HintClaim). nat_lt width (claim_width m h c)) (all_claims h) (λ k c at. at_most width (claim_width m h c) (narrow k c at)))
+
+  pub idle_none_there : CanIdle m h.terms → never_idle m h ≡ None
+  idle_none_there idles =
+      let q : Question = idle_question h.terms in
+      let some : is_never m q ≡ false = false_from_ne_true (is_never m q) (λ never.
+      let one : IsSometimesOne m q = (idle_is_said m h.terms good fits.literals).1 idles in
+      let zero : IsNeverOne m q = (never_is_tried m q good (idle_asked m h.terms fits.literals)).0 never in
       both_ways _ (zero one.bits one.long) one.one) in
-      let idles : never_idle m h ≡ None = ap idle_or some in
-      let holds : first_refuted m h ≡ None = map_none (λ (c : HintClaim). Ok (Refuted c [])) (find (λ (c : HintClaim). not (claim_holds m h c)) (hold_claims h))
+      ap idle_or some
+
+  pub refuted_none : ClaimsHold m h → first_refuted m h ≡ None
+  refuted_none holds =
+      map_none (λ (c : HintClaim). Ok (Refuted c [])) (find (λ (c : HintClaim). not (claim_holds m h c)) (hold_claims h))
       (none_found (λ (c : HintClaim). not (claim_holds m h c)) (hold_claims h) (λ k c at.
       let r = mapped_at Hold h.regs k c at in
       let among = member_at h.regs k r.0 r.1 in
       let q : Question = hold_question h.terms h.after r.0 in
       let never : is_never m q ≡ true = (never_is_tried m q good (hold_asked m h.terms h.after r.0 fits.literals (below r.0 among))).1
-      ((hold_is_said m h.terms h.after r.0 good fits.literals (below r.0 among)).1 (d.holds r.0 among)) in
-      subst (λ (e : HintClaim). not (claim_holds m h e) ≡ false) r.2 (ap not never))) in
+      ((hold_is_said m h.terms h.after r.0 good fits.literals (below r.0 among)).1 (holds r.0 among)) in
+      subst (λ (e : HintClaim). not (claim_holds m h e) ≡ false) r.2 (ap not never)))
+
+  to : IsInsertable library width m h → tried library width m h ≡ Ok Inserted
+  to d =
+      let small : first_large m h ≡ None = map_none (λ (c : HintClaim). Err (Limit ClaimNodes)) (find (λ (c : HintClaim). nat_lt MOST_CLAIM_NODES (claim_nodes m h c)) (all_claims h))
+      (none_found (λ (c : HintClaim). nat_lt MOST_CLAIM_NODES (claim_nodes m h c)) (all_claims h) (λ k c at. at_most MOST_CLAIM_NODES (claim_nodes m h c) (d.small k c at))) in
       let none : first_against library width m h ≡ None =
-      none_both (first_taken m h) _ taken (none_both (first_missing library h) _ cells (none_both (first_wide m width h) _ narrow (none_both (first_large m h) _ small (none_both (never_idle m h) _ idles holds)))) in
+      none_both (first_taken m h) _ (taken_none d.free) (none_both (first_missing library h) _ (missing_none d.cells) (none_both (first_wide m width h) _ (wide_none d.narrow)
+      (none_both (first_large m h) _ small (none_both (never_idle m h) _ (idle_none_there d.idles) (refuted_none d.holds))))) in
       ap (λ o. unwrap_or o (and_then (effect m h) (λ n. Ok Inserted))) none ∙ ap (λ e. and_then e (λ n. Ok Inserted)) d.room.1
 
 pub inserted_exactly : InsertedExactly

@@ -5,6 +5,7 @@ use Rattle.cg_cell.specs.Cell.{CellData}
 use Rattle.cg_limit.specs.declared.TheConstants.{MOST_CLAIM_NODES}
 use Rattle.cg_net.specs.NetSets.{is_in}
 use Rattle.cg_netlist.specs.Moment.{bit}
+use Rattle.cg_claim.specs.declared.leaf.LeafBit.{LeafBit}
 use Rattle.cg_machine.specs.Added.{Added, HasNames, own_netlist}
 use Rattle.cg_machine.specs.Extends.{old}
 use Rattle.cg_machine.specs.Claims.{Literal}
@@ -14,7 +15,8 @@ use Rattle.cg_stage_laws.specs.Cells.{HasCells}
 use Rattle.cg_stage_laws.specs.Needs.{missing}
 use Rattle.cg_hint_laws.specs.declared.hint.Hint.{Hint}
 use Rattle.cg_hint_laws.specs.declared.outcome.HintClaim.{HintClaim}
-use Rattle.cg_hint_laws.specs.declared.outcome.HintOutcome.TheVariants.{Inserted}
+use Rattle.cg_hint_laws.specs.declared.outcome.HintClaim.TheVariants.{Hold}
+use Rattle.cg_hint_laws.specs.declared.outcome.HintOutcome.TheVariants.{Inserted, NeverIdle, Refuted}
 use Rattle.cg_hint_laws.specs.Effects.{effect, hint_answer}
 use Rattle.cg_hint_laws.specs.Hints.{AreFree, CanIdle, ClaimsHold, Fits, HintHold, condition_at}
 use Rattle.cg_hint_laws.specs.Needs.{needs}
@@ -46,6 +48,11 @@ ChainTells = (m : MachineData) (h : Hint) (c : Added) → IsMachine m → Fits m
     → let state : ℕ → List Bool = λ j. state_at c.machine (start ++ ones c.machine) xs j in
     bit (values c.machine (state i) (xs i)) c.net
     ≡ (if nat_lt i h.after then true else condition_at (values m (old m (state (i - h.after))) (xs (i - h.after))) h.terms)
+
+-- And it is the enable of each of these registers.
+abbrev pub RegistersGetChain : Type 0
+RegistersGetChain = (m n : MachineData) (h : Hint) (c : Added) → IsMachine m → Fits m h → AreFree m h → hint_answer m h ≡ Ok c →
+    effect m h ≡ Ok n → (r : ℕ) → is_in h.regs r ≡ true → enable_of n r ≡ Some c.net
 
 -- what a hint claims of a register, said of all states and all courses of inputs in which every register takes its next bit from cycle
 -- to cycle
@@ -89,6 +96,20 @@ abbrev pub InsertedExactly : Type 0
 InsertedExactly = (library : List CellData) (width : ℕ) (m : MachineData) (h : Hint) → IsMachine m → Fits m h →
     (tried library width m h ≡ Ok Inserted) ↔ IsInsertable library width m h
 
+-- What makes a hint worth inserting in a run that comes to its end. Nothing is asked of nodes, nets or registers: a run in which a
+-- limit on these is passed comes to no end, so no hint is left out for them.
+pub record IsWorthInserting (library : List CellData) (width : ℕ) (m : MachineData) (h : Hint) : Type 0 where
+  -- none of its registers has an enable
+  pub free : AreFree m h
+  -- the library has each cell that it needs
+  pub cells : missing library (needs h) ≡ None
+  -- each of its claims, the first of which is that it can idle, has no more leaves than are allowed
+  pub narrow : (k : ℕ) (c : HintClaim) → slice_get (all_claims h) k ≡ Some c → claim_width m h c ≤ width
+  -- its condition can be 0
+  pub idles : CanIdle m h.terms
+  -- its registers keep their bits, over all states and inputs
+  pub holds : ClaimsHold m h
+
 -- each hint of a list fits
 abbrev pub AllFit : MachineData → List Hint → Type 0
 AllFit m hs = AllByRecursion (Fits m) hs
@@ -111,3 +132,28 @@ pub record AreSafe (library : List CellData) (m : MachineData) (done : Hinted) :
 abbrev pub HintsAreSafe : Type 0
 HintsAreSafe = (library : List CellData) (width : ℕ) (m : MachineData) (hs : List Hint) (done : Hinted) → IsMachine m → AllFit m hs →
     hinted library width m hs ≡ Ok done → AreSafe library m done
+
+-- and where no limit is passed, each is inserted exactly where it is worth it on the machine of its turn
+abbrev pub WorthyExactly : Type 0
+WorthyExactly = (library : List CellData) (width : ℕ) (m : MachineData) (hs : List Hint) (done : Hinted) → IsMachine m → AllFit m hs →
+    hinted library width m hs ≡ Ok done → (k : ℕ) (turn : Turn) → slice_get done.turns k ≡ Some turn →
+    (turn.outcome ≡ Inserted) ↔ IsWorthInserting library width turn.machine turn.hint
+
+-- a claim of a register is false, and those of the registers before it hold
+pub record IsFirstRefuted (m : MachineData) (h : Hint) (claim : HintClaim) : Type 0 where
+  pub place : ℕ
+  pub register : ℕ
+  pub named : claim ≡ Hold register
+  pub at : slice_get h.regs place ≡ Some register
+  pub false_there : HintHold m h.terms h.after register → ⊥
+  pub before : (k r : ℕ) → k < place → slice_get h.regs k ≡ Some r → HintHold m h.terms h.after r
+
+-- What a hint is told to be that is not inserted is so. One that is never idle has a condition that is 1 in every state and with all
+-- inputs; one that is refuted has a register that does not keep its bit as the hint says, and those before it keep theirs.
+abbrev pub NeverIdleIsSo : Type 0
+NeverIdleIsSo = (library : List CellData) (width : ℕ) (m : MachineData) (h : Hint) → IsMachine m → Fits m h →
+    tried library width m h ≡ Ok NeverIdle → (s x : List Bool) → IsState m s → IsInputs m x → condition_at (values m s x) h.terms ≡ true
+
+abbrev pub RefutedIsSo : Type 0
+RefutedIsSo = (library : List CellData) (width : ℕ) (m : MachineData) (h : Hint) (claim : HintClaim) (bits : List LeafBit) →
+    IsMachine m → Fits m h → tried library width m h ≡ Ok (Refuted claim bits) → IsFirstRefuted m h claim

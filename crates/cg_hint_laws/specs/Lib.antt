@@ -1,4 +1,5 @@
 pub mod Hints
+pub mod OfNetlist
 pub mod Effects
 pub mod Question
 pub mod Reach

@@ -20,8 +20,8 @@ use Rattle.cg_net.proofs.DifferentNames.{known_at}
 use Rattle.std.proofs.lemmas.Option.{same_Some}
 use Rattle.cg_hint_laws.specs.declared.hint.Hint.{Hint}
 use Rattle.cg_hint_laws.specs.Hints.{condition_nets}
-use Rattle.cg_hint_text.specs.HintText.{IsPlain}
-use Rattle.cg_hint_text.specs.Laws.{IsOf, OfNetlistFits, ReadAreOf}
+use Rattle.cg_hint_laws.specs.OfNetlist.{IsOf, IsPlain}
+use Rattle.cg_hint_text.specs.Laws.{OfNetlistFits, ReadAreOf}
 use Rattle.cg_hint_text.specs.Reading.{Form, Word, all_said, all_terms, are_terms, cycles_of, few, first_showing, form_behind, form_of, form_with, formed_or}
 use Rattle.cg_hint_text.specs.Reading.{hint_before, hint_lines, hint_of, is_after, is_bang, is_plus, is_when, known_or, line_hint, lines_hints, literal_of, net_of}
 use Rattle.cg_hint_text.specs.Reading.{net_place, put_literal, register_of, said_then, shows_first, stand_apart, unless_clock, word_at}

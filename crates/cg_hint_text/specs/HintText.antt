@@ -1,20 +1,14 @@
 -- The hint texts of hints, said of their lines.
-use Rattle.std.specs.Prelude.{◌≡◌, ◌≢◌, ◌≤◌, ◌<◌, ℕ, true, false, List, [], ◌∷◌, ◌++◌, length, slice_get, if◌then◌else◌, codes, Some}
+use Rattle.std.specs.Prelude.{◌≡◌, ◌≤◌, ◌<◌, ℕ, true, false, List, [], ◌∷◌, ◌++◌, length, slice_get, if◌then◌else◌, codes, Some}
 use Rattle.std.specs.Fmt.{decimal}
 use Rattle.std.specs.List.{AllByRecursion, AllZip}
 use Rattle.cg_text.specs.declared.lines.Line.{Line}
 use Rattle.cg_net.specs.Names.{is_known}
-use Rattle.cg_net.specs.NetSets.{is_in}
-use Rattle.cg_netlist.specs.Circuit.{Circuit, RegisterCell, gater_outputs}
+use Rattle.cg_netlist.specs.Circuit.{Circuit, RegisterCell}
 use Rattle.cg_machine.specs.Claims.{Literal}
+use Rattle.cg_hint_laws.specs.OfNetlist.{IsPlain}
 use Rattle.cg_hint_laws.specs.declared.hint.Hint.{Hint}
 use Rattle.cg_hint_text.specs.Reading.{Word, begins_inverted, hint_lines, is_plus, is_when, shows_first}
-
--- a net of a netlist that is neither the clock nor the output of a gating cell
-pub record IsPlain (c : Circuit) (net : ℕ) : Type 0 where
-  pub below : net < length c.names
-  pub apart : c.clock ≢ Some net
-  pub ungated : is_in (gater_outputs c) net ≡ false
 
 -- a word is the name of such a net
 pub record NamesNet (c : Circuit) (word : Word) (net : ℕ) : Type 0 where

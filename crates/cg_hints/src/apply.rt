@@ -1,14 +1,12 @@
 //! Hints that are tried on a machine.
 
-ghost use Rattle.std.specs.Prelude.{◌≡◌, [], ◌+◌, length, IfErr, IfOk, MatchResult, OnErr, OnOk};
-ghost use Rattle.cg_hint_laws.specs.Answers.{AreAppended, AreTried, IsAnswer, MayFail, claims_for};
+ghost use Rattle.std.specs.Prelude.{◌≡◌, [], ◌+◌, length, IfErr, IfOk, MatchResult, OnOk};
+ghost use Rattle.cg_hint_laws.specs.Answers.{AreTried, MayFail};
 ghost use Rattle.cg_hint_laws.specs.Hints.{Fits};
 ghost use Rattle.cg_hint_laws.specs.Laws.{AllFit, IsSafe};
-ghost use Rattle.cg_hint_laws.specs.Trying.{after_outcome, hinted, tried};
+ghost use Rattle.cg_hint_laws.specs.Trying.{hinted, tried};
 ghost use Rattle.cg_hints.specs.Applying.{reported};
 ghost use Rattle.cg_hints.specs.inner.Drafting.{IsStep, drafted};
-ghost use Rattle.cg_machine.specs.Extends.{Extends};
-ghost use Rattle.cg_machine.specs.Machine.{IsMachine};
 ghost use Rattle.cg_netlist.specs.declared.fault.AddFault.TheVariants.{NoMemory};
 
 use crate::judge::Judge;
@@ -23,43 +21,6 @@ use cg_machine::machine::Machine;
 use cg_netlist::fault::AddFault;
 use std::alloc::Global;
 
-/// Tries a hint that fits the machine, as the hint of this number, and inserts it where it deserves it.
-///
-/// An inserted hint keeps the outputs of every run of the machine, and a certificate for each of its registers is put behind
-/// `into`. Any other outcome leaves the machine and `into` as they are.
-///
-/// It is refused by `Limit(ClaimNodes)` where no register has an enable, the library has its cells, no claim is too wide, and
-/// one has more than 65,536 leaves and and-nodes; and by `Limit(Nets)` or `Limit(Registers)` where it deserves to be inserted, and
-/// what would be added passes that limit. After a refusal `into` and all enables are as before, and gates and delay registers
-/// that no enable reads may have been added.
-pub fn apply(
-    alloc: Global,
-    machine: &mut Machine,
-    number: u32,
-    hint: &Hint,
-    library: &Library,
-    width: u32,
-    into: &mut Vec<HintCertificate>,
-) -> Result<HintOutcome, AddFault>
-    requires { Fits machine.old hint.now }
-    ensures answer { IsAnswer machine.old hint.now (tried library.now width machine.old hint.now) result }
-    ensures machine { IfOk result (λ outcome. machine.new ≡ after_outcome machine.old hint.now outcome) }
-    ensures safe { OnOk result (IsSafe library.now machine.old machine.new) }
-    ensures certificates { IfOk result (λ outcome. AreAppended (claims_for number machine.old hint.now outcome) into.old.items into.new.items) }
-    ensures kept { OnErr result (Extends machine.old machine.new) }
-    ensures unchanged { OnErr result (into.new.items ≡ into.old.items) }
-    ensures whole { IsMachine machine.new }
-{
-    let _netlist = machine.netlist();
-    let mut judge = Judge::new(alloc);
-    let entry = Entry { number, hint };
-    let rules = Rules { library, width };
-    let result = judge.try_hint(machine, &entry, &rules, into);
-    // By a call: its many parts would else be dropped step by step in each goal of this function.
-    drop(judge);
-    result
-}
-
 /// Hints that were tried on a machine one after another.
 #[derive(Drop)]
 pub struct Applied {
@@ -73,10 +34,15 @@ pub struct Applied {
     pub certificates: Seq<HintCertificate>,
 }
 
-/// Tries hints that fit the machine one after another, each on the machine that those before it leave, as [`apply`] does.
+/// Tries hints that fit the machine one after another, each on the machine that those before it leave, and inserts those that
+/// deserve it.
 ///
 /// From every start with 1 in the delay registers and over every waveform the machine that they leave shows what the machine
-/// shows that is given. It is refused where a hint is.
+/// shows that is given. There is a certificate for each register of an inserted hint; any other outcome changes nothing.
+///
+/// It is refused by the limit that comes first in the order of the hints: by `Limit(ClaimNodes)` where no register of a hint has an
+/// enable, the library has its cells, no claim is too wide, and one has more than 65,536 leaves and and-nodes; and by `Limit(Nets)`
+/// or `Limit(Registers)` where a hint deserves to be inserted, and what would be added passes that limit.
 pub fn apply_all(
     alloc: Global,
     machine: Machine,

@@ -90,7 +90,11 @@ impl Judge {
         }
     }
 
-    /// Tries a hint, as [`apply`](crate::apply::apply) says.
+    /// Tries a hint that fits the machine, as the hint of this number, and inserts it where it deserves it.
+    ///
+    /// A certificate for each register of an inserted hint is put behind `into`. Any other outcome leaves the machine and `into` as
+    /// they are. After a refusal `into` and all enables are as before, and gates and delay registers that no enable reads may have
+    /// been added.
     pub fn try_hint(
         &mut self,
         machine: &mut Machine,

@@ -1,15 +1,19 @@
 -- Texts that are written piece by piece.
 use Rattle.std.proofs.Common.{◌≡◌, ℕ, suc, Bool, cond, ◌+◌, ◌<◌, List, [], ◌∷◌, ◌++◌, length, drop, get_or, map, refl, sym, ap, ◌∙◌}
-use Rattle.std.proofs.Common.{add-one, drop-cons, append_assoc, append-nil}
+use Rattle.std.proofs.Common.{add-one, drop-cons, append_assoc, append-nil, arith}
 use Rattle.std.proofs.lemmas.Grind.{flat_map-append}
 use Rattle.std.specs.List.{count_by, flat_map}
 use Rattle.std.proofs.lemmas.List.Sums.{count_by-le-length, sum_by-cons}
+use Rattle.cg_hint_laws.specs.declared.certificate.HintCertificate.{HintCertificate}
+use Rattle.cg_hint_laws.specs.declared.hint.Hint.{Hint}
+use Rattle.cg_hint_laws.specs.declared.outcome.HintOutcome.{HintOutcome}
 use Rattle.cg_machine.specs.Machine.{MachineData}
 use Rattle.cg_machine.specs.declared.stage.Stage.{Stage}
 use Rattle.cg_plan_laws.specs.declared.certificate.Certificate.{Certificate}
 use Rattle.cg_plan_laws.specs.declared.outcome.Outcome.{Outcome}
 use Rattle.cg_text.specs.Written.{joined, line_text, text_of}
-use Rattle.cg_plan_text.specs.ProofText.{certificate_text}
+use Rattle.cg_plan_text.specs.HintWords.{hint_words, hints_from}
+use Rattle.cg_plan_text.specs.ProofText.{certificate_text, hint_certificate_text}
 use Rattle.cg_plan_text.specs.StageLines.{stages_from}
 use Rattle.cg_plan_text.specs.inner.Spaced.{spaced}
 use Rattle.cg_plan_text.specs.Words.{Word, stage_words}
@@ -33,6 +37,16 @@ pub stages_from-drop : (m : MachineData) (stages : List (Stage × Outcome)) (k :
     → text_of (stages_from m (k + 1) (drop k stages)) ≡ line_text (stage_words m (k + 1) (get_or stages k d)) ++ text_of (stages_from m (k + 1 + 1) (drop (k + 1) stages))
 stages_from-drop m stages k d below = rw (add-one k, drop-cons stages k d) refl
 
+pub hints_from-drop : (m : MachineData) (hints : List Hint) (outcomes : List HintOutcome) (k : ℕ) (d : Hint) (e : HintOutcome) → k < length hints → length hints ≡ length outcomes
+    → text_of (hints_from m (k + 1) (drop k hints) (drop k outcomes)) ≡ line_text (hint_words m (k + 1) (get_or hints k d) (get_or outcomes k e)) ++ text_of (hints_from m (k + 1 + 1) (drop (k + 1) hints) (drop (k + 1) outcomes))
+hints_from-drop m hints outcomes k d e below same =
+    let below_too : k < length outcomes = omega (arith, below, same) in
+    rw (add-one k, drop-cons hints k d below, drop-cons outcomes k e below_too) refl
+
+pub hint_certificates-drop : (m : MachineData) (certificates : List HintCertificate) (k : ℕ) (d : HintCertificate) → k < length certificates
+    → flat_map (hint_certificate_text m) (drop k certificates) ≡ hint_certificate_text m (get_or certificates k d) ++ flat_map (hint_certificate_text m) (drop (k + 1) certificates)
+hint_certificates-drop m certificates k d below = rw (add-one, drop-cons certificates k d) refl
+
 pub certificates-drop : (m : MachineData) (certificates : List Certificate) (k : ℕ) (d : Certificate) → k < length certificates
     → flat_map (certificate_text m) (drop k certificates) ≡ certificate_text m (get_or certificates k d) ++ flat_map (certificate_text m) (drop (k + 1) certificates)
 certificates-drop m certificates k d below = rw (add-one, drop-cons certificates k d) refl
@@ -47,4 +61,4 @@ pub ruleset pieces = (spaced-append, append_assoc, append-nil)
 
 pub ruleset lines = (line_text-spaced, spaced-append, append_assoc, append-nil)
 
-pub ruleset turns = (spaced_map-drop, stages_from-drop, certificates-drop, append_assoc)
+pub ruleset turns = (spaced_map-drop, stages_from-drop, hints_from-drop, certificates-drop, hint_certificates-drop, append_assoc)

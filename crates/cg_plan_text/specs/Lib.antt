@@ -1,4 +1,5 @@
 pub mod Words
+pub mod HintWords
 pub mod StageLines
 pub mod ProofText
 pub mod Summary

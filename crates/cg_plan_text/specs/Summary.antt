@@ -2,12 +2,15 @@
 use Rattle.std.specs.Prelude.{ℕ, ◌-◌, if◌then◌else◌, List, [], ◌∷◌, ◌++◌, length, codes, nat_le, Option, None, Some}
 use Rattle.std.specs.Fmt.{decimal}
 use Rattle.std.specs.List.{count_by}
+use Rattle.cg_hint_laws.specs.declared.hint.Hint.{Hint}
+use Rattle.cg_hint_laws.specs.declared.outcome.HintOutcome.{HintOutcome}
 use Rattle.cg_machine.specs.declared.stage.Stage.{Stage}
 use Rattle.cg_plan_laws.specs.Plan.{is_inserted}
 use Rattle.cg_plan_laws.specs.Reported.{ReportedPlan}
 use Rattle.cg_plan_laws.specs.declared.outcome.Outcome.{Outcome}
 use Rattle.cg_text.specs.Written.{line_text}
-use Rattle.cg_plan_text.specs.StageLines.{counts_words, stage_lines}
+use Rattle.cg_plan_text.specs.HintWords.{hints_line}
+use Rattle.cg_plan_text.specs.StageLines.{counts_words, plan_lines}
 use Rattle.cg_plan_text.specs.Words.{Word}
 use Rattle.cg_plan_text.specs.declared.summary.Edges.{Edges}
 use Rattle.cg_plan_text.specs.declared.summary.Played.{Played}
@@ -41,14 +44,14 @@ watched_line (Some line) = line ++ 10 ∷ []
 abbrev pub played_lines : Played → List ℕ
 played_lines played = edges_line played.edges ++ watched_line played.watched
 
--- what `gate` says
-abbrev pub said_text : ReportedPlan → Played → List ℕ
-said_text plan played = line_text (summary_words plan) ++ played_lines played
+-- what `gate` says: of the hints, where they are asked for, of the stages, and of what came of the stimulus
+abbrev pub said_text : ReportedPlan → Option (List HintOutcome) → Played → List ℕ
+said_text plan hints played = hints_line hints ++ (line_text (summary_words plan) ++ played_lines played)
 
--- the report: the model's name, the plan with so many gating cells, and what came of the stimulus
-abbrev pub report_text : ReportedPlan → ℕ → Played → List ℕ
-report_text plan gates played =
-    line_text (codes "model" ∷ plan.machine.circuit.model ∷ []) ++ (stage_lines plan gates ++ played_lines played)
+-- the report: the model's name, the hints and the plan with so many gating cells, and what came of the stimulus
+abbrev pub report_text : ReportedPlan → List Hint → List HintOutcome → ℕ → Played → List ℕ
+report_text plan hints outcomes gates played =
+    line_text (codes "model" ∷ plan.machine.circuit.model ∷ []) ++ (plan_lines plan hints outcomes gates ++ played_lines played)
 
 -- what `demo` says of a pipeline of this size
 abbrev pub demo_text : ℕ → ReportedPlan → ℕ → Edges → List ℕ

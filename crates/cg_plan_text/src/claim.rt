@@ -29,7 +29,12 @@ pub fn push_claim(text: &mut Vec<u8>, machine: &Machine, claim: ClaimName) -> Re
 
 /// Puts a word and the name of a register behind a text.
 #[tactic(auto, using(crate::proofs::TextLemmas::pieces))]
-fn push_of(text: &mut Vec<u8>, word: &[u8], machine: &Machine, reg: RegId) -> Result<(), AllocError>
+pub fn push_of(
+    text: &mut Vec<u8>,
+    word: &[u8],
+    machine: &Machine,
+    reg: RegId,
+) -> Result<(), AllocError>
     ensures { OnOk result (text.new.items ≡ text.old.items ++ spaced (word.now ∷ register_word machine.now reg ∷ [])) }
 {
     push_word(text, word)?;

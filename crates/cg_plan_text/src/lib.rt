@@ -1,6 +1,7 @@
 //! The texts of a plan.
 //!
-//! A plan goes in, with what was counted beside it; its lines, its proof file, its report and what is said of it come out.
+//! A plan goes in, with the hints that were tried before it and what was counted beside it; its lines, its proof file, its report and
+//! what is said of it come out.
 //!
 //! The modules, in the order in which data flows through them:
 //!
@@ -8,12 +9,14 @@
 //! - `claim`: the words of claims and leaves;
 //! - `outcome`: the words of what comes of a stage;
 //! - `stage`: the line of a stage;
+//! - `hint`: the lines of hints;
 //! - [`lines`]: the lines of a plan;
 //! - [`proof`]: the proof file;
 //! - [`summary`]: what is said, and the report.
 #![tactic(auto)]
 
 mod claim;
+mod hint;
 pub mod lines;
 mod names;
 mod outcome;

@@ -1,13 +1,16 @@
 //! The lines of a plan.
 
-ghost use Rattle.std.specs.Prelude.{◌≡◌, ◌++◌, ◌∷◌, [], decimal, IfOk, OnOk};
-ghost use Rattle.cg_plan_text.specs.StageLines.{counts_words, stage_lines, stages_from, wide_words};
+ghost use Rattle.std.specs.Prelude.{◌≡◌, ◌++◌, ◌∷◌, [], decimal, length, IfOk, OnOk};
+ghost use Rattle.cg_plan_text.specs.StageLines.{counts_words, plan_lines, stage_lines, stages_from, wide_words};
 ghost use Rattle.cg_plan_text.specs.inner.Spaced.{spaced};
 ghost use Rattle.cg_plan.specs.Planning.{told};
 ghost use Rattle.cg_text.specs.Written.{line_text, text_of};
 
+use crate::hint::push_hints;
 use crate::names::{push_count, push_word};
 use crate::stage::push_stage;
+use cg_hint_laws::hint::Hint;
+use cg_hint_laws::outcome::HintOutcome;
 use cg_machine::machine::Machine;
 use cg_machine::stage::Stage;
 use cg_plan::plan::Plan;
@@ -20,17 +23,25 @@ pub fn stage_lines(alloc: Global, plan: &Plan, gates: u32) -> Result<Vec<u8>, Al
     ensures { IfOk result (λ text. text.items ≡ stage_lines (told plan.now) gates) }
 {
     let mut text = Vec::new(alloc);
-    push_lines(&mut text, plan, gates)?;
+    push_lines(&mut text, plan, &[], &[], gates)?;
     Ok(text)
 }
 
-/// Puts the lines of a plan behind a text.
+/// Puts the lines of a plan behind a text, and those of the hints that were tried before it behind the second.
 #[tactic(auto, using(crate::proofs::TextLemmas::pieces))]
-pub(crate) fn push_lines(text: &mut Vec<u8>, plan: &Plan, gates: u32) -> Result<(), AllocError>
-    ensures { OnOk result (text.new.items ≡ text.old.items ++ stage_lines (told plan.now) gates) }
+pub(crate) fn push_lines(
+    text: &mut Vec<u8>,
+    plan: &Plan,
+    hints: &[Hint],
+    outcomes: &[HintOutcome],
+    gates: u32,
+) -> Result<(), AllocError>
+    requires { length hints.now ≡ length outcomes.now }
+    ensures { OnOk result (text.new.items ≡ text.old.items ++ plan_lines (told plan.now) hints.now outcomes.now gates) }
 {
     push_counts(text, &plan.machine, gates)?;
     push_wide(text, plan.wide)?;
+    push_hints(text, &plan.machine, hints, outcomes)?;
     push_stages(text, &plan.machine, plan.stages.as_slice())
 }
 

@@ -44,7 +44,8 @@ pub fn push_outcome(
     }
 }
 
-fn cell_word(kind: FitKind) -> &'static [u8]
+/// The word of a kind of cell.
+pub fn cell_word(kind: FitKind) -> &'static [u8]
     ensures { result.now ≡ cell_word kind }
 {
     match kind {

@@ -35,7 +35,11 @@ pub fn push_stage(
 
 /// Puts `regs`, their number and their names behind a text.
 #[tactic(auto, using(crate::proofs::TextLemmas::turns))]
-fn push_registers(text: &mut Vec<u8>, machine: &Machine, regs: &[RegId]) -> Result<(), AllocError>
+pub fn push_registers(
+    text: &mut Vec<u8>,
+    machine: &Machine,
+    regs: &[RegId],
+) -> Result<(), AllocError>
     ensures { OnOk result (text.new.items ≡ text.old.items ++ spaced (codes "regs" ∷ decimal (length regs.now) ∷ map (register_word machine.now) regs.now)) }
 {
     push_word(text, b"regs")?;

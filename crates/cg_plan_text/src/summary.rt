@@ -1,8 +1,11 @@
 //! What is said of a plan, and what stands in a report beside its lines.
 
-ghost use Rattle.std.specs.Prelude.{◌≡◌, ◌++◌, ◌∷◌, [], decimal, IfOk, OnOk};
+ghost use Rattle.std.specs.Prelude.{◌≡◌, ◌++◌, ◌∷◌, [], decimal, length, IfOk, OnOk};
 ghost use Rattle.std.specs.List.{count_by};
+ghost use Rattle.std.specs.Option.{option_copied};
+ghost use Rattle.cg_hint_laws.specs.Trying.{is_inserted as is_inserted_hint};
 ghost use Rattle.cg_plan_laws.specs.Plan.{is_inserted};
+ghost use Rattle.cg_plan_text.specs.HintWords.{hints_line, hints_words};
 ghost use Rattle.cg_plan_text.specs.Summary.{demo_text, difference_word, edges_line, edges_words};
 ghost use Rattle.cg_plan_text.specs.Summary.{played_lines, report_text, said_text, summary_of, watched_line};
 ghost use Rattle.cg_plan.specs.Planning.{told};
@@ -10,6 +13,8 @@ ghost use Rattle.cg_text.specs.Written.{line_text};
 
 use crate::lines::{push_counts, push_lines};
 use crate::names::{push_count, push_word};
+use cg_hint_laws::hint::Hint;
+use cg_hint_laws::outcome::HintOutcome;
 use cg_list::Seq;
 use cg_machine::stage::Stage;
 use cg_plan::plan::Plan;
@@ -31,30 +36,39 @@ pub struct Played {
     pub watched: Option<Seq<u8>>,
 }
 
-/// What is said of a plan.
+/// What is said of hints, where they are asked for, and of the plan behind them.
 #[tactic(auto, using(crate::proofs::TextLemmas::pieces))]
-pub fn said_text(alloc: Global, plan: &Plan, played: &Played) -> Result<Vec<u8>, AllocError>
-    ensures { IfOk result (λ text. text.items ≡ said_text (told plan.now) played.now) }
+pub fn said_text(
+    alloc: Global,
+    plan: &Plan,
+    hints: Option<&Seq<HintOutcome>>,
+    played: &Played,
+) -> Result<Vec<u8>, AllocError>
+    ensures { IfOk result (λ text. text.items ≡ said_text (told plan.now) (option_copied hints.entry) played.now) }
 {
     let mut text = Vec::new(alloc);
+    push_hints_line(&mut text, hints)?;
     push_summary(&mut text, plan.stages.as_slice())?;
     push_played(&mut text, played)?;
     Ok(text)
 }
 
-/// The report on a plan; the written netlist has so many gating cells.
+/// The report on a plan and on the hints that were tried before it, with their outcomes; the written netlist has so many gating cells.
 #[tactic(auto, using(crate::proofs::TextLemmas::pieces))]
 pub fn report_text(
     alloc: Global,
     plan: &Plan,
+    hints: &[Hint],
+    outcomes: &[HintOutcome],
     gates: u32,
     played: &Played,
 ) -> Result<Vec<u8>, AllocError>
-    ensures { IfOk result (λ text. text.items ≡ report_text (told plan.now) gates played.now) }
+    requires { length hints.now ≡ length outcomes.now }
+    ensures { IfOk result (λ text. text.items ≡ report_text (told plan.now) hints.now outcomes.now gates played.now) }
 {
     let mut text = Vec::new(alloc);
     push_pair(&mut text, b"model", plan.machine.netlist().model())?;
-    push_lines(&mut text, plan, gates)?;
+    push_lines(&mut text, plan, hints, outcomes, gates)?;
     push_played(&mut text, played)?;
     Ok(text)
 }
@@ -96,6 +110,42 @@ fn push_pair(text: &mut Vec<u8>, word: &[u8], other: &[u8]) -> Result<(), AllocE
     text.extend_from_slice(word)?;
     push_word(text, other)?;
     text.extend_from_slice(b"\n")
+}
+
+/// Puts how many hints were tried and inserted behind a text, where hints are asked for.
+fn push_hints_line(text: &mut Vec<u8>, hints: Option<&Seq<HintOutcome>>) -> Result<(), AllocError>
+    ensures { OnOk result (text.new.items ≡ text.old.items ++ hints_line (option_copied hints.entry)) }
+{
+    match hints {
+        None => Ok(()),
+        Some(outcomes) => push_hints_summary(text, outcomes.as_slice()),
+    }
+}
+
+/// Puts how many hints were tried and inserted behind a text.
+#[tactic(auto, using(crate::proofs::TextLemmas::lines))]
+fn push_hints_summary(text: &mut Vec<u8>, outcomes: &[HintOutcome]) -> Result<(), AllocError>
+    ensures { OnOk result (text.new.items ≡ text.old.items ++ line_text (hints_words outcomes.now)) }
+{
+    text.extend_from_slice(b"hints")?;
+    push_count(text, outcomes.len() as u64)?;
+    push_word(text, b"inserted")?;
+    push_count(text, inserted_hints(outcomes) as u64)?;
+    text.extend_from_slice(b"\n")
+}
+
+/// How many hints were inserted.
+#[tactic(auto, using(crate::proofs::TextLemmas::counts))]
+fn inserted_hints(outcomes: &[HintOutcome]) -> usize
+    ensures { result ≡ count_by is_inserted_hint outcomes.now }
+{
+    let mut count = 0;
+    'outcomes: for outcome in outcomes {
+        if outcome.is_inserted() {
+            count += 1;
+        }
+    }
+    count
 }
 
 /// Puts how many stages were tried and inserted behind a text.

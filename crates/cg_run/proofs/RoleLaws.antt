@@ -18,7 +18,8 @@ role_at (suc (suc (suc (suc zero)))) = roles.Log
 role_at (suc (suc (suc (suc (suc zero))))) = roles.Out
 role_at (suc (suc (suc (suc (suc (suc zero)))))) = roles.Proof
 role_at (suc (suc (suc (suc (suc (suc (suc zero))))))) = roles.Report
-role_at n = roles.Verilog
+role_at (suc (suc (suc (suc (suc (suc (suc (suc zero)))))))) = roles.Verilog
+role_at n = roles.Hints
 
 role_back : (role : Role) → role_at (role_number role) ≡ role
 unfolding role_at
@@ -31,6 +32,7 @@ role_back roles.Out = refl
 role_back roles.Proof = refl
 role_back roles.Report = refl
 role_back roles.Verilog = refl
+role_back roles.Hints = refl
 
 pub is_same_role : (a b : Role) → is_role a b ≡ true → a ≡ b
 is_same_role a b same = sym (role_back a) ∙ ap role_at (eqb-true (role_number a) (role_number b) same) ∙ role_back b

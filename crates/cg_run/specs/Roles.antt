@@ -13,6 +13,7 @@ role_number roles.Out = 5
 role_number roles.Proof = 6
 role_number roles.Report = 7
 role_number roles.Verilog = 8
+role_number roles.Hints = 9
 
 abbrev pub is_role : Role → Role → Bool
 is_role a b = nat_eq (role_number a) (role_number b)

@@ -18,7 +18,7 @@ pub enum Owner {
     Netlist,
     /// A library's.
     Library,
-    /// That of a stimulus, a formula or a proof log.
+    /// That of a stimulus, of hints, of a formula or of a proof log.
     Stimulus,
 }
 

@@ -21,4 +21,6 @@ pub enum Role {
     Report,
     /// The written netlist as a Verilog text.
     Verilog,
+    /// Conditions of the engineer's own.
+    Hints,
 }

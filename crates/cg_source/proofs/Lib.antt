@@ -2,5 +2,6 @@ pub mod Taken
 pub mod NetlistTexts
 mod DumpRows
 pub mod StimulusTexts
+pub mod HintTexts
 pub mod Texts
 pub mod DesignRead

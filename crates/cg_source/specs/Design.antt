@@ -1,5 +1,6 @@
--- What is read of the files of a design: a library, a netlist with its cells that is as a mode demands, and the text of a stimulus.
-use Rattle.std.specs.Prelude.{ℕ, Bool, if◌then◌else◌, List, [], ◌∷◌, Option, None, Some, Result, Ok}
+-- What is read of the files of a design: a library, a netlist with its cells that is as a mode demands, and the texts of a stimulus and
+-- of hints.
+use Rattle.std.specs.Prelude.{ℕ, Bool, if◌then◌else◌, List, [], ◌∷◌, ◌++◌, Option, None, Some, Result, Ok}
 use Rattle.std.specs.Option.{option_map}
 use Rattle.cg_cell.specs.Cell.{CellData}
 use Rattle.cg_netlist.specs.Circuit.{Circuit}
@@ -27,7 +28,8 @@ abbrev pub permitted : {D : Type 0} → (List CellData → D → Circuit → Res
     D → List ℕ → Result Circuit Trouble
 permitted permits library clock demand text = then_found (netlist_found library clock text) (permits library demand)
 
--- A library, such a netlist and the text of a stimulus are taken. That text is read for the netlist when all are taken.
+-- A library, such a netlist, the text of a stimulus and that of hints are taken. These texts are read for the netlist when all are
+-- taken.
 abbrev pub design_takes : {D : Type 0} → (List CellData → D → Circuit → Result Circuit Trouble) → DesignFiles D → Role → List ℕ →
     Result (DesignFiles D) Trouble
 design_takes permits state roles.Library text = found_as (λ library. record state { library = library }) (library_found text)
@@ -35,20 +37,26 @@ design_takes permits state roles.Netlist text =
     found_as (λ netlist. record state { netlist = Some netlist })
     (permitted permits state.library (state.options).clock state.demand text)
 design_takes permits state roles.Stimulus text = Ok (record state { stimulus = text })
+design_takes permits state roles.Hints text = Ok (record state { hints = text })
 design_takes permits state role text = Ok state
 
 -- nothing is read yet
 abbrev pub design_start : {D : Type 0} → D → Option NetName → DesignFiles D
 design_start demand clock =
-    record { demand = demand; options = record { clock = clock }; library = []; netlist = None; stimulus = [] }
+    record { demand = demand; options = record { clock = clock }; library = []; netlist = None; stimulus = []; hints = [] }
 
--- the library is loaded and read, then the netlist, then the stimulus, where there is to be one
-abbrev pub design_loads : Bool → List Role
-design_loads stimulus = roles.Library ∷ roles.Netlist ∷ (if stimulus then roles.Stimulus ∷ [] else [])
+-- the library is loaded and read, then the netlist, then the stimulus, where there is to be one, and then the hints, where there are to
+-- be some
+abbrev pub load_where : Bool → Role → List Role
+load_where wanted role = if wanted then role ∷ [] else []
+
+abbrev pub design_loads : Bool → Bool → List Role
+design_loads stimulus hints =
+    roles.Library ∷ roles.Netlist ∷ (load_where stimulus roles.Stimulus ++ load_where hints roles.Hints)
 
 -- the design, once its netlist is read
 abbrev pub design_of : {D : Type 0} → DesignFiles D → Option (Design D)
 design_of files =
     option_map
-    (λ netlist. record { demand = files.demand; library = files.library; netlist = netlist; stimulus = files.stimulus })
+    (λ netlist. record { demand = files.demand; library = files.library; netlist = netlist; stimulus = files.stimulus; hints = files.hints })
     files.netlist

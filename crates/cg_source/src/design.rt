@@ -1,4 +1,4 @@
-//! A design: a library, a netlist with its cells, and the text of a stimulus.
+//! A design: a library, a netlist with its cells, and the texts of a stimulus and of hints.
 
 ghost use Rattle.std.specs.Prelude.{◌≡◌, IsTrue};
 ghost use Rattle.cg_run.specs.Roles.{are_distinct};
@@ -59,6 +59,8 @@ pub struct DesignFiles<D> {
     pub netlist: Option<Netlist>,
     /// The text of the stimulus, which is read for the netlist.
     pub stimulus: Seq<u8>,
+    /// The text of the hints, which is read for the netlist.
+    pub hints: Seq<u8>,
 }
 
 /// A design that was read.
@@ -69,6 +71,8 @@ pub struct Design<D> {
     pub netlist: Netlist,
     /// The text of the stimulus, where one was loaded.
     pub stimulus: Seq<u8>,
+    /// The text of the hints, where one was loaded.
+    pub hints: Seq<u8>,
 }
 
 impl<D: Demand> DesignFiles<D> {
@@ -86,6 +90,7 @@ impl<D: Demand> DesignFiles<D> {
             library: Library::new(alloc),
             netlist: None,
             stimulus: Seq::new(alloc),
+            hints: Seq::new(alloc),
         }
     }
 
@@ -99,6 +104,7 @@ impl<D: Demand> DesignFiles<D> {
             library,
             netlist,
             stimulus,
+            hints,
             ..
         } = self;
         Design {
@@ -106,6 +112,7 @@ impl<D: Demand> DesignFiles<D> {
             library,
             netlist: netlist.unwrap(),
             stimulus,
+            hints,
         }
     }
 
@@ -152,6 +159,15 @@ impl<D: Demand> DesignFiles<D> {
         drop(replace(&mut next.stimulus, text));
         next
     }
+
+    /// With the text of hints in place of its own.
+    fn with_hints(self, text: Seq<u8>) -> DesignFiles<D>
+        ensures { result ≡ record self { hints = text } }
+    {
+        let mut next = self;
+        drop(replace(&mut next.hints, text));
+        next
+    }
 }
 
 impl<D: Demand> Reader for DesignFiles<D> {
@@ -159,12 +175,13 @@ impl<D: Demand> Reader for DesignFiles<D> {
 
     ghost takes = { design_takes D.permits };
 
-    /// Takes the library, the netlist and the stimulus, as each is loaded.
+    /// Takes the library, the netlist, the stimulus and the hints, as each is loaded.
     fn take(self, alloc: Global, role: Role, bytes: Seq<u8>) -> Result<DesignFiles<D>, Trouble> {
         match role {
             Role::Library => self.with_library(alloc, &bytes),
             Role::Netlist => self.with_netlist(alloc, &bytes),
             Role::Stimulus => Ok(self.with_stimulus(bytes)),
+            Role::Hints => Ok(self.with_hints(bytes)),
             _ => Ok(self),
         }
     }
@@ -184,13 +201,19 @@ pub fn take_permitted<D: Demand>(
     demand.permit(alloc, netlist, library)
 }
 
-/// The files that are loaded of a design, with a stimulus or without one.
-pub fn design_files(stimulus: bool) -> &'static [Role]
-    ensures files { result.now ≡ design_loads stimulus }
+/// The files that are loaded of a design, with a stimulus or without one, and with hints or without them.
+pub fn design_files(stimulus: bool, hints: bool) -> &'static [Role]
+    ensures files { result.now ≡ design_loads stimulus hints }
     ensures distinct { IsTrue (are_distinct result.now) }
 {
     if stimulus {
-        &[Role::Library, Role::Netlist, Role::Stimulus]
+        if hints {
+            &[Role::Library, Role::Netlist, Role::Stimulus, Role::Hints]
+        } else {
+            &[Role::Library, Role::Netlist, Role::Stimulus]
+        }
+    } else if hints {
+        &[Role::Library, Role::Netlist, Role::Hints]
     } else {
         &[Role::Library, Role::Netlist]
     }

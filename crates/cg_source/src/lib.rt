@@ -8,12 +8,14 @@
 //! - `library`: the cells that a netlist may place;
 //! - `netlist`: a circuit, with the cells of a library;
 //! - `stimulus`: what the data inputs of a circuit do;
+//! - `hints`: conditions of the engineer's own;
 //! - `design`: the files of a circuit together, as they are read one after another, and once they are;
 //! - `formula` and `log`: a formula, and a proof log for it.
 #![tactic(auto)]
 
 pub mod design;
 pub mod formula;
+pub mod hints;
 pub mod library;
 pub mod log;
 pub mod netlist;

@@ -69,11 +69,11 @@ rows_refused size library c trouble cells netlist refused =
     subst A (sym whole) (answers_as (λ (s : Rows). record { library = library; netlist = c; stimulus = s }) (stimulus_found forms.Rows c (rows_text size)) trouble refused)
 
 -- it may be gated
-pub demo_may : (size : ℕ) (p : Pipeline) → IsTrue (is_name demo_wanted.prefix) → pipeline_found size ≡ Ok p → MayGate (request_by p.library demo_wanted (Some p.stimulus)) p.netlist
+pub demo_may : (size : ℕ) (p : Pipeline) → IsTrue (is_name demo_wanted.prefix) → pipeline_found size ≡ Ok p → MayGate (request_by p.library demo_wanted (Some p.stimulus) None) p.netlist
 demo_may size p named is =
     let found = are_found size p is in
-    may_gate p.library None demo_wanted (lines_text size) p.netlist (Some p.stimulus) named refl (found_so p.library None demo_wanted (lines_text size) p.netlist found.netlist)
-    (λ rows some. let same : p.stimulus ≡ rows = cc in let F : Rows → Type 0 = λ s. IsFor p.netlist s in subst F same (stimulus_is_for forms.Rows p.netlist (rows_text size) p.stimulus found.drives))
+    may_gate p.library None demo_wanted (lines_text size) p.netlist (Some p.stimulus) None named refl (found_so p.library None demo_wanted (lines_text size) p.netlist found.netlist)
+    (λ rows some. let same : p.stimulus ≡ rows = cc in let F : Rows → Type 0 = λ s. IsFor p.netlist s in subst F same (stimulus_is_for forms.Rows p.netlist (rows_text size) p.stimulus found.drives)) tt (λ name some. refl)
 
 ok_and : (found : Result Pipeline Trouble) (P : Pipeline → Type 0) → IsOkAnd found P → (pipeline : Pipeline) × (found ≡ Ok pipeline) × P pipeline
 ok_and (Ok pipeline) P h = (pipeline, refl, h)

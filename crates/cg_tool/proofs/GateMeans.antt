@@ -1,5 +1,5 @@
 -- What a finished run of `gate` means, from what its files come to.
-use Rattle.std.proofs.Common.{◌≡◌, ℕ, Bool, IsTrue, List, ◌++◌, Option, Some, is_some, Result, Ok, Err, refl, sym}
+use Rattle.std.proofs.Common.{◌≡◌, ℕ, Bool, true, false, IsTrue, List, ◌++◌, Option, Some, is_some, Result, Ok, Err, refl, sym}
 use Rattle.std.proofs.Common.{◌∙◌, ap, subst, None}
 use Rattle.std.specs.Prelude.{IsOkAnd}
 use Rattle.cg_gate.specs.Gating.{where_asked}
@@ -22,18 +22,24 @@ use Rattle.cg_source.specs.declared.design.DesignFiles.{DesignFiles}
 use Rattle.cg_source.specs.declared.stimulus.StimulusForm.{StimulusForm}
 use Rattle.cg_source.specs.declared.stimulus.StimulusForm.TheVariants as forms
 use Rattle.cg_source.proofs.DesignRead.{IsRead, design_read}
-use Rattle.cg_source.proofs.NetlistTexts.{netlist_formed, netlist_says}
+use Rattle.cg_hint_laws.specs.declared.hint.Hint.{Hint}
+use Rattle.cg_hint_text.specs.HintText.{SaysHints}
+use Rattle.cg_netlist.specs.Netlist.{IsNetlist}
+use Rattle.cg_source.proofs.HintTexts.{hints_say}
+use Rattle.cg_source.proofs.NetlistTexts.{netlist_formed, netlist_says, netlist_writable}
+use Rattle.cg_source.specs.Hints.{hints_found}
 use Rattle.cg_source.proofs.StimulusTexts.{stimulus_drives, stimulus_inputs}
 use Rattle.cg_source.proofs.Texts.{library_says}
 use Rattle.cg_stimulus.specs.Inputs.{Rows}
 use Rattle.cg_command_line.specs.declared.options.Asked.{Asked}
 use Rattle.cg_command_line.specs.declared.options.Options.{Options}
-use Rattle.cg_tool.specs.Gate.{GatesAs, gate_gives, gate_output, gate_start, gate_stops, gate_takes, gate_task, stimulus_of}
-use Rattle.cg_tool.specs.Gated.{AreApart, IsDriven, IsGated, Stand}
-use Rattle.cg_tool.specs.Wanted.{gateable, request_by, wanted_by}
+use Rattle.cg_tool.specs.Gate.{GatesAs, gate_gives, gate_output, gate_start, gate_stops, gate_takes, gate_task, hints_of, sources_of, stimulus_of}
+use Rattle.cg_tool.specs.Gated.{AreApart, AreHinted, IsDriven, IsGated, Stand}
+use Rattle.cg_tool.specs.Wanted.{gateable, request_by, wanted_by, wants_hints}
 use Rattle.cg_tool.specs.Watching.{Kind}
+use Rattle.cg_tool.specs.declared.modes.gate.Sources.{Sources}
 use Rattle.cg_tool.specs.declared.modes.wanted.Wanted.{Wanted}
-use Rattle.cg_tool.proofs.GateReads.{found_so}
+use Rattle.cg_tool.proofs.GateReads.{found_so, sources_ok}
 use Rattle.cg_tool.proofs.LratMeans.{some_and}
 use Rattle.cg_tool.proofs.Standing.{asked_so, if_some, out_stands, proof_stands, report_stands, verilog_stands}
 
@@ -54,21 +60,28 @@ driven (Some form) held c text found is loaded =
     let D : Option Rows → Type 0 = λ s. IsDriven (Some form) held c s in
     subst D r.2 (found_text form held c text r.0 r.1 loaded)
 
-ok_and : (found : Result (Option Rows) Trouble) (P : Option Rows → Type 0) → IsOkAnd found P → (stimulus : Option Rows) × (found ≡ Ok stimulus) × P stimulus
-ok_and (Ok stimulus) P h = (stimulus, refl, h)
+-- hints that are found are what their text says
+hinted_by : (wanted : Bool) (held : Option (List ℕ)) (c : Circuit) (text : List ℕ) (hints : Option (List Hint)) → IsNetlist c → hints_of wanted c text ≡ Ok hints → (IsTrue wanted → held ≡ Some text) → AreHinted wanted held c hints
+hinted_by false held c text hints whole is loaded = cc
+hinted_by true held c text hints whole is loaded =
+    let r = found_ok (λ (hs : List Hint). Some hs) (hints_found c text) hints is in
+    subst (AreHinted true held c) r.2 (some_and held text (λ t. SaysHints c t r.0) (loaded refl) (hints_say c text r.0 whole r.1))
+
+ok_and : (found : Result Sources Trouble) (P : Sources → Type 0) → IsOkAnd found P → (sources : Sources) × (found ≡ Ok sources) × P sources
+ok_and (Ok sources) P h = (sources, refl, h)
 ok_and (Err trouble) P h = absurd h
 
 -- what was put out, of the options that the mode was told
 module _ (options : Options) (kind : Option Kind) (end : DesignFiles Wanted) (c : Circuit) (output : Output) where
-  abbrev asked : Result (Option Rows) Trouble
-  asked = stimulus_of options.asked.stimulus c end.stimulus
+  abbrev asked : Result Sources Trouble
+  asked = sources_of options.asked.stimulus (wants_hints options) c end.stimulus end.hints
 
   gates_so : end.netlist ≡ Some c → end.demand ≡ wanted_by options → gate_gives kind end output
-      → (stimulus : Option Rows) × (asked ≡ Ok stimulus) × GatesAs kind (request_by end.library (wanted_by options) stimulus) c output
+      → (sources : Sources) × (asked ≡ Ok sources) × GatesAs kind (request_by end.library (wanted_by options) sources.stimulus sources.hints) c output
   gates_so is wanted gives =
       let N : Option Circuit → Type 0 = λ netlist. gate_gives kind (record end { netlist = netlist }) output in
       let W : Wanted → Type 0 = λ w. gate_gives kind (record end { demand = w; netlist = Some c }) output in
-      ok_and asked (λ s. GatesAs kind (request_by end.library (wanted_by options) s) c output) (subst W wanted (subst N is gives))
+      ok_and asked (λ s. GatesAs kind (request_by end.library (wanted_by options) s.stimulus s.hints) c output) (subst W wanted (subst N is gives))
 
 -- the files hold their texts
 stand_of : (asked : Asked) (names : Role → List ℕ) (before after : World) (texts : Texts) (proof report verilog : List ℕ) → texts.proof ≡ where_asked asked.proof proof → texts.report ≡ where_asked asked.report report
@@ -90,26 +103,31 @@ stand_of asked names before after texts proof report verilog proof_is report_is 
     }
 
 gated_of : (options : Options) (kind : Option Kind) (names : Role → List ℕ) (before after : World) (finish : Finish) (end : DesignFiles Wanted) (f : Finishes (gate_task options kind) names before after finish)
-    → IsRead gateable (wanted_by options) options.clock f.given (is_loaded options.asked.stimulus) end → gate_gives kind end f.output → IsGated options kind names before after finish
+    → IsRead gateable (wanted_by options) options.clock f.given (is_loaded options.asked.stimulus) (wants_hints options) end → gate_gives kind end f.output → IsGated options kind names before after finish
 gated_of options kind names before after finish end f read gives =
     let c : Circuit = read.netlist in
     let gates = gates_so options kind end c f.output read.is read.demanded gives in
     let found = found_so end.library options.clock (wanted_by options) read.text c read.found in
     let says = netlist_says end.library options.clock read.text c found.said in
+    let whole : IsNetlist c = (netlist_writable end.library options.clock read.text c found.said).placeable.netlist in
+    let both = sources_ok options.asked.stimulus (wants_hints options) c end.stimulus end.hints gates.0 gates.1 in
     let held : (name : List ℕ) → after.held name ≡ puts names (gate_output (gates.2).texts).stores before.held name = λ name. f.written.held name ∙ ap (λ (o : Output). puts names o.stores before.held name) (gates.2).is in
     let texts = (((gates.2).gives).tells).gives in
     record {
       library = end.library;
       read = c;
-      stimulus = gates.0;
+      stimulus = gates.0.stimulus;
+      hints = gates.0.hints;
       texts = (gates.2).texts;
       cells = some_and (before.held (names roles.Library)) read.library_text (λ text. LibText text end.library)
           (held_so (before.held (names roles.Library)) (f.given roles.Library) read.library_text (f.told roles.Library) read.library_loaded)
           (library_says read.library_text end.library read.library_is);
       says = some_and (before.held (names roles.Netlist)) read.text (λ text. SaysNetlist text end.library options.clock c)
           (held_so (before.held (names roles.Netlist)) (f.given roles.Netlist) read.text (f.told roles.Netlist) read.loaded) says;
-      drives = driven options.asked.stimulus (before.held (names roles.Stimulus)) c end.stimulus gates.0 gates.1
+      drives = driven options.asked.stimulus (before.held (names roles.Stimulus)) c end.stimulus gates.0.stimulus both.0
           (λ yes. held_so (before.held (names roles.Stimulus)) (f.given roles.Stimulus) end.stimulus (f.told roles.Stimulus) (read.drives yes));
+      hinted = hinted_by (wants_hints options) (before.held (names roles.Hints)) c end.hints gates.0.hints whole both.1
+          (λ yes. held_so (before.held (names roles.Hints)) (f.given roles.Hints) end.hints (f.told roles.Hints) (read.hinted yes));
       well_formed = netlist_formed end.library options.clock read.text c found.said;
       may = (gates.2).may;
       gives = (gates.2).gives;
@@ -122,5 +140,5 @@ gated_of options kind names before after finish end f read gives =
 
 pub gated_means : (options : Options) (kind : Option Kind) (names : Role → List ℕ) (before after : World) (finish : Finish) → Finishes (gate_task options kind) names before after finish → IsGated options kind names before after finish
 gated_means options kind names before after finish f =
-    let end = came gate_takes gate_stops (gate_gives kind) (gate_start options) (design_loads (is_loaded options.asked.stimulus)) f.given f.output f.comes in
-    gated_of options kind names before after finish end.0 f (design_read gateable (wanted_by options) options.clock f.given gate_stops end.0 (is_loaded options.asked.stimulus) end.1) end.2
+    let end = came gate_takes gate_stops (gate_gives kind) (gate_start options) (design_loads (is_loaded options.asked.stimulus) (wants_hints options)) f.given f.output f.comes in
+    gated_of options kind names before after finish end.0 f (design_read gateable (wanted_by options) options.clock f.given gate_stops end.0 (is_loaded options.asked.stimulus) (wants_hints options) end.1) end.2

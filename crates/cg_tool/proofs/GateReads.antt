@@ -7,9 +7,16 @@ use Rattle.cg_cell.specs.Name.{is_name}
 use Rattle.cg_gate_laws.specs.Gated.{refused_gater}
 use Rattle.cg_gate.specs.Request.{IsFree, MayGate}
 use Rattle.cg_machine.specs.Start.{begins, first_clash}
+use Rattle.cg_hint_laws.specs.OfNetlist.{IsOf}
+use Rattle.cg_hint_laws.specs.declared.hint.Hint.{Hint}
+use Rattle.cg_netlist.specs.Netlist.{IsNetlist}
+use Rattle.cg_source.proofs.HintTexts.{hints_are_of}
+use Rattle.cg_source.specs.Hints.{hints_found}
+use Rattle.std.specs.List.{AllByRecursion}
+use Rattle.std.specs.Prelude.{[], ◌&&◌, is_none, unwrap_or}
 use Rattle.cg_netlist.specs.Circuit.{Circuit}
 use Rattle.cg_net.specs.Names.{NetName, is_known}
-use Rattle.cg_run.specs.Verdict.{Given, reached, unstopped}
+use Rattle.cg_run.specs.Verdict.{Given, found_as, reached, unstopped}
 use Rattle.cg_run.specs.declared.refusal.Trouble.{Trouble}
 use Rattle.cg_source.specs.Design.{design_loads, design_of, permitted}
 use Rattle.cg_source.specs.Netlist.{netlist_found}
@@ -24,8 +31,9 @@ use Rattle.cg_source.proofs.StimulusTexts.{stimulus_is_for}
 use Rattle.cg_source.proofs.Taken.{then_ok}
 use Rattle.cg_stimulus.specs.Inputs.{IsFor, Rows}
 use Rattle.cg_command_line.specs.declared.options.Options.{Options}
-use Rattle.cg_tool.specs.Gate.{MayBeGated, gate_start, gate_takes, stimulus_asked, stimulus_of}
-use Rattle.cg_tool.specs.Wanted.{gateable, request_by, unlifted, unprefixed, untested, wanted_by}
+use Rattle.cg_tool.specs.Gate.{MayBeGated, gate_start, gate_takes, hints_of, sources_of, stimulus_of}
+use Rattle.cg_tool.specs.Wanted.{gateable, request_by, unlifted, unprefixed, untested, wanted_by, wants_hints}
+use Rattle.cg_tool.specs.declared.modes.gate.Sources.{Sources}
 use Rattle.cg_tool.specs.declared.modes.wanted.Wanted.{Wanted}
 use Rattle.cg_tool.proofs.Names.{unknown_apart}
 use Rattle.cg_run.proofs.Halves.{found_is}
@@ -86,9 +94,10 @@ found_so library clock wanted text c is =
     let G : Circuit → Type 0 = λ d. IsGateable library wanted d in
     record { said = one.1 ∙ ap Ok ok.0; gateable = subst G ok.0 ok.1 }
 
-pub may_gate : (library : List CellData) (clock : Option NetName) (wanted : Wanted) (text : List ℕ) (c : Circuit) (stimulus : Option Rows) → IsTrue (is_name wanted.prefix) → wanted.settings.test ≡ is_some wanted.test
-    → FoundSo library clock wanted text c → ((rows : Rows) → stimulus ≡ Some rows → IsFor c rows) → MayGate (request_by library wanted stimulus) c
-may_gate library clock wanted text c stimulus named tested found played =
+pub may_gate : (library : List CellData) (clock : Option NetName) (wanted : Wanted) (text : List ℕ) (c : Circuit) (stimulus : Option Rows) (hints : Option (List Hint)) → IsTrue (is_name wanted.prefix) → wanted.settings.test ≡ is_some wanted.test
+    → FoundSo library clock wanted text c → ((rows : Rows) → stimulus ≡ Some rows → IsFor c rows) → AllByRecursion (IsOf c) (unwrap_or hints [])
+    → ((name : List ℕ) → wanted.test ≡ Some name → unwrap_or hints [] ≡ []) → MayGate (request_by library wanted stimulus hints) c
+may_gate library clock wanted text c stimulus hints named tested found played are_of unhinted =
     let writable = netlist_writable library clock text c found.said in
     record {
       start = record { netlist = writable.placeable.netlist; outputs_once = writable.placeable.outputs_once; named = named; new = (found.gateable).new };
@@ -97,29 +106,62 @@ may_gate library clock wanted text c stimulus named tested found played =
       tested = tested;
       free = (found.gateable).free;
       played = played;
+      hints = are_of;
+      untested = unhinted;
     }
 
+-- what is found of both texts
+pub sources_ok : (form : Option StimulusForm) (hinted : Bool) (c : Circuit) (rows text : List ℕ) (sources : Sources) → sources_of form hinted c rows text ≡ Ok sources
+    → (stimulus_of form c rows ≡ Ok sources.stimulus) × (hints_of hinted c text ≡ Ok sources.hints)
+sources_ok form hinted c rows text sources is =
+    let both = λ (stimulus : Option Rows). found_as (λ (hints : Option (List Hint)). record { stimulus = stimulus; hints = hints }) (hints_of hinted c text) in
+    let one = then_ok (stimulus_of form c rows) both sources is in
+    let two = found_ok (λ (hints : Option (List Hint)). record { stimulus = one.0; hints = hints }) (hints_of hinted c text) sources one.2 in
+    (one.1 ∙ ap (λ (s : Sources). Ok s.stimulus) two.2, two.1 ∙ ap (λ (s : Sources). Ok s.hints) two.2)
+
 -- the stimulus that is asked for is one for the netlist
-pub asked_is_for : (design : Design Wanted) (stimulus : Option Rows) (rows : Rows) → stimulus_asked design ≡ Ok stimulus → stimulus ≡ Some rows → IsFor design.netlist rows
-asked_is_for design stimulus rows is some = go (design.demand).asked.stimulus (is ∙ ap Ok some)
+asked_is_for : (asked : Option StimulusForm) (c : Circuit) (text : List ℕ) (stimulus : Option Rows) (rows : Rows) → stimulus_of asked c text ≡ Ok stimulus → stimulus ≡ Some rows → IsFor c rows
+asked_is_for asked c text stimulus rows is some = go asked (is ∙ ap Ok some)
   where
-    go : (asked : Option StimulusForm) → stimulus_of asked design.netlist design.stimulus ≡ Ok (Some rows) → IsFor design.netlist rows
+    go : (asked : Option StimulusForm) → stimulus_of asked c text ≡ Ok (Some rows) → IsFor c rows
     go None is = absurd (cc)
     go (Some form) is =
-        let r = found_ok (λ (s : Rows). Some s) (stimulus_found form design.netlist design.stimulus) (Some rows) is in
+        let r = found_ok (λ (s : Rows). Some s) (stimulus_found form c text) (Some rows) is in
         let same : r.0 ≡ rows = cc in
-        let F : Rows → Type 0 = λ s. IsFor design.netlist s in
-        subst F same (stimulus_is_for form design.netlist design.stimulus r.0 r.1)
+        let F : Rows → Type 0 = λ s. IsFor c s in
+        subst F same (stimulus_is_for form c text r.0 r.1)
+
+-- the hints that are asked for are hints of the netlist; where none are asked for there are none
+none_asked : (c : Circuit) (text : List ℕ) (hints : Option (List Hint)) → hints_of false c text ≡ Ok hints → hints ≡ None
+none_asked c text hints is = cc
+
+asked_are_of : (asked : Bool) (c : Circuit) (text : List ℕ) (hints : Option (List Hint)) → IsNetlist c → hints_of asked c text ≡ Ok hints → AllByRecursion (IsOf c) (unwrap_or hints [])
+asked_are_of false c text hints whole is = subst (λ (h : Option (List Hint)). AllByRecursion (IsOf c) (unwrap_or h [])) (sym (none_asked c text hints is)) tt
+asked_are_of true c text hints whole is =
+    let r = found_ok (λ (hs : List Hint). Some hs) (hints_found c text) hints is in
+    subst (λ (h : Option (List Hint)). AllByRecursion (IsOf c) (unwrap_or h [])) r.2 (hints_are_of c text r.0 whole r.1)
+
+unhinted : (options : Options) (c : Circuit) (text : List ℕ) (hints : Option (List Hint)) → hints_of (wants_hints options) c text ≡ Ok hints → (name : List ℕ) → options.test ≡ Some name → unwrap_or hints [] ≡ []
+unhinted options c text hints is name some =
+    let off : wants_hints options ≡ false = ap (λ (t : Option NetName). is_none t && options.asked.hints) some in
+    ap (λ (h : Option (List Hint)). unwrap_or h []) (none_asked c text hints (subst (λ b. hints_of b c text ≡ Ok hints) off is))
 
 -- a design that was read may be gated
-pub read_may : (options : Options) (given : Given) (end : DesignFiles Wanted) → IsTrue (is_name options.prefix) → IsOkAnd (reached gate_takes unstopped (gate_start options) (design_loads (is_loaded options.asked.stimulus)) given) (λ found. found ≡ end)
-    → IsSomeAnd (design_of end) MayBeGated
+pub read_may : (options : Options) (given : Given) (end : DesignFiles Wanted) → IsTrue (is_name options.prefix)
+    → IsOkAnd (reached gate_takes unstopped (gate_start options) (design_loads (is_loaded options.asked.stimulus) (wants_hints options)) given) (λ found. found ≡ end) → IsSomeAnd (design_of end) MayBeGated
 read_may options given end named is =
-    let read = design_read gateable (wanted_by options) options.clock given unstopped end (is_loaded options.asked.stimulus)
-    (found_is (reached gate_takes unstopped (gate_start options) (design_loads (is_loaded options.asked.stimulus)) given) end is) in
-    let so = found_so end.library options.clock (wanted_by options) read.text read.netlist read.found in
+    let loads = design_loads (is_loaded options.asked.stimulus) (wants_hints options) in
+    let read = design_read gateable (wanted_by options) options.clock given unstopped end (is_loaded options.asked.stimulus) (wants_hints options)
+    (found_is (reached gate_takes unstopped (gate_start options) loads given) end is) in
+    let c : Circuit = read.netlist in
+    let so = found_so end.library options.clock (wanted_by options) read.text c read.found in
+    let whole : IsNetlist c = (netlist_writable end.library options.clock read.text c so.said).placeable.netlist in
     let N : Option Circuit → Type 0 = λ netlist. IsSomeAnd (design_of (record end { netlist = netlist })) MayBeGated in
-    let may : N (Some read.netlist) = λ stimulus played.
-    let W : Wanted → Type 0 = λ w. MayGate (request_by end.library w stimulus) read.netlist in
-    subst W (sym read.demanded) (may_gate end.library options.clock (wanted_by options) read.text read.netlist stimulus named refl so played) in
-    subst N (sym read.is) may
+    let W : Wanted → Type 0 = λ w. MayBeGated (record { demand = w; library = end.library; netlist = c; stimulus = end.stimulus; hints = end.hints }) in
+    let may : W (wanted_by options) = λ sources asked.
+    let both = sources_ok options.asked.stimulus (wants_hints options) c end.stimulus end.hints sources asked in
+    may_gate end.library options.clock (wanted_by options) read.text c sources.stimulus sources.hints named refl so
+    (λ rows some. asked_is_for options.asked.stimulus c end.stimulus sources.stimulus rows both.0 some)
+    (asked_are_of (wants_hints options) c end.hints sources.hints whole both.1)
+    (unhinted options c end.hints sources.hints both.1) in
+    subst N (sym read.is) (subst W (sym read.demanded) may)

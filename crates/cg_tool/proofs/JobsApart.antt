@@ -61,7 +61,7 @@ two_apart front between rest (Some a) (Some b) different there also =
 files_apart : (library netlist out : List ℕ) (values : Values) (stimulus : Option StimulusForm) → IsTrue (are_different (library ∷ netlist ∷ out ∷ option_files values)) → AreApart (asked_in values stimulus) (file_of (gate_files library netlist out values))
 files_apart library netlist out values stimulus different =
     let D : List (List ℕ) → Type 0 = λ l. IsTrue (are_different (library ∷ netlist ∷ out ∷ l)) in
-    let front = option_to_list values.stim ++ option_to_list values.vcd in
+    let front = option_to_list values.stim ++ option_to_list values.vcd ++ option_to_list values.hints in
     let proof = option_to_list values.proof in
     let report = option_to_list values.report in
     let verilog = option_to_list values.verilog in

@@ -1,5 +1,5 @@
 -- What a finished run of `sim` means, from what its files come to.
-use Rattle.std.proofs.Common.{◌≡◌, ℕ, Bool, List, [], ◌++◌, Option, Some, Result, Ok, Err, refl, sym, ◌∙◌, ap, subst}
+use Rattle.std.proofs.Common.{◌≡◌, ℕ, Bool, false, List, [], ◌++◌, Option, Some, Result, Ok, Err, refl, sym, ◌∙◌, ap, subst}
 use Rattle.std.proofs.Common.{append-nil}
 use Rattle.std.specs.Prelude.{IsOkAnd, IsSomeAnd}
 use Rattle.cg_cell.specs.Cell.{CellData}
@@ -78,8 +78,8 @@ permitted_ok (Err trouble) c is = absurd (cc)
 
 pub simulated_means : (form : StimulusForm) (clock : Option NetName) (kind : Option Kind) (names : Role → List ℕ) (before after : World) (finish : Finish) → Finishes (sim_task form clock kind) names before after finish → IsSimulated form clock kind names before after finish
 simulated_means form clock kind names before after finish f =
-    let end = came sim_takes (sim_stops form) (sim_gives form kind) (sim_start clock) (design_loads (has_file form)) f.given f.output f.comes in
-    let read = design_read permits_any any_netlist clock f.given (sim_stops form) end.0 (has_file form) end.1 in
+    let end = came sim_takes (sim_stops form) (sim_gives form kind) (sim_start clock) (design_loads (has_file form) false) f.given f.output f.comes in
+    let read = design_read permits_any any_netlist clock f.given (sim_stops form) end.0 (has_file form) false end.1 in
     let library = (end.0).library in
     let text = (end.0).stimulus in
     let c : Circuit = read.netlist in

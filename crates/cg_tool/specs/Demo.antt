@@ -52,7 +52,7 @@ pipeline_found size =
 
 -- what its gating is asked for
 abbrev pub pipeline_request : Pipeline → RequestData
-pipeline_request pipeline = request_by pipeline.library demo_wanted (Some pipeline.stimulus)
+pipeline_request pipeline = request_by pipeline.library demo_wanted (Some pipeline.stimulus) None
 
 -- what is put out of it: nothing is stored, and the summary is said
 pub record PutsDemo (size : ℕ) (request : RequestData) (c : Circuit) (output : Output) : Type 0 where
@@ -89,7 +89,7 @@ pub record IsDemo (size : ℕ) (before after : World) (finish : Finish) : Type 0
   pub says : SaysNetlist (generated size) library None netlist
   pub drives : DrivesNetlist forms.Rows (stimulus_text size) netlist stimulus.rows
   pub text : List ℕ
-  pub gives : GivesDemo size (request_by library demo_wanted (Some stimulus)) netlist text
+  pub gives : GivesDemo size (request_by library demo_wanted (Some stimulus) None) netlist text
   pub said : after.said ≡ before.said ++ text
   pub held : (name : List ℕ) → after.held name ≡ before.held name
   pub ends : finish ≡ finishes.Done

@@ -1,11 +1,13 @@
 -- What a finished run of `gate` means.
-use Rattle.std.specs.Prelude.{◌≡◌, ℕ, List, ◌++◌, Option, None, Some, IfSome, IsSomeAnd, IsTrue, ◌≢◌}
+use Rattle.std.specs.Prelude.{◌≡◌, ℕ, Bool, true, false, List, ◌++◌, Option, None, Some, IfSome, IsSomeAnd, IsTrue, ◌≢◌}
 use Rattle.cg_cell.specs.Cell.{CellData}
 use Rattle.cg_liberty.specs.LibText.{LibText}
 use Rattle.cg_gate.specs.Gating.{GivesGated}
 use Rattle.cg_gate.specs.Headline.{Headline}
 use Rattle.cg_gate.specs.Request.{MayGate}
 use Rattle.cg_gate.specs.declared.texts.Texts.{Texts}
+use Rattle.cg_hint_laws.specs.declared.hint.Hint.{Hint}
+use Rattle.cg_hint_text.specs.HintText.{SaysHints}
 use Rattle.cg_netlist.specs.Circuit.{Circuit}
 use Rattle.cg_netlist.specs.WellFormed.{IsWellFormed}
 use Rattle.cg_run.specs.Writes.{puts}
@@ -21,7 +23,7 @@ use Rattle.cg_stimulus.specs.Inputs.{Rows, input_names}
 use Rattle.cg_command_line.specs.declared.options.Asked.{Asked}
 use Rattle.cg_command_line.specs.declared.options.Options.{Options}
 use Rattle.cg_tool.specs.Gate.{gate_output}
-use Rattle.cg_tool.specs.Wanted.{request_by, wanted_by}
+use Rattle.cg_tool.specs.Wanted.{request_by, wanted_by, wants_hints}
 use Rattle.cg_tool.specs.Watching.{Kind}
 
 -- the stimulus that is asked for is the one of the form that is asked for, as the text says it where the form has one
@@ -29,6 +31,12 @@ abbrev pub IsDriven : Option StimulusForm → Option (List ℕ) → Circuit → 
 IsDriven (Some form) held c None = ⊥
 IsDriven (Some form) held c (Some stimulus) = (stimulus.inputs ≡ input_names c) × IsDrivenBy form held c stimulus.rows
 IsDriven None held c stimulus = stimulus ≡ None
+
+-- the hints are those that their text says for the netlist, where they are tried
+abbrev pub AreHinted : Bool → Option (List ℕ) → Circuit → Option (List Hint) → Type 0
+AreHinted true held c None = ⊥
+AreHinted true held c (Some hs) = IsSomeAnd held (λ text. SaysHints c text hs)
+AreHinted false held c hints = hints ≡ None
 
 -- the files that are stored have different names
 pub record AreApart (asked : Asked) (names : Role → List ℕ) : Type 0 where
@@ -49,7 +57,8 @@ pub record Stand (names : Role → List ℕ) (texts : Texts) (after : World) : T
 -- A netlist was gated: the bytes under LIB are a text that stands for a library, and those under NETLIST say
 -- a well-formed netlist with this library and the clock of the words, of which no gating cell is refused and in which no net's name
 -- begins with the prefix. The stimulus, where one is asked for, drives its data inputs with rows, by the bytes under its name where
--- it has a file. What is
+-- it has a file. The hints, where they are asked for and there is to be no test input, are those that the bytes under their name say for
+-- the netlist. What is
 -- stored and said are the texts that gating gives of it, and they mean what the headline says. Files of different names each hold
 -- their text.
 pub record IsGated (options : Options) (kind : Option Kind) (names : Role → List ℕ) (before after : World)
@@ -57,14 +66,16 @@ pub record IsGated (options : Options) (kind : Option Kind) (names : Role → Li
   pub library : List CellData
   pub read : Circuit
   pub stimulus : Option Rows
+  pub hints : Option (List Hint)
   pub texts : Texts
   pub cells : IsSomeAnd (before.held (names roles.Library)) (λ text. LibText text library)
   pub says : IsSomeAnd (before.held (names roles.Netlist)) (λ text. SaysNetlist text library options.clock read)
   pub drives : IsDriven options.asked.stimulus (before.held (names roles.Stimulus)) read stimulus
+  pub hinted : AreHinted (wants_hints options) (before.held (names roles.Hints)) read hints
   pub well_formed : IsWellFormed read
-  pub may : MayGate (request_by library (wanted_by options) stimulus) read
-  pub gives : GivesGated (request_by library (wanted_by options) stimulus) kind read texts
-  pub headline : Headline (request_by library (wanted_by options) stimulus) kind read texts
+  pub may : MayGate (request_by library (wanted_by options) stimulus hints) read
+  pub gives : GivesGated (request_by library (wanted_by options) stimulus hints) kind read texts
+  pub headline : Headline (request_by library (wanted_by options) stimulus hints) kind read texts
   pub stand : AreApart options.asked names → Stand names texts after
   pub stored : (name : List ℕ) → after.held name ≡ puts names (gate_output texts).stores before.held name
   pub said : after.said ≡ before.said ++ texts.said

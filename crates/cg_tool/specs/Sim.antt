@@ -75,7 +75,7 @@ sim_start clock = design_start any_netlist clock
 -- what a run of `sim` does, with a stimulus of this form
 abbrev pub sim_task : StimulusForm → Option NetName → Option Kind → Task
 sim_task form clock kind =
-    task_of sim_takes (sim_stops form) (sim_gives form kind) (sim_start clock) (design_loads (has_file form))
+    task_of sim_takes (sim_stops form) (sim_gives form kind) (sim_start clock) (design_loads (has_file form) false)
 
 -- A stimulus was played: the bytes under LIB are a text that stands for a library, those under NETLIST say
 -- a well-formed netlist with this library and the clock of the words, and the stimulus of this form, whose text, where it has one, is

@@ -1,8 +1,9 @@
 -- How a netlist is to be gated, which netlists may be gated so, and what gating is then asked for.
-use Rattle.std.specs.Prelude.{ℕ, ◌||◌, if◌then◌else◌, List, [], ◌++◌, codes, slice_get, Option, None, Some, is_some, Result, Ok, Err}
+use Rattle.std.specs.Prelude.{ℕ, Bool, ◌&&◌, ◌||◌, if◌then◌else◌, List, [], ◌++◌, codes, slice_get, Option, None, Some, is_none, is_some, Result, Ok, Err}
 use Rattle.cg_cell.specs.Cell.{CellData}
 use Rattle.cg_gate_laws.specs.Gated.{refused_gater}
 use Rattle.cg_gate.specs.Request.{RequestData}
+use Rattle.cg_hint_laws.specs.declared.hint.Hint.{Hint}
 use Rattle.cg_machine.specs.Start.{begins, first_clash}
 use Rattle.cg_netlist.specs.Circuit.{Circuit, GatingCell}
 use Rattle.cg_net.specs.Names.{NetName, is_known, net_name}
@@ -13,6 +14,10 @@ use Rattle.cg_stimulus.specs.Inputs.{Rows}
 use Rattle.cg_command_line.specs.declared.options.Options.{Options}
 use Rattle.cg_tool.specs.declared.modes.wanted.Wanted.{Wanted}
 
+-- whether hints are tried: where they are asked for, and there is to be no test input
+abbrev pub wants_hints : Options → Bool
+wants_hints options = is_none options.test && options.asked.hints
+
 -- how a netlist is to be gated, by what the options say; gating cells have a test input exactly where one is named
 abbrev pub wanted_by : Options → Wanted
 wanted_by options =
@@ -20,7 +25,7 @@ wanted_by options =
       prefix = options.prefix;
       test = options.test;
       settings = record options.settings { test = is_some options.test };
-      asked = options.asked;
+      asked = record options.asked { hints = wants_hints options };
     }
 
 -- a netlist with a net whose name begins with the prefix is refused, for the first of them
@@ -50,14 +55,15 @@ gateable library wanted c =
     then_found (unprefixed c (first_clash wanted.prefix c.names))
     (λ c. then_found (untested wanted.prefix wanted.test c) (λ c. unlifted c (refused_gater library wanted.test c)))
 
--- what gating is asked for
-abbrev pub request_by : List CellData → Wanted → Option Rows → RequestData
-request_by library wanted stimulus = record {
+-- what gating is asked for, with this stimulus and these hints, where there are some
+abbrev pub request_by : List CellData → Wanted → Option Rows → Option (List Hint) → RequestData
+request_by library wanted stimulus hints = record {
   library = library;
   settings = wanted.settings;
   prefix = wanted.prefix;
   test = wanted.test;
   stimulus = stimulus;
+  hints = hints;
   proof = wanted.asked.proof;
   report = wanted.asked.report;
   verilog = wanted.asked.verilog;

@@ -10,7 +10,8 @@
 //!   `case`. A case ends with a `%` and a line end, which are no part of it. Behind what a run says stands the file `out`, where it
 //!   stored one.
 //! - `solve CNF LOG` solves the formula in the file CNF, says whether bits satisfy it, and else makes a file of the log.
-//! - `proof PROOF CNF LOG` makes files of the first formula of a proof file and of its log.
+//! - `proof PROOF CNF LOG` makes files of the first formula of a proof file and of its log; `parts PROOF` has the program check each formula
+//!   of it with its log, and says the heading of each.
 //! - `fail N WORD..` is a command line of which the calls of these numbers (from 0, with commas between them) fail. It is run over
 //!   files of its own; a file that it stored is compared with the one of that name that stands in memory.
 //! - `folder WORD..` is a command line over the files of the folder itself, and `read NAME` says what the file NAME of it holds.

@@ -63,6 +63,7 @@ impl Player {
             ["cases", name, words @ ..] => self.cases(folder, name, line, words),
             ["solve", formula, log] => self.solve(folder, formula, log),
             ["proof", proof, formula, log] => self.split(proof, formula, log),
+            ["parts", proof] => self.parts(folder, proof),
             ["folder", words @ ..] => self.in_folder(folder, line, words),
             ["read", name] => self.read(folder, name),
             ["fail", numbers, words @ ..] => self.fail(folder, numbers, line, words),
@@ -132,6 +133,35 @@ impl Player {
         let (first, rest) = text.split_once("c lrat\n").ok_or(Failed)?;
         self.files.put(formula, first.as_bytes())?;
         Ok(self.files.put(log, rest.as_bytes())?)
+    }
+
+    /// Has the program check each part of a proof file, a formula and its log, and says the heading of each.
+    fn parts<S: Shelf>(&mut self, folder: &mut S, proof: &str) -> Result<(), Failed> {
+        say(folder, b"$ parts ", proof.as_bytes())?;
+        say(folder, b"\n", b"")?;
+        let held = self.files.held(proof).ok_or(Failed)?;
+        let text = Vec::from_slice(self.alloc, held)?;
+        let text = String::from_utf8(text)?;
+        let mut formula = "";
+        for (place, piece) in text.split("c lrat\n").enumerate() {
+            let (log, next) = piece.split_once("\nc ").unwrap_or((piece, ""));
+            if place == 0 {
+                formula = piece.strip_prefix("c ").ok_or(Failed)?;
+            } else {
+                self.part(folder, formula, log)?;
+                formula = next;
+            }
+        }
+        Ok(())
+    }
+
+    /// Has the program check a formula, whose first line is its heading, and its log.
+    fn part<S: Shelf>(&mut self, folder: &mut S, formula: &str, log: &str) -> Result<(), Failed> {
+        let (heading, clauses) = formula.split_once("\n").ok_or(Failed)?;
+        say(folder, heading.as_bytes(), b"\n")?;
+        self.files.put("part.cnf", clauses.as_bytes())?;
+        self.files.put("part.lrat", log.as_bytes())?;
+        self.play(folder, &["lrat", "part.cnf", "part.lrat"])
     }
 
     /// Runs the program on a command line.

@@ -177,7 +177,7 @@ fn gate_pipeline(
     ensures { Concludes (pipeline_stops (Ok pipeline.now)) (PutsDemo size (pipeline_request pipeline.now) pipeline.now.netlist) result }
 {
     let _ = wanted.prefix.bytes();
-    let request = wanted.request(&pipeline.library, Some(&pipeline.stimulus));
+    let request = wanted.request(&pipeline.library, Some(&pipeline.stimulus), None);
     gate_by(alloc, size, &pipeline.netlist, &request, progress)
 }
 

@@ -55,10 +55,16 @@ fn read<S: Shelf>(
     watcher: Option<Box<dyn Watcher>>,
 ) -> Result<Output, Refusal>
     ensures { Reads (Gave S.gives) sim_takes (sim_stops form) (sim_gives form (option_map (λ watcher. says watcher) watcher)) (name_of names.now) (sim_start clock)
-        (design_loads (has_file form)) (S.world shelf.old) (S.world shelf.new) result }
+        (design_loads (has_file form) false) (S.world shelf.old) (S.world shelf.new) result }
 {
     let start = DesignFiles::start(alloc, AnyNetlist, clock);
-    let found = collect(alloc, shelf, names, design_files(form.has_file()), start)?;
+    let found = collect(
+        alloc,
+        shelf,
+        names,
+        design_files(form.has_file(), false),
+        start,
+    )?;
     Ok(finish(alloc, form, found, watcher)?)
 }
 

@@ -1,6 +1,6 @@
 //! How a netlist is to be gated.
 
-ghost use Rattle.std.specs.Prelude.{◌≡◌, ◌<◌, ◌||◌, ℕ, Some, is_some, length};
+ghost use Rattle.std.specs.Prelude.{◌≡◌, ◌<◌, ◌&&◌, ◌||◌, ℕ, Some, is_none, is_some, length};
 ghost use Rattle.std.specs.Option.{option_copied};
 ghost use Rattle.cg_gate_laws.specs.Gated.{first_gater, has_and, refused_gater};
 ghost use Rattle.cg_run.specs.Verdict.{Answers};
@@ -14,6 +14,8 @@ use cg_cell::name::Name;
 use cg_command_line::Asked;
 use cg_extract::refused::first_refused;
 use cg_gate::request::Request;
+use cg_hint_laws::hint::Hint;
+use cg_list::Seq;
 use cg_machine::prefix::prefix_clash;
 use cg_net::id::GateClockId;
 use cg_netlist::netlist::Netlist;
@@ -41,10 +43,19 @@ pub struct Wanted {
 }
 
 impl Wanted {
-    /// How a netlist is to be gated; gating cells have a test input exactly where one is named.
+    /// How a netlist is to be gated; gating cells have a test input exactly where one is named, and then no hints are tried.
     pub fn new(prefix: Name, test: Option<Name>, settings: Settings, asked: Asked) -> Wanted
-        ensures { result ≡ record { prefix = prefix; test = test; settings = record settings { test = is_some test }; asked = asked } }
+        ensures { result ≡ record {
+          prefix = prefix;
+          test = test;
+          settings = record settings { test = is_some test };
+          asked = record asked { hints = is_none test && asked.hints };
+        } }
     {
+        let asked = Asked {
+            hints: test.is_none() && asked.hints,
+            ..asked
+        };
         let settings = Settings {
             test: test.is_some(),
             ..settings
@@ -57,13 +68,14 @@ impl Wanted {
         }
     }
 
-    /// What gating is asked for, with these cells and this stimulus, where there is one.
+    /// What gating is asked for, with these cells, and this stimulus and these hints, where there are some.
     pub fn request<'a>(
         &'a self,
         library: &'a Library,
         stimulus: Option<&'a Stimulus>,
+        hints: Option<&'a Seq<Hint>>,
     ) -> Request<'a>
-        ensures { result ≡ request_by library.entry.now self.entry.now (option_copied stimulus.entry) }
+        ensures { result ≡ request_by library.entry.now self.entry.now (option_copied stimulus.entry) (option_copied hints.entry) }
     {
         Request {
             library,
@@ -71,6 +83,7 @@ impl Wanted {
             prefix: &self.prefix,
             test: self.test.as_ref(),
             stimulus,
+            hints,
             proof: self.asked.proof,
             report: self.asked.report,
             verilog: self.asked.verilog,

@@ -17,4 +17,4 @@ demo_said-said-requires-clause-written g c =
 pub returns-clause-gives : goal.returns-clause-gives
 returns-clause-gives g c =
     let is : c.args.request.now.stimulus ≡ Some c.unwrap-stimulus.result.now = sym (ap (λ (r : RequestData). r.stimulus) c.request.view_is) ∙ ap option_copied c.unwrap-stimulus.ensures in
-    record { stimulus = c.unwrap-stimulus.result.now; played = is; told = told c.in_ok-gated.gated.plan; written = c.in_ok-gated.gated.netlist; gated = c.in_ok-gated.ensures.gated; says = c.in_ok-said.ensures }
+    record { stimulus = c.unwrap-stimulus.result.now; played = is; hints = c.in_ok-gated.gated.hints; told = told c.in_ok-gated.gated.plan; written = c.in_ok-gated.gated.netlist; gated = c.in_ok-gated.ensures.gated; says = c.in_ok-said.ensures }

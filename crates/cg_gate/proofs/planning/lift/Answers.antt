@@ -1,5 +1,5 @@
 use Rattle.std.proofs.Common.{◌≡◌, ℕ, List, Option, ap, subst}
-use Rattle.cg_extract.specs.Lifted.{lifted, origins}
+use Rattle.cg_extract.specs.Lifted.{lifted}
 use Rattle.cg_gate.proofs.Unrefused.{untested}
 use Rattle.cg_gate.proofs.planning.lift.Goals as goal
 use Rattle.cg_gate.specs.Request.{RequestData}
@@ -8,10 +8,5 @@ use Rattle.cg_machine.specs.Machine.{MachineData}
 pub extract-requires-clause-untested : goal.extract-requires-clause-untested
 extract-requires-clause-untested c = let request = c.args.request.now in untested request.library request.test c.args.netlist.now c.requires.lifts
 
-pub returns-clause-machine : goal.returns-clause-machine
-returns-clause-machine c = subst (λ (r : RequestData). c.in_ok-made.made.machine ≡ lifted c.args.netlist.now r.prefix) c.request.view_is (ap (λ (p : MachineData × List (Option ℕ)). p.0) c.in_ok-made.ensures)
-
-pub returns-clause-origin : goal.returns-clause-origin
-returns-clause-origin c =
-    let netlist = c.args.netlist.now in
-    subst (λ (r : RequestData). c.in_ok-made.made.origin ≡ origins netlist (lifted netlist r.prefix)) c.request.view_is (ap (λ (p : MachineData × List (Option ℕ)). p.1) c.in_ok-made.ensures)
+pub returns : goal.returns
+returns c = subst (λ (r : RequestData). c.in_ok-made.made.machine ≡ lifted c.args.netlist.now r.prefix) c.request.view_is (ap (λ (p : MachineData × List (Option ℕ)). p.0) c.in_ok-made.ensures)

@@ -1,4 +1,5 @@
 use Rattle.cg_gate_laws.proofs.laws.gated_laws.Goals as goal
+use Rattle.cg_gate_laws.proofs.BegunSafe.{begun_safe, renamed_fits}
 use Rattle.cg_gate_laws.proofs.Planned.{can_insert, is_formed}
 use Rattle.cg_gate_laws.proofs.Behaving.{gated_behaves}
 use Rattle.cg_gate_laws.proofs.NetlistKept.{keeps_netlist, names_planned}
@@ -7,6 +8,8 @@ use Rattle.cg_gate_laws.proofs.SameOutputs.{shows_same}
 
 pub returns : goal.returns
 returns c = record {
+  fits = renamed_fits;
+  begun = begun_safe;
   inserts = can_insert;
   formed = is_formed;
   same = shows_same;

@@ -14,7 +14,7 @@ pub gate_by-requires-clause-may : goal.gate_by-requires-clause-may
 gate_by-requires-clause-may g c =
     let p = c.args.pipeline.now in
     let N : Wanted → Type 0 = λ w. IsTrue (is_name w.prefix) in
-    let W : Wanted → Type 0 = λ w. MayGate (request_by p.library w (Some p.stimulus)) p.netlist in
+    let W : Wanted → Type 0 = λ w. MayGate (request_by p.library w (Some p.stimulus) None) p.netlist in
     let M : RequestData → Type 0 = λ q. MayGate q p.netlist in
     subst M (sym c.request-request.ensures) (subst W (sym c.requires.wanted) (demo_may c.args.size p (subst N c.requires.wanted c.bytes.ensures.name) c.requires.read))
 
@@ -22,5 +22,5 @@ pub returns : goal.returns
 returns g c =
     let p = c.args.pipeline.now in
     let P : RequestData → Type 0 = λ q. Concludes (option_map troubles.Limit (stops_at q p.netlist)) (PutsDemo c.args.size q p.netlist) c.gate_by.result in
-    let W : Wanted → Type 0 = λ w. P (request_by p.library w (Some p.stimulus)) in
+    let W : Wanted → Type 0 = λ w. P (request_by p.library w (Some p.stimulus) None) in
     subst W c.requires.wanted (subst P c.request-request.ensures c.gate_by.ensures)

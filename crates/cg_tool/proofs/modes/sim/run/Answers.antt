@@ -1,4 +1,4 @@
-use Rattle.std.proofs.Common.{List, Option}
+use Rattle.std.proofs.Common.{false, List, Option}
 use Rattle.std.specs.Option.{option_map}
 use Rattle.cg_run.specs.declared.role.Role.{Role}
 use Rattle.cg_run.specs.Names.{name_of}
@@ -19,7 +19,7 @@ returns g c =
     let kind : Option Kind = option_map (λ w. (goal.Watcher-dyn g (w.vtable, w.value)).says w.value) c.args.watcher in
     let gave = Gave g.S.Shelf.gives in
     let names = name_of c.args.names.now in
-    let files : List Role = design_loads (has_file c.args.form) in
+    let files : List Role = design_loads (has_file c.args.form) false in
     let before = g.S.Shelf.world c.args.shelf.now in
     let middle = g.S.Shelf.world c.read-found.new.shelf in
     let after = g.S.Shelf.world c.put_out.new.shelf in

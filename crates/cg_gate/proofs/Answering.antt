@@ -10,11 +10,11 @@ use Rattle.cg_plan_text.specs.declared.summary.Played.{Played}
 use Rattle.cg_stimulus.specs.Inputs.{Rows}
 use Rattle.cg_gate.specs.Gating.{AreTexts, GivesGated, IsWritten}
 use Rattle.cg_gate.specs.Headline.{Headline}
-use Rattle.cg_gate.specs.Laws.{IsProper}
+use Rattle.cg_gate.specs.Proper.{IsProper}
 use Rattle.cg_gate.specs.Played.{IsWhatPlayed, LineIs, Saying}
 use Rattle.cg_gate.specs.Request.{MayGate, RequestData, gating_of}
 use Rattle.cg_gate.specs.declared.texts.Texts.{Texts}
-use Rattle.cg_gate.proofs.Meaning.{gated_means}
+use Rattle.cg_gate.proofs.Meaning.{means}
 
 -- want of memory is no limit
 pub wanting : {A : Type 0} (limit : Option Limit) (r : Result A AddFault) → IfErr r (λ fault. fault ≡ NoMemory) → IfErr r (PlanMayFail limit)
@@ -43,4 +43,4 @@ module _ (request : RequestData) (says : Option Saying) (read written : Circuit)
   gives_all texts are = record { told = told; written = written; played = played; gated = gated; what = what; gives = are }
 
   pub means_all : IsProper request → MayGate request read → (texts : Texts) → AreTexts request told written played texts → Headline request says read texts
-  means_all proper may texts are = gated_means request says read texts proper may (gives_all texts are)
+  means_all proper may texts are = means request says read texts proper may (gives_all texts are)

@@ -16,7 +16,7 @@ use Rattle.cg_plan_laws.specs.Reported.{IsPlan, PlanMayFail, ReportedPlan}
 use Rattle.cg_stimulus.specs.Inputs.{IsFor, Rows, input_names}
 use Rattle.cg_plan.specs.Planning.{AreWritable}
 use Rattle.cg_gate.specs.Gating.{IsWritten}
-use Rattle.cg_gate.specs.Laws.{IsProper}
+use Rattle.cg_gate.specs.Proper.{IsProper}
 use Rattle.cg_gate.specs.Request.{MayGate, RequestData, gating_of, stops_at}
 use Rattle.cg_gate.proofs.MayInsert.{may_gate}
 

@@ -1,5 +1,5 @@
 -- What gating gives means what the headline says.
-use Rattle.std.proofs.Common.{◌≡◌, ◌+◌, ◌-◌, Bool, true, List, ◌++◌, map, length, Option, None, Some, refl, sym, ◌∙◌, ap, subst}
+use Rattle.std.proofs.Common.{◌≡◌, ◌+◌, ◌-◌, Bool, true, List, ◌++◌, map, length, Option, None, Some, is_some, refl, sym, ◌∙◌, ap, subst}
 use Rattle.std.proofs.lemmas.List.{length-replicate}
 use Rattle.cg_blif_text.specs.BlifText.{BlifText}
 use Rattle.cg_blif_text.proofs.CanonicalText.{no_two, says_itself}
@@ -35,14 +35,16 @@ use Rattle.cg_stimulus.proofs.Playing.{start_is, wave_is}
 use Rattle.cg_gate.specs.Gating.{GivesGated}
 use Rattle.cg_gate.specs.Headline.{Headline, ShowsSame, with_bits}
 use Rattle.cg_gate.specs.ZeroCounting.{zero_counts, zeros_by}
-use Rattle.cg_gate.specs.Laws.{GatedMeans, IsProper}
+use Rattle.cg_gate.specs.Loading.{LoadsWhere}
 use Rattle.cg_gate.specs.Played.{Saying}
+use Rattle.cg_gate.specs.Proper.{IsProper}
 use Rattle.cg_gate.specs.Request.{MayGate, RequestData, gating_of}
 use Rattle.cg_gate.specs.Turns.{Lead}
 use Rattle.cg_gate.specs.declared.texts.Texts.{Texts}
 use Rattle.cg_gate.proofs.Counted.{counts}
 use Rattle.cg_gate.proofs.Deserved.{exactly_worthy}
 use Rattle.cg_gate.proofs.Leads.{plan_leads}
+use Rattle.cg_gate.proofs.Loading.{test_input_loads}
 use Rattle.cg_extract.proofs.ForGating.{bare_is_netlist, bare_is_placeable}
 use Rattle.cg_gate.proofs.MayInsert.{may_gate}
 use Rattle.cg_gate.proofs.TestedWaves.{IsTested, tested_wave}
@@ -129,6 +131,14 @@ module _ (request : RequestData) (says : Option Saying) (read : Circuit) (texts 
         rises = subst (λ c. RisesAre c gives.told.machine tested two.0) (sym gives.gated.is) (subst (λ k. RisesAre (inserted request.library request.test k) k tested two.0) (sym machine_is) rises);
       }
 
+  loads : is_some request.test ≡ true → (start : List Bool) (wave : List Tick) (bits : List Bool) (history : List Moment) → IsStart read start → IsWaveform read wave → length bits ≡ length wave
+      → IsLawful gives.written (start ++ ones n) (with_bits request.test wave bits) history → LoadsWhere gives.written wave bits history
+  loads some start wave bits history starts waves long lawful =
+      let tested : List Tick = with_bits request.test wave bits in
+      let shown : ShowsSame gives.told.machine read gives.written start (ones n) wave tested = shows start wave bits starts waves long in
+      let are : RisesAre gives.written gives.told.machine tested history = subst (RisesAre gives.written gives.told.machine tested) (sym (shown.alone history lawful)) shown.rises in
+      test_input_loads read gives.written gives.told.machine (ap (λ (k : MachineData). length (data_inputs k.circuit)) machine_is ∙ inputs_long) request.test some wave bits history waves.0 are
+
   ranked : (stimulus : Rows) → request.stimulus ≡ Some stimulus → (history : List Moment) × IsPlayed read stimulus.rows history
       × ((zero_counts read request.prefix stimulus).zeros ≡ map (zeros_by (λ net. zeros_of net (low_moments history))) (origins read (lifted read request.prefix)))
   ranked stimulus there =
@@ -151,6 +161,7 @@ module _ (request : RequestData) (says : Option Saying) (read : Circuit) (texts 
     parts = subst (KeepsParts read) (sym is) (keeps_parts by read can);
     plan = gives.told;
     shows = shows;
+    loads = loads;
     is = gives.gated.is;
     turns = plan.turns;
     planned = refl;
@@ -169,6 +180,3 @@ module _ (request : RequestData) (says : Option Saying) (read : Circuit) (texts 
     said = gives.gives.said;
     report = gives.gives.report;
   }
-
-pub gated_means : GatedMeans
-gated_means request says read texts proper may gives = means request says read texts proper may gives

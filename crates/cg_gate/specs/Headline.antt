@@ -1,6 +1,6 @@
 -- What gating a netlist means: the written netlist shows what the one that was read shows, from every state and for all time.
 use Rattle.std.specs.Prelude.{◌≡◌, ◌↔◌, ℕ, ◌+◌, Bool, true, List, [], ◌∷◌, ◌++◌, map, length, replicate, slice_get, Option, None}
-use Rattle.std.specs.Prelude.{Some}
+use Rattle.std.specs.Prelude.{Some, is_some}
 use Rattle.std.specs.Option.{option_to_list}
 use Rattle.cg_blif_text.specs.BlifText.{BlifText}
 use Rattle.cg_blif_text.specs.Canonical.{blif}
@@ -26,6 +26,7 @@ use Rattle.cg_stimulus.specs.Inputs.{Rows, input_names}
 use Rattle.cg_stimulus.specs.Played.{IsPlayed}
 use Rattle.cg_gate.specs.WorthInserting.{IsWorthInserting}
 use Rattle.cg_gate.specs.Gating.{where_asked}
+use Rattle.cg_gate.specs.Loading.{LoadsWhere}
 use Rattle.cg_gate.specs.ZeroCounting.{zero_counts, zero_counts_of, zeros_by}
 use Rattle.cg_gate.specs.Played.{EdgesAre, LineIs, Saying}
 use Rattle.cg_gate.specs.Request.{RequestData}
@@ -77,6 +78,13 @@ pub record Headline (request : RequestData) (says : Option Saying) (read : Circu
   pub shows : (start : List Bool) (wave : List Tick) (bits : List Bool) → IsStart read start → IsWaveform read wave →
       length bits ≡ length wave
       → ShowsSame plan.machine read written start (replicate delays true) wave (with_bits request.test wave bits)
+  -- with a test input all registers can be loaded: in that history each rises at each rise of the clock a moment after the test
+  -- input was 1
+  pub loads : is_some request.test ≡ true
+      → (start : List Bool) (wave : List Tick) (bits : List Bool) (history : List Moment) → IsStart read start →
+      IsWaveform read wave → length bits ≡ length wave
+      → IsLawful written (start ++ replicate delays true) (with_bits request.test wave bits) history →
+      LoadsWhere written wave bits history
   -- it is what the plan's machine is written as; the plan came to its end, its stages lead there from the machine of the original,
   -- to whose enables the original's gating cells are lifted, and each is inserted exactly where it is worth it on the machine of
   -- its turn

@@ -11,12 +11,10 @@
 //! - `playing`: what comes of a stimulus on both netlists.
 //! - [`texts`]: the texts.
 //! - [`gate`]: all of it.
-//! - [`laws`]: what the texts mean.
 #![tactic(auto)]
 
 mod counting;
 pub mod gate;
-pub mod laws;
 mod planning;
 mod playing;
 pub mod request;

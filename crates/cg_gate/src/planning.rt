@@ -6,7 +6,7 @@ ghost use Rattle.cg_cell.specs.Name.{is_name};
 ghost use Rattle.cg_extract.specs.Lifted.{lifted, origins};
 ghost use Rattle.cg_gate.specs.Gating.{IsWritten};
 ghost use Rattle.cg_gate.specs.ZeroCounting.{zero_counts_of};
-ghost use Rattle.cg_gate.specs.Laws.{IsProper};
+ghost use Rattle.cg_gate.specs.Proper.{IsProper};
 ghost use Rattle.cg_gate.specs.Request.{MayGate, gating_of, stops_at};
 ghost use Rattle.cg_insert.specs.Insert.{CanInsert};
 ghost use Rattle.cg_insert.specs.Inserting.{insertion};

@@ -25,8 +25,10 @@ use Rattle.cg_netlist.specs.Netlist.{IsNetlist}
 use Rattle.cg_netlist.specs.WellFormed.{IsWellFormed}
 use Rattle.cg_netlist_parts.specs.Writable.{IsPlaceable, IsWritable}
 use Rattle.cg_netlist.proofs.Histories.{has_history, has_one_history}
+use Rattle.cg_plan_laws.specs.Laws.{IsTurn}
 use Rattle.cg_plan_laws.specs.Plan.{Plan, plan_of}
 use Rattle.cg_plan_laws.proofs.AllSafe.{each_fits, plans_safe}
+use Rattle.cg_plan_laws.proofs.Deserved.{outcomes_deserved}
 use Rattle.cg_report.specs.Zeros.{low_moments, zeros_of}
 use Rattle.cg_stage_laws.proofs.Fitting.{starts_long}
 use Rattle.cg_stimulus.specs.Inputs.{Rows}
@@ -168,6 +170,9 @@ module _ (request : RequestData) (says : Option Saying) (read : Circuit) (texts 
     whole = gives.gated.plan.whole;
     lead = subst (Lead plan.turns m) (sym machine_is) (plan_leads request.library request.settings m by.counts);
     deserved = λ k turn at. exactly_worthy request.library request.settings turn (each_fits request.library request.settings by.counts m good k turn at);
+    outcomes = λ k turn at.
+        let fits : IsTurn request.library request.settings turn = each_fits request.library request.settings by.counts m good k turn at in
+        outcomes_deserved request.library request.settings turn.machine turn.stage turn.outcome fits.is_machine fits.fits fits.comes;
     ranked = ranked;
     told = gives.gated.plan.stages;
     wide = gives.gated.plan.wide;

@@ -14,6 +14,7 @@ use Rattle.cg_netlist.specs.History.{IsLawful, IsStart, IsWaveform, Moment, Tick
 use Rattle.cg_netlist.specs.Moment.{zip_with}
 use Rattle.cg_netlist.specs.WellFormed.{IsWellFormed}
 use Rattle.cg_net.specs.Names.{NetName, net_name}
+use Rattle.cg_plan_laws.specs.Outcomes.{Deserves}
 use Rattle.cg_plan_laws.specs.Plan.{Turn, plan_of, wide_of}
 use Rattle.cg_plan_laws.specs.Reported.{AreCertified, AreTold, ReportedPlan, plan_claims}
 use Rattle.cg_plan_laws.specs.declared.outcome.Outcome.TheVariants.{Inserted}
@@ -98,6 +99,9 @@ pub record Headline (request : RequestData) (says : Option Saying) (read : Circu
   pub lead : Lead turns (lifted read request.prefix) plan.machine
   pub deserved : (k : ℕ) (turn : Turn) → slice_get turns k ≡ Some turn →
       (turn.outcome ≡ Inserted) ↔ IsWorthInserting request.library request.settings turn.machine turn.stage
+  -- and every other outcome says what is so of the stage there, over all states and inputs where it speaks of a claim or of idling
+  pub outcomes : (k : ℕ) (turn : Turn) → slice_get turns k ≡ Some turn →
+      Deserves request.library request.settings turn.machine turn.stage turn.outcome
   -- literals are ranked by how often their nets are 0 in the history on which the stimulus is played on the original; a net that
   -- stands for none of the original's counts 0
   pub ranked : (stimulus : Rows) → request.stimulus ≡ Some stimulus

@@ -51,9 +51,10 @@ use Rattle.cg_gate.specs.Turns.{Lead}
 use Rattle.cg_gate.specs.declared.texts.Texts.{Texts}
 use Rattle.cg_gate.proofs.Counted.{counts}
 use Rattle.cg_gate.proofs.Deserved.{exactly_worthy}
+use Rattle.cg_gate.proofs.HintNames.{hints_named}
 use Rattle.cg_gate.proofs.Leads.{plan_leads}
 use Rattle.cg_gate.proofs.Loading.{test_input_loads}
-use Rattle.cg_extract.proofs.ForGating.{bare_is_netlist, bare_is_placeable}
+use Rattle.cg_extract.proofs.ForGating.{bare_is_netlist, bare_is_placeable, lifted_own}
 use Rattle.cg_gate.proofs.MayInsert.{may_gate}
 use Rattle.cg_gate.proofs.TestedWaves.{IsTested, tested_wave}
 use Rattle.cg_gate.proofs.TextShows.{means_asked, text_means}
@@ -194,6 +195,8 @@ module _ (request : RequestData) (says : Option Saying) (read : Circuit) (texts 
     is = gives.gated.is;
     hints = hints;
     tried = gives.gated.tried;
+    asked = hints_named read may.start.netlist request.library request.settings.width (lifted read request.prefix) (hints_of request) gives.gated.tried.done
+        (lifted_own read request.prefix may.start).own (lifted_is_machine read request.prefix may.start) (all_fit read request.prefix may.start (hints_of request) may.hints) may.hints gives.gated.tried.tried;
     deserved_hints = turns_worthy request.library request.settings.width (lifted read request.prefix) (map (renamed read) (hints_of request)) gives.gated.tried.done
         (lifted_is_machine read request.prefix may.start) (all_fit read request.prefix may.start (hints_of request) may.hints) gives.gated.tried.tried;
     turns = plan.turns;

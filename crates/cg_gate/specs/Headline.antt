@@ -35,6 +35,7 @@ use Rattle.cg_verilog_text.specs.VerilogText.{VerilogText}
 use Rattle.cg_verilog_text.specs.Written.{verilog}
 use Rattle.cg_gate.specs.WorthInserting.{IsWorthInserting}
 use Rattle.cg_gate.specs.Gating.{told_outcomes, where_asked}
+use Rattle.cg_gate.specs.HintNames.{AreAsked}
 use Rattle.cg_gate.specs.Loading.{LoadsWhere}
 use Rattle.cg_gate.specs.ZeroCounting.{zero_counts, zero_counts_of, zeros_by}
 use Rattle.cg_gate.specs.Played.{EdgesAre, LineIs, Saying}
@@ -114,11 +115,12 @@ pub record Headline (request : RequestData) (says : Option Saying) (read : Circu
   pub verilog : texts.verilog ≡ where_asked request.verilog (verilog written)
   pub verilog_means : IfSome texts.verilog (VerilogMeans request plan.machine read delays written)
   -- the hints were tried one after another on the machine of the original, to whose enables the original's gating cells are lifted,
-  -- and each is inserted exactly where it is worth it on the machine of its turn; they are told with their outcomes, bits that are
-  -- told of a refuted claim violate it, and there is a certificate for each register of each inserted hint, in order, with the
-  -- defined formula and an accepted log, and no other
+  -- each as what it says by the names of its nets, and each is inserted exactly where it is worth it on the machine of its turn; they
+  -- are told with their outcomes, bits that are told of a refuted claim violate it, and there is a certificate for each register of
+  -- each inserted hint, in order, with the defined formula and an accepted log, and no other
   pub hints : Reported
   pub tried : AreTried request.library request.settings.width (lifted read request.prefix) (map (renamed read) (hints_of request)) hints
+  pub asked : AreAsked read (hints_of request) tried.done.turns
   pub deserved_hints : (k : ℕ) (turn : HintTurn) → slice_get tried.done.turns k ≡ Some turn →
       (turn.outcome ≡ hint_outcomes.Inserted)
       ↔ IsHintWorthInserting request.library request.settings.width turn.machine turn.hint

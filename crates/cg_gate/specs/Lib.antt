@@ -6,5 +6,6 @@ pub mod Gating
 pub mod Turns
 pub mod WorthInserting
 pub mod Loading
+pub mod HintNames
 pub mod Headline
 pub mod Proper

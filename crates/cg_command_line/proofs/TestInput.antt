@@ -12,7 +12,7 @@ use Rattle.cg_source.specs.declared.stimulus.StimulusForm.TheVariants as forms
 use Rattle.cg_command_line.specs.CommandLine.{Values, command_line, values_in}
 use Rattle.cg_command_line.specs.Jobs.{JobWords, demo_job, gate_files, gate_job, job_in, job_of, job_of_options, job_with, job_without}
 use Rattle.cg_command_line.specs.Jobs.{lrat_job, named, sim_by_option, sim_files, sim_job, sim_with}
-use Rattle.cg_command_line.specs.Options.{NamesTest, are_different, asked_in, default_prefix, gate_options, gate_options_with}
+use Rattle.cg_command_line.specs.Options.{NamesTest, are_different, asked_in, default_prefix, form_of, gate_options, gate_options_with}
 use Rattle.cg_command_line.specs.Options.{has_gate_options, has_options, is_apart, is_named, may_watch, no_options, number_in, number_or}
 use Rattle.cg_command_line.specs.Options.{option_files, settings_in, settings_with, sim_options, sim_options_with, stimulus_in, watch_in}
 use Rattle.cg_command_line.specs.declared.job.Mode.{Mode}
@@ -43,24 +43,24 @@ settings_name test (Some min) (Some width) None = tt
 settings_name test (Some min) None rounds = tt
 settings_name test None width rounds = tt
 
-gate_names : (values : Values) (settings : Option Settings) (watch : Option (Option ℕ)) (stimulus : Option (Option StimulusForm)) → IfSome settings (λ settings. settings.test ≡ is_some values.test) → IfSome (gate_options_with values settings watch stimulus) NamesTest
-gate_names values (Some settings) (Some watch) (Some stimulus) asked =
+gate_names : (netlist : Text) (values : Values) (settings : Option Settings) (watch : Option (Option ℕ)) (stimulus : Option (Option StimulusForm)) → IfSome settings (λ settings. settings.test ≡ is_some values.test) → IfSome (gate_options_with netlist values settings watch stimulus) NamesTest
+gate_names netlist values (Some settings) (Some watch) (Some stimulus) asked =
     if_taken NamesTest (is_named values.clock && (is_named values.prefix && (is_named values.test && (is_apart (unwrap_or values.prefix default_prefix) values.test && may_watch values stimulus))))
-    (Some (record { clock = values.clock; prefix = unwrap_or values.prefix default_prefix; test = values.test; settings = settings; watch = watch; asked = asked_in values stimulus }))
+    (Some (record { netlist = record { form = form_of netlist; clock = values.clock }; prefix = unwrap_or values.prefix default_prefix; test = values.test; settings = settings; watch = watch; asked = asked_in values stimulus }))
     (λ taken. record {
       asked = asked;
       apart = fourth (is_named values.clock) (is_named values.prefix) (is_named values.test) (is_apart (unwrap_or values.prefix default_prefix) values.test) (may_watch values stimulus) taken;
     })
-gate_names values (Some settings) (Some watch) None asked = tt
-gate_names values (Some settings) None stimulus asked = tt
-gate_names values None watch stimulus asked = tt
+gate_names netlist values (Some settings) (Some watch) None asked = tt
+gate_names netlist values (Some settings) None stimulus asked = tt
+gate_names netlist values None watch stimulus asked = tt
 
 plain_names : NamesTest no_options
 plain_names = record { asked = refl; apart = refl }
 
-sim_names : (values : Values) (watch : Option (Option ℕ)) → IfSome (sim_options_with values watch) NamesTest
-sim_names values (Some watch) = if_taken NamesTest (is_named values.clock && not (has_gate_options values)) (Some (record no_options { clock = values.clock; watch = watch })) (λ taken. record { asked = refl; apart = refl })
-sim_names values None = tt
+sim_names : (netlist : Text) (values : Values) (watch : Option (Option ℕ)) → IfSome (sim_options_with netlist values watch) NamesTest
+sim_names netlist values (Some watch) = if_taken NamesTest (is_named values.clock && not (has_gate_options values)) (Some (record no_options { netlist = record { form = form_of netlist; clock = values.clock }; watch = watch })) (λ taken. record { asked = refl; apart = refl })
+sim_names netlist values None = tt
 
 -- the jobs
 
@@ -73,9 +73,9 @@ options_name mode files None named = tt
 
 gate_job_names : (watchers files : List Text) (values : Values) → IfSome (gate_job watchers files values) JobNames
 gate_job_names watchers (library ∷ netlist ∷ out ∷ []) values =
-    if_taken JobNames (are_different (library ∷ netlist ∷ out ∷ option_files values)) (job_of_options Gate (gate_files library netlist out values) (gate_options watchers values))
-    (λ taken. options_name Gate (gate_files library netlist out values) (gate_options watchers values)
-    (gate_names values (settings_in values) (watch_in watchers values.watch) (stimulus_in values) (settings_name (is_some values.test) (number_or 1 1 1024 values.min) (number_or 32 1 256 values.width) (number_or 4 0 16 values.rounds))))
+    if_taken JobNames (are_different (library ∷ netlist ∷ out ∷ option_files values)) (job_of_options Gate (gate_files library netlist out values) (gate_options watchers netlist values))
+    (λ taken. options_name Gate (gate_files library netlist out values) (gate_options watchers netlist values)
+    (gate_names netlist values (settings_in values) (watch_in watchers values.watch) (stimulus_in values) (settings_name (is_some values.test) (number_or 1 1 1024 values.min) (number_or 32 1 256 values.width) (number_or 4 0 16 values.rounds))))
 gate_job_names watchers [] values = tt
 gate_job_names watchers (library ∷ []) values = tt
 gate_job_names watchers (library ∷ netlist ∷ []) values = tt
@@ -84,7 +84,7 @@ gate_job_names watchers (library ∷ netlist ∷ out ∷ other ∷ files) values
 sim_with_names : (watchers : List Text) (form : StimulusForm) (library netlist : Text) (stimulus : Option Text) (values : Values) → IfSome (sim_with watchers form library netlist stimulus values) JobNames
 sim_with_names watchers form library netlist stimulus values =
     let names : Files = sim_files library netlist stimulus in
-    if_taken JobNames (are_different (library ∷ netlist ∷ option_to_list stimulus)) (job_of_options (Sim form) names (sim_options watchers values)) (λ taken. options_name (Sim form) names (sim_options watchers values) (sim_names values (watch_in watchers values.watch)))
+    if_taken JobNames (are_different (library ∷ netlist ∷ option_to_list stimulus)) (job_of_options (Sim form) names (sim_options watchers netlist values)) (λ taken. options_name (Sim form) names (sim_options watchers netlist values) (sim_names netlist values (watch_in watchers values.watch)))
 
 option_names : (watchers : List Text) (library netlist : Text) (values : Values) (stimulus : Option StimulusForm) → IfSome (sim_by_option watchers library netlist values stimulus) JobNames
 option_names watchers library netlist values None = tt

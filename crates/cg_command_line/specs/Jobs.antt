@@ -45,7 +45,7 @@ gate_files library netlist out values =
 abbrev pub gate_job : List Text → List Text → Values → Option JobWords
 gate_job watchers (library ∷ netlist ∷ out ∷ []) values =
     if are_different (library ∷ netlist ∷ out ∷ option_files values)
-    then job_of_options Gate (gate_files library netlist out values) (gate_options watchers values) else None
+    then job_of_options Gate (gate_files library netlist out values) (gate_options watchers netlist values) else None
 gate_job watchers files values = None
 
 -- `sim LIB NETLIST STIM`, or `sim LIB NETLIST` with `--vcd F` or `--random N`, with `--clock NAME` and `--watch NAME`, where all
@@ -57,7 +57,7 @@ sim_files library netlist stimulus =
 abbrev pub sim_with : List Text → StimulusForm → Text → Text → Option Text → Values → Option JobWords
 sim_with watchers form library netlist stimulus values =
     if are_different (library ∷ netlist ∷ option_to_list stimulus)
-    then job_of_options (Sim form) (sim_files library netlist stimulus) (sim_options watchers values) else None
+    then job_of_options (Sim form) (sim_files library netlist stimulus) (sim_options watchers netlist values) else None
 
 abbrev pub sim_by_option : List Text → Text → Text → Values → Option StimulusForm → Option JobWords
 sim_by_option watchers library netlist values None = None

@@ -14,7 +14,7 @@ use Rattle.cg_source.specs.declared.stimulus.StimulusForm.TheVariants as forms
 use Rattle.cg_command_line.specs.CommandLine.{Values, command_line, values_in}
 use Rattle.cg_command_line.specs.Jobs.{JobWords, demo_job, gate_files, gate_job, job_in, job_of, job_of_options, job_with, job_without}
 use Rattle.cg_command_line.specs.Jobs.{lrat_job, sim_by_option, sim_job, sim_with}
-use Rattle.cg_command_line.specs.Options.{are_different, asked_in, gate_options, gate_options_with, has_options, no_options, number_in}
+use Rattle.cg_command_line.specs.Options.{are_different, asked_in, form_of, gate_options, gate_options_with, has_options, no_options, number_in}
 use Rattle.cg_command_line.specs.Options.{option_files, settings_in, stimulus_in, watch_in}
 use Rattle.cg_command_line.specs.declared.job.Mode.{Mode}
 use Rattle.cg_command_line.specs.declared.job.Mode.TheVariants.{Demo, Gate, Lrat, Sim}
@@ -79,15 +79,15 @@ files_apart library netlist out values stimulus different =
     }
 
 -- what a job was made of
-asked_so : (values : Values) (settings : Option Settings) (watch : Option (Option ℕ)) (stimulus : Option (Option StimulusForm)) (options : Options) → gate_options_with values settings watch stimulus ≡ Some options
+asked_so : (netlist : List ℕ) (values : Values) (settings : Option Settings) (watch : Option (Option ℕ)) (stimulus : Option (Option StimulusForm)) (options : Options) → gate_options_with netlist values settings watch stimulus ≡ Some options
     → (form : Option StimulusForm) × (options.asked ≡ asked_in values form)
-asked_so values None watch stimulus options is = absurd (cc)
-asked_so values (Some settings) None stimulus options is = absurd (cc)
-asked_so values (Some settings) (Some watch) None options is = absurd (cc)
-asked_so values (Some settings) (Some watch) (Some stimulus) options is = (stimulus, go _ is)
+asked_so netlist values None watch stimulus options is = absurd (cc)
+asked_so netlist values (Some settings) None stimulus options is = absurd (cc)
+asked_so netlist values (Some settings) (Some watch) None options is = absurd (cc)
+asked_so netlist values (Some settings) (Some watch) (Some stimulus) options is = (stimulus, go _ is)
   where
-    go : (taken : Bool) → (if taken then Some (record { clock = values.clock; prefix = unwrap_or values.prefix (codes "cg_"); test = values.test; settings = settings; watch = watch; asked = asked_in values stimulus }) else None) ≡ Some options → options.asked ≡ asked_in values stimulus
-    go true is = let same : record { clock = values.clock; prefix = unwrap_or values.prefix (codes "cg_"); test = values.test; settings = settings; watch = watch; asked = asked_in values stimulus } ≡ options = cc in
+    go : (taken : Bool) → (if taken then Some (record { netlist = record { form = form_of netlist; clock = values.clock }; prefix = unwrap_or values.prefix (codes "cg_"); test = values.test; settings = settings; watch = watch; asked = asked_in values stimulus }) else None) ≡ Some options → options.asked ≡ asked_in values stimulus
+    go true is = let same : record { netlist = record { form = form_of netlist; clock = values.clock }; prefix = unwrap_or values.prefix (codes "cg_"); test = values.test; settings = settings; watch = watch; asked = asked_in values stimulus } ≡ options = cc in
         sym (ap (λ (o : Options). o.asked) same)
     go false is = absurd (cc)
 
@@ -98,11 +98,11 @@ gate_apart watchers (a ∷ b ∷ []) values job is = absurd (cc)
 gate_apart watchers (a ∷ b ∷ c ∷ d ∷ files) values job is = absurd (cc)
 gate_apart watchers (library ∷ netlist ∷ out ∷ []) values job is = go (are_different (library ∷ netlist ∷ out ∷ option_files values)) refl is
   where
-    go : (different : Bool) → are_different (library ∷ netlist ∷ out ∷ option_files values) ≡ different → (if different then job_of_options Gate (gate_files library netlist out values) (gate_options watchers values) else None) ≡ Some job → AreApart job.options.asked (file_of job.files)
+    go : (different : Bool) → are_different (library ∷ netlist ∷ out ∷ option_files values) ≡ different → (if different then job_of_options Gate (gate_files library netlist out values) (gate_options watchers netlist values) else None) ≡ Some job → AreApart job.options.asked (file_of job.files)
     go false different is = absurd (cc)
     go true different is =
-        let made = mapped_at (λ (options : Options). record { mode = Gate; files = gate_files library netlist out values; options = options }) (gate_options watchers values) job is in
-        let asked = asked_so values (settings_in values) (watch_in watchers values.watch) (stimulus_in values) made.0 made.1 in
+        let made = mapped_at (λ (options : Options). record { mode = Gate; files = gate_files library netlist out values; options = options }) (gate_options watchers netlist values) job is in
+        let asked = asked_so netlist values (settings_in values) (watch_in watchers values.watch) (stimulus_in values) made.0 made.1 in
         let A : Asked → Type 0 = λ a. AreApart a (file_of (gate_files library netlist out values)) in
         let J : JobWords → Type 0 = λ j. AreApart j.options.asked (file_of j.files) in
         subst J made.2 (subst A (sym asked.1) (files_apart library netlist out values asked.0 different))

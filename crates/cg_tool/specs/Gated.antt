@@ -46,8 +46,8 @@ pub record Stand (names : Role → List ℕ) (texts : Texts) (after : World) : T
   pub report : IfSome texts.report (λ text. after.held (names roles.Report) ≡ Some text)
   pub verilog : IfSome texts.verilog (λ text. after.held (names roles.Verilog) ≡ Some text)
 
--- A netlist was gated: the bytes under LIB are a text that stands for a library, and those under NETLIST say
--- a well-formed netlist with this library and the clock of the words, of which no gating cell is refused and in which no net's name
+-- A netlist was gated: the bytes under LIB are a text that stands for a library, and those under NETLIST, in the form that its name
+-- ends with, say a well-formed netlist with this library and the clock of the words, of which no gating cell is refused and in which no net's name
 -- begins with the prefix. The stimulus, where one is asked for, drives its data inputs with rows, by the bytes under its name where
 -- it has a file. What is
 -- stored and said are the texts that gating gives of it, and they mean what the headline says. Files of different names each hold
@@ -59,7 +59,7 @@ pub record IsGated (options : Options) (kind : Option Kind) (names : Role → Li
   pub stimulus : Option Rows
   pub texts : Texts
   pub cells : IsSomeAnd (before.held (names roles.Library)) (λ text. LibText text library)
-  pub says : IsSomeAnd (before.held (names roles.Netlist)) (λ text. SaysNetlist text library options.clock read)
+  pub says : IsSomeAnd (before.held (names roles.Netlist)) (λ text. SaysNetlist (options.netlist).form text library (options.netlist).clock read)
   pub drives : IsDriven options.asked.stimulus (before.held (names roles.Stimulus)) read stimulus
   pub well_formed : IsWellFormed read
   pub may : MayGate (request_by library (wanted_by options) stimulus) read

@@ -9,7 +9,7 @@ use Rattle.cg_run.specs.Run.{Complains, Runs}
 use Rattle.cg_run.specs.Verdict.{Task}
 use Rattle.cg_run.specs.declared.status.Status.{Status}
 use Rattle.cg_run.specs.declared.status.Status.TheVariants as statuses
-use Rattle.cg_command_line.specs.Jobs.{JobWords}
+use Rattle.cg_command_line.specs.Jobs.{IsByName, JobWords}
 use Rattle.cg_command_line.specs.declared.job.Mode.{Mode}
 use Rattle.cg_command_line.specs.declared.job.Mode.TheVariants.{Demo, Gate, Lrat, Sim}
 use Rattle.cg_command_line.specs.declared.options.Options.{Options}
@@ -79,6 +79,8 @@ pub record Promises (gave : List ℕ → Result (List ℕ) LoadFault → Type 0)
       → FinishBy (IsGated job.options (kind_at kinds job.options.watch) (file_of job.files) before after) result)
   -- the files that it stores have different names, so that each holds its text
   pub apart : IfSome asked (λ job. job.mode ≡ Gate → AreApart job.options.asked (file_of job.files))
+  -- a netlist is read in the form that its name has
+  pub formed : IfSome asked IsByName
   -- `sim` says the lines of the one history on which the stimulus is played, and what the watcher says of its moments
   pub simulated : IsTrue before.tells
       → IfSome asked (λ job. (form : StimulusForm) → job.mode ≡ Sim form

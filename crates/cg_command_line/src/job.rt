@@ -135,7 +135,7 @@ fn gate_job<'a>(
     if !are_different(&all) {
         return Ok(None);
     }
-    let Some(options) = gate_options(alloc, watchers, given)? else {
+    let Some(options) = gate_options(alloc, watchers, netlist, given)? else {
         return Ok(None);
     };
     Ok(Some(Job {
@@ -260,7 +260,7 @@ fn sim_with<'a>(
     if !sim_files_differ(files) {
         return Ok(None);
     }
-    let Some(options) = sim_options(alloc, watchers, given)? else {
+    let Some(options) = sim_options(alloc, watchers, files.netlist, given)? else {
         return Ok(None);
     };
     Ok(Some(Job {

@@ -5,7 +5,6 @@ use Rattle.std.specs.Prelude.{IsOkAnd, IsSome, IsSomeAnd}
 use Rattle.std.specs.Option.{option_map}
 use Rattle.cg_cell.specs.Cell.{CellData}
 use Rattle.cg_netlist.specs.Circuit.{Circuit}
-use Rattle.cg_net.specs.Names.{NetName}
 use Rattle.cg_run.specs.Verdict.{Given, reached, unstopped}
 use Rattle.cg_run.specs.declared.refusal.Trouble.{Trouble}
 use Rattle.cg_run.specs.declared.role.Role.{Role}
@@ -16,11 +15,12 @@ use Rattle.cg_source.specs.Design.{design_loads, load_where, design_of, design_s
 use Rattle.cg_source.specs.Library.{library_found}
 use Rattle.cg_source.specs.declared.design.Design.{Design}
 use Rattle.cg_source.specs.declared.design.DesignFiles.{DesignFiles}
+use Rattle.cg_source.specs.declared.netlist.NetlistOptions.{NetlistOptions}
 
 ok_is : {A : Type 0} (x y : A) → ◌≡◌ {A = Result A Trouble} (Ok x) (Ok y) → x ≡ y
 ok_is x y is = cc
 
-module _ {D : Type 0} (permits : List CellData → D → Circuit → Result Circuit Trouble) (demand : D) (clock : Option NetName) (given : Given) where
+module _ {D : Type 0} (permits : List CellData → D → Circuit → Result Circuit Trouble) (demand : D) (options : NetlistOptions) (given : Given) where
   -- the files in which a netlist was taken, and it may be a stimulus and hints
   pub record IsRead (stimulus hints : Bool) (end : DesignFiles D) : Type 0 where
     pub library_text : List ℕ
@@ -31,17 +31,17 @@ module _ {D : Type 0} (permits : List CellData → D → Circuit → Result Circ
     pub loaded : given roles.Netlist ≡ Some (Ok text)
     pub netlist : Circuit
     pub is : end.netlist ≡ Some netlist
-    pub found : permitted permits end.library clock demand text ≡ Ok netlist
+    pub found : permitted permits options.form end.library options.clock demand text ≡ Ok netlist
     pub drives : IsTrue stimulus → given roles.Stimulus ≡ Some (Ok end.stimulus)
     pub hinted : IsTrue hints → given roles.Hints ≡ Some (Ok end.hints)
 
   read_two : (library_text text : List ℕ) (one two : DesignFiles D) (library : List CellData) (c : Circuit) → given roles.Library ≡ Some (Ok library_text) → given roles.Netlist ≡ Some (Ok text)
-      → library_found library_text ≡ Ok library → record (design_start demand clock) { library = library } ≡ one → permitted permits one.library (one.options).clock one.demand text ≡ Ok c
+      → library_found library_text ≡ Ok library → record (design_start demand options) { library = library } ≡ one → permitted permits one.form one.library (one.options).clock one.demand text ≡ Ok c
       → record one { netlist = Some c } ≡ two → IsRead false false two
   read_two library_text text one two library c first second is start found next =
       let L : DesignFiles D → Type 0 = λ g. library_found library_text ≡ Ok g.library in
-      let F : DesignFiles D → Type 0 = λ g. permitted permits g.library clock demand text ≡ Ok c in
-      let G : DesignFiles D → Type 0 = λ g. permitted permits g.library (g.options).clock g.demand text ≡ Ok c in
+      let F : DesignFiles D → Type 0 = λ g. permitted permits options.form g.library options.clock demand text ≡ Ok c in
+      let G : DesignFiles D → Type 0 = λ g. permitted permits g.form g.library (g.options).clock g.demand text ≡ Ok c in
       record {
         library_text = library_text;
         library_loaded = first;
@@ -59,7 +59,7 @@ module _ {D : Type 0} (permits : List CellData → D → Circuit → Result Circ
   read_three : (bytes : List ℕ) (two three : DesignFiles D) → IsRead false false two → given roles.Stimulus ≡ Some (Ok bytes) → record two { stimulus = bytes } ≡ three → IsRead true false three
   read_three bytes two three read loaded next =
       let L : DesignFiles D → Type 0 = λ g. library_found read.library_text ≡ Ok g.library in
-      let F : DesignFiles D → Type 0 = λ g. permitted permits g.library clock demand read.text ≡ Ok read.netlist in
+      let F : DesignFiles D → Type 0 = λ g. permitted permits options.form g.library options.clock demand read.text ≡ Ok read.netlist in
       record {
         library_text = read.library_text;
         library_loaded = read.library_loaded;
@@ -77,7 +77,7 @@ module _ {D : Type 0} (permits : List CellData → D → Circuit → Result Circ
   read_four : (stimulus : Bool) (bytes : List ℕ) (three four : DesignFiles D) → IsRead stimulus false three → given roles.Hints ≡ Some (Ok bytes) → record three { hints = bytes } ≡ four → IsRead stimulus true four
   read_four stimulus bytes three four read loaded next =
       let L : DesignFiles D → Type 0 = λ g. library_found read.library_text ≡ Ok g.library in
-      let F : DesignFiles D → Type 0 = λ g. permitted permits g.library clock demand read.text ≡ Ok read.netlist in
+      let F : DesignFiles D → Type 0 = λ g. permitted permits options.form g.library options.clock demand read.text ≡ Ok read.netlist in
       record {
         library_text = read.library_text;
         library_loaded = read.library_loaded;
@@ -107,14 +107,14 @@ module _ {D : Type 0} (permits : List CellData → D → Circuit → Result Circ
         hints_so true hints three.next (read_three three.bytes two three.next read three.loaded (ok_is (record two { stimulus = three.bytes }) three.next three.takes_it)) three.later
 
     -- what is read where nothing is refused
-    pub design_read : (stimulus hints : Bool) → reached (design_takes permits) stops (design_start demand clock) (design_loads stimulus hints) given ≡ Ok end → IsRead stimulus hints end
+    pub design_read : (stimulus hints : Bool) → reached (design_takes permits) stops (design_start demand options) (design_loads stimulus hints) given ≡ Ok end → IsRead stimulus hints end
     design_read stimulus hints is =
-        let start : DesignFiles D = design_start demand clock in
+        let start : DesignFiles D = design_start demand options in
         let more : List Role = load_where stimulus roles.Stimulus ++ load_where hints roles.Hints in
         let one = step_of (design_takes permits) stops start roles.Library (roles.Netlist ∷ more) given end is in
         let l = found_ok (λ (q : List CellData). record start { library = q }) (library_found one.bytes) one.next one.takes_it in
         let two = step_of (design_takes permits) stops one.next roles.Netlist more given end one.later in
-        let n = found_ok (λ (q : Circuit). record one.next { netlist = Some q }) (permitted permits one.next.library (one.next.options).clock one.next.demand two.bytes) two.next two.takes_it in
+        let n = found_ok (λ (q : Circuit). record one.next { netlist = Some q }) (permitted permits one.next.form one.next.library (one.next.options).clock one.next.demand two.bytes) two.next two.takes_it in
         last_so stimulus hints two.next (read_two one.bytes two.bytes one.next two.next l.0 n.0 one.loaded two.loaded l.1 l.2 n.1 n.2) two.later
 
 module _ {D : Type 0} where
@@ -131,8 +131,8 @@ module _ {D : Type 0} where
   of_design read design P is has = let Q : Option (Design D) → Type 0 = λ o. IsSomeAnd o P in subst Q is has
 
   -- where the files were taken a netlist was read
-  pub read_some : (permits : List CellData → D → Circuit → Result Circuit Trouble) (demand : D) (clock : Option NetName) (given : Given) (stimulus hints : Bool) (end : DesignFiles D)
-      → IsOkAnd (reached (design_takes permits) unstopped (design_start demand clock) (design_loads stimulus hints) given) (λ found. found ≡ end) → IsSome end.netlist
-  read_some permits demand clock given stimulus hints end is =
-      let read = design_read permits demand clock given unstopped end stimulus hints (found_is (reached (design_takes permits) unstopped (design_start demand clock) (design_loads stimulus hints) given) end is) in
+  pub read_some : (permits : List CellData → D → Circuit → Result Circuit Trouble) (demand : D) (options : NetlistOptions) (given : Given) (stimulus hints : Bool) (end : DesignFiles D)
+      → IsOkAnd (reached (design_takes permits) unstopped (design_start demand options) (design_loads stimulus hints) given) (λ found. found ≡ end) → IsSome end.netlist
+  read_some permits demand options given stimulus hints end is =
+      let read = design_read permits demand options given unstopped end stimulus hints (found_is (reached (design_takes permits) unstopped (design_start demand options) (design_loads stimulus hints) given) end is) in
       subst (λ (o : Option Circuit). IsSome o) (sym read.is) refl

@@ -15,6 +15,8 @@ use Rattle.cg_source.specs.Refused.{then_found}
 use Rattle.cg_source.specs.declared.design.AnyNetlist.{AnyNetlist}
 use Rattle.cg_source.specs.declared.design.Design.{Design}
 use Rattle.cg_source.specs.declared.design.DesignFiles.{DesignFiles}
+use Rattle.cg_source.specs.declared.netlist.NetlistForm.{NetlistForm}
+use Rattle.cg_source.specs.declared.netlist.NetlistOptions.{NetlistOptions}
 
 -- nothing is demanded of a netlist
 abbrev pub any_netlist : AnyNetlist
@@ -24,9 +26,9 @@ abbrev pub permits_any : {D : Type 0} → List CellData → D → Circuit → Re
 permits_any library demand c = Ok c
 
 -- the netlist that a text says, where it is as is demanded
-abbrev pub permitted : {D : Type 0} → (List CellData → D → Circuit → Result Circuit Trouble) → List CellData → Option NetName →
-    D → List ℕ → Result Circuit Trouble
-permitted permits library clock demand text = then_found (netlist_found library clock text) (permits library demand)
+abbrev pub permitted : {D : Type 0} → (List CellData → D → Circuit → Result Circuit Trouble) → NetlistForm → List CellData →
+    Option NetName → D → List ℕ → Result Circuit Trouble
+permitted permits form library clock demand text = then_found (netlist_found form library clock text) (permits library demand)
 
 -- A library, such a netlist, the text of a stimulus and that of hints are taken. These texts are read for the netlist when all are
 -- taken.
@@ -35,15 +37,23 @@ abbrev pub design_takes : {D : Type 0} → (List CellData → D → Circuit → 
 design_takes permits state roles.Library text = found_as (λ library. record state { library = library }) (library_found text)
 design_takes permits state roles.Netlist text =
     found_as (λ netlist. record state { netlist = Some netlist })
-    (permitted permits state.library (state.options).clock state.demand text)
+    (permitted permits state.form state.library (state.options).clock state.demand text)
 design_takes permits state roles.Stimulus text = Ok (record state { stimulus = text })
 design_takes permits state roles.Hints text = Ok (record state { hints = text })
 design_takes permits state role text = Ok state
 
 -- nothing is read yet
-abbrev pub design_start : {D : Type 0} → D → Option NetName → DesignFiles D
-design_start demand clock =
-    record { demand = demand; options = record { clock = clock }; library = []; netlist = None; stimulus = []; hints = [] }
+abbrev pub design_start : {D : Type 0} → D → NetlistOptions → DesignFiles D
+design_start demand options =
+    record {
+      demand = demand;
+      form = options.form;
+      options = record { clock = options.clock };
+      library = [];
+      netlist = None;
+      stimulus = [];
+      hints = [];
+    }
 
 -- the library is loaded and read, then the netlist, then the stimulus, where there is to be one, and then the hints, where there are to
 -- be some

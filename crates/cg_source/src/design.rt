@@ -6,10 +6,9 @@ ghost use Rattle.cg_run.specs.Verdict.{Answers};
 ghost use Rattle.cg_source.specs.Design.{design_loads, permitted};
 
 use crate::library::take_library;
-use crate::netlist::take_netlist;
+use crate::netlist::{NetlistForm, NetlistOptions, take_netlist};
 use cg_blif::BlifOptions;
 use cg_cell::library::Library;
-use cg_cell::name::Name;
 use cg_list::Seq;
 use cg_netlist::netlist::Netlist;
 use cg_run::{Reader, Role, Trouble};
@@ -54,6 +53,8 @@ impl Demand for AnyNetlist {
 #[derive(Drop)]
 pub struct DesignFiles<D> {
     pub demand: D,
+    /// The form of the netlist's text.
+    pub form: NetlistForm,
     pub options: BlifOptions,
     pub library: Library,
     pub netlist: Option<Netlist>,
@@ -80,12 +81,14 @@ impl<D: Demand> DesignFiles<D> {
     ghost use Rattle.cg_run.specs.Verdict.{Answers};
     ghost use Rattle.cg_source.specs.Design.{design_of, design_start, design_takes};
 
-    /// Nothing is read yet; the words may name a clock.
-    pub fn start(alloc: Global, demand: D, clock: Option<Name>) -> DesignFiles<D>
-        ensures { result ≡ design_start demand clock }
+    /// Nothing is read yet; so a netlist will be read.
+    pub fn start(alloc: Global, demand: D, options: NetlistOptions) -> DesignFiles<D>
+        ensures { result ≡ design_start demand options }
     {
+        let NetlistOptions { form, clock } = options;
         DesignFiles {
             demand,
+            form,
             options: BlifOptions { clock },
             library: Library::new(alloc),
             netlist: None,
@@ -139,7 +142,14 @@ impl<D: Demand> DesignFiles<D> {
         ensures { Answers (design_takes D.permits self Role.Netlist text.now) result }
     {
         let mut next = self;
-        match take_permitted(alloc, text, &next.library, &next.options, &next.demand) {
+        match take_permitted(
+            alloc,
+            next.form,
+            text,
+            &next.library,
+            &next.options,
+            &next.demand,
+        ) {
             Ok(netlist) => {
                 drop(replace(&mut next.netlist, Some(netlist)));
                 Ok(next)
@@ -190,14 +200,15 @@ impl<D: Demand> Reader for DesignFiles<D> {
 /// The netlist that a text says with the cells of a library, where it is as is demanded.
 pub fn take_permitted<D: Demand>(
     alloc: Global,
+    form: NetlistForm,
     text: &Seq<u8>,
     library: &Library,
     options: &BlifOptions,
     demand: &D,
 ) -> Result<Netlist, Trouble>
-    ensures { Answers (permitted D.permits library.now options.now.clock demand.now text.now) result }
+    ensures { Answers (permitted D.permits form library.now options.now.clock demand.now text.now) result }
 {
-    let netlist = take_netlist(alloc, text, library, options)?;
+    let netlist = take_netlist(alloc, form, text, library, options)?;
     demand.permit(alloc, netlist, library)
 }
 

@@ -26,7 +26,7 @@ use Rattle.cg_hint_laws.specs.declared.hint.Hint.{Hint}
 use Rattle.cg_hint_text.specs.HintText.{SaysHints}
 use Rattle.cg_netlist.specs.Netlist.{IsNetlist}
 use Rattle.cg_source.proofs.HintTexts.{hints_say}
-use Rattle.cg_source.proofs.NetlistTexts.{netlist_formed, netlist_says, netlist_writable}
+use Rattle.cg_source.proofs.NetlistTexts.{netlist_formed, netlist_placeable, netlist_says}
 use Rattle.cg_source.specs.Hints.{hints_found}
 use Rattle.cg_source.proofs.StimulusTexts.{stimulus_drives, stimulus_inputs}
 use Rattle.cg_source.proofs.Texts.{library_says}
@@ -103,13 +103,13 @@ stand_of asked names before after texts proof report verilog proof_is report_is 
     }
 
 gated_of : (options : Options) (kind : Option Kind) (names : Role → List ℕ) (before after : World) (finish : Finish) (end : DesignFiles Wanted) (f : Finishes (gate_task options kind) names before after finish)
-    → IsRead gateable (wanted_by options) options.clock f.given (is_loaded options.asked.stimulus) (wants_hints options) end → gate_gives kind end f.output → IsGated options kind names before after finish
+    → IsRead gateable (wanted_by options) options.netlist f.given (is_loaded options.asked.stimulus) (wants_hints options) end → gate_gives kind end f.output → IsGated options kind names before after finish
 gated_of options kind names before after finish end f read gives =
     let c : Circuit = read.netlist in
     let gates = gates_so options kind end c f.output read.is read.demanded gives in
-    let found = found_so end.library options.clock (wanted_by options) read.text c read.found in
-    let says = netlist_says end.library options.clock read.text c found.said in
-    let whole : IsNetlist c = (netlist_writable end.library options.clock read.text c found.said).placeable.netlist in
+    let found = found_so end.library options.netlist (wanted_by options) read.text c read.found in
+    let says = netlist_says (options.netlist).form end.library (options.netlist).clock read.text c found.said in
+    let whole : IsNetlist c = (netlist_placeable (options.netlist).form end.library (options.netlist).clock read.text c found.said).netlist in
     let both = sources_ok options.asked.stimulus (wants_hints options) c end.stimulus end.hints gates.0 gates.1 in
     let held : (name : List ℕ) → after.held name ≡ puts names (gate_output (gates.2).texts).stores before.held name = λ name. f.written.held name ∙ ap (λ (o : Output). puts names o.stores before.held name) (gates.2).is in
     let texts = (((gates.2).gives).tells).gives in
@@ -122,13 +122,13 @@ gated_of options kind names before after finish end f read gives =
       cells = some_and (before.held (names roles.Library)) read.library_text (λ text. LibText text end.library)
           (held_so (before.held (names roles.Library)) (f.given roles.Library) read.library_text (f.told roles.Library) read.library_loaded)
           (library_says read.library_text end.library read.library_is);
-      says = some_and (before.held (names roles.Netlist)) read.text (λ text. SaysNetlist text end.library options.clock c)
+      says = some_and (before.held (names roles.Netlist)) read.text (λ text. SaysNetlist (options.netlist).form text end.library (options.netlist).clock c)
           (held_so (before.held (names roles.Netlist)) (f.given roles.Netlist) read.text (f.told roles.Netlist) read.loaded) says;
       drives = driven options.asked.stimulus (before.held (names roles.Stimulus)) c end.stimulus gates.0.stimulus both.0
           (λ yes. held_so (before.held (names roles.Stimulus)) (f.given roles.Stimulus) end.stimulus (f.told roles.Stimulus) (read.drives yes));
       hinted = hinted_by (wants_hints options) (before.held (names roles.Hints)) c end.hints gates.0.hints whole both.1
           (λ yes. held_so (before.held (names roles.Hints)) (f.given roles.Hints) end.hints (f.told roles.Hints) (read.hinted yes));
-      well_formed = netlist_formed end.library options.clock read.text c found.said;
+      well_formed = netlist_formed (options.netlist).form end.library (options.netlist).clock read.text c found.said;
       may = (gates.2).may;
       gives = (gates.2).gives;
       headline = (gates.2).headline;
@@ -141,4 +141,4 @@ gated_of options kind names before after finish end f read gives =
 pub gated_means : (options : Options) (kind : Option Kind) (names : Role → List ℕ) (before after : World) (finish : Finish) → Finishes (gate_task options kind) names before after finish → IsGated options kind names before after finish
 gated_means options kind names before after finish f =
     let end = came gate_takes gate_stops (gate_gives kind) (gate_start options) (design_loads (is_loaded options.asked.stimulus) (wants_hints options)) f.given f.output f.comes in
-    gated_of options kind names before after finish end.0 f (design_read gateable (wanted_by options) options.clock f.given gate_stops end.0 (is_loaded options.asked.stimulus) (wants_hints options) end.1) end.2
+    gated_of options kind names before after finish end.0 f (design_read gateable (wanted_by options) options.netlist f.given gate_stops end.0 (is_loaded options.asked.stimulus) (wants_hints options) end.1) end.2

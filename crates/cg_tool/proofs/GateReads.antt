@@ -24,9 +24,10 @@ use Rattle.cg_source.specs.Refused.{then_found}
 use Rattle.cg_source.specs.Stimulus.{is_loaded, stimulus_found}
 use Rattle.cg_source.specs.declared.design.Design.{Design}
 use Rattle.cg_source.specs.declared.design.DesignFiles.{DesignFiles}
+use Rattle.cg_source.specs.declared.netlist.NetlistOptions.{NetlistOptions}
 use Rattle.cg_source.specs.declared.stimulus.StimulusForm.{StimulusForm}
 use Rattle.cg_source.proofs.DesignRead.{design_read}
-use Rattle.cg_source.proofs.NetlistTexts.{netlist_writable}
+use Rattle.cg_source.proofs.NetlistTexts.{netlist_placeable}
 use Rattle.cg_source.proofs.StimulusTexts.{stimulus_is_for}
 use Rattle.cg_source.proofs.Taken.{then_ok}
 use Rattle.cg_stimulus.specs.Inputs.{IsFor, Rows}
@@ -83,26 +84,26 @@ gateable_ok library wanted c d is =
     (first.1 ∙ second.0 ∙ third.0, record { new = first.0; free = subst F (sym first.1) second.1; lifts = subst G back third.1 })
 
 -- a netlist that was found so
-pub record FoundSo (library : List CellData) (clock : Option NetName) (wanted : Wanted) (text : List ℕ) (c : Circuit) : Type 0 where
-  pub said : netlist_found library clock text ≡ Ok c
+pub record FoundSo (library : List CellData) (reading : NetlistOptions) (wanted : Wanted) (text : List ℕ) (c : Circuit) : Type 0 where
+  pub said : netlist_found reading.form library reading.clock text ≡ Ok c
   pub gateable : IsGateable library wanted c
 
-pub found_so : (library : List CellData) (clock : Option NetName) (wanted : Wanted) (text : List ℕ) (c : Circuit) → permitted gateable library clock wanted text ≡ Ok c → FoundSo library clock wanted text c
-found_so library clock wanted text c is =
-    let one = then_ok (netlist_found library clock text) (gateable library wanted) c is in
+pub found_so : (library : List CellData) (reading : NetlistOptions) (wanted : Wanted) (text : List ℕ) (c : Circuit) → permitted gateable reading.form library reading.clock wanted text ≡ Ok c → FoundSo library reading wanted text c
+found_so library reading wanted text c is =
+    let one = then_ok (netlist_found reading.form library reading.clock text) (gateable library wanted) c is in
     let ok = gateable_ok library wanted one.0 c one.2 in
     let G : Circuit → Type 0 = λ d. IsGateable library wanted d in
     record { said = one.1 ∙ ap Ok ok.0; gateable = subst G ok.0 ok.1 }
 
-pub may_gate : (library : List CellData) (clock : Option NetName) (wanted : Wanted) (text : List ℕ) (c : Circuit) (stimulus : Option Rows) (hints : Option (List Hint)) → IsTrue (is_name wanted.prefix) → wanted.settings.test ≡ is_some wanted.test
-    → FoundSo library clock wanted text c → ((rows : Rows) → stimulus ≡ Some rows → IsFor c rows) → AllByRecursion (IsOf c) (unwrap_or hints [])
+pub may_gate : (library : List CellData) (reading : NetlistOptions) (wanted : Wanted) (text : List ℕ) (c : Circuit) (stimulus : Option Rows) (hints : Option (List Hint)) → IsTrue (is_name wanted.prefix) → wanted.settings.test ≡ is_some wanted.test
+    → FoundSo library reading wanted text c → ((rows : Rows) → stimulus ≡ Some rows → IsFor c rows) → AllByRecursion (IsOf c) (unwrap_or hints [])
     → ((name : List ℕ) → wanted.test ≡ Some name → unwrap_or hints [] ≡ []) → MayGate (request_by library wanted stimulus hints) c
-may_gate library clock wanted text c stimulus hints named tested found played are_of unhinted =
-    let writable = netlist_writable library clock text c found.said in
+may_gate library reading wanted text c stimulus hints named tested found played are_of unhinted =
+    let placeable = netlist_placeable reading.form library reading.clock text c found.said in
     record {
-      start = record { netlist = writable.placeable.netlist; outputs_once = writable.placeable.outputs_once; named = named; new = (found.gateable).new };
+      start = record { netlist = placeable.netlist; outputs_once = placeable.outputs_once; named = named; new = (found.gateable).new };
       lifts = (found.gateable).lifts;
-      placeable = writable.placeable;
+      placeable = placeable;
       tested = tested;
       free = (found.gateable).free;
       played = played;
@@ -151,16 +152,16 @@ pub read_may : (options : Options) (given : Given) (end : DesignFiles Wanted) �
     → IsOkAnd (reached gate_takes unstopped (gate_start options) (design_loads (is_loaded options.asked.stimulus) (wants_hints options)) given) (λ found. found ≡ end) → IsSomeAnd (design_of end) MayBeGated
 read_may options given end named is =
     let loads = design_loads (is_loaded options.asked.stimulus) (wants_hints options) in
-    let read = design_read gateable (wanted_by options) options.clock given unstopped end (is_loaded options.asked.stimulus) (wants_hints options)
+    let read = design_read gateable (wanted_by options) options.netlist given unstopped end (is_loaded options.asked.stimulus) (wants_hints options)
     (found_is (reached gate_takes unstopped (gate_start options) loads given) end is) in
     let c : Circuit = read.netlist in
-    let so = found_so end.library options.clock (wanted_by options) read.text c read.found in
-    let whole : IsNetlist c = (netlist_writable end.library options.clock read.text c so.said).placeable.netlist in
+    let so = found_so end.library options.netlist (wanted_by options) read.text c read.found in
+    let whole : IsNetlist c = (netlist_placeable (options.netlist).form end.library (options.netlist).clock read.text c so.said).netlist in
     let N : Option Circuit → Type 0 = λ netlist. IsSomeAnd (design_of (record end { netlist = netlist })) MayBeGated in
     let W : Wanted → Type 0 = λ w. MayBeGated (record { demand = w; library = end.library; netlist = c; stimulus = end.stimulus; hints = end.hints }) in
     let may : W (wanted_by options) = λ sources asked.
     let both = sources_ok options.asked.stimulus (wants_hints options) c end.stimulus end.hints sources asked in
-    may_gate end.library options.clock (wanted_by options) read.text c sources.stimulus sources.hints named refl so
+    may_gate end.library options.netlist (wanted_by options) read.text c sources.stimulus sources.hints named refl so
     (λ rows some. asked_is_for options.asked.stimulus c end.stimulus sources.stimulus rows both.0 some)
     (asked_are_of (wants_hints options) c end.hints sources.hints whole both.1)
     (unhinted options c end.hints sources.hints both.1) in

@@ -6,7 +6,6 @@ use Rattle.cg_cell.specs.Cell.{CellData}
 use Rattle.cg_liberty.specs.LibText.{LibText}
 use Rattle.cg_netlist.specs.Circuit.{Circuit}
 use Rattle.cg_netlist.specs.WellFormed.{IsWellFormed}
-use Rattle.cg_net.specs.Names.{NetName}
 use Rattle.cg_netlist.proofs.Histories.{has_history, has_one_history}
 use Rattle.cg_shelf.specs.World.{World}
 use Rattle.cg_run.specs.declared.output.Finish.{Finish}
@@ -26,6 +25,7 @@ use Rattle.cg_source.specs.Refused.{then_found}
 use Rattle.cg_source.specs.Stimulus.{IsDrivenBy, has_file, stimulus_found}
 use Rattle.cg_source.specs.declared.design.AnyNetlist.{AnyNetlist}
 use Rattle.cg_source.specs.declared.design.DesignFiles.{DesignFiles}
+use Rattle.cg_source.specs.declared.netlist.NetlistOptions.{NetlistOptions}
 use Rattle.cg_source.specs.declared.stimulus.StimulusForm.{StimulusForm}
 use Rattle.cg_source.proofs.DesignRead.{design_read}
 use Rattle.cg_source.proofs.NetlistTexts.{netlist_formed, netlist_says}
@@ -36,11 +36,11 @@ use Rattle.cg_tool.specs.Watching.{Kind}
 use Rattle.cg_tool.proofs.GateMeans.{driven_by}
 use Rattle.cg_tool.proofs.LratMeans.{some_and}
 
-simulated_of : (form : StimulusForm) (clock : Option NetName) (kind : Option Kind) (names : Role → List ℕ) (before after : World) (finish : Finish) (library : List CellData) (c : Circuit) (rows : List (List Bool)) (output : Output)
-    → IsSomeAnd (before.held (names roles.Library)) (λ lib. LibText lib library) → IsSomeAnd (before.held (names roles.Netlist)) (λ t. SaysNetlist t library clock c) → IsWellFormed c
+simulated_of : (form : StimulusForm) (options : NetlistOptions) (kind : Option Kind) (names : Role → List ℕ) (before after : World) (finish : Finish) (library : List CellData) (c : Circuit) (rows : List (List Bool)) (output : Output)
+    → IsSomeAnd (before.held (names roles.Library)) (λ lib. LibText lib library) → IsSomeAnd (before.held (names roles.Netlist)) (λ t. SaysNetlist options.form t library options.clock c) → IsWellFormed c
     → IsDrivenBy form (before.held (names roles.Stimulus)) c rows → IsStimulus (record { inputs = input_names c; rows = rows })
-    → PlaysAs kind c (record { inputs = input_names c; rows = rows }) output → output.finish ≡ finish → Written names output before after → IsSimulated form clock kind names before after finish
-simulated_of form clock kind names before after finish library c rows output cells says formed drives good plays ends written =
+    → PlaysAs kind c (record { inputs = input_names c; rows = rows }) output → output.finish ≡ finish → Written names output before after → IsSimulated form options kind names before after finish
+simulated_of form options kind names before after finish library c rows output cells says formed drives good plays ends written =
     let own : IsFor c (record { inputs = input_names c; rows = rows }) = ([], sym (append-nil (input_names c))) in
     let start = start_is c in
     let wave = wave_is c (record { inputs = input_names c; rows = rows }) good own in
@@ -76,25 +76,25 @@ permitted_ok : (r : Result Circuit Trouble) (c : Circuit) → then_found r (λ d
 permitted_ok (Ok d) c is = is
 permitted_ok (Err trouble) c is = absurd (cc)
 
-pub simulated_means : (form : StimulusForm) (clock : Option NetName) (kind : Option Kind) (names : Role → List ℕ) (before after : World) (finish : Finish) → Finishes (sim_task form clock kind) names before after finish → IsSimulated form clock kind names before after finish
-simulated_means form clock kind names before after finish f =
-    let end = came sim_takes (sim_stops form) (sim_gives form kind) (sim_start clock) (design_loads (has_file form) false) f.given f.output f.comes in
-    let read = design_read permits_any any_netlist clock f.given (sim_stops form) end.0 (has_file form) false end.1 in
+pub simulated_means : (form : StimulusForm) (options : NetlistOptions) (kind : Option Kind) (names : Role → List ℕ) (before after : World) (finish : Finish) → Finishes (sim_task form options kind) names before after finish → IsSimulated form options kind names before after finish
+simulated_means form options kind names before after finish f =
+    let end = came sim_takes (sim_stops form) (sim_gives form kind) (sim_start options) (design_loads (has_file form) false) f.given f.output f.comes in
+    let read = design_read permits_any any_netlist options f.given (sim_stops form) end.0 (has_file form) false end.1 in
     let library = (end.0).library in
     let text = (end.0).stimulus in
     let c : Circuit = read.netlist in
     let plays = plays_so form kind end.0 c f.output read.is end.2 in
     let rows = (plays.0).rows in
     let same : plays.0 ≡ record { inputs = input_names c; rows = rows } = ap (λ inputs. record { inputs = inputs; rows = rows }) (stimulus_inputs form c text plays.0 plays.1) in
-    let found = permitted_ok (netlist_found library clock read.text) c read.found in
-    let says = netlist_says library clock read.text c found in
+    let found = permitted_ok (netlist_found options.form library options.clock read.text) c read.found in
+    let says = netlist_says options.form library options.clock read.text c found in
     let drives = stimulus_drives form c text plays.0 plays.1 in
     let P : Rows → Type 0 = λ s. PlaysAs kind c s f.output in
-    simulated_of form clock kind names before after finish library c rows f.output
+    simulated_of form options kind names before after finish library c rows f.output
     (some_and (before.held (names roles.Library)) read.library_text (λ lib. LibText lib library) (held_so (before.held (names roles.Library)) (f.given roles.Library) read.library_text (f.told roles.Library) read.library_loaded)
     (library_says read.library_text library read.library_is))
-    (some_and (before.held (names roles.Netlist)) read.text (λ t. SaysNetlist t library clock c) (held_so (before.held (names roles.Netlist)) (f.given roles.Netlist) read.text (f.told roles.Netlist) read.loaded) says)
-    (netlist_formed library clock read.text c found)
+    (some_and (before.held (names roles.Netlist)) read.text (λ t. SaysNetlist options.form t library options.clock c) (held_so (before.held (names roles.Netlist)) (f.given roles.Netlist) read.text (f.told roles.Netlist) read.loaded) says)
+    (netlist_formed options.form library options.clock read.text c found)
     (driven_by form (before.held (names roles.Stimulus)) c text rows drives (λ yes. held_so (before.held (names roles.Stimulus)) (f.given roles.Stimulus) text (f.told roles.Stimulus) (read.drives yes)))
     (drives_rows form c text rows drives)
     (subst P same plays.2) f.ends f.written

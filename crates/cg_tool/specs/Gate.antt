@@ -125,7 +125,7 @@ gate_gives kind files output = IsSomeAnd (design_of files) (λ design. design_gi
 
 -- nothing is read yet
 abbrev pub gate_start : Options → DesignFiles Wanted
-gate_start options = design_start (wanted_by options) options.clock
+gate_start options = design_start (wanted_by options) options.netlist
 
 -- what a run of `gate` does
 abbrev pub gate_task : Options → Option Kind → Task

@@ -54,8 +54,8 @@ pub record Stand (names : Role → List ℕ) (texts : Texts) (after : World) : T
   pub report : IfSome texts.report (λ text. after.held (names roles.Report) ≡ Some text)
   pub verilog : IfSome texts.verilog (λ text. after.held (names roles.Verilog) ≡ Some text)
 
--- A netlist was gated: the bytes under LIB are a text that stands for a library, and those under NETLIST say
--- a well-formed netlist with this library and the clock of the words, of which no gating cell is refused and in which no net's name
+-- A netlist was gated: the bytes under LIB are a text that stands for a library, and those under NETLIST, in the form that its name
+-- ends with, say a well-formed netlist with this library and the clock of the words, of which no gating cell is refused and in which no net's name
 -- begins with the prefix. The stimulus, where one is asked for, drives its data inputs with rows, by the bytes under its name where
 -- it has a file. The hints, where they are asked for and there is to be no test input, are those that the bytes under their name say for
 -- the netlist. What is
@@ -69,7 +69,7 @@ pub record IsGated (options : Options) (kind : Option Kind) (names : Role → Li
   pub hints : Option (List Hint)
   pub texts : Texts
   pub cells : IsSomeAnd (before.held (names roles.Library)) (λ text. LibText text library)
-  pub says : IsSomeAnd (before.held (names roles.Netlist)) (λ text. SaysNetlist text library options.clock read)
+  pub says : IsSomeAnd (before.held (names roles.Netlist)) (λ text. SaysNetlist (options.netlist).form text library (options.netlist).clock read)
   pub drives : IsDriven options.asked.stimulus (before.held (names roles.Stimulus)) read stimulus
   pub hinted : AreHinted (wants_hints options) (before.held (names roles.Hints)) read hints
   pub well_formed : IsWellFormed read

@@ -6,7 +6,6 @@ use Rattle.cg_liberty.specs.LibText.{LibText}
 use Rattle.cg_netlist.specs.Circuit.{Circuit}
 use Rattle.cg_netlist.specs.History.{Moment}
 use Rattle.cg_netlist.specs.WellFormed.{IsWellFormed}
-use Rattle.cg_net.specs.Names.{NetName}
 use Rattle.cg_report.specs.RowLines.{rows_text}
 use Rattle.cg_report.specs.Watched.{watched_line}
 use Rattle.cg_run.specs.Verdict.{Task, task_of}
@@ -23,6 +22,7 @@ use Rattle.cg_source.specs.Stimulus.{IsDrivenBy, has_file, stimulus_found}
 use Rattle.cg_source.specs.declared.design.AnyNetlist.{AnyNetlist}
 use Rattle.cg_source.specs.declared.design.Design.{Design}
 use Rattle.cg_source.specs.declared.design.DesignFiles.{DesignFiles}
+use Rattle.cg_source.specs.declared.netlist.NetlistOptions.{NetlistOptions}
 use Rattle.cg_source.specs.declared.stimulus.StimulusForm.{StimulusForm}
 use Rattle.cg_stimulus.specs.Inputs.{Rows}
 use Rattle.cg_stimulus.specs.Played.{IsPlayed}
@@ -68,27 +68,27 @@ sim_stops form files = option_and_then (play_stops form) (design_of files)
 abbrev pub sim_gives : StimulusForm → Option Kind → DesignFiles AnyNetlist → Output → Type 0
 sim_gives form kind files output = IsSomeAnd (design_of files) (λ design. play_gives form kind design output)
 
--- nothing is read yet; the words may name a clock
-abbrev pub sim_start : Option NetName → DesignFiles AnyNetlist
-sim_start clock = design_start any_netlist clock
+-- nothing is read yet
+abbrev pub sim_start : NetlistOptions → DesignFiles AnyNetlist
+sim_start options = design_start any_netlist options
 
 -- what a run of `sim` does, with a stimulus of this form
-abbrev pub sim_task : StimulusForm → Option NetName → Option Kind → Task
-sim_task form clock kind =
-    task_of sim_takes (sim_stops form) (sim_gives form kind) (sim_start clock) (design_loads (has_file form) false)
+abbrev pub sim_task : StimulusForm → NetlistOptions → Option Kind → Task
+sim_task form options kind =
+    task_of sim_takes (sim_stops form) (sim_gives form kind) (sim_start options) (design_loads (has_file form) false)
 
--- A stimulus was played: the bytes under LIB are a text that stands for a library, those under NETLIST say
--- a well-formed netlist with this library and the clock of the words, and the stimulus of this form, whose text, where it has one, is
+-- A stimulus was played: the bytes under LIB are a text that stands for a library, those under NETLIST, in the form that its name ends
+-- with, say a well-formed netlist with this library and the clock of the words, and the stimulus of this form, whose text, where it has one, is
 -- under the stimulus's name, drives its data inputs with these rows. There is one history on which these rows are played, and what
 -- is said is its lines. Nothing is stored.
-pub record IsSimulated (form : StimulusForm) (clock : Option NetName) (kind : Option Kind) (names : Role → List ℕ)
+pub record IsSimulated (form : StimulusForm) (options : NetlistOptions) (kind : Option Kind) (names : Role → List ℕ)
     (before after : World) (finish : Finish) : Type 0 where
   pub library : List CellData
   pub netlist : Circuit
   pub rows : List (List Bool)
   pub history : List Moment
   pub cells : IsSomeAnd (before.held (names roles.Library)) (λ text. LibText text library)
-  pub says : IsSomeAnd (before.held (names roles.Netlist)) (λ text. SaysNetlist text library clock netlist)
+  pub says : IsSomeAnd (before.held (names roles.Netlist)) (λ text. SaysNetlist options.form text library options.clock netlist)
   pub drives : IsDrivenBy form (before.held (names roles.Stimulus)) netlist rows
   pub well_formed : IsWellFormed netlist
   pub played : IsPlayed netlist rows history

@@ -86,7 +86,7 @@ fn run_job<S: Shelf>(
     let watcher = chosen(watchers, options.watch);
     match mode {
         Mode::Gate => gate::run(alloc, shelf, &names, options, watcher, progress),
-        Mode::Sim(form) => sim::run(alloc, shelf, &names, form, options.clock, watcher),
+        Mode::Sim(form) => sim::run(alloc, shelf, &names, form, options.netlist, watcher),
         Mode::Lrat => lrat::run(alloc, shelf, &names),
         Mode::Demo(size) => demo::run(alloc, shelf, &names, size, progress),
     }

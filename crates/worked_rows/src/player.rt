@@ -61,6 +61,7 @@ impl Player {
             ["nets", count, name] => self.nets(count, name),
             ["cells", count, name] => self.cells(count, name),
             ["cases", name, words @ ..] => self.cases(folder, name, line, words),
+            ["verilog", words @ ..] => self.verilog(folder, line, words),
             ["solve", formula, log] => self.solve(folder, formula, log),
             ["proof", proof, formula, log] => self.split(proof, formula, log),
             ["parts", proof] => self.parts(folder, proof),
@@ -216,8 +217,65 @@ impl Player {
     fn case<S: Shelf>(&mut self, folder: &mut S, case: &str, words: &[&str]) -> Result<(), Failed> {
         say(folder, case.as_bytes(), CASE_END.as_bytes())?;
         self.files.put("case", case.as_bytes())?;
+        self.files.put("case.v", case.as_bytes())?;
         self.play(folder, words)?;
         say(folder, self.files.held("out").unwrap_or(b""), b"")
+    }
+
+    /// Gates a netlist by words, and its Verilog text again, and says whether a stimulus shows the same outputs on all three.
+    fn verilog<S: Shelf>(
+        &mut self,
+        folder: &mut S,
+        line: &str,
+        words: &[&str],
+    ) -> Result<(), Failed> {
+        let [library, netlist, stimulus, more @ ..] = words else {
+            return Err(Failed);
+        };
+        say(folder, b"$ ", line.as_bytes())?;
+        say(folder, b"\n", b"")?;
+        self.bring(folder, stimulus)?;
+        let first = ["gate", library, netlist, "first.out", "--verilog", "first.v"];
+        self.play_with(folder, &first, more)?;
+        let twice = ["gate", library, "first.v", "twice.out", "--prefix", "h_"];
+        self.play_with(folder, &twice, more)?;
+        self.compare_rows(folder, library, stimulus)
+    }
+
+    /// Runs the program on words and on more behind them.
+    fn play_with<S: Shelf>(
+        &mut self,
+        folder: &mut S,
+        words: &[&str],
+        more: &[&str],
+    ) -> Result<(), Failed> {
+        let mut all = Vec::from_slice(self.alloc, words)?;
+        all.extend_from_slice(more)?;
+        self.play(folder, all.as_slice())
+    }
+
+    /// Says whether a stimulus shows the same on the files `first.out` and `first.v`, and the same outputs on `twice.out`.
+    fn compare_rows<S: Shelf>(
+        &mut self,
+        folder: &mut S,
+        library: &str,
+        stimulus: &str,
+    ) -> Result<(), Failed> {
+        let first = self.said_of(&["sim", library, "first.out", stimulus])?;
+        let text = self.said_of(&["sim", library, "first.v", stimulus])?;
+        let twice = self.said_of(&["sim", library, "twice.out", stimulus])?;
+        if first == text && have_same_rows(&first, &twice) {
+            return say(folder, b"the same\n", b"");
+        }
+        say(folder, b"not the same\n", b"")
+    }
+
+    /// What the program says on words.
+    fn said_of(&mut self, words: &[&str]) -> Result<String, Failed> {
+        let before = self.files.said().len();
+        run_over(self.alloc, &mut self.files, words)?;
+        let said = self.files.said().get(before..).unwrap_or(b"");
+        Ok(String::from_utf8(Vec::from_slice(self.alloc, said)?)?)
     }
 
     /// Runs the program on a command line over the folder itself, where what it says goes out as it is said.
@@ -316,6 +374,14 @@ impl Player {
         push_number(&mut text, u64::from(status.number()))?;
         say(folder, b"status ", text.as_slice())?;
         say(folder, b"\n", b"")
+    }
+}
+
+/// Whether two texts of `sim` have the same rows, whatever their edges are.
+fn have_same_rows(first: &str, second: &str) -> bool {
+    match (first.split_once("edges"), second.split_once("edges")) {
+        (Some((first, _)), Some((second, _))) => first == second,
+        _ => false,
     }
 }
 

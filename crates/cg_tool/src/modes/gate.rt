@@ -108,7 +108,7 @@ fn start(alloc: Global, options: Options) -> DesignFiles<Wanted>
         options.settings,
         options.asked,
     );
-    DesignFiles::start(alloc, wanted, options.clock)
+    DesignFiles::start(alloc, wanted, options.netlist)
 }
 
 /// What is put out once all files are taken.

@@ -12,7 +12,6 @@ ghost use Rattle.cg_source.specs.Stimulus.{has_file};
 ghost use Rattle.cg_stimulus.specs.Inputs.{IsFor};
 ghost use Rattle.cg_tool.specs.Sim.{IsSimulated, SaysPlayed, play_gives, play_stops, sim_gives, sim_start, sim_stops, sim_takes, sim_task};
 
-use cg_cell::name::Name;
 use cg_list::Seq;
 use cg_netlist::netlist::Netlist;
 use cg_report::rows::push_rows;
@@ -21,27 +20,28 @@ use cg_report::watcher::Watcher;
 use cg_run::{Finish, Names, Output, Refusal, Status, Trouble, collect, put_out};
 use cg_shelf::Shelf;
 use cg_source::design::{AnyNetlist, Design, DesignFiles, design_files};
+use cg_source::netlist::NetlistOptions;
 use cg_source::stimulus::{StimulusForm, take_stimulus};
 use cg_stimulus::stimulus::Stimulus;
 use std::alloc::{AllocError, Global};
 
-/// Plays a stimulus of this form on a netlist, over the shelf; the words may name the clock and a watcher.
+/// Plays a stimulus of this form on a netlist that is read so, over the shelf; the words may name a watcher.
 pub fn run<S: Shelf>(
     alloc: Global,
     shelf: &mut S,
     names: &Names<'_>,
     form: StimulusForm,
-    clock: Option<Name>,
+    options: NetlistOptions,
     watcher: Option<Box<dyn Watcher>>,
 ) -> Status
-    ensures runs { Runs (Gave S.gives) (sim_task form clock (option_map (λ watcher. says watcher) watcher)) (name_of names.now) (S.world shelf.old)
+    ensures runs { Runs (Gave S.gives) (sim_task form options (option_map (λ watcher. says watcher) watcher)) (name_of names.now) (S.world shelf.old)
         (S.world shelf.new) result }
 
     // A finished run said the lines of the one history on which the stimulus is played, and the watcher's line of its moments.
     ensures simulated { IsTrue (S.world shelf.old).tells
-        → FinishBy (IsSimulated form clock (option_map (λ watcher. says watcher) watcher) (name_of names.now) (S.world shelf.old) (S.world shelf.new)) result }
+        → FinishBy (IsSimulated form options (option_map (λ watcher. says watcher) watcher) (name_of names.now) (S.world shelf.old) (S.world shelf.new)) result }
 {
-    let found = read(alloc, shelf, names, form, clock, watcher);
+    let found = read(alloc, shelf, names, form, options, watcher);
     put_out(alloc, shelf, names, found)
 }
 
@@ -51,13 +51,13 @@ fn read<S: Shelf>(
     shelf: &mut S,
     names: &Names<'_>,
     form: StimulusForm,
-    clock: Option<Name>,
+    options: NetlistOptions,
     watcher: Option<Box<dyn Watcher>>,
 ) -> Result<Output, Refusal>
-    ensures { Reads (Gave S.gives) sim_takes (sim_stops form) (sim_gives form (option_map (λ watcher. says watcher) watcher)) (name_of names.now) (sim_start clock)
+    ensures { Reads (Gave S.gives) sim_takes (sim_stops form) (sim_gives form (option_map (λ watcher. says watcher) watcher)) (name_of names.now) (sim_start options)
         (design_loads (has_file form) false) (S.world shelf.old) (S.world shelf.new) result }
 {
-    let start = DesignFiles::start(alloc, AnyNetlist, clock);
+    let start = DesignFiles::start(alloc, AnyNetlist, options);
     let found = collect(
         alloc,
         shelf,

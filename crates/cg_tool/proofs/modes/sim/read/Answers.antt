@@ -24,8 +24,8 @@ returns-in_err-found g c =
     let before = g.S.Shelf.world c.args.shelf.now in
     let after = g.S.Shelf.world c.collect.new.shelf in
     let C : DesignFiles AnyNetlist → Type 0 = λ start. Collects gave sim_takes names start c.design_files.result.now before after (Err c.in_err-found.field-0.0) in
-    let L : List Role → Type 0 = λ files. Collects gave sim_takes names (sim_start c.args.clock) files before after (Err c.in_err-found.field-0.0) in
-    rw (p.1, p.2) (reads_refused gave sim_takes (sim_stops c.args.form) (sim_gives c.args.form kind) names (sim_start c.args.clock) files before after c.in_err-found.field-0.0 (subst L (c.design_files.ensures.files ∙ ap (λ b. design_loads b false) c.has_file.ensures) (subst C c.start-start.ensures c.in_err-found.ensures)))
+    let L : List Role → Type 0 = λ files. Collects gave sim_takes names (sim_start c.args.options) files before after (Err c.in_err-found.field-0.0) in
+    rw (p.1, p.2) (reads_refused gave sim_takes (sim_stops c.args.form) (sim_gives c.args.form kind) names (sim_start c.args.options) files before after c.in_err-found.field-0.0 (subst L (c.design_files.ensures.files ∙ ap (λ b. design_loads b false) c.has_file.ensures) (subst C c.start-start.ensures c.in_err-found.ensures)))
 
 pub returns-in_err-finish : goal.returns-in_err-finish
 returns-in_err-finish g c =
@@ -37,8 +37,8 @@ returns-in_err-finish g c =
     let before = g.S.Shelf.world c.args.shelf.now in
     let after = g.S.Shelf.world c.collect.new.shelf in
     let C : DesignFiles AnyNetlist → Type 0 = λ start. Collects gave sim_takes names start c.design_files.result.now before after (Ok c.in_ok-found.found) in
-    let L : List Role → Type 0 = λ files. Collects gave sim_takes names (sim_start c.args.clock) files before after (Ok c.in_ok-found.found) in
-    rw (p.1, p.2) (reads_concluded gave sim_takes (sim_stops c.args.form) (sim_gives c.args.form kind) names (sim_start c.args.clock) files before after c.in_ok-found.found (Err c.in_err-finish.field-0.0) (subst L (c.design_files.ensures.files ∙ ap (λ b. design_loads b false) c.has_file.ensures) (subst C c.start-start.ensures c.in_ok-found.ensures)) c.in_err-finish.ensures)
+    let L : List Role → Type 0 = λ files. Collects gave sim_takes names (sim_start c.args.options) files before after (Ok c.in_ok-found.found) in
+    rw (p.1, p.2) (reads_concluded gave sim_takes (sim_stops c.args.form) (sim_gives c.args.form kind) names (sim_start c.args.options) files before after c.in_ok-found.found (Err c.in_err-finish.field-0.0) (subst L (c.design_files.ensures.files ∙ ap (λ b. design_loads b false) c.has_file.ensures) (subst C c.start-start.ensures c.in_ok-found.ensures)) c.in_err-finish.ensures)
 
 pub returns : goal.returns
 returns g c =
@@ -49,8 +49,8 @@ returns g c =
     let before = g.S.Shelf.world c.args.shelf.now in
     let after = g.S.Shelf.world c.collect.new.shelf in
     let C : DesignFiles AnyNetlist → Type 0 = λ start. Collects gave sim_takes names start c.design_files.result.now before after (Ok c.in_ok-found.found) in
-    let L : List Role → Type 0 = λ files. Collects gave sim_takes names (sim_start c.args.clock) files before after (Ok c.in_ok-found.found) in
-    reads_concluded gave sim_takes (sim_stops c.args.form) (sim_gives c.args.form kind) names (sim_start c.args.clock) files before after c.in_ok-found.found (Ok c.in_ok-finish.field-0) (subst L (c.design_files.ensures.files ∙ ap (λ b. design_loads b false) c.has_file.ensures) (subst C c.start-start.ensures c.in_ok-found.ensures)) c.in_ok-finish.ensures
+    let L : List Role → Type 0 = λ files. Collects gave sim_takes names (sim_start c.args.options) files before after (Ok c.in_ok-found.found) in
+    reads_concluded gave sim_takes (sim_stops c.args.form) (sim_gives c.args.form kind) names (sim_start c.args.options) files before after c.in_ok-found.found (Ok c.in_ok-finish.field-0) (subst L (c.design_files.ensures.files ∙ ap (λ b. design_loads b false) c.has_file.ensures) (subst C c.start-start.ensures c.in_ok-found.ensures)) c.in_ok-finish.ensures
 
 pub finish-requires : goal.finish-requires
 finish-requires g c =
@@ -59,6 +59,6 @@ finish-requires g c =
     let before = g.S.Shelf.world c.args.shelf.now in
     let after = g.S.Shelf.world c.collect.new.shelf in
     let C : DesignFiles AnyNetlist → Type 0 = λ start. Collects gave sim_takes names start c.design_files.result.now before after (Ok c.in_ok-found.found) in
-    let L : List Role → Type 0 = λ files. Collects gave sim_takes names (sim_start c.args.clock) files before after (Ok c.in_ok-found.found) in
+    let L : List Role → Type 0 = λ files. Collects gave sim_takes names (sim_start c.args.options) files before after (Ok c.in_ok-found.found) in
     let collects = subst L (c.design_files.ensures.files ∙ ap (λ b. design_loads b false) c.has_file.ensures) (subst C c.start-start.ensures c.in_ok-found.ensures) in
-    read_some permits_any any_netlist c.args.clock collects.given (has_file c.args.form) false c.in_ok-found.found collects.cause
+    read_some permits_any any_netlist c.args.options collects.given (has_file c.args.form) false c.in_ok-found.found collects.cause

@@ -1,6 +1,6 @@
 -- The test input of a job.
 use Rattle.std.proofs.Common.{◌≡◌, ℕ, Bool, true, false, List, Option, None, Some, refl, sym, subst}
-use Rattle.std.specs.Prelude.{◌&&◌, not, is_some, unwrap_or, IfSome}
+use Rattle.std.specs.Prelude.{◌&&◌, ◌||◌, not, is_none, is_some, unwrap_or, IfSome}
 use Rattle.clap.specs.Words.{Text}
 use Rattle.cg_plan_laws.specs.declared.settings.Settings.{Settings}
 use Rattle.cg_source.specs.declared.stimulus.StimulusForm.{StimulusForm}
@@ -11,12 +11,20 @@ use Rattle.cg_command_line.specs.Options.{is_named, may_hint, may_watch, no_opti
 use Rattle.cg_command_line.specs.Options.{watch_in}
 use Rattle.cg_command_line.proofs.EachJob.{each_job, if_taken}
 
-fourth : (a b c d e : Bool) → (a && (b && (c && (d && e)))) ≡ true → d ≡ true
-fourth true true true true e all = refl
-fourth true true true false e all = all
-fourth true true false d e all = absurd (cc)
-fourth true false c d e all = absurd (cc)
-fourth false b c d e all = absurd (cc)
+-- of the tests of the options of `gate`, where all hold, the one of the prefix holds and that of the hints
+tests_hold : (clock prefix test apart watch hint : Bool) → (clock && (prefix && (test && (apart && (watch && hint))))) ≡ true → (apart ≡ true) × (hint ≡ true)
+tests_hold true true true true true hint all = (refl, all)
+tests_hold true true true true false hint all = absurd (cc)
+tests_hold true true true false watch hint all = absurd (cc)
+tests_hold true true false apart watch hint all = absurd (cc)
+tests_hold true false test apart watch hint all = absurd (cc)
+tests_hold false prefix test apart watch hint all = absurd (cc)
+
+-- hints are asked for only where no test input is named
+hints_alone : (hints test : Option Text) → (is_none hints || is_none test) ≡ true → is_some hints ≡ true → test ≡ None
+hints_alone hints None may asked = refl
+hints_alone None (Some test) may asked = absurd (cc)
+hints_alone (Some hints) (Some test) may asked = absurd (cc)
 
 settings_name : (test : Bool) (min width rounds : Option ℕ) → IfSome (settings_with test min width rounds) (λ settings. settings.test ≡ test)
 settings_name test (Some min) (Some width) (Some rounds) = refl
@@ -29,17 +37,16 @@ gate_names : (netlist : Text) (values : Values) (settings : Option Settings) (wa
 gate_names netlist values (Some settings) (Some watch) (Some stimulus) asked =
     if_taken NamesTest (is_named values.clock && (is_named values.prefix && (is_named values.test && (is_apart (unwrap_or values.prefix default_prefix) values.test && (may_watch values stimulus && may_hint values)))))
     (Some (record { netlist = record { form = form_of netlist; clock = values.clock }; prefix = unwrap_or values.prefix default_prefix; test = values.test; settings = settings; watch = watch; asked = asked_in values stimulus }))
-    (λ taken. record {
-      asked = asked;
-      apart = fourth (is_named values.clock) (is_named values.prefix) (is_named values.test) (is_apart (unwrap_or values.prefix default_prefix) values.test) (may_watch values stimulus && may_hint values) taken;
-    })
+    (λ taken.
+    let hold = tests_hold (is_named values.clock) (is_named values.prefix) (is_named values.test) (is_apart (unwrap_or values.prefix default_prefix) values.test) (may_watch values stimulus) (may_hint values) taken in
+    record { asked = asked; apart = hold.0; unhinted = hints_alone values.hints values.test hold.1 })
 gate_names netlist values (Some settings) (Some watch) None asked = tt
 gate_names netlist values (Some settings) None stimulus asked = tt
 gate_names netlist values None watch stimulus asked = tt
 
 sim_names : (netlist : Text) (values : Values) (watch : Option (Option ℕ)) → IfSome (sim_options_with netlist values watch) NamesTest
 sim_names netlist values (Some watch) =
-    if_taken NamesTest (is_named values.clock && not (has_gate_options values)) (Some (record no_options { netlist = record { form = form_of netlist; clock = values.clock }; watch = watch })) (λ taken. record { asked = refl; apart = refl })
+    if_taken NamesTest (is_named values.clock && not (has_gate_options values)) (Some (record no_options { netlist = record { form = form_of netlist; clock = values.clock }; watch = watch })) (λ taken. record { asked = refl; apart = refl; unhinted = λ hinted. refl })
 sim_names netlist values None = tt
 
 abbrev JobNames : JobWords → Type 0
@@ -51,8 +58,8 @@ test_is_named watchers words =
     each_job JobNames watchers
     (λ library netlist out values different. gate_names netlist values (settings_in values) (watch_in watchers values.watch) (stimulus_in values) (settings_name (is_some values.test) (number_or 1 1 1024 values.min) (number_or 32 1 256 values.width) (number_or 4 0 16 values.rounds)))
     (λ form library netlist stimulus values. sim_names netlist values (watch_in watchers values.watch))
-    (λ formula log. record { asked = refl; apart = refl })
-    (λ size. record { asked = refl; apart = refl })
+    (λ formula log. record { asked = refl; apart = refl; unhinted = λ hinted. refl })
+    (λ size. record { asked = refl; apart = refl; unhinted = λ hinted. refl })
     words
 
 -- so do those of a job that is read

@@ -173,7 +173,9 @@ sim_options_with netlist values None = None
 abbrev pub sim_options : List Text → Text → Values → Option Options
 sim_options watchers netlist values = sim_options_with netlist values (watch_in watchers values.watch)
 
--- what options say of a test input: there is one exactly where it has a name, which does not begin with the prefix
+-- what options say of a test input: there is one exactly where it has a name, which does not begin with the prefix, and there is none
+-- where hints are asked for
 pub record NamesTest (options : Options) : Type 0 where
   pub asked : options.settings.test ≡ is_some options.test
   pub apart : is_apart options.prefix options.test ≡ true
+  pub unhinted : options.asked.hints ≡ true → options.test ≡ None

@@ -235,7 +235,14 @@ impl Player {
         say(folder, b"$ ", line.as_bytes())?;
         say(folder, b"\n", b"")?;
         self.bring(folder, stimulus)?;
-        let first = ["gate", library, netlist, "first.out", "--verilog", "first.v"];
+        let first = [
+            "gate",
+            library,
+            netlist,
+            "first.out",
+            "--verilog",
+            "first.v",
+        ];
         self.play_with(folder, &first, more)?;
         let twice = ["gate", library, "first.v", "twice.out", "--prefix", "h_"];
         self.play_with(folder, &twice, more)?;

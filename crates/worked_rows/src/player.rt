@@ -425,38 +425,43 @@ fn run_words<S: Shelf>(
     shelf: &mut S,
     words: &[String],
 ) -> Result<Status, AllocError> {
-    let watchers = all_watchers(alloc)?;
-    Ok(run(alloc, words, shelf, watchers, &mut Silent))
-}
-
-/// The program's four watchers and, behind them, the two of a kind of their own.
-fn all_watchers(alloc: Global) -> Result<Vec<Box<dyn Watcher>>, AllocError> {
-    let mut watchers = four_watchers(alloc)?;
-    let highs: Box<dyn Watcher> = Box::new(alloc, Highs::new())?;
-    watchers.push(highs)?;
-    let few: Box<dyn Watcher> = Box::new(alloc, Highs::few())?;
-    watchers.push(few)?;
-    Ok(watchers)
-}
-
-/// The program's four watchers.
-fn four_watchers(alloc: Global) -> Result<Vec<Box<dyn Watcher>>, AllocError> {
-    let mut watchers = two_watchers(alloc)?;
-    let clocks: Box<dyn Watcher> = Box::new(alloc, ClockCount::new(alloc))?;
-    watchers.push(clocks)?;
-    let dump: Box<dyn Watcher> = Box::new(alloc, VcdWatch::new(alloc))?;
-    watchers.push(dump)?;
-    Ok(watchers)
-}
-
-/// The program's first two. Two by two, since each watcher that one function owns doubles the ways in which it can end.
-fn two_watchers(alloc: Global) -> Result<Vec<Box<dyn Watcher>>, AllocError> {
-    let mut watchers: Vec<Box<dyn Watcher>> = Vec::new(alloc);
+    let mut watchers = Vec::new(alloc);
     let edges: Box<dyn Watcher> = Box::new(alloc, EdgeCount::new())?;
     watchers.push(edges)?;
     let toggles: Box<dyn Watcher> = Box::new(alloc, ToggleCount::new(alloc))?;
     watchers.push(toggles)?;
-    Ok(watchers)
+    run_further(alloc, shelf, words, watchers)
+}
+
+/// Runs it with these watchers, one of clocks, one that says a dump, and the two. It is apart from `run_words`, since each watcher
+/// that one function owns doubles the ways in which it can end.
+fn run_further<S: Shelf>(
+    alloc: Global,
+    shelf: &mut S,
+    words: &[String],
+    watchers: Vec<Box<dyn Watcher>>,
+) -> Result<Status, AllocError> {
+    let mut watchers = watchers;
+    let clocks: Box<dyn Watcher> = Box::new(alloc, ClockCount::new(alloc))?;
+    watchers.push(clocks)?;
+    let dump: Box<dyn Watcher> = Box::new(alloc, VcdWatch::new(alloc))?;
+    watchers.push(dump)?;
+    run_with_own(alloc, shelf, words, watchers)
+}
+
+/// Runs it with these watchers and, behind them, the two of a kind of their own.
+fn run_with_own<S: Shelf>(
+    alloc: Global,
+    shelf: &mut S,
+    words: &[String],
+    watchers: Vec<Box<dyn Watcher>>,
+) -> Result<Status, AllocError> {
+    let mut watchers = watchers;
+    let highs: Box<dyn Watcher> = Box::new(alloc, Highs::new())?;
+    watchers.push(highs)?;
+    let few: Box<dyn Watcher> = Box::new(alloc, Highs::few())?;
+    watchers.push(few)?;
+    Ok(run(alloc, words, shelf, watchers, &mut Silent))
 }
 
 /// The numbers of a list with commas.

@@ -40,22 +40,14 @@ fn words(rt: HostRuntime) -> io::Result<Vec<String>> {
 fn watched(rt: HostRuntime, words: &[String]) -> Result<Status, AllocError> {
     let alloc = rt.alloc();
     let mut watchers: Vec<Box<dyn Watcher>> = Vec::new(alloc);
-    watchers.push(Box::new(alloc, EdgeCount::new())?)?;
-    watchers.push(Box::new(alloc, ToggleCount::new(alloc))?)?;
-    watched_further(rt, words, watchers)
-}
-
-/// Runs the words with these watchers and, behind them, one of clocks and one that says a Value Change Dump. Two by two, since
-/// each watcher that one function owns doubles the ways in which it can end.
-fn watched_further(
-    rt: HostRuntime,
-    words: &[String],
-    watchers: Vec<Box<dyn Watcher>>,
-) -> Result<Status, AllocError> {
-    let alloc = rt.alloc();
-    let mut watchers = watchers;
-    watchers.push(Box::new(alloc, ClockCount::new(alloc))?)?;
-    watchers.push(Box::new(alloc, VcdWatch::new(alloc))?)?;
+    let edges: Box<dyn Watcher> = Box::new(alloc, EdgeCount::new())?;
+    watchers.push(edges)?;
+    let toggles: Box<dyn Watcher> = Box::new(alloc, ToggleCount::new(alloc))?;
+    watchers.push(toggles)?;
+    let clocks: Box<dyn Watcher> = Box::new(alloc, ClockCount::new(alloc))?;
+    watchers.push(clocks)?;
+    let dump: Box<dyn Watcher> = Box::new(alloc, VcdWatch::new(alloc))?;
+    watchers.push(dump)?;
     Ok(over_files(rt, words, watchers))
 }
 

@@ -419,7 +419,7 @@ fn put_words(alloc: Global, all: &mut Vec<String>, words: &[&str]) -> Result<(),
     Ok(())
 }
 
-/// Runs the program on a command line with its four watchers, and two of a kind of their own.
+/// Runs the program on a command line with its four watchers, and one of a kind of its own.
 fn run_words<S: Shelf>(
     alloc: Global,
     shelf: &mut S,
@@ -430,38 +430,23 @@ fn run_words<S: Shelf>(
     watchers.push(edges)?;
     let toggles: Box<dyn Watcher> = Box::new(alloc, ToggleCount::new(alloc))?;
     watchers.push(toggles)?;
-    run_further(alloc, shelf, words, watchers)
-}
-
-/// Runs it with these watchers, one of clocks, one that says a dump, and the two. It is apart from `run_words`, since each watcher
-/// that one function owns doubles the ways in which it can end.
-fn run_further<S: Shelf>(
-    alloc: Global,
-    shelf: &mut S,
-    words: &[String],
-    watchers: Vec<Box<dyn Watcher>>,
-) -> Result<Status, AllocError> {
-    let mut watchers = watchers;
     let clocks: Box<dyn Watcher> = Box::new(alloc, ClockCount::new(alloc))?;
     watchers.push(clocks)?;
     let dump: Box<dyn Watcher> = Box::new(alloc, VcdWatch::new(alloc))?;
     watchers.push(dump)?;
-    run_with_own(alloc, shelf, words, watchers)
+    let own: Box<dyn Watcher> = Box::new(alloc, own_watcher(words))?;
+    watchers.push(own)?;
+    Ok(run(alloc, words, shelf, watchers, &mut Silent))
 }
 
-/// Runs it with these watchers and, behind them, the two of a kind of their own.
-fn run_with_own<S: Shelf>(
-    alloc: Global,
-    shelf: &mut S,
-    words: &[String],
-    watchers: Vec<Box<dyn Watcher>>,
-) -> Result<Status, AllocError> {
-    let mut watchers = watchers;
-    let highs: Box<dyn Watcher> = Box::new(alloc, Highs::new())?;
-    watchers.push(highs)?;
-    let few: Box<dyn Watcher> = Box::new(alloc, Highs::few())?;
-    watchers.push(few)?;
-    Ok(run(alloc, words, shelf, watchers, &mut Silent))
+/// The watcher with the name `few` where the words have it, and else the one with the name `highs`.
+fn own_watcher(words: &[String]) -> Highs {
+    for word in words {
+        if word.as_str() == "few" {
+            return Highs::few();
+        }
+    }
+    Highs::new()
 }
 
 /// The numbers of a list with commas.

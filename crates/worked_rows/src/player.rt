@@ -136,21 +136,24 @@ impl Player {
         Ok(self.files.put(log, rest.as_bytes())?)
     }
 
-    /// Has the program check each part of a proof file, a formula and its log, and says the heading of each.
+    /// Has the program check each part of a proof file, and says the heading of each.
     fn parts<S: Shelf>(&mut self, folder: &mut S, proof: &str) -> Result<(), Failed> {
         say(folder, b"$ parts ", proof.as_bytes())?;
         say(folder, b"\n", b"")?;
         let held = self.files.held(proof).ok_or(Failed)?;
         let text = Vec::from_slice(self.alloc, held)?;
         let text = String::from_utf8(text)?;
-        let mut formula = "";
-        for (place, piece) in text.split("c lrat\n").enumerate() {
-            let (log, next) = piece.split_once("\nc ").unwrap_or((piece, ""));
-            if place == 0 {
-                formula = piece.strip_prefix("c ").ok_or(Failed)?;
-            } else {
-                self.part(folder, formula, log)?;
-                formula = next;
+        let text = text.strip_prefix("c ").ok_or(Failed)?;
+        let pieces = text.split("\nc ").collect::<Vec<&str>>(self.alloc)?;
+        self.pieces(folder, pieces.as_slice())
+    }
+
+    /// Has the program check the pieces between comments, a formula and its log by turns.
+    fn pieces<S: Shelf>(&mut self, folder: &mut S, pieces: &[&str]) -> Result<(), Failed> {
+        for piece in pieces.chunks(2) {
+            match piece {
+                [formula, log] => self.part(folder, formula, log)?,
+                _ => return Err(Failed),
             }
         }
         Ok(())
@@ -161,6 +164,7 @@ impl Player {
         let (heading, clauses) = formula.split_once("\n").ok_or(Failed)?;
         say(folder, heading.as_bytes(), b"\n")?;
         self.files.put("part.cnf", clauses.as_bytes())?;
+        let log = log.strip_prefix("lrat\n").ok_or(Failed)?;
         self.files.put("part.lrat", log.as_bytes())?;
         self.play(folder, &["lrat", "part.cnf", "part.lrat"])
     }
@@ -250,11 +254,11 @@ impl Player {
     }
 
     /// Runs the program on words and on more behind them.
-    fn play_with<S: Shelf>(
+    fn play_with<'a, S: Shelf>(
         &mut self,
         folder: &mut S,
-        words: &[&str],
-        more: &[&str],
+        words: &[&'a str],
+        more: &[&'a str],
     ) -> Result<(), Failed> {
         let mut all = Vec::from_slice(self.alloc, words)?;
         all.extend_from_slice(more)?;

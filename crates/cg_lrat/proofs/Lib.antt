@@ -10,3 +10,4 @@ pub mod HintIds
 pub mod GrownLog
 pub mod UnitHints
 pub mod HintsByTruth
+mod LiveTable

@@ -13,13 +13,15 @@
 //! - `log`: [`Log`], [`Step`] and [`Body`], which are read, checked and written;
 //! - `id`: the words of hints;
 //! - `lrat`: the text, read and written;
-//! - `assignment` and `live`: the literals that are true within a step, and the clauses that are live between steps;
+//! - `assignment`: the literals that are true within a step;
+//! - `added` and `live`: the clauses that are live between steps, those of the log and all;
 //! - `hint`: what a hint is worth;
 //! - `progress`: one step of a log;
 //! - `checker`: [`Checker`], the check of a whole log;
 //! - `verdict`: [`Verdict`], its answer.
 #![tactic(auto)]
 
+mod added;
 mod assignment;
 mod checker;
 mod hint;

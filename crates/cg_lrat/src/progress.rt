@@ -3,7 +3,7 @@
 ghost use Rattle.std.specs.Prelude.{◌≡◌, ◌==◌, Ok, Some, IfOk, OnOk, IsNone, length, map, nat_eq};
 ghost use Rattle.std.specs.List.{list_any};
 ghost use Rattle.std.specs.Map.{update};
-ghost use Rattle.cg_lrat.specs.Accepted.{with_clauses, clause_fault, addition_fault, deletion_fault, without};
+ghost use Rattle.cg_lrat.specs.Accepted.{clause_fault, addition_fault, deletion_fault, without};
 ghost use Rattle.cg_formula.specs.Lits.{inverse, is_in};
 ghost use Rattle.cg_lrat.specs.inner.LiveTable.{live_in};
 
@@ -12,7 +12,7 @@ use crate::hint::hints_fault;
 use crate::live::LiveClauses;
 use crate::log::{Body, Step};
 use crate::verdict::Why;
-use cg_formula::{Clause, Formula, Lit};
+use cg_formula::{Formula, Lit};
 use std::alloc::{AllocError, Global};
 
 /// What a step leads to.
@@ -46,12 +46,10 @@ impl<'a> Progress<'a> {
         ensures { IfOk result (λ progress. state_of progress ≡ first_state formula.entry.now) }
     {
         let assignment = Assignment::new(alloc, formula.variables)?;
-        let mut live = LiveClauses::new(alloc);
-        let clauses = formula.clauses.as_slice();
-        put_clauses(&mut live, clauses)?;
+        let live = LiveClauses::new(alloc, &formula.clauses)?;
         Ok(Progress {
             live,
-            greatest: clauses.len() as u64,
+            greatest: formula.clauses.len() as u64,
             assignment,
         })
     }
@@ -89,16 +87,6 @@ impl<'a> Progress<'a> {
         self.greatest = id;
         Ok(Next::Later)
     }
-}
-
-/// The clauses are live, under the ids from 1 on.
-fn put_clauses<'a>(live: &mut LiveClauses<'a>, clauses: &'a [Clause]) -> Result<(), AllocError>
-    ensures { OnOk result (live_in live.new ≡ with_clauses 1 clauses.entry.now (live_in live.old)) }
-{
-    for (at, clause) in clauses.iter().enumerate() {
-        live.put(at as u64 + 1, clause.lits.as_slice())?;
-    }
-    Ok(())
 }
 
 /// The fault of an addition whose id is new: a tautology, then its hints.

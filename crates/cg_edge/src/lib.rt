@@ -9,13 +9,14 @@
 //! - `clock_nets`: the clock and the outputs of gating cells.
 //! - `register_step`: which registers rise, and their next bits.
 //! - `marks`: which logic cells are to be looked at.
+//! - `narrow`: places in 32 bits.
 //! - `readers`: which logic cells read a net.
 //! - `table`: truth tables of logic cells that have few inputs.
 //! - `flat`: the logic cells, laid out for a quick look.
 //! - `schedule`: a netlist with the order in which its cells are evaluated.
 //! - `present`: the present bits, which a tick moves.
 //! - `put`: the data inputs and the registers' bits at their nets.
-//! - `settle`: the logic cells, of which those are looked at that have a changed input.
+//! - `settle`: the logic cells, of which those are looked at that have a changed input, or all.
 //! - `latch_step`: the latches of gating cells.
 //! - `moment`: from one moment to the next.
 //! - `simulator`: the simulator.
@@ -26,6 +27,7 @@ mod flat;
 mod latch_step;
 mod marks;
 mod moment;
+mod narrow;
 mod present;
 mod put;
 mod readers;

@@ -1,5 +1,5 @@
 -- What a cause says of its register.
-use Rattle.std.specs.Prelude.{◌≡◌, ◌<◌, ℕ, ◌+◌, ◌-◌, true, false, ◌&&◌, if◌then◌else◌, List, [], ◌∷◌, map, slice_get, Option, None, Some}
+use Rattle.std.specs.Prelude.{◌≡◌, ◌<◌, ℕ, ◌+◌, ◌-◌, Bool, true, false, if◌then◌else◌, List, [], ◌∷◌, map, slice_get, Option, None, Some}
 use Rattle.std.specs.Prelude.{Result, Ok, Err}
 use Rattle.cg_cell.specs.Cell.{CellData}
 use Rattle.cg_claim.specs.Leaves.{width_of}
@@ -20,7 +20,7 @@ use Rattle.cg_stage_laws.specs.Effects.{net_by}
 use Rattle.cg_stage_list_laws.specs.Literals.{ZeroCounts}
 use Rattle.cg_stage_list_laws.specs.Supports.{input_cone}
 use Rattle.cg_register_text.specs.Causes.{Tried}
-use Rattle.cg_register_text.specs.Trials.{Trial}
+use Rattle.cg_register_text.specs.Trials.{Trial, gave}
 use Rattle.cg_register_text.specs.declared.cause.Cause.{Cause}
 use Rattle.cg_register_text.specs.declared.cause.Cause.TheVariants.{Free, Gated, Given, Hint, Stage, Wide}
 
@@ -74,16 +74,17 @@ hint_net turn = net_of (hint_answer turn.machine turn.hint)
 abbrev pub stage_net : Turn → Option ℕ
 stage_net turn = Some (net_by turn.stage.kind turn.machine turn.stage).net
 
--- the enable that hints, that stages leave a register with this one: that of the last inserted one that has it
+-- the enable that is left of this one by what may give others, one after another: the last that was given
+abbrev pub left_by : {T : Type 0} → (T → Bool) → (T → Option ℕ) → Option ℕ → List T → Option ℕ
+left_by gives net enable [] = enable
+left_by gives net enable (x ∷ xs) = left_by gives net (if gives x then net x else enable) xs
+
+-- the enable that hints, that stages leave a register with this one
 abbrev pub after_hints : ℕ → Option ℕ → List HintTurn → Option ℕ
-after_hints r enable [] = enable
-after_hints r enable (turn ∷ turns) =
-    after_hints r (if is_inserted_hint turn.outcome && is_in turn.hint.regs r then hint_net turn else enable) turns
+after_hints r enable turns = left_by (λ turn. gave r (hint_turn_trial turn)) hint_net enable turns
 
 abbrev pub after_stages : ℕ → Option ℕ → List Turn → Option ℕ
-after_stages r enable [] = enable
-after_stages r enable (turn ∷ turns) =
-    after_stages r (if is_inserted turn.outcome && is_in turn.stage.regs r then stage_net turn else enable) turns
+after_stages r enable turns = left_by (λ turn. gave r (turn_trial turn)) stage_net enable turns
 
 -- the enable that its hints and stages gave a register
 abbrev pub given_enable : Course → ℕ → Option ℕ

@@ -114,5 +114,8 @@ fn is_given(netlist: &Netlist, reg: RegId) -> bool
 {
     let _nets = netlist.nets();
     let clock = netlist.register(reg).clock;
-    netlist.clock() != Some(clock)
+    match netlist.clock() {
+        Some(net) => net.number() != clock.number(),
+        None => true,
+    }
 }

@@ -18,6 +18,14 @@ last_more [] n = refl
 last_more (k ∷ []) n = refl
 last_more (k ∷ j ∷ ns) n = last_more (j ∷ ns) n
 
+-- the last stands at the last place
+pub last_at : (ns : List ℕ) (k v : ℕ) → suc k ≡ length ns → slice_get ns k ≡ Some v → last_of ns ≡ Some v
+last_at [] k v last at = absurd (omega (arith, last))
+last_at (n ∷ []) zero v last at = at
+last_at (n ∷ []) (suc k) v last at = absurd (omega (arith, last))
+last_at (n ∷ m ∷ ns) zero v last at = absurd (omega (arith, last))
+last_at (n ∷ m ∷ ns) (suc k) v last at = last_at (m ∷ ns) k v (omega (arith, last)) at
+
 -- one trial more
 pub numbers_more : (test : Trial → Bool) (number : ℕ) (trials : List Trial) (t : Trial) → numbers_from test number (trials ++ t ∷ []) ≡ numbers_from test number trials ++ (if test t then (number + length trials) ∷ [] else [])
 numbers_more test number [] t = ap (λ n. if test t then n ∷ [] else []) (omega arith)

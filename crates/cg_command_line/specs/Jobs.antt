@@ -1,15 +1,15 @@
 -- Which words the program takes, and what they ask for.
-use Rattle.std.specs.Prelude.{if◌then◌else◌, ◌||◌, List, [], ◌∷◌, map, Option, None, Some, codes, is_some, unwrap_or}
+use Rattle.std.specs.Prelude.{◌≡◌, if◌then◌else◌, ◌||◌, List, [], ◌∷◌, map, Option, None, Some, codes, is_some, unwrap_or}
 use Rattle.std.specs.Option.{option_and_then, option_map, option_to_list}
 use Rattle.std.specs.Str.{bytes_eq}
 use Rattle.clap.specs.Words.{Kinds, Row, Text, all_of, fault_of, first_of, matches_of}
-use Rattle.cg_run.specs.Names.{File, Files, files_of}
+use Rattle.cg_run.specs.Names.{File, Files, file_of, files_of}
 use Rattle.cg_run.specs.declared.role.Role.{Role}
 use Rattle.cg_run.specs.declared.role.Role.TheVariants as roles
 use Rattle.cg_source.specs.declared.stimulus.StimulusForm.{StimulusForm}
 use Rattle.cg_source.specs.declared.stimulus.StimulusForm.TheVariants as forms
 use Rattle.cg_command_line.specs.CommandLine.{Values, command_line, values_in}
-use Rattle.cg_command_line.specs.Options.{are_different, gate_options, has_options, no_options, number_in, option_files, sim_options}
+use Rattle.cg_command_line.specs.Options.{are_different, form_of, gate_options, has_options, no_options, number_in, option_files, sim_options}
 use Rattle.cg_command_line.specs.Options.{stimulus_in}
 use Rattle.cg_command_line.specs.declared.job.Job.{Job}
 use Rattle.cg_command_line.specs.declared.job.Mode.{Mode}
@@ -30,6 +30,10 @@ job_words job = record { mode = job.mode; files = files_of job.names; options = 
 abbrev pub named : Role → Text → File
 named role name = record { role = role; name = name }
 
+-- a job reads its netlist in the form that the netlist's name has
+abbrev pub IsByName : JobWords → Type 0
+IsByName job = ((job.options).netlist).form ≡ form_of (file_of job.files roles.Netlist)
+
 -- a job of a mode with these files, where the options are taken
 abbrev pub job_of_options : Mode → Files → Option Options → Option JobWords
 job_of_options mode files options = option_map (λ options. record { mode = mode; files = files; options = options }) options
@@ -45,7 +49,7 @@ gate_files library netlist out values =
 abbrev pub gate_job : List Text → List Text → Values → Option JobWords
 gate_job watchers (library ∷ netlist ∷ out ∷ []) values =
     if are_different (library ∷ netlist ∷ out ∷ option_files values)
-    then job_of_options Gate (gate_files library netlist out values) (gate_options watchers values) else None
+    then job_of_options Gate (gate_files library netlist out values) (gate_options watchers netlist values) else None
 gate_job watchers files values = None
 
 -- `sim LIB NETLIST STIM`, or `sim LIB NETLIST` with `--vcd F` or `--random N`, with `--clock NAME` and `--watch NAME`, where all
@@ -57,7 +61,7 @@ sim_files library netlist stimulus =
 abbrev pub sim_with : List Text → StimulusForm → Text → Text → Option Text → Values → Option JobWords
 sim_with watchers form library netlist stimulus values =
     if are_different (library ∷ netlist ∷ option_to_list stimulus)
-    then job_of_options (Sim form) (sim_files library netlist stimulus) (sim_options watchers values) else None
+    then job_of_options (Sim form) (sim_files library netlist stimulus) (sim_options watchers netlist values) else None
 
 abbrev pub sim_by_option : List Text → Text → Text → Values → Option StimulusForm → Option JobWords
 sim_by_option watchers library netlist values None = None

@@ -1,7 +1,7 @@
 -- What the options of a line say.
 use Rattle.std.specs.Prelude.{◌≡◌, ℕ, nat_eq, Bool, true, false, not, ◌&&◌, ◌||◌, if◌then◌else◌, List, [], ◌∷◌, ◌++◌, nat_le, codes}
 use Rattle.std.specs.Prelude.{Option, None, Some, is_none, is_some, unwrap_or}
-use Rattle.std.specs.List.{list_any, position_from, starts_with}
+use Rattle.std.specs.List.{ends_with, list_any, position_from, starts_with}
 use Rattle.std.specs.Option.{option_map, option_to_list}
 use Rattle.std.specs.Str.{bytes_eq}
 use Rattle.clap.specs.Words.{Text}
@@ -11,6 +11,8 @@ use Rattle.cg_plan_laws.specs.declared.settings.Settings.{Settings}
 use Rattle.cg_text.specs.Numbers.{number_of}
 use Rattle.cg_text.specs.declared.number.Number.{Number}
 use Rattle.cg_text.specs.declared.number.Number.TheVariants.{Large, Misspelled, Small}
+use Rattle.cg_source.specs.declared.netlist.NetlistForm.{NetlistForm}
+use Rattle.cg_source.specs.declared.netlist.NetlistForm.TheVariants.{Blif, Verilog}
 use Rattle.cg_source.specs.declared.stimulus.StimulusForm.{StimulusForm}
 use Rattle.cg_source.specs.declared.stimulus.StimulusForm.TheVariants as forms
 use Rattle.cg_command_line.specs.CommandLine.{Values}
@@ -119,11 +121,15 @@ abbrev pub has_options : Values → Bool
 has_options values =
     is_some values.clock || is_some values.watch || is_some values.vcd || is_some values.random || has_gate_options values
 
+-- the form of a netlist by the name of its file: Verilog where it ends in `.v`
+abbrev pub form_of : Text → NetlistForm
+form_of netlist = if ends_with nat_eq netlist (codes ".v") then Verilog else Blif
+
 -- what a mode is done with that has no options
 abbrev pub no_options : Options
 no_options =
     record {
-      clock = None;
+      netlist = record { form = Blif; clock = None };
       prefix = default_prefix;
       test = None;
       settings = default_settings;
@@ -131,18 +137,18 @@ no_options =
       asked = record { stimulus = None; hints = false; proof = false; report = false; verilog = false };
     }
 
--- What the options of `gate` say. The values of `--clock`, `--prefix` and `--test` are names, that of `--test` does not begin
--- with the prefix, whether this is given or is the default. There is one stimulus at most, a watcher only with a stimulus, and no hints
--- with a test input.
-abbrev pub gate_options_with : Values → Option Settings → Option (Option ℕ) → Option (Option StimulusForm) → Option Options
-gate_options_with values (Some settings) (Some watch) (Some stimulus) =
+-- What the options of `gate` say, with a netlist of this name. The values of `--clock`, `--prefix` and `--test` are names, that of
+-- `--test` does not begin with the prefix, whether this is given or is the default. There is one stimulus at most, a watcher only with a
+-- stimulus, and no hints with a test input.
+abbrev pub gate_options_with : Text → Values → Option Settings → Option (Option ℕ) → Option (Option StimulusForm) → Option Options
+gate_options_with netlist values (Some settings) (Some watch) (Some stimulus) =
     if is_named values.clock
     && (is_named values.prefix
     && (is_named values.test
     && (is_apart (unwrap_or values.prefix default_prefix) values.test && (may_watch values stimulus && may_hint values))))
     then Some
     (record {
-      clock = values.clock;
+      netlist = record { form = form_of netlist; clock = values.clock };
       prefix = unwrap_or values.prefix default_prefix;
       test = values.test;
       settings = settings;
@@ -150,23 +156,26 @@ gate_options_with values (Some settings) (Some watch) (Some stimulus) =
       asked = asked_in values stimulus;
     })
     else None
-gate_options_with values _ _ _ = None
+gate_options_with netlist values _ _ _ = None
 
-abbrev pub gate_options : List Text → Values → Option Options
-gate_options watchers values =
-    gate_options_with values (settings_in values) (watch_in watchers values.watch) (stimulus_in values)
+abbrev pub gate_options : List Text → Text → Values → Option Options
+gate_options watchers netlist values =
+    gate_options_with netlist values (settings_in values) (watch_in watchers values.watch) (stimulus_in values)
 
--- what those of `sim` say
-abbrev pub sim_options_with : Values → Option (Option ℕ) → Option Options
-sim_options_with values (Some watch) =
-    if is_named values.clock && not (has_gate_options values) then Some (record no_options { clock = values.clock; watch = watch })
+-- what those of `sim` say, with a netlist of this name
+abbrev pub sim_options_with : Text → Values → Option (Option ℕ) → Option Options
+sim_options_with netlist values (Some watch) =
+    if is_named values.clock && not (has_gate_options values)
+    then Some (record no_options { netlist = record { form = form_of netlist; clock = values.clock }; watch = watch })
     else None
-sim_options_with values None = None
+sim_options_with netlist values None = None
 
-abbrev pub sim_options : List Text → Values → Option Options
-sim_options watchers values = sim_options_with values (watch_in watchers values.watch)
+abbrev pub sim_options : List Text → Text → Values → Option Options
+sim_options watchers netlist values = sim_options_with netlist values (watch_in watchers values.watch)
 
--- what options say of a test input: there is one exactly where it has a name, which does not begin with the prefix
+-- what options say of a test input: there is one exactly where it has a name, which does not begin with the prefix, and there is none
+-- where hints are asked for
 pub record NamesTest (options : Options) : Type 0 where
   pub asked : options.settings.test ≡ is_some options.test
   pub apart : is_apart options.prefix options.test ≡ true
+  pub unhinted : options.asked.hints ≡ true → options.test ≡ None

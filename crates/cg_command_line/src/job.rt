@@ -1,13 +1,13 @@
 //! What a line asks for.
 
-ghost use Rattle.std.specs.Prelude.{◌≡◌, ◌∷◌, [], map, unwrap_or, IfOk};
+ghost use Rattle.std.specs.Prelude.{◌≡◌, ◌∷◌, ◌++◌, [], map, unwrap_or, IfOk};
 ghost use Rattle.std.specs.Option.{option_and_then, option_map, option_to_list};
 ghost use Rattle.std.specs.String.{string_bytes};
 ghost use Rattle.clap.specs.Words.{found_of, rows_of};
 ghost use Rattle.cg_run.specs.Names.{file_seen, files_of};
-ghost use Rattle.cg_command_line.specs.Jobs.{demo_job, gate_files, gate_job, job_in, job_of, job_with, job_words, lrat_job, named};
+ghost use Rattle.cg_command_line.specs.Jobs.{demo_job, gate_files, gate_job, job_in, job_of, job_of_options, job_with, job_words, lrat_job, named};
 ghost use Rattle.cg_command_line.specs.Jobs.{sim_by_option, sim_files, sim_job, sim_with};
-ghost use Rattle.cg_command_line.specs.Options.{are_different};
+ghost use Rattle.cg_command_line.specs.Options.{are_different, gate_options, option_files};
 ghost use Rattle.cg_command_line.specs.Seen.{values_of};
 
 use crate::command::command_line;
@@ -130,42 +130,79 @@ fn gate_job<'a>(
     let [library, netlist, out] = files else {
         return Ok(None);
     };
-    let mut all = Vec::from_slice(alloc, files)?;
-    push_files(&mut all, given)?;
-    if !are_different(&all) {
+    if !gate_files_differ(alloc, files, given)? {
         return Ok(None);
     }
-    let Some(options) = gate_options(alloc, watchers, given)? else {
+    let files = GateFiles {
+        library,
+        netlist,
+        out,
+    };
+    gate_with(alloc, &files, given, watchers)
+}
+
+/// The files of `gate` that have to be given.
+#[derive(Clone, Copy, Debug)]
+pub struct GateFiles<'a> {
+    pub library: &'a str,
+    pub netlist: &'a str,
+    pub out: &'a str,
+}
+
+/// `gate` with these files.
+fn gate_with<'a>(
+    alloc: Global,
+    files: &GateFiles<'a>,
+    given: &OptionWords<'a>,
+    watchers: &[&str],
+) -> Result<Option<Job<'a>>, AllocError>
+    ensures { IfOk result
+        (λ job. option_map job_words job ≡ job_of_options Mode.Gate (gate_files files.now.library.now files.now.netlist.now files.now.out.now (values_of given.now))
+        (gate_options (map (λ name. name.now) watchers.now) files.now.netlist.now (values_of given.now))) }
+{
+    let Some(options) = gate_options(alloc, watchers, files.netlist, given)? else {
         return Ok(None);
     };
     Ok(Some(Job {
         mode: Mode::Gate,
-        names: gate_files(alloc, library, netlist, out, given)?,
+        names: gate_files(alloc, files, given)?,
         options,
     }))
+}
+
+/// Whether no two of these files and those of the options have one name.
+fn gate_files_differ<'a>(
+    alloc: Global,
+    files: &[&'a str],
+    given: &OptionWords<'a>,
+) -> Result<bool, AllocError>
+    ensures { IfOk result (λ differ. differ ≡ are_different (map (λ file. file.now) files.now ++ option_files (values_of given.now))) }
+{
+    let mut all = Vec::from_slice(alloc, files)?;
+    push_files(&mut all, given)?;
+    Ok(are_different(&all))
 }
 
 /// The files of `gate`, those of its options among them.
 fn gate_files<'a>(
     alloc: Global,
-    library: &'a str,
-    netlist: &'a str,
-    out: &'a str,
+    files: &GateFiles<'a>,
     given: &OptionWords<'a>,
 ) -> Result<Names<'a>, AllocError>
-    ensures { IfOk result (λ names. files_of names ≡ gate_files library.entry.now netlist.entry.now out.entry.now (values_of given.entry.now)) }
+    ensures { IfOk result
+        (λ names. files_of names ≡ gate_files files.now.library.now files.now.netlist.now files.now.out.now (values_of given.now)) }
 {
     Names::of(
         alloc,
         &[
-            named(Role::Library, library),
-            named(Role::Netlist, netlist),
+            named(Role::Library, files.library),
+            named(Role::Netlist, files.netlist),
             named(
                 Role::Stimulus,
                 given.stim.unwrap_or(given.vcd.unwrap_or("")),
             ),
             named(Role::Hints, given.hints.unwrap_or("")),
-            named(Role::Out, out),
+            named(Role::Out, files.out),
             named(Role::Proof, given.proof.unwrap_or("")),
             named(Role::Report, given.report.unwrap_or("")),
             named(Role::Verilog, given.verilog.unwrap_or("")),
@@ -260,7 +297,7 @@ fn sim_with<'a>(
     if !sim_files_differ(files) {
         return Ok(None);
     }
-    let Some(options) = sim_options(alloc, watchers, given)? else {
+    let Some(options) = sim_options(alloc, watchers, files.netlist, given)? else {
         return Ok(None);
     };
     Ok(Some(Job {

@@ -4,7 +4,7 @@ ghost use Rattle.std.specs.Prelude.{◌≡◌, ◌++◌, ◌<◌, ◌^◌, [], S
 ghost use Rattle.std.specs.List.{list_any, position_from};
 ghost use Rattle.std.specs.Str.{bytes_eq};
 ghost use Rattle.std.specs.Option.{option_map, option_to_list};
-ghost use Rattle.cg_command_line.specs.Options.{are_different, asked_in, default_prefix, gate_options, has_file_options};
+ghost use Rattle.cg_command_line.specs.Options.{are_different, asked_in, default_prefix, form_of, gate_options, has_file_options};
 ghost use Rattle.cg_command_line.specs.Options.{has_gate_options, has_options, is_apart, may_hint, may_watch};
 ghost use Rattle.cg_command_line.specs.Options.{is_named, no_options, number_in, number_or, option_files, settings_in, sim_options};
 ghost use Rattle.cg_command_line.specs.Options.{stimulus_in, watch_in};
@@ -15,6 +15,7 @@ use crate::values::OptionWords;
 use cg_cell::name::Name;
 use cg_limit::MOST_ROWS;
 use cg_plan_laws::settings::Settings;
+use cg_source::netlist::{NetlistForm, NetlistOptions};
 use cg_source::stimulus::StimulusForm;
 use cg_text::number::{Number, read_number};
 use std::alloc::{AllocError, Global};
@@ -33,8 +34,8 @@ pub struct Asked {
 /// What the options say; those that are left out have their defaults.
 #[derive(Debug, Drop)]
 pub struct Options {
-    /// The net that is declared to be the clock.
-    pub clock: Option<Name>,
+    /// How the netlist is read: its form, by the end of its name, and the net that is declared to be the clock.
+    pub netlist: NetlistOptions,
 
     /// What the names of added nets begin with.
     pub prefix: Name,
@@ -57,7 +58,10 @@ pub fn no_options(alloc: Global) -> Result<Options, AllocError>
     ensures { IfOk result (λ options. options ≡ no_options) }
 {
     Ok(Options {
-        clock: None,
+        netlist: NetlistOptions {
+            form: NetlistForm::Blif,
+            clock: None,
+        },
         prefix: Name::new(alloc, b"cg_")?,
         test: None,
         settings: Settings {
@@ -77,13 +81,14 @@ pub fn no_options(alloc: Global) -> Result<Options, AllocError>
     })
 }
 
-/// What the options of `gate` say, where they are taken.
+/// What the options of `gate` say with a netlist of this name, where they are taken.
 pub fn gate_options(
     alloc: Global,
     watchers: &[&str],
+    netlist: &str,
     given: &OptionWords<'_>,
 ) -> Result<Option<Options>, AllocError>
-    ensures { IfOk result (λ options. options ≡ gate_options (map (λ name. name.now) watchers.now) (values_of given.now)) }
+    ensures { IfOk result (λ options. options ≡ gate_options (map (λ name. name.now) watchers.now) netlist.now (values_of given.now)) }
 {
     let Some(settings) = settings(given) else {
         return Ok(None);
@@ -104,7 +109,7 @@ pub fn gate_options(
         return Ok(None);
     }
     Ok(Some(Options {
-        clock: name(alloc, given.clock)?,
+        netlist: netlist_options(alloc, netlist, given)?,
         prefix: prefix(alloc, given.prefix)?,
         test: name(alloc, given.test)?,
         settings,
@@ -113,13 +118,40 @@ pub fn gate_options(
     }))
 }
 
-/// What the options of `sim` say, where they are taken.
+/// How a netlist of this name is read, with the clock that is given.
+fn netlist_options(
+    alloc: Global,
+    netlist: &str,
+    given: &OptionWords<'_>,
+) -> Result<NetlistOptions, AllocError>
+    requires { IsTrue (is_named (values_of given.now).clock) }
+    ensures { IfOk result (λ options. options ≡ record { form = form_of netlist.now; clock = (values_of given.now).clock }) }
+{
+    Ok(NetlistOptions {
+        form: form_of(netlist),
+        clock: name(alloc, given.clock)?,
+    })
+}
+
+/// The form of a netlist by the name of its file.
+fn form_of(netlist: &str) -> NetlistForm
+    ensures { result ≡ form_of netlist.now }
+{
+    if netlist.as_bytes().ends_with(b".v") {
+        NetlistForm::Verilog
+    } else {
+        NetlistForm::Blif
+    }
+}
+
+/// What the options of `sim` say with a netlist of this name, where they are taken.
 pub fn sim_options(
     alloc: Global,
     watchers: &[&str],
+    netlist: &str,
     given: &OptionWords<'_>,
 ) -> Result<Option<Options>, AllocError>
-    ensures { IfOk result (λ options. options ≡ sim_options (map (λ name. name.now) watchers.now) (values_of given.now)) }
+    ensures { IfOk result (λ options. options ≡ sim_options (map (λ name. name.now) watchers.now) netlist.now (values_of given.now)) }
 {
     let Some(watch) = watch(watchers, given.watch) else {
         return Ok(None);
@@ -127,10 +159,10 @@ pub fn sim_options(
     if !is_named(given.clock) || has_gate_options(given) {
         return Ok(None);
     }
-    let clock = name(alloc, given.clock)?;
+    let netlist = netlist_options(alloc, netlist, given)?;
     let plain = no_options(alloc)?;
     Ok(Some(Options {
-        clock,
+        netlist,
         prefix: plain.prefix,
         test: plain.test,
         settings: plain.settings,

@@ -80,6 +80,14 @@ module _ (c : Circuit) (good : IsWellFormed c) where
       (λ x gate. inr (subst (λ cells. is_in (outputs cells) x ≡ true) same (walk.whole x (ap (λ xs. is_in xs x) (chain_outputs c.gaters) ∙ gate))))
       (λ j g at. item_there c.gaters (gater_order c.gaters) j g at)
 
+  -- none drives the clock pin of one before it
+  pub depth_ordered : IsOrdered (chain (by_depth c))
+  depth_ordered = subst IsOrdered (values_mapped chain_cell c.gaters (gater_order c.gaters)) (gater_order_is_walk c good).ordered
+
+  -- they are gating cells of the netlist
+  pub depth_own : (j : ℕ) (g : GatingCell ℕ) → slice_get (by_depth c) j ≡ Some g → (k : ℕ) × (slice_get c.gaters k ≡ Some g)
+  depth_own j g at = item_there c.gaters (gater_order c.gaters) j g at
+
   -- each gating cell is among them
   pub all_taken : (x : ℕ) → is_in (gater_outputs c) x ≡ true → is_in (map (λ (g : GatingCell ℕ). g.output) (by_depth c)) x ≡ true
   all_taken x gate =

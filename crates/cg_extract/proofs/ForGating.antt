@@ -36,7 +36,7 @@ unrefused_untested c and2 none k d below =
 
 -- nets that are kept have their names
 module _ (c : Circuit) (whole : IsNetlist c) where
-  name_kept : (x : ℕ) → is_in (kept_nets c) x ≡ true → net_name (bare c).names (number_of c x) ≡ net_name c.names x
+  pub name_kept : (x : ℕ) → is_in (kept_nets c) x ≡ true → net_name (bare c).names (number_of c x) ≡ net_name c.names x
   name_kept x among = ap (λ o. unwrap_or o []) (slice_get-map (net_name c.names) (kept_nets c) (number_of c x) ∙ ap (option_map (net_name c.names)) (placed c whole x among))
 
   names_kept : (xs : List ℕ) → ((x : ℕ) → is_in xs x ≡ true → is_in (kept_nets c) x ≡ true) → map (net_name (bare c).names) (map (number_of c) xs) ≡ map (net_name c.names) xs

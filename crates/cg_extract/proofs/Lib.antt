@@ -2,6 +2,7 @@ pub mod Asked
 pub mod Bare
 pub mod BareOfUngated
 pub mod BareParts
+pub mod Chained
 pub mod Copied
 pub mod Depths
 pub mod Extracted

@@ -1,3 +1,4 @@
+pub mod Chained
 pub mod Extracting
 pub mod Laws
 pub mod Lifted

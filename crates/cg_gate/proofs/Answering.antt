@@ -12,14 +12,14 @@ use Rattle.cg_plan_text.specs.declared.summary.Played.{Played}
 use Rattle.cg_stimulus.specs.Inputs.{Rows}
 use Rattle.cg_gate.specs.Gating.{AreTexts, GivesGated, IsWritten, TellsGated}
 use Rattle.cg_gate.specs.Headline.{Headline}
-use Rattle.cg_gate.specs.Laws.{IsProper}
+use Rattle.cg_gate.specs.Proper.{IsProper}
 use Rattle.cg_gate.specs.Played.{IsWhatPlayed, LineIs, Saying}
 use Rattle.cg_gate.specs.Request.{MayGate, RequestData, gating_of, stops_at}
 use Rattle.cg_gate.specs.Stops.{GatingMayFail, fault_of_limit, gating_stop, verilog_stop}
 use Rattle.cg_gate.specs.declared.fault.GateFault.{GateFault}
 use Rattle.cg_gate.specs.declared.fault.GateFault.TheVariants as faults
 use Rattle.cg_gate.specs.declared.texts.Texts.{Texts}
-use Rattle.cg_gate.proofs.Meaning.{gated_means}
+use Rattle.cg_gate.proofs.Meaning.{means}
 
 pub if_ok : {A E : Type 0} (P Q : A → Type 0) (r : Result A E) → ((x : A) → P x → Q x) → IfOk r P → IfOk r Q
 if_ok P Q (Ok x) all is = all x is
@@ -57,4 +57,4 @@ module _ (request : RequestData) (says : Option Saying) (read written : Circuit)
   gives_all texts tells = record { hints = hints; told = told; written = written; gated = gated; tells = tells }
 
   pub means_all : IsProper request → MayGate request read → (texts : Texts) → TellsGated request says read written hints told texts → Headline request says read texts
-  means_all proper may texts tells = gated_means request says read texts proper may (gives_all texts tells)
+  means_all proper may texts tells = means request says read texts proper may (gives_all texts tells)

@@ -17,7 +17,7 @@ use Rattle.cg_plan.specs.Planning.{AreWritable}
 use Rattle.cg_extract.specs.Lifted.{lifted}
 use Rattle.cg_gate.specs.Gating.{AreHintsTried, IsBegunPlan, IsWritten}
 use Rattle.cg_gate_laws.specs.Begun.{renamed}
-use Rattle.cg_gate.specs.Laws.{IsProper}
+use Rattle.cg_gate.specs.Proper.{IsProper}
 use Rattle.cg_gate.specs.Request.{MayGate, RequestData, begun_of, gating_of, hints_limit, hints_of, limit_of, plan_limit, stops_at}
 use Rattle.cg_gate.specs.declared.hinting.TriedHints.{TriedHints}
 use Rattle.cg_gate_laws.proofs.BegunSafe.{left_is}

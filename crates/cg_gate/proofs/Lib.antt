@@ -4,6 +4,7 @@ mod Counted
 mod Deserved
 mod Gated
 mod Hinted
+mod HintNames
 mod Leads
 mod LiftedInputs
 mod Loading

@@ -1,34 +1,15 @@
 -- Where the test input was 1, each register of the written netlist rises with the clock.
-use Rattle.std.proofs.Common.{◌≡◌, ℕ, zero, suc, ◌+◌, Bool, true, false, not, ◌&&◌, ◌||◌, List, [], ◌∷◌, ◌++◌, length, replicate}
-use Rattle.std.proofs.Common.{slice_get, slice_index_or, is_some, Option, None, Some, refl, sym, ◌∙◌, ap, subst, arith}
+use Rattle.std.proofs.Common.{◌≡◌, ℕ, zero, suc, ◌+◌, Bool, true, false, not, ◌&&◌, ◌||◌, List, [], ◌∷◌, ◌++◌, length}
+use Rattle.std.proofs.Common.{slice_get, slice_index_or, is_some, Option, None, Some, refl, sym, ◌∙◌, ap, arith}
 use Rattle.std.proofs.lemmas.Option.{none-some, same_Some}
-use Rattle.cg_cell.specs.Cell.{CellData}
-use Rattle.cg_extract.specs.Lifted.{lifted}
-use Rattle.cg_gate_laws.proofs.BegunSafe.{begun_safe}
-use Rattle.cg_hint_laws.specs.Laws.{IsSafe}
-use Rattle.cg_stage_list_laws.specs.Literals.{ZeroCounts}
-use Rattle.cg_gate.proofs.Gated.{told_left}
-use Rattle.cg_gate.proofs.LiftedInputs.{lifted_inputs}
-use Rattle.cg_gate.specs.ZeroCounting.{zero_counts_of}
 use Rattle.cg_insert.specs.Insert.{own_tick}
 use Rattle.cg_insert.specs.Insertion.{RisesAre}
 use Rattle.cg_machine.specs.Machine.{MachineData, enable_of, load, values}
 use Rattle.cg_netlist.specs.Circuit.{Circuit, RegisterCell, data_inputs}
-use Rattle.cg_netlist.specs.History.{AreTicks, IsLawful, IsStart, IsWaveform, Moment, Tick, rises}
+use Rattle.cg_netlist.specs.History.{AreTicks, Moment, Tick, rises}
 use Rattle.cg_net.specs.Names.{NetName}
-use Rattle.cg_plan_laws.specs.Plan.{Plan, Turn, after_outcome, plan_of}
-use Rattle.cg_plan_laws.proofs.AllSafe.{plans_safe}
-use Rattle.cg_gate.specs.Headline.{Headline, ShowsSame, with_bit, with_bits}
-use Rattle.cg_gate.specs.Laws.{TestInputLoads}
+use Rattle.cg_gate.specs.Headline.{with_bit, with_bits}
 use Rattle.cg_gate.specs.Loading.{LoadsWhere}
-use Rattle.cg_gate.specs.Request.{MayGate, RequestData, gating_of}
-use Rattle.cg_gate.specs.Turns.{Lead}
-use Rattle.cg_gate.proofs.Leads.{plan_leads}
-
--- turns lead from a machine to one machine
-one_end : (turns : List Turn) (m n other : MachineData) → Lead turns m n → Lead turns m other → n ≡ other
-one_end [] m n other to also = to ∙ sym also
-one_end (turn ∷ turns) m n other to also = one_end turns (after_outcome m turn.stage turn.outcome) n other to.1 also.1
 
 -- the bit behind the others
 bit_behind : (inputs : List Bool) (b : Bool) (n : ℕ) → n ≡ length inputs → slice_index_or (inputs ++ b ∷ []) n false ≡ b
@@ -71,36 +52,8 @@ module _ (read written : Circuit) (m : MachineData) (same : length (data_inputs 
       let e : k + 1 ≡ suc k = omega arith in
       loads wave bits history ticks are k low high before now at (ap (slice_get wave) (sym e) ∙ next) is rose on was (ap (slice_get history) (sym e) ∙ there) r register among
 
-pub test_input_loads : TestInputLoads
-test_input_loads request says read texts h may tested start wave bits history starts waves long lawful = go request.test refl tested
-  where
-    m : MachineData
-    m = h.hints.machine
-
-    counts : Option ZeroCounts
-    counts = zero_counts_of read request.prefix m request.stimulus
-
-    plan : Plan
-    plan = plan_of request.library request.settings counts m
-
-    machine_is : plan.machine ≡ h.plan.machine
-    machine_is = one_end plan.turns m plan.machine h.plan.machine (plan_leads request.library request.settings m counts) (subst (λ turns. Lead turns m h.plan.machine) h.planned h.lead)
-
-    safe : IsSafe request.library (lifted read request.prefix) m
-    safe = subst (IsSafe request.library (lifted read request.prefix)) (sym (told_left request read h.hints h.tried)) (begun_safe (gating_of request read) read may.start may.hints)
-
-    same : length (data_inputs h.plan.machine.circuit) ≡ length (data_inputs read)
-    same =
-        ap (λ (n : MachineData). length (data_inputs n.circuit)) (sym machine_is)
-        ∙ (ap length (plans_safe request.library request.settings counts m safe.is_machine).1.inputs
-        ∙ (ap length safe.same.inputs ∙ lifted_inputs read request.prefix may.start))
-
-    shown : ShowsSame h.plan.machine read h.written start (replicate h.delays true) wave (with_bits request.test wave bits)
-    shown = h.shows start wave bits starts waves long
-
-    are : RisesAre h.written h.plan.machine (with_bits request.test wave bits) history
-    are = subst (RisesAre h.written h.plan.machine (with_bits request.test wave bits)) (sym (shown.alone history lawful)) shown.rises
-
-    go : (test : Option NetName) → request.test ≡ test → is_some test ≡ true → LoadsWhere h.written wave bits history
-    go None is none = absurd (cc)
-    go (Some name) is some = loads_where read h.written h.plan.machine same name wave bits history waves.0 (subst (λ t. RisesAre h.written h.plan.machine (with_bits t wave bits) history) is are)
+-- in a history whose rises are those of the machine with such a test input, where there is one
+pub test_input_loads : (read written : Circuit) (m : MachineData) → length (data_inputs m.circuit) ≡ length (data_inputs read) → (test : Option NetName) → is_some test ≡ true
+    → (wave : List Tick) (bits : List Bool) (history : List Moment) → AreTicks read wave → RisesAre written m (with_bits test wave bits) history → LoadsWhere written wave bits history
+test_input_loads read written m same None none = absurd (cc)
+test_input_loads read written m same (Some name) some = loads_where read written m same name

@@ -21,7 +21,7 @@ use Rattle.cg_netlist.specs.Circuit.{Circuit}
 use Rattle.cg_net.specs.Names.{net_name}
 use Rattle.cg_net.proofs.Members.{All-from_members}
 use Rattle.cg_netlist.proofs.Each.{by_recursion, each_together, from_recursion}
-use Rattle.cg_gate.specs.Laws.{IsProper}
+use Rattle.cg_gate.specs.Proper.{IsProper}
 use Rattle.cg_gate.specs.Request.{IsFree, MayGate, RequestData, gating_of}
 use Rattle.cg_machine.proofs.Started.{begun}
 

@@ -1,5 +1,5 @@
 -- What gating gives means what the headline says.
-use Rattle.std.proofs.Common.{◌≡◌, ◌+◌, ◌-◌, ◌≤◌, ℕ, Bool, true, List, ◌++◌, map, length, Option, None, Some, refl, sym, ◌∙◌, ap, subst}
+use Rattle.std.proofs.Common.{◌≡◌, ◌+◌, ◌-◌, ◌≤◌, ℕ, Bool, true, List, ◌++◌, map, length, Option, None, Some, is_some, refl, sym, ◌∙◌, ap, subst}
 use Rattle.std.proofs.lemmas.List.{length-replicate}
 use Rattle.cg_blif_text.specs.BlifText.{BlifText}
 use Rattle.cg_blif_text.proofs.CanonicalText.{no_two, says_itself}
@@ -31,8 +31,10 @@ use Rattle.cg_netlist.specs.Netlist.{IsNetlist}
 use Rattle.cg_netlist.specs.WellFormed.{IsWellFormed}
 use Rattle.cg_netlist_parts.specs.Writable.{IsPlaceable, IsWritable}
 use Rattle.cg_netlist.proofs.Histories.{has_history, has_one_history}
+use Rattle.cg_plan_laws.specs.Laws.{IsTurn}
 use Rattle.cg_plan_laws.specs.Plan.{Plan, plan_of}
 use Rattle.cg_plan_laws.proofs.AllSafe.{each_fits}
+use Rattle.cg_plan_laws.proofs.Deserved.{outcomes_deserved}
 use Rattle.cg_report.specs.Zeros.{low_moments, zeros_of}
 use Rattle.cg_stage_laws.proofs.Fitting.{starts_long}
 use Rattle.cg_stimulus.specs.Inputs.{Rows}
@@ -41,15 +43,18 @@ use Rattle.cg_stimulus.proofs.Playing.{start_is, wave_is}
 use Rattle.cg_gate.specs.Gating.{GivesGated}
 use Rattle.cg_gate.specs.Headline.{Headline, ShowsSame, VerilogMeans, with_bits}
 use Rattle.cg_gate.specs.ZeroCounting.{zero_counts, zeros_by}
-use Rattle.cg_gate.specs.Laws.{GatedMeans, IsProper}
+use Rattle.cg_gate.specs.Loading.{LoadsWhere}
 use Rattle.cg_gate.specs.Played.{Saying}
+use Rattle.cg_gate.specs.Proper.{IsProper}
 use Rattle.cg_gate.specs.Request.{MayGate, RequestData, begun_of, gating_of, hints_of}
 use Rattle.cg_gate.specs.Turns.{Lead}
 use Rattle.cg_gate.specs.declared.texts.Texts.{Texts}
 use Rattle.cg_gate.proofs.Counted.{counts}
 use Rattle.cg_gate.proofs.Deserved.{exactly_worthy}
+use Rattle.cg_gate.proofs.HintNames.{hints_named}
 use Rattle.cg_gate.proofs.Leads.{plan_leads}
-use Rattle.cg_extract.proofs.ForGating.{bare_is_netlist, bare_is_placeable}
+use Rattle.cg_gate.proofs.Loading.{test_input_loads}
+use Rattle.cg_extract.proofs.ForGating.{bare_is_netlist, bare_is_placeable, lifted_own}
 use Rattle.cg_gate.proofs.MayInsert.{may_gate}
 use Rattle.cg_gate.proofs.TestedWaves.{IsTested, tested_wave}
 use Rattle.cg_gate.proofs.TextShows.{means_asked, text_means}
@@ -145,6 +150,14 @@ module _ (request : RequestData) (says : Option Saying) (read : Circuit) (texts 
         rises = subst (λ c. RisesAre c gives.told.machine tested two.0) (sym gives.gated.is) (subst (λ k. RisesAre (inserted request.library request.test k) k tested two.0) (sym machine_is) rises);
       }
 
+  loads : is_some request.test ≡ true → (start : List Bool) (wave : List Tick) (bits : List Bool) (history : List Moment) → IsStart read start → IsWaveform read wave → length bits ≡ length wave
+      → IsLawful gives.written (start ++ ones n) (with_bits request.test wave bits) history → LoadsWhere gives.written wave bits history
+  loads some start wave bits history starts waves long lawful =
+      let tested : List Tick = with_bits request.test wave bits in
+      let shown : ShowsSame gives.told.machine read gives.written start (ones n) wave tested = shows start wave bits starts waves long in
+      let are : RisesAre gives.written gives.told.machine tested history = subst (RisesAre gives.written gives.told.machine tested) (sym (shown.alone history lawful)) shown.rises in
+      test_input_loads read gives.written gives.told.machine (ap (λ (k : MachineData). length (data_inputs k.circuit)) machine_is ∙ inputs_long) request.test some wave bits history waves.0 are
+
   ranked : (stimulus : Rows) → request.stimulus ≡ Some stimulus → (history : List Moment) × IsPlayed read stimulus.rows history
       × ((zero_counts read request.prefix m stimulus).zeros ≡ map (zeros_by (λ net. zeros_of net (low_moments history))) (origins read m))
   ranked stimulus there =
@@ -176,11 +189,14 @@ module _ (request : RequestData) (says : Option Saying) (read : Circuit) (texts 
     parts = subst (KeepsParts read) (sym is) (keeps_parts by read can);
     plan = gives.told;
     shows = shows;
+    loads = loads;
     verilog = gives.tells.gives.verilog;
     verilog_means = verilog_means;
     is = gives.gated.is;
     hints = hints;
     tried = gives.gated.tried;
+    asked = hints_named read may.start.netlist request.library request.settings.width (lifted read request.prefix) (hints_of request) gives.gated.tried.done
+        (lifted_own read request.prefix may.start).own (lifted_is_machine read request.prefix may.start) (all_fit read request.prefix may.start (hints_of request) may.hints) may.hints gives.gated.tried.tried;
     deserved_hints = turns_worthy request.library request.settings.width (lifted read request.prefix) (map (renamed read) (hints_of request)) gives.gated.tried.done
         (lifted_is_machine read request.prefix may.start) (all_fit read request.prefix may.start (hints_of request) may.hints) gives.gated.tried.tried;
     turns = plan.turns;
@@ -188,6 +204,9 @@ module _ (request : RequestData) (says : Option Saying) (read : Circuit) (texts 
     whole = gives.gated.plan.whole;
     lead = subst (Lead plan.turns m) (sym machine_is) (plan_leads request.library request.settings m by.counts);
     deserved = λ k turn at. exactly_worthy request.library request.settings turn (each_fits request.library request.settings by.counts m good k turn at);
+    outcomes = λ k turn at.
+        let fits : IsTurn request.library request.settings turn = each_fits request.library request.settings by.counts m good k turn at in
+        outcomes_deserved request.library request.settings turn.machine turn.stage turn.outcome fits.is_machine fits.fits fits.comes;
     ranked = ranked;
     told = gives.gated.plan.stages;
     wide = gives.gated.plan.wide;
@@ -200,6 +219,3 @@ module _ (request : RequestData) (says : Option Saying) (read : Circuit) (texts 
     said = gives.tells.gives.said;
     report = gives.tells.gives.report;
   }
-
-pub gated_means : GatedMeans
-gated_means request says read texts proper may gives = means request says read texts proper may gives

@@ -1,6 +1,6 @@
 -- What gating a netlist means: the written netlist shows what the one that was read shows, from every state and for all time.
 use Rattle.std.specs.Prelude.{◌≡◌, ◌↔◌, ℕ, ◌+◌, Bool, true, List, [], ◌∷◌, ◌++◌, map, length, replicate, slice_get, Option, None}
-use Rattle.std.specs.Prelude.{Some, IfSome}
+use Rattle.std.specs.Prelude.{Some, IfSome, is_some}
 use Rattle.std.specs.Option.{option_map, option_to_list}
 use Rattle.cg_blif_text.specs.BlifText.{BlifText}
 use Rattle.cg_blif_text.specs.Canonical.{blif}
@@ -19,6 +19,7 @@ use Rattle.cg_netlist.specs.History.{IsLawful, IsStart, IsWaveform, Moment, Tick
 use Rattle.cg_netlist.specs.Moment.{zip_with}
 use Rattle.cg_netlist.specs.WellFormed.{IsWellFormed}
 use Rattle.cg_net.specs.Names.{NetName, net_name}
+use Rattle.cg_plan_laws.specs.Outcomes.{Deserves}
 use Rattle.cg_plan_laws.specs.Plan.{Turn, plan_of, wide_of}
 use Rattle.cg_plan_laws.specs.Reported.{AreCertified, AreTold, ReportedPlan, plan_claims}
 use Rattle.cg_plan_laws.specs.declared.outcome.Outcome.TheVariants.{Inserted}
@@ -34,6 +35,8 @@ use Rattle.cg_verilog_text.specs.VerilogText.{VerilogText}
 use Rattle.cg_verilog_text.specs.Written.{verilog}
 use Rattle.cg_gate.specs.WorthInserting.{IsWorthInserting}
 use Rattle.cg_gate.specs.Gating.{told_outcomes, where_asked}
+use Rattle.cg_gate.specs.HintNames.{AreAsked}
+use Rattle.cg_gate.specs.Loading.{LoadsWhere}
 use Rattle.cg_gate.specs.ZeroCounting.{zero_counts, zero_counts_of, zeros_by}
 use Rattle.cg_gate.specs.Played.{EdgesAre, LineIs, Saying}
 use Rattle.cg_gate.specs.Request.{RequestData, hints_of}
@@ -101,15 +104,23 @@ pub record Headline (request : RequestData) (says : Option Saying) (read : Circu
   -- from every state and over every waveform it shows what the original shows
   pub plan : ReportedPlan
   pub shows : ShowsAlways request.test plan.machine read delays written
+  -- with a test input all registers can be loaded: in that history each rises at each rise of the clock a moment after the test
+  -- input was 1
+  pub loads : is_some request.test ≡ true
+      → (start : List Bool) (wave : List Tick) (bits : List Bool) (history : List Moment) → IsStart read start →
+      IsWaveform read wave → length bits ≡ length wave
+      → IsLawful written (start ++ replicate delays true) (with_bits request.test wave bits) history →
+      LoadsWhere written wave bits history
   -- the Verilog text, where it is asked for, is that of the written netlist, and the netlist that it says shows the same
   pub verilog : texts.verilog ≡ where_asked request.verilog (verilog written)
   pub verilog_means : IfSome texts.verilog (VerilogMeans request plan.machine read delays written)
   -- the hints were tried one after another on the machine of the original, to whose enables the original's gating cells are lifted,
-  -- and each is inserted exactly where it is worth it on the machine of its turn; they are told with their outcomes, bits that are
-  -- told of a refuted claim violate it, and there is a certificate for each register of each inserted hint, in order, with the
-  -- defined formula and an accepted log, and no other
+  -- each as what it says by the names of its nets, and each is inserted exactly where it is worth it on the machine of its turn; they
+  -- are told with their outcomes, bits that are told of a refuted claim violate it, and there is a certificate for each register of
+  -- each inserted hint, in order, with the defined formula and an accepted log, and no other
   pub hints : Reported
   pub tried : AreTried request.library request.settings.width (lifted read request.prefix) (map (renamed read) (hints_of request)) hints
+  pub asked : AreAsked read (hints_of request) tried.done.turns
   pub deserved_hints : (k : ℕ) (turn : HintTurn) → slice_get tried.done.turns k ≡ Some turn →
       (turn.outcome ≡ hint_outcomes.Inserted)
       ↔ IsHintWorthInserting request.library request.settings.width turn.machine turn.hint
@@ -125,6 +136,9 @@ pub record Headline (request : RequestData) (says : Option Saying) (read : Circu
   pub lead : Lead turns hints.machine plan.machine
   pub deserved : (k : ℕ) (turn : Turn) → slice_get turns k ≡ Some turn →
       (turn.outcome ≡ Inserted) ↔ IsWorthInserting request.library request.settings turn.machine turn.stage
+  -- and every other outcome says what is so of the stage there, over all states and inputs where it speaks of a claim or of idling
+  pub outcomes : (k : ℕ) (turn : Turn) → slice_get turns k ≡ Some turn →
+      Deserves request.library request.settings turn.machine turn.stage turn.outcome
   -- literals are ranked by how often their nets are 0 in the history on which the stimulus is played on the original; a net that
   -- stands for none of the original's counts 0
   pub ranked : (stimulus : Rows) → request.stimulus ≡ Some stimulus

@@ -5,6 +5,7 @@ pub mod Played
 pub mod Gating
 pub mod Turns
 pub mod WorthInserting
-pub mod Headline
 pub mod Loading
-pub mod Laws
+pub mod HintNames
+pub mod Headline
+pub mod Proper

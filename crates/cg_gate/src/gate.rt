@@ -44,8 +44,9 @@ pub fn gate(
     ensures gives { IfOk result (λ texts. GivesGated request.now (option_map (λ watcher. says watcher) watcher) netlist.now texts) }
 
     // The written netlist shows, from every state and over every waveform that begins with the clock low, what the netlist
-    // shows; a hint or a stage is inserted exactly where it deserves it; and the watcher's line is what it says of exactly the moments of
-    // the history that it was shown.
+    // shows; with a test input each register of it is loaded where the clock rises a moment after the test input was 1; a hint or
+    // a stage is inserted exactly where it deserves it; and the watcher's line is what it says of exactly the moments of the history
+    // that it was shown.
     ensures headline { IfOk result (λ texts. Headline request.now (option_map (λ watcher. says watcher) watcher) netlist.now texts) }
     ensures unstopped { OnOk result (gating_stop request.now netlist.now ≡ None) }
     ensures fault { IfErr result (GatingMayFail (gating_stop request.now netlist.now)) }

@@ -12,14 +12,12 @@
 //! - `playing`: what comes of a stimulus on both netlists.
 //! - [`texts`]: the texts.
 //! - [`gate`]: all of it.
-//! - [`laws`]: what the texts mean.
 #![tactic(auto)]
 
 mod counting;
 pub mod fault;
 pub mod gate;
 mod hinting;
-pub mod laws;
 mod planning;
 mod playing;
 pub mod request;

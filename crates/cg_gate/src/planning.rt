@@ -5,7 +5,7 @@ ghost use Rattle.std.specs.Option.{option_copied, option_or};
 ghost use Rattle.cg_cell.specs.Name.{is_name};
 ghost use Rattle.cg_extract.specs.Lifted.{lifted};
 ghost use Rattle.cg_gate.specs.Gating.{AreHintsTried, IsBegunPlan, IsWritten};
-ghost use Rattle.cg_gate.specs.Laws.{IsProper};
+ghost use Rattle.cg_gate.specs.Proper.{IsProper};
 ghost use Rattle.cg_gate.specs.Request.{MayGate, begun_of, gating_of, hints_limit, plan_limit, stops_at};
 ghost use Rattle.cg_insert.specs.Insert.{CanInsert};
 ghost use Rattle.cg_insert.specs.Inserting.{insertion};

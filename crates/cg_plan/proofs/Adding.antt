@@ -24,7 +24,9 @@ use Rattle.cg_stage_laws.specs.Effects.{delayed, own_limit}
 use Rattle.cg_stage_laws.specs.Joined.{join, join_all, join_all_limit, join_limit}
 use Rattle.cg_stage_laws.specs.Stages.{Fits}
 use Rattle.cg_stage_laws.proofs.Joins.{two_nets}
-use Rattle.cg_plan.specs.inner.Inserting.{AddsNet, Keeps, MayPass, delayed_limit}
+use Rattle.cg_plan.proofs.Appended.{appends_self, appends_then, delay_appends, gate_appends}
+use Rattle.cg_plan.specs.Trial.{Appends, Keeps}
+use Rattle.cg_plan.specs.inner.Inserting.{AddsNet, MayPass, delayed_limit}
 
 -- what an addition answers
 adds : (limit : Option Limit) (added : Added) (n : MachineData) (net : ℕ) → or_limit limit added ≡ Ok (record { machine = n; net = net }) → IsNet n net → AddsNet limit added n net
@@ -41,10 +43,14 @@ abbrev with_net : MachineData → ℕ → Added
 with_net n net = record { machine = n; net = net }
 
 pub keeps_self : (m n : MachineData) → IsMachine m → n ≡ m → Keeps m n
-keeps_self m n good is = subst (Keeps m) (sym is) (record { good = good; extends = extends_self m })
+keeps_self m n good is = subst (Keeps m) (sym is) (record { good = good; extends = extends_self m; appends = appends_self m })
+
+pub on_err : {A : Type 0} (P : Type 0) (r : Result A AddFault) → P → OnErr r P
+on_err P (Ok x) is = tt
+on_err P (Err fault) is = is
 
 pub keeps_then : (m n o : MachineData) → Keeps m n → Keeps n o → Keeps m o
-keeps_then m n o k l = record { good = l.good; extends = extends_then m n o k.extends l.extends }
+keeps_then m n o k l = record { good = l.good; extends = extends_then m n o k.extends l.extends; appends = appends_then m n o k.appends l.appends }
 
 module _ (m n : MachineData) (kind : FitKind) (inputs : List ℕ) where
   pub gate_ok : (r : Result ℕ AddFault) → OrNoMemory NoMemory (with_net n) r (gate_answer m kind inputs) → IfOk r (λ net. HasGate m kind inputs (with_net n net)) → IfOk r (AddsNet (gate_limit m kind inputs) (add_gate m kind inputs) n)
@@ -55,9 +61,11 @@ module _ (m n : MachineData) (kind : FitKind) (inputs : List ℕ) where
   gate_err (Ok net) answer = tt
   gate_err (Err fault) answer = passes (gate_limit m kind inputs) (add_gate m kind inputs) fault answer
 
-  pub gate_keeps : (r : Result ℕ AddFault) → IsMachine m → IfOk r (λ net. HasGate m kind inputs (with_net n net)) → OnErr r (n ≡ m) → Keeps m n
-  gate_keeps (Ok net) good there same = record { good = there.good; extends = there.extends }
-  gate_keeps (Err fault) good there same = keeps_self m n good same
+  pub gate_keeps : (r : Result ℕ AddFault) → IsMachine m → OrNoMemory NoMemory (with_net n) r (gate_answer m kind inputs) → IfOk r (λ net. HasGate m kind inputs (with_net n net)) → OnErr r (n ≡ m) → Keeps m n
+  gate_keeps (Ok net) good answer there same =
+      let is = (adds (gate_limit m kind inputs) (add_gate m kind inputs) n net answer there.is_net).is in
+      record { good = there.good; extends = there.extends; appends = subst (λ (a : Added). Appends m a.machine) is (gate_appends m good kind inputs) }
+  gate_keeps (Err fault) good answer there same = keeps_self m n good same
 
 module _ (m n : MachineData) (x : ℕ) where
   pub delay_ok : (r : Result ℕ AddFault) → OrNoMemory NoMemory (with_net n) r (delay_answer m x) → IfOk r (λ net. HasDelay m x (with_net n net)) → IfOk r (AddsNet (delay_limit m x) (add_delay m x) n)
@@ -68,9 +76,11 @@ module _ (m n : MachineData) (x : ℕ) where
   delay_err (Ok net) answer = tt
   delay_err (Err fault) answer = passes (delay_limit m x) (add_delay m x) fault answer
 
-  pub delay_keeps : (r : Result ℕ AddFault) → IsMachine m → IfOk r (λ net. HasDelay m x (with_net n net)) → OnErr r (n ≡ m) → Keeps m n
-  delay_keeps (Ok net) good there same = record { good = there.good; extends = there.extends }
-  delay_keeps (Err fault) good there same = keeps_self m n good same
+  pub delay_keeps : (r : Result ℕ AddFault) → IsMachine m → OrNoMemory NoMemory (with_net n) r (delay_answer m x) → IfOk r (λ net. HasDelay m x (with_net n net)) → OnErr r (n ≡ m) → Keeps m n
+  delay_keeps (Ok net) good answer there same =
+      let is = (adds (delay_limit m x) (add_delay m x) n net answer there.is_net).is in
+      record { good = there.good; extends = there.extends; appends = subst (λ (a : Added). Appends m a.machine) is (delay_appends m good x) }
+  delay_keeps (Err fault) good answer there same = keeps_self m n good same
 
 -- a first limit, and one behind it
 pub passes_first : (a b : Option Limit) (fault : AddFault) → MayPass a fault → MayPass (option_or a b) fault

@@ -1,3 +1,3 @@
-pub mod Trial
 pub mod Planning
+pub mod Trial
 pub mod inner

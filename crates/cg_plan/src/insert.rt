@@ -4,10 +4,11 @@ ghost use Rattle.std.specs.Prelude.{◌≡◌, ◌<◌, ◌∷◌, [], ℕ, Some
 ghost use Rattle.std.specs.List.{All};
 ghost use Rattle.cg_cell.specs.declared.fit.FitKind.TheVariants.{And2};
 ghost use Rattle.cg_machine.specs.Added.{add_delay, add_gate, delay_limit, gate_limit};
-ghost use Rattle.cg_machine.specs.Extends.{Extends, GateFits};
-ghost use Rattle.cg_machine.specs.Machine.{IsMachine, IsNet};
+ghost use Rattle.cg_machine.specs.Extends.{GateFits};
+ghost use Rattle.cg_machine.specs.Machine.{IsNet};
 ghost use Rattle.cg_net.specs.NetSets.{is_in};
-ghost use Rattle.cg_plan.specs.inner.Inserting.{AddsNet, Keeps, MayPass, delayed_limit, literal_limit};
+ghost use Rattle.cg_plan.specs.Trial.{Keeps};
+ghost use Rattle.cg_plan.specs.inner.Inserting.{AddsNet, MayPass, delayed_limit, literal_limit};
 ghost use Rattle.cg_claim_reach.specs.Fanout.{Knows};
 ghost use Rattle.cg_stage_laws.specs.Effects.{delayed, effect, limit_by, literal_net, net_by, with_own};
 ghost use Rattle.cg_stage_laws.specs.Joined.{enabled, join, join_all, join_all_limit, join_limit};
@@ -33,7 +34,7 @@ pub(crate) fn insert(
     ensures effect { OnOk result (machine.new ≡ effect machine.old stage.now) }
     ensures room { OnOk result (limit_by stage.now.kind machine.old stage.now ≡ None) }
     ensures fault { IfErr result (MayPass (limit_by stage.now.kind machine.old stage.now)) }
-    ensures kept { OnErr result (Extends machine.old machine.new) }
+    ensures kept { OnErr result (Keeps machine.old machine.new) }
     ensures knows { OnOk result (Knows machine.new fanout.new) }
 {
     let net = add_net(machine, stage)?;

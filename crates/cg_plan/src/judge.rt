@@ -4,14 +4,12 @@ ghost use Rattle.std.specs.Prelude.{◌≡◌, ℕ, IsTrue, IfOk, IfErr, OnErr, 
 ghost use Rattle.cg_aig.specs.Aig.{aig_ops};
 ghost use Rattle.cg_claim.specs.Question.{Question, idle_question};
 ghost use Rattle.cg_claim.specs.Violates.{SidesFit};
-ghost use Rattle.cg_machine.specs.Extends.{Extends};
 ghost use Rattle.cg_machine.specs.Machine.{IsMachine, MachineData};
 ghost use Rattle.cg_plan_laws.specs.Plan.{after_outcome};
 ghost use Rattle.cg_plan_laws.specs.StageClaims.{claims_of};
-ghost use Rattle.cg_plan_laws.specs.Reported.{AreAppended, MayFail, TellsOutcome, claims_for};
+ghost use Rattle.cg_plan_laws.specs.Reported.{MayFail, TellsOutcome};
 ghost use Rattle.cg_plan_laws.specs.Trying.{decided, measured, tried};
-ghost use Rattle.cg_plan.specs.Planning.{StayWritable};
-ghost use Rattle.cg_plan.specs.Trial.{WhereInserted};
+ghost use Rattle.cg_plan.specs.Trial.{IsRefused, IsTried, Keeps};
 ghost use Rattle.cg_plan.specs.inner.Deciding.{Grow, IsIdleDecided, Settles};
 ghost use Rattle.cg_plan.specs.inner.Judging.{Certifying, IsJudged, Pushes, by_claims};
 ghost use Rattle.cg_plan.specs.inner.Naming.{AreNames};
@@ -83,17 +81,11 @@ impl Judge {
     ) -> Result<Outcome, AddFault>
         requires fits { Fits machine.old entry.now.stage.now }
         requires knows { Knows machine.old fanout.old }
-        ensures outcome { IfOk result (λ outcome. TellsOutcome machine.old entry.now.stage.now
-            (tried rules.now.library.now rules.now.settings.now machine.old entry.now.stage.now) outcome) }
-        ensures machine { IfOk result (λ outcome. machine.new ≡ after_outcome machine.old entry.now.stage.now outcome) }
-        ensures safe { IfOk result (λ outcome. WhereInserted machine.old entry.now.stage.now outcome machine.new) }
-        ensures certificates { IfOk result (λ outcome.
-            AreAppended (claims_for entry.now.number machine.old entry.now.stage.now outcome) into.old.items into.new.items) }
-        ensures writable { OnOk result (StayWritable into.old.items into.new.items) }
+        ensures tried { IfOk result (λ outcome. IsTried rules.now.library.now rules.now.settings.now entry.now.number machine.old entry.now.stage.now
+            into.old.items outcome machine.new into.new.items) }
+        ensures refused { IfErr result (λ fault. IsRefused rules.now.library.now rules.now.settings.now machine.old entry.now.stage.now
+            into.old.items fault machine.new into.new.items) }
         ensures knows { OnOk result (Knows machine.new fanout.new) }
-        ensures fault { IfErr result (MayFail (tried rules.now.library.now rules.now.settings.now machine.old entry.now.stage.now)) }
-        ensures kept { OnErr result (Extends machine.old machine.new) }
-        ensures unchanged { OnErr result (into.new.items ≡ into.old.items) }
         ensures whole { IsMachine machine.new }
     {
         plan_laws();
@@ -133,7 +125,7 @@ impl Judge {
         ensures certificates { IfOk result (Pushes machine.old entry.now.number entry.now.stage.now into.old.items into.new.items) }
         ensures knows { OnOk result (Knows machine.new fanout.new) }
         ensures fault { IfErr result (MayFail (tried rules.now.library.now rules.now.settings.now machine.old entry.now.stage.now)) }
-        ensures kept { OnErr result (Extends machine.old machine.new) }
+        ensures kept { OnErr result (Keeps machine.old machine.new) }
         ensures grown { Grow into.old.items into.new.items }
     {
         match early_end(entry.stage, rules.library, rules.settings) {
@@ -159,9 +151,10 @@ impl Judge {
         ensures certificates { IfOk result (Pushes machine.old entry.now.number entry.now.stage.now into.old.items into.new.items) }
         ensures knows { OnOk result (Knows machine.new fanout.new) }
         ensures fault { IfErr result (MayFail (by_claims machine.old width entry.now.stage.now)) }
-        ensures kept { OnErr result (Extends machine.old machine.new) }
+        ensures kept { OnErr result (Keeps machine.old machine.new) }
         ensures grown { Grow into.old.items into.new.items }
     {
+        let _netlist = machine.netlist();
         if let Some(end) = self.judge_claims(machine, fanout, entry, width, into)? {
             return Ok(end);
         }

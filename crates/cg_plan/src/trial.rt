@@ -1,13 +1,8 @@
 //! A stage that is tried on a machine.
 
-ghost use Rattle.std.specs.Prelude.{◌≡◌, IfOk, IfErr, OnErr, OnOk};
-ghost use Rattle.cg_machine.specs.Extends.{Extends};
+ghost use Rattle.std.specs.Prelude.{IfOk, IfErr};
 ghost use Rattle.cg_machine.specs.Machine.{IsMachine};
-ghost use Rattle.cg_plan_laws.specs.Plan.{after_outcome};
-ghost use Rattle.cg_plan_laws.specs.Reported.{AreAppended, MayFail, TellsOutcome, claims_for};
-ghost use Rattle.cg_plan_laws.specs.Trying.{tried};
-ghost use Rattle.cg_plan.specs.Planning.{StayWritable};
-ghost use Rattle.cg_plan.specs.Trial.{WhereInserted};
+ghost use Rattle.cg_plan.specs.Trial.{IsRefused, IsTried};
 ghost use Rattle.cg_stage_laws.specs.Stages.{Fits};
 
 use crate::judge::{Entry, Judge};
@@ -30,7 +25,7 @@ use std::alloc::Global;
 /// It is refused by `Limit(ClaimNodes)` where the stage is large enough, the library has its cells, and a claim has more than
 /// 65,536 leaves and and-nodes while neither it nor one before it is too wide; and by `Limit(Nets)` or `Limit(Registers)` where
 /// what would be added passes that limit. After a refusal `into` and all enables are as before, and gates and delay registers
-/// that no enable reads may have been added.
+/// that no enable reads may have been added behind what the machine has, and nothing else.
 pub fn try_stage(
     alloc: Global,
     machine: &mut Machine,
@@ -41,14 +36,8 @@ pub fn try_stage(
     into: &mut Vec<Certificate>,
 ) -> Result<Outcome, AddFault>
     requires { Fits machine.old stage.now }
-    ensures outcome { IfOk result (λ outcome. TellsOutcome machine.old stage.now (tried library.now settings.now machine.old stage.now) outcome) }
-    ensures machine { IfOk result (λ outcome. machine.new ≡ after_outcome machine.old stage.now outcome) }
-    ensures safe { IfOk result (λ outcome. WhereInserted machine.old stage.now outcome machine.new) }
-    ensures certificates { IfOk result (λ outcome. AreAppended (claims_for number machine.old stage.now outcome) into.old.items into.new.items) }
-    ensures writable { OnOk result (StayWritable into.old.items into.new.items) }
-    ensures fault { IfErr result (MayFail (tried library.now settings.now machine.old stage.now)) }
-    ensures kept { OnErr result (Extends machine.old machine.new) }
-    ensures unchanged { OnErr result (into.new.items ≡ into.old.items) }
+    ensures tried { IfOk result (λ outcome. IsTried library.now settings.now number machine.old stage.now into.old.items outcome machine.new into.new.items) }
+    ensures refused { IfErr result (λ fault. IsRefused library.now settings.now machine.old stage.now into.old.items fault machine.new into.new.items) }
     ensures whole { IsMachine machine.new }
 {
     let mut judge = Judge::new(alloc);

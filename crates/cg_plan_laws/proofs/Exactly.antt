@@ -40,7 +40,7 @@ use Rattle.cg_plan_laws.specs.Laws.{InsertedExactly, IsInsertable}
 use Rattle.cg_plan_laws.proofs.Decided.{fits_part, inserted_claims, inserted_decided, inserted_free}
 use Rattle.cg_netlist.proofs.Driven.{in_range}
 
-not_less : (a b : ℕ) → nat_lt a b ≡ false → b ≤ a
+pub not_less : (a b : ℕ) → nat_lt a b ≡ false → b ≤ a
 not_less a b h = go (less_or a b)
   where
     less_or : (x y : ℕ) → (x < y) ⊎ (y ≤ x)
@@ -65,21 +65,21 @@ some_fails {T = T} test (x ∷ xs) h = go (some_fails test xs) (test x) refl h
     go rest true is k = rest k
     go rest false is k = (x, is)
 
-mapped_in : {T : Type 0} (f : ℕ → T) (xs : List ℕ) (y : T) → Among y (map f xs) → (x : ℕ) × (is_in xs x ≡ true) × (f x ≡ y)
+pub mapped_in : {T : Type 0} (f : ℕ → T) (xs : List ℕ) (y : T) → Among y (map f xs) → (x : ℕ) × (is_in xs x ≡ true) × (f x ≡ y)
 mapped_in f [] y a = absurd (among_none y a)
 mapped_in f (x ∷ xs) y a = elim (among_cons y (f x) (map f xs) a) [
   | inl same ↦ (x, or_left (nat_eq x x) (is_in xs x) (eq-eqb x x refl), same)
   | inr more ↦ let r = mapped_in f xs y more in (r.0, or_right (nat_eq r.0 x) (is_in xs r.0) r.1, r.2)
 ]
 
-mapped_of : {S T : Type 0} (f : S → T) (xs : List S) (y : T) → Among y (map f xs) → (x : S) × Among x xs × (f x ≡ y)
+pub mapped_of : {S T : Type 0} (f : S → T) (xs : List S) (y : T) → Among y (map f xs) → (x : S) × Among x xs × (f x ≡ y)
 mapped_of f [] y a = absurd (among_none y a)
 mapped_of f (x ∷ xs) y a = elim (among_cons y (f x) (map f xs) a) [
   | inl same ↦ (x, record { place = 0; at = refl }, same)
   | inr more ↦ let r = mapped_of f xs y more in (r.0, later r.0 x xs r.1, r.2)
 ]
 
-filter_of : {T : Type 0} (test : T → Bool) (xs : List T) (y : T) → Among y (filter test xs) → Among y xs × (test y ≡ true)
+pub filter_of : {T : Type 0} (test : T → Bool) (xs : List T) (y : T) → Among y (filter test xs) → Among y xs × (test y ≡ true)
 filter_of test [] y a = absurd (among_none y a)
 filter_of {T = T} test (x ∷ xs) y a = go (filter_of test xs y) (test x) refl a
   where
@@ -90,7 +90,7 @@ filter_of {T = T} test (x ∷ xs) y a = go (filter_of test xs y) (test x) refl a
     ]
     go rest false is h = (later y x xs (rest h).0, (rest h).1)
 
-split : {T : Type 0} (xs ys : List T) (y : T) → Among y (xs ++ ys) → Among y xs ⊎ Among y ys
+pub split : {T : Type 0} (xs ys : List T) (y : T) → Among y (xs ++ ys) → Among y xs ⊎ Among y ys
 split [] ys y a = inr a
 split (x ∷ xs) ys y a = elim (among_cons y x (xs ++ ys) a) [
   | inl same ↦ inl (record { place = 0; at = ap Some same })
@@ -105,7 +105,7 @@ module _ (m : MachineData) (good : IsMachine m) where
     | inr more ↦ let r = outputs_of ys (k + 1) t more in (r.0, or_right (nat_eq r.0 y) (is_in ys r.0) r.1, r.2)
   ]
 
-  is_target : (t : ClaimName × Target) → Among t (all_targets m) → IsTarget m t.1
+  pub is_target : (t : ClaimName × Target) → Among t (all_targets m) → IsTarget m t.1
   is_target t a = elim (split (output_targets 0 m.circuit.outputs ++ map (λ r. (NextName r, Next r)) (registers_of m)) ((Enable, Joined) ∷ []) t a) [
     | inr last ↦ elim (among_cons t (Enable, Joined) [] last) [
       | inl same ↦ subst (IsTarget m) (ap (λ (u : ClaimName × Target). u.1) same) tt
@@ -145,7 +145,7 @@ module _ (m : MachineData) (good : IsMachine m) where
         let w = idle_some m s.enable can in
         both_ways (violates m (idle_question s.enable) w.0) ((is_never_says m (idle_question s.enable) good tt).0 never w.0 w.1) w.2)
 
-    can_idle : is_never m (idle_question s.enable) ≡ false → CanIdle m s.enable
+    pub can_idle : is_never m (idle_question s.enable) ≡ false → CanIdle m s.enable
     unfolding is_never
     can_idle some =
         let q : Question = idle_question s.enable in

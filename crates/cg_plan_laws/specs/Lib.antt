@@ -3,3 +3,4 @@ pub mod Trying
 pub mod Plan
 pub mod Reported
 pub mod Laws
+pub mod Outcomes

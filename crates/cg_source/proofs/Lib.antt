@@ -1,4 +1,6 @@
 pub mod Taken
+mod BlifTexts
+mod VerilogTexts
 pub mod NetlistTexts
 mod DumpRows
 pub mod StimulusTexts

@@ -1,58 +1,25 @@
--- What is read of the text of a netlist is what the text says.
-use Rattle.std.proofs.Common.{◌≡◌, ℕ, List, Option, Result, Ok, Err}
-use Rattle.std.specs.Prelude.{IfErr, IfOk, MatchResult}
+-- What is read of the text of a netlist is what the text says, in each form.
+use Rattle.std.proofs.Common.{◌≡◌, ℕ, List, Option, Ok}
 use Rattle.cg_cell.specs.Cell.{CellData}
 use Rattle.cg_netlist.specs.Circuit.{Circuit}
 use Rattle.cg_netlist.specs.WellFormed.{IsWellFormed}
-use Rattle.cg_netlist_parts.specs.Writable.{IsWritable}
+use Rattle.cg_netlist_parts.specs.Writable.{IsPlaceable}
 use Rattle.cg_net.specs.Names.{NetName}
-use Rattle.cg_blif.specs.Resuming.{IsFirstOrNoMemory}
-use Rattle.cg_blif_text.specs.declared.fault.BlifFault.{BlifFault}
-use Rattle.cg_blif_text.specs.declared.fault.BlifFault.TheVariants.{BadLine, BadCover, BadLatch, UnknownCell, UnusableCell}
-use Rattle.cg_blif_text.specs.declared.fault.BlifFault.TheVariants.{PinFault, SecondModel, Net, Limit, NoMemory}
-use Rattle.cg_blif_text.specs.BlifText.{BlifText}
-use Rattle.cg_blif_text.specs.ReadAs.{AreProper, IsReadAs}
-use Rattle.cg_blif_text.proofs.ToldIsTaken.{text_is_writable}
-use Rattle.cg_blif_text.proofs.ReadOnce.{read_as, read_once}
-use Rattle.cg_source.specs.Netlist.{IsFaultOf, SaysNetlist, netlist_found, netlist_said, netlist_trouble}
-use Rattle.cg_source.proofs.Taken.{refused_ok}
+use Rattle.cg_source.specs.Netlist.{SaysNetlist, netlist_found}
+use Rattle.cg_source.specs.declared.netlist.NetlistForm.{NetlistForm}
+use Rattle.cg_source.specs.declared.netlist.NetlistForm.TheVariants as forms
+use Rattle.cg_source.proofs.BlifTexts.{blif_formed, blif_placeable, blif_says}
+use Rattle.cg_source.proofs.VerilogTexts.{verilog_formed, verilog_placeable, verilog_says}
 
-module _ (library : List CellData) (clock : Option NetName) (text : List ℕ) where
-  said_says : (c : Circuit) → netlist_said library clock text ≡ Ok c → BlifText text library clock c
-  unfolding netlist_said
-  said_says c is = (read_as library clock text).says c is
+-- a netlist that is found is one that the text says, it is well formed, and placed with the cells of the library
+pub netlist_says : (form : NetlistForm) (library : List CellData) (clock : Option NetName) (text : List ℕ) (c : Circuit) → netlist_found form library clock text ≡ Ok c → SaysNetlist form text library clock c
+netlist_says forms.Blif library clock text c is = blif_says library clock text c is
+netlist_says forms.Verilog library clock text c is = verilog_says library clock text c is
 
-  said_proper : (c : Circuit) → netlist_said library clock text ≡ Ok c → AreProper library clock
-  unfolding netlist_said
-  said_proper c is = (read_as library clock text).proper c is
+pub netlist_formed : (form : NetlistForm) (library : List CellData) (clock : Option NetName) (text : List ℕ) (c : Circuit) → netlist_found form library clock text ≡ Ok c → IsWellFormed c
+netlist_formed forms.Blif library clock text c is = blif_formed library clock text c is
+netlist_formed forms.Verilog library clock text c is = verilog_formed library clock text c is
 
-  -- a netlist that is found is one that the text says, and it is well formed
-  pub netlist_says : (c : Circuit) → netlist_found library clock text ≡ Ok c → SaysNetlist text library clock c
-  netlist_says c is = said_says c (refused_ok netlist_trouble (netlist_said library clock text) c is)
-
-  pub netlist_formed : (c : Circuit) → netlist_found library clock text ≡ Ok c → IsWellFormed c
-  netlist_formed c is = ((netlist_says c is).says).formed
-
-  -- and one that can be written with the cells of the library
-  pub netlist_writable : (c : Circuit) → netlist_found library clock text ≡ Ok c → IsWritable library c
-  netlist_writable c is =
-      let proper = said_proper c (refused_ok netlist_trouble (netlist_said library clock text) c is) in
-      text_is_writable library proper.cells clock text c proper.named (netlist_says c is)
-
-  reads : AreProper library clock → (r : Result Circuit BlifFault) → IsReadAs library clock text r → netlist_said library clock text ≡ r
-  unfolding netlist_said
-  reads proper r is = read_once library clock text (read_as library clock text).result r ((read_as library clock text).is proper) is
-
-  pub read_answers : AreProper library clock → (result : Result Circuit BlifFault) → IfOk result (λ c. BlifText text library clock c) → IfErr result (IsFirstOrNoMemory text library clock)
-      → MatchResult result (λ c. netlist_said library clock text ≡ Ok c) (IsFaultOf (netlist_said library clock text))
-  read_answers proper (Ok c) found first = reads proper (Ok c) found
-  read_answers proper (Err (BadLine line)) found first = reads proper (Err (BadLine line)) first
-  read_answers proper (Err (BadCover line)) found first = reads proper (Err (BadCover line)) first
-  read_answers proper (Err (BadLatch line)) found first = reads proper (Err (BadLatch line)) first
-  read_answers proper (Err (UnknownCell line)) found first = reads proper (Err (UnknownCell line)) first
-  read_answers proper (Err (UnusableCell line)) found first = reads proper (Err (UnusableCell line)) first
-  read_answers proper (Err (PinFault line)) found first = reads proper (Err (PinFault line)) first
-  read_answers proper (Err (SecondModel line)) found first = reads proper (Err (SecondModel line)) first
-  read_answers proper (Err (Net fault)) found first = reads proper (Err (Net fault)) first
-  read_answers proper (Err (Limit limit)) found first = reads proper (Err (Limit limit)) first
-  read_answers proper (Err NoMemory) found first = tt
+pub netlist_placeable : (form : NetlistForm) (library : List CellData) (clock : Option NetName) (text : List ℕ) (c : Circuit) → netlist_found form library clock text ≡ Ok c → IsPlaceable library c
+netlist_placeable forms.Blif library clock text c is = blif_placeable library clock text c is
+netlist_placeable forms.Verilog library clock text c is = verilog_placeable library clock text c is

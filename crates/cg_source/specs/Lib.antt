@@ -1,5 +1,8 @@
 pub mod Refused
 pub mod Library
+pub mod NetFault
+pub mod Blif
+pub mod Verilog
 pub mod Netlist
 pub mod Stimulus
 pub mod Hints

@@ -1,18 +1,22 @@
-//! A design: a library, a netlist with its cells, and the texts of a stimulus and of hints.
+//! A design: a library, a netlist with its cells, and a stimulus and hints for it.
 
 ghost use Rattle.std.specs.Prelude.{◌≡◌, IsTrue};
+ghost use Rattle.std.specs.Option.{option_copied};
 ghost use Rattle.cg_run.specs.Roles.{are_distinct};
 ghost use Rattle.cg_run.specs.Verdict.{Answers};
-ghost use Rattle.cg_source.specs.Design.{design_loads, permitted};
+ghost use Rattle.cg_source.specs.Design.{chance_found, design_loads, hints_said, permitted, stimulus_said};
 
+use crate::hints::take_hints;
 use crate::library::take_library;
-use crate::netlist::take_netlist;
+use crate::netlist::{NetlistForm, NetlistOptions, take_netlist};
+use crate::stimulus::{StimulusForm, take_stimulus};
 use cg_blif::BlifOptions;
 use cg_cell::library::Library;
-use cg_cell::name::Name;
+use cg_hint_laws::hint::Hint;
 use cg_list::Seq;
 use cg_netlist::netlist::Netlist;
 use cg_run::{Reader, Role, Trouble};
+use cg_stimulus::stimulus::Stimulus;
 use std::alloc::Global;
 use std::mem::replace;
 
@@ -54,13 +58,17 @@ impl Demand for AnyNetlist {
 #[derive(Drop)]
 pub struct DesignFiles<D> {
     pub demand: D,
+    /// The form of the netlist's text.
+    pub form: NetlistForm,
     pub options: BlifOptions,
+    /// The form of the stimulus that is asked for, where one is.
+    pub asked: Option<StimulusForm>,
     pub library: Library,
     pub netlist: Option<Netlist>,
-    /// The text of the stimulus, which is read for the netlist.
-    pub stimulus: Seq<u8>,
-    /// The text of the hints, which is read for the netlist.
-    pub hints: Seq<u8>,
+    /// The stimulus for the netlist.
+    pub stimulus: Option<Stimulus>,
+    /// The hints for the netlist.
+    pub hints: Option<Seq<Hint>>,
 }
 
 /// A design that was read.
@@ -69,28 +77,36 @@ pub struct Design<D> {
     pub demand: D,
     pub library: Library,
     pub netlist: Netlist,
-    /// The text of the stimulus, where one was loaded.
-    pub stimulus: Seq<u8>,
-    /// The text of the hints, where one was loaded.
-    pub hints: Seq<u8>,
+    /// The stimulus, where one was asked for.
+    pub stimulus: Option<Stimulus>,
+    /// The hints, where they were loaded.
+    pub hints: Option<Seq<Hint>>,
 }
 
 impl<D: Demand> DesignFiles<D> {
     ghost use Rattle.std.specs.Prelude.{◌≡◌, IsSome, Some};
     ghost use Rattle.cg_run.specs.Verdict.{Answers};
-    ghost use Rattle.cg_source.specs.Design.{design_of, design_start, design_takes};
+    ghost use Rattle.cg_source.specs.Design.{design_of, design_start, design_takes, netlist_taken};
 
-    /// Nothing is read yet; the words may name a clock.
-    pub fn start(alloc: Global, demand: D, clock: Option<Name>) -> DesignFiles<D>
-        ensures { result ≡ design_start demand clock }
+    /// Nothing is read yet; so a netlist will be read, and a stimulus of this form, where one is asked for.
+    pub fn start(
+        alloc: Global,
+        demand: D,
+        options: NetlistOptions,
+        asked: Option<StimulusForm>,
+    ) -> DesignFiles<D>
+        ensures { result ≡ design_start demand options asked }
     {
+        let NetlistOptions { form, clock } = options;
         DesignFiles {
             demand,
+            form,
             options: BlifOptions { clock },
+            asked,
             library: Library::new(alloc),
             netlist: None,
-            stimulus: Seq::new(alloc),
-            hints: Seq::new(alloc),
+            stimulus: None,
+            hints: None,
         }
     }
 
@@ -139,9 +155,54 @@ impl<D: Demand> DesignFiles<D> {
         ensures { Answers (design_takes D.permits self Role.Netlist text.now) result }
     {
         let mut next = self;
-        match take_permitted(alloc, text, &next.library, &next.options, &next.demand) {
-            Ok(netlist) => {
-                drop(replace(&mut next.netlist, Some(netlist)));
+        match take_permitted(
+            alloc,
+            next.form,
+            text,
+            &next.library,
+            &next.options,
+            &next.demand,
+        ) {
+            Ok(netlist) => next.with_permitted(alloc, netlist),
+            Err(trouble) => {
+                drop(next);
+                Err(trouble)
+            }
+        }
+    }
+
+    /// With this netlist in place of its own, and the stimulus for it that is of no file, where one is asked for.
+    fn with_permitted(self, alloc: Global, netlist: Netlist) -> Result<DesignFiles<D>, Trouble>
+        ensures { Answers (netlist_taken self netlist) result }
+    {
+        match take_chance(alloc, self.asked, &netlist) {
+            Ok(stimulus) => Ok(self.with_netlist_and(netlist, stimulus)),
+            Err(trouble) => {
+                drop(netlist);
+                drop(self);
+                Err(trouble)
+            }
+        }
+    }
+
+    /// With this netlist and this stimulus in place of its own.
+    fn with_netlist_and(self, netlist: Netlist, stimulus: Option<Stimulus>) -> DesignFiles<D>
+        ensures { result ≡ record self { netlist = Some netlist; stimulus = stimulus } }
+    {
+        let mut next = self;
+        drop(replace(&mut next.netlist, Some(netlist)));
+        drop(replace(&mut next.stimulus, stimulus));
+        next
+    }
+
+    /// With the stimulus of a text in place of its own.
+    fn with_stimulus(self, alloc: Global, text: &Seq<u8>) -> Result<DesignFiles<D>, Trouble>
+        ensures { Answers (design_takes D.permits self Role.Stimulus text.now) result }
+    {
+        let mut next = self;
+        match take_said(alloc, next.asked, next.netlist.as_ref(), text) {
+            Ok(stimulus) => {
+                drop(replace(&mut next.stimulus, stimulus));
                 Ok(next)
             }
             Err(trouble) => {
@@ -151,22 +212,21 @@ impl<D: Demand> DesignFiles<D> {
         }
     }
 
-    /// With the text of a stimulus in place of its own.
-    fn with_stimulus(self, text: Seq<u8>) -> DesignFiles<D>
-        ensures { result ≡ record self { stimulus = text } }
+    /// With the hints of a text in place of its own.
+    fn with_hints(self, alloc: Global, text: &Seq<u8>) -> Result<DesignFiles<D>, Trouble>
+        ensures { Answers (design_takes D.permits self Role.Hints text.now) result }
     {
         let mut next = self;
-        drop(replace(&mut next.stimulus, text));
-        next
-    }
-
-    /// With the text of hints in place of its own.
-    fn with_hints(self, text: Seq<u8>) -> DesignFiles<D>
-        ensures { result ≡ record self { hints = text } }
-    {
-        let mut next = self;
-        drop(replace(&mut next.hints, text));
-        next
+        match take_hints_said(alloc, next.netlist.as_ref(), text) {
+            Ok(hints) => {
+                drop(replace(&mut next.hints, hints));
+                Ok(next)
+            }
+            Err(trouble) => {
+                drop(next);
+                Err(trouble)
+            }
+        }
     }
 }
 
@@ -175,13 +235,13 @@ impl<D: Demand> Reader for DesignFiles<D> {
 
     ghost takes = { design_takes D.permits };
 
-    /// Takes the library, the netlist, the stimulus and the hints, as each is loaded.
+    /// Takes the library, the netlist, the stimulus and the hints: each is read as it is loaded.
     fn take(self, alloc: Global, role: Role, bytes: Seq<u8>) -> Result<DesignFiles<D>, Trouble> {
         match role {
             Role::Library => self.with_library(alloc, &bytes),
             Role::Netlist => self.with_netlist(alloc, &bytes),
-            Role::Stimulus => Ok(self.with_stimulus(bytes)),
-            Role::Hints => Ok(self.with_hints(bytes)),
+            Role::Stimulus => self.with_stimulus(alloc, &bytes),
+            Role::Hints => self.with_hints(alloc, &bytes),
             _ => Ok(self),
         }
     }
@@ -190,15 +250,66 @@ impl<D: Demand> Reader for DesignFiles<D> {
 /// The netlist that a text says with the cells of a library, where it is as is demanded.
 pub fn take_permitted<D: Demand>(
     alloc: Global,
+    form: NetlistForm,
     text: &Seq<u8>,
     library: &Library,
     options: &BlifOptions,
     demand: &D,
 ) -> Result<Netlist, Trouble>
-    ensures { Answers (permitted D.permits library.now options.now.clock demand.now text.now) result }
+    ensures { Answers (permitted D.permits form library.now options.now.clock demand.now text.now) result }
 {
-    let netlist = take_netlist(alloc, text, library, options)?;
+    let netlist = take_netlist(alloc, form, text, library, options)?;
     demand.permit(alloc, netlist, library)
+}
+
+/// The stimulus for a netlist that is asked for, where it is of no file.
+fn take_chance(
+    alloc: Global,
+    asked: Option<StimulusForm>,
+    netlist: &Netlist,
+) -> Result<Option<Stimulus>, Trouble>
+    ensures { Answers (chance_found asked netlist.now) result }
+{
+    let Some(StimulusForm::Random(count)) = asked else {
+        return Ok(None);
+    };
+    let text = Seq::new(alloc);
+    let stimulus = take_stimulus(alloc, StimulusForm::Random(count), &text, netlist)?;
+    Ok(Some(stimulus))
+}
+
+/// The stimulus that is asked for, as a text says it for the netlist that was read.
+fn take_said(
+    alloc: Global,
+    asked: Option<StimulusForm>,
+    netlist: Option<&Netlist>,
+    text: &Seq<u8>,
+) -> Result<Option<Stimulus>, Trouble>
+    ensures { Answers (stimulus_said asked (option_copied netlist.entry) text.now) result }
+{
+    let Some(form) = asked else {
+        return Ok(None);
+    };
+    let Some(netlist) = netlist else {
+        return Ok(None);
+    };
+    let stimulus = take_stimulus(alloc, form, text, netlist)?;
+    Ok(Some(stimulus))
+}
+
+/// The hints that a text says for the netlist that was read.
+fn take_hints_said(
+    alloc: Global,
+    netlist: Option<&Netlist>,
+    text: &Seq<u8>,
+) -> Result<Option<Seq<Hint>>, Trouble>
+    ensures { Answers (hints_said (option_copied netlist.entry) text.now) result }
+{
+    let Some(netlist) = netlist else {
+        return Ok(None);
+    };
+    let hints = take_hints(alloc, text, netlist)?;
+    Ok(Some(hints))
 }
 
 /// The files that are loaded of a design, with a stimulus or without one, and with hints or without them.

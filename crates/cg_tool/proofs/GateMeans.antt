@@ -1,45 +1,42 @@
 -- What a finished run of `gate` means, from what its files come to.
-use Rattle.std.proofs.Common.{◌≡◌, ℕ, Bool, true, false, IsTrue, List, ◌++◌, Option, Some, is_some, Result, Ok, Err, refl, sym}
-use Rattle.std.proofs.Common.{◌∙◌, ap, subst, None}
-use Rattle.std.specs.Prelude.{IsOkAnd}
+use Rattle.std.proofs.Common.{◌≡◌, ℕ, Bool, true, false, IsTrue, List, ◌++◌, Option, None, Some, is_some, refl, sym, ◌∙◌, ap, subst}
 use Rattle.cg_gate.specs.Gating.{where_asked}
 use Rattle.cg_gate.specs.declared.texts.Texts.{Texts}
 use Rattle.cg_liberty.specs.LibText.{LibText}
 use Rattle.cg_netlist.specs.Circuit.{Circuit}
 use Rattle.cg_shelf.specs.World.{World}
+use Rattle.cg_run.specs.Reads.{Agrees}
+use Rattle.cg_run.specs.Verdict.{Given}
 use Rattle.cg_run.specs.Writes.{puts}
 use Rattle.cg_run.specs.declared.output.Finish.{Finish}
 use Rattle.cg_run.specs.declared.output.Output.{Output}
-use Rattle.cg_run.specs.declared.refusal.Trouble.{Trouble}
 use Rattle.cg_run.specs.declared.role.Role.{Role}
 use Rattle.cg_run.specs.declared.role.Role.TheVariants as roles
 use Rattle.cg_run.proofs.Finished.{Finishes}
-use Rattle.cg_run.proofs.Steps.{came, found_ok, held_so}
+use Rattle.cg_run.proofs.Steps.{came, held_so}
 use Rattle.cg_source.specs.Design.{design_loads}
 use Rattle.cg_source.specs.Netlist.{SaysNetlist}
-use Rattle.cg_source.specs.Stimulus.{DrivesNetlist, IsDrivenBy, has_file, is_loaded, stimulus_found}
+use Rattle.cg_source.specs.Stimulus.{DrivesNetlist, IsDrivenBy, has_file, is_loaded}
 use Rattle.cg_source.specs.declared.design.DesignFiles.{DesignFiles}
 use Rattle.cg_source.specs.declared.stimulus.StimulusForm.{StimulusForm}
 use Rattle.cg_source.specs.declared.stimulus.StimulusForm.TheVariants as forms
-use Rattle.cg_source.proofs.DesignRead.{IsRead, design_read}
+use Rattle.cg_source.proofs.DesignRead.{FindsHints, FindsStimulus, IsRead, design_read}
 use Rattle.cg_hint_laws.specs.declared.hint.Hint.{Hint}
 use Rattle.cg_hint_text.specs.HintText.{SaysHints}
 use Rattle.cg_netlist.specs.Netlist.{IsNetlist}
 use Rattle.cg_source.proofs.HintTexts.{hints_say}
-use Rattle.cg_source.proofs.NetlistTexts.{netlist_formed, netlist_says, netlist_writable}
-use Rattle.cg_source.specs.Hints.{hints_found}
+use Rattle.cg_source.proofs.NetlistTexts.{netlist_formed, netlist_placeable, netlist_says}
 use Rattle.cg_source.proofs.StimulusTexts.{stimulus_drives, stimulus_inputs}
 use Rattle.cg_source.proofs.Texts.{library_says}
 use Rattle.cg_stimulus.specs.Inputs.{Rows}
 use Rattle.cg_command_line.specs.declared.options.Asked.{Asked}
 use Rattle.cg_command_line.specs.declared.options.Options.{Options}
-use Rattle.cg_tool.specs.Gate.{GatesAs, gate_gives, gate_output, gate_start, gate_stops, gate_takes, gate_task, hints_of, sources_of, stimulus_of}
+use Rattle.cg_tool.specs.Gate.{GatesAs, gate_gives, gate_output, gate_start, gate_stops, gate_takes, gate_task}
 use Rattle.cg_tool.specs.Gated.{AreApart, AreHinted, IsDriven, IsGated, Stand}
-use Rattle.cg_tool.specs.Wanted.{gateable, request_by, wanted_by, wants_hints}
+use Rattle.cg_tool.specs.Wanted.{gateable, request_by, wanted_by}
 use Rattle.cg_tool.specs.Watching.{Kind}
-use Rattle.cg_tool.specs.declared.modes.gate.Sources.{Sources}
 use Rattle.cg_tool.specs.declared.modes.wanted.Wanted.{Wanted}
-use Rattle.cg_tool.proofs.GateReads.{found_so, sources_ok}
+use Rattle.cg_tool.proofs.GateReads.{found_so}
 use Rattle.cg_tool.proofs.LratMeans.{some_and}
 use Rattle.cg_tool.proofs.Standing.{asked_so, if_some, out_stands, proof_stands, report_stands, verilog_stands}
 
@@ -49,39 +46,27 @@ driven_by forms.Rows held c text rows drives loaded = some_and held text (λ t. 
 driven_by forms.Dump held c text rows drives loaded = some_and held text (λ t. DrivesNetlist forms.Dump t c rows) (loaded refl) drives
 driven_by (forms.Random count) held c text rows drives loaded = drives
 
-found_text : (form : StimulusForm) (held : Option (List ℕ)) (c : Circuit) (text : List ℕ) (found : Rows) → stimulus_found form c text ≡ Ok found → (IsTrue (has_file form) → held ≡ Some text) → IsDriven (Some form) held c (Some found)
-found_text form held c text found is loaded =
-    (stimulus_inputs form c text found is, driven_by form held c text found.rows (stimulus_drives form c text found is) loaded)
-
-driven : (asked : Option StimulusForm) (held : Option (List ℕ)) (c : Circuit) (text : List ℕ) (found : Option Rows) → stimulus_of asked c text ≡ Ok found → (IsTrue (is_loaded asked) → held ≡ Some text) → IsDriven asked held c found
-driven None held c text found is loaded = cc
-driven (Some form) held c text found is loaded =
-    let r = found_ok (λ (s : Rows). Some s) (stimulus_found form c text) found is in
+driven : (given : Given) (asked : Option StimulusForm) (held : Option (List ℕ)) (c : Circuit) (found : Option Rows) → FindsStimulus given asked c found → Agrees held (given roles.Stimulus) → IsDriven asked held c found
+driven given None held c found none agrees = none
+driven given (Some form) held c found finds agrees =
     let D : Option Rows → Type 0 = λ s. IsDriven (Some form) held c s in
-    subst D r.2 (found_text form held c text r.0 r.1 loaded)
+    let loaded : IsTrue (has_file form) → held ≡ Some finds.text = λ has. held_so held (given roles.Stimulus) finds.text agrees (finds.loaded has) in
+    subst D (sym finds.is) (stimulus_inputs form c finds.text finds.rows finds.said, driven_by form held c finds.text finds.rows.rows (stimulus_drives form c finds.text finds.rows finds.said) loaded)
 
 -- hints that are found are what their text says
-hinted_by : (wanted : Bool) (held : Option (List ℕ)) (c : Circuit) (text : List ℕ) (hints : Option (List Hint)) → IsNetlist c → hints_of wanted c text ≡ Ok hints → (IsTrue wanted → held ≡ Some text) → AreHinted wanted held c hints
-hinted_by false held c text hints whole is loaded = cc
-hinted_by true held c text hints whole is loaded =
-    let r = found_ok (λ (hs : List Hint). Some hs) (hints_found c text) hints is in
-    subst (AreHinted true held c) r.2 (some_and held text (λ t. SaysHints c t r.0) (loaded refl) (hints_say c text r.0 whole r.1))
-
-ok_and : (found : Result Sources Trouble) (P : Sources → Type 0) → IsOkAnd found P → (sources : Sources) × (found ≡ Ok sources) × P sources
-ok_and (Ok sources) P h = (sources, refl, h)
-ok_and (Err trouble) P h = absurd h
+hinted_by : (given : Given) (hinted : Bool) (held : Option (List ℕ)) (c : Circuit) (found : Option (List Hint)) → IsNetlist c → FindsHints given hinted c found → Agrees held (given roles.Hints) → AreHinted hinted held c found
+hinted_by given false held c found whole none agrees = none
+hinted_by given true held c found whole finds agrees =
+    subst (AreHinted true held c) (sym finds.are)
+    (some_and held finds.text (λ t. SaysHints c t finds.hints) (held_so held (given roles.Hints) finds.text agrees finds.loaded) (hints_say c finds.text finds.hints whole finds.said))
 
 -- what was put out, of the options that the mode was told
-module _ (options : Options) (kind : Option Kind) (end : DesignFiles Wanted) (c : Circuit) (output : Output) where
-  abbrev asked : Result Sources Trouble
-  asked = sources_of options.asked.stimulus (wants_hints options) c end.stimulus end.hints
-
-  gates_so : end.netlist ≡ Some c → end.demand ≡ wanted_by options → gate_gives kind end output
-      → (sources : Sources) × (asked ≡ Ok sources) × GatesAs kind (request_by end.library (wanted_by options) sources.stimulus sources.hints) c output
-  gates_so is wanted gives =
-      let N : Option Circuit → Type 0 = λ netlist. gate_gives kind (record end { netlist = netlist }) output in
-      let W : Wanted → Type 0 = λ w. gate_gives kind (record end { demand = w; netlist = Some c }) output in
-      ok_and asked (λ s. GatesAs kind (request_by end.library (wanted_by options) s.stimulus s.hints) c output) (subst W wanted (subst N is gives))
+gates_so : (options : Options) (kind : Option Kind) (end : DesignFiles Wanted) (c : Circuit) (output : Output) → end.netlist ≡ Some c → end.demand ≡ wanted_by options → gate_gives kind end output
+    → GatesAs kind (request_by end.library (wanted_by options) end.stimulus end.hints) c output
+gates_so options kind end c output is wanted gives =
+    let N : Option Circuit → Type 0 = λ netlist. gate_gives kind (record end { netlist = netlist }) output in
+    let W : Wanted → Type 0 = λ w. GatesAs kind (request_by end.library w end.stimulus end.hints) c output in
+    subst W wanted (subst N is gives)
 
 -- the files hold their texts
 stand_of : (asked : Asked) (names : Role → List ℕ) (before after : World) (texts : Texts) (proof report verilog : List ℕ) → texts.proof ≡ where_asked asked.proof proof → texts.report ≡ where_asked asked.report report
@@ -103,42 +88,40 @@ stand_of asked names before after texts proof report verilog proof_is report_is 
     }
 
 gated_of : (options : Options) (kind : Option Kind) (names : Role → List ℕ) (before after : World) (finish : Finish) (end : DesignFiles Wanted) (f : Finishes (gate_task options kind) names before after finish)
-    → IsRead gateable (wanted_by options) options.clock f.given (is_loaded options.asked.stimulus) (wants_hints options) end → gate_gives kind end f.output → IsGated options kind names before after finish
+    → IsRead gateable (wanted_by options) options.netlist f.given options.asked.stimulus options.asked.hints end → gate_gives kind end f.output → IsGated options kind names before after finish
 gated_of options kind names before after finish end f read gives =
     let c : Circuit = read.netlist in
-    let gates = gates_so options kind end c f.output read.is read.demanded gives in
-    let found = found_so end.library options.clock (wanted_by options) read.text c read.found in
-    let says = netlist_says end.library options.clock read.text c found.said in
-    let whole : IsNetlist c = (netlist_writable end.library options.clock read.text c found.said).placeable.netlist in
-    let both = sources_ok options.asked.stimulus (wants_hints options) c end.stimulus end.hints gates.0 gates.1 in
-    let held : (name : List ℕ) → after.held name ≡ puts names (gate_output (gates.2).texts).stores before.held name = λ name. f.written.held name ∙ ap (λ (o : Output). puts names o.stores before.held name) (gates.2).is in
-    let texts = (((gates.2).gives).tells).gives in
+    let files = read.files in
+    let gates = gates_so options kind end c f.output files.is files.demanded gives in
+    let found = found_so end.library options.netlist (wanted_by options) files.text c files.found in
+    let says = netlist_says (options.netlist).form end.library (options.netlist).clock files.text c found.said in
+    let whole : IsNetlist c = (netlist_placeable (options.netlist).form end.library (options.netlist).clock files.text c found.said).netlist in
+    let held : (name : List ℕ) → after.held name ≡ puts names (gate_output gates.texts).stores before.held name = λ name. f.written.held name ∙ ap (λ (o : Output). puts names o.stores before.held name) gates.is in
+    let texts = ((gates.gives).tells).gives in
     record {
       library = end.library;
       read = c;
-      stimulus = gates.0.stimulus;
-      hints = gates.0.hints;
-      texts = (gates.2).texts;
-      cells = some_and (before.held (names roles.Library)) read.library_text (λ text. LibText text end.library)
-          (held_so (before.held (names roles.Library)) (f.given roles.Library) read.library_text (f.told roles.Library) read.library_loaded)
-          (library_says read.library_text end.library read.library_is);
-      says = some_and (before.held (names roles.Netlist)) read.text (λ text. SaysNetlist text end.library options.clock c)
-          (held_so (before.held (names roles.Netlist)) (f.given roles.Netlist) read.text (f.told roles.Netlist) read.loaded) says;
-      drives = driven options.asked.stimulus (before.held (names roles.Stimulus)) c end.stimulus gates.0.stimulus both.0
-          (λ yes. held_so (before.held (names roles.Stimulus)) (f.given roles.Stimulus) end.stimulus (f.told roles.Stimulus) (read.drives yes));
-      hinted = hinted_by (wants_hints options) (before.held (names roles.Hints)) c end.hints gates.0.hints whole both.1
-          (λ yes. held_so (before.held (names roles.Hints)) (f.given roles.Hints) end.hints (f.told roles.Hints) (read.hinted yes));
-      well_formed = netlist_formed end.library options.clock read.text c found.said;
-      may = (gates.2).may;
-      gives = (gates.2).gives;
-      headline = (gates.2).headline;
-      stand = stand_of options.asked names before after (gates.2).texts _ _ _ texts.proof texts.report texts.verilog held;
+      stimulus = end.stimulus;
+      hints = end.hints;
+      texts = gates.texts;
+      cells = some_and (before.held (names roles.Library)) files.library_text (λ text. LibText text end.library)
+          (held_so (before.held (names roles.Library)) (f.given roles.Library) files.library_text (f.told roles.Library) files.library_loaded)
+          (library_says files.library_text end.library files.library_is);
+      says = some_and (before.held (names roles.Netlist)) files.text (λ text. SaysNetlist (options.netlist).form text end.library (options.netlist).clock c)
+          (held_so (before.held (names roles.Netlist)) (f.given roles.Netlist) files.text (f.told roles.Netlist) files.loaded) says;
+      drives = driven f.given options.asked.stimulus (before.held (names roles.Stimulus)) c end.stimulus read.stimulus (f.told roles.Stimulus);
+      hinted = hinted_by f.given options.asked.hints (before.held (names roles.Hints)) c end.hints whole read.hints (f.told roles.Hints);
+      well_formed = netlist_formed (options.netlist).form end.library (options.netlist).clock files.text c found.said;
+      may = gates.may;
+      gives = gates.gives;
+      headline = gates.headline;
+      stand = stand_of options.asked names before after gates.texts _ _ _ texts.proof texts.report texts.verilog held;
       stored = held;
-      said = f.written.said ∙ ap (λ (o : Output). before.said ++ o.said) (gates.2).is;
-      ends = sym f.ends ∙ ap (λ (o : Output). o.finish) (gates.2).is;
+      said = f.written.said ∙ ap (λ (o : Output). before.said ++ o.said) gates.is;
+      ends = sym f.ends ∙ ap (λ (o : Output). o.finish) gates.is;
     }
 
 pub gated_means : (options : Options) (kind : Option Kind) (names : Role → List ℕ) (before after : World) (finish : Finish) → Finishes (gate_task options kind) names before after finish → IsGated options kind names before after finish
 gated_means options kind names before after finish f =
-    let end = came gate_takes gate_stops (gate_gives kind) (gate_start options) (design_loads (is_loaded options.asked.stimulus) (wants_hints options)) f.given f.output f.comes in
-    gated_of options kind names before after finish end.0 f (design_read gateable (wanted_by options) options.clock f.given gate_stops end.0 (is_loaded options.asked.stimulus) (wants_hints options) end.1) end.2
+    let end = came gate_takes gate_stops (gate_gives kind) (gate_start options) (design_loads (is_loaded options.asked.stimulus) options.asked.hints) f.given f.output f.comes in
+    gated_of options kind names before after finish end.0 f (design_read gateable (wanted_by options) options.netlist f.given gate_stops end.0 options.asked.stimulus options.asked.hints end.1) end.2

@@ -27,7 +27,6 @@ use Rattle.cg_command_line.specs.Jobs.{JobWords}
 use Rattle.cg_command_line.specs.declared.job.Mode.{Mode}
 use Rattle.cg_command_line.specs.declared.job.Mode.TheVariants.{Demo, Gate, Lrat, Sim}
 use Rattle.cg_command_line.specs.declared.options.Options.{Options}
-use Rattle.cg_tool.specs.Wanted.{wants_hints}
 use Rattle.cg_tool.specs.Demo.{IsDemo, demo_gives, demo_stops, demo_takes, demo_task}
 use Rattle.cg_source.specs.Stimulus.{has_file, is_loaded}
 use Rattle.cg_source.specs.Design.{design_loads}
@@ -68,9 +67,9 @@ module _ (gave : List ℕ → Result (List ℕ) LoadFault → Type 0) (kinds : L
   -- memory was wanting for the words
   mode_unread : (mode : Mode) (options : Options) (names : Role → List ℕ) (before after : World) (result : Status)
       → Complains (complaint_line (codes "no memory")) statuses.NoMemory before after result → Runs gave (task_in kinds mode options) names before after result
-  mode_unread Gate options names before after result complains = runs_unbegun gave gate_takes gate_stops (gate_gives (kind_at kinds options.watch)) names (gate_start options) (design_loads (is_loaded options.asked.stimulus) (wants_hints options)) before after result complains
+  mode_unread Gate options names before after result complains = runs_unbegun gave gate_takes gate_stops (gate_gives (kind_at kinds options.watch)) names (gate_start options) (design_loads (is_loaded options.asked.stimulus) options.asked.hints) before after result complains
   mode_unread (Sim form) options names before after result complains =
-      runs_unbegun gave sim_takes (sim_stops form) (sim_gives form (kind_at kinds options.watch)) names (sim_start options.clock) (design_loads (has_file form) false) before after result complains
+      runs_unbegun gave sim_takes sim_stops (sim_gives (kind_at kinds options.watch)) names (sim_start form options.netlist) (design_loads (has_file form) false) before after result complains
   mode_unread Lrat options names before after result complains = runs_unbegun gave lrat_takes lrat_stops lrat_gives names lrat_start (roles.Formula ∷ roles.Log ∷ []) before after result complains
   mode_unread (Demo size) options names before after result complains = runs_unbegun gave demo_takes demo_stops demo_gives names (record { size = size }) [] before after result complains
 
@@ -101,9 +100,9 @@ module _ (gave : List ℕ → Result (List ℕ) LoadFault → Type 0) (kinds : L
 
   mode_gains : (mode : Mode) (options : Options) (names : Role → List ℕ) (before after : World) (result : Status)
       → Runs gave (task_in kinds mode options) names before after result → Gains (task_in kinds mode options) names before after result
-  mode_gains Gate options names before after result runs = gains gave (gate_task options (kind_at kinds options.watch)) names before after result (load_named gate_takes gate_stops (gate_start options) (design_loads (is_loaded options.asked.stimulus) (wants_hints options))) runs
+  mode_gains Gate options names before after result runs = gains gave (gate_task options (kind_at kinds options.watch)) names before after result (load_named gate_takes gate_stops (gate_start options) (design_loads (is_loaded options.asked.stimulus) options.asked.hints)) runs
   mode_gains (Sim form) options names before after result runs =
-      gains gave (sim_task form options.clock (kind_at kinds options.watch)) names before after result (load_named sim_takes (sim_stops form) (sim_start options.clock) (design_loads (has_file form) false)) runs
+      gains gave (sim_task form options.netlist (kind_at kinds options.watch)) names before after result (load_named sim_takes sim_stops (sim_start form options.netlist) (design_loads (has_file form) false)) runs
   mode_gains Lrat options names before after result runs = gains gave lrat_task names before after result (load_named lrat_takes lrat_stops lrat_start (roles.Formula ∷ roles.Log ∷ [])) runs
   mode_gains (Demo size) options names before after result runs = gains gave (demo_task size) names before after result (load_named demo_takes demo_stops (record { size = size }) []) runs
 
@@ -117,9 +116,9 @@ module _ (gave : List ℕ → Result (List ℕ) LoadFault → Type 0) (kinds : L
 
   mode_comes : (mode : Mode) (options : Options) (names : Role → List ℕ) (before after : World) (result : Status)
       → Runs gave (task_in kinds mode options) names before after result → IsTrue before.tells → UnlessFails (EndsAs (task_in kinds mode options) (held_files names before)) result
-  mode_comes Gate options names before after result runs t = completes gave gate_takes gate_stops (gate_gives (kind_at kinds options.watch)) (gate_start options) (design_loads (is_loaded options.asked.stimulus) (wants_hints options)) names before after result runs t
+  mode_comes Gate options names before after result runs t = completes gave gate_takes gate_stops (gate_gives (kind_at kinds options.watch)) (gate_start options) (design_loads (is_loaded options.asked.stimulus) options.asked.hints) names before after result runs t
   mode_comes (Sim form) options names before after result runs t =
-      completes gave sim_takes (sim_stops form) (sim_gives form (kind_at kinds options.watch)) (sim_start options.clock) (design_loads (has_file form) false) names before after result runs t
+      completes gave sim_takes sim_stops (sim_gives (kind_at kinds options.watch)) (sim_start form options.netlist) (design_loads (has_file form) false) names before after result runs t
   mode_comes Lrat options names before after result runs t = completes gave lrat_takes lrat_stops lrat_gives lrat_start (roles.Formula ∷ roles.Log ∷ []) names before after result runs t
   mode_comes (Demo size) options names before after result runs t = completes gave demo_takes demo_stops demo_gives (record { size = size }) [] names before after result runs t
 
@@ -148,18 +147,18 @@ module _ (gave : List ℕ → Result (List ℕ) LoadFault → Type 0) (kinds : L
   job_gated (Some job) before after result runs t = λ is. mode_gated job.mode job.options (file_of job.files) before after result is runs t
 
   mode_simulated : (mode : Mode) (options : Options) (names : Role → List ℕ) (form : StimulusForm) (before after : World) (result : Status) → mode ≡ Sim form → Runs gave (task_in kinds mode options) names before after result → IsTrue before.tells
-      → FinishBy (IsSimulated form options.clock (kind_at kinds options.watch) names before after) result
+      → FinishBy (IsSimulated form options.netlist (kind_at kinds options.watch) names before after) result
   mode_simulated Gate options names form before after result is runs t = cc
   mode_simulated (Sim other) options names form before after result is runs t =
       let kind = kind_at kinds options.watch in
       let same : other ≡ form = cc in
-      let P : StimulusForm → Type 0 = λ form. FinishBy (IsSimulated form options.clock kind names before after) result in
-      subst P same (finished_means (sim_task other options.clock kind) names before after (IsSimulated other options.clock kind names before after) result (simulated_means other options.clock kind names before after) runs t)
+      let P : StimulusForm → Type 0 = λ form. FinishBy (IsSimulated form options.netlist kind names before after) result in
+      subst P same (finished_means (sim_task other options.netlist kind) names before after (IsSimulated other options.netlist kind names before after) result (simulated_means other options.netlist kind names before after) runs t)
   mode_simulated Lrat options names form before after result is runs t = cc
   mode_simulated (Demo size) options names form before after result is runs t = cc
 
   pub job_simulated : (job : Option JobWords) (before after : World) (result : Status) → RunsWords gave kinds job before after result → IsTrue before.tells
-      → IfSome job (λ j. (form : StimulusForm) → j.mode ≡ Sim form → FinishBy (IsSimulated form j.options.clock (kind_at kinds j.options.watch) (file_of j.files) before after) result)
+      → IfSome job (λ j. (form : StimulusForm) → j.mode ≡ Sim form → FinishBy (IsSimulated form j.options.netlist (kind_at kinds j.options.watch) (file_of j.files) before after) result)
   job_simulated None before after result runs t = tt
   job_simulated (Some job) before after result runs t = λ form is. mode_simulated job.mode job.options (file_of job.files) form before after result is runs t
 

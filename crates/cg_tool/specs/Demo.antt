@@ -22,6 +22,7 @@ use Rattle.cg_source.specs.Library.{library_found}
 use Rattle.cg_source.specs.Netlist.{SaysNetlist}
 use Rattle.cg_source.specs.Refused.{then_found}
 use Rattle.cg_source.specs.Stimulus.{DrivesNetlist, stimulus_found}
+use Rattle.cg_source.specs.declared.netlist.NetlistForm.TheVariants.{Blif}
 use Rattle.cg_source.specs.declared.stimulus.StimulusForm.TheVariants as forms
 use Rattle.cg_tool.specs.Wanted.{gateable, request_by, wanted_by}
 use Rattle.cg_tool.specs.declared.modes.demo.Demo.{Demo}
@@ -47,7 +48,7 @@ rows_text size = stimulus_text size
 abbrev pub pipeline_found : ℕ → Result Pipeline Trouble
 pipeline_found size =
     then_found (library_found cells_text) (λ library.
-    then_found (permitted gateable library None demo_wanted (lines_text size)) (λ c.
+    then_found (permitted gateable Blif library None demo_wanted (lines_text size)) (λ c.
     found_as (λ stimulus. record { library = library; netlist = c; stimulus = stimulus }) (stimulus_found forms.Rows c (rows_text size))))
 
 -- what its gating is asked for
@@ -86,7 +87,7 @@ pub record IsDemo (size : ℕ) (before after : World) (finish : Finish) : Type 0
   pub netlist : Circuit
   pub stimulus : Rows
   pub cells : LibText library_text library
-  pub says : SaysNetlist (generated size) library None netlist
+  pub says : SaysNetlist Blif (generated size) library None netlist
   pub drives : DrivesNetlist forms.Rows (stimulus_text size) netlist stimulus.rows
   pub text : List ℕ
   pub gives : GivesDemo size (request_by library demo_wanted (Some stimulus) None) netlist text

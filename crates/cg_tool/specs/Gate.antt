@@ -1,5 +1,5 @@
 -- What `gate` makes of a library, a netlist and it may be a stimulus and hints.
-use Rattle.std.specs.Prelude.{◌≡◌, ℕ, Bool, true, false, List, [], ◌∷◌, ◌++◌, codes, Option, None, Some, Result, Ok, Err, IsOkAnd, IsSomeAnd}
+use Rattle.std.specs.Prelude.{◌≡◌, ℕ, List, [], ◌∷◌, ◌++◌, codes, Option, None, Some, Result, IsSomeAnd}
 use Rattle.std.specs.Option.{option_and_then, option_map}
 use Rattle.cg_gate.specs.Gating.{GivesGated}
 use Rattle.cg_gate.specs.Headline.{Headline}
@@ -8,9 +8,8 @@ use Rattle.cg_gate.specs.Stops.{gating_stop}
 use Rattle.cg_gate.specs.declared.fault.GateFault.{GateFault}
 use Rattle.cg_gate.specs.declared.fault.GateFault.TheVariants as faults
 use Rattle.cg_gate.specs.declared.texts.Texts.{Texts}
-use Rattle.cg_hint_laws.specs.declared.hint.Hint.{Hint}
 use Rattle.cg_netlist.specs.Circuit.{Circuit}
-use Rattle.cg_run.specs.Verdict.{Task, found_as, task_of}
+use Rattle.cg_run.specs.Verdict.{Task, task_of}
 use Rattle.cg_run.specs.declared.output.Finish.TheVariants as finishes
 use Rattle.cg_run.specs.declared.output.Output.{Output}
 use Rattle.cg_run.specs.declared.output.Text.{Text}
@@ -20,53 +19,22 @@ use Rattle.cg_run.specs.declared.refusal.Trouble.TheVariants as troubles
 use Rattle.cg_run.specs.declared.role.Role.{Role}
 use Rattle.cg_run.specs.declared.role.Role.TheVariants as roles
 use Rattle.cg_source.specs.Design.{design_loads, design_of, design_start, design_takes}
-use Rattle.cg_source.specs.Hints.{hints_found}
-use Rattle.cg_source.specs.Refused.{refused_for, then_found}
-use Rattle.cg_source.specs.Stimulus.{is_loaded, stimulus_found}
+use Rattle.cg_source.specs.Refused.{refused_for}
+use Rattle.cg_source.specs.Stimulus.{is_loaded}
 use Rattle.cg_source.specs.declared.design.Design.{Design}
 use Rattle.cg_source.specs.declared.design.DesignFiles.{DesignFiles}
-use Rattle.cg_source.specs.declared.stimulus.StimulusForm.{StimulusForm}
-use Rattle.cg_stimulus.specs.Inputs.{Rows}
 use Rattle.cg_command_line.specs.declared.options.Options.{Options}
-use Rattle.cg_tool.specs.Wanted.{gateable, request_by, wanted_by, wants_hints}
+use Rattle.cg_tool.specs.Wanted.{gateable, request_by, wanted_by}
 use Rattle.cg_tool.specs.Watching.{Kind}
-use Rattle.cg_tool.specs.declared.modes.gate.Sources.{Sources}
 use Rattle.cg_tool.specs.declared.modes.wanted.Wanted.{Wanted}
 
--- the stimulus that a text says for a netlist, where one of a form is asked for
-abbrev pub stimulus_of : Option StimulusForm → Circuit → List ℕ → Result (Option Rows) Trouble
-stimulus_of None c text = Ok None
-stimulus_of (Some form) c text = found_as Some (stimulus_found form c text)
+-- what gating of a design is asked for
+abbrev pub request_of : Design Wanted → RequestData
+request_of design = request_by design.library design.demand design.stimulus design.hints
 
--- the hints that a text says for a netlist, where they are asked for
-abbrev pub hints_of : Bool → Circuit → List ℕ → Result (Option (List Hint)) Trouble
-hints_of false c text = Ok None
-hints_of true c text = found_as Some (hints_found c text)
-
--- the stimulus and then the hints, where they are asked for, that these texts say for a netlist
-abbrev pub sources_of : Option StimulusForm → Bool → Circuit → List ℕ → List ℕ → Result Sources Trouble
-sources_of form hinted c rows hints =
-    then_found (stimulus_of form c rows) (λ stimulus.
-    found_as (λ hints. record { stimulus = stimulus; hints = hints }) (hints_of hinted c hints))
-
--- those of a design
-abbrev pub stimulus_asked : Design Wanted → Result (Option Rows) Trouble
-stimulus_asked design = stimulus_of (design.demand).asked.stimulus design.netlist design.stimulus
-
-abbrev pub hints_asked : Design Wanted → Result (Option (List Hint)) Trouble
-hints_asked design = hints_of (design.demand).asked.hints design.netlist design.hints
-
-abbrev pub sources_asked : Design Wanted → Result Sources Trouble
-sources_asked design =
-    sources_of (design.demand).asked.stimulus (design.demand).asked.hints design.netlist design.stimulus design.hints
-
--- what gating of a design is asked for, with these
-abbrev pub request_of : Design Wanted → Sources → RequestData
-request_of design sources = request_by design.library design.demand sources.stimulus sources.hints
-
--- the netlist of a design may be gated, with what its texts say
+-- the netlist of a design may be gated, with what was read for it
 abbrev pub MayBeGated : Design Wanted → Type 0
-MayBeGated design = (sources : Sources) → sources_asked design ≡ Ok sources → MayGate (request_of design sources) design.netlist
+MayBeGated design = MayGate (request_of design) design.netlist
 
 -- what `gate` puts out of the texts of a gated netlist: it stores the netlist, and the proof file, the report and the Verilog text
 -- where they are asked for
@@ -99,18 +67,12 @@ gate_trouble (faults.BadName name) = refused_for owners.Netlist (codes "verilog:
 gate_trouble (faults.PortTwice net) = refused_for owners.Netlist (codes "verilog: port twice " ++ net)
 gate_trouble faults.NoMemory = troubles.NoMemory
 
--- What stops a design: a fault of the stimulus that is asked for, or else of the hints that are asked for, or else what stops gating.
--- And what is put out of it.
-abbrev pub stops_with : Design Wanted → Result Sources Trouble → Option Trouble
-stops_with design (Err trouble) = Some trouble
-stops_with design (Ok sources) = option_map gate_trouble (gating_stop (request_of design sources) design.netlist)
-
+-- what stops a design: what stops gating; and what is put out of it
 abbrev pub design_stops : Design Wanted → Option Trouble
-design_stops design = stops_with design (sources_asked design)
+design_stops design = option_map gate_trouble (gating_stop (request_of design) design.netlist)
 
 abbrev pub design_gives : Option Kind → Design Wanted → Output → Type 0
-design_gives kind design output =
-    IsOkAnd (sources_asked design) (λ sources. GatesAs kind (request_of design sources) design.netlist output)
+design_gives kind design output = GatesAs kind (request_of design) design.netlist output
 
 -- The mode: it takes the files of a design whose netlist may be gated; what stops the design stops it, and it gives what is put
 -- out of it.
@@ -125,10 +87,10 @@ gate_gives kind files output = IsSomeAnd (design_of files) (λ design. design_gi
 
 -- nothing is read yet
 abbrev pub gate_start : Options → DesignFiles Wanted
-gate_start options = design_start (wanted_by options) options.clock
+gate_start options = design_start (wanted_by options) options.netlist options.asked.stimulus
 
 -- what a run of `gate` does
 abbrev pub gate_task : Options → Option Kind → Task
 gate_task options kind =
     task_of gate_takes gate_stops (gate_gives kind) (gate_start options)
-    (design_loads (is_loaded options.asked.stimulus) (wants_hints options))
+    (design_loads (is_loaded options.asked.stimulus) options.asked.hints)

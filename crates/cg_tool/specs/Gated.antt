@@ -23,7 +23,7 @@ use Rattle.cg_stimulus.specs.Inputs.{Rows, input_names}
 use Rattle.cg_command_line.specs.declared.options.Asked.{Asked}
 use Rattle.cg_command_line.specs.declared.options.Options.{Options}
 use Rattle.cg_tool.specs.Gate.{gate_output}
-use Rattle.cg_tool.specs.Wanted.{request_by, wanted_by, wants_hints}
+use Rattle.cg_tool.specs.Wanted.{request_by, wanted_by}
 use Rattle.cg_tool.specs.Watching.{Kind}
 
 -- the stimulus that is asked for is the one of the form that is asked for, as the text says it where the form has one
@@ -32,7 +32,7 @@ IsDriven (Some form) held c None = ⊥
 IsDriven (Some form) held c (Some stimulus) = (stimulus.inputs ≡ input_names c) × IsDrivenBy form held c stimulus.rows
 IsDriven None held c stimulus = stimulus ≡ None
 
--- the hints are those that their text says for the netlist, where they are tried
+-- the hints are those that their text says for the netlist, where they are asked for
 abbrev pub AreHinted : Bool → Option (List ℕ) → Circuit → Option (List Hint) → Type 0
 AreHinted true held c None = ⊥
 AreHinted true held c (Some hs) = IsSomeAnd held (λ text. SaysHints c text hs)
@@ -54,13 +54,11 @@ pub record Stand (names : Role → List ℕ) (texts : Texts) (after : World) : T
   pub report : IfSome texts.report (λ text. after.held (names roles.Report) ≡ Some text)
   pub verilog : IfSome texts.verilog (λ text. after.held (names roles.Verilog) ≡ Some text)
 
--- A netlist was gated: the bytes under LIB are a text that stands for a library, and those under NETLIST say
--- a well-formed netlist with this library and the clock of the words, of which no gating cell is refused and in which no net's name
--- begins with the prefix. The stimulus, where one is asked for, drives its data inputs with rows, by the bytes under its name where
--- it has a file. The hints, where they are asked for and there is to be no test input, are those that the bytes under their name say for
--- the netlist. What is
--- stored and said are the texts that gating gives of it, and they mean what the headline says. Files of different names each hold
--- their text.
+-- A netlist was gated: the bytes under LIB are a text that stands for a library, and those under NETLIST, in the form that its name
+-- ends with, say a well-formed netlist with this library and the clock of the words, of which no gating cell is refused and in which no
+-- net's name begins with the prefix. The stimulus, where one is asked for, drives its data inputs with rows, by the bytes under its name
+-- where it has a file. The hints, where they are asked for, are those that the bytes under their name say for the netlist. What is stored
+-- and said are the texts that gating gives of it, and they mean what the headline says. Files of different names each hold their text.
 pub record IsGated (options : Options) (kind : Option Kind) (names : Role → List ℕ) (before after : World)
     (finish : Finish) : Type 0 where
   pub library : List CellData
@@ -69,9 +67,9 @@ pub record IsGated (options : Options) (kind : Option Kind) (names : Role → Li
   pub hints : Option (List Hint)
   pub texts : Texts
   pub cells : IsSomeAnd (before.held (names roles.Library)) (λ text. LibText text library)
-  pub says : IsSomeAnd (before.held (names roles.Netlist)) (λ text. SaysNetlist text library options.clock read)
+  pub says : IsSomeAnd (before.held (names roles.Netlist)) (λ text. SaysNetlist (options.netlist).form text library (options.netlist).clock read)
   pub drives : IsDriven options.asked.stimulus (before.held (names roles.Stimulus)) read stimulus
-  pub hinted : AreHinted (wants_hints options) (before.held (names roles.Hints)) read hints
+  pub hinted : AreHinted options.asked.hints (before.held (names roles.Hints)) read hints
   pub well_formed : IsWellFormed read
   pub may : MayGate (request_by library (wanted_by options) stimulus hints) read
   pub gives : GivesGated (request_by library (wanted_by options) stimulus hints) kind read texts

@@ -9,7 +9,7 @@ use Rattle.cg_run.specs.Run.{Complains, Runs}
 use Rattle.cg_run.specs.Verdict.{Task}
 use Rattle.cg_run.specs.declared.status.Status.{Status}
 use Rattle.cg_run.specs.declared.status.Status.TheVariants as statuses
-use Rattle.cg_command_line.specs.Jobs.{JobWords}
+use Rattle.cg_command_line.specs.Jobs.{IsByName, JobWords}
 use Rattle.cg_command_line.specs.declared.job.Mode.{Mode}
 use Rattle.cg_command_line.specs.declared.job.Mode.TheVariants.{Demo, Gate, Lrat, Sim}
 use Rattle.cg_command_line.specs.declared.options.Options.{Options}
@@ -24,7 +24,7 @@ use Rattle.cg_tool.specs.Watching.{Kind, kind_at}
 -- what a mode does with what the options say, where watchers of these kinds may be asked for
 abbrev pub task_in : List Kind → Mode → Options → Task
 task_in kinds Gate options = gate_task options (kind_at kinds options.watch)
-task_in kinds (Sim form) options = sim_task form options.clock (kind_at kinds options.watch)
+task_in kinds (Sim form) options = sim_task form options.netlist (kind_at kinds options.watch)
 task_in kinds Lrat options = lrat_task
 task_in kinds (Demo size) options = demo_task size
 
@@ -79,10 +79,12 @@ pub record Promises (gave : List ℕ → Result (List ℕ) LoadFault → Type 0)
       → FinishBy (IsGated job.options (kind_at kinds job.options.watch) (file_of job.files) before after) result)
   -- the files that it stores have different names, so that each holds its text
   pub apart : IfSome asked (λ job. job.mode ≡ Gate → AreApart job.options.asked (file_of job.files))
+  -- a netlist is read in the form that its name has
+  pub formed : IfSome asked IsByName
   -- `sim` says the lines of the one history on which the stimulus is played, and what the watcher says of its moments
   pub simulated : IsTrue before.tells
       → IfSome asked (λ job. (form : StimulusForm) → job.mode ≡ Sim form
-      → FinishBy (IsSimulated form job.options.clock (kind_at kinds job.options.watch) (file_of job.files) before after) result)
+      → FinishBy (IsSimulated form job.options.netlist (kind_at kinds job.options.watch) (file_of job.files) before after) result)
   -- `demo` says the summary of the generated pipeline, gated as its stimulus and the defaults say
   pub shown : IsTrue before.tells
       → IfSome asked (λ job. (size : ℕ) → job.mode ≡ Demo size → FinishBy (IsDemo size before after) result)

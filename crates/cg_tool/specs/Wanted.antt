@@ -1,5 +1,5 @@
 -- How a netlist is to be gated, which netlists may be gated so, and what gating is then asked for.
-use Rattle.std.specs.Prelude.{ℕ, Bool, ◌&&◌, ◌||◌, if◌then◌else◌, List, [], ◌++◌, codes, slice_get, Option, None, Some, is_none, is_some, Result, Ok, Err}
+use Rattle.std.specs.Prelude.{ℕ, ◌||◌, if◌then◌else◌, List, [], ◌++◌, codes, slice_get, Option, None, Some, is_some, Result, Ok, Err}
 use Rattle.cg_cell.specs.Cell.{CellData}
 use Rattle.cg_gate_laws.specs.Gated.{refused_gater}
 use Rattle.cg_gate.specs.Request.{RequestData}
@@ -14,10 +14,6 @@ use Rattle.cg_stimulus.specs.Inputs.{Rows}
 use Rattle.cg_command_line.specs.declared.options.Options.{Options}
 use Rattle.cg_tool.specs.declared.modes.wanted.Wanted.{Wanted}
 
--- whether hints are tried: where they are asked for, and there is to be no test input
-abbrev pub wants_hints : Options → Bool
-wants_hints options = is_none options.test && options.asked.hints
-
 -- how a netlist is to be gated, by what the options say; gating cells have a test input exactly where one is named
 abbrev pub wanted_by : Options → Wanted
 wanted_by options =
@@ -25,7 +21,7 @@ wanted_by options =
       prefix = options.prefix;
       test = options.test;
       settings = record options.settings { test = is_some options.test };
-      asked = record options.asked { hints = wants_hints options };
+      asked = options.asked;
     }
 
 -- a netlist with a net whose name begins with the prefix is refused, for the first of them

@@ -7,6 +7,7 @@ ghost use Rattle.cg_run.specs.Names.{name_of};
 ghost use Rattle.cg_run.specs.Reads.{Gave};
 ghost use Rattle.cg_run.specs.Run.{Runs};
 ghost use Rattle.cg_command_line.specs.Jobs.{job_of, job_words};
+ghost use Rattle.cg_command_line.specs.Options.{NamesTest};
 ghost use Rattle.cg_tool.specs.Program.{Promises, RunsWords, task_by};
 
 use crate::modes::{demo, gate, lrat, sim};
@@ -75,6 +76,7 @@ fn run_job<S: Shelf>(
     watchers: Vec<Box<dyn Watcher>>,
     progress: &mut dyn Progress,
 ) -> Status
+    requires { NamesTest job.options }
     ensures { Runs (Gave S.gives) (task_by (map (λ watcher. says watcher) watchers.items) (job_words job.entry)) (name_of job.entry.names) (S.world shelf.old)
         (S.world shelf.new) result }
 {
@@ -86,7 +88,7 @@ fn run_job<S: Shelf>(
     let watcher = chosen(watchers, options.watch);
     match mode {
         Mode::Gate => gate::run(alloc, shelf, &names, options, watcher, progress),
-        Mode::Sim(form) => sim::run(alloc, shelf, &names, form, options.clock, watcher),
+        Mode::Sim(form) => sim::run(alloc, shelf, &names, form, options.netlist, watcher),
         Mode::Lrat => lrat::run(alloc, shelf, &names),
         Mode::Demo(size) => demo::run(alloc, shelf, &names, size, progress),
     }

@@ -6,8 +6,10 @@
 //! - `show NAME` says what the file NAME holds.
 //! - `latches N NAME` makes a netlist of N registers that all take one input, `nets N NAME` one of N nets, and `cells N NAME` a
 //!   library of N cells.
+//! - `verilog LIB NETLIST STIM WORD..` gates NETLIST by these words into the files `first.out` and `first.v`, and the second again into
+//!   `twice.out`. It says whether STIM shows the same outputs on all three.
 //! - `cases FILE WORD..` is a command line that is run for each case of FILE, over files of its own in which the case is the file
-//!   `case`. A case ends with a `%` and a line end, which are no part of it. Behind what a run says stands the file `out`, where it
+//!   `case`, and `case.v` too. A case ends with a `%` and a line end, which are no part of it. Behind what a run says stands the file `out`, where it
 //!   stored one.
 //! - `solve CNF LOG` solves the formula in the file CNF, says whether bits satisfy it, and else makes a file of the log.
 //! - `proof PROOF CNF LOG` makes files of the first formula of a proof file and of its log; `parts PROOF` has the program check each formula

@@ -61,6 +61,7 @@ impl Player {
             ["nets", count, name] => self.nets(count, name),
             ["cells", count, name] => self.cells(count, name),
             ["cases", name, words @ ..] => self.cases(folder, name, line, words),
+            ["verilog", words @ ..] => self.verilog(folder, line, words),
             ["solve", formula, log] => self.solve(folder, formula, log),
             ["proof", proof, formula, log] => self.split(proof, formula, log),
             ["parts", proof] => self.parts(folder, proof),
@@ -216,8 +217,65 @@ impl Player {
     fn case<S: Shelf>(&mut self, folder: &mut S, case: &str, words: &[&str]) -> Result<(), Failed> {
         say(folder, case.as_bytes(), CASE_END.as_bytes())?;
         self.files.put("case", case.as_bytes())?;
+        self.files.put("case.v", case.as_bytes())?;
         self.play(folder, words)?;
         say(folder, self.files.held("out").unwrap_or(b""), b"")
+    }
+
+    /// Gates a netlist by words, and its Verilog text again, and says whether a stimulus shows the same outputs on all three.
+    fn verilog<S: Shelf>(
+        &mut self,
+        folder: &mut S,
+        line: &str,
+        words: &[&str],
+    ) -> Result<(), Failed> {
+        let [library, netlist, stimulus, more @ ..] = words else {
+            return Err(Failed);
+        };
+        say(folder, b"$ ", line.as_bytes())?;
+        say(folder, b"\n", b"")?;
+        self.bring(folder, stimulus)?;
+        let first = ["gate", library, netlist, "first.out", "--verilog", "first.v"];
+        self.play_with(folder, &first, more)?;
+        let twice = ["gate", library, "first.v", "twice.out", "--prefix", "h_"];
+        self.play_with(folder, &twice, more)?;
+        self.compare_rows(folder, library, stimulus)
+    }
+
+    /// Runs the program on words and on more behind them.
+    fn play_with<S: Shelf>(
+        &mut self,
+        folder: &mut S,
+        words: &[&str],
+        more: &[&str],
+    ) -> Result<(), Failed> {
+        let mut all = Vec::from_slice(self.alloc, words)?;
+        all.extend_from_slice(more)?;
+        self.play(folder, all.as_slice())
+    }
+
+    /// Says whether a stimulus shows the same on the files `first.out` and `first.v`, and the same outputs on `twice.out`.
+    fn compare_rows<S: Shelf>(
+        &mut self,
+        folder: &mut S,
+        library: &str,
+        stimulus: &str,
+    ) -> Result<(), Failed> {
+        let first = self.said_of(&["sim", library, "first.out", stimulus])?;
+        let text = self.said_of(&["sim", library, "first.v", stimulus])?;
+        let twice = self.said_of(&["sim", library, "twice.out", stimulus])?;
+        if first == text && have_same_rows(&first, &twice) {
+            return say(folder, b"the same\n", b"");
+        }
+        say(folder, b"not the same\n", b"")
+    }
+
+    /// What the program says on words.
+    fn said_of(&mut self, words: &[&str]) -> Result<String, Failed> {
+        let before = self.files.said().len();
+        run_over(self.alloc, &mut self.files, words)?;
+        let said = self.files.said().get(before..).unwrap_or(b"");
+        Ok(String::from_utf8(Vec::from_slice(self.alloc, said)?)?)
     }
 
     /// Runs the program on a command line over the folder itself, where what it says goes out as it is said.
@@ -319,6 +377,14 @@ impl Player {
     }
 }
 
+/// Whether two texts of `sim` have the same rows, whatever their edges are.
+fn have_same_rows(first: &str, second: &str) -> bool {
+    match (first.split_once("edges"), second.split_once("edges")) {
+        (Some((first, _)), Some((second, _))) => first == second,
+        _ => false,
+    }
+}
+
 /// Plays a case of a file, over files of its own.
 fn play_case<S: Shelf>(
     alloc: Global,
@@ -352,43 +418,38 @@ fn run_words<S: Shelf>(
     shelf: &mut S,
     words: &[String],
 ) -> Result<Status, AllocError> {
-    let mut watchers = Vec::new(alloc);
-    let edges: Box<dyn Watcher> = Box::new(alloc, EdgeCount::new())?;
-    watchers.push(edges)?;
-    let toggles: Box<dyn Watcher> = Box::new(alloc, ToggleCount::new(alloc))?;
-    watchers.push(toggles)?;
-    run_further(alloc, shelf, words, watchers)
+    let watchers = all_watchers(alloc)?;
+    Ok(run(alloc, words, shelf, watchers, &mut Silent))
 }
 
-/// Runs it with these watchers, one of clocks, one that says a dump, and the two. It is apart from `run_words`, since each watcher
-/// that one function owns doubles the ways in which it can end.
-fn run_further<S: Shelf>(
-    alloc: Global,
-    shelf: &mut S,
-    words: &[String],
-    watchers: Vec<Box<dyn Watcher>>,
-) -> Result<Status, AllocError> {
-    let mut watchers = watchers;
-    let clocks: Box<dyn Watcher> = Box::new(alloc, ClockCount::new(alloc))?;
-    watchers.push(clocks)?;
-    let dump: Box<dyn Watcher> = Box::new(alloc, VcdWatch::new(alloc))?;
-    watchers.push(dump)?;
-    run_with_own(alloc, shelf, words, watchers)
-}
-
-/// Runs it with these watchers and, behind them, the two of a kind of their own.
-fn run_with_own<S: Shelf>(
-    alloc: Global,
-    shelf: &mut S,
-    words: &[String],
-    watchers: Vec<Box<dyn Watcher>>,
-) -> Result<Status, AllocError> {
-    let mut watchers = watchers;
+/// The program's four watchers and, behind them, the two of a kind of their own.
+fn all_watchers(alloc: Global) -> Result<Vec<Box<dyn Watcher>>, AllocError> {
+    let mut watchers = four_watchers(alloc)?;
     let highs: Box<dyn Watcher> = Box::new(alloc, Highs::new())?;
     watchers.push(highs)?;
     let few: Box<dyn Watcher> = Box::new(alloc, Highs::few())?;
     watchers.push(few)?;
-    Ok(run(alloc, words, shelf, watchers, &mut Silent))
+    Ok(watchers)
+}
+
+/// The program's four watchers.
+fn four_watchers(alloc: Global) -> Result<Vec<Box<dyn Watcher>>, AllocError> {
+    let mut watchers = two_watchers(alloc)?;
+    let clocks: Box<dyn Watcher> = Box::new(alloc, ClockCount::new(alloc))?;
+    watchers.push(clocks)?;
+    let dump: Box<dyn Watcher> = Box::new(alloc, VcdWatch::new(alloc))?;
+    watchers.push(dump)?;
+    Ok(watchers)
+}
+
+/// The program's first two. Two by two, since each watcher that one function owns doubles the ways in which it can end.
+fn two_watchers(alloc: Global) -> Result<Vec<Box<dyn Watcher>>, AllocError> {
+    let mut watchers: Vec<Box<dyn Watcher>> = Vec::new(alloc);
+    let edges: Box<dyn Watcher> = Box::new(alloc, EdgeCount::new())?;
+    watchers.push(edges)?;
+    let toggles: Box<dyn Watcher> = Box::new(alloc, ToggleCount::new(alloc))?;
+    watchers.push(toggles)?;
+    Ok(watchers)
 }
 
 /// The numbers of a list with commas.

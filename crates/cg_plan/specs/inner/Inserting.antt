@@ -7,8 +7,7 @@ use Rattle.cg_netlist.specs.declared.fault.AddFault.{AddFault}
 use Rattle.cg_netlist.specs.declared.fault.AddFault.TheVariants.{Limit as LimitFault, NoMemory}
 use Rattle.cg_machine.specs.Added.{Added, delay_limit, gate_limit}
 use Rattle.cg_machine.specs.Claims.{Literal}
-use Rattle.cg_machine.specs.Extends.{Extends}
-use Rattle.cg_machine.specs.Machine.{IsMachine, IsNet, MachineData}
+use Rattle.cg_machine.specs.Machine.{IsNet, MachineData}
 use Rattle.cg_stage_laws.specs.Effects.{delayed, own_limit}
 use Rattle.cg_stage_laws.specs.Joined.{join_all, join_all_limit}
 
@@ -32,8 +31,3 @@ abbrev pub delayed_limit : MachineData → List ℕ → Option ℕ → Option Li
 delayed_limit m nets own =
     let a = join_all m nets in
     option_or (join_all_limit m nets) (option_or (delay_limit a.machine a.net) (own_limit (delayed a) own))
-
--- a machine that has all that m has
-pub record Keeps (m n : MachineData) : Type 0 where
-  pub good : IsMachine n
-  pub extends : Extends m n

@@ -32,6 +32,7 @@ use cg_run::{Finish, Names, Output, Reader, Refusal, Role, Status, Trouble, coll
 use cg_shelf::Shelf;
 use cg_source::design::take_permitted;
 use cg_source::library::take_library;
+use cg_source::netlist::NetlistForm;
 use cg_source::stimulus::{StimulusForm, take_stimulus};
 use cg_stimulus::stimulus::Stimulus;
 use std::alloc::{AllocError, Global};
@@ -133,11 +134,11 @@ fn read_netlist(
     library: &Library,
     wanted: &Wanted,
 ) -> Result<Netlist, Trouble>
-    ensures { Answers (permitted gateable library.now None wanted.now (lines_text size)) result }
+    ensures { Answers (permitted gateable NetlistForm.Blif library.now None wanted.now (lines_text size)) result }
 {
     let text = Seq::from_vec(generated(alloc, size)?);
     let options = BlifOptions { clock: None };
-    take_permitted(alloc, &text, library, &options, wanted)
+    take_permitted(alloc, NetlistForm::Blif, &text, library, &options, wanted)
 }
 
 /// Reads the stimulus.

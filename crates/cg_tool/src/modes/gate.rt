@@ -6,17 +6,17 @@ ghost use Rattle.cg_gate.specs.Gating.{GivesGated};
 ghost use Rattle.cg_gate.specs.Headline.{Headline};
 ghost use Rattle.cg_gate.specs.Request.{MayGate};
 ghost use Rattle.cg_gate.specs.Stops.{GatingMayFail, gating_stop};
+ghost use Rattle.cg_command_line.specs.Options.{NamesTest};
 ghost use Rattle.cg_run.specs.Names.{name_of};
 ghost use Rattle.cg_run.specs.Promise.{FinishBy};
 ghost use Rattle.cg_run.specs.Reads.{Gave, Reads};
 ghost use Rattle.cg_run.specs.Run.{Runs};
-ghost use Rattle.cg_run.specs.Verdict.{Answers, Concludes};
+ghost use Rattle.cg_run.specs.Verdict.{Concludes};
 ghost use Rattle.cg_source.specs.Design.{design_loads, design_of};
 ghost use Rattle.cg_source.specs.Stimulus.{is_loaded};
 ghost use Rattle.cg_tool.specs.Gate.{GatesAs, MayBeGated, design_gives, design_stops, gate_gives, gate_output, gate_start, gate_stops};
-ghost use Rattle.cg_tool.specs.Gate.{gate_takes, gate_task, gate_trouble, hints_asked, sources_asked, stimulus_asked, text_for};
+ghost use Rattle.cg_tool.specs.Gate.{gate_takes, gate_task, gate_trouble, text_for};
 ghost use Rattle.cg_tool.specs.Gated.{IsGated};
-ghost use Rattle.cg_tool.specs.Wanted.{wants_hints};
 
 use crate::modes::wanted::Wanted;
 use cg_command_line::Options;
@@ -24,7 +24,6 @@ use cg_gate::fault::GateFault;
 use cg_gate::gate::gate;
 use cg_gate::request::Request;
 use cg_gate::texts::Texts;
-use cg_hint_laws::hint::Hint;
 use cg_list::Seq;
 use cg_netlist::netlist::Netlist;
 use cg_plan::progress::Progress;
@@ -34,21 +33,9 @@ use cg_run::{
 };
 use cg_shelf::Shelf;
 use cg_source::design::{Design, DesignFiles, design_files};
-use cg_source::hints::take_hints;
 use cg_source::refused::with_name;
-use cg_source::stimulus::{is_loaded, take_stimulus};
-use cg_stimulus::stimulus::Stimulus;
+use cg_source::stimulus::is_loaded;
 use std::alloc::{AllocError, Global};
-
-/// What is read for a netlist, where it is asked for.
-#[derive(Drop)]
-pub struct Sources {
-    /// The stimulus.
-    pub stimulus: Option<Stimulus>,
-
-    /// The hints.
-    pub hints: Option<Seq<Hint>>,
-}
 
 /// Gates the clock of a netlist, over the shelf, as the options say.
 pub fn run<S: Shelf>(
@@ -59,6 +46,7 @@ pub fn run<S: Shelf>(
     watcher: Option<Box<dyn Watcher>>,
     progress: &mut dyn Progress,
 ) -> Status
+    requires { NamesTest options }
     ensures runs { Runs (Gave S.gives) (gate_task options (option_map (λ watcher. says watcher) watcher)) (name_of names.now) (S.world shelf.old)
         (S.world shelf.new) result }
 
@@ -80,35 +68,24 @@ fn read<S: Shelf>(
     watcher: Option<Box<dyn Watcher>>,
     progress: &mut dyn Progress,
 ) -> Result<Output, Refusal>
+    requires { NamesTest options }
     ensures { Reads (Gave S.gives) gate_takes gate_stops (gate_gives (option_map (λ watcher. says watcher) watcher)) (name_of names.now) (gate_start options)
-        (design_loads (is_loaded options.asked.stimulus) (wants_hints options)) (S.world shelf.old) (S.world shelf.new) result }
+        (design_loads (is_loaded options.asked.stimulus) options.asked.hints) (S.world shelf.old) (S.world shelf.new) result }
 {
     let _ = options.prefix.bytes();
     let stimulus = is_loaded(options.asked.stimulus);
-    let hints = wants_hints(&options);
-    let files = design_files(stimulus, hints);
+    let files = design_files(stimulus, options.asked.hints);
     let found = collect(alloc, shelf, names, files, start(alloc, options))?;
     Ok(finish(alloc, found, watcher, progress)?)
-}
-
-/// Whether hints are tried: where they are asked for, and there is to be no test input.
-fn wants_hints(options: &Options) -> bool
-    ensures { result ≡ wants_hints options.now }
-{
-    options.test.is_none() && options.asked.hints
 }
 
 /// Nothing is read yet.
 fn start(alloc: Global, options: Options) -> DesignFiles<Wanted>
     ensures { result ≡ gate_start options }
 {
-    let wanted = Wanted::new(
-        options.prefix,
-        options.test,
-        options.settings,
-        options.asked,
-    );
-    DesignFiles::start(alloc, wanted, options.clock)
+    let asked = options.asked;
+    let wanted = Wanted::new(options.prefix, options.test, options.settings, asked);
+    DesignFiles::start(alloc, wanted, options.netlist, asked.stimulus)
 }
 
 /// What is put out once all files are taken.
@@ -128,7 +105,7 @@ fn finish(
     result
 }
 
-/// What is put out of a design, with the stimulus and the hints that are asked for.
+/// What is put out of a design, with the stimulus and the hints that were read for it.
 fn gate_design(
     alloc: Global,
     design: &Design<Wanted>,
@@ -138,47 +115,10 @@ fn gate_design(
     requires { MayBeGated design.now }
     ensures { Concludes (design_stops design.now) (design_gives (option_map (λ watcher. says watcher) watcher) design.now) result }
 {
-    let sources = asked_sources(alloc, design)?;
-    let stimulus = sources.stimulus.as_ref();
-    let hints = sources.hints.as_ref();
+    let stimulus = design.stimulus.as_ref();
+    let hints = design.hints.as_ref();
     let request = design.demand.request(&design.library, stimulus, hints);
     put_gated(alloc, &design.netlist, &request, watcher, progress)
-}
-
-/// The stimulus of a design, and then its hints, where they are asked for.
-fn asked_sources(alloc: Global, design: &Design<Wanted>) -> Result<Sources, Trouble>
-    ensures { Answers (sources_asked design.now) result }
-{
-    let stimulus = asked_stimulus(alloc, design)?;
-    match asked_hints(alloc, design) {
-        Ok(hints) => Ok(Sources { stimulus, hints }),
-        Err(trouble) => {
-            drop(stimulus);
-            Err(trouble)
-        }
-    }
-}
-
-/// The hints of a design, where they are asked for.
-fn asked_hints(alloc: Global, design: &Design<Wanted>) -> Result<Option<Seq<Hint>>, Trouble>
-    ensures { Answers (hints_asked design.now) result }
-{
-    if !design.demand.asked.hints {
-        return Ok(None);
-    }
-    let hints = take_hints(alloc, &design.hints, &design.netlist)?;
-    Ok(Some(hints))
-}
-
-/// The stimulus of a design, where one is asked for.
-fn asked_stimulus(alloc: Global, design: &Design<Wanted>) -> Result<Option<Stimulus>, Trouble>
-    ensures { Answers (stimulus_asked design.now) result }
-{
-    let Some(form) = design.demand.asked.stimulus else {
-        return Ok(None);
-    };
-    let stimulus = take_stimulus(alloc, form, &design.stimulus, &design.netlist)?;
-    Ok(Some(stimulus))
 }
 
 /// What is put out of a netlist, by what gating is asked for.

@@ -1,6 +1,6 @@
 //! How a netlist is to be gated.
 
-ghost use Rattle.std.specs.Prelude.{◌≡◌, ◌<◌, ◌&&◌, ◌||◌, ℕ, Some, is_none, is_some, length};
+ghost use Rattle.std.specs.Prelude.{◌≡◌, ◌<◌, ◌||◌, ℕ, Some, is_some, length};
 ghost use Rattle.std.specs.Option.{option_copied};
 ghost use Rattle.cg_gate_laws.specs.Gated.{first_gater, has_and, refused_gater};
 ghost use Rattle.cg_run.specs.Verdict.{Answers};
@@ -43,19 +43,15 @@ pub struct Wanted {
 }
 
 impl Wanted {
-    /// How a netlist is to be gated; gating cells have a test input exactly where one is named, and then no hints are tried.
+    /// How a netlist is to be gated; gating cells have a test input exactly where one is named.
     pub fn new(prefix: Name, test: Option<Name>, settings: Settings, asked: Asked) -> Wanted
         ensures { result ≡ record {
           prefix = prefix;
           test = test;
           settings = record settings { test = is_some test };
-          asked = record asked { hints = is_none test && asked.hints };
+          asked = asked;
         } }
     {
-        let asked = Asked {
-            hints: test.is_none() && asked.hints,
-            ..asked
-        };
         let settings = Settings {
             test: test.is_some(),
             ..settings

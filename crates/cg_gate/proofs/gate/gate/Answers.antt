@@ -5,7 +5,7 @@ use Rattle.cg_plan_laws.specs.Reported.{ReportedPlan}
 use Rattle.cg_plan.specs.Planning.{told}
 use Rattle.cg_gate.specs.Gating.{GivesGated, IsWritten, TellsGated}
 use Rattle.cg_gate.specs.Headline.{Headline}
-use Rattle.cg_gate.specs.Laws.{IsProper}
+use Rattle.cg_gate.specs.Proper.{IsProper}
 use Rattle.cg_gate.specs.Played.{Saying}
 use Rattle.cg_gate.specs.Request.{MayGate, RequestData, gating_of}
 use Rattle.cg_gate.specs.declared.hinting.TriedHints.{TriedHints}

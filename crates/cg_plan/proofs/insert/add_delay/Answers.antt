@@ -8,5 +8,5 @@ returns c =
     record {
       added = delay_ok m n c.args.net c.add_delay.result c.add_delay.ensures.answer c.add_delay.ensures.there;
       fault = delay_err m n c.args.net c.add_delay.result c.add_delay.ensures.answer;
-      keeps = delay_keeps m n c.args.net c.add_delay.result c.netlist-netlist.ensures.machine c.add_delay.ensures.there c.add_delay.ensures.unchanged;
+      keeps = delay_keeps m n c.args.net c.add_delay.result c.netlist-netlist.ensures.machine c.add_delay.ensures.answer c.add_delay.ensures.there c.add_delay.ensures.unchanged;
     }

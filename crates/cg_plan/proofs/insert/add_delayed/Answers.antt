@@ -13,6 +13,12 @@ returns-in-Some-clause-fault c =
     ∙ ap (own_limit (record { machine = o; net = late })) c.in-Some.is in
     subst (λ (limit : Option Limit). IfErr c.add_gate.result (MayPass limit)) (sym same) c.add_gate.ensures.fault
 
+pub returns-in_err-delayed-clause-keeps : goal.returns-in_err-delayed-clause-keeps
+returns-in_err-delayed-clause-keeps c = keeps_then c.args.machine.now c.join_all.new.machine c.add_delay.new.machine c.in_ok-joined.ensures.keeps c.in_err-delayed.ensures.keeps
+
+pub returns-in-None-clause-keeps : goal.returns-in-None-clause-keeps
+returns-in-None-clause-keeps c = keeps_then c.args.machine.now c.join_all.new.machine c.add_delay.new.machine c.in_ok-joined.ensures.keeps c.in_ok-delayed.ensures.keeps
+
 pub returns-in-Some-clause-keeps : goal.returns-in-Some-clause-keeps
 returns-in-Some-clause-keeps c =
     let m = c.args.machine.now in

@@ -8,5 +8,5 @@ returns c =
     record {
       added = gate_ok m n c.args.kind c.args.inputs.now c.add_gate.result c.add_gate.ensures.answer c.add_gate.ensures.there;
       fault = gate_err m n c.args.kind c.args.inputs.now c.add_gate.result c.add_gate.ensures.answer;
-      keeps = gate_keeps m n c.args.kind c.args.inputs.now c.add_gate.result c.netlist-netlist.ensures.machine c.add_gate.ensures.there c.add_gate.ensures.unchanged;
+      keeps = gate_keeps m n c.args.kind c.args.inputs.now c.add_gate.result c.netlist-netlist.ensures.machine c.add_gate.ensures.answer c.add_gate.ensures.there c.add_gate.ensures.unchanged;
     }

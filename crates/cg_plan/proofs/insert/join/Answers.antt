@@ -8,7 +8,7 @@ use Rattle.cg_netlist.specs.declared.fault.AddFault.{AddFault}
 use Rattle.cg_plan.specs.inner.Inserting.{MayPass}
 use Rattle.cg_stage_laws.specs.Joined.{join, join_limit}
 use Rattle.cg_machine.proofs.Extended.{net_kept}
-use Rattle.cg_plan.proofs.Adding.{gate_fits, join_on, keeps_then, limit_on, net_among, nets_at, nets_of, passes_first}
+use Rattle.cg_plan.proofs.Adding.{gate_fits, join_on, keeps_self, keeps_then, limit_on, net_among, nets_at, nets_of, passes_first}
 use Rattle.cg_plan.proofs.Adding.{passes_same}
 use Rattle.cg_plan.proofs.insert.join.Goals as goal
 
@@ -41,6 +41,14 @@ returns-in_err-net-clause-fault c =
 
 pub returns-in_err-net-clause-keeps : goal.returns-in_err-net-clause-keeps
 returns-in_err-net-clause-keeps c = keeps_then c.args.machine.now c.loop-literal.machine c.add_gate.new.machine c.loop-literal.invariant.keeps c.in_err-net.ensures.keeps
+
+pub loop-literal-init : goal.loop-literal-init
+loop-literal-init c = record {
+  left = refl;
+  limit = refl;
+  keeps = keeps_self c.args.machine.now c.args.machine.now c.netlist-netlist.ensures.machine refl;
+  is_net = c.requires.first;
+}
 
 pub loop-literal-preserved : goal.loop-literal-preserved
 loop-literal-preserved c =

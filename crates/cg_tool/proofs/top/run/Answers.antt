@@ -2,7 +2,8 @@ use Rattle.std.proofs.Common.{map}
 use Rattle.std.specs.String.{string_bytes}
 use Rattle.cg_run.specs.Reads.{Gave}
 use Rattle.cg_command_line.specs.Jobs.{job_of}
-use Rattle.cg_tool.proofs.JobsApart.{job_apart, jobs_apart}
+use Rattle.cg_command_line.proofs.NetlistForm.{job_by_name}
+use Rattle.cg_tool.proofs.JobsApart.{job_apart}
 use Rattle.cg_tool.proofs.Program.{job_checked, job_comes, job_ended, job_gains, job_gated, job_others, job_shown, job_simulated}
 use Rattle.cg_tool.proofs.Program.{job_stands, usage, usage_keeps, usage_only}
 use Rattle.cg_tool.proofs.top.run.Goals as goal
@@ -29,7 +30,8 @@ returns g c =
       others = job_others gave kinds job before after result runs;
       comes = job_comes gave kinds job before after result runs;
       gated = job_gated gave kinds job before after result runs;
-      apart = jobs_apart job (λ j is gate. job_apart called words j is gate);
+      apart = job_apart called words;
+      formed = job_by_name called words;
       simulated = job_simulated gave kinds job before after result runs;
       shown = job_shown gave kinds job before after result runs;
       checked = job_checked gave kinds job before after result runs;

@@ -14,7 +14,7 @@ returns-in-Gate g c =
 
 pub returns-in-Sim : goal.returns-in-Sim
 returns-in-Sim g c =
-    let R : Option Kind → Type 0 = λ kind. Runs (Gave g.S.Shelf.gives) (sim_task c.in-Sim.form c.args.job.options.clock kind) (name_of c.args.job.names) (g.S.Shelf.world c.args.shelf.now) (g.S.Shelf.world c.run-in-Sim.new.shelf) c.run-in-Sim.result in
+    let R : Option Kind → Type 0 = λ kind. Runs (Gave g.S.Shelf.gives) (sim_task c.in-Sim.form c.args.job.options.netlist kind) (name_of c.args.job.names) (g.S.Shelf.world c.args.shelf.now) (g.S.Shelf.world c.run-in-Sim.new.shelf) c.run-in-Sim.result in
     rw c.in-Sim.is (subst R c.chosen-watcher.ensures c.run-in-Sim.ensures.runs)
 
 pub returns-in-Lrat : goal.returns-in-Lrat

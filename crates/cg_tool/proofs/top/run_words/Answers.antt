@@ -3,9 +3,17 @@ use Rattle.std.specs.Option.{option_map}
 use Rattle.std.specs.String.{string_bytes}
 use Rattle.cg_run.specs.Reads.{Gave}
 use Rattle.cg_command_line.specs.Jobs.{JobWords, job_of, job_words}
+use Rattle.cg_command_line.proofs.TestInput.{job_names_test}
 use Rattle.cg_tool.specs.Program.{RunsWords}
 use Rattle.cg_tool.proofs.Program.{refused_words, runs_unread}
 use Rattle.cg_tool.proofs.top.run_words.Goals as goal
+
+pub run_job-requires : goal.run_job-requires
+run_job-requires g c =
+    let called = map (λ w. (goal.Watcher-dyn g (w.vtable, w.value)).called w.value) in
+    let words = map string_bytes c.args.words.now in
+    job_names_test (called c.args.watchers.items) words (job_words c.in-Ok-Some.job)
+    (ap (option_map job_words) (sym c.in-Ok-Some.field-0-is) ∙ c.in-Ok-Some.ensures ∙ ap (λ watchers. job_of (called watchers) words) c.as_slice.ensures.value)
 
 pub returns-in-Ok-Some : goal.returns-in-Ok-Some
 returns-in-Ok-Some g c =

@@ -10,7 +10,7 @@ pub returns-clause-leads : goal.returns-clause-leads
 returns-clause-leads c =
     let d = c.args.self.now in
     let e : Draft = record d { machine = c.try_stage.new.machine; certificates = c.try_stage.new.into; judge = c.try_stage.new.self } in
-    let done = c.in_ok-outcome.ensures in
+    let done = c.in_ok-outcome.ensures.tried in
     subst (Leads (λ p. try_one c.args.rules.now.library.now c.args.rules.now.settings.now p c.args.stage) d) (sym c.in_ok-keep.ensures)
     (leads_one c.args.rules.now.library.now c.args.rules.now.settings.now d e c.in_ok-number.number c.args.stage c.in_ok-outcome.outcome
     (record { count = c.in_ok-number.ensures; tells = done.outcome; machine = done.machine; stages = refl; earlier = refl; certificates = done.certificates; writable = done.writable }))
@@ -18,7 +18,7 @@ returns-clause-leads c =
 pub returns-clause-rest : goal.returns-clause-rest
 returns-clause-rest c =
     let m = c.args.self.now.machine in
-    let done = c.in_ok-outcome.ensures in
+    let done = c.in_ok-outcome.ensures.tried in
     subst (StillFit c.args.stage m) (sym (ap (λ (d : Draft). d.machine) c.in_ok-keep.ensures ∙ done.machine))
     (still_fit c.args.rules.now.library.now c.args.rules.now.settings.now m c.args.stage c.in_ok-outcome.outcome c.netlist-netlist.ensures.machine c.requires.fits done.outcome.0)
 

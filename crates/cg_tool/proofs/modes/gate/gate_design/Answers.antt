@@ -1,34 +1,28 @@
-use Rattle.std.proofs.Common.{List, Option, Result, ◌∙◌, subst, sym}
-use Rattle.std.specs.Prelude.{IsOkAnd}
+use Rattle.std.proofs.Common.{List, Option, subst, sym}
 use Rattle.std.specs.Option.{option_copied, option_map}
 use Rattle.cg_gate.specs.Request.{MayGate, RequestData}
 use Rattle.cg_gate.specs.Stops.{gating_stop}
 use Rattle.cg_hint_laws.specs.declared.hint.Hint.{Hint}
 use Rattle.cg_run.specs.Verdict.{Concludes}
-use Rattle.cg_run.specs.declared.refusal.Trouble.{Trouble}
 use Rattle.cg_stimulus.specs.Inputs.{Rows}
-use Rattle.cg_tool.specs.Gate.{GatesAs, gate_trouble, request_of, stops_with}
+use Rattle.cg_tool.specs.Gate.{GatesAs, gate_trouble}
 use Rattle.cg_tool.specs.Wanted.{request_by}
 use Rattle.cg_tool.specs.Watching.{Kind}
-use Rattle.cg_tool.specs.declared.modes.gate.Sources.{Sources}
 use Rattle.cg_tool.proofs.modes.gate.gate_design.Goals as goal
 
 pub put_gated-requires : goal.put_gated-requires
 put_gated-requires g c =
     let design = c.args.design.now in
-    let s : Sources = c.in_ok-sources.sources in
     let M : RequestData → Type 0 = λ q. MayGate q design.netlist in
-    let H : Option (List Hint) → Type 0 = λ h. M (request_by design.library design.demand s.stimulus h) in
+    let H : Option (List Hint) → Type 0 = λ h. M (request_by design.library design.demand design.stimulus h) in
     let S : Option Rows → Type 0 = λ o. M (request_by design.library design.demand o (option_copied c.as_ref-hints.result)) in
-    subst M (sym c.request-request.ensures) (subst S (sym c.as_ref-stimulus.ensures.value) (subst H (sym c.as_ref-hints.ensures.value) (c.requires s c.in_ok-sources.ensures)))
+    subst M (sym c.request-request.ensures) (subst S (sym c.as_ref-stimulus.ensures.value) (subst H (sym c.as_ref-hints.ensures.value) c.requires))
 
 pub returns : goal.returns
 returns g c =
     let design = c.args.design.now in
-    let s : Sources = c.in_ok-sources.sources in
     let kind : Option Kind = option_map (λ w. (goal.Watcher-dyn g (w.vtable, w.value)).says w.value) c.args.watcher in
     let P : RequestData → Type 0 = λ q. Concludes (option_map gate_trouble (gating_stop q design.netlist)) (GatesAs kind q design.netlist) c.put_gated.result in
     let S : Option Rows → Type 0 = λ o. P (request_by design.library design.demand o (option_copied c.as_ref-hints.result)) in
-    let H : Option (List Hint) → Type 0 = λ h. P (request_by design.library design.demand s.stimulus h) in
-    let A : Result Sources Trouble → Type 0 = λ asked. Concludes (stops_with design asked) (λ output. IsOkAnd asked (λ s. GatesAs kind (request_of design s) design.netlist output)) c.put_gated.result in
-    subst A (sym c.in_ok-sources.ensures) (subst H c.as_ref-hints.ensures.value (subst S c.as_ref-stimulus.ensures.value (subst P c.request-request.ensures c.put_gated.ensures)))
+    let H : Option (List Hint) → Type 0 = λ h. P (request_by design.library design.demand design.stimulus h) in
+    subst H c.as_ref-hints.ensures.value (subst S c.as_ref-stimulus.ensures.value (subst P c.request-request.ensures c.put_gated.ensures))

@@ -8,7 +8,6 @@ use Rattle.cg_run.proofs.Halves.{reads_concluded, reads_refused}
 use Rattle.cg_source.specs.Stimulus.{is_loaded}
 use Rattle.cg_source.specs.Design.{design_loads}
 use Rattle.cg_source.specs.declared.design.DesignFiles.{DesignFiles}
-use Rattle.cg_tool.specs.Wanted.{wants_hints}
 use Rattle.cg_tool.specs.Gate.{gate_gives, gate_start, gate_stops, gate_takes}
 use Rattle.cg_tool.specs.Watching.{Kind}
 use Rattle.cg_tool.specs.declared.modes.wanted.Wanted.{Wanted}
@@ -22,25 +21,25 @@ returns-in_err-found g c =
     let gave = Gave g.S.Shelf.gives in
     let names = name_of c.args.names.now in
     let options = c.args.options in
-    let files = design_loads (is_loaded options.asked.stimulus) (wants_hints options) in
+    let files = design_loads (is_loaded options.asked.stimulus) options.asked.hints in
     let before = g.S.Shelf.world c.args.shelf.now in
     let after = g.S.Shelf.world c.collect.new.shelf in
     let C : DesignFiles Wanted → Type 0 = λ start. Collects gave gate_takes names start c.design_files-files.result.now before after (Err c.in_err-found.field-0.0) in
     let L : List Role → Type 0 = λ files. Collects gave gate_takes names (gate_start options) files before after (Err c.in_err-found.field-0.0) in
-    rw (p.1, p.2) (reads_refused gave gate_takes gate_stops (gate_gives kind) names (gate_start options) files before after c.in_err-found.field-0.0 (subst L (c.design_files-files.ensures.files ∙ (ap (λ b. design_loads b c.wants_hints-hints.result) c.is_loaded-stimulus.ensures ∙ ap (design_loads (is_loaded options.asked.stimulus)) c.wants_hints-hints.ensures)) (subst C c.start.ensures c.in_err-found.ensures)))
+    rw (p.1, p.2) (reads_refused gave gate_takes gate_stops (gate_gives kind) names (gate_start options) files before after c.in_err-found.field-0.0 (subst L (c.design_files-files.ensures.files ∙ ap (λ b. design_loads b options.asked.hints) c.is_loaded-stimulus.ensures) (subst C c.start.ensures c.in_err-found.ensures)))
 
 pub finish-requires : goal.finish-requires
 finish-requires g c =
     let gave = Gave g.S.Shelf.gives in
     let names = name_of c.args.names.now in
     let options = c.args.options in
-    let files = design_loads (is_loaded options.asked.stimulus) (wants_hints options) in
+    let files = design_loads (is_loaded options.asked.stimulus) options.asked.hints in
     let before = g.S.Shelf.world c.args.shelf.now in
     let after = g.S.Shelf.world c.collect.new.shelf in
     let C : DesignFiles Wanted → Type 0 = λ start. Collects gave gate_takes names start c.design_files-files.result.now before after (Ok c.in_ok-found.found) in
     let L : List Role → Type 0 = λ files. Collects gave gate_takes names (gate_start options) files before after (Ok c.in_ok-found.found) in
-    let collects = subst L (c.design_files-files.ensures.files ∙ (ap (λ b. design_loads b c.wants_hints-hints.result) c.is_loaded-stimulus.ensures ∙ ap (design_loads (is_loaded options.asked.stimulus)) c.wants_hints-hints.ensures)) (subst C c.start.ensures c.in_ok-found.ensures) in
-    read_may options collects.given c.in_ok-found.found c.bytes.ensures.name collects.cause
+    let collects = subst L (c.design_files-files.ensures.files ∙ ap (λ b. design_loads b options.asked.hints) c.is_loaded-stimulus.ensures) (subst C c.start.ensures c.in_ok-found.ensures) in
+    read_may options collects.given c.in_ok-found.found c.bytes.ensures.name c.requires collects.cause
 
 pub returns-in_err-finish : goal.returns-in_err-finish
 returns-in_err-finish g c =
@@ -49,12 +48,12 @@ returns-in_err-finish g c =
     let gave = Gave g.S.Shelf.gives in
     let names = name_of c.args.names.now in
     let options = c.args.options in
-    let files = design_loads (is_loaded options.asked.stimulus) (wants_hints options) in
+    let files = design_loads (is_loaded options.asked.stimulus) options.asked.hints in
     let before = g.S.Shelf.world c.args.shelf.now in
     let after = g.S.Shelf.world c.collect.new.shelf in
     let C : DesignFiles Wanted → Type 0 = λ start. Collects gave gate_takes names start c.design_files-files.result.now before after (Ok c.in_ok-found.found) in
     let L : List Role → Type 0 = λ files. Collects gave gate_takes names (gate_start options) files before after (Ok c.in_ok-found.found) in
-    rw (p.1, p.2) (reads_concluded gave gate_takes gate_stops (gate_gives kind) names (gate_start options) files before after c.in_ok-found.found (Err c.in_err-finish.field-0.0) (subst L (c.design_files-files.ensures.files ∙ (ap (λ b. design_loads b c.wants_hints-hints.result) c.is_loaded-stimulus.ensures ∙ ap (design_loads (is_loaded options.asked.stimulus)) c.wants_hints-hints.ensures)) (subst C c.start.ensures c.in_ok-found.ensures)) c.in_err-finish.ensures)
+    rw (p.1, p.2) (reads_concluded gave gate_takes gate_stops (gate_gives kind) names (gate_start options) files before after c.in_ok-found.found (Err c.in_err-finish.field-0.0) (subst L (c.design_files-files.ensures.files ∙ ap (λ b. design_loads b options.asked.hints) c.is_loaded-stimulus.ensures) (subst C c.start.ensures c.in_ok-found.ensures)) c.in_err-finish.ensures)
 
 pub returns : goal.returns
 returns g c =
@@ -62,9 +61,9 @@ returns g c =
     let gave = Gave g.S.Shelf.gives in
     let names = name_of c.args.names.now in
     let options = c.args.options in
-    let files = design_loads (is_loaded options.asked.stimulus) (wants_hints options) in
+    let files = design_loads (is_loaded options.asked.stimulus) options.asked.hints in
     let before = g.S.Shelf.world c.args.shelf.now in
     let after = g.S.Shelf.world c.collect.new.shelf in
     let C : DesignFiles Wanted → Type 0 = λ start. Collects gave gate_takes names start c.design_files-files.result.now before after (Ok c.in_ok-found.found) in
     let L : List Role → Type 0 = λ files. Collects gave gate_takes names (gate_start options) files before after (Ok c.in_ok-found.found) in
-    reads_concluded gave gate_takes gate_stops (gate_gives kind) names (gate_start options) files before after c.in_ok-found.found (Ok c.in_ok-finish.field-0) (subst L (c.design_files-files.ensures.files ∙ (ap (λ b. design_loads b c.wants_hints-hints.result) c.is_loaded-stimulus.ensures ∙ ap (design_loads (is_loaded options.asked.stimulus)) c.wants_hints-hints.ensures)) (subst C c.start.ensures c.in_ok-found.ensures)) c.in_ok-finish.ensures
+    reads_concluded gave gate_takes gate_stops (gate_gives kind) names (gate_start options) files before after c.in_ok-found.found (Ok c.in_ok-finish.field-0) (subst L (c.design_files-files.ensures.files ∙ ap (λ b. design_loads b options.asked.hints) c.is_loaded-stimulus.ensures) (subst C c.start.ensures c.in_ok-found.ensures)) c.in_ok-finish.ensures

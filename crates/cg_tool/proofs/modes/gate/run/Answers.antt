@@ -8,7 +8,6 @@ use Rattle.cg_run.proofs.Halves.{runs_of_halves}
 use Rattle.cg_run.proofs.Voice.{ended}
 use Rattle.cg_source.specs.Stimulus.{is_loaded}
 use Rattle.cg_source.specs.Design.{design_loads}
-use Rattle.cg_tool.specs.Wanted.{wants_hints}
 use Rattle.cg_tool.specs.Gate.{gate_gives, gate_start, gate_stops, gate_takes, gate_task}
 use Rattle.cg_tool.specs.Gated.{IsGated}
 use Rattle.cg_tool.specs.Watching.{Kind}
@@ -26,7 +25,7 @@ returns g c =
     let after = g.S.Shelf.world c.put_out.new.shelf in
     let task = gate_task options kind in
     let result = c.put_out.result in
-    let runs : Runs gave task names before after result = runs_of_halves gave gate_takes gate_stops (gate_gives kind) names (gate_start options) (design_loads (is_loaded options.asked.stimulus) (wants_hints options)) before middle c.read-found.result after result c.read-found.ensures c.put_out.ensures in
+    let runs : Runs gave task names before after result = runs_of_halves gave gate_takes gate_stops (gate_gives kind) names (gate_start options) (design_loads (is_loaded options.asked.stimulus) options.asked.hints) before middle c.read-found.result after result c.read-found.ensures c.put_out.ensures in
     record {
       runs = runs;
       gated = λ t. finish_map (λ finish. Finishes task names before after finish) (IsGated options kind names before after) result (gated_means options kind names before after) (finished_so gave task names before after result (ended gave task names before after result runs) t);

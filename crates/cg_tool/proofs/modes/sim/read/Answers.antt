@@ -6,12 +6,12 @@ use Rattle.cg_run.specs.Names.{name_of}
 use Rattle.cg_run.specs.Reads.{Collects, Gave}
 use Rattle.cg_run.proofs.Halves.{reads_concluded, reads_refused}
 use Rattle.cg_source.specs.Stimulus.{has_file}
-use Rattle.cg_source.specs.Design.{any_netlist, design_loads, permits_any}
+use Rattle.cg_source.specs.Design.{design_loads}
 use Rattle.cg_source.specs.declared.design.AnyNetlist.{AnyNetlist}
 use Rattle.cg_source.specs.declared.design.DesignFiles.{DesignFiles}
-use Rattle.cg_source.proofs.DesignRead.{read_some}
 use Rattle.cg_tool.specs.Sim.{sim_gives, sim_start, sim_stops, sim_takes}
 use Rattle.cg_tool.specs.Watching.{Kind}
+use Rattle.cg_tool.proofs.SimMeans.{read_plays}
 use Rattle.cg_tool.proofs.modes.sim.read.Goals as goal
 
 pub returns-in_err-found : goal.returns-in_err-found
@@ -23,9 +23,9 @@ returns-in_err-found g c =
     let files : List Role = design_loads (has_file c.args.form) false in
     let before = g.S.Shelf.world c.args.shelf.now in
     let after = g.S.Shelf.world c.collect.new.shelf in
-    let C : DesignFiles AnyNetlist → Type 0 = λ start. Collects gave sim_takes names start c.design_files.result.now before after (Err c.in_err-found.field-0.0) in
-    let L : List Role → Type 0 = λ files. Collects gave sim_takes names (sim_start c.args.clock) files before after (Err c.in_err-found.field-0.0) in
-    rw (p.1, p.2) (reads_refused gave sim_takes (sim_stops c.args.form) (sim_gives c.args.form kind) names (sim_start c.args.clock) files before after c.in_err-found.field-0.0 (subst L (c.design_files.ensures.files ∙ ap (λ b. design_loads b false) c.has_file.ensures) (subst C c.start-start.ensures c.in_err-found.ensures)))
+    let C : DesignFiles AnyNetlist → Type 0 = λ start. Collects gave sim_takes names start c.design_files-files.result.now before after (Err c.in_err-found.field-0.0) in
+    let L : List Role → Type 0 = λ files. Collects gave sim_takes names (sim_start c.args.form c.args.options) files before after (Err c.in_err-found.field-0.0) in
+    rw (p.1, p.2) (reads_refused gave sim_takes sim_stops (sim_gives kind) names (sim_start c.args.form c.args.options) files before after c.in_err-found.field-0.0 (subst L (c.design_files-files.ensures.files ∙ ap (λ b. design_loads b false) c.has_file.ensures) (subst C c.start-start.ensures c.in_err-found.ensures)))
 
 pub returns-in_err-finish : goal.returns-in_err-finish
 returns-in_err-finish g c =
@@ -36,9 +36,9 @@ returns-in_err-finish g c =
     let files : List Role = design_loads (has_file c.args.form) false in
     let before = g.S.Shelf.world c.args.shelf.now in
     let after = g.S.Shelf.world c.collect.new.shelf in
-    let C : DesignFiles AnyNetlist → Type 0 = λ start. Collects gave sim_takes names start c.design_files.result.now before after (Ok c.in_ok-found.found) in
-    let L : List Role → Type 0 = λ files. Collects gave sim_takes names (sim_start c.args.clock) files before after (Ok c.in_ok-found.found) in
-    rw (p.1, p.2) (reads_concluded gave sim_takes (sim_stops c.args.form) (sim_gives c.args.form kind) names (sim_start c.args.clock) files before after c.in_ok-found.found (Err c.in_err-finish.field-0.0) (subst L (c.design_files.ensures.files ∙ ap (λ b. design_loads b false) c.has_file.ensures) (subst C c.start-start.ensures c.in_ok-found.ensures)) c.in_err-finish.ensures)
+    let C : DesignFiles AnyNetlist → Type 0 = λ start. Collects gave sim_takes names start c.design_files-files.result.now before after (Ok c.in_ok-found.found) in
+    let L : List Role → Type 0 = λ files. Collects gave sim_takes names (sim_start c.args.form c.args.options) files before after (Ok c.in_ok-found.found) in
+    rw (p.1, p.2) (reads_concluded gave sim_takes sim_stops (sim_gives kind) names (sim_start c.args.form c.args.options) files before after c.in_ok-found.found (Err c.in_err-finish.field-0.0) (subst L (c.design_files-files.ensures.files ∙ ap (λ b. design_loads b false) c.has_file.ensures) (subst C c.start-start.ensures c.in_ok-found.ensures)) c.in_err-finish.ensures)
 
 pub returns : goal.returns
 returns g c =
@@ -48,9 +48,9 @@ returns g c =
     let files : List Role = design_loads (has_file c.args.form) false in
     let before = g.S.Shelf.world c.args.shelf.now in
     let after = g.S.Shelf.world c.collect.new.shelf in
-    let C : DesignFiles AnyNetlist → Type 0 = λ start. Collects gave sim_takes names start c.design_files.result.now before after (Ok c.in_ok-found.found) in
-    let L : List Role → Type 0 = λ files. Collects gave sim_takes names (sim_start c.args.clock) files before after (Ok c.in_ok-found.found) in
-    reads_concluded gave sim_takes (sim_stops c.args.form) (sim_gives c.args.form kind) names (sim_start c.args.clock) files before after c.in_ok-found.found (Ok c.in_ok-finish.field-0) (subst L (c.design_files.ensures.files ∙ ap (λ b. design_loads b false) c.has_file.ensures) (subst C c.start-start.ensures c.in_ok-found.ensures)) c.in_ok-finish.ensures
+    let C : DesignFiles AnyNetlist → Type 0 = λ start. Collects gave sim_takes names start c.design_files-files.result.now before after (Ok c.in_ok-found.found) in
+    let L : List Role → Type 0 = λ files. Collects gave sim_takes names (sim_start c.args.form c.args.options) files before after (Ok c.in_ok-found.found) in
+    reads_concluded gave sim_takes sim_stops (sim_gives kind) names (sim_start c.args.form c.args.options) files before after c.in_ok-found.found (Ok c.in_ok-finish.field-0) (subst L (c.design_files-files.ensures.files ∙ ap (λ b. design_loads b false) c.has_file.ensures) (subst C c.start-start.ensures c.in_ok-found.ensures)) c.in_ok-finish.ensures
 
 pub finish-requires : goal.finish-requires
 finish-requires g c =
@@ -58,7 +58,7 @@ finish-requires g c =
     let names = name_of c.args.names.now in
     let before = g.S.Shelf.world c.args.shelf.now in
     let after = g.S.Shelf.world c.collect.new.shelf in
-    let C : DesignFiles AnyNetlist → Type 0 = λ start. Collects gave sim_takes names start c.design_files.result.now before after (Ok c.in_ok-found.found) in
-    let L : List Role → Type 0 = λ files. Collects gave sim_takes names (sim_start c.args.clock) files before after (Ok c.in_ok-found.found) in
-    let collects = subst L (c.design_files.ensures.files ∙ ap (λ b. design_loads b false) c.has_file.ensures) (subst C c.start-start.ensures c.in_ok-found.ensures) in
-    read_some permits_any any_netlist c.args.clock collects.given (has_file c.args.form) false c.in_ok-found.found collects.cause
+    let C : DesignFiles AnyNetlist → Type 0 = λ start. Collects gave sim_takes names start c.design_files-files.result.now before after (Ok c.in_ok-found.found) in
+    let L : List Role → Type 0 = λ files. Collects gave sim_takes names (sim_start c.args.form c.args.options) files before after (Ok c.in_ok-found.found) in
+    let collects = subst L (c.design_files-files.ensures.files ∙ ap (λ b. design_loads b false) c.has_file.ensures) (subst C c.start-start.ensures c.in_ok-found.ensures) in
+    read_plays c.args.form c.args.options collects.given c.in_ok-found.found collects.cause

@@ -23,10 +23,10 @@ returns g c =
     let before = g.S.Shelf.world c.args.shelf.now in
     let middle = g.S.Shelf.world c.read-found.new.shelf in
     let after = g.S.Shelf.world c.put_out.new.shelf in
-    let task = sim_task c.args.form c.args.clock kind in
+    let task = sim_task c.args.form c.args.options kind in
     let result = c.put_out.result in
-    let runs : Runs gave task names before after result = runs_of_halves gave sim_takes (sim_stops c.args.form) (sim_gives c.args.form kind) names (sim_start c.args.clock) files before middle c.read-found.result after result c.read-found.ensures c.put_out.ensures in
+    let runs : Runs gave task names before after result = runs_of_halves gave sim_takes sim_stops (sim_gives kind) names (sim_start c.args.form c.args.options) files before middle c.read-found.result after result c.read-found.ensures c.put_out.ensures in
     record {
       runs = runs;
-      simulated = λ t. finish_map (λ finish. Finishes task names before after finish) (IsSimulated c.args.form c.args.clock kind names before after) result (simulated_means c.args.form c.args.clock kind names before after) (finished_so gave task names before after result (ended gave task names before after result runs) t);
+      simulated = λ t. finish_map (λ finish. Finishes task names before after finish) (IsSimulated c.args.form c.args.options kind names before after) result (simulated_means c.args.form c.args.options kind names before after) (finished_so gave task names before after result (ended gave task names before after result runs) t);
     }

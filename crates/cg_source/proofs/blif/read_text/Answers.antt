@@ -1,5 +1,5 @@
-use Rattle.cg_source.proofs.NetlistTexts.{read_answers}
-use Rattle.cg_source.proofs.netlist.read_netlist.Goals as goal
+use Rattle.cg_source.proofs.BlifTexts.{read_answers}
+use Rattle.cg_source.proofs.blif.read_text.Goals as goal
 
 pub returns : goal.returns
 returns c =

@@ -1,0 +1,7 @@
+use Rattle.std.proofs.Common.{refl}
+use Rattle.cg_plan.proofs.Adding.{keeps_self, on_err}
+use Rattle.cg_plan.specs.Trial.{Keeps}
+use Rattle.cg_plan.proofs.judge.Judge.try_claims.Goals as goal
+
+pub returns-in_err-end-clause-kept : goal.returns-in_err-end-clause-kept
+returns-in_err-end-clause-kept c = on_err (Keeps c.args.machine.now c.args.machine.now) c.from_residual.result (keeps_self c.args.machine.now c.args.machine.now c.netlist-netlist.ensures.machine refl)

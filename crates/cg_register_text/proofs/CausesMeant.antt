@@ -52,19 +52,19 @@ module _ (library : List CellData) (settings : Settings) (counts : Option ZeroCo
       let used = bare_used w.read prefix right.extracts in
       ap (cause_by_width w.width)
       (widths_same w.began w.ended began.good ended.good (bare w.read) began.netlist ended.netlist driven used r
-          (let own = began.own in omega (arith, below, own)) (let own = ended.own in omega (arith, below, own))
-          (began_none library settings counts prefix hints w right r below no_hint no_stage stage gated)
-          (ungated library settings counts prefix hints w right r below no_hint no_stage stage gated).none)
+      (let own = began.own in omega (arith, below, own)) (let own = ended.own in omega (arith, below, own))
+      (began_none library settings counts prefix hints w right r below no_hint no_stage stage gated)
+      (ungated library settings counts prefix hints w right r below no_hint no_stage stage gated).none)
 
 pub causes_mean : CausesMean
 causes_mean library settings counts prefix hints w right r below =
     subst (Means w r) (cause_found (tried_in w) r)
     (by_parts library settings counts prefix hints w right r below (givers (tried_in w).hints r) (givers (tried_in w).stages r) (last_failed (tried_in w).hints r)
-        (last_failed (tried_in w).stages r) (is_given w.read r) (nat_lt w.width (hold_width w.began r)) refl refl refl refl refl refl)
+    (last_failed (tried_in w).stages r) (is_given w.read r) (nat_lt w.width (hold_width w.began r)) refl refl refl refl refl refl)
 
 pub widths_are_kept : WidthsAreKept
 widths_are_kept library settings counts prefix hints w right r below =
     sym (cause_found (record (tried_in w) { began = w.ended }) r)
     ∙ (same_widths library settings counts prefix hints w right r below (givers (tried_in w).hints r) (givers (tried_in w).stages r) (last_failed (tried_in w).hints r)
-        (last_failed (tried_in w).stages r) (is_given w.read r) refl refl refl refl
+    (last_failed (tried_in w).stages r) (is_given w.read r) refl refl refl refl
     ∙ cause_found (tried_in w) r)

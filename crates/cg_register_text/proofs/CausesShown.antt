@@ -35,7 +35,7 @@ none_of None is = refl
 none_of (Some x) is = absurd (both_ways true is refl)
 
 some_of : (o : Option ℕ) → is_some o ≡ true → (x : ℕ) × (o ≡ Some x)
-some_of None is = absurd (both_ways true refl (sym is))
+some_of None is = absurd (both_ways false refl is)
 some_of (Some x) is = (x, refl)
 
 module _ (library : List CellData) (settings : Settings) (counts : Option ZeroCounts) (prefix : List ℕ) (hints : List Hint) (w : Course) (right : IsRightCourse library settings counts prefix hints w) (r : ℕ) (below : r < length w.read.registers) where

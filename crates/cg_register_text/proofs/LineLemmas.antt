@@ -1,6 +1,7 @@
 -- Lines that are written piece by piece.
-use Rattle.std.proofs.Common.{◌≡◌, ℕ, zero, suc, ◌+◌, ◌-◌, ◌<◌, List, [], ◌∷◌, ◌++◌, length, map, refl, sym, ap, ◌∙◌, arith, append_assoc, append-nil, add-one}
+use Rattle.std.proofs.Common.{◌≡◌, ℕ, zero, suc, ◌+◌, ◌-◌, ◌<◌, List, [], ◌∷◌, ◌++◌, length, map, slice_get, Some, refl, sym, ap, ◌∙◌, arith, append_assoc, append-nil, add-one}
 use Rattle.std.specs.Fmt.{decimal}
+use Rattle.std.specs.Prelude.{codes}
 use Rattle.std.specs.List.{range_with_len}
 use Rattle.cg_plan_text.specs.Words.{Word}
 use Rattle.cg_plan_text.specs.inner.Spaced.{spaced}
@@ -16,6 +17,14 @@ numbers_some word (number ∷ numbers) some = refl
 pub numbers_none : (word : Word) (numbers : List ℕ) → length numbers ≡ 0 → spaced (numbers_words word numbers) ≡ []
 numbers_none word [] none = refl
 numbers_none word (number ∷ numbers) none = absurd (omega (arith, none))
+
+-- what was tried, its number, and what came of it
+pub tried_pieces : (text word : List ℕ) (number : ℕ) (words : List Word) → (((text ++ 32 ∷ codes "tried") ++ 32 ∷ word) ++ 32 ∷ decimal number) ++ spaced words ≡ text ++ spaced (codes "tried" ∷ word ∷ decimal number ∷ words)
+tried_pieces text word number words =
+    let a : List ℕ = 32 ∷ codes "tried" in
+    let b : List ℕ = 32 ∷ word in
+    let d : List ℕ = 32 ∷ decimal number in
+    append_assoc ((text ++ a) ++ b) d (spaced words) ∙ (append_assoc (text ++ a) b (d ++ spaced words) ∙ append_assoc text a (b ++ (d ++ spaced words)))
 
 -- the lines that are left at a number
 range_on : (s n : ℕ) → s < n → range_with_len s (n - s) ≡ s ∷ range_with_len (s + 1) (n - (s + 1))
@@ -37,6 +46,15 @@ range_end {A} f s (suc n) =
 
 pub range_more : {A : Type 0} (f : ℕ → A) (n : ℕ) → map f (range_with_len 0 (n + 1)) ≡ map f (range_with_len 0 n) ++ f n ∷ []
 range_more f n = ap (λ k. map f (range_with_len 0 k)) (let e : n + 1 ≡ suc n = omega arith in e) ∙ (range_end f 0 n ∙ ap (λ k. map f (range_with_len 0 n) ++ f k ∷ []) (let e : 0 + n ≡ n = omega arith in e))
+
+-- what stands at a number
+range_get : {A : Type 0} (f : ℕ → A) (s n k : ℕ) → k < n → slice_get (map f (range_with_len s n)) k ≡ Some (f (s + k))
+range_get f s zero k below = absurd (omega (arith, below))
+range_get f s (suc n) zero below = ap (λ j. Some (f j)) (let e : s ≡ s + 0 = omega arith in e)
+range_get f s (suc n) (suc k) below = range_get f (s + 1) n k (omega (arith, below)) ∙ ap (λ j. Some (f j)) (let e : s + 1 + k ≡ s + suc k = omega arith in e)
+
+pub range_at : {A : Type 0} (f : ℕ → A) (n k : ℕ) → k < n → slice_get (map f (range_with_len 0 n)) k ≡ Some (f k)
+range_at f n k below = range_get f 0 n k below ∙ ap (λ j. Some (f j)) (let e : 0 + k ≡ k = omega arith in e)
 
 pub ruleset pieces = (spaced-append, append_assoc, append-nil)
 

@@ -219,6 +219,6 @@ widths_same m n good fine c own mine driven used r low under free none =
     let test : ℕ → Bool = λ y. is_in (before_nets m (held_question r)) y in
     let same : (y : ℕ) → is_in (before_nets n (held_question r)) y ≡ is_in (before_nets m (held_question r)) y =
     λ y. same_bools (is_in (before_nets n (held_question r)) y) (is_in (before_nets m (held_question r)) y)
-        (λ h. own_reached m good c own driven used r low free y (reached_own n fine c mine driven used r under none y h).0)
-        (λ h. own_reached n fine c mine driven used r under none y (reached_own m good c own driven used r low free y h).0) in
+    (λ h. own_reached m good c own driven used r low free y (reached_own n fine c mine driven used r under none y h).0)
+    (λ h. own_reached n fine c mine driven used r under none y (reached_own m good c own driven used r low free y h).0) in
     width_own n fine c mine driven used r under none test same ∙ sym (width_own m good c own driven used r low free test (λ y. refl))

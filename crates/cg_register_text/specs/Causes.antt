@@ -1,5 +1,5 @@
 -- Why a register of a netlist is gated, or why it is not: the first cause that applies.
-use Rattle.std.specs.Prelude.{ℕ, Bool, not, ◌&&◌, ◌||◌, if◌then◌else◌, List, length, map, nat_lt, slice_get, unwrap_or, Option, None, Some}
+use Rattle.std.specs.Prelude.{ℕ, Bool, false, not, ◌&&◌, ◌||◌, if◌then◌else◌, List, length, map, nat_lt, slice_get, unwrap_or, Option, None, Some}
 use Rattle.std.specs.List.{list_any, range_with_len}
 use Rattle.std.specs.Option.{option_map, option_map_or, option_or}
 use Rattle.cg_machine.specs.Machine.{MachineData}

@@ -113,12 +113,16 @@ abbrev pub all_edges : Option BothRises → List Word
 all_edges None = []
 all_edges (Some rises) = edges_words (sum rises.original) (sum rises.written)
 
+-- how many registers have a cause of each kind
+abbrev pub kinds_words : List Cause → List Word
+kinds_words found =
+    codes "gated" ∷ decimal (count_by is_gated found) ∷ codes "given" ∷ decimal (count_by is_given found) ∷ codes "tried"
+    ∷ decimal (count_by is_tried found) ∷ codes "wide" ∷ decimal (count_by is_wide found) ∷ codes "free"
+    ∷ decimal (count_by is_free found) ∷ []
+
 -- the line of the sums
 abbrev pub sums_words : List Cause → Option BothRises → List Word
-sums_words found rises =
-    codes "registers" ∷ decimal (length found) ∷ codes "gated" ∷ decimal (count_by is_gated found) ∷ codes "given"
-    ∷ decimal (count_by is_given found) ∷ codes "tried" ∷ decimal (count_by is_tried found) ∷ codes "wide"
-    ∷ decimal (count_by is_wide found) ∷ codes "free" ∷ decimal (count_by is_free found) ∷ all_edges rises
+sums_words found rises = codes "registers" ∷ decimal (length found) ∷ (kinds_words found ++ all_edges rises)
 
 -- the text: a line for each register of the netlist that was read, in register order, and one of the sums
 abbrev pub registers_text : GatedData → Option BothRises → List ℕ

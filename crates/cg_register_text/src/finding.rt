@@ -7,7 +7,7 @@ ghost use Rattle.cg_register_text.specs.Words.{tried_of};
 ghost use Rattle.cg_register_text.specs.inner.Finding.{AreTables, IsToldOf, cause_seen, cause_by_width};
 
 use crate::cause::Cause;
-use crate::seen::{Seen, seen_in_hints, seen_in_stages};
+use crate::seen::{Seen, seen_at, seen_in_hints, seen_in_stages};
 use crate::told::Told;
 use crate::width::hold_width;
 use cg_claim_reach::reached::Reacher;
@@ -23,7 +23,7 @@ pub(crate) struct Tables {
 }
 
 /// What was tried for the registers of a netlist.
-pub(crate) fn tables(alloc: Global, told: &Told<'_>) -> Result<Tables, AllocError>
+pub(crate) fn tables_of(alloc: Global, told: &Told<'_>) -> Result<Tables, AllocError>
     requires { IsToldOf told.now }
     ensures { IfOk result (AreTables told.now) }
 {
@@ -64,10 +64,10 @@ fn cause(
     requires register { reg < length told.now.read.registers }
     ensures { IfOk result (λ cause. cause ≡ cause_of (tried_of told.now) reg) }
 {
-    let place = reg.number() as usize;
+    let hints = seen_at(&tables.hints, reg);
+    let stages = seen_at(&tables.stages, reg);
     let given = is_given(told.read, reg);
-    let seen = cause_seen(&tables.hints[place], &tables.stages[place], given);
-    match seen {
+    match cause_seen(hints, stages, given) {
         Some(cause) => Ok(cause),
         None => measured(told, reacher, reg),
     }

@@ -14,6 +14,7 @@ use crate::cause::Cause;
 use crate::finding::Tables;
 use crate::outcome::{push_hint_end, push_stage_end};
 use crate::rises::BothRises;
+use crate::seen::seen_at;
 use crate::told::Told;
 use cg_machine::machine::Machine;
 use cg_net::id::RegId;
@@ -102,10 +103,11 @@ fn push_gated(
     requires register { reg < length told.now.read.registers }
     ensures { OnOk result (text.new.items ≡ text.old.items ++ spaced (cause_words told.now reg Cause.Gated)) }
 {
-    let place = reg.number() as usize;
+    let hints = seen_at(&tables.hints, reg);
+    let stages = seen_at(&tables.stages, reg);
     push_word(text, b"gated")?;
-    push_numbers(text, b"hint", tables.hints[place].givers.as_slice())?;
-    push_numbers(text, b"stage", tables.stages[place].givers.as_slice())
+    push_numbers(text, b"hint", hints.givers.as_slice())?;
+    push_numbers(text, b"stage", stages.givers.as_slice())
 }
 
 /// Puts numbers behind a text and a word, where there are some.
@@ -131,12 +133,15 @@ fn push_tried_stage(text: &mut Vec<u8>, told: &Told<'_>, number: u64) -> Result<
     push_word(text, b"tried")?;
     push_word(text, b"stage")?;
     push_count(text, number)?;
-    match told
-        .plan
-        .stages
-        .as_slice()
-        .get(number.saturating_sub(1) as usize)
-    {
+    push_stage_outcome(text, told, number)
+}
+
+/// Puts what came of the stage of a number behind a text, and nothing where there is no such stage.
+fn push_stage_outcome(text: &mut Vec<u8>, told: &Told<'_>, number: u64) -> Result<(), AllocError>
+    ensures { OnOk result (text.new.items ≡ text.old.items ++ spaced (stage_outcome told.now number)) }
+{
+    let stages = told.plan.stages.as_slice();
+    match stages.get(number.saturating_sub(1) as usize) {
         Some(tried) => push_stage_end(text, &told.plan.machine, &tried.1),
         None => Ok(()),
     }
@@ -150,6 +155,13 @@ fn push_tried_hint(text: &mut Vec<u8>, told: &Told<'_>, number: u64) -> Result<(
     push_word(text, b"tried")?;
     push_word(text, b"hint")?;
     push_count(text, number)?;
+    push_hint_outcome(text, told, number)
+}
+
+/// Puts what came of the hint of a number behind a text, and nothing where there is no such hint.
+fn push_hint_outcome(text: &mut Vec<u8>, told: &Told<'_>, number: u64) -> Result<(), AllocError>
+    ensures { OnOk result (text.new.items ≡ text.old.items ++ spaced (hint_outcome told.now number)) }
+{
     match told.outcomes.get(number.saturating_sub(1) as usize) {
         Some(outcome) => push_hint_end(text, &told.plan.machine, outcome),
         None => Ok(()),

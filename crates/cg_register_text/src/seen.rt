@@ -1,6 +1,6 @@
 //! What was tried for each register.
 
-ghost use Rattle.std.specs.Prelude.{◌≡◌, length, replicate, IfOk, OnOk};
+ghost use Rattle.std.specs.Prelude.{◌≡◌, ◌<◌, length, replicate, slice_get, IfOk, OnOk, Some};
 ghost use Rattle.cg_register_text.specs.Trials.{hint_trials, stage_trials};
 ghost use Rattle.cg_register_text.specs.inner.Seeing.{AreNoted, AreSeen, ends_with, noted, noted_at, unseen};
 
@@ -49,6 +49,14 @@ fn ends_with(numbers: &[u64], number: u64) -> bool
     }
 }
 
+/// What was tried for a register.
+pub(crate) fn seen_at(seen: &[Seen], reg: RegId) -> &Seen
+    requires { reg < length seen.now }
+    ensures { slice_get seen.now reg ≡ Some result.now }
+{
+    &seen[reg.number() as usize]
+}
+
 /// What stages were tried for each of so many registers.
 pub(crate) fn seen_in_stages(
     alloc: Global,
@@ -58,9 +66,11 @@ pub(crate) fn seen_in_stages(
     ensures { IfOk result (λ seen. AreSeen registers (stage_trials stages.now) seen.items) }
 {
     let mut seen = nothing_seen(alloc, registers)?;
-    'stages: for (place, tried) in stages.iter().enumerate() {
+    'stages: for place in 0..stages.len() {
+        let tried = &stages[place];
         let regs = tried.0.regs.as_slice();
-        note_all(&mut seen, regs, place as u64 + 1, tried.1.is_inserted())?;
+        let inserted = tried.1.is_inserted();
+        note_all(&mut seen, regs, place as u64 + 1, inserted)?;
     }
     Ok(seen)
 }

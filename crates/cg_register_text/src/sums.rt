@@ -6,7 +6,7 @@ ghost use Rattle.std.specs.Option.{option_copied};
 ghost use Rattle.cg_limit.specs.declared.TheConstants.{MOST_REGISTERS};
 ghost use Rattle.cg_plan_text.specs.inner.Spaced.{spaced};
 ghost use Rattle.cg_text.specs.Written.{line_text};
-ghost use Rattle.cg_register_text.specs.Words.{all_edges, is_free, is_gated, is_given, is_tried, is_wide, sums_words};
+ghost use Rattle.cg_register_text.specs.Words.{all_edges, is_free, is_gated, is_given, is_tried, is_wide, kinds_words, sums_words};
 ghost use Rattle.cg_register_text.specs.inner.Finding.{FewRises};
 
 use crate::cause::Cause;
@@ -27,13 +27,21 @@ pub(crate) fn push_sums(
 {
     text.extend_from_slice(b"registers")?;
     push_count(text, causes.len() as u64)?;
+    push_kinds(text, causes)?;
+    push_all_edges(text, rises)?;
+    text.extend_from_slice(b"\n")
+}
+
+/// Puts how many registers have a cause of each kind behind a text.
+#[tactic(auto, using(crate::proofs::LineLemmas::pieces))]
+fn push_kinds(text: &mut Vec<u8>, causes: &[Cause]) -> Result<(), AllocError>
+    ensures { OnOk result (text.new.items ≡ text.old.items ++ spaced (kinds_words causes.now)) }
+{
     push_sum(text, b"gated", gated(causes))?;
     push_sum(text, b"given", given(causes))?;
     push_sum(text, b"tried", tried(causes))?;
     push_sum(text, b"wide", wide(causes))?;
-    push_sum(text, b"free", free(causes))?;
-    push_all_edges(text, rises)?;
-    text.extend_from_slice(b"\n")
+    push_sum(text, b"free", free(causes))
 }
 
 /// Puts a word and a number behind a text.

@@ -9,7 +9,7 @@ ghost use Rattle.cg_register_text.specs.Words.{line_words, registers_text, tried
 ghost use Rattle.cg_register_text.specs.inner.Finding.{AreTables, FewRises, IsToldOf};
 
 use crate::cause::Cause;
-use crate::finding::{Tables, causes, tables};
+use crate::finding::{Tables, causes, tables_of};
 use crate::line::push_line;
 use crate::rises::BothRises;
 use crate::sums::push_sums;
@@ -32,7 +32,7 @@ pub fn registers_text(
     requires rises { FewRises (option_copied rises) }
     ensures { IfOk result (λ text. text.items ≡ registers_text told.now (option_copied rises.entry)) }
 {
-    let tables = tables(alloc, told)?;
+    let tables = tables_of(alloc, told)?;
     let causes = causes(alloc, told, &tables)?;
     let mut text = Vec::new(alloc);
     push_lines(&mut text, told, &tables, &causes, rises)?;

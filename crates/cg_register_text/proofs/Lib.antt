@@ -15,6 +15,7 @@ pub mod LiftedFacts
 pub mod CourseFacts
 pub mod CausesShown
 pub mod CausesMeant
+pub mod TextKept
 pub mod RisesOn
 pub mod EdgesRisen
 pub mod LineLemmas

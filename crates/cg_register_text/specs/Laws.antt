@@ -22,6 +22,8 @@ use Rattle.cg_register_text.specs.Causes.{cause_of}
 use Rattle.cg_register_text.specs.Meaning.{Course, IsCourse, Means, hint_turn_trial, tried_in, turn_trial}
 use Rattle.cg_register_text.specs.Rises.{rises_of}
 use Rattle.cg_register_text.specs.Trials.{hint_trials, stage_trials}
+use Rattle.cg_register_text.specs.Words.{GatedData, registers_text, tried_of}
+use Rattle.cg_register_text.specs.declared.rises.BothRises.{BothRises}
 
 -- the course of hints and of a plan, in which a netlist can be extracted and the hints fit its machine
 pub record IsRightCourse (library : List CellData) (settings : Settings) (counts : Option ZeroCounts) (prefix : List ℕ)
@@ -41,6 +43,12 @@ abbrev pub WidthsAreKept : Type 0
 WidthsAreKept = (library : List CellData) (settings : Settings) (counts : Option ZeroCounts) (prefix : List ℕ) (hints : List Hint)
     (w : Course) → IsRightCourse library settings counts prefix hints w → (r : ℕ) → r < length w.read.registers →
     cause_of (record (tried_in w) { began = w.ended }) r ≡ cause_of (tried_in w) r
+
+-- and the same text
+abbrev pub TextIsKept : Type 0
+TextIsKept = (library : List CellData) (settings : Settings) (counts : Option ZeroCounts) (prefix : List ℕ) (hints : List Hint)
+    (w : Course) → IsRightCourse library settings counts prefix hints w → (g : GatedData) → tried_of g ≡ tried_in w
+    → (rises : Option BothRises) → registers_text (record g { began = w.ended }) rises ≡ registers_text g rises
 
 -- stages as they are told are the trials of their turns
 abbrev pub StagesAreTold : Type 0

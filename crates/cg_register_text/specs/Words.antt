@@ -1,6 +1,6 @@
 -- The lines of the registers of a netlist that was gated, and of their sums. Registers, nets and outputs have the names that the report
 -- has for them.
-use Rattle.std.specs.Prelude.{ℕ, ◌-◌, Bool, true, false, List, [], ◌∷◌, ◌++◌, codes, length, map, slice_get, slice_index_or, sum, Option, None, Some}
+use Rattle.std.specs.Prelude.{◌≡◌, ◌≤◌, ℕ, ◌-◌, Bool, true, false, List, [], ◌∷◌, ◌++◌, codes, length, map, slice_get, slice_index_or, sum, Option, None, Some}
 use Rattle.std.specs.Fmt.{decimal}
 use Rattle.std.specs.List.{count_by, range_with_len}
 use Rattle.std.specs.Option.{option_map_or}
@@ -128,3 +128,10 @@ sums_words found rises = codes "registers" ∷ decimal (length found) ∷ (kinds
 abbrev pub registers_text : GatedData → Option BothRises → List ℕ
 registers_text g rises =
     text_of (map (line_words g rises) (range_with_len 0 (length g.read.registers)) ++ sums_words (causes_of (tried_of g)) rises ∷ [])
+
+-- The netlists and the plan's machine are of one netlist: its registers are registers of the machine and of the written netlist. There is
+-- an outcome for each hint.
+pub record IsToldOf (g : GatedData) : Type 0 where
+  pub machine : length g.read.registers ≤ length g.plan.machine.circuit.registers
+  pub written : length g.read.registers ≤ length g.written.registers
+  pub hints : length g.hints ≡ length g.outcomes

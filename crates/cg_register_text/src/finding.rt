@@ -3,8 +3,8 @@
 ghost use Rattle.std.specs.Prelude.{◌≡◌, ◌<◌, length, IfOk};
 ghost use Rattle.cg_stage_list_laws.specs.HoldList.{hold_width as hold_width_of};
 ghost use Rattle.cg_register_text.specs.Causes.{cause_of, causes_of, is_given};
-ghost use Rattle.cg_register_text.specs.Words.{tried_of};
-ghost use Rattle.cg_register_text.specs.inner.Finding.{AreTables, IsToldOf, cause_seen, cause_by_width};
+ghost use Rattle.cg_register_text.specs.Words.{IsToldOf, tried_of};
+ghost use Rattle.cg_register_text.specs.inner.Finding.{AreTables, cause_seen, cause_by_width};
 
 use crate::cause::Cause;
 use crate::seen::{Seen, seen_at, seen_in_hints, seen_in_stages};

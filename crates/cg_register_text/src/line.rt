@@ -6,9 +6,9 @@ ghost use Rattle.cg_plan_text.specs.Words.{register_word};
 ghost use Rattle.cg_plan_text.specs.inner.Spaced.{spaced};
 ghost use Rattle.cg_text.specs.Written.{line_text};
 ghost use Rattle.cg_register_text.specs.Causes.{cause_of};
-ghost use Rattle.cg_register_text.specs.Words.{cause_words, clock_word, edges_words, hint_outcome, line_words, numbers_words};
+ghost use Rattle.cg_register_text.specs.Words.{IsToldOf, cause_words, clock_word, edges_words, hint_outcome, line_words, numbers_words};
 ghost use Rattle.cg_register_text.specs.Words.{register_edges, stage_outcome, tried_of};
-ghost use Rattle.cg_register_text.specs.inner.Finding.{AreTables, IsToldOf};
+ghost use Rattle.cg_register_text.specs.inner.Finding.{AreTables};
 
 use crate::cause::Cause;
 use crate::finding::Tables;

@@ -1,14 +1,15 @@
 //! How often each register of a netlist rises where a stimulus is played on it.
 
-ghost use Rattle.std.specs.Prelude.{◌≡◌, ◌≤◌, ◌<◌, ◌*◌, ◌∷◌, List, length, replicate, IfOk};
+ghost use Rattle.std.specs.Prelude.{◌≡◌, ◌≤◌, ◌<◌, ◌*◌, ◌∷◌, List, length, replicate, IfOk, Some};
 ghost use Rattle.std.specs.List.{All};
-ghost use Rattle.cg_limit.specs.declared.TheConstants.{MOST_ROWS};
+ghost use Rattle.std.specs.Option.{option_copied};
+ghost use Rattle.cg_limit.specs.declared.TheConstants.{MOST_REGISTERS, MOST_ROWS};
 ghost use Rattle.cg_netlist.specs.History.{Moment, Tick};
 ghost use Rattle.cg_netlist.specs.Moment.{zip_with};
 ghost use Rattle.cg_report.specs.inner.RowByRow.{HasRow};
-ghost use Rattle.cg_stimulus.specs.Inputs.{IsFor};
+ghost use Rattle.cg_stimulus.specs.Inputs.{IsFor, Rows};
 ghost use Rattle.cg_stimulus.specs.Played.{IsPlayed};
-ghost use Rattle.cg_register_text.specs.Rises.{rises_of};
+ghost use Rattle.cg_register_text.specs.Rises.{AreRises, FewRises, RisesWhere, rises_of};
 ghost use Rattle.cg_register_text.specs.inner.RiseCounting.{CountsMoment, CountsRow, counted};
 
 use cg_list::Seq;
@@ -25,6 +26,48 @@ pub struct BothRises {
     pub written: Seq<u32>,
 }
 
+/// How often each register of both netlists rises where a stimulus is played on them, if there is one.
+///
+/// The data inputs of both must begin with those for which the stimulus is. They are played once each.
+pub fn both_rises(
+    alloc: Global,
+    read: &Netlist,
+    written: &Netlist,
+    stimulus: Option<&Stimulus>,
+) -> Result<Option<BothRises>, AllocError>
+    requires read { (rows : Rows) → option_copied stimulus ≡ Some rows → IsFor read.now rows }
+    requires written { (rows : Rows) → option_copied stimulus ≡ Some rows → IsFor written.now rows }
+    ensures rises { IfOk result (λ rises. RisesWhere (option_copied stimulus.entry) read.now written.now rises) }
+    ensures few { IfOk result (λ rises. FewRises rises) }
+{
+    match stimulus {
+        None => Ok(None),
+        Some(stimulus) => Ok(Some(played_rises(alloc, read, written, stimulus)?)),
+    }
+}
+
+/// How often each register of both netlists rises where a stimulus is played on them.
+fn played_rises(
+    alloc: Global,
+    read: &Netlist,
+    written: &Netlist,
+    stimulus: &Stimulus,
+) -> Result<BothRises, AllocError>
+    requires read { IsFor read.now stimulus.now }
+    requires written { IsFor written.now stimulus.now }
+    ensures rises { IfOk result (λ rises. AreRises stimulus.now.rows read.now written.now rises) }
+    ensures few { IfOk result (λ rises. FewRises (Some rises)) }
+{
+    one_played_history(read, stimulus);
+    one_played_history(written, stimulus);
+    let original = register_rises(alloc, read, stimulus)?;
+    let written = register_rises(alloc, written, stimulus)?;
+    Ok(BothRises {
+        original: Seq::from_vec(original),
+        written: Seq::from_vec(written),
+    })
+}
+
 /// For each register of a netlist, in register order, how often it rises where the rows are played on the netlist.
 ///
 /// The netlist's data inputs must begin with those for which the stimulus is.
@@ -35,6 +78,7 @@ pub fn register_rises(
 ) -> Result<Vec<u32>, AllocError>
     requires { IsFor netlist.now stimulus.now }
     ensures count { IfOk result (λ rises. length rises.items ≡ length netlist.now.registers) }
+    ensures few { IfOk result (λ rises. length rises.items ≤ MOST_REGISTERS) }
     ensures rises { IfOk result (λ rises. (history : List Moment) → IsPlayed netlist.now stimulus.now.rows history
         → rises.items ≡ rises_of netlist.now history) }
 {
@@ -50,7 +94,8 @@ pub fn register_rises(
 
 /// A zero for each register.
 fn no_rises(alloc: Global, netlist: &Netlist) -> Result<Vec<u32>, AllocError>
-    ensures { IfOk result (λ rises. rises.items ≡ replicate (length netlist.now.registers) 0) }
+    ensures few { length netlist.now.registers ≤ MOST_REGISTERS }
+    ensures zeros { IfOk result (λ rises. rises.items ≡ replicate (length netlist.now.registers) 0) }
 {
     vec![in alloc; 0; netlist.registers() as usize]
 }

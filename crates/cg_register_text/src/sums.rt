@@ -6,8 +6,8 @@ ghost use Rattle.std.specs.Option.{option_copied};
 ghost use Rattle.cg_limit.specs.declared.TheConstants.{MOST_REGISTERS};
 ghost use Rattle.cg_plan_text.specs.inner.Spaced.{spaced};
 ghost use Rattle.cg_text.specs.Written.{line_text};
+ghost use Rattle.cg_register_text.specs.Rises.{FewRises};
 ghost use Rattle.cg_register_text.specs.Words.{all_edges, is_free, is_gated, is_given, is_tried, is_wide, kinds_words, sums_words};
-ghost use Rattle.cg_register_text.specs.inner.Finding.{FewRises};
 
 use crate::cause::Cause;
 use crate::line::push_edges;

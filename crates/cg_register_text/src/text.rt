@@ -5,8 +5,9 @@ ghost use Rattle.std.specs.List.{range_with_len};
 ghost use Rattle.std.specs.Option.{option_copied};
 ghost use Rattle.cg_text.specs.Written.{text_of};
 ghost use Rattle.cg_register_text.specs.Causes.{causes_of};
-ghost use Rattle.cg_register_text.specs.Words.{line_words, registers_text, tried_of};
-ghost use Rattle.cg_register_text.specs.inner.Finding.{AreTables, FewRises, IsToldOf};
+ghost use Rattle.cg_register_text.specs.Rises.{FewRises};
+ghost use Rattle.cg_register_text.specs.Words.{IsToldOf, line_words, registers_text, tried_of};
+ghost use Rattle.cg_register_text.specs.inner.Finding.{AreTables};
 
 use crate::cause::Cause;
 use crate::finding::{Tables, causes, tables_of};

@@ -1,6 +1,5 @@
 -- How the causes of registers are found.
-use Rattle.std.specs.Prelude.{◌≡◌, ◌≤◌, ℕ, Bool, not, ◌||◌, if◌then◌else◌, List, length, nat_lt, Option, None, Some}
-use Rattle.cg_limit.specs.declared.TheConstants.{MOST_REGISTERS}
+use Rattle.std.specs.Prelude.{ℕ, Bool, not, ◌||◌, if◌then◌else◌, length, nat_lt, Option, None, Some}
 use Rattle.cg_stage_list_laws.specs.Rounds.{is_empty}
 use Rattle.cg_register_text.specs.Trials.{hint_trials, stage_trials}
 use Rattle.cg_register_text.specs.Words.{GatedData}
@@ -8,20 +7,7 @@ use Rattle.cg_register_text.specs.inner.Seeing.{AreSeen}
 use Rattle.cg_register_text.specs.declared.cause.Cause.{Cause}
 use Rattle.cg_register_text.specs.declared.cause.Cause.TheVariants.{Free, Gated, Given, Hint, Stage, Wide}
 use Rattle.cg_register_text.specs.declared.finding.Tables.{Tables}
-use Rattle.cg_register_text.specs.declared.rises.BothRises.{BothRises}
 use Rattle.cg_register_text.specs.declared.seen.Seen.{Seen}
-
--- The netlists and the plan's machine are of one netlist: its registers are registers of the machine and of the written netlist. There is
--- an outcome for each hint.
-pub record IsToldOf (g : GatedData) : Type 0 where
-  pub machine : length g.read.registers ≤ length g.plan.machine.circuit.registers
-  pub written : length g.read.registers ≤ length g.written.registers
-  pub hints : length g.hints ≡ length g.outcomes
-
--- there are no more numbers than registers that a netlist may have
-abbrev pub FewRises : Option BothRises → Type 0
-FewRises None = Unit {0}
-FewRises (Some rises) = (length rises.original ≤ MOST_REGISTERS) × (length rises.written ≤ MOST_REGISTERS)
 
 -- what was tried for each register of the netlist that was read
 pub record AreTables (g : GatedData) (tables : Tables) : Type 0 where

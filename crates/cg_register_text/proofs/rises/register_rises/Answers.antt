@@ -13,7 +13,7 @@ use Rattle.cg_register_text.proofs.rises.register_rises.Goals as goal
 pub rows-init : goal.rows-init
 rows-init c =
     rises_none c.args.netlist.now c.args.stimulus.now.rows c.in_ok-player.player c.in_ok-rises.rises.items (ap (λ s. s.circuit) c.in_ok-player.ensures.simulated) c.in_ok-player.ensures.rows
-    c.in_ok-player.ensures.left c.in_ok-player.ensures.at c.in_ok-rises.ensures
+    c.in_ok-player.ensures.left c.in_ok-player.ensures.at c.in_ok-rises.ensures.zeros
 
 pub play_row-requires-clause-row : goal.play_row-requires-clause-row
 play_row-requires-clause-row c =

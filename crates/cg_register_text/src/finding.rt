@@ -73,7 +73,7 @@ fn cause(
     }
 }
 
-/// The cause of a register where nothing was tried for it.
+/// The cause of a register by what was tried for it and by whether it is on a gating cell, where these tell one.
 fn cause_seen(hints: &Seen, stages: &Seen, given: bool) -> Option<Cause>
     ensures { result ≡ cause_seen hints.now stages.now given }
 {
@@ -107,7 +107,7 @@ fn measured(told: &Told<'_>, reacher: &mut Reacher, reg: RegId) -> Result<Cause,
     }
 }
 
-/// Whether a register is on a gating cell.
+/// Whether a register is on a gating cell: each register is on the clock or on the output of one.
 fn is_given(netlist: &Netlist, reg: RegId) -> bool
     requires { reg < length netlist.now.registers }
     ensures { result ≡ is_given netlist.now reg }

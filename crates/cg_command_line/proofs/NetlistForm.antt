@@ -5,7 +5,7 @@ use Rattle.clap.specs.Words.{Text}
 use Rattle.cg_plan_laws.specs.declared.settings.Settings.{Settings}
 use Rattle.cg_source.specs.declared.stimulus.StimulusForm.{StimulusForm}
 use Rattle.cg_command_line.specs.CommandLine.{Values}
-use Rattle.cg_command_line.specs.Jobs.{IsByName, JobWords, job_of}
+use Rattle.cg_command_line.specs.Jobs.{IsByName, job_of}
 use Rattle.cg_command_line.specs.Options.{asked_in, default_prefix, form_of, gate_options_with, has_gate_options, is_apart, is_named, may_hint, may_watch}
 use Rattle.cg_command_line.specs.Options.{no_options, settings_in, sim_options_with, stimulus_in, watch_in}
 use Rattle.cg_command_line.specs.declared.options.Options.{Options}

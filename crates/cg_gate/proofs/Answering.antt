@@ -8,9 +8,8 @@ use Rattle.cg_netlist.specs.declared.fault.AddFault.{AddFault}
 use Rattle.cg_netlist.specs.declared.fault.AddFault.TheVariants.{Limit as Passed, NoMemory}
 use Rattle.cg_gate.specs.declared.hinting.TriedHints.{TriedHints}
 use Rattle.cg_plan_laws.specs.Reported.{PlanMayFail, ReportedPlan}
-use Rattle.cg_plan_text.specs.declared.summary.Played.{Played}
 use Rattle.cg_stimulus.specs.Inputs.{Rows}
-use Rattle.cg_gate.specs.Gating.{AreTexts, GivesGated, IsWritten, TellsGated}
+use Rattle.cg_gate.specs.Gating.{GivesGated, IsWritten, TellsGated}
 use Rattle.cg_gate.specs.Headline.{Headline}
 use Rattle.cg_gate.specs.Proper.{IsProper}
 use Rattle.cg_gate.specs.Played.{IsWhatPlayed, LineIs, Saying}

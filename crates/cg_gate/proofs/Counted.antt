@@ -1,7 +1,7 @@
 -- The nets of a netlist have at the low moments of the rows the bits that the nets of its machine, which come from them, have
 -- in its cycles. So the counts of a netlist's nets, carried to these, are those of the machine's nets.
 use Rattle.std.proofs.Common.{◌≡◌, ℕ, zero, suc, ◌+◌, ◌-◌, ◌<◌, ◌≤◌, Bool, true, false, not, cond, List, [], ◌∷◌, ◌++◌, map, length}
-use Rattle.std.proofs.Common.{replicate, slice_get, nat_eq, Option, None, Some, IfSome, refl, sym, ◌∙◌, ap, arith}
+use Rattle.std.proofs.Common.{replicate, slice_get, nat_eq, Option, None, Some, IfSome, refl, sym, ◌∙◌, ap}
 use Rattle.std.specs.List.{All, AllByRecursion}
 use Rattle.std.proofs.lemmas.Bool.{eq-eqb, or_left, or_right}
 use Rattle.std.proofs.lemmas.List.Sums.{sum_by-cons}

@@ -1,5 +1,5 @@
 -- Hints of a netlist that are tried on its machine: what their literals are, and what is told of them.
-use Rattle.std.proofs.Common.{◌≡◌, ℕ, suc, Bool, true, false, List, [], ◌∷◌, map, length, nat_eq, Result, Ok, Err, IfErr, refl, sym, ◌∙◌, ap}
+use Rattle.std.proofs.Common.{◌≡◌, ℕ, suc, true, List, [], ◌∷◌, map, length, nat_eq, Result, Ok, Err, IfErr, refl, sym, ◌∙◌, ap}
 use Rattle.std.specs.List.{All, AllByRecursion}
 use Rattle.std.proofs.lemmas.Bool.{eq-eqb, or_left, or_right}
 use Rattle.std.proofs.lemmas.List.{length-map}

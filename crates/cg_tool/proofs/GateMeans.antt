@@ -1,5 +1,5 @@
 -- What a finished run of `gate` means, from what its files come to.
-use Rattle.std.proofs.Common.{◌≡◌, ℕ, Bool, true, false, IsTrue, List, ◌++◌, Option, None, Some, is_some, refl, sym, ◌∙◌, ap, subst}
+use Rattle.std.proofs.Common.{◌≡◌, ℕ, Bool, true, false, IsTrue, List, ◌++◌, Option, None, Some, refl, sym, ◌∙◌, ap, subst}
 use Rattle.cg_gate.specs.Gating.{where_asked}
 use Rattle.cg_gate.specs.declared.texts.Texts.{Texts}
 use Rattle.cg_liberty.specs.LibText.{LibText}

@@ -17,7 +17,6 @@ use Rattle.cg_command_line.specs.Jobs.{JobWords, gate_files, job_of}
 use Rattle.cg_command_line.specs.Options.{are_different, asked_in, default_prefix, form_of, gate_options_with, is_apart, is_named, may_hint, may_watch}
 use Rattle.cg_command_line.specs.Options.{option_files, settings_in, sim_options, stimulus_in, watch_in}
 use Rattle.cg_command_line.specs.declared.job.Mode.TheVariants.{Gate}
-use Rattle.cg_command_line.specs.declared.options.Options.{Options}
 use Rattle.cg_command_line.proofs.EachJob.{each_job, if_taken}
 use Rattle.cg_tool.specs.Gated.{AreApart}
 

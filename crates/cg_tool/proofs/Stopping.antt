@@ -1,5 +1,5 @@
 -- What is complained of what stops gating.
-use Rattle.std.proofs.Common.{◌≡◌, Option, Err, ap}
+use Rattle.std.proofs.Common.{Option, Err, ap}
 use Rattle.std.specs.Option.{option_map}
 use Rattle.cg_gate.specs.Stops.{GatingMayFail}
 use Rattle.cg_gate.specs.declared.fault.GateFault.{GateFault}

@@ -12,7 +12,7 @@ use cg_shelf::DirShelf;
 use cg_tool::{Status, run};
 use cg_vcd::watch::VcdWatch;
 use progress_line::ProgressLine;
-use std::alloc::{AllocError, Global};
+use std::alloc::AllocError;
 use std::io::{ErrorKind, IsTerminal};
 use std::process::ExitCode;
 use std::{env, io};
@@ -36,28 +36,25 @@ fn words(rt: HostRuntime) -> io::Result<Vec<String>> {
     Ok(env::args(&rt)?.collect::<Vec<String>>(rt.alloc())?)
 }
 
-/// Runs the words over the files of the system, with the watchers that they may ask for.
+/// Runs the words, which may ask for a watcher of edges, of toggles or of clocks, or for one that says a Value Change Dump.
 fn watched(rt: HostRuntime, words: &[String]) -> Result<Status, AllocError> {
     let alloc = rt.alloc();
-    let watchers = all_watchers(alloc)?;
+    let mut watchers: Vec<Box<dyn Watcher>> = Vec::new(alloc);
+    let edges: Box<dyn Watcher> = Box::new(alloc, EdgeCount::new())?;
+    watchers.push(edges)?;
+    let toggles: Box<dyn Watcher> = Box::new(alloc, ToggleCount::new(alloc))?;
+    watchers.push(toggles)?;
+    let clocks: Box<dyn Watcher> = Box::new(alloc, ClockCount::new(alloc))?;
+    watchers.push(clocks)?;
+    let dump: Box<dyn Watcher> = Box::new(alloc, VcdWatch::new(alloc))?;
+    watchers.push(dump)?;
+    Ok(over_files(rt, words, watchers))
+}
+
+/// Runs the words with these watchers over the files of the system.
+fn over_files(rt: HostRuntime, words: &[String], watchers: Vec<Box<dyn Watcher>>) -> Status {
+    let alloc = rt.alloc();
     let mut shelf = DirShelf::new(rt, rt.stderr(), alloc);
     let mut line = ProgressLine::new(rt, rt.stderr().is_terminal());
-    Ok(run(alloc, words, &mut shelf, watchers, &mut line))
-}
-
-/// Who counts edges, toggles and the edges of each clock, and who says a Value Change Dump.
-fn all_watchers(alloc: Global) -> Result<Vec<Box<dyn Watcher>>, AllocError> {
-    let mut watchers = first_watchers(alloc)?;
-    watchers.push(Box::new(alloc, ClockCount::new(alloc))?)?;
-    watchers.push(Box::new(alloc, VcdWatch::new(alloc))?)?;
-    Ok(watchers)
-}
-
-/// Who counts edges, and who counts toggles. Two by two, since each watcher that one function owns doubles the ways in
-/// which it can end.
-fn first_watchers(alloc: Global) -> Result<Vec<Box<dyn Watcher>>, AllocError> {
-    let mut watchers: Vec<Box<dyn Watcher>> = Vec::new(alloc);
-    watchers.push(Box::new(alloc, EdgeCount::new())?)?;
-    watchers.push(Box::new(alloc, ToggleCount::new(alloc))?)?;
-    Ok(watchers)
+    run(alloc, words, &mut shelf, watchers, &mut line)
 }

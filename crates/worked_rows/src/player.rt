@@ -235,7 +235,14 @@ impl Player {
         say(folder, b"$ ", line.as_bytes())?;
         say(folder, b"\n", b"")?;
         self.bring(folder, stimulus)?;
-        let first = ["gate", library, netlist, "first.out", "--verilog", "first.v"];
+        let first = [
+            "gate",
+            library,
+            netlist,
+            "first.out",
+            "--verilog",
+            "first.v",
+        ];
         self.play_with(folder, &first, more)?;
         let twice = ["gate", library, "first.v", "twice.out", "--prefix", "h_"];
         self.play_with(folder, &twice, more)?;
@@ -412,44 +419,34 @@ fn put_words(alloc: Global, all: &mut Vec<String>, words: &[&str]) -> Result<(),
     Ok(())
 }
 
-/// Runs the program on a command line with its four watchers, and two of a kind of their own.
+/// Runs the program on a command line with its four watchers, and one of a kind of its own.
 fn run_words<S: Shelf>(
     alloc: Global,
     shelf: &mut S,
     words: &[String],
 ) -> Result<Status, AllocError> {
-    let watchers = all_watchers(alloc)?;
-    Ok(run(alloc, words, shelf, watchers, &mut Silent))
-}
-
-/// The program's four watchers and, behind them, the two of a kind of their own.
-fn all_watchers(alloc: Global) -> Result<Vec<Box<dyn Watcher>>, AllocError> {
-    let mut watchers = four_watchers(alloc)?;
-    let highs: Box<dyn Watcher> = Box::new(alloc, Highs::new())?;
-    watchers.push(highs)?;
-    let few: Box<dyn Watcher> = Box::new(alloc, Highs::few())?;
-    watchers.push(few)?;
-    Ok(watchers)
-}
-
-/// The program's four watchers.
-fn four_watchers(alloc: Global) -> Result<Vec<Box<dyn Watcher>>, AllocError> {
-    let mut watchers = two_watchers(alloc)?;
-    let clocks: Box<dyn Watcher> = Box::new(alloc, ClockCount::new(alloc))?;
-    watchers.push(clocks)?;
-    let dump: Box<dyn Watcher> = Box::new(alloc, VcdWatch::new(alloc))?;
-    watchers.push(dump)?;
-    Ok(watchers)
-}
-
-/// The program's first two. Two by two, since each watcher that one function owns doubles the ways in which it can end.
-fn two_watchers(alloc: Global) -> Result<Vec<Box<dyn Watcher>>, AllocError> {
-    let mut watchers: Vec<Box<dyn Watcher>> = Vec::new(alloc);
+    let mut watchers = Vec::new(alloc);
     let edges: Box<dyn Watcher> = Box::new(alloc, EdgeCount::new())?;
     watchers.push(edges)?;
     let toggles: Box<dyn Watcher> = Box::new(alloc, ToggleCount::new(alloc))?;
     watchers.push(toggles)?;
-    Ok(watchers)
+    let clocks: Box<dyn Watcher> = Box::new(alloc, ClockCount::new(alloc))?;
+    watchers.push(clocks)?;
+    let dump: Box<dyn Watcher> = Box::new(alloc, VcdWatch::new(alloc))?;
+    watchers.push(dump)?;
+    let own: Box<dyn Watcher> = Box::new(alloc, own_watcher(words))?;
+    watchers.push(own)?;
+    Ok(run(alloc, words, shelf, watchers, &mut Silent))
+}
+
+/// The watcher with the name `few` where the words have it, and else the one with the name `highs`.
+fn own_watcher(words: &[String]) -> Highs {
+    for word in words {
+        if word.as_str() == "few" {
+            return Highs::few();
+        }
+    }
+    Highs::new()
 }
 
 /// The numbers of a list with commas.

@@ -166,11 +166,11 @@ fn read_pipeline(alloc: Global, size: u32, wanted: &Wanted) -> Result<Pipeline, 
 }
 
 /// Gates a pipeline that was read.
-fn gate_pipeline(
+fn gate_pipeline<'a>(
     alloc: Global,
     size: u32,
-    pipeline: &Pipeline,
-    wanted: &Wanted,
+    pipeline: &'a Pipeline,
+    wanted: &'a Wanted,
     progress: &mut dyn Progress,
 ) -> Result<Output, Trouble>
     requires wanted { wanted.now ≡ demo_wanted }

@@ -1,6 +1,6 @@
 //! The mode `sim`: a stimulus is played on a netlist.
 
-ghost use Rattle.std.specs.Prelude.{IfOk, IsSomeAnd, IsTrue, None};
+ghost use Rattle.std.specs.Prelude.{false, IfOk, IsSomeAnd, IsTrue, None};
 ghost use Rattle.std.specs.Option.{option_map};
 ghost use Rattle.cg_run.specs.Names.{name_of};
 ghost use Rattle.cg_run.specs.Promise.{FinishBy};

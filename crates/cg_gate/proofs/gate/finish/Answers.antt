@@ -1,6 +1,4 @@
-use Rattle.std.proofs.Common.{◌≡◌, Option, ap, subst, sym, ◌∙◌}
-use Rattle.std.specs.Option.{option_map}
-use Rattle.cg_gate.specs.Played.{IsWhatPlayed, Saying}
+use Rattle.std.proofs.Common.{ap, sym, ◌∙◌}
 use Rattle.cg_gate.specs.Request.{RequestData}
 use Rattle.cg_gate.proofs.gate.finish.Goals as goal
 

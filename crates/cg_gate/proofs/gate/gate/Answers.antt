@@ -1,4 +1,4 @@
-use Rattle.std.proofs.Common.{◌≡◌, Option, ap, sym, ◌∙◌}
+use Rattle.std.proofs.Common.{◌≡◌, Option}
 use Rattle.std.specs.Option.{option_map}
 use Rattle.cg_netlist.specs.Circuit.{Circuit}
 use Rattle.cg_plan_laws.specs.Reported.{ReportedPlan}
@@ -10,7 +10,7 @@ use Rattle.cg_gate.specs.Played.{Saying}
 use Rattle.cg_gate.specs.Request.{MayGate, RequestData, gating_of}
 use Rattle.cg_gate.specs.declared.hinting.TriedHints.{TriedHints}
 use Rattle.cg_gate.specs.Stops.{gating_stop, verilog_stop}
-use Rattle.cg_gate.proofs.Answering.{gives_all, if_ok, means_all, plan_stops, stopped_so, text_stops, unstopped_so}
+use Rattle.cg_gate.proofs.Answering.{gives_all, if_ok, means_all, stopped_so, text_stops, unstopped_so}
 use Rattle.cg_gate.proofs.Gated.{unstopped, written_is}
 use Rattle.cg_gate.proofs.Hinted.{hints_writable, told_long}
 use Rattle.cg_hint_laws.specs.Answers.{turn_claims}

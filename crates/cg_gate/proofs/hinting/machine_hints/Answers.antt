@@ -1,4 +1,4 @@
-use Rattle.std.proofs.Common.{[], List, sym, ◌∙◌, ap, subst, unwrap_or}
+use Rattle.std.proofs.Common.{[], List, sym, subst, unwrap_or}
 use Rattle.std.specs.List.{All, AllByRecursion}
 use Rattle.std.specs.Option.{option_copied}
 use Rattle.cg_gate.proofs.hinting.machine_hints.Goals as goal

@@ -1,4 +1,4 @@
-use Rattle.std.proofs.Common.{IsTrue, Some, subst, sym}
+use Rattle.std.proofs.Common.{IsTrue, None, Some, subst, sym}
 use Rattle.std.specs.Option.{option_map}
 use Rattle.cg_cell.specs.Name.{is_name}
 use Rattle.cg_gate.specs.Request.{MayGate, RequestData, stops_at}

@@ -7,8 +7,7 @@
 //!
 //! - `delays`: the delay registers that were added, found by the net that they delay.
 //! - `gates`: the gates that were added, found by what they compute.
-//! - `prefix`: names that are taken before anything is added.
-//! - `machine`: machines, and what is added to them.
+//! - `machine`: machines, what is added to them, and names that are taken before anything is.
 //! - `cycle`: the bits of the nets in a cycle, and the next bits of the registers.
 //! - `order`: walk order.
 //! - `cone`: what nets depend on in the same cycle.
@@ -25,7 +24,6 @@ mod gates;
 pub mod laws;
 pub mod machine;
 mod order;
-pub mod prefix;
 pub mod stage;
 mod tries;
 pub mod view;

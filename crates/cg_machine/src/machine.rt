@@ -13,7 +13,7 @@ ghost use Rattle.cg_machine.specs.Added.{nets_limit, own_netlist, push_delay, pu
 ghost use Rattle.cg_machine.specs.Extends.{GateFits, HasDelay, HasGate};
 ghost use Rattle.cg_machine.specs.Gates.{HasInputs};
 ghost use Rattle.cg_machine.specs.Machine.{IsMachine, IsNet, delay_cell, enable_of};
-ghost use Rattle.cg_machine.specs.Start.{CanStart, machine_of};
+ghost use Rattle.cg_machine.specs.Start.{CanStart, first_clash, machine_of};
 ghost use Rattle.cg_machine.specs.declared.view.GateView.{GateView};
 ghost use Rattle.cg_machine.specs.View.{gate_seen};
 ghost use Rattle.cg_netlist.specs.Circuit.{RegisterCell};
@@ -328,6 +328,19 @@ impl Machine {
             Err(AddFault::Limit(Limit::Registers))
         }
     }
+}
+
+/// The first net whose name begins with the prefix, or `None` where none does. It takes no memory.
+pub fn prefix_clash(netlist: &Netlist, prefix: &Name) -> Option<NetId>
+    ensures { result ≡ first_clash prefix.now netlist.now.names }
+{
+    for number in 0..netlist.nets() {
+        let net = NetId::new(number);
+        if netlist.name(net).starts_with(prefix.bytes()) {
+            return Some(net);
+        }
+    }
+    None
 }
 
 /// No enable for each of `registers` registers.

@@ -16,7 +16,7 @@ use cg_extract::refused::first_refused;
 use cg_gate::request::Request;
 use cg_hint_laws::hint::Hint;
 use cg_list::Seq;
-use cg_machine::prefix::prefix_clash;
+use cg_machine::machine::prefix_clash;
 use cg_net::id::GateClockId;
 use cg_netlist::netlist::Netlist;
 use cg_plan_laws::settings::Settings;

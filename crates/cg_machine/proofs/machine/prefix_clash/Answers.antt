@@ -2,7 +2,7 @@ use Rattle.std.proofs.Common.{◌≡◌, ℕ, suc, ◌+◌, List, Some, nat_eq, 
 use Rattle.std.specs.List.{position_from, starts_with}
 use Rattle.cg_machine.specs.Start.{begins}
 use Rattle.cg_machine.proofs.Lists.{search_here, search_on}
-use Rattle.cg_machine.proofs.prefix.prefix_clash.Goals as goal
+use Rattle.cg_machine.proofs.machine.prefix_clash.Goals as goal
 
 pub loop-number-init : goal.loop-number-init
 loop-number-init c = refl

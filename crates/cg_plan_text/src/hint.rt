@@ -59,7 +59,7 @@ fn push_hint(
 
 /// Puts the words of what comes of a hint behind a text, each behind a space.
 #[tactic(auto, using(crate::proofs::TextLemmas::pieces))]
-fn push_hint_outcome(
+pub fn push_hint_outcome(
     text: &mut Vec<u8>,
     machine: &Machine,
     outcome: &HintOutcome,
@@ -88,7 +88,7 @@ fn push_hint_outcome(
 }
 
 /// Puts the words of a claim of a hint behind a text, each behind a space.
-fn push_hint_claim(
+pub fn push_hint_claim(
     text: &mut Vec<u8>,
     machine: &Machine,
     claim: HintClaim,

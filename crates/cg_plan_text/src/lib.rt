@@ -15,11 +15,11 @@
 //! - [`summary`]: what is said, and the report.
 #![tactic(auto)]
 
-mod claim;
-mod hint;
+pub mod claim;
+pub mod hint;
 pub mod lines;
-mod names;
-mod outcome;
+pub mod names;
+pub mod outcome;
 pub mod proof;
 mod stage;
 pub mod summary;

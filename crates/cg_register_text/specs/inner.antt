@@ -1,0 +1,3 @@
+pub mod Finding
+pub mod RiseCounting
+pub mod Seeing

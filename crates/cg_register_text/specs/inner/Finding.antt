@@ -1,0 +1,34 @@
+-- How the causes of registers are found.
+use Rattle.std.specs.Prelude.{ℕ, Bool, not, ◌||◌, if◌then◌else◌, length, nat_lt, Option, None, Some}
+use Rattle.cg_stage_list_laws.specs.Rounds.{is_empty}
+use Rattle.cg_register_text.specs.Trials.{hint_trials, stage_trials}
+use Rattle.cg_register_text.specs.Words.{GatedData}
+use Rattle.cg_register_text.specs.inner.Seeing.{AreSeen}
+use Rattle.cg_register_text.specs.declared.cause.Cause.{Cause}
+use Rattle.cg_register_text.specs.declared.cause.Cause.TheVariants.{Free, Gated, Given, Hint, Stage, Wide}
+use Rattle.cg_register_text.specs.declared.finding.Tables.{Tables}
+use Rattle.cg_register_text.specs.declared.seen.Seen.{Seen}
+
+-- what was tried for each register of the netlist that was read
+pub record AreTables (g : GatedData) (tables : Tables) : Type 0 where
+  pub hints : AreSeen (length g.read.registers) (hint_trials g.hints g.outcomes) tables.hints.items
+  pub stages : AreSeen (length g.read.registers) (stage_trials g.plan.stages) tables.stages.items
+
+-- the cause of a register for which this was tried, unless its hold claims have to be measured
+abbrev pub or_given : Bool → Option ℕ → Option Cause
+or_given given None = if given then Some Given else None
+or_given given (Some number) = Some (Stage number)
+
+abbrev pub or_hint : Option Cause → Option ℕ → Option Cause
+or_hint (Some cause) failed = Some cause
+or_hint None None = None
+or_hint None (Some number) = Some (Hint number)
+
+abbrev pub cause_seen : Seen → Seen → Bool → Option Cause
+cause_seen hints stages given =
+    if not (is_empty hints.givers) || not (is_empty stages.givers) then Some Gated
+    else or_hint (or_given given stages.failed) hints.failed
+
+-- the cause of any other
+abbrev pub cause_by_width : ℕ → ℕ → Cause
+cause_by_width most width = if nat_lt most width then Wide width else Free

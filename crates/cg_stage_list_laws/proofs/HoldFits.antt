@@ -37,7 +37,7 @@ module _ (m : MachineData) (good : IsMachine m) where
       pair : (a b : ℕ) (c d : Bool) → a ≡ b → c ≡ d → ◌≡◌ {A = ℕ × Bool} (a, c) (b, d)
       pair a b c d e f = cc
 
-  both_among : (nets : List ℕ) (l : Literal) → Among l (both_literals nets) → is_in nets l.0 ≡ true
+  pub both_among : (nets : List ℕ) (l : Literal) → Among l (both_literals nets) → is_in nets l.0 ≡ true
   both_among [] l a = absurd (among_none l a)
   both_among (y ∷ nets) l a = elim (among_cons l (y, false) ((y, true) ∷ both_literals nets) a) [
     | inl same ↦ or_left (nat_eq l.0 y) (is_in nets l.0) (eq-eqb l.0 y (sym (ap (λ (k : Literal). k.0) same)))
@@ -71,7 +71,7 @@ module _ (m : MachineData) (good : IsMachine m) where
         | inr more ↦ elim (rest more) [ inl e ↦ inl e | inr w ↦ inr (later k j ls w) ]
       ]
 
-  sorted_among : (counts : Option ZeroCounts) (ls : List Literal) (k : Literal) → Among k (by_count counts ls) → Among k ls
+  pub sorted_among : (counts : Option ZeroCounts) (ls : List Literal) (k : Literal) → Among k (by_count counts ls) → Among k ls
   sorted_among counts [] k a = a
   sorted_among counts (l ∷ ls) k a = elim (insert_among counts l (by_count counts ls) k a) [
     | inl same ↦ record { place = 0; at = ap Some same }

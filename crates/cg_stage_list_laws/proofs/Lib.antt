@@ -3,5 +3,6 @@ pub mod FitLists
 pub mod UsedNets
 pub mod Mapped
 pub mod HoldFits
+pub mod Ranked
 pub mod StableFits
 pub mod UnseenFits

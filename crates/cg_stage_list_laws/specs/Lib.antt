@@ -1,6 +1,7 @@
 pub mod Supports
 pub mod Groups
 pub mod Literals
+pub mod Ranked
 pub mod HoldList
 pub mod Rounds
 pub mod StableList

@@ -2,3 +2,4 @@ mod CellsThere
 mod MayInsert
 mod NewName
 mod Starting
+mod Fitting

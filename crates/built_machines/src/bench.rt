@@ -4,7 +4,10 @@ ghost use Rattle.std.specs.Prelude.{◌≡◌, nat_eq, true};
 ghost use Rattle.std.specs.List.{IsDistinct};
 ghost use Rattle.cg_machine.specs.Start.{CanStart};
 
+use crate::claims::claim_text;
+use crate::cycle::cycle_text;
 use crate::inserting::inserted_text;
+use crate::planning::{plan_text, try_hold};
 use crate::steps::step;
 use cg_blif::{BlifOptions, read_blif};
 use cg_cell::library::Library;
@@ -51,11 +54,24 @@ impl Bench {
                 let test = Name::new(self.alloc, test.as_bytes()).map_err(|_| ())?;
                 inserted_text(self.alloc, &self.machine, &self.library, Some(&test))
             }
+            ["cycle", state, inputs] => cycle_text(self.alloc, &self.machine, state, inputs),
+            ["try", net, register] => {
+                let end = try_hold(self.alloc, &mut self.machine, &self.library, net, register)?;
+                Vec::from_slice(self.alloc, end).map_err(|_| ())
+            }
+            ["idle", ..] | ["hold", ..] | ["stable", ..] | ["unseen", ..] => {
+                claim_text(self.alloc, &self.machine, words)
+            }
             words => {
                 let added = step(&mut self.machine, words)?;
                 self.told(added)
             }
         }
+    }
+
+    /// The lines of the plan of the machine.
+    pub fn plan(self) -> Result<Vec<u8>, ()> {
+        plan_text(self.alloc, self.machine, &self.library)
     }
 
     /// The line that tells the name of an added net.

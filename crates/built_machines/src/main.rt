@@ -1,16 +1,26 @@
 //! Builds machines step by step by their public calls, as the file `script` says line by line, and says what comes of it: the nets
-//! that are added, and the texts of the netlists that the machines are inserted as. So a stored run compares these texts.
+//! that are added, the texts of the netlists that the machines are inserted as, and what comes of calls that the program does not
+//! make. So a stored run compares these texts.
 //!
 //! - A line that is empty or begins with `#` is said as it stands, and so is each other line before what comes of it.
 //! - `machine LIB NETLIST` begins with the netlist in the file NETLIST, which is read with the library in the file LIB.
 //! - `inv A`, `and2 A B` and `or2 A B` add a gate, and `delay A` a delay register: the name of its net is said.
 //! - `enable REGISTER NET` gives the register with this output net the other net as its enable.
+//! - `cycle STATE INPUTS` says the bits of the registers after a cycle, from those before it and those of the data inputs.
+//! - `idle NET`, `hold NET REGISTER`, `stable NET REGISTER` and `unseen NET REGISTER` build a claim by itself, and say how many leaves it
+//!   has and whether it is ever violated: that the net is never 0; that the register keeps its bit where it is 0, or in the cycle after;
+//!   that the net does not show the register in the cycle after.
+//! - `try NET REGISTER` tries the hold stage of this net and this register, and says what came of it.
+//! - `plan` says the lines of the plan of the machine, which is done with.
 //! - `insert` says the text of the machine's netlist, and `insert TEST` that with a test input of this name.
 #![tactic(auto)]
 
 mod bench;
+mod claims;
+mod cycle;
 mod inserting;
 mod nets;
+mod planning;
 mod player;
 mod steps;
 

@@ -1,10 +1,11 @@
 //! The nets of a machine, by their names.
 
-ghost use Rattle.std.specs.Prelude.{◌≡◌, ◌≢◌, Some, IfOk, true};
+ghost use Rattle.std.specs.Prelude.{◌≡◌, ◌≢◌, ◌<◌, Some, IfOk, length, true};
 ghost use Rattle.cg_machine.specs.Machine.{IsNet};
 
 use cg_machine::machine::Machine;
-use cg_net::id::NetId;
+use cg_net::id::{NetId, RegId};
+use cg_netlist::driver::Driver;
 
 /// The net of a machine that has this name, where it is not the clock. That of an added net is the prefix and its place.
 pub fn net_named(machine: &Machine, name: &str) -> Result<NetId, ()>
@@ -18,6 +19,17 @@ pub fn net_named(machine: &Machine, name: &str) -> Result<NetId, ()>
             let number = machine.netlist().nets().checked_add(place).ok_or(())?;
             not_clock(machine, NetId::new(number))
         }
+    }
+}
+
+/// The register of a machine that has the net of this name as an output.
+pub fn register_named(machine: &Machine, name: &str) -> Result<RegId, ()>
+    ensures { IfOk result (λ register. register < length machine.now.circuit.registers) }
+{
+    let net = net_named(machine, name)?;
+    match machine.driver(net) {
+        Driver::Register(register, _) => Ok(register),
+        _ => Err(()),
     }
 }
 

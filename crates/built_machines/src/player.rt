@@ -31,6 +31,7 @@ impl Player {
         match words.as_slice() {
             [] | ["#", ..] => Ok(()),
             ["machine", library, netlist] => self.begin(folder, library, netlist),
+            ["plan"] => self.plan(folder),
             words => self.step(folder, words),
         }
     }
@@ -42,6 +43,17 @@ impl Player {
         let bench = Bench::new(self.alloc, library.as_slice(), netlist.as_slice())?;
         self.bench = Some(bench);
         Ok(())
+    }
+
+    /// Plans the machine, which is done with.
+    fn plan<S: Shelf>(&mut self, folder: &mut S) -> Result<(), ()> {
+        match self.bench.take() {
+            None => Err(()),
+            Some(bench) => {
+                let text = bench.plan()?;
+                say(folder, text.as_slice())
+            }
+        }
     }
 
     /// Plays a step on the machine.

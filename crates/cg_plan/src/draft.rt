@@ -1,6 +1,6 @@
 //! A plan in the making.
 
-ghost use Rattle.std.specs.Prelude.{◌≡◌, ◌+◌, length, IfOk, IfErr, MatchResult, OnOk};
+ghost use Rattle.std.specs.Prelude.{◌≡◌, ◌+◌, [], if◌then◌else◌, length, IfOk, IfErr, MatchResult, OnOk};
 ghost use Rattle.cg_stage_list_laws.specs.Fit.{AllFit};
 ghost use Rattle.cg_netlist.specs.declared.fault.AddFault.TheVariants.{NoMemory};
 ghost use Rattle.cg_plan_laws.specs.Plan.{rounds, try_all, try_one};
@@ -41,22 +41,26 @@ pub(crate) struct Draft {
     /// The same stages, as a round reads them.
     earlier: Seq<Earlier>,
 
-    /// The proofs of the claims of the inserted stages.
+    /// Whether the proofs of claims are kept.
+    proof: bool,
+
+    /// The proofs of the claims of the inserted stages, where they are kept.
     pub certificates: Vec<Certificate>,
 
     judge: Judge,
 }
 
 impl Draft {
-    /// A plan of which nothing was tried.
-    pub fn new(alloc: Global, machine: Machine) -> Draft
-        ensures { IsDraft (unbegun machine) result }
+    /// A plan of which nothing was tried, whose proofs are kept or not.
+    pub fn new(alloc: Global, machine: Machine, proof: bool) -> Draft
+        ensures { IsDraft proof (unbegun machine) result }
     {
         Draft {
             alloc,
             machine,
             stages: Seq::new(alloc),
             earlier: Seq::new(alloc),
+            proof,
             certificates: Vec::new(alloc),
             judge: Judge::new(alloc),
         }
@@ -198,8 +202,19 @@ impl Draft {
             rules,
             &mut self.certificates,
         )?;
+        self.let_go();
         self.keep(stage, outcome)?;
         Ok(())
+    }
+
+    /// Lets the proofs of claims go, unless they are kept.
+    fn let_go(&mut self)
+        ensures rest { self.new ≡ record self.old { certificates = self.new.certificates } }
+        ensures certificates { self.new.certificates.items ≡ if self.old.proof then self.old.certificates.items else [] }
+    {
+        if !self.proof {
+            self.certificates.clear();
+        }
     }
 
     /// The number of the next stage, counted from 1.

@@ -54,7 +54,7 @@ told_outcomes request outcomes = option_map (λ asked. outcomes) request.hints
 pub record AreTexts (request : RequestData) (hints : TriedHints) (told : ReportedPlan) (written : Circuit) (played : Played)
     (texts : Texts) : Type 0 where
   pub out : texts.out ≡ blif written
-  pub proof : texts.proof ≡ where_asked request.proof (proof_text told hints.certificates)
+  pub proof : texts.proof ≡ where_asked request.settings.proof (proof_text told hints.certificates)
   pub report : texts.report
       ≡ where_asked request.report (report_text told (hints_of request) hints.outcomes (length written.gaters) played)
   pub verilog : texts.verilog ≡ where_asked request.verilog (verilog written)

@@ -345,11 +345,11 @@ untested_stages : told_of (plan_of lib usual None row_test) ≡ (hold_of 6 (4 �
 unfolding is_never nets_of
 untested_stages = refl
 
-tested_stages : told_of (plan_of lib_test (record { min = 1; width = 32; rounds = 4; test = true }) None row_test) ≡ (hold_of 6 (4 ∷ []), Inserted) ∷ (hold_of 7 (3 ∷ []), Inserted) ∷ (unseen_of 2 (2 ∷ []) (1 ∷ []), Inserted) ∷ []
+tested_stages : told_of (plan_of lib_test (record { min = 1; width = 32; rounds = 4; test = true; proof = false }) None row_test) ≡ (hold_of 6 (4 ∷ []), Inserted) ∷ (hold_of 7 (3 ∷ []), Inserted) ∷ (unseen_of 2 (2 ∷ []) (1 ∷ []), Inserted) ∷ []
 unfolding is_never nets_of
 tested_stages = refl
 
 -- with a test input a gating cell without one does not serve
-no_test_cell : told_of (plan_of lib (record { min = 1; width = 32; rounds = 4; test = true }) None row_six) ≡ (hold_of 1 (0 ∷ []), NoCell TestGater) ∷ []
+no_test_cell : told_of (plan_of lib (record { min = 1; width = 32; rounds = 4; test = true; proof = false }) None row_six) ≡ (hold_of 1 (0 ∷ []), NoCell TestGater) ∷ []
 unfolding is_never nets_of
 no_test_cell = refl

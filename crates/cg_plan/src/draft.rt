@@ -4,11 +4,10 @@ ghost use Rattle.std.specs.Prelude.{◌≡◌, ◌+◌, [], if◌then◌else◌,
 ghost use Rattle.cg_stage_list_laws.specs.Fit.{AllFit};
 ghost use Rattle.cg_netlist.specs.declared.fault.AddFault.TheVariants.{NoMemory};
 ghost use Rattle.cg_plan_laws.specs.Plan.{rounds, try_all, try_one};
-ghost use Rattle.cg_plan.specs.inner.Drafting.{IsDraft, Leads, MayStop, StillFit, all_parts, kept, round_list, unbegun};
+ghost use Rattle.cg_plan.specs.inner.Drafting.{IsDraft, Leads, MayStop, StillFit, all_parts, earlier_by, kept, round_list, unbegun};
 ghost use Rattle.cg_claim_reach.specs.Fanout.{Knows};
 ghost use Rattle.cg_stage_laws.specs.Stages.{Fits};
 
-use crate::earlier::earlier_of;
 use crate::judge::{Entry, Judge};
 use crate::rules::Rules;
 use cg_claim_reach::fanout::Fanout;
@@ -238,4 +237,29 @@ impl Draft {
         self.earlier.push(earlier)?;
         self.stages.push((stage, outcome))
     }
+}
+
+/// A stage that was tried with this outcome.
+fn earlier_of(alloc: Global, stage: &Stage, outcome: &Outcome) -> Result<Earlier, AllocError>
+    ensures { IfOk result (λ earlier. earlier ≡ earlier_by stage.now outcome.now) }
+{
+    let stage = copy_of(alloc, stage)?;
+    let inserted = outcome.is_inserted();
+    Ok(Earlier { stage, inserted })
+}
+
+/// A copy of a stage.
+fn copy_of(alloc: Global, stage: &Stage) -> Result<Stage, AllocError>
+    ensures { IfOk result (λ copy. copy ≡ stage.now) }
+{
+    let enable = Vec::from_slice(alloc, stage.enable.as_slice())?;
+    let regs = Vec::from_slice(alloc, stage.regs.as_slice())?;
+    let guards = Vec::from_slice(alloc, stage.guards.as_slice())?;
+    Ok(Stage {
+        kind: stage.kind,
+        enable: Seq::from_vec(enable),
+        regs: Seq::from_vec(regs),
+        own: stage.own,
+        guards: Seq::from_vec(guards),
+    })
 }

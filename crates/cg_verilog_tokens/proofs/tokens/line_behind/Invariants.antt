@@ -1,7 +1,7 @@
 use Rattle.std.proofs.Common.{◌≡◌, ◌+◌, ◌≤◌, length, drop}
 use Rattle.cg_text.specs.Words.{lines}
-use Rattle.cg_verilog_items.specs.LinesLeft.{lines_left}
-use Rattle.cg_verilog_items.proofs.tokens.line_behind.Given as goal
+use Rattle.cg_verilog_tokens.specs.LinesLeft.{lines_left}
+use Rattle.cg_verilog_tokens.proofs.tokens.line_behind.Given as goal
 
 abbrev pub invariant-bytes : goal.invariant-bytes
 invariant-bytes l = record {

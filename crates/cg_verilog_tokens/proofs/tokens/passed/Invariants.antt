@@ -1,6 +1,6 @@
 use Rattle.std.proofs.Common.{◌≡◌, ◌+◌, ◌≤◌, ◌∷◌, take}
-use Rattle.cg_verilog_items.specs.Passing.{passed_fresh, passed_line}
-use Rattle.cg_verilog_items.proofs.tokens.passed.Given as goal
+use Rattle.cg_verilog_tokens.specs.Passing.{passed_fresh, passed_line}
+use Rattle.cg_verilog_tokens.proofs.tokens.passed.Given as goal
 
 abbrev pub invariant-bytes : goal.invariant-bytes
 invariant-bytes l = record {

@@ -3,8 +3,8 @@
 ghost use Rattle.std.specs.Prelude.{◌≡◌, ◌+◌, ◌≤◌, ◌==◌, false, length, slice_index, IfSome};
 ghost use Rattle.cg_verilog_text.specs.Lexeme.{based_length, closed, closed_by, closing_length, is_digit, is_in_number, is_in_word, is_letter};
 ghost use Rattle.cg_verilog_text.specs.Lexeme.{is_mark_byte, lexeme, run_length, skips_line};
-ghost use Rattle.cg_verilog_items.specs.PlainNames.{IsPlainName};
-ghost use Rattle.cg_verilog_items.specs.Runs.{in_run, IsWithin};
+ghost use Rattle.cg_verilog_tokens.specs.PlainNames.{IsPlainName};
+ghost use Rattle.cg_verilog_tokens.specs.Runs.{in_run, IsWithin};
 
 use cg_text::blanks::is_white_space;
 use cg_verilog_text::kind::Kind;

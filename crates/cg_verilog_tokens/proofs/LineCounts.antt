@@ -3,7 +3,7 @@ use Rattle.std.proofs.Common.{◌≡◌, ℕ, zero, suc, ◌+◌, ◌<◌, Bool,
 use Rattle.std.specs.List.{onto_first}
 use Rattle.cg_text.specs.Blanks.{is_line_feed}
 use Rattle.cg_text.specs.Words.{lines, pieces}
-use Rattle.cg_verilog_items.specs.LinesLeft.{lines_left}
+use Rattle.cg_verilog_tokens.specs.LinesLeft.{lines_left}
 
 abbrev feeds : List ℕ → List (List ℕ)
 feeds text = pieces is_line_feed text

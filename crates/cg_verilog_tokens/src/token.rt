@@ -3,7 +3,7 @@
 ghost use Rattle.std.specs.Prelude.{◌≡◌, false, true, MatchOption};
 ghost use Rattle.std.specs.List.{list_any};
 ghost use Rattle.std.specs.Str.{bytes_eq};
-ghost use Rattle.cg_verilog_items.specs.PlainNames.{IsNamedIfPlain};
+ghost use Rattle.cg_verilog_tokens.specs.PlainNames.{IsNamedIfPlain};
 ghost use Rattle.cg_verilog_text.specs.Reading.{is_arrow, is_bit, is_identifier, is_label, is_mark, is_numeral, is_plain, is_word, keywords, ones};
 
 use crate::identifier::Identifier;
@@ -27,7 +27,7 @@ pub struct Token<'a> {
 
 impl<'a> Model for Token<'a> {
     ghost use Rattle.cg_verilog_text.specs.Tokens.{Token as TokenSeen};
-    ghost use Rattle.cg_verilog_items.specs.PlainNames.{IsNamedIfPlain};
+    ghost use Rattle.cg_verilog_tokens.specs.PlainNames.{IsNamedIfPlain};
 
     ghost Value = { TokenSeen };
 

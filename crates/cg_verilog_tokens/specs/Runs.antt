@@ -4,8 +4,8 @@ use Rattle.cg_text.specs.Blanks.{is_line_feed, is_white_space}
 use Rattle.cg_verilog_text.specs.Lexeme.{is_in_number, is_in_word}
 use Rattle.cg_verilog_text.specs.declared.lexeme.Lexeme.{Lexeme}
 use Rattle.cg_verilog_text.specs.declared.lexeme.Lexeme.TheVariants.{Blank, Token, Open}
-use Rattle.cg_verilog_items.specs.declared.lexeme.Run.{Run}
-use Rattle.cg_verilog_items.specs.declared.lexeme.Run.TheVariants.{Word, Number, Escaped, Line}
+use Rattle.cg_verilog_tokens.specs.declared.lexeme.Run.{Run}
+use Rattle.cg_verilog_tokens.specs.declared.lexeme.Run.TheVariants.{Word, Number, Escaped, Line}
 
 abbrev pub in_run : Run → ℕ → Bool
 in_run Word byte = is_in_word byte

@@ -1,7 +1,7 @@
 use Rattle.std.proofs.Common.{◌∙◌, sym, ap, arith, length}
 use Rattle.std.proofs.lemmas.List.{length-drop}
-use Rattle.cg_verilog_items.proofs.TokensLeft.{blank_step, token_step}
-use Rattle.cg_verilog_items.proofs.tokens.Tokens.next.Goals as goal
+use Rattle.cg_verilog_tokens.proofs.TokensLeft.{blank_step, token_step}
+use Rattle.cg_verilog_tokens.proofs.tokens.Tokens.next.Goals as goal
 
 pub gaps-preserved : goal.gaps-preserved
 gaps-preserved c =

@@ -1,6 +1,6 @@
 use Rattle.std.proofs.Common.{◌≡◌, ◌+◌, ◌<◌, ◌^◌, length}
 use Rattle.cg_verilog_text.specs.Tokens.{tokens_from}
-use Rattle.cg_verilog_items.proofs.tokens.Tokens.next.Given as goal
+use Rattle.cg_verilog_tokens.proofs.tokens.Tokens.next.Given as goal
 
 abbrev pub invariant-gaps : goal.invariant-gaps
 invariant-gaps l = let inside = l.self-inside in record {

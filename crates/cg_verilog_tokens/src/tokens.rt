@@ -4,7 +4,7 @@ ghost use Rattle.std.specs.Prelude.{◌≡◌, ◌+◌, ◌<◌, ◌≤◌, ◌�
 ghost use Rattle.std.specs.List.{fold};
 ghost use Rattle.cg_text.specs.Lines.{end_line};
 ghost use Rattle.cg_verilog_text.specs.Tokens.{next_line, stays_fresh, token_text, tokens};
-ghost use Rattle.cg_verilog_items.specs.Passing.{passed_fresh, passed_line};
+ghost use Rattle.cg_verilog_tokens.specs.Passing.{passed_fresh, passed_line};
 
 use crate::lexeme::lexeme;
 use crate::token::Token;

@@ -4,7 +4,7 @@ use Rattle.cg_verilog_text.specs.Lexeme.{lexeme}
 use Rattle.cg_verilog_text.specs.Tokens.{Token, next_line, stays_fresh, token_text, tokens_from}
 use Rattle.cg_verilog_text.specs.declared.kind.Kind.{Kind}
 use Rattle.cg_verilog_text.specs.declared.lexeme.Lexeme.TheVariants as lexemes
-use Rattle.cg_verilog_items.specs.Passing.{passed_fresh, passed_line}
+use Rattle.cg_verilog_tokens.specs.Passing.{passed_fresh, passed_line}
 
 -- bytes that were read are as good as dropped
 pub tokens_behind : (end behind : ℕ) (fresh : Bool) (line : ℕ) (bytes : List ℕ) → tokens_from end behind fresh line bytes ≡ tokens_from end 0 (passed_fresh fresh (take behind bytes)) (passed_line line (take behind bytes)) (drop behind bytes)

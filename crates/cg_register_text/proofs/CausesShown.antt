@@ -123,6 +123,7 @@ module _ (library : List CellData) (settings : Settings) (counts : Option ZeroCo
         wide_shown wide = record {
           ungated = ungated;
           untried = λ k turn at. apart hint_turn_trial w.hints r no_hint untried k turn at;
+          measured = refl;
           above = ltb-true w.width (hold_width w.began r) wide;
           is = λ e among. hold_widths w.began good e r among;
         }

@@ -17,6 +17,7 @@ use Rattle.cg_netlist.specs.declared.fault.AddFault.{AddFault}
 use Rattle.cg_plan_laws.specs.Plan.{Turn, is_inserted, plan_of}
 use Rattle.cg_plan_laws.specs.declared.settings.Settings.{Settings}
 use Rattle.cg_stage_laws.specs.Effects.{net_by}
+use Rattle.cg_stage_list_laws.specs.HoldList.{hold_width}
 use Rattle.cg_stage_list_laws.specs.Literals.{ZeroCounts}
 use Rattle.cg_stage_list_laws.specs.Supports.{input_cone}
 use Rattle.cg_register_text.specs.Causes.{Tried}
@@ -128,10 +129,12 @@ pub record IsTriedInHint (w : Course) (number r : ℕ) : Type 0 where
   pub none : is_inserted_hint turn.outcome ≡ false
   pub last : (k : ℕ) (later : HintTurn) → slice_get w.hints (number + k) ≡ Some later → is_in later.hint.regs r ≡ false
 
--- so it is, no hint has it, and its hold claims have this many leaves, whatever literal of its cone they are for: more than a claim may
+-- so it is, no hint has it, and its hold claims have this many leaves, more than a claim may: what its next bit and its own bit reach, and
+-- so the same whatever literal of its cone they are for
 pub record IsTooWide (w : Course) (width r : ℕ) : Type 0 where
   pub ungated : IsUngated w r
   pub untried : (k : ℕ) (turn : HintTurn) → slice_get w.hints k ≡ Some turn → is_in turn.hint.regs r ≡ false
+  pub measured : hold_width w.began r ≡ width
   pub above : w.width < width
   pub is : (e : Literal) → is_in (input_cone w.began r) e.0 ≡ true → width_of w.began (hold_question e r) ≡ width
 

@@ -1,6 +1,6 @@
 -- What each cause says of its register, each by what was tried for it.
 use Rattle.std.proofs.Common.{◌≡◌, ℕ, ◌+◌, ◌-◌, ◌<◌, Bool, true, false, not, ◌&&◌, ◌||◌, List, [], ◌∷◌, map, length, slice_get, nat_lt, Option, None, Some, is_some, refl, sym, ap, ◌∙◌, subst, arith, inl, inr}
-use Rattle.std.proofs.lemmas.Bool.{and_parts, both_ways, cases_Bool, ltb-true}
+use Rattle.std.proofs.lemmas.Bool.{and_parts, both_ways, cases_Bool, ltb-false, ltb-true}
 use Rattle.cg_cell.specs.Cell.{CellData}
 use Rattle.cg_claim.specs.LeafBits.{is_never}
 use Rattle.cg_claim.specs.Question.{hold_question, idle_question}
@@ -156,6 +156,7 @@ module _ (library : List CellData) (settings : Settings) (counts : Option ZeroCo
             record {
               ungated = ungated;
               untried = λ k turn at. apart hint_turn_trial w.hints r no_hint untried k turn at;
+              narrow = ltb-false w.width (hold_width w.began r) narrow;
               none = λ e among holds can.
                   both_ways (serves w.began r e)
                   (none_serves w.began good counts settings.width r (takes_none (chosen w.began counts settings.width r) refl) fits e among)

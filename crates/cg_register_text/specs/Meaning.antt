@@ -1,5 +1,5 @@
 -- What a cause says of its register.
-use Rattle.std.specs.Prelude.{◌≡◌, ◌<◌, ℕ, ◌+◌, ◌-◌, Bool, true, false, if◌then◌else◌, List, [], ◌∷◌, map, slice_get, Option, None, Some}
+use Rattle.std.specs.Prelude.{◌≡◌, ◌<◌, ◌≤◌, ℕ, ◌+◌, ◌-◌, Bool, true, false, if◌then◌else◌, List, [], ◌∷◌, map, slice_get, Option, None, Some}
 use Rattle.std.specs.Prelude.{Result, Ok, Err}
 use Rattle.cg_cell.specs.Cell.{CellData}
 use Rattle.cg_claim.specs.Leaves.{width_of}
@@ -138,10 +138,12 @@ pub record IsTooWide (w : Course) (width r : ℕ) : Type 0 where
   pub above : w.width < width
   pub is : (e : Literal) → is_in (input_cone w.began r) e.0 ≡ true → width_of w.began (hold_question e r) ≡ width
 
--- so it is, no hint has it, and no literal of its cone holds it that can be 0, over all states and inputs
+-- so it is, no hint has it, its hold claims have no more leaves than a claim may, and no literal of its cone holds it that can be 0, over
+-- all states and inputs
 pub record IsFree (w : Course) (r : ℕ) : Type 0 where
   pub ungated : IsUngated w r
   pub untried : (k : ℕ) (turn : HintTurn) → slice_get w.hints k ≡ Some turn → is_in turn.hint.regs r ≡ false
+  pub narrow : hold_width w.began r ≤ w.width
   pub none : (e : Literal) → is_in (input_cone w.began r) e.0 ≡ true → Hold w.began e r → CanIdle w.began (e ∷ []) → ⊥
 
 abbrev pub Means : Course → ℕ → Cause → Type 0

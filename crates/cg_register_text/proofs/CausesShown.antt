@@ -22,13 +22,13 @@ use Rattle.cg_stage_list_laws.specs.Literals.{ZeroCounts}
 use Rattle.cg_stage_list_laws.specs.Supports.{input_cone}
 use Rattle.cg_register_text.specs.Causes.{is_given}
 use Rattle.cg_register_text.specs.Laws.{IsRightCourse}
-use Rattle.cg_register_text.specs.Meaning.{Course, IsFree, IsGated, IsGiven, IsTooWide, IsTriedInHint, IsTriedInStage, IsUngated, after_hints, hint_net, hint_turn_trial, stage_net, tried_in, turn_trial}
+use Rattle.cg_register_text.specs.Meaning.{AreNumbers, Course, IsFree, IsGated, IsGiven, IsTooWide, IsTriedInHint, IsTriedInStage, IsUngated, after_hints, hint_gave, hint_net, hint_turn_trial, stage_gave, stage_net, tried_in, turn_trial}
 use Rattle.cg_register_text.specs.Trials.{gave, givers, last_failed}
 use Rattle.cg_register_text.proofs.CourseFacts.{began_enable, began_of, ended_enable, ended_of, from_netlist, left_by_hints}
 use Rattle.cg_register_text.proofs.HoldChosen.{HasStage, free_listed, has_stage, none_serves}
 use Rattle.cg_register_text.proofs.LeftEnables.{left_none, left_some}
 use Rattle.cg_register_text.proofs.StageTurns.{HasTurn, hold_has_turn}
-use Rattle.cg_register_text.proofs.TrialNumbers.{IsLastFailed, apart, last_one}
+use Rattle.cg_register_text.proofs.TrialNumbers.{IsLastFailed, apart, givers_are, last_one}
 
 none_of : (o : Option ℕ) → is_some o ≡ false → o ≡ None
 none_of None is = refl
@@ -52,11 +52,24 @@ module _ (library : List CellData) (settings : Settings) (counts : Option ZeroCo
   pub by_both : givers (tried_in w).hints r ≡ [] → givers (tried_in w).stages r ≡ [] → enable_of w.ended r ≡ enable_of w.lifted r
   by_both hint stage = by_stages stage ∙ by_hints hint
 
+  -- what gave it one is told by its number
+  of_hints : AreNumbers (hint_gave r) w.hints (givers (tried_in w).hints r)
+  of_hints = givers_are hint_turn_trial w.hints r
+
+  of_stages : AreNumbers (stage_gave r) w.stages (givers (tried_in w).stages r)
+  of_stages = givers_are turn_trial w.stages r
+
   -- it is gated where a stage gave it one, and where a hint did and no stage
   pub gated_by_stages : (k : ℕ) (ks : List ℕ) → givers (tried_in w).stages r ≡ k ∷ ks → IsGated w r
   gated_by_stages k ks some =
       let left = left_some (gave r) turn_trial stage_net 1 w.stages (λ j x at gives. ((net_by x.stage.kind x.machine x.stage).net, refl)) k ks some in
-      record { enable = left.0; gave = left.1 (after_hints r None w.hints); has = ended_enable library settings counts prefix hints w right r below ∙ left.1 (enable_of w.began r) }
+      record {
+        enable = left.0;
+        gave = left.1 (after_hints r None w.hints);
+        has = ended_enable library settings counts prefix hints w right r below ∙ left.1 (enable_of w.began r);
+        hints = of_hints;
+        stages = of_stages;
+      }
 
   pub gated_by_hints : (k : ℕ) (ks : List ℕ) → givers (tried_in w).hints r ≡ k ∷ ks → givers (tried_in w).stages r ≡ [] → IsGated w r
   gated_by_hints k ks some none =
@@ -67,6 +80,8 @@ module _ (library : List CellData) (settings : Settings) (counts : Option ZeroCo
         enable = left.0;
         gave = left_none (gave r) turn_trial stage_net 1 w.stages (after_hints r None w.hints) none ∙ left.1 None;
         has = by_stages none ∙ (began_is ∙ left.1 (enable_of w.lifted r));
+        hints = of_hints;
+        stages = of_stages;
       }
 
   module _ (no_hint : givers (tried_in w).hints r ≡ []) (no_stage : givers (tried_in w).stages r ≡ []) where

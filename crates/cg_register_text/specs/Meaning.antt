@@ -1,6 +1,7 @@
 -- What a cause says of its register.
-use Rattle.std.specs.Prelude.{◌≡◌, ◌<◌, ◌≤◌, ℕ, ◌+◌, ◌-◌, Bool, true, false, if◌then◌else◌, List, [], ◌∷◌, map, slice_get, Option, None, Some}
+use Rattle.std.specs.Prelude.{◌≡◌, ◌<◌, ◌≤◌, ℕ, ◌+◌, ◌-◌, Bool, true, false, ◌&&◌, if◌then◌else◌, List, [], ◌∷◌, map, slice_get, Option, None, Some}
 use Rattle.std.specs.Prelude.{Result, Ok, Err}
+use Rattle.std.specs.Option.{option_map_or}
 use Rattle.cg_cell.specs.Cell.{CellData}
 use Rattle.cg_claim.specs.Leaves.{width_of}
 use Rattle.cg_claim.specs.Question.{hold_question}
@@ -21,7 +22,7 @@ use Rattle.cg_stage_list_laws.specs.HoldList.{hold_width}
 use Rattle.cg_stage_list_laws.specs.Literals.{ZeroCounts}
 use Rattle.cg_stage_list_laws.specs.Supports.{input_cone}
 use Rattle.cg_register_text.specs.Causes.{Tried}
-use Rattle.cg_register_text.specs.Trials.{Trial, gave}
+use Rattle.cg_register_text.specs.Trials.{Trial, givers}
 use Rattle.cg_register_text.specs.declared.cause.Cause.{Cause}
 use Rattle.cg_register_text.specs.declared.cause.Cause.TheVariants.{Free, Gated, Given, Hint, Stage, Wide}
 
@@ -80,22 +81,36 @@ abbrev pub left_by : {T : Type 0} → (T → Bool) → (T → Option ℕ) → Op
 left_by gives net enable [] = enable
 left_by gives net enable (x ∷ xs) = left_by gives net (if gives x then net x else enable) xs
 
+-- whether a hint, whether a stage gave a register its enable: it was inserted, and has it
+abbrev pub hint_gave : ℕ → HintTurn → Bool
+hint_gave r turn = is_inserted_hint turn.outcome && is_in turn.hint.regs r
+
+abbrev pub stage_gave : ℕ → Turn → Bool
+stage_gave r turn = is_inserted turn.outcome && is_in turn.stage.regs r
+
 -- the enable that hints, that stages leave a register with this one
 abbrev pub after_hints : ℕ → Option ℕ → List HintTurn → Option ℕ
-after_hints r enable turns = left_by (λ turn. gave r (hint_turn_trial turn)) hint_net enable turns
+after_hints r enable turns = left_by (λ turn. hint_gave r turn) hint_net enable turns
 
 abbrev pub after_stages : ℕ → Option ℕ → List Turn → Option ℕ
-after_stages r enable turns = left_by (λ turn. gave r (turn_trial turn)) stage_net enable turns
+after_stages r enable turns = left_by (λ turn. stage_gave r turn) stage_net enable turns
 
 -- the enable that its hints and stages gave a register
 abbrev pub given_enable : Course → ℕ → Option ℕ
 given_enable w r = after_stages r (after_hints r None w.hints) w.stages
 
--- a register has in the end the enable that its hints and stages gave it
+-- these are the numbers of the things that pass a test, counted from 1
+pub record AreNumbers {T : Type 0} (test : T → Bool) (things : List T) (numbers : List ℕ) : Type 0 where
+  pub counted : is_in numbers 0 ≡ false
+  pub each : (k : ℕ) → is_in numbers (k + 1) ≡ option_map_or test (slice_get things k) false
+
+-- a register has in the end the enable that its hints and stages gave it, and those are told by their numbers
 pub record IsGated (w : Course) (r : ℕ) : Type 0 where
   pub enable : ℕ
   pub gave : given_enable w r ≡ Some enable
   pub has : enable_of w.ended r ≡ Some enable
+  pub hints : AreNumbers (hint_gave r) w.hints (givers (tried_in w).hints r)
+  pub stages : AreNumbers (stage_gave r) w.stages (givers (tried_in w).stages r)
 
 -- it has in the end the enable that it had in the netlist
 pub record IsGiven (w : Course) (r : ℕ) : Type 0 where

@@ -28,7 +28,7 @@ use Rattle.cg_register_text.proofs.CourseFacts.{began_enable, began_of, ended_en
 use Rattle.cg_register_text.proofs.HoldChosen.{HasStage, free_listed, has_stage, none_serves}
 use Rattle.cg_register_text.proofs.LeftEnables.{left_none, left_some}
 use Rattle.cg_register_text.proofs.StageTurns.{HasTurn, hold_has_turn}
-use Rattle.cg_register_text.proofs.TrialNumbers.{IsLastFailed, apart, givers_are, last_one}
+use Rattle.cg_register_text.proofs.TrialNumbers.{IsLastFailed, apart, givers_are, last_one, none_inserted}
 
 none_of : (o : Option ℕ) → is_some o ≡ false → o ≡ None
 none_of None is = refl
@@ -102,7 +102,7 @@ module _ (library : List CellData) (settings : Settings) (counts : Option ZeroCo
           turn = l.item;
           at = l.at;
           among = l.among;
-          none = l.left;
+          none = λ k other at among. none_inserted turn_trial w.stages r no_stage k other at among;
           last = λ k later at. l.last k later at;
           keeps = by_both no_hint no_stage;
         }
@@ -126,7 +126,7 @@ module _ (library : List CellData) (settings : Settings) (counts : Option ZeroCo
             turn = l.item;
             at = l.at;
             among = l.among;
-            none = l.left;
+            none = λ k other at among. none_inserted hint_turn_trial w.hints r no_hint k other at among;
             last = λ k later at. l.last k later at;
           }
 

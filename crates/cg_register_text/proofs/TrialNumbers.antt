@@ -1,7 +1,7 @@
 -- What the numbers of the trials that pass a test say of these trials.
 use Rattle.std.proofs.Common.{◌≡◌, ℕ, zero, suc, ◌+◌, ◌-◌, ◌<◌, Bool, true, false, not, ◌&&◌, ◌||◌, if◌then◌else◌, List, [], ◌∷◌, map, slice_get, nat_eq, Option, None, Some, refl, sym, ap, ◌∙◌, subst, arith}
 use Rattle.std.specs.Option.{option_map, option_map_or}
-use Rattle.std.proofs.lemmas.Bool.{and_parts, eq-eqb, ne_eqb, or_from, or_left}
+use Rattle.std.proofs.lemmas.Bool.{and_parts, both_ways, eq-eqb, ne_eqb, or_from, or_left}
 use Rattle.std.proofs.lemmas.Option.{none-some, same_Some, slice_get-map}
 use Rattle.cg_net.specs.NetSets.{is_in}
 use Rattle.cg_net.proofs.TableLemmas.{mapped_at}
@@ -112,10 +112,18 @@ has_none : (inserted among : Bool) → (inserted && among) ≡ false → (not in
 has_none true among gave failed = gave
 has_none false among gave failed = failed
 
+left_out : (inserted among : Bool) → (inserted && among) ≡ false → among ≡ true → inserted ≡ false
+left_out true among gave has = absurd (both_ways among gave has)
+left_out false among gave has = refl
+
 -- trials of some things, of which none gave a register its enable
 module _ {T : Type 0} (f : T → Trial) (xs : List T) (r : ℕ) (none : givers (map f xs) r ≡ []) where
   at_place : (k : ℕ) (x : T) → slice_get xs k ≡ Some x → slice_get (map f xs) k ≡ Some (f x)
   at_place k x at = slice_get-map f xs k ∙ ap (option_map f) at
+
+  -- none that has it was inserted
+  pub none_inserted : (k : ℕ) (x : T) → slice_get xs k ≡ Some x → is_in (f x).regs r ≡ true → (f x).inserted ≡ false
+  none_inserted k x at among = left_out (f x).inserted (is_in (f x).regs r) (none_pass (gave r) 1 (map f xs) none k (f x) (at_place k x at)) among
 
   -- where none has it that gave it none, none has it
   pub apart : last_failed (map f xs) r ≡ None → (k : ℕ) (x : T) → slice_get xs k ≡ Some x → is_in (f x).regs r ≡ false
@@ -129,7 +137,6 @@ module _ {T : Type 0} (f : T → Trial) (xs : List T) (r : ℕ) (none : givers (
     pub item : T
     pub at : slice_get xs (n - 1) ≡ Some item
     pub among : is_in (f item).regs r ≡ true
-    pub left : (f item).inserted ≡ false
     pub last : (k : ℕ) (x : T) → slice_get xs (n + k) ≡ Some x → is_in (f x).regs r ≡ false
 
   pub last_one : (n : ℕ) → last_failed (map f xs) r ≡ Some n → IsLastFailed n
@@ -144,12 +151,7 @@ module _ {T : Type 0} (f : T → Trial) (xs : List T) (r : ℕ) (none : givers (
         item = x.0;
         at = ap (slice_get xs) (let e : n - 1 ≡ place = omega (arith, there) in e) ∙ x.1;
         among = ap (λ (t : Trial). is_in t.regs r) x.2 ∙ parts.1;
-        left = ap (λ (t : Trial). t.inserted) x.2 ∙ from_not l.trial.inserted parts.0;
         last = λ k y at.
             has_none (f y).inserted (is_in (f y).regs r) (none_pass (gave r) 1 (map f xs) none (n + k) (f y) (at_place (n + k) y at))
             (l.later (n + k) (f y) (omega (arith, there)) (at_place (n + k) y at));
       }
-    where
-      from_not : (b : Bool) → not b ≡ true → b ≡ false
-      from_not true h = sym h
-      from_not false h = refl

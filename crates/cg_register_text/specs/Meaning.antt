@@ -119,13 +119,14 @@ pub record IsGiven (w : Course) (r : ℕ) : Type 0 where
   pub has : enable_of w.ended r ≡ Some enable
   pub apart : (k : ℕ) (turn : Turn) → slice_get w.stages k ≡ Some turn → is_in turn.stage.regs r ≡ false
 
--- the stage of this number has it and was not inserted, nor was any other that has it, and no later one has it
+-- the stage of this number has it, no later one has it, none that has it was inserted, and it has the enable that it had, if any
 pub record IsTriedInStage (w : Course) (number r : ℕ) : Type 0 where
   pub counted : 0 < number
   pub turn : Turn
   pub at : slice_get w.stages (number - 1) ≡ Some turn
   pub among : is_in turn.stage.regs r ≡ true
-  pub none : is_inserted turn.outcome ≡ false
+  pub none : (k : ℕ) (other : Turn) → slice_get w.stages k ≡ Some other → is_in other.stage.regs r ≡ true →
+      is_inserted other.outcome ≡ false
   pub last : (k : ℕ) (later : Turn) → slice_get w.stages (number + k) ≡ Some later → is_in later.stage.regs r ≡ false
   pub keeps : enable_of w.ended r ≡ enable_of w.lifted r
 
@@ -134,14 +135,15 @@ pub record IsUngated (w : Course) (r : ℕ) : Type 0 where
   pub none : enable_of w.ended r ≡ None
   pub apart : (k : ℕ) (turn : Turn) → slice_get w.stages k ≡ Some turn → is_in turn.stage.regs r ≡ false
 
--- so it is, and the hint of this number has it and was not inserted, and no later one has it
+-- so it is, and the hint of this number has it, no later one has it, and none that has it was inserted
 pub record IsTriedInHint (w : Course) (number r : ℕ) : Type 0 where
   pub ungated : IsUngated w r
   pub counted : 0 < number
   pub turn : HintTurn
   pub at : slice_get w.hints (number - 1) ≡ Some turn
   pub among : is_in turn.hint.regs r ≡ true
-  pub none : is_inserted_hint turn.outcome ≡ false
+  pub none : (k : ℕ) (other : HintTurn) → slice_get w.hints k ≡ Some other → is_in other.hint.regs r ≡ true →
+      is_inserted_hint other.outcome ≡ false
   pub last : (k : ℕ) (later : HintTurn) → slice_get w.hints (number + k) ≡ Some later → is_in later.hint.regs r ≡ false
 
 -- so it is, no hint has it, and its hold claims have this many leaves, more than a claim may: what its next bit and its own bit reach, and

@@ -117,31 +117,31 @@ module _ (library : List CellData) (settings : Settings) (counts : Option ZeroCo
       pub began_none : enable_of w.began r ≡ None
       began_none = by_hints no_hint ∙ none_of (enable_of w.lifted r) (was_given ∙ given)
 
-      pub hint_shown : (n : ℕ) → last_failed (tried_in w).hints r ≡ Some n → IsTriedInHint w n r
-      hint_shown n is =
-          let l : IsLastFailed hint_turn_trial w.hints r no_hint n = last_one hint_turn_trial w.hints r no_hint n is in
-          record {
-            ungated = ungated;
-            counted = l.counted;
-            turn = l.item;
-            at = l.at;
-            among = l.among;
-            none = λ k other at among. none_inserted hint_turn_trial w.hints r no_hint k other at among;
-            last = λ k later at. l.last k later at;
-          }
+      good : IsMachine w.began
+      good = (began_of library settings counts prefix hints w right).good
 
-      module _ (untried : last_failed (tried_in w).hints r ≡ None) where
-        good : IsMachine w.began
-        good = (began_of library settings counts prefix hints w right).good
+      pub wide_shown : nat_lt w.width (hold_width w.began r) ≡ true → IsTooWide w (hold_width w.began r) r
+      wide_shown wide = record {
+        ungated = ungated;
+        measured = refl;
+        above = ltb-true w.width (hold_width w.began r) wide;
+        is = λ e among. hold_widths w.began good e r among;
+      }
 
-        pub wide_shown : nat_lt w.width (hold_width w.began r) ≡ true → IsTooWide w (hold_width w.began r) r
-        wide_shown wide = record {
-          ungated = ungated;
-          untried = λ k turn at. apart hint_turn_trial w.hints r no_hint untried k turn at;
-          measured = refl;
-          above = ltb-true w.width (hold_width w.began r) wide;
-          is = λ e among. hold_widths w.began good e r among;
-        }
+      module _ (narrow : nat_lt w.width (hold_width w.began r) ≡ false) where
+        pub hint_shown : (n : ℕ) → last_failed (tried_in w).hints r ≡ Some n → IsTriedInHint w n r
+        hint_shown n is =
+            let l : IsLastFailed hint_turn_trial w.hints r no_hint n = last_one hint_turn_trial w.hints r no_hint n is in
+            record {
+              ungated = ungated;
+              narrow = ltb-false w.width (hold_width w.began r) narrow;
+              counted = l.counted;
+              turn = l.item;
+              at = l.at;
+              among = l.among;
+              none = λ k other at among. none_inserted hint_turn_trial w.hints r no_hint k other at among;
+              last = λ k later at. l.last k later at;
+            }
 
         -- where it takes a literal, a stage has it
         takes_none : (o : Option Literal) → chosen w.began counts settings.width r ≡ o → chosen w.began counts settings.width r ≡ None
@@ -165,13 +165,13 @@ module _ (library : List CellData) (settings : Settings) (counts : Option ZeroCo
             ] in
             ap (λ b. b && not (is_never w.began (idle_question (e ∷ [])))) held ∙ ap not idle
 
-        pub free_shown : nat_lt w.width (hold_width w.began r) ≡ false → IsFree w r
-        free_shown narrow =
+        pub free_shown : last_failed (tried_in w).hints r ≡ None → IsFree w r
+        free_shown untried =
             let fits : nat_lt settings.width (hold_width w.began r) ≡ false = ap (λ n. nat_lt n (hold_width w.began r)) right.course.width ∙ narrow in
             record {
               ungated = ungated;
-              untried = λ k turn at. apart hint_turn_trial w.hints r no_hint untried k turn at;
               narrow = ltb-false w.width (hold_width w.began r) narrow;
+              untried = λ k turn at. apart hint_turn_trial w.hints r no_hint untried k turn at;
               none = λ e among holds can.
                   both_ways (serves w.began r e)
                   (none_serves w.began good counts settings.width r (takes_none (chosen w.began counts settings.width r) refl) fits e among)

@@ -135,9 +135,11 @@ pub record IsUngated (w : Course) (r : ℕ) : Type 0 where
   pub none : enable_of w.ended r ≡ None
   pub apart : (k : ℕ) (turn : Turn) → slice_get w.stages k ≡ Some turn → is_in turn.stage.regs r ≡ false
 
--- so it is, and the hint of this number has it, no later one has it, and none that has it was inserted
+-- so it is, its hold claims have no more leaves than a claim may, the hint of this number has it, no later one has it, and none that has
+-- it was inserted
 pub record IsTriedInHint (w : Course) (number r : ℕ) : Type 0 where
   pub ungated : IsUngated w r
+  pub narrow : hold_width w.began r ≤ w.width
   pub counted : 0 < number
   pub turn : HintTurn
   pub at : slice_get w.hints (number - 1) ≡ Some turn
@@ -146,21 +148,20 @@ pub record IsTriedInHint (w : Course) (number r : ℕ) : Type 0 where
       is_inserted_hint other.outcome ≡ false
   pub last : (k : ℕ) (later : HintTurn) → slice_get w.hints (number + k) ≡ Some later → is_in later.hint.regs r ≡ false
 
--- so it is, no hint has it, and its hold claims have this many leaves, more than a claim may: what its next bit and its own bit reach, and
+-- so it is, and its hold claims have this many leaves, more than a claim may: what its next bit and its own bit reach, and
 -- so the same whatever literal of its cone they are for
 pub record IsTooWide (w : Course) (width r : ℕ) : Type 0 where
   pub ungated : IsUngated w r
-  pub untried : (k : ℕ) (turn : HintTurn) → slice_get w.hints k ≡ Some turn → is_in turn.hint.regs r ≡ false
   pub measured : hold_width w.began r ≡ width
   pub above : w.width < width
   pub is : (e : Literal) → is_in (input_cone w.began r) e.0 ≡ true → width_of w.began (hold_question e r) ≡ width
 
--- so it is, no hint has it, its hold claims have no more leaves than a claim may, and no literal of its cone holds it that can be 0, over
+-- so it is, its hold claims have no more leaves than a claim may, no hint has it, and no literal of its cone holds it that can be 0, over
 -- all states and inputs
 pub record IsFree (w : Course) (r : ℕ) : Type 0 where
   pub ungated : IsUngated w r
-  pub untried : (k : ℕ) (turn : HintTurn) → slice_get w.hints k ≡ Some turn → is_in turn.hint.regs r ≡ false
   pub narrow : hold_width w.began r ≤ w.width
+  pub untried : (k : ℕ) (turn : HintTurn) → slice_get w.hints k ≡ Some turn → is_in turn.hint.regs r ≡ false
   pub none : (e : Literal) → is_in (input_cone w.began r) e.0 ≡ true → Hold w.began e r → CanIdle w.began (e ∷ []) → ⊥
 
 abbrev pub Means : Course → ℕ → Cause → Type 0

@@ -7,7 +7,7 @@ use Rattle.cg_claim.specs.Leaves.{width_of}
 use Rattle.cg_claim.specs.Question.{hold_question}
 use Rattle.cg_extract.specs.Lifted.{lifted}
 use Rattle.cg_hint_laws.specs.Effects.{hint_answer}
-use Rattle.cg_hint_laws.specs.Trying.{Turn as HintTurn, hinted, is_inserted as is_inserted_hint}
+use Rattle.cg_hint_laws.specs.Trying.{Turn as HintTurn, hinted as hinted_by, is_inserted as is_inserted_hint}
 use Rattle.cg_hint_laws.specs.declared.hint.Hint.{Hint as HintData}
 use Rattle.cg_machine.specs.Added.{Added}
 use Rattle.cg_machine.specs.Claims.{CanIdle, Hold, Literal}
@@ -41,7 +41,7 @@ pub record Course : Type 0 where
 pub record IsCourse (library : List CellData) (settings : Settings) (counts : Option ZeroCounts) (prefix : List ℕ)
     (hints : List HintData) (w : Course) : Type 0 where
   pub lifts : w.lifted ≡ lifted w.read prefix
-  pub hinted : hinted library settings.width w.lifted hints ≡ Ok (record { machine = w.began; turns = w.hints })
+  pub hinted : hinted_by library settings.width w.lifted hints ≡ Ok (record { machine = w.began; turns = w.hints })
   pub stages : (plan_of library settings counts w.began).turns ≡ w.stages
   pub ended : (plan_of library settings counts w.began).machine ≡ w.ended
   pub whole : (plan_of library settings counts w.began).limit ≡ None
@@ -54,7 +54,7 @@ hint_turn_trial turn = record { regs = turn.hint.regs; inserted = is_inserted_hi
 abbrev pub turn_trial : Turn → Trial
 turn_trial turn = record { regs = turn.stage.regs; inserted = is_inserted turn.outcome }
 
--- what the causes of its registers are found in
+-- what the causes of its registers are found in, with hints and stages as they were tried
 abbrev pub tried_in : Course → Tried
 tried_in w =
     record {
@@ -65,7 +65,7 @@ tried_in w =
       stages = map turn_trial w.stages;
     }
 
--- the net that a hint, that a stage adds for its registers on the machine of its turn
+-- the net that a hint, that a stage adds for its registers on the machine of its turn; an addition that is refused has none
 abbrev pub net_of : Result Added AddFault → Option ℕ
 net_of (Ok added) = Some added.net
 net_of (Err fault) = None
@@ -76,7 +76,7 @@ hint_net turn = net_of (hint_answer turn.machine turn.hint)
 abbrev pub stage_net : Turn → Option ℕ
 stage_net turn = Some (net_by turn.stage.kind turn.machine turn.stage).net
 
--- the enable that is left of this one by what may give others, one after another: the last that was given
+-- the enable that is there in the end, where each of these may give another: the last that was given, or else the first one
 abbrev pub left_by : {T : Type 0} → (T → Bool) → (T → Option ℕ) → Option ℕ → List T → Option ℕ
 left_by gives net enable [] = enable
 left_by gives net enable (x ∷ xs) = left_by gives net (if gives x then net x else enable) xs
@@ -135,8 +135,8 @@ pub record IsUngated (w : Course) (r : ℕ) : Type 0 where
   pub none : enable_of w.ended r ≡ None
   pub apart : (k : ℕ) (turn : Turn) → slice_get w.stages k ≡ Some turn → is_in turn.stage.regs r ≡ false
 
--- so it is, its hold claims have no more leaves than a claim may, the hint of this number has it, no later one has it, and none that has
--- it was inserted
+-- it has no enable and no stage has it; besides its hold claims have no more leaves than a claim may, the hint of this number has it, no
+-- later one has it, and none that has it was inserted
 pub record IsTriedInHint (w : Course) (number r : ℕ) : Type 0 where
   pub ungated : IsUngated w r
   pub narrow : hold_width w.began r ≤ w.width
@@ -148,16 +148,16 @@ pub record IsTriedInHint (w : Course) (number r : ℕ) : Type 0 where
       is_inserted_hint other.outcome ≡ false
   pub last : (k : ℕ) (later : HintTurn) → slice_get w.hints (number + k) ≡ Some later → is_in later.hint.regs r ≡ false
 
--- so it is, and its hold claims have this many leaves, more than a claim may: what its next bit and its own bit reach, and
--- so the same whatever literal of its cone they are for
+-- it has no enable and no stage has it; besides its hold claims have this many leaves, more than a claim may, those that its next bit and
+-- its own bit reach, and so the same whatever literal of its cone they are for
 pub record IsTooWide (w : Course) (width r : ℕ) : Type 0 where
   pub ungated : IsUngated w r
   pub measured : hold_width w.began r ≡ width
   pub above : w.width < width
   pub is : (e : Literal) → is_in (input_cone w.began r) e.0 ≡ true → width_of w.began (hold_question e r) ≡ width
 
--- so it is, its hold claims have no more leaves than a claim may, no hint has it, and no literal of its cone holds it that can be 0, over
--- all states and inputs
+-- it has no enable and no stage has it; besides its hold claims have no more leaves than a claim may, no hint has it, and no literal of
+-- its cone holds it that can be 0, over all states and inputs
 pub record IsFree (w : Course) (r : ℕ) : Type 0 where
   pub ungated : IsUngated w r
   pub narrow : hold_width w.began r ≤ w.width

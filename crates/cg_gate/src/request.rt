@@ -34,6 +34,9 @@ pub struct Request<'a> {
 
     /// Whether a Verilog text of the gated netlist is asked for.
     pub verilog: bool,
+
+    /// Whether a text of the registers is asked for: why each is gated, or why it is not.
+    pub registers: bool,
 }
 
 impl<'a> Model for Request<'a> {
@@ -55,5 +58,6 @@ impl<'a> Model for Request<'a> {
       hints = option_copied r.hints;
       report = r.report;
       verilog = r.verilog;
+      registers = r.registers;
     } };
 }

@@ -1,5 +1,5 @@
 -- Drafts that are led from one to the next.
-use Rattle.std.proofs.Common.{◌≡◌, Bool, Some, sym, ◌∙◌, ap, subst}
+use Rattle.std.proofs.Common.{◌≡◌, Bool, OnOk, Result, Ok, Err, Some, sym, ◌∙◌, ap, subst}
 use Rattle.cg_netlist.specs.declared.fault.AddFault.{AddFault}
 use Rattle.cg_netlist.specs.declared.fault.AddFault.TheVariants.{Limit as LimitFault, NoMemory}
 use Rattle.cg_limit.specs.declared.Limit.{Limit}
@@ -31,3 +31,13 @@ left_stops f g h c d NoMemory left may proof p draft = tt
 left_stops f g h c d (LimitFault limit) left may proof p draft =
     let l : Left proof (f p) (in_turn g h) d = left proof p draft in
     ap (λ (q : Plan). q.limit) (sym l.same) ∙ stopped g h l.plan limit (may proof l.plan l.tells)
+
+-- one after the other
+pub leads_on : (f g : Plan → Plan) (c d e : Draft) → Leads f c d → Leads g d e → Leads (in_turn f g) c e
+leads_on f g c d e first second proof p draft =
+    let after : IsDraft proof (f p) d = first proof p draft in
+    subst (λ q. IsDraft proof q e) (sym (going f g proof p d after)) (second proof (f p) after)
+
+pub leads_last : (r : Result (Unit {0}) AddFault) (f g : Plan → Plan) (c d e : Draft) → Leads f c d → OnOk r (Leads g d e) → OnOk r (Leads (in_turn f g) c e)
+leads_last (Ok done) f g c d e first second = leads_on f g c d e first second
+leads_last (Err fault) f g c d e first second = tt

@@ -167,7 +167,7 @@ written_text [] are = absurd are
 written_text (digit ∷ digits) are = within (suc (value_of (digit ∷ digits))) digit digits are.0 are.1 (omega arith)
 
 -- compared
-abbrev Below : List ℕ → Type 0
+abbrev pub Below : List ℕ → Type 0
 Below [] = Unit {0}
 Below (digit ∷ digits) = (digit < 10) × Below digits
 
@@ -209,7 +209,7 @@ higher_below : (digits : List ℕ) → AreHigher digits → Below digits
 higher_below [] are = tt
 higher_below (digit ∷ digits) are = (are.0, higher_below digits are.2)
 
-digits_below : (digits : List ℕ) → AreDigits digits → Below digits
+pub digits_below : (digits : List ℕ) → AreDigits digits → Below digits
 digits_below [] are = absurd are
 digits_below (digit ∷ digits) are = (are.0, higher_below digits are.1)
 

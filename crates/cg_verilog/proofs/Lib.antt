@@ -3,10 +3,12 @@ pub mod CounterLemmas
 pub mod CoverFits
 pub mod CoverRows
 pub mod Declared
+pub mod FarApart
 pub mod HearingLemmas
 pub mod InitsSummed
 pub mod ItemsLeft
 pub mod ItemsSummed
+pub mod ManyBits
 pub mod ModelKept
 pub mod NetlistLemmas
 pub mod Summed

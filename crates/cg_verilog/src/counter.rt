@@ -1,6 +1,6 @@
 //! Numbers of any length that are counted up or down, digit by digit.
 
-ghost use Rattle.std.specs.Prelude.{◌≡◌, ◌+◌, ◌<◌, ◌++◌, ◌∷◌, ℕ, List, Bool, true, false, nat_le, length, IfOk, IsTrue, OnOk};
+ghost use Rattle.std.specs.Prelude.{◌≡◌, ◌+◌, ◌<◌, ◌≤◌, ◌^◌, ◌||◌, ◌++◌, ◌∷◌, ℕ, List, Bool, true, false, nat_le, length, slice_index, IfOk, IsTrue, OnOk};
 ghost use Rattle.std.specs.Option.{option_to_list};
 ghost use Rattle.cg_text.specs.Numbers.{digits_after, is_number};
 ghost use Rattle.cg_verilog_text.specs.Meaning.{index_text};
@@ -44,6 +44,19 @@ impl Counter {
         ensures { result ≡ nat_le self.now other.now }
     {
         are_at_most(&self.digits, &other.digits)
+    }
+
+    /// Whether one of it and another is at least so much above the other.
+    pub fn is_far_from(&self, other: &Counter, gap: usize) -> bool
+        requires some { 0 < gap }
+        requires small { gap < 2 ^ 32 }
+        ensures { result ≡ (nat_le (self.now + gap) other.now || nat_le (other.now + gap) self.now) }
+    {
+        if self.is_at_most(other) {
+            are_far_above(&other.digits, &self.digits, gap)
+        } else {
+            are_far_above(&self.digits, &other.digits, gap)
+        }
     }
 
     /// The next number.
@@ -117,6 +130,39 @@ fn with_digit(below: bool, digit: u8, other: u8) -> bool
     ensures { (digits others : List ℕ) → at_most below (digit ∷ digits) (other ∷ others) ≡ at_most result digits others }
 {
     if digit == other { below } else { digit < other }
+}
+
+/// Whether digits say at least so much more than others, which say no more than they.
+fn are_far_above(digits: &[u8], others: &[u8], gap: usize) -> bool
+    requires digits { AreDigits digits.now }
+    requires others { AreDigits others.now }
+    requires order { value_of others.now ≤ value_of digits.now }
+    requires some { 0 < gap }
+    requires small { gap < 2 ^ 32 }
+    ensures { result ≡ nat_le (value_of others.now + gap) (value_of digits.now) }
+{
+    let count = digits.len();
+    let mut above = 0;
+    'places: for place in 0..count {
+        let at = count - 1 - place;
+        above = 10 * above + digit_at(digits, at) - digit_at(others, at);
+        if gap <= above {
+            return true;
+        }
+    }
+    false
+}
+
+/// The digit at a place, which is zero above the highest.
+fn digit_at(digits: &[u8], at: usize) -> usize
+    ensures digit { result ≡ slice_index digits.now at }
+    ensures small { result < 2 ^ 8 }
+{
+    if at < digits.len() {
+        usize::from(digits[at])
+    } else {
+        0
+    }
 }
 
 /// Digits with one more.

@@ -1,6 +1,6 @@
 //! Inputs and outputs, told to a builder.
 
-ghost use Rattle.std.specs.Prelude.{◌≡◌, ◌≤◌, ◌∷◌, [], None, Some, IfOk, IsTrue, map};
+ghost use Rattle.std.specs.Prelude.{◌≡◌, ◌<◌, ◌≤◌, ◌∷◌, [], None, Some, IfOk, IsTrue, length, map};
 ghost use Rattle.std.specs.List.{flat_map};
 ghost use Rattle.cg_cell.specs.Name.{is_name};
 ghost use Rattle.cg_verilog_text.specs.Meaning.{bits_of};
@@ -9,6 +9,7 @@ ghost use Rattle.cg_verilog.specs.Declaring.{bit_name, bits_down, bits_up, side_
 ghost use Rattle.cg_verilog.specs.Hearing.{Hears};
 
 use crate::counter::Counter;
+use cg_limit::{Limit, MOST_NETS};
 use cg_netlist::fault::AddFault;
 use cg_netlist_builder::builder::Builder;
 use cg_verilog_items::declaration::Range;
@@ -59,7 +60,7 @@ fn declare_bits(
     }
 }
 
-/// Declares the bits of a vector.
+/// Declares the bits of a vector. Where they are more than there may be nets no names are made of them all.
 fn declare_vector(
     alloc: Global,
     builder: &mut Builder,
@@ -72,11 +73,30 @@ fn declare_vector(
 {
     let high = Counter::new(alloc, &range.high)?;
     let low = Counter::new(alloc, &range.low)?;
-    if low.is_at_most(&high) {
+    if high.is_far_from(&low, MOST_NETS) {
+        declare_too_many(alloc, builder, side, range, net)
+    } else if low.is_at_most(&high) {
         declare_down(alloc, builder, side, high, &low, net)
     } else {
         declare_up(alloc, builder, side, high, &low, net)
     }
+}
+
+/// Declares the first bit of a vector that has more bits than there may be nets, and is refused at one of the others.
+fn declare_too_many(
+    alloc: Global,
+    builder: &mut Builder,
+    side: Side,
+    range: &Range<'_>,
+    net: &Identifier<'_>,
+) -> Result<(), AddFault>
+    requires builder { builder.old.refused ≡ None }
+    requires many { MOST_NETS < length (bits_of (Some range.now) net.now) }
+    ensures { Hears builder.old builder.new (with_parts (map (side_part side) (bits_of (Some range.now) net.now)) builder.old.said) result }
+{
+    let first = Counter::new(alloc, &range.high)?;
+    declare_bit(alloc, builder, side, net, &first)?;
+    Err(AddFault::Limit(Limit::Nets))
 }
 
 /// Declares the bits of a vector from a high index down to a low one.

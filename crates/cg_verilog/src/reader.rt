@@ -26,7 +26,8 @@ use cg_verilog_text::fault::{ItemFault, VerilogFault};
 use cg_verilog_tokens::tokens::{Tokens, line_behind};
 use std::alloc::Global;
 
-/// Reads a text with the cells of a library. One pass over the text, in time and memory as it is long.
+/// Reads a text with the cells of a library. One pass over the text. Memory is as the text is long and as the names of the netlist's nets
+/// are together: each bit of a vector has a name with all digits of its index. Time is so too, and as bits that are declared again.
 pub fn read_verilog(
     alloc: Global,
     text: &[u8],

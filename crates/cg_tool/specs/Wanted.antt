@@ -63,4 +63,5 @@ request_by library wanted stimulus hints = record {
   proof = wanted.asked.proof;
   report = wanted.asked.report;
   verilog = wanted.asked.verilog;
+  registers = wanted.asked.registers;
 }

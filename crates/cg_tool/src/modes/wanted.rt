@@ -83,6 +83,7 @@ impl Wanted {
             proof: self.asked.proof,
             report: self.asked.report,
             verilog: self.asked.verilog,
+            registers: self.asked.registers,
         }
     }
 }

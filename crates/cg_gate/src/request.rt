@@ -37,6 +37,9 @@ pub struct Request<'a> {
 
     /// Whether a Verilog text of the gated netlist is asked for.
     pub verilog: bool,
+
+    /// Whether a text of the registers is asked for: why each is gated, or why it is not.
+    pub registers: bool,
 }
 
 impl<'a> Model for Request<'a> {
@@ -59,5 +62,6 @@ impl<'a> Model for Request<'a> {
       proof = r.proof;
       report = r.report;
       verilog = r.verilog;
+      registers = r.registers;
     } };
 }

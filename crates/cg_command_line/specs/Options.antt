@@ -33,18 +33,20 @@ abbrev pub number_or : ℕ → ℕ → ℕ → Option Text → Option ℕ
 number_or default low high None = Some default
 number_or default low high (Some word) = number_in low high word
 
--- what bounds a plan; gating cells have a test input exactly where one is named
-abbrev pub settings_with : Bool → Option ℕ → Option ℕ → Option ℕ → Option Settings
-settings_with test (Some min) (Some width) (Some rounds) = Some (record { min = min; width = width; rounds = rounds; test = test })
-settings_with test _ _ _ = None
+-- what bounds a plan; gating cells have a test input exactly where one is named, and proofs are kept exactly where a file of them is
+-- asked for
+abbrev pub settings_with : Bool → Bool → Option ℕ → Option ℕ → Option ℕ → Option Settings
+settings_with test proof (Some min) (Some width) (Some rounds) =
+    Some (record { min = min; width = width; rounds = rounds; test = test; proof = proof })
+settings_with test proof _ _ _ = None
 
 abbrev pub settings_in : Values → Option Settings
 settings_in values =
-    settings_with (is_some values.test) (number_or 1 1 1024 values.min) (number_or 32 1 256 values.width)
+    settings_with (is_some values.test) (is_some values.proof) (number_or 1 1 1024 values.min) (number_or 32 1 256 values.width)
     (number_or 4 0 16 values.rounds)
 
 abbrev pub default_settings : Settings
-default_settings = record { min = 1; width = 32; rounds = 4; test = false }
+default_settings = record { min = 1; width = 32; rounds = 4; test = false; proof = false }
 
 -- a value that has to be a name, where it is given
 abbrev pub is_named : Option Text → Bool

@@ -70,6 +70,7 @@ pub fn no_options(alloc: Global) -> Result<Options, AllocError>
             width: 32,
             rounds: 4,
             test: false,
+            proof: false,
         },
         watch: None,
         asked: Asked {
@@ -269,6 +270,7 @@ fn settings(given: &OptionWords<'_>) -> Option<Settings>
         width,
         rounds,
         test: given.test.is_some(),
+        proof: given.proof.is_some(),
     })
 }
 

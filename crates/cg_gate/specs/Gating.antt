@@ -76,7 +76,7 @@ pub record TellsRegisters (request : RequestData) (g : GatedData) (text : Option
 pub record AreTexts (request : RequestData) (read written : Circuit) (hints : TriedHints) (told : ReportedPlan) (played : Played)
     (texts : Texts) : Type 0 where
   pub out : texts.out ≡ blif written
-  pub proof : texts.proof ≡ where_asked request.proof (proof_text told hints.certificates)
+  pub proof : texts.proof ≡ where_asked request.settings.proof (proof_text told hints.certificates)
   pub report : texts.report
       ≡ where_asked request.report (report_text told (hints_of request) hints.outcomes (length written.gaters) played)
   pub verilog : texts.verilog ≡ where_asked request.verilog (verilog written)

@@ -21,7 +21,7 @@ use Rattle.cg_netlist.specs.WellFormed.{IsWellFormed}
 use Rattle.cg_net.specs.Names.{NetName, net_name}
 use Rattle.cg_plan_laws.specs.Outcomes.{Deserves}
 use Rattle.cg_plan_laws.specs.Plan.{Turn, plan_of, wide_of}
-use Rattle.cg_plan_laws.specs.Reported.{AreCertified, AreTold, ReportedPlan, plan_claims}
+use Rattle.cg_plan_laws.specs.Reported.{AreCertified, AreTold, ReportedPlan, kept_claims}
 use Rattle.cg_plan_laws.specs.declared.outcome.Outcome.TheVariants.{Inserted}
 use Rattle.cg_plan_text.specs.ProofText.{proof_text}
 use Rattle.cg_plan_text.specs.Summary.{report_text, said_text}
@@ -157,9 +157,9 @@ pub record Headline (request : RequestData) (says : Option Saying) (read : Circu
   -- the proof file has, behind the certificates of the hints, for each claim of each inserted stage, in order, the defined formula and
   -- an accepted log that proves that nothing satisfies it, and nothing else; formulas and logs keep to the bounds of their formats, so
   -- that they are read back
-  pub certified : AreCertified (plan_claims 1 turns) plan.certificates
+  pub certified : AreCertified (kept_claims request.settings turns) plan.certificates
   pub writable : AreWritable plan.certificates
-  pub proof : texts.proof ≡ where_asked request.proof (proof_text plan hints.certificates)
+  pub proof : texts.proof ≡ where_asked request.settings.proof (proof_text plan hints.certificates)
   -- the edges are those of the histories on which the stimulus is played on both netlists, and the watcher says its line of exactly
   -- the moments of the written one's
   pub played : Played

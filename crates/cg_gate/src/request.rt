@@ -14,7 +14,7 @@ pub struct Request<'a> {
     /// The cells.
     pub library: &'a Library,
 
-    /// What bounds the plan.
+    /// What bounds the plan, and whether a proof file is asked for.
     pub settings: &'a Settings,
 
     /// What the names of added nets begin with.
@@ -28,9 +28,6 @@ pub struct Request<'a> {
 
     /// The hints, where they are asked for.
     pub hints: Option<&'a Seq<Hint>>,
-
-    /// Whether a proof file is asked for.
-    pub proof: bool,
 
     /// Whether a report is asked for.
     pub report: bool,
@@ -59,7 +56,6 @@ impl<'a> Model for Request<'a> {
       test = option_copied r.test;
       stimulus = option_copied r.stimulus;
       hints = option_copied r.hints;
-      proof = r.proof;
       report = r.report;
       verilog = r.verilog;
       registers = r.registers;

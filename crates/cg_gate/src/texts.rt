@@ -68,7 +68,7 @@ pub(crate) fn write_texts(
 {
     Ok(Texts {
         out: Seq::from_vec(write_blif(alloc, &gated.netlist)?),
-        proof: proof_asked(alloc, request.proof, gated)?,
+        proof: proof_asked(alloc, request.settings.proof, gated)?,
         report: report_asked(alloc, request, gated, played)?,
         verilog,
         registers: registers_asked(alloc, request, read, gated)?,

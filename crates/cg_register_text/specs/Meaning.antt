@@ -148,8 +148,8 @@ pub record IsTriedInHint (w : Course) (number r : ℕ) : Type 0 where
       is_inserted_hint other.outcome ≡ false
   pub last : (k : ℕ) (later : HintTurn) → slice_get w.hints (number + k) ≡ Some later → is_in later.hint.regs r ≡ false
 
--- it has no enable and no stage has it; besides its hold claims have this many leaves, more than a claim may, those that its next bit and
--- its own bit reach, and so the same whatever literal of its cone they are for
+-- it has no enable and no stage has it; besides its hold claims have this many leaves, more than a claim may: what its next bit and its own
+-- bit reach, and so the same whatever literal of its cone they are for
 pub record IsTooWide (w : Course) (width r : ℕ) : Type 0 where
   pub ungated : IsUngated w r
   pub measured : hold_width w.began r ≡ width

@@ -76,7 +76,7 @@ are_different (name ∷ names) = not (list_any (λ other. bytes_eq other name) n
 abbrev pub option_files : Values → List Text
 option_files values =
     option_to_list values.stim ++ option_to_list values.vcd ++ option_to_list values.hints ++ option_to_list values.proof
-    ++ option_to_list values.report ++ option_to_list values.verilog
+    ++ option_to_list values.report ++ option_to_list values.verilog ++ option_to_list values.registers
 
 -- the stimulus that is asked for, if any: a stimulus text, a Value Change Dump, or so many rows by chance; there is one at most
 abbrev pub stimulus_of : Option Text → Option Text → Option Text → Option (Option StimulusForm)
@@ -99,6 +99,7 @@ asked_in values stimulus = record {
   proof = is_some values.proof;
   report = is_some values.report;
   verilog = is_some values.verilog;
+  registers = is_some values.registers;
 }
 
 -- there is a watcher only with a stimulus
@@ -113,6 +114,7 @@ may_hint values = is_none values.hints || is_none values.test
 abbrev pub has_file_options : Values → Bool
 has_file_options values =
     is_some values.stim || is_some values.hints || is_some values.proof || is_some values.report || is_some values.verilog
+    || is_some values.registers
 
 abbrev pub has_gate_options : Values → Bool
 has_gate_options values =
@@ -136,7 +138,7 @@ no_options =
       test = None;
       settings = default_settings;
       watch = None;
-      asked = record { stimulus = None; hints = false; proof = false; report = false; verilog = false };
+      asked = record { stimulus = None; hints = false; proof = false; report = false; verilog = false; registers = false };
     }
 
 -- What the options of `gate` say, with a netlist of this name. The values of `--clock`, `--prefix` and `--test` are names, that of

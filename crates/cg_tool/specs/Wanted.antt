@@ -63,4 +63,5 @@ request_by library wanted stimulus hints = record {
   hints = hints;
   report = wanted.asked.report;
   verilog = wanted.asked.verilog;
+  registers = wanted.asked.registers;
 }

@@ -84,6 +84,7 @@ impl Wanted {
             hints,
             report: self.asked.report,
             verilog: self.asked.verilog,
+            registers: self.asked.registers,
         }
     }
 }

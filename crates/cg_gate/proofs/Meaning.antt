@@ -35,13 +35,14 @@ use Rattle.cg_plan_laws.specs.Laws.{IsTurn}
 use Rattle.cg_plan_laws.specs.Plan.{Plan, plan_of}
 use Rattle.cg_plan_laws.proofs.AllSafe.{each_fits}
 use Rattle.cg_plan_laws.proofs.Deserved.{outcomes_deserved}
-use Rattle.cg_register_text.specs.Words.{registers_text}
+use Rattle.cg_register_text.proofs.KindsAdded.{kinds_add_up}
+use Rattle.cg_register_text.specs.Words.{registers_text, tried_of}
 use Rattle.cg_report.specs.Zeros.{low_moments, zeros_of}
 use Rattle.cg_stage_laws.proofs.Fitting.{starts_long}
 use Rattle.cg_stimulus.specs.Inputs.{Rows}
 use Rattle.cg_stimulus.specs.Played.{IsPlayed, played_start, played_wave}
 use Rattle.cg_stimulus.proofs.Playing.{start_is, wave_is}
-use Rattle.cg_gate.specs.Gating.{GivesGated, gated_data, where_asked}
+use Rattle.cg_gate.specs.Gating.{GivesGated, begun_data, where_asked}
 use Rattle.cg_gate.specs.Headline.{Headline, ShowsSame, VerilogMeans, with_bits}
 use Rattle.cg_gate.specs.ZeroCounting.{zero_counts, zeros_by}
 use Rattle.cg_gate.specs.Loading.{LoadsWhere}
@@ -190,7 +191,7 @@ module _ (request : RequestData) (says : Option Saying) (read : Circuit) (texts 
       gives.tells.gives.registers.rises gives.tells.gives.registers.counted gives.tells.played.edges gives.tells.what.edges
 
   registers_told : texts.registers
-      ≡ where_asked request.registers (registers_text (record (gated_data request read w gives.hints.outcomes gives.told) { began = m }) gives.tells.gives.registers.rises)
+      ≡ where_asked request.registers (registers_text (begun_data request read w hints gives.told) gives.tells.gives.registers.rises)
   registers_told =
       gives.tells.gives.registers.is ∙ ap (where_asked request.registers) (same_text request read proper may gives.hints gives.told w gives.gated gives.tells.gives.registers.rises)
 
@@ -242,4 +243,5 @@ module _ (request : RequestData) (says : Option Saying) (read : Circuit) (texts 
     summed = summed;
     registers_told = registers_told;
     causes = means_so request read proper may gives.hints gives.told w gives.gated;
+    kinds = (kinds_add_up (tried_of (begun_data request read w hints gives.told))).1;
   }

@@ -5,7 +5,7 @@ use Rattle.cg_extract.proofs.LiftedMachine.{lifted_is_small}
 use Rattle.cg_extract.specs.Lifted.{lifted}
 use Rattle.cg_gate.proofs.Hinted.{told_long}
 use Rattle.cg_gate.proofs.MayInsert.{may_gate}
-use Rattle.cg_gate.specs.Gating.{IsWritten, gated_data}
+use Rattle.cg_gate.specs.Gating.{IsWritten, begun_data, gated_data}
 use Rattle.cg_gate.specs.Proper.{IsProper}
 use Rattle.cg_gate.specs.Request.{MayGate, RequestData, begun_of, gating_of, hints_of}
 use Rattle.cg_gate.specs.declared.hinting.TriedHints.{TriedHints}
@@ -79,7 +79,7 @@ module _ (request : RequestData) (read : Circuit) (proper : IsProper request) (m
   }
 
   abbrev data : GatedData
-  data = record (gated_data request read written hints.outcomes told) { began = begun_of request read }
+  data = begun_data request read written (record { machine = begun_of request read; outcomes = hints.outcomes; certificates = hints.certificates }) told
 
   right : IsRightCourse request.library request.settings (gating_of request read).counts request.prefix (map (renamed read) (hints_of request)) course
   right = record {

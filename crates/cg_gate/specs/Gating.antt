@@ -4,7 +4,7 @@ use Rattle.std.specs.Option.{option_map}
 use Rattle.cg_blif_text.specs.Canonical.{blif}
 use Rattle.cg_gate_laws.specs.Begun.{renamed}
 use Rattle.cg_gate_laws.specs.Gated.{Gating, begun}
-use Rattle.cg_hint_laws.specs.Answers.{AreTried}
+use Rattle.cg_hint_laws.specs.Answers.{AreTried, Reported}
 use Rattle.cg_hint_laws.specs.declared.outcome.HintOutcome.{HintOutcome}
 use Rattle.cg_insert.specs.Insert.{inserted, insertion_limit}
 use Rattle.cg_extract.specs.Lifted.{lifted}
@@ -53,8 +53,20 @@ where_asked asked text = if asked then Some text else None
 abbrev pub told_outcomes : RequestData → List HintOutcome → Option (List HintOutcome)
 told_outcomes request outcomes = option_map (λ asked. outcomes) request.hints
 
--- A netlist that was read and what it is written as, with the outcomes of its hints and its plan, as far as its registers are told. The
--- plan's machine stands for the one with which the plan began: the text is the same.
+-- A netlist that was read and what it is written as, with its hints and its plan, as far as its registers are told. The plan began with
+-- the machine that the hints leave.
+abbrev pub begun_data : RequestData → Circuit → Circuit → Reported → ReportedPlan → GatedData
+begun_data request read written hints told = record {
+  read = read;
+  written = written;
+  began = hints.machine;
+  width = request.settings.width;
+  hints = hints_of request;
+  outcomes = hints.outcomes;
+  plan = told;
+}
+
+-- so too, but that the plan's machine stands for the one with which it began: the text is the same
 abbrev pub gated_data : RequestData → Circuit → Circuit → List HintOutcome → ReportedPlan → GatedData
 gated_data request read written outcomes told = record {
   read = read;

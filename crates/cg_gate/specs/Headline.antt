@@ -27,7 +27,8 @@ use Rattle.cg_plan_text.specs.ProofText.{proof_text}
 use Rattle.cg_plan_text.specs.Summary.{report_text, said_text}
 use Rattle.cg_plan_text.specs.declared.summary.Played.{Played}
 use Rattle.cg_plan.specs.Planning.{AreWritable}
-use Rattle.cg_register_text.specs.Causes.{cause_of}
+use Rattle.cg_register_text.specs.Causes.{cause_of, causes_of}
+use Rattle.cg_register_text.specs.Laws.{of_kinds}
 use Rattle.cg_register_text.specs.Meaning.{Means}
 use Rattle.cg_register_text.specs.Rises.{RisesWhere}
 use Rattle.cg_register_text.specs.Words.{registers_text, tried_of}
@@ -39,7 +40,7 @@ use Rattle.cg_verilog_text.specs.VEqual.{AreVEqual}
 use Rattle.cg_verilog_text.specs.VerilogText.{VerilogText}
 use Rattle.cg_verilog_text.specs.Written.{verilog}
 use Rattle.cg_gate.specs.WorthInserting.{IsWorthInserting}
-use Rattle.cg_gate.specs.Gating.{gated_data, told_outcomes, where_asked}
+use Rattle.cg_gate.specs.Gating.{begun_data, told_outcomes, where_asked}
 use Rattle.cg_gate.specs.HintNames.{AreAsked}
 use Rattle.cg_gate.specs.Loading.{LoadsWhere}
 use Rattle.cg_gate.specs.ZeroCounting.{zero_counts, zero_counts_of, zeros_by}
@@ -169,14 +170,13 @@ pub record Headline (request : RequestData) (says : Option Saying) (read : Circu
   pub report : texts.report
       ≡ where_asked request.report (report_text plan (hints_of request) hints.outcomes (length written.gaters) played)
   -- in those histories the registers rise so often, and their rises sum up to the edges; the text of the registers, where it is asked
-  -- for, is that of these rises, of both netlists, of the hints, of the machine that they leave and of the plan, and each cause in it
-  -- means of its register what it is to mean
+  -- for, is that of these rises, of both netlists, of the hints, of the machine that they leave and of the plan; each cause in it is true
+  -- of its register, and the sums of the kinds of causes add up to the registers
   pub rises : Option BothRises
   pub risen : RisesWhere request.stimulus read written rises
   pub summed : SumUp rises played.edges
   pub registers_told : texts.registers
-      ≡ where_asked request.registers
-      (registers_text (record (gated_data request read written hints.outcomes plan) { began = hints.machine }) rises)
+      ≡ where_asked request.registers (registers_text (begun_data request read written hints plan) rises)
   pub causes : (r : ℕ) → r < length read.registers
       → Means (record {
         read = read;
@@ -186,4 +186,5 @@ pub record Headline (request : RequestData) (says : Option Saying) (read : Circu
         stages = turns;
         ended = plan.machine;
         width = request.settings.width;
-      }) r (cause_of (tried_of (record (gated_data request read written hints.outcomes plan) { began = hints.machine })) r)
+      }) r (cause_of (tried_of (begun_data request read written hints plan)) r)
+  pub kinds : of_kinds (causes_of (tried_of (begun_data request read written hints plan))) ≡ length read.registers

@@ -25,6 +25,7 @@ fn settings() -> Settings {
         width: 32,
         rounds: 1,
         test: false,
+        proof: false,
     }
 }
 

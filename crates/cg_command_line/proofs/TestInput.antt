@@ -26,11 +26,11 @@ hints_alone hints None may asked = refl
 hints_alone None (Some test) may asked = absurd (cc)
 hints_alone (Some hints) (Some test) may asked = absurd (cc)
 
-settings_name : (test : Bool) (min width rounds : Option ℕ) → IfSome (settings_with test min width rounds) (λ settings. settings.test ≡ test)
-settings_name test (Some min) (Some width) (Some rounds) = refl
-settings_name test (Some min) (Some width) None = tt
-settings_name test (Some min) None rounds = tt
-settings_name test None width rounds = tt
+settings_name : (test proof : Bool) (min width rounds : Option ℕ) → IfSome (settings_with test proof min width rounds) (λ settings. settings.test ≡ test)
+settings_name test proof (Some min) (Some width) (Some rounds) = refl
+settings_name test proof (Some min) (Some width) None = tt
+settings_name test proof (Some min) None rounds = tt
+settings_name test proof None width rounds = tt
 
 gate_names : (netlist : Text) (values : Values) (settings : Option Settings) (watch : Option (Option ℕ)) (stimulus : Option (Option StimulusForm)) → IfSome settings (λ settings. settings.test ≡ is_some values.test)
     → IfSome (gate_options_with netlist values settings watch stimulus) NamesTest
@@ -56,7 +56,7 @@ JobNames job = NamesTest job.options
 pub test_is_named : (watchers words : List Text) → IfSome (job_of watchers words) (λ job. NamesTest job.options)
 test_is_named watchers words =
     each_job JobNames watchers
-    (λ library netlist out values different. gate_names netlist values (settings_in values) (watch_in watchers values.watch) (stimulus_in values) (settings_name (is_some values.test) (number_or 1 1 1024 values.min) (number_or 32 1 256 values.width) (number_or 4 0 16 values.rounds)))
+    (λ library netlist out values different. gate_names netlist values (settings_in values) (watch_in watchers values.watch) (stimulus_in values) (settings_name (is_some values.test) (is_some values.proof) (number_or 1 1 1024 values.min) (number_or 32 1 256 values.width) (number_or 4 0 16 values.rounds)))
     (λ form library netlist stimulus values. sim_names netlist values (watch_in watchers values.watch))
     (λ formula log. record { asked = refl; apart = refl; unhinted = λ hinted. refl })
     (λ size. record { asked = refl; apart = refl; unhinted = λ hinted. refl })

@@ -23,8 +23,8 @@ with_options app (name ∷ names) = with_options (with_option app name) names
 
 abbrev pub option_names : List Text
 option_names =
-    codes "stim" ∷ codes "vcd" ∷ codes "random" ∷ codes "hints" ∷ codes "proof" ∷ codes "report" ∷ codes "verilog" ∷ codes "min" ∷ codes "width"
-    ∷ codes "rounds" ∷ codes "clock" ∷ codes "prefix" ∷ codes "test" ∷ codes "watch" ∷ []
+    codes "stim" ∷ codes "vcd" ∷ codes "random" ∷ codes "hints" ∷ codes "proof" ∷ codes "report" ∷ codes "verilog" ∷ codes "registers" ∷ codes "min"
+    ∷ codes "width" ∷ codes "rounds" ∷ codes "clock" ∷ codes "prefix" ∷ codes "test" ∷ codes "watch" ∷ []
 
 abbrev pub command_line : App
 command_line = with_options (with_rule (with_rule (new_app (codes "clockgate")) mode_rule) files_rule) option_names
@@ -38,6 +38,7 @@ pub record Values : Type 0 where
   pub proof : Option Text
   pub report : Option Text
   pub verilog : Option Text
+  pub registers : Option Text
   pub min : Option Text
   pub width : Option Text
   pub rounds : Option Text
@@ -56,6 +57,7 @@ values_in rows = record {
   proof = first_of (codes "proof") rows;
   report = first_of (codes "report") rows;
   verilog = first_of (codes "verilog") rows;
+  registers = first_of (codes "registers") rows;
   min = first_of (codes "min") rows;
   width = first_of (codes "width") rows;
   rounds = first_of (codes "rounds") rows;

@@ -38,13 +38,13 @@ IsByName job = ((job.options).netlist).form ≡ form_of (file_of job.files roles
 abbrev pub job_of_options : Mode → Files → Option Options → Option JobWords
 job_of_options mode files options = option_map (λ options. record { mode = mode; files = files; options = options }) options
 
--- `gate LIB NETLIST OUT` with `--stim F`, `--vcd F` or `--random N`, `--hints F`, `--proof F`, `--report F`, `--verilog F`, `--min N`,
--- `--width N`, `--rounds N`, `--clock NAME`, `--prefix P`, `--test NAME` and `--watch NAME`, where all files are different
+-- `gate LIB NETLIST OUT` with `--stim F`, `--vcd F` or `--random N`, `--hints F`, `--proof F`, `--report F`, `--verilog F`,
+-- `--registers F`, `--min N`, `--width N`, `--rounds N`, `--clock NAME`, `--prefix P`, `--test NAME` and `--watch NAME`, where all files are different
 abbrev pub gate_files : Text → Text → Text → Values → Files
 gate_files library netlist out values =
     named roles.Library library ∷ named roles.Netlist netlist ∷ named roles.Stimulus (unwrap_or values.stim (unwrap_or values.vcd []))
     ∷ named roles.Hints (unwrap_or values.hints []) ∷ named roles.Out out ∷ named roles.Proof (unwrap_or values.proof []) ∷ named roles.Report (unwrap_or values.report [])
-    ∷ named roles.Verilog (unwrap_or values.verilog []) ∷ []
+    ∷ named roles.Verilog (unwrap_or values.verilog []) ∷ named roles.Registers (unwrap_or values.registers []) ∷ []
 
 abbrev pub gate_job : List Text → List Text → Values → Option JobWords
 gate_job watchers (library ∷ netlist ∷ out ∷ []) values =

@@ -33,18 +33,20 @@ abbrev pub number_or : ℕ → ℕ → ℕ → Option Text → Option ℕ
 number_or default low high None = Some default
 number_or default low high (Some word) = number_in low high word
 
--- what bounds a plan; gating cells have a test input exactly where one is named
-abbrev pub settings_with : Bool → Option ℕ → Option ℕ → Option ℕ → Option Settings
-settings_with test (Some min) (Some width) (Some rounds) = Some (record { min = min; width = width; rounds = rounds; test = test })
-settings_with test _ _ _ = None
+-- what bounds a plan; gating cells have a test input exactly where one is named, and proofs are kept exactly where a file of them is
+-- asked for
+abbrev pub settings_with : Bool → Bool → Option ℕ → Option ℕ → Option ℕ → Option Settings
+settings_with test proof (Some min) (Some width) (Some rounds) =
+    Some (record { min = min; width = width; rounds = rounds; test = test; proof = proof })
+settings_with test proof _ _ _ = None
 
 abbrev pub settings_in : Values → Option Settings
 settings_in values =
-    settings_with (is_some values.test) (number_or 1 1 1024 values.min) (number_or 32 1 256 values.width)
+    settings_with (is_some values.test) (is_some values.proof) (number_or 1 1 1024 values.min) (number_or 32 1 256 values.width)
     (number_or 4 0 16 values.rounds)
 
 abbrev pub default_settings : Settings
-default_settings = record { min = 1; width = 32; rounds = 4; test = false }
+default_settings = record { min = 1; width = 32; rounds = 4; test = false; proof = false }
 
 -- a value that has to be a name, where it is given
 abbrev pub is_named : Option Text → Bool
@@ -74,7 +76,7 @@ are_different (name ∷ names) = not (list_any (λ other. bytes_eq other name) n
 abbrev pub option_files : Values → List Text
 option_files values =
     option_to_list values.stim ++ option_to_list values.vcd ++ option_to_list values.hints ++ option_to_list values.proof
-    ++ option_to_list values.report ++ option_to_list values.verilog
+    ++ option_to_list values.report ++ option_to_list values.verilog ++ option_to_list values.registers
 
 -- the stimulus that is asked for, if any: a stimulus text, a Value Change Dump, or so many rows by chance; there is one at most
 abbrev pub stimulus_of : Option Text → Option Text → Option Text → Option (Option StimulusForm)
@@ -97,6 +99,7 @@ asked_in values stimulus = record {
   proof = is_some values.proof;
   report = is_some values.report;
   verilog = is_some values.verilog;
+  registers = is_some values.registers;
 }
 
 -- there is a watcher only with a stimulus
@@ -111,6 +114,7 @@ may_hint values = is_none values.hints || is_none values.test
 abbrev pub has_file_options : Values → Bool
 has_file_options values =
     is_some values.stim || is_some values.hints || is_some values.proof || is_some values.report || is_some values.verilog
+    || is_some values.registers
 
 abbrev pub has_gate_options : Values → Bool
 has_gate_options values =
@@ -134,7 +138,7 @@ no_options =
       test = None;
       settings = default_settings;
       watch = None;
-      asked = record { stimulus = None; hints = false; proof = false; report = false; verilog = false };
+      asked = record { stimulus = None; hints = false; proof = false; report = false; verilog = false; registers = false };
     }
 
 -- What the options of `gate` say, with a netlist of this name. The values of `--clock`, `--prefix` and `--test` are names, that of

@@ -12,6 +12,7 @@ values_of given = record {
   proof = option_map (λ word. word.now) given.proof;
   report = option_map (λ word. word.now) given.report;
   verilog = option_map (λ word. word.now) given.verilog;
+  registers = option_map (λ word. word.now) given.registers;
   min = option_map (λ word. word.now) given.min;
   width = option_map (λ word. word.now) given.width;
   rounds = option_map (λ word. word.now) given.rounds;

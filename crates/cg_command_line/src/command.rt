@@ -19,7 +19,8 @@ pub fn command_line<'a>(alloc: Global) -> Result<Command<'a>, AllocError>
     let proof = with_option(alloc, hints, "proof")?;
     let report = with_option(alloc, proof, "report")?;
     let verilog = with_option(alloc, report, "verilog")?;
-    let min = with_option(alloc, verilog, "min")?;
+    let registers = with_option(alloc, verilog, "registers")?;
+    let min = with_option(alloc, registers, "min")?;
     let width = with_option(alloc, min, "width")?;
     let rounds = with_option(alloc, width, "rounds")?;
     let clock = with_option(alloc, rounds, "clock")?;

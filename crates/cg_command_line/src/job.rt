@@ -206,6 +206,7 @@ fn gate_files<'a>(
             named(Role::Proof, given.proof.unwrap_or("")),
             named(Role::Report, given.report.unwrap_or("")),
             named(Role::Verilog, given.verilog.unwrap_or("")),
+            named(Role::Registers, given.registers.unwrap_or("")),
         ],
     )
 }

@@ -29,6 +29,7 @@ pub struct Asked {
     pub proof: bool,
     pub report: bool,
     pub verilog: bool,
+    pub registers: bool,
 }
 
 /// What the options say; those that are left out have their defaults.
@@ -69,6 +70,7 @@ pub fn no_options(alloc: Global) -> Result<Options, AllocError>
             width: 32,
             rounds: 4,
             test: false,
+            proof: false,
         },
         watch: None,
         asked: Asked {
@@ -77,6 +79,7 @@ pub fn no_options(alloc: Global) -> Result<Options, AllocError>
             proof: false,
             report: false,
             verilog: false,
+            registers: false,
         },
     })
 }
@@ -192,6 +195,7 @@ fn has_file_options(given: &OptionWords<'_>) -> bool
         || given.proof.is_some()
         || given.report.is_some()
         || given.verilog.is_some()
+        || given.registers.is_some()
 }
 
 /// Whether options of any mode are given.
@@ -214,6 +218,7 @@ fn asked_for(given: &OptionWords<'_>, stimulus: Option<StimulusForm>) -> Asked
         proof: given.proof.is_some(),
         report: given.report.is_some(),
         verilog: given.verilog.is_some(),
+        registers: given.registers.is_some(),
     }
 }
 
@@ -265,6 +270,7 @@ fn settings(given: &OptionWords<'_>) -> Option<Settings>
         width,
         rounds,
         test: given.test.is_some(),
+        proof: given.proof.is_some(),
     })
 }
 
@@ -369,7 +375,8 @@ pub fn push_files<'a>(files: &mut Vec<&'a str>, given: &OptionWords<'a>) -> Resu
     push_file(files, given.hints)?;
     push_file(files, given.proof)?;
     push_file(files, given.report)?;
-    push_file(files, given.verilog)
+    push_file(files, given.verilog)?;
+    push_file(files, given.registers)
 }
 
 fn push_file<'a>(files: &mut Vec<&'a str>, file: Option<&'a str>) -> Result<(), AllocError>

@@ -30,11 +30,17 @@ module _ (c : Circuit) (good : IsWellFormed c) where
   data_no_register : (x : ℕ) → is_in (data_inputs c) x ≡ true → is_in (register_nets c) x ≡ false
   data_no_register x among = distinct_apart (sources ++ gater_outputs c) (register_nets c) (distinct_given c good.driven) x (is_in_left sources (gater_outputs c) x (is_in_left (data_inputs c) (option_to_list c.clock) x among))
 
-  clock_no_register : (x : ℕ) → is_in (clock_nets c) x ≡ true → is_in (register_nets c) x ≡ false
+  pub clock_no_register : (x : ℕ) → is_in (clock_nets c) x ≡ true → is_in (register_nets c) x ≡ false
   clock_no_register x among = distinct_apart (sources ++ gater_outputs c) (register_nets c) (distinct_given c good.driven) x (elim (is_in_cases (option_to_list c.clock) (gater_outputs c) x among) [
     | inl clk ↦ is_in_left sources (gater_outputs c) x (is_in_right (data_inputs c) (option_to_list c.clock) x clk)
     | inr gater ↦ is_in_right sources (gater_outputs c) x gater
   ])
+
+  pub register_no_clock : (x : ℕ) → is_in (register_nets c) x ≡ true → is_in (clock_nets c) x ≡ false
+  register_no_clock x among = false_from_ne_true (is_in (clock_nets c) x) (λ carries. both_ways (is_in (register_nets c) x) (clock_no_register x carries) among)
+
+  register_no_data : (x : ℕ) → is_in (register_nets c) x ≡ true → is_in (data_inputs c) x ≡ false
+  register_no_data x among = false_from_ne_true (is_in (data_inputs c) x) (λ input. both_ways (is_in (register_nets c) x) (data_no_register x input) among)
 
   clock_no_data : (x : ℕ) → is_in (clock_nets c) x ≡ true → is_in (data_inputs c) x ≡ false
   clock_no_data x among = false_from_ne_true (is_in (data_inputs c) x) (λ input.
@@ -55,10 +61,10 @@ module _ (c : Circuit) (good : IsWellFormed c) where
     pub long : length old ≡ length c.names
     pub clocks : ShowClocks c tick.clock latches n1
     pub same1 : SameBut (clock_nets c) old n1
-    pub inputs : values_at n2 (data_inputs c) ≡ tick.inputs
-    pub same2 : SameBut (data_inputs c) n1 n2
-    pub registers : values_at n3 (register_nets c) ≡ register_bits c.registers state
-    pub same3 : SameBut (register_nets c) n2 n3
+    pub registers : values_at n2 (register_nets c) ≡ register_bits c.registers state
+    pub same2 : SameBut (register_nets c) n1 n2
+    pub inputs : values_at n3 (data_inputs c) ≡ tick.inputs
+    pub same3 : SameBut (data_inputs c) n2 n3
     pub cells : CellsHold c.cells n4
     pub same4 : SameBut (cell_nets c) n3 n4
 
@@ -67,7 +73,7 @@ module _ (c : Circuit) (good : IsWellFormed c) where
     whole = parts.same4.long ∙ (parts.same3.long ∙ (parts.same2.long ∙ (parts.same1.long ∙ parts.long)))
 
     clock_stays : (x : ℕ) → is_in (clock_nets c) x ≡ true → slice_get n4 x ≡ slice_get n1 x
-    clock_stays x among = parts.same4.same x (clock_no_cell x among) ∙ (parts.same3.same x (clock_no_register x among) ∙ parts.same2.same x (clock_no_data x among))
+    clock_stays x among = parts.same4.same x (clock_no_cell x among) ∙ (parts.same3.same x (clock_no_data x among) ∙ parts.same2.same x (clock_no_register x among))
 
     pub clock_bit : (x : ℕ) → is_in (clock_nets c) x ≡ true → bit n4 x ≡ bit n1 x
     clock_bit x among = same_bit n4 n1 x (clock_stays x among)
@@ -94,9 +100,9 @@ module _ (c : Circuit) (good : IsWellFormed c) where
     settles latches_new is = record {
       long = whole;
       shows_clock = λ net clk. shown_at net (is_in_left (option_to_list c.clock) (gater_outputs c) net (from_option c.clock net clk)) ∙ ap (λ b. Some b) (parts.clocks.on_clock net clk);
-      shows_inputs = same_values n4 n2 (data_inputs c) (λ x among. parts.same4.same x (data_no_cell c good x among) ∙ parts.same3.same x (data_no_register x among)) ∙ parts.inputs;
+      shows_inputs = same_values n4 n3 (data_inputs c) (λ x among. parts.same4.same x (data_no_cell c good x among)) ∙ parts.inputs;
       shows_gaters = gaters_shown ∙ sym (ap (zip_with (gater_bit n4) c.gaters) is ∙ held_gaters n4 c.gaters latches);
-      shows_state = same_values n4 n3 (register_nets c) (λ x among. parts.same4.same x (register_no_cell c good x among)) ∙ parts.registers;
+      shows_state = same_values n4 n2 (register_nets c) (λ x among. parts.same4.same x (register_no_cell c good x among) ∙ parts.same3.same x (register_no_data x among)) ∙ parts.registers;
       holds = parts.cells;
     }
 

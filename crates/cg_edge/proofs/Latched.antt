@@ -6,7 +6,7 @@ use Rattle.cg_netlist.specs.Circuit.{GatingCell}
 use Rattle.cg_netlist.specs.History.{next_latch}
 use Rattle.cg_netlist.specs.Moment.{zip_with}
 use Rattle.cg_netlist.proofs.Values.{element_at, zip_with_at}
-use Rattle.cg_edge.proofs.Written.{IsWritten}
+use Rattle.cg_edge.specs.inner.Stepped.{IsWritten}
 
 pub latched : (nets : List Bool) (gaters : List (GatingCell ℕ)) (old cur : List Bool) (k : ℕ) (v : Bool) → length old ≡ length gaters → k < length gaters → IsWritten k old (zip_with (next_latch nets) gaters old) cur
     → option_map (λ gater. next_latch nets gater (slice_index_or cur k false)) (slice_get gaters k) ≡ Some v → slice_get (zip_with (next_latch nets) gaters old) k ≡ Some v

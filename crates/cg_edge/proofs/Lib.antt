@@ -10,6 +10,8 @@ pub mod Marked
 pub mod Moved
 pub mod Puts
 pub mod Rows
+pub mod InRuns
+pub mod Stepped
 pub mod Ticked
 pub mod Walk
 pub mod Written

@@ -7,7 +7,7 @@ use Rattle.cg_netlist.specs.Circuit.{RegisterCell}
 use Rattle.cg_netlist.specs.History.{next_bit, next_value, rises}
 use Rattle.cg_netlist.specs.Moment.{values_at, zip_with}
 use Rattle.cg_netlist.proofs.Values.{element_at, zip_with_at}
-use Rattle.cg_edge.proofs.Written.{IsWritten}
+use Rattle.cg_edge.specs.inner.Stepped.{IsWritten}
 
 -- what a register that rises and one that does not has next
 pub moved : (before nets : List Bool) (rs : List (RegisterCell ℕ ℕ)) (old cur : List Bool) (k : ℕ) (rise v : Bool) → length old ≡ length rs → k < length rs

@@ -1,16 +1,12 @@
 -- A list that is written place by place, up from the first.
-use Rattle.std.proofs.Common.{◌≡◌, ℕ, ◌+◌, ◌<◌, ◌≤◌, inl, inr, Bool, List, length, slice_get, slice_set, Some, refl, sym, ◌∙◌, ap}
+use Rattle.std.proofs.Common.{◌≡◌, ℕ, zero, suc, false, replicate, ◌+◌, ◌<◌, ◌≤◌, inl, inr, Bool, List, length, slice_get, slice_set, Some, refl, sym, ◌∙◌, ap}
 use Rattle.std.proofs.Common.{arith}
 use Rattle.std.proofs.lemmas.List.{length-set}
 use Rattle.std.proofs.lemmas.Option.{slice_get_within}
 use Rattle.cg_net.proofs.TableLemmas.{same_or_not, slice_get-set_other, slice_get-set_same}
 use Rattle.cg_netlist.proofs.Values.{same_places}
-
--- the places below i have what is wanted there, and the others what they had
-pub record IsWritten (i : ℕ) (old wanted new : List Bool) : Type 0 where
-  pub long : length new ≡ length wanted
-  pub done : (k : ℕ) → k < i → slice_get new k ≡ slice_get wanted k
-  pub left : (k : ℕ) → i ≤ k → slice_get new k ≡ slice_get old k
+use Rattle.cg_edge.specs.inner.Stepped.{IsWritten}
+use Rattle.cg_edge.proofs.Bits.{below_or}
 
 pub written_none : (old wanted : List Bool) → length old ≡ length wanted → IsWritten 0 old wanted old
 written_none old wanted long = record { long = long; done = λ k below. absurd (omega arith); left = λ k past. refl }
@@ -38,3 +34,19 @@ written_same i old wanted new written is = record {
   ];
   left = λ k past. written.left k (omega arith);
 }
+
+-- places that have what is wanted there already, one behind the other
+pub written_past : (i n : ℕ) (old wanted new : List Bool) → i ≤ n → IsWritten i old wanted new → ((k : ℕ) → i ≤ k → k < n → slice_get wanted k ≡ slice_get old k) → IsWritten n old wanted new
+written_past i n old wanted new further written is = record {
+  long = written.long;
+  done = λ k below. elim (below_or i k) [
+    | inl past ↦ written.left k past ∙ sym (is k past below)
+    | inr early ↦ written.done k early
+  ];
+  left = λ k past. written.left k (omega (arith, past, further));
+}
+
+pub replicate_at : (n k : ℕ) → k < n → slice_get (replicate n false) k ≡ Some false
+replicate_at zero k below = absurd (omega arith)
+replicate_at (suc n) zero below = refl
+replicate_at (suc n) (suc k) below = replicate_at n k (omega (arith, below))

@@ -3,4 +3,6 @@ pub mod Bits
 pub mod Flat
 pub mod Keeping
 pub mod Kept
+pub mod Runs
 pub mod Spans
+pub mod Stepped

@@ -7,7 +7,7 @@
 //! The modules, in the order in which data flows through them:
 //!
 //! - `clock_nets`: the clock and the outputs of gating cells.
-//! - `register_step`: which registers rise, and their next bits.
+//! - `runs`: registers that stand one behind the other and have one clock net.
 //! - `marks`: which logic cells are to be looked at.
 //! - `readers`: which logic cells read a net.
 //! - `table`: truth tables of logic cells that have few inputs.
@@ -15,6 +15,7 @@
 //! - `schedule`: a netlist with the order in which its cells are evaluated.
 //! - `present`: the present bits, which a tick moves.
 //! - `put`: the data inputs and the registers' bits at their nets.
+//! - `register_step`: which registers rise, and their next bits.
 //! - `settle`: the logic cells, of which those are looked at that have a changed input.
 //! - `latch_step`: the latches of gating cells.
 //! - `moment`: from one moment to the next.
@@ -30,6 +31,7 @@ mod present;
 mod put;
 mod readers;
 mod register_step;
+mod runs;
 mod schedule;
 mod settle;
 pub mod simulator;

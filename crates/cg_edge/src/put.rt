@@ -76,7 +76,7 @@ pub(crate) fn put_inputs(
     }
 }
 
-/// Puts the bits of the registers at their output nets, or the inverse bits where an output shows that.
+/// Puts the bits of all registers at their output nets, or the inverse bits where an output shows that.
 pub(crate) fn put_registers(
     netlist: &Netlist,
     readers: &Readers,
@@ -108,7 +108,7 @@ pub(crate) fn put_registers(
 }
 
 /// Puts the bit of a register at its output nets.
-fn put_register(
+pub(crate) fn put_register(
     netlist: &Netlist,
     readers: &Readers,
     reg: RegId,

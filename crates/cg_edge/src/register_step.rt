@@ -1,49 +1,119 @@
 //! Which registers rise, and their next bits.
 
-ghost use Rattle.std.specs.Prelude.{◌≡◌, ◌<◌, length, map, slice_get, Some};
-ghost use Rattle.std.specs.Option.{option_map};
+ghost use Rattle.std.specs.Prelude.{◌≡◌, ◌<◌, ◌≤◌, ◌&&◌, List, Bool, false, not, length, map, replicate};
+ghost use Rattle.cg_netlist.specs.Circuit.{register_nets};
 ghost use Rattle.cg_netlist.specs.History.{next_bit, rises};
-ghost use Rattle.cg_netlist.specs.Moment.{zip_with};
+ghost use Rattle.cg_netlist.specs.Moment.{bit, register_bits, values_at, zip_with};
 ghost use Rattle.cg_netlist.specs.Netlist.{IsNetlist};
+ghost use Rattle.cg_edge.specs.inner.Keeping.{AreMarked, AreReaders, SameBut, walk_of};
+ghost use Rattle.cg_edge.specs.inner.Kept.{IsSchedule};
+ghost use Rattle.cg_edge.specs.inner.Stepped.{AllRise, AreStepped};
 
-use cg_net::id::RegId;
+use crate::marks::Marks;
+use crate::put::put_register;
+use crate::readers::Readers;
+use crate::schedule::Schedule;
+use cg_net::id::{NetId, RegId};
 use cg_netlist::netlist::Netlist;
 
-/// Whether a register's clock net rises from the bits of nets `before` to those of `nets`.
-fn rises(netlist: &Netlist, reg: RegId, before: &[bool], nets: &[bool]) -> bool
-    requires netlist { IsNetlist netlist.now }
-    requires register { reg < length netlist.now.registers }
-    requires before { length before.now ≡ length netlist.now.names }
-    requires nets { length nets.now ≡ length netlist.now.names }
-    ensures { option_map (rises before.now nets.now) (slice_get netlist.now.registers reg) ≡ Some result }
-{
-    let clock = netlist.register(reg).clock.number() as usize;
-    !before[clock] && nets[clock]
-}
-
-/// Moves each register whose clock net rose from the bits of nets `before` to those of `nets`, and tells which rose.
+/// Moves each register whose clock net rose from the bits of nets `before` to those of `nets`, puts its bit at its output
+/// nets, and tells which rose. No register is looked at whose clock net did not rise.
 pub(crate) fn step(
-    netlist: &Netlist,
+    schedule: &Schedule<'_>,
     before: &[bool],
-    nets: &[bool],
+    nets: &mut [bool],
     state: &mut [bool],
     rose: &mut [bool],
+    marks: &mut Marks,
+)
+    requires schedule { IsSchedule schedule.now }
+    requires before { length before.now ≡ length schedule.now.netlist.now.names }
+    requires nets { length nets.old ≡ length schedule.now.netlist.now.names }
+    requires state { length state.old ≡ length schedule.now.netlist.now.registers }
+    requires rose { length rose.old ≡ length schedule.now.netlist.now.registers }
+    requires shown { values_at nets.old (register_nets schedule.now.netlist.now) ≡ register_bits schedule.now.netlist.now.registers state.old }
+    requires marks { length marks.old ≡ length schedule.now.order.now }
+    requires marked { AreMarked (walk_of schedule.now.netlist.now) marks.old nets.old }
+    ensures state { state.new ≡ zip_with (next_bit before.now nets.old) schedule.now.netlist.now.registers state.old }
+    ensures rose { rose.new ≡ map (rises before.now nets.old) schedule.now.netlist.now.registers }
+    ensures shown { values_at nets.new (register_nets schedule.now.netlist.now) ≡ register_bits schedule.now.netlist.now.registers state.new }
+    ensures same { SameBut (register_nets schedule.now.netlist.now) nets.old nets.new }
+    ensures marked { AreMarked (walk_of schedule.now.netlist.now) marks.new nets.new }
+    ensures long { length marks.new ≡ length marks.old }
+{
+    let netlist = schedule.netlist;
+    clear(rose);
+    let mut first = 0;
+    for run in schedule.runs.as_slice() {
+        if rises(run.clock, before, nets) {
+            move_run(
+                netlist,
+                &schedule.readers,
+                first,
+                run.end,
+                before,
+                nets,
+                state,
+                rose,
+                marks,
+            );
+        }
+        first = run.end;
+    }
+}
+
+/// Whether a net rises from the bits of nets `before` to those of `nets`.
+fn rises(net: NetId, before: &[bool], nets: &[bool]) -> bool
+    requires before { net < length before.now }
+    requires nets { net < length nets.now }
+    ensures { result ≡ (not (bit before.now net) && bit nets.now net) }
+{
+    let place = net.number() as usize;
+    !before[place] && nets[place]
+}
+
+/// Makes all bits 0.
+fn clear(bits: &mut [bool])
+    ensures { bits.new ≡ replicate (length bits.old) false }
+{
+    for place in 0..bits.len() {
+        bits[place] = false;
+    }
+}
+
+/// Moves the registers from one number up to another, whose clock net rose, puts their bits at their output nets, and
+/// tells that they rose.
+fn move_run(
+    netlist: &Netlist,
+    readers: &Readers,
+    first: u32,
+    end: u32,
+    before: &[bool],
+    nets: &mut [bool],
+    state: &mut [bool],
+    rose: &mut [bool],
+    marks: &mut Marks,
 )
     requires netlist { IsNetlist netlist.now }
+    requires order { first ≤ end }
+    requires registers { end ≤ length netlist.now.registers }
     requires before { length before.now ≡ length netlist.now.names }
-    requires nets { length nets.now ≡ length netlist.now.names }
+    requires nets { length nets.old ≡ length netlist.now.names }
     requires state { length state.old ≡ length netlist.now.registers }
     requires rose { length rose.old ≡ length netlist.now.registers }
-    ensures state { state.new ≡ zip_with (next_bit before.now nets.now) netlist.now.registers state.old }
-    ensures rose { rose.new ≡ map (rises before.now nets.now) netlist.now.registers }
+    requires readers { AreReaders (length netlist.now.names) (length marks.old) (walk_of netlist.now) readers.now }
+    requires marked { AreMarked (walk_of netlist.now) marks.old nets.old }
+    requires count { length marks.old ≡ length (walk_of netlist.now) }
+    ensures stepped { (now was : List Bool) → AllRise netlist.now before.now now first end → AreStepped netlist.now before.now now was first nets.old state.old rose.old
+        → AreStepped netlist.now before.now now was end nets.new state.new rose.new }
+    ensures marked { AreMarked (walk_of netlist.now) marks.new nets.new }
+    ensures long { length marks.new ≡ length marks.old }
 {
-    for k in 0..netlist.registers() {
+    for k in first..end {
         let reg = RegId::new(k);
         let place = k as usize;
-        let moves = rises(netlist, reg, before, nets);
-        rose[place] = moves;
-        if moves {
-            state[place] = netlist.next_value(reg, state[place], before);
-        }
+        state[place] = netlist.next_value(reg, state[place], before);
+        rose[place] = true;
+        put_register(netlist, readers, reg, state[place], nets, marks);
     }
 }

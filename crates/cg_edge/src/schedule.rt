@@ -5,16 +5,18 @@ ghost use Rattle.cg_edge.specs.inner.Kept.{IsSchedule};
 
 use crate::flat::FlatCells;
 use crate::readers::Readers;
+use crate::runs::{Run, runs};
 use cg_net::id::{CellId, GateClockId};
 use cg_netlist::netlist::Netlist;
 use std::alloc::{AllocError, Global};
 
-/// What stays the same from tick to tick: a netlist, its gating cells, each behind the one that drives its clock pin, and
-/// its logic cells in walk order, with what reads each net.
+/// What stays the same from tick to tick: a netlist, its gating cells, each behind the one that drives its clock pin, its
+/// registers in runs, and its logic cells in walk order, with what reads each net.
 #[derive(Drop)]
 pub(crate) struct Schedule<'a> {
     pub(crate) netlist: &'a Netlist,
     pub(crate) chain: Vec<GateClockId>,
+    pub(crate) runs: Vec<Run>,
     pub(crate) order: &'a [CellId],
     pub(crate) cells: FlatCells,
     pub(crate) readers: Readers,
@@ -29,11 +31,13 @@ impl<'a> Schedule<'a> {
         let _nets = netlist.nets();
         let order = netlist.order();
         let chain = netlist.gater_order(alloc)?;
+        let runs = runs(alloc, netlist)?;
         let cells = FlatCells::new(alloc, netlist, order)?;
         let readers = Readers::new(alloc, netlist, order)?;
         Ok(Schedule {
             netlist,
             chain,
+            runs,
             order,
             cells,
             readers,

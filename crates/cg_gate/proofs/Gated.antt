@@ -60,12 +60,15 @@ module _ (request : RequestData) (read : Circuit) (proper : IsProper request) (m
       let un = unpassed (insertion_limit request.test told.machine) (inserted request.library request.test told.machine) written is in
       record { tried = tried; plan = plan; writable = can_write; fits = un.0; is = un.1 }
 
-  pub for_written : (written : Circuit) → insertion request.library request.test told.machine ≡ Ok written → (stimulus : Rows) → request.stimulus ≡ Some stimulus → IsFor written stimulus
-  for_written written is stimulus there =
-      let same : written ≡ gated_by by read = (unpassed (insertion_limit request.test told.machine) (inserted request.library request.test told.machine) written is).1 ∙ ap (inserted request.library request.test) plan.machine in
+  pub for_inserted : (written : Circuit) → written ≡ inserted request.library request.test told.machine → (stimulus : Rows) → request.stimulus ≡ Some stimulus → IsFor written stimulus
+  for_inserted written is stimulus there =
+      let same : written ≡ gated_by by read = is ∙ ap (inserted request.library request.test) plan.machine in
       let for' = may.played stimulus there in
       let names : input_names written ≡ input_names read ++ option_to_list request.test = ap input_names same ∙ (gated_behaves by read can).inputs in
       (for'.0 ++ option_to_list request.test, names ∙ (ap (λ front. front ++ option_to_list request.test) for'.1 ∙ append_assoc stimulus.inputs for'.0 (option_to_list request.test)))
+
+  pub for_written : (written : Circuit) → insertion request.library request.test told.machine ≡ Ok written → (stimulus : Rows) → request.stimulus ≡ Some stimulus → IsFor written stimulus
+  for_written written is = for_inserted written (unpassed (insertion_limit request.test told.machine) (inserted request.library request.test told.machine) written is).1
 
   -- neither a hint nor the plan passes a limit
   passes_none : option_or (hints_limit by read) (plan_limit by read) ≡ None

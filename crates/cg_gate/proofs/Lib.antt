@@ -9,6 +9,8 @@ mod Leads
 mod LiftedInputs
 mod Loading
 mod MayInsert
+mod RegistersTold
+mod RisesSummed
 mod TestedWaves
 mod TextShows
 mod Unrefused

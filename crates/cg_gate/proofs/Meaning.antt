@@ -35,27 +35,31 @@ use Rattle.cg_plan_laws.specs.Laws.{IsTurn}
 use Rattle.cg_plan_laws.specs.Plan.{Plan, plan_of}
 use Rattle.cg_plan_laws.proofs.AllSafe.{each_fits}
 use Rattle.cg_plan_laws.proofs.Deserved.{outcomes_deserved}
+use Rattle.cg_register_text.specs.Words.{registers_text}
 use Rattle.cg_report.specs.Zeros.{low_moments, zeros_of}
 use Rattle.cg_stage_laws.proofs.Fitting.{starts_long}
 use Rattle.cg_stimulus.specs.Inputs.{Rows}
 use Rattle.cg_stimulus.specs.Played.{IsPlayed, played_start, played_wave}
 use Rattle.cg_stimulus.proofs.Playing.{start_is, wave_is}
-use Rattle.cg_gate.specs.Gating.{GivesGated}
+use Rattle.cg_gate.specs.Gating.{GivesGated, gated_data, where_asked}
 use Rattle.cg_gate.specs.Headline.{Headline, ShowsSame, VerilogMeans, with_bits}
 use Rattle.cg_gate.specs.ZeroCounting.{zero_counts, zeros_by}
 use Rattle.cg_gate.specs.Loading.{LoadsWhere}
-use Rattle.cg_gate.specs.Played.{Saying}
+use Rattle.cg_gate.specs.Played.{Saying, SumUp}
 use Rattle.cg_gate.specs.Proper.{IsProper}
 use Rattle.cg_gate.specs.Request.{MayGate, RequestData, begun_of, gating_of, hints_of}
 use Rattle.cg_gate.specs.Turns.{Lead}
 use Rattle.cg_gate.specs.declared.texts.Texts.{Texts}
 use Rattle.cg_gate.proofs.Counted.{counts}
 use Rattle.cg_gate.proofs.Deserved.{exactly_worthy}
+use Rattle.cg_gate.proofs.Gated.{for_inserted}
 use Rattle.cg_gate.proofs.HintNames.{hints_named}
 use Rattle.cg_gate.proofs.Leads.{plan_leads}
 use Rattle.cg_gate.proofs.Loading.{test_input_loads}
 use Rattle.cg_extract.proofs.ForGating.{bare_is_netlist, bare_is_placeable, lifted_own}
 use Rattle.cg_gate.proofs.MayInsert.{may_gate}
+use Rattle.cg_gate.proofs.RegistersTold.{means_so, same_text}
+use Rattle.cg_gate.proofs.RisesSummed.{sum_up}
 use Rattle.cg_gate.proofs.TestedWaves.{IsTested, tested_wave}
 use Rattle.cg_gate.proofs.TextShows.{means_asked, text_means}
 use Rattle.cg_gate.proofs.Unrefused.{untested}
@@ -175,6 +179,21 @@ module _ (request : RequestData) (says : Option Saying) (read : Circuit) (texts 
       means_asked (VerilogMeans request gives.told.machine read delays gives.written) request.verilog texts.verilog (verilog w) gives.tells.gives.verilog
       (text_means request gives.told.machine read delays w is_writable.placeable shows)
 
+  summed : SumUp gives.tells.gives.registers.rises gives.tells.played.edges
+  summed =
+      sum_up read w may.start.netlist.well_formed formed request.stimulus
+      (λ rows there. (
+        proper.rows rows there,
+        may.played rows there,
+        for_inserted request read proper may gives.hints gives.told gives.gated.tried gives.gated.plan w gives.gated.is rows there,
+      ))
+      gives.tells.gives.registers.rises gives.tells.gives.registers.counted gives.tells.played.edges gives.tells.what.edges
+
+  registers_told : texts.registers
+      ≡ where_asked request.registers (registers_text (record (gated_data request read w gives.hints.outcomes gives.told) { began = m }) gives.tells.gives.registers.rises)
+  registers_told =
+      gives.tells.gives.registers.is ∙ ap (where_asked request.registers) (same_text request read proper may gives.hints gives.told w gives.gated gives.tells.gives.registers.rises)
+
   pub means : Headline request says read texts
   means = record {
     written = w;
@@ -218,4 +237,9 @@ module _ (request : RequestData) (says : Option Saying) (read : Circuit) (texts 
     line = gives.tells.what.line;
     said = gives.tells.gives.said;
     report = gives.tells.gives.report;
+    rises = gives.tells.gives.registers.rises;
+    risen = gives.tells.gives.registers.counted;
+    summed = summed;
+    registers_told = registers_told;
+    causes = means_so request read proper may gives.hints gives.told w gives.gated;
   }

@@ -14,6 +14,9 @@ use Rattle.cg_plan_text.specs.ProofText.{proof_text}
 use Rattle.cg_plan_text.specs.Summary.{demo_text, report_text, said_text}
 use Rattle.cg_plan_text.specs.declared.summary.Edges.{Edges}
 use Rattle.cg_plan_text.specs.declared.summary.Played.{Played}
+use Rattle.cg_register_text.specs.Rises.{RisesWhere}
+use Rattle.cg_register_text.specs.Words.{GatedData, registers_text}
+use Rattle.cg_register_text.specs.declared.rises.BothRises.{BothRises}
 use Rattle.cg_stimulus.specs.Inputs.{Rows}
 use Rattle.cg_verilog_text.specs.Written.{verilog}
 use Rattle.cg_plan.specs.Planning.{AreWritable}
@@ -50,22 +53,42 @@ where_asked asked text = if asked then Some text else None
 abbrev pub told_outcomes : RequestData → List HintOutcome → Option (List HintOutcome)
 told_outcomes request outcomes = option_map (λ asked. outcomes) request.hints
 
--- the texts of a gated netlist
-pub record AreTexts (request : RequestData) (hints : TriedHints) (told : ReportedPlan) (written : Circuit) (played : Played)
+-- A netlist that was read and what it is written as, with the outcomes of its hints and its plan, as far as its registers are told. The
+-- plan's machine stands for the one with which the plan began: the text is the same.
+abbrev pub gated_data : RequestData → Circuit → Circuit → List HintOutcome → ReportedPlan → GatedData
+gated_data request read written outcomes told = record {
+  read = read;
+  written = written;
+  began = told.machine;
+  width = request.settings.width;
+  hints = hints_of request;
+  outcomes = outcomes;
+  plan = told;
+}
+
+-- the text of the registers, where it is asked for, with how often each rises where the stimulus is played on both netlists
+pub record TellsRegisters (request : RequestData) (g : GatedData) (text : Option (List ℕ)) : Type 0 where
+  pub rises : Option BothRises
+  pub counted : RisesWhere request.stimulus g.read g.written rises
+  pub is : text ≡ where_asked request.registers (registers_text g rises)
+
+-- the texts of a netlist that was read, of what it is written as, of the hints and of the plan
+pub record AreTexts (request : RequestData) (read written : Circuit) (hints : TriedHints) (told : ReportedPlan) (played : Played)
     (texts : Texts) : Type 0 where
   pub out : texts.out ≡ blif written
-  pub proof : texts.proof ≡ where_asked request.proof (proof_text told hints.certificates)
+  pub proof : texts.proof ≡ where_asked request.settings.proof (proof_text told hints.certificates)
   pub report : texts.report
       ≡ where_asked request.report (report_text told (hints_of request) hints.outcomes (length written.gaters) played)
   pub verilog : texts.verilog ≡ where_asked request.verilog (verilog written)
+  pub registers : TellsRegisters request (gated_data request read written hints.outcomes told) texts.registers
   pub said : texts.said ≡ said_text told (told_outcomes request hints.outcomes) played
 
--- the texts of a netlist that was read, of what it is written as, of the hints and of the plan, with what comes of the stimulus
+-- those texts, with what comes of the stimulus
 pub record TellsGated (request : RequestData) (says : Option Saying) (read written : Circuit) (hints : TriedHints)
     (told : ReportedPlan) (texts : Texts) : Type 0 where
   pub played : Played
   pub what : IsWhatPlayed says request.stimulus read written played
-  pub gives : AreTexts request hints told written played texts
+  pub gives : AreTexts request read written hints told played texts
 
 -- what gating gives of a netlist, with a watcher that says this, if there is one
 pub record GivesGated (request : RequestData) (says : Option Saying) (c : Circuit) (texts : Texts) : Type 0 where

@@ -1,5 +1,5 @@
 -- What gating a netlist means: the written netlist shows what the one that was read shows, from every state and for all time.
-use Rattle.std.specs.Prelude.{◌≡◌, ◌↔◌, ℕ, ◌+◌, Bool, true, List, [], ◌∷◌, ◌++◌, map, length, replicate, slice_get, Option, None}
+use Rattle.std.specs.Prelude.{◌≡◌, ◌↔◌, ◌<◌, ℕ, ◌+◌, Bool, true, List, [], ◌∷◌, ◌++◌, map, length, replicate, slice_get, Option, None}
 use Rattle.std.specs.Prelude.{Some, IfSome, is_some}
 use Rattle.std.specs.Option.{option_map, option_to_list}
 use Rattle.cg_blif_text.specs.BlifText.{BlifText}
@@ -21,12 +21,17 @@ use Rattle.cg_netlist.specs.WellFormed.{IsWellFormed}
 use Rattle.cg_net.specs.Names.{NetName, net_name}
 use Rattle.cg_plan_laws.specs.Outcomes.{Deserves}
 use Rattle.cg_plan_laws.specs.Plan.{Turn, plan_of, wide_of}
-use Rattle.cg_plan_laws.specs.Reported.{AreCertified, AreTold, ReportedPlan, plan_claims}
+use Rattle.cg_plan_laws.specs.Reported.{AreCertified, AreTold, ReportedPlan, kept_claims}
 use Rattle.cg_plan_laws.specs.declared.outcome.Outcome.TheVariants.{Inserted}
 use Rattle.cg_plan_text.specs.ProofText.{proof_text}
 use Rattle.cg_plan_text.specs.Summary.{report_text, said_text}
 use Rattle.cg_plan_text.specs.declared.summary.Played.{Played}
 use Rattle.cg_plan.specs.Planning.{AreWritable}
+use Rattle.cg_register_text.specs.Causes.{cause_of}
+use Rattle.cg_register_text.specs.Meaning.{Means}
+use Rattle.cg_register_text.specs.Rises.{RisesWhere}
+use Rattle.cg_register_text.specs.Words.{registers_text, tried_of}
+use Rattle.cg_register_text.specs.declared.rises.BothRises.{BothRises}
 use Rattle.cg_report.specs.Zeros.{low_moments, zeros_of}
 use Rattle.cg_stimulus.specs.Inputs.{Rows, input_names}
 use Rattle.cg_stimulus.specs.Played.{IsPlayed}
@@ -34,11 +39,11 @@ use Rattle.cg_verilog_text.specs.VEqual.{AreVEqual}
 use Rattle.cg_verilog_text.specs.VerilogText.{VerilogText}
 use Rattle.cg_verilog_text.specs.Written.{verilog}
 use Rattle.cg_gate.specs.WorthInserting.{IsWorthInserting}
-use Rattle.cg_gate.specs.Gating.{told_outcomes, where_asked}
+use Rattle.cg_gate.specs.Gating.{gated_data, told_outcomes, where_asked}
 use Rattle.cg_gate.specs.HintNames.{AreAsked}
 use Rattle.cg_gate.specs.Loading.{LoadsWhere}
 use Rattle.cg_gate.specs.ZeroCounting.{zero_counts, zero_counts_of, zeros_by}
-use Rattle.cg_gate.specs.Played.{EdgesAre, LineIs, Saying}
+use Rattle.cg_gate.specs.Played.{EdgesAre, LineIs, Saying, SumUp}
 use Rattle.cg_gate.specs.Request.{RequestData, hints_of}
 use Rattle.cg_gate.specs.Turns.{Lead}
 use Rattle.cg_gate.specs.declared.texts.Texts.{Texts}
@@ -152,9 +157,9 @@ pub record Headline (request : RequestData) (says : Option Saying) (read : Circu
   -- the proof file has, behind the certificates of the hints, for each claim of each inserted stage, in order, the defined formula and
   -- an accepted log that proves that nothing satisfies it, and nothing else; formulas and logs keep to the bounds of their formats, so
   -- that they are read back
-  pub certified : AreCertified (plan_claims 1 turns) plan.certificates
+  pub certified : AreCertified (kept_claims request.settings turns) plan.certificates
   pub writable : AreWritable plan.certificates
-  pub proof : texts.proof ≡ where_asked request.proof (proof_text plan hints.certificates)
+  pub proof : texts.proof ≡ where_asked request.settings.proof (proof_text plan hints.certificates)
   -- the edges are those of the histories on which the stimulus is played on both netlists, and the watcher says its line of exactly
   -- the moments of the written one's
   pub played : Played
@@ -163,3 +168,22 @@ pub record Headline (request : RequestData) (says : Option Saying) (read : Circu
   pub said : texts.said ≡ said_text plan (told_outcomes request hints.outcomes) played
   pub report : texts.report
       ≡ where_asked request.report (report_text plan (hints_of request) hints.outcomes (length written.gaters) played)
+  -- in those histories the registers rise so often, and their rises sum up to the edges; the text of the registers, where it is asked
+  -- for, is that of these rises, of both netlists, of the hints, of the machine that they leave and of the plan, and each cause in it
+  -- means of its register what it is to mean
+  pub rises : Option BothRises
+  pub risen : RisesWhere request.stimulus read written rises
+  pub summed : SumUp rises played.edges
+  pub registers_told : texts.registers
+      ≡ where_asked request.registers
+      (registers_text (record (gated_data request read written hints.outcomes plan) { began = hints.machine }) rises)
+  pub causes : (r : ℕ) → r < length read.registers
+      → Means (record {
+        read = read;
+        lifted = lifted read request.prefix;
+        hints = tried.done.turns;
+        began = hints.machine;
+        stages = turns;
+        ended = plan.machine;
+        width = request.settings.width;
+      }) r (cause_of (tried_of (record (gated_data request read written hints.outcomes plan) { began = hints.machine })) r)

@@ -1,11 +1,12 @@
 -- What comes of a stimulus that is played on the original and on the written netlist.
-use Rattle.std.specs.Prelude.{◌≡◌, ℕ, Bool, List, Option, None, Some}
+use Rattle.std.specs.Prelude.{◌≡◌, ℕ, Bool, List, sum, Option, None, Some}
 use Rattle.cg_netlist.specs.Circuit.{Circuit}
 use Rattle.cg_netlist.specs.History.{Moment, edges}
 use Rattle.cg_plan_text.specs.declared.summary.Edges.{Edges}
 use Rattle.cg_plan_text.specs.declared.summary.Played.{Played}
 use Rattle.cg_report.specs.Place.{played_moments}
 use Rattle.cg_report.specs.Shown.{Shown}
+use Rattle.cg_register_text.specs.declared.rises.BothRises.{BothRises}
 use Rattle.cg_stimulus.specs.Inputs.{Rows}
 use Rattle.cg_stimulus.specs.Played.{IsPlayed}
 
@@ -24,6 +25,13 @@ abbrev pub EdgesAre : Option Rows → Circuit → Circuit → Option Edges → T
 EdgesAre None read written told = told ≡ None
 EdgesAre (Some stimulus) read written None = ⊥
 EdgesAre (Some stimulus) read written (Some both) = AreEdges stimulus.rows read written both
+
+-- the rises of the registers of both netlists, where a stimulus is played, sum up to their edges
+abbrev pub SumUp : Option BothRises → Option Edges → Type 0
+SumUp None None = Unit {0}
+SumUp (Some rises) (Some both) = (sum rises.original ≡ both.original) × (sum rises.written ≡ both.written)
+SumUp None (Some both) = ⊥
+SumUp (Some rises) None = ⊥
 
 -- what a watcher says of a netlist and of moments of it
 abbrev pub Saying : Type 0

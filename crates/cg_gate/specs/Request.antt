@@ -21,9 +21,9 @@ use Rattle.cg_plan_laws.specs.declared.settings.Settings.{Settings}
 use Rattle.cg_stimulus.specs.Inputs.{IsFor, Rows}
 use Rattle.cg_gate.specs.ZeroCounting.{zero_counts_of}
 
--- the cells, what bounds the plan, the prefix of the names of added nets, the name of the test input, where there is to be one,
--- the stimulus, where there is one, the hints, where they are asked for, and whether a proof file, a report and a Verilog text are
--- asked for
+-- the cells, what bounds the plan and whether a proof file is asked for, the prefix of the names of added nets, the name of the test
+-- input, where there is to be one, the stimulus, where there is one, the hints, where they are asked for, and whether a report, a
+-- Verilog text and a text of the registers are asked for
 pub record RequestData : Type 0 where
   pub library : List CellData
   pub settings : Settings
@@ -31,9 +31,9 @@ pub record RequestData : Type 0 where
   pub test : Option (List ℕ)
   pub stimulus : Option Rows
   pub hints : Option (List Hint)
-  pub proof : Bool
   pub report : Bool
   pub verilog : Bool
+  pub registers : Bool
 
 -- the hints, none where none are asked for
 abbrev pub hints_of : RequestData → List Hint

@@ -1,14 +1,15 @@
 //! A netlist is gated.
 
-ghost use Rattle.std.specs.Prelude.{◌≡◌, true, None, Some, is_some, length, IfOk, IfErr, OnOk};
+ghost use Rattle.std.specs.Prelude.{◌≡◌, true, None, Some, is_some, IfOk, IfErr, OnOk};
 ghost use Rattle.std.specs.Option.{option_map};
-ghost use Rattle.cg_gate.specs.Gating.{GivesDemo, GivesGated, SaysDemo, TellsGated};
+ghost use Rattle.cg_gate.specs.Gating.{GivesDemo, GivesGated, SaysDemo, TellsGated, gated_data};
 ghost use Rattle.cg_gate.specs.Headline.{Headline};
-ghost use Rattle.cg_gate.specs.Request.{MayGate, hints_of, stops_at};
+ghost use Rattle.cg_gate.specs.Request.{MayGate, stops_at};
 ghost use Rattle.cg_gate.specs.Stops.{GatingMayFail, gating_stop, verilog_stop};
 ghost use Rattle.cg_plan_laws.specs.Reported.{PlanMayFail};
 ghost use Rattle.cg_plan.specs.Planning.{AreWritable, told};
 ghost use Rattle.cg_plan_text.specs.ProofText.{AreWritableHints};
+ghost use Rattle.cg_register_text.specs.Words.{IsToldOf};
 ghost use Rattle.cg_stimulus.specs.Inputs.{IsFor, Rows};
 
 use crate::fault::GateFault;
@@ -45,8 +46,8 @@ pub fn gate(
 
     // The written netlist shows, from every state and over every waveform that begins with the clock low, what the netlist
     // shows; with a test input each register of it is loaded where the clock rises a moment after the test input was 1; a hint or
-    // a stage is inserted exactly where it deserves it; and the watcher's line is what it says of exactly the moments of the history
-    // that it was shown.
+    // a stage is inserted exactly where it deserves it; the cause of each register means what it says; and the watcher's line is what
+    // it says of exactly the moments of the history that it was shown.
     ensures headline { IfOk result (λ texts. Headline request.now (option_map (λ watcher. says watcher) watcher) netlist.now texts) }
     ensures unstopped { OnOk result (gating_stop request.now netlist.now ≡ None) }
     ensures fault { IfErr result (GatingMayFail (gating_stop request.now netlist.now)) }
@@ -69,7 +70,7 @@ fn finish(
 ) -> Result<Texts, GateFault>
     requires writable { AreWritable gated.now.plan.certificates }
     requires hints { AreWritableHints gated.now.hints.certificates }
-    requires told { length (hints_of request.now) ≡ length gated.now.hints.outcomes }
+    requires told { IsToldOf (gated_data request.now read.now gated.now.netlist gated.now.hints.outcomes (told gated.now.plan)) }
     requires read { (rows : Rows) → request.now.stimulus ≡ Some rows → IsFor read.now rows }
     requires written { (rows : Rows) → request.now.stimulus ≡ Some rows → IsFor gated.now.netlist rows }
     ensures texts { IfOk result
@@ -79,7 +80,7 @@ fn finish(
 {
     let verilog = verilog_asked(alloc, request.verilog, &gated.netlist)?;
     let played = play_both(alloc, read, &gated.netlist, request.stimulus, watcher)?;
-    Ok(write_texts(alloc, request, gated, &played, verilog)?)
+    Ok(write_texts(alloc, request, read, gated, &played, verilog)?)
 }
 
 /// Gates a generated pipeline of a size, and answers what is said of it. The stimulus that stands in the request is played.

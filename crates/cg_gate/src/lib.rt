@@ -10,6 +10,7 @@
 //! - `hinting`: the hints of a netlist.
 //! - `planning`: the plan of a netlist.
 //! - `playing`: what comes of a stimulus on both netlists.
+//! - `registers`: why each register is gated, or why it is not.
 //! - [`texts`]: the texts.
 //! - [`gate`]: all of it.
 #![tactic(auto)]
@@ -20,5 +21,6 @@ pub mod gate;
 mod hinting;
 mod planning;
 mod playing;
+mod registers;
 pub mod request;
 pub mod texts;

@@ -14,7 +14,7 @@ pub struct Request<'a> {
     /// The cells.
     pub library: &'a Library,
 
-    /// What bounds the plan.
+    /// What bounds the plan, and whether a proof file is asked for.
     pub settings: &'a Settings,
 
     /// What the names of added nets begin with.
@@ -29,14 +29,14 @@ pub struct Request<'a> {
     /// The hints, where they are asked for.
     pub hints: Option<&'a Seq<Hint>>,
 
-    /// Whether a proof file is asked for.
-    pub proof: bool,
-
     /// Whether a report is asked for.
     pub report: bool,
 
     /// Whether a Verilog text of the gated netlist is asked for.
     pub verilog: bool,
+
+    /// Whether a text of the registers is asked for: why each is gated, or why it is not.
+    pub registers: bool,
 }
 
 impl<'a> Model for Request<'a> {
@@ -56,8 +56,8 @@ impl<'a> Model for Request<'a> {
       test = option_copied r.test;
       stimulus = option_copied r.stimulus;
       hints = option_copied r.hints;
-      proof = r.proof;
       report = r.report;
       verilog = r.verilog;
+      registers = r.registers;
     } };
 }

@@ -1,17 +1,20 @@
 //! The texts of a netlist that was gated.
 
-ghost use Rattle.std.specs.Prelude.{◌≡◌, [], None, length, unwrap_or, IfErr, IfOk, OnOk};
+ghost use Rattle.std.specs.Prelude.{◌≡◌, [], None, Some, length, unwrap_or, IfErr, IfOk, OnOk};
 ghost use Rattle.std.specs.Option.{option_copied, option_map};
-ghost use Rattle.cg_gate.specs.Gating.{AreTexts, told_outcomes, where_asked};
+ghost use Rattle.cg_gate.specs.Gating.{AreTexts, gated_data, told_outcomes, where_asked};
 ghost use Rattle.cg_gate.specs.Request.{hints_of};
 ghost use Rattle.cg_gate.specs.Stops.{GatingMayFail, verilog_stop};
 ghost use Rattle.cg_plan.specs.Planning.{AreWritable, told};
 ghost use Rattle.cg_plan_text.specs.ProofText.{AreWritableHints, proof_text};
 ghost use Rattle.cg_plan_text.specs.Summary.{report_text, said_text};
+ghost use Rattle.cg_register_text.specs.Words.{IsToldOf};
+ghost use Rattle.cg_stimulus.specs.Inputs.{IsFor, Rows};
 ghost use Rattle.cg_verilog_text.specs.Written.{verilog as verilog_text};
 
 use crate::fault::GateFault;
 use crate::planning::Gated;
+use crate::registers::registers_asked;
 use crate::request::Request;
 use cg_blif_out::write_blif;
 use cg_hint_laws::hint::Hint;
@@ -38,6 +41,9 @@ pub struct Texts {
     /// The written netlist as a Verilog text, where it is asked for.
     pub verilog: Option<Seq<u8>>,
 
+    /// Why each register is gated, or why it is not, where it is asked for.
+    pub registers: Option<Seq<u8>>,
+
     /// What is said.
     pub said: Seq<u8>,
 }
@@ -46,21 +52,26 @@ pub struct Texts {
 pub(crate) fn write_texts(
     alloc: Global,
     request: &Request<'_>,
+    read: &Netlist,
     gated: &Gated,
     played: &Played,
     verilog: Option<Seq<u8>>,
 ) -> Result<Texts, AllocError>
     requires proof { AreWritable gated.now.plan.certificates }
     requires hints { AreWritableHints gated.now.hints.certificates }
-    requires told { length (hints_of request.now) ≡ length gated.now.hints.outcomes }
+    requires told { IsToldOf (gated_data request.now read.now gated.now.netlist gated.now.hints.outcomes (told gated.now.plan)) }
+    requires read { (rows : Rows) → request.now.stimulus ≡ Some rows → IsFor read.now rows }
+    requires written { (rows : Rows) → request.now.stimulus ≡ Some rows → IsFor gated.now.netlist rows }
     requires verilog { verilog ≡ where_asked request.now.verilog (verilog_text gated.now.netlist) }
-    ensures { IfOk result (λ texts. AreTexts request.now gated.now.hints (told gated.now.plan) gated.now.netlist played.now texts) }
+    ensures { IfOk result
+        (AreTexts request.now read.now gated.now.netlist gated.now.hints (told gated.now.plan) played.now) }
 {
     Ok(Texts {
         out: Seq::from_vec(write_blif(alloc, &gated.netlist)?),
-        proof: proof_asked(alloc, request.proof, gated)?,
+        proof: proof_asked(alloc, request.settings.proof, gated)?,
         report: report_asked(alloc, request, gated, played)?,
         verilog,
+        registers: registers_asked(alloc, request, read, gated)?,
         said: said(alloc, request, gated, played)?,
     })
 }
@@ -94,7 +105,7 @@ fn told_outcomes<'a>(
 }
 
 /// The hints, none where none are asked for.
-fn asked_hints<'a>(asked: Option<&'a Seq<Hint>>) -> &'a [Hint]
+pub(crate) fn asked_hints<'a>(asked: Option<&'a Seq<Hint>>) -> &'a [Hint]
     ensures { result.now ≡ unwrap_or (option_copied asked.entry) [] }
 {
     match asked {

@@ -1,23 +1,15 @@
 -- The form of a line.
-use Rattle.std.proofs.Common.{◌≡◌, ℕ, zero, suc, ◌+◌, ◌-◌, ◌≤◌, true, false, is_some, MatchOption, Option, ◌&&◌, if◌then◌else◌, List, [], ◌∷◌, drop, take, length, nat_lt}
+use Rattle.std.proofs.Common.{◌≡◌, ℕ, zero, suc, ◌+◌, ◌-◌, ◌≤◌, true, ◌&&◌, if◌then◌else◌, List, [], ◌∷◌, drop, take, length, nat_lt}
 use Rattle.std.proofs.Common.{slice_get, unwrap_or, None, Some, sym, ◌∙◌, ap, arith}
 use Rattle.std.specs.List.{position}
 use Rattle.std.specs.Option.{option_and_then, option_map}
 use Rattle.std.proofs.lemmas.Bool.{and_from}
 use Rattle.std.proofs.lemmas.List.{take_all}
-use Rattle.cg_net.specs.Names.{is_known}
-use Rattle.cg_net.proofs.NamesInOrder.{known_there}
 use Rattle.cg_net.proofs.TableLemmas.{drop_cons}
 use Rattle.cg_hint_text.specs.Reading.{Word, are_terms, cycles_of, form_behind, form_of, form_with, is_after, is_when, stand_apart, word_at}
 
 pub drop_at : {T : Type 0} (xs : List T) (i : ℕ) (x : T) → slice_get xs i ≡ Some x → drop i xs ≡ x ∷ drop (i + 1) xs
 drop_at xs i x at = let e : suc i ≡ i + 1 = omega arith in drop_cons xs i x at ∙ ap (λ n. x ∷ drop n xs) e
-
--- a name is found exactly where it is known
-pub found_known : (names : List (List ℕ)) (name : List ℕ) (found : Option ℕ) → MatchOption found (is_known names name ≡ false) (λ k. slice_get names k ≡ Some name)
-    → is_some found ≡ is_known names name
-found_known names name None is = sym is
-found_known names name (Some k) is = sym (known_there names k name is)
 
 pub rest_whole : (ws : List Word) (n : ℕ) → take (length ws - n) (drop n ws) ≡ drop n ws
 rest_whole ws n = take_all (length ws - n) (drop n ws) (long ws n)

@@ -6,3 +6,4 @@ pub mod NamesSaid
 pub mod ReadFits
 pub mod Said
 pub mod TermsSaid
+pub mod WordsApart

@@ -5,9 +5,9 @@ ghost use Rattle.std.specs.List.{position};
 ghost use Rattle.cg_hint_text.specs.Reading.{are_terms, cycles_of, form_of, is_after, is_bang, is_plus, is_when, stand_apart};
 
 use crate::word::Word;
-use cg_net::names::NetNames;
 use cg_text::number::{Number, read_number};
 use std::alloc::{AllocError, Global};
+use std::collections::BTreeSet;
 
 /// Where the parts of a line of the form stand.
 #[derive(Clone, Copy)]
@@ -92,12 +92,11 @@ fn are_terms(words: &[Word<'_>]) -> bool
 fn stand_apart(alloc: Global, words: &[Word<'_>]) -> Result<bool, AllocError>
     ensures { IfOk result (λ apart. apart ≡ stand_apart [] words.now) }
 {
-    let mut names = NetNames::new(alloc);
+    let mut before = BTreeSet::new(alloc);
     for word in words {
-        if names.find(word.bytes()).is_some() {
+        if !before.insert(Word::new(word.bytes()))? {
             return Ok(false);
         }
-        names.intern(alloc, word.bytes())?;
     }
     Ok(true)
 }

@@ -1,12 +1,16 @@
 //! A word of a line.
 
-ghost use Rattle.std.specs.Prelude.{◌≡◌, IfOk};
+ghost use Rattle.std.specs.Prelude.{◌≡◌, Some, nat_eq, refl, IfOk};
+ghost use Rattle.std.specs.Cmp.{partial_equiv_from_equiv};
+ghost use Rattle.std.specs.Cmp.Lexicographic.{nat_list_cmp_total, nat_list_eq_equiv, pointwise, slice_cmp, texts_po, texts_ties};
+ghost use Rattle.std.specs.Ordering.{nat_cmp};
 
 use cg_text::words::Words;
 use std::alloc::{AllocError, Global};
+use std::cmp::Ordering;
 use std::marker::Model;
 
-/// A word of a line, lent by the text. Contracts see it as its bytes.
+/// A word of a line, lent by the text. Words are in the order of their bytes. Contracts see a word as its bytes.
 #[derive(Drop)]
 pub(crate) struct Word<'a> {
     bytes: &'a [u8],
@@ -46,4 +50,42 @@ pub(crate) fn read_words<'a>(alloc: Global, words: Words<'a>) -> Result<Vec<Word
         read.push(Word::new(word))?;
     }
     Ok(read)
+}
+
+impl<'a> PartialEq for Word<'a> {
+    ghost eq = { pointwise nat_eq };
+
+    ghost laws = { partial_equiv_from_equiv nat_list_eq_equiv };
+
+    fn eq(&self, other: &Self) -> bool {
+        self.bytes == other.bytes
+    }
+}
+
+impl<'a> Eq for Word<'a> {
+    ghost laws = { nat_list_eq_equiv };
+}
+
+impl<'a> PartialOrd for Word<'a> {
+    ghost partial_cmp = { λ x y. Some (slice_cmp nat_cmp x y) };
+
+    ghost laws = { texts_po };
+
+    fn partial_cmp(&self, other: &Self) -> Option<Ordering> {
+        Some(self.cmp(other))
+    }
+}
+
+impl<'a> Ord for Word<'a> {
+    ghost cmp = { slice_cmp nat_cmp };
+
+    ghost total = { nat_list_cmp_total };
+
+    ghost matches_partial_cmp = { λ x y. refl };
+
+    ghost matches_eq = { texts_ties };
+
+    fn cmp(&self, other: &Self) -> Ordering {
+        self.bytes.cmp(other.bytes)
+    }
 }

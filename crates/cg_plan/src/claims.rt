@@ -1,8 +1,11 @@
-//! The claims of a stage, by their names.
+//! The claims of a stage, by their names, and how a stage ends by the measure of one.
 
 ghost use Rattle.std.specs.Prelude.{◌≡◌, ◌<◌, length, map, IfErr, IfOk, OnOk};
 ghost use Rattle.cg_claim.specs.declared.name.ClaimName.TheVariants.{Hold, Stable};
-ghost use Rattle.cg_plan.specs.inner.Naming.{AreNames, NameFits, question_of};
+ghost use Rattle.cg_limit.specs.Answers.{OrNoMemory};
+ghost use Rattle.cg_netlist.specs.declared.fault.AddFault.TheVariants.{NoMemory};
+ghost use Rattle.cg_plan.specs.inner.Measuring.{IsBuilt, wide_end};
+ghost use Rattle.cg_plan.specs.inner.Naming.{AreNames, NameFits, named, question_of};
 ghost use Rattle.cg_claim_reach.specs.Fanout.{Knows};
 ghost use Rattle.cg_stage_laws.specs.Stages.{Fits, first_literal};
 ghost use Rattle.cg_unroll.specs.Claims.{IsClaim, IsRefused};
@@ -13,6 +16,8 @@ use cg_claim_reach::fanout::Fanout;
 use cg_machine::machine::Machine;
 use cg_machine::stage::{NetLit, Stage, StageKind};
 use cg_net::id::RegId;
+use cg_netlist::fault::AddFault;
+use cg_plan_laws::outcome::Outcome;
 use cg_unroll::claim::ClaimFault;
 use cg_unroll::unroller::Unroller;
 use std::alloc::{AllocError, Global};
@@ -62,7 +67,7 @@ fn stable_names(alloc: Global, regs: &[RegId]) -> Result<Vec<ClaimName>, AllocEr
 }
 
 /// Builds the claim that a name names.
-pub(crate) fn build_claim(
+fn build_claim(
     unroller: &mut Unroller,
     machine: &Machine,
     stage: &StageSets<'_>,
@@ -83,6 +88,28 @@ pub(crate) fn build_claim(
         ClaimName::Output(_) | ClaimName::Next(_) | ClaimName::Enable => {
             unroller.unseen(machine, enables, &stage.unseen, *name, width)
         }
+    }
+}
+
+/// Builds the claim of this name; where it is too wide, the answer is that the stage ends so. It is refused where it has too
+/// many nodes.
+pub(crate) fn measure(
+    unroller: &mut Unroller,
+    machine: &Machine,
+    stage: &StageSets<'_>,
+    name: &ClaimName,
+    width: u32,
+) -> Result<Option<Outcome>, AddFault>
+    requires fits { Fits machine.now stage.now }
+    requires name { NameFits machine.now name.now }
+    ensures end { OrNoMemory NoMemory (λ end. end) result (wide_end machine.now width (named machine.now stage.now name.now)) }
+    ensures built { IfOk result (IsBuilt machine.now (question_of machine.now stage.now name.now) width unroller.new) }
+{
+    match build_claim(unroller, machine, stage, name, width) {
+        Ok(()) => Ok(None),
+        Err(ClaimFault::Wide(leaves)) => Ok(Some(Outcome::Wide(*name, leaves))),
+        Err(ClaimFault::Limit(limit)) => Err(AddFault::Limit(limit)),
+        Err(ClaimFault::NoMemory) => Err(AddFault::NoMemory),
     }
 }
 

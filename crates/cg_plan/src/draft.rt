@@ -1,14 +1,13 @@
 //! A plan in the making.
 
-ghost use Rattle.std.specs.Prelude.{◌≡◌, ◌+◌, length, IfOk, IfErr, MatchResult, OnOk};
+ghost use Rattle.std.specs.Prelude.{◌≡◌, ◌+◌, [], if◌then◌else◌, length, IfOk, IfErr, MatchResult, OnOk};
 ghost use Rattle.cg_stage_list_laws.specs.Fit.{AllFit};
 ghost use Rattle.cg_netlist.specs.declared.fault.AddFault.TheVariants.{NoMemory};
 ghost use Rattle.cg_plan_laws.specs.Plan.{rounds, try_all, try_one};
-ghost use Rattle.cg_plan.specs.inner.Drafting.{IsDraft, Leads, MayStop, StillFit, all_parts, kept, round_list, unbegun};
+ghost use Rattle.cg_plan.specs.inner.Drafting.{IsDraft, Leads, MayStop, StillFit, all_parts, earlier_by, kept, round_list, unbegun};
 ghost use Rattle.cg_claim_reach.specs.Fanout.{Knows};
 ghost use Rattle.cg_stage_laws.specs.Stages.{Fits};
 
-use crate::earlier::earlier_of;
 use crate::judge::{Entry, Judge};
 use crate::rules::Rules;
 use cg_claim_reach::fanout::Fanout;
@@ -41,22 +40,26 @@ pub(crate) struct Draft {
     /// The same stages, as a round reads them.
     earlier: Seq<Earlier>,
 
-    /// The proofs of the claims of the inserted stages.
+    /// Whether the proofs of claims are kept.
+    proof: bool,
+
+    /// The proofs of the claims of the inserted stages, where they are kept.
     pub certificates: Vec<Certificate>,
 
     judge: Judge,
 }
 
 impl Draft {
-    /// A plan of which nothing was tried.
-    pub fn new(alloc: Global, machine: Machine) -> Draft
-        ensures { IsDraft (unbegun machine) result }
+    /// A plan of which nothing was tried, whose proofs are kept or not.
+    pub fn new(alloc: Global, machine: Machine, proof: bool) -> Draft
+        ensures { IsDraft proof (unbegun machine) result }
     {
         Draft {
             alloc,
             machine,
             stages: Seq::new(alloc),
             earlier: Seq::new(alloc),
+            proof,
             certificates: Vec::new(alloc),
             judge: Judge::new(alloc),
         }
@@ -198,8 +201,19 @@ impl Draft {
             rules,
             &mut self.certificates,
         )?;
+        self.let_go();
         self.keep(stage, outcome)?;
         Ok(())
+    }
+
+    /// Lets the proofs of claims go, unless they are kept.
+    fn let_go(&mut self)
+        ensures rest { self.new ≡ record self.old { certificates = self.new.certificates } }
+        ensures certificates { self.new.certificates.items ≡ if self.old.proof then self.old.certificates.items else [] }
+    {
+        if !self.proof {
+            self.certificates.clear();
+        }
     }
 
     /// The number of the next stage, counted from 1.
@@ -223,4 +237,29 @@ impl Draft {
         self.earlier.push(earlier)?;
         self.stages.push((stage, outcome))
     }
+}
+
+/// A stage that was tried with this outcome.
+fn earlier_of(alloc: Global, stage: &Stage, outcome: &Outcome) -> Result<Earlier, AllocError>
+    ensures { IfOk result (λ earlier. earlier ≡ earlier_by stage.now outcome.now) }
+{
+    let stage = copy_of(alloc, stage)?;
+    let inserted = outcome.is_inserted();
+    Ok(Earlier { stage, inserted })
+}
+
+/// A copy of a stage.
+fn copy_of(alloc: Global, stage: &Stage) -> Result<Stage, AllocError>
+    ensures { IfOk result (λ copy. copy ≡ stage.now) }
+{
+    let enable = Vec::from_slice(alloc, stage.enable.as_slice())?;
+    let regs = Vec::from_slice(alloc, stage.regs.as_slice())?;
+    let guards = Vec::from_slice(alloc, stage.guards.as_slice())?;
+    Ok(Stage {
+        kind: stage.kind,
+        enable: Seq::from_vec(enable),
+        regs: Seq::from_vec(regs),
+        own: stage.own,
+        guards: Seq::from_vec(guards),
+    })
 }

@@ -18,9 +18,8 @@ ghost use Rattle.cg_stage_laws.specs.Stages.{Fits};
 ghost use Rattle.cg_unroll.specs.Claims.{IsClaim};
 
 use crate::cells::early_end;
-use crate::claims::claim_names;
+use crate::claims::{claim_names, measure};
 use crate::insert::insert;
-use crate::measure::measure;
 use crate::rules::Rules;
 use crate::sets::StageSets;
 use cg_claim::name::ClaimName;

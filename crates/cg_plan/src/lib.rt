@@ -8,14 +8,12 @@
 //!
 //! - `rules`: what stages are tried by.
 //! - `cells`: how a stage ends by its registers and its cells alone.
-//! - `claims`: the claims of a stage, by their names.
+//! - `claims`: the claims of a stage, by their names, and how a stage ends by the measure of one.
 //! - `sets`: a stage whose claims are built.
-//! - `measure`: how a stage ends by the measure of a claim.
 //! - `decide`: the decision of a claim that is built.
 //! - `insert`: what a stage adds to a machine.
 //! - `judge`: what tries stages one after another.
 //! - `trial`: a stage that is tried on a machine.
-//! - `earlier`: stages that were tried, as later rounds see them.
 //! - `draft`: a plan in the making.
 //! - `plan`: the plan of a machine.
 #![tactic(auto)]
@@ -24,10 +22,8 @@ mod cells;
 mod claims;
 mod decide;
 mod draft;
-mod earlier;
 mod insert;
 mod judge;
-mod measure;
 pub mod plan;
 mod rules;
 mod sets;

@@ -34,7 +34,8 @@ pub struct Plan {
     /// Of how many registers without an enable the hold claims are too wide, on the machine that the plan begins with.
     pub wide: u32,
 
-    /// A proof of each claim of the inserted stages, but for that it can idle, in the order of stages and claims.
+    /// Where the settings ask for proofs, one of each claim of the inserted stages, but for that it can idle, in the order of stages
+    /// and claims.
     pub certificates: Seq<Certificate>,
 }
 
@@ -73,7 +74,7 @@ pub fn make_plan(
             return Err(fault);
         }
     };
-    let mut draft = Draft::new(alloc, machine);
+    let mut draft = Draft::new(alloc, machine, settings.proof);
     let rules = Rules { library, settings };
     let result = draft.try_parts(found.stages, &rules, progress);
     progress.done();

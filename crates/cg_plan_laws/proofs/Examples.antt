@@ -85,7 +85,7 @@ abbrev lib_test : List CellData
 lib_test = record { name = 74 ∷ []; kind = Gater; pins = record { name = 67 ∷ []; role = Clock } ∷ record { name = 69 ∷ []; role = Enable } ∷ record { name = 83 ∷ []; role = Test } ∷ pin_y ∷ []; function = None } ∷ lib
 
 abbrev usual : Settings
-usual = record { min = 1; width = 32; rounds = 4; test = false }
+usual = record { min = 1; width = 32; rounds = 4; test = false; proof = false }
 
 abbrev hold_of : ℕ → List ℕ → Stage
 hold_of e regs = record { kind = Hold; enable = (e, false) ∷ []; regs = regs; own = None; guards = [] }
@@ -134,7 +134,7 @@ seven_enables : (plan_of lib usual None row_seven).machine.enables ≡ Some 6 �
 unfolding is_never nets_of
 seven_enables = refl
 
-seven_no_rounds : (plan_of lib (record { min = 1; width = 32; rounds = 0; test = false }) None row_seven).machine.enables ≡ None ∷ Some 1 ∷ []
+seven_no_rounds : (plan_of lib (record { min = 1; width = 32; rounds = 0; test = false; proof = false }) None row_seven).machine.enables ≡ None ∷ Some 1 ∷ []
 unfolding is_never nets_of
 seven_no_rounds = refl
 
@@ -284,11 +284,11 @@ row_twelve = record {
 abbrev stable_twelve : Stage
 stable_twelve = record { kind = Stable; enable = (1, false) ∷ []; regs = 2 ∷ []; own = None; guards = [] }
 
-twelve_narrow : told_of (plan_of lib (record { min = 1; width = 5; rounds = 4; test = false }) None row_twelve) ≡ (hold_of 1 (0 ∷ 1 ∷ []), Inserted) ∷ (stable_twelve, Inserted) ∷ []
+twelve_narrow : told_of (plan_of lib (record { min = 1; width = 5; rounds = 4; test = false; proof = false }) None row_twelve) ≡ (hold_of 1 (0 ∷ 1 ∷ []), Inserted) ∷ (stable_twelve, Inserted) ∷ []
 unfolding is_never nets_of
 twelve_narrow = refl
 
-twelve_wide : told_of (plan_of lib (record { min = 1; width = 4; rounds = 4; test = false }) None row_twelve) ≡ (hold_of 1 (0 ∷ 1 ∷ []), Inserted) ∷ (stable_twelve, Wide (StableName 2) 5) ∷ []
+twelve_wide : told_of (plan_of lib (record { min = 1; width = 4; rounds = 4; test = false; proof = false }) None row_twelve) ≡ (hold_of 1 (0 ∷ 1 ∷ []), Inserted) ∷ (stable_twelve, Wide (StableName 2) 5) ∷ []
 unfolding is_never nets_of
 twelve_wide = refl
 
@@ -345,11 +345,11 @@ untested_stages : told_of (plan_of lib usual None row_test) ≡ (hold_of 6 (4 �
 unfolding is_never nets_of
 untested_stages = refl
 
-tested_stages : told_of (plan_of lib_test (record { min = 1; width = 32; rounds = 4; test = true }) None row_test) ≡ (hold_of 6 (4 ∷ []), Inserted) ∷ (hold_of 7 (3 ∷ []), Inserted) ∷ (unseen_of 2 (2 ∷ []) (1 ∷ []), Inserted) ∷ []
+tested_stages : told_of (plan_of lib_test (record { min = 1; width = 32; rounds = 4; test = true; proof = false }) None row_test) ≡ (hold_of 6 (4 ∷ []), Inserted) ∷ (hold_of 7 (3 ∷ []), Inserted) ∷ (unseen_of 2 (2 ∷ []) (1 ∷ []), Inserted) ∷ []
 unfolding is_never nets_of
 tested_stages = refl
 
 -- with a test input a gating cell without one does not serve
-no_test_cell : told_of (plan_of lib (record { min = 1; width = 32; rounds = 4; test = true }) None row_six) ≡ (hold_of 1 (0 ∷ []), NoCell TestGater) ∷ []
+no_test_cell : told_of (plan_of lib (record { min = 1; width = 32; rounds = 4; test = true; proof = false }) None row_six) ≡ (hold_of 1 (0 ∷ []), NoCell TestGater) ∷ []
 unfolding is_never nets_of
 no_test_cell = refl

@@ -86,6 +86,10 @@ abbrev pub plan_claims : ℕ → List Turn → List StageClaim
 plan_claims number [] = []
 plan_claims number (turn ∷ turns) = claims_for number turn.machine turn.stage turn.outcome ++ plan_claims (number + 1) turns
 
+-- the claims of a plan that are certified: those of all its turns where the settings ask for proofs, and else none
+abbrev pub kept_claims : Settings → List Turn → List StageClaim
+kept_claims settings turns = if settings.proof then plan_claims 1 turns else []
+
 -- certificates of these claims are put behind others
 pub record AreAppended (claims : List StageClaim) (before after : List Certificate) : Type 0 where
   pub more : List Certificate
@@ -107,14 +111,14 @@ pub record ReportedPlan : Type 0 where
   pub wide : ℕ
   pub certificates : List Certificate
 
--- it is the plan of a machine, with a certificate for each claim of each inserted stage
+-- it is the plan of a machine, with a certificate for each claim of each inserted stage where the settings ask for proofs
 pub record IsPlan (library : List CellData) (settings : Settings) (counts : Option ZeroCounts) (m : MachineData)
     (told : ReportedPlan) : Type 0 where
   pub whole : (plan_of library settings counts m).limit ≡ None
   pub machine : told.machine ≡ (plan_of library settings counts m).machine
   pub stages : AreTold (plan_of library settings counts m).turns told.stages
   pub wide : told.wide ≡ wide_of settings m
-  pub certificates : AreCertified (plan_claims 1 (plan_of library settings counts m).turns) told.certificates
+  pub certificates : AreCertified (kept_claims settings (plan_of library settings counts m).turns) told.certificates
 
 -- a fault of a plan: the limit at which it stops, or want of memory at any time
 abbrev pub PlanMayFail : Option Limit → AddFault → Type 0

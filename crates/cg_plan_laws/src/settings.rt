@@ -14,4 +14,7 @@ pub struct Settings {
 
     /// Whether gating cells have a test input.
     pub test: bool,
+
+    /// Whether the proofs of the claims of inserted stages are kept.
+    pub proof: bool,
 }

@@ -1,6 +1,6 @@
 -- What each cause says of its register, each by what was tried for it.
 use Rattle.std.proofs.Common.{◌≡◌, ℕ, ◌+◌, ◌-◌, ◌<◌, Bool, true, false, not, ◌&&◌, ◌||◌, List, [], ◌∷◌, map, length, slice_get, nat_lt, Option, None, Some, is_some, refl, sym, ap, ◌∙◌, subst, arith, inl, inr}
-use Rattle.std.proofs.lemmas.Bool.{and_parts, both_ways, cases_Bool, ltb-true}
+use Rattle.std.proofs.lemmas.Bool.{and_parts, both_ways, cases_Bool, ltb-false, ltb-true}
 use Rattle.cg_cell.specs.Cell.{CellData}
 use Rattle.cg_claim.specs.LeafBits.{is_never}
 use Rattle.cg_claim.specs.Question.{hold_question, idle_question}
@@ -22,13 +22,13 @@ use Rattle.cg_stage_list_laws.specs.Literals.{ZeroCounts}
 use Rattle.cg_stage_list_laws.specs.Supports.{input_cone}
 use Rattle.cg_register_text.specs.Causes.{is_given}
 use Rattle.cg_register_text.specs.Laws.{IsRightCourse}
-use Rattle.cg_register_text.specs.Meaning.{Course, IsFree, IsGated, IsGiven, IsTooWide, IsTriedInHint, IsTriedInStage, IsUngated, after_hints, hint_net, hint_turn_trial, stage_net, tried_in, turn_trial}
+use Rattle.cg_register_text.specs.Meaning.{AreNumbers, Course, IsFree, IsGated, IsGiven, IsTooWide, IsTriedInHint, IsTriedInStage, IsUngated, after_hints, hint_gave, hint_net, hint_turn_trial, stage_gave, stage_net, tried_in, turn_trial}
 use Rattle.cg_register_text.specs.Trials.{gave, givers, last_failed}
 use Rattle.cg_register_text.proofs.CourseFacts.{began_enable, began_of, ended_enable, ended_of, from_netlist, left_by_hints}
 use Rattle.cg_register_text.proofs.HoldChosen.{HasStage, free_listed, has_stage, none_serves}
 use Rattle.cg_register_text.proofs.LeftEnables.{left_none, left_some}
 use Rattle.cg_register_text.proofs.StageTurns.{HasTurn, hold_has_turn}
-use Rattle.cg_register_text.proofs.TrialNumbers.{IsLastFailed, apart, last_one}
+use Rattle.cg_register_text.proofs.TrialNumbers.{IsLastFailed, apart, givers_are, last_one, none_inserted}
 
 none_of : (o : Option ℕ) → is_some o ≡ false → o ≡ None
 none_of None is = refl
@@ -52,11 +52,24 @@ module _ (library : List CellData) (settings : Settings) (counts : Option ZeroCo
   pub by_both : givers (tried_in w).hints r ≡ [] → givers (tried_in w).stages r ≡ [] → enable_of w.ended r ≡ enable_of w.lifted r
   by_both hint stage = by_stages stage ∙ by_hints hint
 
+  -- what gave it one is told by its number
+  of_hints : AreNumbers (hint_gave r) w.hints (givers (tried_in w).hints r)
+  of_hints = givers_are hint_turn_trial w.hints r
+
+  of_stages : AreNumbers (stage_gave r) w.stages (givers (tried_in w).stages r)
+  of_stages = givers_are turn_trial w.stages r
+
   -- it is gated where a stage gave it one, and where a hint did and no stage
   pub gated_by_stages : (k : ℕ) (ks : List ℕ) → givers (tried_in w).stages r ≡ k ∷ ks → IsGated w r
   gated_by_stages k ks some =
       let left = left_some (gave r) turn_trial stage_net 1 w.stages (λ j x at gives. ((net_by x.stage.kind x.machine x.stage).net, refl)) k ks some in
-      record { enable = left.0; gave = left.1 (after_hints r None w.hints); has = ended_enable library settings counts prefix hints w right r below ∙ left.1 (enable_of w.began r) }
+      record {
+        enable = left.0;
+        gave = left.1 (after_hints r None w.hints);
+        has = ended_enable library settings counts prefix hints w right r below ∙ left.1 (enable_of w.began r);
+        hints = of_hints;
+        stages = of_stages;
+      }
 
   pub gated_by_hints : (k : ℕ) (ks : List ℕ) → givers (tried_in w).hints r ≡ k ∷ ks → givers (tried_in w).stages r ≡ [] → IsGated w r
   gated_by_hints k ks some none =
@@ -67,6 +80,8 @@ module _ (library : List CellData) (settings : Settings) (counts : Option ZeroCo
         enable = left.0;
         gave = left_none (gave r) turn_trial stage_net 1 w.stages (after_hints r None w.hints) none ∙ left.1 None;
         has = by_stages none ∙ (began_is ∙ left.1 (enable_of w.lifted r));
+        hints = of_hints;
+        stages = of_stages;
       }
 
   module _ (no_hint : givers (tried_in w).hints r ≡ []) (no_stage : givers (tried_in w).stages r ≡ []) where
@@ -87,7 +102,7 @@ module _ (library : List CellData) (settings : Settings) (counts : Option ZeroCo
           turn = l.item;
           at = l.at;
           among = l.among;
-          none = l.left;
+          none = λ k other at among. none_inserted turn_trial w.stages r no_stage k other at among;
           last = λ k later at. l.last k later at;
           keeps = by_both no_hint no_stage;
         }
@@ -102,30 +117,31 @@ module _ (library : List CellData) (settings : Settings) (counts : Option ZeroCo
       pub began_none : enable_of w.began r ≡ None
       began_none = by_hints no_hint ∙ none_of (enable_of w.lifted r) (was_given ∙ given)
 
-      pub hint_shown : (n : ℕ) → last_failed (tried_in w).hints r ≡ Some n → IsTriedInHint w n r
-      hint_shown n is =
-          let l : IsLastFailed hint_turn_trial w.hints r no_hint n = last_one hint_turn_trial w.hints r no_hint n is in
-          record {
-            ungated = ungated;
-            counted = l.counted;
-            turn = l.item;
-            at = l.at;
-            among = l.among;
-            none = l.left;
-            last = λ k later at. l.last k later at;
-          }
+      good : IsMachine w.began
+      good = (began_of library settings counts prefix hints w right).good
 
-      module _ (untried : last_failed (tried_in w).hints r ≡ None) where
-        good : IsMachine w.began
-        good = (began_of library settings counts prefix hints w right).good
+      pub wide_shown : nat_lt w.width (hold_width w.began r) ≡ true → IsTooWide w (hold_width w.began r) r
+      wide_shown wide = record {
+        ungated = ungated;
+        measured = refl;
+        above = ltb-true w.width (hold_width w.began r) wide;
+        is = λ e among. hold_widths w.began good e r among;
+      }
 
-        pub wide_shown : nat_lt w.width (hold_width w.began r) ≡ true → IsTooWide w (hold_width w.began r) r
-        wide_shown wide = record {
-          ungated = ungated;
-          untried = λ k turn at. apart hint_turn_trial w.hints r no_hint untried k turn at;
-          above = ltb-true w.width (hold_width w.began r) wide;
-          is = λ e among. hold_widths w.began good e r among;
-        }
+      module _ (narrow : nat_lt w.width (hold_width w.began r) ≡ false) where
+        pub hint_shown : (n : ℕ) → last_failed (tried_in w).hints r ≡ Some n → IsTriedInHint w n r
+        hint_shown n is =
+            let l : IsLastFailed hint_turn_trial w.hints r no_hint n = last_one hint_turn_trial w.hints r no_hint n is in
+            record {
+              ungated = ungated;
+              narrow = ltb-false w.width (hold_width w.began r) narrow;
+              counted = l.counted;
+              turn = l.item;
+              at = l.at;
+              among = l.among;
+              none = λ k other at among. none_inserted hint_turn_trial w.hints r no_hint k other at among;
+              last = λ k later at. l.last k later at;
+            }
 
         -- where it takes a literal, a stage has it
         takes_none : (o : Option Literal) → chosen w.began counts settings.width r ≡ o → chosen w.began counts settings.width r ≡ None
@@ -149,11 +165,12 @@ module _ (library : List CellData) (settings : Settings) (counts : Option ZeroCo
             ] in
             ap (λ b. b && not (is_never w.began (idle_question (e ∷ [])))) held ∙ ap not idle
 
-        pub free_shown : nat_lt w.width (hold_width w.began r) ≡ false → IsFree w r
-        free_shown narrow =
+        pub free_shown : last_failed (tried_in w).hints r ≡ None → IsFree w r
+        free_shown untried =
             let fits : nat_lt settings.width (hold_width w.began r) ≡ false = ap (λ n. nat_lt n (hold_width w.began r)) right.course.width ∙ narrow in
             record {
               ungated = ungated;
+              narrow = ltb-false w.width (hold_width w.began r) narrow;
               untried = λ k turn at. apart hint_turn_trial w.hints r no_hint untried k turn at;
               none = λ e among holds can.
                   both_ways (serves w.began r e)

@@ -16,6 +16,7 @@ pub mod CourseFacts
 pub mod CausesShown
 pub mod CausesMeant
 pub mod TextKept
+pub mod KindsAdded
 pub mod RisesOn
 pub mod EdgesRisen
 pub mod LineLemmas

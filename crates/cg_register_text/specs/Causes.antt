@@ -32,21 +32,22 @@ gated t r = if not (is_empty (givers t.hints r)) || not (is_empty (givers t.stag
 abbrev pub given : Tried → ℕ → Option Cause
 given t r = if is_given t.read r && not (list_any (has r) t.stages) then Some Given else None
 
--- a stage has it and gave it none, and this is the last; or else a hint
+-- a stage has it and gave it none, and this is the last
 abbrev pub tried_in_stage : Tried → ℕ → Option Cause
 tried_in_stage t r = option_map Stage (last_failed t.stages r)
-
-abbrev pub tried_in_hint : Tried → ℕ → Option Cause
-tried_in_hint t r = option_map Hint (last_failed t.hints r)
 
 -- its hold claims have more leaves than a claim may have
 abbrev pub too_wide : Tried → ℕ → Option Cause
 too_wide t r = if nat_lt t.width (hold_width t.began r) then Some (Wide (hold_width t.began r)) else None
 
+-- a hint has it and gave it none, and this is the last
+abbrev pub tried_in_hint : Tried → ℕ → Option Cause
+tried_in_hint t r = option_map Hint (last_failed t.hints r)
+
 -- the first of these, and else it is free
 abbrev pub cause_of : Tried → ℕ → Cause
 cause_of t r =
-    unwrap_or (option_or (gated t r) (option_or (given t r) (option_or (tried_in_stage t r) (option_or (tried_in_hint t r) (too_wide t r))))) Free
+    unwrap_or (option_or (gated t r) (option_or (given t r) (option_or (tried_in_stage t r) (option_or (too_wide t r) (tried_in_hint t r))))) Free
 
 -- those of all registers of the netlist, in their order
 abbrev pub causes_of : Tried → List Cause

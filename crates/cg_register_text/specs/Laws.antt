@@ -1,5 +1,6 @@
 -- What is proved of causes and of rises.
-use Rattle.std.specs.Prelude.{◌≡◌, ◌<◌, ℕ, List, length, map, sum, Option}
+use Rattle.std.specs.Prelude.{◌≡◌, ◌<◌, ℕ, ◌+◌, List, length, map, sum, Option}
+use Rattle.std.specs.List.{count_by}
 use Rattle.cg_cell.specs.Cell.{CellData}
 use Rattle.cg_extract.specs.Lifted.{CanExtract, lifted}
 use Rattle.cg_hint_laws.specs.Answers.{AreShown}
@@ -18,11 +19,12 @@ use Rattle.cg_plan_laws.specs.declared.outcome.Outcome.{Outcome}
 use Rattle.cg_plan_laws.specs.declared.settings.Settings.{Settings}
 use Rattle.cg_stage_list_laws.specs.Literals.{ZeroCounts}
 use Rattle.std.specs.Prelude.{Ok}
-use Rattle.cg_register_text.specs.Causes.{cause_of}
+use Rattle.cg_register_text.specs.Causes.{Tried, cause_of, causes_of}
 use Rattle.cg_register_text.specs.Meaning.{Course, IsCourse, Means, hint_turn_trial, tried_in, turn_trial}
 use Rattle.cg_register_text.specs.Rises.{rises_of}
 use Rattle.cg_register_text.specs.Trials.{hint_trials, stage_trials}
-use Rattle.cg_register_text.specs.Words.{GatedData, registers_text, tried_of}
+use Rattle.cg_register_text.specs.Words.{GatedData, is_free, is_gated, is_given, is_tried, is_wide, registers_text, tried_of}
+use Rattle.cg_register_text.specs.declared.cause.Cause.{Cause}
 use Rattle.cg_register_text.specs.declared.rises.BothRises.{BothRises}
 
 -- the course of hints and of a plan, in which a netlist can be extracted and the hints fit its machine
@@ -37,6 +39,15 @@ abbrev pub CausesMean : Type 0
 CausesMean = (library : List CellData) (settings : Settings) (counts : Option ZeroCounts) (prefix : List ℕ) (hints : List Hint)
     (w : Course) → IsRightCourse library settings counts prefix hints w → (r : ℕ) → r < length w.read.registers →
     Means w r (cause_of (tried_in w) r)
+
+-- how many causes are of some kind
+abbrev pub of_kinds : List Cause → ℕ
+of_kinds found =
+    count_by is_gated found + count_by is_given found + count_by is_tried found + count_by is_wide found + count_by is_free found
+
+-- each register of the netlist has one cause, of one kind: the sums of the kinds add up to the registers
+abbrev pub KindsAddUp : Type 0
+KindsAddUp = (t : Tried) → (length (causes_of t) ≡ length t.read.registers) × (of_kinds (causes_of t) ≡ length t.read.registers)
 
 -- the plan's machine gives the same causes as the machine with which the plan began
 abbrev pub WidthsAreKept : Type 0

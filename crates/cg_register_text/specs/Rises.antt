@@ -7,7 +7,7 @@ use Rattle.cg_stimulus.specs.Inputs.{Rows}
 use Rattle.cg_stimulus.specs.Played.{IsPlayed}
 use Rattle.cg_register_text.specs.declared.rises.BothRises.{BothRises}
 
--- at how many moments behind this one, if there is one, a register rises
+-- at how many of these moments a register rises, where this one, if there is one, stands before them
 abbrev pub rises_from : Option Moment → List Moment → RegisterCell ℕ ℕ → ℕ
 rises_from before [] r = 0
 rises_from None (now ∷ history) r = rises_from (Some now) history r

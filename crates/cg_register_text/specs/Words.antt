@@ -21,7 +21,8 @@ use Rattle.cg_register_text.specs.declared.cause.Cause.TheVariants as causes
 use Rattle.cg_register_text.specs.declared.rises.BothRises.{BothRises}
 
 -- a netlist that was gated, as far as its registers are told: the netlist that was read, and the written one; the machine with which the
--- plan began, and how wide a claim may be; the hints that were tried, what came of each, and the plan behind them
+-- plan began, and how wide a claim may be; the hints that were tried, what came of each, and the plan behind them. The plan's own machine,
+-- the one at the end, may stand for the one with which it began: either gives the same text.
 pub record GatedData : Type 0 where
   pub read : Circuit
   pub written : Circuit
@@ -31,7 +32,7 @@ pub record GatedData : Type 0 where
   pub outcomes : List HintOutcome
   pub plan : ReportedPlan
 
--- what the causes of its registers are found in
+-- what the causes of its registers are found in, with hints and stages as they are told
 abbrev pub tried_of : GatedData → Tried
 tried_of g =
     record {

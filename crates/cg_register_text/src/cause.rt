@@ -15,10 +15,10 @@ pub enum Cause {
     /// No stage or hint gave it an enable, and this is the last stage that has it.
     Stage(u64),
 
-    /// No stage has it, no hint gave it an enable, and this is the last hint that has it.
+    /// No stage has it, its hold claims are not too wide, no hint gave it an enable, and this is the last hint that has it.
     Hint(u64),
 
-    /// No stage or hint has it, and its hold claims have this many leaves, more than a claim may have.
+    /// No stage has it, and its hold claims have this many leaves, more than a claim may have.
     Wide(u64),
 
     /// None of these: no literal of its cone that can be 0 holds it.

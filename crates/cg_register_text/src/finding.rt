@@ -4,7 +4,7 @@ ghost use Rattle.std.specs.Prelude.{◌≡◌, ◌<◌, length, IfOk};
 ghost use Rattle.cg_stage_list_laws.specs.HoldList.{hold_width as hold_width_of};
 ghost use Rattle.cg_register_text.specs.Causes.{cause_of, causes_of, is_given};
 ghost use Rattle.cg_register_text.specs.Words.{IsToldOf, tried_of};
-ghost use Rattle.cg_register_text.specs.inner.Finding.{AreTables, cause_seen, cause_by_width};
+ghost use Rattle.cg_register_text.specs.inner.Finding.{AreTables, cause_seen, cause_by_width, or_free};
 
 use crate::cause::Cause;
 use crate::seen::{Seen, seen_at, seen_in_hints, seen_in_stages};
@@ -52,7 +52,7 @@ pub(crate) fn causes(
     Ok(causes)
 }
 
-/// The cause of a register. Its hold claims are measured where there is no other.
+/// The cause of a register. Its hold claims are measured where it is not gated or given, and no stage has it.
 fn cause(
     told: &Told<'_>,
     tables: &Tables,
@@ -69,11 +69,11 @@ fn cause(
     let given = is_given(told.read, reg);
     match cause_seen(hints, stages, given) {
         Some(cause) => Ok(cause),
-        None => measured(told, reacher, reg),
+        None => measured(told, reacher, reg, hints.failed),
     }
 }
 
-/// The cause of a register by what was tried for it and by whether it is on a gating cell, where these tell one.
+/// The cause of a register by what was tried for it and by whether it is on a gating cell, unless its hold claims have to be measured.
 fn cause_seen(hints: &Seen, stages: &Seen, given: bool) -> Option<Cause>
     ensures { result ≡ cause_seen hints.now stages.now given }
 {
@@ -86,24 +86,36 @@ fn cause_seen(hints: &Seen, stages: &Seen, given: bool) -> Option<Cause>
     if given {
         return Some(Cause::Given);
     }
-    match hints.failed {
-        Some(number) => Some(Cause::Hint(number)),
-        None => None,
-    }
+    None
 }
 
-/// The cause of a register by the width of its hold claims alone.
-fn measured(told: &Told<'_>, reacher: &mut Reacher, reg: RegId) -> Result<Cause, AllocError>
+/// The cause of a register by the width of its hold claims, or else by the last hint that was tried for it.
+fn measured(
+    told: &Told<'_>,
+    reacher: &mut Reacher,
+    reg: RegId,
+    failed: Option<u64>,
+) -> Result<Cause, AllocError>
     requires told { IsToldOf told.now }
     requires register { reg < length told.now.read.registers }
-    ensures { IfOk result (λ cause. cause ≡ cause_by_width told.now.width (hold_width_of told.now.began reg)) }
+    ensures { IfOk result (λ cause. cause ≡ cause_by_width told.now.width failed (hold_width_of told.now.began reg)) }
 {
     let machine = &told.plan.machine;
     let width = hold_width(reacher, machine, reg)?;
     if width > u64::from(told.width) {
         Ok(Cause::Wide(width))
     } else {
-        Ok(Cause::Free)
+        Ok(or_free(failed))
+    }
+}
+
+/// The cause of a register whose hold claims are not too wide: the last hint that was tried for it, if there is one.
+fn or_free(failed: Option<u64>) -> Cause
+    ensures { result ≡ or_free failed }
+{
+    match failed {
+        Some(number) => Cause::Hint(number),
+        None => Cause::Free,
     }
 }
 

@@ -21,8 +21,8 @@ use std::alloc::{AllocError, Global};
 /// The text of the registers of a netlist that was gated: a line for each register of the netlist that was read, and one of the sums.
 /// Where a stimulus is played, each line ends with rises.
 ///
-/// It costs one pass over the registers, the hints and the stages, and for each register without another cause what its hold claims
-/// reach.
+/// It costs one pass over the registers, the hints and the stages, and for each register that is not gated or given and that no stage
+/// has what its hold claims reach.
 #[tactic(auto, using(crate::proofs::LineLemmas::pieces))]
 pub fn registers_text(
     alloc: Global,

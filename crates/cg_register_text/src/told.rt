@@ -10,6 +10,7 @@ use std::marker::Model;
 ///
 /// Clauses see a `GatedData`. The plan's machine stands in it in place of the machine with which the plan began, which the plan does not
 /// keep: hold claims of a register that has no enable in the end are as wide on both.
+#[derive(Drop)]
 pub struct Told<'a> {
     /// The netlist that was read.
     pub read: &'a Netlist,

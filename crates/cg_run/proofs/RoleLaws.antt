@@ -19,6 +19,7 @@ role_at (suc (suc (suc (suc (suc zero))))) = roles.Out
 role_at (suc (suc (suc (suc (suc (suc zero)))))) = roles.Proof
 role_at (suc (suc (suc (suc (suc (suc (suc zero))))))) = roles.Report
 role_at (suc (suc (suc (suc (suc (suc (suc (suc zero)))))))) = roles.Verilog
+role_at (suc (suc (suc (suc (suc (suc (suc (suc (suc zero))))))))) = roles.Registers
 role_at n = roles.Hints
 
 role_back : (role : Role) → role_at (role_number role) ≡ role
@@ -32,6 +33,7 @@ role_back roles.Out = refl
 role_back roles.Proof = refl
 role_back roles.Report = refl
 role_back roles.Verilog = refl
+role_back roles.Registers = refl
 role_back roles.Hints = refl
 
 pub is_same_role : (a b : Role) → is_role a b ≡ true → a ≡ b

@@ -13,7 +13,8 @@ role_number roles.Out = 5
 role_number roles.Proof = 6
 role_number roles.Report = 7
 role_number roles.Verilog = 8
-role_number roles.Hints = 9
+role_number roles.Registers = 9
+role_number roles.Hints = 10
 
 abbrev pub is_role : Role → Role → Bool
 is_role a b = nat_eq (role_number a) (role_number b)

@@ -21,6 +21,8 @@ pub enum Role {
     Report,
     /// The written netlist as a Verilog text.
     Verilog,
+    /// Why each register is gated, or why it is not.
+    Registers,
     /// Conditions of the engineer's own.
     Hints,
 }

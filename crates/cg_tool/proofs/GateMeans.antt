@@ -38,7 +38,7 @@ use Rattle.cg_tool.specs.Watching.{Kind}
 use Rattle.cg_tool.specs.declared.modes.wanted.Wanted.{Wanted}
 use Rattle.cg_tool.proofs.GateReads.{found_so}
 use Rattle.cg_tool.proofs.LratMeans.{some_and}
-use Rattle.cg_tool.proofs.Standing.{asked_so, if_some, out_stands, proof_stands, report_stands, verilog_stands}
+use Rattle.cg_tool.proofs.Standing.{asked_so, if_some, out_stands, proof_stands, registers_stands, report_stands, verilog_stands}
 
 -- a stimulus that is found is what its text says, where it has one
 pub driven_by : (form : StimulusForm) (held : Option (List ℕ)) (c : Circuit) (text : List ℕ) (rows : List (List Bool)) → DrivesNetlist form text c rows → (IsTrue (has_file form) → held ≡ Some text) → IsDrivenBy form held c rows
@@ -69,22 +69,29 @@ gates_so options kind end c output is wanted gives =
     subst W wanted (subst N is gives)
 
 -- the files hold their texts
-stand_of : (asked : Asked) (names : Role → List ℕ) (before after : World) (texts : Texts) (proof report verilog : List ℕ) → texts.proof ≡ where_asked asked.proof proof → texts.report ≡ where_asked asked.report report
-    → texts.verilog ≡ where_asked asked.verilog verilog → ((name : List ℕ) → after.held name ≡ puts names (gate_output texts).stores before.held name) → AreApart asked names → Stand names texts after
-stand_of asked names before after texts proof report verilog proof_is report_is verilog_is held apart =
+stand_of : (asked : Asked) (names : Role → List ℕ) (before after : World) (texts : Texts) (proof report verilog registers : List ℕ) → texts.proof ≡ where_asked asked.proof proof → texts.report ≡ where_asked asked.report report
+    → texts.verilog ≡ where_asked asked.verilog verilog → texts.registers ≡ where_asked asked.registers registers
+    → ((name : List ℕ) → after.held name ≡ puts names (gate_output texts).stores before.held name) → AreApart asked names → Stand names texts after
+stand_of asked names before after texts proof report verilog registers proof_is report_is verilog_is registers_is held apart =
     let has_proof : (text : List ℕ) → texts.proof ≡ Some text → IsTrue asked.proof = λ text is. asked_so asked.proof text proof (sym proof_is ∙ is) in
     let has_report : (text : List ℕ) → texts.report ≡ Some text → IsTrue asked.report = λ text is. asked_so asked.report text report (sym report_is ∙ is) in
     let has_verilog : (text : List ℕ) → texts.verilog ≡ Some text → IsTrue asked.verilog = λ text is. asked_so asked.verilog text verilog (sym verilog_is ∙ is) in
+    let has_registers : (text : List ℕ) → texts.registers ≡ Some text → IsTrue asked.registers = λ text is. asked_so asked.registers text registers (sym registers_is ∙ is) in
     let put : List ℕ → List ℕ → Type 0 = λ name text. puts names (gate_output texts).stores before.held name ≡ Some text in
     let holds : List ℕ → List ℕ → Type 0 = λ name text. after.held name ≡ Some text in
     record {
       out = held (names roles.Out)
-          ∙ out_stands names before.held texts (λ text is. apart.out_proof (has_proof text is)) (λ text is. apart.out_report (has_report text is)) (λ text is. apart.out_verilog (has_verilog text is));
+          ∙ out_stands names before.held texts (λ text is. apart.out_proof (has_proof text is)) (λ text is. apart.out_report (has_report text is)) (λ text is. apart.out_verilog (has_verilog text is))
+          (λ text is. apart.out_registers (has_registers text is));
       proof = if_some texts.proof (put (names roles.Proof)) (holds (names roles.Proof)) (λ text is there. held (names roles.Proof) ∙ there)
-          (proof_stands names before.held texts (λ text other is also. apart.proof_report (has_proof text is) (has_report other also)) (λ text other is also. apart.proof_verilog (has_proof text is) (has_verilog other also)));
+          (proof_stands names before.held texts (λ text is other also. apart.proof_report (has_proof text is) (has_report other also)) (λ text is other also. apart.proof_verilog (has_proof text is) (has_verilog other also))
+          (λ text is other also. apart.proof_registers (has_proof text is) (has_registers other also)));
       report = if_some texts.report (put (names roles.Report)) (holds (names roles.Report)) (λ text is there. held (names roles.Report) ∙ there)
-          (report_stands names before.held texts (λ text other is also. apart.report_verilog (has_report text is) (has_verilog other also)));
-      verilog = if_some texts.verilog (put (names roles.Verilog)) (holds (names roles.Verilog)) (λ text is there. held (names roles.Verilog) ∙ there) (verilog_stands names before.held texts);
+          (report_stands names before.held texts (λ text is other also. apart.report_verilog (has_report text is) (has_verilog other also))
+          (λ text is other also. apart.report_registers (has_report text is) (has_registers other also)));
+      verilog = if_some texts.verilog (put (names roles.Verilog)) (holds (names roles.Verilog)) (λ text is there. held (names roles.Verilog) ∙ there)
+          (verilog_stands names before.held texts (λ text is other also. apart.verilog_registers (has_verilog text is) (has_registers other also)));
+      registers = if_some texts.registers (put (names roles.Registers)) (holds (names roles.Registers)) (λ text is there. held (names roles.Registers) ∙ there) (registers_stands names before.held texts);
     }
 
 gated_of : (options : Options) (kind : Option Kind) (names : Role → List ℕ) (before after : World) (finish : Finish) (end : DesignFiles Wanted) (f : Finishes (gate_task options kind) names before after finish)
@@ -115,7 +122,7 @@ gated_of options kind names before after finish end f read gives =
       may = gates.may;
       gives = gates.gives;
       headline = gates.headline;
-      stand = stand_of options.asked names before after gates.texts _ _ _ texts.proof texts.report texts.verilog held;
+      stand = stand_of options.asked names before after gates.texts _ _ _ _ texts.proof texts.report texts.verilog (texts.registers).is held;
       stored = held;
       said = f.written.said ∙ ap (λ (o : Output). before.said ++ o.said) gates.is;
       ends = sym f.ends ∙ ap (λ (o : Output). o.finish) gates.is;

@@ -59,17 +59,25 @@ files_apart library netlist out values stimulus different =
     let proof = option_to_list values.proof in
     let report = option_to_list values.report in
     let verilog = option_to_list values.verilog in
-    let none = sym (append-nil verilog) in
+    let registers = option_to_list values.registers ++ [] in
     -- the same names, with brackets at other places
-    let late : D ((front ++ proof) ++ (report ++ verilog)) = subst D (append_assoc (front ++ proof) report verilog) different in
-    let early : D (front ++ (proof ++ (report ++ verilog))) = subst D (append_assoc front proof (report ++ verilog)) late in
+    let last : D (front ++ proof ++ report ++ verilog ++ registers) =
+        subst (λ l. D (front ++ proof ++ report ++ verilog ++ l)) (sym (append-nil (option_to_list values.registers))) different in
+    let late : D ((front ++ proof ++ report) ++ (verilog ++ registers)) = subst D (append_assoc (front ++ proof ++ report) verilog registers) last in
+    let early : D ((front ++ proof) ++ (report ++ (verilog ++ registers))) = subst D (append_assoc (front ++ proof) report (verilog ++ registers)) late in
+    let first : D (front ++ (proof ++ (report ++ (verilog ++ registers)))) = subst D (append_assoc front proof (report ++ (verilog ++ registers))) early in
     record {
-      out_proof = two_apart (library ∷ netlist ∷ []) front (report ++ verilog) (Some out) values.proof early refl;
-      out_report = two_apart (library ∷ netlist ∷ []) (front ++ proof) verilog (Some out) values.report late refl;
-      out_verilog = two_apart (library ∷ netlist ∷ []) (front ++ proof ++ report) [] (Some out) values.verilog (subst (λ l. D (front ++ proof ++ report ++ l)) none different) refl;
-      proof_report = two_apart (library ∷ netlist ∷ out ∷ front) [] verilog values.proof values.report early;
-      proof_verilog = two_apart (library ∷ netlist ∷ out ∷ front) report [] values.proof values.verilog (subst (λ l. D (front ++ (proof ++ (report ++ l)))) none early);
-      report_verilog = two_apart (library ∷ netlist ∷ out ∷ (front ++ proof)) [] [] values.report values.verilog (subst (λ l. D ((front ++ proof) ++ (report ++ l))) none late);
+      out_proof = two_apart (library ∷ netlist ∷ []) front (report ++ (verilog ++ registers)) (Some out) values.proof first refl;
+      out_report = two_apart (library ∷ netlist ∷ []) (front ++ proof) (verilog ++ registers) (Some out) values.report early refl;
+      out_verilog = two_apart (library ∷ netlist ∷ []) (front ++ proof ++ report) registers (Some out) values.verilog late refl;
+      out_registers = two_apart (library ∷ netlist ∷ []) (front ++ proof ++ report ++ verilog) [] (Some out) values.registers last refl;
+      proof_report = two_apart (library ∷ netlist ∷ out ∷ front) [] (verilog ++ registers) values.proof values.report first;
+      proof_verilog = two_apart (library ∷ netlist ∷ out ∷ front) report registers values.proof values.verilog first;
+      proof_registers = two_apart (library ∷ netlist ∷ out ∷ front) (report ++ verilog) [] values.proof values.registers
+          (subst (λ l. D (front ++ (proof ++ l))) (sym (append_assoc report verilog registers)) first);
+      report_verilog = two_apart (library ∷ netlist ∷ out ∷ (front ++ proof)) [] registers values.report values.verilog early;
+      report_registers = two_apart (library ∷ netlist ∷ out ∷ (front ++ proof)) verilog [] values.report values.registers early;
+      verilog_registers = two_apart (library ∷ netlist ∷ out ∷ (front ++ proof ++ report)) [] [] values.verilog values.registers late;
     }
 
 -- so do those of a job of `gate`

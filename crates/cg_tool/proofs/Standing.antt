@@ -43,7 +43,7 @@ module _ (names : Role → List ℕ) where
   leaves role (Some bytes) held name apart = put_apart held (names role) bytes name (apart bytes refl)
 
   module _ (held : List ℕ → Option (List ℕ)) (texts : Texts) where
-    -- what is held once the netlist is put, once the proof file is put, and once the report is put
+    -- what is held once the netlist is put, and then the proof file, the report and the Verilog text, one after the other
     abbrev first : List ℕ → Option (List ℕ)
     first = put_under held (names roles.Out) texts.out
 
@@ -53,37 +53,56 @@ module _ (names : Role → List ℕ) where
     abbrev third : List ℕ → Option (List ℕ)
     third = puts names (text_for roles.Report texts.report) second
 
+    abbrev fourth : List ℕ → Option (List ℕ)
+    fourth = puts names (text_for roles.Verilog texts.verilog) third
+
     abbrev last : List ℕ → Option (List ℕ)
     last = puts names (gate_output texts).stores held
 
-    after : (name : List ℕ) → last name ≡ puts names (text_for roles.Verilog texts.verilog) third name
+    after : (name : List ℕ) → last name ≡ puts names (text_for roles.Registers texts.registers) fourth name
     after name =
-        ap (λ (h : List ℕ → Option (List ℕ)). h name)
-        (puts_both (text_for roles.Proof texts.proof ++ text_for roles.Report texts.report) (text_for roles.Verilog texts.verilog) first
-        ∙ ap (puts names (text_for roles.Verilog texts.verilog)) (puts_both (text_for roles.Proof texts.proof) (text_for roles.Report texts.report) first))
+        let proof = text_for roles.Proof texts.proof in
+        let report = text_for roles.Report texts.report in
+        let verilog = text_for roles.Verilog texts.verilog in
+        let registers = text_for roles.Registers texts.registers in
+        let three : puts names (proof ++ report ++ verilog) first ≡ fourth = puts_both (proof ++ report) verilog first ∙ ap (puts names verilog) (puts_both proof report first) in
+        ap (λ (h : List ℕ → Option (List ℕ)). h name) (puts_both (proof ++ report ++ verilog) registers first ∙ ap (puts names registers) three)
 
-    pub out_stands : ((text : List ℕ) → texts.proof ≡ Some text → names roles.Out ≢ names roles.Proof) → ((text : List ℕ) → texts.report ≡ Some text → names roles.Out ≢ names roles.Report)
-        → ((text : List ℕ) → texts.verilog ≡ Some text → names roles.Out ≢ names roles.Verilog) → last (names roles.Out) ≡ Some texts.out
-    out_stands proof report verilog =
-        after (names roles.Out) ∙ leaves roles.Verilog texts.verilog third (names roles.Out) verilog ∙ leaves roles.Report texts.report second (names roles.Out) report
-        ∙ leaves roles.Proof texts.proof first (names roles.Out) proof ∙ put_here held (names roles.Out) texts.out
+    -- the file of this role has another name than one that is also stored
+    abbrev Apart : Role → Role → Option (List ℕ) → Type 0
+    Apart role other text = (bytes : List ℕ) → text ≡ Some bytes → names role ≢ names other
 
-    pub proof_stands : ((text other : List ℕ) → texts.proof ≡ Some text → texts.report ≡ Some other → names roles.Proof ≢ names roles.Report)
-        → ((text other : List ℕ) → texts.proof ≡ Some text → texts.verilog ≡ Some other → names roles.Proof ≢ names roles.Verilog) → IfSome texts.proof (λ text. last (names roles.Proof) ≡ Some text)
-    proof_stands report verilog =
-        if_some texts.proof (λ text. second (names roles.Proof) ≡ Some text) (λ text. last (names roles.Proof) ≡ Some text)
-        (λ text is here. after (names roles.Proof) ∙ leaves roles.Verilog texts.verilog third (names roles.Proof) (λ other also. verilog text other is also)
-        ∙ leaves roles.Report texts.report second (names roles.Proof) (λ other also. report text other is also) ∙ here)
-        (stands roles.Proof texts.proof first)
+    -- what stands under a name of its own once a text is put is there at the end
+    from_last : (role : Role) → Apart role roles.Registers texts.registers → last (names role) ≡ fourth (names role)
+    from_last role registers = after (names role) ∙ leaves roles.Registers texts.registers fourth (names role) registers
 
-    pub report_stands : ((text other : List ℕ) → texts.report ≡ Some text → texts.verilog ≡ Some other → names roles.Report ≢ names roles.Verilog)
+    from_fourth : (role : Role) → Apart role roles.Verilog texts.verilog → Apart role roles.Registers texts.registers → last (names role) ≡ third (names role)
+    from_fourth role verilog registers = from_last role registers ∙ leaves roles.Verilog texts.verilog third (names role) verilog
+
+    from_third : (role : Role) → Apart role roles.Report texts.report → Apart role roles.Verilog texts.verilog → Apart role roles.Registers texts.registers → last (names role) ≡ second (names role)
+    from_third role report verilog registers = from_fourth role verilog registers ∙ leaves roles.Report texts.report second (names role) report
+
+    pub out_stands : Apart roles.Out roles.Proof texts.proof → Apart roles.Out roles.Report texts.report → Apart roles.Out roles.Verilog texts.verilog → Apart roles.Out roles.Registers texts.registers → last (names roles.Out) ≡ Some texts.out
+    out_stands proof report verilog registers =
+        from_third roles.Out report verilog registers ∙ leaves roles.Proof texts.proof first (names roles.Out) proof ∙ put_here held (names roles.Out) texts.out
+
+    -- a text stands under its name, where those behind it have other names
+    standing : (role : Role) (text : Option (List ℕ)) (before : List ℕ → Option (List ℕ))
+        → ((bytes : List ℕ) → text ≡ Some bytes → last (names role) ≡ puts names (text_for role text) before (names role)) → IfSome text (λ bytes. last (names role) ≡ Some bytes)
+    standing role text before stays =
+        if_some text (λ bytes. puts names (text_for role text) before (names role) ≡ Some bytes) (λ bytes. last (names role) ≡ Some bytes) (λ bytes is here. stays bytes is ∙ here) (stands role text before)
+
+    pub proof_stands : ((bytes : List ℕ) → texts.proof ≡ Some bytes → Apart roles.Proof roles.Report texts.report) → ((bytes : List ℕ) → texts.proof ≡ Some bytes → Apart roles.Proof roles.Verilog texts.verilog)
+        → ((bytes : List ℕ) → texts.proof ≡ Some bytes → Apart roles.Proof roles.Registers texts.registers) → IfSome texts.proof (λ text. last (names roles.Proof) ≡ Some text)
+    proof_stands report verilog registers =
+        standing roles.Proof texts.proof first (λ bytes is. from_third roles.Proof (report bytes is) (verilog bytes is) (registers bytes is))
+
+    pub report_stands : ((bytes : List ℕ) → texts.report ≡ Some bytes → Apart roles.Report roles.Verilog texts.verilog) → ((bytes : List ℕ) → texts.report ≡ Some bytes → Apart roles.Report roles.Registers texts.registers)
         → IfSome texts.report (λ text. last (names roles.Report) ≡ Some text)
-    report_stands verilog =
-        if_some texts.report (λ text. third (names roles.Report) ≡ Some text) (λ text. last (names roles.Report) ≡ Some text)
-        (λ text is here. after (names roles.Report) ∙ leaves roles.Verilog texts.verilog third (names roles.Report) (λ other also. verilog text other is also) ∙ here)
-        (stands roles.Report texts.report second)
+    report_stands verilog registers = standing roles.Report texts.report second (λ bytes is. from_fourth roles.Report (verilog bytes is) (registers bytes is))
 
-    pub verilog_stands : IfSome texts.verilog (λ text. last (names roles.Verilog) ≡ Some text)
-    verilog_stands =
-        if_some texts.verilog (λ text. puts names (text_for roles.Verilog texts.verilog) third (names roles.Verilog) ≡ Some text) (λ text. last (names roles.Verilog) ≡ Some text)
-        (λ text is here. after (names roles.Verilog) ∙ here) (stands roles.Verilog texts.verilog third)
+    pub verilog_stands : ((bytes : List ℕ) → texts.verilog ≡ Some bytes → Apart roles.Verilog roles.Registers texts.registers) → IfSome texts.verilog (λ text. last (names roles.Verilog) ≡ Some text)
+    verilog_stands registers = standing roles.Verilog texts.verilog third (λ bytes is. from_last roles.Verilog (registers bytes is))
+
+    pub registers_stands : IfSome texts.registers (λ text. last (names roles.Registers) ≡ Some text)
+    registers_stands = standing roles.Registers texts.registers fourth (λ bytes is. after (names roles.Registers))

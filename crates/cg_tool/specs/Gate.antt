@@ -36,8 +36,8 @@ request_of design = request_by design.library design.demand design.stimulus desi
 abbrev pub MayBeGated : Design Wanted → Type 0
 MayBeGated design = MayGate (request_of design) design.netlist
 
--- what `gate` puts out of the texts of a gated netlist: it stores the netlist, and the proof file, the report and the Verilog text
--- where they are asked for
+-- what `gate` puts out of the texts of a gated netlist: it stores the netlist, and the proof file, the report, the Verilog text and
+-- the text of the registers where they are asked for
 abbrev pub text_for : Role → Option (List ℕ) → List Text
 text_for role None = []
 text_for role (Some bytes) = record { role = role; bytes = bytes } ∷ []
@@ -47,7 +47,7 @@ gate_output texts =
     record {
       stores =
           record { role = roles.Out; bytes = texts.out } ∷ text_for roles.Proof texts.proof ++ text_for roles.Report texts.report
-          ++ text_for roles.Verilog texts.verilog;
+          ++ text_for roles.Verilog texts.verilog ++ text_for roles.Registers texts.registers;
       said = texts.said;
       finish = finishes.Done;
     }

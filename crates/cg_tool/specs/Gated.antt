@@ -43,9 +43,13 @@ pub record AreApart (asked : Asked) (names : Role → List ℕ) : Type 0 where
   pub out_proof : IsTrue asked.proof → names roles.Out ≢ names roles.Proof
   pub out_report : IsTrue asked.report → names roles.Out ≢ names roles.Report
   pub out_verilog : IsTrue asked.verilog → names roles.Out ≢ names roles.Verilog
+  pub out_registers : IsTrue asked.registers → names roles.Out ≢ names roles.Registers
   pub proof_report : IsTrue asked.proof → IsTrue asked.report → names roles.Proof ≢ names roles.Report
   pub proof_verilog : IsTrue asked.proof → IsTrue asked.verilog → names roles.Proof ≢ names roles.Verilog
+  pub proof_registers : IsTrue asked.proof → IsTrue asked.registers → names roles.Proof ≢ names roles.Registers
   pub report_verilog : IsTrue asked.report → IsTrue asked.verilog → names roles.Report ≢ names roles.Verilog
+  pub report_registers : IsTrue asked.report → IsTrue asked.registers → names roles.Report ≢ names roles.Registers
+  pub verilog_registers : IsTrue asked.verilog → IsTrue asked.registers → names roles.Verilog ≢ names roles.Registers
 
 -- each file that is stored holds its text
 pub record Stand (names : Role → List ℕ) (texts : Texts) (after : World) : Type 0 where
@@ -53,6 +57,7 @@ pub record Stand (names : Role → List ℕ) (texts : Texts) (after : World) : T
   pub proof : IfSome texts.proof (λ text. after.held (names roles.Proof) ≡ Some text)
   pub report : IfSome texts.report (λ text. after.held (names roles.Report) ≡ Some text)
   pub verilog : IfSome texts.verilog (λ text. after.held (names roles.Verilog) ≡ Some text)
+  pub registers : IfSome texts.registers (λ text. after.held (names roles.Registers) ≡ Some text)
 
 -- A netlist was gated: the bytes under LIB are a text that stands for a library, and those under NETLIST, in the form that its name
 -- ends with, say a well-formed netlist with this library and the clock of the words, of which no gating cell is refused and in which no

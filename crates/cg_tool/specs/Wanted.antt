@@ -14,13 +14,14 @@ use Rattle.cg_stimulus.specs.Inputs.{Rows}
 use Rattle.cg_command_line.specs.declared.options.Options.{Options}
 use Rattle.cg_tool.specs.declared.modes.wanted.Wanted.{Wanted}
 
--- how a netlist is to be gated, by what the options say; gating cells have a test input exactly where one is named
+-- how a netlist is to be gated, by what the options say; gating cells have a test input exactly where one is named, and proofs are
+-- kept exactly where a file of them is asked for
 abbrev pub wanted_by : Options → Wanted
 wanted_by options =
     record {
       prefix = options.prefix;
       test = options.test;
-      settings = record options.settings { test = is_some options.test };
+      settings = record options.settings { test = is_some options.test; proof = options.asked.proof };
       asked = options.asked;
     }
 
@@ -60,7 +61,7 @@ request_by library wanted stimulus hints = record {
   test = wanted.test;
   stimulus = stimulus;
   hints = hints;
-  proof = wanted.asked.proof;
   report = wanted.asked.report;
   verilog = wanted.asked.verilog;
+  registers = wanted.asked.registers;
 }

@@ -7,7 +7,7 @@ ghost use Rattle.cg_verilog_text.specs.Meaning.{index_text};
 ghost use Rattle.cg_verilog.specs.Counters.{AreDigits, value_of};
 ghost use Rattle.cg_verilog.specs.inner.Digits.{at_most, is_last, lowered, lowest_first, raised, written};
 
-use cg_verilog_items::numeral::Numeral;
+use cg_verilog_tokens::numeral::Numeral;
 use std::alloc::{AllocError, Global};
 use std::marker::Model;
 

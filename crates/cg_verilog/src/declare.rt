@@ -12,7 +12,7 @@ use crate::counter::Counter;
 use cg_netlist::fault::AddFault;
 use cg_netlist_builder::builder::Builder;
 use cg_verilog_items::declaration::Range;
-use cg_verilog_items::identifier::Identifier;
+use cg_verilog_tokens::identifier::Identifier;
 use std::alloc::{AllocError, Global};
 
 /// What a net is declared to be.

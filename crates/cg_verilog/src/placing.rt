@@ -12,9 +12,9 @@ use cg_netlist_builder::builder::Builder;
 use cg_netlist_placed::adding::{add_placed, usable_cell};
 use cg_netlist_placed::fault::Refusal as PlacedRefusal;
 use cg_netlist_placed::pin::PinWord;
-use cg_verilog_items::identifier::Identifier;
 use cg_verilog_items::placed::Pin;
 use cg_verilog_text::fault::ItemFault;
+use cg_verilog_tokens::identifier::Identifier;
 use std::alloc::{AllocError, Global};
 
 /// Tells a builder a placed cell.

@@ -22,8 +22,8 @@ use cg_netlist_builder::builder::Builder;
 use cg_netlist_parts::fault::NetFault;
 use cg_verilog_items::reading::Reading;
 use cg_verilog_items::stop::Stop;
-use cg_verilog_items::tokens::{Tokens, line_behind};
 use cg_verilog_text::fault::{ItemFault, VerilogFault};
+use cg_verilog_tokens::tokens::{Tokens, line_behind};
 use std::alloc::Global;
 
 /// Reads a text with the cells of a library. One pass over the text, in time and memory as it is long.

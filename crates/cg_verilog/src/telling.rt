@@ -29,11 +29,11 @@ use cg_netlist_builder::builder::Builder;
 use cg_verilog_items::always::Update;
 use cg_verilog_items::declaration::{Declared, Range};
 use cg_verilog_items::form::Form;
-use cg_verilog_items::identifier::Identifier;
 use cg_verilog_items::item::{Item, ItemKind};
 use cg_verilog_items::net::Net;
 use cg_verilog_items::placed::Pin;
 use cg_verilog_text::fault::{ItemFault, VerilogFault};
+use cg_verilog_tokens::identifier::Identifier;
 use std::alloc::{AllocError, Global};
 use std::mem;
 

@@ -1,11 +1,9 @@
-pub mod LineCounts
+pub mod Blocks
+pub mod IndexedNames
+pub mod Inverted
+pub mod KnownNets
 pub mod Literals
 pub mod Parting
 pub mod Passing
-pub mod PlainNames
 pub mod Shorter
-pub mod TokensLeft
 pub mod ShorterItems
-pub mod KnownNets
-pub mod Blocks
-pub mod Inverted

@@ -3,10 +3,6 @@ pub mod FormParts
 pub mod FormSeen
 pub mod ItemParts
 pub mod ItemSeen
-pub mod LinesLeft
 pub mod Nets
-pub mod Passing
-pub mod PlainNames
 pub mod Readings
-pub mod Runs
 pub mod Terms

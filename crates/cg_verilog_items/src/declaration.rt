@@ -6,11 +6,11 @@ ghost use Rattle.cg_verilog_text.specs.Reading.{ended_by, is_numeral, pass, sepa
 ghost use Rattle.cg_verilog_items.specs.ItemParts.{given_init, scalar};
 ghost use Rattle.cg_verilog_items.specs.Readings.{IsRead};
 
-use crate::identifier::Identifier;
-use crate::numeral::Numeral;
 use crate::reading::Reading;
 use crate::stop::Stop;
 use cg_list::Seq;
+use cg_verilog_tokens::identifier::Identifier;
+use cg_verilog_tokens::numeral::Numeral;
 use std::alloc::Global;
 use std::marker::Model;
 

@@ -10,12 +10,12 @@ ghost use Rattle.cg_verilog_items.specs.Readings.{IsRead};
 use crate::always::Update;
 use crate::declaration::{Declared, Range};
 use crate::form::Form;
-use crate::identifier::Identifier;
 use crate::net::Net;
 use crate::placed::Pin;
 use crate::reading::{Piece, Reading};
 use crate::stop::Stop;
 use cg_list::Seq;
+use cg_verilog_tokens::identifier::Identifier;
 use std::alloc::Global;
 use std::marker::Model;
 

@@ -5,10 +5,10 @@ ghost use Rattle.cg_verilog_text.specs.Items.{ended, header, port_list, ports};
 ghost use Rattle.cg_verilog_text.specs.Reading.{after, ended_by, name, separated, word};
 ghost use Rattle.cg_verilog_items.specs.Readings.{IsRead};
 
-use crate::identifier::Identifier;
 use crate::reading::Reading;
 use crate::stop::Stop;
 use cg_list::Seq;
+use cg_verilog_tokens::identifier::Identifier;
 use std::alloc::Global;
 
 impl<'a> Reading<'a> {

@@ -6,11 +6,11 @@ ghost use Rattle.cg_text.specs.Numbers.{is_number};
 ghost use Rattle.cg_verilog_text.specs.Reading.{ended_by, indexed, is_numeral, net, pass};
 ghost use Rattle.cg_verilog_items.specs.Readings.{IsRead};
 
-use crate::identifier::Identifier;
-use crate::numeral::Numeral;
 use crate::reading::Reading;
 use crate::stop::Stop;
 use cg_list::Seq;
+use cg_verilog_tokens::identifier::Identifier;
+use cg_verilog_tokens::numeral::Numeral;
 use std::alloc::{AllocError, Global};
 use std::marker::Model;
 

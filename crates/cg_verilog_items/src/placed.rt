@@ -6,12 +6,12 @@ ghost use Rattle.cg_verilog_text.specs.Reading.{after, ended_by, is_label, mark,
 ghost use Rattle.cg_verilog_items.specs.ItemParts.{rest_of_placed};
 ghost use Rattle.cg_verilog_items.specs.Readings.{IsRead};
 
-use crate::identifier::Identifier;
 use crate::item::{Item, ItemKind};
 use crate::net::Net;
 use crate::reading::{Piece, Reading};
 use crate::stop::Stop;
 use cg_list::Seq;
+use cg_verilog_tokens::identifier::Identifier;
 use std::alloc::Global;
 use std::marker::Model;
 

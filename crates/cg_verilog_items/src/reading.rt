@@ -6,11 +6,11 @@ ghost use Rattle.cg_verilog_text.specs.Reading.{behind, bit, is_arrow, is_bit, i
 ghost use Rattle.cg_verilog_text.specs.Reading.{mark, name, pass, word};
 ghost use Rattle.cg_verilog_items.specs.Readings.{IsPassed, IsRead, is_over, next_text};
 
-use crate::identifier::Identifier;
-use crate::numeral::Numeral;
 use crate::stop::Stop;
-use crate::token::{Token, is_one};
-use crate::tokens::Tokens;
+use cg_verilog_tokens::identifier::Identifier;
+use cg_verilog_tokens::numeral::Numeral;
+use cg_verilog_tokens::token::{Token, is_one};
+use cg_verilog_tokens::tokens::Tokens;
 use std::marker::Model;
 
 /// Bytes of a text.

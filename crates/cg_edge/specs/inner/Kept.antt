@@ -1,18 +1,21 @@
 -- What a simulator is made of, and what is true of it.
-use Rattle.std.specs.Prelude.{◌≡◌, ◌≤◌, Bool, false, List, length, replicate, Option, None, Some, if◌then◌else◌}
-use Rattle.cg_netlist.specs.Circuit.{Circuit}
+use Rattle.std.specs.Prelude.{◌≡◌, ◌≤◌, Bool, true, false, List, length, replicate, Option, None, Some, if◌then◌else◌}
+use Rattle.cg_netlist.specs.Circuit.{Circuit, register_nets}
 use Rattle.cg_netlist.specs.History.{Moment}
+use Rattle.cg_netlist.specs.Moment.{register_bits, values_at}
 use Rattle.cg_netlist.specs.Netlist.{IsNetlist, widest_of}
 use Rattle.cg_netlist.specs.Nets.{walk_order}
 use Rattle.cg_edge.specs.declared.present.Bits.{Bits}
 use Rattle.cg_edge.specs.declared.schedule.Schedule.{Schedule}
 use Rattle.cg_edge.specs.inner.Flat.{AreLaid}
 use Rattle.cg_edge.specs.inner.Keeping.{AreMarked, AreReaders, IsChain, walk_of}
+use Rattle.cg_edge.specs.inner.Runs.{AreRuns}
 
--- the gating cells stand in a chain, and the logic cells are laid out in walk order, with their readers
+-- the gating cells stand in a chain, the registers in runs, and the logic cells are laid out in walk order, with their readers
 pub record IsSchedule (s : Schedule) : Type 0 where
   pub netlist : IsNetlist s.netlist.now
   pub chained : IsChain s.netlist.now s.chain.items
+  pub runs : AreRuns s.netlist.now.registers 0 (length s.netlist.now.registers) s.runs.items
   pub ordered : s.order.now ≡ walk_order s.netlist.now.cells
   pub laid : AreLaid s.netlist.now s.order.now (length s.order.now) s.cells
   pub reading : AreReaders (length s.netlist.now.names) (length s.order.now) (walk_of s.netlist.now) s.readers
@@ -39,11 +42,13 @@ moment_of bits = record { nets = bits.nets.items; state = bits.state.items; latc
 abbrev pub present_at : Bool → Bits → Option Moment
 present_at ticked bits = if ticked then Some (moment_of bits) else None
 
--- what is true of a simulator: each cell holds or is marked, and it is fresh before the first tick
+-- what is true of a simulator: each cell holds or is marked, the registers show their bits once there was a tick, and it is
+-- fresh before the first one
 pub record IsKept (s : Schedule) (start : List Bool) (ticked : Bool) (bits : Bits) (marks : List Bool) : Type 0 where
   pub scheduled : IsSchedule s
   pub started : length start ≡ length s.netlist.now.registers
   pub fit : AreBits s.netlist.now bits
   pub marks_long : length marks ≡ length s.order.now
   pub marked : AreMarked (walk_of s.netlist.now) marks bits.nets.items
+  pub shown : ticked ≡ true → values_at bits.nets.items (register_nets s.netlist.now) ≡ register_bits s.netlist.now.registers bits.state.items
   pub first : ticked ≡ false → AreFresh s.netlist.now start bits

@@ -19,16 +19,14 @@ abbrev pub or_given : Bool → Option ℕ → Option Cause
 or_given given None = if given then Some Given else None
 or_given given (Some number) = Some (Stage number)
 
-abbrev pub or_hint : Option Cause → Option ℕ → Option Cause
-or_hint (Some cause) failed = Some cause
-or_hint None None = None
-or_hint None (Some number) = Some (Hint number)
-
 abbrev pub cause_seen : Seen → Seen → Bool → Option Cause
 cause_seen hints stages given =
-    if not (is_empty hints.givers) || not (is_empty stages.givers) then Some Gated
-    else or_hint (or_given given stages.failed) hints.failed
+    if not (is_empty hints.givers) || not (is_empty stages.givers) then Some Gated else or_given given stages.failed
 
--- the cause of any other
-abbrev pub cause_by_width : ℕ → ℕ → Cause
-cause_by_width most width = if nat_lt most width then Wide width else Free
+-- the cause of any other: that its hold claims are too wide, or else the last hint that was tried for it, if there is one
+abbrev pub or_free : Option ℕ → Cause
+or_free None = Free
+or_free (Some number) = Hint number
+
+abbrev pub cause_by_width : ℕ → Option ℕ → ℕ → Cause
+cause_by_width most failed width = if nat_lt most width then Wide width else or_free failed

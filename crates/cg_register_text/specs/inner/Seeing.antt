@@ -18,7 +18,7 @@ seen_of trials r = record { givers = givers trials r; failed = last_failed trial
 abbrev pub ends_with : List ℕ → ℕ → Bool
 ends_with numbers number = option_map_or (λ last. last == number) (last_of numbers) false
 
--- a number behind some, but not behind itself
+-- a number behind some, unless it is their last
 abbrev pub with_number : List ℕ → ℕ → List ℕ
 with_number numbers number = if ends_with numbers number then numbers else numbers ++ number ∷ []
 

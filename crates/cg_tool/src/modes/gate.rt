@@ -191,6 +191,7 @@ fn put_texts(alloc: Global, texts: Texts) -> Result<Output, AllocError>
         proof,
         report,
         verilog,
+        registers,
         said,
     } = texts;
     let mut stores = Seq::new(alloc);
@@ -201,6 +202,7 @@ fn put_texts(alloc: Global, texts: Texts) -> Result<Output, AllocError>
     put_text(&mut stores, Role::Proof, proof)?;
     put_text(&mut stores, Role::Report, report)?;
     put_text(&mut stores, Role::Verilog, verilog)?;
+    put_text(&mut stores, Role::Registers, registers)?;
     Ok(Output {
         stores,
         said,

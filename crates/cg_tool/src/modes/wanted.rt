@@ -35,7 +35,7 @@ pub struct Wanted {
     /// The name of the test input, where there is to be one.
     pub test: Option<Name>,
 
-    /// What bounds the plan.
+    /// What bounds the plan, and whether its proofs are kept.
     pub settings: Settings,
 
     /// Which further files are asked for.
@@ -43,17 +43,19 @@ pub struct Wanted {
 }
 
 impl Wanted {
-    /// How a netlist is to be gated; gating cells have a test input exactly where one is named.
+    /// How a netlist is to be gated; gating cells have a test input exactly where one is named, and proofs are kept exactly where a file
+    /// of them is asked for.
     pub fn new(prefix: Name, test: Option<Name>, settings: Settings, asked: Asked) -> Wanted
         ensures { result ≡ record {
           prefix = prefix;
           test = test;
-          settings = record settings { test = is_some test };
+          settings = record settings { test = is_some test; proof = asked.proof };
           asked = asked;
         } }
     {
         let settings = Settings {
             test: test.is_some(),
+            proof: asked.proof,
             ..settings
         };
         Wanted {
@@ -80,9 +82,9 @@ impl Wanted {
             test: self.test.as_ref(),
             stimulus,
             hints,
-            proof: self.asked.proof,
             report: self.asked.report,
             verilog: self.asked.verilog,
+            registers: self.asked.registers,
         }
     }
 }

@@ -1,6 +1,6 @@
 use Rattle.cg_netlist.specs.History.{next_latch}
 use Rattle.cg_netlist.specs.Moment.{zip_with}
-use Rattle.cg_edge.proofs.Written.{IsWritten}
+use Rattle.cg_edge.specs.inner.Stepped.{IsWritten}
 use Rattle.cg_edge.proofs.latch_step.follow.Given as goal
 
 abbrev pub invariant-loop-k : goal.invariant-loop-k

@@ -1,10 +1,10 @@
-use Rattle.std.proofs.Common.{map}
-use Rattle.cg_netlist.specs.History.{next_bit, rises}
-use Rattle.cg_netlist.specs.Moment.{zip_with}
-use Rattle.cg_edge.proofs.Written.{IsWritten}
+use Rattle.std.proofs.Common.{◌≡◌, drop, length}
+use Rattle.cg_edge.specs.inner.Keeping.{AreMarked, walk_of}
+use Rattle.cg_edge.specs.inner.Runs.{AreRuns}
+use Rattle.cg_edge.specs.inner.Stepped.{AreStepped}
 use Rattle.cg_edge.proofs.register_step.step.Given as goal
 
-abbrev pub invariant-loop-k : goal.invariant-loop-k
-invariant-loop-k l =
-    IsWritten l.k l.fn.state (zip_with (next_bit l.before l.nets) l.netlist.registers l.fn.state) l.state
-    × IsWritten l.k l.fn.rose (map (rises l.before l.nets) l.netlist.registers) l.rose
+abbrev pub invariant-loop-run : goal.invariant-loop-run
+invariant-loop-run l =
+    AreRuns l.schedule.netlist.now.registers l.first (length l.schedule.netlist.now.registers) (drop l.run-index l.schedule.runs.items)
+    × AreStepped l.schedule.netlist.now l.before l.fn.nets l.fn.state l.first l.nets l.state l.rose × AreMarked (walk_of l.schedule.netlist.now) l.marks l.nets × (length l.marks ≡ length l.fn.marks)

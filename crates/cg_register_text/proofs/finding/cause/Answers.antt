@@ -2,6 +2,7 @@ use Rattle.std.proofs.Common.{◌≡◌, Bool, List, slice_get, Option, Some, un
 use Rattle.std.proofs.lemmas.Option.{same_Some}
 use Rattle.cg_stage_list_laws.specs.HoldList.{hold_width}
 use Rattle.cg_register_text.specs.Causes.{Tried, cause_of, is_given}
+use Rattle.cg_register_text.specs.Trials.{last_failed}
 use Rattle.cg_register_text.specs.Words.{GatedData, tried_of}
 use Rattle.cg_register_text.specs.declared.cause.Cause.{Cause}
 use Rattle.cg_register_text.specs.declared.seen.Seen.{Seen}
@@ -25,4 +26,4 @@ returns-in-Some c =
     ∙ (ap (λ h. cause_seen h c.seen_at-stages.result.now c.is_given-given.result) hints
     ∙ (ap (λ s. cause_seen (seen_of t.hints r) s c.is_given-given.result) stages
     ∙ ap (cause_seen (seen_of t.hints r) (seen_of t.stages r)) given))) in
-    ap (λ o. unwrap_or o (cause_by_width t.width (hold_width t.began r))) seen ∙ cause_found t r
+    ap (λ o. unwrap_or o (cause_by_width t.width (last_failed t.hints r) (hold_width t.began r))) seen ∙ cause_found t r

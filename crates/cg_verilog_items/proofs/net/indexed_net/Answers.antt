@@ -1,6 +1,6 @@
 use Rattle.std.proofs.Common.{◌≡◌, ◌++◌, ◌∷◌, ◌∙◌, [], IsTrue, List, ℕ, ap, subst, sym}
 use Rattle.cg_cell.specs.Name.{is_name}
-use Rattle.cg_verilog_items.proofs.PlainNames.{indexed_name, joined}
+use Rattle.cg_verilog_items.proofs.IndexedNames.{indexed_name, joined}
 use Rattle.cg_verilog_items.proofs.net.indexed_net.Goals as goal
 
 pub invariant_of-result : goal.invariant_of-result

@@ -14,6 +14,7 @@ invariant_of-self c =
       fit = c.advance.ensures.bits;
       marks_long = c.advance.ensures.marks ∙ k.marks_long;
       marked = c.advance.ensures.marked;
+      shown = λ ticked. (c.advance.ensures.follows c.self.inside.start.items (λ none. (k.first none).state)).nets.shows_state;
       first = λ none. absurd (let no_tick : true ≡ false = none in cc);
     }
 

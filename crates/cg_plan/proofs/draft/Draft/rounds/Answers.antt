@@ -13,7 +13,7 @@ returns-then-is_empty-clause-leads g c =
     let kind = c.args.kind in
     let none : c.in_ok-stages.stages ≡ [] = no_stages c.in_ok-stages.stages (sym c.is_empty.ensures.none ∙ c.if-is_empty.true) in
     left_none (rounds library settings kind settings.rounds) (rounds library settings kind (settings.rounds - c.loop.counter)) c.args.self.now c.loop.self c.loop.invariant
-    (λ p draft. no_rounds library settings kind (settings.rounds - c.loop.counter) p (sym (c.in_ok-stages.ensures.list ∙ list_reported kind settings p c.loop.self draft) ∙ none) draft.going)
+    (λ proof p draft. no_rounds library settings kind (settings.rounds - c.loop.counter) p (sym (c.in_ok-stages.ensures.list ∙ list_reported kind settings proof p c.loop.self draft) ∙ none) draft.going)
 
 pub returns-in_err-try_all-clause-fault : goal.returns-in_err-try_all-clause-fault
 returns-in_err-try_all-clause-fault g c =

@@ -1,0 +1,25 @@
+use Rattle.std.proofs.Common.{◌∙◌, sym, ap, arith, length}
+use Rattle.std.proofs.lemmas.List.{length-drop}
+use Rattle.cg_verilog_tokens.proofs.TokensLeft.{blank_step, token_step}
+use Rattle.cg_verilog_tokens.proofs.tokens.Tokens.next.Goals as goal
+
+pub gaps-preserved : goal.gaps-preserved
+gaps-preserved c =
+    let split = c.in-Some.ensures in
+    let inside = c.gaps.self-inside in
+    let left = blank_step inside.end inside.fresh inside.line c.in-Some.first.byte c.in-Blank.more inside.rest.now c.in-Some.first.rest.now split c.in-Blank.ensures.lexeme in
+    let lengths = ap length split in
+    let behind = ap length c.behind-self-inside.ensures ∙ length-drop c.in-Blank.more c.in-Some.first.rest.now in
+    record {
+      left = rw (c.behind-self-inside.ensures, c.passed-place.ensures.fresh, c.passed-place.ensures.line) (sym left ∙ c.gaps.invariant.left);
+      end = c.gaps.invariant.end;
+      within = omega (arith, c.in-Blank.ensures.within);
+    }
+
+pub returns-in-Token-clause-token : goal.returns-in-Token-clause-token
+returns-in-Token-clause-token c =
+    let split = c.in-Some.ensures in
+    let inside = c.gaps.self-inside in
+    let step = token_step inside.end inside.fresh inside.line c.in-Some.first.byte c.in-Token.more c.in-Token.kind inside.rest.now c.in-Some.first.rest.now split c.in-Token.ensures.lexeme in
+    let text = c.text_of-text.ensures c.in-Some.first.byte c.in-Some.first.rest.now split in
+    rw (c.new.ensures, text, c.behind-self-inside-in-Token.ensures, c.passed-place-in-Token.ensures.fresh, c.passed-place-in-Token.ensures.line) (sym c.gaps.invariant.left ∙ step)

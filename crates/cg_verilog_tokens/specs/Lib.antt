@@ -1,0 +1,4 @@
+pub mod LinesLeft
+pub mod Passing
+pub mod PlainNames
+pub mod Runs

@@ -1,0 +1,174 @@
+//! What begins at a byte of a text.
+
+ghost use Rattle.std.specs.Prelude.{◌≡◌, ◌+◌, ◌≤◌, ◌==◌, false, length, slice_index, IfSome};
+ghost use Rattle.cg_verilog_text.specs.Lexeme.{based_length, closed, closed_by, closing_length, is_digit, is_in_number, is_in_word, is_letter};
+ghost use Rattle.cg_verilog_text.specs.Lexeme.{is_mark_byte, lexeme, run_length, skips_line};
+ghost use Rattle.cg_verilog_tokens.specs.PlainNames.{IsPlainName};
+ghost use Rattle.cg_verilog_tokens.specs.Runs.{in_run, IsWithin};
+
+use cg_text::blanks::is_white_space;
+use cg_verilog_text::kind::Kind;
+use cg_verilog_text::lexeme::Lexeme;
+
+/// Which bytes go on.
+#[derive(Clone, Copy)]
+pub enum Run {
+    /// Letters, digits, `_` and `$`.
+    Word,
+
+    /// Letters, digits and `_`.
+    Number,
+
+    /// All but blanks.
+    Escaped,
+
+    /// All but line feeds.
+    Line,
+}
+
+/// A letter or `_`.
+fn is_letter(byte: u8) -> bool
+    ensures { result ≡ is_letter byte }
+{
+    (b'a' <= byte && byte <= b'z') || ((b'A' <= byte && byte <= b'Z') || byte == b'_')
+}
+
+/// A digit.
+fn is_digit(byte: u8) -> bool
+    ensures { result ≡ is_digit byte }
+{
+    b'0' <= byte && byte <= b'9'
+}
+
+/// Whether a run goes on with a byte.
+fn is_in(run: Run, byte: u8) -> bool
+    ensures { result ≡ in_run run byte }
+{
+    match run {
+        Run::Word => (is_letter(byte) || is_digit(byte)) || byte == b'$',
+        Run::Number => is_letter(byte) || is_digit(byte),
+        Run::Escaped => !is_white_space(byte),
+        Run::Line => byte != b'\n',
+    }
+}
+
+/// The number of bytes at the front that a run goes on with.
+pub fn run_bytes(run: Run, after: &[u8]) -> usize
+    ensures length { result ≡ run_length (in_run run) after.now }
+    ensures within { result ≤ length after.now }
+{
+    'bytes: for (i, byte) in after.iter().enumerate() {
+        if !is_in(run, *byte) {
+            return i;
+        }
+    }
+    after.len()
+}
+
+/// The number of bytes of a comment up to and with a `*` and this byte; none where it is not closed.
+fn closing_bytes(last: u8, after: &[u8]) -> Option<usize>
+    ensures length { result ≡ closing_length last false after.now }
+    ensures within { IfSome result (λ n. n ≤ length after.now) }
+{
+    let mut starred = false;
+    'bytes: for (i, byte) in after.iter().enumerate() {
+        if starred && *byte == last {
+            return Some(i + 1);
+        }
+        starred = *byte == b'*';
+    }
+    None
+}
+
+/// The comment or attribute of this last byte, behind its first byte.
+fn closed_by(last: u8, after: &[u8]) -> Lexeme
+    ensures lexeme { result ≡ closed_by last after.now }
+    ensures within { IsWithin (length after.now) result }
+    ensures plain { IsPlainName 42 after.now result }
+{
+    match after.split_first() {
+        None => Lexeme::Open,
+        Some((_star, later)) => match closing_bytes(last, later) {
+            None => Lexeme::Open,
+            Some(more) => Lexeme::Blank(1 + more),
+        },
+    }
+}
+
+/// The number of bytes of a number behind its first digit.
+fn based_bytes(after: &[u8]) -> usize
+    ensures length { result ≡ based_length after.now }
+    ensures within { result ≤ length after.now }
+{
+    'bytes: for (i, byte) in after.iter().enumerate() {
+        if !is_digit(*byte) {
+            if *byte == b'\'' {
+                return i + 1 + run_bytes(Run::Number, &after[i + 1..]);
+            }
+            return i;
+        }
+    }
+    after.len()
+}
+
+/// One of the bytes that are tokens by themselves.
+fn is_mark_byte(byte: u8) -> bool
+    ensures { result ≡ is_mark_byte byte }
+{
+    byte == b'('
+        || (byte == b')'
+            || (byte == b';'
+                || (byte == b','
+                    || (byte == b'.'
+                        || (byte == b'['
+                            || (byte == b']'
+                                || (byte == b':'
+                                    || (byte == b'='
+                                        || (byte == b'~'
+                                            || (byte == b'&'
+                                                || (byte == b'|'
+                                                    || (byte == b'^'
+                                                        || (byte == b'?'
+                                                            || byte == b'@')))))))))))))
+}
+
+/// Whether this byte is the first of these.
+fn begins_with(after: &[u8], byte: u8) -> bool
+    requires { byte ≡ 0 → ⊥ }
+    ensures { result ≡ (slice_index after.now 0 == byte) }
+{
+    match after.first() {
+        Some(first) => *first == byte,
+        None => false,
+    }
+}
+
+/// What begins at a byte, with what stands after it; `fresh`: only blanks stand before it on its line.
+#[tactic(auto, using(crate::proofs::PlainNames::plain_name))]
+pub fn lexeme(fresh: bool, byte: u8, after: &[u8]) -> Lexeme
+    ensures lexeme { result ≡ lexeme fresh byte after.now }
+    ensures within { IsWithin (length after.now) result }
+    ensures plain { IsPlainName byte after.now result }
+{
+    if is_white_space(byte) {
+        Lexeme::Blank(0)
+    } else if (byte == b'/' && begins_with(after, b'/')) || (byte == b'`' && fresh) {
+        Lexeme::Blank(run_bytes(Run::Line, after))
+    } else if byte == b'/' && begins_with(after, b'*') {
+        closed_by(b'/', after)
+    } else if byte == b'(' && begins_with(after, b'*') {
+        closed_by(b')', after)
+    } else if is_letter(byte) {
+        Lexeme::Token(Kind::Plain, run_bytes(Run::Word, after))
+    } else if byte == b'\\' {
+        Lexeme::Token(Kind::Escaped, run_bytes(Run::Escaped, after))
+    } else if is_digit(byte) {
+        Lexeme::Token(Kind::Number, based_bytes(after))
+    } else if byte == b'<' && begins_with(after, b'=') {
+        Lexeme::Token(Kind::Arrow, 1)
+    } else if is_mark_byte(byte) {
+        Lexeme::Token(Kind::Mark, 0)
+    } else {
+        Lexeme::Token(Kind::Other, 0)
+    }
+}

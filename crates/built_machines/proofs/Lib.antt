@@ -1,4 +1,5 @@
 mod CellsThere
+mod Depths
 mod MayInsert
 mod NewName
 mod Starting

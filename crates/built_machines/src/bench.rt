@@ -6,6 +6,8 @@ ghost use Rattle.cg_machine.specs.Start.{CanStart};
 
 use crate::claims::claim_text;
 use crate::cycle::cycle_text;
+use crate::depth::depth_text;
+use crate::functions::value_text;
 use crate::inserting::inserted_text;
 use crate::planning::{plan_text, try_hold};
 use crate::steps::step;
@@ -55,6 +57,8 @@ impl Bench {
                 inserted_text(self.alloc, &self.machine, &self.library, Some(&test))
             }
             ["cycle", state, inputs] => cycle_text(self.alloc, &self.machine, state, inputs),
+            ["value", net, bits] => value_text(self.alloc, &self.machine, net, bits),
+            ["depth", most, net] => depth_text(self.alloc, &self.machine, most, net),
             ["try", net, register] => {
                 let end = try_hold(self.alloc, &mut self.machine, &self.library, net, register)?;
                 Vec::from_slice(self.alloc, end).map_err(|_| ())

@@ -3,6 +3,7 @@
 ghost use Rattle.std.specs.Prelude.{◌≡◌, length, IfOk};
 ghost use Rattle.cg_machine.specs.Machine.{IsInputs, IsState};
 
+use crate::bits::bits_in;
 use cg_machine::machine::Machine;
 use cg_net::id::RegId;
 use std::alloc::Global;
@@ -14,8 +15,8 @@ pub fn cycle_text(
     state: &str,
     inputs: &str,
 ) -> Result<Vec<u8>, ()> {
-    let state = bits(alloc, state)?;
-    let inputs = bits(alloc, inputs)?;
+    let state = bits_in(alloc, state)?;
+    let inputs = bits_in(alloc, inputs)?;
     if state.len() != machine.registers() as usize
         || inputs.len() != machine.netlist().data_inputs().len()
     {
@@ -65,17 +66,4 @@ fn next_text(
     }
     text.push(b'\n').map_err(|_| ())?;
     Ok(text)
-}
-
-/// The bits that a word spells.
-fn bits(alloc: Global, word: &str) -> Result<Vec<bool>, ()> {
-    let mut bits = Vec::new(alloc);
-    for byte in word.as_bytes() {
-        match *byte {
-            b'0' => bits.push(false).map_err(|_| ())?,
-            b'1' => bits.push(true).map_err(|_| ())?,
-            _ => return Err(()),
-        }
-    }
-    Ok(bits)
 }

@@ -7,6 +7,9 @@
 //! - `inv A`, `and2 A B` and `or2 A B` add a gate, and `delay A` a delay register: the name of its net is said.
 //! - `enable REGISTER NET` gives the register with this output net the other net as its enable.
 //! - `cycle STATE INPUTS` says the bits of the registers after a cycle, from those before it and those of the data inputs.
+//! - `value NET BITS` says the bit of the function of the logic cell that drives the net, at bits of the cell's inputs.
+//! - `depth MOST NET` says how many logic cells and added gates the net stands on, and how many of them are on the longest way to it; or,
+//!   where these are more than MOST, how many were looked at before that was seen.
 //! - `idle NET`, `hold NET REGISTER`, `stable NET REGISTER` and `unseen NET REGISTER` build a claim by itself, and say how many leaves it
 //!   has and whether it is ever violated: that the net is never 0; that the register keeps its bit where it is 0, or in the cycle after;
 //!   that the net does not show the register in the cycle after.
@@ -16,8 +19,11 @@
 #![tactic(auto)]
 
 mod bench;
+mod bits;
 mod claims;
 mod cycle;
+mod depth;
+mod functions;
 mod inserting;
 mod nets;
 mod planning;

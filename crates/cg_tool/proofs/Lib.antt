@@ -4,6 +4,7 @@ pub mod Refusing
 pub mod GateReads
 pub mod Standing
 pub mod Stopping
+pub mod FirstRefused
 pub mod GateMeans
 pub mod DemoMeans
 pub mod SimMeans

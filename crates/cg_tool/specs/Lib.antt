@@ -1,3 +1,4 @@
+pub mod Trials
 pub mod Watching
 pub mod Lrat
 pub mod Sim

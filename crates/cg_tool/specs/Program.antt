@@ -6,7 +6,7 @@ use Rattle.cg_run.specs.Names.{file_of}
 use Rattle.cg_run.specs.Promise.{Ended, EndsAs, FinishBy, Gains, KeepsOthers, LeavesShelf, UnlessFails, held_files}
 use Rattle.cg_run.specs.Refusal.{complaint_line}
 use Rattle.cg_run.specs.Run.{Complains, Runs}
-use Rattle.cg_run.specs.Verdict.{Task}
+use Rattle.cg_run.specs.Verdict.{Given, Task}
 use Rattle.cg_run.specs.declared.status.Status.{Status}
 use Rattle.cg_run.specs.declared.status.Status.TheVariants as statuses
 use Rattle.cg_command_line.specs.Jobs.{IsByName, JobWords}
@@ -19,6 +19,7 @@ use Rattle.cg_tool.specs.Gate.{gate_task}
 use Rattle.cg_tool.specs.Gated.{AreApart, IsGated}
 use Rattle.cg_tool.specs.Lrat.{IsChecked, lrat_task}
 use Rattle.cg_tool.specs.Sim.{IsSimulated, sim_task}
+use Rattle.cg_tool.specs.Trials.{first_refusal}
 use Rattle.cg_tool.specs.Watching.{Kind, kind_at}
 
 -- what a mode does with what the options say, where watchers of these kinds may be asked for
@@ -64,6 +65,8 @@ pub record Promises (gave : List ℕ → Result (List ℕ) LoadFault → Type 0)
   pub usage_keeps : IsTrue before.tells → KeepsAll asked before after
   -- how a job ended, with the cause, the line of complaint and the failed calls
   pub ended : IfSome asked (λ job. Ended gave (task_by kinds job) (file_of job.files) before after result)
+  -- the files of a job are refused for the first of what it tries, in its order, that refuses
+  pub first : IfSome asked (λ job. (given : Given) → (task_by kinds job).refused given ≡ first_refusal job.mode job.options given)
   -- what stands, by the status
   pub stands : IsTrue before.tells → IfSome asked (λ job. LeavesShelf (task_by kinds job) (file_of job.files) before after result)
   -- at most one failed call besides that of the complaint, and which, by the status

@@ -3,6 +3,7 @@ use Rattle.std.specs.String.{string_bytes}
 use Rattle.cg_run.specs.Reads.{Gave}
 use Rattle.cg_command_line.specs.Jobs.{job_of}
 use Rattle.cg_command_line.proofs.NetlistForm.{job_by_name}
+use Rattle.cg_tool.proofs.FirstRefused.{job_first}
 use Rattle.cg_tool.proofs.JobsApart.{job_apart}
 use Rattle.cg_tool.proofs.Program.{job_checked, job_comes, job_ended, job_gains, job_gated, job_others, job_shown, job_simulated}
 use Rattle.cg_tool.proofs.Program.{job_stands, usage, usage_keeps, usage_only}
@@ -25,6 +26,7 @@ returns g c =
       usage_only = usage_only gave kinds job before after result runs;
       usage_keeps = usage_keeps gave kinds job before after result runs;
       ended = job_ended gave kinds job before after result runs;
+      first = job_first kinds job;
       stands = job_stands gave kinds job before after result runs;
       gains = job_gains gave kinds job before after result runs;
       others = job_others gave kinds job before after result runs;

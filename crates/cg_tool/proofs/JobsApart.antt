@@ -62,7 +62,7 @@ files_apart library netlist out values stimulus different =
     let registers = option_to_list values.registers ++ [] in
     -- the same names, with brackets at other places
     let last : D (front ++ proof ++ report ++ verilog ++ registers) =
-        subst (λ l. D (front ++ proof ++ report ++ verilog ++ l)) (sym (append-nil (option_to_list values.registers))) different in
+    subst (λ l. D (front ++ proof ++ report ++ verilog ++ l)) (sym (append-nil (option_to_list values.registers))) different in
     let late : D ((front ++ proof ++ report) ++ (verilog ++ registers)) = subst D (append_assoc (front ++ proof ++ report) verilog registers) last in
     let early : D ((front ++ proof) ++ (report ++ (verilog ++ registers))) = subst D (append_assoc (front ++ proof) report (verilog ++ registers)) late in
     let first : D (front ++ (proof ++ (report ++ (verilog ++ registers)))) = subst D (append_assoc front proof (report ++ (verilog ++ registers))) early in

@@ -78,8 +78,8 @@ module _ (request : RequestData) (read : Circuit) (proper : IsProper request) (m
     width = request.settings.width;
   }
 
-  abbrev data : GatedData
-  data = begun_data request read written (record { machine = begun_of request read; outcomes = hints.outcomes; certificates = hints.certificates }) told
+  abbrev facts : GatedData
+  facts = begun_data request read written (record { machine = begun_of request read; outcomes = hints.outcomes; certificates = hints.certificates }) told
 
   right : IsRightCourse request.library request.settings (gating_of request read).counts request.prefix (map (renamed read) (hints_of request)) course
   right = record {
@@ -96,18 +96,18 @@ module _ (request : RequestData) (read : Circuit) (proper : IsProper request) (m
   }
 
   -- hints and stages are told as they were tried
-  same_tried : tried_of data ≡ tried_in course
+  same_tried : tried_of facts ≡ tried_in course
   same_tried =
       let stand = hints_stand request.library request.settings.width (lifted read request.prefix) (map (renamed read) (hints_of request)) gated.tried.done gated.tried.tried in
-      let hinted : (tried_of data).hints ≡ (tried_in course).hints =
+      let hinted : (tried_of facts).hints ≡ (tried_in course).hints =
       hints_told gated.tried.done.turns (hints_of request) hints.outcomes (same_registers read (hints_of request) gated.tried.done.turns stand) gated.tried.outcomes in
-      let staged : (tried_of data).stages ≡ (tried_in course).stages = stages_told course.stages told.stages gated.plan.stages in
+      let staged : (tried_of facts).stages ≡ (tried_in course).stages = stages_told course.stages told.stages gated.plan.stages in
       λ i. record { read = read; began = begun_of request read; width = request.settings.width; hints = hinted i; stages = staged i }
 
-  pub same_text : (rises : Option BothRises) → registers_text (gated_data request read written hints.outcomes told) rises ≡ registers_text data rises
-  same_text rises = text_is_kept request.library request.settings by.counts request.prefix (map (renamed read) (hints_of request)) course right data same_tried rises
+  pub same_text : (rises : Option BothRises) → registers_text (gated_data request read written hints.outcomes told) rises ≡ registers_text facts rises
+  same_text rises = text_is_kept request.library request.settings by.counts request.prefix (map (renamed read) (hints_of request)) course right facts same_tried rises
 
-  pub means_so : (r : ℕ) → r < length read.registers → Means course r (cause_of (tried_of data) r)
+  pub means_so : (r : ℕ) → r < length read.registers → Means course r (cause_of (tried_of facts) r)
   means_so r below =
       subst (λ (t : Tried). Means course r (cause_of t r)) (sym same_tried)
       (causes_mean request.library request.settings by.counts request.prefix (map (renamed read) (hints_of request)) course right r below)

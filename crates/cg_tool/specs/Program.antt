@@ -13,6 +13,7 @@ use Rattle.cg_command_line.specs.Jobs.{IsByName, JobWords}
 use Rattle.cg_command_line.specs.declared.job.Mode.{Mode}
 use Rattle.cg_command_line.specs.declared.job.Mode.TheVariants.{Demo, Gate, Lrat, Sim}
 use Rattle.cg_command_line.specs.declared.options.Options.{Options}
+use Rattle.cg_reach_laws.specs.Laws.{LeavesAreLedTo, PathsReach}
 use Rattle.cg_source.specs.declared.stimulus.StimulusForm.{StimulusForm}
 use Rattle.cg_tool.specs.Demo.{IsDemo, demo_task}
 use Rattle.cg_tool.specs.Gate.{gate_task}
@@ -84,6 +85,9 @@ pub record Promises (gave : List ℕ → Result (List ℕ) LoadFault → Type 0)
   pub apart : IfSome asked (λ job. job.mode ≡ Gate → AreApart job.options.asked (file_of job.files))
   -- a netlist is read in the form that its name has
   pub formed : IfSome asked IsByName
+  -- the claims by which registers get their enables reach what paths lead to from their goals, and so are their leaves
+  pub reached : PathsReach
+  pub leaves : LeavesAreLedTo
   -- `sim` says the lines of the one history on which the stimulus is played, and what the watcher says of its moments
   pub simulated : IsTrue before.tells
       → IfSome asked (λ job. (form : StimulusForm) → job.mode ≡ Sim form

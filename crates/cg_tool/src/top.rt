@@ -14,6 +14,7 @@ use crate::modes::{demo, gate, lrat, sim};
 use crate::watching::{chosen, names_of};
 use cg_command_line::{Job, Mode, read_words};
 use cg_plan::progress::Progress;
+use cg_reach_laws::laws::reach_laws;
 use cg_report::watcher::Watcher;
 use cg_run::{Status, complain};
 use cg_shelf::Shelf;
@@ -35,6 +36,7 @@ pub fn run<S: Shelf>(
     ensures { Promises (Gave S.gives) (map (λ watcher. says watcher) watchers.items)
         (job_of (map (λ watcher. called watcher) watchers.items) (map string_bytes words.now)) (S.world shelf.old) (S.world shelf.new) result }
 {
+    reach_laws();
     run_words(alloc, words, shelf, watchers, progress)
 }
 

@@ -1,6 +1,5 @@
 use Rattle.std.proofs.Common.{[], ◌≡◌, ◌<◌, ◌∷◌, ◌∙◌, List, Some, ap, length, map, rules, subst, sym, Err, Result}
 use Rattle.cg_limit.specs.declared.TheConstants.{MOST_NETS}
-use Rattle.cg_limit.specs.declared.Limit.TheVariants.{Nets}
 use Rattle.cg_net.specs.Names.{NetName}
 use Rattle.cg_netlist.specs.declared.fault.AddFault.{AddFault}
 use Rattle.cg_netlist_parts.specs.Part.{Part}

@@ -8,7 +8,7 @@ use Rattle.cg_netlist.specs.History.{Moment, edges}
 use Rattle.cg_netlist.specs.WellFormed.{IsWellFormed}
 use Rattle.cg_plan_text.specs.declared.summary.Edges.{Edges}
 use Rattle.cg_register_text.proofs.EdgesRisen.{rises_are_edges}
-use Rattle.cg_register_text.specs.Rises.{HasRises, RisesWhere}
+use Rattle.cg_register_text.specs.Rises.{HasRises, RisesWhere, rises_of}
 use Rattle.cg_register_text.specs.declared.rises.BothRises.{BothRises}
 use Rattle.cg_stimulus.proofs.Playing.{start_is, wave_is}
 use Rattle.cg_stimulus.specs.Inputs.{IsFor, IsStimulus, Rows}
@@ -34,3 +34,11 @@ module _ (read written : Circuit) (read_formed : IsWellFormed read) (written_for
         one_sum read read_formed stimulus its.0 its.1 rises.original risen.before both.original counted.before,
         one_sum written written_formed stimulus its.0 its.2 rises.written risen.after both.written counted.after,
       )
+
+-- where a stimulus is played on both netlists, their registers rise somehow
+pub rise_somehow : (read written : Circuit) (stimulus : Rows) → (history : List Moment) × IsPlayed read stimulus.rows history → (history : List Moment) × IsPlayed written stimulus.rows history
+    → (rises : Option BothRises) × RisesWhere (Some stimulus) read written rises
+rise_somehow read written stimulus before after = (
+  Some (record { original = rises_of read before.0; written = rises_of written after.0 }),
+  record { before = record { history = before.0; played = before.1; counted = refl }; after = record { history = after.0; played = after.1; counted = refl } },
+)

@@ -12,7 +12,8 @@ use Rattle.cg_gate.specs.declared.hinting.TriedHints.{TriedHints}
 use Rattle.cg_gate.specs.Stops.{gating_stop, verilog_stop}
 use Rattle.cg_gate.proofs.Answering.{gives_all, if_ok, means_all, stopped_so, text_stops, unstopped_so}
 use Rattle.cg_gate.proofs.Gated.{unstopped, written_is}
-use Rattle.cg_gate.proofs.Hinted.{hints_writable, told_long}
+use Rattle.cg_gate.proofs.Hinted.{hints_writable}
+use Rattle.cg_gate.proofs.RegistersTold.{told_of}
 use Rattle.cg_hint_laws.specs.Answers.{turn_claims}
 use Rattle.cg_gate.proofs.gate.gate.Goals as goal
 
@@ -22,7 +23,9 @@ finish-texts-requires-clause-hints g c =
     hints_writable (turn_claims 1 tried.done.turns) c.in_ok-gated.gated.hints.certificates tried.certificates
 
 pub finish-texts-requires-clause-told : goal.finish-texts-requires-clause-told
-finish-texts-requires-clause-told g c = told_long c.args.request.now c.args.netlist.now c.in_ok-gated.gated.hints c.in_ok-gated.ensures.gated.tried
+finish-texts-requires-clause-told g c =
+    let gated = c.in_ok-gated.gated in
+    told_of c.args.request.now c.args.netlist.now c.in_ok-gated.ensures.proper c.requires gated.hints (told gated.plan) gated.netlist c.in_ok-gated.ensures.gated
 
 pub returns-clause-gives : goal.returns-clause-gives
 returns-clause-gives g c =

@@ -13,4 +13,4 @@ returns-in-Some c =
     let stimulus : Rows = c.in-Some.stimulus.now in
     let same : option_copied c.args.stimulus ≡ Some stimulus = search rules in
     subst (λ s. (rises : Option BothRises) × RisesWhere s read written rises) (sym same)
-    (rise_somehow read written stimulus c.one_played_history.ensures.some c.one_played_history-2.ensures.some)
+    (rise_somehow read written stimulus c.one_played_history.ensures.some c.one_played_history-in-Some.ensures.some)

@@ -1,6 +1,6 @@
 //! Claims of a machine, each built and decided by itself.
 
-ghost use Rattle.std.specs.Prelude.{◌<◌, IsTrue, length, IfOk};
+ghost use Rattle.std.specs.Prelude.{◌≡◌, ◌<◌, IsTrue, length, IfOk};
 ghost use Rattle.cg_aig.specs.Aig.{aig_ops};
 ghost use Rattle.cg_machine.specs.Machine.{IsNet};
 

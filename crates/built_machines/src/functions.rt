@@ -10,7 +10,7 @@ use cg_machine::machine::Machine;
 use cg_net::id::NetId;
 use cg_netlist::driver::Driver;
 use cg_netlist::netlist::Netlist;
-use cg_netlist::view::Function;
+use cg_netlist::parts::Function;
 use std::alloc::Global;
 
 /// The bit of the function of the logic cell of the netlist that drives the net of this name, at bits of the cell's inputs.

@@ -6,7 +6,7 @@
 //!
 //! In the order in which data flows through them:
 //!
-//! - `byte`, `lines`: the lines of a text, without comments and joined, as words;
+//! - `lines`: the lines of a text, without comments and joined, as words;
 //! - `statement`: what the words of a line say;
 //! - `cover`: the rows behind a `.names` line;
 //! - `parts`: the parts that a line says, given to a builder;
@@ -14,7 +14,6 @@
 //! - `fault`: why a line is not taken.
 #![tactic(auto)]
 
-mod byte;
 mod cover;
 mod fault;
 mod lines;

@@ -9,7 +9,7 @@ ghost use Rattle.cg_blif_text.specs.PinWords.{pin_net};
 ghost use Rattle.cg_blif_text.specs.declared.statement.Command.TheVariants.{Model, Gate, End};
 ghost use Rattle.cg_cell.specs.Name.{is_name};
 
-use crate::byte::first_at;
+use crate::lines::first_at;
 use cg_blif_text::fault::LineFault;
 use cg_blif_text::statement::{Command, Statement, Word};
 use cg_limit::{Limit, MOST_COVER_INPUTS};

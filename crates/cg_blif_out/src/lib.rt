@@ -4,11 +4,9 @@
 //!
 //! The modules, in the order in which data flows through them:
 //!
-//! - [`text`]: the text of a netlist, part by part, and what the line of each part says;
-//! - [`line`]: a statement as a line, and the rows of a cover.
+//! `text` has it part by part: what the line of each part says, and a statement as a line.
 #![tactic(auto)]
 
-mod line;
 mod text;
 
 pub use text::write_blif;

@@ -12,7 +12,7 @@ use cg_cell::cell::CellType;
 use cg_machine::machine::Machine;
 use cg_net::id::RegId;
 use cg_netlist::netlist::Netlist;
-use cg_netlist::view::RegKind;
+use cg_netlist::parts::RegKind;
 
 /// Whether the next bit of a register asks for its bit: where it has an enable, or its function names it.
 pub fn asks_own(machine: &Machine, reg: RegId) -> bool

@@ -8,6 +8,7 @@ ghost use Rattle.cg_netlist.specs.Moment.{function_value, values_at};
 ghost use Rattle.cg_netlist.specs.Netlist.{IsNetlist, widest_of};
 ghost use Rattle.cg_edge.specs.inner.Flat.{AreLaid, IsLaidAt, IsPushed, row_of};
 
+use crate::narrow::narrow;
 use crate::table::{FEW, row, table};
 use cg_net::id::{CellId, NetId};
 use cg_netlist::netlist::Netlist;
@@ -19,8 +20,8 @@ use std::marker::Model;
 #[derive(Clone, Copy)]
 pub(crate) struct FlatCell {
     output: NetId,
-    first: usize,
-    count: usize,
+    first: u32,
+    count: u32,
     table: u64,
 }
 
@@ -68,10 +69,12 @@ impl FlatCells {
         ensures { OnOk result ((cell : LogicCell ℕ) → slice_get netlist.now.cells id ≡ Some cell → IsPushed cell self.old self.new) }
     {
         let cell = netlist.cell(id);
+        let first = narrow(self.inputs.len())?;
+        let count = narrow(cell.inputs.len())?;
         let laid = FlatCell {
             output: cell.output,
-            first: self.inputs.len(),
-            count: cell.inputs.len(),
+            first,
+            count,
             table: table(netlist, id),
         };
         self.inputs.extend_from_slice(cell.inputs)?;
@@ -108,7 +111,7 @@ impl FlatCells {
         ensures room { length scratch.new ≡ length scratch.old }
     {
         let laid = self.cells[place];
-        if laid.count > FEW {
+        if laid.count as usize > FEW {
             return evaluate_wide(netlist, id, nets, scratch);
         }
         look_up(laid, &self.inputs, nets)
@@ -122,7 +125,7 @@ fn look_up(laid: FlatCell, inputs: &[NetId], nets: &[bool]) -> bool
     requires nets { All (λ net. net < length nets.now) (take laid.count (drop laid.first inputs.now)) }
     ensures { result ≡ nat_eq (bit_at laid.table (row_of (values_at nets.now (take laid.count (drop laid.first inputs.now))))) 1 }
 {
-    let own = &inputs[laid.first..][..laid.count];
+    let own = &inputs[laid.first as usize..][..laid.count as usize];
     laid.table >> row(nets, own) & 1 == 1
 }
 

@@ -8,6 +8,7 @@
 //!
 //! - `clock_nets`: the clock and the outputs of gating cells.
 //! - `runs`: registers that stand one behind the other and have one clock net.
+//! - `narrow`: places in 32 bits.
 //! - `marks`: which logic cells are to be looked at.
 //! - `readers`: which logic cells read a net.
 //! - `table`: truth tables of logic cells that have few inputs.
@@ -27,6 +28,7 @@ mod flat;
 mod latch_step;
 mod marks;
 mod moment;
+mod narrow;
 mod present;
 mod put;
 mod readers;

@@ -7,6 +7,7 @@ ghost use Rattle.cg_netlist.specs.Nets.{walk_order};
 ghost use Rattle.cg_edge.specs.inner.Keeping.{AreReaders, IsAdded, MarksMore, readers_at, walk_of};
 
 use crate::marks::Marks;
+use crate::narrow::narrow;
 use cg_list::Seq;
 use cg_net::id::{CellId, NetId};
 use cg_netlist::netlist::Netlist;
@@ -16,8 +17,8 @@ use std::marker::Model;
 /// Where the readers of a net stand among those of all nets.
 #[derive(Clone, Copy)]
 pub(crate) struct Span {
-    first: usize,
-    count: usize,
+    first: u32,
+    count: u32,
 }
 
 /// For each net the places in walk order of the logic cells that read it.
@@ -26,7 +27,7 @@ pub(crate) struct Span {
 #[derive(Drop)]
 pub(crate) struct Readers {
     spans: Vec<Span>,
-    places: Vec<usize>,
+    places: Vec<u32>,
 }
 
 impl Model for Readers {
@@ -53,31 +54,31 @@ impl Readers {
     {
         let mut places = no_readers(alloc, netlist.nets() as usize)?;
         for place in 0..order.len() {
-            add(netlist.cell(order[place]).inputs, place, &mut places)?;
+            let narrow_place = narrow(place)?;
+            add(netlist.cell(order[place]).inputs, narrow_place, &mut places)?;
         }
         join(alloc, &places)
     }
 
     /// Puts the readers of one more net behind the others.
-    fn push(&mut self, places: &[usize]) -> Result<(), AllocError>
+    fn push(&mut self, places: &[u32]) -> Result<(), AllocError>
         ensures { OnOk result (self.new ≡ self.old ++ places.now ∷ []) }
     {
-        let span = Span {
-            first: self.places.len(),
-            count: places.len(),
-        };
+        let first = narrow(self.places.len())?;
+        let count = narrow(places.len())?;
+        let span = Span { first, count };
         self.places.extend_from_slice(places)?;
         self.spans.push(span)?;
         Ok(())
     }
 
     /// The places of the cells that read a net.
-    fn of(&self, net: NetId) -> &[usize]
+    fn of(&self, net: NetId) -> &[u32]
         requires { net < length self.now }
         ensures { result.now ≡ readers_at self.now net }
     {
         let span = self.spans[net.number() as usize];
-        &self.places[span.first..][..span.count]
+        &self.places[span.first as usize..][..span.count as usize]
     }
 
     /// Marks the places of the cells that read a net.
@@ -92,7 +93,7 @@ impl Readers {
 }
 
 /// The readers of nets, of which each has a list of its own here.
-fn join(alloc: Global, lists: &[Seq<usize>]) -> Result<Readers, AllocError>
+fn join(alloc: Global, lists: &[Seq<u32>]) -> Result<Readers, AllocError>
     ensures { IfOk result (λ readers. readers ≡ lists.now) }
 {
     let mut readers = Readers {
@@ -106,18 +107,18 @@ fn join(alloc: Global, lists: &[Seq<usize>]) -> Result<Readers, AllocError>
 }
 
 /// Marks these places.
-fn mark_all(places: &[usize], marks: &mut Marks)
+fn mark_all(places: &[u32], marks: &mut Marks)
     requires { All (λ p. p < length marks.old) places.now }
     ensures more { MarksMore marks.old marks.new }
     ensures told { (p : ℕ) → is_in places.now p ≡ true → slice_get marks.new p ≡ Some true }
 {
     for place in places {
-        marks.add(*place);
+        marks.add(*place as usize);
     }
 }
 
 /// No readers for each of so many nets.
-fn no_readers(alloc: Global, nets: usize) -> Result<Vec<Seq<usize>>, AllocError>
+fn no_readers(alloc: Global, nets: usize) -> Result<Vec<Seq<u32>>, AllocError>
     ensures { IfOk result (λ places. places.items ≡ replicate nets []) }
 {
     let mut places = Vec::with_capacity(alloc, nets)?;
@@ -128,7 +129,7 @@ fn no_readers(alloc: Global, nets: usize) -> Result<Vec<Seq<usize>>, AllocError>
 }
 
 /// Adds a place to the readers of each of these nets.
-fn add(inputs: &[NetId], place: usize, places: &mut Vec<Seq<usize>>) -> Result<(), AllocError>
+fn add(inputs: &[NetId], place: u32, places: &mut Vec<Seq<u32>>) -> Result<(), AllocError>
     requires { All (λ net. net < length places.old.items) inputs.now }
     ensures { OnOk result (IsAdded inputs.now place places.old.items places.new.items) }
 {

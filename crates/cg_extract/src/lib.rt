@@ -7,14 +7,11 @@
 //! The modules:
 //!
 //! - [`refused`]: gating cells that are not lifted.
-//! - [`number`]: the numbers that nets get, and those that they had.
-//! - `strip`: the netlist without its gating cells: a copy where it has none, and else told to a builder.
-//! - `extract`: the machine, into which gating cells are taken by depth.
+//! - `extract`: the netlist without its gating cells, with the numbers that its nets get, and its machine, into which gating cells
+//!   are taken by depth.
 //! - `laws`: what is proved of that machine.
 #![tactic(auto)]
 
 pub mod extract;
 pub mod laws;
-pub mod number;
 pub mod refused;
-mod strip;

@@ -6,7 +6,7 @@ use Rattle.cg_gate_laws.specs.Gated.{gated_by}
 use Rattle.cg_netlist.specs.Circuit.{Circuit}
 use Rattle.cg_netlist.specs.declared.fault.AddFault.{AddFault}
 use Rattle.cg_netlist.specs.declared.fault.AddFault.TheVariants.{Limit as Passed, NoMemory}
-use Rattle.cg_gate.specs.declared.hinting.TriedHints.{TriedHints}
+use Rattle.cg_gate.specs.declared.planning.TriedHints.{TriedHints}
 use Rattle.cg_plan_laws.specs.Reported.{PlanMayFail, ReportedPlan}
 use Rattle.cg_stimulus.specs.Inputs.{Rows}
 use Rattle.cg_gate.specs.Gating.{GivesGated, IsWritten, TellsGated}
@@ -17,7 +17,7 @@ use Rattle.cg_gate.specs.Request.{MayGate, RequestData, gating_of, stops_at}
 use Rattle.cg_gate.specs.Stops.{GatingMayFail, fault_of_limit, gating_stop, verilog_stop}
 use Rattle.cg_gate.specs.declared.fault.GateFault.{GateFault}
 use Rattle.cg_gate.specs.declared.fault.GateFault.TheVariants as faults
-use Rattle.cg_gate.specs.declared.texts.Texts.{Texts}
+use Rattle.cg_gate.specs.declared.gate.Texts.{Texts}
 use Rattle.cg_gate.proofs.Meaning.{means}
 
 pub if_ok : {A E : Type 0} (P Q : A → Type 0) (r : Result A E) → ((x : A) → P x → Q x) → IfOk r P → IfOk r Q

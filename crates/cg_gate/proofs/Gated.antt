@@ -19,7 +19,7 @@ use Rattle.cg_gate.specs.Gating.{AreHintsTried, IsBegunPlan, IsWritten}
 use Rattle.cg_gate_laws.specs.Begun.{renamed}
 use Rattle.cg_gate.specs.Proper.{IsProper}
 use Rattle.cg_gate.specs.Request.{MayGate, RequestData, begun_of, gating_of, hints_limit, hints_of, limit_of, plan_limit, stops_at}
-use Rattle.cg_gate.specs.declared.hinting.TriedHints.{TriedHints}
+use Rattle.cg_gate.specs.declared.planning.TriedHints.{TriedHints}
 use Rattle.cg_gate_laws.proofs.BegunSafe.{left_is}
 use Rattle.cg_hint_laws.specs.Answers.{AreTried, MayFail, Reported}
 use Rattle.cg_gate.proofs.MayInsert.{may_gate}

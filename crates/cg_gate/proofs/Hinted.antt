@@ -7,7 +7,7 @@ use Rattle.cg_cell.specs.Cell.{CellData}
 use Rattle.cg_extract.specs.Lifted.{lifted}
 use Rattle.cg_gate.specs.Gating.{AreHintsTried}
 use Rattle.cg_gate.specs.Request.{RequestData, gating_of, hints_of}
-use Rattle.cg_gate.specs.declared.hinting.TriedHints.{TriedHints}
+use Rattle.cg_gate.specs.declared.planning.TriedHints.{TriedHints}
 use Rattle.cg_gate_laws.specs.Begun.{renamed}
 use Rattle.cg_hint_laws.proofs.Additions.{and_then_ok}
 use Rattle.cg_hint_laws.specs.Answers.{AreCertified, AreShown, RegisterClaim}

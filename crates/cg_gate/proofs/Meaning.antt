@@ -50,7 +50,7 @@ use Rattle.cg_gate.specs.Played.{Saying, SumUp}
 use Rattle.cg_gate.specs.Proper.{IsProper}
 use Rattle.cg_gate.specs.Request.{MayGate, RequestData, begun_of, gating_of, hints_of}
 use Rattle.cg_gate.specs.Turns.{Lead}
-use Rattle.cg_gate.specs.declared.texts.Texts.{Texts}
+use Rattle.cg_gate.specs.declared.gate.Texts.{Texts}
 use Rattle.cg_gate.proofs.Counted.{counts}
 use Rattle.cg_gate.proofs.Deserved.{exactly_worthy}
 use Rattle.cg_gate.proofs.Gated.{for_inserted}

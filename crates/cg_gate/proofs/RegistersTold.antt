@@ -8,7 +8,7 @@ use Rattle.cg_gate.proofs.MayInsert.{may_gate}
 use Rattle.cg_gate.specs.Gating.{IsWritten, begun_data, gated_data}
 use Rattle.cg_gate.specs.Proper.{IsProper}
 use Rattle.cg_gate.specs.Request.{MayGate, RequestData, begun_of, gating_of, hints_of}
-use Rattle.cg_gate.specs.declared.hinting.TriedHints.{TriedHints}
+use Rattle.cg_gate.specs.declared.planning.TriedHints.{TriedHints}
 use Rattle.cg_gate_laws.proofs.Behaving.{gated_behaves}
 use Rattle.cg_gate_laws.proofs.BegunSafe.{all_fit}
 use Rattle.cg_gate_laws.proofs.Planned.{can_insert}

@@ -22,8 +22,8 @@ use Rattle.cg_verilog_text.specs.Written.{verilog}
 use Rattle.cg_plan.specs.Planning.{AreWritable}
 use Rattle.cg_gate.specs.Played.{AreEdges, IsWhatPlayed, Saying}
 use Rattle.cg_gate.specs.Request.{RequestData, begun_of, gating_of, hints_of}
-use Rattle.cg_gate.specs.declared.hinting.TriedHints.{TriedHints}
-use Rattle.cg_gate.specs.declared.texts.Texts.{Texts}
+use Rattle.cg_gate.specs.declared.planning.TriedHints.{TriedHints}
+use Rattle.cg_gate.specs.declared.gate.Texts.{Texts}
 
 -- hints of a netlist were tried one after another on its machine, and are told so
 abbrev pub AreHintsTried : Gating → Circuit → TriedHints → Type 0

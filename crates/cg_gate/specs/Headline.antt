@@ -47,7 +47,7 @@ use Rattle.cg_gate.specs.ZeroCounting.{zero_counts, zero_counts_of, zeros_by}
 use Rattle.cg_gate.specs.Played.{EdgesAre, LineIs, Saying, SumUp}
 use Rattle.cg_gate.specs.Request.{RequestData, hints_of}
 use Rattle.cg_gate.specs.Turns.{Lead}
-use Rattle.cg_gate.specs.declared.texts.Texts.{Texts}
+use Rattle.cg_gate.specs.declared.gate.Texts.{Texts}
 
 -- a waveform of the original as one of the written netlist, whose test input, where it has one, has at each moment the next of
 -- these bits

@@ -9,7 +9,7 @@ ghost use Rattle.cg_report.specs.Zeros.{low_moments, zeros_of};
 ghost use Rattle.cg_stimulus.specs.Inputs.{IsFor};
 ghost use Rattle.cg_stimulus.specs.Played.{IsPlayed};
 
-use cg_extract::number::origins;
+use cg_extract::extract::origins;
 use cg_machine::machine::Machine;
 use cg_net::id::NetId;
 use cg_netlist::netlist::Netlist;

@@ -7,20 +7,16 @@
 //!
 //! - [`request`]: what is asked for, and [`fault`]: why it is not done.
 //! - `counting`: how often nets are 0 on a stimulus.
-//! - `hinting`: the hints of a netlist.
-//! - `planning`: the plan of a netlist.
+//! - `planning`: the hints of a netlist, and its plan.
 //! - `playing`: what comes of a stimulus on both netlists.
 //! - `registers`: why each register is gated, or why it is not.
-//! - [`texts`]: the texts.
-//! - [`gate`]: all of it.
+//! - [`gate`]: all of it, and its texts.
 #![tactic(auto)]
 
 mod counting;
 pub mod fault;
 pub mod gate;
-mod hinting;
 mod planning;
 mod playing;
 mod registers;
 pub mod request;
-pub mod texts;

@@ -11,7 +11,7 @@ ghost use Rattle.cg_stimulus.specs.Inputs.{IsFor, Rows};
 
 use crate::planning::Gated;
 use crate::request::Request;
-use crate::texts::asked_hints;
+use crate::gate::asked_hints;
 use cg_list::Seq;
 use cg_netlist::netlist::Netlist;
 use cg_register_text::rises::{BothRises, both_rises};

@@ -17,14 +17,12 @@
 //! - `marks`: marks at the literals that some cycle shows not to hold the register.
 //! - `trial`: what comes of one literal, by the cycles and by its claims.
 //! - `choice`: the literal that a register takes.
-//! - `chosen`: the registers that took each literal.
-//! - `candidates`: the hold stages.
+//! - `candidates`: the registers that took each literal, and the hold stages of them.
 //! - `progress`: who is told how far long work is, this and that of the crates above.
 #![tactic(auto)]
 
 pub mod candidates;
 mod choice;
-mod chosen;
 mod cone_cycles;
 mod cycles;
 mod literals;

@@ -16,7 +16,7 @@ use cg_cell::cell::CellType;
 use cg_machine::machine::Machine;
 use cg_net::id::{NetId, RegId};
 use cg_netlist::netlist::Netlist;
-use cg_netlist::view::RegKind;
+use cg_netlist::parts::RegKind;
 use cg_netlist::walk::gather;
 use std::alloc::{AllocError, Global};
 

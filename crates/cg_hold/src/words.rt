@@ -20,7 +20,7 @@ use cg_cell::domain::Domain;
 use cg_cell::expr::Expr;
 use cg_cell::fit::FitKind;
 use cg_machine::stage::NetLit;
-use cg_netlist::view::Function;
+use cg_netlist::parts::Function;
 use std::convert::Infallible;
 
 /// Words as a domain. Nothing is kept, and nothing is ever refused.

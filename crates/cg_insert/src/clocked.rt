@@ -20,7 +20,7 @@ use cg_cell::name::Name;
 use cg_machine::machine::Machine;
 use cg_net::id::{NetId, RegId};
 use cg_netlist::fault::AddFault;
-use cg_netlist::view::{GaterView, RegKind, RegView};
+use cg_netlist::parts::{GaterView, RegKind, RegView};
 use cg_netlist_builder::builder::Builder;
 use cg_netlist_telling::parts::{NetlistNames, clock_or_first, tell_gater, tell_register};
 use indexmap::IndexSet;

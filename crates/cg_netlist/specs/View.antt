@@ -1,12 +1,12 @@
 -- The parts of a netlist as their views show them.
 use Rattle.std.specs.Prelude.{ℕ}
-use Rattle.cg_netlist.specs.declared.view.Function.{Function}
-use Rattle.cg_netlist.specs.declared.view.Function.TheVariants.{Cover as CoverView, Cell as PlacedView}
-use Rattle.cg_netlist.specs.declared.view.RegKind.{RegKind}
-use Rattle.cg_netlist.specs.declared.view.RegKind.TheVariants.{Plain as PlainView, Cell as FlopView}
-use Rattle.cg_netlist.specs.declared.view.CellView.{CellView}
-use Rattle.cg_netlist.specs.declared.view.RegView.{RegView}
-use Rattle.cg_netlist.specs.declared.view.GaterView.{GaterView}
+use Rattle.cg_netlist.specs.declared.parts.Function.{Function}
+use Rattle.cg_netlist.specs.declared.parts.Function.TheVariants.{Cover as CoverView, Cell as PlacedView}
+use Rattle.cg_netlist.specs.declared.parts.RegKind.{RegKind}
+use Rattle.cg_netlist.specs.declared.parts.RegKind.TheVariants.{Plain as PlainView, Cell as FlopView}
+use Rattle.cg_netlist.specs.declared.parts.CellView.{CellView}
+use Rattle.cg_netlist.specs.declared.parts.RegView.{RegView}
+use Rattle.cg_netlist.specs.declared.parts.GaterView.{GaterView}
 use Rattle.cg_netlist.specs.declared.parts.LogicFunction.{LogicFunction}
 use Rattle.cg_netlist.specs.declared.parts.LogicFunction.TheVariants.{Cover, Cell}
 use Rattle.cg_netlist.specs.declared.parts.RegisterKind.{RegisterKind}

@@ -7,12 +7,11 @@
 //! The modules, in the order in which data flows through them:
 //!
 //! - `fault`: why a part is not taken.
-//! - `parts`: logic cells, gating cells and registers as a netlist keeps them.
+//! - `parts`: logic cells, gating cells and registers as a netlist keeps them, and what it shows of one of them.
 //! - `net_driver`: which logic cell drives each net.
 //! - `fan_in`: the logic cells that drive the inputs of each logic cell.
 //! - `ranks`: how deep each logic cell lies under the registers and inputs, and whose cones hold a cycle.
 //! - `cycles`: the ranks of logic cells, and marks on the nets that those behind a cycle drive.
-//! - `view`: what a netlist shows of one of its parts.
 //! - `levels`: the logic cells in an order in which each stands behind those that drive its inputs.
 //! - `driver`: what drives each net.
 //! - `netlist`: well-formed netlists, and what they answer.
@@ -35,6 +34,5 @@ pub mod netlist;
 mod next;
 pub mod parts;
 mod ranks;
-pub mod view;
 pub mod walk;
 pub mod walk_laws;

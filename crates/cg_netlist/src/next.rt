@@ -9,7 +9,7 @@ ghost use Rattle.cg_netlist.specs.History.{next_value};
 ghost use Rattle.cg_netlist.specs.Moment.{cell_value, values_at};
 
 use crate::netlist::Netlist;
-use crate::view::RegKind;
+use crate::parts::RegKind;
 use crate::walk::gather;
 use cg_cell::cell::CellType;
 use cg_net::id::{NetId, RegId};

@@ -1,4 +1,9 @@
-//! The parts of a netlist as it keeps them: plain data, of which nothing is asked yet.
+//! The parts of a netlist as it keeps them, plain data of which nothing is asked yet, and what it shows of one of them.
+
+ghost use Rattle.std.specs.Prelude.{◌≡◌, length};
+ghost use Rattle.cg_netlist.specs.Moment.{function_value};
+ghost use Rattle.cg_netlist.specs.View.{cell_seen, function_seen, gater_seen, kind_seen, register_seen};
+ghost use Rattle.cg_netlist.specs.WellFormed.{IsOver};
 
 use cg_cell::cell::CellType;
 use cg_cell::cover::Cover;
@@ -167,4 +172,164 @@ impl Model for Parts {
       gaters = p.gaters.items;
       registers = p.registers.items;
     } };
+}
+
+/// The function of a logic cell, over its inputs in their order.
+#[derive(Clone, Copy)]
+pub enum Function<'a> {
+    /// The rows of a `.names` line, with a place for each input.
+    Cover(&'a Cover),
+
+    /// A placed cell of a library, of kind Logic: the inputs are those of its Data pins in pin order.
+    Cell(&'a CellType),
+}
+
+/// What a register is made of.
+#[derive(Clone, Copy)]
+pub enum RegKind<'a> {
+    /// A `.latch` line: the next bit is the bit of the one input.
+    Plain,
+
+    /// A placed cell of a library, of kind Flop: the inputs are those of its Data pins in pin order.
+    Cell(&'a CellType),
+}
+
+/// A logic cell: `output` is `function` of `inputs`, all at one moment.
+#[derive(Clone, Copy)]
+pub struct CellView<'a> {
+    /// The input nets, in the order of the function's variables.
+    pub inputs: &'a [NetId],
+
+    /// The output net.
+    pub output: NetId,
+
+    /// The function.
+    pub function: Function<'a>,
+}
+
+/// A register: it takes its function of `inputs` and its own bit where `clock` rises.
+#[derive(Clone, Copy)]
+pub struct RegView<'a> {
+    /// The input nets.
+    pub inputs: &'a [NetId],
+
+    /// The output nets, each with true where it shows the inverse of the register's bit.
+    pub outputs: &'a [(NetId, bool)],
+
+    /// For each output the place of its pin among the library cell's pins, counted from 0, and 0 for a plain
+    /// register.
+    pub pins: &'a [u32],
+
+    /// The clock net.
+    pub clock: NetId,
+
+    /// What the register is made of.
+    pub kind: RegKind<'a>,
+
+    /// The bit at the start: 0 or 1, 2 where it does not matter, 3 where it is not known.
+    pub init: u8,
+}
+
+/// A gating cell: a latch that takes the bit of `enable` while `clock` is 0, and `output` is the AND of latch and
+/// clock.
+#[derive(Clone, Copy)]
+pub struct GaterView<'a> {
+    /// The net at the clock pin.
+    pub clock: NetId,
+
+    /// The net at the enable pin.
+    pub enable: NetId,
+
+    /// The net at the test pin, where the cell has one.
+    pub test: Option<NetId>,
+
+    /// The output net, which carries the gated clock.
+    pub output: NetId,
+
+    /// The placed cell of a library, of kind Gater.
+    pub cell: &'a CellType,
+}
+
+impl Function<'_> {
+    /// The value of the function at bits of its inputs, of which there must be as many as it has.
+    pub fn value(self, bits: &[bool]) -> bool
+        requires { IsOver (length bits.now) (function_seen self) }
+        ensures { result ≡ function_value (function_seen self.entry) bits.now }
+    {
+        match self {
+            Function::Cover(cover) => cover.value(bits),
+            Function::Cell(cell) => match cell.function() {
+                Some(function) => function.value(bits),
+                None => false,
+            },
+        }
+    }
+}
+
+impl LogicFunction {
+    /// The function, to be read.
+    pub(crate) fn view(&self) -> Function<'_>
+        ensures { function_seen result ≡ self.now }
+    {
+        match self {
+            LogicFunction::Cover(cover) => Function::Cover(cover),
+            LogicFunction::Cell(cell) => Function::Cell(cell),
+        }
+    }
+}
+
+impl RegisterKind {
+    /// The kind, to be read.
+    pub(crate) fn view(&self) -> RegKind<'_>
+        ensures { kind_seen result ≡ self.now }
+    {
+        match self {
+            RegisterKind::Plain => RegKind::Plain,
+            RegisterKind::Flop(cell) => RegKind::Cell(cell),
+        }
+    }
+}
+
+impl Logic {
+    /// The logic cell, to be read.
+    pub(crate) fn view(&self) -> CellView<'_>
+        ensures { cell_seen result ≡ self.now }
+    {
+        CellView {
+            inputs: &self.inputs,
+            output: self.output,
+            function: self.function.view(),
+        }
+    }
+}
+
+impl Register {
+    /// The register, to be read.
+    pub(crate) fn view(&self) -> RegView<'_>
+        ensures { register_seen result ≡ self.now }
+    {
+        RegView {
+            inputs: &self.inputs,
+            outputs: &self.outputs,
+            pins: &self.pins,
+            clock: self.clock,
+            kind: self.kind.view(),
+            init: self.init,
+        }
+    }
+}
+
+impl Gater {
+    /// The gating cell, to be read.
+    pub(crate) fn view(&self) -> GaterView<'_>
+        ensures { gater_seen result ≡ self.now }
+    {
+        GaterView {
+            clock: self.clock,
+            enable: self.enable,
+            test: self.test,
+            output: self.output,
+            cell: &self.cell,
+        }
+    }
 }

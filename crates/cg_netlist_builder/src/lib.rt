@@ -9,15 +9,13 @@
 //! - `inits`: inits that plain registers are given behind all parts.
 //! - `parts`: the parts so far, by the numbers of their nets, and these nets by what they are to them.
 //! - `builder`: building netlists, part by part.
-//! - `marks`: marks on nets, and the first net that has one.
 //! - `order`: the nets in net order, and the parts with these numbers.
-//! - `finish`: the faults of what was built, in order.
+//! - `finish`: the faults of what was built, in order: each is the first net that has a mark.
 #![tactic(auto)]
 
 mod adding;
 pub mod builder;
 mod finish;
 mod inits;
-mod marks;
 mod order;
 mod parts;

@@ -13,7 +13,7 @@ use crate::pin::PinWord;
 use cg_cell::cell::{Pin, Role};
 use cg_net::id::NetId;
 use cg_netlist::netlist::Netlist;
-use cg_netlist::view::{GaterView, RegView};
+use cg_netlist::parts::{GaterView, RegView};
 use std::alloc::{AllocError, Global};
 
 /// Puts a pin with its net behind others.

@@ -14,7 +14,7 @@ use cg_cell::cell::CellType;
 use cg_net::id::{CellId, NetId};
 use cg_netlist::fault::AddFault;
 use cg_netlist::netlist::Netlist;
-use cg_netlist::view::{Function, GaterView, RegKind, RegView};
+use cg_netlist::parts::{Function, GaterView, RegKind, RegView};
 use cg_netlist_builder::builder::Builder;
 use std::alloc::{AllocError, Global};
 use std::marker::Model;

@@ -12,7 +12,7 @@ use cg_cell::cell::CellType;
 use cg_machine::machine::Machine;
 use cg_net::id::{NetId, RegId};
 use cg_netlist::driver::Driver;
-use cg_netlist::view::RegKind;
+use cg_netlist::parts::RegKind;
 
 /// The register whose bit is the enable of a register, where it has no enable and takes one net alone.
 pub(crate) fn guard_of(machine: &Machine, reg: RegId) -> Option<RegId>

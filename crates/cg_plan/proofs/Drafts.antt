@@ -4,7 +4,7 @@ use Rattle.cg_netlist.specs.declared.fault.AddFault.{AddFault}
 use Rattle.cg_netlist.specs.declared.fault.AddFault.TheVariants.{Limit as LimitFault, NoMemory}
 use Rattle.cg_limit.specs.declared.Limit.{Limit}
 use Rattle.cg_plan_laws.specs.Plan.{Plan, unless_stopped}
-use Rattle.cg_plan.specs.declared.draft.Draft.{Draft}
+use Rattle.cg_plan.specs.declared.plan.Draft.{Draft}
 use Rattle.cg_plan.specs.inner.Drafting.{IsDraft, IsLeft, Leads, Left, MayStop, in_turn}
 
 -- a plan that a call led to has not stopped

@@ -20,7 +20,7 @@ use Rattle.cg_plan_laws.specs.declared.outcome.Outcome.{Outcome}
 use Rattle.cg_plan_laws.specs.declared.outcome.Outcome.TheVariants.{Inserted, NeverIdle, NoCell, Refuted, Small, Wide}
 use Rattle.cg_plan_laws.specs.declared.settings.Settings.{Settings}
 use Rattle.cg_plan.specs.Planning.{AreWritable, StayWritable}
-use Rattle.cg_plan.specs.declared.draft.Draft.{Draft}
+use Rattle.cg_plan.specs.declared.plan.Draft.{Draft}
 use Rattle.cg_plan.specs.inner.Drafting.{IsDraft, Leads, MayStop, StillFit, earlier_by, kept, unbegun}
 use Rattle.cg_stage_laws.specs.Effects.{effect}
 use Rattle.cg_stage_laws.specs.Stages.{Fits}

@@ -19,7 +19,7 @@ use Rattle.cg_plan_laws.specs.Plan.{Plan, plan_of, rounds, try_all, unless_stopp
 use Rattle.cg_plan_laws.specs.Reported.{IsPlan, PlanMayFail, ReportedPlan}
 use Rattle.cg_plan_laws.specs.declared.settings.Settings.{Settings}
 use Rattle.cg_plan.specs.Planning.{IsSafePlan}
-use Rattle.cg_plan.specs.declared.draft.Draft.{Draft}
+use Rattle.cg_plan.specs.declared.plan.Draft.{Draft}
 use Rattle.cg_plan.specs.inner.Drafting.{IsDraft, Leads, MayStop, all_parts, unbegun}
 
 module _ (settings : Settings) (counts : Option ZeroCounts) (m : MachineData) where

@@ -16,7 +16,7 @@ use Rattle.cg_netlist.specs.declared.fault.AddFault.{AddFault}
 use Rattle.cg_plan_laws.specs.Plan.{Plan, list_by, rounds, try_all, unless_stopped}
 use Rattle.cg_plan_laws.specs.Reported.{PlanMayFail}
 use Rattle.cg_plan_laws.specs.declared.settings.Settings.{Settings}
-use Rattle.cg_plan.specs.declared.draft.Draft.{Draft}
+use Rattle.cg_plan.specs.declared.plan.Draft.{Draft}
 use Rattle.cg_plan.specs.inner.Drafting.{IsDraft, Leads, MayStop, round_list}
 
 -- the list of a round, as the draft has it

@@ -10,9 +10,9 @@ ghost use Rattle.cg_claim_reach.specs.Fanout.{Knows};
 ghost use Rattle.cg_stage_laws.specs.Stages.{Fits, first_literal};
 ghost use Rattle.cg_unroll.specs.Claims.{IsClaim, IsRefused};
 
-use crate::sets::StageSets;
 use cg_claim::name::ClaimName;
 use cg_claim_reach::fanout::Fanout;
+use cg_claim_reach::unseen::UnseenRegs;
 use cg_machine::machine::Machine;
 use cg_machine::stage::{NetLit, Stage, StageKind};
 use cg_net::id::RegId;
@@ -21,6 +21,7 @@ use cg_plan_laws::outcome::Outcome;
 use cg_unroll::claim::ClaimFault;
 use cg_unroll::unroller::Unroller;
 use std::alloc::{AllocError, Global};
+use std::marker::Model;
 
 /// The names of the claims of a stage in order, but for that it can idle: one for each register, or one for each target
 /// that one of them reaches.
@@ -119,4 +120,33 @@ pub(crate) fn first_literal(enables: &[NetLit]) -> NetLit
     ensures { result ≡ first_literal enables.now }
 {
     enables[0]
+}
+
+/// A stage with the sets of its registers and of its guards, which all its claims share. Clauses see the stage.
+#[derive(Drop)]
+pub(crate) struct StageSets<'a> {
+    pub(crate) stage: &'a Stage,
+    pub(crate) unseen: UnseenRegs<'a>,
+}
+
+impl<'a> Model for StageSets<'a> {
+    ghost use Rattle.std.specs.Prelude.{◌≡◌};
+    ghost use Rattle.cg_machine.specs.declared.stage.Stage.{Stage};
+    ghost use Rattle.cg_plan.specs.inner.Naming.{unseen_of};
+
+    ghost Value = { Stage };
+
+    ghost view = { λ s. s.stage.now };
+
+    ghost invariant = { λ s. s.unseen ≡ unseen_of s.stage.now };
+}
+
+impl<'a> StageSets<'a> {
+    /// The stage with its sets.
+    pub(crate) fn new(alloc: Global, stage: &'a Stage) -> Result<StageSets<'a>, AllocError>
+        ensures { IfOk result (λ sets. sets ≡ stage.now) }
+    {
+        let unseen = UnseenRegs::new(alloc, stage.guards.as_slice(), stage.regs.as_slice())?;
+        Ok(StageSets { stage, unseen })
+    }
 }

@@ -18,10 +18,9 @@ ghost use Rattle.cg_stage_laws.specs.Stages.{Fits};
 ghost use Rattle.cg_unroll.specs.Claims.{IsClaim};
 
 use crate::cells::early_end;
-use crate::claims::{claim_names, measure};
+use crate::claims::{StageSets, claim_names, measure};
 use crate::insert::insert;
 use crate::rules::Rules;
-use crate::sets::StageSets;
 use cg_claim::name::ClaimName;
 use cg_claim_reach::fanout::Fanout;
 use cg_decide::Decider;

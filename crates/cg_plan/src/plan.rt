@@ -1,26 +1,34 @@
 //! The plan of a machine.
 
-ghost use Rattle.std.specs.Prelude.{◌≡◌, IfOk, IfErr};
+ghost use Rattle.std.specs.Prelude.{◌≡◌, IfOk, IfErr, ◌+◌, [], if◌then◌else◌, length, MatchResult, OnOk};
 ghost use Rattle.std.specs.Option.{option_copied};
 ghost use Rattle.cg_stage_list_laws.specs.Literals.{FitZeroCounts};
-ghost use Rattle.cg_plan_laws.specs.Plan.{plan_of};
+ghost use Rattle.cg_plan_laws.specs.Plan.{plan_of, rounds, try_all, try_one};
 ghost use Rattle.cg_plan_laws.specs.Reported.{IsPlan, PlanMayFail};
 ghost use Rattle.cg_plan.specs.Planning.{AreWritable, IsSafePlan, told};
+ghost use Rattle.cg_stage_list_laws.specs.Fit.{AllFit};
+ghost use Rattle.cg_netlist.specs.declared.fault.AddFault.TheVariants.{NoMemory};
+ghost use Rattle.cg_plan.specs.inner.Drafting.{IsDraft, Leads, MayStop, StillFit, all_parts, earlier_by, kept, round_list, unbegun};
+ghost use Rattle.cg_claim_reach.specs.Fanout.{Knows};
+ghost use Rattle.cg_stage_laws.specs.Stages.{Fits};
 
-use crate::draft::Draft;
+use crate::judge::{Entry, Judge};
 use crate::rules::Rules;
 use cg_cell::library::Library;
+use cg_claim_reach::fanout::Fanout;
 use cg_hold::candidates::candidates;
 use cg_hold::progress::Progress;
 use cg_list::Seq;
 use cg_machine::machine::Machine;
-use cg_machine::stage::Stage;
+use cg_machine::stage::{Earlier, Stage, StageKind};
 use cg_netlist::fault::AddFault;
+use cg_odc::candidates as unobservability;
 use cg_plan_laws::certificate::Certificate;
 use cg_plan_laws::outcome::Outcome;
 use cg_plan_laws::settings::Settings;
+use cg_stability::candidates as stability;
 use cg_stage_list_laws::net_zeros::NetZeros;
-use std::alloc::Global;
+use std::alloc::{AllocError, Global};
 
 /// A plan of a machine.
 #[derive(Drop)]
@@ -98,4 +106,245 @@ fn finished(draft: Draft, wide: u32) -> Plan
         wide,
         certificates,
     }
+}
+
+/// A plan in the making: what is told of the stages that were tried so far, and the machine after them.
+///
+/// The stages stand here twice, since a plan hands them out with their outcomes, and a round reads them with whether they
+/// were inserted.
+#[derive(Drop)]
+pub(crate) struct Draft {
+    alloc: Global,
+
+    /// The machine after the inserted stages.
+    pub machine: Machine,
+
+    /// The stages that were tried, in order, each with what came of it.
+    pub stages: Seq<(Stage, Outcome)>,
+
+    /// The same stages, as a round reads them.
+    earlier: Seq<Earlier>,
+
+    /// Whether the proofs of claims are kept.
+    proof: bool,
+
+    /// The proofs of the claims of the inserted stages, where they are kept.
+    pub certificates: Vec<Certificate>,
+
+    judge: Judge,
+}
+
+impl Draft {
+    /// A plan of which nothing was tried, whose proofs are kept or not.
+    pub fn new(alloc: Global, machine: Machine, proof: bool) -> Draft
+        ensures { IsDraft proof (unbegun machine) result }
+    {
+        Draft {
+            alloc,
+            machine,
+            stages: Seq::new(alloc),
+            earlier: Seq::new(alloc),
+            proof,
+            certificates: Vec::new(alloc),
+            judge: Judge::new(alloc),
+        }
+    }
+
+    /// What it tells: its machine, its stages and their proofs.
+    pub fn into_parts(self) -> (Machine, Seq<(Stage, Outcome)>, Seq<Certificate>)
+        ensures { result ≡ (self.machine, self.stages, self.certificates.items) }
+    {
+        // By calls, as their parts would else be dropped one by one in the proof.
+        drop(self.earlier);
+        drop(self.judge);
+        (self.machine, self.stages, Seq::from_vec(self.certificates))
+    }
+
+    /// Tries the hold stages, then what the rounds of stability find, and then what those of unobservability find.
+    pub fn try_parts(
+        &mut self,
+        holds: Seq<Stage>,
+        rules: &Rules<'_>,
+        progress: &mut dyn Progress,
+    ) -> Result<(), AddFault>
+        requires { AllFit self.old.machine holds }
+        ensures leads { OnOk result (Leads (all_parts rules.now.library.now rules.now.settings.now holds) self.old self.new) }
+        ensures fault { IfErr result (MayStop (all_parts rules.now.library.now rules.now.settings.now holds) self.old) }
+    {
+        self.try_all(holds, rules, progress)?;
+        self.rounds(StageKind::Stable, rules, progress)?;
+        self.rounds(StageKind::Unseen, rules, progress)
+    }
+
+    /// As many rounds of a kind as the settings ask for, each with the list that the machine has at its start.
+    fn rounds(
+        &mut self,
+        kind: StageKind,
+        rules: &Rules<'_>,
+        progress: &mut dyn Progress,
+    ) -> Result<(), AddFault>
+        ensures leads { OnOk result
+            (Leads (rounds rules.now.library.now rules.now.settings.now kind rules.now.settings.now.rounds) self.old self.new) }
+        ensures fault { IfErr result (MayStop (rounds rules.now.library.now rules.now.settings.now kind rules.now.settings.now.rounds) self.old) }
+    {
+        for _ in 0..rules.settings.rounds {
+            let stages = self.candidates(kind, rules.settings)?;
+            // A round without stages leaves all as it is, and so do those after it.
+            if stages.is_empty() {
+                return Ok(());
+            }
+            self.try_all(stages, rules, progress)?;
+        }
+        Ok(())
+    }
+
+    /// The stages that a round of this kind tries.
+    fn candidates(&self, kind: StageKind, settings: &Settings) -> Result<Seq<Stage>, AllocError>
+        ensures list { IfOk result (λ stages. stages ≡ round_list kind settings.now self.now.machine self.now.earlier) }
+        ensures fit { IfOk result (AllFit self.now.machine) }
+    {
+        let _netlist = self.machine.netlist();
+        let earlier = self.earlier.as_slice();
+        match kind {
+            StageKind::Hold => Ok(Seq::new(self.alloc)),
+            StageKind::Stable => stability::candidates(self.alloc, &self.machine, earlier),
+            StageKind::Unseen => {
+                unobservability::candidates(self.alloc, &self.machine, earlier, settings.test)
+            }
+        }
+    }
+
+    /// Tries stages that fit, one after the other, and tells of each.
+    fn try_all(
+        &mut self,
+        stages: Seq<Stage>,
+        rules: &Rules<'_>,
+        progress: &mut dyn Progress,
+    ) -> Result<(), AddFault>
+        requires { AllFit self.old.machine stages }
+        ensures leads { OnOk result (Leads (λ p. try_all rules.now.library.now rules.now.settings.now p stages) self.old self.new) }
+        ensures fault { IfErr result (MayStop (λ p. try_all rules.now.library.now rules.now.settings.now p stages) self.old) }
+    {
+        // What reads the nets is found once for all of them, and grown with the machine.
+        let mut fanout = Fanout::new(self.alloc);
+        let result = self.try_listed(stages, &mut fanout, rules, progress);
+        // By a call, as its parts would else be dropped one by one in the proof of each way out.
+        drop(fanout);
+        result
+    }
+
+    /// Tries stages that fit, one after the other, and tells of each.
+    fn try_listed(
+        &mut self,
+        stages: Seq<Stage>,
+        fanout: &mut Fanout,
+        rules: &Rules<'_>,
+        progress: &mut dyn Progress,
+    ) -> Result<(), AddFault>
+        requires fits { AllFit self.old.machine stages }
+        requires knows { Knows self.old.machine fanout.old }
+        ensures leads { OnOk result (Leads (λ p. try_all rules.now.library.now rules.now.settings.now p stages) self.old self.new) }
+        ensures fault { IfErr result (MayStop (λ p. try_all rules.now.library.now rules.now.settings.now p stages) self.old) }
+    {
+        let listed = self.stages.len().saturating_add(stages.len());
+        for stage in stages.into_vec() {
+            self.tell_next(listed, progress);
+            self.try_one(stage, fanout, rules)?;
+        }
+        Ok(())
+    }
+
+    /// Tells of the stage that is tried next, one of so many that are listed so far.
+    fn tell_next(&self, listed: usize, progress: &mut dyn Progress) {
+        progress.trying(self.stages.len().saturating_add(1), listed);
+    }
+
+    /// Tries a stage that fits.
+    fn try_one(
+        &mut self,
+        stage: Stage,
+        fanout: &mut Fanout,
+        rules: &Rules<'_>,
+    ) -> Result<(), AddFault>
+        requires fits { Fits self.old.machine stage }
+        requires knows { Knows self.old.machine fanout.old }
+        ensures knows { OnOk result (Knows self.new.machine fanout.new) }
+        ensures leads { OnOk result (Leads (λ p. try_one rules.now.library.now rules.now.settings.now p stage) self.old self.new) }
+        ensures fault { IfErr result (MayStop (λ p. try_one rules.now.library.now rules.now.settings.now p stage) self.old) }
+        ensures rest { OnOk result (StillFit stage self.old.machine self.new.machine) }
+    {
+        let _netlist = self.machine.netlist();
+        let number = self.next_number()?;
+        let entry = Entry {
+            number,
+            stage: &stage,
+        };
+        let outcome = self.judge.try_stage(
+            &mut self.machine,
+            fanout,
+            &entry,
+            rules,
+            &mut self.certificates,
+        )?;
+        self.let_go();
+        self.keep(stage, outcome)?;
+        Ok(())
+    }
+
+    /// Lets the proofs of claims go, unless they are kept.
+    fn let_go(&mut self)
+        ensures rest { self.new ≡ record self.old { certificates = self.new.certificates } }
+        ensures certificates { self.new.certificates.items ≡ if self.old.proof then self.old.certificates.items else [] }
+    {
+        if !self.proof {
+            self.certificates.clear();
+        }
+    }
+
+    /// The number of the next stage, counted from 1.
+    fn next_number(&self) -> Result<u32, AddFault>
+        ensures { MatchResult result (λ number. number ≡ 1 + length self.now.stages) (λ fault. fault ≡ NoMemory) }
+    {
+        let Ok(count) = u32::try_from(self.stages.len()) else {
+            return Err(AddFault::NoMemory);
+        };
+        match count.checked_add(1) {
+            Some(number) => Ok(number),
+            None => Err(AddFault::NoMemory),
+        }
+    }
+
+    /// Tells a stage with its outcome behind the others.
+    fn keep(&mut self, stage: Stage, outcome: Outcome) -> Result<(), AllocError>
+        ensures { OnOk result (self.new ≡ kept self.old stage outcome) }
+    {
+        let earlier = earlier_of(self.alloc, &stage, &outcome)?;
+        self.earlier.push(earlier)?;
+        self.stages.push((stage, outcome))
+    }
+}
+
+/// A stage that was tried with this outcome.
+fn earlier_of(alloc: Global, stage: &Stage, outcome: &Outcome) -> Result<Earlier, AllocError>
+    ensures { IfOk result (λ earlier. earlier ≡ earlier_by stage.now outcome.now) }
+{
+    let stage = copy_of(alloc, stage)?;
+    let inserted = outcome.is_inserted();
+    Ok(Earlier { stage, inserted })
+}
+
+/// A copy of a stage.
+fn copy_of(alloc: Global, stage: &Stage) -> Result<Stage, AllocError>
+    ensures { IfOk result (λ copy. copy ≡ stage.now) }
+{
+    let enable = Vec::from_slice(alloc, stage.enable.as_slice())?;
+    let regs = Vec::from_slice(alloc, stage.regs.as_slice())?;
+    let guards = Vec::from_slice(alloc, stage.guards.as_slice())?;
+    Ok(Stage {
+        kind: stage.kind,
+        enable: Seq::from_vec(enable),
+        regs: Seq::from_vec(regs),
+        own: stage.own,
+        guards: Seq::from_vec(guards),
+    })
 }

@@ -10,9 +10,9 @@ use Rattle.cg_shelf.specs.declared.faults.Fault.{Fault}
 use Rattle.cg_shelf.specs.declared.faults.LoadFault.{LoadFault}
 use Rattle.cg_shelf.specs.declared.faults.StoreFault.{StoreFault}
 use Rattle.cg_shelf.specs.declared.faults.StoreFault.TheVariants as stores
-use Rattle.cg_run.specs.declared.output.Finish.{Finish}
-use Rattle.cg_run.specs.declared.output.Finish.TheVariants as finishes
-use Rattle.cg_run.specs.declared.output.Output.{Output}
+use Rattle.cg_run.specs.declared.writing.Finish.{Finish}
+use Rattle.cg_run.specs.declared.writing.Finish.TheVariants as finishes
+use Rattle.cg_run.specs.declared.writing.Output.{Output}
 use Rattle.cg_run.specs.declared.refusal.Owner.{Owner}
 use Rattle.cg_run.specs.declared.refusal.Owner.TheVariants as owners
 use Rattle.cg_run.specs.declared.refusal.Refusal.{Refusal}

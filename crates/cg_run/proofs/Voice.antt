@@ -8,7 +8,7 @@ use Rattle.cg_shelf.specs.declared.faults.Call.TheVariants as calls
 use Rattle.cg_shelf.specs.declared.faults.LoadFault.{LoadFault}
 use Rattle.cg_shelf.specs.declared.faults.StoreFault.{StoreFault}
 use Rattle.cg_shelf.specs.declared.faults.StoreFault.TheVariants as stores
-use Rattle.cg_run.specs.declared.output.Finish.{Finish}
+use Rattle.cg_run.specs.declared.writing.Finish.{Finish}
 use Rattle.cg_run.specs.declared.refusal.Refusal.{Refusal}
 use Rattle.cg_run.specs.declared.refusal.Refusal.TheVariants as refusals
 use Rattle.cg_run.specs.declared.role.Role.{Role}

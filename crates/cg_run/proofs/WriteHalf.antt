@@ -12,8 +12,8 @@ use Rattle.cg_shelf.specs.declared.faults.Call.TheVariants as calls
 use Rattle.cg_shelf.specs.declared.faults.CallMade.{CallMade}
 use Rattle.cg_shelf.specs.declared.faults.StoreFault.{StoreFault}
 use Rattle.cg_shelf.specs.declared.faults.StoreFault.TheVariants as stores
-use Rattle.cg_run.specs.declared.output.Output.{Output}
-use Rattle.cg_run.specs.declared.output.Text.{Text}
+use Rattle.cg_run.specs.declared.writing.Output.{Output}
+use Rattle.cg_run.specs.declared.writing.Text.{Text}
 use Rattle.cg_run.specs.declared.refusal.Refusal.{Refusal}
 use Rattle.cg_run.specs.declared.refusal.Refusal.TheVariants as refusals
 use Rattle.cg_run.specs.declared.refusal.Step.{Step}

@@ -7,8 +7,8 @@ use Rattle.cg_shelf.specs.declared.faults.CallMade.{CallMade}
 use Rattle.cg_shelf.specs.declared.faults.LoadFault.{LoadFault}
 use Rattle.cg_shelf.specs.declared.faults.StoreFault.{StoreFault}
 use Rattle.cg_shelf.specs.declared.faults.StoreFault.TheVariants as stores
-use Rattle.cg_run.specs.declared.output.Finish.{Finish}
-use Rattle.cg_run.specs.declared.output.Output.{Output}
+use Rattle.cg_run.specs.declared.writing.Finish.{Finish}
+use Rattle.cg_run.specs.declared.writing.Output.{Output}
 use Rattle.cg_run.specs.declared.refusal.Refusal.{Refusal}
 use Rattle.cg_run.specs.declared.refusal.Refusal.TheVariants as refusals
 use Rattle.cg_run.specs.declared.refusal.Step.{Step}

@@ -6,8 +6,8 @@ use Rattle.cg_shelf.specs.World.{World}
 use Rattle.cg_shelf.specs.Shelf.{AppendsFront, one_call}
 use Rattle.cg_shelf.specs.declared.faults.Call.TheVariants as calls
 use Rattle.cg_shelf.specs.declared.faults.CallMade.{CallMade}
-use Rattle.cg_run.specs.declared.output.Output.{Output}
-use Rattle.cg_run.specs.declared.output.Text.{Text}
+use Rattle.cg_run.specs.declared.writing.Output.{Output}
+use Rattle.cg_run.specs.declared.writing.Text.{Text}
 use Rattle.cg_run.specs.declared.refusal.Refusal.{Refusal}
 use Rattle.cg_run.specs.declared.refusal.Step.{Step}
 use Rattle.cg_run.specs.declared.refusal.Step.TheVariants as steps

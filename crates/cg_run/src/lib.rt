@@ -11,10 +11,9 @@
 //! - `refusal`: why a run was not done, and its line of complaint;
 //! - `content`: what is complained of a file's content, with a number or a name;
 //! - `status`: how a run ends;
-//! - `output`: what a mode puts out;
 //! - `mode`: what a run asks of a mode;
 //! - `reading`: the reading half of a run, [`collect`];
-//! - `writing`: the writing half of a run, [`put_out`];
+//! - `writing`: what a mode puts out, and the writing half of a run, [`put_out`];
 //! - `driver`: a run of both halves, with what a mode makes of its files between.
 #![tactic(auto)]
 
@@ -22,7 +21,6 @@ mod content;
 mod driver;
 mod mode;
 mod names;
-mod output;
 mod reading;
 mod refusal;
 mod role;
@@ -32,9 +30,8 @@ mod writing;
 pub use driver::drive;
 pub use mode::{Mode, Reader};
 pub use names::{NamedFile, Names};
-pub use output::{Finish, Output, Text};
 pub use reading::collect;
 pub use refusal::{Content, Owner, Refusal, Step, Trouble};
 pub use role::Role;
 pub use status::Status;
-pub use writing::{complain, put_out};
+pub use writing::{Finish, Output, Text, complain, put_out};

@@ -1,6 +1,6 @@
 //! What a run asks of a mode.
 
-use crate::output::Output;
+use crate::writing::Output;
 use crate::refusal::Trouble;
 use crate::role::Role;
 use cg_list::Seq;
@@ -29,7 +29,7 @@ pub trait Reader: Drop {
 pub trait Mode: Reader {
     ghost use Rattle.std.specs.Prelude.{Option};
     ghost use Rattle.cg_run.specs.Verdict.{Concludes};
-    ghost use Rattle.cg_run.specs.declared.output.Output.{Output};
+    ghost use Rattle.cg_run.specs.declared.writing.Output.{Output};
     ghost use Rattle.cg_run.specs.declared.refusal.Trouble.{Trouble};
 
     ghost stops: { Self → Option Trouble };

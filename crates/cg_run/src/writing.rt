@@ -8,8 +8,8 @@ ghost use Rattle.cg_run.specs.Writes.{Writes};
 ghost use Rattle.cg_run.specs.inner.Steps.{StoresAll, StoresOne, SaysAll};
 
 use crate::names::Names;
-use crate::output::{Finish, Output, Text};
 use crate::refusal::{Refusal, Step};
+use crate::role::Role;
 use crate::status::Status;
 use cg_list::Seq;
 use cg_shelf::{Shelf, StoreFault};
@@ -116,4 +116,43 @@ pub fn complain<S: Shelf>(shelf: &mut S, status: Status, line: &[u8]) -> Status
         Ok(()) | Err(StoreFault::Failed) => status,
         Err(StoreFault::NoMemory) => Status::NoMemory,
     }
+}
+
+/// How a run ends whose files were read and whose output was written.
+#[derive(Clone, Copy, Debug, PartialEq, Eq)]
+pub enum Finish {
+    /// It did what was asked.
+    Done,
+    /// The proof is not accepted.
+    Rejected,
+}
+
+impl Finish {
+    ghost use Rattle.std.specs.Prelude.{◌≡◌};
+    ghost use Rattle.cg_run.specs.Status.{finish_status};
+
+    /// How the run then ends.
+    pub fn status(self) -> Status
+        ensures { result ≡ finish_status self }
+    {
+        match self {
+            Finish::Done => Status::Done,
+            Finish::Rejected => Status::Rejected,
+        }
+    }
+}
+
+/// A text and the role of the file that it goes to.
+#[derive(Debug, Drop)]
+pub struct Text {
+    pub role: Role,
+    pub bytes: Seq<u8>,
+}
+
+/// The texts to be stored, in order, the text to be said, and how the run then ends.
+#[derive(Debug, Drop)]
+pub struct Output {
+    pub stores: Seq<Text>,
+    pub said: Seq<u8>,
+    pub finish: Finish,
 }

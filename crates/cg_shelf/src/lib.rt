@@ -10,15 +10,13 @@
 //! - `faults`: the refusals of a call, and the records of a call that was made and of one that failed;
 //! - `calls`: the trait [`Shelf`];
 //! - `mem_shelf`: a shelf in memory that tells everything and fails where it is told to;
-//! - `transfer`: whole texts through readers and writers that give or take a part at a time;
-//! - `dir_shelf`: the trusted edge over real files, standard output and standard error.
+//! - `dir_shelf`: the trusted edge over real files, standard output and standard error, which give or take a part of a text at a time.
 #![tactic(auto)]
 
 mod calls;
 mod dir_shelf;
 mod faults;
 mod mem_shelf;
-mod transfer;
 
 pub use calls::Shelf;
 pub use dir_shelf::DirShelf;

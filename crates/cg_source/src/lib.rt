@@ -6,21 +6,18 @@
 //!
 //! - `refused`: contents that are refused for a place or a name;
 //! - `library`: the cells that a netlist may place;
-//! - `netlist`: a circuit, with the cells of a library, in either of its forms: `blif` and `verilog`, with `net_fault` for both;
+//! - `netlist`: a circuit, with the cells of a library, in either of its forms, BLIF and structural Verilog;
 //! - `stimulus`: what the data inputs of a circuit do;
 //! - `hints`: conditions of the engineer's own;
 //! - `design`: the files of a circuit together, as they are read one after another, and once they are;
 //! - `formula` and `log`: a formula, and a proof log for it.
 #![tactic(auto)]
 
-mod blif;
 pub mod design;
 pub mod formula;
 pub mod hints;
 pub mod library;
 pub mod log;
-mod net_fault;
 pub mod netlist;
 pub mod refused;
 pub mod stimulus;
-mod verilog;

@@ -1,15 +1,15 @@
 -- What a finished run of `gate` means, from what its files come to.
 use Rattle.std.proofs.Common.{◌≡◌, ℕ, Bool, true, false, IsTrue, List, ◌++◌, Option, None, Some, refl, sym, ◌∙◌, ap, subst}
 use Rattle.cg_gate.specs.Gating.{where_asked}
-use Rattle.cg_gate.specs.declared.texts.Texts.{Texts}
+use Rattle.cg_gate.specs.declared.gate.Texts.{Texts}
 use Rattle.cg_liberty.specs.LibText.{LibText}
 use Rattle.cg_netlist.specs.Circuit.{Circuit}
 use Rattle.cg_shelf.specs.World.{World}
 use Rattle.cg_run.specs.Reads.{Agrees}
 use Rattle.cg_run.specs.Verdict.{Given}
 use Rattle.cg_run.specs.Writes.{puts}
-use Rattle.cg_run.specs.declared.output.Finish.{Finish}
-use Rattle.cg_run.specs.declared.output.Output.{Output}
+use Rattle.cg_run.specs.declared.writing.Finish.{Finish}
+use Rattle.cg_run.specs.declared.writing.Output.{Output}
 use Rattle.cg_run.specs.declared.role.Role.{Role}
 use Rattle.cg_run.specs.declared.role.Role.TheVariants as roles
 use Rattle.cg_run.proofs.Finished.{Finishes}

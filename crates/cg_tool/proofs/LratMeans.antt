@@ -11,9 +11,9 @@ use Rattle.cg_lrat.specs.declared.verdict.Verdict.{Verdict}
 use Rattle.cg_lrat.specs.declared.verdict.Verdict.TheVariants as verdicts
 use Rattle.cg_lrat.proofs.Sound.{accepted_unsatisfiable}
 use Rattle.cg_shelf.specs.World.{World}
-use Rattle.cg_run.specs.declared.output.Finish.{Finish}
-use Rattle.cg_run.specs.declared.output.Finish.TheVariants as finishes
-use Rattle.cg_run.specs.declared.output.Output.{Output}
+use Rattle.cg_run.specs.declared.writing.Finish.{Finish}
+use Rattle.cg_run.specs.declared.writing.Finish.TheVariants as finishes
+use Rattle.cg_run.specs.declared.writing.Output.{Output}
 use Rattle.cg_run.specs.declared.role.Role.{Role}
 use Rattle.cg_run.specs.declared.role.Role.TheVariants as roles
 use Rattle.cg_run.specs.Writes.{Written, puts}

@@ -7,12 +7,12 @@ use Rattle.cg_gate.specs.Request.{MayGate, RequestData}
 use Rattle.cg_gate.specs.Stops.{gating_stop}
 use Rattle.cg_gate.specs.declared.fault.GateFault.{GateFault}
 use Rattle.cg_gate.specs.declared.fault.GateFault.TheVariants as faults
-use Rattle.cg_gate.specs.declared.texts.Texts.{Texts}
+use Rattle.cg_gate.specs.declared.gate.Texts.{Texts}
 use Rattle.cg_netlist.specs.Circuit.{Circuit}
 use Rattle.cg_run.specs.Verdict.{Task, task_of}
-use Rattle.cg_run.specs.declared.output.Finish.TheVariants as finishes
-use Rattle.cg_run.specs.declared.output.Output.{Output}
-use Rattle.cg_run.specs.declared.output.Text.{Text}
+use Rattle.cg_run.specs.declared.writing.Finish.TheVariants as finishes
+use Rattle.cg_run.specs.declared.writing.Output.{Output}
+use Rattle.cg_run.specs.declared.writing.Text.{Text}
 use Rattle.cg_run.specs.declared.refusal.Owner.TheVariants as owners
 use Rattle.cg_run.specs.declared.refusal.Trouble.{Trouble}
 use Rattle.cg_run.specs.declared.refusal.Trouble.TheVariants as troubles

@@ -5,14 +5,14 @@ use Rattle.cg_liberty.specs.LibText.{LibText}
 use Rattle.cg_gate.specs.Gating.{GivesGated}
 use Rattle.cg_gate.specs.Headline.{Headline}
 use Rattle.cg_gate.specs.Request.{MayGate}
-use Rattle.cg_gate.specs.declared.texts.Texts.{Texts}
+use Rattle.cg_gate.specs.declared.gate.Texts.{Texts}
 use Rattle.cg_hint_laws.specs.declared.hint.Hint.{Hint}
 use Rattle.cg_hint_text.specs.HintText.{SaysHints}
 use Rattle.cg_netlist.specs.Circuit.{Circuit}
 use Rattle.cg_netlist.specs.WellFormed.{IsWellFormed}
 use Rattle.cg_run.specs.Writes.{puts}
-use Rattle.cg_run.specs.declared.output.Finish.{Finish}
-use Rattle.cg_run.specs.declared.output.Finish.TheVariants as finishes
+use Rattle.cg_run.specs.declared.writing.Finish.{Finish}
+use Rattle.cg_run.specs.declared.writing.Finish.TheVariants as finishes
 use Rattle.cg_run.specs.declared.role.Role.{Role}
 use Rattle.cg_run.specs.declared.role.Role.TheVariants as roles
 use Rattle.cg_shelf.specs.World.{World}

@@ -8,9 +8,9 @@ use Rattle.cg_netlist.specs.WellFormed.{IsWellFormed}
 use Rattle.cg_report.specs.RowLines.{rows_text}
 use Rattle.cg_report.specs.Watched.{watched_line}
 use Rattle.cg_run.specs.Verdict.{Task, task_of, unstopped}
-use Rattle.cg_run.specs.declared.output.Finish.{Finish}
-use Rattle.cg_run.specs.declared.output.Finish.TheVariants as finishes
-use Rattle.cg_run.specs.declared.output.Output.{Output}
+use Rattle.cg_run.specs.declared.writing.Finish.{Finish}
+use Rattle.cg_run.specs.declared.writing.Finish.TheVariants as finishes
+use Rattle.cg_run.specs.declared.writing.Output.{Output}
 use Rattle.cg_run.specs.declared.refusal.Trouble.{Trouble}
 use Rattle.cg_run.specs.declared.role.Role.{Role}
 use Rattle.cg_run.specs.declared.role.Role.TheVariants as roles

@@ -20,7 +20,7 @@ use cg_aig::{Aig, AigFault, AigLit};
 use cg_cell::fit::FitKind;
 use cg_machine::machine::Machine;
 use cg_net::id::{CellId, NetId};
-use cg_netlist::view::Function;
+use cg_netlist::parts::Function;
 
 /// Puts these cells into the list, one after another: the output of each gets the literal of its function. There is a
 /// literal for each net; what the buffer holds does not matter.

@@ -20,7 +20,7 @@ use cg_aig::{Aig, AigFault, AigLit};
 use cg_cell::cell::CellType;
 use cg_machine::machine::Machine;
 use cg_net::id::RegId;
-use cg_netlist::view::RegKind;
+use cg_netlist::parts::RegKind;
 
 /// The literal of the next bit of a register, whose own bit has this literal: its function, or, where it has an enable,
 /// that at the enable and else its own bit.

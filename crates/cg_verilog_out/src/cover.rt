@@ -23,7 +23,7 @@ use cg_cell::cover::Cover;
 use cg_cell::rows::CoverRows;
 use cg_net::id::NetId;
 use cg_netlist::netlist::Netlist;
-use cg_netlist::view::CellView;
+use cg_netlist::parts::CellView;
 use std::alloc::{AllocError, Global};
 
 /// The terms of rows over these nets; a row that gives a net both bits has none.

@@ -26,7 +26,7 @@ use crate::term::OpenTerm;
 use cg_cell::cell::CellType;
 use cg_net::id::{CellId, GateClockId, RegId};
 use cg_netlist::netlist::Netlist;
-use cg_netlist::view::{CellView, Function, RegKind, RegView};
+use cg_netlist::parts::{CellView, Function, RegKind, RegView};
 use cg_netlist_placed::pin::PinWord;
 use cg_netlist_placed::pins::{flop_pins, gater_pins, logic_pins};
 use std::alloc::{AllocError, Global};

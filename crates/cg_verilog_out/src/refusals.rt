@@ -22,7 +22,7 @@ use cg_list::Seq;
 use cg_net::id::{CellId, GateClockId, NetId, RegId};
 use cg_net::net_set::NetSet;
 use cg_netlist::netlist::Netlist;
-use cg_netlist::view::{CellView, Function, RegKind, RegView};
+use cg_netlist::parts::{CellView, Function, RegKind, RegView};
 use cg_netlist_placed::pin::PinWord;
 use cg_netlist_placed::pins::{flop_pins, gater_pins, logic_pins};
 use std::alloc::Global;

@@ -15,7 +15,7 @@ use Rattle.cg_plan_laws.specs.Reported.{AreCertified, AreTold, PlanMayFail, plan
 use Rattle.cg_plan_laws.specs.declared.outcome.Outcome.{Outcome}
 use Rattle.cg_plan_laws.specs.declared.settings.Settings.{Settings}
 use Rattle.cg_plan.specs.Planning.{AreWritable}
-use Rattle.cg_plan.specs.declared.draft.Draft.{Draft}
+use Rattle.cg_plan.specs.declared.plan.Draft.{Draft}
 
 -- the draft tells this plan, which has not stopped, with proofs or without
 pub record IsDraft (proof : Bool) (p : Plan) (d : Draft) : Type 0 where

@@ -21,16 +21,13 @@ ghost use Rattle.cg_tool.specs.Gated.{IsGated};
 use crate::modes::wanted::Wanted;
 use cg_command_line::Options;
 use cg_gate::fault::GateFault;
-use cg_gate::gate::gate;
+use cg_gate::gate::{Texts, gate};
 use cg_gate::request::Request;
-use cg_gate::texts::Texts;
 use cg_list::Seq;
 use cg_netlist::netlist::Netlist;
 use cg_plan::progress::Progress;
 use cg_report::watcher::Watcher;
-use cg_run::{
-    Finish, Names, Output, Owner, Refusal, Role, Status, Text, Trouble, collect, put_out,
-};
+use cg_run::{Finish, Names, Output, Owner, Refusal, Role, Status, Text, Trouble, collect, put_out};
 use cg_shelf::Shelf;
 use cg_source::design::{Design, DesignFiles, design_files};
 use cg_source::refused::with_name;

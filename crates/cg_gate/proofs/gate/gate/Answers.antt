@@ -8,7 +8,7 @@ use Rattle.cg_gate.specs.Headline.{Headline}
 use Rattle.cg_gate.specs.Proper.{IsProper}
 use Rattle.cg_gate.specs.Played.{Saying}
 use Rattle.cg_gate.specs.Request.{MayGate, RequestData, gating_of}
-use Rattle.cg_gate.specs.declared.hinting.TriedHints.{TriedHints}
+use Rattle.cg_gate.specs.declared.planning.TriedHints.{TriedHints}
 use Rattle.cg_gate.specs.Stops.{gating_stop, verilog_stop}
 use Rattle.cg_gate.proofs.Answering.{gives_all, if_ok, means_all, stopped_so, text_stops, unstopped_so}
 use Rattle.cg_gate.proofs.Gated.{unstopped, written_is}

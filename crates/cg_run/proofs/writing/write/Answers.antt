@@ -1,6 +1,6 @@
 use Rattle.std.proofs.Common.{List, Ok, Err, subst}
 use Rattle.std.proofs.lemmas.Result.{err_from_is_err_and}
-use Rattle.cg_run.specs.declared.output.Text.{Text}
+use Rattle.cg_run.specs.declared.writing.Text.{Text}
 use Rattle.cg_run.specs.Names.{name_of}
 use Rattle.cg_run.specs.inner.Steps.{StoresAll}
 use Rattle.cg_run.proofs.WriteHalf.{writes_refused, writes_said}

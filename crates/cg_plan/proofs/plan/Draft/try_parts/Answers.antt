@@ -1,0 +1,15 @@
+use Rattle.cg_machine.specs.declared.stage.StageKind.TheVariants.{Stable, Unseen}
+use Rattle.cg_plan_laws.specs.Plan.{Plan, rounds, try_all}
+use Rattle.cg_plan.specs.inner.Drafting.{Leads, in_turn}
+use Rattle.cg_plan.proofs.Drafts.{leads_last, leads_on}
+use Rattle.cg_plan.proofs.plan.Draft.try_parts.Goals as goal
+
+pub returns-clause-leads : goal.returns-clause-leads
+returns-clause-leads g c =
+    let library = c.args.rules.now.library.now in
+    let settings = c.args.rules.now.settings.now in
+    let holds : Plan → Plan = λ p. try_all library settings p c.args.holds in
+    let stable : Plan → Plan = rounds library settings Stable settings.rounds in
+    let unseen : Plan → Plan = rounds library settings Unseen settings.rounds in
+    let begun : Leads (in_turn holds stable) c.args.self.now c.rounds.new.self = leads_on holds stable c.args.self.now c.try_all.new.self c.rounds.new.self c.in_ok-try_all.ensures.leads c.in_ok-rounds.ensures.leads in
+    leads_last c.rounds-2.result (in_turn holds stable) unseen c.args.self.now c.rounds.new.self c.rounds-2.new.self begun c.rounds-2.ensures.leads

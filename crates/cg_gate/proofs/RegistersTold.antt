@@ -1,6 +1,5 @@
 -- What is told of the registers of a gated netlist is told of one netlist, and means what it is to mean.
 use Rattle.std.proofs.Common.{◌≡◌, ℕ, ◌+◌, ◌-◌, ◌<◌, ◌≤◌, true, List, [], ◌∷◌, map, length, replicate, Option, Ok, refl, sym, ◌∙◌, ap, subst, arith}
-use Rattle.std.proofs.lemmas.List.{length-replicate}
 use Rattle.cg_extract.proofs.LiftedMachine.{lifted_is_small}
 use Rattle.cg_extract.specs.Lifted.{lifted}
 use Rattle.cg_gate.proofs.Hinted.{told_long}
@@ -14,7 +13,7 @@ use Rattle.cg_gate_laws.proofs.BegunSafe.{all_fit}
 use Rattle.cg_gate_laws.proofs.Planned.{can_insert}
 use Rattle.cg_gate_laws.proofs.SameOutputs.{whole}
 use Rattle.cg_gate_laws.specs.Begun.{renamed}
-use Rattle.cg_gate_laws.specs.Gated.{Behaves, CanGate, Gating, gated_by, planned}
+use Rattle.cg_gate_laws.specs.Gated.{CanGate, Gating, gated_by, planned}
 use Rattle.cg_hint_laws.specs.Trying.{Turn as HintTurn}
 use Rattle.cg_hint_laws.specs.declared.hint.Hint.{Hint}
 use Rattle.cg_insert.specs.Insert.{inserted}
@@ -29,7 +28,6 @@ use Rattle.cg_register_text.proofs.TextKept.{text_is_kept}
 use Rattle.cg_register_text.specs.Causes.{Tried, cause_of}
 use Rattle.cg_register_text.specs.Laws.{IsRightCourse}
 use Rattle.cg_register_text.specs.Meaning.{Course, Means, tried_in}
-use Rattle.cg_register_text.specs.Trials.{Trial}
 use Rattle.cg_register_text.specs.Words.{GatedData, IsToldOf, registers_text, tried_of}
 use Rattle.cg_register_text.specs.declared.rises.BothRises.{BothRises}
 

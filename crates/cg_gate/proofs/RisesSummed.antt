@@ -1,5 +1,5 @@
 -- The rises of registers sum up to edges: a netlist has one history on which a stimulus is played.
-use Rattle.std.proofs.Common.{◌≡◌, ℕ, Bool, List, Option, None, Some, refl, sym, ap, ◌∙◌}
+use Rattle.std.proofs.Common.{◌≡◌, ℕ, List, Option, None, Some, refl, sym, ap, ◌∙◌}
 use Rattle.std.specs.Prelude.{sum}
 use Rattle.cg_gate.specs.Played.{EdgesAre, HasEdges, SumUp}
 use Rattle.cg_netlist.proofs.Histories.{has_one_history}

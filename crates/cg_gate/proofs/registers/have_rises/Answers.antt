@@ -1,4 +1,4 @@
-use Rattle.std.proofs.Common.{◌≡◌, List, Option, Some, rules, sym, subst}
+use Rattle.std.proofs.Common.{◌≡◌, Option, Some, rules, sym, subst}
 use Rattle.std.specs.Option.{option_copied}
 use Rattle.cg_register_text.specs.Rises.{RisesWhere}
 use Rattle.cg_register_text.specs.declared.rises.BothRises.{BothRises}

@@ -7,7 +7,7 @@ use Rattle.cg_plan_laws.specs.declared.settings.Settings.{Settings}
 use Rattle.cg_stage_list_laws.specs.HoldList.{hold_width}
 use Rattle.cg_stage_list_laws.specs.Literals.{ZeroCounts}
 use Rattle.cg_register_text.specs.Causes.{is_given}
-use Rattle.cg_register_text.specs.declared.cause.Cause.TheVariants.{Free, Wide}
+use Rattle.cg_register_text.specs.declared.cause.Cause.TheVariants.{Wide}
 use Rattle.cg_register_text.specs.Laws.{CausesMean, IsRightCourse, WidthsAreKept}
 use Rattle.cg_register_text.specs.Meaning.{Course, Means, tried_in}
 use Rattle.cg_register_text.specs.Trials.{givers, last_failed}

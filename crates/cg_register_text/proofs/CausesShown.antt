@@ -1,5 +1,5 @@
 -- What each cause says of its register, each by what was tried for it.
-use Rattle.std.proofs.Common.{◌≡◌, ℕ, ◌+◌, ◌-◌, ◌<◌, Bool, true, false, not, ◌&&◌, ◌||◌, List, [], ◌∷◌, map, length, slice_get, nat_lt, Option, None, Some, is_some, refl, sym, ap, ◌∙◌, subst, arith, inl, inr}
+use Rattle.std.proofs.Common.{◌≡◌, ℕ, ◌<◌, true, false, not, ◌&&◌, List, [], ◌∷◌, length, slice_get, nat_lt, Option, None, Some, is_some, refl, sym, ap, ◌∙◌, arith, inl, inr}
 use Rattle.std.proofs.lemmas.Bool.{and_parts, both_ways, cases_Bool, ltb-false, ltb-true}
 use Rattle.cg_cell.specs.Cell.{CellData}
 use Rattle.cg_claim.specs.LeafBits.{is_never}
@@ -8,23 +8,22 @@ use Rattle.cg_claim.specs.Violates.{violates}
 use Rattle.cg_claim.proofs.ClaimsHold.{hold_never, idle_some}
 use Rattle.cg_claim.proofs.HoldWidths.{hold_widths}
 use Rattle.cg_claim.proofs.Tried.{is_never_says}
-use Rattle.cg_hint_laws.specs.Trying.{Turn as HintTurn, is_inserted as is_inserted_hint}
+use Rattle.cg_hint_laws.specs.Trying.{is_inserted as is_inserted_hint}
 use Rattle.cg_hint_laws.specs.declared.hint.Hint.{Hint}
 use Rattle.cg_machine.specs.Claims.{CanIdle, Hold, Literal}
-use Rattle.cg_machine.specs.Machine.{IsMachine, MachineData, enable_of}
+use Rattle.cg_machine.specs.Machine.{IsMachine, enable_of}
 use Rattle.cg_machine.specs.declared.stage.Stage.{Stage}
 use Rattle.cg_net.specs.NetSets.{is_in}
-use Rattle.cg_plan_laws.specs.Plan.{Turn, plan_of}
+use Rattle.cg_plan_laws.specs.Plan.{plan_of}
 use Rattle.cg_plan_laws.specs.declared.settings.Settings.{Settings}
 use Rattle.cg_stage_laws.specs.Effects.{net_by}
 use Rattle.cg_stage_list_laws.specs.HoldList.{chosen, hold_width, serves}
 use Rattle.cg_stage_list_laws.specs.Literals.{ZeroCounts}
-use Rattle.cg_stage_list_laws.specs.Supports.{input_cone}
 use Rattle.cg_register_text.specs.Causes.{is_given}
 use Rattle.cg_register_text.specs.Laws.{IsRightCourse}
 use Rattle.cg_register_text.specs.Meaning.{AreNumbers, Course, IsFree, IsGated, IsGiven, IsTooWide, IsTriedInHint, IsTriedInStage, IsUngated, after_hints, hint_gave, hint_net, hint_turn_trial, stage_gave, stage_net, tried_in, turn_trial}
 use Rattle.cg_register_text.specs.Trials.{gave, givers, last_failed}
-use Rattle.cg_register_text.proofs.CourseFacts.{began_enable, began_of, ended_enable, ended_of, from_netlist, left_by_hints}
+use Rattle.cg_register_text.proofs.CourseFacts.{began_enable, began_of, ended_enable, from_netlist, left_by_hints}
 use Rattle.cg_register_text.proofs.HoldChosen.{HasStage, free_listed, has_stage, none_serves}
 use Rattle.cg_register_text.proofs.LeftEnables.{left_none, left_some}
 use Rattle.cg_register_text.proofs.StageTurns.{HasTurn, hold_has_turn}

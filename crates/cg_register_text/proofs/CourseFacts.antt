@@ -1,15 +1,15 @@
 -- What the course of hints and of a plan keeps: the netlist's machine, and the enables that its hints and stages give.
-use Rattle.std.proofs.Common.{◌≡◌, ℕ, ◌<◌, ◌≤◌, Bool, true, false, List, [], ◌∷◌, map, length, slice_get, Option, None, Some, Ok, is_some, refl, sym, ap, ◌∙◌, subst, arith}
+use Rattle.std.proofs.Common.{◌≡◌, ℕ, ◌<◌, List, length, Option, sym, ap, ◌∙◌, subst, arith}
 use Rattle.cg_cell.specs.Cell.{CellData}
-use Rattle.cg_extract.specs.Lifted.{bare, lifted}
+use Rattle.cg_extract.specs.Lifted.{bare}
 use Rattle.cg_hint_laws.specs.Laws.{AllFit, AreSafe}
-use Rattle.cg_hint_laws.specs.Trying.{Hinted, Turn as HintTurn}
+use Rattle.cg_hint_laws.specs.Trying.{Hinted}
 use Rattle.cg_hint_laws.specs.declared.hint.Hint.{Hint}
 use Rattle.cg_hint_laws.proofs.AllSafe.{hints_are_safe}
 use Rattle.cg_machine.specs.Added.{own_netlist}
 use Rattle.cg_machine.specs.Machine.{IsMachine, MachineData, enable_of}
 use Rattle.cg_machine.proofs.OwnKept.{machine_front}
-use Rattle.cg_plan_laws.specs.Plan.{Turn, plan_of}
+use Rattle.cg_plan_laws.specs.Plan.{plan_of}
 use Rattle.cg_plan_laws.specs.declared.settings.Settings.{Settings}
 use Rattle.cg_plan_laws.proofs.AllSafe.{plans_safe}
 use Rattle.cg_plan_laws.proofs.PlanKeeps.{plan_keeps}

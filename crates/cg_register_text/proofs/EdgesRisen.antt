@@ -1,10 +1,9 @@
 -- The rises of the registers of a netlist are its edges.
-use Rattle.std.proofs.Common.{◌≡◌, ℕ, ◌+◌, Bool, true, false, cond, if◌then◌else◌, List, [], ◌∷◌, map, Option, None, Some, refl, sym, ap, ◌∙◌, arith}
+use Rattle.std.proofs.Common.{◌≡◌, ℕ, ◌+◌, if◌then◌else◌, List, [], ◌∷◌, Option, None, Some, refl, ap, ◌∙◌, arith}
 use Rattle.std.specs.List.{count_by, sum_by}
-use Rattle.std.specs.Prelude.{sum}
 use Rattle.std.proofs.lemmas.List.Sums.{sum-map, sum_by-cons}
 use Rattle.cg_netlist.specs.Circuit.{Circuit, RegisterCell}
-use Rattle.cg_netlist.specs.History.{Moment, edges, edges_from, rises}
+use Rattle.cg_netlist.specs.History.{Moment, edges_from, rises}
 use Rattle.cg_register_text.specs.Laws.{RisesAreEdges}
 use Rattle.cg_register_text.specs.Rises.{rises_from}
 

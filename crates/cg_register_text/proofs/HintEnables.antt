@@ -1,5 +1,5 @@
 -- The enables that hints leave.
-use Rattle.std.proofs.Common.{◌≡◌, ℕ, zero, suc, ◌<◌, ◌≤◌, Bool, true, false, ◌&&◌, if◌then◌else◌, List, [], ◌∷◌, length, slice_get, Option, None, Some, Result, Ok, Err, refl, sym, ap, ◌∙◌, subst, arith, inl, inr}
+use Rattle.std.proofs.Common.{◌≡◌, ℕ, zero, suc, ◌<◌, true, ◌&&◌, if◌then◌else◌, List, [], ◌∷◌, length, slice_get, Some, Ok, refl, sym, ap, ◌∙◌, subst, arith, inl, inr}
 use Rattle.std.proofs.lemmas.Bool.{cases_Bool}
 use Rattle.std.proofs.lemmas.Option.{none-some}
 use Rattle.cg_cell.specs.Cell.{CellData}
@@ -19,8 +19,7 @@ use Rattle.cg_machine.specs.Added.{Added}
 use Rattle.cg_machine.specs.Machine.{IsMachine, MachineData, enable_of}
 use Rattle.cg_net.specs.NetSets.{is_in}
 use Rattle.cg_stage_laws.specs.Joined.{enabled}
-use Rattle.cg_register_text.specs.Meaning.{after_hints, hint_net, hint_turn_trial, net_of}
-use Rattle.cg_register_text.specs.Trials.{gave}
+use Rattle.cg_register_text.specs.Meaning.{after_hints, hint_net, net_of}
 
 -- what a hint that is inserted adds
 record Adds (m : MachineData) (h : Hint) (n : MachineData) : Type 0 where

@@ -1,7 +1,6 @@
 -- Hints and their turns, and hints as they are told.
-use Rattle.std.proofs.Common.{◌≡◌, ℕ, Bool, true, false, List, [], ◌∷◌, map, Ok, refl, sym, ap, ◌∙◌, subst}
-use Rattle.cg_cell.specs.Cell.{CellData}
-use Rattle.cg_hint_laws.specs.Answers.{AreShown, without_bits}
+use Rattle.std.proofs.Common.{◌≡◌, [], ◌∷◌, map, refl, sym, ap, ◌∙◌}
+use Rattle.cg_hint_laws.specs.Answers.{without_bits}
 use Rattle.cg_hint_laws.specs.Effects.{and_then}
 use Rattle.cg_hint_laws.specs.Trying.{Hinted, Turn, after_outcome, hinted, is_inserted, tried, with_turn}
 use Rattle.cg_hint_laws.specs.declared.hint.Hint.{Hint}
@@ -9,7 +8,6 @@ use Rattle.cg_hint_laws.specs.declared.outcome.HintOutcome.{HintOutcome}
 use Rattle.cg_hint_laws.specs.declared.outcome.HintOutcome.TheVariants.{Inserted, NeverIdle, NoCell, Refuted, Taken, Wide}
 use Rattle.cg_hint_laws.proofs.Additions.{and_then_ok}
 use Rattle.cg_machine.specs.Machine.{MachineData}
-use Rattle.cg_netlist.specs.Moment.{zip_with}
 use Rattle.cg_register_text.specs.Meaning.{hint_turn_trial}
 use Rattle.cg_register_text.specs.Trials.{hint_trial, hint_trials}
 use Rattle.cg_register_text.specs.Laws.{HintsAreTold, HintsStand}

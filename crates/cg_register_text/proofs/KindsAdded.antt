@@ -1,9 +1,9 @@
 -- The sums of the kinds of causes add up.
-use Rattle.std.proofs.Common.{◌≡◌, ℕ, ◌+◌, Bool, true, false, cond, List, [], ◌∷◌, length, refl, sym, ◌∙◌, arith}
+use Rattle.std.proofs.Common.{◌≡◌, ℕ, ◌+◌, Bool, cond, List, [], ◌∷◌, length, refl, ◌∙◌, arith}
 use Rattle.std.specs.List.{count_by}
 use Rattle.std.proofs.lemmas.List.FromFn.{length-map-range_with_len}
 use Rattle.std.proofs.lemmas.List.Sums.{sum_by-cons}
-use Rattle.cg_register_text.specs.Causes.{Tried, cause_of, causes_of}
+use Rattle.cg_register_text.specs.Causes.{cause_of, causes_of}
 use Rattle.cg_register_text.specs.Laws.{KindsAddUp, of_kinds}
 use Rattle.cg_register_text.specs.Words.{is_free, is_gated, is_given, is_tried, is_wide}
 use Rattle.cg_register_text.specs.declared.cause.Cause.{Cause}

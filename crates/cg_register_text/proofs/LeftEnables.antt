@@ -1,5 +1,5 @@
 -- The enable that is left of one by what gives others.
-use Rattle.std.proofs.Common.{◌≡◌, ℕ, zero, suc, ◌+◌, Bool, true, false, if◌then◌else◌, List, [], ◌∷◌, map, slice_get, Option, None, Some, refl, sym, ap, ◌∙◌}
+use Rattle.std.proofs.Common.{◌≡◌, ℕ, suc, ◌+◌, Bool, true, false, if◌then◌else◌, List, [], ◌∷◌, map, slice_get, Option, Some, refl, ◌∙◌}
 use Rattle.cg_register_text.specs.Meaning.{left_by}
 use Rattle.cg_register_text.specs.Trials.{Trial, numbers_from}
 

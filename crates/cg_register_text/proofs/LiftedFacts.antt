@@ -1,8 +1,8 @@
 -- What the machine of a netlist keeps of it: its own netlist, and which registers are on gating cells.
-use Rattle.std.proofs.Common.{◌≡◌, ℕ, ◌<◌, Bool, true, false, List, length, slice_get, Option, None, Some, is_some, refl, sym, ap, ◌∙◌, inl, inr}
+use Rattle.std.proofs.Common.{◌≡◌, ℕ, ◌<◌, false, List, length, Option, None, Some, is_some, refl, sym, ap, ◌∙◌, inl, inr}
 use Rattle.std.specs.Option.{option_map_or}
 use Rattle.std.specs.List.{All}
-use Rattle.std.proofs.lemmas.Bool.{cases_Bool, both_ways}
+use Rattle.std.proofs.lemmas.Bool.{cases_Bool}
 use Rattle.cg_extract.specs.Lifted.{CanExtract, bare, enable_under, lifted, lifting}
 use Rattle.cg_extract.proofs.ForGating.{bare_is_netlist, lifted_own}
 use Rattle.cg_extract.proofs.LiftedMachine.{enable_is, gater_taken, lifted_is_machine, lifted_is_small}
@@ -11,7 +11,6 @@ use Rattle.cg_machine.specs.Added.{own_netlist}
 use Rattle.cg_machine.specs.Machine.{IsMachine, MachineData, enable_of}
 use Rattle.cg_net.specs.NetSets.{is_in}
 use Rattle.cg_netlist.specs.Circuit.{Circuit, RegisterCell, gater_outputs, used_nets}
-use Rattle.cg_netlist.specs.Netlist.{IsNetlist}
 use Rattle.cg_netlist.specs.WellFormed.{IsDriven}
 use Rattle.cg_netlist.proofs.Values.{element_at}
 use Rattle.cg_register_text.specs.Causes.{is_given}

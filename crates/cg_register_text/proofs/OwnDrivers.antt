@@ -1,10 +1,10 @@
 -- Each net of a machine's own netlist has its driver there: no added gate and no delay register has such a net as its output.
-use Rattle.std.proofs.Common.{◌≡◌, ℕ, zero, suc, ◌+◌, ◌<◌, ◌≤◌, Bool, true, false, ◌||◌, List, [], ◌∷◌, ◌++◌, length, map, take, slice_get, nat_eq}
-use Rattle.std.proofs.Common.{Option, None, Some, refl, sym, ap, ◌∙◌, subst, arith, inl, inr}
-use Rattle.std.specs.List.{All, flat_map}
+use Rattle.std.proofs.Common.{◌≡◌, ℕ, suc, ◌<◌, ◌≤◌, Bool, true, false, List, [], ◌∷◌, length, slice_get}
+use Rattle.std.proofs.Common.{Option, Some, refl, sym, ap, ◌∙◌, subst, arith, inl, inr}
+use Rattle.std.specs.List.{flat_map}
 use Rattle.std.specs.Option.{option_map_or}
-use Rattle.std.proofs.lemmas.Bool.{both_ways, false_from_ne_true, ne_eqb}
-use Rattle.std.proofs.lemmas.Option.{none-some, same_Some, slice_get_within}
+use Rattle.std.proofs.lemmas.Bool.{both_ways, ne_eqb}
+use Rattle.std.proofs.lemmas.Option.{same_Some}
 use Rattle.cg_machine.specs.Added.{own_netlist}
 use Rattle.cg_machine.specs.Machine.{IsMachine, MachineData}
 use Rattle.cg_net.specs.NetSets.{is_in}
@@ -17,7 +17,6 @@ use Rattle.cg_netlist.specs.declared.driver.Driver.{Driver}
 use Rattle.cg_netlist.specs.declared.driver.Driver.TheVariants.{Cell, Clock, Gater, Input, Register}
 use Rattle.cg_netlist.proofs.Given.{Clock as IsClock, Data, Gate, Kind, Shown, kind_of}
 use Rattle.cg_netlist.proofs.Values.{under_map}
-use Rattle.cg_netlist_cone.specs.inner.Reaching.{register_shows}
 use Rattle.cg_netlist_cone.proofs.OneDriver.{cell_driver, is_register, register_driver}
 
 -- an item that has a net among its nets

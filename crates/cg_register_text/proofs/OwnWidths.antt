@@ -1,31 +1,31 @@
 -- How wide the hold claims of a register without an enable are is told by the machine's own netlist alone.
-use Rattle.std.proofs.Common.{◌≡◌, ℕ, zero, suc, ◌+◌, ◌-◌, ◌<◌, ◌≤◌, Bool, true, false, not, ◌&&◌, ◌||◌, cond, if◌then◌else◌, List, [], ◌∷◌, ◌++◌}
-use Rattle.std.proofs.Common.{length, map, take, slice_get, nat_eq, Option, None, Some, is_some, refl, sym, ap, ◌∙◌, subst, arith, inl, inr, append-nil}
+use Rattle.std.proofs.Common.{◌≡◌, ℕ, zero, suc, ◌+◌, ◌-◌, ◌<◌, ◌≤◌, Bool, true, false, ◌&&◌, ◌||◌, cond, List, [], ◌∷◌, ◌++◌}
+use Rattle.std.proofs.Common.{length, map, slice_get, nat_eq, Option, None, Some, refl, sym, ap, ◌∙◌, arith, append-nil}
 use Rattle.std.specs.List.{All, filter, flat_map, list_any, range_with_len}
 use Rattle.std.specs.Option.{option_map_or, option_to_list}
 use Rattle.std.specs.Cmp.{both_ways as same_bools}
 use Rattle.std.proofs.lemmas.Bool.{both_ways, false_from_ne_true, ne_eqb, or_cases, or_from}
 use Rattle.std.proofs.lemmas.List.{length-append, length-map, length-take-le}
 use Rattle.std.proofs.lemmas.List.Elements.{filter-append}
-use Rattle.cg_claim.specs.Leaves.{is_reached, leaves_at, leaves_of, sources, width_of}
-use Rattle.cg_claim.specs.Question.{Before, After, Changed, Question, held_question}
-use Rattle.cg_claim.specs.Reach.{after_states, before_nets, before_states, feeds, inputs_of_register, next_asks_own, next_nets, origin_asks, origin_nets, registers_of, sides_ask}
+use Rattle.cg_claim.specs.Leaves.{is_reached}
+use Rattle.cg_claim.specs.Question.{Before, held_question}
+use Rattle.cg_claim.specs.Reach.{after_states, before_nets, feeds, inputs_of_register, next_asks_own, next_nets, origin_asks, origin_nets, registers_of, sides_ask}
 use Rattle.cg_claim.specs.declared.leaf.LeafSource.{LeafSource}
 use Rattle.cg_claim.specs.declared.leaf.LeafSource.TheVariants.{Input as InputOf, Register as RegisterOf}
 use Rattle.cg_claim.proofs.OneCopy.{IsOneCopy, filter_none, hold_one, leaves_one}
 use Rattle.cg_machine.specs.Added.{own_netlist}
 use Rattle.cg_machine.specs.Machine.{IsMachine, MachineData, enable_of, walk_of}
-use Rattle.cg_machine.proofs.Lists.{below_range, take_get}
+use Rattle.cg_machine.proofs.Lists.{take_get}
 use Rattle.cg_net.specs.NetSets.{is_in}
 use Rattle.cg_net.proofs.Members.{All-member}
-use Rattle.cg_netlist.specs.Circuit.{Circuit, LogicCell, RegisterCell, data_inputs, shown_nets, used_nets}
+use Rattle.cg_netlist.specs.Circuit.{Circuit, RegisterCell, data_inputs, shown_nets, used_nets}
 use Rattle.cg_netlist.specs.WellFormed.{IsDriven}
 use Rattle.cg_netlist.proofs.Used.{data_is_used, input_is_used}
 use Rattle.cg_netlist.proofs.Driven.{in_range}
 use Rattle.cg_netlist_cone.specs.Cone.{IsInCone, Reaches, cone_of, here, through}
 use Rattle.cg_netlist_cone.proofs.Cones.{cone_is}
 use Rattle.cg_stage_list_laws.specs.HoldList.{hold_width}
-use Rattle.cg_register_text.proofs.OwnDrivers.{delay_apart, front_cell, front_register, own_cell}
+use Rattle.cg_register_text.proofs.OwnDrivers.{delay_apart, front_cell, own_cell}
 
 range_parts : (s x y : ℕ) → range_with_len s (x + y) ≡ range_with_len s x ++ range_with_len (s + x) y
 range_parts s zero y = ap (range_with_len s) (let z : 0 + y ≡ y = omega arith in z) ∙ ap (λ a. range_with_len a y) (let e : s ≡ s + 0 = omega arith in e)

@@ -1,6 +1,6 @@
 -- What was tried for each register, trial by trial.
-use Rattle.std.proofs.Common.{◌≡◌, ◌≢◌, ℕ, zero, suc, ◌+◌, ◌<◌, ◌≤◌, Bool, true, false, not, ◌&&◌, ◌||◌, if◌then◌else◌, cond, List, [], ◌∷◌, ◌++◌}
-use Rattle.std.proofs.Common.{length, map, replicate, take, slice_get, slice_set, nat_eq, nat_lt, Option, None, Some, refl, sym, ap, ◌∙◌, subst, arith, inl, inr}
+use Rattle.std.proofs.Common.{◌≡◌, ◌≢◌, ℕ, zero, suc, ◌+◌, ◌<◌, Bool, true, false, not, ◌&&◌, ◌||◌, if◌then◌else◌, List, [], ◌∷◌, ◌++◌}
+use Rattle.std.proofs.Common.{length, replicate, take, slice_get, slice_set, nat_eq, nat_lt, Option, None, Some, refl, sym, ap, ◌∙◌, arith, inl, inr}
 use Rattle.std.specs.Option.{option_map_or}
 use Rattle.std.proofs.lemmas.Bool.{eq-eqb, lt-ltb, ne_eqb, or_left}
 use Rattle.std.proofs.lemmas.List.{length-replicate, length-set, length-take-le}
@@ -9,7 +9,7 @@ use Rattle.cg_net.specs.NetSets.{is_in}
 use Rattle.cg_net.proofs.Members.{is_in-append, is_in_right}
 use Rattle.cg_net.proofs.TableLemmas.{same_or_not, slice_get-set_other, slice_get-set_same, take_next}
 use Rattle.cg_register_text.specs.declared.seen.Seen.{Seen}
-use Rattle.cg_register_text.specs.Trials.{Trial, failed, gave, givers, has, last_failed, last_of, numbers_from}
+use Rattle.cg_register_text.specs.Trials.{Trial, failed, gave, givers, last_failed, last_of, numbers_from}
 use Rattle.cg_register_text.specs.inner.Seeing.{AreNoted, AreSeen, ends_with, noted, noted_at, seen_of, unseen, with_number}
 
 -- the last of some numbers

@@ -1,9 +1,8 @@
 -- Stages as they are told are the trials of their turns.
-use Rattle.std.proofs.Common.{◌≡◌, ℕ, Bool, true, false, List, [], ◌∷◌, map, refl, sym, ap, ◌∙◌}
+use Rattle.std.proofs.Common.{◌≡◌, [], ◌∷◌, refl, sym, ap, ◌∙◌}
 use Rattle.cg_machine.specs.declared.stage.Stage.{Stage}
-use Rattle.cg_plan_laws.specs.Plan.{Turn, is_inserted}
-use Rattle.cg_plan_laws.specs.Reported.{AreTold, without_bits}
-use Rattle.cg_plan_laws.specs.Trying.{Ends}
+use Rattle.cg_plan_laws.specs.Plan.{is_inserted}
+use Rattle.cg_plan_laws.specs.Reported.{without_bits}
 use Rattle.cg_plan_laws.specs.declared.outcome.Outcome.{Outcome}
 use Rattle.cg_plan_laws.specs.declared.outcome.Outcome.TheVariants.{Inserted, NeverIdle, NoCell, Refuted, Small, Wide}
 use Rattle.cg_register_text.specs.Laws.{StagesAreTold}

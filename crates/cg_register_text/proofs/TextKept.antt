@@ -1,5 +1,5 @@
 -- The text is the same on the plan's machine as on the one with which the plan began.
-use Rattle.std.proofs.Common.{◌≡◌, ℕ, zero, suc, ◌+◌, ◌<◌, ◌≤◌, List, [], ◌∷◌, ◌++◌, length, map, Option, refl, sym, ap, ◌∙◌, subst, arith}
+use Rattle.std.proofs.Common.{◌≡◌, ℕ, zero, suc, ◌+◌, ◌<◌, List, [], ◌∷◌, ◌++◌, length, map, Option, refl, sym, ap, ◌∙◌, subst, arith}
 use Rattle.std.specs.List.{range_with_len}
 use Rattle.std.specs.Prelude.{codes}
 use Rattle.cg_machine.specs.Machine.{MachineData}
@@ -7,7 +7,6 @@ use Rattle.cg_plan_text.specs.Words.{Word, register_word}
 use Rattle.cg_text.specs.Written.{text_of}
 use Rattle.cg_register_text.specs.Causes.{Tried, cause_of, causes_of}
 use Rattle.cg_register_text.specs.Laws.{TextIsKept}
-use Rattle.cg_register_text.specs.Meaning.{tried_in}
 use Rattle.cg_register_text.specs.Words.{GatedData, cause_words, clock_word, line_words, register_edges, sums_words, tried_of}
 use Rattle.cg_register_text.specs.declared.cause.Cause.{Cause}
 use Rattle.cg_register_text.specs.declared.cause.Cause.TheVariants.{Free, Gated, Given, Hint, Stage, Wide}

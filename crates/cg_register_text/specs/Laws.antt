@@ -12,7 +12,6 @@ use Rattle.cg_machine.specs.Machine.{MachineData}
 use Rattle.cg_machine.specs.declared.stage.Stage.{Stage}
 use Rattle.cg_netlist.specs.Circuit.{Circuit}
 use Rattle.cg_netlist.specs.History.{Moment, edges}
-use Rattle.cg_netlist.specs.declared.fault.AddFault.{AddFault}
 use Rattle.cg_plan_laws.specs.Plan.{Turn}
 use Rattle.cg_plan_laws.specs.Reported.{AreTold}
 use Rattle.cg_plan_laws.specs.declared.outcome.Outcome.{Outcome}

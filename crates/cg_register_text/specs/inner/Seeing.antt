@@ -1,6 +1,6 @@
 -- What was tried for each register, as it is noted trial by trial.
 use Rattle.std.specs.Prelude.{◌≡◌, ◌<◌, ◌==◌, ℕ, Bool, false, if◌then◌else◌, List, [], ◌∷◌, ◌++◌, length, slice_get, slice_set, nat_lt}
-use Rattle.std.specs.Prelude.{Option, None, Some}
+use Rattle.std.specs.Prelude.{None, Some}
 use Rattle.std.specs.Option.{option_map_or}
 use Rattle.cg_net.specs.NetSets.{is_in}
 use Rattle.cg_register_text.specs.Trials.{Trial, givers, last_failed, last_of}

@@ -1,11 +1,9 @@
-use Rattle.std.proofs.Common.{◌≡◌, Bool, List, slice_get, Option, Some, unwrap_or, ap, sym, ◌∙◌}
+use Rattle.std.proofs.Common.{◌≡◌, slice_get, Some, unwrap_or, ap, sym, ◌∙◌}
 use Rattle.std.proofs.lemmas.Option.{same_Some}
 use Rattle.cg_stage_list_laws.specs.HoldList.{hold_width}
-use Rattle.cg_register_text.specs.Causes.{Tried, cause_of, is_given}
+use Rattle.cg_register_text.specs.Causes.{Tried, is_given}
 use Rattle.cg_register_text.specs.Trials.{last_failed}
 use Rattle.cg_register_text.specs.Words.{GatedData, tried_of}
-use Rattle.cg_register_text.specs.declared.cause.Cause.{Cause}
-use Rattle.cg_register_text.specs.declared.seen.Seen.{Seen}
 use Rattle.cg_register_text.specs.inner.Finding.{cause_by_width, cause_seen}
 use Rattle.cg_register_text.specs.inner.Seeing.{seen_of}
 use Rattle.cg_register_text.proofs.Found.{cause_found}

@@ -1,4 +1,4 @@
-use Rattle.std.proofs.Common.{◌≡◌, ◌++◌, ℕ, List, [], ◌∷◌, ap, sym, ◌∙◌, map}
+use Rattle.std.proofs.Common.{◌++◌, ℕ, [], ◌∷◌, ap, sym, ◌∙◌, map}
 use Rattle.std.specs.List.{range_with_len}
 use Rattle.cg_register_text.specs.Causes.{cause_of}
 use Rattle.cg_register_text.specs.Words.{tried_of}

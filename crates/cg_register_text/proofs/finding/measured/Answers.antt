@@ -1,8 +1,7 @@
-use Rattle.std.proofs.Common.{◌≡◌, ◌<◌, ◌≤◌, ℕ, Bool, true, false, if◌then◌else◌, nat_lt, ap, sym, ◌∙◌, arith}
+use Rattle.std.proofs.Common.{◌≡◌, true, false, if◌then◌else◌, nat_lt, ap, sym, ◌∙◌, arith}
 use Rattle.std.proofs.lemmas.Bool.{le-ltb, lt-ltb}
 use Rattle.cg_stage_list_laws.specs.HoldList.{hold_width}
 use Rattle.cg_register_text.specs.Words.{GatedData}
-use Rattle.cg_register_text.specs.declared.cause.Cause.{Cause}
 use Rattle.cg_register_text.specs.declared.cause.Cause.TheVariants.{Wide}
 use Rattle.cg_register_text.specs.inner.Finding.{cause_by_width, or_free}
 use Rattle.cg_register_text.proofs.finding.measured.Goals as goal

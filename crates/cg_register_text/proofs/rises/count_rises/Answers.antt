@@ -1,4 +1,4 @@
-use Rattle.std.proofs.Common.{◌∙◌, sym, arith}
+use Rattle.std.proofs.Common.{arith}
 use Rattle.cg_register_text.proofs.RisesOn.{counted_all}
 use Rattle.cg_register_text.proofs.rises.count_rises.Goals as goal
 

@@ -1,4 +1,4 @@
-use Rattle.std.proofs.Common.{◌≤◌, ◌*◌, List, ℕ, subst, sym}
+use Rattle.std.proofs.Common.{◌≤◌, ◌*◌, subst, sym}
 use Rattle.std.specs.List.{All}
 use Rattle.cg_limit.specs.declared.TheConstants.{MOST_ROWS}
 use Rattle.cg_register_text.proofs.RisesOn.{all_more, row_counts}

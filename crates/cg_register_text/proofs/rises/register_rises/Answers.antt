@@ -1,11 +1,8 @@
 use Rattle.std.proofs.Common.{◌≡◌, ◌<◌, ◌≤◌, ◌*◌, ◌+◌, ℕ, List, drop, length, subst, sym, ◌∙◌, ap, arith}
 use Rattle.std.specs.List.{All}
 use Rattle.cg_limit.specs.declared.TheConstants.{MOST_ROWS}
-use Rattle.cg_netlist.specs.History.{Moment}
 use Rattle.cg_report.proofs.PlayedOn.{take_front}
 use Rattle.cg_report.proofs.RowOn.{has_row}
-use Rattle.cg_stimulus.specs.Played.{IsPlayed}
-use Rattle.cg_register_text.specs.Rises.{rises_of}
 use Rattle.cg_register_text.specs.inner.RiseCounting.{CountRises, CountsMoment, CountsRow}
 use Rattle.cg_register_text.proofs.RisesOn.{few_rises, rises_all, rises_none, rises_row}
 use Rattle.cg_register_text.proofs.rises.register_rises.Goals as goal

@@ -1,8 +1,6 @@
-use Rattle.std.proofs.Common.{◌≡◌, ◌+◌, take, sym, ◌∙◌, ap, subst, ◌++◌, [], ◌∷◌, Some, List}
+use Rattle.std.proofs.Common.{◌≡◌, ◌+◌, take, sym, ◌∙◌, ap, ◌++◌, [], ◌∷◌, Some}
 use Rattle.std.proofs.lemmas.Option.{slice_get-get_or}
 use Rattle.cg_net.proofs.TableLemmas.{take_next}
-use Rattle.cg_register_text.specs.inner.Seeing.{AreNoted}
-use Rattle.cg_register_text.specs.declared.seen.Seen.{Seen}
 use Rattle.cg_register_text.proofs.SeenTrials.{noted_more}
 use Rattle.cg_register_text.proofs.seen.note_all.Goals as goal
 

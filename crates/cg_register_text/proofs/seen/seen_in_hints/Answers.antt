@@ -1,4 +1,4 @@
-use Rattle.std.proofs.Common.{◌≡◌, ◌+◌, ◌<◌, take, drop, length, sym, ◌∙◌, ap, subst, Some, List, arith}
+use Rattle.std.proofs.Common.{◌≡◌, ◌+◌, ◌<◌, take, drop, length, sym, ◌∙◌, ap, subst, Some, arith}
 use Rattle.std.proofs.lemmas.List.{take_all}
 use Rattle.std.proofs.lemmas.Option.{slice_get-get_or}
 use Rattle.cg_netlist.proofs.Values.{length-zip_with, zip_with_at}
@@ -7,7 +7,6 @@ use Rattle.cg_hint_laws.specs.Trying.{is_inserted}
 use Rattle.cg_hint_laws.specs.declared.hint.Hint.{Hint}
 use Rattle.cg_register_text.specs.inner.Seeing.{AreNoted, AreSeen}
 use Rattle.cg_register_text.specs.Trials.{hint_trial, hint_trials}
-use Rattle.cg_register_text.specs.declared.seen.Seen.{Seen}
 use Rattle.cg_register_text.proofs.SeenTrials.{seen_on}
 use Rattle.cg_register_text.proofs.seen.seen_in_hints.Goals as goal
 

@@ -1,11 +1,10 @@
-use Rattle.std.proofs.Common.{◌≡◌, ◌+◌, ◌<◌, take, drop, length, map, slice_get, sym, ◌∙◌, ap, subst, Some, List, arith}
+use Rattle.std.proofs.Common.{◌≡◌, ◌+◌, take, drop, length, slice_get, sym, ◌∙◌, ap, subst, Some}
 use Rattle.std.specs.Option.{option_map}
 use Rattle.std.proofs.lemmas.Option.{slice_get-get_or, slice_get-map}
 use Rattle.cg_report.proofs.PlayedOn.{take_front}
 use Rattle.cg_plan_laws.specs.Plan.{is_inserted}
 use Rattle.cg_register_text.specs.inner.Seeing.{AreNoted, AreSeen}
 use Rattle.cg_register_text.specs.Trials.{stage_trial, stage_trials}
-use Rattle.cg_register_text.specs.declared.seen.Seen.{Seen}
 use Rattle.cg_register_text.proofs.SeenTrials.{seen_on}
 use Rattle.cg_register_text.proofs.seen.seen_in_stages.Goals as goal
 

@@ -1,9 +1,9 @@
-use Rattle.std.proofs.Common.{◌≡◌, ◌++◌, ◌+◌, ◌-◌, ◌<◌, ℕ, List, [], ◌∷◌, ap, sym, ◌∙◌, map, get_or, length, slice_get, Some, arith, append_assoc}
+use Rattle.std.proofs.Common.{◌≡◌, ◌++◌, ◌+◌, ◌-◌, ℕ, List, ap, sym, ◌∙◌, map, get_or, length, slice_get, Some, arith, append_assoc}
 use Rattle.std.specs.List.{range_with_len}
 use Rattle.std.specs.Option.{option_copied}
 use Rattle.std.proofs.lemmas.Option.{same_Some, slice_get-get_or, slice_get_within}
 use Rattle.cg_text.specs.Written.{line_text, text_of}
-use Rattle.cg_register_text.specs.Causes.{cause_of, causes_of}
+use Rattle.cg_register_text.specs.Causes.{cause_of}
 use Rattle.cg_register_text.specs.Words.{GatedData, line_words, tried_of}
 use Rattle.cg_register_text.specs.declared.cause.Cause.{Cause}
 use Rattle.cg_register_text.specs.declared.cause.Cause.TheVariants.{Gated}

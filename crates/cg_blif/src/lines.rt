@@ -1,4 +1,5 @@
-//! The lines of a text: the physical ones, what of each is read, and the logical ones as words.
+//! The lines of a text: the physical ones, what of each is read, and the logical ones as words. They are cut where a byte of some
+//! kind stands first, which is looked for sixteen bytes at a time.
 
 ghost use Rattle.std.specs.Prelude.{◌≡◌, ◌+◌, ◌∷◌, ◌<◌, ◌==◌, [], length, MatchOption, not, IfSome, true, IfOk, IfErr, OnOk, ℕ, ◌≤◌, false, slice_index};
 ghost use Rattle.std.specs.List.{AllPass, before_first, list_all, position_or_len};
@@ -334,7 +335,7 @@ fn run_before(text: &[u8], from: usize, value: u8) -> usize
 }
 
 /// How many bytes stand before the first blank, or in all where there is none.
-pub fn first_blank(text: &[u8]) -> usize
+fn first_blank(text: &[u8]) -> usize
     ensures within { result ≤ length text.now }
     ensures before { (k : ℕ) → k < result → is_blank Controls (slice_index text.now k) ≡ false }
     ensures ends { result < length text.now → is_blank Controls (slice_index text.now result) ≡ true }

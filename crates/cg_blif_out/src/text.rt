@@ -1,4 +1,4 @@
-//! The text of a netlist, part by part, and what the line of each part says.
+//! The text of a netlist, part by part: what the line of each part says, a statement as a line, and the rows of a cover.
 
 ghost use Rattle.std.specs.Prelude.{◌≡◌, ◌++◌, List, None, IfOk, OnOk, ◌<◌, ℕ, Some, length, slice_get, ◌≤◌, map, slice_index, ◌∷◌, [], Option, unwrap_or};
 ghost use Rattle.std.specs.List.{flat_map};
@@ -302,7 +302,7 @@ fn words<'a>(
 }
 
 /// Appends the line of a statement. The init of a register is one digit.
-pub fn push_statement(out: &mut Vec<u8>, statement: &Statement<'_>) -> Result<(), AllocError>
+fn push_statement(out: &mut Vec<u8>, statement: &Statement<'_>) -> Result<(), AllocError>
     requires { HasDigit statement.now }
     ensures { OnOk result (out.new.items ≡ out.old.items ++ line_text (statement_line statement.now)) }
 {
@@ -422,7 +422,7 @@ fn push_pin(out: &mut Vec<u8>, pin: &PinWord<'_>) -> Result<(), AllocError>
 }
 
 /// Appends the rows of a cover, each as a line.
-pub fn push_rows(out: &mut Vec<u8>, cover: &Cover) -> Result<(), AllocError>
+fn push_rows(out: &mut Vec<u8>, cover: &Cover) -> Result<(), AllocError>
     ensures { OnOk result (out.new.items ≡ out.old.items ++ rows_text cover.now.on cover.now.rows) }
 {
     push_rows_on(out, cover.rows(), cover.on())

@@ -1,4 +1,4 @@
-//! The machine of a netlist with gating cells, which become enables.
+//! A netlist without its gating cells, with the numbers that its nets get, and its machine, in which gating cells are enables.
 
 ghost use Rattle.std.specs.Prelude.{◌≡◌, IfOk, ◌<◌, ℕ, None, Some, length, replicate, nat_eq, slice_get, [], ◌≤◌, ◌+◌, ◌^◌, true, slice_index_or};
 ghost use Rattle.cg_extract.specs.Extracting.{extracted};
@@ -27,9 +27,13 @@ use cg_net::id::{CellId, GateClockId, NetId, RegId};
 use cg_net::names::{NetNames, OrderedNames};
 use cg_netlist::fault::AddFault;
 use cg_netlist::netlist::Netlist;
-use cg_netlist::parts::{Function, Logic, LogicFunction, Parts, RegKind, RegView, Register, RegisterKind};
+use cg_netlist::parts::{
+    Function, Logic, LogicFunction, Parts, RegKind, RegView, Register, RegisterKind,
+};
 use cg_netlist_builder::builder::Builder;
-use cg_netlist_telling::parts::{NetlistNames, clock_or_first, tell_cells, tell_clock, tell_inputs, tell_outputs, tell_register};
+use cg_netlist_telling::parts::{
+    NetlistNames, clock_or_first, tell_cells, tell_clock, tell_inputs, tell_outputs, tell_register,
+};
 use std::alloc::{AllocError, Global};
 
 /// A machine that was made of a netlist with gating cells.
@@ -162,7 +166,7 @@ fn take(
 
 /// The netlist without its gating cells: its logic cells and registers in their order, every register on the clock, and all its
 /// nets but the outputs of gating cells.
-pub(crate) fn bare(alloc: Global, netlist: &Netlist) -> Result<Netlist, AllocError>
+fn bare(alloc: Global, netlist: &Netlist) -> Result<Netlist, AllocError>
     requires { IsDistinct nat_eq netlist.now.outputs }
     ensures { IfOk result (λ kept. kept ≡ bare netlist.now) }
 {

@@ -1,4 +1,4 @@
-//! A netlist is gated.
+//! A netlist is gated, and the texts that this gives.
 
 ghost use Rattle.std.specs.Prelude.{◌≡◌, true, None, Some, is_some, IfOk, IfErr, OnOk, [], length, unwrap_or};
 ghost use Rattle.std.specs.Option.{option_map, option_copied};
@@ -151,7 +151,7 @@ pub struct Texts {
 }
 
 /// The texts of a netlist that was gated, whose certificates keep to the bounds of their formats, with its Verilog text.
-pub(crate) fn write_texts(
+fn write_texts(
     alloc: Global,
     request: &Request<'_>,
     read: &Netlist,
@@ -217,7 +217,7 @@ pub(crate) fn asked_hints<'a>(asked: Option<&'a Seq<Hint>>) -> &'a [Hint]
 }
 
 /// The Verilog text of a netlist, where it is asked for.
-pub(crate) fn verilog_asked(
+fn verilog_asked(
     alloc: Global,
     asked: bool,
     netlist: &Netlist,

@@ -51,7 +51,7 @@ pub struct Gated {
 
 /// Hints that were tried, and the plan that begins with what they leave.
 #[derive(Drop)]
-pub(crate) struct Planned {
+struct Planned {
     pub hints: TriedHints,
     pub plan: Plan,
 }
@@ -254,7 +254,7 @@ pub struct TriedHints {
 
 /// What hints leave of the machine of a netlist, and what came of them.
 #[derive(Drop)]
-pub(crate) struct Begun {
+struct Begun {
     /// The machine with which the plan begins.
     pub machine: Machine,
 
@@ -263,7 +263,7 @@ pub(crate) struct Begun {
 }
 
 /// Tries the hints of a request on the machine of the netlist, one after another.
-pub(crate) fn try_hints(
+fn try_hints(
     alloc: Global,
     netlist: &Netlist,
     machine: Machine,

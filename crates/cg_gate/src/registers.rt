@@ -9,9 +9,9 @@ ghost use Rattle.cg_register_text.specs.Words.{IsToldOf, registers_text};
 ghost use Rattle.cg_register_text.specs.declared.rises.BothRises.{BothRises};
 ghost use Rattle.cg_stimulus.specs.Inputs.{IsFor, Rows};
 
+use crate::gate::asked_hints;
 use crate::planning::Gated;
 use crate::request::Request;
-use crate::gate::asked_hints;
 use cg_list::Seq;
 use cg_netlist::netlist::Netlist;
 use cg_register_text::rises::{BothRises, both_rises};

@@ -1,4 +1,4 @@
-//! The hold stages.
+//! The registers that took each literal, and the hold stages of them.
 
 ghost use Rattle.std.specs.Prelude.{◌≡◌, ◌<◌, ◌*◌, ◌++◌, [], length, IfOk, OnOk, ◌≤◌, ◌+◌, ◌^◌, ◌∷◌, ◌⊎◌, ℕ, true, replicate, slice_index_or, slice_set, is_none, IfErr};
 ghost use Rattle.std.specs.List.{cons_option, filter_map, range_with_len};
@@ -130,7 +130,7 @@ fn stage(alloc: Global, literal: NetLit, regs: &[RegId]) -> Result<Stage, AllocE
 
 /// What came of registers.
 #[derive(Drop)]
-pub(crate) struct Chosen {
+struct Chosen {
     /// For each literal, net by net and plain before inverted, the registers that took it.
     pub lists: Vec<Seq<RegId>>,
 
@@ -278,7 +278,7 @@ impl Chosen {
 }
 
 /// The place of a literal: net by net, plain before inverted.
-pub(crate) fn place_of(literal: NetLit) -> usize
+fn place_of(literal: NetLit) -> usize
     ensures { result ≡ literal_place literal }
 {
     let place = 2 * literal.net.number() as usize;

@@ -1,4 +1,5 @@
-//! From parts to a netlist: what parts may get wrong, in order, and else their nets in net order.
+//! From parts to a netlist: what parts may get wrong, in order, and else their nets in net order. The net of a fault is the first
+//! that has some marks.
 
 ghost use Rattle.std.specs.Prelude.{◌≡◌, ◌⊎◌, ◌<◌, ◌&&◌, ◌||◌, List, length, IfOk, IsTrue, MatchResult, ℕ, Bool, Some, not, nat_eq, nat_lt};
 ghost use Rattle.std.specs.List.{All, count_by};
@@ -18,7 +19,9 @@ ghost use Rattle.cg_netlist_parts.specs.Says.{Says};
 ghost use Rattle.cg_net.specs.Names.{net_name};
 
 use crate::order::in_net_order;
-use crate::parts::{Parts, add_listed, chain_cells, clock_roots, gater_output_marks, listed, order, uses};
+use crate::parts::{
+    Parts, add_listed, chain_cells, clock_roots, gater_output_marks, listed, order, uses,
+};
 use cg_cell::name::Name;
 use cg_net::id::NetId;
 use cg_netlist::cycles::{cell_ranks, unranked_marks};
@@ -193,7 +196,7 @@ pub(crate) fn marks(alloc: Global, count: usize, nets: &[NetId]) -> Result<Vec<b
 }
 
 /// Of `count` nets, marks on those that stand among these twice or more.
-pub(crate) fn repeated(alloc: Global, count: usize, nets: &[NetId]) -> Result<Vec<bool>, AllocError>
+fn repeated(alloc: Global, count: usize, nets: &[NetId]) -> Result<Vec<bool>, AllocError>
     requires { All (λ net. net < count) nets.now }
     ensures { IfOk result (λ marks. AreMarksOf marks.items count (λ net. nat_lt 1 (count_by (nat_eq net) nets.now))) }
 {
@@ -208,7 +211,7 @@ pub(crate) fn repeated(alloc: Global, count: usize, nets: &[NetId]) -> Result<Ve
 }
 
 /// The first net with a mark.
-pub(crate) fn first_marked(marks: &[bool]) -> Option<usize>
+fn first_marked(marks: &[bool]) -> Option<usize>
     ensures { IsFirst (length marks.now) (is_marked marks.now) result }
 {
     for net in 0..marks.len() {
@@ -220,7 +223,7 @@ pub(crate) fn first_marked(marks: &[bool]) -> Option<usize>
 }
 
 /// The first net that is used and not driven.
-pub(crate) fn first_undriven(used: &[bool], driven: &[bool]) -> Option<usize>
+fn first_undriven(used: &[bool], driven: &[bool]) -> Option<usize>
     requires { length driven.now ≡ length used.now }
     ensures { IsFirst (length used.now) (λ net. is_marked used.now net && not (is_marked driven.now net)) result }
 {
@@ -233,7 +236,7 @@ pub(crate) fn first_undriven(used: &[bool], driven: &[bool]) -> Option<usize>
 }
 
 /// The first net at a clock pin that is no input, or that another such net comes before, or that is used as well.
-pub(crate) fn first_bad_clock(clocks: &[bool], inputs: &[bool], used: &[bool]) -> Option<usize>
+fn first_bad_clock(clocks: &[bool], inputs: &[bool], used: &[bool]) -> Option<usize>
     requires inputs { length inputs.now ≡ length clocks.now }
     requires used { length used.now ≡ length clocks.now }
     ensures { IsFirst (length clocks.now) (λ net. is_marked clocks.now net
@@ -257,7 +260,7 @@ fn is_bad(clock: bool, input: bool, before: bool, used: bool) -> bool
 }
 
 /// The first net that a gating cell drives, and that is used as well, or that no clock reaches.
-pub(crate) fn first_bad_gater(gated: &[bool], used: &[bool], unreached: &[bool]) -> Option<usize>
+fn first_bad_gater(gated: &[bool], used: &[bool], unreached: &[bool]) -> Option<usize>
     requires used { length used.now ≡ length gated.now }
     requires unreached { length unreached.now ≡ length gated.now }
     ensures { IsFirst (length gated.now) (λ net. is_marked gated.now net && (is_marked used.now net || is_marked unreached.now net)) result }
@@ -271,7 +274,7 @@ pub(crate) fn first_bad_gater(gated: &[bool], used: &[bool], unreached: &[bool])
 }
 
 /// The earlier of two nets, where one is there.
-pub(crate) fn earlier(one: Option<usize>, other: Option<usize>) -> Option<usize>
+fn earlier(one: Option<usize>, other: Option<usize>) -> Option<usize>
     ensures { (n : ℕ) (test more : ℕ → Bool) → IsFirst n test one → IsFirst n more other → IsFirst n (λ net. test net || more net) result }
 {
     match (one, other) {

@@ -15,8 +15,8 @@ ghost use Rattle.cg_netlist_builder.specs.inner.Numbers.{AreNumbers, numbers_wit
 ghost use Rattle.cg_netlist_builder.specs.inner.Words.{part_said};
 
 use crate::adding::{PartWords, add_gater, add_logic, add_net, add_placed, add_register};
-use crate::inits::give_inits;
 use crate::finish::marks;
+use crate::inits::give_inits;
 use cg_limit::MOST_NETS;
 use cg_net::id::NetId;
 use cg_net::names::NetNames;

@@ -1,4 +1,4 @@
-//! The claims of a stage, by their names, and how a stage ends by the measure of one.
+//! The claims of a stage, by their names and as they are built, and how a stage ends by the measure of one.
 
 ghost use Rattle.std.specs.Prelude.{◌≡◌, ◌<◌, length, map, IfErr, IfOk, OnOk};
 ghost use Rattle.cg_claim.specs.declared.name.ClaimName.TheVariants.{Hold, Stable};

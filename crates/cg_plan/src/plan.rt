@@ -1,4 +1,4 @@
-//! The plan of a machine.
+//! The plan of a machine, in the making and whole.
 
 ghost use Rattle.std.specs.Prelude.{◌≡◌, IfOk, IfErr, ◌+◌, [], if◌then◌else◌, length, MatchResult, OnOk};
 ghost use Rattle.std.specs.Option.{option_copied};
@@ -113,7 +113,7 @@ fn finished(draft: Draft, wide: u32) -> Plan
 /// The stages stand here twice, since a plan hands them out with their outcomes, and a round reads them with whether they
 /// were inserted.
 #[derive(Drop)]
-pub(crate) struct Draft {
+struct Draft {
     alloc: Global,
 
     /// The machine after the inserted stages.

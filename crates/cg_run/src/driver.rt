@@ -10,11 +10,11 @@ ghost use Rattle.cg_run.specs.Verdict.{task_of};
 
 use crate::mode::Mode;
 use crate::names::Names;
-use crate::writing::{Output, put_out};
 use crate::reading::collect;
 use crate::refusal::Refusal;
 use crate::role::Role;
 use crate::status::Status;
+use crate::writing::{Output, put_out};
 use cg_shelf::Shelf;
 use std::alloc::Global;
 

@@ -1,8 +1,8 @@
 //! What a run asks of a mode.
 
-use crate::writing::Output;
 use crate::refusal::Trouble;
 use crate::role::Role;
+use crate::writing::Output;
 use cg_list::Seq;
 use std::alloc::Global;
 

@@ -1,5 +1,5 @@
-//! The writing half of a run: what reading came to is written, the stores in order and then the say, of which the first that is
-//! refused ends them; or one line of complaint tells why not.
+//! What a mode puts out, and the writing half of a run: what reading came to is written, the stores in order and then the say, of
+//! which the first that is refused ends them; or one line of complaint tells why not.
 
 ghost use Rattle.std.specs.Prelude.{◌≡◌, ◌++◌, [], IsTrue};
 ghost use Rattle.cg_run.specs.Names.{name_of};
@@ -14,6 +14,45 @@ use crate::status::Status;
 use cg_list::Seq;
 use cg_shelf::{Shelf, StoreFault};
 use std::alloc::Global;
+
+/// How a run ends whose files were read and whose output was written.
+#[derive(Clone, Copy, Debug, PartialEq, Eq)]
+pub enum Finish {
+    /// It did what was asked.
+    Done,
+    /// The proof is not accepted.
+    Rejected,
+}
+
+impl Finish {
+    ghost use Rattle.std.specs.Prelude.{◌≡◌};
+    ghost use Rattle.cg_run.specs.Status.{finish_status};
+
+    /// How the run then ends.
+    pub fn status(self) -> Status
+        ensures { result ≡ finish_status self }
+    {
+        match self {
+            Finish::Done => Status::Done,
+            Finish::Rejected => Status::Rejected,
+        }
+    }
+}
+
+/// A text and the role of the file that it goes to.
+#[derive(Debug, Drop)]
+pub struct Text {
+    pub role: Role,
+    pub bytes: Seq<u8>,
+}
+
+/// The texts to be stored, in order, the text to be said, and how the run then ends.
+#[derive(Debug, Drop)]
+pub struct Output {
+    pub stores: Seq<Text>,
+    pub said: Seq<u8>,
+    pub finish: Finish,
+}
 
 /// Writes the output that reading came to, and ends as it says; or complains why there is none, or why it is not written.
 pub fn put_out<S: Shelf>(
@@ -116,43 +155,4 @@ pub fn complain<S: Shelf>(shelf: &mut S, status: Status, line: &[u8]) -> Status
         Ok(()) | Err(StoreFault::Failed) => status,
         Err(StoreFault::NoMemory) => Status::NoMemory,
     }
-}
-
-/// How a run ends whose files were read and whose output was written.
-#[derive(Clone, Copy, Debug, PartialEq, Eq)]
-pub enum Finish {
-    /// It did what was asked.
-    Done,
-    /// The proof is not accepted.
-    Rejected,
-}
-
-impl Finish {
-    ghost use Rattle.std.specs.Prelude.{◌≡◌};
-    ghost use Rattle.cg_run.specs.Status.{finish_status};
-
-    /// How the run then ends.
-    pub fn status(self) -> Status
-        ensures { result ≡ finish_status self }
-    {
-        match self {
-            Finish::Done => Status::Done,
-            Finish::Rejected => Status::Rejected,
-        }
-    }
-}
-
-/// A text and the role of the file that it goes to.
-#[derive(Debug, Drop)]
-pub struct Text {
-    pub role: Role,
-    pub bytes: Seq<u8>,
-}
-
-/// The texts to be stored, in order, the text to be said, and how the run then ends.
-#[derive(Debug, Drop)]
-pub struct Output {
-    pub stores: Seq<Text>,
-    pub said: Seq<u8>,
-    pub finish: Finish,
 }

@@ -1,4 +1,4 @@
-//! The trusted edge: real files, standard output and standard error.
+//! The trusted edge: real files, standard output and standard error, which give or take a part of a text at a time.
 
 ghost use Rattle.std.specs.Prelude.{◌≡◌, ◌≤◌, ◌++◌, [], None, false, length, OnOk, OnErr, ◌<◌, Err, IfSome};
 ghost use Rattle.cg_shelf.specs.Shelf.{load_faults, call_faults, one_fault};
@@ -142,7 +142,7 @@ const CHUNK: usize = 65536;
 ///
 /// It ends after at most `limit` + 2 reads, since each but the last gives a byte. Every error of the reader fails the
 /// call, an interrupted read among them.
-pub fn read_whole<R: Read>(from: &mut R, limit: u64, into: &mut Vec<u8>) -> Result<(), LoadFault>
+fn read_whole<R: Read>(from: &mut R, limit: u64, into: &mut Vec<u8>) -> Result<(), LoadFault>
     requires { into.old.items ≡ [] }
     ensures whole { OnOk result (IfSome (R.remaining from.old) (λ bytes. into.new.items ≡ bytes)) }
     ensures within { OnOk result (length into.new.items ≤ limit) }
@@ -167,7 +167,7 @@ pub fn read_whole<R: Read>(from: &mut R, limit: u64, into: &mut Vec<u8>) -> Resu
 ///
 /// A write that takes nothing of a piece that is not empty is a fault, and so is every error of the writer, an
 /// interrupted write among them.
-pub fn write_whole<W: Write>(to: &mut W, bytes: &[u8]) -> Result<(), StoreFault>
+fn write_whole<W: Write>(to: &mut W, bytes: &[u8]) -> Result<(), StoreFault>
     ensures whole { OnOk result (Appends (W.contents to.old) (W.contents to.new) bytes.now) }
     ensures part { OnErr result (AppendsPart (W.contents to.old) (W.contents to.new) bytes.now) }
     ensures failed { OnErr result (result ≡ Err StoreFault.Failed) }

@@ -60,7 +60,7 @@ pub fn take_netlist(
 }
 
 /// The netlist that a BLIF text says with the cells of a library.
-pub(crate) fn take_blif(
+fn take_blif(
     alloc: Global,
     text: &[u8],
     library: &Library,
@@ -75,7 +75,7 @@ pub(crate) fn take_blif(
 }
 
 /// The clock of the options, which has a name.
-pub(crate) fn clock_of(options: &BlifOptions) -> Option<&[u8]>
+fn clock_of(options: &BlifOptions) -> Option<&[u8]>
     ensures { AllByRecursion (λ net. IsTrue (is_name net)) (option_to_list options.now.clock) }
 {
     match &options.clock {
@@ -124,7 +124,7 @@ fn blif_trouble(alloc: Global, fault: BlifFault) -> Result<Trouble, AllocError>
 }
 
 /// The netlist that a Verilog text says with the cells of a library.
-pub(crate) fn take_verilog(
+fn take_verilog(
     alloc: Global,
     text: &[u8],
     library: &Library,
@@ -175,7 +175,7 @@ fn verilog_trouble(alloc: Global, fault: VerilogFault) -> Result<Trouble, AllocE
 }
 
 /// Why the parts of a netlist are refused as a whole.
-pub(crate) fn net_trouble(alloc: Global, fault: NetFault) -> Result<Trouble, AllocError>
+fn net_trouble(alloc: Global, fault: NetFault) -> Result<Trouble, AllocError>
     ensures { IfOk result (λ trouble. trouble ≡ net_trouble fault) }
 {
     match fault {

@@ -178,7 +178,7 @@ module _ (request : RequestData) (says : Option Saying) (read : Circuit) (texts 
   verilog_means : IfSome texts.verilog (VerilogMeans request gives.told.machine read delays gives.written)
   verilog_means =
       means_asked (VerilogMeans request gives.told.machine read delays gives.written) request.verilog texts.verilog (verilog w) gives.tells.gives.verilog
-      (text_means request gives.told.machine read delays w is_writable.placeable shows)
+      (text_means request gives.told.machine read delays w is_writable.placeable shows loads)
 
   summed : SumUp gives.tells.gives.registers.rises gives.tells.played.edges
   summed =

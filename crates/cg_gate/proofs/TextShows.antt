@@ -1,5 +1,5 @@
 -- What the Verilog text of a netlist says shows what the netlist shows.
-use Rattle.std.proofs.Common.{◌≡◌, ℕ, Bool, true, false, List, [], ◌∷◌, ◌++◌, map, length, slice_get, Option, Some, sym, ◌∙◌, ap, subst}
+use Rattle.std.proofs.Common.{◌≡◌, ℕ, Bool, true, false, List, [], ◌∷◌, ◌++◌, map, length, replicate, slice_get, Option, Some, sym, ◌∙◌, ap, subst}
 use Rattle.std.specs.Prelude.{IfSome}
 use Rattle.std.specs.Option.{option_map}
 use Rattle.std.proofs.lemmas.Option.{slice_get-map}
@@ -7,6 +7,7 @@ use Rattle.cg_gate_laws.proofs.LiftedShows.{same_ticks}
 use Rattle.cg_insert.specs.Insertion.{RisesAre, RisesFrom}
 use Rattle.cg_machine.specs.Machine.{MachineData}
 use Rattle.cg_net.proofs.TableLemmas.{mapped_at}
+use Rattle.cg_net.specs.Names.{NetName}
 use Rattle.cg_netlist.specs.Circuit.{Circuit, RegisterCell}
 use Rattle.cg_netlist.specs.History.{Moment, Tick, rises}
 use Rattle.cg_netlist.specs.Wiring.{named}
@@ -19,7 +20,8 @@ use Rattle.cg_verilog_text.proofs.OneNetlist.{no_two}
 use Rattle.cg_verilog_text.proofs.SameHistories.{agree}
 use Rattle.cg_verilog_text.proofs.TextSays.{text_says}
 use Rattle.cg_gate.specs.Gating.{where_asked}
-use Rattle.cg_gate.specs.Headline.{ShowsAlways, ShowsSame, VerilogMeans}
+use Rattle.cg_gate.specs.Headline.{LoadsAlways, ShowsAlways, ShowsSame, VerilogMeans, with_bits}
+use Rattle.cg_gate.specs.Loading.{LoadsWhere}
 use Rattle.cg_gate.specs.Request.{RequestData}
 
 -- a netlist that is equal but for what Verilog does not keep
@@ -61,9 +63,21 @@ module _ (c d : Circuit) (equal : AreVEqual c d) where
         rises = rise m tested s.history s.rises;
       }
 
--- the text of a netlist that shows what the original shows
-pub text_means : (request : RequestData) (m : MachineData) (read : Circuit) (delays : ℕ) (c : Circuit) → IsPlaceable request.library c → ShowsAlways request.test m read delays c → VerilogMeans request m read delays c (verilog c)
-text_means request m read delays c placeable shows =
+  -- and is loaded alike
+  loaded : (wave : List Tick) (bits : List Bool) (history : List Moment) → LoadsWhere c wave bits history → LoadsWhere d wave bits history
+  loaded wave bits history loads k low high before now at next is rose on was there r register among =
+      let own = risen before.nets now.nets r register among in
+      sym own.2 ∙ loads k low high before now at next is rose on was there r own.0 own.1
+
+  loads_always : (test : Option NetName) (read : Circuit) (delays : ℕ) → LoadsAlways test read delays c → LoadsAlways test read delays d
+  loads_always test read delays loads some start wave bits history starts waves long lawful =
+      let here = ((agree c d equal (start ++ replicate delays true) (with_bits test wave bits) history).lawful).1 lawful in
+      loaded wave bits history (loads some start wave bits history starts waves long here)
+
+-- the text of a netlist that shows what the original shows, and whose registers can be loaded
+pub text_means : (request : RequestData) (m : MachineData) (read : Circuit) (delays : ℕ) (c : Circuit) → IsPlaceable request.library c → ShowsAlways request.test m read delays c
+    → LoadsAlways request.test read delays c → VerilogMeans request m read delays c (verilog c)
+text_means request m read delays c placeable shows loads =
     let says = text_says request.library c placeable in
     let same = kept_v_equal c placeable.netlist.well_formed in
     record {
@@ -73,6 +87,7 @@ text_means request m read delays c placeable shows =
       no_other = λ d other. no_two (verilog c) request.library (named c).clock d (kept_netlist c) other says;
       same = same;
       shows = λ start wave bits starts waves long. shown c (kept_netlist c) same m read start _ wave _ (shows start wave bits starts waves long);
+      loads = loads_always c (kept_netlist c) same request.test read delays loads;
     }
 
 -- what is true of a text is true of it where it is asked for

@@ -79,8 +79,17 @@ ShowsAlways test m read delays c =
     length bits ≡ length wave
     → ShowsSame m read c start (replicate delays true) wave (with_bits test wave bits)
 
+-- With a test input all registers of such a netlist can be loaded: in its history each rises at each rise of the clock a moment after
+-- the test input was 1.
+abbrev pub LoadsAlways : Option NetName → Circuit → ℕ → Circuit → Type 0
+LoadsAlways test read delays c = is_some test ≡ true
+    → (start : List Bool) (wave : List Tick) (bits : List Bool) (history : List Moment) → IsStart read start →
+    IsWaveform read wave → length bits ≡ length wave
+    → IsLawful c (start ++ replicate delays true) (with_bits test wave bits) history → LoadsWhere c wave bits history
+
 -- A Verilog text, read with the same library and with the written netlist's clock as the option, says one netlist and no other, which
--- is well formed. This is the written netlist, but for what Verilog does not keep, and shows what the original shows.
+-- is well formed. This is the written netlist, but for what Verilog does not keep; it shows what the original shows, and with a test
+-- input all its registers can be loaded.
 pub record VerilogMeans (request : RequestData) (m : MachineData) (read : Circuit) (delays : ℕ) (written : Circuit)
     (text : List ℕ) : Type 0 where
   pub said : Circuit
@@ -89,6 +98,7 @@ pub record VerilogMeans (request : RequestData) (m : MachineData) (read : Circui
   pub no_other : (c : Circuit) → VerilogText text request.library (option_map (net_name written.names) written.clock) c → c ≡ said
   pub same : AreVEqual written said
   pub shows : ShowsAlways request.test m read delays said
+  pub loads : LoadsAlways request.test read delays said
 
 -- The texts of a netlist that was gated, and what they mean.
 pub record Headline (request : RequestData) (says : Option Saying) (read : Circuit) (texts : Texts) : Type 0 where
@@ -110,13 +120,8 @@ pub record Headline (request : RequestData) (says : Option Saying) (read : Circu
   -- from every state and over every waveform it shows what the original shows
   pub plan : ReportedPlan
   pub shows : ShowsAlways request.test plan.machine read delays written
-  -- with a test input all registers can be loaded: in that history each rises at each rise of the clock a moment after the test
-  -- input was 1
-  pub loads : is_some request.test ≡ true
-      → (start : List Bool) (wave : List Tick) (bits : List Bool) (history : List Moment) → IsStart read start →
-      IsWaveform read wave → length bits ≡ length wave
-      → IsLawful written (start ++ replicate delays true) (with_bits request.test wave bits) history →
-      LoadsWhere written wave bits history
+  -- and with a test input all its registers can be loaded
+  pub loads : LoadsAlways request.test read delays written
   -- the Verilog text, where it is asked for, is that of the written netlist, and the netlist that it says shows the same
   pub verilog : texts.verilog ≡ where_asked request.verilog (verilog written)
   pub verilog_means : IfSome texts.verilog (VerilogMeans request plan.machine read delays written)

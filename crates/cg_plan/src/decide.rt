@@ -1,10 +1,11 @@
 //! The decision of a claim that is built.
 
-ghost use Rattle.std.specs.Prelude.{◌≡◌, ℕ, IsTrue, length, map, IfOk};
+ghost use Rattle.std.specs.Prelude.{◌≡◌, ℕ, true, false, IsTrue, length, map, IfOk};
 ghost use Rattle.cg_aig.specs.Aig.{aig_ops};
 ghost use Rattle.cg_claim.specs.Question.{Question};
 ghost use Rattle.cg_claim.specs.Violates.{SidesFit};
 ghost use Rattle.cg_claim.specs.declared.leaf.LeafBit.{LeafBit};
+ghost use Rattle.cg_decide.specs.Decision.{IsNeverOne};
 ghost use Rattle.cg_machine.specs.Machine.{IsMachine, MachineData};
 ghost use Rattle.cg_plan.specs.inner.Deciding.{Grow, IsDecided, IsIdleDecided};
 ghost use Rattle.cg_unroll.specs.Claims.{IsClaim};
@@ -13,10 +14,11 @@ use crate::judge::Judge;
 use cg_claim::laws::claim_laws;
 use cg_claim::leaf::{Leaf, LeafBit};
 use cg_claim::name::ClaimName;
-use cg_decide::Decision;
+use cg_decide::{Decider, Decision};
 use cg_list::Seq;
 use cg_plan_laws::certificate::Certificate;
 use cg_plan_laws::outcome::Outcome;
+use cg_unroll::unroller::Unroller;
 use std::alloc::{AllocError, Global};
 
 impl Judge {
@@ -37,25 +39,33 @@ impl Judge {
         }
     }
 
-    /// Decides the claim that was built last, as the claim of this name. Where it holds, its certificate is put behind `into`;
-    /// else the answer is that the stage is refuted by it.
+    /// Decides the claim that was built last, as the claim of this name. Where it holds and proofs are wanted, its certificate is
+    /// put behind `into`; where it does not hold, the answer is that the stage is refuted by it.
     pub(crate) fn decide(
         &mut self,
         number: u32,
         name: &ClaimName,
+        proof: bool,
         into: &mut Vec<Certificate>,
     ) -> Result<Option<Outcome>, AllocError>
         requires { IsTrue (aig_ops.is_valid self.old.unroller.aig self.old.unroller.goal) }
         ensures decided { IfOk result (λ end. (m : MachineData) (q : Question) (width : ℕ) → IsMachine m → SidesFit m q.sides
-            → IsClaim m q width self.old.unroller → IsDecided m number (name.now, q) into.old.items into.new.items end) }
+            → IsClaim m q width self.old.unroller → IsDecided proof m number (name.now, q) into.old.items into.new.items end) }
         ensures grown { Grow into.old.items into.new.items }
     {
         claim_laws();
+        let shown = is_shown(&mut self.decider, &self.unroller, proof)?;
+        if shown {
+            return Ok(None);
+        }
         match self
             .decider
             .decide(self.unroller.aig(), self.unroller.goal())?
         {
             Decision::Never(formula, log) => {
+                if !proof {
+                    return Ok(None);
+                }
                 into.push(Certificate {
                     stage: number,
                     claim: *name,
@@ -70,6 +80,17 @@ impl Judge {
             }
         }
     }
+}
+
+/// Whether the claim that was built last needs no search: no proof of it is wanted, and it is seen at once that it holds.
+fn is_shown(decider: &mut Decider, unroller: &Unroller, proof: bool) -> Result<bool, AllocError>
+    requires { IsTrue (aig_ops.is_valid unroller.now.aig unroller.now.goal) }
+    ensures { IfOk result (λ shown. shown ≡ true → (proof ≡ false) × IsNeverOne unroller.now.aig unroller.now.goal) }
+{
+    if proof {
+        return Ok(false);
+    }
+    decider.shows_never(unroller.aig(), unroller.goal())
 }
 
 /// Leaves with their bits.

@@ -30,6 +30,7 @@ use cg_netlist::fault::AddFault;
 use cg_plan_laws::certificate::Certificate;
 use cg_plan_laws::laws::plan_laws;
 use cg_plan_laws::outcome::Outcome;
+use cg_plan_laws::settings::Settings;
 use cg_unroll::unroller::Unroller;
 use std::alloc::{AllocError, Global};
 
@@ -48,6 +49,7 @@ struct Claims<'a> {
     stage: &'a StageSets<'a>,
     names: &'a [ClaimName],
     width: u32,
+    proof: bool,
 }
 
 /// What tries stages, in buffers that are kept, so that a claim costs what it reaches.
@@ -120,7 +122,7 @@ impl Judge {
         ensures outcome { IfOk result (λ outcome. TellsOutcome machine.old entry.now.stage.now
             (tried rules.now.library.now rules.now.settings.now machine.old entry.now.stage.now) outcome) }
         ensures machine { IfOk result (λ outcome. machine.new ≡ after_outcome machine.old entry.now.stage.now outcome) }
-        ensures certificates { IfOk result (Pushes machine.old entry.now.number entry.now.stage.now into.old.items into.new.items) }
+        ensures certificates { IfOk result (Pushes rules.now.settings.now.proof machine.old entry.now.number entry.now.stage.now into.old.items into.new.items) }
         ensures knows { OnOk result (Knows machine.new fanout.new) }
         ensures fault { IfErr result (MayFail (tried rules.now.library.now rules.now.settings.now machine.old entry.now.stage.now)) }
         ensures kept { OnErr result (Keeps machine.old machine.new) }
@@ -128,7 +130,7 @@ impl Judge {
     {
         match early_end(entry.stage, rules.library, rules.settings) {
             Some(outcome) => Ok(outcome),
-            None => self.try_claims(machine, fanout, entry, rules.settings.width, into),
+            None => self.try_claims(machine, fanout, entry, rules.settings, into),
         }
     }
 
@@ -138,22 +140,22 @@ impl Judge {
         machine: &mut Machine,
         fanout: &mut Fanout,
         entry: &Entry<'_>,
-        width: u32,
+        settings: &Settings,
         into: &mut Vec<Certificate>,
     ) -> Result<Outcome, AddFault>
         requires fits { Fits machine.old entry.now.stage.now }
         requires knows { Knows machine.old fanout.old }
         ensures outcome { IfOk result (λ outcome. TellsOutcome machine.old entry.now.stage.now
-            (by_claims machine.old width entry.now.stage.now) outcome) }
+            (by_claims machine.old settings.now.width entry.now.stage.now) outcome) }
         ensures machine { IfOk result (λ outcome. machine.new ≡ after_outcome machine.old entry.now.stage.now outcome) }
-        ensures certificates { IfOk result (Pushes machine.old entry.now.number entry.now.stage.now into.old.items into.new.items) }
+        ensures certificates { IfOk result (Pushes settings.now.proof machine.old entry.now.number entry.now.stage.now into.old.items into.new.items) }
         ensures knows { OnOk result (Knows machine.new fanout.new) }
-        ensures fault { IfErr result (MayFail (by_claims machine.old width entry.now.stage.now)) }
+        ensures fault { IfErr result (MayFail (by_claims machine.old settings.now.width entry.now.stage.now)) }
         ensures kept { OnErr result (Keeps machine.old machine.new) }
         ensures grown { Grow into.old.items into.new.items }
     {
         let _netlist = machine.netlist();
-        if let Some(end) = self.judge_claims(machine, fanout, entry, width, into)? {
+        if let Some(end) = self.judge_claims(machine, fanout, entry, settings, into)? {
             return Ok(end);
         }
         insert(machine, fanout, entry.stage)?;
@@ -166,16 +168,16 @@ impl Judge {
         machine: &Machine,
         fanout: &mut Fanout,
         entry: &Entry<'_>,
-        width: u32,
+        settings: &Settings,
         into: &mut Vec<Certificate>,
     ) -> Result<Option<Outcome>, AddFault>
         requires fits { Fits machine.now entry.now.stage.now }
         requires knows { Knows machine.now fanout.old }
         ensures judged { IfOk result
-            (IsJudged machine.now entry.now.stage.now (by_claims machine.now width entry.now.stage.now)) }
-        ensures certificates { IfOk result (Certifying machine.now entry.now.number entry.now.stage.now into.old.items into.new.items) }
+            (IsJudged machine.now entry.now.stage.now (by_claims machine.now settings.now.width entry.now.stage.now)) }
+        ensures certificates { IfOk result (Certifying settings.now.proof machine.now entry.now.number entry.now.stage.now into.old.items into.new.items) }
         ensures knows { OnOk result (Knows machine.now fanout.new) }
-        ensures fault { IfErr result (MayFail (by_claims machine.now width entry.now.stage.now)) }
+        ensures fault { IfErr result (MayFail (by_claims machine.now settings.now.width entry.now.stage.now)) }
         ensures grown { Grow into.old.items into.new.items }
     {
         let names = claim_names(self.alloc, machine, fanout, entry.stage)?;
@@ -185,7 +187,8 @@ impl Judge {
             number: entry.number,
             stage: &sets,
             names: names.as_slice(),
-            width,
+            width: settings.width,
+            proof: settings.proof,
         };
         self.judge_named(&claims, into)
     }
@@ -200,7 +203,7 @@ impl Judge {
         requires names { AreNames claims.now.machine.now claims.now.stage.now claims.now.names.now }
         ensures judged { IfOk result
             (IsJudged claims.now.machine.now claims.now.stage.now (by_claims claims.now.machine.now claims.now.width claims.now.stage.now)) }
-        ensures certificates { IfOk result (Certifying claims.now.machine.now claims.now.number claims.now.stage.now into.old.items into.new.items) }
+        ensures certificates { IfOk result (Certifying claims.now.proof claims.now.machine.now claims.now.number claims.now.stage.now into.old.items into.new.items) }
         ensures fault { IfErr result (MayFail (by_claims claims.now.machine.now claims.now.width claims.now.stage.now)) }
         ensures grown { Grow into.old.items into.new.items }
     {
@@ -233,7 +236,7 @@ impl Judge {
             (IsJudged claims.now.machine.now claims.now.stage.now
             (measured claims.now.machine.now claims.now.width (claims_of claims.now.machine.now claims.now.stage.now)
             (decided claims.now.machine.now claims.now.stage.now))) }
-        ensures certificates { IfOk result (Certifying claims.now.machine.now claims.now.number claims.now.stage.now into.old.items into.new.items) }
+        ensures certificates { IfOk result (Certifying claims.now.proof claims.now.machine.now claims.now.number claims.now.stage.now into.old.items into.new.items) }
         ensures fault { IfErr result
             (MayFail (measured claims.now.machine.now claims.now.width (claims_of claims.now.machine.now claims.now.stage.now)
             (decided claims.now.machine.now claims.now.stage.now))) }
@@ -251,7 +254,7 @@ impl Judge {
             )? {
                 return Ok(Some(end));
             }
-            settled = self.settle(claims.number, name, settled, into)?;
+            settled = self.settle(claims.number, name, claims.proof, settled, into)?;
         }
         Ok(settled)
     }
@@ -262,17 +265,18 @@ impl Judge {
         &mut self,
         number: u32,
         name: &ClaimName,
+        proof: bool,
         settled: Option<Outcome>,
         into: &mut Vec<Certificate>,
     ) -> Result<Option<Outcome>, AllocError>
         requires { IsTrue (aig_ops.is_valid self.old.unroller.aig self.old.unroller.goal) }
         ensures settles { IfOk result (λ now. (m : MachineData) (q : Question) (width : ℕ) → IsMachine m → SidesFit m q.sides
-            → IsClaim m q width self.old.unroller → Settles m number (name.now, q) into.old.items into.new.items settled now) }
+            → IsClaim m q width self.old.unroller → Settles proof m number (name.now, q) into.old.items into.new.items settled now) }
         ensures grown { Grow into.old.items into.new.items }
     {
         match settled {
             Some(outcome) => Ok(Some(outcome)),
-            None => self.decide(number, name, into),
+            None => self.decide(number, name, proof, into),
         }
     }
 }

@@ -19,8 +19,9 @@ use std::alloc::Global;
 
 /// Tries a stage that fits the machine, as the stage of this number, and inserts it where it deserves it.
 ///
-/// An inserted stage keeps the outputs of every run of the machine, and the certificates of its claims are put behind `into`,
-/// one for each claim in order. Any other outcome leaves the machine and `into` as they are.
+/// An inserted stage keeps the outputs of every run of the machine. Where the settings ask for proofs, the certificates of its
+/// claims are put behind `into`, one for each claim in order; else `into` stays as it is. Any other outcome leaves the machine
+/// and `into` as they are.
 ///
 /// It is refused by `Limit(ClaimNodes)` where the stage is large enough, the library has its cells, and a claim has more than
 /// 65,536 leaves and and-nodes while neither it nor one before it is too wide; and by `Limit(Nets)` or `Limit(Registers)` where

@@ -39,10 +39,6 @@ use Rattle.cg_hold.proofs.Alone.{map_length}
 pub nothing_more : (before after : List Certificate) → after ≡ before → AreAppended [] before after
 nothing_more before after is = record { more = []; whole = is ∙ sym (append-nil before); certified = refl }
 
-pub none_certified : (proof : Bool) (m : MachineData) (number : ℕ) (items : List Certificate) → AllCertified proof m number [] items items
-none_certified true m number items = record { appended = nothing_more items items refl; writable = λ are. are }
-none_certified false m number items = record { appended = nothing_more items items refl; writable = λ are. are }
-
 module _ (goals : GoalViolates) (law : NeverIsTried) (m : MachineData) (q : Question) (width : ℕ) (claim : Claim) (good : IsMachine m) (fits : SidesFit m q.sides) (is : IsClaim m q width claim) where
   -- bits at which the goal is 1
   pub settled_bits : (bits : List Bool) → IsOneAt claim.aig claim.goal bits → (seq : List LeafBit)

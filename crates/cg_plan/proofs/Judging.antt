@@ -14,10 +14,10 @@ use Rattle.cg_plan_laws.specs.declared.certificate.Certificate.{Certificate}
 use Rattle.cg_plan_laws.specs.declared.outcome.Outcome.{Outcome}
 use Rattle.cg_plan_laws.specs.declared.outcome.Outcome.TheVariants.{NeverIdle}
 use Rattle.cg_plan.specs.Planning.{AreWritable, StayWritable}
-use Rattle.cg_plan.specs.inner.Deciding.{IsIdleDecided, Settles}
-use Rattle.cg_plan.specs.inner.Judging.{Certifying, IsJudged, IsSettled}
+use Rattle.cg_plan.specs.inner.Deciding.{Settles}
+use Rattle.cg_plan.specs.inner.Judging.{IsJudged, IsSettled}
 use Rattle.cg_plan.specs.inner.Measuring.{wide_end}
-use Rattle.cg_plan.proofs.Deciding.{all_more, false_here, false_on, none_certified, nothing_more}
+use Rattle.cg_plan.proofs.Deciding.{all_more, false_here, false_on, nothing_more}
 use Rattle.cg_plan.proofs.Measuring.{ends_wide, measured_end}
 
 -- an outcome without bits, of a stage that is not inserted
@@ -41,16 +41,6 @@ module _ (proof : Bool) (m : MachineData) (number : ℕ) (s : Stage) where
   decided_by : (b : Bool) → is_never m (idle_question s.enable) ≡ b → decided m s ≡ (if b then Ends NeverIdle else unless_false m s (first_false m (claims_of m s)))
   decided_by b is = ap (λ (never : Bool). if never then Ends NeverIdle else unless_false m s (first_false m (claims_of m s))) is
 
-  -- that a stage can idle is decided before the others
-  pub settled_idle : (items : List Certificate) (settled : Option Outcome) → IsIdleDecided m (idle_question s.enable) settled → IsSettled proof m number s [] (claims_of m s) items items settled
-  settled_idle items None is = record {
-    idle = is;
-    left = refl;
-    certified = none_certified proof m number items;
-  }
-  settled_idle items (Some end) is =
-      plain_ends m s (decided m s) end (subst (IsPlain m s) (sym is.1) (record { bits = refl; backed = tt; ends = refl })) (decided_by true is.0 ∙ ap Ends (sym is.1))
-
   -- the next claim has its turn
   pub settled_next : (i : ℕ) (name : ClaimName) (q : Question) (done rest : List NamedClaim) (before middle after : List Certificate) (was now : Option Outcome)
       → slice_get (claims_of m s) i ≡ Some (name, q) → IsSettled proof m number s done ((name, q) ∷ rest) before middle was → Settles proof m number (name, q) middle after was now
@@ -64,12 +54,6 @@ module _ (proof : Bool) (m : MachineData) (number : ℕ) (s : Stage) where
   settled_next i name q done rest before middle after None (Some end) at is next =
       let given = decided_by false is.idle ∙ ap (unless_false m s) (sym is.left ∙ false_here m (name, q) rest next.0) in
       subst (λ (o : Outcome). IsJudged m s (decided m s) (Some o)) (sym next.1.is) ((given, record { place = i; question = q; named = at; violate = next.1.violate }), refl)
-
-  -- all claims had their turn
-  pub settled_end : (before after : List Certificate) (settled : Option Outcome) → IsSettled proof m number s (claims_of m s) [] before after settled
-      → IsJudged m s (decided m s) settled × Certifying proof m number s before after settled
-  settled_end before after None is = (decided_by false is.idle ∙ ap (unless_false m s) (sym is.left), is.certified)
-  settled_end before after (Some end) is = (is, tt)
 
 -- a stage that is not inserted has no certificates
 pub appended_none : (proof : Bool) (m : MachineData) (s : Stage) (number : ℕ) (before after : List Certificate) (outcome : Outcome) → is_inserted outcome ≡ false → after ≡ before

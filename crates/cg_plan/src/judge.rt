@@ -1,6 +1,6 @@
-//! What tries stages one after another.
+//! What tries stages one after another, and decides a claim that is built.
 
-ghost use Rattle.std.specs.Prelude.{◌≡◌, ℕ, IsTrue, IfOk, IfErr, OnErr, OnOk};
+ghost use Rattle.std.specs.Prelude.{◌≡◌, ℕ, IsTrue, IfOk, IfErr, OnErr, OnOk, true, false, length, map};
 ghost use Rattle.cg_aig.specs.Aig.{aig_ops};
 ghost use Rattle.cg_claim.specs.Question.{Question, idle_question};
 ghost use Rattle.cg_claim.specs.Violates.{SidesFit};
@@ -10,20 +10,25 @@ ghost use Rattle.cg_plan_laws.specs.StageClaims.{claims_of};
 ghost use Rattle.cg_plan_laws.specs.Reported.{MayFail, TellsOutcome};
 ghost use Rattle.cg_plan_laws.specs.Trying.{decided, measured, tried};
 ghost use Rattle.cg_plan.specs.Trial.{IsRefused, IsTried, Keeps};
-ghost use Rattle.cg_plan.specs.inner.Deciding.{Grow, IsIdleDecided, Settles};
+ghost use Rattle.cg_plan.specs.inner.Deciding.{Grow, IsIdleDecided, Settles, IsDecided};
 ghost use Rattle.cg_plan.specs.inner.Judging.{Certifying, IsJudged, Pushes, by_claims};
 ghost use Rattle.cg_plan.specs.inner.Naming.{AreNames};
 ghost use Rattle.cg_claim_reach.specs.Fanout.{Knows};
 ghost use Rattle.cg_stage_laws.specs.Stages.{Fits};
 ghost use Rattle.cg_unroll.specs.Claims.{IsClaim};
+ghost use Rattle.cg_claim.specs.declared.leaf.LeafBit.{LeafBit};
+ghost use Rattle.cg_decide.specs.Decision.{IsNeverOne};
 
 use crate::cells::early_end;
 use crate::claims::{StageSets, claim_names, measure};
 use crate::insert::insert;
-use crate::rules::Rules;
+use cg_cell::library::Library;
+use cg_claim::laws::claim_laws;
+use cg_claim::leaf::{Leaf, LeafBit};
 use cg_claim::name::ClaimName;
 use cg_claim_reach::fanout::Fanout;
-use cg_decide::Decider;
+use cg_decide::{Decider, Decision};
+use cg_list::Seq;
 use cg_machine::machine::Machine;
 use cg_machine::stage::Stage;
 use cg_netlist::fault::AddFault;
@@ -33,6 +38,13 @@ use cg_plan_laws::outcome::Outcome;
 use cg_plan_laws::settings::Settings;
 use cg_unroll::unroller::Unroller;
 use std::alloc::{AllocError, Global};
+
+/// What stages are tried by: the cells that may be placed, and what bounds the plan.
+#[derive(Clone, Copy)]
+pub(crate) struct Rules<'a> {
+    pub library: &'a Library,
+    pub settings: &'a Settings,
+}
 
 /// A stage with its number in the plan.
 #[derive(Clone, Copy)]
@@ -55,9 +67,9 @@ struct Claims<'a> {
 /// What tries stages, in buffers that are kept, so that a claim costs what it reaches.
 #[derive(Drop)]
 pub(crate) struct Judge {
-    pub(crate) alloc: Global,
-    pub(crate) unroller: Unroller,
-    pub(crate) decider: Decider,
+    alloc: Global,
+    unroller: Unroller,
+    decider: Decider,
 }
 
 impl Judge {
@@ -279,4 +291,89 @@ impl Judge {
             None => self.decide(number, name, proof, into),
         }
     }
+
+    /// Decides the claim that was built last, as the claim that the stage can idle. Where it holds, the answer is that the
+    /// stage is never idle.
+    fn decide_idle(&mut self) -> Result<Option<Outcome>, AllocError>
+        requires { IsTrue (aig_ops.is_valid self.old.unroller.aig self.old.unroller.goal) }
+        ensures { IfOk result (λ end. (m : MachineData) (q : Question) (width : ℕ) → IsMachine m → SidesFit m q.sides
+            → IsClaim m q width self.old.unroller → IsIdleDecided m q end) }
+    {
+        claim_laws();
+        match self
+            .decider
+            .decide(self.unroller.aig(), self.unroller.goal())?
+        {
+            Decision::Never(_, _) => Ok(Some(Outcome::NeverIdle)),
+            Decision::Sometimes(_) => Ok(None),
+        }
+    }
+
+    /// Decides the claim that was built last, as the claim of this name. Where it holds and proofs are wanted, its certificate is
+    /// put behind `into`; where it does not hold, the answer is that the stage is refuted by it.
+    fn decide(
+        &mut self,
+        number: u32,
+        name: &ClaimName,
+        proof: bool,
+        into: &mut Vec<Certificate>,
+    ) -> Result<Option<Outcome>, AllocError>
+        requires { IsTrue (aig_ops.is_valid self.old.unroller.aig self.old.unroller.goal) }
+        ensures decided { IfOk result (λ end. (m : MachineData) (q : Question) (width : ℕ) → IsMachine m → SidesFit m q.sides
+            → IsClaim m q width self.old.unroller → IsDecided proof m number (name.now, q) into.old.items into.new.items end) }
+        ensures grown { Grow into.old.items into.new.items }
+    {
+        claim_laws();
+        let shown = is_shown(&mut self.decider, &self.unroller, proof)?;
+        if shown {
+            return Ok(None);
+        }
+        match self
+            .decider
+            .decide(self.unroller.aig(), self.unroller.goal())?
+        {
+            Decision::Never(formula, log) => {
+                if !proof {
+                    return Ok(None);
+                }
+                into.push(Certificate {
+                    stage: number,
+                    claim: *name,
+                    formula,
+                    log,
+                })?;
+                Ok(None)
+            }
+            Decision::Sometimes(bits) => {
+                let bits = leaf_bits(self.alloc, self.unroller.leaves(), bits.as_slice())?;
+                Ok(Some(Outcome::Refuted(*name, bits)))
+            }
+        }
+    }
+}
+
+/// Whether the claim that was built last needs no search: no proof of it is wanted, and it is seen at once that it holds.
+fn is_shown(decider: &mut Decider, unroller: &Unroller, proof: bool) -> Result<bool, AllocError>
+    requires { IsTrue (aig_ops.is_valid unroller.now.aig unroller.now.goal) }
+    ensures { IfOk result (λ shown. shown ≡ true → (proof ≡ false) × IsNeverOne unroller.now.aig unroller.now.goal) }
+{
+    if proof {
+        return Ok(false);
+    }
+    decider.shows_never(unroller.aig(), unroller.goal())
+}
+
+/// Leaves with their bits.
+fn leaf_bits(alloc: Global, leaves: &[Leaf], bits: &[bool]) -> Result<Seq<LeafBit>, AllocError>
+    ensures leaves { IfOk result (λ seq. length bits.now ≡ length leaves.now → map (λ (b : LeafBit). b.leaf) seq ≡ leaves.now) }
+    ensures bits { IfOk result (λ seq. length bits.now ≡ length leaves.now → map (λ (b : LeafBit). b.bit) seq ≡ bits.now) }
+{
+    let mut seq = Seq::new(alloc);
+    for (leaf, bit) in leaves.iter().zip(bits) {
+        seq.push(LeafBit {
+            leaf: *leaf,
+            bit: *bit,
+        })?;
+    }
+    Ok(seq)
 }

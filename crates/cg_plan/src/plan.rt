@@ -13,8 +13,7 @@ ghost use Rattle.cg_plan.specs.inner.Drafting.{IsDraft, Leads, MayStop, StillFit
 ghost use Rattle.cg_claim_reach.specs.Fanout.{Knows};
 ghost use Rattle.cg_stage_laws.specs.Stages.{Fits};
 
-use crate::judge::{Entry, Judge};
-use crate::rules::Rules;
+use crate::judge::{Entry, Judge, Rules};
 use cg_cell::library::Library;
 use cg_claim_reach::fanout::Fanout;
 use cg_hold::candidates::candidates;

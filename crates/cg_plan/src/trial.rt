@@ -5,8 +5,7 @@ ghost use Rattle.cg_machine.specs.Machine.{IsMachine};
 ghost use Rattle.cg_plan.specs.Trial.{IsRefused, IsTried};
 ghost use Rattle.cg_stage_laws.specs.Stages.{Fits};
 
-use crate::judge::{Entry, Judge};
-use crate::rules::Rules;
+use crate::judge::{Entry, Judge, Rules};
 use cg_cell::library::Library;
 use cg_claim_reach::fanout::Fanout;
 use cg_machine::machine::Machine;

@@ -1,8 +1,8 @@
 //! How many masks have each bit.
 
-ghost use Rattle.std.specs.Prelude.{◌≡◌, ◌<◌, ◌+◌, ◌^◌, ℕ, List, length, cond, IfOk};
+ghost use Rattle.std.specs.Prelude.{◌≡◌, ◌<◌, ◌+◌, ◌^◌, ℕ, List, length, IfOk};
 ghost use Rattle.std.specs.List.{All};
-ghost use Rattle.cg_hold_widths.specs.inner.Counts.{AreCounts, count_at};
+ghost use Rattle.cg_hold_widths.specs.inner.Counts.{AreCounts, count_at, ones};
 ghost use Rattle.cg_hold_widths.specs.inner.Masks.{has_bit};
 
 use std::alloc::{AllocError, Global};
@@ -22,7 +22,7 @@ pub(crate) fn counts(alloc: Global, masks: &[u64]) -> Result<Vec<u64>, AllocErro
 fn count(mask: u64, counts: &mut [u64])
     requires long { length counts.old ≡ 64 }
     requires room { All (λ n. n + 1 < 2 ^ 64) counts.old }
-    ensures { (i : ℕ) → i < 64 → count_at counts.new i ≡ count_at counts.old i + cond (has_bit i mask) 1 0 }
+    ensures { (i : ℕ) → i < 64 → count_at counts.new i ≡ count_at counts.old i + ones (has_bit i mask) }
 {
     let mut rest = mask;
     while rest != 0 {

@@ -48,5 +48,6 @@ fn push_roots(
 {
     let first = roots.len();
     push_next(machine, reg, roots)?;
-    masks.add_all(&roots[first..], 1 << place)
+    masks.add_all(&roots[first..], 1 << place)?;
+    Ok(())
 }

@@ -93,6 +93,7 @@ fn push_widths(
     requires clear { (y : ℕ) → mask_at masks.old y ≡ 0 }
     ensures { OnOk result (widths.new.items ≡ widths.old.items ++ map (hold_width machine.now) regs.now) }
 {
+    let _netlist = machine.netlist();
     let roots = roots(alloc, machine, regs, masks)?;
     let cone = cones.find(machine, &roots)?;
     lead_back(machine, cone.cells.as_slice(), masks)?;

@@ -1,5 +1,5 @@
 -- How many masks have each bit.
-use Rattle.std.specs.Prelude.{◌≡◌, ◌<◌, ℕ, List, length, slice_get, slice_index_or, Some}
+use Rattle.std.specs.Prelude.{◌≡◌, ◌<◌, ℕ, Bool, cond, List, length, slice_get, slice_index_or, Some}
 use Rattle.std.specs.List.{count_by}
 use Rattle.cg_hold_widths.specs.inner.Masks.{has_bit}
 
@@ -11,3 +11,7 @@ pub record AreCounts (masks counts : List ℕ) : Type 0 where
 -- the count of a bit
 abbrev pub count_at : List ℕ → ℕ → ℕ
 count_at counts i = slice_index_or counts i 0
+
+-- how often a bit counts
+abbrev pub ones : Bool → ℕ
+ones b = cond b 1 0

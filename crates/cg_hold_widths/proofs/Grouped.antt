@@ -19,7 +19,7 @@ use Rattle.cg_claim_reach.specs.Reached.{IsConeOf}
 use Rattle.cg_claim_reach.proofs.ConesFound.{found_cone}
 use Rattle.cg_claim_reach.proofs.RootsThere.{AreThere, all_there, both_there, next_there, none_there, registers_there}
 use Rattle.cg_stage_list_laws.specs.HoldList.{hold_width}
-use Rattle.cg_hold_widths.specs.inner.Marked.{leaf_count, net_has, next_nets_at, register_has}
+use Rattle.cg_hold_widths.specs.inner.Marked.{leaf_count, net_has, next_nets_at, own_count, register_has}
 use Rattle.cg_hold_widths.specs.inner.Masks.{AreMasks, has_bit, mask_at}
 use Rattle.cg_hold_widths.proofs.Counted.{any_same, count_filtered, with_one}
 use Rattle.cg_hold_widths.proofs.Held.{width_is}
@@ -131,7 +131,7 @@ module _ (m : MachineData) (good : IsMachine m) (regs roots : List ℕ) (roots_a
     width_counted =
         let inputs = inputs_counted in
         let registers = registers_counted in
-        let own : option_map_or (λ q. if register_has m masks i q then 0 else 1) (slice_get regs i) 0 ≡ (if feeds m nets r then 0 else 1) =
+        let own : own_count m masks regs i ≡ (if feeds m nets r then 0 else 1) =
         ap (λ o. option_map_or (λ q. if register_has m masks i q then 0 else 1) o 0) at ∙ ap (λ b. if b then 0 else 1) (has_register r) in
         let low : r < 0 + length m.circuit.registers = omega (arith, there) in
         let with_self = with_one (feeds m nets) r (length m.circuit.registers) 0 (omega arith) low in

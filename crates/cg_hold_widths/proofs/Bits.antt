@@ -1,7 +1,7 @@
 -- Bits of masks.
-use Rattle.std.proofs.Common.{◌≡◌, ℕ, zero, suc, ◌+◌, ◌-◌, ◌*◌, ◌<◌, ◌≤◌, Bool, true, false, not, ◌&&◌, ◌||◌, if◌then◌else◌, max, min, nat_eq, refl, sym}
-use Rattle.std.proofs.Common.{◌∙◌, ap, arith, w64, inl, inr, ◌⊎◌}
-use Rattle.std.specs.Prelude.{◌==◌, ◌≢◌, ◌^◌, ◌%◌}
+use Rattle.std.proofs.Common.{◌≡◌, ℕ, ◌-◌, ◌*◌, ◌<◌, ◌≤◌, false, not, ◌&&◌, ◌||◌, max, min, nat_eq, sym}
+use Rattle.std.proofs.Common.{◌∙◌, ap, arith, w64, inl, inr}
+use Rattle.std.specs.Prelude.{◌==◌, ◌^◌, ◌%◌}
 use Rattle.std.specs.Int.{bit_at, bit_not}
 use Rattle.std.specs.Int.Bits.{bit_and, bit_or}
 use Rattle.std.proofs.lemmas.Bool.Decides.{eqb_tells, nat_tests}

@@ -1,5 +1,5 @@
 -- Counts of what passes a test.
-use Rattle.std.proofs.Common.{◌≡◌, ℕ, zero, suc, ◌+◌, ◌<◌, ◌≤◌, Bool, true, false, not, ◌||◌, ◌&&◌, cond, if◌then◌else◌, List, [], ◌∷◌, ◌++◌, map, length, nat_eq, slice_get, slice_index_or}
+use Rattle.std.proofs.Common.{◌≡◌, ℕ, zero, suc, ◌+◌, ◌<◌, ◌≤◌, Bool, true, false, ◌||◌, ◌&&◌, cond, if◌then◌else◌, List, [], ◌∷◌, ◌++◌, map, length, nat_eq, slice_get, slice_index_or}
 use Rattle.std.proofs.Common.{take, Some, refl, sym, ◌∙◌, ap, arith, inl, inr}
 use Rattle.std.specs.Prelude.{◌^◌}
 use Rattle.std.specs.Int.Bits.{bit_or}
@@ -8,7 +8,7 @@ use Rattle.std.proofs.lemmas.List.{length-take-le}
 use Rattle.std.proofs.lemmas.List.Folds.{list_any-append}
 use Rattle.std.proofs.lemmas.List.Sums.{count_by-le-length, sum_by-append}
 use Rattle.std.proofs.lemmas.Option.{get_or_from_slice_get, slice_get-get_or}
-use Rattle.std.proofs.lemmas.Bool.{both_ways, ne_eqb}
+use Rattle.std.proofs.lemmas.Bool.{ne_eqb}
 use Rattle.std.proofs.lemmas.Bool.Decides.{eqb_tells}
 use Rattle.cg_net.proofs.TableLemmas.{take_next}
 use Rattle.cg_hold_widths.specs.inner.Counts.{AreCounts, count_at, ones}
@@ -73,19 +73,19 @@ below_all f r (suc n) s low =
 pub with_one : (f : ℕ → Bool) (r n s : ℕ) → s ≤ r → r < s + n → count_by (λ k. f k || nat_eq k r) (range_with_len s n) ≡ count_by f (range_with_len s n) + (if f r then 0 else 1)
 with_one f r zero s from low = absurd (omega (arith, from, low))
 with_one f r (suc n) s from low =
-  let more = count_cons (λ k. f k || nat_eq k r) s (range_with_len (s + 1) n) in
-  let same = count_cons f s (range_with_len (s + 1) n) in
-  elim (eqb_tells s r) [
-  | inl e ↦
-      let rest : count_by (λ k. f k || nat_eq k r) (range_with_len (s + 1) n) ≡ count_by f (range_with_len (s + 1) n) = below_all f r n (s + 1) (let equal = e.1 in omega (arith, equal)) in
-      let here : ones (f s || nat_eq s r) ≡ ones (f s) + (if f r then 0 else 1) = ap (λ b. ones (f s || b)) e.0 ∙ (one_here (f s) ∙ ap (λ k. ones (f s) + (if f k then 0 else 1)) e.1) in
-      omega (arith, rest, here, more, same)
-  | inr e ↦
-      let other = e.1 in
-      let rest : count_by (λ k. f k || nat_eq k r) (range_with_len (s + 1) n) ≡ count_by f (range_with_len (s + 1) n) + (if f r then 0 else 1) = with_one f r n (s + 1) (grind (arith, from, other)) (omega (arith, low)) in
-      let here : ones (f s || nat_eq s r) ≡ ones (f s) = ap (λ b. ones (f s || b)) e.0 ∙ ap ones (or_none (f s)) in
-      omega (arith, rest, here, more, same)
-]
+    let more = count_cons (λ k. f k || nat_eq k r) s (range_with_len (s + 1) n) in
+    let same = count_cons f s (range_with_len (s + 1) n) in
+    elim (eqb_tells s r) [
+      | inl e ↦
+          let rest : count_by (λ k. f k || nat_eq k r) (range_with_len (s + 1) n) ≡ count_by f (range_with_len (s + 1) n) = below_all f r n (s + 1) (let equal = e.1 in omega (arith, equal)) in
+          let here : ones (f s || nat_eq s r) ≡ ones (f s) + (if f r then 0 else 1) = ap (λ b. ones (f s || b)) e.0 ∙ (one_here (f s) ∙ ap (λ k. ones (f s) + (if f k then 0 else 1)) e.1) in
+          omega (arith, rest, here, more, same)
+      | inr e ↦
+          let other = e.1 in
+          let rest : count_by (λ k. f k || nat_eq k r) (range_with_len (s + 1) n) ≡ count_by f (range_with_len (s + 1) n) + (if f r then 0 else 1) = with_one f r n (s + 1) (grind (arith, from, other)) (omega (arith, low)) in
+          let here : ones (f s || nat_eq s r) ≡ ones (f s) = ap (λ b. ones (f s || b)) e.0 ∙ ap ones (or_none (f s)) in
+          omega (arith, rest, here, more, same)
+    ]
   where
     one_here : (b : Bool) → ones (b || true) ≡ ones b + (if b then 0 else 1)
     one_here true = refl

@@ -1,17 +1,17 @@
 -- How many masks have each bit.
-use Rattle.std.proofs.Common.{◌≡◌, ℕ, zero, suc, ◌+◌, ◌-◌, ◌*◌, ◌<◌, ◌≤◌, Bool, true, false, not, ◌||◌, ◌&&◌, cond, List, [], ◌∷◌, ◌++◌, length, nat_eq, slice_get, slice_index_or}
-use Rattle.std.proofs.Common.{set, refl, sym, ◌∙◌, ap, subst, arith, inl, inr, Some, take, w64, replicate}
+use Rattle.std.proofs.Common.{◌≡◌, ℕ, ◌+◌, ◌*◌, ◌<◌, ◌≤◌, Bool, true, false, not, ◌&&◌, List, length}
+use Rattle.std.proofs.Common.{set, refl, sym, ◌∙◌, ap, arith, inl, inr, w64}
 use Rattle.std.specs.Prelude.{◌==◌, ◌≢◌, ◌^◌, ◌%◌}
 use Rattle.std.specs.Int.{bit_not, trailing_zeros}
 use Rattle.std.specs.Int.Bits.{bit_and}
-use Rattle.std.specs.List.{All, count_by}
+use Rattle.std.specs.List.{All}
 use Rattle.std.proofs.lemmas.Bool.{both_ways}
 use Rattle.std.proofs.lemmas.Bool.Decides.{eqb_tells}
 use Rattle.std.proofs.lemmas.List.{length-set}
 use Rattle.std.proofs.lemmas.Nat.{and_le_l}
 use Rattle.std.proofs.lemmas.Nat.Bits.{bit_at-trailing_zeros}
 use Rattle.cg_hold_widths.specs.inner.Masks.{has_bit}
-use Rattle.cg_hold_widths.specs.inner.Counts.{AreCounts, count_at, ones}
+use Rattle.cg_hold_widths.specs.inner.Counts.{count_at, ones}
 use Rattle.cg_hold_widths.proofs.Bits.{no_bit, without_bit}
 use Rattle.cg_hold_widths.proofs.Touching.{set_other, set_same}
 

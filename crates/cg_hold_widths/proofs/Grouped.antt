@@ -1,26 +1,24 @@
 -- What the masks of a group count is how wide the hold claims of each register of it are.
-use Rattle.std.proofs.Common.{◌≡◌, ℕ, zero, suc, ◌+◌, ◌<◌, Bool, true, false, cond, ◌&&◌, ◌||◌, if◌then◌else◌, List, [], ◌∷◌, ◌++◌, length, nat_eq, slice_get}
+use Rattle.std.proofs.Common.{◌≡◌, ℕ, ◌+◌, ◌<◌, Bool, true, false, cond, ◌&&◌, if◌then◌else◌, List, [], ◌∷◌, ◌++◌, length, slice_get}
 use Rattle.std.proofs.Common.{Option, Some, None, refl, sym, ap, ◌∙◌, arith, subst, inl, inr}
-use Rattle.std.specs.List.{All, cons_option, count_by, filter, flat_map, list_any, range_with_len}
+use Rattle.std.specs.List.{All, cons_option, count_by, filter, flat_map, list_any}
 use Rattle.std.specs.Option.{option_map_or}
 use Rattle.std.proofs.lemmas.Bool.{both_ways, or_cases}
 use Rattle.cg_claim.specs.Reach.{feeds, next_nets, registers_of}
 use Rattle.cg_machine.specs.Machine.{IsMachine, MachineData, order_of, walk_of}
 use Rattle.cg_net.specs.NetSets.{is_in}
-use Rattle.cg_net.proofs.Members.{All-from_members, is_in_left}
+use Rattle.cg_net.proofs.Members.{is_in_left}
 use Rattle.cg_netlist.specs.Circuit.{LogicCell, RegisterCell, data_inputs, shown_nets}
 use Rattle.cg_netlist.specs.Moment.{values_at}
-use Rattle.cg_netlist.proofs.Filtered.{in_filter}
 use Rattle.cg_netlist.proofs.Used.{in_flat}
-use Rattle.cg_netlist_cone.specs.Cone.{IsInCone, cell_feeds, cone_at, cone_of, register_feeds}
+use Rattle.cg_netlist_cone.specs.Cone.{IsInCone, cone_at, cone_of, register_feeds}
 use Rattle.cg_netlist_cone.specs.declared.cone.Cone.{Cone}
 use Rattle.cg_netlist_cone.proofs.Cones.{cone_is}
-use Rattle.cg_claim_reach.specs.Reached.{IsConeOf}
 use Rattle.cg_claim_reach.proofs.ConesFound.{found_cone}
 use Rattle.cg_claim_reach.proofs.RootsThere.{AreThere, all_there, both_there, next_there, none_there, registers_there}
 use Rattle.cg_stage_list_laws.specs.HoldList.{hold_width}
 use Rattle.cg_hold_widths.specs.inner.Marked.{leaf_count, net_has, next_nets_at, own_count, register_has}
-use Rattle.cg_hold_widths.specs.inner.Masks.{AreMasks, has_bit, mask_at}
+use Rattle.cg_hold_widths.specs.inner.Masks.{AreMasks}
 use Rattle.cg_hold_widths.proofs.Counted.{any_same, count_filtered, with_one}
 use Rattle.cg_hold_widths.proofs.Held.{width_is}
 

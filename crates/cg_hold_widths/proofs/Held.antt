@@ -1,12 +1,12 @@
 -- The leaves of the hold claims of a register: the data inputs in the cone of what its next bit asks for, the registers that show
 -- their bits there, and the register itself.
-use Rattle.std.proofs.Common.{◌≡◌, ℕ, ◌+◌, Bool, true, false, ◌&&◌, ◌||◌, List, [], ◌∷◌, ◌++◌, length, map, nat_eq, slice_get}
-use Rattle.std.proofs.Common.{refl, sym, ap, ◌∙◌, append-nil}
-use Rattle.std.specs.List.{count_by, filter, flat_map, range_with_len}
+use Rattle.std.proofs.Common.{◌≡◌, ℕ, ◌+◌, Bool, true, false, ◌&&◌, ◌||◌, List, [], ◌++◌, length, map, nat_eq}
+use Rattle.std.proofs.Common.{refl, ap, ◌∙◌, append-nil}
+use Rattle.std.specs.List.{count_by, filter, flat_map}
 use Rattle.std.proofs.lemmas.List.{length-append, length-map}
 use Rattle.std.proofs.lemmas.List.Elements.{filter-append}
 use Rattle.std.proofs.lemmas.List.Sums.{length-filter}
-use Rattle.cg_claim.specs.Leaves.{Leaf, is_reached}
+use Rattle.cg_claim.specs.Leaves.{is_reached}
 use Rattle.cg_claim.specs.Question.{Before, held_question}
 use Rattle.cg_claim.specs.Reach.{after_states, before_nets, feeds, next_asks_own, next_nets, origin_asks, origin_nets, registers_of, sides_ask}
 use Rattle.cg_claim.specs.declared.leaf.LeafSource.{LeafSource}

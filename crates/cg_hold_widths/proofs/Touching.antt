@@ -1,13 +1,12 @@
 -- Masks of nets, and the nets whose masks are not 0.
-use Rattle.std.proofs.Common.{◌≡◌, ℕ, zero, suc, ◌<◌, ◌≤◌, Bool, true, false, not, ◌||◌, ◌&&◌, if◌then◌else◌, List, [], ◌∷◌, ◌++◌, length, nat_eq, slice_get, slice_index_or}
-use Rattle.std.proofs.Common.{◌+◌, set, take, refl, sym, ◌∙◌, ap, subst, arith, inl, inr, Some}
+use Rattle.std.proofs.Common.{◌≡◌, ℕ, zero, suc, ◌<◌, Bool, true, false, not, ◌||◌, ◌&&◌, if◌then◌else◌, List, [], ◌∷◌, ◌++◌, length, nat_eq, slice_get}
+use Rattle.std.proofs.Common.{◌+◌, set, take, refl, sym, ◌∙◌, ap, arith, inl, inr, Some}
 use Rattle.std.specs.Prelude.{◌==◌, ◌≢◌}
 use Rattle.std.specs.Int.Bits.{bit_or}
-use Rattle.std.proofs.lemmas.Bool.{both_ways, eqb-true, ne_eqb}
+use Rattle.std.proofs.lemmas.Bool.{both_ways, ne_eqb}
 use Rattle.std.proofs.lemmas.Bool.Decides.{eqb_tells}
 use Rattle.std.proofs.lemmas.List.{length-set}
 use Rattle.std.proofs.lemmas.Nat.{le_or_r}
-use Rattle.std.proofs.lemmas.Option.{slice_get-get_or}
 use Rattle.cg_net.specs.NetSets.{is_in}
 use Rattle.cg_net.proofs.TableLemmas.{take_next}
 use Rattle.cg_net.proofs.Members.{in_alone, is_in-append, is_in_right}

@@ -1,6 +1,6 @@
 //! The causes of registers.
 
-ghost use Rattle.std.specs.Prelude.{◌≡◌, ◌<◌, ◌+◌, if◌then◌else◌, length, map, slice_get, true, IfOk, Some};
+ghost use Rattle.std.specs.Prelude.{◌≡◌, ◌<◌, ◌+◌, ◌++◌, ◌∷◌, [], if◌then◌else◌, length, map, slice_get, true, IfOk, OnOk, Some};
 ghost use Rattle.cg_stage_list_laws.specs.HoldList.{hold_width};
 ghost use Rattle.cg_register_text.specs.Causes.{cause_of, causes_of, is_given};
 ghost use Rattle.cg_register_text.specs.Words.{IsToldOf, tried_of};
@@ -59,12 +59,27 @@ fn measured_regs(
 {
     let mut regs = Vec::new(alloc);
     for number in 0..told.read.registers() {
-        let reg = RegId::new(number);
-        if seen_cause(told, tables, reg).is_none() {
-            regs.push(reg)?;
-        }
+        push_measured(told, tables, RegId::new(number), &mut regs)?;
     }
     Ok(regs)
+}
+
+/// Puts a register behind the others where its hold claims are measured.
+fn push_measured(
+    told: &Told<'_>,
+    tables: &Tables,
+    reg: RegId,
+    regs: &mut Vec<RegId>,
+) -> Result<(), AllocError>
+    requires tables { AreTables told.now tables.now }
+    requires register { reg < length told.now.read.registers }
+    ensures { OnOk result (regs.new.items ≡ (if is_measured (tried_of told.now) reg then regs.old.items ++ reg ∷ [] else regs.old.items)) }
+{
+    if seen_cause(told, tables, reg).is_some() {
+        return Ok(());
+    }
+    regs.push(reg)?;
+    Ok(())
 }
 
 /// The causes of all registers, with the widths of those whose hold claims are measured.
@@ -106,7 +121,8 @@ fn cause(
         None => {
             let width = widths[*next];
             *next += 1;
-            cause_by_width(told.width, seen_at(&tables.hints, reg).failed, width)
+            let hints = seen_at(&tables.hints, reg);
+            cause_by_width(told.width, hints.failed, width)
         }
     }
 }
@@ -119,7 +135,8 @@ fn seen_cause(told: &Told<'_>, tables: &Tables, reg: RegId) -> Option<Cause>
 {
     let hints = seen_at(&tables.hints, reg);
     let stages = seen_at(&tables.stages, reg);
-    cause_seen(hints, stages, is_given(told.read, reg))
+    let given = is_given(told.read, reg);
+    cause_seen(hints, stages, given)
 }
 
 /// The cause of a register by what was tried for it and by whether it is on a gating cell, unless its hold claims have to be measured.

@@ -1,6 +1,6 @@
 use Rattle.std.proofs.Common.{refl, arith, w64}
 use Rattle.std.specs.Int.{trailing_zeros}
-use Rattle.cg_hold_widths.proofs.Counting.{count_room, counted_all, counted_first, counted_more, left_less, next_bit}
+use Rattle.cg_hold_widths.proofs.Counting.{count_room, counted_more, left_less, next_bit}
 use Rattle.cg_hold_widths.proofs.counts.count.Goals as goal
 
 pub overflow_add-counts : goal.overflow_add-counts

@@ -1,4 +1,4 @@
-use Rattle.std.proofs.Common.{◌≡◌, ◌+◌, ◌<◌, ◌++◌, ℕ, List, length, take, drop, slice_get, get_or, Some, sym, ap, ◌∙◌, subst, arith}
+use Rattle.std.proofs.Common.{◌≡◌, ◌+◌, ◌<◌, ℕ, List, length, take, drop, slice_get, get_or, Some, sym, ap, subst, arith}
 use Rattle.std.specs.Prelude.{◌^◌}
 use Rattle.std.specs.List.{All}
 use Rattle.std.proofs.lemmas.List.{take_at}

@@ -1,4 +1,4 @@
-use Rattle.std.proofs.Common.{◌≡◌, ◌+◌, ◌&&◌, not, nat_eq, ℕ, List, slice_get, Some, refl, ◌∙◌, ap, take, arith}
+use Rattle.std.proofs.Common.{◌≡◌, ◌+◌, ℕ, List, slice_get, Some, refl, ◌∙◌, ap, take, arith}
 use Rattle.std.proofs.lemmas.List.{take_all}
 use Rattle.cg_hold_widths.specs.inner.Marked.{own_count}
 use Rattle.std.specs.List.{count_by}

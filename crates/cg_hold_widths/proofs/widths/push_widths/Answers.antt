@@ -1,8 +1,7 @@
 use Rattle.std.proofs.Common.{◌≡◌, ◌<◌, ◌++◌, ◌∷◌, [], ℕ, List, length, map, take, slice_get, Some, refl, sym, ap, ◌∙◌, subst, arith}
-use Rattle.std.specs.List.{All, count_by, flat_map}
+use Rattle.std.specs.List.{All, count_by}
 use Rattle.std.proofs.lemmas.List.{append_assoc, map-append, take_all}
 use Rattle.std.proofs.lemmas.Option.{same_Some, slice_get_read}
-use Rattle.cg_claim.specs.Reach.{next_nets}
 use Rattle.cg_machine.specs.Machine.{MachineData}
 use Rattle.cg_net.proofs.TableLemmas.{All-at, take_next}
 use Rattle.cg_netlist.specs.Moment.{values_at}

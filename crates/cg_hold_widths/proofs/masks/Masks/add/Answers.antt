@@ -2,7 +2,7 @@ use Rattle.std.proofs.Common.{◌≡◌, ◌==◌, ◌<◌, ℕ, List, ◌++◌,
 use Rattle.std.specs.Int.Bits.{bit_or}
 use Rattle.std.proofs.lemmas.List.{get_or_read}
 use Rattle.cg_hold_widths.specs.inner.Masks.{AreTouched, mask_at}
-use Rattle.cg_hold_widths.proofs.Touching.{added, added_none, added_touched}
+use Rattle.cg_hold_widths.proofs.Touching.{added_none, added_touched}
 use Rattle.cg_hold_widths.proofs.masks.Masks.add.Goals as goal
 
 pub returns-then-bits-eq0 : goal.returns-then-bits-eq0

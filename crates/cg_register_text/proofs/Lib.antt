@@ -1,6 +1,7 @@
 pub mod TrialNumbers
 pub mod SeenTrials
 pub mod Found
+pub mod Measured
 pub mod GivenRegisters
 pub mod OwnDrivers
 pub mod OwnWidths

@@ -1,16 +1,15 @@
 //! The causes of registers.
 
-ghost use Rattle.std.specs.Prelude.{◌≡◌, ◌<◌, length, IfOk};
-ghost use Rattle.cg_stage_list_laws.specs.HoldList.{hold_width as hold_width_of};
+ghost use Rattle.std.specs.Prelude.{◌≡◌, ◌<◌, ◌+◌, ◌++◌, ◌∷◌, [], if◌then◌else◌, length, map, slice_get, true, IfOk, OnOk, Some};
+ghost use Rattle.cg_stage_list_laws.specs.HoldList.{hold_width};
 ghost use Rattle.cg_register_text.specs.Causes.{cause_of, causes_of, is_given};
 ghost use Rattle.cg_register_text.specs.Words.{IsToldOf, tried_of};
-ghost use Rattle.cg_register_text.specs.inner.Finding.{AreTables, cause_seen, cause_by_width, or_free};
+ghost use Rattle.cg_register_text.specs.inner.Finding.{AreTables, cause_by_width, cause_seen, is_measured, measured_regs, or_free, seen_cause};
 
 use crate::cause::Cause;
 use crate::seen::{Seen, seen_at, seen_in_hints, seen_in_stages};
 use crate::told::Told;
-use crate::width::hold_width;
-use cg_claim_reach::reached::Reacher;
+use cg_hold_widths::widths::Widths;
 use cg_net::id::RegId;
 use cg_netlist::netlist::Netlist;
 use std::alloc::{AllocError, Global};
@@ -33,7 +32,8 @@ pub(crate) fn tables_of(alloc: Global, told: &Told<'_>) -> Result<Tables, AllocE
     Ok(Tables { hints, stages })
 }
 
-/// The causes of all registers of the netlist that was read, in their order.
+/// The causes of all registers of the netlist that was read, in their order. The hold claims are measured, all at once, of those that
+/// are not gated or given, and that no stage has.
 pub(crate) fn causes(
     alloc: Global,
     told: &Told<'_>,
@@ -43,34 +43,100 @@ pub(crate) fn causes(
     requires tables { AreTables told.now tables.now }
     ensures { IfOk result (λ causes. causes.items ≡ causes_of (tried_of told.now)) }
 {
-    let mut reacher = Reacher::new(alloc);
-    let mut causes = Vec::new(alloc);
+    let regs = measured_regs(alloc, told, tables)?;
+    let widths = Widths::new(alloc).of(&told.plan.machine, &regs)?;
+    causes_by(alloc, told, tables, &widths)
+}
+
+/// The registers whose hold claims are measured, in their order.
+fn measured_regs(
+    alloc: Global,
+    told: &Told<'_>,
+    tables: &Tables,
+) -> Result<Vec<RegId>, AllocError>
+    requires tables { AreTables told.now tables.now }
+    ensures { IfOk result (λ regs. regs.items ≡ measured_regs (tried_of told.now)) }
+{
+    let mut regs = Vec::new(alloc);
     for number in 0..told.read.registers() {
-        let found = cause(told, tables, &mut reacher, RegId::new(number))?;
+        push_measured(told, tables, RegId::new(number), &mut regs)?;
+    }
+    Ok(regs)
+}
+
+/// Puts a register behind the others where its hold claims are measured.
+fn push_measured(
+    told: &Told<'_>,
+    tables: &Tables,
+    reg: RegId,
+    regs: &mut Vec<RegId>,
+) -> Result<(), AllocError>
+    requires tables { AreTables told.now tables.now }
+    requires register { reg < length told.now.read.registers }
+    ensures { OnOk result (regs.new.items ≡ (if is_measured (tried_of told.now) reg then regs.old.items ++ reg ∷ [] else regs.old.items)) }
+{
+    if seen_cause(told, tables, reg).is_some() {
+        return Ok(());
+    }
+    regs.push(reg)?;
+    Ok(())
+}
+
+/// The causes of all registers, with the widths of those whose hold claims are measured.
+fn causes_by(
+    alloc: Global,
+    told: &Told<'_>,
+    tables: &Tables,
+    widths: &[u64],
+) -> Result<Vec<Cause>, AllocError>
+    requires tables { AreTables told.now tables.now }
+    requires widths { widths.now ≡ map (hold_width told.now.began) (measured_regs (tried_of told.now)) }
+    ensures { IfOk result (λ causes. causes.items ≡ causes_of (tried_of told.now)) }
+{
+    let mut causes = Vec::new(alloc);
+    let mut next = 0;
+    for number in 0..told.read.registers() {
+        let found = cause(told, tables, RegId::new(number), widths, &mut next);
         causes.push(found)?;
     }
     Ok(causes)
 }
 
-/// The cause of a register. Its hold claims are measured where it is not gated or given, and no stage has it.
+/// The cause of a register, by the next of the widths where its hold claims are measured.
 fn cause(
     told: &Told<'_>,
     tables: &Tables,
-    reacher: &mut Reacher,
     reg: RegId,
-) -> Result<Cause, AllocError>
-    requires told { IsToldOf told.now }
+    widths: &[u64],
+    next: &mut usize,
+) -> Cause
     requires tables { AreTables told.now tables.now }
     requires register { reg < length told.now.read.registers }
-    ensures { IfOk result (λ cause. cause ≡ cause_of (tried_of told.now) reg) }
+    requires width { is_measured (tried_of told.now) reg ≡ true → slice_get widths.now next.old ≡ Some (hold_width told.now.began reg) }
+    ensures cause { result ≡ cause_of (tried_of told.now) reg }
+    ensures next { next.new ≡ (if is_measured (tried_of told.now) reg then next.old + 1 else next.old) }
+{
+    match seen_cause(told, tables, reg) {
+        Some(cause) => cause,
+        None => {
+            let width = widths[*next];
+            *next += 1;
+            let hints = seen_at(&tables.hints, reg);
+            cause_by_width(told.width, hints.failed, width)
+        }
+    }
+}
+
+/// The cause of a register, unless its hold claims have to be measured.
+fn seen_cause(told: &Told<'_>, tables: &Tables, reg: RegId) -> Option<Cause>
+    requires tables { AreTables told.now tables.now }
+    requires register { reg < length told.now.read.registers }
+    ensures { result ≡ seen_cause (tried_of told.now) reg }
 {
     let hints = seen_at(&tables.hints, reg);
     let stages = seen_at(&tables.stages, reg);
     let given = is_given(told.read, reg);
-    match cause_seen(hints, stages, given) {
-        Some(cause) => Ok(cause),
-        None => measured(told, reacher, reg, hints.failed),
-    }
+    cause_seen(hints, stages, given)
 }
 
 /// The cause of a register by what was tried for it and by whether it is on a gating cell, unless its hold claims have to be measured.
@@ -90,22 +156,13 @@ fn cause_seen(hints: &Seen, stages: &Seen, given: bool) -> Option<Cause>
 }
 
 /// The cause of a register by the width of its hold claims, or else by the last hint that was tried for it.
-fn measured(
-    told: &Told<'_>,
-    reacher: &mut Reacher,
-    reg: RegId,
-    failed: Option<u64>,
-) -> Result<Cause, AllocError>
-    requires told { IsToldOf told.now }
-    requires register { reg < length told.now.read.registers }
-    ensures { IfOk result (λ cause. cause ≡ cause_by_width told.now.width failed (hold_width_of told.now.began reg)) }
+fn cause_by_width(most: u32, failed: Option<u64>, width: u64) -> Cause
+    ensures { result ≡ cause_by_width most failed width }
 {
-    let machine = &told.plan.machine;
-    let width = hold_width(reacher, machine, reg)?;
-    if width > u64::from(told.width) {
-        Ok(Cause::Wide(width))
+    if width > u64::from(most) {
+        Cause::Wide(width)
     } else {
-        Ok(or_free(failed))
+        or_free(failed)
     }
 }
 

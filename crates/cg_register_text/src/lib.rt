@@ -8,7 +8,6 @@
 //! - [`rises`]: how often each register of a netlist rises where a stimulus is played;
 //! - [`told`]: what is told of, a netlist that was gated;
 //! - `seen`: what was tried for each register: one pass over the hints, and one over the stages;
-//! - `width`: how wide the hold claims of a register are;
 //! - [`cause`]: why a register is gated, or why it is not;
 //! - `finding`: the causes of all registers;
 //! - `outcome`: what came of a stage or a hint, without bits;
@@ -28,4 +27,3 @@ mod seen;
 mod sums;
 pub mod text;
 pub mod told;
-mod width;

@@ -1,9 +1,11 @@
 -- How the causes of registers are found.
-use Rattle.std.specs.Prelude.{ℕ, Bool, not, ◌||◌, if◌then◌else◌, length, nat_lt, Option, None, Some}
+use Rattle.std.specs.Prelude.{ℕ, Bool, not, ◌||◌, if◌then◌else◌, length, nat_lt, List, Option, None, Some, is_none}
+use Rattle.std.specs.List.{filter, range_with_len}
+use Rattle.cg_register_text.specs.Causes.{Tried, is_given}
 use Rattle.cg_stage_list_laws.specs.Rounds.{is_empty}
 use Rattle.cg_register_text.specs.Trials.{hint_trials, stage_trials}
 use Rattle.cg_register_text.specs.Words.{GatedData}
-use Rattle.cg_register_text.specs.inner.Seeing.{AreSeen}
+use Rattle.cg_register_text.specs.inner.Seeing.{AreSeen, seen_of}
 use Rattle.cg_register_text.specs.declared.cause.Cause.{Cause}
 use Rattle.cg_register_text.specs.declared.cause.Cause.TheVariants.{Free, Gated, Given, Hint, Stage, Wide}
 use Rattle.cg_register_text.specs.declared.finding.Tables.{Tables}
@@ -30,3 +32,13 @@ or_free (Some number) = Hint number
 
 abbrev pub cause_by_width : ℕ → Option ℕ → ℕ → Cause
 cause_by_width most failed width = if nat_lt most width then Wide width else or_free failed
+
+-- the cause of a register, unless its hold claims have to be measured, and the registers whose hold claims are
+abbrev pub seen_cause : Tried → ℕ → Option Cause
+seen_cause t r = cause_seen (seen_of t.hints r) (seen_of t.stages r) (is_given t.read r)
+
+abbrev pub is_measured : Tried → ℕ → Bool
+is_measured t r = is_none (seen_cause t r)
+
+abbrev pub measured_regs : Tried → List ℕ
+measured_regs t = filter (is_measured t) (range_with_len 0 (length t.read.registers))

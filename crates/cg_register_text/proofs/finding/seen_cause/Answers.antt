@@ -1,16 +1,13 @@
-use Rattle.std.proofs.Common.{◌≡◌, slice_get, Some, unwrap_or, ap, sym, ◌∙◌}
+use Rattle.std.proofs.Common.{◌≡◌, slice_get, ap, sym, ◌∙◌}
 use Rattle.std.proofs.lemmas.Option.{same_Some}
-use Rattle.cg_stage_list_laws.specs.HoldList.{hold_width}
 use Rattle.cg_register_text.specs.Causes.{Tried, is_given}
-use Rattle.cg_register_text.specs.Trials.{last_failed}
 use Rattle.cg_register_text.specs.Words.{GatedData, tried_of}
-use Rattle.cg_register_text.specs.inner.Finding.{cause_by_width, cause_seen}
+use Rattle.cg_register_text.specs.inner.Finding.{cause_seen}
 use Rattle.cg_register_text.specs.inner.Seeing.{seen_of}
-use Rattle.cg_register_text.proofs.Found.{cause_found}
-use Rattle.cg_register_text.proofs.finding.cause.Goals as goal
+use Rattle.cg_register_text.proofs.finding.seen_cause.Goals as goal
 
-pub returns-in-Some : goal.returns-in-Some
-returns-in-Some c =
+pub returns : goal.returns
+returns c =
     let t : Tried = tried_of c.args.told.now in
     let r = c.args.reg in
     let hints : c.seen_at-hints.result.now ≡ seen_of t.hints r =
@@ -18,10 +15,7 @@ returns-in-Some c =
     let stages : c.seen_at-stages.result.now ≡ seen_of t.stages r =
     same_Some c.seen_at-stages.result.now (seen_of t.stages r) (sym c.seen_at-stages.ensures ∙ (ap (λ l. slice_get l r) c.deref-2.ensures.value ∙ c.requires.tables.stages.each r c.requires.register)) in
     let given : c.is_given-given.result ≡ is_given t.read r = c.is_given-given.ensures ∙ ap (λ (g : GatedData). is_given g.read r) c.told.view_is in
-    let seen : Some c.in-Some.cause ≡ cause_seen (seen_of t.hints r) (seen_of t.stages r) (is_given t.read r) =
-    sym c.in-Some.is
-    ∙ (c.cause_seen.ensures
+    c.cause_seen.ensures
     ∙ (ap (λ h. cause_seen h c.seen_at-stages.result.now c.is_given-given.result) hints
     ∙ (ap (λ s. cause_seen (seen_of t.hints r) s c.is_given-given.result) stages
-    ∙ ap (cause_seen (seen_of t.hints r) (seen_of t.stages r)) given))) in
-    ap (λ o. unwrap_or o (cause_by_width t.width (last_failed t.hints r) (hold_width t.began r))) seen ∙ cause_found t r
+    ∙ ap (cause_seen (seen_of t.hints r) (seen_of t.stages r)) given))

@@ -1,0 +1,8 @@
+use Rattle.std.proofs.Common.{◌≡◌}
+use Rattle.std.specs.List.{filter, range_with_len}
+use Rattle.cg_register_text.specs.Words.{tried_of}
+use Rattle.cg_register_text.specs.inner.Finding.{is_measured}
+use Rattle.cg_register_text.proofs.finding.measured_regs.Given as goal
+
+abbrev pub invariant-loop-number : goal.invariant-loop-number
+invariant-loop-number l = l.regs.items ≡ filter (is_measured (tried_of l.told)) (range_with_len 0 l.number)
